@@ -1,0 +1,13 @@
+pub mod Bytes
+pub mod Ber
+pub mod Kind
+pub mod Label
+pub mod Packet
+pub mod Parts
+pub mod Piece
+pub mod PieceReading
+pub mod Note
+pub mod Kept
+pub mod NoteOrder
+pub mod NoteMaker
+pub mod Written

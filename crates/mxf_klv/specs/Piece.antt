@@ -1,0 +1,33 @@
+-- The packets of a piece: bytes that lie at an offset of a file (this project's profile).
+use Rattle.std.specs.Prelude.{◌≡◌, ℕ, ◌+◌, ◌≤◌, ◌<◌, List, [], ◌∷◌, ◌++◌}
+use Rattle.mxf_klv.specs.Parts.{PacketParts, NoteParts}
+use Rattle.mxf_klv.specs.Packet.{IsSpelledPacket, size_of}
+use Rattle.mxf_klv.specs.Note.{greatest_end, note_of}
+
+-- The first offset after packets that are laid one after another from an offset on.
+abbrev pub end_after : ℕ → List PacketParts → ℕ
+end_after offset [] = offset
+end_after offset (p ∷ ps) = end_after (offset + size_of p) ps
+
+-- The bytes at the offset are these packets, one after another, each of which ends at or below the greatest end, and
+-- then the rest.
+abbrev pub AreLaid : ℕ → List ℕ → List PacketParts → List ℕ → Type 0
+AreLaid offset bytes [] rest = bytes ≡ rest
+AreLaid offset bytes (p ∷ ps) rest =
+    (front : List ℕ) × (after : List ℕ) × IsSpelledPacket front p × (bytes ≡ front ++ after)
+    × (offset + size_of p ≤ greatest_end) × AreLaid (offset + size_of p) after ps rest
+
+-- No packet stands at the front of the bytes that would end at or below the greatest end.
+abbrev pub BeginsWithNone : ℕ → List ℕ → Type 0
+BeginsWithNone offset bytes =
+    (front after : List ℕ) (p : PacketParts) → IsSpelledPacket front p → bytes ≡ front ++ after → greatest_end < offset + size_of p
+
+-- The packets of a piece and the rest: the packets are laid from the offset on, and the rest begins with none.
+pub record IsPiece (offset : ℕ) (bytes : List ℕ) (packets : List PacketParts) (rest : List ℕ) : Type 0 where
+  pub laid : AreLaid offset bytes packets rest
+  pub ended : BeginsWithNone (end_after offset packets) rest
+
+-- The notes of packets that are laid one after another from an offset on.
+abbrev pub notes_from : ℕ → List PacketParts → List NoteParts
+notes_from offset [] = []
+notes_from offset (p ∷ ps) = note_of offset p ∷ notes_from (offset + size_of p) ps

@@ -1,0 +1,92 @@
+-- The packets of a piece as functions of its offset and bytes, and the stop. That they are the packets and the rest of
+-- `Piece`, and that there are no others, is the law `each_piece_is_read_one_way`.
+use Rattle.std.specs.Prelude.{◌≡◌, ◌<◌, ◌≤◌, ℕ, zero, suc, ◌+◌, ◌-◌, nat_le, nat_lt, nat_eq, Bool, false, ◌&&◌, ◌||◌, not, if◌then◌else◌, List, [], ◌∷◌, length, take, drop, slice_get, Option, None, Some}
+use Rattle.std.specs.Option.{option_map_or, option_and_then}
+use Rattle.byteorder.specs.Endian.{big_number}
+use Rattle.mxf_klv.specs.Parts.{LengthParts, PacketParts, NoteParts}
+use Rattle.mxf_klv.specs.Label.{begins_as_label}
+use Rattle.mxf_klv.specs.Packet.{size_of}
+use Rattle.mxf_klv.specs.Note.{greatest_end, note_of}
+use Rattle.mxf_klv.specs.Piece.{notes_from, end_after}
+use Rattle.mxf_klv.specs.declared.stops.Stop.{Stop}
+use Rattle.mxf_klv.specs.declared.stops.Stop.TheVariants.{End, NotUl, BadLength, TooFar, Truncated}
+
+-- The length at the front, where a whole one stands there (ST 336, length field).
+abbrev pub length_at : List ℕ → Option LengthParts
+length_at [] = None
+length_at (first ∷ rest) =
+    if nat_le first 127 then Some (record { width = 1; value = first })
+    else (if nat_lt 128 first && nat_le first 136 && nat_le (first - 128) (length rest)
+    then Some (record { width = first - 127; value = big_number (first - 128) rest })
+    else None)
+
+-- The length of the packet at the front, where key and length are whole (ST 336, KLV triplet).
+unfoldable pub head_at : List ℕ → Option LengthParts
+head_at bytes = if begins_as_label bytes && nat_le 16 (length bytes) then length_at (drop 16 bytes) else None
+
+-- Where a packet with this length would end.
+abbrev pub end_with : ℕ → LengthParts → ℕ
+end_with offset l = offset + (16 + l.width + l.value)
+
+-- The packet at the front, where a whole one stands there and ends at or below the greatest end.
+unfoldable pub packet_at : ℕ → List ℕ → Option PacketParts
+packet_at offset bytes = option_and_then (λ l.
+    if nat_le (16 + l.width + l.value) (length bytes) && nat_le (end_with offset l) greatest_end
+    then Some (record { key = take 16 bytes; width = l.width; value = take l.value (drop l.width (drop 16 bytes)) })
+    else None) (head_at bytes)
+
+-- The packets of a piece, at most so many.
+abbrev pub packets_by : ℕ → ℕ → List ℕ → List PacketParts
+packets_by zero offset bytes = []
+packets_by (suc n) offset bytes = option_map_or (λ p. p ∷ packets_by n (offset + size_of p) (drop (size_of p) bytes)) (packet_at offset bytes) []
+
+-- What is left after them.
+abbrev pub rest_by : ℕ → ℕ → List ℕ → List ℕ
+rest_by zero offset bytes = bytes
+rest_by (suc n) offset bytes = option_map_or (λ p. rest_by n (offset + size_of p) (drop (size_of p) bytes)) (packet_at offset bytes) bytes
+
+-- The packets of a piece: no more than it has bytes.
+unfoldable pub packets_in : ℕ → List ℕ → List PacketParts
+packets_in offset bytes = packets_by (length bytes) offset bytes
+
+-- The rest of a piece.
+unfoldable pub rest_in : ℕ → List ℕ → List ℕ
+rest_in offset bytes = rest_by (length bytes) offset bytes
+
+-- The notes of a piece's packets, in order.
+abbrev pub notes_in : ℕ → List ℕ → List NoteParts
+notes_in offset bytes = notes_from offset (packets_in offset bytes)
+
+-- The length's first byte, which is byte 17 of a packet, is at fault: an indefinite length, or one of more than eight bytes.
+abbrev pub has_bad_length : List ℕ → Bool
+has_bad_length bytes = option_map_or (λ first. nat_eq first 128 || nat_lt 136 first) (slice_get bytes 16) false
+
+-- Key and length are whole, and the packet would end above the greatest end.
+abbrev pub ends_too_far : ℕ → List ℕ → Bool
+ends_too_far offset bytes = option_map_or (λ l. nat_lt greatest_end (end_with offset l)) (head_at bytes) false
+
+-- Why no packet is noted at the front of a rest at an offset: the first cause that holds (this project's profile).
+unfoldable pub stop_of : ℕ → List ℕ → Stop
+stop_of at rest =
+    if nat_eq (length rest) 0 then End
+    else (if not (begins_as_label rest) then NotUl at
+    else (if has_bad_length rest then BadLength at
+    else (if ends_too_far at rest then TooFar at
+    else Truncated at)))
+
+-- The stop of a piece.
+abbrev pub stop_in : ℕ → List ℕ → Stop
+stop_in offset bytes = stop_of (end_after offset (packets_in offset bytes)) (rest_in offset bytes)
+
+-- The packet at the front is the first of the piece, and the piece after it has the others, and the stop.
+pub record GoesOn (offset : ℕ) (bytes : List ℕ) (p : PacketParts) (size : ℕ) : Type 0 where
+  pub some : 0 < size
+  pub room : size ≤ length bytes
+  pub within : offset + size ≤ greatest_end
+  pub notes : notes_in offset bytes ≡ note_of offset p ∷ notes_in (offset + size) (drop size bytes)
+  pub stop : stop_in offset bytes ≡ stop_in (offset + size) (drop size bytes)
+
+-- The piece has no packets, and stops so.
+pub record EndsAt (offset : ℕ) (bytes : List ℕ) (why : Stop) : Type 0 where
+  pub notes : notes_in offset bytes ≡ []
+  pub stop : stop_in offset bytes ≡ why
