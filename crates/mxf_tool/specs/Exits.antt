@@ -1,0 +1,12 @@
+-- The exit statuses (this project's profile).
+use Rattle.std.specs.Prelude.{ℕ}
+use Rattle.mxf_tool.specs.declared.exits.Exit.{Exit}
+use Rattle.mxf_tool.specs.declared.exits.Exit.TheVariants.{Done, Usage, Unread, NoMemory, Unwritten}
+
+-- The exit status of each end of a run.
+abbrev pub status_of : Exit → ℕ
+status_of Done = 0
+status_of Usage = 2
+status_of Unread = 3
+status_of NoMemory = 5
+status_of Unwritten = 6

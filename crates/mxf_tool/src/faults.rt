@@ -1,0 +1,31 @@
+//! Why an answer ended early.
+use mxf_klv::{OutOfMemory, WriteFault};
+use std::alloc::AllocError;
+use thiserror::Error;
+
+/// Why the lines ended early. A prefix of them has been written.
+#[derive(Clone, Copy, Debug, PartialEq, Eq, Error)]
+pub enum AnswerFault {
+    #[error("out of memory")]
+    OutOfMemory,
+    #[error(transparent)]
+    Write(WriteFault),
+}
+
+impl From<OutOfMemory> for AnswerFault {
+    fn from(_fault: OutOfMemory) -> AnswerFault {
+        AnswerFault::OutOfMemory
+    }
+}
+
+impl From<AllocError> for AnswerFault {
+    fn from(_fault: AllocError) -> AnswerFault {
+        AnswerFault::OutOfMemory
+    }
+}
+
+impl From<WriteFault> for AnswerFault {
+    fn from(fault: WriteFault) -> AnswerFault {
+        AnswerFault::Write(fault)
+    }
+}
