@@ -1,5 +1,5 @@
 //! Writing values with a count of the bytes that the writer took.
-ghost use Rattle.std.specs.Prelude.{◌≡◌};
+ghost use Rattle.std.specs.Prelude.{◌≡◌, ◌≤◌};
 ghost use Rattle.mxf_klv.specs.Written.{WritesPart};
 
 use std::io::{ErrorKind, Write};
@@ -20,14 +20,17 @@ pub struct WriteFault {
 /// A value is written by one `Progress` and a [`put`](Progress::put) for each of its parts.
 #[derive(Debug, Drop)]
 pub struct Progress {
+    /// The bytes that the writer took.
     pub written: u64,
-    interruptions: u32,
+    /// The writes that were interrupted and repeated.
+    pub interruptions: u32,
 }
 
 impl Progress {
     /// Nothing is written yet.
     pub fn new() -> Progress
-        ensures { result.written ≡ 0 }
+        ensures written { result.written ≡ 0 }
+        ensures interruptions { result.interruptions ≡ 0 }
     {
         Progress {
             written: 0,
@@ -39,7 +42,8 @@ impl Progress {
     ///
     /// Fails where the writer answers another error, takes no byte, or is interrupted once more.
     pub fn put<W: Write>(&mut self, writer: &mut W, part: &[u8]) -> Result<(), WriteFault>
-        ensures { WritesPart (W.contents writer.old) (W.contents writer.new) self.old.written self.new.written result part.now }
+        ensures written { WritesPart (W.contents writer.old) (W.contents writer.new) self.old.written self.new.written result part.now }
+        ensures interruptions { self.old.interruptions ≤ self.new.interruptions }
     {
         let mut rest = part;
         'pieces: while !rest.is_empty() {

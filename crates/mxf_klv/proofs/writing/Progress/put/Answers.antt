@@ -12,8 +12,8 @@ longer done rest n h = length-append done (take n rest) ∙ ap (λ k. length don
 
 pub pieces-preserved-in-Ok : goal.pieces-preserved-in-Ok
 pieces-preserved-in-Ok g c =
-    let (done, split, appended, counted) = c.pieces.invariant in
+    let (done, split, appended, counted, interruptions) = c.pieces.invariant in
     let rest = c.pieces.rest.now in
     let n = c.in-Ok.n in
     let more = longer done rest n c.in-Ok.ensures.bound in
-    (done ++ take n rest, moves_front _ done rest n split, Appends-trans _ _ _ _ _ appended c.in-Ok.ensures.bytes, omega arith)
+    (done ++ take n rest, moves_front _ done rest n split, Appends-trans _ _ _ _ _ appended c.in-Ok.ensures.bytes, omega arith, interruptions)

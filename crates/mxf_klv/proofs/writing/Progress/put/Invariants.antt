@@ -1,5 +1,5 @@
 -- What is gone from `rest` was appended, and is counted.
-use Rattle.std.proofs.Common.{◌≡◌, ◌+◌, ◌-◌, List, ℕ, ◌++◌, length}
+use Rattle.std.proofs.Common.{◌≤◌, ◌≡◌, ◌+◌, ◌-◌, List, ℕ, ◌++◌, length}
 use Rattle.std.specs.Io.KnownBytes.{Appends}
 use Rattle.mxf_klv.specs.Written.{counted}
 use Rattle.mxf_klv.proofs.writing.Progress.put.Given as goal
@@ -7,7 +7,7 @@ use Rattle.mxf_klv.proofs.writing.Progress.put.Given as goal
 abbrev pub invariant-pieces : goal.invariant-pieces
 invariant-pieces g l =
     (done : List ℕ) × (l.initial.rest ≡ done ++ l.rest) × Appends (g.W.Write.contents l.initial.writer) (g.W.Write.contents l.writer) done
-    × (l.self.written ≡ counted (l.initial.self.written + length done))
+    × (l.self.written ≡ counted (l.initial.self.written + length done)) × (l.initial.self.interruptions ≤ l.self.interruptions)
 
 abbrev pub decreases-pieces : goal.decreases-pieces
 decreases-pieces g l = length l.rest + (1024 - l.self.interruptions)
