@@ -1,15 +1,14 @@
 -- The tests of disputes say what the relations say.
-use Rattle.std.specs.Prelude.{◌≡◌, ◌≢◌, ℕ, ◌+◌, ◌<◌, ◌≤◌, Bool, true, false, cond, not, ◌&&◌, ◌||◌, nat_lt, ◌==◌, List, [], ◌∷◌, ◌⊎◌, ◌↔◌, filter, map, max, IsTrue, refl}
+use Rattle.std.specs.Prelude.{◌≡◌, ◌≢◌, find, Some, None, ◌+◌, ◌<◌, ◌≤◌, Bool, true, false, cond, not, ◌&&◌, ◌||◌, nat_lt, ◌==◌, List, [], ◌∷◌, ◌⊎◌, ◌↔◌, filter, map, max, IsTrue, refl}
 use Rattle.std.specs.List.{list_any, AllByRecursion}
-use Rattle.std.specs.declared.cmp.Ordering.{Ordering}
 use Rattle.std.specs.declared.cmp.Ordering.TheVariants.{Less}
 use Rattle.std.proofs.Common.{sym, ◌∙◌, ap, subst, inl, inr, arith, eqb-true, eq-eqb}
 use Rattle.std.proofs.lemmas.Bool.{ltb-true, lt-ltb}
 use Rattle.mxf_klv.specs.Parts.{NoteParts}
-use Rattle.mxf_klv.specs.Note.{IsInSpan, end_of, note_cmp}
-use Rattle.mxf_catalogue.specs.Rising.{In, IsRising}
+use Rattle.mxf_klv.specs.Note.{end_of, note_cmp}
+use Rattle.mxf_catalogue.specs.Rising.{In}
 use Rattle.mxf_catalogue.specs.Content.{IsContent, note_eq-Decides}
-use Rattle.mxf_catalogue.specs.Disputes.{SharesByte, SharesOffset, Overlaps, IsDisputed, IsClear, DisputedParts, IsDisputedOf, is_same_note, is_byte_shared, is_offset_shared, is_overlapped, is_disputed, clear_of, clear_notes, disputed_parts, disputed_of, disputed_notes}
+use Rattle.mxf_catalogue.specs.Disputes.{SharesByte, SharesOffset, Overlaps, IsDisputed, IsClear, DisputedParts, IsDisputedOf, is_same_note, is_byte_shared, is_offset_shared, is_overlapped, is_disputed, clear_notes, disputed_parts, disputed_notes}
 
 both : (a b : Bool) → a ≡ true → b ≡ true → (a && b) ≡ true
 both true true p q = refl
@@ -132,3 +131,102 @@ In-clear_notes n notes =
       λ h. record { held = (f.0 h).0; undisputed = λ k. not-true-false (is_disputed n notes) (f.0 h).1 (d.1 k) },
       λ c. f.1 (c.held, not_true (is_disputed n notes) (λ e. c.undisputed (d.0 e))),
     )
+
+all-filter : (P : NoteParts → Type 0) (p : NoteParts → Bool) (notes : List NoteParts) → AllByRecursion P notes → AllByRecursion P (filter p notes)
+all-filter P p [] a = tt
+all-filter P p (x ∷ xs) a =
+    elim (p x) as (λ b. AllByRecursion P (cond b (x ∷ filter p xs) (filter p xs))) [ true ↦ (a.0, all-filter P p xs a.1) | false ↦ all-filter P p xs a.1 ]
+
+-- Some of a content's notes are a content.
+pub IsContent-filter : (p : NoteParts → Bool) (notes : List NoteParts) → IsContent notes → IsContent (filter p notes)
+IsContent-filter p [] r = tt
+IsContent-filter p (x ∷ xs) r =
+    elim (p x) as (λ b. IsContent (cond b (x ∷ filter p xs) (filter p xs))) [
+      | true ↦ (all-filter (λ y. note_cmp x y ≡ Less) p xs r.0, IsContent-filter p xs r.1)
+      | false ↦ IsContent-filter p xs r.1
+    ]
+
+pub IsContent-clear_notes : (notes : List NoteParts) → IsContent notes → IsContent (clear_notes notes)
+IsContent-clear_notes notes = IsContent-filter (λ n. not (is_disputed n notes)) notes
+
+marks : (f : NoteParts → DisputedParts) → ((n : NoteParts) → (f n).note ≡ n) → (notes : List NoteParts) → map (λ d. d.note) (map f notes) ≡ notes
+marks f e [] = refl
+marks f e (x ∷ xs) = λ i. e x i ∷ marks f e xs i
+
+-- The disputed notes, without their marks, are a part of the notes in their order.
+pub notes-disputed_notes : (notes : List NoteParts) → map (λ d. d.note) (disputed_notes notes) ≡ filter (λ n. is_disputed n notes) notes
+notes-disputed_notes notes = marks (λ n. disputed_parts n notes) (λ n. refl) (filter (λ n. is_disputed n notes) notes)
+
+pub IsContent-disputed_notes : (notes : List NoteParts) → IsContent notes → IsContent (map (λ d. d.note) (disputed_notes notes))
+IsContent-disputed_notes notes r = subst IsContent (sym (notes-disputed_notes notes)) (IsContent-filter (λ n. is_disputed n notes) notes r)
+
+In-map : (f : NoteParts → DisputedParts) (notes : List NoteParts) (d : DisputedParts) → In d (map f notes) ↔ ((n : NoteParts) × In n notes × (d ≡ f n))
+In-map f [] d = (λ h. absurd h, λ s. absurd s.1)
+In-map f (x ∷ xs) d =
+    let ih = In-map f xs d in (
+      λ h. elim h [ inl q ↦ (x, inl refl, q) | inr k ↦ let s = ih.0 k in (s.0, inr s.1, s.2) ],
+      λ s. elim s.1 [ inl q ↦ inl (s.2 ∙ ap f q) | inr k ↦ inr (ih.1 (s.0, k, s.2)) ],
+    )
+
+same_bool : (a b : Bool) → (IsTrue a → IsTrue b) → (IsTrue b → IsTrue a) → a ≡ b
+same_bool true b f g = sym (f refl)
+same_bool false true f g = g refl
+same_bool false false f g = refl
+
+pub In-disputed_notes : (d : DisputedParts) (notes : List NoteParts) → In d (disputed_notes notes) ↔ IsDisputedOf d notes
+In-disputed_notes d notes =
+    let some = filter (λ n. is_disputed n notes) notes in
+    let m = In-map (λ n. disputed_parts n notes) some d in (
+      λ h.
+          let s = m.0 h in
+          let f = (In-filter (λ n. is_disputed n notes) notes s.0).0 s.1 in
+          let P : DisputedParts → Type 0 = λ e. IsDisputedOf e notes in
+          subst P (sym s.2) (record {
+            held = f.0;
+            disputed = (is_disputed-IsDisputed s.0 notes).0 f.1;
+            same_offset = is_offset_shared-SharesOffset s.0 notes;
+            overlaps = is_overlapped-Overlaps s.0 notes;
+          }),
+      λ k.
+          let n = d.note in
+          let s = is_offset_shared-SharesOffset n notes in let o = is_overlapped-Overlaps n notes in
+          let a : d.same_offset ≡ is_offset_shared n notes = same_bool _ _ (λ t. s.1 (k.same_offset.0 t)) (λ t. k.same_offset.1 (s.0 t)) in
+          let b : d.overlaps ≡ is_overlapped n notes = same_bool _ _ (λ t. o.1 (k.overlaps.0 t)) (λ t. k.overlaps.1 (o.0 t)) in
+          m.1 (n, (In-filter (λ x. is_disputed x notes) notes n).1 (k.held, (is_disputed-IsDisputed n notes).1 k.disputed), λ i. record { note = n; same_offset = a i; overlaps = b i }),
+    )
+
+-- A clear note shares no byte with another note.
+pub clear-apart : (m n : NoteParts) (notes : List NoteParts) → IsClear m notes → In n notes → m ≢ n → SharesByte m n → ⊥
+clear-apart m n notes c h ne s = c.undisputed (n, h, (λ e. ne (sym e)), SharesByte-symmetric m n s)
+
+-- A clear note is the only note with its offset.
+pub clear-alone : (m n : NoteParts) (notes : List NoteParts) → IsClear m notes → In n notes → m.offset ≡ n.offset → m ≡ n
+clear-alone m n notes c h e =
+    elim (is_same_note m n) as (λ b. is_same_note m n ≡ b → m ≡ n) [
+      | true ↦ λ t. (note_eq-Decides m n).0 t
+      | false ↦ λ t. absurd (clear-apart m n notes c h (λ p. let u = (note_eq-Decides m n).1 p in cc (u, t)) (SharesByte-same_offset m n e))
+    ] refl
+
+-- Where a disputed note has an offset, no clear note has it.
+pub disputed-no_clear : (m n : NoteParts) (notes : List NoteParts) → In n notes → IsTrue (is_disputed n notes) → IsClear m notes → m.offset ≡ n.offset → ⊥
+disputed-no_clear m n notes h t c e =
+    let same = clear-alone m n notes c h e in
+    let P : NoteParts → Type 0 = λ x. IsDisputed x notes in
+    c.undisputed (subst P (sym same) ((is_disputed-IsDisputed n notes).0 t))
+
+-- What is found in a list.
+pub found-In : (p : NoteParts → Bool) (notes : List NoteParts) (n : NoteParts) → find p notes ≡ Some n → In n notes × IsTrue (p n)
+found-In p [] n e = cc
+found-In p (x ∷ xs) n e =
+    elim (p x) as (λ b. p x ≡ b → cond b (Some x) (find p xs) ≡ Some n → In n (x ∷ xs) × IsTrue (p n)) [
+      | true ↦ λ t q. let same : x ≡ n = cc in (inl (sym same), ap p (sym same) ∙ t)
+      | false ↦ λ t q. let ih = found-In p xs n q in (inr ih.0, ih.1)
+    ] refl e
+
+pub none_found : (p : NoteParts → Bool) (notes : List NoteParts) (n : NoteParts) → find p notes ≡ None → In n notes → IsTrue (p n) → ⊥
+none_found p [] n e h t = h
+none_found p (x ∷ xs) n e h t =
+    elim (p x) as (λ b. p x ≡ b → cond b (Some x) (find p xs) ≡ None → ⊥) [
+      | true ↦ λ u q. cc
+      | false ↦ λ u q. elim h [ inl same ↦ (let k = ap p same in cc) | inr k ↦ none_found p xs n q k t ]
+    ] refl e

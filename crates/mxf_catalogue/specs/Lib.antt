@@ -4,3 +4,4 @@ pub mod DisputesLaws
 pub mod History
 pub mod Joins
 pub mod Rising
+pub mod Shown

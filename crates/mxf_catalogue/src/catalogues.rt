@@ -1,11 +1,20 @@
 //! The set of notes.
-ghost use Rattle.std.specs.Prelude.{◌≡◌, ◌↔◌, [], length, IsTrue, IfErr, OnOk, OnErr};
+ghost use Rattle.std.specs.Prelude.{◌≡◌, ◌≢◌, ◌↔◌, ◌==◌, [], find, length, IsTrue, IfErr, IfNone, IfSome, OnOk, OnErr};
+ghost use Rattle.std.specs.Option.{option_copied};
+ghost use Rattle.mxf_klv.specs.Parts.{NoteParts};
 ghost use Rattle.mxf_catalogue.specs.Rising.{In};
 ghost use Rattle.mxf_catalogue.specs.Content.{IsContent, IsPlace, with_note};
+ghost use Rattle.mxf_catalogue.specs.Disputes.{IsClear, clear_notes, disputed_notes};
 
 use crate::changes::Change;
+use crate::clear_notes::ClearNotes;
+use crate::disputed_notes::DisputedNotes;
+use crate::disputes::is_disputed;
 use crate::faults::AddFault;
-use mxf_klv::Note;
+use crate::iterating::Notes;
+use crate::joining::Semilattice;
+use crate::merging::merge;
+use mxf_klv::{Note, OutOfMemory};
 use std::alloc::Global;
 use std::marker::Model;
 
@@ -17,6 +26,7 @@ pub struct Catalogue {
 
 impl Model for Catalogue {
     ghost use Rattle.std.specs.Prelude.{List};
+    ghost use Rattle.std.specs.Option.{option_copied};
     ghost use Rattle.mxf_klv.specs.Parts.{NoteParts};
     ghost use Rattle.mxf_catalogue.specs.Content.{IsContent};
 
@@ -69,6 +79,39 @@ impl Catalogue {
         self.notes.len()
     }
 
+    /// The notes in their order.
+    pub fn notes(&self) -> Notes<'_>
+        ensures { result ≡ self.now }
+    {
+        Notes::of(&self.notes)
+    }
+
+    /// The clear notes in their order: those that share no byte with another. It takes no memory.
+    pub fn clear(&self) -> ClearNotes<'_>
+        ensures { result ≡ clear_notes self.now }
+    {
+        ClearNotes::of(&self.notes)
+    }
+
+    /// The disputed notes in their order, each with how it is disputed. It takes no memory.
+    pub fn disputed(&self) -> DisputedNotes<'_>
+        ensures { result ≡ disputed_notes self.now }
+    {
+        DisputedNotes::of(&self.notes)
+    }
+
+    /// The clear note with this file offset, in bytes.
+    pub fn clear_at(&self, offset: u64) -> Option<&Note>
+        ensures found { IfSome result (λ n. IsClear n.now self.now × (n.now.offset ≡ offset)) }
+        ensures none { IfNone result ((n : NoteParts) → IsClear n self.now → n.offset ≢ offset) }
+    {
+        let note = first_at(&self.notes, offset)?;
+        if is_disputed(note, &self.notes) {
+            return None;
+        }
+        Some(note)
+    }
+
     /// Whether there is no note.
     pub fn is_empty(&self) -> bool
         ensures { IsTrue result ↔ (self.now ≡ []) }
@@ -84,4 +127,39 @@ fn place(notes: &[Note], note: &Note) -> Result<usize, usize>
     ensures absent { IfErr result (λ at. IsPlace note.now notes.now at) }
 {
     notes.binary_search(note)
+}
+
+/// The first note with this offset.
+fn first_at(notes: &[Note], offset: u64) -> Option<&Note>
+    ensures { option_copied result ≡ find (λ n. n.offset == offset) notes.now }
+{
+    notes.iter().find(|note| note.offset() == offset)
+}
+
+impl Semilattice for Catalogue {
+    type Member = Note;
+
+    ghost use Rattle.mxf_catalogue.specs.Content.{has_note, union_of, union_of-IsUnion};
+    ghost use Rattle.mxf_catalogue.specs.Joins.{joined_assoc, joined_comm, joined_idem};
+
+    ghost has = { has_note };
+
+    ghost joined = { union_of };
+
+    ghost is_union = { union_of-IsUnion };
+
+    ghost associative = { joined_assoc has_note union_of union_of-IsUnion };
+
+    ghost commutative = { joined_comm has_note union_of union_of-IsUnion };
+
+    ghost idempotent = { joined_idem has_note union_of union_of-IsUnion };
+
+    fn join(alloc: Global, a: &Catalogue, b: &Catalogue) -> Result<Catalogue, OutOfMemory> {
+        let notes = merge(alloc, &a.notes, &b.notes)?;
+        Ok(Catalogue { notes })
+    }
+
+    fn same(&self, other: &Catalogue) -> bool {
+        self.notes == other.notes
+    }
 }

@@ -23,9 +23,7 @@ pub(crate) fn is_offset_shared(note: &Note, notes: &[Note]) -> bool
 pub(crate) fn is_overlapped(note: &Note, notes: &[Note]) -> bool
     ensures { result ≡ is_overlapped note.now notes.now }
 {
-    notes
-        .iter()
-        .any(|other| other.offset() != note.offset() && is_byte_shared(other, note))
+    notes.iter().any(|other| other.offset() != note.offset() && is_byte_shared(other, note))
 }
 
 pub(crate) fn is_disputed(note: &Note, notes: &[Note]) -> bool

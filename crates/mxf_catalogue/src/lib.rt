@@ -3,9 +3,27 @@
 
 mod catalogues;
 mod changes;
+mod clear_notes;
+mod disputed_notes;
 mod disputes;
 mod faults;
+mod iterating;
+mod joining;
+mod laws;
+mod merging;
 
 pub use catalogues::Catalogue;
 pub use changes::Change;
+pub use clear_notes::ClearNotes;
+pub use disputed_notes::{Disputed, DisputedNotes};
 pub use faults::AddFault;
+pub use iterating::Notes;
+pub use joining::Semilattice;
+pub use laws::{
+    clear_notes_by_definition, clear_notes_stand_apart, contents_are_sets,
+    disputed_notes_by_definition, disputes_by_tests, histories_leave_what_they_were_handed,
+    notes_are_disputed_in_two_ways, one_set_one_content,
+};
+
+#[cfg(test)]
+mod tests;
