@@ -1,8 +1,9 @@
 -- The tests of disputes say what the relations say.
-use Rattle.std.specs.Prelude.{◌≡◌, ◌≢◌, find, Some, None, ◌+◌, ◌<◌, ◌≤◌, Bool, true, false, cond, not, ◌&&◌, ◌||◌, nat_lt, ◌==◌, List, [], ◌∷◌, ◌⊎◌, ◌↔◌, filter, map, max, IsTrue, refl}
+use Rattle.std.specs.Prelude.{◌≡◌, ◌≢◌, find, Some, None, ◌+◌, ◌<◌, ◌≤◌, Bool, true, false, cond, not, ◌&&◌, ◌||◌, nat_lt, ◌==◌, List, [], ◌∷◌, ◌⊎◌, ◌↔◌, filter, length, map, max, IsTrue, refl}
 use Rattle.std.specs.List.{list_any, AllByRecursion}
 use Rattle.std.specs.declared.cmp.Ordering.TheVariants.{Less}
 use Rattle.std.proofs.Common.{sym, ◌∙◌, ap, subst, inl, inr, arith, eqb-true, eq-eqb}
+use Rattle.std.proofs.lemmas.List.{length-map}
 use Rattle.std.proofs.lemmas.Bool.{ltb-true, lt-ltb}
 use Rattle.mxf_klv.specs.Parts.{NoteParts}
 use Rattle.mxf_klv.specs.Note.{end_of, note_cmp}
@@ -230,3 +231,19 @@ none_found p (x ∷ xs) n e h t =
       | true ↦ λ u q. cc
       | false ↦ λ u q. elim h [ inl same ↦ (let k = ap p same in cc) | inr k ↦ none_found p xs n q k t ]
     ] refl e
+
+pub length-filter_le : (p : NoteParts → Bool) (notes : List NoteParts) → length (filter p notes) ≤ length notes
+length-filter_le p [] = omega arith
+length-filter_le p (x ∷ xs) =
+    let ih : length (filter p xs) ≤ length xs = length-filter_le p xs in
+    elim (p x) as (λ b. length (cond b (x ∷ filter p xs) (filter p xs)) ≤ length (x ∷ xs)) [ true ↦ omega arith | false ↦ omega arith ]
+
+pub length-clear_notes : (notes : List NoteParts) → length (clear_notes notes) ≤ length notes
+length-clear_notes notes = length-filter_le (λ n. not (is_disputed n notes)) notes
+
+pub length-disputed_notes : (notes : List NoteParts) → length (disputed_notes notes) ≤ length notes
+length-disputed_notes notes =
+    let some : List NoteParts = filter (λ n. is_disputed n notes) notes in
+    let e : length (disputed_notes notes) ≡ length some = length-map some (λ n. disputed_parts n notes) in
+    let l : length some ≤ length notes = length-filter_le (λ n. is_disputed n notes) notes in
+    omega (arith, e, l)

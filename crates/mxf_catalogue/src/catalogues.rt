@@ -1,5 +1,5 @@
 //! The set of notes.
-ghost use Rattle.std.specs.Prelude.{◌≡◌, ◌≢◌, ◌↔◌, ◌==◌, [], find, length, IsTrue, IfErr, IfNone, IfSome, OnOk, OnErr};
+ghost use Rattle.std.specs.Prelude.{◌≡◌, ◌≢◌, ◌↔◌, ◌==◌, ◌^◌, ◌<◌, [], find, length, IsTrue, IfErr, IfNone, IfSome, OnOk, OnErr};
 ghost use Rattle.std.specs.Option.{option_copied};
 ghost use Rattle.mxf_klv.specs.Parts.{NoteParts};
 ghost use Rattle.mxf_catalogue.specs.Rising.{In};
@@ -81,21 +81,27 @@ impl Catalogue {
 
     /// The notes in their order.
     pub fn notes(&self) -> Notes<'_>
-        ensures { result ≡ self.now }
+        ensures notes { result ≡ self.now }
+        ensures content { IsContent self.now }
+        ensures bound { length result < 2 ^ 64 }
     {
         Notes::of(&self.notes)
     }
 
     /// The clear notes in their order: those that share no byte with another. It takes no memory.
     pub fn clear(&self) -> ClearNotes<'_>
-        ensures { result ≡ clear_notes self.now }
+        ensures notes { result ≡ clear_notes self.now }
+        ensures content { IsContent self.now }
+        ensures bound { length result < 2 ^ 64 }
     {
         ClearNotes::of(&self.notes)
     }
 
     /// The disputed notes in their order, each with how it is disputed. It takes no memory.
     pub fn disputed(&self) -> DisputedNotes<'_>
-        ensures { result ≡ disputed_notes self.now }
+        ensures notes { result ≡ disputed_notes self.now }
+        ensures content { IsContent self.now }
+        ensures bound { length result < 2 ^ 64 }
     {
         DisputedNotes::of(&self.notes)
     }

@@ -1,5 +1,5 @@
 //! Iterating over the disputed notes of a catalogue.
-ghost use Rattle.std.specs.Prelude.{◌≡◌};
+ghost use Rattle.std.specs.Prelude.{◌≡◌, ◌^◌, ◌<◌, length};
 ghost use Rattle.std.specs.Iterator.{YieldsFirstBy, item_count};
 ghost use Rattle.mxf_catalogue.specs.Disputes.{disputed_notes};
 ghost use Rattle.mxf_catalogue.specs.Shown.{shown_parts};
@@ -36,7 +36,8 @@ impl<'a> Model for DisputedNotes<'a> {
 
 impl<'a> DisputedNotes<'a> {
     pub(crate) fn of(notes: &'a [Note]) -> DisputedNotes<'a>
-        ensures { result ≡ disputed_notes notes.now }
+        ensures notes { result ≡ disputed_notes notes.now }
+        ensures bound { length result < 2 ^ 64 }
     {
         DisputedNotes {
             all: notes,
