@@ -40,7 +40,7 @@ pub record IsDisputedOf (d : DisputedParts) (notes : List NoteParts) : Type 0 wh
   pub same_offset : IsTrue d.same_offset ↔ SharesOffset d.note notes
   pub overlaps : IsTrue d.overlaps ↔ Overlaps d.note notes
 
--- The same as tests, and as lists in the order of the notes.
+-- The same as tests, and as lists in the order of the notes. Laws tie them to the relations above.
 
 abbrev pub is_same_note : NoteParts → NoteParts → Bool
 is_same_note m n = eq_by_cmp note_cmp m n
@@ -57,17 +57,21 @@ is_overlapped n notes = list_any (λ m. not (m.offset == n.offset) && is_byte_sh
 abbrev pub is_disputed : NoteParts → List NoteParts → Bool
 is_disputed n notes = is_offset_shared n notes || is_overlapped n notes
 
+-- Those of some notes that no other of all notes shares a byte with.
 abbrev pub clear_of : List NoteParts → List NoteParts → List NoteParts
-clear_of some notes = filter (λ n. not (is_disputed n notes)) some
+clear_of some all = filter (λ n. not (is_disputed n all)) some
 
+-- The clear notes.
 abbrev pub clear_notes : List NoteParts → List NoteParts
 clear_notes notes = clear_of notes notes
 
 abbrev pub disputed_parts : NoteParts → List NoteParts → DisputedParts
 disputed_parts n notes = record { note = n; same_offset = is_offset_shared n notes; overlaps = is_overlapped n notes }
 
+-- Those of some notes that another of all notes shares a byte with.
 abbrev pub disputed_of : List NoteParts → List NoteParts → List DisputedParts
-disputed_of some notes = map (λ n. disputed_parts n notes) (filter (λ n. is_disputed n notes) some)
+disputed_of some all = map (λ n. disputed_parts n all) (filter (λ n. is_disputed n all) some)
 
+-- The disputed notes.
 abbrev pub disputed_notes : List NoteParts → List DisputedParts
 disputed_notes notes = disputed_of notes notes

@@ -196,6 +196,13 @@ In-disputed_notes d notes =
           m.1 (n, (In-filter (λ x. is_disputed x notes) notes n).1 (k.held, (is_disputed-IsDisputed n notes).1 k.disputed), λ i. record { note = n; same_offset = a i; overlaps = b i }),
     )
 
+pub clear_or_disputed : (n : NoteParts) (notes : List NoteParts) → In n notes → IsClear n notes ⊎ IsDisputed n notes
+clear_or_disputed n notes h =
+    elim (is_disputed n notes) as (λ b. is_disputed n notes ≡ b → IsClear n notes ⊎ IsDisputed n notes) [
+      | true ↦ λ e. inr ((is_disputed-IsDisputed n notes).0 e)
+      | false ↦ λ e. inl (record { held = h; undisputed = λ d. let t = (is_disputed-IsDisputed n notes).1 d in cc (t, e) })
+    ] refl
+
 -- A clear note shares no byte with another note.
 pub clear-apart : (m n : NoteParts) (notes : List NoteParts) → IsClear m notes → In n notes → m ≢ n → SharesByte m n → ⊥
 clear-apart m n notes c h ne s = c.undisputed (n, h, (λ e. ne (sym e)), SharesByte-symmetric m n s)

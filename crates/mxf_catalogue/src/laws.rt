@@ -21,6 +21,12 @@ pub fn notes_are_disputed_in_two_ways()
     ensures { (n : NoteParts) (notes : List NoteParts) → IsDisputed n notes ↔ SharesOffset n notes ⊎ Overlaps n notes }
 {}
 
+/// A law: each note is clear or disputed, and none is both.
+pub fn notes_are_clear_or_disputed()
+    ensures one { (n : NoteParts) (notes : List NoteParts) → In n notes → IsClear n notes ⊎ IsDisputed n notes }
+    ensures not_both { (n : NoteParts) (notes : List NoteParts) → IsClear n notes → IsDisputed n notes → ⊥ }
+{}
+
 /// A law: a clear note shares no byte with another note, so it is the only one with its offset.
 pub fn clear_notes_stand_apart()
     ensures bytes { (m n : NoteParts) (notes : List NoteParts) → IsClear m notes → In n notes → m ≢ n → SharesByte m n → ⊥ }

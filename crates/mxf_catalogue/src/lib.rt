@@ -22,7 +22,7 @@ pub use joining::Semilattice;
 pub use laws::{
     clear_notes_by_definition, clear_notes_stand_apart, contents_are_sets,
     disputed_notes_by_definition, disputes_by_tests, histories_leave_what_they_were_handed,
-    notes_are_disputed_in_two_ways, one_set_one_content,
+    notes_are_clear_or_disputed, notes_are_disputed_in_two_ways, one_set_one_content,
 };
 
 #[cfg(test)]
