@@ -4,4 +4,3 @@ pub mod DisputesLaws
 pub mod History
 pub mod Joins
 pub mod Rising
-pub mod Shown

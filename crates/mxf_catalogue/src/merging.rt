@@ -12,7 +12,8 @@ use std::marker::Model;
 pub(crate) fn merge(alloc: Global, left: &[Note], right: &[Note]) -> Result<Vec<Note>, OutOfMemory>
     requires left { IsContent left.now }
     requires right { IsContent right.now }
-    ensures { IfOk result (λ notes. notes.items ≡ union_of left.now right.now) }
+    ensures union { IfOk result (λ notes. notes.items ≡ union_of left.now right.now) }
+    ensures content { IfOk result (λ notes. IsContent notes.items) }
 {
     let mut notes = Vec::new(alloc);
     for note in Merged::of(left, right) {
