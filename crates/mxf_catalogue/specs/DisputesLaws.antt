@@ -40,6 +40,7 @@ not-true-false : (b : Bool) → not b ≡ true → b ≡ true → ⊥
 not-true-false true h e = cc
 not-true-false false h e = cc
 
+-- The test of shared bytes.
 pub is_byte_shared-SharesByte : (m n : NoteParts) → IsTrue (is_byte_shared m n) ↔ SharesByte m n
 is_byte_shared-SharesByte m n = (
   λ h.
@@ -60,6 +61,7 @@ SharesByte-same_offset m n e = (m.offset, record { from = omega arith; before = 
 pub SharesByte-symmetric : (m n : NoteParts) → SharesByte m n → SharesByte n m
 SharesByte-symmetric m n s = (s.0, s.2, s.1)
 
+-- One of the notes passes the test.
 pub list_any-In : (p : NoteParts → Bool) (notes : List NoteParts) → IsTrue (list_any p notes) ↔ ((m : NoteParts) × In m notes × IsTrue (p m))
 list_any-In p [] = (λ h. cc, λ s. absurd s.1)
 list_any-In p (x ∷ xs) =
@@ -74,6 +76,7 @@ list_any-In p (x ∷ xs) =
       ] refl,
     )
 
+-- The test of shared offsets.
 pub is_offset_shared-SharesOffset : (n : NoteParts) (notes : List NoteParts) → IsTrue (is_offset_shared n notes) ↔ SharesOffset n notes
 is_offset_shared-SharesOffset n notes =
     let l = list_any-In (λ m. (m.offset == n.offset) && not (is_same_note m n)) notes in (
@@ -82,6 +85,7 @@ is_offset_shared-SharesOffset n notes =
       λ s. l.1 (s.0, s.1, both (s.0.offset == n.offset) (not (is_same_note s.0 n)) (eq-eqb _ _ s.3) (not_true (is_same_note s.0 n) (λ e. s.2 ((note_eq-Decides s.0 n).0 e)))),
     )
 
+-- The test of overlaps.
 pub is_overlapped-Overlaps : (n : NoteParts) (notes : List NoteParts) → IsTrue (is_overlapped n notes) ↔ Overlaps n notes
 is_overlapped-Overlaps n notes =
     let l = list_any-In (λ m. not (m.offset == n.offset) && is_byte_shared m n) notes in (
@@ -103,6 +107,7 @@ IsDisputed-two_ways n notes = (
   ],
 )
 
+-- The test of disputes.
 pub is_disputed-IsDisputed : (n : NoteParts) (notes : List NoteParts) → IsTrue (is_disputed n notes) ↔ IsDisputed n notes
 is_disputed-IsDisputed n notes =
     let s = is_offset_shared-SharesOffset n notes in let o = is_overlapped-Overlaps n notes in let two = IsDisputed-two_ways n notes in (
@@ -110,6 +115,7 @@ is_disputed-IsDisputed n notes =
       λ d. elim (two.0 d) [ inl p ↦ left_or (is_offset_shared n notes) (is_overlapped n notes) (s.1 p) | inr q ↦ right_or (is_offset_shared n notes) (is_overlapped n notes) (o.1 q) ],
     )
 
+-- What a filter leaves.
 pub In-filter : (p : NoteParts → Bool) (notes : List NoteParts) (n : NoteParts) → In n (filter p notes) ↔ (In n notes × IsTrue (p n))
 In-filter p [] n = (λ h. absurd h, λ s. absurd s.0)
 In-filter p (x ∷ xs) n =
@@ -125,6 +131,7 @@ In-filter p (x ∷ xs) n =
       )
     ] refl
 
+-- The clear notes are those that are clear.
 pub In-clear_notes : (n : NoteParts) (notes : List NoteParts) → In n (clear_notes notes) ↔ IsClear n notes
 In-clear_notes n notes =
     let f = In-filter (λ m. not (is_disputed m notes)) notes n in
@@ -147,6 +154,7 @@ IsContent-filter p (x ∷ xs) r =
       | false ↦ IsContent-filter p xs r.1
     ]
 
+-- The clear notes and the disputed notes rise.
 pub IsContent-clear_notes : (notes : List NoteParts) → IsContent notes → IsContent (clear_notes notes)
 IsContent-clear_notes notes = IsContent-filter (λ n. not (is_disputed n notes)) notes
 
@@ -174,6 +182,7 @@ same_bool true b f g = sym (f refl)
 same_bool false true f g = g refl
 same_bool false false f g = refl
 
+-- The disputed notes are those that are disputed, with their marks.
 pub In-disputed_notes : (d : DisputedParts) (notes : List NoteParts) → In d (disputed_notes notes) ↔ IsDisputedOf d notes
 In-disputed_notes d notes =
     let some = filter (λ n. is_disputed n notes) notes in
@@ -196,6 +205,7 @@ In-disputed_notes d notes =
           m.1 (n, (In-filter (λ x. is_disputed x notes) notes n).1 (k.held, (is_disputed-IsDisputed n notes).1 k.disputed), λ i. record { note = n; same_offset = a i; overlaps = b i }),
     )
 
+-- A note is clear or disputed.
 pub clear_or_disputed : (n : NoteParts) (notes : List NoteParts) → In n notes → IsClear n notes ⊎ IsDisputed n notes
 clear_or_disputed n notes h =
     elim (is_disputed n notes) as (λ b. is_disputed n notes ≡ b → IsClear n notes ⊎ IsDisputed n notes) [
@@ -239,6 +249,7 @@ none_found p (x ∷ xs) n e h t =
       | false ↦ λ u q. elim h [ inl same ↦ (let k = ap p same in cc) | inr k ↦ none_found p xs n q k t ]
     ] refl e
 
+-- There are no more of them than notes.
 pub length-filter_le : (p : NoteParts → Bool) (notes : List NoteParts) → length (filter p notes) ≤ length notes
 length-filter_le p [] = omega arith
 length-filter_le p (x ∷ xs) =

@@ -18,7 +18,10 @@ use mxf_klv::{Note, OutOfMemory};
 use std::alloc::Global;
 use std::marker::Model;
 
-/// A set of notes, in their order.
+/// A set of notes, in the order of [`Note`].
+///
+/// Notes are added one by one, and catalogues are joined by [`Semilattice::join`]. What comes out is the set alone: no
+/// order of arrival and no number of repeats changes it.
 #[derive(Debug, Drop)]
 pub struct Catalogue {
     notes: Vec<Note>,
@@ -26,7 +29,6 @@ pub struct Catalogue {
 
 impl Model for Catalogue {
     ghost use Rattle.std.specs.Prelude.{List};
-    ghost use Rattle.std.specs.Option.{option_copied};
     ghost use Rattle.mxf_klv.specs.Parts.{NoteParts};
     ghost use Rattle.mxf_catalogue.specs.Content.{IsContent};
 
@@ -79,9 +81,18 @@ impl Catalogue {
         self.notes.len()
     }
 
+    /// Whether there is no note.
+    pub fn is_empty(&self) -> bool
+        ensures { IsTrue result ↔ (self.now ≡ []) }
+    {
+        self.notes.is_empty()
+    }
+
     /// The notes in their order.
     pub fn notes(&self) -> Notes<'_>
         ensures notes { result ≡ self.now }
+
+        // All notes rise in their order, and a count of the result fits.
         ensures content { IsContent self.now }
         ensures bound { length result < 2 ^ 64 }
     {
@@ -91,6 +102,8 @@ impl Catalogue {
     /// The clear notes in their order: those that share no byte with another. It takes no memory.
     pub fn clear(&self) -> ClearNotes<'_>
         ensures notes { result ≡ clear_notes self.now }
+
+        // All notes rise in their order, and a count of the result fits.
         ensures content { IsContent self.now }
         ensures bound { length result < 2 ^ 64 }
     {
@@ -100,6 +113,8 @@ impl Catalogue {
     /// The disputed notes in their order, each with how it is disputed. It takes no memory.
     pub fn disputed(&self) -> DisputedNotes<'_>
         ensures notes { result ≡ disputed_notes self.now }
+
+        // All notes rise in their order, and a count of the result fits.
         ensures content { IsContent self.now }
         ensures bound { length result < 2 ^ 64 }
     {
@@ -116,13 +131,6 @@ impl Catalogue {
             return None;
         }
         Some(note)
-    }
-
-    /// Whether there is no note.
-    pub fn is_empty(&self) -> bool
-        ensures { IsTrue result ↔ (self.now ≡ []) }
-    {
-        self.notes.is_empty()
     }
 }
 
