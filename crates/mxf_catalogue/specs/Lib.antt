@@ -1,0 +1,6 @@
+pub mod Content
+pub mod Disputes
+pub mod DisputesLaws
+pub mod History
+pub mod Joins
+pub mod Rising

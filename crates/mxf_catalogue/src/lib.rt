@@ -1,0 +1,40 @@
+//! The set of notes that partial reads of a file have given, with its disputes and its joins (this project's profile).
+//!
+//! What is proved, and where it is said:
+//! - each call's answer and what it leaves: the clauses of [`Catalogue`] and [`Semilattice`];
+//! - what any history of calls leaves is the set that it was handed, and equal sets are equal contents:
+//!   [`histories_leave_what_they_were_handed`], [`one_set_one_content`], [`contents_are_sets`];
+//! - clear and disputed notes are by spans and membership: [`clear_notes_by_definition`],
+//!   [`disputed_notes_by_definition`], [`notes_are_clear_or_disputed`], [`notes_are_disputed_in_two_ways`],
+//!   [`clear_notes_stand_apart`];
+//! - joins are associative, commutative and idempotent on contents: the laws of [`Semilattice`].
+//!
+//! That memory is there, and that a call succeeds with it, is tested.
+#![tactic(auto)]
+
+mod catalogues;
+mod changes;
+mod clear_notes;
+mod disputed_notes;
+mod disputes;
+mod faults;
+mod iterating;
+mod joining;
+mod laws;
+mod merging;
+
+pub use catalogues::Catalogue;
+pub use changes::Change;
+pub use clear_notes::ClearNotes;
+pub use disputed_notes::{Disputed, DisputedNotes};
+pub use faults::AddFault;
+pub use iterating::Notes;
+pub use joining::Semilattice;
+pub use laws::{
+    clear_notes_by_definition, clear_notes_stand_apart, contents_are_sets,
+    disputed_notes_by_definition, disputes_by_tests, histories_leave_what_they_were_handed,
+    notes_are_clear_or_disputed, notes_are_disputed_in_two_ways, one_set_one_content,
+};
+
+#[cfg(test)]
+mod tests;
