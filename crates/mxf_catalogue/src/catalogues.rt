@@ -154,13 +154,17 @@ impl Semilattice for Catalogue {
     type Member = Note;
 
     ghost use Rattle.mxf_catalogue.specs.Content.{has_note, union_of, union_of-IsUnion};
-    ghost use Rattle.mxf_catalogue.specs.Joins.{joined_assoc, joined_comm, joined_idem};
+    ghost use Rattle.mxf_catalogue.specs.Joins.{SameContent, joined_assoc, joined_comm, joined_idem};
 
     ghost has = { has_note };
 
     ghost joined = { union_of };
 
+    ghost equal = { SameContent has_note };
+
     ghost is_union = { union_of-IsUnion };
+
+    ghost is_equality = { λ a b. (λ h. h, λ h. h) };
 
     ghost associative = { joined_assoc has_note union_of union_of-IsUnion };
 
