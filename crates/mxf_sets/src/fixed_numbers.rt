@@ -1,5 +1,5 @@
 //! Numbers of fixed widths, one after another, the highest byte of each first.
-ghost use Rattle.std.specs.Prelude.{◌≡◌, ◌+◌, ◌≤◌, ◌++◌, [], length};
+ghost use Rattle.std.specs.Prelude.{◌≡◌, ◌+◌, ◌^◌, ◌<◌, ◌≤◌, ◌++◌, [], length};
 ghost use Rattle.byteorder.specs.Endian.{big_bytes};
 
 use byteorder::{BigEndian, ByteOrder};
@@ -66,6 +66,7 @@ impl NumberWriter {
         requires { length self.old + 2 ≤ 64 }
         ensures number { self.new ≡ self.old ++ big_bytes 2 number }
         ensures left { length self.new ≡ length self.old + 2 }
+        ensures fits { number < 2 ^ 16 }
     {
         BigEndian::write_u16(&mut self.bytes[self.written..], number);
         self.written += 2;
@@ -75,6 +76,7 @@ impl NumberWriter {
         requires { length self.old + 4 ≤ 64 }
         ensures number { self.new ≡ self.old ++ big_bytes 4 number }
         ensures left { length self.new ≡ length self.old + 4 }
+        ensures fits { number < 2 ^ 32 }
     {
         BigEndian::write_u32(&mut self.bytes[self.written..], number);
         self.written += 4;
@@ -84,6 +86,7 @@ impl NumberWriter {
         requires { length self.old + 8 ≤ 64 }
         ensures number { self.new ≡ self.old ++ big_bytes 8 number }
         ensures left { length self.new ≡ length self.old + 8 }
+        ensures fits { number < 2 ^ 64 }
     {
         BigEndian::write_u64(&mut self.bytes[self.written..], number);
         self.written += 8;

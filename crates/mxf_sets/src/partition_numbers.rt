@@ -1,5 +1,5 @@
 //! The numbers of a partition pack (ST 377-1, Partition Pack).
-ghost use Rattle.std.specs.Prelude.{◌≡◌, length};
+ghost use Rattle.std.specs.Prelude.{◌≡◌};
 ghost use Rattle.mxf_sets.specs.PartitionPack.{AreNumbers, numbers_bytes};
 
 use crate::fixed_numbers::{NumberWriter, take_u16, take_u32, take_u64};
@@ -33,12 +33,8 @@ pub struct PartitionNumbers {
 }
 
 impl PartitionNumbers {
-    /// The number of bytes of the numbers.
-    pub(crate) const SIZE: usize = 64;
-
     /// Reads the numbers from their bytes.
-    pub(crate) fn read(bytes: &[u8]) -> PartitionNumbers
-        requires { length bytes.now ≡ 64 }
+    pub(crate) fn read(bytes: &[u8; 64]) -> PartitionNumbers
         ensures numbers { AreNumbers result }
         ensures bytes { bytes.now ≡ numbers_bytes result }
     {
@@ -70,7 +66,8 @@ impl PartitionNumbers {
 
     /// The bytes of the numbers.
     pub(crate) fn to_bytes(&self) -> [u8; 64]
-        ensures { result ≡ numbers_bytes self.now }
+        ensures bytes { result ≡ numbers_bytes self.now }
+        ensures numbers { AreNumbers self.now }
     {
         let mut fields = NumberWriter::new();
         fields.u16(self.major_version);
