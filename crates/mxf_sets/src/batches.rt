@@ -1,5 +1,5 @@
 //! Batches (ST 377-1, batch): items of one size, one after another.
-ghost use Rattle.std.specs.Prelude.{◌≡◌, ◌==◌, ◌<◌, ◌/◌, ◌%◌, ◌^◌, ℕ, List, Result, length};
+ghost use Rattle.std.specs.Prelude.{◌≡◌, ◌==◌, ◌<◌, ◌/◌, ◌%◌, ◌^◌, ℕ, List, Result, IfSome, length};
 ghost use Rattle.std.specs.Option.{SomeIff, option_map};
 ghost use Rattle.mxf_klv.specs.Written.{Writes, WritesPart};
 ghost use Rattle.mxf_sets.specs.Batch.{AreBatchParts, BatchParts, IsBatch, ReadsBatch, batch_bytes, batch_parts, item_in};
@@ -97,7 +97,8 @@ impl<'a> Batch<'a> {
 
     /// The item at a place, counted from 0.
     pub fn get(&self, place: usize) -> Option<&'a [u8]>
-        ensures { SomeIff (option_map (λ v. v.now) result) (place < self.now.count) (item_in self.now place) }
+        ensures item { SomeIff (option_map (λ v. v.now) result) (place < self.now.count) (item_in self.now place) }
+        ensures size { IfSome result (λ item. length item.now ≡ self.now.size) }
     {
         if place >= self.count as usize {
             return None;
