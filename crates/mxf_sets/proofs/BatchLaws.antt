@@ -1,6 +1,5 @@
 -- Bytes are a batch of a size, or one of the faults.
-use Rattle.std.proofs.Common.{◌≡◌, ℕ, ◌+◌, ◌*◌, ◌<◌, ◌≤◌, List, ◌++◌, length, drop, Ok, Err, sym, ap, ◌∙◌, arith, inl, inr, subst, length-append, zero-mul}
-use Rattle.std.specs.Prelude.{◌≢◌}
+use Rattle.std.proofs.Common.{◌≡◌, ℕ, ◌+◌, ◌*◌, List, ◌++◌, length, drop, Err, sym, ap, ◌∙◌, arith, inl, inr, zero-mul}
 use Rattle.byteorder.specs.Endian.{big_number, big_bytes}
 use Rattle.byteorder.specs.Numbers.{big_number-reads_back}
 use Rattle.mxf_sets.specs.declared.faults.BatchFault.{BatchFault}
@@ -24,9 +23,10 @@ length-batch_bytes b = omega arith
 
 -- what the first eight bytes of a batch say
 pub stated : (bytes : List ℕ) (b : BatchParts) → IsBatch bytes b → (big_number 4 bytes ≡ b.count) × (big_number 4 (drop 4 bytes) ≡ b.size)
-stated bytes b is =
-    (ap (big_number 4) is.whole ∙ big_number-reads_back 4 b.count (big_bytes 4 b.size ++ b.items) is.parts.count,
-     ap (λ (t : List ℕ). big_number 4 (drop 4 t)) is.whole ∙ big_number-reads_back 4 b.size b.items is.parts.size)
+stated bytes b is = (
+  ap (big_number 4) is.whole ∙ big_number-reads_back 4 b.count (big_bytes 4 b.size ++ b.items) is.parts.count,
+  ap (λ (t : List ℕ). big_number 4 (drop 4 t)) is.whole ∙ big_number-reads_back 4 b.size b.items is.parts.size,
+)
 
 -- where a batch of the size stands there is no fault
 pub no_fault : (size : ℕ) (bytes : List ℕ) (b : BatchParts) (e : BatchFault) → IsBatch bytes b → HasItemsOf size b → ReadsBatch size bytes (Err e) → ⊥

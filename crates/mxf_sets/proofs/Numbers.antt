@@ -1,7 +1,7 @@
 -- Numbers that stand in bytes, one after another.
-use Rattle.std.proofs.Common.{◌≡◌, ℕ, ◌+◌, ◌*◌, ◌^◌, ◌<◌, ◌≤◌, List, ◌++◌, length, take, drop, get_or, refl, sym, ap, ◌∙◌, arith, inl, inr, append_assoc, length-append}
+use Rattle.std.proofs.Common.{◌≡◌, ℕ, ◌+◌, ◌^◌, ◌<◌, ◌≤◌, List, ◌++◌, length, take, drop, sym, ap, ◌∙◌, arith, inl, inr, append_assoc, length-append}
 use Rattle.std.proofs.lemmas.Bool.{cases_lt}
-use Rattle.std.proofs.lemmas.List.{take_at, drop_at, take_all, take-append-drop, length-take, take-append-le, get_or-drop, get_or-take, get_or_past}
+use Rattle.std.proofs.lemmas.List.{take_at, drop_at, take-append-drop, length-take, get_or-drop, get_or-take, get_or_past}
 use Rattle.byteorder.specs.Endian.{big_number, big_bytes}
 use Rattle.byteorder.specs.Numbers.{big_number-reads_back, length-bytes_high_first}
 use Rattle.mxf_klv.specs.Bytes.{AreBytes}
@@ -25,9 +25,10 @@ number_in_front n x bytes front rest f r is room h =
 
 -- two numbers at the front of one text are one
 pub same_number : (n x y : ℕ) (xs ys : List ℕ) → x < 256 ^ n → y < 256 ^ n → big_bytes n x ++ xs ≡ big_bytes n y ++ ys → (x ≡ y) × (xs ≡ ys)
-same_number n x y xs ys p q e =
-    (sym (big_number-reads_back n x xs p) ∙ ap (big_number n) e ∙ big_number-reads_back n y ys q,
-     sym (drop_at (big_bytes n x) xs n (length-bytes_high_first n x)) ∙ ap (drop n) e ∙ drop_at (big_bytes n y) ys n (length-bytes_high_first n y))
+same_number n x y xs ys p q e = (
+  sym (big_number-reads_back n x xs p) ∙ ap (big_number n) e ∙ big_number-reads_back n y ys q,
+  sym (drop_at (big_bytes n x) xs n (length-bytes_high_first n x)) ∙ ap (drop n) e ∙ drop_at (big_bytes n y) ys n (length-bytes_high_first n y),
+)
 
 -- what is written after the first bytes of a buffer
 pub number_written : (n x at : ℕ) (old more post : List ℕ) → at ≤ length old → take (at + n) (take at old ++ ((big_bytes n x ++ more) ++ post)) ≡ take at old ++ big_bytes n x

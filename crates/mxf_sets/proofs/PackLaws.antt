@@ -1,7 +1,6 @@
 -- A value is a partition pack of a kind, or one of the faults.
-use Rattle.std.proofs.Common.{◌≡◌, ℕ, ◌+◌, ◌<◌, ◌≤◌, List, ◌++◌, length, take, drop, Ok, Err, Result, refl, sym, ap, ◌∙◌, arith, append_assoc, length-append}
+use Rattle.std.proofs.Common.{◌≡◌, ℕ, ◌≤◌, List, ◌++◌, length, take, drop, Ok, Err, Result, refl, sym, ap, ◌∙◌, arith}
 use Rattle.std.proofs.lemmas.List.{take_at, drop_at, take-append-drop, drop-drop, length-drop}
-use Rattle.byteorder.specs.Endian.{big_bytes}
 use Rattle.mxf_klv.specs.declared.kinds.Kind.{Kind}
 use Rattle.mxf_klv.specs.declared.kinds.Status.{Status}
 use Rattle.mxf_sets.specs.declared.faults.BatchFault.{BatchFault}
@@ -10,8 +9,8 @@ use Rattle.mxf_sets.specs.declared.faults.PackFault.TheVariants as faults
 use Rattle.mxf_sets.specs.declared.partition_parts.PackPart.{PackPart}
 use Rattle.mxf_sets.specs.declared.partition_parts.PackPart.TheVariants.{Header, Body, Footer}
 use Rattle.mxf_sets.specs.declared.partition_numbers.PartitionNumbers.{PartitionNumbers}
-use Rattle.mxf_sets.specs.Batch.{BatchParts, AreBatchParts, IsBatch, HasItemsOf, ReadsBatch, batch_bytes}
-use Rattle.mxf_sets.specs.PartitionPack.{pack_kind, IsPartitionKind, AreNumbers, numbers_bytes, PackParts, ArePackParts, IsPartitionPack, ReadsPack, pack_bytes, pack_parts}
+use Rattle.mxf_sets.specs.Batch.{BatchParts, IsBatch, HasItemsOf, ReadsBatch, batch_bytes}
+use Rattle.mxf_sets.specs.PartitionPack.{pack_kind, AreNumbers, numbers_bytes, PackParts, IsPartitionPack, ReadsPack, pack_parts}
 use Rattle.mxf_sets.proofs.Numbers.{same_number}
 use Rattle.mxf_sets.proofs.BatchLaws.{same_batch, length-batch_bytes, no_fault}
 

@@ -1,17 +1,17 @@
 -- The entries of random index packs, and that a value is one, or one of the faults.
-use Rattle.std.proofs.Common.{◌≡◌, ℕ, zero, suc, ◌+◌, ◌-◌, ◌*◌, ◌/◌, ◌%◌, ◌^◌, ◌<◌, ◌≤◌, List, [], ◌∷◌, ◌++◌, length, take, drop, Ok, Err, Option, Some, Result, refl, sym, ap, subst, ◌∙◌, arith, inl, inr, append_assoc, length-append}
-use Rattle.std.specs.Prelude.{slice_get, ◌≢◌}
+use Rattle.std.proofs.Common.{◌≡◌, ℕ, zero, suc, ◌+◌, ◌-◌, ◌*◌, ◌/◌, ◌%◌, ◌^◌, ◌<◌, ◌≤◌, List, [], ◌∷◌, ◌++◌, length, take, drop, Ok, Err, Some, Result, refl, sym, ap, subst, ◌∙◌, arith, inl, inr, append_assoc, length-append}
+use Rattle.std.specs.Prelude.{slice_get}
 use Rattle.std.specs.List.{flat_map, AllByRecursion}
-use Rattle.std.proofs.lemmas.List.{take_at, drop_at, take-append-drop, drop-drop, length-take, length-drop, nil_from_length}
+use Rattle.std.proofs.lemmas.List.{drop_at, take-append-drop, drop-drop, length-drop, nil_from_length}
 use Rattle.std.proofs.lemmas.List.Concat.{flat_map-cons}
 use Rattle.byteorder.specs.Endian.{big_number, big_bytes}
-use Rattle.byteorder.specs.Numbers.{big_from-lt, big_from-take, big_number-reads_back, length-bytes_high_first}
+use Rattle.byteorder.specs.Numbers.{big_from-lt, big_from-take, big_number-reads_back}
 use Rattle.mxf_klv.specs.Bytes.{AreBytes}
 use Rattle.mxf_klv.proofs.RoundTrips.{bytes_again}
 use Rattle.mxf_sets.specs.declared.faults.PackFault.{PackFault}
 use Rattle.mxf_sets.specs.declared.faults.PackFault.TheVariants as faults
 use Rattle.mxf_sets.specs.declared.random_index_packs.RipEntry.{RipEntry}
-use Rattle.mxf_sets.specs.RandomIndexPack.{IsEntry, entry_bytes, RipParts, packet_length, AreRipParts, rip_bytes, IsRip, ReadsRip, entry_in, entries_by, entries_of, rip_parts}
+use Rattle.mxf_sets.specs.RandomIndexPack.{IsEntry, entry_bytes, RipParts, packet_length, IsRip, ReadsRip, entry_in, entries_by, entries_of, rip_parts}
 use Rattle.mxf_sets.proofs.Numbers.{AreBytes-drop, AreBytes-take, number_in_front, same_number}
 
 -- ---- the entries of bytes

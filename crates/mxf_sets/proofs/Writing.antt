@@ -1,5 +1,5 @@
 -- A fault in the first part of a value is a fault of the whole.
-use Rattle.std.proofs.Common.{◌≡◌, ℕ, List, ◌++◌, arith, sym, subst, length-append, take}
+use Rattle.std.proofs.Common.{ℕ, List, ◌++◌, arith, sym, subst, length-append}
 use Rattle.std.proofs.lemmas.List.{take-append-le}
 use Rattle.std.specs.Prelude.{Option}
 use Rattle.std.specs.Io.KnownBytes.{Appends}

@@ -100,7 +100,7 @@ impl<'a> Batch<'a> {
         ensures item { SomeIff (option_map (λ v. v.now) result) (place < self.now.count) (item_in self.now place) }
         ensures size { IfSome result (λ item. length item.now ≡ self.now.size) }
     {
-        if place >= self.count as usize {
+        if place >= self.len() {
             return None;
         }
         let size = self.size as usize;
@@ -113,7 +113,8 @@ impl<'a> Batch<'a> {
     ///
     /// Fails where the writer fails, takes no byte, or is interrupted more than 1,024 times.
     pub fn write_to<W: Write>(&self, writer: &mut W) -> Result<(), WriteFault>
-        ensures { Writes (W.contents writer.old) (W.contents writer.new) result (batch_bytes self.now) }
+        ensures writes { Writes (W.contents writer.old) (W.contents writer.new) result (batch_bytes self.now) }
+        ensures batch { AreBatchParts self.now }
     {
         self.put_to(&mut Progress::new(), writer)
     }
@@ -123,7 +124,8 @@ impl<'a> Batch<'a> {
         progress: &mut Progress,
         writer: &mut W,
     ) -> Result<(), WriteFault>
-        ensures { WritesPart (W.contents writer.old) (W.contents writer.new) progress.old.written progress.new.written result (batch_bytes self.now) }
+        ensures writes { WritesPart (W.contents writer.old) (W.contents writer.new) progress.old.written progress.new.written result (batch_bytes self.now) }
+        ensures batch { AreBatchParts self.now }
     {
         progress.put(writer, &self.count.to_be_bytes())?;
         progress.put(writer, &self.size.to_be_bytes())?;

@@ -1,5 +1,5 @@
 //! Partition packs (ST 377-1, Partition Pack).
-ghost use Rattle.std.specs.Prelude.{◌≡◌, ℕ, List, Result};
+ghost use Rattle.std.specs.Prelude.{◌≡◌, ℕ, List, Result, OnOk};
 ghost use Rattle.std.specs.Option.{SomeIff};
 ghost use Rattle.mxf_klv.specs.Kind.{kind_of};
 ghost use Rattle.mxf_klv.specs.Written.{Writes, WritesPart};
@@ -136,13 +136,15 @@ impl<'a> PartitionPack<'a> {
     ///
     /// Fails where the writer fails, takes no byte, or is interrupted more than 1,024 times.
     pub fn write_to<W: Write>(&self, writer: &mut W) -> Result<(), WriteFault>
-        ensures { Writes (W.contents writer.old) (W.contents writer.new) result (pack_bytes self.now) }
+        ensures writes { Writes (W.contents writer.old) (W.contents writer.new) result (pack_bytes self.now) }
+        ensures pack { OnOk result (ArePackParts self.now) }
     {
         self.put_to(&mut Progress::new(), writer)
     }
 
     fn put_to<W: Write>(&self, progress: &mut Progress, writer: &mut W) -> Result<(), WriteFault>
-        ensures { WritesPart (W.contents writer.old) (W.contents writer.new) progress.old.written progress.new.written result (pack_bytes self.now) }
+        ensures writes { WritesPart (W.contents writer.old) (W.contents writer.new) progress.old.written progress.new.written result (pack_bytes self.now) }
+        ensures pack { OnOk result (ArePackParts self.now) }
     {
         progress.put(writer, &self.numbers.to_bytes())?;
         progress.put(writer, &self.pattern)?;

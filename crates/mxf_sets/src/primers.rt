@@ -2,7 +2,7 @@
 ghost use Rattle.std.specs.Prelude.{◌≡◌, ◌<◌, ℕ, List, Result, MatchOption};
 ghost use Rattle.std.specs.Option.{SomeIff};
 ghost use Rattle.mxf_klv.specs.Written.{Writes};
-ghost use Rattle.mxf_sets.specs.Batch.{BatchParts, HasItemsOf, batch_bytes};
+ghost use Rattle.mxf_sets.specs.Batch.{AreBatchParts, BatchParts, HasItemsOf, batch_bytes};
 ghost use Rattle.mxf_sets.specs.Primer.{IsOnlyLabel, ReadsPrimer, label_at, tag_at};
 ghost use Rattle.mxf_sets.specs.declared.faults.PackFault.{PackFault};
 
@@ -86,7 +86,8 @@ impl<'a> Primer<'a> {
     ///
     /// Fails where the writer fails, takes no byte, or is interrupted more than 1,024 times.
     pub fn write_to<W: Write>(&self, writer: &mut W) -> Result<(), WriteFault>
-        ensures { Writes (W.contents writer.old) (W.contents writer.new) result (batch_bytes self.now) }
+        ensures writes { Writes (W.contents writer.old) (W.contents writer.new) result (batch_bytes self.now) }
+        ensures entries { AreBatchParts self.now × HasItemsOf 18 self.now }
     {
         self.entries.write_to(writer)
     }

@@ -1,4 +1,4 @@
-use Rattle.std.proofs.Common.{◌≡◌, ◌∙◌, ℕ, List, Bool, true, false, not, sym, ap, subst, arith, Some}
+use Rattle.std.proofs.Common.{◌≡◌, ◌∙◌, ℕ, List, Bool, true, false, not, sym, ap, subst, arith}
 use lib.Pointwise.{pointwise, bytes_decides}
 use Rattle.std.specs.Prelude.{eqb}
 use Rattle.mxf_sets.specs.Batch.{BatchParts}

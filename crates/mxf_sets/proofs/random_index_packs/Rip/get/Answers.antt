@@ -1,5 +1,4 @@
-use Rattle.std.proofs.Common.{◌≡◌, ◌∙◌, ℕ, List, sym, ap, arith, drop, Some}
-use Rattle.mxf_sets.specs.RandomIndexPack.{entry_in}
+use Rattle.std.proofs.Common.{arith}
 use Rattle.mxf_sets.proofs.RipLaws.{slice_get-entries_of, length-entries_of}
 use Rattle.mxf_sets.proofs.random_index_packs.Rip.get.Goals as goal
 

@@ -1,4 +1,4 @@
-use Rattle.std.proofs.Common.{◌≡◌, ◌∙◌, arith, ap, length}
+use Rattle.std.proofs.Common.{◌≡◌, ◌∙◌, arith, ap}
 use Rattle.byteorder.specs.Endian.{big_bytes}
 use Rattle.mxf_klv.proofs.WrittenParts.{WritesPart-after}
 use Rattle.mxf_sets.specs.RandomIndexPack.{entries_of, packet_length, rip_parts}
