@@ -49,7 +49,7 @@ same_bytes (suc n) (x ∷ xs) (y ∷ ys) p q h k e =
     cc
 
 -- the bytes that a number was read from are those that it is written as
-bytes_again : (n : ℕ) (xs : List ℕ) → length xs ≡ n → AreBytes xs → xs ≡ big_bytes n (big_number n xs)
+pub bytes_again : (n : ℕ) (xs : List ℕ) → length xs ≡ n → AreBytes xs → xs ≡ big_bytes n (big_number n xs)
 bytes_again n xs len h =
     same_bytes n xs (big_bytes n (big_number n xs)) len (length-bytes_high_first n (big_number n xs)) h (bytes-big_bytes n (big_number n xs))
     (sym (ap (big_number n) (sym (append_nil (big_bytes n (big_number n xs)))) ∙ big_number-reads_back n (big_number n xs) [] (big_from-lt 0 n xs h))) where

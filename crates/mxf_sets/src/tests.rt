@@ -1,0 +1,5 @@
+//! Worked examples.
+mod packs;
+mod sets;
+mod vectors;
+mod writing;

@@ -1,0 +1,81 @@
+//! Local sets and batches.
+use crate::{Batch, BatchFault, RepeatedTag, SetFault, items};
+use std::test::Fail;
+
+// The length says seventeen bytes, and sixteen follow.
+const CUT: [u8; 20] = [
+    0x3C, 0x0A, 0x00, 0x11, 0x11, 0x11, 0x11, 0x11, 0x11, 0x11, 0x11, 0x11, 0x11, 0x11, 0x11, 0x11,
+    0x11, 0x11, 0x11, 0x11,
+];
+
+#[test]
+fn an_item_that_is_cut_is_named_by_its_position(rt: HostRuntime) {
+    assert_eq!(rt; items(&CUT).err(), Some(SetFault::CutItem(0)));
+    assert_eq!(rt;
+        items(&[0x00, 0x01, 0x00, 0x00, 0x00]).err(),
+        Some(SetFault::CutItem(4))
+    );
+}
+
+#[test]
+fn items_are_given_in_order_and_looked_up_by_tag(rt: HostRuntime) -> Result<(), Fail> {
+    let value = [
+        0x00, 0x01, 0x00, 0x02, 0xAA, 0xBB, 0x00, 0x02, 0x00, 0x00, 0x00, 0x01, 0x00, 0x01, 0xCC,
+    ];
+    let mut set = items(&value)?;
+    assert_eq!(rt; set.only(2)?, Some([].as_slice()));
+    assert_eq!(rt; set.only(3)?, None);
+    assert_eq!(rt; set.only(1), Err(RepeatedTag));
+    let first = set.next().ok_or("the first item")?;
+    assert_eq!(rt; first.tag, 1);
+    assert_eq!(rt; first.value, [0xAA, 0xBB].as_slice());
+    assert_eq!(rt; set.only(1)?, Some([0xCC].as_slice()));
+    Ok(())
+}
+
+#[test]
+fn a_batch_is_its_count_its_item_size_and_its_items(rt: HostRuntime) -> Result<(), Fail> {
+    let bytes = [0, 0, 0, 2, 0, 0, 0, 3, 1, 2, 3, 4, 5, 6];
+    let batch = Batch::read(&bytes, 3)?;
+    assert_eq!(rt; batch.len(), 2);
+    assert_eq!(rt; batch.item_size(), 3);
+    assert_eq!(rt; batch.get(1), Some([4, 5, 6].as_slice()));
+    assert_eq!(rt; batch.get(2), None);
+    let made = Batch::of(&[1, 2, 3, 4, 5, 6], 3).ok_or("two items")?;
+    let mut written = Vec::new(rt.alloc());
+    made.write_to(&mut written)?;
+    assert_eq!(rt; written.as_slice(), bytes.as_slice());
+    assert_eq!(rt; Batch::of(&[1, 2, 3, 4], 3).is_none(), true);
+    Ok(())
+}
+
+#[test]
+fn a_batch_of_no_items_may_state_any_item_size(rt: HostRuntime) -> Result<(), Fail> {
+    let bytes = [0, 0, 0, 0, 0, 0, 0, 0, 0];
+    for size in [1u32, 16, 18, 4_294_967_295] {
+        assert_eq!(rt; Batch::read(&bytes[..8], size)?.is_empty(), true);
+        assert_eq!(rt;
+            Batch::read(&bytes, size).err(),
+            Some(BatchFault::WrongLength)
+        );
+    }
+    assert_eq!(rt;
+        Batch::read(&bytes[..7], 16).err(),
+        Some(BatchFault::ShortHead)
+    );
+    Ok(())
+}
+
+#[test]
+fn a_batch_may_not_promise_what_is_not_there(rt: HostRuntime) {
+    let greatest = [0xFF, 0xFF, 0xFF, 0xFF, 0, 0, 0, 0x10];
+    assert_eq!(rt;
+        Batch::read(&greatest, 16).err(),
+        Some(BatchFault::WrongLength)
+    );
+    let of_no_size = [0, 0, 0, 1, 0, 0, 0, 0];
+    assert_eq!(rt;
+        Batch::read(&of_no_size, 16).err(),
+        Some(BatchFault::WrongSize)
+    );
+}
