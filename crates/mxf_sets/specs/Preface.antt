@@ -1,0 +1,23 @@
+-- The Preface (ST 377-1, Preface set; which fields are read and have to be there is this project's profile).
+use Rattle.std.specs.Prelude.{ℕ, List, [], ◌∷◌, Result}
+use Rattle.mxf_sets.specs.declared.fields.Field.{Field}
+use Rattle.mxf_sets.specs.declared.fields.Shape.TheVariants.{Exactly, References}
+use Rattle.mxf_sets.specs.declared.fields.FieldFault.{FieldFault}
+use Rattle.mxf_sets.specs.Items.{ItemParts}
+use Rattle.mxf_sets.specs.Lookup.{bytes_of}
+use Rattle.mxf_sets.specs.Fields.{required, optional, record_at}
+use Rattle.mxf_sets.specs.Reference.{references_in}
+
+pub record PrefaceParts : Type 0 where
+  pub instance_uid : List ℕ
+  pub content_storage : List ℕ
+  pub identifications : List (List ℕ)
+
+abbrev pub preface_fields : List Field
+preface_fields = required 0x3C0A (Exactly 16) ∷ required 0x3B03 (Exactly 16) ∷ optional 0x3B06 References ∷ []
+
+abbrev pub preface_of : List ItemParts → PrefaceParts
+preface_of items = record { instance_uid = bytes_of 0x3C0A items; content_storage = bytes_of 0x3B03 items; identifications = references_in 0x3B06 items }
+
+abbrev pub preface_at : List ℕ → Result PrefaceParts FieldFault
+preface_at bytes = record_at preface_fields preface_of bytes
