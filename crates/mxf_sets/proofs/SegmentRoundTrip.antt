@@ -62,15 +62,30 @@ is_item tag value t v = record { tag = t; value = v }
 
 are_number_items : (n : SegmentNumbers) (more : List ItemParts) → AllByRecursion IsItem more → AllByRecursion IsItem (number_items n ++ more)
 are_number_items n more h = (
+  is_item _ _ (omega arith) (omega arith),
+  (
     is_item _ _ (omega arith) (omega arith),
-    (is_item _ _ (omega arith) (omega arith),
-    (is_item _ _ (omega arith) (omega arith),
-    (is_item _ _ (omega arith) (omega arith),
-    (is_item _ _ (omega arith) (omega arith),
-    (is_item _ _ (omega arith) (omega arith),
-    (is_item _ _ (omega arith) (omega arith),
-    (is_item _ _ (omega arith) (omega arith),
-    h))))))))
+    (
+      is_item _ _ (omega arith) (omega arith),
+      (
+        is_item _ _ (omega arith) (omega arith),
+        (
+          is_item _ _ (omega arith) (omega arith),
+          (
+            is_item _ _ (omega arith) (omega arith),
+            (
+              is_item _ _ (omega arith) (omega arith),
+              (
+                is_item _ _ (omega arith) (omega arith),
+                h,
+              ),
+            ),
+          ),
+        ),
+      ),
+    ),
+  ),
+)
 
 -- ---- the entries
 
