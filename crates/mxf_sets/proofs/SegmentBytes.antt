@@ -1,6 +1,5 @@
 -- The bytes of a segment by the parts that are written.
-use Rattle.std.proofs.Common.{◌≡◌, ℕ, ◌+◌, ◌/◌, ◌<◌, Bool, true, false, cond, List, [], ◌∷◌, ◌++◌, length, take, drop, ◌≤◌, Option, Result, lt-ltb, le-ltb, refl, ap, ◌∙◌, sym, subst, arith, length-append, append-nil, get_or, suc, zero}
-use Rattle.std.specs.Prelude.{nat_lt}
+use Rattle.std.proofs.Common.{◌≡◌, ℕ, ◌+◌, ◌/◌, ◌<◌, Bool, cond, List, [], ◌∷◌, ◌++◌, length, take, drop, ◌≤◌, Option, Result, lt-ltb, le-ltb, refl, ap, ◌∙◌, sym, subst, arith, length-append, append-nil, get_or, suc, zero}
 use Rattle.std.specs.Int.{w16, w32, w64, cast_unsigned, to_be_bytes}
 use Rattle.std.specs.List.{flat_map, AllByRecursion}
 use Rattle.std.proofs.lemmas.Grind.{flat_map-append}

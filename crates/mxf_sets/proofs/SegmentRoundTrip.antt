@@ -1,6 +1,6 @@
 -- A written segment is read back.
-use Rattle.std.proofs.Common.{◌≡◌, ℕ, ◌+◌, ◌*◌, ◌/◌, ◌%◌, ◌-◌, ◌^◌, ◌<◌, ◌≤◌, Bool, true, false, cond, List, [], ◌∷◌, ◌++◌, Option, Some, None, Ok, length, take, drop, refl, ap, ◌∙◌, sym, subst, arith, length-append, FitsSigned, ℤ, pos, ◌≤ℤ◌, Err, eq-eqb, ltb-true, le-leb}
-use Rattle.std.specs.Prelude.{nat_lt, nat_le, ◌==◌, ◌&&◌, ◌||◌}
+use Rattle.std.proofs.Common.{◌≡◌, ℕ, ◌+◌, ◌*◌, ◌%◌, ◌-◌, ◌^◌, ◌<◌, ◌≤◌, Bool, true, false, cond, List, [], ◌∷◌, ◌++◌, Some, None, Ok, length, drop, refl, ap, ◌∙◌, sym, arith, length-append, FitsSigned, ℤ, pos, ◌≤ℤ◌, Err, eq-eqb, ltb-true, le-leb}
+use Rattle.std.specs.Prelude.{nat_lt, ◌==◌, ◌&&◌, ◌||◌}
 use Rattle.std.specs.Int.{w32, w64, cast_signed, cast_unsigned, is_negative}
 use Rattle.std.specs.List.{flat_map, AllByRecursion}
 use Rattle.std.proofs.lemmas.Int.{ints, to_z-of_z}
@@ -8,9 +8,9 @@ use Rattle.std.proofs.lemmas.Nat.{div-add-mod'}
 use Rattle.byteorder.specs.Endian.{big_number, big_bytes}
 use Rattle.byteorder.specs.Numbers.{big_number-reads_back}
 use Rattle.mxf_sets.specs.declared.numbers.SegmentNumbers.{SegmentNumbers}
-use Rattle.mxf_sets.specs.Items.{ItemParts, IsItem, item_bytes, items_of, left_of}
+use Rattle.mxf_sets.specs.Items.{ItemParts, IsItem, item_bytes, items_of}
 use Rattle.mxf_sets.specs.Fields.{is_batch, checked, fields_at}
-use Rattle.mxf_sets.specs.Segment.{AreNumbers, IsSegment, SegmentParts, entries_in, entry_count, entry_item, item, then_segment, entry_items, entry_size, number_items, segment_at, segment_bytes, segment_fields, segment_items, segment_numbers, segment_of, segment_parts}
+use Rattle.mxf_sets.specs.Segment.{AreNumbers, IsSegment, SegmentParts, entries_in, entry_count, entry_item, item, then_segment, entry_size, number_items, segment_at, segment_bytes, segment_fields, segment_numbers, segment_of}
 use Rattle.mxf_sets.specs.declared.fields.FieldFault.TheVariants.{Set}
 use Rattle.mxf_sets.proofs.ItemLemmas.{only_items}
 use Rattle.mxf_sets.proofs.SegmentLemmas.{segment_made}

@@ -1,5 +1,5 @@
 //! Lists of references (ST 377-1, strong references).
-ghost use Rattle.std.specs.Prelude.{◌≡◌, length};
+ghost use Rattle.std.specs.Prelude.{◌≡◌, [], length};
 ghost use Rattle.std.specs.List.{slice_get};
 ghost use Rattle.mxf_sets.specs.Reference.{references_in};
 
@@ -32,8 +32,14 @@ impl<'a> References<'a> {
             Some(batch) => References {
                 bytes: batch.get(8..).unwrap_or(&[]),
             },
-            None => References { bytes: &[] },
+            None => References::none(),
         }
+    }
+
+    pub(crate) fn none() -> References<'a>
+        ensures { result ≡ [] }
+    {
+        References { bytes: &[] }
     }
 
     /// The same references again.

@@ -1,5 +1,5 @@
 use Rattle.std.proofs.lemmas.Result.{err_from_is_err_and}
-use Rattle.mxf_sets.proofs.SegmentBytes.{StopsIn-item, item_at_place}
+use Rattle.mxf_sets.proofs.SegmentBytes.{StopsIn-item}
 use Rattle.mxf_sets.proofs.segment_writing.put_items.Goals as goal
 
 pub returns-in_err-put_item : goal.returns-in_err-put_item

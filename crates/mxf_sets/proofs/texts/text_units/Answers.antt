@@ -1,5 +1,4 @@
-use Rattle.std.proofs.Common.{◌≡◌, ◌∙◌, ◌∷◌, ◌++◌, List, ℕ, [], ap, sym, append_assoc, arith, length}
-use Rattle.std.specs.Int.{w16, from_be_bytes}
+use Rattle.std.proofs.Common.{◌∙◌, ◌∷◌, ◌++◌, List, ℕ, [], ap, sym, append_assoc, arith}
 use Rattle.mxf_sets.specs.Text.{text_units}
 use Rattle.mxf_sets.proofs.TextLemmas.{next_unit}
 use Rattle.mxf_sets.proofs.texts.text_units.Goals as goal

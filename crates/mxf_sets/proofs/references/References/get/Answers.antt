@@ -1,4 +1,4 @@
-use Rattle.std.proofs.Common.{◌≡◌, ◌∙◌, ℕ, List, Some, ap, sym, take, drop, length, ◌/◌, ◌≤◌, ◌<◌, ◌*◌, arith}
+use Rattle.std.proofs.Common.{◌≡◌, ◌∙◌, ℕ, List, Some, ap, sym, take, drop, length, ◌/◌, ◌*◌}
 use Rattle.std.specs.List.{slice_get}
 use Rattle.mxf_sets.proofs.ReferenceLemmas.{sixteens-at, sixteens-past}
 use Rattle.mxf_sets.proofs.references.References.get.Goals as goal

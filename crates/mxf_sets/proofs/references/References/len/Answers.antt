@@ -1,4 +1,4 @@
-use Rattle.std.proofs.Common.{◌≡◌, ◌∙◌, List, ap, sym, length}
+use Rattle.std.proofs.Common.{◌∙◌, ap, sym, length}
 use Rattle.mxf_sets.proofs.ReferenceLemmas.{length-sixteens}
 use Rattle.mxf_sets.proofs.references.References.len.Goals as goal
 

@@ -1,4 +1,4 @@
-use Rattle.std.proofs.Common.{rules, ◌≡◌, ◌∙◌, ap, sym, false, FitsSigned, w64, ◌<ℤ◌}
+use Rattle.std.proofs.Common.{rules, ◌≡◌, ◌∙◌, ap, sym, false, FitsSigned, w64}
 use Rattle.std.proofs.lemmas.Int.{to_z-of_z}
 use Rattle.std.specs.Int.{is_negative}
 use Rattle.mxf_sets.proofs.SegmentLemmas.{entries_fit, segment_is, segment_made}

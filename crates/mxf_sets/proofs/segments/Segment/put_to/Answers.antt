@@ -1,10 +1,8 @@
-use Rattle.std.proofs.Common.{◌≡◌, ◌++◌, List, ℕ, ap, subst, sym}
+use Rattle.std.proofs.Common.{◌≡◌, ap}
 use Rattle.std.specs.List.{flat_map}
 use Rattle.std.proofs.lemmas.Result.{err_from_is_err_and}
-use Rattle.mxf_klv.specs.Written.{WritesPart}
-use Rattle.mxf_sets.specs.declared.numbers.SegmentNumbers.{SegmentNumbers}
 use Rattle.mxf_sets.specs.Items.{item_bytes}
-use Rattle.mxf_sets.specs.Segment.{SegmentParts, entry_item, entry_items, number_items, segment_bytes}
+use Rattle.mxf_sets.specs.Segment.{SegmentParts, entry_item, entry_items, number_items}
 use Rattle.mxf_sets.proofs.SegmentBytes.{StopsIn-first, WritesPart-second, writes_same, by_parts, constant_bytes, entries_bytes}
 use Rattle.mxf_sets.proofs.segments.Segment.put_to.Goals as goal
 
