@@ -21,6 +21,7 @@ pub record SegmentParts : Type 0 where
   pub numbers : SegmentNumbers
   pub entries : List ℕ
 
+-- The segment of these numbers and entries.
 abbrev pub segment_parts : SegmentNumbers → List ℕ → SegmentParts
 segment_parts numbers entries = record { numbers = numbers; entries = entries }
 
@@ -29,7 +30,7 @@ segment_parts numbers entries = record { numbers = numbers; entries = entries }
 abbrev pub entry_size : SegmentNumbers → ℕ
 entry_size n = 11 + 4 * n.slices + 8 * n.positions
 
--- The number of entries.
+-- The number of entries (ST 377-1, index entry array).
 abbrev pub entry_count : SegmentParts → ℕ
 entry_count s = length s.entries / entry_size s.numbers
 
@@ -62,6 +63,7 @@ segment_fields = required 0x3F0B (Exactly 8) ∷ required 0x3F0C (Exactly 8) ∷
 abbrev pub number_in : ℕ → ℕ → List ItemParts → ℕ
 number_in width tag items = option_map_or (big_number width) (value_of tag items) 0
 
+-- The numbers of items that have met the table (ST 377-1, Index Table Segment).
 abbrev pub segment_numbers : List ItemParts → SegmentNumbers
 segment_numbers items = record {
   edit_rate = (cast_signed w32 (big_number 4 (bytes_of 0x3F0B items)), cast_signed w32 (big_number 4 (drop 4 (bytes_of 0x3F0B items))));
@@ -98,10 +100,11 @@ then_segment next (Err fault) = Err (segment_fault fault)
 abbrev pub segment_at : List ℕ → Result SegmentParts SegmentFault
 segment_at bytes = then_segment segment_of (fields_at segment_fields bytes)
 
--- The items that a segment is written as.
+-- An item of a tag and a value (ST 336, local sets).
 abbrev pub item : ℕ → List ℕ → ItemParts
 item tag value = record { tag = tag; value = value }
 
+-- The items of the numbers, all of which are written (this project's profile).
 abbrev pub number_items : SegmentNumbers → List ItemParts
 number_items n =
     item 0x3F0B (big_bytes 4 (cast_unsigned w32 n.edit_rate.0) ++ big_bytes 4 (cast_unsigned w32 n.edit_rate.1))
@@ -113,9 +116,11 @@ number_items n =
 abbrev pub entry_item : SegmentParts → ItemParts
 entry_item s = item 0x3F0A ((big_bytes 4 (entry_count s) ++ big_bytes 4 (entry_size s.numbers)) ++ s.entries)
 
+-- The item of the entries, where it is written.
 abbrev pub entry_items : SegmentParts → List ItemParts
 entry_items s = if nat_lt 0 s.numbers.unit_bytes then [] else entry_item s ∷ []
 
+-- The items that a segment is written as.
 abbrev pub segment_items : SegmentParts → List ItemParts
 segment_items s = number_items s.numbers ++ entry_items s
 

@@ -107,7 +107,7 @@ impl SegmentNumbers {
         11 + 4 * u32::from(self.slices) + 8 * u32::from(self.positions)
     }
 
-    /// Each number is one of its type.
+    /// What a proof learns here: each number is one of its type.
     pub(crate) fn typed(self)
         ensures { AreNumbers self }
     {

@@ -73,6 +73,9 @@ fn a_storage_lists_its_packages(rt: HostRuntime) -> Result<(), Fail> {
     assert_eq!(rt; packages.get(0), Some(Uuid::from_bytes([0x33; 16])));
     assert_eq!(rt; packages.get(1), Some(Uuid::from_bytes([0x44; 16])));
     assert_eq!(rt; packages.get(2), None);
+    let mut left = storage.packages();
+    assert_eq!(rt; left.next(), Some(Uuid::from_bytes([0x33; 16])));
+    assert_eq!(rt; left.len(), 1);
     let mut other = STORAGE;
     other[31] = 0x11;
     assert_eq!(rt;

@@ -1,7 +1,8 @@
 //! Lists of references (ST 377-1, strong references).
-ghost use Rattle.std.specs.Prelude.{◌≡◌, [], length};
-ghost use Rattle.std.specs.List.{slice_get};
-ghost use Rattle.mxf_sets.specs.Reference.{references_in};
+ghost use Rattle.std.specs.Prelude.{◌≡◌, ◌%◌, ℕ, List, [], length};
+ghost use Rattle.std.specs.Iterator.{YieldsFirst, item_count};
+ghost use Rattle.std.specs.List.{AllByRecursion, flat_map, slice_get};
+ghost use Rattle.mxf_sets.specs.Reference.{references_in, references_of};
 
 use crate::Items;
 use crate::values::identifier;
@@ -68,3 +69,23 @@ impl<'a> References<'a> {
         Some(identifier(reference))
     }
 }
+
+impl<'a> Iterator for References<'a> {
+    type Item = Uuid;
+
+    ghost next_gives = { YieldsFirst (λ s. s) };
+
+    ghost remaining = { item_count (λ s. s) };
+
+    fn next(&mut self) -> Option<Uuid> {
+        let (first, after) = self.bytes.split_first_chunk::<16>()?;
+        self.bytes = after;
+        Some(Uuid::from_bytes(*first))
+    }
+}
+
+/// A law of [`References`]: the references of a batch of them are its items, sixteen bytes each.
+pub fn references_are_the_items_of_their_batch()
+    ensures items { (items : List ℕ) → length items % 16 ≡ 0 → flat_map (λ reference. reference) (references_of items) ≡ items }
+    ensures width { (items : List ℕ) → AllByRecursion (λ reference. length reference ≡ 16) (references_of items) }
+{}
