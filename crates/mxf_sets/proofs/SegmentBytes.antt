@@ -9,7 +9,7 @@ use Rattle.byteorder.specs.Endian.{big_bytes}
 use Rattle.mxf_klv.specs.declared.writing.WriteFault.{WriteFault}
 use Rattle.mxf_klv.specs.Written.{StopsIn, WritesPart, counted}
 use Rattle.mxf_klv.proofs.WrittenParts.{StopsIn-middle, StopsIn-part, WritesPart-after, flat_map-at}
-use Rattle.mxf_sets.specs.declared.numbers.SegmentNumbers.{SegmentNumbers}
+use Rattle.mxf_sets.specs.declared.segment_numbers.SegmentNumbers.{SegmentNumbers}
 use Rattle.mxf_sets.specs.Items.{ItemParts, IsItem, item_bytes}
 use Rattle.mxf_sets.specs.Segment.{SegmentParts, entry_count, entry_item, item, entry_items, entry_size, number_items, segment_bytes}
 

@@ -8,7 +8,7 @@ use Rattle.byteorder.specs.Endian.{big_number, big_bytes}
 use Rattle.mxf_sets.specs.declared.fields.Field.{Field}
 use Rattle.mxf_sets.specs.declared.fields.Shape.TheVariants.{Exactly, Any}
 use Rattle.mxf_sets.specs.declared.fields.FieldFault.{FieldFault}
-use Rattle.mxf_sets.specs.declared.numbers.SegmentNumbers.{SegmentNumbers}
+use Rattle.mxf_sets.specs.declared.segment_numbers.SegmentNumbers.{SegmentNumbers}
 use Rattle.mxf_sets.specs.declared.segment_faults.SegmentFault.{SegmentFault}
 use Rattle.mxf_sets.specs.declared.segment_faults.SegmentFault.TheVariants.{Negative, BadEntries}
 use Rattle.mxf_sets.specs.Items.{ItemParts, item_bytes}

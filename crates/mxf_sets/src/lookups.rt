@@ -4,9 +4,11 @@ ghost use Rattle.std.specs.Option.{option_map};
 ghost use Rattle.mxf_sets.specs.Lookup.{count_of, value_of};
 
 use crate::Items;
+use thiserror::Error;
 
-/// A tag that more than one item has.
-#[derive(Clone, Copy, Debug, PartialEq, Eq)]
+/// More than one item has the tag.
+#[derive(Clone, Copy, Debug, PartialEq, Eq, Error)]
+#[error("the tag is repeated")]
 pub struct RepeatedTag;
 
 impl<'a> Items<'a> {
@@ -17,7 +19,7 @@ impl<'a> Items<'a> {
         Items { rest: self.rest }
     }
 
-    /// The value of the one item with the tag, if there is one.
+    /// The value of the one item with the tag, if there is one, among the items not given yet.
     pub fn only(&self, tag: u16) -> Result<Option<&'a [u8]>, RepeatedTag>
         ensures repeated { IsErr result ↔ (1 < count_of tag self.now) }
         ensures value { IfOk result (λ o. option_map (λ v. v.now) o ≡ value_of tag self.now) }

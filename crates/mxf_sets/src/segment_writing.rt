@@ -8,7 +8,7 @@ ghost use Rattle.mxf_sets.specs.Items.{IsItem, ItemParts, item_bytes};
 ghost use Rattle.mxf_sets.specs.Segment.{entry_item, number_items, segment_bytes};
 
 use crate::Item;
-use crate::numbers::{
+use crate::segment_numbers::{
     BODY_SID, DURATION, EDIT_RATE, ENTRIES, INDEX_SID, POSITIONS, SLICES, START, SegmentNumbers,
     UNIT_BYTES,
 };

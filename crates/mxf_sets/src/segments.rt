@@ -8,8 +8,8 @@ ghost use Rattle.mxf_sets.specs.Segment.{AreNumbers, IsSegment, entries_in, entr
 
 use crate::Items;
 use crate::checking::{is_batch, read_fields};
-use crate::numbers::{DURATION, ENTRIES, FIELDS, START, SegmentNumbers};
 use crate::segment_faults::SegmentFault;
+use crate::segment_numbers::{DURATION, ENTRIES, FIELDS, START, SegmentNumbers};
 use std::marker::Model;
 
 /// The greatest number of bytes of the entries, which have to fit into one item beside the head of their batch.
