@@ -22,12 +22,13 @@ pack_kind Footer status = kinds.Footer status
 abbrev pub IsPartitionKind : Kind → Type 0
 IsPartitionKind kind = (part : PackPart) × (status : Status) × (kind ≡ pack_kind part status)
 
--- Bytes 14 and 15 of the key of a partition pack (ST 377-1, Partition Pack Key).
+-- Byte 14 of the key of a partition pack (ST 377-1, Partition Pack Key).
 abbrev pub part_byte : PackPart → ℕ
 part_byte Header = 0x02
 part_byte Body = 0x03
 part_byte Footer = 0x04
 
+-- Byte 15 of the key of a partition pack (ST 377-1, Partition Pack Key).
 abbrev pub status_byte : Status → ℕ
 status_byte OpenIncomplete = 0x01
 status_byte ClosedIncomplete = 0x02
@@ -95,6 +96,7 @@ ReadsPack kind bytes (Err faults.BadBatch) =
     IsPartitionKind kind × (88 ≤ length bytes) × ((labels : BatchParts) → IsBatch (drop 80 bytes) labels → ¬ HasItemsOf 16 labels)
 ReadsPack kind bytes (Err faults.WrongLength) = ⊥
 
+-- The partition pack of these parts.
 abbrev pub pack_parts : PackPart → Status → PartitionNumbers → List ℕ → BatchParts → PackParts
 pack_parts part status numbers pattern containers =
     record { part = part; status = status; numbers = numbers; pattern = pattern; containers = containers }

@@ -13,10 +13,11 @@ ReadsPrimer bytes (Err faults.NotThisKind) = ⊥
 ReadsPrimer bytes (Err faults.Short) = ⊥
 ReadsPrimer bytes (Err faults.WrongLength) = ⊥
 
--- The tag and the label of the entry at a place (ST 377-1, Primer Pack).
+-- The tag of the entry at a place (ST 377-1, Primer Pack).
 abbrev pub tag_at : BatchParts → ℕ → ℕ
 tag_at entries place = big_number 2 (item_in entries place)
 
+-- The label of the entry at a place (ST 377-1, Primer Pack).
 abbrev pub label_at : BatchParts → ℕ → List ℕ
 label_at entries place = drop 2 (item_in entries place)
 

@@ -63,5 +63,6 @@ entries_by (suc n) bytes = entry_in bytes ∷ entries_by n (drop 12 bytes)
 unfoldable pub entries_of : List ℕ → List RipEntry
 entries_of bytes = entries_by (length bytes / 12) bytes
 
+-- The random index pack of these parts.
 abbrev pub rip_parts : ℕ → List RipEntry → RipParts
 rip_parts width entries = record { width = width; entries = entries }
