@@ -5,7 +5,7 @@ ghost use Rattle.std.specs.List.{AllByRecursion, flat_map};
 ghost use Rattle.byteorder.specs.Endian.{big_bytes};
 ghost use Rattle.mxf_klv.specs.Written.{Writes, WritesPart};
 ghost use Rattle.mxf_sets.specs.Items.{IsItem, ItemParts, item_bytes};
-ghost use Rattle.mxf_sets.specs.Segment.{entry_item, number_items, segment_bytes};
+ghost use Rattle.mxf_sets.specs.Segment.{entry_item, item, number_items, segment_bytes};
 
 use crate::Item;
 use crate::segment_numbers::{
@@ -74,6 +74,13 @@ fn put_items<W: Write>(
     Ok(())
 }
 
+/// The item of this tag and value.
+fn numbered(tag: u16, value: &[u8]) -> Item<'_>
+    ensures { result ≡ item tag value.now }
+{
+    Item { tag, value }
+}
+
 /// Writes the items of the numbers.
 fn put_numbers<W: Write>(
     numbers: &SegmentNumbers,
@@ -91,38 +98,14 @@ fn put_numbers<W: Write>(
     let slices = [numbers.slices];
     let positions = [numbers.positions];
     let items = [
-        Item {
-            tag: EDIT_RATE,
-            value: &rate,
-        },
-        Item {
-            tag: START,
-            value: &start,
-        },
-        Item {
-            tag: DURATION,
-            value: &duration,
-        },
-        Item {
-            tag: UNIT_BYTES,
-            value: &unit_bytes,
-        },
-        Item {
-            tag: INDEX_SID,
-            value: &index_sid,
-        },
-        Item {
-            tag: BODY_SID,
-            value: &body_sid,
-        },
-        Item {
-            tag: SLICES,
-            value: &slices,
-        },
-        Item {
-            tag: POSITIONS,
-            value: &positions,
-        },
+        numbered(EDIT_RATE, &rate),
+        numbered(START, &start),
+        numbered(DURATION, &duration),
+        numbered(UNIT_BYTES, &unit_bytes),
+        numbered(INDEX_SID, &index_sid),
+        numbered(BODY_SID, &body_sid),
+        numbered(SLICES, &slices),
+        numbered(POSITIONS, &positions),
     ];
     put_items(&items, progress, writer)
 }

@@ -17,4 +17,4 @@ returns g c =
     subst (WritesPart _ _ _ _ _)
     (ap (λ (items : List ItemParts). flat_map item_bytes items) (numbers_written c.args.numbers.now c.rate_bytes-rate.result c.to_be_bytes-start.result c.to_be_bytes-duration.result c.to_be_bytes-unit_bytes.result c.to_be_bytes-index_sid.result c.to_be_bytes-body_sid.result
     c.rate_bytes-rate.ensures start duration c.to_be_bytes-unit_bytes.ensures c.to_be_bytes-index_sid.ensures c.to_be_bytes-body_sid.ensures))
-    c.put_items.ensures
+    (rw (c.numbered.ensures, c.numbered-2.ensures, c.numbered-3.ensures, c.numbered-4.ensures, c.numbered-5.ensures, c.numbered-6.ensures, c.numbered-7.ensures, c.numbered-8.ensures) at c.put_items.ensures)
