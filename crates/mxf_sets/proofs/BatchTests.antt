@@ -1,5 +1,5 @@
 -- What the test of a batch says, and when it passes.
-use Rattle.std.proofs.Common.{◌≡◌, ◌≢◌, ℕ, ◌+◌, ◌*◌, ◌<◌, ◌≤◌, ◌⊎◌, inl, inr, Bool, true, false, List, length, drop, refl, ap, ◌∙◌, sym, arith, eq-eqb, eqb-true, ne_eqb, le-leb, leb-true}
+use Rattle.std.proofs.Common.{◌≡◌, ℕ, ◌+◌, ◌*◌, ◌≤◌, ◌⊎◌, inl, inr, Bool, true, false, List, length, drop, refl, eq-eqb, eqb-true, le-leb, leb-true}
 use Rattle.std.specs.Prelude.{nat_le, ◌==◌, ◌&&◌, ◌||◌}
 use Rattle.byteorder.specs.Endian.{big_number}
 use Rattle.mxf_sets.specs.Fields.{is_batch}

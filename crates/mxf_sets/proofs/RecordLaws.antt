@@ -1,11 +1,10 @@
 -- A value is read under a table exactly where its items meet the table.
-use Rattle.std.proofs.Common.{◌≡◌, ℕ, ◌<◌, ◌≤◌, Bool, true, false, cond, List, [], ◌∷◌, Option, Some, None, Result, Ok, Err, length, refl, ap, ◌∙◌, sym, subst, arith, ltb-false, le-ltb}
-use Rattle.std.specs.Prelude.{find, is_none, not, ◌&&◌, ◌==◌, ◌-◌, nat_lt, IsSome, ◌↔◌}
+use Rattle.std.proofs.Common.{◌≡◌, ℕ, Bool, true, false, cond, List, [], ◌∷◌, Option, Some, None, Result, Ok, Err, length, refl, ap, ◌∙◌, sym, subst, ltb-false, le-ltb}
+use Rattle.std.specs.Prelude.{find, is_none, not, ◌&&◌, ◌==◌, ◌-◌, IsSome}
 use Rattle.std.specs.Option.{option_map, option_map_or}
 use Rattle.std.specs.List.{AllByRecursion}
 use Rattle.mxf_klv.specs.Bytes.{AreBytes}
 use Rattle.mxf_sets.specs.declared.fields.Field.{Field}
-use Rattle.mxf_sets.specs.declared.fields.FieldFault.{FieldFault}
 use Rattle.mxf_sets.specs.declared.fields.FieldFault.TheVariants.{Set, RepeatedTag, Missing, WrongWidth}
 use Rattle.mxf_sets.specs.Items.{ItemParts, AreItems, items_of, left_of}
 use Rattle.mxf_sets.specs.Lookup.{value_of, count_of}

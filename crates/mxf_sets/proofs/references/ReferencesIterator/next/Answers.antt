@@ -1,4 +1,4 @@
-use Rattle.std.proofs.Common.{rules, ◌≡◌, ◌∷◌, ◌∙◌, sym, List, ℕ, ap, take, drop, arith}
+use Rattle.std.proofs.Common.{rules, ◌∷◌, ◌∙◌, sym, List, ℕ, ap, drop, arith}
 use Rattle.mxf_sets.specs.Reference.{references_of}
 use Rattle.mxf_sets.proofs.ReferenceLemmas.{first_reference}
 use Rattle.mxf_sets.proofs.references.ReferencesIterator.next.Goals as goal
