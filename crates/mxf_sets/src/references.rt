@@ -54,7 +54,8 @@ impl<'a> References<'a> {
     pub fn len(&self) -> usize
         ensures { result ≡ length self.now }
     {
-        self.bytes.len() / 16
+        let bytes = self.bytes.len();
+        bytes / 16
     }
 
     /// The reference at a place, counted from 0.
