@@ -36,7 +36,9 @@ fn walked(alloc: Global, offset: u64, bytes: &[u8]) -> Result<(usize, Stop), Fai
 }
 
 #[test]
-fn each_front_of_the_worked_file_has_the_packets_that_are_whole(rt: HostRuntime) -> Result<(), Fail> {
+fn each_front_of_the_worked_file_has_the_packets_that_are_whole(
+    rt: HostRuntime,
+) -> Result<(), Fail> {
     for end in 0..=264usize {
         let want = match end {
             0 => (0, Stop::End),
@@ -88,13 +90,17 @@ fn a_piece_stops_where_no_packet_begins(rt: HostRuntime) -> Result<(), Fail> {
 
 #[test]
 fn the_greatest_end_is_the_last_that_is_noted(rt: HostRuntime) -> Result<(), Fail> {
-    let essence = b"\x06\x0E\x2B\x34\x01\x02\x01\x01\x0D\x01\x03\x01\x15\x01\x05\x00\x88\x7F\xFF\xFF\xFF\xFF\xFF\xFF\xE6";
+    let essence =
+        b"\x06\x0E\x2B\x34\x01\x02\x01\x01\x0D\x01\x03\x01\x15\x01\x05\x00\x88\x7F\xFF\xFF\xFF\xFF\xFF\xFF\xE6";
     assert_eq!(rt; walked(rt.alloc(), 0, essence)?, (0, Stop::Truncated(0)));
     assert_eq!(rt; walked(rt.alloc(), 1, essence)?, (0, Stop::TooFar(1)));
     let fill = b"\x06\x0E\x2B\x34\x01\x01\x01\x02\x03\x01\x02\x10\x01\x00\x00\x00\x00";
     let last = 9_223_372_036_854_775_790;
     assert_eq!(rt; walked(rt.alloc(), last, fill)?, (1, Stop::End));
-    assert_eq!(rt; walked(rt.alloc(), last + 1, fill)?, (0, Stop::TooFar(last + 1)));
+    assert_eq!(rt;
+        walked(rt.alloc(), last + 1, fill)?,
+        (0, Stop::TooFar(last + 1))
+    );
     Ok(())
 }
 
