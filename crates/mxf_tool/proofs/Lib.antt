@@ -1,1 +1,2 @@
 pub mod SourceLaws
+pub mod PrintLaws

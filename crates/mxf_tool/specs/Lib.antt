@@ -1,3 +1,4 @@
 pub mod Exits
 pub mod Hexadecimal
+pub mod Lines
 pub mod Sources

@@ -11,6 +11,7 @@ mod running;
 mod showing;
 mod sources;
 mod walking;
+mod words;
 
 use std::process::ExitCode;
 
