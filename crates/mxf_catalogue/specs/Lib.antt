@@ -3,4 +3,3 @@ pub mod Disputes
 pub mod DisputesLaws
 pub mod History
 pub mod Joins
-pub mod Rising

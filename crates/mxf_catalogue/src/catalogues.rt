@@ -2,7 +2,7 @@
 ghost use Rattle.std.specs.Prelude.{◌≡◌, ◌≢◌, ◌↔◌, ◌==◌, ◌^◌, ◌<◌, [], find, length, IsTrue, IfErr, IfNone, IfSome, OnOk, OnErr};
 ghost use Rattle.std.specs.Option.{option_copied};
 ghost use Rattle.mxf_klv.specs.Parts.{NoteParts};
-ghost use Rattle.mxf_catalogue.specs.Rising.{In};
+ghost use Rattle.mxf_klv.specs.Rising.{In};
 ghost use Rattle.mxf_catalogue.specs.Content.{IsContent, IsPlace, with_note};
 ghost use Rattle.mxf_catalogue.specs.Disputes.{IsClear, clear_notes, disputed_notes};
 

@@ -1,7 +1,7 @@
 use Rattle.std.proofs.Common.{◌≡◌, sym, ◌∙◌, ap, subst}
 use Rattle.std.specs.List.{insert}
 use Rattle.mxf_klv.specs.NoteOrder.{note_total, note_cmp-IsAntisymmetric}
-use Rattle.mxf_catalogue.specs.Rising.{In, IsRising-with_one, with_one_present}
+use Rattle.mxf_klv.specs.Rising.{In, IsRising-with_one, with_one_present}
 use Rattle.mxf_catalogue.specs.Content.{IsContent}
 use Rattle.mxf_catalogue.proofs.catalogues.Catalogue.add.Goals as goal
 use Rattle.mxf_catalogue.proofs.catalogues.Catalogue.add.Goals.{in-Ok-insert, in-Err-insert}
