@@ -2,7 +2,7 @@
 use Rattle.std.proofs.Common.{◌≡◌, ℕ, zero, suc, ◌+◌, ◌-◌, ◌*◌, ◌/◌, ◌^◌, ◌<◌, ◌≤◌, List, [], ◌∷◌, ◌++◌, length, take, drop, Ok, refl, sym, ap, subst, ◌∙◌, arith, inl, inr, length-append}
 use Rattle.std.proofs.lemmas.Nat.{div-mul-add}
 use Rattle.std.proofs.lemmas.Bool.{cond-true, cond-false, eq-eqb, ne_eqb, cases_lt}
-use Rattle.std.proofs.lemmas.List.{take_at, drop_at, take_all, length-take, get_or-drop, get_or-take, get_or_past}
+use Rattle.std.proofs.lemmas.List.{take_at, drop_at, take_all, length-take, get_or-drop, get_or-take, get_or_past, append-nil}
 use Rattle.std.specs.Int.{byte_at}
 use Rattle.byteorder.specs.Endian.{big_number, big_bytes}
 use Rattle.byteorder.specs.Numbers.{big_from-cons, big_from-lt, big_number-reads_back, length-bytes_high_first}
@@ -52,10 +52,7 @@ same_bytes (suc n) (x ∷ xs) (y ∷ ys) p q h k e =
 pub bytes_again : (n : ℕ) (xs : List ℕ) → length xs ≡ n → AreBytes xs → xs ≡ big_bytes n (big_number n xs)
 bytes_again n xs len h =
     same_bytes n xs (big_bytes n (big_number n xs)) len (length-bytes_high_first n (big_number n xs)) h (bytes-big_bytes n (big_number n xs))
-    (sym (ap (big_number n) (sym (append_nil (big_bytes n (big_number n xs)))) ∙ big_number-reads_back n (big_number n xs) [] (big_from-lt 0 n xs h))) where
-      append_nil : (ys : List ℕ) → ys ++ [] ≡ ys
-      append_nil [] = refl
-      append_nil (y ∷ ys) = ap (λ (t : List ℕ). y ∷ t) (append_nil ys)
+    (sym (ap (big_number n) (sym (append-nil (big_bytes n (big_number n xs)))) ∙ big_number-reads_back n (big_number n xs) [] (big_from-lt 0 n xs h)))
 
 -- ---- lengths
 
@@ -71,10 +68,7 @@ length_bytes-spelled w v (inl s) = rw (one_byte w v s.0) (inl (s.0, s.1, refl, r
 length_bytes-spelled w v (inr s) =
     let less : w - 1 + 1 ≡ w = omega arith in
     let all : take (w - 1) (big_bytes (w - 1) v) ≡ big_bytes (w - 1) v = take_all (w - 1) (big_bytes (w - 1) v) (omega (arith, length-bytes_high_first (w - 1) v)) in
-    rw (more_bytes w v s.0) (subst (λ (t : List ℕ). IsSpelledLength ((127 + w) ∷ t) w v) all (wide_spelled w v (w - 1) (big_bytes (w - 1) v) [] (sym less) (omega arith) (omega arith) s.2 (sym (append_nil (big_bytes (w - 1) v))))) where
-      append_nil : (ys : List ℕ) → ys ++ [] ≡ ys
-      append_nil [] = refl
-      append_nil (y ∷ ys) = ap (λ (t : List ℕ). y ∷ t) (append_nil ys)
+    rw (more_bytes w v s.0) (subst (λ (t : List ℕ). IsSpelledLength ((127 + w) ∷ t) w v) all (wide_spelled w v (w - 1) (big_bytes (w - 1) v) [] (sym less) (omega arith) (omega arith) s.2 (sym (append-nil (big_bytes (w - 1) v)))))
 
 -- what stands for a length is what is written for it
 pub spelled-length_bytes : (bytes : List ℕ) (w v : ℕ) → AreBytes bytes → IsSpelledLength bytes w v → bytes ≡ length_bytes w v
@@ -90,7 +84,8 @@ length_read_back w v more c =
     let s = length_bytes-spelled w v c in
     subst (λ (t : List ℕ). IsSpelledLength t w v) (sym (take_at (length_bytes w v) more w (spelled_len (length_bytes w v) w v s))) s
 
-AreBytes-take : (n : ℕ) (bytes : List ℕ) → AreBytes bytes → AreBytes (take n bytes)
+-- the front of bytes is bytes
+pub AreBytes-take : (n : ℕ) (bytes : List ℕ) → AreBytes bytes → AreBytes (take n bytes)
 AreBytes-take n bytes h i =
     elim (cases_lt i n) [
       | inl lt ↦ rw (get_or-take n bytes i 0 lt) (h i)

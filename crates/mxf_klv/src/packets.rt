@@ -1,10 +1,9 @@
 //! Packets (ST 336, KLV triplet): a key, a length and a value.
 ghost use Rattle.std.specs.Prelude.{◌≡◌, ◌↔◌, ◌++◌, ℕ, List, Result, Ok, IsTrue, length};
-ghost use Rattle.std.specs.List.{AllByRecursion};
 ghost use Rattle.std.specs.Option.{SomeIff};
 ghost use Rattle.mxf_klv.specs.declared.faults.PacketFault.{PacketFault};
 ghost use Rattle.mxf_klv.specs.Label.{BeginsAsLabel, begins_as_label};
-ghost use Rattle.mxf_klv.specs.Packet.{IsPacket, IsSpelledPacket, ReadsPacket, packet_bytes, packet_parts, size_of};
+ghost use Rattle.mxf_klv.specs.Packet.{IsPacket, IsSpelledPacket, ReadsPacket, packet_bytes, packet_parts};
 ghost use Rattle.mxf_klv.specs.Parts.{PacketParts, CanSpell};
 ghost use Rattle.mxf_klv.specs.Written.{Writes, WritesPart};
 

@@ -1,6 +1,5 @@
 //! The packets of a piece: bytes that lie at an offset of a file (this project's profile).
 ghost use Rattle.std.specs.Prelude.{◌≡◌, ◌+◌, ℕ, List, None, Some, IfOk, IfErr};
-ghost use Rattle.std.specs.Option.{option_map};
 ghost use Rattle.mxf_klv.specs.Parts.{PacketParts};
 ghost use Rattle.mxf_klv.specs.Packet.{size_of};
 ghost use Rattle.mxf_klv.specs.Piece.{IsPiece};

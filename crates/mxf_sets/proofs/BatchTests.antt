@@ -2,7 +2,8 @@
 use Rattle.byteorder.specs.Endian.{big_bytes}
 use Rattle.byteorder.specs.Numbers.{big_from-take, big_from-lt}
 use Rattle.mxf_klv.specs.Bytes.{AreBytes}
-use Rattle.mxf_sets.proofs.Numbers.{AreBytes-take, AreBytes-drop, number_in_front}
+use Rattle.mxf_klv.proofs.RoundTrips.{AreBytes-take}
+use Rattle.mxf_sets.proofs.Numbers.{AreBytes-drop, number_in_front}
 use Rattle.std.proofs.Common.{◌≡◌, ℕ, ◌+◌, ◌*◌, ◌≤◌, ◌⊎◌, ◌++◌, inl, inr, Bool, true, false, List, length, length-drop, take, drop, refl, ap, ◌∙◌, sym, arith, eq-eqb, eqb-true, le-leb, leb-true}
 use Rattle.std.specs.Prelude.{nat_le, ◌==◌, ◌&&◌, ◌||◌}
 use Rattle.byteorder.specs.Endian.{big_number}

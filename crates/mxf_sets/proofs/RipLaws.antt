@@ -12,7 +12,8 @@ use Rattle.mxf_sets.specs.declared.faults.PackFault.{PackFault}
 use Rattle.mxf_sets.specs.declared.faults.PackFault.TheVariants as faults
 use Rattle.mxf_sets.specs.declared.random_index_packs.RipEntry.{RipEntry}
 use Rattle.mxf_sets.specs.RandomIndexPack.{IsEntry, entry_bytes, RipParts, packet_length, IsRip, ReadsRip, entry_in, entries_by, entries_of, rip_parts}
-use Rattle.mxf_sets.proofs.Numbers.{AreBytes-drop, AreBytes-take, number_in_front, same_number}
+use Rattle.mxf_klv.proofs.RoundTrips.{AreBytes-take}
+use Rattle.mxf_sets.proofs.Numbers.{AreBytes-drop, number_in_front, same_number}
 
 -- ---- the entries of bytes
 

@@ -1,5 +1,6 @@
 use Rattle.std.proofs.Common.{arith}
-use Rattle.mxf_sets.proofs.Numbers.{AreBytes-take, number_in_front}
+use Rattle.mxf_klv.proofs.RoundTrips.{AreBytes-take}
+use Rattle.mxf_sets.proofs.Numbers.{number_in_front}
 use Rattle.mxf_sets.proofs.fixed_numbers.take_u32.Goals as goal
 
 pub returns-clause-number : goal.returns-clause-number
