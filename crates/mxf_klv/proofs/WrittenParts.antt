@@ -20,10 +20,10 @@ pub WritesPart-after : {X : Type 0} (a b c : Option (List ℕ)) (before mid afte
     → mid ≡ counted (before + length xs) → WritesPart b c mid after r ys → WritesPart a c before after r (xs ++ ys)
 WritesPart-after a b c before mid after (Ok x) xs ys p e q =
     (Appends-trans a b c xs ys p q.0, q.1 ∙ counted_again before (length xs) (length ys) mid e ∙ ap (λ k. counted (before + k)) (sym (length-append xs ys)))
-WritesPart-after a b c before mid after (Err f) xs ys p e q =
+WritesPart-after a b c before mid after (Err f) xs ys p e (q, told) =
     let n = q.0 in
     let whole = length-append xs ys in
-    (length xs + n, omega (arith, q.1), q.2 ∙ counted_again before (length xs) n mid e, subst (Appends a c) (take_past xs ys n) (Appends-trans a b c xs (take n ys) p q.3))
+    ((length xs + n, omega (arith, q.1), q.2 ∙ counted_again before (length xs) n mid e, subst (Appends a c) (take_past xs ys n) (Appends-trans a b c xs (take n ys) p q.3)), told)
 
 -- a fault in a part is a fault of the whole
 pub StopsIn-part : (a b c : Option (List ℕ)) (before mid : ℕ) (e : WriteFault) (done part rest : List ℕ) → Appends a b done → mid ≡ counted (before + length done)

@@ -28,7 +28,7 @@ pub use pieces::{each_piece_is_read_one_way, next_packet};
 pub use round_trips::{lengths_are_read_as_written, packets_are_read_as_written};
 pub use stops::Stop;
 pub use table::kind;
-pub use writing::{Progress, WriteFault};
+pub use writing::{Encode, Progress, WriteFault};
 
 #[cfg(test)]
 mod tests;

@@ -5,12 +5,11 @@ ghost use Rattle.mxf_klv.specs.declared.faults.PacketFault.{PacketFault};
 ghost use Rattle.mxf_klv.specs.Label.{BeginsAsLabel, begins_as_label};
 ghost use Rattle.mxf_klv.specs.Packet.{IsPacket, IsSpelledPacket, ReadsPacket, packet_bytes, packet_parts};
 ghost use Rattle.mxf_klv.specs.Parts.{PacketParts, CanSpell};
-ghost use Rattle.mxf_klv.specs.Written.{Writes, WritesPart};
 
 use crate::faults::PacketFault;
 use crate::labels::Ul;
 use crate::lengths::{Ber, read_ber};
-use crate::writing::{Progress, WriteFault};
+use crate::writing::{Encode, Progress, WriteFault};
 use std::io::Write;
 use std::marker::Model;
 
@@ -65,19 +64,12 @@ impl<'a> Packet<'a> {
     {
         self.value
     }
+}
 
-    /// Writes key, length and value.
-    ///
-    /// Fails where the writer fails, takes no byte, or is interrupted more than 1,024 times.
-    pub fn write_to<W: Write>(&self, writer: &mut W) -> Result<(), WriteFault>
-        ensures { Writes (W.contents writer.old) (W.contents writer.new) result (packet_bytes self.now) }
-    {
-        self.put_to(&mut Progress::new(), writer)
-    }
+impl<'a> Encode for Packet<'a> {
+    ghost encoding = { packet_bytes };
 
-    fn put_to<W: Write>(&self, progress: &mut Progress, writer: &mut W) -> Result<(), WriteFault>
-        ensures { WritesPart (W.contents writer.old) (W.contents writer.new) progress.old.written progress.new.written result (packet_bytes self.now) }
-    {
+    fn put_to<W: Write>(&self, progress: &mut Progress, writer: &mut W) -> Result<(), WriteFault> {
         progress.put(writer, &self.key.bytes())?;
         self.ber.put_to(progress, writer)?;
         progress.put(writer, self.value)

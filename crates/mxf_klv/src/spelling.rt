@@ -1,10 +1,9 @@
 //! Spelling lengths (ST 336, length field).
 ghost use Rattle.std.specs.Prelude.{◌≡◌, ◌≤◌, ◌∷◌, take};
 ghost use Rattle.mxf_klv.specs.Ber.{IsSpelledLength, length_bytes};
-ghost use Rattle.mxf_klv.specs.Written.{Writes, WritesPart};
 
 use crate::lengths::Ber;
-use crate::writing::{Progress, WriteFault};
+use crate::writing::{Encode, Progress, WriteFault};
 use byteorder::{BigEndian, ByteOrder};
 use std::io::Write;
 
@@ -16,28 +15,17 @@ struct Spelling {
     used: usize,
 }
 
-impl Ber {
-    /// Writes the length's bytes, as many as its width.
-    ///
-    /// Fails where the writer fails, takes no byte, or is interrupted more than 1,024 times.
-    pub fn write_to<W: Write>(&self, writer: &mut W) -> Result<(), WriteFault>
-        ensures { Writes (W.contents writer.old) (W.contents writer.new) result (length_bytes self.now.width self.now.value) }
-    {
-        self.put_to(&mut Progress::new(), writer)
-    }
+impl Encode for Ber {
+    ghost encoding = { λ l. length_bytes l.width l.value };
 
-    pub(crate) fn put_to<W: Write>(
-        &self,
-        progress: &mut Progress,
-        writer: &mut W,
-    ) -> Result<(), WriteFault>
-        ensures { WritesPart (W.contents writer.old) (W.contents writer.new) progress.old.written progress.new.written result (length_bytes self.now.width self.now.value) }
-    {
+    fn put_to<W: Write>(&self, progress: &mut Progress, writer: &mut W) -> Result<(), WriteFault> {
         let spelling = self.spelling();
         progress.put(writer, &[spelling.first])?;
         progress.put(writer, &spelling.digits[..spelling.used])
     }
+}
 
+impl Ber {
     fn spelling(&self) -> Spelling
         ensures used { result.used ≤ 8 }
         ensures spelled { result.first ∷ take result.used result.digits ≡ length_bytes self.now.width self.now.value }

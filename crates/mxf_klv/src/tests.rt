@@ -1,7 +1,7 @@
 //! Worked examples.
 use crate::{
-    Ber, BerFault, Held, Kind, Note, NoteFault, Packet, PacketFault, Status, Stop, Ul, WriteFault,
-    kind, next_packet, read_ber, read_packet,
+    Ber, BerFault, Encode, Held, Kind, Note, NoteFault, Packet, PacketFault, Status, Stop, Ul,
+    WriteFault, kind, next_packet, read_ber, read_packet,
 };
 use std::alloc::Global;
 use std::io::{self, Error, ErrorKind, Write};

@@ -2,12 +2,12 @@
 use Rattle.std.proofs.Common.{◌≤◌, ◌≡◌, ◌+◌, ◌-◌, List, ℕ, ◌++◌, length}
 use Rattle.std.specs.Io.KnownBytes.{Appends}
 use Rattle.mxf_klv.specs.Written.{counted}
-use Rattle.mxf_klv.proofs.writing.Progress.put.Given as goal
+use Rattle.mxf_klv.proofs.writing.progress.Progress.put.Given as goal
 
-abbrev pub invariant-pieces : goal.invariant-pieces
-invariant-pieces g l =
+abbrev pub invariant-loop-rest : goal.invariant-loop-rest
+invariant-loop-rest g l =
     (done : List ℕ) × (l.initial.rest ≡ done ++ l.rest) × Appends (g.W.Write.contents l.initial.writer) (g.W.Write.contents l.writer) done
     × (l.self.written ≡ counted (l.initial.self.written + length done)) × (l.initial.self.interruptions ≤ l.self.interruptions)
 
-abbrev pub decreases-pieces : goal.decreases-pieces
-decreases-pieces g l = length l.rest + (1024 - l.self.interruptions)
+abbrev pub decreases-loop-rest : goal.decreases-loop-rest
+decreases-loop-rest g l = length l.rest + (1024 - l.self.interruptions)
