@@ -1,5 +1,6 @@
 //! Local sets and batches.
-use crate::{Batch, BatchFault, RepeatedTag, SetFault, items};
+use mxf_klv::Encode;
+use mxf_sets::{Batch, BatchFault, RepeatedTag, SetFault, items};
 use std::test::Fail;
 
 // The length says seventeen bytes, and sixteen follow.

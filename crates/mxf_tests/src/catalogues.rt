@@ -1,0 +1,215 @@
+//! Catalogues: what is held, disputed and joined.
+ghost use Rattle.std.specs.Prelude.{◌≡◌, IfOk, IsTrue, map};
+ghost use Rattle.mxf_catalogue.specs.Disputes.{clear_notes, disputed_notes};
+
+use crate::builders::{label, note_of_file};
+use crate::worked_files::{ESSENCE_KEY, M};
+use mxf_catalogue::{Catalogue, Change, Semilattice};
+use mxf_klv::{Note, OutOfMemory, Packet, read_packet};
+use std::alloc::{AllocError, Global};
+use std::test::Fail;
+
+// Essence packets, each as the offset of its first byte and the length of its value. Seventeen bytes of key and
+// length stand before a value.
+
+/// From 0 to 100.
+const A: (u64, u64) = (0, 83);
+
+/// From 200 to 300.
+const B: (u64, u64) = (200, 83);
+
+/// From 90 to 210.
+const C: (u64, u64) = (90, 103);
+
+/// From 120 to 150.
+const D: (u64, u64) = (120, 13);
+
+const ORDERS: [[(u64, u64); 3]; 6] = [
+    [A, B, C],
+    [A, C, B],
+    [B, A, C],
+    [B, C, A],
+    [C, A, B],
+    [C, B, A],
+];
+
+fn essence(offset: u64, length: u64) -> Result<Note, Fail> {
+    Ok(Note::digested(offset, label(ESSENCE_KEY)?, 1, length, [0; 32]).ok_or("a note")?)
+}
+
+fn add_essence(all: &mut Catalogue, packets: &[(u64, u64)]) -> Result<(), Fail> {
+    for (offset, length) in packets {
+        all.add(essence(*offset, *length)?)?;
+    }
+    Ok(())
+}
+
+/// The note of the packet of M at this offset.
+fn of_m(alloc: Global, offset: usize) -> Result<Note, Fail> {
+    note_of_file(alloc, &M, offset)
+}
+
+/// The offsets of the disputed notes, with their marks.
+fn marks(alloc: Global, all: &Catalogue) -> Result<Vec<(u64, bool, bool)>, AllocError>
+    ensures { IfOk result (λ v. v.items ≡ map (λ d. (d.note.offset, d.same_offset, d.overlaps)) (disputed_notes all.now)) }
+{
+    all.disputed()
+        .map(|d| (d.note.offset(), d.same_offset, d.overlaps))
+        .collect(alloc)
+}
+
+fn clear_offsets(alloc: Global, all: &Catalogue) -> Result<Vec<u64>, AllocError>
+    ensures { IfOk result (λ v. v.items ≡ map (λ n. n.offset) (clear_notes all.now)) }
+{
+    all.clear().map(|note| note.offset()).collect(alloc)
+}
+
+/// By the laws alone: the order of the arguments of a join doesn't matter.
+fn joins_alike<S: Semilattice + Drop>(alloc: Global, a: &S, b: &S) -> Result<bool, OutOfMemory>
+    ensures { IfOk result (λ alike. IsTrue alike) }
+{
+    let one = S::join(alloc, a, b)?;
+    let other = S::join(alloc, b, a)?;
+    Ok(one.same(&other))
+}
+
+#[test]
+fn notes_are_held_once_and_in_order(rt: HostRuntime) -> Result<(), Fail> {
+    let alloc = rt.alloc();
+    let mut all = Catalogue::new(alloc);
+    assert!(rt; all.is_empty());
+    for offset in [216usize, 0, 108] {
+        assert_eq!(rt; all.add(of_m(alloc, offset)?)?, Change::Added);
+    }
+    assert_eq!(rt; all.add(of_m(alloc, 0)?)?, Change::Repeated);
+    assert_eq!(rt; all.len(), 3);
+    assert!(rt; !all.is_empty());
+    let offsets: Vec<u64> = all.notes().map(|note| note.offset()).collect(alloc)?;
+    assert_eq!(rt; offsets.as_slice(), [0, 108, 216].as_slice());
+    assert!(rt; all.holds(&of_m(alloc, 108)?));
+    assert!(rt; !all.holds(&essence(108, 13)?));
+    Ok(())
+}
+
+#[test]
+fn packets_of_a_whole_file_are_clear(rt: HostRuntime) -> Result<(), Fail> {
+    let alloc = rt.alloc();
+    let mut all = Catalogue::new(alloc);
+    for offset in [108usize, 216, 0] {
+        all.add(of_m(alloc, offset)?)?;
+    }
+    assert_eq!(rt;
+        clear_offsets(alloc, &all)?.as_slice(),
+        [0, 108, 216].as_slice()
+    );
+    assert_eq!(rt; all.disputed().count(), 0);
+    assert_eq!(rt; all.clear_at(108).ok_or("not clear")?.end(), 216);
+    assert!(rt; all.clear_at(107).is_none());
+    Ok(())
+}
+
+#[test]
+fn packets_at_one_offset_are_disputed_by_it_alone(rt: HostRuntime) -> Result<(), Fail> {
+    let alloc = rt.alloc();
+    let (packet, _) = read_packet(&M)?;
+    let mut key = packet.key().bytes();
+    key[14] = 0x03;
+    let changed = Packet::new(label(key)?, packet.width(), packet.value()).ok_or("no packet")?;
+    for changed_first in [false, true] {
+        let (first, second) = if changed_first {
+            (&changed, &packet)
+        } else {
+            (&packet, &changed)
+        };
+        let mut all = Catalogue::new(alloc);
+        assert_eq!(rt; all.add(Note::of(alloc, 0, first)?)?, Change::Added);
+        assert!(rt; all.clear_at(0).is_some());
+        assert_eq!(rt; all.add(Note::of(alloc, 0, second)?)?, Change::Added);
+        let marks = marks(alloc, &all)?;
+        assert_eq!(rt;
+            marks.as_slice(),
+            [(0, true, false), (0, true, false)].as_slice()
+        );
+        assert!(rt; all.clear_at(0).is_none());
+        assert_eq!(rt; all.clear().count(), 0);
+    }
+    Ok(())
+}
+
+#[test]
+fn a_packet_over_two_others_disputes_both_in_each_order(rt: HostRuntime) -> Result<(), Fail> {
+    let alloc = rt.alloc();
+    for order in ORDERS {
+        let mut all = Catalogue::new(alloc);
+        add_essence(&mut all, &order)?;
+        assert_eq!(rt; all.len(), 3);
+        let marks = marks(alloc, &all)?;
+        let expected = [(0, false, true), (90, false, true), (200, false, true)];
+        assert_eq!(rt; marks.as_slice(), expected.as_slice(), "in {order:?}");
+        for offset in [0, 90, 200] {
+            assert!(rt; all.clear_at(offset).is_none(), "in {order:?}");
+        }
+    }
+    Ok(())
+}
+
+#[test]
+fn a_packet_among_disputed_ones_is_disputed(rt: HostRuntime) -> Result<(), Fail> {
+    let alloc = rt.alloc();
+    for order in ORDERS {
+        let mut last = Catalogue::new(alloc);
+        add_essence(&mut last, &order)?;
+        add_essence(&mut last, &[D])?;
+        let mut first = Catalogue::new(alloc);
+        add_essence(&mut first, &[D])?;
+        assert!(rt; first.clear_at(120).is_some());
+        add_essence(&mut first, &order)?;
+        assert!(rt; last.same(&first), "in {order:?}");
+        let marks = marks(alloc, &last)?;
+        let expected = [
+            (0, false, true),
+            (90, false, true),
+            (120, false, true),
+            (200, false, true),
+        ];
+        assert_eq!(rt; marks.as_slice(), expected.as_slice(), "in {order:?}");
+        assert!(rt; last.clear_at(120).is_none());
+    }
+    Ok(())
+}
+
+#[test]
+fn packets_apart_are_clear(rt: HostRuntime) -> Result<(), Fail> {
+    let alloc = rt.alloc();
+    let mut all = Catalogue::new(alloc);
+    add_essence(&mut all, &[B, A, D])?;
+    assert_eq!(rt;
+        clear_offsets(alloc, &all)?.as_slice(),
+        [0, 120, 200].as_slice()
+    );
+    assert_eq!(rt; all.clear_at(200).ok_or("not clear")?.length(), 83);
+    Ok(())
+}
+
+#[test]
+fn joins_hold_the_notes_of_both(rt: HostRuntime) -> Result<(), Fail> {
+    let alloc = rt.alloc();
+    let mut head = Catalogue::new(alloc);
+    head.add(of_m(alloc, 0)?)?;
+    let mut tail = Catalogue::new(alloc);
+    tail.add(of_m(alloc, 108)?)?;
+    tail.add(of_m(alloc, 216)?)?;
+    for joined in [
+        Catalogue::join(alloc, &head, &tail)?,
+        Catalogue::join(alloc, &tail, &head)?,
+    ] {
+        assert_eq!(rt; joined.len(), 3);
+        for offset in [0usize, 108, 216] {
+            assert!(rt; joined.holds(&of_m(alloc, offset)?));
+        }
+        assert!(rt; !joined.same(&tail));
+        assert!(rt; Catalogue::join(alloc, &joined, &joined)?.same(&joined));
+    }
+    assert!(rt; joins_alike(alloc, &head, &tail)?);
+    Ok(())
+}
