@@ -1,9 +1,10 @@
 //! The set of notes, and the laws of contents.
-ghost use Rattle.std.specs.Prelude.{◌≡◌, ◌≢◌, ◌↔◌, ◌⊎◌, ◌==◌, ◌^◌, ◌<◌, List, [], find, length, IsTrue, IfErr, IfNone, IfSome, OnOk, OnErr};
+ghost use Rattle.std.specs.Prelude.{◌≡◌, ◌≢◌, ◌↔◌, ◌⊎◌, ◌==◌, ◌^◌, ◌<◌, List, [], find, length};
+ghost use Rattle.std.specs.Prelude.{IsTrue, IfErr, IfNone, IfSome, OnOk, OnErr};
 ghost use Rattle.std.specs.Option.{option_copied};
 ghost use Rattle.mxf_klv.specs.Parts.{NoteParts};
 ghost use Rattle.mxf_klv.specs.Rising.{In, SameMembers};
-ghost use Rattle.mxf_catalogue.specs.Content.{IsContent, IsPlace, with_note, union_of};
+ghost use Rattle.mxf_catalogue.specs.Content.{IsCatalogue, IsContent, IsPlace, with_note, union_of};
 ghost use Rattle.mxf_catalogue.specs.Disputes.{IsClear, clear_notes, disputed_notes};
 
 mod clear;
@@ -19,7 +20,7 @@ pub use disputed::{
     notes_are_clear_or_disputed, notes_are_disputed_in_two_ways,
 };
 use merging::merge;
-use mxf_klv::{Note, OutOfMemory};
+use mxf_klv::{MAX, Note, OutOfMemory};
 pub use notes::Notes;
 use std::alloc::Global;
 use std::marker::Model;
@@ -37,13 +38,13 @@ pub struct Catalogue {
 impl Model for Catalogue {
     ghost use Rattle.std.specs.Prelude.{List};
     ghost use Rattle.mxf_klv.specs.Parts.{NoteParts};
-    ghost use Rattle.mxf_catalogue.specs.Content.{IsContent};
+    ghost use Rattle.mxf_catalogue.specs.Content.{IsCatalogue};
 
     ghost Value = { List NoteParts };
 
     ghost view = { λ c. c.notes.items };
 
-    ghost invariant = { λ c. IsContent c.notes.items };
+    ghost invariant = { λ c. IsCatalogue c.notes.items };
 }
 
 /// What adding a note did.
@@ -81,6 +82,7 @@ impl Catalogue {
         ensures fault { IfErr result (λ f. f.note ≡ note) }
         ensures err { OnErr result (self.new ≡ self.old) }
     {
+        prove!(note.end() <= MAX);
         match place(&self.notes, &note) {
             Ok(_) => Ok(Change::Repeated),
             Err(at) => match self.notes.insert(at, note) {
@@ -114,9 +116,9 @@ impl Catalogue {
     /// The notes in their order.
     pub fn notes(&self) -> Notes<'_>
         ensures notes { result ≡ self.now }
+        ensures catalogue { IsCatalogue self.now }
 
-        // All notes rise in their order, and a count of the result fits.
-        ensures content { IsContent self.now }
+        // A count of them fits.
         ensures bound { length result < 2 ^ 64 }
     {
         Notes::of(&self.notes)
@@ -125,9 +127,6 @@ impl Catalogue {
     /// The clear notes in their order: those that share no byte with another. It takes no memory.
     pub fn clear(&self) -> ClearNotes<'_>
         ensures notes { result ≡ clear_notes self.now }
-
-        // All notes rise in their order, and a count of the result fits.
-        ensures content { IsContent self.now }
         ensures bound { length result < 2 ^ 64 }
     {
         ClearNotes::of(&self.notes)
@@ -136,9 +135,6 @@ impl Catalogue {
     /// The disputed notes in their order, each with how it is disputed. It takes no memory.
     pub fn disputed(&self) -> DisputedNotes<'_>
         ensures notes { result ≡ disputed_notes self.now }
-
-        // All notes rise in their order, and a count of the result fits.
-        ensures content { IsContent self.now }
         ensures bound { length result < 2 ^ 64 }
     {
         DisputedNotes::of(&self.notes)
@@ -146,6 +142,9 @@ impl Catalogue {
 
     /// The clear note with this file offset, in bytes.
     pub fn clear_at(&self, offset: u64) -> Option<&Note>
+        ensures first { option_copied result ≡ find (λ n. n.offset == offset) (clear_notes self.now) }
+
+        // The same by the definition of a clear note.
         ensures found { IfSome result (λ n. IsClear n.now self.now × (n.now.offset ≡ offset)) }
         ensures none { IfNone result ((n : NoteParts) → IsClear n self.now → n.offset ≢ offset) }
     {
@@ -200,7 +199,10 @@ impl Semilattice for Catalogue {
         Ok(Catalogue { notes })
     }
 
-    fn same(&self, other: &Catalogue) -> bool {
+    fn same(&self, other: &Catalogue) -> bool
+        ensures members { IsTrue result ↔ SameContent has_note self.now other.now }
+        ensures list { IsTrue result ↔ (self.now ≡ other.now) }
+    {
         self.notes == other.notes
     }
 }

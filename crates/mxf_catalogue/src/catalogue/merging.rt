@@ -1,19 +1,19 @@
 //! Merging notes in their order.
 ghost use Rattle.std.specs.Prelude.{◌≡◌, [], ◌∷◌, IfOk, IfSome, MatchOption};
 ghost use Rattle.std.specs.Iterator.{YieldsFirstRef, item_count};
-ghost use Rattle.mxf_catalogue.specs.Content.{IsContent, union_of};
+ghost use Rattle.mxf_catalogue.specs.Content.{IsCatalogue, IsContent, union_of};
 
 use mxf_klv::{Note, OutOfMemory};
 use std::alloc::Global;
 use std::cmp::Ordering;
 use std::marker::Model;
 
-/// Equal notes, in new memory, of those of two contents, in one pass over both.
+/// Equal notes, in new memory, of those of two catalogues, in one pass over both.
 pub(super) fn merge(alloc: Global, left: &[Note], right: &[Note]) -> Result<Vec<Note>, OutOfMemory>
-    requires left { IsContent left.now }
-    requires right { IsContent right.now }
+    requires left { IsCatalogue left.now }
+    requires right { IsCatalogue right.now }
     ensures union { IfOk result (λ notes. notes.items ≡ union_of left.now right.now) }
-    ensures content { IfOk result (λ notes. IsContent notes.items) }
+    ensures catalogue { IfOk result (λ notes. IsCatalogue notes.items) }
 {
     let mut notes = Vec::new(alloc);
     for note in Merged::of(left, right) {

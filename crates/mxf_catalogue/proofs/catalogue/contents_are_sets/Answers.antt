@@ -1,4 +1,4 @@
-use Rattle.mxf_catalogue.specs.Content.{same_content, In-with_note, In-union_of, IsContent-with_note, IsContent-union_of}
+use Rattle.mxf_catalogue.proofs.ContentLaws.{same_content, In-with_note, In-union_of, IsContent-with_note, IsContent-union_of}
 use Rattle.mxf_catalogue.proofs.catalogue.contents_are_sets.Goals as goal
 
 pub returns : goal.returns

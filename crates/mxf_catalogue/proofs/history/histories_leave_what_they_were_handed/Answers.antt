@@ -1,4 +1,4 @@
-use Rattle.mxf_catalogue.specs.History.{IsContent-content, In-content}
+use Rattle.mxf_catalogue.proofs.HistoryLaws.{IsContent-content, In-content}
 use Rattle.mxf_catalogue.proofs.history.histories_leave_what_they_were_handed.Goals as goal
 
 pub returns : goal.returns

@@ -1,4 +1,4 @@
-use Rattle.mxf_catalogue.specs.DisputesLaws.{clear-apart, clear-alone}
+use Rattle.mxf_catalogue.proofs.DisputeLaws.{clear-apart, clear-alone}
 use Rattle.mxf_catalogue.proofs.catalogue.clear.clear_notes_stand_apart.Goals as goal
 
 pub returns : goal.returns

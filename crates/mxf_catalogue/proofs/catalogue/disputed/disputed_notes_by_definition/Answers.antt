@@ -1,4 +1,4 @@
-use Rattle.mxf_catalogue.specs.DisputesLaws.{In-disputed_notes, notes-disputed_notes, IsContent-disputed_notes}
+use Rattle.mxf_catalogue.proofs.DisputeLaws.{In-disputed_notes, notes-disputed_notes, IsContent-disputed_notes}
 use Rattle.mxf_catalogue.proofs.catalogue.disputed.disputed_notes_by_definition.Goals as goal
 
 pub returns : goal.returns

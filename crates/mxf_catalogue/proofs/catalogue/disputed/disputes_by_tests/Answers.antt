@@ -1,4 +1,4 @@
-use Rattle.mxf_catalogue.specs.DisputesLaws.{is_byte_shared-SharesByte, is_offset_shared-SharesOffset, is_overlapped-Overlaps, is_disputed-IsDisputed}
+use Rattle.mxf_catalogue.proofs.DisputeLaws.{is_byte_shared-SharesByte, is_offset_shared-SharesOffset, is_overlapped-Overlaps, is_disputed-IsDisputed}
 use Rattle.mxf_catalogue.proofs.catalogue.disputed.disputes_by_tests.Goals as goal
 
 pub returns : goal.returns

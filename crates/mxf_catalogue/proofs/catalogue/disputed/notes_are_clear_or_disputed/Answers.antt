@@ -1,4 +1,4 @@
-use Rattle.mxf_catalogue.specs.DisputesLaws.{clear_or_disputed}
+use Rattle.mxf_catalogue.proofs.DisputeLaws.{clear_or_disputed}
 use Rattle.mxf_catalogue.proofs.catalogue.disputed.notes_are_clear_or_disputed.Goals as goal
 
 pub returns : goal.returns

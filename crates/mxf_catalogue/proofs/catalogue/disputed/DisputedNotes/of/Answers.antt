@@ -1,6 +1,6 @@
 use Rattle.std.proofs.Common.{◌≤◌, length, arith}
 use Rattle.mxf_catalogue.specs.Disputes.{disputed_notes}
-use Rattle.mxf_catalogue.specs.DisputesLaws.{length-disputed_notes}
+use Rattle.mxf_catalogue.proofs.DisputeLaws.{length-disputed_notes}
 use Rattle.mxf_catalogue.proofs.catalogue.disputed.DisputedNotes.of.Goals as goal
 
 pub returns-clause-bound : goal.returns-clause-bound
