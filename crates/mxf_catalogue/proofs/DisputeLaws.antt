@@ -73,7 +73,8 @@ is_offset_shared-SharesOffset n notes =
     )
 
 -- the test of overlaps
-pub is_overlapped-Overlaps : (n : NoteParts) (notes : List NoteParts) → IsTrue (is_overlapped n notes) ↔ Overlaps n notes
+pub is_overlapped-Overlaps : (n : NoteParts) (notes : List NoteParts)
+    → IsTrue (is_overlapped n notes) ↔ Overlaps n notes
 is_overlapped-Overlaps n notes =
     let l = list_any-In (λ m. not (m.offset == n.offset) && is_byte_shared m n) notes in (
       λ h.
@@ -102,7 +103,8 @@ IsDisputed-two_ways n notes = (
 )
 
 -- the test of disputes
-pub is_disputed-IsDisputed : (n : NoteParts) (notes : List NoteParts) → IsTrue (is_disputed n notes) ↔ IsDisputed n notes
+pub is_disputed-IsDisputed : (n : NoteParts) (notes : List NoteParts)
+    → IsTrue (is_disputed n notes) ↔ IsDisputed n notes
 is_disputed-IsDisputed n notes =
     let s = is_offset_shared-SharesOffset n notes in
     let o = is_overlapped-Overlaps n notes in
@@ -156,7 +158,8 @@ IsContent-disputed_notes notes r =
     subst IsContent (sym (notes-disputed_notes notes)) (IsContent-filter (λ n. is_disputed n notes) notes r)
 
 -- the disputed notes are those that are disputed, with their marks
-pub In-disputed_notes : (d : DisputedParts) (notes : List NoteParts) → In d (disputed_notes notes) ↔ IsDisputedOf d notes
+pub In-disputed_notes : (d : DisputedParts) (notes : List NoteParts)
+    → In d (disputed_notes notes) ↔ IsDisputedOf d notes
 In-disputed_notes d notes =
     let some = filter (λ n. is_disputed n notes) notes in
     let m = In-map (λ n. disputed_parts n notes) some d in (
@@ -197,7 +200,8 @@ pub clear-apart : (m n : NoteParts) (notes : List NoteParts) → IsClear m notes
 clear-apart m n notes c h ne s = c.undisputed (n, h, (λ e. ne (sym e)), SharesByte-symmetric m n s)
 
 -- a clear note is the only note with its offset
-pub clear-alone : (m n : NoteParts) (notes : List NoteParts) → IsClear m notes → In n notes → m.offset ≡ n.offset → m ≡ n
+pub clear-alone : (m n : NoteParts) (notes : List NoteParts) → IsClear m notes → In n notes → m.offset ≡ n.offset
+    → m ≡ n
 clear-alone m n notes c h e =
     elim (is_same_note m n) as (λ b. is_same_note m n ≡ b → m ≡ n) [
       | true ↦ λ t. (note_eq-Decides m n).0 t

@@ -6,7 +6,8 @@ use Rattle.std.proofs.Common.{sym, ◌∙◌, ap, inl, inr, arith}
 use Rattle.mxf_klv.specs.Rising.{In}
 
 -- one of the list passes the test
-pub list_any-In : {K : Type 0} (p : K → Bool) (xs : List K) → IsTrue (list_any p xs) ↔ ((x : K) × In x xs × IsTrue (p x))
+pub list_any-In : {K : Type 0} (p : K → Bool) (xs : List K)
+    → IsTrue (list_any p xs) ↔ ((x : K) × In x xs × IsTrue (p x))
 list_any-In p [] = (λ h. cc, λ s. absurd s.1)
 list_any-In {K} p (x ∷ xs) =
     let ih = list_any-In p xs in (

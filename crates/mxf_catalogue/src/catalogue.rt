@@ -82,6 +82,7 @@ impl Catalogue {
         ensures fault { IfErr result (λ f. f.note ≡ note) }
         ensures err { OnErr result (self.new ≡ self.old) }
     {
+        // What is held is a note, which ends where a packet may.
         prove!(note.end() <= MAX);
         match place(&self.notes, &note) {
             Ok(_) => Ok(Change::Repeated),
@@ -213,6 +214,7 @@ pub fn contents_are_sets()
     ensures one { (a b : List NoteParts) → IsContent a → IsContent b → SameMembers a b → a ≡ b }
     ensures with_note { (m n : NoteParts) (notes : List NoteParts) → In m (with_note n notes) ↔ (m ≡ n) ⊎ In m notes }
     ensures union { (n : NoteParts) (a b : List NoteParts) → In n (union_of a b) ↔ In n a ⊎ In n b }
-    ensures with_note_rises { (n : NoteParts) (notes : List NoteParts) → IsContent notes → IsContent (with_note n notes) }
+    ensures with_note_rises { (n : NoteParts) (notes : List NoteParts)
+        → IsContent notes → IsContent (with_note n notes) }
     ensures union_rises { (a b : List NoteParts) → IsContent a → IsContent (union_of a b) }
 {}

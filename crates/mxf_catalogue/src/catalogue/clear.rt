@@ -65,6 +65,8 @@ pub fn clear_notes_by_definition()
 
 /// A law: a clear note shares no byte with another note, so it is the only one with its offset.
 pub fn clear_notes_stand_apart()
-    ensures bytes { (m n : NoteParts) (notes : List NoteParts) → IsClear m notes → In n notes → m ≢ n → SharesByte m n → ⊥ }
-    ensures offsets { (m n : NoteParts) (notes : List NoteParts) → IsClear m notes → In n notes → m.offset ≡ n.offset → m ≡ n }
+    ensures bytes { (m n : NoteParts) (notes : List NoteParts)
+        → IsClear m notes → In n notes → m ≢ n → SharesByte m n → ⊥ }
+    ensures offsets { (m n : NoteParts) (notes : List NoteParts)
+        → IsClear m notes → In n notes → m.offset ≡ n.offset → m ≡ n }
 {}

@@ -4,8 +4,10 @@ ghost use Rattle.std.specs.Iterator.{YieldsFirst, item_count};
 ghost use Rattle.mxf_klv.specs.Parts.{NoteParts};
 ghost use Rattle.mxf_klv.specs.Rising.{In};
 ghost use Rattle.mxf_catalogue.specs.Content.{IsContent};
-ghost use Rattle.mxf_catalogue.specs.Disputes.{SharesByte, SharesOffset, Overlaps, IsDisputed, IsClear, DisputedParts, IsDisputedOf};
-ghost use Rattle.mxf_catalogue.specs.Disputes.{is_byte_shared, is_offset_shared, is_overlapped, is_disputed, disputed_notes};
+ghost use Rattle.mxf_catalogue.specs.Disputes.{SharesByte, SharesOffset, Overlaps, IsDisputed, IsClear};
+ghost use Rattle.mxf_catalogue.specs.Disputes.{DisputedParts, IsDisputedOf};
+ghost use Rattle.mxf_catalogue.specs.Disputes.{is_byte_shared, is_offset_shared, is_overlapped, is_disputed};
+ghost use Rattle.mxf_catalogue.specs.Disputes.{disputed_notes};
 
 use mxf_klv::Note;
 use std::marker::Model;
@@ -113,8 +115,10 @@ pub(super) fn is_disputed(note: &Note, notes: &[Note]) -> bool
 /// A law of [`Catalogue::disputed`](crate::Catalogue::disputed): its list has exactly the disputed notes, in their
 /// order, each with marks that hold exactly where their relations do.
 pub fn disputed_notes_by_definition()
-    ensures members { (d : DisputedParts) (notes : List NoteParts) → In d (disputed_notes notes) ↔ IsDisputedOf d notes }
-    ensures sublist { (notes : List NoteParts) → map (λ d. d.note) (disputed_notes notes) ≡ filter (λ n. is_disputed n notes) notes }
+    ensures members { (d : DisputedParts) (notes : List NoteParts)
+        → In d (disputed_notes notes) ↔ IsDisputedOf d notes }
+    ensures sublist { (notes : List NoteParts)
+        → map (λ d. d.note) (disputed_notes notes) ≡ filter (λ n. is_disputed n notes) notes }
     ensures order { (notes : List NoteParts) → IsContent notes → IsContent (map (λ d. d.note) (disputed_notes notes)) }
 {}
 
@@ -132,7 +136,8 @@ pub fn notes_are_clear_or_disputed()
 /// A law: the tests of disputes say what the relations say.
 pub fn disputes_by_tests()
     ensures byte { (m n : NoteParts) → IsTrue (is_byte_shared m n) ↔ SharesByte m n }
-    ensures same_offset { (n : NoteParts) (notes : List NoteParts) → IsTrue (is_offset_shared n notes) ↔ SharesOffset n notes }
+    ensures same_offset { (n : NoteParts) (notes : List NoteParts)
+        → IsTrue (is_offset_shared n notes) ↔ SharesOffset n notes }
     ensures overlaps { (n : NoteParts) (notes : List NoteParts) → IsTrue (is_overlapped n notes) ↔ Overlaps n notes }
     ensures disputed { (n : NoteParts) (notes : List NoteParts) → IsTrue (is_disputed n notes) ↔ IsDisputed n notes }
 {}

@@ -73,7 +73,8 @@ fn split_first<'a>(
 ) -> Option<(&'a Note, &'a [Note], &'a [Note])>
     requires left { IsContent left.now }
     requires right { IsContent right.now }
-    ensures first { MatchOption result (union_of left.now right.now ≡ []) (λ s. union_of left.now right.now ≡ s.0.now ∷ union_of s.1.now s.2.now) }
+    ensures first { MatchOption result (union_of left.now right.now ≡ [])
+        (λ s. union_of left.now right.now ≡ s.0.now ∷ union_of s.1.now s.2.now) }
     ensures rest { IfSome result (λ s. IsContent s.1.now × IsContent s.2.now) }
 {
     let Some((a, after_a)) = left.split_first() else {

@@ -11,7 +11,8 @@ returns-in_err-note c =
     let all = c.args.self.now in
     let e : find p all ≡ None = sym (c.in_err-note.ensures ∙ ap (find p) (c.deref.ensures.value ∙ c.self.view_is)) in
     let first = clear_at-none c.args.offset all e in
-    rw c.from_residual.ensures (record { first = sym first; found = tt; none = λ n. clear_at-no_clear c.args.offset all n first })
+    let none = λ (n : NoteParts). clear_at-no_clear c.args.offset all n first in
+    rw c.from_residual.ensures (record { first = sym first; found = tt; none = none })
 
 pub returns-then-is_disputed : goal.returns-then-is_disputed
 returns-then-is_disputed c =

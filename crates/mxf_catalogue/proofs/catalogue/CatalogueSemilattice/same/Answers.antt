@@ -8,7 +8,9 @@ use Rattle.mxf_catalogue.proofs.catalogue.CatalogueSemilattice.same.Goals as goa
 
 pub returns-clause-list : goal.returns-clause-list
 returns-clause-list c =
-    let d = slice_eq-Decides note_eq-Decides c.self.inside.notes.items c.other.inside.notes.items c.eq.result c.eq.ensures in
+    let a = c.self.inside.notes.items in
+    let b = c.other.inside.notes.items in
+    let d = slice_eq-Decides note_eq-Decides a b c.eq.result c.eq.ensures in
     (λ h. sym c.self.view_is ∙ (d.0 h ∙ c.other.view_is), λ e. d.1 (c.self.view_is ∙ (e ∙ sym c.other.view_is)))
 
 pub returns-clause-members : goal.returns-clause-members

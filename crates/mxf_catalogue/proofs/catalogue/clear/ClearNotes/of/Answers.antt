@@ -4,4 +4,7 @@ use Rattle.mxf_catalogue.proofs.DisputeLaws.{length-clear_notes}
 use Rattle.mxf_catalogue.proofs.catalogue.clear.ClearNotes.of.Goals as goal
 
 pub returns-clause-bound : goal.returns-clause-bound
-returns-clause-bound c = let l : length (clear_notes c.args.notes.now) ≤ length c.args.notes.now = length-clear_notes c.args.notes.now in omega (arith, l)
+returns-clause-bound c =
+    let all = c.args.notes.now in
+    let l : length (clear_notes all) ≤ length all = length-clear_notes all in
+    omega (arith, l)

@@ -4,4 +4,7 @@ use Rattle.mxf_catalogue.proofs.DisputeLaws.{length-disputed_notes}
 use Rattle.mxf_catalogue.proofs.catalogue.disputed.DisputedNotes.of.Goals as goal
 
 pub returns-clause-bound : goal.returns-clause-bound
-returns-clause-bound c = let l : length (disputed_notes c.args.notes.now) ≤ length c.args.notes.now = length-disputed_notes c.args.notes.now in omega (arith, l)
+returns-clause-bound c =
+    let all = c.args.notes.now in
+    let l : length (disputed_notes all) ≤ length all = length-disputed_notes all in
+    omega (arith, l)
