@@ -1,9 +1,10 @@
-//! The run of the program: its words, its file, its lines.
-use crate::commands;
-use crate::exits::Exit;
-use crate::faults::AnswerFault;
-use crate::showing::show_slice;
-use crate::sources::{Source, parse_source};
+//! The run of the program: its arguments, its file, its lines, and its exit status.
+ghost use Rattle.std.specs.Prelude.{◌≡◌};
+ghost use Rattle.mxf_tool.specs.Exits.{status_of};
+
+use crate::command_line::{command, source_of};
+use crate::printing::{AnswerFault, show_slice};
+use crate::source::{Source, parse_source};
 use clap::error::ErrorKind;
 use std::io::{BufWriter, Read, Write};
 use std::rt::{Env, Files};
@@ -12,30 +13,60 @@ use std::{env, fs, io};
 /// The greatest number of bytes that is read of one piece.
 const GREATEST_PIECE: u64 = 1_099_511_627_776;
 
-/// Runs the program on the words that it was started with.
+/// How a run ended, and with which exit status.
+#[derive(Clone, Copy, Debug, PartialEq, Eq)]
+pub enum Exit {
+    /// All was printed; also help.
+    Done,
+    /// The arguments were refused, or one names no source.
+    Usage,
+    /// A source couldn't be opened or read.
+    Unread,
+    /// Want of memory.
+    NoMemory,
+    /// A write failed.
+    Unwritten,
+}
+
+impl Exit {
+    /// The exit status of the program.
+    pub fn status(self) -> u8
+        ensures { result ≡ status_of self }
+    {
+        match self {
+            Exit::Done => 0,
+            Exit::Usage => 2,
+            Exit::Unread => 3,
+            Exit::NoMemory => 5,
+            Exit::Unwritten => 6,
+        }
+    }
+}
+
+/// Runs the program on the arguments that it was started with.
 pub fn run<R: Files + Env + Print + Eprint + AllocGlobal>(rt: &R) -> Exit {
-    let words = match env::args(rt) {
-        Ok(words) => words,
-        Err(fault) => return words_fault(rt, &fault),
+    let arguments = match env::args(rt) {
+        Ok(arguments) => arguments,
+        Err(fault) => return unread_arguments(rt, &fault),
     };
-    let words: Vec<String> = match words.collect(rt.alloc()) {
-        Ok(words) => words,
+    let arguments: Vec<String> = match arguments.collect(rt.alloc()) {
+        Ok(arguments) => arguments,
         Err(_) => return no_memory(rt),
     };
-    let Ok(command) = commands::command(rt.alloc()) else {
+    let Ok(command) = command(rt.alloc()) else {
         return no_memory(rt);
     };
-    match command.try_get_matches_from(words.as_slice()) {
-        Ok(matches) => match commands::source_of(&matches) {
-            Some(word) => show(rt, word),
+    match command.try_get_matches_from(arguments.as_slice()) {
+        Ok(matches) => match source_of(&matches) {
+            Some(text) => show(rt, text),
             None => Exit::Usage,
         },
         Err(refusal) => refused(rt, &refusal),
     }
 }
 
-/// Tells why there are no words.
-fn words_fault<R: Eprint>(rt: &R, fault: &io::Error) -> Exit {
+/// Tells why there are no arguments.
+fn unread_arguments<R: Eprint>(rt: &R, fault: &io::Error) -> Exit {
     if fault.kind() == io::ErrorKind::OutOfMemory {
         return no_memory(rt);
     }
@@ -49,7 +80,7 @@ fn no_memory<R: Eprint>(rt: &R) -> Exit {
     Exit::NoMemory
 }
 
-/// Prints what `clap` says of words that it refused, or its help.
+/// Prints what `clap` says of arguments that it refused, or its help.
 fn refused<R: Print + Eprint>(rt: &R, refusal: &clap::Error) -> Exit {
     if refusal.kind() == ErrorKind::OutOfMemory {
         return no_memory(rt);
@@ -64,10 +95,10 @@ fn refused<R: Print + Eprint>(rt: &R, refusal: &clap::Error) -> Exit {
     }
 }
 
-/// Prints the packets of the source that the word names.
-fn show<R: Files + Print + Eprint + AllocGlobal>(rt: &R, word: &str) -> Exit {
-    let Ok(Source::Piece { offset, path }) = parse_source(word) else {
-        let _ = rt.eprintln(format_args!("bad source: {word}"));
+/// Prints the packets of the source that the text names.
+fn show<R: Files + Print + Eprint + AllocGlobal>(rt: &R, text: &str) -> Exit {
+    let Ok(Source::Piece { offset, path }) = parse_source(text) else {
+        let _ = rt.eprintln(format_args!("bad source: {text}"));
         return Exit::Usage;
     };
     match read_piece(rt, path) {

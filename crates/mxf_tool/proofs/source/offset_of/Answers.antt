@@ -3,7 +3,7 @@ use Rattle.std.specs.Str.{all_ascii_digits}
 use Rattle.std.proofs.lemmas.Bool.{both_ways}
 use Rattle.std.proofs.lemmas.Str.Parse.{parse_digits}
 use Rattle.mxf_tool.proofs.SourceLaws.{numerals, list_all-digits}
-use Rattle.mxf_tool.proofs.sources.offset_of.Goals as goal
+use Rattle.mxf_tool.proofs.source.offset_of.Goals as goal
 
 pub returns-then-not-has_digits_alone : goal.returns-then-not-has_digits_alone
 returns-then-not-has_digits_alone c offset i =

@@ -1,9 +1,9 @@
-//! Sources, as the words name them.
-ghost use Rattle.std.specs.Prelude.{◌≡◌, List, ℕ, Result, MatchOption};
+//! Sources, and the texts that name them.
+ghost use Rattle.std.specs.Prelude.{◌≡◌, ℕ, List, Result, Ok, Err, IfOk, IfErr, MatchOption};
 ghost use Rattle.std.specs.List.{list_all};
 ghost use Rattle.std.specs.Char.{is_ascii_digit};
-ghost use Rattle.mxf_tool.specs.Sources.{IsOffset, ReadsSource, SourceParts, parts_of_result};
-ghost use Rattle.mxf_tool.specs.declared.sources.SourceFault.{SourceFault};
+ghost use Rattle.mxf_tool.specs.Sources.{IsOffset, ReadsSource, SourceParts, source_parts};
+ghost use Rattle.mxf_tool.specs.declared.source.SourceFault.{SourceFault};
 
 use mxf_klv::MAX;
 use thiserror::Error;
@@ -17,10 +17,10 @@ pub enum Source<'a> {
     Saved { path: &'a str },
 }
 
-/// Why a word names no source. The causes are tested in this order.
+/// Why a text names no source. The causes are tested in this order.
 #[derive(Clone, Copy, Debug, PartialEq, Eq, Error)]
 pub enum SourceFault {
-    /// The word begins neither `at:` nor `cat:`.
+    /// The text begins neither `at:` nor `cat:`.
     #[error("no scheme")]
     NoScheme,
     /// After `at:` there is no second colon, or before it no digit, another character, or a number above `MAX`.
@@ -55,16 +55,17 @@ fn offset_of(digits: &str) -> Option<u64>
 }
 
 /// Reads `at:OFFSET:PATH` or `cat:PATH`. PATH is all that follows, and may hold colons.
-pub fn parse_source(word: &str) -> Result<Source<'_>, SourceFault>
-    ensures { ReadsSource word.now (parts_of_result result) }
+pub fn parse_source(text: &str) -> Result<Source<'_>, SourceFault>
+    ensures source { IfOk result (λ source. ReadsSource text.now (Ok (source_parts source))) }
+    ensures fault { IfErr result (λ fault. ReadsSource text.now (Err fault)) }
 {
-    if let Some(path) = word.strip_prefix("cat:") {
+    if let Some(path) = text.strip_prefix("cat:") {
         if path.is_empty() {
             return Err(SourceFault::NoPath);
         }
         return Ok(Source::Saved { path });
     }
-    let Some(rest) = word.strip_prefix("at:") else {
+    let Some(rest) = text.strip_prefix("at:") else {
         return Err(SourceFault::NoScheme);
     };
     let Some((digits, path)) = rest.split_once(':') else {
@@ -79,7 +80,8 @@ pub fn parse_source(word: &str) -> Result<Source<'_>, SourceFault>
     Ok(Source::Piece { offset, path })
 }
 
-/// A law: a word names one source, or has one of the faults.
+/// A law: a text names one source, or has one of the faults.
 pub fn one_source()
-    ensures { (word : List ℕ) (r s : Result SourceParts SourceFault) → ReadsSource word r → ReadsSource word s → r ≡ s }
+    ensures { (text : List ℕ) (r s : Result SourceParts SourceFault)
+        → ReadsSource text r → ReadsSource text s → r ≡ s }
 {}
