@@ -12,29 +12,18 @@
 //! That memory is there, and that a call succeeds with it, is tested.
 #![tactic(auto)]
 
-mod catalogues;
-mod changes;
-mod clear_notes;
-mod disputed_notes;
-mod disputes;
-mod faults;
-mod iterating;
-mod joining;
-mod laws;
-mod merging;
+mod catalogue;
+mod history;
+mod semilattice;
 
-pub use catalogues::Catalogue;
-pub use changes::Change;
-pub use clear_notes::ClearNotes;
-pub use disputed_notes::{Disputed, DisputedNotes};
-pub use faults::AddFault;
-pub use iterating::Notes;
-pub use joining::Semilattice;
-pub use laws::{
+pub use catalogue::{
+    AddFault, Catalogue, Change, ClearNotes, Disputed, DisputedNotes, Notes,
     clear_notes_by_definition, clear_notes_stand_apart, contents_are_sets,
-    disputed_notes_by_definition, disputes_by_tests, histories_leave_what_they_were_handed,
-    notes_are_clear_or_disputed, notes_are_disputed_in_two_ways, one_set_one_content,
+    disputed_notes_by_definition, disputes_by_tests, notes_are_clear_or_disputed,
+    notes_are_disputed_in_two_ways,
 };
+pub use history::{histories_leave_what_they_were_handed, one_set_one_content};
+pub use semilattice::Semilattice;
 
 #[cfg(test)]
 mod tests;

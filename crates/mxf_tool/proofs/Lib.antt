@@ -1,2 +1,3 @@
-pub mod SourceLaws
+pub mod HexadecimalLaws
 pub mod PrintLaws
+pub mod SourceLaws

@@ -1,13 +1,13 @@
--- A word names one source, or has one of the faults.
+-- A text names one source, or has one of the faults.
 use Rattle.std.proofs.Common.{◌≡◌, ℕ, ◌<◌, ◌&&◌, true, List, [], ◌∷◌, ◌++◌, length, Result, Ok, Err, refl, sym, ap, subst, ◌∙◌, arith, inl, inr, rules, get_or}
 use Rattle.std.specs.List.{list_all}
 use Rattle.std.specs.Char.{is_ascii_digit}
 use Rattle.std.specs.Str.{all_ascii_digits}
 use Rattle.std.proofs.lemmas.Bool.{and_parts}
 use Rattle.std.proofs.lemmas.Str.Parse.{IsNumeralModel, numerals_by_fold, not_in_digits}
-use Rattle.mxf_tool.specs.Sources.{SourceParts, Piece, Saved, at_word, cat_word, decimal_from, SplitsSource, ReadsSource}
-use Rattle.mxf_tool.specs.declared.sources.SourceFault.{SourceFault}
-use Rattle.mxf_tool.specs.declared.sources.SourceFault.TheVariants.{NoScheme, BadOffset, NoPath}
+use Rattle.mxf_tool.specs.Sources.{SourceParts, Piece, Saved, at_scheme, cat_scheme, decimal_from, SplitsSource, ReadsSource}
+use Rattle.mxf_tool.specs.declared.source.SourceFault.{SourceFault}
+use Rattle.mxf_tool.specs.declared.source.SourceFault.TheVariants.{NoScheme, BadOffset, NoPath}
 
 -- digits and their number are std's
 pub numerals : IsNumeralModel (λ ds. all_ascii_digits ds ≡ true) (decimal_from 0)
@@ -50,49 +50,49 @@ piece o p = Ok (Piece o p)
 abbrev saved : List ℕ → Result SourceParts SourceFault
 saved p = Ok (Saved p)
 
-same_rest : (x y : List ℕ) → at_word ++ x ≡ at_word ++ y → x ≡ y
+same_rest : (x y : List ℕ) → at_scheme ++ x ≡ at_scheme ++ y → x ≡ y
 same_rest x y e = (heads 58 58 x y ((heads 116 116 (58 ∷ x) (58 ∷ y) ((heads 97 97 (116 ∷ 58 ∷ x) (116 ∷ 58 ∷ y) e).1)).1)).1
 
-same_path : (x y : List ℕ) → cat_word ++ x ≡ cat_word ++ y → x ≡ y
+same_path : (x y : List ℕ) → cat_scheme ++ x ≡ cat_scheme ++ y → x ≡ y
 same_path x y e = same_rest_of (heads 99 99 (97 ∷ 116 ∷ 58 ∷ x) (97 ∷ 116 ∷ 58 ∷ y) e).1 where
   same_rest_of : 97 ∷ 116 ∷ 58 ∷ x ≡ 97 ∷ 116 ∷ 58 ∷ y → x ≡ y
   same_rest_of f = same_rest x y f
 
-other_front : (x y : List ℕ) → at_word ++ x ≡ cat_word ++ y → ⊥
+other_front : (x y : List ℕ) → at_scheme ++ x ≡ cat_scheme ++ y → ⊥
 other_front x y e = omega (arith, (heads 97 99 (116 ∷ 58 ∷ x) (97 ∷ 116 ∷ 58 ∷ y) e).0)
 
 abbrev At : List ℕ → List ℕ → Type 0
-At word rest = word ≡ at_word ++ rest
+At text rest = text ≡ at_scheme ++ rest
 
-split_at_rest : (word r s digits path : List ℕ) (o : ℕ) → At word r → At word s → SplitsSource r digits path o → SplitsSource s digits path o
-split_at_rest word r s digits path o e f p = subst (λ (t : List ℕ). SplitsSource t digits path o) (same_rest r s (sym e ∙ f)) p
+split_at_rest : (text r s digits path : List ℕ) (o : ℕ) → At text r → At text s → SplitsSource r digits path o → SplitsSource s digits path o
+split_at_rest text r s digits path o e f p = subst (λ (t : List ℕ). SplitsSource t digits path o) (same_rest r s (sym e ∙ f)) p
 
 -- a source and a fault exclude each other
-one_or_fault : (word : List ℕ) (y : SourceParts) (d : SourceFault) → ReadsSource word (Ok y) → ReadsSource word (Err d) → ⊥
-one_or_fault word (Piece m x) NoScheme (p, (a, r, e, u)) q = ((q r).0 e)
-one_or_fault word (Piece m x) BadOffset (p, (a, r, e, u)) q = (q.2 a x m (split_at_rest word r q.0 a x m e q.1 u))
-one_or_fault word (Piece m x) NoPath (p, (a, r, e, u)) (inl q) = (other_front r [] (sym e ∙ q))
-one_or_fault word (Piece m x) NoPath (p, (a, r, e, u)) (inr (b, s, n, f, v)) =
-    let both = same_split s a b x [] m n (split_at_rest word r s a x m e f u) v in
+one_or_fault : (text : List ℕ) (y : SourceParts) (d : SourceFault) → ReadsSource text (Ok y) → ReadsSource text (Err d) → ⊥
+one_or_fault text (Piece m x) NoScheme (p, (a, r, e, u)) q = ((q r).0 e)
+one_or_fault text (Piece m x) BadOffset (p, (a, r, e, u)) q = (q.2 a x m (split_at_rest text r q.0 a x m e q.1 u))
+one_or_fault text (Piece m x) NoPath (p, (a, r, e, u)) (inl q) = (other_front r [] (sym e ∙ q))
+one_or_fault text (Piece m x) NoPath (p, (a, r, e, u)) (inr (b, s, n, f, v)) =
+    let both = same_split s a b x [] m n (split_at_rest text r s a x m e f u) v in
     let empty : length x ≡ 0 = ap length both.1 in omega arith
-one_or_fault word (Saved x) NoScheme p q = ((q x).1 p.0)
-one_or_fault word (Saved x) BadOffset p q = (other_front q.0 x (sym q.1 ∙ p.0))
-one_or_fault word (Saved x) NoPath p (inl q) = let empty : length x ≡ 0 = ap length (same_path x [] (sym p.0 ∙ q)) in let some = p.1 in omega arith
-one_or_fault word (Saved x) NoPath p (inr (b, s, n, f, v)) = (other_front s x (sym f ∙ p.0))
+one_or_fault text (Saved x) NoScheme p q = ((q x).1 p.0)
+one_or_fault text (Saved x) BadOffset p q = (other_front q.0 x (sym q.1 ∙ p.0))
+one_or_fault text (Saved x) NoPath p (inl q) = let empty : length x ≡ 0 = ap length (same_path x [] (sym p.0 ∙ q)) in let some = p.1 in omega arith
+one_or_fault text (Saved x) NoPath p (inr (b, s, n, f, v)) = (other_front s x (sym f ∙ p.0))
 
-pub one_source : (word : List ℕ) (r s : Result SourceParts SourceFault) → ReadsSource word r → ReadsSource word s → r ≡ s
-one_source word (Ok (Piece m x)) (Ok (Piece n y)) (p, (a, r, e, u)) (q, (b, s, f, v)) =
-    let both = same_split s a b x y m n (split_at_rest word r s a x m e f u) v in
+pub one_source : (text : List ℕ) (r s : Result SourceParts SourceFault) → ReadsSource text r → ReadsSource text s → r ≡ s
+one_source text (Ok (Piece m x)) (Ok (Piece n y)) (p, (a, r, e, u)) (q, (b, s, f, v)) =
+    let both = same_split s a b x y m n (split_at_rest text r s a x m e f u) v in
     let o : m ≡ n = both.0 in
     let z : x ≡ y = both.1 in
     (λ i. piece (o i) (z i))
-one_source word (Ok (Piece m x)) (Ok (Saved y)) (p, (a, r, e, u)) q = absurd (other_front r y (sym e ∙ q.0))
-one_source word (Ok (Saved x)) (Ok (Piece n y)) p (q, (b, s, f, v)) = absurd (other_front s x (sym f ∙ p.0))
-one_source word (Ok (Saved x)) (Ok (Saved y)) p q = let z : x ≡ y = same_path x y (sym p.0 ∙ q.0) in (λ i. saved (z i))
-one_source word (Ok y) (Err d) p q = absurd (one_or_fault word y d p q)
-one_source word (Err d) (Ok y) p q = absurd (one_or_fault word y d q p)
-one_source word (Err d) (Err e) p q = ap (λ (f : SourceFault). Err f) (one_fault d e p q) where
-  one_fault : (d e : SourceFault) → ReadsSource word (Err d) → ReadsSource word (Err e) → d ≡ e
+one_source text (Ok (Piece m x)) (Ok (Saved y)) (p, (a, r, e, u)) q = absurd (other_front r y (sym e ∙ q.0))
+one_source text (Ok (Saved x)) (Ok (Piece n y)) p (q, (b, s, f, v)) = absurd (other_front s x (sym f ∙ p.0))
+one_source text (Ok (Saved x)) (Ok (Saved y)) p q = let z : x ≡ y = same_path x y (sym p.0 ∙ q.0) in (λ i. saved (z i))
+one_source text (Ok y) (Err d) p q = absurd (one_or_fault text y d p q)
+one_source text (Err d) (Ok y) p q = absurd (one_or_fault text y d q p)
+one_source text (Err d) (Err e) p q = ap (λ (f : SourceFault). Err f) (one_fault d e p q) where
+  one_fault : (d e : SourceFault) → ReadsSource text (Err d) → ReadsSource text (Err e) → d ≡ e
   one_fault NoScheme NoScheme p q = refl
   one_fault NoScheme BadOffset p q = absurd ((p q.0).0 q.1)
   one_fault NoScheme NoPath p (inl q) = absurd ((p []).1 q)
@@ -100,9 +100,9 @@ one_source word (Err d) (Err e) p q = ap (λ (f : SourceFault). Err f) (one_faul
   one_fault BadOffset NoScheme p q = absurd ((q p.0).0 p.1)
   one_fault BadOffset BadOffset p q = refl
   one_fault BadOffset NoPath p (inl q) = absurd (other_front p.0 [] (sym p.1 ∙ q))
-  one_fault BadOffset NoPath p (inr (b, s, n, f, v)) = absurd (p.2 b [] n (split_at_rest word s p.0 b [] n f p.1 v))
+  one_fault BadOffset NoPath p (inr (b, s, n, f, v)) = absurd (p.2 b [] n (split_at_rest text s p.0 b [] n f p.1 v))
   one_fault NoPath NoScheme (inl p) q = absurd ((q []).1 p)
   one_fault NoPath NoScheme (inr (b, s, n, f, v)) q = absurd ((q s).0 f)
   one_fault NoPath BadOffset (inl p) q = absurd (other_front q.0 [] (sym q.1 ∙ p))
-  one_fault NoPath BadOffset (inr (b, s, n, f, v)) q = absurd (q.2 b [] n (split_at_rest word s q.0 b [] n f q.1 v))
+  one_fault NoPath BadOffset (inr (b, s, n, f, v)) q = absurd (q.2 b [] n (split_at_rest text s q.0 b [] n f q.1 v))
   one_fault NoPath NoPath p q = refl

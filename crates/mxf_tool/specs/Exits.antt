@@ -1,7 +1,7 @@
 -- The exit statuses (this project's profile).
 use Rattle.std.specs.Prelude.{ℕ}
-use Rattle.mxf_tool.specs.declared.exits.Exit.{Exit}
-use Rattle.mxf_tool.specs.declared.exits.Exit.TheVariants.{Done, Usage, Unread, NoMemory, Unwritten}
+use Rattle.mxf_tool.specs.declared.program.Exit.{Exit}
+use Rattle.mxf_tool.specs.declared.program.Exit.TheVariants.{Done, Usage, Unread, NoMemory, Unwritten}
 
 -- The exit status of each end of a run.
 abbrev pub status_of : Exit → ℕ

@@ -1,11 +1,12 @@
--- The words that name sources (this project's profile).
-use Rattle.std.specs.Prelude.{◌≡◌, ℕ, ◌+◌, ◌-◌, ◌*◌, ◌<◌, ◌≤◌, ◌⊎◌, true, List, [], ◌∷◌, ◌++◌, length, Result, Ok, Err}
+-- The texts that name sources on the command line (this project's profile).
+use Rattle.std.specs.Prelude.{◌≡◌, ℕ, ◌+◌, ◌-◌, ◌*◌, ◌<◌, ◌≤◌, ◌⊎◌, true, List, [], ◌∷◌, ◌++◌}
+use Rattle.std.specs.Prelude.{length, slice_index, codes, Result, Ok, Err}
 use Rattle.std.specs.Str.{all_ascii_digits}
 use Rattle.mxf_klv.specs.Note.{greatest_end}
-use Rattle.mxf_tool.specs.declared.sources.Source.{Source}
-use Rattle.mxf_tool.specs.declared.sources.Source.TheVariants as sources
-use Rattle.mxf_tool.specs.declared.sources.SourceFault.{SourceFault}
-use Rattle.mxf_tool.specs.declared.sources.SourceFault.TheVariants.{NoScheme, BadOffset, NoPath}
+use Rattle.mxf_tool.specs.declared.source.Source.{Source}
+use Rattle.mxf_tool.specs.declared.source.Source.TheVariants as sources
+use Rattle.mxf_tool.specs.declared.source.SourceFault.{SourceFault}
+use Rattle.mxf_tool.specs.declared.source.SourceFault.TheVariants.{NoScheme, BadOffset, NoPath}
 
 -- A source: a piece of a file from an offset on, or a saved catalogue.
 pub data SourceParts : Type 0 where
@@ -16,21 +17,20 @@ abbrev pub source_parts : Source → SourceParts
 source_parts (sources.Piece offset path) = Piece offset path.now
 source_parts (sources.Saved path) = Saved path.now
 
-abbrev pub parts_of_result : Result Source SourceFault → Result SourceParts SourceFault
-parts_of_result (Ok source) = Ok (source_parts source)
-parts_of_result (Err fault) = Err fault
+abbrev pub at_scheme : List ℕ
+at_scheme = codes "at:"
 
--- `at:` and `cat:`
-abbrev pub at_word : List ℕ
-at_word = 97 ∷ 116 ∷ 58 ∷ []
+abbrev pub cat_scheme : List ℕ
+cat_scheme = codes "cat:"
 
-abbrev pub cat_word : List ℕ
-cat_word = 99 ∷ 97 ∷ 116 ∷ 58 ∷ []
+-- The value of a decimal digit.
+abbrev pub digit_of : ℕ → ℕ
+digit_of c = c - slice_index (codes "0") 0
 
 -- The number that decimal digits write, after the number so far.
 abbrev pub decimal_from : ℕ → List ℕ → ℕ
 decimal_from n [] = n
-decimal_from n (c ∷ cs) = decimal_from (n * 10 + (c - 48)) cs
+decimal_from n (c ∷ cs) = decimal_from (n * 10 + digit_of c) cs
 
 -- The text is one or more decimal digits that write the offset, which is at most the greatest end of a packet.
 pub record IsOffset (text : List ℕ) (offset : ℕ) : Type 0 where
@@ -39,16 +39,21 @@ pub record IsOffset (text : List ℕ) (offset : ℕ) : Type 0 where
   pub value : offset ≡ decimal_from 0 text
   pub within : offset ≤ greatest_end
 
--- The rest of an `at:` word is an offset, a colon and a path.
+-- What follows `at:` is an offset, a colon and a path.
 pub record SplitsSource (rest digits path : List ℕ) (offset : ℕ) : Type 0 where
-  pub whole : rest ≡ digits ++ 58 ∷ path
+  pub whole : rest ≡ digits ++ (codes ":" ++ path)
   pub place : IsOffset digits offset
 
--- What a word names: `at:OFFSET:PATH` a piece, `cat:PATH` a catalogue. A word with neither front has no scheme; after
+-- What a source text names: `at:OFFSET:PATH` a piece, `cat:PATH` a catalogue. Else it begins with no scheme; or after
 -- `at:` stands no offset with a colon after it; or the path is empty.
 abbrev pub ReadsSource : List ℕ → Result SourceParts SourceFault → Type 0
-ReadsSource word (Ok (Piece offset path)) = (0 < length path) × ((digits rest : List ℕ) × (word ≡ at_word ++ rest) × SplitsSource rest digits path offset)
-ReadsSource word (Ok (Saved path)) = (word ≡ cat_word ++ path) × (0 < length path)
-ReadsSource word (Err NoScheme) = (rest : List ℕ) → (word ≡ at_word ++ rest → ⊥) × (word ≡ cat_word ++ rest → ⊥)
-ReadsSource word (Err BadOffset) = (rest : List ℕ) × (word ≡ at_word ++ rest) × ((digits path : List ℕ) (offset : ℕ) → SplitsSource rest digits path offset → ⊥)
-ReadsSource word (Err NoPath) = (word ≡ cat_word) ⊎ ((digits rest : List ℕ) × (offset : ℕ) × (word ≡ at_word ++ rest) × SplitsSource rest digits [] offset)
+ReadsSource text (Ok (Piece offset path)) =
+    (0 < length path) × ((digits rest : List ℕ) × (text ≡ at_scheme ++ rest) × SplitsSource rest digits path offset)
+ReadsSource text (Ok (Saved path)) = (text ≡ cat_scheme ++ path) × (0 < length path)
+ReadsSource text (Err NoScheme) = (rest : List ℕ) → (text ≡ at_scheme ++ rest → ⊥) × (text ≡ cat_scheme ++ rest → ⊥)
+ReadsSource text (Err BadOffset) =
+    (rest : List ℕ) × (text ≡ at_scheme ++ rest)
+    × ((digits path : List ℕ) (offset : ℕ) → SplitsSource rest digits path offset → ⊥)
+ReadsSource text (Err NoPath) =
+    (text ≡ cat_scheme)
+    ⊎ ((digits rest : List ℕ) × (offset : ℕ) × (text ≡ at_scheme ++ rest) × SplitsSource rest digits [] offset)

@@ -1,7 +1,7 @@
 //! Worked examples.
-use crate::hexadecimal::hex_text;
-use crate::showing::show_slice;
-use crate::sources::{Source, SourceFault, parse_source};
+use crate::printing::hexadecimal::hex_text;
+use crate::printing::show_slice;
+use crate::source::{Source, SourceFault, parse_source};
 use crate::walking::walk;
 use mxf_klv::Stop;
 use std::alloc::Global;

@@ -1,26 +1,61 @@
 //! Taking the packets of a piece, one after another.
-ghost use Rattle.std.specs.Prelude.{◌≡◌, ◌≤◌, IfOk, length};
-ghost use Rattle.mxf_klv.specs.Note.{end_of, greatest_end, note_of};
+ghost use Rattle.std.specs.Prelude.{◌≡◌, ◌++◌, ◌∷◌, [], IfOk, OnOk, length};
 ghost use Rattle.mxf_klv.specs.PieceReading.{notes_in, stop_in};
 
-use crate::listing::{NoteList, Walk};
-use mxf_klv::{Note, NoteFault, OutOfMemory, Packet, next_packet};
+use mxf_klv::{Note, OutOfMemory, Stop, next_packet};
 use std::alloc::Global;
+use std::marker::Model;
 
-/// The note of a packet that ends where it may.
-fn noted(alloc: Global, offset: u64, packet: &Packet<'_>) -> Result<Note, OutOfMemory>
-    requires { end_of (note_of offset packet.now) ≤ greatest_end }
-    ensures { IfOk result (λ n. n ≡ note_of offset packet.now) }
-{
-    match Note::of(alloc, offset, packet) {
-        Ok(note) => Ok(note),
-        Err(NoteFault::OutOfMemory) => Err(OutOfMemory),
-        Err(NoteFault::TooFar) => unreachable!(),
+/// Notes in the order in which they were found.
+#[derive(Debug, Drop)]
+pub struct NoteList {
+    items: Vec<Note>,
+}
+
+impl Model for NoteList {
+    ghost use Rattle.std.specs.Prelude.{List};
+    ghost use Rattle.mxf_klv.specs.Parts.{NoteParts};
+
+    ghost Value = { List NoteParts };
+
+    ghost view = { λ l. l.items.items };
+}
+
+impl NoteList {
+    /// No notes.
+    pub fn new(alloc: Global) -> NoteList
+        ensures { result ≡ [] }
+    {
+        NoteList {
+            items: Vec::new(alloc),
+        }
+    }
+
+    /// Adds a note at the end.
+    pub fn push(&mut self, note: Note) -> Result<(), OutOfMemory>
+        ensures { OnOk result (self.new ≡ self.old ++ note ∷ []) }
+    {
+        self.items.push(note)?;
+        Ok(())
+    }
+
+    /// The notes.
+    pub fn as_slice(&self) -> &[Note]
+        ensures { result.now ≡ self.now }
+    {
+        self.items.as_slice()
     }
 }
 
+/// What a piece holds: the notes of its packets in order, and why they end.
+#[derive(Debug, Drop)]
+pub struct PieceNotes {
+    pub notes: NoteList,
+    pub stop: Stop,
+}
+
 /// The notes of the packets of a piece whose first byte lies at a file offset, and why they end.
-pub fn walk(alloc: Global, offset: u64, bytes: &[u8]) -> Result<Walk, OutOfMemory>
+pub fn walk(alloc: Global, offset: u64, bytes: &[u8]) -> Result<PieceNotes, OutOfMemory>
     ensures notes { IfOk result (λ w. w.notes ≡ notes_in offset bytes.now) }
     ensures stop { IfOk result (λ w. w.stop ≡ stop_in offset bytes.now) }
 {
@@ -30,13 +65,13 @@ pub fn walk(alloc: Global, offset: u64, bytes: &[u8]) -> Result<Walk, OutOfMemor
     'packets: loop {
         match next_packet(at, rest) {
             Ok((packet, size)) => {
-                let note = noted(alloc, at, &packet)?;
+                let note = Note::of(alloc, at, &packet).map_err(|_| OutOfMemory)?;
                 notes.push(note)?;
                 at += size as u64;
                 let (_, after) = rest.split_at(size);
                 rest = after;
             }
-            Err(stop) => return Ok(Walk { notes, stop }),
+            Err(stop) => return Ok(PieceNotes { notes, stop }),
         }
     }
 }

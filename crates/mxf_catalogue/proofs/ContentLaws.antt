@@ -1,0 +1,70 @@
+-- Contents as sets of notes.
+use Rattle.std.specs.Prelude.{◌≡◌, ◌↔◌, ◌⊎◌, List, [], ◌∷◌}
+use Rattle.std.specs.Bool.{Decides}
+use Rattle.std.specs.Cmp.{Equal-is}
+use Rattle.std.specs.List.{AllByRecursion}
+use Rattle.std.specs.Ordering.{eq_by_cmp}
+use Rattle.std.specs.declared.cmp.Ordering.TheVariants.{Equal}
+use Rattle.std.proofs.Common.{subst, sym, inl, inr, refl}
+use Rattle.std.proofs.lemmas.Cmp.{tied_itself}
+use Rattle.mxf_klv.specs.Parts.{NoteParts}
+use Rattle.mxf_klv.specs.Note.{IsNote, note_cmp}
+use Rattle.mxf_klv.specs.NoteOrder.{note_total, note_cmp-IsAntisymmetric}
+use Rattle.mxf_klv.specs.Rising.{In, SameMembers, same_from_members, In-with_one, In-union}
+use Rattle.mxf_klv.specs.Rising.{IsRising-with_one, IsRising-union}
+use Rattle.mxf_catalogue.specs.Content.{IsContent, IsCatalogue, with_note, union_of}
+
+-- contents with the same notes are one list
+pub same_content : (a b : List NoteParts) → IsContent a → IsContent b → SameMembers a b → a ≡ b
+same_content = same_from_members note_total note_cmp-IsAntisymmetric
+
+pub In-with_note : (m n : NoteParts) (notes : List NoteParts) → In m (with_note n notes) ↔ (m ≡ n) ⊎ In m notes
+In-with_note m n notes = In-with_one note_total note_cmp-IsAntisymmetric m n notes
+
+pub In-union_of : (n : NoteParts) (a b : List NoteParts) → In n (union_of a b) ↔ In n a ⊎ In n b
+In-union_of n a b = In-union note_total note_cmp-IsAntisymmetric n a b
+
+pub IsContent-with_note : (n : NoteParts) (notes : List NoteParts) → IsContent notes → IsContent (with_note n notes)
+IsContent-with_note = IsRising-with_one note_total note_cmp-IsAntisymmetric
+
+pub IsContent-union_of : (a b : List NoteParts) → IsContent a → IsContent (union_of a b)
+IsContent-union_of = IsRising-union note_total note_cmp-IsAntisymmetric
+
+pub all_from_In : {K : Type 0} (P : K → Type 0) (xs : List K) → ((x : K) → In x xs → P x) → AllByRecursion P xs
+all_from_In P [] f = tt
+all_from_In P (x ∷ xs) f = (f x (inl refl), all_from_In P xs (λ y h. f y (inr h)))
+
+pub all-In : {K : Type 0} (P : K → Type 0) (xs : List K) (x : K) → AllByRecursion P xs → In x xs → P x
+all-In P [] x all h = absurd h
+all-In P (y ∷ ys) x all (inl e) = subst P (sym e) all.0
+all-In P (y ∷ ys) x all (inr h) = all-In P ys x all.1 h
+
+-- what a catalogue with one more note is
+pub IsCatalogue-with_note : (n : NoteParts) (notes : List NoteParts) → IsNote n → IsCatalogue notes
+    → IsCatalogue (with_note n notes)
+IsCatalogue-with_note n notes is c = record {
+  content = IsContent-with_note n notes c.content;
+  members = all_from_In IsNote (with_note n notes)
+      (λ m h. elim ((In-with_note m n notes).0 h) [
+        | inl e ↦ subst IsNote (sym e) is
+        | inr k ↦ all-In IsNote notes m c.members k
+      ]);
+}
+
+-- what a join of catalogues is
+pub IsCatalogue-union_of : (a b : List NoteParts) → IsCatalogue a → IsCatalogue b → IsCatalogue (union_of a b)
+IsCatalogue-union_of a b c d = record {
+  content = IsContent-union_of a b c.content;
+  members = all_from_In IsNote (union_of a b)
+      (λ m h. elim ((In-union_of m a b).0 h) [
+        | inl k ↦ all-In IsNote a m c.members k
+        | inr k ↦ all-In IsNote b m d.members k
+      ]);
+}
+
+-- `==` of notes tells whether they are one
+pub note_eq-Decides : (a b : NoteParts) → Decides (eq_by_cmp note_cmp a b) (a ≡ b)
+note_eq-Decides a b = (
+  λ h. note_cmp-IsAntisymmetric a b ((Equal-is (note_cmp a b)).0 h),
+  λ e. (Equal-is (note_cmp a b)).1 (subst (λ c. note_cmp a c ≡ Equal) e (tied_itself note_total a)),
+)

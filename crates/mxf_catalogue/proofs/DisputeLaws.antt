@@ -1,0 +1,265 @@
+-- The tests of disputes say what the relations say.
+use Rattle.std.specs.Prelude.{◌≡◌, ◌≢◌, ◌↔◌, ◌⊎◌, ◌+◌, ◌<◌, ◌≤◌, ℕ, Bool, true, false, not, ◌&&◌, nat_lt, ◌==◌}
+use Rattle.std.specs.Prelude.{List, [], ◌∷◌, cond, filter, find, length, map, max, Some, None, IsTrue, refl}
+use Rattle.std.specs.declared.cmp.Ordering.TheVariants.{Less}
+use Rattle.std.proofs.Common.{sym, ◌∙◌, ap, subst, inl, inr, arith, eqb-true, eq-eqb}
+use Rattle.std.proofs.lemmas.List.{length-map}
+use Rattle.std.proofs.lemmas.Bool.{and_from, and_parts, or_cases, or_left, or_right, ltb-true, lt-ltb}
+use Rattle.mxf_klv.specs.Parts.{NoteParts}
+use Rattle.mxf_klv.specs.Note.{end_of, note_cmp}
+use Rattle.mxf_klv.specs.Rising.{In}
+use Rattle.mxf_catalogue.specs.Content.{IsContent}
+use Rattle.mxf_catalogue.specs.Disputes.{SharesByte, SharesOffset, Overlaps, IsDisputed, IsClear}
+use Rattle.mxf_catalogue.specs.Disputes.{DisputedParts, IsDisputedOf, disputed_parts, clear_notes, disputed_notes}
+use Rattle.mxf_catalogue.specs.Disputes.{is_same_note, is_byte_shared, is_offset_shared, is_overlapped, is_disputed}
+use Rattle.mxf_catalogue.proofs.ContentLaws.{note_eq-Decides}
+use Rattle.mxf_catalogue.proofs.Lists.{list_any-In, In-filter, all-filter, length-filter_le, In-map}
+use Rattle.mxf_catalogue.proofs.Lists.{found-In, none_found, find-none, find-only}
+
+not_true : (b : Bool) → (b ≡ true → ⊥) → not b ≡ true
+not_true true f = absurd (f refl)
+not_true false f = refl
+
+not-true-false : (b : Bool) → not b ≡ true → b ≡ true → ⊥
+not-true-false true h e = cc
+not-true-false false h e = cc
+
+same_bool : (a b : Bool) → (IsTrue a → IsTrue b) → (IsTrue b → IsTrue a) → a ≡ b
+same_bool true b f g = sym (f refl)
+same_bool false true f g = g refl
+same_bool false false f g = refl
+
+-- the test of shared bytes
+pub is_byte_shared-SharesByte : (m n : NoteParts) → IsTrue (is_byte_shared m n) ↔ SharesByte m n
+is_byte_shared-SharesByte m n = (
+  λ h.
+      let p = and_parts (nat_lt m.offset (end_of n)) (nat_lt n.offset (end_of m)) h in
+      let a : m.offset < end_of n = ltb-true _ _ p.0 in
+      let b : n.offset < end_of m = ltb-true _ _ p.1 in (
+        max m.offset n.offset,
+        record { from = omega arith; before = omega arith },
+        record { from = omega arith; before = omega arith },
+      ),
+  λ s.
+      let i : s.0 + 1 ≤ end_of m = s.1.before in let j : m.offset ≤ s.0 = s.1.from in
+      let k : s.0 + 1 ≤ end_of n = s.2.before in let l : n.offset ≤ s.0 = s.2.from in
+      and_from _ _ (lt-ltb m.offset (end_of n) (omega arith)) (lt-ltb n.offset (end_of m) (omega arith)),
+)
+
+-- spans are never empty: notes at one offset share its byte
+SharesByte-same_offset : (m n : NoteParts) → m.offset ≡ n.offset → SharesByte m n
+SharesByte-same_offset m n e = (
+  m.offset,
+  record { from = omega arith; before = omega arith },
+  record { from = omega arith; before = omega arith },
+)
+
+SharesByte-symmetric : (m n : NoteParts) → SharesByte m n → SharesByte n m
+SharesByte-symmetric m n s = (s.0, s.2, s.1)
+
+-- the test of shared offsets
+pub is_offset_shared-SharesOffset : (n : NoteParts) (notes : List NoteParts)
+    → IsTrue (is_offset_shared n notes) ↔ SharesOffset n notes
+is_offset_shared-SharesOffset n notes =
+    let l = list_any-In (λ m. (m.offset == n.offset) && not (is_same_note m n)) notes in (
+      λ h.
+          let s = l.0 h in
+          let p = and_parts (s.0.offset == n.offset) (not (is_same_note s.0 n)) s.2 in
+          let other = λ (e : s.0 ≡ n). not-true-false (is_same_note s.0 n) p.1 ((note_eq-Decides s.0 n).1 e) in
+          (s.0, s.1, other, eqb-true _ _ p.0),
+      λ s.
+          let other = not_true (is_same_note s.0 n) (λ e. s.2 ((note_eq-Decides s.0 n).0 e)) in
+          l.1 (s.0, s.1, and_from (s.0.offset == n.offset) (not (is_same_note s.0 n)) (eq-eqb _ _ s.3) other),
+    )
+
+-- the test of overlaps
+pub is_overlapped-Overlaps : (n : NoteParts) (notes : List NoteParts)
+    → IsTrue (is_overlapped n notes) ↔ Overlaps n notes
+is_overlapped-Overlaps n notes =
+    let l = list_any-In (λ m. not (m.offset == n.offset) && is_byte_shared m n) notes in (
+      λ h.
+          let s = l.0 h in
+          let p = and_parts (not (s.0.offset == n.offset)) (is_byte_shared s.0 n) s.2 in
+          let apart = λ (e : s.0.offset ≡ n.offset). not-true-false (s.0.offset == n.offset) p.0 (eq-eqb _ _ e) in
+          (s.0, s.1, apart, (is_byte_shared-SharesByte s.0 n).0 p.1),
+      λ s.
+          let apart = not_true (s.0.offset == n.offset) (λ e. s.2 (eqb-true _ _ e)) in
+          let shared = (is_byte_shared-SharesByte s.0 n).1 s.3 in
+          l.1 (s.0, s.1, and_from (not (s.0.offset == n.offset)) (is_byte_shared s.0 n) apart shared),
+    )
+
+-- a note is disputed exactly where another has its offset, or one with a different offset shares a byte with it
+pub IsDisputed-two_ways : (n : NoteParts) (notes : List NoteParts)
+    → IsDisputed n notes ↔ SharesOffset n notes ⊎ Overlaps n notes
+IsDisputed-two_ways n notes = (
+  λ d. elim (d.0.offset == n.offset) as (λ b. (d.0.offset == n.offset) ≡ b → SharesOffset n notes ⊎ Overlaps n notes) [
+    | true ↦ λ e. inl (d.0, d.1, d.2, eqb-true _ _ e)
+    | false ↦ λ e. inr (d.0, d.1, (λ same. let t = eq-eqb _ _ same in cc (t, e)), d.3)
+  ] refl,
+  λ h. elim h [
+    | inl s ↦ (s.0, s.1, s.2, SharesByte-same_offset s.0 n s.3)
+    | inr o ↦ (o.0, o.1, (λ e. o.2 (ap (λ m. m.offset) e)), o.3)
+  ],
+)
+
+-- the test of disputes
+pub is_disputed-IsDisputed : (n : NoteParts) (notes : List NoteParts)
+    → IsTrue (is_disputed n notes) ↔ IsDisputed n notes
+is_disputed-IsDisputed n notes =
+    let s = is_offset_shared-SharesOffset n notes in
+    let o = is_overlapped-Overlaps n notes in
+    let two = IsDisputed-two_ways n notes in (
+      λ h. two.1 (elim (or_cases (is_offset_shared n notes) (is_overlapped n notes) h) [
+        | inl p ↦ inl (s.0 p)
+        | inr q ↦ inr (o.0 q)
+      ]),
+      λ d. elim (two.0 d) [
+        | inl p ↦ or_left (is_offset_shared n notes) (is_overlapped n notes) (s.1 p)
+        | inr q ↦ or_right (is_offset_shared n notes) (is_overlapped n notes) (o.1 q)
+      ],
+    )
+
+-- the clear notes are those that are clear
+pub In-clear_notes : (n : NoteParts) (notes : List NoteParts) → In n (clear_notes notes) ↔ IsClear n notes
+In-clear_notes n notes =
+    let f = In-filter (λ m. not (is_disputed m notes)) notes n in
+    let d = is_disputed-IsDisputed n notes in (
+      λ h. record { held = (f.0 h).0; undisputed = λ k. not-true-false (is_disputed n notes) (f.0 h).1 (d.1 k) },
+      λ c. f.1 (c.held, not_true (is_disputed n notes) (λ e. c.undisputed (d.0 e))),
+    )
+
+-- some of a content's notes are a content
+IsContent-filter : (p : NoteParts → Bool) (notes : List NoteParts) → IsContent notes → IsContent (filter p notes)
+IsContent-filter p [] r = tt
+IsContent-filter p (x ∷ xs) r =
+    elim (p x) as (λ b. IsContent (cond b (x ∷ filter p xs) (filter p xs))) [
+      | true ↦ (all-filter (λ y. note_cmp x y ≡ Less) p xs r.0, IsContent-filter p xs r.1)
+      | false ↦ IsContent-filter p xs r.1
+    ]
+
+-- the clear notes and the disputed notes rise
+pub IsContent-clear_notes : (notes : List NoteParts) → IsContent notes → IsContent (clear_notes notes)
+IsContent-clear_notes notes = IsContent-filter (λ n. not (is_disputed n notes)) notes
+
+marks : (f : NoteParts → DisputedParts) → ((n : NoteParts) → (f n).note ≡ n) → (notes : List NoteParts)
+    → map (λ d. d.note) (map f notes) ≡ notes
+marks f e [] = refl
+marks f e (x ∷ xs) = λ i. e x i ∷ marks f e xs i
+
+-- the disputed notes, without their marks, are a part of the notes in their order
+pub notes-disputed_notes : (notes : List NoteParts)
+    → map (λ d. d.note) (disputed_notes notes) ≡ filter (λ n. is_disputed n notes) notes
+notes-disputed_notes notes =
+    marks (λ n. disputed_parts n notes) (λ n. refl) (filter (λ n. is_disputed n notes) notes)
+
+pub IsContent-disputed_notes : (notes : List NoteParts) → IsContent notes
+    → IsContent (map (λ d. d.note) (disputed_notes notes))
+IsContent-disputed_notes notes r =
+    subst IsContent (sym (notes-disputed_notes notes)) (IsContent-filter (λ n. is_disputed n notes) notes r)
+
+-- the disputed notes are those that are disputed, with their marks
+pub In-disputed_notes : (d : DisputedParts) (notes : List NoteParts)
+    → In d (disputed_notes notes) ↔ IsDisputedOf d notes
+In-disputed_notes d notes =
+    let some = filter (λ n. is_disputed n notes) notes in
+    let m = In-map (λ n. disputed_parts n notes) some d in (
+      λ h.
+          let s = m.0 h in
+          let f = (In-filter (λ n. is_disputed n notes) notes s.0).0 s.1 in
+          let P : DisputedParts → Type 0 = λ e. IsDisputedOf e notes in
+          subst P (sym s.2) (record {
+            held = f.0;
+            disputed = (is_disputed-IsDisputed s.0 notes).0 f.1;
+            same_offset = is_offset_shared-SharesOffset s.0 notes;
+            overlaps = is_overlapped-Overlaps s.0 notes;
+          }),
+      λ k.
+          let n = d.note in
+          let s = is_offset_shared-SharesOffset n notes in
+          let o = is_overlapped-Overlaps n notes in
+          let a : d.same_offset ≡ is_offset_shared n notes =
+          same_bool _ _ (λ t. s.1 (k.same_offset.0 t)) (λ t. k.same_offset.1 (s.0 t)) in
+          let b : d.overlaps ≡ is_overlapped n notes =
+          same_bool _ _ (λ t. o.1 (k.overlaps.0 t)) (λ t. k.overlaps.1 (o.0 t)) in
+          let held = (In-filter (λ x. is_disputed x notes) notes n).1
+          (k.held, (is_disputed-IsDisputed n notes).1 k.disputed) in
+          m.1 (n, held, λ i. record { note = n; same_offset = a i; overlaps = b i }),
+    )
+
+-- a note is clear or disputed
+pub clear_or_disputed : (n : NoteParts) (notes : List NoteParts) → In n notes → IsClear n notes ⊎ IsDisputed n notes
+clear_or_disputed n notes h =
+    let d = is_disputed-IsDisputed n notes in
+    elim (is_disputed n notes) as (λ b. is_disputed n notes ≡ b → IsClear n notes ⊎ IsDisputed n notes) [
+      | true ↦ λ e. inr (d.0 e)
+      | false ↦ λ e. inl (record { held = h; undisputed = λ k. let t = d.1 k in cc (t, e) })
+    ] refl
+
+-- a clear note shares no byte with another note
+pub clear-apart : (m n : NoteParts) (notes : List NoteParts) → IsClear m notes → In n notes → m ≢ n → SharesByte m n → ⊥
+clear-apart m n notes c h ne s = c.undisputed (n, h, (λ e. ne (sym e)), SharesByte-symmetric m n s)
+
+-- a clear note is the only note with its offset
+pub clear-alone : (m n : NoteParts) (notes : List NoteParts) → IsClear m notes → In n notes → m.offset ≡ n.offset
+    → m ≡ n
+clear-alone m n notes c h e =
+    elim (is_same_note m n) as (λ b. is_same_note m n ≡ b → m ≡ n) [
+      | true ↦ λ t. (note_eq-Decides m n).0 t
+      | false ↦ λ t.
+          let other : m ≢ n = λ p. let u = (note_eq-Decides m n).1 p in cc (u, t) in
+          absurd (clear-apart m n notes c h other (SharesByte-same_offset m n e))
+    ] refl
+
+-- the clear note with an offset, where the first note with it is searched for
+pub clear_at-none : (offset : ℕ) (notes : List NoteParts) → find (λ n. n.offset == offset) notes ≡ None
+    → find (λ n. n.offset == offset) (clear_notes notes) ≡ None
+clear_at-none offset notes e =
+    let p = λ (n : NoteParts). n.offset == offset in
+    find-none p (clear_notes notes) (λ n h. none_found p notes n e ((In-clear_notes n notes).0 h).held)
+
+pub clear_at-disputed : (offset : ℕ) (notes : List NoteParts) (n : NoteParts)
+    → find (λ n. n.offset == offset) notes ≡ Some n → is_disputed n notes ≡ true
+    → find (λ n. n.offset == offset) (clear_notes notes) ≡ None
+clear_at-disputed offset notes n e d =
+    let p = λ (m : NoteParts). m.offset == offset in
+    let f = found-In p notes n e in
+    find-none p (clear_notes notes) (λ m h t.
+    let clear = (In-clear_notes m notes).0 h in
+    let same = clear-alone m n notes clear f.0 (eqb-true _ _ t ∙ sym (eqb-true _ _ f.1)) in
+    let P : NoteParts → Type 0 = λ x. IsDisputed x notes in
+    clear.undisputed (subst P (sym same) ((is_disputed-IsDisputed n notes).0 d)))
+
+pub clear_at-clear : (offset : ℕ) (notes : List NoteParts) (n : NoteParts)
+    → find (λ n. n.offset == offset) notes ≡ Some n → is_disputed n notes ≡ false
+    → find (λ n. n.offset == offset) (clear_notes notes) ≡ Some n
+clear_at-clear offset notes n e d =
+    let p = λ (m : NoteParts). m.offset == offset in
+    let f = found-In p notes n e in
+    let clear : IsClear n notes =
+    record { held = f.0; undisputed = λ k. let t = (is_disputed-IsDisputed n notes).1 k in cc (t, d) } in
+    find-only p (clear_notes notes) n ((In-clear_notes n notes).1 clear) f.1 (λ m h t.
+    let k = (In-clear_notes m notes).0 h in
+    clear-alone m n notes k f.0 (eqb-true _ _ t ∙ sym (eqb-true _ _ f.1)))
+
+pub clear_at-IsClear : (offset : ℕ) (notes : List NoteParts) (n : NoteParts)
+    → find (λ n. n.offset == offset) (clear_notes notes) ≡ Some n → IsClear n notes × (n.offset ≡ offset)
+clear_at-IsClear offset notes n e =
+    let f = found-In (λ (m : NoteParts). m.offset == offset) (clear_notes notes) n e in
+    ((In-clear_notes n notes).0 f.0, eqb-true _ _ f.1)
+
+pub clear_at-no_clear : (offset : ℕ) (notes : List NoteParts) (n : NoteParts)
+    → find (λ n. n.offset == offset) (clear_notes notes) ≡ None → IsClear n notes → n.offset ≢ offset
+clear_at-no_clear offset notes n e clear same =
+    let h = (In-clear_notes n notes).1 clear in
+    none_found (λ (m : NoteParts). m.offset == offset) (clear_notes notes) n e h (eq-eqb _ _ same)
+
+-- there are no more of them than notes
+pub length-clear_notes : (notes : List NoteParts) → length (clear_notes notes) ≤ length notes
+length-clear_notes notes = length-filter_le (λ n. not (is_disputed n notes)) notes
+
+pub length-disputed_notes : (notes : List NoteParts) → length (disputed_notes notes) ≤ length notes
+length-disputed_notes notes =
+    let some : List NoteParts = filter (λ n. is_disputed n notes) notes in
+    let e : length (disputed_notes notes) ≡ length some = length-map some (λ n. disputed_parts n notes) in
+    let l : length some ≤ length notes = length-filter_le (λ n. is_disputed n notes) notes in
+    omega (arith, e, l)

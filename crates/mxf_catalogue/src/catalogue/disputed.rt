@@ -1,0 +1,143 @@
+//! The disputed notes of a catalogue: those that share a byte with another.
+ghost use Rattle.std.specs.Prelude.{◌≡◌, ◌↔◌, ◌⊎◌, ◌^◌, ◌<◌, List, filter, length, map, IsTrue};
+ghost use Rattle.std.specs.Iterator.{YieldsFirst, item_count};
+ghost use Rattle.mxf_klv.specs.Parts.{NoteParts};
+ghost use Rattle.mxf_klv.specs.Rising.{In};
+ghost use Rattle.mxf_catalogue.specs.Content.{IsContent};
+ghost use Rattle.mxf_catalogue.specs.Disputes.{SharesByte, SharesOffset, Overlaps, IsDisputed, IsClear};
+ghost use Rattle.mxf_catalogue.specs.Disputes.{DisputedParts, IsDisputedOf};
+ghost use Rattle.mxf_catalogue.specs.Disputes.{is_byte_shared, is_offset_shared, is_overlapped, is_disputed};
+ghost use Rattle.mxf_catalogue.specs.Disputes.{disputed_notes};
+
+use mxf_klv::Note;
+use std::marker::Model;
+
+/// A disputed note: another note of the catalogue shares a byte with it.
+#[derive(Debug, Drop)]
+pub struct Disputed<'a> {
+    pub note: &'a Note,
+    /// Another note has its offset.
+    pub same_offset: bool,
+    /// A note with a different offset shares a byte with it.
+    pub overlaps: bool,
+}
+
+impl<'a> Model for Disputed<'a> {
+    ghost use Rattle.mxf_catalogue.specs.Disputes.{DisputedParts};
+
+    ghost Value = { DisputedParts };
+
+    ghost view = { λ d. record { note = d.note.now; same_offset = d.same_offset; overlaps = d.overlaps } };
+}
+
+/// The disputed notes of a catalogue that are left, in their order.
+#[derive(Debug, Drop)]
+pub struct DisputedNotes<'a> {
+    all: &'a [Note],
+    left: &'a [Note],
+}
+
+impl<'a> Model for DisputedNotes<'a> {
+    ghost use Rattle.std.specs.Prelude.{List};
+    ghost use Rattle.mxf_catalogue.specs.Disputes.{DisputedParts, disputed_of};
+
+    ghost Value = { List DisputedParts };
+
+    ghost view = { λ s. disputed_of s.left.now s.all.now };
+}
+
+impl<'a> DisputedNotes<'a> {
+    pub(super) fn of(notes: &'a [Note]) -> DisputedNotes<'a>
+        ensures notes { result ≡ disputed_notes notes.now }
+        ensures bound { length result < 2 ^ 64 }
+    {
+        DisputedNotes {
+            all: notes,
+            left: notes,
+        }
+    }
+}
+
+impl<'a> Iterator for DisputedNotes<'a> {
+    type Item = Disputed<'a>;
+
+    ghost next_gives = { YieldsFirst (λ s. s) };
+
+    ghost remaining = { item_count (λ s. s) };
+
+    fn next(&mut self) -> Option<Disputed<'a>> {
+        while let Some((note, left)) = self.left.split_first() {
+            self.left = left;
+            let same_offset = is_offset_shared(note, self.all);
+            let overlaps = is_overlapped(note, self.all);
+            if same_offset || overlaps {
+                return Some(Disputed {
+                    note,
+                    same_offset,
+                    overlaps,
+                });
+            }
+        }
+        None
+    }
+}
+
+/// Whether the spans of the two share a byte.
+fn is_byte_shared(a: &Note, b: &Note) -> bool
+    ensures { result ≡ is_byte_shared a.now b.now }
+{
+    a.offset() < b.end() && b.offset() < a.end()
+}
+
+/// Whether another of the notes has its offset.
+fn is_offset_shared(note: &Note, notes: &[Note]) -> bool
+    ensures { result ≡ is_offset_shared note.now notes.now }
+{
+    notes
+        .iter()
+        .any(|other| other.offset() == note.offset() && other != note)
+}
+
+/// Whether one of the notes with a different offset shares a byte with it.
+fn is_overlapped(note: &Note, notes: &[Note]) -> bool
+    ensures { result ≡ is_overlapped note.now notes.now }
+{
+    notes.iter().any(|other| other.offset() != note.offset() && is_byte_shared(other, note))
+}
+
+/// Whether another of the notes shares a byte with it.
+pub(super) fn is_disputed(note: &Note, notes: &[Note]) -> bool
+    ensures { result ≡ is_disputed note.now notes.now }
+{
+    is_offset_shared(note, notes) || is_overlapped(note, notes)
+}
+
+/// A law of [`Catalogue::disputed`](crate::Catalogue::disputed): its list has exactly the disputed notes, in their
+/// order, each with marks that hold exactly where their relations do.
+pub fn disputed_notes_by_definition()
+    ensures members { (d : DisputedParts) (notes : List NoteParts)
+        → In d (disputed_notes notes) ↔ IsDisputedOf d notes }
+    ensures sublist { (notes : List NoteParts)
+        → map (λ d. d.note) (disputed_notes notes) ≡ filter (λ n. is_disputed n notes) notes }
+    ensures order { (notes : List NoteParts) → IsContent notes → IsContent (map (λ d. d.note) (disputed_notes notes)) }
+{}
+
+/// A law: a note is disputed exactly where another has its offset, or one with a different offset shares a byte.
+pub fn notes_are_disputed_in_two_ways()
+    ensures { (n : NoteParts) (notes : List NoteParts) → IsDisputed n notes ↔ SharesOffset n notes ⊎ Overlaps n notes }
+{}
+
+/// A law: each note is clear or disputed, and none is both.
+pub fn notes_are_clear_or_disputed()
+    ensures one { (n : NoteParts) (notes : List NoteParts) → In n notes → IsClear n notes ⊎ IsDisputed n notes }
+    ensures not_both { (n : NoteParts) (notes : List NoteParts) → IsClear n notes → IsDisputed n notes → ⊥ }
+{}
+
+/// A law: the tests of disputes say what the relations say.
+pub fn disputes_by_tests()
+    ensures byte { (m n : NoteParts) → IsTrue (is_byte_shared m n) ↔ SharesByte m n }
+    ensures same_offset { (n : NoteParts) (notes : List NoteParts)
+        → IsTrue (is_offset_shared n notes) ↔ SharesOffset n notes }
+    ensures overlaps { (n : NoteParts) (notes : List NoteParts) → IsTrue (is_overlapped n notes) ↔ Overlaps n notes }
+    ensures disputed { (n : NoteParts) (notes : List NoteParts) → IsTrue (is_disputed n notes) ↔ IsDisputed n notes }
+{}

@@ -1,0 +1,17 @@
+//! Histories of calls: what any order of them leaves.
+ghost use Rattle.std.specs.Prelude.{◌≡◌, ◌↔◌};
+ghost use Rattle.mxf_klv.specs.Parts.{NoteParts};
+ghost use Rattle.mxf_klv.specs.Rising.{In};
+ghost use Rattle.mxf_catalogue.specs.Content.{IsContent};
+ghost use Rattle.mxf_catalogue.specs.History.{History, Hands, HandsSame, content};
+
+/// A law: what a history of calls leaves is a content with exactly the notes that it was handed.
+pub fn histories_leave_what_they_were_handed()
+    ensures content { (h : History) → IsContent (content h) }
+    ensures members { (h : History) (n : NoteParts) → In n (content h) ↔ Hands h n }
+{}
+
+/// A law: histories that were handed the same notes, in any order and however often, leave equal contents.
+pub fn one_set_one_content()
+    ensures { (h k : History) → HandsSame (Hands h) (Hands k) → content h ≡ content k }
+{}

@@ -1,0 +1,87 @@
+//! Sources, and the texts that name them.
+ghost use Rattle.std.specs.Prelude.{◌≡◌, ℕ, List, Result, Ok, Err, IfOk, IfErr, MatchOption};
+ghost use Rattle.std.specs.List.{list_all};
+ghost use Rattle.std.specs.Char.{is_ascii_digit};
+ghost use Rattle.mxf_tool.specs.Sources.{IsOffset, ReadsSource, SourceParts, source_parts};
+ghost use Rattle.mxf_tool.specs.declared.source.SourceFault.{SourceFault};
+
+use mxf_klv::MAX;
+use thiserror::Error;
+
+/// Where notes come from.
+#[derive(Clone, Copy, Debug, PartialEq, Eq)]
+pub enum Source<'a> {
+    /// The bytes of the file at `path`, which lie from `offset` (bytes) on in the recording.
+    Piece { offset: u64, path: &'a str },
+    /// The catalogue in the file at `path`.
+    Saved { path: &'a str },
+}
+
+/// Why a text names no source. The causes are tested in this order.
+#[derive(Clone, Copy, Debug, PartialEq, Eq, Error)]
+pub enum SourceFault {
+    /// The text begins neither `at:` nor `cat:`.
+    #[error("no scheme")]
+    NoScheme,
+    /// After `at:` there is no second colon, or before it no digit, another character, or a number above `MAX`.
+    #[error("bad offset")]
+    BadOffset,
+    /// The path is empty.
+    #[error("no path")]
+    NoPath,
+}
+
+/// Whether the text has decimal digits alone.
+fn has_digits_alone(text: &str) -> bool
+    ensures { result ≡ list_all (λ c. is_ascii_digit c) text.now }
+{
+    text.bytes().all(|byte| byte.is_ascii_digit())
+}
+
+/// The offset that decimal digits write, in bytes; leading zeros are accepted.
+fn offset_of(digits: &str) -> Option<u64>
+    ensures { MatchOption result ((offset : ℕ) → IsOffset digits.now offset → ⊥) (IsOffset digits.now) }
+{
+    if !has_digits_alone(digits) {
+        return None;
+    }
+    let Ok(offset) = digits.parse::<u64>() else {
+        return None;
+    };
+    if offset > MAX {
+        return None;
+    }
+    Some(offset)
+}
+
+/// Reads `at:OFFSET:PATH` or `cat:PATH`. PATH is all that follows, and may hold colons.
+pub fn parse_source(text: &str) -> Result<Source<'_>, SourceFault>
+    ensures source { IfOk result (λ source. ReadsSource text.now (Ok (source_parts source))) }
+    ensures fault { IfErr result (λ fault. ReadsSource text.now (Err fault)) }
+{
+    if let Some(path) = text.strip_prefix("cat:") {
+        if path.is_empty() {
+            return Err(SourceFault::NoPath);
+        }
+        return Ok(Source::Saved { path });
+    }
+    let Some(rest) = text.strip_prefix("at:") else {
+        return Err(SourceFault::NoScheme);
+    };
+    let Some((digits, path)) = rest.split_once(':') else {
+        return Err(SourceFault::BadOffset);
+    };
+    let Some(offset) = offset_of(digits) else {
+        return Err(SourceFault::BadOffset);
+    };
+    if path.is_empty() {
+        return Err(SourceFault::NoPath);
+    }
+    Ok(Source::Piece { offset, path })
+}
+
+/// A law: a text names one source, or has one of the faults.
+pub fn one_source()
+    ensures { (text : List ℕ) (r s : Result SourceParts SourceFault)
+        → ReadsSource text r → ReadsSource text s → r ≡ s }
+{}
