@@ -2,8 +2,8 @@
 use Rattle.std.proofs.Common.{◌≡◌, ℕ, ◌+◌, ◌*◌, List, ◌++◌, length, drop, Err, sym, ap, ◌∙◌, arith, inl, inr, zero-mul}
 use Rattle.byteorder.specs.Endian.{big_number, big_bytes}
 use Rattle.byteorder.specs.Numbers.{big_number-reads_back}
-use Rattle.mxf_sets.specs.declared.faults.BatchFault.{BatchFault}
-use Rattle.mxf_sets.specs.declared.faults.BatchFault.TheVariants as faults
+use Rattle.mxf_sets.specs.declared.batch.BatchFault.{BatchFault}
+use Rattle.mxf_sets.specs.declared.batch.BatchFault.TheVariants as faults
 use Rattle.mxf_sets.specs.Batch.{BatchParts, AreBatchParts, IsBatch, HasItemsOf, ReadsBatch, batch_bytes}
 use Rattle.mxf_sets.proofs.Numbers.{same_number}
 

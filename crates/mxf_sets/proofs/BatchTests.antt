@@ -8,8 +8,8 @@ use Rattle.std.proofs.Common.{◌≡◌, ℕ, ◌+◌, ◌*◌, ◌≤◌, ◌�
 use Rattle.std.specs.Prelude.{nat_le, ◌==◌, ◌&&◌, ◌||◌}
 use Rattle.byteorder.specs.Endian.{big_number}
 use Rattle.std.specs.Prelude.{Result, Ok, Err, is_ok}
-use Rattle.mxf_sets.specs.declared.faults.BatchFault.{BatchFault}
-use Rattle.mxf_sets.specs.declared.faults.BatchFault.TheVariants.{ShortHead, WrongSize, WrongLength}
+use Rattle.mxf_sets.specs.declared.batch.BatchFault.{BatchFault}
+use Rattle.mxf_sets.specs.declared.batch.BatchFault.TheVariants.{ShortHead, WrongSize, WrongLength}
 use Rattle.mxf_sets.specs.Batch.{BatchParts, IsBatch, HasItemsOf, ReadsBatch}
 use Rattle.mxf_sets.proofs.BatchLaws.{length-batch_bytes, stated}
 use Rattle.mxf_sets.specs.Fields.{is_batch}

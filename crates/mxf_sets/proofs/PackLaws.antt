@@ -3,12 +3,12 @@ use Rattle.std.proofs.Common.{◌≡◌, ℕ, ◌≤◌, List, ◌++◌, length,
 use Rattle.std.proofs.lemmas.List.{take_at, drop_at, take-append-drop, drop-drop, length-drop}
 use Rattle.mxf_klv.specs.declared.kinds.Kind.{Kind}
 use Rattle.mxf_klv.specs.declared.kinds.Status.{Status}
-use Rattle.mxf_sets.specs.declared.faults.BatchFault.{BatchFault}
-use Rattle.mxf_sets.specs.declared.faults.PackFault.{PackFault}
-use Rattle.mxf_sets.specs.declared.faults.PackFault.TheVariants as faults
-use Rattle.mxf_sets.specs.declared.partition_parts.PackPart.{PackPart}
-use Rattle.mxf_sets.specs.declared.partition_parts.PackPart.TheVariants.{Header, Body, Footer}
-use Rattle.mxf_sets.specs.declared.partition_numbers.PartitionNumbers.{PartitionNumbers}
+use Rattle.mxf_sets.specs.declared.batch.BatchFault.{BatchFault}
+use Rattle.mxf_sets.specs.declared.pack.PackFault.{PackFault}
+use Rattle.mxf_sets.specs.declared.pack.PackFault.TheVariants as faults
+use Rattle.mxf_sets.specs.declared.pack.part.PackPart.{PackPart}
+use Rattle.mxf_sets.specs.declared.pack.part.PackPart.TheVariants.{Header, Body, Footer}
+use Rattle.mxf_sets.specs.declared.pack.numbers.PartitionNumbers.{PartitionNumbers}
 use Rattle.mxf_sets.specs.Batch.{BatchParts, IsBatch, HasItemsOf, ReadsBatch, batch_bytes}
 use Rattle.mxf_sets.specs.PartitionPack.{pack_kind, AreNumbers, numbers_bytes, PackParts, IsPartitionPack, ReadsPack, pack_parts}
 use Rattle.mxf_sets.proofs.Numbers.{same_number}

@@ -1,7 +1,7 @@
 -- The labels of a tag in the entries of a primer pack.
 use Rattle.std.proofs.Common.{◌≡◌, ℕ, ◌+◌, ◌<◌, List, Ok, Err, Option, None, Some, Result, refl, sym, ap, ◌∙◌, arith, below_more}
-use Rattle.mxf_sets.specs.declared.faults.PackFault.{PackFault}
-use Rattle.mxf_sets.specs.declared.faults.PackFault.TheVariants as faults
+use Rattle.mxf_sets.specs.declared.pack.PackFault.{PackFault}
+use Rattle.mxf_sets.specs.declared.pack.PackFault.TheVariants as faults
 use Rattle.mxf_sets.specs.Batch.{BatchParts}
 use Rattle.mxf_sets.specs.Primer.{ReadsPrimer, IsOnlyLabel, tag_at, label_at}
 use Rattle.mxf_sets.proofs.BatchLaws.{same_batch}

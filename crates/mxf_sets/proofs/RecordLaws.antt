@@ -4,8 +4,8 @@ use Rattle.std.specs.Prelude.{find, is_none, not, ◌&&◌, ◌==◌, ◌-◌, I
 use Rattle.std.specs.Option.{option_map, option_map_or}
 use Rattle.std.specs.List.{AllByRecursion}
 use Rattle.mxf_klv.specs.Bytes.{AreBytes}
-use Rattle.mxf_sets.specs.declared.fields.Field.{Field}
-use Rattle.mxf_sets.specs.declared.fields.FieldFault.TheVariants.{Set, RepeatedTag, Missing, WrongWidth}
+use Rattle.mxf_sets.specs.declared.record.Field.{Field}
+use Rattle.mxf_sets.specs.declared.record.FieldFault.TheVariants.{Set, RepeatedTag, Missing, WrongWidth}
 use Rattle.mxf_sets.specs.Items.{ItemParts, AreItems, items_of, left_of}
 use Rattle.mxf_sets.specs.Lookup.{value_of, count_of}
 use Rattle.mxf_sets.specs.Fields.{Meets, checked, fields_at, fits, first_tag, is_missing, is_repeated, is_wrong, or_else}

@@ -1,46 +1,12 @@
 -- The bytes of a segment by the parts that are written.
-use Rattle.std.proofs.Common.{◌≡◌, ℕ, ◌+◌, ◌/◌, ◌<◌, Bool, cond, List, [], ◌∷◌, ◌++◌, length, take, drop, ◌≤◌, Option, Result, lt-ltb, le-ltb, refl, ap, ◌∙◌, sym, subst, arith, length-append, append-nil, get_or, suc, zero}
+use Rattle.std.proofs.Common.{◌≡◌, ℕ, ◌+◌, ◌/◌, ◌<◌, Bool, cond, List, [], ◌∷◌, ◌++◌, length, ◌≤◌, lt-ltb, le-ltb, refl, ap, ◌∙◌, sym, subst, arith, length-append, append-nil, get_or, suc, zero}
 use Rattle.std.specs.Int.{w16, w32, w64, cast_unsigned, to_be_bytes}
 use Rattle.std.specs.List.{flat_map, AllByRecursion}
 use Rattle.std.proofs.lemmas.Grind.{flat_map-append}
-use Rattle.std.proofs.lemmas.List.{take-append-le}
-use Rattle.std.specs.Io.KnownBytes.{Appends}
 use Rattle.byteorder.specs.Endian.{big_bytes}
-use Rattle.mxf_klv.specs.declared.writing.WriteFault.{WriteFault}
-use Rattle.mxf_klv.specs.Written.{StopsIn, WritesPart, counted}
-use Rattle.mxf_klv.proofs.WrittenParts.{StopsIn-middle, StopsIn-part, WritesPart-after, flat_map-at}
-use Rattle.mxf_sets.specs.declared.segment_numbers.SegmentNumbers.{SegmentNumbers}
+use Rattle.mxf_sets.specs.declared.segment.numbers.SegmentNumbers.{SegmentNumbers}
 use Rattle.mxf_sets.specs.Items.{ItemParts, IsItem, item_bytes}
 use Rattle.mxf_sets.specs.Segment.{SegmentParts, entry_count, entry_item, item, entry_items, entry_size, number_items, segment_bytes}
-
--- a fault in the first of two parts is a fault of the whole
-pub StopsIn-first : (a c : Option (List ℕ)) (before : ℕ) (e : WriteFault) (bytes part rest : List ℕ) → bytes ≡ part ++ rest → StopsIn a c before e part → StopsIn a c before e bytes
-StopsIn-first a c before e bytes part rest is q =
-    let n = q.0 in
-    let within : n < length part = q.1 in
-    subst (StopsIn a c before e) (sym is) (n, omega (arith, length-append part rest), q.2, subst (Appends a c) (sym (take-append-le n part rest (omega arith))) q.3)
-
--- the first part was written, and what is told of the second is told of the whole
-pub WritesPart-second : {X : Type 0} (a b c : Option (List ℕ)) (before mid after : ℕ) (r : Result X WriteFault) (bytes part rest : List ℕ) → bytes ≡ part ++ rest → Appends a b part
-    → mid ≡ counted (before + length part) → WritesPart b c mid after r rest → WritesPart a c before after r bytes
-WritesPart-second a b c before mid after r bytes part rest is p m q =
-    subst (WritesPart a c before after r) (sym is) (WritesPart-after a b c before mid after r part rest p m q)
-
--- what was written is the same bytes
-pub writes_same : (a c : Option (List ℕ)) (before after : ℕ) (bytes same : List ℕ) → bytes ≡ same → Appends a c same → after ≡ counted (before + length same) → Appends a c bytes × (after ≡ counted (before + length bytes))
-writes_same a c before after bytes same is p m = (subst (Appends a c) (sym is) p, m ∙ ap (λ (t : List ℕ). counted (before + length t)) (sym is))
-
--- a fault in an item is a fault of all of them
-pub StopsIn-item : (a b c : Option (List ℕ)) (before mid : ℕ) (e : WriteFault) (items : List ItemParts) (k : ℕ) (item : ItemParts) → k < length items → item ≡ get_or items k item
-    → Appends a b (flat_map item_bytes (take k items)) → mid ≡ counted (before + length (flat_map item_bytes (take k items))) → StopsIn b c mid e (item_bytes item) → StopsIn a c before e (flat_map item_bytes items)
-StopsIn-item a b c before mid e items k item h is p m q =
-    subst (StopsIn a c before e) (flat_map-at item_bytes items k item h)
-    (StopsIn-part a b c before mid e (flat_map item_bytes (take k items)) (item_bytes (get_or items k item)) (flat_map item_bytes (drop (suc k) items)) p m (subst (λ (i : ItemParts). StopsIn b c mid e (item_bytes i)) is q))
-
--- the first part was written, and a fault in the second is a fault of the whole
-pub StopsIn-second : (a b c : Option (List ℕ)) (before mid : ℕ) (e : WriteFault) (bytes done part rest : List ℕ) → bytes ≡ done ++ (part ++ rest) → Appends a b done
-    → mid ≡ counted (before + length done) → StopsIn b c mid e part → StopsIn a c before e bytes
-StopsIn-second a b c before mid e bytes done part rest is p m q = subst (StopsIn a c before e) (sym is) (StopsIn-middle a b c before mid e done part rest p m q)
 
 -- the item of the entries by the parts that are written
 pub entry_parts : (s : SegmentParts) (e : List ℕ) (size : ℕ) → e ≡ s.entries → size ≡ entry_size s.numbers → item_bytes (entry_item s)

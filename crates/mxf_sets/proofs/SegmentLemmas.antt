@@ -8,7 +8,7 @@ use Rattle.std.specs.Int.{is_negative}
 use Rattle.std.specs.Option.{option_map, option_map_or}
 use Rattle.std.specs.List.{AllByRecursion}
 use Rattle.byteorder.specs.Endian.{big_number}
-use Rattle.mxf_sets.specs.declared.segment_numbers.SegmentNumbers.{SegmentNumbers}
+use Rattle.mxf_sets.specs.declared.segment.numbers.SegmentNumbers.{SegmentNumbers}
 use Rattle.mxf_sets.specs.Items.{ItemParts, IsItem}
 use Rattle.mxf_sets.specs.Lookup.{value_of}
 use Rattle.mxf_sets.specs.Fields.{is_batch}

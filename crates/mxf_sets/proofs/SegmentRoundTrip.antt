@@ -7,11 +7,11 @@ use Rattle.std.proofs.lemmas.Int.{ints, to_z-of_z}
 use Rattle.std.proofs.lemmas.Nat.{div-add-mod'}
 use Rattle.byteorder.specs.Endian.{big_number, big_bytes}
 use Rattle.byteorder.specs.Numbers.{big_number-reads_back}
-use Rattle.mxf_sets.specs.declared.segment_numbers.SegmentNumbers.{SegmentNumbers}
+use Rattle.mxf_sets.specs.declared.segment.numbers.SegmentNumbers.{SegmentNumbers}
 use Rattle.mxf_sets.specs.Items.{ItemParts, IsItem, item_bytes, items_of}
 use Rattle.mxf_sets.specs.Fields.{is_batch, checked, fields_at}
 use Rattle.mxf_sets.specs.Segment.{AreNumbers, IsSegment, SegmentParts, entries_in, entry_count, entry_item, item, then_segment, entry_size, number_items, segment_at, segment_bytes, segment_fields, segment_numbers, segment_of}
-use Rattle.mxf_sets.specs.declared.fields.FieldFault.TheVariants.{Set}
+use Rattle.mxf_sets.specs.declared.record.FieldFault.TheVariants.{Set}
 use Rattle.mxf_sets.proofs.ItemLemmas.{only_items}
 use Rattle.mxf_sets.proofs.SegmentLemmas.{segment_made}
 use Rattle.std.proofs.Math.Nat.{div-le_self}

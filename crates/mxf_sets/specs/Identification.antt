@@ -1,10 +1,10 @@
 -- The Identification (ST 377-1, Identification set; which fields are read and have to be there is this project's profile).
 use Rattle.std.specs.Prelude.{ℕ, List, [], ◌∷◌, Option, Result}
 use Rattle.std.specs.Option.{option_map}
-use Rattle.mxf_sets.specs.declared.fields.Field.{Field}
-use Rattle.mxf_sets.specs.declared.fields.Shape.TheVariants.{Exactly, Any}
-use Rattle.mxf_sets.specs.declared.fields.FieldFault.{FieldFault}
-use Rattle.mxf_sets.specs.declared.timestamps.Timestamp.{Timestamp}
+use Rattle.mxf_sets.specs.declared.record.Field.{Field}
+use Rattle.mxf_sets.specs.declared.record.Shape.TheVariants.{Exactly, Any}
+use Rattle.mxf_sets.specs.declared.record.FieldFault.{FieldFault}
+use Rattle.mxf_sets.specs.declared.record.timestamp.Timestamp.{Timestamp}
 use Rattle.mxf_sets.specs.Items.{ItemParts}
 use Rattle.mxf_sets.specs.Lookup.{bytes_of, value_of}
 use Rattle.mxf_sets.specs.Fields.{required, optional, record_at}

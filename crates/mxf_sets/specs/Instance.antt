@@ -1,8 +1,8 @@
 -- The instance identifier of a header metadata set (ST 377-1, Interchange Object).
 use Rattle.std.specs.Prelude.{ℕ, List, [], ◌∷◌, Result}
-use Rattle.mxf_sets.specs.declared.fields.Field.{Field}
-use Rattle.mxf_sets.specs.declared.fields.Shape.TheVariants.{Exactly}
-use Rattle.mxf_sets.specs.declared.fields.FieldFault.{FieldFault}
+use Rattle.mxf_sets.specs.declared.record.Field.{Field}
+use Rattle.mxf_sets.specs.declared.record.Shape.TheVariants.{Exactly}
+use Rattle.mxf_sets.specs.declared.record.FieldFault.{FieldFault}
 use Rattle.mxf_sets.specs.Lookup.{bytes_of}
 use Rattle.mxf_sets.specs.Fields.{required, record_at}
 

@@ -5,11 +5,11 @@ use Rattle.mxf_klv.specs.declared.kinds.Kind.{Kind}
 use Rattle.mxf_klv.specs.declared.kinds.Kind.TheVariants as kinds
 use Rattle.mxf_klv.specs.declared.kinds.Status.{Status}
 use Rattle.mxf_klv.specs.declared.kinds.Status.TheVariants.{OpenIncomplete, ClosedIncomplete, OpenComplete, ClosedComplete}
-use Rattle.mxf_sets.specs.declared.faults.PackFault.{PackFault}
-use Rattle.mxf_sets.specs.declared.faults.PackFault.TheVariants as faults
-use Rattle.mxf_sets.specs.declared.partition_parts.PackPart.{PackPart}
-use Rattle.mxf_sets.specs.declared.partition_parts.PackPart.TheVariants.{Header, Body, Footer}
-use Rattle.mxf_sets.specs.declared.partition_numbers.PartitionNumbers.{PartitionNumbers}
+use Rattle.mxf_sets.specs.declared.pack.PackFault.{PackFault}
+use Rattle.mxf_sets.specs.declared.pack.PackFault.TheVariants as faults
+use Rattle.mxf_sets.specs.declared.pack.part.PackPart.{PackPart}
+use Rattle.mxf_sets.specs.declared.pack.part.PackPart.TheVariants.{Header, Body, Footer}
+use Rattle.mxf_sets.specs.declared.pack.numbers.PartitionNumbers.{PartitionNumbers}
 use Rattle.mxf_sets.specs.Batch.{BatchParts, AreBatchParts, IsBatch, HasItemsOf, batch_bytes}
 
 -- The kind of a packet with a partition pack (ST 377-1, Partition Pack Key).

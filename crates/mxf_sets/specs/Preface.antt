@@ -1,8 +1,8 @@
 -- The Preface (ST 377-1, Preface set; which fields are read and have to be there is this project's profile).
 use Rattle.std.specs.Prelude.{ℕ, List, [], ◌∷◌, Result}
-use Rattle.mxf_sets.specs.declared.fields.Field.{Field}
-use Rattle.mxf_sets.specs.declared.fields.Shape.TheVariants.{Exactly, References}
-use Rattle.mxf_sets.specs.declared.fields.FieldFault.{FieldFault}
+use Rattle.mxf_sets.specs.declared.record.Field.{Field}
+use Rattle.mxf_sets.specs.declared.record.Shape.TheVariants.{Exactly, References}
+use Rattle.mxf_sets.specs.declared.record.FieldFault.{FieldFault}
 use Rattle.mxf_sets.specs.Items.{ItemParts}
 use Rattle.mxf_sets.specs.Lookup.{bytes_of}
 use Rattle.mxf_sets.specs.Fields.{required, optional, record_at}

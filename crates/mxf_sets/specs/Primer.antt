@@ -1,9 +1,14 @@
 -- Primer packs (ST 377-1, Primer Pack): a batch of items of eighteen bytes, each a tag and the label that it stands for.
 use Rattle.std.specs.Prelude.{◌≡◌, ℕ, ◌<◌, List, drop, Result, Ok, Err}
 use Rattle.byteorder.specs.Endian.{big_number}
-use Rattle.mxf_sets.specs.declared.faults.PackFault.{PackFault}
-use Rattle.mxf_sets.specs.declared.faults.PackFault.TheVariants as faults
-use Rattle.mxf_sets.specs.Batch.{BatchParts, IsBatch, HasItemsOf, item_in}
+use Rattle.mxf_sets.specs.declared.pack.PackFault.{PackFault}
+use Rattle.mxf_sets.specs.declared.pack.PackFault.TheVariants as faults
+use Rattle.mxf_sets.specs.Batch.{BatchParts, AreBatchParts, IsBatch, HasItemsOf, item_in}
+
+-- Which entries a primer pack has: a batch of items of eighteen bytes.
+pub record ArePrimerEntries (entries : BatchParts) : Type 0 where
+  pub batch : AreBatchParts entries
+  pub size : HasItemsOf 18 entries
 
 -- What a value is, where a primer pack is asked for (ST 377-1, Primer Pack): the batch of its entries, or no such batch.
 abbrev pub ReadsPrimer : List ℕ → Result BatchParts PackFault → Type 0

@@ -2,9 +2,9 @@
 use Rattle.std.specs.Prelude.{◌≡◌, ◌≢◌, ℕ, zero, suc, ◌+◌, ◌-◌, ◌*◌, ◌/◌, ◌%◌, ◌^◌, ◌<◌, ◌≤◌, ◌⊎◌, List, [], ◌∷◌, ◌++◌, length, drop, Result, Ok, Err}
 use Rattle.std.specs.List.{flat_map, AllByRecursion}
 use Rattle.byteorder.specs.Endian.{big_number, big_bytes}
-use Rattle.mxf_sets.specs.declared.faults.PackFault.{PackFault}
-use Rattle.mxf_sets.specs.declared.faults.PackFault.TheVariants as faults
-use Rattle.mxf_sets.specs.declared.random_index_packs.RipEntry.{RipEntry}
+use Rattle.mxf_sets.specs.declared.pack.PackFault.{PackFault}
+use Rattle.mxf_sets.specs.declared.pack.PackFault.TheVariants as faults
+use Rattle.mxf_sets.specs.declared.pack.random_index.RipEntry.{RipEntry}
 
 -- Both numbers of an entry fit the bytes that they have (ST 377-1, Random Index Pack).
 pub record IsEntry (entry : RipEntry) : Type 0 where

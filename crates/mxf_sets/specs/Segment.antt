@@ -5,12 +5,12 @@ use Rattle.std.specs.Option.{option_map, option_map_or, ok_or}
 use Rattle.std.specs.List.{flat_map}
 use Rattle.std.specs.Int.{w32, w64, cast_signed, cast_unsigned, is_negative}
 use Rattle.byteorder.specs.Endian.{big_number, big_bytes}
-use Rattle.mxf_sets.specs.declared.fields.Field.{Field}
-use Rattle.mxf_sets.specs.declared.fields.Shape.TheVariants.{Exactly, Any}
-use Rattle.mxf_sets.specs.declared.fields.FieldFault.{FieldFault}
-use Rattle.mxf_sets.specs.declared.segment_numbers.SegmentNumbers.{SegmentNumbers}
-use Rattle.mxf_sets.specs.declared.segment_faults.SegmentFault.{SegmentFault}
-use Rattle.mxf_sets.specs.declared.segment_faults.SegmentFault.TheVariants.{Negative, BadEntries}
+use Rattle.mxf_sets.specs.declared.record.Field.{Field}
+use Rattle.mxf_sets.specs.declared.record.Shape.TheVariants.{Exactly, Any}
+use Rattle.mxf_sets.specs.declared.record.FieldFault.{FieldFault}
+use Rattle.mxf_sets.specs.declared.segment.numbers.SegmentNumbers.{SegmentNumbers}
+use Rattle.mxf_sets.specs.declared.segment.SegmentFault.{SegmentFault}
+use Rattle.mxf_sets.specs.declared.segment.SegmentFault.TheVariants.{Negative, BadEntries}
 use Rattle.mxf_sets.specs.Items.{ItemParts, item_bytes}
 use Rattle.mxf_sets.specs.Lookup.{bytes_of, value_of}
 use Rattle.mxf_sets.specs.Fields.{required, optional, fields_at, is_batch}

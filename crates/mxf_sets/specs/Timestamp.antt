@@ -2,7 +2,7 @@
 use Rattle.std.specs.Prelude.{ℕ, List, slice_index}
 use Rattle.std.specs.Int.{w16, cast_signed}
 use Rattle.byteorder.specs.Endian.{big_number}
-use Rattle.mxf_sets.specs.declared.timestamps.Timestamp.{Timestamp}
+use Rattle.mxf_sets.specs.declared.record.timestamp.Timestamp.{Timestamp}
 
 -- The numbers of eight bytes.
 abbrev pub timestamp_of : List ℕ → Timestamp

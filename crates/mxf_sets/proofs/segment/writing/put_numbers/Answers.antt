@@ -1,0 +1,20 @@
+use Rattle.std.proofs.Common.{rules, ◌≡◌, ◌∙◌, List, ap, subst, FitsSigned, w64, ℤ}
+use Rattle.std.specs.Int.{cast_unsigned, to_be_bytes}
+use Rattle.std.proofs.lemmas.Int.{to_z-of_z}
+use Rattle.std.specs.List.{flat_map}
+use Rattle.mxf_klv.specs.Written.{WritesPart}
+use Rattle.mxf_sets.specs.Items.{ItemParts, item_bytes}
+use Rattle.mxf_sets.proofs.SegmentBytes.{numbers_written}
+use Rattle.mxf_sets.proofs.segment.writing.put_numbers.Goals as goal
+
+pub returns : goal.returns
+returns g c =
+    let n = c.args.numbers.now in
+    let f : FitsSigned w64 n.start = search rules in
+    let h : FitsSigned w64 n.duration = search rules in
+    let start : c.to_be_bytes-start.result ≡ to_be_bytes w64 (cast_unsigned w64 n.start) = c.to_be_bytes-start.ensures ∙ ap (λ (z : ℤ). to_be_bytes w64 (cast_unsigned w64 z)) (to_z-of_z w64 n.start f) in
+    let duration : c.to_be_bytes-duration.result ≡ to_be_bytes w64 (cast_unsigned w64 n.duration) = c.to_be_bytes-duration.ensures ∙ ap (λ (z : ℤ). to_be_bytes w64 (cast_unsigned w64 z)) (to_z-of_z w64 n.duration h) in
+    subst (WritesPart _ _ _ _ _)
+    (ap (λ (items : List ItemParts). flat_map item_bytes items) (numbers_written c.args.numbers.now c.rate_bytes-rate.result c.to_be_bytes-start.result c.to_be_bytes-duration.result c.to_be_bytes-unit_bytes.result c.to_be_bytes-index_sid.result c.to_be_bytes-body_sid.result
+    c.rate_bytes-rate.ensures start duration c.to_be_bytes-unit_bytes.ensures c.to_be_bytes-index_sid.ensures c.to_be_bytes-body_sid.ensures))
+    (rw (c.numbered.ensures, c.numbered-2.ensures, c.numbered-3.ensures, c.numbered-4.ensures, c.numbered-5.ensures, c.numbered-6.ensures, c.numbered-7.ensures, c.numbered-8.ensures) at c.put_items.ensures)

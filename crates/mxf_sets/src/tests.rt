@@ -1,5 +1,0 @@
-//! Worked examples.
-mod packs;
-mod sets;
-mod vectors;
-mod writing;
