@@ -14,7 +14,7 @@ use Rattle.mxf_sets.specs.PartitionPack.{pack_kind, AreNumbers, numbers_bytes, P
 use Rattle.mxf_sets.proofs.Numbers.{same_number}
 use Rattle.mxf_sets.proofs.BatchLaws.{same_batch, length-batch_bytes, no_fault}
 
-same_fields : (a b : PartitionNumbers) → a.major_version ≡ b.major_version → a.minor_version ≡ b.minor_version → a.kag_size ≡ b.kag_size → a.this_partition ≡ b.this_partition
+pub same_fields : (a b : PartitionNumbers) → a.major_version ≡ b.major_version → a.minor_version ≡ b.minor_version → a.kag_size ≡ b.kag_size → a.this_partition ≡ b.this_partition
     → a.previous_partition ≡ b.previous_partition → a.footer_partition ≡ b.footer_partition → a.header_byte_count ≡ b.header_byte_count → a.index_byte_count ≡ b.index_byte_count
     → a.index_sid ≡ b.index_sid → a.body_offset ≡ b.body_offset → a.body_sid ≡ b.body_sid → a ≡ b
 same_fields a b p0 p1 p2 p3 p4 p5 p6 p7 p8 p9 p10 i = record {
@@ -47,7 +47,7 @@ same_numbers a b xs ys p q e =
     let s10 = same_number 4 a.body_sid b.body_sid xs ys p.body_sid q.body_sid s9.1 in
     (same_fields a b s0.0 s1.0 s2.0 s3.0 s4.0 s5.0 s6.0 s7.0 s8.0 s9.0 s10.0, s10.1)
 
-same_parts : (a b : PackParts) → a.part ≡ b.part → a.status ≡ b.status → a.numbers ≡ b.numbers → a.pattern ≡ b.pattern → a.containers ≡ b.containers → a ≡ b
+pub same_parts : (a b : PackParts) → a.part ≡ b.part → a.status ≡ b.status → a.numbers ≡ b.numbers → a.pattern ≡ b.pattern → a.containers ≡ b.containers → a ≡ b
 same_parts a b p0 p1 p2 p3 p4 i = record { part = p0 i; status = p1 i; numbers = p2 i; pattern = p3 i; containers = p4 i }
 
 -- under one part and status a value is that of one pack

@@ -21,7 +21,7 @@ length-entries_by : (n : ℕ) (xs : List ℕ) → length (entries_by n xs) ≡ n
 length-entries_by zero xs = refl
 length-entries_by (suc n) xs = ap suc (length-entries_by n (drop 12 xs))
 
-number_here : (n : ℕ) (xs : List ℕ) → n ≤ length xs → AreBytes xs → xs ≡ big_bytes n (big_number n xs) ++ drop n xs
+pub number_here : (n : ℕ) (xs : List ℕ) → n ≤ length xs → AreBytes xs → xs ≡ big_bytes n (big_number n xs) ++ drop n xs
 number_here n xs room h = number_in_front n (big_number n xs) xs (take n xs) (drop n xs) refl refl (sym (big_from-take 0 n n xs (omega arith))) room (AreBytes-take n xs h)
 
 entry_here : (xs : List ℕ) → 12 ≤ length xs → AreBytes xs → xs ≡ entry_bytes (entry_in xs) ++ drop 12 xs
@@ -60,7 +60,7 @@ slice_get-entries_of place xs h = get_by (length xs / 12) place xs h
 
 -- ---- the bytes of entries
 
-length-flat : (es : List RipEntry) → length (flat_map entry_bytes es) ≡ 12 * length es
+pub length-flat : (es : List RipEntry) → length (flat_map entry_bytes es) ≡ 12 * length es
 length-flat [] = refl
 length-flat (e ∷ es) = ap length (flat_map-cons entry_bytes e es) ∙ omega (arith, length-append (entry_bytes e) (flat_map entry_bytes es), length-flat es)
 
@@ -84,7 +84,7 @@ same_entries (a ∷ es) (b ∷ fs) xs ys len p q e =
 
 -- ---- packs
 
-length-rip : (bytes : List ℕ) (r : RipParts) → IsRip bytes r → length bytes ≡ 12 * length r.entries + 4
+pub length-rip : (bytes : List ℕ) (r : RipParts) → IsRip bytes r → length bytes ≡ 12 * length r.entries + 4
 length-rip bytes r is = ap length is.whole ∙ omega (arith, length-append (flat_map entry_bytes r.entries) (big_bytes 4 (packet_length r)), length-flat r.entries)
 
 same_parts : (a b : RipParts) → a.width ≡ b.width → a.entries ≡ b.entries → a ≡ b

@@ -10,12 +10,15 @@ mod random_index;
 pub use numbers::PartitionNumbers;
 pub use part::PackPart;
 pub use partition::{
-    PartitionPack, one_pack, one_pack_reading, partition_packs_are_read_as_written,
+    PartitionPack, one_pack, one_pack_reading, packs_are_read_by_their_places,
+    partition_packs_are_read_as_written,
 };
-pub use primer::{Primer, one_primer_reading, primers_are_read_as_written};
+pub use primer::{
+    Primer, one_primer_reading, primers_are_read_as_batches, primers_are_read_as_written,
+};
 pub use random_index::{
     Rip, RipEntry, entries_make_up_their_bytes, one_rip, one_rip_reading,
-    random_index_packs_are_read_as_written,
+    random_index_packs_are_read_as_written, random_index_packs_are_read_by_their_places,
 };
 use thiserror::Error;
 

@@ -1,9 +1,11 @@
 //! Partition packs (ST 377-1, Partition Pack).
-ghost use Rattle.std.specs.Prelude.{◌≡◌, ℕ, List, Ok, Result};
+ghost use Rattle.std.specs.Prelude.{◌≡◌, ◌↔◌, ℕ, List, Ok, Result};
 ghost use Rattle.std.specs.Option.{SomeIff};
 ghost use Rattle.mxf_klv.specs.Kind.{kind_of};
 ghost use Rattle.mxf_klv.specs.declared.kinds.Kind.{Kind};
+ghost use Rattle.mxf_klv.specs.Bytes.{AreBytes};
 ghost use Rattle.mxf_sets.specs.Batch.{HasItemsOf};
+ghost use Rattle.mxf_sets.specs.PackReadings.{pack_at};
 ghost use Rattle.mxf_sets.specs.PartitionPack.{ArePackParts, IsPartitionPack, PackParts, ReadsPack, pack_bytes, pack_key, pack_kind, pack_parts};
 ghost use Rattle.mxf_sets.specs.declared.pack.PackFault.{PackFault};
 
@@ -156,4 +158,9 @@ pub fn one_pack()
 pub fn partition_packs_are_read_as_written()
     ensures read_back { (pack : PackParts) → ArePackParts pack → ReadsPack (kind_of (pack_key pack.part pack.status)) (pack_bytes pack) (Ok pack) }
     ensures written_back { (kind : Kind) (bytes : List ℕ) (pack : PackParts) → ReadsPack kind bytes (Ok pack) → bytes ≡ pack_bytes pack }
+{}
+
+/// A law: what the value of a packet of a kind is, is computed from its places.
+pub fn packs_are_read_by_their_places()
+    ensures { (kind : Kind) (bytes : List ℕ) (r : Result PackParts PackFault) → AreBytes bytes → ReadsPack kind bytes r ↔ (r ≡ pack_at kind bytes) }
 {}

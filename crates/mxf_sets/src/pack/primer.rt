@@ -1,6 +1,8 @@
 //! Primer packs (ST 377-1, Primer Pack).
-ghost use Rattle.std.specs.Prelude.{◌≡◌, ◌==◌, ◌<◌, ℕ, List, Ok, Result, MatchOption};
+ghost use Rattle.std.specs.Prelude.{◌≡◌, ◌↔◌, ◌==◌, ◌<◌, ℕ, List, Ok, Result, MatchOption};
 ghost use Rattle.std.specs.Option.{SomeIff};
+ghost use Rattle.mxf_klv.specs.Bytes.{AreBytes};
+ghost use Rattle.mxf_sets.specs.PackReadings.{primer_at};
 ghost use Rattle.mxf_sets.specs.Batch.{BatchParts, HasItemsOf, batch_bytes};
 ghost use Rattle.mxf_sets.specs.Primer.{ArePrimerEntries, IsOnlyLabel, ReadsPrimer, label_at, tag_at};
 ghost use Rattle.mxf_sets.specs.declared.pack.PackFault.{PackFault};
@@ -115,4 +117,9 @@ pub fn one_primer_reading()
 pub fn primers_are_read_as_written()
     ensures read_back { (entries : BatchParts) → ArePrimerEntries entries → ReadsPrimer (batch_bytes entries) (Ok entries) }
     ensures written_back { (bytes : List ℕ) (entries : BatchParts) → ReadsPrimer bytes (Ok entries) → bytes ≡ batch_bytes entries }
+{}
+
+/// A law: what a value is as a primer pack is computed from its bytes.
+pub fn primers_are_read_as_batches()
+    ensures { (bytes : List ℕ) (r : Result BatchParts PackFault) → AreBytes bytes → ReadsPrimer bytes r ↔ (r ≡ primer_at bytes) }
 {}

@@ -1,9 +1,10 @@
 //! Random index packs (ST 377-1, Random Index Pack).
-ghost use Rattle.std.specs.Prelude.{◌≡◌, ◌==◌, ◌+◌, ◌*◌, ◌%◌, ◌^◌, ◌<◌, ℕ, List, Ok, Result, length, slice_get};
+ghost use Rattle.std.specs.Prelude.{◌≡◌, ◌↔◌, ◌==◌, ◌+◌, ◌*◌, ◌%◌, ◌^◌, ◌<◌, ℕ, List, Ok, Result, length, slice_get};
 ghost use Rattle.std.specs.List.{flat_map, AllByRecursion};
 ghost use Rattle.std.specs.Option.{SomeIff};
 ghost use Rattle.mxf_klv.specs.Bytes.{AreBytes};
 ghost use Rattle.mxf_klv.specs.Parts.{CanSpell};
+ghost use Rattle.mxf_sets.specs.PackReadings.{rip_at};
 ghost use Rattle.mxf_sets.specs.RandomIndexPack.{AreRipParts, IsEntry, IsRip, ReadsRip, RipParts, entries_of, entry_bytes, rip_bytes, rip_parts};
 ghost use Rattle.mxf_sets.specs.declared.pack.PackFault.{PackFault};
 
@@ -162,4 +163,9 @@ pub fn random_index_packs_are_read_as_written()
 pub fn entries_make_up_their_bytes()
     ensures bytes { (bytes : List ℕ) → AreBytes bytes → length bytes % 12 ≡ 0 → flat_map entry_bytes (entries_of bytes) ≡ bytes }
     ensures each { (bytes : List ℕ) → AreBytes bytes → length bytes % 12 ≡ 0 → AllByRecursion IsEntry (entries_of bytes) }
+{}
+
+/// A law: what a value is as a random index pack is computed from its places.
+pub fn random_index_packs_are_read_by_their_places()
+    ensures { (width : ℕ) (bytes : List ℕ) (r : Result RipParts PackFault) → AreBytes bytes → ReadsRip width bytes r ↔ (r ≡ rip_at width bytes) }
 {}
