@@ -1,6 +1,7 @@
 //! Which partition of a file a partition pack opens, and the keys that say so (ST 377-1, Partition Pack Key).
 ghost use Rattle.std.specs.Prelude.{◌≡◌, MatchOption};
 ghost use Rattle.mxf_klv.specs.Kind.{kind_of};
+ghost use Rattle.mxf_sets.specs.PackReadings.{part_and_status};
 ghost use Rattle.mxf_sets.specs.PartitionPack.{IsPartitionKind, pack_key, pack_kind, part_byte, status_byte};
 
 use mxf_klv::{Kind, Status};
@@ -16,7 +17,8 @@ pub enum PackPart {
 impl PackPart {
     /// The part and the status of a packet of this kind, where it has a partition pack.
     pub(super) fn of(kind: Kind) -> Option<(PackPart, Status)>
-        ensures { MatchOption result (¬ IsPartitionKind kind) (λ p. kind ≡ pack_kind p.0 p.1) }
+        ensures told { MatchOption result (¬ IsPartitionKind kind) (λ p. kind ≡ pack_kind p.0 p.1) }
+        ensures computed { result ≡ part_and_status kind }
     {
         match kind {
             Kind::Header(status) => Some((PackPart::Header, status)),

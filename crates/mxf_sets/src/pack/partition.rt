@@ -38,11 +38,23 @@ impl<'a> Model for PartitionPack<'a> {
 impl<'a> PartitionPack<'a> {
     /// Reads all of the value of the packet with this key (ST 377-1, Partition Pack).
     pub fn read(key: &Ul, value: &'a [u8]) -> Result<PartitionPack<'a>, PackFault>
-        ensures { ReadsPack (kind_of key.now) value.now result }
+        ensures reads { ReadsPack (kind_of key.now) value.now result }
+        ensures computed { result ≡ pack_at (kind_of key.now) value.now }
     {
         let Some((part, status)) = PackPart::of(kind(key)) else {
             return Err(PackFault::NotThisKind);
         };
+        PartitionPack::read_value(part, status, value)
+    }
+
+    /// Reads the value under the part and the status that its key tells.
+    fn read_value(
+        part: PackPart,
+        status: Status,
+        value: &'a [u8],
+    ) -> Result<PartitionPack<'a>, PackFault>
+        ensures { ReadsPack (pack_kind part status) value.now result }
+    {
         let Some((numbers, rest)) = value.split_first_chunk::<64>() else {
             return Err(PackFault::Short);
         };

@@ -33,7 +33,8 @@ impl<'a> Model for Primer<'a> {
 impl<'a> Primer<'a> {
     /// Reads all of the value (ST 377-1, Primer Pack). The only fault is [`PackFault::BadBatch`].
     pub fn read(value: &'a [u8]) -> Result<Primer<'a>, PackFault>
-        ensures { ReadsPrimer value.now result }
+        ensures reads { ReadsPrimer value.now result }
+        ensures computed { result ≡ primer_at value.now }
     {
         let Ok(entries) = Batch::read(value, 18) else {
             return Err(PackFault::BadBatch);

@@ -63,7 +63,8 @@ impl<'a> Rip<'a> {
     /// Fails where the value has fewer than 4 bytes ([`PackFault::Short`]), or it has no whole number of entries or states
     /// another packet length ([`PackFault::WrongLength`]).
     pub fn read(width: u8, value: &'a [u8]) -> Result<Rip<'a>, PackFault>
-        ensures { ReadsRip width value.now result }
+        ensures reads { ReadsRip width value.now result }
+        ensures computed { result ≡ rip_at width value.now }
     {
         let Some((entries, last)) = value.split_last_chunk::<4>() else {
             return Err(PackFault::Short);

@@ -4,8 +4,8 @@ use Rattle.mxf_sets.proofs.Numbers.{AreBytes-drop}
 use Rattle.mxf_sets.proofs.RipLaws.{rip_read}
 use Rattle.mxf_sets.proofs.pack.random_index.Rip.read.Goals as goal
 
-pub returns : goal.returns
-returns c =
+pub returns-clause-reads : goal.returns-clause-reads
+returns-clause-reads c =
     let bytes = c.args.value.now in
     let k = c.in-Some.ensures.cases in
     let n = c.entry_count-count.ensures in (
