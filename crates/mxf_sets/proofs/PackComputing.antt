@@ -1,11 +1,10 @@
 -- The readings of packs, computed: they are what the relations say, both ways.
-use Rattle.std.proofs.Common.{◌≡◌, ℕ, ◌+◌, ◌-◌, ◌%◌, ◌<◌, ◌≤◌, ◌⊎◌, ◌↔◌, ◌++◌, List, [], Bool, true, false, cond, length, length-drop, take, drop, Option, None, Some, Result, Ok, Err, refl, sym, ap, subst, ◌∙◌, arith, inl, inr, le-leb, leb-true, eq-eqb, eqb-true}
-use Rattle.std.proofs.lemmas.Bool.{lt-leb, leb-false}
-use Rattle.std.proofs.lemmas.List.{take_at, drop_at, take-append-drop, drop-drop, length-take}
+use Rattle.std.proofs.Common.{◌≡◌, ℕ, ◌+◌, ◌-◌, ◌%◌, ◌≤◌, ◌⊎◌, ◌↔◌, ◌++◌, List, Bool, true, false, cond, length, length-drop, take, drop, None, Some, Result, Ok, Err, refl, sym, ap, subst, ◌∙◌, arith, inl, inr, leb-true, eq-eqb, eqb-true}
+use Rattle.std.proofs.lemmas.Bool.{leb-false}
+use Rattle.std.proofs.lemmas.List.{take-append-drop, drop-drop, length-take}
 use Rattle.std.specs.Prelude.{nat_le, ◌==◌, ◌&&◌}
-use Rattle.std.specs.List.{flat_map}
 use Rattle.byteorder.specs.Endian.{big_number, big_bytes}
-use Rattle.byteorder.specs.Numbers.{big_number-reads_back, big_from-lt}
+use Rattle.byteorder.specs.Numbers.{big_from-lt}
 use Rattle.mxf_klv.specs.Bytes.{AreBytes}
 use Rattle.mxf_klv.proofs.RoundTrips.{AreBytes-take}
 use Rattle.mxf_klv.specs.declared.kinds.Kind.{Kind}
@@ -15,19 +14,18 @@ use Rattle.mxf_sets.specs.declared.pack.PackFault.{PackFault}
 use Rattle.mxf_sets.specs.declared.pack.PackFault.TheVariants as faults
 use Rattle.mxf_sets.specs.declared.pack.part.PackPart.{PackPart}
 use Rattle.mxf_sets.specs.declared.pack.part.PackPart.TheVariants.{Header, Body, Footer}
-use Rattle.mxf_sets.specs.declared.pack.numbers.PartitionNumbers.{PartitionNumbers}
-use Rattle.mxf_sets.specs.Batch.{BatchParts, IsBatch, HasItemsOf, batch_bytes}
+use Rattle.mxf_sets.specs.Batch.{BatchParts, IsBatch, HasItemsOf}
 use Rattle.mxf_sets.specs.Fields.{is_batch}
 use Rattle.mxf_sets.specs.Primer.{ReadsPrimer}
 use Rattle.mxf_sets.specs.PartitionPack.{pack_kind, AreNumbers, numbers_bytes, PackParts, IsPartitionPack, IsPartitionKind, ReadsPack}
-use Rattle.mxf_sets.specs.RandomIndexPack.{entry_bytes, RipParts, packet_length, IsRip, ReadsRip, entries_of, rip_parts}
+use Rattle.mxf_sets.specs.RandomIndexPack.{RipParts, ReadsRip, entries_of, rip_parts}
 use Rattle.mxf_sets.specs.PackReadings.{batch_in, numbers_in, part_and_status, pack_in, pack_under, pack_at, primer_at, rip_at}
-use Rattle.mxf_sets.proofs.BatchLaws.{stated, length-batch_bytes}
-use Rattle.mxf_sets.proofs.BatchTests.{tested_batch, batch_tested, test_fails}
+use Rattle.mxf_sets.proofs.BatchLaws.{stated}
+use Rattle.mxf_sets.proofs.BatchTests.{tested_batch, batch_tested}
 use Rattle.mxf_sets.proofs.Numbers.{AreBytes-drop}
-use Rattle.mxf_sets.proofs.PackLaws.{labels_at, same_fields, same_parts, one_pack_read}
+use Rattle.mxf_sets.proofs.PackLaws.{one_pack_read}
 use Rattle.mxf_sets.proofs.PrimerLaws.{one_primer_read}
-use Rattle.mxf_sets.proofs.RipLaws.{number_here, length-rip, length-flat, length-entries_of, entries_are, one_rip_read, rip_read}
+use Rattle.mxf_sets.proofs.RipLaws.{number_here, length-entries_of, entries_are, one_rip_read, rip_read}
 
 -- ---- batches
 
@@ -190,13 +188,18 @@ rip_computed width bytes h =
                 let whole : rest % 12 ≡ 0 = eqb-true (rest % 12) 0 both.0 in
                 let number : big_number 4 last ≡ 16 + width + length bytes = eqb-true (big_number 4 last) (16 + width + length bytes) both.1 in
                 let cut : length front ≡ rest = omega (arith, length-take rest bytes) in
-                let entries = entries_are front (ap (λ (k : ℕ). k % 12) cut ∙ whole) (AreBytes-take rest bytes h) in
-                (refl, rip_read width bytes front last refl refl (omega arith) (omega (arith, length-drop rest bytes)) (AreBytes-drop rest bytes h) number
-                    entries.0 entries.1 (omega (arith, length-entries_of front)))
-            | false ↦ λ u. (long, elim (one_fails (rest % 12 == 0) (big_number 4 last == 16 + width + length bytes) u) [
+                let entries = entries_are front (ap (λ (k : ℕ). k % 12) cut ∙ whole) (AreBytes-take rest bytes h) in (
+                  refl,
+                  rip_read width bytes front last refl refl (omega arith) (omega (arith, length-drop rest bytes)) (AreBytes-drop rest bytes h) number
+                      entries.0 entries.1 (omega (arith, length-entries_of front)),
+                )
+            | false ↦ λ u. (
+              long,
+              elim (one_fails (rest % 12 == 0) (big_number 4 last == 16 + width + length bytes) u) [
                 | inl p ↦ inl (λ e. let q = eq-eqb (rest % 12) 0 e in cc (p, q))
                 | inr p ↦ inr (λ e. let q = eq-eqb (big_number 4 last) (16 + width + length bytes) e in cc (p, q))
-              ])
+              ],
+            )
           ] refl
       | false ↦ λ f. leb-false 4 (length bytes) f
     ] refl

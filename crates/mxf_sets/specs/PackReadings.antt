@@ -1,6 +1,6 @@
 -- What values are read as, as functions of their bytes (ST 377-1, Partition Pack, Primer Pack, Random Index Pack). The
 -- readers' clauses name them, and the law of readings says that they are the relations of the packs.
-use Rattle.std.specs.Prelude.{ℕ, zero, suc, ◌+◌, ◌-◌, ◌%◌, ◌==◌, ◌&&◌, nat_le, if◌then◌else◌, List, [], ◌∷◌, length, take, drop, filter, map, Option, Some, None, Result, Ok, Err}
+use Rattle.std.specs.Prelude.{ℕ, ◌+◌, ◌-◌, ◌%◌, ◌==◌, ◌&&◌, nat_le, if◌then◌else◌, List, [], ◌∷◌, length, take, drop, filter, map, Option, Some, None, Result, Ok, Err}
 use Rattle.std.specs.List.{list_all}
 use Rattle.std.specs.Str.{bytes_eq}
 use Rattle.byteorder.specs.Endian.{big_number}
@@ -70,14 +70,14 @@ rip_at width bytes =
     let rest = length bytes - 4 in
     if nat_le 4 (length bytes)
     then (
-      if (rest % 12 == 0) && (big_number 4 (drop rest bytes) == 16 + width + length bytes)
-      then Ok (rip_parts width (entries_of (take rest bytes)))
-      else Err faults.WrongLength)
+    if (rest % 12 == 0) && (big_number 4 (drop rest bytes) == 16 + width + length bytes)
+    then Ok (rip_parts width (entries_of (take rest bytes)))
+    else Err faults.WrongLength)
     else Err faults.Short
 
--- The labels of the entries with the tag, in the order of the entries.
-abbrev pub labels_of : ℕ → BatchParts → List (List ℕ)
-labels_of tag entries = map (λ entry. drop 2 entry) (filter (λ entry. big_number 2 entry == tag) (batch_items entries))
+-- The labels of those entries that have the tag, in their order.
+abbrev pub labels_among : ℕ → List (List ℕ) → List (List ℕ)
+labels_among tag entries = map (λ entry. drop 2 entry) (filter (λ entry. big_number 2 entry == tag) entries)
 
 -- The one that all of them are, where there are any.
 abbrev pub agreed : List (List ℕ) → Option (List ℕ)
@@ -86,4 +86,4 @@ agreed (label ∷ labels) = if list_all (λ other. bytes_eq label other) labels 
 
 -- The label of a tag: the one that its entries agree on (this project's profile).
 abbrev pub label_of : ℕ → BatchParts → Option (List ℕ)
-label_of tag entries = agreed (labels_of tag entries)
+label_of tag entries = agreed (labels_among tag (batch_items entries))

@@ -17,7 +17,7 @@ pub use primer::{
     Primer, one_primer_reading, primers_are_read_as_batches, primers_are_read_as_written,
 };
 pub use random_index::{
-    Rip, RipEntry, entries_make_up_their_bytes, one_rip, one_rip_reading,
+    Rip, RipEntries, RipEntry, entries_make_up_their_bytes, one_rip, one_rip_reading,
     random_index_packs_are_read_as_written, random_index_packs_are_read_by_their_places,
 };
 use thiserror::Error;

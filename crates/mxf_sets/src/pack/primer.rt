@@ -1,15 +1,18 @@
 //! Primer packs (ST 377-1, Primer Pack).
 ghost use Rattle.std.specs.Prelude.{◌≡◌, ◌↔◌, ◌==◌, ◌<◌, ℕ, List, Ok, Result, MatchOption};
 ghost use Rattle.std.specs.Option.{SomeIff};
+ghost use Rattle.std.specs.Str.{bytes_eq};
 ghost use Rattle.mxf_klv.specs.Bytes.{AreBytes};
-ghost use Rattle.mxf_sets.specs.PackReadings.{primer_at};
-ghost use Rattle.mxf_sets.specs.Batch.{BatchParts, HasItemsOf, batch_bytes};
-ghost use Rattle.mxf_sets.specs.Primer.{ArePrimerEntries, IsOnlyLabel, ReadsPrimer, label_at, tag_at};
+ghost use Rattle.mxf_sets.specs.PackReadings.{agreed, label_of, labels_among, primer_at};
+ghost use Rattle.mxf_sets.specs.Batch.{BatchParts, HasItemsOf, batch_bytes, batch_items};
+ghost use Rattle.mxf_sets.specs.Primer.{ArePrimerEntries, IsOnlyLabel, ReadsPrimer};
 ghost use Rattle.mxf_sets.specs.declared.pack.PackFault.{PackFault};
+
+mod labels;
 
 use super::PackFault;
 use crate::Batch;
-use byteorder::{BigEndian, ByteOrder};
+use labels::Labels;
 use mxf_klv::{Encode, Progress, WriteFault};
 use std::io::Write;
 use std::marker::Model;
@@ -69,35 +72,37 @@ impl<'a> Primer<'a> {
 
     /// The label that the entries of the tag agree on. None where no entry has the tag, or two have different labels.
     pub fn label(&self, tag: u16) -> Option<[u8; 16]>
-        ensures { MatchOption result ((l : List ℕ) → ¬ IsOnlyLabel tag self.now l) (λ l. IsOnlyLabel tag self.now l) }
+        ensures agreed { MatchOption result ((l : List ℕ) → ¬ IsOnlyLabel tag self.now l) (λ l. IsOnlyLabel tag self.now l) }
+        ensures computed { result ≡ label_of tag self.now }
     {
-        let mut found: Option<[u8; 16]> = None;
-        for place in 0..self.entries.len() {
-            let (own, label) = self.entry(place);
-            if own == tag {
-                if let Some(first) = found {
-                    if first != label {
-                        return None;
-                    }
-                }
-                found = Some(label);
-            }
-        }
-        found
+        agreed(self.labels(tag))
     }
 
-    /// The tag and the label of an entry.
-    fn entry(&self, place: usize) -> (u16, [u8; 16])
-        requires { place < self.now.count }
-        ensures tag { result.0 ≡ tag_at self.now place }
-        ensures label { result.1 ≡ label_at self.now place }
+    /// The labels of the entries of the tag, in their order.
+    fn labels(&self, tag: u16) -> Labels<'a>
+        ensures { result ≡ labels_among tag (batch_items self.now) }
     {
-        let item = self.entries.get(place).unwrap();
-        let (_, rest) = item.split_at(2);
-        let mut label = [0; 16];
-        label.copy_from_slice(rest);
-        (BigEndian::read_u16(item), label)
+        Labels::of(tag, self.entries.items())
     }
+}
+
+/// The label that all of these are, where there are any.
+fn agreed(mut labels: Labels<'_>) -> Option<[u8; 16]>
+    ensures { result ≡ agreed labels.entry }
+{
+    let first = labels.next()?;
+    for other in labels {
+        if !is_same(&first, &other) {
+            return None;
+        }
+    }
+    Some(first)
+}
+
+fn is_same(label: &[u8; 16], other: &[u8; 16]) -> bool
+    ensures { result ≡ bytes_eq label.now other.now }
+{
+    label == other
 }
 
 /// The batch of the entries. Key and length are those of the packet that holds the value.

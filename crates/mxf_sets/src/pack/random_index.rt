@@ -8,8 +8,12 @@ ghost use Rattle.mxf_sets.specs.PackReadings.{rip_at};
 ghost use Rattle.mxf_sets.specs.RandomIndexPack.{AreRipParts, IsEntry, IsRip, ReadsRip, RipParts, entries_of, entry_bytes, rip_bytes, rip_parts};
 ghost use Rattle.mxf_sets.specs.declared.pack.PackFault.{PackFault};
 
+mod entries;
+
 use super::PackFault;
 use byteorder::{BigEndian, ByteOrder};
+pub use entries::RipEntries;
+use entries::read_entry;
 use mxf_klv::{Ber, Encode, Progress, WriteFault};
 use std::io::Write;
 use std::marker::Model;
@@ -123,11 +127,15 @@ impl<'a> Rip<'a> {
             return None;
         }
         let (_, rest) = self.entries.split_at(ENTRY * place);
-        let (_, offset) = rest.split_at(4);
-        Some(RipEntry {
-            body_sid: BigEndian::read_u32(rest),
-            offset: BigEndian::read_u64(offset),
-        })
+        Some(read_entry(rest))
+    }
+
+    /// The entries in their order.
+    #[tactic(auto, unfolding(crate::specs::RandomIndexPack::entries_of))]
+    pub fn entries(&self) -> RipEntries<'a>
+        ensures { result ≡ self.now.entries }
+    {
+        RipEntries::of(self.entries.len() / ENTRY, self.entries)
     }
 }
 
