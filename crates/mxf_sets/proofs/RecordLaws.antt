@@ -8,7 +8,7 @@ use Rattle.mxf_sets.specs.declared.record.Field.{Field}
 use Rattle.mxf_sets.specs.declared.record.FieldFault.TheVariants.{Set, RepeatedTag, Missing, WrongWidth}
 use Rattle.mxf_sets.specs.Items.{ItemParts, AreItems, items_of, left_of}
 use Rattle.mxf_sets.specs.Lookup.{value_of, count_of}
-use Rattle.mxf_sets.specs.Fields.{Meets, checked, fields_at, fits, first_tag, is_missing, is_repeated, is_wrong, or_else}
+use Rattle.mxf_sets.specs.Fields.{Meets, checked, fields_at, has_shape, first_tag, is_missing, is_repeated, is_wrong, or_else}
 use Rattle.mxf_sets.proofs.ItemLemmas.{are_items, empty_from_test, only_are}
 use Rattle.mxf_sets.proofs.Checks.{head_clear}
 
@@ -43,7 +43,7 @@ meets_of : (items : List ItemParts) (f : Field) → is_repeated items f ≡ fals
 meets_of items f r m w = record {
   once = ltb-false 1 (count_of f.tag items) r;
   there = there_of f.required (value_of f.tag items) m;
-  shaped = shaped_of (fits f.shape) (value_of f.tag items) w;
+  shaped = shaped_of (has_shape f.shape) (value_of f.tag items) w;
 }
 
 -- ---- the table
@@ -75,7 +75,7 @@ none_missing items (f ∷ fs) h = (of_there f.required (value_of f.tag items) h.
 
 none_wrong : (items : List ItemParts) (fields : List Field) → AllByRecursion (Meets items) fields → AllByRecursion (λ f. is_wrong items f ≡ false) fields
 none_wrong items [] h = tt
-none_wrong items (f ∷ fs) h = (of_shaped (fits f.shape) (value_of f.tag items) h.0.shaped, none_wrong items fs h.1)
+none_wrong items (f ∷ fs) h = (of_shaped (has_shape f.shape) (value_of f.tag items) h.0.shaped, none_wrong items fs h.1)
 
 -- items that nothing is found at fault in meet the table
 checked_meets : (fields : List Field) (items given x : List ItemParts) → checked fields items given ≡ Ok x → AllByRecursion (Meets items) fields × (given ≡ x)

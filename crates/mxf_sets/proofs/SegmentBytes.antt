@@ -5,20 +5,21 @@ use Rattle.std.specs.List.{flat_map, AllByRecursion}
 use Rattle.std.proofs.lemmas.Grind.{flat_map-append}
 use Rattle.byteorder.specs.Endian.{big_bytes}
 use Rattle.mxf_sets.specs.declared.segment.numbers.SegmentNumbers.{SegmentNumbers}
-use Rattle.mxf_sets.specs.Items.{ItemParts, IsItem, item_bytes}
-use Rattle.mxf_sets.specs.Segment.{SegmentParts, entry_count, entry_item, item, entry_items, entry_size, number_items, segment_bytes}
+use Rattle.mxf_sets.specs.declared.segment.numbers.TheConstants.{EDIT_RATE, START, DURATION, UNIT_BYTES, INDEX_SID, BODY_SID, SLICES, POSITIONS, ENTRIES}
+use Rattle.mxf_sets.specs.Items.{item, ItemParts, IsItem, item_bytes}
+use Rattle.mxf_sets.specs.Segment.{SegmentParts, entry_count, entry_item, entry_items, entry_size, number_items, segment_bytes}
 
 -- the item of the entries by the parts that are written
 pub entry_parts : (s : SegmentParts) (e : List ℕ) (size : ℕ) → e ≡ s.entries → size ≡ entry_size s.numbers → item_bytes (entry_item s)
-    ≡ (to_be_bytes w16 0x3F0A ++ to_be_bytes w16 (8 + length e)) ++ ((big_bytes 4 (length e / size) ++ big_bytes 4 size) ++ e)
+    ≡ (to_be_bytes w16 ENTRIES ++ to_be_bytes w16 (8 + length e)) ++ ((big_bytes 4 (length e / size) ++ big_bytes 4 size) ++ e)
 entry_parts s e size same sized =
     let head = big_bytes 4 (entry_count s) ++ big_bytes 4 (entry_size s.numbers) in
     let len : length (head ++ s.entries) ≡ 8 + length s.entries = length-append head s.entries in
-    ap (λ (k : ℕ). (to_be_bytes w16 0x3F0A ++ to_be_bytes w16 k) ++ (head ++ s.entries)) len
-    ∙ ap (λ (t : List ℕ). (to_be_bytes w16 0x3F0A ++ to_be_bytes w16 (8 + length t)) ++ ((big_bytes 4 (length t / entry_size s.numbers) ++ big_bytes 4 (entry_size s.numbers)) ++ t)) (sym same)
-    ∙ ap (λ (k : ℕ). (to_be_bytes w16 0x3F0A ++ to_be_bytes w16 (8 + length e)) ++ ((big_bytes 4 (length e / k) ++ big_bytes 4 k) ++ e)) (sym sized)
+    ap (λ (k : ℕ). (to_be_bytes w16 ENTRIES ++ to_be_bytes w16 k) ++ (head ++ s.entries)) len
+    ∙ ap (λ (t : List ℕ). (to_be_bytes w16 ENTRIES ++ to_be_bytes w16 (8 + length t)) ++ ((big_bytes 4 (length t / entry_size s.numbers) ++ big_bytes 4 (entry_size s.numbers)) ++ t)) (sym same)
+    ∙ ap (λ (k : ℕ). (to_be_bytes w16 ENTRIES ++ to_be_bytes w16 (8 + length e)) ++ ((big_bytes 4 (length e / k) ++ big_bytes 4 k) ++ e)) (sym sized)
 
-pub entry_written : (s : SegmentParts) (e : List ℕ) (size : ℕ) (first second : List ℕ) → e ≡ s.entries → size ≡ entry_size s.numbers → first ≡ to_be_bytes w16 0x3F0A ++ to_be_bytes w16 (8 + length e)
+pub entry_written : (s : SegmentParts) (e : List ℕ) (size : ℕ) (first second : List ℕ) → e ≡ s.entries → size ≡ entry_size s.numbers → first ≡ to_be_bytes w16 ENTRIES ++ to_be_bytes w16 (8 + length e)
     → second ≡ big_bytes 4 (length e / size) ++ big_bytes 4 size → item_bytes (entry_item s) ≡ first ++ (second ++ e)
 entry_written s e size first second same sized is1 is2 =
     entry_parts s e size same sized ∙ ap (λ (t : List ℕ). t ++ ((big_bytes 4 (length e / size) ++ big_bytes 4 size) ++ e)) (sym is1) ∙ ap (λ (t : List ℕ). first ++ (t ++ e)) (sym is2)
@@ -26,8 +27,8 @@ entry_written s e size first second same sized is1 is2 =
 -- the items of the numbers by the bytes of each
 pub numbers_written : (n : SegmentNumbers) (rate start duration unit_bytes index_sid body_sid : List ℕ) → rate ≡ big_bytes 4 (cast_unsigned w32 n.edit_rate.0) ++ big_bytes 4 (cast_unsigned w32 n.edit_rate.1)
     → start ≡ big_bytes 8 (cast_unsigned w64 n.start) → duration ≡ big_bytes 8 (cast_unsigned w64 n.duration) → unit_bytes ≡ big_bytes 4 n.unit_bytes → index_sid ≡ big_bytes 4 n.index_sid
-    → body_sid ≡ big_bytes 4 n.body_sid → item 0x3F0B rate ∷ item 0x3F0C start ∷ item 0x3F0D duration ∷ item 0x3F05 unit_bytes ∷ item 0x3F06 index_sid ∷ item 0x3F07 body_sid
-    ∷ item 0x3F08 (n.slices ∷ []) ∷ item 0x3F0E (n.positions ∷ []) ∷ [] ≡ number_items n
+    → body_sid ≡ big_bytes 4 n.body_sid → item EDIT_RATE rate ∷ item START start ∷ item DURATION duration ∷ item UNIT_BYTES unit_bytes ∷ item INDEX_SID index_sid ∷ item BODY_SID body_sid
+    ∷ item SLICES (n.slices ∷ []) ∷ item POSITIONS (n.positions ∷ []) ∷ [] ≡ number_items n
 numbers_written n rate start duration unit_bytes index_sid body_sid r s d u i b = rw (r, s, d, u, i, b) refl
 
 pub by_parts : (s : SegmentParts) (n : SegmentNumbers) → n ≡ s.numbers → segment_bytes s ≡ flat_map item_bytes (number_items n) ++ flat_map item_bytes (entry_items s)

@@ -9,6 +9,7 @@ use Rattle.std.specs.Option.{option_map, option_map_or}
 use Rattle.std.specs.List.{AllByRecursion}
 use Rattle.byteorder.specs.Endian.{big_number}
 use Rattle.mxf_sets.specs.declared.segment.numbers.SegmentNumbers.{SegmentNumbers}
+use Rattle.mxf_sets.specs.declared.segment.numbers.TheConstants.{ENTRIES}
 use Rattle.mxf_sets.specs.Items.{ItemParts, IsItem}
 use Rattle.mxf_sets.specs.Lookup.{value_of}
 use Rattle.mxf_sets.specs.Fields.{is_batch}
@@ -53,14 +54,14 @@ batch_fits n v zero_units b h =
 
 pub entries_fit : (n : SegmentNumbers) (items : List ItemParts) (e : List ℕ) → AllByRecursion IsItem items → entries_in n items ≡ Some e → AreEntries n e
 entries_fit n items e small is =
-    elim (nat_lt 0 n.unit_bytes) as (λ b. nat_lt 0 n.unit_bytes ≡ b → cond b (Some []) (option_map_or (λ v. cond (is_batch (entry_size n) v) (Some (drop 8 v)) None) (value_of 0x3F0A items) (Some [])) ≡ Some e → AreEntries n e) [
+    elim (nat_lt 0 n.unit_bytes) as (λ b. nat_lt 0 n.unit_bytes ≡ b → cond b (Some []) (option_map_or (λ v. cond (is_batch (entry_size n) v) (Some (drop 8 v)) None) (value_of ENTRIES items) (Some [])) ≡ Some e → AreEntries n e) [
       | true ↦ λ u q. (let same : [] ≡ e = cc in subst (λ t. AreEntries n t) same (none_fit n))
       | false ↦ λ u q.
-          elim (value_of 0x3F0A items) as (λ o. value_of 0x3F0A items ≡ o → option_map_or (λ v. cond (is_batch (entry_size n) v) (Some (drop 8 v)) None) o (Some []) ≡ Some e → AreEntries n e) [
+          elim (value_of ENTRIES items) as (λ o. value_of ENTRIES items ≡ o → option_map_or (λ v. cond (is_batch (entry_size n) v) (Some (drop 8 v)) None) o (Some []) ≡ Some e → AreEntries n e) [
             | None ↦ λ w p. (let same : [] ≡ e = cc in subst (λ t. AreEntries n t) same (none_fit n))
             | Some v ↦ λ w p.
                 elim (is_batch (entry_size n) v) as (λ b. is_batch (entry_size n) v ≡ b → cond b (Some (drop 8 v)) None ≡ Some e → AreEntries n e) [
-                  | true ↦ λ b r. (let same : drop 8 v ≡ e = cc in subst (λ t. AreEntries n t) same (batch_fits n v u b (small_value 0x3F0A items v small w)))
+                  | true ↦ λ b r. (let same : drop 8 v ≡ e = cc in subst (λ t. AreEntries n t) same (batch_fits n v u b (small_value ENTRIES items v small w)))
                   | false ↦ λ b r. absurd cc
                 ] refl p
           ] refl q

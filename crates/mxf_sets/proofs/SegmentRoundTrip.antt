@@ -8,9 +8,10 @@ use Rattle.std.proofs.lemmas.Nat.{div-add-mod'}
 use Rattle.byteorder.specs.Endian.{big_number, big_bytes}
 use Rattle.byteorder.specs.Numbers.{big_number-reads_back}
 use Rattle.mxf_sets.specs.declared.segment.numbers.SegmentNumbers.{SegmentNumbers}
-use Rattle.mxf_sets.specs.Items.{ItemParts, IsItem, item_bytes, items_of}
+use Rattle.mxf_sets.specs.declared.segment.numbers.TheConstants.{ENTRIES}
+use Rattle.mxf_sets.specs.Items.{item, ItemParts, IsItem, item_bytes, items_of}
 use Rattle.mxf_sets.specs.Fields.{is_batch, checked, fields_at}
-use Rattle.mxf_sets.specs.Segment.{AreNumbers, IsSegment, SegmentParts, entries_in, entry_count, entry_item, item, then_segment, entry_size, number_items, segment_at, segment_bytes, segment_fields, segment_numbers, segment_of}
+use Rattle.mxf_sets.specs.Segment.{AreSegmentNumbers, IsSegment, SegmentParts, entries_in, entry_count, entry_item, then_segment, entry_size, number_items, segment_at, segment_bytes, segment_fields, segment_numbers, segment_of}
 use Rattle.mxf_sets.specs.declared.record.FieldFault.TheVariants.{Set}
 use Rattle.mxf_sets.proofs.ItemLemmas.{only_items}
 use Rattle.mxf_sets.proofs.SegmentLemmas.{segment_made}
@@ -35,7 +36,7 @@ same_numbers : (n : SegmentNumbers) (a b s d : ℤ) (u i o l p : ℕ) → a ≡ 
 same_numbers n a b s d u i o l p ea eb es ed eu ei eo el ep = rw (ea, eb, es, ed, eu, ei, eo, el, ep) refl
 
 -- the numbers of the items are those that they were made of
-numbers_back : (n : SegmentNumbers) (more : List ItemParts) → AreNumbers n → segment_numbers (number_items n ++ more) ≡ n
+numbers_back : (n : SegmentNumbers) (more : List ItemParts) → AreSegmentNumbers n → segment_numbers (number_items n ++ more) ≡ n
 numbers_back n more are =
     same_numbers n _ _ _ _ _ _ _ _ _ (signed_back_4 n.edit_rate.0 (big_bytes 4 (cast_unsigned w32 n.edit_rate.1)) are.rate.0) (signed_back_4 n.edit_rate.1 [] are.rate.1) (signed_back_8 n.start are.start)
     (signed_back_8 n.duration are.duration) (number_back 4 n.unit_bytes [] are.unit_bytes) (number_back 4 n.index_sid [] are.index_sid) (number_back 4 n.body_sid [] are.body_sid) (byte_back n.slices)
@@ -46,7 +47,7 @@ numbers_back n more are =
 checked_numbers : (n : SegmentNumbers) → checked segment_fields (number_items n) (number_items n) ≡ Ok (number_items n)
 checked_numbers n = refl
 
-checked_entries : (n : SegmentNumbers) (v : List ℕ) → checked segment_fields (number_items n ++ (item 0x3F0A v ∷ [])) (number_items n ++ (item 0x3F0A v ∷ [])) ≡ Ok (number_items n ++ (item 0x3F0A v ∷ []))
+checked_entries : (n : SegmentNumbers) (v : List ℕ) → checked segment_fields (number_items n ++ (item ENTRIES v ∷ [])) (number_items n ++ (item ENTRIES v ∷ [])) ≡ Ok (number_items n ++ (item ENTRIES v ∷ []))
 checked_entries n v = refl
 
 -- items that have bytes are read back
@@ -106,10 +107,10 @@ batch_back size count e hc hs len =
     let whole : length v ≡ 8 + big_number 4 v * size = l ∙ ap (λ (k : ℕ). 8 + k) (len ∙ ap (λ (k : ℕ). k * size) (sym c)) in
     and_true _ _ _ (le-leb 8 (length v) (omega (arith, l))) (or_true _ _ (eq-eqb (big_number 4 (drop 4 v)) size s)) (eq-eqb (length v) (8 + big_number 4 v * size) whole)
 
-small_size : (n : SegmentNumbers) → AreNumbers n → entry_size n < 256 ^ 4
+small_size : (n : SegmentNumbers) → AreSegmentNumbers n → entry_size n < 256 ^ 4
 small_size n are = omega (arith, are.slices, are.positions)
 
-entries_back : (s : SegmentParts) → AreNumbers s.numbers → IsSegment s → nat_lt 0 s.numbers.unit_bytes ≡ false → Some s.entries ≡ entries_in s.numbers (number_items s.numbers ++ (entry_item s ∷ []))
+entries_back : (s : SegmentParts) → AreSegmentNumbers s.numbers → IsSegment s → nat_lt 0 s.numbers.unit_bytes ≡ false → Some s.entries ≡ entries_in s.numbers (number_items s.numbers ++ (entry_item s ∷ []))
 entries_back s are is zero_units =
     let size = entry_size s.numbers in
     let count = entry_count s in
@@ -126,7 +127,7 @@ entries_back s are is zero_units =
 not_negative : (z : ℤ) → pos 0 ≤ℤ z → is_negative z ≡ false
 not_negative z h = grind (arith, ints)
 
-read_constant : (s : SegmentParts) → AreNumbers s.numbers → IsSegment s → nat_lt 0 s.numbers.unit_bytes ≡ true → segment_at (segment_bytes s) ≡ Ok s
+read_constant : (s : SegmentParts) → AreSegmentNumbers s.numbers → IsSegment s → nat_lt 0 s.numbers.unit_bytes ≡ true → segment_at (segment_bytes s) ≡ Ok s
 read_constant s are is some =
     let n = s.numbers in
     let bytes : segment_bytes s ≡ flat_map item_bytes (number_items n ++ []) = ap (λ (b : Bool). flat_map item_bytes (number_items n ++ cond b [] (entry_item s ∷ []))) some in
@@ -135,17 +136,17 @@ read_constant s are is some =
     ap segment_at bytes ∙ ap (then_segment segment_of) (fields_back (number_items n) (are_number_items n [] tt) (checked_numbers n))
     ∙ sym (segment_made (number_items n) n s.entries (sym (numbers_back n [] are)) entries (not_negative n.start is.start) (not_negative n.duration is.duration))
 
-read_entries : (s : SegmentParts) → AreNumbers s.numbers → IsSegment s → nat_lt 0 s.numbers.unit_bytes ≡ false → segment_at (segment_bytes s) ≡ Ok s
+read_entries : (s : SegmentParts) → AreSegmentNumbers s.numbers → IsSegment s → nat_lt 0 s.numbers.unit_bytes ≡ false → segment_at (segment_bytes s) ≡ Ok s
 read_entries s are is none =
     let n = s.numbers in
     let room : 8 + length s.entries ≤ 65535 = is.room in
     let all = number_items n ++ (entry_item s ∷ []) in
     let bytes : segment_bytes s ≡ flat_map item_bytes (number_items n ++ (entry_item s ∷ [])) = ap (λ (b : Bool). flat_map item_bytes (number_items n ++ cond b [] (entry_item s ∷ []))) none in
-    let last : IsItem (entry_item s) = is_item 0x3F0A ((big_bytes 4 (entry_count s) ++ big_bytes 4 (entry_size n)) ++ s.entries) (omega arith) (omega (arith, room, length-append (big_bytes 4 (entry_count s) ++ big_bytes 4 (entry_size n)) s.entries)) in
+    let last : IsItem (entry_item s) = is_item ENTRIES ((big_bytes 4 (entry_count s) ++ big_bytes 4 (entry_size n)) ++ s.entries) (omega arith) (omega (arith, room, length-append (big_bytes 4 (entry_count s) ++ big_bytes 4 (entry_size n)) s.entries)) in
     ap segment_at bytes ∙ ap (then_segment segment_of) (fields_back (number_items n ++ (entry_item s ∷ [])) (are_number_items n (entry_item s ∷ []) (last, tt)) (checked_entries n (entry_item s).value))
     ∙ sym (segment_made (number_items n ++ (entry_item s ∷ [])) n s.entries (sym (numbers_back n (entry_item s ∷ []) are)) (entries_back s are is none) (not_negative n.start is.start) (not_negative n.duration is.duration))
 
 -- a written segment is read back with its numbers and entries
-pub segment_read_back : (s : SegmentParts) → AreNumbers s.numbers → IsSegment s → segment_at (segment_bytes s) ≡ Ok s
+pub segment_read_back : (s : SegmentParts) → AreSegmentNumbers s.numbers → IsSegment s → segment_at (segment_bytes s) ≡ Ok s
 segment_read_back s are is =
     elim (nat_lt 0 s.numbers.unit_bytes) as (λ b. nat_lt 0 s.numbers.unit_bytes ≡ b → segment_at (segment_bytes s) ≡ Ok s) [ true ↦ λ h. read_constant s are is h | false ↦ λ h. read_entries s are is h ] refl
