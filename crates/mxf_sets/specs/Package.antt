@@ -1,5 +1,5 @@
--- Packages of both kinds (ST 377-1, Material Package and Source Package sets; which fields are read and have to be there
--- is this project's profile).
+-- Packages of both kinds (ST 377-1, Material Package and Source Package sets; which fields are read and have to be
+-- there is this project's profile).
 use Rattle.std.specs.Prelude.{ℕ, List, [], ◌∷◌, Option, Result}
 use Rattle.std.specs.Option.{option_map}
 use Rattle.mxf_sets.specs.declared.record.Field.{Field}

@@ -6,7 +6,8 @@ use Rattle.mxf_klv.specs.Label.{label_start}
 use Rattle.mxf_klv.specs.declared.kinds.Kind.{Kind}
 use Rattle.mxf_klv.specs.declared.kinds.Kind.TheVariants as kinds
 use Rattle.mxf_klv.specs.declared.kinds.Status.{Status}
-use Rattle.mxf_klv.specs.declared.kinds.Status.TheVariants.{OpenIncomplete, ClosedIncomplete, OpenComplete, ClosedComplete}
+use Rattle.mxf_klv.specs.declared.kinds.Status.TheVariants.{OpenIncomplete, ClosedIncomplete, OpenComplete}
+use Rattle.mxf_klv.specs.declared.kinds.Status.TheVariants.{ClosedComplete}
 use Rattle.mxf_sets.specs.declared.pack.PackFault.{PackFault}
 use Rattle.mxf_sets.specs.declared.pack.PackFault.TheVariants as faults
 use Rattle.mxf_sets.specs.declared.pack.part.PackPart.{PackPart}

@@ -1,13 +1,13 @@
--- The names of operational patterns (ST 377-1, operational pattern labels). Bytes of a label are counted from 1, and byte
--- 8, the version, decides nothing.
+-- The names of operational patterns (ST 377-1, operational pattern labels). Bytes of a label are counted from 1, and
+-- byte 8, the version, decides nothing.
 use Rattle.std.specs.Prelude.{ℕ, ◌-◌, Bool, ◌==◌, ◌&&◌, if◌then◌else◌, List, [], ◌∷◌, ◌++◌, take, drop, slice_index}
 use Rattle.std.specs.Prelude.{Option, Some, None, codes}
 use Rattle.std.specs.Str.{bytes_eq}
 use Rattle.std.specs.Int.{is_in_range}
 use Rattle.mxf_sets.specs.declared.patterns.TheConstants.{LABEL_START, OPERATIONAL_PATTERN}
 
--- The name for an item complexity of 1 to 3 and a package complexity of 1 to 3: `OP`, the first as a digit, and `a`, `b`
--- or `c` for the second.
+-- The name for an item complexity of 1 to 3 and a package complexity of 1 to 3: `OP`, the first as a digit, and `a`,
+-- `b` or `c` for the second.
 abbrev pub name_of : ℕ → ℕ → Option (List ℕ)
 name_of items packages =
     let digit = slice_index (codes "123") (items - 1) in

@@ -1,4 +1,5 @@
--- Primer packs (ST 377-1, Primer Pack): a batch of items of eighteen bytes, each a tag and the label that it stands for.
+-- Primer packs (ST 377-1, Primer Pack): a batch of items of eighteen bytes, each a tag and the label that it stands
+-- for.
 use Rattle.std.specs.Prelude.{◌≡◌, ℕ, ◌<◌, List, drop, Result, Ok, Err}
 use Rattle.byteorder.specs.Endian.{big_number}
 use Rattle.mxf_sets.specs.declared.pack.PackFault.{PackFault}
