@@ -6,8 +6,10 @@ use Rattle.mxf_sets.specs.Batch.{BatchParts}
 use Rattle.mxf_sets.specs.Primer.{ReadsPrimer}
 use Rattle.mxf_sets.proofs.BatchLaws.{same_batch}
 
-pub one_primer_read : (bytes : List ℕ) (r s : Result BatchParts PackFault) → ReadsPrimer bytes r → ReadsPrimer bytes s → r ≡ s
-one_primer_read bytes (Ok a) (Ok b) p q = ap (λ (x : BatchParts). Ok x) (same_batch a b p.0.parts q.0.parts (sym p.0.whole ∙ q.0.whole))
+pub one_primer_read : (bytes : List ℕ) (r s : Result BatchParts PackFault) → ReadsPrimer bytes r → ReadsPrimer bytes s
+    → r ≡ s
+one_primer_read bytes (Ok a) (Ok b) p q = ap (λ (x : BatchParts). Ok x)
+    (same_batch a b p.0.parts q.0.parts (sym p.0.whole ∙ q.0.whole))
 one_primer_read bytes (Ok a) (Err faults.BadBatch) p q = absurd (q a p.0 p.1)
 one_primer_read bytes (Ok a) (Err faults.NotThisKind) p q = absurd q
 one_primer_read bytes (Ok a) (Err faults.Short) p q = absurd q

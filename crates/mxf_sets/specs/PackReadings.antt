@@ -1,6 +1,7 @@
 -- What values are read as, as functions of their bytes (ST 377-1, Partition Pack, Primer Pack, Random Index Pack). The
 -- readers' clauses name them, and the law of readings says that they are the relations of the packs.
-use Rattle.std.specs.Prelude.{ℕ, ◌+◌, ◌-◌, ◌%◌, ◌==◌, ◌&&◌, nat_le, if◌then◌else◌, List, [], ◌∷◌, length, take, drop, filter, map, Option, Some, None, Result, Ok, Err}
+use Rattle.std.specs.Prelude.{ℕ, ◌+◌, ◌-◌, ◌%◌, ◌==◌, ◌&&◌, nat_le, if◌then◌else◌, List, [], ◌∷◌, length, take, drop}
+use Rattle.std.specs.Prelude.{filter, map, Option, Some, None, Result, Ok, Err}
 use Rattle.std.specs.List.{list_all}
 use Rattle.std.specs.Str.{bytes_eq}
 use Rattle.byteorder.specs.Endian.{big_number}
@@ -14,7 +15,7 @@ use Rattle.mxf_sets.specs.declared.pack.part.PackPart.TheVariants.{Header, Body,
 use Rattle.mxf_sets.specs.declared.pack.numbers.PartitionNumbers.{PartitionNumbers}
 use Rattle.mxf_sets.specs.Batch.{BatchParts, batch_items, batch_parts, count_in, size_in}
 use Rattle.mxf_sets.specs.Fields.{is_batch}
-use Rattle.mxf_sets.specs.PartitionPack.{PackParts, pack_parts}
+use Rattle.mxf_sets.specs.PartitionPack.{PartitionPackParts, partition_pack_parts}
 use Rattle.mxf_sets.specs.RandomIndexPack.{RipParts, rip_parts, entries_of}
 
 -- The batch that bytes state.
@@ -45,11 +46,12 @@ part_and_status (kinds.Footer status) = Some (Footer, status)
 part_and_status _ = None
 
 -- The partition pack whose fields stand at their places in a value.
-abbrev pub pack_in : PackPart × Status → List ℕ → PackParts
-pack_in key bytes = pack_parts key.0 key.1 (numbers_in bytes) (take 16 (drop 64 bytes)) (batch_in (drop 80 bytes))
+abbrev pub pack_in : PackPart × Status → List ℕ → PartitionPackParts
+pack_in key bytes = partition_pack_parts key.0 key.1 (numbers_in bytes) (take 16 (drop 64 bytes))
+    (batch_in (drop 80 bytes))
 
 -- What a value is under the part and status that its key tells, if it tells them.
-abbrev pub pack_under : Option (PackPart × Status) → List ℕ → Result PackParts PackFault
+abbrev pub pack_under : Option (PackPart × Status) → List ℕ → Result PartitionPackParts PackFault
 pack_under None bytes = Err faults.NotThisKind
 pack_under (Some key) bytes =
     if nat_le 88 (length bytes)
@@ -57,7 +59,7 @@ pack_under (Some key) bytes =
     else Err faults.Short
 
 -- The partition pack that the value of a packet of a kind is, or the first fault.
-abbrev pub pack_at : Kind → List ℕ → Result PackParts PackFault
+abbrev pub pack_at : Kind → List ℕ → Result PartitionPackParts PackFault
 pack_at kind bytes = pack_under (part_and_status kind) bytes
 
 -- The entries of the primer pack that a value is, or its fault.

@@ -5,7 +5,7 @@ ghost use Rattle.std.specs.List.{AllByRecursion};
 ghost use Rattle.mxf_klv.specs.Bytes.{AreBytes};
 ghost use Rattle.mxf_sets.specs.Batch.{BatchParts, HasItemsOf, IsBatch};
 ghost use Rattle.mxf_sets.specs.Faults.{set_fault};
-ghost use Rattle.mxf_sets.specs.Fields.{Meets, Passes, checked, fields_at, first_tag, fits, is_batch, is_missing, is_repeated, is_wrong};
+ghost use Rattle.mxf_sets.specs.Fields.{Meets, Passes, checked, fields_at, first_tag, has_shape, is_batch, is_missing, is_repeated, is_wrong};
 ghost use Rattle.mxf_sets.specs.Items.{AreItems, IsItem, ItemParts};
 ghost use Rattle.mxf_sets.specs.declared.record.Field.{Field};
 
@@ -81,8 +81,8 @@ impl From<SetFault> for FieldFault {
 }
 
 impl Shape {
-    fn fits(self, value: &[u8]) -> bool
-        ensures { result ≡ fits self value.now }
+    fn has_shape(self, value: &[u8]) -> bool
+        ensures { result ≡ has_shape self value.now }
     {
         match self {
             Shape::Exactly(n) => value.len() == n,
@@ -108,7 +108,7 @@ fn is_wrong(items: &Items<'_>, field: &Field) -> bool
     ensures { result ≡ is_wrong items.now field.now }
 {
     match items.first(field.tag) {
-        Some(value) => !field.shape.fits(value),
+        Some(value) => !field.shape.has_shape(value),
         None => false,
     }
 }

@@ -5,7 +5,7 @@ ghost use Rattle.std.specs.Option.{ForSome, SomeIff, option_map};
 ghost use Rattle.mxf_sets.specs.Faults.{segment_fault};
 ghost use Rattle.mxf_sets.specs.Fields.{Passes};
 ghost use Rattle.mxf_sets.specs.Items.{IsItem};
-ghost use Rattle.mxf_sets.specs.Segment.{AreNumbers, IsSegment, SegmentParts, entries_in, entry_count, segment_at, segment_bytes, segment_fields, segment_of, segment_parts};
+ghost use Rattle.mxf_sets.specs.Segment.{AreSegmentNumbers, IsSegment, SegmentParts, entries_in, entry_count, segment_at, segment_bytes, segment_fields, segment_of, segment_parts};
 
 mod numbers;
 mod offset;
@@ -66,13 +66,13 @@ pub struct Segment<'a> {
 }
 
 impl<'a> Model for Segment<'a> {
-    ghost use Rattle.mxf_sets.specs.Segment.{AreNumbers, IsSegment, SegmentParts, segment_parts};
+    ghost use Rattle.mxf_sets.specs.Segment.{AreSegmentNumbers, IsSegment, SegmentParts, segment_parts};
 
     ghost Value = { SegmentParts };
 
     ghost view = { λ s. segment_parts s.numbers s.entries.now };
 
-    ghost invariant = { λ s. AreNumbers s.numbers × IsSegment (segment_parts s.numbers s.entries.now) };
+    ghost invariant = { λ s. AreSegmentNumbers s.numbers × IsSegment (segment_parts s.numbers s.entries.now) };
 }
 
 /// The entries in items that have met the table; None where they are no batch of whole entries.
@@ -141,7 +141,7 @@ impl<'a> Segment<'a> {
     pub fn numbers(&self) -> SegmentNumbers
         ensures numbers { result ≡ self.now.numbers }
         ensures segment { IsSegment self.now }
-        ensures typed { AreNumbers self.now.numbers }
+        ensures typed { AreSegmentNumbers self.now.numbers }
     {
         self.numbers
     }
@@ -156,5 +156,5 @@ impl<'a> Segment<'a> {
 
 /// A law: a written segment is read back with its numbers and entries.
 pub fn segments_are_read_as_written()
-    ensures { (segment : SegmentParts) → AreNumbers segment.numbers → IsSegment segment → segment_at (segment_bytes segment) ≡ Ok segment }
+    ensures { (segment : SegmentParts) → AreSegmentNumbers segment.numbers → IsSegment segment → segment_at (segment_bytes segment) ≡ Ok segment }
 {}

@@ -1,6 +1,6 @@
 //! The numbers of a partition pack (ST 377-1, Partition Pack).
 ghost use Rattle.std.specs.Prelude.{◌≡◌};
-ghost use Rattle.mxf_sets.specs.PartitionPack.{AreNumbers, numbers_bytes};
+ghost use Rattle.mxf_sets.specs.PartitionPack.{ArePartitionNumbers, numbers_bytes};
 
 use super::fixed_numbers::{NumberWriter, take_u16, take_u32, take_u64};
 
@@ -35,7 +35,7 @@ pub struct PartitionNumbers {
 impl PartitionNumbers {
     /// Reads the numbers from their bytes.
     pub(super) fn read(bytes: &[u8; 64]) -> PartitionNumbers
-        ensures numbers { AreNumbers result }
+        ensures numbers { ArePartitionNumbers result }
         ensures bytes { bytes.now ≡ numbers_bytes result }
     {
         let (major_version, rest) = take_u16(bytes);
@@ -67,7 +67,7 @@ impl PartitionNumbers {
     /// The bytes of the numbers.
     pub(super) fn to_bytes(&self) -> [u8; 64]
         ensures bytes { result ≡ numbers_bytes self.now }
-        ensures numbers { AreNumbers self.now }
+        ensures numbers { ArePartitionNumbers self.now }
     {
         let mut fields = NumberWriter::new();
         fields.u16(self.major_version);

@@ -6,7 +6,7 @@ ghost use Rattle.mxf_klv.specs.declared.kinds.Kind.{Kind};
 ghost use Rattle.mxf_klv.specs.Bytes.{AreBytes};
 ghost use Rattle.mxf_sets.specs.Batch.{HasItemsOf};
 ghost use Rattle.mxf_sets.specs.PackReadings.{pack_at};
-ghost use Rattle.mxf_sets.specs.PartitionPack.{ArePackParts, IsPartitionPack, PackParts, ReadsPack, pack_bytes, pack_key, pack_kind, pack_parts};
+ghost use Rattle.mxf_sets.specs.PartitionPack.{ArePartitionPackParts, IsPartitionPack, PartitionPackParts, ReadsPack, pack_bytes, pack_key, pack_kind, partition_pack_parts};
 ghost use Rattle.mxf_sets.specs.declared.pack.PackFault.{PackFault};
 
 use super::{PackFault, PackPart, PartitionNumbers};
@@ -26,13 +26,13 @@ pub struct PartitionPack<'a> {
 }
 
 impl<'a> Model for PartitionPack<'a> {
-    ghost use Rattle.mxf_sets.specs.PartitionPack.{ArePackParts, PackParts, pack_parts};
+    ghost use Rattle.mxf_sets.specs.PartitionPack.{ArePartitionPackParts, PartitionPackParts, partition_pack_parts};
 
-    ghost Value = { PackParts };
+    ghost Value = { PartitionPackParts };
 
-    ghost view = { λ p. pack_parts p.part p.status p.numbers p.pattern p.containers };
+    ghost view = { λ p. partition_pack_parts p.part p.status p.numbers p.pattern p.containers };
 
-    ghost invariant = { λ p. ArePackParts (pack_parts p.part p.status p.numbers p.pattern p.containers) };
+    ghost invariant = { λ p. ArePartitionPackParts (partition_pack_parts p.part p.status p.numbers p.pattern p.containers) };
 }
 
 impl<'a> PartitionPack<'a> {
@@ -84,9 +84,9 @@ impl<'a> PartitionPack<'a> {
         pattern: [u8; 16],
         containers: Batch<'a>,
     ) -> Option<PartitionPack<'a>>
-        ensures { SomeIff result (HasItemsOf 16 containers.entry) (pack_parts part status numbers pattern containers.entry) }
+        ensures { SomeIff result (HasItemsOf 16 containers.entry) (partition_pack_parts part status numbers pattern containers.entry) }
     {
-        if containers.len() > 0 && containers.item_size() != 16 {
+        if !containers.is_empty() && containers.item_size() != 16 {
             return None;
         }
         Some(PartitionPack {
@@ -101,7 +101,7 @@ impl<'a> PartitionPack<'a> {
     /// The part of the file that the partition is.
     pub fn part(&self) -> PackPart
         ensures part { result ≡ self.now.part }
-        ensures pack { ArePackParts self.now }
+        ensures pack { ArePartitionPackParts self.now }
     {
         self.part
     }
@@ -157,22 +157,22 @@ impl<'a> Encode for PartitionPack<'a> {
 
 /// A law: the value of a packet of a kind is a partition pack, or one of the faults, and nothing else beside it.
 pub fn one_pack_reading()
-    ensures { (kind : Kind) (bytes : List ℕ) (r s : Result PackParts PackFault) → ReadsPack kind bytes r → ReadsPack kind bytes s → r ≡ s }
+    ensures { (kind : Kind) (bytes : List ℕ) (r s : Result PartitionPackParts PackFault) → ReadsPack kind bytes r → ReadsPack kind bytes s → r ≡ s }
 {}
 
 /// A law: under one part and status a value stands for one partition pack at most, and a partition pack for one value.
 pub fn one_pack()
-    ensures pack { (bytes : List ℕ) (a b : PackParts) → a.part ≡ b.part → a.status ≡ b.status → IsPartitionPack bytes a → IsPartitionPack bytes b → a ≡ b }
-    ensures text { (a b : List ℕ) (pack : PackParts) → IsPartitionPack a pack → IsPartitionPack b pack → a ≡ b }
+    ensures pack { (bytes : List ℕ) (a b : PartitionPackParts) → a.part ≡ b.part → a.status ≡ b.status → IsPartitionPack bytes a → IsPartitionPack bytes b → a ≡ b }
+    ensures text { (a b : List ℕ) (pack : PartitionPackParts) → IsPartitionPack a pack → IsPartitionPack b pack → a ≡ b }
 {}
 
 /// A law: a partition pack that is written is read back under its key, and one that is read is written as it stood.
 pub fn partition_packs_are_read_as_written()
-    ensures read_back { (pack : PackParts) → ArePackParts pack → ReadsPack (kind_of (pack_key pack.part pack.status)) (pack_bytes pack) (Ok pack) }
-    ensures written_back { (kind : Kind) (bytes : List ℕ) (pack : PackParts) → ReadsPack kind bytes (Ok pack) → bytes ≡ pack_bytes pack }
+    ensures read_back { (pack : PartitionPackParts) → ArePartitionPackParts pack → ReadsPack (kind_of (pack_key pack.part pack.status)) (pack_bytes pack) (Ok pack) }
+    ensures written_back { (kind : Kind) (bytes : List ℕ) (pack : PartitionPackParts) → ReadsPack kind bytes (Ok pack) → bytes ≡ pack_bytes pack }
 {}
 
 /// A law: what the value of a packet of a kind is, is computed from its places.
 pub fn packs_are_read_by_their_places()
-    ensures { (kind : Kind) (bytes : List ℕ) (r : Result PackParts PackFault) → AreBytes bytes → ReadsPack kind bytes r ↔ (r ≡ pack_at kind bytes) }
+    ensures { (kind : Kind) (bytes : List ℕ) (r : Result PartitionPackParts PackFault) → AreBytes bytes → ReadsPack kind bytes r ↔ (r ≡ pack_at kind bytes) }
 {}

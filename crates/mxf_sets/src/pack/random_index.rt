@@ -80,7 +80,6 @@ impl<'a> Rip<'a> {
         if u64::from(BigEndian::read_u32(last)) != packet {
             return Err(PackFault::WrongLength);
         }
-        let _count = entry_count(entries);
         Ok(Rip { width, entries })
     }
 
@@ -88,13 +87,15 @@ impl<'a> Rip<'a> {
     /// byte first. None where the bytes are no whole number of entries, `width` bytes can't spell the length of the value,
     /// or the packet is longer than 4,294,967,295 bytes.
     pub fn of(width: u8, items: &'a [u8]) -> Option<Rip<'a>>
-        ensures { SomeIff result ((length items.now % 12 ≡ 0) × CanSpell width (length items.now + 4) × (16 + width + (length items.now + 4) < 2 ^ 32)) (rip_parts width (entries_of items.now)) }
+        ensures { let value = length items.now + 4 in
+            SomeIff result ((length items.now % 12 ≡ 0) × CanSpell width value × (16 + width + value < 2 ^ 32))
+            (rip_parts width (entries_of items.now)) }
     {
         if items.len() % ENTRY != 0 {
             return None;
         }
         let value = items.len() as u64 + 4;
-        let _length = Ber::new(width, value)?;
+        Ber::new(width, value)?;
         if 16 + u64::from(width) + value > u64::from(u32::MAX) {
             return None;
         }

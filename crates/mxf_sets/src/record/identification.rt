@@ -10,6 +10,7 @@ use super::{Field, FieldFault, INSTANCE_UID, Shape, Timestamp, read_fields};
 use std::marker::Model;
 use uuid::Uuid;
 
+// The tags (ST 377-1, Identification set).
 const THIS_GENERATION_UID: u16 = 0x3C09;
 
 const COMPANY_NAME: u16 = 0x3C01;
@@ -22,42 +23,16 @@ const PRODUCT_UID: u16 = 0x3C05;
 
 const MODIFICATION_DATE: u16 = 0x3C06;
 
+/// The fields that are read, in the order of testing.
+#[rattlefmt::skip]
 const FIELDS: [Field; 7] = [
-    Field {
-        tag: INSTANCE_UID,
-        shape: Shape::Exactly(16),
-        required: true,
-    },
-    Field {
-        tag: THIS_GENERATION_UID,
-        shape: Shape::Exactly(16),
-        required: false,
-    },
-    Field {
-        tag: COMPANY_NAME,
-        shape: Shape::Any,
-        required: false,
-    },
-    Field {
-        tag: PRODUCT_NAME,
-        shape: Shape::Any,
-        required: false,
-    },
-    Field {
-        tag: VERSION_STRING,
-        shape: Shape::Any,
-        required: false,
-    },
-    Field {
-        tag: PRODUCT_UID,
-        shape: Shape::Exactly(16),
-        required: false,
-    },
-    Field {
-        tag: MODIFICATION_DATE,
-        shape: Shape::Exactly(8),
-        required: false,
-    },
+    Field { tag: INSTANCE_UID, shape: Shape::Exactly(16), required: true },
+    Field { tag: THIS_GENERATION_UID, shape: Shape::Exactly(16), required: false },
+    Field { tag: COMPANY_NAME, shape: Shape::Any, required: false },
+    Field { tag: PRODUCT_NAME, shape: Shape::Any, required: false },
+    Field { tag: VERSION_STRING, shape: Shape::Any, required: false },
+    Field { tag: PRODUCT_UID, shape: Shape::Exactly(16), required: false },
+    Field { tag: MODIFICATION_DATE, shape: Shape::Exactly(8), required: false },
 ];
 
 /// The Identification of a program that wrote a file. Texts are the bytes of their items, for [`text`](crate::text).

@@ -6,11 +6,11 @@ use super::values::required_identifier;
 use super::{Field, FieldFault, INSTANCE_UID, Shape, read_fields};
 use uuid::Uuid;
 
-const FIELDS: [Field; 1] = [Field {
-    tag: INSTANCE_UID,
-    shape: Shape::Exactly(16),
-    required: true,
-}];
+/// The fields that are read, in the order of testing.
+#[rattlefmt::skip]
+const FIELDS: [Field; 1] = [
+    Field { tag: INSTANCE_UID, shape: Shape::Exactly(16), required: true },
+];
 
 /// The instance identifier of a header metadata set of any kind, by the set's value. Other tags aren't looked at.
 pub fn instance_uid(value: &[u8]) -> Result<Uuid, FieldFault>

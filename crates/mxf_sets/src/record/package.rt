@@ -10,6 +10,7 @@ use super::{Field, FieldFault, INSTANCE_UID, References, Shape, Timestamp, read_
 use std::marker::Model;
 use uuid::Uuid;
 
+// The tags (ST 377-1, Generic Package set).
 const PACKAGE_UID: u16 = 0x4401;
 
 const NAME: u16 = 0x4402;
@@ -22,42 +23,16 @@ const TRACKS: u16 = 0x4403;
 
 const DESCRIPTOR: u16 = 0x4701;
 
+/// The fields that are read, in the order of testing.
+#[rattlefmt::skip]
 const FIELDS: [Field; 7] = [
-    Field {
-        tag: INSTANCE_UID,
-        shape: Shape::Exactly(16),
-        required: true,
-    },
-    Field {
-        tag: PACKAGE_UID,
-        shape: Shape::Exactly(32),
-        required: true,
-    },
-    Field {
-        tag: NAME,
-        shape: Shape::Any,
-        required: false,
-    },
-    Field {
-        tag: CREATION_DATE,
-        shape: Shape::Exactly(8),
-        required: false,
-    },
-    Field {
-        tag: MODIFIED_DATE,
-        shape: Shape::Exactly(8),
-        required: false,
-    },
-    Field {
-        tag: TRACKS,
-        shape: Shape::References,
-        required: false,
-    },
-    Field {
-        tag: DESCRIPTOR,
-        shape: Shape::Exactly(16),
-        required: false,
-    },
+    Field { tag: INSTANCE_UID, shape: Shape::Exactly(16), required: true },
+    Field { tag: PACKAGE_UID, shape: Shape::Exactly(32), required: true },
+    Field { tag: NAME, shape: Shape::Any, required: false },
+    Field { tag: CREATION_DATE, shape: Shape::Exactly(8), required: false },
+    Field { tag: MODIFIED_DATE, shape: Shape::Exactly(8), required: false },
+    Field { tag: TRACKS, shape: Shape::References, required: false },
+    Field { tag: DESCRIPTOR, shape: Shape::Exactly(16), required: false },
 ];
 
 /// A package, material or source. The name is the bytes of its item, for [`text`](crate::text).

@@ -8,26 +8,17 @@ use super::{Field, FieldFault, INSTANCE_UID, References, Shape, read_fields};
 use std::marker::Model;
 use uuid::Uuid;
 
+// The tags (ST 377-1, Preface set).
 const CONTENT_STORAGE: u16 = 0x3B03;
 
 const IDENTIFICATIONS: u16 = 0x3B06;
 
+/// The fields that are read, in the order of testing.
+#[rattlefmt::skip]
 const FIELDS: [Field; 3] = [
-    Field {
-        tag: INSTANCE_UID,
-        shape: Shape::Exactly(16),
-        required: true,
-    },
-    Field {
-        tag: CONTENT_STORAGE,
-        shape: Shape::Exactly(16),
-        required: true,
-    },
-    Field {
-        tag: IDENTIFICATIONS,
-        shape: Shape::References,
-        required: false,
-    },
+    Field { tag: INSTANCE_UID, shape: Shape::Exactly(16), required: true },
+    Field { tag: CONTENT_STORAGE, shape: Shape::Exactly(16), required: true },
+    Field { tag: IDENTIFICATIONS, shape: Shape::References, required: false },
 ];
 
 /// The Preface of a file.

@@ -7,19 +7,14 @@ use super::{Field, FieldFault, INSTANCE_UID, References, Shape, read_fields};
 use std::marker::Model;
 use uuid::Uuid;
 
+// The tag (ST 377-1, Content Storage set).
 const PACKAGES: u16 = 0x1901;
 
+/// The fields that are read, in the order of testing.
+#[rattlefmt::skip]
 const FIELDS: [Field; 2] = [
-    Field {
-        tag: INSTANCE_UID,
-        shape: Shape::Exactly(16),
-        required: true,
-    },
-    Field {
-        tag: PACKAGES,
-        shape: Shape::References,
-        required: true,
-    },
+    Field { tag: INSTANCE_UID, shape: Shape::Exactly(16), required: true },
+    Field { tag: PACKAGES, shape: Shape::References, required: true },
 ];
 
 /// The ContentStorage of a file.

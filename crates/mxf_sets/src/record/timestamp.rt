@@ -14,7 +14,7 @@ pub struct Timestamp {
     pub minute: u8,
     pub second: u8,
     /// The milliseconds divided by 4, as stored.
-    pub quarter_milliseconds: u8,
+    pub milliseconds_by_four: u8,
 }
 
 impl Timestamp {
@@ -30,7 +30,7 @@ impl Timestamp {
             hour: value[4],
             minute: value[5],
             second: value[6],
-            quarter_milliseconds: value[7],
+            milliseconds_by_four: value[7],
         }
     }
 }

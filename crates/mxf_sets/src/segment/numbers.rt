@@ -9,6 +9,7 @@ use crate::Items;
 use crate::record::{Field, Shape, optional_value, required_value};
 use byteorder::{BigEndian, ByteOrder};
 
+// The tags (ST 377-1, Index Table Segment).
 pub(super) const EDIT_RATE: u16 = 0x3F0B;
 
 pub(super) const START: u16 = 0x3F0C;
@@ -27,53 +28,18 @@ pub(super) const POSITIONS: u16 = 0x3F0E;
 
 pub(super) const ENTRIES: u16 = 0x3F0A;
 
-/// The fields of a segment, in the order of testing and writing.
+/// The fields, in the order of testing and writing.
+#[rattlefmt::skip]
 pub(super) const FIELDS: [Field; 9] = [
-    Field {
-        tag: EDIT_RATE,
-        shape: Shape::Exactly(8),
-        required: true,
-    },
-    Field {
-        tag: START,
-        shape: Shape::Exactly(8),
-        required: true,
-    },
-    Field {
-        tag: DURATION,
-        shape: Shape::Exactly(8),
-        required: true,
-    },
-    Field {
-        tag: UNIT_BYTES,
-        shape: Shape::Exactly(4),
-        required: false,
-    },
-    Field {
-        tag: INDEX_SID,
-        shape: Shape::Exactly(4),
-        required: false,
-    },
-    Field {
-        tag: BODY_SID,
-        shape: Shape::Exactly(4),
-        required: true,
-    },
-    Field {
-        tag: SLICES,
-        shape: Shape::Exactly(1),
-        required: false,
-    },
-    Field {
-        tag: POSITIONS,
-        shape: Shape::Exactly(1),
-        required: false,
-    },
-    Field {
-        tag: ENTRIES,
-        shape: Shape::Any,
-        required: false,
-    },
+    Field { tag: EDIT_RATE, shape: Shape::Exactly(8), required: true },
+    Field { tag: START, shape: Shape::Exactly(8), required: true },
+    Field { tag: DURATION, shape: Shape::Exactly(8), required: true },
+    Field { tag: UNIT_BYTES, shape: Shape::Exactly(4), required: false },
+    Field { tag: INDEX_SID, shape: Shape::Exactly(4), required: false },
+    Field { tag: BODY_SID, shape: Shape::Exactly(4), required: true },
+    Field { tag: SLICES, shape: Shape::Exactly(1), required: false },
+    Field { tag: POSITIONS, shape: Shape::Exactly(1), required: false },
+    Field { tag: ENTRIES, shape: Shape::Any, required: false },
 ];
 
 /// The numbers of an index table segment (ST 377-1).

@@ -1,11 +1,11 @@
 //! Writing index table segments (ST 377-1, Index Table Segment).
 ghost use Rattle.std.specs.Prelude.{◌≡◌, ◌+◌, ◌<◌, ◌^◌, ◌++◌, length};
-ghost use Rattle.std.specs.Int.{w16, w32, to_be_bytes, cast_unsigned};
+ghost use Rattle.std.specs.Int.{w16, to_be_bytes};
 ghost use Rattle.std.specs.List.{AllByRecursion, flat_map};
 ghost use Rattle.byteorder.specs.Endian.{big_bytes};
 ghost use Rattle.mxf_klv.specs.Written.{Puts};
-ghost use Rattle.mxf_sets.specs.Items.{IsItem, ItemParts, item_bytes};
-ghost use Rattle.mxf_sets.specs.Segment.{entry_item, item, number_items, segment_bytes};
+ghost use Rattle.mxf_sets.specs.Items.{IsItem, ItemParts, item, item_bytes};
+ghost use Rattle.mxf_sets.specs.Segment.{entry_item, number_items, segment_bytes, signed_bytes_4};
 
 use super::numbers::{
     BODY_SID, DURATION, EDIT_RATE, ENTRIES, INDEX_SID, POSITIONS, SLICES, START, UNIT_BYTES,
@@ -37,7 +37,7 @@ fn batch_head(count: u32, size: u32) -> [u8; 8]
 }
 
 fn rate_bytes(rate: (i32, i32)) -> [u8; 8]
-    ensures { result ≡ big_bytes 4 (cast_unsigned w32 rate.0) ++ big_bytes 4 (cast_unsigned w32 rate.1) }
+    ensures { result ≡ signed_bytes_4 rate.0 ++ signed_bytes_4 rate.1 }
 {
     let mut bytes = [0; 8];
     BigEndian::write_i32(&mut bytes, rate.0);
@@ -66,6 +66,7 @@ fn put_items<W: Write>(
     requires { AllByRecursion IsItem items.now }
     ensures { Puts W.contents writer.old writer.new progress.old progress.new result (flat_map item_bytes items.now) }
 {
+    // Read for the proof: the count fits its type before the first item.
     let _written = progress.written;
     'items: for item in items {
         put_item(item, progress, writer)?;

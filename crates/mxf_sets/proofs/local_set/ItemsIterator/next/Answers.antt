@@ -9,10 +9,14 @@ returns-in_err-item-clause-steps c =
     rw c.from_residual.ensures (none, none)
 
 pub invariant_of-self : goal.invariant_of-self
-invariant_of-self c = let a = at_some c.self.inside.rest.now c.in_ok-item.after.now c.in_ok-item.item c.in_ok-item.ensures in sym a.1 ∙ c.self.invariant
+invariant_of-self c = let a =
+    at_some c.self.inside.rest.now c.in_ok-item.after.now c.in_ok-item.item c.in_ok-item.ensures in
+    sym a.1 ∙ c.self.invariant
 
 pub returns-clause-steps : goal.returns-clause-steps
-returns-clause-steps c = let a = at_some c.self.inside.rest.now c.in_ok-item.after.now c.in_ok-item.item c.in_ok-item.ensures in sym c.self.view_is ∙ a.0
+returns-clause-steps c = let a =
+    at_some c.self.inside.rest.now c.in_ok-item.after.now c.in_ok-item.item c.in_ok-item.ensures in
+    sym c.self.view_is ∙ a.0
 
 pub returns-clause-goes : goal.returns-clause-goes
 returns-clause-goes c =

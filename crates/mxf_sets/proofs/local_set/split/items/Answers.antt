@@ -14,25 +14,30 @@ loop-after-preserved c =
 
 pub returns-then-not-is_empty-clause-whole : goal.returns-then-not-is_empty-clause-whole
 returns-then-not-is_empty-clause-whole c =
-    let is : left_of c.args.value.now ≡ c.loop-after.rest.now = sym c.loop-after.invariant.0 ∙ (at_none c.loop-after.rest.now c.in_default.ensures).1 in
+    let is : left_of c.args.value.now ≡ c.loop-after.rest.now = sym c.loop-after.invariant.0
+    ∙ (at_none c.loop-after.rest.now c.in_default.ensures).1 in
     (λ h. absurd cc, λ h. absurd (some_from_test c.loop-after.rest.now c.if-not-is_empty.ensures (sym is ∙ h)))
 
 pub returns-then-not-is_empty-clause-cut : goal.returns-then-not-is_empty-clause-cut
 returns-then-not-is_empty-clause-cut c =
-    let is : left_of c.args.value.now ≡ c.loop-after.rest.now = sym c.loop-after.invariant.0 ∙ (at_none c.loop-after.rest.now c.in_default.ensures).1 in
+    let is : left_of c.args.value.now ≡ c.loop-after.rest.now = sym c.loop-after.invariant.0
+    ∙ (at_none c.loop-after.rest.now c.in_default.ensures).1 in
     ap (λ (xs : List ℕ). CutItem (length c.args.value.now - length xs)) (sym is)
 
 pub invariant_of-result : goal.invariant_of-result
 invariant_of-result c =
-    sym c.loop-after.invariant.0 ∙ (at_none c.loop-after.rest.now c.in_default.ensures).1 ∙ empty_from_test c.loop-after.rest.now c.if-not-is_empty.ensures
+    sym c.loop-after.invariant.0 ∙ (at_none c.loop-after.rest.now c.in_default.ensures).1
+    ∙ empty_from_test c.loop-after.rest.now c.if-not-is_empty.ensures
 
 pub returns-clause-whole : goal.returns-clause-whole
 returns-clause-whole c = (λ h. invariant_of-result c, λ h. refl)
 
 pub returns-then-not-is_empty-clause-only : goal.returns-then-not-is_empty-clause-only
 returns-then-not-is_empty-clause-only c =
-    let is : left_of c.args.value.now ≡ c.loop-after.rest.now = sym c.loop-after.invariant.0 ∙ (at_none c.loop-after.rest.now c.in_default.ensures).1 in
-    λ items h. absurd (some_from_test c.loop-after.rest.now c.if-not-is_empty.ensures (sym is ∙ (only_are c.args.value.now items h).1))
+    let is : left_of c.args.value.now ≡ c.loop-after.rest.now = sym c.loop-after.invariant.0
+    ∙ (at_none c.loop-after.rest.now c.in_default.ensures).1 in
+    λ items h. absurd
+    (some_from_test c.loop-after.rest.now c.if-not-is_empty.ensures (sym is ∙ (only_are c.args.value.now items h).1))
 
 pub returns-clause-found : goal.returns-clause-found
 returns-clause-found c = are_items c.args.value.now (λ i. omega (arith, c.type_inv.value i)) (invariant_of-result c)

@@ -10,7 +10,8 @@ invariant_of-result c =
     let f : FitsSigned w64 n.start = search rules in
     let g : FitsSigned w64 n.duration = search rules in
     let start : is_negative n.start ≡ false = sym (ap is_negative (to_z-of_z w64 n.start f)) ∙ c.if-numbers-lt0.false in
-    let duration : is_negative n.duration ≡ false = sym (ap is_negative (to_z-of_z w64 n.duration g)) ∙ c.if-numbers-lt0-2.false in
+    let duration : is_negative n.duration ≡ false = sym (ap is_negative (to_z-of_z w64 n.duration g))
+    ∙ c.if-numbers-lt0-2.false in
     let entries = c.in-Some.entries.now in
     let fit = entries_fit n c.args.items.now entries c.requires.small (sym c.in-Some.ensures) in
     (search rules, segment_is n entries fit start duration)
@@ -21,5 +22,6 @@ returns c =
     let f : FitsSigned w64 n.start = search rules in
     let g : FitsSigned w64 n.duration = search rules in
     let start : is_negative n.start ≡ false = sym (ap is_negative (to_z-of_z w64 n.start f)) ∙ c.if-numbers-lt0.false in
-    let duration : is_negative n.duration ≡ false = sym (ap is_negative (to_z-of_z w64 n.duration g)) ∙ c.if-numbers-lt0-2.false in
+    let duration : is_negative n.duration ≡ false = sym (ap is_negative (to_z-of_z w64 n.duration g))
+    ∙ c.if-numbers-lt0-2.false in
     segment_made c.args.items.now n c.in-Some.entries.now c.of-numbers.ensures c.in-Some.ensures start duration

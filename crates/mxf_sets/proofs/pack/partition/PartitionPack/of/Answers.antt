@@ -5,6 +5,6 @@ pub invariant_of-result : goal.invariant_of-result
 invariant_of-result c = record {
   numbers = search rules;
   pattern = search rules;
-  containers = c.len.ensures.batch;
+  containers = c.is_empty.ensures.batch;
   labels = grind arith;
 }
