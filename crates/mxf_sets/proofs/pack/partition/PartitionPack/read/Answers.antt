@@ -13,10 +13,12 @@ returns c =
     let status = c.in-Some.status in
     let numbers = c.read-2.result in
     let labels = c.in-Ok.containers in
-    let sixteen : length second.pattern.now ≡ 16 = ap length m.0 ∙ omega (arith, length-take 16 first.rest.now, m.2) in (
+    let read = c.read-2.ensures in
+    let sixteen : length second.pattern.now ≡ 16 =
+    ap length m.0 ∙ omega (arith, length-take 16 first.rest.now, m.2) in (
       sym c.kind.ensures.kind ∙ c.in-Some.ensures,
       pack_read c.args.value.now first.numbers.now first.rest.now second.pattern.now second.rest.now part status numbers
-          labels k.0 k.1 m.0 m.1 sixteen c.read-2.ensures.numbers c.read-2.ensures.bytes c.in-Ok.ensures.0 c.in-Ok.ensures.1,
+          labels k.0 k.1 m.0 m.1 sixteen read.numbers read.bytes c.in-Ok.ensures.0 c.in-Ok.ensures.1,
     )
 
 pub returns-in_default-read : goal.returns-in_default-read
