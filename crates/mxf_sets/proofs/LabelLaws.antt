@@ -43,7 +43,7 @@ In-labels_among tag [] label h = elim h [ ]
 In-labels_among tag (entry ∷ entries) label h =
     let rest = filter (λ e. big_number 2 e == tag) entries in
     elim (big_number 2 entry == tag) as (λ b. (big_number 2 entry == tag) ≡ b
-        → In label (map (λ e. drop 2 e) (cond b (entry ∷ rest) rest)) → HasLabel tag (entry ∷ entries) label) [
+    → In label (map (λ e. drop 2 e) (cond b (entry ∷ rest) rest)) → HasLabel tag (entry ∷ entries) label) [
       | true ↦ λ t m. elim m [
         | inl e ↦ (entry, inl refl, eqb-true (big_number 2 entry) tag t, sym e)
         | inr k ↦ let r = In-labels_among tag entries label k in (r.0, inr r.1, r.2, r.3)
@@ -70,14 +70,21 @@ labels_among-In tag (first ∷ entries) entry (inr k) is =
 In-items_by : (count size : ℕ) (bytes item : List ℕ) → In item (items_by count size bytes) → (place : ℕ)
     × (place < count) × (item ≡ take size (drop (place * size) bytes))
 In-items_by zero size bytes item h = elim h [ ]
-In-items_by (suc count) size bytes item (inl e) = (0, omega arith, e
-    ∙ ap (λ (k : ℕ). take size (drop k bytes)) (sym (zero-mul size)))
+In-items_by (suc count) size bytes item (inl e) = (
+  0,
+  omega arith,
+  e
+      ∙ ap (λ (k : ℕ). take size (drop k bytes)) (sym (zero-mul size)),
+)
 In-items_by (suc count) size bytes item (inr k) =
     let r = In-items_by count size (drop size bytes) item k in
     let place = r.0 in
-    let at : size + place * size ≡ suc place * size = omega arith in
-    (suc place, omega (arith, r.1), r.2 ∙ ap (take size)
-        (drop-drop (place * size) size bytes ∙ ap (λ (k : ℕ). drop k bytes) at))
+    let at : size + place * size ≡ suc place * size = omega arith in (
+      suc place,
+      omega (arith, r.1),
+      r.2 ∙ ap (take size)
+          (drop-drop (place * size) size bytes ∙ ap (λ (k : ℕ). drop k bytes) at),
+    )
 
 items_by-In : (count size place : ℕ) (bytes : List ℕ) → place < count
     → In (take size (drop (place * size) bytes)) (items_by count size bytes)
@@ -86,7 +93,7 @@ items_by-In (suc count) size zero bytes h = inl (ap (λ (k : ℕ). take size (dr
 items_by-In (suc count) size (suc place) bytes h =
     let at : size + place * size ≡ suc place * size = omega arith in
     inr (subst (λ (t : List ℕ). In (take size t) (items_by count size (drop size bytes)))
-        (drop-drop (place * size) size bytes ∙ ap (λ (k : ℕ). drop k bytes) at)
+    (drop-drop (place * size) size bytes ∙ ap (λ (k : ℕ). drop k bytes) at)
     (items_by-In count size place (drop size bytes) (omega arith)))
 
 -- ---- the label that all agree on
@@ -118,7 +125,7 @@ agreed_says (first ∷ labels) label h =
     let no : Option (List ℕ) = None in
     let test = list_all (λ other. bytes_eq first other) labels in
     elim test as (λ b. test ≡ b → cond b yes no ≡ Some label → In label (first ∷ labels)
-        × ((other : List ℕ) → In other (first ∷ labels) → other ≡ label)) [
+    × ((other : List ℕ) → In other (first ∷ labels) → other ≡ label)) [
       | true ↦ λ t e.
           let same : first ≡ label = cc in
           (inl (sym same), λ other m. elim m [ inl p ↦ p ∙ same | inr k ↦ all_alike first labels t other k ∙ same ])
@@ -131,7 +138,7 @@ says_agreed [] label m h = elim m [ ]
 says_agreed (first ∷ labels) label m h =
     let same : first ≡ label = h first (inl refl) in
     let test : list_all (λ other. bytes_eq first other) labels ≡ true = alike_all first labels
-        (λ other k. h other (inr k) ∙ sym same) in
+    (λ other k. h other (inr k) ∙ sym same) in
     rw test (ap (λ (x : List ℕ). Some x) same)
 
 -- ---- both
@@ -150,7 +157,7 @@ only_label tag b label = (
   λ only.
       let place = only.some.0 in
       let here = labels_among-In tag (batch_items b) (item_in b place)
-          (items_by-In b.count b.size place b.items only.some.1) only.some.2 in
+      (items_by-In b.count b.size place b.items only.some.1) only.some.2 in
       says_agreed (labels_among tag (batch_items b)) label
       (subst (λ (x : List ℕ). In x (labels_among tag (batch_items b))) (only.each place only.some.1 only.some.2) here)
       (λ other m.

@@ -92,7 +92,7 @@ numbers_there bytes room h =
     ∙ ap (λ (t : List ℕ). big_bytes 8 (big_number 8 (drop 40 bytes)) ++ t) (number_there 4 48 bytes (omega arith) h
     ∙ ap (λ (t : List ℕ). big_bytes 4 (big_number 4 (drop 48 bytes)) ++ t) (number_there 8 52 bytes (omega arith) h
     ∙ ap (λ (t : List ℕ). big_bytes 8 (big_number 8 (drop 52 bytes))
-        ++ t) (number_there 4 60 bytes (omega arith) h))))))))))
+    ++ t) (number_there 4 60 bytes (omega arith) h))))))))))
 
 numbers_fit : (bytes : List ℕ) → AreBytes bytes → ArePartitionNumbers (numbers_in bytes)
 numbers_fit bytes h = record {
@@ -139,7 +139,7 @@ under_key key bytes h =
     let reads = ReadsPack (pack_kind key.0 key.1) bytes in
     let told = kind_told key in
     elim (nat_le 88 (length bytes)) as (λ b. nat_le 88 (length bytes) ≡ b
-        → reads (cond b (cond (is_batch 16 (drop 80 bytes)) ok bad) short)) [
+    → reads (cond b (cond (is_batch 16 (drop 80 bytes)) ok bad) short)) [
       | true ↦ λ t. let long = leb-true 88 (length bytes) t in
           elim (is_batch 16 (drop 80 bytes)) as (λ b. is_batch 16 (drop 80 bytes) ≡ b → reads (cond b ok bad)) [
             | true ↦ λ u. (refl, pack_there key bytes h long u)
@@ -195,14 +195,14 @@ rip_computed width bytes h =
     let short : Result RipParts PackFault = Err faults.Short in
     let fits = (rest % 12 == 0) && (big_number 4 last == 16 + width + length bytes) in
     elim (nat_le 4 (length bytes)) as (λ b. nat_le 4 (length bytes) ≡ b
-        → ReadsRip width bytes (cond b (cond fits ok wrong) short)) [
+    → ReadsRip width bytes (cond b (cond fits ok wrong) short)) [
       | true ↦ λ t. let long : 4 ≤ length bytes = leb-true 4 (length bytes) t in
           elim fits as (λ b. fits ≡ b → ReadsRip width bytes (cond b ok wrong)) [
             | true ↦ λ u.
                 let both = two_tests (rest % 12 == 0) (big_number 4 last == 16 + width + length bytes) u in
                 let whole : rest % 12 ≡ 0 = eqb-true (rest % 12) 0 both.0 in
                 let number : big_number 4 last ≡ 16 + width + length bytes = eqb-true (big_number 4 last)
-                    (16 + width + length bytes) both.1 in
+                (16 + width + length bytes) both.1 in
                 let cut : length front ≡ rest = omega (arith, length-take rest bytes) in
                 let entries = entries_are front (ap (λ (k : ℕ). k % 12) cut ∙ whole) (AreBytes-take rest bytes h) in (
                   refl,

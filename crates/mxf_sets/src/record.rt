@@ -5,7 +5,8 @@ ghost use Rattle.std.specs.List.{AllByRecursion};
 ghost use Rattle.mxf_klv.specs.Bytes.{AreBytes};
 ghost use Rattle.mxf_sets.specs.Batch.{BatchParts, HasItemsOf, IsBatch};
 ghost use Rattle.mxf_sets.specs.Faults.{set_fault};
-ghost use Rattle.mxf_sets.specs.Fields.{Meets, Passes, checked, fields_at, first_tag, has_shape, is_batch, is_missing, is_repeated, is_wrong};
+ghost use Rattle.mxf_sets.specs.Fields.{Meets, Passes, checked, fields_at, first_tag, has_shape, is_batch, is_missing};
+ghost use Rattle.mxf_sets.specs.Fields.{is_repeated, is_wrong};
 ghost use Rattle.mxf_sets.specs.Items.{AreItems, IsItem, ItemParts};
 ghost use Rattle.mxf_sets.specs.declared.record.Field.{Field};
 

@@ -5,7 +5,8 @@ ghost use Rattle.std.specs.Option.{ForSome, SomeIff, option_map};
 ghost use Rattle.mxf_sets.specs.Faults.{segment_fault};
 ghost use Rattle.mxf_sets.specs.Fields.{Passes};
 ghost use Rattle.mxf_sets.specs.Items.{IsItem};
-ghost use Rattle.mxf_sets.specs.Segment.{AreSegmentNumbers, IsSegment, SegmentParts, entries_in, entry_count, segment_at, segment_bytes, segment_fields, segment_of, segment_parts};
+ghost use Rattle.mxf_sets.specs.Segment.{AreSegmentNumbers, IsSegment, SegmentParts, entries_in, entry_count};
+ghost use Rattle.mxf_sets.specs.Segment.{segment_at, segment_bytes, segment_fields, segment_of, segment_parts};
 
 mod numbers;
 mod offset;
@@ -156,5 +157,6 @@ impl<'a> Segment<'a> {
 
 /// A law: a written segment is read back with its numbers and entries.
 pub fn segments_are_read_as_written()
-    ensures { (segment : SegmentParts) → AreSegmentNumbers segment.numbers → IsSegment segment → segment_at (segment_bytes segment) ≡ Ok segment }
+    ensures { (segment : SegmentParts) → AreSegmentNumbers segment.numbers → IsSegment segment
+        → segment_at (segment_bytes segment) ≡ Ok segment }
 {}

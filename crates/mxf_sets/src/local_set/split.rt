@@ -33,5 +33,6 @@ pub fn items(value: &[u8]) -> Result<Items<'_>, SetFault>
 pub fn whole_items_stand_at_the_front()
     ensures bytes { (bytes : List ℕ) → AreBytes bytes → bytes ≡ flat_map item_bytes (items_of bytes) ++ left_of bytes }
     ensures each { (bytes : List ℕ) → AreBytes bytes → AllByRecursion IsItem (items_of bytes) }
-    ensures left { (bytes rest : List ℕ) (item : ItemParts) → IsItem item → left_of bytes ≡ item_bytes item ++ rest → ⊥ }
+    ensures left { (bytes rest : List ℕ) (item : ItemParts) → IsItem item → left_of bytes ≡ item_bytes item ++ rest
+        → ⊥ }
 {}

@@ -6,7 +6,8 @@ ghost use Rattle.mxf_klv.specs.declared.kinds.Kind.{Kind};
 ghost use Rattle.mxf_klv.specs.Bytes.{AreBytes};
 ghost use Rattle.mxf_sets.specs.Batch.{HasItemsOf};
 ghost use Rattle.mxf_sets.specs.PackReadings.{pack_at};
-ghost use Rattle.mxf_sets.specs.PartitionPack.{ArePartitionPackParts, IsPartitionPack, PartitionPackParts, ReadsPack, pack_bytes, pack_key, pack_kind, partition_pack_parts};
+ghost use Rattle.mxf_sets.specs.PartitionPack.{ArePartitionPackParts, IsPartitionPack, PartitionPackParts, ReadsPack};
+ghost use Rattle.mxf_sets.specs.PartitionPack.{pack_bytes, pack_key, pack_kind, partition_pack_parts};
 ghost use Rattle.mxf_sets.specs.declared.pack.PackFault.{PackFault};
 
 use super::{PackFault, PackPart, PartitionNumbers};
@@ -84,7 +85,8 @@ impl<'a> PartitionPack<'a> {
         pattern: [u8; 16],
         containers: Batch<'a>,
     ) -> Option<PartitionPack<'a>>
-        ensures { SomeIff result (HasItemsOf 16 containers.entry) (partition_pack_parts part status numbers pattern containers.entry) }
+        ensures { SomeIff result (HasItemsOf 16 containers.entry)
+            (partition_pack_parts part status numbers pattern containers.entry) }
     {
         if !containers.is_empty() && containers.item_size() != 16 {
             return None;
@@ -157,22 +159,28 @@ impl<'a> Encode for PartitionPack<'a> {
 
 /// A law: the value of a packet of a kind is a partition pack, or one of the faults, and nothing else beside it.
 pub fn one_pack_reading()
-    ensures { (kind : Kind) (bytes : List ℕ) (r s : Result PartitionPackParts PackFault) → ReadsPack kind bytes r → ReadsPack kind bytes s → r ≡ s }
+    ensures { (kind : Kind) (bytes : List ℕ) (r s : Result PartitionPackParts PackFault) → ReadsPack kind bytes r
+        → ReadsPack kind bytes s → r ≡ s }
 {}
 
 /// A law: under one part and status a value stands for one partition pack at most, and a partition pack for one value.
 pub fn one_pack()
-    ensures pack { (bytes : List ℕ) (a b : PartitionPackParts) → a.part ≡ b.part → a.status ≡ b.status → IsPartitionPack bytes a → IsPartitionPack bytes b → a ≡ b }
-    ensures text { (a b : List ℕ) (pack : PartitionPackParts) → IsPartitionPack a pack → IsPartitionPack b pack → a ≡ b }
+    ensures pack { (bytes : List ℕ) (a b : PartitionPackParts) → a.part ≡ b.part → a.status ≡ b.status
+        → IsPartitionPack bytes a → IsPartitionPack bytes b → a ≡ b }
+    ensures text { (a b : List ℕ) (pack : PartitionPackParts) → IsPartitionPack a pack → IsPartitionPack b pack
+        → a ≡ b }
 {}
 
 /// A law: a partition pack that is written is read back under its key, and one that is read is written as it stood.
 pub fn partition_packs_are_read_as_written()
-    ensures read_back { (pack : PartitionPackParts) → ArePartitionPackParts pack → ReadsPack (kind_of (pack_key pack.part pack.status)) (pack_bytes pack) (Ok pack) }
-    ensures written_back { (kind : Kind) (bytes : List ℕ) (pack : PartitionPackParts) → ReadsPack kind bytes (Ok pack) → bytes ≡ pack_bytes pack }
+    ensures read_back { (pack : PartitionPackParts) → ArePartitionPackParts pack
+        → ReadsPack (kind_of (pack_key pack.part pack.status)) (pack_bytes pack) (Ok pack) }
+    ensures written_back { (kind : Kind) (bytes : List ℕ) (pack : PartitionPackParts)
+        → ReadsPack kind bytes (Ok pack) → bytes ≡ pack_bytes pack }
 {}
 
 /// A law: what the value of a packet of a kind is, is computed from its places.
 pub fn packs_are_read_by_their_places()
-    ensures { (kind : Kind) (bytes : List ℕ) (r : Result PartitionPackParts PackFault) → AreBytes bytes → ReadsPack kind bytes r ↔ (r ≡ pack_at kind bytes) }
+    ensures { (kind : Kind) (bytes : List ℕ) (r : Result PartitionPackParts PackFault) → AreBytes bytes
+        → ReadsPack kind bytes r ↔ (r ≡ pack_at kind bytes) }
 {}

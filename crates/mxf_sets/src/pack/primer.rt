@@ -121,11 +121,14 @@ pub fn one_primer_reading()
 
 /// A law: a primer pack that is written is read back, and one that is read is written as it stood.
 pub fn primers_are_read_as_written()
-    ensures read_back { (entries : BatchParts) → ArePrimerEntries entries → ReadsPrimer (batch_bytes entries) (Ok entries) }
-    ensures written_back { (bytes : List ℕ) (entries : BatchParts) → ReadsPrimer bytes (Ok entries) → bytes ≡ batch_bytes entries }
+    ensures read_back { (entries : BatchParts) → ArePrimerEntries entries
+        → ReadsPrimer (batch_bytes entries) (Ok entries) }
+    ensures written_back { (bytes : List ℕ) (entries : BatchParts) → ReadsPrimer bytes (Ok entries)
+        → bytes ≡ batch_bytes entries }
 {}
 
 /// A law: what a value is as a primer pack is computed from its bytes.
 pub fn primers_are_read_as_batches()
-    ensures { (bytes : List ℕ) (r : Result BatchParts PackFault) → AreBytes bytes → ReadsPrimer bytes r ↔ (r ≡ primer_at bytes) }
+    ensures { (bytes : List ℕ) (r : Result BatchParts PackFault) → AreBytes bytes
+        → ReadsPrimer bytes r ↔ (r ≡ primer_at bytes) }
 {}

@@ -5,7 +5,8 @@ ghost use Rattle.std.specs.Option.{SomeIff};
 ghost use Rattle.mxf_klv.specs.Bytes.{AreBytes};
 ghost use Rattle.mxf_klv.specs.Parts.{CanSpell};
 ghost use Rattle.mxf_sets.specs.PackReadings.{rip_at};
-ghost use Rattle.mxf_sets.specs.RandomIndexPack.{AreRipParts, IsEntry, IsRip, ReadsRip, RipParts, entries_of, entry_bytes, rip_bytes, rip_parts};
+ghost use Rattle.mxf_sets.specs.RandomIndexPack.{AreRipParts, IsEntry, IsRip, ReadsRip, RipParts, entries_of};
+ghost use Rattle.mxf_sets.specs.RandomIndexPack.{entry_bytes, rip_bytes, rip_parts};
 ghost use Rattle.mxf_sets.specs.declared.pack.PackFault.{PackFault};
 
 mod entries;
@@ -154,7 +155,8 @@ impl<'a> Encode for Rip<'a> {
 
 /// A law: under one width a value is a random index pack, or one of the faults, and nothing else beside it.
 pub fn one_rip_reading()
-    ensures { (width : ℕ) (bytes : List ℕ) (r s : Result RipParts PackFault) → ReadsRip width bytes r → ReadsRip width bytes s → r ≡ s }
+    ensures { (width : ℕ) (bytes : List ℕ) (r s : Result RipParts PackFault) → ReadsRip width bytes r
+        → ReadsRip width bytes s → r ≡ s }
 {}
 
 /// A law: a value stands for one random index pack at most, and a random index pack for one value.
@@ -166,16 +168,20 @@ pub fn one_rip()
 /// A law: a random index pack that is written is read back, and one that is read is written as it stood.
 pub fn random_index_packs_are_read_as_written()
     ensures read_back { (rip : RipParts) → AreRipParts rip → ReadsRip rip.width (rip_bytes rip) (Ok rip) }
-    ensures written_back { (width : ℕ) (bytes : List ℕ) (rip : RipParts) → ReadsRip width bytes (Ok rip) → bytes ≡ rip_bytes rip }
+    ensures written_back { (width : ℕ) (bytes : List ℕ) (rip : RipParts) → ReadsRip width bytes (Ok rip)
+        → bytes ≡ rip_bytes rip }
 {}
 
 /// A law of the entries that [`Rip::of`] finds in bytes: they make up the bytes.
 pub fn entries_make_up_their_bytes()
-    ensures bytes { (bytes : List ℕ) → AreBytes bytes → length bytes % 12 ≡ 0 → flat_map entry_bytes (entries_of bytes) ≡ bytes }
-    ensures each { (bytes : List ℕ) → AreBytes bytes → length bytes % 12 ≡ 0 → AllByRecursion IsEntry (entries_of bytes) }
+    ensures bytes { (bytes : List ℕ) → AreBytes bytes → length bytes % 12 ≡ 0
+        → flat_map entry_bytes (entries_of bytes) ≡ bytes }
+    ensures each { (bytes : List ℕ) → AreBytes bytes → length bytes % 12 ≡ 0
+        → AllByRecursion IsEntry (entries_of bytes) }
 {}
 
 /// A law: what a value is as a random index pack is computed from its places.
 pub fn random_index_packs_are_read_by_their_places()
-    ensures { (width : ℕ) (bytes : List ℕ) (r : Result RipParts PackFault) → AreBytes bytes → ReadsRip width bytes r ↔ (r ≡ rip_at width bytes) }
+    ensures { (width : ℕ) (bytes : List ℕ) (r : Result RipParts PackFault) → AreBytes bytes
+        → ReadsRip width bytes r ↔ (r ≡ rip_at width bytes) }
 {}

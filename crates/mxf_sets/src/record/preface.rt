@@ -34,7 +34,11 @@ impl<'a> Model for Preface<'a> {
 
     ghost Value = { PrefaceParts };
 
-    ghost view = { λ p. record { instance_uid = p.instance_uid; content_storage = p.content_storage; identifications = p.identifications } };
+    ghost view = { λ p. record {
+      instance_uid = p.instance_uid;
+      content_storage = p.content_storage;
+      identifications = p.identifications;
+    } };
 }
 
 impl<'a> Preface<'a> {

@@ -87,6 +87,7 @@ impl<'a> Iterator for References<'a> {
 
 /// A law of [`References`]: the references of a batch of them are its items, sixteen bytes each.
 pub fn references_are_the_items_of_their_batch()
-    ensures items { (items : List ℕ) → length items % 16 ≡ 0 → flat_map (λ reference. reference) (references_of items) ≡ items }
+    ensures items { (items : List ℕ) → length items % 16 ≡ 0
+        → flat_map (λ reference. reference) (references_of items) ≡ items }
     ensures width { (items : List ℕ) → AllByRecursion (λ reference. length reference ≡ 16) (references_of items) }
 {}

@@ -87,7 +87,8 @@ fn put_numbers<W: Write>(
     progress: &mut Progress,
     writer: &mut W,
 ) -> Result<(), WriteFault>
-    ensures { Puts W.contents writer.old writer.new progress.old progress.new result (flat_map item_bytes (number_items numbers.now)) }
+    ensures { let bytes = flat_map item_bytes (number_items numbers.now) in
+        Puts W.contents writer.old writer.new progress.old progress.new result bytes }
 {
     let rate = rate_bytes(numbers.edit_rate);
     let start = numbers.start.to_be_bytes();

@@ -9,4 +9,4 @@ pub returns-clause-computed : goal.returns-clause-computed
 returns-clause-computed c =
     pack_computes (kind_of c.args.key.now) c.args.value.now c.read_value.result (λ i. omega (arith, c.type_inv.value i))
     (subst (λ (k : Kind). ReadsPack k c.args.value.now c.read_value.result) (sym c.in-Some.ensures.told
-        ∙ c.kind.ensures.kind) c.read_value.ensures)
+    ∙ c.kind.ensures.kind) c.read_value.ensures)

@@ -10,7 +10,7 @@ returns c =
       refl,
       pack_read c.args.value.now c.in-Some.numbers.now c.in-Some.rest.now c.in-Some-split_first_chunk.pattern.now c.in-Some-split_first_chunk.rest.now c.args.part c.args.status c.read-2.result
           c.in-Ok.containers k.0 k.1 m.0 m.1 (ap length m.0
-              ∙ omega (arith, length-take 16 c.in-Some.rest.now, m.2)) c.read-2.ensures.numbers c.read-2.ensures.bytes
+          ∙ omega (arith, length-take 16 c.in-Some.rest.now, m.2)) c.read-2.ensures.numbers c.read-2.ensures.bytes
           c.in-Ok.ensures.0 c.in-Ok.ensures.1,
     )
 
