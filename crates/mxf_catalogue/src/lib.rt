@@ -24,6 +24,3 @@ pub use catalogue::{
 };
 pub use history::{histories_leave_what_they_were_handed, one_set_one_content};
 pub use semilattice::Semilattice;
-
-#[cfg(test)]
-mod tests;

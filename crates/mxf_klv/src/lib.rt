@@ -29,6 +29,3 @@ pub use round_trips::{lengths_are_read_as_written, packets_are_read_as_written};
 pub use stops::Stop;
 pub use table::kind;
 pub use writing::{Encode, Progress, WriteFault};
-
-#[cfg(test)]
-mod tests;

@@ -2,8 +2,8 @@
 use Rattle.std.proofs.Common.{◌≡◌, ℕ, ◌+◌, ◌*◌, List, ◌++◌, length, drop, Err, sym, ap, ◌∙◌, arith, inl, inr, zero-mul}
 use Rattle.byteorder.specs.Endian.{big_number, big_bytes}
 use Rattle.byteorder.specs.Numbers.{big_number-reads_back}
-use Rattle.mxf_sets.specs.declared.faults.BatchFault.{BatchFault}
-use Rattle.mxf_sets.specs.declared.faults.BatchFault.TheVariants as faults
+use Rattle.mxf_sets.specs.declared.batch.BatchFault.{BatchFault}
+use Rattle.mxf_sets.specs.declared.batch.BatchFault.TheVariants as faults
 use Rattle.mxf_sets.specs.Batch.{BatchParts, AreBatchParts, IsBatch, HasItemsOf, ReadsBatch, batch_bytes}
 use Rattle.mxf_sets.proofs.Numbers.{same_number}
 
@@ -13,7 +13,8 @@ same_parts a b e f g i = record { count = e i; size = f i; items = g i }
 -- two batches with the same bytes are one
 pub same_batch : (a b : BatchParts) → AreBatchParts a → AreBatchParts b → batch_bytes a ≡ batch_bytes b → a ≡ b
 same_batch a b p q e =
-    let c = same_number 4 a.count b.count (big_bytes 4 a.size ++ a.items) (big_bytes 4 b.size ++ b.items) p.count q.count e in
+    let c = same_number 4 a.count b.count (big_bytes 4 a.size ++ a.items)
+    (big_bytes 4 b.size ++ b.items) p.count q.count e in
     let s = same_number 4 a.size b.size a.items b.items p.size q.size c.1 in
     same_parts a b c.0 s.0 s.1
 
@@ -22,14 +23,16 @@ pub length-batch_bytes : (b : BatchParts) → length (batch_bytes b) ≡ 8 + len
 length-batch_bytes b = omega arith
 
 -- what the first eight bytes of a batch say
-pub stated : (bytes : List ℕ) (b : BatchParts) → IsBatch bytes b → (big_number 4 bytes ≡ b.count) × (big_number 4 (drop 4 bytes) ≡ b.size)
+pub stated : (bytes : List ℕ) (b : BatchParts) → IsBatch bytes b
+    → (big_number 4 bytes ≡ b.count) × (big_number 4 (drop 4 bytes) ≡ b.size)
 stated bytes b is = (
   ap (big_number 4) is.whole ∙ big_number-reads_back 4 b.count (big_bytes 4 b.size ++ b.items) is.parts.count,
   ap (λ (t : List ℕ). big_number 4 (drop 4 t)) is.whole ∙ big_number-reads_back 4 b.size b.items is.parts.size,
 )
 
 -- where a batch of the size stands there is no fault
-pub no_fault : (size : ℕ) (bytes : List ℕ) (b : BatchParts) (e : BatchFault) → IsBatch bytes b → HasItemsOf size b → ReadsBatch size bytes (Err e) → ⊥
+pub no_fault : (size : ℕ) (bytes : List ℕ) (b : BatchParts) (e : BatchFault) → IsBatch bytes b → HasItemsOf size b
+    → ReadsBatch size bytes (Err e) → ⊥
 no_fault size bytes b faults.ShortHead is has h = let len = ap length is.whole in omega (arith, len)
 no_fault size bytes b faults.WrongSize is has h =
     let s = stated bytes b is in
@@ -42,5 +45,6 @@ no_fault size bytes b faults.WrongLength is has h =
           let own : b.count * b.size ≡ 0 = rw none (zero-mul b.size) in
           let asked : big_number 4 bytes * size ≡ 0 = rw (s.0 ∙ none) (zero-mul size) in
           h.2 (len ∙ ap (λ (n : ℕ). 8 + n) (own ∙ sym asked))
-      | inr same ↦ h.2 (len ∙ ap (λ (n : ℕ). 8 + n) (ap (λ (n : ℕ). b.count * n) same ∙ ap (λ (n : ℕ). n * size) (sym s.0)))
+      | inr same ↦
+          h.2 (len ∙ ap (λ (n : ℕ). 8 + n) (ap (λ (n : ℕ). b.count * n) same ∙ ap (λ (n : ℕ). n * size) (sym s.0)))
     ]

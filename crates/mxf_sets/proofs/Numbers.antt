@@ -1,5 +1,6 @@
 -- Numbers that stand in bytes, one after another.
-use Rattle.std.proofs.Common.{◌≡◌, ℕ, ◌+◌, ◌^◌, ◌<◌, ◌≤◌, List, ◌++◌, length, take, drop, sym, ap, ◌∙◌, arith, append_assoc, length-append}
+use Rattle.std.proofs.Common.{◌≡◌, ℕ, ◌+◌, ◌^◌, ◌<◌, ◌≤◌, List, ◌++◌, length, take, drop, sym, ap, ◌∙◌, arith}
+use Rattle.std.proofs.Common.{append_assoc, length-append}
 use Rattle.std.proofs.lemmas.List.{take_at, drop_at, take-append-drop, length-take, get_or-drop}
 use Rattle.byteorder.specs.Endian.{big_number, big_bytes}
 use Rattle.byteorder.specs.Numbers.{big_number-reads_back, length-bytes_high_first}
@@ -11,22 +12,31 @@ pub AreBytes-drop : (n : ℕ) (bytes : List ℕ) → AreBytes bytes → AreBytes
 AreBytes-drop n bytes h i = rw get_or-drop (h (n + i))
 
 -- the number that bytes begin with, and the bytes after it
-pub number_in_front : (n x : ℕ) (bytes front rest : List ℕ) → front ≡ take n bytes → rest ≡ drop n bytes → x ≡ big_number n front → n ≤ length bytes → AreBytes front → bytes ≡ big_bytes n x ++ rest
+pub number_in_front : (n x : ℕ) (bytes front rest : List ℕ) → front ≡ take n bytes → rest ≡ drop n bytes
+    → x ≡ big_number n front → n ≤ length bytes → AreBytes front → bytes ≡ big_bytes n x ++ rest
 number_in_front n x bytes front rest f r is room h =
     let len : length front ≡ n = ap length f ∙ omega (arith, length-take n bytes) in
-    sym (take-append-drop n bytes) ∙ ap (λ (t : List ℕ). t ++ drop n bytes) (sym f ∙ bytes_again n front len h ∙ ap (big_bytes n) (sym is)) ∙ ap (λ (t : List ℕ). big_bytes n x ++ t) (sym r)
+    sym (take-append-drop n bytes)
+    ∙ ap (λ (t : List ℕ). t ++ drop n bytes) (sym f ∙ bytes_again n front len h ∙ ap (big_bytes n) (sym is))
+    ∙ ap (λ (t : List ℕ). big_bytes n x ++ t) (sym r)
 
 -- two numbers at the front of one text are one
-pub same_number : (n x y : ℕ) (xs ys : List ℕ) → x < 256 ^ n → y < 256 ^ n → big_bytes n x ++ xs ≡ big_bytes n y ++ ys → (x ≡ y) × (xs ≡ ys)
+pub same_number : (n x y : ℕ) (xs ys : List ℕ) → x < 256 ^ n → y < 256 ^ n → big_bytes n x ++ xs ≡ big_bytes n y ++ ys
+    → (x ≡ y) × (xs ≡ ys)
 same_number n x y xs ys p q e = (
   sym (big_number-reads_back n x xs p) ∙ ap (big_number n) e ∙ big_number-reads_back n y ys q,
-  sym (drop_at (big_bytes n x) xs n (length-bytes_high_first n x)) ∙ ap (drop n) e ∙ drop_at (big_bytes n y) ys n (length-bytes_high_first n y),
+  sym (drop_at (big_bytes n x) xs n (length-bytes_high_first n x)) ∙ ap (drop n) e
+      ∙ drop_at (big_bytes n y) ys n (length-bytes_high_first n y),
 )
 
 -- what is written after the first bytes of a buffer
-pub number_written : (n x at : ℕ) (old more post : List ℕ) → at ≤ length old → take (at + n) (take at old ++ ((big_bytes n x ++ more) ++ post)) ≡ take at old ++ big_bytes n x
+pub number_written : (n x at : ℕ) (old more post : List ℕ) → at ≤ length old
+    → take (at + n) (take at old ++ ((big_bytes n x ++ more) ++ post)) ≡ take at old ++ big_bytes n x
 number_written n x at old more post room =
     let first : length (take at old) ≡ at = omega (arith, length-take at old) in
-    let len : length (take at old ++ big_bytes n x) ≡ at + n = omega (arith, length-append (take at old) (big_bytes n x), length-bytes_high_first n x) in
-    ap (take (at + n)) (ap (λ (t : List ℕ). take at old ++ t) (append_assoc (big_bytes n x) more post) ∙ sym (append_assoc (take at old) (big_bytes n x) (more ++ post)))
+    let len : length (take at old ++ big_bytes n x) ≡ at + n =
+    omega (arith, length-append (take at old) (big_bytes n x), length-bytes_high_first n x) in
+    ap (take (at + n))
+    (ap (λ (t : List ℕ). take at old ++ t) (append_assoc (big_bytes n x) more post)
+    ∙ sym (append_assoc (take at old) (big_bytes n x) (more ++ post)))
     ∙ take_at (take at old ++ big_bytes n x) (more ++ post) (at + n) len

@@ -3,19 +3,22 @@ use Rattle.std.proofs.Common.{◌≡◌, ℕ, ◌≤◌, List, ◌++◌, length,
 use Rattle.std.proofs.lemmas.List.{take_at, drop_at, take-append-drop, drop-drop, length-drop}
 use Rattle.mxf_klv.specs.declared.kinds.Kind.{Kind}
 use Rattle.mxf_klv.specs.declared.kinds.Status.{Status}
-use Rattle.mxf_sets.specs.declared.faults.BatchFault.{BatchFault}
-use Rattle.mxf_sets.specs.declared.faults.PackFault.{PackFault}
-use Rattle.mxf_sets.specs.declared.faults.PackFault.TheVariants as faults
-use Rattle.mxf_sets.specs.declared.partition_parts.PackPart.{PackPart}
-use Rattle.mxf_sets.specs.declared.partition_parts.PackPart.TheVariants.{Header, Body, Footer}
-use Rattle.mxf_sets.specs.declared.partition_numbers.PartitionNumbers.{PartitionNumbers}
+use Rattle.mxf_sets.specs.declared.batch.BatchFault.{BatchFault}
+use Rattle.mxf_sets.specs.declared.pack.PackFault.{PackFault}
+use Rattle.mxf_sets.specs.declared.pack.PackFault.TheVariants as faults
+use Rattle.mxf_sets.specs.declared.pack.part.PackPart.{PackPart}
+use Rattle.mxf_sets.specs.declared.pack.part.PackPart.TheVariants.{Header, Body, Footer}
+use Rattle.mxf_sets.specs.declared.pack.numbers.PartitionNumbers.{PartitionNumbers}
 use Rattle.mxf_sets.specs.Batch.{BatchParts, IsBatch, HasItemsOf, ReadsBatch, batch_bytes}
-use Rattle.mxf_sets.specs.PartitionPack.{pack_kind, AreNumbers, numbers_bytes, PackParts, IsPartitionPack, ReadsPack, pack_parts}
+use Rattle.mxf_sets.specs.PartitionPack.{pack_kind, ArePartitionNumbers, numbers_bytes, PartitionPackParts}
+use Rattle.mxf_sets.specs.PartitionPack.{IsPartitionPack, ReadsPack, partition_pack_parts}
 use Rattle.mxf_sets.proofs.Numbers.{same_number}
 use Rattle.mxf_sets.proofs.BatchLaws.{same_batch, length-batch_bytes, no_fault}
 
-same_fields : (a b : PartitionNumbers) → a.major_version ≡ b.major_version → a.minor_version ≡ b.minor_version → a.kag_size ≡ b.kag_size → a.this_partition ≡ b.this_partition
-    → a.previous_partition ≡ b.previous_partition → a.footer_partition ≡ b.footer_partition → a.header_byte_count ≡ b.header_byte_count → a.index_byte_count ≡ b.index_byte_count
+pub same_fields : (a b : PartitionNumbers) → a.major_version ≡ b.major_version → a.minor_version ≡ b.minor_version
+    → a.kag_size ≡ b.kag_size → a.this_partition ≡ b.this_partition
+    → a.previous_partition ≡ b.previous_partition → a.footer_partition ≡ b.footer_partition
+    → a.header_byte_count ≡ b.header_byte_count → a.index_byte_count ≡ b.index_byte_count
     → a.index_sid ≡ b.index_sid → a.body_offset ≡ b.body_offset → a.body_sid ≡ b.body_sid → a ≡ b
 same_fields a b p0 p1 p2 p3 p4 p5 p6 p7 p8 p9 p10 i = record {
   major_version = p0 i;
@@ -32,13 +35,15 @@ same_fields a b p0 p1 p2 p3 p4 p5 p6 p7 p8 p9 p10 i = record {
 }
 
 -- two rows of numbers at the front of one text are one
-same_numbers : (a b : PartitionNumbers) (xs ys : List ℕ) → AreNumbers a → AreNumbers b → numbers_bytes a ++ xs ≡ numbers_bytes b ++ ys → (a ≡ b) × (xs ≡ ys)
+same_numbers : (a b : PartitionNumbers) (xs ys : List ℕ) → ArePartitionNumbers a → ArePartitionNumbers b
+    → numbers_bytes a ++ xs ≡ numbers_bytes b ++ ys → (a ≡ b) × (xs ≡ ys)
 same_numbers a b xs ys p q e =
     let s0 = same_number 2 a.major_version b.major_version _ _ p.major_version q.major_version e in
     let s1 = same_number 2 a.minor_version b.minor_version _ _ p.minor_version q.minor_version s0.1 in
     let s2 = same_number 4 a.kag_size b.kag_size _ _ p.kag_size q.kag_size s1.1 in
     let s3 = same_number 8 a.this_partition b.this_partition _ _ p.this_partition q.this_partition s2.1 in
-    let s4 = same_number 8 a.previous_partition b.previous_partition _ _ p.previous_partition q.previous_partition s3.1 in
+    let s4 =
+    same_number 8 a.previous_partition b.previous_partition _ _ p.previous_partition q.previous_partition s3.1 in
     let s5 = same_number 8 a.footer_partition b.footer_partition _ _ p.footer_partition q.footer_partition s4.1 in
     let s6 = same_number 8 a.header_byte_count b.header_byte_count _ _ p.header_byte_count q.header_byte_count s5.1 in
     let s7 = same_number 8 a.index_byte_count b.index_byte_count _ _ p.index_byte_count q.index_byte_count s6.1 in
@@ -47,19 +52,28 @@ same_numbers a b xs ys p q e =
     let s10 = same_number 4 a.body_sid b.body_sid xs ys p.body_sid q.body_sid s9.1 in
     (same_fields a b s0.0 s1.0 s2.0 s3.0 s4.0 s5.0 s6.0 s7.0 s8.0 s9.0 s10.0, s10.1)
 
-same_parts : (a b : PackParts) → a.part ≡ b.part → a.status ≡ b.status → a.numbers ≡ b.numbers → a.pattern ≡ b.pattern → a.containers ≡ b.containers → a ≡ b
-same_parts a b p0 p1 p2 p3 p4 i = record { part = p0 i; status = p1 i; numbers = p2 i; pattern = p3 i; containers = p4 i }
+pub same_parts : (a b : PartitionPackParts) → a.part ≡ b.part → a.status ≡ b.status → a.numbers ≡ b.numbers
+    → a.pattern ≡ b.pattern → a.containers ≡ b.containers → a ≡ b
+same_parts a b p0 p1 p2 p3 p4 i =
+    record { part = p0 i; status = p1 i; numbers = p2 i; pattern = p3 i; containers = p4 i }
 
 -- under one part and status a value is that of one pack
-pub same_pack : (bytes : List ℕ) (a b : PackParts) → a.part ≡ b.part → a.status ≡ b.status → IsPartitionPack bytes a → IsPartitionPack bytes b → a ≡ b
+pub same_pack : (bytes : List ℕ) (a b : PartitionPackParts) → a.part ≡ b.part → a.status ≡ b.status
+    → IsPartitionPack bytes a → IsPartitionPack bytes b → a ≡ b
 same_pack bytes a b part status p q =
-    let n = same_numbers a.numbers b.numbers (a.pattern ++ batch_bytes a.containers) (b.pattern ++ batch_bytes b.containers) p.parts.numbers q.parts.numbers (sym p.whole ∙ q.whole) in
-    let pattern : a.pattern ≡ b.pattern = sym (take_at a.pattern (batch_bytes a.containers) 16 p.parts.pattern) ∙ ap (take 16) n.1 ∙ take_at b.pattern (batch_bytes b.containers) 16 q.parts.pattern in
-    let labels : batch_bytes a.containers ≡ batch_bytes b.containers = sym (drop_at a.pattern (batch_bytes a.containers) 16 p.parts.pattern) ∙ ap (drop 16) n.1 ∙ drop_at b.pattern (batch_bytes b.containers) 16 q.parts.pattern in
-    same_parts a b part status n.0 pattern (same_batch a.containers b.containers p.parts.containers q.parts.containers labels)
+    let n = same_numbers a.numbers b.numbers (a.pattern ++ batch_bytes a.containers)
+    (b.pattern ++ batch_bytes b.containers) p.parts.numbers q.parts.numbers (sym p.whole ∙ q.whole) in
+    let pattern : a.pattern ≡ b.pattern = sym (take_at a.pattern (batch_bytes a.containers) 16 p.parts.pattern)
+    ∙ ap (take 16) n.1 ∙ take_at b.pattern (batch_bytes b.containers) 16 q.parts.pattern in
+    let labels : batch_bytes a.containers ≡ batch_bytes b.containers =
+    sym (drop_at a.pattern (batch_bytes a.containers) 16 p.parts.pattern) ∙ ap (drop 16) n.1
+    ∙ drop_at b.pattern (batch_bytes b.containers) 16 q.parts.pattern in
+    same_parts a b part status n.0 pattern
+    (same_batch a.containers b.containers p.parts.containers q.parts.containers labels)
 
 -- the labels of the containers stand at place 80
-pub labels_at : (bytes : List ℕ) (p : PackParts) → IsPartitionPack bytes p → drop 80 bytes ≡ batch_bytes p.containers
+pub labels_at : (bytes : List ℕ) (p : PartitionPackParts) → IsPartitionPack bytes p
+    → drop 80 bytes ≡ batch_bytes p.containers
 labels_at bytes p is = ap (drop 80) is.whole ∙ drop_at p.pattern (batch_bytes p.containers) 16 is.parts.pattern
 
 same_kind : (p q : PackPart) (s t : Status) → pack_kind p s ≡ pack_kind q t → (p ≡ q) × (s ≡ t)
@@ -74,15 +88,18 @@ same_kind Footer Body s t e = absurd cc
 same_kind Footer Footer s t e = (refl, cc)
 
 -- where a pack stands there is no fault
-ok_excludes : (kind : Kind) (bytes : List ℕ) (p : PackParts) (e : PackFault) → ReadsPack kind bytes (Ok p) → ReadsPack kind bytes (Err e) → ⊥
+ok_excludes : (kind : Kind) (bytes : List ℕ) (p : PartitionPackParts) (e : PackFault) → ReadsPack kind bytes (Ok p)
+    → ReadsPack kind bytes (Err e) → ⊥
 ok_excludes kind bytes p faults.NotThisKind r h = h (p.part, p.status, r.0)
 ok_excludes kind bytes p faults.Short r h =
     let labels = ap length (labels_at bytes p r.1) in
     omega (arith, labels, length-batch_bytes p.containers, length-drop 80 bytes, h.1)
-ok_excludes kind bytes p faults.BadBatch r h = h.2 p.containers (record { parts = r.1.parts.containers; whole = labels_at bytes p r.1 }) r.1.parts.labels
+ok_excludes kind bytes p faults.BadBatch r h =
+    h.2 p.containers (record { parts = r.1.parts.containers; whole = labels_at bytes p r.1 }) r.1.parts.labels
 ok_excludes kind bytes p faults.WrongLength r h = h
 
-one_fault : (kind : Kind) (bytes : List ℕ) (d e : PackFault) → ReadsPack kind bytes (Err d) → ReadsPack kind bytes (Err e) → d ≡ e
+one_fault : (kind : Kind) (bytes : List ℕ) (d e : PackFault) → ReadsPack kind bytes (Err d)
+    → ReadsPack kind bytes (Err e) → d ≡ e
 one_fault kind bytes faults.NotThisKind faults.NotThisKind p q = refl
 one_fault kind bytes faults.NotThisKind faults.Short p q = absurd (p q.0)
 one_fault kind bytes faults.NotThisKind faults.BadBatch p q = absurd (p q.0)
@@ -97,10 +114,11 @@ one_fault kind bytes faults.BadBatch faults.BadBatch p q = refl
 one_fault kind bytes faults.BadBatch faults.WrongLength p q = absurd q
 one_fault kind bytes faults.WrongLength e p q = absurd p
 
-pub one_pack_read : (kind : Kind) (bytes : List ℕ) (r s : Result PackParts PackFault) → ReadsPack kind bytes r → ReadsPack kind bytes s → r ≡ s
+pub one_pack_read : (kind : Kind) (bytes : List ℕ) (r s : Result PartitionPackParts PackFault) → ReadsPack kind bytes r
+    → ReadsPack kind bytes s → r ≡ s
 one_pack_read kind bytes (Ok a) (Ok b) p q =
     let k = same_kind a.part b.part a.status b.status (sym p.0 ∙ q.0) in
-    ap (λ (x : PackParts). Ok x) (same_pack bytes a b k.0 k.1 p.1 q.1)
+    ap (λ (x : PartitionPackParts). Ok x) (same_pack bytes a b k.0 k.1 p.1 q.1)
 one_pack_read kind bytes (Ok a) (Err e) p q = absurd (ok_excludes kind bytes a e p q)
 one_pack_read kind bytes (Err d) (Ok b) p q = absurd (ok_excludes kind bytes b d q p)
 one_pack_read kind bytes (Err d) (Err e) p q = ap (λ (x : PackFault). Err x) (one_fault kind bytes d e p q)
@@ -108,7 +126,8 @@ one_pack_read kind bytes (Err d) (Err e) p q = ap (λ (x : PackFault). Err x) (o
 -- ---- reading
 
 -- no batch of labels stands at place 80
-pub bad_batch : (bytes after rest : List ℕ) (e : BatchFault) → after ≡ drop 64 bytes → rest ≡ drop 16 after → 8 ≤ length rest → ReadsBatch 16 rest (Err e)
+pub bad_batch : (bytes after rest : List ℕ) (e : BatchFault) → after ≡ drop 64 bytes → rest ≡ drop 16 after
+    → 8 ≤ length rest → ReadsBatch 16 rest (Err e)
     → (88 ≤ length bytes) × ((labels : BatchParts) → IsBatch (drop 80 bytes) labels → HasItemsOf 16 labels → ⊥)
 bad_batch bytes after rest e is1 is2 long r =
     let is : rest ≡ drop 80 bytes = is2 ∙ ap (drop 16) is1 ∙ drop-drop 16 64 bytes in
@@ -116,10 +135,15 @@ bad_batch bytes after rest e is1 is2 long r =
     (omega (arith, len, length-drop 80 bytes), λ labels b has. no_fault 16 rest labels e (rw is b) has r)
 
 -- the pack whose numbers, pattern and labels were read
-pub pack_read : (bytes front after pattern rest : List ℕ) (part : PackPart) (status : Status) (n : PartitionNumbers) (b : BatchParts) → front ≡ take 64 bytes → after ≡ drop 64 bytes
-    → pattern ≡ take 16 after → rest ≡ drop 16 after → length pattern ≡ 16 → AreNumbers n → front ≡ numbers_bytes n → IsBatch rest b → HasItemsOf 16 b → IsPartitionPack bytes (pack_parts part status n pattern b)
+pub pack_read : (bytes front after pattern rest : List ℕ) (part : PackPart) (status : Status) (n : PartitionNumbers)
+    (b : BatchParts) → front ≡ take 64 bytes → after ≡ drop 64 bytes
+    → pattern ≡ take 16 after → rest ≡ drop 16 after → length pattern ≡ 16 → ArePartitionNumbers n
+    → front ≡ numbers_bytes n → IsBatch rest b → HasItemsOf 16 b
+    → IsPartitionPack bytes (partition_pack_parts part status n pattern b)
 pack_read bytes front after pattern rest part status n b f a p r len fits is batch has = record {
   parts = record { numbers = fits; pattern = len; containers = batch.parts; labels = has };
   whole = sym (take-append-drop 64 bytes) ∙ ap (λ (t : List ℕ). t ++ drop 64 bytes) (sym f ∙ is)
-      ∙ ap (λ (t : List ℕ). numbers_bytes n ++ t) (sym a ∙ sym (take-append-drop 16 after) ∙ ap (λ (t : List ℕ). t ++ drop 16 after) (sym p) ∙ ap (λ (t : List ℕ). pattern ++ t) (sym r ∙ batch.whole));
+      ∙ ap (λ (t : List ℕ). numbers_bytes n ++ t)
+      (sym a ∙ sym (take-append-drop 16 after) ∙ ap (λ (t : List ℕ). t ++ drop 16 after) (sym p)
+      ∙ ap (λ (t : List ℕ). pattern ++ t) (sym r ∙ batch.whole));
 }

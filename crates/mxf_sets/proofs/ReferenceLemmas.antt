@@ -1,5 +1,6 @@
 -- The number of references and the one at a place.
-use Rattle.std.proofs.Common.{◌≡◌, ℕ, zero, suc, ◌*◌, ◌/◌, ◌%◌, ◌<◌, ◌≤◌, List, [], ◌∷◌, ◌++◌, Some, None, length, take, drop, drop-drop, take-append-drop, length-take, length-drop, refl, ap, ◌∙◌, sym, arith}
+use Rattle.std.proofs.Common.{◌≡◌, ℕ, zero, suc, ◌*◌, ◌/◌, ◌%◌, ◌<◌, ◌≤◌, List, [], ◌∷◌, ◌++◌, Some, None, length, take}
+use Rattle.std.proofs.Common.{drop, drop-drop, take-append-drop, length-take, length-drop, refl, ap, ◌∙◌, sym, arith}
 use Rattle.std.specs.List.{AllByRecursion, flat_map, slice_get}
 use Rattle.mxf_sets.specs.Reference.{references_of, sixteens}
 
@@ -12,38 +13,46 @@ sixteens-past zero i bytes h = refl
 sixteens-past (suc n) zero bytes h = absurd (omega arith)
 sixteens-past (suc n) (suc i) bytes h = sixteens-past n i (drop 16 bytes) (omega arith)
 
-pub sixteens-at : (n i : ℕ) (bytes : List ℕ) → i < n → slice_get (sixteens n bytes) i ≡ Some (take 16 (drop (16 * i) bytes))
+pub sixteens-at : (n i : ℕ) (bytes : List ℕ) → i < n
+    → slice_get (sixteens n bytes) i ≡ Some (take 16 (drop (16 * i) bytes))
 sixteens-at zero i bytes h = absurd (omega arith)
 sixteens-at (suc n) zero bytes h = refl
 sixteens-at (suc n) (suc i) bytes h =
-    sixteens-at n i (drop 16 bytes) (omega arith) ∙ ap (λ (t : List ℕ). Some (take 16 t)) (drop-drop (16 * i) 16 bytes ∙ ap (λ (k : ℕ). drop k bytes) (omega arith))
+    sixteens-at n i (drop 16 bytes) (omega arith)
+    ∙ ap (λ (t : List ℕ). Some (take 16 t)) (drop-drop (16 * i) 16 bytes ∙ ap (λ (k : ℕ). drop k bytes) (omega arith))
 
 -- ---- the first reference
 
 pub no_reference : (bytes : List ℕ) → length bytes < 16 → references_of bytes ≡ []
 no_reference bytes h = let none : length bytes / 16 ≡ 0 = omega arith in ap (λ (n : ℕ). sixteens n bytes) none
 
-pub first_reference : (bytes : List ℕ) → 16 ≤ length bytes → references_of bytes ≡ take 16 bytes ∷ references_of (drop 16 bytes)
+pub first_reference : (bytes : List ℕ) → 16 ≤ length bytes
+    → references_of bytes ≡ take 16 bytes ∷ references_of (drop 16 bytes)
 first_reference bytes h =
     let one_less : length bytes / 16 ≡ suc (length (drop 16 bytes) / 16) = omega (arith, length-drop 16 bytes) in
     ap (λ (n : ℕ). sixteens n bytes) one_less
 
 -- ---- the references are their bytes
 
-sixteens_whole : (n : ℕ) (bytes : List ℕ) → length bytes ≡ 16 * n → flat_map (λ reference. reference) (sixteens n bytes) ≡ bytes
+sixteens_whole : (n : ℕ) (bytes : List ℕ) → length bytes ≡ 16 * n
+    → flat_map (λ reference. reference) (sixteens n bytes) ≡ bytes
 sixteens_whole zero bytes h = sym (empty_list bytes (omega arith)) where
   empty_list : (xs : List ℕ) → length xs ≡ 0 → xs ≡ []
   empty_list [] e = refl
   empty_list (x ∷ xs) e = absurd (omega arith)
 sixteens_whole (suc n) bytes h =
-    ap (λ (t : List ℕ). take 16 bytes ++ t) (sixteens_whole n (drop 16 bytes) (omega (arith, length-drop 16 bytes))) ∙ take-append-drop 16 bytes
+    ap (λ (t : List ℕ). take 16 bytes ++ t) (sixteens_whole n (drop 16 bytes) (omega (arith, length-drop 16 bytes)))
+    ∙ take-append-drop 16 bytes
 
-pub references_whole : (bytes : List ℕ) → length bytes % 16 ≡ 0 → flat_map (λ reference. reference) (references_of bytes) ≡ bytes
+pub references_whole : (bytes : List ℕ) → length bytes % 16 ≡ 0
+    → flat_map (λ reference. reference) (references_of bytes) ≡ bytes
 references_whole bytes h = sixteens_whole (length bytes / 16) bytes (omega arith)
 
-sixteens_wide : (n : ℕ) (bytes : List ℕ) → n * 16 ≤ length bytes → AllByRecursion (λ reference. length reference ≡ 16) (sixteens n bytes)
+sixteens_wide : (n : ℕ) (bytes : List ℕ) → n * 16 ≤ length bytes
+    → AllByRecursion (λ reference. length reference ≡ 16) (sixteens n bytes)
 sixteens_wide zero bytes h = tt
-sixteens_wide (suc n) bytes h = (omega (arith, length-take 16 bytes), sixteens_wide n (drop 16 bytes) (omega (arith, length-drop 16 bytes)))
+sixteens_wide (suc n) bytes h =
+    (omega (arith, length-take 16 bytes), sixteens_wide n (drop 16 bytes) (omega (arith, length-drop 16 bytes)))
 
 pub references_wide : (bytes : List ℕ) → AllByRecursion (λ reference. length reference ≡ 16) (references_of bytes)
 references_wide bytes = sixteens_wide (length bytes / 16) bytes (omega arith)

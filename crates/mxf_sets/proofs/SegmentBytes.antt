@@ -1,87 +1,78 @@
 -- The bytes of a segment by the parts that are written.
-use Rattle.std.proofs.Common.{◌≡◌, ℕ, ◌+◌, ◌/◌, ◌<◌, Bool, cond, List, [], ◌∷◌, ◌++◌, length, take, drop, ◌≤◌, Option, Result, lt-ltb, le-ltb, refl, ap, ◌∙◌, sym, subst, arith, length-append, append-nil, get_or, suc, zero}
+use Rattle.std.proofs.Common.{◌≡◌, ℕ, ◌+◌, ◌/◌, ◌<◌, Bool, cond, List, [], ◌∷◌, ◌++◌, length, ◌≤◌, lt-ltb, le-ltb, refl}
+use Rattle.std.proofs.Common.{ap, ◌∙◌, sym, subst, arith, length-append, append-nil, get_or, suc, zero}
 use Rattle.std.specs.Int.{w16, w32, w64, cast_unsigned, to_be_bytes}
 use Rattle.std.specs.List.{flat_map, AllByRecursion}
 use Rattle.std.proofs.lemmas.Grind.{flat_map-append}
-use Rattle.std.proofs.lemmas.List.{take-append-le}
-use Rattle.std.specs.Io.KnownBytes.{Appends}
 use Rattle.byteorder.specs.Endian.{big_bytes}
-use Rattle.mxf_klv.specs.declared.writing.WriteFault.{WriteFault}
-use Rattle.mxf_klv.specs.Written.{StopsIn, WritesPart, counted}
-use Rattle.mxf_klv.proofs.WrittenParts.{StopsIn-middle, StopsIn-part, WritesPart-after, flat_map-at}
-use Rattle.mxf_sets.specs.declared.segment_numbers.SegmentNumbers.{SegmentNumbers}
-use Rattle.mxf_sets.specs.Items.{ItemParts, IsItem, item_bytes}
-use Rattle.mxf_sets.specs.Segment.{SegmentParts, entry_count, entry_item, item, entry_items, entry_size, number_items, segment_bytes}
-
--- a fault in the first of two parts is a fault of the whole
-pub StopsIn-first : (a c : Option (List ℕ)) (before : ℕ) (e : WriteFault) (bytes part rest : List ℕ) → bytes ≡ part ++ rest → StopsIn a c before e part → StopsIn a c before e bytes
-StopsIn-first a c before e bytes part rest is q =
-    let n = q.0 in
-    let within : n < length part = q.1 in
-    subst (StopsIn a c before e) (sym is) (n, omega (arith, length-append part rest), q.2, subst (Appends a c) (sym (take-append-le n part rest (omega arith))) q.3)
-
--- the first part was written, and what is told of the second is told of the whole
-pub WritesPart-second : {X : Type 0} (a b c : Option (List ℕ)) (before mid after : ℕ) (r : Result X WriteFault) (bytes part rest : List ℕ) → bytes ≡ part ++ rest → Appends a b part
-    → mid ≡ counted (before + length part) → WritesPart b c mid after r rest → WritesPart a c before after r bytes
-WritesPart-second a b c before mid after r bytes part rest is p m q =
-    subst (WritesPart a c before after r) (sym is) (WritesPart-after a b c before mid after r part rest p m q)
-
--- what was written is the same bytes
-pub writes_same : (a c : Option (List ℕ)) (before after : ℕ) (bytes same : List ℕ) → bytes ≡ same → Appends a c same → after ≡ counted (before + length same) → Appends a c bytes × (after ≡ counted (before + length bytes))
-writes_same a c before after bytes same is p m = (subst (Appends a c) (sym is) p, m ∙ ap (λ (t : List ℕ). counted (before + length t)) (sym is))
-
--- a fault in an item is a fault of all of them
-pub StopsIn-item : (a b c : Option (List ℕ)) (before mid : ℕ) (e : WriteFault) (items : List ItemParts) (k : ℕ) (item : ItemParts) → k < length items → item ≡ get_or items k item
-    → Appends a b (flat_map item_bytes (take k items)) → mid ≡ counted (before + length (flat_map item_bytes (take k items))) → StopsIn b c mid e (item_bytes item) → StopsIn a c before e (flat_map item_bytes items)
-StopsIn-item a b c before mid e items k item h is p m q =
-    subst (StopsIn a c before e) (flat_map-at item_bytes items k item h)
-    (StopsIn-part a b c before mid e (flat_map item_bytes (take k items)) (item_bytes (get_or items k item)) (flat_map item_bytes (drop (suc k) items)) p m (subst (λ (i : ItemParts). StopsIn b c mid e (item_bytes i)) is q))
-
--- the first part was written, and a fault in the second is a fault of the whole
-pub StopsIn-second : (a b c : Option (List ℕ)) (before mid : ℕ) (e : WriteFault) (bytes done part rest : List ℕ) → bytes ≡ done ++ (part ++ rest) → Appends a b done
-    → mid ≡ counted (before + length done) → StopsIn b c mid e part → StopsIn a c before e bytes
-StopsIn-second a b c before mid e bytes done part rest is p m q = subst (StopsIn a c before e) (sym is) (StopsIn-middle a b c before mid e done part rest p m q)
+use Rattle.mxf_sets.specs.declared.segment.numbers.SegmentNumbers.{SegmentNumbers}
+use Rattle.mxf_sets.specs.declared.segment.numbers.TheConstants.{EDIT_RATE, START, DURATION, UNIT_BYTES, INDEX_SID}
+use Rattle.mxf_sets.specs.declared.segment.numbers.TheConstants.{BODY_SID, SLICES, POSITIONS, ENTRIES}
+use Rattle.mxf_sets.specs.Items.{item, ItemParts, IsItem, item_bytes}
+use Rattle.mxf_sets.specs.Segment.{SegmentParts, entry_count, entry_item, entry_items, entry_size, number_items}
+use Rattle.mxf_sets.specs.Segment.{segment_bytes}
 
 -- the item of the entries by the parts that are written
-pub entry_parts : (s : SegmentParts) (e : List ℕ) (size : ℕ) → e ≡ s.entries → size ≡ entry_size s.numbers → item_bytes (entry_item s)
-    ≡ (to_be_bytes w16 0x3F0A ++ to_be_bytes w16 (8 + length e)) ++ ((big_bytes 4 (length e / size) ++ big_bytes 4 size) ++ e)
+pub entry_parts : (s : SegmentParts) (e : List ℕ) (size : ℕ) → e ≡ s.entries → size ≡ entry_size s.numbers
+    → item_bytes (entry_item s)
+    ≡ (to_be_bytes w16 ENTRIES ++ to_be_bytes w16 (8 + length e))
+    ++ ((big_bytes 4 (length e / size) ++ big_bytes 4 size) ++ e)
 entry_parts s e size same sized =
     let head = big_bytes 4 (entry_count s) ++ big_bytes 4 (entry_size s.numbers) in
     let len : length (head ++ s.entries) ≡ 8 + length s.entries = length-append head s.entries in
-    ap (λ (k : ℕ). (to_be_bytes w16 0x3F0A ++ to_be_bytes w16 k) ++ (head ++ s.entries)) len
-    ∙ ap (λ (t : List ℕ). (to_be_bytes w16 0x3F0A ++ to_be_bytes w16 (8 + length t)) ++ ((big_bytes 4 (length t / entry_size s.numbers) ++ big_bytes 4 (entry_size s.numbers)) ++ t)) (sym same)
-    ∙ ap (λ (k : ℕ). (to_be_bytes w16 0x3F0A ++ to_be_bytes w16 (8 + length e)) ++ ((big_bytes 4 (length e / k) ++ big_bytes 4 k) ++ e)) (sym sized)
+    ap (λ (k : ℕ). (to_be_bytes w16 ENTRIES ++ to_be_bytes w16 k) ++ (head ++ s.entries)) len
+    ∙ ap (λ (t : List ℕ). (to_be_bytes w16 ENTRIES ++ to_be_bytes w16 (8 + length t))
+    ++ ((big_bytes 4 (length t / entry_size s.numbers) ++ big_bytes 4 (entry_size s.numbers)) ++ t)) (sym same)
+    ∙ ap (λ (k : ℕ). (to_be_bytes w16 ENTRIES ++ to_be_bytes w16 (8 + length e))
+    ++ ((big_bytes 4 (length e / k) ++ big_bytes 4 k) ++ e)) (sym sized)
 
-pub entry_written : (s : SegmentParts) (e : List ℕ) (size : ℕ) (first second : List ℕ) → e ≡ s.entries → size ≡ entry_size s.numbers → first ≡ to_be_bytes w16 0x3F0A ++ to_be_bytes w16 (8 + length e)
+pub entry_written : (s : SegmentParts) (e : List ℕ) (size : ℕ) (first second : List ℕ) → e ≡ s.entries
+    → size ≡ entry_size s.numbers → first ≡ to_be_bytes w16 ENTRIES ++ to_be_bytes w16 (8 + length e)
     → second ≡ big_bytes 4 (length e / size) ++ big_bytes 4 size → item_bytes (entry_item s) ≡ first ++ (second ++ e)
 entry_written s e size first second same sized is1 is2 =
-    entry_parts s e size same sized ∙ ap (λ (t : List ℕ). t ++ ((big_bytes 4 (length e / size) ++ big_bytes 4 size) ++ e)) (sym is1) ∙ ap (λ (t : List ℕ). first ++ (t ++ e)) (sym is2)
+    entry_parts s e size same sized
+    ∙ ap (λ (t : List ℕ). t ++ ((big_bytes 4 (length e / size) ++ big_bytes 4 size) ++ e)) (sym is1)
+    ∙ ap (λ (t : List ℕ). first ++ (t ++ e)) (sym is2)
 
 -- the items of the numbers by the bytes of each
-pub numbers_written : (n : SegmentNumbers) (rate start duration unit_bytes index_sid body_sid : List ℕ) → rate ≡ big_bytes 4 (cast_unsigned w32 n.edit_rate.0) ++ big_bytes 4 (cast_unsigned w32 n.edit_rate.1)
-    → start ≡ big_bytes 8 (cast_unsigned w64 n.start) → duration ≡ big_bytes 8 (cast_unsigned w64 n.duration) → unit_bytes ≡ big_bytes 4 n.unit_bytes → index_sid ≡ big_bytes 4 n.index_sid
-    → body_sid ≡ big_bytes 4 n.body_sid → item 0x3F0B rate ∷ item 0x3F0C start ∷ item 0x3F0D duration ∷ item 0x3F05 unit_bytes ∷ item 0x3F06 index_sid ∷ item 0x3F07 body_sid
-    ∷ item 0x3F08 (n.slices ∷ []) ∷ item 0x3F0E (n.positions ∷ []) ∷ [] ≡ number_items n
+pub numbers_written : (n : SegmentNumbers) (rate start duration unit_bytes index_sid body_sid : List ℕ)
+    → rate ≡ big_bytes 4 (cast_unsigned w32 n.edit_rate.0) ++ big_bytes 4 (cast_unsigned w32 n.edit_rate.1)
+    → start ≡ big_bytes 8 (cast_unsigned w64 n.start) → duration ≡ big_bytes 8 (cast_unsigned w64 n.duration)
+    → unit_bytes ≡ big_bytes 4 n.unit_bytes → index_sid ≡ big_bytes 4 n.index_sid
+    → body_sid ≡ big_bytes 4 n.body_sid
+    → item EDIT_RATE rate ∷ item START start ∷ item DURATION duration ∷ item UNIT_BYTES unit_bytes
+    ∷ item INDEX_SID index_sid ∷ item BODY_SID body_sid
+    ∷ item SLICES (n.slices ∷ []) ∷ item POSITIONS (n.positions ∷ []) ∷ [] ≡ number_items n
 numbers_written n rate start duration unit_bytes index_sid body_sid r s d u i b = rw (r, s, d, u, i, b) refl
 
-pub by_parts : (s : SegmentParts) (n : SegmentNumbers) → n ≡ s.numbers → segment_bytes s ≡ flat_map item_bytes (number_items n) ++ flat_map item_bytes (entry_items s)
-by_parts s n is = flat_map-append item_bytes (number_items s.numbers) (entry_items s) ∙ ap (λ (m : SegmentNumbers). flat_map item_bytes (number_items m) ++ flat_map item_bytes (entry_items s)) (sym is)
+pub by_parts : (s : SegmentParts) (n : SegmentNumbers) → n ≡ s.numbers
+    → segment_bytes s ≡ flat_map item_bytes (number_items n) ++ flat_map item_bytes (entry_items s)
+by_parts s n is = flat_map-append item_bytes (number_items s.numbers) (entry_items s)
+    ∙ ap (λ (m : SegmentNumbers). flat_map item_bytes (number_items m) ++ flat_map item_bytes (entry_items s)) (sym is)
 
-pub constant_bytes : (s : SegmentParts) (n : SegmentNumbers) → n ≡ s.numbers → 0 < n.unit_bytes → segment_bytes s ≡ flat_map item_bytes (number_items n)
+pub constant_bytes : (s : SegmentParts) (n : SegmentNumbers) → n ≡ s.numbers → 0 < n.unit_bytes
+    → segment_bytes s ≡ flat_map item_bytes (number_items n)
 constant_bytes s n is h =
     let some : 0 < s.numbers.unit_bytes = subst (λ (m : SegmentNumbers). 0 < m.unit_bytes) is h in
-    by_parts s s.numbers refl ∙ ap (λ (b : Bool). flat_map item_bytes (number_items s.numbers) ++ flat_map item_bytes (cond b [] (entry_item s ∷ []))) (lt-ltb 0 s.numbers.unit_bytes some)
-    ∙ append-nil (flat_map item_bytes (number_items s.numbers)) ∙ ap (λ (m : SegmentNumbers). flat_map item_bytes (number_items m)) (sym is)
+    by_parts s s.numbers refl
+    ∙ ap (λ (b : Bool). flat_map item_bytes (number_items s.numbers)
+    ++ flat_map item_bytes (cond b [] (entry_item s ∷ []))) (lt-ltb 0 s.numbers.unit_bytes some)
+    ∙ append-nil (flat_map item_bytes (number_items s.numbers))
+    ∙ ap (λ (m : SegmentNumbers). flat_map item_bytes (number_items m)) (sym is)
 
-pub entries_bytes : (s : SegmentParts) (n : SegmentNumbers) → n ≡ s.numbers → n.unit_bytes ≤ 0 → segment_bytes s ≡ flat_map item_bytes (number_items n) ++ item_bytes (entry_item s)
+pub entries_bytes : (s : SegmentParts) (n : SegmentNumbers) → n ≡ s.numbers → n.unit_bytes ≤ 0
+    → segment_bytes s ≡ flat_map item_bytes (number_items n) ++ item_bytes (entry_item s)
 entries_bytes s n is h =
     let none : s.numbers.unit_bytes ≤ 0 = subst (λ (m : SegmentNumbers). m.unit_bytes ≤ 0) is h in
-    by_parts s s.numbers refl ∙ ap (λ (b : Bool). flat_map item_bytes (number_items s.numbers) ++ flat_map item_bytes (cond b [] (entry_item s ∷ []))) (le-ltb 0 s.numbers.unit_bytes none)
+    by_parts s s.numbers refl
+    ∙ ap (λ (b : Bool). flat_map item_bytes (number_items s.numbers)
+    ++ flat_map item_bytes (cond b [] (entry_item s ∷ []))) (le-ltb 0 s.numbers.unit_bytes none)
     ∙ ap (λ (t : List ℕ). flat_map item_bytes (number_items s.numbers) ++ t) (append-nil (item_bytes (entry_item s)))
     ∙ ap (λ (m : SegmentNumbers). flat_map item_bytes (number_items m) ++ item_bytes (entry_item s)) (sym is)
 
 -- each item of a list of items that have bytes
-pub item_at_place : (items : List ItemParts) (k : ℕ) (d : ItemParts) → AllByRecursion IsItem items → k < length items → IsItem (get_or items k d)
+pub item_at_place : (items : List ItemParts) (k : ℕ) (d : ItemParts) → AllByRecursion IsItem items → k < length items
+    → IsItem (get_or items k d)
 item_at_place [] k d h p = absurd (omega arith)
 item_at_place (i ∷ is) zero d h p = h.0
 item_at_place (i ∷ is) (suc k) d h p = item_at_place is k d h.1 (omega arith)

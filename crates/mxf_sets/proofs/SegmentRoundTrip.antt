@@ -1,17 +1,23 @@
 -- A written segment is read back.
-use Rattle.std.proofs.Common.{◌≡◌, ℕ, ◌+◌, ◌*◌, ◌%◌, ◌-◌, ◌^◌, ◌<◌, ◌≤◌, Bool, true, false, cond, List, [], ◌∷◌, ◌++◌, Some, None, Ok, length, drop, refl, ap, ◌∙◌, sym, arith, length-append, FitsSigned, ℤ, pos, ◌≤ℤ◌, Err, eq-eqb, ltb-true, le-leb}
-use Rattle.std.specs.Prelude.{nat_lt, ◌==◌, ◌&&◌, ◌||◌}
+use Rattle.std.proofs.Common.{◌≡◌, ℕ, ◌+◌, ◌*◌, ◌%◌, ◌-◌, ◌^◌, ◌<◌, ◌≤◌, Bool, true, false, cond, List, [], ◌∷◌, ◌++◌}
+use Rattle.std.proofs.Common.{Some, None, Ok, length, drop, refl, ap, ◌∙◌, sym, arith, length-append, FitsSigned, ℤ}
+use Rattle.std.proofs.Common.{pos, ◌≤ℤ◌, Err, ltb-true, inr}
+use Rattle.std.specs.Prelude.{nat_lt, ◌==◌}
 use Rattle.std.specs.Int.{w32, w64, cast_signed, cast_unsigned, is_negative}
 use Rattle.std.specs.List.{flat_map, AllByRecursion}
 use Rattle.std.proofs.lemmas.Int.{ints, to_z-of_z}
 use Rattle.std.proofs.lemmas.Nat.{div-add-mod'}
 use Rattle.byteorder.specs.Endian.{big_number, big_bytes}
 use Rattle.byteorder.specs.Numbers.{big_number-reads_back}
-use Rattle.mxf_sets.specs.declared.segment_numbers.SegmentNumbers.{SegmentNumbers}
-use Rattle.mxf_sets.specs.Items.{ItemParts, IsItem, item_bytes, items_of}
+use Rattle.mxf_sets.specs.declared.segment.numbers.SegmentNumbers.{SegmentNumbers}
+use Rattle.mxf_sets.specs.declared.segment.numbers.TheConstants.{ENTRIES}
+use Rattle.mxf_sets.specs.Items.{item, ItemParts, IsItem, item_bytes, items_of}
 use Rattle.mxf_sets.specs.Fields.{is_batch, checked, fields_at}
-use Rattle.mxf_sets.specs.Segment.{AreNumbers, IsSegment, SegmentParts, entries_in, entry_count, entry_item, item, then_segment, entry_size, number_items, segment_at, segment_bytes, segment_fields, segment_numbers, segment_of}
-use Rattle.mxf_sets.specs.declared.fields.FieldFault.TheVariants.{Set}
+use Rattle.mxf_sets.specs.Segment.{AreSegmentNumbers, IsSegment, SegmentParts, entries_in, entry_count, entry_item}
+use Rattle.mxf_sets.specs.Segment.{then_segment, entry_size, number_items, segment_at, segment_bytes, segment_fields}
+use Rattle.mxf_sets.specs.Segment.{segment_numbers, segment_of}
+use Rattle.mxf_sets.specs.declared.record.FieldFault.TheVariants.{Set}
+use Rattle.mxf_sets.proofs.BatchTests.{test_passes}
 use Rattle.mxf_sets.proofs.ItemLemmas.{only_items}
 use Rattle.mxf_sets.proofs.SegmentLemmas.{segment_made}
 use Rattle.std.proofs.Math.Nat.{div-le_self}
@@ -21,24 +27,43 @@ use Rattle.std.proofs.Math.Nat.{div-le_self}
 number_back : (k x : ℕ) (rest : List ℕ) → x < 256 ^ k → big_number k (big_bytes k x ++ rest) ≡ x
 number_back k x rest h = big_number-reads_back k x rest h
 
-signed_back_4 : (z : ℤ) (rest : List ℕ) → FitsSigned w32 z → cast_signed w32 (big_number 4 (big_bytes 4 (cast_unsigned w32 z) ++ rest)) ≡ z
-signed_back_4 z rest h = ap (cast_signed w32) (number_back 4 (cast_unsigned w32 z) rest (omega (arith, ints, h))) ∙ to_z-of_z w32 z h
+signed_back_4 : (z : ℤ) (rest : List ℕ) → FitsSigned w32 z
+    → cast_signed w32 (big_number 4 (big_bytes 4 (cast_unsigned w32 z) ++ rest)) ≡ z
+signed_back_4 z rest h = ap (cast_signed w32) (number_back 4 (cast_unsigned w32 z) rest (omega (arith, ints, h)))
+    ∙ to_z-of_z w32 z h
 
-signed_back_8 : (z : ℤ) → FitsSigned w64 z → cast_signed w64 (big_number 8 (big_bytes 8 (cast_unsigned w64 z) ++ [])) ≡ z
-signed_back_8 z h = ap (cast_signed w64) (number_back 8 (cast_unsigned w64 z) [] (omega (arith, ints, h))) ∙ to_z-of_z w64 z h
+signed_back_8 : (z : ℤ) → FitsSigned w64 z
+    → cast_signed w64 (big_number 8 (big_bytes 8 (cast_unsigned w64 z) ++ [])) ≡ z
+signed_back_8 z h = ap (cast_signed w64) (number_back 8 (cast_unsigned w64 z) [] (omega (arith, ints, h)))
+    ∙ to_z-of_z w64 z h
 
 byte_back : (x : ℕ) → x * 256 ^ 0 + 0 ≡ x
 byte_back x = omega arith
 
-same_numbers : (n : SegmentNumbers) (a b s d : ℤ) (u i o l p : ℕ) → a ≡ n.edit_rate.0 → b ≡ n.edit_rate.1 → s ≡ n.start → d ≡ n.duration → u ≡ n.unit_bytes → i ≡ n.index_sid → o ≡ n.body_sid
-    → l ≡ n.slices → p ≡ n.positions → record { edit_rate = (a, b); start = s; duration = d; unit_bytes = u; index_sid = i; body_sid = o; slices = l; positions = p } ≡ n
+same_numbers : (n : SegmentNumbers) (a b s d : ℤ) (u i o l p : ℕ) → a ≡ n.edit_rate.0 → b ≡ n.edit_rate.1 → s ≡ n.start
+    → d ≡ n.duration → u ≡ n.unit_bytes → i ≡ n.index_sid → o ≡ n.body_sid
+    → l ≡ n.slices → p ≡ n.positions
+    → record {
+      edit_rate = (a, b);
+      start = s;
+      duration = d;
+      unit_bytes = u;
+      index_sid = i;
+      body_sid = o;
+      slices = l;
+      positions = p;
+    } ≡ n
 same_numbers n a b s d u i o l p ea eb es ed eu ei eo el ep = rw (ea, eb, es, ed, eu, ei, eo, el, ep) refl
 
 -- the numbers of the items are those that they were made of
-numbers_back : (n : SegmentNumbers) (more : List ItemParts) → AreNumbers n → segment_numbers (number_items n ++ more) ≡ n
+numbers_back : (n : SegmentNumbers) (more : List ItemParts) → AreSegmentNumbers n
+    → segment_numbers (number_items n ++ more) ≡ n
 numbers_back n more are =
-    same_numbers n _ _ _ _ _ _ _ _ _ (signed_back_4 n.edit_rate.0 (big_bytes 4 (cast_unsigned w32 n.edit_rate.1)) are.rate.0) (signed_back_4 n.edit_rate.1 [] are.rate.1) (signed_back_8 n.start are.start)
-    (signed_back_8 n.duration are.duration) (number_back 4 n.unit_bytes [] are.unit_bytes) (number_back 4 n.index_sid [] are.index_sid) (number_back 4 n.body_sid [] are.body_sid) (byte_back n.slices)
+    same_numbers n _ _ _ _ _ _ _ _ _
+    (signed_back_4 n.edit_rate.0 (big_bytes 4 (cast_unsigned w32 n.edit_rate.1)) are.rate.0)
+    (signed_back_4 n.edit_rate.1 [] are.rate.1) (signed_back_8 n.start are.start)
+    (signed_back_8 n.duration are.duration) (number_back 4 n.unit_bytes [] are.unit_bytes)
+    (number_back 4 n.index_sid [] are.index_sid) (number_back 4 n.body_sid [] are.body_sid) (byte_back n.slices)
     (byte_back n.positions)
 
 -- ---- the check of the items
@@ -46,21 +71,26 @@ numbers_back n more are =
 checked_numbers : (n : SegmentNumbers) → checked segment_fields (number_items n) (number_items n) ≡ Ok (number_items n)
 checked_numbers n = refl
 
-checked_entries : (n : SegmentNumbers) (v : List ℕ) → checked segment_fields (number_items n ++ (item 0x3F0A v ∷ [])) (number_items n ++ (item 0x3F0A v ∷ [])) ≡ Ok (number_items n ++ (item 0x3F0A v ∷ []))
+checked_entries : (n : SegmentNumbers) (v : List ℕ)
+    → checked segment_fields (number_items n ++ (item ENTRIES v ∷ [])) (number_items n ++ (item ENTRIES v ∷ []))
+    ≡ Ok (number_items n ++ (item ENTRIES v ∷ []))
 checked_entries n v = refl
 
 -- items that have bytes are read back
-fields_back : (items : List ItemParts) → AllByRecursion IsItem items → checked segment_fields items items ≡ Ok items → fields_at segment_fields (flat_map item_bytes items) ≡ Ok items
+fields_back : (items : List ItemParts) → AllByRecursion IsItem items → checked segment_fields items items ≡ Ok items
+    → fields_at segment_fields (flat_map item_bytes items) ≡ Ok items
 fields_back items each c =
     let o = only_items items each in
     let b = flat_map item_bytes items in
-    ap (λ (l : List ℕ). cond (length l == 0) (checked segment_fields (items_of b) (items_of b)) (Err (Set (length b - length l)))) o.1
+    ap (λ (l : List ℕ). cond (length l == 0) (checked segment_fields (items_of b) (items_of b))
+    (Err (Set (length b - length l)))) o.1
     ∙ ap (λ (it : List ItemParts). checked segment_fields it it) o.0 ∙ c
 
 is_item : (tag : ℕ) (value : List ℕ) → tag < 65536 → length value < 65536 → IsItem (item tag value)
 is_item tag value t v = record { tag = t; value = v }
 
-are_number_items : (n : SegmentNumbers) (more : List ItemParts) → AllByRecursion IsItem more → AllByRecursion IsItem (number_items n ++ more)
+are_number_items : (n : SegmentNumbers) (more : List ItemParts) → AllByRecursion IsItem more
+    → AllByRecursion IsItem (number_items n ++ more)
 are_number_items n more h = (
   is_item _ _ (omega arith) (omega arith),
   (
@@ -89,27 +119,23 @@ are_number_items n more h = (
 
 -- ---- the entries
 
-or_true : (a b : Bool) → b ≡ true → (a || b) ≡ true
-or_true true b h = refl
-or_true false b h = h
-
-and_true : (a b c : Bool) → a ≡ true → b ≡ true → c ≡ true → (a && b && c) ≡ true
-and_true a b c p q r = rw (p, q, r) refl
-
 -- a batch that is written passes the test
-batch_back : (size count : ℕ) (e : List ℕ) → count < 256 ^ 4 → size < 256 ^ 4 → length e ≡ count * size → is_batch size ((big_bytes 4 count ++ big_bytes 4 size) ++ e) ≡ true
+batch_back : (size count : ℕ) (e : List ℕ) → count < 256 ^ 4 → size < 256 ^ 4 → length e ≡ count * size
+    → is_batch size ((big_bytes 4 count ++ big_bytes 4 size) ++ e) ≡ true
 batch_back size count e hc hs len =
     let v = (big_bytes 4 count ++ big_bytes 4 size) ++ e in
     let c : big_number 4 v ≡ count = number_back 4 count (big_bytes 4 size ++ e) hc in
     let s : big_number 4 (drop 4 v) ≡ size = number_back 4 size e hs in
     let l : length v ≡ 8 + length e = length-append (big_bytes 4 count ++ big_bytes 4 size) e in
-    let whole : length v ≡ 8 + big_number 4 v * size = l ∙ ap (λ (k : ℕ). 8 + k) (len ∙ ap (λ (k : ℕ). k * size) (sym c)) in
-    and_true _ _ _ (le-leb 8 (length v) (omega (arith, l))) (or_true _ _ (eq-eqb (big_number 4 (drop 4 v)) size s)) (eq-eqb (length v) (8 + big_number 4 v * size) whole)
+    let whole : length v ≡ 8 + big_number 4 v * size =
+    l ∙ ap (λ (k : ℕ). 8 + k) (len ∙ ap (λ (k : ℕ). k * size) (sym c)) in
+    test_passes size v (omega (arith, l)) (inr s) whole
 
-small_size : (n : SegmentNumbers) → AreNumbers n → entry_size n < 256 ^ 4
+small_size : (n : SegmentNumbers) → AreSegmentNumbers n → entry_size n < 256 ^ 4
 small_size n are = omega (arith, are.slices, are.positions)
 
-entries_back : (s : SegmentParts) → AreNumbers s.numbers → IsSegment s → nat_lt 0 s.numbers.unit_bytes ≡ false → Some s.entries ≡ entries_in s.numbers (number_items s.numbers ++ (entry_item s ∷ []))
+entries_back : (s : SegmentParts) → AreSegmentNumbers s.numbers → IsSegment s → nat_lt 0 s.numbers.unit_bytes ≡ false
+    → Some s.entries ≡ entries_in s.numbers (number_items s.numbers ++ (entry_item s ∷ []))
 entries_back s are is zero_units =
     let size = entry_size s.numbers in
     let count = entry_count s in
@@ -120,32 +146,53 @@ entries_back s are is zero_units =
     let room : 8 + length e ≤ 65535 = is.room in
     let len : length e ≡ count * size = omega (arith, parts, whole) in
     let few : count ≤ length e = div-le_self (length e) size in
-    let batch : is_batch size v ≡ true = batch_back size count e (omega (arith, few, room)) (small_size s.numbers are) len in
-    sym (ap (λ (b : Bool). cond b (Some []) (cond (is_batch size v) (Some e) None)) zero_units ∙ ap (λ (b : Bool). cond b (Some e) None) batch)
+    let batch : is_batch size v ≡ true =
+    batch_back size count e (omega (arith, few, room)) (small_size s.numbers are) len in
+    sym (ap (λ (b : Bool). cond b (Some []) (cond (is_batch size v) (Some e) None)) zero_units
+    ∙ ap (λ (b : Bool). cond b (Some e) None) batch)
 
 not_negative : (z : ℤ) → pos 0 ≤ℤ z → is_negative z ≡ false
 not_negative z h = grind (arith, ints)
 
-read_constant : (s : SegmentParts) → AreNumbers s.numbers → IsSegment s → nat_lt 0 s.numbers.unit_bytes ≡ true → segment_at (segment_bytes s) ≡ Ok s
+read_constant : (s : SegmentParts) → AreSegmentNumbers s.numbers → IsSegment s → nat_lt 0 s.numbers.unit_bytes ≡ true
+    → segment_at (segment_bytes s) ≡ Ok s
 read_constant s are is some =
     let n = s.numbers in
-    let bytes : segment_bytes s ≡ flat_map item_bytes (number_items n ++ []) = ap (λ (b : Bool). flat_map item_bytes (number_items n ++ cond b [] (entry_item s ∷ []))) some in
+    let bytes : segment_bytes s ≡ flat_map item_bytes (number_items n ++ []) =
+    ap (λ (b : Bool). flat_map item_bytes (number_items n ++ cond b [] (entry_item s ∷ []))) some in
     let none : s.entries ≡ [] = is.constant (ltb-true 0 n.unit_bytes some) in
-    let entries : Some s.entries ≡ entries_in n (number_items n) = ap (λ (t : List ℕ). Some t) none ∙ sym (ap (λ (b : Bool). cond b (Some []) (Some [])) some) in
-    ap segment_at bytes ∙ ap (then_segment segment_of) (fields_back (number_items n) (are_number_items n [] tt) (checked_numbers n))
-    ∙ sym (segment_made (number_items n) n s.entries (sym (numbers_back n [] are)) entries (not_negative n.start is.start) (not_negative n.duration is.duration))
+    let entries : Some s.entries ≡ entries_in n (number_items n) = ap (λ (t : List ℕ). Some t) none
+    ∙ sym (ap (λ (b : Bool). cond b (Some []) (Some [])) some) in
+    ap segment_at bytes
+    ∙ ap (then_segment segment_of) (fields_back (number_items n) (are_number_items n [] tt) (checked_numbers n))
+    ∙ sym (segment_made (number_items n) n s.entries (sym (numbers_back n [] are)) entries
+    (not_negative n.start is.start) (not_negative n.duration is.duration))
 
-read_entries : (s : SegmentParts) → AreNumbers s.numbers → IsSegment s → nat_lt 0 s.numbers.unit_bytes ≡ false → segment_at (segment_bytes s) ≡ Ok s
+read_entries : (s : SegmentParts) → AreSegmentNumbers s.numbers → IsSegment s → nat_lt 0 s.numbers.unit_bytes ≡ false
+    → segment_at (segment_bytes s) ≡ Ok s
 read_entries s are is none =
     let n = s.numbers in
     let room : 8 + length s.entries ≤ 65535 = is.room in
     let all = number_items n ++ (entry_item s ∷ []) in
-    let bytes : segment_bytes s ≡ flat_map item_bytes (number_items n ++ (entry_item s ∷ [])) = ap (λ (b : Bool). flat_map item_bytes (number_items n ++ cond b [] (entry_item s ∷ []))) none in
-    let last : IsItem (entry_item s) = is_item 0x3F0A ((big_bytes 4 (entry_count s) ++ big_bytes 4 (entry_size n)) ++ s.entries) (omega arith) (omega (arith, room, length-append (big_bytes 4 (entry_count s) ++ big_bytes 4 (entry_size n)) s.entries)) in
-    ap segment_at bytes ∙ ap (then_segment segment_of) (fields_back (number_items n ++ (entry_item s ∷ [])) (are_number_items n (entry_item s ∷ []) (last, tt)) (checked_entries n (entry_item s).value))
-    ∙ sym (segment_made (number_items n ++ (entry_item s ∷ [])) n s.entries (sym (numbers_back n (entry_item s ∷ []) are)) (entries_back s are is none) (not_negative n.start is.start) (not_negative n.duration is.duration))
+    let bytes : segment_bytes s ≡ flat_map item_bytes (number_items n ++ (entry_item s ∷ [])) =
+    ap (λ (b : Bool). flat_map item_bytes (number_items n ++ cond b [] (entry_item s ∷ []))) none in
+    let last : IsItem (entry_item s) =
+    is_item ENTRIES ((big_bytes 4 (entry_count s) ++ big_bytes 4 (entry_size n)) ++ s.entries) (omega arith)
+    (omega (arith, room, length-append (big_bytes 4 (entry_count s) ++ big_bytes 4 (entry_size n)) s.entries)) in
+    ap segment_at bytes
+    ∙ ap (then_segment segment_of)
+    (fields_back (number_items n ++ (entry_item s ∷ [])) (are_number_items n (entry_item s ∷ []) (last, tt))
+    (checked_entries n (entry_item s).value))
+    ∙ sym (segment_made (number_items n ++ (entry_item s ∷ [])) n s.entries
+    (sym (numbers_back n (entry_item s ∷ []) are)) (entries_back s are is none) (not_negative n.start is.start)
+    (not_negative n.duration is.duration))
 
 -- a written segment is read back with its numbers and entries
-pub segment_read_back : (s : SegmentParts) → AreNumbers s.numbers → IsSegment s → segment_at (segment_bytes s) ≡ Ok s
+pub segment_read_back : (s : SegmentParts) → AreSegmentNumbers s.numbers → IsSegment s
+    → segment_at (segment_bytes s) ≡ Ok s
 segment_read_back s are is =
-    elim (nat_lt 0 s.numbers.unit_bytes) as (λ b. nat_lt 0 s.numbers.unit_bytes ≡ b → segment_at (segment_bytes s) ≡ Ok s) [ true ↦ λ h. read_constant s are is h | false ↦ λ h. read_entries s are is h ] refl
+    elim (nat_lt 0 s.numbers.unit_bytes) as (λ b. nat_lt 0 s.numbers.unit_bytes ≡ b
+    → segment_at (segment_bytes s) ≡ Ok s) [
+      | true ↦ λ h. read_constant s are is h
+      | false ↦ λ h. read_entries s are is h
+    ] refl

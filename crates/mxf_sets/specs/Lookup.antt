@@ -11,6 +11,6 @@ count_of tag items = count_by (λ i. i.tag == tag) items
 abbrev pub value_of : ℕ → List ItemParts → Option (List ℕ)
 value_of tag items = option_map (λ i. i.value) (find (λ i. i.tag == tag) items)
 
--- The value of the tag, where there is one for sure.
+-- The same of a tag that an item has for sure.
 abbrev pub bytes_of : ℕ → List ItemParts → List ℕ
 bytes_of tag items = unwrap_or (value_of tag items) []

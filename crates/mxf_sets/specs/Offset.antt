@@ -1,20 +1,33 @@
 -- The place of an edit unit in its essence stream by an index table segment (ST 377-1, look-up of the stream offset;
--- duration 0 of a segment with entries is this project's profile).
-use Rattle.std.specs.Prelude.{ℕ, ◌+◌, ◌-◌, ◌*◌, nat_lt, nat_le, ◌==◌, ◌&&◌, ◌||◌, if◌then◌else◌, drop, Option, Some, None, unsigned_abs}
+-- duration 0 of a segment with entries is this project's profile). Neither start nor duration is negative.
+use Rattle.std.specs.Prelude.{ℕ, ◌+◌, ◌-◌, ◌*◌, nat_lt, nat_le, ◌==◌, ◌&&◌, ◌||◌, Bool, if◌then◌else◌, drop}
+use Rattle.std.specs.Prelude.{Option, Some, None, unsigned_abs}
 use Rattle.byteorder.specs.Endian.{big_number}
-use Rattle.mxf_sets.specs.Segment.{SegmentParts, entry_count, entry_size}
+use Rattle.mxf_sets.specs.Segment.{SegmentParts, entry_count, entry_size, is_constant}
 
 -- The stream offset of an entry: the eight bytes after its first three.
 abbrev pub entry_offset : SegmentParts → ℕ → ℕ
 entry_offset s place = big_number 8 (drop (place * entry_size s.numbers + 3) s.entries)
 
 -- A segment of edit units of one size covers the units from its start up to its start and duration, and all from its
--- start on where the duration is 0. Another covers those from its start up to its start and duration that have an entry.
--- Neither start nor duration is negative.
-abbrev pub stream_offset : SegmentParts → ℕ → Option ℕ
-stream_offset s unit =
+-- start on where the duration is 0.
+abbrev pub covers_constant : SegmentParts → ℕ → Bool
+covers_constant s unit =
     let start = unsigned_abs s.numbers.start in
     let duration = unsigned_abs s.numbers.duration in
-    if nat_lt 0 s.numbers.unit_bytes
-    then (if nat_le start unit && (duration == 0 || nat_lt unit (start + duration)) then Some (s.numbers.unit_bytes * unit) else None)
-    else (if nat_le start unit && nat_lt unit (start + duration) && nat_lt (unit - start) (entry_count s) then Some (entry_offset s (unit - start)) else None)
+    nat_le start unit && (duration == 0 || nat_lt unit (start + duration))
+
+-- Another covers those from its start up to its start and duration that have an entry.
+abbrev pub covers_entry : SegmentParts → ℕ → Bool
+covers_entry s unit =
+    let start = unsigned_abs s.numbers.start in
+    let duration = unsigned_abs s.numbers.duration in
+    nat_le start unit && nat_lt unit (start + duration) && nat_lt (unit - start) (entry_count s)
+
+-- The place of a unit that the segment covers.
+abbrev pub stream_offset : SegmentParts → ℕ → Option ℕ
+stream_offset s unit =
+    let by_size = if covers_constant s unit then Some (s.numbers.unit_bytes * unit) else None in
+    let place = unit - unsigned_abs s.numbers.start in
+    let by_entry = if covers_entry s unit then Some (entry_offset s place) else None in
+    if is_constant s.numbers then by_size else by_entry

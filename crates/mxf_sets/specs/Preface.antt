@@ -1,27 +1,37 @@
 -- The Preface (ST 377-1, Preface set; which fields are read and have to be there is this project's profile).
 use Rattle.std.specs.Prelude.{ℕ, List, [], ◌∷◌, Result}
-use Rattle.mxf_sets.specs.declared.fields.Field.{Field}
-use Rattle.mxf_sets.specs.declared.fields.Shape.TheVariants.{Exactly, References}
-use Rattle.mxf_sets.specs.declared.fields.FieldFault.{FieldFault}
+use Rattle.mxf_sets.specs.declared.record.Field.{Field}
+use Rattle.mxf_sets.specs.declared.record.FieldFault.{FieldFault}
+use Rattle.mxf_sets.specs.declared.record.Shape.TheVariants.{Exactly, References}
+use Rattle.mxf_sets.specs.declared.record.TheConstants.{INSTANCE_UID}
+use Rattle.mxf_sets.specs.declared.record.preface.TheConstants.{CONTENT_STORAGE, IDENTIFICATIONS}
+use Rattle.mxf_sets.specs.Fields.{required, optional, record_at}
 use Rattle.mxf_sets.specs.Items.{ItemParts}
 use Rattle.mxf_sets.specs.Lookup.{bytes_of}
-use Rattle.mxf_sets.specs.Fields.{required, optional, record_at}
 use Rattle.mxf_sets.specs.Reference.{references_in}
 
--- A Preface (ST 377-1, Preface set): identifiers of sixteen bytes, and references to the identifications.
+-- A Preface: identifiers of sixteen bytes, and references to the identifications.
 pub record PrefaceParts : Type 0 where
   pub instance_uid : List ℕ
   pub content_storage : List ℕ
   pub identifications : List (List ℕ)
 
--- The fields in the order of testing (ST 377-1, Preface set; this project's profile).
+-- The fields in the order of testing.
 abbrev pub preface_fields : List Field
-preface_fields = required 0x3C0A (Exactly 16) ∷ required 0x3B03 (Exactly 16) ∷ optional 0x3B06 References ∷ []
+preface_fields =
+    required INSTANCE_UID (Exactly 16)
+    ∷ required CONTENT_STORAGE (Exactly 16)
+    ∷ optional IDENTIFICATIONS References
+    ∷ []
 
--- The record of items that have met the table (ST 377-1, Preface set).
+-- The record of items that have met the table.
 abbrev pub preface_of : List ItemParts → PrefaceParts
-preface_of items = record { instance_uid = bytes_of 0x3C0A items; content_storage = bytes_of 0x3B03 items; identifications = references_in 0x3B06 items }
+preface_of items = record {
+  instance_uid = bytes_of INSTANCE_UID items;
+  content_storage = bytes_of CONTENT_STORAGE items;
+  identifications = references_in IDENTIFICATIONS items;
+}
 
--- The record of a value, or the first fault (this project's profile).
+-- The record of a value, or the first fault.
 abbrev pub preface_at : List ℕ → Result PrefaceParts FieldFault
 preface_at bytes = record_at preface_fields preface_of bytes

@@ -1,4 +1,5 @@
--- Lists of references (ST 377-1, strong references): each names another set by its instance identifier of sixteen bytes.
+-- Lists of references (ST 377-1, strong references): each names another set by its instance identifier of sixteen
+-- bytes.
 use Rattle.std.specs.Prelude.{ℕ, zero, suc, ◌/◌, List, [], ◌∷◌, length, take, drop}
 use Rattle.std.specs.Option.{option_map_or}
 use Rattle.mxf_sets.specs.Items.{ItemParts}

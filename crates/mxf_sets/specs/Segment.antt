@@ -1,20 +1,23 @@
 -- Index table segments (ST 377-1, Index Table Segment; which fields have to be there and what absent ones stand for is
 -- this project's profile).
-use Rattle.std.specs.Prelude.{◌≡◌, ℕ, ◌+◌, ◌*◌, ◌/◌, ◌%◌, ◌^◌, ◌<◌, ◌≤◌, pos, ◌≤ℤ◌, nat_lt, if◌then◌else◌, List, [], ◌∷◌, ◌++◌, length, drop, Option, Some, None, Result, Ok, Err, FitsSigned}
+use Rattle.std.specs.Prelude.{◌≡◌, ℕ, ℤ, ◌+◌, ◌*◌, ◌/◌, ◌%◌, ◌^◌, ◌<◌, ◌≤◌, pos, ◌≤ℤ◌, nat_lt, Bool, if◌then◌else◌}
+use Rattle.std.specs.Prelude.{List, [], ◌∷◌, ◌++◌, length, drop, Option, Some, None, Result, Ok, Err, FitsSigned}
 use Rattle.std.specs.Option.{option_map, option_map_or, ok_or}
 use Rattle.std.specs.List.{flat_map}
 use Rattle.std.specs.Int.{w32, w64, cast_signed, cast_unsigned, is_negative}
 use Rattle.byteorder.specs.Endian.{big_number, big_bytes}
-use Rattle.mxf_sets.specs.declared.fields.Field.{Field}
-use Rattle.mxf_sets.specs.declared.fields.Shape.TheVariants.{Exactly, Any}
-use Rattle.mxf_sets.specs.declared.fields.FieldFault.{FieldFault}
-use Rattle.mxf_sets.specs.declared.segment_numbers.SegmentNumbers.{SegmentNumbers}
-use Rattle.mxf_sets.specs.declared.segment_faults.SegmentFault.{SegmentFault}
-use Rattle.mxf_sets.specs.declared.segment_faults.SegmentFault.TheVariants.{Negative, BadEntries}
-use Rattle.mxf_sets.specs.Items.{ItemParts, item_bytes}
-use Rattle.mxf_sets.specs.Lookup.{bytes_of, value_of}
-use Rattle.mxf_sets.specs.Fields.{required, optional, fields_at, is_batch}
+use Rattle.mxf_sets.specs.declared.record.Field.{Field}
+use Rattle.mxf_sets.specs.declared.record.FieldFault.{FieldFault}
+use Rattle.mxf_sets.specs.declared.record.Shape.TheVariants.{Exactly, Any}
+use Rattle.mxf_sets.specs.declared.segment.SegmentFault.{SegmentFault}
+use Rattle.mxf_sets.specs.declared.segment.SegmentFault.TheVariants.{Negative, BadEntries}
+use Rattle.mxf_sets.specs.declared.segment.numbers.SegmentNumbers.{SegmentNumbers}
+use Rattle.mxf_sets.specs.declared.segment.numbers.TheConstants.{EDIT_RATE, START, DURATION, UNIT_BYTES, INDEX_SID}
+use Rattle.mxf_sets.specs.declared.segment.numbers.TheConstants.{BODY_SID, SLICES, POSITIONS, ENTRIES}
 use Rattle.mxf_sets.specs.Faults.{segment_fault}
+use Rattle.mxf_sets.specs.Fields.{required, optional, fields_at, is_batch}
+use Rattle.mxf_sets.specs.Items.{ItemParts, item, item_bytes}
+use Rattle.mxf_sets.specs.Lookup.{bytes_of, value_of}
 
 -- A segment: its numbers, and the bytes of its entries, one entry after another.
 pub record SegmentParts : Type 0 where
@@ -25,12 +28,16 @@ pub record SegmentParts : Type 0 where
 abbrev pub segment_parts : SegmentNumbers → List ℕ → SegmentParts
 segment_parts numbers entries = record { numbers = numbers; entries = entries }
 
--- The bytes of an entry (ST 377-1, index entry): a temporal offset, a key frame offset and flags of one byte each, a
--- stream offset of eight bytes, then four bytes for each slice and eight for each position entry.
+-- Edit units have a constant size.
+abbrev pub is_constant : SegmentNumbers → Bool
+is_constant n = nat_lt 0 n.unit_bytes
+
+-- The bytes of an entry: a temporal offset, a key frame offset and flags of one byte each, a stream offset of eight
+-- bytes, then four bytes for each slice and eight for each position entry.
 abbrev pub entry_size : SegmentNumbers → ℕ
 entry_size n = 11 + 4 * n.slices + 8 * n.positions
 
--- The number of entries (ST 377-1, index entry array).
+-- The number of entries.
 abbrev pub entry_count : SegmentParts → ℕ
 entry_count s = length s.entries / entry_size s.numbers
 
@@ -43,8 +50,8 @@ pub record IsSegment (s : SegmentParts) : Type 0 where
   pub room : 8 + length s.entries ≤ 65535
   pub constant : 0 < s.numbers.unit_bytes → s.entries ≡ []
 
--- Each number is one of its type (ST 377-1, Index Table Segment).
-pub record AreNumbers (n : SegmentNumbers) : Type 0 where
+-- Each number fits the bytes that it has.
+pub record AreSegmentNumbers (n : SegmentNumbers) : Type 0 where
   pub rate : FitsSigned w32 n.edit_rate.0 × FitsSigned w32 n.edit_rate.1
   pub start : FitsSigned w64 n.start
   pub duration : FitsSigned w64 n.duration
@@ -56,43 +63,64 @@ pub record AreNumbers (n : SegmentNumbers) : Type 0 where
 
 -- The fields in the order of testing and writing.
 abbrev pub segment_fields : List Field
-segment_fields = required 0x3F0B (Exactly 8) ∷ required 0x3F0C (Exactly 8) ∷ required 0x3F0D (Exactly 8) ∷ optional 0x3F05 (Exactly 4)
-    ∷ optional 0x3F06 (Exactly 4) ∷ required 0x3F07 (Exactly 4) ∷ optional 0x3F08 (Exactly 1) ∷ optional 0x3F0E (Exactly 1) ∷ optional 0x3F0A Any ∷ []
+segment_fields =
+    required EDIT_RATE (Exactly 8)
+    ∷ required START (Exactly 8)
+    ∷ required DURATION (Exactly 8)
+    ∷ optional UNIT_BYTES (Exactly 4)
+    ∷ optional INDEX_SID (Exactly 4)
+    ∷ required BODY_SID (Exactly 4)
+    ∷ optional SLICES (Exactly 1)
+    ∷ optional POSITIONS (Exactly 1)
+    ∷ optional ENTRIES Any
+    ∷ []
+
+-- The signed number of four bytes at the front.
+abbrev pub signed_4 : List ℕ → ℤ
+signed_4 bytes = cast_signed w32 (big_number 4 bytes)
+
+-- The signed number of eight bytes at the front.
+abbrev pub signed_8 : List ℕ → ℤ
+signed_8 bytes = cast_signed w64 (big_number 8 bytes)
 
 -- The number of so many bytes that the tag's value is, and 0 where no item has the tag.
 abbrev pub number_in : ℕ → ℕ → List ItemParts → ℕ
 number_in width tag items = option_map_or (big_number width) (value_of tag items) 0
 
--- The numbers of items that have met the table (ST 377-1, Index Table Segment).
+-- The numbers of items that have met the table.
 abbrev pub segment_numbers : List ItemParts → SegmentNumbers
 segment_numbers items = record {
-  edit_rate = (cast_signed w32 (big_number 4 (bytes_of 0x3F0B items)), cast_signed w32 (big_number 4 (drop 4 (bytes_of 0x3F0B items))));
-  start = cast_signed w64 (big_number 8 (bytes_of 0x3F0C items));
-  duration = cast_signed w64 (big_number 8 (bytes_of 0x3F0D items));
-  unit_bytes = number_in 4 0x3F05 items;
-  index_sid = number_in 4 0x3F06 items;
-  body_sid = big_number 4 (bytes_of 0x3F07 items);
-  slices = number_in 1 0x3F08 items;
-  positions = number_in 1 0x3F0E items;
+  edit_rate = (signed_4 (bytes_of EDIT_RATE items), signed_4 (drop 4 (bytes_of EDIT_RATE items)));
+  start = signed_8 (bytes_of START items);
+  duration = signed_8 (bytes_of DURATION items);
+  unit_bytes = number_in 4 UNIT_BYTES items;
+  index_sid = number_in 4 INDEX_SID items;
+  body_sid = big_number 4 (bytes_of BODY_SID items);
+  slices = number_in 1 SLICES items;
+  positions = number_in 1 POSITIONS items;
 }
 
--- The entries. Where edit units have a constant size there are none, whatever the entry array is; elsewhere the entry
--- array, where there is one, has to be a batch of whole entries.
+-- The entries of an entry array, which has to be a batch of whole entries: what follows its count and item size.
+abbrev pub entries_at : SegmentNumbers → List ℕ → Option (List ℕ)
+entries_at n array = if is_batch (entry_size n) array then Some (drop 8 array) else None
+
+-- The entries of items. Where edit units have a constant size there are none, whatever the entry array is; elsewhere
+-- there are those of the entry array, where there is one.
 abbrev pub entries_in : SegmentNumbers → List ItemParts → Option (List ℕ)
 entries_in n items =
-    if nat_lt 0 n.unit_bytes then Some []
-    else option_map_or (λ v. if is_batch (entry_size n) v then Some (drop 8 v) else None) (value_of 0x3F0A items) (Some [])
+    if is_constant n then Some [] else option_map_or (entries_at n) (value_of ENTRIES items) (Some [])
 
 -- The segment that items make which have met the table.
 abbrev pub segment_of : List ItemParts → Result SegmentParts SegmentFault
 segment_of items =
     let n = segment_numbers items in
-    if is_negative n.start then Err (Negative 0x3F0C)
-    else (if is_negative n.duration then Err (Negative 0x3F0D)
+    if is_negative n.start then Err (Negative START)
+    else (if is_negative n.duration then Err (Negative DURATION)
     else ok_or (option_map (segment_parts n) (entries_in n items)) BadEntries)
 
 -- What follows where the items have met the table, and else their fault.
-abbrev pub then_segment : (List ItemParts → Result SegmentParts SegmentFault) → Result (List ItemParts) FieldFault → Result SegmentParts SegmentFault
+abbrev pub then_segment : (List ItemParts → Result SegmentParts SegmentFault) → Result (List ItemParts) FieldFault
+    → Result SegmentParts SegmentFault
 then_segment next (Ok items) = next items
 then_segment next (Err fault) = Err (segment_fault fault)
 
@@ -100,25 +128,34 @@ then_segment next (Err fault) = Err (segment_fault fault)
 abbrev pub segment_at : List ℕ → Result SegmentParts SegmentFault
 segment_at bytes = then_segment segment_of (fields_at segment_fields bytes)
 
--- An item of a tag and a value (ST 336, local sets).
-abbrev pub item : ℕ → List ℕ → ItemParts
-item tag value = record { tag = tag; value = value }
+-- The four bytes of a signed number.
+abbrev pub signed_bytes_4 : ℤ → List ℕ
+signed_bytes_4 z = big_bytes 4 (cast_unsigned w32 z)
+
+-- The eight bytes of a signed number.
+abbrev pub signed_bytes_8 : ℤ → List ℕ
+signed_bytes_8 z = big_bytes 8 (cast_unsigned w64 z)
 
 -- The items of the numbers, all of which are written (this project's profile).
 abbrev pub number_items : SegmentNumbers → List ItemParts
 number_items n =
-    item 0x3F0B (big_bytes 4 (cast_unsigned w32 n.edit_rate.0) ++ big_bytes 4 (cast_unsigned w32 n.edit_rate.1))
-    ∷ item 0x3F0C (big_bytes 8 (cast_unsigned w64 n.start)) ∷ item 0x3F0D (big_bytes 8 (cast_unsigned w64 n.duration))
-    ∷ item 0x3F05 (big_bytes 4 n.unit_bytes) ∷ item 0x3F06 (big_bytes 4 n.index_sid) ∷ item 0x3F07 (big_bytes 4 n.body_sid)
-    ∷ item 0x3F08 (n.slices ∷ []) ∷ item 0x3F0E (n.positions ∷ []) ∷ []
+    item EDIT_RATE (signed_bytes_4 n.edit_rate.0 ++ signed_bytes_4 n.edit_rate.1)
+    ∷ item START (signed_bytes_8 n.start)
+    ∷ item DURATION (signed_bytes_8 n.duration)
+    ∷ item UNIT_BYTES (big_bytes 4 n.unit_bytes)
+    ∷ item INDEX_SID (big_bytes 4 n.index_sid)
+    ∷ item BODY_SID (big_bytes 4 n.body_sid)
+    ∷ item SLICES (n.slices ∷ [])
+    ∷ item POSITIONS (n.positions ∷ [])
+    ∷ []
+
+-- The entry array: the batch of the entries.
+abbrev pub entry_item : SegmentParts → ItemParts
+entry_item s = item ENTRIES ((big_bytes 4 (entry_count s) ++ big_bytes 4 (entry_size s.numbers)) ++ s.entries)
 
 -- The entry array is written only where edit units have no constant size, also where it has no entry.
-abbrev pub entry_item : SegmentParts → ItemParts
-entry_item s = item 0x3F0A ((big_bytes 4 (entry_count s) ++ big_bytes 4 (entry_size s.numbers)) ++ s.entries)
-
--- The item of the entries, where it is written.
 abbrev pub entry_items : SegmentParts → List ItemParts
-entry_items s = if nat_lt 0 s.numbers.unit_bytes then [] else entry_item s ∷ []
+entry_items s = if is_constant s.numbers then [] else entry_item s ∷ []
 
 -- The items that a segment is written as.
 abbrev pub segment_items : SegmentParts → List ItemParts

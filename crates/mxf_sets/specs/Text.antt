@@ -10,7 +10,7 @@ units _ = []
 
 -- The units before the first that is zero.
 abbrev pub text_units : List ℕ → List ℕ
-text_units bytes = take_while (λ u. not (u == 0)) (units bytes)
+text_units bytes = take_while (λ unit. not (unit == 0)) (units bytes)
 
 -- The text in UTF-8, with U+FFFD for each surrogate that has no partner (this project's profile).
 abbrev pub text_of : List ℕ → List ℕ

@@ -4,15 +4,15 @@ ghost use Rattle.std.specs.Option.{option_map};
 ghost use Rattle.mxf_sets.specs.Pattern.{is_pattern, name_of, pattern_name};
 
 /// Bytes 1 to 7 of the label of an operational pattern.
-const START: [u8; 7] = [0x06, 0x0E, 0x2B, 0x34, 0x04, 0x01, 0x01];
+const LABEL_START: [u8; 7] = [0x06, 0x0E, 0x2B, 0x34, 0x04, 0x01, 0x01];
 
 /// Bytes 9 to 12 of the label of an operational pattern.
-const PATTERNS: [u8; 4] = [0x0D, 0x01, 0x02, 0x01];
+const OPERATIONAL_PATTERN: [u8; 4] = [0x0D, 0x01, 0x02, 0x01];
 
 fn is_pattern(label: &[u8; 16]) -> bool
     ensures { result ≡ is_pattern label.now }
 {
-    label[..7] == START[..] && label[8..12] == PATTERNS[..] && label[15] == 0
+    label[..7] == LABEL_START[..] && label[8..12] == OPERATIONAL_PATTERN[..] && label[15] == 0
 }
 
 /// The name by the item complexity and the package complexity.

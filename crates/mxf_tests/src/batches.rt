@@ -42,6 +42,10 @@ fn a_batch_is_its_count_its_item_size_and_its_items(rt: HostRuntime) -> Result<(
     assert_eq!(rt; batch.item_size(), 3);
     assert_eq!(rt; batch.get(1), Some([4, 5, 6].as_slice()));
     assert_eq!(rt; batch.get(2), None);
+    let mut items = batch.items();
+    assert_eq!(rt; items.next(), Some([1, 2, 3].as_slice()));
+    assert_eq!(rt; items.next(), Some([4, 5, 6].as_slice()));
+    assert_eq!(rt; items.next(), None);
     let made = Batch::of(&[1, 2, 3, 4, 5, 6], 3).ok_or("two items")?;
     let mut written = Vec::new(rt.alloc());
     made.write_to(&mut written)?;

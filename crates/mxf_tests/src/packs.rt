@@ -211,6 +211,8 @@ fn a_random_index_pack_counts_its_packet(rt: HostRuntime) -> Result<(), Fail> {
         })
     );
     assert_eq!(rt; rip.get(2), None);
+    let offsets: Vec<u64> = rip.entries().map(|entry| entry.offset).collect(rt.alloc())?;
+    assert_eq!(rt; offsets.as_slice(), [0, 108].as_slice());
     assert_eq!(rt;
         Rip::read(1, rip_value()).err(),
         Some(PackFault::WrongLength)

@@ -38,7 +38,7 @@ fn leap_day() -> Timestamp {
         hour: 23,
         minute: 59,
         second: 58,
-        quarter_milliseconds: 249,
+        milliseconds_by_four: 249,
     }
 }
 
@@ -50,7 +50,7 @@ fn last_century() -> Timestamp {
         hour: 10,
         minute: 20,
         second: 30,
-        quarter_milliseconds: 40,
+        milliseconds_by_four: 40,
     }
 }
 

@@ -1,0 +1,13 @@
+use Rattle.std.proofs.Common.{◌≡◌, length, sym, subst, List, ℕ}
+use Rattle.std.specs.List.{AllByRecursion}
+use Rattle.mxf_sets.specs.Batch.{BatchParts}
+use Rattle.mxf_sets.proofs.LabelLaws.{items_wide}
+use Rattle.mxf_sets.proofs.batch.Batch.items.Goals as goal
+
+pub returns-clause-size : goal.returns-clause-size
+returns-clause-size c =
+    let b = c.self.inside in
+    let wide = items_wide b.count b.size b.items.now c.self.invariant in
+    subst (λ (xs : List (List ℕ)). AllByRecursion (λ item. length item ≡ c.args.self.now.size) xs) (sym c.of.ensures)
+    (subst (λ (x : BatchParts). AllByRecursion (λ item. length item ≡ x.size)
+    (Rattle.mxf_sets.specs.Batch.items_by b.count b.size b.items.now)) c.self.view_is wide)

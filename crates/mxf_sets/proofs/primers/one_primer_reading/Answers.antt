@@ -1,5 +1,0 @@
-use Rattle.mxf_sets.proofs.PrimerLaws.{one_primer_read}
-use Rattle.mxf_sets.proofs.primers.one_primer_reading.Goals as goal
-
-pub returns : goal.returns
-returns c = one_primer_read

@@ -1,8 +1,0 @@
-use Rattle.std.proofs.Common.{arith}
-use Rattle.mxf_sets.proofs.RipLaws.{slice_get-entries_of, length-entries_of}
-use Rattle.mxf_sets.proofs.random_index_packs.Rip.get.Goals as goal
-
-pub returns : goal.returns
-returns c =
-    let bytes = c.self.inside.entries.now in
-    rw (← c.self.view_is, slice_get-entries_of c.args.place bytes (omega (arith, length-entries_of bytes)), c.read_u32.ensures, c.read_u64.ensures, c.split_at-2.ensures.back, c.split_at.ensures.back)

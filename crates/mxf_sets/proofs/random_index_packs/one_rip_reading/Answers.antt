@@ -1,5 +1,0 @@
-use Rattle.mxf_sets.proofs.RipLaws.{one_rip_read}
-use Rattle.mxf_sets.proofs.random_index_packs.one_rip_reading.Goals as goal
-
-pub returns : goal.returns
-returns c = one_rip_read

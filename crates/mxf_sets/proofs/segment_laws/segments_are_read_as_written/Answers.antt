@@ -1,5 +1,0 @@
-use Rattle.mxf_sets.proofs.SegmentRoundTrip.{segment_read_back}
-use Rattle.mxf_sets.proofs.segment_laws.segments_are_read_as_written.Goals as goal
-
-pub returns : goal.returns
-returns c = segment_read_back
