@@ -1,8 +1,8 @@
 -- What a note keeps has the length that its key and length say.
 use Rattle.std.proofs.Common.{◌≡◌, ℕ, List, length, cond, ◌∙◌, sym}
 use Rattle.std.proofs.lemmas.Bool.{cond-true, cond-false}
-use Rattle.mxf_klv.specs.declared.kept.Kept.{Kept}
-use Rattle.mxf_klv.specs.declared.kept.Kept.TheVariants.{Whole, Digest}
+use Rattle.mxf_klv.specs.declared.note.held.Kept.{Kept}
+use Rattle.mxf_klv.specs.declared.note.held.Kept.TheVariants.{Whole, Digest}
 use Rattle.mxf_klv.specs.Note.{keeps}
 use Rattle.mxf_klv.specs.Kept.{kept_bytes, IsKeptBy}
 

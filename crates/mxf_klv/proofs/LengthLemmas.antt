@@ -6,8 +6,8 @@ use Rattle.byteorder.specs.Endian.{big_number, big_bytes}
 use Rattle.byteorder.specs.Numbers.{big_number-reads_back, length-bytes_high_first, big_from-lt, big_from-take}
 use Rattle.mxf_klv.specs.Parts.{CanSpell, LengthParts}
 use Rattle.std.proofs.Common.{Result, Ok, Err}
-use Rattle.mxf_klv.specs.declared.lengths.BerFault.{BerFault}
-use Rattle.mxf_klv.specs.declared.lengths.BerFault.TheVariants as faults
+use Rattle.mxf_klv.specs.declared.ber.BerFault.{BerFault}
+use Rattle.mxf_klv.specs.declared.ber.BerFault.TheVariants as faults
 use Rattle.mxf_klv.specs.Ber.{IsSpelledLength, ReadsLength}
 
 pub pow_256 : (n : ℕ) → n ≤ 8 → 256 ^ n ≤ 2 ^ 64

@@ -3,10 +3,10 @@ use Rattle.std.proofs.Common.{◌≡◌, ℕ, ◌≤◌, List, [], ◌∷◌, �
 use Rattle.std.proofs.lemmas.Bool.{cases_lt}
 use Rattle.std.proofs.lemmas.List.{take_at, drop_at, take_all, take-take, take-append-drop, take-append-le, length-take, append-nil, drop-append-le}
 use Rattle.std.proofs.Math.ListN.{drop_of_length-le}
-use Rattle.mxf_klv.specs.declared.lengths.BerFault.{BerFault}
-use Rattle.mxf_klv.specs.declared.lengths.BerFault.TheVariants as lengths
-use Rattle.mxf_klv.specs.declared.faults.PacketFault.{PacketFault}
-use Rattle.mxf_klv.specs.declared.faults.PacketFault.TheVariants as faults
+use Rattle.mxf_klv.specs.declared.ber.BerFault.{BerFault}
+use Rattle.mxf_klv.specs.declared.ber.BerFault.TheVariants as lengths
+use Rattle.mxf_klv.specs.declared.packet.PacketFault.{PacketFault}
+use Rattle.mxf_klv.specs.declared.packet.PacketFault.TheVariants as faults
 use Rattle.mxf_klv.specs.Parts.{LengthParts, PacketParts}
 use Rattle.mxf_klv.specs.Label.{label_start, BeginsAsLabel}
 use Rattle.mxf_klv.specs.Ber.{IsSpelledLength, ReadsLength}

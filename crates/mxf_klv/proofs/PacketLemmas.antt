@@ -3,8 +3,8 @@ use Rattle.std.proofs.Common.{◌≡◌, ℕ, suc, ◌+◌, ◌-◌, ◌<◌, �
 use Rattle.std.proofs.Math.Seq.{take-add}
 use Rattle.std.proofs.lemmas.List.{take_at, drop_at, take_all, take-take, take-append-drop, length-take, length-replicate, append-nil}
 use Rattle.byteorder.specs.Endian.{big_number}
-use Rattle.mxf_klv.specs.declared.lengths.BerFault.{BerFault}
-use Rattle.mxf_klv.specs.declared.lengths.BerFault.TheVariants as lengths
+use Rattle.mxf_klv.specs.declared.ber.BerFault.{BerFault}
+use Rattle.mxf_klv.specs.declared.ber.BerFault.TheVariants as lengths
 use Rattle.mxf_klv.specs.Parts.{PacketParts}
 use Rattle.mxf_klv.specs.Label.{label_start, IsLabel, BeginsAsLabel}
 use Rattle.mxf_klv.specs.Ber.{IsSpelledLength, IsCutLength, ReadsLength}

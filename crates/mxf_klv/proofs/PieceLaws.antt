@@ -6,15 +6,15 @@ use Rattle.std.proofs.lemmas.Bool.{leb-true, ltb-true, le-leb, lt-leb, lt-ltb, a
 use Rattle.std.proofs.lemmas.List.{take_at, drop_at, length-take}
 use Rattle.std.proofs.lemmas.Slice.Eq.{bytes_eq-Decides}
 use Rattle.byteorder.specs.Endian.{big_number}
-use Rattle.mxf_klv.specs.declared.lengths.BerFault.{BerFault}
-use Rattle.mxf_klv.specs.declared.faults.PacketFault.{PacketFault}
+use Rattle.mxf_klv.specs.declared.ber.BerFault.{BerFault}
+use Rattle.mxf_klv.specs.declared.packet.PacketFault.{PacketFault}
 use Rattle.mxf_klv.specs.Parts.{LengthParts, PacketParts}
 use Rattle.mxf_klv.specs.Label.{label_start, BeginsAsLabel, begins_as_label}
 use Rattle.mxf_klv.specs.Ber.{IsSpelledLength, ReadsLength}
 use Rattle.mxf_klv.specs.Packet.{IsSpelledPacket, ReadsPacket, size_of}
 use Rattle.mxf_klv.specs.Note.{greatest_end}
 use Rattle.mxf_klv.specs.Piece.{AreLaid, BeginsWithNone, IsPiece, notes_from}
-use Rattle.mxf_klv.specs.declared.stops.Stop.{Stop}
+use Rattle.mxf_klv.specs.declared.piece.Stop.{Stop}
 use Rattle.mxf_klv.specs.PieceReading.{length_at, head_at, end_with, packet_at, packets_by, rest_by, packets_in, rest_in, stop_of, GoesOn, EndsAt}
 use Rattle.mxf_klv.proofs.LengthLemmas.{one_reading, wide_found}
 use Rattle.mxf_klv.proofs.PacketLemmas.{packet_found, same_packet}

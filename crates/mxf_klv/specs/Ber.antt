@@ -3,8 +3,8 @@
 use Rattle.std.specs.Prelude.{◌≡◌, ℕ, ◌+◌, ◌-◌, ◌<◌, ◌≤◌, ◌⊎◌, nat_eq, if◌then◌else◌, List, [], ◌∷◌, length, slice_get, Some, IsSomeAnd, Result, Ok, Err, take}
 use Rattle.byteorder.specs.Endian.{big_number, big_bytes}
 use Rattle.mxf_klv.specs.Parts.{LengthParts}
-use Rattle.mxf_klv.specs.declared.lengths.BerFault.{BerFault}
-use Rattle.mxf_klv.specs.declared.lengths.BerFault.TheVariants as faults
+use Rattle.mxf_klv.specs.declared.ber.BerFault.{BerFault}
+use Rattle.mxf_klv.specs.declared.ber.BerFault.TheVariants as faults
 
 -- The bytes stand for the length (ST 336, length field).
 abbrev pub IsSpelledLength : List ℕ → ℕ → ℕ → Type 0

@@ -6,7 +6,7 @@ use Rattle.std.specs.Str.{bytes_eq}
 use Rattle.mxf_klv.specs.declared.kinds.Kind.{Kind}
 use Rattle.mxf_klv.specs.declared.kinds.Kind.TheVariants.{Header, Body, Footer, Primer, Segment, Rip, Preface, Identification, ContentStorage, MaterialPackage, SourcePackage, RawSet, Fill, Essence, Other}
 use Rattle.mxf_klv.specs.declared.kinds.Status.TheVariants.{OpenIncomplete, ClosedIncomplete, OpenComplete, ClosedComplete}
-use Rattle.mxf_klv.specs.declared.kinds.Row.{Row}
+use Rattle.mxf_klv.specs.declared.kinds.table.Row.{Row}
 
 -- A line of the table: bytes 5 to 7, bytes 9 to 16, and what they mean.
 abbrev pub row : List ℕ → List ℕ → Kind → Row

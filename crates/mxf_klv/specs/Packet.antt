@@ -3,10 +3,10 @@ use Rattle.std.specs.Prelude.{◌≡◌, ℕ, ◌+◌, ◌≤◌, ◌<◌, List,
 use Rattle.mxf_klv.specs.Ber.{IsSpelledLength, ReadsLength, length_bytes}
 use Rattle.mxf_klv.specs.Label.{IsLabel, BeginsAsLabel}
 use Rattle.mxf_klv.specs.Parts.{PacketParts, CanSpell}
-use Rattle.mxf_klv.specs.declared.lengths.BerFault.{BerFault}
-use Rattle.mxf_klv.specs.declared.lengths.BerFault.TheVariants as lengths
-use Rattle.mxf_klv.specs.declared.faults.PacketFault.{PacketFault}
-use Rattle.mxf_klv.specs.declared.faults.PacketFault.TheVariants.{NotUl, Short, Indefinite, TooWide}
+use Rattle.mxf_klv.specs.declared.ber.BerFault.{BerFault}
+use Rattle.mxf_klv.specs.declared.ber.BerFault.TheVariants as lengths
+use Rattle.mxf_klv.specs.declared.packet.PacketFault.{PacketFault}
+use Rattle.mxf_klv.specs.declared.packet.PacketFault.TheVariants.{NotUl, Short, Indefinite, TooWide}
 
 -- The bytes stand for the packet (ST 336, KLV triplet).
 pub record IsSpelledPacket (bytes : List ℕ) (packet : PacketParts) : Type 0 where

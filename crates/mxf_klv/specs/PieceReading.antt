@@ -8,8 +8,8 @@ use Rattle.mxf_klv.specs.Label.{begins_as_label}
 use Rattle.mxf_klv.specs.Packet.{size_of}
 use Rattle.mxf_klv.specs.Note.{greatest_end, note_of}
 use Rattle.mxf_klv.specs.Piece.{notes_from, end_after}
-use Rattle.mxf_klv.specs.declared.stops.Stop.{Stop}
-use Rattle.mxf_klv.specs.declared.stops.Stop.TheVariants.{End, NotUl, BadLength, TooFar, Truncated}
+use Rattle.mxf_klv.specs.declared.piece.Stop.{Stop}
+use Rattle.mxf_klv.specs.declared.piece.Stop.TheVariants.{End, NotUl, BadLength, TooFar, Truncated}
 
 -- The length at the front, where a whole one stands there (ST 336, length field).
 abbrev pub length_at : List ℕ → Option LengthParts
