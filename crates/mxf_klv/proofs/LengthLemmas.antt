@@ -31,6 +31,11 @@ wide_found bytes first rest is low high long =
     let e' : first - 128 ≡ suc (first - 129) = omega arith in
     rw (is, e, e') (wide_found_cons first rest (first - 129) (omega arith) (omega arith) (omega arith))
 
+-- a spelled length has as many bytes as its width
+pub spelled_len : (spelled : List ℕ) (w v : ℕ) → IsSpelledLength spelled w v → length spelled ≡ w
+spelled_len [] w v p = absurd p
+spelled_len (f ∷ rest) w v p = elim p [ inl s ↦ (let len : length rest ≡ 0 = ap length s.3 in omega arith) | inr s ↦ omega arith ]
+
 -- two lengths at the front of one text are one
 pub one_length : (a b x y : List ℕ) (m v n w : ℕ) → IsSpelledLength a m v → IsSpelledLength b n w → a ++ x ≡ b ++ y → (a ≡ b) × (m ≡ n) × (v ≡ w)
 one_length [] b x y m v n w p q e = absurd p

@@ -1,7 +1,9 @@
 pub mod LengthLemmas
+pub mod HeadLemmas
 pub mod PacketLemmas
 pub mod PacketLaw
 pub mod WrittenParts
 pub mod PieceLaws
+pub mod StopLaws
 pub mod Keeping
 pub mod RoundTrips

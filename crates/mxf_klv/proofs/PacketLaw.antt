@@ -12,6 +12,7 @@ use Rattle.mxf_klv.specs.Label.{label_start, BeginsAsLabel}
 use Rattle.mxf_klv.specs.Ber.{IsSpelledLength, ReadsLength}
 use Rattle.mxf_klv.specs.Packet.{IsSpelledPacket, IsCutPacket, ReadsPacket}
 use Rattle.mxf_klv.proofs.LengthLemmas.{one_reading}
+use Rattle.mxf_klv.proofs.HeadLemmas.{head_in, head-length, head-begins}
 use Rattle.mxf_klv.proofs.PacketLemmas.{same_packet}
 
 -- what begins a text that begins as a label begins as a label
@@ -28,18 +29,6 @@ start4 : (text rest : List ℕ) (p : PacketParts) → IsSpelledPacket text p →
 start4 text rest p s =
     let front : text ++ rest ≡ p.key ++ ((s.spelled ++ p.value) ++ rest) = ap (λ (t : List ℕ). t ++ rest) s.whole ∙ append_assoc p.key (s.spelled ++ p.value) rest in
     ap (take 4) front ∙ take-append-le 4 p.key ((s.spelled ++ p.value) ++ rest) (omega (arith, s.label.0)) ∙ s.label.1
-
-pub spelled_len : (spelled : List ℕ) (w v : ℕ) → IsSpelledLength spelled w v → length spelled ≡ w
-spelled_len [] w v p = absurd p
-spelled_len (f ∷ rest) w v p = elim p [ inl s ↦ (let len : length rest ≡ 0 = ap length s.3 in omega arith) | inr s ↦ omega arith ]
-
--- the length that stands at place 16 of a packet
-pub length_in : (text rest : List ℕ) (p : PacketParts) → IsSpelledPacket text p → ReadsLength (drop 16 (text ++ rest)) (Ok (record { width = p.width; value = length p.value }))
-length_in text rest p s =
-    let front : text ++ rest ≡ p.key ++ (s.spelled ++ (p.value ++ rest)) = ap (λ (t : List ℕ). t ++ rest) s.whole ∙ append_assoc p.key (s.spelled ++ p.value) rest ∙ ap (λ (t : List ℕ). p.key ++ t) (append_assoc s.spelled p.value rest) in
-    let after : drop 16 (text ++ rest) ≡ s.spelled ++ (p.value ++ rest) = ap (drop 16) front ∙ drop_at p.key (s.spelled ++ (p.value ++ rest)) 16 s.label.0 in
-    let spelled : take p.width (drop 16 (text ++ rest)) ≡ s.spelled = ap (take p.width) after ∙ take_at s.spelled (p.value ++ rest) p.width (spelled_len s.spelled p.width (length p.value) s.width) in
-    subst (λ (t : List ℕ). IsSpelledLength t p.width (length p.value)) (sym spelled) s.width
 
 -- a fault of the first byte alone stays, whatever follows
 stays : (xs more : List ℕ) (e : BerFault) → (e ≡ lengths.Short → ⊥) → ReadsLength xs (Err e) → ReadsLength (xs ++ more) (Err e)
@@ -67,10 +56,10 @@ two_lengths xs l e p q = let same = one_reading xs (Ok l) (Err e) p q in cc
 -- where a packet stands there is no fault of its length
 no_fault : (text rest bytes : List ℕ) (p : PacketParts) (e : BerFault) → text ++ rest ≡ bytes → IsSpelledPacket text p → ReadsLength (drop 16 bytes) (Err e) → ⊥
 no_fault text rest bytes p e is s q =
-    two_lengths (drop 16 bytes) (record { width = p.width; value = length p.value }) e (subst (λ (t : List ℕ). ReadsLength (drop 16 t) (Ok (record { width = p.width; value = length p.value }))) is (length_in text rest p s)) q
+    two_lengths (drop 16 bytes) (record { width = p.width; value = length p.value }) e (subst (λ (t : List ℕ). ReadsLength (drop 16 t) (Ok (record { width = p.width; value = length p.value }))) is (head-length (head_in text rest p s))) q
 
 -- nor in the beginning of one
-no_fault_cut : (bytes : List ℕ) (e : BerFault) → (e ≡ lengths.Short → ⊥) → IsCutPacket bytes → ReadsLength (drop 16 bytes) (Err e) → ⊥
+pub no_fault_cut : (bytes : List ℕ) (e : BerFault) → (e ≡ lengths.Short → ⊥) → IsCutPacket bytes → ReadsLength (drop 16 bytes) (Err e) → ⊥
 no_fault_cut bytes e n c q =
     let long = some_long bytes e n q in
     let more : ReadsLength (drop 16 (bytes ++ c.more)) (Err e) = subst (λ (t : List ℕ). ReadsLength t (Err e)) (sym (drop-append-le 16 bytes c.more long)) (stays (drop 16 bytes) c.more e n q) in
@@ -80,7 +69,7 @@ ok_begins : (bytes : List ℕ) (p : PacketParts) (size : ℕ) → IsSpelledPacke
 ok_begins bytes p size s =
     begins_front bytes [] (ap (take 4) (append-nil bytes ∙ sym (take-append-drop size bytes)) ∙ start4 (take size bytes) (drop size bytes) p s)
 
-cut_begins : (bytes : List ℕ) → IsCutPacket bytes → BeginsAsLabel bytes
+pub cut_begins : (bytes : List ℕ) → IsCutPacket bytes → BeginsAsLabel bytes
 cut_begins bytes c = begins_front bytes c.more (ap (take 4) (sym (append-nil (bytes ++ c.more))) ∙ start4 (bytes ++ c.more) [] c.packet c.spells)
 
 -- a whole packet is not the beginning of another
@@ -135,7 +124,3 @@ one_packet_reading bytes (Ok (p, m)) (Ok (q, n)) s t =
 one_packet_reading bytes (Ok (p, m)) (Err e) s t = absurd (ok_excludes bytes p m s.0 s.1 e t)
 one_packet_reading bytes (Err d) (Ok (q, n)) s t = absurd (ok_excludes bytes q n t.0 t.1 d s)
 one_packet_reading bytes (Err d) (Err e) s t = ap (λ (x : PacketFault). Err x) (one_fault bytes d e s t)
-
--- a packet, and bytes after it, begin as a label
-pub begins_of : (text rest : List ℕ) (p : PacketParts) → IsSpelledPacket text p → BeginsAsLabel (text ++ rest)
-begins_of text rest p s = begins_front (text ++ rest) [] (ap (take 4) (append-nil (text ++ rest)) ∙ start4 text rest p s)

@@ -22,41 +22,6 @@ pub label_of : (bytes : List ℕ) → BeginsAsLabel bytes → 16 ≤ length byte
 label_of bytes h long =
     (omega (arith, length-take 16 bytes), take-take 4 16 bytes (omega arith) ∙ h ∙ take_all (length bytes) label_start (omega arith))
 
--- the packet at the front of bytes that begin as a label
-pub packet_found : (bytes : List ℕ) (w n : ℕ) → BeginsAsLabel bytes → 16 ≤ length bytes → IsSpelledLength (take w (drop 16 bytes)) w n → n ≤ length (drop w (drop 16 bytes)) → IsSpelledPacket (take (16 + w + n) bytes) (record { key = take 16 bytes; width = w; value = take n (drop w (drop 16 bytes)) })
-packet_found bytes w n h long spells room =
-    let len : length (take n (drop w (drop 16 bytes))) ≡ n = omega (arith, length-take n (drop w (drop 16 bytes))) in
-    record {
-      spelled = take w (drop 16 bytes);
-      label = label_of bytes h long;
-      width = rw len spells;
-      whole = (let e : 16 + w + n ≡ 16 + (w + n) = omega arith in rw e (take-add 16 (w + n) bytes)) ∙ ap (λ (t : List ℕ). take 16 bytes ++ t) (take-add w n (drop 16 bytes));
-    }
-
-joined : (bytes more : List ℕ) (w : ℕ) → bytes ++ more ≡ take 16 bytes ++ (take w (drop 16 bytes) ++ (drop w (drop 16 bytes) ++ more))
-joined bytes more w =
-    let whole : bytes ≡ take 16 bytes ++ (take w (drop 16 bytes) ++ drop w (drop 16 bytes)) = sym (take-append-drop 16 bytes) ∙ ap (λ (t : List ℕ). take 16 bytes ++ t) (sym (take-append-drop w (drop 16 bytes))) in
-    ap (λ (t : List ℕ). t ++ more) whole ∙ append_assoc (take 16 bytes) (take w (drop 16 bytes) ++ drop w (drop 16 bytes)) more ∙ ap (λ (t : List ℕ). take 16 bytes ++ t) (append_assoc (take w (drop 16 bytes)) (drop w (drop 16 bytes)) more)
-
--- fewer bytes than the length says
-pub value_cut : (bytes : List ℕ) (w n : ℕ) → BeginsAsLabel bytes → 16 ≤ length bytes → IsSpelledLength (take w (drop 16 bytes)) w n → length (drop w (drop 16 bytes)) < n → IsCutPacket bytes
-value_cut bytes w n h long spells room =
-    let held = drop w (drop 16 bytes) in
-    let more = replicate (n - length held) 0 in
-    let lens : length more ≡ n - length held = length-replicate (n - length held) 0 in
-    let len : length (held ++ more) ≡ n = omega (arith, length-append held more) in
-    record {
-      more = more;
-      packet = record { key = take 16 bytes; width = w; value = held ++ more };
-      some = omega arith;
-      spells = record {
-        spelled = take w (drop 16 bytes);
-        label = label_of bytes h long;
-        width = rw len spells;
-        whole = joined bytes more w;
-      };
-    }
-
 -- a length that is cut, where one follows that could be whole
 length_cut_cons : (bytes : List ℕ) (f : ℕ) (rest : List ℕ) (n : ℕ) → BeginsAsLabel bytes → 16 ≤ length bytes → drop 16 bytes ≡ f ∷ rest → f ≡ 129 + n → n ≤ 7 → length rest < suc n → IsCutPacket bytes
 length_cut_cons bytes f rest n h long is high low cut =
@@ -125,25 +90,6 @@ key_cut (a ∷ b ∷ c ∷ d ∷ rest) h short =
     let lens : length more ≡ 16 - length (a ∷ b ∷ c ∷ d ∷ rest) = length-replicate (16 - length (a ∷ b ∷ c ∷ d ∷ rest)) 0 in
     let all : take (length (a ∷ b ∷ c ∷ d ∷ rest)) label_start ≡ label_start = take_all (length (a ∷ b ∷ c ∷ d ∷ rest)) label_start (omega arith) in
     cut_at_key (a ∷ b ∷ c ∷ d ∷ rest) ((a ∷ b ∷ c ∷ d ∷ rest) ++ more) more (omega (arith, length-append (a ∷ b ∷ c ∷ d ∷ rest) more), (let e : take 4 (a ∷ b ∷ c ∷ d ∷ rest) ≡ label_start = h ∙ all in e)) refl
-
--- the exits of the reader: what stands at place 16
-pub fault_at : (bytes rest : List ℕ) (e : BerFault) → rest ≡ drop 16 bytes → length rest + 16 ≡ length bytes → BeginsAsLabel bytes → ReadsLength rest (Err e) → ReadsPacket bytes (Err (packet_fault e))
-fault_at bytes rest e is len h p = length_fault bytes e h (omega arith) (subst (λ (t : List ℕ). ReadsLength t (Err e)) is p)
-
-pub cut_at : (bytes rest after : List ℕ) (w n : ℕ) → rest ≡ drop 16 bytes → after ≡ drop w rest → length rest + 16 ≡ length bytes → BeginsAsLabel bytes → IsSpelledLength (take w rest) w n → length after < n → IsCutPacket bytes
-cut_at bytes rest after w n is is' len h p short = value_cut bytes w n h (omega arith) (subst (λ (t : List ℕ). IsSpelledLength (take w t) w n) is p) (subst (λ (t : List ℕ). length t < n) (is' ∙ ap (drop w) is) short)
-
-pub found_at : (bytes start rest after value : List ℕ) (w n : ℕ) → start ≡ take 16 bytes → rest ≡ drop 16 bytes → after ≡ drop w rest → value ≡ take n after → length rest + 16 ≡ length bytes → length after + w ≡ length rest → BeginsAsLabel bytes → IsSpelledLength (take w rest) w n → n ≤ length after → (16 + w + n ≤ length bytes) × IsSpelledPacket (take (16 + w + n) bytes) (record { key = start; width = w; value = value })
-found_at bytes start rest after value w n start-is rest-is after-is value-is len more h p room =
-    let place : after ≡ drop w (drop 16 bytes) = after-is ∙ ap (drop w) rest-is in
-    let packet = packet_found bytes w n h (omega arith) (subst (λ (t : List ℕ). IsSpelledLength (take w t) w n) rest-is p) (subst (λ (t : List ℕ). n ≤ length t) place room) in
-    (omega arith, subst (λ (q : PacketParts). IsSpelledPacket (take (16 + w + n) bytes) q) (same_parts (take 16 bytes) start w w (take n (drop w (drop 16 bytes))) value (sym start-is) refl (sym (value-is ∙ ap (take n) place))) packet)
-
--- the same, with the numbers as the code has them
-pub found_by : (bytes start rest after value : List ℕ) (width len spelled_width spelled_len : ℕ) → width ≡ spelled_width → len ≡ spelled_len → start ≡ take 16 bytes → rest ≡ drop 16 bytes → after ≡ drop width rest → value ≡ take len after → length rest + 16 ≡ length bytes → length after + width ≡ length rest → BeginsAsLabel bytes → IsSpelledLength (take spelled_width rest) spelled_width spelled_len → len ≤ length after → (16 + width + len ≤ length bytes) × IsSpelledPacket (take (16 + width + len) bytes) (record { key = start; width = spelled_width; value = value })
-found_by bytes start rest after value width len w n w-is n-is start-is rest-is after-is value-is size more h p room =
-    let found = found_at bytes start rest after value width len start-is rest-is after-is value-is size more h (rw (w-is, n-is) p) room in
-    (found.0, subst (λ (k : ℕ). IsSpelledPacket (take (16 + width + len) bytes) (record { key = start; width = k; value = value })) w-is found.1)
 
 regroup : (key spelled value x : List ℕ) → (key ++ (spelled ++ value)) ++ x ≡ key ++ (spelled ++ (value ++ x))
 regroup key spelled value x = simp append_assoc

@@ -15,10 +15,13 @@ use Rattle.mxf_klv.specs.Packet.{IsSpelledPacket, ReadsPacket, size_of}
 use Rattle.mxf_klv.specs.Note.{greatest_end}
 use Rattle.mxf_klv.specs.Piece.{AreLaid, BeginsWithNone, IsPiece, notes_from}
 use Rattle.mxf_klv.specs.declared.piece.Stop.{Stop}
-use Rattle.mxf_klv.specs.PieceReading.{length_at, head_at, end_with, packet_at, packets_by, rest_by, packets_in, rest_in, stop_of, GoesOn, EndsAt}
+use Rattle.mxf_klv.specs.PieceReading.{length_at, head_at, end_with, fits_at, packet_with, packet_at, packets_by, rest_by, packets_in, rest_in, stop_of, GoesOn, EndsAt}
 use Rattle.mxf_klv.proofs.LengthLemmas.{one_reading, wide_found}
-use Rattle.mxf_klv.proofs.PacketLemmas.{packet_found, same_packet}
-use Rattle.mxf_klv.proofs.PacketLaw.{length_in, begins_of, spelled_len, one_packet_reading}
+use Rattle.mxf_klv.specs.Head.{BeginsWithHead}
+use Rattle.mxf_klv.proofs.LengthLemmas.{spelled_len}
+use Rattle.mxf_klv.proofs.HeadLemmas.{head_of, head_in, head-begins, head-length, head-packet, head-size}
+use Rattle.mxf_klv.proofs.PacketLemmas.{label_of, same_packet}
+use Rattle.mxf_klv.proofs.PacketLaw.{one_packet_reading}
 
 -- ---- choices
 
@@ -39,7 +42,7 @@ abbrev made : ℕ → ℕ → LengthParts
 made w v = record { width = w; value = v }
 
 -- the length that is given stands at the front
-length_at-stands : (bytes : List ℕ) (l : LengthParts) → length_at bytes ≡ Some l → ReadsLength bytes (Ok l)
+pub length_at-stands : (bytes : List ℕ) (l : LengthParts) → length_at bytes ≡ Some l → ReadsLength bytes (Ok l)
 length_at-stands [] l e = absurd cc
 length_at-stands (f ∷ rest) l e =
     elim (chosen (nat_le f 127) _ _ _ e) [
@@ -57,7 +60,7 @@ some_nil : (w v : ℕ) → IsSpelledLength (take w []) w v → ⊥
 some_nil zero v p = p
 some_nil (suc w) v p = p
 
-some_length : (bytes : List ℕ) (w v : ℕ) → IsSpelledLength (take w bytes) w v → length_at bytes ≡ None → ⊥
+pub some_length : (bytes : List ℕ) (w v : ℕ) → IsSpelledLength (take w bytes) w v → length_at bytes ≡ None → ⊥
 some_length [] w v p e = some_nil w v p
 some_length (f ∷ rest) zero v p e = absurd p
 some_length (f ∷ rest) (suc w) v p e =
@@ -106,18 +109,22 @@ length-spelled bytes p s =
     let whole = ap length s.whole in
     omega (arith, whole, width, s.label.0, length-append p.key (s.spelled ++ p.value), length-append s.spelled p.value)
 
--- what is given as the head of a packet is its length, behind a whole key
-pub head_at-stands : (bytes : List ℕ) (l : LengthParts) → head_at bytes ≡ Some l → BeginsAsLabel bytes × (16 ≤ length bytes) × ReadsLength (drop 16 bytes) (Ok l)
+-- what is given as the length of a head is that of one
+pub head_at-stands : (bytes : List ℕ) (l : LengthParts) → head_at bytes ≡ Some l
+    → BeginsWithHead bytes (take 16 bytes) l (drop l.width (drop 16 bytes))
 unfolding head_at
 head_at-stands bytes l e =
     let g = guarded (begins_as_label bytes && nat_le 16 (length bytes)) _ _ e in
     let t = and_parts (begins_as_label bytes) (nat_le 16 (length bytes)) g.0 in
-    (test-begins bytes t.0, leb-true 16 (length bytes) t.1, length_at-stands (drop 16 bytes) l g.1)
+    head_of bytes l (label_of bytes (test-begins bytes t.0) (leb-true 16 (length bytes) t.1)) (length_at-stands (drop 16 bytes) l g.1)
 
-head_at-some : (bytes : List ℕ) (l : LengthParts) → BeginsAsLabel bytes → 16 ≤ length bytes → ReadsLength (drop 16 bytes) (Ok l) → head_at bytes ≡ Some l
+-- and that of each head is given
+pub head_at-head : (bytes key : List ℕ) (l : LengthParts) (after : List ℕ) → BeginsWithHead bytes key l after → head_at bytes ≡ Some l
 unfolding head_at
-head_at-some bytes l h long p =
-    cond-true _ _ _ (and_from _ _ (begins-test bytes h) (le-leb 16 (length bytes) long)) ∙ length_at-read (drop 16 bytes) (Ok l) p
+head_at-head bytes key l after h =
+    let size = head-size h in
+    cond-true _ _ _ (and_from _ _ (begins-test bytes (head-begins h)) (le-leb 16 (length bytes) (omega arith)))
+    ∙ length_at-read (drop 16 bytes) (Ok l) (head-length h)
 
 -- what is given stands at the front and ends where it may
 pub record Stands (offset : ℕ) (bytes : List ℕ) (p : PacketParts) : Type 0 where
@@ -125,28 +132,28 @@ pub record Stands (offset : ℕ) (bytes : List ℕ) (p : PacketParts) : Type 0 w
   pub spelled : IsSpelledPacket (take (size_of p) bytes) p
   pub within : offset + size_of p ≤ greatest_end
 
-abbrev packet_of : List ℕ → LengthParts → PacketParts
-packet_of bytes l = record { key = take 16 bytes; width = l.width; value = take l.value (drop l.width (drop 16 bytes)) }
-
-packet_of-size : (bytes : List ℕ) (l : LengthParts) → 16 + l.width + l.value ≤ length bytes → size_of (packet_of bytes l) ≡ 16 + l.width + l.value
-packet_of-size bytes l h =
+packet_with-size : (bytes : List ℕ) (l : LengthParts) → 16 + l.width + l.value ≤ length bytes → size_of (packet_with bytes l) ≡ 16 + l.width + l.value
+packet_with-size bytes l h =
     omega (arith, length-take l.value (drop l.width (drop 16 bytes)), length-drop l.width (drop 16 bytes), length-drop 16 bytes)
 
 pub packet_at-stands : (offset : ℕ) (bytes : List ℕ) (p : PacketParts) → packet_at offset bytes ≡ Some p → Stands offset bytes p
 unfolding packet_at
 packet_at-stands offset bytes p e =
-    elim (head_at bytes) as (λ o. head_at bytes ≡ o → option_and_then (λ l. cond (nat_le (16 + l.width + l.value) (length bytes) && nat_le (end_with offset l) greatest_end) (Some (packet_of bytes l)) None) o ≡ Some p → Stands offset bytes p) [
+    elim (head_at bytes) as (λ o. head_at bytes ≡ o
+    → option_and_then (λ l. cond (fits_at offset bytes l) (Some (packet_with bytes l)) None) o ≡ Some p → Stands offset bytes p) [
       | None ↦ λ h f. absurd cc
       | Some l ↦ λ h f.
-          let s = head_at-stands bytes l h in
-          let g = guarded (nat_le (16 + l.width + l.value) (length bytes) && nat_le (end_with offset l) greatest_end) _ _ f in
+          let g = guarded (fits_at offset bytes l) _ _ f in
           let t = and_parts (nat_le (16 + l.width + l.value) (length bytes)) (nat_le (end_with offset l) greatest_end) g.0 in
           let room = leb-true (16 + l.width + l.value) (length bytes) t.0 in
           let within = leb-true (end_with offset l) greatest_end t.1 in
-          let size = packet_of-size bytes l room in
-          let found = packet_found bytes l.width l.value s.0 s.1 s.2 (omega (arith, length-drop l.width (drop 16 bytes), length-drop 16 bytes)) in
-          subst (Stands offset bytes) (some_is _ _ g.1)
-          (record { room = rw size room; spelled = subst (λ (n : ℕ). IsSpelledPacket (take n bytes) (packet_of bytes l)) (sym size) found; within = rw size within })
+          let size = packet_with-size bytes l room in
+          let found = head-packet (head_at-stands bytes l h) (omega (arith, length-drop l.width (drop 16 bytes), length-drop 16 bytes)) in
+          subst (Stands offset bytes) (some_is _ _ g.1) (record {
+            room = rw size room;
+            spelled = subst (λ (n : ℕ). IsSpelledPacket (take n bytes) (packet_with bytes l)) (sym size) found.1;
+            within = rw size within;
+          })
     ] refl e
 
 -- two packets at one front are one
@@ -161,15 +168,14 @@ packet_at-given offset bytes front after p s is within =
     let whole = ap length is in
     let long : size_of p ≤ length bytes = omega (arith, size, whole, length-append front after) in
     let l = made p.width (length p.value) in
-    let starts : BeginsAsLabel bytes = subst BeginsAsLabel (sym is) (begins_of front after p s) in
-    let spells : ReadsLength (drop 16 bytes) (Ok l) = subst (λ (t : List ℕ). ReadsLength (drop 16 t) (Ok l)) (sym is) (length_in front after p s) in
-    let head : head_at bytes ≡ Some l = head_at-some bytes l starts (omega arith) spells in
-    let test : (nat_le (16 + l.width + l.value) (length bytes) && nat_le (end_with offset l) greatest_end) ≡ true = and_from _ _ (le-leb (16 + l.width + l.value) (length bytes) long) (le-leb (end_with offset l) greatest_end within) in
-    let given : packet_at offset bytes ≡ Some (packet_of bytes l) =
-    ap (option_and_then (λ l. cond (nat_le (16 + l.width + l.value) (length bytes) && nat_le (end_with offset l) greatest_end) (Some (packet_of bytes l)) None)) head ∙ cond-true _ _ _ test in
-    let t = packet_at-stands offset bytes (packet_of bytes l) given in
+    let head : head_at bytes ≡ Some l = head_at-head bytes p.key l (p.value ++ after)
+    (subst (λ (t : List ℕ). BeginsWithHead t p.key l (p.value ++ after)) (sym is) (head_in front after p s)) in
+    let test : fits_at offset bytes l ≡ true = and_from _ _ (le-leb (16 + l.width + l.value) (length bytes) long) (le-leb (end_with offset l) greatest_end within) in
+    let given : packet_at offset bytes ≡ Some (packet_with bytes l) =
+    ap (option_and_then (λ l. cond (fits_at offset bytes l) (Some (packet_with bytes l)) None)) head ∙ cond-true _ _ _ test in
+    let t = packet_at-stands offset bytes (packet_with bytes l) given in
     let cut : take (size_of p) bytes ≡ front = ap (take (size_of p)) is ∙ take_at front after (size_of p) size in
-    let same : packet_of bytes l ≡ p = same_front (size_of (packet_of bytes l)) (size_of p) bytes (packet_of bytes l) p t.spelled (subst (λ (u : List ℕ). IsSpelledPacket u p) (sym cut) s) in
+    let same : packet_with bytes l ≡ p = same_front (size_of (packet_with bytes l)) (size_of p) bytes (packet_with bytes l) p t.spelled (subst (λ (u : List ℕ). IsSpelledPacket u p) (sym cut) s) in
     given ∙ ap (λ (x : PacketParts). Some x) same
 
 -- where none is given none stands
@@ -227,7 +233,7 @@ packet_at-fault offset bytes f r =
 shorter : (offset : ℕ) (bytes : List ℕ) (p : PacketParts) → packet_at offset bytes ≡ Some p → length (drop (size_of p) bytes) + 16 ≤ length bytes
 shorter offset bytes p e = let s = packet_at-stands offset bytes p e in let room = s.room in omega (arith, length-drop (size_of p) bytes)
 
-none_at_end : (offset : ℕ) (bytes : List ℕ) → length bytes ≤ 0 → packet_at offset bytes ≡ None
+pub none_at_end : (offset : ℕ) (bytes : List ℕ) → length bytes ≤ 0 → packet_at offset bytes ≡ None
 none_at_end offset bytes h =
     elim (packet_at offset bytes) as (λ o. packet_at offset bytes ≡ o → o ≡ None) [
       | None ↦ λ e. refl
@@ -311,16 +317,6 @@ one_piece offset bytes (p ∷ ps) rest i =
     (ap (λ (qs : List PacketParts). p ∷ qs) again.0 ∙ sym (packets_in-some offset bytes p some), again.1 ∙ sym (rest_in-some offset bytes p some))
 
 -- ---- the code
-
--- what a reader of the head gives
-pub head_at-read : (bytes rest : List ℕ) (r : Result LengthParts BerFault) → BeginsAsLabel bytes → 16 ≤ length bytes → rest ≡ drop 16 bytes → ReadsLength rest r → result_ok r ≡ head_at bytes
-unfolding head_at
-head_at-read bytes rest r h long is p =
-    sym (cond-true _ _ _ (and_from _ _ (begins-test bytes h) (le-leb 16 (length bytes) long)) ∙ length_at-read (drop 16 bytes) r (subst (λ (t : List ℕ). ReadsLength t r) is p))
-
-pub head_at-short : (bytes : List ℕ) → length bytes < 16 → None ≡ head_at bytes
-unfolding head_at
-head_at-short bytes short = sym (cond-false _ _ _ (and_right (begins_as_label bytes) (nat_le 16 (length bytes)) (lt-leb 16 (length bytes) short)))
 
 -- the packet that is given is the first of the piece
 pub goes_on : (offset : ℕ) (bytes : List ℕ) (p : PacketParts) (size : ℕ) → packet_at offset bytes ≡ Some p → size ≡ size_of p → GoesOn offset bytes p size

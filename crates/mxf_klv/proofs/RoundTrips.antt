@@ -11,7 +11,7 @@ use Rattle.mxf_klv.specs.Parts.{CanSpell, PacketParts}
 use Rattle.mxf_klv.specs.Ber.{IsSpelledLength, ReadsLength, length_bytes}
 use Rattle.mxf_klv.specs.Packet.{IsPacket, IsSpelledPacket, ReadsPacket, packet_bytes, size_of}
 use Rattle.mxf_klv.proofs.LengthLemmas.{wide_spelled}
-use Rattle.mxf_klv.proofs.PacketLaw.{spelled_len}
+use Rattle.mxf_klv.proofs.LengthLemmas.{spelled_len}
 use Rattle.mxf_klv.proofs.PieceLaws.{length-spelled}
 
 -- ---- numbers

@@ -3,6 +3,7 @@ pub mod Ber
 pub mod Kind
 pub mod Label
 pub mod Packet
+pub mod Head
 pub mod Parts
 pub mod Piece
 pub mod PieceReading

@@ -19,7 +19,7 @@ pub use note::{Held, MAX, NotANote, Note, NoteFault, notes_that_compare_alike_ar
 pub use packet::{
     Packet, PacketFault, one_packet, one_reading, packets_are_read_as_written, read_packet,
 };
-pub use piece::{Stop, each_piece_is_read_one_way, next_packet};
+pub use piece::{Stop, each_piece_has_one_stop, each_piece_is_read_one_way, next_packet};
 pub use writing::{Encode, Progress, WriteFault};
 
 #[cfg(test)]

@@ -1,15 +1,17 @@
 //! Packets (ST 336, KLV triplet): a key, a length and a value.
-ghost use Rattle.std.specs.Prelude.{◌≡◌, ◌↔◌, ◌++◌, ℕ, List, Result, Ok, IsTrue, length, take};
+ghost use Rattle.std.specs.Prelude.{◌≡◌, ◌++◌, ℕ, List, Result, Ok, length, take};
 ghost use Rattle.std.specs.Option.{SomeIff};
 ghost use Rattle.mxf_klv.specs.declared.packet.PacketFault.{PacketFault};
 ghost use Rattle.mxf_klv.specs.Bytes.{AreBytes};
-ghost use Rattle.mxf_klv.specs.Label.{BeginsAsLabel, begins_as_label};
 ghost use Rattle.mxf_klv.specs.Packet.{IsPacket, IsSpelledPacket, ReadsPacket, packet_bytes, packet_fault, packet_parts, size_of};
 ghost use Rattle.mxf_klv.specs.Parts.{PacketParts, CanSpell};
 
-use crate::ber::{Ber, BerFault, read_ber};
+pub(crate) mod head;
+
+use crate::ber::{Ber, BerFault};
 use crate::label::Ul;
 use crate::writing::{Encode, Progress, WriteFault};
+use head::Head;
 use std::io::Write;
 use std::marker::Model;
 use thiserror::Error;
@@ -102,39 +104,14 @@ impl<'a> Encode for Packet<'a> {
     }
 }
 
-/// Whether the bytes begin as a label does, as far as there are any.
-pub(crate) fn begins_as_label(bytes: &[u8]) -> bool
-    ensures begins { IsTrue result ↔ BeginsAsLabel bytes.now }
-    ensures same { result ≡ begins_as_label bytes.now }
-{
-    let present = bytes.len().min(4);
-    bytes[..present] == Ul::START[..present]
-}
-
 /// Reads the packet at the front (ST 336, KLV triplet), and says how many bytes it takes. Other bytes may follow it.
 pub fn read_packet(bytes: &[u8]) -> Result<(Packet<'_>, usize), PacketFault>
     ensures { ReadsPacket bytes.now result }
 {
-    if !begins_as_label(bytes) {
-        return Err(PacketFault::NotUl);
+    match Head::read(bytes) {
+        Ok(head) => head.packet().ok_or(PacketFault::Short),
+        Err(fault) => Err(fault),
     }
-    let Some((start, rest)) = bytes.split_first_chunk::<16>() else {
-        return Err(PacketFault::Short);
-    };
-    let Some(key) = Ul::from_bytes(*start) else {
-        return Err(PacketFault::NotUl);
-    };
-    let ber = read_ber(rest)?;
-    let width = ber.width();
-    let (_, after) = rest.split_at(usize::from(width));
-    let Ok(len) = usize::try_from(ber.value()) else {
-        return Err(PacketFault::Short);
-    };
-    if after.len() < len {
-        return Err(PacketFault::Short);
-    }
-    let (value, _) = after.split_at(len);
-    Ok((Packet { key, ber, value }, 16 + usize::from(width) + len))
 }
 
 /// A law: where two packets, each with any bytes after it, are one text, they are the same packet.

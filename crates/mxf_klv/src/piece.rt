@@ -1,13 +1,15 @@
 //! The packets of a piece: bytes that lie at an offset of a file (this project's profile).
-ghost use Rattle.std.specs.Prelude.{◌≡◌, ◌+◌, ℕ, List, None, Some, IfOk, IfErr};
-ghost use Rattle.mxf_klv.specs.Parts.{PacketParts};
+ghost use Rattle.std.specs.Prelude.{◌≡◌, ◌↔◌, ◌+◌, ℕ, List, None, Some, Ok, IfOk, IfErr};
+ghost use Rattle.mxf_klv.specs.Parts.{LengthParts, PacketParts};
+ghost use Rattle.mxf_klv.specs.Ber.{ReadsLength};
 ghost use Rattle.mxf_klv.specs.Packet.{size_of};
-ghost use Rattle.mxf_klv.specs.Piece.{IsPiece};
-ghost use Rattle.mxf_klv.specs.PieceReading.{EndsAt, GoesOn, ends_too_far, has_bad_length, head_at, packet_at, packets_in, rest_in, stop_of};
+ghost use Rattle.mxf_klv.specs.declared.piece.Stop.{Stop};
+ghost use Rattle.mxf_klv.specs.Piece.{BeginsWithNone, IsPiece, IsStop, end_after};
+ghost use Rattle.mxf_klv.specs.PieceReading.{EndsAt, GoesOn, length_at, packet_at, packets_in, rest_in, stop_in, stop_of};
 
-use crate::ber::{Ber, read_ber};
 use crate::note::MAX;
-use crate::packet::{Packet, begins_as_label, read_packet};
+use crate::packet::head::Head;
+use crate::packet::{Packet, PacketFault};
 
 /// Why the reading of a piece ended. A place is the file offset, in bytes, of the packet that wasn't noted.
 ///
@@ -26,61 +28,6 @@ pub enum Stop {
     Truncated(u64),
 }
 
-/// The length of the packet at the front, where key and length are whole.
-#[tactic(auto, unfolding(crate::specs::PieceReading::head_at))]
-fn head_at(bytes: &[u8]) -> Option<Ber>
-    ensures { result ≡ head_at bytes.now }
-{
-    if !begins_as_label(bytes) {
-        return None;
-    }
-    let Some((_, rest)) = bytes.split_first_chunk::<16>() else {
-        return None;
-    };
-    read_ber(rest).ok()
-}
-
-/// Whether the length's first byte, which is byte 17 of a packet, is at fault.
-fn has_bad_length(bytes: &[u8]) -> bool
-    ensures { result ≡ has_bad_length bytes.now }
-{
-    match bytes.get(16) {
-        Some(first) => *first == 0x80 || *first > 0x88,
-        None => false,
-    }
-}
-
-/// Whether key and length are whole and the packet would end above `MAX`.
-fn ends_too_far(offset: u64, bytes: &[u8]) -> bool
-    ensures { result ≡ ends_too_far offset bytes.now }
-{
-    match head_at(bytes) {
-        Some(ber) => {
-            u128::from(offset) + (16 + u128::from(ber.width()) + u128::from(ber.value()))
-                > u128::from(MAX)
-        }
-        None => false,
-    }
-}
-
-/// Why no packet is noted at the front of these bytes.
-#[tactic(auto, unfolding(crate::specs::PieceReading::stop_of))]
-fn stop_at(offset: u64, bytes: &[u8]) -> Stop
-    ensures { result ≡ stop_of offset bytes.now }
-{
-    if bytes.is_empty() {
-        Stop::End
-    } else if !begins_as_label(bytes) {
-        Stop::NotUl(offset)
-    } else if has_bad_length(bytes) {
-        Stop::BadLength(offset)
-    } else if ends_too_far(offset, bytes) {
-        Stop::TooFar(offset)
-    } else {
-        Stop::Truncated(offset)
-    }
-}
-
 /// The packet at the front of a piece at a file offset, and its number of bytes; else why the piece stops there.
 ///
 /// Only a packet that ends at or below [`MAX`] is given.
@@ -92,13 +39,20 @@ pub fn next_packet(offset: u64, bytes: &[u8]) -> Result<(Packet<'_>, usize), Sto
     ensures goes_on { IfOk result (λ x. GoesOn offset bytes.now x.0 x.1) }
     ensures ends { IfErr result (EndsAt offset bytes.now) }
 {
-    let Ok((packet, size)) = read_packet(bytes) else {
-        return Err(stop_at(offset, bytes));
-    };
-    if u128::from(offset) + size as u128 > u128::from(MAX) {
-        return Err(stop_at(offset, bytes));
+    if bytes.is_empty() {
+        return Err(Stop::End);
     }
-    Ok((packet, size))
+    let head = match Head::read(bytes) {
+        Ok(head) => head,
+        Err(PacketFault::NotUl) => return Err(Stop::NotUl(offset)),
+        Err(PacketFault::Indefinite) => return Err(Stop::BadLength(offset)),
+        Err(PacketFault::TooWide) => return Err(Stop::BadLength(offset)),
+        Err(PacketFault::Short) => return Err(Stop::Truncated(offset)),
+    };
+    if u128::from(offset) + head.size() > u128::from(MAX) {
+        return Err(Stop::TooFar(offset));
+    }
+    head.packet().ok_or(Stop::Truncated(offset))
 }
 
 /// A law: each piece has exactly one list of packets and one rest, those that `packets_in` and `rest_in` give.
@@ -106,4 +60,14 @@ pub fn each_piece_is_read_one_way()
     ensures some { (offset : ℕ) (bytes : List ℕ) → IsPiece offset bytes (packets_in offset bytes) (rest_in offset bytes) }
     ensures one { (offset : ℕ) (bytes : List ℕ) (packets : List PacketParts) (rest : List ℕ)
         → IsPiece offset bytes packets rest → (packets ≡ packets_in offset bytes) × (rest ≡ rest_in offset bytes) }
+{}
+
+/// A law: each piece ends with exactly one stop, that of its rest, and a rest that begins with no packet that ends at or
+/// below [`MAX`] has exactly one, the one that `stop_of` gives.
+pub fn each_piece_has_one_stop()
+    ensures rest { (offset : ℕ) (rest : List ℕ) (stop : Stop) → BeginsWithNone offset rest
+        → (stop_of offset rest ≡ stop) ↔ IsStop offset rest stop }
+    ensures piece { (offset : ℕ) (bytes : List ℕ) (packets : List PacketParts) (rest : List ℕ) (stop : Stop)
+        → IsPiece offset bytes packets rest → (stop_in offset bytes ≡ stop) ↔ IsStop (end_after offset packets) rest stop }
+    ensures length { (bytes : List ℕ) (l : LengthParts) → (length_at bytes ≡ Some l) ↔ ReadsLength bytes (Ok l) }
 {}
