@@ -68,7 +68,7 @@ cut_else (f ∷ rest) b e =
 far-is : (offset : ℕ) (bytes : List ℕ) → ends_too_far offset bytes ≡ true → EndsTooFar offset bytes
 far-is offset bytes e =
     elim (head_at bytes) as (λ o. head_at bytes ≡ o
-        → option_map_or (λ l. nat_lt greatest_end (end_with offset l)) o false ≡ true → EndsTooFar offset bytes) [
+    → option_map_or (λ l. nat_lt greatest_end (end_with offset l)) o false ≡ true → EndsTooFar offset bytes) [
       | None ↦ λ h f. absurd cc
       | Some l ↦ λ h f. (take 16 bytes, l, drop l.width (drop 16 bytes), head_at-stands bytes l h, ltb-true greatest_end (end_with offset l) f)
     ] refl e
@@ -128,7 +128,7 @@ cut offset rest none begins sound near =
         | Some l ↦ λ e.
             let after = drop l.width (drop 16 rest) in
             let head : BeginsWithHead rest (take 16 rest) l after =
-                head_of rest l (label_of rest begins long) (length_at-stands (drop 16 rest) l e) in
+            head_of rest l (label_of rest begins long) (length_at-stands (drop 16 rest) l e) in
             elim (cases_lt (length after) l.value) [
               | inl short ↦ head-cut head short
               | inr whole ↦
@@ -136,7 +136,7 @@ cut offset rest none begins sound near =
                   let size = 16 + l.width + l.value in
                   let read = head-packet head whole in
                   let far : greatest_end < offset + size_of p =
-                      none (take size rest) (drop size rest) p read.1 (sym (take-append-drop size rest)) in
+                  none (take size rest) (drop size rest) p read.1 (sym (take-append-drop size rest)) in
                   absurd (near (take 16 rest, l, after, head, omega (arith, length-take l.value after)))
             ]
       ] refl
@@ -188,7 +188,7 @@ stop-given offset rest (NotUl place) (at, n) =
     ∙ ap (λ (x : ℕ). NotUl x) (sym at)
 stop-given offset rest (BadLength place) (at, fault) =
     let at_length : ReadsLength (drop 16 rest) (Err lengths.Indefinite) ⊎ ReadsLength (drop 16 rest) (Err lengths.TooWide) =
-        elim fault [ inl p ↦ inl p.1 | inr p ↦ inr p.1 ] in
+    elim fault [ inl p ↦ inl p.1 | inr p ↦ inr p.1 ] in
     let begins : BeginsAsLabel rest = elim fault [ inl p ↦ p.0 | inr p ↦ p.0 ] in
     bad_length _ _ _ _ offset (some-bytes rest (long-some rest at_length)) (begins-test rest begins) (reads-bad (drop 16 rest) at_length)
     ∙ ap (λ (x : ℕ). BadLength x) (sym at)
@@ -272,11 +272,11 @@ pub at_far : (offset : ℕ) (bytes key after : List ℕ) (l : LengthParts) → B
     → greatest_end < offset + (16 + l.width + l.value) → Stopped offset bytes (TooFar offset)
 at_far offset bytes key after l h far = record {
   none = λ front rest p s is.
-    let other = subst (λ (t : List ℕ). BeginsWithHead t p.key (record { width = p.width; value = length p.value }) (p.value ++ rest)) (sym is) (head_in front rest p s) in
-    let same = same_length bytes key p.key after (p.value ++ rest) l _ h other in
-    let width : l.width ≡ p.width = ap (λ (m : LengthParts). m.width) same in
-    let value : l.value ≡ length p.value = ap (λ (m : LengthParts). m.value) same in
-    omega arith;
+      let other = subst (λ (t : List ℕ). BeginsWithHead t p.key (record { width = p.width; value = length p.value }) (p.value ++ rest)) (sym is) (head_in front rest p s) in
+      let same = same_length bytes key p.key after (p.value ++ rest) l _ h other in
+      let width : l.width ≡ p.width = ap (λ (m : LengthParts). m.width) same in
+      let value : l.value ≡ length p.value = ap (λ (m : LengthParts). m.value) same in
+      omega arith;
   is = (refl, (key, l, after, h, far));
 }
 
@@ -290,11 +290,11 @@ at_cut offset bytes key after l h near short = record {
     (λ e. let size = head-size h in let len = ap length e in omega arith),
     head-cut h short,
     λ far.
-      let same = same_length bytes key far.0 after far.2 l far.1 h far.3 in
-      let width : l.width ≡ far.1.width = ap (λ (m : LengthParts). m.width) same in
-      let value : l.value ≡ far.1.value = ap (λ (m : LengthParts). m.value) same in
-      let above = far.4 in
-      omega arith,
+        let same = same_length bytes key far.0 after far.2 l far.1 h far.3 in
+        let width : l.width ≡ far.1.width = ap (λ (m : LengthParts). m.width) same in
+        let value : l.value ≡ far.1.value = ap (λ (m : LengthParts). m.value) same in
+        let above = far.4 in
+        omega arith,
   );
 }
 
@@ -317,7 +317,7 @@ at_packet offset bytes key after l h near whole =
     let read = head-packet h whole in
     let is : size ≡ size_of p = omega (arith, length-take l.value after) in
     let stands : packet_at offset bytes ≡ Some p =
-        packet_at-given offset bytes (take size bytes) (drop size bytes) p read.1 (sym (take-append-drop size bytes)) (omega arith) in
+    packet_at-given offset bytes (take size bytes) (drop size bytes) p read.1 (sym (take-append-drop size bytes)) (omega arith) in
     record { packet = (stands, is); none = tt; goes_on = goes_on offset bytes p size stands is; ends = tt }
 
 -- the last exit: the packet, or its value is cut

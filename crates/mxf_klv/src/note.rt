@@ -5,7 +5,7 @@ ghost use Rattle.mxf_klv.specs.Parts.{CanSpell, NoteParts};
 ghost use Rattle.mxf_klv.specs.NoteMaker.{CanNote, note_parts};
 ghost use Rattle.mxf_klv.specs.Kind.{kind_of};
 ghost use Rattle.mxf_klv.specs.Label.{IsLabel};
-ghost use Rattle.mxf_klv.specs.Note.{IsNote, keeps, end_of, note_cmp, note_of};
+ghost use Rattle.mxf_klv.specs.Note.{IsNote, greatest_end, keeps, keeps_of, end_of, note_cmp, note_of};
 ghost use Rattle.std.specs.Cmp.{IsTotalOrder};
 ghost use Rattle.std.specs.declared.cmp.Ordering.TheVariants.{Equal};
 ghost use Rattle.mxf_klv.specs.declared.note.NoteFault.TheVariants as faults;
@@ -42,11 +42,13 @@ pub struct Note {
     key: Ul,
     width: u8,
     length: u64,
+    kind: Kind,
     kept: Kept,
 }
 
 impl Model for Note {
-    ghost use Rattle.std.specs.Prelude.{◌+◌, ◌≤◌};
+    ghost use Rattle.std.specs.Prelude.{◌≡◌, ◌+◌, ◌≤◌};
+    ghost use Rattle.mxf_klv.specs.Kind.{kind_of};
     ghost use Rattle.mxf_klv.specs.Parts.{CanSpell, NoteParts};
 
     ghost Value = { NoteParts };
@@ -57,7 +59,8 @@ impl Model for Note {
 
     ghost view = { λ n. record { offset = n.offset; key = n.key; width = n.width; length = n.length; held = kept_bytes n.kept } };
 
-    ghost invariant = { λ n. IsLabel n.key × CanSpell n.width n.length × (n.offset + 16 + n.width + n.length ≤ greatest_end) × IsKeptBy n.kept n.key n.length };
+    ghost invariant = { λ n. IsLabel n.key × CanSpell n.width n.length × (n.offset + 16 + n.width + n.length ≤ greatest_end)
+        × (n.kind ≡ kind_of n.key) × IsKeptBy n.kept n.key n.length };
 }
 
 /// Why there is no note of a packet. The causes are tested in this order.
@@ -79,17 +82,16 @@ impl From<AllocError> for NoteFault {
     }
 }
 
-/// Whether a value of this length is kept under this key.
-fn keeps(key: &Ul, length: u64) -> bool
-    ensures keeps { result ≡ keeps key.now length }
-    ensures label { IsLabel key.now }
+/// Whether a value of this length is kept in a packet of this kind.
+fn keeps(kind: Kind, length: u64) -> bool
+    ensures { result ≡ keeps_of kind length }
 {
-    kind(key).is_structural() && length <= GREATEST_KEPT
+    kind.is_structural() && length <= GREATEST_KEPT
 }
 
 /// Whether the width can spell the length and the end is not too far.
 fn can_note(offset: u64, width: u8, length: u64) -> bool
-    ensures { IsTrue result ↔ (CanSpell width length × (offset + 16 + width + length ≤ MAX)) }
+    ensures { IsTrue result ↔ (CanSpell width length × (offset + 16 + width + length ≤ greatest_end)) }
 {
     Ber::new(width, length).is_some()
         && u128::from(offset) + 16 + u128::from(width) + u128::from(length) <= u128::from(MAX)
@@ -108,7 +110,7 @@ impl Note {
     /// The note of a packet at a file offset, in bytes.
     pub fn of(alloc: Global, offset: u64, packet: &Packet<'_>) -> Result<Note, NoteFault>
         ensures noted { IfOk result (λ n. n ≡ note_of offset packet.now) }
-        ensures too_far { IsErrOf result NoteFault.TooFar ↔ (MAX < end_of (note_of offset packet.now)) }
+        ensures too_far { IsErrOf result NoteFault.TooFar ↔ (greatest_end < end_of (note_of offset packet.now)) }
         ensures memory { IsErrOf result NoteFault.OutOfMemory → keeps packet.now.key (length packet.now.value) ≡ true }
     {
         let value = packet.value();
@@ -119,7 +121,8 @@ impl Note {
             return Err(NoteFault::TooFar);
         }
         let key = packet.key();
-        let kept = if keeps(&key, length) {
+        let kind = kind(&key);
+        let kept = if keeps(kind, length) {
             Kept::Whole(Vec::from_slice(alloc, value)?)
         } else {
             Kept::Digest(Sha256::digest(value))
@@ -129,21 +132,22 @@ impl Note {
             key,
             width,
             length,
+            kind,
             kept,
         })
     }
 
     /// The file offset of the packet's first byte.
     pub fn offset(&self) -> u64
-        ensures { result ≡ self.now.offset }
+        ensures offset { result ≡ self.now.offset }
+        ensures note { IsNote self.now }
     {
         self.offset
     }
 
     /// The file offset after the packet's last byte, at most [`MAX`].
     pub fn end(&self) -> u64
-        ensures end { result ≡ end_of self.now }
-        ensures note { IsNote self.now }
+        ensures { result ≡ end_of self.now }
     {
         self.offset + 16 + u64::from(self.width) + self.length
     }
@@ -173,7 +177,7 @@ impl Note {
     pub fn kind(&self) -> Kind
         ensures { result ≡ kind_of self.now.key }
     {
-        kind(&self.key)
+        self.kind
     }
 
     fn held_bytes(&self) -> &[u8]
@@ -203,7 +207,8 @@ impl Note {
         ensures back { IfErr result (λ e. e.value ≡ value) }
     {
         let length = value.len() as u64;
-        if !can_note(offset, width, length) || !keeps(&key, length) {
+        let kind = kind(&key);
+        if !can_note(offset, width, length) || !keeps(kind, length) {
             return Err(NotANote { value });
         }
         Ok(Note {
@@ -211,6 +216,7 @@ impl Note {
             key,
             width,
             length,
+            kind,
             kept: Kept::Whole(value),
         })
     }
@@ -220,7 +226,8 @@ impl Note {
     pub fn digested(offset: u64, key: Ul, width: u8, length: u64, digest: [u8; 32]) -> Option<Note>
         ensures { SomeIff result (CanNote (note_parts offset key width length digest) false) (note_parts offset key width length digest) }
     {
-        if !can_note(offset, width, length) || keeps(&key, length) {
+        let kind = kind(&key);
+        if !can_note(offset, width, length) || keeps(kind, length) {
             return None;
         }
         Some(Note {
@@ -228,6 +235,7 @@ impl Note {
             key,
             width,
             length,
+            kind,
             kept: Kept::Digest(digest),
         })
     }
@@ -246,6 +254,7 @@ impl Note {
             key: self.key,
             width: self.width,
             length: self.length,
+            kind: self.kind,
             kept,
         })
     }

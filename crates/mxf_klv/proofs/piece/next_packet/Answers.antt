@@ -77,8 +77,8 @@ pub returns-clause-packet : goal.returns-clause-packet
 returns-clause-packet c =
     let head = c.in-Ok.head in
     let answers =
-        at_value c.args.offset c.args.bytes.now head.key head.after.now head.ber c.packet.result c.in-Ok.ensures
-        (omega arith) c.packet.ensures
+    at_value c.args.offset c.args.bytes.now head.key head.after.now head.ber c.packet.result c.in-Ok.ensures
+    (omega arith) c.packet.ensures
     in
     rw c.ok_or.ensures.value answers.packet
 
@@ -86,8 +86,8 @@ pub returns-clause-none : goal.returns-clause-none
 returns-clause-none c =
     let head = c.in-Ok.head in
     let answers =
-        at_value c.args.offset c.args.bytes.now head.key head.after.now head.ber c.packet.result c.in-Ok.ensures
-        (omega arith) c.packet.ensures
+    at_value c.args.offset c.args.bytes.now head.key head.after.now head.ber c.packet.result c.in-Ok.ensures
+    (omega arith) c.packet.ensures
     in
     rw c.ok_or.ensures.value answers.none
 
@@ -95,8 +95,8 @@ pub returns-clause-goes_on : goal.returns-clause-goes_on
 returns-clause-goes_on c =
     let head = c.in-Ok.head in
     let answers =
-        at_value c.args.offset c.args.bytes.now head.key head.after.now head.ber c.packet.result c.in-Ok.ensures
-        (omega arith) c.packet.ensures
+    at_value c.args.offset c.args.bytes.now head.key head.after.now head.ber c.packet.result c.in-Ok.ensures
+    (omega arith) c.packet.ensures
     in
     rw c.ok_or.ensures.value answers.goes_on
 
@@ -104,7 +104,7 @@ pub returns-clause-ends : goal.returns-clause-ends
 returns-clause-ends c =
     let head = c.in-Ok.head in
     let answers =
-        at_value c.args.offset c.args.bytes.now head.key head.after.now head.ber c.packet.result c.in-Ok.ensures
-        (omega arith) c.packet.ensures
+    at_value c.args.offset c.args.bytes.now head.key head.after.now head.ber c.packet.result c.in-Ok.ensures
+    (omega arith) c.packet.ensures
     in
     rw c.ok_or.ensures.value answers.ends
