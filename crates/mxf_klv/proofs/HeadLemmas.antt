@@ -3,10 +3,10 @@ use Rattle.std.proofs.Common.{◌≡◌, ℕ, ◌+◌, ◌-◌, ◌<◌, ◌≤�
 use Rattle.std.proofs.lemmas.List.{take_at, drop_at, take_all, take-append-drop, take-append-le, take-take, length-take, length-replicate}
 use Rattle.mxf_klv.specs.declared.ber.BerFault.{BerFault}
 use Rattle.mxf_klv.specs.declared.packet.PacketFault.TheVariants as faults
-use Rattle.mxf_klv.specs.Parts.{LengthParts, PacketParts}
+use Rattle.mxf_klv.specs.Parts.{LengthParts, PacketParts, packet_parts}
 use Rattle.mxf_klv.specs.Label.{label_start, IsLabel, BeginsAsLabel}
 use Rattle.mxf_klv.specs.Ber.{IsSpelledLength, ReadsLength}
-use Rattle.mxf_klv.specs.Packet.{IsSpelledPacket, IsCutPacket, ReadsPacket, packet_fault, packet_parts}
+use Rattle.mxf_klv.specs.Packet.{IsSpelledPacket, IsCutPacket, ReadsPacket, packet_fault}
 use Rattle.mxf_klv.specs.Head.{BeginsWithHead, HasNoHead, ReadsHead}
 use Rattle.mxf_klv.proofs.LengthLemmas.{spelled_len, one_reading}
 use Rattle.mxf_klv.proofs.PacketLemmas.{key_cut, length_fault}

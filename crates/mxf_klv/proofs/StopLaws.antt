@@ -2,10 +2,10 @@
 use Rattle.std.proofs.Common.{◌≡◌, ℕ, ◌+◌, ◌-◌, ◌<◌, ◌≤◌, Bool, true, false, cond, not, ◌||◌, nat_eq, nat_lt, List, [], ◌∷◌, ◌++◌, length, take, drop, Err, Ok, Result, IfOk, IfErr, ok_or, SomeIff, Option, None, Some, refl, sym, ap, subst, ◌∙◌, arith, inl, inr, ◌⊎◌, ◌↔◌, length-take, length-drop, take-append-drop}
 use Rattle.std.proofs.lemmas.Bool.{eqb-true, eqb-false, eq-eqb, ne_eqb, ltb-true, lt-ltb, ltb-false, or_cases, cases_lt, false_from_ne_true, both_ways}
 use Rattle.std.specs.Option.{option_map_or}
-use Rattle.mxf_klv.specs.Parts.{LengthParts, PacketParts}
+use Rattle.mxf_klv.specs.Parts.{LengthParts, PacketParts, packet_parts}
 use Rattle.mxf_klv.specs.Label.{BeginsAsLabel, begins_as_label}
 use Rattle.mxf_klv.specs.Ber.{IsCutLength, ReadsLength}
-use Rattle.mxf_klv.specs.Packet.{IsCutPacket, IsSpelledPacket, ReadsPacket, packet_parts, size_of}
+use Rattle.mxf_klv.specs.Packet.{IsCutPacket, IsSpelledPacket, ReadsPacket, size_of}
 use Rattle.mxf_klv.specs.Head.{BeginsWithHead, ReadsHead}
 use Rattle.mxf_klv.specs.Note.{greatest_end}
 use Rattle.mxf_klv.specs.Piece.{BeginsWithNone, EndsTooFar, IsPiece, IsStop, end_after}

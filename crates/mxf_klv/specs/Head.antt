@@ -1,9 +1,9 @@
 -- The head of a packet (ST 336, KLV triplet): its key and its length, which stand before its value.
 use Rattle.std.specs.Prelude.{◌≡◌, ℕ, ◌+◌, List, ◌++◌, take, Result, Ok, Err}
-use Rattle.mxf_klv.specs.Parts.{LengthParts, PacketParts}
+use Rattle.mxf_klv.specs.Parts.{LengthParts, PacketParts, packet_parts}
 use Rattle.mxf_klv.specs.Label.{IsLabel}
 use Rattle.mxf_klv.specs.Ber.{IsSpelledLength}
-use Rattle.mxf_klv.specs.Packet.{ReadsPacket, packet_parts}
+use Rattle.mxf_klv.specs.Packet.{ReadsPacket}
 use Rattle.mxf_klv.specs.declared.packet.PacketFault.{PacketFault}
 use Rattle.mxf_klv.specs.declared.packet.head.Head.{Head}
 

@@ -10,6 +10,5 @@ pub mod PieceReading
 pub mod Note
 pub mod Kept
 pub mod NoteOrder
-pub mod NoteMaker
 pub mod Rising
 pub mod Written

@@ -9,7 +9,7 @@ use Rattle.mxf_klv.specs.Label.{IsLabel}
 use Rattle.mxf_klv.specs.Kind.{kind_of, is_structural}
 use Rattle.mxf_klv.specs.declared.kinds.Kind.{Kind}
 
--- The greatest end of a packet (this project's profile), called MAX in the code.
+-- The greatest end of a packet, called MAX in the code.
 abbrev pub greatest_end : ℕ
 greatest_end = 9223372036854775807
 
@@ -48,6 +48,16 @@ note_of offset packet = record {
   held = if keeps packet.key (length packet.value) then packet.value else sha256 packet.value;
 }
 
+-- A note with these parts can be made: its width can spell its length, it ends at or below the greatest end, and a value
+-- of its key and length is kept whole, or isn't, as is said.
+abbrev pub CanNote : NoteParts → Bool → Type 0
+CanNote n whole = CanSpell n.width n.length × (end_of n ≤ greatest_end) × (keeps n.key n.length ≡ whole)
+
 -- Notes go by offset, then key bytes, then width, then length, then held bytes.
 abbrev pub note_cmp : NoteParts → NoteParts → Ordering
-note_cmp = then_cmp (on (λ n. n.offset) nat_cmp) (then_cmp (on (λ n. n.key) (slice_cmp nat_cmp)) (then_cmp (on (λ n. n.width) nat_cmp) (then_cmp (on (λ n. n.length) nat_cmp) (on (λ n. n.held) (slice_cmp nat_cmp)))))
+note_cmp =
+    then_cmp (on (λ n. n.offset) nat_cmp)
+    (then_cmp (on (λ n. n.key) (slice_cmp nat_cmp))
+    (then_cmp (on (λ n. n.width) nat_cmp)
+    (then_cmp (on (λ n. n.length) nat_cmp)
+    (on (λ n. n.held) (slice_cmp nat_cmp)))))

@@ -3,9 +3,9 @@
 use Rattle.std.specs.Prelude.{◌≡◌, ◌<◌, ◌≤◌, ℕ, zero, suc, ◌+◌, ◌-◌, nat_le, nat_lt, nat_eq, Bool, false, ◌&&◌, ◌||◌, not, if◌then◌else◌, List, [], ◌∷◌, length, take, drop, Option, None, Some}
 use Rattle.std.specs.Option.{option_map_or, option_and_then}
 use Rattle.byteorder.specs.Endian.{big_number}
-use Rattle.mxf_klv.specs.Parts.{LengthParts, PacketParts, NoteParts}
+use Rattle.mxf_klv.specs.Parts.{LengthParts, PacketParts, NoteParts, packet_parts}
 use Rattle.mxf_klv.specs.Label.{begins_as_label}
-use Rattle.mxf_klv.specs.Packet.{packet_parts, size_of}
+use Rattle.mxf_klv.specs.Packet.{size_of}
 use Rattle.mxf_klv.specs.Note.{greatest_end, note_of}
 use Rattle.mxf_klv.specs.Piece.{notes_from, end_after}
 use Rattle.mxf_klv.specs.declared.piece.Stop.{Stop}

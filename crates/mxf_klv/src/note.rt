@@ -1,11 +1,10 @@
 //! Notes: what is known of a packet at an offset (this project's profile).
 ghost use Rattle.std.specs.Prelude.{◌≡◌, ◌↔◌, ◌+◌, ◌<◌, ◌≤◌, length, vec_len, true, false, IfOk, IfErr, IsOk, IsErr, IsTrue, IsErrOf};
 ghost use Rattle.std.specs.Option.{SomeIff};
-ghost use Rattle.mxf_klv.specs.Parts.{CanSpell, NoteParts};
-ghost use Rattle.mxf_klv.specs.NoteMaker.{CanNote, note_parts};
+ghost use Rattle.mxf_klv.specs.Parts.{CanSpell, NoteParts, note_parts};
 ghost use Rattle.mxf_klv.specs.Kind.{kind_of};
 ghost use Rattle.mxf_klv.specs.Label.{IsLabel};
-ghost use Rattle.mxf_klv.specs.Note.{IsNote, greatest_end, keeps, keeps_of, end_of, note_cmp, note_of};
+ghost use Rattle.mxf_klv.specs.Note.{CanNote, IsNote, greatest_end, keeps, keeps_of, end_of, note_cmp, note_of};
 ghost use Rattle.std.specs.Cmp.{IsTotalOrder};
 ghost use Rattle.std.specs.declared.cmp.Ordering.TheVariants.{Equal};
 ghost use Rattle.mxf_klv.specs.declared.note.NoteFault.TheVariants as faults;

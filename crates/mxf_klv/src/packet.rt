@@ -3,8 +3,8 @@ ghost use Rattle.std.specs.Prelude.{◌≡◌, ◌++◌, ℕ, List, Result, Ok, 
 ghost use Rattle.std.specs.Option.{SomeIff};
 ghost use Rattle.mxf_klv.specs.declared.packet.PacketFault.{PacketFault};
 ghost use Rattle.mxf_klv.specs.Bytes.{AreBytes};
-ghost use Rattle.mxf_klv.specs.Packet.{IsPacket, IsSpelledPacket, ReadsPacket, packet_bytes, packet_fault, packet_parts, size_of};
-ghost use Rattle.mxf_klv.specs.Parts.{PacketParts, CanSpell};
+ghost use Rattle.mxf_klv.specs.Packet.{IsPacket, IsSpelledPacket, ReadsPacket, packet_bytes, packet_fault, size_of};
+ghost use Rattle.mxf_klv.specs.Parts.{PacketParts, CanSpell, packet_parts};
 
 pub(crate) mod head;
 
