@@ -7,3 +7,4 @@ pub mod PieceLaws
 pub mod StopLaws
 pub mod Keeping
 pub mod RoundTrips
+pub mod RisingLemmas

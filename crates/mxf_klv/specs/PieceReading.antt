@@ -1,6 +1,8 @@
--- The packets of a piece and its stop as functions of its offset and bytes. That they are the packets, the rest and the
--- stop of `Piece`, and that there are no others, say the laws `each_piece_is_read_one_way` and `each_piece_has_one_stop`.
-use Rattle.std.specs.Prelude.{◌≡◌, ◌<◌, ◌≤◌, ℕ, zero, suc, ◌+◌, ◌-◌, nat_le, nat_lt, nat_eq, Bool, false, ◌&&◌, ◌||◌, not, if◌then◌else◌, List, [], ◌∷◌, length, take, drop, Option, None, Some}
+-- The packets of a piece and its stop as functions of its offset and bytes (this project's profile). That they are the
+-- packets, the rest and the stop of `Piece`, and that there are no others, say the laws `each_piece_is_read_one_way` and
+-- `each_piece_has_one_stop`.
+use Rattle.std.specs.Prelude.{◌≡◌, ◌<◌, ◌≤◌, ℕ, zero, suc, ◌+◌, ◌-◌, nat_le, nat_lt, nat_eq, Bool, false, ◌&&◌, ◌||◌}
+use Rattle.std.specs.Prelude.{not, if◌then◌else◌, List, [], ◌∷◌, length, take, drop, Option, None, Some}
 use Rattle.std.specs.Option.{option_map_or, option_and_then}
 use Rattle.byteorder.specs.Endian.{big_number}
 use Rattle.mxf_klv.specs.Parts.{LengthParts, PacketParts, NoteParts, packet_parts}
@@ -11,7 +13,7 @@ use Rattle.mxf_klv.specs.Piece.{notes_from, end_after}
 use Rattle.mxf_klv.specs.declared.piece.Stop.{Stop}
 use Rattle.mxf_klv.specs.declared.piece.Stop.TheVariants.{End, NotUl, BadLength, TooFar, Truncated}
 
--- The length at the front, where a whole one stands there (ST 336, length field).
+-- The length at the front, where a whole one stands there: the law says that `ReadsLength` gives the same.
 abbrev pub length_at : List ℕ → Option LengthParts
 length_at [] = None
 length_at (first ∷ rest) =
@@ -20,11 +22,11 @@ length_at (first ∷ rest) =
     then Some (record { width = first - 127; value = big_number (first - 128) rest })
     else None)
 
--- The length of the packet at the front, where key and length are whole (ST 336, KLV triplet).
+-- The length of the packet at the front, where key and length are whole.
 unfoldable pub head_at : List ℕ → Option LengthParts
 head_at bytes = if begins_as_label bytes && nat_le 16 (length bytes) then length_at (drop 16 bytes) else None
 
--- Where a packet with this length would end.
+-- Where a packet of this length would end.
 abbrev pub end_with : ℕ → LengthParts → ℕ
 end_with offset l = offset + (16 + l.width + l.value)
 
@@ -44,12 +46,14 @@ packet_at offset bytes =
 -- The packets of a piece, at most so many.
 abbrev pub packets_by : ℕ → ℕ → List ℕ → List PacketParts
 packets_by zero offset bytes = []
-packets_by (suc n) offset bytes = option_map_or (λ p. p ∷ packets_by n (offset + size_of p) (drop (size_of p) bytes)) (packet_at offset bytes) []
+packets_by (suc n) offset bytes =
+    option_map_or (λ p. p ∷ packets_by n (offset + size_of p) (drop (size_of p) bytes)) (packet_at offset bytes) []
 
 -- What is left after them.
 abbrev pub rest_by : ℕ → ℕ → List ℕ → List ℕ
 rest_by zero offset bytes = bytes
-rest_by (suc n) offset bytes = option_map_or (λ p. rest_by n (offset + size_of p) (drop (size_of p) bytes)) (packet_at offset bytes) bytes
+rest_by (suc n) offset bytes =
+    option_map_or (λ p. rest_by n (offset + size_of p) (drop (size_of p) bytes)) (packet_at offset bytes) bytes
 
 -- The packets of a piece: no more than it has bytes.
 unfoldable pub packets_in : ℕ → List ℕ → List PacketParts
@@ -81,7 +85,7 @@ stop_of offset rest =
     else (if ends_too_far offset rest then TooFar offset
     else Truncated offset)))
 
--- The stop of a piece.
+-- The stop of a piece: that of its rest.
 abbrev pub stop_in : ℕ → List ℕ → Stop
 stop_in offset bytes = stop_of (end_after offset (packets_in offset bytes)) (rest_in offset bytes)
 
