@@ -6,6 +6,7 @@ use Rattle.mxf_klv.specs.declared.note.held.Kept.TheVariants.{Whole, Digest}
 use Rattle.mxf_klv.specs.Note.{keeps}
 use Rattle.mxf_klv.specs.Kept.{kept_bytes, IsKeptBy}
 
-pub length-kept_bytes : (k : Kept) (key : List ℕ) (len : ℕ) → IsKeptBy k key len → length (kept_bytes k) ≡ cond (keeps key len) len 32
+pub length-kept_bytes : (k : Kept) (key : List ℕ) (len : ℕ) → IsKeptBy k key len → length (kept_bytes k) ≡ cond
+    (keeps key len) len 32
 length-kept_bytes (Whole v) key len h = h.1 ∙ sym (cond-true _ _ _ h.0)
 length-kept_bytes (Digest d) key len h = h.1 ∙ sym (cond-false _ _ _ h.0)

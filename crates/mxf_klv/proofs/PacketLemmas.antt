@@ -1,7 +1,8 @@
 -- Facts on packets and what bytes begin with.
-use Rattle.std.proofs.Common.{◌≡◌, ℕ, suc, ◌+◌, ◌-◌, ◌<◌, ◌≤◌, List, [], ◌∷◌, ◌++◌, length, take, drop, replicate, Err, refl, sym, ap, subst, ◌∙◌, arith, inl, length-append, append_assoc}
-use Rattle.std.proofs.Math.Seq.{take-add}
-use Rattle.std.proofs.lemmas.List.{take_at, drop_at, take_all, take-take, take-append-drop, length-take, length-replicate, append-nil}
+use Rattle.std.proofs.Common.{◌≡◌, ℕ, suc, ◌+◌, ◌-◌, ◌<◌, ◌≤◌, List, [], ◌∷◌, ◌++◌, length, take, drop, replicate}
+use Rattle.std.proofs.Common.{Err, refl, sym, ap, subst, ◌∙◌, arith, inl, length-append, append_assoc}
+use Rattle.std.proofs.lemmas.List.{take_at, drop_at, take_all, take-take, take-append-drop, length-take}
+use Rattle.std.proofs.lemmas.List.{length-replicate, append-nil}
 use Rattle.byteorder.specs.Endian.{big_number}
 use Rattle.mxf_klv.specs.declared.ber.BerFault.{BerFault}
 use Rattle.mxf_klv.specs.declared.ber.BerFault.TheVariants as lengths
@@ -19,11 +20,15 @@ same_parts k l w x u v p q r = rw (p, q, r) refl
 
 -- the first sixteen of bytes that begin as a label
 pub label_of : (bytes : List ℕ) → BeginsAsLabel bytes → 16 ≤ length bytes → IsLabel (take 16 bytes)
-label_of bytes h long =
-    (omega (arith, length-take 16 bytes), take-take 4 16 bytes (omega arith) ∙ h ∙ take_all (length bytes) label_start (omega arith))
+label_of bytes h long = (
+  omega (arith, length-take 16 bytes),
+  take-take 4 16 bytes (omega arith) ∙ h ∙ take_all (length bytes) label_start
+      (omega arith),
+)
 
 -- a length that is cut, where one follows that could be whole
-length_cut_cons : (bytes : List ℕ) (f : ℕ) (rest : List ℕ) (n : ℕ) → BeginsAsLabel bytes → 16 ≤ length bytes → drop 16 bytes ≡ f ∷ rest → f ≡ 129 + n → n ≤ 7 → length rest < suc n → IsCutPacket bytes
+length_cut_cons : (bytes : List ℕ) (f : ℕ) (rest : List ℕ) (n : ℕ) → BeginsAsLabel bytes → 16 ≤ length bytes
+    → drop 16 bytes ≡ f ∷ rest → f ≡ 129 + n → n ≤ 7 → length rest < suc n → IsCutPacket bytes
 length_cut_cons bytes f rest n h long is high low cut =
     let pad = replicate (suc n - length rest) 0 in
     let pads : length pad ≡ suc n - length rest = length-replicate (suc n - length rest) 0 in
@@ -31,7 +36,9 @@ length_cut_cons bytes f rest n h long is high low cut =
     let v = big_number (suc n) (rest ++ pad) in
     let value = replicate v 0 in
     let len : length value ≡ v = length-replicate v 0 in
-    let spells : IsSpelledLength (f ∷ (rest ++ pad)) (suc (suc n)) v = subst (λ (t : List ℕ). IsSpelledLength (f ∷ t) (suc (suc n)) v) (take_all (suc n) (rest ++ pad) (omega arith)) (wide_found_cons f (rest ++ pad) n high low (omega arith)) in
+    let spells : IsSpelledLength (f ∷ (rest ++ pad)) (suc (suc n)) v = subst
+    (λ (t : List ℕ). IsSpelledLength (f ∷ t) (suc (suc n)) v) (take_all (suc n) (rest ++ pad) (omega arith))
+    (wide_found_cons f (rest ++ pad) n high low (omega arith)) in
     record {
       more = pad ++ value;
       packet = record { key = take 16 bytes; width = suc (suc n); value = value };
@@ -40,11 +47,15 @@ length_cut_cons bytes f rest n h long is high low cut =
         spelled = f ∷ (rest ++ pad);
         label = label_of bytes h long;
         width = rw len spells;
-        whole = ap (λ (t : List ℕ). t ++ (pad ++ value)) (sym (take-append-drop 16 bytes) ∙ ap (λ (t : List ℕ). take 16 bytes ++ t) is) ∙ append_assoc (take 16 bytes) (f ∷ rest) (pad ++ value) ∙ ap (λ (t : List ℕ). take 16 bytes ++ (f ∷ t)) (sym (append_assoc rest pad value));
+        whole = ap (λ (t : List ℕ). t ++ (pad ++ value))
+            (sym (take-append-drop 16 bytes) ∙ ap (λ (t : List ℕ). take 16 bytes ++ t) is) ∙ append_assoc
+            (take 16 bytes) (f ∷ rest) (pad ++ value) ∙ ap (λ (t : List ℕ). take 16 bytes ++ (f ∷ t))
+            (sym (append_assoc rest pad value));
       };
     }
 
-pub length_cut : (bytes tail : List ℕ) → drop 16 bytes ≡ tail → BeginsAsLabel bytes → 16 ≤ length bytes → IsCutLength tail → IsCutPacket bytes
+pub length_cut : (bytes tail : List ℕ) → drop 16 bytes ≡ tail → BeginsAsLabel bytes → 16 ≤ length bytes
+    → IsCutLength tail → IsCutPacket bytes
 length_cut bytes [] is h long cut = record {
   more = 0 ∷ [];
   packet = record { key = take 16 bytes; width = 1; value = [] };
@@ -53,14 +64,16 @@ length_cut bytes [] is h long cut = record {
     spelled = 0 ∷ [];
     label = label_of bytes h long;
     width = inl (refl, omega arith, refl, refl);
-    whole = ap (λ (t : List ℕ). t ++ (0 ∷ [])) (sym (take-append-drop 16 bytes) ∙ ap (λ (t : List ℕ). take 16 bytes ++ t) is ∙ append-nil (take 16 bytes));
+    whole = ap (λ (t : List ℕ). t ++ (0 ∷ []))
+        (sym (take-append-drop 16 bytes) ∙ ap (λ (t : List ℕ). take 16 bytes ++ t) is ∙ append-nil (take 16 bytes));
   };
 }
 length_cut bytes (f ∷ rest) is h long cut =
     length_cut_cons bytes f rest (f - 129) h long is (omega arith) (omega arith) (omega arith)
 
 -- what a fault of the length is for the packet
-pub length_fault : (bytes : List ℕ) (e : BerFault) → BeginsAsLabel bytes → 16 ≤ length bytes → ReadsLength (drop 16 bytes) (Err e) → ReadsPacket bytes (Err (packet_fault e))
+pub length_fault : (bytes : List ℕ) (e : BerFault) → BeginsAsLabel bytes → 16 ≤ length bytes → ReadsLength
+    (drop 16 bytes) (Err e) → ReadsPacket bytes (Err (packet_fault e))
 length_fault bytes lengths.Short h long p = length_cut bytes (drop 16 bytes) refl h long p
 length_fault bytes lengths.Indefinite h long p = (h, p)
 length_fault bytes lengths.TooWide h long p = (h, p)
@@ -82,14 +95,31 @@ cut_at_key bytes key more label is = record {
 -- fewer bytes than a key has
 pub key_cut : (bytes : List ℕ) → BeginsAsLabel bytes → length bytes < 16 → IsCutPacket bytes
 key_cut [] h short = cut_at_key [] (label_start ++ replicate 12 0) (label_start ++ replicate 12 0) (refl, refl) refl
-key_cut (a ∷ []) h short = cut_at_key (a ∷ []) (a ∷ drop 1 (label_start ++ replicate 12 0)) (drop 1 (label_start ++ replicate 12 0)) (refl, (let g : a ∷ [] ≡ 0x06 ∷ [] = h in let is : a ≡ 0x06 = cc in rw is refl)) refl
-key_cut (a ∷ b ∷ []) h short = cut_at_key (a ∷ b ∷ []) (a ∷ b ∷ drop 2 (label_start ++ replicate 12 0)) (drop 2 (label_start ++ replicate 12 0)) (refl, (let g : a ∷ b ∷ [] ≡ 0x06 ∷ 0x0E ∷ [] = h in let is : a ≡ 0x06 = cc in let is2 : b ≡ 0x0E = cc in rw (is, is2) refl)) refl
-key_cut (a ∷ b ∷ c ∷ []) h short = cut_at_key (a ∷ b ∷ c ∷ []) (a ∷ b ∷ c ∷ drop 3 (label_start ++ replicate 12 0)) (drop 3 (label_start ++ replicate 12 0)) (refl, (let g : a ∷ b ∷ c ∷ [] ≡ 0x06 ∷ 0x0E ∷ 0x2B ∷ [] = h in let is : a ≡ 0x06 = cc in let is2 : b ≡ 0x0E = cc in let is3 : c ≡ 0x2B = cc in rw (is, is2, is3) refl)) refl
+key_cut (a ∷ []) h short = cut_at_key (a ∷ []) (a ∷ drop 1 (label_start ++ replicate 12 0))
+    (drop 1 (label_start ++ replicate 12 0))
+    (refl, (let g : a ∷ [] ≡ 0x06 ∷ [] = h in let is : a ≡ 0x06 = cc in rw is refl)) refl
+key_cut (a ∷ b ∷ []) h short = cut_at_key (a ∷ b ∷ []) (a ∷ b ∷ drop 2 (label_start ++ replicate 12 0))
+    (drop 2 (label_start ++ replicate 12 0)) (
+      refl,
+      (let g : a ∷ b ∷ [] ≡ 0x06 ∷ 0x0E ∷ [] = h in let is : a ≡ 0x06 = cc in let is2 : b ≡ 0x0E = cc in rw
+          (is, is2) refl),
+    ) refl
+key_cut (a ∷ b ∷ c ∷ []) h short = cut_at_key (a ∷ b ∷ c ∷ []) (a ∷ b ∷ c ∷ drop 3 (label_start ++ replicate 12 0))
+    (drop 3 (label_start ++ replicate 12 0)) (
+      refl,
+      (let g : a ∷ b ∷ c ∷ [] ≡ 0x06 ∷ 0x0E ∷ 0x2B ∷ [] = h in let is : a ≡ 0x06 = cc in let is2 : b ≡ 0x0E =
+          cc in let is3 : c ≡ 0x2B = cc in rw (is, is2, is3) refl),
+    ) refl
 key_cut (a ∷ b ∷ c ∷ d ∷ rest) h short =
     let more : List ℕ = replicate (16 - length (a ∷ b ∷ c ∷ d ∷ rest)) 0 in
-    let lens : length more ≡ 16 - length (a ∷ b ∷ c ∷ d ∷ rest) = length-replicate (16 - length (a ∷ b ∷ c ∷ d ∷ rest)) 0 in
-    let all : take (length (a ∷ b ∷ c ∷ d ∷ rest)) label_start ≡ label_start = take_all (length (a ∷ b ∷ c ∷ d ∷ rest)) label_start (omega arith) in
-    cut_at_key (a ∷ b ∷ c ∷ d ∷ rest) ((a ∷ b ∷ c ∷ d ∷ rest) ++ more) more (omega (arith, length-append (a ∷ b ∷ c ∷ d ∷ rest) more), (let e : take 4 (a ∷ b ∷ c ∷ d ∷ rest) ≡ label_start = h ∙ all in e)) refl
+    let lens : length more ≡ 16 - length (a ∷ b ∷ c ∷ d ∷ rest) = length-replicate
+    (16 - length (a ∷ b ∷ c ∷ d ∷ rest)) 0 in
+    let all : take (length (a ∷ b ∷ c ∷ d ∷ rest)) label_start ≡ label_start = take_all
+    (length (a ∷ b ∷ c ∷ d ∷ rest)) label_start (omega arith) in
+    cut_at_key (a ∷ b ∷ c ∷ d ∷ rest) ((a ∷ b ∷ c ∷ d ∷ rest) ++ more) more (
+      omega (arith, length-append (a ∷ b ∷ c ∷ d ∷ rest) more),
+      (let e : take 4 (a ∷ b ∷ c ∷ d ∷ rest) ≡ label_start = h ∙ all in e),
+    ) refl
 
 regroup : (key spelled value x : List ℕ) → (key ++ (spelled ++ value)) ++ x ≡ key ++ (spelled ++ (value ++ x))
 regroup key spelled value x = simp append_assoc
@@ -100,13 +130,19 @@ same_front n a b x y p q e =
     (sym (take_at a x n p) ∙ ap (take n) e ∙ take_at b y n q, sym (drop_at a x n p) ∙ ap (drop n) e ∙ drop_at b y n q)
 
 -- two packets at the front of one text are one
-pub same_packet : (a b x y : List ℕ) (p q : PacketParts) → IsSpelledPacket a p → IsSpelledPacket b q → a ++ x ≡ b ++ y → (a ≡ b) × (p ≡ q)
+pub same_packet : (a b x y : List ℕ) (p q : PacketParts) → IsSpelledPacket a p → IsSpelledPacket b q → a ++ x ≡ b ++ y
+    → (a ≡ b) × (p ≡ q)
 same_packet a b x y p q s t e =
-    let left : a ++ x ≡ p.key ++ (s.spelled ++ (p.value ++ x)) = ap (λ (u : List ℕ). u ++ x) s.whole ∙ regroup p.key s.spelled p.value x in
-    let right : b ++ y ≡ q.key ++ (t.spelled ++ (q.value ++ y)) = ap (λ (u : List ℕ). u ++ y) t.whole ∙ regroup q.key t.spelled q.value y in
-    let keys = same_front 16 p.key q.key (s.spelled ++ (p.value ++ x)) (t.spelled ++ (q.value ++ y)) s.label.0 t.label.0 (sym left ∙ e ∙ right) in
-    let lengths = one_length s.spelled t.spelled (p.value ++ x) (q.value ++ y) p.width (length p.value) q.width (length q.value) s.width t.width keys.1 in
-    let after = same_front (length s.spelled) s.spelled t.spelled (p.value ++ x) (q.value ++ y) refl (ap length (sym lengths.0)) keys.1 in
+    let left : a ++ x ≡ p.key ++ (s.spelled ++ (p.value ++ x)) = ap (λ (u : List ℕ). u ++ x) s.whole
+    ∙ regroup p.key s.spelled p.value x in
+    let right : b ++ y ≡ q.key ++ (t.spelled ++ (q.value ++ y)) = ap (λ (u : List ℕ). u ++ y) t.whole
+    ∙ regroup q.key t.spelled q.value y in
+    let keys = same_front 16 p.key q.key (s.spelled ++ (p.value ++ x))
+    (t.spelled ++ (q.value ++ y)) s.label.0 t.label.0 (sym left ∙ e ∙ right) in
+    let lengths = one_length s.spelled t.spelled (p.value ++ x) (q.value ++ y) p.width (length p.value) q.width
+    (length q.value) s.width t.width keys.1 in
+    let after = same_front (length s.spelled) s.spelled t.spelled (p.value ++ x) (q.value ++ y) refl
+    (ap length (sym lengths.0)) keys.1 in
     let values = same_front (length p.value) p.value q.value x y refl (sym lengths.2) after.1 in
     let texts : a ≡ b = s.whole ∙ rw (keys.0, lengths.0, values.0) refl ∙ sym t.whole in
     (texts, same_parts p.key q.key p.width q.width p.value q.value keys.0 lengths.1 values.0)

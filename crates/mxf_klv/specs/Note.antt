@@ -48,8 +48,8 @@ note_of offset packet = record {
   held = if keeps packet.key (length packet.value) then packet.value else sha256 packet.value;
 }
 
--- A note with these parts can be made: its width can spell its length, it ends at or below the greatest end, and a value
--- of its key and length is kept whole, or isn't, as is said.
+-- A note can be made: its width can spell its length, it ends at or below the greatest end, and a value of its key and
+-- length is kept whole, or isn't, as is said.
 abbrev pub CanNote : NoteParts → Bool → Type 0
 CanNote n whole = CanSpell n.width n.length × (end_of n ≤ greatest_end) × (keeps n.key n.length ≡ whole)
 

@@ -1,5 +1,5 @@
--- Lengths and packets (ST 336, length field and KLV triplet) and notes (this project's profile) as values, without where
--- they lie in memory.
+-- Lengths and packets (ST 336, length field and KLV triplet) and notes (this project's profile) as values, without
+-- where they lie in memory.
 use Rattle.std.specs.Prelude.{◌≡◌, ℕ, ◌-◌, ◌^◌, ◌<◌, ◌≤◌, ◌⊎◌, List}
 
 -- A length: its value, and how many bytes spell it.

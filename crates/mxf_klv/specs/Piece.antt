@@ -24,7 +24,8 @@ AreLaid offset bytes (p ∷ ps) rest =
 -- No packet stands at the front of the bytes that would end at or below the greatest end.
 abbrev pub BeginsWithNone : ℕ → List ℕ → Type 0
 BeginsWithNone offset bytes =
-    (front after : List ℕ) (p : PacketParts) → IsSpelledPacket front p → bytes ≡ front ++ after → greatest_end < offset + size_of p
+    (front after : List ℕ) (p : PacketParts) → IsSpelledPacket front p → bytes ≡ front ++ after
+    → greatest_end < offset + size_of p
 
 -- The packets of a piece and the rest: the packets are laid from the offset on, and the rest begins with none.
 pub record IsPiece (offset : ℕ) (bytes : List ℕ) (packets : List PacketParts) (rest : List ℕ) : Type 0 where

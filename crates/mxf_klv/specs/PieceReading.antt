@@ -1,6 +1,6 @@
 -- The packets of a piece and its stop as functions of its offset and bytes (this project's profile). That they are the
--- packets, the rest and the stop of `Piece`, and that there are no others, say the laws `each_piece_is_read_one_way` and
--- `each_piece_has_one_stop`.
+-- packets, the rest and the stop of `Piece`, and that there are no others, is what the laws
+-- `each_piece_is_read_one_way` and `each_piece_has_one_stop` say.
 use Rattle.std.specs.Prelude.{◌≡◌, ◌<◌, ◌≤◌, ℕ, zero, suc, ◌+◌, ◌-◌, nat_le, nat_lt, nat_eq, Bool, false, ◌&&◌, ◌||◌}
 use Rattle.std.specs.Prelude.{not, if◌then◌else◌, List, [], ◌∷◌, length, take, drop, Option, None, Some}
 use Rattle.std.specs.Option.{option_map_or, option_and_then}

@@ -67,7 +67,7 @@ impl Ber {
     /// The number of bytes that spell the length, 1 to 9.
     pub fn width(&self) -> u8
         ensures width { result ≡ self.now.width }
-        ensures spells { CanSpell self.now.width self.now.value }
+        ensures length { CanSpell self.now.width self.now.value }
     {
         self.width
     }
@@ -149,7 +149,8 @@ pub fn read_ber(bytes: &[u8]) -> Result<Ber, BerFault>
 
 /// A law: what bytes begin with is one thing, a length or one of the faults.
 pub fn one_length_at_front()
-    ensures { (bytes : List ℕ) (r s : Result LengthParts BerFault) → ReadsLength bytes r → ReadsLength bytes s → r ≡ s }
+    ensures { (bytes : List ℕ) (r s : Result LengthParts BerFault)
+        → ReadsLength bytes r → ReadsLength bytes s → r ≡ s }
 {}
 
 /// A law of [`Ber::write_to`](Encode::write_to) and [`read_ber`]: what is written is read back, and what is read is
@@ -158,5 +159,6 @@ pub fn lengths_are_read_as_written()
     ensures read_back { (width value : ℕ) (more : List ℕ) → CanSpell width value
         → ReadsLength (length_bytes width value ++ more) (Ok (record { width = width; value = value })) }
     ensures written_back { (bytes : List ℕ) (width value : ℕ) → AreBytes bytes
-        → ReadsLength bytes (Ok (record { width = width; value = value })) → take width bytes ≡ length_bytes width value }
+        → ReadsLength bytes (Ok (record { width = width; value = value }))
+        → take width bytes ≡ length_bytes width value }
 {}

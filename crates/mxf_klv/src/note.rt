@@ -1,5 +1,6 @@
 //! Notes: what is known of a packet at an offset (this project's profile).
-ghost use Rattle.std.specs.Prelude.{◌≡◌, ◌↔◌, ◌+◌, ◌<◌, ◌≤◌, length, vec_len, true, false, IfOk, IfErr, IsOk, IsErr, IsTrue, IsErrOf};
+ghost use Rattle.std.specs.Prelude.{◌≡◌, ◌↔◌, ◌+◌, ◌<◌, ◌≤◌, length, vec_len, true, false};
+ghost use Rattle.std.specs.Prelude.{IfOk, IfErr, IsOk, IsErr, IsTrue, IsErrOf};
 ghost use Rattle.std.specs.Option.{SomeIff};
 ghost use Rattle.mxf_klv.specs.Parts.{CanSpell, NoteParts, note_parts};
 ghost use Rattle.mxf_klv.specs.Kind.{kind_of};
@@ -48,17 +49,17 @@ pub struct Note {
 impl Model for Note {
     ghost use Rattle.std.specs.Prelude.{◌≡◌, ◌+◌, ◌≤◌};
     ghost use Rattle.mxf_klv.specs.Kind.{kind_of};
-    ghost use Rattle.mxf_klv.specs.Parts.{CanSpell, NoteParts};
-
-    ghost Value = { NoteParts };
-
     ghost use Rattle.mxf_klv.specs.Kept.{kept_bytes, IsKeptBy};
     ghost use Rattle.mxf_klv.specs.Label.{IsLabel};
     ghost use Rattle.mxf_klv.specs.Note.{greatest_end};
+    ghost use Rattle.mxf_klv.specs.Parts.{CanSpell, NoteParts, note_parts};
 
-    ghost view = { λ n. record { offset = n.offset; key = n.key; width = n.width; length = n.length; held = kept_bytes n.kept } };
+    ghost Value = { NoteParts };
 
-    ghost invariant = { λ n. IsLabel n.key × CanSpell n.width n.length × (n.offset + 16 + n.width + n.length ≤ greatest_end)
+    ghost view = { λ n. note_parts n.offset n.key n.width n.length (kept_bytes n.kept) };
+
+    ghost invariant = { λ n. IsLabel n.key × CanSpell n.width n.length
+        × (n.offset + 16 + n.width + n.length ≤ greatest_end)
         × (n.kind ≡ kind_of n.key) × IsKeptBy n.kept n.key n.length };
 }
 
@@ -223,7 +224,8 @@ impl Note {
     /// The note that holds this digest of a value of `length` bytes. None where the width can't spell the length, the
     /// packet would end above [`MAX`], or a packet of this key and length keeps its value.
     pub fn digested(offset: u64, key: Ul, width: u8, length: u64, digest: [u8; 32]) -> Option<Note>
-        ensures { SomeIff result (CanNote (note_parts offset key width length digest) false) (note_parts offset key width length digest) }
+        ensures { SomeIff result (CanNote (note_parts offset key width length digest) false)
+            (note_parts offset key width length digest) }
     {
         let kind = kind(&key);
         if !can_note(offset, width, length) || keeps(kind, length) {

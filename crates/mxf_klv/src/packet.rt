@@ -33,7 +33,8 @@ impl<'a> Model for Packet<'a> {
 
     ghost view = { λ p. record { key = p.key; width = p.ber.width; value = p.value.now } };
 
-    ghost invariant = { λ p. IsLabel p.key × (p.ber.value ≡ length p.value.now) × CanSpell p.ber.width (length p.value.now) };
+    ghost invariant = { λ p. IsLabel p.key × (p.ber.value ≡ length p.value.now)
+        × CanSpell p.ber.width (length p.value.now) };
 }
 
 /// Why bytes begin with no packet.
@@ -116,16 +117,18 @@ pub fn read_packet(bytes: &[u8]) -> Result<(Packet<'_>, usize), PacketFault>
 
 /// A law: where two packets, each with any bytes after it, are one text, they are the same packet.
 pub fn one_packet()
-    ensures { (a b x y : List ℕ) (p q : PacketParts) → IsSpelledPacket a p → IsSpelledPacket b q → a ++ x ≡ b ++ y → (a ≡ b) × (p ≡ q) }
+    ensures { (a b x y : List ℕ) (p q : PacketParts) → IsSpelledPacket a p → IsSpelledPacket b q
+        → a ++ x ≡ b ++ y → (a ≡ b) × (p ≡ q) }
 {}
 
 /// A law: what bytes begin with is one thing, a packet or one of the faults.
 pub fn one_reading()
-    ensures { (bytes : List ℕ) (r s : Result (PacketParts × ℕ) PacketFault) → ReadsPacket bytes r → ReadsPacket bytes s → r ≡ s }
+    ensures { (bytes : List ℕ) (r s : Result (PacketParts × ℕ) PacketFault)
+        → ReadsPacket bytes r → ReadsPacket bytes s → r ≡ s }
 {}
 
-/// A law of [`Packet::write_to`](Encode::write_to) and [`read_packet`]: what is written is read back, and what is read is
-/// written as it stood.
+/// A law of [`Packet::write_to`](Encode::write_to) and [`read_packet`]: what is written is read back, and what is read
+/// is written as it stood.
 pub fn packets_are_read_as_written()
     ensures read_back { (packet : PacketParts) (more : List ℕ) → IsPacket packet
         → ReadsPacket (packet_bytes packet ++ more) (Ok (packet, size_of packet)) }

@@ -5,7 +5,8 @@ ghost use Rattle.mxf_klv.specs.Ber.{ReadsLength};
 ghost use Rattle.mxf_klv.specs.Packet.{size_of};
 ghost use Rattle.mxf_klv.specs.declared.piece.Stop.{Stop};
 ghost use Rattle.mxf_klv.specs.Piece.{BeginsWithNone, IsPiece, IsStop, end_after};
-ghost use Rattle.mxf_klv.specs.PieceReading.{EndsAt, GoesOn, length_at, packet_at, packets_in, rest_in, stop_in, stop_of};
+ghost use Rattle.mxf_klv.specs.PieceReading.{EndsAt, GoesOn, length_at, packet_at, packets_in, rest_in};
+ghost use Rattle.mxf_klv.specs.PieceReading.{stop_in, stop_of};
 
 use crate::note::MAX;
 use crate::packet::head::Head;
@@ -57,17 +58,19 @@ pub fn next_packet(offset: u64, bytes: &[u8]) -> Result<(Packet<'_>, usize), Sto
 
 /// A law: each piece has exactly one list of packets and one rest, those that `packets_in` and `rest_in` give.
 pub fn each_piece_is_read_one_way()
-    ensures some { (offset : ℕ) (bytes : List ℕ) → IsPiece offset bytes (packets_in offset bytes) (rest_in offset bytes) }
+    ensures some { (offset : ℕ) (bytes : List ℕ)
+        → IsPiece offset bytes (packets_in offset bytes) (rest_in offset bytes) }
     ensures one { (offset : ℕ) (bytes : List ℕ) (packets : List PacketParts) (rest : List ℕ)
         → IsPiece offset bytes packets rest → (packets ≡ packets_in offset bytes) × (rest ≡ rest_in offset bytes) }
 {}
 
-/// A law: each piece ends with exactly one stop, that of its rest, and a rest that begins with no packet that ends at or
-/// below [`MAX`] has exactly one, the one that `stop_of` gives.
+/// A law: each piece has exactly one stop, that of its rest; and `stop_of` gives the one stop of a rest that begins with
+/// no packet that ends at or below [`MAX`]. The length that it looks at is the one that `ReadsLength` tells.
 pub fn each_piece_has_one_stop()
     ensures rest { (offset : ℕ) (rest : List ℕ) (stop : Stop) → BeginsWithNone offset rest
         → (stop_of offset rest ≡ stop) ↔ IsStop offset rest stop }
     ensures piece { (offset : ℕ) (bytes : List ℕ) (packets : List PacketParts) (rest : List ℕ) (stop : Stop)
-        → IsPiece offset bytes packets rest → (stop_in offset bytes ≡ stop) ↔ IsStop (end_after offset packets) rest stop }
+        → IsPiece offset bytes packets rest
+        → (stop_in offset bytes ≡ stop) ↔ IsStop (end_after offset packets) rest stop }
     ensures length { (bytes : List ℕ) (l : LengthParts) → (length_at bytes ≡ Some l) ↔ ReadsLength bytes (Ok l) }
 {}
