@@ -1,7 +1,10 @@
 pub mod LengthLemmas
+pub mod HeadLemmas
 pub mod PacketLemmas
 pub mod PacketLaw
 pub mod WrittenParts
 pub mod PieceLaws
+pub mod StopLaws
 pub mod Keeping
 pub mod RoundTrips
+pub mod RisingLemmas

@@ -1,17 +1,20 @@
 -- What bytes begin with is one thing: a packet, or one of the faults.
-use Rattle.std.proofs.Common.{◌≡◌, ℕ, ◌≤◌, List, [], ◌∷◌, ◌++◌, length, take, drop, Result, Ok, Err, refl, sym, ap, subst, ◌∙◌, arith, inl, inr, length-append, append_assoc}
+use Rattle.std.proofs.Common.{◌≡◌, ℕ, ◌≤◌, List, [], ◌∷◌, ◌++◌, length, take, drop, Result, Ok, Err, refl, sym, ap}
+use Rattle.std.proofs.Common.{subst, ◌∙◌, arith, inl, inr, length-append, append_assoc}
 use Rattle.std.proofs.lemmas.Bool.{cases_lt}
-use Rattle.std.proofs.lemmas.List.{take_at, drop_at, take_all, take-take, take-append-drop, take-append-le, length-take, append-nil, drop-append-le}
+use Rattle.std.proofs.lemmas.List.{take_at, take_all, take-take, take-append-drop, take-append-le}
+use Rattle.std.proofs.lemmas.List.{length-take, append-nil, drop-append-le}
 use Rattle.std.proofs.Math.ListN.{drop_of_length-le}
-use Rattle.mxf_klv.specs.declared.lengths.BerFault.{BerFault}
-use Rattle.mxf_klv.specs.declared.lengths.BerFault.TheVariants as lengths
-use Rattle.mxf_klv.specs.declared.faults.PacketFault.{PacketFault}
-use Rattle.mxf_klv.specs.declared.faults.PacketFault.TheVariants as faults
+use Rattle.mxf_klv.specs.declared.ber.BerFault.{BerFault}
+use Rattle.mxf_klv.specs.declared.ber.BerFault.TheVariants as lengths
+use Rattle.mxf_klv.specs.declared.packet.PacketFault.{PacketFault}
+use Rattle.mxf_klv.specs.declared.packet.PacketFault.TheVariants as faults
 use Rattle.mxf_klv.specs.Parts.{LengthParts, PacketParts}
 use Rattle.mxf_klv.specs.Label.{label_start, BeginsAsLabel}
-use Rattle.mxf_klv.specs.Ber.{IsSpelledLength, ReadsLength}
+use Rattle.mxf_klv.specs.Ber.{ReadsLength}
 use Rattle.mxf_klv.specs.Packet.{IsSpelledPacket, IsCutPacket, ReadsPacket}
 use Rattle.mxf_klv.proofs.LengthLemmas.{one_reading}
+use Rattle.mxf_klv.proofs.HeadLemmas.{head_in, head-length}
 use Rattle.mxf_klv.proofs.PacketLemmas.{same_packet}
 
 -- what begins a text that begins as a label begins as a label
@@ -20,29 +23,20 @@ begins_front bytes more e =
     elim (cases_lt (length bytes) 4) [
       | inl short ↦
           let front : take (length bytes) (bytes ++ more) ≡ bytes = take_at bytes more (length bytes) refl in
-          take_all 4 bytes (omega arith) ∙ sym front ∙ sym (take-take (length bytes) 4 (bytes ++ more) (omega arith)) ∙ ap (take (length bytes)) e
+          take_all 4 bytes (omega arith) ∙ sym front ∙ sym (take-take (length bytes) 4 (bytes ++ more) (omega arith))
+          ∙ ap (take (length bytes)) e
       | inr long ↦ sym (take-append-le 4 bytes more long) ∙ e ∙ sym (take_all (length bytes) label_start long)
     ]
 
 start4 : (text rest : List ℕ) (p : PacketParts) → IsSpelledPacket text p → take 4 (text ++ rest) ≡ label_start
 start4 text rest p s =
-    let front : text ++ rest ≡ p.key ++ ((s.spelled ++ p.value) ++ rest) = ap (λ (t : List ℕ). t ++ rest) s.whole ∙ append_assoc p.key (s.spelled ++ p.value) rest in
+    let front : text ++ rest ≡ p.key ++ ((s.spelled ++ p.value) ++ rest) = ap (λ (t : List ℕ). t ++ rest) s.whole
+    ∙ append_assoc p.key (s.spelled ++ p.value) rest in
     ap (take 4) front ∙ take-append-le 4 p.key ((s.spelled ++ p.value) ++ rest) (omega (arith, s.label.0)) ∙ s.label.1
 
-pub spelled_len : (spelled : List ℕ) (w v : ℕ) → IsSpelledLength spelled w v → length spelled ≡ w
-spelled_len [] w v p = absurd p
-spelled_len (f ∷ rest) w v p = elim p [ inl s ↦ (let len : length rest ≡ 0 = ap length s.3 in omega arith) | inr s ↦ omega arith ]
-
--- the length that stands at place 16 of a packet
-pub length_in : (text rest : List ℕ) (p : PacketParts) → IsSpelledPacket text p → ReadsLength (drop 16 (text ++ rest)) (Ok (record { width = p.width; value = length p.value }))
-length_in text rest p s =
-    let front : text ++ rest ≡ p.key ++ (s.spelled ++ (p.value ++ rest)) = ap (λ (t : List ℕ). t ++ rest) s.whole ∙ append_assoc p.key (s.spelled ++ p.value) rest ∙ ap (λ (t : List ℕ). p.key ++ t) (append_assoc s.spelled p.value rest) in
-    let after : drop 16 (text ++ rest) ≡ s.spelled ++ (p.value ++ rest) = ap (drop 16) front ∙ drop_at p.key (s.spelled ++ (p.value ++ rest)) 16 s.label.0 in
-    let spelled : take p.width (drop 16 (text ++ rest)) ≡ s.spelled = ap (take p.width) after ∙ take_at s.spelled (p.value ++ rest) p.width (spelled_len s.spelled p.width (length p.value) s.width) in
-    subst (λ (t : List ℕ). IsSpelledLength t p.width (length p.value)) (sym spelled) s.width
-
 -- a fault of the first byte alone stays, whatever follows
-stays : (xs more : List ℕ) (e : BerFault) → (e ≡ lengths.Short → ⊥) → ReadsLength xs (Err e) → ReadsLength (xs ++ more) (Err e)
+stays : (xs more : List ℕ) (e : BerFault) → (e ≡ lengths.Short → ⊥) → ReadsLength xs (Err e) → ReadsLength
+    (xs ++ more) (Err e)
 stays xs more lengths.Short n p = absurd (n refl)
 stays [] more lengths.Indefinite n p = absurd cc
 stays (f ∷ rest) more lengths.Indefinite n p = p
@@ -57,7 +51,9 @@ none_empty lengths.TooWide n p = p
 some_long : (xs : List ℕ) (e : BerFault) → (e ≡ lengths.Short → ⊥) → ReadsLength (drop 16 xs) (Err e) → 16 ≤ length xs
 some_long xs e n p =
     elim (cases_lt (length xs) 16) [
-      | inl short ↦ absurd (none_empty e n (subst (λ (t : List ℕ). ReadsLength t (Err e)) (drop_of_length-le xs {i = 16} (omega arith)) p))
+      | inl short ↦ absurd
+          (none_empty e n (subst (λ (t : List ℕ). ReadsLength t (Err e))
+          (drop_of_length-le xs {i = 16} (omega arith)) p))
       | inr long ↦ long
     ]
 
@@ -65,40 +61,56 @@ two_lengths : (xs : List ℕ) (l : LengthParts) (e : BerFault) → ReadsLength x
 two_lengths xs l e p q = let same = one_reading xs (Ok l) (Err e) p q in cc
 
 -- where a packet stands there is no fault of its length
-no_fault : (text rest bytes : List ℕ) (p : PacketParts) (e : BerFault) → text ++ rest ≡ bytes → IsSpelledPacket text p → ReadsLength (drop 16 bytes) (Err e) → ⊥
+no_fault : (text rest bytes : List ℕ) (p : PacketParts) (e : BerFault) → text ++ rest ≡ bytes → IsSpelledPacket text p
+    → ReadsLength (drop 16 bytes) (Err e) → ⊥
 no_fault text rest bytes p e is s q =
-    two_lengths (drop 16 bytes) (record { width = p.width; value = length p.value }) e (subst (λ (t : List ℕ). ReadsLength (drop 16 t) (Ok (record { width = p.width; value = length p.value }))) is (length_in text rest p s)) q
+    two_lengths (drop 16 bytes) (record { width = p.width; value = length p.value }) e
+    (subst (λ (t : List ℕ). ReadsLength (drop 16 t) (Ok (record { width = p.width; value = length p.value }))) is
+    (head-length (head_in text rest p s))) q
 
 -- nor in the beginning of one
-no_fault_cut : (bytes : List ℕ) (e : BerFault) → (e ≡ lengths.Short → ⊥) → IsCutPacket bytes → ReadsLength (drop 16 bytes) (Err e) → ⊥
+pub no_fault_cut : (bytes : List ℕ) (e : BerFault) → (e ≡ lengths.Short → ⊥) → IsCutPacket bytes → ReadsLength
+    (drop 16 bytes) (Err e) → ⊥
 no_fault_cut bytes e n c q =
     let long = some_long bytes e n q in
-    let more : ReadsLength (drop 16 (bytes ++ c.more)) (Err e) = subst (λ (t : List ℕ). ReadsLength t (Err e)) (sym (drop-append-le 16 bytes c.more long)) (stays (drop 16 bytes) c.more e n q) in
+    let more : ReadsLength (drop 16 (bytes ++ c.more)) (Err e) = subst (λ (t : List ℕ). ReadsLength t (Err e))
+    (sym (drop-append-le 16 bytes c.more long)) (stays (drop 16 bytes) c.more e n q) in
     no_fault (bytes ++ c.more) [] (bytes ++ c.more) c.packet e (append-nil (bytes ++ c.more)) c.spells more
 
 ok_begins : (bytes : List ℕ) (p : PacketParts) (size : ℕ) → IsSpelledPacket (take size bytes) p → BeginsAsLabel bytes
 ok_begins bytes p size s =
-    begins_front bytes [] (ap (take 4) (append-nil bytes ∙ sym (take-append-drop size bytes)) ∙ start4 (take size bytes) (drop size bytes) p s)
+    begins_front bytes []
+    (ap (take 4) (append-nil bytes ∙ sym (take-append-drop size bytes)) ∙ start4 (take size bytes)
+    (drop size bytes) p s)
 
-cut_begins : (bytes : List ℕ) → IsCutPacket bytes → BeginsAsLabel bytes
-cut_begins bytes c = begins_front bytes c.more (ap (take 4) (sym (append-nil (bytes ++ c.more))) ∙ start4 (bytes ++ c.more) [] c.packet c.spells)
+pub cut_begins : (bytes : List ℕ) → IsCutPacket bytes → BeginsAsLabel bytes
+cut_begins bytes c = begins_front bytes c.more
+    (ap (take 4) (sym (append-nil (bytes ++ c.more))) ∙ start4 (bytes ++ c.more) [] c.packet c.spells)
 
 -- a whole packet is not the beginning of another
-not_cut : (bytes : List ℕ) (p : PacketParts) (size : ℕ) → size ≤ length bytes → IsSpelledPacket (take size bytes) p → IsCutPacket bytes → ⊥
+not_cut : (bytes : List ℕ) (p : PacketParts) (size : ℕ) → size ≤ length bytes → IsSpelledPacket (take size bytes) p
+    → IsCutPacket bytes → ⊥
 not_cut bytes p size within s c =
-    let whole : take size bytes ++ (drop size bytes ++ c.more) ≡ (bytes ++ c.more) ++ [] = sym (append_assoc (take size bytes) (drop size bytes) c.more) ∙ ap (λ (t : List ℕ). t ++ c.more) (take-append-drop size bytes) ∙ sym (append-nil (bytes ++ c.more)) in
-    let same = same_packet (take size bytes) (bytes ++ c.more) (drop size bytes ++ c.more) [] p c.packet s c.spells whole in
+    let whole : take size bytes ++ (drop size bytes ++ c.more) ≡ (bytes ++ c.more) ++ [] = sym
+    (append_assoc (take size bytes) (drop size bytes) c.more) ∙ ap (λ (t : List ℕ). t ++ c.more)
+    (take-append-drop size bytes) ∙ sym (append-nil (bytes ++ c.more)) in
+    let same = same_packet (take size bytes) (bytes ++ c.more)
+    (drop size bytes ++ c.more) [] p c.packet s c.spells whole in
     let lens = ap length same.0 in
     let some = c.some in
     omega (arith, lens, length-take size bytes, length-append bytes c.more)
 
-ok_excludes : (bytes : List ℕ) (p : PacketParts) (size : ℕ) → size ≤ length bytes → IsSpelledPacket (take size bytes) p → (e : PacketFault) → ReadsPacket bytes (Err e) → ⊥
+ok_excludes : (bytes : List ℕ) (p : PacketParts) (size : ℕ) → size ≤ length bytes → IsSpelledPacket
+    (take size bytes) p → (e : PacketFault) → ReadsPacket bytes (Err e) → ⊥
 ok_excludes bytes p size within s faults.NotUl q = q (ok_begins bytes p size s)
-ok_excludes bytes p size within s faults.Indefinite q = no_fault (take size bytes) (drop size bytes) bytes p lengths.Indefinite (take-append-drop size bytes) s q.1
-ok_excludes bytes p size within s faults.TooWide q = no_fault (take size bytes) (drop size bytes) bytes p lengths.TooWide (take-append-drop size bytes) s q.1
+ok_excludes bytes p size within s faults.Indefinite q = no_fault (take size bytes)
+    (drop size bytes) bytes p lengths.Indefinite (take-append-drop size bytes) s q.1
+ok_excludes bytes p size within s faults.TooWide q = no_fault (take size bytes)
+    (drop size bytes) bytes p lengths.TooWide (take-append-drop size bytes) s q.1
 ok_excludes bytes p size within s faults.Short q = not_cut bytes p size within s q
 
-other_faults : (bytes : List ℕ) → ReadsLength (drop 16 bytes) (Err lengths.Indefinite) → ReadsLength (drop 16 bytes) (Err lengths.TooWide) → ⊥
+other_faults : (bytes : List ℕ) → ReadsLength (drop 16 bytes) (Err lengths.Indefinite) → ReadsLength (drop 16 bytes)
+    (Err lengths.TooWide) → ⊥
 other_faults bytes p q = let same = one_reading (drop 16 bytes) (Err lengths.Indefinite) (Err lengths.TooWide) p q in cc
 
 one_fault : (bytes : List ℕ) (d e : PacketFault) → ReadsPacket bytes (Err d) → ReadsPacket bytes (Err e) → d ≡ e
@@ -125,9 +137,11 @@ ok p n = Ok (p, n)
 same_ok : (p q : PacketParts) (m n : ℕ) → p ≡ q → m ≡ n → ok p m ≡ ok q n
 same_ok p q m n e f = rw (e, f) refl
 
-pub one_packet_reading : (bytes : List ℕ) (r s : Result (PacketParts × ℕ) PacketFault) → ReadsPacket bytes r → ReadsPacket bytes s → r ≡ s
+pub one_packet_reading : (bytes : List ℕ) (r s : Result (PacketParts × ℕ) PacketFault) → ReadsPacket bytes r
+    → ReadsPacket bytes s → r ≡ s
 one_packet_reading bytes (Ok (p, m)) (Ok (q, n)) s t =
-    let same = same_packet (take m bytes) (take n bytes) (drop m bytes) (drop n bytes) p q s.1 t.1 (take-append-drop m bytes ∙ sym (take-append-drop n bytes)) in
+    let same = same_packet (take m bytes) (take n bytes) (drop m bytes) (drop n bytes) p q s.1 t.1
+    (take-append-drop m bytes ∙ sym (take-append-drop n bytes)) in
     let lens = ap length same.0 in
     let within = s.0 in
     let within' = t.0 in
@@ -135,7 +149,3 @@ one_packet_reading bytes (Ok (p, m)) (Ok (q, n)) s t =
 one_packet_reading bytes (Ok (p, m)) (Err e) s t = absurd (ok_excludes bytes p m s.0 s.1 e t)
 one_packet_reading bytes (Err d) (Ok (q, n)) s t = absurd (ok_excludes bytes q n t.0 t.1 d s)
 one_packet_reading bytes (Err d) (Err e) s t = ap (λ (x : PacketFault). Err x) (one_fault bytes d e s t)
-
--- a packet, and bytes after it, begin as a label
-pub begins_of : (text rest : List ℕ) (p : PacketParts) → IsSpelledPacket text p → BeginsAsLabel (text ++ rest)
-begins_of text rest p s = begins_front (text ++ rest) [] (ap (take 4) (append-nil (text ++ rest)) ∙ start4 text rest p s)

@@ -1,10 +1,11 @@
 -- Facts on packets and what bytes begin with.
-use Rattle.std.proofs.Common.{◌≡◌, ℕ, suc, ◌+◌, ◌-◌, ◌<◌, ◌≤◌, List, [], ◌∷◌, ◌++◌, length, take, drop, replicate, Err, refl, sym, ap, subst, ◌∙◌, arith, inl, length-append, append_assoc}
-use Rattle.std.proofs.Math.Seq.{take-add}
-use Rattle.std.proofs.lemmas.List.{take_at, drop_at, take_all, take-take, take-append-drop, length-take, length-replicate, append-nil}
+use Rattle.std.proofs.Common.{◌≡◌, ℕ, suc, ◌+◌, ◌-◌, ◌<◌, ◌≤◌, List, [], ◌∷◌, ◌++◌, length, take, drop, replicate}
+use Rattle.std.proofs.Common.{Err, refl, sym, ap, subst, ◌∙◌, arith, inl, length-append, append_assoc}
+use Rattle.std.proofs.lemmas.List.{take_at, drop_at, take_all, take-take, take-append-drop, length-take}
+use Rattle.std.proofs.lemmas.List.{length-replicate, append-nil}
 use Rattle.byteorder.specs.Endian.{big_number}
-use Rattle.mxf_klv.specs.declared.lengths.BerFault.{BerFault}
-use Rattle.mxf_klv.specs.declared.lengths.BerFault.TheVariants as lengths
+use Rattle.mxf_klv.specs.declared.ber.BerFault.{BerFault}
+use Rattle.mxf_klv.specs.declared.ber.BerFault.TheVariants as lengths
 use Rattle.mxf_klv.specs.Parts.{PacketParts}
 use Rattle.mxf_klv.specs.Label.{label_start, IsLabel, BeginsAsLabel}
 use Rattle.mxf_klv.specs.Ber.{IsSpelledLength, IsCutLength, ReadsLength}
@@ -19,46 +20,15 @@ same_parts k l w x u v p q r = rw (p, q, r) refl
 
 -- the first sixteen of bytes that begin as a label
 pub label_of : (bytes : List ℕ) → BeginsAsLabel bytes → 16 ≤ length bytes → IsLabel (take 16 bytes)
-label_of bytes h long =
-    (omega (arith, length-take 16 bytes), take-take 4 16 bytes (omega arith) ∙ h ∙ take_all (length bytes) label_start (omega arith))
-
--- the packet at the front of bytes that begin as a label
-pub packet_found : (bytes : List ℕ) (w n : ℕ) → BeginsAsLabel bytes → 16 ≤ length bytes → IsSpelledLength (take w (drop 16 bytes)) w n → n ≤ length (drop w (drop 16 bytes)) → IsSpelledPacket (take (16 + w + n) bytes) (record { key = take 16 bytes; width = w; value = take n (drop w (drop 16 bytes)) })
-packet_found bytes w n h long spells room =
-    let len : length (take n (drop w (drop 16 bytes))) ≡ n = omega (arith, length-take n (drop w (drop 16 bytes))) in
-    record {
-      spelled = take w (drop 16 bytes);
-      label = label_of bytes h long;
-      width = rw len spells;
-      whole = (let e : 16 + w + n ≡ 16 + (w + n) = omega arith in rw e (take-add 16 (w + n) bytes)) ∙ ap (λ (t : List ℕ). take 16 bytes ++ t) (take-add w n (drop 16 bytes));
-    }
-
-joined : (bytes more : List ℕ) (w : ℕ) → bytes ++ more ≡ take 16 bytes ++ (take w (drop 16 bytes) ++ (drop w (drop 16 bytes) ++ more))
-joined bytes more w =
-    let whole : bytes ≡ take 16 bytes ++ (take w (drop 16 bytes) ++ drop w (drop 16 bytes)) = sym (take-append-drop 16 bytes) ∙ ap (λ (t : List ℕ). take 16 bytes ++ t) (sym (take-append-drop w (drop 16 bytes))) in
-    ap (λ (t : List ℕ). t ++ more) whole ∙ append_assoc (take 16 bytes) (take w (drop 16 bytes) ++ drop w (drop 16 bytes)) more ∙ ap (λ (t : List ℕ). take 16 bytes ++ t) (append_assoc (take w (drop 16 bytes)) (drop w (drop 16 bytes)) more)
-
--- fewer bytes than the length says
-pub value_cut : (bytes : List ℕ) (w n : ℕ) → BeginsAsLabel bytes → 16 ≤ length bytes → IsSpelledLength (take w (drop 16 bytes)) w n → length (drop w (drop 16 bytes)) < n → IsCutPacket bytes
-value_cut bytes w n h long spells room =
-    let held = drop w (drop 16 bytes) in
-    let more = replicate (n - length held) 0 in
-    let lens : length more ≡ n - length held = length-replicate (n - length held) 0 in
-    let len : length (held ++ more) ≡ n = omega (arith, length-append held more) in
-    record {
-      more = more;
-      packet = record { key = take 16 bytes; width = w; value = held ++ more };
-      some = omega arith;
-      spells = record {
-        spelled = take w (drop 16 bytes);
-        label = label_of bytes h long;
-        width = rw len spells;
-        whole = joined bytes more w;
-      };
-    }
+label_of bytes h long = (
+  omega (arith, length-take 16 bytes),
+  take-take 4 16 bytes (omega arith) ∙ h ∙ take_all (length bytes) label_start
+      (omega arith),
+)
 
 -- a length that is cut, where one follows that could be whole
-length_cut_cons : (bytes : List ℕ) (f : ℕ) (rest : List ℕ) (n : ℕ) → BeginsAsLabel bytes → 16 ≤ length bytes → drop 16 bytes ≡ f ∷ rest → f ≡ 129 + n → n ≤ 7 → length rest < suc n → IsCutPacket bytes
+length_cut_cons : (bytes : List ℕ) (f : ℕ) (rest : List ℕ) (n : ℕ) → BeginsAsLabel bytes → 16 ≤ length bytes
+    → drop 16 bytes ≡ f ∷ rest → f ≡ 129 + n → n ≤ 7 → length rest < suc n → IsCutPacket bytes
 length_cut_cons bytes f rest n h long is high low cut =
     let pad = replicate (suc n - length rest) 0 in
     let pads : length pad ≡ suc n - length rest = length-replicate (suc n - length rest) 0 in
@@ -66,7 +36,9 @@ length_cut_cons bytes f rest n h long is high low cut =
     let v = big_number (suc n) (rest ++ pad) in
     let value = replicate v 0 in
     let len : length value ≡ v = length-replicate v 0 in
-    let spells : IsSpelledLength (f ∷ (rest ++ pad)) (suc (suc n)) v = subst (λ (t : List ℕ). IsSpelledLength (f ∷ t) (suc (suc n)) v) (take_all (suc n) (rest ++ pad) (omega arith)) (wide_found_cons f (rest ++ pad) n high low (omega arith)) in
+    let spells : IsSpelledLength (f ∷ (rest ++ pad)) (suc (suc n)) v = subst
+    (λ (t : List ℕ). IsSpelledLength (f ∷ t) (suc (suc n)) v) (take_all (suc n) (rest ++ pad) (omega arith))
+    (wide_found_cons f (rest ++ pad) n high low (omega arith)) in
     record {
       more = pad ++ value;
       packet = record { key = take 16 bytes; width = suc (suc n); value = value };
@@ -75,11 +47,15 @@ length_cut_cons bytes f rest n h long is high low cut =
         spelled = f ∷ (rest ++ pad);
         label = label_of bytes h long;
         width = rw len spells;
-        whole = ap (λ (t : List ℕ). t ++ (pad ++ value)) (sym (take-append-drop 16 bytes) ∙ ap (λ (t : List ℕ). take 16 bytes ++ t) is) ∙ append_assoc (take 16 bytes) (f ∷ rest) (pad ++ value) ∙ ap (λ (t : List ℕ). take 16 bytes ++ (f ∷ t)) (sym (append_assoc rest pad value));
+        whole = ap (λ (t : List ℕ). t ++ (pad ++ value))
+            (sym (take-append-drop 16 bytes) ∙ ap (λ (t : List ℕ). take 16 bytes ++ t) is) ∙ append_assoc
+            (take 16 bytes) (f ∷ rest) (pad ++ value) ∙ ap (λ (t : List ℕ). take 16 bytes ++ (f ∷ t))
+            (sym (append_assoc rest pad value));
       };
     }
 
-pub length_cut : (bytes tail : List ℕ) → drop 16 bytes ≡ tail → BeginsAsLabel bytes → 16 ≤ length bytes → IsCutLength tail → IsCutPacket bytes
+pub length_cut : (bytes tail : List ℕ) → drop 16 bytes ≡ tail → BeginsAsLabel bytes → 16 ≤ length bytes
+    → IsCutLength tail → IsCutPacket bytes
 length_cut bytes [] is h long cut = record {
   more = 0 ∷ [];
   packet = record { key = take 16 bytes; width = 1; value = [] };
@@ -88,14 +64,16 @@ length_cut bytes [] is h long cut = record {
     spelled = 0 ∷ [];
     label = label_of bytes h long;
     width = inl (refl, omega arith, refl, refl);
-    whole = ap (λ (t : List ℕ). t ++ (0 ∷ [])) (sym (take-append-drop 16 bytes) ∙ ap (λ (t : List ℕ). take 16 bytes ++ t) is ∙ append-nil (take 16 bytes));
+    whole = ap (λ (t : List ℕ). t ++ (0 ∷ []))
+        (sym (take-append-drop 16 bytes) ∙ ap (λ (t : List ℕ). take 16 bytes ++ t) is ∙ append-nil (take 16 bytes));
   };
 }
 length_cut bytes (f ∷ rest) is h long cut =
     length_cut_cons bytes f rest (f - 129) h long is (omega arith) (omega arith) (omega arith)
 
 -- what a fault of the length is for the packet
-pub length_fault : (bytes : List ℕ) (e : BerFault) → BeginsAsLabel bytes → 16 ≤ length bytes → ReadsLength (drop 16 bytes) (Err e) → ReadsPacket bytes (Err (packet_fault e))
+pub length_fault : (bytes : List ℕ) (e : BerFault) → BeginsAsLabel bytes → 16 ≤ length bytes → ReadsLength
+    (drop 16 bytes) (Err e) → ReadsPacket bytes (Err (packet_fault e))
 length_fault bytes lengths.Short h long p = length_cut bytes (drop 16 bytes) refl h long p
 length_fault bytes lengths.Indefinite h long p = (h, p)
 length_fault bytes lengths.TooWide h long p = (h, p)
@@ -117,33 +95,31 @@ cut_at_key bytes key more label is = record {
 -- fewer bytes than a key has
 pub key_cut : (bytes : List ℕ) → BeginsAsLabel bytes → length bytes < 16 → IsCutPacket bytes
 key_cut [] h short = cut_at_key [] (label_start ++ replicate 12 0) (label_start ++ replicate 12 0) (refl, refl) refl
-key_cut (a ∷ []) h short = cut_at_key (a ∷ []) (a ∷ drop 1 (label_start ++ replicate 12 0)) (drop 1 (label_start ++ replicate 12 0)) (refl, (let g : a ∷ [] ≡ 0x06 ∷ [] = h in let is : a ≡ 0x06 = cc in rw is refl)) refl
-key_cut (a ∷ b ∷ []) h short = cut_at_key (a ∷ b ∷ []) (a ∷ b ∷ drop 2 (label_start ++ replicate 12 0)) (drop 2 (label_start ++ replicate 12 0)) (refl, (let g : a ∷ b ∷ [] ≡ 0x06 ∷ 0x0E ∷ [] = h in let is : a ≡ 0x06 = cc in let is2 : b ≡ 0x0E = cc in rw (is, is2) refl)) refl
-key_cut (a ∷ b ∷ c ∷ []) h short = cut_at_key (a ∷ b ∷ c ∷ []) (a ∷ b ∷ c ∷ drop 3 (label_start ++ replicate 12 0)) (drop 3 (label_start ++ replicate 12 0)) (refl, (let g : a ∷ b ∷ c ∷ [] ≡ 0x06 ∷ 0x0E ∷ 0x2B ∷ [] = h in let is : a ≡ 0x06 = cc in let is2 : b ≡ 0x0E = cc in let is3 : c ≡ 0x2B = cc in rw (is, is2, is3) refl)) refl
+key_cut (a ∷ []) h short = cut_at_key (a ∷ []) (a ∷ drop 1 (label_start ++ replicate 12 0))
+    (drop 1 (label_start ++ replicate 12 0))
+    (refl, (let g : a ∷ [] ≡ 0x06 ∷ [] = h in let is : a ≡ 0x06 = cc in rw is refl)) refl
+key_cut (a ∷ b ∷ []) h short = cut_at_key (a ∷ b ∷ []) (a ∷ b ∷ drop 2 (label_start ++ replicate 12 0))
+    (drop 2 (label_start ++ replicate 12 0)) (
+      refl,
+      (let g : a ∷ b ∷ [] ≡ 0x06 ∷ 0x0E ∷ [] = h in let is : a ≡ 0x06 = cc in let is2 : b ≡ 0x0E = cc in rw
+          (is, is2) refl),
+    ) refl
+key_cut (a ∷ b ∷ c ∷ []) h short = cut_at_key (a ∷ b ∷ c ∷ []) (a ∷ b ∷ c ∷ drop 3 (label_start ++ replicate 12 0))
+    (drop 3 (label_start ++ replicate 12 0)) (
+      refl,
+      (let g : a ∷ b ∷ c ∷ [] ≡ 0x06 ∷ 0x0E ∷ 0x2B ∷ [] = h in let is : a ≡ 0x06 = cc in let is2 : b ≡ 0x0E =
+          cc in let is3 : c ≡ 0x2B = cc in rw (is, is2, is3) refl),
+    ) refl
 key_cut (a ∷ b ∷ c ∷ d ∷ rest) h short =
     let more : List ℕ = replicate (16 - length (a ∷ b ∷ c ∷ d ∷ rest)) 0 in
-    let lens : length more ≡ 16 - length (a ∷ b ∷ c ∷ d ∷ rest) = length-replicate (16 - length (a ∷ b ∷ c ∷ d ∷ rest)) 0 in
-    let all : take (length (a ∷ b ∷ c ∷ d ∷ rest)) label_start ≡ label_start = take_all (length (a ∷ b ∷ c ∷ d ∷ rest)) label_start (omega arith) in
-    cut_at_key (a ∷ b ∷ c ∷ d ∷ rest) ((a ∷ b ∷ c ∷ d ∷ rest) ++ more) more (omega (arith, length-append (a ∷ b ∷ c ∷ d ∷ rest) more), (let e : take 4 (a ∷ b ∷ c ∷ d ∷ rest) ≡ label_start = h ∙ all in e)) refl
-
--- the exits of the reader: what stands at place 16
-pub fault_at : (bytes rest : List ℕ) (e : BerFault) → rest ≡ drop 16 bytes → length rest + 16 ≡ length bytes → BeginsAsLabel bytes → ReadsLength rest (Err e) → ReadsPacket bytes (Err (packet_fault e))
-fault_at bytes rest e is len h p = length_fault bytes e h (omega arith) (subst (λ (t : List ℕ). ReadsLength t (Err e)) is p)
-
-pub cut_at : (bytes rest after : List ℕ) (w n : ℕ) → rest ≡ drop 16 bytes → after ≡ drop w rest → length rest + 16 ≡ length bytes → BeginsAsLabel bytes → IsSpelledLength (take w rest) w n → length after < n → IsCutPacket bytes
-cut_at bytes rest after w n is is' len h p short = value_cut bytes w n h (omega arith) (subst (λ (t : List ℕ). IsSpelledLength (take w t) w n) is p) (subst (λ (t : List ℕ). length t < n) (is' ∙ ap (drop w) is) short)
-
-pub found_at : (bytes start rest after value : List ℕ) (w n : ℕ) → start ≡ take 16 bytes → rest ≡ drop 16 bytes → after ≡ drop w rest → value ≡ take n after → length rest + 16 ≡ length bytes → length after + w ≡ length rest → BeginsAsLabel bytes → IsSpelledLength (take w rest) w n → n ≤ length after → (16 + w + n ≤ length bytes) × IsSpelledPacket (take (16 + w + n) bytes) (record { key = start; width = w; value = value })
-found_at bytes start rest after value w n start-is rest-is after-is value-is len more h p room =
-    let place : after ≡ drop w (drop 16 bytes) = after-is ∙ ap (drop w) rest-is in
-    let packet = packet_found bytes w n h (omega arith) (subst (λ (t : List ℕ). IsSpelledLength (take w t) w n) rest-is p) (subst (λ (t : List ℕ). n ≤ length t) place room) in
-    (omega arith, subst (λ (q : PacketParts). IsSpelledPacket (take (16 + w + n) bytes) q) (same_parts (take 16 bytes) start w w (take n (drop w (drop 16 bytes))) value (sym start-is) refl (sym (value-is ∙ ap (take n) place))) packet)
-
--- the same, with the numbers as the code has them
-pub found_by : (bytes start rest after value : List ℕ) (width len spelled_width spelled_len : ℕ) → width ≡ spelled_width → len ≡ spelled_len → start ≡ take 16 bytes → rest ≡ drop 16 bytes → after ≡ drop width rest → value ≡ take len after → length rest + 16 ≡ length bytes → length after + width ≡ length rest → BeginsAsLabel bytes → IsSpelledLength (take spelled_width rest) spelled_width spelled_len → len ≤ length after → (16 + width + len ≤ length bytes) × IsSpelledPacket (take (16 + width + len) bytes) (record { key = start; width = spelled_width; value = value })
-found_by bytes start rest after value width len w n w-is n-is start-is rest-is after-is value-is size more h p room =
-    let found = found_at bytes start rest after value width len start-is rest-is after-is value-is size more h (rw (w-is, n-is) p) room in
-    (found.0, subst (λ (k : ℕ). IsSpelledPacket (take (16 + width + len) bytes) (record { key = start; width = k; value = value })) w-is found.1)
+    let lens : length more ≡ 16 - length (a ∷ b ∷ c ∷ d ∷ rest) = length-replicate
+    (16 - length (a ∷ b ∷ c ∷ d ∷ rest)) 0 in
+    let all : take (length (a ∷ b ∷ c ∷ d ∷ rest)) label_start ≡ label_start = take_all
+    (length (a ∷ b ∷ c ∷ d ∷ rest)) label_start (omega arith) in
+    cut_at_key (a ∷ b ∷ c ∷ d ∷ rest) ((a ∷ b ∷ c ∷ d ∷ rest) ++ more) more (
+      omega (arith, length-append (a ∷ b ∷ c ∷ d ∷ rest) more),
+      (let e : take 4 (a ∷ b ∷ c ∷ d ∷ rest) ≡ label_start = h ∙ all in e),
+    ) refl
 
 regroup : (key spelled value x : List ℕ) → (key ++ (spelled ++ value)) ++ x ≡ key ++ (spelled ++ (value ++ x))
 regroup key spelled value x = simp append_assoc
@@ -154,13 +130,19 @@ same_front n a b x y p q e =
     (sym (take_at a x n p) ∙ ap (take n) e ∙ take_at b y n q, sym (drop_at a x n p) ∙ ap (drop n) e ∙ drop_at b y n q)
 
 -- two packets at the front of one text are one
-pub same_packet : (a b x y : List ℕ) (p q : PacketParts) → IsSpelledPacket a p → IsSpelledPacket b q → a ++ x ≡ b ++ y → (a ≡ b) × (p ≡ q)
+pub same_packet : (a b x y : List ℕ) (p q : PacketParts) → IsSpelledPacket a p → IsSpelledPacket b q → a ++ x ≡ b ++ y
+    → (a ≡ b) × (p ≡ q)
 same_packet a b x y p q s t e =
-    let left : a ++ x ≡ p.key ++ (s.spelled ++ (p.value ++ x)) = ap (λ (u : List ℕ). u ++ x) s.whole ∙ regroup p.key s.spelled p.value x in
-    let right : b ++ y ≡ q.key ++ (t.spelled ++ (q.value ++ y)) = ap (λ (u : List ℕ). u ++ y) t.whole ∙ regroup q.key t.spelled q.value y in
-    let keys = same_front 16 p.key q.key (s.spelled ++ (p.value ++ x)) (t.spelled ++ (q.value ++ y)) s.label.0 t.label.0 (sym left ∙ e ∙ right) in
-    let lengths = one_length s.spelled t.spelled (p.value ++ x) (q.value ++ y) p.width (length p.value) q.width (length q.value) s.width t.width keys.1 in
-    let after = same_front (length s.spelled) s.spelled t.spelled (p.value ++ x) (q.value ++ y) refl (ap length (sym lengths.0)) keys.1 in
+    let left : a ++ x ≡ p.key ++ (s.spelled ++ (p.value ++ x)) = ap (λ (u : List ℕ). u ++ x) s.whole
+    ∙ regroup p.key s.spelled p.value x in
+    let right : b ++ y ≡ q.key ++ (t.spelled ++ (q.value ++ y)) = ap (λ (u : List ℕ). u ++ y) t.whole
+    ∙ regroup q.key t.spelled q.value y in
+    let keys = same_front 16 p.key q.key (s.spelled ++ (p.value ++ x))
+    (t.spelled ++ (q.value ++ y)) s.label.0 t.label.0 (sym left ∙ e ∙ right) in
+    let lengths = one_length s.spelled t.spelled (p.value ++ x) (q.value ++ y) p.width (length p.value) q.width
+    (length q.value) s.width t.width keys.1 in
+    let after = same_front (length s.spelled) s.spelled t.spelled (p.value ++ x) (q.value ++ y) refl
+    (ap length (sym lengths.0)) keys.1 in
     let values = same_front (length p.value) p.value q.value x y refl (sym lengths.2) after.1 in
     let texts : a ≡ b = s.whole ∙ rw (keys.0, lengths.0, values.0) refl ∙ sym t.whole in
     (texts, same_parts p.key q.key p.width q.width p.value q.value keys.0 lengths.1 values.0)

@@ -1,9 +1,9 @@
 -- What a note keeps of a value (this project's profile).
 use Rattle.std.specs.Prelude.{◌≡◌, ℕ, true, false, List, length}
-use Rattle.mxf_klv.specs.declared.kept.Kept.{Kept}
-use Rattle.mxf_klv.specs.declared.kept.Kept.TheVariants.{Whole, Digest}
-use Rattle.mxf_klv.specs.declared.kept.Held.{Held}
-use Rattle.mxf_klv.specs.declared.kept.Held.TheVariants as held
+use Rattle.mxf_klv.specs.declared.note.held.Kept.{Kept}
+use Rattle.mxf_klv.specs.declared.note.held.Kept.TheVariants.{Whole, Digest}
+use Rattle.mxf_klv.specs.declared.note.held.Held.{Held}
+use Rattle.mxf_klv.specs.declared.note.held.Held.TheVariants as held
 use Rattle.mxf_klv.specs.Parts.{NoteParts}
 use Rattle.mxf_klv.specs.Note.{keeps}
 

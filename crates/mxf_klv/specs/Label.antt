@@ -2,11 +2,11 @@
 use Rattle.std.specs.Prelude.{◌≡◌, ℕ, Bool, List, [], ◌∷◌, length, take}
 use Rattle.std.specs.Str.{bytes_eq}
 
--- What each label begins with (ST 336, universal labels).
+-- What each label begins with.
 abbrev pub label_start : List ℕ
 label_start = 0x06 ∷ 0x0E ∷ 0x2B ∷ 0x34 ∷ []
 
--- Sixteen bytes that begin as a label (ST 336, universal labels; no further byte is tested, this project's profile).
+-- Sixteen bytes that begin as a label. That no further byte is tested is this project's profile.
 abbrev pub IsLabel : List ℕ → Type 0
 IsLabel bytes = (length bytes ≡ 16) × (take 4 bytes ≡ label_start)
 

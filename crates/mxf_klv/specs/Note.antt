@@ -7,14 +7,19 @@ use Rattle.sha2.specs.Sha256.{sha256}
 use Rattle.mxf_klv.specs.Parts.{PacketParts, NoteParts, CanSpell}
 use Rattle.mxf_klv.specs.Label.{IsLabel}
 use Rattle.mxf_klv.specs.Kind.{kind_of, is_structural}
+use Rattle.mxf_klv.specs.declared.kinds.Kind.{Kind}
 
--- The greatest end of a packet (this project's profile), called MAX in the code.
+-- The greatest end of a packet, called MAX in the code.
 abbrev pub greatest_end : ℕ
 greatest_end = 9223372036854775807
 
--- Whether a value of this length is kept under this key: a structural packet's, of at most 4,194,304 bytes.
+-- Whether a value of this length is kept in a packet of this kind: a structural one's, of at most 4,194,304 bytes.
+abbrev pub keeps_of : Kind → ℕ → Bool
+keeps_of kind len = is_structural kind && nat_le len 4194304
+
+-- The same under a key.
 abbrev pub keeps : List ℕ → ℕ → Bool
-keeps key len = is_structural (kind_of key) && nat_le len 4194304
+keeps key len = keeps_of (kind_of key) len
 
 -- The first offset after the packet of a note.
 abbrev pub end_of : NoteParts → ℕ
@@ -43,6 +48,16 @@ note_of offset packet = record {
   held = if keeps packet.key (length packet.value) then packet.value else sha256 packet.value;
 }
 
+-- A note can be made: its width can spell its length, it ends at or below the greatest end, and a value of its key and
+-- length is kept whole, or isn't, as is said.
+abbrev pub CanNote : NoteParts → Bool → Type 0
+CanNote n whole = CanSpell n.width n.length × (end_of n ≤ greatest_end) × (keeps n.key n.length ≡ whole)
+
 -- Notes go by offset, then key bytes, then width, then length, then held bytes.
 abbrev pub note_cmp : NoteParts → NoteParts → Ordering
-note_cmp = then_cmp (on (λ n. n.offset) nat_cmp) (then_cmp (on (λ n. n.key) (slice_cmp nat_cmp)) (then_cmp (on (λ n. n.width) nat_cmp) (then_cmp (on (λ n. n.length) nat_cmp) (on (λ n. n.held) (slice_cmp nat_cmp)))))
+note_cmp =
+    then_cmp (on (λ n. n.offset) nat_cmp)
+    (then_cmp (on (λ n. n.key) (slice_cmp nat_cmp))
+    (then_cmp (on (λ n. n.width) nat_cmp)
+    (then_cmp (on (λ n. n.length) nat_cmp)
+    (on (λ n. n.held) (slice_cmp nat_cmp)))))

@@ -12,7 +12,12 @@ use Rattle.mxf_klv.specs.Parts.{NoteParts}
 use Rattle.mxf_klv.specs.Note.{note_cmp}
 
 pub note_total : IsTotalOrder note_cmp
-note_total = then_total (on_total (λ n. n.offset) nat_cmp_total) (then_total (on_total (λ n. n.key) nat_list_cmp_total) (then_total (on_total (λ n. n.width) nat_cmp_total) (then_total (on_total (λ n. n.length) nat_cmp_total) (on_total (λ n. n.held) nat_list_cmp_total))))
+note_total =
+    then_total (on_total (λ n. n.offset) nat_cmp_total)
+    (then_total (on_total (λ n. n.key) nat_list_cmp_total)
+    (then_total (on_total (λ n. n.width) nat_cmp_total)
+    (then_total (on_total (λ n. n.length) nat_cmp_total)
+    (on_total (λ n. n.held) nat_list_cmp_total))))
 
 pub note_equiv : IsEquivalence (eq_by_cmp note_cmp)
 note_equiv = eq_by_cmp_equiv note_total
@@ -22,7 +27,8 @@ ties Less b e = cc
 ties Equal b e = (refl, e)
 ties Greater b e = cc
 
-same_parts : (a b : NoteParts) → a.offset ≡ b.offset → a.key ≡ b.key → a.width ≡ b.width → a.length ≡ b.length → a.held ≡ b.held → a ≡ b
+same_parts : (a b : NoteParts) → a.offset ≡ b.offset → a.key ≡ b.key → a.width ≡ b.width → a.length ≡ b.length
+    → a.held ≡ b.held → a ≡ b
 same_parts a b e f g h k i = record { offset = e i; key = f i; width = g i; length = h i; held = k i }
 
 -- Notes that compare alike are one.
@@ -30,4 +36,5 @@ pub note_cmp-IsAntisymmetric : IsAntisymmetric note_cmp
 note_cmp-IsAntisymmetric a b e =
     let p = ties _ _ e in let q = ties _ _ p.1 in let r = ties _ _ q.1 in let s = ties _ _ r.1 in
     let bytes = slice_cmp-IsAntisymmetric nat_cmp-IsAntisymmetric in
-    same_parts a b (nat_cmp-IsAntisymmetric _ _ p.0) (bytes _ _ q.0) (nat_cmp-IsAntisymmetric _ _ r.0) (nat_cmp-IsAntisymmetric _ _ s.0) (bytes _ _ s.1)
+    same_parts a b (nat_cmp-IsAntisymmetric _ _ p.0) (bytes _ _ q.0) (nat_cmp-IsAntisymmetric _ _ r.0)
+    (nat_cmp-IsAntisymmetric _ _ s.0) (bytes _ _ s.1)

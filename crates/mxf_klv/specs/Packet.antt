@@ -3,12 +3,12 @@ use Rattle.std.specs.Prelude.{◌≡◌, ℕ, ◌+◌, ◌≤◌, ◌<◌, List,
 use Rattle.mxf_klv.specs.Ber.{IsSpelledLength, ReadsLength, length_bytes}
 use Rattle.mxf_klv.specs.Label.{IsLabel, BeginsAsLabel}
 use Rattle.mxf_klv.specs.Parts.{PacketParts, CanSpell}
-use Rattle.mxf_klv.specs.declared.lengths.BerFault.{BerFault}
-use Rattle.mxf_klv.specs.declared.lengths.BerFault.TheVariants as lengths
-use Rattle.mxf_klv.specs.declared.faults.PacketFault.{PacketFault}
-use Rattle.mxf_klv.specs.declared.faults.PacketFault.TheVariants.{NotUl, Short, Indefinite, TooWide}
+use Rattle.mxf_klv.specs.declared.ber.BerFault.{BerFault}
+use Rattle.mxf_klv.specs.declared.ber.BerFault.TheVariants as lengths
+use Rattle.mxf_klv.specs.declared.packet.PacketFault.{PacketFault}
+use Rattle.mxf_klv.specs.declared.packet.PacketFault.TheVariants.{NotUl, Short, Indefinite, TooWide}
 
--- The bytes stand for the packet (ST 336, KLV triplet).
+-- The bytes stand for the packet.
 pub record IsSpelledPacket (bytes : List ℕ) (packet : PacketParts) : Type 0 where
   pub spelled : List ℕ
   pub label : IsLabel packet.key
@@ -40,7 +40,7 @@ packet_fault lengths.TooWide = TooWide
 abbrev pub size_of : PacketParts → ℕ
 size_of packet = 16 + packet.width + length packet.value
 
--- The bytes of a packet (ST 336, KLV triplet).
+-- The bytes of a packet.
 abbrev pub packet_bytes : PacketParts → List ℕ
 packet_bytes packet = packet.key ++ (length_bytes packet.width (length packet.value) ++ packet.value)
 
@@ -48,6 +48,3 @@ packet_bytes packet = packet.key ++ (length_bytes packet.width (length packet.va
 pub record IsPacket (packet : PacketParts) : Type 0 where
   pub label : IsLabel packet.key
   pub width : CanSpell packet.width (length packet.value)
-
-abbrev pub packet_parts : List ℕ → ℕ → List ℕ → PacketParts
-packet_parts key width value = record { key = key; width = width; value = value }

@@ -1,8 +1,12 @@
 -- The packets of a piece: bytes that lie at an offset of a file (this project's profile).
-use Rattle.std.specs.Prelude.{◌≡◌, ℕ, ◌+◌, ◌≤◌, ◌<◌, List, [], ◌∷◌, ◌++◌}
-use Rattle.mxf_klv.specs.Parts.{PacketParts, NoteParts}
-use Rattle.mxf_klv.specs.Packet.{IsSpelledPacket, size_of}
+use Rattle.std.specs.Prelude.{◌≡◌, ◌≢◌, ◌⊎◌, ℕ, ◌+◌, ◌≤◌, ◌<◌, List, [], ◌∷◌, ◌++◌, Err}
+use Rattle.mxf_klv.specs.Parts.{LengthParts, PacketParts, NoteParts}
+use Rattle.mxf_klv.specs.Packet.{IsSpelledPacket, ReadsPacket, size_of}
+use Rattle.mxf_klv.specs.Head.{BeginsWithHead}
 use Rattle.mxf_klv.specs.Note.{greatest_end, note_of}
+use Rattle.mxf_klv.specs.declared.packet.PacketFault.TheVariants as faults
+use Rattle.mxf_klv.specs.declared.piece.Stop.{Stop}
+use Rattle.mxf_klv.specs.declared.piece.Stop.TheVariants.{End, NotUl, BadLength, TooFar, Truncated}
 
 -- The first offset after packets that are laid one after another from an offset on.
 abbrev pub end_after : ℕ → List PacketParts → ℕ
@@ -20,7 +24,8 @@ AreLaid offset bytes (p ∷ ps) rest =
 -- No packet stands at the front of the bytes that would end at or below the greatest end.
 abbrev pub BeginsWithNone : ℕ → List ℕ → Type 0
 BeginsWithNone offset bytes =
-    (front after : List ℕ) (p : PacketParts) → IsSpelledPacket front p → bytes ≡ front ++ after → greatest_end < offset + size_of p
+    (front after : List ℕ) (p : PacketParts) → IsSpelledPacket front p → bytes ≡ front ++ after
+    → greatest_end < offset + size_of p
 
 -- The packets of a piece and the rest: the packets are laid from the offset on, and the rest begins with none.
 pub record IsPiece (offset : ℕ) (bytes : List ℕ) (packets : List PacketParts) (rest : List ℕ) : Type 0 where
@@ -31,3 +36,20 @@ pub record IsPiece (offset : ℕ) (bytes : List ℕ) (packets : List PacketParts
 abbrev pub notes_from : ℕ → List PacketParts → List NoteParts
 notes_from offset [] = []
 notes_from offset (p ∷ ps) = note_of offset p ∷ notes_from (offset + size_of p) ps
+
+-- A whole key and a whole length stand at the front, and the packet would end above the greatest end.
+abbrev pub EndsTooFar : ℕ → List ℕ → Type 0
+EndsTooFar offset bytes =
+    (key : List ℕ) × (l : LengthParts) × (after : List ℕ) × BeginsWithHead bytes key l after
+    × (greatest_end < offset + (16 + l.width + l.value))
+
+-- Why no packet is noted at the front of a rest at an offset: no byte is left; what is there doesn't begin as a label;
+-- the length is at fault; the packet would end too far on; or else the packet is cut.
+abbrev pub IsStop : ℕ → List ℕ → Stop → Type 0
+IsStop offset rest End = rest ≡ []
+IsStop offset rest (NotUl place) = (place ≡ offset) × ReadsPacket rest (Err faults.NotUl)
+IsStop offset rest (BadLength place) =
+    (place ≡ offset) × (ReadsPacket rest (Err faults.Indefinite) ⊎ ReadsPacket rest (Err faults.TooWide))
+IsStop offset rest (TooFar place) = (place ≡ offset) × EndsTooFar offset rest
+IsStop offset rest (Truncated place) =
+    (place ≡ offset) × (rest ≢ []) × ReadsPacket rest (Err faults.Short) × ¬ EndsTooFar offset rest

@@ -1,17 +1,19 @@
--- The packets of a piece as functions of its offset and bytes, and the stop. That they are the packets and the rest of
--- `Piece`, and that there are no others, is the law `each_piece_is_read_one_way`.
-use Rattle.std.specs.Prelude.{◌≡◌, ◌<◌, ◌≤◌, ℕ, zero, suc, ◌+◌, ◌-◌, nat_le, nat_lt, nat_eq, Bool, false, ◌&&◌, ◌||◌, not, if◌then◌else◌, List, [], ◌∷◌, length, take, drop, slice_get, Option, None, Some}
+-- The packets of a piece and its stop as functions of its offset and bytes (this project's profile). That they are the
+-- packets, the rest and the stop of `Piece`, and that there are no others, is what the laws
+-- `each_piece_is_read_one_way` and `each_piece_has_one_stop` say.
+use Rattle.std.specs.Prelude.{◌≡◌, ◌<◌, ◌≤◌, ℕ, zero, suc, ◌+◌, ◌-◌, nat_le, nat_lt, nat_eq, Bool, false, ◌&&◌, ◌||◌}
+use Rattle.std.specs.Prelude.{not, if◌then◌else◌, List, [], ◌∷◌, length, take, drop, Option, None, Some}
 use Rattle.std.specs.Option.{option_map_or, option_and_then}
 use Rattle.byteorder.specs.Endian.{big_number}
-use Rattle.mxf_klv.specs.Parts.{LengthParts, PacketParts, NoteParts}
+use Rattle.mxf_klv.specs.Parts.{LengthParts, PacketParts, NoteParts, packet_parts}
 use Rattle.mxf_klv.specs.Label.{begins_as_label}
 use Rattle.mxf_klv.specs.Packet.{size_of}
 use Rattle.mxf_klv.specs.Note.{greatest_end, note_of}
 use Rattle.mxf_klv.specs.Piece.{notes_from, end_after}
-use Rattle.mxf_klv.specs.declared.stops.Stop.{Stop}
-use Rattle.mxf_klv.specs.declared.stops.Stop.TheVariants.{End, NotUl, BadLength, TooFar, Truncated}
+use Rattle.mxf_klv.specs.declared.piece.Stop.{Stop}
+use Rattle.mxf_klv.specs.declared.piece.Stop.TheVariants.{End, NotUl, BadLength, TooFar, Truncated}
 
--- The length at the front, where a whole one stands there (ST 336, length field).
+-- The length at the front, where a whole one stands there: the law says that `ReadsLength` gives the same.
 abbrev pub length_at : List ℕ → Option LengthParts
 length_at [] = None
 length_at (first ∷ rest) =
@@ -20,30 +22,38 @@ length_at (first ∷ rest) =
     then Some (record { width = first - 127; value = big_number (first - 128) rest })
     else None)
 
--- The length of the packet at the front, where key and length are whole (ST 336, KLV triplet).
+-- The length of the packet at the front, where key and length are whole.
 unfoldable pub head_at : List ℕ → Option LengthParts
 head_at bytes = if begins_as_label bytes && nat_le 16 (length bytes) then length_at (drop 16 bytes) else None
 
--- Where a packet with this length would end.
+-- Where a packet of this length would end.
 abbrev pub end_with : ℕ → LengthParts → ℕ
 end_with offset l = offset + (16 + l.width + l.value)
 
+-- A packet of this length is whole, and ends at or below the greatest end.
+abbrev pub fits_at : ℕ → List ℕ → LengthParts → Bool
+fits_at offset bytes l = nat_le (16 + l.width + l.value) (length bytes) && nat_le (end_with offset l) greatest_end
+
+-- The packet of this length at the front: its key is the first 16 bytes, and its value stands after its length.
+abbrev pub packet_with : List ℕ → LengthParts → PacketParts
+packet_with bytes l = packet_parts (take 16 bytes) l.width (take l.value (drop l.width (drop 16 bytes)))
+
 -- The packet at the front, where a whole one stands there and ends at or below the greatest end.
 unfoldable pub packet_at : ℕ → List ℕ → Option PacketParts
-packet_at offset bytes = option_and_then (λ l.
-    if nat_le (16 + l.width + l.value) (length bytes) && nat_le (end_with offset l) greatest_end
-    then Some (record { key = take 16 bytes; width = l.width; value = take l.value (drop l.width (drop 16 bytes)) })
-    else None) (head_at bytes)
+packet_at offset bytes =
+    option_and_then (λ l. if fits_at offset bytes l then Some (packet_with bytes l) else None) (head_at bytes)
 
 -- The packets of a piece, at most so many.
 abbrev pub packets_by : ℕ → ℕ → List ℕ → List PacketParts
 packets_by zero offset bytes = []
-packets_by (suc n) offset bytes = option_map_or (λ p. p ∷ packets_by n (offset + size_of p) (drop (size_of p) bytes)) (packet_at offset bytes) []
+packets_by (suc n) offset bytes =
+    option_map_or (λ p. p ∷ packets_by n (offset + size_of p) (drop (size_of p) bytes)) (packet_at offset bytes) []
 
 -- What is left after them.
 abbrev pub rest_by : ℕ → ℕ → List ℕ → List ℕ
 rest_by zero offset bytes = bytes
-rest_by (suc n) offset bytes = option_map_or (λ p. rest_by n (offset + size_of p) (drop (size_of p) bytes)) (packet_at offset bytes) bytes
+rest_by (suc n) offset bytes =
+    option_map_or (λ p. rest_by n (offset + size_of p) (drop (size_of p) bytes)) (packet_at offset bytes) bytes
 
 -- The packets of a piece: no more than it has bytes.
 unfoldable pub packets_in : ℕ → List ℕ → List PacketParts
@@ -57,24 +67,25 @@ rest_in offset bytes = rest_by (length bytes) offset bytes
 abbrev pub notes_in : ℕ → List ℕ → List NoteParts
 notes_in offset bytes = notes_from offset (packets_in offset bytes)
 
--- The length's first byte, which is byte 17 of a packet, is at fault: an indefinite length, or one of more than eight bytes.
-abbrev pub has_bad_length : List ℕ → Bool
-has_bad_length bytes = option_map_or (λ first. nat_eq first 128 || nat_lt 136 first) (slice_get bytes 16) false
+-- The length at the front is at fault: it is indefinite, or has more than eight bytes.
+abbrev pub is_bad_length : List ℕ → Bool
+is_bad_length [] = false
+is_bad_length (first ∷ rest) = nat_eq first 128 || nat_lt 136 first
 
 -- Key and length are whole, and the packet would end above the greatest end.
 abbrev pub ends_too_far : ℕ → List ℕ → Bool
 ends_too_far offset bytes = option_map_or (λ l. nat_lt greatest_end (end_with offset l)) (head_at bytes) false
 
--- Why no packet is noted at the front of a rest at an offset: the first cause that holds (this project's profile).
+-- Why no packet is noted at the front of a rest at an offset: the first cause that holds.
 unfoldable pub stop_of : ℕ → List ℕ → Stop
-stop_of at rest =
+stop_of offset rest =
     if nat_eq (length rest) 0 then End
-    else (if not (begins_as_label rest) then NotUl at
-    else (if has_bad_length rest then BadLength at
-    else (if ends_too_far at rest then TooFar at
-    else Truncated at)))
+    else (if not (begins_as_label rest) then NotUl offset
+    else (if is_bad_length (drop 16 rest) then BadLength offset
+    else (if ends_too_far offset rest then TooFar offset
+    else Truncated offset)))
 
--- The stop of a piece.
+-- The stop of a piece: that of its rest.
 abbrev pub stop_in : ℕ → List ℕ → Stop
 stop_in offset bytes = stop_of (end_after offset (packets_in offset bytes)) (rest_in offset bytes)
 

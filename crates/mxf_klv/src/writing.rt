@@ -5,7 +5,6 @@ ghost use Rattle.mxf_klv.specs.Written.{Puts, Writes};
 mod progress;
 
 pub use progress::Progress;
-
 use std::io::Write;
 use thiserror::Error;
 

@@ -1,0 +1,388 @@
+-- The stop of a rest is the one that `stop_of` gives.
+use Rattle.std.proofs.Common.{◌≡◌, ℕ, ◌+◌, ◌-◌, ◌<◌, ◌≤◌, Bool, true, false, cond, not, ◌||◌, nat_eq, nat_lt, List}
+use Rattle.std.proofs.Common.{[], ◌∷◌, ◌++◌, length, take, drop, Err, Ok, Result, IfOk, IfErr, ok_or, SomeIff, Option}
+use Rattle.std.proofs.Common.{None, Some, refl, sym, ap, subst, ◌∙◌, arith, inl, inr, ◌⊎◌, ◌↔◌, length-take}
+use Rattle.std.proofs.Common.{take-append-drop}
+use Rattle.std.proofs.lemmas.Bool.{eqb-true, eq-eqb, ltb-true, lt-ltb, or_cases}
+use Rattle.std.proofs.lemmas.Bool.{cases_lt, false_from_ne_true, both_ways}
+use Rattle.std.specs.Option.{option_map_or}
+use Rattle.mxf_klv.specs.Parts.{LengthParts, PacketParts, packet_parts}
+use Rattle.mxf_klv.specs.Label.{BeginsAsLabel, begins_as_label}
+use Rattle.mxf_klv.specs.Ber.{IsCutLength, ReadsLength}
+use Rattle.mxf_klv.specs.Packet.{IsCutPacket, size_of}
+use Rattle.mxf_klv.specs.Head.{BeginsWithHead, ReadsHead}
+use Rattle.mxf_klv.specs.Note.{greatest_end}
+use Rattle.mxf_klv.specs.Piece.{BeginsWithNone, EndsTooFar, IsPiece, IsStop, end_after}
+use Rattle.mxf_klv.specs.PieceReading.{EndsAt, GoesOn, head_at, length_at, packet_at, is_bad_length, end_with}
+use Rattle.mxf_klv.specs.PieceReading.{ends_too_far, stop_of, stop_in}
+use Rattle.mxf_klv.specs.declared.ber.BerFault.TheVariants as lengths
+use Rattle.mxf_klv.specs.declared.packet.PacketFault.{PacketFault}
+use Rattle.mxf_klv.specs.declared.packet.PacketFault.TheVariants as faults
+use Rattle.mxf_klv.specs.declared.piece.Stop.{Stop}
+use Rattle.mxf_klv.specs.declared.piece.Stop.TheVariants.{End, NotUl, BadLength, TooFar, Truncated}
+use Rattle.mxf_klv.proofs.LengthLemmas.{one_reading, wide_found}
+use Rattle.mxf_klv.proofs.HeadLemmas.{head_of, head-begins, head-cut, head-length, head-packet, head-size, head_in}
+use Rattle.mxf_klv.proofs.HeadLemmas.{no_head}
+use Rattle.mxf_klv.proofs.PacketLemmas.{key_cut, label_of, length_cut}
+use Rattle.mxf_klv.proofs.PacketLaw.{cut_begins, no_fault_cut}
+use Rattle.mxf_klv.proofs.PieceLaws.{begins-test, test-begins, ends_at, goes_on, head_at-head, head_at-stands}
+use Rattle.mxf_klv.proofs.PieceLaws.{length_at-read, length_at-stands, none-packet_at, none_at_end, one_piece}
+use Rattle.mxf_klv.proofs.PieceLaws.{packet_at-fault, packet_at-given, packet_at-none, some_length}
+
+-- ---- the tests
+
+bad-reads : (xs : List ℕ) → is_bad_length xs ≡ true
+    → ReadsLength xs (Err lengths.Indefinite) ⊎ ReadsLength xs (Err lengths.TooWide)
+bad-reads [] e = absurd cc
+bad-reads (f ∷ rest) e =
+    elim (or_cases (nat_eq f 128) (nat_lt 136 f) e) [
+      | inl p ↦ inl (ap (λ (n : ℕ). Some n) (eqb-true f 128 p))
+      | inr p ↦ inr (ltb-true 136 f p)
+    ]
+
+or-right : (a b : Bool) → b ≡ true → (a || b) ≡ true
+or-right true b e = refl
+or-right false b e = e
+
+or-left : (a b : Bool) → a ≡ true → (a || b) ≡ true
+or-left a b e = rw e refl
+
+reads-bad : (xs : List ℕ) → ReadsLength xs (Err lengths.Indefinite) ⊎ ReadsLength xs (Err lengths.TooWide)
+    → is_bad_length xs ≡ true
+reads-bad [] (inl p) = absurd cc
+reads-bad [] (inr p) = absurd p
+reads-bad (f ∷ rest) (inl p) = or-left (nat_eq f 128) (nat_lt 136 f) (eq-eqb f 128 cc)
+reads-bad (f ∷ rest) (inr p) = or-right (nat_eq f 128) (nat_lt 136 f) (lt-ltb 136 f p)
+
+-- where no length is given and none is at fault, one is cut
+cut_else : (xs : List ℕ) → is_bad_length xs ≡ false → length_at xs ≡ None → IsCutLength xs
+cut_else [] b e = tt
+cut_else (f ∷ rest) b e =
+    let definite : f ≡ 128 → ⊥ = λ is. both_ways _ b (or-left (nat_eq f 128) (nat_lt 136 f) (eq-eqb f 128 is)) in
+    let narrow : f ≤ 136 = elim (cases_lt 136 f) [
+      | inl wide ↦ absurd (both_ways _ b (or-right (nat_eq f 128) (nat_lt 136 f) (lt-ltb 136 f wide)))
+      | inr narrow ↦ narrow
+    ] in
+    let long : 128 ≤ f = elim (cases_lt f 128) [
+      | inl short ↦ absurd (some_length (f ∷ rest) 1 f (inl (refl, omega arith, refl, refl)) e)
+      | inr long ↦ long
+    ] in
+    elim (cases_lt (length rest) (f - 128)) [
+      | inl cut ↦ (omega (arith, definite), narrow, cut)
+      | inr whole ↦
+          absurd (some_length (f ∷ rest) (f - 127) _
+          (wide_found (f ∷ rest) f rest refl (omega (arith, definite)) narrow whole) e)
+    ]
+
+far-is : (offset : ℕ) (bytes : List ℕ) → ends_too_far offset bytes ≡ true → EndsTooFar offset bytes
+far-is offset bytes e =
+    elim (head_at bytes) as (λ o. head_at bytes ≡ o
+    → option_map_or (λ l. nat_lt greatest_end (end_with offset l)) o false ≡ true → EndsTooFar offset bytes) [
+      | None ↦ λ h f. absurd cc
+      | Some l ↦ λ h f. (
+        take 16 bytes,
+        l,
+        drop l.width (drop 16 bytes),
+        head_at-stands bytes l h,
+        ltb-true greatest_end (end_with offset l) f,
+      )
+    ] refl e
+
+is-far : (offset : ℕ) (bytes : List ℕ) → EndsTooFar offset bytes → ends_too_far offset bytes ≡ true
+is-far offset bytes (key, l, after, h, far) =
+    ap (λ (o : Option LengthParts). option_map_or (λ l. nat_lt greatest_end (end_with offset l)) o false)
+    (head_at-head bytes key l after h)
+    ∙ lt-ltb greatest_end (end_with offset l) far
+
+pub no-bytes : (bytes : List ℕ) → nat_eq (length bytes) 0 ≡ true → bytes ≡ []
+no-bytes [] e = refl
+no-bytes (x ∷ xs) e = let none = eqb-true (length (x ∷ xs)) 0 e in absurd (omega arith)
+
+some-bytes : (bytes : List ℕ) → (bytes ≡ [] → ⊥) → nat_eq (length bytes) 0 ≡ false
+some-bytes bytes n = false_from_ne_true _ (λ e. n (no-bytes bytes e))
+
+-- ---- the choice among them
+
+abbrev choice : Bool → Bool → Bool → Bool → ℕ → Stop
+choice none begins bad far offset =
+    cond none End (cond (not begins) (NotUl offset)
+    (cond bad (BadLength offset) (cond far (TooFar offset) (Truncated offset))))
+
+by_cases : (P : Stop → Type 0) (none begins bad far : Bool) (offset : ℕ) → (none ≡ true → P End) →
+    (begins ≡ false → P (NotUl offset))
+    → (begins ≡ true → bad ≡ true → P (BadLength offset)) → (far ≡ true → P (TooFar offset))
+    → (none ≡ false → begins ≡ true → bad ≡ false → far ≡ false → P (Truncated offset)) → P
+    (choice none begins bad far offset)
+by_cases P true begins bad far offset a b c d e = a refl
+by_cases P false false bad far offset a b c d e = b refl
+by_cases P false true true far offset a b c d e = c refl refl
+by_cases P false true false true offset a b c d e = d refl
+by_cases P false true false false offset a b c d e = e refl refl refl refl
+
+not_ul : (none begins bad far : Bool) (offset : ℕ) → none ≡ false → begins ≡ false
+    → choice none begins bad far offset ≡ NotUl offset
+not_ul none begins bad far offset p q = rw (p, q) refl
+
+bad_length : (none begins bad far : Bool) (offset : ℕ) → none ≡ false → begins ≡ true → bad ≡ true
+    → choice none begins bad far offset ≡ BadLength offset
+bad_length none begins bad far offset p q r = rw (p, q, r) refl
+
+too_far : (none begins bad far : Bool) (offset : ℕ) → none ≡ false → begins ≡ true → bad ≡ false → far ≡ true
+    → choice none begins bad far offset ≡ TooFar offset
+too_far none begins bad far offset p q r s = rw (p, q, r, s) refl
+
+truncated : (none begins bad far : Bool) (offset : ℕ) → none ≡ false → begins ≡ true → bad ≡ false → far ≡ false
+    → choice none begins bad far offset ≡ Truncated offset
+truncated none begins bad far offset p q r s = rw (p, q, r, s) refl
+
+-- ---- the law
+
+-- a rest that is neither at fault nor too long is cut
+cut : (offset : ℕ) (rest : List ℕ) → BeginsWithNone offset rest → BeginsAsLabel rest → is_bad_length
+    (drop 16 rest) ≡ false
+    → (EndsTooFar offset rest → ⊥) → IsCutPacket rest
+cut offset rest none begins sound near =
+    elim (cases_lt (length rest) 16) [
+      | inl short ↦ key_cut rest begins short
+      | inr long ↦ elim (length_at (drop 16 rest)) as (λ o. length_at (drop 16 rest) ≡ o → IsCutPacket rest) [
+        | None ↦ λ e. length_cut rest (drop 16 rest) refl begins long (cut_else (drop 16 rest) sound e)
+        | Some l ↦ λ e.
+            let after = drop l.width (drop 16 rest) in
+            let head : BeginsWithHead rest (take 16 rest) l after =
+            head_of rest l (label_of rest begins long) (length_at-stands (drop 16 rest) l e) in
+            elim (cases_lt (length after) l.value) [
+              | inl short ↦ head-cut head short
+              | inr whole ↦
+                  let p = packet_parts (take 16 rest) l.width (take l.value after) in
+                  let size = 16 + l.width + l.value in
+                  let read = head-packet head whole in
+                  let far : greatest_end < offset + size_of p =
+                  none (take size rest) (drop size rest) p read.1 (sym (take-append-drop size rest)) in
+                  absurd (near (take 16 rest, l, after, head, omega (arith, length-take l.value after)))
+            ]
+      ] refl
+    ]
+
+-- the stop that is given is one
+stop-is : (offset : ℕ) (rest : List ℕ) → BeginsWithNone offset rest → IsStop offset rest (stop_of offset rest)
+unfolding stop_of
+stop-is offset rest none =
+    by_cases (IsStop offset rest) (nat_eq (length rest) 0) (begins_as_label rest) (is_bad_length (drop 16 rest))
+    (ends_too_far offset rest) offset
+    (λ e. no-bytes rest e)
+    (λ e. (refl, λ h. both_ways _ e (begins-test rest h)))
+    (λ e f. (
+      refl,
+      elim (bad-reads (drop 16 rest) f) [
+        | inl p ↦ inl (test-begins rest e, p)
+        | inr p ↦ inr
+            (test-begins rest e, p)
+      ],
+    ))
+    (λ e. (refl, far-is offset rest e))
+    (λ a b c d.
+    let near : EndsTooFar offset rest → ⊥ = λ h. both_ways _ d (is-far offset rest h) in (
+      refl,
+      (λ e. both_ways _ a (eq-eqb (length rest) 0 (ap length e))),
+      cut offset rest none
+          (test-begins rest b) c near,
+      near,
+    ))
+
+not-nil : (rest : List ℕ) → (BeginsAsLabel rest → ⊥) → rest ≡ [] → ⊥
+not-nil rest n e = n (subst BeginsAsLabel (sym e) refl)
+
+long-some : (xs : List ℕ) → ReadsLength (drop 16 xs) (Err lengths.Indefinite) ⊎ ReadsLength (drop 16 xs)
+    (Err lengths.TooWide) → xs ≡ [] → ⊥
+long-some xs p e =
+    both_ways _ (ap (λ (t : List ℕ). is_bad_length (drop 16 t)) e) (reads-bad (drop 16 xs) p)
+
+-- no length is at fault where a head or a cut packet stands
+sound_head : (bytes key after : List ℕ) (l : LengthParts) → BeginsWithHead bytes key l after
+    → ReadsLength (drop 16 bytes) (Err lengths.Indefinite) ⊎ ReadsLength (drop 16 bytes) (Err lengths.TooWide) → ⊥
+sound_head bytes key after l head p =
+    elim p [
+      | inl q ↦ no_head bytes lengths.Indefinite q key after l head
+      | inr q ↦ no_head bytes lengths.TooWide q key after l head
+    ]
+
+sound_cut : (bytes : List ℕ) → IsCutPacket bytes
+    → ReadsLength (drop 16 bytes) (Err lengths.Indefinite) ⊎ ReadsLength (drop 16 bytes) (Err lengths.TooWide) → ⊥
+sound_cut bytes c p =
+    elim p [
+      | inl q ↦ no_fault_cut bytes lengths.Indefinite (λ h. cc) c q
+      | inr q ↦ no_fault_cut bytes lengths.TooWide (λ h. cc) c q
+    ]
+
+-- each stop is the one that is given
+pub stop-given : (offset : ℕ) (rest : List ℕ) (stop : Stop) → IsStop offset rest stop → stop_of offset rest ≡ stop
+unfolding stop_of
+stop-given offset rest End is = ap (stop_of offset) is
+stop-given offset rest (NotUl place) (at, n) =
+    not_ul _ _ _ _ offset (some-bytes rest (not-nil rest n)) (false_from_ne_true _ (λ e. n (test-begins rest e)))
+    ∙ ap (λ (x : ℕ). NotUl x) (sym at)
+stop-given offset rest (BadLength place) (at, fault) =
+    let at_length : ReadsLength (drop 16 rest) (Err lengths.Indefinite) ⊎ ReadsLength (drop 16 rest)
+    (Err lengths.TooWide) =
+    elim fault [ inl p ↦ inl p.1 | inr p ↦ inr p.1 ] in
+    let begins : BeginsAsLabel rest = elim fault [ inl p ↦ p.0 | inr p ↦ p.0 ] in
+    bad_length _ _ _ _ offset (some-bytes rest (long-some rest at_length)) (begins-test rest begins)
+    (reads-bad (drop 16 rest) at_length)
+    ∙ ap (λ (x : ℕ). BadLength x) (sym at)
+stop-given offset rest (TooFar place) (at, far) =
+    let (key, l, after, head, above) = far in
+    let size = head-size head in
+    too_far _ _ _ _ offset (some-bytes rest (λ e. (let none = ap length e in omega arith)))
+    (begins-test rest (head-begins head))
+    (false_from_ne_true _ (λ e. sound_head rest key after l head (bad-reads (drop 16 rest) e))) (is-far offset rest far)
+    ∙ ap (λ (x : ℕ). TooFar x) (sym at)
+stop-given offset rest (Truncated place) (at, some, cut, near) =
+    truncated _ _ _ _ offset (some-bytes rest some) (begins-test rest (cut_begins rest cut))
+    (false_from_ne_true _ (λ e. sound_cut rest cut (bad-reads (drop 16 rest) e)))
+    (false_from_ne_true _ (λ e. near (far-is offset rest e)))
+    ∙ ap (λ (x : ℕ). Truncated x) (sym at)
+
+pub one_stop : (offset : ℕ) (rest : List ℕ) (stop : Stop) → BeginsWithNone offset rest
+    → (stop_of offset rest ≡ stop) ↔ IsStop offset rest stop
+one_stop offset rest stop none =
+    (λ e. subst (IsStop offset rest) e (stop-is offset rest none), stop-given offset rest stop)
+
+pub one_stop_in : (offset : ℕ) (bytes : List ℕ) (packets : List PacketParts) (rest : List ℕ) (stop : Stop)
+    → IsPiece offset bytes packets rest → (stop_in offset bytes ≡ stop) ↔ IsStop (end_after offset packets) rest stop
+one_stop_in offset bytes packets rest stop i =
+    let same = one_piece offset bytes packets rest i in
+    let at : stop_in offset bytes ≡ stop_of (end_after offset packets) rest = rw (same.0, same.1) refl in
+    let one = one_stop (end_after offset packets) rest stop i.ended in
+    (λ e. one.0 (sym at ∙ e), λ s. at ∙ one.1 s)
+
+pub one_length_at : (bytes : List ℕ) (l : LengthParts) → (length_at bytes ≡ Some l) ↔ ReadsLength bytes (Ok l)
+one_length_at bytes l = (length_at-stands bytes l, length_at-read bytes (Ok l))
+
+-- ---- the exits of `next_packet`
+
+-- no packet that fits stands at the front, and this is the stop
+pub record Stopped (offset : ℕ) (bytes : List ℕ) (stop : Stop) : Type 0 where
+  pub none : BeginsWithNone offset bytes
+  pub is : IsStop offset bytes stop
+
+pub stops : (offset : ℕ) (bytes : List ℕ) (stop : Stop) → Stopped offset bytes stop
+    → (packet_at offset bytes ≡ None) × (stop ≡ stop_of offset bytes)
+stops offset bytes stop s = (none-packet_at offset bytes s.none, sym (stop-given offset bytes stop s.is))
+
+pub ends : (offset : ℕ) (bytes : List ℕ) (stop : Stop) → Stopped offset bytes stop → EndsAt offset bytes stop
+ends offset bytes stop s = ends_at offset bytes stop (none-packet_at offset bytes s.none)
+    (sym (stop-given offset bytes stop s.is))
+
+pub at_end : (offset : ℕ) (bytes : List ℕ) → nat_eq (length bytes) 0 ≡ true → Stopped offset bytes End
+at_end offset bytes e =
+    let none = no-bytes bytes e in
+    record {
+      none = packet_at-none offset bytes (none_at_end offset bytes (let len = ap length none in omega arith));
+      is = none;
+    }
+
+-- a fault of the head
+abbrev stop_for : ℕ → PacketFault → Stop
+stop_for offset faults.NotUl = NotUl offset
+stop_for offset faults.Indefinite = BadLength offset
+stop_for offset faults.TooWide = BadLength offset
+stop_for offset faults.Short = Truncated offset
+
+is_stop_for : (offset : ℕ) (bytes : List ℕ) (f : PacketFault) → (bytes ≡ [] → ⊥) → ReadsHead bytes (Err f)
+    → IsStop offset bytes (stop_for offset f)
+is_stop_for offset bytes faults.NotUl some r = (refl, r.0)
+is_stop_for offset bytes faults.Indefinite some r = (refl, inl r.0)
+is_stop_for offset bytes faults.TooWide some r = (refl, inr r.0)
+is_stop_for offset bytes faults.Short some r = (refl, some, r.0, λ far. r.1 far.0 far.2 far.1 far.3)
+
+pub at_fault : (offset : ℕ) (bytes : List ℕ) (f g : PacketFault) → nat_eq (length bytes) 0 ≡ false → f ≡ g
+    → ReadsHead bytes (Err f)
+    → Stopped offset bytes (stop_for offset g)
+at_fault offset bytes f g some same r =
+    let read : ReadsHead bytes (Err g) = subst (λ (x : PacketFault). ReadsHead bytes (Err x)) same r in
+    record {
+      none = packet_at-none offset bytes (packet_at-fault offset bytes g read.0);
+      is = is_stop_for offset bytes g (λ e. both_ways _ some (eq-eqb (length bytes) 0 (ap length e))) read;
+    }
+
+-- two heads of the same bytes have one length
+same_length : (bytes j k a b : List ℕ) (l m : LengthParts) → BeginsWithHead bytes j l a → BeginsWithHead bytes k m b
+    → l ≡ m
+same_length bytes j k a b l m h i =
+    let e : Ok l ≡ Ok m = one_reading (drop 16 bytes) (Ok l) (Ok m) (head-length h) (head-length i) in
+    cc
+
+-- a packet that ends too far on
+pub at_far : (offset : ℕ) (bytes key after : List ℕ) (l : LengthParts) → BeginsWithHead bytes key l after
+    → greatest_end < offset + (16 + l.width + l.value) → Stopped offset bytes (TooFar offset)
+at_far offset bytes key after l h far = record {
+  none = λ front rest p s is.
+      let other = subst (λ (t : List ℕ). BeginsWithHead t p.key (record { width = p.width; value = length p.value })
+      (p.value ++ rest)) (sym is) (head_in front rest p s) in
+      let same = same_length bytes key p.key after (p.value ++ rest) l _ h other in
+      let width : l.width ≡ p.width = ap (λ (m : LengthParts). m.width) same in
+      let value : l.value ≡ length p.value = ap (λ (m : LengthParts). m.value) same in
+      omega arith;
+  is = (refl, (key, l, after, h, far));
+}
+
+-- a value that is cut
+at_cut : (offset : ℕ) (bytes key after : List ℕ) (l : LengthParts) → BeginsWithHead bytes key l after
+    → offset + (16 + l.width + l.value) ≤ greatest_end → length after < l.value → Stopped offset bytes
+    (Truncated offset)
+at_cut offset bytes key after l h near short = record {
+  none = packet_at-none offset bytes (packet_at-fault offset bytes faults.Short (head-cut h short));
+  is = (
+    refl,
+    (λ e. let size = head-size h in let len = ap length e in omega arith),
+    head-cut h short,
+    λ far.
+        let same = same_length bytes key far.0 after far.2 l far.1 h far.3 in
+        let width : l.width ≡ far.1.width = ap (λ (m : LengthParts). m.width) same in
+        let value : l.value ≡ far.1.value = ap (λ (m : LengthParts). m.value) same in
+        let above = far.4 in
+        omega arith,
+  );
+}
+
+-- what the clauses of `next_packet` say of an answer
+pub record Answers (offset : ℕ) (bytes : List ℕ) (r : Result (PacketParts × ℕ) Stop) : Type 0 where
+  pub packet : IfOk r (λ x. (packet_at offset bytes ≡ Some x.0) × (x.1 ≡ size_of x.0))
+  pub none : IfErr r (λ stop. (packet_at offset bytes ≡ None) × (stop ≡ stop_of offset bytes))
+  pub goes_on : IfOk r (λ x. GoesOn offset bytes x.0 x.1)
+  pub ends : IfErr r (EndsAt offset bytes)
+
+abbrev given : PacketParts → ℕ → Result (PacketParts × ℕ) Stop
+given p size = Ok (p, size)
+
+at_packet : (offset : ℕ) (bytes key after : List ℕ) (l : LengthParts) → BeginsWithHead bytes key l after
+    → offset + (16 + l.width + l.value) ≤ greatest_end → l.value ≤ length after
+    → Answers offset bytes (given (packet_parts key l.width (take l.value after)) (16 + l.width + l.value))
+at_packet offset bytes key after l h near whole =
+    let p = packet_parts key l.width (take l.value after) in
+    let size = 16 + l.width + l.value in
+    let read = head-packet h whole in
+    let is : size ≡ size_of p = omega (arith, length-take l.value after) in
+    let stands : packet_at offset bytes ≡ Some p =
+    packet_at-given offset bytes (take size bytes) (drop size bytes) p read.1 (sym (take-append-drop size bytes))
+    (omega arith) in
+    record { packet = (stands, is); none = tt; goes_on = goes_on offset bytes p size stands is; ends = tt }
+
+-- the last exit: the packet, or its value is cut
+pub at_value : (offset : ℕ) (bytes key after : List ℕ) (l : LengthParts) (r : Option (PacketParts × ℕ))
+    → BeginsWithHead bytes key l after
+    → offset + (16 + l.width + l.value) ≤ greatest_end
+    → SomeIff r (l.value ≤ length after) (packet_parts key l.width (take l.value after), 16 + l.width + l.value)
+    → Answers offset bytes (ok_or r (Truncated offset))
+at_value offset bytes key after l None h near cut =
+    let stopped = at_cut offset bytes key after l h near (omega (arith, cut)) in
+    record {
+      packet = tt;
+      none = stops offset bytes (Truncated offset) stopped;
+      goes_on = tt;
+      ends = ends offset bytes
+          (Truncated offset) stopped;
+    }
+at_value offset bytes key after l (Some x) h near whole =
+    subst (λ (y : PacketParts × ℕ). Answers offset bytes (ok_or (Some y) (Truncated offset))) (sym whole.1)
+    (at_packet offset bytes key after l h near whole.0)

@@ -1,0 +1,268 @@
+//! Notes: what is known of a packet at an offset (this project's profile).
+ghost use Rattle.std.specs.Prelude.{◌≡◌, ◌↔◌, ◌+◌, ◌<◌, ◌≤◌, length, vec_len, true, false};
+ghost use Rattle.std.specs.Prelude.{IfOk, IfErr, IsOk, IsErr, IsTrue, IsErrOf};
+ghost use Rattle.std.specs.Option.{SomeIff};
+ghost use Rattle.mxf_klv.specs.Parts.{CanSpell, NoteParts, note_parts};
+ghost use Rattle.mxf_klv.specs.Kind.{kind_of};
+ghost use Rattle.mxf_klv.specs.Label.{IsLabel};
+ghost use Rattle.mxf_klv.specs.Note.{CanNote, IsNote, greatest_end, keeps, keeps_of, end_of, note_cmp, note_of};
+ghost use Rattle.std.specs.Cmp.{IsTotalOrder};
+ghost use Rattle.std.specs.declared.cmp.Ordering.TheVariants.{Equal};
+ghost use Rattle.mxf_klv.specs.declared.note.NoteFault.TheVariants as faults;
+
+mod held;
+mod order;
+
+use crate::ber::Ber;
+use crate::kinds::Kind;
+use crate::kinds::table::kind;
+use crate::label::Ul;
+use crate::memory::OutOfMemory;
+use crate::packet::Packet;
+pub use held::Held;
+use held::Kept;
+use sha2::{Digest, Sha256};
+use std::alloc::{AllocError, Global};
+use std::marker::Model;
+use thiserror::Error;
+
+/// The greatest end of a packet: file offsets, in bytes, go up to it.
+pub const MAX: u64 = 9_223_372_036_854_775_807;
+
+/// The greatest length of a value that is kept, in bytes.
+const GREATEST_KEPT: u64 = 4_194_304;
+
+/// What is known of a packet at an offset: its key, its length, and its value or the value's SHA-256.
+///
+/// A structural packet's value of at most 4,194,304 bytes is kept whole; of every other value the digest is kept.
+/// Notes go by offset, then key, then width, then length, then held bytes.
+#[derive(Debug, Drop)]
+pub struct Note {
+    offset: u64,
+    key: Ul,
+    width: u8,
+    length: u64,
+    kind: Kind,
+    kept: Kept,
+}
+
+impl Model for Note {
+    ghost use Rattle.std.specs.Prelude.{◌≡◌, ◌+◌, ◌≤◌};
+    ghost use Rattle.mxf_klv.specs.Kind.{kind_of};
+    ghost use Rattle.mxf_klv.specs.Kept.{kept_bytes, IsKeptBy};
+    ghost use Rattle.mxf_klv.specs.Label.{IsLabel};
+    ghost use Rattle.mxf_klv.specs.Note.{greatest_end};
+    ghost use Rattle.mxf_klv.specs.Parts.{CanSpell, NoteParts, note_parts};
+
+    ghost Value = { NoteParts };
+
+    ghost view = { λ n. note_parts n.offset n.key n.width n.length (kept_bytes n.kept) };
+
+    ghost invariant = { λ n. IsLabel n.key × CanSpell n.width n.length
+        × (n.offset + 16 + n.width + n.length ≤ greatest_end)
+        × (n.kind ≡ kind_of n.key) × IsKeptBy n.kept n.key n.length };
+}
+
+/// Why there is no note of a packet. The causes are tested in this order.
+#[derive(Clone, Copy, Debug, PartialEq, Eq, Error)]
+pub enum NoteFault {
+    /// The packet would end above [`MAX`].
+    #[error("the packet ends too far on")]
+    TooFar,
+    /// The value was to be kept, and a growth was refused.
+    #[error("out of memory")]
+    OutOfMemory,
+}
+
+impl From<AllocError> for NoteFault {
+    ghost from_gives = { λ _ e. e ≡ faults.OutOfMemory };
+
+    fn from(_e: AllocError) -> NoteFault {
+        NoteFault::OutOfMemory
+    }
+}
+
+/// Whether a value of this length is kept in a packet of this kind.
+fn keeps(kind: Kind, length: u64) -> bool
+    ensures { result ≡ keeps_of kind length }
+{
+    kind.is_structural() && length <= GREATEST_KEPT
+}
+
+/// Whether the width can spell the length and the end is not too far.
+fn can_note(offset: u64, width: u8, length: u64) -> bool
+    ensures { IsTrue result ↔ (CanSpell width length × (offset + 16 + width + length ≤ greatest_end)) }
+{
+    Ber::new(width, length).is_some()
+        && u128::from(offset) + 16 + u128::from(width) + u128::from(length) <= u128::from(MAX)
+}
+
+/// A value that makes no note: it comes back.
+#[derive(Debug, Drop, Error)]
+#[error("no note keeps this value")]
+pub struct NotANote {
+    pub value: Vec<u8>,
+}
+
+impl Note {
+    ghost use Rattle.mxf_klv.specs.Kept.{Shows};
+
+    /// The note of a packet at a file offset, in bytes.
+    pub fn of(alloc: Global, offset: u64, packet: &Packet<'_>) -> Result<Note, NoteFault>
+        ensures noted { IfOk result (λ n. n ≡ note_of offset packet.now) }
+        ensures too_far { IsErrOf result NoteFault.TooFar ↔ (greatest_end < end_of (note_of offset packet.now)) }
+        ensures memory { IsErrOf result NoteFault.OutOfMemory → keeps packet.now.key (length packet.now.value) ≡ true }
+    {
+        let value = packet.value();
+        let width = packet.width();
+        let length = value.len() as u64;
+        let end = u128::from(offset) + 16 + u128::from(width) + u128::from(length);
+        if end > u128::from(MAX) {
+            return Err(NoteFault::TooFar);
+        }
+        let key = packet.key();
+        let kind = kind(&key);
+        let kept = if keeps(kind, length) {
+            Kept::Whole(Vec::from_slice(alloc, value)?)
+        } else {
+            Kept::Digest(Sha256::digest(value))
+        };
+        Ok(Note {
+            offset,
+            key,
+            width,
+            length,
+            kind,
+            kept,
+        })
+    }
+
+    /// The file offset of the packet's first byte.
+    pub fn offset(&self) -> u64
+        ensures offset { result ≡ self.now.offset }
+        ensures note { IsNote self.now }
+    {
+        self.offset
+    }
+
+    /// The file offset after the packet's last byte, at most [`MAX`].
+    pub fn end(&self) -> u64
+        ensures { result ≡ end_of self.now }
+    {
+        self.offset + 16 + u64::from(self.width) + self.length
+    }
+
+    /// The packet's key.
+    pub fn key(&self) -> Ul
+        ensures { result ≡ self.now.key }
+    {
+        self.key
+    }
+
+    /// The number of bytes that spell the length, 1 to 9.
+    pub fn width(&self) -> u8
+        ensures { result ≡ self.now.width }
+    {
+        self.width
+    }
+
+    /// The number of bytes of the value.
+    pub fn length(&self) -> u64
+        ensures { result ≡ self.now.length }
+    {
+        self.length
+    }
+
+    /// The kind of the packet.
+    pub fn kind(&self) -> Kind
+        ensures { result ≡ kind_of self.now.key }
+    {
+        self.kind
+    }
+
+    fn held_bytes(&self) -> &[u8]
+        ensures { result.now ≡ self.now.held }
+    {
+        match &self.kept {
+            Kept::Whole(value) => value,
+            Kept::Digest(digest) => digest,
+        }
+    }
+
+    /// What is held of the value: the whole of it, or its digest.
+    pub fn held(&self) -> Held<'_>
+        ensures { Shows result self.now }
+    {
+        match &self.kept {
+            Kept::Whole(value) => Held::Whole(value),
+            Kept::Digest(digest) => Held::Digest(digest),
+        }
+    }
+
+    /// The note that keeps this value. The value comes back where the width can't spell its length, the packet would
+    /// end above [`MAX`], or a packet of this key and length keeps a digest.
+    pub fn kept(offset: u64, key: Ul, width: u8, value: Vec<u8>) -> Result<Note, NotANote>
+        ensures note { IfOk result (λ n. n ≡ note_parts offset key width (vec_len value) value.items) }
+        ensures when { IsOk result ↔ CanNote (note_parts offset key width (vec_len value) value.items) true }
+        ensures back { IfErr result (λ e. e.value ≡ value) }
+    {
+        let length = value.len() as u64;
+        let kind = kind(&key);
+        if !can_note(offset, width, length) || !keeps(kind, length) {
+            return Err(NotANote { value });
+        }
+        Ok(Note {
+            offset,
+            key,
+            width,
+            length,
+            kind,
+            kept: Kept::Whole(value),
+        })
+    }
+
+    /// The note that holds this digest of a value of `length` bytes. None where the width can't spell the length, the
+    /// packet would end above [`MAX`], or a packet of this key and length keeps its value.
+    pub fn digested(offset: u64, key: Ul, width: u8, length: u64, digest: [u8; 32]) -> Option<Note>
+        ensures { SomeIff result (CanNote (note_parts offset key width length digest) false)
+            (note_parts offset key width length digest) }
+    {
+        let kind = kind(&key);
+        if !can_note(offset, width, length) || keeps(kind, length) {
+            return None;
+        }
+        Some(Note {
+            offset,
+            key,
+            width,
+            length,
+            kind,
+            kept: Kept::Digest(digest),
+        })
+    }
+
+    /// A note equal to this one. It takes memory where the value is kept.
+    pub fn clone_in(&self, alloc: Global) -> Result<Note, OutOfMemory>
+        ensures equal { IfOk result (λ n. n ≡ self.now) }
+        ensures memory { IsErr result → keeps self.now.key self.now.length ≡ true }
+    {
+        let kept = match &self.kept {
+            Kept::Whole(value) => Kept::Whole(Vec::from_slice(alloc, value)?),
+            Kept::Digest(digest) => Kept::Digest(*digest),
+        };
+        Ok(Note {
+            offset: self.offset,
+            key: self.key,
+            width: self.width,
+            length: self.length,
+            kind: self.kind,
+            kept,
+        })
+    }
+}
+
+/// A law: the order of notes is total, and notes that compare alike are one.
+pub fn notes_that_compare_alike_are_one()
+    ensures total { IsTotalOrder note_cmp }
+    ensures one { (a b : NoteParts) → note_cmp a b ≡ Equal → a ≡ b }
+{}
