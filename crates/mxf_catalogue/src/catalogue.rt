@@ -83,7 +83,7 @@ impl Catalogue {
         ensures err { OnErr result (self.new ≡ self.old) }
     {
         // What is held is a note, which ends where a packet may.
-        prove!(note.end() <= MAX);
+        prove!(note.offset() <= MAX);
         match place(&self.notes, &note) {
             Ok(_) => Ok(Change::Repeated),
             Err(at) => match self.notes.insert(at, note) {

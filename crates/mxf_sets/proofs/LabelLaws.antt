@@ -8,7 +8,7 @@ use Rattle.std.specs.Str.{bytes_eq}
 use Rattle.std.proofs.lemmas.List.{drop-drop, length-drop, length-take}
 use Rattle.byteorder.specs.Endian.{big_number}
 use Rattle.mxf_klv.specs.Rising.{In}
-use Rattle.mxf_sets.specs.Batch.{BatchParts, HasItemsOf, batch_items, item_in, items_by}
+use Rattle.mxf_sets.specs.Batch.{BatchParts, HasItemsOf, batch_items, item_in, sized_items}
 use Rattle.mxf_sets.specs.Primer.{IsOnlyLabel, label_at}
 use Rattle.mxf_sets.specs.PackReadings.{agreed, label_of, labels_among}
 use Rattle.std.proofs.lemmas.Slice.Eq.{bytes_eq-Decides}
@@ -16,7 +16,7 @@ use Rattle.std.proofs.lemmas.Slice.Eq.{bytes_eq-Decides}
 -- ---- the items of a batch
 
 pub items_wide : (count size : ℕ) (bytes : List ℕ) → length bytes ≡ count * size
-    → AllByRecursion (λ item. length item ≡ size) (items_by count size bytes)
+    → AllByRecursion (λ item. length item ≡ size) (sized_items count size bytes)
 items_wide zero size bytes h = tt
 items_wide (suc count) size bytes h = (
   omega (arith, length-take size bytes),
@@ -27,8 +27,8 @@ items_wide (suc count) size bytes h = (
 pub entries_wide : (b : BatchParts) → HasItemsOf 18 b → AllByRecursion (λ item. length item ≡ b.size) (batch_items b)
     → AllByRecursion (λ item. length item ≡ 18) (batch_items b)
 entries_wide b (inl none) all =
-    let nothing : AllByRecursion (λ item. length item ≡ 18) (items_by 0 b.size b.items) = tt in
-    subst (λ (n : ℕ). AllByRecursion (λ item. length item ≡ 18) (items_by n b.size b.items)) (sym none) nothing
+    let nothing : AllByRecursion (λ item. length item ≡ 18) (sized_items 0 b.size b.items) = tt in
+    subst (λ (n : ℕ). AllByRecursion (λ item. length item ≡ 18) (sized_items n b.size b.items)) (sym none) nothing
 entries_wide b (inr same) all = subst (λ (n : ℕ). AllByRecursion (λ item. length item ≡ n) (batch_items b)) same all
 
 -- ---- the labels of a tag
@@ -67,17 +67,17 @@ labels_among-In tag (first ∷ entries) entry (inr k) is =
 
 -- ---- the items by their places
 
-In-items_by : (count size : ℕ) (bytes item : List ℕ) → In item (items_by count size bytes) → (place : ℕ)
+In-sized_items : (count size : ℕ) (bytes item : List ℕ) → In item (sized_items count size bytes) → (place : ℕ)
     × (place < count) × (item ≡ take size (drop (place * size) bytes))
-In-items_by zero size bytes item h = elim h [ ]
-In-items_by (suc count) size bytes item (inl e) = (
+In-sized_items zero size bytes item h = elim h [ ]
+In-sized_items (suc count) size bytes item (inl e) = (
   0,
   omega arith,
   e
       ∙ ap (λ (k : ℕ). take size (drop k bytes)) (sym (zero-mul size)),
 )
-In-items_by (suc count) size bytes item (inr k) =
-    let r = In-items_by count size (drop size bytes) item k in
+In-sized_items (suc count) size bytes item (inr k) =
+    let r = In-sized_items count size (drop size bytes) item k in
     let place = r.0 in
     let at : size + place * size ≡ suc place * size = omega arith in (
       suc place,
@@ -86,15 +86,15 @@ In-items_by (suc count) size bytes item (inr k) =
           (drop-drop (place * size) size bytes ∙ ap (λ (k : ℕ). drop k bytes) at),
     )
 
-items_by-In : (count size place : ℕ) (bytes : List ℕ) → place < count
-    → In (take size (drop (place * size) bytes)) (items_by count size bytes)
-items_by-In zero size place bytes h = absurd (omega arith)
-items_by-In (suc count) size zero bytes h = inl (ap (λ (k : ℕ). take size (drop k bytes)) (zero-mul size))
-items_by-In (suc count) size (suc place) bytes h =
+sized_items-In : (count size place : ℕ) (bytes : List ℕ) → place < count
+    → In (take size (drop (place * size) bytes)) (sized_items count size bytes)
+sized_items-In zero size place bytes h = absurd (omega arith)
+sized_items-In (suc count) size zero bytes h = inl (ap (λ (k : ℕ). take size (drop k bytes)) (zero-mul size))
+sized_items-In (suc count) size (suc place) bytes h =
     let at : size + place * size ≡ suc place * size = omega arith in
-    inr (subst (λ (t : List ℕ). In (take size t) (items_by count size (drop size bytes)))
+    inr (subst (λ (t : List ℕ). In (take size t) (sized_items count size (drop size bytes)))
     (drop-drop (place * size) size bytes ∙ ap (λ (k : ℕ). drop k bytes) at)
-    (items_by-In count size place (drop size bytes) (omega arith)))
+    (sized_items-In count size place (drop size bytes) (omega arith)))
 
 -- ---- the label that all agree on
 
@@ -148,21 +148,21 @@ only_label tag b label = (
   λ h.
       let says = agreed_says (labels_among tag (batch_items b)) label h in
       let some = In-labels_among tag (batch_items b) label says.0 in
-      let there = In-items_by b.count b.size b.items some.0 some.1 in
+      let there = In-sized_items b.count b.size b.items some.0 some.1 in
       record {
         some = (there.0, there.1, ap (big_number 2) (sym there.2) ∙ some.2);
         each = λ place room is. says.1 (label_at b place)
-            (labels_among-In tag (batch_items b) (item_in b place) (items_by-In b.count b.size place b.items room) is);
+            (labels_among-In tag (batch_items b) (item_in b place) (sized_items-In b.count b.size place b.items room) is);
       },
   λ only.
       let place = only.some.0 in
       let here = labels_among-In tag (batch_items b) (item_in b place)
-      (items_by-In b.count b.size place b.items only.some.1) only.some.2 in
+      (sized_items-In b.count b.size place b.items only.some.1) only.some.2 in
       says_agreed (labels_among tag (batch_items b)) label
       (subst (λ (x : List ℕ). In x (labels_among tag (batch_items b))) (only.each place only.some.1 only.some.2) here)
       (λ other m.
       let has = In-labels_among tag (batch_items b) other m in
-      let there = In-items_by b.count b.size b.items has.0 has.1 in
+      let there = In-sized_items b.count b.size b.items has.0 has.1 in
       sym has.3 ∙ ap (drop 2) there.2 ∙ only.each there.0 there.1 (ap (big_number 2) (sym there.2) ∙ has.2)),
 )
 

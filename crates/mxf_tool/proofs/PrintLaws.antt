@@ -12,7 +12,7 @@ use Rattle.mxf_klv.specs.declared.writing.WriteFault.{WriteFault}
 use Rattle.mxf_klv.specs.Parts.{NoteParts}
 use Rattle.mxf_klv.specs.Written.{StopsIn, Writes, WritesPart}
 use Rattle.mxf_klv.proofs.WrittenParts.{StopsIn-middle, WritesPart-after}
-use Rattle.mxf_klv.specs.declared.stops.Stop.{Stop}
+use Rattle.mxf_klv.specs.declared.piece.Stop.{Stop}
 use Rattle.mxf_tool.specs.declared.printing.AnswerFault.{AnswerFault}
 use Rattle.mxf_tool.specs.declared.printing.AnswerFault.TheVariants.{OutOfMemory, Write}
 use Rattle.mxf_tool.specs.Lines.{Prints, lines_of, note_line, piece_line}

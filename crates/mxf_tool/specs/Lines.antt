@@ -8,8 +8,8 @@ use Rattle.mxf_klv.specs.declared.kinds.Kind.{Kind}
 use Rattle.mxf_klv.specs.declared.kinds.Kind.TheVariants.{Header, Body, Footer, Primer, Segment, Rip, Preface}
 use Rattle.mxf_klv.specs.declared.kinds.Kind.TheVariants.{Identification, ContentStorage, MaterialPackage}
 use Rattle.mxf_klv.specs.declared.kinds.Kind.TheVariants.{SourcePackage, RawSet, Fill, Essence, Other}
-use Rattle.mxf_klv.specs.declared.stops.Stop.{Stop}
-use Rattle.mxf_klv.specs.declared.stops.Stop.TheVariants.{End, NotUl, BadLength, TooFar, Truncated}
+use Rattle.mxf_klv.specs.declared.piece.Stop.{Stop}
+use Rattle.mxf_klv.specs.declared.piece.Stop.TheVariants.{End, NotUl, BadLength, TooFar, Truncated}
 use Rattle.mxf_klv.specs.declared.writing.WriteFault.{WriteFault}
 use Rattle.mxf_tool.specs.Hexadecimal.{hex_of}
 use Rattle.mxf_tool.specs.declared.printing.AnswerFault.{AnswerFault}

@@ -80,6 +80,12 @@ fn no_memory<R: Eprint>(rt: &R) -> Exit {
     Exit::NoMemory
 }
 
+/// Tells that a write failed.
+fn unwritten<R: Eprint>(rt: &R) -> Exit {
+    let _ = rt.eprintln("write fault");
+    Exit::Unwritten
+}
+
 /// Prints what `clap` says of arguments that it refused, or its help.
 fn refused<R: Print + Eprint>(rt: &R, refusal: &clap::Error) -> Exit {
     if refusal.kind() == ErrorKind::OutOfMemory {
@@ -91,7 +97,7 @@ fn refused<R: Print + Eprint>(rt: &R, refusal: &clap::Error) -> Exit {
     } else if printed.is_ok() {
         Exit::Done
     } else {
-        Exit::Unwritten
+        unwritten(rt)
     }
 }
 
@@ -128,9 +134,6 @@ fn print_piece<R: Print + Eprint + AllocGlobal>(rt: &R, offset: u64, bytes: &[u8
     match show_slice(rt.alloc(), offset, bytes, &mut out) {
         Ok(_) if out.flush().is_ok() => Exit::Done,
         Err(AnswerFault::OutOfMemory) => no_memory(rt),
-        Ok(_) | Err(AnswerFault::Write(_)) => {
-            let _ = rt.eprintln("write fault");
-            Exit::Unwritten
-        }
+        Ok(_) | Err(AnswerFault::Write(_)) => unwritten(rt),
     }
 }

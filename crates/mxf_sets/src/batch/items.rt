@@ -14,23 +14,23 @@ pub struct BatchItems<'a> {
 
 impl<'a> Model for BatchItems<'a> {
     ghost use Rattle.std.specs.Prelude.{ℕ, List, ◌≡◌, ◌*◌, length};
-    ghost use Rattle.mxf_sets.specs.Batch.{items_by};
+    ghost use Rattle.mxf_sets.specs.Batch.{sized_items};
 
     ghost Value = { List (List ℕ) };
 
-    ghost view = { λ s. items_by s.count s.size s.left.now };
+    ghost view = { λ s. sized_items s.count s.size s.left.now };
 
     ghost invariant = { λ s. length s.left.now ≡ s.count * s.size };
 }
 
 impl<'a> BatchItems<'a> {
     ghost use Rattle.std.specs.Prelude.{◌*◌, length};
-    ghost use Rattle.mxf_sets.specs.Batch.{items_by};
+    ghost use Rattle.mxf_sets.specs.Batch.{sized_items};
 
     /// So many items of a size, one after another.
     pub(super) fn of(count: u32, size: u32, items: &'a [u8]) -> BatchItems<'a>
         requires { length items.now ≡ count * size }
-        ensures { result ≡ items_by count size items.now }
+        ensures { result ≡ sized_items count size items.now }
     {
         BatchItems {
             count,

@@ -1,7 +1,8 @@
 use Rattle.std.proofs.Common.{◌≡◌, sym, ◌∙◌, ap, subst}
 use Rattle.std.specs.List.{insert}
 use Rattle.mxf_klv.specs.NoteOrder.{note_total, note_cmp-IsAntisymmetric}
-use Rattle.mxf_klv.specs.Rising.{In, with_one_present}
+use Rattle.mxf_klv.specs.Rising.{In}
+use Rattle.mxf_klv.proofs.RisingLemmas.{with_one_present}
 use Rattle.mxf_catalogue.specs.Content.{IsCatalogue}
 use Rattle.mxf_catalogue.proofs.ContentLaws.{IsCatalogue-with_note}
 use Rattle.mxf_catalogue.proofs.catalogue.Catalogue.add.Goals as goal
@@ -16,7 +17,7 @@ invariant_of-self c =
           let before : IsCatalogue held = subst IsCatalogue (sym c.deref.ensures.value) c.self.invariant in
           let is = w.in-Ok-insert.ensures.items
           ∙ (ap (λ l. insert l c.in-Err.at note) (sym c.deref.ensures.value) ∙ c.in-Err.ensures.absent.inserted) in
-          subst IsCatalogue (sym is) (IsCatalogue-with_note note held c.end.ensures.note before)
+          subst IsCatalogue (sym is) (IsCatalogue-with_note note held c.offset.ensures.note before)
       | in-Err-insert w ↦ subst IsCatalogue (sym w.in-Err-insert.ensures.items) c.self.invariant
     ]
 

@@ -10,4 +10,4 @@ returns-clause-size c =
     let wide = items_wide b.count b.size b.items.now c.self.invariant in
     subst (λ (xs : List (List ℕ)). AllByRecursion (λ item. length item ≡ c.args.self.now.size) xs) (sym c.of.ensures)
     (subst (λ (x : BatchParts). AllByRecursion (λ item. length item ≡ x.size)
-    (Rattle.mxf_sets.specs.Batch.items_by b.count b.size b.items.now)) c.self.view_is wide)
+    (Rattle.mxf_sets.specs.Batch.sized_items b.count b.size b.items.now)) c.self.view_is wide)
