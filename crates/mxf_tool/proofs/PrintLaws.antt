@@ -1,6 +1,8 @@
 -- Lines that are printed one after another.
-use Rattle.std.proofs.Common.{◌≡◌, ℕ, suc, ◌+◌, ◌<◌, ◌≤◌, get_or, List, [], ◌∷◌, ◌++◌, Ok, Err, Result, arith, length, take}
-use Rattle.std.proofs.Common.{add-one, drop, drop-cons, take-append-drop, append_assoc, sym, ap, ◌∙◌, subst, refl, map, length-append}
+use Rattle.std.proofs.Common.{◌≡◌, ℕ, suc, ◌+◌, ◌<◌, ◌≤◌, get_or, List, [], ◌∷◌, ◌++◌, Ok, Err, Result, arith, length}
+use Rattle.std.proofs.Common.{take}
+use Rattle.std.proofs.Common.{add-one, drop, drop-cons, take-append-drop, append_assoc, sym, ap, ◌∙◌, subst, refl}
+use Rattle.std.proofs.Common.{map, length-append}
 use Rattle.std.specs.Prelude.{Option}
 use Rattle.std.specs.List.{concat}
 use Rattle.std.specs.Io.KnownBytes.{Appends}
@@ -34,8 +36,8 @@ Printed-after a b c before mid after done more p q =
     subst (λ (bytes : List ℕ). WritesPart {X = Unit {0}} a c before after (Ok tt) bytes) same whole
 
 -- a fault in a line, after lines that were printed, is a fault of all lines
-pub Prints-fault : (X Y : Type 0) (a b c : Option (List ℕ)) (mid after : ℕ) (f : AnswerFault) (done rest : List (List ℕ))
-    (line : List ℕ) → Printed a b 0 mid done → Prints {X = X} (WritesPart b c mid after) (Err f) (line ∷ [])
+pub Prints-fault : (X Y : Type 0) (a b c : Option (List ℕ)) (mid after : ℕ) (f : AnswerFault)
+    (done rest : List (List ℕ)) (line : List ℕ) → Printed a b 0 mid done → Prints {X = X} (WritesPart b c mid after) (Err f) (line ∷ [])
     → Prints {X = Y} (Writes a c) (Err f) (done ++ line ∷ rest)
 Prints-fault X Y a b c mid after (Write fault) done rest line p q =
     let part : StopsIn b c mid fault line = subst (StopsIn b c mid fault) (append-nil line) q.0 in
@@ -65,7 +67,8 @@ map-at notes i n h is =
     let rest = drop (suc i) notes in
     let here : note_line n ≡ note_line (get_or notes i n) = ap note_line is in
     let parts = sym (map-append note_line (take i notes) (get_or notes i n ∷ rest)) in
-    let whole = ap (λ (l : List NoteParts). take i notes ++ l) (sym (drop-cons notes i n h)) ∙ take-append-drop i notes in
+    let joined = ap (λ (l : List NoteParts). take i notes ++ l) (sym (drop-cons notes i n h)) in
+    let whole = joined ∙ take-append-drop i notes in
     ap (λ (l : List ℕ). map note_line (take i notes) ++ l ∷ map note_line rest) here ∙ parts ∙ ap (map note_line) whole
 
 pub one_more : (a b c : Option (List ℕ)) (before mid after : ℕ) (notes : List NoteParts) (i : ℕ) (n : NoteParts)
@@ -81,7 +84,8 @@ pub first_fault : (X Y : Type 0) (a c : Option (List ℕ)) (start after : ℕ) (
     → Prints {X = X} (WritesPart a c start after) (Err f) (piece_line offset (length seen) found ∷ [])
     → Prints {X = Y} (Writes a c) (Err f) (lines_of offset notes stop)
 first_fault X Y a c start after f offset seen notes found stop seen-is found-is start-is q =
-    subst (λ (ls : List (List ℕ)). Prints {X = Y} (Writes a c) (Err f) ls) (λ i. lines_of offset (seen-is i) (found-is i))
+    subst (λ (ls : List (List ℕ)). Prints {X = Y} (Writes a c) (Err f) ls)
+    (λ i. lines_of offset (seen-is i) (found-is i))
     (Prints-fault X Y a a c start after f [] (map note_line seen) (piece_line offset (length seen) found)
     (none_printed a start start-is) q)
 
@@ -113,4 +117,5 @@ all_printed a b c start first mid i offset seen notes found stop seen-is found-i
     let begun : Printed a b 0 first (piece ∷ []) = subst (λ (k : ℕ). Printed a b k first (piece ∷ [])) start-is p in
     let done = Printed-after a b c 0 first mid (piece ∷ []) (map note_line (take i seen)) begun q in
     let all = ap (λ (ns : List NoteParts). piece ∷ map note_line ns) (take_all i seen h) in
-    subst (λ (ls : List (List ℕ)). Appends a c (concat ls)) (all ∙ (λ j. lines_of offset (seen-is j) (found-is j))) done.0
+    let lines = all ∙ (λ j. lines_of offset (seen-is j) (found-is j)) in
+    subst (λ (ls : List (List ℕ)). Appends a c (concat ls)) lines done.0

@@ -8,7 +8,10 @@ pub returns-in_default-split_once-clause-fault : goal.returns-in_default-split_o
 returns-in_default-split_once-clause-fault c = (
   c.in-Some-strip_prefix.rest.now,
   search rules,
-  λ digits path offset s. split_after 58 c.in-Some-strip_prefix.rest.now digits path None c.in_default-split_once.ensures.cases (omega arith) s.whole (no_colon digits s.place.digits),
+  λ digits path offset s.
+      let none = c.in_default-split_once.ensures.cases in
+      split_after 58 c.in-Some-strip_prefix.rest.now digits path None none (omega arith) s.whole
+      (no_colon digits s.place.digits),
 )
 
 pub returns-in_default-offset_of-clause-fault : goal.returns-in_default-offset_of-clause-fault
@@ -16,6 +19,8 @@ returns-in_default-offset_of-clause-fault c = (
   c.in-Some-strip_prefix.rest.now,
   search rules,
   λ digits path offset s.
-      let same = split_after 58 c.in-Some-strip_prefix.rest.now digits path (Some (c.in-Some-split_once.digits, c.in-Some-split_once.path)) c.in-Some-split_once.ensures.cases (omega arith) s.whole (no_colon digits s.place.digits) in
+      let parts = c.in-Some-split_once in
+      let same = split_after 58 c.in-Some-strip_prefix.rest.now digits path (Some (parts.digits, parts.path))
+      parts.ensures.cases (omega arith) s.whole (no_colon digits s.place.digits) in
       c.in_default-offset_of.ensures offset (subst (λ t. IsOffset t offset) (sym same.0) s.place),
 )
