@@ -65,7 +65,9 @@ pub fn walk(alloc: Global, offset: u64, bytes: &[u8]) -> Result<PieceNotes, OutO
     'packets: loop {
         match next_packet(at, rest) {
             Ok((packet, size)) => {
-                let note = Note::of(alloc, at, &packet).map_err(|_| OutOfMemory)?;
+                let Ok(note) = Note::of(alloc, at, &packet) else {
+                    return Err(OutOfMemory);
+                };
                 notes.push(note)?;
                 at += size as u64;
                 let (_, after) = rest.split_at(size);
