@@ -1,5 +1,5 @@
-//! Header metadata sets (ST 377-1, structural metadata) as records: a table names a set's fields, and the check of the set's
-//! items under the table comes before any field is taken.
+//! Header metadata sets (ST 377-1, structural metadata) as records: a table names a set's fields, and the check of the
+//! set's items under the table comes before any field is taken.
 ghost use Rattle.std.specs.Prelude.{◌≡◌, ◌↔◌, ℕ, List, Ok, true, IfOk, OnOk};
 ghost use Rattle.std.specs.List.{AllByRecursion};
 ghost use Rattle.mxf_klv.specs.Bytes.{AreBytes};

@@ -145,8 +145,8 @@ impl<'a> PartitionPack<'a> {
     }
 }
 
-/// The numbers, the pattern and the labels of the essence containers. Key and length are those of the packet that holds the
-/// value.
+/// The numbers, the pattern and the labels of the essence containers. Key and length are those of the packet that holds
+/// the value.
 impl<'a> Encode for PartitionPack<'a> {
     ghost encoding = { pack_bytes };
 
