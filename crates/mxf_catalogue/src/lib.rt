@@ -10,6 +10,17 @@
 //! - joins are associative, commutative and idempotent on contents: the laws of [`Semilattice`].
 //!
 //! That memory is there, and that a call succeeds with it, is tested.
+//!
+//! Two readings of a recording, joined:
+//!
+//! ```
+//! let mut morning = Catalogue::new(alloc);
+//! morning.add(note)?;
+//! let all = Catalogue::join(alloc, &morning, &evening)?;
+//! for disputed in all.disputed() {
+//!     // disputed.note, disputed.same_offset, disputed.overlaps
+//! }
+//! ```
 #![tactic(auto)]
 
 mod catalogue;

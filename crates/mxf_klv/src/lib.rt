@@ -1,4 +1,16 @@
 //! Labels, lengths, packets and notes: the KLV coding of SMPTE ST 336, with the packet kinds of ST 377-1.
+//!
+//! The packets of a piece that lies at `offset` of a file, and a note of each:
+//!
+//! ```
+//! let mut rest = bytes;
+//! while let Ok((packet, size)) = next_packet(offset, rest) {
+//!     let note = Note::of(alloc, offset, &packet)?;
+//!     // note.kind(), note.end(), note.held() ..
+//!     offset += size as u64;
+//!     rest = &rest[size..];
+//! }
+//! ```
 #![tactic(auto)]
 
 mod ber;
