@@ -14,9 +14,9 @@ use Rattle.mxf_klv.specs.Ber.{IsSpelledLength, ReadsLength}
 pub pow_256 : (n : ℕ) → n ≤ 8 → 256 ^ n ≤ 2 ^ 64
 pow_256 n h = pow-le-pow_right {n = 256} (omega arith) {i = n} {j = 8} h
 
-pub wide_fits : (bytes : List ℕ) (first : ℕ) (rest : List ℕ) → bytes ≡ first ∷ rest →
-    ((i : ℕ) → get_or bytes i 0 < 256) → 129 ≤ first → first ≤ 136 → CanSpell (first - 127)
-    (big_number (first - 128) rest)
+pub wide_fits : (bytes : List ℕ) (first : ℕ) (rest : List ℕ) → bytes ≡ first ∷ rest
+    → ((i : ℕ) → get_or bytes i 0 < 256) → 129 ≤ first → first ≤ 136
+    → CanSpell (first - 127) (big_number (first - 128) rest)
 wide_fits bytes first rest is fits low high =
     let e : first - 127 - 1 ≡ first - 128 = omega arith in
     let rest_fits : (i : ℕ) → get_or rest i 0 < 256 = λ i. rw is at (fits (suc i)) in
@@ -51,8 +51,8 @@ spelled_len (f ∷ rest) w v p =
     elim p [ inl s ↦ (let len : length rest ≡ 0 = ap length s.3 in omega arith) | inr s ↦ omega arith ]
 
 -- two lengths at the front of one text are one
-pub one_length : (a b x y : List ℕ) (m v n w : ℕ) → IsSpelledLength a m v → IsSpelledLength b n w → a ++ x ≡ b ++ y →
-    (a ≡ b) × (m ≡ n) × (v ≡ w)
+pub one_length : (a b x y : List ℕ) (m v n w : ℕ) → IsSpelledLength a m v → IsSpelledLength b n w → a ++ x ≡ b ++ y
+    → (a ≡ b) × (m ≡ n) × (v ≡ w)
 one_length [] b x y m v n w p q e = absurd p
 one_length (c ∷ cs) [] x y m v n w p q e = absurd q
 one_length (c ∷ cs) (d ∷ ds) x y m v n w p q e =

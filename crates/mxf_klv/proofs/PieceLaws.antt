@@ -247,10 +247,12 @@ packet_at-fault offset bytes f r =
 
 -- ---- pieces
 
-shorter : (offset : ℕ) (bytes : List ℕ) (p : PacketParts) → packet_at offset bytes ≡ Some p → length
-    (drop (size_of p) bytes) + 16 ≤ length bytes
-shorter offset bytes p e = let s = packet_at-stands offset bytes p e in let room = s.room in omega
-    (arith, length-drop (size_of p) bytes)
+shorter : (offset : ℕ) (bytes : List ℕ) (p : PacketParts) → packet_at offset bytes ≡ Some p
+    → length (drop (size_of p) bytes) + 16 ≤ length bytes
+shorter offset bytes p e =
+    let s = packet_at-stands offset bytes p e in
+    let room = s.room in
+    omega (arith, length-drop (size_of p) bytes)
 
 pub none_at_end : (offset : ℕ) (bytes : List ℕ) → length bytes ≤ 0 → packet_at offset bytes ≡ None
 none_at_end offset bytes h =

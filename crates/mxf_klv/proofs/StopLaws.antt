@@ -108,11 +108,13 @@ choice none begins bad far offset =
     cond none End (cond (not begins) (NotUl offset)
     (cond bad (BadLength offset) (cond far (TooFar offset) (Truncated offset))))
 
-by_cases : (P : Stop → Type 0) (none begins bad far : Bool) (offset : ℕ) → (none ≡ true → P End) →
-    (begins ≡ false → P (NotUl offset))
-    → (begins ≡ true → bad ≡ true → P (BadLength offset)) → (far ≡ true → P (TooFar offset))
-    → (none ≡ false → begins ≡ true → bad ≡ false → far ≡ false → P (Truncated offset)) → P
-    (choice none begins bad far offset)
+by_cases : (P : Stop → Type 0) (none begins bad far : Bool) (offset : ℕ)
+    → (none ≡ true → P End)
+    → (begins ≡ false → P (NotUl offset))
+    → (begins ≡ true → bad ≡ true → P (BadLength offset))
+    → (far ≡ true → P (TooFar offset))
+    → (none ≡ false → begins ≡ true → bad ≡ false → far ≡ false → P (Truncated offset))
+    → P (choice none begins bad far offset)
 by_cases P true begins bad far offset a b c d e = a refl
 by_cases P false false bad far offset a b c d e = b refl
 by_cases P false true true far offset a b c d e = c refl refl
