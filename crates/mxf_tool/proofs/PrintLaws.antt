@@ -1,7 +1,7 @@
 -- Lines that are printed one after another.
-use Rattle.std.proofs.Common.{◌≡◌, ℕ, suc, ◌+◌, ◌<◌, ◌≤◌, get_or, List, [], ◌∷◌, ◌++◌, Ok, Err, Result, arith, length}
+use Rattle.std.proofs.Common.{◌≡◌, ℕ, suc, ◌+◌, ◌<◌, ◌≤◌, get_or, List, [], ◌∷◌, ◌++◌, Ok, Err, arith, length}
 use Rattle.std.proofs.Common.{take}
-use Rattle.std.proofs.Common.{add-one, drop, drop-cons, take-append-drop, append_assoc, sym, ap, ◌∙◌, subst, refl}
+use Rattle.std.proofs.Common.{add-one, drop, drop-cons, take-append-drop, sym, ap, ◌∙◌, subst}
 use Rattle.std.proofs.Common.{map, length-append}
 use Rattle.std.specs.Prelude.{Option}
 use Rattle.std.specs.List.{concat}
@@ -10,7 +10,6 @@ use Rattle.std.proofs.KnownBytes.{Appends-nil, Appends-trans}
 use Rattle.std.proofs.lemmas.List.{append-nil, map-append}
 use Rattle.std.proofs.lemmas.List.Folds.{concat-append}
 use Rattle.std.proofs.Math.Seq.{take-append_seam, take-suc, take_all}
-use Rattle.mxf_klv.specs.declared.writing.WriteFault.{WriteFault}
 use Rattle.mxf_klv.specs.Parts.{NoteParts}
 use Rattle.mxf_klv.specs.Written.{StopsIn, Writes, WritesPart}
 use Rattle.mxf_klv.proofs.WrittenParts.{StopsIn-middle, WritesPart-after}
