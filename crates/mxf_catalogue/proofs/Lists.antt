@@ -1,6 +1,6 @@
 -- Members of lists that are filtered, searched and mapped.
 use Rattle.std.specs.Prelude.{◌≡◌, ◌↔◌, ◌≤◌, Bool, true, false, cond, ◌||◌, List, [], ◌∷◌, length, IsTrue, refl}
-use Rattle.std.specs.Prelude.{filter, find, map, Option, Some, None}
+use Rattle.std.specs.Prelude.{filter, find, map, Some, None}
 use Rattle.std.specs.List.{list_any, AllByRecursion}
 use Rattle.std.proofs.Common.{sym, ◌∙◌, ap, inl, inr, arith}
 use Rattle.mxf_klv.specs.Rising.{In}

@@ -1,8 +1,6 @@
 -- Lines that are printed one after another.
-use Rattle.std.proofs.Common.{◌≡◌, ℕ, suc, ◌+◌, ◌<◌, ◌≤◌, get_or, List, [], ◌∷◌, ◌++◌, Ok, Err, Result, arith, length}
-use Rattle.std.proofs.Common.{take}
-use Rattle.std.proofs.Common.{add-one, drop, drop-cons, take-append-drop, append_assoc, sym, ap, ◌∙◌, subst, refl}
-use Rattle.std.proofs.Common.{map, length-append}
+use Rattle.std.proofs.Common.{◌≡◌, ℕ, suc, ◌+◌, ◌<◌, ◌≤◌, get_or, List, [], ◌∷◌, ◌++◌, Ok, Err, arith, length}
+use Rattle.std.proofs.Common.{take, add-one, drop, drop-cons, take-append-drop, sym, ap, ◌∙◌, subst, map, length-append}
 use Rattle.std.specs.Prelude.{Option}
 use Rattle.std.specs.List.{concat}
 use Rattle.std.specs.Io.KnownBytes.{Appends}
@@ -10,7 +8,6 @@ use Rattle.std.proofs.KnownBytes.{Appends-nil, Appends-trans}
 use Rattle.std.proofs.lemmas.List.{append-nil, map-append}
 use Rattle.std.proofs.lemmas.List.Folds.{concat-append}
 use Rattle.std.proofs.Math.Seq.{take-append_seam, take-suc, take_all}
-use Rattle.mxf_klv.specs.declared.writing.WriteFault.{WriteFault}
 use Rattle.mxf_klv.specs.Parts.{NoteParts}
 use Rattle.mxf_klv.specs.Written.{StopsIn, Writes, WritesPart}
 use Rattle.mxf_klv.proofs.WrittenParts.{StopsIn-middle, WritesPart-after}
@@ -37,7 +34,8 @@ Printed-after a b c before mid after done more p q =
 
 -- a fault in a line, after lines that were printed, is a fault of all lines
 pub Prints-fault : (X Y : Type 0) (a b c : Option (List ℕ)) (mid after : ℕ) (f : AnswerFault)
-    (done rest : List (List ℕ)) (line : List ℕ) → Printed a b 0 mid done → Prints {X = X} (WritesPart b c mid after) (Err f) (line ∷ [])
+    (done rest : List (List ℕ)) (line : List ℕ) → Printed a b 0 mid done
+    → Prints {X = X} (WritesPart b c mid after) (Err f) (line ∷ [])
     → Prints {X = Y} (Writes a c) (Err f) (done ++ line ∷ rest)
 Prints-fault X Y a b c mid after (Write fault) done rest line p q =
     let part : StopsIn b c mid fault line = subst (StopsIn b c mid fault) (append-nil line) q.0 in

@@ -1,6 +1,6 @@
 use Rattle.std.proofs.Common.{◌≡◌, ◌==◌, find, Some, None, true, false, sym, ◌∙◌, ap}
 use Rattle.mxf_klv.specs.Parts.{NoteParts}
-use Rattle.mxf_catalogue.specs.Disputes.{is_disputed, clear_notes}
+use Rattle.mxf_catalogue.specs.Disputes.{is_disputed}
 use Rattle.mxf_catalogue.proofs.DisputeLaws.{clear_at-none, clear_at-disputed, clear_at-clear}
 use Rattle.mxf_catalogue.proofs.DisputeLaws.{clear_at-IsClear, clear_at-no_clear}
 use Rattle.mxf_catalogue.proofs.catalogue.Catalogue.clear_at.Goals as goal
