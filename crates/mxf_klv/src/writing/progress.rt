@@ -1,5 +1,5 @@
 //! How far the writing of a value has come.
-ghost use Rattle.std.specs.Prelude.{◌≡◌, ◌≤◌};
+ghost use Rattle.std.specs.Prelude.{◌≡◌, ◌^◌, ◌<◌, ◌≤◌};
 
 use super::WriteFault;
 use std::io::{ErrorKind, Write};
@@ -17,6 +17,7 @@ pub struct Progress {
     /// The writes that were interrupted and repeated, at most 1,024.
     pub interruptions: u32,
 
+    ghost in_range: { written < 2 ^ 64 },
     ghost few: { interruptions ≤ 1024 },
 }
 

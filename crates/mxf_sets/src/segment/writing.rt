@@ -66,8 +66,6 @@ fn put_items<W: Write>(
     requires { AllByRecursion IsItem items.now }
     ensures { Puts W.contents writer.old writer.new progress.old progress.new result (flat_map item_bytes items.now) }
 {
-    // Read for the proof: the count fits its type before the first item.
-    let _written = progress.written;
     'items: for item in items {
         put_item(item, progress, writer)?;
     }
