@@ -22,7 +22,7 @@ use crate::packet::Packet;
 pub use held::Held;
 use held::Kept;
 use sha2::{Digest, Sha256};
-use std::alloc::{AllocError, Global};
+use std::alloc::Global;
 use std::marker::Model;
 use thiserror::Error;
 
@@ -74,10 +74,10 @@ pub enum NoteFault {
     OutOfMemory,
 }
 
-impl From<AllocError> for NoteFault {
+impl From<OutOfMemory> for NoteFault {
     ghost from_gives = { λ _ e. e ≡ faults.OutOfMemory };
 
-    fn from(_e: AllocError) -> NoteFault {
+    fn from(_fault: OutOfMemory) -> NoteFault {
         NoteFault::OutOfMemory
     }
 }
@@ -113,13 +113,25 @@ impl Note {
         ensures too_far { IsErrOf result NoteFault.TooFar ↔ (greatest_end < end_of (note_of offset packet.now)) }
         ensures memory { IsErrOf result NoteFault.OutOfMemory → keeps packet.now.key (length packet.now.value) ≡ true }
     {
-        let value = packet.value();
-        let width = packet.width();
-        let length = value.len() as u64;
-        let end = u128::from(offset) + 16 + u128::from(width) + u128::from(length);
+        let length = packet.value().len() as u64;
+        let end = u128::from(offset) + 16 + u128::from(packet.width()) + u128::from(length);
         if end > u128::from(MAX) {
             return Err(NoteFault::TooFar);
         }
+        Ok(Note::within(alloc, offset, packet)?)
+    }
+
+    /// The note of a packet at a file offset, in bytes, which ends at or below [`MAX`].
+    ///
+    /// It takes memory where the value is kept.
+    pub fn within(alloc: Global, offset: u64, packet: &Packet<'_>) -> Result<Note, OutOfMemory>
+        requires { end_of (note_of offset packet.now) ≤ greatest_end }
+        ensures noted { IfOk result (λ n. n ≡ note_of offset packet.now) }
+        ensures memory { IsErr result → keeps packet.now.key (length packet.now.value) ≡ true }
+    {
+        let value = packet.value();
+        let width = packet.width();
+        let length = value.len() as u64;
         let key = packet.key();
         let kind = kind(&key);
         let kept = if keeps(kind, length) {

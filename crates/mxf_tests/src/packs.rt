@@ -43,7 +43,7 @@ fn what_is_no_partition_pack_is_refused(rt: HostRuntime) -> Result<(), Fail> {
         Some(PackFault::NotThisKind)
     );
     assert_eq!(rt;
-        PartitionPack::read(&key, &header_value()[..87]).err(),
+        PartitionPack::read(&key, header_value().get(..87).ok_or("a front")?).err(),
         Some(PackFault::Short)
     );
     let mut longer = [0u8; 104];
@@ -182,12 +182,16 @@ fn a_tag_has_the_label_that_its_entries_agree_on(rt: HostRuntime) -> Result<(), 
 fn a_primer_is_a_batch_of_items_of_eighteen_bytes(rt: HostRuntime) -> Result<(), Fail> {
     let value = two_entries(rt.alloc(), 0xAA, 0xBB)?;
     assert_eq!(rt; Primer::read(&[0u8; 9]).err(), Some(PackFault::BadBatch));
-    let entries = Batch::of(&value[8..], 18).ok_or("two entries")?;
+    let entries = Batch::of(value.as_slice().get(8..).ok_or("the entries")?, 18).ok_or(
+        "two entries",
+    )?;
     let primer = Primer::of(entries).ok_or("a primer")?;
     let mut written = Vec::new(rt.alloc());
     primer.write_to(&mut written)?;
     assert_eq!(rt; written.as_slice(), value.as_slice());
-    let others = Batch::of(&value[8..], 12).ok_or("three items")?;
+    let others = Batch::of(value.as_slice().get(8..).ok_or("the entries")?, 12).ok_or(
+        "three items",
+    )?;
     assert_eq!(rt; Primer::of(others).is_none(), true);
     Ok(())
 }
@@ -218,11 +222,11 @@ fn a_random_index_pack_counts_its_packet(rt: HostRuntime) -> Result<(), Fail> {
         Some(PackFault::WrongLength)
     );
     assert_eq!(rt;
-        Rip::read(4, &rip_value()[..3]).err(),
+        Rip::read(4, rip_value().get(..3).ok_or("a front")?).err(),
         Some(PackFault::Short)
     );
     assert_eq!(rt;
-        Rip::read(4, &rip_value()[1..]).err(),
+        Rip::read(4, rip_value().get(1..).ok_or("a rest")?).err(),
         Some(PackFault::WrongLength)
     );
     Ok(())

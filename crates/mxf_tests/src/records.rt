@@ -89,9 +89,9 @@ fn a_preface_lists_its_identifications(rt: HostRuntime) -> Result<(), Fail> {
 #[test]
 fn a_preface_without_storage_is_refused(rt: HostRuntime) -> Result<(), Fail> {
     let value = set_value(rt.alloc(), &[(0x3C0A, &[0x11; 16]), (0x3B03, &[0x22; 16])])?;
-    let without = Preface::read(&value[..20]);
+    let without = Preface::read(value.as_slice().get(..20).ok_or("a front")?);
     assert_eq!(rt; without.err(), Some(FieldFault::Missing(0x3B03)));
-    let cut = Preface::read(&value[..39]);
+    let cut = Preface::read(value.as_slice().get(..39).ok_or("a front")?);
     assert_eq!(rt; cut.err(), Some(FieldFault::Set(20)));
     assert_eq!(rt; instance_uid(&[]).err(), Some(FieldFault::Missing(0x3C0A)));
     Ok(())
@@ -99,7 +99,7 @@ fn a_preface_without_storage_is_refused(rt: HostRuntime) -> Result<(), Fail> {
 
 #[test]
 fn a_storage_lists_its_packages(rt: HostRuntime) -> Result<(), Fail> {
-    let mut value = set_value(
+    let value = set_value(
         rt.alloc(),
         &[(0x3C0A, &[0x22; 16]), (0x1901, &TWO_REFERENCES)],
     )?;
@@ -111,8 +111,12 @@ fn a_storage_lists_its_packages(rt: HostRuntime) -> Result<(), Fail> {
     assert_eq!(rt; packages.get(2), None);
     assert_eq!(rt; packages.next(), Some(uid(0x61)));
     assert_eq!(rt; packages.len(), 1);
-    // The batch states an item size of 17.
-    value.as_mut_slice()[31] = 0x11;
+    let mut of_seventeen = TWO_REFERENCES;
+    of_seventeen[7] = 17;
+    let value = set_value(
+        rt.alloc(),
+        &[(0x3C0A, &[0x22; 16]), (0x1901, &of_seventeen)],
+    )?;
     let other = ContentStorage::read(&value);
     assert_eq!(rt; other.err(), Some(FieldFault::WrongWidth(0x1901)));
     Ok(())

@@ -1,6 +1,6 @@
 use Rattle.std.proofs.Common.{arith, rules}
-use Rattle.mxf_klv.proofs.note.Note.of.Goals as goal
-use Rattle.mxf_klv.proofs.note.Note.of.Goals.{then-keeps+in_ok-from_slice, else-keeps}
+use Rattle.mxf_klv.proofs.note.Note.within.Goals as goal
+use Rattle.mxf_klv.proofs.note.Note.within.Goals.{then-keeps+in_ok-from_slice, else-keeps}
 
 pub invariant_of-result : goal.invariant_of-result
 invariant_of-result c = (
