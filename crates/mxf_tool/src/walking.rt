@@ -65,9 +65,7 @@ pub fn walk(alloc: Global, offset: u64, bytes: &[u8]) -> Result<PieceNotes, OutO
     'packets: loop {
         match next_packet(at, rest) {
             Ok((packet, size)) => {
-                let Ok(note) = Note::of(alloc, at, &packet) else {
-                    return Err(OutOfMemory);
-                };
+                let note = Note::within(alloc, at, &packet)?;
                 notes.push(note)?;
                 at += size as u64;
                 let (_, after) = rest.split_at(size);
