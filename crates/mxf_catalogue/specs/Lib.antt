@@ -2,3 +2,4 @@ pub mod Content
 pub mod Disputes
 pub mod History
 pub mod Joins
+pub mod Runs

@@ -5,7 +5,7 @@ ghost use Rattle.std.specs.Option.{option_copied};
 ghost use Rattle.mxf_klv.specs.Parts.{NoteParts};
 ghost use Rattle.mxf_klv.specs.Rising.{In, SameMembers};
 ghost use Rattle.mxf_catalogue.specs.Content.{IsCatalogue, IsContent, IsPlace, with_note, union_of};
-ghost use Rattle.mxf_catalogue.specs.Disputes.{IsClear, clear_notes, disputed_notes};
+ghost use Rattle.mxf_catalogue.specs.Disputes.{AreApart, IsClear, clear_notes, disputed_notes};
 
 mod clear;
 mod disputed;
@@ -128,6 +128,7 @@ impl Catalogue {
     /// The clear notes in their order: those that share no byte with another. It takes no memory.
     pub fn clear(&self) -> ClearNotes<'_>
         ensures notes { result ≡ clear_notes self.now }
+        ensures apart { AreApart 0 result }
         ensures bound { length result < 2 ^ 64 }
     {
         ClearNotes::of(&self.notes)

@@ -25,6 +25,7 @@
 
 mod catalogue;
 mod history;
+mod run;
 mod semilattice;
 
 pub use catalogue::{
@@ -34,4 +35,5 @@ pub use catalogue::{
     notes_are_disputed_in_two_ways,
 };
 pub use history::{histories_leave_what_they_were_handed, one_set_one_content};
+pub use run::{Run, one_list_of_maximal_runs};
 pub use semilattice::Semilattice;

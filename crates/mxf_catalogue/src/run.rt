@@ -1,0 +1,16 @@
+//! Ranges of offsets (this project's profile).
+ghost use Rattle.std.specs.Prelude.{◌≡◌, ℕ, List};
+ghost use Rattle.mxf_catalogue.specs.declared.run.Run.{Run};
+ghost use Rattle.mxf_catalogue.specs.Runs.{AreMaximal, SameOffsets};
+
+/// A range of file offsets, in bytes, the end excluded.
+#[derive(Clone, Copy, Debug, PartialEq, Eq)]
+pub struct Run {
+    pub start: u64,
+    pub end: u64,
+}
+
+/// A law: a set of offsets has one list of maximal runs at most.
+pub fn one_list_of_maximal_runs()
+    ensures { (a b : List Run) → AreMaximal 0 a → AreMaximal 0 b → SameOffsets a b → a ≡ b }
+{}

@@ -1,0 +1,4 @@
+pub mod BestLaws
+pub mod GapsLaws
+pub mod SpanCounts
+pub mod StartLaws

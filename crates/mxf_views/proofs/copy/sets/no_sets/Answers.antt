@@ -1,0 +1,23 @@
+use Rattle.std.proofs.Common.{◌≡◌, ◌+◌, ◌≤◌, Bool, true, false, List, [], ◌∷◌, ◌∙◌, ap, refl, arith, leb-true}
+use Rattle.std.specs.Prelude.{◌&&◌, nat_le, filter}
+use Rattle.mxf_klv.specs.Parts.{NoteParts}
+use Rattle.mxf_klv.specs.Note.{end_of}
+use Rattle.mxf_catalogue.specs.Disputes.{clear_notes}
+use Rattle.mxf_views.specs.Copies.{is_set_note, zone_of}
+use Rattle.mxf_views.specs.Spans.{lies_in}
+use Rattle.mxf_views.proofs.copy.sets.no_sets.Goals as goal
+
+not_both : (a b : Bool) → (b ≡ true → ⊥) → (a && b) ≡ false
+not_both true true h = absurd (h refl)
+not_both true false h = refl
+not_both false b h = refl
+
+-- no packet lies in no byte
+no_zone : (notes : List NoteParts) → zone_of 0 0 notes ≡ []
+no_zone [] = refl
+no_zone (n ∷ notes) =
+    let e : lies_in 0 0 n ≡ false = not_both (nat_le 0 n.offset) (nat_le (end_of n) (0 + 0)) (λ t. let l : end_of n ≤ 0 + 0 = leb-true (end_of n) (0 + 0) t in omega arith) in
+    rw e (no_zone notes)
+
+pub returns : goal.returns
+returns c = c.of.ensures ∙ ap (filter is_set_note) (c.clear_zone.ensures.notes ∙ no_zone (clear_notes c.args.catalogue.now))

@@ -1,0 +1,7 @@
+use Rattle.std.proofs.Common.{◌≡◌}
+use Rattle.std.specs.Prelude.{find}
+use Rattle.mxf_views.specs.Copies.{is_preface_note}
+use Rattle.mxf_views.proofs.reference.resolved.preface_among.Given as goal
+
+abbrev pub invariant-loop-note : goal.invariant-loop-note
+invariant-loop-note l = find is_preface_note l.note-iterator ≡ find is_preface_note l.fn.sets

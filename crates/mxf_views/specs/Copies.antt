@@ -1,0 +1,192 @@
+-- Copies of the header metadata (ST 377-1, header metadata of a partition; which copy is preferred is this project's
+-- profile). They are by the clear notes alone.
+use Rattle.std.specs.Prelude.{◌≡◌, ℕ, ◌+◌, ◌-◌, ◌<◌, ◌≤◌, ◌⊎◌, Bool, true, false, ◌&&◌, ◌==◌, nat_le, nat_lt, cond, Option, Some, None, is_some, List, [], ◌∷◌, map, filter, find, count_by, sum_by, MatchOption, IsTrue, ◌||◌}
+use Rattle.std.specs.Option.{option_map}
+use Rattle.std.specs.List.{list_all}
+use Rattle.mxf_klv.specs.declared.kinds.Kind.{Kind}
+use Rattle.mxf_klv.specs.declared.kinds.Kind.TheVariants as kinds
+use Rattle.mxf_klv.specs.declared.kinds.Status.{Status}
+use Rattle.mxf_klv.specs.declared.kinds.Status.TheVariants.{OpenIncomplete, ClosedIncomplete, OpenComplete, ClosedComplete}
+use Rattle.mxf_klv.specs.Parts.{NoteParts}
+use Rattle.mxf_klv.specs.Note.{IsInSpan, keeps, end_of}
+use Rattle.mxf_klv.specs.Kind.{kind_of}
+use Rattle.mxf_klv.specs.Rising.{In}
+use Rattle.mxf_sets.specs.PackReadings.{primer_at}
+use Rattle.mxf_sets.specs.Readable.{read_as}
+use Rattle.mxf_catalogue.specs.Disputes.{IsClear, clear_notes}
+use Rattle.mxf_views.specs.declared.copy.CopyInfo.{CopyInfo}
+use Rattle.mxf_views.specs.Partitions.{PartitionParts, partitions_of}
+use Rattle.mxf_views.specs.Spans.{lies_in, sizes}
+
+abbrev pub is_fill : Kind → Bool
+is_fill kinds.Fill = true
+is_fill _ = false
+
+abbrev pub is_primer : Kind → Bool
+is_primer kinds.Primer = true
+is_primer _ = false
+
+abbrev pub is_preface : Kind → Bool
+is_preface kinds.Preface = true
+is_preface _ = false
+
+-- The kinds of header metadata sets: the metadata sets and the raw sets.
+abbrev pub is_set : Kind → Bool
+is_set kinds.Preface = true
+is_set kinds.Identification = true
+is_set kinds.ContentStorage = true
+is_set kinds.MaterialPackage = true
+is_set kinds.SourcePackage = true
+is_set kinds.RawSet = true
+is_set _ = false
+
+-- A readable primer pack (ST 377-1, Primer Pack).
+unfoldable pub is_readable_primer : NoteParts → Bool
+is_readable_primer n = is_primer (kind_of n.key) && is_some (read_as primer_at n)
+
+unfoldable pub is_fill_note : NoteParts → Bool
+is_fill_note n = is_fill (kind_of n.key)
+
+unfoldable pub is_set_note : NoteParts → Bool
+is_set_note n = is_set (kind_of n.key)
+
+unfoldable pub is_preface_note : NoteParts → Bool
+is_preface_note n = is_preface (kind_of n.key)
+
+-- The notes whose packets lie wholly in a range of so many bytes; for those of a copy it is its zone.
+abbrev pub zone_of : ℕ → ℕ → List NoteParts → List NoteParts
+zone_of start bytes notes = filter (lies_in start bytes) notes
+
+-- The bytes of a range that lie in packets lying wholly in it. Clear packets share no byte, so it is the number of offsets
+-- of the range that lie in one of them.
+abbrev pub covered_of : ℕ → ℕ → List NoteParts → ℕ
+covered_of start bytes notes = sizes (zone_of start bytes notes)
+
+-- Each byte of a range lies in a fill that lies wholly in it.
+abbrev pub is_filled : ℕ → ℕ → List NoteParts → Bool
+is_filled start bytes notes = (covered_of start bytes notes == bytes) && list_all is_fill_note (zone_of start bytes notes)
+
+-- A primer at or after the end of a pack, with nothing but fills between the two.
+abbrev pub is_start : ℕ → List NoteParts → NoteParts → Bool
+is_start end notes n = is_readable_primer n && nat_le end n.offset && is_filled end (n.offset - end) notes
+
+-- Where the header metadata of a partition begin whose pack has this end.
+abbrev pub start_of : ℕ → List NoteParts → Option ℕ
+start_of end notes = option_map (λ n. n.offset) (find (is_start end notes) notes)
+
+-- The sets of the header metadata that begin there.
+abbrev pub sets_in : ℕ → ℕ → List NoteParts → List NoteParts
+sets_in start bytes notes = filter is_set_note (zone_of start bytes notes)
+
+-- The number of Prefaces among them.
+abbrev pub prefaces_of : ℕ → ℕ → List NoteParts → ℕ
+prefaces_of start bytes notes = count_by is_preface_note (zone_of start bytes notes)
+
+-- The copy of a partition among the clear notes, by its start.
+abbrev pub copy_from : List NoteParts → PartitionParts → Option ℕ → CopyInfo
+copy_from notes p None =
+    record { partition = p.offset; start = None; bytes = p.pack.numbers.header_byte_count; covered = 0; finished = false; prefaces = 0; status = p.pack.status }
+copy_from notes p (Some start) =
+    let bytes = p.pack.numbers.header_byte_count in
+    let covered = covered_of start bytes notes in
+    record {
+      partition = p.offset;
+      start = Some start;
+      bytes = bytes;
+      covered = covered;
+      finished = covered == bytes;
+      prefaces = prefaces_of start bytes notes;
+      status = p.pack.status;
+    }
+
+unfoldable pub copy_of : List NoteParts → PartitionParts → CopyInfo
+copy_of notes p = copy_from notes p (start_of p.end notes)
+
+-- A partition that has header metadata.
+abbrev pub has_metadata : PartitionParts → Bool
+has_metadata p = nat_lt 0 p.pack.numbers.header_byte_count
+
+abbrev pub copies_among : List NoteParts → List PartitionParts → List CopyInfo
+copies_among notes partitions = map (copy_of notes) (filter has_metadata partitions)
+
+-- The copies, one of each partition that has header metadata.
+unfoldable pub copies_of : List NoteParts → List CopyInfo
+copies_of notes = copies_among (clear_notes notes) (partitions_of notes)
+
+-- The sets of a copy by its start, none without one.
+abbrev pub sets_from : List NoteParts → ℕ → Option ℕ → List NoteParts
+sets_from notes bytes None = []
+sets_from notes bytes (Some start) = sets_in start bytes notes
+
+-- The sets of the copy of a partition, none where there is no such copy.
+abbrev pub sets_found : List NoteParts → Option CopyInfo → List NoteParts
+sets_found notes None = []
+sets_found notes (Some copy) = sets_from notes copy.bytes copy.start
+
+unfoldable pub sets_of : List NoteParts → ℕ → List NoteParts
+sets_of notes partition = sets_found (clear_notes notes) (find (λ c. c.partition == partition) (copies_of notes))
+
+-- Where the header metadata of a partition begin (ST 377-1, header metadata of a partition): at a clear readable primer
+-- at or after the end of the pack, such that each byte between the two lies in a clear fill between them.
+pub record IsFilled (notes : List NoteParts) (low high offset : ℕ) : Type 0 where
+  pub fill : NoteParts
+  pub clear : IsClear fill notes
+  pub kind : is_fill_note fill ≡ true
+  pub from : low ≤ fill.offset
+  pub before : end_of fill ≤ high
+  pub within : IsInSpan fill offset
+
+pub record IsStart (notes : List NoteParts) (end start : ℕ) : Type 0 where
+  pub primer : NoteParts
+  pub clear : IsClear primer notes
+  pub readable : is_readable_primer primer ≡ true
+  pub there : primer.offset ≡ start
+  pub after : end ≤ start
+  pub filled : (offset : ℕ) → end ≤ offset → offset < start → IsFilled notes end start offset
+
+-- A copy with a start and exactly one Preface.
+abbrev pub is_candidate : CopyInfo → Bool
+is_candidate c = is_some c.start && (c.prefaces == 1)
+
+abbrev pub rank : Status → ℕ
+rank OpenIncomplete = 0
+rank OpenComplete = 1
+rank ClosedIncomplete = 2
+rank ClosedComplete = 3
+
+-- How high a copy stands: all finished ones above all others, and then by the status of the partition.
+abbrev pub standing : CopyInfo → ℕ
+standing c = cond c.finished 4 0 + rank c.status
+
+-- It stands above the other, or alike in a later partition; each stands above none.
+abbrev pub is_above : CopyInfo → Option CopyInfo → Bool
+is_above c None = true
+is_above c (Some d) = nat_lt (standing d) (standing c) || ((standing d == standing c) && nat_lt d.partition c.partition)
+
+-- The copy or the best so far, whichever is preferred.
+abbrev pub better : Option CopyInfo → CopyInfo → Option CopyInfo
+better best c = cond (is_candidate c && is_above c best) (Some c) best
+
+-- The best of the copies and of the best before them.
+abbrev pub best_of : Option CopyInfo → List CopyInfo → Option CopyInfo
+best_of best [] = best
+best_of best (c ∷ copies) = best_of (better best c) copies
+
+-- The preferred one of the copies.
+abbrev pub preferred_of : List CopyInfo → Option CopyInfo
+preferred_of copies = best_of None copies
+
+-- It stands below, or alike in a partition at or below.
+abbrev pub IsNotAbove : CopyInfo → CopyInfo → Type 0
+IsNotAbove d c = (standing d < standing c) ⊎ ((standing d ≡ standing c) × (d.partition ≤ c.partition))
+
+-- The preferred copy: a candidate that no candidate stands above.
+pub record IsBest (copies : List CopyInfo) (c : CopyInfo) : Type 0 where
+  pub held : In c copies
+  pub candidate : IsTrue (is_candidate c)
+  pub best : (d : CopyInfo) → In d copies → IsTrue (is_candidate d) → IsNotAbove d c
+
+-- The preferred copy, or none where there is no candidate.
+abbrev pub IsPreferred : List CopyInfo → Option CopyInfo → Type 0
+IsPreferred copies None = (d : CopyInfo) → In d copies → IsTrue (is_candidate d) → ⊥
+IsPreferred copies (Some c) = IsBest copies c

@@ -1,0 +1,261 @@
+//! Copies of the header metadata.
+ghost use Rattle.std.specs.Prelude.{◌≡◌, ◌==◌, ◌↔◌, ◌<◌, ◌^◌, ℕ, List, Some, count_by, find, length};
+ghost use Rattle.std.specs.List.{range_with_len};
+ghost use Rattle.mxf_klv.specs.Parts.{NoteParts};
+ghost use Rattle.mxf_catalogue.specs.Content.{IsContent};
+ghost use Rattle.mxf_views.specs.Spans.{is_in_one};
+ghost use Rattle.mxf_views.specs.Copies.{IsBest, IsPreferred, IsStart};
+ghost use Rattle.mxf_views.specs.declared.copy.CopyInfo.{CopyInfo};
+ghost use Rattle.std.specs.Iterator.{YieldsFirst, item_count};
+ghost use Rattle.mxf_catalogue.specs.Disputes.{AreApart, clear_notes};
+ghost use Rattle.mxf_views.specs.Copies.{preferred_of, is_candidate, is_above, standing, copies_among, copy_from, copy_of, covered_of, is_fill_note, is_filled, is_readable_primer, is_start, start_of, zone_of, prefaces_of};
+
+pub(crate) mod sets;
+pub(crate) mod zone;
+
+use crate::copy::zone::{Zone, is_preface};
+use crate::partition::{PartitionAt, Partitions};
+use mxf_catalogue::Catalogue;
+use mxf_klv::{Held, Kind, Note, Status};
+use mxf_sets::Primer;
+use std::marker::Model;
+
+/// A copy of the header metadata: that of one partition.
+#[derive(Clone, Copy, Debug, PartialEq, Eq)]
+pub struct CopyInfo {
+    /// The file offset of the partition, in bytes.
+    pub partition: u64,
+    /// The file offset where the copy begins, in bytes: that of its primer. None where it isn't held.
+    pub start: Option<u64>,
+    /// The bytes that the partition states for its header metadata, from the primer on.
+    pub bytes: u64,
+    /// How many of these bytes lie in clear packets that lie wholly among them.
+    pub covered: u64,
+    /// Whether all of them do.
+    pub finished: bool,
+    /// The number of Prefaces.
+    pub prefaces: usize,
+    pub status: Status,
+}
+
+/// Whether the note is a readable primer pack.
+#[tactic(auto, unfolding(crate::specs::Copies::is_readable_primer))]
+fn is_readable_primer(note: &Note) -> bool
+    ensures { result ≡ is_readable_primer note.now }
+{
+    if note.kind() != Kind::Primer {
+        return false;
+    }
+    match note.held() {
+        Held::Whole(value) => Primer::read(value).is_ok(),
+        Held::Digest(_) => false,
+    }
+}
+
+/// The clear notes of a range of the file.
+pub(crate) fn clear_zone<'a>(catalogue: &'a Catalogue, start: u64, bytes: u64) -> Zone<'a>
+    ensures notes { result ≡ zone_of start bytes (clear_notes catalogue.now) }
+    ensures apart { AreApart 0 result }
+    ensures bound { length result < 2 ^ 64 }
+{
+    Zone::of(start, bytes, catalogue.clear())
+}
+
+/// The bytes of a range that lie in clear packets lying wholly in it.
+fn covered(catalogue: &Catalogue, start: u64, bytes: u64) -> u64
+    ensures { result ≡ covered_of start bytes (clear_notes catalogue.now) }
+{
+    clear_zone(catalogue, start, bytes).covered()
+}
+
+/// Whether each byte of a range lies in a clear fill that lies wholly in it.
+fn is_filled(catalogue: &Catalogue, start: u64, bytes: u64) -> bool
+    ensures { result ≡ is_filled start bytes (clear_notes catalogue.now) }
+{
+    covered(catalogue, start, bytes) == bytes && clear_zone(catalogue, start, bytes).are_fills()
+}
+
+/// Whether the header metadata begin at the note, of a partition whose pack ends at an offset.
+fn is_start(catalogue: &Catalogue, end: u64, note: &Note) -> bool
+    ensures { result ≡ is_start end (clear_notes catalogue.now) note.now }
+{
+    is_readable_primer(note)
+        && end <= note.offset()
+        && is_filled(catalogue, end, note.offset() - end)
+}
+
+/// Where the header metadata begin of a partition whose pack ends at an offset.
+fn start_of(catalogue: &Catalogue, end: u64) -> Option<u64>
+    ensures { result ≡ start_of end (clear_notes catalogue.now) }
+{
+    for note in catalogue.clear() {
+        if is_start(catalogue, end, note) {
+            return Some(note.offset());
+        }
+    }
+    None
+}
+
+fn prefaces(catalogue: &Catalogue, start: u64, bytes: u64) -> usize
+    ensures { result ≡ prefaces_of start bytes (clear_notes catalogue.now) }
+{
+    clear_zone(catalogue, start, bytes)
+        .filter(|note| is_preface(note))
+        .count()
+}
+
+#[tactic(auto, unfolding(crate::specs::Copies::copy_of))]
+fn copy_of(catalogue: &Catalogue, partition: &PartitionAt<'_>) -> CopyInfo
+    ensures { result ≡ copy_of (clear_notes catalogue.now) partition.now }
+{
+    let bytes = partition.pack.numbers().header_byte_count;
+    let status = partition.pack.status();
+    let Some(start) = start_of(catalogue, partition.end) else {
+        return CopyInfo {
+            partition: partition.offset,
+            start: None,
+            bytes,
+            covered: 0,
+            finished: false,
+            prefaces: 0,
+            status,
+        };
+    };
+    let covered = covered(catalogue, start, bytes);
+    CopyInfo {
+        partition: partition.offset,
+        start: Some(start),
+        bytes,
+        covered,
+        finished: covered == bytes,
+        prefaces: prefaces(catalogue, start, bytes),
+        status,
+    }
+}
+
+/// The copies that are left, rising.
+#[derive(Debug, Drop)]
+pub struct Copies<'a> {
+    catalogue: &'a Catalogue,
+    partitions: Partitions<'a>,
+}
+
+impl<'a> Model for Copies<'a> {
+    ghost use Rattle.std.specs.Prelude.{List};
+    ghost use Rattle.mxf_catalogue.specs.Disputes.{clear_notes};
+    ghost use Rattle.mxf_views.specs.declared.copy.CopyInfo.{CopyInfo};
+    ghost use Rattle.mxf_views.specs.Copies.{copies_among};
+
+    ghost Value = { List CopyInfo };
+
+    ghost view = { λ s. copies_among (clear_notes s.catalogue.now) s.partitions };
+}
+
+impl<'a> Copies<'a> {
+    pub(crate) fn of(catalogue: &'a Catalogue, partitions: Partitions<'a>) -> Copies<'a>
+        ensures { result ≡ copies_among (clear_notes catalogue.now) partitions.entry }
+    {
+        Copies {
+            catalogue,
+            partitions,
+        }
+    }
+}
+
+impl<'a> Copies<'a> {
+    /// The copy of the partition at a file offset.
+    pub(crate) fn at(self, partition: u64) -> Option<CopyInfo>
+        ensures { result ≡ find (λ c. c.partition == partition) self.entry }
+    {
+        for copy in self {
+            if copy.partition == partition {
+                return Some(copy);
+            }
+        }
+        None
+    }
+
+    /// The preferred one.
+    pub(crate) fn preferred(self) -> Option<CopyInfo>
+        ensures { result ≡ preferred_of self.entry }
+    {
+        let mut best: Option<CopyInfo> = None;
+        for copy in self {
+            if copy.is_candidate() && copy.is_above(&best) {
+                best = Some(copy);
+            }
+        }
+        best
+    }
+}
+
+impl CopyInfo {
+    /// Whether it has a start and exactly one Preface.
+    fn is_candidate(&self) -> bool
+        ensures { result ≡ is_candidate self.now }
+    {
+        self.start.is_some() && self.prefaces == 1
+    }
+
+    /// How high it stands: finished copies above all others, and then by the status of the partition.
+    fn standing(&self) -> u8
+        ensures { result ≡ standing self.now }
+    {
+        let status = match self.status {
+            Status::OpenIncomplete => 0,
+            Status::OpenComplete => 1,
+            Status::ClosedIncomplete => 2,
+            Status::ClosedComplete => 3,
+        };
+        if self.finished { 4 + status } else { status }
+    }
+
+    /// Whether it stands above the other, or alike in a later partition; it stands above none.
+    fn is_above(&self, other: &Option<CopyInfo>) -> bool
+        ensures { result ≡ is_above self.now other.now }
+    {
+        match other {
+            Some(other) => {
+                other.standing() < self.standing()
+                    || other.standing() == self.standing() && other.partition < self.partition
+            }
+            None => true,
+        }
+    }
+}
+
+impl<'a> Iterator for Copies<'a> {
+    type Item = CopyInfo;
+
+    ghost next_gives = { YieldsFirst (λ s. s) };
+
+    ghost remaining = { item_count (λ s. s) };
+
+    fn next(&mut self) -> Option<CopyInfo> {
+        while let Some(partition) = self.partitions.next() {
+            if partition.pack.numbers().header_byte_count > 0 {
+                return Some(copy_of(self.catalogue, &partition));
+            }
+        }
+        None
+    }
+}
+
+/// A law of [`Views::copies`](crate::Views::copies): what is covered is the number of offsets of the zone that lie in a
+/// clear note lying wholly in it.
+pub fn covered_counts_offsets()
+    ensures { (notes : List NoteParts) (start bytes : ℕ) → IsContent notes → covered_of start bytes (clear_notes notes) ≡ count_by (is_in_one (zone_of start bytes (clear_notes notes))) (range_with_len start bytes) }
+{}
+
+/// A law of [`Views::copies`](crate::Views::copies): a copy starts exactly where its definition says, at one offset at most.
+pub fn starts_by_definition()
+    ensures start { (notes : List NoteParts) (end start : ℕ) → IsContent notes → (start_of end (clear_notes notes) ≡ Some start) ↔ IsStart notes end start }
+    ensures one { (notes : List NoteParts) (end s t : ℕ) → IsStart notes end s → IsStart notes end t → s ≡ t }
+{}
+
+/// A law of [`Views::preferred`](crate::Views::preferred): it is a candidate that no candidate stands above, and there is
+/// none only where no copy is a candidate; two such copies are of one partition.
+pub fn preferred_by_definition()
+    ensures best { (copies : List CopyInfo) → IsPreferred copies (preferred_of copies) }
+    ensures one { (copies : List CopyInfo) (a b : CopyInfo) → IsBest copies a → IsBest copies b → a.partition ≡ b.partition }
+{}

@@ -1,0 +1,69 @@
+//! The header metadata sets of a copy.
+ghost use Rattle.std.specs.Prelude.{◌≡◌, [], filter};
+ghost use Rattle.mxf_catalogue.specs.Disputes.{clear_notes};
+ghost use Rattle.std.specs.Iterator.{YieldsFirstRef, item_count};
+ghost use Rattle.mxf_views.specs.Copies.{is_set_note, sets_from};
+
+use super::{CopyInfo, clear_zone};
+use crate::copy::zone::{Zone, is_set};
+use mxf_catalogue::Catalogue;
+use mxf_klv::Note;
+use std::marker::Model;
+
+/// The notes of the header metadata sets of a copy that are left, rising.
+#[derive(Debug, Drop)]
+pub struct Sets<'a> {
+    zone: Zone<'a>,
+}
+
+impl<'a> Model for Sets<'a> {
+    ghost use Rattle.std.specs.Prelude.{List, filter};
+    ghost use Rattle.mxf_klv.specs.Parts.{NoteParts};
+    ghost use Rattle.mxf_views.specs.Copies.{is_set_note};
+
+    ghost Value = { List NoteParts };
+
+    ghost view = { λ s. filter is_set_note s.zone };
+}
+
+impl<'a> Sets<'a> {
+    pub(crate) fn of(zone: Zone<'a>) -> Sets<'a>
+        ensures { result ≡ filter is_set_note zone.entry }
+    {
+        Sets { zone }
+    }
+}
+
+impl<'a> Iterator for Sets<'a> {
+    type Item = &'a Note;
+
+    ghost next_gives = { YieldsFirstRef (λ s. s) };
+
+    ghost remaining = { item_count (λ s. s) };
+
+    fn next(&mut self) -> Option<&'a Note> {
+        while let Some(note) = self.zone.next() {
+            if is_set(note) {
+                return Some(note);
+            }
+        }
+        None
+    }
+}
+
+/// No sets.
+pub(crate) fn no_sets(catalogue: &Catalogue) -> Sets<'_>
+    ensures { result ≡ [] }
+{
+    Sets::of(clear_zone(catalogue, 0, 0))
+}
+
+/// The sets of a copy, none where it has no start.
+pub(crate) fn sets_of_copy<'a>(catalogue: &'a Catalogue, copy: &CopyInfo) -> Sets<'a>
+    ensures { result ≡ sets_from (clear_notes catalogue.now) copy.now.bytes copy.now.start }
+{
+    match copy.start {
+        Some(start) => Sets::of(clear_zone(catalogue, start, copy.bytes)),
+        None => no_sets(catalogue),
+    }
+}

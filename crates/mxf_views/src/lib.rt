@@ -1,0 +1,21 @@
+//! Views of the notes of a catalogue: partitions, gaps, copies of the header metadata and their references.
+#![tactic(auto)]
+
+mod chain;
+mod copy;
+mod gap;
+mod partition;
+mod reference;
+mod views;
+
+pub use chain::{Chain, Link};
+pub use copy::sets::Sets;
+pub use copy::{
+    Copies, CopyInfo, covered_counts_offsets, preferred_by_definition, starts_by_definition,
+};
+pub use gap::{Gaps, gaps_by_definition};
+pub use partition::{PartitionAt, Partitions};
+pub use reference::Found;
+pub use reference::resolved::Resolved;
+pub use reference::target::{Ref, Refs, Target};
+pub use views::{ViewFault, Views};

@@ -1,0 +1,168 @@
+//! Partitions: clear readable partition packs.
+ghost use Rattle.std.specs.Prelude.{◌≡◌, ◌==◌, ◌<◌, ◌^◌, find, count_by, length};
+ghost use Rattle.std.specs.Iterator.{YieldsFirst, item_count};
+ghost use Rattle.mxf_views.specs.Partitions.{pack_of, partition_at, partitions_among, stands_at, stands_between, stands_above, is_header, is_footer, is_no_unreadable_pack};
+
+use mxf_catalogue::ClearNotes;
+use mxf_klv::{Held, Kind, Note};
+use mxf_sets::{PackPart, PartitionPack};
+use std::marker::Model;
+
+/// A partition: the file offsets where its pack begins and ends, in bytes, and the pack.
+#[derive(Debug, Drop)]
+pub struct PartitionAt<'a> {
+    pub offset: u64,
+    pub end: u64,
+    pub pack: PartitionPack<'a>,
+}
+
+impl<'a> Model for PartitionAt<'a> {
+    ghost use Rattle.mxf_views.specs.Partitions.{PartitionParts};
+
+    ghost Value = { PartitionParts };
+
+    ghost view = { λ p. record { offset = p.offset; end = p.end; pack = p.pack } };
+}
+
+/// The partition pack of a note, where it is a readable one.
+fn read_pack(note: &Note) -> Option<PartitionPack<'_>>
+    ensures { result ≡ pack_of note.now }
+{
+    match note.held() {
+        Held::Whole(value) => PartitionPack::read(&note.key(), value).ok(),
+        Held::Digest(_) => None,
+    }
+}
+
+/// The partition that the note is, where it is a readable partition pack.
+#[tactic(auto, unfolding(crate::specs::Partitions::partition_at))]
+pub(crate) fn partition_at(note: &Note) -> Option<PartitionAt<'_>>
+    ensures { result ≡ partition_at note.now }
+{
+    let pack = read_pack(note)?;
+    Some(PartitionAt {
+        offset: note.offset(),
+        end: note.end(),
+        pack,
+    })
+}
+
+/// The partitions that are left, rising.
+#[derive(Debug, Drop)]
+pub struct Partitions<'a> {
+    notes: ClearNotes<'a>,
+}
+
+impl<'a> Model for Partitions<'a> {
+    ghost use Rattle.std.specs.Prelude.{List};
+    ghost use Rattle.mxf_views.specs.Partitions.{PartitionParts, partitions_among};
+
+    ghost Value = { List PartitionParts };
+
+    ghost view = { λ s. partitions_among s.notes };
+}
+
+impl<'a> Partitions<'a> {
+    pub(crate) fn of(notes: ClearNotes<'a>) -> Partitions<'a>
+        requires { length notes < 2 ^ 64 }
+        ensures partitions { result ≡ partitions_among notes.entry }
+        ensures bound { length result < 2 ^ 64 }
+    {
+        Partitions { notes }
+    }
+}
+
+impl<'a> Partitions<'a> {
+    /// The one at a file offset.
+    pub(crate) fn at(self, offset: u64) -> Option<PartitionAt<'a>>
+        ensures { result ≡ find (λ p. p.offset == offset) self.entry }
+    {
+        for partition in self {
+            if partition.offset == offset {
+                return Some(partition);
+            }
+        }
+        None
+    }
+
+    pub(crate) fn any_at(self, offset: u64) -> bool
+        ensures { result ≡ stands_at offset self.entry }
+    {
+        for partition in self {
+            if partition.offset == offset {
+                return true;
+            }
+        }
+        false
+    }
+
+    pub(crate) fn any_between(self, low: u64, high: u64) -> bool
+        ensures { result ≡ stands_between low high self.entry }
+    {
+        for partition in self {
+            if low < partition.offset && partition.offset < high {
+                return true;
+            }
+        }
+        false
+    }
+
+    pub(crate) fn any_above(self, low: u64) -> bool
+        ensures { result ≡ stands_above low self.entry }
+    {
+        for partition in self {
+            if low < partition.offset {
+                return true;
+            }
+        }
+        false
+    }
+
+    pub(crate) fn count_headers(self) -> usize
+        requires { length self < 2 ^ 64 }
+        ensures { result ≡ count_by (λ p. is_header p.pack.part) self.entry }
+    {
+        let mut count = 0;
+        for partition in self {
+            if partition.pack.part() == PackPart::Header {
+                count += 1;
+            }
+        }
+        count
+    }
+
+    pub(crate) fn count_footers(self) -> usize
+        requires { length self < 2 ^ 64 }
+        ensures { result ≡ count_by (λ p. is_footer p.pack.part) self.entry }
+    {
+        self.filter(|p| p.pack.part() == PackPart::Footer).count()
+    }
+}
+
+/// Whether the note is no partition pack, or a readable one.
+#[tactic(auto, unfolding(crate::specs::Partitions::is_no_unreadable_pack))]
+pub(crate) fn is_no_unreadable_pack(note: &Note) -> bool
+    ensures { result ≡ is_no_unreadable_pack note.now }
+{
+    match note.kind() {
+        Kind::Header(_) | Kind::Body(_) | Kind::Footer(_) => partition_at(note).is_some(),
+        _ => true,
+    }
+}
+
+impl<'a> Iterator for Partitions<'a> {
+    type Item = PartitionAt<'a>;
+
+    ghost next_gives = { YieldsFirst (λ s. s) };
+
+    ghost remaining = { item_count (λ s. s) };
+
+    fn next(&mut self) -> Option<PartitionAt<'a>> {
+        while let Some(note) = self.notes.next() {
+            if let Some(partition) = partition_at(note) {
+                return Some(partition);
+            }
+        }
+        None
+    }
+}

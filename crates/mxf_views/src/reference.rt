@@ -1,0 +1,57 @@
+//! Sets found by their instance identifiers.
+ghost use Rattle.std.specs.Prelude.{◌≡◌, filter};
+ghost use Rattle.mxf_sets.specs.Instance.{instance_uid_at};
+ghost use Rattle.mxf_views.specs.References.{found_among, has_uid, reads_uid};
+
+pub(crate) mod resolved;
+pub(crate) mod target;
+
+use crate::copy::sets::Sets;
+use mxf_klv::{Held, Note};
+use mxf_sets::instance_uid;
+use uuid::Uuid;
+
+/// What is found of an identifier among the sets of a copy.
+#[derive(Clone, Copy, Debug, PartialEq, Eq)]
+pub enum Found {
+    Absent,
+    /// The one set that has it, by its file offset in bytes.
+    One(u64),
+    Several,
+}
+
+fn reads_uid(value: &[u8], uid: &Uuid) -> bool
+    ensures { result ≡ reads_uid uid.now (instance_uid_at value.now) }
+{
+    match instance_uid(value) {
+        Ok(own) => own == *uid,
+        Err(_) => false,
+    }
+}
+
+/// Whether the set is kept, and its instance identifier can be read and is this one.
+#[tactic(auto, unfolding(crate::specs::References::has_uid))]
+pub(crate) fn has_uid(note: &Note, uid: &Uuid) -> bool
+    ensures { result ≡ has_uid uid.now note.now }
+{
+    match note.held() {
+        Held::Whole(value) => reads_uid(value, uid),
+        Held::Digest(_) => false,
+    }
+}
+
+/// The set with the identifier.
+pub(crate) fn find_among(sets: Sets<'_>, uid: &Uuid) -> Found
+    ensures { result ≡ found_among (filter (has_uid uid.now) sets.entry) }
+{
+    let mut found = Found::Absent;
+    for note in sets {
+        if has_uid(note, uid) {
+            match found {
+                Found::Absent => found = Found::One(note.offset()),
+                _ => return Found::Several,
+            }
+        }
+    }
+    found
+}

@@ -1,0 +1,124 @@
+//! The references of the preferred copy.
+ghost use Rattle.std.specs.Prelude.{◌≡◌, find, filter, IfOk, []};
+ghost use Rattle.std.specs.Option.{option_copied};
+ghost use Rattle.mxf_views.specs.Copies.{is_preface_note, sets_of};
+ghost use Rattle.mxf_views.specs.References.{has_uid};
+ghost use Rattle.mxf_views.specs.Resolved.{preface_in, resolved_by, storage_among, storage_in};
+
+use crate::copy::sets::Sets;
+use crate::copy::zone::is_preface;
+use crate::reference::target::{Ref, Refs, Wanted, WithUid, refs_of, target_of};
+use crate::views::Views;
+use mxf_klv::{Held, Kind, Note, OutOfMemory};
+use mxf_sets::{ContentStorage, Preface};
+use std::alloc::Global;
+use std::marker::Model;
+use uuid::Uuid;
+
+/// What the Preface of the preferred copy names, and what its storage names.
+#[derive(Debug, Drop)]
+pub struct Resolved {
+    /// The file offset of the partition, in bytes.
+    pub partition: u64,
+    /// The file offset of the Preface, in bytes.
+    pub preface: u64,
+    /// None where the Preface isn't readable.
+    pub storage: Option<Ref>,
+    pub identifications: Refs,
+    /// None where the storage isn't found.
+    pub packages: Refs,
+}
+
+impl Model for Resolved {
+    ghost use Rattle.mxf_views.specs.Resolved.{ResolvedParts};
+
+    ghost Value = { ResolvedParts };
+
+    ghost view = { λ r. record { partition = r.partition; preface = r.preface; storage = r.storage; identifications = r.identifications; packages = r.packages } };
+}
+
+/// The first Preface of the sets.
+pub(crate) fn preface_among(sets: Sets<'_>) -> Option<&Note>
+    ensures { option_copied result ≡ find is_preface_note sets.entry }
+{
+    for note in sets {
+        if is_preface(note) {
+            return Some(note);
+        }
+    }
+    None
+}
+
+#[tactic(auto, unfolding(crate::specs::Resolved::preface_in))]
+fn preface_in(note: &Note) -> Option<Preface<'_>>
+    ensures { result ≡ preface_in note.now }
+{
+    match note.held() {
+        Held::Whole(value) => Preface::read(value).ok(),
+        Held::Digest(_) => None,
+    }
+}
+
+#[tactic(auto, unfolding(crate::specs::Resolved::storage_in))]
+fn storage_in(note: &Note) -> Option<ContentStorage<'_>>
+    ensures { result ≡ storage_in note.now }
+{
+    if !Wanted::Storage.fits(note.kind()) {
+        return None;
+    }
+    match note.held() {
+        Held::Whole(value) => ContentStorage::read(value).ok(),
+        Held::Digest(_) => None,
+    }
+}
+
+fn storage_among(mut sets: WithUid<'_>) -> Option<ContentStorage<'_>>
+    ensures { result ≡ storage_among sets.entry }
+{
+    let note = sets.next()?;
+    if let Some(_) = sets.next() {
+        return None;
+    }
+    storage_in(note)
+}
+
+fn storage_of(views: &Views, partition: u64, uid: Uuid) -> Option<ContentStorage<'_>>
+    ensures { result ≡ storage_among (filter (has_uid uid) (sets_of views.now partition)) }
+{
+    storage_among(WithUid::of(uid, views.sets(partition)))
+}
+
+/// What the Preface of a copy names.
+pub(crate) fn resolved_by(
+    alloc: Global,
+    views: &Views,
+    partition: u64,
+    note: &Note,
+) -> Result<Resolved, OutOfMemory>
+    ensures { IfOk result (λ r. r ≡ resolved_by views.now partition note.now.offset (preface_in note.now)) }
+{
+    let Some(preface) = preface_in(note) else {
+        return Ok(Resolved {
+            partition,
+            preface: note.offset(),
+            storage: None,
+            identifications: Refs::new(alloc),
+            packages: Refs::new(alloc),
+        });
+    };
+    let uid = preface.content_storage();
+    let target = target_of(views, partition, Wanted::Storage, uid);
+    let names = preface.identifications();
+    let identifications = refs_of(alloc, views, partition, Wanted::Identification, names)?;
+    let packages = match storage_of(views, partition, uid) {
+        Some(storage) => refs_of(alloc, views, partition, Wanted::Package, storage.packages())?,
+        None => Refs::new(alloc),
+    };
+    Ok(Resolved {
+        partition,
+        preface: note.offset(),
+        storage: Some(Ref { uid, target }),
+        identifications,
+        packages,
+    })
+}

@@ -1,0 +1,198 @@
+//! What references in header metadata lead to.
+ghost use Rattle.std.specs.Prelude.{◌≡◌, [], filter, IfOk};
+ghost use Rattle.std.specs.Iterator.{YieldsFirstRef, item_count};
+ghost use Rattle.mxf_views.specs.References.{has_uid};
+ghost use Rattle.mxf_views.specs.Targets.{fits, is_readable, ref_of, refs_of, target_among, target_at, target_of};
+
+use crate::copy::sets::Sets;
+use crate::reference::has_uid;
+use crate::views::Views;
+use mxf_klv::{Held, Kind, Note, OutOfMemory};
+use mxf_sets::{ContentStorage, Identification, Package, References};
+use std::alloc::Global;
+use std::marker::Model;
+use uuid::Uuid;
+
+/// What a reference leads to, with file offsets in bytes.
+#[derive(Clone, Copy, Debug, PartialEq, Eq)]
+pub enum Target {
+    Missing,
+    Several,
+    WrongKind(u64),
+    Unreadable(u64),
+    Found(u64),
+}
+
+/// A reference and what it leads to.
+#[derive(Clone, Copy, Debug, PartialEq, Eq)]
+pub struct Ref {
+    pub uid: Uuid,
+    pub target: Target,
+}
+
+/// What a reference names.
+#[derive(Clone, Copy, Debug, PartialEq, Eq)]
+pub(crate) enum Wanted {
+    Storage,
+    Identification,
+    Package,
+}
+
+impl Wanted {
+    pub(crate) fn fits(self, kind: Kind) -> bool
+        ensures { result ≡ fits self kind }
+    {
+        match (self, kind) {
+            (Wanted::Storage, Kind::ContentStorage) => true,
+            (Wanted::Identification, Kind::Identification) => true,
+            (Wanted::Package, Kind::MaterialPackage) => true,
+            (Wanted::Package, Kind::SourcePackage) => true,
+            _ => false,
+        }
+    }
+
+    fn is_readable(self, value: &[u8]) -> bool
+        ensures { result ≡ is_readable self value.now }
+    {
+        match self {
+            Wanted::Storage => ContentStorage::read(value).is_ok(),
+            Wanted::Identification => Identification::read(value).is_ok(),
+            Wanted::Package => Package::read(value).is_ok(),
+        }
+    }
+
+    #[tactic(auto, unfolding(crate::specs::Targets::target_at))]
+    fn target_at(self, note: &Note) -> Target
+        ensures { result ≡ target_at self note.now }
+    {
+        let offset = note.offset();
+        if !self.fits(note.kind()) {
+            return Target::WrongKind(offset);
+        }
+        let readable = match note.held() {
+            Held::Whole(value) => self.is_readable(value),
+            Held::Digest(_) => false,
+        };
+        if readable {
+            Target::Found(offset)
+        } else {
+            Target::Unreadable(offset)
+        }
+    }
+}
+
+/// The sets with an identifier that are left.
+#[derive(Debug, Drop)]
+pub(crate) struct WithUid<'a> {
+    uid: Uuid,
+    sets: Sets<'a>,
+}
+
+impl<'a> Model for WithUid<'a> {
+    ghost use Rattle.std.specs.Prelude.{List, filter};
+    ghost use Rattle.mxf_klv.specs.Parts.{NoteParts};
+    ghost use Rattle.mxf_views.specs.References.{has_uid};
+
+    ghost Value = { List NoteParts };
+
+    ghost view = { λ s. filter (has_uid s.uid) s.sets };
+}
+
+impl<'a> WithUid<'a> {
+    pub(crate) fn of(uid: Uuid, sets: Sets<'a>) -> WithUid<'a>
+        ensures { result ≡ filter (has_uid uid) sets.entry }
+    {
+        WithUid { uid, sets }
+    }
+}
+
+/// References with what they lead to, in order.
+#[derive(Debug, Drop)]
+pub struct Refs {
+    items: Vec<Ref>,
+}
+
+impl Model for Refs {
+    ghost use Rattle.std.specs.Prelude.{List};
+    ghost use Rattle.mxf_views.specs.declared.reference.target.Ref.{Ref};
+
+    ghost Value = { List Ref };
+
+    ghost view = { λ r. r.items.items };
+}
+
+impl Refs {
+    pub(crate) fn new(alloc: Global) -> Refs
+        ensures { result ≡ [] }
+    {
+        Refs {
+            items: Vec::new(alloc),
+        }
+    }
+
+    /// The references.
+    pub fn as_slice(&self) -> &[Ref]
+        ensures { result.now ≡ self.now }
+    {
+        self.items.as_slice()
+    }
+}
+
+impl<'a> Iterator for WithUid<'a> {
+    type Item = &'a Note;
+
+    ghost next_gives = { YieldsFirstRef (λ s. s) };
+
+    ghost remaining = { item_count (λ s. s) };
+
+    fn next(&mut self) -> Option<&'a Note> {
+        while let Some(note) = self.sets.next() {
+            if has_uid(note, &self.uid) {
+                return Some(note);
+            }
+        }
+        None
+    }
+}
+
+fn target_among(mut sets: WithUid<'_>, wanted: Wanted) -> Target
+    ensures { result ≡ target_among wanted sets.entry }
+{
+    let Some(note) = sets.next() else {
+        return Target::Missing;
+    };
+    if let Some(_) = sets.next() {
+        return Target::Several;
+    }
+    wanted.target_at(note)
+}
+
+/// What a reference leads to, among the sets of the copy of a partition.
+#[tactic(auto, unfolding(crate::specs::Targets::target_of))]
+pub(crate) fn target_of(views: &Views, partition: u64, wanted: Wanted, uid: Uuid) -> Target
+    ensures { result ≡ target_of views.now partition wanted uid }
+{
+    let sets = WithUid {
+        uid,
+        sets: views.sets(partition),
+    };
+    target_among(sets, wanted)
+}
+
+/// What each of the references leads to.
+pub(crate) fn refs_of(
+    alloc: Global,
+    views: &Views,
+    partition: u64,
+    wanted: Wanted,
+    references: References<'_>,
+) -> Result<Refs, OutOfMemory>
+    ensures { IfOk result (λ refs. refs ≡ refs_of views.now partition wanted references.entry) }
+{
+    let mut items = Vec::new(alloc);
+    for uid in references {
+        let target = target_of(views, partition, wanted, uid);
+        items.push(Ref { uid, target })?;
+    }
+    Ok(Refs { items })
+}

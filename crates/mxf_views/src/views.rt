@@ -1,0 +1,257 @@
+//! Views of a catalogue.
+ghost use Rattle.std.specs.Prelude.{◌≡◌, ◌↔◌, ◌==◌, ◌||◌, not, ◌<◌, ◌^◌, length, count_by, [], IfErr, IfOk, OnOk, OnErr};
+ghost use Rattle.std.specs.List.{list_all};
+ghost use Rattle.mxf_catalogue.specs.Disputes.{clear_notes};
+ghost use Rattle.mxf_klv.specs.Rising.{In};
+ghost use Rattle.mxf_catalogue.specs.Content.{with_note, union_of};
+ghost use Rattle.mxf_views.specs.Partitions.{partitions_of, link_of, link_at, is_linked, chain_of, is_header, is_footer, is_greatest, is_no_unreadable_pack};
+ghost use Rattle.mxf_views.specs.Gaps.{gaps_of};
+ghost use Rattle.mxf_views.specs.Copies.{copies_of, preferred_of, sets_of};
+ghost use Rattle.mxf_views.specs.References.{found_in};
+ghost use Rattle.mxf_views.specs.Resolved.{resolved_of};
+
+use crate::chain::{Chain, Link};
+use crate::copy::sets::{Sets, no_sets, sets_of_copy};
+use crate::copy::{Copies, CopyInfo};
+use crate::gap::Gaps;
+use crate::partition::{PartitionAt, Partitions, is_no_unreadable_pack};
+use crate::reference::resolved::{Resolved, preface_among, resolved_by};
+use crate::reference::{Found, find_among};
+use mxf_catalogue::{AddFault, Catalogue, Change, Semilattice};
+use mxf_klv::{Note, OutOfMemory};
+use mxf_sets::PackPart;
+use std::alloc::Global;
+use std::marker::Model;
+use uuid::Uuid;
+
+/// A catalogue, with the views of its notes.
+#[derive(Debug, Drop)]
+pub struct Views {
+    catalogue: Catalogue,
+}
+
+impl Model for Views {
+    ghost use Rattle.std.specs.Prelude.{List};
+    ghost use Rattle.mxf_klv.specs.Parts.{NoteParts};
+
+    ghost Value = { List NoteParts };
+
+    ghost view = { λ v. v.catalogue };
+}
+
+/// A catalogue that makes no views, for want of memory: it comes back.
+#[derive(Debug, Drop)]
+pub struct ViewFault {
+    pub catalogue: Catalogue,
+}
+
+impl Views {
+    /// The views of no note.
+    pub fn new(alloc: Global) -> Views
+        ensures { result ≡ [] }
+    {
+        Views {
+            catalogue: Catalogue::new(alloc),
+        }
+    }
+
+    /// The views of a catalogue.
+    pub fn of(_alloc: Global, catalogue: Catalogue) -> Result<Views, ViewFault>
+        ensures views { IfOk result (λ v. v ≡ catalogue) }
+        ensures back { IfErr result (λ f. f.catalogue ≡ catalogue) }
+    {
+        Ok(Views { catalogue })
+    }
+
+    /// Adds the note to the catalogue.
+    pub fn add(&mut self, note: Note) -> Result<Change, AddFault>
+        ensures added { OnOk result (self.new ≡ with_note note self.old) }
+        ensures repeated { (result ≡ Ok Change.Repeated) ↔ In note self.old }
+        ensures fault { IfErr result (λ f. f.note ≡ note) }
+        ensures err { OnErr result (self.new ≡ self.old) }
+    {
+        self.catalogue.add(note)
+    }
+
+    /// The views of the notes of both.
+    pub fn join(alloc: Global, a: &Views, b: &Views) -> Result<Views, OutOfMemory>
+        ensures { IfOk result (λ v. v ≡ union_of a.now b.now) }
+    {
+        let catalogue = Catalogue::join(alloc, &a.catalogue, &b.catalogue)?;
+        Ok(Views { catalogue })
+    }
+
+    /// The catalogue.
+    pub fn catalogue(&self) -> &Catalogue
+        ensures { result.now ≡ self.now }
+    {
+        &self.catalogue
+    }
+
+    /// The partitions, rising.
+    #[tactic(auto, unfolding(crate::specs::Partitions::partitions_of))]
+    pub fn partitions(&self) -> Partitions<'_>
+        ensures partitions { result ≡ partitions_of self.now }
+
+        // A count of the result fits.
+        ensures bound { length result < 2 ^ 64 }
+    {
+        Partitions::of(self.catalogue.clear())
+    }
+
+    /// How the partition at a file offset names the one before it.
+    pub fn link(&self, offset: u64) -> Option<Link>
+        ensures { result ≡ link_at offset (partitions_of self.now) }
+    {
+        let partition = self.partitions().at(offset)?;
+        Some(self.link_of(&partition))
+    }
+
+    fn link_of(&self, partition: &PartitionAt<'_>) -> Link
+        ensures { result ≡ link_of (partitions_of self.now) partition.now }
+    {
+        let offset = partition.offset;
+        let previous = partition.pack.numbers().previous_partition;
+        if offset == 0 {
+            return if previous == 0 {
+                Link::First
+            } else {
+                Link::Wrong
+            };
+        }
+        if offset <= previous {
+            return Link::Wrong;
+        }
+        if !self.partitions().any_at(previous) {
+            return Link::Missing;
+        }
+        if self.partitions().any_between(previous, offset) {
+            return Link::Skips;
+        }
+        Link::Held
+    }
+
+    /// Whether the partitions hang together from the header to the footer.
+    pub fn chain(&self) -> Chain
+        ensures { result ≡ chain_of self.now }
+    {
+        if self.has_one_header()
+            && self.has_one_footer()
+            && self.are_linked()
+            && self.ends_in_footer()
+            && self.has_readable_packs()
+        {
+            Chain::Whole
+        } else {
+            Chain::Broken
+        }
+    }
+
+    fn has_one_header(&self) -> bool
+        ensures { result ≡ (count_by (λ p. is_header p.pack.part) (partitions_of self.now) == 1) }
+    {
+        self.partitions().count_headers() == 1
+    }
+
+    fn has_one_footer(&self) -> bool
+        ensures { result ≡ (count_by (λ p. is_footer p.pack.part) (partitions_of self.now) == 1) }
+    {
+        self.partitions().count_footers() == 1
+    }
+
+    fn are_linked(&self) -> bool
+        ensures { result ≡ list_all (is_linked (partitions_of self.now)) (partitions_of self.now) }
+    {
+        for partition in self.partitions() {
+            if !self.is_linked(&partition) {
+                return false;
+            }
+        }
+        true
+    }
+
+    fn is_linked(&self, partition: &PartitionAt<'_>) -> bool
+        ensures { result ≡ is_linked (partitions_of self.now) partition.now }
+    {
+        match (partition.pack.part(), self.link_of(partition)) {
+            (PackPart::Header, link) => link == Link::First,
+            (_, link) => link == Link::Held,
+        }
+    }
+
+    fn ends_in_footer(&self) -> bool
+        ensures { result ≡ list_all (λ p. not (is_footer p.pack.part) || is_greatest (partitions_of self.now) p) (partitions_of self.now) }
+    {
+        for partition in self.partitions() {
+            if partition.pack.part() == PackPart::Footer
+                && self.partitions().any_above(partition.offset)
+            {
+                return false;
+            }
+        }
+        true
+    }
+
+    fn has_readable_packs(&self) -> bool
+        ensures { result ≡ list_all is_no_unreadable_pack (clear_notes self.now) }
+    {
+        self.catalogue
+            .clear()
+            .all(|note| is_no_unreadable_pack(note))
+    }
+
+    /// The gaps: the maximal ranges of bytes below the greatest end of a note that lie in no note.
+    pub fn gaps(&self) -> Gaps<'_>
+        ensures { result ≡ gaps_of self.now }
+    {
+        Gaps::of(self.catalogue.notes())
+    }
+
+    /// The copies of the header metadata, one for each partition that states some, rising.
+    #[tactic(auto, unfolding(crate::specs::Copies::copies_of))]
+    pub fn copies(&self) -> Copies<'_>
+        ensures { result ≡ copies_of self.now }
+    {
+        Copies::of(&self.catalogue, self.partitions())
+    }
+
+    /// The sets of the copy of the partition at a file offset, rising; none where there is no such copy.
+    #[tactic(auto, unfolding(crate::specs::Copies::sets_of))]
+    pub fn sets(&self, partition: u64) -> Sets<'_>
+        ensures { result ≡ sets_of self.now partition }
+    {
+        match self.copies().at(partition) {
+            Some(copy) => sets_of_copy(&self.catalogue, &copy),
+            None => no_sets(&self.catalogue),
+        }
+    }
+
+    /// The preferred copy: of those with a start and exactly one Preface, a finished one before all others, then by the
+    /// status of its partition, then that of the later partition.
+    pub fn preferred(&self) -> Option<CopyInfo>
+        ensures { result ≡ preferred_of (copies_of self.now) }
+    {
+        self.copies().preferred()
+    }
+
+    /// What is found of an instance identifier among the sets of the copy of a partition.
+    pub fn find(&self, partition: u64, uid: Uuid) -> Found
+        ensures { result ≡ found_in self.now partition uid }
+    {
+        find_among(self.sets(partition), &uid)
+    }
+
+    /// What the Preface of the preferred copy names; None without such a copy. It takes memory.
+    pub fn resolved(&self, alloc: Global) -> Result<Option<Resolved>, OutOfMemory>
+        ensures { IfOk result (λ r. r ≡ resolved_of self.now) }
+    {
+        let Some(copy) = self.preferred() else {
+            return Ok(None);
+        };
+        let Some(note) = preface_among(self.sets(copy.partition)) else {
+            return Ok(None);
+        };
+        let resolved = resolved_by(alloc, self, copy.partition, note)?;
+        Ok(Some(resolved))
+    }
+}
