@@ -8,13 +8,13 @@ mod partition;
 mod reference;
 mod views;
 
-pub use chain::{Chain, Link};
+pub use chain::{Chain, Link, chain_by_definition, links_by_definition};
 pub use copy::sets::Sets;
 pub use copy::{
     Copies, CopyInfo, covered_counts_offsets, preferred_by_definition, starts_by_definition,
 };
 pub use gap::{Gaps, gaps_by_definition};
-pub use partition::{PartitionAt, Partitions};
+pub use partition::{PartitionAt, Partitions, partitions_by_definition};
 pub use reference::Found;
 pub use reference::resolved::Resolved;
 pub use reference::target::{Ref, Refs, Target};
