@@ -1,5 +1,7 @@
 pub mod BestLaws
 pub mod ChainLaws
+pub mod CopyLaws
+pub mod FoundLaws
 pub mod GapsLaws
 pub mod Members
 pub mod PartitionLaws

@@ -1,8 +1,11 @@
 //! The header metadata sets of a copy.
-ghost use Rattle.std.specs.Prelude.{◌≡◌, [], filter};
+ghost use Rattle.std.specs.Prelude.{◌≡◌, ◌↔◌, ℕ, List, [], filter};
+ghost use Rattle.mxf_klv.specs.Parts.{NoteParts};
+ghost use Rattle.mxf_klv.specs.Rising.{In};
+ghost use Rattle.mxf_catalogue.specs.Content.{IsContent};
 ghost use Rattle.mxf_catalogue.specs.Disputes.{clear_notes};
 ghost use Rattle.std.specs.Iterator.{YieldsFirstRef, item_count};
-ghost use Rattle.mxf_views.specs.Copies.{is_set_note, sets_from};
+ghost use Rattle.mxf_views.specs.Copies.{IsSetOf, is_set_note, sets_from, sets_of};
 
 use super::{CopyInfo, clear_zone};
 use crate::copy::zone::{Zone, is_set};
@@ -67,3 +70,9 @@ pub(crate) fn sets_of_copy<'a>(catalogue: &'a Catalogue, copy: &CopyInfo) -> Set
         None => no_sets(catalogue),
     }
 }
+
+/// A law of [`Views::sets`](crate::Views::sets): they are the clear sets that lie wholly in the bytes of the copy.
+pub fn sets_by_definition()
+    ensures { (notes : List NoteParts) (partition : ℕ) (n : NoteParts) → IsContent notes
+        → In n (sets_of notes partition) ↔ IsSetOf notes partition n }
+{}
