@@ -154,7 +154,9 @@ impl<'a> Model for Copies<'a> {
 
 impl<'a> Copies<'a> {
     pub(crate) fn of(catalogue: &'a Catalogue, partitions: Partitions<'a>) -> Copies<'a>
-        ensures { result ≡ copies_among (clear_notes catalogue.now) partitions.entry }
+        requires { length partitions < 2 ^ 64 }
+        ensures copies { result ≡ copies_among (clear_notes catalogue.now) partitions.entry }
+        ensures bound { length result < 2 ^ 64 }
     {
         Copies {
             catalogue,
