@@ -1,4 +1,9 @@
 pub mod BestLaws
+pub mod ChainLaws
+pub mod CopyLaws
+pub mod FoundLaws
 pub mod GapsLaws
+pub mod Members
+pub mod PartitionLaws
 pub mod SpanCounts
 pub mod StartLaws

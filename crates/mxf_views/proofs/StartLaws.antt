@@ -50,7 +50,7 @@ In-all p [] f = refl
 In-all p (x ∷ xs) f = both (p x) (list_all p xs) (f x (inl refl)) (In-all p xs (λ n h. f n (inr h)))
 
 -- clear notes that share a byte are one
-clear_same : (notes : List NoteParts) (m n : NoteParts) → IsClear m notes → IsClear n notes → SharesByte m n → m ≡ n
+pub clear_same : (notes : List NoteParts) (m n : NoteParts) → IsClear m notes → IsClear n notes → SharesByte m n → m ≡ n
 clear_same notes m n c d s =
     elim (is_same_note m n) as (λ b. is_same_note m n ≡ b → m ≡ n) [
       | true ↦ λ t. (note_eq-Decides m n).0 t

@@ -1,8 +1,8 @@
 -- Copies of the header metadata (ST 377-1, header metadata of a partition; which copy is preferred is this project's
 -- profile). They are by the clear notes alone.
-use Rattle.std.specs.Prelude.{◌≡◌, ℕ, ◌+◌, ◌-◌, ◌<◌, ◌≤◌, ◌⊎◌, Bool, true, false, ◌&&◌, ◌==◌, nat_le, nat_lt, cond, Option, Some, None, is_some, List, [], ◌∷◌, map, filter, find, count_by, sum_by, MatchOption, IsTrue, ◌||◌}
+use Rattle.std.specs.Prelude.{◌≡◌, ◌↔◌, ℕ, ◌+◌, ◌-◌, ◌<◌, ◌≤◌, ◌⊎◌, Bool, true, false, ◌&&◌, ◌==◌, nat_le, nat_lt, cond, Option, Some, None, is_some, List, [], ◌∷◌, map, filter, find, count_by, sum_by, MatchOption, IsTrue, ◌||◌}
 use Rattle.std.specs.Option.{option_map}
-use Rattle.std.specs.List.{list_all}
+use Rattle.std.specs.List.{list_all, range_with_len}
 use Rattle.mxf_klv.specs.declared.kinds.Kind.{Kind}
 use Rattle.mxf_klv.specs.declared.kinds.Kind.TheVariants as kinds
 use Rattle.mxf_klv.specs.declared.kinds.Status.{Status}
@@ -16,7 +16,7 @@ use Rattle.mxf_sets.specs.Readable.{read_as}
 use Rattle.mxf_catalogue.specs.Disputes.{IsClear, clear_notes}
 use Rattle.mxf_views.specs.declared.copy.CopyInfo.{CopyInfo}
 use Rattle.mxf_views.specs.Partitions.{PartitionParts, partitions_of}
-use Rattle.mxf_views.specs.Spans.{lies_in, sizes}
+use Rattle.mxf_views.specs.Spans.{is_in_one, lies_in, sizes}
 
 abbrev pub is_fill : Kind → Bool
 is_fill kinds.Fill = true
@@ -190,3 +190,43 @@ pub record IsBest (copies : List CopyInfo) (c : CopyInfo) : Type 0 where
 abbrev pub IsPreferred : List CopyInfo → Option CopyInfo → Type 0
 IsPreferred copies None = (d : CopyInfo) → In d copies → IsTrue (is_candidate d) → ⊥
 IsPreferred copies (Some c) = IsBest copies c
+
+-- What starts at the start of the header metadata of a partition, or that there is no start.
+abbrev pub IsStartFound : List NoteParts → ℕ → Option ℕ → Type 0
+IsStartFound notes end None = (start : ℕ) → ¬ IsStart notes end start
+IsStartFound notes end (Some start) = IsStart notes end start
+
+-- The number of offsets of a range that lie in a clear note lying wholly in it, and of the Prefaces among the sets of it;
+-- none without a start.
+abbrev pub CountsZone : List NoteParts → CopyInfo → Option ℕ → Type 0
+CountsZone notes c None = (c.covered ≡ 0) × (c.prefaces ≡ 0)
+CountsZone notes c (Some start) =
+    (c.covered ≡ count_by (is_in_one (zone_of start c.bytes (clear_notes notes))) (range_with_len start c.bytes))
+    × (c.prefaces ≡ count_by is_preface_note (sets_in start c.bytes (clear_notes notes)))
+
+-- The copy of a partition that has header metadata.
+pub record IsCopyOf (notes : List NoteParts) (p : PartitionParts) (c : CopyInfo) : Type 0 where
+  pub stated : 0 < p.pack.numbers.header_byte_count
+  pub partition : c.partition ≡ p.offset
+  pub bytes : c.bytes ≡ p.pack.numbers.header_byte_count
+  pub status : c.status ≡ p.pack.status
+  pub start : IsStartFound notes p.end c.start
+  pub counts : CountsZone notes c c.start
+  pub finished : IsTrue c.finished ↔ (c.covered ≡ c.bytes)
+
+-- The copy is that of one of the partitions.
+abbrev pub IsCopy : List NoteParts → CopyInfo → Type 0
+IsCopy notes c = (p : PartitionParts) × In p (partitions_of notes) × IsCopyOf notes p c
+
+-- The note is one of the sets of the copy of the partition at the offset: a clear set that lies wholly in the bytes that
+-- the partition states, from the start of the copy on.
+pub record IsSetOf (notes : List NoteParts) (partition : ℕ) (n : NoteParts) : Type 0 where
+  pub copy : CopyInfo
+  pub copied : IsCopy notes copy
+  pub there : copy.partition ≡ partition
+  pub start : ℕ
+  pub begins : copy.start ≡ Some start
+  pub clear : IsClear n notes
+  pub kind : IsTrue (is_set_note n)
+  pub from : start ≤ n.offset
+  pub before : end_of n ≤ start + copy.bytes

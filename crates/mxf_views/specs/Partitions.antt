@@ -1,15 +1,18 @@
 -- Partitions, their links and their chain (ST 377-1, Partition Pack; the names of the links are this project's profile).
 -- They are by the clear notes alone.
-use Rattle.std.specs.Prelude.{◌≡◌, ℕ, Bool, true, false, not, ◌&&◌, ◌||◌, ◌==◌, nat_le, nat_lt, if◌then◌else◌, Option, Some, None, is_some, List, filter, find, count_by}
+use Rattle.std.specs.Prelude.{◌≡◌, ◌≢◌, ℕ, ◌<◌, ◌≤◌, ◌⊎◌, Bool, true, false, not, ◌&&◌, ◌||◌, ◌==◌, nat_le, nat_lt, if◌then◌else◌}
+use Rattle.std.specs.Prelude.{Option, Some, None, is_some, IsTrue, Ok, List, [], ◌∷◌, filter, find, count_by}
 use Rattle.std.specs.Option.{option_map}
-use Rattle.std.specs.List.{list_any, list_all, filter_map}
+use Rattle.std.specs.List.{list_any, list_all, filter_map, AllByRecursion}
 use Rattle.mxf_klv.specs.Parts.{NoteParts}
-use Rattle.mxf_klv.specs.Note.{end_of}
+use Rattle.mxf_klv.specs.Bytes.{AreBytes}
+use Rattle.mxf_klv.specs.Note.{end_of, keeps}
 use Rattle.mxf_klv.specs.Kind.{kind_of}
+use Rattle.mxf_klv.specs.Rising.{In}
 use Rattle.mxf_sets.specs.declared.pack.part.PackPart.{PackPart}
 use Rattle.mxf_sets.specs.declared.pack.part.PackPart.TheVariants.{Header, Body, Footer}
-use Rattle.mxf_sets.specs.PartitionPack.{PartitionPackParts}
-use Rattle.mxf_catalogue.specs.Disputes.{clear_notes}
+use Rattle.mxf_sets.specs.PartitionPack.{PartitionPackParts, IsPartitionKind, ReadsPack}
+use Rattle.mxf_catalogue.specs.Disputes.{IsClear, clear_notes}
 use Rattle.mxf_views.specs.declared.chain.Link.{Link}
 use Rattle.mxf_views.specs.declared.chain.Link.TheVariants.{First, Held, Skips, Missing, Wrong}
 use Rattle.mxf_views.specs.declared.chain.Chain.{Chain}
@@ -105,3 +108,71 @@ is_whole notes =
 
 abbrev pub chain_of : List NoteParts → Chain
 chain_of notes = if is_whole notes then Whole else Broken
+
+-- What the notes hold of their values are bytes.
+abbrev pub HoldBytes : List NoteParts → Type 0
+HoldBytes notes = (n : NoteParts) → In n notes → AreBytes n.held
+
+-- The note keeps its value, which is that of the partition's pack under the note's key, and the pack stands where the
+-- note does.
+pub record IsReadablePack (n : NoteParts) (p : PartitionParts) : Type 0 where
+  pub kept : IsTrue (keeps n.key n.length)
+  pub read : ReadsPack (kind_of n.key) n.held (Ok p.pack)
+  pub offset : p.offset ≡ n.offset
+  pub end : p.end ≡ end_of n
+
+-- The partition is that of a clear readable partition pack.
+abbrev pub IsPartition : List NoteParts → PartitionParts → Type 0
+IsPartition notes p = (n : NoteParts) × IsClear n notes × IsReadablePack n p
+
+-- Each stands below all later ones.
+abbrev pub AreInOrder : List PartitionParts → Type 0
+AreInOrder [] = Unit {0}
+AreInOrder (p ∷ partitions) = AllByRecursion (λ q. p.offset < q.offset) partitions × AreInOrder partitions
+
+-- One of the partitions stands at the offset.
+abbrev pub StandsAt : List PartitionParts → ℕ → Type 0
+StandsAt partitions offset = (q : PartitionParts) × In q partitions × (q.offset ≡ offset)
+
+-- The offset is the greatest of a partition below another offset.
+pub record IsGreatestBelow (partitions : List PartitionParts) (high offset : ℕ) : Type 0 where
+  pub there : StandsAt partitions offset
+  pub below : offset < high
+  pub greatest : (q : PartitionParts) → In q partitions → q.offset < high → q.offset ≤ offset
+
+-- The offset that a partition names as that of the partition before it.
+abbrev pub previous_of : PartitionParts → ℕ
+previous_of p = p.pack.numbers.previous_partition
+
+-- At 0 a partition has to name 0. Elsewhere it names itself or what is above it, or the greatest partition below it, or
+-- another partition below it, or an offset below it where no partition stands.
+abbrev pub IsLink : List PartitionParts → PartitionParts → Link → Type 0
+IsLink partitions p First = (p.offset ≡ 0) × (previous_of p ≡ 0)
+IsLink partitions p Wrong = ((p.offset ≡ 0) × (previous_of p ≢ 0)) ⊎ ((p.offset ≢ 0) × (p.offset ≤ previous_of p))
+IsLink partitions p Held = IsGreatestBelow partitions p.offset (previous_of p)
+IsLink partitions p Skips =
+    (previous_of p < p.offset) × StandsAt partitions (previous_of p) × ¬ IsGreatestBelow partitions p.offset (previous_of p)
+IsLink partitions p Missing = (previous_of p < p.offset) × ¬ StandsAt partitions (previous_of p)
+
+-- A partition stands at the offset, and this is its link.
+abbrev pub IsLinkAt : List PartitionParts → ℕ → Link → Type 0
+IsLinkAt partitions offset l = (p : PartitionParts) × In p partitions × (p.offset ≡ offset) × IsLink partitions p l
+
+-- The only one of the partitions whose pack is that part of the file.
+pub record IsOnly (partitions : List PartitionParts) (which : PackPart) (p : PartitionParts) : Type 0 where
+  pub held : In p partitions
+  pub part : p.pack.part ≡ which
+  pub only : (q : PartitionParts) → In q partitions → q.pack.part ≡ which → q ≡ p
+
+-- The only header partition stands at 0 with link First; the greatest partition is the only footer partition; each link
+-- but the header's is Held; and at each clear partition pack a partition stands, for it is readable.
+pub record IsWhole (notes : List NoteParts) : Type 0 where
+  pub header : PartitionParts
+  pub one_header : IsOnly (partitions_of notes) Header header
+  pub front : header.offset ≡ 0
+  pub first : IsLink (partitions_of notes) header First
+  pub footer : PartitionParts
+  pub one_footer : IsOnly (partitions_of notes) Footer footer
+  pub greatest : (q : PartitionParts) → In q (partitions_of notes) → q.offset ≤ footer.offset
+  pub held : (p : PartitionParts) → In p (partitions_of notes) → p ≢ header → IsLink (partitions_of notes) p Held
+  pub readable : (n : NoteParts) → IsClear n notes → IsPartitionKind (kind_of n.key) → StandsAt (partitions_of notes) n.offset

@@ -1,8 +1,9 @@
 -- Sets found by their instance identifiers (ST 377-1, strong references), in one copy of the header metadata.
-use Rattle.std.specs.Prelude.{ℕ, Bool, false, ◌&&◌, List, [], ◌∷◌, filter, Result, Ok, Err}
+use Rattle.std.specs.Prelude.{◌≡◌, ◌≢◌, ℕ, IsTrue, Bool, false, ◌&&◌, List, [], ◌∷◌, filter, Result, Ok, Err}
 use Rattle.std.specs.Str.{bytes_eq}
 use Rattle.mxf_klv.specs.Parts.{NoteParts}
 use Rattle.mxf_klv.specs.Note.{keeps}
+use Rattle.mxf_klv.specs.Rising.{In}
 use Rattle.mxf_sets.specs.declared.record.FieldFault.{FieldFault}
 use Rattle.mxf_sets.specs.Instance.{instance_uid_at}
 use Rattle.mxf_views.specs.declared.reference.Found.{Found}
@@ -33,3 +34,30 @@ found_after Absent notes = found_among notes
 found_after (One offset) [] = One offset
 found_after (One offset) (n ∷ notes) = Several
 found_after Several notes = Several
+
+-- The set is kept, and its instance identifier is this one.
+pub record HasUid (uid : List ℕ) (n : NoteParts) : Type 0 where
+  pub kept : IsTrue (keeps n.key n.length)
+  pub own : instance_uid_at n.held ≡ Ok uid
+
+-- The only one of the sets that has the identifier.
+pub record IsOnlyWith (sets : List NoteParts) (uid : List ℕ) (n : NoteParts) : Type 0 where
+  pub held : In n sets
+  pub has : HasUid uid n
+  pub only : (m : NoteParts) → In m sets → HasUid uid m → m ≡ n
+
+-- Two different sets have the identifier.
+pub record IsSeveral (sets : List NoteParts) (uid : List ℕ) : Type 0 where
+  pub one : NoteParts
+  pub other : NoteParts
+  pub one_held : In one sets
+  pub one_has : HasUid uid one
+  pub other_held : In other sets
+  pub other_has : HasUid uid other
+  pub differ : one ≢ other
+
+-- What is found by the number of the sets that have the identifier: none, one at this offset, or more.
+abbrev pub IsFound : List NoteParts → List ℕ → Found → Type 0
+IsFound sets uid Absent = (n : NoteParts) → In n sets → ¬ HasUid uid n
+IsFound sets uid (One offset) = (n : NoteParts) × IsOnlyWith sets uid n × (n.offset ≡ offset)
+IsFound sets uid Several = IsSeveral sets uid

@@ -4,7 +4,8 @@ ghost use Rattle.std.specs.List.{range_with_len};
 ghost use Rattle.mxf_klv.specs.Parts.{NoteParts};
 ghost use Rattle.mxf_catalogue.specs.Content.{IsContent};
 ghost use Rattle.mxf_views.specs.Spans.{is_in_one};
-ghost use Rattle.mxf_views.specs.Copies.{IsBest, IsPreferred, IsStart};
+ghost use Rattle.mxf_klv.specs.Rising.{In};
+ghost use Rattle.mxf_views.specs.Copies.{IsBest, IsCopy, IsPreferred, IsStart, copies_of};
 ghost use Rattle.mxf_views.specs.declared.copy.CopyInfo.{CopyInfo};
 ghost use Rattle.std.specs.Iterator.{YieldsFirst, item_count};
 ghost use Rattle.mxf_catalogue.specs.Disputes.{AreApart, clear_notes};
@@ -153,7 +154,9 @@ impl<'a> Model for Copies<'a> {
 
 impl<'a> Copies<'a> {
     pub(crate) fn of(catalogue: &'a Catalogue, partitions: Partitions<'a>) -> Copies<'a>
-        ensures { result ≡ copies_among (clear_notes catalogue.now) partitions.entry }
+        requires { length partitions < 2 ^ 64 }
+        ensures copies { result ≡ copies_among (clear_notes catalogue.now) partitions.entry }
+        ensures bound { length result < 2 ^ 64 }
     {
         Copies {
             catalogue,
@@ -258,4 +261,9 @@ pub fn starts_by_definition()
 pub fn preferred_by_definition()
     ensures best { (copies : List CopyInfo) → IsPreferred copies (preferred_of copies) }
     ensures one { (copies : List CopyInfo) (a b : CopyInfo) → IsBest copies a → IsBest copies b → a.partition ≡ b.partition }
+{}
+
+/// A law of [`Views::copies`](crate::Views::copies): they are the copies of the partitions that have header metadata.
+pub fn copies_by_definition()
+    ensures { (notes : List NoteParts) (c : CopyInfo) → IsContent notes → In c (copies_of notes) ↔ IsCopy notes c }
 {}

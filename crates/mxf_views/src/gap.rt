@@ -1,5 +1,5 @@
 //! Gaps: bytes of the file that no note holds.
-ghost use Rattle.std.specs.Prelude.{◌≡◌, List};
+ghost use Rattle.std.specs.Prelude.{◌≡◌, ◌<◌, ◌^◌, List, length};
 ghost use Rattle.mxf_klv.specs.Parts.{NoteParts};
 ghost use Rattle.mxf_catalogue.specs.Content.{IsContent};
 ghost use Rattle.std.specs.Iterator.{YieldsFirst, item_count};
@@ -27,7 +27,9 @@ impl<'a> Model for Gaps<'a> {
 
 impl<'a> Gaps<'a> {
     pub(crate) fn of(notes: Notes<'a>) -> Gaps<'a>
-        ensures { result ≡ gaps_of notes.entry }
+        requires { length notes < 2 ^ 64 }
+        ensures gaps { result ≡ gaps_of notes.entry }
+        ensures bound { length result < 2 ^ 64 }
     {
         Gaps { reached: 0, notes }
     }

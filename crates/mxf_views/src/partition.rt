@@ -1,5 +1,9 @@
 //! Partitions: clear readable partition packs.
-ghost use Rattle.std.specs.Prelude.{◌≡◌, ◌==◌, ◌<◌, ◌^◌, find, count_by, length};
+ghost use Rattle.std.specs.Prelude.{◌≡◌, ◌==◌, ◌<◌, ◌^◌, ◌↔◌, List, find, count_by, length};
+ghost use Rattle.mxf_klv.specs.Parts.{NoteParts};
+ghost use Rattle.mxf_klv.specs.Rising.{In};
+ghost use Rattle.mxf_catalogue.specs.Content.{IsContent};
+ghost use Rattle.mxf_views.specs.Partitions.{AreInOrder, HoldBytes, IsPartition, PartitionParts, partitions_of};
 ghost use Rattle.std.specs.Iterator.{YieldsFirst, item_count};
 ghost use Rattle.mxf_views.specs.Partitions.{pack_of, partition_at, partitions_among, stands_at, stands_between, stands_above, is_header, is_footer, is_no_unreadable_pack};
 
@@ -166,3 +170,11 @@ impl<'a> Iterator for Partitions<'a> {
         None
     }
 }
+
+/// A law of [`Views::partitions`](crate::Views::partitions): they are the clear readable partition packs, and rise in
+/// their offsets.
+pub fn partitions_by_definition()
+    ensures partitions { (notes : List NoteParts) (p : PartitionParts) → HoldBytes notes
+        → In p (partitions_of notes) ↔ IsPartition notes p }
+    ensures rising { (notes : List NoteParts) → IsContent notes → AreInOrder (partitions_of notes) }
+{}

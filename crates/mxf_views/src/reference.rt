@@ -1,7 +1,11 @@
 //! Sets found by their instance identifiers.
-ghost use Rattle.std.specs.Prelude.{◌≡◌, filter};
+ghost use Rattle.std.specs.Prelude.{◌≡◌, ◌↔◌, ℕ, List, filter};
+ghost use Rattle.mxf_klv.specs.Parts.{NoteParts};
+ghost use Rattle.mxf_catalogue.specs.Content.{IsContent};
+ghost use Rattle.mxf_views.specs.Copies.{sets_of};
+ghost use Rattle.mxf_views.specs.declared.reference.Found.{Found};
 ghost use Rattle.mxf_sets.specs.Instance.{instance_uid_at};
-ghost use Rattle.mxf_views.specs.References.{found_among, has_uid, reads_uid};
+ghost use Rattle.mxf_views.specs.References.{IsFound, found_among, found_in, has_uid, reads_uid};
 
 pub(crate) mod resolved;
 pub(crate) mod target;
@@ -55,3 +59,10 @@ pub(crate) fn find_among(sets: Sets<'_>, uid: &Uuid) -> Found
     }
     found
 }
+
+/// A law of [`Views::find`](crate::Views::find): what is found is by the number of the sets of the copy that have the
+/// identifier.
+pub fn found_by_definition()
+    ensures { (notes : List NoteParts) (partition : ℕ) (uid : List ℕ) (found : Found) → IsContent notes
+        → (found_in notes partition uid ≡ found) ↔ IsFound (sets_of notes partition) uid found }
+{}

@@ -202,7 +202,10 @@ impl Views {
 
     /// The gaps: the maximal ranges of bytes below the greatest end of a note that lie in no note.
     pub fn gaps(&self) -> Gaps<'_>
-        ensures { result ≡ gaps_of self.now }
+        ensures gaps { result ≡ gaps_of self.now }
+
+        // A count of the result fits.
+        ensures bound { length result < 2 ^ 64 }
     {
         Gaps::of(self.catalogue.notes())
     }
@@ -210,7 +213,10 @@ impl Views {
     /// The copies of the header metadata, one for each partition that states some, rising.
     #[tactic(auto, unfolding(crate::specs::Copies::copies_of))]
     pub fn copies(&self) -> Copies<'_>
-        ensures { result ≡ copies_of self.now }
+        ensures copies { result ≡ copies_of self.now }
+
+        // A count of the result fits.
+        ensures bound { length result < 2 ^ 64 }
     {
         Copies::of(&self.catalogue, self.partitions())
     }
@@ -218,7 +224,10 @@ impl Views {
     /// The sets of the copy of the partition at a file offset, rising; none where there is no such copy.
     #[tactic(auto, unfolding(crate::specs::Copies::sets_of))]
     pub fn sets(&self, partition: u64) -> Sets<'_>
-        ensures { result ≡ sets_of self.now partition }
+        ensures sets { result ≡ sets_of self.now partition }
+
+        // A count of the result fits.
+        ensures bound { length result < 2 ^ 64 }
     {
         match self.copies().at(partition) {
             Some(copy) => sets_of_copy(&self.catalogue, &copy),

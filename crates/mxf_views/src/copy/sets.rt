@@ -1,8 +1,11 @@
 //! The header metadata sets of a copy.
-ghost use Rattle.std.specs.Prelude.{◌≡◌, [], filter};
-ghost use Rattle.mxf_catalogue.specs.Disputes.{clear_notes};
+ghost use Rattle.std.specs.Prelude.{◌≡◌, ◌↔◌, ◌<◌, ◌^◌, ℕ, List, [], filter, length};
+ghost use Rattle.mxf_klv.specs.Parts.{NoteParts};
+ghost use Rattle.mxf_klv.specs.Rising.{In};
+ghost use Rattle.mxf_catalogue.specs.Content.{IsContent};
+ghost use Rattle.mxf_catalogue.specs.Disputes.{AreApart, clear_notes};
 ghost use Rattle.std.specs.Iterator.{YieldsFirstRef, item_count};
-ghost use Rattle.mxf_views.specs.Copies.{is_set_note, sets_from};
+ghost use Rattle.mxf_views.specs.Copies.{IsSetOf, is_set_note, sets_from, sets_of};
 
 use super::{CopyInfo, clear_zone};
 use crate::copy::zone::{Zone, is_set};
@@ -28,7 +31,9 @@ impl<'a> Model for Sets<'a> {
 
 impl<'a> Sets<'a> {
     pub(crate) fn of(zone: Zone<'a>) -> Sets<'a>
-        ensures { result ≡ filter is_set_note zone.entry }
+        requires { length zone < 2 ^ 64 }
+        ensures sets { result ≡ filter is_set_note zone.entry }
+        ensures bound { length result < 2 ^ 64 }
     {
         Sets { zone }
     }
@@ -53,17 +58,27 @@ impl<'a> Iterator for Sets<'a> {
 
 /// No sets.
 pub(crate) fn no_sets(catalogue: &Catalogue) -> Sets<'_>
-    ensures { result ≡ [] }
+    ensures none { result ≡ [] }
+    ensures bound { length result < 2 ^ 64 }
 {
     Sets::of(clear_zone(catalogue, 0, 0))
 }
 
 /// The sets of a copy, none where it has no start.
 pub(crate) fn sets_of_copy<'a>(catalogue: &'a Catalogue, copy: &CopyInfo) -> Sets<'a>
-    ensures { result ≡ sets_from (clear_notes catalogue.now) copy.now.bytes copy.now.start }
+    ensures sets { result ≡ sets_from (clear_notes catalogue.now) copy.now.bytes copy.now.start }
+    ensures bound { length result < 2 ^ 64 }
 {
     match copy.start {
         Some(start) => Sets::of(clear_zone(catalogue, start, copy.bytes)),
         None => no_sets(catalogue),
     }
 }
+
+/// A law of [`Views::sets`](crate::Views::sets): they are the clear sets that lie wholly in the bytes of the copy,
+/// and rise.
+pub fn sets_by_definition()
+    ensures sets { (notes : List NoteParts) (partition : ℕ) (n : NoteParts) → IsContent notes
+        → In n (sets_of notes partition) ↔ IsSetOf notes partition n }
+    ensures rising { (notes : List NoteParts) (partition : ℕ) → IsContent notes → AreApart 0 (sets_of notes partition) }
+{}

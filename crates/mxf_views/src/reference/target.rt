@@ -1,8 +1,13 @@
 //! What references in header metadata lead to.
-ghost use Rattle.std.specs.Prelude.{◌≡◌, [], filter, IfOk};
+ghost use Rattle.std.specs.Prelude.{◌≡◌, ◌↔◌, ℕ, List, [], filter, IfOk};
+ghost use Rattle.mxf_klv.specs.Parts.{NoteParts};
+ghost use Rattle.mxf_catalogue.specs.Content.{IsContent};
+ghost use Rattle.mxf_views.specs.Copies.{sets_of};
+ghost use Rattle.mxf_views.specs.declared.reference.target.Wanted.{Wanted};
+ghost use Rattle.mxf_views.specs.declared.reference.target.Target.{Target};
 ghost use Rattle.std.specs.Iterator.{YieldsFirstRef, item_count};
 ghost use Rattle.mxf_views.specs.References.{has_uid};
-ghost use Rattle.mxf_views.specs.Targets.{fits, is_readable, ref_of, refs_of, target_among, target_at, target_of};
+ghost use Rattle.mxf_views.specs.Targets.{IsTarget, fits, is_readable, ref_of, refs_of, target_among, target_at, target_of};
 
 use crate::copy::sets::Sets;
 use crate::reference::has_uid;
@@ -196,3 +201,11 @@ pub(crate) fn refs_of(
     }
     Ok(Refs { items })
 }
+
+/// A law of [`Views::resolved`](crate::Views::resolved): what a reference leads to is by the sets of the copy that have
+/// its identifier.
+pub fn targets_by_definition()
+    ensures { (notes : List NoteParts) (partition : ℕ) (wanted : Wanted) (uid : List ℕ) (target : Target)
+        → IsContent notes
+        → (target_of notes partition wanted uid ≡ target) ↔ IsTarget (sets_of notes partition) wanted uid target }
+{}

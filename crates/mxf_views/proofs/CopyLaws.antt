@@ -1,0 +1,214 @@
+-- Copies of the header metadata and their sets.
+use Rattle.std.proofs.Common.{◌≡◌, ◌≢◌, ℕ, ◌+◌, ◌<◌, ◌≤◌, Bool, true, false, cond, List, [], ◌∷◌, Option, Some, None, refl, sym, ap, subst, ◌∙◌, inl, inr, arith, eqb-true, eq-eqb, leb-true, le-leb}
+use Rattle.std.specs.Prelude.{◌↔◌, ◌&&◌, ◌==◌, nat_le, nat_lt, IsTrue, count_by, filter, find, map}
+use Rattle.std.specs.List.{range_with_len}
+use Rattle.std.proofs.lemmas.Bool.{ltb-true, lt-ltb}
+use Rattle.mxf_klv.specs.Parts.{NoteParts}
+use Rattle.mxf_klv.specs.Note.{end_of}
+use Rattle.mxf_klv.specs.Kind.{kind_of}
+use Rattle.mxf_klv.specs.declared.kinds.Kind.{Kind}
+use Rattle.mxf_klv.specs.declared.kinds.Kind.TheVariants as kinds
+use Rattle.mxf_klv.specs.Rising.{In}
+use Rattle.mxf_catalogue.specs.Content.{IsContent}
+use Rattle.mxf_catalogue.specs.Disputes.{AreApart, IsClear, clear_notes}
+use Rattle.mxf_catalogue.proofs.DisputeLaws.{In-clear_notes}
+use Rattle.mxf_catalogue.proofs.SpanLaws.{AreApart-clear_notes, AreApart-filter}
+use Rattle.mxf_catalogue.proofs.Lists.{In-filter, In-map, found-In, none_found}
+use Rattle.mxf_views.specs.declared.copy.CopyInfo.{CopyInfo}
+use Rattle.mxf_views.specs.Partitions.{PartitionParts, partitions_of}
+use Rattle.mxf_views.specs.Copies.{CountsZone, IsCopy, IsCopyOf, IsSetOf, IsStart, IsStartFound, copies_of, copy_from, copy_of, covered_of, has_metadata, is_preface, is_preface_note, is_set, is_set_note, prefaces_of, sets_found, sets_from, sets_in, sets_of, start_of, zone_of}
+use Rattle.mxf_views.specs.Spans.{is_in_one, lies_in}
+use Rattle.mxf_views.proofs.Members.{both, count_by-cons, false_if, parts, tally}
+use Rattle.mxf_views.proofs.PartitionLaws.{one_there, partitions_rise}
+use Rattle.mxf_views.proofs.SpanCounts.{zone-count}
+use Rattle.mxf_views.proofs.StartLaws.{one_start, start_is}
+
+-- ---- Prefaces are sets
+
+preface_is_set : (k : Kind) → is_preface k ≡ true → is_set k ≡ true
+preface_is_set kinds.Preface p = refl
+preface_is_set kinds.Identification p = refl
+preface_is_set kinds.ContentStorage p = refl
+preface_is_set kinds.MaterialPackage p = refl
+preface_is_set kinds.SourcePackage p = refl
+preface_is_set kinds.RawSet p = refl
+preface_is_set (kinds.Header s) p = absurd cc
+preface_is_set (kinds.Body s) p = absurd cc
+preface_is_set (kinds.Footer s) p = absurd cc
+preface_is_set kinds.Primer p = absurd cc
+preface_is_set kinds.Segment p = absurd cc
+preface_is_set kinds.Rip p = absurd cc
+preface_is_set kinds.Fill p = absurd cc
+preface_is_set kinds.Essence p = absurd cc
+preface_is_set kinds.Other p = absurd cc
+
+preface_note_is_set : (n : NoteParts) → is_preface_note n ≡ true → is_set_note n ≡ true
+unfolding is_preface_note is_set_note
+preface_note_is_set n p = preface_is_set (kind_of n.key) p
+
+prefaces_among : (ns : List NoteParts) → count_by is_preface_note (filter is_set_note ns) ≡ count_by is_preface_note ns
+prefaces_among [] = refl
+prefaces_among (n ∷ ns) =
+    let ih = prefaces_among ns in
+    let c = count_by-cons is_preface_note n ns in
+    elim (is_set_note n) as (λ b. is_set_note n ≡ b → count_by is_preface_note (cond b (n ∷ filter is_set_note ns) (filter is_set_note ns)) ≡ count_by is_preface_note (n ∷ ns)) [
+      | true ↦ λ e. let d = count_by-cons is_preface_note n (filter is_set_note ns) in omega (arith, ih, c, d)
+      | false ↦ λ e.
+          let z : tally (is_preface_note n) ≡ 0 = ap tally (false_if (is_preface_note n) (λ t. let s = preface_note_is_set n t in cc (s, e))) in
+          omega (arith, ih, c, z)
+    ] refl
+
+-- ---- one copy of a partition
+
+equals_itself : (a b : ℕ) → IsTrue (a == b) ↔ (a ≡ b)
+equals_itself a b = (eqb-true a b, eq-eqb a b)
+
+copy_is : (notes : List NoteParts) (p : PartitionParts) → IsContent notes → has_metadata p ≡ true → IsCopyOf notes p (copy_of (clear_notes notes) p)
+unfolding copy_of
+copy_is notes p r h =
+    let clear = clear_notes notes in
+    let bytes = p.pack.numbers.header_byte_count in
+    let some : 0 < bytes = ltb-true 0 bytes h in
+    elim (start_of p.end clear) as (λ o. start_of p.end clear ≡ o → IsCopyOf notes p (copy_from clear p o)) [
+      | None ↦ λ e. record {
+        stated = some;
+        partition = refl;
+        bytes = refl;
+        status = refl;
+        start = λ s i. let t = (start_is notes p.end s r).1 i in cc (t, e);
+        counts = (refl, refl);
+        finished = (λ t. absurd cc, λ t. absurd (omega (arith, t, some)));
+      }
+      | Some s ↦ λ e. record {
+        stated = some;
+        partition = refl;
+        bytes = refl;
+        status = refl;
+        start = (start_is notes p.end s r).0 e;
+        counts = (zone-count clear 0 s bytes (AreApart-clear_notes notes r), sym (prefaces_among (zone_of s bytes clear)));
+        finished = equals_itself (covered_of s bytes clear) bytes;
+      }
+    ] refl
+
+one_start_found : (notes : List NoteParts) (end : ℕ) (s t : Option ℕ) → IsStartFound notes end s → IsStartFound notes end t → s ≡ t
+one_start_found notes end None None a b = refl
+one_start_found notes end None (Some t) a b = absurd (a t b)
+one_start_found notes end (Some s) None a b = absurd (b s a)
+one_start_found notes end (Some s) (Some t) a b = ap (λ (x : ℕ). Some x) (one_start notes end s t a b)
+
+same_if : (a b : Bool) → (IsTrue a → IsTrue b) → (IsTrue b → IsTrue a) → a ≡ b
+same_if true b f g = sym (f refl)
+same_if false true f g = g refl
+same_if false false f g = refl
+
+-- the counts are by the start and the bytes
+abbrev Counted : List NoteParts → ℕ → Option ℕ → ℕ → ℕ → Type 0
+Counted notes bytes None covered prefaces = (covered ≡ 0) × (prefaces ≡ 0)
+Counted notes bytes (Some start) covered prefaces =
+    (covered ≡ count_by (is_in_one (zone_of start bytes (clear_notes notes))) (range_with_len start bytes))
+    × (prefaces ≡ count_by is_preface_note (sets_in start bytes (clear_notes notes)))
+
+counted : (notes : List NoteParts) (c : CopyInfo) (o : Option ℕ) → CountsZone notes c o → Counted notes c.bytes o c.covered c.prefaces
+counted notes c None x = x
+counted notes c (Some s) x = x
+
+one_counted : (notes : List NoteParts) (bytes : ℕ) (o : Option ℕ) (a b x y : ℕ) → Counted notes bytes o a x → Counted notes bytes o b y → (a ≡ b) × (x ≡ y)
+one_counted notes bytes None a b x y p q = (p.0 ∙ sym q.0, p.1 ∙ sym q.1)
+one_counted notes bytes (Some s) a b x y p q = (p.0 ∙ sym q.0, p.1 ∙ sym q.1)
+
+one_copy : (notes : List NoteParts) (p : PartitionParts) (c d : CopyInfo) → IsCopyOf notes p c → IsCopyOf notes p d → c ≡ d
+one_copy notes p c d a b =
+    let partition = a.partition ∙ sym b.partition in
+    let bytes : c.bytes ≡ d.bytes = a.bytes ∙ sym b.bytes in
+    let status = a.status ∙ sym b.status in
+    let start : c.start ≡ d.start = one_start_found notes p.end c.start d.start a.start b.start in
+    let m = counted notes c c.start a.counts in
+    let n : Counted notes c.bytes c.start d.covered d.prefaces =
+    subst (λ (o : Option ℕ). Counted notes c.bytes o d.covered d.prefaces) (sym start) (subst (λ (k : ℕ). Counted notes k d.start d.covered d.prefaces) (sym bytes) (counted notes d d.start b.counts)) in
+    let counts = one_counted notes c.bytes c.start c.covered d.covered c.prefaces d.prefaces m n in
+    let finished : c.finished ≡ d.finished = same_if c.finished d.finished
+    (λ t. b.finished.1 (sym counts.0 ∙ a.finished.0 t ∙ bytes))
+    (λ t. a.finished.1 (counts.0 ∙ b.finished.0 t ∙ sym bytes)) in
+    λ i. record { partition = partition i; start = start i; bytes = bytes i; covered = counts.0 i; finished = finished i; prefaces = counts.1 i; status = status i }
+
+-- The copies are those of the partitions that have header metadata.
+pub copies_are : (notes : List NoteParts) (c : CopyInfo) → IsContent notes → In c (copies_of notes) ↔ IsCopy notes c
+unfolding copies_of
+copies_are notes c r =
+    let ps = partitions_of notes in
+    let clear = clear_notes notes in
+    let m = In-map (copy_of clear) (filter has_metadata ps) c in (
+      λ h.
+          let s = m.0 h in
+          let f = (In-filter has_metadata ps s.0).0 s.1 in
+          (s.0, f.0, subst (IsCopyOf notes s.0) (sym s.2) (copy_is notes s.0 r f.1)),
+      λ s.
+          let h : has_metadata s.0 ≡ true = lt-ltb 0 s.0.pack.numbers.header_byte_count s.2.stated in
+          m.1 (s.0, (In-filter has_metadata ps s.0).1 (s.1, h), one_copy notes s.0 c (copy_of clear s.0) s.2 (copy_is notes s.0 r h)),
+    )
+
+-- ---- sets
+
+apart_from : (notes : List NoteParts) (bytes : ℕ) (o : Option ℕ) → IsContent notes → AreApart 0 (sets_from (clear_notes notes) bytes o)
+apart_from notes bytes None r = tt
+apart_from notes bytes (Some s) r =
+    AreApart-filter is_set_note 0 (zone_of s bytes (clear_notes notes)) (AreApart-filter (lies_in s bytes) 0 (clear_notes notes) (AreApart-clear_notes notes r))
+
+apart_found : (notes : List NoteParts) (o : Option CopyInfo) → IsContent notes → AreApart 0 (sets_found (clear_notes notes) o)
+apart_found notes None r = tt
+apart_found notes (Some c) r = apart_from notes c.bytes c.start r
+
+-- The sets of a copy stand apart.
+pub sets_apart : (notes : List NoteParts) (partition : ℕ) → IsContent notes → AreApart 0 (sets_of notes partition)
+unfolding sets_of
+sets_apart notes partition r = apart_found notes (find (λ c. c.partition == partition) (copies_of notes)) r
+
+In-sets_in : (notes : List NoteParts) (start bytes : ℕ) (n : NoteParts) → In n (sets_in start bytes (clear_notes notes)) ↔ (IsClear n notes × IsTrue (is_set_note n) × (start ≤ n.offset) × (end_of n ≤ start + bytes))
+In-sets_in notes start bytes n =
+    let clear = clear_notes notes in
+    let f = In-filter is_set_note (zone_of start bytes clear) n in
+    let g = In-filter (lies_in start bytes) clear n in (
+      λ h.
+          let s = f.0 h in
+          let z = g.0 s.0 in
+          let l = parts (nat_le start n.offset) (nat_le (end_of n) (start + bytes)) z.1 in
+          ((In-clear_notes n notes).0 z.0, s.1, leb-true start n.offset l.0, leb-true (end_of n) (start + bytes) l.1),
+      λ s. f.1 (g.1 ((In-clear_notes n notes).1 s.0, both (nat_le start n.offset) (nat_le (end_of n) (start + bytes)) (le-leb start n.offset s.2) (le-leb (end_of n) (start + bytes) s.3)), s.1),
+    )
+
+-- two copies that name one partition are one
+one_named : (notes : List NoteParts) (c d : CopyInfo) → IsContent notes → IsCopy notes c → IsCopy notes d → c.partition ≡ d.partition → c ≡ d
+one_named notes c d r a b e =
+    let same : a.0 ≡ b.0 = one_there (partitions_of notes) a.0 b.0 (partitions_rise notes r) a.1 b.1 (sym a.2.partition ∙ e ∙ b.2.partition) in
+    one_copy notes b.0 c d (subst (λ (p : PartitionParts). IsCopyOf notes p c) same a.2) b.2
+
+sets_says : (notes : List NoteParts) (partition : ℕ) (c : CopyInfo) (o : Option ℕ) (n : NoteParts) → IsCopy notes c → c.partition ≡ partition → c.start ≡ o → In n (sets_from (clear_notes notes) c.bytes o) → IsSetOf notes partition n
+sets_says notes partition c None n i e s h = absurd h
+sets_says notes partition c (Some start) n i e s h =
+    let m = (In-sets_in notes start c.bytes n).0 h in
+    record { copy = c; copied = i; there = e; start = start; begins = s; clear = m.0; kind = m.1; from = m.2; before = m.3 }
+
+-- The sets of a copy are the clear sets that lie wholly in its bytes.
+pub sets_are : (notes : List NoteParts) (partition : ℕ) (n : NoteParts) → IsContent notes → In n (sets_of notes partition) ↔ IsSetOf notes partition n
+unfolding sets_of
+sets_are notes partition n r =
+    let clear = clear_notes notes in
+    let named = λ (c : CopyInfo). c.partition == partition in
+    elim (find named (copies_of notes)) as (λ o. find named (copies_of notes) ≡ o → In n (sets_found clear o) ↔ IsSetOf notes partition n) [
+      | None ↦ λ e. (
+        λ h. absurd h,
+        λ s. absurd (none_found named (copies_of notes) s.copy e ((copies_are notes s.copy r).1 s.copied) (eq-eqb s.copy.partition partition s.there)),
+      )
+      | Some c ↦ λ e.
+          let f = found-In named (copies_of notes) c e in
+          let i = (copies_are notes c r).0 f.0 in
+          let there : c.partition ≡ partition = eqb-true c.partition partition f.1 in (
+            λ h. sets_says notes partition c c.start n i there refl h,
+            λ s.
+                let same : s.copy ≡ c = one_named notes s.copy c r s.copied i (s.there ∙ sym there) in
+                let bytes : s.copy.bytes ≡ c.bytes = ap (λ (x : CopyInfo). x.bytes) same in
+                let start : c.start ≡ Some s.start = sym (ap (λ (x : CopyInfo). x.start) same) ∙ s.begins in
+                let before : end_of n ≤ s.start + s.copy.bytes = s.before in
+                subst (λ (o : Option ℕ). In n (sets_from clear c.bytes o)) (sym start) ((In-sets_in notes s.start c.bytes n).1 (s.clear, s.kind, s.from, omega (arith, before, bytes))),
+          )
+    ] refl

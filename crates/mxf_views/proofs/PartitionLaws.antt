@@ -1,0 +1,226 @@
+-- The partitions, and how each names the one before it.
+use Rattle.std.proofs.Common.{◌≡◌, ◌≢◌, ℕ, ◌+◌, ◌<◌, ◌≤◌, ◌⊎◌, Bool, true, false, cond, List, [], ◌∷◌, Option, Some, None, Ok, Err, refl, sym, ap, subst, ◌∙◌, inl, inr, arith, eqb-true, eq-eqb, leb-true, le-leb}
+use Rattle.std.specs.Prelude.{◌↔◌, ◌&&◌, ◌==◌, nat_le, nat_lt, find, not, if◌then◌else◌, IsTrue}
+use Rattle.std.specs.Option.{option_map}
+use Rattle.std.specs.Result.{result_ok}
+use Rattle.std.specs.List.{AllByRecursion, filter_map}
+use Rattle.std.proofs.lemmas.Bool.{ltb-true, lt-ltb, leb-false}
+use Rattle.mxf_klv.specs.Bytes.{AreBytes}
+use Rattle.mxf_klv.specs.Parts.{NoteParts}
+use Rattle.mxf_klv.specs.Note.{end_of, keeps}
+use Rattle.mxf_klv.specs.Kind.{kind_of}
+use Rattle.mxf_klv.specs.Rising.{In}
+use Rattle.mxf_sets.specs.PartitionPack.{PartitionPackParts}
+use Rattle.mxf_sets.specs.PackReadings.{pack_at}
+use Rattle.mxf_sets.proofs.PackComputing.{pack_iff}
+use Rattle.mxf_catalogue.specs.Content.{IsContent}
+use Rattle.mxf_catalogue.specs.Disputes.{AreApart, IsClear, clear_notes}
+use Rattle.mxf_catalogue.proofs.DisputeLaws.{In-clear_notes}
+use Rattle.mxf_catalogue.proofs.SpanLaws.{AreApart-clear_notes}
+use Rattle.mxf_catalogue.proofs.Lists.{list_any-In, found-In, find-only}
+use Rattle.mxf_views.specs.declared.chain.Link.{Link}
+use Rattle.mxf_views.specs.declared.chain.Link.TheVariants.{First, Held, Skips, Missing, Wrong}
+use Rattle.mxf_views.specs.Partitions.{PartitionParts, HoldBytes, IsReadablePack, IsPartition, AreInOrder, StandsAt, IsGreatestBelow, IsLink, IsLinkAt, pack_of, partition_at, partitions_among, partitions_of, link_of, link_at, previous_of, stands_at, stands_between}
+use Rattle.mxf_views.proofs.Members.{In-filter_map, all-each, each-all, both, false_if, parts}
+
+-- ---- which partitions there are
+
+pub offset-partition_at : (n : NoteParts) (p : PartitionParts) → partition_at n ≡ Some p → p.offset ≡ n.offset
+unfolding partition_at
+offset-partition_at n p e =
+    elim (pack_of n) as (λ o. option_map (λ pack. record { offset = n.offset; end = end_of n; pack = pack }) o ≡ Some p → p.offset ≡ n.offset) [
+      | None ↦ λ q. absurd cc
+      | Some pack ↦ λ q. let same : record { offset = n.offset; end = end_of n; pack = pack } ≡ p = cc (q) in ap (λ (x : PartitionParts). x.offset) (sym same)
+    ] e
+
+readable_from : (n : NoteParts) (p : PartitionParts) → AreBytes n.held → partition_at n ≡ Some p → IsReadablePack n p
+unfolding partition_at
+readable_from n p bytes e =
+    elim (keeps n.key n.length) as (λ b. keeps n.key n.length ≡ b → option_map (λ pack. record { offset = n.offset; end = end_of n; pack = pack }) (cond b (result_ok (pack_at (kind_of n.key) n.held)) None) ≡ Some p → IsReadablePack n p) [
+      | false ↦ λ _ q. absurd cc
+      | true ↦ λ k q.
+          elim (pack_at (kind_of n.key) n.held) as (λ r. pack_at (kind_of n.key) n.held ≡ r → option_map (λ pack. record { offset = n.offset; end = end_of n; pack = pack }) (result_ok r) ≡ Some p → IsReadablePack n p) [
+            | Err f ↦ λ _ u. absurd cc
+            | Ok pack ↦ λ r u.
+                let same : record { offset = n.offset; end = end_of n; pack = pack } ≡ p = cc (u) in
+                subst (IsReadablePack n) same record {
+                  kept = k;
+                  read = (pack_iff (kind_of n.key) n.held (Ok pack) bytes).1 (sym r);
+                  offset = refl;
+                  end = refl;
+                }
+          ] refl q
+    ] refl e
+
+readable_to : (n : NoteParts) (p : PartitionParts) → AreBytes n.held → IsReadablePack n p → partition_at n ≡ Some p
+unfolding partition_at
+readable_to n p bytes a =
+    let k : keeps n.key n.length ≡ true = a.kept in
+    let r = (pack_iff (kind_of n.key) n.held (Ok p.pack) bytes).0 a.read in
+    let o = a.offset in
+    let e = a.end in
+    rw k (rw (sym r) (λ i. Some record { offset = sym o i; end = sym e i; pack = p.pack }))
+
+-- The partitions are those of the clear readable partition packs.
+pub partitions_are : (notes : List NoteParts) (p : PartitionParts) → HoldBytes notes → In p (partitions_of notes) ↔ IsPartition notes p
+unfolding partitions_of
+partitions_are notes p bytes =
+    let m = In-filter_map partition_at (clear_notes notes) p in (
+      λ h. let s = m.0 h in let c = (In-clear_notes s.0 notes).0 s.1 in (s.0, c, readable_from s.0 p (bytes s.0 c.held) s.2),
+      λ s. m.1 (s.0, (In-clear_notes s.0 notes).1 s.1, readable_to s.0 p (bytes s.0 s.1.held) s.2),
+    )
+
+above_among : (low : ℕ) (notes : List NoteParts) (p : PartitionParts) → AreApart low notes → In p (partitions_among notes) → low ≤ p.offset
+above_among low [] p a h = absurd h
+above_among low (n ∷ notes) p a h =
+    let s = (In-filter_map partition_at (n ∷ notes) p).0 h in
+    let o : p.offset ≡ s.0.offset = offset-partition_at s.0 p s.2 in
+    let l : low ≤ n.offset = a.0 in
+    elim s.1 [
+      | inl e ↦ (let f : s.0.offset ≡ n.offset = ap (λ (x : NoteParts). x.offset) e in omega (arith, o, f, l))
+      | inr k ↦ (let ih : end_of n ≤ p.offset = above_among (end_of n) notes p a.1 ((In-filter_map partition_at notes p).1 (s.0, k, s.2)) in omega arith)
+    ]
+
+in_order : (low : ℕ) (notes : List NoteParts) → AreApart low notes → AreInOrder (partitions_among notes)
+in_order low [] a = tt
+in_order low (n ∷ notes) a =
+    let ih = in_order (end_of n) notes a.1 in
+    elim (partition_at n) as (λ o. partition_at n ≡ o → AreInOrder (partitions_among (n ∷ notes))) [
+      | None ↦ λ e. rw e ih
+      | Some p ↦ λ e. rw e (
+        each-all (λ q. p.offset < q.offset) (partitions_among notes) (λ q h.
+        let o : p.offset ≡ n.offset = offset-partition_at n p e in
+        let l : end_of n ≤ q.offset = above_among (end_of n) notes q a.1 h in
+        omega (arith, o, l)),
+        ih,
+      )
+    ] refl
+
+-- They rise.
+pub partitions_rise : (notes : List NoteParts) → IsContent notes → AreInOrder (partitions_of notes)
+unfolding partitions_of
+partitions_rise notes r = in_order 0 (clear_notes notes) (AreApart-clear_notes notes r)
+
+-- At one offset one partition stands at most.
+pub one_there : (ps : List PartitionParts) (p q : PartitionParts) → AreInOrder ps → In p ps → In q ps → p.offset ≡ q.offset → p ≡ q
+one_there [] p q r h k e = absurd h
+one_there (x ∷ ps) p q r h k e =
+    elim h [
+      | inl a ↦ elim k [
+        | inl b ↦ a ∙ sym b
+        | inr b ↦ (let l : x.offset < q.offset = all-each (λ z. x.offset < z.offset) ps q r.0 b in let f = ap (λ (z : PartitionParts). z.offset) a in absurd (omega (arith, l, f, e)))
+      ]
+      | inr a ↦ elim k [
+        | inl b ↦ (let l : x.offset < p.offset = all-each (λ z. x.offset < z.offset) ps p r.0 a in let f = ap (λ (z : PartitionParts). z.offset) b in absurd (omega (arith, l, f, e)))
+        | inr b ↦ one_there ps p q r.1 a b e
+      ]
+    ]
+
+-- ---- links
+
+abbrev link_by : Bool → Bool → Bool → Bool → Bool → Link
+link_by zero first wrong there between = if zero then (if first then First else Wrong) else (if wrong then Wrong else (if not there then Missing else (if between then Skips else Held)))
+
+there_is : (ps : List PartitionParts) (o : ℕ) → StandsAt ps o → stands_at o ps ≡ true
+there_is ps o s = (list_any-In (λ q. q.offset == o) ps).1 (s.0, s.1, eq-eqb s.0.offset o s.2)
+
+there_says : (ps : List PartitionParts) (o : ℕ) → stands_at o ps ≡ true → StandsAt ps o
+there_says ps o t = let s = (list_any-In (λ q. q.offset == o) ps).0 t in (s.0, s.1, eqb-true s.0.offset o s.2)
+
+between_says : (ps : List PartitionParts) (low high : ℕ) → stands_between low high ps ≡ true → IsGreatestBelow ps high low → ⊥
+between_says ps low high t g =
+    let s = (list_any-In (λ q. nat_lt low q.offset && nat_lt q.offset high) ps).0 t in
+    let b = parts (nat_lt low s.0.offset) (nat_lt s.0.offset high) s.2 in
+    let x : low < s.0.offset = ltb-true low s.0.offset b.0 in
+    let y : s.0.offset ≤ low = g.greatest s.0 s.1 (ltb-true s.0.offset high b.1) in
+    omega arith
+
+none_between : (ps : List PartitionParts) (low high : ℕ) → StandsAt ps low → low < high → stands_between low high ps ≡ false → IsGreatestBelow ps high low
+none_between ps low high s l f = record {
+  there = s;
+  below = l;
+  greatest = λ q h b. elim (nat_lt low q.offset) as (λ t. nat_lt low q.offset ≡ t → q.offset ≤ low) [
+    | true ↦ λ t. absurd (let u = (list_any-In (λ x. nat_lt low x.offset && nat_lt x.offset high) ps).1 (q, h, both (nat_lt low q.offset) (nat_lt q.offset high) t (lt-ltb q.offset high b)) in cc (u, f))
+    | false ↦ λ t. Rattle.std.proofs.lemmas.Bool.ltb-false low q.offset t
+  ] refl;
+}
+
+-- What is computed is the link.
+pub link_is : (ps : List PartitionParts) (p : PartitionParts) → IsLink ps p (link_of ps p)
+link_is ps p =
+    let v = previous_of p in
+    elim (p.offset == 0) as (λ b. (p.offset == 0) ≡ b → IsLink ps p (link_by b (v == 0) (nat_le p.offset v) (stands_at v ps) (stands_between v p.offset ps))) [
+      | true ↦ λ z.
+          let at : p.offset ≡ 0 = eqb-true p.offset 0 z in
+          elim (v == 0) as (λ b. (v == 0) ≡ b → IsLink ps p (if b then First else Wrong)) [
+            | true ↦ λ t. (at, eqb-true v 0 t)
+            | false ↦ λ t. inl (at, λ e. let u = eq-eqb v 0 e in cc (t, u))
+          ] refl
+      | false ↦ λ z.
+          elim (nat_le p.offset v) as (λ b. nat_le p.offset v ≡ b → IsLink ps p (link_by false (v == 0) b (stands_at v ps) (stands_between v p.offset ps))) [
+            | true ↦ λ t. inr ((λ e. let u = eq-eqb p.offset 0 e in cc (z, u)), leb-true p.offset v t)
+            | false ↦ λ t.
+                let l : v < p.offset = leb-false p.offset v t in
+                elim (stands_at v ps) as (λ b. stands_at v ps ≡ b → IsLink ps p (link_by false (v == 0) false b (stands_between v p.offset ps))) [
+                  | false ↦ λ n. (l, λ s. let u = there_is ps v s in cc (n, u))
+                  | true ↦ λ n. elim (stands_between v p.offset ps) as (λ b. stands_between v p.offset ps ≡ b → IsLink ps p (if b then Skips else Held)) [
+                    | true ↦ λ s. (l, there_says ps v n, between_says ps v p.offset s)
+                    | false ↦ λ s. none_between ps v p.offset (there_says ps v n) l s
+                  ] refl
+                ] refl
+          ] refl
+    ] refl
+
+-- A partition has one link.
+pub one_link : (ps : List PartitionParts) (p : PartitionParts) (a b : Link) → IsLink ps p a → IsLink ps p b → a ≡ b
+one_link ps p First First x y = refl
+one_link ps p First Held x y = let z = x.0 in let w : previous_of p < p.offset = y.below in absurd (omega arith)
+one_link ps p First Skips x y = let z = x.0 in let w = y.0 in absurd (omega arith)
+one_link ps p First Missing x y = let z = x.0 in let w = y.0 in absurd (omega arith)
+one_link ps p First Wrong x (inl y) = absurd (y.1 x.1)
+one_link ps p First Wrong x (inr y) = absurd (y.0 x.0)
+one_link ps p Held Held x y = refl
+one_link ps p Held Skips x y = absurd (y.2 x)
+one_link ps p Held Missing x y = absurd (y.1 x.there)
+one_link ps p Held Wrong x (inl y) = let z = y.0 in let w : previous_of p < p.offset = x.below in absurd (omega arith)
+one_link ps p Held Wrong x (inr y) = let z = y.1 in let w : previous_of p < p.offset = x.below in absurd (omega arith)
+one_link ps p Skips Skips x y = refl
+one_link ps p Skips Missing x y = absurd (y.1 x.1)
+one_link ps p Skips Wrong x (inl y) = let z = y.0 in let w = x.0 in absurd (omega arith)
+one_link ps p Skips Wrong x (inr y) = let z = y.1 in let w = x.0 in absurd (omega arith)
+one_link ps p Missing Missing x y = refl
+one_link ps p Missing Wrong x (inl y) = let z = y.0 in let w = x.0 in absurd (omega arith)
+one_link ps p Missing Wrong x (inr y) = let z = y.1 in let w = x.0 in absurd (omega arith)
+one_link ps p Wrong Wrong x y = refl
+one_link ps p Held First x y = let z = y.0 in let w : previous_of p < p.offset = x.below in absurd (omega arith)
+one_link ps p Skips First x y = let z = y.0 in let w = x.0 in absurd (omega arith)
+one_link ps p Skips Held x y = absurd (x.2 y)
+one_link ps p Missing First x y = let z = y.0 in let w = x.0 in absurd (omega arith)
+one_link ps p Missing Held x y = absurd (x.1 y.there)
+one_link ps p Missing Skips x y = absurd (x.1 y.1)
+one_link ps p Wrong First (inl x) y = absurd (x.1 y.1)
+one_link ps p Wrong First (inr x) y = absurd (x.0 y.0)
+one_link ps p Wrong Held (inl x) y = let z = x.0 in let w : previous_of p < p.offset = y.below in absurd (omega arith)
+one_link ps p Wrong Held (inr x) y = let z = x.1 in let w : previous_of p < p.offset = y.below in absurd (omega arith)
+one_link ps p Wrong Skips (inl x) y = let z = x.0 in let w = y.0 in absurd (omega arith)
+one_link ps p Wrong Skips (inr x) y = let z = x.1 in let w = y.0 in absurd (omega arith)
+one_link ps p Wrong Missing (inl x) y = let z = x.0 in let w = y.0 in absurd (omega arith)
+one_link ps p Wrong Missing (inr x) y = let z = x.1 in let w = y.0 in absurd (omega arith)
+
+pub link_iff : (ps : List PartitionParts) (p : PartitionParts) (l : Link) → (link_of ps p ≡ l) ↔ IsLink ps p l
+link_iff ps p l = (λ e. subst (IsLink ps p) e (link_is ps p), λ i. one_link ps p (link_of ps p) l (link_is ps p) i)
+
+-- The link at an offset is that of the partition that stands there.
+pub link_at_iff : (ps : List PartitionParts) (offset : ℕ) (l : Link) → AreInOrder ps → (link_at offset ps ≡ Some l) ↔ IsLinkAt ps offset l
+link_at_iff ps offset l r = (
+  λ e. elim (find (λ p. p.offset == offset) ps) as (λ o. find (λ p. p.offset == offset) ps ≡ o → option_map (link_of ps) o ≡ Some l → IsLinkAt ps offset l) [
+    | None ↦ λ _ q. absurd cc
+    | Some p ↦ λ f q.
+        let s = found-In (λ p. p.offset == offset) ps p f in
+        let same : link_of ps p ≡ l = cc (q) in
+        (p, s.0, eqb-true p.offset offset s.1, (link_iff ps p l).0 same)
+  ] refl e,
+  λ s.
+      let f = find-only (λ p. p.offset == offset) ps s.0 s.1 (eq-eqb s.0.offset offset s.2) (λ q h t. one_there ps q s.0 r h s.1 (eqb-true q.offset offset t ∙ sym s.2)) in
+      ap (option_map (link_of ps)) f ∙ ap (λ (x : Link). Some x) ((link_iff ps s.0 l).1 s.3),
+)
