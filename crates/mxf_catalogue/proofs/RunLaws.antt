@@ -76,17 +76,17 @@ same_runs low lo (r ∷ rs) (s ∷ ss) m n e =
     let first : r ≡ s = same_run r s start stop in
     let tails : SameOffsets rs ss = λ at. (
       λ h.
-        let f = above (r.end + 1) rs at m.2 h in
-        elim (first_or_others s ss at ((e at).0 (in_others r rs at h))) [
-          | inl w ↦ (let g : at + 1 ≤ s.end = w.before in absurd (omega (arith, f)))
-          | inr k ↦ k
-        ],
+          let f = above (r.end + 1) rs at m.2 h in
+          elim (first_or_others s ss at ((e at).0 (in_others r rs at h))) [
+            | inl w ↦ (let g : at + 1 ≤ s.end = w.before in absurd (omega (arith, f)))
+            | inr k ↦ k
+          ],
       λ h.
-        let f = above (s.end + 1) ss at n.2 h in
-        elim (first_or_others r rs at ((e at).1 (in_others s ss at h))) [
-          | inl w ↦ (let g : at + 1 ≤ r.end = w.before in absurd (omega (arith, f)))
-          | inr k ↦ k
-        ],
+          let f = above (s.end + 1) ss at n.2 h in
+          elim (first_or_others r rs at ((e at).1 (in_others s ss at h))) [
+            | inl w ↦ (let g : at + 1 ≤ r.end = w.before in absurd (omega (arith, f)))
+            | inr k ↦ k
+          ],
     ) in
     let rest : rs ≡ ss = same_runs (r.end + 1) (s.end + 1) rs ss m.2 n.2 tails in
     λ i. first i ∷ rest i

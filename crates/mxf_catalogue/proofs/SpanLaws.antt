@@ -66,4 +66,3 @@ all_clear_apart notes (x ∷ xs) low r c l = (
 -- Clear notes share no byte.
 pub AreApart-clear_notes : (notes : List NoteParts) → IsContent notes → AreApart 0 (clear_notes notes)
 AreApart-clear_notes notes r = all_clear_apart notes (clear_notes notes) 0 (IsContent-clear_notes notes r) (λ n h. (In-clear_notes n notes).0 h) (λ n h. omega arith)
-

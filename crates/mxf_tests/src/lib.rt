@@ -24,6 +24,8 @@ mod segments;
 #[cfg(test)]
 mod texts;
 #[cfg(test)]
+mod views;
+#[cfg(test)]
 mod worked_files;
 #[cfg(test)]
 mod writing;

@@ -1,14 +1,23 @@
 -- The preferred copy of those seen so far.
-use Rattle.std.proofs.Common.{◌≡◌, ◌+◌, ◌<◌, ◌≤◌, ◌⊎◌, Bool, true, false, List, [], ◌∷◌, ◌++◌, Option, Some, None, refl, cond, append_assoc, append-nil, subst, ap, ◌∙◌, sym, inl, inr, arith, eqb-true}
+use Rattle.std.proofs.Common.{◌≡◌, ◌+◌, ◌<◌, ◌≤◌, ◌⊎◌, Bool, true, false, List, [], ◌∷◌, ◌++◌, Option, Some, None, refl}
+use Rattle.std.proofs.Common.{cond, append_assoc, append-nil, subst, ap, ◌∙◌, sym, inl, inr, arith, eqb-true}
 use Rattle.std.specs.Prelude.{◌&&◌, ◌||◌, ◌==◌, nat_lt, IsTrue}
 use Rattle.std.proofs.lemmas.Bool.{ltb-true, ltb-false}
 use Rattle.mxf_klv.specs.Rising.{In}
 use Rattle.mxf_views.specs.declared.copy.CopyInfo.{CopyInfo}
-use Rattle.mxf_views.specs.Copies.{best_of, better, preferred_of, is_candidate, is_above, standing, IsNotAbove, IsBest, IsPreferred}
+use Rattle.mxf_views.specs.Copies.{best_of, better, preferred_of, is_candidate, is_above, standing, IsNotAbove, IsBest}
+use Rattle.mxf_views.specs.Copies.{IsPreferred}
 
 In-push : (d c : CopyInfo) (seen : List CopyInfo) → In d (seen ++ c ∷ []) → In d seen ⊎ (d ≡ c)
 In-push d c [] h = elim h [ inl e ↦ inr e | inr k ↦ absurd k ]
-In-push d c (x ∷ xs) h = elim h [ inl e ↦ inl (inl e) | inr k ↦ elim (In-push d c xs k) [ inl m ↦ inl (inr m) | inr e ↦ inr e ] ]
+In-push d c (x ∷ xs) h = elim h [
+  | inl e ↦ inl (inl e)
+  | inr k ↦ elim (In-push d c xs k) [
+    | inl m ↦ inl
+        (inr m)
+    | inr e ↦ inr e
+  ]
+]
 
 In-left : (d c : CopyInfo) (seen : List CopyInfo) → In d seen → In d (seen ++ c ∷ [])
 In-left d c [] h = absurd h
@@ -18,75 +27,107 @@ In-last : (c : CopyInfo) (seen : List CopyInfo) → In c (seen ++ c ∷ [])
 In-last c [] = inl refl
 In-last c (x ∷ xs) = inr (In-last c xs)
 
-above_says : (c b : CopyInfo) → is_above c (Some b) ≡ true → (standing b < standing c) ⊎ ((standing b ≡ standing c) × (b.partition < c.partition))
+above_says : (c b : CopyInfo) → is_above c (Some b) ≡ true
+    → (standing b < standing c) ⊎ ((standing b ≡ standing c) × (b.partition < c.partition))
 above_says c b e =
-    elim (nat_lt (standing b) (standing c)) as (λ t. nat_lt (standing b) (standing c) ≡ t → (t || ((standing b == standing c) && nat_lt b.partition c.partition)) ≡ true → (standing b < standing c) ⊎ ((standing b ≡ standing c) × (b.partition < c.partition))) [
+    elim (nat_lt (standing b) (standing c)) as (λ t. nat_lt (standing b) (standing c) ≡ t
+    → (t || ((standing b == standing c) && nat_lt b.partition c.partition)) ≡ true
+    → (standing b < standing c) ⊎ ((standing b ≡ standing c) × (b.partition < c.partition))) [
       | true ↦ λ t _. inl (ltb-true (standing b) (standing c) t)
-      | false ↦ λ t k. elim (standing b == standing c) as (λ u. (standing b == standing c) ≡ u → (u && nat_lt b.partition c.partition) ≡ true → (standing b < standing c) ⊎ ((standing b ≡ standing c) × (b.partition < c.partition))) [
-        | true ↦ λ u m. inr (eqb-true (standing b) (standing c) u, ltb-true b.partition c.partition m)
-        | false ↦ λ u m. absurd cc
-      ] refl k
+      | false ↦ λ t k. elim (standing b == standing c) as (λ u. (standing b == standing c) ≡ u
+          → (u && nat_lt b.partition c.partition) ≡ true
+          → (standing b < standing c) ⊎ ((standing b ≡ standing c) × (b.partition < c.partition))) [
+            | true ↦ λ u m. inr (eqb-true (standing b) (standing c) u, ltb-true b.partition c.partition m)
+            | false ↦ λ u m. absurd cc
+          ] refl k
     ] refl e
 
 not_above_says : (c b : CopyInfo) → is_above c (Some b) ≡ false → IsNotAbove c b
 not_above_says c b e =
-    elim (nat_lt (standing b) (standing c)) as (λ t. nat_lt (standing b) (standing c) ≡ t → (t || ((standing b == standing c) && nat_lt b.partition c.partition)) ≡ false → IsNotAbove c b) [
+    elim (nat_lt (standing b) (standing c)) as (λ t. nat_lt (standing b) (standing c) ≡ t
+    → (t || ((standing b == standing c) && nat_lt b.partition c.partition)) ≡ false → IsNotAbove c b) [
       | true ↦ λ t k. absurd cc
-      | false ↦ λ t k. elim (standing b == standing c) as (λ u. (standing b == standing c) ≡ u → (u && nat_lt b.partition c.partition) ≡ false → IsNotAbove c b) [
-        | true ↦ λ u m. inr (sym (eqb-true (standing b) (standing c) u), ltb-false b.partition c.partition m)
-        | false ↦ λ u m.
-            let le : standing c ≤ standing b = ltb-false (standing b) (standing c) t in
-            elim (nat_lt (standing c) (standing b)) as (λ v. nat_lt (standing c) (standing b) ≡ v → IsNotAbove c b) [
-              | true ↦ λ v. inl (ltb-true (standing c) (standing b) v)
-              | false ↦ λ v. let ge : standing b ≤ standing c = ltb-false (standing c) (standing b) v in let same : standing b ≡ standing c = omega arith in let w = Rattle.std.proofs.Common.eq-eqb (standing b) (standing c) same in absurd (cc (u, w))
-            ] refl
-      ] refl k
+      | false ↦ λ t k. elim (standing b == standing c) as (λ u. (standing b == standing c) ≡ u
+          → (u && nat_lt b.partition c.partition) ≡ false → IsNotAbove c b) [
+            | true ↦ λ u m. inr (sym (eqb-true (standing b) (standing c) u), ltb-false b.partition c.partition m)
+            | false ↦ λ u m.
+                let le : standing c ≤ standing b = ltb-false (standing b) (standing c) t in
+                elim (nat_lt (standing c) (standing b)) as (λ v. nat_lt (standing c) (standing b) ≡ v → IsNotAbove c b) [
+                  | true ↦ λ v. inl (ltb-true (standing c) (standing b) v)
+                  | false ↦ λ v. let ge : standing b ≤ standing c = ltb-false (standing c)
+                      (standing b) v in let same : standing b ≡ standing c = omega arith in let w = Rattle.std.proofs.Common.eq-eqb (standing b) (standing c) same in absurd (cc (u, w))
+                ] refl
+          ] refl k
     ] refl e
 
-through : (d b c : CopyInfo) → IsNotAbove d b → (standing b < standing c) ⊎ ((standing b ≡ standing c) × (b.partition < c.partition)) → IsNotAbove d c
+through : (d b c : CopyInfo) → IsNotAbove d b → (standing b < standing c) ⊎
+    ((standing b ≡ standing c) × (b.partition < c.partition)) → IsNotAbove d c
 through d b c (inl p) (inl q) = inl (omega arith)
 through d b c (inl p) (inr q) = let e = q.0 in inl (omega arith)
 through d b c (inr p) (inl q) = let e = p.0 in inl (omega arith)
 through d b c (inr p) (inr q) = inr (p.0 ∙ q.0, let x = p.1 in let y = q.1 in omega arith)
 
-below_new : (seen : List CopyInfo) (best : Option CopyInfo) (c d : CopyInfo) → IsPreferred seen best → is_above c best ≡ true → In d seen → IsTrue (is_candidate d) → IsNotAbove d c
+below_new : (seen : List CopyInfo) (best : Option CopyInfo) (c d : CopyInfo) → IsPreferred seen best
+    → is_above c best ≡ true → In d seen → IsTrue (is_candidate d) → IsNotAbove d c
 below_new seen None c d p a h k = absurd (p d h k)
 below_new seen (Some b) c d p a h k = through d b c (p.best d h k) (above_says c b a)
 
-pub best_takes : (seen : List CopyInfo) (best : Option CopyInfo) (c : CopyInfo) → IsPreferred seen best → is_candidate c ≡ true → is_above c best ≡ true → IsBest (seen ++ c ∷ []) c
+pub best_takes : (seen : List CopyInfo) (best : Option CopyInfo) (c : CopyInfo) → IsPreferred seen best
+    → is_candidate c ≡ true → is_above c best ≡ true → IsBest (seen ++ c ∷ []) c
 best_takes seen best c p k a = record {
   held = In-last c seen;
   candidate = k;
-  best = λ d h t. elim (In-push d c seen h) [ inl m ↦ below_new seen best c d p a m t | inr e ↦ inr (ap standing e, let f = ap (λ (x : CopyInfo). x.partition) e in omega (arith, f)) ];
+  best = λ d h t. elim (In-push d c seen h) [
+    | inl m ↦ below_new seen best c d p a m t
+    | inr e ↦ inr
+        (ap standing e, let f = ap (λ (x : CopyInfo). x.partition) e in omega (arith, f))
+  ];
 }
 
-pub best_keeps : (seen : List CopyInfo) (best : Option CopyInfo) (c : CopyInfo) → IsPreferred seen best → (is_candidate c ≡ false) ⊎ (is_above c best ≡ false) → IsPreferred (seen ++ c ∷ []) best
-best_keeps seen None c p (inl k) = λ d h t. elim (In-push d c seen h) [ inl m ↦ p d m t | inr e ↦ (let f = ap is_candidate e in absurd (cc (f, k, t))) ]
+pub best_keeps : (seen : List CopyInfo) (best : Option CopyInfo) (c : CopyInfo) → IsPreferred seen best
+    → (is_candidate c ≡ false) ⊎ (is_above c best ≡ false) → IsPreferred (seen ++ c ∷ []) best
+best_keeps seen None c p (inl k) = λ d h t. elim (In-push d c seen h) [
+  | inl m ↦ p d m t
+  | inr e ↦
+      (let f = ap is_candidate e in absurd (cc (f, k, t)))
+]
 best_keeps seen None c p (inr a) = absurd cc
 best_keeps seen (Some b) c p (inl k) = record {
   held = In-left b c seen p.held;
   candidate = p.candidate;
-  best = λ d h t. elim (In-push d c seen h) [ inl m ↦ p.best d m t | inr e ↦ (let f = ap is_candidate e in absurd (cc (f, k, t))) ];
+  best = λ d h t. elim (In-push d c seen h) [
+    | inl m ↦ p.best d m t
+    | inr e ↦
+        (let f = ap is_candidate e in absurd (cc (f, k, t)))
+  ];
 }
 best_keeps seen (Some b) c p (inr a) = record {
   held = In-left b c seen p.held;
   candidate = p.candidate;
-  best = λ d h t. elim (In-push d c seen h) [ inl m ↦ p.best d m t | inr e ↦ Rattle.std.proofs.Common.subst (λ (x : CopyInfo). IsNotAbove x b) (sym e) (not_above_says c b a) ];
+  best = λ d h t. elim (In-push d c seen h) [
+    | inl m ↦ p.best d m t
+    | inr e ↦ Rattle.std.proofs.Common.subst
+        (λ (x : CopyInfo). IsNotAbove x b) (sym e) (not_above_says c b a)
+  ];
 }
 
-best_after : (seen left : List CopyInfo) (best : Option CopyInfo) → IsPreferred seen best → IsPreferred (seen ++ left) (best_of best left)
+best_after : (seen left : List CopyInfo) (best : Option CopyInfo) → IsPreferred seen best
+    → IsPreferred (seen ++ left) (best_of best left)
 best_after seen [] best p = subst (λ (l : List CopyInfo). IsPreferred l best) (sym (append-nil seen)) p
 best_after seen (c ∷ left) best p =
     let more : IsPreferred (seen ++ c ∷ []) (better best c) =
-    elim (is_candidate c) as (λ k. is_candidate c ≡ k → IsPreferred (seen ++ c ∷ []) (cond (k && is_above c best) (Some c) best)) [
-      | true ↦ λ k. elim (is_above c best) as (λ a. is_above c best ≡ a → IsPreferred (seen ++ c ∷ []) (cond a (Some c) best)) [
-        | true ↦ λ a. best_takes seen best c p k a
-        | false ↦ λ a. best_keeps seen best c p (inr a)
-      ] refl
+    elim (is_candidate c) as (λ k. is_candidate c ≡ k
+    → IsPreferred (seen ++ c ∷ []) (cond (k && is_above c best) (Some c) best)) [
+      | true ↦ λ k. elim (is_above c best) as (λ a. is_above c best ≡ a
+          → IsPreferred (seen ++ c ∷ []) (cond a (Some c) best)) [
+            | true ↦ λ a. best_takes seen best c p k a
+            | false ↦ λ a. best_keeps seen best c p (inr a)
+          ] refl
       | false ↦ λ k. best_keeps seen best c p (inl k)
     ] refl in
     let whole = append_assoc seen (c ∷ []) left in
-    subst (λ (l : List CopyInfo). IsPreferred l (best_of (better best c) left)) whole (best_after (seen ++ c ∷ []) left (better best c) more)
+    subst (λ (l : List CopyInfo). IsPreferred l (best_of (better best c) left)) whole (best_after (seen
+    ++ c ∷ []) left (better best c) more)
 
 -- The preferred copy is a candidate that no candidate stands above.
 pub preferred_is : (copies : List CopyInfo) → IsPreferred copies (preferred_of copies)
@@ -96,6 +137,14 @@ preferred_is copies = best_after [] copies None (λ d h t. h)
 pub one_best : (copies : List CopyInfo) (a b : CopyInfo) → IsBest copies a → IsBest copies b → a.partition ≡ b.partition
 one_best copies a b p q =
     elim (q.best a p.held p.candidate) [
-      | inl l ↦ elim (p.best b q.held q.candidate) [ inl m ↦ absurd (omega arith) | inr m ↦ (let e = m.0 in absurd (omega arith)) ]
-      | inr l ↦ elim (p.best b q.held q.candidate) [ inl m ↦ (let e = l.0 in absurd (omega arith)) | inr m ↦ (let x = l.1 in let y = m.1 in omega arith) ]
+      | inl l ↦ elim (p.best b q.held q.candidate) [
+        | inl m ↦ absurd (omega arith)
+        | inr m ↦
+            (let e = m.0 in absurd (omega arith))
+      ]
+      | inr l ↦ elim (p.best b q.held q.candidate) [
+        | inl m ↦ (let e = l.0 in absurd (omega arith))
+        | inr m ↦
+            (let x = l.1 in let y = m.1 in omega arith)
+      ]
     ]

@@ -1,5 +1,6 @@
 -- Whether the partitions hang together.
-use Rattle.std.proofs.Common.{◌≡◌, ◌≢◌, ℕ, ◌+◌, ◌<◌, ◌≤◌, ◌⊎◌, Bool, true, false, cond, List, [], ◌∷◌, Option, Some, None, refl, sym, ap, subst, ◌∙◌, inl, inr, arith, eqb-true, eq-eqb}
+use Rattle.std.proofs.Common.{◌≡◌, ◌≢◌, ℕ, ◌+◌, ◌<◌, ◌≤◌, ◌⊎◌, Bool, true, false, cond, List, [], ◌∷◌, Option, Some}
+use Rattle.std.proofs.Common.{None, refl, sym, ap, subst, ◌∙◌, inl, inr, arith, eqb-true, eq-eqb}
 use Rattle.std.specs.Prelude.{◌↔◌, ◌&&◌, ◌||◌, ◌==◌, nat_lt, not, if◌then◌else◌, IsTrue, is_some, count_by}
 use Rattle.std.specs.List.{list_all, list_any, AllByRecursion}
 use Rattle.std.proofs.lemmas.Bool.{ltb-true, ltb-false, lt-ltb}
@@ -21,8 +22,12 @@ use Rattle.mxf_views.specs.declared.chain.Link.{Link}
 use Rattle.mxf_views.specs.declared.chain.Link.TheVariants.{First, Held, Skips, Missing, Wrong}
 use Rattle.mxf_views.specs.declared.chain.Chain.{Chain}
 use Rattle.mxf_views.specs.declared.chain.Chain.TheVariants.{Whole, Broken}
-use Rattle.mxf_views.specs.Partitions.{PartitionParts, AreInOrder, StandsAt, IsLink, IsOnly, IsWhole, chain_of, is_first, is_footer, is_greatest, is_header, is_held, is_linked, is_no_unreadable_pack, is_whole, link_of, partition_at, partitions_of, stands_above}
-use Rattle.mxf_views.proofs.Members.{In-filter_map, all-each, both, count_by-cons, count-none, count-one, false_if, In-list_all, list_all-In, parts, tally}
+use Rattle.mxf_views.specs.Partitions.{PartitionParts, AreInOrder, StandsAt, IsLink, IsOnly, IsWhole, chain_of}
+use Rattle.mxf_views.specs.Partitions.{is_first, is_footer, is_greatest, is_header, is_held, is_linked}
+use Rattle.mxf_views.specs.Partitions.{is_no_unreadable_pack, is_whole, link_of, partition_at, partitions_of}
+use Rattle.mxf_views.specs.Partitions.{stands_above}
+use Rattle.mxf_views.proofs.Members.{In-filter_map, all-each, both, count_by-cons, count-none, count-one, false_if}
+use Rattle.mxf_views.proofs.Members.{In-list_all, list_all-In, parts, tally}
 use Rattle.mxf_views.proofs.PartitionLaws.{link_iff, offset-partition_at, partitions_rise}
 use Rattle.mxf_views.proofs.StartLaws.{clear_same}
 
@@ -67,7 +72,8 @@ kind_says kinds.Fill h = absurd cc
 kind_says kinds.Essence h = absurd cc
 kind_says kinds.Other h = absurd cc
 
-pack_kind_tells : (part : PackPart) → (s : Rattle.mxf_klv.specs.declared.kinds.Status.Status) → is_some (part_and_status (pack_kind part s)) ≡ true
+pack_kind_tells : (part : PackPart) → (s : Rattle.mxf_klv.specs.declared.kinds.Status.Status)
+    → is_some (part_and_status (pack_kind part s)) ≡ true
 pack_kind_tells Header s = refl
 pack_kind_tells Body s = refl
 pack_kind_tells Footer s = refl
@@ -76,7 +82,8 @@ kind_tells : (k : Kind) → IsPartitionKind k → is_some (part_and_status k) �
 kind_tells k s = ap (λ (x : Kind). is_some (part_and_status x)) s.2 ∙ pack_kind_tells s.0 s.1
 
 -- where only one passes, one is counted
-one-count : (p : PartitionParts → Bool) (ps : List PartitionParts) (x : PartitionParts) → AreInOrder ps → In x ps → p x ≡ true
+one-count : (p : PartitionParts → Bool) (ps : List PartitionParts) (x : PartitionParts) → AreInOrder ps → In x ps
+    → p x ≡ true
     → ((y : PartitionParts) → In y ps → p y ≡ true → y ≡ x) → count_by p ps ≡ 1
 one-count p [] x r h t only = absurd h
 one-count p (y ∷ ps) x r h t only =
@@ -97,14 +104,17 @@ one-count p (y ∷ ps) x r h t only =
           omega (arith, c, zero, ih)
     ] refl
 
-greatest_says : (ps : List PartitionParts) (p : PartitionParts) → is_greatest ps p ≡ true → (q : PartitionParts) → In q ps → q.offset ≤ p.offset
+greatest_says : (ps : List PartitionParts) (p : PartitionParts) → is_greatest ps p ≡ true → (q : PartitionParts)
+    → In q ps → q.offset ≤ p.offset
 greatest_says ps p g q h =
     elim (nat_lt p.offset q.offset) as (λ b. nat_lt p.offset q.offset ≡ b → q.offset ≤ p.offset) [
-      | true ↦ λ t. absurd (let a = (list_any-In (λ x. nat_lt p.offset x.offset) ps).1 (q, h, t) in let k = ap not a in cc (k, g))
+      | true ↦ λ t. absurd (let a = (list_any-In (λ x. nat_lt p.offset x.offset) ps).1
+          (q, h, t) in let k = ap not a in cc (k, g))
       | false ↦ λ t. ltb-false p.offset q.offset t
     ] refl
 
-greatest_is : (ps : List PartitionParts) (p : PartitionParts) → ((q : PartitionParts) → In q ps → q.offset ≤ p.offset) → is_greatest ps p ≡ true
+greatest_is : (ps : List PartitionParts) (p : PartitionParts) → ((q : PartitionParts) → In q ps → q.offset ≤ p.offset)
+    → is_greatest ps p ≡ true
 greatest_is ps p f =
     ap not (false_if (stands_above p.offset ps) (λ t.
     let s = (list_any-In (λ x. nat_lt p.offset x.offset) ps).0 t in
@@ -115,31 +125,38 @@ greatest_is ps p f =
 abbrev linked_by : Bool → Link → Bool
 linked_by header l = if header then is_first l else is_held l
 
-first_link : (ps : List PartitionParts) (p : PartitionParts) → is_header p.pack.part ≡ true → is_linked ps p ≡ true → IsLink ps p First
+first_link : (ps : List PartitionParts) (p : PartitionParts) → is_header p.pack.part ≡ true → is_linked ps p ≡ true
+    → IsLink ps p First
 first_link ps p h t =
     let u : is_first (link_of ps p) ≡ true = ap (λ (b : Bool). linked_by b (link_of ps p)) (sym h) ∙ t in
     (link_iff ps p First).0 (first_says (link_of ps p) u)
 
-held_link : (ps : List PartitionParts) (p : PartitionParts) → is_header p.pack.part ≡ false → is_linked ps p ≡ true → IsLink ps p Held
+held_link : (ps : List PartitionParts) (p : PartitionParts) → is_header p.pack.part ≡ false → is_linked ps p ≡ true
+    → IsLink ps p Held
 held_link ps p h t =
     let u : is_held (link_of ps p) ≡ true = ap (λ (b : Bool). linked_by b (link_of ps p)) (sym h) ∙ t in
     (link_iff ps p Held).0 (held_says (link_of ps p) u)
 
-linked_first : (ps : List PartitionParts) (p : PartitionParts) → is_header p.pack.part ≡ true → IsLink ps p First → is_linked ps p ≡ true
+linked_first : (ps : List PartitionParts) (p : PartitionParts) → is_header p.pack.part ≡ true → IsLink ps p First
+    → is_linked ps p ≡ true
 linked_first ps p h i = ap (λ (b : Bool). linked_by b (link_of ps p)) h ∙ ap is_first ((link_iff ps p First).1 i)
 
-linked_held : (ps : List PartitionParts) (p : PartitionParts) → is_header p.pack.part ≡ false → IsLink ps p Held → is_linked ps p ≡ true
+linked_held : (ps : List PartitionParts) (p : PartitionParts) → is_header p.pack.part ≡ false → IsLink ps p Held
+    → is_linked ps p ≡ true
 linked_held ps p h i = ap (λ (b : Bool). linked_by b (link_of ps p)) h ∙ ap is_held ((link_iff ps p Held).1 i)
 
-only_from : (ps : List PartitionParts) (is : PackPart → Bool) (part : PackPart) → ((x : PackPart) → is x ≡ true → x ≡ part) → is part ≡ true
+only_from : (ps : List PartitionParts) (is : PackPart → Bool) (part : PackPart)
+    → ((x : PackPart) → is x ≡ true → x ≡ part) → is part ≡ true
     → count_by (λ p. is p.pack.part) ps ≡ 1 → (p : PartitionParts) × IsOnly ps part p
 only_from ps is part says own e =
     let s = count-one (λ p. is p.pack.part) ps e in
     (s.0, record { held = s.1; part = says s.0.pack.part s.2; only = λ q h t. s.3 q h (ap is t ∙ own) })
 
-from_only : (ps : List PartitionParts) (is : PackPart → Bool) (part : PackPart) (p : PartitionParts) → ((x : PackPart) → is x ≡ true → x ≡ part) → is part ≡ true
+from_only : (ps : List PartitionParts) (is : PackPart → Bool) (part : PackPart) (p : PartitionParts)
+    → ((x : PackPart) → is x ≡ true → x ≡ part) → is part ≡ true
     → AreInOrder ps → IsOnly ps part p → count_by (λ p. is p.pack.part) ps ≡ 1
-from_only ps is part p says own r o = one-count (λ p. is p.pack.part) ps p r o.held (ap is o.part ∙ own) (λ q h t. o.only q h (says q.pack.part t))
+from_only ps is part p says own r o = one-count (λ p. is p.pack.part) ps p r o.held (ap is o.part
+    ∙ own) (λ q h t. o.only q h (says q.pack.part t))
 
 -- ---- packs that are readable
 
@@ -150,34 +167,52 @@ some_is : {K : Type 0} (o : Option K) → is_some o ≡ true → (x : K) × (o �
 some_is None h = absurd cc
 some_is (Some x) h = (x, refl)
 
-stands_there : (notes : List NoteParts) (n : NoteParts) → IsClear n notes → IsPartitionKind (kind_of n.key) → is_no_unreadable_pack n ≡ true → StandsAt (partitions_of notes) n.offset
+stands_there : (notes : List NoteParts) (n : NoteParts) → IsClear n notes → IsPartitionKind (kind_of n.key)
+    → is_no_unreadable_pack n ≡ true → StandsAt (partitions_of notes) n.offset
 unfolding is_no_unreadable_pack partitions_of
 stands_there notes n c k t =
-    let u : is_some (partition_at n) ≡ true = ap (λ (b : Bool). readable_by b (is_some (partition_at n))) (sym (kind_tells (kind_of n.key) k)) ∙ t in
-    let s = some_is (partition_at n) u in
-    (s.0, (In-filter_map partition_at (clear_notes notes) s.0).1 (n, (In-clear_notes n notes).1 c, s.1), offset-partition_at n s.0 s.1)
+    let u : is_some (partition_at n) ≡ true = ap (λ (b : Bool). readable_by b (is_some (partition_at n)))
+    (sym (kind_tells (kind_of n.key) k)) ∙ t in
+    let s = some_is (partition_at n) u in (
+      s.0,
+      (In-filter_map partition_at (clear_notes notes) s.0).1
+          (n, (In-clear_notes n notes).1 c, s.1),
+      offset-partition_at n s.0 s.1,
+    )
 
-at_partition : (notes : List NoteParts) (n : NoteParts) → IsClear n notes → StandsAt (partitions_of notes) n.offset → is_some (partition_at n) ≡ true
+at_partition : (notes : List NoteParts) (n : NoteParts) → IsClear n notes → StandsAt (partitions_of notes) n.offset
+    → is_some (partition_at n) ≡ true
 unfolding partitions_of
 at_partition notes n c s =
     let m = (In-filter_map partition_at (clear_notes notes) s.0).0 s.1 in
     let o : s.0.offset ≡ m.0.offset = offset-partition_at m.0 s.0 m.2 in
     let e : s.0.offset ≡ n.offset = s.2 in
-    let shares : SharesByte n m.0 = (n.offset, record { from = omega arith; before = omega arith }, record { from = omega (arith, o, e); before = omega (arith, o, e) }) in
+    let shares : SharesByte n m.0 = (
+      n.offset,
+      record { from = omega arith; before = omega arith },
+      record {
+        from = omega
+            (arith, o, e);
+        before = omega (arith, o, e);
+      },
+    ) in
     let same : n ≡ m.0 = clear_same notes n m.0 c ((In-clear_notes m.0 notes).0 m.1) shares in
     ap (λ (x : NoteParts). is_some (partition_at x)) same ∙ ap is_some m.2
 
-no_unreadable : (notes : List NoteParts) (n : NoteParts) → IsClear n notes → (IsPartitionKind (kind_of n.key) → StandsAt (partitions_of notes) n.offset) → is_no_unreadable_pack n ≡ true
+no_unreadable : (notes : List NoteParts) (n : NoteParts) → IsClear n notes
+    → (IsPartitionKind (kind_of n.key) → StandsAt (partitions_of notes) n.offset) → is_no_unreadable_pack n ≡ true
 unfolding is_no_unreadable_pack
 no_unreadable notes n c f =
-    elim (is_some (part_and_status (kind_of n.key))) as (λ b. is_some (part_and_status (kind_of n.key)) ≡ b → readable_by b (is_some (partition_at n)) ≡ true) [
+    elim (is_some (part_and_status (kind_of n.key))) as (λ b. is_some (part_and_status (kind_of n.key)) ≡ b
+    → readable_by b (is_some (partition_at n)) ≡ true) [
       | true ↦ λ e. at_partition notes n c (f (kind_says (kind_of n.key) e))
       | false ↦ λ e. refl
     ] refl
 
 -- ---- the chain
 
-header_is : (ps : List PartitionParts) (h p : PartitionParts) → IsOnly ps Header h → In p ps → is_header p.pack.part ≡ true → p ≡ h
+header_is : (ps : List PartitionParts) (h p : PartitionParts) → IsOnly ps Header h → In p ps
+    → is_header p.pack.part ≡ true → p ≡ h
 header_is ps h p o k t = o.only p k (header_says p.pack.part t)
 
 whole_says : (notes : List NoteParts) → is_whole notes ≡ true → IsWhole notes
@@ -195,7 +230,8 @@ whole_says notes w =
     let h = only_from ps is_header Header header_says refl (eqb-true headers 1 w1.0) in
     let f = only_from ps is_footer Footer footer_says refl (eqb-true footers 1 w1.1) in
     let first = first_link ps h.0 (ap is_header h.1.part) (list_all-In (is_linked ps) ps h.0 w2.1 h.1.held) in
-    let g : is_greatest ps f.0 ≡ true = ap (λ (x : PackPart). not (is_footer x) || is_greatest ps f.0) (sym f.1.part) ∙ list_all-In (λ p. not (is_footer p.pack.part) || is_greatest ps p) ps f.0 w3.1 f.1.held in
+    let g : is_greatest ps f.0 ≡ true = ap (λ (x : PackPart). not (is_footer x) || is_greatest ps f.0) (sym f.1.part)
+    ∙ list_all-In (λ p. not (is_footer p.pack.part) || is_greatest ps p) ps f.0 w3.1 f.1.held in
     record {
       header = h.0;
       one_header = h.1;
@@ -204,8 +240,10 @@ whole_says notes w =
       footer = f.0;
       one_footer = f.1;
       greatest = greatest_says ps f.0 g;
-      held = λ p k ne. held_link ps p (false_if (is_header p.pack.part) (λ t. ne (header_is ps h.0 p h.1 k t))) (list_all-In (is_linked ps) ps p w2.1 k);
-      readable = λ n k kind. stands_there notes n k kind (list_all-In is_no_unreadable_pack (clear_notes notes) n w4.1 ((In-clear_notes n notes).1 k));
+      held = λ p k ne. held_link ps p (false_if (is_header p.pack.part) (λ t. ne (header_is ps h.0 p h.1 k t)))
+          (list_all-In (is_linked ps) ps p w2.1 k);
+      readable = λ n k kind. stands_there notes n k kind
+          (list_all-In is_no_unreadable_pack (clear_notes notes) n w4.1 ((In-clear_notes n notes).1 k));
     }
 
 is_whole_from : (notes : List NoteParts) → IsContent notes → IsWhole notes → is_whole notes ≡ true
@@ -221,19 +259,25 @@ is_whole_from notes r w =
     let b = eq-eqb footers 1 (from_only ps is_footer Footer w.footer footer_says refl rise w.one_footer) in
     let c : linked ≡ true = In-list_all (is_linked ps) ps (λ p h.
     elim (is_header p.pack.part) as (λ t. is_header p.pack.part ≡ t → is_linked ps p ≡ true) [
-      | true ↦ λ t. linked_first ps p t (subst (λ (x : PartitionParts). IsLink ps x First) (sym (header_is ps w.header p w.one_header h t)) w.first)
-      | false ↦ λ t. linked_held ps p t (w.held p h (λ e. let k = ap (λ (x : PartitionParts). is_header x.pack.part) e ∙ ap is_header w.one_header.part in cc (k, t)))
+      | true ↦ λ t. linked_first ps p t
+          (subst (λ (x : PartitionParts). IsLink ps x First) (sym (header_is ps w.header p w.one_header h t)) w.first)
+      | false ↦ λ t. linked_held ps p t (w.held p h (λ e. let k = ap (λ (x : PartitionParts). is_header x.pack.part) e
+          ∙ ap is_header w.one_header.part in cc (k, t)))
     ] refl) in
     let d : ends ≡ true = In-list_all (λ p. not (is_footer p.pack.part) || is_greatest ps p) ps (λ p h.
     elim (is_footer p.pack.part) as (λ t. is_footer p.pack.part ≡ t → (not t || is_greatest ps p) ≡ true) [
       | true ↦ λ t. (
-        let same = w.one_footer.only p h (footer_says p.pack.part t) in
-        greatest_is ps p (subst (λ (x : PartitionParts). (q : PartitionParts) → In q ps → q.offset ≤ x.offset) (sym same) w.greatest)
-      )
+          let same = w.one_footer.only p h (footer_says p.pack.part t) in
+          greatest_is ps p (subst (λ (x : PartitionParts). (q : PartitionParts) → In q ps
+          → q.offset ≤ x.offset) (sym same) w.greatest)
+          )
       | false ↦ λ t. refl
     ] refl) in
-    let e : readable ≡ true = In-list_all is_no_unreadable_pack (clear_notes notes) (λ n h. let k = (In-clear_notes n notes).0 h in no_unreadable notes n k (w.readable n k)) in
-    both ((headers == 1) && (footers == 1) && linked && ends) readable (both ((headers == 1) && (footers == 1) && linked) ends (both ((headers == 1) && (footers == 1)) linked (both (headers == 1) (footers == 1) a b) c) d) e
+    let e : readable ≡ true = In-list_all is_no_unreadable_pack (clear_notes notes)
+    (λ n h. let k = (In-clear_notes n notes).0 h in no_unreadable notes n k (w.readable n k)) in
+    both ((headers == 1) && (footers == 1) && linked && ends) readable
+    (both ((headers == 1) && (footers == 1) && linked) ends
+    (both ((headers == 1) && (footers == 1)) linked (both (headers == 1) (footers == 1) a b) c) d) e
 
 -- The chain is whole exactly where the partitions hang together.
 pub chain_iff : (notes : List NoteParts) → IsContent notes → (chain_of notes ≡ Whole) ↔ IsWhole notes

@@ -1,5 +1,6 @@
 -- Copies of the header metadata and their sets.
-use Rattle.std.proofs.Common.{◌≡◌, ◌≢◌, ℕ, ◌+◌, ◌<◌, ◌≤◌, Bool, true, false, cond, List, [], ◌∷◌, Option, Some, None, refl, sym, ap, subst, ◌∙◌, inl, inr, arith, eqb-true, eq-eqb, leb-true, le-leb}
+use Rattle.std.proofs.Common.{◌≡◌, ◌≢◌, ℕ, ◌+◌, ◌<◌, ◌≤◌, Bool, true, false, cond, List, [], ◌∷◌, Option, Some, None}
+use Rattle.std.proofs.Common.{refl, sym, ap, subst, ◌∙◌, inl, inr, arith, eqb-true, eq-eqb, leb-true, le-leb}
 use Rattle.std.specs.Prelude.{◌↔◌, ◌&&◌, ◌==◌, nat_le, nat_lt, IsTrue, count_by, filter, find, map}
 use Rattle.std.specs.List.{range_with_len}
 use Rattle.std.proofs.lemmas.Bool.{ltb-true, lt-ltb}
@@ -16,7 +17,9 @@ use Rattle.mxf_catalogue.proofs.SpanLaws.{AreApart-clear_notes, AreApart-filter}
 use Rattle.mxf_catalogue.proofs.Lists.{In-filter, In-map, found-In, none_found}
 use Rattle.mxf_views.specs.declared.copy.CopyInfo.{CopyInfo}
 use Rattle.mxf_views.specs.Partitions.{PartitionParts, partitions_of}
-use Rattle.mxf_views.specs.Copies.{CountsZone, IsCopy, IsCopyOf, IsSetOf, IsStart, IsStartFound, copies_of, copy_from, copy_of, covered_of, has_metadata, is_preface, is_preface_note, is_set, is_set_note, prefaces_of, sets_found, sets_from, sets_in, sets_of, start_of, zone_of}
+use Rattle.mxf_views.specs.Copies.{CountsZone, IsCopy, IsCopyOf, IsSetOf, IsStart, IsStartFound, copies_of, copy_from}
+use Rattle.mxf_views.specs.Copies.{copy_of, covered_of, has_metadata, is_preface, is_preface_note, is_set, is_set_note}
+use Rattle.mxf_views.specs.Copies.{prefaces_of, sets_found, sets_from, sets_in, sets_of, start_of, zone_of}
 use Rattle.mxf_views.specs.Spans.{is_in_one, lies_in}
 use Rattle.mxf_views.proofs.Members.{both, count_by-cons, false_if, parts, tally}
 use Rattle.mxf_views.proofs.PartitionLaws.{one_there, partitions_rise}
@@ -51,10 +54,13 @@ prefaces_among [] = refl
 prefaces_among (n ∷ ns) =
     let ih = prefaces_among ns in
     let c = count_by-cons is_preface_note n ns in
-    elim (is_set_note n) as (λ b. is_set_note n ≡ b → count_by is_preface_note (cond b (n ∷ filter is_set_note ns) (filter is_set_note ns)) ≡ count_by is_preface_note (n ∷ ns)) [
+    elim (is_set_note n) as (λ b. is_set_note n ≡ b
+    → count_by is_preface_note
+    (cond b (n ∷ filter is_set_note ns) (filter is_set_note ns)) ≡ count_by is_preface_note (n ∷ ns)) [
       | true ↦ λ e. let d = count_by-cons is_preface_note n (filter is_set_note ns) in omega (arith, ih, c, d)
       | false ↦ λ e.
-          let z : tally (is_preface_note n) ≡ 0 = ap tally (false_if (is_preface_note n) (λ t. let s = preface_note_is_set n t in cc (s, e))) in
+          let z : tally (is_preface_note n) ≡ 0 = ap tally
+          (false_if (is_preface_note n) (λ t. let s = preface_note_is_set n t in cc (s, e))) in
           omega (arith, ih, c, z)
     ] refl
 
@@ -63,7 +69,8 @@ prefaces_among (n ∷ ns) =
 equals_itself : (a b : ℕ) → IsTrue (a == b) ↔ (a ≡ b)
 equals_itself a b = (eqb-true a b, eq-eqb a b)
 
-copy_is : (notes : List NoteParts) (p : PartitionParts) → IsContent notes → has_metadata p ≡ true → IsCopyOf notes p (copy_of (clear_notes notes) p)
+copy_is : (notes : List NoteParts) (p : PartitionParts) → IsContent notes → has_metadata p ≡ true
+    → IsCopyOf notes p (copy_of (clear_notes notes) p)
 unfolding copy_of
 copy_is notes p r h =
     let clear = clear_notes notes in
@@ -85,12 +92,17 @@ copy_is notes p r h =
         bytes = refl;
         status = refl;
         start = (start_is notes p.end s r).0 e;
-        counts = (zone-count clear 0 s bytes (AreApart-clear_notes notes r), sym (prefaces_among (zone_of s bytes clear)));
+        counts = (
+          zone-count clear 0 s bytes (AreApart-clear_notes notes r),
+          sym
+              (prefaces_among (zone_of s bytes clear)),
+        );
         finished = equals_itself (covered_of s bytes clear) bytes;
       }
     ] refl
 
-one_start_found : (notes : List NoteParts) (end : ℕ) (s t : Option ℕ) → IsStartFound notes end s → IsStartFound notes end t → s ≡ t
+one_start_found : (notes : List NoteParts) (end : ℕ) (s t : Option ℕ) → IsStartFound notes end s
+    → IsStartFound notes end t → s ≡ t
 one_start_found notes end None None a b = refl
 one_start_found notes end None (Some t) a b = absurd (a t b)
 one_start_found notes end (Some s) None a b = absurd (b s a)
@@ -108,15 +120,18 @@ Counted notes bytes (Some start) covered prefaces =
     (covered ≡ count_by (is_in_one (zone_of start bytes (clear_notes notes))) (range_with_len start bytes))
     × (prefaces ≡ count_by is_preface_note (sets_in start bytes (clear_notes notes)))
 
-counted : (notes : List NoteParts) (c : CopyInfo) (o : Option ℕ) → CountsZone notes c o → Counted notes c.bytes o c.covered c.prefaces
+counted : (notes : List NoteParts) (c : CopyInfo) (o : Option ℕ) → CountsZone notes c o
+    → Counted notes c.bytes o c.covered c.prefaces
 counted notes c None x = x
 counted notes c (Some s) x = x
 
-one_counted : (notes : List NoteParts) (bytes : ℕ) (o : Option ℕ) (a b x y : ℕ) → Counted notes bytes o a x → Counted notes bytes o b y → (a ≡ b) × (x ≡ y)
+one_counted : (notes : List NoteParts) (bytes : ℕ) (o : Option ℕ) (a b x y : ℕ) → Counted notes bytes o a x
+    → Counted notes bytes o b y → (a ≡ b) × (x ≡ y)
 one_counted notes bytes None a b x y p q = (p.0 ∙ sym q.0, p.1 ∙ sym q.1)
 one_counted notes bytes (Some s) a b x y p q = (p.0 ∙ sym q.0, p.1 ∙ sym q.1)
 
-one_copy : (notes : List NoteParts) (p : PartitionParts) (c d : CopyInfo) → IsCopyOf notes p c → IsCopyOf notes p d → c ≡ d
+one_copy : (notes : List NoteParts) (p : PartitionParts) (c d : CopyInfo) → IsCopyOf notes p c → IsCopyOf notes p d
+    → c ≡ d
 one_copy notes p c d a b =
     let partition = a.partition ∙ sym b.partition in
     let bytes : c.bytes ≡ d.bytes = a.bytes ∙ sym b.bytes in
@@ -124,7 +139,9 @@ one_copy notes p c d a b =
     let start : c.start ≡ d.start = one_start_found notes p.end c.start d.start a.start b.start in
     let m = counted notes c c.start a.counts in
     let n : Counted notes c.bytes c.start d.covered d.prefaces =
-    subst (λ (o : Option ℕ). Counted notes c.bytes o d.covered d.prefaces) (sym start) (subst (λ (k : ℕ). Counted notes k d.start d.covered d.prefaces) (sym bytes) (counted notes d d.start b.counts)) in
+    subst (λ (o : Option ℕ). Counted notes c.bytes o d.covered d.prefaces) (sym start)
+    (subst (λ (k : ℕ). Counted notes k d.start d.covered d.prefaces) (sym bytes)
+    (counted notes d d.start b.counts)) in
     let counts = one_counted notes c.bytes c.start c.covered d.covered c.prefaces d.prefaces m n in
     let finished : c.finished ≡ d.finished = same_if c.finished d.finished
     (λ t. b.finished.1 (sym counts.0 ∙ a.finished.0 t ∙ bytes))
@@ -144,17 +161,25 @@ copies_are notes c r =
           (s.0, f.0, subst (IsCopyOf notes s.0) (sym s.2) (copy_is notes s.0 r f.1)),
       λ s.
           let h : has_metadata s.0 ≡ true = lt-ltb 0 s.0.pack.numbers.header_byte_count s.2.stated in
-          m.1 (s.0, (In-filter has_metadata ps s.0).1 (s.1, h), one_copy notes s.0 c (copy_of clear s.0) s.2 (copy_is notes s.0 r h)),
+          m.1 (
+            s.0,
+            (In-filter has_metadata ps s.0).1 (s.1, h),
+            one_copy notes s.0 c (copy_of clear s.0) s.2
+                (copy_is notes s.0 r h),
+          ),
     )
 
 -- ---- sets
 
-apart_from : (notes : List NoteParts) (bytes : ℕ) (o : Option ℕ) → IsContent notes → AreApart 0 (sets_from (clear_notes notes) bytes o)
+apart_from : (notes : List NoteParts) (bytes : ℕ) (o : Option ℕ) → IsContent notes
+    → AreApart 0 (sets_from (clear_notes notes) bytes o)
 apart_from notes bytes None r = tt
 apart_from notes bytes (Some s) r =
-    AreApart-filter is_set_note 0 (zone_of s bytes (clear_notes notes)) (AreApart-filter (lies_in s bytes) 0 (clear_notes notes) (AreApart-clear_notes notes r))
+    AreApart-filter is_set_note 0 (zone_of s bytes (clear_notes notes))
+    (AreApart-filter (lies_in s bytes) 0 (clear_notes notes) (AreApart-clear_notes notes r))
 
-apart_found : (notes : List NoteParts) (o : Option CopyInfo) → IsContent notes → AreApart 0 (sets_found (clear_notes notes) o)
+apart_found : (notes : List NoteParts) (o : Option CopyInfo) → IsContent notes
+    → AreApart 0 (sets_found (clear_notes notes) o)
 apart_found notes None r = tt
 apart_found notes (Some c) r = apart_from notes c.bytes c.start r
 
@@ -163,7 +188,9 @@ pub sets_apart : (notes : List NoteParts) (partition : ℕ) → IsContent notes 
 unfolding sets_of
 sets_apart notes partition r = apart_found notes (find (λ c. c.partition == partition) (copies_of notes)) r
 
-In-sets_in : (notes : List NoteParts) (start bytes : ℕ) (n : NoteParts) → In n (sets_in start bytes (clear_notes notes)) ↔ (IsClear n notes × IsTrue (is_set_note n) × (start ≤ n.offset) × (end_of n ≤ start + bytes))
+In-sets_in : (notes : List NoteParts) (start bytes : ℕ) (n : NoteParts)
+    → In n (sets_in start bytes (clear_notes notes)) ↔ (IsClear n notes × IsTrue (is_set_note n) × (start ≤ n.offset)
+    × (end_of n ≤ start + bytes))
 In-sets_in notes start bytes n =
     let clear = clear_notes notes in
     let f = In-filter is_set_note (zone_of start bytes clear) n in
@@ -173,31 +200,44 @@ In-sets_in notes start bytes n =
           let z = g.0 s.0 in
           let l = parts (nat_le start n.offset) (nat_le (end_of n) (start + bytes)) z.1 in
           ((In-clear_notes n notes).0 z.0, s.1, leb-true start n.offset l.0, leb-true (end_of n) (start + bytes) l.1),
-      λ s. f.1 (g.1 ((In-clear_notes n notes).1 s.0, both (nat_le start n.offset) (nat_le (end_of n) (start + bytes)) (le-leb start n.offset s.2) (le-leb (end_of n) (start + bytes) s.3)), s.1),
+      λ s. f.1 (
+        g.1 (
+          (In-clear_notes n notes).1 s.0,
+          both (nat_le start n.offset) (nat_le (end_of n) (start + bytes))
+              (le-leb start n.offset s.2) (le-leb (end_of n) (start + bytes) s.3),
+        ),
+        s.1,
+      ),
     )
 
 -- two copies that name one partition are one
-one_named : (notes : List NoteParts) (c d : CopyInfo) → IsContent notes → IsCopy notes c → IsCopy notes d → c.partition ≡ d.partition → c ≡ d
+one_named : (notes : List NoteParts) (c d : CopyInfo) → IsContent notes → IsCopy notes c → IsCopy notes d
+    → c.partition ≡ d.partition → c ≡ d
 one_named notes c d r a b e =
-    let same : a.0 ≡ b.0 = one_there (partitions_of notes) a.0 b.0 (partitions_rise notes r) a.1 b.1 (sym a.2.partition ∙ e ∙ b.2.partition) in
+    let same : a.0 ≡ b.0 = one_there (partitions_of notes) a.0 b.0 (partitions_rise notes r) a.1 b.1 (sym a.2.partition
+    ∙ e ∙ b.2.partition) in
     one_copy notes b.0 c d (subst (λ (p : PartitionParts). IsCopyOf notes p c) same a.2) b.2
 
-sets_says : (notes : List NoteParts) (partition : ℕ) (c : CopyInfo) (o : Option ℕ) (n : NoteParts) → IsCopy notes c → c.partition ≡ partition → c.start ≡ o → In n (sets_from (clear_notes notes) c.bytes o) → IsSetOf notes partition n
+sets_says : (notes : List NoteParts) (partition : ℕ) (c : CopyInfo) (o : Option ℕ) (n : NoteParts) → IsCopy notes c
+    → c.partition ≡ partition → c.start ≡ o → In n (sets_from (clear_notes notes) c.bytes o) → IsSetOf notes partition n
 sets_says notes partition c None n i e s h = absurd h
 sets_says notes partition c (Some start) n i e s h =
     let m = (In-sets_in notes start c.bytes n).0 h in
     record { copy = c; copied = i; there = e; start = start; begins = s; clear = m.0; kind = m.1; from = m.2; before = m.3 }
 
 -- The sets of a copy are the clear sets that lie wholly in its bytes.
-pub sets_are : (notes : List NoteParts) (partition : ℕ) (n : NoteParts) → IsContent notes → In n (sets_of notes partition) ↔ IsSetOf notes partition n
+pub sets_are : (notes : List NoteParts) (partition : ℕ) (n : NoteParts) → IsContent notes
+    → In n (sets_of notes partition) ↔ IsSetOf notes partition n
 unfolding sets_of
 sets_are notes partition n r =
     let clear = clear_notes notes in
     let named = λ (c : CopyInfo). c.partition == partition in
-    elim (find named (copies_of notes)) as (λ o. find named (copies_of notes) ≡ o → In n (sets_found clear o) ↔ IsSetOf notes partition n) [
+    elim (find named (copies_of notes)) as (λ o. find named (copies_of notes) ≡ o
+    → In n (sets_found clear o) ↔ IsSetOf notes partition n) [
       | None ↦ λ e. (
         λ h. absurd h,
-        λ s. absurd (none_found named (copies_of notes) s.copy e ((copies_are notes s.copy r).1 s.copied) (eq-eqb s.copy.partition partition s.there)),
+        λ s. absurd (none_found named (copies_of notes) s.copy e ((copies_are notes s.copy r).1 s.copied)
+            (eq-eqb s.copy.partition partition s.there)),
       )
       | Some c ↦ λ e.
           let f = found-In named (copies_of notes) c e in
@@ -209,6 +249,7 @@ sets_are notes partition n r =
                 let bytes : s.copy.bytes ≡ c.bytes = ap (λ (x : CopyInfo). x.bytes) same in
                 let start : c.start ≡ Some s.start = sym (ap (λ (x : CopyInfo). x.start) same) ∙ s.begins in
                 let before : end_of n ≤ s.start + s.copy.bytes = s.before in
-                subst (λ (o : Option ℕ). In n (sets_from clear c.bytes o)) (sym start) ((In-sets_in notes s.start c.bytes n).1 (s.clear, s.kind, s.from, omega (arith, before, bytes))),
+                subst (λ (o : Option ℕ). In n (sets_from clear c.bytes o)) (sym start)
+                ((In-sets_in notes s.start c.bytes n).1 (s.clear, s.kind, s.from, omega (arith, before, bytes))),
           )
     ] refl

@@ -1,5 +1,6 @@
 -- Sets found by their instance identifiers, and what references lead to.
-use Rattle.std.proofs.Common.{◌≡◌, ◌≢◌, ℕ, ◌+◌, ◌<◌, ◌≤◌, Bool, true, false, cond, List, [], ◌∷◌, Result, Ok, Err, refl, sym, ap, subst, ◌∙◌, inl, inr, arith}
+use Rattle.std.proofs.Common.{◌≡◌, ◌≢◌, ℕ, ◌+◌, ◌<◌, ◌≤◌, Bool, true, false, cond, List, [], ◌∷◌, Result, Ok, Err, refl}
+use Rattle.std.proofs.Common.{sym, ap, subst, ◌∙◌, inl, inr, arith}
 use Rattle.std.specs.Prelude.{◌↔◌, ◌&&◌, IsTrue, not, if◌then◌else◌, filter}
 use Rattle.std.specs.Str.{bytes_eq}
 use Rattle.std.proofs.lemmas.Slice.Eq.{bytes_eq-Decides}
@@ -32,8 +33,14 @@ reads_it uid r e = ap (reads_uid uid) e ∙ (bytes_eq-Decides uid uid).1 refl
 has_uid_iff : (uid : List ℕ) (n : NoteParts) → IsTrue (has_uid uid n) ↔ HasUid uid n
 unfolding has_uid
 has_uid_iff uid n = (
-  λ h. let p = parts (keeps n.key n.length) (reads_uid uid (instance_uid_at n.held)) h in record { kept = p.0; own = reads_says uid (instance_uid_at n.held) p.1 },
-  λ h. both (keeps n.key n.length) (reads_uid uid (instance_uid_at n.held)) h.kept (reads_it uid (instance_uid_at n.held) h.own),
+  λ h. let p = parts (keeps n.key n.length)
+      (reads_uid uid (instance_uid_at n.held)) h in record {
+        kept = p.0;
+        own = reads_says uid
+            (instance_uid_at n.held) p.1;
+      },
+  λ h. both (keeps n.key n.length) (reads_uid uid (instance_uid_at n.held)) h.kept
+      (reads_it uid (instance_uid_at n.held) h.own),
 )
 
 -- the sets of a list that have the identifier
@@ -52,11 +59,13 @@ later_differs m n ws a e =
     let o : m.offset ≡ n.offset = ap (λ (x : NoteParts). x.offset) e in
     omega (arith, l, o)
 
-none_of : (sets : List NoteParts) (uid : List ℕ) (ws : List NoteParts) → Picks sets uid ws → IsFound sets uid Absent → ws ≡ []
+none_of : (sets : List NoteParts) (uid : List ℕ) (ws : List NoteParts) → Picks sets uid ws → IsFound sets uid Absent
+    → ws ≡ []
 none_of sets uid [] w f = refl
 none_of sets uid (n ∷ ws) w f = let s = (w n).0 (inl refl) in absurd (f n s.0 s.1)
 
-only_of : (sets : List NoteParts) (uid : List ℕ) (ws : List NoteParts) → Picks sets uid ws → AreApart 0 ws → (n : NoteParts) → IsOnlyWith sets uid n → ws ≡ n ∷ []
+only_of : (sets : List NoteParts) (uid : List ℕ) (ws : List NoteParts) → Picks sets uid ws → AreApart 0 ws
+    → (n : NoteParts) → IsOnlyWith sets uid n → ws ≡ n ∷ []
 only_of sets uid [] w a n o = absurd ((w n).1 (o.held, o.has))
 only_of sets uid (x ∷ []) w a n o = let s = (w x).0 (inl refl) in ap (λ (y : NoteParts). y ∷ []) (o.only x s.0 s.1)
 only_of sets uid (x ∷ y ∷ ws) w a n o =
@@ -69,7 +78,11 @@ several_of : (sets : List NoteParts) (uid : List ℕ) (ws : List NoteParts) → 
 several_of sets uid [] w s = absurd ((w s.one).1 (s.one_held, s.one_has))
 several_of sets uid (x ∷ []) w s =
     elim ((w s.one).1 (s.one_held, s.one_has)) [
-      | inl e ↦ elim ((w s.other).1 (s.other_held, s.other_has)) [ inl f ↦ absurd (s.differ (e ∙ sym f)) | inr k ↦ absurd k ]
+      | inl e ↦ elim ((w s.other).1 (s.other_held, s.other_has)) [
+        | inl f ↦ absurd (s.differ (e
+            ∙ sym f))
+        | inr k ↦ absurd k
+      ]
       | inr k ↦ absurd k
     ]
 several_of sets uid (x ∷ y ∷ rest) w s = (x, y, rest, refl)
@@ -79,24 +92,28 @@ only_from sets uid n w =
     let s = (w n).0 (inl refl) in
     record { held = s.0; has = s.1; only = λ m h u. elim ((w m).1 (h, u)) [ inl e ↦ e | inr k ↦ absurd k ] }
 
-several_from : (sets : List NoteParts) (uid : List ℕ) (m n : NoteParts) (ws : List NoteParts) → Picks sets uid (m ∷ n ∷ ws) → AreApart 0 (m ∷ n ∷ ws) → IsSeveral sets uid
+several_from : (sets : List NoteParts) (uid : List ℕ) (m n : NoteParts) (ws : List NoteParts)
+    → Picks sets uid (m ∷ n ∷ ws) → AreApart 0 (m ∷ n ∷ ws) → IsSeveral sets uid
 several_from sets uid m n ws w a =
     let s = (w m).0 (inl refl) in
     let t = (w n).0 (inr (inl refl)) in
     record { one = m; other = n; one_held = s.0; one_has = s.1; other_held = t.0; other_has = t.1; differ = later_differs m n ws a }
 
-found_from : (sets : List NoteParts) (uid : List ℕ) (ws : List NoteParts) → Picks sets uid ws → AreApart 0 ws → IsFound sets uid (found_among ws)
+found_from : (sets : List NoteParts) (uid : List ℕ) (ws : List NoteParts) → Picks sets uid ws → AreApart 0 ws
+    → IsFound sets uid (found_among ws)
 found_from sets uid [] w a = λ n h u. (w n).1 (h, u)
 found_from sets uid (n ∷ []) w a = (n, only_from sets uid n w, refl)
 found_from sets uid (m ∷ n ∷ ws) w a = several_from sets uid m n ws w a
 
-found_to : (sets : List NoteParts) (uid : List ℕ) (ws : List NoteParts) → Picks sets uid ws → AreApart 0 ws → (f : Found) → IsFound sets uid f → found_among ws ≡ f
+found_to : (sets : List NoteParts) (uid : List ℕ) (ws : List NoteParts) → Picks sets uid ws → AreApart 0 ws
+    → (f : Found) → IsFound sets uid f → found_among ws ≡ f
 found_to sets uid ws w a Absent i = ap found_among (none_of sets uid ws w i)
 found_to sets uid ws w a (One o) i = ap found_among (only_of sets uid ws w a i.0 i.1) ∙ ap (λ (x : ℕ). One x) i.2
 found_to sets uid ws w a Several i = ap found_among (several_of sets uid ws w i).3
 
 -- What is found is by the sets that have the identifier.
-pub found_iff : (sets : List NoteParts) (uid : List ℕ) (f : Found) → AreApart 0 sets → (found_among (filter (has_uid uid) sets) ≡ f) ↔ IsFound sets uid f
+pub found_iff : (sets : List NoteParts) (uid : List ℕ) (f : Found) → AreApart 0 sets
+    → (found_among (filter (has_uid uid) sets) ≡ f) ↔ IsFound sets uid f
 found_iff sets uid f r =
     let ws = filter (has_uid uid) sets in
     let a = AreApart-filter (has_uid uid) 0 sets r in
@@ -106,9 +123,11 @@ found_iff sets uid f r =
 -- ---- targets
 
 abbrev target_by : Bool → Bool → Bool → ℕ → Target
-target_by fit kept read o = if not fit then targets.WrongKind o else (if kept && read then targets.Found o else targets.Unreadable o)
+target_by fit kept read o = if not fit then targets.WrongKind o else
+    (if kept && read then targets.Found o else targets.Unreadable o)
 
-at_only : (sets : List NoteParts) (w : Wanted) (uid : List ℕ) (n : NoteParts) → IsOnlyWith sets uid n → IsTarget sets w uid (target_at w n)
+at_only : (sets : List NoteParts) (w : Wanted) (uid : List ℕ) (n : NoteParts) → IsOnlyWith sets uid n
+    → IsTarget sets w uid (target_at w n)
 unfolding target_at
 at_only sets w uid n o =
     let fit = fits w (kind_of n.key) in
@@ -117,41 +136,51 @@ at_only sets w uid n o =
     elim fit as (λ b. fit ≡ b → IsTarget sets w uid (target_by b (keeps n.key n.length) read n.offset)) [
       | false ↦ λ e. (n, o, refl, e)
       | true ↦ λ e. subst (λ (b : Bool). IsTarget sets w uid (target_by true b read n.offset)) (sym k) (
-        elim read as (λ b. read ≡ b → IsTarget sets w uid (target_by true true b n.offset)) [
-          | true ↦ λ f. (n, o, refl, e, f)
-          | false ↦ λ f. (n, o, refl, e, f)
-        ] refl
-      )
+          elim read as (λ b. read ≡ b → IsTarget sets w uid (target_by true true b n.offset)) [
+            | true ↦ λ f. (n, o, refl, e, f)
+            | false ↦ λ f. (n, o, refl, e, f)
+          ] refl
+          )
     ] refl
 
-only_at : (sets : List NoteParts) (w : Wanted) (uid : List ℕ) (n : NoteParts) → IsOnlyWith sets uid n → (f r : Bool) → fits w (kind_of n.key) ≡ f → is_readable w n.held ≡ r
+only_at : (sets : List NoteParts) (w : Wanted) (uid : List ℕ) (n : NoteParts) → IsOnlyWith sets uid n → (f r : Bool)
+    → fits w (kind_of n.key) ≡ f → is_readable w n.held ≡ r
     → target_at w n ≡ target_by f true r n.offset
 unfolding target_at
-only_at sets w uid n o f r e g = let k : keeps n.key n.length ≡ true = o.has.kept in λ i. target_by (e i) (k i) (g i) n.offset
+only_at sets w uid n o f r e g = let k : keeps n.key n.length ≡ true = o.has.kept in λ i. target_by (e i) (k i)
+    (g i) n.offset
 
-target_from : (sets : List NoteParts) (w : Wanted) (uid : List ℕ) (ws : List NoteParts) → Picks sets uid ws → AreApart 0 ws → IsTarget sets w uid (target_among w ws)
+target_from : (sets : List NoteParts) (w : Wanted) (uid : List ℕ) (ws : List NoteParts) → Picks sets uid ws
+    → AreApart 0 ws → IsTarget sets w uid (target_among w ws)
 target_from sets w uid [] p a = found_from sets uid [] p a
 target_from sets w uid (n ∷ []) p a = at_only sets w uid n (only_from sets uid n p)
 target_from sets w uid (m ∷ n ∷ ws) p a = found_from sets uid (m ∷ n ∷ ws) p a
 
-target_to : (sets : List NoteParts) (w : Wanted) (uid : List ℕ) (ws : List NoteParts) → Picks sets uid ws → AreApart 0 ws → (t : Target) → IsTarget sets w uid t → target_among w ws ≡ t
+target_to : (sets : List NoteParts) (w : Wanted) (uid : List ℕ) (ws : List NoteParts) → Picks sets uid ws
+    → AreApart 0 ws → (t : Target) → IsTarget sets w uid t → target_among w ws ≡ t
 target_to sets w uid ws p a targets.Missing i = ap (target_among w) (none_of sets uid ws p i)
 target_to sets w uid ws p a targets.Several i = ap (target_among w) (several_of sets uid ws p i).3
 target_to sets w uid ws p a (targets.WrongKind o) i =
-    ap (target_among w) (only_of sets uid ws p a i.0 i.1) ∙ only_at sets w uid i.0 i.1 false (is_readable w i.0.held) i.3 refl ∙ ap (λ (x : ℕ). targets.WrongKind x) i.2
+    ap (target_among w) (only_of sets uid ws p a i.0 i.1)
+    ∙ only_at sets w uid i.0 i.1 false (is_readable w i.0.held) i.3 refl ∙ ap (λ (x : ℕ). targets.WrongKind x) i.2
 target_to sets w uid ws p a (targets.Unreadable o) i =
-    ap (target_among w) (only_of sets uid ws p a i.0 i.1) ∙ only_at sets w uid i.0 i.1 true false i.3 i.4 ∙ ap (λ (x : ℕ). targets.Unreadable x) i.2
+    ap (target_among w) (only_of sets uid ws p a i.0 i.1) ∙ only_at sets w uid i.0 i.1 true false i.3 i.4
+    ∙ ap (λ (x : ℕ). targets.Unreadable x) i.2
 target_to sets w uid ws p a (targets.Found o) i =
-    ap (target_among w) (only_of sets uid ws p a i.0 i.1) ∙ only_at sets w uid i.0 i.1 true true i.3 i.4 ∙ ap (λ (x : ℕ). targets.Found x) i.2
+    ap (target_among w) (only_of sets uid ws p a i.0 i.1) ∙ only_at sets w uid i.0 i.1 true true i.3 i.4
+    ∙ ap (λ (x : ℕ). targets.Found x) i.2
 
 -- What a reference leads to is by the sets that have the identifier.
-pub target_iff : (sets : List NoteParts) (w : Wanted) (uid : List ℕ) (t : Target) → AreApart 0 sets → (target_among w (filter (has_uid uid) sets) ≡ t) ↔ IsTarget sets w uid t
+pub target_iff : (sets : List NoteParts) (w : Wanted) (uid : List ℕ) (t : Target) → AreApart 0 sets
+    → (target_among w (filter (has_uid uid) sets) ≡ t) ↔ IsTarget sets w uid t
 target_iff sets w uid t r =
     let ws = filter (has_uid uid) sets in
     let a = AreApart-filter (has_uid uid) 0 sets r in
     let p = picks sets uid in
     (λ e. subst (IsTarget sets w uid) e (target_from sets w uid ws p a), λ i. target_to sets w uid ws p a t i)
 
-pub target_of_iff : (notes : List NoteParts) (partition : ℕ) (w : Wanted) (uid : List ℕ) (t : Target) → AreApart 0 (sets_of notes partition) → (target_of notes partition w uid ≡ t) ↔ IsTarget (sets_of notes partition) w uid t
+pub target_of_iff : (notes : List NoteParts) (partition : ℕ) (w : Wanted) (uid : List ℕ) (t : Target)
+    → AreApart 0 (sets_of notes partition) → (target_of notes partition w uid ≡ t) ↔ IsTarget
+    (sets_of notes partition) w uid t
 unfolding target_of
 target_of_iff notes partition w uid t r = target_iff (sets_of notes partition) w uid t r

@@ -1,5 +1,7 @@
 -- The partitions, and how each names the one before it.
-use Rattle.std.proofs.Common.{◌≡◌, ◌≢◌, ℕ, ◌+◌, ◌<◌, ◌≤◌, ◌⊎◌, Bool, true, false, cond, List, [], ◌∷◌, Option, Some, None, Ok, Err, refl, sym, ap, subst, ◌∙◌, inl, inr, arith, eqb-true, eq-eqb, leb-true, le-leb}
+use Rattle.std.proofs.Common.{◌≡◌, ◌≢◌, ℕ, ◌+◌, ◌<◌, ◌≤◌, ◌⊎◌, Bool, true, false, cond, List, [], ◌∷◌, Option, Some}
+use Rattle.std.proofs.Common.{None, Ok, Err, refl, sym, ap, subst, ◌∙◌, inl, inr, arith, eqb-true, eq-eqb, leb-true}
+use Rattle.std.proofs.Common.{le-leb}
 use Rattle.std.specs.Prelude.{◌↔◌, ◌&&◌, ◌==◌, nat_le, nat_lt, find, not, if◌then◌else◌, IsTrue}
 use Rattle.std.specs.Option.{option_map}
 use Rattle.std.specs.Result.{result_ok}
@@ -20,7 +22,9 @@ use Rattle.mxf_catalogue.proofs.SpanLaws.{AreApart-clear_notes}
 use Rattle.mxf_catalogue.proofs.Lists.{list_any-In, found-In, find-only}
 use Rattle.mxf_views.specs.declared.chain.Link.{Link}
 use Rattle.mxf_views.specs.declared.chain.Link.TheVariants.{First, Held, Skips, Missing, Wrong}
-use Rattle.mxf_views.specs.Partitions.{PartitionParts, HoldBytes, IsReadablePack, IsPartition, AreInOrder, StandsAt, IsGreatestBelow, IsLink, IsLinkAt, pack_of, partition_at, partitions_among, partitions_of, link_of, link_at, previous_of, stands_at, stands_between}
+use Rattle.mxf_views.specs.Partitions.{PartitionParts, HoldBytes, IsReadablePack, IsPartition, AreInOrder, StandsAt}
+use Rattle.mxf_views.specs.Partitions.{IsGreatestBelow, IsLink, IsLinkAt, pack_of, partition_at, partitions_among}
+use Rattle.mxf_views.specs.Partitions.{partitions_of, link_of, link_at, previous_of, stands_at, stands_between}
 use Rattle.mxf_views.proofs.Members.{In-filter_map, all-each, each-all, both, false_if, parts}
 
 -- ---- which partitions there are
@@ -28,18 +32,24 @@ use Rattle.mxf_views.proofs.Members.{In-filter_map, all-each, each-all, both, fa
 pub offset-partition_at : (n : NoteParts) (p : PartitionParts) → partition_at n ≡ Some p → p.offset ≡ n.offset
 unfolding partition_at
 offset-partition_at n p e =
-    elim (pack_of n) as (λ o. option_map (λ pack. record { offset = n.offset; end = end_of n; pack = pack }) o ≡ Some p → p.offset ≡ n.offset) [
+    elim (pack_of n) as (λ o. option_map (λ pack. record { offset = n.offset; end = end_of n; pack = pack }) o ≡ Some p
+    → p.offset ≡ n.offset) [
       | None ↦ λ q. absurd cc
-      | Some pack ↦ λ q. let same : record { offset = n.offset; end = end_of n; pack = pack } ≡ p = cc (q) in ap (λ (x : PartitionParts). x.offset) (sym same)
+      | Some pack ↦ λ q. let same : record { offset = n.offset; end = end_of n; pack = pack } ≡ p = cc (q) in ap
+          (λ (x : PartitionParts). x.offset) (sym same)
     ] e
 
 readable_from : (n : NoteParts) (p : PartitionParts) → AreBytes n.held → partition_at n ≡ Some p → IsReadablePack n p
 unfolding partition_at
 readable_from n p bytes e =
-    elim (keeps n.key n.length) as (λ b. keeps n.key n.length ≡ b → option_map (λ pack. record { offset = n.offset; end = end_of n; pack = pack }) (cond b (result_ok (pack_at (kind_of n.key) n.held)) None) ≡ Some p → IsReadablePack n p) [
+    elim (keeps n.key n.length) as (λ b. keeps n.key n.length ≡ b
+    → option_map (λ pack. record { offset = n.offset; end = end_of n; pack = pack })
+    (cond b (result_ok (pack_at (kind_of n.key) n.held)) None) ≡ Some p → IsReadablePack n p) [
       | false ↦ λ _ q. absurd cc
       | true ↦ λ k q.
-          elim (pack_at (kind_of n.key) n.held) as (λ r. pack_at (kind_of n.key) n.held ≡ r → option_map (λ pack. record { offset = n.offset; end = end_of n; pack = pack }) (result_ok r) ≡ Some p → IsReadablePack n p) [
+          elim (pack_at (kind_of n.key) n.held) as (λ r. pack_at (kind_of n.key) n.held ≡ r
+          → option_map (λ pack. record { offset = n.offset; end = end_of n; pack = pack }) (result_ok r) ≡ Some p
+          → IsReadablePack n p) [
             | Err f ↦ λ _ u. absurd cc
             | Ok pack ↦ λ r u.
                 let same : record { offset = n.offset; end = end_of n; pack = pack } ≡ p = cc (u) in
@@ -62,15 +72,18 @@ readable_to n p bytes a =
     rw k (rw (sym r) (λ i. Some record { offset = sym o i; end = sym e i; pack = p.pack }))
 
 -- The partitions are those of the clear readable partition packs.
-pub partitions_are : (notes : List NoteParts) (p : PartitionParts) → HoldBytes notes → In p (partitions_of notes) ↔ IsPartition notes p
+pub partitions_are : (notes : List NoteParts) (p : PartitionParts) → HoldBytes notes
+    → In p (partitions_of notes) ↔ IsPartition notes p
 unfolding partitions_of
 partitions_are notes p bytes =
     let m = In-filter_map partition_at (clear_notes notes) p in (
-      λ h. let s = m.0 h in let c = (In-clear_notes s.0 notes).0 s.1 in (s.0, c, readable_from s.0 p (bytes s.0 c.held) s.2),
+      λ h. let s = m.0 h in let c = (In-clear_notes s.0 notes).0 s.1 in
+          (s.0, c, readable_from s.0 p (bytes s.0 c.held) s.2),
       λ s. m.1 (s.0, (In-clear_notes s.0 notes).1 s.1, readable_to s.0 p (bytes s.0 s.1.held) s.2),
     )
 
-above_among : (low : ℕ) (notes : List NoteParts) (p : PartitionParts) → AreApart low notes → In p (partitions_among notes) → low ≤ p.offset
+above_among : (low : ℕ) (notes : List NoteParts) (p : PartitionParts) → AreApart low notes
+    → In p (partitions_among notes) → low ≤ p.offset
 above_among low [] p a h = absurd h
 above_among low (n ∷ notes) p a h =
     let s = (In-filter_map partition_at (n ∷ notes) p).0 h in
@@ -78,7 +91,8 @@ above_among low (n ∷ notes) p a h =
     let l : low ≤ n.offset = a.0 in
     elim s.1 [
       | inl e ↦ (let f : s.0.offset ≡ n.offset = ap (λ (x : NoteParts). x.offset) e in omega (arith, o, f, l))
-      | inr k ↦ (let ih : end_of n ≤ p.offset = above_among (end_of n) notes p a.1 ((In-filter_map partition_at notes p).1 (s.0, k, s.2)) in omega arith)
+      | inr k ↦ (let ih : end_of n ≤ p.offset = above_among (end_of n) notes p a.1
+          ((In-filter_map partition_at notes p).1 (s.0, k, s.2)) in omega arith)
     ]
 
 in_order : (low : ℕ) (notes : List NoteParts) → AreApart low notes → AreInOrder (partitions_among notes)
@@ -89,9 +103,9 @@ in_order low (n ∷ notes) a =
       | None ↦ λ e. rw e ih
       | Some p ↦ λ e. rw e (
         each-all (λ q. p.offset < q.offset) (partitions_among notes) (λ q h.
-        let o : p.offset ≡ n.offset = offset-partition_at n p e in
-        let l : end_of n ≤ q.offset = above_among (end_of n) notes q a.1 h in
-        omega (arith, o, l)),
+            let o : p.offset ≡ n.offset = offset-partition_at n p e in
+            let l : end_of n ≤ q.offset = above_among (end_of n) notes q a.1 h in
+            omega (arith, o, l)),
         ih,
       )
     ] refl
@@ -102,16 +116,19 @@ unfolding partitions_of
 partitions_rise notes r = in_order 0 (clear_notes notes) (AreApart-clear_notes notes r)
 
 -- At one offset one partition stands at most.
-pub one_there : (ps : List PartitionParts) (p q : PartitionParts) → AreInOrder ps → In p ps → In q ps → p.offset ≡ q.offset → p ≡ q
+pub one_there : (ps : List PartitionParts) (p q : PartitionParts) → AreInOrder ps → In p ps → In q ps
+    → p.offset ≡ q.offset → p ≡ q
 one_there [] p q r h k e = absurd h
 one_there (x ∷ ps) p q r h k e =
     elim h [
       | inl a ↦ elim k [
         | inl b ↦ a ∙ sym b
-        | inr b ↦ (let l : x.offset < q.offset = all-each (λ z. x.offset < z.offset) ps q r.0 b in let f = ap (λ (z : PartitionParts). z.offset) a in absurd (omega (arith, l, f, e)))
+        | inr b ↦ (let l : x.offset < q.offset = all-each (λ z. x.offset < z.offset) ps q r.0 b in let f = ap
+            (λ (z : PartitionParts). z.offset) a in absurd (omega (arith, l, f, e)))
       ]
       | inr a ↦ elim k [
-        | inl b ↦ (let l : x.offset < p.offset = all-each (λ z. x.offset < z.offset) ps p r.0 a in let f = ap (λ (z : PartitionParts). z.offset) b in absurd (omega (arith, l, f, e)))
+        | inl b ↦ (let l : x.offset < p.offset = all-each (λ z. x.offset < z.offset) ps p r.0 a in let f = ap
+            (λ (z : PartitionParts). z.offset) b in absurd (omega (arith, l, f, e)))
         | inr b ↦ one_there ps p q r.1 a b e
       ]
     ]
@@ -119,7 +136,8 @@ one_there (x ∷ ps) p q r h k e =
 -- ---- links
 
 abbrev link_by : Bool → Bool → Bool → Bool → Bool → Link
-link_by zero first wrong there between = if zero then (if first then First else Wrong) else (if wrong then Wrong else (if not there then Missing else (if between then Skips else Held)))
+link_by zero first wrong there between = if zero then (if first then First else Wrong) else
+    (if wrong then Wrong else (if not there then Missing else (if between then Skips else Held)))
 
 there_is : (ps : List PartitionParts) (o : ℕ) → StandsAt ps o → stands_at o ps ≡ true
 there_is ps o s = (list_any-In (λ q. q.offset == o) ps).1 (s.0, s.1, eq-eqb s.0.offset o s.2)
@@ -127,7 +145,8 @@ there_is ps o s = (list_any-In (λ q. q.offset == o) ps).1 (s.0, s.1, eq-eqb s.0
 there_says : (ps : List PartitionParts) (o : ℕ) → stands_at o ps ≡ true → StandsAt ps o
 there_says ps o t = let s = (list_any-In (λ q. q.offset == o) ps).0 t in (s.0, s.1, eqb-true s.0.offset o s.2)
 
-between_says : (ps : List PartitionParts) (low high : ℕ) → stands_between low high ps ≡ true → IsGreatestBelow ps high low → ⊥
+between_says : (ps : List PartitionParts) (low high : ℕ) → stands_between low high ps ≡ true
+    → IsGreatestBelow ps high low → ⊥
 between_says ps low high t g =
     let s = (list_any-In (λ q. nat_lt low q.offset && nat_lt q.offset high) ps).0 t in
     let b = parts (nat_lt low s.0.offset) (nat_lt s.0.offset high) s.2 in
@@ -135,12 +154,14 @@ between_says ps low high t g =
     let y : s.0.offset ≤ low = g.greatest s.0 s.1 (ltb-true s.0.offset high b.1) in
     omega arith
 
-none_between : (ps : List PartitionParts) (low high : ℕ) → StandsAt ps low → low < high → stands_between low high ps ≡ false → IsGreatestBelow ps high low
+none_between : (ps : List PartitionParts) (low high : ℕ) → StandsAt ps low → low < high
+    → stands_between low high ps ≡ false → IsGreatestBelow ps high low
 none_between ps low high s l f = record {
   there = s;
   below = l;
   greatest = λ q h b. elim (nat_lt low q.offset) as (λ t. nat_lt low q.offset ≡ t → q.offset ≤ low) [
-    | true ↦ λ t. absurd (let u = (list_any-In (λ x. nat_lt low x.offset && nat_lt x.offset high) ps).1 (q, h, both (nat_lt low q.offset) (nat_lt q.offset high) t (lt-ltb q.offset high b)) in cc (u, f))
+    | true ↦ λ t. absurd (let u = (list_any-In (λ x. nat_lt low x.offset && nat_lt x.offset high) ps).1
+        (q, h, both (nat_lt low q.offset) (nat_lt q.offset high) t (lt-ltb q.offset high b)) in cc (u, f))
     | false ↦ λ t. Rattle.std.proofs.lemmas.Bool.ltb-false low q.offset t
   ] refl;
 }
@@ -149,7 +170,8 @@ none_between ps low high s l f = record {
 pub link_is : (ps : List PartitionParts) (p : PartitionParts) → IsLink ps p (link_of ps p)
 link_is ps p =
     let v = previous_of p in
-    elim (p.offset == 0) as (λ b. (p.offset == 0) ≡ b → IsLink ps p (link_by b (v == 0) (nat_le p.offset v) (stands_at v ps) (stands_between v p.offset ps))) [
+    elim (p.offset == 0) as (λ b. (p.offset == 0) ≡ b
+    → IsLink ps p (link_by b (v == 0) (nat_le p.offset v) (stands_at v ps) (stands_between v p.offset ps))) [
       | true ↦ λ z.
           let at : p.offset ≡ 0 = eqb-true p.offset 0 z in
           elim (v == 0) as (λ b. (v == 0) ≡ b → IsLink ps p (if b then First else Wrong)) [
@@ -157,16 +179,19 @@ link_is ps p =
             | false ↦ λ t. inl (at, λ e. let u = eq-eqb v 0 e in cc (t, u))
           ] refl
       | false ↦ λ z.
-          elim (nat_le p.offset v) as (λ b. nat_le p.offset v ≡ b → IsLink ps p (link_by false (v == 0) b (stands_at v ps) (stands_between v p.offset ps))) [
+          elim (nat_le p.offset v) as (λ b. nat_le p.offset v ≡ b
+          → IsLink ps p (link_by false (v == 0) b (stands_at v ps) (stands_between v p.offset ps))) [
             | true ↦ λ t. inr ((λ e. let u = eq-eqb p.offset 0 e in cc (z, u)), leb-true p.offset v t)
             | false ↦ λ t.
                 let l : v < p.offset = leb-false p.offset v t in
-                elim (stands_at v ps) as (λ b. stands_at v ps ≡ b → IsLink ps p (link_by false (v == 0) false b (stands_between v p.offset ps))) [
+                elim (stands_at v ps) as (λ b. stands_at v ps ≡ b
+                → IsLink ps p (link_by false (v == 0) false b (stands_between v p.offset ps))) [
                   | false ↦ λ n. (l, λ s. let u = there_is ps v s in cc (n, u))
-                  | true ↦ λ n. elim (stands_between v p.offset ps) as (λ b. stands_between v p.offset ps ≡ b → IsLink ps p (if b then Skips else Held)) [
-                    | true ↦ λ s. (l, there_says ps v n, between_says ps v p.offset s)
-                    | false ↦ λ s. none_between ps v p.offset (there_says ps v n) l s
-                  ] refl
+                  | true ↦ λ n. elim (stands_between v p.offset ps) as (λ b. stands_between v p.offset ps ≡ b
+                      → IsLink ps p (if b then Skips else Held)) [
+                        | true ↦ λ s. (l, there_says ps v n, between_says ps v p.offset s)
+                        | false ↦ λ s. none_between ps v p.offset (there_says ps v n) l s
+                      ] refl
                 ] refl
           ] refl
     ] refl
@@ -211,16 +236,19 @@ pub link_iff : (ps : List PartitionParts) (p : PartitionParts) (l : Link) → (l
 link_iff ps p l = (λ e. subst (IsLink ps p) e (link_is ps p), λ i. one_link ps p (link_of ps p) l (link_is ps p) i)
 
 -- The link at an offset is that of the partition that stands there.
-pub link_at_iff : (ps : List PartitionParts) (offset : ℕ) (l : Link) → AreInOrder ps → (link_at offset ps ≡ Some l) ↔ IsLinkAt ps offset l
+pub link_at_iff : (ps : List PartitionParts) (offset : ℕ) (l : Link) → AreInOrder ps
+    → (link_at offset ps ≡ Some l) ↔ IsLinkAt ps offset l
 link_at_iff ps offset l r = (
-  λ e. elim (find (λ p. p.offset == offset) ps) as (λ o. find (λ p. p.offset == offset) ps ≡ o → option_map (link_of ps) o ≡ Some l → IsLinkAt ps offset l) [
-    | None ↦ λ _ q. absurd cc
-    | Some p ↦ λ f q.
-        let s = found-In (λ p. p.offset == offset) ps p f in
-        let same : link_of ps p ≡ l = cc (q) in
-        (p, s.0, eqb-true p.offset offset s.1, (link_iff ps p l).0 same)
-  ] refl e,
+  λ e. elim (find (λ p. p.offset == offset) ps) as (λ o. find (λ p. p.offset == offset) ps ≡ o
+      → option_map (link_of ps) o ≡ Some l → IsLinkAt ps offset l) [
+        | None ↦ λ _ q. absurd cc
+        | Some p ↦ λ f q.
+            let s = found-In (λ p. p.offset == offset) ps p f in
+            let same : link_of ps p ≡ l = cc (q) in
+            (p, s.0, eqb-true p.offset offset s.1, (link_iff ps p l).0 same)
+      ] refl e,
   λ s.
-      let f = find-only (λ p. p.offset == offset) ps s.0 s.1 (eq-eqb s.0.offset offset s.2) (λ q h t. one_there ps q s.0 r h s.1 (eqb-true q.offset offset t ∙ sym s.2)) in
+      let f = find-only (λ p. p.offset == offset) ps s.0 s.1 (eq-eqb s.0.offset offset s.2)
+      (λ q h t. one_there ps q s.0 r h s.1 (eqb-true q.offset offset t ∙ sym s.2)) in
       ap (option_map (link_of ps)) f ∙ ap (λ (x : Link). Some x) ((link_iff ps s.0 l).1 s.3),
 )

@@ -1,5 +1,6 @@
 -- Of packets that share no byte, the bytes that they take are the offsets that lie in one of them.
-use Rattle.std.specs.Prelude.{◌≡◌, ◌≢◌, ℕ, zero, suc, ◌+◌, ◌-◌, ◌<◌, ◌≤◌, Bool, true, false, cond, ◌&&◌, ◌||◌, nat_le, nat_lt, ◌==◌, List, [], ◌∷◌, ◌⊎◌, ◌↔◌, count_by, sum_by, filter, refl, IsTrue}
+use Rattle.std.specs.Prelude.{◌≡◌, ◌≢◌, ℕ, zero, suc, ◌+◌, ◌-◌, ◌<◌, ◌≤◌, Bool, true, false, cond, ◌&&◌, ◌||◌, nat_le}
+use Rattle.std.specs.Prelude.{nat_lt, ◌==◌, List, [], ◌∷◌, ◌⊎◌, ◌↔◌, count_by, sum_by, filter, refl, IsTrue}
 use Rattle.std.specs.List.{list_any, range_with_len}
 use Rattle.std.specs.Ordering.{nat_cmp, ordering_then}
 use Rattle.std.specs.declared.cmp.Ordering.{Ordering}
@@ -25,24 +26,33 @@ tally b = cond b 1 0
 count_cons : (p : ℕ → Bool) (x : ℕ) (xs : List ℕ) → count_by p (x ∷ xs) ≡ tally (p x) + count_by p xs
 count_cons p x xs = sum_by-cons (λ y. cond (p y) 1 0) x xs
 
-pub count-split : (p : ℕ → Bool) (a m k : ℕ) → count_by p (range_with_len a (m + k)) ≡ count_by p (range_with_len a m) + count_by p (range_with_len (a + m) k)
+pub count-split : (p : ℕ → Bool) (a m k : ℕ) → count_by p (range_with_len a (m + k)) ≡ count_by p
+    (range_with_len a m) + count_by p (range_with_len (a + m) k)
 count-split p a zero k =
     let e : a + 0 ≡ a = omega arith in
-    let f : count_by p (range_with_len (a + 0) k) ≡ count_by p (range_with_len a k) = ap (λ (b : ℕ). count_by p (range_with_len b k)) e in
+    let f : count_by p (range_with_len (a + 0) k) ≡ count_by p (range_with_len a k) = ap
+    (λ (b : ℕ). count_by p (range_with_len b k)) e in
     let z : 0 + k ≡ k = omega arith in
-    let g : count_by p (range_with_len a (0 + k)) ≡ count_by p (range_with_len a k) = ap (λ (j : ℕ). count_by p (range_with_len a j)) z in
+    let g : count_by p (range_with_len a (0 + k)) ≡ count_by p (range_with_len a k) = ap
+    (λ (j : ℕ). count_by p (range_with_len a j)) z in
     omega (arith, f, g)
 count-split p a (suc m) k =
-    let ih : count_by p (range_with_len (a + 1) (m + k)) ≡ count_by p (range_with_len (a + 1) m) + count_by p (range_with_len (a + 1 + m) k) = count-split p (a + 1) m k in
+    let ih : count_by p (range_with_len (a + 1) (m + k)) ≡ count_by p (range_with_len (a + 1) m) + count_by p
+    (range_with_len (a + 1 + m) k) = count-split p (a + 1) m k in
     let e : a + 1 + m ≡ a + suc m = omega arith in
-    let f : count_by p (range_with_len (a + 1 + m) k) ≡ count_by p (range_with_len (a + suc m) k) = ap (λ (b : ℕ). count_by p (range_with_len b k)) e in
+    let f : count_by p (range_with_len (a + 1 + m) k) ≡ count_by p (range_with_len (a + suc m) k) = ap
+    (λ (b : ℕ). count_by p (range_with_len b k)) e in
     let z : suc m + k ≡ suc (m + k) = omega arith in
-    let g : count_by p (range_with_len a (suc m + k)) ≡ count_by p (range_with_len a (suc (m + k))) = ap (λ (j : ℕ). count_by p (range_with_len a j)) z in
-    let l : count_by p (range_with_len a (suc (m + k))) ≡ tally (p a) + count_by p (range_with_len (a + 1) (m + k)) = count_cons p a (range_with_len (a + 1) (m + k)) in
-    let r : count_by p (range_with_len a (suc m)) ≡ tally (p a) + count_by p (range_with_len (a + 1) m) = count_cons p a (range_with_len (a + 1) m) in
+    let g : count_by p (range_with_len a (suc m + k)) ≡ count_by p (range_with_len a (suc (m + k))) = ap
+    (λ (j : ℕ). count_by p (range_with_len a j)) z in
+    let l : count_by p (range_with_len a (suc (m + k))) ≡ tally (p a) + count_by p
+    (range_with_len (a + 1) (m + k)) = count_cons p a (range_with_len (a + 1) (m + k)) in
+    let r : count_by p (range_with_len a (suc m)) ≡ tally (p a) + count_by p
+    (range_with_len (a + 1) m) = count_cons p a (range_with_len (a + 1) m) in
     omega (arith, ih, f, g, l, r)
 
-pub count-none : (p : ℕ → Bool) (a m : ℕ) → ((o : ℕ) → a ≤ o → o < a + m → p o ≡ false) → count_by p (range_with_len a m) ≡ 0
+pub count-none : (p : ℕ → Bool) (a m : ℕ) → ((o : ℕ) → a ≤ o → o < a + m → p o ≡ false)
+    → count_by p (range_with_len a m) ≡ 0
 count-none p a zero h = refl
 count-none p a (suc m) h =
     let ih = count-none p (a + 1) m (λ o l r. h o (omega arith) (omega arith)) in
@@ -50,7 +60,8 @@ count-none p a (suc m) h =
     let one : tally (p a) ≡ 0 = ap tally here in
     omega (arith, count_cons p a (range_with_len (a + 1) m), one, ih)
 
-pub count-all : (p : ℕ → Bool) (a m : ℕ) → ((o : ℕ) → a ≤ o → o < a + m → p o ≡ true) → count_by p (range_with_len a m) ≡ m
+pub count-all : (p : ℕ → Bool) (a m : ℕ) → ((o : ℕ) → a ≤ o → o < a + m → p o ≡ true)
+    → count_by p (range_with_len a m) ≡ m
 count-all p a zero h = refl
 count-all p a (suc m) h =
     let ih = count-all p (a + 1) m (λ o l r. h o (omega arith) (omega arith)) in
@@ -58,7 +69,8 @@ count-all p a (suc m) h =
     let one : tally (p a) ≡ 1 = ap tally here in
     omega (arith, count_cons p a (range_with_len (a + 1) m), one, ih)
 
-pub count-same : (p q : ℕ → Bool) (a m : ℕ) → ((o : ℕ) → a ≤ o → o < a + m → p o ≡ q o) → count_by p (range_with_len a m) ≡ count_by q (range_with_len a m)
+pub count-same : (p q : ℕ → Bool) (a m : ℕ) → ((o : ℕ) → a ≤ o → o < a + m → p o ≡ q o)
+    → count_by p (range_with_len a m) ≡ count_by q (range_with_len a m)
 count-same p q a zero h = refl
 count-same p q a (suc m) h =
     let ih = count-same p q (a + 1) m (λ o l r. h o (omega arith) (omega arith)) in
@@ -73,7 +85,8 @@ count-le p a (suc m) =
     omega (arith, count_cons p a (range_with_len (a + 1) m), one, ih)
 
 -- where all are counted, each passes
-pub count-full : (p : ℕ → Bool) (a m : ℕ) → count_by p (range_with_len a m) ≡ m → (o : ℕ) → a ≤ o → o < a + m → p o ≡ true
+pub count-full : (p : ℕ → Bool) (a m : ℕ) → count_by p (range_with_len a m) ≡ m → (o : ℕ) → a ≤ o → o < a + m
+    → p o ≡ true
 count-full p a zero e o l r = absurd (omega arith)
 count-full p a (suc m) e o l r =
     let le = count-le p (a + 1) m in
@@ -85,7 +98,9 @@ count-full p a (suc m) e o l r =
     let z : tally (p a) ≡ 1 = ap tally here in
     elim (o == a) as (λ b. (o == a) ≡ b → p o ≡ true) [
       | true ↦ λ t. ap p (eqb-true o a t) ∙ here
-      | false ↦ λ t. let ne : o ≢ a = λ same. (let u = Rattle.std.proofs.Common.eq-eqb o a same in cc (t, u)) in count-full p (a + 1) m (omega (arith, z, c, e)) o (omega arith) (omega arith)
+      | false ↦ λ t. let ne : o ≢ a = λ same.
+          (let u = Rattle.std.proofs.Common.eq-eqb o a same in cc (t, u)) in count-full p (a + 1) m
+          (omega (arith, z, c, e)) o (omega arith) (omega arith)
     ] refl
 
 -- ---- packets that share no byte
@@ -102,18 +117,21 @@ pub in_span : (o : ℕ) (n : NoteParts) → n.offset ≤ o → o < end_of n → 
 in_span o n l r = rw (le-leb n.offset o l) (lt-ltb o (end_of n) r)
 
 pub in_span-says : (o : ℕ) (n : NoteParts) → is_in_span o n ≡ true → (n.offset ≤ o) × (o < end_of n)
-in_span-says o n h = let p = and_parts (nat_le n.offset o) (nat_lt o (end_of n)) h in (leb-true n.offset o p.0, ltb-true o (end_of n) p.1)
+in_span-says o n h = let p = and_parts (nat_le n.offset o) (nat_lt o (end_of n)) h in
+    (leb-true n.offset o p.0, ltb-true o (end_of n) p.1)
 
 pub in_none-below : (o low : ℕ) (notes : List NoteParts) → AreApart low notes → o < low → is_in_one notes o ≡ false
 in_none-below o low [] a l = refl
 in_none-below o low (n ∷ notes) a l =
     let start : low ≤ n.offset = a.0 in
-    let here : is_in_span o n ≡ false = is_false (is_in_span o n) (λ t. let s : n.offset ≤ o = (in_span-says o n t).0 in absurd (omega arith)) in
+    let here : is_in_span o n ≡ false = is_false (is_in_span o n)
+    (λ t. let s : n.offset ≤ o = (in_span-says o n t).0 in absurd (omega arith)) in
     let e : n.offset ≤ end_of n = omega arith in
     rw here (in_none-below o (end_of n) notes a.1 (omega arith))
 
 -- The bytes that the packets take are the offsets of a range that lie in one of them, where they lie in the range.
-pub sizes-count : (notes : List NoteParts) (low len : ℕ) → AreApart low notes → AllEndBy (low + len) notes → sizes notes ≡ count_by (is_in_one notes) (range_with_len low len)
+pub sizes-count : (notes : List NoteParts) (low len : ℕ) → AreApart low notes → AllEndBy (low + len) notes
+    → sizes notes ≡ count_by (is_in_one notes) (range_with_len low len)
 sizes-count [] low len a e = sym (count-none (is_in_one []) low len (λ o l r. refl))
 sizes-count (n ∷ notes) low len a e =
     let start : low ≤ n.offset = a.0 in
@@ -128,16 +146,24 @@ sizes-count (n ∷ notes) low len a e =
     let at : low + before ≡ n.offset = omega arith in
     let s2 = count-split p n.offset size after in
     let at2 : n.offset + size ≡ end_of n = omega arith in
-    let z1 : count_by p (range_with_len low before) ≡ 0 = count-none p low before (λ o l r. in_none-below o n.offset (n ∷ notes) (omega arith, a.1) (omega arith)) in
-    let z2 : count_by p (range_with_len n.offset size) ≡ size = count-all p n.offset size (λ o l r. let t = in_span o n l (omega arith) in rw t refl) in
-    let z3 : count_by p (range_with_len (end_of n) after) ≡ count_by (is_in_one notes) (range_with_len (end_of n) after) = count-same p (is_in_one notes) (end_of n) after
-    (λ o l r. let f : is_in_span o n ≡ false = is_false (is_in_span o n) (λ t. let s : o < end_of n = (in_span-says o n t).1 in absurd (omega arith)) in rw f refl) in
+    let z1 : count_by p (range_with_len low before) ≡ 0 = count-none p low before
+    (λ o l r. in_none-below o n.offset (n ∷ notes) (omega arith, a.1) (omega arith)) in
+    let z2 : count_by p (range_with_len n.offset size) ≡ size = count-all p n.offset size
+    (λ o l r. let t = in_span o n l (omega arith) in rw t refl) in
+    let z3 : count_by p (range_with_len (end_of n) after) ≡ count_by (is_in_one notes)
+    (range_with_len (end_of n) after) = count-same p (is_in_one notes) (end_of n) after
+    (λ o l r. let f : is_in_span o n ≡ false = is_false (is_in_span o n)
+    (λ t. let s : o < end_of n = (in_span-says o n t).1 in absurd (omega arith)) in rw f refl) in
     let at3 : end_of n + after ≡ low + len = omega arith in
-    let ih : sizes notes ≡ count_by (is_in_one notes) (range_with_len (end_of n) after) = sizes-count notes (end_of n) after a.1 (subst (λ (h : ℕ). AllEndBy h notes) (sym at3) e.1) in
+    let ih : sizes notes ≡ count_by (is_in_one notes) (range_with_len (end_of n) after) = sizes-count notes
+    (end_of n) after a.1 (subst (λ (h : ℕ). AllEndBy h notes) (sym at3) e.1) in
     let c = sum_by-cons size_of n notes in
-    let g1 : count_by p (range_with_len low len) ≡ count_by p (range_with_len low (before + (size + after))) = ap (λ (k : ℕ). count_by p (range_with_len low k)) e1 in
-    let g2 : count_by p (range_with_len (low + before) (size + after)) ≡ count_by p (range_with_len n.offset (size + after)) = ap (λ (k : ℕ). count_by p (range_with_len k (size + after))) at in
-    let g3 : count_by p (range_with_len (n.offset + size) after) ≡ count_by p (range_with_len (end_of n) after) = ap (λ (k : ℕ). count_by p (range_with_len k after)) at2 in
+    let g1 : count_by p (range_with_len low len) ≡ count_by p (range_with_len low (before + (size + after))) = ap
+    (λ (k : ℕ). count_by p (range_with_len low k)) e1 in
+    let g2 : count_by p (range_with_len (low + before) (size + after)) ≡ count_by p
+    (range_with_len n.offset (size + after)) = ap (λ (k : ℕ). count_by p (range_with_len k (size + after))) at in
+    let g3 : count_by p (range_with_len (n.offset + size) after) ≡ count_by p (range_with_len (end_of n) after) = ap
+    (λ (k : ℕ). count_by p (range_with_len k after)) at2 in
     omega (arith, c, ih, z1, z2, z3, s1, s2, g1, g2, g3)
 
 -- the packets of a zone lie in it
@@ -145,24 +171,32 @@ AllEndBy-zone : (start len : ℕ) (notes : List NoteParts) → AllEndBy (start +
 AllEndBy-zone start len [] = tt
 AllEndBy-zone start len (n ∷ notes) =
     let ih = AllEndBy-zone start len notes in
-    elim (lies_in start len n) as (λ b. lies_in start len n ≡ b → AllEndBy (start + len) (cond b (n ∷ filter (lies_in start len) notes) (filter (lies_in start len) notes))) [
-      | true ↦ λ t. let p = and_parts (nat_le start n.offset) (nat_le (end_of n) (start + len)) t in (leb-true (end_of n) (start + len) p.1, ih)
+    elim (lies_in start len n) as (λ b. lies_in start len n ≡ b
+    → AllEndBy (start + len) (cond b (n ∷ filter (lies_in start len) notes) (filter (lies_in start len) notes))) [
+      | true ↦ λ t. let p = and_parts (nat_le start n.offset) (nat_le (end_of n) (start + len)) t in
+          (leb-true (end_of n) (start + len) p.1, ih)
       | false ↦ λ t. ih
     ] refl
 
-AreApart-zone : (start len low : ℕ) (notes : List NoteParts) → AreApart low notes → AreApart start (filter (lies_in start len) notes)
+AreApart-zone : (start len low : ℕ) (notes : List NoteParts) → AreApart low notes
+    → AreApart start (filter (lies_in start len) notes)
 AreApart-zone start len low [] a = tt
 AreApart-zone start len low (n ∷ notes) a =
     let ih = AreApart-zone start len (end_of n) notes a.1 in
     let keep = AreApart-filter (lies_in start len) (end_of n) notes a.1 in
-    elim (lies_in start len n) as (λ b. lies_in start len n ≡ b → AreApart start (cond b (n ∷ filter (lies_in start len) notes) (filter (lies_in start len) notes))) [
-      | true ↦ λ t. let p = and_parts (nat_le start n.offset) (nat_le (end_of n) (start + len)) t in (leb-true start n.offset p.0, keep)
+    elim (lies_in start len n) as (λ b. lies_in start len n ≡ b
+    → AreApart start (cond b (n ∷ filter (lies_in start len) notes) (filter (lies_in start len) notes))) [
+      | true ↦ λ t. let p = and_parts (nat_le start n.offset) (nat_le (end_of n) (start + len)) t in
+          (leb-true start n.offset p.0, keep)
       | false ↦ λ t. ih
     ] refl
 
 -- What is covered of a zone is the number of its offsets that lie in one of the packets that lie wholly in it.
-pub zone-count : (notes : List NoteParts) (low start len : ℕ) → AreApart low notes → sizes (filter (lies_in start len) notes) ≡ count_by (is_in_one (filter (lies_in start len) notes)) (range_with_len start len)
-zone-count notes low start len a = sizes-count (filter (lies_in start len) notes) start len (AreApart-zone start len low notes a) (AllEndBy-zone start len notes)
+pub zone-count : (notes : List NoteParts) (low start len : ℕ) → AreApart low notes
+    → sizes (filter (lies_in start len) notes) ≡ count_by (is_in_one (filter (lies_in start len) notes))
+    (range_with_len start len)
+zone-count notes low start len a = sizes-count (filter (lies_in start len) notes) start len
+    (AreApart-zone start len low notes a) (AllEndBy-zone start len notes)
 
 -- One more packet is counted.
 pub sizes_more : (counted : ℕ) (n : NoteParts) (left rest : List NoteParts) → left ≡ n ∷ rest → AreApart counted left

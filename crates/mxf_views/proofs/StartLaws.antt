@@ -1,5 +1,6 @@
 -- Where the header metadata of a partition begin.
-use Rattle.std.proofs.Common.{◌≡◌, ◌≢◌, ℕ, ◌+◌, ◌-◌, ◌<◌, ◌≤◌, ◌⊎◌, Bool, true, false, List, [], ◌∷◌, Option, Some, None, refl, sym, ap, subst, ◌∙◌, inl, inr, arith, eqb-true, eq-eqb, le-leb, leb-true}
+use Rattle.std.proofs.Common.{◌≡◌, ◌≢◌, ℕ, ◌+◌, ◌-◌, ◌<◌, ◌≤◌, ◌⊎◌, Bool, true, false, List, [], ◌∷◌, Option, Some}
+use Rattle.std.proofs.Common.{None, refl, sym, ap, subst, ◌∙◌, inl, inr, arith, eqb-true, eq-eqb, le-leb, leb-true}
 use Rattle.std.specs.Prelude.{◌↔◌, ◌&&◌, ◌==◌, nat_le, nat_lt, find, filter, is_some, IsTrue, count_by}
 use Rattle.std.specs.Option.{option_map}
 use Rattle.std.specs.List.{list_all, range_with_len}
@@ -17,7 +18,8 @@ use Rattle.mxf_catalogue.proofs.ContentLaws.{note_eq-Decides}
 use Rattle.mxf_catalogue.specs.Disputes.{IsClear, SharesByte, clear_notes, is_same_note}
 use Rattle.mxf_catalogue.proofs.DisputeLaws.{In-clear_notes, clear-apart}
 use Rattle.mxf_catalogue.proofs.Lists.{In-filter, list_any-In, found-In, none_found}
-use Rattle.mxf_views.specs.Copies.{IsFilled, IsStart, covered_of, is_fill, is_fill_note, is_filled, is_primer, is_readable_primer, is_start, start_of, zone_of}
+use Rattle.mxf_views.specs.Copies.{IsFilled, IsStart, covered_of, is_fill, is_fill_note, is_filled, is_primer}
+use Rattle.mxf_views.specs.Copies.{is_readable_primer, is_start, start_of, zone_of}
 use Rattle.mxf_views.specs.Spans.{is_in_one, is_in_span, lies_in, sizes}
 use Rattle.mxf_catalogue.specs.Disputes.{AreApart}
 use Rattle.mxf_views.proofs.SpanCounts.{count-all, count-full, in_span, in_span-says, zone-count}
@@ -41,11 +43,17 @@ parts3 true true c h = (refl, refl, h)
 parts3 true false c h = absurd cc
 parts3 false b c h = absurd cc
 
-all-In : (p : NoteParts → Bool) (notes : List NoteParts) (n : NoteParts) → list_all p notes ≡ true → In n notes → p n ≡ true
+all-In : (p : NoteParts → Bool) (notes : List NoteParts) (n : NoteParts) → list_all p notes ≡ true → In n notes
+    → p n ≡ true
 all-In p [] n a h = absurd h
-all-In p (x ∷ xs) n a h = let q = parts (p x) (list_all p xs) a in elim h [ inl e ↦ ap p e ∙ q.0 | inr k ↦ all-In p xs n q.1 k ]
+all-In p (x ∷ xs) n a h = let q = parts (p x) (list_all p xs) a in elim h [
+  | inl e ↦ ap p e
+      ∙ q.0
+  | inr k ↦ all-In p xs n q.1 k
+]
 
-In-all : (p : NoteParts → Bool) (notes : List NoteParts) → ((n : NoteParts) → In n notes → p n ≡ true) → list_all p notes ≡ true
+In-all : (p : NoteParts → Bool) (notes : List NoteParts) → ((n : NoteParts) → In n notes → p n ≡ true)
+    → list_all p notes ≡ true
 In-all p [] f = refl
 In-all p (x ∷ xs) f = both (p x) (list_all p xs) (f x (inl refl)) (In-all p xs (λ n h. f n (inr h)))
 
@@ -76,7 +84,8 @@ one_kind kinds.Other p q = cc
 
 no_primer_fill : (n : NoteParts) → is_readable_primer n ≡ true → is_fill_note n ≡ true → ⊥
 unfolding is_readable_primer is_fill_note
-no_primer_fill n p q = one_kind (kind_of n.key) (parts (is_primer (kind_of n.key)) (is_some (read_as primer_at n)) p).0 q
+no_primer_fill n p q = one_kind (kind_of n.key)
+    (parts (is_primer (kind_of n.key)) (is_some (read_as primer_at n)) p).0 q
 
 -- no primer stands before a start
 not_before : (notes : List NoteParts) (end s t : ℕ) → IsStart notes end s → IsStart notes end t → s < t → ⊥
@@ -86,7 +95,8 @@ not_before notes end s t a b l =
     let f = b.filled s from l in
     let w0 : f.fill.offset ≤ s = f.within.from in
     let w1 : s + 1 ≤ end_of f.fill = f.within.before in
-    let shares : SharesByte a.primer f.fill = (s, record { from = omega arith; before = omega arith }, record { from = w0; before = w1 }) in
+    let shares : SharesByte a.primer f.fill =
+    (s, record { from = omega arith; before = omega arith }, record { from = w0; before = w1 }) in
     let same : a.primer ≡ f.fill = clear_same notes a.primer f.fill a.clear f.clear shares in
     no_primer_fill a.primer a.readable (ap is_fill_note same ∙ f.kind)
 
@@ -101,7 +111,8 @@ one_start notes end s t a b =
     ] refl
 
 -- a tested start is one
-tested : (notes : List NoteParts) (end : ℕ) (n : NoteParts) → IsContent notes → In n (clear_notes notes) → is_start end (clear_notes notes) n ≡ true → IsStart notes end n.offset
+tested : (notes : List NoteParts) (end : ℕ) (n : NoteParts) → IsContent notes → In n (clear_notes notes)
+    → is_start end (clear_notes notes) n ≡ true → IsStart notes end n.offset
 tested notes end n r h t =
     let clear = clear_notes notes in
     let p = parts3 (is_readable_primer n) (nat_le end n.offset) (is_filled end (n.offset - end) clear) t in
@@ -109,7 +120,8 @@ tested notes end n r h t =
     let len = n.offset - end in
     let zone = zone_of end len clear in
     let f = parts (covered_of end len clear == len) (list_all is_fill_note zone) p.2 in
-    let count : count_by (is_in_one zone) (range_with_len end len) ≡ len = sym (zone-count clear 0 end len (AreApart-clear_notes notes r)) ∙ eqb-true (covered_of end len clear) len f.0 in
+    let count : count_by (is_in_one zone) (range_with_len end len) ≡ len = sym
+    (zone-count clear 0 end len (AreApart-clear_notes notes r)) ∙ eqb-true (covered_of end len clear) len f.0 in
     record {
       primer = n;
       clear = (In-clear_notes n notes).0 h;
@@ -117,7 +129,8 @@ tested notes end n r h t =
       there = refl;
       after = le;
       filled = λ o from before.
-          let k = (list_any-In (is_in_span o) zone).0 (count-full (is_in_one zone) end len count o from (omega arith)) in
+          let k = (list_any-In (is_in_span o) zone).0
+          (count-full (is_in_one zone) end len count o from (omega arith)) in
           let m = k.0 in
           let z = (In-filter (lies_in end len) clear m).0 k.1 in
           let l = parts (nat_le end m.offset) (nat_le (end_of m) (end + len)) z.1 in
@@ -135,7 +148,8 @@ tested notes end n r h t =
     }
 
 -- a start passes the test
-passes : (notes : List NoteParts) (end s : ℕ) → IsContent notes → (a : IsStart notes end s) → is_start end (clear_notes notes) a.primer ≡ true
+passes : (notes : List NoteParts) (end s : ℕ) → IsContent notes → (a : IsStart notes end s)
+    → is_start end (clear_notes notes) a.primer ≡ true
 passes notes end s r a =
     let clear = clear_notes notes in
     let n = a.primer in
@@ -146,13 +160,19 @@ passes notes end s r a =
     let zone = zone_of end len clear in
     let in_zone = λ (m : NoteParts) (c : IsClear m notes) (low : end ≤ m.offset) (high : end_of m ≤ s).
     let h : end_of m ≤ end + len = omega arith in
-    (In-filter (lies_in end len) clear m).1 ((In-clear_notes m notes).1 c, both (nat_le end m.offset) (nat_le (end_of m) (end + len)) (le-leb end m.offset low) (le-leb (end_of m) (end + len) h)) in
+    (In-filter (lies_in end len) clear m).1 (
+      (In-clear_notes m notes).1 c,
+      both (nat_le end m.offset) (nat_le (end_of m) (end + len))
+          (le-leb end m.offset low) (le-leb (end_of m) (end + len) h),
+    ) in
     let count : count_by (is_in_one zone) (range_with_len end len) ≡ len =
     count-all (is_in_one zone) end len (λ o from before.
     let f = a.filled o from (omega arith) in
     let w1 : o + 1 ≤ end_of f.fill = f.within.before in
-    (list_any-In (is_in_span o) zone).1 (f.fill, in_zone f.fill f.clear f.from f.before, in_span o f.fill f.within.from (omega arith))) in
-    let covered : (covered_of end len clear == len) ≡ true = eq-eqb (covered_of end len clear) len (zone-count clear 0 end len (AreApart-clear_notes notes r) ∙ count) in
+    (list_any-In (is_in_span o) zone).1
+    (f.fill, in_zone f.fill f.clear f.from f.before, in_span o f.fill f.within.from (omega arith))) in
+    let covered : (covered_of end len clear == len) ≡ true = eq-eqb (covered_of end len clear) len
+    (zone-count clear 0 end len (AreApart-clear_notes notes r) ∙ count) in
     let fills : list_all is_fill_note zone ≡ true = In-all is_fill_note zone (λ m h.
     let z = (In-filter (lies_in end len) clear m).0 h in
     let l = parts (nat_le end m.offset) (nat_le (end_of m) (end + len)) z.1 in
@@ -161,14 +181,22 @@ passes notes end s r a =
     let f = a.filled m.offset low (omega arith) in
     let shares : SharesByte m f.fill = (m.offset, record { from = omega arith; before = omega arith }, f.within) in
     ap is_fill_note (clear_same notes m f.fill ((In-clear_notes m notes).0 z.0) f.clear shares) ∙ f.kind) in
-    both3 (is_readable_primer n) (nat_le end n.offset) (is_filled end len clear) a.readable (le-leb end n.offset le2) (both (covered_of end len clear == len) (list_all is_fill_note zone) covered fills)
+    both3 (is_readable_primer n) (nat_le end n.offset) (is_filled end len clear) a.readable (le-leb end n.offset le2)
+    (both (covered_of end len clear == len) (list_all is_fill_note zone) covered fills)
 
 -- The start is found exactly where it stands.
-pub start_is : (notes : List NoteParts) (end s : ℕ) → IsContent notes → (start_of end (clear_notes notes) ≡ Some s) ↔ IsStart notes end s
+pub start_is : (notes : List NoteParts) (end s : ℕ) → IsContent notes
+    → (start_of end (clear_notes notes) ≡ Some s) ↔ IsStart notes end s
 start_is notes end s r =
     let clear = clear_notes notes in
-    elim (find (is_start end clear) clear) as (λ o. find (is_start end clear) clear ≡ o → (option_map (λ n. n.offset) o ≡ Some s) ↔ IsStart notes end s) [
-      | None ↦ λ e. (λ k. absurd cc, λ a. absurd (none_found (is_start end clear) clear a.primer e ((In-clear_notes a.primer notes).1 a.clear) (passes notes end s r a)))
+    elim (find (is_start end clear) clear) as (λ o. find (is_start end clear) clear ≡ o
+    → (option_map (λ n. n.offset) o ≡ Some s) ↔ IsStart notes end s) [
+      | None ↦ λ e. (
+        λ k. absurd cc,
+        λ a. absurd
+            (none_found (is_start end clear) clear a.primer e ((In-clear_notes a.primer notes).1 a.clear)
+            (passes notes end s r a)),
+      )
       | Some n ↦ λ e.
           let f = found-In (is_start end clear) clear n e in
           let a = tested notes end n r f.0 f.1 in (

@@ -1,12 +1,15 @@
 -- Copies of the header metadata (ST 377-1, header metadata of a partition; which copy is preferred is this project's
 -- profile). They are by the clear notes alone.
-use Rattle.std.specs.Prelude.{◌≡◌, ◌↔◌, ℕ, ◌+◌, ◌-◌, ◌<◌, ◌≤◌, ◌⊎◌, Bool, true, false, ◌&&◌, ◌==◌, nat_le, nat_lt, cond, Option, Some, None, is_some, List, [], ◌∷◌, map, filter, find, count_by, sum_by, MatchOption, IsTrue, ◌||◌}
+use Rattle.std.specs.Prelude.{◌≡◌, ◌↔◌, ℕ, ◌+◌, ◌-◌, ◌<◌, ◌≤◌, ◌⊎◌, Bool, true, false, ◌&&◌, ◌==◌, nat_le, nat_lt, cond}
+use Rattle.std.specs.Prelude.{Option, Some, None, is_some, List, [], ◌∷◌, map, filter, find, count_by, sum_by}
+use Rattle.std.specs.Prelude.{MatchOption, IsTrue, ◌||◌}
 use Rattle.std.specs.Option.{option_map}
 use Rattle.std.specs.List.{list_all, range_with_len}
 use Rattle.mxf_klv.specs.declared.kinds.Kind.{Kind}
 use Rattle.mxf_klv.specs.declared.kinds.Kind.TheVariants as kinds
 use Rattle.mxf_klv.specs.declared.kinds.Status.{Status}
-use Rattle.mxf_klv.specs.declared.kinds.Status.TheVariants.{OpenIncomplete, ClosedIncomplete, OpenComplete, ClosedComplete}
+use Rattle.mxf_klv.specs.declared.kinds.Status.TheVariants.{OpenIncomplete, ClosedIncomplete, OpenComplete}
+use Rattle.mxf_klv.specs.declared.kinds.Status.TheVariants.{ClosedComplete}
 use Rattle.mxf_klv.specs.Parts.{NoteParts}
 use Rattle.mxf_klv.specs.Note.{IsInSpan, keeps, end_of}
 use Rattle.mxf_klv.specs.Kind.{kind_of}
@@ -57,14 +60,16 @@ is_preface_note n = is_preface (kind_of n.key)
 abbrev pub zone_of : ℕ → ℕ → List NoteParts → List NoteParts
 zone_of start bytes notes = filter (lies_in start bytes) notes
 
--- The bytes of a range that lie in packets lying wholly in it. Clear packets share no byte, so it is the number of offsets
+-- The bytes of a range that lie in packets lying wholly in it. Clear packets share no byte, so it is the number of
+-- offsets
 -- of the range that lie in one of them.
 abbrev pub covered_of : ℕ → ℕ → List NoteParts → ℕ
 covered_of start bytes notes = sizes (zone_of start bytes notes)
 
 -- Each byte of a range lies in a fill that lies wholly in it.
 abbrev pub is_filled : ℕ → ℕ → List NoteParts → Bool
-is_filled start bytes notes = (covered_of start bytes notes == bytes) && list_all is_fill_note (zone_of start bytes notes)
+is_filled start bytes notes = (covered_of start bytes notes == bytes) && list_all is_fill_note
+    (zone_of start bytes notes)
 
 -- A primer at or after the end of a pack, with nothing but fills between the two.
 abbrev pub is_start : ℕ → List NoteParts → NoteParts → Bool
@@ -196,7 +201,8 @@ abbrev pub IsStartFound : List NoteParts → ℕ → Option ℕ → Type 0
 IsStartFound notes end None = (start : ℕ) → ¬ IsStart notes end start
 IsStartFound notes end (Some start) = IsStart notes end start
 
--- The number of offsets of a range that lie in a clear note lying wholly in it, and of the Prefaces among the sets of it;
+-- The number of offsets of a range that lie in a clear note lying wholly in it, and of the Prefaces among the sets of
+-- it;
 -- none without a start.
 abbrev pub CountsZone : List NoteParts → CopyInfo → Option ℕ → Type 0
 CountsZone notes c None = (c.covered ≡ 0) × (c.prefaces ≡ 0)
@@ -218,7 +224,8 @@ pub record IsCopyOf (notes : List NoteParts) (p : PartitionParts) (c : CopyInfo)
 abbrev pub IsCopy : List NoteParts → CopyInfo → Type 0
 IsCopy notes c = (p : PartitionParts) × In p (partitions_of notes) × IsCopyOf notes p c
 
--- The note is one of the sets of the copy of the partition at the offset: a clear set that lies wholly in the bytes that
+-- The note is one of the sets of the copy of the partition at the offset: a clear set that lies wholly in the bytes
+-- that
 -- the partition states, from the start of the copy on.
 pub record IsSetOf (notes : List NoteParts) (partition : ℕ) (n : NoteParts) : Type 0 where
   pub copy : CopyInfo

@@ -10,7 +10,8 @@ use Rattle.mxf_catalogue.specs.Runs.{AreMaximal, LiesIn, run}
 abbrev pub gaps_from : ℕ → List NoteParts → List Run
 gaps_from reached [] = []
 gaps_from reached (n ∷ notes) =
-    cond (nat_lt reached n.offset) (run reached n.offset ∷ gaps_from (max reached (end_of n)) notes) (gaps_from (max reached (end_of n)) notes)
+    cond (nat_lt reached n.offset) (run reached n.offset ∷ gaps_from (max reached (end_of n)) notes)
+    (gaps_from (max reached (end_of n)) notes)
 
 abbrev pub gaps_of : List NoteParts → List Run
 gaps_of notes = gaps_from 0 notes

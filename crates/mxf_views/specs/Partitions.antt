@@ -1,6 +1,8 @@
--- Partitions, their links and their chain (ST 377-1, Partition Pack; the names of the links are this project's profile).
+-- Partitions, their links and their chain (ST 377-1, Partition Pack; the names of the links are this project's
+-- profile).
 -- They are by the clear notes alone.
-use Rattle.std.specs.Prelude.{◌≡◌, ◌≢◌, ℕ, ◌<◌, ◌≤◌, ◌⊎◌, Bool, true, false, not, ◌&&◌, ◌||◌, ◌==◌, nat_le, nat_lt, if◌then◌else◌}
+use Rattle.std.specs.Prelude.{◌≡◌, ◌≢◌, ℕ, ◌<◌, ◌≤◌, ◌⊎◌, Bool, true, false, not, ◌&&◌, ◌||◌, ◌==◌, nat_le, nat_lt}
+use Rattle.std.specs.Prelude.{if◌then◌else◌}
 use Rattle.std.specs.Prelude.{Option, Some, None, is_some, IsTrue, Ok, List, [], ◌∷◌, filter, find, count_by}
 use Rattle.std.specs.Option.{option_map}
 use Rattle.std.specs.List.{list_any, list_all, filter_map, AllByRecursion}
@@ -81,7 +83,8 @@ is_held _ = false
 
 -- A header has link First, every other partition link Held.
 abbrev pub is_linked : List PartitionParts → PartitionParts → Bool
-is_linked partitions p = if is_header p.pack.part then is_first (link_of partitions p) else is_held (link_of partitions p)
+is_linked partitions p = if is_header p.pack.part then is_first (link_of partitions p) else is_held
+    (link_of partitions p)
 
 -- A partition stands above the offset.
 abbrev pub stands_above : ℕ → List PartitionParts → Bool
@@ -95,7 +98,8 @@ is_greatest partitions p = not (stands_above p.offset partitions)
 unfoldable pub is_no_unreadable_pack : NoteParts → Bool
 is_no_unreadable_pack n = not (is_some (part_and_status (kind_of n.key))) || is_some (partition_at n)
 
--- One header partition with link First, which stands at 0; one footer partition, above which none stands; all other links
+-- One header partition with link First, which stands at 0; one footer partition, above which none stands; all other
+-- links
 -- are Held; and every clear partition pack is readable.
 abbrev pub is_whole : List NoteParts → Bool
 is_whole notes =
@@ -151,7 +155,8 @@ IsLink partitions p First = (p.offset ≡ 0) × (previous_of p ≡ 0)
 IsLink partitions p Wrong = ((p.offset ≡ 0) × (previous_of p ≢ 0)) ⊎ ((p.offset ≢ 0) × (p.offset ≤ previous_of p))
 IsLink partitions p Held = IsGreatestBelow partitions p.offset (previous_of p)
 IsLink partitions p Skips =
-    (previous_of p < p.offset) × StandsAt partitions (previous_of p) × ¬ IsGreatestBelow partitions p.offset (previous_of p)
+    (previous_of p < p.offset) × StandsAt partitions (previous_of p)
+    × ¬ IsGreatestBelow partitions p.offset (previous_of p)
 IsLink partitions p Missing = (previous_of p < p.offset) × ¬ StandsAt partitions (previous_of p)
 
 -- A partition stands at the offset, and this is its link.
@@ -175,4 +180,5 @@ pub record IsWhole (notes : List NoteParts) : Type 0 where
   pub one_footer : IsOnly (partitions_of notes) Footer footer
   pub greatest : (q : PartitionParts) → In q (partitions_of notes) → q.offset ≤ footer.offset
   pub held : (p : PartitionParts) → In p (partitions_of notes) → p ≢ header → IsLink (partitions_of notes) p Held
-  pub readable : (n : NoteParts) → IsClear n notes → IsPartitionKind (kind_of n.key) → StandsAt (partitions_of notes) n.offset
+  pub readable : (n : NoteParts) → IsClear n notes → IsPartitionKind (kind_of n.key)
+      → StandsAt (partitions_of notes) n.offset

@@ -13,7 +13,8 @@ use Rattle.mxf_views.specs.Copies.{copies_of, preferred_of, is_preface_note, set
 use Rattle.mxf_views.specs.References.{has_uid}
 use Rattle.mxf_views.specs.Targets.{fits, ref_of, refs_of}
 
--- What the Preface of a copy names: the storage and the identifications, where it is readable, and what the storage names.
+-- What the Preface of a copy names: the storage and the identifications, where it is readable, and what the storage
+-- names.
 pub record ResolvedParts : Type 0 where
   pub partition : ℕ
   pub preface : ℕ
@@ -46,11 +47,13 @@ resolved_by notes partition preface (Some p) = record {
   preface = preface;
   storage = Some (ref_of notes partition Storage p.content_storage);
   identifications = refs_of notes partition Identification p.identifications;
-  packages = refs_of notes partition Package (packages_of (storage_among (filter (has_uid p.content_storage) (sets_of notes partition))));
+  packages = refs_of notes partition Package
+      (packages_of (storage_among (filter (has_uid p.content_storage) (sets_of notes partition))));
 }
 
 abbrev pub resolved_in : List NoteParts → CopyInfo → Option ResolvedParts
-resolved_in notes copy = option_map (λ n. resolved_by notes copy.partition n.offset (preface_in n)) (find is_preface_note (sets_of notes copy.partition))
+resolved_in notes copy = option_map (λ n. resolved_by notes copy.partition n.offset (preface_in n))
+    (find is_preface_note (sets_of notes copy.partition))
 
 abbrev pub resolved_from : List NoteParts → Option CopyInfo → Option ResolvedParts
 resolved_from notes None = None

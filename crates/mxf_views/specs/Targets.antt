@@ -36,7 +36,8 @@ is_readable Package bytes = is_ok (package_at bytes)
 -- What the only set with the identifier is.
 unfoldable pub target_at : Wanted → NoteParts → Target
 target_at wanted n =
-    if not (fits wanted (kind_of n.key)) then WrongKind n.offset else (if keeps n.key n.length && is_readable wanted n.held then Found n.offset else Unreadable n.offset)
+    if not (fits wanted (kind_of n.key)) then WrongKind n.offset else
+    (if keeps n.key n.length && is_readable wanted n.held then Found n.offset else Unreadable n.offset)
 
 abbrev pub target_among : Wanted → List NoteParts → Target
 target_among wanted [] = Missing
@@ -54,7 +55,8 @@ ref_of notes partition wanted uid = record { uid = uid; target = target_of notes
 abbrev pub refs_of : List NoteParts → ℕ → Wanted → List (List ℕ) → List Ref
 refs_of notes partition wanted uids = map (ref_of notes partition wanted) uids
 
--- What a reference leads to: no set with the identifier or several; or the only one, at this offset, which is of another
+-- What a reference leads to: no set with the identifier or several; or the only one, at this offset, which is of
+-- another
 -- kind, or of that kind and not readable, or readable.
 abbrev pub IsTarget : List NoteParts → Wanted → List ℕ → Target → Type 0
 IsTarget sets wanted uid Missing = IsFound sets uid found.Absent

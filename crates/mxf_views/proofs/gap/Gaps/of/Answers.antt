@@ -11,7 +11,8 @@ length-gaps_from : (reached : ℕ) (notes : List NoteParts) → length (gaps_fro
 length-gaps_from reached [] = omega arith
 length-gaps_from reached (n ∷ notes) =
     let ih = length-gaps_from (max reached (end_of n)) notes in
-    elim (nat_lt reached n.offset) as (λ b. length (cond b (run reached n.offset ∷ gaps_from (max reached (end_of n)) notes)
+    elim (nat_lt reached n.offset) as
+    (λ b. length (cond b (run reached n.offset ∷ gaps_from (max reached (end_of n)) notes)
     (gaps_from (max reached (end_of n)) notes)) ≤ length (n ∷ notes)) [
       | true ↦ omega (arith, ih)
       | false ↦ omega (arith, ih)

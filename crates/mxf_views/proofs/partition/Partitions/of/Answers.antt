@@ -14,4 +14,6 @@ length-filter_map f (x ∷ xs) =
     ] refl
 
 pub returns-clause-bound : goal.returns-clause-bound
-returns-clause-bound c = let l : length (partitions_among c.args.notes) ≤ length c.args.notes = length-filter_map partition_at c.args.notes in omega (arith, l)
+returns-clause-bound c = let l : length
+    (partitions_among c.args.notes) ≤ length c.args.notes = length-filter_map partition_at c.args.notes in omega
+    (arith, l)

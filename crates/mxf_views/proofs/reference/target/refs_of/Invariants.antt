@@ -3,4 +3,5 @@ use Rattle.mxf_views.specs.Targets.{refs_of}
 use Rattle.mxf_views.proofs.reference.target.refs_of.Given as goal
 
 abbrev pub invariant-loop-uid : goal.invariant-loop-uid
-invariant-loop-uid l = l.items.items ++ refs_of l.views l.partition l.wanted l.uid-iterator ≡ refs_of l.views l.partition l.wanted l.fn.references
+invariant-loop-uid l = l.items.items
+    ++ refs_of l.views l.partition l.wanted l.uid-iterator ≡ refs_of l.views l.partition l.wanted l.fn.references
