@@ -5,11 +5,10 @@ use Rattle.std.specs.Prelude.{Option}
 use Rattle.std.specs.List.{concat}
 use Rattle.std.specs.Io.KnownBytes.{Appends}
 use Rattle.std.proofs.KnownBytes.{Appends-nil}
-use Rattle.std.proofs.lemmas.List.{take-append-le, append-nil}
+use Rattle.std.proofs.lemmas.List.{take-append-le}
 use Rattle.std.proofs.lemmas.List.Folds.{concat-append}
 use Rattle.std.proofs.Math.Seq.{take-append-add}
-use Rattle.mxf_klv.specs.declared.writing.WriteFault.{WriteFault}
-use Rattle.mxf_klv.specs.Written.{StopsIn, Writes, WritesPart, counted}
+use Rattle.mxf_klv.specs.Written.{StopsIn, Writes, WritesPart}
 use Rattle.mxf_klv.proofs.WrittenParts.{WritesPart-after}
 use Rattle.mxf_tool.specs.declared.printing.AnswerFault.{AnswerFault}
 use Rattle.mxf_tool.specs.declared.printing.AnswerFault.TheVariants.{OutOfMemory, Write}

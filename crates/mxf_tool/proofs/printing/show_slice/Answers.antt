@@ -45,10 +45,12 @@ returns-in_err-print_views-clause-lines g c =
     let after = c.print_views.new.self.progress.written in
     let lines = piece_line c.args.offset (length notes) stop ∷ content_lines (content_of notes) in
     rw (p.1, p.2) (Prints-failed (Unit {0}) ℕ (contents c.args.writer.now) (contents c.print_views.new.writer) start
-    after f lines c.new-printer.ensures (Prints-next {X = Unit {0}} (contents c.args.writer.now) (contents c.print.new.writer) (contents c.print_views.new.writer) start
+    after f lines c.new-printer.ensures (Prints-next {X = Unit {0}} (contents c.args.writer.now)
+    (contents c.print.new.writer) (contents c.print_views.new.writer) start
     mid after (Err f) (piece_line c.args.offset (length c.as_slice.result.now) found.found.stop ∷ [])
     (piece_line c.args.offset (length notes) stop ∷ []) (content_lines (content_of notes)) line c.in_ok-print.ensures
-    (subst (PrintsPart {X = Unit {0}} (contents c.print.new.writer) (contents c.print_views.new.writer) mid after (Err f))
+    (subst (PrintsPart {X = Unit {0}} (contents c.print.new.writer) (contents c.print_views.new.writer) mid after
+    (Err f))
     content c.in_err-print_views.ensures)))
 
 pub returns-clause-lines : goal.returns-clause-lines
@@ -68,7 +70,8 @@ returns-clause-lines g c =
     let after = c.print_views.new.self.progress.written in
     let lines = piece_line c.args.offset (length notes) stop ∷ content_lines (content_of notes) in
     Prints-whole {X = Unit {0}} (contents c.args.writer.now) (contents c.print_views.new.writer) start after (Ok tt)
-    lines c.new-printer.ensures (Prints-next {X = Unit {0}} (contents c.args.writer.now) (contents c.print.new.writer) (contents c.print_views.new.writer) start
+    lines c.new-printer.ensures (Prints-next {X = Unit {0}} (contents c.args.writer.now)
+    (contents c.print.new.writer) (contents c.print_views.new.writer) start
     mid after (Ok tt) (piece_line c.args.offset (length c.as_slice.result.now) found.found.stop ∷ [])
     (piece_line c.args.offset (length notes) stop ∷ []) (content_lines (content_of notes)) line c.in_ok-print.ensures
     (subst (PrintsPart {X = Unit {0}} (contents c.print.new.writer) (contents c.print_views.new.writer) mid after (Ok tt))

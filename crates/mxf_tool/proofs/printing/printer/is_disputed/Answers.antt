@@ -1,4 +1,4 @@
-use Rattle.std.proofs.Common.{◌≡◌, ◌≢◌, ℕ, List, true, false, refl, subst, sym, ◌∙◌, inl, inr}
+use Rattle.std.proofs.Common.{◌≡◌, ◌≢◌, List, true, false, refl, subst, sym, ◌∙◌, inl, inr}
 use Rattle.mxf_catalogue.proofs.DisputeLaws.{clear_or_disputed, clear-alone, is_disputed-IsDisputed}
 use Rattle.mxf_catalogue.specs.Disputes.{IsClear, is_disputed}
 use Rattle.mxf_klv.specs.Parts.{NoteParts}

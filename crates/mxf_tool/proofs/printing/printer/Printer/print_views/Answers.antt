@@ -1,4 +1,4 @@
-use Rattle.std.proofs.Common.{◌≡◌, Err, List, [], ◌∷◌, ◌++◌, ℕ, ap, map, subst}
+use Rattle.std.proofs.Common.{◌≡◌, Err, [], ◌∷◌, ◌++◌, ap, map, subst}
 use Rattle.std.proofs.lemmas.Result.{err_from_is_err_and}
 use Rattle.mxf_tool.specs.Lines.{chain_line, copy_line, gap_line, note_lines, preferred_line}
 use Rattle.mxf_tool.proofs.PrintLaws.{PrintsPart, Prints-next, Prints-stopped}
