@@ -2,6 +2,7 @@
 use crate::builders::{label, note_at};
 use crate::worked_files::{ESSENCE_KEY, FILL_KEY, HEADER_KEY};
 use mxf_klv::{Held, Kind, Note, NoteFault, Packet, read_packet};
+use std::alloc::Global;
 use std::test::Fail;
 
 /// The SHA-256 of no bytes.
@@ -53,12 +54,16 @@ fn essence_is_digested_and_a_pack_is_kept(rt: HostRuntime) -> Result<(), Fail> {
     Ok(())
 }
 
+/// So many zero bytes.
+fn zeros(alloc: Global, count: usize) -> Result<Vec<u8>, Fail> {
+    Ok(vec![in alloc; 0u8; count]?)
+}
+
 #[test]
 fn a_structural_value_is_kept_up_to_4_mebibytes(rt: HostRuntime) -> Result<(), Fail> {
-    let zeros = vec![in rt.alloc(); 0u8; 4_194_305]?;
-    let longest = note_at(rt.alloc(), 0, HEADER_KEY, 4, &zeros[..4_194_304])?;
+    let longest = note_at(rt.alloc(), 0, HEADER_KEY, 4, &zeros(rt.alloc(), 4_194_304)?)?;
     assert!(rt; matches!(&longest.held(), Held::Whole(value) if value.len() == 4_194_304));
-    let longer = note_at(rt.alloc(), 0, HEADER_KEY, 4, &zeros)?;
+    let longer = note_at(rt.alloc(), 0, HEADER_KEY, 4, &zeros(rt.alloc(), 4_194_305)?)?;
     assert!(rt; matches!(&longer.held(), Held::Digest(digest) if **digest == ZEROS_DIGEST));
     Ok(())
 }
