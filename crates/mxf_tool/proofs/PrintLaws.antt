@@ -1,119 +1,142 @@
 -- Lines that are printed one after another.
-use Rattle.std.proofs.Common.{◌≡◌, ℕ, suc, ◌+◌, ◌<◌, ◌≤◌, get_or, List, [], ◌∷◌, ◌++◌, Ok, Err, arith, length}
-use Rattle.std.proofs.Common.{take, add-one, drop, drop-cons, take-append-drop, sym, ap, ◌∙◌, subst, map, length-append}
+use Rattle.std.proofs.Common.{◌≡◌, ℕ, ◌+◌, ◌^◌, ◌<◌, List, [], ◌∷◌, ◌++◌, Ok, Err, Result, arith, length, take}
+use Rattle.std.proofs.Common.{add-one, drop, get_or, ◌≤◌, sym, ap, ◌∙◌, subst, length-append}
 use Rattle.std.specs.Prelude.{Option}
-use Rattle.std.specs.List.{concat}
+use Rattle.std.specs.List.{concat, flat_map}
 use Rattle.std.specs.Io.KnownBytes.{Appends}
-use Rattle.std.proofs.KnownBytes.{Appends-nil, Appends-trans}
-use Rattle.std.proofs.lemmas.List.{append-nil, map-append}
+use Rattle.std.proofs.KnownBytes.{Appends-nil}
+use Rattle.std.proofs.lemmas.List.{length-drop, nil_from_length, take-append-le}
 use Rattle.std.proofs.lemmas.List.Folds.{concat-append}
-use Rattle.std.proofs.Math.Seq.{take-append_seam, take-suc, take_all}
-use Rattle.mxf_klv.specs.Parts.{NoteParts}
+use Rattle.std.proofs.Math.Seq.{drop-cons, take-append-add}
 use Rattle.mxf_klv.specs.Written.{StopsIn, Writes, WritesPart}
-use Rattle.mxf_klv.proofs.WrittenParts.{StopsIn-middle, WritesPart-after}
-use Rattle.mxf_klv.specs.declared.piece.Stop.{Stop}
+use Rattle.mxf_klv.proofs.WrittenParts.{WritesPart-after}
 use Rattle.mxf_tool.specs.declared.printing.AnswerFault.{AnswerFault}
 use Rattle.mxf_tool.specs.declared.printing.AnswerFault.TheVariants.{OutOfMemory, Write}
-use Rattle.mxf_tool.specs.Lines.{Prints, lines_of, note_line, piece_line}
+use Rattle.mxf_tool.specs.Printing.{Prints}
 
--- all bytes of the lines were written, after `before` bytes, and `after` counts both
+-- What a call answers that prints lines after `before` bytes; `after` counts both.
+abbrev pub PrintsPart : {X : Type 0} → Option (List ℕ) → Option (List ℕ) → ℕ → ℕ → Result X AnswerFault
+    → List (List ℕ) → Type 0
+PrintsPart old new before after r lines = Prints (WritesPart {X = Unit {0}} old new before after) r lines
+
+-- All of the lines were printed.
 abbrev pub Printed : Option (List ℕ) → Option (List ℕ) → ℕ → ℕ → List (List ℕ) → Type 0
 Printed old new before after lines = WritesPart {X = Unit {0}} old new before after (Ok tt) (concat lines)
 
--- nothing was printed yet
-pub none_printed : (a : Option (List ℕ)) (start : ℕ) → start ≡ 0 → Printed a a 0 start []
-none_printed a start e = (Appends-nil a, e)
+-- no line was printed
+pub none_printed : (a : Option (List ℕ)) (before : ℕ) → before < 2 ^ 64 → Printed a a before before []
+none_printed a before h = (Appends-nil a, omega (arith, h))
 
--- more lines were printed
-pub Printed-after : (a b c : Option (List ℕ)) (before mid after : ℕ) (done more : List (List ℕ))
-    → Printed a b before mid done → Printed b c mid after more → Printed a c before after (done ++ more)
-Printed-after a b c before mid after done more p q =
-    let whole = WritesPart-after {X = Unit {0}} a b c before mid after (Ok tt) (concat done) (concat more) p.0 p.1 q in
-    let same = sym (concat-append done more) in
-    subst (λ (bytes : List ℕ). WritesPart {X = Unit {0}} a c before after (Ok tt) bytes) same whole
+-- lines that were printed, and what is answered of the lines after them
+pub Prints-after : {X : Type 0} (a b c : Option (List ℕ)) (before mid after : ℕ) (r : Result X AnswerFault)
+    (done more : List (List ℕ)) → Printed a b before mid done → PrintsPart b c mid after r more
+    → PrintsPart a c before after r (done ++ more)
+Prints-after a b c before mid after (Ok x) done more p q =
+    subst (WritesPart {X = Unit {0}} a c before after (Ok tt)) (sym (concat-append done more))
+    (WritesPart-after {X = Unit {0}} a b c before mid after (Ok tt) (concat done) (concat more) p.0 p.1 q)
+Prints-after a b c before mid after (Err (Write fault)) done more p q =
+    subst (WritesPart {X = Unit {0}} a c before after (Err fault)) (sym (concat-append done more))
+    (WritesPart-after {X = Unit {0}} a b c before mid after (Err fault) (concat done) (concat more) p.0 p.1 q)
+Prints-after a b c before mid after (Err OutOfMemory) done more p (k, low, q) =
+    let lines = take-append-add done more k in
+    let same = sym (concat-append done (take k more)) ∙ ap concat (sym lines) in
+    let size = length-append done more in (
+      length done + k,
+      omega (arith, low, size),
+      subst (WritesPart {X = Unit {0}} a c before after (Ok tt)) same
+          (WritesPart-after {X = Unit {0}} a b c before mid after (Ok tt) (concat done) (concat (take k more)) p.0 p.1 q),
+    )
 
--- a fault in a line, after lines that were printed, is a fault of all lines
-pub Prints-fault : (X Y : Type 0) (a b c : Option (List ℕ)) (mid after : ℕ) (f : AnswerFault)
-    (done rest : List (List ℕ)) (line : List ℕ) → Printed a b 0 mid done
-    → Prints {X = X} (WritesPart b c mid after) (Err f) (line ∷ [])
-    → Prints {X = Y} (Writes a c) (Err f) (done ++ line ∷ rest)
-Prints-fault X Y a b c mid after (Write fault) done rest line p q =
-    let part : StopsIn b c mid fault line = subst (StopsIn b c mid fault) (append-nil line) q.0 in
-    let whole = StopsIn-middle a b c 0 mid fault (concat done) line (concat rest) p.0 p.1 part in
-    subst (StopsIn a c 0 fault) (sym (concat-append done (line ∷ rest))) whole
-Prints-fault X Y a b c mid after OutOfMemory done rest line p (k, low, w) =
-    let none : k ≡ 0 = omega arith in
-    let same : Appends b c [] = subst (λ (j : ℕ). Appends b c (concat (take j (line ∷ [])))) none w.0 in
-    let all : Appends a c (concat done ++ []) = Appends-trans a b c (concat done) [] p.0 same in
-    let size = length-append done (line ∷ rest) in
-    let taken = ap concat (sym (take-append_seam done (line ∷ rest))) in
-    (length done, omega arith, subst (Appends a c) (append-nil (concat done) ∙ taken) all)
+-- a fault among lines is a fault among these and more
+pub Prints-fault : (X Y : Type 0) (a c : Option (List ℕ)) (before after : ℕ) (f : AnswerFault)
+    (lines more : List (List ℕ)) → PrintsPart {X = X} a c before after (Err f) lines
+    → PrintsPart {X = Y} a c before after (Err f) (lines ++ more)
+Prints-fault X Y a c before after (Write fault) lines more ((n, low, told, wrote), count) =
+    let bytes = concat-append lines more in
+    let size = length-append (concat lines) (concat more) in
+    let taken = take-append-le n (concat lines) (concat more) (omega (arith, low)) in
+    let front = sym taken ∙ ap (take n) (sym bytes) in
+    let whole = ap length bytes ∙ size in
+    ((n, omega (arith, low, whole), told, subst (Appends a c) front wrote), count)
+Prints-fault X Y a c before after OutOfMemory lines more (k, low, wrote) =
+    let size = length-append lines more in
+    let front = ap concat (sym (take-append-le k lines more (omega (arith, low)))) in
+    (k, omega (arith, low, size), subst (WritesPart {X = Unit {0}} a c before after (Ok tt)) front wrote)
 
--- the line of one more note
-pub map-more : (notes : List NoteParts) (i : ℕ) (n : NoteParts) → i < length notes → n ≡ get_or notes i n
-    → map note_line (take i notes) ++ note_line n ∷ [] ≡ map note_line (take (i + 1) notes)
-map-more notes i n h is =
-    let here : note_line n ≡ note_line (get_or notes i n) = ap note_line is in
-    let more = sym (map-append note_line (take i notes) (get_or notes i n ∷ [])) in
-    let taken : take i notes ++ get_or notes i n ∷ [] ≡ take (i + 1) notes = rw add-one (sym (take-suc notes i n h)) in
-    ap (λ (l : List ℕ). map note_line (take i notes) ++ l ∷ []) here ∙ more ∙ ap (map note_line) taken
+-- what is answered of all lines, from the first on
+pub Prints-whole : {X : Type 0} (a c : Option (List ℕ)) (before after : ℕ) (r : Result X AnswerFault)
+    (lines : List (List ℕ)) → before ≡ 0 → PrintsPart a c before after r lines → Prints (Writes a c) r lines
+Prints-whole a c before after (Ok x) lines e q = q.0
+Prints-whole a c before after (Err (Write fault)) lines e q =
+    subst (λ (k : ℕ). StopsIn a c k fault (concat lines)) e q.0
+Prints-whole a c before after (Err OutOfMemory) lines e (k, low, q) = (k, low, q.0)
 
--- the line of a note stands after those before it
-pub map-at : (notes : List NoteParts) (i : ℕ) (n : NoteParts) → i < length notes → n ≡ get_or notes i n
-    → map note_line (take i notes) ++ note_line n ∷ map note_line (drop (suc i) notes) ≡ map note_line notes
-map-at notes i n h is =
-    let rest = drop (suc i) notes in
-    let here : note_line n ≡ note_line (get_or notes i n) = ap note_line is in
-    let parts = sym (map-append note_line (take i notes) (get_or notes i n ∷ rest)) in
-    let joined = ap (λ (l : List NoteParts). take i notes ++ l) (sym (drop-cons notes i n h)) in
-    let whole = joined ∙ take-append-drop i notes in
-    ap (λ (l : List ℕ). map note_line (take i notes) ++ l ∷ map note_line rest) here ∙ parts ∙ ap (map note_line) whole
+-- the same where the lines are found to be these
+pub Prints-next : {X : Type 0} (a b c : Option (List ℕ)) (before mid after : ℕ) (r : Result X AnswerFault)
+    (seen done more : List (List ℕ)) → seen ≡ done → Printed a b before mid seen → PrintsPart b c mid after r more
+    → PrintsPart a c before after r (done ++ more)
+Prints-next a b c before mid after r seen done more e p q =
+    Prints-after a b c before mid after r done more (subst (Printed a b before mid) e p) q
 
-pub one_more : (a b c : Option (List ℕ)) (before mid after : ℕ) (notes : List NoteParts) (i : ℕ) (n : NoteParts)
-    → i < length notes → n ≡ get_or notes i n → Printed a b before mid (map note_line (take i notes))
-    → Printed b c mid after (note_line n ∷ []) → Printed a c before after (map note_line (take (i + 1) notes))
-one_more a b c before mid after notes i n h is p q =
-    subst (Printed a c before after) (map-more notes i n h is)
-    (Printed-after a b c before mid after (map note_line (take i notes)) (note_line n ∷ []) p q)
+pub Prints-stopped : (X Y : Type 0) (a c : Option (List ℕ)) (before after : ℕ) (f : AnswerFault)
+    (seen lines more : List (List ℕ)) → seen ≡ lines → PrintsPart {X = X} a c before after (Err f) seen
+    → PrintsPart {X = Y} a c before after (Err f) (lines ++ more)
+Prints-stopped X Y a c before after f seen lines more e p =
+    Prints-fault X Y a c before after f lines more
+    (subst (λ (ls : List (List ℕ)). PrintsPart {X = X} a c before after (Err f) ls) e p)
 
--- a fault in the first line is a fault of the piece's lines
-pub first_fault : (X Y : Type 0) (a c : Option (List ℕ)) (start after : ℕ) (f : AnswerFault) (offset : ℕ)
-    (seen notes : List NoteParts) (found stop : Stop) → seen ≡ notes → found ≡ stop → start ≡ 0
-    → Prints {X = X} (WritesPart a c start after) (Err f) (piece_line offset (length seen) found ∷ [])
-    → Prints {X = Y} (Writes a c) (Err f) (lines_of offset notes stop)
-first_fault X Y a c start after f offset seen notes found stop seen-is found-is start-is q =
-    subst (λ (ls : List (List ℕ)). Prints {X = Y} (Writes a c) (Err f) ls)
-    (λ i. lines_of offset (seen-is i) (found-is i))
-    (Prints-fault X Y a a c start after f [] (map note_line seen) (piece_line offset (length seen) found)
-    (none_printed a start start-is) q)
+-- Lines of some items that are printed one after another: whatever is answered of those to come, it is answered of all.
+pub record Leads (a : Option (List ℕ)) (before : ℕ) (all : List (List ℕ)) (b : Option (List ℕ)) (mid : ℕ)
+    (left : List (List ℕ)) : Type 0 where
+  pub leads : (c : Option (List ℕ)) (after : ℕ) (r : Result (Unit {0}) AnswerFault)
+      → PrintsPart b c mid after r left → PrintsPart a c before after r all
 
--- a fault in the line of a note is a fault of the piece's lines
-pub note_fault : (X Y : Type 0) (a b c d : Option (List ℕ)) (start first mid after : ℕ) (f : AnswerFault) (offset : ℕ)
-    (seen notes : List NoteParts) (found stop : Stop) (i : ℕ) (n : NoteParts) → seen ≡ notes → found ≡ stop → start ≡ 0
-    → i < length seen → n ≡ get_or seen i n
-    → Printed a b start first (piece_line offset (length seen) found ∷ [])
-    → Printed b c first mid (map note_line (take i seen))
-    → Prints {X = X} (WritesPart c d mid after) (Err f) (note_line n ∷ [])
-    → Prints {X = Y} (Writes a d) (Err f) (lines_of offset notes stop)
-note_fault X Y a b c d start first mid after f offset seen notes found stop i n seen-is found-is start-is h is p q r =
-    let piece = piece_line offset (length seen) found in
-    let begun : Printed a b 0 first (piece ∷ []) = subst (λ (k : ℕ). Printed a b k first (piece ∷ [])) start-is p in
-    let done = Printed-after a b c 0 first mid (piece ∷ []) (map note_line (take i seen)) begun q in
-    let rest = map note_line (drop (suc i) seen) in
-    let whole = ap (λ (ls : List (List ℕ)). piece ∷ ls) (map-at seen i n h is) in
-    subst (λ (ls : List (List ℕ)). Prints {X = Y} (Writes a d) (Err f) ls)
-    (whole ∙ (λ j. lines_of offset (seen-is j) (found-is j)))
-    (Prints-fault X Y a c d mid after f (piece ∷ map note_line (take i seen)) rest (note_line n) done r)
+-- none was printed yet
+pub leads_first : {X : Type 0} (a : Option (List ℕ)) (before : ℕ) (lines : X → List (List ℕ)) (items all : List X)
+    → items ≡ all → Leads a before (flat_map lines all) a before (flat_map lines items)
+leads_first a before lines items all e = record {
+  leads = λ c after r q. subst (λ xs. PrintsPart a c before after r (flat_map lines xs)) e q;
+}
 
--- all lines of the piece were printed
-pub all_printed : (a b c : Option (List ℕ)) (start first mid i offset : ℕ) (seen notes : List NoteParts)
-    (found stop : Stop) → seen ≡ notes → found ≡ stop → start ≡ 0 → length seen ≤ i
-    → Printed a b start first (piece_line offset (length seen) found ∷ [])
-    → Printed b c first mid (map note_line (take i seen)) → Appends a c (concat (lines_of offset notes stop))
-all_printed a b c start first mid i offset seen notes found stop seen-is found-is start-is h p q =
-    let piece = piece_line offset (length seen) found in
-    let begun : Printed a b 0 first (piece ∷ []) = subst (λ (k : ℕ). Printed a b k first (piece ∷ [])) start-is p in
-    let done = Printed-after a b c 0 first mid (piece ∷ []) (map note_line (take i seen)) begun q in
-    let all = ap (λ (ns : List NoteParts). piece ∷ map note_line ns) (take_all i seen h) in
-    let lines = all ∙ (λ j. lines_of offset (seen-is j) (found-is j)) in
-    subst (λ (ls : List (List ℕ)). Appends a c (concat ls)) lines done.0
+-- those of one more item were printed
+pub leads_on : {X : Type 0} (a b c : Option (List ℕ)) (before mid next : ℕ) (all : List (List ℕ))
+    (lines : X → List (List ℕ)) (items : List X) (x : X) (rest : List X) → items ≡ x ∷ rest
+    → Leads a before all b mid (flat_map lines items) → Printed b c mid next (lines x)
+    → Leads a before all c next (flat_map lines rest)
+leads_on a b c before mid next all lines items x rest e led p = record {
+  leads = λ d after r q. led.leads d after r (subst (λ xs. PrintsPart b d mid after r (flat_map lines xs)) (sym e)
+      (Prints-after b c d mid next after r (lines x) (flat_map lines rest) p q));
+}
+
+-- a fault among those of the next item
+pub leads_fault : {X : Type 0} (a b c : Option (List ℕ)) (before mid after : ℕ) (f : AnswerFault) (all : List (List ℕ))
+    (lines : X → List (List ℕ)) (items : List X) (x : X) (rest : List X) → items ≡ x ∷ rest
+    → Leads a before all b mid (flat_map lines items) → PrintsPart {X = Unit {0}} b c mid after (Err f) (lines x)
+    → PrintsPart {X = Unit {0}} a c before after (Err f) all
+leads_fault a b c before mid after f all lines items x rest e led p =
+    led.leads c after (Err f) (subst (λ xs. PrintsPart {X = Unit {0}} b c mid after (Err f) (flat_map lines xs)) (sym e)
+    (Prints-fault (Unit {0}) (Unit {0}) b c mid after f (lines x) (flat_map lines rest) p))
+
+-- no item is left
+pub leads_last : {X : Type 0} (a b : Option (List ℕ)) (before mid : ℕ) (all : List (List ℕ))
+    (lines : X → List (List ℕ)) (items : List X) → items ≡ [] → mid < 2 ^ 64
+    → Leads a before all b mid (flat_map lines items) → Printed a b before mid all
+leads_last a b before mid all lines items e h led =
+    led.leads b mid (Ok tt) (subst (λ xs. Printed b b mid mid (flat_map lines xs)) (sym e) (none_printed b mid h))
+
+-- the item at a place is the next
+pub next_item : {X : Type 0} (items : List X) (i : ℕ) (d : X) → i < length items
+    → drop i items ≡ get_or items i d ∷ drop (i + 1) items
+next_item items i d h = rw add-one (drop-cons items i d h)
+
+-- past the last place none is left
+pub none_left : {X : Type 0} (items : List X) (i : ℕ) → length items ≤ i → drop i items ≡ []
+none_left items i h = nil_from_length (drop i items) (length-drop i items ∙ omega (arith, h))
+
+-- a fault among all lines, whatever else the call would answer
+pub Prints-failed : (X Y : Type 0) (a c : Option (List ℕ)) (before after : ℕ) (f : AnswerFault)
+    (lines : List (List ℕ)) → before ≡ 0 → PrintsPart {X = X} a c before after (Err f) lines
+    → Prints {X = Y} (Writes a c) (Err f) lines
+Prints-failed X Y a c before after (Write fault) lines e q =
+    subst (λ (k : ℕ). StopsIn a c k fault (concat lines)) e q.0
+Prints-failed X Y a c before after OutOfMemory lines e (k, low, q) = (k, low, q.0)

@@ -1,4 +1,6 @@
 pub mod Exits
 pub mod Hexadecimal
 pub mod Lines
+pub mod PartitionLines
+pub mod Printing
 pub mod Sources

@@ -1,6 +1,5 @@
--- The lines that `show` prints of a piece (this project's profile). Numbers are decimal.
-use Rattle.std.specs.Prelude.{ℕ, ◌<◌, List, [], ◌∷◌, ◌++◌, length, map, take, codes, Result, Ok, Err}
-use Rattle.std.specs.List.{concat}
+-- The texts of the lines that are printed (this project's profile). Numbers are decimal.
+use Rattle.std.specs.Prelude.{ℕ, Bool, true, false, List, [], ◌∷◌, ◌++◌, codes, Option, None, Some}
 use Rattle.std.specs.Fmt.{decimal}
 use Rattle.mxf_klv.specs.Kind.{kind_of}
 use Rattle.mxf_klv.specs.Parts.{NoteParts}
@@ -10,10 +9,11 @@ use Rattle.mxf_klv.specs.declared.kinds.Kind.TheVariants.{Identification, Conten
 use Rattle.mxf_klv.specs.declared.kinds.Kind.TheVariants.{SourcePackage, RawSet, Fill, Essence, Other}
 use Rattle.mxf_klv.specs.declared.piece.Stop.{Stop}
 use Rattle.mxf_klv.specs.declared.piece.Stop.TheVariants.{End, NotUl, BadLength, TooFar, Truncated}
-use Rattle.mxf_klv.specs.declared.writing.WriteFault.{WriteFault}
+use Rattle.mxf_catalogue.specs.declared.run.Run.{Run}
+use Rattle.mxf_views.specs.declared.chain.Chain.{Chain}
+use Rattle.mxf_views.specs.declared.chain.Chain.TheVariants.{Whole, Broken}
+use Rattle.mxf_views.specs.declared.copy.CopyInfo.{CopyInfo}
 use Rattle.mxf_tool.specs.Hexadecimal.{hex_of}
-use Rattle.mxf_tool.specs.declared.printing.AnswerFault.{AnswerFault}
-use Rattle.mxf_tool.specs.declared.printing.AnswerFault.TheVariants.{OutOfMemory, Write}
 
 -- The name of a kind.
 abbrev pub kind_name : Kind → List ℕ
@@ -41,6 +41,12 @@ stop_text (BadLength at) = codes "bad-length " ++ decimal at
 stop_text (TooFar at) = codes "too-far " ++ decimal at
 stop_text (Truncated at) = codes "truncated " ++ decimal at
 
+-- These words, with a space between them.
+abbrev pub spaced : List (List ℕ) → List ℕ
+spaced [] = []
+spaced (word ∷ []) = word
+spaced (word ∷ next ∷ words) = word ++ (codes " " ++ spaced (next ∷ words))
+
 -- The line with these parts: a space stands between them, and a newline at the end.
 abbrev pub line_of : List (List ℕ) → List ℕ
 line_of [] = codes "\n"
@@ -52,20 +58,48 @@ unfoldable pub piece_line : ℕ → ℕ → Stop → List ℕ
 piece_line offset count stop =
     line_of (codes "piece" ∷ decimal offset ∷ codes "noted" ∷ decimal count ∷ codes "stop" ∷ stop_text stop ∷ [])
 
--- The line of a note: its offset, its kind, the width and value of its length, and its key.
-unfoldable pub note_line : NoteParts → List ℕ
-note_line n =
+-- What stands after the key of a note, where it is disputed.
+abbrev pub dispute_mark : Bool → List ℕ
+dispute_mark false = []
+dispute_mark true = codes " disputed"
+
+-- The line of a note: its offset, its kind, the width and value of its length, its key, and whether it is disputed.
+unfoldable pub note_line : NoteParts → Bool → List ℕ
+note_line n disputed =
     line_of (codes "note" ∷ decimal n.offset ∷ kind_name (kind_of n.key) ∷ decimal n.width ∷ decimal n.length
-    ∷ hex_of n.key ∷ [])
+    ∷ (hex_of n.key ++ dispute_mark disputed) ∷ [])
 
--- The lines of a piece: its own, and one for each of its notes.
-abbrev pub lines_of : ℕ → List NoteParts → Stop → List (List ℕ)
-lines_of offset notes stop = piece_line offset (length notes) stop ∷ map note_line notes
+-- The line of a gap: where it begins and ends.
+unfoldable pub gap_line : Run → List ℕ
+gap_line gap = line_of (codes "gap" ∷ decimal gap.start ∷ decimal gap.end ∷ [])
 
--- What a call that prints lines answers, where `Wrote` says what a writer took: all bytes of the lines; or the writer
--- failed among them; or memory ran out, after some whole lines and before the last.
-abbrev pub Prints : {X : Type 0} → (Result (Unit {0}) WriteFault → List ℕ → Type 0) → Result X AnswerFault
-    → List (List ℕ) → Type 0
-Prints Wrote (Ok x) lines = Wrote (Ok tt) (concat lines)
-Prints Wrote (Err (Write fault)) lines = Wrote (Err fault) (concat lines)
-Prints Wrote (Err OutOfMemory) lines = (k : ℕ) × (k < length lines) × Wrote (Ok tt) (concat (take k lines))
+abbrev pub chain_name : Chain → List ℕ
+chain_name Whole = codes "whole"
+chain_name Broken = codes "broken"
+
+-- The line of the chain of the partitions.
+unfoldable pub chain_line : Chain → List ℕ
+chain_line chain = line_of (codes "chain" ∷ chain_name chain ∷ [])
+
+-- An offset, or the word for none.
+abbrev pub offset_text : Option ℕ → List ℕ
+offset_text None = codes "none"
+offset_text (Some offset) = decimal offset
+
+abbrev pub finished_word : Bool → List ℕ
+finished_word true = codes "finished"
+finished_word false = codes "unfinished"
+
+-- The line of a copy: its partition, its start, the bytes stated and covered, and whether it is finished.
+unfoldable pub copy_line : CopyInfo → List ℕ
+copy_line copy =
+    line_of (codes "copy" ∷ decimal copy.partition ∷ codes "start" ∷ offset_text copy.start ∷ codes "bytes"
+    ∷ decimal copy.bytes ∷ codes "covered" ∷ decimal copy.covered ∷ finished_word copy.finished ∷ [])
+
+abbrev pub partition_offset : Option CopyInfo → Option ℕ
+partition_offset None = None
+partition_offset (Some copy) = Some copy.partition
+
+-- The line of the preferred copy: its partition.
+unfoldable pub preferred_line : Option CopyInfo → List ℕ
+preferred_line copy = line_of (codes "preferred" ∷ offset_text (partition_offset copy) ∷ [])

@@ -1,18 +1,20 @@
 //! Printing the packets of a piece.
-ghost use Rattle.std.specs.Prelude.{◌≡◌, ◌^◌, ◌<◌, ◌∷◌, [], IfOk, IfSome};
+ghost use Rattle.std.specs.Prelude.{◌≡◌, IfOk};
 ghost use Rattle.mxf_klv.specs.PieceReading.{notes_in, stop_in};
-ghost use Rattle.mxf_klv.specs.Written.{Puts, Writes};
-ghost use Rattle.mxf_tool.specs.Lines.{Prints, lines_of};
+ghost use Rattle.mxf_klv.specs.Written.{Writes};
+ghost use Rattle.mxf_tool.specs.Printing.{Prints, lines_of};
 ghost use Rattle.mxf_tool.specs.declared.printing.AnswerFault.TheVariants as faults;
 
+mod group;
 pub mod hexadecimal;
 mod line;
+mod printer;
 
 use crate::walking::walk;
-use line::{NoteLine, PieceLine};
-use mxf_klv::{OutOfMemory, Progress, WriteFault};
+use line::PieceLine;
+use mxf_klv::{OutOfMemory, WriteFault};
+use printer::Printer;
 use std::alloc::{AllocError, Global};
-use std::fmt::Display;
 use std::io::Write;
 use thiserror::Error;
 
@@ -49,43 +51,7 @@ impl From<WriteFault> for AnswerFault {
     }
 }
 
-/// Lines that are written one after another, each made in the same text.
-#[derive(Drop)]
-struct Printer {
-    progress: Progress,
-    line: String,
-
-    ghost in_range: { progress.written < 2 ^ 64 },
-}
-
-impl Printer {
-    /// No line is written yet.
-    fn new(alloc: Global) -> Printer
-        ensures { result.progress.written ≡ 0 }
-    {
-        Printer {
-            progress: Progress::new(),
-            line: String::new(alloc),
-        }
-    }
-
-    /// Prints a line.
-    fn print<W: Write, L: Display + Drop>(
-        &mut self,
-        writer: &mut W,
-        line: L,
-    ) -> Result<(), AnswerFault>
-        ensures { IfSome (L.output line) (λ text.
-            Prints (Puts W.contents writer.old writer.new self.old.progress self.new.progress) result (text ∷ [])) }
-    {
-        self.line.clear();
-        write!(self.line, "{line}")?;
-        self.progress.put(writer, self.line.as_bytes())?;
-        Ok(())
-    }
-}
-
-/// Prints the piece's line and a line for each of its notes, and answers 0.
+/// Prints the piece's line, and the lines of the content that its notes make; answers 0.
 ///
 /// After want of memory some whole lines have been written; after a write fault the first bytes, which it counts.
 pub fn show_slice<W: Write>(
@@ -99,16 +65,14 @@ pub fn show_slice<W: Write>(
         (lines_of offset (notes_in offset bytes.now) (stop_in offset bytes.now)) }
 {
     let found = walk(alloc, offset, bytes)?;
-    let notes = found.notes.as_slice();
     let piece = PieceLine {
         offset,
-        count: notes.len(),
+        count: found.notes.as_slice().len(),
         stop: found.stop,
     };
+    let views = found.notes.into_views(alloc)?;
     let mut printer = Printer::new(alloc);
     printer.print(writer, piece)?;
-    'notes: for note in notes {
-        printer.print(writer, NoteLine(note))?;
-    }
+    printer.print_views(writer, &views)?;
     Ok(0)
 }

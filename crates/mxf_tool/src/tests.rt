@@ -27,7 +27,13 @@ const WORKED_FILE: &[u8; 264] = b"\
 const WORKED_LINES: &str = "piece 0 noted 3 stop end\n\
 note 0 header 4 88 060e2b34020501010d01020101020400\n\
 note 108 footer 4 88 060e2b34020501010d01020101040400\n\
-note 216 rip 4 28 060e2b34020501010d01020101110100\n";
+note 216 rip 4 28 060e2b34020501010d01020101110100\n\
+partition 0 header closed-complete version 1.3 kag 1 this 0 previous 0 footer 108 header-bytes 0 index-bytes 0 \
+index-sid 0 body-offset 0 body-sid 0 pattern OP1a 01 link first\n\
+partition 108 footer closed-complete version 1.3 kag 1 this 108 previous 0 footer 108 header-bytes 0 index-bytes 0 \
+index-sid 0 body-offset 0 body-sid 0 pattern OP1a 01 link held\n\
+chain whole\n\
+preferred none\n";
 
 /// How many packets the bytes at an offset have, and the stop.
 fn walked(alloc: Global, offset: u64, bytes: &[u8]) -> Result<(usize, Stop), Fail> {
@@ -172,7 +178,7 @@ fn the_worked_file_prints_its_lines(rt: HostRuntime) -> Result<(), Fail> {
 #[test]
 fn lines_that_fail_have_been_written_up_to_there(rt: HostRuntime) -> Result<(), Fail> {
     let lines = WORKED_LINES.as_bytes();
-    for room in [0usize, 1, 24, 25, 26, 100] {
+    for room in [0usize, 1, 24, 25, 26, 100, 190] {
         let mut writer = Narrow {
             taken: Vec::new(rt.alloc()),
             room,

@@ -1,8 +1,10 @@
 //! Taking the packets of a piece, one after another.
 ghost use Rattle.std.specs.Prelude.{◌≡◌, ◌++◌, ◌∷◌, [], IfOk, OnOk, length};
 ghost use Rattle.mxf_klv.specs.PieceReading.{notes_in, stop_in};
+ghost use Rattle.mxf_tool.specs.Printing.{content_of};
 
 use mxf_klv::{Note, OutOfMemory, Stop, next_packet};
+use mxf_views::Views;
 use std::alloc::Global;
 use std::marker::Model;
 
@@ -44,6 +46,19 @@ impl NoteList {
         ensures { result.now ≡ self.now }
     {
         self.items.as_slice()
+    }
+
+    /// The views of the notes.
+    pub fn into_views(self, alloc: Global) -> Result<Views, OutOfMemory>
+        ensures { IfOk result (λ views. views ≡ content_of self) }
+    {
+        let mut views = Views::new(alloc);
+        'notes: for note in self.items {
+            let Ok(_) = views.add(note) else {
+                return Err(OutOfMemory);
+            };
+        }
+        Ok(views)
     }
 }
 

@@ -107,7 +107,8 @@ impl Views {
         Some(self.link_of(&partition))
     }
 
-    fn link_of(&self, partition: &PartitionAt<'_>) -> Link
+    /// How a partition names the one before it, among the partitions of these views.
+    pub fn link_of(&self, partition: &PartitionAt<'_>) -> Link
         ensures { result ≡ link_of (partitions_of self.now) partition.now }
     {
         let offset = partition.offset;

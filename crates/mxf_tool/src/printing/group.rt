@@ -1,0 +1,22 @@
+//! The groups of lines that views print.
+
+/// A group of lines: those of one view.
+#[derive(Clone, Copy, Debug)]
+pub enum Group {
+    Notes,
+    Gaps,
+    Partitions,
+    Chain,
+    Copies,
+    Preferred,
+}
+
+/// The groups in the order in which they are printed.
+pub const GROUPS: [Group; 6] = [
+    Group::Notes,
+    Group::Gaps,
+    Group::Partitions,
+    Group::Chain,
+    Group::Copies,
+    Group::Preferred,
+];

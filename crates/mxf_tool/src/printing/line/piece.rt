@@ -1,0 +1,50 @@
+//! The line of a piece.
+use mxf_klv::Stop;
+use std::fmt;
+
+/// A stop that prints as why it is, and at which offset.
+#[derive(Clone, Copy)]
+struct StopText(Stop);
+
+impl fmt::Display for StopText {
+    ghost use Rattle.std.specs.Prelude.{Some};
+    ghost use Rattle.mxf_tool.specs.Lines.{stop_text};
+
+    ghost output = { λ s. Some (stop_text s.0) };
+
+    fn fmt<W: fmt::Write>(&self, f: &mut fmt::Formatter<W>) -> fmt::Result {
+        match self.0 {
+            Stop::End => f.write_str("end"),
+            Stop::NotUl(at) => write!(f, "not-ul {at}"),
+            Stop::BadLength(at) => write!(f, "bad-length {at}"),
+            Stop::TooFar(at) => write!(f, "too-far {at}"),
+            Stop::Truncated(at) => write!(f, "truncated {at}"),
+        }
+    }
+}
+
+/// The line of a piece: its offset in bytes, the number of its notes, and why they end.
+#[derive(Clone, Copy)]
+pub struct PieceLine {
+    pub offset: u64,
+    pub count: usize,
+    pub stop: Stop,
+}
+
+impl fmt::Display for PieceLine {
+    ghost use Rattle.std.specs.Prelude.{Some};
+    ghost use Rattle.mxf_tool.specs.Lines.{piece_line};
+
+    ghost output = { λ l. Some (piece_line l.offset l.count l.stop) };
+
+    #[tactic(auto, unfolding(crate::specs::Lines::piece_line))]
+    fn fmt<W: fmt::Write>(&self, f: &mut fmt::Formatter<W>) -> fmt::Result {
+        let PieceLine {
+            offset,
+            count,
+            stop,
+        } = *self;
+        let stop = StopText(stop);
+        writeln!(f, "piece {offset} noted {count} stop {stop}")
+    }
+}
