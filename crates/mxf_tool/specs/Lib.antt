@@ -1,5 +1,6 @@
 pub mod Exits
 pub mod Hexadecimal
+pub mod ItemLines
 pub mod Lines
 pub mod PartitionLines
 pub mod Printing

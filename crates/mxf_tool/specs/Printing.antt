@@ -5,7 +5,7 @@ use Rattle.mxf_klv.specs.Parts.{NoteParts}
 use Rattle.mxf_klv.specs.declared.piece.Stop.{Stop}
 use Rattle.mxf_klv.specs.declared.writing.WriteFault.{WriteFault}
 use Rattle.mxf_catalogue.specs.Content.{union_of}
-use Rattle.mxf_catalogue.specs.Disputes.{is_disputed}
+use Rattle.mxf_catalogue.specs.Disputes.{clear_notes, is_disputed}
 use Rattle.mxf_views.specs.Copies.{copies_of, preferred_of}
 use Rattle.mxf_views.specs.Gaps.{gaps_of}
 use Rattle.mxf_views.specs.Partitions.{chain_of, partitions_of}
@@ -14,13 +14,15 @@ use Rattle.mxf_tool.specs.declared.printing.AnswerFault.TheVariants.{OutOfMemory
 use Rattle.mxf_tool.specs.declared.printing.group.Group.{Group}
 use Rattle.mxf_tool.specs.declared.printing.group.Group.TheVariants as groups
 use Rattle.mxf_tool.specs.Lines.{chain_line, copy_line, gap_line, note_line, piece_line, preferred_line}
+use Rattle.mxf_tool.specs.ItemLines.{set_lines}
 use Rattle.mxf_tool.specs.PartitionLines.{partition_lines}
 
 -- The content that the notes of a piece make.
 abbrev pub content_of : List NoteParts → List NoteParts
 content_of notes = union_of [] notes
 
--- The lines of a group: of each note, gap, partition and copy, of the chain, and of the preferred copy.
+-- The lines of a group: of each note, gap, partition and copy, of the chain, of the preferred copy, and of the items of
+-- each clear set.
 abbrev pub group_lines : List NoteParts → Group → List (List ℕ)
 group_lines content groups.Notes = flat_map (λ n. note_line n (is_disputed n content) ∷ []) content
 group_lines content groups.Gaps = flat_map (λ gap. gap_line gap ∷ []) (gaps_of content)
@@ -28,11 +30,13 @@ group_lines content groups.Partitions = flat_map (partition_lines (partitions_of
 group_lines content groups.Chain = chain_line (chain_of content) ∷ []
 group_lines content groups.Copies = flat_map (λ copy. copy_line copy ∷ []) (copies_of content)
 group_lines content groups.Preferred = preferred_line (preferred_of (copies_of content)) ∷ []
+group_lines content groups.Items = flat_map (set_lines content) (clear_notes content)
 
 -- The groups in their order.
 abbrev pub all_groups : List Group
 all_groups =
-    groups.Notes ∷ groups.Gaps ∷ groups.Partitions ∷ groups.Chain ∷ groups.Copies ∷ groups.Preferred ∷ []
+    groups.Notes ∷ groups.Gaps ∷ groups.Partitions ∷ groups.Chain ∷ groups.Copies ∷ groups.Preferred
+    ∷ groups.Items ∷ []
 
 -- The lines of a content.
 abbrev pub content_lines : List NoteParts → List (List ℕ)

@@ -2,6 +2,8 @@ pub mod Partitions
 pub mod Gaps
 pub mod Spans
 pub mod Copies
+pub mod Labels
+pub mod SetItems
 pub mod References
 pub mod Targets
 pub mod Resolved

@@ -7,19 +7,20 @@ ghost use Rattle.mxf_catalogue.specs.Content.{with_note, union_of};
 ghost use Rattle.mxf_views.specs.Partitions.{partitions_of, link_of, link_at, is_linked, chain_of, is_header, is_footer, is_greatest, is_no_unreadable_pack};
 ghost use Rattle.mxf_views.specs.Gaps.{gaps_of};
 ghost use Rattle.mxf_views.specs.Copies.{copies_of, preferred_of, sets_of};
+ghost use Rattle.mxf_views.specs.Labels.{primer_for, primer_of, primer_there};
 ghost use Rattle.mxf_views.specs.References.{found_in};
 ghost use Rattle.mxf_views.specs.Resolved.{resolved_of};
 
 use crate::chain::{Chain, Link};
 use crate::copy::sets::{Sets, no_sets, sets_of_copy};
-use crate::copy::{Copies, CopyInfo};
+use crate::copy::{Copies, CopyInfo, read_primer};
 use crate::gap::Gaps;
 use crate::partition::{PartitionAt, Partitions, is_no_unreadable_pack};
 use crate::reference::resolved::{Resolved, preface_among, resolved_by};
 use crate::reference::{Found, find_among};
 use mxf_catalogue::{AddFault, Catalogue, Change, Semilattice};
 use mxf_klv::{Note, OutOfMemory};
-use mxf_sets::PackPart;
+use mxf_sets::{PackPart, Primer};
 use std::alloc::Global;
 use std::marker::Model;
 use uuid::Uuid;
@@ -242,6 +243,31 @@ impl Views {
         ensures { result ≡ preferred_of (copies_of self.now) }
     {
         self.copies().preferred()
+    }
+
+    /// The primer pack of the first copy whose bytes have the set: it says what the set's tags stand for. None where no
+    /// copy has the set.
+    #[tactic(auto, unfolding(crate::specs::Labels::primer_for))]
+    pub fn primer_for(&self, set: &Note) -> Option<Primer<'_>>
+        ensures { result ≡ primer_for self.now set.now }
+    {
+        let copy = self.copies().with(set)?;
+        self.primer_of(&copy)
+    }
+
+    /// The primer pack at the start of the copy.
+    fn primer_of(&self, copy: &CopyInfo) -> Option<Primer<'_>>
+        ensures { result ≡ primer_of self.now copy.now }
+    {
+        self.primer_there(copy.start?)
+    }
+
+    /// The primer pack of the clear note at a file offset.
+    fn primer_there(&self, offset: u64) -> Option<Primer<'_>>
+        ensures { result ≡ primer_there self.now offset }
+    {
+        let note = self.catalogue.clear_at(offset)?;
+        read_primer(note)
     }
 
     /// What is found of an instance identifier among the sets of the copy of a partition.

@@ -9,14 +9,16 @@ pub enum Group {
     Chain,
     Copies,
     Preferred,
+    Items,
 }
 
 /// The groups in the order in which they are printed.
-pub const GROUPS: [Group; 6] = [
+pub const GROUPS: [Group; 7] = [
     Group::Notes,
     Group::Gaps,
     Group::Partitions,
     Group::Chain,
     Group::Copies,
     Group::Preferred,
+    Group::Items,
 ];

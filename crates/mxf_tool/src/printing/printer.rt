@@ -4,6 +4,7 @@ ghost use Rattle.std.specs.List.{flat_map};
 ghost use Rattle.mxf_catalogue.specs.Disputes.{is_disputed};
 ghost use Rattle.mxf_klv.specs.Rising.{In};
 ghost use Rattle.mxf_klv.specs.Written.{Puts};
+ghost use Rattle.mxf_tool.specs.ItemLines.{item_lines, set_lines};
 ghost use Rattle.mxf_tool.specs.PartitionLines.{container_lines, partition_lines};
 ghost use Rattle.mxf_views.specs.Partitions.{partitions_of};
 ghost use Rattle.mxf_tool.specs.Printing.{Prints, content_lines, group_lines};
@@ -12,12 +13,12 @@ ghost use Rattle.mxf_tool.specs.declared.printing.group.Group.TheVariants as gro
 use super::AnswerFault;
 use super::group::{GROUPS, Group};
 use super::line::{
-    ChainLine, ContainerLine, CopyLine, GapLine, NoteLine, PartitionLine, PreferredLine,
+    ChainLine, ContainerLine, CopyLine, GapLine, ItemLine, NoteLine, PartitionLine, PreferredLine,
 };
 use mxf_catalogue::Catalogue;
 use mxf_klv::{Note, Progress};
-use mxf_sets::Batch;
-use mxf_views::{PartitionAt, Views};
+use mxf_sets::{Batch, Items, Primer};
+use mxf_views::{PartitionAt, Views, set_items};
 use std::alloc::Global;
 use std::fmt::Display;
 use std::io::Write;
@@ -102,6 +103,7 @@ impl Printer {
             Group::Chain => self.print(writer, ChainLine(views.chain())),
             Group::Copies => self.print_copies(writer, views),
             Group::Preferred => self.print(writer, PreferredLine(views.preferred())),
+            Group::Items => self.print_sets(writer, views),
         }
     }
 
@@ -184,6 +186,56 @@ impl Printer {
     {
         'each: for copy in views.copies() {
             self.print(writer, CopyLine(copy))?;
+        }
+        Ok(())
+    }
+
+    /// Prints the lines of the items of each clear set.
+    fn print_sets<W: Write>(&mut self, writer: &mut W, views: &Views) -> Result<(), AnswerFault>
+        ensures { Prints (Puts W.contents writer.old writer.new self.old.progress self.new.progress) result
+            (group_lines views.now groups.Items) }
+    {
+        'each: for note in views.catalogue().clear() {
+            self.print_set(writer, views, note)?;
+        }
+        Ok(())
+    }
+
+    /// Prints a line for each item of a set, and none where the note has no items.
+    fn print_set<W: Write>(
+        &mut self,
+        writer: &mut W,
+        views: &Views,
+        note: &Note,
+    ) -> Result<(), AnswerFault>
+        ensures { Prints (Puts W.contents writer.old writer.new self.old.progress self.new.progress) result
+            (set_lines views.now note.now) }
+    {
+        let Some(items) = set_items(note) else {
+            return Ok(());
+        };
+        self.print_items(writer, note.offset(), &views.primer_for(note), items)
+    }
+
+    /// Prints a line for each item of the set at an offset.
+    fn print_items<W: Write>(
+        &mut self,
+        writer: &mut W,
+        offset: u64,
+        primer: &Option<Primer<'_>>,
+        items: Items<'_>,
+    ) -> Result<(), AnswerFault>
+        ensures { Prints (Puts W.contents writer.old writer.new self.old.progress self.new.progress) result
+            (item_lines offset primer.now items.entry) }
+    {
+        'each: for item in items {
+            let item = &item;
+            let line = ItemLine {
+                offset,
+                primer,
+                item,
+            };
+            self.print(writer, line)?;
         }
         Ok(())
     }
