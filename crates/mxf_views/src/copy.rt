@@ -8,7 +8,7 @@ ghost use Rattle.mxf_views.specs.Labels.{is_in_copy};
 ghost use Rattle.mxf_sets.specs.PackReadings.{primer_at};
 ghost use Rattle.mxf_sets.specs.Readable.{read_as};
 ghost use Rattle.mxf_klv.specs.Rising.{In};
-ghost use Rattle.mxf_views.specs.Copies.{IsBest, IsCopy, IsPreferred, IsStart, copies_of};
+ghost use Rattle.mxf_views.specs.Copies.{CopiesRise, IsBest, IsCopy, IsPreferred, IsStart, copies_of};
 ghost use Rattle.mxf_views.specs.declared.copy.CopyInfo.{CopyInfo};
 ghost use Rattle.std.specs.Iterator.{YieldsFirst, item_count};
 ghost use Rattle.mxf_catalogue.specs.Disputes.{AreApart, clear_notes};
@@ -294,5 +294,6 @@ pub fn preferred_by_definition()
 
 /// A law of [`Views::copies`](crate::Views::copies): they are the copies of the partitions that have header metadata.
 pub fn copies_by_definition()
-    ensures { (notes : List NoteParts) (c : CopyInfo) → IsContent notes → In c (copies_of notes) ↔ IsCopy notes c }
+    ensures copies { (notes : List NoteParts) (c : CopyInfo) → IsContent notes → In c (copies_of notes) ↔ IsCopy notes c }
+    ensures rising { (notes : List NoteParts) → IsContent notes → CopiesRise (copies_of notes) }
 {}

@@ -229,11 +229,12 @@ impl Printer {
             (item_lines offset primer.now items.entry) }
     {
         'each: for item in items {
-            let item = &item;
+            // The checker wants the primer lent anew for each line.
+            let primer = &*primer;
             let line = ItemLine {
                 offset,
                 primer,
-                item,
+                item: &item,
             };
             self.print(writer, line)?;
         }
