@@ -31,7 +31,10 @@ impl fmt::Display for LabelText {
 fn front(value: &[u8]) -> &[u8]
     ensures { result.now ≡ take 32 value.now }
 {
-    &value[..32.min(value.len())]
+    match value.split_at_checked(32) {
+        Some((front, _)) => front,
+        None => value,
+    }
 }
 
 /// The first 32 bytes of a value.
