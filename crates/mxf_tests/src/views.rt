@@ -1,4 +1,6 @@
 //! Views of the notes of worked files.
+mod copies;
 mod files;
 mod gaps;
 mod partitions;
+mod preferences;
