@@ -4,3 +4,4 @@ mod files;
 mod gaps;
 mod partitions;
 mod preferences;
+mod references;
