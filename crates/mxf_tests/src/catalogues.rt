@@ -2,8 +2,8 @@
 ghost use Rattle.std.specs.Prelude.{◌≡◌, IfOk, IsTrue, map};
 ghost use Rattle.mxf_catalogue.specs.Disputes.{clear_notes, disputed_notes};
 
-use crate::builders::{label, note_of_file};
-use crate::worked_files::{ESSENCE_KEY, M};
+use crate::builders::{essence, label, note_of_file};
+use crate::worked_files::M;
 use mxf_catalogue::{Catalogue, Change, Semilattice};
 use mxf_klv::{Note, OutOfMemory, Packet, read_packet};
 use std::alloc::{AllocError, Global};
@@ -33,10 +33,6 @@ const ORDERS: [[(u64, u64); 3]; 6] = [
     [C, B, A],
 ];
 
-fn essence(offset: u64, length: u64) -> Result<Note, Fail> {
-    Ok(Note::digested(offset, label(ESSENCE_KEY)?, 1, length, [0; 32]).ok_or("a note")?)
-}
-
 fn add_essence(all: &mut Catalogue, packets: &[(u64, u64)]) -> Result<(), Fail> {
     for (offset, length) in packets {
         all.add(essence(*offset, *length)?)?;
@@ -50,7 +46,7 @@ fn of_m(alloc: Global, offset: usize) -> Result<Note, Fail> {
 }
 
 /// The offsets of the disputed notes, with their marks.
-fn marks(alloc: Global, all: &Catalogue) -> Result<Vec<(u64, bool, bool)>, AllocError>
+pub(crate) fn marks(alloc: Global, all: &Catalogue) -> Result<Vec<(u64, bool, bool)>, AllocError>
     ensures { IfOk result (λ v. v.items ≡ map (λ d. (d.note.offset, d.same_offset, d.overlaps)) (disputed_notes all.now)) }
 {
     all.disputed()

@@ -1,4 +1,7 @@
-//! Worked files and keys, a field a line.
+//! Worked files and keys, a field a line. Files with header metadata are put together from their packets.
+use crate::builders::{joined, packet, set};
+use std::alloc::Global;
+use std::test::Fail;
 
 /// A file of three packets: a header partition at 0, a footer partition at 108, a random index pack at 216.
 #[rattlefmt::skip]
@@ -68,6 +71,46 @@ pub(crate) const ESSENCE_KEY: [u8; 16] = [
     0x06, 0x0E, 0x2B, 0x34, 0x01, 0x02, 0x01, 0x01, 0x0D, 0x01, 0x03, 0x01, 0x15, 0x01, 0x05, 0x00,
 ];
 
+/// The key of the closed and complete body partition pack.
+pub(crate) const BODY_KEY: [u8; 16] = [
+    0x06, 0x0E, 0x2B, 0x34, 0x02, 0x05, 0x01, 0x01, 0x0D, 0x01, 0x02, 0x01, 0x01, 0x03, 0x04, 0x00,
+];
+
+/// The key of the primer pack.
+pub(crate) const PRIMER_KEY: [u8; 16] = [
+    0x06, 0x0E, 0x2B, 0x34, 0x02, 0x05, 0x01, 0x01, 0x0D, 0x01, 0x02, 0x01, 0x01, 0x05, 0x01, 0x00,
+];
+
+/// The key of a Preface.
+pub(crate) const PREFACE_KEY: [u8; 16] = [
+    0x06, 0x0E, 0x2B, 0x34, 0x02, 0x53, 0x01, 0x01, 0x0D, 0x01, 0x01, 0x01, 0x01, 0x01, 0x2F, 0x00,
+];
+
+/// The key of an Identification.
+pub(crate) const IDENTIFICATION_KEY: [u8; 16] = [
+    0x06, 0x0E, 0x2B, 0x34, 0x02, 0x53, 0x01, 0x01, 0x0D, 0x01, 0x01, 0x01, 0x01, 0x01, 0x30, 0x00,
+];
+
+/// The key of a ContentStorage.
+pub(crate) const STORAGE_KEY: [u8; 16] = [
+    0x06, 0x0E, 0x2B, 0x34, 0x02, 0x53, 0x01, 0x01, 0x0D, 0x01, 0x01, 0x01, 0x01, 0x01, 0x18, 0x00,
+];
+
+/// The key of a MaterialPackage.
+pub(crate) const MATERIAL_PACKAGE_KEY: [u8; 16] = [
+    0x06, 0x0E, 0x2B, 0x34, 0x02, 0x53, 0x01, 0x01, 0x0D, 0x01, 0x01, 0x01, 0x01, 0x01, 0x36, 0x00,
+];
+
+/// The key of a SourcePackage.
+pub(crate) const SOURCE_PACKAGE_KEY: [u8; 16] = [
+    0x06, 0x0E, 0x2B, 0x34, 0x02, 0x53, 0x01, 0x01, 0x0D, 0x01, 0x01, 0x01, 0x01, 0x01, 0x37, 0x00,
+];
+
+/// The key of a set that is read as items alone.
+pub(crate) const RAW_SET_KEY: [u8; 16] = [
+    0x06, 0x0E, 0x2B, 0x34, 0x02, 0x53, 0x01, 0x01, 0x0D, 0x01, 0x01, 0x01, 0x01, 0x01, 0x3B, 0x00,
+];
+
 /// The value of M's header partition pack.
 pub(crate) fn header_value() -> &'static [u8] {
     &M[20..108]
@@ -81,4 +124,147 @@ pub(crate) fn footer_value() -> &'static [u8] {
 /// The value of M's random index pack.
 pub(crate) fn rip_value() -> &'static [u8] {
     &M[236..264]
+}
+
+/// The numbers of a partition pack in which the worked files differ. All others are those of M's packs.
+#[derive(Clone, Copy)]
+pub(crate) struct Numbers {
+    pub(crate) this_partition: u64,
+    pub(crate) previous_partition: u64,
+    pub(crate) footer_partition: u64,
+    pub(crate) header_byte_count: u64,
+}
+
+/// The value of a partition pack with these numbers.
+pub(crate) fn partition_value(alloc: Global, numbers: &Numbers) -> Result<Vec<u8>, Fail> {
+    joined(
+        alloc,
+        &[
+            &M[20..28], // the versions and KAGSize
+            &numbers.this_partition.to_be_bytes(),
+            &numbers.previous_partition.to_be_bytes(),
+            &numbers.footer_partition.to_be_bytes(),
+            &numbers.header_byte_count.to_be_bytes(),
+            &M[60..108], // from IndexByteCount on
+        ],
+    )
+}
+
+/// A primer pack of one entry, 46 bytes: the tag 8001 has a label of sixteen bytes AA.
+pub(crate) fn primer(alloc: Global) -> Result<Vec<u8>, Fail> {
+    let value = joined(
+        alloc,
+        &[&[0, 0, 0, 1, 0, 0, 0, 18], &[0x80, 0x01], &[0xAA; 16]],
+    )?;
+    packet(alloc, PRIMER_KEY, &value)
+}
+
+/// A Preface that names no storage, 40 bytes. So its record is refused.
+pub(crate) fn bare_preface(alloc: Global) -> Result<Vec<u8>, Fail> {
+    set(alloc, PREFACE_KEY, &[(0x3C0A, &[0x11; 16])])
+}
+
+/// A Preface that names the storage of sixteen bytes 22, 60 bytes.
+pub(crate) fn preface(alloc: Global) -> Result<Vec<u8>, Fail> {
+    let items: [(u16, &[u8]); 2] = [(0x3C0A, &[0x11; 16]), (0x3B03, &[0x22; 16])];
+    set(alloc, PREFACE_KEY, &items)
+}
+
+/// That storage, which names the packages of sixteen bytes 33 and of sixteen bytes 44, 84 bytes.
+pub(crate) fn storage(alloc: Global) -> Result<Vec<u8>, Fail> {
+    let packages = joined(
+        alloc,
+        &[&[0, 0, 0, 2, 0, 0, 0, 16], &[0x33; 16], &[0x44; 16]],
+    )?;
+    set(
+        alloc,
+        STORAGE_KEY,
+        &[(0x3C0A, &[0x22; 16]), (0x1901, &packages)],
+    )
+}
+
+/// The first of these packages, a MaterialPackage of 76 bytes.
+pub(crate) fn package(alloc: Global) -> Result<Vec<u8>, Fail> {
+    set(
+        alloc,
+        MATERIAL_PACKAGE_KEY,
+        &[(0x3C0A, &[0x33; 16]), (0x4401, &[0x00; 32])],
+    )
+}
+
+/// The header partition pack, closed and complete, of a file with these numbers.
+pub(crate) fn header(
+    alloc: Global,
+    footer_partition: u64,
+    header_byte_count: u64,
+) -> Result<Vec<u8>, Fail> {
+    let numbers = Numbers {
+        this_partition: 0,
+        previous_partition: 0,
+        footer_partition,
+        header_byte_count,
+    };
+    packet(alloc, HEADER_KEY, &partition_value(alloc, &numbers)?)
+}
+
+/// The footer partition pack, closed and complete, of a file with one other partition, at 0.
+pub(crate) fn footer(
+    alloc: Global,
+    this_partition: u64,
+    header_byte_count: u64,
+) -> Result<Vec<u8>, Fail> {
+    let numbers = Numbers {
+        this_partition,
+        previous_partition: 0,
+        footer_partition: this_partition,
+        header_byte_count,
+    };
+    packet(alloc, FOOTER_KEY, &partition_value(alloc, &numbers)?)
+}
+
+/// A file of 194 bytes: a header partition whose metadata are a primer at 108 and a bare Preface at 154.
+pub(crate) fn one_copy(alloc: Global) -> Result<Vec<u8>, Fail> {
+    let header = header(alloc, 0, 86)?;
+    joined(alloc, &[&header, &primer(alloc)?, &bare_preface(alloc)?])
+}
+
+/// A file of 388 bytes: the same with a footer partition at 194, whose metadata are a primer at 302 and a bare Preface
+/// at 348.
+pub(crate) fn two_copies(alloc: Global) -> Result<Vec<u8>, Fail> {
+    let primer = primer(alloc)?;
+    let preface = bare_preface(alloc)?;
+    let header = header(alloc, 194, 86)?;
+    let footer = footer(alloc, 194, 86)?;
+    joined(
+        alloc,
+        &[&header, &primer, &preface, &footer, &primer, &preface],
+    )
+}
+
+/// A header partition whose metadata are a primer at 108, a Preface at 154, its storage at 214 and a package at 298.
+fn header_with_storage(alloc: Global, footer_partition: u64) -> Result<Vec<u8>, Fail> {
+    let header = header(alloc, footer_partition, 266)?;
+    let preface = preface(alloc)?;
+    let storage = storage(alloc)?;
+    let package = package(alloc)?;
+    joined(
+        alloc,
+        &[&header, &primer(alloc)?, &preface, &storage, &package],
+    )
+}
+
+/// A file of 374 bytes: such a header partition alone.
+pub(crate) fn one_package(alloc: Global) -> Result<Vec<u8>, Fail> {
+    header_with_storage(alloc, 0)
+}
+
+/// A file of 588 bytes: such a header partition, and a footer partition at 374, whose metadata are a primer at 482 and
+/// a Preface at 528. So the storage that this Preface names is held in the first copy alone.
+pub(crate) fn storage_in_the_header(alloc: Global) -> Result<Vec<u8>, Fail> {
+    let header = header_with_storage(alloc, 374)?;
+    let footer = footer(alloc, 374, 106)?;
+    joined(
+        alloc,
+        &[&header, &footer, &primer(alloc)?, &preface(alloc)?],
+    )
 }
