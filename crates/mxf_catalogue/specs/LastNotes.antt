@@ -1,5 +1,5 @@
 -- The last notes of two contents (this project's profile).
-use Rattle.std.specs.Prelude.{ℕ, ◌-◌, List, length, slice_get, Option, Some, None}
+use Rattle.std.specs.Prelude.{◌-◌, List, length, slice_get, Option, Some, None}
 use Rattle.std.specs.declared.cmp.Ordering.{Ordering}
 use Rattle.std.specs.declared.cmp.Ordering.TheVariants.{Less}
 use Rattle.mxf_klv.specs.Parts.{NoteParts}
