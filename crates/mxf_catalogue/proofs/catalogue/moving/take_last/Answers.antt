@@ -1,11 +1,12 @@
-use Rattle.std.proofs.Common.{refl, sym, ◌∙◌}
+use Rattle.std.proofs.Common.{List, refl, sym, ◌∙◌}
+use Rattle.mxf_klv.specs.Parts.{NoteParts}
 use Rattle.mxf_catalogue.proofs.LastNoteLaws.{none_compared, compared, some_if, popped_left, popped_right, popped_both}
 use Rattle.mxf_catalogue.proofs.catalogue.moving.take_last.Goals as goal
 
 pub returns-in_err-compare_lasts-clause-last : goal.returns-in_err-compare_lasts-clause-last
 returns-in_err-compare_lasts-clause-last c =
     let none = none_compared c.deref.result.now c.deref-2.result.now c.in_err-compare_lasts.ensures in
-    rw c.from_residual.ensures (sym c.deref-2.ensures.value ∙ none, refl)
+    rw c.from_residual.ensures (sym c.deref-2.ensures.value ∙ none, refl {A = List NoteParts})
 
 pub returns-in-Greater-clause-last : goal.returns-in-Greater-clause-last
 returns-in-Greater-clause-last c =
