@@ -17,11 +17,10 @@ use std::alloc::Global;
 /// Packet after packet is noted, up to the first place where none stands whole or one would end above
 /// [`MAX`](mxf_klv::MAX): the report's stop says why and where. A packet that the views hold already is counted too.
 ///
-/// The piece's own catalogue is made first, and moved into the views at once. So pieces may come in any order: a tail that
-/// is handed before its head costs one pass over the notes that stand above its first.
+/// The piece's own catalogue is made first and then moved into the views at once. So pieces may come in any order: beside
+/// its own packets a piece costs one pass over the held notes that stand above its first, and none where it follows all.
 ///
-/// The only fault is want of memory. The views hold the notes of the packets that it counts then, and no others of the
-/// piece.
+/// The only fault is want of memory. Then the notes of the packets that it counts were added, and nothing else.
 pub fn absorb(
     alloc: Global,
     views: &mut Views,
