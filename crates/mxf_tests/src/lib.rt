@@ -4,6 +4,8 @@
 #![tactic(auto)]
 
 #[cfg(test)]
+mod absorbing;
+#[cfg(test)]
 mod batches;
 #[cfg(test)]
 mod builders;

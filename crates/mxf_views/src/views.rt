@@ -82,6 +82,17 @@ impl Views {
         Ok(Views { catalogue })
     }
 
+    /// Moves the notes of a catalogue into that of these views, which are of the notes of both then. No kept value is
+    /// copied.
+    ///
+    /// The only fault is want of memory. These views are unchanged then, and the other catalogue is dropped.
+    pub fn merge(&mut self, alloc: Global, other: Catalogue) -> Result<(), OutOfMemory>
+        ensures merged { OnOk result (self.new ≡ union_of self.old other) }
+        ensures err { OnErr result (self.new ≡ self.old) }
+    {
+        self.catalogue.merge(alloc, other)
+    }
+
     /// The catalogue.
     pub fn catalogue(&self) -> &Catalogue
         ensures { result.now ≡ self.now }
