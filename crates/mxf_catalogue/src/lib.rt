@@ -7,7 +7,9 @@
 //! - clear and disputed notes are by spans and membership: [`clear_notes_by_definition`],
 //!   [`disputed_notes_by_definition`], [`notes_are_clear_or_disputed`], [`notes_are_disputed_in_two_ways`],
 //!   [`clear_notes_stand_apart`];
-//! - joins are associative, commutative and idempotent on contents: the laws of [`Semilattice`].
+//! - joins are associative, commutative and idempotent on contents: the laws of [`Semilattice`];
+//! - bytes are read as the file of one content, or refused for one cause, and what is written is read back:
+//!   [`Catalogue::read`], [`one_file_reading`], [`one_file`], [`files_are_read_as_written`].
 //!
 //! That memory is there, and that a call succeeds with it, is tested.
 //!

@@ -23,8 +23,11 @@ use thiserror::Error;
 
 /// Why bytes aren't the file of a catalogue. A place is a number of bytes from the first byte of the file.
 ///
-/// The causes are tested in this order; `Truncated` to `NotSorted` for one note after another, where the head of a
-/// note is whole before it can be bad, and is good before the rest of the note can be cut.
+/// The causes are tested in this order: the first seven bytes, as far as there are any; byte eight, if there is one;
+/// whether there are sixteen; then for one note after another whether its head of 33 bytes is whole (`Truncated`),
+/// whether a note can have it (`BadNote`), whether what the note holds is whole (`Truncated`), and whether the note is
+/// above the one before (`NotSorted`); then that nothing follows (`Trailing`). Memory may be found wanting between two
+/// of these tests.
 #[derive(Clone, Copy, Debug, PartialEq, Eq, Error)]
 pub enum FileFault {
     /// A byte that is present among the first seven isn't a catalogue file's.
@@ -68,10 +71,10 @@ impl<T: Drop> From<AllocFailed<T>> for FileFault {
 }
 
 impl Catalogue {
-    /// The catalogue whose file these bytes are.
+    /// Reads the file of a catalogue; it is the whole of the bytes.
     ///
-    /// The bytes stay borrowed only while they are read. Memory is taken for notes that are there: the count that the
-    /// file tells causes no growth by itself.
+    /// Memory is taken for one note after another, as they are found whole: the count that the file tells takes none by
+    /// itself. The causes of a refusal, in their order, are those of [`FileFault`].
     pub fn read(alloc: Global, bytes: &[u8]) -> Result<Catalogue, FileFault>
         ensures { ReadsFile bytes.now result }
     {

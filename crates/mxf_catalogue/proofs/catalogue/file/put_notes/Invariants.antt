@@ -6,5 +6,7 @@ use Rattle.mxf_catalogue.specs.CatalogueFile.{note_bytes}
 use Rattle.mxf_catalogue.proofs.catalogue.file.put_notes.Given as goal
 
 abbrev pub invariant-notes : goal.invariant-notes
-invariant-notes g l = Appends (g.W.Write.contents l.initial.writer) (g.W.Write.contents l.writer) (flat_map note_bytes (take l.note-index l.notes))
-    × (l.progress.written ≡ counted (l.initial.progress.written + length (flat_map note_bytes (take l.note-index l.notes))))
+invariant-notes g l = Appends (g.W.Write.contents l.initial.writer) (g.W.Write.contents l.writer)
+    (flat_map note_bytes (take l.note-index l.notes))
+    × (l.progress.written ≡ counted
+    (l.initial.progress.written + length (flat_map note_bytes (take l.note-index l.notes))))
