@@ -134,7 +134,6 @@ fn put_notes<W: Write>(
 ) -> Result<(), WriteFault>
     ensures { Puts W.contents writer.old writer.new progress.old progress.new result (flat_map note_bytes notes.now) }
 {
-    let _written = progress.written;
     'notes: for note in notes {
         put_note(note, progress, writer)?;
     }
@@ -149,10 +148,13 @@ pub fn one_file_reading()
         → ReadsFile bytes r → ReadsFile bytes s → r ≡ s }
 {}
 
-/// A law: bytes are the file of one content at most, and a content has one file at most.
+/// A law: bytes are the file of one content at most, and a content has one file at most. So catalogues that write equal
+/// bytes have equal contents.
 pub fn one_file()
     ensures content { (bytes : List ℕ) (a b : List NoteParts) → IsFileOf bytes a → IsFileOf bytes b → a ≡ b }
     ensures bytes { (x y : List ℕ) (notes : List NoteParts) → IsFileOf x notes → IsFileOf y notes → x ≡ y }
+    ensures equal { (a b : List NoteParts) → IsCatalogue a → IsCatalogue b
+        → length a < 2 ^ 64 → length b < 2 ^ 64 → file_bytes a ≡ file_bytes b → a ≡ b }
 {}
 
 /// A law of [`Catalogue::write_to`](Encode::write_to) and [`Catalogue::read`]: what is written is the file of the
