@@ -9,6 +9,7 @@ ghost use Rattle.mxf_catalogue.specs.Disputes.{AreApart, IsClear, clear_notes, d
 
 mod clear;
 mod disputed;
+mod file;
 mod merging;
 mod moving;
 mod notes;
@@ -20,6 +21,7 @@ pub use disputed::{
     Disputed, DisputedNotes, disputed_notes_by_definition, disputes_by_tests,
     notes_are_clear_or_disputed, notes_are_disputed_in_two_ways,
 };
+pub use file::{FileFault, files_are_read_as_written, one_file, one_file_reading};
 use merging::merge;
 use moving::move_into;
 use mxf_klv::{MAX, Note, OutOfMemory};

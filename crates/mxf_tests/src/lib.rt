@@ -12,6 +12,8 @@ mod builders;
 #[cfg(test)]
 mod catalogues;
 #[cfg(test)]
+mod files;
+#[cfg(test)]
 mod lengths;
 #[cfg(test)]
 mod notes;
