@@ -6,4 +6,5 @@ use Rattle.mxf_tool.proofs.printing.hexadecimal.ByteDigitsDisplay.fmt.Goals as g
 pub returns-clause-writes : goal.returns-clause-writes
 returns-clause-writes g c plain ok =
     let digits = c.in-Ok-from_utf8.ensures.cases.0 ∙ c.in-Ok.ensures.written in
-    has_written_of_eq _ _ _ _ _ (digits ∙ encode_lower-is (c.args.self.now.0 ∷ [])) (c.write_str.ensures.writes plain ok)
+    has_written_of_eq _ _ _ _ _ (digits ∙ encode_lower-is (c.args.self.now.0 ∷ []))
+    (c.write_str.ensures.writes plain ok)

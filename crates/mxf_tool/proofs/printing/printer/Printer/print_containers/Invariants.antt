@@ -8,5 +8,7 @@ use Rattle.mxf_tool.proofs.printing.printer.Printer.print_containers.Given as go
 
 abbrev pub invariant-each : goal.invariant-each
 invariant-each g l =
-    Leads (g.W.Write.contents l.initial.writer) l.initial.self.progress.written (flat_map (λ label. container_line label ∷ []) (batch_items l.containers))
-    (g.W.Write.contents l.writer) l.self.progress.written (flat_map (λ label. container_line label ∷ []) l.label-iterator)
+    Leads (g.W.Write.contents l.initial.writer) l.initial.self.progress.written
+    (flat_map (λ label. container_line label ∷ []) (batch_items l.containers))
+    (g.W.Write.contents l.writer) l.self.progress.written
+    (flat_map (λ label. container_line label ∷ []) l.label-iterator)

@@ -8,5 +8,7 @@ use Rattle.mxf_tool.proofs.printing.printer.Printer.print_copies.Given as goal
 
 abbrev pub invariant-each : goal.invariant-each
 invariant-each g l =
-    Leads (g.W.Write.contents l.initial.writer) l.initial.self.progress.written (flat_map (λ copy. copy_line copy ∷ []) (copies_of l.views))
-    (g.W.Write.contents l.writer) l.self.progress.written (flat_map (λ copy. copy_line copy ∷ []) l.copy-iterator)
+    Leads (g.W.Write.contents l.initial.writer) l.initial.self.progress.written
+    (flat_map (λ copy. copy_line copy ∷ []) (copies_of l.views))
+    (g.W.Write.contents l.writer) l.self.progress.written
+    (flat_map (λ copy. copy_line copy ∷ []) l.copy-iterator)

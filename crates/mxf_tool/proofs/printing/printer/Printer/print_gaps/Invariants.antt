@@ -8,5 +8,7 @@ use Rattle.mxf_tool.proofs.printing.printer.Printer.print_gaps.Given as goal
 
 abbrev pub invariant-each : goal.invariant-each
 invariant-each g l =
-    Leads (g.W.Write.contents l.initial.writer) l.initial.self.progress.written (flat_map (λ gap. gap_line gap ∷ []) (gaps_of l.views))
-    (g.W.Write.contents l.writer) l.self.progress.written (flat_map (λ gap. gap_line gap ∷ []) l.gap-iterator)
+    Leads (g.W.Write.contents l.initial.writer) l.initial.self.progress.written
+    (flat_map (λ gap. gap_line gap ∷ []) (gaps_of l.views))
+    (g.W.Write.contents l.writer) l.self.progress.written
+    (flat_map (λ gap. gap_line gap ∷ []) l.gap-iterator)

@@ -7,5 +7,7 @@ use Rattle.mxf_tool.proofs.printing.printer.Printer.print_groups.Given as goal
 
 abbrev pub invariant-each : goal.invariant-each
 invariant-each g l =
-    Leads (g.W.Write.contents l.initial.writer) l.initial.self.progress.written (flat_map (group_lines l.views) l.groups)
-    (g.W.Write.contents l.writer) l.self.progress.written (flat_map (group_lines l.views) (drop l.group-index l.groups))
+    Leads (g.W.Write.contents l.initial.writer) l.initial.self.progress.written
+    (flat_map (group_lines l.views) l.groups)
+    (g.W.Write.contents l.writer) l.self.progress.written
+    (flat_map (group_lines l.views) (drop l.group-index l.groups))

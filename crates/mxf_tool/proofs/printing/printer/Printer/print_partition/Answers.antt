@@ -25,7 +25,8 @@ returns g c =
     let labels = ap container_lines held in
     Prints-next {X = Unit {0}} (contents c.args.writer.now) (contents c.print.new.writer)
     (contents c.print_containers.new.writer) c.args.self.now.progress.written c.print.new.self.progress.written
-    c.print_containers.new.self.progress.written c.print_containers.result (partition_line at c.link_of-link.result ∷ [])
+    c.print_containers.new.self.progress.written c.print_containers.result
+    (partition_line at c.link_of-link.result ∷ [])
     (partition_line at link ∷ []) (container_lines at.pack.containers)
     (ap (λ l. partition_line at l ∷ []) c.link_of-link.ensures) c.in_ok-print.ensures
     (subst (PrintsPart {X = Unit {0}} (contents c.print.new.writer) (contents c.print_containers.new.writer)

@@ -7,5 +7,7 @@ use Rattle.mxf_tool.proofs.printing.printer.Printer.print_partitions.Given as go
 
 abbrev pub invariant-each : goal.invariant-each
 invariant-each g l =
-    Leads (g.W.Write.contents l.initial.writer) l.initial.self.progress.written (flat_map (partition_lines (partitions_of l.views)) (partitions_of l.views))
-    (g.W.Write.contents l.writer) l.self.progress.written (flat_map (partition_lines (partitions_of l.views)) l.partition-iterator)
+    Leads (g.W.Write.contents l.initial.writer) l.initial.self.progress.written
+    (flat_map (partition_lines (partitions_of l.views)) (partitions_of l.views))
+    (g.W.Write.contents l.writer) l.self.progress.written
+    (flat_map (partition_lines (partitions_of l.views)) l.partition-iterator)
