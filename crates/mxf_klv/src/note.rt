@@ -89,14 +89,6 @@ fn keeps(kind: Kind, length: u64) -> bool
     kind.is_structural() && length <= GREATEST_KEPT
 }
 
-/// Whether the width can spell the length and the end is not too far.
-fn can_note(offset: u64, width: u8, length: u64) -> bool
-    ensures { IsTrue result ↔ (CanSpell width length × (offset + 16 + width + length ≤ greatest_end)) }
-{
-    Ber::new(width, length).is_some()
-        && u128::from(offset) + 16 + u128::from(width) + u128::from(length) <= u128::from(MAX)
-}
-
 /// A value that makes no note: it comes back.
 #[derive(Debug, Drop, Error)]
 #[error("no note keeps this value")]
@@ -211,6 +203,22 @@ impl Note {
         }
     }
 
+    /// Whether there is a note with this file offset and a length that `width` bytes spell: they can spell it, and the
+    /// packet would end at or below [`MAX`].
+    pub fn can_be(offset: u64, width: u8, length: u64) -> bool
+        ensures { IsTrue result ↔ (CanSpell width length × (offset + 16 + width + length ≤ greatest_end)) }
+    {
+        Ber::new(width, length).is_some()
+            && u128::from(offset) + 16 + u128::from(width) + u128::from(length) <= u128::from(MAX)
+    }
+
+    /// Whether the note of a packet with this key and length keeps the whole value, and no digest.
+    pub fn keeps(key: &Ul, length: u64) -> bool
+        ensures { result ≡ keeps key.now length }
+    {
+        keeps(kind(key), length)
+    }
+
     /// The note that keeps this value. The value comes back where the width can't spell its length, the packet would
     /// end above [`MAX`], or a packet of this key and length keeps a digest.
     pub fn kept(offset: u64, key: Ul, width: u8, value: Vec<u8>) -> Result<Note, NotANote>
@@ -220,7 +228,7 @@ impl Note {
     {
         let length = value.len() as u64;
         let kind = kind(&key);
-        if !can_note(offset, width, length) || !keeps(kind, length) {
+        if !Note::can_be(offset, width, length) || !keeps(kind, length) {
             return Err(NotANote { value });
         }
         Ok(Note {
@@ -240,7 +248,7 @@ impl Note {
             (note_parts offset key width length digest) }
     {
         let kind = kind(&key);
-        if !can_note(offset, width, length) || keeps(kind, length) {
+        if !Note::can_be(offset, width, length) || keeps(kind, length) {
             return None;
         }
         Some(Note {
