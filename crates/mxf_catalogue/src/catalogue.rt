@@ -9,7 +9,9 @@ ghost use Rattle.mxf_catalogue.specs.Disputes.{AreApart, IsClear, clear_notes, d
 
 mod clear;
 mod disputed;
+mod file;
 mod merging;
+mod moving;
 mod notes;
 
 use crate::semilattice::Semilattice;
@@ -19,7 +21,9 @@ pub use disputed::{
     Disputed, DisputedNotes, disputed_notes_by_definition, disputes_by_tests,
     notes_are_clear_or_disputed, notes_are_disputed_in_two_ways,
 };
+pub use file::{FileFault, files_are_read_as_written, one_file, one_file_reading};
 use merging::merge;
+use moving::move_into;
 use mxf_klv::{MAX, Note, OutOfMemory};
 pub use notes::Notes;
 use std::alloc::Global;
@@ -28,8 +32,8 @@ use thiserror::Error;
 
 /// A set of notes, in the order of [`Note`].
 ///
-/// Notes are added one by one, and catalogues are joined by [`Semilattice::join`]. What comes out is the set alone: no
-/// order of arrival and no number of repeats changes it.
+/// Notes are added one by one, catalogues are joined by [`Semilattice::join`], and one is moved into another by
+/// [`Catalogue::merge`]. What comes out is the set alone: no order of arrival and no number of repeats changes it.
 #[derive(Debug, Drop)]
 pub struct Catalogue {
     notes: Vec<Note>,
@@ -91,6 +95,19 @@ impl Catalogue {
                 Err(failed) => Err(AddFault { note: failed.value }),
             },
         }
+    }
+
+    /// Moves the notes of another catalogue into this one, which holds the notes of both then. No kept value is copied.
+    ///
+    /// Notes that stand above all of these are appended. Otherwise one pass goes from the greatest note down to the least
+    /// of the other. All memory is taken before a note is moved.
+    ///
+    /// The only fault is want of memory. This catalogue is unchanged then, and the other is dropped.
+    pub fn merge(&mut self, alloc: Global, other: Catalogue) -> Result<(), OutOfMemory>
+        ensures merged { OnOk result (self.new ≡ union_of self.old other) }
+        ensures err { OnErr result (self.new ≡ self.old) }
+    {
+        move_into(alloc, &mut self.notes, other.notes)
     }
 
     /// Whether the note is held.

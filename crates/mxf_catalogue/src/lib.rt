@@ -7,7 +7,9 @@
 //! - clear and disputed notes are by spans and membership: [`clear_notes_by_definition`],
 //!   [`disputed_notes_by_definition`], [`notes_are_clear_or_disputed`], [`notes_are_disputed_in_two_ways`],
 //!   [`clear_notes_stand_apart`];
-//! - joins are associative, commutative and idempotent on contents: the laws of [`Semilattice`].
+//! - joins are associative, commutative and idempotent on contents: the laws of [`Semilattice`];
+//! - bytes are read as the file of one content, or refused for one cause, and what is written is read back:
+//!   [`Catalogue::read`], [`one_file_reading`], [`one_file`], [`files_are_read_as_written`].
 //!
 //! That memory is there, and that a call succeeds with it, is tested.
 //!
@@ -29,10 +31,10 @@ mod run;
 mod semilattice;
 
 pub use catalogue::{
-    AddFault, Catalogue, Change, ClearNotes, Disputed, DisputedNotes, Notes,
+    AddFault, Catalogue, Change, ClearNotes, Disputed, DisputedNotes, FileFault, Notes,
     clear_notes_by_definition, clear_notes_stand_apart, contents_are_sets,
-    disputed_notes_by_definition, disputes_by_tests, notes_are_clear_or_disputed,
-    notes_are_disputed_in_two_ways,
+    disputed_notes_by_definition, disputes_by_tests, files_are_read_as_written,
+    notes_are_clear_or_disputed, notes_are_disputed_in_two_ways, one_file, one_file_reading,
 };
 pub use history::{histories_leave_what_they_were_handed, one_set_one_content};
 pub use run::{Run, one_list_of_maximal_runs};

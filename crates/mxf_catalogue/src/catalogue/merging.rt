@@ -1,4 +1,4 @@
-//! Merging notes in their order.
+//! Copying the notes of two catalogues into a new one, in their order.
 ghost use Rattle.std.specs.Prelude.{◌≡◌, [], ◌∷◌, IfOk, IfSome, MatchOption};
 ghost use Rattle.std.specs.Iterator.{YieldsFirstRef, item_count};
 ghost use Rattle.mxf_catalogue.specs.Content.{IsCatalogue, IsContent, union_of};

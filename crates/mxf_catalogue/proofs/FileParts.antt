@@ -1,0 +1,224 @@
+-- What the readers and writers of a file's parts come to.
+use Rattle.std.proofs.Common.{◌≡◌, ℕ, zero, suc, ◌+◌, ◌-◌, ◌^◌, ◌<◌, ◌≤◌, Bool, false, cond, List, [], ◌∷◌, ◌++◌}
+use Rattle.std.proofs.Common.{length, take, drop, get_or, Result, Ok, Option, Some, refl, sym, ap, subst, ◌∙◌, arith}
+use Rattle.std.proofs.Common.{inl, inr, ◌↔◌, append-nil, length-append, take-append-drop}
+use Rattle.std.specs.Prelude.{IsTrue, ◌==◌}
+use Rattle.std.proofs.lemmas.Bool.{cases_lt}
+use Rattle.std.proofs.lemmas.List.{drop_at, take_all, length-take, get_or-take, get_or-drop, get_or_past}
+use Rattle.std.proofs.lemmas.List.{take-append-le}
+use Rattle.std.proofs.lemmas.Grind.{flat_map-append, take_at_read}
+use Rattle.std.proofs.lemmas.Option.{get_or_from_slice_get, slice_get_within}
+use Rattle.std.specs.Int.{w64, from_be_bytes, to_be_bytes}
+use Rattle.std.specs.List.{flat_map, slice_get}
+use Rattle.std.specs.Ordering.{ordering_index}
+use Rattle.std.specs.declared.cmp.Ordering.{Ordering}
+use Rattle.std.specs.declared.cmp.Ordering.TheVariants.{Less, Equal, Greater}
+use Rattle.std.specs.Io.KnownBytes.{Appends}
+use Rattle.mxf_klv.specs.Parts.{NoteParts}
+use Rattle.mxf_klv.specs.Note.{keeps, note_cmp}
+use Rattle.mxf_klv.specs.Parts.{note_parts}
+use Rattle.mxf_klv.specs.NoteOrder.{note_total}
+use Rattle.mxf_klv.specs.declared.writing.WriteFault.{WriteFault}
+use Rattle.mxf_klv.specs.Written.{StopsIn, WritesPart, counted}
+use Rattle.mxf_klv.proofs.WrittenParts.{StopsIn-part, WritesPart-after, flat_map-at}
+use Rattle.mxf_catalogue.specs.declared.catalogue.file.FileFault.{FileFault}
+use Rattle.mxf_catalogue.specs.declared.catalogue.file.FileFault.TheVariants.{BadMagic, BadVersion, Truncated, BadNote}
+use Rattle.mxf_catalogue.specs.declared.catalogue.file.FileFault.TheVariants.{NotSorted, Trailing, OutOfMemory}
+use Rattle.mxf_catalogue.specs.declared.catalogue.file.head.Head.{Head}
+use Rattle.mxf_catalogue.specs.Content.{IsContent}
+use Rattle.mxf_catalogue.specs.CatalogueFile.{magic, version, number_bytes, CanBeNoted, note_bytes, start_bytes}
+use Rattle.mxf_catalogue.specs.CatalogueFile.{BeginsAsFile, BeginsWithHead, IsRefused, IsFront, StopsAt}
+use Rattle.mxf_catalogue.specs.FileReading.{NoteAfterHead, RefusesNote}
+use Rattle.mxf_catalogue.proofs.FileBytes.{front_place, number_in, regrouped, length-number_bytes, rising_push}
+use Rattle.mxf_catalogue.proofs.FileBytes.{rising_last}
+
+-- ---- reading
+
+fits_in_front : (n : ℕ) (bytes : List ℕ) → ((i : ℕ) → get_or bytes i 0 < 256) → (i : ℕ)
+    → get_or (take n bytes) i 0 < 256
+fits_in_front n bytes h i =
+    elim (cases_lt i n) [
+      | inl low ↦ subst (λ (k : ℕ). k < 256) (sym (get_or-take n bytes i 0 low)) (h i)
+      | inr high ↦ subst (λ (k : ℕ). k < 256)
+          (sym (get_or_past (take n bytes) i 0 (omega (arith, length-take n bytes)))) (omega arith)
+    ]
+
+pub number_split : (bytes front rest : List ℕ) (n : ℕ) → front ≡ take 8 bytes → rest ≡ drop 8 bytes → 8 ≤ length bytes
+    → ((i : ℕ) → get_or bytes i 0 < 256) → n ≡ from_be_bytes w64 front → bytes ≡ number_bytes n ++ rest
+number_split bytes front rest n f r long h e =
+    let len : length front ≡ 8 = ap length f ∙ omega (arith, length-take 8 bytes) in
+    let fits : (i : ℕ)
+    → get_or front i 0 < 256 = λ i. subst (λ (t : List ℕ). get_or t i 0 < 256) (sym f) (fits_in_front 8 bytes h i)
+    in
+    sym (take-append-drop 8 bytes) ∙ ap (λ (t : List ℕ). t ++ drop 8 bytes) (sym f ∙ number_in front n len fits e)
+    ∙ ap (λ (t : List ℕ). number_bytes n ++ t) (sym r)
+
+pub head_split : (bytes a key b c d : List ℕ) (offset width len : ℕ) → bytes ≡ number_bytes offset ++ a
+    → offset < 2 ^ 64 → key ≡ take 16 a → b ≡ drop 16 a → 16 ≤ length a → b ≡ width ∷ c
+    → c ≡ number_bytes len ++ d → len < 2 ^ 64 → ((i : ℕ) → get_or bytes i 0 < 256)
+    → BeginsWithHead bytes (record { offset = offset; key = key; width = width; length = len }) d
+head_split bytes a key b c d offset width len e o k r long w l p h =
+    let first : a ≡ drop 8 bytes = sym (ap (drop 8) e ∙ drop_at (number_bytes offset) a 8 (length-number_bytes offset))
+    in
+    let at : width ≡ get_or bytes 24 0 = ap (λ (t : List ℕ). get_or t 0 0) (sym w ∙ r) ∙ get_or-drop 16 a 0 0
+    ∙ ap (λ (t : List ℕ). get_or t 16 0) first ∙ get_or-drop 8 bytes 16 0 in
+    let fits = h 24 in
+    record {
+      head = record {
+        offset = o;
+        key = ap length k
+            ∙ omega (arith, length-take 16 a);
+        width = rw (sym at) at fits;
+        length = p;
+      };
+      whole = e ∙ ap (λ (t : List ℕ). number_bytes offset ++ t) (sym (take-append-drop 16 a)
+          ∙ ap (λ (t : List ℕ). t ++ drop 16 a) (sym k)
+          ∙ ap (λ (t : List ℕ). key ++ t) (sym r ∙ w ∙ ap (λ (t : List ℕ). width ∷ t) l))
+          ∙ sym (regrouped (record { offset = offset; key = key; width = width; length = len }) d);
+    }
+
+pub at_front_of_rest : (n : ℕ) (bytes rest more : List ℕ) (v : ℕ) → rest ≡ drop n bytes → rest ≡ v ∷ more
+    → slice_get bytes n ≡ Some v
+at_front_of_rest zero [] rest more v r e = let f : length (v ∷ more) ≡ 0 = ap length (sym e ∙ r) in absurd (omega arith)
+at_front_of_rest zero (b ∷ bytes) rest more v r e = ap (λ (t : List ℕ). Some (get_or t 0 0)) (sym r ∙ e)
+at_front_of_rest (suc n) [] rest more v r e = let f : length (v ∷ more) ≡ 0 = ap length (sym e ∙ r) in absurd
+    (omega arith)
+at_front_of_rest (suc n) (b ∷ bytes) rest more v r e = at_front_of_rest n bytes rest more v r e
+
+pub start_split : (bytes rest more left : List ℕ) (v count : ℕ) → BeginsAsFile bytes → 7 ≤ length bytes
+    → rest ≡ drop 7 bytes → rest ≡ v ∷ more → v ≡ version → more ≡ number_bytes count ++ left
+    → bytes ≡ start_bytes count ++ left
+start_split bytes rest more left v count b long r e w m =
+    sym (take-append-drop 7 bytes) ∙ ap (λ (t : List ℕ). t ++ drop 7 bytes) (b ∙ take_all (length bytes) magic long)
+    ∙ ap (λ (t : List ℕ). magic ++ t) (sym r ∙ e ∙ (λ i. w i ∷ m i))
+
+is_less : (o : Ordering) → IsTrue (ordering_index o == 0) ↔ (o ≡ Less)
+is_less Less = (λ h. refl, λ h. refl)
+is_less Equal = (λ h. absurd cc, λ h. absurd cc)
+is_less Greater = (λ h. absurd cc, λ h. absurd cc)
+
+pub above_last : (notes : List NoteParts) (last n : NoteParts) (b : Bool)
+    → Some last ≡ slice_get notes (length notes - 1) → IsContent notes → b ≡ (ordering_index (note_cmp last n) == 0)
+    → IsTrue b ↔ IsContent (notes ++ n ∷ [])
+above_last notes last n b at r e =
+    let k = length notes - 1 in
+    let within : k < length notes = slice_get_within notes k last (sym at) in
+    let is : get_or notes k last ≡ last = get_or_from_slice_get notes k last last (sym at) in
+    let test = is_less (note_cmp last n) in (
+      λ h. rising_push note_total notes k last n (omega arith) r
+          (subst (λ (m : NoteParts). note_cmp m n ≡ Less) (sym is) (test.0 (sym e ∙ h))),
+      λ h. e ∙ test.1
+          (subst (λ (m : NoteParts). note_cmp m n ≡ Less) is (rising_last note_cmp notes k last n within h)),
+    )
+
+pub digest_noted : (h : Head) (n : NoteParts) (bytes digest more key : List ℕ) → CanBeNoted h
+    → keeps h.key h.length ≡ false → key ≡ h.key → n ≡ note_parts h.offset key h.width h.length digest
+    → digest ≡ take 32 bytes → more ≡ drop 32 bytes → 32 ≤ length bytes → NoteAfterHead h bytes n more
+digest_noted h n bytes digest more key g kept k is d m long =
+    let same : n ≡ note_parts h.offset h.key h.width h.length digest = is
+    ∙ ap (λ (t : List ℕ). note_parts h.offset t h.width h.length digest) k in
+    let len : length digest ≡ 32 = ap length d ∙ omega (arith, length-take 32 bytes) in
+    subst (λ (x : NoteParts). NoteAfterHead h bytes x more) (sym same) (record {
+      note = record {
+        label = g.label;
+        width = g.width;
+        within = g.within;
+        held = len
+            ∙ sym (ap (λ (b : Bool). cond b h.length 32) kept);
+      };
+      head = refl;
+      held = sym (take-append-drop 32 bytes) ∙ ap (λ (t : List ℕ). t ++ drop 32 bytes) (sym d)
+          ∙ ap (λ (t : List ℕ). digest ++ t) (sym m);
+    })
+
+-- ---- writing
+
+-- a fault in the first of two parts is a fault of the whole
+pub fails_in_first : (a c : Option (List ℕ)) (before after : ℕ) (e : WriteFault) (bytes part rest : List ℕ)
+    → bytes ≡ part ++ rest
+    → StopsIn a c before e part × (after ≡ e.written) → StopsIn a c before e bytes × (after ≡ e.written)
+fails_in_first a c before after e bytes part rest is (q, told) =
+    let n = q.0 in
+    let within : n < length part = q.1 in (
+      subst (StopsIn a c before e) (sym is) (
+        n,
+        omega (arith, length-append part rest),
+        q.2,
+        subst (Appends a c) (sym (take-append-le n part rest (omega arith))) q.3,
+      ),
+      told,
+    )
+
+-- the first part was written, and what is told of the second is told of the whole
+pub WritesPart-second : {X : Type 0} (a b c : Option (List ℕ)) (before mid after : ℕ) (r : Result X WriteFault)
+    (bytes part rest : List ℕ) → bytes ≡ part ++ rest → Appends a b part
+    → mid ≡ counted (before + length part) → WritesPart b c mid after r rest → WritesPart a c before after r bytes
+WritesPart-second a b c before mid after r bytes part rest is p m q =
+    subst (WritesPart a c before after r) (sym is) (WritesPart-after a b c before mid after r part rest p m q)
+
+-- a fault in a note is a fault of all of them
+pub fails_in_note : (a b c : Option (List ℕ)) (before mid after : ℕ) (e : WriteFault) (notes : List NoteParts) (k : ℕ)
+    (n : NoteParts) → k < length notes → n ≡ get_or notes k n
+    → Appends a b (flat_map note_bytes (take k notes))
+    → mid ≡ counted (before + length (flat_map note_bytes (take k notes)))
+    → StopsIn b c mid e (note_bytes n) × (after ≡ e.written)
+    → StopsIn a c before e (flat_map note_bytes notes) × (after ≡ e.written)
+fails_in_note a b c before mid after e notes k n h is p m (q, told) = (
+  subst (StopsIn a c before e) (flat_map-at note_bytes notes k n h)
+      (StopsIn-part a b c before mid e (flat_map note_bytes (take k notes)) (note_bytes (get_or notes k n))
+      (flat_map note_bytes (drop (suc k) notes)) p m
+      (subst (λ (x : NoteParts). StopsIn b c mid e (note_bytes x)) is q)),
+  told,
+)
+
+pub number_is : (n m : ℕ) (bs : List ℕ) → bs ≡ to_be_bytes w64 n → n ≡ m → number_bytes m ≡ bs
+unfolding number_bytes
+number_is n m bs e f = ap (to_be_bytes w64) (sym f) ∙ sym e
+
+-- one more note was written
+pub note_written : (a b c : Option (List ℕ)) (before mid after : ℕ) (notes : List NoteParts) (k : ℕ) (n : NoteParts)
+    → k < length notes → n ≡ get_or notes k n → Appends a b (flat_map note_bytes (take k notes))
+    → mid ≡ counted (before + length (flat_map note_bytes (take k notes))) → Appends b c (note_bytes n)
+    → after ≡ counted (mid + length (note_bytes n))
+    → Appends a c (flat_map note_bytes (take (k + 1) notes))
+    × (after ≡ counted (before + length (flat_map note_bytes (take (k + 1) notes))))
+note_written a b c before mid after notes k n h is p m q r =
+    let one = take_at_read notes k n h in
+    let more : take (k + 1) notes ≡ take k notes ++ n ∷ [] = one.1
+    ∙ ap (λ (x : NoteParts). take k notes ++ x ∷ []) (sym is) in
+    let flat : flat_map note_bytes (take (k + 1) notes) ≡ flat_map note_bytes (take k notes) ++ note_bytes n =
+    ap (flat_map note_bytes) more ∙ flat_map-append note_bytes (take k notes) (n ∷ [])
+    ∙ ap (λ (t : List ℕ). flat_map note_bytes (take k notes) ++ t) (append-nil (note_bytes n)) in
+    WritesPart-second {X = Unit {0}} a b c before mid after (Ok tt) (flat_map note_bytes (take (k + 1) notes))
+    (flat_map note_bytes (take k notes)) (note_bytes n) flat p m (q, r)
+
+-- ---- faults behind a front
+
+pub stops : (bytes rest : List ℕ) (count place : ℕ) (notes : List NoteParts) (why : ℕ → List NoteParts → List ℕ
+    → Type 0) → IsFront bytes count notes rest → place ≡ length bytes - length rest → why count notes rest
+    → StopsAt bytes place why
+stops bytes rest count place notes why f at w = record {
+  count = count;
+  notes = notes;
+  rest = rest;
+  front = f;
+  stands = at
+      ∙ omega (arith, front_place bytes rest count notes f);
+  why = w;
+}
+
+pub note_fault : (bytes rest : List ℕ) (count place : ℕ) (notes : List NoteParts) (fault : FileFault)
+    → IsFront bytes count notes rest → length notes < count → place ≡ length bytes - length rest
+    → RefusesNote place rest fault → IsRefused bytes fault
+note_fault bytes rest count place notes BadMagic f lt at r = absurd r
+note_fault bytes rest count place notes BadVersion f lt at r = absurd r
+note_fault bytes rest count place notes (Truncated p) f lt at r = inr
+    (stops bytes rest count p notes _ f (r.0 ∙ at) (lt, r.1))
+note_fault bytes rest count place notes (BadNote p) f lt at r = stops bytes rest count p notes _ f (r.0 ∙ at) (lt, r.1)
+note_fault bytes rest count place notes (NotSorted p) f lt at r = absurd r
+note_fault bytes rest count place notes (Trailing p) f lt at r = absurd r
+note_fault bytes rest count place notes OutOfMemory f lt at r = tt
+
+pub is_some : (n : ℕ) → false ≡ (n == 0) → 0 < n
+is_some zero e = absurd cc
+is_some (suc n) e = omega arith

@@ -1,0 +1,39 @@
+use Rattle.std.proofs.Common.{◌++◌, ◌∷◌, ◌∙◌, [], List, arith, refl, sym, subst, length}
+use Rattle.std.specs.Prelude.{IsTrue}
+use Rattle.std.proofs.lemmas.Result.{err_from_is_err_and}
+use Rattle.mxf_klv.specs.Parts.{NoteParts}
+use Rattle.mxf_catalogue.specs.Content.{IsContent}
+use Rattle.mxf_catalogue.proofs.FileParts.{is_some, note_fault, stops}
+use Rattle.mxf_catalogue.proofs.catalogue.file.read_notes.Goals as goal
+
+pub returns-in_err-note-clause-fault : goal.returns-in_err-note-clause-fault
+returns-in_err-note-clause-fault c =
+    let p = err_from_is_err_and c.from_residual.result c.from_residual.ensures.1 in
+    let i = c.loop-i.invariant in
+    rw (p.1, p.2)
+    (note_fault c.args.bytes.now c.loop-i.rest.now c.args.count _ c.loop-i.notes.items c.in_err-note.field-0.0
+    i.front (omega (arith, i.counted, c.loop-i-test.true)) refl c.in_err-note.ensures.fault)
+
+pub returns-then-not-is_above-clause-fault : goal.returns-then-not-is_above-clause-fault
+returns-then-not-is_above-clause-fault c =
+    let i = c.loop-i.invariant in
+    let n = c.in_ok-note.note in
+    stops c.args.bytes.now c.loop-i.rest.now c.args.count _ c.loop-i.notes.items _ i.front refl (
+      omega (arith, i.counted, c.loop-i-test.true),
+      (
+        n,
+        c.in_ok-note.after.now,
+        c.in_ok-note.ensures.note,
+        λ h. (let t : IsTrue c.is_above.result = c.is_above.ensures.1
+            (subst (λ (l : List NoteParts). IsContent (l ++ n ∷ [])) (sym c.deref.ensures.value) h) in absurd
+            (cc (t, c.if-not-is_above.true))),
+      ),
+    )
+
+pub returns-then-not-is_empty-clause-fault : goal.returns-then-not-is_empty-clause-fault
+returns-then-not-is_empty-clause-fault c =
+    let i = c.loop-i.invariant in
+    stops c.args.bytes.now c.loop-i.rest.now c.args.count _ c.loop-i.notes.items _ i.front refl (
+      omega (arith, i.counted, c.loop-i-test.false),
+      is_some (length c.loop-i.rest.now) (sym c.if-not-is_empty.true ∙ c.is_empty.ensures),
+    )

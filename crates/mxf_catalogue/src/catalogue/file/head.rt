@@ -1,0 +1,57 @@
+//! The head of a note in a file: 33 bytes, ahead of what the note holds.
+ghost use Rattle.std.specs.Prelude.{◌≡◌, ◌++◌, ◌<◌, ◌^◌, IfNone, IfSome, length};
+ghost use Rattle.mxf_klv.specs.Written.{Puts};
+ghost use Rattle.mxf_catalogue.specs.CatalogueFile.{BeginsWithHead, head_bytes, head_of, number_bytes};
+
+use mxf_klv::{Note, Progress, WriteFault};
+use std::io::Write;
+
+/// What a note of a file says of its packet, ahead of what it holds.
+#[derive(Clone, Copy, Debug, PartialEq, Eq)]
+pub(super) struct Head {
+    pub offset: u64,
+    pub key: [u8; 16],
+    pub width: u8,
+    pub length: u64,
+}
+
+/// The head at the front, and the bytes after it; none where there are fewer than 33 bytes.
+pub(super) fn split_head(bytes: &[u8]) -> Option<(Head, &[u8])>
+    ensures some { IfSome result (λ s. BeginsWithHead bytes.now s.0 s.1.now) }
+    ensures none { IfNone result (length bytes.now < 33) }
+{
+    let (offset, rest) = split_number(bytes)?;
+    let (key, rest) = rest.split_first_chunk::<16>()?;
+    let (width, rest) = rest.split_first()?;
+    let (length, rest) = split_number(rest)?;
+    let head = Head {
+        offset,
+        key: *key,
+        width: *width,
+        length,
+    };
+    Some((head, rest))
+}
+
+/// The number in the first eight bytes, and the bytes after them.
+#[tactic(auto, unfolding(crate::specs::CatalogueFile::number_bytes))]
+pub(super) fn split_number(bytes: &[u8]) -> Option<(u64, &[u8])>
+    ensures some { IfSome result (λ s. (bytes.now ≡ number_bytes s.0 ++ s.1.now) × (s.0 < 2 ^ 64)) }
+    ensures none { IfNone result (length bytes.now < 8) }
+{
+    let (number, rest) = bytes.split_first_chunk::<8>()?;
+    Some((u64::from_be_bytes(*number), rest))
+}
+
+pub(super) fn put_head<W: Write>(
+    note: &Note,
+    progress: &mut Progress,
+    writer: &mut W,
+) -> Result<(), WriteFault>
+    ensures { Puts W.contents writer.old writer.new progress.old progress.new result (head_bytes (head_of note.now)) }
+{
+    progress.put(writer, &note.offset().to_be_bytes())?;
+    progress.put(writer, &note.key().bytes())?;
+    progress.put(writer, &[note.width()])?;
+    progress.put(writer, &note.length().to_be_bytes())
+}
