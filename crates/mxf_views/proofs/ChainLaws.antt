@@ -36,7 +36,7 @@ header_says Header h = refl
 header_says Body h = absurd cc
 header_says Footer h = absurd cc
 
-footer_says : (part : PackPart) → is_footer part ≡ true → part ≡ Footer
+pub footer_says : (part : PackPart) → is_footer part ≡ true → part ≡ Footer
 footer_says Footer h = refl
 footer_says Body h = absurd cc
 footer_says Header h = absurd cc
@@ -55,7 +55,7 @@ held_says Skips h = absurd cc
 held_says Missing h = absurd cc
 held_says Wrong h = absurd cc
 
-kind_says : (k : Kind) → is_some (part_and_status k) ≡ true → IsPartitionKind k
+pub kind_says : (k : Kind) → is_some (part_and_status k) ≡ true → IsPartitionKind k
 kind_says (kinds.Header s) h = (Header, s, refl)
 kind_says (kinds.Body s) h = (Body, s, refl)
 kind_says (kinds.Footer s) h = (Footer, s, refl)
@@ -78,7 +78,7 @@ pack_kind_tells Header s = refl
 pack_kind_tells Body s = refl
 pack_kind_tells Footer s = refl
 
-kind_tells : (k : Kind) → IsPartitionKind k → is_some (part_and_status k) ≡ true
+pub kind_tells : (k : Kind) → IsPartitionKind k → is_some (part_and_status k) ≡ true
 kind_tells k s = ap (λ (x : Kind). is_some (part_and_status x)) s.2 ∙ pack_kind_tells s.0 s.1
 
 -- where only one passes, one is counted

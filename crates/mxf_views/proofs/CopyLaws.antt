@@ -2,7 +2,7 @@
 use Rattle.std.proofs.Common.{◌≡◌, ◌≢◌, ℕ, ◌+◌, ◌<◌, ◌≤◌, Bool, true, false, cond, List, [], ◌∷◌, Option, Some, None}
 use Rattle.std.proofs.Common.{refl, sym, ap, subst, ◌∙◌, inl, inr, arith, eqb-true, eq-eqb, leb-true, le-leb}
 use Rattle.std.specs.Prelude.{◌↔◌, ◌&&◌, ◌==◌, nat_le, nat_lt, IsTrue, count_by, filter, find, map}
-use Rattle.std.specs.List.{range_with_len}
+use Rattle.std.specs.List.{range_with_len, AllByRecursion}
 use Rattle.std.proofs.lemmas.Bool.{ltb-true, lt-ltb}
 use Rattle.mxf_klv.specs.Parts.{NoteParts}
 use Rattle.mxf_klv.specs.Note.{end_of}
@@ -16,10 +16,10 @@ use Rattle.mxf_catalogue.proofs.DisputeLaws.{In-clear_notes}
 use Rattle.mxf_catalogue.proofs.SpanLaws.{AreApart-clear_notes, AreApart-filter}
 use Rattle.mxf_catalogue.proofs.Lists.{In-filter, In-map, found-In, none_found}
 use Rattle.mxf_views.specs.declared.copy.CopyInfo.{CopyInfo}
-use Rattle.mxf_views.specs.Partitions.{PartitionParts, partitions_of}
+use Rattle.mxf_views.specs.Partitions.{AreInOrder, PartitionParts, partitions_of}
 use Rattle.mxf_views.specs.Copies.{CountsZone, IsCopy, IsCopyOf, IsSetOf, IsStart, IsStartFound, copies_of, copy_from}
 use Rattle.mxf_views.specs.Copies.{copy_of, covered_of, has_metadata, is_preface, is_preface_note, is_set, is_set_note}
-use Rattle.mxf_views.specs.Copies.{prefaces_of, sets_found, sets_from, sets_in, sets_of, start_of, zone_of}
+use Rattle.mxf_views.specs.Copies.{CopiesRise, prefaces_of, sets_found, sets_from, sets_in, sets_of, start_of, zone_of}
 use Rattle.mxf_views.specs.Spans.{is_in_one, lies_in}
 use Rattle.mxf_views.proofs.Members.{both, count_by-cons, false_if, parts, tally}
 use Rattle.mxf_views.proofs.PartitionLaws.{one_there, partitions_rise}
@@ -253,3 +253,44 @@ sets_are notes partition n r =
                 ((In-sets_in notes s.start c.bytes n).1 (s.clear, s.kind, s.from, omega (arith, before, bytes))),
           )
     ] refl
+
+-- ---- copies rise
+
+-- the copy of a partition is at its offset
+copy_there : (notes : List NoteParts) (p : PartitionParts) → (copy_of notes p).partition ≡ p.offset
+unfolding copy_of
+copy_there notes p = elim (start_of p.end notes) as (λ o. (copy_from notes p o).partition ≡ p.offset) [
+  | None ↦ refl
+  | Some start ↦ refl
+]
+
+copies_above : (low : ℕ) (notes : List NoteParts) (ps : List PartitionParts) → AllByRecursion (λ q. low < q.offset) ps
+    → AllByRecursion (λ d. low < d.partition) (map (copy_of notes) (filter has_metadata ps))
+copies_above low notes [] h = tt
+copies_above low notes (p ∷ ps) h =
+    let ih = copies_above low notes ps h.1 in
+    elim (has_metadata p) as (λ b. AllByRecursion (λ d. low < d.partition)
+    (map (copy_of notes) (cond b (p ∷ filter has_metadata ps) (filter has_metadata ps)))) [
+      | true ↦ (subst (λ k. low < k) (sym (copy_there notes p)) h.0, ih)
+      | false ↦ ih
+    ]
+
+copies_in_order : (notes : List NoteParts) (ps : List PartitionParts) → AreInOrder ps
+    → CopiesRise (map (copy_of notes) (filter has_metadata ps))
+copies_in_order notes [] h = tt
+copies_in_order notes (p ∷ ps) h =
+    let ih = copies_in_order notes ps h.1 in
+    let later = map (copy_of notes) (filter has_metadata ps) in
+    elim (has_metadata p) as (λ b. CopiesRise
+    (map (copy_of notes) (cond b (p ∷ filter has_metadata ps) (filter has_metadata ps)))) [
+      | true ↦ (
+        subst (λ k. AllByRecursion (λ d. k < d.partition) later) (sym (copy_there notes p))
+            (copies_above p.offset notes ps h.0),
+        ih,
+      )
+      | false ↦ ih
+    ]
+
+pub copies_rise : (notes : List NoteParts) → IsContent notes → CopiesRise (copies_of notes)
+unfolding copies_of
+copies_rise notes h = copies_in_order (clear_notes notes) (partitions_of notes) (partitions_rise notes h)

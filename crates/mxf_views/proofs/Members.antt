@@ -1,6 +1,6 @@
 -- Members of lists that are tested, counted and mapped.
 use Rattle.std.proofs.Common.{◌≡◌, ℕ, ◌+◌, ◌≤◌, Bool, true, false, cond, List, [], ◌∷◌, Option, Some, None, refl, sym}
-use Rattle.std.proofs.Common.{ap, ◌∙◌, inl, inr, arith}
+use Rattle.std.proofs.Common.{ap, ◌∙◌, inl, inr, arith, length}
 use Rattle.std.specs.Prelude.{◌↔◌, ◌&&◌, IsTrue, not, count_by}
 use Rattle.std.specs.List.{filter_map, list_all, AllByRecursion}
 use Rattle.std.proofs.lemmas.List.Sums.{sum_by-cons}
@@ -69,6 +69,16 @@ In-filter_map {K} {L} f (x ∷ xs) y =
               (ih.1 (g.0, k, g.2))
         ]),
       )
+    ] refl
+
+-- there are no more of them
+pub length-filter_map : {X Y : Type 0} (f : X → Option Y) (xs : List X) → length (filter_map f xs) ≤ length xs
+length-filter_map f [] = omega arith
+length-filter_map f (x ∷ xs) =
+    let ih = length-filter_map f xs in
+    elim (f x) as (λ o. f x ≡ o → length (filter_map f (x ∷ xs)) ≤ length (x ∷ xs)) [
+      | None ↦ λ e. rw e (omega arith)
+      | Some y ↦ λ e. rw e (omega arith)
     ] refl
 
 abbrev pub tally : Bool → ℕ

@@ -4,7 +4,7 @@ use Rattle.std.specs.Prelude.{◌≡◌, ◌↔◌, ℕ, ◌+◌, ◌-◌, ◌<�
 use Rattle.std.specs.Prelude.{Option, Some, None, is_some, List, [], ◌∷◌, map, filter, find, count_by, sum_by}
 use Rattle.std.specs.Prelude.{MatchOption, IsTrue, ◌||◌}
 use Rattle.std.specs.Option.{option_map}
-use Rattle.std.specs.List.{list_all, range_with_len}
+use Rattle.std.specs.List.{list_all, range_with_len, AllByRecursion}
 use Rattle.mxf_klv.specs.declared.kinds.Kind.{Kind}
 use Rattle.mxf_klv.specs.declared.kinds.Kind.TheVariants as kinds
 use Rattle.mxf_klv.specs.declared.kinds.Status.{Status}
@@ -61,8 +61,7 @@ abbrev pub zone_of : ℕ → ℕ → List NoteParts → List NoteParts
 zone_of start bytes notes = filter (lies_in start bytes) notes
 
 -- The bytes of a range that lie in packets lying wholly in it. Clear packets share no byte, so it is the number of
--- offsets
--- of the range that lie in one of them.
+-- offsets of the range that lie in one of them.
 abbrev pub covered_of : ℕ → ℕ → List NoteParts → ℕ
 covered_of start bytes notes = sizes (zone_of start bytes notes)
 
@@ -117,6 +116,11 @@ copies_among notes partitions = map (copy_of notes) (filter has_metadata partiti
 -- The copies, one of each partition that has header metadata.
 unfoldable pub copies_of : List NoteParts → List CopyInfo
 copies_of notes = copies_among (clear_notes notes) (partitions_of notes)
+
+-- Each is that of a partition below those of all later ones.
+abbrev pub CopiesRise : List CopyInfo → Type 0
+CopiesRise [] = Unit {0}
+CopiesRise (c ∷ copies) = AllByRecursion (λ d. c.partition < d.partition) copies × CopiesRise copies
 
 -- The sets of a copy by its start, none without one.
 abbrev pub sets_from : List NoteParts → ℕ → Option ℕ → List NoteParts
@@ -201,9 +205,8 @@ abbrev pub IsStartFound : List NoteParts → ℕ → Option ℕ → Type 0
 IsStartFound notes end None = (start : ℕ) → ¬ IsStart notes end start
 IsStartFound notes end (Some start) = IsStart notes end start
 
--- The number of offsets of a range that lie in a clear note lying wholly in it, and of the Prefaces among the sets of
--- it;
--- none without a start.
+-- The number of offsets of a range that lie in a clear note lying wholly in it, and of the Prefaces among its sets; none
+-- without a start.
 abbrev pub CountsZone : List NoteParts → CopyInfo → Option ℕ → Type 0
 CountsZone notes c None = (c.covered ≡ 0) × (c.prefaces ≡ 0)
 CountsZone notes c (Some start) =
@@ -225,8 +228,7 @@ abbrev pub IsCopy : List NoteParts → CopyInfo → Type 0
 IsCopy notes c = (p : PartitionParts) × In p (partitions_of notes) × IsCopyOf notes p c
 
 -- The note is one of the sets of the copy of the partition at the offset: a clear set that lies wholly in the bytes
--- that
--- the partition states, from the start of the copy on.
+-- that the partition states, from the start of the copy on.
 pub record IsSetOf (notes : List NoteParts) (partition : ℕ) (n : NoteParts) : Type 0 where
   pub copy : CopyInfo
   pub copied : IsCopy notes copy

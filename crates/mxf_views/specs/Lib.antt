@@ -2,6 +2,15 @@ pub mod Partitions
 pub mod Gaps
 pub mod Spans
 pub mod Copies
+pub mod Labels
+pub mod SetItems
 pub mod References
 pub mod Targets
 pub mod Resolved
+pub mod Places
+pub mod RandomIndex
+pub mod RandomIndexView
+pub mod Codes
+pub mod Findings
+pub mod FindingCauses
+pub mod SameViews

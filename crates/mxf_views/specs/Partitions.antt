@@ -1,6 +1,5 @@
 -- Partitions, their links and their chain (ST 377-1, Partition Pack; the names of the links are this project's
--- profile).
--- They are by the clear notes alone.
+-- profile). They are by the clear notes alone.
 use Rattle.std.specs.Prelude.{◌≡◌, ◌≢◌, ℕ, ◌<◌, ◌≤◌, ◌⊎◌, Bool, true, false, not, ◌&&◌, ◌||◌, ◌==◌, nat_le, nat_lt}
 use Rattle.std.specs.Prelude.{if◌then◌else◌}
 use Rattle.std.specs.Prelude.{Option, Some, None, is_some, IsTrue, Ok, List, [], ◌∷◌, filter, find, count_by}
@@ -99,8 +98,7 @@ unfoldable pub is_no_unreadable_pack : NoteParts → Bool
 is_no_unreadable_pack n = not (is_some (part_and_status (kind_of n.key))) || is_some (partition_at n)
 
 -- One header partition with link First, which stands at 0; one footer partition, above which none stands; all other
--- links
--- are Held; and every clear partition pack is readable.
+-- links are Held; and every clear partition pack is readable.
 abbrev pub is_whole : List NoteParts → Bool
 is_whole notes =
     let partitions = partitions_of notes in

@@ -56,8 +56,7 @@ abbrev pub refs_of : List NoteParts → ℕ → Wanted → List (List ℕ) → L
 refs_of notes partition wanted uids = map (ref_of notes partition wanted) uids
 
 -- What a reference leads to: no set with the identifier or several; or the only one, at this offset, which is of
--- another
--- kind, or of that kind and not readable, or readable.
+-- another kind, or of that kind and not readable, or readable.
 abbrev pub IsTarget : List NoteParts → Wanted → List ℕ → Target → Type 0
 IsTarget sets wanted uid Missing = IsFound sets uid found.Absent
 IsTarget sets wanted uid Several = IsFound sets uid found.Several

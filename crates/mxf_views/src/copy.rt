@@ -4,8 +4,11 @@ ghost use Rattle.std.specs.List.{range_with_len};
 ghost use Rattle.mxf_klv.specs.Parts.{NoteParts};
 ghost use Rattle.mxf_catalogue.specs.Content.{IsContent};
 ghost use Rattle.mxf_views.specs.Spans.{is_in_one};
+ghost use Rattle.mxf_views.specs.Labels.{is_in_copy};
+ghost use Rattle.mxf_sets.specs.PackReadings.{primer_at};
+ghost use Rattle.mxf_sets.specs.Readable.{read_as};
 ghost use Rattle.mxf_klv.specs.Rising.{In};
-ghost use Rattle.mxf_views.specs.Copies.{IsBest, IsCopy, IsPreferred, IsStart, copies_of};
+ghost use Rattle.mxf_views.specs.Copies.{CopiesRise, IsBest, IsCopy, IsPreferred, IsStart, copies_of};
 ghost use Rattle.mxf_views.specs.declared.copy.CopyInfo.{CopyInfo};
 ghost use Rattle.std.specs.Iterator.{YieldsFirst, item_count};
 ghost use Rattle.mxf_catalogue.specs.Disputes.{AreApart, clear_notes};
@@ -14,7 +17,7 @@ ghost use Rattle.mxf_views.specs.Copies.{preferred_of, is_candidate, is_above, s
 pub(crate) mod sets;
 pub(crate) mod zone;
 
-use crate::copy::zone::{Zone, is_preface};
+use crate::copy::zone::{Zone, is_preface, lies_in};
 use crate::partition::{PartitionAt, Partitions};
 use mxf_catalogue::Catalogue;
 use mxf_klv::{Held, Kind, Note, Status};
@@ -39,18 +42,22 @@ pub struct CopyInfo {
     pub status: Status,
 }
 
+/// The primer pack of a note, where its value is kept and is one.
+pub(crate) fn read_primer(note: &Note) -> Option<Primer<'_>>
+    ensures { result ≡ read_as primer_at note.now }
+{
+    match note.held() {
+        Held::Whole(value) => Primer::read(value).ok(),
+        Held::Digest(_) => None,
+    }
+}
+
 /// Whether the note is a readable primer pack.
 #[tactic(auto, unfolding(crate::specs::Copies::is_readable_primer))]
 fn is_readable_primer(note: &Note) -> bool
     ensures { result ≡ is_readable_primer note.now }
 {
-    if note.kind() != Kind::Primer {
-        return false;
-    }
-    match note.held() {
-        Held::Whole(value) => Primer::read(value).is_ok(),
-        Held::Digest(_) => false,
-    }
+    note.kind() == Kind::Primer && read_primer(note).is_some()
 }
 
 /// The clear notes of a range of the file.
@@ -178,6 +185,18 @@ impl<'a> Copies<'a> {
         None
     }
 
+    /// The first whose zone has the packet of the note.
+    pub(crate) fn with(self, note: &Note) -> Option<CopyInfo>
+        ensures { result ≡ find (is_in_copy note.now) self.entry }
+    {
+        for copy in self {
+            if copy.has(note) {
+                return Some(copy);
+            }
+        }
+        None
+    }
+
     /// The preferred one.
     pub(crate) fn preferred(self) -> Option<CopyInfo>
         ensures { result ≡ preferred_of self.entry }
@@ -193,6 +212,16 @@ impl<'a> Copies<'a> {
 }
 
 impl CopyInfo {
+    /// Whether the packet of the note lies wholly in the zone.
+    fn has(&self, note: &Note) -> bool
+        ensures { result ≡ is_in_copy note.now self.now }
+    {
+        match self.start {
+            Some(start) => lies_in(start, self.bytes, note),
+            None => false,
+        }
+    }
+
     /// Whether it has a start and exactly one Preface.
     fn is_candidate(&self) -> bool
         ensures { result ≡ is_candidate self.now }
@@ -265,5 +294,6 @@ pub fn preferred_by_definition()
 
 /// A law of [`Views::copies`](crate::Views::copies): they are the copies of the partitions that have header metadata.
 pub fn copies_by_definition()
-    ensures { (notes : List NoteParts) (c : CopyInfo) → IsContent notes → In c (copies_of notes) ↔ IsCopy notes c }
+    ensures copies { (notes : List NoteParts) (c : CopyInfo) → IsContent notes → In c (copies_of notes) ↔ IsCopy notes c }
+    ensures rising { (notes : List NoteParts) → IsContent notes → CopiesRise (copies_of notes) }
 {}

@@ -1,22 +1,34 @@
-//! Views of the notes of a catalogue: partitions, gaps, copies of the header metadata and their references.
+//! Views of the notes of a catalogue: partitions, gaps, copies of the header metadata and their references, the places of
+//! edit units, the random index pack, and what is found to be wrong or missing.
 #![tactic(auto)]
 
 mod chain;
 mod copy;
+mod finding;
 mod gap;
+mod index;
 mod partition;
+mod random_index;
 mod reference;
 mod views;
 
 pub use chain::{Chain, Link, chain_by_definition, links_by_definition};
-pub use copy::sets::{Sets, sets_by_definition};
+pub use copy::sets::{Sets, set_items, sets_by_definition};
 pub use copy::{
     Copies, CopyInfo, copies_by_definition, covered_counts_offsets, preferred_by_definition,
     starts_by_definition,
 };
+pub use finding::{Code, Finding, Findings, findings_by_definition};
 pub use gap::{Gaps, gaps_by_definition};
+pub use index::place::{BadUnit, Pair, Place, places_by_definition};
+pub use index::{SegmentAt, Segments, segments_by_definition};
 pub use partition::{PartitionAt, Partitions, partitions_by_definition};
+pub use random_index::{
+    RipAt, RipView, Standing, Standings, rip_views_by_definition, standings_by_definition,
+};
 pub use reference::resolved::Resolved;
 pub use reference::target::{Ref, Refs, Target, targets_by_definition};
 pub use reference::{Found, found_by_definition};
-pub use views::{ViewFault, Views};
+pub use views::{
+    ViewFault, Views, added_notes_dispute_what_they_touch, views_let_go_of_disputed_notes,
+};

@@ -12,11 +12,14 @@ use mxf_klv::{Held, Kind, Note};
 use mxf_sets::{PackPart, PartitionPack};
 use std::marker::Model;
 
-/// A partition: the file offsets where its pack begins and ends, in bytes, and the pack.
+/// A partition: a clear readable partition pack and where it stands.
 #[derive(Debug, Drop)]
 pub struct PartitionAt<'a> {
+    /// The file offset where the pack's packet begins, in bytes.
     pub offset: u64,
+    /// The file offset where it ends, its last byte excluded.
     pub end: u64,
+    /// What the pack states.
     pub pack: PartitionPack<'a>,
 }
 

@@ -1,25 +1,37 @@
 //! Views of a catalogue.
-ghost use Rattle.std.specs.Prelude.{◌≡◌, ◌↔◌, ◌==◌, ◌||◌, not, ◌<◌, ◌^◌, length, count_by, [], IfErr, IfOk, OnOk, OnErr};
+ghost use Rattle.std.specs.Prelude.{◌≡◌, ◌≢◌, ◌↔◌, ◌==◌, ◌||◌, List, not, ◌<◌, ◌^◌, length, count_by, [], IfErr, IfOk, OnOk, OnErr};
 ghost use Rattle.std.specs.List.{list_all};
-ghost use Rattle.mxf_catalogue.specs.Disputes.{clear_notes};
+ghost use Rattle.mxf_catalogue.specs.Disputes.{SharesByte, clear_notes};
+ghost use Rattle.mxf_klv.specs.Parts.{NoteParts};
 ghost use Rattle.mxf_klv.specs.Rising.{In};
 ghost use Rattle.mxf_catalogue.specs.Content.{with_note, union_of};
 ghost use Rattle.mxf_views.specs.Partitions.{partitions_of, link_of, link_at, is_linked, chain_of, is_header, is_footer, is_greatest, is_no_unreadable_pack};
 ghost use Rattle.mxf_views.specs.Gaps.{gaps_of};
 ghost use Rattle.mxf_views.specs.Copies.{copies_of, preferred_of, sets_of};
+ghost use Rattle.mxf_views.specs.Labels.{primer_for, primer_of, primer_there};
 ghost use Rattle.mxf_views.specs.References.{found_in};
 ghost use Rattle.mxf_views.specs.Resolved.{resolved_of};
+ghost use Rattle.std.specs.Prelude.{◌≤◌};
+ghost use Rattle.std.specs.Result.{OkIff};
+ghost use Rattle.mxf_views.specs.Places.{greatest_unit, place_of, segments_of};
+ghost use Rattle.mxf_views.specs.RandomIndexView.{rip_view_of};
+ghost use Rattle.mxf_views.specs.Findings.{findings_of};
+ghost use Rattle.mxf_views.specs.SameViews.{SameViews};
 
 use crate::chain::{Chain, Link};
 use crate::copy::sets::{Sets, no_sets, sets_of_copy};
-use crate::copy::{Copies, CopyInfo};
+use crate::copy::{Copies, CopyInfo, read_primer};
+use crate::finding::Findings;
 use crate::gap::Gaps;
+use crate::index::Segments;
+use crate::index::place::{BadUnit, GREATEST_UNIT, Place};
 use crate::partition::{PartitionAt, Partitions, is_no_unreadable_pack};
+use crate::random_index::RipView;
 use crate::reference::resolved::{Resolved, preface_among, resolved_by};
 use crate::reference::{Found, find_among};
 use mxf_catalogue::{AddFault, Catalogue, Change, Semilattice};
 use mxf_klv::{Note, OutOfMemory};
-use mxf_sets::PackPart;
+use mxf_sets::{PackPart, Primer};
 use std::alloc::Global;
 use std::marker::Model;
 use uuid::Uuid;
@@ -81,11 +93,29 @@ impl Views {
         Ok(Views { catalogue })
     }
 
+    /// Moves the notes of a catalogue into that of these views, which are of the notes of both then. No kept value is
+    /// copied.
+    ///
+    /// The only fault is want of memory. These views are unchanged then, and the other catalogue is dropped.
+    pub fn merge(&mut self, alloc: Global, other: Catalogue) -> Result<(), OutOfMemory>
+        ensures merged { OnOk result (self.new ≡ union_of self.old other) }
+        ensures err { OnErr result (self.new ≡ self.old) }
+    {
+        self.catalogue.merge(alloc, other)
+    }
+
     /// The catalogue.
     pub fn catalogue(&self) -> &Catalogue
         ensures { result.now ≡ self.now }
     {
         &self.catalogue
+    }
+
+    /// The catalogue, without its views.
+    pub fn into_catalogue(self) -> Catalogue
+        ensures { result ≡ self }
+    {
+        self.catalogue
     }
 
     /// The partitions, rising.
@@ -244,6 +274,31 @@ impl Views {
         self.copies().preferred()
     }
 
+    /// The primer pack of the first copy whose bytes have the set: it says what the set's tags stand for. None where no
+    /// copy has the set.
+    #[tactic(auto, unfolding(crate::specs::Labels::primer_for))]
+    pub fn primer_for(&self, set: &Note) -> Option<Primer<'_>>
+        ensures { result ≡ primer_for self.now set.now }
+    {
+        let copy = self.copies().with(set)?;
+        self.primer_of(&copy)
+    }
+
+    /// The primer pack at the start of the copy.
+    fn primer_of(&self, copy: &CopyInfo) -> Option<Primer<'_>>
+        ensures { result ≡ primer_of self.now copy.now }
+    {
+        self.primer_there(copy.start?)
+    }
+
+    /// The primer pack of the clear note at a file offset.
+    fn primer_there(&self, offset: u64) -> Option<Primer<'_>>
+        ensures { result ≡ primer_there self.now offset }
+    {
+        let note = self.catalogue.clear_at(offset)?;
+        read_primer(note)
+    }
+
     /// What is found of an instance identifier among the sets of the copy of a partition.
     pub fn find(&self, partition: u64, uid: Uuid) -> Found
         ensures { result ≡ found_in self.now partition uid }
@@ -264,4 +319,52 @@ impl Views {
         let resolved = resolved_by(alloc, self, copy.partition, note)?;
         Ok(Some(resolved))
     }
+
+    /// The index table segments, rising.
+    #[tactic(auto, unfolding(crate::specs::Places::segments_of))]
+    pub fn segments(&self) -> Segments<'_>
+        ensures segments { result ≡ segments_of self.now }
+
+        // A count of the result fits.
+        ensures bound { length result < 2 ^ 64 }
+    {
+        Segments::of(self.catalogue.clear())
+    }
+
+    /// Where the index of an IndexSID puts an edit unit, by all segments that cover it.
+    ///
+    /// Fails for a unit above 9,223,372,036,854,775,807.
+    pub fn locate(&self, index_sid: u32, unit: u64) -> Result<Place, BadUnit>
+        ensures { OkIff result (unit ≤ greatest_unit) (place_of (segments_of self.now) index_sid unit) }
+    {
+        if unit > GREATEST_UNIT {
+            return Err(BadUnit);
+        }
+        Ok(self.segments().place_of(index_sid, unit))
+    }
+
+    /// What is known of the random index pack.
+    pub fn rip(&self) -> RipView<'_>
+        ensures { result ≡ rip_view_of self.now }
+    {
+        RipView::of(&self.catalogue)
+    }
+
+    /// What the notes show to be wrong or missing, by file offset and then code, none twice. It takes memory.
+    pub fn findings(&self, alloc: Global) -> Result<Findings, OutOfMemory>
+        ensures { IfOk result (λ f. f ≡ findings_of self.now) }
+    {
+        Findings::of(alloc, self)
+    }
 }
+
+/// A law of [`Views`]: all views but the gaps and the findings are those of the clear notes.
+pub fn views_let_go_of_disputed_notes()
+    ensures { (a b : List NoteParts) → clear_notes a ≡ clear_notes b → SameViews a b }
+{}
+
+/// A law of [`Views::add`]: no note is clear that shares a byte with another one which is added.
+pub fn added_notes_dispute_what_they_touch()
+    ensures { (m n : NoteParts) (notes : List NoteParts) → In m notes → n ≢ m → SharesByte n m
+        → ¬ In m (clear_notes (with_note n notes)) }
+{}

@@ -5,12 +5,14 @@ ghost use Rattle.mxf_klv.specs.Rising.{In};
 ghost use Rattle.mxf_catalogue.specs.Content.{IsContent};
 ghost use Rattle.mxf_catalogue.specs.Disputes.{AreApart, clear_notes};
 ghost use Rattle.std.specs.Iterator.{YieldsFirstRef, item_count};
+ghost use Rattle.mxf_views.specs.SetItems.{set_items, whole_items};
 ghost use Rattle.mxf_views.specs.Copies.{IsSetOf, is_set_note, sets_from, sets_of};
 
 use super::{CopyInfo, clear_zone};
 use crate::copy::zone::{Zone, is_set};
 use mxf_catalogue::Catalogue;
-use mxf_klv::Note;
+use mxf_klv::{Held, Note};
+use mxf_sets::{Items, items};
 use std::marker::Model;
 
 /// The notes of the header metadata sets of a copy that are left, rising.
@@ -72,6 +74,28 @@ pub(crate) fn sets_of_copy<'a>(catalogue: &'a Catalogue, copy: &CopyInfo) -> Set
     match copy.start {
         Some(start) => Sets::of(clear_zone(catalogue, start, copy.bytes)),
         None => no_sets(catalogue),
+    }
+}
+
+/// The items of a value, where they make up all of it.
+pub(crate) fn whole_items(value: &[u8]) -> Option<Items<'_>>
+    ensures { result ≡ whole_items value.now }
+{
+    items(value).ok()
+}
+
+/// The items of a header metadata set (ST 336, local sets), in their order. None where the note is no such set, keeps no
+/// value, or has an item that isn't whole.
+#[tactic(auto, unfolding(crate::specs::SetItems::set_items))]
+pub fn set_items(note: &Note) -> Option<Items<'_>>
+    ensures { result ≡ set_items note.now }
+{
+    if !is_set(note) {
+        return None;
+    }
+    match note.held() {
+        Held::Whole(value) => whole_items(value),
+        Held::Digest(_) => None,
     }
 }
 

@@ -11,7 +11,7 @@ use mxf_klv::{Kind, Note};
 use std::marker::Model;
 
 /// Whether the packet lies wholly in the range.
-fn lies_in(start: u64, bytes: u64, note: &Note) -> bool
+pub(crate) fn lies_in(start: u64, bytes: u64, note: &Note) -> bool
     ensures { result ≡ lies_in start bytes note.now }
 {
     start <= note.offset() && note.end() - start <= bytes

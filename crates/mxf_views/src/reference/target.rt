@@ -21,10 +21,15 @@ use uuid::Uuid;
 /// What a reference leads to, with file offsets in bytes.
 #[derive(Clone, Copy, Debug, PartialEq, Eq)]
 pub enum Target {
+    /// No set of the copy has the identifier.
     Missing,
+    /// More than one has it.
     Several,
+    /// The only one, at this offset, is of another kind than the reference names.
     WrongKind(u64),
+    /// The only one, at this offset, is of that kind and can't be read.
     Unreadable(u64),
+    /// The only one, at this offset, is of that kind and can be read.
     Found(u64),
 }
 

@@ -1,0 +1,348 @@
+-- The cause of each code is met at the offsets that are found of it, and at no others.
+use Rattle.std.proofs.Common.{◌≡◌, ◌≢◌, ℕ, ◌+◌, ◌-◌, ◌<◌, ◌≤◌, ◌⊎◌, Bool, true, false, cond, List, [], ◌∷◌, Option}
+use Rattle.std.proofs.Common.{Some}
+use Rattle.std.proofs.Common.{None, Result, Ok, Err, refl, sym, ap, ◌∙◌, inl, inr, arith, eqb-true, eq-eqb}
+use Rattle.std.specs.Prelude.{◌↔◌, ◌&&◌, ◌||◌, ◌==◌, nat_lt, not, is_some, filter, map}
+use Rattle.std.specs.Option.{option_map}
+use Rattle.std.specs.Result.{result_ok}
+use Rattle.std.proofs.lemmas.Bool.{ltb-false, ltb-true}
+use Rattle.mxf_klv.specs.declared.kinds.Status.{Status}
+use Rattle.mxf_klv.specs.declared.kinds.Status.TheVariants as statuses
+use Rattle.mxf_klv.specs.Parts.{NoteParts}
+use Rattle.mxf_klv.specs.Note.{end_of, keeps}
+use Rattle.mxf_klv.specs.Kind.{kind_of}
+use Rattle.mxf_klv.specs.Rising.{In}
+use Rattle.mxf_sets.specs.PartitionPack.{IsPartitionKind, PartitionPackParts}
+use Rattle.mxf_sets.specs.PackReadings.{pack_at, part_and_status}
+use Rattle.mxf_sets.specs.Readable.{read_as}
+use Rattle.mxf_sets.specs.declared.pack.part.PackPart.TheVariants.{Footer}
+use Rattle.mxf_catalogue.specs.declared.run.Run.{Run}
+use Rattle.mxf_catalogue.specs.Runs.{AreMaximal}
+use Rattle.mxf_catalogue.specs.Content.{IsContent}
+use Rattle.mxf_catalogue.specs.Disputes.{DisputedParts, IsClear, IsDisputedOf, Overlaps, SharesOffset, clear_notes}
+use Rattle.mxf_catalogue.specs.Disputes.{disputed_notes, disputed_parts}
+use Rattle.mxf_catalogue.proofs.DisputeLaws.{In-clear_notes, In-disputed_notes, IsDisputed-two_ways}
+use Rattle.mxf_catalogue.proofs.DisputeLaws.{is_offset_shared-SharesOffset, is_overlapped-Overlaps}
+use Rattle.mxf_catalogue.proofs.Lists.{In-map, list_any-In}
+use Rattle.mxf_views.specs.declared.chain.Link.TheVariants as links
+use Rattle.mxf_views.specs.Partitions.{PartitionParts, is_footer, is_no_unreadable_pack, link_of, pack_of}
+use Rattle.mxf_views.specs.Partitions.{partition_at, partitions_of}
+use Rattle.mxf_views.specs.Gaps.{gaps_of}
+use Rattle.mxf_views.specs.Findings.{footer_stands_at, is_misplaced, is_open, is_open_footer, is_unfit, lacks_footer}
+use Rattle.mxf_views.specs.FindingCauses.{AtClear, AtNote, AtPartition, IsGapStart, IsOpen, IsReadable, IsReadAs}
+use Rattle.mxf_views.specs.FindingCauses.{IsUnlinked, LacksFooter}
+use Rattle.mxf_views.proofs.ChainLaws.{footer_says, kind_says, kind_tells}
+use Rattle.mxf_views.proofs.FindingMembers.{In-chosen}
+use Rattle.mxf_views.proofs.GapsLaws.{gaps_are}
+use Rattle.mxf_views.proofs.Members.{both, parts}
+use Rattle.mxf_views.proofs.PartitionLaws.{link_iff}
+
+-- ---- tests
+
+pub not_if : (b : Bool) → (b ≡ true → ⊥) → not b ≡ true
+not_if true h = absurd (h refl)
+not_if false h = refl
+
+pub if_not : (b : Bool) → not b ≡ true → b ≡ true → ⊥
+if_not true h k = cc
+if_not false h k = cc
+
+pub one_of : (a b : Bool) → (a || b) ≡ true → (a ≡ true) ⊎ (b ≡ true)
+one_of true b h = inl refl
+one_of false b h = inr h
+
+pub either : (a b : Bool) → (a ≡ true) ⊎ (b ≡ true) → (a || b) ≡ true
+either true b h = refl
+either false true h = refl
+either false false (inl h) = absurd cc
+either false false (inr h) = absurd cc
+
+-- ---- disputes
+
+pub shared_offsets : (notes : List NoteParts) (o : ℕ)
+    → In o (map (λ d. d.note.offset) (filter (λ d. d.same_offset) (disputed_notes notes)))
+    ↔ AtNote notes o (λ n. SharesOffset n notes)
+shared_offsets notes o =
+    let m = In-chosen (λ (d : DisputedParts). d.note.offset) (λ d. d.same_offset) (disputed_notes notes) o in (
+      λ h.
+          let s = m.0 h in
+          let d = (In-disputed_notes s.0 notes).0 s.1 in
+          (s.0.note, d.held, s.3, d.same_offset.0 s.2),
+      λ s.
+          let n = s.0 in
+          let t = is_offset_shared-SharesOffset n notes in
+          let d : IsDisputedOf (disputed_parts n notes) notes = record {
+            held = s.1;
+            disputed = (IsDisputed-two_ways n notes).1 (inl s.3);
+            same_offset = t;
+            overlaps = is_overlapped-Overlaps n notes;
+          } in
+          m.1 (disputed_parts n notes, (In-disputed_notes (disputed_parts n notes) notes).1 d, t.1 s.3, s.2),
+    )
+
+pub overlaps : (notes : List NoteParts) (o : ℕ)
+    → In o (map (λ d. d.note.offset) (filter (λ d. d.overlaps) (disputed_notes notes)))
+    ↔ AtNote notes o (λ n. Overlaps n notes)
+overlaps notes o =
+    let m = In-chosen (λ (d : DisputedParts). d.note.offset) (λ d. d.overlaps) (disputed_notes notes) o in (
+      λ h.
+          let s = m.0 h in
+          let d = (In-disputed_notes s.0 notes).0 s.1 in
+          (s.0.note, d.held, s.3, d.overlaps.0 s.2),
+      λ s.
+          let n = s.0 in
+          let t = is_overlapped-Overlaps n notes in
+          let d : IsDisputedOf (disputed_parts n notes) notes = record {
+            held = s.1;
+            disputed = (IsDisputed-two_ways n notes).1 (inr s.3);
+            same_offset = is_offset_shared-SharesOffset n notes;
+            overlaps = t;
+          } in
+          m.1 (disputed_parts n notes, (In-disputed_notes (disputed_parts n notes) notes).1 d, t.1 s.3, s.2),
+    )
+
+-- ---- gaps
+
+-- runs of a maximal list begin at or above what it does, and hold an offset
+bounds : (low : ℕ) (runs : List Run) (r : Run) → AreMaximal low runs → In r runs → (low ≤ r.start) × (r.start < r.end)
+bounds low [] r m h = absurd h
+bounds low (s ∷ runs) r m (inl e) =
+    let a = ap (λ (x : Run). x.start) e in
+    let b = ap (λ (x : Run). x.end) e in
+    let l : low ≤ s.start = m.0 in
+    let k : s.start < s.end = m.1 in
+    (omega (arith, a), omega (arith, a, b))
+bounds low (s ∷ runs) r m (inr h) =
+    let ih = bounds (s.end + 1) runs r m.2 h in
+    let l : low ≤ s.start = m.0 in
+    let k : s.start < s.end = m.1 in
+    let i : s.end + 1 ≤ r.start = ih.0 in
+    (omega arith, ih.1)
+
+-- an offset lies between two of them
+between : (low : ℕ) (runs : List Run) (r s : Run) → AreMaximal low runs → In r runs → In s runs
+    → (r.start ≡ s.start) ⊎ ((r.end < s.start) ⊎ (s.end < r.start))
+between low [] r s m h k = absurd h
+between low (x ∷ runs) r s m (inl e) (inl f) = inl (ap (λ (y : Run). y.start) e ∙ sym (ap (λ (y : Run). y.start) f))
+between low (x ∷ runs) r s m (inl e) (inr k) =
+    let b = ap (λ (y : Run). y.end) e in
+    let i : x.end + 1 ≤ s.start = (bounds (x.end + 1) runs s m.2 k).0 in
+    inr (inl (omega (arith, b, i)))
+between low (x ∷ runs) r s m (inr h) (inl f) =
+    let b = ap (λ (y : Run). y.end) f in
+    let i : x.end + 1 ≤ r.start = (bounds (x.end + 1) runs r m.2 h).0 in
+    inr (inr (omega (arith, b, i)))
+between low (x ∷ runs) r s m (inr h) (inr k) = between (x.end + 1) runs r s m.2 h k
+
+pub gap_starts : (notes : List NoteParts) (o : ℕ) → IsContent notes
+    → In o (map (λ r. r.start) (gaps_of notes)) ↔ IsGapStart notes o
+gap_starts notes o content =
+    let runs = gaps_of notes in
+    let gaps = gaps_are notes content in
+    let m = In-map (λ (r : Run). r.start) runs o in (
+      λ h.
+          let s = m.0 h in
+          let r = s.0 in
+          let at : o ≡ r.start = s.2 in
+          let b : r.start < r.end = (bounds 0 runs r gaps.maximal s.1).1 in
+          record {
+            gap = (gaps.offsets o).0 (r, s.1, record { from = omega (arith, at); before = omega (arith, at, b) });
+            first = λ before next g.
+                let w = (gaps.offsets before).1 g in
+                let q = w.0 in
+                let from : q.start ≤ before = w.2.from in
+                let to : before + 1 ≤ q.end = w.2.before in
+                elim (between 0 runs r q gaps.maximal s.1 w.1) [
+                  | inl e ↦ omega (arith, at, next, from, e)
+                  | inr k ↦ elim k [
+                    | inl l ↦ omega (arith, at, b, next, from, l)
+                    | inr l ↦ omega (arith, at, next, to, l)
+                  ]
+                ];
+          },
+      λ g.
+          let w = (gaps.offsets o).1 g.gap in
+          let r = w.0 in
+          let from : r.start ≤ o = w.2.from in
+          let to : o + 1 ≤ r.end = w.2.before in
+          elim (nat_lt r.start o) as (λ b. nat_lt r.start o ≡ b → In o (map (λ r. r.start) runs)) [
+            | true ↦ λ t.
+                let l : r.start < o = ltb-true r.start o t in
+                absurd (g.first (o - 1) (omega arith) ((gaps.offsets (o - 1)).0
+                (r, w.1, record { from = omega arith; before = omega arith })))
+            | false ↦ λ t. let l = ltb-false r.start o t in m.1 (r, w.1, omega (arith, l, from))
+          ] refl,
+    )
+
+-- ---- partition packs
+
+pub reads : {A E : Type 0} (read : List ℕ → Result A E) (n : NoteParts) (value : A)
+    → (read_as read n ≡ Some value) ↔ IsReadAs read n value
+reads {A} {E} read n value = (
+  λ h. elim (keeps n.key n.length) as (λ b. keeps n.key n.length ≡ b
+      → cond b (result_ok (read n.held)) None ≡ Some value → IsReadAs read n value) [
+        | false ↦ λ _ q. absurd cc
+        | true ↦ λ k q. elim (read n.held) as (λ r. read n.held ≡ r
+            → result_ok r ≡ Some value → IsReadAs read n value) [
+              | Err f ↦ λ _ u. absurd cc
+              | Ok x ↦ λ e u. (k, e ∙ (let same : x ≡ value = cc (u) in ap (λ (y : A). Ok y) same))
+            ] refl q
+      ] refl h,
+  λ s. let k : keeps n.key n.length ≡ true = s.0 in let e = s.1 in rw k (rw e refl),
+)
+
+pub is_some_readable : {A E : Type 0} (read : List ℕ → Result A E) (n : NoteParts)
+    → (is_some (read_as read n) ≡ true) ↔ IsReadable read n
+is_some_readable {A} read n = (
+  λ h. elim (read_as read n) as (λ o. read_as read n ≡ o → is_some o ≡ true → IsReadable read n) [
+    | None ↦ λ _ q. absurd cc
+    | Some value ↦ λ e _. (value, (reads read n value).0 e)
+  ] refl h,
+  λ s. ap (λ (o : Option A). is_some o) ((reads read n s.0).1 s.1),
+)
+
+is_some-map : {A B : Type 0} (f : A → B) (o : Option A) → is_some (option_map f o) ≡ is_some o
+is_some-map f None = refl
+is_some-map f (Some x) = refl
+
+is_some-partition_at : (n : NoteParts) → is_some (partition_at n) ≡ is_some (pack_of n)
+unfolding partition_at
+is_some-partition_at n =
+    let at : PartitionPackParts → PartitionParts =
+    λ pack. record { offset = n.offset; end = end_of n; pack = pack } in
+    is_some-map at (pack_of n)
+
+unreadable_pack : (n : NoteParts) → (not (is_no_unreadable_pack n) ≡ true)
+    ↔ (IsPartitionKind (kind_of n.key) × ¬ IsReadable (pack_at (kind_of n.key)) n)
+unfolding is_no_unreadable_pack
+unreadable_pack n =
+    let told = is_some (part_and_status (kind_of n.key)) in
+    let there = is_some (partition_at n) in
+    let e = is_some-partition_at n in
+    let r = is_some_readable (pack_at (kind_of n.key)) n in (
+      λ h. (
+        kind_says (kind_of n.key) (elim told as (λ b. told ≡ b → told ≡ true) [
+          | true ↦ λ t. t
+          | false ↦ λ t. absurd (if_not (not told || there) h (ap (λ b. not b || there) t))
+        ] refl),
+        λ s. if_not (not told || there) h (either (not told) there (inr (e ∙ r.1 s))),
+      ),
+      λ s. not_if (not told || there) (λ t. elim (one_of (not told) there t) [
+        | inl u ↦ if_not told u (kind_tells (kind_of n.key) s.0)
+        | inr u ↦ s.1 (r.0 (sym e ∙ u))
+      ]),
+    )
+
+-- the offsets of the clear notes that pass a test
+pub at_clear : (p : NoteParts → Bool) (P : NoteParts → Type 0) (notes : List NoteParts) (o : ℕ)
+    → ((n : NoteParts) → IsClear n notes → (p n ≡ true) ↔ P n)
+    → In o (map (λ n. n.offset) (filter p (clear_notes notes))) ↔ AtClear notes o P
+at_clear p P notes o each =
+    let m = In-chosen (λ (n : NoteParts). n.offset) p (clear_notes notes) o in (
+      λ h. let s = m.0 h in let c = (In-clear_notes s.0 notes).0 s.1 in (s.0, c, s.3, (each s.0 c).0 s.2),
+      λ s. m.1 (s.0, (In-clear_notes s.0 notes).1 s.1, (each s.0 s.1).1 s.3, s.2),
+    )
+
+pub unreadable_packs : (notes : List NoteParts) (o : ℕ)
+    → In o (map (λ n. n.offset) (filter (λ n. not (is_no_unreadable_pack n)) (clear_notes notes)))
+    ↔ AtClear notes o (λ n. IsPartitionKind (kind_of n.key) × ¬ IsReadable (pack_at (kind_of n.key)) n)
+unreadable_packs notes o =
+    at_clear (λ n. not (is_no_unreadable_pack n))
+    (λ n. IsPartitionKind (kind_of n.key) × ¬ IsReadable (pack_at (kind_of n.key)) n) notes o (λ n _. unreadable_pack n)
+
+-- ---- partitions
+
+-- the offsets of the partitions that pass a test
+pub at_partition : (p : PartitionParts → Bool) (P : PartitionParts → Type 0) (notes : List NoteParts) (o : ℕ)
+    → ((x : PartitionParts) → (p x ≡ true) ↔ P x)
+    → In o (map (λ x. x.offset) (filter p (partitions_of notes))) ↔ AtPartition notes o P
+at_partition p P notes o each =
+    let m = In-chosen (λ (x : PartitionParts). x.offset) p (partitions_of notes) o in (
+      λ h. let s = m.0 h in (s.0, s.1, s.3, (each s.0).0 s.2),
+      λ s. m.1 (s.0, s.1, (each s.0).1 s.3, s.2),
+    )
+
+pub not_equal : (a b : ℕ) → (not (a == b) ≡ true) ↔ (a ≢ b)
+not_equal a b = (λ h e. if_not (a == b) h (eq-eqb a b e), λ h. not_if (a == b) (λ t. h (eqb-true a b t)))
+
+unlinked : (ps : List PartitionParts) (p : PartitionParts) → (is_unfit (link_of ps p) ≡ true) ↔ IsUnlinked ps p
+unlinked ps p = (
+  λ h. elim (link_of ps p) as (λ l. link_of ps p ≡ l → is_unfit l ≡ true → IsUnlinked ps p) [
+    | links.First ↦ λ _ q. absurd cc
+    | links.Held ↦ λ _ q. absurd cc
+    | links.Skips ↦ λ e _. inl ((link_iff ps p links.Skips).0 e)
+    | links.Missing ↦ λ e _. inr (inl ((link_iff ps p links.Missing).0 e))
+    | links.Wrong ↦ λ e _. inr (inr ((link_iff ps p links.Wrong).0 e))
+  ] refl h,
+  λ s. elim s [
+    | inl i ↦ ap is_unfit ((link_iff ps p links.Skips).1 i)
+    | inr k ↦ elim k [
+      | inl i ↦ ap is_unfit ((link_iff ps p links.Missing).1 i)
+      | inr i ↦ ap is_unfit ((link_iff ps p links.Wrong).1 i)
+    ]
+  ],
+)
+
+open_says : (s : Status) → (is_open s ≡ true) ↔ IsOpen s
+open_says s = (
+  λ h. elim s as (λ x. s ≡ x → is_open x ≡ true → IsOpen s) [
+    | statuses.OpenIncomplete ↦ λ e _. inl e
+    | statuses.OpenComplete ↦ λ e _. inr e
+    | statuses.ClosedIncomplete ↦ λ _ q. absurd cc
+    | statuses.ClosedComplete ↦ λ _ q. absurd cc
+  ] refl h,
+  λ k. elim k [ inl e ↦ ap is_open e | inr e ↦ ap is_open e ],
+)
+
+open_footer : (p : PartitionParts) → (is_open_footer p ≡ true) ↔ ((p.pack.part ≡ Footer) × IsOpen p.pack.status)
+open_footer p = (
+  λ h.
+      let s = parts (is_footer p.pack.part) (is_open p.pack.status) h in
+      (footer_says p.pack.part s.0, (open_says p.pack.status).0 s.1),
+  λ s. both (is_footer p.pack.part) (is_open p.pack.status) (ap is_footer s.0) ((open_says p.pack.status).1 s.1),
+)
+
+footer_lacks : (ps : List PartitionParts) (p : PartitionParts) → (lacks_footer ps p ≡ true) ↔ LacksFooter ps p
+footer_lacks ps p =
+    let at = p.pack.numbers.footer_partition in
+    let there = list_any-In (λ (q : PartitionParts). is_footer q.pack.part && q.offset == at) ps in
+    let zero = not_equal at 0 in (
+      λ h.
+          let s = parts (not (at == 0)) (not (footer_stands_at at ps)) h in
+          record {
+            named = zero.0 s.0;
+            none = λ q k f e. if_not (footer_stands_at at ps) s.1
+                (there.1 (q, k, both (is_footer q.pack.part) (q.offset == at) (ap is_footer f) (eq-eqb q.offset at e)));
+          },
+      λ l. both (not (at == 0)) (not (footer_stands_at at ps)) (zero.1 l.named) (not_if (footer_stands_at at ps) (λ t.
+          let s = there.0 t in
+          let b = parts (is_footer s.0.pack.part) (s.0.offset == at) s.2 in
+          l.none s.0 s.1 (footer_says s.0.pack.part b.0) (eqb-true s.0.offset at b.1))),
+    )
+
+pub misplaced_partitions : (notes : List NoteParts) (o : ℕ)
+    → In o (map (λ p. p.offset) (filter is_misplaced (partitions_of notes)))
+    ↔ AtPartition notes o (λ p. p.pack.numbers.this_partition ≢ p.offset)
+misplaced_partitions notes o =
+    at_partition is_misplaced (λ p. p.pack.numbers.this_partition ≢ p.offset) notes o
+    (λ p. not_equal p.pack.numbers.this_partition p.offset)
+
+pub unlinked_partitions : (notes : List NoteParts) (o : ℕ)
+    → In o (map (λ p. p.offset) (filter (λ p. is_unfit (link_of (partitions_of notes) p)) (partitions_of notes)))
+    ↔ AtPartition notes o (IsUnlinked (partitions_of notes))
+unlinked_partitions notes o =
+    at_partition (λ p. is_unfit (link_of (partitions_of notes) p)) (IsUnlinked (partitions_of notes)) notes o
+    (unlinked (partitions_of notes))
+
+pub open_footers : (notes : List NoteParts) (o : ℕ)
+    → In o (map (λ p. p.offset) (filter is_open_footer (partitions_of notes)))
+    ↔ AtPartition notes o (λ p. (p.pack.part ≡ Footer) × IsOpen p.pack.status)
+open_footers notes o =
+    at_partition is_open_footer (λ p. (p.pack.part ≡ Footer) × IsOpen p.pack.status) notes o open_footer
+
+pub lost_footers : (notes : List NoteParts) (o : ℕ)
+    → In o (map (λ p. p.offset) (filter (lacks_footer (partitions_of notes)) (partitions_of notes)))
+    ↔ AtPartition notes o (LacksFooter (partitions_of notes))
+lost_footers notes o =
+    at_partition (lacks_footer (partitions_of notes)) (LacksFooter (partitions_of notes)) notes o
+    (footer_lacks (partitions_of notes))

@@ -1,0 +1,277 @@
+-- The causes of findings of the header metadata are met at the offsets that are found of them, and at no others.
+use Rattle.std.proofs.Common.{◌≡◌, ◌≢◌, ℕ, ◌⊎◌, Bool, true, false, List, [], ◌∷◌, Option, Some, None, Result}
+use Rattle.std.proofs.Common.{Ok, Err, refl, sym, ap, subst, ◌∙◌, inl, inr, arith, eqb-true, eq-eqb, length}
+use Rattle.std.specs.Prelude.{◌↔◌, ◌&&◌, ◌||◌, ◌==◌, not, IsTrue, is_none, is_ok, is_some, filter, map, if◌then◌else◌}
+use Rattle.mxf_klv.specs.declared.kinds.Kind.{Kind}
+use Rattle.mxf_klv.specs.declared.kinds.Kind.TheVariants as kinds
+use Rattle.mxf_klv.specs.Parts.{NoteParts}
+use Rattle.mxf_klv.specs.Note.{keeps}
+use Rattle.mxf_klv.specs.Kind.{kind_of}
+use Rattle.mxf_klv.specs.Rising.{In}
+use Rattle.mxf_sets.specs.PackReadings.{primer_at}
+use Rattle.mxf_sets.specs.Items.{items_of, left_of}
+use Rattle.mxf_sets.specs.Preface.{preface_at}
+use Rattle.mxf_sets.specs.Identification.{identification_at}
+use Rattle.mxf_sets.specs.Storage.{storage_at}
+use Rattle.mxf_sets.specs.Package.{package_at}
+use Rattle.mxf_sets.specs.Segment.{segment_at}
+use Rattle.mxf_catalogue.specs.Content.{IsContent}
+use Rattle.mxf_catalogue.specs.Disputes.{clear_notes}
+use Rattle.mxf_views.specs.declared.copy.CopyInfo.{CopyInfo}
+use Rattle.mxf_views.specs.declared.reference.target.Ref.{Ref}
+use Rattle.mxf_views.specs.declared.reference.target.Target.{Target}
+use Rattle.mxf_views.specs.declared.reference.target.Target.TheVariants.{Found, Missing, Several, WrongKind, Unreadable}
+use Rattle.mxf_views.specs.Copies.{IsCopy, copies_of, is_primer, is_set}
+use Rattle.mxf_views.specs.SetItems.{whole_items}
+use Rattle.mxf_views.specs.Resolved.{ResolvedParts, resolved_of}
+use Rattle.mxf_views.specs.Findings.{is_found, is_partial, is_segment, is_unreadable_segment}
+use Rattle.mxf_views.specs.Findings.{is_unreadable_set, lost_at, lost_behind, lost_beside, lost_by, lost_in}
+use Rattle.mxf_views.specs.Findings.{reads_value}
+use Rattle.mxf_views.specs.FindingCauses.{AtClear, Holds, HoldsLost, IsReadable, IsReadableSet}
+use Rattle.mxf_views.proofs.CauseLaws.{at_clear, either, if_not, not_if, one_of}
+use Rattle.mxf_views.proofs.CopyLaws.{copies_are}
+use Rattle.mxf_views.proofs.FindingMembers.{In-append, In-chosen}
+use Rattle.mxf_views.proofs.Members.{both, false_if, parts}
+
+-- ---- copies
+
+none_says : {A : Type 0} (o : Option A) → is_none o ≡ true → o ≡ None
+none_says None h = refl
+none_says (Some x) h = absurd cc
+
+partial_is : (c : CopyInfo) → (is_partial c ≡ true) ↔ ((c.start ≡ None) ⊎ (c.finished ≡ false))
+partial_is c = (
+  λ h. elim (one_of (is_none c.start) (not c.finished) h) [
+    | inl t ↦ inl (none_says c.start t)
+    | inr t ↦ inr (false_if c.finished (if_not c.finished t))
+  ],
+  λ s. either (is_none c.start) (not c.finished) (elim s [
+    | inl e ↦ inl (ap (λ (o : Option ℕ). is_none o) e)
+    | inr e ↦ inr (ap not e)
+  ]),
+)
+
+pub partial_copies : (notes : List NoteParts) (o : ℕ) → IsContent notes
+    → In o (map (λ c. c.partition) (filter is_partial (copies_of notes)))
+    ↔ ((c : CopyInfo) × IsCopy notes c × (c.partition ≡ o) × ((c.start ≡ None) ⊎ (c.finished ≡ false)))
+partial_copies notes o r =
+    let m = In-chosen (λ (c : CopyInfo). c.partition) is_partial (copies_of notes) o in (
+      λ h. let s = m.0 h in (s.0, (copies_are notes s.0 r).0 s.1, s.3, (partial_is s.0).0 s.2),
+      λ s. m.1 (s.0, (copies_are notes s.0 r).1 s.1, (partial_is s.0).1 s.3, s.2),
+    )
+
+-- ---- sets that can't be read
+
+ok_readable : {A E : Type 0} (read : List ℕ → Result A E) (n : NoteParts)
+    → ((keeps n.key n.length && is_ok (read n.held)) ≡ true) ↔ IsReadable read n
+ok_readable {A} {E} read n = (
+  λ h.
+      let s = parts (keeps n.key n.length) (is_ok (read n.held)) h in
+      elim (read n.held) as (λ r. read n.held ≡ r → is_ok r ≡ true → IsReadable read n) [
+        | Ok x ↦ λ e _. (x, (s.0, e))
+        | Err f ↦ λ _ q. absurd cc
+      ] refl s.1,
+  λ s. both (keeps n.key n.length) (is_ok (read n.held)) s.1.0 (ap (λ (r : Result A E). is_ok r) s.1.1),
+)
+
+no_length : (xs : List ℕ) → length xs ≡ 0 → xs ≡ []
+no_length [] e = refl
+no_length (x ∷ xs) e = absurd (omega (arith, e))
+
+whole_says : (bytes : List ℕ) → (is_some (whole_items bytes) ≡ true) ↔ (left_of bytes ≡ [])
+whole_says bytes = (
+  λ h. elim (length (left_of bytes) == 0) as (λ b. (length (left_of bytes) == 0) ≡ b
+      → is_some (if b then Some (items_of bytes) else None) ≡ true → left_of bytes ≡ []) [
+        | true ↦ λ t _. no_length (left_of bytes) (eqb-true (length (left_of bytes)) 0 t)
+        | false ↦ λ _ q. absurd cc
+      ] refl h,
+  λ e. ap (λ (b : Bool). is_some (if b then Some (items_of bytes) else None))
+      (eq-eqb (length (left_of bytes)) 0 (ap length e)),
+)
+
+raw_readable : (n : NoteParts) → ((keeps n.key n.length && is_some (whole_items n.held)) ≡ true)
+    ↔ IsReadableSet kinds.RawSet n
+raw_readable n = (
+  λ h. let s = parts (keeps n.key n.length) (is_some (whole_items n.held)) h in (s.0, (whole_says n.held).0 s.1),
+  λ s. both (keeps n.key n.length) (is_some (whole_items n.held)) s.0 ((whole_says n.held).1 s.1),
+)
+
+set_readable : (k : Kind) (n : NoteParts) → (is_primer k || is_set k) ≡ true
+    → ((keeps n.key n.length && reads_value k n.held) ≡ true) ↔ IsReadableSet k n
+set_readable kinds.Primer n h = ok_readable primer_at n
+set_readable kinds.Preface n h = ok_readable preface_at n
+set_readable kinds.Identification n h = ok_readable identification_at n
+set_readable kinds.ContentStorage n h = ok_readable storage_at n
+set_readable kinds.MaterialPackage n h = ok_readable package_at n
+set_readable kinds.SourcePackage n h = ok_readable package_at n
+set_readable kinds.RawSet n h = raw_readable n
+set_readable (kinds.Header s) n h = absurd cc
+set_readable (kinds.Body s) n h = absurd cc
+set_readable (kinds.Footer s) n h = absurd cc
+set_readable kinds.Segment n h = absurd cc
+set_readable kinds.Rip n h = absurd cc
+set_readable kinds.Fill n h = absurd cc
+set_readable kinds.Essence n h = absurd cc
+set_readable kinds.Other n h = absurd cc
+
+unreadable_set : (n : NoteParts) → (is_unreadable_set n ≡ true)
+    ↔ (IsTrue (is_primer (kind_of n.key) || is_set (kind_of n.key)) × ¬ IsReadableSet (kind_of n.key) n)
+unfolding is_unreadable_set
+unreadable_set n =
+    let kind = kind_of n.key in
+    let some = is_primer kind || is_set kind in
+    let read = keeps n.key n.length && reads_value kind n.held in (
+      λ h.
+          let s = parts some (not read) h in
+          (s.0, λ k. if_not read s.1 ((set_readable kind n s.0).1 k)),
+      λ s. both some (not read) s.0 (not_if read (λ t. s.1 ((set_readable kind n s.0).0 t))),
+    )
+
+pub unreadable_sets : (notes : List NoteParts) (o : ℕ)
+    → In o (map (λ n. n.offset) (filter is_unreadable_set (clear_notes notes)))
+    ↔ AtClear notes o (λ n. IsTrue (is_primer (kind_of n.key) || is_set (kind_of n.key))
+    × ¬ IsReadableSet (kind_of n.key) n)
+unreadable_sets notes o =
+    at_clear is_unreadable_set
+    (λ n. IsTrue (is_primer (kind_of n.key) || is_set (kind_of n.key)) × ¬ IsReadableSet (kind_of n.key) n) notes o
+    (λ n _. unreadable_set n)
+
+-- ---- index table segments that can't be read
+
+segment_says : (k : Kind) → is_segment k ≡ true → k ≡ kinds.Segment
+segment_says kinds.Segment h = refl
+segment_says kinds.Primer h = absurd cc
+segment_says kinds.Preface h = absurd cc
+segment_says kinds.Identification h = absurd cc
+segment_says kinds.ContentStorage h = absurd cc
+segment_says kinds.MaterialPackage h = absurd cc
+segment_says kinds.SourcePackage h = absurd cc
+segment_says kinds.RawSet h = absurd cc
+segment_says (kinds.Header s) h = absurd cc
+segment_says (kinds.Body s) h = absurd cc
+segment_says (kinds.Footer s) h = absurd cc
+segment_says kinds.Rip h = absurd cc
+segment_says kinds.Fill h = absurd cc
+segment_says kinds.Essence h = absurd cc
+segment_says kinds.Other h = absurd cc
+
+unreadable_segment : (n : NoteParts) → (is_unreadable_segment n ≡ true)
+    ↔ ((kind_of n.key ≡ kinds.Segment) × ¬ IsReadable segment_at n)
+unfolding is_unreadable_segment
+unreadable_segment n =
+    let kind = kind_of n.key in
+    let read = keeps n.key n.length && reads_value kind n.held in
+    let r = ok_readable segment_at n in
+    let same = λ (e : kind ≡ kinds.Segment). ap (λ (k : Kind). keeps n.key n.length && reads_value k n.held) e in (
+      λ h.
+          let s = parts (is_segment kind) (not read) h in
+          let e = segment_says kind s.0 in
+          (e, λ k. if_not read s.1 (same e ∙ r.1 k)),
+      λ s. both (is_segment kind) (not read) (ap is_segment s.0) (not_if read (λ t. s.1 (r.0 (sym (same s.0) ∙ t)))),
+    )
+
+pub unreadable_segments : (notes : List NoteParts) (o : ℕ)
+    → In o (map (λ n. n.offset) (filter is_unreadable_segment (clear_notes notes)))
+    ↔ AtClear notes o (λ n. (kind_of n.key ≡ kinds.Segment) × ¬ IsReadable segment_at n)
+unreadable_segments notes o =
+    at_clear is_unreadable_segment (λ n. (kind_of n.key ≡ kinds.Segment) × ¬ IsReadable segment_at n) notes o
+    (λ n _. unreadable_segment n)
+
+-- ---- references
+
+lost_says : (t : Target) → (not (is_found t) ≡ true) ↔ ((found : ℕ) → t ≢ Found found)
+lost_says t = (
+  λ h found e. if_not (is_found t) h (ap is_found e),
+  λ f. not_if (is_found t) (λ q. elim t as (λ x. t ≡ x → is_found x ≡ true → ⊥) [
+    | Found found ↦ λ e _. f found e
+    | Missing ↦ λ _ u. cc
+    | Several ↦ λ _ u. cc
+    | WrongKind w ↦ λ _ u. cc
+    | Unreadable w ↦ λ _ u. cc
+  ] refl q),
+)
+
+-- a reference of some that isn't found
+abbrev LosesOne : List Ref → Type 0
+LosesOne refs = (ref : Ref) × In ref refs × ((found : ℕ) → ref.target ≢ Found found)
+
+In-lost_at : (offset : ℕ) (refs : List Ref) (o : ℕ) → In o (lost_at offset refs) ↔ ((offset ≡ o) × LosesOne refs)
+In-lost_at offset refs o =
+    let m = In-chosen (λ (r : Ref). offset) (λ r. not (is_found r.target)) refs o in (
+      λ h. let s = m.0 h in (s.3, (s.0, s.1, (lost_says s.0.target).0 s.2)),
+      λ s. m.1 (s.1.0, s.1.1, (lost_says s.1.0.target).1 s.1.2, s.0),
+    )
+
+-- by what the reference to the storage leads to
+In-lost_behind : (preface : ℕ) (t : Target) (packages : List Ref) (o : ℕ)
+    → In o (lost_behind preface t packages)
+    ↔ (((o ≡ preface) × ((found : ℕ) → t ≢ Found found)) ⊎ ((t ≡ Found o) × LosesOne packages))
+In-lost_behind preface (Found w) packages o =
+    let m = In-lost_at w packages o in (
+      λ h. let s = m.0 h in inr (ap (λ (x : ℕ). Found x) s.0, s.1),
+      λ h. elim h [
+        | inl s ↦ absurd (s.1 w refl)
+        | inr s ↦ m.1 (let t = s.0 in let same : w ≡ o = cc (t) in same, s.1)
+      ],
+    )
+In-lost_behind preface Missing packages o = (
+  λ h. elim h [ inl q ↦ inl (q, λ found e. cc) | inr k ↦ absurd k ],
+  λ h. elim h [ inl s ↦ inl s.0 | inr s ↦ absurd (let t = s.0 in cc (t)) ],
+)
+In-lost_behind preface Several packages o = (
+  λ h. elim h [ inl q ↦ inl (q, λ found e. cc) | inr k ↦ absurd k ],
+  λ h. elim h [ inl s ↦ inl s.0 | inr s ↦ absurd (let t = s.0 in cc (t)) ],
+)
+In-lost_behind preface (WrongKind w) packages o = (
+  λ h. elim h [ inl q ↦ inl (q, λ found e. cc) | inr k ↦ absurd k ],
+  λ h. elim h [ inl s ↦ inl s.0 | inr s ↦ absurd (let t = s.0 in cc (t)) ],
+)
+In-lost_behind preface (Unreadable w) packages o = (
+  λ h. elim h [ inl q ↦ inl (q, λ found e. cc) | inr k ↦ absurd k ],
+  λ h. elim h [ inl s ↦ inl s.0 | inr s ↦ absurd (let t = s.0 in cc (t)) ],
+)
+
+-- a set at the offset holds a reference that isn't found
+abbrev LosesAt : ResolvedParts → ℕ → Type 0
+LosesAt r o = (ref : Ref) × Holds r o ref × ((found : ℕ) → ref.target ≢ Found found)
+
+In-lost_by : (r : ResolvedParts) (o : ℕ) → In o (lost_by r) ↔ LosesAt r o
+In-lost_by r o =
+    let names = lost_at r.preface r.identifications in
+    let a = In-append names (lost_beside r.preface r.storage r.packages) o in
+    let m = In-lost_at r.preface r.identifications o in (
+      λ h. elim (a.0 h) [
+        | inl k ↦ let s = m.0 k in (s.1.0, inl (sym s.0, inr s.1.1), s.1.2)
+        | inr k ↦
+            elim (r.storage) as (λ q. r.storage ≡ q → In o (lost_beside r.preface q r.packages) → LosesAt r o) [
+              | None ↦ λ _ h. absurd h
+              | Some storage ↦ λ e h. elim ((In-lost_behind r.preface storage.target r.packages o).0 h) [
+                | inl s ↦ (storage, inl (s.0, inl e), s.1)
+                | inr s ↦ (s.1.0, inr (storage, e, s.0, s.1.1), s.1.2)
+              ]
+            ] refl k
+      ],
+      λ s. elim s.1 [
+        | inl k ↦ elim k.1 [
+          | inl e ↦
+              a.1 (inr (subst (λ (q : Option Ref). In o (lost_beside r.preface q r.packages)) (sym e)
+              ((In-lost_behind r.preface s.0.target r.packages o).1 (inl (k.0, s.2)))))
+          | inr i ↦ a.1 (inl (m.1 (sym k.0, (s.0, i, s.2))))
+        ]
+        | inr k ↦
+            a.1 (inr (subst (λ (q : Option Ref). In o (lost_beside r.preface q r.packages)) (sym k.1)
+            ((In-lost_behind r.preface k.0.target r.packages o).1 (inr (k.2, (s.0, k.3, s.2))))))
+      ],
+    )
+
+pub lost_references : (notes : List NoteParts) (o : ℕ) → In o (lost_in (resolved_of notes)) ↔ HoldsLost notes o
+lost_references notes o = (
+  λ h. elim (resolved_of notes) as (λ q. resolved_of notes ≡ q → In o (lost_in q) → HoldsLost notes o) [
+    | None ↦ λ _ k. absurd k
+    | Some r ↦ λ e k.
+        let s = (In-lost_by r o).0 k in
+        record { resolved = r; preferred = e; ref = s.0; holds = s.1; lost = s.2 }
+  ] refl h,
+  λ l. subst (λ (q : Option ResolvedParts). In o (lost_in q)) (sym l.preferred)
+      ((In-lost_by l.resolved o).1 (l.ref, l.holds, l.lost)),
+)

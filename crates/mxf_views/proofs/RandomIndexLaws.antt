@@ -1,0 +1,209 @@
+-- The random index pack, and how its entries stand to the partitions.
+use Rattle.std.proofs.Common.{◌≡◌, ◌≢◌, ℕ, ◌≤◌, Bool, true, false, cond, List, [], ◌∷◌, Some, None, Ok, Err}
+use Rattle.std.proofs.Common.{refl, sym, ap, subst, ◌∙◌, inl, inr, arith, eqb-true, eq-eqb}
+use Rattle.std.specs.Prelude.{◌↔◌, ◌==◌, find}
+use Rattle.std.specs.Result.{result_ok}
+use Rattle.mxf_klv.specs.Bytes.{AreBytes}
+use Rattle.mxf_klv.specs.declared.kinds.Kind.{Kind}
+use Rattle.mxf_klv.specs.declared.kinds.Kind.TheVariants as kinds
+use Rattle.mxf_klv.specs.Parts.{NoteParts}
+use Rattle.mxf_klv.specs.Note.{end_of, keeps}
+use Rattle.mxf_klv.specs.Kind.{kind_of}
+use Rattle.mxf_klv.specs.Rising.{In}
+use Rattle.mxf_sets.specs.declared.pack.random_index.RipEntry.{RipEntry}
+use Rattle.mxf_sets.specs.RandomIndexPack.{RipParts}
+use Rattle.mxf_sets.specs.PackReadings.{rip_at}
+use Rattle.mxf_sets.proofs.PackComputing.{rip_iff}
+use Rattle.mxf_catalogue.specs.Content.{IsContent}
+use Rattle.mxf_catalogue.specs.Disputes.{AreApart, clear_notes}
+use Rattle.mxf_catalogue.proofs.DisputeLaws.{In-clear_notes}
+use Rattle.mxf_catalogue.proofs.SpanLaws.{AreApart-clear_notes, AreApart-filter}
+use Rattle.mxf_catalogue.proofs.Lists.{In-filter, found-In, none_found, find-none, find-only}
+use Rattle.mxf_views.specs.Partitions.{AreInOrder, HoldBytes, PartitionParts, partitions_of}
+use Rattle.mxf_views.specs.RandomIndex.{AreSeveralRips, IsClearRip, IsOnlyRip, IsReadableRip, IsStanding, RipAtParts}
+use Rattle.mxf_views.specs.RandomIndex.{is_rip, is_rip_note, rip_in, rips_of, standing_by, standing_of}
+use Rattle.mxf_views.specs.RandomIndexView.{IsRipView, rip_view_among, rip_view_by, rip_view_of}
+use Rattle.mxf_views.specs.declared.random_index.Standing.{Standing}
+use Rattle.mxf_views.specs.declared.random_index.Standing.TheVariants.{Held, Differs, Missing}
+use Rattle.mxf_views.specs.declared.random_index.RipView.{RipView}
+use Rattle.mxf_views.specs.declared.random_index.RipView.TheVariants.{Absent, Several, Unreadable, One}
+use Rattle.mxf_views.proofs.Members.{false_if}
+use Rattle.mxf_views.proofs.PartitionLaws.{one_there, partitions_rise}
+
+-- ---- standings
+
+standing_is : (ps : List PartitionParts) (entry : RipEntry) → IsStanding ps entry (standing_of ps entry)
+standing_is ps entry =
+    let at = λ (p : PartitionParts). p.offset == entry.offset in
+    elim (find at ps) as (λ o. find at ps ≡ o → IsStanding ps entry (standing_by entry o)) [
+      | None ↦ λ e p h same. none_found at ps p e h (eq-eqb p.offset entry.offset same)
+      | Some p ↦ λ e.
+          let s = found-In at ps p e in
+          let there = eqb-true p.offset entry.offset s.1 in
+          let sid = p.pack.numbers.body_sid in
+          elim (sid == entry.body_sid) as (λ b. (sid == entry.body_sid) ≡ b
+          → IsStanding ps entry (cond b Held Differs)) [
+            | true ↦ λ t. (p, s.0, there, eqb-true sid entry.body_sid t)
+            | false ↦ λ t. (p, s.0, there, λ same. let u = eq-eqb sid entry.body_sid same in cc (t, u))
+          ] refl
+    ] refl
+
+found_there : (ps : List PartitionParts) (entry : RipEntry) (p : PartitionParts) → AreInOrder ps → In p ps
+    → p.offset ≡ entry.offset → find (λ q. q.offset == entry.offset) ps ≡ Some p
+found_there ps entry p r h e =
+    find-only (λ q. q.offset == entry.offset) ps p h (eq-eqb p.offset entry.offset e)
+    (λ q k t. one_there ps q p r k h (eqb-true q.offset entry.offset t ∙ sym e))
+
+standing_to : (ps : List PartitionParts) (entry : RipEntry) → AreInOrder ps → (s : Standing) → IsStanding ps entry s
+    → standing_of ps entry ≡ s
+standing_to ps entry r Held i =
+    let sid = i.0.pack.numbers.body_sid in
+    ap (standing_by entry) (found_there ps entry i.0 r i.1 i.2)
+    ∙ ap (λ (b : Bool). cond b Held Differs) (eq-eqb sid entry.body_sid i.3)
+standing_to ps entry r Differs i =
+    let sid = i.0.pack.numbers.body_sid in
+    let f : (sid == entry.body_sid) ≡ false = false_if (sid == entry.body_sid)
+    (λ t. i.3 (eqb-true sid entry.body_sid t)) in
+    ap (standing_by entry) (found_there ps entry i.0 r i.1 i.2) ∙ ap (λ (b : Bool). cond b Held Differs) f
+standing_to ps entry r Missing i =
+    ap (standing_by entry) (find-none (λ q. q.offset == entry.offset) ps
+    (λ q h t. i q h (eqb-true q.offset entry.offset t)))
+
+-- An entry stands as the partition at its offset says.
+pub standing_iff : (notes : List NoteParts) (entry : RipEntry) (s : Standing) → IsContent notes
+    → (standing_of (partitions_of notes) entry ≡ s) ↔ IsStanding (partitions_of notes) entry s
+standing_iff notes entry s r =
+    let ps = partitions_of notes in (
+      λ e. subst (IsStanding ps entry) e (standing_is ps entry),
+      λ i. standing_to ps entry (partitions_rise notes r) s i,
+    )
+
+-- ---- the random index packs
+
+rip_kind : (k : Kind) → is_rip k ≡ true → k ≡ kinds.Rip
+rip_kind kinds.Rip e = refl
+rip_kind _ e = absurd cc
+
+-- the clear random index packs
+abbrev Picks : List NoteParts → List NoteParts → Type 0
+Picks notes rips = (n : NoteParts) → In n rips ↔ IsClearRip notes n
+
+picks : (notes : List NoteParts) → Picks notes (rips_of notes)
+unfolding rips_of is_rip_note
+picks notes n =
+    let f = In-filter is_rip_note (clear_notes notes) n in
+    let c = In-clear_notes n notes in (
+      λ h. let s = f.0 h in record { clear = c.0 s.0; kind = rip_kind (kind_of n.key) s.1 },
+      λ i. f.1 (c.1 i.clear, ap is_rip i.kind),
+    )
+
+rips_apart : (notes : List NoteParts) → IsContent notes → AreApart 0 (rips_of notes)
+unfolding rips_of
+rips_apart notes r = AreApart-filter is_rip_note 0 (clear_notes notes) (AreApart-clear_notes notes r)
+
+later_differs : (m n : NoteParts) (rips : List NoteParts) → AreApart 0 (m ∷ n ∷ rips) → m ≢ n
+later_differs m n rips a e =
+    let l : end_of m ≤ n.offset = a.1.0 in
+    let o : m.offset ≡ n.offset = ap (λ (x : NoteParts). x.offset) e in
+    omega (arith, l, o)
+
+readable_from : (n : NoteParts) (rip : RipParts) → AreBytes n.held → rip_in n ≡ Some rip → IsReadableRip n rip
+readable_from n rip bytes e =
+    elim (keeps n.key n.length) as (λ b. keeps n.key n.length ≡ b
+    → cond b (result_ok (rip_at n.width n.held)) None ≡ Some rip → IsReadableRip n rip) [
+      | false ↦ λ _ q. absurd cc
+      | true ↦ λ k q.
+          elim (rip_at n.width n.held) as (λ r. rip_at n.width n.held ≡ r → result_ok r ≡ Some rip
+          → IsReadableRip n rip) [
+            | Err f ↦ λ _ u. absurd cc
+            | Ok own ↦ λ r u.
+                let same : own ≡ rip = cc (u) in
+                record {
+                  kept = k;
+                  read = (rip_iff n.width n.held (Ok rip) bytes).1 (sym (r ∙ ap (λ (x : RipParts). Ok x) same));
+                }
+          ] refl q
+    ] refl e
+
+readable_to : (n : NoteParts) (rip : RipParts) → AreBytes n.held → IsReadableRip n rip → rip_in n ≡ Some rip
+readable_to n rip bytes i =
+    let k : keeps n.key n.length ≡ true = i.kept in
+    let r = (rip_iff n.width n.held (Ok rip) bytes).0 i.read in
+    ap (λ (b : Bool). cond b (result_ok (rip_at n.width n.held)) None) k ∙ ap result_ok (sym r)
+
+-- ---- what is known of them
+
+only_from : (notes : List NoteParts) (n : NoteParts) → Picks notes (n ∷ []) → IsOnlyRip notes n
+only_from notes n w = record {
+  held = (w n).0 (inl refl);
+  only = λ m i. elim ((w m).1 i) [ inl e ↦ e | inr k ↦ absurd k ];
+}
+
+view_is : (notes rips : List NoteParts) → HoldBytes notes → Picks notes rips → AreApart 0 rips
+    → IsRipView notes (rip_view_among notes rips)
+view_is notes [] bytes w a = λ n i. (w n).1 i
+view_is notes (n ∷ []) bytes w a =
+    let o = only_from notes n w in
+    let held : AreBytes n.held = bytes n o.held.clear.held in
+    elim (rip_in n) as (λ r. rip_in n ≡ r → IsRipView notes (rip_view_by notes n.offset r)) [
+      | None ↦ λ e. (n, o, refl, λ rip i. let f = readable_to n rip held i in cc (e, f))
+      | Some rip ↦ λ e. (n, o, (rip, readable_from n rip held e, refl))
+    ] refl
+view_is notes (m ∷ n ∷ rips) bytes w a = record {
+  one = m;
+  other = n;
+  one_held = (w m).0 (inl refl);
+  other_held = (w n).0 (inr (inl refl));
+  differ = later_differs m n rips a;
+}
+
+none_of : (notes rips : List NoteParts) → Picks notes rips → IsRipView notes Absent → rips ≡ []
+none_of notes [] w i = refl
+none_of notes (n ∷ rips) w i = absurd (i n ((w n).0 (inl refl)))
+
+only_of : (notes rips : List NoteParts) → Picks notes rips → AreApart 0 rips → (n : NoteParts) → IsOnlyRip notes n
+    → rips ≡ n ∷ []
+only_of notes [] w a n o = absurd ((w n).1 o.held)
+only_of notes (x ∷ []) w a n o = ap (λ (y : NoteParts). y ∷ []) (o.only x ((w x).0 (inl refl)))
+only_of notes (x ∷ y ∷ rips) w a n o =
+    absurd (later_differs x y rips a (o.only x ((w x).0 (inl refl)) ∙ sym (o.only y ((w y).0 (inr (inl refl))))))
+
+several_of : (notes rips : List NoteParts) → Picks notes rips → AreSeveralRips notes
+    → rip_view_among notes rips ≡ Several
+several_of notes [] w s = absurd ((w s.one).1 s.one_held)
+several_of notes (x ∷ []) w s =
+    elim ((w s.one).1 s.one_held) [
+      | inl e ↦ elim ((w s.other).1 s.other_held) [ inl f ↦ absurd (s.differ (e ∙ sym f)) | inr k ↦ absurd k ]
+      | inr k ↦ absurd k
+    ]
+several_of notes (x ∷ y ∷ rips) w s = refl
+
+view_to : (notes rips : List NoteParts) → HoldBytes notes → Picks notes rips → AreApart 0 rips → (v : RipView)
+    → IsRipView notes v → rip_view_among notes rips ≡ v
+view_to notes rips bytes w a Absent i = ap (rip_view_among notes) (none_of notes rips w i)
+view_to notes rips bytes w a Several i = several_of notes rips w i
+view_to notes rips bytes w a (Unreadable offset) i =
+    let n = i.0 in
+    let held : AreBytes n.held = bytes n i.1.held.clear.held in
+    let none : rip_in n ≡ None = elim (rip_in n) as (λ r. rip_in n ≡ r → r ≡ None) [
+      | None ↦ λ _. refl
+      | Some rip ↦ λ e. absurd (i.3 rip (readable_from n rip held e))
+    ] refl in
+    ap (rip_view_among notes) (only_of notes rips w a n i.1) ∙ ap (rip_view_by notes n.offset) none
+    ∙ ap (λ (x : ℕ). Unreadable x) i.2
+view_to notes rips bytes w a (One r) i =
+    let n = i.0 in
+    let held : AreBytes n.held = bytes n i.1.held.clear.held in
+    ap (rip_view_among notes) (only_of notes rips w a n i.1)
+    ∙ ap (rip_view_by notes n.offset) (readable_to n i.2.0 held i.2.1) ∙ ap (λ (x : RipAtParts). One x) i.2.2
+
+-- What is known is by the number of the clear random index packs.
+pub rip_view_iff : (notes : List NoteParts) (v : RipView) → IsContent notes → HoldBytes notes
+    → (rip_view_of notes ≡ v) ↔ IsRipView notes v
+rip_view_iff notes v r bytes =
+    let rips = rips_of notes in
+    let a = rips_apart notes r in
+    let w = picks notes in (
+      λ e. subst (IsRipView notes) e (view_is notes rips bytes w a),
+      λ i. view_to notes rips bytes w a v i,
+    )

@@ -1,0 +1,119 @@
+-- Which segments there are.
+use Rattle.std.proofs.Common.{◌≡◌, ℕ, ◌<◌, ◌≤◌, true, false, cond, List, [], ◌∷◌, Some, None, Ok, Err}
+use Rattle.std.proofs.Common.{refl, sym, ap, subst, inl, inr, arith}
+use Rattle.std.specs.Prelude.{◌↔◌}
+use Rattle.std.specs.Option.{option_map}
+use Rattle.std.specs.Result.{result_ok}
+use Rattle.mxf_klv.specs.declared.kinds.Kind.{Kind}
+use Rattle.mxf_klv.specs.declared.kinds.Kind.TheVariants as kinds
+use Rattle.mxf_klv.specs.Parts.{NoteParts}
+use Rattle.mxf_klv.specs.Note.{end_of, keeps}
+use Rattle.mxf_klv.specs.Kind.{kind_of}
+use Rattle.mxf_klv.specs.Rising.{In}
+use Rattle.mxf_sets.specs.Segment.{SegmentParts, segment_at}
+use Rattle.mxf_sets.specs.Readable.{read_as}
+use Rattle.mxf_catalogue.specs.Content.{IsContent}
+use Rattle.mxf_catalogue.specs.Disputes.{AreApart, IsClear, clear_notes}
+use Rattle.mxf_catalogue.proofs.DisputeLaws.{In-clear_notes}
+use Rattle.mxf_catalogue.proofs.SpanLaws.{AreApart-clear_notes}
+use Rattle.mxf_views.specs.Places.{IsSegmentAt, SegmentAtParts, SegmentsRise, is_segment, placed_segment, segment_in}
+use Rattle.mxf_views.specs.Places.{segments_among, segments_of}
+use Rattle.mxf_views.proofs.Members.{In-filter_map, each-all}
+
+abbrev placed : ℕ → SegmentParts → SegmentAtParts
+placed offset segment = record { offset = offset; segment = segment }
+
+segment_kind : (k : Kind) → is_segment k ≡ true → k ≡ kinds.Segment
+segment_kind kinds.Segment e = refl
+segment_kind _ e = absurd cc
+
+segment_from : (notes : List NoteParts) (n : NoteParts) (s : SegmentAtParts) → IsClear n notes
+    → placed_segment n ≡ Some s → IsSegmentAt notes s
+unfolding placed_segment
+segment_from notes n s clear e =
+    let k = kind_of n.key in
+    elim (is_segment k) as (λ b. is_segment k ≡ b
+    → option_map (placed n.offset) (cond b (read_as segment_at n) None) ≡ Some s → IsSegmentAt notes s) [
+      | false ↦ λ _ q. absurd cc
+      | true ↦ λ t q.
+          elim (keeps n.key n.length) as (λ b. keeps n.key n.length ≡ b
+          → option_map (placed n.offset) (cond b (result_ok (segment_at n.held)) None) ≡ Some s → IsSegmentAt notes s) [
+            | false ↦ λ _ u. absurd cc
+            | true ↦ λ kept u.
+                elim (segment_at n.held) as (λ r. segment_at n.held ≡ r
+                → option_map (placed n.offset) (result_ok r) ≡ Some s → IsSegmentAt notes s) [
+                  | Err f ↦ λ _ v. absurd cc
+                  | Ok segment ↦ λ r v.
+                      let same : placed n.offset segment ≡ s = cc (v) in
+                      subst (IsSegmentAt notes) same record {
+                        note = n;
+                        clear = clear;
+                        kind = segment_kind k t;
+                        kept = kept;
+                        read = r;
+                        offset = refl;
+                      }
+                ] refl u
+          ] refl q
+    ] refl e
+
+segment_to : (notes : List NoteParts) (s : SegmentAtParts) → (i : IsSegmentAt notes s) → placed_segment i.note ≡ Some s
+unfolding placed_segment
+segment_to notes s i =
+    let k : keeps i.note.key i.note.length ≡ true = i.kept in
+    let t = ap is_segment i.kind in
+    let r = i.read in
+    let o = i.offset in
+    rw t (rw k (rw r (λ j. Some (placed (sym o j) s.segment))))
+
+-- The segments are those of the clear readable index table segments.
+pub segments_are : (notes : List NoteParts) (s : SegmentAtParts) → In s (segments_of notes) ↔ IsSegmentAt notes s
+unfolding segments_of
+segments_are notes s =
+    let m = In-filter_map placed_segment (clear_notes notes) s in (
+      λ h. let g = m.0 h in segment_from notes g.0 s ((In-clear_notes g.0 notes).0 g.1) g.2,
+      λ i. m.1 (i.note, (In-clear_notes i.note notes).1 i.clear, segment_to notes s i),
+    )
+
+offset-placed_segment : (n : NoteParts) (s : SegmentAtParts) → placed_segment n ≡ Some s → s.offset ≡ n.offset
+unfolding placed_segment
+offset-placed_segment n s e =
+    elim (segment_in n) as (λ o. option_map (placed n.offset) o ≡ Some s → s.offset ≡ n.offset) [
+      | None ↦ λ q. absurd cc
+      | Some segment ↦ λ q.
+          let same : placed n.offset segment ≡ s = cc (q) in
+          ap (λ (x : SegmentAtParts). x.offset) (sym same)
+    ] e
+
+above_among : (low : ℕ) (notes : List NoteParts) (s : SegmentAtParts) → AreApart low notes
+    → In s (segments_among notes) → low ≤ s.offset
+above_among low [] s a h = absurd h
+above_among low (n ∷ notes) s a h =
+    let g = (In-filter_map placed_segment (n ∷ notes) s).0 h in
+    let o : s.offset ≡ g.0.offset = offset-placed_segment g.0 s g.2 in
+    let l : low ≤ n.offset = a.0 in
+    elim g.1 [
+      | inl e ↦ (let f : g.0.offset ≡ n.offset = ap (λ (x : NoteParts). x.offset) e in omega (arith, o, f, l))
+      | inr k ↦ (let ih : end_of n ≤ s.offset = above_among (end_of n) notes s a.1
+          ((In-filter_map placed_segment notes s).1 (g.0, k, g.2)) in omega arith)
+    ]
+
+rise_among : (low : ℕ) (notes : List NoteParts) → AreApart low notes → SegmentsRise (segments_among notes)
+rise_among low [] a = tt
+rise_among low (n ∷ notes) a =
+    let ih = rise_among (end_of n) notes a.1 in
+    elim (placed_segment n) as (λ o. placed_segment n ≡ o → SegmentsRise (segments_among (n ∷ notes))) [
+      | None ↦ λ e. rw e ih
+      | Some s ↦ λ e. rw e (
+        each-all (λ t. s.offset < t.offset) (segments_among notes) (λ t h.
+            let o : s.offset ≡ n.offset = offset-placed_segment n s e in
+            let l : end_of n ≤ t.offset = above_among (end_of n) notes t a.1 h in
+            omega (arith, o, l)),
+        ih,
+      )
+    ] refl
+
+-- They rise.
+pub segments_rise : (notes : List NoteParts) → IsContent notes → SegmentsRise (segments_of notes)
+unfolding segments_of
+segments_rise notes r = rise_among 0 (clear_notes notes) (AreApart-clear_notes notes r)

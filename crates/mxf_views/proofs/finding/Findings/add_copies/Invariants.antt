@@ -1,0 +1,14 @@
+use Rattle.std.proofs.Common.{◌≡◌, map}
+use Rattle.std.specs.Prelude.{filter}
+use Rattle.mxf_klv.specs.Rising.{union}
+use Rattle.mxf_views.specs.declared.finding.Code.TheVariants.{F09}
+use Rattle.mxf_views.specs.Findings.{is_partial}
+use Rattle.mxf_views.specs.Codes.{finding, finding_cmp}
+use Rattle.mxf_views.specs.Findings.{findings_for}
+use Rattle.mxf_views.proofs.finding.Findings.add_copies.Given as goal
+
+abbrev pub invariant-loop-copy : goal.invariant-loop-copy
+invariant-loop-copy l =
+    union finding_cmp l.self
+    (map (finding F09) (map (λ c. c.partition) (filter is_partial l.copy-iterator)))
+    ≡ union finding_cmp l.fn.self (findings_for F09 l.views)

@@ -1,0 +1,13 @@
+use Rattle.std.proofs.Common.{◌≡◌, map}
+use Rattle.std.specs.Prelude.{filter}
+use Rattle.mxf_klv.specs.Rising.{union}
+use Rattle.mxf_views.specs.declared.finding.Code.TheVariants.{F01}
+use Rattle.mxf_views.specs.Codes.{finding, finding_cmp}
+use Rattle.mxf_views.specs.Findings.{findings_for}
+use Rattle.mxf_views.proofs.finding.Findings.add_shared_offsets.Given as goal
+
+abbrev pub invariant-loop-disputed : goal.invariant-loop-disputed
+invariant-loop-disputed l =
+    union finding_cmp l.self
+    (map (finding F01) (map (λ d. d.note.offset) (filter (λ d. d.same_offset) l.disputed-iterator)))
+    ≡ union finding_cmp l.fn.self (findings_for F01 l.views)

@@ -1,0 +1,9 @@
+use Rattle.std.proofs.Common.{◌≡◌, length}
+use Rattle.mxf_views.specs.Places.{segments_among}
+use Rattle.mxf_views.proofs.index.SegmentsIterator.next.Given as goal
+
+abbrev pub invariant-loop-note : goal.invariant-loop-note
+invariant-loop-note l = segments_among l.self-inside.notes ≡ l.fn.self
+
+abbrev pub decreases-loop-note : goal.decreases-loop-note
+decreases-loop-note l = length l.self-inside.notes

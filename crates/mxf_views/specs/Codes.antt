@@ -1,0 +1,116 @@
+-- The codes of findings with their texts, and the order of findings (this project's profile).
+use Rattle.std.specs.Prelude.{◌≡◌, ℕ, ◌-◌, List, [], ◌∷◌, codes, refl}
+use Rattle.std.specs.Ordering.{nat_cmp, on, then_cmp, eq_by_cmp, ordering_then}
+use Rattle.std.specs.Cmp.{IsTotalOrder, IsEquivalence}
+use Rattle.std.specs.FinSet.{IsAntisymmetric, nat_cmp-IsAntisymmetric}
+use Rattle.std.specs.declared.cmp.Ordering.{Ordering}
+use Rattle.std.specs.declared.cmp.Ordering.TheVariants.{Less, Equal, Greater}
+use Rattle.std.proofs.Common.{get_or, sym, ◌∙◌, ap}
+use Rattle.std.proofs.lemmas.Cmp.{on_total, then_total, nat_cmp_total, eq_by_cmp_equiv}
+use Rattle.mxf_views.specs.declared.finding.Code.{Code}
+use Rattle.mxf_views.specs.declared.finding.Code.TheVariants.{F01, F02, F03, F04, F05, F06, F07}
+use Rattle.mxf_views.specs.declared.finding.Code.TheVariants.{F08, F09, F10, F11, F12, F13, F14}
+use Rattle.mxf_views.specs.declared.finding.Finding.{Finding}
+
+-- The codes, rising.
+abbrev pub all_codes : List Code
+all_codes = F01 ∷ F02 ∷ F03 ∷ F04 ∷ F05 ∷ F06 ∷ F07 ∷ F08 ∷ F09 ∷ F10 ∷ F11 ∷ F12 ∷ F13 ∷ F14 ∷ []
+
+-- The number in the name of a code.
+abbrev pub code_number : Code → ℕ
+code_number F01 = 1
+code_number F02 = 2
+code_number F03 = 3
+code_number F04 = 4
+code_number F05 = 5
+code_number F06 = 6
+code_number F07 = 7
+code_number F08 = 8
+code_number F09 = 9
+code_number F10 = 10
+code_number F11 = 11
+code_number F12 = 12
+code_number F13 = 13
+code_number F14 = 14
+
+abbrev pub code_name : Code → List ℕ
+code_name F01 = codes "F01"
+code_name F02 = codes "F02"
+code_name F03 = codes "F03"
+code_name F04 = codes "F04"
+code_name F05 = codes "F05"
+code_name F06 = codes "F06"
+code_name F07 = codes "F07"
+code_name F08 = codes "F08"
+code_name F09 = codes "F09"
+code_name F10 = codes "F10"
+code_name F11 = codes "F11"
+code_name F12 = codes "F12"
+code_name F13 = codes "F13"
+code_name F14 = codes "F14"
+
+abbrev pub code_text : Code → List ℕ
+code_text F01 = codes "different packets at one offset"
+code_text F02 = codes "overlapping packets"
+code_text F03 = codes "bytes not held"
+code_text F04 = codes "partition pack unreadable"
+code_text F05 = codes "partition names another offset"
+code_text F06 = codes "previous partition doesn't fit"
+code_text F07 = codes "footer marked open"
+code_text F08 = codes "footer partition not held"
+code_text F09 = codes "header metadata not whole"
+code_text F10 = codes "set unreadable"
+code_text F11 = codes "index segment unreadable"
+code_text F12 = codes "random index pack doesn't fit"
+code_text F13 = codes "reference not found"
+code_text F14 = codes "partition chain not whole"
+
+-- The finding of a code at an offset.
+abbrev pub finding : Code → ℕ → Finding
+finding code offset = record { offset = offset; code = code }
+
+-- Findings go by offset, then by code.
+abbrev pub finding_cmp : Finding → Finding → Ordering
+finding_cmp = then_cmp (on (λ f. f.offset) nat_cmp) (on (λ f. code_number f.code) nat_cmp)
+
+pub finding_total : IsTotalOrder finding_cmp
+finding_total = then_total (on_total (λ f. f.offset) nat_cmp_total) (on_total (λ f. code_number f.code) nat_cmp_total)
+
+pub finding_equiv : IsEquivalence (eq_by_cmp finding_cmp)
+finding_equiv = eq_by_cmp_equiv finding_total
+
+-- The code with the number.
+abbrev numbered : ℕ → Code
+numbered n = get_or all_codes (n - 1) F01
+
+numbered_back : (c : Code) → numbered (code_number c) ≡ c
+numbered_back F01 = refl
+numbered_back F02 = refl
+numbered_back F03 = refl
+numbered_back F04 = refl
+numbered_back F05 = refl
+numbered_back F06 = refl
+numbered_back F07 = refl
+numbered_back F08 = refl
+numbered_back F09 = refl
+numbered_back F10 = refl
+numbered_back F11 = refl
+numbered_back F12 = refl
+numbered_back F13 = refl
+numbered_back F14 = refl
+
+ties : (a b : Ordering) → ordering_then a b ≡ Equal → (a ≡ Equal) × (b ≡ Equal)
+ties Less b e = cc
+ties Equal b e = (refl, e)
+ties Greater b e = cc
+
+same_finding : (a b : Finding) → a.offset ≡ b.offset → a.code ≡ b.code → a ≡ b
+same_finding a b e f i = record { offset = e i; code = f i }
+
+-- Findings that compare alike are one.
+pub finding_cmp-IsAntisymmetric : IsAntisymmetric finding_cmp
+finding_cmp-IsAntisymmetric a b e =
+    let p = ties _ _ e in
+    let n = nat_cmp-IsAntisymmetric (code_number a.code) (code_number b.code) p.1 in
+    same_finding a b (nat_cmp-IsAntisymmetric _ _ p.0) (sym (numbered_back a.code) ∙ ap numbered n
+    ∙ numbered_back b.code)

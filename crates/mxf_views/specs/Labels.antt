@@ -1,0 +1,33 @@
+-- The primer pack that says what the tags of a set stand for (ST 377-1, Primer Pack; which copy's it is where several
+-- have the set is this project's profile).
+use Rattle.std.specs.Prelude.{ℕ, Bool, false, ◌==◌, Option, Some, None, List, find}
+use Rattle.std.specs.Option.{option_and_then}
+use Rattle.mxf_klv.specs.Parts.{NoteParts}
+use Rattle.mxf_sets.specs.Batch.{BatchParts}
+use Rattle.mxf_sets.specs.PackReadings.{primer_at}
+use Rattle.mxf_sets.specs.Readable.{read_as}
+use Rattle.mxf_catalogue.specs.Disputes.{clear_notes}
+use Rattle.mxf_views.specs.declared.copy.CopyInfo.{CopyInfo}
+use Rattle.mxf_views.specs.Copies.{copies_of}
+use Rattle.mxf_views.specs.Spans.{lies_in}
+
+-- The packet lies wholly in the zone that begins there, in none without a start.
+abbrev pub is_in_zone : NoteParts → ℕ → Option ℕ → Bool
+is_in_zone n bytes None = false
+is_in_zone n bytes (Some start) = lies_in start bytes n
+
+-- The packet lies wholly in the zone of the copy.
+abbrev pub is_in_copy : NoteParts → CopyInfo → Bool
+is_in_copy n copy = is_in_zone n copy.bytes copy.start
+
+-- The primer pack of the clear note at the offset.
+abbrev pub primer_there : List NoteParts → ℕ → Option BatchParts
+primer_there notes offset = option_and_then (read_as primer_at) (find (λ n. n.offset == offset) (clear_notes notes))
+
+-- The primer pack at the start of the copy.
+abbrev pub primer_of : List NoteParts → CopyInfo → Option BatchParts
+primer_of notes copy = option_and_then (primer_there notes) copy.start
+
+-- The primer pack of the first of the copies whose zone has the set.
+unfoldable pub primer_for : List NoteParts → NoteParts → Option BatchParts
+primer_for notes n = option_and_then (primer_of notes) (find (is_in_copy n) (copies_of notes))

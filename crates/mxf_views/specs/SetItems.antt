@@ -1,0 +1,14 @@
+-- The items of header metadata sets (ST 336, local sets).
+use Rattle.std.specs.Prelude.{ℕ, ◌==◌, ◌&&◌, if◌then◌else◌, List, length, Option, Some, None}
+use Rattle.mxf_klv.specs.Parts.{NoteParts}
+use Rattle.mxf_klv.specs.Note.{keeps}
+use Rattle.mxf_sets.specs.Items.{ItemParts, items_of, left_of}
+use Rattle.mxf_views.specs.Copies.{is_set_note}
+
+-- The items of a value, where they make up all of it.
+abbrev pub whole_items : List ℕ → Option (List ItemParts)
+whole_items bytes = if length (left_of bytes) == 0 then Some (items_of bytes) else None
+
+-- The items of a header metadata set that keeps its value, where they make up all of it.
+unfoldable pub set_items : NoteParts → Option (List ItemParts)
+set_items n = if is_set_note n && keeps n.key n.length then whole_items n.held else None

@@ -1,0 +1,118 @@
+//! Findings of index table segments and random index packs.
+ghost use Rattle.std.specs.Prelude.{◌≡◌, OnOk};
+ghost use Rattle.mxf_klv.specs.Rising.{union};
+ghost use Rattle.mxf_views.specs.Codes.{finding_cmp};
+ghost use Rattle.mxf_views.specs.Findings.{ends_above, findings_for, has_other_rip, is_rip_note, is_unfit_rip, are_entries_of, is_index_of, rip_in};
+
+use super::readable::is_unreadable_segment;
+use super::{Code, Findings};
+use crate::partition::Partitions;
+use crate::views::Views;
+use mxf_catalogue::{ClearNotes, Notes};
+use mxf_klv::{Held, Kind, Note, OutOfMemory};
+use mxf_sets::{Rip, RipEntries};
+
+/// Whether the packet has a random index pack.
+#[tactic(auto, unfolding(crate::specs::Findings::is_rip_note))]
+fn is_rip(note: &Note) -> bool
+    ensures { result ≡ is_rip_note note.now }
+{
+    note.kind() == Kind::Rip
+}
+
+/// The random index pack of a note, where its value is kept and is one.
+fn rip_in(note: &Note) -> Option<Rip<'_>>
+    ensures { result ≡ rip_in note.now }
+{
+    match note.held() {
+        Held::Whole(value) => Rip::read(note.width(), value).ok(),
+        Held::Digest(_) => None,
+    }
+}
+
+/// Whether the entries are the BodySIDs and the offsets of the partitions, one after another.
+fn are_entries_of(mut entries: RipEntries<'_>, partitions: Partitions<'_>) -> bool
+    ensures { result ≡ are_entries_of partitions.entry entries.entry }
+{
+    for partition in partitions {
+        let Some(entry) = entries.next() else {
+            return false;
+        };
+        let body_sid = partition.pack.numbers().body_sid;
+        if entry.body_sid != body_sid || entry.offset != partition.offset {
+            return false;
+        }
+    }
+    entries.next().is_none()
+}
+
+/// Whether the random index pack of a note are_entries_of the partitions.
+fn is_index_of(note: &Note, partitions: Partitions<'_>) -> bool
+    ensures { result ≡ is_index_of partitions.entry (rip_in note.now) }
+{
+    match rip_in(note) {
+        Some(rip) => are_entries_of(rip.entries(), partitions),
+        None => false,
+    }
+}
+
+/// Whether one of the notes has a random index pack at another offset.
+fn has_other_rip(note: &Note, notes: ClearNotes<'_>) -> bool
+    ensures { result ≡ has_other_rip note.now notes.entry }
+{
+    for other in notes {
+        if is_rip(other) && other.offset() != note.offset() {
+            return true;
+        }
+    }
+    false
+}
+
+/// Whether one of the notes ends above a file offset.
+fn ends_above(end: u64, notes: Notes<'_>) -> bool
+    ensures { result ≡ ends_above end notes.entry }
+{
+    for note in notes {
+        if end < note.end() {
+            return true;
+        }
+    }
+    false
+}
+
+/// Whether the note has a random index pack that doesn't fit: another clear note has one too, some note ends above its
+/// end, or it can't be read or doesn't list the partitions.
+fn is_unfit_rip(views: &Views, note: &Note) -> bool
+    ensures { result ≡ is_unfit_rip views.now note.now }
+{
+    is_rip(note)
+        && (has_other_rip(note, views.catalogue().clear())
+            || ends_above(note.end(), views.catalogue().notes())
+            || !is_index_of(note, views.partitions()))
+}
+
+impl Findings {
+    /// Index table segments that aren't readable.
+    pub(super) fn add_segments(&mut self, views: &Views) -> Result<(), OutOfMemory>
+        ensures { OnOk result (self.new ≡ union finding_cmp self.old (findings_for Code.F11 views.now)) }
+    {
+        for note in views.catalogue().clear() {
+            if is_unreadable_segment(note) {
+                self.add(Code::F11, note.offset())?;
+            }
+        }
+        Ok(())
+    }
+
+    /// Random index packs that don't fit.
+    pub(super) fn add_random_index(&mut self, views: &Views) -> Result<(), OutOfMemory>
+        ensures { OnOk result (self.new ≡ union finding_cmp self.old (findings_for Code.F12 views.now)) }
+    {
+        for note in views.catalogue().clear() {
+            if is_unfit_rip(views, note) {
+                self.add(Code::F12, note.offset())?;
+            }
+        }
+        Ok(())
+    }
+}

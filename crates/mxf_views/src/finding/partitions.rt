@@ -1,0 +1,132 @@
+//! Findings of partitions: their packs, links and footer, and their chain.
+ghost use Rattle.std.specs.Prelude.{◌≡◌, OnOk};
+ghost use Rattle.mxf_klv.specs.Rising.{union};
+ghost use Rattle.mxf_views.specs.Codes.{finding_cmp};
+ghost use Rattle.mxf_views.specs.Findings.{footer_stands_at, findings_for, is_misplaced, is_open, is_open_footer, is_unfit, lacks_footer};
+ghost use Rattle.mxf_views.specs.Partitions.{partitions_of};
+
+use super::{Code, Findings};
+use crate::chain::{Chain, Link};
+use crate::partition::{PartitionAt, Partitions, is_no_unreadable_pack};
+use crate::views::Views;
+use mxf_klv::{OutOfMemory, Status};
+use mxf_sets::PackPart;
+
+/// Whether the partition names another offset as its own.
+fn is_misplaced(partition: &PartitionAt<'_>) -> bool
+    ensures { result ≡ is_misplaced partition.now }
+{
+    partition.pack.numbers().this_partition != partition.offset
+}
+
+/// Whether the link is neither `First` nor `Held`.
+fn is_unfit(link: Link) -> bool
+    ensures { result ≡ is_unfit link }
+{
+    matches!(&link, Link::Skips | Link::Missing | Link::Wrong)
+}
+
+fn is_open(status: Status) -> bool
+    ensures { result ≡ is_open status }
+{
+    matches!(&status, Status::OpenIncomplete | Status::OpenComplete)
+}
+
+/// Whether it is a footer partition that isn't closed.
+fn is_open_footer(partition: &PartitionAt<'_>) -> bool
+    ensures { result ≡ is_open_footer partition.now }
+{
+    partition.pack.part() == PackPart::Footer && is_open(partition.pack.status())
+}
+
+/// Whether a footer partition stands at a file offset.
+fn footer_stands_at(offset: u64, partitions: Partitions<'_>) -> bool
+    ensures { result ≡ footer_stands_at offset partitions.entry }
+{
+    for partition in partitions {
+        if partition.pack.part() == PackPart::Footer && partition.offset == offset {
+            return true;
+        }
+    }
+    false
+}
+
+/// Whether the partition names an offset, 0 aside, as that of the footer partition, and none stands there.
+fn lacks_footer(views: &Views, partition: &PartitionAt<'_>) -> bool
+    ensures { result ≡ lacks_footer (partitions_of views.now) partition.now }
+{
+    let footer = partition.pack.numbers().footer_partition;
+    footer != 0 && !footer_stands_at(footer, views.partitions())
+}
+
+impl Findings {
+    /// Partition packs that aren't readable.
+    pub(super) fn add_packs(&mut self, views: &Views) -> Result<(), OutOfMemory>
+        ensures { OnOk result (self.new ≡ union finding_cmp self.old (findings_for Code.F04 views.now)) }
+    {
+        for note in views.catalogue().clear() {
+            if !is_no_unreadable_pack(note) {
+                self.add(Code::F04, note.offset())?;
+            }
+        }
+        Ok(())
+    }
+
+    /// Partitions that name another offset as their own.
+    pub(super) fn add_misplaced(&mut self, views: &Views) -> Result<(), OutOfMemory>
+        ensures { OnOk result (self.new ≡ union finding_cmp self.old (findings_for Code.F05 views.now)) }
+    {
+        for partition in views.partitions() {
+            if is_misplaced(&partition) {
+                self.add(Code::F05, partition.offset)?;
+            }
+        }
+        Ok(())
+    }
+
+    /// Partitions that don't name the one before them.
+    pub(super) fn add_links(&mut self, views: &Views) -> Result<(), OutOfMemory>
+        ensures { OnOk result (self.new ≡ union finding_cmp self.old (findings_for Code.F06 views.now)) }
+    {
+        for partition in views.partitions() {
+            if is_unfit(views.link_of(&partition)) {
+                self.add(Code::F06, partition.offset)?;
+            }
+        }
+        Ok(())
+    }
+
+    /// Footer partitions that aren't closed.
+    pub(super) fn add_open_footers(&mut self, views: &Views) -> Result<(), OutOfMemory>
+        ensures { OnOk result (self.new ≡ union finding_cmp self.old (findings_for Code.F07 views.now)) }
+    {
+        for partition in views.partitions() {
+            if is_open_footer(&partition) {
+                self.add(Code::F07, partition.offset)?;
+            }
+        }
+        Ok(())
+    }
+
+    /// Partitions that name a footer partition which isn't there.
+    pub(super) fn add_lost_footers(&mut self, views: &Views) -> Result<(), OutOfMemory>
+        ensures { OnOk result (self.new ≡ union finding_cmp self.old (findings_for Code.F08 views.now)) }
+    {
+        for partition in views.partitions() {
+            if lacks_footer(views, &partition) {
+                self.add(Code::F08, partition.offset)?;
+            }
+        }
+        Ok(())
+    }
+
+    /// A broken chain.
+    pub(super) fn add_chain(&mut self, views: &Views) -> Result<(), OutOfMemory>
+        ensures { OnOk result (self.new ≡ union finding_cmp self.old (findings_for Code.F14 views.now)) }
+    {
+        match views.chain() {
+            Chain::Whole => Ok(()),
+            Chain::Broken => self.add(Code::F14, 0),
+        }
+    }
+}

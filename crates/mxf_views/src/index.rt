@@ -1,0 +1,128 @@
+//! Index table segments (ST 377-1, Index Table Segment).
+ghost use Rattle.std.specs.Prelude.{◌≡◌, ◌<◌, ◌^◌, ◌↔◌, List, length};
+ghost use Rattle.mxf_klv.specs.Parts.{NoteParts};
+ghost use Rattle.mxf_klv.specs.Rising.{In};
+ghost use Rattle.mxf_sets.specs.Segment.{segment_at};
+ghost use Rattle.mxf_sets.specs.Readable.{read_as};
+ghost use Rattle.mxf_catalogue.specs.Content.{IsContent};
+ghost use Rattle.std.specs.Iterator.{YieldsFirst, item_count};
+ghost use Rattle.mxf_views.specs.Places.{IsSegmentAt, SegmentAtParts, SegmentsRise, segments_of};
+ghost use Rattle.mxf_views.specs.Places.{place_of, placed_segment, segment_in, segments_among};
+
+pub(crate) mod place;
+
+use crate::index::place::{Place, pair_of};
+use mxf_catalogue::ClearNotes;
+use mxf_klv::{Held, Kind, Note};
+use mxf_sets::Segment;
+use std::marker::Model;
+
+/// A clear readable index table segment and where it stands.
+#[derive(Debug, Drop)]
+pub struct SegmentAt<'a> {
+    /// The file offset where the segment's packet begins, in bytes.
+    pub offset: u64,
+    pub segment: Segment<'a>,
+}
+
+impl<'a> Model for SegmentAt<'a> {
+    ghost use Rattle.mxf_views.specs.Places.{SegmentAtParts};
+
+    ghost Value = { SegmentAtParts };
+
+    ghost view = { λ s. record { offset = s.offset; segment = s.segment } };
+}
+
+/// The segment that the value of a note is, where it is kept and is one.
+fn read_value(note: &Note) -> Option<Segment<'_>>
+    ensures { result ≡ read_as segment_at note.now }
+{
+    match note.held() {
+        Held::Whole(value) => Segment::read(value).ok(),
+        Held::Digest(_) => None,
+    }
+}
+
+/// The segment of a note, where it is a readable index table segment.
+fn read_segment(note: &Note) -> Option<Segment<'_>>
+    ensures { result ≡ segment_in note.now }
+{
+    match note.kind() {
+        Kind::Segment => read_value(note),
+        _ => None,
+    }
+}
+
+/// The same, with where the note is.
+#[tactic(auto, unfolding(crate::specs::Places::placed_segment))]
+fn placed_segment(note: &Note) -> Option<SegmentAt<'_>>
+    ensures { result ≡ placed_segment note.now }
+{
+    let segment = read_segment(note)?;
+    Some(SegmentAt {
+        offset: note.offset(),
+        segment,
+    })
+}
+
+/// The segments that are left, rising.
+#[derive(Debug, Drop)]
+pub struct Segments<'a> {
+    notes: ClearNotes<'a>,
+}
+
+impl<'a> Model for Segments<'a> {
+    ghost use Rattle.std.specs.Prelude.{List};
+    ghost use Rattle.mxf_views.specs.Places.{SegmentAtParts, segments_among};
+
+    ghost Value = { List SegmentAtParts };
+
+    ghost view = { λ s. segments_among s.notes };
+}
+
+impl<'a> Segments<'a> {
+    pub(crate) fn of(notes: ClearNotes<'a>) -> Segments<'a>
+        requires { length notes < 2 ^ 64 }
+        ensures segments { result ≡ segments_among notes.entry }
+        ensures bound { length result < 2 ^ 64 }
+    {
+        Segments { notes }
+    }
+
+    /// Where those of an IndexSID put an edit unit.
+    pub(crate) fn place_of(self, index_sid: u32, unit: u64) -> Place
+        ensures { result ≡ place_of self.entry index_sid unit }
+    {
+        let mut place = Place::NotIndexed;
+        for segment in self {
+            if let Some(pair) = pair_of(&segment, index_sid, unit) {
+                place = place.with(pair);
+            }
+        }
+        place
+    }
+}
+
+impl<'a> Iterator for Segments<'a> {
+    type Item = SegmentAt<'a>;
+
+    ghost next_gives = { YieldsFirst (λ s. s) };
+
+    ghost remaining = { item_count (λ s. s) };
+
+    fn next(&mut self) -> Option<SegmentAt<'a>> {
+        while let Some(note) = self.notes.next() {
+            if let Some(segment) = placed_segment(note) {
+                return Some(segment);
+            }
+        }
+        None
+    }
+}
+
+/// A law of [`Views::segments`](crate::Views::segments): they are the clear readable index table segments, and rise in
+/// their offsets.
+pub fn segments_by_definition()
+    ensures segments { (notes : List NoteParts) (s : SegmentAtParts) → In s (segments_of notes) ↔ IsSegmentAt notes s }
+    ensures rising { (notes : List NoteParts) → IsContent notes → SegmentsRise (segments_of notes) }
+{}

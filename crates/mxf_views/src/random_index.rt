@@ -1,0 +1,231 @@
+//! The random index pack, and how its entries stand to the partitions (ST 377-1, Random Index Pack).
+ghost use Rattle.std.specs.Prelude.{◌≡◌, ◌<◌, ◌^◌, ◌↔◌, IfSome, List, length};
+ghost use Rattle.mxf_klv.specs.Parts.{NoteParts};
+ghost use Rattle.mxf_sets.specs.declared.pack.random_index.RipEntry.{RipEntry};
+ghost use Rattle.mxf_catalogue.specs.Content.{IsContent};
+ghost use Rattle.std.specs.Iterator.{YieldsFirst, YieldsFirstRef, item_count};
+ghost use Rattle.mxf_views.specs.Partitions.{HoldBytes, partitions_of};
+ghost use Rattle.mxf_views.specs.declared.random_index.Standing.{Standing};
+ghost use Rattle.mxf_views.specs.declared.random_index.RipView.{RipView};
+ghost use Rattle.mxf_views.specs.RandomIndexView.{IsRipView, rip_view_of};
+ghost use Rattle.mxf_views.specs.RandomIndex.{IsStanding, is_rip_note, rip_in, rips_of, standing_of, standings};
+
+use crate::partition::Partitions;
+use mxf_catalogue::{Catalogue, ClearNotes};
+use mxf_klv::{Held, Kind, Note};
+use mxf_sets::{Rip, RipEntries, RipEntry};
+use std::marker::Model;
+
+/// How an entry stands to the partitions.
+#[derive(Clone, Copy, Debug, PartialEq, Eq)]
+pub enum Standing {
+    /// A partition at the entry's offset has its BodySID.
+    Held,
+    /// The partition at the entry's offset has another BodySID.
+    Differs,
+    /// No partition stands at the entry's offset.
+    Missing,
+}
+
+/// What is known of the random index pack, by those that share no byte with another packet.
+#[derive(Debug, Drop)]
+pub enum RipView<'a> {
+    /// There is none.
+    Absent,
+    /// There is more than one.
+    Several,
+    /// The only one, at this file offset in bytes, can't be read.
+    Unreadable(u64),
+    /// The only one can be read.
+    One(RipAt<'a>),
+}
+
+/// A readable random index pack and where it stands.
+#[derive(Debug, Drop)]
+pub struct RipAt<'a> {
+    offset: u64,
+    rip: Rip<'a>,
+    catalogue: &'a Catalogue,
+}
+
+impl<'a> Model for RipAt<'a> {
+    ghost use Rattle.std.specs.Prelude.{◌<◌, ◌^◌, length};
+    ghost use Rattle.mxf_views.specs.RandomIndex.{RipAtParts, standings};
+
+    ghost Value = { RipAtParts };
+
+    ghost view = { λ r. record { offset = r.offset; entries = standings r.catalogue.now r.rip.entries } };
+
+    ghost invariant = { λ r. length r.rip.entries < 2 ^ 64 };
+}
+
+impl<'a> RipAt<'a> {
+    /// The file offset where the pack's packet begins, in bytes.
+    pub fn offset(&self) -> u64
+        ensures { result ≡ self.now.offset }
+    {
+        self.offset
+    }
+
+    /// The entries in the order of the pack, each with how it stands to the partitions.
+    pub fn entries(&self) -> Standings<'a>
+        ensures entries { result ≡ self.now.entries }
+
+        // A count of the result fits.
+        ensures bound { length result < 2 ^ 64 }
+    {
+        Standings {
+            entries: self.rip.entries(),
+            catalogue: self.catalogue,
+        }
+    }
+}
+
+/// The entries that are left, with their standings, in the order of the pack.
+#[derive(Debug, Drop)]
+pub struct Standings<'a> {
+    entries: RipEntries<'a>,
+    catalogue: &'a Catalogue,
+}
+
+impl<'a> Model for Standings<'a> {
+    ghost use Rattle.std.specs.Prelude.{List};
+    ghost use Rattle.mxf_sets.specs.declared.pack.random_index.RipEntry.{RipEntry};
+    ghost use Rattle.mxf_views.specs.declared.random_index.Standing.{Standing};
+    ghost use Rattle.mxf_views.specs.RandomIndex.{standings};
+
+    ghost Value = { List (RipEntry × Standing) };
+
+    ghost view = { λ s. standings s.catalogue.now s.entries };
+}
+
+impl<'a> Iterator for Standings<'a> {
+    type Item = (RipEntry, Standing);
+
+    ghost next_gives = { YieldsFirst (λ s. s) };
+
+    ghost remaining = { item_count (λ s. s) };
+
+    fn next(&mut self) -> Option<(RipEntry, Standing)> {
+        let entry = self.entries.next()?;
+        Some((entry, standing_in(self.catalogue, &entry)))
+    }
+}
+
+/// How an entry stands to the partitions of a catalogue.
+#[tactic(auto, unfolding(crate::specs::Partitions::partitions_of))]
+fn standing_in(catalogue: &Catalogue, entry: &RipEntry) -> Standing
+    ensures { result ≡ standing_of (partitions_of catalogue.now) entry.now }
+{
+    standing_of(Partitions::of(catalogue.clear()), entry)
+}
+
+/// How an entry stands to partitions.
+fn standing_of(partitions: Partitions<'_>, entry: &RipEntry) -> Standing
+    ensures { result ≡ standing_of partitions.entry entry.now }
+{
+    match partitions.at(entry.offset) {
+        Some(partition) if partition.pack.numbers().body_sid == entry.body_sid => Standing::Held,
+        Some(_) => Standing::Differs,
+        None => Standing::Missing,
+    }
+}
+
+/// The clear random index packs that are left, readable or not.
+#[derive(Debug, Drop)]
+struct Rips<'a> {
+    notes: ClearNotes<'a>,
+}
+
+impl<'a> Model for Rips<'a> {
+    ghost use Rattle.std.specs.Prelude.{List, filter};
+    ghost use Rattle.mxf_klv.specs.Parts.{NoteParts};
+    ghost use Rattle.mxf_views.specs.RandomIndex.{is_rip_note};
+
+    ghost Value = { List NoteParts };
+
+    ghost view = { λ s. filter is_rip_note s.notes };
+}
+
+impl<'a> Iterator for Rips<'a> {
+    type Item = &'a Note;
+
+    ghost next_gives = { YieldsFirstRef (λ s. s) };
+
+    ghost remaining = { item_count (λ s. s) };
+
+    fn next(&mut self) -> Option<&'a Note> {
+        while let Some(note) = self.notes.next() {
+            if is_rip(note) {
+                return Some(note);
+            }
+        }
+        None
+    }
+}
+
+#[tactic(auto, unfolding(crate::specs::RandomIndex::is_rip_note))]
+fn is_rip(note: &Note) -> bool
+    ensures { result ≡ is_rip_note note.now }
+{
+    note.kind() == Kind::Rip
+}
+
+#[tactic(auto, unfolding(crate::specs::RandomIndex::rips_of))]
+fn clear_rips(catalogue: &Catalogue) -> Rips<'_>
+    ensures { result ≡ rips_of catalogue.now }
+{
+    Rips {
+        notes: catalogue.clear(),
+    }
+}
+
+/// The random index pack that the value of a note is, where it is kept and is one.
+fn read_rip(note: &Note) -> Option<Rip<'_>>
+    ensures rip { result ≡ rip_in note.now }
+    ensures bound { IfSome result (λ rip. length rip.entries < 2 ^ 64) }
+{
+    match note.held() {
+        Held::Whole(value) => Rip::read(note.width(), value).ok(),
+        Held::Digest(_) => None,
+    }
+}
+
+impl<'a> RipView<'a> {
+    ghost use Rattle.mxf_views.specs.RandomIndexView.{rip_view_of};
+
+    /// What is known of the random index pack of a catalogue.
+    pub(crate) fn of(catalogue: &'a Catalogue) -> RipView<'a>
+        ensures { result ≡ rip_view_of catalogue.now }
+    {
+        let mut rips = clear_rips(catalogue);
+        let Some(note) = rips.next() else {
+            return RipView::Absent;
+        };
+        if rips.next().is_some() {
+            return RipView::Several;
+        }
+        let offset = note.offset();
+        match read_rip(note) {
+            Some(rip) => RipView::One(RipAt {
+                offset,
+                rip,
+                catalogue,
+            }),
+            None => RipView::Unreadable(offset),
+        }
+    }
+}
+
+/// A law of [`RipAt::entries`]: how an entry stands is by the partition at its offset.
+pub fn standings_by_definition()
+    ensures { (notes : List NoteParts) (entry : RipEntry) (standing : Standing) → IsContent notes
+        → (standing_of (partitions_of notes) entry ≡ standing) ↔ IsStanding (partitions_of notes) entry standing }
+{}
+
+/// A law of [`Views::rip`](crate::Views::rip): what is known is by the number of the clear random index packs, and by
+/// whether the only one can be read.
+pub fn rip_views_by_definition()
+    ensures { (notes : List NoteParts) (view : RipView) → IsContent notes → HoldBytes notes
+        → (rip_view_of notes ≡ view) ↔ IsRipView notes view }
+{}
