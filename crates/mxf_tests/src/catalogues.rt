@@ -2,10 +2,10 @@
 ghost use Rattle.std.specs.Prelude.{◌≡◌, IfOk, IsTrue, map};
 ghost use Rattle.mxf_catalogue.specs.Disputes.{clear_notes, disputed_notes};
 
-use crate::builders::{essence, label, note_of_file};
-use crate::worked_files::M;
 use mxf_catalogue::{Catalogue, Change, Semilattice};
 use mxf_klv::{Note, OutOfMemory, Packet, read_packet};
+use mxf_worked::builders::{essence, label, marks, note_of_file};
+use mxf_worked::worked_files::M;
 use std::alloc::{AllocError, Global};
 use std::test::Fail;
 
@@ -43,15 +43,6 @@ fn add_essence(all: &mut Catalogue, packets: &[(u64, u64)]) -> Result<(), Fail> 
 /// The note of the packet of M at this offset.
 fn of_m(alloc: Global, offset: usize) -> Result<Note, Fail> {
     note_of_file(alloc, &M, offset)
-}
-
-/// The offsets of the disputed notes, with their marks.
-pub(crate) fn marks(alloc: Global, all: &Catalogue) -> Result<Vec<(u64, bool, bool)>, AllocError>
-    ensures { IfOk result (λ v. v.items ≡ map (λ d. (d.note.offset, d.same_offset, d.overlaps)) (disputed_notes all.now)) }
-{
-    all.disputed()
-        .map(|d| (d.note.offset(), d.same_offset, d.overlaps))
-        .collect(alloc)
 }
 
 fn clear_offsets(alloc: Global, all: &Catalogue) -> Result<Vec<u64>, AllocError>

@@ -4,11 +4,13 @@
 #![tactic(auto)]
 
 #[cfg(test)]
+mod absorbing;
+#[cfg(test)]
 mod batches;
 #[cfg(test)]
-mod builders;
-#[cfg(test)]
 mod catalogues;
+#[cfg(test)]
+mod files;
 #[cfg(test)]
 mod lengths;
 #[cfg(test)]
@@ -23,9 +25,5 @@ mod records;
 mod segments;
 #[cfg(test)]
 mod texts;
-#[cfg(test)]
-mod views;
-#[cfg(test)]
-mod worked_files;
 #[cfg(test)]
 mod writing;

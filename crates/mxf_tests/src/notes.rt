@@ -1,7 +1,7 @@
 //! Notes of packets.
-use crate::builders::{label, note_at};
-use crate::worked_files::{ESSENCE_KEY, FILL_KEY, HEADER_KEY};
 use mxf_klv::{Held, Kind, Note, NoteFault, Packet, read_packet};
+use mxf_worked::builders::{label, note_at, zeros};
+use mxf_worked::worked_files::{ESSENCE_KEY, FILL_KEY, HEADER_KEY};
 use std::alloc::Global;
 use std::test::Fail;
 
@@ -52,11 +52,6 @@ fn essence_is_digested_and_a_pack_is_kept(rt: HostRuntime) -> Result<(), Fail> {
     assert!(rt; pack.clone_in(rt.alloc())? == pack);
     assert!(rt; essence < pack);
     Ok(())
-}
-
-/// So many zero bytes.
-fn zeros(alloc: Global, count: usize) -> Result<Vec<u8>, Fail> {
-    Ok(vec![in alloc; 0u8; count]?)
 }
 
 #[test]

@@ -1,7 +1,7 @@
 //! Keys, packets, and why a piece stops.
-use crate::builders::label;
-use crate::worked_files::{ESSENCE_KEY, FILL_KEY, HEADER_KEY};
 use mxf_klv::{Kind, PacketFault, Status, Stop, kind, next_packet, read_packet};
+use mxf_worked::builders::label;
+use mxf_worked::worked_files::{ESSENCE_KEY, FILL_KEY, HEADER_KEY};
 use std::test::Fail;
 
 #[test]

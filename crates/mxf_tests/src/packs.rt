@@ -1,9 +1,11 @@
 //! Partition packs, primer packs and random index packs.
-use crate::builders::{joined, label};
-use crate::worked_files::{FOOTER_KEY, HEADER_KEY, RIP_KEY, footer_value, header_value, rip_value};
 use mxf_klv::{Encode, Status};
 use mxf_sets::{
     Batch, PackFault, PackPart, PartitionNumbers, PartitionPack, Primer, Rip, RipEntry,
+};
+use mxf_worked::builders::{joined, label};
+use mxf_worked::worked_files::{
+    FOOTER_KEY, HEADER_KEY, RIP_KEY, footer_value, header_value, rip_value,
 };
 use std::alloc::Global;
 use std::test::Fail;

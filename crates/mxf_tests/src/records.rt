@@ -1,8 +1,8 @@
 //! The header metadata records.
-use crate::builders::set_value;
 use mxf_sets::{
     ContentStorage, FieldFault, Identification, Package, Preface, Timestamp, instance_uid,
 };
+use mxf_worked::builders::set_value;
 use std::test::Fail;
 use uuid::Uuid;
 

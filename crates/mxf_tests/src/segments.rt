@@ -1,7 +1,8 @@
 //! Index table segments.
-use crate::builders::{Narrow, set_value};
 use mxf_klv::{Encode, WriteFault};
 use mxf_sets::{Segment, SegmentFault, SegmentNumbers};
+use mxf_worked::builders::{Narrow, set_value};
+use mxf_worked::worked_files::WRITTEN;
 use std::alloc::Global;
 use std::test::Fail;
 
@@ -38,22 +39,6 @@ const ONE_BYTE_OF_ENTRIES: (u16, &[u8]) = (0x3F0A, &[0]);
 /// Two entries with the stream offsets 1000 and 1500.
 const ENTRIES: [u8; 22] = [
     0, 0, 0, 0, 0, 0, 0, 0, 0, 0x03, 0xE8, 0, 0, 0, 0, 0, 0, 0, 0, 0, 0x05, 0xDC,
-];
-
-/// A segment of IndexSID 3, BodySID 2, start 5 and duration 2 with these entries, as written.
-#[rattlefmt::skip]
-const WRITTEN: [u8; 104] = [
-    0x3F, 0x0B, 0, 8, 0, 0, 0, 0x19, 0, 0, 0, 1, // edit rate 25/1
-    0x3F, 0x0C, 0, 8, 0, 0, 0, 0, 0, 0, 0, 5, // start 5
-    0x3F, 0x0D, 0, 8, 0, 0, 0, 0, 0, 0, 0, 2, // duration 2
-    0x3F, 0x05, 0, 4, 0, 0, 0, 0, // edit unit byte count 0
-    0x3F, 0x06, 0, 4, 0, 0, 0, 3, // IndexSID 3
-    0x3F, 0x07, 0, 4, 0, 0, 0, 2, // BodySID 2
-    0x3F, 0x08, 0, 1, 0, // slice count 0
-    0x3F, 0x0E, 0, 1, 0, // position table count 0
-    0x3F, 0x0A, 0, 0x1E, 0, 0, 0, 2, 0, 0, 0, 0x0B, // a batch of two entries of 11 bytes
-    0, 0, 0, 0, 0, 0, 0, 0, 0, 0x03, 0xE8, // stream offset 1000
-    0, 0, 0, 0, 0, 0, 0, 0, 0, 0x05, 0xDC, // stream offset 1500
 ];
 
 /// A segment with one slice and one position table, and its items in another order.

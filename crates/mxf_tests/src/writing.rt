@@ -1,8 +1,8 @@
 //! Writers that take little, that are interrupted and that fail.
-use crate::builders::{Narrow, label};
-use crate::worked_files::{ESSENCE_KEY, HEADER_KEY, header_value};
 use mxf_klv::{Ber, Encode, Packet, WriteFault};
 use mxf_sets::PartitionPack;
+use mxf_worked::builders::{Narrow, label};
+use mxf_worked::worked_files::{ESSENCE_KEY, HEADER_KEY, header_value};
 use std::test::Fail;
 
 /// The essence packet with the value `abc` and a length of two bytes.

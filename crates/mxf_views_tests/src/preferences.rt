@@ -1,10 +1,10 @@
 //! Which copy of the header metadata is preferred.
-use crate::builders::{joined, packet, views_at};
-use crate::worked_files::{
-    FOOTER_KEY, HEADER_KEY, Numbers, bare_preface, partition_value, primer, two_copies,
-};
 use mxf_klv::Status;
 use mxf_views::{Chain, CopyInfo};
+use mxf_worked::builders::{joined, packet, views_at};
+use mxf_worked::worked_files::{
+    FOOTER_KEY, HEADER_KEY, Numbers, bare_preface, partition_value, primer, two_copies,
+};
 use std::alloc::Global;
 use std::test::Fail;
 

@@ -1,32 +1,15 @@
 //! Partitions, how they name the one before them, and the chain of them.
-use crate::builders::{joined, note_at, views_at};
-use crate::catalogues::marks;
-use crate::worked_files::{
-    BODY_KEY, FOOTER_KEY, HEADER_KEY, M, Numbers, header_value, one_copy, one_package,
-    partition_value, storage_in_the_header, two_copies,
-};
 use mxf_catalogue::{Catalogue, Change};
 use mxf_klv::Note;
 use mxf_views::{Chain, Link, Views};
+use mxf_worked::builders::{joined, marks, note_at, views_at};
+use mxf_worked::view_builders::{partition, unreadable_partition};
+use mxf_worked::worked_files::{
+    BODY_KEY, FOOTER_KEY, HEADER_KEY, M, Numbers, header_value, one_copy, one_package,
+    partition_value, storage_in_the_header, two_copies,
+};
 use std::alloc::Global;
 use std::test::Fail;
-
-/// The note of a partition pack without header metadata.
-fn partition(alloc: Global, key: [u8; 16], offset: u64, previous: u64) -> Result<Note, Fail> {
-    let numbers = Numbers {
-        this_partition: offset,
-        previous_partition: previous,
-        footer_partition: 0,
-        header_byte_count: 0,
-    };
-    note_at(alloc, offset, key, 4, &partition_value(alloc, &numbers)?)
-}
-
-/// The note of a body partition pack that can't be read: its batch of labels has no label, and counts one.
-fn unreadable_partition(alloc: Global, offset: u64) -> Result<Note, Fail> {
-    let value = joined(alloc, &[&M[20..100], &[0, 0, 0, 1, 0, 0, 0, 16]])?;
-    note_at(alloc, offset, BODY_KEY, 4, &value)
-}
 
 /// The views of three packets, made in three ways: note after note, of a catalogue, and joined.
 fn views_in_three_ways(alloc: Global) -> Result<[Views; 3], Fail> {

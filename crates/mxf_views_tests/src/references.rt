@@ -1,11 +1,11 @@
 //! Sets found by their identifiers, and what references lead to.
-use crate::builders::{joined, set, views_at};
-use crate::worked_files::{
+use mxf_views::{Chain, Found, Ref, Resolved, Target, Views};
+use mxf_worked::builders::{joined, set, views_at};
+use mxf_worked::worked_files::{
     IDENTIFICATION_KEY, MATERIAL_PACKAGE_KEY, PREFACE_KEY, RAW_SET_KEY, SOURCE_PACKAGE_KEY,
     STORAGE_KEY, header, one_copy, one_package, package, preface, primer, storage,
     storage_in_the_header,
 };
-use mxf_views::{Chain, Found, Ref, Resolved, Target, Views};
 use std::alloc::Global;
 use std::test::Fail;
 use uuid::Uuid;

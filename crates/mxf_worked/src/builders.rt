@@ -1,18 +1,22 @@
 //! What tests of several crates build.
+ghost use Rattle.std.specs.Prelude.{◌≡◌, IfOk, map};
+ghost use Rattle.mxf_catalogue.specs.Disputes.{disputed_notes};
+
 use crate::worked_files::ESSENCE_KEY;
+use mxf_catalogue::Catalogue;
 use mxf_klv::{Note, Packet, Ul, read_packet};
 use mxf_views::Views;
-use std::alloc::Global;
+use std::alloc::{AllocError, Global};
 use std::io::{self, Error, ErrorKind, Write};
 use std::test::Fail;
 
 /// The label of these bytes.
-pub(crate) fn label(bytes: [u8; 16]) -> Result<Ul, Fail> {
+pub fn label(bytes: [u8; 16]) -> Result<Ul, Fail> {
     Ok(Ul::from_bytes(bytes).ok_or("a label")?)
 }
 
 /// The note of a packet of this key and value, whose length is spelled in `width` bytes.
-pub(crate) fn note_at(
+pub fn note_at(
     alloc: Global,
     offset: u64,
     key: [u8; 16],
@@ -24,7 +28,7 @@ pub(crate) fn note_at(
 }
 
 /// The note of the packet of a file at this offset.
-pub(crate) fn note_of_file(alloc: Global, file: &[u8], offset: usize) -> Result<Note, Fail> {
+pub fn note_of_file(alloc: Global, file: &[u8], offset: usize) -> Result<Note, Fail> {
     let rest = file.get(offset..).ok_or("past the end")?;
     let (packet, _) = read_packet(rest)?;
     Ok(Note::of(alloc, offset as u64, &packet)?)
@@ -32,12 +36,12 @@ pub(crate) fn note_of_file(alloc: Global, file: &[u8], offset: usize) -> Result<
 
 /// The note of an essence packet with a value of this length, all bytes of its digest 0. Seventeen bytes of key and
 /// length stand before the value.
-pub(crate) fn essence(offset: u64, length: u64) -> Result<Note, Fail> {
+pub fn essence(offset: u64, length: u64) -> Result<Note, Fail> {
     Ok(Note::digested(offset, label(ESSENCE_KEY)?, 1, length, [0; 32]).ok_or("a note")?)
 }
 
 /// The views of the packets of a file at these offsets.
-pub(crate) fn views_at(alloc: Global, file: &[u8], offsets: &[usize]) -> Result<Views, Fail> {
+pub fn views_at(alloc: Global, file: &[u8], offsets: &[usize]) -> Result<Views, Fail> {
     let mut views = Views::new(alloc);
     for offset in offsets {
         views.add(note_of_file(alloc, file, *offset)?)?;
@@ -46,7 +50,7 @@ pub(crate) fn views_at(alloc: Global, file: &[u8], offsets: &[usize]) -> Result<
 }
 
 /// These bytes, one part after another.
-pub(crate) fn joined(alloc: Global, parts: &[&[u8]]) -> Result<Vec<u8>, Fail> {
+pub fn joined(alloc: Global, parts: &[&[u8]]) -> Result<Vec<u8>, Fail> {
     let mut bytes = Vec::new(alloc);
     for part in parts {
         bytes.extend_from_slice(part)?;
@@ -55,7 +59,7 @@ pub(crate) fn joined(alloc: Global, parts: &[&[u8]]) -> Result<Vec<u8>, Fail> {
 }
 
 /// The value of a local set of these items: tag, length and value of each, at most 65,535 bytes.
-pub(crate) fn set_value(alloc: Global, items: &[(u16, &[u8])]) -> Result<Vec<u8>, Fail> {
+pub fn set_value(alloc: Global, items: &[(u16, &[u8])]) -> Result<Vec<u8>, Fail> {
     let mut bytes = Vec::new(alloc);
     for (tag, value) in items {
         let len = u16::try_from(value.len()).map_err(|_| "an item's length")?;
@@ -67,30 +71,30 @@ pub(crate) fn set_value(alloc: Global, items: &[(u16, &[u8])]) -> Result<Vec<u8>
 }
 
 /// The packet of this key and value, its length field of four bytes.
-pub(crate) fn packet(alloc: Global, key: [u8; 16], value: &[u8]) -> Result<Vec<u8>, Fail> {
+pub fn packet(alloc: Global, key: [u8; 16], value: &[u8]) -> Result<Vec<u8>, Fail> {
     let len = u16::try_from(value.len()).map_err(|_| "a packet's length")?;
     joined(alloc, &[&key, &[0x83, 0x00], &len.to_be_bytes(), value])
 }
 
 /// The packet of a local set of these items.
-pub(crate) fn set(alloc: Global, key: [u8; 16], items: &[(u16, &[u8])]) -> Result<Vec<u8>, Fail> {
+pub fn set(alloc: Global, key: [u8; 16], items: &[(u16, &[u8])]) -> Result<Vec<u8>, Fail> {
     packet(alloc, key, &set_value(alloc, items)?)
 }
 
 /// Takes at most `chunk` bytes a call after some interruptions. Once `room` bytes were taken it takes none, or fails
 /// with the refusal.
 #[derive(Drop)]
-pub(crate) struct Narrow {
-    pub(crate) taken: Vec<u8>,
-    pub(crate) room: usize,
-    pub(crate) chunk: usize,
-    pub(crate) interruptions: u32,
-    pub(crate) refusal: Option<ErrorKind>,
+pub struct Narrow {
+    pub taken: Vec<u8>,
+    pub room: usize,
+    pub chunk: usize,
+    pub interruptions: u32,
+    pub refusal: Option<ErrorKind>,
 }
 
 impl Narrow {
     /// Takes `room` bytes, one a call, and then fails.
-    pub(crate) fn new(alloc: Global, room: usize) -> Narrow {
+    pub fn new(alloc: Global, room: usize) -> Narrow {
         Narrow {
             taken: Vec::new(alloc),
             room,
@@ -122,4 +126,18 @@ impl Write for Narrow {
     fn flush(&mut self) -> io::Result<()> {
         Ok(())
     }
+}
+
+/// So many zero bytes.
+pub fn zeros(alloc: Global, count: usize) -> Result<Vec<u8>, Fail> {
+    Ok(vec![in alloc; 0u8; count]?)
+}
+
+/// The offsets of the disputed notes, with their marks.
+pub fn marks(alloc: Global, all: &Catalogue) -> Result<Vec<(u64, bool, bool)>, AllocError>
+    ensures { IfOk result (λ v. v.items ≡ map (λ d. (d.note.offset, d.same_offset, d.overlaps)) (disputed_notes all.now)) }
+{
+    all.disputed()
+        .map(|d| (d.note.offset(), d.same_offset, d.overlaps))
+        .collect(alloc)
 }

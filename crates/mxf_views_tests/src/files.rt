@@ -1,7 +1,9 @@
 //! The worked files that are put together are the ones that were written down byte by byte.
-use crate::builders::note_at;
-use crate::worked_files::{ESSENCE_KEY, one_copy, one_package, storage_in_the_header, two_copies};
 use mxf_klv::Held;
+use mxf_worked::builders::note_at;
+use mxf_worked::worked_files::{
+    ESSENCE_KEY, one_copy, one_package, storage_in_the_header, two_copies, with_index,
+};
 use std::alloc::Global;
 use std::test::Fail;
 
@@ -29,6 +31,12 @@ const STORAGE_IN_THE_HEADER: [u8; 32] = [
     0x2C, 0xDD, 0xFD, 0x30, 0x71, 0xE8, 0x3D, 0x55, 0xDF, 0x97, 0xE3, 0x49, 0x51, 0x86, 0xC7, 0xA6,
 ];
 
+/// The SHA-256 of the file with an index, by `sha256sum`.
+const WITH_INDEX: [u8; 32] = [
+    0x34, 0xA8, 0xDB, 0x60, 0x4F, 0xA3, 0xCB, 0xE8, 0xF0, 0x1F, 0x72, 0x5B, 0x93, 0xF8, 0xAF, 0x70,
+    0x0E, 0xEC, 0x45, 0xB4, 0x6F, 0x6C, 0x95, 0x14, 0x18, 0xC0, 0x17, 0x73, 0x6B, 0xC8, 0x45, 0xDF,
+];
+
 /// The SHA-256 of these bytes, as the note of an essence packet keeps it.
 fn digest(alloc: Global, bytes: &[u8]) -> Result<[u8; 32], Fail> {
     let note = note_at(alloc, 0, ESSENCE_KEY, 4, bytes)?;
@@ -46,5 +54,6 @@ fn the_worked_files_have_their_bytes(rt: HostRuntime) -> Result<(), Fail> {
     assert_eq!(rt; digest(alloc, &one_package(alloc)?)?, ONE_PACKAGE);
     let last = storage_in_the_header(alloc)?;
     assert_eq!(rt; digest(alloc, &last)?, STORAGE_IN_THE_HEADER);
+    assert_eq!(rt; digest(alloc, &with_index(alloc)?)?, WITH_INDEX);
     Ok(())
 }

@@ -1,11 +1,12 @@
 //! Copies of the header metadata: where they start, what of them is held, and their sets.
-use crate::builders::{essence, joined, packet, views_at};
-use crate::worked_files::{
-    FILL_KEY, M, bare_preface, header, one_copy, one_package, primer, two_copies,
-};
 use mxf_catalogue::Run;
 use mxf_klv::Status;
 use mxf_views::{Chain, CopyInfo, Found, Views};
+use mxf_worked::builders::{essence, joined, packet, views_at};
+use mxf_worked::view_builders::with_fill;
+use mxf_worked::worked_files::{
+    FILL_KEY, M, bare_preface, header, one_copy, one_package, primer, two_copies,
+};
 use std::alloc::{AllocError, Global};
 use std::test::Fail;
 use uuid::Uuid;
@@ -38,16 +39,6 @@ fn set_offsets(alloc: Global, views: &Views, partition: u64) -> Result<Vec<u64>,
         .sets(partition)
         .map(|note| note.offset())
         .collect(alloc)
-}
-
-/// The file of one copy with a fill of 32 bytes at 108: its primer stands at 140, its Preface at 186.
-fn with_fill(alloc: Global) -> Result<Vec<u8>, Fail> {
-    let header = header(alloc, 0, 86)?;
-    let fill = packet(alloc, FILL_KEY, &[0; 12])?;
-    joined(
-        alloc,
-        &[&header, &fill, &primer(alloc)?, &bare_preface(alloc)?],
-    )
 }
 
 /// The file of one copy, where its partition pack states other bytes of header metadata.

@@ -1,8 +1,8 @@
 //! Gaps: bytes that no packet holds.
-use crate::builders::{essence, note_at, views_at};
-use crate::worked_files::{FILL_KEY, M};
 use mxf_catalogue::{Catalogue, Run};
 use mxf_views::{Chain, Views};
+use mxf_worked::builders::{essence, note_at, views_at};
+use mxf_worked::worked_files::{FILL_KEY, M};
 use std::test::Fail;
 
 #[test]
