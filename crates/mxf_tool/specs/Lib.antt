@@ -1,6 +1,15 @@
+pub mod Answering
 pub mod Exits
+pub mod FindingLines
+pub mod Gathering
 pub mod Hexadecimal
+pub mod IndexLines
+pub mod ItemLines
+pub mod Levels
 pub mod Lines
+pub mod PartReading
 pub mod PartitionLines
 pub mod Printing
+pub mod ReferenceLines
+pub mod ShownText
 pub mod Sources

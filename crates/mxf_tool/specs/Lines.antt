@@ -53,10 +53,15 @@ line_of [] = codes "\n"
 line_of (part ∷ []) = part ++ codes "\n"
 line_of (part ∷ next ∷ parts) = part ++ (codes " " ++ line_of (next ∷ parts))
 
--- The line of a piece: its offset, the number of its notes and its stop.
+-- The line of a piece: its offset, the number of its packets and its stop.
 unfoldable pub piece_line : ℕ → ℕ → Stop → List ℕ
 piece_line offset count stop =
     line_of (codes "piece" ∷ decimal offset ∷ codes "noted" ∷ decimal count ∷ codes "stop" ∷ stop_text stop ∷ [])
+
+-- The line of a join: the number of notes, and how many of them are disputed.
+unfoldable pub join_line : ℕ → ℕ → List ℕ
+join_line notes disputed =
+    line_of (codes "joined" ∷ decimal notes ∷ codes "notes" ∷ decimal disputed ∷ codes "disputed" ∷ [])
 
 -- What stands after the key of a note, where it is disputed.
 abbrev pub dispute_mark : Bool → List ℕ

@@ -17,6 +17,11 @@ abbrev pub source_parts : Source → SourceParts
 source_parts (sources.Piece offset path) = Piece offset path.now
 source_parts (sources.Saved path) = Saved path.now
 
+-- The path of the file of a source.
+abbrev pub path_of : SourceParts → List ℕ
+path_of (Piece offset path) = path
+path_of (Saved path) = path
+
 abbrev pub at_scheme : List ℕ
 at_scheme = codes "at:"
 

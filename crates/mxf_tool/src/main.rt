@@ -2,10 +2,10 @@
 #![tactic(auto)]
 
 mod command_line;
+mod gathering;
 mod printing;
 mod program;
 mod source;
-mod walking;
 
 use std::process::ExitCode;
 

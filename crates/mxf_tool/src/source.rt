@@ -2,7 +2,7 @@
 ghost use Rattle.std.specs.Prelude.{◌≡◌, ℕ, List, Result, Ok, Err, IfOk, IfErr, MatchOption};
 ghost use Rattle.std.specs.List.{list_all};
 ghost use Rattle.std.specs.Char.{is_ascii_digit};
-ghost use Rattle.mxf_tool.specs.Sources.{IsOffset, ReadsSource, SourceParts, source_parts};
+ghost use Rattle.mxf_tool.specs.Sources.{IsOffset, ReadsSource, SourceParts, path_of, source_parts};
 ghost use Rattle.mxf_tool.specs.declared.source.SourceFault.{SourceFault};
 
 use mxf_klv::MAX;
@@ -15,6 +15,17 @@ pub enum Source<'a> {
     Piece { offset: u64, path: &'a str },
     /// The catalogue in the file at `path`.
     Saved { path: &'a str },
+}
+
+impl<'a> Source<'a> {
+    /// The path of its file.
+    pub fn path(&self) -> &'a str
+        ensures { result.now ≡ path_of (source_parts self.now) }
+    {
+        match *self {
+            Source::Piece { path, .. } | Source::Saved { path } => path,
+        }
+    }
 }
 
 /// Why a text names no source. The causes are tested in this order.

@@ -9,14 +9,22 @@ pub enum Group {
     Chain,
     Copies,
     Preferred,
+    Items,
+    References,
+    Segments,
+    RandomIndex,
 }
 
 /// The groups in the order in which they are printed.
-pub const GROUPS: [Group; 6] = [
+pub const GROUPS: [Group; 10] = [
     Group::Notes,
     Group::Gaps,
     Group::Partitions,
     Group::Chain,
     Group::Copies,
     Group::Preferred,
+    Group::Items,
+    Group::References,
+    Group::Segments,
+    Group::RandomIndex,
 ];

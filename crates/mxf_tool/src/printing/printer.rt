@@ -1,23 +1,33 @@
 //! Printing lines one after another.
-ghost use Rattle.std.specs.Prelude.{◌≡◌, ◌^◌, ◌<◌, ◌∷◌, [], IfSome};
+ghost use Rattle.std.specs.Prelude.{◌≡◌, ◌^◌, ◌<◌, ◌∷◌, ◌++◌, [], IfSome};
 ghost use Rattle.std.specs.List.{flat_map};
 ghost use Rattle.mxf_catalogue.specs.Disputes.{is_disputed};
 ghost use Rattle.mxf_klv.specs.Rising.{In};
 ghost use Rattle.mxf_klv.specs.Written.{Puts};
+ghost use Rattle.mxf_tool.specs.ItemLines.{item_lines, set_lines};
 ghost use Rattle.mxf_tool.specs.PartitionLines.{container_lines, partition_lines};
 ghost use Rattle.mxf_views.specs.Partitions.{partitions_of};
+ghost use Rattle.mxf_views.specs.Resolved.{resolved_of};
+ghost use Rattle.mxf_tool.specs.Answering.{join_lines, report_lines};
 ghost use Rattle.mxf_tool.specs.Printing.{Prints, content_lines, group_lines};
 ghost use Rattle.mxf_tool.specs.declared.printing.group.Group.TheVariants as groups;
 
-use super::AnswerFault;
+mod checking;
+mod fields;
+mod index;
+mod references;
+
+use super::PrintFault;
 use super::group::{GROUPS, Group};
 use super::line::{
-    ChainLine, ContainerLine, CopyLine, GapLine, NoteLine, PartitionLine, PreferredLine,
+    ChainLine, ContainerLine, CopyLine, GapLine, ItemLine, JoinLine, NoteLine, PartitionLine,
+    PieceLine, PreferredLine,
 };
+use crate::gathering::{Gathered, PieceReport};
 use mxf_catalogue::Catalogue;
 use mxf_klv::{Note, Progress};
-use mxf_sets::Batch;
-use mxf_views::{PartitionAt, Views};
+use mxf_sets::{Batch, Items, Primer};
+use mxf_views::{PartitionAt, Resolved, Views, set_items};
 use std::alloc::Global;
 use std::fmt::Display;
 use std::io::Write;
@@ -47,7 +57,7 @@ impl Printer {
         &mut self,
         writer: &mut W,
         line: L,
-    ) -> Result<(), AnswerFault>
+    ) -> Result<(), PrintFault>
         ensures { IfSome (L.output line) (λ text.
             Prints (Puts W.contents writer.old writer.new self.old.progress self.new.progress) result (text ∷ [])) }
     {
@@ -57,30 +67,87 @@ impl Printer {
         Ok(())
     }
 
-    /// Prints what the views show.
-    pub fn print_views<W: Write>(
+    /// Prints a line for each piece, and what the views show.
+    pub fn print_shown<W: Write>(
+        &mut self,
+        alloc: Global,
+        writer: &mut W,
+        gathered: &Gathered,
+    ) -> Result<(), PrintFault>
+        ensures { Prints (Puts W.contents writer.old writer.new self.old.progress self.new.progress) result
+            (report_lines gathered.now.reports ++ content_lines gathered.now.views) }
+    {
+        self.print_reports(writer, gathered.reports.as_slice())?;
+        self.print_views(alloc, writer, &gathered.views)
+    }
+
+    /// Prints how many notes a catalogue has, and how many of them are disputed.
+    pub fn print_joined<W: Write>(
         &mut self,
         writer: &mut W,
+        catalogue: &Catalogue,
+    ) -> Result<(), PrintFault>
+        ensures { Prints (Puts W.contents writer.old writer.new self.old.progress self.new.progress) result
+            (join_lines catalogue.now) }
+    {
+        let line = JoinLine {
+            notes: catalogue.len(),
+            disputed: catalogue.disputed().count(),
+        };
+        self.print(writer, line)
+    }
+
+    /// Prints a line for each piece.
+    fn print_reports<W: Write>(
+        &mut self,
+        writer: &mut W,
+        reports: &[PieceReport],
+    ) -> Result<(), PrintFault>
+        ensures { Prints (Puts W.contents writer.old writer.new self.old.progress self.new.progress) result
+            (report_lines reports.now) }
+    {
+        'each: for piece in reports {
+            let PieceReport { offset, report } = *piece;
+            let line = PieceLine {
+                offset,
+                count: report.noted,
+                stop: report.stop,
+            };
+            self.print(writer, line)?;
+        }
+        Ok(())
+    }
+
+    /// Prints what the views show.
+    fn print_views<W: Write>(
+        &mut self,
+        alloc: Global,
+        writer: &mut W,
         views: &Views,
-    ) -> Result<(), AnswerFault>
+    ) -> Result<(), PrintFault>
         ensures { Prints (Puts W.contents writer.old writer.new self.old.progress self.new.progress) result
             (content_lines views.now) }
     {
-        self.print_groups(writer, views, &GROUPS)
+        // Want of memory here comes before the first line.
+        let resolved = views.resolved(alloc)?;
+        self.print_groups(alloc, writer, views, &resolved, &GROUPS)
     }
 
     /// Prints groups of lines.
     fn print_groups<W: Write>(
         &mut self,
+        alloc: Global,
         writer: &mut W,
         views: &Views,
+        resolved: &Option<Resolved>,
         groups: &[Group],
-    ) -> Result<(), AnswerFault>
+    ) -> Result<(), PrintFault>
+        requires { resolved.now ≡ resolved_of views.now }
         ensures { Prints (Puts W.contents writer.old writer.new self.old.progress self.new.progress) result
             (flat_map (group_lines views.now) groups.now) }
     {
         'each: for group in groups {
-            self.print_group(writer, views, *group)?;
+            self.print_group(alloc, writer, views, resolved, *group)?;
         }
         Ok(())
     }
@@ -88,10 +155,13 @@ impl Printer {
     /// Prints a group of lines.
     fn print_group<W: Write>(
         &mut self,
+        alloc: Global,
         writer: &mut W,
         views: &Views,
+        resolved: &Option<Resolved>,
         group: Group,
-    ) -> Result<(), AnswerFault>
+    ) -> Result<(), PrintFault>
+        requires { resolved.now ≡ resolved_of views.now }
         ensures { Prints (Puts W.contents writer.old writer.new self.old.progress self.new.progress) result
             (group_lines views.now group) }
     {
@@ -102,6 +172,12 @@ impl Printer {
             Group::Chain => self.print(writer, ChainLine(views.chain())),
             Group::Copies => self.print_copies(writer, views),
             Group::Preferred => self.print(writer, PreferredLine(views.preferred())),
+            Group::Items => self.print_sets(writer, views),
+            Group::References => {
+                self.print_references(alloc, writer, views.catalogue(), resolved)
+            }
+            Group::Segments => self.print_segments(writer, views),
+            Group::RandomIndex => self.print_rip(writer, views),
         }
     }
 
@@ -110,7 +186,7 @@ impl Printer {
         &mut self,
         writer: &mut W,
         catalogue: &Catalogue,
-    ) -> Result<(), AnswerFault>
+    ) -> Result<(), PrintFault>
         ensures { Prints (Puts W.contents writer.old writer.new self.old.progress self.new.progress) result
             (group_lines catalogue.now groups.Notes) }
     {
@@ -122,7 +198,7 @@ impl Printer {
     }
 
     /// Prints a line for each gap.
-    fn print_gaps<W: Write>(&mut self, writer: &mut W, views: &Views) -> Result<(), AnswerFault>
+    fn print_gaps<W: Write>(&mut self, writer: &mut W, views: &Views) -> Result<(), PrintFault>
         ensures { Prints (Puts W.contents writer.old writer.new self.old.progress self.new.progress) result
             (group_lines views.now groups.Gaps) }
     {
@@ -137,7 +213,7 @@ impl Printer {
         &mut self,
         writer: &mut W,
         views: &Views,
-    ) -> Result<(), AnswerFault>
+    ) -> Result<(), PrintFault>
         ensures { Prints (Puts W.contents writer.old writer.new self.old.progress self.new.progress) result
             (group_lines views.now groups.Partitions) }
     {
@@ -153,7 +229,7 @@ impl Printer {
         writer: &mut W,
         views: &Views,
         partition: &PartitionAt<'_>,
-    ) -> Result<(), AnswerFault>
+    ) -> Result<(), PrintFault>
         ensures { Prints (Puts W.contents writer.old writer.new self.old.progress self.new.progress) result
             (partition_lines (partitions_of views.now) partition.now) }
     {
@@ -167,7 +243,7 @@ impl Printer {
         &mut self,
         writer: &mut W,
         containers: &Batch<'_>,
-    ) -> Result<(), AnswerFault>
+    ) -> Result<(), PrintFault>
         ensures { Prints (Puts W.contents writer.old writer.new self.old.progress self.new.progress) result
             (container_lines containers.now) }
     {
@@ -178,12 +254,63 @@ impl Printer {
     }
 
     /// Prints a line for each copy.
-    fn print_copies<W: Write>(&mut self, writer: &mut W, views: &Views) -> Result<(), AnswerFault>
+    fn print_copies<W: Write>(&mut self, writer: &mut W, views: &Views) -> Result<(), PrintFault>
         ensures { Prints (Puts W.contents writer.old writer.new self.old.progress self.new.progress) result
             (group_lines views.now groups.Copies) }
     {
         'each: for copy in views.copies() {
             self.print(writer, CopyLine(copy))?;
+        }
+        Ok(())
+    }
+
+    /// Prints the lines of the items of each clear set.
+    fn print_sets<W: Write>(&mut self, writer: &mut W, views: &Views) -> Result<(), PrintFault>
+        ensures { Prints (Puts W.contents writer.old writer.new self.old.progress self.new.progress) result
+            (group_lines views.now groups.Items) }
+    {
+        'each: for note in views.catalogue().clear() {
+            self.print_set(writer, views, note)?;
+        }
+        Ok(())
+    }
+
+    /// Prints a line for each item of a set, and none where the note has no items.
+    fn print_set<W: Write>(
+        &mut self,
+        writer: &mut W,
+        views: &Views,
+        note: &Note,
+    ) -> Result<(), PrintFault>
+        ensures { Prints (Puts W.contents writer.old writer.new self.old.progress self.new.progress) result
+            (set_lines views.now note.now) }
+    {
+        let Some(items) = set_items(note) else {
+            return Ok(());
+        };
+        self.print_items(writer, note.offset(), &views.primer_for(note), items)
+    }
+
+    /// Prints a line for each item of the set at an offset.
+    fn print_items<W: Write>(
+        &mut self,
+        writer: &mut W,
+        offset: u64,
+        primer: &Option<Primer<'_>>,
+        items: Items<'_>,
+    ) -> Result<(), PrintFault>
+        ensures { Prints (Puts W.contents writer.old writer.new self.old.progress self.new.progress) result
+            (item_lines offset primer.now items.entry) }
+    {
+        'each: for item in items {
+            // The checker wants the primer lent anew for each line.
+            let primer = &*primer;
+            let line = ItemLine {
+                offset,
+                primer,
+                item: &item,
+            };
+            self.print(writer, line)?;
         }
         Ok(())
     }

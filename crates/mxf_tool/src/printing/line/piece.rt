@@ -1,10 +1,10 @@
-//! The line of a piece.
+//! The lines of a piece and of a join.
 use mxf_klv::Stop;
 use std::fmt;
 
 /// A stop that prints as why it is, and at which offset.
 #[derive(Clone, Copy)]
-struct StopText(Stop);
+pub(super) struct StopText(pub(super) Stop);
 
 impl fmt::Display for StopText {
     ghost use Rattle.std.specs.Prelude.{Some};
@@ -27,7 +27,7 @@ impl fmt::Display for StopText {
 #[derive(Clone, Copy)]
 pub struct PieceLine {
     pub offset: u64,
-    pub count: usize,
+    pub count: u64,
     pub stop: Stop,
 }
 
@@ -46,5 +46,25 @@ impl fmt::Display for PieceLine {
         } = *self;
         let stop = StopText(stop);
         writeln!(f, "piece {offset} noted {count} stop {stop}")
+    }
+}
+
+/// The line of a join: the number of notes, and how many of them are disputed.
+#[derive(Clone, Copy)]
+pub struct JoinLine {
+    pub notes: usize,
+    pub disputed: usize,
+}
+
+impl fmt::Display for JoinLine {
+    ghost use Rattle.std.specs.Prelude.{Some};
+    ghost use Rattle.mxf_tool.specs.Lines.{join_line};
+
+    ghost output = { λ l. Some (join_line l.notes l.disputed) };
+
+    #[tactic(auto, unfolding(crate::specs::Lines::join_line))]
+    fn fmt<W: fmt::Write>(&self, f: &mut fmt::Formatter<W>) -> fmt::Result {
+        let JoinLine { notes, disputed } = *self;
+        writeln!(f, "joined {notes} notes {disputed} disputed")
     }
 }

@@ -1,0 +1,91 @@
+-- Catalogues that wait to be merged: what they hold together stays the same.
+use Rattle.std.proofs.Common.{◌≡◌, ◌⊎◌, ◌↔◌, List, [], ◌∷◌, ◌++◌, sym, subst, inl, inr}
+use Rattle.mxf_klv.specs.Parts.{NoteParts}
+use Rattle.mxf_klv.specs.NoteOrder.{note_total, note_cmp-IsAntisymmetric}
+use Rattle.mxf_klv.specs.Rising.{In, IsRising-union}
+use Rattle.mxf_catalogue.specs.Content.{IsContent, union_of, union_of-IsUnion}
+use Rattle.mxf_tool.specs.Levels.{Adds, HeldIn, HoldsAll}
+
+pub held_last : (levels : List (List NoteParts)) (last : List NoteParts) (n : NoteParts)
+    → HeldIn (levels ++ last ∷ []) n ↔ In n last ⊎ HeldIn levels n
+held_last [] last n = (λ h. h, λ h. h)
+held_last (notes ∷ levels) last n =
+    let more = held_last levels last n in (
+      λ h. elim h [
+        | inl k ↦ inr (inl k)
+        | inr k ↦ elim (more.0 k) [ inl a ↦ inl a | inr b ↦ inr (inr b) ]
+      ],
+      λ h. elim h [
+        | inl k ↦ inr (more.1 (inl k))
+        | inr k ↦ elim k [ inl a ↦ inl a | inr b ↦ inr (more.1 (inr b)) ]
+      ],
+    )
+
+-- What is merged and what waits hold the notes of a catalogue and of those that waited at first.
+abbrev pub HoldTogether : List NoteParts → List (List NoteParts) → List NoteParts → List (List NoteParts) → Type 0
+HoldTogether merged levels notes old = (n : NoteParts) → (In n merged ⊎ HeldIn levels n) ↔ (In n notes ⊎ HeldIn old n)
+
+-- the last that waited was merged
+pub merged_one : (merged next last notes : List NoteParts) (levels rest old : List (List NoteParts))
+    → HoldTogether merged levels notes old → levels ≡ rest ++ last ∷ [] → next ≡ union_of last merged
+    → HoldTogether next rest notes old
+merged_one merged next last notes levels rest old h is e n =
+    let waits = subst (λ ls. HeldIn ls n ↔ In n last ⊎ HeldIn rest n) (sym is) (held_last rest last n) in
+    let both = subst (λ ns. In n ns ↔ In n last ⊎ In n merged) (sym e) (union_of-IsUnion last merged n) in (
+      λ k. (h n).0 (elim k [
+        | inl a ↦ elim (both.0 a) [ inl b ↦ inr (waits.1 (inl b)) | inr c ↦ inl c ]
+        | inr d ↦ inr (waits.1 (inr d))
+      ]),
+      λ k. elim ((h n).1 k) [
+        | inl a ↦ inl (both.1 (inr a))
+        | inr d ↦ elim (waits.0 d) [ inl b ↦ inl (both.1 (inl b)) | inr r ↦ inr r ]
+      ],
+    )
+
+-- what was merged waits behind the others
+pub merged_last : (merged notes : List NoteParts) (levels new old : List (List NoteParts))
+    → HoldTogether merged levels notes old → new ≡ levels ++ merged ∷ [] → Adds old notes new
+merged_last merged notes levels new old h is n =
+    let waits = subst (λ ls. HeldIn ls n ↔ In n merged ⊎ HeldIn levels n) (sym is) (held_last levels merged n) in
+    (λ k. (h n).0 (waits.0 k), λ k. waits.1 ((h n).1 k))
+
+-- What the views hold and what is left of the catalogues hold the notes of all.
+pub record IsMerging (all : List (List NoteParts)) (views : List NoteParts) (left : List (List NoteParts)) : Type 0 where
+  pub content : IsContent views
+  pub members : (n : NoteParts) → (In n views ⊎ HeldIn left n) ↔ HeldIn all n
+
+pub merging_first : (all left : List (List NoteParts)) → left ≡ all → IsMerging all [] left
+merging_first all left is = record {
+  content = tt;
+  members = λ n. subst (λ ls. (In n [] ⊎ HeldIn ls n) ↔ HeldIn all n) (sym is)
+      (λ h. elim h [ inl k ↦ absurd k | inr k ↦ k ], λ h. inr h);
+}
+
+pub merging_one : (all left rest : List (List NoteParts)) (views next notes : List NoteParts)
+    → IsMerging all views left → left ≡ notes ∷ rest → next ≡ union_of views notes → IsMerging all next rest
+merging_one all left rest views next notes m is e = record {
+  content = subst IsContent (sym e) (IsRising-union note_total note_cmp-IsAntisymmetric views notes m.content);
+  members = λ n.
+      let waits = subst (λ ls. (In n views ⊎ HeldIn ls n) ↔ HeldIn all n) is (m.members n) in
+      let both = subst (λ ns. In n ns ↔ In n views ⊎ In n notes) (sym e) (union_of-IsUnion views notes n) in (
+        λ k. waits.0 (elim k [
+          | inl a ↦ elim (both.0 a) [ inl b ↦ inl b | inr c ↦ inr (inl c) ]
+          | inr d ↦ inr (inr d)
+        ]),
+        λ k. elim (waits.1 k) [
+          | inl b ↦ inl (both.1 (inl b))
+          | inr d ↦ elim d [ inl c ↦ inl (both.1 (inr c)) | inr r ↦ inr r ]
+        ],
+      );
+}
+
+pub merging_last : (all left : List (List NoteParts)) (views : List NoteParts)
+    → IsMerging all views left → left ≡ [] → HoldsAll all views
+merging_last all left views m is = record {
+  content = m.content;
+  members = λ n.
+      let waits = subst (λ ls. (In n views ⊎ HeldIn ls n) ↔ HeldIn all n) is (m.members n) in (
+        λ k. waits.0 (inl k),
+        λ k. elim (waits.1 k) [ inl b ↦ b | inr d ↦ absurd d ],
+      );
+}

@@ -1,0 +1,50 @@
+use Rattle.std.proofs.Common.{rules, [], ◌≡◌, length, sym, subst, List, arith}
+use Rattle.std.specs.Vec.Iter.{into_iter_items}
+use Rattle.mxf_tool.proofs.GatheringLaws.{IsPassed, IsGathered, passed_none, gathered_none, passed_one, gathered_one}
+use Rattle.mxf_tool.proofs.GatheringLaws.{gathered_content, gathered_fault, gathered_wants, told}
+use Rattle.mxf_tool.proofs.gathering.gather.Goals as goal
+
+pub parts-init : goal.parts-init
+parts-init g c =
+    let all = c.args.parts.items in
+    let is : into_iter_items c.into_iter-part-iterator.result ≡ all =
+    c.into_iter-part-iterator.ensures.into_iter_gives.0 in
+    record {
+      passed = subst (IsPassed all 0) (sym is) (passed_none all);
+      gathered = λ t. rw (c.new-levels.ensures, c.new-reports.ensures)
+          (subst (λ (l : List _). IsGathered g.R.Read.remaining all 0 l [] []) (sym is)
+          (gathered_none g.R.Read.remaining all));
+    }
+
+pub returns-in-Err-clause-fault : goal.returns-in-Err-clause-fault
+returns-in-Err-clause-fault g c t =
+    let left = g.R.Read.remaining in
+    let all = c.args.parts.items in
+    let i = c.parts.invariant in
+    let next = c.in-Some.ensures.steps.0 in
+    gathered_fault left all _ _ c.in-Some.part c.parts.number _ _ c.in-Err.fault (i.gathered t) next
+    (c.in-Err.ensures.fault (told left all _ _ c.in-Some.part c.parts.number i.passed next t))
+
+pub parts-preserved : goal.parts-preserved
+parts-preserved g c =
+    let left = g.R.Read.remaining in
+    let all = c.args.parts.items in
+    let i = c.parts.invariant in
+    let next = c.in-Some.ensures.steps.0 in
+    record {
+      passed = passed_one all _ _ c.in-Some.part c.parts.number i.passed next;
+      gathered = λ t. gathered_one left all _ _ c.in-Some.part c.parts.number _ _ _ _ (i.gathered t) next
+          (c.in_default.ensures.taken (told left all _ _ c.in-Some.part c.parts.number i.passed next t));
+    }
+
+pub returns-in-Ok-clause-content : goal.returns-in-Ok-clause-content
+returns-in-Ok-clause-content g c t =
+    let none : length (into_iter_items c.parts.part-iterator) ≡ 0 = search rules in
+    gathered_content g.R.Read.remaining c.args.parts.items (into_iter_items c.parts.part-iterator) c.parts.number _ _ _
+    (c.parts.invariant.gathered t) none c.in-Ok.ensures
+
+pub returns-in-Err-into_views-clause-fault : goal.returns-in-Err-into_views-clause-fault
+returns-in-Err-into_views-clause-fault g c t =
+    let none : length (into_iter_items c.parts.part-iterator) ≡ 0 = search rules in
+    gathered_wants g.R.Read.remaining c.args.parts.items (into_iter_items c.parts.part-iterator) c.parts.number _ _
+    (c.parts.invariant.gathered t) none (omega arith)

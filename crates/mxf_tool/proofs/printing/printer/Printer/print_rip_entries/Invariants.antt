@@ -1,0 +1,13 @@
+-- What is answered of the lines to come is answered of all lines.
+use Rattle.std.proofs.Common.{[], ◌∷◌}
+use Rattle.mxf_tool.specs.IndexLines.{rip_entry_lines}
+use Rattle.std.specs.List.{flat_map}
+use Rattle.mxf_tool.proofs.PrintLaws.{Leads}
+use Rattle.mxf_tool.proofs.printing.printer.Printer.print_rip_entries.Given as goal
+
+abbrev pub invariant-each : goal.invariant-each
+invariant-each g l =
+    Leads (g.W.Write.contents l.initial.writer) l.initial.self.progress.written
+    (rip_entry_lines l.fn.entries)
+    (g.W.Write.contents l.writer) l.self.progress.written
+    (rip_entry_lines l.row-iterator)

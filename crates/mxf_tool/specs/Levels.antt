@@ -1,0 +1,19 @@
+-- Catalogues that wait to be merged (this project's profile).
+use Rattle.std.specs.Prelude.{◌⊎◌, ◌↔◌, List, [], ◌∷◌}
+use Rattle.mxf_klv.specs.Parts.{NoteParts}
+use Rattle.mxf_klv.specs.Rising.{In}
+use Rattle.mxf_catalogue.specs.Content.{IsContent}
+
+-- One of the contents has the note.
+abbrev pub HeldIn : List (List NoteParts) → NoteParts → Type 0
+HeldIn [] n = ⊥
+HeldIn (notes ∷ levels) n = In n notes ⊎ HeldIn levels n
+
+-- The new contents have the notes of the old ones and of one more, and no others.
+abbrev pub Adds : List (List NoteParts) → List NoteParts → List (List NoteParts) → Type 0
+Adds old notes new = (n : NoteParts) → HeldIn new n ↔ In n notes ⊎ HeldIn old n
+
+-- The content has the notes of all, and no others.
+pub record HoldsAll (levels : List (List NoteParts)) (notes : List NoteParts) : Type 0 where
+  pub content : IsContent notes
+  pub members : (n : NoteParts) → In n notes ↔ HeldIn levels n

@@ -1,0 +1,141 @@
+//! What parts hold together, and which is at fault.
+use super::WORKED_FILE;
+use super::readers::{End, Slow, catalogue_file, packet, piece, saved};
+use crate::gathering::{GatherFault, Gathered, Part, PartFault, PieceReport, gather};
+use mxf_catalogue::FileFault;
+use mxf_klv::{Encode, Stop};
+use mxf_read::Report;
+use std::alloc::Global;
+use std::test::Fail;
+
+/// The file of what was gathered.
+fn written(alloc: Global, gathered: &Gathered) -> Result<Vec<u8>, Fail> {
+    let mut file = Vec::new(alloc);
+    gathered.views.catalogue().write_to(&mut file)?;
+    Ok(file)
+}
+
+/// What these parts hold together.
+fn gather_all<const N: usize>(
+    alloc: Global,
+    parts: [Part<Slow>; N],
+) -> Result<Gathered, GatherFault> {
+    let Ok(parts) = Vec::from_array(alloc, parts) else {
+        return Err(GatherFault {
+            part: 0,
+            fault: PartFault::OutOfMemory,
+        });
+    };
+    gather(alloc, parts)
+}
+
+fn fault_of<const N: usize>(alloc: Global, parts: [Part<Slow>; N]) -> Option<GatherFault> {
+    gather_all(alloc, parts).err()
+}
+
+#[test]
+fn a_piece_and_a_saved_catalogue_hold_the_notes_of_both(rt: HostRuntime) -> Result<(), Fail> {
+    let alloc = rt.alloc();
+    let file = catalogue_file(alloc, 3)?;
+    let interrupted = Part::Piece {
+        offset: 0,
+        from: Slow::new(alloc, packet(0, 108)?, 1024, End::Ends)?,
+    };
+    let gathered = gather_all(alloc, [interrupted, saved(alloc, &file)?])?;
+    let report = Report {
+        noted: 1,
+        stop: Stop::End,
+    };
+    assert_eq!(rt;
+        gathered.reports.as_slice(),
+        [PieceReport { offset: 0, report }].as_slice()
+    );
+    assert_eq!(rt; gathered.views.catalogue().len(), 3);
+    assert_eq!(rt; written(alloc, &gathered)?, file);
+    Ok(())
+}
+
+#[test]
+fn no_parts_hold_nothing(rt: HostRuntime) -> Result<(), Fail> {
+    let alloc = rt.alloc();
+    let gathered = gather_all(alloc, [])?;
+    assert!(rt; gathered.views.catalogue().is_empty());
+    assert!(rt; gathered.reports.as_slice().is_empty());
+    Ok(())
+}
+
+#[test]
+fn packets_in_every_order_with_repeats_and_empty_parts_save_equal_bytes(
+    rt: HostRuntime,
+) -> Result<(), Fail> {
+    let alloc = rt.alloc();
+    let file = catalogue_file(alloc, 3)?;
+    let offsets = [0usize, 108, 216, 264];
+    for [a, b, c] in [
+        [0usize, 1, 2],
+        [0, 2, 1],
+        [1, 0, 2],
+        [1, 2, 0],
+        [2, 0, 1],
+        [2, 1, 0],
+    ] {
+        let parts = [
+            piece(alloc, 0, &[])?,
+            piece(
+                alloc,
+                offsets[a] as u64,
+                packet(offsets[a], offsets[a + 1])?,
+            )?,
+            saved(alloc, &catalogue_file(alloc, 0)?)?,
+            piece(
+                alloc,
+                offsets[b] as u64,
+                packet(offsets[b], offsets[b + 1])?,
+            )?,
+            piece(
+                alloc,
+                offsets[c] as u64,
+                packet(offsets[c], offsets[c + 1])?,
+            )?,
+            saved(alloc, &catalogue_file(alloc, 2)?)?,
+            piece(alloc, 0, WORKED_FILE)?,
+        ];
+        let gathered = gather_all(alloc, parts)?;
+        assert_eq!(rt; written(alloc, &gathered)?, file);
+        assert_eq!(rt; gathered.reports.as_slice().len(), 5);
+    }
+    Ok(())
+}
+
+#[test]
+fn the_first_part_at_fault_is_named(rt: HostRuntime) -> Result<(), Fail> {
+    let alloc = rt.alloc();
+    let file = catalogue_file(alloc, 3)?;
+    let cut = file.get(..318).ok_or("past the end")?;
+    let truncated = GatherFault {
+        part: 0,
+        fault: PartFault::Catalogue(FileFault::Truncated(258)),
+    };
+    assert_eq!(rt;
+        fault_of(alloc, [saved(alloc, cut)?, saved(alloc, cut)?]),
+        Some(truncated)
+    );
+    let failing = Part::Piece {
+        offset: 0,
+        from: Slow::new(alloc, packet(0, 150)?, 0, End::Fails)?,
+    };
+    let read_fault = GatherFault {
+        part: 1,
+        fault: PartFault::ReadFault,
+    };
+    let parts = [saved(alloc, &file)?, failing, saved(alloc, cut)?];
+    assert_eq!(rt; fault_of(alloc, parts), Some(read_fault));
+    let interrupted = Part::Saved {
+        from: Slow::new(alloc, &file, 1025, End::Ends)?,
+    };
+    assert_eq!(rt;
+        fault_of(alloc, [saved(alloc, &file)?, interrupted]),
+        Some(read_fault)
+    );
+    Ok(())
+}
