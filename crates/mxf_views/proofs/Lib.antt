@@ -9,6 +9,7 @@ pub mod FoundLaws
 pub mod GapsLaws
 pub mod HeaderCauses
 pub mod IndexCauses
+pub mod Laid
 pub mod Members
 pub mod PartitionLaws
 pub mod PlaceLaws

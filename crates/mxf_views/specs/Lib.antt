@@ -14,3 +14,8 @@ pub mod Codes
 pub mod Findings
 pub mod FindingCauses
 pub mod SameViews
+pub mod Records
+pub mod Reading
+pub mod WellFormed
+pub mod WholeFile
+pub mod Headline

@@ -1,0 +1,199 @@
+-- Notes of packets that are laid one after another: each is clear, and what a zone has of them.
+use Rattle.std.specs.Prelude.{◌≡◌, ℕ, ◌+◌, ◌≤◌, Bool, true, false, cond, not, List, [], ◌∷◌, ◌++◌, length, filter}
+use Rattle.std.specs.Prelude.{sum_by, filter_map, Option, None, Result, if◌then◌else◌, is_some, refl}
+use Rattle.std.specs.List.{AllByRecursion, cons_option}
+use Rattle.std.specs.Option.{option_map}
+use Rattle.std.specs.Result.{result_ok}
+use Rattle.std.proofs.Common.{sym, ◌∙◌, ap, subst, inl, inr, arith, append_assoc}
+use Rattle.std.proofs.lemmas.Bool.{le-leb, lt-leb}
+use Rattle.std.proofs.lemmas.List.Elements.{filter-append}
+use Rattle.std.proofs.lemmas.List.Sums.{sum_by-cons}
+use Rattle.sha2.specs.Sha256.{sha256}
+use Rattle.mxf_klv.specs.Kind.{kind_of}
+use Rattle.mxf_klv.specs.Note.{keeps, note_of, end_of}
+use Rattle.mxf_klv.specs.Packet.{size_of}
+use Rattle.mxf_klv.specs.Parts.{PacketParts, NoteParts}
+use Rattle.mxf_klv.specs.Piece.{notes_from}
+use Rattle.mxf_klv.specs.Rising.{In}
+use Rattle.mxf_sets.specs.PackReadings.{pack_at, primer_at, rip_at}
+use Rattle.mxf_sets.specs.Readable.{read_as}
+use Rattle.mxf_sets.specs.Segment.{segment_at}
+use Rattle.mxf_catalogue.specs.Disputes.{SharesByte, IsDisputed, IsClear, is_disputed, clear_notes}
+use Rattle.mxf_catalogue.proofs.DisputeLaws.{is_disputed-IsDisputed}
+use Rattle.mxf_views.specs.Copies.{is_primer, is_readable_primer}
+use Rattle.mxf_views.specs.Partitions.{PartitionParts, pack_of, partition_at, partitions_of}
+use Rattle.mxf_views.specs.Places.{SegmentAtParts, is_segment, placed_segment, segments_of}
+use Rattle.mxf_views.specs.RandomIndex.{is_rip, rip_in}
+use Rattle.mxf_views.specs.Reading.{partition_read, partitions_read, segment_read, segments_read}
+use Rattle.mxf_views.specs.Records.{value_as, read_pack, read_primer, read_rip, read_segment}
+use Rattle.mxf_views.specs.Spans as spans
+use Rattle.mxf_views.specs.Spans.{lies_in, sizes}
+use Rattle.mxf_views.specs.WellFormed.{total_of}
+
+-- What a packet's note is read as is what the packet is.
+pub read_as-note : {A E : Type 0} (read : List ℕ → Result A E) (offset : ℕ) (p : PacketParts)
+    → read_as read (note_of offset p) ≡ value_as read p
+read_as-note read offset p =
+    elim (keeps p.key (length p.value)) as (λ b. cond b (result_ok (read (cond b p.value (sha256 p.value)))) None
+    ≡ cond b (result_ok (read p.value)) None) [ true ↦ refl | false ↦ refl ]
+
+pub pack-note : (offset : ℕ) (p : PacketParts) → pack_of (note_of offset p) ≡ read_pack p
+unfolding read_pack
+pack-note offset p = read_as-note (pack_at (kind_of p.key)) offset p
+
+pub primer-note : (offset : ℕ) (p : PacketParts) → is_readable_primer (note_of offset p) ≡ is_some (read_primer p)
+unfolding is_readable_primer
+primer-note offset p =
+    let e = read_as-note primer_at offset p in
+    elim (is_primer (kind_of p.key)) as (λ b. cond b (is_some (read_as primer_at (note_of offset p))) false
+    ≡ is_some (cond b (value_as primer_at p) None)) [ true ↦ ap is_some e | false ↦ refl ]
+
+pub rip-note : (offset : ℕ) (p : PacketParts) → is_rip (kind_of p.key) ≡ true → rip_in (note_of offset p) ≡ read_rip p
+unfolding read_rip
+rip-note offset p k = rw k (read_as-note (rip_at p.width) offset p)
+
+pub end_of-note_of : (offset : ℕ) (p : PacketParts) → end_of (note_of offset p) ≡ offset + size_of p
+end_of-note_of offset p = omega arith
+
+-- Each note of the file begins at or after the offset.
+pub after : (at : ℕ) (l : List PacketParts) (n : NoteParts) → In n (notes_from at l) → at ≤ n.offset
+after at [] n h = absurd h
+after at (p ∷ ps) n (inl e) = let f : n.offset ≡ at = ap (λ (m : NoteParts). m.offset) e in omega arith
+after at (p ∷ ps) n (inr h) = let f : at + size_of p ≤ n.offset = after (at + size_of p) ps n h in omega arith
+
+-- Two notes of the file share no byte.
+apart : (at : ℕ) (l : List PacketParts) (m n : NoteParts) → In m (notes_from at l) → In n (notes_from at l)
+    → SharesByte m n → m ≡ n
+apart at [] m n h k s = absurd h
+apart at (p ∷ ps) m n (inl e) (inl f) s = e ∙ sym f
+apart at (p ∷ ps) m n (inl e) (inr k) s =
+    let x : end_of m ≡ end_of (note_of at p) = ap end_of e in
+    let y : at + size_of p ≤ n.offset = after (at + size_of p) ps n k in
+    let a : s.0 + 1 ≤ end_of m = s.1.before in let b : n.offset ≤ s.0 = s.2.from in absurd (omega arith)
+apart at (p ∷ ps) m n (inr h) (inl f) s =
+    let x : end_of n ≡ end_of (note_of at p) = ap end_of f in
+    let y : at + size_of p ≤ m.offset = after (at + size_of p) ps m h in
+    let a : s.0 + 1 ≤ end_of n = s.2.before in let b : m.offset ≤ s.0 = s.1.from in absurd (omega arith)
+apart at (p ∷ ps) m n (inr h) (inr k) s = apart (at + size_of p) ps m n h k s
+
+no_dispute : (at : ℕ) (l : List PacketParts) (n : NoteParts) → In n (notes_from at l)
+    → IsDisputed n (notes_from at l) → ⊥
+no_dispute at l n k d = d.2 (apart at l d.0 n d.1 k d.3)
+
+-- Each note of the file is clear.
+pub IsClear-laid : (at : ℕ) (l : List PacketParts) (n : NoteParts) → In n (notes_from at l)
+    → IsClear n (notes_from at l)
+IsClear-laid at l n h = record { held = h; undisputed = no_dispute at l n h }
+
+filter_all : (p : NoteParts → Bool) (notes : List NoteParts) → ((n : NoteParts) → In n notes → p n ≡ true)
+    → filter p notes ≡ notes
+filter_all p [] f = refl
+filter_all p (x ∷ xs) f = rw (f x (inl refl)) (ap (λ l. x ∷ l) (filter_all p xs (λ n h. f n (inr h))))
+
+pub not_disputed : (at : ℕ) (l : List PacketParts) (n : NoteParts) → In n (notes_from at l)
+    → not (is_disputed n (notes_from at l)) ≡ true
+not_disputed at l n h =
+    let d = is_disputed-IsDisputed n (notes_from at l) in
+    elim (is_disputed n (notes_from at l)) as (λ b. is_disputed n (notes_from at l) ≡ b → not b ≡ true) [
+      | true ↦ λ e. absurd (no_dispute at l n h (d.0 e))
+      | false ↦ λ e. refl
+    ] refl
+
+pub clear-laid : (at : ℕ) (l : List PacketParts) → clear_notes (notes_from at l) ≡ notes_from at l
+clear-laid at l = filter_all (λ n. not (is_disputed n (notes_from at l))) (notes_from at l) (not_disputed at l)
+
+-- The partition of a packet's note is that of the packet.
+pub partition-note : (at : ℕ) (p : PacketParts) → partition_at (note_of at p) ≡ partition_read at p
+unfolding partition_at
+partition-note at p = λ i. option_map (λ pack. record { offset = at; end = end_of-note_of at p i; pack = pack })
+    (pack-note at p i)
+
+filter_map-laid : (at : ℕ) (l : List PacketParts) → filter_map partition_at (notes_from at l) ≡ partitions_read at l
+filter_map-laid at [] = refl
+filter_map-laid at (p ∷ ps) = λ i. cons_option (partition-note at p i) (filter_map-laid (at + size_of p) ps i)
+
+-- The partitions of a file.
+pub partitions_of-laid : (at : ℕ) (l : List PacketParts) → partitions_of (notes_from at l) ≡ partitions_read at l
+unfolding partitions_of
+partitions_of-laid at l = ap (filter_map partition_at) (clear-laid at l) ∙ filter_map-laid at l
+
+-- The packets that are laid from an offset on give the last of the notes, and all others end at or below that offset.
+pub record LastFrom (at : ℕ) (l : List PacketParts) (notes : List NoteParts) : Type 0 where
+  pub before : List NoteParts
+  pub whole : notes ≡ before ++ notes_from at l
+  pub ends : AllByRecursion (λ n. end_of n ≤ at) before
+
+pub last_all : (at : ℕ) (l : List PacketParts) → LastFrom at l (notes_from at l)
+last_all at l = record { before = []; whole = refl; ends = tt }
+
+end_with_one : (at next : ℕ) (ns : List NoteParts) (n : NoteParts) → AllByRecursion (λ m. end_of m ≤ at) ns
+    → at ≤ next → end_of n ≤ next → AllByRecursion (λ m. end_of m ≤ next) (ns ++ n ∷ [])
+end_with_one at next [] n a h e = (e, tt)
+end_with_one at next (m ∷ ms) n a h e = let b : end_of m ≤ at = a.0 in (omega arith, end_with_one at next ms n a.1 h e)
+
+pub last_next : (at : ℕ) (p : PacketParts) (ps : List PacketParts) (notes : List NoteParts)
+    → LastFrom at (p ∷ ps) notes → LastFrom (at + size_of p) ps notes
+last_next at p ps notes f = record {
+  before = f.before ++ note_of at p ∷ [];
+  whole = f.whole ∙ sym (append_assoc f.before (note_of at p ∷ []) (notes_from (at + size_of p) ps));
+  ends = end_with_one at (at + size_of p) f.before (note_of at p) f.ends (omega arith) (omega arith);
+}
+
+pub last_past : (at : ℕ) (xs ys : List PacketParts) (notes : List NoteParts) → LastFrom at (xs ++ ys) notes
+    → LastFrom (at + total_of xs) ys notes
+last_past at [] ys notes f = subst (λ x. LastFrom x ys notes) (let e : at ≡ at + 0 = omega arith in e) f
+last_past at (x ∷ xs) ys notes f =
+    let e : at + size_of x + total_of xs ≡ at + (size_of x + total_of xs) = omega arith in
+    subst (λ x. LastFrom x ys notes) e (last_past (at + size_of x) xs ys notes (last_next at x (xs ++ ys) notes f))
+
+In-right : (n : NoteParts) (xs ys : List NoteParts) → In n ys → In n (xs ++ ys)
+In-right n [] ys h = h
+In-right n (x ∷ xs) ys h = inr (In-right n xs ys h)
+
+pub In-last : (at : ℕ) (p : PacketParts) (ps : List PacketParts) (notes : List NoteParts)
+    → LastFrom at (p ∷ ps) notes → In (note_of at p) notes
+In-last at p ps notes f =
+    subst (λ ns. In (note_of at p) ns) (sym f.whole) (In-right (note_of at p) f.before (notes_from at (p ∷ ps)) (inl refl))
+
+-- What ends at or below the start of a zone isn't in it.
+zone_none_before : (start bytes : ℕ) (ns : List NoteParts) → AllByRecursion (λ n. end_of n ≤ start) ns
+    → filter (lies_in start bytes) ns ≡ []
+zone_none_before start bytes [] a = refl
+zone_none_before start bytes (n ∷ ns) a =
+    let b : end_of n ≤ start = a.0 in
+    rw (lt-leb start n.offset (omega arith)) (zone_none_before start bytes ns a.1)
+
+-- What is laid from the zone's end on isn't in it.
+zone_none_after : (start bytes at : ℕ) (l : List PacketParts) → start + bytes ≤ at → start ≤ at
+    → filter (lies_in start bytes) (notes_from at l) ≡ []
+zone_none_after start bytes at [] h k = refl
+zone_none_after start bytes at (p ∷ ps) h k =
+    rw (le-leb start at k, lt-leb (end_of (note_of at p)) (start + bytes) (omega arith))
+    (zone_none_after start bytes (at + size_of p) ps (omega arith) (omega arith))
+
+zone_within : (start bytes at : ℕ) (xs ys : List PacketParts) → start ≤ at → at + total_of xs ≡ start + bytes
+    → filter (lies_in start bytes) (notes_from at (xs ++ ys)) ≡ notes_from at xs
+zone_within start bytes at [] ys h e = zone_none_after start bytes at ys (omega arith) h
+zone_within start bytes at (x ∷ xs) ys h e =
+    rw (le-leb start at h, le-leb (end_of (note_of at x)) (start + bytes) (omega arith))
+    (ap (λ ns. note_of at x ∷ ns) (zone_within start bytes (at + size_of x) xs ys (omega arith) (omega arith)))
+
+-- The notes of a zone are those of the packets that make it up.
+pub zone-laid : (start bytes : ℕ) (xs ys : List PacketParts) (notes : List NoteParts)
+    → LastFrom start (xs ++ ys) notes → total_of xs ≡ bytes → filter (lies_in start bytes) notes ≡ notes_from start xs
+zone-laid start bytes xs ys notes f e =
+    ap (filter (lies_in start bytes)) f.whole
+    ∙ filter-append (lies_in start bytes) f.before (notes_from start (xs ++ ys))
+    ∙ ap (λ ns. ns ++ filter (lies_in start bytes) (notes_from start (xs ++ ys)))
+    (zone_none_before start bytes f.before f.ends)
+    ∙ zone_within start bytes start xs ys (omega arith) (omega arith)
+
+-- Laid packets cover as many bytes as they have.
+pub covered-laid : (at : ℕ) (xs : List PacketParts) → sizes (notes_from at xs) ≡ total_of xs
+covered-laid at [] = refl
+covered-laid at (x ∷ xs) =
+    let e : sizes (notes_from at (x ∷ xs)) ≡ spans.size_of (note_of at x) + sizes (notes_from (at + size_of x) xs)
+    = sum_by-cons spans.size_of (note_of at x) (notes_from (at + size_of x) xs) in
+    let ih : sizes (notes_from (at + size_of x) xs) ≡ total_of xs = covered-laid (at + size_of x) xs in
+    let s : spans.size_of (note_of at x) ≡ size_of x = omega arith in
+    omega (arith, e, ih, s)
