@@ -1,6 +1,6 @@
 -- Notes of packets that are laid one after another: each is clear, and what a zone has of them.
-use Rattle.std.specs.Prelude.{◌≡◌, ℕ, ◌+◌, ◌≤◌, Bool, true, false, cond, not, List, [], ◌∷◌, ◌++◌, length, filter}
-use Rattle.std.specs.Prelude.{sum_by, filter_map, Option, None, Result, if◌then◌else◌, is_some, refl}
+use Rattle.std.specs.Prelude.{◌≡◌, ℕ, ◌+◌, ◌≤◌, Bool, true, false, cond, not, ◌&&◌, List, [], ◌∷◌, ◌++◌, length}
+use Rattle.std.specs.Prelude.{filter, filter_map, None, Result, is_some, refl}
 use Rattle.std.specs.List.{AllByRecursion, cons_option}
 use Rattle.std.specs.Option.{option_map}
 use Rattle.std.specs.Result.{result_ok}
@@ -8,7 +8,6 @@ use Rattle.std.proofs.Common.{sym, ◌∙◌, ap, subst, inl, inr, arith, append
 use Rattle.std.proofs.lemmas.Bool.{le-leb, lt-leb}
 use Rattle.std.proofs.lemmas.List.Elements.{filter-append}
 use Rattle.std.proofs.lemmas.List.Sums.{sum_by-cons}
-use Rattle.sha2.specs.Sha256.{sha256}
 use Rattle.mxf_klv.specs.Kind.{kind_of}
 use Rattle.mxf_klv.specs.Note.{keeps, note_of, end_of}
 use Rattle.mxf_klv.specs.Packet.{size_of}
@@ -30,12 +29,16 @@ use Rattle.mxf_views.specs.Spans as spans
 use Rattle.mxf_views.specs.Spans.{lies_in, sizes}
 use Rattle.mxf_views.specs.WellFormed.{total_of}
 
+-- A value that is read only where it is kept is the same whatever is held of others.
+read_where_kept : {A E : Type 0} (read : List ℕ → Result A E) (kept : Bool) (value other : List ℕ)
+    → cond kept (result_ok (read (cond kept value other))) None ≡ cond kept (result_ok (read value)) None
+read_where_kept read true value other = refl
+read_where_kept read false value other = refl
+
 -- What a packet's note is read as is what the packet is.
 pub read_as-note : {A E : Type 0} (read : List ℕ → Result A E) (offset : ℕ) (p : PacketParts)
     → read_as read (note_of offset p) ≡ value_as read p
-read_as-note read offset p =
-    elim (keeps p.key (length p.value)) as (λ b. cond b (result_ok (read (cond b p.value (sha256 p.value)))) None
-    ≡ cond b (result_ok (read p.value)) None) [ true ↦ refl | false ↦ refl ]
+read_as-note read offset p = read_where_kept read (keeps p.key (length p.value)) p.value _
 
 pub pack-note : (offset : ℕ) (p : PacketParts) → pack_of (note_of offset p) ≡ read_pack p
 unfolding read_pack
@@ -45,7 +48,7 @@ pub primer-note : (offset : ℕ) (p : PacketParts) → is_readable_primer (note_
 unfolding is_readable_primer
 primer-note offset p =
     let e = read_as-note primer_at offset p in
-    elim (is_primer (kind_of p.key)) as (λ b. cond b (is_some (read_as primer_at (note_of offset p))) false
+    elim (is_primer (kind_of p.key)) as (λ b. (b && is_some (read_as primer_at (note_of offset p)))
     ≡ is_some (cond b (value_as primer_at p) None)) [ true ↦ ap is_some e | false ↦ refl ]
 
 pub rip-note : (offset : ℕ) (p : PacketParts) → is_rip (kind_of p.key) ≡ true → rip_in (note_of offset p) ≡ read_rip p

@@ -29,7 +29,7 @@ ties Less b e = cc
 ties Equal b e = (refl, e)
 ties Greater b e = cc
 
-same_pair : (a b : Pair) → a.body_sid ≡ b.body_sid → a.offset ≡ b.offset → a ≡ b
+pub same_pair : (a b : Pair) → a.body_sid ≡ b.body_sid → a.offset ≡ b.offset → a ≡ b
 same_pair a b e f i = record { body_sid = e i; offset = f i }
 
 pub pair_cmp-IsAntisymmetric : IsAntisymmetric pair_cmp

@@ -80,7 +80,7 @@ standing_iff notes entry s r =
 
 -- ---- the random index packs
 
-rip_kind : (k : Kind) → is_rip k ≡ true → k ≡ kinds.Rip
+pub rip_kind : (k : Kind) → is_rip k ≡ true → k ≡ kinds.Rip
 rip_kind kinds.Rip e = refl
 rip_kind _ e = absurd cc
 

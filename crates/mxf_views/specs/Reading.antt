@@ -1,8 +1,8 @@
 -- The reading of a file's packets from the front, with the offset that has been reached (ST 377-1; the names of the
 -- answers are this project's profile). Nothing here knows of clear notes or of covered offsets: each part goes once over
 -- the list.
-use Rattle.std.specs.Prelude.{ℕ, ◌+◌, ◌-◌, nat_lt, Bool, false, ◌==◌, ◌&&◌, if◌then◌else◌, List, [], ◌∷◌, map, filter}
-use Rattle.std.specs.Prelude.{fold, find, count_by, Option, Some, None, is_some}
+use Rattle.std.specs.Prelude.{ℕ, ◌+◌, ◌-◌, nat_lt, Bool, true, false, not, ◌==◌, ◌&&◌, if◌then◌else◌, List, [], ◌∷◌}
+use Rattle.std.specs.Prelude.{map, filter, fold, find, count_by, Option, Some, None, is_some}
 use Rattle.std.specs.List.{cons_option, list_all}
 use Rattle.std.specs.Option.{option_map, option_map_or, option_and_then}
 use Rattle.mxf_klv.specs.Kind.{kind_of}
@@ -10,7 +10,6 @@ use Rattle.mxf_klv.specs.Packet.{size_of}
 use Rattle.mxf_klv.specs.Parts.{PacketParts, NoteParts}
 use Rattle.mxf_klv.specs.Piece.{notes_from}
 use Rattle.mxf_sets.specs.Offset.{stream_offset}
-use Rattle.mxf_sets.specs.PartitionPack.{PartitionPackParts}
 use Rattle.mxf_sets.specs.Segment.{SegmentParts}
 use Rattle.mxf_sets.specs.declared.pack.random_index.RipEntry.{RipEntry}
 use Rattle.mxf_views.specs.Copies.{is_above, is_candidate, is_fill, is_preface_note, is_set_note}

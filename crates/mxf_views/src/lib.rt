@@ -11,6 +11,7 @@ mod partition;
 mod random_index;
 mod reference;
 mod views;
+mod whole_file;
 
 pub use chain::{Chain, Link, chain_by_definition, links_by_definition};
 pub use copy::sets::{Sets, set_items, sets_by_definition};
@@ -31,4 +32,8 @@ pub use reference::target::{Ref, Refs, Target, targets_by_definition};
 pub use reference::{Found, found_by_definition};
 pub use views::{
     ViewFault, Views, added_notes_dispute_what_they_touch, views_let_go_of_disputed_notes,
+};
+pub use whole_file::{
+    well_formed_files_are_read_whole, whole_files_have_their_index,
+    whole_files_have_their_random_index,
 };

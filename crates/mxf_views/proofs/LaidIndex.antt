@@ -1,0 +1,125 @@
+-- The index of a well-formed file is that of its reading.
+use Rattle.std.specs.Prelude.{◌≡◌, ℕ, ◌+◌, ◌==◌, true, false, List, [], ◌∷◌, cond, filter_map, Option, None, Some, refl}
+use Rattle.std.specs.List.{AllByRecursion, cons_option}
+use Rattle.std.specs.Option.{option_map, option_map_or}
+use Rattle.std.proofs.Common.{sym, ◌∙◌, ap, inl, inr}
+use Rattle.std.proofs.lemmas.Cmp.{tied_itself}
+use Rattle.mxf_klv.specs.Kind.{kind_of}
+use Rattle.mxf_klv.specs.Note.{note_of}
+use Rattle.mxf_klv.specs.Packet.{size_of}
+use Rattle.mxf_klv.specs.Parts.{PacketParts}
+use Rattle.mxf_klv.specs.Piece.{notes_from}
+use Rattle.mxf_klv.specs.Rising.{In, with_one, union}
+use Rattle.mxf_sets.specs.Offset.{stream_offset}
+use Rattle.mxf_sets.specs.Segment.{segment_at}
+use Rattle.mxf_views.specs.Places.{SegmentAtParts, is_segment, pair_cmp, pair_of, place_by, place_of}
+use Rattle.mxf_views.specs.Places.{placed_segment, segments_of}
+use Rattle.mxf_views.specs.Reading.{place_by_segment, place_read, segment_read, segments_read}
+use Rattle.mxf_views.specs.Records.{read_segment}
+use Rattle.mxf_views.specs.WellFormed.{Agree, IsWellFormed}
+use Rattle.mxf_views.specs.WholeFile.{HasIndexOf}
+use Rattle.mxf_views.specs.declared.index.place.Pair.{Pair}
+use Rattle.mxf_views.specs.declared.index.place.Place.{Place}
+use Rattle.mxf_views.specs.declared.index.place.Place.TheVariants.{NotIndexed, At, Ambiguous}
+use Rattle.mxf_views.proofs.Laid.{clear-laid, read_as-note}
+use Rattle.mxf_views.proofs.PlaceLaws.{pair_total, same_pair}
+
+-- The segment of a packet's note is that of the packet.
+segment-note : (at : ℕ) (p : PacketParts) → placed_segment (note_of at p) ≡ segment_read at p
+unfolding placed_segment read_segment
+segment-note at p = λ i. option_map (λ segment. record { offset = at; segment = segment })
+    (cond (is_segment (kind_of p.key)) (read_as-note segment_at at p i) None)
+
+filter_map-laid : (at : ℕ) (l : List PacketParts) → filter_map placed_segment (notes_from at l) ≡ segments_read at l
+filter_map-laid at [] = refl
+filter_map-laid at (p ∷ ps) = λ i. cons_option (segment-note at p i) (filter_map-laid (at + size_of p) ps i)
+
+-- The segments of a file.
+segments_of-laid : (at : ℕ) (l : List PacketParts) → segments_of (notes_from at l) ≡ segments_read at l
+unfolding segments_of
+segments_of-laid at l = ap (filter_map placed_segment) (clear-laid at l) ∙ filter_map-laid at l
+
+-- The place of a pair, and its numbers.
+abbrev place_at : Pair → Place
+place_at p = At p.body_sid p.offset
+
+abbrev stream_in : Place → ℕ
+stream_in NotIndexed = 0
+stream_in (At body_sid offset) = body_sid
+stream_in (Ambiguous p q) = 0
+
+abbrev offset_in : Place → ℕ
+offset_in NotIndexed = 0
+offset_in (At body_sid offset) = offset
+offset_in (Ambiguous p q) = 0
+
+pair_from_place : (p q : Pair) → place_at p ≡ place_at q → p ≡ q
+pair_from_place p q e = same_pair p q (ap stream_in e) (ap offset_in e)
+
+place-pair : (sid unit : ℕ) (s : SegmentAtParts)
+    → place_by_segment sid unit s.segment ≡ option_map place_at (pair_of sid unit s)
+unfolding pair_of
+place-pair sid unit s =
+    elim (s.segment.numbers.index_sid == sid) as (λ b.
+    cond b (option_map (At s.segment.numbers.body_sid) (stream_offset s.segment unit)) None
+    ≡ option_map place_at (cond b (option_map (λ offset. record { body_sid = s.segment.numbers.body_sid; offset = offset })
+    (stream_offset s.segment unit)) None)) [
+      | true ↦ elim (stream_offset s.segment unit) as (λ o. option_map (At s.segment.numbers.body_sid) o
+          ≡ option_map place_at (option_map (λ offset. record { body_sid = s.segment.numbers.body_sid; offset = offset }) o)) [
+        | None ↦ refl
+        | Some offset ↦ refl
+      ]
+      | false ↦ refl
+    ]
+
+-- Segments give one pair where they agree.
+one_pair : (segments : List SegmentAtParts) (sid unit : ℕ) (s t : SegmentAtParts) (p q : Pair) → Agree segments
+    → In s segments → In t segments → pair_of sid unit s ≡ Some p → pair_of sid unit t ≡ Some q → p ≡ q
+one_pair segments sid unit s t p q a h k e f =
+    pair_from_place p q (a s t sid unit (place_at p) (place_at q) h k
+    (place-pair sid unit s ∙ ap (option_map place_at) e) (place-pair sid unit t ∙ ap (option_map place_at) f))
+
+agree_later : (s : SegmentAtParts) (ss : List SegmentAtParts) → Agree (s ∷ ss) → Agree ss
+agree_later s ss a = λ t u sid unit p q h k e f. a t u sid unit p q (inr h) (inr k) e f
+
+-- Pairs that are all one are one.
+one_alone : (p : Pair) (xs : List Pair) → AllByRecursion (λ x. x ≡ p) xs → union pair_cmp (p ∷ []) xs ≡ p ∷ []
+one_alone p [] a = refl
+one_alone p (x ∷ xs) a =
+    let e : with_one pair_cmp x (p ∷ []) ≡ p ∷ [] =
+    ap (λ z. with_one pair_cmp z (p ∷ [])) a.0 ∙ rw (tied_itself pair_total p) refl in
+    ap (λ l. union pair_cmp l xs) e ∙ one_alone p xs a.1
+
+all_one : (sid unit : ℕ) (p : Pair) (ss : List SegmentAtParts)
+    → ((t : SegmentAtParts) (q : Pair) → In t ss → pair_of sid unit t ≡ Some q → q ≡ p)
+    → AllByRecursion (λ x. x ≡ p) (filter_map (pair_of sid unit) ss)
+all_one sid unit p [] f = tt
+all_one sid unit p (s ∷ ss) f =
+    let ih = all_one sid unit p ss (λ t q h e. f t q (inr h) e) in
+    elim (pair_of sid unit s) as (λ o. pair_of sid unit s ≡ o
+    → AllByRecursion (λ x. x ≡ p) (cons_option o (filter_map (pair_of sid unit) ss))) [
+      | None ↦ λ e. ih
+      | Some q ↦ λ e. (f s q (inl refl) e, ih)
+    ] refl
+
+-- Where segments agree, the place is that of the first that gives one.
+place-read : (sid unit : ℕ) (ss : List SegmentAtParts) → Agree ss → place_of ss sid unit ≡ place_read sid unit ss
+place-read sid unit [] a = refl
+place-read sid unit (s ∷ ss) a =
+    (elim (pair_of sid unit s) as (λ o. pair_of sid unit s ≡ o
+    → place_by (union pair_cmp [] (cons_option o (filter_map (pair_of sid unit) ss)))
+    ≡ option_map_or (λ place. place) (option_map place_at o) (place_read sid unit ss)) [
+      | None ↦ λ e. place-read sid unit ss (agree_later s ss a)
+      | Some p ↦ λ e. ap place_by (one_alone p (filter_map (pair_of sid unit) ss)
+          (all_one sid unit p ss (λ t q h g. one_pair (s ∷ ss) sid unit t s q p a (inr h) (inl refl) g e)))
+    ] refl)
+    ∙ ap (λ o. option_map_or (λ (place : Place). place) o (place_read sid unit ss)) (sym (place-pair sid unit s))
+
+-- The index of a well-formed file.
+pub index-laid : (l : List PacketParts) → IsWellFormed l → HasIndexOf (notes_from 0 l) l
+index-laid l w =
+    let s = segments_of-laid 0 l in
+    record {
+      segments = s;
+      places = λ sid unit. ap (λ ss. place_of ss sid unit) s ∙ place-read sid unit (segments_read 0 l) w.index;
+    }

@@ -1,0 +1,105 @@
+-- What is known of the random index pack of a well-formed file is what its reading says.
+use Rattle.std.specs.Prelude.{◌≡◌, ℕ, ◌+◌, ◌≤◌, true, false, cond, ◌==◌, List, [], ◌∷◌, map, filter, find}
+use Rattle.std.specs.Prelude.{Option, None, Some, is_some, IfSome, refl}
+use Rattle.std.specs.List.{AllByRecursion}
+use Rattle.std.specs.Option.{option_map_or}
+use Rattle.std.proofs.Common.{sym, ◌∙◌, ap, subst, inl, inr, arith}
+use Rattle.std.proofs.lemmas.Bool.{eq-eqb, ne_eqb}
+use Rattle.mxf_klv.specs.Kind.{kind_of}
+use Rattle.mxf_klv.specs.Note.{note_of}
+use Rattle.mxf_klv.specs.Packet.{size_of}
+use Rattle.mxf_klv.specs.Parts.{PacketParts, NoteParts}
+use Rattle.mxf_klv.specs.Piece.{notes_from}
+use Rattle.mxf_klv.specs.Rising.{In}
+use Rattle.mxf_sets.specs.RandomIndexPack.{RipParts}
+use Rattle.mxf_sets.specs.declared.pack.random_index.RipEntry.{RipEntry}
+use Rattle.mxf_views.specs.Partitions.{PartitionParts, partitions_of}
+use Rattle.mxf_views.specs.RandomIndex.{is_rip, is_rip_note, rips_of, standing_by, standing_of, standings}
+use Rattle.mxf_views.specs.RandomIndexView.{rip_view_among, rip_view_by, rip_view_of}
+use Rattle.mxf_views.specs.Reading.{compared, one_by_one, partitions_read, rip_read}
+use Rattle.mxf_views.specs.Records.{read_rip}
+use Rattle.mxf_views.specs.WellFormed.{EndsWithRandomIndex, IsRandomIndexPack, IsReadable, IsWellFormed, entry_of}
+use Rattle.mxf_views.specs.WellFormed.{is_readable_as}
+use Rattle.mxf_views.specs.declared.random_index.RipView.TheVariants.{Absent, One}
+use Rattle.mxf_views.specs.declared.random_index.Standing.TheVariants.{Held}
+use Rattle.mxf_views.proofs.Laid.{clear-laid, partitions_of-laid, rip-note}
+use Rattle.mxf_views.proofs.RandomIndexLaws.{rip_kind}
+use Rattle.mxf_views.proofs.RisingPartitions.{IsRisingFrom, at_or_above, rising-read}
+
+-- The partition at the offset of one of them is that one.
+found : (low : ℕ) (ps : List PartitionParts) (p : PartitionParts) → IsRisingFrom low ps → In p ps
+    → find (λ q. q.offset == p.offset) ps ≡ Some p
+found low [] p a h = absurd h
+found low (q ∷ qs) p a (inl e) =
+    let f : q.offset ≡ p.offset = ap (λ (x : PartitionParts). x.offset) (sym e) in
+    rw (eq-eqb q.offset p.offset f) (ap Some (sym e))
+found low (q ∷ qs) p a (inr h) =
+    let c : q.offset + 1 ≤ p.offset = at_or_above (q.offset + 1) qs p a.1 h in
+    rw (ne_eqb q.offset p.offset (λ e. omega (arith, e, c))) (found (q.offset + 1) qs p a.1 h)
+
+-- Entries that are those of the partitions stand alike either way.
+alike : (all ps : List PartitionParts)
+    → ((p : PartitionParts) → In p ps → find (λ q. q.offset == p.offset) all ≡ Some p)
+    → map (λ entry. (entry, standing_of all entry)) (map entry_of ps) ≡ one_by_one (map entry_of ps) ps
+alike all [] h = refl
+alike all (p ∷ ps) h =
+    let own : (p.pack.numbers.body_sid == p.pack.numbers.body_sid) ≡ true =
+    eq-eqb p.pack.numbers.body_sid p.pack.numbers.body_sid refl in
+    let a : standing_by (entry_of p) (find (λ q. q.offset == p.offset) all) ≡ Held = rw (h p (inl refl), own) refl in
+    let b : compared (entry_of p) p ≡ Held = rw (eq-eqb p.offset p.offset refl, own) refl in
+    let s : standing_by (entry_of p) (find (λ q. q.offset == p.offset) all) ≡ compared (entry_of p) p = a ∙ sym b in
+    λ i. (entry_of p, s i) ∷ alike all ps (λ q k. h q (inr k)) i
+
+none_here : (p : PacketParts) → ¬ IsRandomIndexPack p → is_rip (kind_of p.key) ≡ false
+none_here p n =
+    elim (is_rip (kind_of p.key)) as (λ b. is_rip (kind_of p.key) ≡ b → b ≡ false) [
+      | true ↦ λ e. absurd (n (rip_kind (kind_of p.key) e))
+      | false ↦ λ e. refl
+    ] refl
+
+not_read : (p : PacketParts) → is_rip (kind_of p.key) ≡ false → read_rip p ≡ None
+unfolding read_rip
+not_read p e = rw e refl
+
+module _ (notes : List NoteParts) (parts : List PartitionParts) (same : partitions_of notes ≡ parts)
+    (h : (p : PartitionParts) → In p parts → find (λ q. q.offset == p.offset) parts ≡ Some p) where
+  one : (at : ℕ) (o : Option RipParts) → is_some o ≡ true → IfSome o (λ rip. rip.entries ≡ map entry_of parts)
+      → rip_view_by notes at o
+      ≡ option_map_or (λ rip. One (record { offset = at; entries = one_by_one rip.entries parts })) o Absent
+  one at None s e = cc
+  one at (Some rip) s e =
+      let all : standings notes rip.entries ≡ one_by_one rip.entries parts =
+      ap (standings notes) e
+      ∙ (λ i. map (λ entry. (entry, standing_of (same i) entry)) (map entry_of parts))
+      ∙ alike parts parts h
+      ∙ ap (λ es. one_by_one es parts) (sym e) in
+      λ i. One (record { offset = at; entries = all i })
+
+  rips-laid : (at : ℕ) (l : List PacketParts) → AllByRecursion IsReadable l → EndsWithRandomIndex parts l
+      → rip_view_among notes (filter is_rip_note (notes_from at l)) ≡ rip_read parts at l
+  unfolding is_rip_note
+  rips-laid at [] r e = refl
+  rips-laid at (p ∷ []) r e =
+      elim (is_rip (kind_of p.key)) as (λ b. is_rip (kind_of p.key) ≡ b
+      → rip_view_among notes (cond b (note_of at p ∷ []) [])
+      ≡ option_map_or (λ rip. One (record { offset = at; entries = one_by_one rip.entries parts })) (read_rip p) Absent) [
+        | true ↦ λ k.
+            let s : is_some (read_rip p) ≡ true =
+            subst (λ kind. is_readable_as kind p ≡ true) (rip_kind (kind_of p.key) k) r.0 in
+            ap (rip_view_by notes at) (rip-note at p k) ∙ one at (read_rip p) s e
+        | false ↦ λ k. rw (not_read p k) refl
+      ] refl
+  rips-laid at (p ∷ q ∷ ps) r e =
+      let k = none_here p e.0 in
+      rw (k, not_read p k) (rips-laid (at + size_of p) (q ∷ ps) r.1 e.1)
+
+-- What is known of the random index pack of a well-formed file.
+pub random_index-laid : (l : List PacketParts) → IsWellFormed l
+    → rip_view_of (notes_from 0 l) ≡ rip_read (partitions_read 0 l) 0 l
+unfolding rips_of
+random_index-laid l w =
+    let notes = notes_from 0 l in
+    let parts = partitions_read 0 l in
+    ap (λ ns. rip_view_among notes (filter is_rip_note ns)) (clear-laid 0 l)
+    ∙ rips-laid notes parts (partitions_of-laid 0 l) (λ p k. found 0 parts p (rising-read 0 l) k) 0 l w.readable
+    w.random_index
