@@ -1,11 +1,14 @@
-//! Histories of calls: what any order of them leaves.
+//! Histories of calls: what any order of them leaves. The calls are `new`, `add`, `join`, `merge` and `read` of
+//! [`Catalogue`](crate::Catalogue), and in the crates above `absorb` of a piece, `Views::of` and `into_catalogue`, and
+//! `gather` of pieces and files.
 ghost use Rattle.std.specs.Prelude.{◌≡◌, ◌↔◌};
 ghost use Rattle.mxf_klv.specs.Parts.{NoteParts};
 ghost use Rattle.mxf_klv.specs.Rising.{In};
 ghost use Rattle.mxf_catalogue.specs.Content.{IsContent};
 ghost use Rattle.mxf_catalogue.specs.History.{History, Hands, HandsSame, content};
 
-/// A law: what a history of calls leaves is a content with exactly the notes that it was handed.
+/// A law: what a history of calls leaves is a content with exactly the notes that it was handed. A note is handed to
+/// `add`, in the file that is read, by a packet of a piece that is absorbed, or by a part that is gathered.
 pub fn histories_leave_what_they_were_handed()
     ensures content { (h : History) → IsContent (content h) }
     ensures members { (h : History) (n : NoteParts) → In n (content h) ↔ Hands h n }

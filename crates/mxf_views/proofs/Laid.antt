@@ -16,15 +16,13 @@ use Rattle.mxf_klv.specs.Piece.{notes_from}
 use Rattle.mxf_klv.specs.Rising.{In}
 use Rattle.mxf_sets.specs.PackReadings.{pack_at, primer_at, rip_at}
 use Rattle.mxf_sets.specs.Readable.{read_as}
-use Rattle.mxf_sets.specs.Segment.{segment_at}
 use Rattle.mxf_catalogue.specs.Disputes.{SharesByte, IsDisputed, IsClear, is_disputed, clear_notes}
 use Rattle.mxf_catalogue.proofs.DisputeLaws.{is_disputed-IsDisputed}
 use Rattle.mxf_views.specs.Copies.{is_primer, is_readable_primer}
-use Rattle.mxf_views.specs.Partitions.{PartitionParts, pack_of, partition_at, partitions_of}
-use Rattle.mxf_views.specs.Places.{SegmentAtParts, is_segment, placed_segment, segments_of}
+use Rattle.mxf_views.specs.Partitions.{pack_of, partition_at, partitions_of}
 use Rattle.mxf_views.specs.RandomIndex.{is_rip, rip_in}
-use Rattle.mxf_views.specs.Reading.{partition_read, partitions_read, segment_read, segments_read}
-use Rattle.mxf_views.specs.Records.{value_as, read_pack, read_primer, read_rip, read_segment}
+use Rattle.mxf_views.specs.Reading.{partition_read, partitions_read}
+use Rattle.mxf_views.specs.Records.{read_pack, read_primer, read_rip, value_as}
 use Rattle.mxf_views.specs.Spans as spans
 use Rattle.mxf_views.specs.Spans.{lies_in, sizes}
 use Rattle.mxf_views.specs.WellFormed.{total_of}

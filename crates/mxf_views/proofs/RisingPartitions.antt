@@ -22,14 +22,16 @@ rises_from_lower low high (p ∷ ps) h a = let b : high ≤ p.offset = a.0 in (o
 pub rising-read : (at : ℕ) (l : List PacketParts) → IsRisingFrom at (partitions_read at l)
 rising-read at [] = tt
 rising-read at (p ∷ ps) =
-    let rest = rising-read (at + size_of p) ps in
-    let later = partitions_read (at + size_of p) ps in
-    elim (read_pack p) as (λ o. IsRisingFrom at (cons_option
-    (option_map (λ pack. record { offset = at; end = at + size_of p; pack = pack }) o) (partitions_read (at + size_of p) ps))) [
-      | None ↦ rises_from_lower at (at + size_of p) later (omega arith) rest
-      | Some pack ↦ (omega arith, rises_from_lower (at + 1) (at + size_of p) later (omega arith) rest)
+    let end : ℕ = at + size_of p in
+    let later : List PartitionParts = partitions_read end ps in
+    let rest : IsRisingFrom end later = rising-read end ps in
+    elim (read_pack p) as (λ o. IsRisingFrom at
+    (cons_option (option_map (λ pack. record { offset = at; end = end; pack = pack }) o) later)) [
+      | None ↦ rises_from_lower at end later (omega arith) rest
+      | Some pack ↦ (omega arith, rises_from_lower (at + 1) end later (omega arith) rest)
     ]
 
+-- Each of them stands at the offset or above it.
 pub at_or_above : (low : ℕ) (ps : List PartitionParts) (p : PartitionParts) → IsRisingFrom low ps → In p ps
     → low ≤ p.offset
 at_or_above low [] p a h = absurd h

@@ -19,3 +19,5 @@ pub mod Reading
 pub mod WellFormed
 pub mod WholeFile
 pub mod Headline
+pub mod WorkedFiles
+pub mod WorkedBytes

@@ -10,6 +10,7 @@ mod index;
 mod partition;
 mod random_index;
 mod reference;
+mod small_files;
 mod views;
 mod whole_file;
 
@@ -30,10 +31,14 @@ pub use random_index::{
 pub use reference::resolved::Resolved;
 pub use reference::target::{Ref, Refs, Target, targets_by_definition};
 pub use reference::{Found, found_by_definition};
+pub use small_files::{
+    an_indexed_file_is_read_from_the_front, shared_rules_are_these, small_files_are_well_formed_or_not,
+    small_files_have_their_bytes, two_copies_are_read_from_the_front,
+};
 pub use views::{
     ViewFault, Views, added_notes_dispute_what_they_touch, views_let_go_of_disputed_notes,
 };
 pub use whole_file::{
-    well_formed_files_are_read_whole, whole_files_have_their_index,
-    whole_files_have_their_random_index,
+    well_formed_files_are_read_whole, whole_files_have_their_copies, whole_files_have_their_index,
+    whole_files_have_their_partitions, whole_files_have_their_random_index,
 };

@@ -4,7 +4,7 @@ ghost use Rattle.std.specs.List.{list_all};
 ghost use Rattle.mxf_catalogue.specs.Disputes.{SharesByte, clear_notes};
 ghost use Rattle.mxf_klv.specs.Parts.{NoteParts};
 ghost use Rattle.mxf_klv.specs.Rising.{In};
-ghost use Rattle.mxf_catalogue.specs.Content.{with_note, union_of};
+ghost use Rattle.mxf_catalogue.specs.Content.{has_note, with_note, union_of};
 ghost use Rattle.mxf_views.specs.Partitions.{partitions_of, link_of, link_at, is_linked, chain_of, is_header, is_footer, is_greatest, is_no_unreadable_pack};
 ghost use Rattle.mxf_views.specs.Gaps.{gaps_of};
 ghost use Rattle.mxf_views.specs.Copies.{copies_of, preferred_of, sets_of};
@@ -16,6 +16,7 @@ ghost use Rattle.std.specs.Result.{OkIff};
 ghost use Rattle.mxf_views.specs.Places.{greatest_unit, place_of, segments_of};
 ghost use Rattle.mxf_views.specs.RandomIndexView.{rip_view_of};
 ghost use Rattle.mxf_views.specs.Findings.{findings_of};
+ghost use Rattle.mxf_views.specs.Headline.{IsTheRun};
 ghost use Rattle.mxf_views.specs.SameViews.{SameViews};
 
 use crate::chain::{Chain, Link};
@@ -67,11 +68,15 @@ impl Views {
         }
     }
 
-    /// The views of a catalogue.
+    /// The views of a catalogue: whatever calls made it, they are those of the notes that it was handed, and where these
+    /// are the notes of a well-formed file, they are what reading the file from the front says.
     pub fn of(_alloc: Global, catalogue: Catalogue) -> Result<Views, ViewFault>
         ensures views { IfOk result (λ v. v ≡ catalogue) }
+        ensures run { IfOk result (λ v. IsTheRun (has_note catalogue) v) }
         ensures back { IfErr result (λ f. f.catalogue ≡ catalogue) }
     {
+        // What a catalogue lends says that its notes are those of a file.
+        let _notes = catalogue.notes();
         Ok(Views { catalogue })
     }
 

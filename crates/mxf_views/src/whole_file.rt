@@ -7,19 +7,19 @@ ghost use Rattle.mxf_views.specs.WholeFile.{AreNotesOf, HasCopiesOf, HasIndexOf,
 
 use mxf_klv::{each_piece_is_read_one_way, packets_are_read_as_written};
 
-// TMP /// A law of [`Views`](crate::Views): where a content is the notes of a well-formed file, there is no dispute and no gap,
-// TMP /// and the partitions, the link of each and their chain are those of the reading from the front.
-// TMP pub fn whole_files_have_their_partitions()
-// TMP     ensures { (notes : List NoteParts) (l : List PacketParts) → IsWellFormed l → AreNotesOf notes l
-// TMP         → HasPartitionsOf notes l }
-// TMP {}
+/// A law of [`Views`](crate::Views): where a content is the notes of a well-formed file, there is no dispute and no gap,
+/// and the partitions, the link of each and their chain are those of the reading from the front.
+pub fn whole_files_have_their_partitions()
+    ensures { (notes : List NoteParts) (l : List PacketParts) → IsWellFormed l → AreNotesOf notes l
+        → HasPartitionsOf notes l }
+{}
 
-// TMP /// A law of [`Views`](crate::Views): where a content is the notes of a well-formed file, the copies of the header
-// TMP /// metadata, the sets of each and the preferred copy are those of the reading from the front.
-// TMP pub fn whole_files_have_their_copies()
-// TMP     ensures { (notes : List NoteParts) (l : List PacketParts) → IsWellFormed l → AreNotesOf notes l
-// TMP         → HasCopiesOf notes l }
-// TMP {}
+/// A law of [`Views`](crate::Views): where a content is the notes of a well-formed file, the copies of the header
+/// metadata, the sets of each and the preferred copy are those of the reading from the front.
+pub fn whole_files_have_their_copies()
+    ensures { (notes : List NoteParts) (l : List PacketParts) → IsWellFormed l → AreNotesOf notes l
+        → HasCopiesOf notes l }
+{}
 
 /// A law of [`Views`](crate::Views): where a content is the notes of a well-formed file, the index table segments and the
 /// place of each edit unit are those of the reading from the front.

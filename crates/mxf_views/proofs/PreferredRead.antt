@@ -1,0 +1,111 @@
+-- Of copies that rise by partition, the preferred one is the same by either way of taking the better of two.
+use Rattle.std.specs.Prelude.{◌≡◌, ℕ, ◌+◌, ◌<◌, ◌≤◌, true, false, cond, not, ◌&&◌, ◌||◌, ◌==◌, nat_lt, List, [], ◌∷◌}
+use Rattle.std.specs.Prelude.{fold, Option, Some, None, IfSome, refl}
+use Rattle.std.specs.List.{cons_option}
+use Rattle.std.specs.Option.{option_and_then, option_map}
+use Rattle.std.proofs.Common.{◌∙◌, ap, inl, inr, arith}
+use Rattle.std.proofs.lemmas.Bool.{cases_order, eq-eqb, le-ltb, lt-ltb, ne_eqb}
+use Rattle.std.proofs.lemmas.Option.{IfSome_then}
+use Rattle.mxf_klv.specs.Packet.{size_of}
+use Rattle.mxf_klv.specs.Parts.{PacketParts}
+use Rattle.mxf_klv.specs.Piece.{notes_from}
+use Rattle.mxf_views.specs.Copies.{best_of, better, is_above, is_candidate, preferred_of, standing}
+use Rattle.mxf_views.specs.Partitions.{PartitionParts}
+use Rattle.mxf_views.specs.Reading.{CopyRead, after_fills, better_read, copies_alone, copies_read, copy_read}
+use Rattle.mxf_views.specs.Reading.{partition_read, preferred_read, taken, whole_copy}
+use Rattle.mxf_views.specs.Records.{read_pack}
+use Rattle.mxf_views.specs.declared.copy.CopyInfo.{CopyInfo}
+
+-- Each is of a partition at or above the offset, and below those of all later ones.
+abbrev pub RiseFrom : ℕ → List CopyInfo → Type 0
+RiseFrom low [] = Unit {0}
+RiseFrom low (c ∷ copies) = (low ≤ c.partition) × RiseFrom (c.partition + 1) copies
+
+rise_lower : (low high : ℕ) (copies : List CopyInfo) → low ≤ high → RiseFrom high copies → RiseFrom low copies
+rise_lower low high [] h r = tt
+rise_lower low high (c ∷ copies) h r = let b : high ≤ c.partition = r.0 in (omega arith, r.1)
+
+-- One more in front, or none.
+rise_one : (low high : ℕ) (o : Option CopyRead) (reads : List CopyRead) → low < high
+    → IfSome o (λ r. r.copy.partition ≡ low) → RiseFrom high (copies_alone reads)
+    → RiseFrom low (copies_alone (cons_option o reads))
+rise_one low high None reads h e r = rise_lower low high (copies_alone reads) (omega arith) r
+rise_one low high (Some read) reads h e r =
+    (omega (arith, e), rise_lower (read.copy.partition + 1) high (copies_alone reads) (omega (arith, h, e)) r)
+
+-- What is read of a partition is at its offset.
+copy_read_there : (ps : List PacketParts) (q : PartitionParts)
+    → IfSome (copy_read ps q) (λ r. r.copy.partition ≡ q.offset)
+copy_read_there ps q =
+    let bytes : ℕ = q.pack.numbers.header_byte_count in
+    let found : ℕ × List PacketParts = after_fills q.end ps in
+    let read : CopyRead = whole_copy q found.0 (notes_from found.0 (taken bytes found.1)) in
+    elim (nat_lt 0 bytes) as (λ b. IfSome (cond b (Some read) None) (λ r. r.copy.partition ≡ q.offset)) [
+      | true ↦ refl
+      | false ↦ tt
+    ]
+
+-- What is read of a packet is at its offset.
+there : (at : ℕ) (p : PacketParts) (ps : List PacketParts)
+    → IfSome (option_and_then (copy_read ps) (partition_read at p)) (λ r. r.copy.partition ≡ at)
+there at p ps =
+    elim (read_pack p) as (λ o. IfSome (option_and_then (copy_read ps)
+    (option_map (λ pack. record { offset = at; end = at + size_of p; pack = pack }) o)) (λ r. r.copy.partition ≡ at)) [
+      | None ↦ tt
+      | Some pack ↦ copy_read_there ps record { offset = at; end = at + size_of p; pack = pack }
+    ]
+
+-- The copies of a file rise.
+pub rise-read : (at : ℕ) (l : List PacketParts) → RiseFrom at (copies_alone (copies_read at l))
+rise-read at [] = tt
+rise-read at (p ∷ ps) =
+    rise_one at (at + size_of p) (option_and_then (copy_read ps) (partition_read at p))
+    (copies_read (at + size_of p) ps) (omega arith) (there at p ps) (rise-read (at + size_of p) ps)
+
+-- Of two in different partitions one stands above the other exactly where the other doesn't stand above it.
+one_above : (s t p q : ℕ) → p < q
+    → (nat_lt s t || ((s == t) && nat_lt p q)) ≡ not (nat_lt t s || ((t == s) && nat_lt q p))
+one_above s t p q h =
+    let above : nat_lt p q ≡ true = lt-ltb p q h in
+    let below : nat_lt q p ≡ false = le-ltb q p (omega arith) in
+    elim (cases_order s t) [
+      | inl e ↦
+          let f : t ≡ s = omega (arith, e) in
+          rw (le-ltb s t (omega (arith, e)), le-ltb t s (omega (arith, e)), eq-eqb s t e, eq-eqb t s f, above, below)
+          refl
+      | inr (inl l) ↦ rw (lt-ltb s t l, le-ltb t s (omega arith), ne_eqb t s (λ e. omega (arith, e, l))) refl
+      | inr (inr g) ↦ rw (le-ltb s t (omega arith), lt-ltb t s g, ne_eqb s t (λ e. omega (arith, e, g))) refl
+    ]
+
+-- A copy in a partition above that of the best so far.
+better_same : (low : ℕ) (best : Option CopyInfo) (c : CopyInfo) → IfSome best (λ b. b.partition < low)
+    → low ≤ c.partition → better best c ≡ better_read best c
+better_same low None c h l =
+    elim (is_candidate c) as (λ b. cond (b && true) (Some c) None ≡ cond b (Some c) None) [
+      | true ↦ refl
+      | false ↦ refl
+    ]
+better_same low (Some best) c h l =
+    ap (λ t. cond (is_candidate c && t) (Some c) (Some best))
+    (one_above (standing best) (standing c) best.partition c.partition (omega arith))
+
+-- The better of two is below all that come later.
+best_below : (low : ℕ) (best : Option CopyInfo) (c : CopyInfo) → IfSome best (λ b. b.partition < low)
+    → low ≤ c.partition → IfSome (better best c) (λ b. b.partition < c.partition + 1)
+best_below low best c h l =
+    elim (is_candidate c && is_above c best) as (λ t. IfSome (cond t (Some c) best)
+    (λ b. b.partition < c.partition + 1)) [
+      | true ↦ omega arith
+      | false ↦ IfSome_then best h (λ b k. omega (arith, k, l))
+    ]
+
+best_same : (low : ℕ) (best : Option CopyInfo) (copies : List CopyInfo) → IfSome best (λ b. b.partition < low)
+    → RiseFrom low copies → best_of best copies ≡ fold better_read best copies
+best_same low best [] h r = refl
+best_same low best (c ∷ copies) h r =
+    best_same (c.partition + 1) (better best c) copies (best_below low best c h r.0) r.1
+    ∙ ap (λ b. fold better_read b copies) (better_same low best c h r.0)
+
+-- The preferred one of copies that rise.
+pub preferred-rising : (copies : List CopyInfo) → RiseFrom 0 copies → preferred_of copies ≡ preferred_read copies
+preferred-rising copies r = best_same 0 None copies tt r

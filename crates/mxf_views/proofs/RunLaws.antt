@@ -1,0 +1,85 @@
+-- A content of exactly what was handed is what the run holds.
+use Rattle.std.specs.Prelude.{◌≡◌, ◌↔◌, ℕ, ◌+◌, ◌<◌, List, [], ◌∷◌, filter, refl}
+use Rattle.std.specs.List.{AllByRecursion}
+use Rattle.std.specs.declared.cmp.Ordering.TheVariants.{Less}
+use Rattle.std.proofs.Common.{sym, subst, arith}
+use Rattle.std.proofs.lemmas.Bool.{lt-ltb}
+use Rattle.mxf_klv.specs.Note.{note_cmp, note_of}
+use Rattle.mxf_klv.specs.Packet.{size_of}
+use Rattle.mxf_klv.specs.Parts.{PacketParts, NoteParts}
+use Rattle.mxf_klv.specs.Piece.{notes_from}
+use Rattle.mxf_klv.specs.Rising.{In}
+use Rattle.mxf_catalogue.specs.CatalogueFile.{IsFileOf, file_bytes}
+use Rattle.mxf_catalogue.specs.Content.{IsContent}
+use Rattle.mxf_catalogue.specs.Disputes.{disputed_notes, is_disputed}
+use Rattle.mxf_catalogue.specs.History.{content}
+use Rattle.mxf_catalogue.proofs.ContentLaws.{same_content}
+use Rattle.mxf_catalogue.proofs.DisputeLaws.{is_disputed-IsDisputed, notes-disputed_notes}
+use Rattle.mxf_catalogue.proofs.HistoryLaws.{In-content, IsContent-content}
+use Rattle.mxf_catalogue.proofs.Lists.{In-filter}
+use Rattle.mxf_views.specs.Headline.{IsDisputedAmong, IsReadFromFront, IsTheRun}
+use Rattle.mxf_views.specs.WellFormed.{IsWellFormed}
+use Rattle.mxf_views.proofs.LaidCopies.{copies-laid}
+use Rattle.mxf_views.proofs.LaidIndex.{index-laid}
+use Rattle.mxf_views.proofs.LaidPartitions.{partitions-laid}
+use Rattle.mxf_views.proofs.LaidRandomIndex.{random_index-laid}
+
+less_before : (n m : NoteParts) → n.offset < m.offset → note_cmp n m ≡ Less
+less_before n m h = rw (lt-ltb n.offset m.offset h) refl
+
+less_than_later : (n : NoteParts) (at : ℕ) (l : List PacketParts) → n.offset < at
+    → AllByRecursion (λ m. note_cmp n m ≡ Less) (notes_from at l)
+less_than_later n at [] h = tt
+less_than_later n at (p ∷ ps) h =
+    (less_before n (note_of at p) h, less_than_later n (at + size_of p) ps (omega arith))
+
+-- The notes of a file are a content.
+IsContent-laid : (at : ℕ) (l : List PacketParts) → IsContent (notes_from at l)
+IsContent-laid at [] = tt
+IsContent-laid at (p ∷ ps) =
+    (less_than_later (note_of at p) (at + size_of p) ps (omega arith), IsContent-laid (at + size_of p) ps)
+
+read_from_front : (l : List PacketParts) → IsWellFormed l → IsReadFromFront (notes_from 0 l) l
+read_from_front l w = record {
+  partitions = partitions-laid l w;
+  copies = copies-laid l w;
+  index = index-laid l w;
+  random_index = random_index-laid l w;
+}
+
+module _ (handed : NoteParts → Type 0) (notes : List NoteParts) (members : (n : NoteParts) → In n notes ↔ handed n) where
+  -- The disputed notes are those that share a byte with a different one that was handed.
+  disputed_among : (n : NoteParts) → In n (filter (λ m. is_disputed m notes) notes) ↔ IsDisputedAmong handed n
+  disputed_among n =
+      let f = In-filter (λ m. is_disputed m notes) notes n in
+      let d = is_disputed-IsDisputed n notes in (
+        (λ h.
+            let k = d.0 (f.0 h).1 in
+            record {
+              there = (members n).0 (f.0 h).0;
+              other = k.0;
+              other_there = (members k.0).0 k.1;
+              differs = k.2;
+              shares = k.3;
+            }),
+        (λ h. f.1 ((members n).1 h.there, d.1 (h.other, (members h.other).1 h.other_there, h.differs, h.shares))),
+      )
+
+  -- A content of exactly what was handed is what the run holds.
+  pub IsTheRun-from_set : IsFileOf (file_bytes notes) notes → IsTheRun handed notes
+  IsTheRun-from_set file =
+      let rises : IsContent notes = file.catalogue.content in
+      record {
+        members = members;
+        file = file;
+        one = λ h same.
+            same_content (content h) notes (IsContent-content h) rises
+            (λ n. (λ i. (members n).1 ((same n).0 ((In-content h n).0 i)), λ i. (In-content h n).1 ((same n).1 ((members n).0 i))));
+        disputed = λ n. subst (λ ns. In n ns ↔ IsDisputedAmong handed n) (sym (notes-disputed_notes notes))
+            (disputed_among n);
+        whole = λ l w same.
+            let e : notes_from 0 l ≡ notes =
+            same_content (notes_from 0 l) notes (IsContent-laid 0 l) rises
+            (λ n. (λ i. (members n).1 ((same n).0 i), λ i. (same n).1 ((members n).0 i))) in
+            subst (λ ns. IsReadFromFront ns l) e (read_from_front l w);
+      }

@@ -1,0 +1,14 @@
+use Rattle.mxf_views.proofs.SmallFiles.{h_not_well_formed, n_well_formed, r_not_well_formed, w_well_formed}
+use Rattle.mxf_views.proofs.small_files.small_files_are_well_formed_or_not.Goals as goal
+
+pub returns-clause-two_copies : goal.returns-clause-two_copies
+returns-clause-two_copies c = n_well_formed
+
+pub returns-clause-indexed : goal.returns-clause-indexed
+returns-clause-indexed c = w_well_formed
+
+pub returns-clause-no_footer : goal.returns-clause-no_footer
+returns-clause-no_footer c = h_not_well_formed
+
+pub returns-clause-no_footer_either : goal.returns-clause-no_footer_either
+returns-clause-no_footer_either c = r_not_well_formed

@@ -1,0 +1,7 @@
+use Rattle.std.proofs.Common.{sym, subst}
+use Rattle.mxf_views.specs.WholeFile.{HasCopiesOf}
+use Rattle.mxf_views.proofs.LaidCopies.{copies-laid}
+use Rattle.mxf_views.proofs.whole_file.whole_files_have_their_copies.Goals as goal
+
+pub returns : goal.returns
+returns c = λ notes l w e. subst (λ ns. HasCopiesOf ns l) (sym e) (copies-laid l w)

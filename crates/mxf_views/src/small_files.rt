@@ -1,0 +1,73 @@
+//! Small files: which are well-formed, what bytes they have, and what reading them from the front says.
+ghost use Rattle.std.specs.Prelude.{◌≡◌, ◌<◌, ◌↔◌, ◌∷◌, [], map, None, Some, is_some, true, false};
+ghost use Rattle.mxf_klv.specs.Kind.{kind_of};
+ghost use Rattle.mxf_klv.specs.declared.kinds.Status.TheVariants.{OpenIncomplete, ClosedIncomplete, OpenComplete, ClosedComplete};
+ghost use Rattle.mxf_sets.specs.declared.pack.part.PackPart.TheVariants.{Header};
+ghost use Rattle.mxf_views.specs.Copies.{is_candidate, is_set, rank, standing};
+ghost use Rattle.mxf_views.specs.Reading.{chain_read, copies_alone, copies_read, link_read_at, links_read, partitions_read};
+ghost use Rattle.mxf_views.specs.Reading.{place_read, preferred_read, rip_read, segments_read, sets_read};
+ghost use Rattle.mxf_views.specs.WellFormed.{IsWellFormed, file_bytes};
+ghost use Rattle.mxf_views.specs.WorkedBytes.{h_bytes, n_bytes, r_bytes, w_bytes};
+ghost use Rattle.mxf_views.specs.WorkedFiles.{constant, copy_of_86, essence, h_file, linked_preface, material, n_copies, n_file};
+ghost use Rattle.mxf_views.specs.WorkedFiles.{numbers, pack, primer, r_file, storage, three_entries, w_file, w_rip};
+ghost use Rattle.mxf_views.specs.declared.chain.Chain.TheVariants as chains;
+ghost use Rattle.mxf_views.specs.declared.chain.Link.TheVariants as links;
+ghost use Rattle.mxf_views.specs.declared.copy.CopyInfo.{CopyInfo};
+ghost use Rattle.mxf_views.specs.declared.index.place.Place.TheVariants as places;
+ghost use Rattle.mxf_views.specs.declared.random_index.RipView.TheVariants as rips;
+
+/// A law: which of some small files are well-formed. Two have no footer partition.
+pub fn small_files_are_well_formed_or_not()
+    ensures two_copies { IsWellFormed n_file }
+    ensures indexed { IsWellFormed w_file }
+    ensures no_footer { ¬ IsWellFormed h_file }
+    ensures no_footer_either { ¬ IsWellFormed r_file }
+{}
+
+/// A law: the bytes of the small files are those that stand in tests/worked.
+pub fn small_files_have_their_bytes()
+    ensures h { file_bytes h_file ≡ h_bytes }
+    ensures n { file_bytes n_file ≡ n_bytes }
+    ensures r { file_bytes r_file ≡ r_bytes }
+    ensures w { file_bytes w_file ≡ w_bytes }
+{}
+
+/// A law: what the reading from the front says of the small file with two copies of the header metadata.
+pub fn two_copies_are_read_from_the_front()
+    ensures links { links_read None (partitions_read 0 n_file) ≡ (0, Some links.First) ∷ (194, Some links.Held) ∷ [] }
+    ensures chain { chain_read (partitions_read 0 n_file) ≡ chains.Whole }
+    ensures copies { copies_alone (copies_read 0 n_file) ≡ n_copies }
+    ensures sets { map (λ n. n.offset) (sets_read (copies_read 0 n_file) 194) ≡ 348 ∷ [] }
+    ensures preferred { preferred_read (copies_alone (copies_read 0 n_file)) ≡ Some (copy_of_86 194 302) }
+    ensures segments { segments_read 0 n_file ≡ [] }
+    ensures rip { rip_read (partitions_read 0 n_file) 0 n_file ≡ rips.Absent }
+{}
+
+/// A law: what the reading from the front says of the small file with an index and a random index pack.
+pub fn an_indexed_file_is_read_from_the_front()
+    ensures links { links_read None (partitions_read 0 w_file)
+        ≡ (0, Some links.First) ∷ (108, Some links.Held) ∷ (336, Some links.Held) ∷ [] }
+    ensures link { link_read_at 108 (links_read None (partitions_read 0 w_file)) ≡ Some links.Held }
+    ensures no_link { link_read_at 216 (links_read None (partitions_read 0 w_file)) ≡ None }
+    ensures chain { chain_read (partitions_read 0 w_file) ≡ chains.Whole }
+    ensures copies { copies_read 0 w_file ≡ [] }
+    ensures place { place_read 1 10 (segments_read 0 w_file) ≡ places.At 2 2500000 }
+    ensures last_place { place_read 1 99 (segments_read 0 w_file) ≡ places.At 2 24750000 }
+    ensures no_place { place_read 1 100 (segments_read 0 w_file) ≡ places.NotIndexed }
+    ensures other_index { place_read 2 10 (segments_read 0 w_file) ≡ places.NotIndexed }
+    ensures rip { rip_read (partitions_read 0 w_file) 0 w_file ≡ w_rip }
+{}
+
+/// A law: the rules that the views and the reading from the front share, which no law of whole files can tell apart from
+/// others: how statuses stand to one another, which copies are candidates, and which kinds of packets are sets.
+pub fn shared_rules_are_these()
+    ensures statuses { (rank OpenIncomplete < rank OpenComplete)
+        × (rank OpenComplete < rank ClosedIncomplete) × (rank ClosedIncomplete < rank ClosedComplete) }
+    ensures finished { (c d : CopyInfo) → c.finished ≡ true → d.finished ≡ false → standing d < standing c }
+    ensures candidates { (c : CopyInfo) → (is_candidate c ≡ true) ↔ ((is_some c.start ≡ true) × (c.prefaces ≡ 1)) }
+    ensures sets { (is_set (kind_of linked_preface.key) ≡ true) × (is_set (kind_of storage.key) ≡ true)
+        × (is_set (kind_of material.key) ≡ true) }
+    ensures no_sets { (is_set (kind_of primer.key) ≡ false) × (is_set (kind_of constant.key) ≡ false)
+        × (is_set (kind_of essence.key) ≡ false) × (is_set (kind_of three_entries.key) ≡ false)
+        × (is_set (kind_of (pack Header (numbers 0 0 0 0 0 0 0)).key) ≡ false) }
+{}
