@@ -24,12 +24,14 @@ use Rattle.mxf_views.specs.declared.reference.target.Target.TheVariants.{Found, 
 use Rattle.mxf_views.specs.Copies.{IsCopy, copies_of, is_primer, is_set}
 use Rattle.mxf_views.specs.SetItems.{whole_items}
 use Rattle.mxf_views.specs.Resolved.{ResolvedParts, resolved_of}
-use Rattle.mxf_views.specs.Findings.{is_found, is_partial, is_segment, is_unreadable_segment}
+use Rattle.mxf_views.specs.Findings.{is_found, is_partial, is_unreadable_segment}
 use Rattle.mxf_views.specs.Findings.{is_unreadable_set, lost_at, lost_behind, lost_beside, lost_by, lost_in}
 use Rattle.mxf_views.specs.Findings.{reads_value}
+use Rattle.mxf_views.specs.Places.{is_segment}
 use Rattle.mxf_views.specs.FindingCauses.{AtClear, Holds, HoldsLost, IsReadable, IsReadableSet}
 use Rattle.mxf_views.proofs.CauseLaws.{at_clear, either, if_not, not_if, one_of}
 use Rattle.mxf_views.proofs.CopyLaws.{copies_are}
+use Rattle.mxf_views.proofs.SegmentLaws.{segment_kind}
 use Rattle.mxf_views.proofs.FindingMembers.{In-append, In-chosen}
 use Rattle.mxf_views.proofs.Members.{both, false_if, parts}
 
@@ -138,23 +140,6 @@ unreadable_sets notes o =
 
 -- ---- index table segments that can't be read
 
-segment_says : (k : Kind) → is_segment k ≡ true → k ≡ kinds.Segment
-segment_says kinds.Segment h = refl
-segment_says kinds.Primer h = absurd cc
-segment_says kinds.Preface h = absurd cc
-segment_says kinds.Identification h = absurd cc
-segment_says kinds.ContentStorage h = absurd cc
-segment_says kinds.MaterialPackage h = absurd cc
-segment_says kinds.SourcePackage h = absurd cc
-segment_says kinds.RawSet h = absurd cc
-segment_says (kinds.Header s) h = absurd cc
-segment_says (kinds.Body s) h = absurd cc
-segment_says (kinds.Footer s) h = absurd cc
-segment_says kinds.Rip h = absurd cc
-segment_says kinds.Fill h = absurd cc
-segment_says kinds.Essence h = absurd cc
-segment_says kinds.Other h = absurd cc
-
 unreadable_segment : (n : NoteParts) → (is_unreadable_segment n ≡ true)
     ↔ ((kind_of n.key ≡ kinds.Segment) × ¬ IsReadable segment_at n)
 unfolding is_unreadable_segment
@@ -165,7 +150,7 @@ unreadable_segment n =
     let same = λ (e : kind ≡ kinds.Segment). ap (λ (k : Kind). keeps n.key n.length && reads_value k n.held) e in (
       λ h.
           let s = parts (is_segment kind) (not read) h in
-          let e = segment_says kind s.0 in
+          let e = segment_kind kind s.0 in
           (e, λ k. if_not read s.1 (same e ∙ r.1 k)),
       λ s. both (is_segment kind) (not read) (ap is_segment s.0) (not_if read (λ t. s.1 (r.0 (sym (same s.0) ∙ t)))),
     )

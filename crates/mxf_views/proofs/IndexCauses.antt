@@ -19,34 +19,18 @@ use Rattle.mxf_catalogue.proofs.Lists.{list_any-In}
 use Rattle.mxf_views.specs.declared.chain.Chain.{Chain}
 use Rattle.mxf_views.specs.declared.chain.Chain.TheVariants.{Whole, Broken}
 use Rattle.mxf_views.specs.Partitions.{IsWhole, PartitionParts, chain_of, partitions_of}
-use Rattle.mxf_views.specs.Findings.{are_entries_of, ends_above, has_other_rip, is_broken, is_rip, is_rip_note}
+use Rattle.mxf_views.specs.Findings.{are_entries_of, ends_above, has_other_rip, is_broken, is_index_of}
 use Rattle.mxf_views.specs.Findings.{is_unfit_rip}
-use Rattle.mxf_views.specs.Findings.{is_index_of, rip_in}
+use Rattle.mxf_views.specs.RandomIndex.{is_rip, is_rip_note, rip_in}
 use Rattle.mxf_views.specs.FindingCauses.{AtClear, HasOther, IsNotLast, IsReadable, IsReadAs, ListsOthers, entry_of}
 use Rattle.mxf_views.proofs.CauseLaws.{at_clear, either, if_not, not_equal, not_if, one_of, reads}
 use Rattle.mxf_views.proofs.ChainLaws.{chain_iff}
 use Rattle.mxf_views.proofs.Members.{both, parts}
-
-rip_says : (k : Kind) → is_rip k ≡ true → k ≡ kinds.Rip
-rip_says kinds.Rip h = refl
-rip_says kinds.Segment h = absurd cc
-rip_says kinds.Primer h = absurd cc
-rip_says kinds.Preface h = absurd cc
-rip_says kinds.Identification h = absurd cc
-rip_says kinds.ContentStorage h = absurd cc
-rip_says kinds.MaterialPackage h = absurd cc
-rip_says kinds.SourcePackage h = absurd cc
-rip_says kinds.RawSet h = absurd cc
-rip_says (kinds.Header s) h = absurd cc
-rip_says (kinds.Body s) h = absurd cc
-rip_says (kinds.Footer s) h = absurd cc
-rip_says kinds.Fill h = absurd cc
-rip_says kinds.Essence h = absurd cc
-rip_says kinds.Other h = absurd cc
+use Rattle.mxf_views.proofs.RandomIndexLaws.{rip_kind}
 
 rip_note_says : (n : NoteParts) → (is_rip_note n ≡ true) ↔ (kind_of n.key ≡ kinds.Rip)
 unfolding is_rip_note
-rip_note_says n = (λ h. rip_says (kind_of n.key) h, λ e. ap is_rip e)
+rip_note_says n = (λ h. rip_kind (kind_of n.key) h, λ e. ap is_rip e)
 
 same_entry : (e f : RipEntry) → e.body_sid ≡ f.body_sid → e.offset ≡ f.offset → e ≡ f
 same_entry e f a b i = record { body_sid = a i; offset = b i }

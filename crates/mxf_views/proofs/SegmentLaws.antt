@@ -23,7 +23,7 @@ use Rattle.mxf_views.proofs.Members.{In-filter_map, each-all}
 abbrev placed : ℕ → SegmentParts → SegmentAtParts
 placed offset segment = record { offset = offset; segment = segment }
 
-segment_kind : (k : Kind) → is_segment k ≡ true → k ≡ kinds.Segment
+pub segment_kind : (k : Kind) → is_segment k ≡ true → k ≡ kinds.Segment
 segment_kind kinds.Segment e = refl
 segment_kind _ e = absurd cc
 

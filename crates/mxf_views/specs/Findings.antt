@@ -12,13 +12,12 @@ use Rattle.mxf_klv.specs.Kind.{kind_of}
 use Rattle.mxf_klv.specs.Rising.{union}
 use Rattle.mxf_sets.specs.declared.pack.random_index.RipEntry.{RipEntry}
 use Rattle.mxf_sets.specs.RandomIndexPack.{RipParts}
-use Rattle.mxf_sets.specs.PackReadings.{primer_at, rip_at}
+use Rattle.mxf_sets.specs.PackReadings.{primer_at}
 use Rattle.mxf_sets.specs.Preface.{preface_at}
 use Rattle.mxf_sets.specs.Identification.{identification_at}
 use Rattle.mxf_sets.specs.Storage.{storage_at}
 use Rattle.mxf_sets.specs.Package.{package_at}
 use Rattle.mxf_sets.specs.Segment.{segment_at}
-use Rattle.mxf_sets.specs.Readable.{read_as}
 use Rattle.mxf_catalogue.specs.Disputes.{clear_notes, disputed_notes}
 use Rattle.mxf_views.specs.declared.chain.Link.{Link}
 use Rattle.mxf_views.specs.declared.chain.Link.TheVariants.{Skips, Missing, Wrong}
@@ -36,6 +35,8 @@ use Rattle.mxf_views.specs.Partitions.{PartitionParts, chain_of, is_footer, is_n
 use Rattle.mxf_views.specs.Partitions.{partitions_of}
 use Rattle.mxf_views.specs.Gaps.{gaps_of}
 use Rattle.mxf_views.specs.Copies.{copies_of, is_primer, is_set}
+use Rattle.mxf_views.specs.Places.{is_segment}
+use Rattle.mxf_views.specs.RandomIndex.{is_rip_note, rip_in}
 use Rattle.mxf_views.specs.SetItems.{whole_items}
 use Rattle.mxf_views.specs.Resolved.{ResolvedParts, resolved_of}
 use Rattle.mxf_views.specs.Codes.{all_codes, finding, finding_cmp}
@@ -94,10 +95,6 @@ is_unreadable n = not (keeps n.key n.length && reads_value (kind_of n.key) n.hel
 unfoldable pub is_unreadable_set : NoteParts → Bool
 is_unreadable_set n = (is_primer (kind_of n.key) || is_set (kind_of n.key)) && is_unreadable n
 
-abbrev pub is_segment : Kind → Bool
-is_segment kinds.Segment = true
-is_segment _ = false
-
 -- An index table segment that isn't readable.
 unfoldable pub is_unreadable_segment : NoteParts → Bool
 is_unreadable_segment n = is_segment (kind_of n.key) && is_unreadable n
@@ -137,17 +134,6 @@ lost_in None = []
 lost_in (Some r) = lost_by r
 
 -- ---- Random index packs
-
-abbrev pub is_rip : Kind → Bool
-is_rip kinds.Rip = true
-is_rip _ = false
-
-unfoldable pub is_rip_note : NoteParts → Bool
-is_rip_note n = is_rip (kind_of n.key)
-
--- The random index pack of a note, where its value is kept and is one.
-abbrev pub rip_in : NoteParts → Option RipParts
-rip_in n = read_as (rip_at n.width) n
 
 -- The entries are those of the partitions, one after another: of each its BodySID and its offset.
 abbrev pub are_entries_of : List PartitionParts → List RipEntry → Bool

@@ -164,8 +164,9 @@ impl<'a> Iterator for Rips<'a> {
     }
 }
 
+/// Whether the packet has a random index pack.
 #[tactic(auto, unfolding(crate::specs::RandomIndex::is_rip_note))]
-fn is_rip(note: &Note) -> bool
+pub(crate) fn is_rip(note: &Note) -> bool
     ensures { result ≡ is_rip_note note.now }
 {
     note.kind() == Kind::Rip
@@ -181,7 +182,7 @@ fn clear_rips(catalogue: &Catalogue) -> Rips<'_>
 }
 
 /// The random index pack that the value of a note is, where it is kept and is one.
-fn read_rip(note: &Note) -> Option<Rip<'_>>
+pub(crate) fn read_rip(note: &Note) -> Option<Rip<'_>>
     ensures rip { result ≡ rip_in note.now }
     ensures bound { IfSome result (λ rip. length rip.entries < 2 ^ 64) }
 {

@@ -2,33 +2,17 @@
 ghost use Rattle.std.specs.Prelude.{◌≡◌, OnOk};
 ghost use Rattle.mxf_klv.specs.Rising.{union};
 ghost use Rattle.mxf_views.specs.Codes.{finding_cmp};
-ghost use Rattle.mxf_views.specs.Findings.{ends_above, findings_for, has_other_rip, is_rip_note, is_unfit_rip, are_entries_of, is_index_of, rip_in};
+ghost use Rattle.mxf_views.specs.Findings.{ends_above, findings_for, has_other_rip, is_unfit_rip, are_entries_of, is_index_of};
+ghost use Rattle.mxf_views.specs.RandomIndex.{rip_in};
 
 use super::readable::is_unreadable_segment;
 use super::{Code, Findings};
 use crate::partition::Partitions;
+use crate::random_index::{is_rip, read_rip};
 use crate::views::Views;
 use mxf_catalogue::{ClearNotes, Notes};
-use mxf_klv::{Held, Kind, Note, OutOfMemory};
-use mxf_sets::{Rip, RipEntries};
-
-/// Whether the packet has a random index pack.
-#[tactic(auto, unfolding(crate::specs::Findings::is_rip_note))]
-fn is_rip(note: &Note) -> bool
-    ensures { result ≡ is_rip_note note.now }
-{
-    note.kind() == Kind::Rip
-}
-
-/// The random index pack of a note, where its value is kept and is one.
-fn rip_in(note: &Note) -> Option<Rip<'_>>
-    ensures { result ≡ rip_in note.now }
-{
-    match note.held() {
-        Held::Whole(value) => Rip::read(note.width(), value).ok(),
-        Held::Digest(_) => None,
-    }
-}
+use mxf_klv::{Note, OutOfMemory};
+use mxf_sets::RipEntries;
 
 /// Whether the entries are the BodySIDs and the offsets of the partitions, one after another.
 fn are_entries_of(mut entries: RipEntries<'_>, partitions: Partitions<'_>) -> bool
@@ -46,11 +30,11 @@ fn are_entries_of(mut entries: RipEntries<'_>, partitions: Partitions<'_>) -> bo
     entries.next().is_none()
 }
 
-/// Whether the random index pack of a note are_entries_of the partitions.
+/// Whether the random index pack of a note lists the partitions.
 fn is_index_of(note: &Note, partitions: Partitions<'_>) -> bool
     ensures { result ≡ is_index_of partitions.entry (rip_in note.now) }
 {
-    match rip_in(note) {
+    match read_rip(note) {
         Some(rip) => are_entries_of(rip.entries(), partitions),
         None => false,
     }
