@@ -7,14 +7,15 @@ use Rattle.std.specs.List.{AllByRecursion}
 use Rattle.std.proofs.lemmas.List.{take_at}
 use Rattle.mxf_klv.specs.Parts.{NoteParts}
 use Rattle.mxf_klv.specs.Rising.{In}
-use Rattle.mxf_catalogue.specs.Content.{IsContent}
+use Rattle.mxf_views.specs.Headline.{IsTheRun}
+use Rattle.mxf_views.proofs.RunLaws.{IsTheRun-from_set}
 use Rattle.mxf_tool.specs.declared.gathering.part.Part.{Part}
 use Rattle.mxf_tool.specs.declared.gathering.part.Part.TheVariants.{Piece, Saved}
 use Rattle.mxf_tool.specs.declared.gathering.report.PieceReport.{PieceReport}
 use Rattle.mxf_tool.specs.declared.gathering.fault.PartFault.{PartFault}
 use Rattle.mxf_tool.specs.declared.gathering.fault.PartFault.TheVariants.{OutOfMemory}
 use Rattle.mxf_tool.specs.Levels.{HeldIn, HoldsAll}
-use Rattle.mxf_tool.specs.Gathering.{AllTell, HandedBy, HandsNote, HasFault, IsContentOf, IsGatherFault, IsGood}
+use Rattle.mxf_tool.specs.Gathering.{AllTell, HandedBy, HandsNote, HasFault, IsGatherFault, IsGood}
 use Rattle.mxf_tool.specs.Gathering.{TakesPart, Tells, reports_in, reports_of}
 
 slice_get_at : {X : Type 0} (done left : List X) (x : X) (n : ℕ) → length done ≡ n
@@ -139,24 +140,23 @@ module _ {R : Type 0} (left : R → Option (List ℕ)) where
   gathered_reports all rest number levels reports g none =
       g.reported ∙ ap (reports_of left) (all_done all rest number levels reports g none)
 
-  pub gathered_content : (all rest : List (Part R)) (number : ℕ) (levels : List (List NoteParts))
+  pub gathered_run : (all rest : List (Part R)) (number : ℕ) (levels : List (List NoteParts))
       (reports : List PieceReport) (views : List NoteParts) → IsGathered all number rest levels reports
-      → length rest ≡ 0 → HoldsAll levels views → IsContentOf (HandedBy left all) views
-  gathered_content all rest number levels reports views g none h =
+      → length rest ≡ 0 → HoldsAll levels views → IsTheRun (HandedBy left all) views
+  gathered_run all rest number levels reports views g none h =
       let is = all_done all rest number levels reports g none in
-      record {
-        content = h.content;
-        members = λ n. subst (λ (ps : List (Part R)). In n views ↔ HandedBy left ps n) is
-            (λ k. (g.members n).0 ((h.members n).0 k), λ k. (h.members n).1 ((g.members n).1 k));
-      }
+      IsTheRun-from_set (HandedBy left all) views
+      (λ n. subst (λ (ps : List (Part R)). In n views ↔ HandedBy left ps n) is
+      (λ k. (g.members n).0 ((h.members n).0 k), λ k. (h.members n).1 ((g.members n).1 k)))
+      (record { catalogue = h.catalogue; fits = h.fits; whole = refl })
 
   -- there was no part
   pub gathered_nothing : (all rest : List (Part R)) (number : ℕ) (views : List NoteParts) → IsPassed all number rest
-      → length rest ≡ 0 → number ≡ 0 → views ≡ [] → IsContentOf (HandedBy left all) views
-  gathered_nothing [] rest number views p none zero-parts is = record {
-    content = subst IsContent (sym is) tt;
-    members = λ n. subst (λ (ns : List NoteParts). In n ns ↔ HandedBy left [] n) (sym is) (λ h. h, λ h. h);
-  }
+      → length rest ≡ 0 → number ≡ 0 → views ≡ [] → IsTheRun (HandedBy left all) views
+  gathered_nothing [] rest number views p none zero-parts is =
+      subst (IsTheRun (HandedBy left [])) (sym is)
+      (IsTheRun-from_set (HandedBy left []) [] (λ n. (λ h. h, λ h. h))
+      (record { catalogue = record { content = tt; members = tt }; fits = omega arith; whole = refl }))
   gathered_nothing (q ∷ all) rest number views p none zero-parts is =
       let len = passed_all (q ∷ all) rest number p none in absurd (omega (arith, len, zero-parts))
 

@@ -1,9 +1,8 @@
 -- Catalogues that wait to be merged: what they hold together stays the same.
-use Rattle.std.proofs.Common.{◌≡◌, ◌⊎◌, ◌↔◌, List, [], ◌∷◌, ◌++◌, sym, subst, inl, inr}
+use Rattle.std.proofs.Common.{◌≡◌, ◌<◌, ◌^◌, ◌⊎◌, ◌↔◌, List, [], ◌∷◌, ◌++◌, length, sym, subst, inl, inr}
 use Rattle.mxf_klv.specs.Parts.{NoteParts}
-use Rattle.mxf_klv.specs.NoteOrder.{note_total, note_cmp-IsAntisymmetric}
-use Rattle.mxf_klv.specs.Rising.{In, IsRising-union}
-use Rattle.mxf_catalogue.specs.Content.{IsContent, union_of, union_of-IsUnion}
+use Rattle.mxf_klv.specs.Rising.{In}
+use Rattle.mxf_catalogue.specs.Content.{IsCatalogue, union_of, union_of-IsUnion}
 use Rattle.mxf_tool.specs.Levels.{Adds, HeldIn, HoldsAll}
 
 pub held_last : (levels : List (List NoteParts)) (last : List NoteParts) (n : NoteParts)
@@ -50,41 +49,37 @@ merged_last merged notes levels new old h is n =
     (λ k. (h n).0 (waits.0 k), λ k. waits.1 ((h n).1 k))
 
 -- What the views hold and what is left of the catalogues hold the notes of all.
-pub record IsMerging (all : List (List NoteParts)) (views : List NoteParts) (left : List (List NoteParts)) : Type 0 where
-  pub content : IsContent views
-  pub members : (n : NoteParts) → (In n views ⊎ HeldIn left n) ↔ HeldIn all n
+abbrev pub IsMerging : List (List NoteParts) → List NoteParts → List (List NoteParts) → Type 0
+IsMerging all views left = (n : NoteParts) → (In n views ⊎ HeldIn left n) ↔ HeldIn all n
 
 pub merging_first : (all left : List (List NoteParts)) → left ≡ all → IsMerging all [] left
-merging_first all left is = record {
-  content = tt;
-  members = λ n. subst (λ ls. (In n [] ⊎ HeldIn ls n) ↔ HeldIn all n) (sym is)
-      (λ h. elim h [ inl k ↦ absurd k | inr k ↦ k ], λ h. inr h);
-}
+merging_first all left is n =
+    subst (λ ls. (In n [] ⊎ HeldIn ls n) ↔ HeldIn all n) (sym is)
+    (λ h. elim h [ inl k ↦ absurd k | inr k ↦ k ], λ h. inr h)
 
 pub merging_one : (all left rest : List (List NoteParts)) (views next notes : List NoteParts)
     → IsMerging all views left → left ≡ notes ∷ rest → next ≡ union_of views notes → IsMerging all next rest
-merging_one all left rest views next notes m is e = record {
-  content = subst IsContent (sym e) (IsRising-union note_total note_cmp-IsAntisymmetric views notes m.content);
-  members = λ n.
-      let waits = subst (λ ls. (In n views ⊎ HeldIn ls n) ↔ HeldIn all n) is (m.members n) in
-      let both = subst (λ ns. In n ns ↔ In n views ⊎ In n notes) (sym e) (union_of-IsUnion views notes n) in (
-        λ k. waits.0 (elim k [
-          | inl a ↦ elim (both.0 a) [ inl b ↦ inl b | inr c ↦ inr (inl c) ]
-          | inr d ↦ inr (inr d)
-        ]),
-        λ k. elim (waits.1 k) [
-          | inl b ↦ inl (both.1 (inl b))
-          | inr d ↦ elim d [ inl c ↦ inl (both.1 (inr c)) | inr r ↦ inr r ]
-        ],
-      );
-}
+merging_one all left rest views next notes m is e n =
+    let waits = subst (λ ls. (In n views ⊎ HeldIn ls n) ↔ HeldIn all n) is (m n) in
+    let both = subst (λ ns. In n ns ↔ In n views ⊎ In n notes) (sym e) (union_of-IsUnion views notes n) in (
+      λ k. waits.0 (elim k [
+        | inl a ↦ elim (both.0 a) [ inl b ↦ inl b | inr c ↦ inr (inl c) ]
+        | inr d ↦ inr (inr d)
+      ]),
+      λ k. elim (waits.1 k) [
+        | inl b ↦ inl (both.1 (inl b))
+        | inr d ↦ elim d [ inl c ↦ inl (both.1 (inr c)) | inr r ↦ inr r ]
+      ],
+    )
 
-pub merging_last : (all left : List (List NoteParts)) (views : List NoteParts)
-    → IsMerging all views left → left ≡ [] → HoldsAll all views
-merging_last all left views m is = record {
-  content = m.content;
+-- all are merged, into a catalogue that can be counted
+pub merging_last : (all left : List (List NoteParts)) (views : List NoteParts) → IsMerging all views left → left ≡ []
+    → IsCatalogue views → length views < 2 ^ 64 → HoldsAll all views
+merging_last all left views m is c fits = record {
+  catalogue = c;
+  fits = fits;
   members = λ n.
-      let waits = subst (λ ls. (In n views ⊎ HeldIn ls n) ↔ HeldIn all n) is (m.members n) in (
+      let waits = subst (λ ls. (In n views ⊎ HeldIn ls n) ↔ HeldIn all n) is (m n) in (
         λ k. waits.0 (inl k),
         λ k. elim (waits.1 k) [ inl b ↦ b | inr d ↦ absurd d ],
       );

@@ -6,7 +6,6 @@ use Rattle.std.specs.List.{AllByRecursion, flat_map}
 use Rattle.mxf_klv.specs.Parts.{NoteParts}
 use Rattle.mxf_klv.specs.Rising.{In}
 use Rattle.mxf_klv.specs.PieceReading.{notes_in}
-use Rattle.mxf_catalogue.specs.Content.{IsContent}
 use Rattle.mxf_catalogue.specs.CatalogueFile.{IsFileOf, IsRefused}
 use Rattle.mxf_catalogue.specs.declared.catalogue.file.FileFault.TheVariants as files
 use Rattle.mxf_read.specs.Absorbs.{report_of}
@@ -44,11 +43,6 @@ IsSavedFault bytes (Catalogue fault) =
 -- The bytes are a saved catalogue with this content.
 abbrev pub IsSavedAs : List ℕ → List NoteParts → Type 0
 IsSavedAs bytes notes = (length bytes ≤ saved_limit) × IsFileOf bytes notes
-
--- The content is rising, and has exactly these notes.
-pub record IsContentOf (handed : NoteParts → Type 0) (notes : List NoteParts) : Type 0 where
-  pub content : IsContent notes
-  pub members : (n : NoteParts) → In n notes ↔ handed n
 
 module _ {R : Type 0} (left : R → Option (List ℕ)) where
   -- The reader of the part tells its bytes.

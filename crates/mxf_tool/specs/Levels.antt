@@ -1,8 +1,8 @@
 -- Catalogues that wait to be merged (this project's profile).
-use Rattle.std.specs.Prelude.{◌⊎◌, ◌↔◌, List, [], ◌∷◌}
+use Rattle.std.specs.Prelude.{◌<◌, ◌^◌, ◌⊎◌, ◌↔◌, List, [], ◌∷◌, length}
 use Rattle.mxf_klv.specs.Parts.{NoteParts}
 use Rattle.mxf_klv.specs.Rising.{In}
-use Rattle.mxf_catalogue.specs.Content.{IsContent}
+use Rattle.mxf_catalogue.specs.Content.{IsCatalogue}
 
 -- One of the contents has the note.
 abbrev pub HeldIn : List (List NoteParts) → NoteParts → Type 0
@@ -13,7 +13,8 @@ HeldIn (notes ∷ levels) n = In n notes ⊎ HeldIn levels n
 abbrev pub Adds : List (List NoteParts) → List NoteParts → List (List NoteParts) → Type 0
 Adds old notes new = (n : NoteParts) → HeldIn new n ↔ In n notes ⊎ HeldIn old n
 
--- The content has the notes of all, and no others.
+-- The catalogue has the notes of all, and no others, and a count of them fits.
 pub record HoldsAll (levels : List (List NoteParts)) (notes : List NoteParts) : Type 0 where
-  pub content : IsContent notes
+  pub catalogue : IsCatalogue notes
+  pub fits : length notes < 2 ^ 64
   pub members : (n : NoteParts) → In n notes ↔ HeldIn levels n

@@ -4,8 +4,9 @@ ghost use Rattle.mxf_klv.specs.Parts.{NoteParts};
 ghost use Rattle.mxf_klv.specs.PieceReading.{notes_in};
 ghost use Rattle.mxf_catalogue.specs.Content.{union_of};
 ghost use Rattle.mxf_catalogue.specs.CatalogueFile.{IsRefused};
+ghost use Rattle.mxf_views.specs.Headline.{IsTheRun};
 ghost use Rattle.mxf_read.specs.Absorbs.{report_of};
-ghost use Rattle.mxf_tool.specs.Gathering.{AllTell, HandedBy, HasFault, IsContentOf, IsGatherFault, IsOfAnyPart};
+ghost use Rattle.mxf_tool.specs.Gathering.{AllTell, HandedBy, HasFault, IsGatherFault, IsOfAnyPart};
 ghost use Rattle.mxf_tool.specs.Gathering.{IsSavedAs, IsSavedFault, TakesPart, Tells, piece_limit, reports_of, saved_limit};
 
 mod fault;
@@ -116,11 +117,16 @@ fn take_part<R: Read + Drop>(
 /// What all parts hold together. Of each piece 1,099,511,627,776 bytes are read at most; the file of a catalogue has
 /// 1,073,741,824 bytes at most.
 ///
-/// The first part that is at fault ends the run. Where memory is wanting after the last part was read, the fault names the
-/// last. The parts are dropped in every case.
+/// Whatever the order, the repeats and the joins of the parts, the notes are exactly those that the parts hand: any
+/// calls that were handed the same notes hold the same and write the same bytes. Each view is its function of the
+/// notes. The disputed notes are those that share a byte with a different one. Where the notes are those of a
+/// well-formed whole file, the views of partitions, copies and indexes are those of reading it from the front.
+///
+/// The first part that is at fault ends the run. Where memory is wanting after the last part was read, the fault names
+/// the last. The parts are dropped in every case.
 pub fn gather<R: Read + Drop>(alloc: Global, parts: Vec<Part<R>>) -> Result<Gathered, GatherFault>
-    ensures content { AllTell R.remaining parts.items
-        → IfOk result (λ g. IsContentOf (HandedBy R.remaining parts.items) g.views) }
+    ensures run { AllTell R.remaining parts.items
+        → IfOk result (λ g. IsTheRun (HandedBy R.remaining parts.items) g.views) }
     ensures reports { AllTell R.remaining parts.items
         → IfOk result (λ g. g.reports ≡ reports_of R.remaining parts.items) }
     ensures fault { AllTell R.remaining parts.items → IfErr result (IsGatherFault R.remaining parts.items) }

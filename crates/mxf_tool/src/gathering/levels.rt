@@ -66,6 +66,9 @@ impl Levels {
         'levels: for catalogue in self.items {
             views.merge(alloc, catalogue)?;
         }
+
+        // They are a catalogue, and a count of its notes fits.
+        let _notes = views.catalogue().notes();
         Ok(views)
     }
 }

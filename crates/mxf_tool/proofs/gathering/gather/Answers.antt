@@ -1,7 +1,7 @@
 use Rattle.std.proofs.Common.{rules, [], ◌≡◌, length, sym, subst, List, arith}
 use Rattle.std.specs.Vec.Iter.{into_iter_items}
 use Rattle.mxf_tool.proofs.GatheringLaws.{IsPassed, IsGathered, passed_none, gathered_none, passed_one, gathered_one}
-use Rattle.mxf_tool.proofs.GatheringLaws.{gathered_content, gathered_fault, gathered_wants, told}
+use Rattle.mxf_tool.proofs.GatheringLaws.{gathered_run, gathered_nothing, gathered_fault, gathered_wants, told}
 use Rattle.mxf_tool.proofs.gathering.gather.Goals as goal
 
 pub parts-init : goal.parts-init
@@ -37,10 +37,16 @@ parts-preserved g c =
           (c.in_default.ensures.taken (told left all _ _ c.in-Some.part c.parts.number i.passed next t));
     }
 
-pub returns-in-Ok-clause-content : goal.returns-in-Ok-clause-content
-returns-in-Ok-clause-content g c t =
+pub returns-then-number-eq0-clause-run : goal.returns-then-number-eq0-clause-run
+returns-then-number-eq0-clause-run g c t =
     let none : length (into_iter_items c.parts.part-iterator) ≡ 0 = search rules in
-    gathered_content g.R.Read.remaining c.args.parts.items (into_iter_items c.parts.part-iterator) c.parts.number _ _ _
+    gathered_nothing g.R.Read.remaining c.args.parts.items (into_iter_items c.parts.part-iterator) c.parts.number _
+    c.parts.invariant.passed none c.if-number-eq0.true c.new.ensures
+
+pub returns-in-Ok-clause-run : goal.returns-in-Ok-clause-run
+returns-in-Ok-clause-run g c t =
+    let none : length (into_iter_items c.parts.part-iterator) ≡ 0 = search rules in
+    gathered_run g.R.Read.remaining c.args.parts.items (into_iter_items c.parts.part-iterator) c.parts.number _ _ _
     (c.parts.invariant.gathered t) none c.in-Ok.ensures
 
 pub returns-in-Err-into_views-clause-fault : goal.returns-in-Err-into_views-clause-fault
