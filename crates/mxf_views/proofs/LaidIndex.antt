@@ -66,9 +66,9 @@ place-pair sid unit s =
     (stream_offset s.segment unit)) None)) [
       | true ↦ elim (stream_offset s.segment unit) as (λ o. option_map (At s.segment.numbers.body_sid) o
           ≡ option_map place_at (option_map (λ offset. record { body_sid = s.segment.numbers.body_sid; offset = offset }) o)) [
-        | None ↦ refl
-        | Some offset ↦ refl
-      ]
+            | None ↦ refl
+            | Some offset ↦ refl
+          ]
       | false ↦ refl
     ]
 

@@ -87,9 +87,10 @@ n_footer = record {
   after = primer ∷ preface ∷ [];
   order = refl;
   is_footer = (ClosedComplete, refl);
-  only =
-      (no_footer (pack Header (numbers 0 0 194 86 0 0 0)) refl,
-      (no_footer primer refl, (no_footer preface refl, tt)));
+  only = (
+    no_footer (pack Header (numbers 0 0 194 86 0 0 0)) refl,
+    (no_footer primer refl, (no_footer preface refl, tt)),
+  );
   last = (no_pack primer refl, (no_pack preface refl, tt));
 }
 
@@ -112,25 +113,49 @@ no_rip p e h = false≢true (sym e ∙ ap is_rip h)
 pub n_well_formed : IsWellFormed n_file
 unfolding read_pack read_segment read_rip
 n_well_formed = record {
-  packets =
-      (pack_packet Header (numbers 0 0 194 86 0 0 0), (primer_packet, (preface_packet,
-      (pack_packet Footer (numbers 194 0 194 86 0 0 0), (primer_packet, (preface_packet, tt))))));
+  packets = (
+    pack_packet Header (numbers 0 0 194 86 0 0 0),
+    (
+      primer_packet,
+      (
+        preface_packet,
+        (pack_packet Footer (numbers 194 0 194 86 0 0 0), (primer_packet, (preface_packet, tt))),
+      ),
+    ),
+  );
   within = omega arith;
-  header =
-      ((ClosedComplete, refl), (no_header primer refl, (no_header preface refl,
-      (no_header (pack Footer (numbers 194 0 194 86 0 0 0)) refl,
-      (no_header primer refl, (no_header preface refl, tt))))));
+  header = (
+    (ClosedComplete, refl),
+    (
+      no_header primer refl,
+      (
+        no_header preface refl,
+        (
+          no_header (pack Footer (numbers 194 0 194 86 0 0 0)) refl,
+          (no_header primer refl, (no_header preface refl, tt)),
+        ),
+      ),
+    ),
+  );
   footer = n_footer;
   readable = (refl, (refl, (refl, (refl, (refl, (refl, tt))))));
   this = (refl, (refl, tt));
   previous = (refl, (refl, tt));
-  metadata =
-      (λ h. n_metadata (pack Footer (numbers 194 0 194 86 0 0 0) ∷ primer ∷ preface ∷ []),
-      (tt, (tt, (λ h. n_metadata [], (tt, (tt, tt))))));
+  metadata = (
+    λ h. n_metadata (pack Footer (numbers 194 0 194 86 0 0 0) ∷ primer ∷ preface ∷ []),
+    (tt, (tt, (λ h. n_metadata [], (tt, (tt, tt))))),
+  );
   index = λ s t sid unit p q h k e f. absurd h;
-  random_index =
-      (no_rip (pack Header (numbers 0 0 194 86 0 0 0)) refl, (no_rip primer refl, (no_rip preface refl,
-      (no_rip (pack Footer (numbers 194 0 194 86 0 0 0)) refl, (no_rip primer refl, tt)))));
+  random_index = (
+    no_rip (pack Header (numbers 0 0 194 86 0 0 0)) refl,
+    (
+      no_rip primer refl,
+      (
+        no_rip preface refl,
+        (no_rip (pack Footer (numbers 194 0 194 86 0 0 0)) refl, (no_rip primer refl, tt)),
+      ),
+    ),
+  );
 }
 
 essence_packet : IsPacket essence
@@ -159,35 +184,57 @@ agree_one (s ∷ t ∷ ss) l = absurd (omega arith)
 pub w_well_formed : IsWellFormed w_file
 unfolding read_pack read_segment read_rip item_at items_of left_of entries_of
 w_well_formed = record {
-  packets =
-      (pack_packet Header (numbers 0 0 336 0 0 0 0), (pack_packet Body (numbers 108 0 336 0 0 0 2), (essence_packet,
-      (pack_packet Footer (numbers 336 108 336 0 90 1 0), (constant_packet, (entries_packet, tt))))));
+  packets = (
+    pack_packet Header (numbers 0 0 336 0 0 0 0),
+    (
+      pack_packet Body (numbers 108 0 336 0 0 0 2),
+      (
+        essence_packet,
+        (pack_packet Footer (numbers 336 108 336 0 90 1 0), (constant_packet, (entries_packet, tt))),
+      ),
+    ),
+  );
   within = omega arith;
-  header =
-      ((ClosedComplete, refl), (no_header (pack Body (numbers 108 0 336 0 0 0 2)) refl, (no_header essence refl,
-      (no_header (pack Footer (numbers 336 108 336 0 90 1 0)) refl,
-      (no_header constant refl, (no_header three_entries refl, tt))))));
+  header = (
+    (ClosedComplete, refl),
+    (
+      no_header (pack Body (numbers 108 0 336 0 0 0 2)) refl,
+      (
+        no_header essence refl,
+        (
+          no_header (pack Footer (numbers 336 108 336 0 90 1 0)) refl,
+          (no_header constant refl, (no_header three_entries refl, tt)),
+        ),
+      ),
+    ),
+  );
   footer = record {
     before = pack Header (numbers 0 0 336 0 0 0 0) ∷ pack Body (numbers 108 0 336 0 0 0 2) ∷ essence ∷ [];
     footer = pack Footer (numbers 336 108 336 0 90 1 0);
     after = constant ∷ three_entries ∷ [];
     order = refl;
     is_footer = (ClosedComplete, refl);
-    only =
-        (no_footer (pack Header (numbers 0 0 336 0 0 0 0)) refl,
-        (no_footer (pack Body (numbers 108 0 336 0 0 0 2)) refl, (no_footer essence refl, tt)));
+    only = (
+      no_footer (pack Header (numbers 0 0 336 0 0 0 0)) refl,
+      (no_footer (pack Body (numbers 108 0 336 0 0 0 2)) refl, (no_footer essence refl, tt)),
+    );
     last = (no_pack constant refl, (no_pack three_entries refl, tt));
   };
   readable = (refl, (refl, (refl, (refl, (refl, (refl, tt))))));
   this = (refl, (refl, (refl, tt)));
   previous = (refl, (refl, (refl, tt)));
-  metadata =
-      (λ h. absurd (omega arith),
-      (λ h. absurd (omega arith), (tt, (λ h. absurd (omega arith), (tt, (tt, tt))))));
+  metadata = (
+    λ h. absurd (omega arith),
+    (λ h. absurd (omega arith), (tt, (λ h. absurd (omega arith), (tt, (tt, tt))))),
+  );
   index = agree_one (segments_read 0 w_file) refl;
-  random_index =
-      (no_rip (pack Header (numbers 0 0 336 0 0 0 0)) refl, (no_rip (pack Body (numbers 108 0 336 0 0 0 2)) refl,
-      (no_rip essence refl, (no_rip (pack Footer (numbers 336 108 336 0 90 1 0)) refl, (no_rip constant refl, refl)))));
+  random_index = (
+    no_rip (pack Header (numbers 0 0 336 0 0 0 0)) refl,
+    (
+      no_rip (pack Body (numbers 108 0 336 0 0 0 2)) refl,
+      (no_rip essence refl, (no_rip (pack Footer (numbers 336 108 336 0 90 1 0)) refl, (no_rip constant refl, refl))),
+    ),
+  );
 }
 
 -- A list with no footer partition pack.
@@ -209,6 +256,10 @@ h_not_well_formed =
 
 pub r_not_well_formed : ¬ IsWellFormed r_file
 r_not_well_formed =
-    without_footer r_file
-    (no_footer (pack Header (numbers 0 0 0 266 0 0 0)) refl, (no_footer primer refl,
-    (no_footer linked_preface refl, (no_footer storage refl, (no_footer material refl, tt)))))
+    without_footer r_file (
+      no_footer (pack Header (numbers 0 0 0 266 0 0 0)) refl,
+      (
+        no_footer primer refl,
+        (no_footer linked_preface refl, (no_footer storage refl, (no_footer material refl, tt))),
+      ),
+    )

@@ -32,8 +32,9 @@ pub use reference::resolved::Resolved;
 pub use reference::target::{Ref, Refs, Target, targets_by_definition};
 pub use reference::{Found, found_by_definition};
 pub use small_files::{
-    an_indexed_file_is_read_from_the_front, shared_rules_are_these, small_files_are_well_formed_or_not,
-    small_files_have_their_bytes, two_copies_are_read_from_the_front,
+    an_indexed_file_is_read_from_the_front, shared_rules_are_these,
+    small_files_are_well_formed_or_not, small_files_have_their_bytes,
+    two_copies_are_read_from_the_front,
 };
 pub use views::{
     ViewFault, Views, added_notes_dispute_what_they_touch, views_let_go_of_disputed_notes,
