@@ -1,11 +1,10 @@
 -- Whether the partitions hang together.
-use Rattle.std.proofs.Common.{◌≡◌, ◌≢◌, ℕ, ◌+◌, ◌<◌, ◌≤◌, ◌⊎◌, Bool, true, false, cond, List, [], ◌∷◌, Option, Some}
+use Rattle.std.proofs.Common.{◌≡◌, ◌<◌, ◌≤◌, Bool, true, false, List, [], ◌∷◌, Option, Some}
 use Rattle.std.proofs.Common.{None, refl, sym, ap, subst, ◌∙◌, inl, inr, arith, eqb-true, eq-eqb}
-use Rattle.std.specs.Prelude.{◌↔◌, ◌&&◌, ◌||◌, ◌==◌, nat_lt, not, if◌then◌else◌, IsTrue, is_some, count_by}
-use Rattle.std.specs.List.{list_all, list_any, AllByRecursion}
-use Rattle.std.proofs.lemmas.Bool.{ltb-true, ltb-false, lt-ltb}
+use Rattle.std.specs.Prelude.{◌↔◌, ◌&&◌, ◌||◌, ◌==◌, nat_lt, not, if◌then◌else◌, is_some, count_by}
+use Rattle.std.specs.List.{list_all}
+use Rattle.std.proofs.lemmas.Bool.{ltb-true, ltb-false}
 use Rattle.mxf_klv.specs.Parts.{NoteParts}
-use Rattle.mxf_klv.specs.Note.{end_of}
 use Rattle.mxf_klv.specs.Kind.{kind_of}
 use Rattle.mxf_klv.specs.Rising.{In}
 use Rattle.mxf_klv.specs.declared.kinds.Kind.{Kind}
@@ -20,7 +19,6 @@ use Rattle.mxf_catalogue.proofs.DisputeLaws.{In-clear_notes}
 use Rattle.mxf_catalogue.proofs.Lists.{list_any-In}
 use Rattle.mxf_views.specs.declared.chain.Link.{Link}
 use Rattle.mxf_views.specs.declared.chain.Link.TheVariants.{First, Held, Skips, Missing, Wrong}
-use Rattle.mxf_views.specs.declared.chain.Chain.{Chain}
 use Rattle.mxf_views.specs.declared.chain.Chain.TheVariants.{Whole, Broken}
 use Rattle.mxf_views.specs.Partitions.{PartitionParts, AreInOrder, StandsAt, IsLink, IsOnly, IsWhole, chain_of}
 use Rattle.mxf_views.specs.Partitions.{is_first, is_footer, is_greatest, is_header, is_held, is_linked}

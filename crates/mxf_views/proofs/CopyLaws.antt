@@ -1,7 +1,7 @@
 -- Copies of the header metadata and their sets.
-use Rattle.std.proofs.Common.{◌≡◌, ◌≢◌, ℕ, ◌+◌, ◌<◌, ◌≤◌, Bool, true, false, cond, List, [], ◌∷◌, Option, Some, None}
-use Rattle.std.proofs.Common.{refl, sym, ap, subst, ◌∙◌, inl, inr, arith, eqb-true, eq-eqb, leb-true, le-leb}
-use Rattle.std.specs.Prelude.{◌↔◌, ◌&&◌, ◌==◌, nat_le, nat_lt, IsTrue, count_by, filter, find, map}
+use Rattle.std.proofs.Common.{◌≡◌, ℕ, ◌+◌, ◌<◌, ◌≤◌, Bool, true, false, cond, List, [], ◌∷◌, Option, Some, None}
+use Rattle.std.proofs.Common.{refl, sym, ap, subst, ◌∙◌, arith, eqb-true, eq-eqb, leb-true, le-leb}
+use Rattle.std.specs.Prelude.{◌↔◌, ◌==◌, nat_le, IsTrue, count_by, filter, find, map}
 use Rattle.std.specs.List.{range_with_len, AllByRecursion}
 use Rattle.std.proofs.lemmas.Bool.{ltb-true, lt-ltb}
 use Rattle.mxf_klv.specs.Parts.{NoteParts}
@@ -17,9 +17,9 @@ use Rattle.mxf_catalogue.proofs.SpanLaws.{AreApart-clear_notes, AreApart-filter}
 use Rattle.mxf_catalogue.proofs.Lists.{In-filter, In-map, found-In, none_found}
 use Rattle.mxf_views.specs.declared.copy.CopyInfo.{CopyInfo}
 use Rattle.mxf_views.specs.Partitions.{AreInOrder, PartitionParts, partitions_of}
-use Rattle.mxf_views.specs.Copies.{CountsZone, IsCopy, IsCopyOf, IsSetOf, IsStart, IsStartFound, copies_of, copy_from}
+use Rattle.mxf_views.specs.Copies.{CountsZone, IsCopy, IsCopyOf, IsSetOf, IsStartFound, copies_of, copy_from}
 use Rattle.mxf_views.specs.Copies.{copy_of, covered_of, has_metadata, is_preface, is_preface_note, is_set, is_set_note}
-use Rattle.mxf_views.specs.Copies.{CopiesRise, prefaces_of, sets_found, sets_from, sets_in, sets_of, start_of, zone_of}
+use Rattle.mxf_views.specs.Copies.{CopiesRise, sets_found, sets_from, sets_in, sets_of, start_of, zone_of}
 use Rattle.mxf_views.specs.Spans.{is_in_one, lies_in}
 use Rattle.mxf_views.proofs.Members.{both, count_by-cons, false_if, parts, tally}
 use Rattle.mxf_views.proofs.PartitionLaws.{one_there, partitions_rise}

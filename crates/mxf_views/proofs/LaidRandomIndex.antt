@@ -12,7 +12,6 @@ use Rattle.mxf_klv.specs.Parts.{PacketParts, NoteParts}
 use Rattle.mxf_klv.specs.Piece.{notes_from}
 use Rattle.mxf_klv.specs.Rising.{In}
 use Rattle.mxf_sets.specs.RandomIndexPack.{RipParts}
-use Rattle.mxf_sets.specs.declared.pack.random_index.RipEntry.{RipEntry}
 use Rattle.mxf_views.specs.Partitions.{PartitionParts, partitions_of}
 use Rattle.mxf_views.specs.RandomIndex.{is_rip, is_rip_note, rips_of, standing_by, standing_of, standings}
 use Rattle.mxf_views.specs.RandomIndexView.{rip_view_among, rip_view_by, rip_view_of}

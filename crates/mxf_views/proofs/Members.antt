@@ -1,7 +1,7 @@
 -- Members of lists that are tested, counted and mapped.
 use Rattle.std.proofs.Common.{◌≡◌, ℕ, ◌+◌, ◌≤◌, Bool, true, false, cond, List, [], ◌∷◌, Option, Some, None, refl, sym}
 use Rattle.std.proofs.Common.{ap, ◌∙◌, inl, inr, arith, length}
-use Rattle.std.specs.Prelude.{◌↔◌, ◌&&◌, IsTrue, not, count_by}
+use Rattle.std.specs.Prelude.{◌↔◌, ◌&&◌, count_by}
 use Rattle.std.specs.List.{filter_map, list_all, AllByRecursion}
 use Rattle.std.proofs.lemmas.List.Sums.{sum_by-cons}
 use Rattle.mxf_klv.specs.Rising.{In}

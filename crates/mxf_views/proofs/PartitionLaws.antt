@@ -1,22 +1,19 @@
 -- The partitions, and how each names the one before it.
-use Rattle.std.proofs.Common.{◌≡◌, ◌≢◌, ℕ, ◌+◌, ◌<◌, ◌≤◌, ◌⊎◌, Bool, true, false, cond, List, [], ◌∷◌, Option, Some}
+use Rattle.std.proofs.Common.{◌≡◌, ℕ, ◌<◌, ◌≤◌, Bool, true, false, cond, List, [], ◌∷◌, Some}
 use Rattle.std.proofs.Common.{None, Ok, Err, refl, sym, ap, subst, ◌∙◌, inl, inr, arith, eqb-true, eq-eqb, leb-true}
-use Rattle.std.proofs.Common.{le-leb}
-use Rattle.std.specs.Prelude.{◌↔◌, ◌&&◌, ◌==◌, nat_le, nat_lt, find, not, if◌then◌else◌, IsTrue}
+use Rattle.std.specs.Prelude.{◌↔◌, ◌&&◌, ◌==◌, nat_le, nat_lt, find, not, if◌then◌else◌}
 use Rattle.std.specs.Option.{option_map}
 use Rattle.std.specs.Result.{result_ok}
-use Rattle.std.specs.List.{AllByRecursion, filter_map}
 use Rattle.std.proofs.lemmas.Bool.{ltb-true, lt-ltb, leb-false}
 use Rattle.mxf_klv.specs.Bytes.{AreBytes}
 use Rattle.mxf_klv.specs.Parts.{NoteParts}
 use Rattle.mxf_klv.specs.Note.{end_of, keeps}
 use Rattle.mxf_klv.specs.Kind.{kind_of}
 use Rattle.mxf_klv.specs.Rising.{In}
-use Rattle.mxf_sets.specs.PartitionPack.{PartitionPackParts}
 use Rattle.mxf_sets.specs.PackReadings.{pack_at}
 use Rattle.mxf_sets.proofs.PackComputing.{pack_iff}
 use Rattle.mxf_catalogue.specs.Content.{IsContent}
-use Rattle.mxf_catalogue.specs.Disputes.{AreApart, IsClear, clear_notes}
+use Rattle.mxf_catalogue.specs.Disputes.{AreApart, clear_notes}
 use Rattle.mxf_catalogue.proofs.DisputeLaws.{In-clear_notes}
 use Rattle.mxf_catalogue.proofs.SpanLaws.{AreApart-clear_notes}
 use Rattle.mxf_catalogue.proofs.Lists.{list_any-In, found-In, find-only}
@@ -25,7 +22,7 @@ use Rattle.mxf_views.specs.declared.chain.Link.TheVariants.{First, Held, Skips, 
 use Rattle.mxf_views.specs.Partitions.{PartitionParts, HoldBytes, IsReadablePack, IsPartition, AreInOrder, StandsAt}
 use Rattle.mxf_views.specs.Partitions.{IsGreatestBelow, IsLink, IsLinkAt, pack_of, partition_at, partitions_among}
 use Rattle.mxf_views.specs.Partitions.{partitions_of, link_of, link_at, previous_of, stands_at, stands_between}
-use Rattle.mxf_views.proofs.Members.{In-filter_map, all-each, each-all, both, false_if, parts}
+use Rattle.mxf_views.proofs.Members.{In-filter_map, all-each, each-all, both, parts}
 
 -- ---- which partitions there are
 

@@ -1,14 +1,14 @@
 -- Where the header metadata of a partition begin.
-use Rattle.std.proofs.Common.{◌≡◌, ◌≢◌, ℕ, ◌+◌, ◌-◌, ◌<◌, ◌≤◌, ◌⊎◌, Bool, true, false, List, [], ◌∷◌, Option, Some}
+use Rattle.std.proofs.Common.{◌≡◌, ℕ, ◌+◌, ◌-◌, ◌<◌, ◌≤◌, Bool, true, false, List, [], ◌∷◌, Some}
 use Rattle.std.proofs.Common.{None, refl, sym, ap, subst, ◌∙◌, inl, inr, arith, eqb-true, eq-eqb, le-leb, leb-true}
-use Rattle.std.specs.Prelude.{◌↔◌, ◌&&◌, ◌==◌, nat_le, nat_lt, find, filter, is_some, IsTrue, count_by}
+use Rattle.std.specs.Prelude.{◌↔◌, ◌&&◌, ◌==◌, nat_le, nat_lt, find, is_some, count_by}
 use Rattle.std.specs.Option.{option_map}
 use Rattle.std.specs.List.{list_all, range_with_len}
 use Rattle.std.proofs.lemmas.Bool.{ltb-true, ltb-false}
 use Rattle.mxf_klv.specs.declared.kinds.Kind.{Kind}
 use Rattle.mxf_klv.specs.declared.kinds.Kind.TheVariants as kinds
 use Rattle.mxf_klv.specs.Parts.{NoteParts}
-use Rattle.mxf_klv.specs.Note.{IsInSpan, end_of, keeps}
+use Rattle.mxf_klv.specs.Note.{end_of}
 use Rattle.mxf_klv.specs.Kind.{kind_of}
 use Rattle.mxf_klv.specs.Rising.{In}
 use Rattle.mxf_sets.specs.PackReadings.{primer_at}
@@ -18,10 +18,9 @@ use Rattle.mxf_catalogue.proofs.ContentLaws.{note_eq-Decides}
 use Rattle.mxf_catalogue.specs.Disputes.{IsClear, SharesByte, clear_notes, is_same_note}
 use Rattle.mxf_catalogue.proofs.DisputeLaws.{In-clear_notes, clear-apart}
 use Rattle.mxf_catalogue.proofs.Lists.{In-filter, list_any-In, found-In, none_found}
-use Rattle.mxf_views.specs.Copies.{IsFilled, IsStart, covered_of, is_fill, is_fill_note, is_filled, is_primer}
+use Rattle.mxf_views.specs.Copies.{IsStart, covered_of, is_fill, is_fill_note, is_filled, is_primer}
 use Rattle.mxf_views.specs.Copies.{is_readable_primer, is_start, start_of, zone_of}
-use Rattle.mxf_views.specs.Spans.{is_in_one, is_in_span, lies_in, sizes}
-use Rattle.mxf_catalogue.specs.Disputes.{AreApart}
+use Rattle.mxf_views.specs.Spans.{is_in_one, is_in_span, lies_in}
 use Rattle.mxf_views.proofs.SpanCounts.{count-all, count-full, in_span, in_span-says, zone-count}
 use Rattle.mxf_catalogue.proofs.SpanLaws.{AreApart-clear_notes}
 

@@ -1,8 +1,8 @@
 -- Copies of the header metadata (ST 377-1, header metadata of a partition; which copy is preferred is this project's
 -- profile). They are by the clear notes alone.
 use Rattle.std.specs.Prelude.{◌≡◌, ◌↔◌, ℕ, ◌+◌, ◌-◌, ◌<◌, ◌≤◌, ◌⊎◌, Bool, true, false, ◌&&◌, ◌==◌, nat_le, nat_lt, cond}
-use Rattle.std.specs.Prelude.{Option, Some, None, is_some, List, [], ◌∷◌, map, filter, find, count_by, sum_by}
-use Rattle.std.specs.Prelude.{MatchOption, IsTrue, ◌||◌}
+use Rattle.std.specs.Prelude.{Option, Some, None, is_some, List, [], ◌∷◌, map, filter, find, count_by}
+use Rattle.std.specs.Prelude.{IsTrue, ◌||◌}
 use Rattle.std.specs.Option.{option_map}
 use Rattle.std.specs.List.{list_all, range_with_len, AllByRecursion}
 use Rattle.mxf_klv.specs.declared.kinds.Kind.{Kind}
@@ -11,7 +11,7 @@ use Rattle.mxf_klv.specs.declared.kinds.Status.{Status}
 use Rattle.mxf_klv.specs.declared.kinds.Status.TheVariants.{OpenIncomplete, ClosedIncomplete, OpenComplete}
 use Rattle.mxf_klv.specs.declared.kinds.Status.TheVariants.{ClosedComplete}
 use Rattle.mxf_klv.specs.Parts.{NoteParts}
-use Rattle.mxf_klv.specs.Note.{IsInSpan, keeps, end_of}
+use Rattle.mxf_klv.specs.Note.{IsInSpan, end_of}
 use Rattle.mxf_klv.specs.Kind.{kind_of}
 use Rattle.mxf_klv.specs.Rising.{In}
 use Rattle.mxf_sets.specs.PackReadings.{primer_at}

@@ -1,5 +1,5 @@
 -- Gaps: the maximal ranges of bytes below the greatest end that lie in no note, disputed ones counted as notes.
-use Rattle.std.specs.Prelude.{◌≡◌, ℕ, ◌+◌, ◌<◌, ◌≤◌, max, cond, nat_lt, List, [], ◌∷◌, ◌⊎◌, ◌↔◌}
+use Rattle.std.specs.Prelude.{ℕ, ◌<◌, max, cond, nat_lt, List, [], ◌∷◌, ◌↔◌}
 use Rattle.mxf_klv.specs.Parts.{NoteParts}
 use Rattle.mxf_klv.specs.Note.{IsInSpan, end_of}
 use Rattle.mxf_klv.specs.Rising.{In}

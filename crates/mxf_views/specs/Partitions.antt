@@ -2,7 +2,7 @@
 -- profile). They are by the clear notes alone.
 use Rattle.std.specs.Prelude.{◌≡◌, ◌≢◌, ℕ, ◌<◌, ◌≤◌, ◌⊎◌, Bool, true, false, not, ◌&&◌, ◌||◌, ◌==◌, nat_le, nat_lt}
 use Rattle.std.specs.Prelude.{if◌then◌else◌}
-use Rattle.std.specs.Prelude.{Option, Some, None, is_some, IsTrue, Ok, List, [], ◌∷◌, filter, find, count_by}
+use Rattle.std.specs.Prelude.{Option, is_some, IsTrue, Ok, List, [], ◌∷◌, find, count_by}
 use Rattle.std.specs.Option.{option_map}
 use Rattle.std.specs.List.{list_any, list_all, filter_map, AllByRecursion}
 use Rattle.mxf_klv.specs.Parts.{NoteParts}
@@ -11,7 +11,7 @@ use Rattle.mxf_klv.specs.Note.{end_of, keeps}
 use Rattle.mxf_klv.specs.Kind.{kind_of}
 use Rattle.mxf_klv.specs.Rising.{In}
 use Rattle.mxf_sets.specs.declared.pack.part.PackPart.{PackPart}
-use Rattle.mxf_sets.specs.declared.pack.part.PackPart.TheVariants.{Header, Body, Footer}
+use Rattle.mxf_sets.specs.declared.pack.part.PackPart.TheVariants.{Header, Footer}
 use Rattle.mxf_sets.specs.PartitionPack.{PartitionPackParts, IsPartitionKind, ReadsPack}
 use Rattle.mxf_catalogue.specs.Disputes.{IsClear, clear_notes}
 use Rattle.mxf_views.specs.declared.chain.Link.{Link}

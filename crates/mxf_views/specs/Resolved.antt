@@ -1,5 +1,5 @@
 -- The references of the preferred copy's Preface and storage (ST 377-1, Preface and Content Storage sets).
-use Rattle.std.specs.Prelude.{ℕ, ◌&&◌, if◌then◌else◌, Option, Some, None, List, [], ◌∷◌, filter, find}
+use Rattle.std.specs.Prelude.{ℕ, if◌then◌else◌, Option, Some, None, List, [], ◌∷◌, filter, find}
 use Rattle.std.specs.Option.{option_map}
 use Rattle.mxf_klv.specs.Parts.{NoteParts}
 use Rattle.mxf_sets.specs.Readable.{read_as}

@@ -1,7 +1,6 @@
-use Rattle.std.proofs.Common.{sym, ◌∙◌, ap, subst}
-use Rattle.mxf_catalogue.specs.Disputes.{AreApart, clear_notes}
+use Rattle.std.proofs.Common.{sym, subst}
+use Rattle.mxf_catalogue.specs.Disputes.{AreApart}
 use Rattle.mxf_catalogue.proofs.SpanLaws.{AreApart-filter}
-use Rattle.mxf_views.specs.Copies.{zone_of}
 use Rattle.mxf_views.specs.Spans.{lies_in}
 use Rattle.mxf_views.proofs.copy.clear_zone.Goals as goal
 

@@ -1,5 +1,5 @@
 use Rattle.std.specs.Prelude.{◌≡◌, ◌+◌, ◌<◌, ◌==◌, cond, is_some, refl}
-use Rattle.std.proofs.Common.{ap, arith, eq-eqb, eqb-true, ◌∙◌, sym}
+use Rattle.std.proofs.Common.{ap, arith, eq-eqb, eqb-true}
 use Rattle.mxf_views.specs.Copies.{rank, standing}
 use Rattle.mxf_views.proofs.Members.{both, parts}
 use Rattle.mxf_views.proofs.SmallFiles.{rank_below_4}

@@ -1,4 +1,4 @@
-use Rattle.std.proofs.Common.{◌≡◌, ◌≤◌, ℕ, Bool, true, false, cond, max, List, [], ◌∷◌, length, arith, refl}
+use Rattle.std.proofs.Common.{◌≤◌, ℕ, true, false, cond, max, List, [], ◌∷◌, length, arith}
 use Rattle.std.specs.Prelude.{nat_lt}
 use Rattle.mxf_klv.specs.Parts.{NoteParts}
 use Rattle.mxf_klv.specs.Note.{end_of}

@@ -1,4 +1,4 @@
-use Rattle.std.proofs.Common.{◌≡◌, ◌+◌, ◌≤◌, ℕ}
+use Rattle.std.proofs.Common.{◌≡◌, ◌+◌}
 use Rattle.mxf_catalogue.specs.Disputes.{AreApart}
 use Rattle.mxf_views.specs.Spans.{sizes}
 use Rattle.mxf_views.proofs.copy.zone.Zone.covered.Given as goal
