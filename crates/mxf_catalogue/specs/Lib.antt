@@ -1,5 +1,6 @@
 pub mod CatalogueFile
 pub mod Content
+pub mod Covers
 pub mod Disputes
 pub mod FileReading
 pub mod History

@@ -26,6 +26,7 @@
 #![tactic(auto)]
 
 mod catalogue;
+mod cover;
 mod history;
 mod run;
 mod semilattice;
@@ -36,6 +37,7 @@ pub use catalogue::{
     disputed_notes_by_definition, disputes_by_tests, files_are_read_as_written,
     notes_are_clear_or_disputed, notes_are_disputed_in_two_ways, one_file, one_file_reading,
 };
+pub use cover::{Cover, CoverGaps, CoverRuns, covers_are_sets, gaps_of_covers_by_definition};
 pub use history::{histories_leave_what_they_were_handed, one_set_one_content};
 pub use run::{Run, one_list_of_maximal_runs};
 pub use semilattice::Semilattice;

@@ -1,0 +1,360 @@
+-- Runs that touch a run, and offsets in runs, by their places in a cover.
+use Rattle.std.specs.Prelude.{◌≡◌, ℕ, suc, zero, ◌+◌, ◌<◌, ◌≤◌, nat_lt, min, max, true, false, ◌↔◌, ◌⊎◌, cond}
+use Rattle.std.specs.Prelude.{List, [], ◌∷◌, ◌++◌, length, take, drop, refl}
+use Rattle.std.specs.List.{AllByRecursion, AllWithin}
+use Rattle.std.specs.List.Sorted.{IsNonDecreasingBy}
+use Rattle.std.specs.Bool.{Decides}
+use Rattle.std.proofs.Common.{◌==◌, ◌&&◌, eqb-true, eq-eqb, sym, ap, subst, inl, inr, arith, get_or}
+use Rattle.std.proofs.lemmas.Bool.{ltb-true, ltb-false}
+use Rattle.mxf_klv.specs.Note.{greatest_end}
+use Rattle.mxf_klv.specs.Rising.{In}
+use Rattle.mxf_catalogue.specs.declared.run.Run.{Run}
+use Rattle.mxf_catalogue.specs.Runs.{AreMaximal, IsWithin, LiesIn, SameOffsets, run}
+use Rattle.mxf_catalogue.specs.Covers.{IsCover, IsRun, both, spanned, with_run, union_of_runs, gaps_from, gaps_of_runs}
+use Rattle.mxf_catalogue.specs.Covers.{IsBetween, AreGapsOf, LiesIn-first, with_run_cases}
+use Rattle.mxf_catalogue.proofs.RunLaws.{same_runs}
+
+-- ---- runs with one more are a cover
+
+lower : (low high : ℕ) (runs : List Run) → low ≤ high → AreMaximal high runs → AreMaximal low runs
+lower low high [] l m = tt
+lower low high (r ∷ runs) l m = let a : high ≤ r.start = m.0 in (omega arith, m.1, m.2)
+
+AreMaximal-with_run : (low : ℕ) (r : Run) (runs : List Run) → low ≤ r.start → r.start < r.end → AreMaximal low runs
+    → AreMaximal low (with_run r runs)
+AreMaximal-with_run low r [] l b m = (l, b, tt)
+AreMaximal-with_run low r (s ∷ runs) l b m =
+    let c : low ≤ s.start = m.0 in
+    let d : s.start < s.end = m.1 in
+    with_run_cases r s runs (AreMaximal low)
+    (λ e. (l, b, (omega arith, m.1, m.2)))
+    (λ e. (m.0, m.1, AreMaximal-with_run (s.end + 1) r runs (omega arith) b m.2))
+    (λ e f. AreMaximal-with_run low (both r s) runs (omega arith) (omega arith)
+    (lower low (s.end + 1) runs (omega arith) m.2))
+
+ends-with_run : (high : ℕ) (r : Run) (runs : List Run) → r.end ≤ high → AllByRecursion (λ s. s.end ≤ high) runs
+    → AllByRecursion (λ s. s.end ≤ high) (with_run r runs)
+ends-with_run high r [] l a = (l, tt)
+ends-with_run high r (s ∷ runs) l a =
+    let c : s.end ≤ high = a.0 in
+    with_run_cases r s runs (λ m. AllByRecursion (λ (t : Run). t.end ≤ high) m)
+    (λ e. (l, a))
+    (λ e. (a.0, ends-with_run high r runs l a.1))
+    (λ e f. ends-with_run high (both r s) runs (omega arith) a.1)
+
+pub IsCover-with_run : (r : Run) (runs : List Run) → IsRun r → IsCover runs → IsCover (with_run r runs)
+IsCover-with_run r runs is c = record {
+  maximal = AreMaximal-with_run 0 r runs (omega arith) is.order c.maximal;
+  within = ends-with_run greatest_end r runs is.within c.within;
+}
+
+pub IsCover-union_of_runs : (runs others : List Run) → IsCover runs → IsCover others → IsCover (union_of_runs runs others)
+IsCover-union_of_runs runs [] c d = c
+IsCover-union_of_runs runs (s ∷ others) c d =
+    let rest : IsCover others = record { maximal = lower 0 (s.end + 1) others (omega arith) d.maximal.2; within = d.within.1 } in
+    let one : IsRun s = record { order = d.maximal.1; within = d.within.0 } in
+    IsCover-union_of_runs (with_run s runs) others (IsCover-with_run s runs one c) rest
+
+-- covers of the same offsets are one list
+pub same_covers : (a b : List Run) → IsCover a → IsCover b → SameOffsets a b → a ≡ b
+same_covers a b c d = same_runs 0 0 a b c.maximal d.maximal
+
+-- ---- the places of runs
+
+-- all runs from a place on start at or above the bound
+above : (low : ℕ) (runs : List Run) (k : ℕ) (d : Run) → AreMaximal low runs → k < length runs
+    → low ≤ (get_or runs k d).start
+above low [] k d m l = absurd (omega arith)
+above low (r ∷ runs) zero d m l = m.0
+above low (r ∷ runs) (suc k) d m l =
+    let ih = above (r.end + 1) runs k d m.2 (omega arith) in
+    let a : low ≤ r.start = m.0 in
+    let b : r.start < r.end = m.1 in omega (arith, ih)
+
+-- the runs from one place up to another touch the run, those before end below it, those behind start above it
+pub with_run_at : (low : ℕ) (r : Run) (runs : List Run) (a b : ℕ) → AreMaximal low runs → a ≤ length runs
+    → b ≤ length runs → AllWithin (λ s. s.end < r.start) runs 0 a
+    → AllWithin (λ s. r.start ≤ s.end) runs a (length runs) → AllWithin (λ s. s.start ≤ r.end) runs 0 b
+    → AllWithin (λ s. r.end < s.start) runs b (length runs) → r.start < r.end
+    → with_run r runs ≡ take a runs ++ spanned r (drop a (take b runs)) ∷ drop b runs
+with_run_at low r [] zero zero m la lb f g h k n = refl
+with_run_at low r [] (suc a) b m la lb f g h k n = absurd (omega arith)
+with_run_at low r [] zero (suc b) m la lb f g h k n = absurd (omega arith)
+with_run_at low r (s ∷ ss) (suc a) zero m la lb f g h k n =
+    let p : s.end < r.start = f 0 s (omega arith) (omega arith) in
+    let q : r.end < s.start = k 0 s (omega arith) (omega arith) in
+    let t : s.start < s.end = m.1 in absurd (omega arith)
+with_run_at low r (s ∷ ss) (suc a) (suc b) m la lb f g h k n =
+    let p : s.end < r.start = f 0 s (omega arith) (omega arith) in
+    let q : s.start ≤ r.end = h 0 s (omega arith) (omega arith) in
+    let ih = with_run_at (s.end + 1) r ss a b m.2 (omega arith) (omega arith)
+    (λ j d _ l. f (suc j) d (omega arith) (omega arith)) (λ j d l o. g (suc j) d (omega arith) (omega arith))
+    (λ j d _ l. h (suc j) d (omega arith) (omega arith)) (λ j d l o. k (suc j) d (omega arith) (omega arith)) n in
+    with_run_cases r s ss (λ l. l ≡ s ∷ (take a ss ++ spanned r (drop a (take b ss)) ∷ drop b ss))
+    (λ e. absurd (omega arith)) (λ e. ap (λ l. s ∷ l) ih) (λ e t. absurd (omega arith))
+with_run_at low r (s ∷ ss) zero zero m la lb f g h k n =
+    let q : r.end < s.start = k 0 s (omega arith) (omega arith) in
+    let t : s.start < s.end = m.1 in
+    with_run_cases r s ss (λ l. l ≡ r ∷ s ∷ ss) (λ e. refl) (λ e. absurd (omega arith)) (λ e t. absurd (omega arith))
+with_run_at low r (s ∷ ss) zero (suc b) m la lb f g h k n =
+    let p : r.start ≤ s.end = g 0 s (omega arith) (omega arith) in
+    let q : s.start ≤ r.end = h 0 s (omega arith) (omega arith) in
+    let ih = with_run_at (s.end + 1) (both r s) ss zero b m.2 (omega arith) (omega arith)
+    (λ j d _ l. absurd (omega arith))
+    (λ j d l o. let t : r.start ≤ (get_or ss j d).end = g (suc j) d (omega arith) (omega arith) in omega arith)
+    (λ j d _ l. let t : (get_or ss j d).start ≤ r.end = h (suc j) d (omega arith) (omega arith) in omega arith)
+    (λ j d l o.
+    let t : r.end < (get_or ss j d).start = k (suc j) d (omega arith) (omega arith) in
+    let u = above (s.end + 1) ss j d m.2 o in omega (arith, u))
+    (omega arith) in
+    with_run_cases r s ss (λ l. l ≡ spanned (both r s) (take b ss) ∷ drop b ss)
+    (λ e. absurd (omega arith)) (λ e. absurd (omega arith)) (λ e t. ih)
+
+-- the starts and the ends of a cover's runs rise
+pub starts_rise : (low : ℕ) (runs : List Run) → AreMaximal low runs → IsNonDecreasingBy (λ r. r.start) runs
+starts_rise low [] m i j d l h = absurd (omega arith)
+starts_rise low (r ∷ runs) m zero zero d l h = omega arith
+starts_rise low (r ∷ runs) m zero (suc j) d l h =
+    let t = above (r.end + 1) runs j d m.2 (omega arith) in let u : r.start < r.end = m.1 in omega (arith, t, u)
+starts_rise low (r ∷ runs) m (suc i) zero d l h = absurd (omega arith)
+starts_rise low (r ∷ runs) m (suc i) (suc j) d l h = starts_rise (r.end + 1) runs m.2 i j d (omega arith) (omega arith)
+
+pub start_below_end : (low : ℕ) (runs : List Run) (k : ℕ) (d : Run) → AreMaximal low runs → k < length runs
+    → (get_or runs k d).start < (get_or runs k d).end
+start_below_end low [] k d m l = absurd (omega arith)
+start_below_end low (r ∷ runs) zero d m l = m.1
+start_below_end low (r ∷ runs) (suc k) d m l = start_below_end (r.end + 1) runs k d m.2 (omega arith)
+
+pub end_within : (high : ℕ) (runs : List Run) (k : ℕ) (d : Run) → AllByRecursion (λ r. r.end ≤ high) runs
+    → k < length runs → (get_or runs k d).end ≤ high
+end_within high [] k d a l = absurd (omega arith)
+end_within high (r ∷ runs) zero d a l = a.0
+end_within high (r ∷ runs) (suc k) d a l = end_within high runs k d a.1 (omega arith)
+
+pub ends_rise : (low : ℕ) (runs : List Run) → AreMaximal low runs → IsNonDecreasingBy (λ r. r.end) runs
+ends_rise low [] m i j d l h = absurd (omega arith)
+ends_rise low (r ∷ runs) m zero zero d l h = omega arith
+ends_rise low (r ∷ runs) m zero (suc j) d l h =
+    let t = above (r.end + 1) runs j d m.2 (omega arith) in
+    let u = start_below_end (r.end + 1) runs j d m.2 (omega arith) in omega (arith, t, u)
+ends_rise low (r ∷ runs) m (suc i) zero d l h = absurd (omega arith)
+ends_rise low (r ∷ runs) m (suc i) (suc j) d l h = ends_rise (r.end + 1) runs m.2 i j d (omega arith) (omega arith)
+
+-- the runs that end below a run come before those that start above it
+pub places_in_order : (r : Run) (runs : List Run) (a b : ℕ) → AreMaximal 0 runs → a ≤ length runs
+    → AllWithin (λ s. s.end < r.start) runs 0 a → AllWithin (λ s. r.end < s.start) runs b (length runs)
+    → r.start < r.end → a ≤ b
+places_in_order r runs a b m l f k n =
+    elim (nat_lt b a) as (λ c. nat_lt b a ≡ c → a ≤ b) [
+      | true ↦ λ e.
+          let h : b < a = ltb-true _ _ e in
+          let p : (get_or runs b r).end < r.start = f b r (omega arith) h in
+          let q : r.end < (get_or runs b r).start = k b r (omega arith) (omega arith) in
+          let t = start_below_end 0 runs b r m (omega arith) in absurd (omega (arith, t))
+      | false ↦ λ e. ltb-false _ _ e
+    ] refl
+
+-- ---- offsets in runs
+
+lies_at : (runs : List Run) (k : ℕ) (d : Run) (at : ℕ) → k < length runs → IsWithin (get_or runs k d) at → LiesIn runs at
+lies_at [] k d at l h = absurd (omega arith)
+lies_at (r ∷ runs) zero d at l h = (LiesIn-first r runs at).1 (inl h)
+lies_at (r ∷ runs) (suc k) d at l h = (LiesIn-first r runs at).1 (inr (lies_at runs k d at (omega arith) h))
+
+place_of : (runs : List Run) (d : Run) (at : ℕ) → LiesIn runs at
+    → (k : ℕ) × (k < length runs) × IsWithin (get_or runs k d) at
+place_of [] d at h = absurd h.1
+place_of (r ∷ runs) d at h = elim ((LiesIn-first r runs at).0 h) [
+  | inl w ↦ (0, omega arith, w)
+  | inr k ↦ let p = place_of runs d at k in let l : p.0 < length runs = p.1 in (suc p.0, omega arith, p.2)
+]
+
+-- where the first run that ends above an offset starts at or below a last one, an offset between the two lies in it
+pub is_met : (runs : List Run) (a first last : ℕ) (r : Run) → AreMaximal 0 runs → first ≤ last → a < length runs
+    → r ≡ get_or runs a r → AllWithin (λ s. first < s.end) runs a (length runs) → r.start ≤ last
+    → (at : ℕ) × LiesIn runs at × (first ≤ at) × (at ≤ last)
+is_met runs a first last r m o l e up below =
+    let b : r.start < r.end = subst (λ (s : Run). s.start < s.end) (sym e) (start_below_end 0 runs a r m l) in
+    let u : first < r.end = subst (λ (s : Run). first < s.end) (sym e) (up a r (omega arith) l) in
+    let h : IsWithin r (max r.start first) = record { from = omega arith; before = omega arith } in (
+      max r.start first,
+      lies_at runs a r (max r.start first) l (subst (λ (s : Run). IsWithin s (max r.start first)) e h),
+      omega arith,
+      omega arith,
+    )
+
+-- what lies in runs lies in the first that ends above, or behind it
+pub is_first : (runs : List Run) (a first at : ℕ) (d : Run) → AreMaximal 0 runs
+    → AllWithin (λ s. s.end ≤ first) runs 0 a → LiesIn runs at → first ≤ at
+    → (a < length runs) × ((get_or runs a d).start ≤ at)
+is_first runs a first at d m down h o =
+    let p = place_of runs d at h in
+    let l : p.0 < length runs = p.1 in
+    let s : (get_or runs p.0 d).start ≤ at = p.2.from in
+    let e : at + 1 ≤ (get_or runs p.0 d).end = p.2.before in
+    elim (nat_lt p.0 a) as (λ b. nat_lt p.0 a ≡ b → (a < length runs) × ((get_or runs a d).start ≤ at)) [
+      | true ↦ λ t.
+          let u : (get_or runs p.0 d).end ≤ first = down p.0 d (omega arith) (ltb-true _ _ t) in absurd (omega arith)
+      | false ↦ λ t.
+          let u : a ≤ p.0 = ltb-false _ _ t in
+          let v : (get_or runs a d).start ≤ (get_or runs p.0 d).start = starts_rise 0 runs m a p.0 d u l in
+          (omega arith, omega arith)
+    ] refl
+
+-- `==` of runs tells whether they are one
+pub run_eq-Decides : (r s : Run) → Decides ((r.start == s.start) && (r.end == s.end)) (r ≡ s)
+run_eq-Decides r s =
+    elim (r.start == s.start) as (λ b. (r.start == s.start) ≡ b → Decides (b && (r.end == s.end)) (r ≡ s)) [
+      | true ↦ λ e. (
+        λ h. (λ i. record { start = eqb-true _ _ e i; end = eqb-true _ _ h i }),
+        λ p. eq-eqb _ _ (ap (λ (x : Run). x.end) p),
+      )
+      | false ↦ λ e. (λ h. cc, λ p. let t = eq-eqb _ _ (ap (λ (x : Run). x.start) p) in cc (t, e))
+    ] refl
+
+-- ---- gaps
+
+-- runs from an offset on lie at or above it
+low_of : (low : ℕ) (runs : List Run) (at : ℕ) → AreMaximal low runs → LiesIn runs at → low ≤ at
+low_of low [] at m h = absurd h.1
+low_of low (r ∷ runs) at m h =
+    let a : low ≤ r.start = m.0 in
+    let b : r.start < r.end = m.1 in
+    elim ((LiesIn-first r runs at).0 h) [
+      | inl w ↦ (let c : r.start ≤ at = w.from in omega arith)
+      | inr k ↦ (let c = low_of (r.end + 1) runs at m.2 k in omega (arith, c))
+    ]
+
+-- the gaps of runs that start above an offset where a run ends: none touches it
+maximal_above : (low : ℕ) (runs : List Run) → AreMaximal (low + 1) runs → AreMaximal low (gaps_from low runs)
+maximal_above low [] m = tt
+maximal_above low (r ∷ runs) m =
+    let a : low + 1 ≤ r.start = m.0 in
+    let b : r.start < r.end = m.1 in
+    elim (nat_lt low r.start) as (λ c. nat_lt low r.start ≡ c
+    → AreMaximal low (cond c (run low r.start ∷ gaps_from r.end runs) (gaps_from r.end runs))) [
+      | true ↦ λ e. (omega arith, omega arith, lower (r.start + 1) r.end (gaps_from r.end runs) (omega arith)
+        (maximal_above r.end runs m.2))
+      | false ↦ λ e. let f : r.start ≤ low = ltb-false _ _ e in absurd (omega arith)
+    ] refl
+
+maximal_gaps : (runs : List Run) → AreMaximal 0 runs → AreMaximal 0 (gaps_of_runs runs)
+maximal_gaps [] m = tt
+maximal_gaps (r ∷ runs) m =
+    let b : r.start < r.end = m.1 in
+    elim (nat_lt 0 r.start) as (λ c. nat_lt 0 r.start ≡ c
+    → AreMaximal 0 (cond c (run 0 r.start ∷ gaps_from r.end runs) (gaps_from r.end runs))) [
+      | true ↦ λ e.
+          let f : 0 < r.start = ltb-true _ _ e in (omega arith, omega arith, lower (r.start + 1) r.end
+          (gaps_from r.end runs) (omega arith) (maximal_above r.end runs m.2))
+      | false ↦ λ e. lower 0 r.end (gaps_from r.end runs) (omega arith) (maximal_above r.end runs m.2)
+    ] refl
+
+-- the offset is at or above the first, and lies below the end of some run and in none
+abbrev IsBetweenFrom : ℕ → List Run → ℕ → Type 0
+IsBetweenFrom low runs at = (low ≤ at) × IsBetween runs at
+
+first_gap : (low : ℕ) (r : Run) (runs : List Run) (at : ℕ) → AreMaximal low (r ∷ runs)
+    → IsBetweenFrom low (r ∷ runs) at ↔ (((low ≤ at) × (at < r.start)) ⊎ IsBetweenFrom r.end runs at)
+first_gap low r runs at m =
+    let a : low ≤ r.start = m.0 in
+    let b : r.start < r.end = m.1 in (
+      λ h.
+          let l : low ≤ at = h.0 in
+          elim (nat_lt at r.start) as (λ c. nat_lt at r.start ≡ c
+          → ((low ≤ at) × (at < r.start)) ⊎ IsBetweenFrom r.end runs at) [
+            | true ↦ λ e. inl (l, ltb-true _ _ e)
+            | false ↦ λ e.
+                let f : r.start ≤ at = ltb-false _ _ e in
+                elim (nat_lt at r.end) as (λ c. nat_lt at r.end ≡ c
+                → ((low ≤ at) × (at < r.start)) ⊎ IsBetweenFrom r.end runs at) [
+                  | true ↦ λ g.
+                      let k : at < r.end = ltb-true _ _ g in
+                      absurd (h.1.in_none ((LiesIn-first r runs at).1 (inl (record { from = f; before = omega arith }))))
+                  | false ↦ λ g.
+                      let k : r.end ≤ at = ltb-false _ _ g in
+                      inr (k, record {
+                        below = elim h.1.below.1 [
+                          | inl e ↦ (let t : at < h.1.below.0.end = h.1.below.2 in
+                            let u : at < r.end = subst (λ (q : Run). at < q.end) e t in absurd (omega arith))
+                          | inr i ↦ (h.1.below.0, i, h.1.below.2)
+                        ];
+                        in_none = λ i. h.1.in_none ((LiesIn-first r runs at).1 (inr i));
+                      })
+                ] refl
+          ] refl,
+      λ h. elim h [
+        | inl k ↦
+            let u : low ≤ at = k.0 in
+            let v : at < r.start = k.1 in (
+              k.0,
+              record {
+                below = (r, inl refl, omega arith);
+                in_none = λ i. elim ((LiesIn-first r runs at).0 i) [
+                  | inl w ↦ (let f : r.start ≤ at = w.from in omega arith)
+                  | inr j ↦ (let f = low_of (r.end + 1) runs at m.2 j in omega (arith, f))
+                ];
+              },
+            )
+        | inr k ↦
+            let u : r.end ≤ at = k.0 in (
+              omega arith,
+              record {
+                below = (k.1.below.0, inr k.1.below.1, k.1.below.2);
+                in_none = λ i. elim ((LiesIn-first r runs at).0 i) [
+                  | inl w ↦ (let f : at + 1 ≤ r.end = w.before in omega arith)
+                  | inr j ↦ k.1.in_none j
+                ];
+              },
+            )
+      ],
+    )
+
+offsets_of_gaps : (low : ℕ) (runs : List Run) (at : ℕ) → AreMaximal low runs
+    → LiesIn (gaps_from low runs) at ↔ IsBetweenFrom low runs at
+offsets_of_gaps low [] at m = (λ h. absurd h.1, λ h. absurd h.1.below.1)
+offsets_of_gaps low (r ∷ runs) at m =
+    let ih = offsets_of_gaps r.end runs at (lower r.end (r.end + 1) runs (omega arith) m.2) in
+    let one = first_gap low r runs at m in
+    elim (nat_lt low r.start) as (λ c. nat_lt low r.start ≡ c
+    → LiesIn (cond c (run low r.start ∷ gaps_from r.end runs) (gaps_from r.end runs)) at
+    ↔ IsBetweenFrom low (r ∷ runs) at) [
+      | true ↦ λ e.
+          let two = LiesIn-first (run low r.start) (gaps_from r.end runs) at in (
+            λ h. one.1 (elim (two.0 h) [
+              | inl w ↦ (let f : at + 1 ≤ r.start = w.before in inl (w.from, omega arith))
+              | inr k ↦ inr (ih.0 k)
+            ]),
+            λ h. two.1 (elim (one.0 h) [
+              | inl k ↦ (let f : at < r.start = k.1 in inl (record { from = k.0; before = omega arith }))
+              | inr k ↦ inr (ih.1 k)
+            ]),
+          )
+      | false ↦ λ e.
+          let f : r.start ≤ low = ltb-false _ _ e in (
+            λ h. one.1 (inr (ih.0 h)),
+            λ h. elim (one.0 h) [
+              | inl k ↦ (let u : low ≤ at = k.0 in let v : at < r.start = k.1 in absurd (omega arith))
+              | inr k ↦ ih.1 k
+            ],
+          )
+    ] refl
+
+pub gaps_by_definition : (runs : List Run) → IsCover runs → AreGapsOf runs (gaps_of_runs runs)
+gaps_by_definition runs c = record {
+  maximal = maximal_gaps runs c.maximal;
+  offsets = λ at.
+      let all = offsets_of_gaps 0 runs at c.maximal in
+      (λ h. (all.0 h).1, λ h. all.1 (omega arith, h));
+}
+
+-- there are no more gaps than runs
+pub length-gaps : (low : ℕ) (runs : List Run) → length (gaps_from low runs) ≤ length runs
+length-gaps low [] = omega arith
+length-gaps low (r ∷ runs) =
+    let ih : length (gaps_from r.end runs) ≤ length runs = length-gaps r.end runs in
+    elim (nat_lt low r.start) as (λ c.
+    length (cond c (run low r.start ∷ gaps_from r.end runs) (gaps_from r.end runs)) ≤ length (r ∷ runs)) [
+      | true ↦ omega arith
+      | false ↦ omega arith
+    ]

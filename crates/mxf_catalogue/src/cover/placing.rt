@@ -1,0 +1,98 @@
+//! Where offsets and runs stand among the runs of a cover: all by binary search.
+ghost use Rattle.std.specs.Prelude.{◌≡◌, ◌↔◌, ℕ, ◌+◌, ◌<◌, ◌≤◌, ◌++◌, ◌∷◌, take, drop, length};
+ghost use Rattle.std.specs.Prelude.{vec_len, vec_capacity, IsTrue};
+ghost use Rattle.std.specs.List.{AllWithin};
+ghost use Rattle.mxf_catalogue.specs.Covers.{IsCover, IsRun, spanned, with_run};
+ghost use Rattle.mxf_catalogue.specs.Runs.{LiesIn};
+
+use crate::run::Run;
+
+/// The number of the runs that end at or below the offset.
+fn ending_by(runs: &[Run], offset: u64) -> usize
+    requires { IsCover runs.now }
+    ensures bound { result ≤ length runs.now }
+    ensures below { AllWithin (λ r. r.end ≤ offset) runs.now 0 result }
+    ensures above { AllWithin (λ r. offset < r.end) runs.now result (length runs.now) }
+{
+    runs.partition_point(|run| run.end <= offset)
+}
+
+/// Whether an offset from `first` to `last`, both included, lies in one of the runs of a cover.
+pub(crate) fn meets(runs: &[Run], first: u64, last: u64) -> bool
+    requires cover { IsCover runs.now }
+    requires order { first ≤ last }
+    ensures { IsTrue result ↔ ((at : ℕ) × LiesIn runs.now at × (first ≤ at) × (at ≤ last)) }
+{
+    let at = ending_by(runs, first);
+    match runs.get(at) {
+        Some(run) => run.start <= last,
+        None => false,
+    }
+}
+
+/// The number of the runs that end below the offset.
+fn ending_below(runs: &[Run], offset: u64) -> usize
+    requires { IsCover runs.now }
+    ensures bound { result ≤ length runs.now }
+    ensures below { AllWithin (λ r. r.end < offset) runs.now 0 result }
+    ensures above { AllWithin (λ r. offset ≤ r.end) runs.now result (length runs.now) }
+{
+    runs.partition_point(|run| run.end < offset)
+}
+
+/// The number of the runs that start at or below the offset.
+fn starting_by(runs: &[Run], offset: u64) -> usize
+    requires { IsCover runs.now }
+    ensures bound { result ≤ length runs.now }
+    ensures below { AllWithin (λ r. r.start ≤ offset) runs.now 0 result }
+    ensures above { AllWithin (λ r. offset < r.start) runs.now result (length runs.now) }
+{
+    runs.partition_point(|run| run.start <= offset)
+}
+
+/// From the least start of the run and the others to the greatest end.
+fn span(run: Run, others: &[Run]) -> Run
+    ensures { result ≡ spanned run others.now }
+{
+    let mut all = run;
+    for next in others {
+        all = Run {
+            start: all.start.min(next.start),
+            end: all.end.max(next.end),
+        };
+    }
+    all
+}
+
+/// From where to where the runs of a cover touch the run, and the run together with these.
+fn touched(runs: &[Run], run: Run) -> (usize, usize, Run)
+    requires cover { IsCover runs.now }
+    requires run { run.start < run.end }
+    ensures order { result.0 ≤ result.1 }
+    ensures bound { result.1 ≤ length runs.now }
+    ensures put { with_run run runs.now ≡ take result.0 runs.now ++ result.2 ∷ drop result.1 runs.now }
+{
+    let from = ending_below(runs, run.start);
+    let to = starting_by(runs, run.end);
+    let (front, _) = runs.split_at(to);
+    let (_, others) = front.split_at(from);
+    (from, to, span(run, others))
+}
+
+/// Puts the run among the runs of a cover, which have room for one more.
+pub(crate) fn put_run(runs: &mut Vec<Run>, run: Run)
+    requires cover { IsCover runs.old.items }
+    requires run { IsRun run }
+    requires room { vec_len runs.old < vec_capacity runs.old }
+    ensures items { runs.new.items ≡ with_run run runs.old.items }
+    ensures cover { IsCover runs.new.items }
+    ensures len { vec_len runs.new ≤ vec_len runs.old + 1 }
+    ensures room { vec_capacity runs.new ≡ vec_capacity runs.old }
+{
+    let (from, to, all) = touched(runs, run);
+    drop(runs.drain(from..to));
+    // There is room.
+    let Ok(()) = runs.insert(from, all) else {
+        unreachable!()
+    };
+}
