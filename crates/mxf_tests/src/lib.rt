@@ -10,6 +10,8 @@ mod batches;
 #[cfg(test)]
 mod catalogues;
 #[cfg(test)]
+mod covers;
+#[cfg(test)]
 mod files;
 #[cfg(test)]
 mod lengths;
