@@ -12,6 +12,8 @@ mod gaps;
 #[cfg(test)]
 mod index;
 #[cfg(test)]
+mod orders;
+#[cfg(test)]
 mod partitions;
 #[cfg(test)]
 mod preferences;
