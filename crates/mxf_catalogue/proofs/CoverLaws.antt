@@ -233,8 +233,12 @@ maximal_above low (r ∷ runs) m =
     let b : r.start < r.end = m.1 in
     elim (nat_lt low r.start) as (λ c. nat_lt low r.start ≡ c
     → AreMaximal low (cond c (run low r.start ∷ gaps_from r.end runs) (gaps_from r.end runs))) [
-      | true ↦ λ e. (omega arith, omega arith, lower (r.start + 1) r.end (gaps_from r.end runs) (omega arith)
-        (maximal_above r.end runs m.2))
+      | true ↦ λ e. (
+        omega arith,
+        omega arith,
+        lower (r.start + 1) r.end (gaps_from r.end runs) (omega arith)
+            (maximal_above r.end runs m.2),
+      )
       | false ↦ λ e. let f : r.start ≤ low = ltb-false _ _ e in absurd (omega arith)
     ] refl
 
@@ -245,8 +249,12 @@ maximal_gaps (r ∷ runs) m =
     elim (nat_lt 0 r.start) as (λ c. nat_lt 0 r.start ≡ c
     → AreMaximal 0 (cond c (run 0 r.start ∷ gaps_from r.end runs) (gaps_from r.end runs))) [
       | true ↦ λ e.
-          let f : 0 < r.start = ltb-true _ _ e in (omega arith, omega arith, lower (r.start + 1) r.end
-          (gaps_from r.end runs) (omega arith) (maximal_above r.end runs m.2))
+          let f : 0 < r.start = ltb-true _ _ e in (
+            omega arith,
+            omega arith,
+            lower (r.start + 1) r.end
+                (gaps_from r.end runs) (omega arith) (maximal_above r.end runs m.2),
+          )
       | false ↦ λ e. lower 0 r.end (gaps_from r.end runs) (omega arith) (maximal_above r.end runs m.2)
     ] refl
 
@@ -273,14 +281,17 @@ first_gap low r runs at m =
                       absurd (h.1.in_none ((LiesIn-first r runs at).1 (inl (record { from = f; before = omega arith }))))
                   | false ↦ λ g.
                       let k : r.end ≤ at = ltb-false _ _ g in
-                      inr (k, record {
-                        below = elim h.1.below.1 [
-                          | inl e ↦ (let t : at < h.1.below.0.end = h.1.below.2 in
-                            let u : at < r.end = subst (λ (q : Run). at < q.end) e t in absurd (omega arith))
-                          | inr i ↦ (h.1.below.0, i, h.1.below.2)
-                        ];
-                        in_none = λ i. h.1.in_none ((LiesIn-first r runs at).1 (inr i));
-                      })
+                      inr (
+                        k,
+                        record {
+                          below = elim h.1.below.1 [
+                            | inl e ↦ (let t : at < h.1.below.0.end = h.1.below.2 in
+                                let u : at < r.end = subst (λ (q : Run). at < q.end) e t in absurd (omega arith))
+                            | inr i ↦ (h.1.below.0, i, h.1.below.2)
+                          ];
+                          in_none = λ i. h.1.in_none ((LiesIn-first r runs at).1 (inr i));
+                        },
+                      )
                 ] refl
           ] refl,
       λ h. elim h [

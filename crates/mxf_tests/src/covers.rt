@@ -37,8 +37,14 @@ fn covers_are_joined_in_each_order(rt: HostRuntime) -> Result<(), Fail> {
     let mut second = Cover::new(alloc);
     second.add(40, 50)?;
     let joined = Cover::join(alloc, &first, &second)?;
-    assert_eq!(rt; pairs(alloc, &joined)?.as_slice(), [(0, 30), (40, 50)].as_slice());
-    assert_eq!(rt; gap_pairs(alloc, &joined)?.as_slice(), [(30, 40)].as_slice());
+    assert_eq!(rt;
+        pairs(alloc, &joined)?.as_slice(),
+        [(0, 30), (40, 50)].as_slice()
+    );
+    assert_eq!(rt;
+        gap_pairs(alloc, &joined)?.as_slice(),
+        [(30, 40)].as_slice()
+    );
     assert!(rt; Cover::join(alloc, &second, &first)?.same(&joined));
     assert!(rt; !first.same(&joined));
     Ok(())
