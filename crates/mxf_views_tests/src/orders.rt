@@ -251,7 +251,7 @@ fn pieces_give(
     Ok(true)
 }
 
-/// The packets before which a file can be cut in two pieces that give other bytes or answers, in one order or the other.
+/// The packets before which a cut of a file gives two pieces with other bytes or answers, in one order or the other.
 fn other_cuts(
     alloc: Global,
     file: &[u8],
@@ -270,7 +270,7 @@ fn other_cuts(
     Ok(others)
 }
 
-// Six packets of 388 bytes. A note has 33 bytes for the 20 bytes of key and length, and 16 bytes stand before the first.
+// Six packets of 388 bytes. A note has 33 bytes for the 20 bytes of key and length, and 16 bytes stand ahead of all.
 #[test]
 fn each_order_of_two_copies_gives_one_catalogue(rt: HostRuntime) -> Result<(), Fail> {
     let alloc = rt.alloc();
