@@ -5,5 +5,6 @@ pub mod Disputes
 pub mod FileReading
 pub mod History
 pub mod Joins
-pub mod LastNotes
+pub mod Moved
+pub mod Parts
 pub mod Runs

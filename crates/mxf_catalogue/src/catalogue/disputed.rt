@@ -5,7 +5,7 @@ ghost use Rattle.mxf_klv.specs.Parts.{NoteParts};
 ghost use Rattle.mxf_klv.specs.Rising.{In};
 ghost use Rattle.mxf_catalogue.specs.Content.{IsContent};
 ghost use Rattle.mxf_catalogue.specs.Disputes.{SharesByte, SharesOffset, Overlaps, IsDisputed, IsClear};
-ghost use Rattle.mxf_catalogue.specs.Disputes.{DisputedParts, IsDisputedOf};
+ghost use Rattle.mxf_catalogue.specs.Disputes.{DisputedParts, IsDisputedOf, disputed_parts};
 ghost use Rattle.mxf_catalogue.specs.Disputes.{is_byte_shared, is_offset_shared, is_overlapped, is_disputed};
 ghost use Rattle.mxf_catalogue.specs.Disputes.{disputed_notes};
 
@@ -38,17 +38,17 @@ pub struct DisputedNotes<'a> {
 }
 
 impl<'a> Model for DisputedNotes<'a> {
-    ghost use Rattle.std.specs.Prelude.{List};
-    ghost use Rattle.mxf_catalogue.specs.Disputes.{DisputedParts, disputed_of};
+    ghost use Rattle.std.specs.Prelude.{List, map};
+    ghost use Rattle.mxf_catalogue.specs.Disputes.{DisputedParts, disputed_parts};
 
     ghost Value = { List DisputedParts };
 
-    ghost view = { λ s. disputed_of s.left.now s.all.now };
+    ghost view = { λ s. map (λ n. disputed_parts n s.all.now) s.left.now };
 }
 
 impl<'a> DisputedNotes<'a> {
     pub(super) fn of(notes: &'a [Note]) -> DisputedNotes<'a>
-        ensures notes { result ≡ disputed_notes notes.now }
+        ensures notes { result ≡ map (λ n. disputed_parts n notes.now) notes.now }
         ensures bound { length result < 2 ^ 64 }
     {
         DisputedNotes {
@@ -66,19 +66,13 @@ impl<'a> Iterator for DisputedNotes<'a> {
     ghost remaining = { item_count (λ s. s) };
 
     fn next(&mut self) -> Option<Disputed<'a>> {
-        while let Some((note, left)) = self.left.split_first() {
-            self.left = left;
-            let same_offset = is_offset_shared(note, self.all);
-            let overlaps = is_overlapped(note, self.all);
-            if same_offset || overlaps {
-                return Some(Disputed {
-                    note,
-                    same_offset,
-                    overlaps,
-                });
-            }
-        }
-        None
+        let (note, left) = self.left.split_first()?;
+        self.left = left;
+        Some(Disputed {
+            note,
+            same_offset: is_offset_shared(note, self.all),
+            overlaps: is_overlapped(note, self.all),
+        })
     }
 }
 
@@ -103,13 +97,6 @@ fn is_overlapped(note: &Note, notes: &[Note]) -> bool
     ensures { result ≡ is_overlapped note.now notes.now }
 {
     notes.iter().any(|other| other.offset() != note.offset() && is_byte_shared(other, note))
-}
-
-/// Whether another of the notes shares a byte with it.
-pub(super) fn is_disputed(note: &Note, notes: &[Note]) -> bool
-    ensures { result ≡ is_disputed note.now notes.now }
-{
-    is_offset_shared(note, notes) || is_overlapped(note, notes)
 }
 
 /// A law of [`Catalogue::disputed`](crate::Catalogue::disputed): its list has exactly the disputed notes, in their

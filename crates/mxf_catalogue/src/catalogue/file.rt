@@ -12,9 +12,9 @@ mod entry;
 mod head;
 mod start;
 
-use super::Catalogue;
+use super::{Catalogue, Notes};
 use entry::{put_note, read_note};
-use mxf_klv::{Encode, Note, Progress, WriteFault};
+use mxf_klv::{Encode, Note, OutOfMemory, Progress, WriteFault};
 use start::{put_start, split_start};
 use std::alloc::{AllocError, AllocFailed, Global};
 use std::cmp::Ordering;
@@ -80,7 +80,10 @@ impl Catalogue {
     {
         let (count, rest) = split_start(bytes)?;
         let notes = read_notes(alloc, bytes, count, rest)?;
-        Ok(Catalogue { notes })
+        match Catalogue::of_notes(alloc, notes) {
+            Ok(all) => Ok(all),
+            Err(OutOfMemory) => Err(FileFault::OutOfMemory),
+        }
     }
 }
 
@@ -123,16 +126,16 @@ impl Encode for Catalogue {
 
     fn put_to<W: Write>(&self, progress: &mut Progress, writer: &mut W) -> Result<(), WriteFault> {
         put_start(self.len() as u64, progress, writer)?;
-        put_notes(&self.notes, progress, writer)
+        put_notes(self.notes(), progress, writer)
     }
 }
 
 fn put_notes<W: Write>(
-    notes: &[Note],
+    notes: Notes<'_>,
     progress: &mut Progress,
     writer: &mut W,
 ) -> Result<(), WriteFault>
-    ensures { Puts W.contents writer.old writer.new progress.old progress.new result (flat_map note_bytes notes.now) }
+    ensures { Puts W.contents writer.old writer.new progress.old progress.new result (flat_map note_bytes notes.entry) }
 {
     'notes: for note in notes {
         put_note(note, progress, writer)?;
