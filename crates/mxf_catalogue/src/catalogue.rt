@@ -177,7 +177,8 @@ impl Catalogue {
 
     /// The file offsets, in bytes, that lie in the span of some note.
     pub fn spans(&self) -> &Cover
-        ensures { Covers result.now self.now }
+        ensures spans { Covers result.now self.now }
+        ensures catalogue { IsCatalogue self.now }
     {
         &self.spans
     }
