@@ -41,7 +41,7 @@ first_less a b r e =
 pub offset_le : (m n : NoteParts) → note_cmp m n ≡ Less → m.offset ≤ n.offset
 offset_le m n e = first_less m.offset n.offset _ e
 
-not_same : (m n : NoteParts) → note_cmp m n ≡ Less → m ≢ n
+pub not_same : (m n : NoteParts) → note_cmp m n ≡ Less → m ≢ n
 not_same m n e same = let t = tied_itself note_total n in let u : note_cmp n n ≡ Less = subst (λ (x : NoteParts). note_cmp x n ≡ Less) same e in cc (t, u)
 
 -- a clear note ends at or before a later one begins

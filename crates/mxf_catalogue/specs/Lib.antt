@@ -7,4 +7,5 @@ pub mod History
 pub mod Joins
 pub mod Moved
 pub mod Parts
+pub mod Reach
 pub mod Runs

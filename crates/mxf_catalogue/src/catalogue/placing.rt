@@ -42,7 +42,7 @@ pub(super) fn ending_by(notes: &[Note], offset: u64) -> usize
 }
 
 /// The number of the notes that start below the offset.
-fn starting_below(notes: &[Note], offset: u64) -> usize
+pub(super) fn starting_below(notes: &[Note], offset: u64) -> usize
     requires { IsContent notes.now }
     ensures bound { result ≤ length notes.now }
     ensures below { AllWithin (λ n. n.offset < offset) notes.now 0 result }
