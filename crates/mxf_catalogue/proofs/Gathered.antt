@@ -30,7 +30,8 @@ In-gathered n c d notes every p =
 pub gathered : (c d notes every : List NoteParts) → IsContent c → IsPermutation (c ++ d ++ notes) every
     → union_of (union_of [] []) every ≡ union_of (union_of c d) notes
 gathered c d notes every r p =
-    same_content _ _ (IsContent-union_of [] every tt) (IsContent-union_of (union_of c d) notes (IsContent-union_of c d r))
+    same_content _ _ (IsContent-union_of [] every tt)
+    (IsContent-union_of (union_of c d) notes (IsContent-union_of c d r))
     (λ n.
     let left = In-union_of n [] every in
     let right = In-union_of n (union_of c d) notes in

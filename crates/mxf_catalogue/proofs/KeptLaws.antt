@@ -1,18 +1,19 @@
 -- What a catalogue keeps, once a note is there.
-use Rattle.std.specs.Prelude.{◌≡◌, ℕ, ◌+◌, ◌≤◌, ◌↔◌, List, [], map}
-use Rattle.std.proofs.Common.{sym, subst, inl, inr, refl}
+use Rattle.std.specs.Prelude.{◌≡◌, ℕ, ◌+◌, ◌≤◌, List, [], map}
+use Rattle.std.proofs.Common.{sym, subst, inl, inr}
 use Rattle.mxf_klv.specs.Parts.{NoteParts}
-use Rattle.mxf_klv.specs.Note.{IsNote, end_of, greatest_end}
+use Rattle.mxf_klv.specs.Note.{IsNote, end_of}
 use Rattle.mxf_klv.specs.Rising.{In}
 use Rattle.mxf_catalogue.specs.declared.run.Run.{Run}
 use Rattle.mxf_catalogue.specs.Content.{IsCatalogue, union_of, with_note}
-use Rattle.mxf_catalogue.specs.Covers.{IsCover, IsRun, spanned, with_run}
+use Rattle.mxf_catalogue.specs.Covers.{IsRun, spanned, with_run}
 use Rattle.mxf_catalogue.specs.Disputes.{SharesByte}
 use Rattle.mxf_catalogue.specs.Parts.{AreParts, Covers, IsKept, IsWhole, away_from, disputed_with, run_of, touching}
 use Rattle.mxf_catalogue.specs.Runs.{LiesIn}
 use Rattle.mxf_catalogue.proofs.ContentLaws.{In-union_of, In-with_note, IsCatalogue-union_of, all-In}
 use Rattle.mxf_catalogue.proofs.CoverLaws.{IsCover-with_run}
-use Rattle.mxf_catalogue.proofs.PartLaws.{In-disputed_with, In-touching, parts_with_clear, parts_with_disputed, some_member}
+use Rattle.mxf_catalogue.proofs.PartLaws.{In-disputed_with, In-touching, parts_with_clear, parts_with_disputed}
+use Rattle.mxf_catalogue.proofs.PartLaws.{some_member}
 use Rattle.mxf_catalogue.proofs.SpanCovers.{Covers-with, Covers-with_all, met_note, run_of-IsRun, spanned-IsRun}
 
 -- nothing is kept
@@ -22,7 +23,8 @@ whole_none =
     let parts : AreParts [] [] =
     record { clear_is = none; disputed_is = none; apart = λ m n h k ne s. h; shared = λ n h. absurd h } in
     let covers : Covers [] [] = λ at. (λ h. absurd h.1, λ h. absurd h.1) in
-    record { kept = record { parts = parts; cover = record { maximal = tt; within = tt }; covers = covers }; covers = covers }
+    record { kept = record { parts = parts; cover = record { maximal = tt; within = tt }; covers = covers }; covers =
+    covers }
 
 -- the notes of both parts
 pub union_is : (c d : List NoteParts) → AreParts c d → IsCatalogue (union_of c d)

@@ -1,5 +1,6 @@
 -- How a note is disputed, told from its neighbours and from how far the notes before it reach.
-use Rattle.std.specs.Prelude.{◌≡◌, ◌≢◌, ℕ, ◌+◌, ◌-◌, ◌<◌, ◌≤◌, max, nat_lt, ◌||◌, Bool, true, false, List, [], ◌∷◌, ◌++◌, length, ◌⊎◌, refl}
+use Rattle.std.specs.Prelude.{◌≡◌, ◌≢◌, ℕ, ◌+◌, ◌-◌, ◌<◌, ◌≤◌, max, nat_lt, ◌||◌, Bool, true, false, List, [], ◌∷◌}
+use Rattle.std.specs.Prelude.{◌++◌, length, ◌⊎◌, refl}
 use Rattle.std.specs.List.{AllWithin}
 use Rattle.std.specs.declared.cmp.Ordering.TheVariants.{Less}
 use Rattle.std.proofs.Common.{sym, ap, subst, inl, inr, arith, get_or, append_assoc, ◌∙◌}
@@ -10,8 +11,9 @@ use Rattle.mxf_klv.specs.Note.{end_of, note_cmp}
 use Rattle.mxf_klv.specs.NoteOrder.{note_total}
 use Rattle.mxf_klv.specs.Rising.{In, less_in}
 use Rattle.mxf_catalogue.specs.Content.{IsContent}
-use Rattle.mxf_catalogue.specs.Disputes.{DisputedParts, SharesByte, SharesOffset, Overlaps, disputed_parts, is_offset_shared, is_overlapped}
-use Rattle.mxf_catalogue.specs.Reach.{ArePassed, IsLeft, IsReach, StandsIn}
+use Rattle.mxf_catalogue.specs.Disputes.{DisputedParts, SharesOffset, Overlaps, disputed_parts}
+use Rattle.mxf_catalogue.specs.Disputes.{is_offset_shared, is_overlapped}
+use Rattle.mxf_catalogue.specs.Reach.{IsLeft, IsReach, StandsIn}
 use Rattle.mxf_catalogue.proofs.DisputeLaws.{is_offset_shared-SharesOffset, is_overlapped-Overlaps, same_bool}
 use Rattle.mxf_catalogue.proofs.Fronts.{In-append}
 use Rattle.mxf_catalogue.proofs.Places.{In-at, Contains-from_In}
@@ -71,7 +73,8 @@ module _ (n : NoteParts) (all left : List NoteParts) (above lower : ℕ) (s : St
             | true ↦ λ t. inr (ltb-true _ _ t)
             | false ↦ λ t.
                 let z : at ≤ 0 = ltb-false _ _ t in
-                let u : n.offset + 1 ≤ (get_or left c.0 h.0).offset = higher c.0 h.0 (omega arith) l in absurd (omega arith)
+                let u : n.offset + 1 ≤ (get_or left c.0 h.0).offset = higher c.0 h.0 (omega arith) l in
+                absurd (omega arith)
           ] refl
     ]
 
@@ -116,7 +119,8 @@ module _ (n : NoteParts) (all left : List NoteParts) (above lower : ℕ) (s : St
                     absurd (omega arith)
                 | false ↦ λ t.
                     let u : at ≤ p.0 = ltb-false _ _ t in
-                    let v : (get_or left at n).offset ≤ (get_or left p.0 n).offset = offsets_rise left left_rises at p.0 n u l in
+                    let v : (get_or left at n).offset ≤ (get_or left p.0 n).offset =
+                    offsets_rise left left_rises at p.0 n u l in
                     let w : (get_or left p.0 n).offset ≡ h.0.offset =
                     ap (λ (m : NoteParts). m.offset) (get_or_default left p.0 n h.0 l) ∙ e in
                     inr (omega arith, omega arith)
@@ -138,7 +142,8 @@ module _ (n : NoteParts) (all left : List NoteParts) (above lower : ℕ) (s : St
           m.0,
           in_all m.0 (inl m.1),
           apart,
-          (n.offset, record { from = omega arith; before = omega arith }, record { from = omega arith; before = omega arith }),
+          (n.offset, record { from = omega arith; before = omega arith },
+              record { from = omega arith; before = omega arith }),
         )
     overlapped (inr (k, l)) =
         let m = get_or left at n in
@@ -148,7 +153,8 @@ module _ (n : NoteParts) (all left : List NoteParts) (above lower : ℕ) (s : St
           m,
           in_all m (inr h),
           apart,
-          (m.offset, record { from = omega arith; before = omega arith }, record { from = omega arith; before = omega arith }),
+          (m.offset, record { from = omega arith; before = omega arith },
+              record { from = omega arith; before = omega arith }),
         )
 
 -- a note with its marks
@@ -184,7 +190,8 @@ marks_are n all left above lower at to s bound same higher bound_to starts ends 
     ])))
     (λ t. is_q ∙ elim (overlaps n all left above lower s at bound same higher (lapped.0 t)) [
       | inl h ↦ or_left (nat_lt n.offset lower) (nat_lt at to) (lt-ltb _ _ h)
-      | inr h ↦ or_right (nat_lt n.offset lower) (nat_lt at to) (lt-ltb _ _ (elim (nat_lt at to) as (λ b. nat_lt at to ≡ b
+      | inr h ↦ or_right (nat_lt n.offset lower) (nat_lt at to)
+          (lt-ltb _ _ (elim (nat_lt at to) as (λ b. nat_lt at to ≡ b
         → at < to) [
           | true ↦ λ e. ltb-true _ _ e
           | false ↦ λ e.

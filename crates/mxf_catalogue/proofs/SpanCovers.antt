@@ -100,7 +100,8 @@ Covers-with_all x ms runs old new c touch same at =
 
 -- where a cover of notes meets the span of a note, the note shares a byte with one of them
 pub met_note : (x : NoteParts) (runs : List Run) (notes : List NoteParts) → Covers runs notes
-    → ((at : ℕ) × LiesIn runs at × (x.offset ≤ at) × (at + 1 ≤ end_of x)) ↔ ((n : NoteParts) × In n notes × SharesByte x n)
+    → ((at : ℕ) × LiesIn runs at × (x.offset ≤ at) × (at + 1 ≤ end_of x))
+    ↔ ((n : NoteParts) × In n notes × SharesByte x n)
 met_note x runs notes c = (
   λ h. let s = (c h.0).0 h.1 in (s.0, s.1, (h.0, record { from = h.2; before = h.3 }, s.2)),
   λ h. let s = h.2 in (s.0, (c s.0).1 (h.0, h.1, s.2), s.1.from, s.1.before),

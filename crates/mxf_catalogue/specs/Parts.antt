@@ -1,5 +1,5 @@
 -- A content in two parts, its clear notes and its disputed ones, and what a new note moves (this project's profile).
-use Rattle.std.specs.Prelude.{◌≡◌, ◌≢◌, ◌↔◌, ◌⊎◌, ℕ, List, filter, map, not, nat_lt}
+use Rattle.std.specs.Prelude.{◌≢◌, ◌↔◌, ◌⊎◌, ℕ, List, filter, map, not}
 use Rattle.mxf_klv.specs.Parts.{NoteParts}
 use Rattle.mxf_klv.specs.Note.{IsInSpan, end_of}
 use Rattle.mxf_klv.specs.Rising.{In}
@@ -50,10 +50,6 @@ touching x notes = filter (λ n. is_byte_shared x n) notes
 -- Of some notes those that share none with it.
 abbrev pub away_from : NoteParts → List NoteParts → List NoteParts
 away_from x notes = filter (λ n. not (is_byte_shared x n)) notes
-
--- Of some notes those that end above an offset.
-abbrev pub ending_above : ℕ → List NoteParts → List NoteParts
-ending_above offset notes = filter (λ n. nat_lt offset (end_of n)) notes
 
 -- The disputed part, once a note is there that shares a byte with another: it takes the clear notes that it touches.
 abbrev pub disputed_with : NoteParts → List NoteParts → List NoteParts → List NoteParts

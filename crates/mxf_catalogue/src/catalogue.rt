@@ -73,8 +73,8 @@ impl Catalogue {
 
     /// Adds the note. A held note is `Repeated` and takes no memory.
     ///
-    /// The only fault is want of memory. The note comes back and the catalogue is unchanged: all memory is taken before a
-    /// note is moved.
+    /// The only fault is want of memory. The note comes back and the catalogue is unchanged: all memory is taken before
+    /// a note is moved.
     pub fn add(&mut self, note: Note) -> Result<Change, AddFault>
         ensures added { OnOk result (self.new ≡ with_note note self.old) }
         ensures repeated { (result ≡ Ok Change.Repeated) ↔ In note self.old }

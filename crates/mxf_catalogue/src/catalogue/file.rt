@@ -4,7 +4,8 @@ ghost use Rattle.std.specs.Prelude.{IfErr, IfOk, IsTrue, Result, Ok, Err};
 ghost use Rattle.mxf_klv.specs.Parts.{NoteParts};
 ghost use Rattle.mxf_klv.specs.Written.{Puts};
 ghost use Rattle.mxf_catalogue.specs.Content.{IsCatalogue, IsContent};
-ghost use Rattle.mxf_catalogue.specs.CatalogueFile.{IsFileOf, IsRefused, ReadsFile, file_bytes, note_bytes, start_bytes};
+ghost use Rattle.mxf_catalogue.specs.CatalogueFile.{IsFileOf, IsRefused, ReadsFile};
+ghost use Rattle.mxf_catalogue.specs.CatalogueFile.{file_bytes, note_bytes, start_bytes};
 ghost use Rattle.mxf_catalogue.specs.declared.catalogue.file.FileFault.{FileFault};
 ghost use Rattle.mxf_catalogue.specs.declared.catalogue.file.FileFault.TheVariants as faults;
 

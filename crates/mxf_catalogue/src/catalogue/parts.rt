@@ -7,7 +7,7 @@ ghost use Rattle.mxf_klv.specs.Rising.{In};
 ghost use Rattle.mxf_catalogue.specs.Content.{IsContent, union_of, with_note};
 ghost use Rattle.mxf_catalogue.specs.Covers.{IsCover};
 ghost use Rattle.mxf_catalogue.specs.Disputes.{SharesByte};
-ghost use Rattle.mxf_catalogue.specs.Parts.{AreParts, IsKept, IsWhole, touching, ending_above};
+ghost use Rattle.mxf_catalogue.specs.Parts.{AreParts, IsKept, IsWhole, touching};
 
 use super::placing::{hull, is_in, move_touched, offsets, put, touched};
 use crate::cover::{meets, put_run};
@@ -54,8 +54,8 @@ impl Parts {
         ensures disputed_spans { self.new.disputed_spans.items ≡ self.old.disputed_spans.items }
         ensures moved { IfOk result (λ v. v.items ≡ map (λ n. n.offset) (touching note.now self.old.clear.items)) }
         ensures clear_room { OnOk result (vec_len self.new.clear < vec_capacity self.new.clear) }
-        ensures disputed_room { OnOk result
-            (vec_len self.new.disputed + length (touching note.now self.new.clear.items) < vec_capacity self.new.disputed) }
+        ensures disputed_room { OnOk result (vec_len self.new.disputed + length (touching note.now self.new.clear.items)
+            < vec_capacity self.new.disputed) }
         ensures spans_room { OnOk result (vec_len self.new.disputed_spans < vec_capacity self.new.disputed_spans) }
     {
         let moved = touched(&self.clear, note);

@@ -15,7 +15,8 @@ use Rattle.mxf_catalogue.proofs.catalogue.Catalogue.add.Goals as goal
 pub returns-then-have-clause-added : goal.returns-then-have-clause-added
 returns-then-have-clause-added c =
     let parts = c.self.inside.parts in
-    let all = subst IsCatalogue c.self.view_is (union_is parts.clear.items parts.disputed.items c.self.invariant.kept.parts) in
+    let all = subst IsCatalogue c.self.view_is
+    (union_is parts.clear.items parts.disputed.items c.self.invariant.kept.parts) in
     let held = subst (λ (l : List NoteParts). In c.args.note l) c.self.view_is (c.have.ensures.0 c.if-have.true) in
     sym (with_one_present note_total note_cmp-IsAntisymmetric c.args.note c.args.self.now all.content held)
 

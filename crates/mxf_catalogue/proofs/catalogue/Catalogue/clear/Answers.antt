@@ -15,5 +15,6 @@ returns-clause-notes c =
 pub returns-clause-apart : goal.returns-clause-apart
 returns-clause-apart c =
     let parts = c.self.inside.parts in
-    let all = subst IsCatalogue c.self.view_is (union_is parts.clear.items parts.disputed.items c.self.invariant.kept.parts) in
+    let all = subst IsCatalogue c.self.view_is
+    (union_is parts.clear.items parts.disputed.items c.self.invariant.kept.parts) in
     subst (AreApart 0) (sym (returns-clause-notes c)) (AreApart-clear_notes c.args.self.now all.content)

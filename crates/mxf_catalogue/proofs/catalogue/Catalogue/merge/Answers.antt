@@ -12,13 +12,17 @@ on_ok (Err e) f h = h
 pub returns-then-stand_below-clause-merged : goal.returns-then-stand_below-clause-merged
 returns-then-stand_below-clause-merged c =
     let parts = c.self.inside.parts in
-    let all = subst IsCatalogue c.self.view_is (union_is parts.clear.items parts.disputed.items c.self.invariant.kept.parts) in
-    let same = union_of-members c.args.self.now c.in_ok-notes.notes.items c.args.other all.content c.in_ok-notes.ensures in
+    let all = subst IsCatalogue c.self.view_is
+    (union_is parts.clear.items parts.disputed.items c.self.invariant.kept.parts) in
+    let same = union_of-members c.args.self.now c.in_ok-notes.notes.items c.args.other all.content
+    c.in_ok-notes.ensures in
     on_ok c.put_all.result (λ e. e ∙ same) c.put_all.ensures.merged
 
 pub returns-clause-merged : goal.returns-clause-merged
 returns-clause-merged c =
     let parts = c.self.inside.parts in
-    let all = subst IsCatalogue c.self.view_is (union_is parts.clear.items parts.disputed.items c.self.invariant.kept.parts) in
-    let same = union_of-members c.args.self.now c.in_ok-notes.notes.items c.args.other all.content c.in_ok-notes.ensures in
+    let all = subst IsCatalogue c.self.view_is
+    (union_is parts.clear.items parts.disputed.items c.self.invariant.kept.parts) in
+    let same = union_of-members c.args.self.now c.in_ok-notes.notes.items c.args.other all.content
+    c.in_ok-notes.ensures in
     on_ok c.rebuild.result (λ e. e ∙ same) c.rebuild.ensures.merged

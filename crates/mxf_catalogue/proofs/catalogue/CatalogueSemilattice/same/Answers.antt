@@ -11,8 +11,10 @@ pub returns-then-eq-clause-members : goal.returns-then-eq-clause-members
 returns-then-eq-clause-members c =
     let a = c.self.inside.parts in
     let b = c.other.inside.parts in
-    let first = (slice_eq-Decides note_eq-Decides a.clear.items b.clear.items c.eq.result c.eq.ensures).0 c.if-eq.true in
-    let d = slice_eq-Decides note_eq-Decides a.disputed.items b.disputed.items c.eq-then-eq.result c.eq-then-eq.ensures in
+    let first = (slice_eq-Decides note_eq-Decides a.clear.items b.clear.items c.eq.result c.eq.ensures).0
+    c.if-eq.true in
+    let d = slice_eq-Decides note_eq-Decides a.disputed.items b.disputed.items c.eq-then-eq.result
+    c.eq-then-eq.ensures in
     let same = λ (h : c.eq-then-eq.result ≡ true).
     sym c.self.view_is ∙ (λ i. union_of (first i) (d.0 h i)) ∙ c.other.view_is in
     let back = same_parts a.clear.items a.disputed.items b.clear.items b.disputed.items c.self.invariant.kept.parts
@@ -28,8 +30,10 @@ pub returns-then-eq-clause-list : goal.returns-then-eq-clause-list
 returns-then-eq-clause-list c =
     let a = c.self.inside.parts in
     let b = c.other.inside.parts in
-    let first = (slice_eq-Decides note_eq-Decides a.clear.items b.clear.items c.eq.result c.eq.ensures).0 c.if-eq.true in
-    let d = slice_eq-Decides note_eq-Decides a.disputed.items b.disputed.items c.eq-then-eq.result c.eq-then-eq.ensures in
+    let first = (slice_eq-Decides note_eq-Decides a.clear.items b.clear.items c.eq.result c.eq.ensures).0
+    c.if-eq.true in
+    let d = slice_eq-Decides note_eq-Decides a.disputed.items b.disputed.items c.eq-then-eq.result
+    c.eq-then-eq.ensures in
     let members = returns-then-eq-clause-members c in (
       λ h. sym c.self.view_is ∙ (λ i. union_of (first i) (d.0 h i)) ∙ c.other.view_is,
       λ e. members.1 (λ (m : NoteParts). (subst (In m) e, subst (In m) (sym e))),

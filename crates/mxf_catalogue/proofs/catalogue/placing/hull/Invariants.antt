@@ -4,4 +4,5 @@ use Rattle.mxf_catalogue.specs.Parts.{run_of}
 use Rattle.mxf_catalogue.proofs.catalogue.placing.hull.Given as goal
 
 abbrev pub invariant-loop-other : goal.invariant-loop-other
-invariant-loop-other l = spanned l.all (map run_of (drop l.other-index l.others)) ≡ spanned (run_of l.note) (map run_of l.others)
+invariant-loop-other l = spanned l.all (map run_of (drop l.other-index l.others)) ≡ spanned (run_of l.note)
+    (map run_of l.others)

@@ -12,7 +12,10 @@ pub loop-moved-init : goal.loop-moved-init
 loop-moved-init c =
     let same = c.deref.ensures.value in
     let given : drain_items c.into_iter-moved-iterator.result ≡ touching c.args.note.now c.args.notes.now.items =
-    ap drain_items c.into_iter-moved-iterator.ensures.into_iter_gives ∙ c.drain-moved-items.ensures.rest ∙ middle c.args.notes.now.items _ _ c.range-from.ensures.order ∙ subst (λ l. drop c.range-from.result.0 (take c.range-from.result.1 l) ≡ touching c.args.note.now l) same c.range-from.ensures.touching in
+    ap drain_items c.into_iter-moved-iterator.ensures.into_iter_gives ∙ c.drain-moved-items.ensures.rest
+    ∙ middle c.args.notes.now.items _ _ c.range-from.ensures.order
+    ∙ subst (λ l. drop c.range-from.result.0 (take c.range-from.result.1 l) ≡ touching c.args.note.now l) same
+    c.range-from.ensures.touching in
     record {
       moved = ap (union_of c.args.others.now.items) given;
       content = c.requires.others;

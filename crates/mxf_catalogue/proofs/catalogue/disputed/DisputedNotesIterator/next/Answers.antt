@@ -1,5 +1,4 @@
 use Rattle.std.proofs.Common.{◌+◌, ◌∙◌, ap, arith, max, subst, sym, ℕ}
-use Rattle.mxf_klv.specs.Note.{end_of}
 use Rattle.mxf_catalogue.specs.Reach.{IsLeft}
 use Rattle.mxf_catalogue.proofs.MarkLaws.{left_behind, stands_in}
 use Rattle.mxf_catalogue.proofs.catalogue.disputed.DisputedNotesIterator.next.Goals as goal

@@ -1,10 +1,6 @@
-use Rattle.std.proofs.Common.{◌<◌, arith, sym, ◌∙◌, ap, subst, map}
-use Rattle.mxf_klv.specs.Parts.{NoteParts}
-use Rattle.mxf_klv.specs.Rising.{In}
-use Rattle.mxf_catalogue.specs.declared.run.Run.{Run}
+use Rattle.std.proofs.Common.{sym, ◌∙◌, ap, subst, map}
 use Rattle.mxf_catalogue.specs.Content.{with_note, union_of}
 use Rattle.mxf_catalogue.specs.Covers.{IsRun, with_run, spanned}
-use Rattle.mxf_catalogue.specs.Disputes.{SharesByte}
 use Rattle.mxf_catalogue.specs.Parts.{IsKept, StandApart, away_from, disputed_with, run_of, touching}
 use Rattle.mxf_catalogue.proofs.KeptLaws.{hull-IsRun, kept_with_clear, kept_with_disputed}
 use Rattle.mxf_catalogue.proofs.PartLaws.{apart_of, view_with_clear, view_with_disputed}
@@ -32,7 +28,8 @@ returns-then-are_apart_from-clause-kept c =
     let ds = c.args.self.now.disputed.items in
     let few = c.args.self.now.disputed_spans.items in
     subst (λ l. IsKept l ds few) (sym c.put.ensures.items)
-    (kept_with_clear n cs ds few c.offset.ensures.note c.requires.kept (c.are_apart_from.ensures.far c.if-are_apart_from.true))
+    (kept_with_clear n cs ds few c.offset.ensures.note c.requires.kept
+        (c.are_apart_from.ensures.far c.if-are_apart_from.true))
 
 pub returns-then-are_apart_from-clause-content : goal.returns-then-are_apart_from-clause-content
 returns-then-are_apart_from-clause-content c =

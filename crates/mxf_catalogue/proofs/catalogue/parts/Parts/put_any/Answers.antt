@@ -1,6 +1,5 @@
-use Rattle.std.proofs.Common.{arith, sym, subst, ap, ◌∙◌}
+use Rattle.std.proofs.Common.{arith, sym, subst, ◌∙◌}
 use Rattle.mxf_klv.specs.NoteOrder.{note_total, note_cmp-IsAntisymmetric}
-use Rattle.mxf_klv.specs.Rising.{In}
 use Rattle.mxf_klv.proofs.RisingLemmas.{with_one_present}
 use Rattle.mxf_catalogue.specs.Content.{union_of}
 use Rattle.mxf_catalogue.specs.Covers.{with_run}
@@ -10,7 +9,6 @@ use Rattle.mxf_catalogue.specs.Runs.{run}
 use Rattle.mxf_catalogue.proofs.ContentLaws.{IsContent-union_of}
 use Rattle.mxf_catalogue.proofs.KeptLaws.{covers_with}
 use Rattle.mxf_catalogue.proofs.Lists.{length-filter_le}
-use Rattle.mxf_catalogue.proofs.SpanCovers.{run_of-IsRun}
 use Rattle.mxf_catalogue.proofs.catalogue.parts.Parts.put_any.Goals as goal
 
 pub returns-then-have-clause-content : goal.returns-then-have-clause-content
