@@ -51,8 +51,11 @@ pub IsCover-union_of_runs : (runs others : List Run) → IsCover runs → IsCove
     → IsCover (union_of_runs runs others)
 IsCover-union_of_runs runs [] c d = c
 IsCover-union_of_runs runs (s ∷ others) c d =
-    let rest : IsCover others = record { maximal = lower 0 (s.end + 1) others (omega arith) d.maximal.2; within =
-    d.within.1 } in
+    let rest : IsCover others = record {
+      maximal = lower 0 (s.end + 1) others (omega arith) d.maximal.2;
+      within =
+          d.within.1;
+    } in
     let one : IsRun s = record { order = d.maximal.1; within = d.within.0 } in
     IsCover-union_of_runs (with_run s runs) others (IsCover-with_run s runs one c) rest
 

@@ -18,12 +18,12 @@ In-gathered n c d notes every p =
     let inner = In-append n c d in
     let both = In-union_of n c d in (
       λ h. elim (outer.0 (In-from_Contains n _
-      (Contains-permutation _ _ n (IsPermutation-sym _ _ p) (Contains-from_In n every h)))) [
-        | inl i ↦ inl (both.1 (inner.0 i))
-        | inr i ↦ inr i
-      ],
+          (Contains-permutation _ _ n (IsPermutation-sym _ _ p) (Contains-from_In n every h)))) [
+            | inl i ↦ inl (both.1 (inner.0 i))
+            | inr i ↦ inr i
+          ],
       λ h. In-from_Contains n every (Contains-permutation _ _ n p (Contains-from_In n _
-      (outer.1 (elim h [ inl i ↦ inl (inner.1 (both.0 i)) | inr i ↦ inr i ])))),
+          (outer.1 (elim h [ inl i ↦ inl (inner.1 (both.0 i)) | inr i ↦ inr i ])))),
     )
 
 -- put into nothing

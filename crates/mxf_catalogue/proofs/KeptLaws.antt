@@ -23,8 +23,11 @@ whole_none =
     let parts : AreParts [] [] =
     record { clear_is = none; disputed_is = none; apart = λ m n h k ne s. h; shared = λ n h. absurd h } in
     let covers : Covers [] [] = λ at. (λ h. absurd h.1, λ h. absurd h.1) in
-    record { kept = record { parts = parts; cover = record { maximal = tt; within = tt }; covers = covers }; covers =
-    covers }
+    record {
+      kept = record { parts = parts; cover = record { maximal = tt; within = tt }; covers = covers };
+      covers =
+          covers;
+    }
 
 -- the notes of both parts
 pub union_is : (c d : List NoteParts) → AreParts c d → IsCatalogue (union_of c d)

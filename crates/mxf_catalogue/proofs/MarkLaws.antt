@@ -142,8 +142,11 @@ module _ (n : NoteParts) (all left : List NoteParts) (above lower : ℕ) (s : St
           m.0,
           in_all m.0 (inl m.1),
           apart,
-          (n.offset, record { from = omega arith; before = omega arith },
-              record { from = omega arith; before = omega arith }),
+          (
+            n.offset,
+            record { from = omega arith; before = omega arith },
+            record { from = omega arith; before = omega arith },
+          ),
         )
     overlapped (inr (k, l)) =
         let m = get_or left at n in
@@ -153,8 +156,11 @@ module _ (n : NoteParts) (all left : List NoteParts) (above lower : ℕ) (s : St
           m,
           in_all m (inr h),
           apart,
-          (m.offset, record { from = omega arith; before = omega arith },
-              record { from = omega arith; before = omega arith }),
+          (
+            m.offset,
+            record { from = omega arith; before = omega arith },
+            record { from = omega arith; before = omega arith },
+          ),
         )
 
 -- a note with its marks
@@ -192,13 +198,13 @@ marks_are n all left above lower at to s bound same higher bound_to starts ends 
       | inl h ↦ or_left (nat_lt n.offset lower) (nat_lt at to) (lt-ltb _ _ h)
       | inr h ↦ or_right (nat_lt n.offset lower) (nat_lt at to)
           (lt-ltb _ _ (elim (nat_lt at to) as (λ b. nat_lt at to ≡ b
-        → at < to) [
-          | true ↦ λ e. ltb-true _ _ e
-          | false ↦ λ e.
-              let g : to ≤ at = ltb-false _ _ e in
-              let k : end_of n ≤ (get_or left at n).offset = ends at n g h.0 in
-              let l : (get_or left at n).offset < end_of n = h.1 in absurd (omega arith)
-        ] refl))
+          → at < to) [
+            | true ↦ λ e. ltb-true _ _ e
+            | false ↦ λ e.
+                let g : to ≤ at = ltb-false _ _ e in
+                let k : end_of n ≤ (get_or left at n).offset = ends at n g h.0 in
+                let l : (get_or left at n).offset < end_of n = h.1 in absurd (omega arith)
+          ] refl))
     ]) in
     λ i. record { note = n; same_offset = one i; overlaps = two i }
 

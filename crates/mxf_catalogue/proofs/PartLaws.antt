@@ -45,8 +45,11 @@ touches_or_not : (x n : NoteParts) → SharesByte x n ⊎ (SharesByte x n → �
 touches_or_not x n =
     let s = is_byte_shared-SharesByte x n in
     elim (is_byte_shared x n) as (λ b. is_byte_shared x n ≡ b
-    → SharesByte x n ⊎ (SharesByte x n → ⊥)) [ true ↦ λ e. inl (s.0 e) | false ↦ λ e. inr (λ k. let t = s.1 k in
-    cc (t, e)) ] refl
+    → SharesByte x n ⊎ (SharesByte x n → ⊥)) [
+      | true ↦ λ e. inl (s.0 e)
+      | false ↦ λ e. inr (λ k. let t = s.1 k in
+          cc (t, e))
+    ] refl
 
 -- The clear part is the list of the clear notes.
 pub clear_part : (c d : List NoteParts) → AreParts c d → c ≡ clear_notes (union_of c d)
@@ -55,11 +58,17 @@ clear_part c d p =
     same_content c (clear_notes u) p.clear_is.content
     (IsContent-clear_notes u (IsContent-union_of c d p.clear_is.content))
     (λ n. (
-      (λ h. (In-clear_notes n u).1 (record { held = (In-union_of n c d).1 (inl h); undisputed =
-          λ k. p.apart n k.0 h ((In-union_of k.0 c d).0 k.1) (λ e. k.2 (sym e)) (SharesByte-symmetric k.0 n k.3) })),
+      (λ h. (In-clear_notes n u).1 (record {
+        held = (In-union_of n c d).1 (inl h);
+        undisputed =
+            λ k. p.apart n k.0 h ((In-union_of k.0 c d).0 k.1) (λ e. k.2 (sym e)) (SharesByte-symmetric k.0 n k.3);
+      })),
       (λ h. let k = (In-clear_notes n u).0 h in
-          elim ((In-union_of n c d).0 k.held) [ inl i ↦ i | inr j ↦ absurd
-          (k.undisputed (let s = p.shared n j in (s.0, (In-union_of s.0 c d).1 (inr s.1), s.2, s.3))) ]),
+          elim ((In-union_of n c d).0 k.held) [
+            | inl i ↦ i
+            | inr j ↦ absurd
+                (k.undisputed (let s = p.shared n j in (s.0, (In-union_of s.0 c d).1 (inr s.1), s.2, s.3)))
+          ]),
     ))
 
 -- The parts together, once a note is there.
@@ -83,12 +92,16 @@ parts_with_clear x c d is p far = record {
   apart = λ m n h k ne s.
       let old : (n : NoteParts) → In n (with_note x c) ⊎ In n d
       → (n ≡ x) ⊎ (In n c ⊎ In n d) =
-      λ n i. elim i [ inl j ↦ elim ((In-with_note n x c).0 j) [ inl e ↦ inl e | inr l ↦ inr (inl l) ]
-          | inr j ↦ inr (inr j) ] in
+      λ n i. elim i [
+        | inl j ↦ elim ((In-with_note n x c).0 j) [ inl e ↦ inl e | inr l ↦ inr (inl l) ]
+        | inr j ↦ inr (inr j)
+      ] in
       elim ((In-with_note m x c).0 h) [
         | inl e ↦ elim (old n k) [ inl f ↦ ne (e ∙ sym f) | inr i ↦ far n i (subst (λ y. SharesByte y n) e s) ]
-        | inr i ↦ elim (old n k) [ inl f ↦ far m (inl i) (subst (λ y. SharesByte y m) f (SharesByte-symmetric m n s))
-            | inr j ↦ p.apart m n i j ne s ]
+        | inr i ↦ elim (old n k) [
+          | inl f ↦ far m (inl i) (subst (λ y. SharesByte y m) f (SharesByte-symmetric m n s))
+          | inr j ↦ p.apart m n i j ne s
+        ]
       ];
   shared = p.shared;
 }
@@ -120,7 +133,7 @@ parts_with_disputed x c d is p new hit =
       clear_is = IsCatalogue-filter (λ n. not (is_byte_shared x n)) c p.clear_is;
       disputed_is = IsCatalogue-with_note x _ is
           (IsCatalogue-union_of d (touching x c) p.disputed_is
-              (IsCatalogue-filter (λ n. is_byte_shared x n) c p.clear_is));
+          (IsCatalogue-filter (λ n. is_byte_shared x n) c p.clear_is));
       apart = λ m n h k ne s.
           let a = (In-away_from x m c).0 h in
           elim k [
@@ -134,9 +147,13 @@ parts_with_disputed x c d is p new hit =
         | inl e ↦
             let m = hit.0 in
             let in_it : In m (disputed_with x c d) = (there m).1
-            (inr (elim hit.1 [ inl i ↦ inr (i, hit.2) | inr i ↦ inl i ])) in
-            (m, in_it, (λ f. other m hit.1 (sym (f ∙ e))), subst (SharesByte m) (sym e)
-                (SharesByte-symmetric x m hit.2))
+            (inr (elim hit.1 [ inl i ↦ inr (i, hit.2) | inr i ↦ inl i ])) in (
+              m,
+              in_it,
+              (λ f. other m hit.1 (sym (f ∙ e))),
+              subst (SharesByte m) (sym e)
+                  (SharesByte-symmetric x m hit.2),
+            )
         | inr k ↦ elim k [
           | inl i ↦ let s = p.shared n i in (s.0, (there s.0).1 (inr (inl s.1)), s.2, s.3)
           | inr i ↦ (x, (there x).1 (inl refl), other n (inl i.0), i.1)
@@ -150,12 +167,19 @@ view_with_disputed x c d p =
     view_with x c d (away_from x c) (disputed_with x c d) p.clear_is.content
     (IsContent-filter (λ n. not (is_byte_shared x n)) c p.clear_is.content)
     (λ n. let t = In-disputed_with x n c d in let a = In-away_from x n c in (
-      λ h. elim h [ inl k ↦ inr (inl (a.0 k).0)
-          | inr k ↦ elim (t.0 k) [ inl e ↦ inl e | inr i ↦ inr (elim i [ inl j ↦ inr j | inr j ↦ inl j.0 ]) ] ],
+      λ h. elim h [
+        | inl k ↦ inr (inl (a.0 k).0)
+        | inr k ↦ elim (t.0 k) [ inl e ↦ inl e | inr i ↦ inr (elim i [ inl j ↦ inr j | inr j ↦ inl j.0 ]) ]
+      ],
       λ h. elim h [
         | inl e ↦ inr (t.1 (inl e))
-        | inr k ↦ elim k [ inl i ↦ elim (touches_or_not x n) [ inl s ↦ inr (t.1 (inr (inr (i, s))))
-            | inr s ↦ inl (a.1 (i, s)) ] | inr i ↦ inr (t.1 (inr (inl i))) ]
+        | inr k ↦ elim k [
+          | inl i ↦ elim (touches_or_not x n) [
+            | inl s ↦ inr (t.1 (inr (inr (i, s))))
+            | inr s ↦ inl (a.1 (i, s))
+          ]
+          | inr i ↦ inr (t.1 (inr (inl i)))
+        ]
       ],
     ))
 
@@ -219,8 +243,11 @@ length-union_apart xs [] r f = omega arith
 length-union_apart xs (y ∷ ys) r f =
     let new : length (with_note y xs) ≡ length xs + 1 = length-with_new y xs (λ h. f y h (inl refl)) in
     let ih = length-union_apart (with_note y xs) ys r.1
-    (λ n h k. elim ((In-with_note n y xs).0 h) [ inl e ↦ let t = less_in note_total y n ys r.0 k in
-        let u = tied_itself note_total y in let v = ap (note_cmp y) e in cc (t, u, v) | inr i ↦ f n i (inr k) ]) in
+    (λ n h k. elim ((In-with_note n y xs).0 h) [
+      | inl e ↦ let t = less_in note_total y n ys r.0 k in
+          let u = tied_itself note_total y in let v = ap (note_cmp y) e in cc (t, u, v)
+      | inr i ↦ f n i (inr k)
+    ]) in
     omega (arith, new, ih)
 
 pub length-parts : (c d : List NoteParts) → AreParts c d → length (union_of c d) ≡ length c + length d
@@ -236,8 +263,11 @@ is_not_nil notes e q = let t = eq-eqb (length notes) 0 (ap length q) in cc (t, e
 -- The disputed part is the list of the disputed notes, and it alone decides how they are disputed.
 disputed_is : (c d : List NoteParts) → AreParts c d → (n : NoteParts) → IsDisputed n (union_of c d)
     → In n (union_of c d) → In n d
-disputed_is c d p n k h = elim ((In-union_of n c d).0 h) [ inl i ↦ absurd
-    (p.apart n k.0 i ((In-union_of k.0 c d).0 k.1) (λ e. k.2 (sym e)) (SharesByte-symmetric k.0 n k.3)) | inr i ↦ i ]
+disputed_is c d p n k h = elim ((In-union_of n c d).0 h) [
+  | inl i ↦ absurd
+      (p.apart n k.0 i ((In-union_of k.0 c d).0 k.1) (λ e. k.2 (sym e)) (SharesByte-symmetric k.0 n k.3))
+  | inr i ↦ i
+]
 
 pub disputed_part : (c d : List NoteParts) → AreParts c d
     → d ≡ filter (λ n. is_disputed n (union_of c d)) (union_of c d)
@@ -247,8 +277,11 @@ disputed_part c d p =
     (IsContent-filter (λ n. is_disputed n u) u (IsContent-union_of c d p.clear_is.content))
     (λ n.
     let f = In-filter (λ m. is_disputed m u) u n in let t = is_disputed-IsDisputed n u in (
-      (λ h. f.1 ((In-union_of n c d).1 (inr h), t.1 (let s = p.shared n h in
-          (s.0, (In-union_of s.0 c d).1 (inr s.1), s.2, s.3)))),
+      (λ h. f.1 (
+        (In-union_of n c d).1 (inr h),
+        t.1 (let s = p.shared n h in
+            (s.0, (In-union_of s.0 c d).1 (inr s.1), s.2, s.3)),
+      )),
       (λ h. let k = f.0 h in disputed_is c d p n (t.0 k.1) k.0),
     ))
 
@@ -268,8 +301,12 @@ marks_by_part c d p n h =
     (λ t. a.1 (let s = b.0 t in (s.0, partner c d p s.0 n h s.1 s.2 (SharesByte-same_offset s.0 n s.3), s.2, s.3))) in
     let over = same_bool (is_overlapped n d) (is_overlapped n u)
     (λ t. f.1 (let s = e.0 t in (s.0, (In-union_of s.0 c d).1 (inr s.1), s.2, s.3)))
-    (λ t. e.1 (let s = f.0 t in (s.0, partner c d p s.0 n h s.1 (λ q. s.2 (ap (λ (m : NoteParts). m.offset) q)) s.3,
-        s.2, s.3))) in
+    (λ t. e.1 (let s = f.0 t in (
+      s.0,
+      partner c d p s.0 n h s.1 (λ q. s.2 (ap (λ (m : NoteParts). m.offset) q)) s.3,
+      s.2,
+      s.3,
+    ))) in
     λ i. record { note = n; same_offset = same i; overlaps = over i }
 
 map_same : {B : Type 0} (f g : NoteParts → B) (notes : List NoteParts) → ((n : NoteParts) → In n notes → f n ≡ g n)
@@ -287,6 +324,8 @@ pub same_parts : (c d c' d' : List NoteParts) → AreParts c d → AreParts c' d
     → SameMembers (union_of c d) (union_of c' d') → (c ≡ c') × (d ≡ d')
 same_parts c d c' d' p p' s =
     let u = same_content (union_of c d) (union_of c' d') (IsContent-union_of c d p.clear_is.content)
-    (IsContent-union_of c' d' p'.clear_is.content) s in
-    (clear_part c d p ∙ ap clear_notes u ∙ sym (clear_part c' d' p'), disputed_part c d p
-        ∙ ap (λ l. filter (λ n. is_disputed n l) l) u ∙ sym (disputed_part c' d' p'))
+    (IsContent-union_of c' d' p'.clear_is.content) s in (
+      clear_part c d p ∙ ap clear_notes u ∙ sym (clear_part c' d' p'),
+      disputed_part c d p
+          ∙ ap (λ l. filter (λ n. is_disputed n l) l) u ∙ sym (disputed_part c' d' p'),
+    )

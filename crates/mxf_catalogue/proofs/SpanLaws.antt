@@ -26,8 +26,10 @@ AreApart-filter p low (n ∷ notes) a =
     let s : low ≤ n.offset = a.0 in
     let e : low ≤ end_of n = omega arith in
     let ih = AreApart-filter p (end_of n) notes a.1 in
-    elim (p n) as (λ b. AreApart low (cond b (n ∷ filter p notes) (filter p notes))) [ true ↦ (s, ih)
-    | false ↦ AreApart-lower low (end_of n) (filter p notes) e ih ]
+    elim (p n) as (λ b. AreApart low (cond b (n ∷ filter p notes) (filter p notes))) [
+      | true ↦ (s, ih)
+      | false ↦ AreApart-lower low (end_of n) (filter p notes) e ih
+    ]
 
 -- ---- clear notes share no byte
 
@@ -57,8 +59,11 @@ ends_before notes x y c d e =
     elim (nat_lt y.offset (end_of x)) as (λ b. nat_lt y.offset (end_of x) ≡ b → end_of x ≤ y.offset) [
       | true ↦ λ t.
           let l : y.offset < end_of x = ltb-true y.offset (end_of x) t in
-          let s : SharesByte x y = (y.offset, record { from = le; before = omega arith },
-          record { from = omega arith; before = omega arith }) in
+          let s : SharesByte x y = (
+            y.offset,
+            record { from = le; before = omega arith },
+            record { from = omega arith; before = omega arith },
+          ) in
           absurd (clear-apart x y notes c d.held (not_same x y e) s)
       | false ↦ λ t. ltb-false y.offset (end_of x) t
     ] refl
@@ -70,7 +75,7 @@ all_clear_apart notes [] low r c l = tt
 all_clear_apart notes (x ∷ xs) low r c l = (
   l x (inl refl),
   all_clear_apart notes xs (end_of x) r.1 (λ n h. c n (inr h))
-  (λ n h. ends_before notes x n (c x (inl refl)) (c n (inr h)) (less_in note_total x n xs r.0 h)),
+      (λ n h. ends_before notes x n (c x (inl refl)) (c n (inr h)) (less_in note_total x n xs r.0 h)),
 )
 
 -- Clear notes share no byte.

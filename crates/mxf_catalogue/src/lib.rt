@@ -38,8 +38,8 @@ pub use catalogue::{
     AddFault, Catalogue, Change, ClearNotes, Disputed, DisputedNotes, FileFault, Notes,
     clear_notes_by_definition, clear_notes_stand_apart, contents_are_sets,
     disputed_notes_by_definition, disputes_by_tests, files_are_read_as_written,
-    moved_notes_by_definition, notes_are_clear_or_disputed, notes_are_disputed_in_two_ways, one_file,
-    one_file_reading,
+    moved_notes_by_definition, notes_are_clear_or_disputed, notes_are_disputed_in_two_ways,
+    one_file, one_file_reading,
 };
 pub use cover::{Cover, CoverGaps, CoverRuns, covers_are_sets, gaps_of_covers_by_definition};
 pub use history::{histories_leave_what_they_were_handed, one_set_one_content};

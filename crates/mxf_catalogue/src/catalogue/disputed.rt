@@ -100,13 +100,7 @@ impl<'a> Iterator for DisputedNotes<'a> {
 
 /// How a note is disputed that stands in a content before those that are left: `above` is the offset after that of the
 /// note before it, and `lower` the greatest end of the notes with lower offsets than its own.
-fn mark<'a>(
-    note: &'a Note,
-    _all: &[Note],
-    left: &[Note],
-    above: u64,
-    lower: u64,
-) -> Disputed<'a>
+fn mark<'a>(note: &'a Note, _all: &[Note], left: &[Note], above: u64, lower: u64) -> Disputed<'a>
     requires { StandsIn note.now _all.now left.now above lower }
     ensures { result ≡ disputed_parts note.now _all.now }
 {

@@ -220,11 +220,7 @@ fn is_below(last: Option<&Note>, note: &Note) -> bool {
 }
 
 /// The notes of three lists, in order. The first has room for all.
-pub(super) fn sorted(
-    mut first: Vec<Note>,
-    mut second: Vec<Note>,
-    mut third: Vec<Note>,
-) -> Vec<Note>
+pub(super) fn sorted(mut first: Vec<Note>, mut second: Vec<Note>, mut third: Vec<Note>) -> Vec<Note>
     requires room { vec_len first + vec_len second + vec_len third ≤ vec_capacity first }
     ensures members { IsPermutation (first.items ++ second.items ++ third.items) result.items }
     ensures len { vec_len result ≡ vec_len first + vec_len second + vec_len third }

@@ -7,4 +7,4 @@ pub loop-note-init : goal.loop-note-init
 loop-note-init c =
     let given = c.into_iter-note-iterator.ensures.into_iter_gives ∙ c.notes-note-items.ensures.notes in
     (λ i. union_of (c.new-all.ensures i) (given i))
-        ∙ union_of-none c.args.self.now c.notes-note-items.ensures.catalogue.content
+    ∙ union_of-none c.args.self.now c.notes-note-items.ensures.catalogue.content

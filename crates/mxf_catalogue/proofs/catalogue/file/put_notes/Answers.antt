@@ -40,7 +40,7 @@ returns g c =
     let before = c.args.progress.now.written in
     let all = sym (append-nil i.0) ∙ ap (λ (l : List NoteParts). i.0 ++ l) (sym c.in-None.ensures.steps.0) ∙ i.1 in (
       subst (λ (l : List NoteParts). Appends (contents c.args.writer.now) (contents c.notes.writer)
-      (flat_map note_bytes l)) all
+          (flat_map note_bytes l)) all
           i.2,
       i.3 ∙ ap (λ (l : List NoteParts). counted (before + length (flat_map note_bytes l))) all,
     )

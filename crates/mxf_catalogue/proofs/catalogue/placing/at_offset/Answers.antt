@@ -10,9 +10,11 @@ use Rattle.mxf_catalogue.proofs.catalogue.placing.at_offset.Goals.{in_default-vi
 
 pub returns-in-Some-clause-found : goal.returns-in-Some-clause-found
 returns-in-Some-clause-found c =
-    let xs = c.args.notes.now in let at = c.starting_below-at.result in let n = c.in-Some.note.now in
-    (subst (λ m. In m xs) (sym c.in-Some.ensures.lookup.1)
-        (In-at xs at n (ltb-true _ _ (sym c.in-Some.ensures.lookup.0))), sym c.offset.ensures.offset ∙ c.if-offset.true)
+    let xs = c.args.notes.now in let at = c.starting_below-at.result in let n = c.in-Some.note.now in (
+      subst (λ m. In m xs) (sym c.in-Some.ensures.lookup.1)
+          (In-at xs at n (ltb-true _ _ (sym c.in-Some.ensures.lookup.0))),
+      sym c.offset.ensures.offset ∙ c.if-offset.true,
+    )
 
 pub returns-in_default-clause-none : goal.returns-in_default-clause-none
 returns-in_default-clause-none c n h e =

@@ -10,5 +10,9 @@ returns c =
     let parted = IsPartitionedBy-leb end_of _ c.args.offset (ends_rise _ c.requires.content c.requires.apart) in
     let point = IsPartitionPoint-from_clause
     (λ n. nat_le (end_of n) c.args.offset) _ _ c.partition_point.ensures.partitioned parted (λ a r q k. search rules) in
-    record { bound = c.partition_point.ensures.bound; below = λ k d l h. leb-true _ _ (point.0 k d l h); above =
-    λ k d l h. leb-false _ _ (point.1 k d l h) }
+    record {
+      bound = c.partition_point.ensures.bound;
+      below = λ k d l h. leb-true _ _ (point.0 k d l h);
+      above =
+          λ k d l h. leb-false _ _ (point.1 k d l h);
+    }

@@ -9,5 +9,9 @@ returns c =
     let parted = IsPartitionedBy-ltb (λ n. n.offset) _ c.args.offset (offsets_rise _ c.requires) in
     let point = IsPartitionPoint-from_clause
     (λ n. nat_lt n.offset c.args.offset) _ _ c.partition_point.ensures.partitioned parted (λ a r q k. search rules) in
-    record { bound = c.partition_point.ensures.bound; below = λ k d l h. ltb-true _ _ (point.0 k d l h); above =
-    λ k d l h. ltb-false _ _ (point.1 k d l h) }
+    record {
+      bound = c.partition_point.ensures.bound;
+      below = λ k d l h. ltb-true _ _ (point.0 k d l h);
+      above =
+          λ k d l h. ltb-false _ _ (point.1 k d l h);
+    }

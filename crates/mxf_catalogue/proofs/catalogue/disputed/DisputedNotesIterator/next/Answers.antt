@@ -10,9 +10,9 @@ mark-disputed-requires c =
     let o = c.offset.ensures.offset in
     elim c.if-offset-self.branch [
       | then-offset-self w ↦ stands_in c.in_ok-note.note.now _ _ _ _ _ _ c.self.invariant e c.if-offset-self.lower
-        (λ _. omega (arith, w.lower-is)) (λ l. absurd (omega (arith, l, o, w.if-offset-self.true)))
+          (λ _. omega (arith, w.lower-is)) (λ l. absurd (omega (arith, l, o, w.if-offset-self.true)))
       | else-offset-self w ↦ stands_in c.in_ok-note.note.now _ _ _ _ _ _ c.self.invariant e c.if-offset-self.lower
-        (λ l. absurd (omega (arith, l, o, w.if-offset-self.false))) (λ _. omega (arith, w.lower-is))
+          (λ l. absurd (omega (arith, l, o, w.if-offset-self.false))) (λ _. omega (arith, w.lower-is))
     ]
 
 pub invariant_of-self : goal.invariant_of-self

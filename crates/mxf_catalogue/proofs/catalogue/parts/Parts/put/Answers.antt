@@ -29,7 +29,7 @@ returns-then-are_apart_from-clause-kept c =
     let few = c.args.self.now.disputed_spans.items in
     subst (λ l. IsKept l ds few) (sym c.put.ensures.items)
     (kept_with_clear n cs ds few c.offset.ensures.note c.requires.kept
-        (c.are_apart_from.ensures.far c.if-are_apart_from.true))
+    (c.are_apart_from.ensures.far c.if-are_apart_from.true))
 
 pub returns-then-are_apart_from-clause-content : goal.returns-then-are_apart_from-clause-content
 returns-then-are_apart_from-clause-content c =
