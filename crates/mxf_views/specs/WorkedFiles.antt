@@ -43,7 +43,7 @@ pack part n =
     packet_parts (pack_key part ClosedComplete) 4
     (pack_bytes (partition_pack_parts part ClosedComplete n pattern (batch_parts 0 16 [])))
 
--- The key of a packet: the bytes before byte 14, which all keys here share but for two, and its last three.
+-- A key of the file structure: those of the small files differ in bytes 6, 14 and 15, counted from 1.
 abbrev pub structure_key : ℕ → ℕ → ℕ → List ℕ
 structure_key registry group item =
     0x06 ∷ 0x0E ∷ 0x2B ∷ 0x34 ∷ 0x02 ∷ registry ∷ 0x01 ∷ 0x01
