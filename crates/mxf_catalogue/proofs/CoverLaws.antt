@@ -1,5 +1,5 @@
 -- Runs that touch a run, and offsets in runs, by their places in a cover.
-use Rattle.std.specs.Prelude.{◌≡◌, ℕ, suc, zero, ◌+◌, ◌<◌, ◌≤◌, nat_lt, min, max, true, false, ◌↔◌, ◌⊎◌, cond}
+use Rattle.std.specs.Prelude.{◌≡◌, ℕ, suc, zero, ◌+◌, ◌<◌, ◌≤◌, nat_lt, max, true, false, ◌↔◌, ◌⊎◌, cond}
 use Rattle.std.specs.Prelude.{List, [], ◌∷◌, ◌++◌, length, take, drop, refl}
 use Rattle.std.specs.List.{AllByRecursion, AllWithin}
 use Rattle.std.specs.List.Sorted.{IsNonDecreasingBy}
@@ -7,7 +7,6 @@ use Rattle.std.specs.Bool.{Decides}
 use Rattle.std.proofs.Common.{◌==◌, ◌&&◌, eqb-true, eq-eqb, sym, ap, subst, inl, inr, arith, get_or}
 use Rattle.std.proofs.lemmas.Bool.{ltb-true, ltb-false}
 use Rattle.mxf_klv.specs.Note.{greatest_end}
-use Rattle.mxf_klv.specs.Rising.{In}
 use Rattle.mxf_catalogue.specs.declared.run.Run.{Run}
 use Rattle.mxf_catalogue.specs.Runs.{AreMaximal, IsWithin, LiesIn, SameOffsets, run}
 use Rattle.mxf_catalogue.specs.Covers.{IsCover, IsRun, both, spanned, with_run, union_of_runs, gaps_from, gaps_of_runs}
@@ -48,10 +47,15 @@ IsCover-with_run r runs is c = record {
   within = ends-with_run greatest_end r runs is.within c.within;
 }
 
-pub IsCover-union_of_runs : (runs others : List Run) → IsCover runs → IsCover others → IsCover (union_of_runs runs others)
+pub IsCover-union_of_runs : (runs others : List Run) → IsCover runs → IsCover others
+    → IsCover (union_of_runs runs others)
 IsCover-union_of_runs runs [] c d = c
 IsCover-union_of_runs runs (s ∷ others) c d =
-    let rest : IsCover others = record { maximal = lower 0 (s.end + 1) others (omega arith) d.maximal.2; within = d.within.1 } in
+    let rest : IsCover others = record {
+      maximal = lower 0 (s.end + 1) others (omega arith) d.maximal.2;
+      within =
+          d.within.1;
+    } in
     let one : IsRun s = record { order = d.maximal.1; within = d.within.0 } in
     IsCover-union_of_runs (with_run s runs) others (IsCover-with_run s runs one c) rest
 
@@ -156,7 +160,8 @@ places_in_order r runs a b m l f k n =
 
 -- ---- offsets in runs
 
-lies_at : (runs : List Run) (k : ℕ) (d : Run) (at : ℕ) → k < length runs → IsWithin (get_or runs k d) at → LiesIn runs at
+lies_at : (runs : List Run) (k : ℕ) (d : Run) (at : ℕ) → k < length runs → IsWithin (get_or runs k d) at
+    → LiesIn runs at
 lies_at [] k d at l h = absurd (omega arith)
 lies_at (r ∷ runs) zero d at l h = (LiesIn-first r runs at).1 (inl h)
 lies_at (r ∷ runs) (suc k) d at l h = (LiesIn-first r runs at).1 (inr (lies_at runs k d at (omega arith) h))
@@ -278,7 +283,8 @@ first_gap low r runs at m =
                 → ((low ≤ at) × (at < r.start)) ⊎ IsBetweenFrom r.end runs at) [
                   | true ↦ λ g.
                       let k : at < r.end = ltb-true _ _ g in
-                      absurd (h.1.in_none ((LiesIn-first r runs at).1 (inl (record { from = f; before = omega arith }))))
+                      absurd (h.1.in_none ((LiesIn-first r runs at).1
+                      (inl (record { from = f; before = omega arith }))))
                   | false ↦ λ g.
                       let k : r.end ≤ at = ltb-false _ _ g in
                       inr (

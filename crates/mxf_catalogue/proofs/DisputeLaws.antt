@@ -14,17 +14,17 @@ use Rattle.mxf_catalogue.specs.Disputes.{DisputedParts, IsDisputedOf, disputed_p
 use Rattle.mxf_catalogue.specs.Disputes.{is_same_note, is_byte_shared, is_offset_shared, is_overlapped, is_disputed}
 use Rattle.mxf_catalogue.proofs.ContentLaws.{note_eq-Decides}
 use Rattle.mxf_catalogue.proofs.Lists.{list_any-In, In-filter, all-filter, length-filter_le, In-map}
-use Rattle.mxf_catalogue.proofs.Lists.{found-In, none_found, find-none, find-only}
+use Rattle.mxf_catalogue.proofs.Lists.{find-none, find-only}
 
-not_true : (b : Bool) → (b ≡ true → ⊥) → not b ≡ true
+pub not_true : (b : Bool) → (b ≡ true → ⊥) → not b ≡ true
 not_true true f = absurd (f refl)
 not_true false f = refl
 
-not-true-false : (b : Bool) → not b ≡ true → b ≡ true → ⊥
+pub not-true-false : (b : Bool) → not b ≡ true → b ≡ true → ⊥
 not-true-false true h e = cc
 not-true-false false h e = cc
 
-same_bool : (a b : Bool) → (IsTrue a → IsTrue b) → (IsTrue b → IsTrue a) → a ≡ b
+pub same_bool : (a b : Bool) → (IsTrue a → IsTrue b) → (IsTrue b → IsTrue a) → a ≡ b
 same_bool true b f g = sym (f refl)
 same_bool false true f g = g refl
 same_bool false false f g = refl
@@ -47,14 +47,14 @@ is_byte_shared-SharesByte m n = (
 )
 
 -- spans are never empty: notes at one offset share its byte
-SharesByte-same_offset : (m n : NoteParts) → m.offset ≡ n.offset → SharesByte m n
+pub SharesByte-same_offset : (m n : NoteParts) → m.offset ≡ n.offset → SharesByte m n
 SharesByte-same_offset m n e = (
   m.offset,
   record { from = omega arith; before = omega arith },
   record { from = omega arith; before = omega arith },
 )
 
-SharesByte-symmetric : (m n : NoteParts) → SharesByte m n → SharesByte n m
+pub SharesByte-symmetric : (m n : NoteParts) → SharesByte m n → SharesByte n m
 SharesByte-symmetric m n s = (s.0, s.2, s.1)
 
 -- the test of shared offsets
@@ -129,7 +129,7 @@ In-clear_notes n notes =
     )
 
 -- some of a content's notes are a content
-IsContent-filter : (p : NoteParts → Bool) (notes : List NoteParts) → IsContent notes → IsContent (filter p notes)
+pub IsContent-filter : (p : NoteParts → Bool) (notes : List NoteParts) → IsContent notes → IsContent (filter p notes)
 IsContent-filter p [] r = tt
 IsContent-filter p (x ∷ xs) r =
     elim (p x) as (λ b. IsContent (cond b (x ∷ filter p xs) (filter p xs))) [
@@ -210,48 +210,21 @@ clear-alone m n notes c h e =
           absurd (clear-apart m n notes c h other (SharesByte-same_offset m n e))
     ] refl
 
--- the clear note with an offset, where the first note with it is searched for
-pub clear_at-none : (offset : ℕ) (notes : List NoteParts) → find (λ n. n.offset == offset) notes ≡ None
-    → find (λ n. n.offset == offset) (clear_notes notes) ≡ None
-clear_at-none offset notes e =
-    let p = λ (n : NoteParts). n.offset == offset in
-    find-none p (clear_notes notes) (λ n h. none_found p notes n e ((In-clear_notes n notes).0 h).held)
-
-pub clear_at-disputed : (offset : ℕ) (notes : List NoteParts) (n : NoteParts)
-    → find (λ n. n.offset == offset) notes ≡ Some n → is_disputed n notes ≡ true
-    → find (λ n. n.offset == offset) (clear_notes notes) ≡ None
-clear_at-disputed offset notes n e d =
-    let p = λ (m : NoteParts). m.offset == offset in
-    let f = found-In p notes n e in
-    find-none p (clear_notes notes) (λ m h t.
-    let clear = (In-clear_notes m notes).0 h in
-    let same = clear-alone m n notes clear f.0 (eqb-true _ _ t ∙ sym (eqb-true _ _ f.1)) in
-    let P : NoteParts → Type 0 = λ x. IsDisputed x notes in
-    clear.undisputed (subst P (sym same) ((is_disputed-IsDisputed n notes).0 d)))
-
-pub clear_at-clear : (offset : ℕ) (notes : List NoteParts) (n : NoteParts)
-    → find (λ n. n.offset == offset) notes ≡ Some n → is_disputed n notes ≡ false
+-- a clear note with an offset is the first with it among the clear notes
+pub clear_at-found : (offset : ℕ) (notes : List NoteParts) (n : NoteParts) → IsClear n notes → n.offset ≡ offset
     → find (λ n. n.offset == offset) (clear_notes notes) ≡ Some n
-clear_at-clear offset notes n e d =
-    let p = λ (m : NoteParts). m.offset == offset in
-    let f = found-In p notes n e in
-    let clear : IsClear n notes =
-    record { held = f.0; undisputed = λ k. let t = (is_disputed-IsDisputed n notes).1 k in cc (t, d) } in
-    find-only p (clear_notes notes) n ((In-clear_notes n notes).1 clear) f.1 (λ m h t.
+clear_at-found offset notes n clear at =
+    find-only (λ (m : NoteParts). m.offset == offset) (clear_notes notes) n ((In-clear_notes n notes).1 clear)
+    (eq-eqb _ _ at) (λ m h t.
     let k = (In-clear_notes m notes).0 h in
-    clear-alone m n notes k f.0 (eqb-true _ _ t ∙ sym (eqb-true _ _ f.1)))
+    clear-alone m n notes k clear.held (eqb-true _ _ t ∙ sym at))
 
-pub clear_at-IsClear : (offset : ℕ) (notes : List NoteParts) (n : NoteParts)
-    → find (λ n. n.offset == offset) (clear_notes notes) ≡ Some n → IsClear n notes × (n.offset ≡ offset)
-clear_at-IsClear offset notes n e =
-    let f = found-In (λ (m : NoteParts). m.offset == offset) (clear_notes notes) n e in
-    ((In-clear_notes n notes).0 f.0, eqb-true _ _ f.1)
-
-pub clear_at-no_clear : (offset : ℕ) (notes : List NoteParts) (n : NoteParts)
-    → find (λ n. n.offset == offset) (clear_notes notes) ≡ None → IsClear n notes → n.offset ≢ offset
-clear_at-no_clear offset notes n e clear same =
-    let h = (In-clear_notes n notes).1 clear in
-    none_found (λ (m : NoteParts). m.offset == offset) (clear_notes notes) n e h (eq-eqb _ _ same)
+pub clear_at-lacked : (offset : ℕ) (notes : List NoteParts)
+    → ((n : NoteParts) → IsClear n notes → n.offset ≢ offset)
+    → find (λ n. n.offset == offset) (clear_notes notes) ≡ None
+clear_at-lacked offset notes none =
+    find-none (λ (m : NoteParts). m.offset == offset) (clear_notes notes)
+    (λ n h t. none n ((In-clear_notes n notes).0 h) (eqb-true _ _ t))
 
 -- there are no more of them than notes
 pub length-clear_notes : (notes : List NoteParts) → length (clear_notes notes) ≤ length notes

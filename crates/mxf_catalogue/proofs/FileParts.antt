@@ -1,12 +1,12 @@
 -- What the readers and writers of a file's parts come to.
 use Rattle.std.proofs.Common.{◌≡◌, ℕ, zero, suc, ◌+◌, ◌-◌, ◌^◌, ◌<◌, ◌≤◌, Bool, false, cond, List, [], ◌∷◌, ◌++◌}
 use Rattle.std.proofs.Common.{length, take, drop, get_or, Result, Ok, Option, Some, refl, sym, ap, subst, ◌∙◌, arith}
-use Rattle.std.proofs.Common.{inl, inr, ◌↔◌, append-nil, length-append, take-append-drop}
+use Rattle.std.proofs.Common.{inl, inr, ◌↔◌, append_assoc, append-nil, length-append, take-append-drop}
 use Rattle.std.specs.Prelude.{IsTrue, ◌==◌}
 use Rattle.std.proofs.lemmas.Bool.{cases_lt}
 use Rattle.std.proofs.lemmas.List.{drop_at, take_all, length-take, get_or-take, get_or-drop, get_or_past}
 use Rattle.std.proofs.lemmas.List.{take-append-le}
-use Rattle.std.proofs.lemmas.Grind.{flat_map-append, take_at_read}
+use Rattle.std.proofs.lemmas.Grind.{flat_map-append}
 use Rattle.std.proofs.lemmas.Option.{get_or_from_slice_get, slice_get_within}
 use Rattle.std.specs.Int.{w64, from_be_bytes, to_be_bytes}
 use Rattle.std.specs.List.{flat_map, slice_get}
@@ -20,7 +20,7 @@ use Rattle.mxf_klv.specs.Parts.{note_parts}
 use Rattle.mxf_klv.specs.NoteOrder.{note_total}
 use Rattle.mxf_klv.specs.declared.writing.WriteFault.{WriteFault}
 use Rattle.mxf_klv.specs.Written.{StopsIn, WritesPart, counted}
-use Rattle.mxf_klv.proofs.WrittenParts.{StopsIn-part, WritesPart-after, flat_map-at}
+use Rattle.mxf_klv.proofs.WrittenParts.{StopsIn-part, WritesPart-after}
 use Rattle.mxf_catalogue.specs.declared.catalogue.file.FileFault.{FileFault}
 use Rattle.mxf_catalogue.specs.declared.catalogue.file.FileFault.TheVariants.{BadMagic, BadVersion, Truncated, BadNote}
 use Rattle.mxf_catalogue.specs.declared.catalogue.file.FileFault.TheVariants.{NotSorted, Trailing, OutOfMemory}
@@ -156,18 +156,22 @@ pub WritesPart-second : {X : Type 0} (a b c : Option (List ℕ)) (before mid aft
 WritesPart-second a b c before mid after r bytes part rest is p m q =
     subst (WritesPart a c before after r) (sym is) (WritesPart-after a b c before mid after r part rest p m q)
 
+-- the bytes of notes, of which one stands behind some and before others
+flat_at : (notes done rest : List NoteParts) (n : NoteParts) → done ++ n ∷ rest ≡ notes
+    → (flat_map note_bytes done ++ note_bytes n) ++ flat_map note_bytes rest ≡ flat_map note_bytes notes
+flat_at notes done rest n is =
+    append_assoc (flat_map note_bytes done) (note_bytes n) (flat_map note_bytes rest)
+    ∙ sym (flat_map-append note_bytes done (n ∷ rest)) ∙ ap (flat_map note_bytes) is
+
 -- a fault in a note is a fault of all of them
-pub fails_in_note : (a b c : Option (List ℕ)) (before mid after : ℕ) (e : WriteFault) (notes : List NoteParts) (k : ℕ)
-    (n : NoteParts) → k < length notes → n ≡ get_or notes k n
-    → Appends a b (flat_map note_bytes (take k notes))
-    → mid ≡ counted (before + length (flat_map note_bytes (take k notes)))
+pub fails_in_note : (a b c : Option (List ℕ)) (before mid after : ℕ) (e : WriteFault) (notes done rest : List NoteParts)
+    (n : NoteParts) → done ++ n ∷ rest ≡ notes → Appends a b (flat_map note_bytes done)
+    → mid ≡ counted (before + length (flat_map note_bytes done))
     → StopsIn b c mid e (note_bytes n) × (after ≡ e.written)
     → StopsIn a c before e (flat_map note_bytes notes) × (after ≡ e.written)
-fails_in_note a b c before mid after e notes k n h is p m (q, told) = (
-  subst (StopsIn a c before e) (flat_map-at note_bytes notes k n h)
-      (StopsIn-part a b c before mid e (flat_map note_bytes (take k notes)) (note_bytes (get_or notes k n))
-      (flat_map note_bytes (drop (suc k) notes)) p m
-      (subst (λ (x : NoteParts). StopsIn b c mid e (note_bytes x)) is q)),
+fails_in_note a b c before mid after e notes done rest n is p m (q, told) = (
+  subst (StopsIn a c before e) (flat_at notes done rest n is)
+      (StopsIn-part a b c before mid e (flat_map note_bytes done) (note_bytes n) (flat_map note_bytes rest) p m q),
   told,
 )
 
@@ -176,21 +180,17 @@ unfolding number_bytes
 number_is n m bs e f = ap (to_be_bytes w64) (sym f) ∙ sym e
 
 -- one more note was written
-pub note_written : (a b c : Option (List ℕ)) (before mid after : ℕ) (notes : List NoteParts) (k : ℕ) (n : NoteParts)
-    → k < length notes → n ≡ get_or notes k n → Appends a b (flat_map note_bytes (take k notes))
-    → mid ≡ counted (before + length (flat_map note_bytes (take k notes))) → Appends b c (note_bytes n)
-    → after ≡ counted (mid + length (note_bytes n))
-    → Appends a c (flat_map note_bytes (take (k + 1) notes))
-    × (after ≡ counted (before + length (flat_map note_bytes (take (k + 1) notes))))
-note_written a b c before mid after notes k n h is p m q r =
-    let one = take_at_read notes k n h in
-    let more : take (k + 1) notes ≡ take k notes ++ n ∷ [] = one.1
-    ∙ ap (λ (x : NoteParts). take k notes ++ x ∷ []) (sym is) in
-    let flat : flat_map note_bytes (take (k + 1) notes) ≡ flat_map note_bytes (take k notes) ++ note_bytes n =
-    ap (flat_map note_bytes) more ∙ flat_map-append note_bytes (take k notes) (n ∷ [])
-    ∙ ap (λ (t : List ℕ). flat_map note_bytes (take k notes) ++ t) (append-nil (note_bytes n)) in
-    WritesPart-second {X = Unit {0}} a b c before mid after (Ok tt) (flat_map note_bytes (take (k + 1) notes))
-    (flat_map note_bytes (take k notes)) (note_bytes n) flat p m (q, r)
+pub note_written : (a b c : Option (List ℕ)) (before mid after : ℕ) (done : List NoteParts) (n : NoteParts)
+    → Appends a b (flat_map note_bytes done) → mid ≡ counted (before + length (flat_map note_bytes done))
+    → Appends b c (note_bytes n) → after ≡ counted (mid + length (note_bytes n))
+    → Appends a c (flat_map note_bytes (done ++ n ∷ []))
+    × (after ≡ counted (before + length (flat_map note_bytes (done ++ n ∷ []))))
+note_written a b c before mid after done n p m q r =
+    let flat : flat_map note_bytes (done ++ n ∷ []) ≡ flat_map note_bytes done ++ note_bytes n =
+    flat_map-append note_bytes done (n ∷ [])
+    ∙ ap (λ (t : List ℕ). flat_map note_bytes done ++ t) (append-nil (note_bytes n)) in
+    WritesPart-second {X = Unit {0}} a b c before mid after (Ok tt) (flat_map note_bytes (done ++ n ∷ []))
+    (flat_map note_bytes done) (note_bytes n) flat p m (q, r)
 
 -- ---- faults behind a front
 

@@ -1,8 +1,7 @@
 -- A set of offsets has one list of maximal runs.
 use Rattle.std.proofs.Common.{◌≡◌, ℕ, ◌+◌, ◌<◌, ◌≤◌, ◌⊎◌, List, [], ◌∷◌, true, false, refl, sym, subst, inl, inr, arith}
-use Rattle.std.specs.Prelude.{nat_lt, ◌↔◌}
+use Rattle.std.specs.Prelude.{nat_lt}
 use Rattle.std.proofs.lemmas.Bool.{ltb-true, ltb-false}
-use Rattle.mxf_klv.specs.Rising.{In}
 use Rattle.mxf_catalogue.specs.declared.run.Run.{Run}
 use Rattle.mxf_catalogue.specs.Runs.{AreMaximal, IsWithin, LiesIn, SameOffsets}
 

@@ -111,7 +111,8 @@ with_run_cases r s runs P below above touch =
     ] refl
 
 -- What lies in runs with one more lies in it or in one of them.
-pub LiesIn-with_run : (r : Run) (runs : List Run) (at : ℕ) → LiesIn (with_run r runs) at ↔ IsWithin r at ⊎ LiesIn runs at
+pub LiesIn-with_run : (r : Run) (runs : List Run) (at : ℕ)
+    → LiesIn (with_run r runs) at ↔ IsWithin r at ⊎ LiesIn runs at
 LiesIn-with_run r [] at = LiesIn-first r [] at
 LiesIn-with_run r (s ∷ runs) at =
     let old = LiesIn-first s runs at in

@@ -5,5 +5,7 @@ pub mod Disputes
 pub mod FileReading
 pub mod History
 pub mod Joins
-pub mod LastNotes
+pub mod Moved
+pub mod Parts
+pub mod Reach
 pub mod Runs

@@ -1,70 +1,63 @@
 //! The set of notes, and the laws of contents.
 ghost use Rattle.std.specs.Prelude.{◌≡◌, ◌≢◌, ◌↔◌, ◌⊎◌, ◌==◌, ◌^◌, ◌<◌, List, [], find, length};
-ghost use Rattle.std.specs.Prelude.{IsTrue, IfErr, IfNone, IfSome, OnOk, OnErr};
+ghost use Rattle.std.specs.Prelude.{IsTrue, IfErr, IfNone, IfOk, IfSome, OnOk, OnErr};
 ghost use Rattle.std.specs.Option.{option_copied};
 ghost use Rattle.mxf_klv.specs.Parts.{NoteParts};
 ghost use Rattle.mxf_klv.specs.Rising.{In, SameMembers};
-ghost use Rattle.mxf_catalogue.specs.Content.{IsCatalogue, IsContent, IsPlace, with_note, union_of};
+ghost use Rattle.mxf_catalogue.specs.Content.{IsCatalogue, IsContent, with_note, union_of};
 ghost use Rattle.mxf_catalogue.specs.Disputes.{AreApart, IsClear, clear_notes, disputed_notes};
+ghost use Rattle.mxf_catalogue.specs.Moved.{TellsMoved};
+ghost use Rattle.mxf_catalogue.specs.Parts.{Covers};
 
+mod change;
 mod clear;
 mod disputed;
 mod file;
-mod merging;
-mod moving;
 mod notes;
+mod parts;
+mod placing;
 
+use crate::cover::Cover;
 use crate::semilattice::Semilattice;
+pub use change::{AddFault, Change, moved_notes_by_definition};
 pub use clear::{ClearNotes, clear_notes_by_definition, clear_notes_stand_apart};
-use disputed::is_disputed;
 pub use disputed::{
     Disputed, DisputedNotes, disputed_notes_by_definition, disputes_by_tests,
     notes_are_clear_or_disputed, notes_are_disputed_in_two_ways,
 };
 pub use file::{FileFault, files_are_read_as_written, one_file, one_file_reading};
-use merging::merge;
-use moving::move_into;
-use mxf_klv::{MAX, Note, OutOfMemory};
+use mxf_klv::{Note, OutOfMemory};
 pub use notes::Notes;
+use parts::{Parts, sorted};
+use placing::at_offset;
 use std::alloc::Global;
 use std::marker::Model;
-use thiserror::Error;
+use std::mem::replace;
 
 /// A set of notes, in the order of [`Note`].
 ///
 /// Notes are added one by one, catalogues are joined by [`Semilattice::join`], and one is moved into another by
 /// [`Catalogue::merge`]. What comes out is the set alone: no order of arrival and no number of repeats changes it.
+///
+/// Clear and disputed notes are kept apart, and the spans of either as runs. So a new note is compared with a few of
+/// them, by binary search.
 #[derive(Debug, Drop)]
 pub struct Catalogue {
-    notes: Vec<Note>,
+    parts: Parts,
+    spans: Cover,
 }
 
 impl Model for Catalogue {
     ghost use Rattle.std.specs.Prelude.{List};
     ghost use Rattle.mxf_klv.specs.Parts.{NoteParts};
-    ghost use Rattle.mxf_catalogue.specs.Content.{IsCatalogue};
+    ghost use Rattle.mxf_catalogue.specs.Content.{union_of};
+    ghost use Rattle.mxf_catalogue.specs.Parts.{IsWhole};
 
     ghost Value = { List NoteParts };
 
-    ghost view = { λ c. c.notes.items };
+    ghost view = { λ c. union_of c.parts.clear.items c.parts.disputed.items };
 
-    ghost invariant = { λ c. IsCatalogue c.notes.items };
-}
-
-/// What adding a note did.
-#[derive(Clone, Copy, Debug, PartialEq, Eq)]
-pub enum Change {
-    /// The note was held already.
-    Repeated,
-    /// The note is new.
-    Added,
-}
-
-/// There was no memory for the note, which comes back.
-#[derive(Debug, Drop, Error)]
-#[error("out of memory")]
-pub struct AddFault {
-    pub note: Note,
+    ghost invariant = { λ c. IsWhole c.parts.clear.items c.parts.disputed.items c.parts.disputed_spans.items c.spans };
 }
 
 impl Catalogue {
@@ -73,62 +66,142 @@ impl Catalogue {
         ensures { result ≡ [] }
     {
         Catalogue {
-            notes: Vec::new(alloc),
+            parts: Parts::new(alloc),
+            spans: Cover::new(alloc),
         }
     }
 
     /// Adds the note. A held note is `Repeated` and takes no memory.
     ///
-    /// The only fault is want of memory. The note comes back and the catalogue is unchanged.
+    /// The only fault is want of memory. The note comes back and the catalogue is unchanged: all memory is taken before
+    /// a note is moved.
     pub fn add(&mut self, note: Note) -> Result<Change, AddFault>
         ensures added { OnOk result (self.new ≡ with_note note self.old) }
         ensures repeated { (result ≡ Ok Change.Repeated) ↔ In note self.old }
+        ensures moved { IfOk result (TellsMoved note self.old) }
         ensures fault { IfErr result (λ f. f.note ≡ note) }
         ensures err { OnErr result (self.new ≡ self.old) }
     {
-        // What is held is a note, which ends where a packet may.
-        prove!(note.offset() <= MAX);
-        match place(&self.notes, &note) {
-            Ok(_) => Ok(Change::Repeated),
-            Err(at) => match self.notes.insert(at, note) {
-                Ok(()) => Ok(Change::Added),
-                Err(failed) => Err(AddFault { note: failed.value }),
-            },
+        if self.parts.have(&note) {
+            return Ok(Change::Repeated);
         }
+        let Ok(moved) = self.parts.make_room(&note) else {
+            return Err(AddFault { note });
+        };
+        // What is held is a note, which ends where a packet may.
+        let Ok(()) = self.spans.add(note.offset(), note.end()) else {
+            return Err(AddFault { note });
+        };
+        self.parts.put(note);
+        Ok(Change::Added { moved })
     }
 
     /// Moves the notes of another catalogue into this one, which holds the notes of both then. No kept value is copied.
     ///
-    /// Notes that stand above all of these are appended. Otherwise one pass goes from the greatest note down to the least
-    /// of the other. All memory is taken before a note is moved.
+    /// Notes that stand above all of these are put behind them. Otherwise the notes of both are put into new parts, in
+    /// their order. All memory is taken before a note of this catalogue is moved.
     ///
     /// The only fault is want of memory. This catalogue is unchanged then, and the other is dropped.
     pub fn merge(&mut self, alloc: Global, other: Catalogue) -> Result<(), OutOfMemory>
         ensures merged { OnOk result (self.new ≡ union_of self.old other) }
         ensures err { OnErr result (self.new ≡ self.old) }
     {
-        move_into(alloc, &mut self.notes, other.notes)
+        let notes = other.into_notes(alloc)?;
+        if self.parts.stand_below(&notes) {
+            return self.put_all(notes);
+        }
+        self.rebuild(alloc, notes)
     }
 
-    /// Whether the note is held.
+    /// The notes, in their order.
+    fn into_notes(self, alloc: Global) -> Result<Vec<Note>, OutOfMemory>
+        ensures { IfOk result (λ v. SameMembers v.items self) }
+    {
+        let parts = self.parts;
+        let mut clear = parts.clear;
+        clear.reserve(parts.disputed.len())?;
+        Ok(sorted(clear, parts.disputed, Vec::new(alloc)))
+    }
+
+    /// Puts notes into the parts, in any order and with any repeats. All room is taken before.
+    fn put_all(&mut self, notes: Vec<Note>) -> Result<(), OutOfMemory>
+        ensures merged { OnOk result (self.new ≡ union_of self.old notes.items) }
+        ensures err { OnErr result (self.new ≡ self.old) }
+    {
+        let spans = &mut self.spans;
+        spans.runs.reserve(notes.len())?;
+        self.parts.reserve(&notes)?;
+        self.parts.put_all(&mut spans.runs, notes);
+        Ok(())
+    }
+
+    /// Puts these notes and others into new parts, in their order. All room is taken before.
+    fn rebuild(&mut self, alloc: Global, notes: Vec<Note>) -> Result<(), OutOfMemory>
+        ensures merged { OnOk result (self.new ≡ union_of self.old notes.items) }
+        ensures err { OnErr result (self.new ≡ self.old) }
+    {
+        let more = self.parts.disputed.len() + notes.len();
+        self.parts.clear.reserve(more)?;
+        let count = self.parts.clear.len() + more;
+        let mut parts = Parts::with_room(alloc, count)?;
+        let mut runs = Vec::with_capacity(alloc, count)?;
+        let old = replace(&mut self.parts, Parts::new(alloc));
+        parts.put_all(&mut runs, sorted(old.clear, old.disputed, notes));
+        self.parts = parts;
+        self.spans = Cover { runs };
+        Ok(())
+    }
+
+    /// A catalogue of the notes of a content.
+    fn of_notes(alloc: Global, notes: Vec<Note>) -> Result<Catalogue, OutOfMemory>
+        requires { IsContent notes.items }
+        ensures { IfOk result (λ c. c ≡ notes.items) }
+    {
+        let mut all = Catalogue::new(alloc);
+        for note in notes {
+            all.add(note)?;
+        }
+        Ok(all)
+    }
+
+    /// A catalogue of equal notes, in new memory.
+    fn copy(&self, alloc: Global) -> Result<Catalogue, OutOfMemory>
+        ensures { IfOk result (λ c. c ≡ self.now) }
+    {
+        let mut all = Catalogue::new(alloc);
+        for note in self.notes() {
+            all.add(note.clone_in(alloc)?)?;
+        }
+        Ok(all)
+    }
+
+    /// The file offsets, in bytes, that lie in the span of some note.
+    pub fn spans(&self) -> &Cover
+        ensures spans { Covers result.now self.now }
+        ensures catalogue { IsCatalogue self.now }
+    {
+        &self.spans
+    }
+
+    /// Whether the note is held: a binary search.
     pub fn holds(&self, note: &Note) -> bool
         ensures { IsTrue result ↔ In note.now self.now }
     {
-        place(&self.notes, note).is_ok()
+        self.parts.have(note)
     }
 
     /// The number of notes.
     pub fn len(&self) -> usize
         ensures { result ≡ length self.now }
     {
-        self.notes.len()
+        self.parts.clear.len() + self.parts.disputed.len()
     }
 
     /// Whether there is no note.
     pub fn is_empty(&self) -> bool
         ensures { IsTrue result ↔ (self.now ≡ []) }
     {
-        self.notes.is_empty()
+        self.len() == 0
     }
 
     /// The notes in their order.
@@ -139,7 +212,7 @@ impl Catalogue {
         // A count of them fits.
         ensures bound { length result < 2 ^ 64 }
     {
-        Notes::of(&self.notes)
+        Notes::of(&self.parts.clear, &self.parts.disputed)
     }
 
     /// The clear notes in their order: those that share no byte with another. It takes no memory.
@@ -148,7 +221,7 @@ impl Catalogue {
         ensures apart { AreApart 0 result }
         ensures bound { length result < 2 ^ 64 }
     {
-        ClearNotes::of(&self.notes)
+        ClearNotes::of(&self.parts.clear)
     }
 
     /// The disputed notes in their order, each with how it is disputed. It takes no memory.
@@ -156,10 +229,10 @@ impl Catalogue {
         ensures notes { result ≡ disputed_notes self.now }
         ensures bound { length result < 2 ^ 64 }
     {
-        DisputedNotes::of(&self.notes)
+        DisputedNotes::of(&self.parts.disputed)
     }
 
-    /// The clear note with this file offset, in bytes.
+    /// The clear note with this file offset, in bytes: a binary search.
     pub fn clear_at(&self, offset: u64) -> Option<&Note>
         ensures first { option_copied result ≡ find (λ n. n.offset == offset) (clear_notes self.now) }
 
@@ -167,28 +240,8 @@ impl Catalogue {
         ensures found { IfSome result (λ n. IsClear n.now self.now × (n.now.offset ≡ offset)) }
         ensures none { IfNone result ((n : NoteParts) → IsClear n self.now → n.offset ≢ offset) }
     {
-        let note = first_at(&self.notes, offset)?;
-        if is_disputed(note, &self.notes) {
-            return None;
-        }
-        Some(note)
+        at_offset(&self.parts.clear, offset)
     }
-}
-
-/// Where the note is, or where it goes.
-fn place(notes: &[Note], note: &Note) -> Result<usize, usize>
-    requires { IsContent notes.now }
-    ensures found { OnOk result (In note.now notes.now) }
-    ensures absent { IfErr result (λ at. IsPlace note.now notes.now at) }
-{
-    notes.binary_search(note)
-}
-
-/// The first note with this offset.
-fn first_at(notes: &[Note], offset: u64) -> Option<&Note>
-    ensures { option_copied result ≡ find (λ n. n.offset == offset) notes.now }
-{
-    notes.iter().find(|note| note.offset() == offset)
 }
 
 impl Semilattice for Catalogue {
@@ -214,15 +267,16 @@ impl Semilattice for Catalogue {
     ghost idempotent = { joined_idem has_note union_of union_of-IsUnion };
 
     fn join(alloc: Global, a: &Catalogue, b: &Catalogue) -> Result<Catalogue, OutOfMemory> {
-        let notes = merge(alloc, &a.notes, &b.notes)?;
-        Ok(Catalogue { notes })
+        let mut all = a.copy(alloc)?;
+        all.merge(alloc, b.copy(alloc)?)?;
+        Ok(all)
     }
 
     fn same(&self, other: &Catalogue) -> bool
         ensures members { IsTrue result ↔ SameContent has_note self.now other.now }
         ensures list { IsTrue result ↔ (self.now ≡ other.now) }
     {
-        self.notes == other.notes
+        self.parts.clear == other.parts.clear && self.parts.disputed == other.parts.disputed
     }
 }
 

@@ -86,6 +86,7 @@ impl Cover {
     /// The maximal ranges of offsets below the greatest end that aren't in the set, rising.
     pub fn gaps(&self) -> CoverGaps<'_>
         ensures gaps { result ≡ gaps_of_runs self.now }
+        ensures cover { IsCover self.now }
         ensures bound { length result < 2 ^ 64 }
     {
         CoverGaps::of(&self.runs)

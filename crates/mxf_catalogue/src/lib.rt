@@ -1,12 +1,15 @@
 //! The set of notes that partial reads of a file have given, with its disputes and its joins (this project's profile).
 //!
 //! What is proved, and where it is said:
-//! - each call's answer and what it leaves: the clauses of [`Catalogue`] and [`Semilattice`];
+//! - each call's answer and what it leaves: the clauses of [`Catalogue`], [`Cover`] and [`Semilattice`];
 //! - what any history of calls leaves is the set that it was handed, and equal sets are equal contents:
 //!   [`histories_leave_what_they_were_handed`], [`one_set_one_content`], [`contents_are_sets`];
 //! - clear and disputed notes are by spans and membership: [`clear_notes_by_definition`],
 //!   [`disputed_notes_by_definition`], [`notes_are_clear_or_disputed`], [`notes_are_disputed_in_two_ways`],
 //!   [`clear_notes_stand_apart`];
+//! - a new note moves exactly the clear notes that it disputes: [`moved_notes_by_definition`];
+//! - covers are their sets of offsets, each as one list of maximal runs: [`covers_are_sets`],
+//!   [`gaps_of_covers_by_definition`], [`one_list_of_maximal_runs`];
 //! - joins are associative, commutative and idempotent on contents: the laws of [`Semilattice`];
 //! - bytes are read as the file of one content, or refused for one cause, and what is written is read back:
 //!   [`Catalogue::read`], [`one_file_reading`], [`one_file`], [`files_are_read_as_written`].
@@ -35,7 +38,8 @@ pub use catalogue::{
     AddFault, Catalogue, Change, ClearNotes, Disputed, DisputedNotes, FileFault, Notes,
     clear_notes_by_definition, clear_notes_stand_apart, contents_are_sets,
     disputed_notes_by_definition, disputes_by_tests, files_are_read_as_written,
-    notes_are_clear_or_disputed, notes_are_disputed_in_two_ways, one_file, one_file_reading,
+    moved_notes_by_definition, notes_are_clear_or_disputed, notes_are_disputed_in_two_ways,
+    one_file, one_file_reading,
 };
 pub use cover::{Cover, CoverGaps, CoverRuns, covers_are_sets, gaps_of_covers_by_definition};
 pub use history::{histories_leave_what_they_were_handed, one_set_one_content};

@@ -18,7 +18,7 @@ use std::alloc::Global;
 /// [`MAX`](mxf_klv::MAX): the report's stop says why and where. A packet that the views hold already is counted too.
 ///
 /// The piece's own catalogue is made first and then moved into the views at once. So pieces may come in any order: beside
-/// its own packets a piece costs one pass over the held notes that stand above its first, and none where it follows all.
+/// its own packets a piece costs one pass over the held notes, and none where it follows all of them.
 ///
 /// The only fault is want of memory. Then the notes of the packets that it counts were added, and nothing else.
 pub fn absorb(

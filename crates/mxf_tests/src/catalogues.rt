@@ -5,7 +5,7 @@ ghost use Rattle.mxf_catalogue.specs.Disputes.{clear_notes, disputed_notes};
 use mxf_catalogue::{Catalogue, Change, Semilattice};
 use mxf_klv::{Note, OutOfMemory, Packet, read_packet};
 use mxf_worked::builders::{essence, label, marks, note_of_file};
-use mxf_worked::worked_files::M;
+use mxf_worked::worked_files::{ESSENCE_KEY, M};
 use std::alloc::{AllocError, Global};
 use std::test::Fail;
 
@@ -40,6 +40,13 @@ fn add_essence(all: &mut Catalogue, packets: &[(u64, u64)]) -> Result<(), Fail> 
     Ok(())
 }
 
+/// What adding a new note says that moves the clear notes at these offsets.
+fn added(alloc: Global, moved: &[u64]) -> Result<Change, AllocError> {
+    Ok(Change::Added {
+        moved: Vec::from_slice(alloc, moved)?,
+    })
+}
+
 /// The note of the packet of M at this offset.
 fn of_m(alloc: Global, offset: usize) -> Result<Note, Fail> {
     note_of_file(alloc, &M, offset)
@@ -66,7 +73,7 @@ fn notes_are_held_once_and_in_order(rt: HostRuntime) -> Result<(), Fail> {
     let mut all = Catalogue::new(alloc);
     assert!(rt; all.is_empty());
     for offset in [216usize, 0, 108] {
-        assert_eq!(rt; all.add(of_m(alloc, offset)?)?, Change::Added);
+        assert_eq!(rt; all.add(of_m(alloc, offset)?)?, added(alloc, &[])?);
     }
     assert_eq!(rt; all.add(of_m(alloc, 0)?)?, Change::Repeated);
     assert_eq!(rt; all.len(), 3);
@@ -109,9 +116,9 @@ fn packets_at_one_offset_are_disputed_by_it_alone(rt: HostRuntime) -> Result<(),
             (&packet, &changed)
         };
         let mut all = Catalogue::new(alloc);
-        assert_eq!(rt; all.add(Note::of(alloc, 0, first)?)?, Change::Added);
+        assert_eq!(rt; all.add(Note::of(alloc, 0, first)?)?, added(alloc, &[])?);
         assert!(rt; all.clear_at(0).is_some());
-        assert_eq!(rt; all.add(Note::of(alloc, 0, second)?)?, Change::Added);
+        assert_eq!(rt; all.add(Note::of(alloc, 0, second)?)?, added(alloc, &[0])?);
         let marks = marks(alloc, &all)?;
         assert_eq!(rt;
             marks.as_slice(),
@@ -162,6 +169,74 @@ fn a_packet_among_disputed_ones_is_disputed(rt: HostRuntime) -> Result<(), Fail>
         assert_eq!(rt; marks.as_slice(), expected.as_slice(), "in {order:?}");
         assert!(rt; last.clear_at(120).is_none());
     }
+    Ok(())
+}
+
+/// What adding these packets one after another moves.
+fn moved_by(alloc: Global, packets: &[(u64, u64)]) -> Result<Vec<Change>, Fail> {
+    let mut all = Catalogue::new(alloc);
+    let mut changes = Vec::new(alloc);
+    for (offset, length) in packets {
+        changes.push(all.add(essence(*offset, *length)?)?)?;
+    }
+    Ok(changes)
+}
+
+#[test]
+fn an_addition_tells_the_clear_notes_that_it_disputes(rt: HostRuntime) -> Result<(), Fail> {
+    let alloc = rt.alloc();
+    let last = vec![in alloc;
+        added(alloc, &[])?,
+        added(alloc, &[])?,
+        added(alloc, &[0, 200])?,
+    ]?;
+    assert_eq!(rt; moved_by(alloc, &[A, B, C])?, last);
+    let middle = vec![in alloc; added(alloc, &[])?, added(alloc, &[0])?, added(alloc, &[])?]?;
+    assert_eq!(rt; moved_by(alloc, &[A, C, B])?, middle);
+    let among = moved_by(alloc, &[A, B, C, D])?;
+    assert_eq!(rt; among.get(3), Some(&added(alloc, &[])?));
+    Ok(())
+}
+
+/// The number of small packets.
+const SMALL: usize = 4096;
+
+/// 4,096 packets of 17 bytes, one after another from 0 on.
+fn small_packets(alloc: Global) -> Result<Catalogue, Fail> {
+    let mut all = Catalogue::new(alloc);
+    for number in 0..SMALL {
+        all.add(essence(17 * number as u64, 0)?)?;
+    }
+    Ok(all)
+}
+
+/// The note of a packet from 8 to 69,632.
+fn long_packet() -> Result<Note, Fail> {
+    Ok(Note::digested(8, label(ESSENCE_KEY)?, 4, 69_604, [0; 32]).ok_or("a note")?)
+}
+
+/// Whether the notes are disputed by overlaps alone, and this many.
+fn all_overlap(all: &Catalogue, count: usize) -> bool {
+    all.disputed().count() == count && all.disputed().all(|d| d.overlaps && !d.same_offset)
+}
+
+#[test]
+fn a_long_packet_over_many_small_ones_disputes_them_all(rt: HostRuntime) -> Result<(), Fail> {
+    let alloc = rt.alloc();
+    let mut last = small_packets(alloc)?;
+    assert_eq!(rt; last.clear().count(), SMALL);
+    let offsets: Vec<u64> = (0..SMALL).map(|number| 17 * number as u64).collect(alloc)?;
+    assert_eq!(rt; last.add(long_packet()?)?, added(alloc, &offsets)?);
+    assert_eq!(rt; last.clear().count(), 0);
+    assert!(rt; all_overlap(&last, SMALL + 1));
+    assert_eq!(rt; last.spans().gaps().count(), 0);
+    let mut first = Catalogue::new(alloc);
+    first.add(long_packet()?)?;
+    for number in 0..SMALL {
+        first.add(essence(17 * number as u64, 0)?)?;
+    }
+    assert!(rt; first.same(&last));
+    assert!(rt; all_overlap(&first, SMALL + 1));
     Ok(())
 }
 

@@ -27,4 +27,5 @@ pub mod SameViewsLaws
 pub mod SegmentLaws
 pub mod SmallFiles
 pub mod SpanCounts
+pub mod SpanGaps
 pub mod StartLaws

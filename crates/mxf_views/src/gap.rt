@@ -5,33 +5,32 @@ ghost use Rattle.mxf_catalogue.specs.Content.{IsContent};
 ghost use Rattle.std.specs.Iterator.{YieldsFirst, item_count};
 ghost use Rattle.mxf_views.specs.Gaps.{AreGaps, gaps_of};
 
-use mxf_catalogue::{Notes, Run};
+use mxf_catalogue::{Catalogue, CoverGaps, Run};
 use std::marker::Model;
 
 /// The gaps that are left, rising.
 #[derive(Debug, Drop)]
 pub struct Gaps<'a> {
-    reached: u64,
-    notes: Notes<'a>,
+    gaps: CoverGaps<'a>,
 }
 
 impl<'a> Model for Gaps<'a> {
     ghost use Rattle.std.specs.Prelude.{List};
     ghost use Rattle.mxf_catalogue.specs.declared.run.Run.{Run};
-    ghost use Rattle.mxf_views.specs.Gaps.{gaps_from};
 
     ghost Value = { List Run };
 
-    ghost view = { λ s. gaps_from s.reached s.notes };
+    ghost view = { λ s. s.gaps };
 }
 
 impl<'a> Gaps<'a> {
-    pub(crate) fn of(notes: Notes<'a>) -> Gaps<'a>
-        requires { length notes < 2 ^ 64 }
-        ensures gaps { result ≡ gaps_of notes.entry }
+    pub(crate) fn of(catalogue: &'a Catalogue) -> Gaps<'a>
+        ensures gaps { result ≡ gaps_of catalogue.now }
         ensures bound { length result < 2 ^ 64 }
     {
-        Gaps { reached: 0, notes }
+        Gaps {
+            gaps: catalogue.spans().gaps(),
+        }
     }
 }
 
@@ -43,17 +42,7 @@ impl<'a> Iterator for Gaps<'a> {
     ghost remaining = { item_count (λ s. s) };
 
     fn next(&mut self) -> Option<Run> {
-        while let Some(note) = self.notes.next() {
-            let start = self.reached;
-            self.reached = start.max(note.end());
-            if start < note.offset() {
-                return Some(Run {
-                    start,
-                    end: note.offset(),
-                });
-            }
-        }
-        None
+        self.gaps.next()
     }
 }
 

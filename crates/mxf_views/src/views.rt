@@ -5,6 +5,7 @@ ghost use Rattle.mxf_catalogue.specs.Disputes.{SharesByte, clear_notes};
 ghost use Rattle.mxf_klv.specs.Parts.{NoteParts};
 ghost use Rattle.mxf_klv.specs.Rising.{In};
 ghost use Rattle.mxf_catalogue.specs.Content.{has_note, with_note, union_of};
+ghost use Rattle.mxf_catalogue.specs.Moved.{TellsMoved};
 ghost use Rattle.mxf_views.specs.Partitions.{partitions_of, link_of, link_at, is_linked, chain_of, is_header, is_footer, is_greatest, is_no_unreadable_pack};
 ghost use Rattle.mxf_views.specs.Gaps.{gaps_of};
 ghost use Rattle.mxf_views.specs.Copies.{copies_of, preferred_of, sets_of};
@@ -84,6 +85,7 @@ impl Views {
     pub fn add(&mut self, note: Note) -> Result<Change, AddFault>
         ensures added { OnOk result (self.new ≡ with_note note self.old) }
         ensures repeated { (result ≡ Ok Change.Repeated) ↔ In note self.old }
+        ensures moved { IfOk result (TellsMoved note self.old) }
         ensures fault { IfErr result (λ f. f.note ≡ note) }
         ensures err { OnErr result (self.new ≡ self.old) }
     {
@@ -243,7 +245,7 @@ impl Views {
         // A count of the result fits.
         ensures bound { length result < 2 ^ 64 }
     {
-        Gaps::of(self.catalogue.notes())
+        Gaps::of(&self.catalogue)
     }
 
     /// The copies of the header metadata, one for each partition that states some, rising.

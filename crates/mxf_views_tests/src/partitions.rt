@@ -58,7 +58,8 @@ fn header_rewritten_in_place_is_disputed(rt: HostRuntime) -> Result<(), Fail> {
     let mut key = HEADER_KEY;
     key[14] = 0x03;
     let rewritten = note_at(alloc, 0, key, 4, header_value())?;
-    assert_eq!(rt; views.add(rewritten)?, Change::Added);
+    let moved = vec![in alloc; 0]?;
+    assert_eq!(rt; views.add(rewritten)?, Change::Added { moved });
     let again = note_at(alloc, 0, HEADER_KEY, 4, header_value())?;
     assert_eq!(rt; views.add(again)?, Change::Repeated);
     let marks = marks(alloc, views.catalogue())?;

@@ -6,36 +6,30 @@ ghost use Rattle.mxf_klv.specs.Rising.{In};
 ghost use Rattle.mxf_catalogue.specs.Content.{IsContent};
 ghost use Rattle.mxf_catalogue.specs.Disputes.{IsClear, SharesByte, clear_notes};
 
-use super::disputed::is_disputed;
 use mxf_klv::Note;
 use std::marker::Model;
 
 /// The clear notes of a catalogue that are left, in their order.
 #[derive(Debug, Drop)]
 pub struct ClearNotes<'a> {
-    all: &'a [Note],
     left: &'a [Note],
 }
 
 impl<'a> Model for ClearNotes<'a> {
     ghost use Rattle.std.specs.Prelude.{List};
     ghost use Rattle.mxf_klv.specs.Parts.{NoteParts};
-    ghost use Rattle.mxf_catalogue.specs.Disputes.{clear_of};
 
     ghost Value = { List NoteParts };
 
-    ghost view = { λ s. clear_of s.left.now s.all.now };
+    ghost view = { λ s. s.left.now };
 }
 
 impl<'a> ClearNotes<'a> {
     pub(super) fn of(notes: &'a [Note]) -> ClearNotes<'a>
-        ensures notes { result ≡ clear_notes notes.now }
+        ensures notes { result ≡ notes.now }
         ensures bound { length result < 2 ^ 64 }
     {
-        ClearNotes {
-            all: notes,
-            left: notes,
-        }
+        ClearNotes { left: notes }
     }
 }
 
@@ -47,13 +41,9 @@ impl<'a> Iterator for ClearNotes<'a> {
     ghost remaining = { item_count (λ s. s) };
 
     fn next(&mut self) -> Option<&'a Note> {
-        while let Some((first, left)) = self.left.split_first() {
-            self.left = left;
-            if !is_disputed(first, self.all) {
-                return Some(first);
-            }
-        }
-        None
+        let (first, left) = self.left.split_first()?;
+        self.left = left;
+        Some(first)
     }
 }
 

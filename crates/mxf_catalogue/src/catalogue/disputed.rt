@@ -5,10 +5,12 @@ ghost use Rattle.mxf_klv.specs.Parts.{NoteParts};
 ghost use Rattle.mxf_klv.specs.Rising.{In};
 ghost use Rattle.mxf_catalogue.specs.Content.{IsContent};
 ghost use Rattle.mxf_catalogue.specs.Disputes.{SharesByte, SharesOffset, Overlaps, IsDisputed, IsClear};
-ghost use Rattle.mxf_catalogue.specs.Disputes.{DisputedParts, IsDisputedOf};
+ghost use Rattle.mxf_catalogue.specs.Disputes.{DisputedParts, IsDisputedOf, disputed_parts};
 ghost use Rattle.mxf_catalogue.specs.Disputes.{is_byte_shared, is_offset_shared, is_overlapped, is_disputed};
 ghost use Rattle.mxf_catalogue.specs.Disputes.{disputed_notes};
+ghost use Rattle.mxf_catalogue.specs.Reach.{StandsIn};
 
+use super::placing::starting_below;
 use mxf_klv::Note;
 use std::marker::Model;
 
@@ -31,29 +33,44 @@ impl<'a> Model for Disputed<'a> {
 }
 
 /// The disputed notes of a catalogue that are left, in their order.
+///
+/// How a note is disputed is told from its neighbours, by binary search, and from how far the notes before it reach.
 #[derive(Debug, Drop)]
 pub struct DisputedNotes<'a> {
     all: &'a [Note],
     left: &'a [Note],
+    /// The offset after that of the last note that was passed, in bytes; 0 before the first.
+    above: u64,
+    /// The greatest end, in bytes, of the passed notes with lower offsets than the last.
+    lower: u64,
+    /// The greatest end, in bytes, of all passed notes.
+    reached: u64,
 }
 
 impl<'a> Model for DisputedNotes<'a> {
-    ghost use Rattle.std.specs.Prelude.{List};
-    ghost use Rattle.mxf_catalogue.specs.Disputes.{DisputedParts, disputed_of};
+    ghost use Rattle.std.specs.Prelude.{List, map};
+    ghost use Rattle.mxf_catalogue.specs.Disputes.{DisputedParts, disputed_parts};
+    ghost use Rattle.mxf_catalogue.specs.Reach.{IsLeft};
 
     ghost Value = { List DisputedParts };
 
-    ghost view = { λ s. disputed_of s.left.now s.all.now };
+    ghost view = { λ s. map (λ n. disputed_parts n s.all.now) s.left.now };
+
+    ghost invariant = { λ s. IsLeft s.all.now s.left.now s.above s.lower s.reached };
 }
 
 impl<'a> DisputedNotes<'a> {
     pub(super) fn of(notes: &'a [Note]) -> DisputedNotes<'a>
-        ensures notes { result ≡ disputed_notes notes.now }
+        requires { IsContent notes.now }
+        ensures notes { result ≡ map (λ n. disputed_parts n notes.now) notes.now }
         ensures bound { length result < 2 ^ 64 }
     {
         DisputedNotes {
             all: notes,
             left: notes,
+            above: 0,
+            lower: 0,
+            reached: 0,
         }
     }
 }
@@ -66,50 +83,34 @@ impl<'a> Iterator for DisputedNotes<'a> {
     ghost remaining = { item_count (λ s. s) };
 
     fn next(&mut self) -> Option<Disputed<'a>> {
-        while let Some((note, left)) = self.left.split_first() {
-            self.left = left;
-            let same_offset = is_offset_shared(note, self.all);
-            let overlaps = is_overlapped(note, self.all);
-            if same_offset || overlaps {
-                return Some(Disputed {
-                    note,
-                    same_offset,
-                    overlaps,
-                });
-            }
-        }
-        None
+        let (note, left) = self.left.split_first()?;
+        let lower = if note.offset() < self.above {
+            self.lower
+        } else {
+            self.reached
+        };
+        let disputed = mark(note, self.all, left, self.above, lower);
+        self.left = left;
+        self.above = note.offset() + 1;
+        self.lower = lower;
+        self.reached = self.reached.max(note.end());
+        Some(disputed)
     }
 }
 
-/// Whether the spans of the two share a byte.
-fn is_byte_shared(a: &Note, b: &Note) -> bool
-    ensures { result ≡ is_byte_shared a.now b.now }
+/// How a note is disputed that stands in a content before those that are left: `above` is the offset after that of the
+/// note before it, and `lower` the greatest end of the notes with lower offsets than its own.
+fn mark<'a>(note: &'a Note, _all: &[Note], left: &[Note], above: u64, lower: u64) -> Disputed<'a>
+    requires { StandsIn note.now _all.now left.now above lower }
+    ensures { result ≡ disputed_parts note.now _all.now }
 {
-    a.offset() < b.end() && b.offset() < a.end()
-}
-
-/// Whether another of the notes has its offset.
-fn is_offset_shared(note: &Note, notes: &[Note]) -> bool
-    ensures { result ≡ is_offset_shared note.now notes.now }
-{
-    notes
-        .iter()
-        .any(|other| other.offset() == note.offset() && other != note)
-}
-
-/// Whether one of the notes with a different offset shares a byte with it.
-fn is_overlapped(note: &Note, notes: &[Note]) -> bool
-    ensures { result ≡ is_overlapped note.now notes.now }
-{
-    notes.iter().any(|other| other.offset() != note.offset() && is_byte_shared(other, note))
-}
-
-/// Whether another of the notes shares a byte with it.
-pub(super) fn is_disputed(note: &Note, notes: &[Note]) -> bool
-    ensures { result ≡ is_disputed note.now notes.now }
-{
-    is_offset_shared(note, notes) || is_overlapped(note, notes)
+    let at = starting_below(left, note.offset() + 1);
+    let to = starting_below(left, note.end());
+    Disputed {
+        note,
+        same_offset: (note.offset() < above) | (0 < at),
+        overlaps: (note.offset() < lower) | (at < to),
+    }
 }
 
 /// A law of [`Catalogue::disputed`](crate::Catalogue::disputed): its list has exactly the disputed notes, in their

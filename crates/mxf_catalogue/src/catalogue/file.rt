@@ -4,7 +4,8 @@ ghost use Rattle.std.specs.Prelude.{IfErr, IfOk, IsTrue, Result, Ok, Err};
 ghost use Rattle.mxf_klv.specs.Parts.{NoteParts};
 ghost use Rattle.mxf_klv.specs.Written.{Puts};
 ghost use Rattle.mxf_catalogue.specs.Content.{IsCatalogue, IsContent};
-ghost use Rattle.mxf_catalogue.specs.CatalogueFile.{IsFileOf, IsRefused, ReadsFile, file_bytes, note_bytes, start_bytes};
+ghost use Rattle.mxf_catalogue.specs.CatalogueFile.{IsFileOf, IsRefused, ReadsFile};
+ghost use Rattle.mxf_catalogue.specs.CatalogueFile.{file_bytes, note_bytes, start_bytes};
 ghost use Rattle.mxf_catalogue.specs.declared.catalogue.file.FileFault.{FileFault};
 ghost use Rattle.mxf_catalogue.specs.declared.catalogue.file.FileFault.TheVariants as faults;
 
@@ -12,9 +13,9 @@ mod entry;
 mod head;
 mod start;
 
-use super::Catalogue;
+use super::{Catalogue, Notes};
 use entry::{put_note, read_note};
-use mxf_klv::{Encode, Note, Progress, WriteFault};
+use mxf_klv::{Encode, Note, OutOfMemory, Progress, WriteFault};
 use start::{put_start, split_start};
 use std::alloc::{AllocError, AllocFailed, Global};
 use std::cmp::Ordering;
@@ -80,7 +81,10 @@ impl Catalogue {
     {
         let (count, rest) = split_start(bytes)?;
         let notes = read_notes(alloc, bytes, count, rest)?;
-        Ok(Catalogue { notes })
+        match Catalogue::of_notes(alloc, notes) {
+            Ok(all) => Ok(all),
+            Err(OutOfMemory) => Err(FileFault::OutOfMemory),
+        }
     }
 }
 
@@ -123,16 +127,16 @@ impl Encode for Catalogue {
 
     fn put_to<W: Write>(&self, progress: &mut Progress, writer: &mut W) -> Result<(), WriteFault> {
         put_start(self.len() as u64, progress, writer)?;
-        put_notes(&self.notes, progress, writer)
+        put_notes(self.notes(), progress, writer)
     }
 }
 
 fn put_notes<W: Write>(
-    notes: &[Note],
+    notes: Notes<'_>,
     progress: &mut Progress,
     writer: &mut W,
 ) -> Result<(), WriteFault>
-    ensures { Puts W.contents writer.old writer.new progress.old progress.new result (flat_map note_bytes notes.now) }
+    ensures { Puts W.contents writer.old writer.new progress.old progress.new result (flat_map note_bytes notes.entry) }
 {
     'notes: for note in notes {
         put_note(note, progress, writer)?;

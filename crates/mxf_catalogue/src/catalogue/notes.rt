@@ -1,31 +1,38 @@
 //! All notes of a catalogue.
-ghost use Rattle.std.specs.Prelude.{◌≡◌, ◌^◌, ◌<◌, length};
+ghost use Rattle.std.specs.Prelude.{◌≡◌, ◌∷◌, [], IfSome, MatchOption};
 ghost use Rattle.std.specs.Iterator.{YieldsFirstRef, item_count};
+ghost use Rattle.mxf_catalogue.specs.Content.{IsContent, union_of};
 
 use mxf_klv::Note;
+use std::cmp::Ordering;
 use std::marker::Model;
 
 /// The notes of a catalogue that are left, in their order.
 #[derive(Debug, Drop)]
 pub struct Notes<'a> {
-    left: &'a [Note],
+    clear: &'a [Note],
+    disputed: &'a [Note],
 }
 
 impl<'a> Model for Notes<'a> {
     ghost use Rattle.std.specs.Prelude.{List};
     ghost use Rattle.mxf_klv.specs.Parts.{NoteParts};
+    ghost use Rattle.mxf_catalogue.specs.Content.{IsContent, union_of};
 
     ghost Value = { List NoteParts };
 
-    ghost view = { λ s. s.left.now };
+    ghost view = { λ s. union_of s.clear.now s.disputed.now };
+
+    ghost invariant = { λ s. IsContent s.clear.now × IsContent s.disputed.now };
 }
 
 impl<'a> Notes<'a> {
-    pub(super) fn of(notes: &'a [Note]) -> Notes<'a>
-        ensures notes { result ≡ notes.now }
-        ensures bound { length result < 2 ^ 64 }
+    pub(super) fn of(clear: &'a [Note], disputed: &'a [Note]) -> Notes<'a>
+        requires clear { IsContent clear.now }
+        requires disputed { IsContent disputed.now }
+        ensures { result ≡ union_of clear.now disputed.now }
     {
-        Notes { left: notes }
+        Notes { clear, disputed }
     }
 }
 
@@ -37,8 +44,34 @@ impl<'a> Iterator for Notes<'a> {
     ghost remaining = { item_count (λ s. s) };
 
     fn next(&mut self) -> Option<&'a Note> {
-        let (first, left) = self.left.split_first()?;
-        self.left = left;
+        let (first, clear, disputed) = split_first(self.clear, self.disputed)?;
+        self.clear = clear;
+        self.disputed = disputed;
         Some(first)
+    }
+}
+
+/// The first note of two contents, and what they have left without it.
+fn split_first<'a>(
+    left: &'a [Note],
+    right: &'a [Note],
+) -> Option<(&'a Note, &'a [Note], &'a [Note])>
+    requires left { IsContent left.now }
+    requires right { IsContent right.now }
+    ensures first { MatchOption result (union_of left.now right.now ≡ [])
+        (λ s. union_of left.now right.now ≡ s.0.now ∷ union_of s.1.now s.2.now) }
+    ensures rest { IfSome result (λ s. IsContent s.1.now × IsContent s.2.now) }
+{
+    let Some((a, after_a)) = left.split_first() else {
+        let (b, after_b) = right.split_first()?;
+        return Some((b, left, after_b));
+    };
+    let Some((b, after_b)) = right.split_first() else {
+        return Some((a, after_a, right));
+    };
+    match a.cmp(b) {
+        Ordering::Less => Some((a, after_a, right)),
+        Ordering::Equal => Some((a, after_a, after_b)),
+        Ordering::Greater => Some((b, left, after_b)),
     }
 }

@@ -1,29 +1,48 @@
-use Rattle.std.proofs.Common.{◌≡◌, sym, ◌∙◌, ap, subst}
-use Rattle.std.specs.List.{insert}
+use Rattle.std.proofs.Common.{◌≡◌, ◌⊎◌, ◌∙◌, ap, sym, subst, List}
 use Rattle.mxf_klv.specs.NoteOrder.{note_total, note_cmp-IsAntisymmetric}
+use Rattle.mxf_klv.specs.Parts.{NoteParts}
 use Rattle.mxf_klv.specs.Rising.{In}
 use Rattle.mxf_klv.proofs.RisingLemmas.{with_one_present}
-use Rattle.mxf_catalogue.specs.Content.{IsCatalogue}
-use Rattle.mxf_catalogue.proofs.ContentLaws.{IsCatalogue-with_note}
+use Rattle.mxf_catalogue.specs.Content.{IsCatalogue, union_of, with_note}
+use Rattle.mxf_catalogue.specs.Covers.{with_run}
+use Rattle.mxf_catalogue.specs.Parts.{Covers, moved_by}
+use Rattle.mxf_catalogue.specs.Runs.{run}
+use Rattle.mxf_catalogue.proofs.ContentLaws.{In-union_of}
+use Rattle.mxf_catalogue.proofs.KeptLaws.{covers_with, union_is}
+use Rattle.mxf_catalogue.proofs.PartLaws.{moved_part}
 use Rattle.mxf_catalogue.proofs.catalogue.Catalogue.add.Goals as goal
-use Rattle.mxf_catalogue.proofs.catalogue.Catalogue.add.Goals.{in-Ok-insert, in-Err-insert}
 
-pub invariant_of-self : goal.invariant_of-self
-invariant_of-self c =
-    elim c.match-insert.branch [
-      | in-Ok-insert w ↦
-          let note = c.args.note in
-          let held = c.deref.result.now in
-          let before : IsCatalogue held = subst IsCatalogue (sym c.deref.ensures.value) c.self.invariant in
-          let is = w.in-Ok-insert.ensures.items
-          ∙ (ap (λ l. insert l c.in-Err.at note) (sym c.deref.ensures.value) ∙ c.in-Err.ensures.absent.inserted) in
-          subst IsCatalogue (sym is) (IsCatalogue-with_note note held c.offset.ensures.note before)
-      | in-Err-insert w ↦ subst IsCatalogue (sym w.in-Err-insert.ensures.items) c.self.invariant
-    ]
-
-pub returns-in-Ok-clause-added : goal.returns-in-Ok-clause-added
-returns-in-Ok-clause-added c =
-    let e : c.deref.result.now ≡ c.args.self.now = c.deref.ensures.value ∙ c.self.view_is in
-    let all : IsCatalogue c.args.self.now = subst IsCatalogue c.self.view_is c.self.invariant in
-    let held : In c.args.note c.args.self.now = subst (λ l. In c.args.note l) e c.in-Ok.ensures.found in
+pub returns-then-have-clause-added : goal.returns-then-have-clause-added
+returns-then-have-clause-added c =
+    let parts = c.self.inside.parts in
+    let all = subst IsCatalogue c.self.view_is
+    (union_is parts.clear.items parts.disputed.items c.self.invariant.kept.parts) in
+    let held = subst (λ (l : List NoteParts). In c.args.note l) c.self.view_is (c.have.ensures.0 c.if-have.true) in
     sym (with_one_present note_total note_cmp-IsAntisymmetric c.args.note c.args.self.now all.content held)
+
+pub invariant_of-self-2 : goal.invariant_of-self-2
+invariant_of-self-2 c =
+    let parts = c.self.inside.parts in
+    let old = c.self.inside.spans in
+    let cs = parts.clear.items in
+    let ds = parts.disputed.items in
+    let new = union_of c.put.new.self.clear.items c.put.new.self.disputed.items in
+    let items : union_of c.make_room.new.self.clear.items c.make_room.new.self.disputed.items ≡ union_of cs ds =
+    λ i. union_of (c.in-Ok.ensures.clear i) (c.in-Ok.ensures.disputed i) in
+    let all = c.put.ensures.content ∙ ap (with_note c.args.note) items in
+    let runs = c.in-Ok-add.ensures.added
+    ∙ (λ i. with_run (run (c.offset.ensures.offset i) (c.end.ensures i)) old) in
+    record {
+      kept = c.put.ensures.kept;
+      covers = subst (λ r. Covers r new) (sym runs) (covers_with c.args.note cs ds new old c.self.invariant.covers all);
+    }
+
+pub returns-clause-moved : goal.returns-clause-moved
+returns-clause-moved c =
+    let n = c.args.note in
+    let cs = c.self.inside.parts.clear.items in
+    let ds = c.self.inside.parts.disputed.items in
+    let new : In n cs ⊎ In n ds → ⊥ = λ h.
+    let t = c.have.ensures.1 ((In-union_of n cs ds).1 h) in
+    let f = c.if-have.false in cc (t, f) in
+    c.in-Ok.ensures.moved ∙ moved_part n cs ds c.self.invariant.kept.parts new ∙ ap (moved_by n) c.self.view_is

@@ -1,24 +1,61 @@
-use Rattle.std.proofs.Common.{sym, ◌∙◌, subst}
+use Rattle.std.proofs.Common.{◌≡◌, true, sym, ◌∙◌, subst}
 use Rattle.std.proofs.lemmas.Slice.Eq.{slice_eq-Decides}
 use Rattle.mxf_klv.specs.Parts.{NoteParts}
 use Rattle.mxf_klv.specs.Rising.{In}
-use Rattle.mxf_catalogue.specs.Content.{IsCatalogue}
-use Rattle.mxf_catalogue.proofs.ContentLaws.{same_content, note_eq-Decides}
+use Rattle.mxf_catalogue.specs.Content.{union_of}
+use Rattle.mxf_catalogue.proofs.ContentLaws.{note_eq-Decides}
+use Rattle.mxf_catalogue.proofs.PartLaws.{same_parts}
 use Rattle.mxf_catalogue.proofs.catalogue.CatalogueSemilattice.same.Goals as goal
 
-pub returns-clause-list : goal.returns-clause-list
-returns-clause-list c =
-    let a = c.self.inside.notes.items in
-    let b = c.other.inside.notes.items in
-    let d = slice_eq-Decides note_eq-Decides a b c.eq.result c.eq.ensures in
-    (λ h. sym c.self.view_is ∙ (d.0 h ∙ c.other.view_is), λ e. d.1 (c.self.view_is ∙ (e ∙ sym c.other.view_is)))
+pub returns-then-eq-clause-members : goal.returns-then-eq-clause-members
+returns-then-eq-clause-members c =
+    let a = c.self.inside.parts in
+    let b = c.other.inside.parts in
+    let first = (slice_eq-Decides note_eq-Decides a.clear.items b.clear.items c.eq.result c.eq.ensures).0
+    c.if-eq.true in
+    let d = slice_eq-Decides note_eq-Decides a.disputed.items b.disputed.items c.eq-then-eq.result
+    c.eq-then-eq.ensures in
+    let same = λ (h : c.eq-then-eq.result ≡ true).
+    sym c.self.view_is ∙ (λ i. union_of (first i) (d.0 h i)) ∙ c.other.view_is in
+    let back = same_parts a.clear.items a.disputed.items b.clear.items b.disputed.items c.self.invariant.kept.parts
+    c.other.invariant.kept.parts in (
+      λ h (m : NoteParts). (subst (In m) (same h), subst (In m) (sym (same h))),
+      λ k. d.1 (back (λ m. (
+        λ h. subst (In m) (sym c.other.view_is) ((k m).0 (subst (In m) c.self.view_is h)),
+        λ h. subst (In m) (sym c.self.view_is) ((k m).1 (subst (In m) c.other.view_is h)),
+      ))).1,
+    )
 
-pub returns-clause-members : goal.returns-clause-members
-returns-clause-members c =
-    let a : IsCatalogue c.args.self.now = subst IsCatalogue c.self.view_is c.self.invariant in
-    let b : IsCatalogue c.args.other.now = subst IsCatalogue c.other.view_is c.other.invariant in
-    let one = same_content c.args.self.now c.args.other.now a.content b.content in
-    let list = returns-clause-list c in (
-      λ h (m : NoteParts). (subst (In m) (list.0 h), subst (In m) (sym (list.0 h))),
-      λ same. list.1 (one same),
+pub returns-then-eq-clause-list : goal.returns-then-eq-clause-list
+returns-then-eq-clause-list c =
+    let a = c.self.inside.parts in
+    let b = c.other.inside.parts in
+    let first = (slice_eq-Decides note_eq-Decides a.clear.items b.clear.items c.eq.result c.eq.ensures).0
+    c.if-eq.true in
+    let d = slice_eq-Decides note_eq-Decides a.disputed.items b.disputed.items c.eq-then-eq.result
+    c.eq-then-eq.ensures in
+    let members = returns-then-eq-clause-members c in (
+      λ h. sym c.self.view_is ∙ (λ i. union_of (first i) (d.0 h i)) ∙ c.other.view_is,
+      λ e. members.1 (λ (m : NoteParts). (subst (In m) e, subst (In m) (sym e))),
+    )
+
+pub returns-else-eq-clause-members : goal.returns-else-eq-clause-members
+returns-else-eq-clause-members c =
+    let a = c.self.inside.parts in
+    let b = c.other.inside.parts in
+    let d = slice_eq-Decides note_eq-Decides a.clear.items b.clear.items c.eq.result c.eq.ensures in
+    let back = same_parts a.clear.items a.disputed.items b.clear.items b.disputed.items c.self.invariant.kept.parts
+    c.other.invariant.kept.parts in (
+      λ h. let f = c.if-eq.false in cc (h, f),
+      λ k. d.1 (back (λ m. (
+        λ h. subst (In m) (sym c.other.view_is) ((k m).0 (subst (In m) c.self.view_is h)),
+        λ h. subst (In m) (sym c.self.view_is) ((k m).1 (subst (In m) c.other.view_is h)),
+      ))).0,
+    )
+
+pub returns-else-eq-clause-list : goal.returns-else-eq-clause-list
+returns-else-eq-clause-list c =
+    let members = returns-else-eq-clause-members c in (
+      λ h. let f = c.if-eq.false in cc (h, f),
+      λ e. members.1 (λ (m : NoteParts). (subst (In m) e, subst (In m) (sym e))),
     )

@@ -1,17 +1,46 @@
+use Rattle.std.proofs.Common.{◌+◌, ◌++◌, ◌∷◌, ◌∙◌, [], List, ap, append-nil, append_assoc, arith, length, subst, sym}
+use Rattle.std.proofs.KnownBytes.{Appends-nil}
 use Rattle.std.proofs.lemmas.Result.{err_from_is_err_and}
+use Rattle.std.specs.Io.KnownBytes.{Appends}
+use Rattle.std.specs.List.{flat_map}
+use Rattle.mxf_klv.specs.Parts.{NoteParts}
+use Rattle.mxf_klv.specs.Written.{counted}
+use Rattle.mxf_catalogue.specs.CatalogueFile.{note_bytes}
 use Rattle.mxf_catalogue.proofs.FileParts.{fails_in_note, note_written}
 use Rattle.mxf_catalogue.proofs.catalogue.file.put_notes.Goals as goal
+
+pub notes-init : goal.notes-init
+notes-init g c = (
+  [],
+  c.into_iter-note-iterator.ensures.into_iter_gives,
+  Appends-nil (g.W.Write.contents c.args.writer.now),
+  omega (arith, c.args.progress.now.in_range),
+)
+
+pub notes-preserved : goal.notes-preserved
+notes-preserved g c =
+    let i = c.notes.invariant in
+    let n = c.in-Some.note.now in
+    let next = ap (λ (l : List NoteParts). i.0 ++ l) (sym c.in-Some.ensures.steps) ∙ i.1 in
+    let w = note_written _ _ _ _ _ _ i.0 n i.2 i.3 c.in_ok-put_note.ensures.0 c.in_ok-put_note.ensures.1 in
+    (i.0 ++ n ∷ [], append_assoc i.0 (n ∷ []) c.next.new.self ∙ next, w.0, w.1)
 
 pub returns-in_err-put_note : goal.returns-in_err-put_note
 returns-in_err-put_note g c =
     let p = err_from_is_err_and c.from_residual.result c.from_residual.ensures.1 in
-    let (written, counted) = c.notes.invariant in
+    let i = c.notes.invariant in
+    let next = ap (λ (l : List NoteParts). i.0 ++ l) (sym c.in-Some.ensures.steps) ∙ i.1 in
     rw (p.1, p.2)
-    (fails_in_note _ _ _ _ _ _ _ _ _ c.note-item.result c.notes-test.true c.note-item.is written counted
-    c.in_err-put_note.ensures)
+    (fails_in_note _ _ _ _ _ _ _ _ i.0 c.next.new.self c.in-Some.note.now next i.2 i.3 c.in_err-put_note.ensures)
 
-pub notes-preserved : goal.notes-preserved
-notes-preserved g c =
-    let (written, counted) = c.notes.invariant in
-    note_written _ _ _ _ _ _ _ _ c.note-item.result c.notes-test.true c.note-item.is written counted
-    c.in_ok-put_note.ensures.0 c.in_ok-put_note.ensures.1
+pub returns : goal.returns
+returns g c =
+    let i = c.notes.invariant in
+    let contents = g.W.Write.contents in
+    let before = c.args.progress.now.written in
+    let all = sym (append-nil i.0) ∙ ap (λ (l : List NoteParts). i.0 ++ l) (sym c.in-None.ensures.steps.0) ∙ i.1 in (
+      subst (λ (l : List NoteParts). Appends (contents c.args.writer.now) (contents c.notes.writer)
+          (flat_map note_bytes l)) all
+          i.2,
+      i.3 ∙ ap (λ (l : List NoteParts). counted (before + length (flat_map note_bytes l))) all,
+    )

@@ -7,5 +7,11 @@ use Rattle.mxf_catalogue.proofs.cover.placing.ending_below.Goals as goal
 pub returns : goal.returns
 returns c =
     let parted = IsPartitionedBy-ltb (λ r. r.end) _ c.args.offset (ends_rise 0 _ c.requires.maximal) in
-    let point = IsPartitionPoint-from_clause (λ r. nat_lt r.end c.args.offset) _ _ c.partition_point.ensures.partitioned parted (λ a r q k. search rules) in
-    record { bound = c.partition_point.ensures.bound; below = λ k d l h. ltb-true _ _ (point.0 k d l h); above = λ k d l h. ltb-false _ _ (point.1 k d l h) }
+    let point = IsPartitionPoint-from_clause
+    (λ r. nat_lt r.end c.args.offset) _ _ c.partition_point.ensures.partitioned parted (λ a r q k. search rules) in
+    record {
+      bound = c.partition_point.ensures.bound;
+      below = λ k d l h. ltb-true _ _ (point.0 k d l h);
+      above =
+          λ k d l h. ltb-false _ _ (point.1 k d l h);
+    }

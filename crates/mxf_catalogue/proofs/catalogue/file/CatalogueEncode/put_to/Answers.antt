@@ -1,4 +1,4 @@
-use Rattle.std.proofs.Common.{length, ap, sym, ◌∙◌, ◌++◌, ℕ, ◌≡◌}
+use Rattle.std.proofs.Common.{length, ap, sym, ◌++◌, ℕ, ◌≡◌}
 use Rattle.std.proofs.lemmas.Result.{err_from_is_err_and}
 use Rattle.std.specs.Prelude.{flat_map}
 use Rattle.mxf_catalogue.specs.CatalogueFile.{file_bytes, note_bytes, start_bytes}
@@ -16,9 +16,9 @@ returns-in_err-put_start g c =
 
 pub returns : goal.returns
 returns g c =
-    let notes : c.deref.result.now ≡ c.args.self.now = c.deref.ensures.value ∙ c.self.view_is in
+    let notes : c.notes.result ≡ c.args.self.now = c.notes.ensures.notes in
     let count : c.len.result ≡ length c.args.self.now = c.len.ensures in
     WritesPart-second _ _ _ _ _ _ _ (file_bytes c.args.self.now) (start_bytes c.len.result)
-    (flat_map note_bytes c.deref.result.now)
+    (flat_map note_bytes c.notes.result)
     ((λ i. start_bytes (sym count i) ++ flat_map note_bytes (sym notes i))) c.in_ok-put_start.ensures.0
     c.in_ok-put_start.ensures.1 c.put_notes.ensures

@@ -1,0 +1,75 @@
+//! Notes that are added one by one.
+use mxf_catalogue::Catalogue;
+use mxf_klv::{Note, Ul};
+use std::alloc::Global;
+
+/// The key of the packets: essence.
+const KEY: [u8; 16] = [
+    0x06, 0x0E, 0x2B, 0x34, 0x01, 0x02, 0x01, 0x01, 0x0D, 0x01, 0x03, 0x01, 0x15, 0x01, 0x05, 0x00,
+];
+
+/// The bytes of a packet: key, length and value.
+const SIZE: u64 = 20;
+
+/// A prime that shares no factor with a count of thousands.
+const STRIDE: u64 = 611_953;
+
+/// In which order notes are added, and whether they lie apart.
+#[derive(Clone, Copy, Debug, PartialEq, Eq)]
+pub enum Order {
+    /// From the first packet of a file to the last.
+    Ascending,
+    /// From the last to the first.
+    Descending,
+    /// From far to far.
+    Shuffled,
+    /// From the first to the last, each packet over half of the next.
+    Overlapping,
+}
+
+/// How many notes are held, and how many of them are disputed.
+#[derive(Clone, Copy, Debug, PartialEq, Eq)]
+pub struct Counts {
+    pub notes: usize,
+    pub disputed: usize,
+}
+
+impl Order {
+    /// The order with the name.
+    pub fn named(name: &str) -> Option<Order> {
+        match name {
+            "ascending" => Some(Order::Ascending),
+            "descending" => Some(Order::Descending),
+            "shuffled" => Some(Order::Shuffled),
+            "overlapping" => Some(Order::Overlapping),
+            _ => None,
+        }
+    }
+
+    /// Where the packet stands that is added as the one with the number, in bytes.
+    fn offset(self, number: u64, count: u64) -> Option<u64> {
+        match self {
+            Order::Ascending => number.checked_mul(SIZE),
+            Order::Descending => count.checked_sub(number)?.checked_mul(SIZE),
+            Order::Shuffled => number.checked_mul(STRIDE)?.checked_rem(count)?.checked_mul(SIZE),
+            Order::Overlapping => number.checked_mul(SIZE / 2),
+        }
+    }
+}
+
+/// The note of a packet at an offset.
+fn note_at(offset: u64) -> Option<Note> {
+    Note::digested(offset, Ul::from_bytes(KEY)?, 1, SIZE - 17, [0; 32])
+}
+
+/// Adds so many notes, one by one; None where there is no memory or an offset is too great.
+pub fn add_notes(alloc: Global, order: Order, count: u64) -> Option<Counts> {
+    let mut all = Catalogue::new(alloc);
+    for number in 0..count {
+        all.add(note_at(order.offset(number, count)?)?).ok()?;
+    }
+    Some(Counts {
+        notes: all.len(),
+        disputed: all.disputed().count(),
+    })
+}

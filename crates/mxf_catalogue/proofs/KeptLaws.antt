@@ -1,0 +1,96 @@
+-- What a catalogue keeps, once a note is there.
+use Rattle.std.specs.Prelude.{◌≡◌, ℕ, ◌+◌, ◌≤◌, List, [], map}
+use Rattle.std.proofs.Common.{sym, subst, inl, inr}
+use Rattle.mxf_klv.specs.Parts.{NoteParts}
+use Rattle.mxf_klv.specs.Note.{IsNote, end_of}
+use Rattle.mxf_klv.specs.Rising.{In}
+use Rattle.mxf_catalogue.specs.declared.run.Run.{Run}
+use Rattle.mxf_catalogue.specs.Content.{IsCatalogue, union_of, with_note}
+use Rattle.mxf_catalogue.specs.Covers.{IsRun, spanned, with_run}
+use Rattle.mxf_catalogue.specs.Disputes.{SharesByte}
+use Rattle.mxf_catalogue.specs.Parts.{AreParts, Covers, IsKept, IsWhole, away_from, disputed_with, run_of, touching}
+use Rattle.mxf_catalogue.specs.Runs.{LiesIn}
+use Rattle.mxf_catalogue.proofs.ContentLaws.{In-union_of, In-with_note, IsCatalogue-union_of, all-In}
+use Rattle.mxf_catalogue.proofs.CoverLaws.{IsCover-with_run}
+use Rattle.mxf_catalogue.proofs.PartLaws.{In-disputed_with, In-touching, parts_with_clear, parts_with_disputed}
+use Rattle.mxf_catalogue.proofs.PartLaws.{some_member}
+use Rattle.mxf_catalogue.proofs.SpanCovers.{Covers-with, Covers-with_all, met_note, run_of-IsRun, spanned-IsRun}
+
+-- nothing is kept
+pub whole_none : IsWhole [] [] [] []
+whole_none =
+    let none : IsCatalogue [] = record { content = tt; members = tt } in
+    let parts : AreParts [] [] =
+    record { clear_is = none; disputed_is = none; apart = λ m n h k ne s. h; shared = λ n h. absurd h } in
+    let covers : Covers [] [] = λ at. (λ h. absurd h.1, λ h. absurd h.1) in
+    record {
+      kept = record { parts = parts; cover = record { maximal = tt; within = tt }; covers = covers };
+      covers =
+          covers;
+    }
+
+-- the notes of both parts
+pub union_is : (c d : List NoteParts) → AreParts c d → IsCatalogue (union_of c d)
+union_is c d p = IsCatalogue-union_of c d p.clear_is p.disputed_is
+
+-- a clear note is put
+pub kept_with_clear : (x : NoteParts) (c d : List NoteParts) (few : List Run) → IsNote x → IsKept c d few
+    → ((n : NoteParts) → In n (union_of c d) → SharesByte x n → ⊥) → IsKept (with_note x c) d few
+kept_with_clear x c d few is k far = record {
+  parts = parts_with_clear x c d is k.parts (λ n h. far n ((In-union_of n c d).1 h));
+  cover = k.cover;
+  covers = k.covers;
+}
+
+-- the run of a note with the clear notes that it touches
+pub hull-IsRun : (x : NoteParts) (c d : List NoteParts) → IsNote x → AreParts c d
+    → IsRun (spanned (run_of x) (map run_of (touching x c)))
+hull-IsRun x c d is p =
+    spanned-IsRun (run_of x) (touching x c) (run_of-IsRun x is)
+    (λ n h. (all-In IsNote c n p.clear_is.members ((In-touching x n c).0 h).0).within)
+
+-- a disputed note is put, and moves the clear notes that it touches
+pub kept_with_disputed : (x : NoteParts) (c d : List NoteParts) (few : List Run) → IsNote x → IsKept c d few
+    → (In x (union_of c d) → ⊥) → ((n : NoteParts) × In n (union_of c d) × SharesByte x n)
+    → IsKept (away_from x c) (disputed_with x c d) (with_run (spanned (run_of x) (map run_of (touching x c))) few)
+kept_with_disputed x c d few is k new near = record {
+  parts = parts_with_disputed x c d is k.parts (λ h. new ((In-union_of x c d).1 h))
+      (near.0, (In-union_of near.0 c d).0 near.1, near.2);
+  cover = IsCover-with_run (spanned (run_of x) (map run_of (touching x c))) few (hull-IsRun x c d is k.parts) k.cover;
+  covers = Covers-with_all x (touching x c) few d (disputed_with x c d) k.covers (λ n h. ((In-touching x n c).0 h).1)
+      (λ n.
+      let t = In-disputed_with x n c d in
+      let m = In-touching x n c in (
+        λ h. elim (t.0 h) [ inl e ↦ inl e | inr i ↦ inr (elim i [ inl j ↦ inl j | inr j ↦ inr (m.1 j) ]) ],
+        λ h. t.1 (elim h [ inl e ↦ inl e | inr i ↦ inr (elim i [ inl j ↦ inl j | inr j ↦ inr (m.0 j) ]) ]),
+      ));
+}
+
+-- the spans of all, with that of a new note
+pub covers_with : (x : NoteParts) (c d all : List NoteParts) (runs : List Run) → Covers runs (union_of c d)
+    → all ≡ with_note x (union_of c d) → Covers (with_run (run_of x) runs) all
+covers_with x c d all runs k e =
+    subst (Covers (with_run (run_of x) runs)) (sym e)
+    (Covers-with x runs (union_of c d) (with_note x (union_of c d)) k (λ n. In-with_note n x (union_of c d)))
+
+-- a note that touches no clear note, and meets no disputed span, shares no byte with any
+pub far_from_all : (x : NoteParts) (c d : List NoteParts) (few : List Run) → AreParts c d → Covers few d
+    → touching x c ≡ []
+    → (((at : ℕ) × LiesIn few at × (x.offset ≤ at) × (at + 1 ≤ end_of x)) → ⊥)
+    → (n : NoteParts) → In n (union_of c d) → SharesByte x n → ⊥
+far_from_all x c d few p k none apart n h s =
+    elim ((In-union_of n c d).0 h) [
+      | inl i ↦ subst (In n) none ((In-touching x n c).1 (i, s))
+      | inr i ↦ apart ((met_note x few d k).1 (n, i, s))
+    ]
+
+pub near_disputed : (x : NoteParts) (c d : List NoteParts) (few : List Run) → Covers few d
+    → ((at : ℕ) × LiesIn few at × (x.offset ≤ at) × (at + 1 ≤ end_of x))
+    → (n : NoteParts) × In n (union_of c d) × SharesByte x n
+near_disputed x c d few k h = let m = (met_note x few d k).0 h in (m.0, (In-union_of m.0 c d).1 (inr m.1), m.2)
+
+pub near_clear : (x : NoteParts) (c d : List NoteParts) → (touching x c ≡ [] → ⊥)
+    → (n : NoteParts) × In n (union_of c d) × SharesByte x n
+near_clear x c d some =
+    let m = some_member (touching x c) some in
+    let t = (In-touching x m.0 c).0 m.1 in (m.0, (In-union_of m.0 c d).1 (inl t.0), t.1)

@@ -1,0 +1,47 @@
+-- The notes that a new note moves.
+use Rattle.std.specs.Prelude.{◌≡◌, ◌↔◌, ◌<◌, ◌≤◌, ℕ, List, [], ◌∷◌, map}
+use Rattle.std.specs.List.{AllByRecursion}
+use Rattle.std.specs.Ordering.{nat_cmp}
+use Rattle.std.specs.declared.cmp.Ordering.TheVariants.{Less}
+use Rattle.std.proofs.Common.{arith, refl}
+use Rattle.std.proofs.lemmas.Bool.{lt-ltb}
+use Rattle.mxf_klv.specs.Parts.{NoteParts}
+use Rattle.mxf_klv.specs.Note.{end_of}
+use Rattle.mxf_klv.specs.Rising.{In, IsRising}
+use Rattle.mxf_catalogue.specs.Content.{IsContent, with_note}
+use Rattle.mxf_catalogue.specs.Disputes.{AreApart, IsClear, IsDisputed, clear_notes, is_disputed}
+use Rattle.mxf_catalogue.specs.Parts.{moved_by, moved_notes}
+use Rattle.mxf_catalogue.proofs.DisputeLaws.{In-clear_notes, is_disputed-IsDisputed}
+use Rattle.mxf_catalogue.proofs.Lists.{In-filter}
+use Rattle.mxf_catalogue.proofs.SpanLaws.{AreApart-clear_notes, AreApart-filter}
+
+pub In-moved_notes : (m n : NoteParts) (notes : List NoteParts)
+    → In m (moved_notes n notes) ↔ (IsClear m notes × IsDisputed m (with_note n notes))
+unfolding moved_notes
+In-moved_notes m n notes =
+    let f = In-filter (λ m. is_disputed m (with_note n notes)) (clear_notes notes) m in
+    let c = In-clear_notes m notes in
+    let d = is_disputed-IsDisputed m (with_note n notes) in
+    (λ h. (c.0 (f.0 h).0, d.0 (f.0 h).1), λ h. f.1 (c.1 h.0, d.1 h.1))
+
+less : (a b : ℕ) → a < b → nat_cmp a b ≡ Less
+less a b l = rw (lt-ltb a b l) refl
+
+-- notes apart begin at or above the first end
+above : (low : ℕ) (notes : List NoteParts) (at : ℕ) → at < low → AreApart low notes
+    → AllByRecursion (λ o. nat_cmp at o ≡ Less) (map (λ (n : NoteParts). n.offset) notes)
+above low [] at l a = tt
+above low (n ∷ notes) at l a =
+    let b : low ≤ n.offset = a.0 in
+    (less at n.offset (omega arith), above (end_of n) notes at (omega arith) a.1)
+
+rising_apart : (low : ℕ) (notes : List NoteParts) → AreApart low notes
+    → IsRising nat_cmp (map (λ (n : NoteParts). n.offset) notes)
+rising_apart low [] a = tt
+rising_apart low (n ∷ notes) a = (above (end_of n) notes n.offset (omega arith) a.1, rising_apart (end_of n) notes a.1)
+
+pub rising-moved_by : (n : NoteParts) (notes : List NoteParts) → IsContent notes → IsRising nat_cmp (moved_by n notes)
+unfolding moved_notes
+rising-moved_by n notes r =
+    rising_apart 0 (moved_notes n notes)
+    (AreApart-filter (λ m. is_disputed m (with_note n notes)) 0 (clear_notes notes) (AreApart-clear_notes notes r))

@@ -1,0 +1,331 @@
+-- The two parts of a content, and what a new note does to them.
+use Rattle.std.specs.Prelude.{◌≡◌, ◌≢◌, ◌+◌, Bool, true, false, cond, not, List, [], ◌∷◌, length, ◌⊎◌}
+use Rattle.std.specs.Prelude.{◌↔◌}
+use Rattle.std.specs.Prelude.{filter, map, refl}
+use Rattle.std.proofs.Common.{◌==◌, eqb-true, eq-eqb, sym, ◌∙◌, ap, subst, inl, inr, arith}
+use Rattle.std.specs.Ordering.{is_lt, is_eq}
+use Rattle.std.specs.declared.cmp.Ordering.TheVariants.{Less, Equal, Greater}
+use Rattle.std.proofs.lemmas.Cmp.{tied_itself}
+use Rattle.mxf_klv.specs.Parts.{NoteParts}
+use Rattle.mxf_klv.specs.Note.{IsNote, note_cmp}
+use Rattle.mxf_klv.specs.NoteOrder.{note_total, note_cmp-IsAntisymmetric}
+use Rattle.mxf_klv.specs.Rising.{In, SameMembers, less_in}
+use Rattle.mxf_catalogue.specs.Content.{IsContent, IsCatalogue, with_note, union_of}
+use Rattle.mxf_catalogue.specs.Disputes.{SharesByte, IsDisputed, is_byte_shared, is_offset_shared, is_overlapped}
+use Rattle.mxf_catalogue.specs.Disputes.{is_disputed, clear_notes, disputed_parts, disputed_notes}
+use Rattle.mxf_catalogue.specs.Parts.{AreParts, StandApart, touching, away_from, disputed_with}
+use Rattle.mxf_catalogue.specs.Parts.{moved_by, moved_notes}
+use Rattle.mxf_catalogue.proofs.ContentLaws.{same_content, In-with_note, In-union_of, IsContent-with_note}
+use Rattle.mxf_catalogue.proofs.ContentLaws.{IsContent-union_of, IsCatalogue-with_note, IsCatalogue-union_of}
+use Rattle.mxf_catalogue.proofs.DisputeLaws.{is_byte_shared-SharesByte, is_offset_shared-SharesOffset}
+use Rattle.mxf_catalogue.proofs.DisputeLaws.{is_overlapped-Overlaps, SharesByte-same_offset, SharesByte-symmetric}
+use Rattle.mxf_catalogue.proofs.DisputeLaws.{is_disputed-IsDisputed, In-clear_notes, IsContent-filter}
+use Rattle.mxf_catalogue.proofs.DisputeLaws.{IsContent-clear_notes, not_true, not-true-false, same_bool}
+use Rattle.mxf_catalogue.proofs.Lists.{In-filter, all-filter}
+
+IsCatalogue-filter : (p : NoteParts → Bool) (notes : List NoteParts) → IsCatalogue notes → IsCatalogue (filter p notes)
+IsCatalogue-filter p notes c = record {
+  content = IsContent-filter p notes c.content;
+  members = all-filter IsNote p notes c.members;
+}
+
+pub In-touching : (x n : NoteParts) (notes : List NoteParts) → In n (touching x notes) ↔ (In n notes × SharesByte x n)
+In-touching x n notes =
+    let f = In-filter (λ m. is_byte_shared x m) notes n in let s = is_byte_shared-SharesByte x n in
+    (λ h. ((f.0 h).0, s.0 (f.0 h).1), λ h. f.1 (h.0, s.1 h.1))
+
+pub In-away_from : (x n : NoteParts) (notes : List NoteParts)
+    → In n (away_from x notes) ↔ (In n notes × (SharesByte x n → ⊥))
+In-away_from x n notes =
+    let f = In-filter (λ m. not (is_byte_shared x m)) notes n in let s = is_byte_shared-SharesByte x n in
+    (λ h. ((f.0 h).0, λ k. not-true-false _ (f.0 h).1 (s.1 k)), λ h. f.1 (h.0, not_true _ (λ k. h.1 (s.0 k))))
+
+-- A note shares its bytes with the note or doesn't.
+touches_or_not : (x n : NoteParts) → SharesByte x n ⊎ (SharesByte x n → ⊥)
+touches_or_not x n =
+    let s = is_byte_shared-SharesByte x n in
+    elim (is_byte_shared x n) as (λ b. is_byte_shared x n ≡ b
+    → SharesByte x n ⊎ (SharesByte x n → ⊥)) [
+      | true ↦ λ e. inl (s.0 e)
+      | false ↦ λ e. inr (λ k. let t = s.1 k in
+          cc (t, e))
+    ] refl
+
+-- The clear part is the list of the clear notes.
+pub clear_part : (c d : List NoteParts) → AreParts c d → c ≡ clear_notes (union_of c d)
+clear_part c d p =
+    let u = union_of c d in
+    same_content c (clear_notes u) p.clear_is.content
+    (IsContent-clear_notes u (IsContent-union_of c d p.clear_is.content))
+    (λ n. (
+      (λ h. (In-clear_notes n u).1 (record {
+        held = (In-union_of n c d).1 (inl h);
+        undisputed =
+            λ k. p.apart n k.0 h ((In-union_of k.0 c d).0 k.1) (λ e. k.2 (sym e)) (SharesByte-symmetric k.0 n k.3);
+      })),
+      (λ h. let k = (In-clear_notes n u).0 h in
+          elim ((In-union_of n c d).0 k.held) [
+            | inl i ↦ i
+            | inr j ↦ absurd
+                (k.undisputed (let s = p.shared n j in (s.0, (In-union_of s.0 c d).1 (inr s.1), s.2, s.3)))
+          ]),
+    ))
+
+-- The parts together, once a note is there.
+view_with : (x : NoteParts) (c d c' d' : List NoteParts) → IsContent c → IsContent c'
+    → ((n : NoteParts) → (In n c' ⊎ In n d') ↔ ((n ≡ x) ⊎ (In n c ⊎ In n d)))
+    → union_of c' d' ≡ with_note x (union_of c d)
+view_with x c d c' d' r r' same =
+    same_content _ _ (IsContent-union_of c' d' r') (IsContent-with_note x (union_of c d) (IsContent-union_of c d r))
+    (λ n.
+    let new = In-union_of n c' d' in let one = In-with_note n x (union_of c d) in let old = In-union_of n c d in (
+      λ h. one.1 (elim ((same n).0 (new.0 h)) [ inl e ↦ inl e | inr k ↦ inr (old.1 k) ]),
+      λ h. new.1 ((same n).1 (elim (one.0 h) [ inl e ↦ inl e | inr k ↦ inr (old.0 k) ])),
+    ))
+
+-- A note that shares no byte with the others is clear.
+pub parts_with_clear : (x : NoteParts) (c d : List NoteParts) → IsNote x → AreParts c d
+    → ((n : NoteParts) → In n c ⊎ In n d → SharesByte x n → ⊥) → AreParts (with_note x c) d
+parts_with_clear x c d is p far = record {
+  clear_is = IsCatalogue-with_note x c is p.clear_is;
+  disputed_is = p.disputed_is;
+  apart = λ m n h k ne s.
+      let old : (n : NoteParts) → In n (with_note x c) ⊎ In n d
+      → (n ≡ x) ⊎ (In n c ⊎ In n d) =
+      λ n i. elim i [
+        | inl j ↦ elim ((In-with_note n x c).0 j) [ inl e ↦ inl e | inr l ↦ inr (inl l) ]
+        | inr j ↦ inr (inr j)
+      ] in
+      elim ((In-with_note m x c).0 h) [
+        | inl e ↦ elim (old n k) [ inl f ↦ ne (e ∙ sym f) | inr i ↦ far n i (subst (λ y. SharesByte y n) e s) ]
+        | inr i ↦ elim (old n k) [
+          | inl f ↦ far m (inl i) (subst (λ y. SharesByte y m) f (SharesByte-symmetric m n s))
+          | inr j ↦ p.apart m n i j ne s
+        ]
+      ];
+  shared = p.shared;
+}
+
+pub view_with_clear : (x : NoteParts) (c d : List NoteParts) → AreParts c d
+    → union_of (with_note x c) d ≡ with_note x (union_of c d)
+view_with_clear x c d p =
+    view_with x c d (with_note x c) d p.clear_is.content (IsContent-with_note x c p.clear_is.content)
+    (λ n. let one = In-with_note n x c in (
+      λ h. elim h [ inl k ↦ elim (one.0 k) [ inl e ↦ inl e | inr i ↦ inr (inl i) ] | inr k ↦ inr (inr k) ],
+      λ h. elim h [ inl e ↦ inl (one.1 (inl e)) | inr k ↦ elim k [ inl i ↦ inl (one.1 (inr i)) | inr i ↦ inr i ] ],
+    ))
+
+pub In-disputed_with : (x n : NoteParts) (c d : List NoteParts)
+    → In n (disputed_with x c d) ↔ ((n ≡ x) ⊎ (In n d ⊎ (In n c × SharesByte x n)))
+In-disputed_with x n c d =
+    let one = In-with_note n x (union_of d (touching x c)) in let two = In-union_of n d (touching x c) in
+    let t = In-touching x n c in (
+      λ h. elim (one.0 h) [ inl e ↦ inl e | inr k ↦ inr (elim (two.0 k) [ inl i ↦ inl i | inr i ↦ inr (t.0 i) ]) ],
+      λ h. one.1 (elim h [ inl e ↦ inl e | inr k ↦ inr (two.1 (elim k [ inl i ↦ inl i | inr i ↦ inr (t.1 i) ])) ]),
+    )
+
+pub parts_with_disputed : (x : NoteParts) (c d : List NoteParts) → IsNote x → AreParts c d → (In x c ⊎ In x d → ⊥)
+    → ((n : NoteParts) × (In n c ⊎ In n d) × SharesByte x n) → AreParts (away_from x c) (disputed_with x c d)
+parts_with_disputed x c d is p new hit =
+    let there = λ (n : NoteParts). In-disputed_with x n c d in
+    let other : (n : NoteParts) → In n c ⊎ In n d → x ≢ n = λ n h e. new (subst (λ y. In y c ⊎ In y d) (sym e) h) in
+    record {
+      clear_is = IsCatalogue-filter (λ n. not (is_byte_shared x n)) c p.clear_is;
+      disputed_is = IsCatalogue-with_note x _ is
+          (IsCatalogue-union_of d (touching x c) p.disputed_is
+          (IsCatalogue-filter (λ n. is_byte_shared x n) c p.clear_is));
+      apart = λ m n h k ne s.
+          let a = (In-away_from x m c).0 h in
+          elim k [
+            | inl i ↦ p.apart m n a.0 (inl ((In-away_from x n c).0 i).0) ne s
+            | inr i ↦ elim ((there n).0 i) [
+              | inl e ↦ a.1 (subst (λ y. SharesByte y m) e (SharesByte-symmetric m n s))
+              | inr j ↦ elim j [ inl l ↦ p.apart m n a.0 (inr l) ne s | inr l ↦ p.apart m n a.0 (inl l.0) ne s ]
+            ]
+          ];
+      shared = λ n h. elim ((there n).0 h) [
+        | inl e ↦
+            let m = hit.0 in
+            let in_it : In m (disputed_with x c d) = (there m).1
+            (inr (elim hit.1 [ inl i ↦ inr (i, hit.2) | inr i ↦ inl i ])) in (
+              m,
+              in_it,
+              (λ f. other m hit.1 (sym (f ∙ e))),
+              subst (SharesByte m) (sym e)
+                  (SharesByte-symmetric x m hit.2),
+            )
+        | inr k ↦ elim k [
+          | inl i ↦ let s = p.shared n i in (s.0, (there s.0).1 (inr (inl s.1)), s.2, s.3)
+          | inr i ↦ (x, (there x).1 (inl refl), other n (inl i.0), i.1)
+        ]
+      ];
+    }
+
+pub view_with_disputed : (x : NoteParts) (c d : List NoteParts) → AreParts c d
+    → union_of (away_from x c) (disputed_with x c d) ≡ with_note x (union_of c d)
+view_with_disputed x c d p =
+    view_with x c d (away_from x c) (disputed_with x c d) p.clear_is.content
+    (IsContent-filter (λ n. not (is_byte_shared x n)) c p.clear_is.content)
+    (λ n. let t = In-disputed_with x n c d in let a = In-away_from x n c in (
+      λ h. elim h [
+        | inl k ↦ inr (inl (a.0 k).0)
+        | inr k ↦ elim (t.0 k) [ inl e ↦ inl e | inr i ↦ inr (elim i [ inl j ↦ inr j | inr j ↦ inl j.0 ]) ]
+      ],
+      λ h. elim h [
+        | inl e ↦ inr (t.1 (inl e))
+        | inr k ↦ elim k [
+          | inl i ↦ elim (touches_or_not x n) [
+            | inl s ↦ inr (t.1 (inr (inr (i, s))))
+            | inr s ↦ inl (a.1 (i, s))
+          ]
+          | inr i ↦ inr (t.1 (inr (inl i)))
+        ]
+      ],
+    ))
+
+filter_same : (p q : NoteParts → Bool) (notes : List NoteParts) → ((n : NoteParts) → In n notes → p n ≡ q n)
+    → filter p notes ≡ filter q notes
+filter_same p q [] f = refl
+filter_same p q (x ∷ xs) f = (λ i. cond (f x (inl refl) i) (x ∷ filter p xs) (filter p xs))
+    ∙ ap (λ l. cond (q x) (x ∷ l) l) (filter_same p q xs (λ n h. f n (inr h)))
+
+-- The clear notes that it touches are those that it moves.
+pub moved_part : (x : NoteParts) (c d : List NoteParts) → AreParts c d → (In x c ⊎ In x d → ⊥)
+    → map (λ n. n.offset) (touching x c) ≡ moved_by x (union_of c d)
+unfolding moved_notes
+moved_part x c d p new =
+    let u = union_of c d in
+    let test : (n : NoteParts) → In n c → is_byte_shared x n ≡ is_disputed n (with_note x u) = λ n h.
+    let s = is_byte_shared-SharesByte x n in let t = is_disputed-IsDisputed n (with_note x u) in
+    same_bool _ _
+    (λ k. t.1 (x, (In-with_note x x u).1 (inl refl), (λ e. new (inl (subst (λ y. In y c) (sym e) h))), s.0 k))
+    (λ k.
+    let w = t.0 k in
+    s.1 (elim ((In-with_note w.0 x u).0 w.1) [
+      | inl e ↦ subst (λ y. SharesByte y n) e w.3
+      | inr i ↦ absurd (p.apart n w.0 h ((In-union_of w.0 c d).0 i) (λ e. w.2 (sym e)) (SharesByte-symmetric w.0 n w.3))
+    ])) in
+    ap (λ l. map (λ (n : NoteParts). n.offset) l)
+    (filter_same _ _ c test ∙ ap (filter (λ n. is_disputed n (with_note x u))) (clear_part c d p))
+
+pub apart_of : (c d : List NoteParts) → AreParts c d → StandApart c
+apart_of c d p m n h k ne s = p.apart m n h (inl k) ne s
+
+-- No note is in both parts.
+not_in_both : (c d : List NoteParts) → AreParts c d → (n : NoteParts) → In n c → In n d → ⊥
+not_in_both c d p n h k = let s = p.shared n k in
+    p.apart n s.0 h (inr s.1) (λ e. s.2 (sym e)) (SharesByte-symmetric s.0 n s.3)
+
+pub no_members : (notes : List NoteParts) → ((n : NoteParts) → In n notes → ⊥) → notes ≡ []
+no_members [] f = refl
+no_members (n ∷ ns) f = absurd (f n (inl refl))
+
+pub some_member : (notes : List NoteParts) → (notes ≡ [] → ⊥) → (n : NoteParts) × In n notes
+some_member [] f = absurd (f refl)
+some_member (n ∷ ns) f = (n, inl refl)
+
+-- There are as many notes as in both parts.
+length-with_new : (x : NoteParts) (notes : List NoteParts) → (In x notes → ⊥)
+    → length (with_note x notes) ≡ length notes + 1
+length-with_new x [] new = omega arith
+length-with_new x (y ∷ ys) new =
+    let ih : length (with_note x ys) ≡ length ys + 1 = length-with_new x ys (λ h. new (inr h)) in
+    elim (note_cmp x y) as (λ o. note_cmp x y ≡ o
+    → length (cond (is_lt o) (x ∷ y ∷ ys) (cond (is_eq o) (y ∷ ys) (y ∷ with_note x ys))) ≡ length (y ∷ ys) + 1) [
+      | Less ↦ λ e. omega arith
+      | Equal ↦ λ e. absurd (new (inl (note_cmp-IsAntisymmetric x y e)))
+      | Greater ↦ λ e. omega arith
+    ] refl
+
+length-union_apart : (xs ys : List NoteParts) → IsContent ys → ((n : NoteParts) → In n xs → In n ys → ⊥)
+    → length (union_of xs ys) ≡ length xs + length ys
+length-union_apart xs [] r f = omega arith
+length-union_apart xs (y ∷ ys) r f =
+    let new : length (with_note y xs) ≡ length xs + 1 = length-with_new y xs (λ h. f y h (inl refl)) in
+    let ih = length-union_apart (with_note y xs) ys r.1
+    (λ n h k. elim ((In-with_note n y xs).0 h) [
+      | inl e ↦ let t = less_in note_total y n ys r.0 k in
+          let u = tied_itself note_total y in let v = ap (note_cmp y) e in cc (t, u, v)
+      | inr i ↦ f n i (inr k)
+    ]) in
+    omega (arith, new, ih)
+
+pub length-parts : (c d : List NoteParts) → AreParts c d → length (union_of c d) ≡ length c + length d
+length-parts c d p = length-union_apart c d p.disputed_is.content (not_in_both c d p)
+
+pub is_nil : (notes : List NoteParts) → (length notes == 0) ≡ true → notes ≡ []
+is_nil [] e = refl
+is_nil (n ∷ ns) e = let f : length (n ∷ ns) ≡ 0 = eqb-true _ _ e in absurd (omega arith)
+
+pub is_not_nil : (notes : List NoteParts) → (length notes == 0) ≡ false → notes ≡ [] → ⊥
+is_not_nil notes e q = let t = eq-eqb (length notes) 0 (ap length q) in cc (t, e)
+
+-- The disputed part is the list of the disputed notes, and it alone decides how they are disputed.
+disputed_is : (c d : List NoteParts) → AreParts c d → (n : NoteParts) → IsDisputed n (union_of c d)
+    → In n (union_of c d) → In n d
+disputed_is c d p n k h = elim ((In-union_of n c d).0 h) [
+  | inl i ↦ absurd
+      (p.apart n k.0 i ((In-union_of k.0 c d).0 k.1) (λ e. k.2 (sym e)) (SharesByte-symmetric k.0 n k.3))
+  | inr i ↦ i
+]
+
+pub disputed_part : (c d : List NoteParts) → AreParts c d
+    → d ≡ filter (λ n. is_disputed n (union_of c d)) (union_of c d)
+disputed_part c d p =
+    let u = union_of c d in
+    same_content d (filter (λ n. is_disputed n u) u) p.disputed_is.content
+    (IsContent-filter (λ n. is_disputed n u) u (IsContent-union_of c d p.clear_is.content))
+    (λ n.
+    let f = In-filter (λ m. is_disputed m u) u n in let t = is_disputed-IsDisputed n u in (
+      (λ h. f.1 (
+        (In-union_of n c d).1 (inr h),
+        t.1 (let s = p.shared n h in
+            (s.0, (In-union_of s.0 c d).1 (inr s.1), s.2, s.3)),
+      )),
+      (λ h. let k = f.0 h in disputed_is c d p n (t.0 k.1) k.0),
+    ))
+
+-- What shares a byte with a disputed note is disputed.
+partner : (c d : List NoteParts) → AreParts c d → (m n : NoteParts) → In n d → In m (union_of c d) → m ≢ n
+    → SharesByte m n → In m d
+partner c d p m n h k ne s = elim ((In-union_of m c d).0 k) [ inl i ↦ absurd (p.apart m n i (inr h) ne s) | inr i ↦ i ]
+
+marks_by_part : (c d : List NoteParts) → AreParts c d → (n : NoteParts) → In n d
+    → disputed_parts n d ≡ disputed_parts n (union_of c d)
+marks_by_part c d p n h =
+    let u = union_of c d in
+    let a = is_offset_shared-SharesOffset n d in let b = is_offset_shared-SharesOffset n u in
+    let e = is_overlapped-Overlaps n d in let f = is_overlapped-Overlaps n u in
+    let same = same_bool (is_offset_shared n d) (is_offset_shared n u)
+    (λ t. b.1 (let s = a.0 t in (s.0, (In-union_of s.0 c d).1 (inr s.1), s.2, s.3)))
+    (λ t. a.1 (let s = b.0 t in (s.0, partner c d p s.0 n h s.1 s.2 (SharesByte-same_offset s.0 n s.3), s.2, s.3))) in
+    let over = same_bool (is_overlapped n d) (is_overlapped n u)
+    (λ t. f.1 (let s = e.0 t in (s.0, (In-union_of s.0 c d).1 (inr s.1), s.2, s.3)))
+    (λ t. e.1 (let s = f.0 t in (
+      s.0,
+      partner c d p s.0 n h s.1 (λ q. s.2 (ap (λ (m : NoteParts). m.offset) q)) s.3,
+      s.2,
+      s.3,
+    ))) in
+    λ i. record { note = n; same_offset = same i; overlaps = over i }
+
+map_same : {B : Type 0} (f g : NoteParts → B) (notes : List NoteParts) → ((n : NoteParts) → In n notes → f n ≡ g n)
+    → map f notes ≡ map g notes
+map_same f g [] h = refl
+map_same f g (x ∷ xs) h = λ i. h x (inl refl) i ∷ map_same f g xs (λ n k. h n (inr k)) i
+
+pub disputed_by_part : (c d : List NoteParts) → AreParts c d
+    → map (λ n. disputed_parts n d) d ≡ disputed_notes (union_of c d)
+disputed_by_part c d p = map_same (λ n. disputed_parts n d) (λ n. disputed_parts n (union_of c d)) d
+    (marks_by_part c d p) ∙ ap (map (λ n. disputed_parts n (union_of c d))) (disputed_part c d p)
+
+-- One content has one pair of parts.
+pub same_parts : (c d c' d' : List NoteParts) → AreParts c d → AreParts c' d'
+    → SameMembers (union_of c d) (union_of c' d') → (c ≡ c') × (d ≡ d')
+same_parts c d c' d' p p' s =
+    let u = same_content (union_of c d) (union_of c' d') (IsContent-union_of c d p.clear_is.content)
+    (IsContent-union_of c' d' p'.clear_is.content) s in (
+      clear_part c d p ∙ ap clear_notes u ∙ sym (clear_part c' d' p'),
+      disputed_part c d p
+          ∙ ap (λ l. filter (λ n. is_disputed n l) l) u ∙ sym (disputed_part c' d' p'),
+    )

@@ -1,0 +1,13 @@
+use Rattle.std.proofs.Common.{subst}
+use Rattle.mxf_catalogue.specs.Content.{IsCatalogue}
+use Rattle.mxf_catalogue.specs.Parts.{Covers}
+use Rattle.mxf_catalogue.proofs.KeptLaws.{union_is}
+use Rattle.mxf_catalogue.proofs.catalogue.Catalogue.spans.Goals as goal
+
+pub returns-clause-spans : goal.returns-clause-spans
+returns-clause-spans c = subst (Covers c.self.inside.spans) c.self.view_is c.self.invariant.covers
+
+pub returns-clause-catalogue : goal.returns-clause-catalogue
+returns-clause-catalogue c =
+    let parts = c.self.inside.parts in
+    subst IsCatalogue c.self.view_is (union_is parts.clear.items parts.disputed.items c.self.invariant.kept.parts)

@@ -1,0 +1,42 @@
+use Rattle.std.proofs.Common.{arith, sym, subst, ◌∙◌}
+use Rattle.mxf_klv.specs.NoteOrder.{note_total, note_cmp-IsAntisymmetric}
+use Rattle.mxf_klv.proofs.RisingLemmas.{with_one_present}
+use Rattle.mxf_catalogue.specs.Content.{union_of}
+use Rattle.mxf_catalogue.specs.Covers.{with_run}
+use Rattle.mxf_catalogue.specs.Disputes.{is_byte_shared}
+use Rattle.mxf_catalogue.specs.Parts.{Covers}
+use Rattle.mxf_catalogue.specs.Runs.{run}
+use Rattle.mxf_catalogue.proofs.ContentLaws.{IsContent-union_of}
+use Rattle.mxf_catalogue.proofs.KeptLaws.{covers_with}
+use Rattle.mxf_catalogue.proofs.Lists.{length-filter_le}
+use Rattle.mxf_catalogue.proofs.catalogue.parts.Parts.put_any.Goals as goal
+
+pub returns-then-have-clause-content : goal.returns-then-have-clause-content
+returns-then-have-clause-content c =
+    let cs = c.args.self.now.clear.items in
+    let ds = c.args.self.now.disputed.items in
+    let rises = IsContent-union_of cs ds c.requires.whole.kept.parts.clear_is.content in
+    sym (with_one_present note_total note_cmp-IsAntisymmetric c.args.note (union_of cs ds) rises
+    (c.have.ensures.0 c.if-have.true))
+
+pub put-requires-clause-new : goal.put-requires-clause-new
+put-requires-clause-new c h = let t = c.have.ensures.1 h in let f = c.if-have.false in cc (t, f)
+
+pub put-requires-clause-disputed_room : goal.put-requires-clause-disputed_room
+put-requires-clause-disputed_room c =
+    let l = length-filter_le (λ n. is_byte_shared c.args.note n) c.args.self.now.clear.items in
+    let k = c.args.self.now.clear.ok.0 in
+    omega (arith, l, k, c.requires.disputed_room)
+
+pub returns-clause-whole : goal.returns-clause-whole
+returns-clause-whole c =
+    let cs = c.args.self.now.clear.items in
+    let ds = c.args.self.now.disputed.items in
+    let old = c.args.runs.now.items in
+    let new = union_of c.put.new.self.clear.items c.put.new.self.disputed.items in
+    let runs = c.put_run.ensures.items ∙ (λ i. with_run (run (c.offset-2.ensures.offset i) (c.end.ensures i)) old) in
+    record {
+      kept = c.put.ensures.kept;
+      covers = subst (λ r. Covers r new) (sym runs)
+          (covers_with c.args.note cs ds new old c.requires.whole.covers c.put.ensures.content);
+    }

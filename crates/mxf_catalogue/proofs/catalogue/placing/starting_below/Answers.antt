@@ -1,0 +1,17 @@
+use Rattle.std.proofs.Common.{rules, nat_lt}
+use Rattle.std.proofs.lemmas.Bool.{ltb-true, ltb-false}
+use Rattle.std.proofs.lemmas.List.Sorted.{IsPartitionPoint-from_clause, IsPartitionedBy-ltb}
+use Rattle.mxf_catalogue.proofs.Ranges.{offsets_rise}
+use Rattle.mxf_catalogue.proofs.catalogue.placing.starting_below.Goals as goal
+
+pub returns : goal.returns
+returns c =
+    let parted = IsPartitionedBy-ltb (λ n. n.offset) _ c.args.offset (offsets_rise _ c.requires) in
+    let point = IsPartitionPoint-from_clause
+    (λ n. nat_lt n.offset c.args.offset) _ _ c.partition_point.ensures.partitioned parted (λ a r q k. search rules) in
+    record {
+      bound = c.partition_point.ensures.bound;
+      below = λ k d l h. ltb-true _ _ (point.0 k d l h);
+      above =
+          λ k d l h. ltb-false _ _ (point.1 k d l h);
+    }

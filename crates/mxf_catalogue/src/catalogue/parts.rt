@@ -1,0 +1,245 @@
+//! The two parts of a content: its clear notes and its disputed ones.
+ghost use Rattle.std.specs.Prelude.{◌≡◌, ◌↔◌, ◌⊎◌, ◌++◌, ◌+◌, ◌<◌, ◌≤◌, ℕ, [], length, map, false};
+ghost use Rattle.std.specs.Prelude.{vec_len, vec_capacity, IsTrue, IfOk, OnOk};
+ghost use Rattle.std.specs.List.Sorted.{IsPermutation};
+ghost use Rattle.mxf_klv.specs.Parts.{NoteParts};
+ghost use Rattle.mxf_klv.specs.Rising.{In};
+ghost use Rattle.mxf_catalogue.specs.Content.{IsContent, union_of, with_note};
+ghost use Rattle.mxf_catalogue.specs.Covers.{IsCover};
+ghost use Rattle.mxf_catalogue.specs.Disputes.{SharesByte};
+ghost use Rattle.mxf_catalogue.specs.Parts.{AreParts, IsKept, IsWhole, touching};
+
+use super::placing::{hull, is_in, move_touched, offsets, put, touched};
+use crate::cover::{meets, put_run};
+use crate::run::Run;
+use mxf_klv::{MAX, Note};
+use std::alloc::{AllocError, Global};
+
+/// The clear notes of a content and the disputed ones, each in their order, and the maximal runs of the spans of the
+/// disputed ones.
+#[derive(Debug, Drop)]
+pub(super) struct Parts {
+    pub clear: Vec<Note>,
+    pub disputed: Vec<Note>,
+    pub disputed_spans: Vec<Run>,
+}
+
+impl Parts {
+    /// No note.
+    pub fn new(alloc: Global) -> Parts
+        ensures clear { result.clear.items ≡ [] }
+        ensures disputed { result.disputed.items ≡ [] }
+        ensures disputed_spans { result.disputed_spans.items ≡ [] }
+    {
+        Parts {
+            clear: Vec::new(alloc),
+            disputed: Vec::new(alloc),
+            disputed_spans: Vec::new(alloc),
+        }
+    }
+
+    /// Whether one of the parts has the note.
+    pub fn have(&self, note: &Note) -> bool
+        requires { AreParts self.now.clear.items self.now.disputed.items }
+        ensures { IsTrue result ↔ In note.now (union_of self.now.clear.items self.now.disputed.items) }
+    {
+        is_in(&self.clear, note) || is_in(&self.disputed, note)
+    }
+
+    /// Makes room for a new note and for those that it moves, whose offsets are the answer.
+    pub fn make_room(&mut self, note: &Note) -> Result<Vec<u64>, AllocError>
+        requires { AreParts self.old.clear.items self.old.disputed.items }
+        ensures clear { self.new.clear.items ≡ self.old.clear.items }
+        ensures disputed { self.new.disputed.items ≡ self.old.disputed.items }
+        ensures disputed_spans { self.new.disputed_spans.items ≡ self.old.disputed_spans.items }
+        ensures moved { IfOk result (λ v. v.items ≡ map (λ n. n.offset) (touching note.now self.old.clear.items)) }
+        ensures clear_room { OnOk result (vec_len self.new.clear < vec_capacity self.new.clear) }
+        ensures disputed_room { OnOk result (vec_len self.new.disputed + length (touching note.now self.new.clear.items)
+            < vec_capacity self.new.disputed) }
+        ensures spans_room { OnOk result (vec_len self.new.disputed_spans < vec_capacity self.new.disputed_spans) }
+    {
+        let moved = touched(&self.clear, note);
+        let count = moved.len() + 1;
+        let moved = offsets(*self.clear.allocator(), moved)?;
+        self.clear.reserve(1)?;
+        self.disputed.reserve(count)?;
+        self.disputed_spans.reserve(1)?;
+        Ok(moved)
+    }
+
+    /// Whether a note shares no byte with those of the parts.
+    fn are_apart_from(&self, note: &Note) -> bool
+        requires { IsKept self.now.clear.items self.now.disputed.items self.now.disputed_spans.items }
+        ensures far { IsTrue result → (n : NoteParts) → In n (union_of self.now.clear.items self.now.disputed.items)
+            → SharesByte note.now n → ⊥ }
+        ensures near { result ≡ false
+            → ((n : NoteParts) × In n (union_of self.now.clear.items self.now.disputed.items) × SharesByte note.now n) }
+    {
+        touched(&self.clear, note).is_empty()
+            && !meets(&self.disputed_spans, note.offset(), note.end() - 1)
+    }
+
+    /// Puts a new note into the parts, which have room for it and for what it moves.
+    pub fn put(&mut self, note: Note)
+        requires kept { IsKept self.old.clear.items self.old.disputed.items self.old.disputed_spans.items }
+        requires new { In note (union_of self.old.clear.items self.old.disputed.items) → ⊥ }
+        requires clear_room { vec_len self.old.clear < vec_capacity self.old.clear }
+        requires disputed_room { vec_len self.old.disputed + length (touching note self.old.clear.items)
+            < vec_capacity self.old.disputed }
+        requires spans_room { vec_len self.old.disputed_spans < vec_capacity self.old.disputed_spans }
+        ensures kept { IsKept self.new.clear.items self.new.disputed.items self.new.disputed_spans.items }
+        ensures content { union_of self.new.clear.items self.new.disputed.items
+            ≡ with_note note (union_of self.old.clear.items self.old.disputed.items) }
+        ensures clear_len { vec_len self.new.clear ≤ vec_len self.old.clear + 1 }
+        ensures len { vec_len self.new.clear + vec_len self.new.disputed
+            ≤ vec_len self.old.clear + vec_len self.old.disputed + 1 }
+        ensures spans_len { vec_len self.new.disputed_spans ≤ vec_len self.old.disputed_spans + 1 }
+        ensures clear_capacity { vec_capacity self.new.clear ≡ vec_capacity self.old.clear }
+        ensures disputed_capacity { vec_capacity self.new.disputed ≡ vec_capacity self.old.disputed }
+        ensures spans_capacity { vec_capacity self.new.disputed_spans ≡ vec_capacity self.old.disputed_spans }
+    {
+        // What is held is a note, which ends where a packet may.
+        prove!(note.offset() <= MAX);
+        if self.are_apart_from(&note) {
+            put(&mut self.clear, note);
+            return;
+        }
+        let hull = hull(&note, touched(&self.clear, &note));
+        put_run(&mut self.disputed_spans, hull);
+        move_touched(&note, &mut self.clear, &mut self.disputed);
+        put(&mut self.disputed, note);
+    }
+
+    /// Empty parts with room for so many notes.
+    pub fn with_room(alloc: Global, count: usize) -> Result<Parts, AllocError>
+        ensures clear { IfOk result (λ p. (p.clear.items ≡ []) × (vec_len p.clear ≡ 0)) }
+        ensures disputed { IfOk result (λ p. (p.disputed.items ≡ []) × (vec_len p.disputed ≡ 0)) }
+        ensures disputed_spans { IfOk result (λ p. (p.disputed_spans.items ≡ []) × (vec_len p.disputed_spans ≡ 0)) }
+        ensures room { IfOk result (λ p. (count ≤ vec_capacity p.clear) × (count ≤ vec_capacity p.disputed)
+            × (count ≤ vec_capacity p.disputed_spans)) }
+    {
+        Ok(Parts {
+            clear: Vec::with_capacity(alloc, count)?,
+            disputed: Vec::with_capacity(alloc, count)?,
+            disputed_spans: Vec::with_capacity(alloc, count)?,
+        })
+    }
+
+    /// Makes room for other notes and for all that they can move.
+    pub fn reserve(&mut self, others: &[Note]) -> Result<(), AllocError>
+        ensures clear { self.new.clear.items ≡ self.old.clear.items }
+        ensures disputed { self.new.disputed.items ≡ self.old.disputed.items }
+        ensures disputed_spans { self.new.disputed_spans.items ≡ self.old.disputed_spans.items }
+        ensures clear_room { OnOk result
+            (vec_len self.new.clear + length others.now ≤ vec_capacity self.new.clear) }
+        ensures disputed_room { OnOk result
+            (vec_len self.new.clear + vec_len self.new.disputed + length others.now ≤ vec_capacity self.new.disputed) }
+        ensures spans_room { OnOk result
+            (vec_len self.new.disputed_spans + length others.now ≤ vec_capacity self.new.disputed_spans) }
+    {
+        let count = others.len();
+        self.clear.reserve(count)?;
+        self.disputed.reserve(self.clear.len() + count)?;
+        self.disputed_spans.reserve(count)
+    }
+
+    /// Puts notes, in any order and with any repeats, into the parts, and their spans among the runs, all of which have
+    /// room. Where the notes rise and stand above all that is there, each takes a few binary searches.
+    pub fn put_all(&mut self, runs: &mut Vec<Run>, notes: Vec<Note>)
+        requires whole { IsWhole self.old.clear.items self.old.disputed.items self.old.disputed_spans.items
+            runs.old.items }
+        requires cover { IsCover runs.old.items }
+        requires clear_room { vec_len self.old.clear + vec_len notes ≤ vec_capacity self.old.clear }
+        requires disputed_room { vec_len self.old.clear + vec_len self.old.disputed + vec_len notes
+            ≤ vec_capacity self.old.disputed }
+        requires spans_room { vec_len self.old.disputed_spans + vec_len notes ≤ vec_capacity self.old.disputed_spans }
+        requires runs_room { vec_len runs.old + vec_len notes ≤ vec_capacity runs.old }
+        ensures whole { IsWhole self.new.clear.items self.new.disputed.items self.new.disputed_spans.items
+            runs.new.items }
+        ensures cover { IsCover runs.new.items }
+        ensures content { union_of self.new.clear.items self.new.disputed.items
+            ≡ union_of (union_of self.old.clear.items self.old.disputed.items) notes.items }
+    {
+        for note in notes {
+            self.put_any(runs, note);
+        }
+    }
+
+    /// Puts a note, held or new, into the parts, and its span among the runs.
+    fn put_any(&mut self, runs: &mut Vec<Run>, note: Note)
+        requires whole { IsWhole self.old.clear.items self.old.disputed.items self.old.disputed_spans.items
+            runs.old.items }
+        requires cover { IsCover runs.old.items }
+        requires clear_room { vec_len self.old.clear < vec_capacity self.old.clear }
+        requires disputed_room { vec_len self.old.clear + vec_len self.old.disputed < vec_capacity self.old.disputed }
+        requires spans_room { vec_len self.old.disputed_spans < vec_capacity self.old.disputed_spans }
+        requires runs_room { vec_len runs.old < vec_capacity runs.old }
+        ensures whole { IsWhole self.new.clear.items self.new.disputed.items self.new.disputed_spans.items
+            runs.new.items }
+        ensures cover { IsCover runs.new.items }
+        ensures content { union_of self.new.clear.items self.new.disputed.items
+            ≡ with_note note (union_of self.old.clear.items self.old.disputed.items) }
+        ensures clear_len { vec_len self.new.clear ≤ vec_len self.old.clear + 1 }
+        ensures len { vec_len self.new.clear + vec_len self.new.disputed
+            ≤ vec_len self.old.clear + vec_len self.old.disputed + 1 }
+        ensures spans_len { vec_len self.new.disputed_spans ≤ vec_len self.old.disputed_spans + 1 }
+        ensures runs_len { vec_len runs.new ≤ vec_len runs.old + 1 }
+        ensures clear_capacity { vec_capacity self.new.clear ≡ vec_capacity self.old.clear }
+        ensures disputed_capacity { vec_capacity self.new.disputed ≡ vec_capacity self.old.disputed }
+        ensures spans_capacity { vec_capacity self.new.disputed_spans ≡ vec_capacity self.old.disputed_spans }
+        ensures runs_capacity { vec_capacity runs.new ≡ vec_capacity runs.old }
+    {
+        if self.have(&note) {
+            return;
+        }
+        // What is held is a note, which ends where a packet may.
+        prove!(note.offset() <= MAX);
+        let span = Run {
+            start: note.offset(),
+            end: note.end(),
+        };
+        put_run(runs, span);
+        self.put(note);
+    }
+
+    /// Whether the notes, which rise, all stand above those of the parts.
+    pub fn stand_below(&self, notes: &[Note]) -> bool {
+        let Some(first) = notes.first() else {
+            return true;
+        };
+        is_below(self.clear.last(), first) && is_below(self.disputed.last(), first)
+    }
+}
+
+/// Whether a last note, where there is one, stands below the other.
+fn is_below(last: Option<&Note>, note: &Note) -> bool {
+    match last {
+        Some(last) => last < note,
+        None => true,
+    }
+}
+
+/// The notes of three lists, in order. The first has room for all.
+pub(super) fn sorted(mut first: Vec<Note>, mut second: Vec<Note>, mut third: Vec<Note>) -> Vec<Note>
+    requires room { vec_len first + vec_len second + vec_len third ≤ vec_capacity first }
+    ensures members { IsPermutation (first.items ++ second.items ++ third.items) result.items }
+    ensures len { vec_len result ≡ vec_len first + vec_len second + vec_len third }
+{
+    append(&mut first, &mut second);
+    append(&mut first, &mut third);
+    first.sort_unstable();
+    first
+}
+
+/// Moves the other notes behind the first, which have room for them.
+fn append(notes: &mut Vec<Note>, others: &mut Vec<Note>)
+    requires room { vec_len notes.old + vec_len others.old ≤ vec_capacity notes.old }
+    ensures items { notes.new.items ≡ notes.old.items ++ others.old.items }
+    ensures len { vec_len notes.new ≡ vec_len notes.old + vec_len others.old }
+    ensures room { vec_capacity notes.old ≤ vec_capacity notes.new }
+{
+    match notes.append(others) {
+        Ok(()) => (),
+        Err(_) => unreachable!(),
+    }
+}
