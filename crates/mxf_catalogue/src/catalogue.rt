@@ -13,6 +13,7 @@ mod change;
 mod clear;
 mod disputed;
 mod file;
+mod merging;
 mod notes;
 mod parts;
 mod placing;
@@ -26,9 +27,10 @@ pub use disputed::{
     notes_are_clear_or_disputed, notes_are_disputed_in_two_ways,
 };
 pub use file::{FileFault, files_are_read_as_written, one_file, one_file_reading};
+use merging::MergedNotes;
 use mxf_klv::{Note, OutOfMemory};
 pub use notes::Notes;
-use parts::{Parts, sorted};
+use parts::Parts;
 use placing::at_offset;
 use std::alloc::Global;
 use std::marker::Model;
@@ -99,54 +101,46 @@ impl Catalogue {
     /// Moves the notes of another catalogue into this one, which holds the notes of both then. No kept value is copied.
     ///
     /// Notes that stand above all of these are put behind them. Otherwise the notes of both are put into new parts, in
-    /// their order. All memory is taken before a note of this catalogue is moved.
+    /// their order: one pass over both. All memory is taken before a note of this catalogue is moved.
     ///
     /// The only fault is want of memory. This catalogue is unchanged then, and the other is dropped.
     pub fn merge(&mut self, alloc: Global, other: Catalogue) -> Result<(), OutOfMemory>
         ensures merged { OnOk result (self.new ≡ union_of self.old other) }
         ensures err { OnErr result (self.new ≡ self.old) }
     {
-        let notes = other.into_notes(alloc)?;
-        if self.parts.stand_below(&notes) {
-            return self.put_all(notes);
+        let others = other.parts;
+        if self.parts.stand_below(&others) {
+            return self.put_all(MergedNotes::of(others.clear, others.disputed));
         }
-        self.rebuild(alloc, notes)
+        let room = Vec::with_capacity(alloc, others.len())?;
+        self.rebuild(alloc, others.into_notes(room))
     }
 
-    /// The notes, in their order.
-    fn into_notes(self, alloc: Global) -> Result<Vec<Note>, OutOfMemory>
-        ensures { IfOk result (λ v. SameMembers v.items self) }
-    {
-        let parts = self.parts;
-        let mut clear = parts.clear;
-        clear.reserve(parts.disputed.len())?;
-        Ok(sorted(clear, parts.disputed, Vec::new(alloc)))
-    }
-
-    /// Puts notes into the parts, in any order and with any repeats. All room is taken before.
-    fn put_all(&mut self, notes: Vec<Note>) -> Result<(), OutOfMemory>
-        ensures merged { OnOk result (self.new ≡ union_of self.old notes.items) }
+    /// Puts notes into the parts. All room is taken before.
+    fn put_all(&mut self, notes: MergedNotes) -> Result<(), OutOfMemory>
+        ensures merged { OnOk result (self.new ≡ union_of self.old notes) }
         ensures err { OnErr result (self.new ≡ self.old) }
     {
+        let count = notes.most();
         let spans = &mut self.spans;
-        spans.runs.reserve(notes.len())?;
-        self.parts.reserve(&notes)?;
+        spans.runs.reserve(count)?;
+        self.parts.reserve(count)?;
         self.parts.put_all(&mut spans.runs, notes);
         Ok(())
     }
 
-    /// Puts these notes and others into new parts, in their order. All room is taken before.
+    /// Puts these notes and others into new parts, in one pass over both. All room is taken before.
     fn rebuild(&mut self, alloc: Global, notes: Vec<Note>) -> Result<(), OutOfMemory>
+        requires { IsContent notes.items }
         ensures merged { OnOk result (self.new ≡ union_of self.old notes.items) }
         ensures err { OnErr result (self.new ≡ self.old) }
     {
-        let more = self.parts.disputed.len() + notes.len();
-        self.parts.clear.reserve(more)?;
-        let count = self.parts.clear.len() + more;
+        let room = Vec::with_capacity(alloc, self.len())?;
+        let count = self.len() + notes.len();
         let mut parts = Parts::with_room(alloc, count)?;
         let mut runs = Vec::with_capacity(alloc, count)?;
-        let old = replace(&mut self.parts, Parts::new(alloc));
-        parts.put_all(&mut runs, sorted(old.clear, old.disputed, notes));
+        let own = replace(&mut self.parts, Parts::new(alloc)).into_notes(room);
+        parts.put_all(&mut runs, MergedNotes::of(own, notes));
         self.parts = parts;
         self.spans = Cover { runs };
         Ok(())
@@ -194,7 +188,7 @@ impl Catalogue {
     pub fn len(&self) -> usize
         ensures { result ≡ length self.now }
     {
-        self.parts.clear.len() + self.parts.disputed.len()
+        self.parts.len()
     }
 
     /// Whether there is no note.

@@ -1,7 +1,6 @@
 //! The two parts of a content: its clear notes and its disputed ones.
 ghost use Rattle.std.specs.Prelude.{◌≡◌, ◌↔◌, ◌⊎◌, ◌++◌, ◌+◌, ◌<◌, ◌≤◌, ℕ, [], length, map, false};
 ghost use Rattle.std.specs.Prelude.{vec_len, vec_capacity, IsTrue, IfOk, OnOk};
-ghost use Rattle.std.specs.List.Sorted.{IsPermutation};
 ghost use Rattle.mxf_klv.specs.Parts.{NoteParts};
 ghost use Rattle.mxf_klv.specs.Rising.{In};
 ghost use Rattle.mxf_catalogue.specs.Content.{IsContent, union_of, with_note};
@@ -9,6 +8,7 @@ ghost use Rattle.mxf_catalogue.specs.Covers.{IsCover};
 ghost use Rattle.mxf_catalogue.specs.Disputes.{SharesByte};
 ghost use Rattle.mxf_catalogue.specs.Parts.{AreParts, IsKept, IsWhole, touching};
 
+use super::merging::{MergedNotes, merged};
 use super::placing::{hull, is_in, move_touched, offsets, put, touched};
 use crate::cover::{meets, put_run};
 use crate::run::Run;
@@ -126,39 +126,37 @@ impl Parts {
     }
 
     /// Makes room for other notes and for all that they can move.
-    pub fn reserve(&mut self, others: &[Note]) -> Result<(), AllocError>
+    pub fn reserve(&mut self, count: usize) -> Result<(), AllocError>
         ensures clear { self.new.clear.items ≡ self.old.clear.items }
         ensures disputed { self.new.disputed.items ≡ self.old.disputed.items }
         ensures disputed_spans { self.new.disputed_spans.items ≡ self.old.disputed_spans.items }
-        ensures clear_room { OnOk result
-            (vec_len self.new.clear + length others.now ≤ vec_capacity self.new.clear) }
+        ensures clear_room { OnOk result (vec_len self.new.clear + count ≤ vec_capacity self.new.clear) }
         ensures disputed_room { OnOk result
-            (vec_len self.new.clear + vec_len self.new.disputed + length others.now ≤ vec_capacity self.new.disputed) }
+            (vec_len self.new.clear + vec_len self.new.disputed + count ≤ vec_capacity self.new.disputed) }
         ensures spans_room { OnOk result
-            (vec_len self.new.disputed_spans + length others.now ≤ vec_capacity self.new.disputed_spans) }
+            (vec_len self.new.disputed_spans + count ≤ vec_capacity self.new.disputed_spans) }
     {
-        let count = others.len();
         self.clear.reserve(count)?;
         self.disputed.reserve(self.clear.len() + count)?;
         self.disputed_spans.reserve(count)
     }
 
-    /// Puts notes, in any order and with any repeats, into the parts, and their spans among the runs, all of which have
-    /// room. Where the notes rise and stand above all that is there, each takes a few binary searches.
-    pub fn put_all(&mut self, runs: &mut Vec<Run>, notes: Vec<Note>)
+    /// Puts notes into the parts, and their spans among the runs, all of which have room. Where the notes stand above
+    /// all that is there, each takes a few binary searches.
+    pub fn put_all(&mut self, runs: &mut Vec<Run>, notes: MergedNotes)
         requires whole { IsWhole self.old.clear.items self.old.disputed.items self.old.disputed_spans.items
             runs.old.items }
         requires cover { IsCover runs.old.items }
-        requires clear_room { vec_len self.old.clear + vec_len notes ≤ vec_capacity self.old.clear }
-        requires disputed_room { vec_len self.old.clear + vec_len self.old.disputed + vec_len notes
+        requires clear_room { vec_len self.old.clear + length notes ≤ vec_capacity self.old.clear }
+        requires disputed_room { vec_len self.old.clear + vec_len self.old.disputed + length notes
             ≤ vec_capacity self.old.disputed }
-        requires spans_room { vec_len self.old.disputed_spans + vec_len notes ≤ vec_capacity self.old.disputed_spans }
-        requires runs_room { vec_len runs.old + vec_len notes ≤ vec_capacity runs.old }
+        requires spans_room { vec_len self.old.disputed_spans + length notes ≤ vec_capacity self.old.disputed_spans }
+        requires runs_room { vec_len runs.old + length notes ≤ vec_capacity runs.old }
         ensures whole { IsWhole self.new.clear.items self.new.disputed.items self.new.disputed_spans.items
             runs.new.items }
         ensures cover { IsCover runs.new.items }
         ensures content { union_of self.new.clear.items self.new.disputed.items
-            ≡ union_of (union_of self.old.clear.items self.old.disputed.items) notes.items }
+            ≡ union_of (union_of self.old.clear.items self.old.disputed.items) notes }
     {
         for note in notes {
             self.put_any(runs, note);
@@ -202,12 +200,39 @@ impl Parts {
         self.put(note);
     }
 
-    /// Whether the notes, which rise, all stand above those of the parts.
-    pub fn stand_below(&self, notes: &[Note]) -> bool {
-        let Some(first) = notes.first() else {
+    /// The number of notes in both parts.
+    pub fn len(&self) -> usize
+        requires { AreParts self.now.clear.items self.now.disputed.items }
+        ensures { result ≡ length (union_of self.now.clear.items self.now.disputed.items) }
+    {
+        self.clear.len() + self.disputed.len()
+    }
+
+    /// The notes of both parts, in their order, moved into an empty list that has room for them.
+    pub fn into_notes(self, room: Vec<Note>) -> Vec<Note>
+        requires parts { AreParts self.clear.items self.disputed.items }
+        requires empty { room.items ≡ [] }
+        requires room { length (union_of self.clear.items self.disputed.items) ≤ vec_capacity room }
+        ensures notes { result.items ≡ union_of self.clear.items self.disputed.items }
+        ensures content { IsContent result.items }
+    {
+        merged(room, self.clear, self.disputed)
+    }
+
+    /// Whether all notes of other parts stand above those of these.
+    pub fn stand_below(&self, others: &Parts) -> bool {
+        let Some(first) = others.first() else {
             return true;
         };
         is_below(self.clear.last(), first) && is_below(self.disputed.last(), first)
+    }
+
+    /// The first note of both parts.
+    fn first(&self) -> Option<&Note> {
+        match (self.clear.first(), self.disputed.first()) {
+            (Some(clear), Some(disputed)) => Some(clear.min(disputed)),
+            (clear, disputed) => clear.or(disputed),
+        }
     }
 }
 
@@ -216,30 +241,5 @@ fn is_below(last: Option<&Note>, note: &Note) -> bool {
     match last {
         Some(last) => last < note,
         None => true,
-    }
-}
-
-/// The notes of three lists, in order. The first has room for all.
-pub(super) fn sorted(mut first: Vec<Note>, mut second: Vec<Note>, mut third: Vec<Note>) -> Vec<Note>
-    requires room { vec_len first + vec_len second + vec_len third ≤ vec_capacity first }
-    ensures members { IsPermutation (first.items ++ second.items ++ third.items) result.items }
-    ensures len { vec_len result ≡ vec_len first + vec_len second + vec_len third }
-{
-    append(&mut first, &mut second);
-    append(&mut first, &mut third);
-    first.sort_unstable();
-    first
-}
-
-/// Moves the other notes behind the first, which have room for them.
-fn append(notes: &mut Vec<Note>, others: &mut Vec<Note>)
-    requires room { vec_len notes.old + vec_len others.old ≤ vec_capacity notes.old }
-    ensures items { notes.new.items ≡ notes.old.items ++ others.old.items }
-    ensures len { vec_len notes.new ≡ vec_len notes.old + vec_len others.old }
-    ensures room { vec_capacity notes.old ≤ vec_capacity notes.new }
-{
-    match notes.append(others) {
-        Ok(()) => (),
-        Err(_) => unreachable!(),
     }
 }

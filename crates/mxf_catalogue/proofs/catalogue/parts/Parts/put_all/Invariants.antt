@@ -1,6 +1,5 @@
 -- What is there and what is to come make up the union, and there is room for it.
 use Rattle.std.proofs.Common.{◌≡◌, ◌+◌, ◌≤◌, length, vec_len, vec_capacity}
-use Rattle.std.specs.Vec.Iter.{into_iter_items}
 use Rattle.mxf_catalogue.specs.Content.{union_of}
 use Rattle.mxf_catalogue.specs.Covers.{IsCover}
 use Rattle.mxf_catalogue.specs.Parts.{IsWhole}
@@ -10,12 +9,12 @@ abbrev pub invariant-loop-note : goal.invariant-loop-note
 invariant-loop-note l = record {
   whole : IsWhole l.self.clear.items l.self.disputed.items l.self.disputed_spans.items l.runs.items;
   cover : IsCover l.runs.items;
-  content : union_of (union_of l.self.clear.items l.self.disputed.items) (into_iter_items l.note-iterator)
-      ≡ union_of (union_of l.fn.self.clear.items l.fn.self.disputed.items) l.fn.notes.items;
-  clear_room : vec_len l.self.clear + length (into_iter_items l.note-iterator) ≤ vec_capacity l.self.clear;
-  disputed_room : vec_len l.self.clear + vec_len l.self.disputed + length (into_iter_items l.note-iterator)
+  content : union_of (union_of l.self.clear.items l.self.disputed.items) l.note-iterator
+      ≡ union_of (union_of l.fn.self.clear.items l.fn.self.disputed.items) l.fn.notes;
+  clear_room : vec_len l.self.clear + length l.note-iterator ≤ vec_capacity l.self.clear;
+  disputed_room : vec_len l.self.clear + vec_len l.self.disputed + length l.note-iterator
       ≤ vec_capacity l.self.disputed;
-  spans_room : vec_len l.self.disputed_spans + length (into_iter_items l.note-iterator)
+  spans_room : vec_len l.self.disputed_spans + length l.note-iterator
       ≤ vec_capacity l.self.disputed_spans;
-  runs_room : vec_len l.runs + length (into_iter_items l.note-iterator) ≤ vec_capacity l.runs;
+  runs_room : vec_len l.runs + length l.note-iterator ≤ vec_capacity l.runs;
 }
