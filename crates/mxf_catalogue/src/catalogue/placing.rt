@@ -1,4 +1,4 @@
-//! Where notes stand in a content: all by binary search.
+//! Where notes stand in a content: at its end, or by binary search.
 ghost use Rattle.std.specs.Prelude.{◌≡◌, ◌≢◌, ◌↔◌, ◌+◌, ◌<◌, ◌≤◌, ◌++◌, take, drop, map, length};
 ghost use Rattle.std.specs.Prelude.{vec_len, vec_capacity, IsTrue, IfErr, IfNone, IfOk, IfSome, OnOk};
 ghost use Rattle.std.specs.List.{AllWithin};
@@ -13,13 +13,16 @@ use crate::run::Run;
 use mxf_klv::Note;
 use std::alloc::{AllocError, Global};
 
-/// Where the note is, or where it goes.
+/// Where the note is, or where it goes: behind all others at once where it stands above them, else by binary search.
 fn place(notes: &[Note], note: &Note) -> Result<usize, usize>
     requires { IsContent notes.now }
     ensures found { OnOk result (In note.now notes.now) }
     ensures absent { IfErr result (λ at. IsPlace note.now notes.now at) }
 {
-    notes.binary_search(note)
+    match notes.last() {
+        Some(last) if last < note => Err(notes.len()),
+        _ => notes.binary_search(note),
+    }
 }
 
 /// Whether the note is one of the content.
