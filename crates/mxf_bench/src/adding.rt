@@ -51,7 +51,10 @@ impl Order {
         match self {
             Order::Ascending => number.checked_mul(SIZE),
             Order::Descending => count.checked_sub(number)?.checked_mul(SIZE),
-            Order::Shuffled => number.checked_mul(STRIDE)?.checked_rem(count)?.checked_mul(SIZE),
+            Order::Shuffled => number
+                .checked_mul(STRIDE)?
+                .checked_rem(count)?
+                .checked_mul(SIZE),
             Order::Overlapping => number.checked_mul(SIZE / 2),
         }
     }

@@ -1,5 +1,5 @@
 //! Gaps: bytes that no packet holds.
-use mxf_catalogue::{Catalogue, Run};
+use mxf_catalogue::{Catalogue, Change, Run};
 use mxf_views::{Chain, Views};
 use mxf_worked::builders::{essence, note_at, views_at};
 use mxf_worked::worked_files::{FILL_KEY, M};
@@ -54,7 +54,8 @@ fn all_before_the_last_packet_of_the_longest_file_is_a_gap(rt: HostRuntime) -> R
 // One from 0 to 100, one from 200 to 300, and one from 90 to 210 over both.
 #[test]
 fn disputed_packets_leave_no_gap(rt: HostRuntime) -> Result<(), Fail> {
-    let mut views = Views::new(rt.alloc());
+    let alloc = rt.alloc();
+    let mut views = Views::new(alloc);
     views.add(essence(0, 83)?)?;
     views.add(essence(200, 83)?)?;
     let gap = Run {
@@ -62,7 +63,8 @@ fn disputed_packets_leave_no_gap(rt: HostRuntime) -> Result<(), Fail> {
         end: 200,
     };
     assert_eq!(rt; views.gaps().next(), Some(gap));
-    views.add(essence(90, 103)?)?;
+    let moved = vec![in alloc; 0, 200]?;
+    assert_eq!(rt; views.add(essence(90, 103)?)?, Change::Added { moved });
     assert_eq!(rt; views.catalogue().clear().count(), 0);
     assert_eq!(rt; views.gaps().next(), None);
     Ok(())
