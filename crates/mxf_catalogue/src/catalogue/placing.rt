@@ -1,5 +1,5 @@
 //! Where notes stand in a content: at its end, or by binary search.
-ghost use Rattle.std.specs.Prelude.{◌≡◌, ◌≢◌, ◌↔◌, ◌+◌, ◌<◌, ◌≤◌, ◌++◌, take, drop, map, length};
+ghost use Rattle.std.specs.Prelude.{◌≡◌, ◌≢◌, ◌↔◌, ◌+◌, ◌<◌, ◌≤◌, ◌++◌, take, drop, filter, map, length};
 ghost use Rattle.std.specs.Prelude.{vec_len, vec_capacity, IsTrue, IfErr, IfNone, IfOk, IfSome, OnOk};
 ghost use Rattle.std.specs.List.{AllWithin};
 ghost use Rattle.mxf_klv.specs.Parts.{NoteParts};
@@ -7,6 +7,7 @@ ghost use Rattle.mxf_klv.specs.Note.{end_of};
 ghost use Rattle.mxf_klv.specs.Rising.{In};
 ghost use Rattle.mxf_catalogue.specs.Content.{IsContent, IsPlace, with_note, union_of};
 ghost use Rattle.mxf_catalogue.specs.Covers.{spanned};
+ghost use Rattle.mxf_catalogue.specs.Disputes.{lies_between};
 ghost use Rattle.mxf_catalogue.specs.Parts.{StandApart, touching, away_from, run_of};
 
 use crate::run::Run;
@@ -78,6 +79,19 @@ pub(super) fn touched<'a>(notes: &'a [Note], note: &Note) -> &'a [Note]
     let (front, _) = notes.split_at(to);
     let (_, touched) = front.split_at(from);
     touched
+}
+
+/// The notes that lie wholly from one offset up to another, among notes of which no two share a byte.
+pub(super) fn within(notes: &[Note], start: u64, end: u64) -> &[Note]
+    requires content { IsContent notes.now }
+    requires apart { StandApart notes.now }
+    ensures { result.now ≡ filter (lies_between start end) notes.now }
+{
+    let to = ending_by(notes, end);
+    let from = starting_below(notes, start).min(to);
+    let (front, _) = notes.split_at(to);
+    let (_, within) = front.split_at(from);
+    within
 }
 
 /// The note with the offset.
