@@ -5,7 +5,7 @@ ghost use Rattle.std.specs.Option.{option_copied};
 ghost use Rattle.mxf_klv.specs.Parts.{NoteParts};
 ghost use Rattle.mxf_klv.specs.Rising.{In, SameMembers};
 ghost use Rattle.mxf_catalogue.specs.Content.{IsCatalogue, IsContent, with_note, union_of};
-ghost use Rattle.mxf_catalogue.specs.Disputes.{AreApart, IsClear, clear_notes, disputed_notes, lies_between};
+ghost use Rattle.mxf_catalogue.specs.Disputes.{AreApart, IsClear, clear_notes, disputed_notes, lies_in};
 ghost use Rattle.mxf_catalogue.specs.Moved.{TellsMoved};
 ghost use Rattle.mxf_catalogue.specs.Parts.{Covers};
 
@@ -218,14 +218,15 @@ impl Catalogue {
         ClearNotes::of(&self.parts.clear)
     }
 
-    /// The clear notes whose packets lie wholly from `start` up to `end`, in bytes, the end excluded, in their order: two
-    /// binary searches.
-    pub fn clear_within(&self, start: u64, end: u64) -> ClearNotes<'_>
-        ensures notes { result ≡ filter (lies_between start end) (clear_notes self.now) }
+    /// The clear notes whose packets lie wholly in the range of so many bytes from `start` on, in their order: two binary
+    /// searches. The range may go on beyond all offsets.
+    pub fn clear_within(&self, start: u64, bytes: u64) -> ClearNotes<'_>
+        ensures notes { result ≡ filter (lies_in start bytes) (clear_notes self.now) }
         ensures apart { AreApart 0 result }
+        ensures catalogue { IsCatalogue self.now }
         ensures bound { length result < 2 ^ 64 }
     {
-        ClearNotes::of(within(&self.parts.clear, start, end))
+        ClearNotes::of(within(&self.parts.clear, start, bytes))
     }
 
     /// The disputed notes in their order, each with how it is disputed. It takes no memory.

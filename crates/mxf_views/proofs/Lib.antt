@@ -29,3 +29,4 @@ pub mod SmallFiles
 pub mod SpanCounts
 pub mod SpanGaps
 pub mod StartLaws
+pub mod StartWalk

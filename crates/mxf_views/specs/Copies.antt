@@ -19,7 +19,8 @@ use Rattle.mxf_sets.specs.Readable.{read_as}
 use Rattle.mxf_catalogue.specs.Disputes.{IsClear, clear_notes}
 use Rattle.mxf_views.specs.declared.copy.CopyInfo.{CopyInfo}
 use Rattle.mxf_views.specs.Partitions.{PartitionParts, partitions_of}
-use Rattle.mxf_views.specs.Spans.{is_in_one, lies_in, sizes}
+use Rattle.mxf_views.specs.Spans.{is_in_one, sizes}
+use Rattle.mxf_catalogue.specs.Disputes.{lies_in}
 
 abbrev pub is_fill : Kind → Bool
 is_fill kinds.Fill = true

@@ -11,10 +11,6 @@ size_of n = end_of n - n.offset
 abbrev pub sizes : List NoteParts → ℕ
 sizes notes = sum_by size_of notes
 
--- The packet lies wholly in the range of so many bytes.
-abbrev pub lies_in : ℕ → ℕ → NoteParts → Bool
-lies_in start bytes n = nat_le start n.offset && nat_le (end_of n) (start + bytes)
-
 -- The offset lies in the packet.
 abbrev pub is_in_span : ℕ → NoteParts → Bool
 is_in_span offset n = nat_le n.offset offset && nat_lt offset (end_of n)

@@ -5,9 +5,9 @@ ghost use Rattle.std.specs.List.{AllWithin};
 ghost use Rattle.mxf_klv.specs.Parts.{NoteParts};
 ghost use Rattle.mxf_klv.specs.Note.{end_of};
 ghost use Rattle.mxf_klv.specs.Rising.{In};
-ghost use Rattle.mxf_catalogue.specs.Content.{IsContent, IsPlace, with_note, union_of};
+ghost use Rattle.mxf_catalogue.specs.Content.{IsCatalogue, IsContent, IsPlace, with_note, union_of};
 ghost use Rattle.mxf_catalogue.specs.Covers.{spanned};
-ghost use Rattle.mxf_catalogue.specs.Disputes.{lies_between};
+ghost use Rattle.mxf_catalogue.specs.Disputes.{lies_in};
 ghost use Rattle.mxf_catalogue.specs.Parts.{StandApart, touching, away_from, run_of};
 
 use crate::run::Run;
@@ -81,13 +81,14 @@ pub(super) fn touched<'a>(notes: &'a [Note], note: &Note) -> &'a [Note]
     touched
 }
 
-/// The notes that lie wholly from one offset up to another, among notes of which no two share a byte.
-pub(super) fn within(notes: &[Note], start: u64, end: u64) -> &[Note]
-    requires content { IsContent notes.now }
+/// The notes that lie wholly in a range of so many bytes, among notes of which no two share a byte.
+pub(super) fn within(notes: &[Note], start: u64, bytes: u64) -> &[Note]
+    requires catalogue { IsCatalogue notes.now }
     requires apart { StandApart notes.now }
-    ensures { result.now ≡ filter (lies_between start end) notes.now }
+    ensures { result.now ≡ filter (lies_in start bytes) notes.now }
 {
-    let to = ending_by(notes, end);
+    // No note ends above the greatest number.
+    let to = ending_by(notes, start.saturating_add(bytes));
     let from = starting_below(notes, start).min(to);
     let (front, _) = notes.split_at(to);
     let (_, within) = front.split_at(from);
