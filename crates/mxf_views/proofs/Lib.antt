@@ -1,6 +1,7 @@
 pub mod BestLaws
 pub mod CauseLaws
 pub mod ChainLaws
+pub mod CopyChanges
 pub mod CopyLaws
 pub mod FileBytes
 pub mod FindingLaws

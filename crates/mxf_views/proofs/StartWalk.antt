@@ -173,7 +173,7 @@ first_there reached n m left a (inr h) q =
     above low [] m a h = absurd h
 
 -- No start is found where none stands.
-none_there : (notes : List NoteParts) (end : ℕ) → IsContent notes → ((s : ℕ) → IsStart notes end s → ⊥)
+pub none_there : (notes : List NoteParts) (end : ℕ) → IsContent notes → ((s : ℕ) → IsStart notes end s → ⊥)
     → start_of end (clear_notes notes) ≡ None
 none_there notes end r f =
     elim (start_of end (clear_notes notes)) as (λ o. start_of end (clear_notes notes) ≡ o → o ≡ None) [
