@@ -33,9 +33,9 @@ const ORDERS: [[(u64, u64); 3]; 6] = [
     [C, B, A],
 ];
 
-fn add_essence(all: &mut Catalogue, packets: &[(u64, u64)]) -> Result<(), Fail> {
+fn add_essence(all: &mut Catalogue, packets: [(u64, u64); 3]) -> Result<(), Fail> {
     for (offset, length) in packets {
-        all.add(essence(*offset, *length)?)?;
+        all.add(essence(offset, length)?)?;
     }
     Ok(())
 }
@@ -135,7 +135,7 @@ fn a_packet_over_two_others_disputes_both_in_each_order(rt: HostRuntime) -> Resu
     let alloc = rt.alloc();
     for order in ORDERS {
         let mut all = Catalogue::new(alloc);
-        add_essence(&mut all, &order)?;
+        add_essence(&mut all, order)?;
         assert_eq!(rt; all.len(), 3);
         let marks = marks(alloc, &all)?;
         let expected = [(0, false, true), (90, false, true), (200, false, true)];
@@ -152,12 +152,12 @@ fn a_packet_among_disputed_ones_is_disputed(rt: HostRuntime) -> Result<(), Fail>
     let alloc = rt.alloc();
     for order in ORDERS {
         let mut last = Catalogue::new(alloc);
-        add_essence(&mut last, &order)?;
-        add_essence(&mut last, &[D])?;
+        add_essence(&mut last, order)?;
+        last.add(essence(D.0, D.1)?)?;
         let mut first = Catalogue::new(alloc);
-        add_essence(&mut first, &[D])?;
+        first.add(essence(D.0, D.1)?)?;
         assert!(rt; first.clear_at(120).is_some());
-        add_essence(&mut first, &order)?;
+        add_essence(&mut first, order)?;
         assert!(rt; last.same(&first), "in {order:?}");
         let marks = marks(alloc, &last)?;
         let expected = [
@@ -244,7 +244,7 @@ fn a_long_packet_over_many_small_ones_disputes_them_all(rt: HostRuntime) -> Resu
 fn packets_apart_are_clear(rt: HostRuntime) -> Result<(), Fail> {
     let alloc = rt.alloc();
     let mut all = Catalogue::new(alloc);
-    add_essence(&mut all, &[B, A, D])?;
+    add_essence(&mut all, [B, A, D])?;
     assert_eq!(rt;
         clear_offsets(alloc, &all)?.as_slice(),
         [0, 120, 200].as_slice()
