@@ -41,8 +41,8 @@ use std::mem::replace;
 /// Notes are added one by one, catalogues are joined by [`Semilattice::join`], and one is moved into another by
 /// [`Catalogue::merge`]. What comes out is the set alone: no order of arrival and no number of repeats changes it.
 ///
-/// Clear and disputed notes are kept apart, and the spans of either as runs. So a new note is compared with a few of
-/// them, by binary search.
+/// Clear and disputed notes are kept apart, with the runs of the disputed spans and those of all. So a new note is
+/// compared with a few of them, by binary search.
 #[derive(Debug, Drop)]
 pub struct Catalogue {
     parts: Parts,
