@@ -1,11 +1,11 @@
 //! The set of notes, and the laws of contents.
-ghost use Rattle.std.specs.Prelude.{◌≡◌, ◌≢◌, ◌↔◌, ◌⊎◌, ◌==◌, ◌^◌, ◌<◌, List, [], find, length};
+ghost use Rattle.std.specs.Prelude.{◌≡◌, ◌≢◌, ◌↔◌, ◌⊎◌, ◌==◌, ◌^◌, ◌<◌, List, [], filter, find, length};
 ghost use Rattle.std.specs.Prelude.{IsTrue, IfErr, IfNone, IfOk, IfSome, OnOk, OnErr};
 ghost use Rattle.std.specs.Option.{option_copied};
 ghost use Rattle.mxf_klv.specs.Parts.{NoteParts};
 ghost use Rattle.mxf_klv.specs.Rising.{In, SameMembers};
 ghost use Rattle.mxf_catalogue.specs.Content.{IsCatalogue, IsContent, with_note, union_of};
-ghost use Rattle.mxf_catalogue.specs.Disputes.{AreApart, IsClear, clear_notes, disputed_notes};
+ghost use Rattle.mxf_catalogue.specs.Disputes.{AreApart, IsClear, clear_notes, disputed_notes, lies_in};
 ghost use Rattle.mxf_catalogue.specs.Moved.{TellsMoved};
 ghost use Rattle.mxf_catalogue.specs.Parts.{Covers};
 
@@ -31,7 +31,7 @@ use merging::MergedNotes;
 use mxf_klv::{Note, OutOfMemory};
 pub use notes::Notes;
 use parts::Parts;
-use placing::at_offset;
+use placing::{at_offset, within};
 use std::alloc::Global;
 use std::marker::Model;
 use std::mem::replace;
@@ -216,6 +216,17 @@ impl Catalogue {
         ensures bound { length result < 2 ^ 64 }
     {
         ClearNotes::of(&self.parts.clear)
+    }
+
+    /// The clear notes whose packets lie wholly in the range of so many bytes from `start` on, in their order: two binary
+    /// searches. The range may go on beyond all offsets.
+    pub fn clear_within(&self, start: u64, bytes: u64) -> ClearNotes<'_>
+        ensures notes { result ≡ filter (lies_in start bytes) (clear_notes self.now) }
+        ensures apart { AreApart 0 result }
+        ensures catalogue { IsCatalogue self.now }
+        ensures bound { length result < 2 ^ 64 }
+    {
+        ClearNotes::of(within(&self.parts.clear, start, bytes))
     }
 
     /// The disputed notes in their order, each with how it is disputed. It takes no memory.

@@ -103,6 +103,22 @@ fn packets_of_a_whole_file_are_clear(rt: HostRuntime) -> Result<(), Fail> {
 }
 
 #[test]
+fn clear_packets_of_a_range_lie_wholly_in_it(rt: HostRuntime) -> Result<(), Fail> {
+    let mut all = Catalogue::new(rt.alloc());
+    // From 0 to 100, 120 to 150 and 200 to 300.
+    add_essence(&mut all, [B, A, D])?;
+    assert_eq!(rt; all.clear_within(0, 299).count(), 2);
+    assert_eq!(rt; all.clear_within(1, 299).count(), 2);
+    assert_eq!(rt; all.clear_within(120, 30).count(), 1);
+    assert_eq!(rt; all.clear_within(121, 28).count(), 0);
+    assert_eq!(rt; all.clear_within(120, u64::MAX).count(), 2);
+    // C shares bytes with A, D and B.
+    all.add(essence(C.0, C.1)?)?;
+    assert_eq!(rt; all.clear_within(0, u64::MAX).count(), 0);
+    Ok(())
+}
+
+#[test]
 fn packets_at_one_offset_are_disputed_by_it_alone(rt: HostRuntime) -> Result<(), Fail> {
     let alloc = rt.alloc();
     let (packet, _) = read_packet(&M)?;

@@ -20,7 +20,8 @@ use Rattle.mxf_views.specs.Partitions.{AreInOrder, PartitionParts, partitions_of
 use Rattle.mxf_views.specs.Copies.{CountsZone, IsCopy, IsCopyOf, IsSetOf, IsStartFound, copies_of, copy_from}
 use Rattle.mxf_views.specs.Copies.{copy_of, covered_of, has_metadata, is_preface, is_preface_note, is_set, is_set_note}
 use Rattle.mxf_views.specs.Copies.{CopiesRise, sets_found, sets_from, sets_in, sets_of, start_of, zone_of}
-use Rattle.mxf_views.specs.Spans.{is_in_one, lies_in}
+use Rattle.mxf_views.specs.Spans.{is_in_one}
+use Rattle.mxf_catalogue.specs.Disputes.{lies_in}
 use Rattle.mxf_views.proofs.Members.{both, count_by-cons, false_if, parts, tally}
 use Rattle.mxf_views.proofs.PartitionLaws.{one_there, partitions_rise}
 use Rattle.mxf_views.proofs.SpanCounts.{zone-count}
@@ -257,7 +258,7 @@ sets_are notes partition n r =
 -- ---- copies rise
 
 -- the copy of a partition is at its offset
-copy_there : (notes : List NoteParts) (p : PartitionParts) → (copy_of notes p).partition ≡ p.offset
+pub copy_there : (notes : List NoteParts) (p : PartitionParts) → (copy_of notes p).partition ≡ p.offset
 unfolding copy_of
 copy_there notes p = elim (start_of p.end notes) as (λ o. (copy_from notes p o).partition ≡ p.offset) [
   | None ↦ refl

@@ -24,7 +24,8 @@ use Rattle.mxf_views.specs.RandomIndex.{is_rip, rip_in}
 use Rattle.mxf_views.specs.Reading.{partition_read, partitions_read}
 use Rattle.mxf_views.specs.Records.{read_pack, read_primer, read_rip, value_as}
 use Rattle.mxf_views.specs.Spans as spans
-use Rattle.mxf_views.specs.Spans.{lies_in, sizes}
+use Rattle.mxf_views.specs.Spans.{sizes}
+use Rattle.mxf_catalogue.specs.Disputes.{lies_in}
 use Rattle.mxf_views.specs.WellFormed.{total_of}
 
 -- A value that is read only where it is kept is the same whatever is held of others.

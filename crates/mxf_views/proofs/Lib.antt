@@ -18,6 +18,7 @@ pub mod LaidPartitions
 pub mod LaidRandomIndex
 pub mod Members
 pub mod PartitionLaws
+pub mod PartitionSearch
 pub mod PlaceLaws
 pub mod PreferredRead
 pub mod RandomIndexLaws
@@ -29,3 +30,4 @@ pub mod SmallFiles
 pub mod SpanCounts
 pub mod SpanGaps
 pub mod StartLaws
+pub mod StartWalk

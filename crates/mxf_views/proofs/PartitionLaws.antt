@@ -92,7 +92,7 @@ above_among low (n ∷ notes) p a h =
           ((In-filter_map partition_at notes p).1 (s.0, k, s.2)) in omega arith)
     ]
 
-in_order : (low : ℕ) (notes : List NoteParts) → AreApart low notes → AreInOrder (partitions_among notes)
+pub in_order : (low : ℕ) (notes : List NoteParts) → AreApart low notes → AreInOrder (partitions_among notes)
 in_order low [] a = tt
 in_order low (n ∷ notes) a =
     let ih = in_order (end_of n) notes a.1 in

@@ -9,7 +9,8 @@ use Rattle.mxf_klv.specs.Parts.{NoteParts}
 use Rattle.mxf_klv.specs.Note.{end_of}
 use Rattle.mxf_catalogue.specs.Disputes.{AreApart}
 use Rattle.mxf_catalogue.proofs.SpanLaws.{AreApart-filter, AreApart-lower}
-use Rattle.mxf_views.specs.Spans.{size_of, sizes, lies_in, is_in_span, is_in_one, AllEndBy}
+use Rattle.mxf_views.specs.Spans.{size_of, sizes, is_in_span, is_in_one, AllEndBy}
+use Rattle.mxf_catalogue.specs.Disputes.{lies_in}
 
 -- ---- counting offsets of a range
 

@@ -1,17 +1,16 @@
 -- The gaps of notes are those of the cover of their spans.
 use Rattle.std.proofs.Common.{◌≡◌, ℕ, ◌+◌, ◌-◌, ◌<◌, ◌≤◌, List, [], ◌∷◌, ap, arith, inl, inr}
-use Rattle.std.specs.Prelude.{◌↔◌}
-use Rattle.mxf_klv.specs.Note.{IsInSpan, end_of}
+use Rattle.mxf_klv.specs.Note.{end_of}
 use Rattle.mxf_klv.specs.Parts.{NoteParts}
 use Rattle.mxf_klv.specs.Rising.{In}
 use Rattle.mxf_catalogue.specs.Content.{IsContent}
-use Rattle.mxf_catalogue.specs.Covers.{AreGapsOf, IsBetween, IsCover, gaps_of_runs}
+use Rattle.mxf_catalogue.specs.Covers.{IsBetween, IsCover, gaps_of_runs}
 use Rattle.mxf_catalogue.specs.Parts.{Covers}
-use Rattle.mxf_catalogue.specs.Runs.{AreMaximal, IsWithin, LiesIn}
+use Rattle.mxf_catalogue.specs.Runs.{AreMaximal}
 use Rattle.mxf_catalogue.specs.declared.run.Run.{Run}
 use Rattle.mxf_catalogue.proofs.CoverLaws.{gaps_by_definition}
 use Rattle.mxf_catalogue.proofs.RunLaws.{same_runs}
-use Rattle.mxf_views.specs.Gaps.{AreGaps, IsGap, gaps_of}
+use Rattle.mxf_views.specs.Gaps.{IsGap, gaps_of}
 use Rattle.mxf_views.proofs.GapsLaws.{gaps_are}
 
 -- Maximal runs have a byte each.

@@ -20,15 +20,16 @@ use Rattle.mxf_catalogue.proofs.DisputeLaws.{In-clear_notes, clear-apart}
 use Rattle.mxf_catalogue.proofs.Lists.{In-filter, list_any-In, found-In, none_found}
 use Rattle.mxf_views.specs.Copies.{IsStart, covered_of, is_fill, is_fill_note, is_filled, is_primer}
 use Rattle.mxf_views.specs.Copies.{is_readable_primer, is_start, start_of, zone_of}
-use Rattle.mxf_views.specs.Spans.{is_in_one, is_in_span, lies_in}
+use Rattle.mxf_views.specs.Spans.{is_in_one, is_in_span}
+use Rattle.mxf_catalogue.specs.Disputes.{lies_in}
 use Rattle.mxf_views.proofs.SpanCounts.{count-all, count-full, in_span, in_span-says, zone-count}
 use Rattle.mxf_catalogue.proofs.SpanLaws.{AreApart-clear_notes}
 
-both : (a b : Bool) → a ≡ true → b ≡ true → (a && b) ≡ true
+pub both : (a b : Bool) → a ≡ true → b ≡ true → (a && b) ≡ true
 both true b p q = q
 both false b p q = absurd cc
 
-parts : (a b : Bool) → (a && b) ≡ true → (a ≡ true) × (b ≡ true)
+pub parts : (a b : Bool) → (a && b) ≡ true → (a ≡ true) × (b ≡ true)
 parts true b h = (refl, h)
 parts false b h = absurd cc
 
@@ -81,7 +82,7 @@ one_kind kinds.RawSet p q = cc
 one_kind kinds.Essence p q = cc
 one_kind kinds.Other p q = cc
 
-no_primer_fill : (n : NoteParts) → is_readable_primer n ≡ true → is_fill_note n ≡ true → ⊥
+pub no_primer_fill : (n : NoteParts) → is_readable_primer n ≡ true → is_fill_note n ≡ true → ⊥
 unfolding is_readable_primer is_fill_note
 no_primer_fill n p q = one_kind (kind_of n.key)
     (parts (is_primer (kind_of n.key)) (is_some (read_as primer_at n)) p).0 q

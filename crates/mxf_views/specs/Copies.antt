@@ -16,10 +16,10 @@ use Rattle.mxf_klv.specs.Kind.{kind_of}
 use Rattle.mxf_klv.specs.Rising.{In}
 use Rattle.mxf_sets.specs.PackReadings.{primer_at}
 use Rattle.mxf_sets.specs.Readable.{read_as}
-use Rattle.mxf_catalogue.specs.Disputes.{IsClear, clear_notes}
+use Rattle.mxf_catalogue.specs.Disputes.{IsClear, clear_notes, lies_in}
 use Rattle.mxf_views.specs.declared.copy.CopyInfo.{CopyInfo}
 use Rattle.mxf_views.specs.Partitions.{PartitionParts, partitions_of}
-use Rattle.mxf_views.specs.Spans.{is_in_one, lies_in, sizes}
+use Rattle.mxf_views.specs.Spans.{is_in_one, sizes}
 
 abbrev pub is_fill : Kind → Bool
 is_fill kinds.Fill = true

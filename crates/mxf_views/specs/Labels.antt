@@ -9,7 +9,7 @@ use Rattle.mxf_sets.specs.Readable.{read_as}
 use Rattle.mxf_catalogue.specs.Disputes.{clear_notes}
 use Rattle.mxf_views.specs.declared.copy.CopyInfo.{CopyInfo}
 use Rattle.mxf_views.specs.Copies.{copies_of}
-use Rattle.mxf_views.specs.Spans.{lies_in}
+use Rattle.mxf_catalogue.specs.Disputes.{lies_in}
 
 -- The packet lies wholly in the zone that begins there, in none without a start.
 abbrev pub is_in_zone : NoteParts → ℕ → Option ℕ → Bool

@@ -1,5 +1,5 @@
 -- How many bytes packets take that share none, and the offsets that lie in them (this project's profile).
-use Rattle.std.specs.Prelude.{ℕ, ◌+◌, ◌-◌, ◌≤◌, Bool, ◌&&◌, nat_le, nat_lt, List, [], ◌∷◌, sum_by}
+use Rattle.std.specs.Prelude.{ℕ, ◌-◌, ◌≤◌, Bool, ◌&&◌, nat_le, nat_lt, List, [], ◌∷◌, sum_by}
 use Rattle.std.specs.List.{list_any}
 use Rattle.mxf_klv.specs.Parts.{NoteParts}
 use Rattle.mxf_klv.specs.Note.{end_of}
@@ -10,10 +10,6 @@ size_of n = end_of n - n.offset
 
 abbrev pub sizes : List NoteParts → ℕ
 sizes notes = sum_by size_of notes
-
--- The packet lies wholly in the range of so many bytes.
-abbrev pub lies_in : ℕ → ℕ → NoteParts → Bool
-lies_in start bytes n = nat_le start n.offset && nat_le (end_of n) (start + bytes)
 
 -- The offset lies in the packet.
 abbrev pub is_in_span : ℕ → NoteParts → Bool

@@ -11,14 +11,14 @@ ghost use Rattle.mxf_klv.specs.Rising.{In};
 ghost use Rattle.mxf_views.specs.Copies.{CopiesRise, IsBest, IsCopy, IsPreferred, IsStart, copies_of};
 ghost use Rattle.mxf_views.specs.declared.copy.CopyInfo.{CopyInfo};
 ghost use Rattle.std.specs.Iterator.{YieldsFirst, item_count};
-ghost use Rattle.mxf_catalogue.specs.Disputes.{AreApart, clear_notes};
-ghost use Rattle.mxf_views.specs.Copies.{preferred_of, is_candidate, is_above, standing, copies_among, copy_from, copy_of, covered_of, is_fill_note, is_filled, is_readable_primer, is_start, start_of, zone_of, prefaces_of};
+ghost use Rattle.mxf_catalogue.specs.Disputes.{clear_notes};
+ghost use Rattle.mxf_views.specs.Copies.{preferred_of, is_candidate, is_above, standing, copies_among, copy_from, copy_of, covered_of, has_metadata, is_readable_primer, start_of, zone_of, prefaces_of};
 
 pub(crate) mod sets;
 pub(crate) mod zone;
 
-use crate::copy::zone::{Zone, is_preface, lies_in};
-use crate::partition::{PartitionAt, Partitions};
+use crate::copy::zone::{covered, is_fill, is_preface, lies_in};
+use crate::partition::{PartitionAt, Partitions, partition_there};
 use mxf_catalogue::Catalogue;
 use mxf_klv::{Held, Kind, Note, Status};
 use mxf_sets::Primer;
@@ -60,46 +60,20 @@ fn is_readable_primer(note: &Note) -> bool
     note.kind() == Kind::Primer && read_primer(note).is_some()
 }
 
-/// The clear notes of a range of the file.
-pub(crate) fn clear_zone<'a>(catalogue: &'a Catalogue, start: u64, bytes: u64) -> Zone<'a>
-    ensures notes { result ≡ zone_of start bytes (clear_notes catalogue.now) }
-    ensures apart { AreApart 0 result }
-    ensures bound { length result < 2 ^ 64 }
-{
-    Zone::of(start, bytes, catalogue.clear())
-}
-
-/// The bytes of a range that lie in clear packets lying wholly in it.
-fn covered(catalogue: &Catalogue, start: u64, bytes: u64) -> u64
-    ensures { result ≡ covered_of start bytes (clear_notes catalogue.now) }
-{
-    clear_zone(catalogue, start, bytes).covered()
-}
-
-/// Whether each byte of a range lies in a clear fill that lies wholly in it.
-fn is_filled(catalogue: &Catalogue, start: u64, bytes: u64) -> bool
-    ensures { result ≡ is_filled start bytes (clear_notes catalogue.now) }
-{
-    covered(catalogue, start, bytes) == bytes && clear_zone(catalogue, start, bytes).are_fills()
-}
-
-/// Whether the header metadata begin at the note, of a partition whose pack ends at an offset.
-fn is_start(catalogue: &Catalogue, end: u64, note: &Note) -> bool
-    ensures { result ≡ is_start end (clear_notes catalogue.now) note.now }
-{
-    is_readable_primer(note)
-        && end <= note.offset()
-        && is_filled(catalogue, end, note.offset() - end)
-}
-
-/// Where the header metadata begin of a partition whose pack ends at an offset.
+/// Where the header metadata begin of a partition whose pack ends at an offset: at the primer that follows it, or the
+/// fills behind it.
 fn start_of(catalogue: &Catalogue, end: u64) -> Option<u64>
     ensures { result ≡ start_of end (clear_notes catalogue.now) }
 {
-    for note in catalogue.clear() {
-        if is_start(catalogue, end, note) {
-            return Some(note.offset());
+    let mut reached = end;
+    for note in catalogue.clear_within(end, u64::MAX) {
+        if note.offset() != reached {
+            return None;
         }
+        if !is_fill(note) {
+            return is_readable_primer(note).then_some(reached);
+        }
+        reached = note.end();
     }
     None
 }
@@ -107,7 +81,8 @@ fn start_of(catalogue: &Catalogue, end: u64) -> Option<u64>
 fn prefaces(catalogue: &Catalogue, start: u64, bytes: u64) -> usize
     ensures { result ≡ prefaces_of start bytes (clear_notes catalogue.now) }
 {
-    clear_zone(catalogue, start, bytes)
+    catalogue
+        .clear_within(start, bytes)
         .filter(|note| is_preface(note))
         .count()
 }
@@ -129,7 +104,7 @@ fn copy_of(catalogue: &Catalogue, partition: &PartitionAt<'_>) -> CopyInfo
             status,
         };
     };
-    let covered = covered(catalogue, start, bytes);
+    let covered = covered(catalogue.clear_within(start, bytes));
     CopyInfo {
         partition: partition.offset,
         start: Some(start),
@@ -139,6 +114,24 @@ fn copy_of(catalogue: &Catalogue, partition: &PartitionAt<'_>) -> CopyInfo
         prefaces: prefaces(catalogue, start, bytes),
         status,
     }
+}
+
+/// Whether the partition states header metadata.
+fn has_metadata(partition: &PartitionAt<'_>) -> bool
+    ensures { result ≡ has_metadata partition.now }
+{
+    partition.pack.numbers().header_byte_count > 0
+}
+
+/// The copy of the partition at a file offset.
+pub(crate) fn copy_there(catalogue: &Catalogue, partition: u64) -> Option<CopyInfo>
+    ensures { result ≡ find (λ c. c.partition == partition) (copies_of catalogue.now) }
+{
+    let partition = partition_there(catalogue, partition)?;
+    if !has_metadata(&partition) {
+        return None;
+    }
+    Some(copy_of(catalogue, &partition))
 }
 
 /// The copies that are left, rising.
@@ -173,18 +166,6 @@ impl<'a> Copies<'a> {
 }
 
 impl<'a> Copies<'a> {
-    /// The copy of the partition at a file offset.
-    pub(crate) fn at(self, partition: u64) -> Option<CopyInfo>
-        ensures { result ≡ find (λ c. c.partition == partition) self.entry }
-    {
-        for copy in self {
-            if copy.partition == partition {
-                return Some(copy);
-            }
-        }
-        None
-    }
-
     /// The first whose zone has the packet of the note.
     pub(crate) fn with(self, note: &Note) -> Option<CopyInfo>
         ensures { result ≡ find (is_in_copy note.now) self.entry }
@@ -265,7 +246,7 @@ impl<'a> Iterator for Copies<'a> {
 
     fn next(&mut self) -> Option<CopyInfo> {
         while let Some(partition) = self.partitions.next() {
-            if partition.pack.numbers().header_byte_count > 0 {
+            if has_metadata(&partition) {
                 return Some(copy_of(self.catalogue, &partition));
             }
         }

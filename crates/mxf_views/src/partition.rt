@@ -7,7 +7,7 @@ ghost use Rattle.mxf_views.specs.Partitions.{AreInOrder, HoldBytes, IsPartition,
 ghost use Rattle.std.specs.Iterator.{YieldsFirst, item_count};
 ghost use Rattle.mxf_views.specs.Partitions.{pack_of, partition_at, partitions_among, stands_at, stands_between, stands_above, is_header, is_footer, is_no_unreadable_pack};
 
-use mxf_catalogue::ClearNotes;
+use mxf_catalogue::{Catalogue, ClearNotes};
 use mxf_klv::{Held, Kind, Note};
 use mxf_sets::{PackPart, PartitionPack};
 use std::marker::Model;
@@ -80,35 +80,14 @@ impl<'a> Partitions<'a> {
 }
 
 impl<'a> Partitions<'a> {
-    /// The one at a file offset.
-    pub(crate) fn at(self, offset: u64) -> Option<PartitionAt<'a>>
-        ensures { result ≡ find (λ p. p.offset == offset) self.entry }
-    {
-        for partition in self {
-            if partition.offset == offset {
-                return Some(partition);
-            }
-        }
-        None
-    }
-
-    pub(crate) fn any_at(self, offset: u64) -> bool
-        ensures { result ≡ stands_at offset self.entry }
-    {
-        for partition in self {
-            if partition.offset == offset {
-                return true;
-            }
-        }
-        false
-    }
-
+    /// Whether one stands between two offsets: the first above the lower one tells.
     pub(crate) fn any_between(self, low: u64, high: u64) -> bool
+        requires { AreInOrder self }
         ensures { result ≡ stands_between low high self.entry }
     {
         for partition in self {
-            if low < partition.offset && partition.offset < high {
-                return true;
+            if low < partition.offset {
+                return partition.offset < high;
             }
         }
         false
@@ -144,6 +123,27 @@ impl<'a> Partitions<'a> {
     {
         self.filter(|p| p.pack.part() == PackPart::Footer).count()
     }
+}
+
+/// The partition at a file offset.
+pub(crate) fn partition_there(catalogue: &Catalogue, offset: u64) -> Option<PartitionAt<'_>>
+    ensures { result ≡ find (λ p. p.offset == offset) (partitions_of catalogue.now) }
+{
+    partition_at(catalogue.clear_at(offset)?)
+}
+
+/// Whether a partition stands at a file offset.
+pub(crate) fn stands_at(catalogue: &Catalogue, offset: u64) -> bool
+    ensures { result ≡ stands_at offset (partitions_of catalogue.now) }
+{
+    partition_there(catalogue, offset).is_some()
+}
+
+/// Whether a partition stands between two file offsets.
+pub(crate) fn stands_between(catalogue: &Catalogue, low: u64, high: u64) -> bool
+    ensures { result ≡ stands_between low high (partitions_of catalogue.now) }
+{
+    Partitions::of(catalogue.clear_within(low, u64::MAX)).any_between(low, high)
 }
 
 /// Whether the note is no partition pack, or a readable one.

@@ -10,7 +10,7 @@ ghost use Rattle.mxf_views.specs.declared.random_index.RipView.{RipView};
 ghost use Rattle.mxf_views.specs.RandomIndexView.{IsRipView, rip_view_of};
 ghost use Rattle.mxf_views.specs.RandomIndex.{IsStanding, is_rip_note, rip_in, rips_of, standing_of, standings};
 
-use crate::partition::Partitions;
+use crate::partition::partition_there;
 use mxf_catalogue::{Catalogue, ClearNotes};
 use mxf_klv::{Held, Kind, Note};
 use mxf_sets::{Rip, RipEntries, RipEntry};
@@ -113,18 +113,10 @@ impl<'a> Iterator for Standings<'a> {
 }
 
 /// How an entry stands to the partitions of a catalogue.
-#[tactic(auto, unfolding(crate::specs::Partitions::partitions_of))]
 fn standing_in(catalogue: &Catalogue, entry: &RipEntry) -> Standing
     ensures { result ≡ standing_of (partitions_of catalogue.now) entry.now }
 {
-    standing_of(Partitions::of(catalogue.clear()), entry)
-}
-
-/// How an entry stands to partitions.
-fn standing_of(partitions: Partitions<'_>, entry: &RipEntry) -> Standing
-    ensures { result ≡ standing_of partitions.entry entry.now }
-{
-    match partitions.at(entry.offset) {
+    match partition_there(catalogue, entry.offset) {
         Some(partition) if partition.pack.numbers().body_sid == entry.body_sid => Standing::Held,
         Some(_) => Standing::Differs,
         None => Standing::Missing,

@@ -20,14 +20,14 @@ ghost use Rattle.mxf_views.specs.Findings.{findings_of};
 ghost use Rattle.mxf_views.specs.Headline.{IsTheRun};
 ghost use Rattle.mxf_views.specs.SameViews.{SameViews};
 
-use crate::chain::{Chain, Link};
+use crate::chain::{Chain, Link, link_of};
 use crate::copy::sets::{Sets, no_sets, sets_of_copy};
-use crate::copy::{Copies, CopyInfo, read_primer};
+use crate::copy::{Copies, CopyInfo, copy_there, read_primer};
 use crate::finding::Findings;
 use crate::gap::Gaps;
 use crate::index::Segments;
 use crate::index::place::{BadUnit, GREATEST_UNIT, Place};
-use crate::partition::{PartitionAt, Partitions, is_no_unreadable_pack};
+use crate::partition::{PartitionAt, Partitions, is_no_unreadable_pack, partition_there};
 use crate::random_index::RipView;
 use crate::reference::resolved::{Resolved, preface_among, resolved_by};
 use crate::reference::{Found, find_among};
@@ -140,7 +140,7 @@ impl Views {
     pub fn link(&self, offset: u64) -> Option<Link>
         ensures { result ≡ link_at offset (partitions_of self.now) }
     {
-        let partition = self.partitions().at(offset)?;
+        let partition = partition_there(&self.catalogue, offset)?;
         Some(self.link_of(&partition))
     }
 
@@ -148,25 +148,7 @@ impl Views {
     pub fn link_of(&self, partition: &PartitionAt<'_>) -> Link
         ensures { result ≡ link_of (partitions_of self.now) partition.now }
     {
-        let offset = partition.offset;
-        let previous = partition.pack.numbers().previous_partition;
-        if offset == 0 {
-            return if previous == 0 {
-                Link::First
-            } else {
-                Link::Wrong
-            };
-        }
-        if offset <= previous {
-            return Link::Wrong;
-        }
-        if !self.partitions().any_at(previous) {
-            return Link::Missing;
-        }
-        if self.partitions().any_between(previous, offset) {
-            return Link::Skips;
-        }
-        Link::Held
+        link_of(&self.catalogue, partition)
     }
 
     /// Whether the partitions hang together from the header to the footer.
@@ -267,7 +249,7 @@ impl Views {
         // A count of the result fits.
         ensures bound { length result < 2 ^ 64 }
     {
-        match self.copies().at(partition) {
+        match copy_there(&self.catalogue, partition) {
             Some(copy) => sets_of_copy(&self.catalogue, &copy),
             None => no_sets(&self.catalogue),
         }

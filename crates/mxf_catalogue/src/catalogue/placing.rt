@@ -1,12 +1,13 @@
 //! Where notes stand in a content: at its end, or by binary search.
-ghost use Rattle.std.specs.Prelude.{◌≡◌, ◌≢◌, ◌↔◌, ◌+◌, ◌<◌, ◌≤◌, ◌++◌, take, drop, map, length};
+ghost use Rattle.std.specs.Prelude.{◌≡◌, ◌≢◌, ◌↔◌, ◌+◌, ◌<◌, ◌≤◌, ◌++◌, take, drop, filter, map, length};
 ghost use Rattle.std.specs.Prelude.{vec_len, vec_capacity, IsTrue, IfErr, IfNone, IfOk, IfSome, OnOk};
 ghost use Rattle.std.specs.List.{AllWithin};
 ghost use Rattle.mxf_klv.specs.Parts.{NoteParts};
 ghost use Rattle.mxf_klv.specs.Note.{end_of};
 ghost use Rattle.mxf_klv.specs.Rising.{In};
-ghost use Rattle.mxf_catalogue.specs.Content.{IsContent, IsPlace, with_note, union_of};
+ghost use Rattle.mxf_catalogue.specs.Content.{IsCatalogue, IsContent, IsPlace, with_note, union_of};
 ghost use Rattle.mxf_catalogue.specs.Covers.{spanned};
+ghost use Rattle.mxf_catalogue.specs.Disputes.{lies_in};
 ghost use Rattle.mxf_catalogue.specs.Parts.{StandApart, touching, away_from, run_of};
 
 use crate::run::Run;
@@ -78,6 +79,20 @@ pub(super) fn touched<'a>(notes: &'a [Note], note: &Note) -> &'a [Note]
     let (front, _) = notes.split_at(to);
     let (_, touched) = front.split_at(from);
     touched
+}
+
+/// The notes that lie wholly in a range of so many bytes, among notes of which no two share a byte.
+pub(super) fn within(notes: &[Note], start: u64, bytes: u64) -> &[Note]
+    requires catalogue { IsCatalogue notes.now }
+    requires apart { StandApart notes.now }
+    ensures { result.now ≡ filter (lies_in start bytes) notes.now }
+{
+    // No note ends above the greatest number.
+    let to = ending_by(notes, start.saturating_add(bytes));
+    let from = starting_below(notes, start).min(to);
+    let (front, _) = notes.split_at(to);
+    let (_, within) = front.split_at(from);
+    within
 }
 
 /// The note with the offset.

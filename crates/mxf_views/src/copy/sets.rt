@@ -8,9 +8,9 @@ ghost use Rattle.std.specs.Iterator.{YieldsFirstRef, item_count};
 ghost use Rattle.mxf_views.specs.SetItems.{set_items, whole_items};
 ghost use Rattle.mxf_views.specs.Copies.{IsSetOf, is_set_note, sets_from, sets_of};
 
-use super::{CopyInfo, clear_zone};
-use crate::copy::zone::{Zone, is_set};
-use mxf_catalogue::Catalogue;
+use super::CopyInfo;
+use crate::copy::zone::is_set;
+use mxf_catalogue::{Catalogue, ClearNotes};
 use mxf_klv::{Held, Note};
 use mxf_sets::{Items, items};
 use std::marker::Model;
@@ -18,7 +18,7 @@ use std::marker::Model;
 /// The notes of the header metadata sets of a copy that are left, rising.
 #[derive(Debug, Drop)]
 pub struct Sets<'a> {
-    zone: Zone<'a>,
+    zone: ClearNotes<'a>,
 }
 
 impl<'a> Model for Sets<'a> {
@@ -32,7 +32,7 @@ impl<'a> Model for Sets<'a> {
 }
 
 impl<'a> Sets<'a> {
-    pub(crate) fn of(zone: Zone<'a>) -> Sets<'a>
+    pub(crate) fn of(zone: ClearNotes<'a>) -> Sets<'a>
         requires { length zone < 2 ^ 64 }
         ensures sets { result ≡ filter is_set_note zone.entry }
         ensures bound { length result < 2 ^ 64 }
@@ -63,7 +63,7 @@ pub(crate) fn no_sets(catalogue: &Catalogue) -> Sets<'_>
     ensures none { result ≡ [] }
     ensures bound { length result < 2 ^ 64 }
 {
-    Sets::of(clear_zone(catalogue, 0, 0))
+    Sets::of(catalogue.clear_within(0, 0))
 }
 
 /// The sets of a copy, none where it has no start.
@@ -72,7 +72,7 @@ pub(crate) fn sets_of_copy<'a>(catalogue: &'a Catalogue, copy: &CopyInfo) -> Set
     ensures bound { length result < 2 ^ 64 }
 {
     match copy.start {
-        Some(start) => Sets::of(clear_zone(catalogue, start, copy.bytes)),
+        Some(start) => Sets::of(catalogue.clear_within(start, copy.bytes)),
         None => no_sets(catalogue),
     }
 }

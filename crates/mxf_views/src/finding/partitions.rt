@@ -3,12 +3,13 @@ ghost use Rattle.std.specs.Prelude.{◌≡◌, OnOk};
 ghost use Rattle.mxf_klv.specs.Rising.{union};
 ghost use Rattle.mxf_views.specs.Codes.{finding_cmp};
 ghost use Rattle.mxf_views.specs.Findings.{footer_stands_at, findings_for, is_misplaced, is_open, is_open_footer, is_unfit, lacks_footer};
-ghost use Rattle.mxf_views.specs.Partitions.{partitions_of};
+ghost use Rattle.mxf_views.specs.Partitions.{is_footer, partitions_of};
 
 use super::{Code, Findings};
 use crate::chain::{Chain, Link};
-use crate::partition::{PartitionAt, Partitions, is_no_unreadable_pack};
+use crate::partition::{PartitionAt, is_no_unreadable_pack, partition_there};
 use crate::views::Views;
+use mxf_catalogue::Catalogue;
 use mxf_klv::{OutOfMemory, Status};
 use mxf_sets::PackPart;
 
@@ -36,19 +37,23 @@ fn is_open(status: Status) -> bool
 fn is_open_footer(partition: &PartitionAt<'_>) -> bool
     ensures { result ≡ is_open_footer partition.now }
 {
-    partition.pack.part() == PackPart::Footer && is_open(partition.pack.status())
+    is_footer(partition) && is_open(partition.pack.status())
+}
+
+fn is_footer(partition: &PartitionAt<'_>) -> bool
+    ensures { result ≡ is_footer partition.now.pack.part }
+{
+    partition.pack.part() == PackPart::Footer
 }
 
 /// Whether a footer partition stands at a file offset.
-fn footer_stands_at(offset: u64, partitions: Partitions<'_>) -> bool
-    ensures { result ≡ footer_stands_at offset partitions.entry }
+fn footer_stands_at(catalogue: &Catalogue, offset: u64) -> bool
+    ensures { result ≡ footer_stands_at offset (partitions_of catalogue.now) }
 {
-    for partition in partitions {
-        if partition.pack.part() == PackPart::Footer && partition.offset == offset {
-            return true;
-        }
+    match partition_there(catalogue, offset) {
+        Some(partition) => is_footer(&partition),
+        None => false,
     }
-    false
 }
 
 /// Whether the partition names an offset, 0 aside, as that of the footer partition, and none stands there.
@@ -56,7 +61,7 @@ fn lacks_footer(views: &Views, partition: &PartitionAt<'_>) -> bool
     ensures { result ≡ lacks_footer (partitions_of views.now) partition.now }
 {
     let footer = partition.pack.numbers().footer_partition;
-    footer != 0 && !footer_stands_at(footer, views.partitions())
+    footer != 0 && !footer_stands_at(views.catalogue(), footer)
 }
 
 impl Findings {

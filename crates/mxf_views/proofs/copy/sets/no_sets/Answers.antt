@@ -4,7 +4,7 @@ use Rattle.mxf_klv.specs.Parts.{NoteParts}
 use Rattle.mxf_klv.specs.Note.{end_of}
 use Rattle.mxf_catalogue.specs.Disputes.{clear_notes}
 use Rattle.mxf_views.specs.Copies.{is_set_note, zone_of}
-use Rattle.mxf_views.specs.Spans.{lies_in}
+use Rattle.mxf_catalogue.specs.Disputes.{lies_in}
 use Rattle.mxf_views.proofs.copy.sets.no_sets.Goals as goal
 
 not_both : (a b : Bool) → (b ≡ true → ⊥) → (a && b) ≡ false
@@ -22,4 +22,4 @@ no_zone (n ∷ notes) =
 
 pub returns-clause-none : goal.returns-clause-none
 returns-clause-none c = c.of.ensures.sets ∙ ap (filter is_set_note)
-    (c.clear_zone.ensures.notes ∙ no_zone (clear_notes c.args.catalogue.now))
+    (c.clear_within.ensures.notes ∙ no_zone (clear_notes c.args.catalogue.now))

@@ -1,6 +1,6 @@
 use Rattle.std.proofs.Common.{◌∙◌}
 use Rattle.mxf_views.proofs.SpanCounts.{sizes_more}
-use Rattle.mxf_views.proofs.copy.zone.Zone.covered.Goals as goal
+use Rattle.mxf_views.proofs.copy.zone.covered.Goals as goal
 
 pub loop-note-preserved : goal.loop-note-preserved
 loop-note-preserved c =

@@ -1,7 +1,7 @@
 use Rattle.std.proofs.Common.{◌≡◌, ◌+◌}
 use Rattle.mxf_catalogue.specs.Disputes.{AreApart}
 use Rattle.mxf_views.specs.Spans.{sizes}
-use Rattle.mxf_views.proofs.copy.zone.Zone.covered.Given as goal
+use Rattle.mxf_views.proofs.copy.zone.covered.Given as goal
 
 abbrev pub invariant-loop-note : goal.invariant-loop-note
-invariant-loop-note l = (l.covered + sizes l.note-iterator ≡ sizes l.fn.self) × AreApart l.covered l.note-iterator
+invariant-loop-note l = (l.covered + sizes l.note-iterator ≡ sizes l.fn.notes) × AreApart l.covered l.note-iterator

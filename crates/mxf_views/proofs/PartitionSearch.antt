@@ -1,0 +1,241 @@
+-- Partitions found by search among the clear notes.
+use Rattle.std.proofs.Common.{◌≡◌, ℕ, ◌+◌, ◌<◌, ◌≤◌, true, false, List, ◌∷◌, Option, Some, None, refl}
+use Rattle.std.proofs.Common.{sym, ap, ◌∙◌, inl, inr, arith, eqb-true, eq-eqb, le-leb}
+use Rattle.std.specs.Prelude.{◌&&◌, ◌==◌, nat_lt, find, filter, is_some}
+use Rattle.std.specs.List.{list_any}
+use Rattle.std.specs.Option.{option_and_then}
+use Rattle.std.proofs.lemmas.Bool.{ltb-true, lt-ltb}
+use Rattle.mxf_klv.specs.Parts.{NoteParts}
+use Rattle.mxf_klv.specs.Note.{IsNote, end_of}
+use Rattle.mxf_klv.specs.Rising.{In}
+use Rattle.mxf_catalogue.specs.Content.{IsCatalogue}
+use Rattle.mxf_catalogue.specs.Disputes.{clear_notes, lies_in}
+use Rattle.mxf_catalogue.proofs.ContentLaws.{all-In}
+use Rattle.mxf_catalogue.proofs.DisputeLaws.{In-clear_notes, clear-alone, same_bool}
+use Rattle.mxf_catalogue.proofs.Lists.{In-filter, In-map, list_any-In, find-none, find-only, found-In, none_found}
+use Rattle.mxf_views.specs.declared.copy.CopyInfo.{CopyInfo}
+use Rattle.mxf_views.specs.Copies.{copies_of, copy_of, has_metadata}
+use Rattle.mxf_views.specs.Findings.{footer_stands_at}
+use Rattle.mxf_views.specs.Partitions.{AreInOrder, PartitionParts, is_footer, partition_at, partitions_among}
+use Rattle.mxf_views.specs.Partitions.{partitions_of, stands_at, stands_between}
+use Rattle.mxf_views.proofs.CopyLaws.{copy_there}
+use Rattle.mxf_views.proofs.Members.{In-filter_map, all-each, both, false_if, parts}
+use Rattle.mxf_views.proofs.PartitionLaws.{offset-partition_at}
+
+-- A partition is that of a clear note with its offset.
+pub record IsOfNote (notes : List NoteParts) (p : PartitionParts) : Type 0 where
+  pub note : NoteParts
+  pub clear : In note (clear_notes notes)
+  pub read : partition_at note ≡ Some p
+  pub offset : p.offset ≡ note.offset
+
+of_note : (notes : List NoteParts) (p : PartitionParts) → In p (partitions_of notes) → IsOfNote notes p
+unfolding partitions_of
+of_note notes p h =
+    let s = (In-filter_map partition_at (clear_notes notes) p).0 h in
+    record { note = s.0; clear = s.1; read = s.2; offset = offset-partition_at s.0 p s.2 }
+
+is_there : (notes : List NoteParts) (n : NoteParts) (p : PartitionParts) → In n (clear_notes notes)
+    → partition_at n ≡ Some p → In p (partitions_of notes)
+unfolding partitions_of
+is_there notes n p h e = (In-filter_map partition_at (clear_notes notes) p).1 (n, h, e)
+
+one_note : (notes : List NoteParts) (m n : NoteParts) → In m (clear_notes notes) → In n (clear_notes notes)
+    → m.offset ≡ n.offset → m ≡ n
+one_note notes m n h k e =
+    let c = (In-clear_notes m notes).0 h in
+    let d = (In-clear_notes n notes).0 k in
+    clear-alone m n notes c d.held e
+
+one_partition : (notes : List NoteParts) (p q : PartitionParts) → In p (partitions_of notes)
+    → In q (partitions_of notes) → p.offset ≡ q.offset → p ≡ q
+one_partition notes p q h k e =
+    let a = of_note notes p h in
+    let b = of_note notes q k in
+    let same : a.note ≡ b.note = one_note notes a.note b.note a.clear b.clear (sym a.offset ∙ e ∙ b.offset) in
+    let some : Some p ≡ Some q = sym a.read ∙ ap partition_at same ∙ b.read in cc some
+
+-- The partition at an offset is that of the clear note there.
+pub there_by_note : (notes : List NoteParts) (o : ℕ) (found : Option NoteParts)
+    → found ≡ find (λ n. n.offset == o) (clear_notes notes)
+    → option_and_then partition_at found ≡ find (λ p. p.offset == o) (partitions_of notes)
+there_by_note notes o None e =
+    sym (find-none (λ (p : PartitionParts). p.offset == o) (partitions_of notes) (λ p h t.
+    let a = of_note notes p h in
+    none_found (λ (n : NoteParts). n.offset == o) (clear_notes notes) a.note (sym e) a.clear
+    (eq-eqb a.note.offset o (sym a.offset ∙ eqb-true p.offset o t))))
+there_by_note notes o (Some n) e =
+    let f = found-In (λ (n : NoteParts). n.offset == o) (clear_notes notes) n (sym e) in
+    let at : n.offset ≡ o = eqb-true n.offset o f.1 in
+    elim (partition_at n) as (λ x. partition_at n ≡ x
+    → x ≡ find (λ p. p.offset == o) (partitions_of notes)) [
+      | None ↦ λ u. sym (find-none (λ (p : PartitionParts). p.offset == o) (partitions_of notes) (λ p h t.
+          let a = of_note notes p h in
+          let same : a.note ≡ n = one_note notes a.note n a.clear f.0
+          (sym a.offset ∙ eqb-true p.offset o t ∙ sym at) in
+          let none : Some p ≡ None = sym a.read ∙ ap partition_at same ∙ u in cc none))
+      | Some p ↦ λ u.
+          let there = is_there notes n p f.0 u in
+          let q : p.offset ≡ o = offset-partition_at n p u ∙ at in
+          sym (find-only (λ (p : PartitionParts). p.offset == o) (partitions_of notes) p there (eq-eqb p.offset o q)
+          (λ x h t. one_partition notes x p h there (eqb-true x.offset o t ∙ sym q)))
+    ] refl
+
+-- Whether one stands there, and whether it is a footer.
+stands_found : (ps : List PartitionParts) (o : ℕ) (p : PartitionParts)
+    → find (λ p. p.offset == o) ps ≡ Some p → stands_at o ps ≡ true
+stands_found ps o p e =
+    let f = found-In (λ (p : PartitionParts). p.offset == o) ps p e in
+    (list_any-In (λ (p : PartitionParts). p.offset == o) ps).1 (p, f.0, f.1)
+
+stands_lacked : (ps : List PartitionParts) (o : ℕ) → find (λ p. p.offset == o) ps ≡ None → stands_at o ps ≡ false
+stands_lacked ps o e =
+    false_if (stands_at o ps) (λ t.
+    let s = (list_any-In (λ (p : PartitionParts). p.offset == o) ps).0 t in
+    none_found (λ (p : PartitionParts). p.offset == o) ps s.0 e s.1 s.2)
+
+pub stands_if_found : (ps : List PartitionParts) (o : ℕ) (found : Option PartitionParts)
+    → found ≡ find (λ p. p.offset == o) ps → is_some found ≡ stands_at o ps
+stands_if_found ps o None e = sym (stands_lacked ps o (sym e))
+stands_if_found ps o (Some p) e = sym (stands_found ps o p (sym e))
+
+pub footer_found : (notes : List NoteParts) (o : ℕ) (p : PartitionParts)
+    → find (λ p. p.offset == o) (partitions_of notes) ≡ Some p
+    → footer_stands_at o (partitions_of notes) ≡ is_footer p.pack.part
+footer_found notes o p e =
+    let ps = partitions_of notes in
+    let f = found-In (λ (p : PartitionParts). p.offset == o) ps p e in
+    let test = λ (q : PartitionParts). is_footer q.pack.part && q.offset == o in
+    same_bool (footer_stands_at o ps) (is_footer p.pack.part)
+    (λ t.
+    let s = (list_any-In test ps).0 t in
+    let b = parts (is_footer s.0.pack.part) (s.0.offset == o) s.2 in
+    let same : s.0 ≡ p = one_partition notes s.0 p s.1 f.0 (eqb-true s.0.offset o b.1 ∙ sym (eqb-true p.offset o f.1)) in
+    sym (ap (λ (q : PartitionParts). is_footer q.pack.part) same) ∙ b.0)
+    (λ t. (list_any-In test ps).1 (p, f.0, both (is_footer p.pack.part) (p.offset == o) t f.1))
+
+pub footer_lacked : (ps : List PartitionParts) (o : ℕ) → find (λ p. p.offset == o) ps ≡ None
+    → footer_stands_at o ps ≡ false
+footer_lacked ps o e =
+    let test = λ (q : PartitionParts). is_footer q.pack.part && q.offset == o in
+    false_if (footer_stands_at o ps) (λ t.
+    let s = (list_any-In test ps).0 t in
+    none_found (λ (p : PartitionParts). p.offset == o) ps s.0 e s.1 (parts (is_footer s.0.pack.part) (s.0.offset == o) s.2).1)
+
+-- Those above an offset are those of the clear notes from it on.
+pub between_from : (notes : List NoteParts) (low high : ℕ) → IsCatalogue notes
+    → stands_between low high (partitions_among (filter (lies_in low 18446744073709551615) (clear_notes notes)))
+    ≡ stands_between low high (partitions_of notes)
+between_from notes low high c =
+    let range = filter (lies_in low 18446744073709551615) (clear_notes notes) in
+    let test = λ (p : PartitionParts). nat_lt low p.offset && nat_lt p.offset high in
+    same_bool (list_any test (partitions_among range)) (list_any test (partitions_of notes))
+    (λ t.
+    let s = (list_any-In test (partitions_among range)).0 t in
+    let of = (In-filter_map partition_at range s.0).0 s.1 in
+    let inside = (In-filter (lies_in low 18446744073709551615) (clear_notes notes) of.0).0 of.1 in
+    (list_any-In test (partitions_of notes)).1 (s.0, is_there notes of.0 s.0 inside.0 of.2, s.2))
+    (λ t.
+    let s = (list_any-In test (partitions_of notes)).0 t in
+    let a = of_note notes s.0 s.1 in
+    let above : low < s.0.offset = ltb-true low s.0.offset (parts (nat_lt low s.0.offset) (nat_lt s.0.offset high) s.2).0 in
+    let at : s.0.offset ≡ a.note.offset = a.offset in
+    let clear = (In-clear_notes a.note notes).0 a.clear in
+    let within = (all-In IsNote notes a.note c.members clear.held).within in
+    let low_end : low ≤ a.note.offset = omega (arith, above, at) in
+    let high_end : end_of a.note ≤ low + 18446744073709551615 = omega (arith, within) in
+    let inside = (In-filter (lies_in low 18446744073709551615) (clear_notes notes) a.note).1
+    (a.clear, both _ _ (le-leb low a.note.offset low_end) (le-leb (end_of a.note) (low + 18446744073709551615) high_end)) in
+    (list_any-In test (partitions_among range)).1 (s.0, (In-filter_map partition_at range s.0).1 (a.note, inside, a.read), s.2))
+
+-- Among partitions in order, the first above an offset tells whether one stands between it and another offset.
+pub first_above : (p : PartitionParts) (ps : List PartitionParts) (low high : ℕ) → AreInOrder (p ∷ ps)
+    → low < p.offset → stands_between low high (p ∷ ps) ≡ nat_lt p.offset high
+first_above p ps low high r l =
+    let test = λ (q : PartitionParts). nat_lt low q.offset && nat_lt q.offset high in
+    same_bool (list_any test (p ∷ ps)) (nat_lt p.offset high)
+    (λ t.
+    let s = (list_any-In test (p ∷ ps)).0 t in
+    let b : s.0.offset < high = ltb-true s.0.offset high (parts (nat_lt low s.0.offset) (nat_lt s.0.offset high) s.2).1 in
+    lt-ltb p.offset high (elim s.1 [
+      | inl e ↦ (let f : s.0.offset ≡ p.offset = ap (λ (q : PartitionParts). q.offset) e in omega (arith, b, f))
+      | inr h ↦ (let f : p.offset < s.0.offset = all-each (λ q. p.offset < q.offset) ps s.0 r.0 h in omega (arith, b, f))
+    ]))
+    (λ t. (list_any-In test (p ∷ ps)).1
+    (p, inl refl, both (nat_lt low p.offset) (nat_lt p.offset high) (lt-ltb low p.offset l) t))
+
+-- One that isn't above the offset doesn't count.
+pub not_above : (p : PartitionParts) (ps : List PartitionParts) (low high : ℕ) → p.offset ≤ low
+    → stands_between low high (p ∷ ps) ≡ stands_between low high ps
+not_above p ps low high l =
+    let below : nat_lt low p.offset ≡ false = false_if (nat_lt low p.offset) (λ t.
+    let u : low < p.offset = ltb-true low p.offset t in omega arith) in
+    rw below refl
+
+-- ---- copies
+
+-- A copy is that of a partition with header metadata.
+pub record IsOfPartition (notes : List NoteParts) (c : CopyInfo) : Type 0 where
+  pub partition : PartitionParts
+  pub there : In partition (partitions_of notes)
+  pub states : has_metadata partition ≡ true
+  pub copy : c ≡ copy_of (clear_notes notes) partition
+  pub offset : c.partition ≡ partition.offset
+
+of_partition : (notes : List NoteParts) (c : CopyInfo) → In c (copies_of notes) → IsOfPartition notes c
+unfolding copies_of
+of_partition notes c h =
+    let clear = clear_notes notes in
+    let s = (In-map (copy_of clear) (filter has_metadata (partitions_of notes)) c).0 h in
+    let there = (In-filter has_metadata (partitions_of notes) s.0).0 s.1 in
+    record {
+      partition = s.0;
+      there = there.0;
+      states = there.1;
+      copy = s.2;
+      offset = ap (λ (x : CopyInfo). x.partition) s.2 ∙ copy_there clear s.0;
+    }
+
+has_copy : (notes : List NoteParts) (p : PartitionParts) → In p (partitions_of notes) → has_metadata p ≡ true
+    → In (copy_of (clear_notes notes) p) (copies_of notes)
+unfolding copies_of
+has_copy notes p h t =
+    (In-map (copy_of (clear_notes notes)) (filter has_metadata (partitions_of notes)) (copy_of (clear_notes notes) p)).1
+    (p, (In-filter has_metadata (partitions_of notes) p).1 (h, t), refl)
+
+-- There is no copy where no partition stands, nor where one stands that states no header metadata.
+pub copy_lacked : (notes : List NoteParts) (o : ℕ)
+    → ((p : PartitionParts) → In p (partitions_of notes) → p.offset ≡ o → has_metadata p ≡ true → ⊥)
+    → find (λ c. c.partition == o) (copies_of notes) ≡ None
+copy_lacked notes o none =
+    find-none (λ (c : CopyInfo). c.partition == o) (copies_of notes) (λ c h t.
+    let a = of_partition notes c h in none a.partition a.there (sym a.offset ∙ eqb-true c.partition o t) a.states)
+
+-- Else it is the copy of that partition.
+pub copy_found : (notes : List NoteParts) (o : ℕ) (p : PartitionParts)
+    → find (λ p. p.offset == o) (partitions_of notes) ≡ Some p → has_metadata p ≡ true
+    → find (λ c. c.partition == o) (copies_of notes) ≡ Some (copy_of (clear_notes notes) p)
+copy_found notes o p e t =
+    let clear = clear_notes notes in
+    let f = found-In (λ (p : PartitionParts). p.offset == o) (partitions_of notes) p e in
+    let at : p.offset ≡ o = eqb-true p.offset o f.1 in
+    find-only (λ (c : CopyInfo). c.partition == o) (copies_of notes) (copy_of clear p) (has_copy notes p f.0 t)
+    (eq-eqb (copy_of clear p).partition o (copy_there clear p ∙ at)) (λ c h u.
+    let a = of_partition notes c h in
+    let same : a.partition ≡ p = one_partition notes a.partition p a.there f.0
+    (sym a.offset ∙ eqb-true c.partition o u ∙ sym at) in a.copy ∙ ap (copy_of clear) same)
+
+pub no_partition : (notes : List NoteParts) (o : ℕ) → find (λ p. p.offset == o) (partitions_of notes) ≡ None
+    → find (λ c. c.partition == o) (copies_of notes) ≡ None
+no_partition notes o e =
+    copy_lacked notes o (λ p h at t.
+    none_found (λ (p : PartitionParts). p.offset == o) (partitions_of notes) p e h (eq-eqb p.offset o at))
+
+pub no_metadata : (notes : List NoteParts) (o : ℕ) (p : PartitionParts)
+    → find (λ p. p.offset == o) (partitions_of notes) ≡ Some p → has_metadata p ≡ false
+    → find (λ c. c.partition == o) (copies_of notes) ≡ None
+no_metadata notes o p e f =
+    let g = found-In (λ (p : PartitionParts). p.offset == o) (partitions_of notes) p e in
+    copy_lacked notes o (λ q h at t.
+    let same : q ≡ p = one_partition notes q p h g.0 (at ∙ sym (eqb-true p.offset o g.1)) in
+    let u : has_metadata p ≡ true = sym (ap has_metadata same) ∙ t in cc (u, f))
