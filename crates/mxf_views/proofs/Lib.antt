@@ -1,7 +1,10 @@
 pub mod BestLaws
 pub mod CauseLaws
 pub mod ChainLaws
+pub mod ClearChanges
+pub mod CopyChanges
 pub mod CopyLaws
+pub mod CopyUpdates
 pub mod FileBytes
 pub mod FindingLaws
 pub mod FindingMembers

@@ -29,13 +29,13 @@ pub record IsOfNote (notes : List NoteParts) (p : PartitionParts) : Type 0 where
   pub read : partition_at note ≡ Some p
   pub offset : p.offset ≡ note.offset
 
-of_note : (notes : List NoteParts) (p : PartitionParts) → In p (partitions_of notes) → IsOfNote notes p
+pub of_note : (notes : List NoteParts) (p : PartitionParts) → In p (partitions_of notes) → IsOfNote notes p
 unfolding partitions_of
 of_note notes p h =
     let s = (In-filter_map partition_at (clear_notes notes) p).0 h in
     record { note = s.0; clear = s.1; read = s.2; offset = offset-partition_at s.0 p s.2 }
 
-is_there : (notes : List NoteParts) (n : NoteParts) (p : PartitionParts) → In n (clear_notes notes)
+pub is_there : (notes : List NoteParts) (n : NoteParts) (p : PartitionParts) → In n (clear_notes notes)
     → partition_at n ≡ Some p → In p (partitions_of notes)
 unfolding partitions_of
 is_there notes n p h e = (In-filter_map partition_at (clear_notes notes) p).1 (n, h, e)
@@ -47,7 +47,7 @@ one_note notes m n h k e =
     let d = (In-clear_notes n notes).0 k in
     clear-alone m n notes c d.held e
 
-one_partition : (notes : List NoteParts) (p q : PartitionParts) → In p (partitions_of notes)
+pub one_partition : (notes : List NoteParts) (p q : PartitionParts) → In p (partitions_of notes)
     → In q (partitions_of notes) → p.offset ≡ q.offset → p ≡ q
 one_partition notes p q h k e =
     let a = of_note notes p h in
@@ -182,7 +182,7 @@ pub record IsOfPartition (notes : List NoteParts) (c : CopyInfo) : Type 0 where
   pub copy : c ≡ copy_of (clear_notes notes) partition
   pub offset : c.partition ≡ partition.offset
 
-of_partition : (notes : List NoteParts) (c : CopyInfo) → In c (copies_of notes) → IsOfPartition notes c
+pub of_partition : (notes : List NoteParts) (c : CopyInfo) → In c (copies_of notes) → IsOfPartition notes c
 unfolding copies_of
 of_partition notes c h =
     let clear = clear_notes notes in
@@ -196,7 +196,7 @@ of_partition notes c h =
       offset = ap (λ (x : CopyInfo). x.partition) s.2 ∙ copy_there clear s.0;
     }
 
-has_copy : (notes : List NoteParts) (p : PartitionParts) → In p (partitions_of notes) → has_metadata p ≡ true
+pub has_copy : (notes : List NoteParts) (p : PartitionParts) → In p (partitions_of notes) → has_metadata p ≡ true
     → In (copy_of (clear_notes notes) p) (copies_of notes)
 unfolding copies_of
 has_copy notes p h t =

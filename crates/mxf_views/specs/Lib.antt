@@ -2,6 +2,7 @@ pub mod Partitions
 pub mod Gaps
 pub mod Spans
 pub mod Copies
+pub mod Kept
 pub mod Labels
 pub mod SetItems
 pub mod References
