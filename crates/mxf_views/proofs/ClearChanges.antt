@@ -1,8 +1,8 @@
 -- What adding a note changes among the clear notes, and among the offsets where clear notes of a kind stand.
-use Rattle.std.proofs.Common.{◌≡◌, ◌≢◌, ℕ, ◌+◌, ◌<◌, ◌≤◌, ◌⊎◌, Bool, true, false, List, [], ◌∷◌, refl}
-use Rattle.std.proofs.Common.{sym, ap, subst, ◌∙◌, inl, inr, arith, leb-true, le-leb}
+use Rattle.std.proofs.Common.{◌≡◌, ◌≢◌, ℕ, ◌+◌, ◌<◌, ◌≤◌, ◌⊎◌, Bool, true, false, List, [], ◌∷◌, Some, None, refl}
+use Rattle.std.proofs.Common.{sym, ap, subst, ◌∙◌, inl, inr, arith, leb-true, le-leb, eqb-true, eq-eqb}
 use Rattle.std.specs.declared.cmp.Ordering.TheVariants.{Less}
-use Rattle.std.specs.Prelude.{◌↔◌, ◌||◌, cond, nat_le, nat_lt, filter, map}
+use Rattle.std.specs.Prelude.{◌↔◌, ◌||◌, cond, ◌==◌, nat_le, nat_lt, filter, find, map, max, min}
 use Rattle.std.specs.FinSet.{nat_cmp-IsAntisymmetric}
 use Rattle.std.specs.Ordering.{nat_cmp}
 use Rattle.std.proofs.lemmas.Bool.{ltb-true, lt-ltb, ltb-false}
@@ -13,11 +13,13 @@ use Rattle.mxf_klv.specs.Rising.{In, IsRising, with_one, same_from_members, In-w
 use Rattle.mxf_catalogue.specs.Content.{IsContent, with_note}
 use Rattle.mxf_catalogue.specs.Disputes.{IsClear, SharesByte, clear_notes}
 use Rattle.mxf_catalogue.proofs.ContentLaws.{In-with_note, IsContent-with_note}
-use Rattle.mxf_catalogue.proofs.DisputeLaws.{In-clear_notes, is_byte_shared-SharesByte, SharesByte-symmetric}
-use Rattle.mxf_catalogue.proofs.Lists.{In-filter, In-map, all-filter}
+use Rattle.mxf_catalogue.proofs.DisputeLaws.{In-clear_notes, clear-alone, clear_at-found, is_byte_shared-SharesByte, SharesByte-symmetric}
+use Rattle.mxf_catalogue.proofs.Lists.{In-filter, In-map, all-filter, found-In, none_found}
+use Rattle.mxf_catalogue.specs.Parts.{touching}
 use Rattle.mxf_catalogue.proofs.MovedLaws.{rising_apart}
+use Rattle.mxf_catalogue.proofs.PartLaws.{In-touching}
 use Rattle.mxf_catalogue.proofs.SpanLaws.{AreApart-clear_notes, AreApart-filter}
-use Rattle.mxf_views.specs.Kept.{IsHull, is_outside, offsets_where}
+use Rattle.mxf_views.specs.Kept.{IsHull, followed, is_outside, notes_at, offsets_where, passes, stands_clear}
 use Rattle.mxf_views.proofs.Members.{both}
 use Rattle.mxf_views.proofs.StartLaws.{clear_same}
 
@@ -128,6 +130,90 @@ outside_iff x n notes start end h c = (
       outside_says start end n.offset e low (omega arith),
 )
 
+-- The hull of the new note and of the touched ones but those that are left.
+pub record HullSoFar (x : NoteParts) (notes : List NoteParts) (start end : ℕ) (left : List NoteParts) : Type 0 where
+  pub all : (m : NoteParts) → IsClear m notes → SharesByte x m
+      → In m left ⊎ ((start ≤ m.offset) × (end_of m ≤ end))
+  pub members : (m : NoteParts) → In m left → IsClear m notes × SharesByte x m
+  pub least : (start ≡ x.offset) ⊎ ((m : NoteParts) × IsClear m notes × SharesByte x m × (start ≡ m.offset))
+  pub greatest : (end ≡ end_of x) ⊎ ((m : NoteParts) × IsClear m notes × SharesByte x m × (end ≡ end_of m))
+  pub low : start ≤ x.offset
+  pub high : end_of x ≤ end
+
+pub hull_of_one : (x : NoteParts) (notes left : List NoteParts) → left ≡ touching x (clear_notes notes)
+    → HullSoFar x notes x.offset (end_of x) left
+hull_of_one x notes left e =
+    let t = λ (m : NoteParts). In-touching x m (clear_notes notes) in
+    let c = λ (m : NoteParts). In-clear_notes m notes in
+    record {
+      all = λ m k s. inl (subst (In m) (sym e) ((t m).1 ((c m).1 k, s)));
+      members = λ m h. let k = (t m).0 (subst (In m) e h) in ((c m).0 k.0, k.1);
+      least = inl refl;
+      greatest = inl refl;
+      low = omega arith;
+      high = omega arith;
+    }
+
+pub hull_with : (x : NoteParts) (notes : List NoteParts) (start end : ℕ) (m : NoteParts) (left : List NoteParts)
+    → HullSoFar x notes start end (m ∷ left) → HullSoFar x notes (min start m.offset) (max end (end_of m)) left
+hull_with x notes start end m left h =
+    let own = h.members m (inl refl) in
+    record {
+      all = λ n c s. elim (h.all n c s) [
+        | inl k ↦ elim k [
+          | inl e ↦ inr (subst (λ (y : NoteParts). (min start m.offset ≤ y.offset) × (end_of y ≤ max end (end_of m))) (sym e)
+            (omega arith, omega arith))
+          | inr i ↦ inl i
+        ]
+        | inr b ↦ (
+          let l : start ≤ n.offset = b.0 in
+          let g : end_of n ≤ end = b.1 in
+          let p : min start m.offset ≤ n.offset = omega arith in
+          let q : end_of n ≤ max end (end_of m) = omega arith in inr (p, q))
+      ];
+      members = λ n k. h.members n (inr k);
+      least =
+      elim (nat_lt start m.offset) as (λ b. nat_lt start m.offset ≡ b → (min start m.offset ≡ x.offset)
+      ⊎ ((n : NoteParts) × IsClear n notes × SharesByte x n × (min start m.offset ≡ n.offset))) [
+        | true ↦ λ t. (
+          let l : start < m.offset = ltb-true start m.offset t in
+          let same : min start m.offset ≡ start = omega arith in
+          elim h.least [ inl e ↦ inl (same ∙ e) | inr n ↦ inr (n.0, n.1, n.2, same ∙ n.3) ])
+        | false ↦ λ t. (
+          let l : m.offset ≤ start = ltb-false start m.offset t in
+          let same : min start m.offset ≡ m.offset = omega arith in inr (m, own.0, own.1, same))
+      ] refl;
+      greatest =
+      elim (nat_lt end (end_of m)) as (λ b. nat_lt end (end_of m) ≡ b → (max end (end_of m) ≡ end_of x)
+      ⊎ ((n : NoteParts) × IsClear n notes × SharesByte x n × (max end (end_of m) ≡ end_of n))) [
+        | true ↦ λ t. (
+          let l : end < end_of m = ltb-true end (end_of m) t in
+          let same : max end (end_of m) ≡ end_of m = omega arith in inr (m, own.0, own.1, same))
+        | false ↦ λ t. (
+          let l : end_of m ≤ end = ltb-false end (end_of m) t in
+          let same : max end (end_of m) ≡ end = omega arith in
+          elim h.greatest [ inl e ↦ inl (same ∙ e) | inr n ↦ inr (n.0, n.1, n.2, same ∙ n.3) ])
+      ] refl;
+      low = let l : start ≤ x.offset = h.low in omega arith;
+      high = let l : end_of x ≤ end = h.high in omega arith;
+    }
+
+pub hull_of_all : (x : NoteParts) (notes : List NoteParts) (start end : ℕ) → HullSoFar x notes start end []
+    → IsHull x notes start end
+hull_of_all x notes start end h = record {
+  all = λ m c s. elim (h.all m c s) [ inl k ↦ absurd k | inr b ↦ b ];
+  least = h.least;
+  greatest = h.greatest;
+  low = h.low;
+  high = h.high;
+}
+
+each_found : (notes ns : List NoteParts) → ((n : NoteParts) → In n ns → IsClear n notes)
+    → notes_at notes (map (λ n. n.offset) ns) ≡ ns
+each_found notes [] c = refl
+each_found notes (n ∷ ns) c =
+    rw (clear_at-found n.offset notes n (c n (inl refl)) refl) (ap (λ l. n ∷ l) (each_found notes ns (λ m h. c m (inr h))))
+
 -- ---- where clear notes of a kind stand
 
 pub In-offsets : (test : NoteParts → Bool) (notes : List NoteParts) (o : ℕ) → In o (offsets_where test notes)
@@ -218,3 +304,39 @@ offsets_without test x notes start end r new h none =
             )
           ],
     ))
+
+-- So they are what follows an arrival.
+pub offsets_follow : (test : NoteParts → Bool) (x : NoteParts) (notes : List NoteParts) (start end : ℕ)
+    → IsContent notes → (In x notes → ⊥) → IsHull x notes start end
+    → followed (stands_clear test (with_note x notes) x.offset) x.offset start end (offsets_where test notes)
+    ≡ offsets_where test (with_note x notes)
+offsets_follow test x notes start end r new h =
+    let after = with_note x notes in
+    let held = (In-with_note x x notes).1 (inl refl) in
+    let offsets = offsets_where test notes in
+    elim (find (λ n. n.offset == x.offset) (clear_notes after)) as (λ o.
+    find (λ n. n.offset == x.offset) (clear_notes after) ≡ o
+    → followed (passes test o) x.offset start end offsets ≡ offsets_where test after) [
+      | None ↦ λ e. offsets_without test x notes start end r new h (λ clear t.
+          none_found (λ (n : NoteParts). n.offset == x.offset) (clear_notes after) x e ((In-clear_notes x after).1 clear)
+          (eq-eqb x.offset x.offset refl))
+      | Some n ↦ λ e. (
+        let f = found-In (λ (n : NoteParts). n.offset == x.offset) (clear_notes after) n e in
+        let clear = (In-clear_notes n after).0 f.0 in
+        let same : n ≡ x = clear-alone n x after clear held (eqb-true n.offset x.offset f.1) in
+        let own : IsClear x after = subst (λ (y : NoteParts). IsClear y after) same clear in
+        elim (test n) as (λ b. test n ≡ b → followed b x.offset start end offsets ≡ offsets_where test after) [
+          | true ↦ λ t. offsets_with test x notes start end r new h own (ap test (sym same) ∙ t)
+          | false ↦ λ t. offsets_without test x notes start end r new h (λ c u.
+              let v : test n ≡ true = ap test same ∙ u in cc (v, t))
+        ] refl)
+    ] refl
+
+-- ---- the notes at their offsets
+
+-- The clear notes of a kind are those at the offsets where such notes stand.
+pub notes_at_offsets : (test : NoteParts → Bool) (notes : List NoteParts)
+    → notes_at notes (offsets_where test notes) ≡ filter test (clear_notes notes)
+notes_at_offsets test notes =
+    each_found notes (filter test (clear_notes notes)) (λ n h.
+    (In-clear_notes n notes).0 ((In-filter test (clear_notes notes) n).0 h).0)

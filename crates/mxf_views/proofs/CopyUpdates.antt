@@ -1,8 +1,9 @@
 -- The copies of the header metadata once a note was added: those elsewhere are counted anew where they may have changed.
-use Rattle.std.proofs.Common.{◌≡◌, ◌≢◌, ℕ, ◌+◌, ◌-◌, ◌<◌, ◌≤◌, ◌⊎◌, Bool, true, false, cond, List, [], ◌∷◌, Option, Some, None, refl}
+use Rattle.std.proofs.Common.{◌≡◌, ◌≢◌, ℕ, zero, suc, get_or, length, ◌+◌, ◌-◌, ◌<◌, ◌≤◌, ◌⊎◌, Bool, true, false, cond, List, [], ◌∷◌, Option, Some, None, refl}
 use Rattle.std.proofs.Common.{sym, ap, subst, ◌∙◌, inl, inr, arith, eqb-true, eq-eqb, le-leb}
 use Rattle.std.specs.Prelude.{◌↔◌, ◌&&◌, ◌||◌, ◌==◌, nat_lt, find, filter, map}
-use Rattle.std.specs.List.{AllByRecursion}
+use Rattle.std.specs.List.{AllByRecursion, AllWithin, insert}
+use Rattle.std.specs.List.Sorted.{IsNonDecreasingBy}
 use Rattle.std.specs.Option.{option_map}
 use Rattle.std.proofs.lemmas.Bool.{ltb-true, lt-ltb, ltb-false}
 use Rattle.mxf_klv.specs.Parts.{NoteParts}
@@ -12,12 +13,14 @@ use Rattle.mxf_klv.specs.Rising.{In, SameMembers}
 use Rattle.mxf_catalogue.specs.Content.{IsContent, with_note}
 use Rattle.mxf_catalogue.specs.Disputes.{IsClear, SharesByte, clear_notes}
 use Rattle.mxf_catalogue.proofs.ContentLaws.{In-with_note, IsContent-with_note}
-use Rattle.mxf_catalogue.proofs.DisputeLaws.{In-clear_notes, SharesByte-same_offset}
-use Rattle.mxf_catalogue.proofs.Lists.{In-filter, In-map, all-filter, find-only}
+use Rattle.mxf_catalogue.proofs.DisputeLaws.{In-clear_notes, SharesByte-same_offset, clear-alone}
+use Rattle.mxf_catalogue.proofs.Lists.{In-filter, In-map, all-filter, find-only, found-In, none_found}
+use Rattle.mxf_catalogue.proofs.Places.{In-at}
+use Rattle.mxf_catalogue.proofs.Ranges.{by_places}
 use Rattle.mxf_views.specs.declared.copy.CopyInfo.{CopyInfo}
 use Rattle.mxf_views.specs.Copies.{CopiesRise, copies_of, copy_from, copy_of, has_metadata, is_fill, is_fill_note}
 use Rattle.mxf_views.specs.Copies.{is_primer, is_readable_primer, start_of}
-use Rattle.mxf_views.specs.Kept.{IsHull, can_bring_start, is_outside, may_change, or_itself, renewed, with_copy}
+use Rattle.mxf_views.specs.Kept.{IsHull, can_bring_start, copies_followed, is_outside, may_change, or_itself, renewed, with_copy, with_found}
 use Rattle.mxf_views.specs.Partitions.{PartitionParts, pack_of, partition_at, partitions_of}
 use Rattle.mxf_views.proofs.ClearChanges.{clear_after, outside_iff}
 use Rattle.mxf_views.proofs.CopyChanges.{copy_stays, no_copy_stays, same_clear}
@@ -288,6 +291,55 @@ rise-with_copy c (d ∷ ds) r ne =
         ]), rise-with_copy c ds r.1 (λ x h. ne x (inr h))))
     ] refl
 
+-- What a place by partitions says.
+partitions_at : (cs : List CopyInfo) (i j : ℕ) (d : CopyInfo) → CopiesRise cs → i < j → j < length cs
+    → (get_or cs i d).partition < (get_or cs j d).partition
+partitions_at [] i j d r l h = absurd (omega arith)
+partitions_at (c ∷ cs) zero zero d r l h = absurd (omega arith)
+partitions_at (c ∷ cs) zero (suc j) d r l h = low_in c.partition cs (get_or cs j d) r.0 (In-at cs j d (omega arith))
+partitions_at (c ∷ cs) (suc i) zero d r l h = absurd (omega arith)
+partitions_at (c ∷ cs) (suc i) (suc j) d r l h = partitions_at cs i j d r.1 (omega arith) (omega arith)
+
+pub partitions_of_copies_rise : (cs : List CopyInfo) → CopiesRise cs → IsNonDecreasingBy (λ c. c.partition) cs
+partitions_of_copies_rise cs r i j d l h =
+    by_places (λ i j. (get_or cs i d).partition ≤ (get_or cs j d).partition) i j l (λ k. omega arith)
+    (λ t. let m : (get_or cs i d).partition < (get_or cs j d).partition = partitions_at cs i j d r t h in omega arith)
+
+pub inserted_copy : (c : CopyInfo) (cs : List CopyInfo) (i : ℕ) → i ≤ length cs
+    → AllWithin (λ d. d.partition ≤ c.partition) cs 0 i → AllWithin (λ d. c.partition < d.partition) cs i (length cs)
+    → insert cs i c ≡ with_copy c cs
+inserted_copy c [] zero l f g = refl
+inserted_copy c [] (suc i) l f g = absurd (omega arith)
+inserted_copy c (d ∷ ds) zero l f g =
+    let h : c.partition < d.partition = g 0 c (omega arith) (omega arith) in rw (lt-ltb c.partition d.partition h) refl
+inserted_copy c (d ∷ ds) (suc i) l f g =
+    let h : d.partition ≤ c.partition = f 0 c (omega arith) (omega arith) in
+    let no : nat_lt c.partition d.partition ≡ false = false_if (nat_lt c.partition d.partition) (λ t.
+    let u : c.partition < d.partition = ltb-true c.partition d.partition t in omega arith) in
+    rw no (ap (λ l. d ∷ l) (inserted_copy c ds i (omega arith)
+    (λ k e a b. f (suc k) e (omega arith) (omega arith)) (λ k e a b. g (suc k) e (omega arith) (omega arith))))
+
+-- Counting a copy anew leaves it that of its partition.
+pub renewed_partition : (notes : List NoteParts) (start end : ℕ) (brings : Bool) (c : CopyInfo)
+    → (renewed notes start end brings c).partition ≡ c.partition
+renewed_partition notes start end brings c =
+    elim (may_change start end brings c c.start) as (λ b.
+    (cond b (or_itself c (find (λ d. d.partition == c.partition) (copies_of notes))) c).partition ≡ c.partition) [
+      | false ↦ refl
+      | true ↦ elim (find (λ d. d.partition == c.partition) (copies_of notes)) as (λ o.
+        find (λ d. d.partition == c.partition) (copies_of notes) ≡ o → (or_itself c o).partition ≡ c.partition) [
+        | None ↦ λ e. refl
+        | Some d ↦ λ e. eqb-true d.partition c.partition
+          (found-In (λ (d : CopyInfo). d.partition == c.partition) (copies_of notes) d e).1
+      ] refl
+    ]
+
+pub kept_copies_rise : (notes : List NoteParts) (start end : ℕ) (brings : Bool) (cs : List CopyInfo) → CopiesRise cs
+    → CopiesRise (map (renewed notes start end brings) (filter (λ c. is_outside start end c.partition) cs))
+kept_copies_rise notes start end brings cs r =
+    rise-map (renewed notes start end brings) (filter (λ c. is_outside start end c.partition) cs)
+    (λ c h. renewed_partition notes start end brings c) (rise-filter (λ c. is_outside start end c.partition) cs r)
+
 -- ---- all copies
 
 module _ (x : NoteParts) (notes : List NoteParts) (start end : ℕ) (r : IsContent notes) (new : In x notes → ⊥)
@@ -394,3 +446,28 @@ module _ (x : NoteParts) (notes : List NoteParts) (start end : ℕ) (r : IsConte
     where
       one_read : (a b : PartitionParts) → partition_at x ≡ Some a → partition_at x ≡ Some b → a ≡ b
       one_read a b e f = let s : Some a ≡ Some b = sym e ∙ f in cc (s)
+
+  -- So they are what follows an arrival.
+  pub copies_follow : copies_followed (with_note x notes) x.offset start end (can_bring_start x) (copies_of notes)
+      ≡ copies_of (with_note x notes)
+  copies_follow =
+      let found = λ (d : CopyInfo). d.partition == x.offset in
+      elim (find found (copies_of after)) as (λ o. find found (copies_of after) ≡ o
+      → with_found o (map renew kept) ≡ copies_of after) [
+        | None ↦ λ e. copies_without (λ p clear read states.
+            let there = is_there after x p ((In-clear_notes x after).1 clear) read in
+            let at : (copy_of (clear_notes after) p).partition ≡ x.offset =
+            copy_there (clear_notes after) p ∙ offset-partition_at x p read in
+            none_found found (copies_of after) (copy_of (clear_notes after) p) e (has_copy after p there states)
+            (eq-eqb (copy_of (clear_notes after) p).partition x.offset at))
+        | Some c ↦ λ e. (
+          let f = found-In found (copies_of after) c e in
+          let a = of_partition after c f.0 in
+          let n = of_note after a.partition a.there in
+          let clear = (In-clear_notes n.note after).0 n.clear in
+          let at : n.note.offset ≡ x.offset = sym n.offset ∙ sym a.offset ∙ eqb-true c.partition x.offset f.1 in
+          let same : n.note ≡ x = clear-alone n.note x after clear ((In-with_note x x notes).1 (inl refl)) at in
+          let own : IsClear x after = subst (λ (y : NoteParts). IsClear y after) same clear in
+          ap (λ (d : CopyInfo). with_copy d (map renew kept)) a.copy
+          ∙ copies_with a.partition own (ap partition_at (sym same) ∙ n.read) a.states)
+      ] refl

@@ -19,6 +19,7 @@ pub mod LaidCopies
 pub mod LaidIndex
 pub mod LaidPartitions
 pub mod LaidRandomIndex
+pub mod ListSteps
 pub mod Members
 pub mod PartitionLaws
 pub mod PartitionSearch

@@ -1,12 +1,18 @@
 -- What the views keep of the clear notes, and what an addition changes of it (this project's profile).
 use Rattle.std.specs.Prelude.{◌≡◌, ℕ, ◌-◌, ◌≤◌, ◌⊎◌, Bool, ◌&&◌, ◌||◌, ◌==◌, nat_le, nat_lt, if◌then◌else◌}
-use Rattle.std.specs.Prelude.{Option, None, Some, List, [], ◌∷◌, filter, find, map}
+use Rattle.std.specs.Prelude.{Option, None, Some, false, is_some, List, [], ◌∷◌, filter, find, map}
+use Rattle.std.specs.List.{filter_map}
+use Rattle.std.specs.Ordering.{nat_cmp}
 use Rattle.mxf_klv.specs.Parts.{NoteParts}
 use Rattle.mxf_klv.specs.Note.{end_of}
 use Rattle.mxf_klv.specs.Kind.{kind_of}
+use Rattle.mxf_klv.specs.Rising.{with_one}
 use Rattle.mxf_catalogue.specs.Disputes.{IsClear, SharesByte, clear_notes}
 use Rattle.mxf_views.specs.declared.copy.CopyInfo.{CopyInfo}
 use Rattle.mxf_views.specs.Copies.{copies_of, is_fill, is_primer}
+use Rattle.mxf_views.specs.Partitions.{partition_at}
+use Rattle.mxf_views.specs.Places.{placed_segment}
+use Rattle.mxf_views.specs.RandomIndex.{is_rip_note}
 
 -- Where the clear notes stand that pass the test.
 abbrev pub offsets_where : (NoteParts → Bool) → List NoteParts → List ℕ
@@ -19,6 +25,13 @@ pub record IsHull (x : NoteParts) (notes : List NoteParts) (start end : ℕ) : T
   pub greatest : (end ≡ end_of x) ⊎ ((m : NoteParts) × IsClear m notes × SharesByte x m × (end ≡ end_of m))
   pub low : start ≤ x.offset
   pub high : end_of x ≤ end
+
+-- The note is a readable partition pack, or a readable index table segment.
+abbrev pub is_partition_note : NoteParts → Bool
+is_partition_note n = is_some (partition_at n)
+
+abbrev pub is_segment_note : NoteParts → Bool
+is_segment_note n = is_some (placed_segment n)
 
 -- The offset lies outside of the range.
 abbrev pub is_outside : ℕ → ℕ → ℕ → Bool
@@ -48,3 +61,38 @@ renewed notes start end brings c =
 abbrev pub with_copy : CopyInfo → List CopyInfo → List CopyInfo
 with_copy c [] = c ∷ []
 with_copy c (d ∷ copies) = if nat_lt c.partition d.partition then c ∷ d ∷ copies else d ∷ with_copy c copies
+
+abbrev pub with_found : Option CopyInfo → List CopyInfo → List CopyInfo
+with_found None copies = copies
+with_found (Some c) copies = with_copy c copies
+
+-- The copies once a note stands at the offset: those outside of the range counted anew, and that of the offset.
+abbrev pub copies_followed : List NoteParts → ℕ → ℕ → ℕ → Bool → List CopyInfo → List CopyInfo
+copies_followed notes offset start end brings copies =
+    with_found (find (λ d. d.partition == offset) (copies_of notes))
+    (map (renewed notes start end brings) (filter (λ c. is_outside start end c.partition) copies))
+
+abbrev pub passes : (NoteParts → Bool) → Option NoteParts → Bool
+passes test None = false
+passes test (Some n) = test n
+
+-- A clear note stands at the offset, and passes the test.
+abbrev pub stands_clear : (NoteParts → Bool) → List NoteParts → ℕ → Bool
+stands_clear test notes offset = passes test (find (λ n. n.offset == offset) (clear_notes notes))
+
+-- The offsets outside of the range, with another where it is one of theirs.
+abbrev pub followed : Bool → ℕ → ℕ → ℕ → List ℕ → List ℕ
+followed there offset start end offsets =
+    if there then with_one nat_cmp offset (filter (is_outside start end) offsets)
+    else filter (is_outside start end) offsets
+
+-- The clear notes at the offsets.
+abbrev pub notes_at : List NoteParts → List ℕ → List NoteParts
+notes_at notes offsets = filter_map (λ o. find (λ n. n.offset == o) (clear_notes notes)) offsets
+
+-- What is kept of a content: where its partitions, segments and random index packs stand, and its copies.
+pub record Keeps (notes : List NoteParts) (partitions segments rips : List ℕ) (copies : List CopyInfo) : Type 0 where
+  pub partitions_are : partitions ≡ offsets_where is_partition_note notes
+  pub segments_are : segments ≡ offsets_where is_segment_note notes
+  pub rips_are : rips ≡ offsets_where is_rip_note notes
+  pub copies_are : copies ≡ copies_of notes

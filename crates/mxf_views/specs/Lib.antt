@@ -2,7 +2,6 @@ pub mod Partitions
 pub mod Gaps
 pub mod Spans
 pub mod Copies
-pub mod Kept
 pub mod Labels
 pub mod SetItems
 pub mod References
@@ -22,3 +21,4 @@ pub mod WholeFile
 pub mod Headline
 pub mod WorkedFiles
 pub mod WorkedBytes
+pub mod Kept

@@ -55,7 +55,7 @@ fn read_segment(note: &Note) -> Option<Segment<'_>>
 
 /// The same, with where the note is.
 #[tactic(auto, unfolding(crate::specs::Places::placed_segment))]
-fn placed_segment(note: &Note) -> Option<SegmentAt<'_>>
+pub(crate) fn placed_segment(note: &Note) -> Option<SegmentAt<'_>>
     ensures { result ≡ placed_segment note.now }
 {
     let segment = read_segment(note)?;
