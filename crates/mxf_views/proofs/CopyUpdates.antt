@@ -1,10 +1,10 @@
 -- The copies of the header metadata once a note was added: those elsewhere are counted anew where they may have changed.
 use Rattle.std.proofs.Common.{◌≡◌, ◌≢◌, ℕ, zero, suc, get_or, length, ◌+◌, ◌-◌, ◌<◌, ◌≤◌, ◌⊎◌, Bool, true, false, cond, List, [], ◌∷◌, Option, Some, None, refl}
 use Rattle.std.proofs.Common.{sym, ap, subst, ◌∙◌, inl, inr, arith, eqb-true, eq-eqb, le-leb}
-use Rattle.std.specs.Prelude.{◌↔◌, ◌&&◌, ◌||◌, ◌==◌, nat_lt, find, filter, map}
-use Rattle.std.specs.List.{AllByRecursion, AllWithin, insert}
+use Rattle.std.specs.Prelude.{◌↔◌, ◌&&◌, ◌||◌, ◌==◌, nat_lt, find, filter, map, if◌then◌else◌}
+use Rattle.std.specs.List.{AllByRecursion, AllWithin, cons_option, filter_map, insert}
 use Rattle.std.specs.List.Sorted.{IsNonDecreasingBy}
-use Rattle.std.specs.Option.{option_map}
+use Rattle.std.specs.Option.{option_and_then, option_map}
 use Rattle.std.proofs.lemmas.Bool.{ltb-true, lt-ltb, ltb-false}
 use Rattle.mxf_klv.specs.Parts.{NoteParts}
 use Rattle.mxf_klv.specs.Kind.{kind_of}
@@ -20,7 +20,7 @@ use Rattle.mxf_catalogue.proofs.Ranges.{by_places}
 use Rattle.mxf_views.specs.declared.copy.CopyInfo.{CopyInfo}
 use Rattle.mxf_views.specs.Copies.{CopiesRise, copies_of, copy_from, copy_of, has_metadata, is_fill, is_fill_note}
 use Rattle.mxf_views.specs.Copies.{is_primer, is_readable_primer, start_of}
-use Rattle.mxf_views.specs.Kept.{IsHull, can_bring_start, copies_followed, is_outside, may_change, or_itself, renewed, with_copy, with_found}
+use Rattle.mxf_views.specs.Kept.{IsHull, can_bring_start, copies_followed, copy_by, has_some_metadata, states_metadata, is_outside, may_change, or_itself, renewed, with_copy, with_found}
 use Rattle.mxf_views.specs.Partitions.{PartitionParts, pack_of, partition_at, partitions_of}
 use Rattle.mxf_views.proofs.ClearChanges.{clear_after, outside_iff}
 use Rattle.mxf_views.proofs.CopyChanges.{copy_stays, no_copy_stays, same_clear}
@@ -471,3 +471,53 @@ module _ (x : NoteParts) (notes : List NoteParts) (start end : ℕ) (r : IsConte
           ap (λ (d : CopyInfo). with_copy d (map renew kept)) a.copy
           ∙ copies_with a.partition own (ap partition_at (sym same) ∙ n.read) a.states)
       ] refl
+
+-- ---- copies by the notes
+
+copies_each : (clear ns : List NoteParts)
+    → filter_map (copy_by clear) ns ≡ map (copy_of clear) (filter has_metadata (filter_map partition_at ns))
+copies_each clear [] = refl
+copies_each clear (n ∷ ns) =
+    let ih = copies_each clear ns in
+    elim (partition_at n) as (λ o.
+    cons_option (option_and_then (λ p. if has_metadata p then Some (copy_of clear p) else None) o)
+    (filter_map (copy_by clear) ns)
+    ≡ map (copy_of clear) (filter has_metadata (cons_option o (filter_map partition_at ns)))) [
+      | None ↦ ih
+      | Some p ↦ elim (has_metadata p) as (λ b.
+        cons_option (if b then Some (copy_of clear p) else None) (filter_map (copy_by clear) ns)
+        ≡ map (copy_of clear) (cond b (p ∷ filter has_metadata (filter_map partition_at ns))
+        (filter has_metadata (filter_map partition_at ns)))) [
+        | true ↦ ap (λ l. copy_of clear p ∷ l) ih
+        | false ↦ ih
+      ]
+    ]
+
+pub copies_by_notes : (notes : List NoteParts)
+    → filter_map (copy_by (clear_notes notes)) (clear_notes notes) ≡ copies_of notes
+unfolding copies_of partitions_of
+copies_by_notes notes = copies_each (clear_notes notes) (clear_notes notes)
+
+-- There are as many as partitions that state header metadata.
+length-copies_each : (clear ns : List NoteParts)
+    → length (filter_map (copy_by clear) ns) ≡ length (filter states_metadata ns)
+length-copies_each clear [] = refl
+length-copies_each clear (n ∷ ns) =
+    let ih = length-copies_each clear ns in
+    elim (partition_at n) as (λ o.
+    length (cons_option (option_and_then (λ p. if has_metadata p then Some (copy_of clear p) else None) o)
+    (filter_map (copy_by clear) ns))
+    ≡ length (cond (has_some_metadata o) (n ∷ filter states_metadata ns) (filter states_metadata ns))) [
+      | None ↦ ih
+      | Some p ↦ elim (has_metadata p) as (λ b.
+        length (cons_option (if b then Some (copy_of clear p) else None) (filter_map (copy_by clear) ns))
+        ≡ length (cond b (n ∷ filter states_metadata ns) (filter states_metadata ns))) [
+        | true ↦ ap suc ih
+        | false ↦ ih
+      ]
+    ]
+
+pub length-copies_of : (notes : List NoteParts)
+    → length (copies_of notes) ≡ length (filter states_metadata (clear_notes notes))
+length-copies_of notes =
+    ap length (sym (copies_by_notes notes)) ∙ length-copies_each (clear_notes notes) (clear_notes notes)

@@ -2,6 +2,7 @@
 use Rattle.std.specs.Prelude.{◌≡◌, ℕ, ◌-◌, ◌≤◌, ◌⊎◌, Bool, ◌&&◌, ◌||◌, ◌==◌, nat_le, nat_lt, if◌then◌else◌}
 use Rattle.std.specs.Prelude.{Option, None, Some, false, is_some, List, [], ◌∷◌, filter, find, map}
 use Rattle.std.specs.List.{filter_map}
+use Rattle.std.specs.Option.{option_and_then}
 use Rattle.std.specs.Ordering.{nat_cmp}
 use Rattle.mxf_klv.specs.Parts.{NoteParts}
 use Rattle.mxf_klv.specs.Note.{end_of}
@@ -9,8 +10,10 @@ use Rattle.mxf_klv.specs.Kind.{kind_of}
 use Rattle.mxf_klv.specs.Rising.{with_one}
 use Rattle.mxf_catalogue.specs.Disputes.{IsClear, SharesByte, clear_notes}
 use Rattle.mxf_views.specs.declared.copy.CopyInfo.{CopyInfo}
-use Rattle.mxf_views.specs.Copies.{copies_of, is_fill, is_primer}
-use Rattle.mxf_views.specs.Partitions.{partition_at}
+use Rattle.mxf_views.specs.declared.kept.Placed.{Placed}
+use Rattle.mxf_views.specs.declared.kept.Placed.TheVariants as kinds
+use Rattle.mxf_views.specs.Copies.{copies_of, copy_of, has_metadata, is_fill, is_primer}
+use Rattle.mxf_views.specs.Partitions.{PartitionParts, partition_at}
 use Rattle.mxf_views.specs.Places.{placed_segment}
 use Rattle.mxf_views.specs.RandomIndex.{is_rip_note}
 
@@ -26,12 +29,24 @@ pub record IsHull (x : NoteParts) (notes : List NoteParts) (start end : ℕ) : T
   pub low : start ≤ x.offset
   pub high : end_of x ≤ end
 
--- The note is a readable partition pack, or a readable index table segment.
-abbrev pub is_partition_note : NoteParts → Bool
-is_partition_note n = is_some (partition_at n)
+-- The note is a readable partition pack, a readable index table segment or a random index pack.
+abbrev pub is_placed : Placed → NoteParts → Bool
+is_placed kinds.Partition n = is_some (partition_at n)
+is_placed kinds.Segment n = is_some (placed_segment n)
+is_placed kinds.RandomIndexPack n = is_rip_note n
 
-abbrev pub is_segment_note : NoteParts → Bool
-is_segment_note n = is_some (placed_segment n)
+abbrev pub has_some_metadata : Option PartitionParts → Bool
+has_some_metadata None = false
+has_some_metadata (Some p) = has_metadata p
+
+-- It is a partition pack that states header metadata.
+abbrev pub states_metadata : NoteParts → Bool
+states_metadata n = has_some_metadata (partition_at n)
+
+-- The copy of the partition that the note is, where it states header metadata.
+abbrev pub copy_by : List NoteParts → NoteParts → Option CopyInfo
+copy_by notes n =
+    option_and_then (λ p. if has_metadata p then Some (copy_of notes p) else None) (partition_at n)
 
 -- The offset lies outside of the range.
 abbrev pub is_outside : ℕ → ℕ → ℕ → Bool
@@ -92,7 +107,7 @@ notes_at notes offsets = filter_map (λ o. find (λ n. n.offset == o) (clear_not
 
 -- What is kept of a content: where its partitions, segments and random index packs stand, and its copies.
 pub record Keeps (notes : List NoteParts) (partitions segments rips : List ℕ) (copies : List CopyInfo) : Type 0 where
-  pub partitions_are : partitions ≡ offsets_where is_partition_note notes
-  pub segments_are : segments ≡ offsets_where is_segment_note notes
-  pub rips_are : rips ≡ offsets_where is_rip_note notes
+  pub partitions_are : partitions ≡ offsets_where (is_placed kinds.Partition) notes
+  pub segments_are : segments ≡ offsets_where (is_placed kinds.Segment) notes
+  pub rips_are : rips ≡ offsets_where (is_placed kinds.RandomIndexPack) notes
   pub copies_are : copies ≡ copies_of notes

@@ -88,7 +88,7 @@ fn prefaces(catalogue: &Catalogue, start: u64, bytes: u64) -> usize
 }
 
 #[tactic(auto, unfolding(crate::specs::Copies::copy_of))]
-fn copy_of(catalogue: &Catalogue, partition: &PartitionAt<'_>) -> CopyInfo
+pub(crate) fn copy_of(catalogue: &Catalogue, partition: &PartitionAt<'_>) -> CopyInfo
     ensures { result ≡ copy_of (clear_notes catalogue.now) partition.now }
 {
     let bytes = partition.pack.numbers().header_byte_count;
@@ -117,7 +117,7 @@ fn copy_of(catalogue: &Catalogue, partition: &PartitionAt<'_>) -> CopyInfo
 }
 
 /// Whether the partition states header metadata.
-fn has_metadata(partition: &PartitionAt<'_>) -> bool
+pub(crate) fn has_metadata(partition: &PartitionAt<'_>) -> bool
     ensures { result ≡ has_metadata partition.now }
 {
     partition.pack.numbers().header_byte_count > 0

@@ -1,20 +1,18 @@
 //! What the views keep of the clear notes: where partitions, index table segments and random index packs stand, and the
 //! copies of the header metadata.
-ghost use Rattle.std.specs.Prelude.{◌≡◌, ◌↔◌, ◌<◌, ◌≤◌, IsTrue, IfOk, OnOk, filter, length, map, vec_len, vec_capacity};
+ghost use Rattle.std.specs.Prelude.{◌≡◌, ◌↔◌, ◌<◌, ◌≤◌, IsTrue, IfOk, OnOk, count_by, filter, length, map, ◌++◌, ◌∷◌, ◌+◌, [], vec_len, vec_capacity};
 ghost use Rattle.std.specs.Ordering.{nat_cmp};
 ghost use Rattle.mxf_klv.specs.Parts.{NoteParts};
 ghost use Rattle.mxf_klv.specs.Rising.{IsRising, with_one};
 ghost use Rattle.mxf_catalogue.specs.Content.{IsCatalogue};
-ghost use Rattle.mxf_catalogue.specs.Disputes.{IsClear};
+ghost use Rattle.mxf_catalogue.specs.Disputes.{IsClear, clear_notes};
 ghost use Rattle.std.specs.List.{AllWithin};
 ghost use Rattle.mxf_views.specs.Copies.{CopiesRise, copies_of};
-ghost use Rattle.mxf_views.specs.Kept.{IsHull, can_bring_start, copies_followed, followed, is_outside, is_partition_note, is_segment_note, may_change, renewed, stands_clear, with_copy};
-ghost use Rattle.mxf_views.specs.RandomIndex.{is_rip_note};
+ghost use Rattle.mxf_views.specs.Kept.{IsHull, copy_by, can_bring_start, copies_followed, followed, is_outside, is_placed, may_change, offsets_where, renewed, stands_clear, states_metadata, Keeps, with_copy};
 
-use crate::copy::{Copies, CopyInfo, copy_there};
+use crate::copy::{CopyInfo, copy_of, copy_there, has_metadata};
 use crate::index::placed_segment;
-use crate::partition::{Partitions, partition_at};
-use crate::placed::NotesAt;
+use crate::partition::partition_at;
 use crate::random_index::is_rip;
 use mxf_catalogue::Catalogue;
 use mxf_klv::{Kind, Note, OutOfMemory};
@@ -27,6 +25,27 @@ pub(crate) struct Kept {
     pub segments: Vec<u64>,
     pub random_index_packs: Vec<u64>,
     pub copies: Vec<CopyInfo>,
+}
+
+/// What the views keep the offsets of.
+#[derive(Clone, Copy, Debug)]
+pub(crate) enum Placed {
+    Partition,
+    Segment,
+    RandomIndexPack,
+}
+
+impl Placed {
+    /// Whether the note is one of these.
+    fn has(self, note: &Note) -> bool
+        ensures { result ≡ is_placed self note.now }
+    {
+        match self {
+            Placed::Partition => partition_at(note).is_some(),
+            Placed::Segment => placed_segment(note).is_some(),
+            Placed::RandomIndexPack => is_rip(note),
+        }
+    }
 }
 
 /// What has to be known of a new note, once it is in the catalogue.
@@ -89,44 +108,12 @@ fn can_bring_start(note: &Note) -> bool
     matches!(&note.kind(), Kind::Fill | Kind::Primer)
 }
 
-fn is_partition(note: &Note) -> bool
-    ensures { result ≡ is_partition_note note.now }
-{
-    partition_at(note).is_some()
-}
-
-fn is_segment(note: &Note) -> bool
-    ensures { result ≡ is_segment_note note.now }
-{
-    placed_segment(note).is_some()
-}
-
-/// Whether a partition stands at a file offset.
-fn partition_stands(catalogue: &Catalogue, offset: u64) -> bool
-    ensures { result ≡ stands_clear is_partition_note catalogue.now offset }
+/// Whether a clear note of a kind stands at a file offset.
+fn stands(catalogue: &Catalogue, kind: Placed, offset: u64) -> bool
+    ensures { result ≡ stands_clear (is_placed kind) catalogue.now offset }
 {
     match catalogue.clear_at(offset) {
-        Some(note) => is_partition(note),
-        None => false,
-    }
-}
-
-/// Whether an index table segment stands there.
-fn segment_stands(catalogue: &Catalogue, offset: u64) -> bool
-    ensures { result ≡ stands_clear is_segment_note catalogue.now offset }
-{
-    match catalogue.clear_at(offset) {
-        Some(note) => is_segment(note),
-        None => false,
-    }
-}
-
-/// Whether a random index pack stands there.
-fn random_index_pack_stands(catalogue: &Catalogue, offset: u64) -> bool
-    ensures { result ≡ stands_clear is_rip_note catalogue.now offset }
-{
-    match catalogue.clear_at(offset) {
-        Some(note) => is_rip(note),
+        Some(note) => kind.has(note),
         None => false,
     }
 }
@@ -249,4 +236,77 @@ fn follow_copies(copies: &mut Vec<CopyInfo>, catalogue: &Catalogue, arrival: &Ar
     if let Some(copy) = copy_there(catalogue, arrival.offset) {
         put_copy(copies, copy);
     }
+}
+
+/// The number of the clear notes of a kind.
+fn count(catalogue: &Catalogue, kind: Placed) -> usize
+    ensures { result ≡ count_by (is_placed kind) (clear_notes catalogue.now) }
+{
+    catalogue.clear().filter(|note| kind.has(note)).count()
+}
+
+/// The number of the partitions that state header metadata.
+fn count_copies(catalogue: &Catalogue) -> usize
+    ensures { result ≡ count_by states_metadata (clear_notes catalogue.now) }
+{
+    catalogue.clear().filter(|note| brings_copy(note)).count()
+}
+
+/// Whether the note is a partition pack that states header metadata.
+fn brings_copy(note: &Note) -> bool
+    ensures { result ≡ states_metadata note.now }
+{
+    match partition_at(note) {
+        Some(partition) => has_metadata(&partition),
+        None => false,
+    }
+}
+
+/// Puts the offsets of the clear notes of a kind in place of others, where there is room.
+fn refill(offsets: &mut Vec<u64>, catalogue: &Catalogue, kind: Placed)
+    requires { count_by (is_placed kind) (clear_notes catalogue.now) ≤ vec_capacity offsets.old }
+    ensures { offsets.new.items ≡ offsets_where (is_placed kind) catalogue.now }
+{
+    offsets.clear();
+    for note in catalogue.clear() {
+        if kind.has(note) {
+            push(offsets, note.offset());
+        }
+    }
+}
+
+/// Puts an element at the end, where there is room.
+fn push<T: Drop>(items: &mut Vec<T>, item: T)
+    requires { vec_len items.old < vec_capacity items.old }
+    ensures items { items.new.items ≡ items.old.items ++ item ∷ [] }
+    ensures len { vec_len items.new ≡ vec_len items.old + 1 }
+    ensures capacity { vec_capacity items.old ≤ vec_capacity items.new }
+{
+    let Ok(()) = items.push(item) else {
+        unreachable!()
+    };
+}
+
+/// Puts the copies of a catalogue in place of others, where there is room.
+fn refill_copies(copies: &mut Vec<CopyInfo>, catalogue: &Catalogue)
+    requires { count_by states_metadata (clear_notes catalogue.now) ≤ vec_capacity copies.old }
+    ensures { copies.new.items ≡ copies_of catalogue.now }
+{
+    copies.clear();
+    for note in catalogue.clear() {
+        if let Some(copy) = copy_by(catalogue, note) {
+            push(copies, copy);
+        }
+    }
+}
+
+/// The copy of the partition that the note is, where it states header metadata.
+fn copy_by(catalogue: &Catalogue, note: &Note) -> Option<CopyInfo>
+    ensures { result ≡ copy_by (clear_notes catalogue.now) note.now }
+{
+    let partition = partition_at(note)?;
+    if !has_metadata(&partition) {
+        return None;
+    }
+    Some(copy_of(catalogue, &partition))
 }
