@@ -9,6 +9,7 @@ ghost use Rattle.mxf_catalogue.specs.Disputes.{IsClear, clear_notes};
 ghost use Rattle.std.specs.List.{AllWithin};
 ghost use Rattle.mxf_views.specs.Copies.{CopiesRise, copies_of};
 ghost use Rattle.mxf_views.specs.Kept.{IsHull, copy_by, can_bring_start, copies_followed, followed, is_outside, is_placed, may_change, offsets_where, renewed, stands_clear, states_metadata, Keeps, with_copy};
+ghost use Rattle.mxf_views.specs.declared.kept.Placed.{Placed};
 
 use crate::copy::{CopyInfo, copy_of, copy_there, has_metadata};
 use crate::index::placed_segment;
@@ -309,4 +310,136 @@ fn copy_by(catalogue: &Catalogue, note: &Note) -> Option<CopyInfo>
         return None;
     }
     Some(copy_of(catalogue, &partition))
+}
+
+impl Kept {
+    /// What is kept of no note.
+    pub fn new(alloc: Global) -> Kept
+        ensures partitions { result.partitions.items ≡ [] }
+        ensures segments { result.segments.items ≡ [] }
+        ensures random_index_packs { result.random_index_packs.items ≡ [] }
+        ensures copies { result.copies.items ≡ [] }
+    {
+        Kept {
+            partitions: Vec::new(alloc),
+            segments: Vec::new(alloc),
+            random_index_packs: Vec::new(alloc),
+            copies: Vec::new(alloc),
+        }
+    }
+
+    /// What is kept of a catalogue. It takes memory.
+    pub fn of(alloc: Global, catalogue: &Catalogue) -> Result<Kept, AllocError>
+        ensures { IfOk result (λ k. Keeps catalogue.now k.partitions.items k.segments.items k.random_index_packs.items
+            k.copies.items) }
+    {
+        let mut kept = Kept::new(alloc);
+        kept.reserve(catalogue)?;
+        kept.refill(catalogue);
+        Ok(kept)
+    }
+
+    /// Makes room for what an addition brings.
+    pub fn make_room(&mut self) -> Result<(), AllocError>
+        ensures partitions { self.new.partitions.items ≡ self.old.partitions.items }
+        ensures segments { self.new.segments.items ≡ self.old.segments.items }
+        ensures random_index_packs { self.new.random_index_packs.items ≡ self.old.random_index_packs.items }
+        ensures copies { self.new.copies.items ≡ self.old.copies.items }
+        ensures partition_room { OnOk result (vec_len self.new.partitions < vec_capacity self.new.partitions) }
+        ensures segment_room { OnOk result (vec_len self.new.segments < vec_capacity self.new.segments) }
+        ensures random_index_room { OnOk result
+            (vec_len self.new.random_index_packs < vec_capacity self.new.random_index_packs) }
+        ensures copy_room { OnOk result (vec_len self.new.copies < vec_capacity self.new.copies) }
+    {
+        self.partitions.reserve(1)?;
+        self.segments.reserve(1)?;
+        self.random_index_packs.reserve(1)?;
+        self.copies.reserve(1)
+    }
+
+    /// Makes room for what is kept of another catalogue as well.
+    pub fn reserve(&mut self, other: &Catalogue) -> Result<(), AllocError>
+        ensures partitions { self.new.partitions.items ≡ self.old.partitions.items }
+        ensures segments { self.new.segments.items ≡ self.old.segments.items }
+        ensures random_index_packs { self.new.random_index_packs.items ≡ self.old.random_index_packs.items }
+        ensures copies { self.new.copies.items ≡ self.old.copies.items }
+        ensures partition_room { OnOk result (vec_len self.old.partitions
+            + count_by (is_placed Placed.Partition) (clear_notes other.now) ≤ vec_capacity self.new.partitions) }
+        ensures segment_room { OnOk result (vec_len self.old.segments
+            + count_by (is_placed Placed.Segment) (clear_notes other.now) ≤ vec_capacity self.new.segments) }
+        ensures random_index_room { OnOk result (vec_len self.old.random_index_packs
+            + count_by (is_placed Placed.RandomIndexPack) (clear_notes other.now)
+            ≤ vec_capacity self.new.random_index_packs) }
+        ensures copy_room { OnOk result (vec_len self.old.copies
+            + count_by states_metadata (clear_notes other.now) ≤ vec_capacity self.new.copies) }
+    {
+        self.partitions.reserve(count(other, Placed::Partition))?;
+        self.segments.reserve(count(other, Placed::Segment))?;
+        self.random_index_packs
+            .reserve(count(other, Placed::RandomIndexPack))?;
+        self.copies.reserve(count_copies(other))
+    }
+
+    /// Puts what is kept of a catalogue in place of what is there, where there is room.
+    pub fn refill(&mut self, catalogue: &Catalogue)
+        requires partition_room { count_by (is_placed Placed.Partition) (clear_notes catalogue.now)
+            ≤ vec_capacity self.old.partitions }
+        requires segment_room { count_by (is_placed Placed.Segment) (clear_notes catalogue.now)
+            ≤ vec_capacity self.old.segments }
+        requires random_index_room { count_by (is_placed Placed.RandomIndexPack) (clear_notes catalogue.now)
+            ≤ vec_capacity self.old.random_index_packs }
+        requires copy_room { count_by states_metadata (clear_notes catalogue.now) ≤ vec_capacity self.old.copies }
+        ensures { Keeps catalogue.now self.new.partitions.items self.new.segments.items
+            self.new.random_index_packs.items self.new.copies.items }
+    {
+        refill(&mut self.partitions, catalogue, Placed::Partition);
+        refill(&mut self.segments, catalogue, Placed::Segment);
+        refill(
+            &mut self.random_index_packs,
+            catalogue,
+            Placed::RandomIndexPack,
+        );
+        refill_copies(&mut self.copies, catalogue);
+    }
+
+    /// Follows the arrival of a note in a catalogue, where there is room.
+    pub fn follow(&mut self, catalogue: &Catalogue, arrival: &Arrival)
+        requires partitions_rise { IsRising nat_cmp self.old.partitions.items }
+        requires segments_rise { IsRising nat_cmp self.old.segments.items }
+        requires random_index_packs_rise { IsRising nat_cmp self.old.random_index_packs.items }
+        requires copies_rise { CopiesRise self.old.copies.items }
+        requires partition_room { vec_len self.old.partitions < vec_capacity self.old.partitions }
+        requires segment_room { vec_len self.old.segments < vec_capacity self.old.segments }
+        requires random_index_room { vec_len self.old.random_index_packs < vec_capacity self.old.random_index_packs }
+        requires copy_room { vec_len self.old.copies < vec_capacity self.old.copies }
+        ensures partitions { self.new.partitions.items
+            ≡ followed (stands_clear (is_placed Placed.Partition) catalogue.now arrival.now.offset)
+            arrival.now.offset arrival.now.start arrival.now.end self.old.partitions.items }
+        ensures segments { self.new.segments.items
+            ≡ followed (stands_clear (is_placed Placed.Segment) catalogue.now arrival.now.offset)
+            arrival.now.offset arrival.now.start arrival.now.end self.old.segments.items }
+        ensures random_index_packs { self.new.random_index_packs.items
+            ≡ followed (stands_clear (is_placed Placed.RandomIndexPack) catalogue.now arrival.now.offset)
+            arrival.now.offset arrival.now.start arrival.now.end self.old.random_index_packs.items }
+        ensures copies { self.new.copies.items ≡ copies_followed catalogue.now arrival.now.offset arrival.now.start
+            arrival.now.end arrival.now.can_bring_start self.old.copies.items }
+    {
+        let at = arrival.offset;
+        follow(
+            &mut self.partitions,
+            arrival,
+            stands(catalogue, Placed::Partition, at),
+        );
+        follow(
+            &mut self.segments,
+            arrival,
+            stands(catalogue, Placed::Segment, at),
+        );
+        follow(
+            &mut self.random_index_packs,
+            arrival,
+            stands(catalogue, Placed::RandomIndexPack, at),
+        );
+        follow_copies(&mut self.copies, catalogue, arrival);
+    }
 }

@@ -19,7 +19,7 @@ mod whole_file;
 pub use chain::{Chain, Link, chain_by_definition, links_by_definition};
 pub use copy::sets::{Sets, set_items, sets_by_definition};
 pub use copy::{
-    Copies, CopyInfo, copies_by_definition, covered_counts_offsets, preferred_by_definition,
+    CopyInfo, copies_by_definition, covered_counts_offsets, preferred_by_definition,
     starts_by_definition,
 };
 pub use finding::{Code, Finding, Findings, findings_by_definition};

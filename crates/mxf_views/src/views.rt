@@ -22,12 +22,14 @@ ghost use Rattle.mxf_views.specs.SameViews.{SameViews};
 
 use crate::chain::{Chain, Link, link_of};
 use crate::copy::sets::{Sets, no_sets, sets_of_copy};
-use crate::copy::{Copies, CopyInfo, copy_there, read_primer};
+use crate::copy::{CopyInfo, copy_there, copy_with, preferred, read_primer};
 use crate::finding::Findings;
 use crate::gap::Gaps;
 use crate::index::Segments;
 use crate::index::place::{BadUnit, GREATEST_UNIT, Place};
+use crate::kept::{Arrival, Kept};
 use crate::partition::{PartitionAt, Partitions, is_no_unreadable_pack, partition_there};
+use crate::placed::NotesAt;
 use crate::random_index::RipView;
 use crate::reference::resolved::{Resolved, preface_among, resolved_by};
 use crate::reference::{Found, find_among};
@@ -42,15 +44,21 @@ use uuid::Uuid;
 #[derive(Debug, Drop)]
 pub struct Views {
     catalogue: Catalogue,
+    kept: Kept,
 }
 
 impl Model for Views {
     ghost use Rattle.std.specs.Prelude.{List};
     ghost use Rattle.mxf_klv.specs.Parts.{NoteParts};
 
+    ghost use Rattle.mxf_views.specs.Kept.{Keeps};
+
     ghost Value = { List NoteParts };
 
     ghost view = { λ v. v.catalogue };
+
+    ghost invariant = { λ v. Keeps v.catalogue v.kept.partitions.items v.kept.segments.items
+        v.kept.random_index_packs.items v.kept.copies.items };
 }
 
 /// A catalogue that makes no views, for want of memory: it comes back.
@@ -66,19 +74,23 @@ impl Views {
     {
         Views {
             catalogue: Catalogue::new(alloc),
+            kept: Kept::new(alloc),
         }
     }
 
     /// The views of a catalogue: whatever calls made it, they are those of the notes that it was handed, and where these
     /// are the notes of a well-formed file, they are what reading the file from the front says.
-    pub fn of(_alloc: Global, catalogue: Catalogue) -> Result<Views, ViewFault>
+    pub fn of(alloc: Global, catalogue: Catalogue) -> Result<Views, ViewFault>
         ensures views { IfOk result (λ v. v ≡ catalogue) }
         ensures run { IfOk result (λ v. IsTheRun (has_note catalogue) v) }
         ensures back { IfErr result (λ f. f.catalogue ≡ catalogue) }
     {
         // What a catalogue lends says that its notes are those of a file.
         let _notes = catalogue.notes();
-        Ok(Views { catalogue })
+        match Kept::of(alloc, &catalogue) {
+            Ok(kept) => Ok(Views { catalogue, kept }),
+            Err(_) => Err(ViewFault { catalogue }),
+        }
     }
 
     /// Adds the note to the catalogue.
@@ -89,7 +101,16 @@ impl Views {
         ensures fault { IfErr result (λ f. f.note ≡ note) }
         ensures err { OnErr result (self.new ≡ self.old) }
     {
-        self.catalogue.add(note)
+        if self.catalogue.holds(&note) {
+            return Ok(Change::Repeated);
+        }
+        let Ok(()) = self.kept.make_room() else {
+            return Err(AddFault { note });
+        };
+        let arrival = Arrival::of(&self.catalogue, &note);
+        let change = self.catalogue.add(note)?;
+        self.kept.follow(&self.catalogue, &arrival);
+        Ok(change)
     }
 
     /// The views of the notes of both.
@@ -97,7 +118,8 @@ impl Views {
         ensures { IfOk result (λ v. v ≡ union_of a.now b.now) }
     {
         let catalogue = Catalogue::join(alloc, &a.catalogue, &b.catalogue)?;
-        Ok(Views { catalogue })
+        let kept = Kept::of(alloc, &catalogue)?;
+        Ok(Views { catalogue, kept })
     }
 
     /// Moves the notes of a catalogue into that of these views, which are of the notes of both then. No kept value is
@@ -108,7 +130,10 @@ impl Views {
         ensures merged { OnOk result (self.new ≡ union_of self.old other) }
         ensures err { OnErr result (self.new ≡ self.old) }
     {
-        self.catalogue.merge(alloc, other)
+        self.kept.reserve(&other)?;
+        self.catalogue.merge(alloc, other)?;
+        self.kept.refill(&self.catalogue);
+        Ok(())
     }
 
     /// The catalogue.
@@ -133,7 +158,7 @@ impl Views {
         // A count of the result fits.
         ensures bound { length result < 2 ^ 64 }
     {
-        Partitions::of(self.catalogue.clear())
+        Partitions::of(NotesAt::of(&self.catalogue, &self.kept.partitions))
     }
 
     /// How the partition at a file offset names the one before it.
@@ -230,15 +255,11 @@ impl Views {
         Gaps::of(&self.catalogue)
     }
 
-    /// The copies of the header metadata, one for each partition that states some, rising.
-    #[tactic(auto, unfolding(crate::specs::Copies::copies_of))]
-    pub fn copies(&self) -> Copies<'_>
-        ensures copies { result ≡ copies_of self.now }
-
-        // A count of the result fits.
-        ensures bound { length result < 2 ^ 64 }
+    /// The copies of the header metadata, one for each partition that states some, rising. They are kept.
+    pub fn copies(&self) -> &[CopyInfo]
+        ensures copies { result.now ≡ copies_of self.now }
     {
-        Copies::of(&self.catalogue, self.partitions())
+        &self.kept.copies
     }
 
     /// The sets of the copy of the partition at a file offset, rising; none where there is no such copy.
@@ -260,7 +281,7 @@ impl Views {
     pub fn preferred(&self) -> Option<CopyInfo>
         ensures { result ≡ preferred_of (copies_of self.now) }
     {
-        self.copies().preferred()
+        preferred(&self.kept.copies)
     }
 
     /// The primer pack of the first copy whose bytes have the set: it says what the set's tags stand for. None where no
@@ -269,7 +290,7 @@ impl Views {
     pub fn primer_for(&self, set: &Note) -> Option<Primer<'_>>
         ensures { result ≡ primer_for self.now set.now }
     {
-        let copy = self.copies().with(set)?;
+        let copy = copy_with(&self.kept.copies, set)?;
         self.primer_of(&copy)
     }
 
@@ -317,7 +338,7 @@ impl Views {
         // A count of the result fits.
         ensures bound { length result < 2 ^ 64 }
     {
-        Segments::of(self.catalogue.clear())
+        Segments::of(NotesAt::of(&self.catalogue, &self.kept.segments))
     }
 
     /// Where the index of an IndexSID puts an edit unit, by all segments that cover it.
@@ -336,7 +357,10 @@ impl Views {
     pub fn rip(&self) -> RipView<'_>
         ensures { result ≡ rip_view_of self.now }
     {
-        RipView::of(&self.catalogue)
+        RipView::of(
+            &self.catalogue,
+            NotesAt::of(&self.catalogue, &self.kept.random_index_packs),
+        )
     }
 
     /// What the notes show to be wrong or missing, by file offset and then code, none twice. It takes memory.
