@@ -13,6 +13,7 @@ pub mod FoundLaws
 pub mod GapsLaws
 pub mod HeaderCauses
 pub mod IndexCauses
+pub mod KeptLaws
 pub mod KeptRoom
 pub mod Laid
 pub mod LaidChain

@@ -142,7 +142,7 @@ fn answers_of(alloc: Global, catalogue: Catalogue) -> Result<Answers, Fail> {
         gaps: views.gaps().count(),
         links: links(alloc, &views)?,
         chain: views.chain(),
-        copies: views.copies().collect(alloc)?,
+        copies: Vec::from_slice(alloc, views.copies())?,
         sets: sets(alloc, &views)?,
         preferred: views.preferred().map(|copy| copy.partition),
         place: views.locate(1, 10)?,

@@ -57,11 +57,11 @@ fn with_statuses(alloc: Global, first: u8, second: u8, bytes: u64) -> Result<Vec
 fn of_two_copies_alike_the_later_is_preferred(rt: HostRuntime) -> Result<(), Fail> {
     let alloc = rt.alloc();
     let views = views_at(alloc, &two_copies(alloc)?, &PACKETS)?;
-    let mut copies = views.copies();
-    let first = copies.next().ok_or("a first copy")?;
+    let copies = views.copies();
+    let first = copies.first().ok_or("a first copy")?;
     assert_eq!(rt; (first.partition, first.finished), (0, true));
-    assert_eq!(rt; copies.next(), Some(SECOND));
-    assert_eq!(rt; copies.next(), None);
+    assert_eq!(rt; copies.get(1), Some(&SECOND));
+    assert_eq!(rt; copies.len(), 2);
     assert_eq!(rt; views.preferred(), Some(SECOND));
     assert_eq!(rt; views.chain(), Chain::Whole);
     Ok(())
@@ -73,11 +73,11 @@ fn a_copy_that_lacks_its_start_or_its_preface_is_passed_over(rt: HostRuntime) ->
     let alloc = rt.alloc();
     let file = two_copies(alloc)?;
     let without_primer = views_at(alloc, &file, &[0, 108, 154, 194, 348])?;
-    let second = without_primer.copies().nth(1).ok_or("a second copy")?;
+    let second = without_primer.copies().get(1).ok_or("a second copy")?;
     assert_eq!(rt; (second.start, second.covered), (None, 0));
     assert_eq!(rt; without_primer.preferred().ok_or("a copy")?.partition, 0);
     let without_preface = views_at(alloc, &file, &[0, 108, 154, 194, 302])?;
-    let second = without_preface.copies().nth(1).ok_or("a second copy")?;
+    let second = without_preface.copies().get(1).ok_or("a second copy")?;
     assert_eq!(rt; (second.start, second.covered), (Some(302), 46));
     assert_eq!(rt; without_preface.preferred().ok_or("a copy")?.partition, 0);
     Ok(())
@@ -103,7 +103,7 @@ fn a_finished_copy_is_preferred_to_one_of_better_status(rt: HostRuntime) -> Resu
     let preferred = views.preferred().ok_or("a preferred copy")?;
     assert_eq!(rt; (preferred.partition, preferred.finished), (0, true));
     assert_eq!(rt; preferred.status, Status::OpenIncomplete);
-    let second = views.copies().nth(1).ok_or("a second copy")?;
+    let second = views.copies().get(1).ok_or("a second copy")?;
     assert_eq!(rt; (second.prefaces, second.finished), (1, false));
     assert_eq!(rt; second.status, Status::ClosedComplete);
     Ok(())
@@ -116,7 +116,7 @@ fn a_copy_of_two_prefaces_is_not_preferred(rt: HostRuntime) -> Result<(), Fail> 
     let front = with_statuses(alloc, 0x01, 0x04, 126)?;
     let file = joined(alloc, &[&front, &bare_preface(alloc)?])?;
     let views = views_at(alloc, &file, &[0, 108, 154, 194, 302, 348, 388])?;
-    let second = views.copies().nth(1).ok_or("a second copy")?;
+    let second = views.copies().get(1).ok_or("a second copy")?;
     assert_eq!(rt; (second.prefaces, second.finished), (2, true));
     let preferred = views.preferred().ok_or("a preferred copy")?;
     assert_eq!(rt; preferred.partition, 0);
