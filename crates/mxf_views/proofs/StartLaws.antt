@@ -18,7 +18,7 @@ use Rattle.mxf_catalogue.proofs.ContentLaws.{note_eq-Decides}
 use Rattle.mxf_catalogue.specs.Disputes.{IsClear, SharesByte, clear_notes, is_same_note}
 use Rattle.mxf_catalogue.proofs.DisputeLaws.{In-clear_notes, clear-apart}
 use Rattle.mxf_catalogue.proofs.Lists.{In-filter, list_any-In, found-In, none_found}
-use Rattle.mxf_views.specs.Copies.{IsStart, covered_of, is_fill, is_fill_note, is_filled, is_primer}
+use Rattle.mxf_views.specs.Copies.{IsFilled, IsStart, covered_of, is_fill, is_fill_note, is_filled, is_primer}
 use Rattle.mxf_views.specs.Copies.{is_readable_primer, is_start, start_of, zone_of}
 use Rattle.mxf_views.specs.Spans.{is_in_one, is_in_span}
 use Rattle.mxf_catalogue.specs.Disputes.{lies_in}
@@ -87,18 +87,20 @@ unfolding is_readable_primer is_fill_note
 no_primer_fill n p q = one_kind (kind_of n.key)
     (parts (is_primer (kind_of n.key)) (is_some (read_as primer_at n)) p).0 q
 
--- no primer stands before a start
-not_before : (notes : List NoteParts) (end s t : ℕ) → IsStart notes end s → IsStart notes end t → s < t → ⊥
-not_before notes end s t a b l =
+-- no start lies in a fill
+pub not_in_fill : (notes : List NoteParts) (end reached s : ℕ) → IsStart notes end s → IsFilled notes end reached s → ⊥
+not_in_fill notes end reached s a f =
     let there : a.primer.offset ≡ s = a.there in
-    let from : end ≤ s = a.after in
-    let f = b.filled s from l in
     let w0 : f.fill.offset ≤ s = f.within.from in
     let w1 : s + 1 ≤ end_of f.fill = f.within.before in
     let shares : SharesByte a.primer f.fill =
     (s, record { from = omega arith; before = omega arith }, record { from = w0; before = w1 }) in
     let same : a.primer ≡ f.fill = clear_same notes a.primer f.fill a.clear f.clear shares in
     no_primer_fill a.primer a.readable (ap is_fill_note same ∙ f.kind)
+
+-- no primer stands before a start
+not_before : (notes : List NoteParts) (end s t : ℕ) → IsStart notes end s → IsStart notes end t → s < t → ⊥
+not_before notes end s t a b l = not_in_fill notes end t s a (b.filled s a.after l)
 
 pub one_start : (notes : List NoteParts) (end s t : ℕ) → IsStart notes end s → IsStart notes end t → s ≡ t
 one_start notes end s t a b =

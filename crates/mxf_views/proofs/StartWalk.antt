@@ -13,7 +13,7 @@ use Rattle.mxf_catalogue.proofs.ContentLaws.{all-In}
 use Rattle.mxf_catalogue.proofs.DisputeLaws.{In-clear_notes}
 use Rattle.mxf_catalogue.proofs.Lists.{In-filter}
 use Rattle.mxf_views.specs.Copies.{IsFilled, IsStart, is_fill_note, is_readable_primer, start_of}
-use Rattle.mxf_views.proofs.StartLaws.{both, clear_same, no_primer_fill, parts, start_is}
+use Rattle.mxf_views.proofs.StartLaws.{both, clear_same, not_in_fill, parts, start_is}
 
 -- From the end of the pack up to an offset there are clear fills alone, and these clear notes are left.
 pub record Passed (notes : List NoteParts) (end reached : ℕ) (left : List NoteParts) : Type 0 where
@@ -103,15 +103,7 @@ is_at notes end reached n left p e readable = record {
 -- No start lies among the fills that were passed.
 not_among : (notes : List NoteParts) (end reached s : ℕ) (left : List NoteParts) → Passed notes end reached left
     → IsStart notes end s → s < reached → ⊥
-not_among notes end reached s left p a l =
-    let there : a.primer.offset ≡ s = a.there in
-    let f = p.filled s a.after l in
-    let w0 : f.fill.offset ≤ s = f.within.from in
-    let w1 : s + 1 ≤ end_of f.fill = f.within.before in
-    let shares : SharesByte a.primer f.fill =
-    (s, record { from = omega arith; before = omega arith }, record { from = w0; before = w1 }) in
-    let same : a.primer ≡ f.fill = clear_same notes a.primer f.fill a.clear f.clear shares in
-    no_primer_fill a.primer a.readable (ap is_fill_note same ∙ f.kind)
+not_among notes end reached s left p a l = not_in_fill notes end reached s a (p.filled s a.after l)
 
 -- What stands where the fills end, and leads on to a start.
 record LeadsOn (notes : List NoteParts) (reached : ℕ) (left : List NoteParts) : Type 0 where
