@@ -149,7 +149,7 @@ some_and : (o : Option ℕ) (P : ℕ → Type 0) → IsSomeAnd o P → (v : ℕ)
 some_and None P h = absurd h
 some_and (Some v) P h = (v, refl, h)
 
-if_some : (o : Option ℕ) (P : ℕ → Type 0) → IfSome o P → (v : ℕ) → o ≡ Some v → P v
+pub if_some : (o : Option ℕ) (P : ℕ → Type 0) → IfSome o P → (v : ℕ) → o ≡ Some v → P v
 if_some None P h v e = absurd cc
 if_some (Some w) P h v e = let same : w ≡ v = cc in subst P same h
 

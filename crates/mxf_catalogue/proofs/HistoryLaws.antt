@@ -1,12 +1,12 @@
 -- What a history of calls leaves is the set that it was handed.
-use Rattle.std.specs.Prelude.{◌≡◌, ◌↔◌, List, [], ◌∷◌}
+use Rattle.std.specs.Prelude.{◌≡◌, ◌↔◌, List, [], ◌∷◌, take}
 use Rattle.std.proofs.Common.{inl, inr}
 use Rattle.mxf_klv.specs.Parts.{NoteParts}
 use Rattle.mxf_klv.specs.PieceReading.{notes_in}
 use Rattle.mxf_klv.specs.Rising.{In}
 use Rattle.mxf_catalogue.specs.Content.{IsContent}
 use Rattle.mxf_catalogue.specs.History.{Part, HandIn, part_notes, union_of_parts, Hands, HandsSame, content}
-use Rattle.mxf_catalogue.specs.History.{History, New, Add, Join, Read, Absorb, Of, Gather}
+use Rattle.mxf_catalogue.specs.History.{History, New, Add, Join, Read, Absorb, Cut, Of, Gather}
 use Rattle.mxf_catalogue.proofs.ContentLaws.{same_content, In-with_note, In-union_of}
 use Rattle.mxf_catalogue.proofs.ContentLaws.{IsContent-with_note, IsContent-union_of}
 
@@ -31,6 +31,8 @@ IsContent-content (Join h k) = IsContent-union_of (content h) (content k) (IsCon
 IsContent-content (Read bytes notes is) = is.catalogue.content
 IsContent-content (Absorb h offset bytes) =
     IsContent-union_of (content h) (notes_in offset bytes) (IsContent-content h)
+IsContent-content (Cut h offset bytes noted) =
+    IsContent-union_of (content h) (take noted (notes_in offset bytes)) (IsContent-content h)
 IsContent-content (Of h) = IsContent-content h
 IsContent-content (Gather parts) = IsContent-union_of_parts parts
 
@@ -50,6 +52,11 @@ In-content (Join h k) n =
 In-content (Read bytes notes is) n = (λ k. k, λ k. k)
 In-content (Absorb h offset bytes) n =
     let all = In-union_of n (content h) (notes_in offset bytes) in let ih = In-content h n in (
+      λ m. elim (all.0 m) [ inl i ↦ inl (ih.0 i) | inr j ↦ inr j ],
+      λ m. all.1 (elim m [ inl i ↦ inl (ih.1 i) | inr j ↦ inr j ]),
+    )
+In-content (Cut h offset bytes noted) n =
+    let all = In-union_of n (content h) (take noted (notes_in offset bytes)) in let ih = In-content h n in (
       λ m. elim (all.0 m) [ inl i ↦ inl (ih.0 i) | inr j ↦ inr j ],
       λ m. all.1 (elim m [ inl i ↦ inl (ih.1 i) | inr j ↦ inr j ]),
     )

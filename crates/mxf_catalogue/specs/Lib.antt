@@ -8,4 +8,5 @@ pub mod Joins
 pub mod Moved
 pub mod Parts
 pub mod Reach
+pub mod Rooms
 pub mod Runs

@@ -8,4 +8,4 @@ use Rattle.mxf_catalogue.specs.Parts.{moved_by}
 -- Where the note was new, the offsets are those of the notes that it moves.
 abbrev pub TellsMoved : NoteParts → List NoteParts → Change → Type 0
 TellsMoved n old Repeated = Unit {0}
-TellsMoved n old (Added moved) = moved.items ≡ moved_by n old
+TellsMoved n old (Added moved) = moved ≡ moved_by n old

@@ -6,6 +6,7 @@ ghost use Rattle.mxf_klv.specs.Parts.{NoteParts};
 ghost use Rattle.mxf_klv.specs.Rising.{In, SameMembers};
 ghost use Rattle.mxf_catalogue.specs.Content.{IsCatalogue, IsContent, with_note, union_of};
 ghost use Rattle.mxf_catalogue.specs.Disputes.{AreApart, IsClear, clear_notes, disputed_notes, lies_in};
+ghost use Rattle.mxf_catalogue.specs.History.{History, Add, Join, content};
 ghost use Rattle.mxf_catalogue.specs.Moved.{TellsMoved};
 ghost use Rattle.mxf_catalogue.specs.Parts.{Covers};
 
@@ -20,14 +21,17 @@ mod placing;
 
 use crate::cover::Cover;
 use crate::semilattice::Semilattice;
-pub use change::{AddFault, Change, moved_notes_by_definition};
+pub use change::{AddFault, Change, Offsets, moved_notes_by_definition};
 pub use clear::{ClearNotes, clear_notes_by_definition, clear_notes_stand_apart};
 pub use disputed::{
     Disputed, DisputedNotes, disputed_notes_by_definition, disputes_by_tests,
     notes_are_clear_or_disputed, notes_are_disputed_in_two_ways,
 };
-pub use file::{FileFault, files_are_read_as_written, one_file, one_file_reading};
-use merging::MergedNotes;
+pub use file::{
+    FileFault, bytes_are_a_file_or_refused, files_are_read_as_written, one_file, one_file_reading,
+};
+pub use merging::MergeFault;
+use merging::{MergedNotes, Room};
 use mxf_klv::{Note, OutOfMemory};
 pub use notes::Notes;
 use parts::Parts;
@@ -83,6 +87,7 @@ impl Catalogue {
         ensures moved { IfOk result (TellsMoved note self.old) }
         ensures fault { IfErr result (λ f. f.note ≡ note) }
         ensures err { OnErr result (self.new ≡ self.old) }
+        ensures history { (h : History) → self.old ≡ content h → OnOk result (self.new ≡ content (Add h note)) }
     {
         if self.parts.have(&note) {
             return Ok(Change::Repeated);
@@ -100,47 +105,64 @@ impl Catalogue {
 
     /// Moves the notes of another catalogue into this one, which holds the notes of both then. No kept value is copied.
     ///
-    /// Notes that stand above all of these are put behind them. Otherwise the notes of both are put into new parts, in
-    /// their order: one pass over both. All memory is taken before a note of this catalogue is moved.
+    /// An empty catalogue takes the other as it is. Notes that stand above all of these are put behind them. Otherwise
+    /// the notes of both are put into new parts, in their order: one pass over both.
     ///
-    /// The only fault is want of memory. This catalogue is unchanged then, and the other is dropped.
-    pub fn merge(&mut self, alloc: Global, other: Catalogue) -> Result<(), OutOfMemory>
+    /// The only fault is want of memory. The other comes back and this catalogue is unchanged: all memory is taken before
+    /// a note of either is moved.
+    pub fn merge(&mut self, other: Catalogue) -> Result<(), MergeFault>
         ensures merged { OnOk result (self.new ≡ union_of self.old other) }
         ensures err { OnErr result (self.new ≡ self.old) }
+        ensures back { IfErr result (λ f. f.other ≡ other) }
+        ensures history { (h k : History) → self.old ≡ content h → other ≡ content k
+            → OnOk result (self.new ≡ content (Join h k)) }
     {
-        let others = other.parts;
-        if self.parts.stand_below(&others) {
-            return self.put_all(MergedNotes::of(others.clear, others.disputed));
+        if self.is_empty() {
+            *self = other;
+            return Ok(());
         }
-        let room = Vec::with_capacity(alloc, others.len())?;
-        self.rebuild(alloc, others.into_notes(room))
+        if self.parts.stand_below(&other.parts) {
+            self.put_all(other)
+        } else {
+            self.rebuild(other)
+        }
     }
 
-    /// Puts notes into the parts. All room is taken before.
-    fn put_all(&mut self, notes: MergedNotes) -> Result<(), OutOfMemory>
-        ensures merged { OnOk result (self.new ≡ union_of self.old notes) }
+    /// Puts the notes of another into the parts of this one. All room is taken before.
+    fn put_all(&mut self, other: Catalogue) -> Result<(), MergeFault>
+        ensures merged { OnOk result (self.new ≡ union_of self.old other) }
         ensures err { OnErr result (self.new ≡ self.old) }
+        ensures back { IfErr result (λ f. f.other ≡ other) }
     {
-        let count = notes.most();
+        let count = other.len();
         let spans = &mut self.spans;
-        spans.runs.reserve(count)?;
-        self.parts.reserve(count)?;
+        let Ok(()) = spans.runs.reserve(count) else {
+            return Err(MergeFault { other });
+        };
+        let Ok(()) = self.parts.reserve(count) else {
+            return Err(MergeFault { other });
+        };
+        let others = other.parts;
+        let notes = MergedNotes::of(others.clear, others.disputed);
         self.parts.put_all(&mut spans.runs, notes);
         Ok(())
     }
 
-    /// Puts these notes and others into new parts, in one pass over both. All room is taken before.
-    fn rebuild(&mut self, alloc: Global, notes: Vec<Note>) -> Result<(), OutOfMemory>
-        requires { IsContent notes.items }
-        ensures merged { OnOk result (self.new ≡ union_of self.old notes.items) }
+    /// Puts the notes of both into new parts, in one pass over both. All room is taken before.
+    fn rebuild(&mut self, other: Catalogue) -> Result<(), MergeFault>
+        ensures merged { OnOk result (self.new ≡ union_of self.old other) }
         ensures err { OnErr result (self.new ≡ self.old) }
+        ensures back { IfErr result (λ f. f.other ≡ other) }
     {
-        let room = Vec::with_capacity(alloc, self.len())?;
-        let count = self.len() + notes.len();
-        let mut parts = Parts::with_room(alloc, count)?;
-        let mut runs = Vec::with_capacity(alloc, count)?;
-        let own = replace(&mut self.parts, Parts::new(alloc)).into_notes(room);
-        parts.put_all(&mut runs, MergedNotes::of(own, notes));
+        let alloc = *self.parts.clear.allocator();
+        let Ok(room) = Room::of(alloc, self.len(), other.len()) else {
+            return Err(MergeFault { other });
+        };
+        let mut parts = room.parts;
+        let mut runs = room.runs;
+        let own = replace(&mut self.parts, Parts::new(alloc)).into_notes(room.own);
+        let others = other.parts.into_notes(room.others);
+        parts.put_all(&mut runs, MergedNotes::of(own, others));
         self.parts = parts;
         self.spans = Cover { runs };
         Ok(())
@@ -271,9 +293,13 @@ impl Semilattice for Catalogue {
 
     ghost idempotent = { joined_idem has_note union_of union_of-IsUnion };
 
-    fn join(alloc: Global, a: &Catalogue, b: &Catalogue) -> Result<Catalogue, OutOfMemory> {
+    fn join(alloc: Global, a: &Catalogue, b: &Catalogue) -> Result<Catalogue, OutOfMemory>
+        ensures joined { IfOk result (λ c. c ≡ union_of a.now b.now) }
+        ensures history { (h k : History) → a.now ≡ content h → b.now ≡ content k
+            → IfOk result (λ c. c ≡ content (Join h k)) }
+    {
         let mut all = a.copy(alloc)?;
-        all.merge(alloc, b.copy(alloc)?)?;
+        all.merge(b.copy(alloc)?)?;
         Ok(all)
     }
 

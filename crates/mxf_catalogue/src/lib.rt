@@ -12,7 +12,8 @@
 //!   [`gaps_of_covers_by_definition`], [`one_list_of_maximal_runs`];
 //! - joins are associative, commutative and idempotent on contents: the laws of [`Semilattice`];
 //! - bytes are read as the file of one content, or refused for one cause, and what is written is read back:
-//!   [`Catalogue::read`], [`one_file_reading`], [`one_file`], [`files_are_read_as_written`].
+//!   [`Catalogue::read`], [`bytes_are_a_file_or_refused`], [`one_file_reading`], [`one_file`],
+//!   [`files_are_read_as_written`].
 //!
 //! That memory is there, and that a call succeeds with it, is tested.
 //!
@@ -35,9 +36,9 @@ mod run;
 mod semilattice;
 
 pub use catalogue::{
-    AddFault, Catalogue, Change, ClearNotes, Disputed, DisputedNotes, FileFault, Notes,
-    clear_notes_by_definition, clear_notes_stand_apart, contents_are_sets,
-    disputed_notes_by_definition, disputes_by_tests, files_are_read_as_written,
+    AddFault, Catalogue, Change, ClearNotes, Disputed, DisputedNotes, FileFault, MergeFault, Notes,
+    Offsets, bytes_are_a_file_or_refused, clear_notes_by_definition, clear_notes_stand_apart,
+    contents_are_sets, disputed_notes_by_definition, disputes_by_tests, files_are_read_as_written,
     moved_notes_by_definition, notes_are_clear_or_disputed, notes_are_disputed_in_two_ways,
     one_file, one_file_reading,
 };

@@ -5,6 +5,7 @@ pub mod PacketLaw
 pub mod WrittenParts
 pub mod PieceLaws
 pub mod StopLaws
+pub mod MoreBytes
 pub mod Keeping
 pub mod RoundTrips
 pub mod RisingLemmas

@@ -10,11 +10,11 @@ use Rattle.mxf_klv.specs.Parts.{LengthParts, PacketParts, packet_parts}
 use Rattle.mxf_klv.specs.Label.{BeginsAsLabel, begins_as_label}
 use Rattle.mxf_klv.specs.Ber.{IsCutLength, ReadsLength}
 use Rattle.mxf_klv.specs.Packet.{IsCutPacket, size_of}
-use Rattle.mxf_klv.specs.Head.{BeginsWithHead, ReadsHead}
+use Rattle.mxf_klv.specs.Head.{BeginsWithHead, HasNoHead, ReadsHead}
 use Rattle.mxf_klv.specs.Note.{greatest_end}
 use Rattle.mxf_klv.specs.Piece.{BeginsWithNone, EndsTooFar, IsPiece, IsStop, end_after}
 use Rattle.mxf_klv.specs.PieceReading.{EndsAt, GoesOn, head_at, length_at, packet_at, is_bad_length, end_with}
-use Rattle.mxf_klv.specs.PieceReading.{ends_too_far, stop_of, stop_in}
+use Rattle.mxf_klv.specs.PieceReading.{ends_too_far, stop_of, stop_in, IsNoHead, IsOpen}
 use Rattle.mxf_klv.specs.declared.ber.BerFault.TheVariants as lengths
 use Rattle.mxf_klv.specs.declared.packet.PacketFault.{PacketFault}
 use Rattle.mxf_klv.specs.declared.packet.PacketFault.TheVariants as faults
@@ -22,7 +22,7 @@ use Rattle.mxf_klv.specs.declared.piece.Stop.{Stop}
 use Rattle.mxf_klv.specs.declared.piece.Stop.TheVariants.{End, NotUl, BadLength, TooFar, Truncated}
 use Rattle.mxf_klv.proofs.LengthLemmas.{one_reading, wide_found}
 use Rattle.mxf_klv.proofs.HeadLemmas.{head_of, head-begins, head-cut, head-length, head-packet, head-size, head_in}
-use Rattle.mxf_klv.proofs.HeadLemmas.{no_head}
+use Rattle.mxf_klv.proofs.HeadLemmas.{no_head, no_head_short}
 use Rattle.mxf_klv.proofs.PacketLemmas.{key_cut, label_of, length_cut}
 use Rattle.mxf_klv.proofs.PacketLaw.{cut_begins, no_fault_cut}
 use Rattle.mxf_klv.proofs.PieceLaws.{begins-test, test-begins, ends_at, goes_on, head_at-head, head_at-stands}
@@ -329,7 +329,7 @@ at_far offset bytes key after l h far = record {
 }
 
 -- a value that is cut
-at_cut : (offset : ℕ) (bytes key after : List ℕ) (l : LengthParts) → BeginsWithHead bytes key l after
+pub at_cut : (offset : ℕ) (bytes key after : List ℕ) (l : LengthParts) → BeginsWithHead bytes key l after
     → offset + (16 + l.width + l.value) ≤ greatest_end → length after < l.value → Stopped offset bytes
     (Truncated offset)
 at_cut offset bytes key after l h near short = record {
@@ -388,3 +388,20 @@ at_value offset bytes key after l None h near cut =
 at_value offset bytes key after l (Some x) h near whole =
     subst (λ (y : PacketParts × ℕ). Answers offset bytes (ok_or (Some y) (Truncated offset))) (sym whole.1)
     (at_packet offset bytes key after l h near whole.0)
+
+-- ---- the exits of `next_head`
+
+pub no_head_for : (offset : ℕ) (bytes : List ℕ) (stop : Stop) → Stopped offset bytes stop
+    → (IsOpen stop → HasNoHead bytes)
+    → IsNoHead offset bytes stop
+no_head_for offset bytes stop s cut =
+    let t = stops offset bytes stop s in
+    record { none = t.0; is = t.1; cut = cut }
+
+pub end_has_no_head : (bytes : List ℕ) → nat_eq (length bytes) 0 ≡ true → HasNoHead bytes
+end_has_no_head bytes e =
+    let len = ap length (no-bytes bytes e) in
+    no_head_short bytes (omega arith)
+
+pub fault_has_no_head : (bytes : List ℕ) (f : PacketFault) → ReadsHead bytes (Err f) → HasNoHead bytes
+fault_has_no_head bytes f r = r.1

@@ -11,4 +11,5 @@ pub mod Note
 pub mod Kept
 pub mod NoteOrder
 pub mod Rising
+pub mod Words
 pub mod Written

@@ -1,5 +1,18 @@
 //! Labels, lengths, packets and notes: the KLV coding of SMPTE ST 336, with the packet kinds of ST 377-1.
 //!
+//! | Question | Call | Answer |
+//! |---|---|---|
+//! | What stands at the front of bytes? | [`read_packet`], [`read_ber`] | a packet, a length, or the first fault |
+//! | What is the next packet of a piece? | [`next_packet`] | the packet and its bytes, or the [`Stop`] |
+//! | What is a packet? | [`kind`] of its key | [`Kind`], which prints as its word |
+//! | What is kept of a packet? | [`Note::of`] | [`Note`]: file offset, key, length, and its value or a digest of that |
+//! | How is a value written? | [`Encode`] | its bytes, or how many of them were written |
+//!
+//! Offsets and lengths are in bytes, and no packet ends above [`MAX`]. What is proved: packets and lengths are read
+//! exactly ([`one_packet`], [`one_length_at_front`]), what is written is read back, each piece has exactly one list of
+//! packets ([`each_piece_is_read_one_way`]) and one stop ([`each_piece_has_one_stop`]), and notes that compare alike
+//! are one ([`notes_that_compare_alike_are_one`]).
+//!
 //! The packets of a piece that lies at `offset` of a file, and a note of each:
 //!
 //! ```
@@ -31,5 +44,8 @@ pub use note::{Held, MAX, NotANote, Note, NoteFault, notes_that_compare_alike_ar
 pub use packet::{
     Packet, PacketFault, one_packet, one_reading, packets_are_read_as_written, read_packet,
 };
-pub use piece::{Stop, each_piece_has_one_stop, each_piece_is_read_one_way, next_packet};
+pub use piece::{
+    Stop, each_piece_has_one_stop, each_piece_is_read_one_way, more_bytes_go_on_with_a_piece,
+    next_head, next_packet,
+};
 pub use writing::{Encode, Progress, WriteFault};

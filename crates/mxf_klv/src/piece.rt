@@ -1,16 +1,21 @@
 //! The packets of a piece: bytes that lie at an offset of a file (this project's profile).
-ghost use Rattle.std.specs.Prelude.{◌≡◌, ◌↔◌, ◌+◌, ℕ, List, None, Some, Ok, IfOk, IfErr};
+ghost use Rattle.std.specs.Prelude.{◌≡◌, ◌↔◌, ◌+◌, ◌≤◌, ◌++◌, ℕ, List, None, Some, Ok, IfOk, IfErr};
 ghost use Rattle.mxf_klv.specs.Parts.{LengthParts, PacketParts};
 ghost use Rattle.mxf_klv.specs.Ber.{ReadsLength};
 ghost use Rattle.mxf_klv.specs.Packet.{size_of};
 ghost use Rattle.mxf_klv.specs.declared.piece.Stop.{Stop};
 ghost use Rattle.mxf_klv.specs.Piece.{BeginsWithNone, IsPiece, IsStop, end_after};
-ghost use Rattle.mxf_klv.specs.PieceReading.{EndsAt, GoesOn, length_at, packet_at, packets_in, rest_in};
-ghost use Rattle.mxf_klv.specs.PieceReading.{stop_in, stop_of};
+ghost use Rattle.mxf_klv.specs.Head.{BeginsWithHead};
+ghost use Rattle.mxf_klv.specs.Note.{greatest_end};
+ghost use Rattle.mxf_klv.specs.PieceReading.{EndsAt, GoesOn, IsHeadOf, IsNoHead, IsOpen, end_with, length_at, packet_at};
+ghost use Rattle.mxf_klv.specs.PieceReading.{packets_in, rest_in, stop_in, stop_of};
 
+use crate::ber::Ber;
+use crate::label::Ul;
 use crate::note::MAX;
 use crate::packet::head::Head;
 use crate::packet::{Packet, PacketFault};
+use std::fmt;
 
 /// Why the reading of a piece ended. A place is the file offset, in bytes, of the packet that wasn't noted.
 ///
@@ -29,6 +34,24 @@ pub enum Stop {
     Truncated(u64),
 }
 
+/// The word for the stop, as in `too-far`, without its place.
+impl fmt::Display for Stop {
+    ghost use Rattle.std.specs.Prelude.{Some};
+    ghost use Rattle.mxf_klv.specs.Words.{stop_name};
+
+    ghost output = { λ stop. Some (stop_name stop) };
+
+    fn fmt<W: fmt::Write>(&self, f: &mut fmt::Formatter<W>) -> fmt::Result {
+        f.write_str(match *self {
+            Stop::End => "end",
+            Stop::NotUl(_) => "not-ul",
+            Stop::BadLength(_) => "bad-length",
+            Stop::TooFar(_) => "too-far",
+            Stop::Truncated(_) => "truncated",
+        })
+    }
+}
+
 /// The packet at the front of a piece at a file offset, and its number of bytes; else why the piece stops there.
 ///
 /// Only a packet that ends at or below [`MAX`] is given.
@@ -39,6 +62,32 @@ pub fn next_packet(offset: u64, bytes: &[u8]) -> Result<(Packet<'_>, usize), Sto
     // The same by the packets of the piece and its stop.
     ensures goes_on { IfOk result (λ x. GoesOn offset bytes.now x.0 x.1) }
     ensures ends { IfErr result (EndsAt offset bytes.now) }
+{
+    match read_head(offset, bytes) {
+        Ok(head) => head.packet().ok_or(Stop::Truncated(offset)),
+        Err(stop) => Err(stop),
+    }
+}
+
+/// The key and the length of the packet at the front of a piece at a file offset; else why the piece stops there.
+///
+/// Where they aren't whole and nothing is at fault, the stop is [`Stop::End`] or [`Stop::Truncated`]. Only those of a
+/// packet that ends at or below [`MAX`] are given.
+pub fn next_head(offset: u64, bytes: &[u8]) -> Result<(Ul, Ber), Stop>
+    ensures head { IfOk result (λ x. IsHeadOf offset bytes.now x.0 x.1) }
+    ensures none { IfErr result (IsNoHead offset bytes.now) }
+{
+    match read_head(offset, bytes) {
+        Ok(head) => Ok((head.key(), head.ber())),
+        Err(stop) => Err(stop),
+    }
+}
+
+/// The head of the packet at the front of a piece, which ends at or below [`MAX`]; else why the piece stops there.
+fn read_head(offset: u64, bytes: &[u8]) -> Result<Head<'_>, Stop>
+    ensures head { IfOk result (λ h. BeginsWithHead bytes.now h.key h.ber h.after.now) }
+    ensures within { IfOk result (λ h. end_with offset h.ber ≤ greatest_end) }
+    ensures none { IfErr result (IsNoHead offset bytes.now) }
 {
     if bytes.is_empty() {
         return Err(Stop::End);
@@ -53,7 +102,7 @@ pub fn next_packet(offset: u64, bytes: &[u8]) -> Result<(Packet<'_>, usize), Sto
     if u128::from(offset) + head.size() > u128::from(MAX) {
         return Err(Stop::TooFar(offset));
     }
-    head.packet().ok_or(Stop::Truncated(offset))
+    Ok(head)
 }
 
 /// A law: each piece has exactly one list of packets and one rest, those that `packets_in` and `rest_in` give.
@@ -73,4 +122,16 @@ pub fn each_piece_has_one_stop()
         → IsPiece offset bytes packets rest
         → (stop_in offset bytes ≡ stop) ↔ IsStop (end_after offset packets) rest stop }
     ensures length { (bytes : List ℕ) (l : LengthParts) → (length_at bytes ≡ Some l) ↔ ReadsLength bytes (Ok l) }
+{}
+
+/// A law: what more bytes make of a piece. Its packets stand, and behind them come those of a piece that begins where they
+/// end, with the bytes of its rest and then the others. A stop that no more bytes lead past stands, and no packet follows.
+pub fn more_bytes_go_on_with_a_piece()
+    ensures packets { (offset : ℕ) (bytes more : List ℕ) → packets_in offset (bytes ++ more)
+        ≡ packets_in offset bytes ++ packets_in (end_after offset (packets_in offset bytes)) (rest_in offset bytes ++ more) }
+    ensures rest { (offset : ℕ) (bytes more : List ℕ) → rest_in offset (bytes ++ more)
+        ≡ rest_in (end_after offset (packets_in offset bytes)) (rest_in offset bytes ++ more) }
+    ensures stop { (offset : ℕ) (bytes more : List ℕ) → ¬ IsOpen (stop_in offset bytes)
+        → (packets_in offset (bytes ++ more) ≡ packets_in offset bytes)
+        × (stop_in offset (bytes ++ more) ≡ stop_in offset bytes) }
 {}

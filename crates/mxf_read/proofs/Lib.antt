@@ -1,2 +1,6 @@
+pub mod GoingOn
 pub mod Pieces
 pub mod Taking
+pub mod Feeding
+pub mod Reports
+mod Walks

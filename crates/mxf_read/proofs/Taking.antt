@@ -8,12 +8,12 @@ use Rattle.mxf_klv.specs.Note.{note_cmp}
 use Rattle.mxf_klv.specs.Piece.{notes_from}
 use Rattle.mxf_klv.specs.PieceReading.{notes_in, packets_in, stop_in}
 use Rattle.mxf_klv.specs.declared.piece.Stop.{Stop}
-use Rattle.mxf_catalogue.specs.Content.{with_note, union_of}
-use Rattle.mxf_catalogue.proofs.Fronts.{rising_take}
+use Rattle.mxf_catalogue.specs.Content.{IsContent, with_note, union_of}
+use Rattle.mxf_catalogue.proofs.Fronts.{rising_front, rising_take}
 use Rattle.mxf_catalogue.proofs.MergeLaws.{union_of-none}
 use Rattle.mxf_read.specs.declared.report.Report.{Report}
 use Rattle.mxf_read.specs.declared.report.AbsorbFault.{AbsorbFault}
-use Rattle.mxf_read.specs.declared.report.AbsorbFault.TheVariants.{OutOfMemory}
+use Rattle.mxf_read.specs.declared.report.AbsorbFault.TheVariants.{OutOfMemory, ReadFault}
 use Rattle.mxf_read.specs.Absorbs.{Absorbs, first_notes_in}
 use Rattle.mxf_read.proofs.Pieces.{IsContent-notes_in, length-notes_in}
 
@@ -29,6 +29,13 @@ slice_get_at (d ∷ done) left x (suc n) l = slice_get_at done left x n (omega a
 union_push : (old done : List NoteParts) (n : NoteParts) → union_of old (done ++ n ∷ []) ≡ with_note n (union_of old done)
 union_push old [] n = refl
 union_push old (d ∷ done) n = union_push (with_note d old) done n
+
+-- a note above all others goes behind them
+pub with_last : (notes : List NoteParts) (n : NoteParts) → IsContent (notes ++ n ∷ [])
+    → with_note n notes ≡ notes ++ n ∷ []
+with_last notes n rises =
+    ap (with_note n) (sym (union_of-none notes (rising_front note_cmp notes (n ∷ []) rises)))
+    ∙ sym (union_push [] notes n) ∙ union_of-none (notes ++ n ∷ []) rises
 
 -- Of all notes the first so many were added to the old ones, which gives the new ones, and these are left.
 pub record IsPart (old new : List NoteParts) (all : List NoteParts) (noted : ℕ) (left : List NoteParts) : Type 0 where
@@ -81,6 +88,7 @@ absorbs_merged old piece new offset bytes (Ok report) a e = (
   e ∙ ap (union_of old) (a.0 ∙ union_of-none (notes_in offset bytes) (IsContent-notes_in offset bytes)),
   a.1,
 )
+absorbs_merged old piece new offset bytes (Err (ReadFault noted at)) a e = absurd a
 absorbs_merged old piece new offset bytes (Err (OutOfMemory noted at)) a e =
     let rises = rising_take note_cmp noted (notes_in offset bytes) (IsContent-notes_in offset bytes) in
     (e ∙ ap (union_of old) (a.0 ∙ union_of-none (first_notes_in noted offset bytes) rises), a.1)
@@ -103,6 +111,7 @@ take_nothing n (x ∷ xs) e = absurd cc
 none_absorbed : (piece : List NoteParts) (offset : ℕ) (bytes : List ℕ) (r : Result Report AbsorbFault)
     → Absorbs [] piece offset bytes r → notes_in offset bytes ≡ [] → piece ≡ []
 none_absorbed piece offset bytes (Ok report) b h = b.0 ∙ ap (union_of []) h
+none_absorbed piece offset bytes (Err (ReadFault noted at)) b h = absurd b
 none_absorbed piece offset bytes (Err (OutOfMemory noted at)) b h =
     b.0 ∙ ap (union_of []) (take_nothing noted (notes_in offset bytes) h)
 

@@ -1,1 +1,5 @@
+pub mod Held
+pub mod Coming
+pub mod Feeding
+pub mod Reading
 pub mod Absorbs

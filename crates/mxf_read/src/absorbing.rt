@@ -1,16 +1,25 @@
-//! Noting the packets of bytes at hand.
-ghost use Rattle.std.specs.Prelude.{◌≡◌, ◌≤◌, ℕ, List, OnOk, OnErr};
+//! Noting the packets of a piece, of bytes at hand or from a reader.
+ghost use Rattle.std.specs.Prelude.{◌≡◌, ◌≢◌, ◌+◌, ◌-◌, ◌<◌, ◌≤◌, ◌++◌, ℕ, List, [], drop, take, length};
+ghost use Rattle.std.specs.Prelude.{IfOk, IfErr, IfSome, Ok, OnOk, OnErr};
 ghost use Rattle.mxf_klv.specs.Note.{end_of, greatest_end, note_of};
-ghost use Rattle.mxf_klv.specs.PieceReading.{notes_in};
-ghost use Rattle.mxf_catalogue.specs.Content.{IsContent, with_note};
+ghost use Rattle.mxf_klv.specs.PieceReading.{notes_in, stop_in};
+ghost use Rattle.mxf_catalogue.specs.Content.{IsContent, union_of, with_note};
 ghost use Rattle.mxf_catalogue.specs.Disputes.{AreApart};
-ghost use Rattle.mxf_read.specs.Absorbs.{Absorbs};
+ghost use Rattle.mxf_catalogue.specs.History.{History, Absorb, Cut, content};
+ghost use Rattle.mxf_read.specs.Absorbs.{Absorbs, AbsorbsFrom, GoesOnAt, first_notes_in, history_with};
+ghost use Rattle.mxf_read.specs.Feeding.{Fed};
+ghost use Rattle.mxf_read.specs.Reading.{Takes};
+ghost use Rattle.mxf_read.specs.declared.report.AbsorbFault.TheVariants as faults;
 
+use crate::piece::Piece;
+use crate::reading::{Cause, read_all};
 use crate::report::{AbsorbFault, Report};
+use crate::ticks::ReadTicks;
 use mxf_catalogue::Catalogue;
 use mxf_klv::{Note, OutOfMemory, Packet, next_packet};
 use mxf_views::Views;
 use std::alloc::Global;
+use std::io::Read;
 
 /// Notes the packets of a piece, the first byte of which lies at a file offset, in bytes.
 ///
@@ -27,18 +36,92 @@ pub fn absorb(
     offset: u64,
     bytes: &[u8],
 ) -> Result<Report, AbsorbFault>
-    ensures { Absorbs views.old views.new offset bytes.now result }
+    ensures absorbs { Absorbs views.old views.new offset bytes.now result }
+    ensures history { (h : History) → views.old ≡ content h
+        → views.new ≡ content (history_with h offset bytes.now result) }
 {
     let mut piece = Catalogue::new(alloc);
     let absorbed = note_packets(alloc, &mut piece, offset, bytes);
-    if piece.is_empty() {
-        return absorbed;
+    merge_notes(views, offset, piece)?;
+    absorbed
+}
+
+/// Notes the packets of a piece that a reader gives, the first byte of which lies at a file offset, in bytes.
+///
+/// At most `limit` bytes are taken, and those are noted as [`absorb`] does, however they come. [`Stop::End`](mxf_klv::Stop)
+/// and [`Stop::Truncated`](mxf_klv::Stop) come only where the reader has ended or `limit` bytes were taken; behind any other
+/// stop nothing is read. It holds 65,536 bytes of the reader and one value that is kept; another is digested as it passes.
+///
+/// Each read that it asks for is counted in `ticks`. An interrupted read is repeated, 1,024 times at most. Where a read
+/// fails the packets that are whole among the bytes taken were noted. Where memory is wanting the notes of the packets that
+/// the fault counts were added, and nothing else.
+pub fn absorb_from<R: Read>(
+    alloc: Global,
+    views: &mut Views,
+    offset: u64,
+    from: &mut R,
+    limit: u64,
+    ticks: &mut ReadTicks,
+) -> Result<Report, AbsorbFault>
+    ensures reads { ticks.new.count ≤ ticks.old.count + limit + 1026 }
+    ensures counts { ticks.old.count ≤ ticks.new.count }
+    ensures taken { AbsorbsFrom views.old views.new (R.remaining from.old) (R.remaining from.new) offset limit result }
+    ensures history { (h : History) → views.old ≡ content h → (taken : List ℕ)
+        × Takes (R.remaining from.old) (R.remaining from.new) limit taken
+        × (views.new ≡ content (history_with h offset taken result)) }
+
+    // The same by the stream, however its bytes came.
+    ensures stream { IfOk result (λ report. IfSome (R.remaining from.old) (λ all.
+        Absorbs views.old views.new offset (take limit all) (Ok report))) }
+{
+    let mut piece = Piece::new(alloc, offset);
+    let absorbed = fill(&mut piece, from, limit, ticks);
+    merge_notes(views, offset, piece.into_notes())?;
+    absorbed
+}
+
+/// Moves the notes of a piece at a file offset into the views. The only fault is want of memory, at the piece's offset,
+/// where it has notes; then none was added.
+fn merge_notes(views: &mut Views, offset: u64, notes: Catalogue) -> Result<(), AbsorbFault>
+    ensures merged { OnOk result (views.new ≡ union_of views.old notes) }
+    ensures err { OnErr result (views.new ≡ views.old) }
+    ensures some { OnErr result (notes ≢ []) }
+    ensures fault { IfErr result (λ fault. fault ≡ faults.OutOfMemory 0 offset) }
+{
+    if notes.is_empty() {
+        return Ok(());
     }
-    match views.merge(alloc, piece) {
-        Ok(()) => absorbed,
-        Err(OutOfMemory) => Err(AbsorbFault::OutOfMemory {
+    match views.merge(notes) {
+        Ok(()) => Ok(()),
+        Err(_) => Err(AbsorbFault::OutOfMemory {
             noted: 0,
             at: offset,
+        }),
+    }
+}
+
+/// Feeds the piece from the reader, and says what was noted of it.
+fn fill<R: Read>(
+    piece: &mut Piece,
+    from: &mut R,
+    limit: u64,
+    ticks: &mut ReadTicks,
+) -> Result<Report, AbsorbFault>
+    requires { (o : ℕ) × Fed o [] piece.old }
+    ensures reads { ticks.new.count ≤ ticks.old.count + limit + 1026 }
+    ensures counts { ticks.old.count ≤ ticks.new.count }
+    ensures taken { (o : ℕ) → Fed o [] piece.old
+        → AbsorbsFrom [] piece.new.notes (R.remaining from.old) (R.remaining from.new) o limit result }
+{
+    match read_all(piece, from, limit, ticks) {
+        Ok(()) => Ok(piece.report()),
+        Err(Cause::OutOfMemory) => Err(AbsorbFault::OutOfMemory {
+            noted: piece.noted(),
+            at: piece.at(),
+        }),
+        Err(Cause::ReadFault) => Err(AbsorbFault::ReadFault {
+            noted: piece.noted(),
+            at: piece.at(),
         }),
     }
 }
@@ -94,4 +177,17 @@ fn note_packet(
 pub fn packets_of_a_piece_stand_apart()
     ensures rising { (offset : ℕ) (bytes : List ℕ) → IsContent (notes_in offset bytes) }
     ensures apart { (offset : ℕ) (bytes : List ℕ) → AreApart offset (notes_in offset bytes) }
+{}
+
+/// A law of [`absorb`]: where a piece goes on at an offset after so many packets, the rest of it from there on is a piece
+/// that has the other packets and the same stop. So what a refused call counts and one of the rest complete the piece.
+pub fn going_on_completes_a_piece()
+    ensures within { (noted offset : ℕ) (bytes : List ℕ) (at : ℕ) → GoesOnAt noted offset bytes at
+        → (offset ≤ at) × (at < offset + length bytes) }
+    ensures notes { (noted offset : ℕ) (bytes : List ℕ) (at : ℕ) → GoesOnAt noted offset bytes at
+        → notes_in offset bytes ≡ first_notes_in noted offset bytes ++ notes_in at (drop (at - offset) bytes) }
+    ensures stop { (noted offset : ℕ) (bytes : List ℕ) (at : ℕ) → GoesOnAt noted offset bytes at
+        → stop_in offset bytes ≡ stop_in at (drop (at - offset) bytes) }
+    ensures content { (h : History) (noted offset : ℕ) (bytes : List ℕ) (at : ℕ) → GoesOnAt noted offset bytes at
+        → content (Absorb (Cut h offset bytes noted) at (drop (at - offset) bytes)) ≡ content (Absorb h offset bytes) }
 {}

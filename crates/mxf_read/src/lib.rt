@@ -1,8 +1,13 @@
-//! Pieces of a file, noted into views (this project's profile).
+//! Pieces of a file, noted into views (this project's profile): the entrance for who has bytes. What is then asked of the
+//! views, mxf_views says; the crate mxf_example is a whole program.
+//!
+//! A piece is bytes that begin at a packet, and the file offset of the first, in bytes. Pieces may come in any order,
+//! overlap and repeat.
 //!
 //! What is proved: after [`absorb`] the views hold what they held and the notes of the piece's packets, and the report
 //! tells the number of packets and why they end. Where memory was wanting they hold what they held and the notes of the
-//! packets that the fault counts. [`packets_of_a_piece_stand_apart`] says how the packets of a piece lie.
+//! packets that the fault counts, and [`going_on_completes_a_piece`] says that the rest completes the piece.
+//! [`packets_of_a_piece_stand_apart`] says how the packets of a piece lie.
 //!
 //! That memory is there, and that a call succeeds with it, is tested.
 //!
@@ -17,8 +22,15 @@
 #![tactic(auto)]
 
 mod absorbing;
+mod coming;
+mod piece;
+mod reading;
 mod report;
+mod ticks;
 
-pub use absorbing::{absorb, packets_of_a_piece_stand_apart};
+pub use absorbing::{
+    absorb, absorb_from, going_on_completes_a_piece, packets_of_a_piece_stand_apart,
+};
 pub use mxf_klv::Stop;
 pub use report::{AbsorbFault, Report};
+pub use ticks::ReadTicks;

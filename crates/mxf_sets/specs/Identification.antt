@@ -5,14 +5,13 @@ use Rattle.std.specs.Option.{option_map}
 use Rattle.mxf_sets.specs.declared.record.Field.{Field}
 use Rattle.mxf_sets.specs.declared.record.FieldFault.{FieldFault}
 use Rattle.mxf_sets.specs.declared.record.Shape.TheVariants.{Exactly, Any}
-use Rattle.mxf_sets.specs.declared.record.TheConstants.{INSTANCE_UID}
-use Rattle.mxf_sets.specs.declared.record.identification.TheConstants.{THIS_GENERATION_UID, COMPANY_NAME, PRODUCT_NAME}
-use Rattle.mxf_sets.specs.declared.record.identification.TheConstants.{VERSION_STRING, PRODUCT_UID, MODIFICATION_DATE}
 use Rattle.mxf_sets.specs.declared.record.timestamp.Timestamp.{Timestamp}
 use Rattle.mxf_sets.specs.Fields.{required, optional, record_at}
 use Rattle.mxf_sets.specs.Items.{ItemParts}
 use Rattle.mxf_sets.specs.Lookup.{bytes_of, value_of}
 use Rattle.mxf_sets.specs.Timestamp.{timestamp_of}
+use Rattle.mxf_sets.specs.Tags.{instance_uid_tag, this_generation_uid_tag, company_name_tag, product_name_tag}
+use Rattle.mxf_sets.specs.Tags.{version_string_tag, product_uid_tag, modification_date_tag}
 
 -- An Identification; texts are the bytes of their items.
 pub record IdentificationParts : Type 0 where
@@ -27,25 +26,25 @@ pub record IdentificationParts : Type 0 where
 -- The fields in the order of testing.
 abbrev pub identification_fields : List Field
 identification_fields =
-    required INSTANCE_UID (Exactly 16)
-    ∷ optional THIS_GENERATION_UID (Exactly 16)
-    ∷ optional COMPANY_NAME Any
-    ∷ optional PRODUCT_NAME Any
-    ∷ optional VERSION_STRING Any
-    ∷ optional PRODUCT_UID (Exactly 16)
-    ∷ optional MODIFICATION_DATE (Exactly 8)
+    required instance_uid_tag (Exactly 16)
+    ∷ optional this_generation_uid_tag (Exactly 16)
+    ∷ optional company_name_tag Any
+    ∷ optional product_name_tag Any
+    ∷ optional version_string_tag Any
+    ∷ optional product_uid_tag (Exactly 16)
+    ∷ optional modification_date_tag (Exactly 8)
     ∷ []
 
 -- The record of items that have met the table.
 abbrev pub identification_of : List ItemParts → IdentificationParts
 identification_of items = record {
-  instance_uid = bytes_of INSTANCE_UID items;
-  this_generation_uid = value_of THIS_GENERATION_UID items;
-  company_name = value_of COMPANY_NAME items;
-  product_name = value_of PRODUCT_NAME items;
-  version_string = value_of VERSION_STRING items;
-  product_uid = value_of PRODUCT_UID items;
-  modification_date = option_map timestamp_of (value_of MODIFICATION_DATE items);
+  instance_uid = bytes_of instance_uid_tag items;
+  this_generation_uid = value_of this_generation_uid_tag items;
+  company_name = value_of company_name_tag items;
+  product_name = value_of product_name_tag items;
+  version_string = value_of version_string_tag items;
+  product_uid = value_of product_uid_tag items;
+  modification_date = option_map timestamp_of (value_of modification_date_tag items);
 }
 
 -- The record of a value, or the first fault.

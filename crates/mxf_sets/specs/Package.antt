@@ -5,15 +5,14 @@ use Rattle.std.specs.Option.{option_map}
 use Rattle.mxf_sets.specs.declared.record.Field.{Field}
 use Rattle.mxf_sets.specs.declared.record.FieldFault.{FieldFault}
 use Rattle.mxf_sets.specs.declared.record.Shape.TheVariants.{Exactly, References, Any}
-use Rattle.mxf_sets.specs.declared.record.TheConstants.{INSTANCE_UID}
-use Rattle.mxf_sets.specs.declared.record.package.TheConstants.{PACKAGE_UID, NAME, CREATION_DATE, MODIFIED_DATE}
-use Rattle.mxf_sets.specs.declared.record.package.TheConstants.{TRACKS, DESCRIPTOR}
 use Rattle.mxf_sets.specs.declared.record.timestamp.Timestamp.{Timestamp}
 use Rattle.mxf_sets.specs.Fields.{required, optional, record_at}
 use Rattle.mxf_sets.specs.Items.{ItemParts}
 use Rattle.mxf_sets.specs.Lookup.{bytes_of, value_of}
 use Rattle.mxf_sets.specs.Reference.{references_in}
 use Rattle.mxf_sets.specs.Timestamp.{timestamp_of}
+use Rattle.mxf_sets.specs.Tags.{instance_uid_tag, package_uid_tag, name_tag, creation_date_tag, modified_date_tag}
+use Rattle.mxf_sets.specs.Tags.{tracks_tag, descriptor_tag}
 
 -- A package; the name is the bytes of its item.
 pub record PackageParts : Type 0 where
@@ -28,25 +27,25 @@ pub record PackageParts : Type 0 where
 -- The fields in the order of testing.
 abbrev pub package_fields : List Field
 package_fields =
-    required INSTANCE_UID (Exactly 16)
-    ∷ required PACKAGE_UID (Exactly 32)
-    ∷ optional NAME Any
-    ∷ optional CREATION_DATE (Exactly 8)
-    ∷ optional MODIFIED_DATE (Exactly 8)
-    ∷ optional TRACKS References
-    ∷ optional DESCRIPTOR (Exactly 16)
+    required instance_uid_tag (Exactly 16)
+    ∷ required package_uid_tag (Exactly 32)
+    ∷ optional name_tag Any
+    ∷ optional creation_date_tag (Exactly 8)
+    ∷ optional modified_date_tag (Exactly 8)
+    ∷ optional tracks_tag References
+    ∷ optional descriptor_tag (Exactly 16)
     ∷ []
 
 -- The record of items that have met the table.
 abbrev pub package_of : List ItemParts → PackageParts
 package_of items = record {
-  instance_uid = bytes_of INSTANCE_UID items;
-  package_uid = bytes_of PACKAGE_UID items;
-  name = value_of NAME items;
-  creation_date = option_map timestamp_of (value_of CREATION_DATE items);
-  modified_date = option_map timestamp_of (value_of MODIFIED_DATE items);
-  tracks = references_in TRACKS items;
-  descriptor = value_of DESCRIPTOR items;
+  instance_uid = bytes_of instance_uid_tag items;
+  package_uid = bytes_of package_uid_tag items;
+  name = value_of name_tag items;
+  creation_date = option_map timestamp_of (value_of creation_date_tag items);
+  modified_date = option_map timestamp_of (value_of modified_date_tag items);
+  tracks = references_in tracks_tag items;
+  descriptor = value_of descriptor_tag items;
 }
 
 -- The record of a value, or the first fault.

@@ -3,12 +3,11 @@ use Rattle.std.specs.Prelude.{ℕ, List, [], ◌∷◌, Result}
 use Rattle.mxf_sets.specs.declared.record.Field.{Field}
 use Rattle.mxf_sets.specs.declared.record.FieldFault.{FieldFault}
 use Rattle.mxf_sets.specs.declared.record.Shape.TheVariants.{Exactly, References}
-use Rattle.mxf_sets.specs.declared.record.TheConstants.{INSTANCE_UID}
-use Rattle.mxf_sets.specs.declared.record.preface.TheConstants.{CONTENT_STORAGE, IDENTIFICATIONS}
 use Rattle.mxf_sets.specs.Fields.{required, optional, record_at}
 use Rattle.mxf_sets.specs.Items.{ItemParts}
 use Rattle.mxf_sets.specs.Lookup.{bytes_of}
 use Rattle.mxf_sets.specs.Reference.{references_in}
+use Rattle.mxf_sets.specs.Tags.{instance_uid_tag, content_storage_tag, identifications_tag}
 
 -- A Preface: identifiers of sixteen bytes, and references to the identifications.
 pub record PrefaceParts : Type 0 where
@@ -19,17 +18,17 @@ pub record PrefaceParts : Type 0 where
 -- The fields in the order of testing.
 abbrev pub preface_fields : List Field
 preface_fields =
-    required INSTANCE_UID (Exactly 16)
-    ∷ required CONTENT_STORAGE (Exactly 16)
-    ∷ optional IDENTIFICATIONS References
+    required instance_uid_tag (Exactly 16)
+    ∷ required content_storage_tag (Exactly 16)
+    ∷ optional identifications_tag References
     ∷ []
 
 -- The record of items that have met the table.
 abbrev pub preface_of : List ItemParts → PrefaceParts
 preface_of items = record {
-  instance_uid = bytes_of INSTANCE_UID items;
-  content_storage = bytes_of CONTENT_STORAGE items;
-  identifications = references_in IDENTIFICATIONS items;
+  instance_uid = bytes_of instance_uid_tag items;
+  content_storage = bytes_of content_storage_tag items;
+  identifications = references_in identifications_tag items;
 }
 
 -- The record of a value, or the first fault.

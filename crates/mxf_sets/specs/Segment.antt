@@ -12,12 +12,12 @@ use Rattle.mxf_sets.specs.declared.record.Shape.TheVariants.{Exactly, Any}
 use Rattle.mxf_sets.specs.declared.segment.SegmentFault.{SegmentFault}
 use Rattle.mxf_sets.specs.declared.segment.SegmentFault.TheVariants.{Negative, BadEntries}
 use Rattle.mxf_sets.specs.declared.segment.numbers.SegmentNumbers.{SegmentNumbers}
-use Rattle.mxf_sets.specs.declared.segment.numbers.TheConstants.{EDIT_RATE, START, DURATION, UNIT_BYTES, INDEX_SID}
-use Rattle.mxf_sets.specs.declared.segment.numbers.TheConstants.{BODY_SID, SLICES, POSITIONS, ENTRIES}
 use Rattle.mxf_sets.specs.Faults.{segment_fault}
 use Rattle.mxf_sets.specs.Fields.{required, optional, fields_at, is_batch}
 use Rattle.mxf_sets.specs.Items.{ItemParts, item, item_bytes}
 use Rattle.mxf_sets.specs.Lookup.{bytes_of, value_of}
+use Rattle.mxf_sets.specs.Tags.{edit_rate_tag, start_tag, duration_tag, unit_bytes_tag, index_sid_tag, body_sid_tag}
+use Rattle.mxf_sets.specs.Tags.{slices_tag, positions_tag, entries_tag}
 
 -- A segment: its numbers, and the bytes of its entries, one entry after another.
 pub record SegmentParts : Type 0 where
@@ -64,15 +64,15 @@ pub record AreSegmentNumbers (n : SegmentNumbers) : Type 0 where
 -- The fields in the order of testing and writing.
 abbrev pub segment_fields : List Field
 segment_fields =
-    required EDIT_RATE (Exactly 8)
-    ∷ required START (Exactly 8)
-    ∷ required DURATION (Exactly 8)
-    ∷ optional UNIT_BYTES (Exactly 4)
-    ∷ optional INDEX_SID (Exactly 4)
-    ∷ required BODY_SID (Exactly 4)
-    ∷ optional SLICES (Exactly 1)
-    ∷ optional POSITIONS (Exactly 1)
-    ∷ optional ENTRIES Any
+    required edit_rate_tag (Exactly 8)
+    ∷ required start_tag (Exactly 8)
+    ∷ required duration_tag (Exactly 8)
+    ∷ optional unit_bytes_tag (Exactly 4)
+    ∷ optional index_sid_tag (Exactly 4)
+    ∷ required body_sid_tag (Exactly 4)
+    ∷ optional slices_tag (Exactly 1)
+    ∷ optional positions_tag (Exactly 1)
+    ∷ optional entries_tag Any
     ∷ []
 
 -- The signed number of four bytes at the front.
@@ -90,14 +90,14 @@ number_in width tag items = option_map_or (big_number width) (value_of tag items
 -- The numbers of items that have met the table.
 abbrev pub segment_numbers : List ItemParts → SegmentNumbers
 segment_numbers items = record {
-  edit_rate = (signed_4 (bytes_of EDIT_RATE items), signed_4 (drop 4 (bytes_of EDIT_RATE items)));
-  start = signed_8 (bytes_of START items);
-  duration = signed_8 (bytes_of DURATION items);
-  unit_bytes = number_in 4 UNIT_BYTES items;
-  index_sid = number_in 4 INDEX_SID items;
-  body_sid = big_number 4 (bytes_of BODY_SID items);
-  slices = number_in 1 SLICES items;
-  positions = number_in 1 POSITIONS items;
+  edit_rate = (signed_4 (bytes_of edit_rate_tag items), signed_4 (drop 4 (bytes_of edit_rate_tag items)));
+  start = signed_8 (bytes_of start_tag items);
+  duration = signed_8 (bytes_of duration_tag items);
+  unit_bytes = number_in 4 unit_bytes_tag items;
+  index_sid = number_in 4 index_sid_tag items;
+  body_sid = big_number 4 (bytes_of body_sid_tag items);
+  slices = number_in 1 slices_tag items;
+  positions = number_in 1 positions_tag items;
 }
 
 -- The entries of an entry array, which has to be a batch of whole entries: what follows its count and item size.
@@ -108,14 +108,14 @@ entries_at n array = if is_batch (entry_size n) array then Some (drop 8 array) e
 -- there are those of the entry array, where there is one.
 abbrev pub entries_in : SegmentNumbers → List ItemParts → Option (List ℕ)
 entries_in n items =
-    if is_constant n then Some [] else option_map_or (entries_at n) (value_of ENTRIES items) (Some [])
+    if is_constant n then Some [] else option_map_or (entries_at n) (value_of entries_tag items) (Some [])
 
 -- The segment that items make which have met the table.
 abbrev pub segment_of : List ItemParts → Result SegmentParts SegmentFault
 segment_of items =
     let n = segment_numbers items in
-    if is_negative n.start then Err (Negative START)
-    else (if is_negative n.duration then Err (Negative DURATION)
+    if is_negative n.start then Err (Negative start_tag)
+    else (if is_negative n.duration then Err (Negative duration_tag)
     else ok_or (option_map (segment_parts n) (entries_in n items)) BadEntries)
 
 -- What follows where the items have met the table, and else their fault.
@@ -139,19 +139,19 @@ signed_bytes_8 z = big_bytes 8 (cast_unsigned w64 z)
 -- The items of the numbers, all of which are written (this project's profile).
 abbrev pub number_items : SegmentNumbers → List ItemParts
 number_items n =
-    item EDIT_RATE (signed_bytes_4 n.edit_rate.0 ++ signed_bytes_4 n.edit_rate.1)
-    ∷ item START (signed_bytes_8 n.start)
-    ∷ item DURATION (signed_bytes_8 n.duration)
-    ∷ item UNIT_BYTES (big_bytes 4 n.unit_bytes)
-    ∷ item INDEX_SID (big_bytes 4 n.index_sid)
-    ∷ item BODY_SID (big_bytes 4 n.body_sid)
-    ∷ item SLICES (n.slices ∷ [])
-    ∷ item POSITIONS (n.positions ∷ [])
+    item edit_rate_tag (signed_bytes_4 n.edit_rate.0 ++ signed_bytes_4 n.edit_rate.1)
+    ∷ item start_tag (signed_bytes_8 n.start)
+    ∷ item duration_tag (signed_bytes_8 n.duration)
+    ∷ item unit_bytes_tag (big_bytes 4 n.unit_bytes)
+    ∷ item index_sid_tag (big_bytes 4 n.index_sid)
+    ∷ item body_sid_tag (big_bytes 4 n.body_sid)
+    ∷ item slices_tag (n.slices ∷ [])
+    ∷ item positions_tag (n.positions ∷ [])
     ∷ []
 
 -- The entry array: the batch of the entries.
 abbrev pub entry_item : SegmentParts → ItemParts
-entry_item s = item ENTRIES ((big_bytes 4 (entry_count s) ++ big_bytes 4 (entry_size s.numbers)) ++ s.entries)
+entry_item s = item entries_tag ((big_bytes 4 (entry_count s) ++ big_bytes 4 (entry_size s.numbers)) ++ s.entries)
 
 -- The entry array is written only where edit units have no constant size, also where it has no entry.
 abbrev pub entry_items : SegmentParts → List ItemParts

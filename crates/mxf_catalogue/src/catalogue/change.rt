@@ -1,5 +1,5 @@
 //! What adding a note did, or why it wasn't added.
-ghost use Rattle.std.specs.Prelude.{◌≡◌, ◌↔◌, List, map};
+ghost use Rattle.std.specs.Prelude.{◌≡◌, ◌↔◌, List, map, IfOk};
 ghost use Rattle.std.specs.Ordering.{nat_cmp};
 ghost use Rattle.mxf_klv.specs.Parts.{NoteParts};
 ghost use Rattle.mxf_klv.specs.Rising.{In, IsRising};
@@ -8,16 +8,68 @@ ghost use Rattle.mxf_catalogue.specs.Disputes.{IsClear, IsDisputed};
 ghost use Rattle.mxf_catalogue.specs.Parts.{moved_by, moved_notes};
 
 use mxf_klv::{Note, OutOfMemory};
+use std::alloc::{AllocError, Global};
+use std::marker::Model;
 use thiserror::Error;
+
+/// File offsets of notes, in bytes, in the order of the notes.
+#[derive(Debug, Drop)]
+pub struct Offsets {
+    items: Vec<u64>,
+}
+
+impl Model for Offsets {
+    ghost use Rattle.std.specs.Prelude.{List, ℕ};
+
+    ghost Value = { List ℕ };
+
+    ghost view = { λ o. o.items.items };
+}
+
+impl Offsets {
+    pub(super) fn of(alloc: Global, notes: &[Note]) -> Result<Offsets, AllocError>
+        ensures { IfOk result (λ o. o ≡ map (λ n. n.offset) notes.now) }
+    {
+        let items = notes.iter().map(|note| note.offset()).collect(alloc)?;
+        Ok(Offsets { items })
+    }
+
+    /// The offsets.
+    pub fn as_slice(&self) -> &[u64]
+        ensures { result.now ≡ self.now }
+    {
+        self.items.as_slice()
+    }
+}
+
+impl PartialEq for Offsets {
+    ghost use Rattle.std.specs.Prelude.{nat_eq};
+    ghost use Rattle.std.specs.Cmp.{partial_equiv_from_equiv};
+    ghost use Rattle.std.specs.Cmp.Lexicographic.{pointwise};
+    ghost use Rattle.std.proofs.lemmas.Cmp.{nat_list_eq_equiv};
+
+    ghost eq = { pointwise nat_eq };
+
+    ghost laws = { partial_equiv_from_equiv nat_list_eq_equiv };
+
+    fn eq(&self, other: &Offsets) -> bool {
+        self.items == other.items
+    }
+}
+
+impl Eq for Offsets {
+    ghost use Rattle.std.proofs.lemmas.Cmp.{nat_list_eq_equiv};
+
+    ghost laws = { nat_list_eq_equiv };
+}
 
 /// What adding a note did.
 #[derive(Debug, Drop, PartialEq, Eq)]
 pub enum Change {
     /// The note was held already.
     Repeated,
-    /// The note is new. The file offsets, in bytes and rising, are those of the notes that were clear before and are
-    /// disputed now.
-    Added { moved: Vec<u64> },
+    /// The note is new. The offsets, rising, are those of the notes that were clear before and are disputed now.
+    Added { moved: Offsets },
 }
 
 /// There was no memory for the note, which comes back.

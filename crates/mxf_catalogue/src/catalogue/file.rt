@@ -1,11 +1,13 @@
 //! The file of a catalogue, version 1 (this project's profile).
-ghost use Rattle.std.specs.Prelude.{◌≡◌, ◌≢◌, ◌++◌, ◌∷◌, ◌<◌, ◌^◌, ◌↔◌, [], ℕ, List, length, flat_map};
+ghost use Rattle.std.specs.Prelude.{◌≡◌, ◌≢◌, ◌⊎◌, ◌++◌, ◌∷◌, ◌<◌, ◌^◌, ◌↔◌, [], ℕ, List, length, flat_map};
 ghost use Rattle.std.specs.Prelude.{IfErr, IfOk, IsTrue, Result, Ok, Err};
+ghost use Rattle.mxf_klv.specs.Bytes.{AreBytes};
 ghost use Rattle.mxf_klv.specs.Parts.{NoteParts};
 ghost use Rattle.mxf_klv.specs.Written.{Puts};
 ghost use Rattle.mxf_catalogue.specs.Content.{IsCatalogue, IsContent};
 ghost use Rattle.mxf_catalogue.specs.CatalogueFile.{IsFileOf, IsRefused, ReadsFile};
 ghost use Rattle.mxf_catalogue.specs.CatalogueFile.{file_bytes, note_bytes, start_bytes};
+ghost use Rattle.mxf_catalogue.specs.History.{Read, content};
 ghost use Rattle.mxf_catalogue.specs.declared.catalogue.file.FileFault.{FileFault};
 ghost use Rattle.mxf_catalogue.specs.declared.catalogue.file.FileFault.TheVariants as faults;
 
@@ -77,7 +79,8 @@ impl Catalogue {
     /// Memory is taken for one note after another, as they are found whole: the count that the file tells takes none by
     /// itself. The causes of a refusal, in their order, are those of [`FileFault`].
     pub fn read(alloc: Global, bytes: &[u8]) -> Result<Catalogue, FileFault>
-        ensures { ReadsFile bytes.now result }
+        ensures reads { ReadsFile bytes.now result }
+        ensures history { IfOk result (λ c. (is : IsFileOf bytes.now c) × (c ≡ content (Read bytes.now c is))) }
     {
         let (count, rest) = split_start(bytes)?;
         let notes = read_notes(alloc, bytes, count, rest)?;
@@ -150,6 +153,14 @@ pub fn one_file_reading()
     ensures { (bytes : List ℕ) (r s : Result (List NoteParts) FileFault)
         → r ≢ Err faults.OutOfMemory → s ≢ Err faults.OutOfMemory
         → ReadsFile bytes r → ReadsFile bytes s → r ≡ s }
+{}
+
+/// A law of [`Catalogue::read`]: bytes are the file of a content, or there is a cause in them why they are none. By
+/// [`one_file_reading`] it is one content or one fault.
+pub fn bytes_are_a_file_or_refused()
+    ensures { (bytes : List ℕ) → AreBytes bytes
+        → ((notes : List NoteParts) × IsFileOf bytes notes)
+        ⊎ ((fault : FileFault) × (fault ≢ faults.OutOfMemory) × IsRefused bytes fault) }
 {}
 
 /// A law: bytes are the file of one content at most, and a content has one file at most. So catalogues that write equal

@@ -1,13 +1,63 @@
-//! The notes of two contents in one list, by moving them.
+//! Merging: the notes of two contents in one list, by moving them, and the room for that.
 ghost use Rattle.std.specs.Prelude.{◌≡◌, ◌+◌, ◌≤◌, ◌∷◌, [], length, vec_len, vec_capacity};
-ghost use Rattle.std.specs.Prelude.{IfSome, MatchOption};
+ghost use Rattle.std.specs.Prelude.{IfOk, IfSome, MatchOption};
 ghost use Rattle.std.specs.Iterator.{YieldsFirst, item_count};
 ghost use Rattle.mxf_catalogue.specs.Content.{IsContent, union_of};
+ghost use Rattle.mxf_catalogue.specs.Rooms.{IsRoomFor};
 
-use mxf_klv::Note;
+use super::Catalogue;
+use super::parts::Parts;
+use crate::run::Run;
+use mxf_klv::{Note, OutOfMemory};
+use std::alloc::{AllocError, Global};
 use std::cmp::Ordering;
 use std::collections::VecDeque;
 use std::marker::Model;
+use thiserror::Error;
+
+/// There was no memory to merge the other catalogue, which comes back.
+#[derive(Debug, Drop, Error)]
+#[error("out of memory")]
+pub struct MergeFault {
+    pub other: Catalogue,
+}
+
+impl From<MergeFault> for OutOfMemory {
+    fn from(_fault: MergeFault) -> OutOfMemory {
+        OutOfMemory
+    }
+}
+
+/// What the merging of two catalogues needs: a list for the notes of each, and parts and runs for those of both.
+#[derive(Debug, Drop)]
+pub(super) struct Room {
+    pub own: Vec<Note>,
+    pub others: Vec<Note>,
+    pub parts: Parts,
+    pub runs: Vec<Run>,
+}
+
+impl Room {
+    /// Room for so many notes of each.
+    pub fn of(alloc: Global, own: usize, others: usize) -> Result<Room, AllocError>
+        ensures own { IfOk result (λ r. IsRoomFor own r.own) }
+        ensures others { IfOk result (λ r. IsRoomFor others r.others) }
+        ensures clear { IfOk result (λ r. IsRoomFor (own + others) r.parts.clear) }
+        ensures disputed { IfOk result (λ r. IsRoomFor (own + others) r.parts.disputed) }
+        ensures disputed_spans { IfOk result (λ r. IsRoomFor (own + others) r.parts.disputed_spans) }
+        ensures runs { IfOk result (λ r. IsRoomFor (own + others) r.runs) }
+    {
+        let own_notes = Vec::with_capacity(alloc, own)?;
+        let other_notes = Vec::with_capacity(alloc, others)?;
+        let count = own + others;
+        Ok(Room {
+            own: own_notes,
+            others: other_notes,
+            parts: Parts::with_room(alloc, count)?,
+            runs: Vec::with_capacity(alloc, count)?,
+        })
+    }
+}
 
 /// The notes that two contents have left, in their order, each once. They are moved out.
 #[derive(Debug, Drop)]
@@ -39,13 +89,6 @@ impl MergedNotes {
             left: VecDeque::from(left),
             right: VecDeque::from(right),
         }
-    }
-
-    /// A number that they don't pass.
-    pub fn most(&self) -> usize
-        ensures { length self.now ≤ result }
-    {
-        self.left.len() + self.right.len()
     }
 }
 

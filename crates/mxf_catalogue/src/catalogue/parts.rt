@@ -7,9 +7,11 @@ ghost use Rattle.mxf_catalogue.specs.Content.{IsContent, union_of, with_note};
 ghost use Rattle.mxf_catalogue.specs.Covers.{IsCover};
 ghost use Rattle.mxf_catalogue.specs.Disputes.{SharesByte};
 ghost use Rattle.mxf_catalogue.specs.Parts.{AreParts, IsKept, IsWhole, touching};
+ghost use Rattle.mxf_catalogue.specs.Rooms.{IsRoomFor};
 
+use super::change::Offsets;
 use super::merging::{MergedNotes, merged};
-use super::placing::{hull, is_in, move_touched, offsets, put, touched};
+use super::placing::{hull, is_in, move_touched, put, touched};
 use crate::cover::{meets, put_run};
 use crate::run::Run;
 use mxf_klv::{MAX, Note};
@@ -47,12 +49,12 @@ impl Parts {
     }
 
     /// Makes room for a new note and for those that it moves, whose offsets are the answer.
-    pub fn make_room(&mut self, note: &Note) -> Result<Vec<u64>, AllocError>
+    pub fn make_room(&mut self, note: &Note) -> Result<Offsets, AllocError>
         requires { AreParts self.old.clear.items self.old.disputed.items }
         ensures clear { self.new.clear.items ≡ self.old.clear.items }
         ensures disputed { self.new.disputed.items ≡ self.old.disputed.items }
         ensures disputed_spans { self.new.disputed_spans.items ≡ self.old.disputed_spans.items }
-        ensures moved { IfOk result (λ v. v.items ≡ map (λ n. n.offset) (touching note.now self.old.clear.items)) }
+        ensures moved { IfOk result (λ o. o ≡ map (λ n. n.offset) (touching note.now self.old.clear.items)) }
         ensures clear_room { OnOk result (vec_len self.new.clear < vec_capacity self.new.clear) }
         ensures disputed_room { OnOk result (vec_len self.new.disputed + length (touching note.now self.new.clear.items)
             < vec_capacity self.new.disputed) }
@@ -60,7 +62,7 @@ impl Parts {
     {
         let moved = touched(&self.clear, note);
         let count = moved.len() + 1;
-        let moved = offsets(*self.clear.allocator(), moved)?;
+        let moved = Offsets::of(*self.clear.allocator(), moved)?;
         self.clear.reserve(1)?;
         self.disputed.reserve(count)?;
         self.disputed_spans.reserve(1)?;
@@ -112,11 +114,9 @@ impl Parts {
 
     /// Empty parts with room for so many notes.
     pub fn with_room(alloc: Global, count: usize) -> Result<Parts, AllocError>
-        ensures clear { IfOk result (λ p. (p.clear.items ≡ []) × (vec_len p.clear ≡ 0)) }
-        ensures disputed { IfOk result (λ p. (p.disputed.items ≡ []) × (vec_len p.disputed ≡ 0)) }
-        ensures disputed_spans { IfOk result (λ p. (p.disputed_spans.items ≡ []) × (vec_len p.disputed_spans ≡ 0)) }
-        ensures room { IfOk result (λ p. (count ≤ vec_capacity p.clear) × (count ≤ vec_capacity p.disputed)
-            × (count ≤ vec_capacity p.disputed_spans)) }
+        ensures clear { IfOk result (λ p. IsRoomFor count p.clear) }
+        ensures disputed { IfOk result (λ p. IsRoomFor count p.disputed) }
+        ensures disputed_spans { IfOk result (λ p. IsRoomFor count p.disputed_spans) }
     {
         Ok(Parts {
             clear: Vec::with_capacity(alloc, count)?,

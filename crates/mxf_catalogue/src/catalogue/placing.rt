@@ -12,7 +12,6 @@ ghost use Rattle.mxf_catalogue.specs.Parts.{StandApart, touching, away_from, run
 
 use crate::run::Run;
 use mxf_klv::Note;
-use std::alloc::{AllocError, Global};
 
 /// Where the note is, or where it goes: behind all others at once where it stands above them, else by binary search.
 fn place(notes: &[Note], note: &Note) -> Result<usize, usize>
@@ -42,7 +41,10 @@ pub(super) fn ending_by(notes: &[Note], offset: u64) -> usize
     ensures below { AllWithin (λ n. end_of n ≤ offset) notes.now 0 result }
     ensures above { AllWithin (λ n. offset < end_of n) notes.now result (length notes.now) }
 {
-    notes.partition_point(|note| note.end() <= offset)
+    match notes.last() {
+        Some(last) if last.end() <= offset => notes.len(),
+        _ => notes.partition_point(|note| note.end() <= offset),
+    }
 }
 
 /// The number of the notes that start below the offset.
@@ -52,7 +54,10 @@ pub(super) fn starting_below(notes: &[Note], offset: u64) -> usize
     ensures below { AllWithin (λ n. n.offset < offset) notes.now 0 result }
     ensures above { AllWithin (λ n. offset ≤ n.offset) notes.now result (length notes.now) }
 {
-    notes.partition_point(|note| note.offset() < offset)
+    match notes.last() {
+        Some(last) if last.offset() < offset => notes.len(),
+        _ => notes.partition_point(|note| note.offset() < offset),
+    }
 }
 
 /// From where to where the notes, of which no two share a byte, share one with the note.
@@ -161,11 +166,4 @@ pub(super) fn hull(note: &Note, others: &[Note]) -> Run
         };
     }
     all
-}
-
-/// The offsets of the notes.
-pub(super) fn offsets(alloc: Global, notes: &[Note]) -> Result<Vec<u64>, AllocError>
-    ensures { IfOk result (λ v. v.items ≡ map (λ n. n.offset) notes.now) }
-{
-    notes.iter().map(|note| note.offset()).collect(alloc)
 }

@@ -14,7 +14,10 @@ fn ending_by(runs: &[Run], offset: u64) -> usize
     ensures below { AllWithin (λ r. r.end ≤ offset) runs.now 0 result }
     ensures above { AllWithin (λ r. offset < r.end) runs.now result (length runs.now) }
 {
-    runs.partition_point(|run| run.end <= offset)
+    match runs.last() {
+        Some(last) if last.end <= offset => runs.len(),
+        _ => runs.partition_point(|run| run.end <= offset),
+    }
 }
 
 /// Whether an offset from `first` to `last`, both included, lies in one of the runs of a cover.
@@ -37,7 +40,10 @@ fn ending_below(runs: &[Run], offset: u64) -> usize
     ensures below { AllWithin (λ r. r.end < offset) runs.now 0 result }
     ensures above { AllWithin (λ r. offset ≤ r.end) runs.now result (length runs.now) }
 {
-    runs.partition_point(|run| run.end < offset)
+    match runs.last() {
+        Some(last) if last.end < offset => runs.len(),
+        _ => runs.partition_point(|run| run.end < offset),
+    }
 }
 
 /// The number of the runs that start at or below the offset.
@@ -47,7 +53,10 @@ fn starting_by(runs: &[Run], offset: u64) -> usize
     ensures below { AllWithin (λ r. r.start ≤ offset) runs.now 0 result }
     ensures above { AllWithin (λ r. offset < r.start) runs.now result (length runs.now) }
 {
-    runs.partition_point(|run| run.start <= offset)
+    match runs.last() {
+        Some(last) if last.start <= offset => runs.len(),
+        _ => runs.partition_point(|run| run.start <= offset),
+    }
 }
 
 /// From the least start of the run and the others to the greatest end.

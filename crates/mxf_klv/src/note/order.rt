@@ -60,6 +60,6 @@ impl Ord for Note {
             .then(self.key.cmp(&other.key))
             .then(self.width.cmp(&other.width))
             .then(self.length.cmp(&other.length))
-            .then(self.held_bytes().cmp(&other.held_bytes()))
+            .then_with(|| self.held_bytes().cmp(&other.held_bytes()))
     }
 }

@@ -39,6 +39,20 @@ impl<'a> Head<'a> {
         Ok(Head { key, ber, after })
     }
 
+    /// The packet's key.
+    pub(crate) fn key(&self) -> Ul
+        ensures { result ≡ self.now.key }
+    {
+        self.key
+    }
+
+    /// The packet's length.
+    pub(crate) fn ber(&self) -> Ber
+        ensures { result ≡ self.now.ber }
+    {
+        self.ber
+    }
+
     /// The number of the packet's bytes.
     pub(crate) fn size(&self) -> u128
         ensures { result ≡ 16 + self.now.ber.width + self.now.ber.value }

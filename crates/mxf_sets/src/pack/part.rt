@@ -5,6 +5,7 @@ ghost use Rattle.mxf_sets.specs.PackReadings.{part_and_status};
 ghost use Rattle.mxf_sets.specs.PartitionPack.{IsPartitionKind, pack_key, pack_kind, part_byte, status_byte};
 
 use mxf_klv::{Kind, Status};
+use std::fmt;
 
 /// The part of the file that a partition is (ST 377-1, Partition Pack Key).
 #[derive(Clone, Copy, Debug, PartialEq, Eq)]
@@ -12,6 +13,22 @@ pub enum PackPart {
     Header,
     Body,
     Footer,
+}
+
+/// The word for the part, as in `footer`.
+impl fmt::Display for PackPart {
+    ghost use Rattle.std.specs.Prelude.{Some};
+    ghost use Rattle.mxf_sets.specs.Words.{part_name};
+
+    ghost output = { λ part. Some (part_name part) };
+
+    fn fmt<W: fmt::Write>(&self, f: &mut fmt::Formatter<W>) -> fmt::Result {
+        f.write_str(match *self {
+            PackPart::Header => "header",
+            PackPart::Body => "body",
+            PackPart::Footer => "footer",
+        })
+    }
 }
 
 impl PackPart {

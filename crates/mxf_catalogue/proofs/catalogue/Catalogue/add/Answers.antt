@@ -20,6 +20,9 @@ returns-then-have-clause-added c =
     let held = subst (λ (l : List NoteParts). In c.args.note l) c.self.view_is (c.have.ensures.0 c.if-have.true) in
     sym (with_one_present note_total note_cmp-IsAntisymmetric c.args.note c.args.self.now all.content held)
 
+pub returns-then-have-clause-history : goal.returns-then-have-clause-history
+returns-then-have-clause-history c h e = returns-then-have-clause-added c ∙ ap (with_note c.args.note) e
+
 pub invariant_of-self-2 : goal.invariant_of-self-2
 invariant_of-self-2 c =
     let parts = c.self.inside.parts in

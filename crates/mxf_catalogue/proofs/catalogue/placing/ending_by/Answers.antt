@@ -1,12 +1,22 @@
-use Rattle.std.proofs.Common.{rules, nat_le}
+use Rattle.std.proofs.Common.{rules, nat_le, arith, ap, length, sym, ◌-◌}
 use Rattle.std.proofs.lemmas.Bool.{leb-true, leb-false}
 use Rattle.std.proofs.lemmas.List.Sorted.{IsPartitionPoint-from_clause, IsPartitionedBy-leb}
+use Rattle.std.proofs.lemmas.Option.{get_or_from_slice_get, slice_get_within}
 use Rattle.mxf_klv.specs.Note.{end_of}
 use Rattle.mxf_catalogue.proofs.Ranges.{ends_rise}
 use Rattle.mxf_catalogue.proofs.catalogue.placing.ending_by.Goals as goal
 
-pub returns : goal.returns
-returns c =
+pub returns-in-Some-clause-below : goal.returns-in-Some-clause-below
+returns-in-Some-clause-below c j d l h =
+    let xs = c.args.notes.now in
+    let k = length xs - 1 in
+    let e = sym c.in-Some.ensures.value in
+    let at = get_or_from_slice_get xs k c.in-Some.last.now d e in
+    let up = ends_rise xs c.requires.content c.requires.apart j k d (omega arith) (slice_get_within xs k c.in-Some.last.now e) in
+    omega (arith, up, ap end_of at, c.if-end-offset.true, c.end.ensures)
+
+pub returns-in_default : goal.returns-in_default
+returns-in_default c =
     let parted = IsPartitionedBy-leb end_of _ c.args.offset (ends_rise _ c.requires.content c.requires.apart) in
     let point = IsPartitionPoint-from_clause
     (λ n. nat_le (end_of n) c.args.offset) _ _ c.partition_point.ensures.partitioned parted (λ a r q k. search rules) in

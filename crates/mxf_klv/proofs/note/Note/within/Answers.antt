@@ -1,4 +1,4 @@
-use Rattle.std.proofs.Common.{arith, rules}
+use Rattle.std.proofs.Common.{rules}
 use Rattle.mxf_klv.proofs.note.Note.within.Goals as goal
 use Rattle.mxf_klv.proofs.note.Note.within.Goals.{then-keeps+in_ok-from_slice, else-keeps}
 

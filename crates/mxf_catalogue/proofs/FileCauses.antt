@@ -1,0 +1,343 @@
+-- Bytes are the file of a content, or there is a cause in them why they are none.
+use Rattle.std.proofs.Common.{◌≡◌, ◌≢◌, ℕ, zero, suc, ◌+◌, ◌-◌, ◌^◌, ◌<◌, ◌≤◌, Bool, true, false, List, [], ◌∷◌, ◌++◌, length}
+use Rattle.std.proofs.Common.{take, drop, Option, None, Some, refl, sym, ap, subst, ◌∙◌, arith, inl, inr, ◌⊎◌}
+use Rattle.std.proofs.Common.{append_assoc, length-append, take-append-drop}
+use Rattle.std.proofs.lemmas.Bool.{cases_lt}
+use Rattle.std.proofs.lemmas.Bool.Decides.{Decides-eqb}
+use Rattle.std.proofs.lemmas.List.{length-drop, length-take}
+use Rattle.std.proofs.lemmas.Slice.Eq.{bytes_eq-Decides}
+use Rattle.std.specs.Bool.{Decides}
+use Rattle.std.specs.Int.{w64, from_be_bytes}
+use Rattle.std.specs.List.{AllByRecursion, slice_get}
+use Rattle.std.specs.Prelude.{IsSomeAnd, IfSome, ◌==◌}
+use Rattle.std.specs.Str.{bytes_eq}
+use Rattle.std.specs.declared.cmp.Ordering.{Ordering}
+use Rattle.std.specs.declared.cmp.Ordering.TheVariants.{Less, Equal, Greater}
+use Rattle.mxf_klv.specs.Bytes.{AreBytes}
+use Rattle.mxf_klv.specs.Label.{IsLabel, label_start}
+use Rattle.mxf_klv.specs.Note.{greatest_end, note_cmp}
+use Rattle.mxf_klv.specs.Parts.{CanSpell, NoteParts, note_parts}
+use Rattle.mxf_klv.specs.Rising.{IsRising}
+use Rattle.mxf_catalogue.specs.declared.catalogue.file.FileFault.{FileFault}
+use Rattle.mxf_catalogue.specs.declared.catalogue.file.FileFault.TheVariants.{BadMagic, BadVersion, Truncated, BadNote}
+use Rattle.mxf_catalogue.specs.declared.catalogue.file.FileFault.TheVariants.{NotSorted, Trailing, OutOfMemory}
+use Rattle.mxf_catalogue.specs.declared.catalogue.file.head.Head.{Head}
+use Rattle.mxf_catalogue.specs.CatalogueFile.{magic, version, number_bytes, start_bytes, head_bytes, held_length}
+use Rattle.mxf_catalogue.specs.CatalogueFile.{CanBeNoted, IsFileOf, IsFront, IsRefused, IsCutNote, BeginsAsFile}
+use Rattle.mxf_catalogue.specs.CatalogueFile.{BeginsWithHead, BeginsWithNote, place_after}
+use Rattle.mxf_catalogue.proofs.FileBytes.{front_begins, front_next, front_whole, length-head_bytes}
+use Rattle.mxf_catalogue.proofs.FileLaws.{if_some}
+use Rattle.mxf_catalogue.proofs.FileParts.{at_front_of_rest, head_split, number_split, start_split}
+
+-- ---- what can be decided
+
+abbrev Decided : Type 0 → Type 0
+Decided P = P ⊎ (P → ⊥)
+
+by_test : (b : Bool) (P : Type 0) → Decides b P → Decided P
+by_test true P d = inl (d.0 refl)
+by_test false P d = inr (λ p. let e = d.1 p in cc (e))
+
+equal : (m n : ℕ) → Decided (m ≡ n)
+equal m n = by_test (m == n) (m ≡ n) (Decides-eqb m n)
+
+at_most : (m n : ℕ) → Decided (m ≤ n)
+at_most m n = elim (cases_lt n m) [ inl above ↦ inr (λ h. omega arith) | inr h ↦ inl h ]
+
+can_spell : (width value : ℕ) → Decided (CanSpell width value)
+can_spell width value =
+    elim (equal width 1) [
+      | inl one ↦ elim (at_most value 127) [
+        | inl low ↦ inl (inl (one, low))
+        | inr high ↦ inr (λ s. elim s [ inl a ↦ high a.1 | inr b ↦ omega (arith, b.0) ])
+      ]
+      | inr more ↦ elim (at_most 2 width) [
+        | inr few ↦ inr (λ s. elim s [ inl a ↦ more a.0 | inr b ↦ few b.0 ])
+        | inl some ↦ elim (at_most width 9) [
+          | inr many ↦ inr (λ s. elim s [ inl a ↦ more a.0 | inr b ↦ many b.1 ])
+          | inl fits ↦ elim (cases_lt value (256 ^ (width - 1))) [
+            | inl low ↦ inl (inr (some, fits, low))
+            | inr high ↦ inr (λ s. elim s [ inl a ↦ more a.0 | inr b ↦ omega (arith, b.2, high) ])
+          ]
+        ]
+      ]
+    ]
+
+is_label : (key : List ℕ) → Decided (IsLabel key)
+is_label key =
+    elim (equal (length key) 16) [
+      | inr short ↦ inr (λ l. short l.0)
+      | inl long ↦ elim (by_test (bytes_eq (take 4 key) label_start) (take 4 key ≡ label_start)
+          (bytes_eq-Decides (take 4 key) label_start)) [
+            | inl begins ↦ inl (long, begins)
+            | inr never ↦ inr (λ l. never l.1)
+          ]
+    ]
+
+can_be_noted : (h : Head) → Decided (CanBeNoted h)
+can_be_noted h =
+    elim (is_label h.key) [
+      | inr never ↦ inr (λ c. never c.label)
+      | inl label ↦ elim (can_spell h.width h.length) [
+        | inr never ↦ inr (λ c. never c.width)
+        | inl width ↦ elim (at_most (h.offset + 16 + h.width + h.length) greatest_end) [
+          | inr never ↦ inr (λ c. never c.within)
+          | inl within ↦ inl (record { label = label; width = width; within = within })
+        ]
+      ]
+    ]
+
+is_below : (o : Ordering) → Decided (o ≡ Less)
+is_below Less = inl refl
+is_below Equal = inr (λ e. cc)
+is_below Greater = inr (λ e. cc)
+
+below_all_of : {K : Type 0} (R : K → K → Ordering) (x : K) (ys : List K)
+    → Decided (AllByRecursion (λ y. R x y ≡ Less) ys)
+below_all_of R x [] = inl tt
+below_all_of R x (y ∷ ys) =
+    elim (is_below (R x y)) [
+      | inr never ↦ inr (λ a. never a.0)
+      | inl first ↦ elim (below_all_of R x ys) [
+        | inr never ↦ inr (λ a. never a.1)
+        | inl rest ↦ inl (first, rest)
+      ]
+    ]
+
+is_rising : {K : Type 0} (R : K → K → Ordering) (xs : List K) → Decided (IsRising R xs)
+is_rising R [] = inl tt
+is_rising R (x ∷ xs) =
+    elim (below_all_of R x xs) [
+      | inr never ↦ inr (λ r. never r.0)
+      | inl first ↦ elim (is_rising R xs) [
+        | inr never ↦ inr (λ r. never r.1)
+        | inl rest ↦ inl (first, rest)
+      ]
+    ]
+
+-- ---- bytes and numbers
+
+bytes_after : (xs ys : List ℕ) → AreBytes (xs ++ ys) → AreBytes ys
+bytes_after [] ys h = h
+bytes_after (x ∷ xs) ys h = bytes_after xs ys (λ i. h (suc i))
+
+bytes_drop : (n : ℕ) (xs : List ℕ) → AreBytes xs → AreBytes (drop n xs)
+bytes_drop n xs h = bytes_after (take n xs) (drop n xs) (subst AreBytes (sym (take-append-drop n xs)) h)
+
+bytes_take : (n : ℕ) (xs : List ℕ) → AreBytes xs → AreBytes (take n xs)
+bytes_take zero xs h i = omega arith
+bytes_take (suc n) [] h i = omega arith
+bytes_take (suc n) (x ∷ xs) h zero = h 0
+bytes_take (suc n) (x ∷ xs) h (suc i) = bytes_take n xs (λ j. h (suc j)) i
+
+-- eight bytes stand for a number below 2^64
+number_small : (bs : List ℕ) → AreBytes bs → from_be_bytes w64 bs < 2 ^ 64
+number_small bs h = omega (arith, h 0, h 1, h 2, h 3, h 4, h 5, h 6, h 7)
+
+-- a number in the first eight bytes
+record NumberAt (bytes : List ℕ) : Type 0 where
+  pub number : ℕ
+  pub small : number < 2 ^ 64
+  pub whole : bytes ≡ number_bytes number ++ drop 8 bytes
+
+number_at : (bytes : List ℕ) → 8 ≤ length bytes → AreBytes bytes → NumberAt bytes
+number_at bytes long h = record {
+  number = from_be_bytes w64 (take 8 bytes);
+  small = number_small (take 8 bytes) (bytes_take 8 bytes h);
+  whole = number_split bytes (take 8 bytes) (drop 8 bytes) (from_be_bytes w64 (take 8 bytes)) refl refl long h refl;
+}
+
+-- the first byte and the others
+record FirstOf (bytes : List ℕ) : Type 0 where
+  pub first : ℕ
+  pub others : List ℕ
+  pub whole : bytes ≡ first ∷ others
+
+first_of : (bytes : List ℕ) → 0 < length bytes → FirstOf bytes
+first_of [] l = absurd (omega arith)
+first_of (b ∷ bs) l = record { first = b; others = bs; whole = refl }
+
+-- a head in the first 33 bytes
+record HeadAt (bytes : List ℕ) : Type 0 where
+  pub head : Head
+  pub rest : List ℕ
+  pub begins : BeginsWithHead bytes head rest
+
+head_at : (bytes : List ℕ) → 33 ≤ length bytes → AreBytes bytes → HeadAt bytes
+head_at bytes long h =
+    let a = drop 8 bytes in
+    let b = drop 16 a in
+    let len_a : length a ≡ length bytes - 8 = length-drop 8 bytes in
+    let len_b : length b ≡ length a - 16 = length-drop 16 a in
+    let offset : NumberAt bytes = number_at bytes (omega arith) h in
+    let width : FirstOf b = first_of b (omega arith) in
+    let len_c : length b ≡ length (width.first ∷ width.others) = ap length width.whole in
+    let are : AreBytes (width.first ∷ width.others) =
+    subst AreBytes width.whole (bytes_drop 16 a (bytes_drop 8 bytes h)) in
+    let len : NumberAt width.others =
+    number_at width.others (omega arith) (λ i. are (suc i)) in
+    record {
+      head = record { offset = offset.number; key = take 16 a; width = width.first; length = len.number };
+      rest = drop 8 width.others;
+      begins = head_split bytes a (take 16 a) b width.others (drop 8 width.others) offset.number width.first len.number
+          offset.whole offset.small refl refl (omega arith) width.whole len.whole len.small h;
+    }
+
+-- ---- causes
+
+-- what bytes are
+abbrev pub IsFileOrRefused : List ℕ → Type 0
+IsFileOrRefused bytes =
+    ((notes : List NoteParts) × IsFileOf bytes notes)
+    ⊎ ((fault : FileFault) × (fault ≢ OutOfMemory) × IsRefused bytes fault)
+
+-- what longer fronts come to
+abbrev GoesOn : List ℕ → List ℕ → ℕ → List NoteParts → Type 0
+GoesOn bytes rest count notes =
+    (n : NoteParts) (more : List ℕ) → IsFront bytes count (notes ++ n ∷ []) more → AreBytes more
+    → length more < length rest → IsFileOrRefused bytes
+
+-- all notes are there
+ended : (bytes rest : List ℕ) (count : ℕ) (notes : List NoteParts) → IsFront bytes count notes rest
+    → length notes ≡ count → IsFileOrRefused bytes
+ended bytes [] count notes f e = inl (notes, front_whole bytes [] count notes f e refl)
+ended bytes (b ∷ bs) count notes f e = inr (
+  Trailing (place_after notes),
+  λ h. cc,
+  record { count = count; notes = notes; rest = b ∷ bs; front = f; stands = refl; why = (e, omega arith) },
+)
+
+cut : (bytes rest : List ℕ) (count : ℕ) (notes : List NoteParts) → IsFront bytes count notes rest
+    → length notes < count → IsCutNote rest → IsFileOrRefused bytes
+cut bytes rest count notes f lt is = inr (
+  Truncated (place_after notes),
+  λ h. cc,
+  inr (record { count = count; notes = notes; rest = rest; front = f; stands = refl; why = (lt, is) }),
+)
+
+-- a note stands at the front
+behind_note : (bytes rest more : List ℕ) (count : ℕ) (notes : List NoteParts) (n : NoteParts)
+    → IsFront bytes count notes rest → length notes < count → BeginsWithNote rest n more → AreBytes more
+    → length more < length rest → GoesOn bytes rest count notes → IsFileOrRefused bytes
+behind_note bytes rest more count notes n f lt b are short next =
+    elim (is_rising note_cmp (notes ++ n ∷ [])) [
+      | inl rises ↦ next n more (front_next bytes rest more count notes n f lt b rises) are short
+      | inr never ↦ inr (
+        NotSorted (place_after notes),
+        λ h. cc,
+        record {
+          count = count;
+          notes = notes;
+          rest = rest;
+          front = f;
+          stands = refl;
+          why = (lt, (n, more, b, never));
+        },
+      )
+    ]
+
+-- the note with a head, which holds the first of the bytes behind it
+note_there : (h : Head) (rest more : List ℕ) → BeginsWithHead rest h more → CanBeNoted h
+    → held_length h ≤ length more
+    → BeginsWithNote rest (note_parts h.offset h.key h.width h.length (take (held_length h) more))
+    (drop (held_length h) more)
+note_there h rest more b good long =
+    let k = held_length h in
+    record {
+      note = record {
+        label = good.label;
+        width = good.width;
+        within = good.within;
+        held = omega (arith, length-take k more);
+      };
+      whole = b.whole ∙ ap (λ (t : List ℕ). head_bytes h ++ t) (sym (take-append-drop k more))
+          ∙ sym (append_assoc (head_bytes h) (take k more) (drop k more));
+    }
+
+-- a head stands at the front
+behind_head : (bytes rest more : List ℕ) (count : ℕ) (notes : List NoteParts) (h : Head)
+    → IsFront bytes count notes rest → length notes < count → BeginsWithHead rest h more → AreBytes rest
+    → GoesOn bytes rest count notes → IsFileOrRefused bytes
+behind_head bytes rest more count notes h f lt b are next =
+    elim (can_be_noted h) [
+      | inr bad ↦ inr (
+        BadNote (place_after notes),
+        λ e. cc,
+        record {
+          count = count;
+          notes = notes;
+          rest = rest;
+          front = f;
+          stands = refl;
+          why = (lt, (h, more, b, bad));
+        },
+      )
+      | inl good ↦ elim (cases_lt (length more) (held_length h)) [
+        | inl short ↦ cut bytes rest count notes f lt (inr (h, more, b, good, short))
+        | inr long ↦
+            let k = held_length h in
+            let len = ap length b.whole ∙ length-append (head_bytes h) more in
+            behind_note bytes rest (drop k more) count notes
+            (note_parts h.offset h.key h.width h.length (take k more)) f lt (note_there h rest more b good long)
+            (bytes_drop k more (bytes_after (head_bytes h) more (subst AreBytes b.whole are)))
+            (omega (arith, len, length-head_bytes h b.head.key, length-drop k more)) next
+      ]
+    ]
+
+one_step : (bytes rest : List ℕ) (count : ℕ) (notes : List NoteParts) → IsFront bytes count notes rest → AreBytes rest
+    → GoesOn bytes rest count notes → IsFileOrRefused bytes
+one_step bytes rest count notes f are next =
+    elim (cases_lt (length notes) count) [
+      | inr all ↦ ended bytes rest count notes f (omega (arith, f.room))
+      | inl lt ↦ elim (cases_lt (length rest) 33) [
+        | inl short ↦ cut bytes rest count notes f lt (inl short)
+        | inr long ↦
+            let at = head_at rest long are in
+            behind_head bytes rest at.rest count notes at.head f lt at.begins are next
+      ]
+    ]
+
+-- note after note, each leaves fewer bytes
+all_steps : (most : ℕ) (bytes rest : List ℕ) (count : ℕ) (notes : List NoteParts) → IsFront bytes count notes rest
+    → AreBytes rest → length rest ≤ most → IsFileOrRefused bytes
+all_steps zero bytes rest count notes f are l =
+    one_step bytes rest count notes f are (λ n more g k lt. absurd (omega arith))
+all_steps (suc most) bytes rest count notes f are l =
+    one_step bytes rest count notes f are
+    (λ n more g k lt. all_steps most bytes more count (notes ++ n ∷ []) g k (omega arith))
+
+known_version : (o : Option ℕ) → IfSome o (λ v. v ≡ version) ⊎ IsSomeAnd o (λ v. v ≢ version)
+known_version None = inl tt
+known_version (Some v) = equal v version
+
+-- the sixteen bytes ahead of the notes
+behind_start : (bytes : List ℕ) → AreBytes bytes → BeginsAsFile bytes → IfSome (slice_get bytes 7) (λ v. v ≡ version)
+    → 16 ≤ length bytes → IsFileOrRefused bytes
+behind_start bytes are begins known long =
+    let rest = drop 7 bytes in
+    let len : length rest ≡ length bytes - 7 = length-drop 7 bytes in
+    let v : FirstOf rest = first_of rest (omega arith) in
+    let len_more : length rest ≡ length (v.first ∷ v.others) = ap length v.whole in
+    let are_rest : AreBytes (v.first ∷ v.others) = subst AreBytes v.whole (bytes_drop 7 bytes are) in
+    let count : NumberAt v.others = number_at v.others (omega arith) (λ i. are_rest (suc i)) in
+    let at = at_front_of_rest 7 bytes rest v.others v.first refl v.whole in
+    let is = if_some (slice_get bytes 7) (λ w. w ≡ version) known v.first at in
+    let left = drop 8 v.others in
+    let whole : bytes ≡ start_bytes count.number ++ left =
+    start_split bytes rest v.others left v.first count.number begins (omega arith) refl v.whole is count.whole in
+    all_steps (length left) bytes left count.number [] (front_begins bytes left count.number count.small whole)
+    (bytes_after (start_bytes count.number) left (subst AreBytes whole are)) (omega arith)
+
+pub file_or_refused : (bytes : List ℕ) → AreBytes bytes → IsFileOrRefused bytes
+file_or_refused bytes are =
+    elim (by_test (bytes_eq (take 7 bytes) (take (length bytes) magic)) (BeginsAsFile bytes)
+    (bytes_eq-Decides (take 7 bytes) (take (length bytes) magic))) [
+      | inr never ↦ inr (BadMagic, λ e. cc, never)
+      | inl begins ↦ elim (known_version (slice_get bytes 7)) [
+        | inr other ↦ inr (BadVersion, λ e. cc, (begins, other))
+        | inl known ↦ elim (cases_lt (length bytes) 16) [
+          | inl short ↦ inr (Truncated 0, λ e. cc, inl (refl, begins, known, short))
+          | inr long ↦ behind_start bytes are begins known long
+        ]
+      ]
+    ]

@@ -1,0 +1,317 @@
+-- What is reported of a piece whose bytes come in parts, and what a reader's piece adds.
+use Rattle.std.proofs.Common.{◌≡◌, ℕ, ◌+◌, ◌-◌, ◌≤◌, List, [], ◌∷◌, ◌++◌, length, take, Option, None, Some}
+use Rattle.std.proofs.Common.{Result, Ok, Err, refl, sym, ap, subst, ◌∙◌, arith, inl, inr, ◌⊎◌, append-nil, length-append}
+use Rattle.std.specs.Prelude.{true, false, is_some, nat_eq, IfOk, IfSome}
+use Rattle.std.specs.Io.KnownBytes.{IsAtEnd}
+use Rattle.std.proofs.Math.Seq.{take-append-add}
+use Rattle.std.proofs.lemmas.Bool.{eqb-true}
+use Rattle.std.proofs.lemmas.List.{take_at, take_all}
+use Rattle.mxf_klv.specs.Parts.{NoteParts, PacketParts}
+use Rattle.mxf_klv.specs.Packet.{size_of}
+use Rattle.mxf_klv.specs.Head.{HasNoHead}
+use Rattle.mxf_klv.specs.Note.{note_of, note_cmp}
+use Rattle.mxf_klv.specs.Piece.{end_after, notes_from}
+use Rattle.mxf_klv.specs.PieceReading.{IsOpen, notes_in, packets_in, rest_in, stop_in, stop_of}
+use Rattle.mxf_klv.specs.declared.piece.Stop.{Stop}
+use Rattle.mxf_klv.specs.declared.piece.Stop.TheVariants.{End, NotUl, BadLength, TooFar, Truncated}
+use Rattle.mxf_klv.proofs.MoreBytes.{seam, stop_is, stop_stays}
+use Rattle.mxf_klv.proofs.StopLaws.{at_cut, stops}
+use Rattle.mxf_catalogue.specs.Content.{union_of}
+use Rattle.mxf_catalogue.proofs.Fronts.{rising_take}
+use Rattle.mxf_catalogue.proofs.MergeLaws.{union_of-none}
+use Rattle.mxf_read.proofs.Pieces.{IsContent-notes_in, length-notes_in}
+use Rattle.mxf_read.specs.Absorbs.{Absorbs, AbsorbsFrom, AddsFirst, report_of}
+use Rattle.mxf_read.specs.Feeding.{Fed, IsNext, Knows}
+use Rattle.mxf_read.specs.Reading.{ReadsAll, Takes}
+use Rattle.mxf_read.specs.declared.piece.Piece.{Piece}
+use Rattle.mxf_read.specs.declared.reading.Cause.TheVariants as causes
+use Rattle.mxf_read.specs.declared.report.Report.{Report}
+use Rattle.mxf_read.specs.declared.report.AbsorbFault.{AbsorbFault}
+use Rattle.mxf_read.specs.declared.report.AbsorbFault.TheVariants.{OutOfMemory, ReadFault}
+use Rattle.mxf_read.proofs.Feeding.{awaits, holds}
+
+-- ---- the report
+
+abbrev made : ℕ → Stop → Report
+made noted stop = record { noted = noted; stop = stop }
+
+notes_from-append : (o : ℕ) (ps qs : List PacketParts)
+    → notes_from o (ps ++ qs) ≡ notes_from o ps ++ notes_from (end_after o ps) qs
+notes_from-append o [] qs = refl
+notes_from-append o (p ∷ ps) qs = ap (λ (ns : List NoteParts). note_of o p ∷ ns) (notes_from-append (o + size_of p) ps qs)
+
+pub count_noted : (o : ℕ) (m : List ℕ) (p : Piece) → Knows o m p → length p.notes ≡ length (packets_in o m)
+count_noted o m p k = ap length k.notes ∙ length-notes_in o m
+
+reported : (o : ℕ) (m : List ℕ) (p : Piece) (noted : ℕ) (stop : Stop) → Knows o m p → noted ≡ length p.notes
+    → stop ≡ stop_of p.at (rest_in o m)
+    → made noted stop ≡ report_of o m
+reported o m p noted stop k n s =
+    let count : noted ≡ length (packets_in o m) = n ∙ count_noted o m p k in
+    let is : stop ≡ stop_in o m = s ∙ ap (λ (a : ℕ). stop_of a (rest_in o m)) k.at in
+    λ i. record { noted = count i; stop = is i }
+
+pub report_stopped : (o : ℕ) (m : List ℕ) (p : Piece) (noted : ℕ) (stop : Stop) → Fed o m p → noted ≡ length p.notes
+    → p.stop ≡ Some stop
+    → made noted stop ≡ report_of o m
+report_stopped o m p noted stop fed n e =
+    let next : IsNext p.at (Some stop) p.value p.head.items (rest_in o m) =
+    subst (λ (s : Option Stop). IsNext p.at s p.value p.head.items (rest_in o m)) e fed.next in
+    reported o m p noted stop fed.knows n next.1
+
+end_at : (at : ℕ) → stop_of at [] ≡ End
+unfolding stop_of
+end_at at = refl
+
+nil_from : (xs : List ℕ) (n : ℕ) → n ≡ length xs → nat_eq n 0 ≡ true → xs ≡ []
+nil_from [] n e t = refl
+nil_from (x ∷ xs) n e t = let zero_is : n ≡ 0 = eqb-true n 0 t in absurd (omega (arith, e, zero_is))
+
+pub report_end : (o : ℕ) (m : List ℕ) (p : Piece) (noted len : ℕ) → Fed o m p → noted ≡ length p.notes → p.stop ≡ None
+    → p.value ≡ None → len ≡ length p.head.items → nat_eq len 0 ≡ true
+    → made noted End ≡ report_of o m
+report_end o m p noted len fed n stop value is empty =
+    let h = holds o m p fed stop value in
+    let nothing : rest_in o m ≡ [] = sym h.head ∙ nil_from p.head.items len is empty in
+    reported o m p noted End fed.knows n (sym (end_at p.at) ∙ ap (stop_of p.at) (sym nothing))
+
+open_cut : (at : ℕ) (r : List ℕ) → HasNoHead r → IsOpen (stop_of at r) → (length r ≡ 0 → ⊥) → stop_of at r ≡ Truncated at
+open_cut at r none cut some =
+    elim (stop_of at r) as (λ s. stop_of at r ≡ s → IsOpen s → s ≡ Truncated at) [
+      | End ↦ λ e o. absurd (some (ap length (stop_is at r End none e)))
+      | Truncated place ↦ λ e o. ap (λ (n : ℕ). Truncated n) (stop_is at r (Truncated place) none e).0
+      | NotUl place ↦ λ e o. absurd o
+      | BadLength place ↦ λ e o. absurd o
+      | TooFar place ↦ λ e o. absurd o
+    ] refl cut
+
+pub report_cut_head : (o : ℕ) (m : List ℕ) (p : Piece) (noted len : ℕ) → Fed o m p → noted ≡ length p.notes
+    → p.stop ≡ None → p.value ≡ None → len ≡ length p.head.items → nat_eq len 0 ≡ false
+    → made noted (Truncated p.at) ≡ report_of o m
+report_cut_head o m p noted len fed n stop value is some =
+    let h = holds o m p fed stop value in
+    let size = ap length h.head in
+    reported o m p noted (Truncated p.at) fed.knows n (sym (open_cut p.at (rest_in o m) h.none h.cut
+    (λ z. let zero_is : len ≡ 0 = is ∙ size ∙ z in
+    let t : nat_eq len 0 ≡ true = ap (λ (k : ℕ). nat_eq k 0) zero_is in absurd (cc (t, some)))))
+
+pub report_cut_value : (o : ℕ) (m : List ℕ) (p : Piece) (noted : ℕ) → Fed o m p → noted ≡ length p.notes
+    → p.stop ≡ None → is_some p.value ≡ true
+    → made noted (Truncated p.at) ≡ report_of o m
+report_cut_value o m p noted fed n stop some =
+    elim p.value as (λ w. p.value ≡ w → is_some w ≡ true
+    → made noted (Truncated p.at) ≡ report_of o m) [
+      | None ↦ λ e t. absurd cc
+      | Some v ↦ λ e t.
+          let a = awaits o m p v fed stop e in
+          let r = rest_in o m in
+          let within = v.within in
+          let here = a.come.offset in
+          let counted = a.come.taken.counted in
+          let left = a.left in
+          let cut = at_cut p.at r v.key a.come.after v.ber a.come.begins (omega arith) (omega arith) in
+          reported o m p noted (Truncated p.at) fed.knows n (stops p.at r (Truncated p.at) cut).1
+    ] refl some
+
+-- ---- what was read
+
+take_behind : (xs ys : List ℕ) (n : ℕ) → length xs ≤ n → take n (xs ++ ys) ≡ xs ++ take (n - length xs) ys
+take_behind xs ys n h =
+    let split : n ≡ length xs + (n - length xs) = omega arith in
+    ap (λ (j : ℕ). take j (xs ++ ys)) split ∙ take-append-add xs ys (n - length xs)
+
+-- a front of the bytes taken is a front of their packets
+pub adds_front : (o : ℕ) (m x : List ℕ) (p : Piece) → Knows o m p
+    → AddsFirst [] p.notes o (m ++ x) (length p.notes) p.at
+adds_front o m x p k =
+    let s = seam o m x in
+    let ps = packets_in o m in
+    let qs = packets_in (end_after o ps) (rest_in o m ++ x) in
+    let count = count_noted o m p k in
+    let all : notes_in o (m ++ x) ≡ notes_in o m ++ notes_from (end_after o ps) qs =
+    ap (notes_from o) s.packets ∙ notes_from-append o ps qs in
+    let front : take (length p.notes) (notes_in o (m ++ x)) ≡ notes_in o m =
+    ap (take (length p.notes)) all
+    ∙ take_at (notes_in o m) (notes_from (end_after o ps) qs) (length p.notes) (sym (ap length k.notes)) in
+    let packets : take (length p.notes) (packets_in o (m ++ x)) ≡ ps =
+    ap (take (length p.notes)) s.packets ∙ take_at ps qs (length p.notes) (sym count) in
+    let size = ap length s.packets in
+    record {
+      within = omega (arith, count, size, length-append ps qs);
+      added =
+          k.notes ∙ sym front
+          ∙ sym (union_of-none (take (length p.notes) (notes_in o (m ++ x)))
+          (rising_take note_cmp (length p.notes) (notes_in o (m ++ x)) (IsContent-notes_in o (m ++ x))));
+      place = k.at ∙ ap (end_after o) (sym packets);
+    }
+
+-- the state where a read failed may go on
+open_next : (o : ℕ) (m : List ℕ) (p : Piece) → Fed o m p → p.stop ≡ None → IsOpen (stop_in o m)
+open_next o m p fed stop =
+    elim p.value as (λ w. p.value ≡ w → IsOpen (stop_in o m)) [
+      | None ↦ λ e.
+          subst (λ (a : ℕ). IsOpen (stop_of a (rest_in o m))) fed.knows.at (holds o m p fed stop e).cut
+      | Some v ↦ λ e.
+          let some : is_some p.value ≡ true = ap is_some e in
+          let r = report_cut_value o m p (length p.notes) fed refl stop some in
+          subst IsOpen (ap (λ (t : Report). t.stop) r) tt
+    ] refl
+
+-- a stop that the piece has come to isn't open
+closed_next : (o : ℕ) (m : List ℕ) (p : Piece) → Fed o m p → is_some p.stop ≡ true → IsOpen (stop_in o m) → ⊥
+closed_next o m p fed some o-pen =
+    elim p.stop as (λ s. p.stop ≡ s → is_some s ≡ true → ⊥) [
+      | None ↦ λ e t. absurd cc
+      | Some stop ↦ λ e t.
+          let next : IsNext p.at (Some stop) p.value p.head.items (rest_in o m) =
+          subst (λ (s : Option Stop). IsNext p.at s p.value p.head.items (rest_in o m)) e fed.next in
+          let r = report_stopped o m p (length p.notes) stop fed refl e in
+          next.2 (subst IsOpen (sym (ap (λ (q : Report). q.stop) r)) o-pen)
+    ] refl some
+
+pub filled_ok : (o limit : ℕ) (before after : Option (List ℕ)) (p q : Piece) (report : Report) → Fed o [] p
+    → ReadsAll before after p q limit (Ok tt)
+    → ((m : List ℕ) → Fed o m q → report ≡ report_of o m)
+    → AbsorbsFrom [] q.notes before after o limit (Ok report)
+filled_ok o limit before after p q report start h tells =
+    let (taken, takes, feeds, ends) = h in
+    let fed = feeds o [] start in
+    let is = tells taken fed in (
+      taken,
+      takes,
+      (fed.knows.notes ∙ sym (union_of-none (notes_in o taken) (IsContent-notes_in o taken)), is),
+      λ goes. elim ends [
+        | inl e ↦ e
+        | inr stopped ↦
+            absurd (closed_next o taken q fed stopped (subst IsOpen (ap (λ (r : Report). r.stop) is) goes))
+      ],
+    )
+
+pub filled_fault : (o limit : ℕ) (before after : Option (List ℕ)) (p q : Piece) (noted at : ℕ) → Fed o [] p
+    → ReadsAll before after p q limit (Err causes.ReadFault) → noted ≡ length q.notes → at ≡ q.at
+    → AbsorbsFrom [] q.notes before after o limit (Err (ReadFault noted at))
+filled_fault o limit before after p q noted at start h n a =
+    let (taken, takes, feeds, stop) = h in
+    let fed = feeds o [] start in
+    let adds = subst (λ (t : List ℕ). AddsFirst [] q.notes o t (length q.notes) q.at) (append-nil taken)
+    (adds_front o taken [] q fed.knows) in (
+      taken,
+      takes,
+      subst (λ (k : ℕ). AddsFirst [] q.notes o taken k at) (sym n)
+          (subst (λ (b : ℕ). AddsFirst [] q.notes o taken (length q.notes) b) (sym a) adds),
+      n ∙ count_noted o taken q fed.knows,
+      open_next o taken q fed stop,
+    )
+
+pub filled_memory : (o limit : ℕ) (before after : Option (List ℕ)) (p q : Piece) (noted at : ℕ) → Fed o [] p
+    → ReadsAll before after p q limit (Err causes.OutOfMemory) → noted ≡ length q.notes → at ≡ q.at
+    → AbsorbsFrom [] q.notes before after o limit (Err (OutOfMemory noted at))
+filled_memory o limit before after p q noted at start h n a =
+    let (taken, takes, fails) = h in
+    let (done, left, split, k) = fails o [] start in
+    let adds = subst (λ (t : List ℕ). AddsFirst [] q.notes o t (length q.notes) q.at) (sym split)
+    (adds_front o done left q k) in (
+      taken,
+      takes,
+      subst (λ (j : ℕ). AddsFirst [] q.notes o taken j at) (sym n)
+          (subst (λ (b : ℕ). AddsFirst [] q.notes o taken (length q.notes) b) (sym a) adds),
+    )
+
+-- ---- a piece as a whole
+
+adds_first_merged : (old piece new : List NoteParts) (o : ℕ) (m : List ℕ) (noted at : ℕ)
+    → AddsFirst [] piece o m noted at → new ≡ union_of old piece → AddsFirst old new o m noted at
+adds_first_merged old piece new o m noted at a e =
+    let rises = rising_take note_cmp noted (notes_in o m) (IsContent-notes_in o m) in
+    record {
+      within = a.within;
+      added = e ∙ ap (union_of old) (a.added ∙ union_of-none (take noted (notes_in o m)) rises);
+      place = a.place;
+    }
+
+-- what a piece's own catalogue has, joined with another
+pub from_merged : (old piece new : List NoteParts) (before after : Option (List ℕ)) (o limit : ℕ)
+    (r : Result Report AbsorbFault)
+    → AbsorbsFrom [] piece before after o limit r → new ≡ union_of old piece → AbsorbsFrom old new before after o limit r
+from_merged old piece new before after o limit (Ok report) (taken, takes, adds, ends) e =
+    let same = union_of-none (notes_in o taken) (IsContent-notes_in o taken) in (
+      taken,
+      takes,
+      (e ∙ ap (union_of old) (adds.0 ∙ same), adds.1),
+      ends,
+    )
+from_merged old piece new before after o limit (Err (ReadFault noted at)) (taken, takes, adds, all, cut) e =
+    (taken, takes, adds_first_merged old piece new o taken noted at adds e, all, cut)
+from_merged old piece new before after o limit (Err (OutOfMemory noted at)) (taken, takes, adds) e =
+    (taken, takes, adds_first_merged old piece new o taken noted at adds e)
+
+-- the bytes that were taken, whatever came of them
+taken_of : (old new : List NoteParts) (before after : Option (List ℕ)) (o limit : ℕ) (r : Result Report AbsorbFault)
+    → AbsorbsFrom old new before after o limit r → (taken : List ℕ) × Takes before after limit taken
+taken_of old new before after o limit (Ok report) h = (h.0, h.1)
+taken_of old new before after o limit (Err (ReadFault noted at)) h = (h.0, h.1)
+taken_of old new before after o limit (Err (OutOfMemory noted at)) h = (h.0, h.1)
+
+-- where they aren't joined, none is added
+pub from_none : (old piece new : List NoteParts) (before after : Option (List ℕ)) (o limit : ℕ)
+    (r : Result Report AbsorbFault)
+    → AbsorbsFrom [] piece before after o limit r → new ≡ old
+    → AbsorbsFrom old new before after o limit (Err (OutOfMemory 0 o))
+from_none old piece new before after o limit r h e =
+    let (taken, takes) = taken_of [] piece before after o limit r h in
+    (taken, takes, record { within = omega arith; added = e; place = refl })
+
+-- ---- the stream
+
+adds_more : (old new : List NoteParts) (o : ℕ) (m x : List ℕ) (report : Report) → Absorbs old new o m (Ok report)
+    → (IsOpen report.stop → ⊥) → Absorbs old new o (m ++ x) (Ok report)
+adds_more old new o m x report a final =
+    let s = stop_stays o m x (λ t. final (subst IsOpen (sym (ap (λ (r : Report). r.stop) a.1)) t)) in (
+      a.0 ∙ ap (λ (ps : List PacketParts). union_of old (notes_from o ps)) (sym s.0),
+      a.1 ∙ (λ i. record { noted = length (sym s.0 i); stop = sym s.1 i }),
+    )
+
+open_or_not : (s : Stop) → IsOpen s ⊎ (IsOpen s → ⊥)
+open_or_not End = inl tt
+open_or_not (Truncated place) = inl tt
+open_or_not (NotUl place) = inr (λ t. t)
+open_or_not (BadLength place) = inr (λ t. t)
+open_or_not (TooFar place) = inr (λ t. t)
+
+whole_taken : (before after : Option (List ℕ)) (limit : ℕ) (taken : List ℕ) → Takes before after limit taken
+    → (length taken ≡ limit) ⊎ IsAtEnd after → IfSome before (λ all. take limit all ≡ taken)
+whole_taken None after limit taken t e = tt
+whole_taken (Some xs) None limit taken t e = absurd t.consumed
+whole_taken (Some xs) (Some ys) limit taken t (inl e) =
+    ap (take limit) t.consumed ∙ take_at taken ys limit e
+whole_taken (Some xs) (Some ys) limit taken t (inr e) =
+    let all : xs ≡ taken = t.consumed ∙ ap (λ (l : List ℕ). taken ++ l) e ∙ append-nil taken in
+    let within = t.within in
+    ap (take limit) all ∙ take_all limit taken within
+
+front_taken : (before after : Option (List ℕ)) (limit : ℕ) (taken : List ℕ) → Takes before after limit taken
+    → IfSome before (λ all. (x : List ℕ) × (take limit all ≡ taken ++ x))
+front_taken None after limit taken t = tt
+front_taken (Some xs) None limit taken t = absurd t.consumed
+front_taken (Some xs) (Some ys) limit taken t =
+    let within = t.within in
+    (take (limit - length taken) ys, ap (take limit) t.consumed ∙ take_behind taken ys limit within)
+
+pub of_stream : (old new : List NoteParts) (before after : Option (List ℕ)) (o limit : ℕ) (r : Result Report AbsorbFault)
+    → AbsorbsFrom old new before after o limit r
+    → IfOk r (λ report. IfSome before (λ all. Absorbs old new o (take limit all) (Ok report)))
+of_stream old new before after o limit (Err e) h = tt
+of_stream old new None after o limit (Ok report) h = tt
+of_stream old new (Some xs) after o limit (Ok report) (taken, takes, adds, ends) =
+    elim (open_or_not report.stop) [
+      | inl goes ↦
+          subst (λ (t : List ℕ). Absorbs old new o t (Ok report)) (sym (whole_taken (Some xs) after limit taken takes (ends goes)))
+          adds
+      | inr final ↦
+          let (x, split) = front_taken (Some xs) after limit taken takes in
+          subst (λ (t : List ℕ). Absorbs old new o t (Ok report)) (sym split) (adds_more old new o taken x report adds final)
+    ]
+
+pub none_from : {X : Type 0} (s : Option X) → is_some s ≡ false → s ≡ None
+none_from None e = refl
+none_from (Some x) e = absurd cc

@@ -1,0 +1,29 @@
+use Rattle.std.proofs.Common.{[], ◌++◌, List, ℕ, take, drop, refl, sym, ap, subst, ◌∙◌, append_assoc, take-append-drop}
+use Rattle.mxf_read.specs.Feeding.{Feeds}
+use Rattle.mxf_read.proofs.Feeding.{Feeds-none, Feeds-trans, Feeds-where_stopped, same_fed}
+use Rattle.mxf_read.proofs.piece.Piece.feed.Goals as goal
+
+pub bytes-init : goal.bytes-init
+bytes-init c = ([], refl, Feeds-none c.args.self.now)
+
+pub bytes-preserved : goal.bytes-preserved
+bytes-preserved c =
+    let (done, split, fed) = c.bytes.invariant in
+    let rest = c.bytes.rest.now in
+    let n = c.in_ok-used.used in (
+      done ++ take n rest,
+      split ∙ ap (λ (t : List ℕ). done ++ t) (sym (take-append-drop n rest))
+          ∙ sym (append_assoc done (take n rest) (drop n rest))
+          ∙ ap (λ (t : List ℕ). (done ++ take n rest) ++ t) (sym c.split_at.ensures.back),
+      Feeds-trans c.args.self.now c.bytes.self c.take.new.self done (take n rest) fed c.in_ok-used.ensures.fed,
+    )
+
+pub returns-else-is_none-clause-fed : goal.returns-else-is_none-clause-fed
+returns-else-is_none-clause-fed c =
+    let (done, split, fed) = c.bytes.invariant in
+    let rest = c.bytes.rest.now in
+    let last : Feeds c.bytes.self c.bytes.self rest = Feeds-where_stopped c.bytes.self rest c.if-is_none.ensures in
+    let all : Feeds c.args.self.now c.bytes.self c.args.bytes.now =
+    subst (Feeds c.args.self.now c.bytes.self) (sym split)
+    (Feeds-trans c.args.self.now c.bytes.self c.bytes.self done rest fed last) in
+    λ o m h. same_fed o (m ++ c.args.bytes.now) c.bytes.self _ refl refl refl refl refl (all o m h)

@@ -1,0 +1,23 @@
+-- A packet of which key and length are known, and a front of the value (this project's profile).
+use Rattle.std.specs.Prelude.{◌≡◌, ℕ, ◌+◌, List, length}
+use Rattle.mxf_klv.specs.Head.{BeginsWithHead}
+use Rattle.mxf_read.specs.Held.{Has}
+use Rattle.mxf_read.specs.declared.coming.ComingValue.{ComingValue}
+
+-- These bytes of the value have come.
+pub record HasTaken (v : ComingValue) (bytes : List ℕ) : Type 0 where
+  pub counted : v.left + length bytes ≡ v.ber.value
+  pub held : Has v.held bytes
+
+-- Both are of one packet.
+pub record IsSamePacket (v w : ComingValue) : Type 0 where
+  pub offset : w.offset ≡ v.offset
+  pub key : w.key ≡ v.key
+  pub spelled : w.ber ≡ v.ber
+
+-- The packet begins at a place, and these bytes of it have come: key, length and a front of the value.
+pub record HasCome (at : ℕ) (v : ComingValue) (bytes : List ℕ) : Type 0 where
+  pub after : List ℕ
+  pub begins : BeginsWithHead bytes v.key v.ber after
+  pub offset : v.offset ≡ at
+  pub taken : HasTaken v after

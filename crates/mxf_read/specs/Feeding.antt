@@ -1,0 +1,44 @@
+-- A piece whose bytes come in parts: what is known after those that came (this project's profile).
+use Rattle.std.specs.Prelude.{◌≡◌, ℕ, ◌<◌, List, [], ◌++◌, Option, None, Some}
+use Rattle.mxf_klv.specs.Head.{HasNoHead}
+use Rattle.mxf_klv.specs.Piece.{end_after}
+use Rattle.mxf_klv.specs.PieceReading.{IsOpen, notes_in, packet_at, packets_in, rest_in, stop_of}
+use Rattle.mxf_klv.specs.declared.piece.Stop.{Stop}
+use Rattle.mxf_read.specs.Coming.{HasCome}
+use Rattle.mxf_read.specs.declared.coming.ComingValue.{ComingValue}
+use Rattle.mxf_read.specs.declared.piece.Piece.{Piece}
+
+-- The notes are those of the packets that have come whole, and the next packet begins behind them.
+pub record Knows (offset : ℕ) (bytes : List ℕ) (p : Piece) : Type 0 where
+  pub notes : p.notes ≡ notes_in offset bytes
+  pub at : p.at ≡ end_after offset (packets_in offset bytes)
+
+-- No further packet was noted.
+pub record NotesNone (old new : Piece) : Type 0 where
+  pub notes : new.notes ≡ old.notes
+  pub at : new.at ≡ old.at
+
+-- What has come of the next packet stops the piece; or it isn't a whole key and length, and is held; or it is those and a
+-- front of the value.
+abbrev pub IsNext : ℕ → Option Stop → Option ComingValue → List ℕ → List ℕ → Type 0
+IsNext at (Some stop) value head rest = (packet_at at rest ≡ None) × (stop ≡ stop_of at rest) × ¬ IsOpen stop
+IsNext at None None head rest = (head ≡ rest) × HasNoHead rest × IsOpen (stop_of at rest)
+IsNext at None (Some value) head rest = (head ≡ []) × HasCome at value rest × (0 < value.left)
+
+-- These bytes of a piece at an offset have come.
+pub record Fed (offset : ℕ) (bytes : List ℕ) (p : Piece) : Type 0 where
+  pub knows : Knows offset bytes p
+  pub next : IsNext p.at p.stop p.value p.head.items (rest_in offset bytes)
+
+-- Some bytes of some piece have come.
+abbrev pub IsFed : Piece → Type 0
+IsFed p = (offset : ℕ) × (bytes : List ℕ) × Fed offset bytes p
+
+-- These bytes came after those before.
+abbrev pub Feeds : Piece → Piece → List ℕ → Type 0
+Feeds old new more = (offset : ℕ) (bytes : List ℕ) → Fed offset bytes old → Fed offset (bytes ++ more) new
+
+-- Memory was wanting among these bytes: the notes are those of the packets of a front.
+abbrev pub Fails : Piece → Piece → List ℕ → Type 0
+Fails old new more = (offset : ℕ) (bytes : List ℕ) → Fed offset bytes old
+    → (done : List ℕ) × (left : List ℕ) × (more ≡ done ++ left) × Knows offset (bytes ++ done) new

@@ -1,0 +1,108 @@
+//! The value of a packet that comes in parts.
+ghost use Rattle.std.specs.Prelude.{◌≡◌, ◌+◌, ◌≤◌, ◌++◌, [], List, ℕ, length, IfOk, OnOk};
+ghost use Rattle.mxf_klv.specs.Note.{greatest_end, keeps};
+ghost use Rattle.mxf_read.specs.Held.{came_of, is_whole};
+
+use mxf_klv::{Ber, Note, OutOfMemory, Ul};
+use sha2::{Digest, Sha256};
+use std::alloc::Global;
+
+/// What is held of a value so far: all of its bytes, or a digest that has taken them.
+#[derive(Drop)]
+pub(crate) enum Held {
+    Whole(Vec<u8>),
+    Digest(Sha256),
+}
+
+/// A packet at an offset of which key and length are known, and a front of the value has come.
+///
+/// A value that a note keeps is gathered, in room that is taken at the start. Another is digested as it passes.
+#[derive(Drop)]
+pub(crate) struct ComingValue {
+    offset: u64,
+    key: Ul,
+    ber: Ber,
+    left: u64,
+    held: Held,
+
+    ghost within: { offset + 16 + ber.width + ber.value ≤ greatest_end },
+    ghost sort: { is_whole held ≡ keeps key ber.value },
+    ghost counted: { came_of held ber.value left + left ≡ ber.value },
+}
+
+impl ComingValue {
+    ghost use Rattle.mxf_klv.specs.Note.{note_of};
+    ghost use Rattle.mxf_klv.specs.Parts.{packet_parts};
+    ghost use Rattle.mxf_read.specs.Coming.{HasTaken, IsSamePacket};
+
+    /// No byte of the value has come.
+    pub(crate) fn of(
+        alloc: Global,
+        offset: u64,
+        key: Ul,
+        ber: Ber,
+    ) -> Result<ComingValue, OutOfMemory>
+        requires { offset + 16 + ber.width + ber.value ≤ greatest_end }
+        ensures offset { IfOk result (λ v. v.offset ≡ offset) }
+        ensures key { IfOk result (λ v. v.key ≡ key) }
+        ensures length { IfOk result (λ v. v.ber ≡ ber) }
+        ensures none { IfOk result (λ v. HasTaken v []) }
+    {
+        let left = ber.value();
+        let held = if Note::keeps(&key, left) {
+            Held::Whole(Vec::with_capacity(alloc, left as usize)?)
+        } else {
+            Held::Digest(Sha256::new())
+        };
+        Ok(ComingValue {
+            offset,
+            key,
+            ber,
+            left,
+            held,
+        })
+    }
+
+    /// The number of bytes that are to come.
+    pub(crate) fn left(&self) -> u64
+        ensures { result ≡ self.now.left }
+    {
+        self.left
+    }
+
+    /// Takes the next bytes of the value.
+    pub(crate) fn take(&mut self, bytes: &[u8]) -> Result<(), OutOfMemory>
+        requires { length bytes.now ≤ self.old.left }
+        ensures same { IsSamePacket self.old self.new }
+        ensures taken { OnOk result ((m : List ℕ) → HasTaken self.old m → HasTaken self.new (m ++ bytes.now)) }
+    {
+        match &mut self.held {
+            Held::Whole(value) => value.extend_from_slice(bytes)?,
+            Held::Digest(hasher) => hasher.update(bytes),
+        }
+        self.left -= bytes.len() as u64;
+        Ok(())
+    }
+
+    /// The note of the packet, the value of which has come whole.
+    pub(crate) fn into_note(self) -> Note
+        requires { self.left ≡ 0 }
+        ensures { (m : List ℕ) → HasTaken self m
+            → result ≡ note_of self.offset (packet_parts self.key self.ber.width m) }
+    {
+        let ComingValue {
+            offset,
+            key,
+            ber,
+            held,
+            ..
+        } = self;
+        match held {
+            Held::Whole(value) => Note::kept(offset, key, ber.width(), value).unwrap(),
+            Held::Digest(hasher) => {
+                let digest = hasher.finalize();
+                Note::digested(offset, key, ber.width(), ber.value(), digest).unwrap()
+            }
+        }
+    }
+}

@@ -1,0 +1,202 @@
+//! A piece whose bytes come in parts.
+ghost use Rattle.std.specs.Prelude.{◌≡◌, ◌≤◌, ◌<◌, ◌++◌, ◌↔◌, [], List, ℕ, None, length, take, IfOk, IsTrue, OnOk, OnErr, is_some};
+ghost use Rattle.mxf_klv.specs.PieceReading.{IsOpen, rest_in};
+
+use crate::coming::ComingValue;
+use crate::report::Report;
+use mxf_catalogue::Catalogue;
+use mxf_klv::{OutOfMemory, Stop, next_head};
+use std::alloc::Global;
+
+/// The greatest number of bytes of a packet's key and length.
+const GREATEST_HEAD: usize = 25;
+
+/// A piece whose bytes come in parts: the notes of the packets that have come whole, and what has come of the next.
+///
+/// Of that one it holds no more than the key and the length, and the value where it is kept.
+#[derive(Drop)]
+pub(crate) struct Piece {
+    alloc: Global,
+    notes: Catalogue,
+    at: u64,
+    /// What has come of the next packet, as long as key and length aren't whole.
+    head: Vec<u8>,
+    value: Option<ComingValue>,
+    stop: Option<Stop>,
+}
+
+impl Piece {
+    ghost use Rattle.mxf_read.specs.Coming.{HasCome};
+    ghost use Rattle.mxf_read.specs.Feeding.{Fails, Fed, Feeds, IsFed, Knows, NotesNone};
+    ghost use Rattle.mxf_read.specs.Absorbs.{report_of};
+
+    /// No byte of the piece at a file offset.
+    pub(crate) fn new(alloc: Global, offset: u64) -> Piece
+        ensures { Fed offset [] result }
+    {
+        Piece {
+            alloc,
+            notes: Catalogue::new(alloc),
+            at: offset,
+            head: Vec::new(alloc),
+            value: None,
+            stop: None,
+        }
+    }
+
+    /// Whether the piece has stopped, whatever bytes follow.
+    pub(crate) fn has_stopped(&self) -> bool
+        ensures { result ≡ is_some self.now.stop }
+    {
+        self.stop.is_some()
+    }
+
+    /// What is noted of the piece, where no more bytes come.
+    pub(crate) fn report(&self) -> Report
+        ensures { (o : ℕ) (m : List ℕ) → Fed o m self.now → result ≡ report_of o m }
+    {
+        let noted = self.notes.len() as u64;
+        if let Some(stop) = self.stop {
+            return Report { noted, stop };
+        }
+        if self.value.is_none() && self.head.is_empty() {
+            return Report {
+                noted,
+                stop: Stop::End,
+            };
+        }
+        Report {
+            noted,
+            stop: Stop::Truncated(self.at),
+        }
+    }
+
+    /// The number of notes.
+    pub(crate) fn noted(&self) -> u64
+        ensures { result ≡ length self.now.notes }
+    {
+        self.notes.len() as u64
+    }
+
+    /// The file offset of the next packet, in bytes.
+    pub(crate) fn at(&self) -> u64
+        ensures { result ≡ self.now.at }
+    {
+        self.at
+    }
+
+    /// The notes of the packets that have come whole.
+    pub(crate) fn into_notes(self) -> Catalogue
+        ensures { result ≡ self.notes }
+    {
+        self.notes
+    }
+
+    /// The next bytes of the piece, however many.
+    pub(crate) fn feed(&mut self, bytes: &[u8]) -> Result<(), OutOfMemory>
+        requires { IsFed self.old }
+        ensures fed { OnOk result (Feeds self.old self.new bytes.now) }
+        ensures err { OnErr result (Fails self.old self.new bytes.now) }
+    {
+        let mut rest = bytes;
+        'bytes: while !rest.is_empty() && self.stop.is_none() {
+            let used = self.take(rest)?;
+            let (_, after) = rest.split_at(used);
+            rest = after;
+        }
+        Ok(())
+    }
+
+    /// Takes bytes of the next packet, and says how many.
+    fn take(&mut self, bytes: &[u8]) -> Result<usize, OutOfMemory>
+        requires fed { IsFed self.old }
+        requires goes_on { self.old.stop ≡ None }
+        requires more { 0 < length bytes.now }
+        ensures some { IfOk result (λ n. 0 < n) }
+        ensures room { IfOk result (λ n. n ≤ length bytes.now) }
+        ensures fed { IfOk result (λ n. Feeds self.old self.new (take n bytes.now)) }
+        ensures err { OnErr result (NotesNone self.old self.new) }
+    {
+        match self.value.take() {
+            Some(value) => self.take_value(value, bytes),
+            None => self.take_head(bytes),
+        }
+    }
+
+    /// Takes bytes of the next packet's key and length, and says how many.
+    fn take_head(&mut self, bytes: &[u8]) -> Result<usize, OutOfMemory>
+        requires fed { IsFed self.old }
+        requires goes_on { self.old.stop ≡ None }
+        requires head { self.old.value ≡ None }
+        requires more { 0 < length bytes.now }
+        ensures some { IfOk result (λ n. 0 < n) }
+        ensures room { IfOk result (λ n. n ≤ length bytes.now) }
+        ensures fed { IfOk result (λ n. Feeds self.old self.new (take n bytes.now)) }
+        ensures err { OnErr result (NotesNone self.old self.new) }
+    {
+        let known = self.head.len();
+        let count = bytes.len().min(GREATEST_HEAD - known);
+        self.head.extend_from_slice(&bytes[..count])?;
+        match next_head(self.at, &self.head) {
+            Ok((key, ber)) => {
+                self.head.clear();
+                let value = ComingValue::of(self.alloc, self.at, key, ber)?;
+                self.go_on(value)?;
+                Ok(16 + usize::from(ber.width()) - known)
+            }
+            Err(stop) => {
+                if !may_go_on(stop) {
+                    self.stop = Some(stop);
+                }
+                Ok(count)
+            }
+        }
+    }
+
+    /// Takes bytes of the next packet's value, and says how many.
+    fn take_value(&mut self, value: ComingValue, bytes: &[u8]) -> Result<usize, OutOfMemory>
+        requires goes_on { self.old.stop ≡ None }
+        requires value { self.old.value ≡ None }
+        requires head { self.old.head.items ≡ [] }
+        requires left { 0 < value.left }
+        requires more { 0 < length bytes.now }
+        ensures some { IfOk result (λ n. 0 < n) }
+        ensures room { IfOk result (λ n. n ≤ length bytes.now) }
+        ensures fed { IfOk result (λ n. (o : ℕ) (m : List ℕ) → Knows o m self.old
+            → HasCome self.old.at value (rest_in o m) → Fed o (m ++ take n bytes.now) self.new) }
+        ensures err { OnErr result (NotesNone self.old self.new) }
+    {
+        let mut value = value;
+        let count = value.left().min(bytes.len() as u64) as usize;
+        value.take(&bytes[..count])?;
+        self.go_on(value)?;
+        Ok(count)
+    }
+
+    /// Notes the next packet where its value has come whole, and waits for the rest of it elsewhere.
+    fn go_on(&mut self, value: ComingValue) -> Result<(), OutOfMemory>
+        requires goes_on { self.old.stop ≡ None }
+        requires value { self.old.value ≡ None }
+        requires head { self.old.head.items ≡ [] }
+        ensures fed { OnOk result ((o : ℕ) (m x : List ℕ) → Knows o m self.old
+            → HasCome self.old.at value (rest_in o m ++ x) → Fed o (m ++ x) self.new) }
+        ensures err { OnErr result (NotesNone self.old self.new) }
+    {
+        if value.left() > 0 {
+            self.value = Some(value);
+            return Ok(());
+        }
+        let note = value.into_note();
+        let end = note.end();
+        self.notes.add(note)?;
+        self.at = end;
+        Ok(())
+    }
+}
+
+/// Whether more bytes may lead on behind this stop.
+fn may_go_on(stop: Stop) -> bool
+    ensures { IsTrue result ↔ IsOpen stop }
+{
+    matches!(stop, Stop::End | Stop::Truncated(_))
+}
