@@ -1,12 +1,13 @@
 -- The preferred copy of those seen so far.
 use Rattle.std.proofs.Common.{◌≡◌, ◌+◌, ◌<◌, ◌≤◌, ◌⊎◌, Bool, true, false, List, [], ◌∷◌, ◌++◌, Option, Some, None, refl}
-use Rattle.std.proofs.Common.{cond, append_assoc, append-nil, subst, ap, ◌∙◌, sym, inl, inr, arith, eqb-true}
-use Rattle.std.specs.Prelude.{◌&&◌, ◌||◌, ◌==◌, nat_lt, IsTrue}
+use Rattle.std.proofs.Common.{cond, append_assoc, append-nil, subst, ap, ◌∙◌, sym, inl, inr, arith, eqb-true, eq-eqb}
+use Rattle.std.specs.Prelude.{ℕ, ◌↔◌, ◌&&◌, ◌||◌, ◌==◌, nat_lt, is_some}
 use Rattle.std.proofs.lemmas.Bool.{ltb-true, ltb-false}
 use Rattle.mxf_klv.specs.Rising.{In}
 use Rattle.mxf_views.specs.declared.copy.CopyInfo.{CopyInfo}
 use Rattle.mxf_views.specs.Copies.{best_of, better, preferred_of, is_candidate, is_above, standing, IsNotAbove, IsBest}
-use Rattle.mxf_views.specs.Copies.{IsPreferred}
+use Rattle.mxf_views.specs.Copies.{IsCandidate, IsPreferred}
+use Rattle.mxf_views.proofs.Members.{both, parts}
 
 In-push : (d c : CopyInfo) (seen : List CopyInfo) → In d (seen ++ c ∷ []) → In d seen ⊎ (d ≡ c)
 In-push d c [] h = elim h [ inl e ↦ inr e | inr k ↦ absurd k ]
@@ -26,6 +27,19 @@ In-left d c (x ∷ xs) h = elim h [ inl e ↦ inl e | inr k ↦ inr (In-left d c
 In-last : (c : CopyInfo) (seen : List CopyInfo) → In c (seen ++ c ∷ [])
 In-last c [] = inl refl
 In-last c (x ∷ xs) = inr (In-last c xs)
+
+candidate_says : (c : CopyInfo) (o : Option ℕ) → c.start ≡ o → is_some o ≡ true → c.prefaces ≡ 1 → IsCandidate c
+candidate_says c None e h one = absurd cc
+candidate_says c (Some s) e h one = record { start = s; begins = e; one = one }
+
+pub candidate_iff : (c : CopyInfo) → (is_candidate c ≡ true) ↔ IsCandidate c
+candidate_iff c = (
+  λ h.
+      let p = parts (is_some c.start) (c.prefaces == 1) h in
+      candidate_says c c.start refl p.0 (eqb-true c.prefaces 1 p.1),
+  λ i. both (is_some c.start) (c.prefaces == 1) (ap (λ (o : Option ℕ). is_some o) i.begins)
+      (eq-eqb c.prefaces 1 i.one),
+)
 
 above_says : (c b : CopyInfo) → is_above c (Some b) ≡ true
     → (standing b < standing c) ⊎ ((standing b ≡ standing c) × (b.partition < c.partition))
@@ -68,7 +82,7 @@ through d b c (inr p) (inl q) = let e = p.0 in inl (omega arith)
 through d b c (inr p) (inr q) = inr (p.0 ∙ q.0, let x = p.1 in let y = q.1 in omega arith)
 
 below_new : (seen : List CopyInfo) (best : Option CopyInfo) (c d : CopyInfo) → IsPreferred seen best
-    → is_above c best ≡ true → In d seen → IsTrue (is_candidate d) → IsNotAbove d c
+    → is_above c best ≡ true → In d seen → IsCandidate d → IsNotAbove d c
 below_new seen None c d p a h k = absurd (p d h k)
 below_new seen (Some b) c d p a h k = through d b c (p.best d h k) (above_says c b a)
 
@@ -76,7 +90,7 @@ pub best_takes : (seen : List CopyInfo) (best : Option CopyInfo) (c : CopyInfo) 
     → is_candidate c ≡ true → is_above c best ≡ true → IsBest (seen ++ c ∷ []) c
 best_takes seen best c p k a = record {
   held = In-last c seen;
-  candidate = k;
+  candidate = (candidate_iff c).0 k;
   best = λ d h t. elim (In-push d c seen h) [
     | inl m ↦ below_new seen best c d p a m t
     | inr e ↦ inr
@@ -89,7 +103,7 @@ pub best_keeps : (seen : List CopyInfo) (best : Option CopyInfo) (c : CopyInfo) 
 best_keeps seen None c p (inl k) = λ d h t. elim (In-push d c seen h) [
   | inl m ↦ p d m t
   | inr e ↦
-      (let f = ap is_candidate e in absurd (cc (f, k, t)))
+      (let f = ap is_candidate e in let u = (candidate_iff d).1 t in absurd (cc (f, k, u)))
 ]
 best_keeps seen None c p (inr a) = absurd cc
 best_keeps seen (Some b) c p (inl k) = record {
@@ -98,7 +112,7 @@ best_keeps seen (Some b) c p (inl k) = record {
   best = λ d h t. elim (In-push d c seen h) [
     | inl m ↦ p.best d m t
     | inr e ↦
-        (let f = ap is_candidate e in absurd (cc (f, k, t)))
+        (let f = ap is_candidate e in let u = (candidate_iff d).1 t in absurd (cc (f, k, u)))
   ];
 }
 best_keeps seen (Some b) c p (inr a) = record {

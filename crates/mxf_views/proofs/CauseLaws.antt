@@ -1,20 +1,18 @@
 -- The cause of each code is met at the offsets that are found of it, and at no others.
-use Rattle.std.proofs.Common.{◌≡◌, ◌≢◌, ℕ, ◌+◌, ◌-◌, ◌<◌, ◌≤◌, ◌⊎◌, Bool, true, false, cond, List, [], ◌∷◌, Option}
+use Rattle.std.proofs.Common.{◌≡◌, ◌≢◌, ℕ, ◌+◌, ◌-◌, ◌<◌, ◌≤◌, ◌⊎◌, Bool, true, false, List, [], ◌∷◌, Option}
 use Rattle.std.proofs.Common.{Some}
-use Rattle.std.proofs.Common.{None, Result, Ok, Err, refl, sym, ap, ◌∙◌, inl, inr, arith, eqb-true, eq-eqb}
+use Rattle.std.proofs.Common.{None, refl, sym, ap, ◌∙◌, inl, inr, arith, eqb-true, eq-eqb}
 use Rattle.std.specs.Prelude.{◌↔◌, ◌&&◌, ◌||◌, ◌==◌, nat_lt, not, is_some, filter, map}
 use Rattle.std.specs.Option.{option_map}
-use Rattle.std.specs.Result.{result_ok}
 use Rattle.std.proofs.lemmas.Bool.{ltb-false, ltb-true}
 use Rattle.mxf_klv.specs.declared.kinds.Status.{Status}
 use Rattle.mxf_klv.specs.declared.kinds.Status.TheVariants as statuses
 use Rattle.mxf_klv.specs.Parts.{NoteParts}
-use Rattle.mxf_klv.specs.Note.{end_of, keeps}
+use Rattle.mxf_klv.specs.Note.{end_of}
 use Rattle.mxf_klv.specs.Kind.{kind_of}
 use Rattle.mxf_klv.specs.Rising.{In}
 use Rattle.mxf_sets.specs.PartitionPack.{IsPartitionKind, PartitionPackParts}
 use Rattle.mxf_sets.specs.PackReadings.{pack_at, part_and_status}
-use Rattle.mxf_sets.specs.Readable.{read_as}
 use Rattle.mxf_sets.specs.declared.pack.part.PackPart.TheVariants.{Footer}
 use Rattle.mxf_catalogue.specs.declared.run.Run.{Run}
 use Rattle.mxf_catalogue.specs.Runs.{AreMaximal}
@@ -29,13 +27,15 @@ use Rattle.mxf_views.specs.Partitions.{PartitionParts, is_footer, is_no_unreadab
 use Rattle.mxf_views.specs.Partitions.{partition_at, partitions_of}
 use Rattle.mxf_views.specs.Gaps.{gaps_of}
 use Rattle.mxf_views.specs.Findings.{footer_stands_at, is_misplaced, is_open, is_open_footer, is_unfit, lacks_footer}
-use Rattle.mxf_views.specs.FindingCauses.{AtClear, AtNote, AtPartition, IsGapStart, IsOpen, IsReadable, IsReadAs}
+use Rattle.mxf_views.specs.Readings.{IsReadable}
+use Rattle.mxf_views.specs.FindingCauses.{AtClear, AtNote, AtPartition, IsGapStart, IsOpen}
 use Rattle.mxf_views.specs.FindingCauses.{IsUnlinked, LacksFooter}
 use Rattle.mxf_views.proofs.ChainLaws.{footer_says, kind_says, kind_tells}
 use Rattle.mxf_views.proofs.FindingMembers.{In-chosen}
 use Rattle.mxf_views.proofs.GapsLaws.{gaps_are}
 use Rattle.mxf_views.proofs.Members.{both, parts}
 use Rattle.mxf_views.proofs.PartitionLaws.{link_iff}
+use Rattle.mxf_views.proofs.ReadingLaws.{is_some_readable}
 
 -- ---- tests
 
@@ -175,31 +175,6 @@ gap_starts notes o content =
     )
 
 -- ---- partition packs
-
-pub reads : {A E : Type 0} (read : List ℕ → Result A E) (n : NoteParts) (value : A)
-    → (read_as read n ≡ Some value) ↔ IsReadAs read n value
-reads {A} {E} read n value = (
-  λ h. elim (keeps n.key n.length) as (λ b. keeps n.key n.length ≡ b
-      → cond b (result_ok (read n.held)) None ≡ Some value → IsReadAs read n value) [
-        | false ↦ λ _ q. absurd cc
-        | true ↦ λ k q. elim (read n.held) as (λ r. read n.held ≡ r
-            → result_ok r ≡ Some value → IsReadAs read n value) [
-              | Err f ↦ λ _ u. absurd cc
-              | Ok x ↦ λ e u. (k, e ∙ (let same : x ≡ value = cc (u) in ap (λ (y : A). Ok y) same))
-            ] refl q
-      ] refl h,
-  λ s. let k : keeps n.key n.length ≡ true = s.0 in let e = s.1 in rw k (rw e refl),
-)
-
-pub is_some_readable : {A E : Type 0} (read : List ℕ → Result A E) (n : NoteParts)
-    → (is_some (read_as read n) ≡ true) ↔ IsReadable read n
-is_some_readable {A} read n = (
-  λ h. elim (read_as read n) as (λ o. read_as read n ≡ o → is_some o ≡ true → IsReadable read n) [
-    | None ↦ λ _ q. absurd cc
-    | Some value ↦ λ e _. (value, (reads read n value).0 e)
-  ] refl h,
-  λ s. ap (λ (o : Option A). is_some o) ((reads read n s.0).1 s.1),
-)
 
 is_some-map : {A B : Type 0} (f : A → B) (o : Option A) → is_some (option_map f o) ≡ is_some o
 is_some-map f None = refl

@@ -1,13 +1,13 @@
 -- Copies of the header metadata and their sets.
-use Rattle.std.proofs.Common.{◌≡◌, ℕ, ◌+◌, ◌<◌, ◌≤◌, Bool, true, false, cond, List, [], ◌∷◌, Option, Some, None}
-use Rattle.std.proofs.Common.{refl, sym, ap, subst, ◌∙◌, arith, eqb-true, eq-eqb, leb-true, le-leb}
+use Rattle.std.proofs.Common.{◌≡◌, ℕ, suc, ◌+◌, ◌<◌, ◌≤◌, Bool, true, false, cond, List, [], ◌∷◌, Option, Some, None}
+use Rattle.std.proofs.Common.{length, inl, inr, refl, sym, ap, subst, ◌∙◌, arith, eqb-true, eq-eqb, leb-true, le-leb}
 use Rattle.std.specs.Prelude.{◌↔◌, ◌==◌, nat_le, IsTrue, count_by, filter, find, map}
 use Rattle.std.specs.List.{range_with_len, AllByRecursion}
 use Rattle.std.proofs.lemmas.Bool.{ltb-true, lt-ltb}
+use Rattle.std.proofs.lemmas.List.Sums.{length-filter}
 use Rattle.mxf_klv.specs.Parts.{NoteParts}
 use Rattle.mxf_klv.specs.Note.{end_of}
 use Rattle.mxf_klv.specs.Kind.{kind_of}
-use Rattle.mxf_klv.specs.declared.kinds.Kind.{Kind}
 use Rattle.mxf_klv.specs.declared.kinds.Kind.TheVariants as kinds
 use Rattle.mxf_klv.specs.Rising.{In}
 use Rattle.mxf_catalogue.specs.Content.{IsContent}
@@ -17,53 +17,126 @@ use Rattle.mxf_catalogue.proofs.SpanLaws.{AreApart-clear_notes, AreApart-filter}
 use Rattle.mxf_catalogue.proofs.Lists.{In-filter, In-map, found-In, none_found}
 use Rattle.mxf_views.specs.declared.copy.CopyInfo.{CopyInfo}
 use Rattle.mxf_views.specs.Partitions.{AreInOrder, PartitionParts, partitions_of}
-use Rattle.mxf_views.specs.Copies.{CountsZone, IsCopy, IsCopyOf, IsSetOf, IsStartFound, copies_of, copy_from}
-use Rattle.mxf_views.specs.Copies.{copy_of, covered_of, has_metadata, is_preface, is_preface_note, is_set, is_set_note}
+use Rattle.mxf_views.specs.Copies.{AreSoMany, CountsZone, IsCopy, IsCopyOf, IsPrefaceIn, IsSetKind, IsSetOf}
+use Rattle.mxf_views.specs.Copies.{IsStartFound, copies_of, copy_from, prefaces_of}
+use Rattle.mxf_views.specs.Copies.{copy_of, covered_of, has_metadata, is_preface_note, is_set_note}
 use Rattle.mxf_views.specs.Copies.{CopiesRise, sets_found, sets_from, sets_in, sets_of, start_of, zone_of}
 use Rattle.mxf_views.specs.Spans.{is_in_one}
 use Rattle.mxf_catalogue.specs.Disputes.{lies_in}
-use Rattle.mxf_views.proofs.Members.{both, count_by-cons, false_if, parts, tally}
+use Rattle.mxf_views.proofs.KindLaws.{preface_kind, set_kind}
+use Rattle.mxf_views.proofs.Members.{both, parts}
 use Rattle.mxf_views.proofs.PartitionLaws.{one_there, partitions_rise}
 use Rattle.mxf_views.proofs.SpanCounts.{zone-count}
 use Rattle.mxf_views.proofs.StartLaws.{one_start, start_is}
 
--- ---- Prefaces are sets
+-- ---- Prefaces
 
-preface_is_set : (k : Kind) → is_preface k ≡ true → is_set k ≡ true
-preface_is_set kinds.Preface p = refl
-preface_is_set kinds.Identification p = refl
-preface_is_set kinds.ContentStorage p = refl
-preface_is_set kinds.MaterialPackage p = refl
-preface_is_set kinds.SourcePackage p = refl
-preface_is_set kinds.RawSet p = refl
-preface_is_set (kinds.Header s) p = absurd cc
-preface_is_set (kinds.Body s) p = absurd cc
-preface_is_set (kinds.Footer s) p = absurd cc
-preface_is_set kinds.Primer p = absurd cc
-preface_is_set kinds.Segment p = absurd cc
-preface_is_set kinds.Rip p = absurd cc
-preface_is_set kinds.Fill p = absurd cc
-preface_is_set kinds.Essence p = absurd cc
-preface_is_set kinds.Other p = absurd cc
+pub preface_note : (n : NoteParts) → (is_preface_note n ≡ true) ↔ (kind_of n.key ≡ kinds.Preface)
+unfolding is_preface_note
+preface_note n = preface_kind (kind_of n.key)
 
-preface_note_is_set : (n : NoteParts) → is_preface_note n ≡ true → is_set_note n ≡ true
-unfolding is_preface_note is_set_note
-preface_note_is_set n p = preface_is_set (kind_of n.key) p
+pub set_note : (n : NoteParts) → (is_set_note n ≡ true) ↔ IsSetKind (kind_of n.key)
+unfolding is_set_note
+set_note n = set_kind (kind_of n.key)
 
-prefaces_among : (ns : List NoteParts) → count_by is_preface_note (filter is_set_note ns) ≡ count_by is_preface_note ns
-prefaces_among [] = refl
-prefaces_among (n ∷ ns) =
-    let ih = prefaces_among ns in
-    let c = count_by-cons is_preface_note n ns in
-    elim (is_set_note n) as (λ b. is_set_note n ≡ b
-    → count_by is_preface_note
-    (cond b (n ∷ filter is_set_note ns) (filter is_set_note ns)) ≡ count_by is_preface_note (n ∷ ns)) [
-      | true ↦ λ e. let d = count_by-cons is_preface_note n (filter is_set_note ns) in omega (arith, ih, c, d)
-      | false ↦ λ e.
-          let z : tally (is_preface_note n) ≡ 0 = ap tally
-          (false_if (is_preface_note n) (λ t. let s = preface_note_is_set n t in cc (s, e))) in
-          omega (arith, ih, c, z)
-    ] refl
+In-zone : (notes : List NoteParts) (start bytes : ℕ) (n : NoteParts)
+    → In n (zone_of start bytes (clear_notes notes)) ↔ (IsClear n notes × (start ≤ n.offset)
+    × (end_of n ≤ start + bytes))
+In-zone notes start bytes n =
+    let clear = clear_notes notes in
+    let g = In-filter (lies_in start bytes) clear n in (
+      λ h.
+          let z = g.0 h in
+          let l = parts (nat_le start n.offset) (nat_le (end_of n) (start + bytes)) z.1 in
+          ((In-clear_notes n notes).0 z.0, leb-true start n.offset l.0, leb-true (end_of n) (start + bytes) l.1),
+      λ s. g.1 (
+        (In-clear_notes n notes).1 s.0,
+        both (nat_le start n.offset) (nat_le (end_of n) (start + bytes))
+            (le-leb start n.offset s.1) (le-leb (end_of n) (start + bytes) s.2),
+      ),
+    )
+
+In-prefaces : (notes : List NoteParts) (start bytes : ℕ) (n : NoteParts)
+    → In n (filter is_preface_note (zone_of start bytes (clear_notes notes))) ↔ IsPrefaceIn notes start bytes n
+In-prefaces notes start bytes n =
+    let f = In-filter is_preface_note (zone_of start bytes (clear_notes notes)) n in
+    let g = In-zone notes start bytes n in (
+      λ h.
+          let s = f.0 h in
+          let z = g.0 s.0 in
+          record { clear = z.0; kind = (preface_note n).0 s.1; from = z.1; before = z.2 },
+      λ s. f.1 (g.1 (s.clear, s.from, s.before), (preface_note n).1 s.kind),
+    )
+
+prefaces_are : (notes : List NoteParts) (start bytes : ℕ) → IsContent notes
+    → AreSoMany (prefaces_of start bytes (clear_notes notes)) (IsPrefaceIn notes start bytes)
+prefaces_are notes start bytes r =
+    let zone = zone_of start bytes (clear_notes notes) in
+    let a = AreApart-filter (lies_in start bytes) 0 (clear_notes notes) (AreApart-clear_notes notes r) in
+    record {
+      list = filter is_preface_note zone;
+      apart = AreApart-filter is_preface_note 0 zone a;
+      members = In-prefaces notes start bytes;
+      number = length-filter is_preface_note zone;
+    }
+
+apart_above : (low : ℕ) (ns : List NoteParts) (n : NoteParts) → AreApart low ns → In n ns → low ≤ n.offset
+apart_above low [] n a h = absurd h
+apart_above low (x ∷ ns) n a (inl e) =
+    let l : low ≤ x.offset = a.0 in
+    let o = ap (λ (y : NoteParts). y.offset) e in
+    omega (arith, l, o)
+apart_above low (x ∷ ns) n a (inr h) =
+    let l : low ≤ x.offset = a.0 in
+    let k : end_of x ≤ n.offset = apart_above (end_of x) ns n a.1 h in
+    omega arith
+
+-- the rest of a list apart lacks its first
+first_once : (low : ℕ) (x : NoteParts) (ns : List NoteParts) → AreApart low (x ∷ ns) → In x ns → ⊥
+first_once low x ns a h =
+    let k : end_of x ≤ x.offset = apart_above (end_of x) ns x a.1 h in
+    omega arith
+
+-- the firsts of two lists apart with the same members are one
+same_first : (low : ℕ) (x y : NoteParts) (xs ys : List NoteParts) → AreApart low (x ∷ xs) → AreApart low (y ∷ ys)
+    → In x (y ∷ ys) → In y (x ∷ xs) → x ≡ y
+same_first low x y xs ys a b (inl e) k = e
+same_first low x y xs ys a b (inr h) (inl e) = sym e
+same_first low x y xs ys a b (inr h) (inr k) =
+    let m : end_of y ≤ x.offset = apart_above (end_of y) ys x b.1 h in
+    let n : end_of x ≤ y.offset = apart_above (end_of x) xs y a.1 k in
+    absurd (omega arith)
+
+-- what is behind the first
+behind : (x n : NoteParts) (xs ys : List NoteParts) → (In n xs → n ≡ x → ⊥) → (In n (x ∷ xs) → In n (x ∷ ys)) → In n xs
+    → In n ys
+behind x n xs ys f g h = elim (g (inr h)) [ inl e ↦ absurd (f h e) | inr k ↦ k ]
+
+-- lists apart with the same members are one
+apart_same : (low : ℕ) (xs ys : List NoteParts) → AreApart low xs → AreApart low ys
+    → ((n : NoteParts) → In n xs ↔ In n ys) → length xs ≡ length ys
+apart_same low [] [] a b m = refl
+apart_same low [] (y ∷ ys) a b m = absurd ((m y).1 (inl refl))
+apart_same low (x ∷ xs) [] a b m = absurd ((m x).0 (inl refl))
+apart_same low (x ∷ xs) (y ∷ ys) a b m =
+    let e = same_first low x y xs ys a b ((m x).0 (inl refl)) ((m y).1 (inl refl)) in
+    let c : AreApart low (x ∷ ys) = subst (λ (z : NoteParts). AreApart low (z ∷ ys)) (sym e) b in
+    let k = λ (n : NoteParts). subst (λ (z : NoteParts). In n (x ∷ xs) ↔ In n (z ∷ ys)) (sym e) (m n) in
+    let once = λ (zs : List NoteParts) (z : AreApart low (x ∷ zs)) (n : NoteParts) (h : In n zs) (q : n ≡ x).
+    first_once low x zs z (subst (λ (w : NoteParts). In w zs) q h) in
+    let rest = apart_same (end_of x) xs ys a.1 c.1 (λ n. (
+      behind x n xs ys (once xs a n) (k n).0,
+      behind x n ys xs (once ys c n) (k n).1,
+    )) in
+    ap (λ (l : ℕ). suc l) rest
+
+one_number : (a b : ℕ) (IsSuch : NoteParts → Type 0) → AreSoMany a IsSuch → AreSoMany b IsSuch → a ≡ b
+one_number a b IsSuch p q =
+    let e = apart_same 0 p.list q.list p.apart q.apart (λ n. (
+      λ h. (q.members n).1 ((p.members n).0 h),
+      λ h. (p.members n).1 ((q.members n).0 h),
+    )) in
+    sym p.number ∙ e ∙ q.number
 
 -- ---- one copy of a partition
 
@@ -93,11 +166,7 @@ copy_is notes p r h =
         bytes = refl;
         status = refl;
         start = (start_is notes p.end s r).0 e;
-        counts = (
-          zone-count clear 0 s bytes (AreApart-clear_notes notes r),
-          sym
-              (prefaces_among (zone_of s bytes clear)),
-        );
+        counts = (zone-count clear 0 s bytes (AreApart-clear_notes notes r), prefaces_are notes s bytes r);
         finished = equals_itself (covered_of s bytes clear) bytes;
       }
     ] refl
@@ -119,7 +188,7 @@ abbrev Counted : List NoteParts → ℕ → Option ℕ → ℕ → ℕ → Type 
 Counted notes bytes None covered prefaces = (covered ≡ 0) × (prefaces ≡ 0)
 Counted notes bytes (Some start) covered prefaces =
     (covered ≡ count_by (is_in_one (zone_of start bytes (clear_notes notes))) (range_with_len start bytes))
-    × (prefaces ≡ count_by is_preface_note (sets_in start bytes (clear_notes notes)))
+    × AreSoMany prefaces (IsPrefaceIn notes start bytes)
 
 counted : (notes : List NoteParts) (c : CopyInfo) (o : Option ℕ) → CountsZone notes c o
     → Counted notes c.bytes o c.covered c.prefaces
@@ -129,7 +198,8 @@ counted notes c (Some s) x = x
 one_counted : (notes : List NoteParts) (bytes : ℕ) (o : Option ℕ) (a b x y : ℕ) → Counted notes bytes o a x
     → Counted notes bytes o b y → (a ≡ b) × (x ≡ y)
 one_counted notes bytes None a b x y p q = (p.0 ∙ sym q.0, p.1 ∙ sym q.1)
-one_counted notes bytes (Some s) a b x y p q = (p.0 ∙ sym q.0, p.1 ∙ sym q.1)
+one_counted notes bytes (Some s) a b x y p q =
+    (p.0 ∙ sym q.0, one_number x y (IsPrefaceIn notes s bytes) p.1 q.1)
 
 one_copy : (notes : List NoteParts) (p : PartitionParts) (c d : CopyInfo) → IsCopyOf notes p c → IsCopyOf notes p d
     → c ≡ d
@@ -190,29 +260,20 @@ unfolding sets_of
 sets_apart notes partition r = apart_found notes (find (λ c. c.partition == partition) (copies_of notes)) r
 
 In-sets_in : (notes : List NoteParts) (start bytes : ℕ) (n : NoteParts)
-    → In n (sets_in start bytes (clear_notes notes)) ↔ (IsClear n notes × IsTrue (is_set_note n) × (start ≤ n.offset)
-    × (end_of n ≤ start + bytes))
+    → In n (sets_in start bytes (clear_notes notes)) ↔ (IsClear n notes × IsSetKind (kind_of n.key)
+    × (start ≤ n.offset) × (end_of n ≤ start + bytes))
 In-sets_in notes start bytes n =
-    let clear = clear_notes notes in
-    let f = In-filter is_set_note (zone_of start bytes clear) n in
-    let g = In-filter (lies_in start bytes) clear n in (
+    let f = In-filter is_set_note (zone_of start bytes (clear_notes notes)) n in
+    let g = In-zone notes start bytes n in (
       λ h.
           let s = f.0 h in
           let z = g.0 s.0 in
-          let l = parts (nat_le start n.offset) (nat_le (end_of n) (start + bytes)) z.1 in
-          ((In-clear_notes n notes).0 z.0, s.1, leb-true start n.offset l.0, leb-true (end_of n) (start + bytes) l.1),
-      λ s. f.1 (
-        g.1 (
-          (In-clear_notes n notes).1 s.0,
-          both (nat_le start n.offset) (nat_le (end_of n) (start + bytes))
-              (le-leb start n.offset s.2) (le-leb (end_of n) (start + bytes) s.3),
-        ),
-        s.1,
-      ),
+          (z.0, (set_note n).0 s.1, z.1, z.2),
+      λ s. f.1 (g.1 (s.0, s.2, s.3), (set_note n).1 s.1),
     )
 
 -- two copies that name one partition are one
-one_named : (notes : List NoteParts) (c d : CopyInfo) → IsContent notes → IsCopy notes c → IsCopy notes d
+pub one_named : (notes : List NoteParts) (c d : CopyInfo) → IsContent notes → IsCopy notes c → IsCopy notes d
     → c.partition ≡ d.partition → c ≡ d
 one_named notes c d r a b e =
     let same : a.0 ≡ b.0 = one_there (partitions_of notes) a.0 b.0 (partitions_rise notes r) a.1 b.1 (sym a.2.partition

@@ -30,7 +30,7 @@ causes F09 notes o r = partial_copies notes o r
 causes F10 notes o r = unreadable_sets notes o
 causes F11 notes o r = unreadable_segments notes o
 causes F12 notes o r = unfit_random_index notes o
-causes F13 notes o r = lost_references notes o
+causes F13 notes o r = lost_references notes o r
 causes F14 notes o r = broken_chain notes o r
 
 pub findings_iff : (notes : List NoteParts) (f : Finding) → IsContent notes

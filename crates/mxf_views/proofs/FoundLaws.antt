@@ -3,24 +3,32 @@ use Rattle.std.proofs.Common.{◌≡◌, ◌≢◌, ℕ, ◌≤◌, Bool, true, 
 use Rattle.std.proofs.Common.{sym, ap, subst, ◌∙◌, inl, inr, arith}
 use Rattle.std.specs.Prelude.{◌↔◌, ◌&&◌, IsTrue, not, if◌then◌else◌, filter}
 use Rattle.std.proofs.lemmas.Slice.Eq.{bytes_eq-Decides}
+use Rattle.mxf_klv.specs.declared.kinds.Kind.{Kind}
+use Rattle.mxf_klv.specs.declared.kinds.Kind.TheVariants as kinds
 use Rattle.mxf_klv.specs.Parts.{NoteParts}
 use Rattle.mxf_klv.specs.Note.{end_of, keeps}
 use Rattle.mxf_klv.specs.Kind.{kind_of}
 use Rattle.mxf_klv.specs.Rising.{In}
 use Rattle.mxf_sets.specs.declared.record.FieldFault.{FieldFault}
 use Rattle.mxf_sets.specs.Instance.{instance_uid_at}
+use Rattle.mxf_sets.specs.Storage.{storage_at}
+use Rattle.mxf_sets.specs.Identification.{identification_at}
+use Rattle.mxf_sets.specs.Package.{package_at}
 use Rattle.mxf_catalogue.specs.Disputes.{AreApart}
 use Rattle.mxf_catalogue.proofs.SpanLaws.{AreApart-filter}
 use Rattle.mxf_catalogue.proofs.Lists.{In-filter}
 use Rattle.mxf_views.specs.declared.reference.Found.{Found}
 use Rattle.mxf_views.specs.declared.reference.Found.TheVariants.{Absent, One, Several}
 use Rattle.mxf_views.specs.declared.reference.target.Wanted.{Wanted}
+use Rattle.mxf_views.specs.declared.reference.target.Wanted.TheVariants.{Storage, Identification, Package}
 use Rattle.mxf_views.specs.declared.reference.target.Target.{Target}
 use Rattle.mxf_views.specs.declared.reference.target.Target.TheVariants as targets
 use Rattle.mxf_views.specs.References.{HasUid, IsFound, IsOnlyWith, IsSeveral, found_among, has_uid, reads_uid}
 use Rattle.mxf_views.specs.Copies.{sets_of}
-use Rattle.mxf_views.specs.Targets.{IsTarget, fits, is_readable, target_among, target_at, target_of}
-use Rattle.mxf_views.proofs.Members.{both, parts}
+use Rattle.mxf_views.specs.Targets.{IsReadableAs, IsTarget, IsWanted, fits, is_readable, target_among, target_at}
+use Rattle.mxf_views.specs.Targets.{target_of}
+use Rattle.mxf_views.proofs.Members.{both, false_if, parts}
+use Rattle.mxf_views.proofs.ReadingLaws.{ok_readable}
 
 reads_says : (uid : List ℕ) (r : Result (List ℕ) FieldFault) → reads_uid uid r ≡ true → r ≡ Ok uid
 reads_says uid (Ok own) h = ap (λ (x : List ℕ). Ok x) ((bytes_eq-Decides own uid).0 h)
@@ -43,10 +51,10 @@ has_uid_iff uid n = (
 )
 
 -- the sets of a list that have the identifier
-abbrev Picks : List NoteParts → List ℕ → List NoteParts → Type 0
+abbrev pub Picks : List NoteParts → List ℕ → List NoteParts → Type 0
 Picks sets uid ws = (n : NoteParts) → In n ws ↔ (In n sets × HasUid uid n)
 
-picks : (sets : List NoteParts) (uid : List ℕ) → Picks sets uid (filter (has_uid uid) sets)
+pub picks : (sets : List NoteParts) (uid : List ℕ) → Picks sets uid (filter (has_uid uid) sets)
 picks sets uid n = let f = In-filter (has_uid uid) sets n in (
   λ h. let s = f.0 h in (s.0, (has_uid_iff uid n).0 s.1),
   λ s. f.1 (s.0, (has_uid_iff uid n).1 s.1),
@@ -63,7 +71,7 @@ none_of : (sets : List NoteParts) (uid : List ℕ) (ws : List NoteParts) → Pic
 none_of sets uid [] w f = refl
 none_of sets uid (n ∷ ws) w f = let s = (w n).0 (inl refl) in absurd (f n s.0 s.1)
 
-only_of : (sets : List NoteParts) (uid : List ℕ) (ws : List NoteParts) → Picks sets uid ws → AreApart 0 ws
+pub only_of : (sets : List NoteParts) (uid : List ℕ) (ws : List NoteParts) → Picks sets uid ws → AreApart 0 ws
     → (n : NoteParts) → IsOnlyWith sets uid n → ws ≡ n ∷ []
 only_of sets uid [] w a n o = absurd ((w n).1 (o.held, o.has))
 only_of sets uid (x ∷ []) w a n o = let s = (w x).0 (inl refl) in ap (λ (y : NoteParts). y ∷ []) (o.only x s.0 s.1)
@@ -86,7 +94,7 @@ several_of sets uid (x ∷ []) w s =
     ]
 several_of sets uid (x ∷ y ∷ rest) w s = (x, y, rest, refl)
 
-only_from : (sets : List NoteParts) (uid : List ℕ) (n : NoteParts) → Picks sets uid (n ∷ []) → IsOnlyWith sets uid n
+pub only_from : (sets : List NoteParts) (uid : List ℕ) (n : NoteParts) → Picks sets uid (n ∷ []) → IsOnlyWith sets uid n
 only_from sets uid n w =
     let s = (w n).0 (inl refl) in
     record { held = s.0; has = s.1; only = λ m h u. elim ((w m).1 (h, u)) [ inl e ↦ e | inr k ↦ absurd k ] }
@@ -121,33 +129,65 @@ found_iff sets uid f r =
 
 -- ---- targets
 
-abbrev target_by : Bool → Bool → Bool → ℕ → Target
-target_by fit kept read o = if not fit then targets.WrongKind o else
-    (if kept && read then targets.Found o else targets.Unreadable o)
+fits_says : (w : Wanted) (k : Kind) → fits w k ≡ true → IsWanted w k
+fits_says Storage kinds.ContentStorage e = refl
+fits_says Storage _ e = absurd cc
+fits_says Identification kinds.Identification e = refl
+fits_says Identification _ e = absurd cc
+fits_says Package kinds.MaterialPackage e = inl refl
+fits_says Package kinds.SourcePackage e = inr refl
+fits_says Package _ e = absurd cc
+
+fits_tells : (w : Wanted) (k : Kind) → IsWanted w k → fits w k ≡ true
+fits_tells Storage k e = ap (fits Storage) e
+fits_tells Identification k e = ap (fits Identification) e
+fits_tells Package k (inl e) = ap (fits Package) e
+fits_tells Package k (inr e) = ap (fits Package) e
+
+pub wanted_kind : (w : Wanted) (k : Kind) → (fits w k ≡ true) ↔ IsWanted w k
+wanted_kind w k = (fits_says w k, fits_tells w k)
+
+readable_as : (w : Wanted) (n : NoteParts)
+    → ((keeps n.key n.length && is_readable w n.held) ≡ true) ↔ IsReadableAs w n
+readable_as Storage n = ok_readable storage_at n
+readable_as Identification n = ok_readable identification_at n
+readable_as Package n = ok_readable package_at n
+
+abbrev target_by : Bool → Bool → ℕ → Target
+target_by fit read o = if not fit then targets.WrongKind o else
+    (if read then targets.Found o else targets.Unreadable o)
 
 at_only : (sets : List NoteParts) (w : Wanted) (uid : List ℕ) (n : NoteParts) → IsOnlyWith sets uid n
     → IsTarget sets w uid (target_at w n)
 unfolding target_at
 at_only sets w uid n o =
+    let kind = wanted_kind w (kind_of n.key) in
     let fit = fits w (kind_of n.key) in
-    let read = is_readable w n.held in
-    let k : keeps n.key n.length ≡ true = o.has.kept in
-    elim fit as (λ b. fit ≡ b → IsTarget sets w uid (target_by b (keeps n.key n.length) read n.offset)) [
-      | false ↦ λ e. (n, o, refl, e)
-      | true ↦ λ e. subst (λ (b : Bool). IsTarget sets w uid (target_by true b read n.offset)) (sym k) (
-          elim read as (λ b. read ≡ b → IsTarget sets w uid (target_by true true b n.offset)) [
-            | true ↦ λ f. (n, o, refl, e, f)
-            | false ↦ λ f. (n, o, refl, e, f)
-          ] refl
-          )
+    let value = readable_as w n in
+    let read = keeps n.key n.length && is_readable w n.held in
+    elim fit as (λ b. fit ≡ b → IsTarget sets w uid (target_by b read n.offset)) [
+      | false ↦ λ e. (n, o, refl, λ k. let t = kind.1 k in cc (t, e))
+      | true ↦ λ e. elim read as (λ b. read ≡ b → IsTarget sets w uid (target_by true b n.offset)) [
+        | true ↦ λ f. (n, o, refl, kind.0 e, value.0 f)
+        | false ↦ λ f. (n, o, refl, kind.0 e, λ r. let t = value.1 r in cc (t, f))
+      ] refl
     ] refl
 
-only_at : (sets : List NoteParts) (w : Wanted) (uid : List ℕ) (n : NoteParts) → IsOnlyWith sets uid n → (f r : Bool)
-    → fits w (kind_of n.key) ≡ f → is_readable w n.held ≡ r
-    → target_at w n ≡ target_by f true r n.offset
+only_at : (w : Wanted) (n : NoteParts) (f r : Bool) → fits w (kind_of n.key) ≡ f
+    → (keeps n.key n.length && is_readable w n.held) ≡ r → target_at w n ≡ target_by f r n.offset
 unfolding target_at
-only_at sets w uid n o f r e g = let k : keeps n.key n.length ≡ true = o.has.kept in λ i. target_by (e i) (k i)
-    (g i) n.offset
+only_at w n f r e g = λ i. target_by (e i) (g i) n.offset
+
+wrong_kind : (w : Wanted) (n : NoteParts) → ¬ IsWanted w (kind_of n.key) → target_at w n ≡ targets.WrongKind n.offset
+wrong_kind w n k =
+    let e = false_if (fits w (kind_of n.key)) (λ t. k ((wanted_kind w (kind_of n.key)).0 t)) in
+    only_at w n false (keeps n.key n.length && is_readable w n.held) e refl
+
+unreadable : (w : Wanted) (n : NoteParts) → IsWanted w (kind_of n.key) → ¬ IsReadableAs w n
+    → target_at w n ≡ targets.Unreadable n.offset
+unreadable w n k r =
+    let f = false_if (keeps n.key n.length && is_readable w n.held) (λ t. r ((readable_as w n).0 t)) in
+    only_at w n true false ((wanted_kind w (kind_of n.key)).1 k) f
 
 target_from : (sets : List NoteParts) (w : Wanted) (uid : List ℕ) (ws : List NoteParts) → Picks sets uid ws
     → AreApart 0 ws → IsTarget sets w uid (target_among w ws)
@@ -160,13 +200,14 @@ target_to : (sets : List NoteParts) (w : Wanted) (uid : List ℕ) (ws : List Not
 target_to sets w uid ws p a targets.Missing i = ap (target_among w) (none_of sets uid ws p i)
 target_to sets w uid ws p a targets.Several i = ap (target_among w) (several_of sets uid ws p i).3
 target_to sets w uid ws p a (targets.WrongKind o) i =
-    ap (target_among w) (only_of sets uid ws p a i.0 i.1)
-    ∙ only_at sets w uid i.0 i.1 false (is_readable w i.0.held) i.3 refl ∙ ap (λ (x : ℕ). targets.WrongKind x) i.2
+    ap (target_among w) (only_of sets uid ws p a i.0 i.1) ∙ wrong_kind w i.0 i.3
+    ∙ ap (λ (x : ℕ). targets.WrongKind x) i.2
 target_to sets w uid ws p a (targets.Unreadable o) i =
-    ap (target_among w) (only_of sets uid ws p a i.0 i.1) ∙ only_at sets w uid i.0 i.1 true false i.3 i.4
+    ap (target_among w) (only_of sets uid ws p a i.0 i.1) ∙ unreadable w i.0 i.3 i.4
     ∙ ap (λ (x : ℕ). targets.Unreadable x) i.2
 target_to sets w uid ws p a (targets.Found o) i =
-    ap (target_among w) (only_of sets uid ws p a i.0 i.1) ∙ only_at sets w uid i.0 i.1 true true i.3 i.4
+    ap (target_among w) (only_of sets uid ws p a i.0 i.1)
+    ∙ only_at w i.0 true true ((wanted_kind w (kind_of i.0.key)).1 i.3) ((readable_as w i.0).1 i.4)
     ∙ ap (λ (x : ℕ). targets.Found x) i.2
 
 -- What a reference leads to is by the sets that have the identifier.

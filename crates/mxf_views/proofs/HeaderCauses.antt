@@ -1,7 +1,7 @@
 -- The causes of findings of the header metadata are met at the offsets that are found of them, and at no others.
-use Rattle.std.proofs.Common.{◌≡◌, ◌≢◌, ℕ, ◌⊎◌, Bool, true, false, List, [], ◌∷◌, Option, Some, None, Result}
-use Rattle.std.proofs.Common.{Ok, Err, refl, sym, ap, subst, ◌∙◌, inl, inr, arith, eqb-true, eq-eqb, length}
-use Rattle.std.specs.Prelude.{◌↔◌, ◌&&◌, ◌||◌, ◌==◌, not, IsTrue, is_none, is_ok, is_some, filter, map, if◌then◌else◌}
+use Rattle.std.proofs.Common.{◌≡◌, ◌≢◌, ℕ, ◌⊎◌, Bool, true, false, List, [], ◌∷◌, Option, Some, None}
+use Rattle.std.proofs.Common.{refl, sym, ap, subst, ◌∙◌, inl, inr, arith, eqb-true, eq-eqb, length}
+use Rattle.std.specs.Prelude.{◌↔◌, ◌&&◌, ◌||◌, ◌==◌, not, is_none, is_some, filter, map, if◌then◌else◌}
 use Rattle.mxf_klv.specs.declared.kinds.Kind.{Kind}
 use Rattle.mxf_klv.specs.declared.kinds.Kind.TheVariants as kinds
 use Rattle.mxf_klv.specs.Parts.{NoteParts}
@@ -28,12 +28,15 @@ use Rattle.mxf_views.specs.Findings.{is_found, is_partial, is_unreadable_segment
 use Rattle.mxf_views.specs.Findings.{is_unreadable_set, lost_at, lost_behind, lost_beside, lost_by, lost_in}
 use Rattle.mxf_views.specs.Findings.{reads_value}
 use Rattle.mxf_views.specs.Places.{is_segment}
-use Rattle.mxf_views.specs.FindingCauses.{AtClear, Holds, HoldsLost, IsReadable, IsReadableSet}
+use Rattle.mxf_views.specs.FindingCauses.{AtClear, Holds, HoldsLost, IsMetadataKind, IsReadableSet}
+use Rattle.mxf_views.specs.Readings.{IsReadable}
 use Rattle.mxf_views.proofs.CauseLaws.{at_clear, either, if_not, not_if, one_of}
 use Rattle.mxf_views.proofs.CopyLaws.{copies_are}
-use Rattle.mxf_views.proofs.SegmentLaws.{segment_kind}
+use Rattle.mxf_views.proofs.KindLaws.{primer_kind, segment_kind, set_kind}
 use Rattle.mxf_views.proofs.FindingMembers.{In-append, In-chosen}
 use Rattle.mxf_views.proofs.Members.{both, false_if, parts}
+use Rattle.mxf_views.proofs.ReadingLaws.{ok_readable}
+use Rattle.mxf_views.proofs.ResolvedLaws.{resolved_iff}
 
 -- ---- copies
 
@@ -63,18 +66,6 @@ partial_copies notes o r =
     )
 
 -- ---- sets that can't be read
-
-ok_readable : {A E : Type 0} (read : List ℕ → Result A E) (n : NoteParts)
-    → ((keeps n.key n.length && is_ok (read n.held)) ≡ true) ↔ IsReadable read n
-ok_readable {A} {E} read n = (
-  λ h.
-      let s = parts (keeps n.key n.length) (is_ok (read n.held)) h in
-      elim (read n.held) as (λ r. read n.held ≡ r → is_ok r ≡ true → IsReadable read n) [
-        | Ok x ↦ λ e _. (x, (s.0, e))
-        | Err f ↦ λ _ q. absurd cc
-      ] refl s.1,
-  λ s. both (keeps n.key n.length) (is_ok (read n.held)) s.1.0 (ap (λ (r : Result A E). is_ok r) s.1.1),
-)
 
 no_length : (xs : List ℕ) → length xs ≡ 0 → xs ≡ []
 no_length [] e = refl
@@ -116,8 +107,20 @@ set_readable kinds.Fill n h = absurd cc
 set_readable kinds.Essence n h = absurd cc
 set_readable kinds.Other n h = absurd cc
 
+metadata_kind : (k : Kind) → ((is_primer k || is_set k) ≡ true) ↔ IsMetadataKind k
+metadata_kind k = (
+  λ h. elim (one_of (is_primer k) (is_set k) h) [
+    | inl t ↦ inl ((primer_kind k).0 t)
+    | inr t ↦ inr ((set_kind k).0 t)
+  ],
+  λ m. either (is_primer k) (is_set k) (elim m [
+    | inl e ↦ inl ((primer_kind k).1 e)
+    | inr e ↦ inr ((set_kind k).1 e)
+  ]),
+)
+
 unreadable_set : (n : NoteParts) → (is_unreadable_set n ≡ true)
-    ↔ (IsTrue (is_primer (kind_of n.key) || is_set (kind_of n.key)) × ¬ IsReadableSet (kind_of n.key) n)
+    ↔ (IsMetadataKind (kind_of n.key) × ¬ IsReadableSet (kind_of n.key) n)
 unfolding is_unreadable_set
 unreadable_set n =
     let kind = kind_of n.key in
@@ -125,17 +128,18 @@ unreadable_set n =
     let read = keeps n.key n.length && reads_value kind n.held in (
       λ h.
           let s = parts some (not read) h in
-          (s.0, λ k. if_not read s.1 ((set_readable kind n s.0).1 k)),
-      λ s. both some (not read) s.0 (not_if read (λ t. s.1 ((set_readable kind n s.0).0 t))),
+          ((metadata_kind kind).0 s.0, λ k. if_not read s.1 ((set_readable kind n s.0).1 k)),
+      λ s.
+          let t = (metadata_kind kind).1 s.0 in
+          both some (not read) t (not_if read (λ r. s.1 ((set_readable kind n t).0 r))),
     )
 
 pub unreadable_sets : (notes : List NoteParts) (o : ℕ)
     → In o (map (λ n. n.offset) (filter is_unreadable_set (clear_notes notes)))
-    ↔ AtClear notes o (λ n. IsTrue (is_primer (kind_of n.key) || is_set (kind_of n.key))
-    × ¬ IsReadableSet (kind_of n.key) n)
+    ↔ AtClear notes o (λ n. IsMetadataKind (kind_of n.key) × ¬ IsReadableSet (kind_of n.key) n)
 unreadable_sets notes o =
     at_clear is_unreadable_set
-    (λ n. IsTrue (is_primer (kind_of n.key) || is_set (kind_of n.key)) × ¬ IsReadableSet (kind_of n.key) n) notes o
+    (λ n. IsMetadataKind (kind_of n.key) × ¬ IsReadableSet (kind_of n.key) n) notes o
     (λ n _. unreadable_set n)
 
 -- ---- index table segments that can't be read
@@ -150,7 +154,7 @@ unreadable_segment n =
     let same = λ (e : kind ≡ kinds.Segment). ap (λ (k : Kind). keeps n.key n.length && reads_value k n.held) e in (
       λ h.
           let s = parts (is_segment kind) (not read) h in
-          let e = segment_kind kind s.0 in
+          let e = (segment_kind kind).0 s.0 in
           (e, λ k. if_not read s.1 (same e ∙ r.1 k)),
       λ s. both (is_segment kind) (not read) (ap is_segment s.0) (not_if read (λ t. s.1 (r.0 (sym (same s.0) ∙ t)))),
     )
@@ -249,14 +253,22 @@ In-lost_by r o =
       ],
     )
 
-pub lost_references : (notes : List NoteParts) (o : ℕ) → In o (lost_in (resolved_of notes)) ↔ HoldsLost notes o
-lost_references notes o = (
+pub lost_references : (notes : List NoteParts) (o : ℕ) → IsContent notes
+    → In o (lost_in (resolved_of notes)) ↔ HoldsLost notes o
+lost_references notes o content = (
   λ h. elim (resolved_of notes) as (λ q. resolved_of notes ≡ q → In o (lost_in q) → HoldsLost notes o) [
     | None ↦ λ _ k. absurd k
     | Some r ↦ λ e k.
         let s = (In-lost_by r o).0 k in
-        record { resolved = r; preferred = e; ref = s.0; holds = s.1; lost = s.2 }
+        record {
+          resolved = r;
+          preferred = (resolved_iff notes (Some r) content).0 e;
+          ref = s.0;
+          holds = s.1;
+          lost = s.2;
+        }
   ] refl h,
-  λ l. subst (λ (q : Option ResolvedParts). In o (lost_in q)) (sym l.preferred)
+  λ l. subst (λ (q : Option ResolvedParts). In o (lost_in q))
+      (sym ((resolved_iff notes (Some l.resolved) content).1 l.preferred))
       ((In-lost_by l.resolved o).1 (l.ref, l.holds, l.lost)),
 )

@@ -20,16 +20,18 @@ use Rattle.mxf_views.specs.declared.chain.Chain.TheVariants.{Whole, Broken}
 use Rattle.mxf_views.specs.Partitions.{IsWhole, PartitionParts, chain_of, partitions_of}
 use Rattle.mxf_views.specs.Findings.{are_entries_of, ends_above, has_other_rip, is_broken, is_index_of}
 use Rattle.mxf_views.specs.Findings.{is_unfit_rip}
-use Rattle.mxf_views.specs.RandomIndex.{is_rip, is_rip_note, rip_in}
-use Rattle.mxf_views.specs.FindingCauses.{AtClear, HasOther, IsNotLast, IsReadable, IsReadAs, ListsOthers, entry_of}
-use Rattle.mxf_views.proofs.CauseLaws.{at_clear, either, if_not, not_equal, not_if, one_of, reads}
+use Rattle.mxf_views.specs.RandomIndex.{is_rip_note, rip_in}
+use Rattle.mxf_views.specs.FindingCauses.{AtClear, HasOther, IsNotLast, ListsOthers, entry_of}
+use Rattle.mxf_views.specs.Readings.{IsReadable, IsReadAs}
+use Rattle.mxf_views.proofs.CauseLaws.{at_clear, either, if_not, not_equal, not_if, one_of}
+use Rattle.mxf_views.proofs.ReadingLaws.{reads}
 use Rattle.mxf_views.proofs.ChainLaws.{chain_iff}
 use Rattle.mxf_views.proofs.Members.{both, parts}
-use Rattle.mxf_views.proofs.RandomIndexLaws.{rip_kind}
+use Rattle.mxf_views.proofs.KindLaws.{rip_kind}
 
 rip_note_says : (n : NoteParts) → (is_rip_note n ≡ true) ↔ (kind_of n.key ≡ kinds.Rip)
 unfolding is_rip_note
-rip_note_says n = (λ h. rip_kind (kind_of n.key) h, λ e. ap is_rip e)
+rip_note_says n = rip_kind (kind_of n.key)
 
 same_entry : (e f : RipEntry) → e.body_sid ≡ f.body_sid → e.offset ≡ f.offset → e ≡ f
 same_entry e f a b i = record { body_sid = a i; offset = b i }

@@ -22,7 +22,7 @@ use Rattle.mxf_views.specs.WellFormed.{is_readable_as}
 use Rattle.mxf_views.specs.declared.random_index.RipView.TheVariants.{Absent, One}
 use Rattle.mxf_views.specs.declared.random_index.Standing.TheVariants.{Held}
 use Rattle.mxf_views.proofs.Laid.{clear-laid, partitions_of-laid, rip-note}
-use Rattle.mxf_views.proofs.RandomIndexLaws.{rip_kind}
+use Rattle.mxf_views.proofs.KindLaws.{rip_kind}
 use Rattle.mxf_views.proofs.RisingPartitions.{IsRisingFrom, at_or_above, rising-read}
 
 -- The partition at the offset of one of them is that one.
@@ -52,7 +52,7 @@ alike all (p ∷ ps) h =
 none_here : (p : PacketParts) → ¬ IsRandomIndexPack p → is_rip (kind_of p.key) ≡ false
 none_here p n =
     elim (is_rip (kind_of p.key)) as (λ b. is_rip (kind_of p.key) ≡ b → b ≡ false) [
-      | true ↦ λ e. absurd (n (rip_kind (kind_of p.key) e))
+      | true ↦ λ e. absurd (n ((rip_kind (kind_of p.key)).0 e))
       | false ↦ λ e. refl
     ] refl
 
@@ -84,7 +84,7 @@ module _ (notes : List NoteParts) (parts : List PartitionParts) (same : partitio
       ≡ option_map_or (λ rip. One (record { offset = at; entries = one_by_one rip.entries parts })) (read_rip p) Absent) [
         | true ↦ λ k.
             let s : is_some (read_rip p) ≡ true =
-            subst (λ kind. is_readable_as kind p ≡ true) (rip_kind (kind_of p.key) k) r.0 in
+            subst (λ kind. is_readable_as kind p ≡ true) ((rip_kind (kind_of p.key)).0 k) r.0 in
             ap (rip_view_by notes at) (rip-note at p k) ∙ one at (read_rip p) s e
         | false ↦ λ k. rw (not_read p k) refl
       ] refl

@@ -9,7 +9,9 @@ pub mod FindingUnions
 pub mod FoundLaws
 pub mod GapsLaws
 pub mod HeaderCauses
+pub mod GoodFiles
 pub mod IndexCauses
+pub mod KindLaws
 pub mod Laid
 pub mod LaidChain
 pub mod LaidCopies
@@ -21,11 +23,16 @@ pub mod PartitionLaws
 pub mod PartitionSearch
 pub mod PlaceLaws
 pub mod PreferredRead
+pub mod PrimerLaws
 pub mod RandomIndexLaws
+pub mod ReadingLaws
+pub mod RefusedLaws
+pub mod ResolvedLaws
 pub mod RisingPartitions
 pub mod RunLaws
 pub mod SameViewsLaws
 pub mod SegmentLaws
+pub mod SetItemLaws
 pub mod SmallFiles
 pub mod SpanCounts
 pub mod SpanGaps

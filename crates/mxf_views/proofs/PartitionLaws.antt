@@ -1,17 +1,15 @@
 -- The partitions, and how each names the one before it.
-use Rattle.std.proofs.Common.{◌≡◌, ℕ, ◌<◌, ◌≤◌, Bool, true, false, cond, List, [], ◌∷◌, Some}
-use Rattle.std.proofs.Common.{None, Ok, Err, refl, sym, ap, subst, ◌∙◌, inl, inr, arith, eqb-true, eq-eqb, leb-true}
+use Rattle.std.proofs.Common.{◌≡◌, ℕ, ◌<◌, ◌≤◌, Bool, true, false, List, [], ◌∷◌, Some}
+use Rattle.std.proofs.Common.{None, refl, sym, ap, subst, ◌∙◌, inl, inr, arith, eqb-true, eq-eqb, leb-true}
 use Rattle.std.specs.Prelude.{◌↔◌, ◌&&◌, ◌==◌, nat_le, nat_lt, find, not, if◌then◌else◌}
 use Rattle.std.specs.Option.{option_map}
-use Rattle.std.specs.Result.{result_ok}
 use Rattle.std.proofs.lemmas.Bool.{ltb-true, lt-ltb, leb-false}
-use Rattle.mxf_klv.specs.Bytes.{AreBytes}
 use Rattle.mxf_klv.specs.Parts.{NoteParts}
-use Rattle.mxf_klv.specs.Note.{end_of, keeps}
+use Rattle.mxf_klv.specs.Note.{end_of}
 use Rattle.mxf_klv.specs.Kind.{kind_of}
 use Rattle.mxf_klv.specs.Rising.{In}
 use Rattle.mxf_sets.specs.PackReadings.{pack_at}
-use Rattle.mxf_sets.proofs.PackComputing.{pack_iff}
+use Rattle.mxf_sets.specs.PartitionPack.{PartitionPackParts}
 use Rattle.mxf_catalogue.specs.Content.{IsContent}
 use Rattle.mxf_catalogue.specs.Disputes.{AreApart, clear_notes}
 use Rattle.mxf_catalogue.proofs.DisputeLaws.{In-clear_notes}
@@ -19,9 +17,10 @@ use Rattle.mxf_catalogue.proofs.SpanLaws.{AreApart-clear_notes}
 use Rattle.mxf_catalogue.proofs.Lists.{list_any-In, found-In, find-only}
 use Rattle.mxf_views.specs.declared.chain.Link.{Link}
 use Rattle.mxf_views.specs.declared.chain.Link.TheVariants.{First, Held, Skips, Missing, Wrong}
-use Rattle.mxf_views.specs.Partitions.{PartitionParts, HoldBytes, IsReadablePack, IsPartition, AreInOrder, StandsAt}
+use Rattle.mxf_views.specs.Partitions.{PartitionParts, IsReadablePack, IsPartition, AreInOrder, StandsAt}
 use Rattle.mxf_views.specs.Partitions.{IsGreatestBelow, IsLink, IsLinkAt, pack_of, partition_at, partitions_among}
 use Rattle.mxf_views.specs.Partitions.{partitions_of, link_of, link_at, previous_of, stands_at, stands_between}
+use Rattle.mxf_views.proofs.ReadingLaws.{reads}
 use Rattle.mxf_views.proofs.Members.{In-filter_map, all-each, each-all, both, parts}
 
 -- ---- which partitions there are
@@ -36,47 +35,37 @@ offset-partition_at n p e =
           (λ (x : PartitionParts). x.offset) (sym same)
     ] e
 
-readable_from : (n : NoteParts) (p : PartitionParts) → AreBytes n.held → partition_at n ≡ Some p → IsReadablePack n p
+abbrev placed : NoteParts → PartitionPackParts → PartitionParts
+placed n pack = record { offset = n.offset; end = end_of n; pack = pack }
+
+readable_from : (n : NoteParts) (p : PartitionParts) → partition_at n ≡ Some p → IsReadablePack n p
 unfolding partition_at
-readable_from n p bytes e =
-    elim (keeps n.key n.length) as (λ b. keeps n.key n.length ≡ b
-    → option_map (λ pack. record { offset = n.offset; end = end_of n; pack = pack })
-    (cond b (result_ok (pack_at (kind_of n.key) n.held)) None) ≡ Some p → IsReadablePack n p) [
-      | false ↦ λ _ q. absurd cc
-      | true ↦ λ k q.
-          elim (pack_at (kind_of n.key) n.held) as (λ r. pack_at (kind_of n.key) n.held ≡ r
-          → option_map (λ pack. record { offset = n.offset; end = end_of n; pack = pack }) (result_ok r) ≡ Some p
-          → IsReadablePack n p) [
-            | Err f ↦ λ _ u. absurd cc
-            | Ok pack ↦ λ r u.
-                let same : record { offset = n.offset; end = end_of n; pack = pack } ≡ p = cc (u) in
-                subst (IsReadablePack n) same record {
-                  kept = k;
-                  read = (pack_iff (kind_of n.key) n.held (Ok pack) bytes).1 (sym r);
-                  offset = refl;
-                  end = refl;
-                }
-          ] refl q
+readable_from n p e =
+    let read = pack_at (kind_of n.key) in
+    elim (pack_of n) as (λ o. pack_of n ≡ o → option_map (placed n) o ≡ Some p → IsReadablePack n p) [
+      | None ↦ λ _ q. absurd cc
+      | Some pack ↦ λ r q.
+          let same : placed n pack ≡ p = cc (q) in
+          subst (IsReadablePack n) same record { read = (reads read n pack).0 r; offset = refl; end = refl }
     ] refl e
 
-readable_to : (n : NoteParts) (p : PartitionParts) → AreBytes n.held → IsReadablePack n p → partition_at n ≡ Some p
+readable_to : (n : NoteParts) (p : PartitionParts) → IsReadablePack n p → partition_at n ≡ Some p
 unfolding partition_at
-readable_to n p bytes a =
-    let k : keeps n.key n.length ≡ true = a.kept in
-    let r = (pack_iff (kind_of n.key) n.held (Ok p.pack) bytes).0 a.read in
+readable_to n p a =
+    let r = (reads (pack_at (kind_of n.key)) n p.pack).1 a.read in
     let o = a.offset in
     let e = a.end in
-    rw k (rw (sym r) (λ i. Some record { offset = sym o i; end = sym e i; pack = p.pack }))
+    ap (option_map (placed n)) r ∙ (λ i. Some record { offset = sym o i; end = sym e i; pack = p.pack })
 
 -- The partitions are those of the clear readable partition packs.
-pub partitions_are : (notes : List NoteParts) (p : PartitionParts) → HoldBytes notes
+pub partitions_are : (notes : List NoteParts) (p : PartitionParts)
     → In p (partitions_of notes) ↔ IsPartition notes p
 unfolding partitions_of
-partitions_are notes p bytes =
+partitions_are notes p =
     let m = In-filter_map partition_at (clear_notes notes) p in (
       λ h. let s = m.0 h in let c = (In-clear_notes s.0 notes).0 s.1 in
-          (s.0, c, readable_from s.0 p (bytes s.0 c.held) s.2),
-      λ s. m.1 (s.0, (In-clear_notes s.0 notes).1 s.1, readable_to s.0 p (bytes s.0 s.1.held) s.2),
+          (s.0, c, readable_from s.0 p s.2),
+      λ s. m.1 (s.0, (In-clear_notes s.0 notes).1 s.1, readable_to s.0 p s.2),
     )
 
 above_among : (low : ℕ) (notes : List NoteParts) (p : PartitionParts) → AreApart low notes

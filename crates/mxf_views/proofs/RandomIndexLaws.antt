@@ -1,34 +1,30 @@
 -- The random index pack, and how its entries stand to the partitions.
-use Rattle.std.proofs.Common.{◌≡◌, ◌≢◌, ℕ, ◌≤◌, Bool, true, false, cond, List, [], ◌∷◌, Some, None, Ok, Err}
+use Rattle.std.proofs.Common.{◌≡◌, ◌≢◌, ℕ, ◌≤◌, Bool, true, false, cond, List, [], ◌∷◌, Some, None}
 use Rattle.std.proofs.Common.{refl, sym, ap, subst, ◌∙◌, inl, inr, arith, eqb-true, eq-eqb}
 use Rattle.std.specs.Prelude.{◌↔◌, ◌==◌, find}
-use Rattle.std.specs.Result.{result_ok}
-use Rattle.mxf_klv.specs.Bytes.{AreBytes}
-use Rattle.mxf_klv.specs.declared.kinds.Kind.{Kind}
-use Rattle.mxf_klv.specs.declared.kinds.Kind.TheVariants as kinds
 use Rattle.mxf_klv.specs.Parts.{NoteParts}
-use Rattle.mxf_klv.specs.Note.{end_of, keeps}
+use Rattle.mxf_klv.specs.Note.{end_of}
 use Rattle.mxf_klv.specs.Kind.{kind_of}
 use Rattle.mxf_klv.specs.Rising.{In}
 use Rattle.mxf_sets.specs.declared.pack.random_index.RipEntry.{RipEntry}
-use Rattle.mxf_sets.specs.RandomIndexPack.{RipParts}
 use Rattle.mxf_sets.specs.PackReadings.{rip_at}
-use Rattle.mxf_sets.proofs.PackComputing.{rip_iff}
 use Rattle.mxf_catalogue.specs.Content.{IsContent}
 use Rattle.mxf_catalogue.specs.Disputes.{AreApart, clear_notes}
 use Rattle.mxf_catalogue.proofs.DisputeLaws.{In-clear_notes}
 use Rattle.mxf_catalogue.proofs.SpanLaws.{AreApart-clear_notes, AreApart-filter}
 use Rattle.mxf_catalogue.proofs.Lists.{In-filter, found-In, none_found, find-none, find-only}
-use Rattle.mxf_views.specs.Partitions.{AreInOrder, HoldBytes, PartitionParts, partitions_of}
-use Rattle.mxf_views.specs.RandomIndex.{AreSeveralRips, IsClearRip, IsOnlyRip, IsReadableRip, IsStanding, RipAtParts}
+use Rattle.mxf_views.specs.Partitions.{AreInOrder, PartitionParts, partitions_of}
+use Rattle.mxf_views.specs.RandomIndex.{AreSeveralRips, IsClearRip, IsOnlyRip, IsStanding, RipAtParts}
 use Rattle.mxf_views.specs.RandomIndex.{is_rip, is_rip_note, rip_in, rips_of, standing_by, standing_of}
 use Rattle.mxf_views.specs.RandomIndexView.{IsRipView, rip_view_among, rip_view_by, rip_view_of}
 use Rattle.mxf_views.specs.declared.random_index.Standing.{Standing}
 use Rattle.mxf_views.specs.declared.random_index.Standing.TheVariants.{Held, Differs, Missing}
 use Rattle.mxf_views.specs.declared.random_index.RipView.{RipView}
 use Rattle.mxf_views.specs.declared.random_index.RipView.TheVariants.{Absent, Several, Unreadable, One}
+use Rattle.mxf_views.proofs.KindLaws.{rip_kind}
 use Rattle.mxf_views.proofs.Members.{false_if}
 use Rattle.mxf_views.proofs.PartitionLaws.{one_there, partitions_rise}
+use Rattle.mxf_views.proofs.ReadingLaws.{reads}
 
 -- ---- standings
 
@@ -80,10 +76,6 @@ standing_iff notes entry s r =
 
 -- ---- the random index packs
 
-pub rip_kind : (k : Kind) → is_rip k ≡ true → k ≡ kinds.Rip
-rip_kind kinds.Rip e = refl
-rip_kind _ e = absurd cc
-
 -- the clear random index packs
 abbrev Picks : List NoteParts → List NoteParts → Type 0
 Picks notes rips = (n : NoteParts) → In n rips ↔ IsClearRip notes n
@@ -93,7 +85,7 @@ unfolding rips_of is_rip_note
 picks notes n =
     let f = In-filter is_rip_note (clear_notes notes) n in
     let c = In-clear_notes n notes in (
-      λ h. let s = f.0 h in record { clear = c.0 s.0; kind = rip_kind (kind_of n.key) s.1 },
+      λ h. let s = f.0 h in record { clear = c.0 s.0; kind = (rip_kind (kind_of n.key)).0 s.1 },
       λ i. f.1 (c.1 i.clear, ap is_rip i.kind),
     )
 
@@ -107,30 +99,6 @@ later_differs m n rips a e =
     let o : m.offset ≡ n.offset = ap (λ (x : NoteParts). x.offset) e in
     omega (arith, l, o)
 
-readable_from : (n : NoteParts) (rip : RipParts) → AreBytes n.held → rip_in n ≡ Some rip → IsReadableRip n rip
-readable_from n rip bytes e =
-    elim (keeps n.key n.length) as (λ b. keeps n.key n.length ≡ b
-    → cond b (result_ok (rip_at n.width n.held)) None ≡ Some rip → IsReadableRip n rip) [
-      | false ↦ λ _ q. absurd cc
-      | true ↦ λ k q.
-          elim (rip_at n.width n.held) as (λ r. rip_at n.width n.held ≡ r → result_ok r ≡ Some rip
-          → IsReadableRip n rip) [
-            | Err f ↦ λ _ u. absurd cc
-            | Ok own ↦ λ r u.
-                let same : own ≡ rip = cc (u) in
-                record {
-                  kept = k;
-                  read = (rip_iff n.width n.held (Ok rip) bytes).1 (sym (r ∙ ap (λ (x : RipParts). Ok x) same));
-                }
-          ] refl q
-    ] refl e
-
-readable_to : (n : NoteParts) (rip : RipParts) → AreBytes n.held → IsReadableRip n rip → rip_in n ≡ Some rip
-readable_to n rip bytes i =
-    let k : keeps n.key n.length ≡ true = i.kept in
-    let r = (rip_iff n.width n.held (Ok rip) bytes).0 i.read in
-    ap (λ (b : Bool). cond b (result_ok (rip_at n.width n.held)) None) k ∙ ap result_ok (sym r)
-
 -- ---- what is known of them
 
 only_from : (notes : List NoteParts) (n : NoteParts) → Picks notes (n ∷ []) → IsOnlyRip notes n
@@ -139,17 +107,16 @@ only_from notes n w = record {
   only = λ m i. elim ((w m).1 i) [ inl e ↦ e | inr k ↦ absurd k ];
 }
 
-view_is : (notes rips : List NoteParts) → HoldBytes notes → Picks notes rips → AreApart 0 rips
+view_is : (notes rips : List NoteParts) → Picks notes rips → AreApart 0 rips
     → IsRipView notes (rip_view_among notes rips)
-view_is notes [] bytes w a = λ n i. (w n).1 i
-view_is notes (n ∷ []) bytes w a =
+view_is notes [] w a = λ n i. (w n).1 i
+view_is notes (n ∷ []) w a =
     let o = only_from notes n w in
-    let held : AreBytes n.held = bytes n o.held.clear.held in
     elim (rip_in n) as (λ r. rip_in n ≡ r → IsRipView notes (rip_view_by notes n.offset r)) [
-      | None ↦ λ e. (n, o, refl, λ rip i. let f = readable_to n rip held i in cc (e, f))
-      | Some rip ↦ λ e. (n, o, (rip, readable_from n rip held e, refl))
+      | None ↦ λ e. (n, o, refl, λ rip i. let f = (reads (rip_at n.width) n rip).1 i in cc (e, f))
+      | Some rip ↦ λ e. (n, o, (rip, (reads (rip_at n.width) n rip).0 e, refl))
     ] refl
-view_is notes (m ∷ n ∷ rips) bytes w a = record {
+view_is notes (m ∷ n ∷ rips) w a = record {
   one = m;
   other = n;
   one_held = (w m).0 (inl refl);
@@ -178,32 +145,30 @@ several_of notes (x ∷ []) w s =
     ]
 several_of notes (x ∷ y ∷ rips) w s = refl
 
-view_to : (notes rips : List NoteParts) → HoldBytes notes → Picks notes rips → AreApart 0 rips → (v : RipView)
+view_to : (notes rips : List NoteParts) → Picks notes rips → AreApart 0 rips → (v : RipView)
     → IsRipView notes v → rip_view_among notes rips ≡ v
-view_to notes rips bytes w a Absent i = ap (rip_view_among notes) (none_of notes rips w i)
-view_to notes rips bytes w a Several i = several_of notes rips w i
-view_to notes rips bytes w a (Unreadable offset) i =
+view_to notes rips w a Absent i = ap (rip_view_among notes) (none_of notes rips w i)
+view_to notes rips w a Several i = several_of notes rips w i
+view_to notes rips w a (Unreadable offset) i =
     let n = i.0 in
-    let held : AreBytes n.held = bytes n i.1.held.clear.held in
     let none : rip_in n ≡ None = elim (rip_in n) as (λ r. rip_in n ≡ r → r ≡ None) [
       | None ↦ λ _. refl
-      | Some rip ↦ λ e. absurd (i.3 rip (readable_from n rip held e))
+      | Some rip ↦ λ e. absurd (i.3 rip ((reads (rip_at n.width) n rip).0 e))
     ] refl in
     ap (rip_view_among notes) (only_of notes rips w a n i.1) ∙ ap (rip_view_by notes n.offset) none
     ∙ ap (λ (x : ℕ). Unreadable x) i.2
-view_to notes rips bytes w a (One r) i =
+view_to notes rips w a (One r) i =
     let n = i.0 in
-    let held : AreBytes n.held = bytes n i.1.held.clear.held in
     ap (rip_view_among notes) (only_of notes rips w a n i.1)
-    ∙ ap (rip_view_by notes n.offset) (readable_to n i.2.0 held i.2.1) ∙ ap (λ (x : RipAtParts). One x) i.2.2
+    ∙ ap (rip_view_by notes n.offset) ((reads (rip_at n.width) n i.2.0).1 i.2.1) ∙ ap (λ (x : RipAtParts). One x) i.2.2
 
 -- What is known is by the number of the clear random index packs.
-pub rip_view_iff : (notes : List NoteParts) (v : RipView) → IsContent notes → HoldBytes notes
+pub rip_view_iff : (notes : List NoteParts) (v : RipView) → IsContent notes
     → (rip_view_of notes ≡ v) ↔ IsRipView notes v
-rip_view_iff notes v r bytes =
+rip_view_iff notes v r =
     let rips = rips_of notes in
     let a = rips_apart notes r in
     let w = picks notes in (
-      λ e. subst (IsRipView notes) e (view_is notes rips bytes w a),
-      λ i. view_to notes rips bytes w a v i,
+      λ e. subst (IsRipView notes) e (view_is notes rips w a),
+      λ i. view_to notes rips w a v i,
     )

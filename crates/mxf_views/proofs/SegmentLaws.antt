@@ -4,8 +4,6 @@ use Rattle.std.proofs.Common.{refl, sym, ap, subst, inl, inr, arith}
 use Rattle.std.specs.Prelude.{◌↔◌}
 use Rattle.std.specs.Option.{option_map}
 use Rattle.std.specs.Result.{result_ok}
-use Rattle.mxf_klv.specs.declared.kinds.Kind.{Kind}
-use Rattle.mxf_klv.specs.declared.kinds.Kind.TheVariants as kinds
 use Rattle.mxf_klv.specs.Parts.{NoteParts}
 use Rattle.mxf_klv.specs.Note.{end_of, keeps}
 use Rattle.mxf_klv.specs.Kind.{kind_of}
@@ -18,14 +16,11 @@ use Rattle.mxf_catalogue.proofs.DisputeLaws.{In-clear_notes}
 use Rattle.mxf_catalogue.proofs.SpanLaws.{AreApart-clear_notes}
 use Rattle.mxf_views.specs.Places.{IsSegmentAt, SegmentAtParts, SegmentsRise, is_segment, placed_segment, segment_in}
 use Rattle.mxf_views.specs.Places.{segments_among, segments_of}
+use Rattle.mxf_views.proofs.KindLaws.{segment_kind}
 use Rattle.mxf_views.proofs.Members.{In-filter_map, each-all}
 
 abbrev placed : ℕ → SegmentParts → SegmentAtParts
 placed offset segment = record { offset = offset; segment = segment }
-
-pub segment_kind : (k : Kind) → is_segment k ≡ true → k ≡ kinds.Segment
-segment_kind kinds.Segment e = refl
-segment_kind _ e = absurd cc
 
 segment_from : (notes : List NoteParts) (n : NoteParts) (s : SegmentAtParts) → IsClear n notes
     → placed_segment n ≡ Some s → IsSegmentAt notes s
@@ -48,7 +43,7 @@ segment_from notes n s clear e =
                       subst (IsSegmentAt notes) same record {
                         note = n;
                         clear = clear;
-                        kind = segment_kind k t;
+                        kind = (segment_kind k).0 t;
                         kept = kept;
                         read = r;
                         offset = refl;

@@ -25,7 +25,7 @@ use Rattle.mxf_views.specs.Reading.{place_by_segment, segments_read}
 use Rattle.mxf_views.specs.Records.{read_pack, read_rip, read_segment}
 use Rattle.mxf_views.specs.WellFormed.{Agree, EndsWithFooter, HasMetadata, IsFooterPack, IsHeaderPack}
 use Rattle.mxf_views.specs.WellFormed.{IsPartitionPack, IsRandomIndexPack, IsWellFormed}
-use Rattle.mxf_views.specs.WorkedFiles.{constant, essence, h_file, linked_preface, material, n_file, numbers, pack}
+use Rattle.mxf_views.specs.WorkedFiles.{constant, essence, h_file, linked_preface, material, n_file, numbers, pack, pack_of}
 use Rattle.mxf_views.specs.WorkedFiles.{preface, primer, r_file, storage, three_entries, w_file}
 
 pub rank_below_4 : (status : Status) → rank status < 4
@@ -48,10 +48,10 @@ is_pack_kind (kinds.Body s) = true
 is_pack_kind (kinds.Footer s) = true
 is_pack_kind _ = false
 
-no_header : (p : PacketParts) → is_header_kind (kind_of p.key) ≡ false → ¬ IsHeaderPack p
+pub no_header : (p : PacketParts) → is_header_kind (kind_of p.key) ≡ false → ¬ IsHeaderPack p
 no_header p e h = false≢true (sym e ∙ ap is_header_kind h.1)
 
-no_footer : (p : PacketParts) → is_footer_kind (kind_of p.key) ≡ false → ¬ IsFooterPack p
+pub no_footer : (p : PacketParts) → is_footer_kind (kind_of p.key) ≡ false → ¬ IsFooterPack p
 no_footer p e h = false≢true (sym e ∙ ap is_footer_kind h.1)
 
 packs : (part : PackPart) (status : Status) → is_pack_kind (pack_kind part status) ≡ true
@@ -59,10 +59,10 @@ packs Header s = refl
 packs Body s = refl
 packs Footer s = refl
 
-no_pack : (p : PacketParts) → is_pack_kind (kind_of p.key) ≡ false → ¬ IsPartitionPack p
+pub no_pack : (p : PacketParts) → is_pack_kind (kind_of p.key) ≡ false → ¬ IsPartitionPack p
 no_pack p e h = false≢true (sym e ∙ ap is_pack_kind h.2 ∙ packs h.0 h.1)
 
-packet_of : (p : PacketParts) → IsLabel p.key → p.width ≡ 4 → length p.value < 16777216 → IsPacket p
+pub packet_of : (p : PacketParts) → IsLabel p.key → p.width ≡ 4 → length p.value < 16777216 → IsPacket p
 packet_of p l w h =
     record { label = l; width = inr (omega arith, omega arith, subst (λ w. length p.value < 256 ^ (w - 1)) (sym w) h) }
 
@@ -71,13 +71,17 @@ pack_label Header = (refl, refl)
 pack_label Body = (refl, refl)
 pack_label Footer = (refl, refl)
 
-pack_packet : (part : PackPart) (n : PartitionNumbers) → IsPacket (pack part n)
+pub pack_packet : (part : PackPart) (n : PartitionNumbers) → IsPacket (pack part n)
 pack_packet part n = packet_of (pack part n) (pack_label part) refl (let h : 88 < 16777216 = omega arith in h)
 
-primer_packet : IsPacket primer
+pub open_packet : (n : PartitionNumbers) → IsPacket (pack_of OpenIncomplete Header n)
+open_packet n = packet_of (pack_of OpenIncomplete Header n) (refl, refl) refl
+    (let h : 88 < 16777216 = omega arith in h)
+
+pub primer_packet : IsPacket primer
 primer_packet = packet_of primer (refl, refl) refl (omega arith)
 
-preface_packet : IsPacket preface
+pub preface_packet : IsPacket preface
 preface_packet = packet_of preface (refl, refl) refl (omega arith)
 
 n_footer : EndsWithFooter n_file
@@ -107,7 +111,7 @@ n_metadata rest = record {
   exact = refl;
 }
 
-no_rip : (p : PacketParts) → is_rip (kind_of p.key) ≡ false → ¬ IsRandomIndexPack p
+pub no_rip : (p : PacketParts) → is_rip (kind_of p.key) ≡ false → ¬ IsRandomIndexPack p
 no_rip p e h = false≢true (sym e ∙ ap is_rip h)
 
 pub n_well_formed : IsWellFormed n_file
@@ -158,17 +162,17 @@ n_well_formed = record {
   );
 }
 
-essence_packet : IsPacket essence
+pub essence_packet : IsPacket essence
 essence_packet = packet_of essence (refl, refl) refl (omega arith)
 
-constant_packet : IsPacket constant
+pub constant_packet : IsPacket constant
 constant_packet = packet_of constant (refl, refl) refl (omega arith)
 
-entries_packet : IsPacket three_entries
+pub entries_packet : IsPacket three_entries
 entries_packet = packet_of three_entries (refl, refl) refl (omega arith)
 
 -- Segments agree where there is one alone.
-agree_alone : (s : SegmentAtParts) → Agree (s ∷ [])
+pub agree_alone : (s : SegmentAtParts) → Agree (s ∷ [])
 agree_alone s t u sid unit p q (inl h) (inl k) e f =
     let g = ap (λ (x : SegmentAtParts). place_by_segment sid unit x.segment) h in
     let i = ap (λ (x : SegmentAtParts). place_by_segment sid unit x.segment) k in
@@ -243,7 +247,7 @@ footer_among : (before : List PacketParts) (footer : PacketParts) (after : List 
 footer_among [] footer after a = a.0
 footer_among (p ∷ ps) footer after a = footer_among ps footer after a.1
 
-without_footer : (l : List PacketParts) → AllByRecursion (λ p. ¬ IsFooterPack p) l → ¬ IsWellFormed l
+pub without_footer : (l : List PacketParts) → AllByRecursion (λ p. ¬ IsFooterPack p) l → ¬ IsWellFormed l
 without_footer l a w =
     let f = w.footer in
     footer_among f.before f.footer f.after (subst (AllByRecursion (λ p. ¬ IsFooterPack p)) f.order a)

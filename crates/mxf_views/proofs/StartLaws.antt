@@ -5,12 +5,12 @@ use Rattle.std.specs.Prelude.{◌↔◌, ◌&&◌, ◌==◌, nat_le, nat_lt, fin
 use Rattle.std.specs.Option.{option_map}
 use Rattle.std.specs.List.{list_all, range_with_len}
 use Rattle.std.proofs.lemmas.Bool.{ltb-true, ltb-false}
-use Rattle.mxf_klv.specs.declared.kinds.Kind.{Kind}
 use Rattle.mxf_klv.specs.declared.kinds.Kind.TheVariants as kinds
 use Rattle.mxf_klv.specs.Parts.{NoteParts}
 use Rattle.mxf_klv.specs.Note.{end_of}
 use Rattle.mxf_klv.specs.Kind.{kind_of}
 use Rattle.mxf_klv.specs.Rising.{In}
+use Rattle.mxf_sets.specs.Batch.{BatchParts}
 use Rattle.mxf_sets.specs.PackReadings.{primer_at}
 use Rattle.mxf_sets.specs.Readable.{read_as}
 use Rattle.mxf_catalogue.specs.Content.{IsContent}
@@ -18,10 +18,12 @@ use Rattle.mxf_catalogue.proofs.ContentLaws.{note_eq-Decides}
 use Rattle.mxf_catalogue.specs.Disputes.{IsClear, SharesByte, clear_notes, is_same_note}
 use Rattle.mxf_catalogue.proofs.DisputeLaws.{In-clear_notes, clear-apart}
 use Rattle.mxf_catalogue.proofs.Lists.{In-filter, list_any-In, found-In, none_found}
-use Rattle.mxf_views.specs.Copies.{IsFilled, IsStart, covered_of, is_fill, is_fill_note, is_filled, is_primer}
+use Rattle.mxf_views.specs.Copies.{IsFilled, IsPrimerOf, IsStart, covered_of, is_fill_note, is_filled, is_primer}
 use Rattle.mxf_views.specs.Copies.{is_readable_primer, is_start, start_of, zone_of}
 use Rattle.mxf_views.specs.Spans.{is_in_one, is_in_span}
 use Rattle.mxf_catalogue.specs.Disputes.{lies_in}
+use Rattle.mxf_views.proofs.KindLaws.{fill_kind, primer_kind}
+use Rattle.mxf_views.proofs.ReadingLaws.{is_some_readable}
 use Rattle.mxf_views.proofs.SpanCounts.{count-all, count-full, in_span, in_span-says, zone-count}
 use Rattle.mxf_catalogue.proofs.SpanLaws.{AreApart-clear_notes}
 
@@ -65,27 +67,21 @@ clear_same notes m n c d s =
       | false ↦ λ t. absurd (clear-apart m n notes c d.held (λ e. let u = (note_eq-Decides m n).1 e in cc (t, u)) s)
     ] refl
 
-one_kind : (k : Kind) → is_primer k ≡ true → is_fill k ≡ true → ⊥
-one_kind kinds.Primer p q = cc
-one_kind kinds.Fill p q = cc
-one_kind (kinds.Header s) p q = cc
-one_kind (kinds.Body s) p q = cc
-one_kind (kinds.Footer s) p q = cc
-one_kind kinds.Segment p q = cc
-one_kind kinds.Rip p q = cc
-one_kind kinds.Preface p q = cc
-one_kind kinds.Identification p q = cc
-one_kind kinds.ContentStorage p q = cc
-one_kind kinds.MaterialPackage p q = cc
-one_kind kinds.SourcePackage p q = cc
-one_kind kinds.RawSet p q = cc
-one_kind kinds.Essence p q = cc
-one_kind kinds.Other p q = cc
+pub fill_note : (n : NoteParts) → (is_fill_note n ≡ true) ↔ (kind_of n.key ≡ kinds.Fill)
+unfolding is_fill_note
+fill_note n = fill_kind (kind_of n.key)
 
-pub no_primer_fill : (n : NoteParts) → is_readable_primer n ≡ true → is_fill_note n ≡ true → ⊥
-unfolding is_readable_primer is_fill_note
-no_primer_fill n p q = one_kind (kind_of n.key)
-    (parts (is_primer (kind_of n.key)) (is_some (read_as primer_at n)) p).0 q
+pub primer_note : (n : NoteParts) → (is_readable_primer n ≡ true) ↔ ((pack : BatchParts) × IsPrimerOf n pack)
+unfolding is_readable_primer
+primer_note n =
+    let k = primer_kind (kind_of n.key) in
+    let r = is_some_readable primer_at n in (
+      λ h.
+          let p = parts (is_primer (kind_of n.key)) (is_some (read_as primer_at n)) h in
+          let s = r.0 p.1 in
+          (s.0, (k.0 p.0, s.1)),
+      λ s. both (is_primer (kind_of n.key)) (is_some (read_as primer_at n)) (k.1 s.1.0) (r.1 (s.0, s.1.1)),
+    )
 
 -- no start lies in a fill
 pub not_in_fill : (notes : List NoteParts) (end reached s : ℕ) → IsStart notes end s → IsFilled notes end reached s → ⊥
@@ -96,7 +92,9 @@ not_in_fill notes end reached s a f =
     let shares : SharesByte a.primer f.fill =
     (s, record { from = omega arith; before = omega arith }, record { from = w0; before = w1 }) in
     let same : a.primer ≡ f.fill = clear_same notes a.primer f.fill a.clear f.clear shares in
-    no_primer_fill a.primer a.readable (ap is_fill_note same ∙ f.kind)
+    let primer = a.readable.1.0 in
+    let fill = ap (λ (n : NoteParts). kind_of n.key) same ∙ f.kind in
+    cc (primer, fill)
 
 -- no primer stands before a start
 not_before : (notes : List NoteParts) (end s t : ℕ) → IsStart notes end s → IsStart notes end t → s < t → ⊥
@@ -127,7 +125,7 @@ tested notes end n r h t =
     record {
       primer = n;
       clear = (In-clear_notes n notes).0 h;
-      readable = p.0;
+      readable = (primer_note n).0 p.0;
       there = refl;
       after = le;
       filled = λ o from before.
@@ -142,7 +140,7 @@ tested notes end n r h t =
           record {
             fill = m;
             clear = (In-clear_notes m notes).0 z.0;
-            kind = all-In is_fill_note zone m f.1 k.1;
+            kind = (fill_note m).0 (all-In is_fill_note zone m f.1 k.1);
             from = leb-true end m.offset l.0;
             before = omega arith;
             within = record { from = s.0; before = omega arith };
@@ -182,8 +180,9 @@ passes notes end s r a =
     let high : end_of m ≤ end + len = leb-true (end_of m) (end + len) l.1 in
     let f = a.filled m.offset low (omega arith) in
     let shares : SharesByte m f.fill = (m.offset, record { from = omega arith; before = omega arith }, f.within) in
-    ap is_fill_note (clear_same notes m f.fill ((In-clear_notes m notes).0 z.0) f.clear shares) ∙ f.kind) in
-    both3 (is_readable_primer n) (nat_le end n.offset) (is_filled end len clear) a.readable (le-leb end n.offset le2)
+    let same = clear_same notes m f.fill ((In-clear_notes m notes).0 z.0) f.clear shares in
+    (fill_note m).1 (ap (λ (x : NoteParts). kind_of x.key) same ∙ f.kind)) in
+    both3 (is_readable_primer n) (nat_le end n.offset) (is_filled end len clear) ((primer_note n).1 a.readable) (le-leb end n.offset le2)
     (both (covered_of end len clear == len) (list_all is_fill_note zone) covered fills)
 
 -- The start is found exactly where it stands.

@@ -13,7 +13,7 @@ use Rattle.mxf_catalogue.proofs.ContentLaws.{all-In}
 use Rattle.mxf_catalogue.proofs.DisputeLaws.{In-clear_notes}
 use Rattle.mxf_catalogue.proofs.Lists.{In-filter}
 use Rattle.mxf_views.specs.Copies.{IsFilled, IsStart, is_fill_note, is_readable_primer, start_of}
-use Rattle.mxf_views.proofs.StartLaws.{both, clear_same, not_in_fill, parts, start_is}
+use Rattle.mxf_views.proofs.StartLaws.{both, clear_same, fill_note, not_in_fill, parts, primer_note, start_is}
 
 -- From the end of the pack up to an offset there are clear fills alone, and these clear notes are left.
 pub record Passed (notes : List NoteParts) (end reached : ℕ) (left : List NoteParts) : Type 0 where
@@ -72,7 +72,7 @@ passed_fill notes end reached n left p e fill =
                 record {
                   fill = n;
                   clear = p.clear n (inl refl);
-                  kind = fill;
+                  kind = (fill_note n).0 fill;
                   from = omega arith;
                   before = omega arith;
                   within = record { from = omega arith; before = omega arith };
@@ -94,7 +94,7 @@ is_at : (notes : List NoteParts) (end reached : ℕ) (n : NoteParts) (left : Lis
 is_at notes end reached n left p e readable = record {
   primer = n;
   clear = p.clear n (inl refl);
-  readable = readable;
+  readable = (primer_note n).0 readable;
   there = e;
   after = p.low;
   filled = p.filled;
@@ -137,13 +137,13 @@ leads_on notes end reached s left p a =
                 absurd (omega arith)
             | false ↦ λ u. let m : reached ≤ f.fill.offset = ltb-false f.fill.offset reached u in omega arith
           ] refl) in
-          record { note = f.fill; held = p.rest f.fill f.clear (omega arith); there = at; kind = inl f.kind }
+          record { note = f.fill; held = p.rest f.fill f.clear (omega arith); there = at; kind = inl ((fill_note f.fill).1 f.kind) }
       | false ↦ λ t.
           let l : s ≤ reached = ltb-false reached s t in
           elim (nat_lt s reached) as (λ b. nat_lt s reached ≡ b → LeadsOn notes reached left) [
             | true ↦ λ u. absurd (not_among notes end reached s left p a (ltb-true s reached u))
             | false ↦ λ u. let m : reached ≤ s = ltb-false s reached u in
-                record { note = a.primer; held = p.rest a.primer a.clear (omega arith); there = omega arith; kind = inr a.readable }
+                record { note = a.primer; held = p.rest a.primer a.clear (omega arith); there = omega arith; kind = inr ((primer_note a.primer).1 a.readable) }
           ] refl
     ] refl
 

@@ -1,7 +1,7 @@
 -- Copies of the header metadata (ST 377-1, header metadata of a partition; which copy is preferred is this project's
 -- profile). They are by the clear notes alone.
 use Rattle.std.specs.Prelude.{◌≡◌, ◌↔◌, ℕ, ◌+◌, ◌-◌, ◌<◌, ◌≤◌, ◌⊎◌, Bool, true, false, ◌&&◌, ◌==◌, nat_le, nat_lt, cond}
-use Rattle.std.specs.Prelude.{Option, Some, None, is_some, List, [], ◌∷◌, map, filter, find, count_by}
+use Rattle.std.specs.Prelude.{Option, Some, None, is_some, List, [], ◌∷◌, length, map, filter, find, count_by}
 use Rattle.std.specs.Prelude.{IsTrue, ◌||◌}
 use Rattle.std.specs.Option.{option_map}
 use Rattle.std.specs.List.{list_all, range_with_len, AllByRecursion}
@@ -14,11 +14,13 @@ use Rattle.mxf_klv.specs.Parts.{NoteParts}
 use Rattle.mxf_klv.specs.Note.{IsInSpan, end_of}
 use Rattle.mxf_klv.specs.Kind.{kind_of}
 use Rattle.mxf_klv.specs.Rising.{In}
+use Rattle.mxf_sets.specs.Batch.{BatchParts}
 use Rattle.mxf_sets.specs.PackReadings.{primer_at}
 use Rattle.mxf_sets.specs.Readable.{read_as}
-use Rattle.mxf_catalogue.specs.Disputes.{IsClear, clear_notes, lies_in}
+use Rattle.mxf_catalogue.specs.Disputes.{AreApart, IsClear, clear_notes, lies_in}
 use Rattle.mxf_views.specs.declared.copy.CopyInfo.{CopyInfo}
 use Rattle.mxf_views.specs.Partitions.{PartitionParts, partitions_of}
+use Rattle.mxf_views.specs.Readings.{IsReadAs}
 use Rattle.mxf_views.specs.Spans.{is_in_one, sizes}
 
 abbrev pub is_fill : Kind → Bool
@@ -34,6 +36,15 @@ is_preface kinds.Preface = true
 is_preface _ = false
 
 -- The kinds of header metadata sets: the metadata sets and the raw sets.
+pub data IsSetKind (kind : Kind) : Type 0 where
+  preface : kind ≡ kinds.Preface → IsSetKind kind
+  identification : kind ≡ kinds.Identification → IsSetKind kind
+  storage : kind ≡ kinds.ContentStorage → IsSetKind kind
+  material_package : kind ≡ kinds.MaterialPackage → IsSetKind kind
+  source_package : kind ≡ kinds.SourcePackage → IsSetKind kind
+  raw_set : kind ≡ kinds.RawSet → IsSetKind kind
+
+-- The same as a test.
 abbrev pub is_set : Kind → Bool
 is_set kinds.Preface = true
 is_set kinds.Identification = true
@@ -135,12 +146,16 @@ sets_found notes (Some copy) = sets_from notes copy.bytes copy.start
 unfoldable pub sets_of : List NoteParts → ℕ → List NoteParts
 sets_of notes partition = sets_found (clear_notes notes) (find (λ c. c.partition == partition) (copies_of notes))
 
+-- The note has a primer pack, and this is the one that its value is (ST 377-1, Primer Pack).
+abbrev pub IsPrimerOf : NoteParts → BatchParts → Type 0
+IsPrimerOf n primer = (kind_of n.key ≡ kinds.Primer) × IsReadAs primer_at n primer
+
 -- Where the header metadata of a partition begin (ST 377-1, header metadata of a partition): at a clear readable primer
 -- at or after the end of the pack, such that each byte between the two lies in a clear fill between them.
 pub record IsFilled (notes : List NoteParts) (low high offset : ℕ) : Type 0 where
   pub fill : NoteParts
   pub clear : IsClear fill notes
-  pub kind : is_fill_note fill ≡ true
+  pub kind : kind_of fill.key ≡ kinds.Fill
   pub from : low ≤ fill.offset
   pub before : end_of fill ≤ high
   pub within : IsInSpan fill offset
@@ -148,7 +163,7 @@ pub record IsFilled (notes : List NoteParts) (low high offset : ℕ) : Type 0 wh
 pub record IsStart (notes : List NoteParts) (end start : ℕ) : Type 0 where
   pub primer : NoteParts
   pub clear : IsClear primer notes
-  pub readable : is_readable_primer primer ≡ true
+  pub readable : (pack : BatchParts) × IsPrimerOf primer pack
   pub there : primer.offset ≡ start
   pub after : end ≤ start
   pub filled : (offset : ℕ) → end ≤ offset → offset < start → IsFilled notes end start offset
@@ -189,15 +204,21 @@ preferred_of copies = best_of None copies
 abbrev pub IsNotAbove : CopyInfo → CopyInfo → Type 0
 IsNotAbove d c = (standing d < standing c) ⊎ ((standing d ≡ standing c) × (d.partition ≤ c.partition))
 
+-- The copy has a start and exactly one Preface.
+pub record IsCandidate (c : CopyInfo) : Type 0 where
+  pub start : ℕ
+  pub begins : c.start ≡ Some start
+  pub one : c.prefaces ≡ 1
+
 -- The preferred copy: a candidate that no candidate stands above.
 pub record IsBest (copies : List CopyInfo) (c : CopyInfo) : Type 0 where
   pub held : In c copies
-  pub candidate : IsTrue (is_candidate c)
-  pub best : (d : CopyInfo) → In d copies → IsTrue (is_candidate d) → IsNotAbove d c
+  pub candidate : IsCandidate c
+  pub best : (d : CopyInfo) → In d copies → IsCandidate d → IsNotAbove d c
 
 -- The preferred copy, or none where there is no candidate.
 abbrev pub IsPreferred : List CopyInfo → Option CopyInfo → Type 0
-IsPreferred copies None = (d : CopyInfo) → In d copies → IsTrue (is_candidate d) → ⊥
+IsPreferred copies None = (d : CopyInfo) → In d copies → IsCandidate d → ⊥
 IsPreferred copies (Some c) = IsBest copies c
 
 -- What starts at the start of the header metadata of a partition, or that there is no start.
@@ -205,13 +226,27 @@ abbrev pub IsStartFound : List NoteParts → ℕ → Option ℕ → Type 0
 IsStartFound notes end None = (start : ℕ) → ¬ IsStart notes end start
 IsStartFound notes end (Some start) = IsStart notes end start
 
--- The number of offsets of a range that lie in a clear note lying wholly in it, and of the Prefaces among its sets; none
--- without a start.
+-- The note is a clear Preface that lies wholly in the bytes of a range.
+pub record IsPrefaceIn (notes : List NoteParts) (start bytes : ℕ) (n : NoteParts) : Type 0 where
+  pub clear : IsClear n notes
+  pub kind : kind_of n.key ≡ kinds.Preface
+  pub from : start ≤ n.offset
+  pub before : end_of n ≤ start + bytes
+
+-- So many notes are such: a list that has each of them once, since its notes share no byte, is that long.
+pub record AreSoMany (count : ℕ) (IsSuch : NoteParts → Type 0) : Type 0 where
+  pub list : List NoteParts
+  pub apart : AreApart 0 list
+  pub members : (n : NoteParts) → In n list ↔ IsSuch n
+  pub number : length list ≡ count
+
+-- The number of offsets of a range that lie in a clear note lying wholly in it, and of the clear Prefaces that lie wholly
+-- in it; none without a start.
 abbrev pub CountsZone : List NoteParts → CopyInfo → Option ℕ → Type 0
 CountsZone notes c None = (c.covered ≡ 0) × (c.prefaces ≡ 0)
 CountsZone notes c (Some start) =
     (c.covered ≡ count_by (is_in_one (zone_of start c.bytes (clear_notes notes))) (range_with_len start c.bytes))
-    × (c.prefaces ≡ count_by is_preface_note (sets_in start c.bytes (clear_notes notes)))
+    × AreSoMany c.prefaces (IsPrefaceIn notes start c.bytes)
 
 -- The copy of a partition that has header metadata.
 pub record IsCopyOf (notes : List NoteParts) (p : PartitionParts) (c : CopyInfo) : Type 0 where
@@ -236,6 +271,6 @@ pub record IsSetOf (notes : List NoteParts) (partition : ℕ) (n : NoteParts) : 
   pub start : ℕ
   pub begins : copy.start ≡ Some start
   pub clear : IsClear n notes
-  pub kind : IsTrue (is_set_note n)
+  pub kind : IsSetKind (kind_of n.key)
   pub from : start ≤ n.offset
   pub before : end_of n ≤ start + copy.bytes

@@ -1,5 +1,5 @@
 -- What each code of a finding says of the notes (this project's profile).
-use Rattle.std.specs.Prelude.{◌≡◌, ◌≢◌, ℕ, ◌+◌, ◌<◌, ◌⊎◌, IsTrue, false, Some, None, Ok, List, [], ◌||◌, map, Result}
+use Rattle.std.specs.Prelude.{◌≡◌, ◌≢◌, ℕ, ◌+◌, ◌<◌, ◌⊎◌, IsTrue, false, Some, None, List, [], map}
 use Rattle.mxf_klv.specs.declared.kinds.Kind.{Kind}
 use Rattle.mxf_klv.specs.declared.kinds.Kind.TheVariants as kinds
 use Rattle.mxf_klv.specs.declared.kinds.Status.{Status}
@@ -30,16 +30,10 @@ use Rattle.mxf_views.specs.declared.finding.Code.TheVariants.{F08, F09, F10, F11
 use Rattle.mxf_views.specs.declared.finding.Finding.{Finding}
 use Rattle.mxf_views.specs.Partitions.{IsLink, IsWhole, PartitionParts, partitions_of}
 use Rattle.mxf_views.specs.Gaps.{IsGap}
-use Rattle.mxf_views.specs.Copies.{IsCopy, is_primer, is_set}
-use Rattle.mxf_views.specs.Resolved.{ResolvedParts, resolved_of}
-
--- The note keeps its value, and this is what it is by a reading.
-abbrev pub IsReadAs : {A E : Type 0} → (List ℕ → Result A E) → NoteParts → A → Type 0
-IsReadAs read n value = IsTrue (keeps n.key n.length) × (read n.held ≡ Ok value)
-
--- The note keeps its value, and the reading has no fault.
-abbrev pub IsReadable : {A E : Type 0} → (List ℕ → Result A E) → NoteParts → Type 0
-IsReadable {A} read n = (value : A) × IsReadAs read n value
+use Rattle.mxf_views.specs.Readings.{IsReadAs, IsReadable}
+use Rattle.mxf_views.specs.Copies.{IsCopy, IsSetKind}
+use Rattle.mxf_views.specs.Resolved.{ResolvedParts}
+use Rattle.mxf_views.specs.ResolvedView.{IsResolvedFrom}
 
 -- A primer pack or a set of that kind is readable: a raw set where items make up its value.
 abbrev pub IsReadableSet : Kind → NoteParts → Type 0
@@ -54,7 +48,7 @@ IsReadableSet _ n = ⊥
 
 -- The kinds of header metadata: primer packs, metadata sets and raw sets.
 abbrev pub IsMetadataKind : Kind → Type 0
-IsMetadataKind kind = IsTrue (is_primer kind || is_set kind)
+IsMetadataKind kind = (kind ≡ kinds.Primer) ⊎ IsSetKind kind
 
 -- A gap begins at the offset.
 pub record IsGapStart (notes : List NoteParts) (offset : ℕ) : Type 0 where
@@ -101,7 +95,7 @@ Holds r offset ref =
 -- The set at the offset is one of the preferred copy, and holds a reference that isn't found.
 pub record HoldsLost (notes : List NoteParts) (offset : ℕ) : Type 0 where
   pub resolved : ResolvedParts
-  pub preferred : resolved_of notes ≡ Some resolved
+  pub preferred : IsResolvedFrom notes resolved
   pub ref : Ref
   pub holds : Holds resolved offset ref
   pub lost : (found : ℕ) → ref.target ≢ Found found

@@ -1,3 +1,4 @@
+pub mod Readings
 pub mod Partitions
 pub mod Gaps
 pub mod Spans
@@ -7,6 +8,7 @@ pub mod SetItems
 pub mod References
 pub mod Targets
 pub mod Resolved
+pub mod ResolvedView
 pub mod Places
 pub mod RandomIndex
 pub mod RandomIndexView
@@ -20,4 +22,6 @@ pub mod WellFormed
 pub mod WholeFile
 pub mod Headline
 pub mod WorkedFiles
+pub mod RefusedFiles
 pub mod WorkedBytes
+pub mod Words

@@ -2,17 +2,16 @@
 -- profile). They are by the clear notes alone.
 use Rattle.std.specs.Prelude.{◌≡◌, ◌≢◌, ℕ, ◌<◌, ◌≤◌, ◌⊎◌, Bool, true, false, not, ◌&&◌, ◌||◌, ◌==◌, nat_le, nat_lt}
 use Rattle.std.specs.Prelude.{if◌then◌else◌}
-use Rattle.std.specs.Prelude.{Option, is_some, IsTrue, Ok, List, [], ◌∷◌, find, count_by}
+use Rattle.std.specs.Prelude.{Option, is_some, List, [], ◌∷◌, find, count_by}
 use Rattle.std.specs.Option.{option_map}
 use Rattle.std.specs.List.{list_any, list_all, filter_map, AllByRecursion}
 use Rattle.mxf_klv.specs.Parts.{NoteParts}
-use Rattle.mxf_klv.specs.Bytes.{AreBytes}
-use Rattle.mxf_klv.specs.Note.{end_of, keeps}
+use Rattle.mxf_klv.specs.Note.{end_of}
 use Rattle.mxf_klv.specs.Kind.{kind_of}
 use Rattle.mxf_klv.specs.Rising.{In}
 use Rattle.mxf_sets.specs.declared.pack.part.PackPart.{PackPart}
 use Rattle.mxf_sets.specs.declared.pack.part.PackPart.TheVariants.{Header, Footer}
-use Rattle.mxf_sets.specs.PartitionPack.{PartitionPackParts, IsPartitionKind, ReadsPack}
+use Rattle.mxf_sets.specs.PartitionPack.{PartitionPackParts, IsPartitionKind}
 use Rattle.mxf_catalogue.specs.Disputes.{IsClear, clear_notes}
 use Rattle.mxf_views.specs.declared.chain.Link.{Link}
 use Rattle.mxf_views.specs.declared.chain.Link.TheVariants.{First, Held, Skips, Missing, Wrong}
@@ -20,6 +19,7 @@ use Rattle.mxf_views.specs.declared.chain.Chain.{Chain}
 use Rattle.mxf_views.specs.declared.chain.Chain.TheVariants.{Whole, Broken}
 use Rattle.mxf_sets.specs.PackReadings.{pack_at, part_and_status}
 use Rattle.mxf_sets.specs.Readable.{read_as}
+use Rattle.mxf_views.specs.Readings.{IsReadAs}
 
 -- A partition: where its pack begins and ends, and the pack.
 pub record PartitionParts : Type 0 where
@@ -111,15 +111,10 @@ is_whole notes =
 abbrev pub chain_of : List NoteParts → Chain
 chain_of notes = if is_whole notes then Whole else Broken
 
--- What the notes hold of their values are bytes.
-abbrev pub HoldBytes : List NoteParts → Type 0
-HoldBytes notes = (n : NoteParts) → In n notes → AreBytes n.held
-
 -- The note keeps its value, which is that of the partition's pack under the note's key, and the pack stands where the
 -- note does.
 pub record IsReadablePack (n : NoteParts) (p : PartitionParts) : Type 0 where
-  pub kept : IsTrue (keeps n.key n.length)
-  pub read : ReadsPack (kind_of n.key) n.held (Ok p.pack)
+  pub read : IsReadAs (pack_at (kind_of n.key)) n p.pack
   pub offset : p.offset ≡ n.offset
   pub end : p.end ≡ end_of n
 

@@ -1,19 +1,19 @@
 -- The random index pack, and how its entries stand to the partitions (ST 377-1, Random Index Pack; the names are this
 -- project's profile). They are by the clear notes alone.
-use Rattle.std.specs.Prelude.{◌≡◌, ◌≢◌, ℕ, ◌==◌, Bool, true, false, IsTrue, if◌then◌else◌, Option, Some, None, Ok}
+use Rattle.std.specs.Prelude.{◌≡◌, ◌≢◌, ℕ, ◌==◌, Bool, true, false, if◌then◌else◌, Option, Some, None}
 use Rattle.std.specs.Prelude.{List, map, filter, find}
 use Rattle.mxf_klv.specs.declared.kinds.Kind.{Kind}
 use Rattle.mxf_klv.specs.declared.kinds.Kind.TheVariants as kinds
 use Rattle.mxf_klv.specs.Parts.{NoteParts}
-use Rattle.mxf_klv.specs.Note.{keeps}
 use Rattle.mxf_klv.specs.Kind.{kind_of}
 use Rattle.mxf_klv.specs.Rising.{In}
 use Rattle.mxf_sets.specs.declared.pack.random_index.RipEntry.{RipEntry}
-use Rattle.mxf_sets.specs.RandomIndexPack.{RipParts, ReadsRip}
+use Rattle.mxf_sets.specs.RandomIndexPack.{RipParts}
 use Rattle.mxf_sets.specs.PackReadings.{rip_at}
 use Rattle.mxf_sets.specs.Readable.{read_as}
 use Rattle.mxf_catalogue.specs.Disputes.{IsClear, clear_notes}
 use Rattle.mxf_views.specs.Partitions.{PartitionParts, partitions_of}
+use Rattle.mxf_views.specs.Readings.{IsReadAs}
 use Rattle.mxf_views.specs.declared.random_index.Standing.{Standing}
 use Rattle.mxf_views.specs.declared.random_index.Standing.TheVariants.{Held, Differs, Missing}
 
@@ -76,6 +76,5 @@ pub record AreSeveralRips (notes : List NoteParts) : Type 0 where
   pub differ : one ≢ other
 
 -- The note keeps its value, and this is the random index pack that the value is under the width of the note's length.
-pub record IsReadableRip (n : NoteParts) (rip : RipParts) : Type 0 where
-  pub kept : IsTrue (keeps n.key n.length)
-  pub read : ReadsRip n.width n.held (Ok rip)
+abbrev pub IsReadableRip : NoteParts → RipParts → Type 0
+IsReadableRip n rip = IsReadAs (rip_at n.width) n rip

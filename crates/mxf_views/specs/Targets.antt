@@ -1,5 +1,5 @@
 -- What references in header metadata lead to (ST 377-1, strong references), in one copy.
-use Rattle.std.specs.Prelude.{◌≡◌, ℕ, Bool, true, false, not, ◌&&◌, if◌then◌else◌, List, [], ◌∷◌, map, filter, is_ok}
+use Rattle.std.specs.Prelude.{◌≡◌, ℕ, ◌⊎◌, Bool, true, false, not, ◌&&◌, if◌then◌else◌, List, [], ◌∷◌, map, filter, is_ok}
 use Rattle.mxf_klv.specs.declared.kinds.Kind.{Kind}
 use Rattle.mxf_klv.specs.declared.kinds.Kind.TheVariants as kinds
 use Rattle.mxf_klv.specs.Parts.{NoteParts}
@@ -15,6 +15,7 @@ use Rattle.mxf_views.specs.declared.reference.target.Target.TheVariants.{Missing
 use Rattle.mxf_views.specs.declared.reference.target.Ref.{Ref}
 use Rattle.mxf_views.specs.Copies.{sets_of}
 use Rattle.mxf_views.specs.declared.reference.Found.TheVariants as found
+use Rattle.mxf_views.specs.Readings.{IsReadable}
 use Rattle.mxf_views.specs.References.{IsFound, IsOnlyWith, has_uid}
 
 -- The kind is that of the sets that such a reference names.
@@ -55,16 +56,28 @@ ref_of notes partition wanted uid = record { uid = uid; target = target_of notes
 abbrev pub refs_of : List NoteParts → ℕ → Wanted → List (List ℕ) → List Ref
 refs_of notes partition wanted uids = map (ref_of notes partition wanted) uids
 
+-- The kind is that of the sets that such a reference names.
+abbrev pub IsWanted : Wanted → Kind → Type 0
+IsWanted Storage kind = kind ≡ kinds.ContentStorage
+IsWanted Identification kind = kind ≡ kinds.Identification
+IsWanted Package kind = (kind ≡ kinds.MaterialPackage) ⊎ (kind ≡ kinds.SourcePackage)
+
+-- The note keeps its value, which can be read as such a set.
+abbrev pub IsReadableAs : Wanted → NoteParts → Type 0
+IsReadableAs Storage n = IsReadable storage_at n
+IsReadableAs Identification n = IsReadable identification_at n
+IsReadableAs Package n = IsReadable package_at n
+
 -- What a reference leads to: no set with the identifier or several; or the only one, at this offset, which is of
 -- another kind, or of that kind and not readable, or readable.
 abbrev pub IsTarget : List NoteParts → Wanted → List ℕ → Target → Type 0
 IsTarget sets wanted uid Missing = IsFound sets uid found.Absent
 IsTarget sets wanted uid Several = IsFound sets uid found.Several
 IsTarget sets wanted uid (WrongKind offset) =
-    (n : NoteParts) × IsOnlyWith sets uid n × (n.offset ≡ offset) × (fits wanted (kind_of n.key) ≡ false)
+    (n : NoteParts) × IsOnlyWith sets uid n × (n.offset ≡ offset) × ¬ IsWanted wanted (kind_of n.key)
 IsTarget sets wanted uid (Unreadable offset) =
-    (n : NoteParts) × IsOnlyWith sets uid n × (n.offset ≡ offset) × (fits wanted (kind_of n.key) ≡ true)
-    × (is_readable wanted n.held ≡ false)
+    (n : NoteParts) × IsOnlyWith sets uid n × (n.offset ≡ offset) × IsWanted wanted (kind_of n.key)
+    × ¬ IsReadableAs wanted n
 IsTarget sets wanted uid (Found offset) =
-    (n : NoteParts) × IsOnlyWith sets uid n × (n.offset ≡ offset) × (fits wanted (kind_of n.key) ≡ true)
-    × (is_readable wanted n.held ≡ true)
+    (n : NoteParts) × IsOnlyWith sets uid n × (n.offset ≡ offset) × IsWanted wanted (kind_of n.key)
+    × IsReadableAs wanted n

@@ -1,7 +1,8 @@
 -- Small files, packet by packet: structure alone, none that plays (ST 377-1). Their bytes stand in `WorkedBytes`.
 use Rattle.std.specs.Prelude.{ℕ, true, List, [], ◌∷◌, ◌++◌, replicate, Some}
 use Rattle.mxf_klv.specs.Parts.{PacketParts, packet_parts}
-use Rattle.mxf_klv.specs.declared.kinds.Status.TheVariants.{ClosedComplete}
+use Rattle.mxf_klv.specs.declared.kinds.Status.{Status}
+use Rattle.mxf_klv.specs.declared.kinds.Status.TheVariants.{OpenIncomplete, ClosedComplete}
 use Rattle.mxf_sets.specs.Batch.{batch_parts}
 use Rattle.mxf_sets.specs.PartitionPack.{pack_bytes, pack_key, partition_pack_parts}
 use Rattle.mxf_sets.specs.declared.pack.numbers.PartitionNumbers.{PartitionNumbers}
@@ -37,11 +38,15 @@ pattern =
     0x06 ∷ 0x0E ∷ 0x2B ∷ 0x34 ∷ 0x04 ∷ 0x01 ∷ 0x01 ∷ 0x01
     ∷ 0x0D ∷ 0x01 ∷ 0x02 ∷ 0x01 ∷ 0x01 ∷ 0x01 ∷ 0x01 ∷ 0x00 ∷ []
 
--- A closed and complete partition pack that names no essence container.
+-- A partition pack of a status that names no essence container.
+abbrev pub pack_of : Status → PackPart → PartitionNumbers → PacketParts
+pack_of status part n =
+    packet_parts (pack_key part status) 4
+    (pack_bytes (partition_pack_parts part status n pattern (batch_parts 0 16 [])))
+
+-- One that is closed and complete.
 abbrev pub pack : PackPart → PartitionNumbers → PacketParts
-pack part n =
-    packet_parts (pack_key part ClosedComplete) 4
-    (pack_bytes (partition_pack_parts part ClosedComplete n pattern (batch_parts 0 16 [])))
+pack part n = pack_of ClosedComplete part n
 
 -- A key of the file structure: those of the small files differ in bytes 6, 14 and 15, counted from 1.
 abbrev pub structure_key : ℕ → ℕ → ℕ → List ℕ
@@ -99,26 +104,33 @@ material = packet_parts (set_key 0x36) 4 (identifier 0x33 ++ (0x44 ∷ 0x01 ∷ 
 abbrev pub r_file : List PacketParts
 r_file = pack Header (numbers 0 0 0 266 0 0 0) ∷ primer ∷ linked_preface ∷ storage ∷ material ∷ []
 
+-- The key of an element of the generic container.
+abbrev pub essence_key : List ℕ
+essence_key =
+    0x06 ∷ 0x0E ∷ 0x2B ∷ 0x34 ∷ 0x01 ∷ 0x02 ∷ 0x01 ∷ 0x01
+    ∷ 0x0D ∷ 0x01 ∷ 0x03 ∷ 0x01 ∷ 0x15 ∷ 0x01 ∷ 0x05 ∷ 0x00 ∷ []
+
 -- A hundred bytes of essence.
 abbrev pub essence : PacketParts
-essence =
-    packet_parts
-    (0x06 ∷ 0x0E ∷ 0x2B ∷ 0x34 ∷ 0x01 ∷ 0x02 ∷ 0x01 ∷ 0x01
-    ∷ 0x0D ∷ 0x01 ∷ 0x03 ∷ 0x01 ∷ 0x15 ∷ 0x01 ∷ 0x05 ∷ 0x00 ∷ [])
-    4 (replicate 100 0x00)
+essence = packet_parts essence_key 4 (replicate 100 0x00)
 
--- A segment of 100 edit units of 250,000 bytes each, at 25 units a second, of IndexSID 1 and BodySID 2.
-abbrev pub constant : PacketParts
-constant =
+-- A segment of 100 edit units from a unit below 256 on, at 25 units a second, of IndexSID 1 and BodySID 2. The units have
+-- 249,856 bytes each and as many more as are given, below 256.
+abbrev pub segment : ℕ → ℕ → PacketParts
+segment start more =
     packet_parts (structure_key 0x53 0x10 0x01) 4
     ((0x3F ∷ 0x0B ∷ 0x00 ∷ 0x08 ∷ 0x00 ∷ 0x00 ∷ 0x00 ∷ 0x19 ∷ 0x00 ∷ 0x00 ∷ 0x00 ∷ 0x01 ∷ [])
-    ++ ((0x3F ∷ 0x0C ∷ 0x00 ∷ 0x08 ∷ replicate 8 0x00)
+    ++ ((0x3F ∷ 0x0C ∷ 0x00 ∷ 0x08 ∷ (replicate 7 0x00 ++ (start ∷ [])))
     ++ ((0x3F ∷ 0x0D ∷ 0x00 ∷ 0x08 ∷ (replicate 7 0x00 ++ (0x64 ∷ [])))
-    ++ ((0x3F ∷ 0x05 ∷ 0x00 ∷ 0x04 ∷ 0x00 ∷ 0x03 ∷ 0xD0 ∷ 0x90 ∷ [])
+    ++ ((0x3F ∷ 0x05 ∷ 0x00 ∷ 0x04 ∷ 0x00 ∷ 0x03 ∷ 0xD0 ∷ more ∷ [])
     ++ ((0x3F ∷ 0x06 ∷ 0x00 ∷ 0x04 ∷ 0x00 ∷ 0x00 ∷ 0x00 ∷ 0x01 ∷ [])
     ++ ((0x3F ∷ 0x07 ∷ 0x00 ∷ 0x04 ∷ 0x00 ∷ 0x00 ∷ 0x00 ∷ 0x02 ∷ [])
     ++ ((0x3F ∷ 0x08 ∷ 0x00 ∷ 0x01 ∷ 0x00 ∷ [])
     ++ (0x3F ∷ 0x0E ∷ 0x00 ∷ 0x01 ∷ 0x00 ∷ []))))))))
+
+-- That of 100 edit units of 250,000 bytes each, from the first on.
+abbrev pub constant : PacketParts
+constant = segment 0x00 0x90
 
 -- An entry of a random index pack: a BodySID and an offset below 2^16.
 abbrev pub entry : ℕ → ℕ → ℕ → List ℕ
@@ -137,7 +149,44 @@ w_file =
     pack Header (numbers 0 0 336 0 0 0 0) ∷ pack Body (numbers 108 0 336 0 0 0 2) ∷ essence
     ∷ pack Footer (numbers 336 108 336 0 90 1 0) ∷ constant ∷ three_entries ∷ []
 
--- What the reading from the front says of the two well-formed ones.
+-- A random index pack of the partitions at 0 and 108.
+abbrev pub two_entries : PacketParts
+two_entries =
+    packet_parts (structure_key 0x05 0x11 0x01) 4
+    (entry 0x00 0x00 0x00 ++ (entry 0x00 0x00 0x6C ++ (0x00 ∷ 0x00 ∷ 0x00 ∷ 0x30 ∷ [])))
+
+-- A header that has no metadata, and a footer at 108 with these packets behind it.
+abbrev pub bare_file : List PacketParts → List PacketParts
+bare_file after = pack Header (numbers 0 0 108 0 0 0 0) ∷ pack Footer (numbers 108 0 108 0 0 0 0) ∷ after
+
+-- Header, footer and a random index pack.
+abbrev pub m_file : List PacketParts
+m_file = bare_file (two_entries ∷ [])
+
+-- A fill of eight bytes.
+abbrev pub fill : PacketParts
+fill =
+    packet_parts
+    (0x06 ∷ 0x0E ∷ 0x2B ∷ 0x34 ∷ 0x01 ∷ 0x01 ∷ 0x01 ∷ 0x02
+    ∷ 0x03 ∷ 0x01 ∷ 0x02 ∷ 0x10 ∷ 0x01 ∷ 0x00 ∷ 0x00 ∷ 0x00 ∷ [])
+    4 (replicate 8 0x00)
+
+-- A header whose metadata follow a fill, and a footer.
+abbrev pub filled_file : List PacketParts
+filled_file =
+    pack Header (numbers 0 0 222 86 0 0 0) ∷ fill ∷ primer ∷ preface
+    ∷ pack Footer (numbers 222 0 222 0 0 0 0) ∷ []
+
+-- A header that is open and incomplete and doesn't know the footer, and the footer.
+abbrev pub open_file : List PacketParts
+open_file =
+    pack_of OpenIncomplete Header (numbers 0 0 0 0 0 0 0) ∷ pack Footer (numbers 108 0 108 0 0 0 0) ∷ []
+
+-- Two segments of one index that give the same places for the units that both cover.
+abbrev pub agreeing_file : List PacketParts
+agreeing_file = bare_file (constant ∷ segment 0x32 0x90 ∷ [])
+
+-- What the reading from the front says of two of the well-formed ones.
 
 -- A finished copy of 86 bytes with one Preface.
 abbrev pub copy_of_86 : ℕ → ℕ → CopyInfo

@@ -1,10 +1,11 @@
 //! Copies of the header metadata.
-ghost use Rattle.std.specs.Prelude.{◌≡◌, ◌==◌, ◌↔◌, ◌<◌, ◌^◌, ℕ, List, Some, count_by, find, length};
+ghost use Rattle.std.specs.Prelude.{◌≡◌, ◌==◌, ◌↔◌, ◌<◌, ◌^◌, ℕ, List, Option, Some, count_by, find, length};
 ghost use Rattle.std.specs.List.{range_with_len};
 ghost use Rattle.mxf_klv.specs.Parts.{NoteParts};
 ghost use Rattle.mxf_catalogue.specs.Content.{IsContent};
 ghost use Rattle.mxf_views.specs.Spans.{is_in_one};
-ghost use Rattle.mxf_views.specs.Labels.{is_in_copy};
+ghost use Rattle.mxf_views.specs.Labels.{IsPrimerFor, is_in_copy, primer_for};
+ghost use Rattle.mxf_sets.specs.Batch.{BatchParts};
 ghost use Rattle.mxf_sets.specs.PackReadings.{primer_at};
 ghost use Rattle.mxf_sets.specs.Readable.{read_as};
 ghost use Rattle.mxf_klv.specs.Rising.{In};
@@ -277,4 +278,11 @@ pub fn preferred_by_definition()
 pub fn copies_by_definition()
     ensures copies { (notes : List NoteParts) (c : CopyInfo) → IsContent notes → In c (copies_of notes) ↔ IsCopy notes c }
     ensures rising { (notes : List NoteParts) → IsContent notes → CopiesRise (copies_of notes) }
+{}
+
+/// A law of [`Views::primer_for`](crate::Views::primer_for): it is the primer pack at the start of the copy of the first
+/// partition whose zone has the packet; there is none only where no copy's zone has it.
+pub fn primer_for_by_definition()
+    ensures { (notes : List NoteParts) (n : NoteParts) (primer : Option BatchParts) → IsContent notes
+        → (primer_for notes n ≡ primer) ↔ IsPrimerFor notes n primer }
 {}

@@ -3,7 +3,7 @@ ghost use Rattle.std.specs.Prelude.{◌≡◌, ◌==◌, ◌<◌, ◌^◌, ◌�
 ghost use Rattle.mxf_klv.specs.Parts.{NoteParts};
 ghost use Rattle.mxf_klv.specs.Rising.{In};
 ghost use Rattle.mxf_catalogue.specs.Content.{IsContent};
-ghost use Rattle.mxf_views.specs.Partitions.{AreInOrder, HoldBytes, IsPartition, PartitionParts, partitions_of};
+ghost use Rattle.mxf_views.specs.Partitions.{AreInOrder, IsPartition, PartitionParts, partitions_of};
 ghost use Rattle.std.specs.Iterator.{YieldsFirst, item_count};
 ghost use Rattle.mxf_views.specs.Partitions.{pack_of, partition_at, partitions_among, stands_at, stands_between, stands_above, is_header, is_footer, is_no_unreadable_pack};
 
@@ -177,7 +177,7 @@ impl<'a> Iterator for Partitions<'a> {
 /// A law of [`Views::partitions`](crate::Views::partitions): they are the clear readable partition packs, and rise in
 /// their offsets.
 pub fn partitions_by_definition()
-    ensures partitions { (notes : List NoteParts) (p : PartitionParts) → HoldBytes notes
+    ensures partitions { (notes : List NoteParts) (p : PartitionParts)
         → In p (partitions_of notes) ↔ IsPartition notes p }
     ensures rising { (notes : List NoteParts) → IsContent notes → AreInOrder (partitions_of notes) }
 {}

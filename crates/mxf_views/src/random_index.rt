@@ -4,7 +4,7 @@ ghost use Rattle.mxf_klv.specs.Parts.{NoteParts};
 ghost use Rattle.mxf_sets.specs.declared.pack.random_index.RipEntry.{RipEntry};
 ghost use Rattle.mxf_catalogue.specs.Content.{IsContent};
 ghost use Rattle.std.specs.Iterator.{YieldsFirst, YieldsFirstRef, item_count};
-ghost use Rattle.mxf_views.specs.Partitions.{HoldBytes, partitions_of};
+ghost use Rattle.mxf_views.specs.Partitions.{partitions_of};
 ghost use Rattle.mxf_views.specs.declared.random_index.Standing.{Standing};
 ghost use Rattle.mxf_views.specs.declared.random_index.RipView.{RipView};
 ghost use Rattle.mxf_views.specs.RandomIndexView.{IsRipView, rip_view_of};
@@ -14,6 +14,7 @@ use crate::partition::partition_there;
 use mxf_catalogue::{Catalogue, ClearNotes};
 use mxf_klv::{Held, Kind, Note};
 use mxf_sets::{Rip, RipEntries, RipEntry};
+use std::fmt;
 use std::marker::Model;
 
 /// How an entry stands to the partitions.
@@ -25,6 +26,22 @@ pub enum Standing {
     Differs,
     /// No partition stands at the entry's offset.
     Missing,
+}
+
+/// The word for the standing, as in `differs`.
+impl fmt::Display for Standing {
+    ghost use Rattle.std.specs.Prelude.{Some};
+    ghost use Rattle.mxf_views.specs.Words.{standing_name};
+
+    ghost output = { λ standing. Some (standing_name standing) };
+
+    fn fmt<W: fmt::Write>(&self, f: &mut fmt::Formatter<W>) -> fmt::Result {
+        f.write_str(match *self {
+            Standing::Held => "held",
+            Standing::Differs => "differs",
+            Standing::Missing => "missing",
+        })
+    }
 }
 
 /// What is known of the random index pack, by those that share no byte with another packet.
@@ -219,6 +236,6 @@ pub fn standings_by_definition()
 /// A law of [`Views::rip`](crate::Views::rip): what is known is by the number of the clear random index packs, and by
 /// whether the only one can be read.
 pub fn rip_views_by_definition()
-    ensures { (notes : List NoteParts) (view : RipView) → IsContent notes → HoldBytes notes
+    ensures { (notes : List NoteParts) (view : RipView) → IsContent notes
         → (rip_view_of notes ≡ view) ↔ IsRipView notes view }
 {}

@@ -1,13 +1,20 @@
 //! Small files: which are well-formed, what bytes they have, and what reading them from the front says.
-ghost use Rattle.std.specs.Prelude.{◌≡◌, ◌<◌, ◌↔◌, ◌∷◌, [], map, None, Some, is_some, true, false};
+ghost use Rattle.std.specs.Prelude.{◌≡◌, ℕ, ◌+◌, ◌<◌, ◌≤◌, ◌↔◌, ◌∷◌, [], map, None, Some, is_some, true, false};
 ghost use Rattle.mxf_klv.specs.Kind.{kind_of};
+ghost use Rattle.mxf_klv.specs.Note.{greatest_end};
 ghost use Rattle.mxf_klv.specs.declared.kinds.Status.TheVariants.{OpenIncomplete, ClosedIncomplete, OpenComplete, ClosedComplete};
 ghost use Rattle.mxf_sets.specs.declared.pack.part.PackPart.TheVariants.{Header};
-ghost use Rattle.mxf_views.specs.Copies.{is_candidate, is_set, rank, standing};
+ghost use Rattle.mxf_klv.specs.declared.kinds.Kind.{Kind};
+ghost use Rattle.mxf_klv.specs.declared.kinds.Kind.TheVariants as kinds;
+ghost use Rattle.mxf_views.specs.Copies.{IsSetKind, is_candidate, is_fill, is_preface, is_primer, is_set, rank, standing};
+ghost use Rattle.mxf_views.specs.Places.{is_segment};
+ghost use Rattle.mxf_views.specs.RandomIndex.{is_rip};
 ghost use Rattle.mxf_views.specs.Reading.{chain_read, copies_alone, copies_read, link_read_at, links_read, partitions_read};
 ghost use Rattle.mxf_views.specs.Reading.{place_read, preferred_read, rip_read, segments_read, sets_read};
 ghost use Rattle.mxf_views.specs.WellFormed.{IsWellFormed, file_bytes};
-ghost use Rattle.mxf_views.specs.WorkedBytes.{h_bytes, n_bytes, r_bytes, w_bytes};
+ghost use Rattle.mxf_views.specs.WorkedBytes.{h_bytes, m_bytes, n_bytes, r_bytes, w_bytes};
+ghost use Rattle.mxf_views.specs.RefusedFiles as refused;
+ghost use Rattle.mxf_views.specs.WorkedFiles.{agreeing_file, filled_file, m_file, open_file};
 ghost use Rattle.mxf_views.specs.WorkedFiles.{constant, copy_of_86, essence, h_file, linked_preface, material, n_copies, n_file};
 ghost use Rattle.mxf_views.specs.WorkedFiles.{numbers, pack, primer, r_file, storage, three_entries, w_file, w_rip};
 ghost use Rattle.mxf_views.specs.declared.chain.Chain.TheVariants as chains;
@@ -16,17 +23,41 @@ ghost use Rattle.mxf_views.specs.declared.copy.CopyInfo.{CopyInfo};
 ghost use Rattle.mxf_views.specs.declared.index.place.Place.TheVariants as places;
 ghost use Rattle.mxf_views.specs.declared.random_index.RipView.TheVariants as rips;
 
-/// A law: which of some small files are well-formed. Two have no footer partition.
+/// A law: which of some small files are well-formed. Two have no footer partition. Of the others one has a fill before its
+/// header metadata, one an open header partition, and one two segments of an index that agree.
 pub fn small_files_are_well_formed_or_not()
     ensures two_copies { IsWellFormed n_file }
     ensures indexed { IsWellFormed w_file }
     ensures no_footer { ¬ IsWellFormed h_file }
     ensures no_footer_either { ¬ IsWellFormed r_file }
+    ensures random_index { IsWellFormed m_file }
+    ensures filled { IsWellFormed filled_file }
+    ensures open { IsWellFormed open_file }
+    ensures agreeing_segments { IsWellFormed agreeing_file }
+{}
+
+/// A law: each condition of a well-formed file refuses a file that meets all others.
+pub fn each_condition_of_well_formed_files_refuses_a_file()
+    ensures packets { ¬ IsWellFormed refused.narrow_length }
+    ensures within { (bytes : ℕ) → IsWellFormed (refused.long_file bytes) ↔ (241 + bytes ≤ greatest_end) }
+    ensures header { ¬ IsWellFormed refused.no_header }
+    ensures one_header { ¬ IsWellFormed refused.two_headers }
+    ensures footer { ¬ IsWellFormed refused.no_footer }
+    ensures footer_last { ¬ IsWellFormed refused.early_footer }
+    ensures readable { ¬ IsWellFormed refused.empty_segment }
+    ensures this { ¬ IsWellFormed refused.misplaced_footer }
+    ensures previous { ¬ IsWellFormed refused.unlinked_footer }
+    ensures metadata { ¬ IsWellFormed refused.no_metadata }
+    ensures exact_metadata { ¬ IsWellFormed refused.short_metadata }
+    ensures index { ¬ IsWellFormed refused.differing_segments }
+    ensures random_index { ¬ IsWellFormed refused.other_entries }
+    ensures random_index_last { ¬ IsWellFormed refused.early_random_index }
 {}
 
 /// A law: the bytes of the small files are those that stand in tests/worked.
 pub fn small_files_have_their_bytes()
     ensures h { file_bytes h_file ≡ h_bytes }
+    ensures m { file_bytes m_file ≡ m_bytes }
     ensures n { file_bytes n_file ≡ n_bytes }
     ensures r { file_bytes r_file ≡ r_bytes }
     ensures w { file_bytes w_file ≡ w_bytes }
@@ -59,7 +90,8 @@ pub fn an_indexed_file_is_read_from_the_front()
 {}
 
 /// A law: the rules that the views and the reading from the front share, which no law of whole files can tell apart from
-/// others: how statuses stand to one another, which copies are candidates, and which kinds of packets are sets.
+/// others: how statuses stand to one another, which copies are candidates, and which kinds of packets are sets, fills,
+/// primer packs, Prefaces, index table segments and random index packs.
 pub fn shared_rules_are_these()
     ensures statuses { (rank OpenIncomplete < rank OpenComplete)
         × (rank OpenComplete < rank ClosedIncomplete) × (rank ClosedIncomplete < rank ClosedComplete) }
@@ -70,4 +102,10 @@ pub fn shared_rules_are_these()
     ensures no_sets { (is_set (kind_of primer.key) ≡ false) × (is_set (kind_of constant.key) ≡ false)
         × (is_set (kind_of essence.key) ≡ false) × (is_set (kind_of three_entries.key) ≡ false)
         × (is_set (kind_of (pack Header (numbers 0 0 0 0 0 0 0)).key) ≡ false) }
+    ensures set_kinds { (k : Kind) → (is_set k ≡ true) ↔ IsSetKind k }
+    ensures fills { (k : Kind) → (is_fill k ≡ true) ↔ (k ≡ kinds.Fill) }
+    ensures primers { (k : Kind) → (is_primer k ≡ true) ↔ (k ≡ kinds.Primer) }
+    ensures prefaces { (k : Kind) → (is_preface k ≡ true) ↔ (k ≡ kinds.Preface) }
+    ensures segments { (k : Kind) → (is_segment k ≡ true) ↔ (k ≡ kinds.Segment) }
+    ensures random_index_packs { (k : Kind) → (is_rip k ≡ true) ↔ (k ≡ kinds.Rip) }
 {}

@@ -5,6 +5,7 @@ ghost use Rattle.mxf_catalogue.specs.Disputes.{SharesByte, clear_notes};
 ghost use Rattle.mxf_klv.specs.Parts.{NoteParts};
 ghost use Rattle.mxf_klv.specs.Rising.{In};
 ghost use Rattle.mxf_catalogue.specs.Content.{has_note, with_note, union_of};
+ghost use Rattle.mxf_catalogue.specs.History.{History, Add, Join, Of, content};
 ghost use Rattle.mxf_catalogue.specs.Moved.{TellsMoved};
 ghost use Rattle.mxf_views.specs.Partitions.{partitions_of, link_of, link_at, is_linked, chain_of, is_header, is_footer, is_greatest, is_no_unreadable_pack};
 ghost use Rattle.mxf_views.specs.Gaps.{gaps_of};
@@ -31,7 +32,7 @@ use crate::partition::{PartitionAt, Partitions, is_no_unreadable_pack, partition
 use crate::random_index::RipView;
 use crate::reference::resolved::{Resolved, preface_among, resolved_by};
 use crate::reference::{Found, find_among};
-use mxf_catalogue::{AddFault, Catalogue, Change, Semilattice};
+use mxf_catalogue::{AddFault, Catalogue, Change, MergeFault, Semilattice};
 use mxf_klv::{Note, OutOfMemory};
 use mxf_sets::{PackPart, Primer};
 use std::alloc::Global;
@@ -69,11 +70,12 @@ impl Views {
         }
     }
 
-    /// The views of a catalogue: whatever calls made it, they are those of the notes that it was handed, and where these
-    /// are the notes of a well-formed file, they are what reading the file from the front says.
+    /// The views of a catalogue: whatever calls made it, they are those of the notes that it was handed. Where these are
+    /// the notes of a well-formed file, partitions, copies and indexes are what reading the file from the front says.
     pub fn of(_alloc: Global, catalogue: Catalogue) -> Result<Views, ViewFault>
         ensures views { IfOk result (λ v. v ≡ catalogue) }
         ensures run { IfOk result (λ v. IsTheRun (has_note catalogue) v) }
+        ensures history { (h : History) → catalogue ≡ content h → IfOk result (λ v. v ≡ content (Of h)) }
         ensures back { IfErr result (λ f. f.catalogue ≡ catalogue) }
     {
         // What a catalogue lends says that its notes are those of a file.
@@ -88,13 +90,16 @@ impl Views {
         ensures moved { IfOk result (TellsMoved note self.old) }
         ensures fault { IfErr result (λ f. f.note ≡ note) }
         ensures err { OnErr result (self.new ≡ self.old) }
+        ensures history { (h : History) → self.old ≡ content h → OnOk result (self.new ≡ content (Add h note)) }
     {
         self.catalogue.add(note)
     }
 
     /// The views of the notes of both.
     pub fn join(alloc: Global, a: &Views, b: &Views) -> Result<Views, OutOfMemory>
-        ensures { IfOk result (λ v. v ≡ union_of a.now b.now) }
+        ensures joined { IfOk result (λ v. v ≡ union_of a.now b.now) }
+        ensures history { (h k : History) → a.now ≡ content h → b.now ≡ content k
+            → IfOk result (λ v. v ≡ content (Join h k)) }
     {
         let catalogue = Catalogue::join(alloc, &a.catalogue, &b.catalogue)?;
         Ok(Views { catalogue })
@@ -103,12 +108,15 @@ impl Views {
     /// Moves the notes of a catalogue into that of these views, which are of the notes of both then. No kept value is
     /// copied.
     ///
-    /// The only fault is want of memory. These views are unchanged then, and the other catalogue is dropped.
-    pub fn merge(&mut self, alloc: Global, other: Catalogue) -> Result<(), OutOfMemory>
+    /// The only fault is want of memory. The other catalogue comes back and these views are unchanged.
+    pub fn merge(&mut self, other: Catalogue) -> Result<(), MergeFault>
         ensures merged { OnOk result (self.new ≡ union_of self.old other) }
         ensures err { OnErr result (self.new ≡ self.old) }
+        ensures back { IfErr result (λ f. f.other ≡ other) }
+        ensures history { (h k : History) → self.old ≡ content h → other ≡ content k
+            → OnOk result (self.new ≡ content (Join h k)) }
     {
-        self.catalogue.merge(alloc, other)
+        self.catalogue.merge(other)
     }
 
     /// The catalogue.
@@ -120,7 +128,8 @@ impl Views {
 
     /// The catalogue, without its views.
     pub fn into_catalogue(self) -> Catalogue
-        ensures { result ≡ self }
+        ensures catalogue { result ≡ self }
+        ensures history { (h : History) → self ≡ content h → result ≡ content (Of h) }
     {
         self.catalogue
     }

@@ -1,11 +1,13 @@
 //! The header metadata sets of a copy.
-ghost use Rattle.std.specs.Prelude.{◌≡◌, ◌↔◌, ◌<◌, ◌^◌, ℕ, List, [], filter, length};
+ghost use Rattle.std.specs.Prelude.{◌≡◌, ◌↔◌, ◌<◌, ◌^◌, ℕ, List, Option, [], filter, length};
+ghost use Rattle.mxf_klv.specs.Bytes.{AreBytes};
 ghost use Rattle.mxf_klv.specs.Parts.{NoteParts};
 ghost use Rattle.mxf_klv.specs.Rising.{In};
 ghost use Rattle.mxf_catalogue.specs.Content.{IsContent};
 ghost use Rattle.mxf_catalogue.specs.Disputes.{AreApart, clear_notes};
 ghost use Rattle.std.specs.Iterator.{YieldsFirstRef, item_count};
-ghost use Rattle.mxf_views.specs.SetItems.{set_items, whole_items};
+ghost use Rattle.mxf_sets.specs.Items.{ItemParts};
+ghost use Rattle.mxf_views.specs.SetItems.{AreSetItems, set_items, whole_items};
 ghost use Rattle.mxf_views.specs.Copies.{IsSetOf, is_set_note, sets_from, sets_of};
 
 use super::CopyInfo;
@@ -105,4 +107,11 @@ pub fn sets_by_definition()
     ensures sets { (notes : List NoteParts) (partition : ℕ) (n : NoteParts) → IsContent notes
         → In n (sets_of notes partition) ↔ IsSetOf notes partition n }
     ensures rising { (notes : List NoteParts) (partition : ℕ) → IsContent notes → AreApart 0 (sets_of notes partition) }
+{}
+
+/// A law of [`set_items`]: a note has items exactly where it is a header metadata set that keeps its value, and these
+/// items, one after another, make up all of it.
+pub fn set_items_by_definition()
+    ensures { (n : NoteParts) (items : Option (List ItemParts)) → AreBytes n.held
+        → (set_items n ≡ items) ↔ AreSetItems n items }
 {}

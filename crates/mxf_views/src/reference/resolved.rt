@@ -1,9 +1,12 @@
 //! The references of the preferred copy.
-ghost use Rattle.std.specs.Prelude.{◌≡◌, find, filter, IfOk, []};
+ghost use Rattle.std.specs.Prelude.{◌≡◌, ◌↔◌, List, Option, find, filter, IfOk, []};
+ghost use Rattle.mxf_klv.specs.Parts.{NoteParts};
+ghost use Rattle.mxf_catalogue.specs.Content.{IsContent};
 ghost use Rattle.std.specs.Option.{option_copied};
 ghost use Rattle.mxf_views.specs.Copies.{is_preface_note, sets_of};
 ghost use Rattle.mxf_views.specs.References.{has_uid};
-ghost use Rattle.mxf_views.specs.Resolved.{preface_in, resolved_by, storage_among, storage_in};
+ghost use Rattle.mxf_views.specs.Resolved.{ResolvedParts, preface_in, resolved_by, resolved_of, storage_among, storage_in};
+ghost use Rattle.mxf_views.specs.ResolvedView.{IsResolved};
 
 use crate::copy::sets::Sets;
 use crate::copy::zone::is_preface;
@@ -122,3 +125,10 @@ pub(crate) fn resolved_by(
         packages,
     })
 }
+
+/// A law of [`Views::resolved`](crate::Views::resolved): it is what the only Preface of the preferred copy names, each
+/// reference in its place with what it leads to; there is none only where no copy is preferred.
+pub fn resolved_by_definition()
+    ensures { (notes : List NoteParts) (resolved : Option ResolvedParts) → IsContent notes
+        → (resolved_of notes ≡ resolved) ↔ IsResolved notes resolved }
+{}

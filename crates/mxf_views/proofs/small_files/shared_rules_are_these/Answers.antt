@@ -1,6 +1,7 @@
 use Rattle.std.specs.Prelude.{◌≡◌, ◌+◌, ◌<◌, ◌==◌, cond, is_some, refl}
 use Rattle.std.proofs.Common.{ap, arith, eq-eqb, eqb-true}
 use Rattle.mxf_views.specs.Copies.{rank, standing}
+use Rattle.mxf_views.proofs.KindLaws.{fill_kind, preface_kind, primer_kind, rip_kind, segment_kind, set_kind}
 use Rattle.mxf_views.proofs.Members.{both, parts}
 use Rattle.mxf_views.proofs.SmallFiles.{rank_below_4}
 use Rattle.mxf_views.proofs.small_files.shared_rules_are_these.Goals as goal
@@ -26,3 +27,21 @@ returns-clause-sets c = (refl, refl, refl)
 
 pub returns-clause-no_sets : goal.returns-clause-no_sets
 returns-clause-no_sets c = (refl, refl, refl, refl, refl)
+
+pub returns-clause-set_kinds : goal.returns-clause-set_kinds
+returns-clause-set_kinds c = set_kind
+
+pub returns-clause-fills : goal.returns-clause-fills
+returns-clause-fills c = fill_kind
+
+pub returns-clause-primers : goal.returns-clause-primers
+returns-clause-primers c = primer_kind
+
+pub returns-clause-prefaces : goal.returns-clause-prefaces
+returns-clause-prefaces c = preface_kind
+
+pub returns-clause-segments : goal.returns-clause-segments
+returns-clause-segments c = segment_kind
+
+pub returns-clause-random_index_packs : goal.returns-clause-random_index_packs
+returns-clause-random_index_packs c = rip_kind

@@ -12,3 +12,6 @@ returns-clause-r c = refl
 
 pub returns-clause-w : goal.returns-clause-w
 returns-clause-w c = refl
+
+pub returns-clause-m : goal.returns-clause-m
+returns-clause-m c = refl

@@ -1,0 +1,215 @@
+-- Further small files that are well-formed.
+use Rattle.std.specs.Prelude.{◌≡◌, ℕ, ◌-◌, ◌*◌, ◌==◌, List, [], ◌∷◌, Some, None, cond, refl}
+use Rattle.std.specs.Prelude.{if◌then◌else◌, unsigned_abs}
+use Rattle.std.specs.Option.{option_map}
+use Rattle.std.specs.List.{AllByRecursion}
+use Rattle.std.proofs.Common.{Bool, true, false, sym, ◌∙◌, subst, arith}
+use Rattle.mxf_klv.specs.declared.kinds.Status.TheVariants.{OpenIncomplete, ClosedComplete}
+use Rattle.mxf_klv.specs.Packet.{IsPacket}
+use Rattle.mxf_klv.specs.Parts.{PacketParts}
+use Rattle.mxf_sets.specs.Items.{item_at, items_of, left_of}
+use Rattle.mxf_sets.specs.RandomIndexPack.{entries_of}
+use Rattle.mxf_sets.specs.declared.pack.part.PackPart.TheVariants.{Header, Footer}
+use Rattle.mxf_sets.specs.Offset.{covers_constant, covers_entry, entry_offset, stream_offset}
+use Rattle.mxf_sets.specs.Segment.{SegmentParts, is_constant}
+use Rattle.mxf_views.specs.Places.{SegmentAtParts}
+use Rattle.mxf_views.specs.Reading.{place_by_segment, segments_read}
+use Rattle.mxf_views.specs.Records.{read_pack, read_rip, read_segment}
+use Rattle.mxf_views.specs.WellFormed.{Agree, EndsWithFooter, HasMetadata, IsPartitionPack, IsWellFormed}
+use Rattle.mxf_views.specs.WorkedFiles.{agreeing_file, bare_file, constant, fill, filled_file, m_file, numbers}
+use Rattle.mxf_views.specs.WorkedFiles.{open_file, pack, pack_of, preface, primer, segment, two_entries}
+use Rattle.mxf_views.specs.declared.index.place.Place.{Place}
+use Rattle.mxf_views.specs.declared.index.place.Place.TheVariants.{At}
+use Rattle.mxf_views.proofs.Members.{all-each, none_some, some_same}
+use Rattle.mxf_views.proofs.SmallFiles.{constant_packet, no_footer, no_header, no_pack, no_rip, open_packet, pack_packet}
+use Rattle.mxf_views.proofs.SmallFiles.{packet_of, preface_packet, primer_packet}
+
+pub bare_footer : (after : List PacketParts) → AllByRecursion (λ p. ¬ IsPartitionPack p) after
+    → EndsWithFooter (bare_file after)
+bare_footer after none = record {
+  before = pack Header (numbers 0 0 108 0 0 0 0) ∷ [];
+  footer = pack Footer (numbers 108 0 108 0 0 0 0);
+  after = after;
+  order = refl;
+  is_footer = (ClosedComplete, refl);
+  only = (no_footer (pack Header (numbers 0 0 108 0 0 0 0)) refl, tt);
+  last = none;
+}
+
+pub m_well_formed : IsWellFormed m_file
+unfolding read_pack read_segment read_rip item_at items_of left_of entries_of
+m_well_formed = record {
+  packets = (
+    pack_packet Header (numbers 0 0 108 0 0 0 0),
+    (
+      pack_packet Footer (numbers 108 0 108 0 0 0 0),
+      (packet_of two_entries (refl, refl) refl (omega arith), tt),
+    ),
+  );
+  within = omega arith;
+  header = (
+    (ClosedComplete, refl),
+    (no_header (pack Footer (numbers 108 0 108 0 0 0 0)) refl, (no_header two_entries refl, tt)),
+  );
+  footer = bare_footer (two_entries ∷ []) (no_pack two_entries refl, tt);
+  readable = (refl, (refl, (refl, tt)));
+  this = (refl, (refl, tt));
+  previous = (refl, (refl, tt));
+  metadata = (λ h. absurd (omega arith), (λ h. absurd (omega arith), (tt, tt)));
+  index = λ s t sid unit p q h k e f. absurd h;
+  random_index = (
+    no_rip (pack Header (numbers 0 0 108 0 0 0 0)) refl,
+    (no_rip (pack Footer (numbers 108 0 108 0 0 0 0)) refl, refl),
+  );
+}
+
+fill_packet : IsPacket fill
+fill_packet = packet_of fill (refl, refl) refl (omega arith)
+
+filled_metadata : (rest : List PacketParts) → HasMetadata 86 (fill ∷ primer ∷ preface ∷ rest)
+filled_metadata rest = record {
+  fills = fill ∷ [];
+  primer = primer;
+  sets = preface ∷ [];
+  rest = rest;
+  order = refl;
+  are_fills = (refl, tt);
+  is_primer = refl;
+  no_pack = (no_pack preface refl, tt);
+  exact = refl;
+}
+
+pub filled_well_formed : IsWellFormed filled_file
+unfolding read_pack read_segment read_rip
+filled_well_formed = record {
+  packets = (
+    pack_packet Header (numbers 0 0 222 86 0 0 0),
+    (
+      fill_packet,
+      (primer_packet, (preface_packet, (pack_packet Footer (numbers 222 0 222 0 0 0 0), tt))),
+    ),
+  );
+  within = omega arith;
+  header = (
+    (ClosedComplete, refl),
+    (
+      no_header fill refl,
+      (
+        no_header primer refl,
+        (no_header preface refl, (no_header (pack Footer (numbers 222 0 222 0 0 0 0)) refl, tt)),
+      ),
+    ),
+  );
+  footer = record {
+    before = pack Header (numbers 0 0 222 86 0 0 0) ∷ fill ∷ primer ∷ preface ∷ [];
+    footer = pack Footer (numbers 222 0 222 0 0 0 0);
+    after = [];
+    order = refl;
+    is_footer = (ClosedComplete, refl);
+    only = (
+      no_footer (pack Header (numbers 0 0 222 86 0 0 0)) refl,
+      (no_footer fill refl, (no_footer primer refl, (no_footer preface refl, tt))),
+    );
+    last = tt;
+  };
+  readable = (refl, (refl, (refl, (refl, (refl, tt)))));
+  this = (refl, (refl, tt));
+  previous = (refl, (refl, tt));
+  metadata = (
+    λ h. filled_metadata (pack Footer (numbers 222 0 222 0 0 0 0) ∷ []),
+    (tt, (tt, (tt, (λ h. absurd (omega arith), tt)))),
+  );
+  index = λ s t sid unit p q h k e f. absurd h;
+  random_index = (
+    no_rip (pack Header (numbers 0 0 222 86 0 0 0)) refl,
+    (no_rip fill refl, (no_rip primer refl, (no_rip preface refl, tt))),
+  );
+}
+
+pub open_well_formed : IsWellFormed open_file
+unfolding read_pack read_segment read_rip
+open_well_formed = record {
+  packets = (open_packet (numbers 0 0 0 0 0 0 0), (pack_packet Footer (numbers 108 0 108 0 0 0 0), tt));
+  within = omega arith;
+  header = ((OpenIncomplete, refl), (no_header (pack Footer (numbers 108 0 108 0 0 0 0)) refl, tt));
+  footer = record {
+    before = pack_of OpenIncomplete Header (numbers 0 0 0 0 0 0 0) ∷ [];
+    footer = pack Footer (numbers 108 0 108 0 0 0 0);
+    after = [];
+    order = refl;
+    is_footer = (ClosedComplete, refl);
+    only = (no_footer (pack_of OpenIncomplete Header (numbers 0 0 0 0 0 0 0)) refl, tt);
+    last = tt;
+  };
+  readable = (refl, (refl, tt));
+  this = (refl, (refl, tt));
+  previous = (refl, (refl, tt));
+  metadata = (λ h. absurd (omega arith), (λ h. absurd (omega arith), tt));
+  index = λ s t sid unit p q h k e f. absurd h;
+  random_index = (no_rip (pack_of OpenIncomplete Header (numbers 0 0 0 0 0 0 0)) refl, tt);
+}
+
+-- The segment gives units of so many bytes each in the stream of a BodySID.
+abbrev IsSteady : ℕ → ℕ → SegmentParts → Type 0
+IsSteady body bytes s =
+    (is_constant s.numbers ≡ true) × (s.numbers.body_sid ≡ body) × (s.numbers.unit_bytes ≡ bytes)
+
+steady_place : (body bytes sid unit : ℕ) (s : SegmentParts) (p : Place) → IsSteady body bytes s
+    → place_by_segment sid unit s ≡ Some p → p ≡ At body (bytes * unit)
+steady_place body bytes sid unit s p i e =
+    let b = s.numbers.body_sid in
+    let k = s.numbers.unit_bytes * unit in
+    let at : At b k ≡ At body (bytes * unit) = λ j. At (i.1 j) (i.2 j * unit) in
+    let by_size = if covers_constant s unit then Some k else None in
+    let place = unit - unsigned_abs s.numbers.start in
+    let by_entry = if covers_entry s unit then Some (entry_offset s place) else None in
+    elim (s.numbers.index_sid == sid) as (λ c. cond c (option_map (λ o. At b o) (stream_offset s unit)) None ≡ Some p
+    → p ≡ At body (bytes * unit)) [
+      | false ↦ λ q. absurd (none_some None p refl q)
+      | true ↦ λ q.
+          let r : option_map (λ o. At b o) by_size ≡ Some p =
+          subst (λ (c : Bool). option_map (λ o. At b o) (cond c by_size by_entry) ≡ Some p) i.0 q in
+          elim (covers_constant s unit) as (λ c. option_map (λ o. At b o) (cond c (Some k) None) ≡ Some p
+          → p ≡ At body (bytes * unit)) [
+            | false ↦ λ u. absurd (none_some None p refl u)
+            | true ↦ λ u. sym (some_same (At b k) p u) ∙ at
+          ] r
+    ] e
+
+steady_agree : (body bytes : ℕ) (ss : List SegmentAtParts)
+    → AllByRecursion (λ s. IsSteady body bytes s.segment) ss → Agree ss
+steady_agree body bytes ss a s t sid unit p q h k e f =
+    let each = all-each (λ (x : SegmentAtParts). IsSteady body bytes x.segment) ss in
+    steady_place body bytes sid unit s.segment p (each s a h) e
+    ∙ sym (steady_place body bytes sid unit t.segment q (each t a k) f)
+
+later_packet : IsPacket (segment 0x32 0x90)
+later_packet = packet_of (segment 0x32 0x90) (refl, refl) refl (omega arith)
+
+pub agreeing_well_formed : IsWellFormed agreeing_file
+unfolding read_pack read_segment read_rip item_at items_of left_of
+agreeing_well_formed = record {
+  packets = (
+    pack_packet Header (numbers 0 0 108 0 0 0 0),
+    (pack_packet Footer (numbers 108 0 108 0 0 0 0), (constant_packet, (later_packet, tt))),
+  );
+  within = omega arith;
+  header = (
+    (ClosedComplete, refl),
+    (
+      no_header (pack Footer (numbers 108 0 108 0 0 0 0)) refl,
+      (no_header constant refl, (no_header (segment 0x32 0x90) refl, tt)),
+    ),
+  );
+  footer = bare_footer (constant ∷ segment 0x32 0x90 ∷ [])
+      (no_pack constant refl, (no_pack (segment 0x32 0x90) refl, tt));
+  readable = (refl, (refl, (refl, (refl, tt))));
+  this = (refl, (refl, tt));
+  previous = (refl, (refl, tt));
+  metadata = (λ h. absurd (omega arith), (λ h. absurd (omega arith), (tt, (tt, tt))));
+  index = steady_agree 2 250000 (segments_read 0 agreeing_file) ((refl, refl, refl), ((refl, refl, refl), tt));
+  random_index = (
+    no_rip (pack Header (numbers 0 0 108 0 0 0 0)) refl,
+    (no_rip (pack Footer (numbers 108 0 108 0 0 0 0)) refl, (no_rip constant refl, tt)),
+  );
+}

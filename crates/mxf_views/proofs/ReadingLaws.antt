@@ -1,0 +1,46 @@
+-- What notes are read as.
+use Rattle.std.proofs.Common.{◌≡◌, ℕ, ◌∙◌, true, false, cond, List, Option, Some, None, Result, Ok, Err, refl, ap}
+use Rattle.std.specs.Prelude.{◌↔◌, ◌&&◌, is_ok, is_some}
+use Rattle.std.specs.Result.{result_ok}
+use Rattle.mxf_klv.specs.Parts.{NoteParts}
+use Rattle.mxf_klv.specs.Note.{keeps}
+use Rattle.mxf_sets.specs.Readable.{read_as}
+use Rattle.mxf_views.specs.Readings.{IsReadAs, IsReadable}
+use Rattle.mxf_views.proofs.Members.{both, parts}
+
+pub reads : {A E : Type 0} (read : List ℕ → Result A E) (n : NoteParts) (value : A)
+    → (read_as read n ≡ Some value) ↔ IsReadAs read n value
+reads {A} {E} read n value = (
+  λ h. elim (keeps n.key n.length) as (λ b. keeps n.key n.length ≡ b
+      → cond b (result_ok (read n.held)) None ≡ Some value → IsReadAs read n value) [
+        | false ↦ λ _ q. absurd cc
+        | true ↦ λ k q. elim (read n.held) as (λ r. read n.held ≡ r
+            → result_ok r ≡ Some value → IsReadAs read n value) [
+              | Err f ↦ λ _ u. absurd cc
+              | Ok x ↦ λ e u. (k, e ∙ (let same : x ≡ value = cc (u) in ap (λ (y : A). Ok y) same))
+            ] refl q
+      ] refl h,
+  λ s. let k : keeps n.key n.length ≡ true = s.0 in let e = s.1 in rw k (rw e refl),
+)
+
+pub is_some_readable : {A E : Type 0} (read : List ℕ → Result A E) (n : NoteParts)
+    → (is_some (read_as read n) ≡ true) ↔ IsReadable read n
+is_some_readable {A} read n = (
+  λ h. elim (read_as read n) as (λ o. read_as read n ≡ o → is_some o ≡ true → IsReadable read n) [
+    | None ↦ λ _ q. absurd cc
+    | Some value ↦ λ e _. (value, (reads read n value).0 e)
+  ] refl h,
+  λ s. ap (λ (o : Option A). is_some o) ((reads read n s.0).1 s.1),
+)
+
+pub ok_readable : {A E : Type 0} (read : List ℕ → Result A E) (n : NoteParts)
+    → ((keeps n.key n.length && is_ok (read n.held)) ≡ true) ↔ IsReadable read n
+ok_readable {A} {E} read n = (
+  λ h.
+      let s = parts (keeps n.key n.length) (is_ok (read n.held)) h in
+      elim (read n.held) as (λ r. read n.held ≡ r → is_ok r ≡ true → IsReadable read n) [
+        | Ok x ↦ λ e _. (x, (s.0, e))
+        | Err f ↦ λ _ q. absurd cc
+      ] refl s.1,
+  λ s. both (keeps n.key n.length) (is_ok (read n.held)) s.1.0 (ap (λ (r : Result A E). is_ok r) s.1.1),
+)
