@@ -16,6 +16,13 @@ use Rattle.mxf_tool.specs.declared.gathering.fault.PartFault.{PartFault}
 use Rattle.mxf_tool.specs.declared.gathering.fault.PartFault.TheVariants.{ReadFault, TooLong, Catalogue, OutOfMemory}
 use Rattle.mxf_tool.specs.declared.gathering.fault.GatherFault.{GatherFault}
 use Rattle.mxf_tool.specs.Levels.{HeldIn}
+use Rattle.mxf_tool.specs.Sources.{SourceParts}
+use Rattle.mxf_tool.specs.Sources as sources
+
+-- The part that a source names, by a reader of its file.
+abbrev pub part_of : {R : Type 0} → SourceParts → R → Part R
+part_of (sources.Piece offset path) from = Piece offset from
+part_of (sources.Saved path) from = Saved from
 
 -- The bytes that are read of one piece, at most.
 abbrev pub piece_limit : ℕ

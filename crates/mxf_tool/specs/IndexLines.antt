@@ -6,13 +6,12 @@ use Rattle.std.specs.Fmt.{decimal, signed_decimal}
 use Rattle.mxf_sets.specs.Segment.{entry_count}
 use Rattle.mxf_sets.specs.declared.segment.numbers.SegmentNumbers.{SegmentNumbers}
 use Rattle.mxf_views.specs.Places.{SegmentAtParts}
+use Rattle.mxf_views.specs.Words.{standing_name}
 use Rattle.mxf_views.specs.declared.index.place.Place.{Place}
 use Rattle.mxf_views.specs.declared.index.place.Place.TheVariants.{NotIndexed, At, Ambiguous}
-use Rattle.mxf_views.specs.RandomIndex.{RipAtParts}
 use Rattle.mxf_views.specs.declared.random_index.RipView.{RipView}
 use Rattle.mxf_views.specs.declared.random_index.RipView.TheVariants.{Absent, Several, Unreadable, One}
 use Rattle.mxf_views.specs.declared.random_index.Standing.{Standing}
-use Rattle.mxf_views.specs.declared.random_index.Standing.TheVariants.{Held, Differs, Missing}
 use Rattle.mxf_sets.specs.declared.pack.random_index.RipEntry.{RipEntry}
 use Rattle.mxf_tool.specs.Lines.{line_of, spaced}
 
@@ -45,11 +44,6 @@ rip_line Absent = line_of (codes "rip" ∷ codes "none" ∷ [])
 rip_line Several = line_of (codes "rip" ∷ codes "several" ∷ [])
 rip_line (Unreadable offset) = line_of (codes "rip" ∷ codes "unreadable" ∷ decimal offset ∷ [])
 rip_line (One r) = line_of (codes "rip" ∷ decimal r.offset ∷ [])
-
-abbrev pub standing_name : Standing → List ℕ
-standing_name Held = codes "held"
-standing_name Differs = codes "differs"
-standing_name Missing = codes "missing"
 
 -- The line of an entry: its BodySID, its offset, and how it stands to the partitions.
 unfoldable pub rip_entry_line : RipEntry → Standing → List ℕ

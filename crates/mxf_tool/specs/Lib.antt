@@ -11,5 +11,6 @@ pub mod PartReading
 pub mod PartitionLines
 pub mod Printing
 pub mod ReferenceLines
+pub mod Saving
 pub mod ShownText
 pub mod Sources

@@ -3,43 +3,14 @@ use Rattle.std.specs.Prelude.{ℕ, Bool, true, false, List, [], ◌∷◌, ◌++
 use Rattle.std.specs.Fmt.{decimal}
 use Rattle.mxf_klv.specs.Kind.{kind_of}
 use Rattle.mxf_klv.specs.Parts.{NoteParts}
-use Rattle.mxf_klv.specs.declared.kinds.Kind.{Kind}
-use Rattle.mxf_klv.specs.declared.kinds.Kind.TheVariants.{Header, Body, Footer, Primer, Segment, Rip, Preface}
-use Rattle.mxf_klv.specs.declared.kinds.Kind.TheVariants.{Identification, ContentStorage, MaterialPackage}
-use Rattle.mxf_klv.specs.declared.kinds.Kind.TheVariants.{SourcePackage, RawSet, Fill, Essence, Other}
+use Rattle.mxf_klv.specs.Words.{kind_name, stop_name}
 use Rattle.mxf_klv.specs.declared.piece.Stop.{Stop}
 use Rattle.mxf_klv.specs.declared.piece.Stop.TheVariants.{End, NotUl, BadLength, TooFar, Truncated}
 use Rattle.mxf_catalogue.specs.declared.run.Run.{Run}
 use Rattle.mxf_views.specs.declared.chain.Chain.{Chain}
-use Rattle.mxf_views.specs.declared.chain.Chain.TheVariants.{Whole, Broken}
 use Rattle.mxf_views.specs.declared.copy.CopyInfo.{CopyInfo}
+use Rattle.mxf_views.specs.Words.{chain_name}
 use Rattle.mxf_tool.specs.Hexadecimal.{hex_of}
-
--- The name of a kind.
-abbrev pub kind_name : Kind → List ℕ
-kind_name (Header status) = codes "header"
-kind_name (Body status) = codes "body"
-kind_name (Footer status) = codes "footer"
-kind_name Primer = codes "primer"
-kind_name Rip = codes "rip"
-kind_name Segment = codes "segment"
-kind_name Preface = codes "preface"
-kind_name Identification = codes "identification"
-kind_name ContentStorage = codes "content-storage"
-kind_name MaterialPackage = codes "material-package"
-kind_name SourcePackage = codes "source-package"
-kind_name RawSet = codes "raw-set"
-kind_name Fill = codes "fill"
-kind_name Essence = codes "essence"
-kind_name Other = codes "other"
-
--- The text of a stop: why, and at which offset.
-abbrev pub stop_text : Stop → List ℕ
-stop_text End = codes "end"
-stop_text (NotUl at) = codes "not-ul " ++ decimal at
-stop_text (BadLength at) = codes "bad-length " ++ decimal at
-stop_text (TooFar at) = codes "too-far " ++ decimal at
-stop_text (Truncated at) = codes "truncated " ++ decimal at
 
 -- These words, with a space between them.
 abbrev pub spaced : List (List ℕ) → List ℕ
@@ -52,6 +23,14 @@ abbrev pub line_of : List (List ℕ) → List ℕ
 line_of [] = codes "\n"
 line_of (part ∷ []) = part ++ codes "\n"
 line_of (part ∷ next ∷ parts) = part ++ (codes " " ++ line_of (next ∷ parts))
+
+-- The text of a stop: its word, and at which offset.
+abbrev pub stop_text : Stop → List ℕ
+stop_text End = stop_name End
+stop_text (NotUl at) = spaced (stop_name (NotUl at) ∷ decimal at ∷ [])
+stop_text (BadLength at) = spaced (stop_name (BadLength at) ∷ decimal at ∷ [])
+stop_text (TooFar at) = spaced (stop_name (TooFar at) ∷ decimal at ∷ [])
+stop_text (Truncated at) = spaced (stop_name (Truncated at) ∷ decimal at ∷ [])
 
 -- The line of a piece: its offset, the number of its packets and its stop.
 unfoldable pub piece_line : ℕ → ℕ → Stop → List ℕ
@@ -77,10 +56,6 @@ note_line n disputed =
 -- The line of a gap: where it begins and ends.
 unfoldable pub gap_line : Run → List ℕ
 gap_line gap = line_of (codes "gap" ∷ decimal gap.start ∷ decimal gap.end ∷ [])
-
-abbrev pub chain_name : Chain → List ℕ
-chain_name Whole = codes "whole"
-chain_name Broken = codes "broken"
 
 -- The line of the chain of the partitions.
 unfoldable pub chain_line : Chain → List ℕ

@@ -2,37 +2,16 @@
 use Rattle.std.specs.Prelude.{ℕ, List, [], ◌∷◌, ◌++◌, codes, slice_index, Option, None, Some}
 use Rattle.std.specs.List.{flat_map}
 use Rattle.std.specs.Fmt.{decimal}
-use Rattle.mxf_klv.specs.declared.kinds.Status.{Status}
-use Rattle.mxf_klv.specs.declared.kinds.Status.TheVariants.{OpenIncomplete, ClosedIncomplete, OpenComplete}
-use Rattle.mxf_klv.specs.declared.kinds.Status.TheVariants.{ClosedComplete}
-use Rattle.mxf_sets.specs.declared.pack.part.PackPart.{PackPart}
-use Rattle.mxf_sets.specs.declared.pack.part.PackPart.TheVariants.{Header, Body, Footer}
+use Rattle.mxf_klv.specs.Words.{status_name}
 use Rattle.mxf_sets.specs.declared.pack.numbers.PartitionNumbers.{PartitionNumbers}
 use Rattle.mxf_sets.specs.Batch.{BatchParts, batch_items}
 use Rattle.mxf_sets.specs.Pattern.{pattern_name}
+use Rattle.mxf_sets.specs.Words.{part_name}
 use Rattle.mxf_views.specs.declared.chain.Link.{Link}
-use Rattle.mxf_views.specs.declared.chain.Link.TheVariants.{First, Held, Skips, Missing, Wrong}
 use Rattle.mxf_views.specs.Partitions.{PartitionParts, link_of}
+use Rattle.mxf_views.specs.Words.{link_name}
 use Rattle.mxf_tool.specs.Hexadecimal.{hex_of}
 use Rattle.mxf_tool.specs.Lines.{line_of, spaced}
-
-abbrev pub part_name : PackPart → List ℕ
-part_name Header = codes "header"
-part_name Body = codes "body"
-part_name Footer = codes "footer"
-
-abbrev pub status_name : Status → List ℕ
-status_name OpenIncomplete = codes "open-incomplete"
-status_name ClosedIncomplete = codes "closed-incomplete"
-status_name OpenComplete = codes "open-complete"
-status_name ClosedComplete = codes "closed-complete"
-
-abbrev pub link_name : Link → List ℕ
-link_name First = codes "first"
-link_name Held = codes "held"
-link_name Skips = codes "skips"
-link_name Missing = codes "missing"
-link_name Wrong = codes "wrong"
 
 -- The numbers of a partition pack in their order, each after its name.
 unfoldable pub numbers_text : PartitionNumbers → List ℕ

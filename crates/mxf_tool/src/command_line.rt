@@ -90,27 +90,33 @@ fn out<'a>(alloc: Global) -> Arg<'a> {
         .value_name("PATH")
         .required(true)
         .action(ArgAction::Set)
-        .help("The file to write; what it held before is overwritten")
+        .help(
+            "The file to write: replaced whole or, at a fault, left as it was; not standard output",
+        )
 }
 
 /// What the matches ask for, or `None` where they are of another command.
 pub fn request_of<'m, 'a>(matches: &'m ArgMatches<'a>) -> Option<Request<'m, 'a>> {
-    match matches.subcommand()? {
-        ("show", inner) => Some(Request::Show {
-            words: inner.get_strs("SRC")?,
-        }),
-        ("check", inner) => Some(Request::Check {
-            words: inner.get_strs("SRC")?,
-        }),
-        ("locate", inner) => Some(Request::Locate {
-            index: inner.get_one("index")?,
-            unit: inner.get_one("unit")?,
-            words: inner.get_strs("SRC")?,
-        }),
-        ("join", inner) => Some(Request::Join {
-            out: inner.get_str("out")?,
-            words: inner.get_strs("SRC")?,
-        }),
+    let (name, inner) = matches.subcommand()?;
+    let words = inner.get_strs("SRC")?;
+    match name {
+        "show" => Some(Request::Show { words }),
+        "check" => Some(Request::Check { words }),
+        "locate" => locate_of(inner, words),
+        "join" => join_of(inner, words),
         _ => None,
     }
+}
+
+/// What the matches of `locate` ask for.
+fn locate_of<'m, 'a>(matches: &'m ArgMatches<'a>, words: &'m [&'a str]) -> Option<Request<'m, 'a>> {
+    let index = matches.get_one("index")?;
+    let unit = matches.get_one("unit")?;
+    Some(Request::Locate { index, unit, words })
+}
+
+/// What the matches of `join` ask for.
+fn join_of<'m, 'a>(matches: &'m ArgMatches<'a>, words: &'m [&'a str]) -> Option<Request<'m, 'a>> {
+    let out = matches.get_str("out")?;
+    Some(Request::Join { out, words })
 }

@@ -6,7 +6,8 @@ ghost use Rattle.mxf_catalogue.specs.Content.{union_of};
 ghost use Rattle.mxf_catalogue.specs.CatalogueFile.{IsRefused};
 ghost use Rattle.mxf_views.specs.Headline.{IsTheRun};
 ghost use Rattle.mxf_read.specs.Absorbs.{report_of};
-ghost use Rattle.mxf_tool.specs.Gathering.{AllTell, HandedBy, HasFault, IsGatherFault, IsOfAnyPart};
+ghost use Rattle.std.specs.List.{AllByRecursion};
+ghost use Rattle.mxf_tool.specs.Gathering.{AllTell, HandedBy, HasFault, IsGatherFault, IsGood, IsOfAnyPart};
 ghost use Rattle.mxf_tool.specs.Gathering.{IsSavedAs, IsSavedFault, TakesPart, Tells, piece_limit, reports_of, saved_limit};
 
 mod fault;
@@ -19,7 +20,7 @@ pub use fault::{GatherFault, PartFault};
 use levels::Levels;
 use mxf_catalogue::{Catalogue, FileFault};
 use mxf_klv::OutOfMemory;
-use mxf_read::{Report, absorb};
+use mxf_read::{ReadTicks, Report, absorb_from};
 use mxf_views::Views;
 pub use part::Part;
 use reading::read_up_to;
@@ -55,9 +56,9 @@ fn read_piece<R: Read>(alloc: Global, offset: u64, from: &mut R) -> Result<Piece
         p.notes ≡ union_of [] (notes_in offset (take piece_limit all)))) }
     ensures fault { IfErr result IsOfAnyPart }
 {
-    let bytes = read_up_to(alloc, from, GREATEST_PIECE)?;
     let mut views = Views::new(alloc);
-    let report = absorb(alloc, &mut views, offset, &bytes)?;
+    let mut ticks = ReadTicks::new();
+    let report = absorb_from(alloc, &mut views, offset, from, GREATEST_PIECE, &mut ticks)?;
     Ok(PieceNotes {
         notes: views.into_catalogue(),
         report,
@@ -103,12 +104,12 @@ fn take_part<R: Read + Drop>(
     match part {
         Part::Piece { offset, mut from } => {
             let PieceNotes { notes, report } = read_piece(alloc, offset, &mut from)?;
-            levels.add(alloc, notes)?;
+            levels.add(notes)?;
             reports.push(PieceReport { offset, report })?;
         }
         Part::Saved { mut from } => {
             let saved = read_saved(alloc, &mut from)?;
-            levels.add(alloc, saved)?;
+            levels.add(saved)?;
         }
     }
     Ok(())
@@ -129,6 +130,8 @@ pub fn gather<R: Read + Drop>(alloc: Global, parts: Vec<Part<R>>) -> Result<Gath
         → IfOk result (λ g. IsTheRun (HandedBy R.remaining parts.items) g.views) }
     ensures reports { AllTell R.remaining parts.items
         → IfOk result (λ g. g.reports ≡ reports_of R.remaining parts.items) }
+    ensures good { AllTell R.remaining parts.items
+        → IfOk result (λ _. AllByRecursion (IsGood R.remaining) parts.items) }
     ensures fault { AllTell R.remaining parts.items → IfErr result (IsGatherFault R.remaining parts.items) }
 
     // Whatever the readers tell, a fault has the number of a part.

@@ -1,53 +1,15 @@
 //! The run of the program: its arguments, its files, its lines, and its exit status.
-ghost use Rattle.std.specs.Prelude.{◌≡◌};
-ghost use Rattle.mxf_tool.specs.Exits.{status_of};
-
+use crate::arguments::unreadable_argument;
 use crate::command_line::{Request, command, request_of};
-use crate::gathering::{GatherFault, Gathered, Part, PartFault, gather};
-use crate::printing::{AnswerFault, Ask, answer};
+use crate::exit::Exit;
+use crate::gathering::{GatherFault, Gathered, Part, gather};
+use crate::printing::{Ask, answer};
+use crate::saving::{SaveFault, is_standard_output, save};
 use crate::source::{Source, parse_source};
 use clap::error::ErrorKind;
-use mxf_catalogue::Catalogue;
-use mxf_klv::Encode;
 use std::io::{BufWriter, Write};
 use std::rt::{Env, Files};
 use std::{env, fs, io};
-
-/// How a run ended, and with which exit status.
-#[derive(Clone, Copy, Debug, PartialEq, Eq)]
-pub enum Exit {
-    /// All was printed; also help.
-    Done,
-    /// All was printed, and a check found something, or an edit unit has no place or more than one.
-    Found,
-    /// The arguments were refused, or one names no source.
-    Usage,
-    /// A source couldn't be opened or read.
-    Unread,
-    /// The file of a catalogue was refused or is too long.
-    Refused,
-    /// Want of memory.
-    NoMemory,
-    /// A write failed, or the file to write couldn't be made.
-    Unwritten,
-}
-
-impl Exit {
-    /// The exit status of the program.
-    pub fn status(self) -> u8
-        ensures { result ≡ status_of self }
-    {
-        match self {
-            Exit::Done => 0,
-            Exit::Found => 1,
-            Exit::Usage => 2,
-            Exit::Unread => 3,
-            Exit::Refused => 4,
-            Exit::NoMemory => 5,
-            Exit::Unwritten => 6,
-        }
-    }
-}
 
 /// Runs the program on the arguments that it was started with.
 pub fn run<R: Files + Env + Print + Eprint + AllocGlobal>(rt: &R) -> Exit {
@@ -72,11 +34,15 @@ pub fn run<R: Files + Env + Print + Eprint + AllocGlobal>(rt: &R) -> Exit {
 }
 
 /// Tells why there are no arguments.
-fn unread_arguments<R: Eprint>(rt: &R, fault: &io::Error) -> Exit {
+fn unread_arguments<R: Env + Eprint + AllocGlobal>(rt: &R, fault: &io::Error) -> Exit {
     if fault.kind() == io::ErrorKind::OutOfMemory {
         return no_memory(rt);
     }
-    let _ = rt.eprintln("error: an argument is not UTF-8");
+    let _ = match unreadable_argument(rt) {
+        Ok(Some(number)) => rt.eprintln(format_args!("error: argument {number} is not UTF-8")),
+        Ok(None) => rt.eprintln("error: an argument is not UTF-8"),
+        Err(_) => return no_memory(rt),
+    };
     Exit::Usage
 }
 
@@ -96,6 +62,20 @@ fn unread<R: Eprint>(rt: &R, path: &str) -> Exit {
 fn unwritten<R: Eprint>(rt: &R) -> Exit {
     let _ = rt.eprintln("write fault");
     Exit::Unwritten
+}
+
+/// Tells that the file to write is standard output.
+fn bad_output<R: Eprint>(rt: &R, path: &str) -> Exit {
+    let _ = rt.eprintln(format_args!("bad output: {path}"));
+    Exit::Usage
+}
+
+/// Tells why a catalogue wasn't saved.
+fn unsaved<R: Eprint>(rt: &R, fault: SaveFault) -> Exit {
+    match fault {
+        SaveFault::OutOfMemory => no_memory(rt),
+        SaveFault::Write => unwritten(rt),
+    }
 }
 
 /// Tells that an edit unit is above the greatest.
@@ -138,7 +118,8 @@ fn tell<R: Files + Print + Eprint + AllocGlobal>(
     ask: Ask,
     words: &[&str],
 ) -> Result<Exit, Exit> {
-    let gathered = gather_sources(rt, words)?;
+    let sources = parse_sources(rt, words)?;
+    let gathered = gather_sources(rt, &sources)?;
     print_answer(rt, ask, &gathered)
 }
 
@@ -148,21 +129,26 @@ fn join<R: Files + Print + Eprint + AllocGlobal>(
     out: &str,
     words: &[&str],
 ) -> Result<Exit, Exit> {
-    let gathered = gather_sources(rt, words)?;
-    save(rt, out, gathered.views.catalogue())?;
+    let sources = parse_sources(rt, words)?;
+    if is_standard_output(rt, out) {
+        return Err(bad_output(rt, out));
+    }
+    let gathered = gather_sources(rt, &sources)?;
+    if let Err(fault) = save(rt, out, gathered.views.catalogue()) {
+        return Err(unsaved(rt, fault));
+    }
     print_answer(rt, Ask::Join, &gathered)
 }
 
-/// What the sources that the words name hold together. All are opened before the first is read.
+/// What the sources hold together. All are opened before the first is read.
 fn gather_sources<R: Files + Eprint + AllocGlobal>(
     rt: &R,
-    words: &[&str],
+    sources: &[Source<'_>],
 ) -> Result<Gathered, Exit> {
-    let sources = parse_sources(rt, words)?;
-    let parts = open_parts(rt, &sources)?;
+    let parts = open_parts(rt, sources)?;
     match gather(rt.alloc(), parts) {
         Ok(gathered) => Ok(gathered),
-        Err(fault) => Err(ungathered(rt, &fault, &sources)),
+        Err(fault) => Err(ungathered(rt, &fault, sources)),
     }
 }
 
@@ -202,10 +188,7 @@ fn open_parts<R: Files + Eprint + AllocGlobal>(
 /// The source, opened.
 fn open_part<R: Files + Eprint>(rt: &R, source: &Source<'_>) -> Result<Part<R::File>, Exit> {
     match fs::open(rt, source.path()) {
-        Ok(from) => Ok(match *source {
-            Source::Piece { offset, .. } => Part::Piece { offset, from },
-            Source::Saved { .. } => Part::Saved { from },
-        }),
+        Ok(from) => Ok(Part::of(source, from)),
         Err(fault) if fault.kind() == io::ErrorKind::OutOfMemory => Err(no_memory(rt)),
         Err(_) => Err(unread(rt, source.path())),
     }
@@ -217,34 +200,14 @@ fn ungathered<R: Eprint>(rt: &R, fault: &GatherFault, sources: &[Source<'_>]) ->
         Some(source) => source.path(),
         None => "",
     };
-    match fault.fault {
-        PartFault::OutOfMemory => no_memory(rt),
-        PartFault::ReadFault => unread(rt, path),
-        cause => {
+    match Exit::of_fault(fault.fault) {
+        Exit::NoMemory => no_memory(rt),
+        Exit::Unread => unread(rt, path),
+        exit => {
+            let cause = fault.fault;
             let _ = rt.eprintln(format_args!("catalogue fault: {path}: {cause}"));
-            Exit::Refused
+            exit
         }
-    }
-}
-
-/// Writes the file of the catalogue. What the file at `path` held before is overwritten.
-fn save<R: Files + Eprint + AllocGlobal>(
-    rt: &R,
-    path: &str,
-    catalogue: &Catalogue,
-) -> Result<(), Exit> {
-    let file = match fs::create(rt, path) {
-        Ok(file) => file,
-        Err(fault) if fault.kind() == io::ErrorKind::OutOfMemory => return Err(no_memory(rt)),
-        Err(_) => return Err(unwritten(rt)),
-    };
-    let Ok(mut out) = BufWriter::new(rt.alloc(), file) else {
-        return Err(no_memory(rt));
-    };
-    if catalogue.write_to(&mut out).is_ok() && out.flush().is_ok() {
-        Ok(())
-    } else {
-        Err(unwritten(rt))
     }
 }
 
@@ -257,11 +220,12 @@ fn print_answer<R: Print + Eprint + AllocGlobal>(
     let Ok(mut out) = BufWriter::new(rt.alloc(), io::writer(rt)) else {
         return Err(no_memory(rt));
     };
-    match answer(rt.alloc(), &ask, gathered, &mut out) {
-        Ok(0) if out.flush().is_ok() => Ok(Exit::Done),
-        Ok(1..) if out.flush().is_ok() => Ok(Exit::Found),
-        Err(AnswerFault::OutOfMemory) => Err(no_memory(rt)),
-        Err(AnswerFault::BadUnit) => Err(bad_unit(rt)),
-        Ok(_) | Err(AnswerFault::Write(_)) => Err(unwritten(rt)),
+    let answered = answer(rt.alloc(), &ask, gathered, &mut out);
+    let is_flushed = answered.is_ok() && out.flush().is_ok();
+    match Exit::of_answer(answered, is_flushed) {
+        Exit::NoMemory => Err(no_memory(rt)),
+        Exit::Usage => Err(bad_unit(rt)),
+        Exit::Unwritten => Err(unwritten(rt)),
+        exit => Ok(exit),
     }
 }

@@ -1,5 +1,5 @@
 //! Why the parts of a run weren't gathered.
-ghost use Rattle.std.specs.Prelude.{◌≡◌};
+ghost use Rattle.std.specs.Prelude.{◌≡◌, ◌⊎◌};
 ghost use Rattle.mxf_tool.specs.declared.gathering.fault.PartFault.TheVariants as faults;
 
 use mxf_catalogue::FileFault;
@@ -50,10 +50,13 @@ impl From<OutOfMemory> for PartFault {
 }
 
 impl From<AbsorbFault> for PartFault {
-    ghost from_gives = { λ _ e. e ≡ faults.OutOfMemory };
+    ghost from_gives = { λ _ e. (e ≡ faults.OutOfMemory) ⊎ (e ≡ faults.ReadFault) };
 
-    fn from(_fault: AbsorbFault) -> PartFault {
-        PartFault::OutOfMemory
+    fn from(fault: AbsorbFault) -> PartFault {
+        match fault {
+            AbsorbFault::OutOfMemory { .. } => PartFault::OutOfMemory,
+            AbsorbFault::ReadFault { .. } => PartFault::ReadFault,
+        }
     }
 }
 

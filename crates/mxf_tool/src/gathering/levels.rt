@@ -35,12 +35,12 @@ impl Levels {
     }
 
     /// Adds a catalogue. It is merged with those at the end that aren't twice as long.
-    pub(super) fn add(&mut self, alloc: Global, catalogue: Catalogue) -> Result<(), OutOfMemory>
+    pub(super) fn add(&mut self, catalogue: Catalogue) -> Result<(), OutOfMemory>
         ensures { OnOk result (Adds self.old catalogue self.new) }
     {
         let mut merged = catalogue;
         'levels: while let Some(mut last) = self.pop_below_twice(merged.len()) {
-            last.merge(alloc, merged)?;
+            last.merge(merged)?;
             merged = last;
         }
         self.items.push(merged)?;
@@ -64,7 +64,7 @@ impl Levels {
     {
         let mut views = Views::new(alloc);
         'levels: for catalogue in self.items {
-            views.merge(alloc, catalogue)?;
+            views.merge(catalogue)?;
         }
 
         // They are a catalogue, and a count of its notes fits.

@@ -48,18 +48,38 @@ fn worked(alloc: Global) -> Result<Gathered, Fail> {
 }
 
 #[test]
-fn the_worked_file_prints_its_lines(rt: HostRuntime) -> Result<(), Fail> {
+fn each_question_has_its_lines_and_status(rt: HostRuntime) -> Result<(), Fail> {
     let alloc = rt.alloc();
     let gathered = worked(alloc)?;
-    let mut writer = Narrow::new(alloc, 1000);
-    assert_eq!(rt; answer(alloc, &Ask::Show, &gathered, &mut writer), Ok(0));
-    assert_eq!(rt; writer.taken.as_slice(), WORKED_LINES.as_bytes());
-    let mut joined = Narrow::new(alloc, 1000);
-    assert_eq!(rt; answer(alloc, &Ask::Join, &gathered, &mut joined), Ok(0));
-    assert_eq!(rt;
-        joined.taken.as_slice(),
-        b"joined 3 notes 0 disputed\n".as_slice()
-    );
+    let place = Ask::Locate { index: 1, unit: 10 };
+    for (ask, lines, status) in [
+        (Ask::Show, WORKED_LINES, 0),
+        (Ask::Check, "findings 0\n", 0),
+        (place, "not indexed\n", 1),
+        (Ask::Join, "joined 3 notes 0 disputed\n", 0),
+    ] {
+        let mut writer = Narrow::new(alloc, 1000);
+        let answered = answer(alloc, &ask, &gathered, &mut writer);
+        assert_eq!(rt; answered, Ok(status), "printing {lines}");
+        assert_eq!(rt; writer.taken.as_slice(), lines.as_bytes());
+    }
+    Ok(())
+}
+
+#[test]
+fn a_unit_above_the_greatest_is_refused_and_nothing_printed(rt: HostRuntime) -> Result<(), Fail> {
+    let alloc = rt.alloc();
+    let gathered = worked(alloc)?;
+    for unit in [9_223_372_036_854_775_808, 18_446_744_073_709_551_615] {
+        let mut writer = Narrow::new(alloc, 0);
+        let answered = answer(
+            alloc,
+            &Ask::Locate { index: 1, unit },
+            &gathered,
+            &mut writer,
+        );
+        assert_eq!(rt; answered, Err(AnswerFault::BadUnit));
+    }
     Ok(())
 }
 

@@ -98,25 +98,6 @@ impl<'a> fmt::Display for RipLine<'a> {
     }
 }
 
-/// How an entry stands to the partitions, as its name.
-#[derive(Clone, Copy)]
-struct StandingName(Standing);
-
-impl fmt::Display for StandingName {
-    ghost use Rattle.std.specs.Prelude.{Some};
-    ghost use Rattle.mxf_tool.specs.IndexLines.{standing_name};
-
-    ghost output = { λ s. Some (standing_name s.0) };
-
-    fn fmt<W: fmt::Write>(&self, f: &mut fmt::Formatter<W>) -> fmt::Result {
-        f.write_str(match self.0 {
-            Standing::Held => "held",
-            Standing::Differs => "differs",
-            Standing::Missing => "missing",
-        })
-    }
-}
-
 /// The line of an entry of the random index pack, with its offset in bytes, and how it stands to the partitions.
 #[derive(Clone, Copy)]
 pub struct RipEntryLine {
@@ -133,7 +114,7 @@ impl fmt::Display for RipEntryLine {
     #[tactic(auto, unfolding(crate::specs::IndexLines::rip_entry_line))]
     fn fmt<W: fmt::Write>(&self, f: &mut fmt::Formatter<W>) -> fmt::Result {
         let RipEntry { body_sid, offset } = self.entry;
-        let standing = StandingName(self.standing);
+        let standing = self.standing;
         writeln!(f, "rip-entry {body_sid} {offset} {standing}")
     }
 }

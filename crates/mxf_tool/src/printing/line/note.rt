@@ -1,38 +1,7 @@
 //! The line of a note.
 use crate::printing::hexadecimal::LabelDigits;
-use mxf_klv::{Kind, Note};
+use mxf_klv::Note;
 use std::fmt;
-
-/// A kind that prints as its name.
-#[derive(Clone, Copy)]
-struct KindName(Kind);
-
-impl fmt::Display for KindName {
-    ghost use Rattle.std.specs.Prelude.{Some};
-    ghost use Rattle.mxf_tool.specs.Lines.{kind_name};
-
-    ghost output = { λ k. Some (kind_name k.0) };
-
-    fn fmt<W: fmt::Write>(&self, f: &mut fmt::Formatter<W>) -> fmt::Result {
-        f.write_str(match self.0 {
-            Kind::Header(_) => "header",
-            Kind::Body(_) => "body",
-            Kind::Footer(_) => "footer",
-            Kind::Primer => "primer",
-            Kind::Rip => "rip",
-            Kind::Segment => "segment",
-            Kind::Preface => "preface",
-            Kind::Identification => "identification",
-            Kind::ContentStorage => "content-storage",
-            Kind::MaterialPackage => "material-package",
-            Kind::SourcePackage => "source-package",
-            Kind::RawSet => "raw-set",
-            Kind::Fill => "fill",
-            Kind::Essence => "essence",
-            Kind::Other => "other",
-        })
-    }
-}
 
 /// Whether a note is disputed, as it stands after the key.
 #[derive(Clone, Copy)]
@@ -66,7 +35,7 @@ impl<'a> fmt::Display for NoteLine<'a> {
     #[tactic(auto, unfolding(crate::specs::Lines::note_line))]
     fn fmt<W: fmt::Write>(&self, f: &mut fmt::Formatter<W>) -> fmt::Result {
         let offset = self.note.offset();
-        let kind = KindName(self.note.kind());
+        let kind = self.note.kind();
         let width = self.note.width();
         let length = self.note.length();
         let key = LabelDigits(self.note.key().bytes());

@@ -1,48 +1,8 @@
 //! The lines of a partition.
 use crate::printing::hexadecimal::{ByteDigits, HexDigits, LabelDigits};
-use mxf_klv::Status;
-use mxf_sets::{PackPart, PartitionNumbers, pattern_name};
+use mxf_sets::{PartitionNumbers, pattern_name};
 use mxf_views::{Link, PartitionAt};
 use std::fmt;
-
-/// The part of the file that a partition is, as its name.
-#[derive(Clone, Copy)]
-struct PartName(PackPart);
-
-impl fmt::Display for PartName {
-    ghost use Rattle.std.specs.Prelude.{Some};
-    ghost use Rattle.mxf_tool.specs.PartitionLines.{part_name};
-
-    ghost output = { λ p. Some (part_name p.0) };
-
-    fn fmt<W: fmt::Write>(&self, f: &mut fmt::Formatter<W>) -> fmt::Result {
-        f.write_str(match self.0 {
-            PackPart::Header => "header",
-            PackPart::Body => "body",
-            PackPart::Footer => "footer",
-        })
-    }
-}
-
-/// How far a partition is filled in, as its name.
-#[derive(Clone, Copy)]
-struct StatusName(Status);
-
-impl fmt::Display for StatusName {
-    ghost use Rattle.std.specs.Prelude.{Some};
-    ghost use Rattle.mxf_tool.specs.PartitionLines.{status_name};
-
-    ghost output = { λ s. Some (status_name s.0) };
-
-    fn fmt<W: fmt::Write>(&self, f: &mut fmt::Formatter<W>) -> fmt::Result {
-        f.write_str(match self.0 {
-            Status::OpenIncomplete => "open-incomplete",
-            Status::ClosedIncomplete => "closed-incomplete",
-            Status::OpenComplete => "open-complete",
-            Status::ClosedComplete => "closed-complete",
-        })
-    }
-}
 
 /// The numbers of a partition pack, each after its name.
 #[derive(Clone, Copy)]
@@ -101,27 +61,6 @@ impl fmt::Display for PatternText {
     }
 }
 
-/// A link as its name.
-#[derive(Clone, Copy)]
-struct LinkName(Link);
-
-impl fmt::Display for LinkName {
-    ghost use Rattle.std.specs.Prelude.{Some};
-    ghost use Rattle.mxf_tool.specs.PartitionLines.{link_name};
-
-    ghost output = { λ l. Some (link_name l.0) };
-
-    fn fmt<W: fmt::Write>(&self, f: &mut fmt::Formatter<W>) -> fmt::Result {
-        f.write_str(match self.0 {
-            Link::First => "first",
-            Link::Held => "held",
-            Link::Skips => "skips",
-            Link::Missing => "missing",
-            Link::Wrong => "wrong",
-        })
-    }
-}
-
 /// The line of a partition: its offset in bytes, what its pack states, and how it names the one before it.
 #[derive(Clone, Copy)]
 pub struct PartitionLine<'a> {
@@ -140,11 +79,11 @@ impl<'a> fmt::Display for PartitionLine<'a> {
         let partition = self.partition;
         let offset = partition.offset;
         let pack = &partition.pack;
-        let part = PartName(pack.part());
-        let status = StatusName(pack.status());
+        let part = pack.part();
+        let status = pack.status();
         let numbers = NumbersText(pack.numbers());
         let pattern = PatternText(pack.pattern());
-        let link = LinkName(self.link);
+        let link = self.link;
         writeln!(
             f,
             "partition {offset} {part} {status} {numbers} pattern {pattern} link {link}"

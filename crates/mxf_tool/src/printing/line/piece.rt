@@ -2,7 +2,7 @@
 use mxf_klv::Stop;
 use std::fmt;
 
-/// A stop that prints as why it is, and at which offset.
+/// A stop as its word, and the offset where it has one.
 #[derive(Clone, Copy)]
 pub(super) struct StopText(pub(super) Stop);
 
@@ -13,12 +13,12 @@ impl fmt::Display for StopText {
     ghost output = { λ s. Some (stop_text s.0) };
 
     fn fmt<W: fmt::Write>(&self, f: &mut fmt::Formatter<W>) -> fmt::Result {
-        match self.0 {
-            Stop::End => f.write_str("end"),
-            Stop::NotUl(at) => write!(f, "not-ul {at}"),
-            Stop::BadLength(at) => write!(f, "bad-length {at}"),
-            Stop::TooFar(at) => write!(f, "too-far {at}"),
-            Stop::Truncated(at) => write!(f, "truncated {at}"),
+        let stop = self.0;
+        match stop {
+            Stop::End => write!(f, "{stop}"),
+            Stop::NotUl(at) | Stop::BadLength(at) | Stop::TooFar(at) | Stop::Truncated(at) => {
+                write!(f, "{stop} {at}")
+            }
         }
     }
 }

@@ -32,9 +32,7 @@ impl fmt::Display for ChainLine {
 
     #[tactic(auto, unfolding(crate::specs::Lines::chain_line))]
     fn fmt<W: fmt::Write>(&self, f: &mut fmt::Formatter<W>) -> fmt::Result {
-        f.write_str(match self.0 {
-            Chain::Whole => "chain whole\n",
-            Chain::Broken => "chain broken\n",
-        })
+        let chain = self.0;
+        writeln!(f, "chain {chain}")
     }
 }

@@ -3,7 +3,6 @@ use Rattle.std.proofs.lemmas.Result.{err_from_is_err_and}
 use Rattle.mxf_tool.specs.IndexLines.{rip_entry_line, rip_entry_lines}
 use Rattle.mxf_sets.specs.declared.pack.random_index.RipEntry.{RipEntry}
 use Rattle.mxf_views.specs.declared.random_index.Standing.{Standing}
-use Rattle.std.specs.List.{flat_map}
 use Rattle.mxf_tool.proofs.PrintLaws.{leads_first, leads_on, leads_fault, leads_last}
 use Rattle.mxf_tool.proofs.printing.printer.Printer.print_rip_entries.Goals as goal
 

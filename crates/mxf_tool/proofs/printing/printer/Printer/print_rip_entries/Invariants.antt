@@ -1,7 +1,5 @@
 -- What is answered of the lines to come is answered of all lines.
-use Rattle.std.proofs.Common.{[], ◌∷◌}
 use Rattle.mxf_tool.specs.IndexLines.{rip_entry_lines}
-use Rattle.std.specs.List.{flat_map}
 use Rattle.mxf_tool.proofs.PrintLaws.{Leads}
 use Rattle.mxf_tool.proofs.printing.printer.Printer.print_rip_entries.Given as goal
 
