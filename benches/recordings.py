@@ -45,6 +45,23 @@ def write_recording(path: Path, packets: int, value_size: int) -> None:
             file.write(essence)
 
 
+def write_sparse_recording(path: Path, packets: int, value_size: int) -> None:
+    """The same with values of zero bytes, which are holes of the file."""
+    head = packet(ESSENCE_KEY, bytes(value_size))[:20]
+    with open(path, "wb") as file:
+        file.write(header_pack())
+        for _ in range(packets):
+            file.write(head)
+            file.seek(value_size, 1)
+        file.truncate()
+
+
+def write_small_packets(path: Path, packets: int) -> None:
+    """So many essence packets without a value."""
+    with open(path, "wb") as file:
+        file.write((ESSENCE_KEY + b"\0") * packets)
+
+
 def write_pieces(folder: Path, pieces: int, packets: int, value_size: int) -> list[str]:
     """A recording of a header partition pack and essence packets, so many in all, in pieces as equal as can be. Answers
     the sources of the pieces, in the order of the recording."""

@@ -4,7 +4,7 @@ ghost use Rattle.mxf_catalogue.specs.Disputes.{clear_notes, disputed_notes};
 
 use mxf_catalogue::{Catalogue, Change, Semilattice};
 use mxf_klv::{Note, OutOfMemory, Packet, read_packet};
-use mxf_worked::builders::{essence, label, marks, note_of_file};
+use mxf_worked::builders::{essence, label, note_of_file};
 use mxf_worked::worked_files::{ESSENCE_KEY, M};
 use std::alloc::{AllocError, Global};
 use std::test::Fail;
@@ -24,27 +24,11 @@ const C: (u64, u64) = (90, 103);
 /// From 120 to 150.
 const D: (u64, u64) = (120, 13);
 
-const ORDERS: [[(u64, u64); 3]; 6] = [
-    [A, B, C],
-    [A, C, B],
-    [B, A, C],
-    [B, C, A],
-    [C, A, B],
-    [C, B, A],
-];
-
 fn add_essence(all: &mut Catalogue, packets: [(u64, u64); 3]) -> Result<(), Fail> {
     for (offset, length) in packets {
         all.add(essence(offset, length)?)?;
     }
     Ok(())
-}
-
-/// What adding a new note says that moves the clear notes at these offsets.
-fn added(alloc: Global, moved: &[u64]) -> Result<Change, AllocError> {
-    Ok(Change::Added {
-        moved: Vec::from_slice(alloc, moved)?,
-    })
 }
 
 /// The note of the packet of M at this offset.
@@ -56,6 +40,23 @@ fn clear_offsets(alloc: Global, all: &Catalogue) -> Result<Vec<u64>, AllocError>
     ensures { IfOk result (λ v. v.items ≡ map (λ n. n.offset) (clear_notes all.now)) }
 {
     all.clear().map(|note| note.offset()).collect(alloc)
+}
+
+/// The offsets of the disputed notes, with their marks.
+fn marks(alloc: Global, all: &Catalogue) -> Result<Vec<(u64, bool, bool)>, AllocError>
+    ensures { IfOk result (λ v. v.items ≡ map (λ d. (d.note.offset, d.same_offset, d.overlaps)) (disputed_notes all.now)) }
+{
+    all.disputed()
+        .map(|d| (d.note.offset(), d.same_offset, d.overlaps))
+        .collect(alloc)
+}
+
+/// Whether the note was new, and moved the clear notes at these offsets.
+fn moves(change: &Change, offsets: &[u64]) -> bool {
+    match change {
+        Change::Added { moved } => moved.as_slice() == offsets,
+        Change::Repeated => false,
+    }
 }
 
 /// By the laws alone: the order of the arguments of a join doesn't matter.
@@ -73,7 +74,7 @@ fn notes_are_held_once_and_in_order(rt: HostRuntime) -> Result<(), Fail> {
     let mut all = Catalogue::new(alloc);
     assert!(rt; all.is_empty());
     for offset in [216usize, 0, 108] {
-        assert_eq!(rt; all.add(of_m(alloc, offset)?)?, added(alloc, &[])?);
+        assert!(rt; moves(&all.add(of_m(alloc, offset)?)?, &[]));
     }
     assert_eq!(rt; all.add(of_m(alloc, 0)?)?, Change::Repeated);
     assert_eq!(rt; all.len(), 3);
@@ -132,9 +133,9 @@ fn packets_at_one_offset_are_disputed_by_it_alone(rt: HostRuntime) -> Result<(),
             (&packet, &changed)
         };
         let mut all = Catalogue::new(alloc);
-        assert_eq!(rt; all.add(Note::of(alloc, 0, first)?)?, added(alloc, &[])?);
+        assert!(rt; moves(&all.add(Note::of(alloc, 0, first)?)?, &[]));
         assert!(rt; all.clear_at(0).is_some());
-        assert_eq!(rt; all.add(Note::of(alloc, 0, second)?)?, added(alloc, &[0])?);
+        assert!(rt; moves(&all.add(Note::of(alloc, 0, second)?)?, &[0]));
         let marks = marks(alloc, &all)?;
         assert_eq!(rt;
             marks.as_slice(),
@@ -146,71 +147,25 @@ fn packets_at_one_offset_are_disputed_by_it_alone(rt: HostRuntime) -> Result<(),
     Ok(())
 }
 
-#[test]
-fn a_packet_over_two_others_disputes_both_in_each_order(rt: HostRuntime) -> Result<(), Fail> {
-    let alloc = rt.alloc();
-    for order in ORDERS {
-        let mut all = Catalogue::new(alloc);
-        add_essence(&mut all, order)?;
-        assert_eq!(rt; all.len(), 3);
-        let marks = marks(alloc, &all)?;
-        let expected = [(0, false, true), (90, false, true), (200, false, true)];
-        assert_eq!(rt; marks.as_slice(), expected.as_slice(), "in {order:?}");
-        for offset in [0, 90, 200] {
-            assert!(rt; all.clear_at(offset).is_none(), "in {order:?}");
-        }
-    }
-    Ok(())
-}
-
-#[test]
-fn a_packet_among_disputed_ones_is_disputed(rt: HostRuntime) -> Result<(), Fail> {
-    let alloc = rt.alloc();
-    for order in ORDERS {
-        let mut last = Catalogue::new(alloc);
-        add_essence(&mut last, order)?;
-        last.add(essence(D.0, D.1)?)?;
-        let mut first = Catalogue::new(alloc);
-        first.add(essence(D.0, D.1)?)?;
-        assert!(rt; first.clear_at(120).is_some());
-        add_essence(&mut first, order)?;
-        assert!(rt; last.same(&first), "in {order:?}");
-        let marks = marks(alloc, &last)?;
-        let expected = [
-            (0, false, true),
-            (90, false, true),
-            (120, false, true),
-            (200, false, true),
-        ];
-        assert_eq!(rt; marks.as_slice(), expected.as_slice(), "in {order:?}");
-        assert!(rt; last.clear_at(120).is_none());
-    }
-    Ok(())
-}
-
-/// What adding these packets one after another moves.
-fn moved_by(alloc: Global, packets: &[(u64, u64)]) -> Result<Vec<Change>, Fail> {
+/// Whether the last of these packets is new, and moves the clear notes at these offsets.
+fn last_moves(alloc: Global, packets: &[(u64, u64)], offsets: &[u64]) -> Result<bool, Fail> {
     let mut all = Catalogue::new(alloc);
-    let mut changes = Vec::new(alloc);
+    let mut alike = false;
     for (offset, length) in packets {
-        changes.push(all.add(essence(*offset, *length)?)?)?;
+        alike = moves(&all.add(essence(*offset, *length)?)?, offsets);
     }
-    Ok(changes)
+    Ok(alike)
 }
 
 #[test]
 fn an_addition_tells_the_clear_notes_that_it_disputes(rt: HostRuntime) -> Result<(), Fail> {
     let alloc = rt.alloc();
-    let last = vec![in alloc;
-        added(alloc, &[])?,
-        added(alloc, &[])?,
-        added(alloc, &[0, 200])?,
-    ]?;
-    assert_eq!(rt; moved_by(alloc, &[A, B, C])?, last);
-    let middle = vec![in alloc; added(alloc, &[])?, added(alloc, &[0])?, added(alloc, &[])?]?;
-    assert_eq!(rt; moved_by(alloc, &[A, C, B])?, middle);
-    let among = moved_by(alloc, &[A, B, C, D])?;
-    assert_eq!(rt; among.get(3), Some(&added(alloc, &[])?));
+    assert!(rt; last_moves(alloc, &[A], &[])?);
+    assert!(rt; last_moves(alloc, &[A, B], &[])?);
+    assert!(rt; last_moves(alloc, &[A, B, C], &[0, 200])?);
+    assert!(rt; last_moves(alloc, &[A, C], &[0])?);
+    assert!(rt; last_moves(alloc, &[A, C, B], &[])?);
+    assert!(rt; last_moves(alloc, &[A, B, C, D], &[])?);
     Ok(())
 }
 
@@ -242,7 +197,7 @@ fn a_long_packet_over_many_small_ones_disputes_them_all(rt: HostRuntime) -> Resu
     let mut last = small_packets(alloc)?;
     assert_eq!(rt; last.clear().count(), SMALL);
     let offsets: Vec<u64> = (0..SMALL).map(|number| 17 * number as u64).collect(alloc)?;
-    assert_eq!(rt; last.add(long_packet()?)?, added(alloc, &offsets)?);
+    assert!(rt; moves(&last.add(long_packet()?)?, &offsets));
     assert_eq!(rt; last.clear().count(), 0);
     assert!(rt; all_overlap(&last, SMALL + 1));
     assert_eq!(rt; last.spans().gaps().count(), 0);
@@ -253,19 +208,6 @@ fn a_long_packet_over_many_small_ones_disputes_them_all(rt: HostRuntime) -> Resu
     }
     assert!(rt; first.same(&last));
     assert!(rt; all_overlap(&first, SMALL + 1));
-    Ok(())
-}
-
-#[test]
-fn packets_apart_are_clear(rt: HostRuntime) -> Result<(), Fail> {
-    let alloc = rt.alloc();
-    let mut all = Catalogue::new(alloc);
-    add_essence(&mut all, [B, A, D])?;
-    assert_eq!(rt;
-        clear_offsets(alloc, &all)?.as_slice(),
-        [0, 120, 200].as_slice()
-    );
-    assert_eq!(rt; all.clear_at(200).ok_or("not clear")?.length(), 83);
     Ok(())
 }
 
@@ -289,5 +231,8 @@ fn joins_hold_the_notes_of_both(rt: HostRuntime) -> Result<(), Fail> {
         assert!(rt; Catalogue::join(alloc, &joined, &joined)?.same(&joined));
     }
     assert!(rt; joins_alike(alloc, &head, &tail)?);
+    let joined = Catalogue::join(alloc, &head, &tail)?;
+    assert!(rt; head.merge(tail).is_ok());
+    assert!(rt; head.same(&joined));
     Ok(())
 }

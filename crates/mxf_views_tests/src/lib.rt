@@ -4,20 +4,12 @@
 #![tactic(auto)]
 
 #[cfg(test)]
+mod building;
+#[cfg(test)]
 mod copies;
-#[cfg(test)]
-mod files;
-#[cfg(test)]
-mod gaps;
 #[cfg(test)]
 mod index;
 #[cfg(test)]
-mod orders;
-#[cfg(test)]
 mod partitions;
-#[cfg(test)]
-mod preferences;
-#[cfg(test)]
-mod random_index;
 #[cfg(test)]
 mod references;

@@ -1,12 +1,7 @@
 //! What tests of several crates build.
-ghost use Rattle.std.specs.Prelude.{◌≡◌, IfOk, map};
-ghost use Rattle.mxf_catalogue.specs.Disputes.{disputed_notes};
-
 use crate::worked_files::ESSENCE_KEY;
-use mxf_catalogue::Catalogue;
 use mxf_klv::{Note, Packet, Ul, read_packet};
-use mxf_views::Views;
-use std::alloc::{AllocError, Global};
+use std::alloc::Global;
 use std::io::{self, Error, ErrorKind, Write};
 use std::test::Fail;
 
@@ -38,15 +33,6 @@ pub fn note_of_file(alloc: Global, file: &[u8], offset: usize) -> Result<Note, F
 /// length stand before the value.
 pub fn essence(offset: u64, length: u64) -> Result<Note, Fail> {
     Ok(Note::digested(offset, label(ESSENCE_KEY)?, 1, length, [0; 32]).ok_or("a note")?)
-}
-
-/// The views of the packets of a file at these offsets.
-pub fn views_at(alloc: Global, file: &[u8], offsets: &[usize]) -> Result<Views, Fail> {
-    let mut views = Views::new(alloc);
-    for offset in offsets {
-        views.add(note_of_file(alloc, file, *offset)?)?;
-    }
-    Ok(views)
 }
 
 /// These bytes, one part after another.
@@ -126,18 +112,4 @@ impl Write for Narrow {
     fn flush(&mut self) -> io::Result<()> {
         Ok(())
     }
-}
-
-/// So many zero bytes.
-pub fn zeros(alloc: Global, count: usize) -> Result<Vec<u8>, Fail> {
-    Ok(vec![in alloc; 0u8; count]?)
-}
-
-/// The offsets of the disputed notes, with their marks.
-pub fn marks(alloc: Global, all: &Catalogue) -> Result<Vec<(u64, bool, bool)>, AllocError>
-    ensures { IfOk result (λ v. v.items ≡ map (λ d. (d.note.offset, d.same_offset, d.overlaps)) (disputed_notes all.now)) }
-{
-    all.disputed()
-        .map(|d| (d.note.offset(), d.same_offset, d.overlaps))
-        .collect(alloc)
 }

@@ -86,11 +86,6 @@ pub const PREFACE_KEY: [u8; 16] = [
     0x06, 0x0E, 0x2B, 0x34, 0x02, 0x53, 0x01, 0x01, 0x0D, 0x01, 0x01, 0x01, 0x01, 0x01, 0x2F, 0x00,
 ];
 
-/// The key of an Identification.
-pub const IDENTIFICATION_KEY: [u8; 16] = [
-    0x06, 0x0E, 0x2B, 0x34, 0x02, 0x53, 0x01, 0x01, 0x0D, 0x01, 0x01, 0x01, 0x01, 0x01, 0x30, 0x00,
-];
-
 /// The key of a ContentStorage.
 pub const STORAGE_KEY: [u8; 16] = [
     0x06, 0x0E, 0x2B, 0x34, 0x02, 0x53, 0x01, 0x01, 0x0D, 0x01, 0x01, 0x01, 0x01, 0x01, 0x18, 0x00,
@@ -101,19 +96,9 @@ pub const MATERIAL_PACKAGE_KEY: [u8; 16] = [
     0x06, 0x0E, 0x2B, 0x34, 0x02, 0x53, 0x01, 0x01, 0x0D, 0x01, 0x01, 0x01, 0x01, 0x01, 0x36, 0x00,
 ];
 
-/// The key of a SourcePackage.
-pub const SOURCE_PACKAGE_KEY: [u8; 16] = [
-    0x06, 0x0E, 0x2B, 0x34, 0x02, 0x53, 0x01, 0x01, 0x0D, 0x01, 0x01, 0x01, 0x01, 0x01, 0x37, 0x00,
-];
-
 /// The key of an index table segment.
 pub const SEGMENT_KEY: [u8; 16] = [
     0x06, 0x0E, 0x2B, 0x34, 0x02, 0x53, 0x01, 0x01, 0x0D, 0x01, 0x02, 0x01, 0x01, 0x10, 0x01, 0x00,
-];
-
-/// The key of a set that is read as items alone.
-pub const RAW_SET_KEY: [u8; 16] = [
-    0x06, 0x0E, 0x2B, 0x34, 0x02, 0x53, 0x01, 0x01, 0x0D, 0x01, 0x01, 0x01, 0x01, 0x01, 0x3B, 0x00,
 ];
 
 /// The value of M's header partition pack.
@@ -238,39 +223,16 @@ pub fn header(
     packet(alloc, HEADER_KEY, &partition_value(alloc, &numbers)?)
 }
 
-/// The footer partition pack, closed and complete, of a file with one other partition, at 0.
-pub fn footer(alloc: Global, this_partition: u64, header_byte_count: u64) -> Result<Vec<u8>, Fail> {
-    let numbers = Numbers {
-        this_partition,
-        previous_partition: 0,
-        footer_partition: this_partition,
-        header_byte_count,
-    };
-    packet(alloc, FOOTER_KEY, &partition_value(alloc, &numbers)?)
-}
-
 /// A file of 194 bytes: a header partition whose metadata are a primer at 108 and a bare Preface at 154.
 pub fn one_copy(alloc: Global) -> Result<Vec<u8>, Fail> {
     let header = header(alloc, 0, 86)?;
     joined(alloc, &[&header, &primer(alloc)?, &bare_preface(alloc)?])
 }
 
-/// A file of 388 bytes: the same with a footer partition at 194, whose metadata are a primer at 302 and a bare Preface
-/// at 348.
-pub fn two_copies(alloc: Global) -> Result<Vec<u8>, Fail> {
-    let primer = primer(alloc)?;
-    let preface = bare_preface(alloc)?;
-    let header = header(alloc, 194, 86)?;
-    let footer = footer(alloc, 194, 86)?;
-    joined(
-        alloc,
-        &[&header, &primer, &preface, &footer, &primer, &preface],
-    )
-}
-
-/// A header partition whose metadata are a primer at 108, a Preface at 154, its storage at 214 and a package at 298.
-fn header_with_storage(alloc: Global, footer_partition: u64) -> Result<Vec<u8>, Fail> {
-    let header = header(alloc, footer_partition, 266)?;
+/// A file of 374 bytes: a header partition whose metadata are a primer at 108, a Preface at 154, its storage at 214 and a
+/// package at 298.
+pub fn one_package(alloc: Global) -> Result<Vec<u8>, Fail> {
+    let header = header(alloc, 0, 266)?;
     let preface = preface(alloc)?;
     let storage = storage(alloc)?;
     let package = package(alloc)?;
@@ -280,52 +242,17 @@ fn header_with_storage(alloc: Global, footer_partition: u64) -> Result<Vec<u8>, 
     )
 }
 
-/// A file of 374 bytes: such a header partition alone.
-pub fn one_package(alloc: Global) -> Result<Vec<u8>, Fail> {
-    header_with_storage(alloc, 0)
-}
-
-/// A file of 588 bytes: such a header partition, and a footer partition at 374, whose metadata are a primer at 482 and
-/// a Preface at 528. So the storage that this Preface names is held in the first copy alone.
-pub fn storage_in_the_header(alloc: Global) -> Result<Vec<u8>, Fail> {
-    let header = header_with_storage(alloc, 374)?;
-    let footer = footer(alloc, 374, 106)?;
-    joined(
-        alloc,
-        &[&header, &footer, &primer(alloc)?, &preface(alloc)?],
-    )
-}
-
-/// What a constant index table segment states of its units.
-#[derive(Clone, Copy)]
-pub struct Units {
-    pub start: u64,
-    pub duration: u64,
-    pub unit_bytes: u32,
-    pub index_sid: u32,
-    pub body_sid: u32,
-}
-
-/// A hundred units of 250,000 bytes, of IndexSID 1 and BodySID 2.
-pub const HUNDRED_UNITS: Units = Units {
-    start: 0,
-    duration: 100,
-    unit_bytes: 250_000,
-    index_sid: 1,
-    body_sid: 2,
-};
-
-/// The value of the segment of these units, 70 bytes, its edit rate 25/1.
-pub fn segment_value(alloc: Global, units: &Units) -> Result<Vec<u8>, Fail> {
+/// The value of the segment of a hundred units of 250,000 bytes, 70 bytes: edit rate 25/1, IndexSID 1 and BodySID 2.
+fn segment_value(alloc: Global) -> Result<Vec<u8>, Fail> {
     set_value(
         alloc,
         &[
             (0x3F0B, &[0, 0, 0, 25, 0, 0, 0, 1]),
-            (0x3F0C, &units.start.to_be_bytes()),
-            (0x3F0D, &units.duration.to_be_bytes()),
-            (0x3F05, &units.unit_bytes.to_be_bytes()),
-            (0x3F06, &units.index_sid.to_be_bytes()),
-            (0x3F07, &units.body_sid.to_be_bytes()),
+            (0x3F0C, &[0; 8]),
+            (0x3F0D, &[0, 0, 0, 0, 0, 0, 0, 100]),
+            (0x3F05, &[0x00, 0x03, 0xD0, 0x90]),
+            (0x3F06, &[0, 0, 0, 1]),
+            (0x3F07, &[0, 0, 0, 2]),
             (0x3F08, &[0]),
             (0x3F0E, &[0]),
         ],
@@ -370,7 +297,7 @@ fn footer_with_index(alloc: Global) -> Result<Vec<u8>, Fail> {
 /// A file of 594 bytes: a header partition, a body partition at 108 with an essence packet at 216, a footer partition at
 /// 336 with the segment of a hundred units at 444, and a random index pack at 534.
 pub fn with_index(alloc: Global) -> Result<Vec<u8>, Fail> {
-    let segment = segment_value(alloc, &HUNDRED_UNITS)?;
+    let segment = segment_value(alloc)?;
     let entries = joined(
         alloc,
         &[

@@ -67,37 +67,6 @@ fn a_preface_names_its_storage(rt: HostRuntime) -> Result<(), Fail> {
 }
 
 #[test]
-fn a_preface_lists_its_identifications(rt: HostRuntime) -> Result<(), Fail> {
-    let value = set_value(
-        rt.alloc(),
-        &[
-            (0x3B06, &TWO_REFERENCES),
-            (0x3B03, &[0x22; 16]),
-            (0x3C0A, &[0x11; 16]),
-        ],
-    )?;
-    let preface = Preface::read(&value)?;
-    assert_eq!(rt; preface.instance_uid(), uid(0x11));
-    assert_eq!(rt; preface.content_storage(), uid(0x22));
-    let identifications = preface.identifications();
-    assert_eq!(rt; identifications.len(), 2);
-    assert_eq!(rt; identifications.get(0), Some(uid(0x61)));
-    assert_eq!(rt; identifications.get(1), Some(uid(0x62)));
-    Ok(())
-}
-
-#[test]
-fn a_preface_without_storage_is_refused(rt: HostRuntime) -> Result<(), Fail> {
-    let value = set_value(rt.alloc(), &[(0x3C0A, &[0x11; 16]), (0x3B03, &[0x22; 16])])?;
-    let without = Preface::read(value.as_slice().get(..20).ok_or("a front")?);
-    assert_eq!(rt; without.err(), Some(FieldFault::Missing(0x3B03)));
-    let cut = Preface::read(value.as_slice().get(..39).ok_or("a front")?);
-    assert_eq!(rt; cut.err(), Some(FieldFault::Set(20)));
-    assert_eq!(rt; instance_uid(&[]).err(), Some(FieldFault::Missing(0x3C0A)));
-    Ok(())
-}
-
-#[test]
 fn a_storage_lists_its_packages(rt: HostRuntime) -> Result<(), Fail> {
     let value = set_value(
         rt.alloc(),
@@ -111,14 +80,6 @@ fn a_storage_lists_its_packages(rt: HostRuntime) -> Result<(), Fail> {
     assert_eq!(rt; packages.get(2), None);
     assert_eq!(rt; packages.next(), Some(uid(0x61)));
     assert_eq!(rt; packages.len(), 1);
-    let mut of_seventeen = TWO_REFERENCES;
-    of_seventeen[7] = 17;
-    let value = set_value(
-        rt.alloc(),
-        &[(0x3C0A, &[0x22; 16]), (0x1901, &of_seventeen)],
-    )?;
-    let other = ContentStorage::read(&value);
-    assert_eq!(rt; other.err(), Some(FieldFault::WrongWidth(0x1901)));
     Ok(())
 }
 
@@ -151,20 +112,6 @@ fn an_identification_is_read_with_all_its_fields(rt: HostRuntime) -> Result<(), 
 }
 
 #[test]
-fn an_identification_of_its_identifier_alone_has_nothing_else(rt: HostRuntime) -> Result<(), Fail> {
-    let value = set_value(rt.alloc(), &[(0x3C0A, &[0x51; 16])])?;
-    let identification = Identification::read(&value)?;
-    assert_eq!(rt; identification.instance_uid(), uid(0x51));
-    assert_eq!(rt; identification.this_generation_uid(), None);
-    assert_eq!(rt; identification.company_name(), None);
-    assert_eq!(rt; identification.product_name(), None);
-    assert_eq!(rt; identification.version_string(), None);
-    assert_eq!(rt; identification.product_uid(), None);
-    assert_eq!(rt; identification.modification_date(), None);
-    Ok(())
-}
-
-#[test]
 fn a_material_package_is_read_with_all_its_fields(rt: HostRuntime) -> Result<(), Fail> {
     let value = set_value(
         rt.alloc(),
@@ -189,27 +136,41 @@ fn a_material_package_is_read_with_all_its_fields(rt: HostRuntime) -> Result<(),
     Ok(())
 }
 
+/// The identifier of sixteen bytes 11.
+const UID: (u16, &[u8]) = (0x3C0A, &[0x11; 16]);
+
+/// A reference to the storage of sixteen bytes 22.
+const STORAGE: (u16, &[u8]) = (0x3B03, &[0x22; 16]);
+
 #[test]
-fn a_source_package_names_its_descriptor(rt: HostRuntime) -> Result<(), Fail> {
-    let value = set_value(
-        rt.alloc(),
-        &[
-            (0x4701, &[0x71; 16]),
-            (0x3C0A, &[0x33; 16]),
-            (0x4401, &PACKAGE_UID),
-        ],
-    )?;
-    let package = Package::read(&value)?;
-    assert_eq!(rt; package.instance_uid(), uid(0x33));
-    assert_eq!(rt; package.descriptor(), Some(uid(0x71)));
-    assert_eq!(rt; package.name(), None);
-    assert_eq!(rt; package.creation_date(), None);
-    assert_eq!(rt; package.modified_date(), None);
-    assert_eq!(rt; package.tracks().len(), 0);
-    let without = set_value(rt.alloc(), &[(0x3C0A, &[0x33; 16])])?;
-    assert_eq!(rt;
-        Package::read(&without).err(),
-        Some(FieldFault::Missing(0x4401))
-    );
+fn a_preface_that_is_not_read_tells_the_first_cause(rt: HostRuntime) -> Result<(), Fail> {
+    let narrow: (u16, &[u8]) = (0x3B03, &[0x22; 15]);
+    let cut_batch: (u16, &[u8]) = (0x3B06, &TWO_REFERENCES[..39]);
+    let cases: [(&[(u16, &[u8])], FieldFault); 5] = [
+        (&[UID], FieldFault::Missing(0x3B03)),
+        (&[STORAGE], FieldFault::Missing(0x3C0A)),
+        (&[UID, STORAGE, STORAGE], FieldFault::RepeatedTag(0x3B03)),
+        (&[UID, narrow], FieldFault::WrongWidth(0x3B03)),
+        (&[UID, STORAGE, cut_batch], FieldFault::WrongWidth(0x3B06)),
+    ];
+    for (items, want) in cases {
+        let value = set_value(rt.alloc(), items)?;
+        assert_eq!(rt; Preface::read(&value).err(), Some(want));
+    }
+    let value = set_value(rt.alloc(), &[UID, STORAGE])?;
+    let cut = Preface::read(value.get(..39).ok_or("a front")?);
+    assert_eq!(rt; cut.err(), Some(FieldFault::Set(20)));
+    Ok(())
+}
+
+#[test]
+fn a_record_of_its_identifier_alone_lacks_a_field(rt: HostRuntime) -> Result<(), Fail> {
+    let value = set_value(rt.alloc(), &[UID])?;
+    let storage = ContentStorage::read(&value).err();
+    assert_eq!(rt; storage, Some(FieldFault::Missing(0x1901)));
+    let package = Package::read(&value).err();
+    assert_eq!(rt; package, Some(FieldFault::Missing(0x4401)));
+    assert!(rt; Identification::read(&value).is_ok());
+    assert_eq!(rt; instance_uid(&[]).err(), Some(FieldFault::Missing(0x3C0A)));
     Ok(())
 }

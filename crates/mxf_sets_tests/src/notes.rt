@@ -1,8 +1,7 @@
 //! Notes of packets.
 use mxf_klv::{Held, Kind, Note, NoteFault, Packet, read_packet};
-use mxf_worked::builders::{label, note_at, zeros};
+use mxf_worked::builders::{label, note_at};
 use mxf_worked::worked_files::{ESSENCE_KEY, FILL_KEY, HEADER_KEY};
-use std::alloc::Global;
 use std::test::Fail;
 
 /// The SHA-256 of no bytes.
@@ -15,12 +14,6 @@ const EMPTY_DIGEST: [u8; 32] = [
 const ABC_DIGEST: [u8; 32] = [
     0xBA, 0x78, 0x16, 0xBF, 0x8F, 0x01, 0xCF, 0xEA, 0x41, 0x41, 0x40, 0xDE, 0x5D, 0xAE, 0x22, 0x23,
     0xB0, 0x03, 0x61, 0xA3, 0x96, 0x17, 0x7A, 0x9C, 0xB4, 0x10, 0xFF, 0x61, 0xF2, 0x00, 0x15, 0xAD,
-];
-
-/// The SHA-256 of 4,194,305 zero bytes, by `sha256sum`.
-const ZEROS_DIGEST: [u8; 32] = [
-    0x95, 0xE4, 0x41, 0xCA, 0x65, 0xCD, 0x41, 0xFA, 0x01, 0xB2, 0xA7, 0x17, 0x99, 0xE7, 0x9F, 0xD6,
-    0x0D, 0xB5, 0x9E, 0xD3, 0x4F, 0x13, 0xAF, 0x32, 0xA9, 0x1E, 0x85, 0xF9, 0x03, 0x78, 0x67, 0x6C,
 ];
 
 #[test]
@@ -51,15 +44,6 @@ fn essence_is_digested_and_a_pack_is_kept(rt: HostRuntime) -> Result<(), Fail> {
     assert!(rt; matches!(&pack.held(), Held::Whole(value) if value.len() == 3));
     assert!(rt; pack.clone_in(rt.alloc())? == pack);
     assert!(rt; essence < pack);
-    Ok(())
-}
-
-#[test]
-fn a_structural_value_is_kept_up_to_4_mebibytes(rt: HostRuntime) -> Result<(), Fail> {
-    let longest = note_at(rt.alloc(), 0, HEADER_KEY, 4, &zeros(rt.alloc(), 4_194_304)?)?;
-    assert!(rt; matches!(&longest.held(), Held::Whole(value) if value.len() == 4_194_304));
-    let longer = note_at(rt.alloc(), 0, HEADER_KEY, 4, &zeros(rt.alloc(), 4_194_305)?)?;
-    assert!(rt; matches!(&longer.held(), Held::Digest(digest) if **digest == ZEROS_DIGEST));
     Ok(())
 }
 

@@ -101,60 +101,6 @@ fn packs_that_were_read_are_written_as_they_stood(rt: HostRuntime) -> Result<(),
     Ok(())
 }
 
-/// The value of a body partition pack in which no byte stands twice before the labels.
-#[rattlefmt::skip]
-const DISTINCT: [u8; 104] = [
-    0x01, 0x02, // MajorVersion
-    0x03, 0x04, // MinorVersion
-    0x05, 0x06, 0x07, 0x08, // KAGSize
-    0x09, 0x0A, 0x0B, 0x0C, 0x0D, 0x0E, 0x0F, 0x10, // ThisPartition
-    0x11, 0x12, 0x13, 0x14, 0x15, 0x16, 0x17, 0x18, // PreviousPartition
-    0x19, 0x1A, 0x1B, 0x1C, 0x1D, 0x1E, 0x1F, 0x20, // FooterPartition
-    0x21, 0x22, 0x23, 0x24, 0x25, 0x26, 0x27, 0x28, // HeaderByteCount
-    0x29, 0x2A, 0x2B, 0x2C, 0x2D, 0x2E, 0x2F, 0x30, // IndexByteCount
-    0x31, 0x32, 0x33, 0x34, // IndexSID
-    0x35, 0x36, 0x37, 0x38, 0x39, 0x3A, 0x3B, 0x3C, // BodyOffset
-    0x3D, 0x3E, 0x3F, 0x40, // BodySID
-    0x41, 0x42, 0x43, 0x44, 0x45, 0x46, 0x47, 0x48, 0x49, 0x4A, 0x4B, 0x4C, 0x4D, 0x4E, 0x4F, 0x50, // OperationalPattern
-    0x00, 0x00, 0x00, 0x01, 0x00, 0x00, 0x00, 0x10, // EssenceContainers: a batch of one item of 16 bytes
-    0x61, 0x62, 0x63, 0x64, 0x65, 0x66, 0x67, 0x68, 0x69, 0x6A, 0x6B, 0x6C, 0x6D, 0x6E, 0x6F, 0x70,
-];
-
-/// The key of an open and incomplete body partition pack.
-const BODY_KEY: [u8; 16] = [
-    0x06, 0x0E, 0x2B, 0x34, 0x02, 0x05, 0x01, 0x01, 0x0D, 0x01, 0x02, 0x01, 0x01, 0x03, 0x01, 0x00,
-];
-
-#[test]
-fn no_two_fields_of_a_partition_pack_are_exchanged(rt: HostRuntime) -> Result<(), Fail> {
-    let pack = PartitionPack::read(&label(BODY_KEY)?, &DISTINCT)?;
-    assert_eq!(rt;
-        (pack.part(), pack.status()),
-        (PackPart::Body, Status::OpenIncomplete)
-    );
-    let numbers = PartitionNumbers {
-        major_version: 258,
-        minor_version: 772,
-        kag_size: 84_281_096,
-        this_partition: 651_345_242_494_996_240,
-        previous_partition: 1_230_066_625_199_609_624,
-        footer_partition: 1_808_788_007_904_223_008,
-        header_byte_count: 2_387_509_390_608_836_392,
-        index_byte_count: 2_966_230_773_313_449_776,
-        index_sid: 825_373_492,
-        body_offset: 3_834_312_847_370_369_852,
-        body_sid: 1_027_489_600,
-    };
-    assert_eq!(rt; pack.numbers(), numbers);
-    assert_eq!(rt; pack.pattern().as_slice(), &DISTINCT[64..80]);
-    assert_eq!(rt; pack.containers().get(0), Some(&DISTINCT[88..]));
-    assert_eq!(rt; pack.key().bytes(), BODY_KEY);
-    let mut written = Vec::new(rt.alloc());
-    pack.write_to(&mut written)?;
-    assert_eq!(rt; written.as_slice(), DISTINCT.as_slice());
-    Ok(())
-}
-
 /// The value of a primer pack of two entries of the tag 8001, with labels of these bytes.
 fn two_entries(alloc: Global, first: u8, second: u8) -> Result<Vec<u8>, Fail> {
     joined(

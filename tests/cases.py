@@ -1,0 +1,312 @@
+#!/usr/bin/env python3
+"""Runs the program on the cases of tests/cases: bytes that are laid from named packets, and the lines that are wanted.
+
+    tests/cases.py PROGRAM [WORD]    all cases, or those whose name has the WORD; the last line is 'N passed, M failed'
+    tests/cases.py --bytes NAME      the bytes of the cases of that name, a field a line, or of a worked file
+
+Before, the worked files are compared with the bytes in tests/worked, and each form of a printed line (forms.txt) has to be
+wanted by a case.
+
+A case is some lines of a text file in tests/cases. A number sign begins a comment.
+
+    case NAME
+    table COLUMN | COLUMN              the case is run for each row below, `{COLUMN}` standing for the row's entry
+        ENTRY | ENTRY
+    in each order                      the sources are handed in each order
+    at OFFSET: PACKET                  a piece that begins at OFFSET; the packets that follow in it stand indented below
+        PACKET
+    packets of FILE: OFFSET OFFSET     the packets of a file of tests/cases/files.txt that stand there, each a piece
+    show [WORD ..]                     what `show` prints, or those of its lines that begin with one of the words
+        LINE
+    check                              what `check` prints; `locate INDEX UNIT` and `join` stand so too
+        LINE
+    status N                           the status of the command above, where it isn't 0
+
+In a LINE `..` stands for any text, and a `$` at its end shows a space there. packets.py says how a PACKET is named. Each
+command is run on the pieces, and then on the catalogue that `join` saves of them: that prints the same without the lines
+of pieces. The catalogue itself has to be the file of the packets that were laid, byte by byte.
+"""
+import concurrent.futures
+import itertools
+import pathlib
+import re
+import subprocess
+import sys
+import tempfile
+
+import packets
+
+CASES = pathlib.Path(__file__).parent / "cases"
+WORKED = pathlib.Path(__file__).parent / "worked"
+COMMANDS = ("show", "check", "locate", "join")
+
+
+def fits(form, line):
+    """Whether the line is the form, in which `..` stands for any text."""
+    return re.fullmatch(re.escape(form).replace(r"\.\.", ".*"), line) is not None
+
+
+class Command:
+    """A command, the words that choose among its lines, the lines that are wanted, and its status."""
+
+    def __init__(self, words):
+        self.name = words[0]
+        self.chosen = words[1:] if self.name == "show" else []
+        self.arguments = ["--index", words[1], "--unit", words[2]] if self.name == "locate" else []
+        self.lines = []
+        self.status = 0
+
+    def accepts(self, printed, lines):
+        """Whether these are the lines that are wanted."""
+        if self.chosen:
+            printed = [line for line in printed if line.split(" ")[0] in self.chosen]
+        return len(printed) == len(lines) and all(map(fits, lines, printed))
+
+
+class Case:
+    """The pieces of a case, each an offset and its packets, and its commands."""
+
+    def __init__(self, name):
+        self.name = name
+        self.pieces = []
+        self.commands = []
+        self.in_each_order = False
+
+    def lay(self, line, files):
+        """Adds the packet of this line, or the packets of the file of that name, to the last piece."""
+        offset, laid = self.pieces[-1]
+        at = offset + sum(map(packets.size_of, laid))
+        laid += files[line] if line in files else [packets.packet(line, at)]
+
+
+def file_of(lines):
+    """The packets of a file, from 0 on."""
+    laid, offset = [], 0
+    for line in lines:
+        laid.append(packets.packet(line, offset))
+        offset += packets.size_of(laid[-1])
+    return laid
+
+
+def packets_at(packets_of_file, offsets):
+    """The packets of a file that stand at these offsets, each with its offset."""
+    standing, offset = {}, 0
+    for packet in packets_of_file:
+        standing[offset] = packet
+        offset += packets.size_of(packet)
+    return [(offset, [standing[offset]]) for offset in offsets]
+
+
+def lines_of(path):
+    """The lines of a file without comments, each with its number and whether it stands indented."""
+    for at, line in enumerate(path.read_text().splitlines(), 1):
+        text = re.sub(r"(^|\s)#.*", "", line).rstrip()
+        if text:
+            yield at, text.startswith(" "), text.strip()
+
+
+def blocks_of(path):
+    """The cases and files of a file: the name of each and its lines."""
+    blocks = []
+    for at, indented, text in lines_of(path):
+        if not indented and text.split(" ")[0] in ("case", "file"):
+            blocks.append((text, []))
+        else:
+            blocks[-1][1].append((at, indented, text))
+    return blocks
+
+
+def rows_of(lines):
+    """The rows of the table of a case, each as its columns' entries, and the other lines."""
+    rows, others, columns = [], [], None
+    for at, indented, text in lines:
+        if text.startswith("table ") and not indented:
+            columns = [column.strip() for column in text.removeprefix("table ").split("|")]
+        elif columns is not None and indented and not others:
+            rows.append(dict(zip(columns, (entry.strip() for entry in text.split("|")), strict=True)))
+        else:
+            others.append((at, indented, text))
+    return rows or [{}], others
+
+
+def filled(text, row):
+    for column, entry in row.items():
+        text = text.replace("{" + column + "}", entry)
+    return text
+
+
+def case_of(name, lines, files):
+    """The case of these lines."""
+    case = Case(name)
+    takes_packets = False
+    for at, indented, text in lines:
+        word, _, rest = text.partition(" ")
+        try:
+            if indented and takes_packets:
+                case.lay(text, files)
+            elif indented:
+                case.commands[-1].lines.append(text.removesuffix("$"))
+            elif text == "in each order":
+                case.in_each_order = True
+            elif word == "at":
+                takes_packets = True
+                offset, _, packet = rest.partition(": ")
+                case.pieces.append((int(offset), []))
+                if packet:
+                    case.lay(packet, files)
+            elif word == "packets":
+                takes_packets = False
+                file, _, offsets = rest.removeprefix("of ").partition(": ")
+                case.pieces += packets_at(files[file], map(int, offsets.split()))
+            elif word in COMMANDS:
+                takes_packets = False
+                case.commands.append(Command(text.split()))
+            elif word == "status":
+                case.commands[-1].status = int(rest)
+            else:
+                raise packets.Mistake("no such line")
+        except (packets.Mistake, KeyError, IndexError, ValueError) as mistake:
+            sys.exit(f"{name}, line {at}: {text}: {mistake!r}")
+    return case
+
+
+def all_files():
+    """The worked files: the packets of each."""
+    blocks = blocks_of(CASES / "files.txt")
+    return {name.removeprefix("file "): file_of([text for _, _, text in lines]) for name, lines in blocks}
+
+
+def all_cases(files):
+    """All cases, one for each row of their tables."""
+    for path in sorted(set(CASES.glob("*.txt")) - {CASES / "files.txt", CASES / "forms.txt"}):
+        for head, lines in blocks_of(path):
+            rows, others = rows_of(lines)
+            for row in rows:
+                in_row = [(at, indented, filled(text, row)) for at, indented, text in others]
+                yield case_of(f"{path.stem}: {filled(head.removeprefix('case '), row)}", in_row, files)
+
+
+def bytes_of(laid):
+    """The bytes of these packets."""
+    return b"".join(map(packets.bytes_of, laid))
+
+
+class Run:
+    """Runs of a program in a folder of their own."""
+
+    def __init__(self, program, folder):
+        self.program = program
+        self.folder = folder
+
+    def call(self, name, arguments, sources):
+        """The lines that the program prints, what it says on standard error, and its status."""
+        words = [self.program, name, *arguments, *sources]
+        done = subprocess.run(words, capture_output=True, text=True, check=False)
+        return done.stdout.split("\n")[:-1], done.stderr, done.returncode
+
+    def sources(self, case):
+        """The sources of the pieces of a case."""
+        named = []
+        for number, (offset, laid) in enumerate(case.pieces):
+            path = f"{self.folder}/{number}"
+            pathlib.Path(path).write_bytes(bytes_of(laid))
+            named.append(f"at:{offset}:{path}")
+        return named
+
+    def saved(self, sources):
+        """The source of the catalogue that is saved of these sources, and its bytes."""
+        path = pathlib.Path(f"{self.folder}/catalogue")
+        path.write_bytes(b"")
+        self.call("join", ["--out", str(path)], sources)
+        return f"cat:{path}", path.read_bytes()
+
+    def wrong(self, case):
+        """What is wrong with a case, as lines; none where it prints what is wanted."""
+        orders = [self.sources(case)]
+        if case.in_each_order:
+            orders = [list(order) for order in itertools.permutations(orders[0])]
+        lines, contents = [], set()
+        for sources in orders:
+            for command in case.commands:
+                lines += self.wrong_at(command, sources, command.lines, command.status)
+            saved, content = self.saved(sources)
+            if content not in contents:
+                lines += self.wrong_when_saved(case, saved)
+            contents.add(content)
+        if contents != {packets.catalogue(case.pieces)}:
+            lines.append("  the saved catalogue isn't the file of the packets")
+        return lines
+
+    def wrong_when_saved(self, case, saved):
+        """The same for a saved catalogue, of which no line of a piece is printed."""
+        lines = []
+        for command in case.commands:
+            wanted = [line for line in command.lines if line.split(" ")[0] not in ("piece", "stop")]
+            status = int(wanted != ["findings 0"]) if command.name == "check" else command.status
+            lines += self.wrong_at(command, [saved], wanted, status)
+        return lines
+
+    def wrong_at(self, command, sources, wanted, status):
+        arguments = ["--out", f"{self.folder}/joined"] if command.name == "join" else command.arguments
+        printed, said, ended = self.call(command.name, arguments, sources)
+        if command.accepts(printed, wanted) and said == "" and ended == status:
+            return []
+        heads = [f"  {command.name} {' '.join(sources)}: status {ended}, wanted {status}"]
+        return heads + [f"  < {line}" for line in wanted] + [f"  > {line}" for line in printed + said.splitlines()]
+
+
+def wrong_in_the_cases(files, cases):
+    """What is wrong with the cases themselves, each as lines: worked files of other bytes, and forms that none wants."""
+    for path in sorted(WORKED.glob("*.bin")):
+        if path.read_bytes() != bytes_of(files[path.stem]):
+            yield [f"{path.name} has other bytes than in files.txt"]
+    wanted = [line for case in cases for command in case.commands for line in command.lines]
+    for _, _, form in lines_of(CASES / "forms.txt"):
+        if not any(fits(form, line) for line in wanted):
+            yield [f"no case wants a line {form}"]
+
+
+def run_all(program, word, files):
+    """Runs the cases whose name has the word, prints those that fail, and whether none does."""
+    cases = list(all_cases(files))
+    chosen = [case for case in cases if word in case.name]
+
+    def wrong_of(case):
+        with tempfile.TemporaryDirectory() as folder:
+            return Run(program, folder).wrong(case)
+
+    with concurrent.futures.ThreadPoolExecutor() as threads:
+        found = list(threads.map(wrong_of, chosen))
+    failures = list(wrong_in_the_cases(files, cases))
+    failures += [[case.name, *wrong] for case, wrong in zip(chosen, found) if wrong]
+    for lines in failures:
+        print("FAILED:", "\n".join(lines))
+    print(f"{found.count([])} passed, {len(failures)} failed")
+    return not failures
+
+
+def print_bytes(name, files):
+    """Prints the fields of a worked file, or of the pieces of the cases of this name, with their offsets."""
+    pieces = [(name, 0, files[name])] if name in files else []
+    pieces += [(case.name, *piece) for case in all_cases(files) for piece in case.pieces if name in case.name]
+    for of, offset, laid in pieces:
+        print(f"# {of}, from {offset}")
+        for field, data in (field for packet in laid for field in packet):
+            shown = data.hex() if len(data) <= 48 else f"{data[:32].hex()}.. {len(data)} bytes"
+            if data:
+                print(f"{offset:>8}  {shown}  # {field}")
+            offset += len(data)
+
+
+def main():
+    files = all_files()
+    if len(sys.argv) == 3 and sys.argv[1] == "--bytes":
+        print_bytes(sys.argv[2], files)
+    elif len(sys.argv) in (2, 3):
+        sys.exit(0 if run_all(sys.argv[1], (sys.argv + [""])[2], files) else 1)
+    else:
+        sys.exit(__doc__)
+
+
+if __name__ == "__main__":
+    main()

@@ -1,0 +1,75 @@
+#!/usr/bin/env python3
+"""Looks up each link of the documents: the file is there, and has the heading that the link names. Sees that each row of
+a table stands in a table, which an empty line would end. Only failures are printed; the last line is 'N passed, M failed'.
+"""
+import itertools
+import pathlib
+import re
+import sys
+
+TOP = pathlib.Path(__file__).resolve().parent.parent
+LINK = re.compile(r"\[[^\]]*\]\(([^)\s]+)\)")
+
+
+def lines_of(document):
+    """The lines of a document that are text: those of its blocks of code are empty."""
+    in_block = False
+    for line in document.read_text(encoding="utf-8").splitlines():
+        fence = line.lstrip().startswith("```")
+        in_block ^= fence
+        yield "" if fence or in_block else line
+
+
+def anchors_of(document):
+    """The anchors of its headings, as GitHub makes them."""
+    headings = (line.lstrip("#") for line in lines_of(document) if re.match(r"#+ ", line))
+    return {re.sub(r"[^\w\- ]", "", heading.strip().lower()).replace(" ", "-") for heading in headings}
+
+
+def fault_of_link(document, target):
+    """Why the link leads nowhere, or None."""
+    path, _, anchor = target.partition("#")
+    file = (document.parent / path).resolve() if path else document
+    if not file.exists():
+        return "no such file"
+    if anchor and anchor not in anchors_of(file):
+        return "no such heading"
+    return None
+
+
+def verdicts_of_links(document):
+    """For each link between the documents: its line, what it names, and why it leads nowhere, or None."""
+    for number, line in enumerate(lines_of(document), 1):
+        for target in LINK.findall(re.sub(r"`[^`]*`", "", line)):
+            if "://" not in target:
+                yield number, target, fault_of_link(document, target)
+
+
+def verdicts_of_tables(document):
+    """For each table, rows one below the other: its first line, that line, and what is wrong with it, or None."""
+    rows = []
+    for number, line in enumerate([*lines_of(document), ""], 1):
+        if line.startswith("|"):
+            rows.append(line)
+        elif rows:
+            is_table = len(rows) > 1 and re.fullmatch(r"\|[-| ]+\|", rows[1])
+            yield number - len(rows), rows[0], None if is_table else "rows without a header"
+            rows = []
+
+
+def main():
+    documents = [TOP / name for name in ("README.md", "CONTRIBUTING.md", "CHANGELOG.md", "examples/README.md")]
+    documents += sorted((TOP / "docs").glob("*.md"))
+    passed = failed = 0
+    for document in documents:
+        for number, what, fault in itertools.chain(verdicts_of_links(document), verdicts_of_tables(document)):
+            passed += fault is None
+            failed += fault is not None
+            if fault:
+                print(f"FAILED: {document.relative_to(TOP)}:{number}: {fault}: {what}")
+    print(f"{passed} passed, {failed} failed")
+    return failed > 0
+
+
+if __name__ == "__main__":
+    sys.exit(main())
