@@ -3,4 +3,5 @@ pub mod Pieces
 pub mod Taking
 pub mod Feeding
 pub mod Reports
+mod ComingLaws
 mod Walks

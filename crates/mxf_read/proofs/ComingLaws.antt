@@ -1,0 +1,61 @@
+-- The note of a packet, the value of which has come whole.
+use Rattle.std.proofs.Common.{◌≡◌, ℕ, ◌+◌, ◌≤◌, List, length, Bool, Vec, Global, vec_len, Option, None, Some, IsSome, SomeIff}
+use Rattle.std.proofs.Common.{if◌then◌else◌, refl, sym, ap, subst, ◌∙◌, arith}
+use Rattle.sha2.specs.Sha256.{sha256}
+use Rattle.sha2.specs.declared.Sha256.{Sha256}
+use Rattle.sha2.specs.Hashers.{Holds256}
+use Rattle.mxf_klv.specs.Parts.{CanSpell, note_parts, packet_parts}
+use Rattle.mxf_klv.specs.Note.{CanNote, greatest_end, keeps, note_of}
+use Rattle.mxf_read.specs.Coming.{HasTaken}
+use Rattle.mxf_read.specs.Held.{Has, came_of, is_whole}
+use Rattle.mxf_read.specs.declared.coming.ComingValue.{ComingValue}
+use Rattle.mxf_read.specs.declared.coming.Held.{Held}
+use Rattle.mxf_read.specs.declared.coming.Held.TheVariants.{Whole, Digest}
+
+-- there is a value where it is wanted
+pub some_where : {T : Type 0} (r : Option T) (P : Type 0) (v : T) → SomeIff r P v → P → IsSome r
+some_where None P v none wanted = absurd (none wanted)
+some_where (Some x) P v some wanted = refl
+
+-- all bytes have come
+all_came : (v : ComingValue) (m : List ℕ) → v.left ≡ 0 → HasTaken v m → length m ≡ v.ber.value
+all_came v m none taken = omega (arith, none, taken.counted)
+
+-- a note can be made of it, where what is held is as the key and the length ask for
+pub can_note : (v : ComingValue) (width len : ℕ) (held : List ℕ) (whole : Bool) → width ≡ v.ber.width → len ≡ v.ber.value
+    → CanSpell v.ber.width v.ber.value → is_whole v.held ≡ whole → CanNote (note_parts v.offset v.key width len held) whole
+can_note v width len held whole same_width same_len spelled is =
+    let within : v.offset + 16 + width + len ≤ greatest_end = omega (arith, same_width, same_len, v.within) in (
+      subst (λ (w : ℕ). CanSpell w len) (sym same_width) (subst (CanSpell v.ber.width) (sym same_len) spelled),
+      within,
+      ap (keeps v.key) same_len ∙ sym v.sort ∙ is,
+    )
+
+-- it is the packet's
+pub same_note : (v : ComingValue) (m : List ℕ) (width len : ℕ) (held : List ℕ) (whole : Bool) → v.left ≡ 0 → HasTaken v m
+    → width ≡ v.ber.width → len ≡ v.ber.value → is_whole v.held ≡ whole → held ≡ (if whole then m else sha256 m)
+    → note_parts v.offset v.key width len held ≡ note_of v.offset (packet_parts v.key v.ber.width m)
+same_note v m width len held whole none taken same_width same_len is held_is =
+    let all = all_came v m none taken in
+    let kept : keeps v.key (length m) ≡ whole = ap (keeps v.key) all ∙ sym v.sort ∙ is in
+    ap (λ (w : ℕ). note_parts v.offset v.key w len held) same_width
+    ∙ ap (λ (l : ℕ). note_parts v.offset v.key v.ber.width l held) (same_len ∙ sym all)
+    ∙ ap (note_parts v.offset v.key v.ber.width (length m))
+    (held_is ∙ ap (λ (t : Bool). if t then m else sha256 m) (sym kept))
+
+-- a value that is gathered has its length
+pub gathered : (v : ComingValue) (value : Vec ℕ Global) → v.held ≡ Whole value → v.left ≡ 0 → vec_len value ≡ v.ber.value
+gathered v value is none =
+    let came : length value.items + v.left ≡ v.ber.value =
+    subst (λ (h : Held). came_of h v.ber.value v.left + v.left ≡ v.ber.value) is v.counted in
+    omega (arith, value.ok.0, none, came)
+
+-- and its bytes
+pub gathered_bytes : (v : ComingValue) (value : Vec ℕ Global) (m : List ℕ) → v.held ≡ Whole value → HasTaken v m
+    → value.items ≡ m
+gathered_bytes v value m is taken = subst (λ (h : Held). Has h m) is taken.held
+
+-- its digest has taken them
+pub digested_bytes : (v : ComingValue) (hasher : Sha256) (m : List ℕ) → v.held ≡ Digest hasher → HasTaken v m
+    → Holds256 hasher m
+digested_bytes v hasher m is taken = subst (λ (h : Held). Has h m) is taken.held
