@@ -1,42 +1,37 @@
 -- The rest of a piece from one of its packets on.
-use Rattle.std.proofs.Common.{◌≡◌, ℕ, zero, suc, ◌+◌, ◌-◌, ◌<◌, ◌≤◌, List, [], ◌∷◌, ◌++◌, length, take, drop}
+use Rattle.std.proofs.Common.{◌≡◌, ℕ, zero, suc, ◌+◌, ◌-◌, ◌<◌, ◌≤◌, List, [], ◌∷◌, ◌++◌, length, take, drop, length-append}
 use Rattle.std.proofs.Common.{Option, None, Some, Result, Ok, Err, refl, sym, ap, subst, ◌∙◌, arith}
 use Rattle.std.specs.Prelude.{slice_get, IsSomeAnd}
-use Rattle.std.proofs.Math.Seq.{drop-nil}
-use Rattle.std.proofs.lemmas.List.{length-drop}
+use Rattle.std.proofs.lemmas.List.{drop-drop, length-drop, length-take, take-append-le}
 use Rattle.mxf_klv.specs.Parts.{NoteParts, PacketParts}
 use Rattle.mxf_klv.specs.Note.{note_of}
 use Rattle.mxf_klv.specs.Packet.{size_of}
-use Rattle.mxf_klv.specs.Piece.{notes_from}
-use Rattle.mxf_klv.specs.PieceReading.{GoesOn, notes_in, packet_at, stop_in}
-use Rattle.mxf_klv.proofs.PieceLaws.{goes_on, packets_in-none}
+use Rattle.mxf_klv.specs.Piece.{end_after, notes_from}
+use Rattle.mxf_klv.specs.PieceReading.{GoesOn, notes_in, packet_at, packets_in, rest_in, stop_in}
+use Rattle.mxf_klv.proofs.PieceLaws.{goes_on, packets_in-none, packets_in-some}
+use Rattle.mxf_klv.proofs.MoreBytes.{seam}
 use Rattle.mxf_catalogue.specs.Content.{union_of, with_note}
 use Rattle.mxf_catalogue.specs.History.{History, Absorb, Cut, content}
 use Rattle.mxf_read.specs.declared.report.Report.{Report}
 use Rattle.mxf_read.specs.declared.report.AbsorbFault.{AbsorbFault}
 use Rattle.mxf_read.specs.declared.report.AbsorbFault.TheVariants.{OutOfMemory, ReadFault}
-use Rattle.mxf_read.specs.Absorbs.{AbsorbsFrom, Absorbs, GoesOnAt, first_notes_in, history_with}
+use Rattle.mxf_read.specs.Absorbs.{AbsorbsFrom, Absorbs, AddsFirst, GoesOnAt, first_notes_in, history_with}
 use Rattle.mxf_read.specs.Reading.{Takes}
+use Rattle.mxf_read.proofs.Pieces.{length-notes_in, notes_from-append}
 
--- what is left from the offset on has the other notes and the stop
-pub record Continues (noted offset : ℕ) (bytes : List ℕ) (at : ℕ) : Type 0 where
+-- what is left from the offset on has the other notes and the stop, and so many bytes at least
+pub record Continues (left noted offset : ℕ) (bytes : List ℕ) (at : ℕ) : Type 0 where
   pub from : offset ≤ at
-  pub within : at < offset + length bytes
+  pub within : at + left ≤ offset + length bytes
   pub notes : notes_in offset bytes ≡ first_notes_in noted offset bytes ++ notes_in at (drop (at - offset) bytes)
   pub stop : stop_in offset bytes ≡ stop_in at (drop (at - offset) bytes)
 
-drop_again : (m n : ℕ) (xs : List ℕ) → drop n (drop m xs) ≡ drop (m + n) xs
-drop_again zero n xs = ap (λ (k : ℕ). drop k xs) (let e : n ≡ 0 + n = omega arith in e)
-drop_again (suc m) n [] = drop-nil n ∙ sym (drop-nil (suc m + n))
-drop_again (suc m) n (x ∷ xs) =
-    drop_again m n xs ∙ ap (λ (k : ℕ). drop k (x ∷ xs)) (let e : suc (m + n) ≡ suc m + n = omega arith in e)
-
 -- at its own offset it is the piece
-from_its_start : (offset : ℕ) (bytes : List ℕ) (at : ℕ) → offset ≡ at → 0 < length bytes
-    → Continues zero offset bytes at
-from_its_start offset bytes at e some =
+from_its_start : (left offset : ℕ) (bytes : List ℕ) (at : ℕ) → offset ≡ at → left ≤ length bytes
+    → Continues left zero offset bytes at
+from_its_start left offset bytes at e some =
     let none : 0 ≡ offset - offset = omega arith in
-    subst (Continues zero offset bytes) e (record {
+    subst (Continues left zero offset bytes) e (record {
       from = omega arith;
       within = omega arith;
       notes = ap (λ (k : ℕ). notes_in offset (drop k bytes)) none;
@@ -44,29 +39,31 @@ from_its_start offset bytes at e some =
     })
 
 -- a packet further on
-one_further : (noted offset : ℕ) (bytes : List ℕ) (at : ℕ) (p : PacketParts) (size : ℕ) → GoesOn offset bytes p size
-    → Continues noted (offset + size) (drop size bytes) at → Continues (suc noted) offset bytes at
-one_further noted offset bytes at p size g r =
+one_further : (left noted offset : ℕ) (bytes : List ℕ) (at : ℕ) (p : PacketParts) (size : ℕ)
+    → GoesOn offset bytes p size → Continues left noted (offset + size) (drop size bytes) at
+    → Continues left (suc noted) offset bytes at
+one_further left noted offset bytes at p size g r =
     let n = note_of offset p in
     let from = r.from in
     let within = r.within in
     let room = g.room in
     let steps : size + (at - (offset + size)) ≡ at - offset = omega arith in
-    let left : drop (at - (offset + size)) (drop size bytes) ≡ drop (at - offset) bytes =
-    drop_again size (at - (offset + size)) bytes ∙ ap (λ (k : ℕ). drop k bytes) steps in
+    let rest : drop (at - (offset + size)) (drop size bytes) ≡ drop (at - offset) bytes =
+    drop-drop (at - (offset + size)) size bytes ∙ ap (λ (k : ℕ). drop k bytes) steps in
     let front = ap (take (suc noted)) g.notes in
     record {
       from = omega arith;
       within = omega (arith, length-drop size bytes);
       notes = g.notes ∙ ap (λ (t : List NoteParts). n ∷ t) r.notes
-          ∙ (λ i. sym front i ++ notes_in at (left i));
-      stop = g.stop ∙ r.stop ∙ ap (stop_in at) left;
+          ∙ (λ i. sym front i ++ notes_in at (rest i));
+      stop = g.stop ∙ r.stop ∙ ap (stop_in at) rest;
     }
 
+-- behind so many of its packets, the next of which begins there
 pub continues : (noted offset : ℕ) (bytes : List ℕ) (at : ℕ) → GoesOnAt noted offset bytes at
-    → Continues noted offset bytes at
+    → Continues 1 noted offset bytes at
 continues zero offset bytes at h =
-    elim (packet_at offset bytes) as (λ o. packet_at offset bytes ≡ o → Continues zero offset bytes at) [
+    elim (packet_at offset bytes) as (λ o. packet_at offset bytes ≡ o → Continues 1 zero offset bytes at) [
       | None ↦ λ e.
           let none = ap (notes_from offset) (packets_in-none offset bytes e) in
           absurd (subst (λ (l : List NoteParts). IsSomeAnd (slice_get l zero) (λ n. n.offset ≡ at)) none h)
@@ -74,19 +71,33 @@ continues zero offset bytes at h =
           let g = goes_on offset bytes p (size_of p) e refl in
           let some = g.some in
           let room = g.room in
-          from_its_start offset bytes at
+          from_its_start 1 offset bytes at
           (subst (λ (l : List NoteParts). IsSomeAnd (slice_get l zero) (λ n. n.offset ≡ at)) g.notes h) (omega arith)
     ] refl
 continues (suc noted) offset bytes at h =
-    elim (packet_at offset bytes) as (λ o. packet_at offset bytes ≡ o → Continues (suc noted) offset bytes at) [
+    elim (packet_at offset bytes) as (λ o. packet_at offset bytes ≡ o → Continues 1 (suc noted) offset bytes at) [
       | None ↦ λ e.
           let none = ap (notes_from offset) (packets_in-none offset bytes e) in
           absurd (subst (λ (l : List NoteParts). IsSomeAnd (slice_get l (suc noted)) (λ n. n.offset ≡ at)) none h)
       | Some p ↦ λ e.
           let g = goes_on offset bytes p (size_of p) e refl in
-          one_further noted offset bytes at p (size_of p) g
+          one_further 1 noted offset bytes at p (size_of p) g
           (continues noted (offset + size_of p) (drop (size_of p) bytes) at
           (subst (λ (l : List NoteParts). IsSomeAnd (slice_get l (suc noted)) (λ n. n.offset ≡ at)) g.notes h))
+    ] refl
+
+-- behind so many of its packets, whether another follows or not
+continues_behind : (noted offset : ℕ) (bytes : List ℕ) (at : ℕ) → noted ≤ length (packets_in offset bytes)
+    → end_after offset (take noted (packets_in offset bytes)) ≡ at → Continues 0 noted offset bytes at
+continues_behind zero offset bytes at h e = from_its_start 0 offset bytes at e (omega arith)
+continues_behind (suc noted) offset bytes at h e =
+    elim (packet_at offset bytes) as (λ o. packet_at offset bytes ≡ o → Continues 0 (suc noted) offset bytes at) [
+      | None ↦ λ none. absurd (omega (arith, ap length (packets_in-none offset bytes none)))
+      | Some p ↦ λ some.
+          let ps = packets_in-some offset bytes p some in
+          one_further 0 noted offset bytes at p (size_of p) (goes_on offset bytes p (size_of p) some refl)
+          (continues_behind noted (offset + size_of p) (drop (size_of p) bytes) at (omega (arith, ap length ps))
+          (sym (ap (λ (qs : List PacketParts). end_after offset (take (suc noted) qs)) ps) ∙ e))
     ] refl
 
 union_append : (old xs ys : List NoteParts) → union_of old (xs ++ ys) ≡ union_of (union_of old xs) ys
@@ -100,6 +111,57 @@ completes h noted offset bytes at g =
     let whole = (continues noted offset bytes at g).notes in
     sym (union_append (content h) (first_notes_in noted offset bytes) (notes_in at (drop (at - offset) bytes)))
     ∙ ap (union_of (content h)) (sym whole)
+
+-- what a refused call that took these bytes noted, and the rest of the whole piece from there on
+pub record CompletedBy (old new : List NoteParts) (offset : ℕ) (whole : List ℕ) (noted at : ℕ) : Type 0 where
+  pub from : offset ≤ at
+  pub content : union_of new (notes_in at (drop (at - offset) whole)) ≡ union_of old (notes_in offset whole)
+  pub count : length (packets_in offset whole) ≡ noted + length (packets_in at (drop (at - offset) whole))
+  pub stop : stop_in offset whole ≡ stop_in at (drop (at - offset) whole)
+
+-- more bytes leave the first packets
+first_stay : (noted offset : ℕ) (taken more : List ℕ) → noted ≤ length (packets_in offset taken)
+    → (noted ≤ length (packets_in offset (taken ++ more)))
+    × (take noted (packets_in offset (taken ++ more)) ≡ take noted (packets_in offset taken))
+    × (first_notes_in noted offset (taken ++ more) ≡ first_notes_in noted offset taken)
+first_stay noted offset taken more h =
+    let ps = packets_in offset taken in
+    let joined = (seam offset taken more).packets in
+    let at = end_after offset ps in
+    let others = packets_in at (rest_in offset taken ++ more) in
+    let notes = ap (notes_from offset) joined ∙ notes_from-append offset ps others in (
+      omega (arith, h, ap length joined, length-append ps others),
+      ap (take noted) joined ∙ take-append-le noted ps others h,
+      ap (take noted) notes ∙ take-append-le noted (notes_in offset taken) (notes_from at others)
+          (omega (arith, h, length-notes_in offset taken)),
+    )
+
+pub completed : (old new : List NoteParts) (offset : ℕ) (taken : List ℕ) (noted at : ℕ)
+    → AddsFirst old new offset taken noted at → (more : List ℕ)
+    → CompletedBy old new offset (taken ++ more) noted at
+completed old new offset taken noted at a more =
+    let whole = taken ++ more in
+    let s = first_stay noted offset taken more a.within in
+    let c = continues_behind noted offset whole at s.0 (ap (end_after offset) s.1 ∙ sym a.place) in
+    let rest = drop (at - offset) whole in
+    let first = first_notes_in noted offset taken in
+    let notes : notes_in offset whole ≡ first ++ notes_in at rest =
+    c.notes ∙ ap (λ (l : List NoteParts). l ++ notes_in at rest) s.2 in
+    record {
+      from = c.from;
+      content = ap (λ (l : List NoteParts). union_of l (notes_in at rest)) a.added
+          ∙ sym (union_append old first (notes_in at rest)) ∙ ap (union_of old) (sym notes);
+      count = omega (
+        arith,
+        s.0,
+        ap length c.notes,
+        length-append (first_notes_in noted offset whole) (notes_in at rest),
+        length-take noted (notes_in offset whole),
+        length-notes_in offset whole,
+        length-notes_in at rest,
+      );
+      stop = c.stop;
+    }
 
 -- what is absorbed is the content of the history with the call
 pub content_with : (h : History) (old new : List NoteParts) (offset : ℕ) (bytes : List ℕ)

@@ -1,5 +1,5 @@
 -- How the notes of a piece's packets stand.
-use Rattle.std.proofs.Common.{◌≡◌, ℕ, suc, ◌+◌, ◌<◌, ◌≤◌, List, [], ◌∷◌, length, refl, sym, ap, arith}
+use Rattle.std.proofs.Common.{◌≡◌, ℕ, suc, ◌+◌, ◌<◌, ◌≤◌, List, [], ◌∷◌, ◌++◌, length, refl, sym, ap, arith}
 use Rattle.std.specs.List.{AllByRecursion}
 use Rattle.std.proofs.lemmas.Cmp.{ranked}
 use Rattle.std.specs.Ordering.{nat_cmp}
@@ -7,7 +7,7 @@ use Rattle.std.specs.declared.cmp.Ordering.TheVariants.{Less, Equal, Greater}
 use Rattle.mxf_klv.specs.Parts.{NoteParts, PacketParts}
 use Rattle.mxf_klv.specs.Packet.{size_of}
 use Rattle.mxf_klv.specs.Note.{note_cmp, note_of}
-use Rattle.mxf_klv.specs.Piece.{notes_from}
+use Rattle.mxf_klv.specs.Piece.{end_after, notes_from}
 use Rattle.mxf_klv.specs.PieceReading.{notes_in, packets_in}
 use Rattle.mxf_catalogue.specs.Content.{IsContent}
 use Rattle.mxf_catalogue.specs.Disputes.{AreApart}
@@ -53,3 +53,9 @@ notes_for_packets offset (p ∷ ps) = ap suc (notes_for_packets (offset + size_o
 -- there are as many notes as packets
 pub length-notes_in : (offset : ℕ) (bytes : List ℕ) → length (notes_in offset bytes) ≡ length (packets_in offset bytes)
 length-notes_in offset bytes = notes_for_packets offset (packets_in offset bytes)
+
+-- the notes of more packets stand behind those before
+pub notes_from-append : (o : ℕ) (ps qs : List PacketParts)
+    → notes_from o (ps ++ qs) ≡ notes_from o ps ++ notes_from (end_after o ps) qs
+notes_from-append o [] qs = refl
+notes_from-append o (p ∷ ps) qs = ap (λ (ns : List NoteParts). note_of o p ∷ ns) (notes_from-append (o + size_of p) ps qs)

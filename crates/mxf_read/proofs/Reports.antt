@@ -19,7 +19,7 @@ use Rattle.mxf_klv.proofs.StopLaws.{at_cut, stops}
 use Rattle.mxf_catalogue.specs.Content.{union_of}
 use Rattle.mxf_catalogue.proofs.Fronts.{rising_take}
 use Rattle.mxf_catalogue.proofs.MergeLaws.{union_of-none}
-use Rattle.mxf_read.proofs.Pieces.{IsContent-notes_in, length-notes_in}
+use Rattle.mxf_read.proofs.Pieces.{IsContent-notes_in, length-notes_in, notes_from-append}
 use Rattle.mxf_read.specs.Absorbs.{Absorbs, AbsorbsFrom, AddsFirst, report_of}
 use Rattle.mxf_read.specs.Feeding.{Fed, IsNext, Knows}
 use Rattle.mxf_read.specs.Reading.{ReadsAll, Takes}
@@ -34,11 +34,6 @@ use Rattle.mxf_read.proofs.Feeding.{awaits, holds}
 
 abbrev made : ℕ → Stop → Report
 made noted stop = record { noted = noted; stop = stop }
-
-notes_from-append : (o : ℕ) (ps qs : List PacketParts)
-    → notes_from o (ps ++ qs) ≡ notes_from o ps ++ notes_from (end_after o ps) qs
-notes_from-append o [] qs = refl
-notes_from-append o (p ∷ ps) qs = ap (λ (ns : List NoteParts). note_of o p ∷ ns) (notes_from-append (o + size_of p) ps qs)
 
 pub count_noted : (o : ℕ) (m : List ℕ) (p : Piece) → Knows o m p → length p.notes ≡ length (packets_in o m)
 count_noted o m p k = ap length k.notes ∙ length-notes_in o m

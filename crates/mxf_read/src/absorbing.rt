@@ -2,11 +2,12 @@
 ghost use Rattle.std.specs.Prelude.{◌≡◌, ◌≢◌, ◌+◌, ◌-◌, ◌<◌, ◌≤◌, ◌++◌, ℕ, List, [], drop, take, length};
 ghost use Rattle.std.specs.Prelude.{IfOk, IfErr, IfSome, Ok, OnOk, OnErr};
 ghost use Rattle.mxf_klv.specs.Note.{end_of, greatest_end, note_of};
-ghost use Rattle.mxf_klv.specs.PieceReading.{notes_in, stop_in};
+ghost use Rattle.mxf_klv.specs.Parts.{NoteParts};
+ghost use Rattle.mxf_klv.specs.PieceReading.{notes_in, packets_in, stop_in};
 ghost use Rattle.mxf_catalogue.specs.Content.{IsContent, union_of, with_note};
 ghost use Rattle.mxf_catalogue.specs.Disputes.{AreApart};
 ghost use Rattle.mxf_catalogue.specs.History.{History, Absorb, Cut, content};
-ghost use Rattle.mxf_read.specs.Absorbs.{Absorbs, AbsorbsFrom, GoesOnAt, first_notes_in, history_with};
+ghost use Rattle.mxf_read.specs.Absorbs.{Absorbs, AbsorbsFrom, AddsFirst, GoesOnAt, first_notes_in, history_with};
 ghost use Rattle.mxf_read.specs.Feeding.{Fed};
 ghost use Rattle.mxf_read.specs.Reading.{Takes};
 ghost use Rattle.mxf_read.specs.declared.report.AbsorbFault.TheVariants as faults;
@@ -190,4 +191,22 @@ pub fn going_on_completes_a_piece()
         → stop_in offset bytes ≡ stop_in at (drop (at - offset) bytes) }
     ensures content { (h : History) (noted offset : ℕ) (bytes : List ℕ) (at : ℕ) → GoesOnAt noted offset bytes at
         → content (Absorb (Cut h offset bytes noted) at (drop (at - offset) bytes)) ≡ content (Absorb h offset bytes) }
+{}
+
+/// A law of [`absorb_from`]: where it was refused, for want of memory or by a read that failed, absorbing the piece from the
+/// place that the fault tells leaves what absorbing the whole piece does, whatever bytes follow those that were taken. The
+/// packets of both together are as many, and the stop is the same.
+pub fn going_on_after_a_fault_completes_a_piece()
+    ensures from { (old new : List NoteParts) (offset : ℕ) (taken more : List ℕ) (noted at : ℕ)
+        → AddsFirst old new offset taken noted at → offset ≤ at }
+    ensures content { (old new : List NoteParts) (offset : ℕ) (taken more : List ℕ) (noted at : ℕ)
+        → AddsFirst old new offset taken noted at
+        → union_of new (notes_in at (drop (at - offset) (taken ++ more))) ≡ union_of old (notes_in offset (taken ++ more)) }
+    ensures count { (old new : List NoteParts) (offset : ℕ) (taken more : List ℕ) (noted at : ℕ)
+        → AddsFirst old new offset taken noted at
+        → length (packets_in offset (taken ++ more))
+        ≡ noted + length (packets_in at (drop (at - offset) (taken ++ more))) }
+    ensures stop { (old new : List NoteParts) (offset : ℕ) (taken more : List ℕ) (noted at : ℕ)
+        → AddsFirst old new offset taken noted at
+        → stop_in offset (taken ++ more) ≡ stop_in at (drop (at - offset) (taken ++ more)) }
 {}

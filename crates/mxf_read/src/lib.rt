@@ -6,7 +6,8 @@
 //!
 //! What is proved: after [`absorb`] the views hold what they held and the notes of the piece's packets, and the report
 //! tells the number of packets and why they end. Where memory was wanting they hold what they held and the notes of the
-//! packets that the fault counts, and [`going_on_completes_a_piece`] says that the rest completes the piece.
+//! packets that the fault counts, and [`going_on_completes_a_piece`] says that the rest completes the piece;
+//! [`going_on_after_a_fault_completes_a_piece`] says it of what a reader gave.
 //! [`packets_of_a_piece_stand_apart`] says how the packets of a piece lie.
 //!
 //! That memory is there, and that a call succeeds with it, is tested.
@@ -29,7 +30,8 @@ mod report;
 mod ticks;
 
 pub use absorbing::{
-    absorb, absorb_from, going_on_completes_a_piece, packets_of_a_piece_stand_apart,
+    absorb, absorb_from, going_on_after_a_fault_completes_a_piece, going_on_completes_a_piece,
+    packets_of_a_piece_stand_apart,
 };
 pub use mxf_klv::Stop;
 pub use report::{AbsorbFault, Report};
