@@ -10,6 +10,7 @@ pub mod Lines
 pub mod PartReading
 pub mod PartitionLines
 pub mod Printing
+pub mod Progress
 pub mod ReferenceLines
 pub mod Saving
 pub mod ShownText

@@ -9,11 +9,15 @@ mod printing;
 mod program;
 mod saving;
 mod source;
+mod watching;
 
+use std::io::IsTerminal;
 use std::process::ExitCode;
+use watching::Screen;
 
 fn main(rt: HostRuntime) -> ExitCode {
-    ExitCode::from(program::run(&rt).status())
+    let screen = Screen::of(rt.stderr().is_terminal());
+    ExitCode::from(program::run(&rt, screen).status())
 }
 
 #[cfg(test)]

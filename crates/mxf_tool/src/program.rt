@@ -6,13 +6,14 @@ use crate::gathering::{GatherFault, Gathered, Part, gather};
 use crate::printing::{Ask, answer};
 use crate::saving::{SaveFault, is_standard_output, save};
 use crate::source::{Source, parse_source};
+use crate::watching::{Screen, Watched};
 use clap::error::ErrorKind;
 use std::io::{BufWriter, Write};
-use std::rt::{Env, Files};
+use std::rt::{Clock, Env, Files};
 use std::{env, fs, io};
 
 /// Runs the program on the arguments that it was started with.
-pub fn run<R: Files + Env + Print + Eprint + AllocGlobal>(rt: &R) -> Exit {
+pub fn run<R: Files + Clock + Env + Print + Eprint + AllocGlobal>(rt: &R, screen: Screen) -> Exit {
     let arguments = match env::args(rt) {
         Ok(arguments) => arguments,
         Err(fault) => return unread_arguments(rt, &fault),
@@ -26,7 +27,7 @@ pub fn run<R: Files + Env + Print + Eprint + AllocGlobal>(rt: &R) -> Exit {
     };
     match command.try_get_matches_from(arguments.as_slice()) {
         Ok(matches) => match request_of(&matches) {
-            Some(request) => perform(rt, &request),
+            Some(request) => perform(rt, screen, &request),
             None => Exit::Usage,
         },
         Err(refusal) => refused(rt, &refusal),
@@ -100,12 +101,21 @@ fn refused<R: Print + Eprint>(rt: &R, refusal: &clap::Error) -> Exit {
 }
 
 /// Does what is asked for.
-fn perform<R: Files + Print + Eprint + AllocGlobal>(rt: &R, request: &Request<'_, '_>) -> Exit {
+fn perform<R: Files + Clock + Print + Eprint + AllocGlobal>(
+    rt: &R,
+    screen: Screen,
+    request: &Request<'_, '_>,
+) -> Exit {
     let done = match *request {
-        Request::Show { words } => tell(rt, Ask::Show, words),
-        Request::Check { words } => tell(rt, Ask::Check, words),
-        Request::Locate { index, unit, words } => tell(rt, Ask::Locate { index, unit }, words),
-        Request::Join { out, words } => join(rt, out, words),
+        Request::Show { words } => tell(rt, screen, Ask::Show, words),
+        Request::Check { words } => tell(rt, screen, Ask::Check, words),
+        Request::Locate { index, unit, words } => tell(
+            rt,
+            screen,
+            Ask::Locate { index, unit },
+            words,
+        ),
+        Request::Join { out, words } => join(rt, screen, out, words),
     };
     match done {
         Ok(exit) | Err(exit) => exit,
@@ -113,19 +123,21 @@ fn perform<R: Files + Print + Eprint + AllocGlobal>(rt: &R, request: &Request<'_
 }
 
 /// Prints what is asked of what the sources hold together.
-fn tell<R: Files + Print + Eprint + AllocGlobal>(
+fn tell<R: Files + Clock + Print + Eprint + AllocGlobal>(
     rt: &R,
+    screen: Screen,
     ask: Ask,
     words: &[&str],
 ) -> Result<Exit, Exit> {
     let sources = parse_sources(rt, words)?;
-    let gathered = gather_sources(rt, &sources)?;
+    let gathered = gather_sources(rt, screen, &sources)?;
     print_answer(rt, ask, &gathered)
 }
 
 /// Writes the catalogue of what the sources hold together, and then prints how many notes it has.
-fn join<R: Files + Print + Eprint + AllocGlobal>(
+fn join<R: Files + Clock + Print + Eprint + AllocGlobal>(
     rt: &R,
+    screen: Screen,
     out: &str,
     words: &[&str],
 ) -> Result<Exit, Exit> {
@@ -133,7 +145,7 @@ fn join<R: Files + Print + Eprint + AllocGlobal>(
     if is_standard_output(rt, out) {
         return Err(bad_output(rt, out));
     }
-    let gathered = gather_sources(rt, &sources)?;
+    let gathered = gather_sources(rt, screen, &sources)?;
     if let Err(fault) = save(rt, out, gathered.views.catalogue()) {
         return Err(unsaved(rt, fault));
     }
@@ -141,11 +153,12 @@ fn join<R: Files + Print + Eprint + AllocGlobal>(
 }
 
 /// What the sources hold together. All are opened before the first is read.
-fn gather_sources<R: Files + Eprint + AllocGlobal>(
+fn gather_sources<R: Files + Clock + Eprint + AllocGlobal>(
     rt: &R,
+    screen: Screen,
     sources: &[Source<'_>],
 ) -> Result<Gathered, Exit> {
-    let parts = open_parts(rt, sources)?;
+    let parts = open_parts(rt, screen, sources)?;
     match gather(rt.alloc(), parts) {
         Ok(gathered) => Ok(gathered),
         Err(fault) => Err(ungathered(rt, &fault, sources)),
@@ -171,13 +184,14 @@ fn parse_sources<'a, R: Eprint + AllocGlobal>(
 }
 
 /// The sources, opened in their order.
-fn open_parts<R: Files + Eprint + AllocGlobal>(
-    rt: &R,
-    sources: &[Source<'_>],
-) -> Result<Vec<Part<R::File>>, Exit> {
+fn open_parts<'a, R: Files + Clock + Eprint + AllocGlobal>(
+    rt: &'a R,
+    screen: Screen,
+    sources: &[Source<'a>],
+) -> Result<Vec<Part<Watched<'a, R, R::File>>>, Exit> {
     let mut parts = Vec::new(rt.alloc());
     for source in sources {
-        let part = open_part(rt, source)?;
+        let part = open_part(rt, screen, source)?;
         if parts.push(part).is_err() {
             return Err(no_memory(rt));
         }
@@ -186,9 +200,13 @@ fn open_parts<R: Files + Eprint + AllocGlobal>(
 }
 
 /// The source, opened.
-fn open_part<R: Files + Eprint>(rt: &R, source: &Source<'_>) -> Result<Part<R::File>, Exit> {
+fn open_part<'a, R: Files + Clock + Eprint>(
+    rt: &'a R,
+    screen: Screen,
+    source: &Source<'a>,
+) -> Result<Part<Watched<'a, R, R::File>>, Exit> {
     match fs::open(rt, source.path()) {
-        Ok(from) => Ok(Part::of(source, from)),
+        Ok(from) => Ok(Part::of(source, Watched::new(rt, screen, source, from))),
         Err(fault) if fault.kind() == io::ErrorKind::OutOfMemory => Err(no_memory(rt)),
         Err(_) => Err(unread(rt, source.path())),
     }
