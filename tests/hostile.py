@@ -23,6 +23,7 @@ import random
 import subprocess
 import sys
 import tempfile
+import time
 
 import packets
 
@@ -288,7 +289,7 @@ def read_piece(offset, data):
 
 def seconds_for(size):
     """The bound of processor time of a run on so many bytes."""
-    return 0.05 + 2e-7 * size * math.log2(size + 2)
+    return 0.1 + 4e-7 * size * math.log2(size + 2)
 
 
 def memory_for(size):
@@ -307,6 +308,7 @@ class Run:
         self.program = program
         self.folder = pathlib.Path(folder)
         self.runs = 0
+        self.fronts = 0
         self.slowest = 0.0
 
     def lay(self, name, pieces):
@@ -319,7 +321,22 @@ class Run:
         return sources
 
     def call(self, statuses, size, *words):
-        """Runs the program within its bounds, and tells what it printed. `size` bytes are in its sources."""
+        """Runs the program within its bounds, and tells what it printed. `size` bytes are in its sources.
+
+        Where the machine is busy a run takes more processor time too, so one that takes too much is run again.
+        """
+        for wait in (1, 2, 4, 8, 0):
+            printed, seconds = self.call_once(statuses, size, *words)
+            if seconds <= seconds_for(size):
+                break
+            time.sleep(wait)
+        self.slowest = max(self.slowest, seconds / seconds_for(size))
+        if seconds > seconds_for(size):
+            raise Wrong(f"{words[0]}: {seconds:.2f} s of processor time for {size} bytes")
+        return printed
+
+    def call_once(self, statuses, size, *words):
+        """The same: what it printed, and its processor time."""
         out, err = self.folder / "out", self.folder / "err"
         limited = ["prlimit", f"--as={memory_for(size)}", self.program, *words]
         with out.open("wb") as to, err.open("wb") as told:
@@ -328,15 +345,12 @@ class Run:
         child.returncode = os.waitstatus_to_exitcode(status)
         self.runs += 1
         seconds = used.ru_utime + used.ru_stime
-        self.slowest = max(self.slowest, seconds / seconds_for(size))
         said = err.read_text(errors="replace")
         if child.returncode not in statuses:
             raise Wrong(f"{words[0]}: status {child.returncode}: {said[:200]}")
         if (said != "") != (child.returncode == 4):
             raise Wrong(f"{words[0]}: on standard error: {said[:200]}")
-        if seconds > seconds_for(size):
-            raise Wrong(f"{words[0]}: {seconds:.2f} s of processor time for {size} bytes")
-        return out.read_text()
+        return out.read_text(), seconds
 
     def joined(self, size, sources):
         """The catalogue that is saved of these sources."""
@@ -411,8 +425,10 @@ def try_fronts(run, name, step):
     """Tries each front of a file: every `step` bytes, and beside each packet."""
     data = (TOP / name).read_bytes()
     borders = {place + beside for place, _ in read_piece(0, data)[0] for beside in (-1, 0, 1, 16, 17)}
-    for length in sorted({*range(0, len(data) + 1, step), *borders, len(data)}):
-        front = [(0, data[: max(length, 0)])]
+    lengths = {*range(0, len(data) + 1, step), *borders, len(data)}
+    for length in sorted(length for length in lengths if 0 <= length <= len(data)):
+        run.fronts += 1
+        front = [(0, data[:length])]
         (found, stop), sources = read_piece(*front[0]), run.lay("front", front)
         head = run.call((0,), length, "show", *sources).splitlines()[0]
         run.call((0, 1), length, "check", *sources)
@@ -421,14 +437,14 @@ def try_fronts(run, name, step):
 
 
 def tried(program, name, what, *arguments):
-    """What is wrong with a part that was tried, or None; its runs, and the share of the bound that the slowest took."""
+    """What is wrong with a part that was tried, or None, and its run."""
     with tempfile.TemporaryDirectory() as folder:
         run = Run(program, folder)
         try:
             what(run, *arguments)
         except Wrong as wrong:
-            return f"{name}: {wrong}", run.runs, run.slowest
-        return None, run.runs, run.slowest
+            return f"{name}: {wrong}", run
+        return None, run
 
 
 def parts(count, first):
@@ -449,12 +465,13 @@ def main():
     count, first = (int(word) for word in (sys.argv + ["200", "0"][len(sys.argv) - 2 :])[2:4])
     with concurrent.futures.ThreadPoolExecutor(os.cpu_count()) as threads:
         found = list(threads.map(lambda part: tried(sys.argv[1], *part), parts(count, first)))
-    for wrong, _, _ in found:
+    for wrong, _ in found:
         if wrong:
             print(f"FAILED: {wrong}")
-    failed = sum(wrong is not None for wrong, _, _ in found)
-    runs, slowest = sum(runs for _, runs, _ in found), max(share for _, _, share in found)
-    print(f"hostile files: {count} from number {first} on, {runs} runs; the slowest took {slowest:.0%} of its bound of time")
+    failed = sum(wrong is not None for wrong, _ in found)
+    runs, fronts = sum(run.runs for _, run in found), sum(run.fronts for _, run in found)
+    slowest = max(run.slowest for _, run in found)
+    print(f"hostile files: {count} from number {first} on, and {fronts} fronts: {runs} runs; the slowest took {slowest:.0%} of its bound")
     print(f"{len(found) - failed} passed, {failed} failed")
     return failed > 0
 
