@@ -7,9 +7,8 @@ use Rattle.std.proofs.Math.Seq.{take-append-add}
 use Rattle.std.proofs.lemmas.Bool.{eqb-true}
 use Rattle.std.proofs.lemmas.List.{take_at, take_all}
 use Rattle.mxf_klv.specs.Parts.{NoteParts, PacketParts}
-use Rattle.mxf_klv.specs.Packet.{size_of}
 use Rattle.mxf_klv.specs.Head.{HasNoHead}
-use Rattle.mxf_klv.specs.Note.{note_of, note_cmp}
+use Rattle.mxf_klv.specs.Note.{note_cmp}
 use Rattle.mxf_klv.specs.Piece.{end_after, notes_from}
 use Rattle.mxf_klv.specs.PieceReading.{IsOpen, notes_in, packets_in, rest_in, stop_in, stop_of}
 use Rattle.mxf_klv.specs.declared.piece.Stop.{Stop}
