@@ -7,7 +7,8 @@ ghost use Rattle.mxf_views.specs.Partitions.{AreInOrder, IsPartition, PartitionP
 ghost use Rattle.std.specs.Iterator.{YieldsFirst, item_count};
 ghost use Rattle.mxf_views.specs.Partitions.{pack_of, partition_at, partitions_among, stands_at, stands_between, stands_above, is_header, is_footer, is_no_unreadable_pack};
 
-use mxf_catalogue::{Catalogue, ClearNotes};
+use crate::placed::NotesAt;
+use mxf_catalogue::Catalogue;
 use mxf_klv::{Held, Kind, Note};
 use mxf_sets::{PackPart, PartitionPack};
 use std::marker::Model;
@@ -57,7 +58,7 @@ pub(crate) fn partition_at(note: &Note) -> Option<PartitionAt<'_>>
 /// The partitions that are left, rising.
 #[derive(Debug, Drop)]
 pub struct Partitions<'a> {
-    notes: ClearNotes<'a>,
+    notes: NotesAt<'a>,
 }
 
 impl<'a> Model for Partitions<'a> {
@@ -70,7 +71,7 @@ impl<'a> Model for Partitions<'a> {
 }
 
 impl<'a> Partitions<'a> {
-    pub(crate) fn of(notes: ClearNotes<'a>) -> Partitions<'a>
+    pub(crate) fn of(notes: NotesAt<'a>) -> Partitions<'a>
         requires { length notes < 2 ^ 64 }
         ensures partitions { result ≡ partitions_among notes.entry }
         ensures bound { length result < 2 ^ 64 }
@@ -80,19 +81,6 @@ impl<'a> Partitions<'a> {
 }
 
 impl<'a> Partitions<'a> {
-    /// Whether one stands between two offsets: the first above the lower one tells.
-    pub(crate) fn any_between(self, low: u64, high: u64) -> bool
-        requires { AreInOrder self }
-        ensures { result ≡ stands_between low high self.entry }
-    {
-        for partition in self {
-            if low < partition.offset {
-                return partition.offset < high;
-            }
-        }
-        false
-    }
-
     pub(crate) fn any_above(self, low: u64) -> bool
         ensures { result ≡ stands_above low self.entry }
     {
@@ -143,7 +131,15 @@ pub(crate) fn stands_at(catalogue: &Catalogue, offset: u64) -> bool
 pub(crate) fn stands_between(catalogue: &Catalogue, low: u64, high: u64) -> bool
     ensures { result ≡ stands_between low high (partitions_of catalogue.now) }
 {
-    Partitions::of(catalogue.clear_within(low, u64::MAX)).any_between(low, high)
+    for note in catalogue.clear_within(low, u64::MAX) {
+        if high <= note.offset() {
+            return false;
+        }
+        if low < note.offset() && partition_at(note).is_some() {
+            return true;
+        }
+    }
+    false
 }
 
 /// Whether the note is no partition pack, or a readable one.

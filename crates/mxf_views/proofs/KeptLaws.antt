@@ -1,0 +1,69 @@
+-- What is kept of a content, and what an addition makes of it.
+use Rattle.std.proofs.Common.{◌≡◌, ℕ, Bool, List, sym, ap, subst, ◌∙◌}
+use Rattle.mxf_klv.specs.Parts.{NoteParts}
+use Rattle.mxf_klv.specs.Rising.{In}
+use Rattle.mxf_catalogue.specs.Content.{IsContent, with_note}
+use Rattle.mxf_catalogue.specs.Disputes.{clear_notes}
+use Rattle.mxf_views.specs.declared.copy.CopyInfo.{CopyInfo}
+use Rattle.mxf_views.specs.declared.kept.Placed.TheVariants as kinds
+use Rattle.mxf_views.specs.Copies.{copies_of}
+use Rattle.mxf_views.specs.Kept.{IsHull, Keeps, can_bring_start, copies_followed, followed, is_placed, notes_at, offsets_where, stands_clear}
+use Rattle.mxf_views.specs.Partitions.{partition_at, partitions_among, partitions_of}
+use Rattle.mxf_views.specs.Places.{placed_segment, segments_among, segments_of}
+use Rattle.mxf_views.specs.RandomIndex.{is_rip_note, rips_of}
+use Rattle.mxf_views.proofs.ClearChanges.{notes_at_offsets, offsets_follow}
+use Rattle.mxf_views.proofs.CopyUpdates.{copies_follow}
+use Rattle.mxf_views.proofs.ListSteps.{filter_map_some}
+
+-- Once a note has arrived.
+pub keeps_after : (x : NoteParts) (notes after : List NoteParts) (start end offset : ℕ) (brings : Bool)
+    (ps ss rs : List ℕ) (cs : List CopyInfo) → IsContent notes → (In x notes → ⊥) → IsHull x notes start end
+    → after ≡ with_note x notes → offset ≡ x.offset → brings ≡ can_bring_start x → Keeps notes ps ss rs cs
+    → Keeps after (followed (stands_clear (is_placed kinds.Partition) after offset) offset start end ps)
+    (followed (stands_clear (is_placed kinds.Segment) after offset) offset start end ss)
+    (followed (stands_clear (is_placed kinds.RandomIndexPack) after offset) offset start end rs)
+    (copies_followed after offset start end brings cs)
+keeps_after x notes after start end offset brings ps ss rs cs r new h e at can k =
+    let one = λ (kind : _) (os : List ℕ) (same : os ≡ offsets_where (is_placed kind) notes).
+    ap (λ a. followed (stands_clear (is_placed kind) a offset) offset start end os) e
+    ∙ ap (λ o. followed (stands_clear (is_placed kind) (with_note x notes) o) o start end os) at
+    ∙ ap (followed (stands_clear (is_placed kind) (with_note x notes) x.offset) x.offset start end) same
+    ∙ offsets_follow (is_placed kind) x notes start end r new h
+    ∙ ap (offsets_where (is_placed kind)) (sym e) in
+    record {
+      partitions_are = one kinds.Partition ps k.partitions_are;
+      segments_are = one kinds.Segment ss k.segments_are;
+      rips_are = one kinds.RandomIndexPack rs k.rips_are;
+      copies_are =
+          ap (λ a. copies_followed a offset start end brings cs) e
+          ∙ ap (λ o. copies_followed (with_note x notes) o start end brings cs) at
+          ∙ ap (λ b. copies_followed (with_note x notes) x.offset start end b cs) can
+          ∙ ap (copies_followed (with_note x notes) x.offset start end (can_bring_start x)) k.copies_are
+          ∙ copies_follow x notes start end r new h ∙ ap copies_of (sym e);
+    }
+
+-- The notes at kept offsets are read as the partitions, the segments and the random index packs.
+pub partitions_kept : (notes : List NoteParts) (offsets : List ℕ)
+    → offsets ≡ offsets_where (is_placed kinds.Partition) notes
+    → partitions_among (notes_at notes offsets) ≡ partitions_of notes
+unfolding partitions_of
+partitions_kept notes offsets e =
+    ap (λ o. partitions_among (notes_at notes o)) e
+    ∙ ap partitions_among (notes_at_offsets (is_placed kinds.Partition) notes)
+    ∙ filter_map_some partition_at (clear_notes notes)
+
+pub segments_kept : (notes : List NoteParts) (offsets : List ℕ)
+    → offsets ≡ offsets_where (is_placed kinds.Segment) notes
+    → segments_among (notes_at notes offsets) ≡ segments_of notes
+unfolding segments_of
+segments_kept notes offsets e =
+    ap (λ o. segments_among (notes_at notes o)) e
+    ∙ ap segments_among (notes_at_offsets (is_placed kinds.Segment) notes)
+    ∙ filter_map_some placed_segment (clear_notes notes)
+
+pub rips_kept : (notes : List NoteParts) (offsets : List ℕ)
+    → offsets ≡ offsets_where (is_placed kinds.RandomIndexPack) notes
+    → notes_at notes offsets ≡ rips_of notes
+unfolding rips_of
+rips_kept notes offsets e =
+    ap (notes_at notes) e ∙ notes_at_offsets (is_placed kinds.RandomIndexPack) notes

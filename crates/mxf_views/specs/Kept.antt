@@ -1,0 +1,113 @@
+-- What the views keep of the clear notes, and what an addition changes of it (this project's profile).
+use Rattle.std.specs.Prelude.{◌≡◌, ℕ, ◌-◌, ◌≤◌, ◌⊎◌, Bool, ◌&&◌, ◌||◌, ◌==◌, nat_le, nat_lt, if◌then◌else◌}
+use Rattle.std.specs.Prelude.{Option, None, Some, false, is_some, List, [], ◌∷◌, filter, find, map}
+use Rattle.std.specs.List.{filter_map}
+use Rattle.std.specs.Option.{option_and_then}
+use Rattle.std.specs.Ordering.{nat_cmp}
+use Rattle.mxf_klv.specs.Parts.{NoteParts}
+use Rattle.mxf_klv.specs.Note.{end_of}
+use Rattle.mxf_klv.specs.Kind.{kind_of}
+use Rattle.mxf_klv.specs.Rising.{with_one}
+use Rattle.mxf_catalogue.specs.Disputes.{IsClear, SharesByte, clear_notes}
+use Rattle.mxf_views.specs.declared.copy.CopyInfo.{CopyInfo}
+use Rattle.mxf_views.specs.declared.kept.Placed.{Placed}
+use Rattle.mxf_views.specs.declared.kept.Placed.TheVariants as kinds
+use Rattle.mxf_views.specs.Copies.{copies_of, copy_of, has_metadata, is_fill, is_primer}
+use Rattle.mxf_views.specs.Partitions.{PartitionParts, partition_at}
+use Rattle.mxf_views.specs.Places.{placed_segment}
+use Rattle.mxf_views.specs.RandomIndex.{is_rip_note}
+
+-- Where the clear notes stand that pass the test.
+abbrev pub offsets_where : (NoteParts → Bool) → List NoteParts → List ℕ
+offsets_where test notes = map (λ n. n.offset) (filter test (clear_notes notes))
+
+-- The range goes from the least offset of a note and of the clear notes that share a byte with it to their greatest end.
+pub record IsHull (x : NoteParts) (notes : List NoteParts) (start end : ℕ) : Type 0 where
+  pub all : (m : NoteParts) → IsClear m notes → SharesByte x m → (start ≤ m.offset) × (end_of m ≤ end)
+  pub least : (start ≡ x.offset) ⊎ ((m : NoteParts) × IsClear m notes × SharesByte x m × (start ≡ m.offset))
+  pub greatest : (end ≡ end_of x) ⊎ ((m : NoteParts) × IsClear m notes × SharesByte x m × (end ≡ end_of m))
+  pub low : start ≤ x.offset
+  pub high : end_of x ≤ end
+
+-- The note is a readable partition pack, a readable index table segment or a random index pack.
+abbrev pub is_placed : Placed → NoteParts → Bool
+is_placed kinds.Partition n = is_some (partition_at n)
+is_placed kinds.Segment n = is_some (placed_segment n)
+is_placed kinds.RandomIndexPack n = is_rip_note n
+
+abbrev pub has_some_metadata : Option PartitionParts → Bool
+has_some_metadata None = false
+has_some_metadata (Some p) = has_metadata p
+
+-- It is a partition pack that states header metadata.
+abbrev pub states_metadata : NoteParts → Bool
+states_metadata n = has_some_metadata (partition_at n)
+
+-- The copy of the partition that the note is, where it states header metadata.
+abbrev pub copy_by : List NoteParts → NoteParts → Option CopyInfo
+copy_by notes n =
+    option_and_then (λ p. if has_metadata p then Some (copy_of notes p) else None) (partition_at n)
+
+-- The offset lies outside of the range.
+abbrev pub is_outside : ℕ → ℕ → ℕ → Bool
+is_outside start end offset = nat_lt offset start || nat_le end offset
+
+-- A copy without a start can get one only by a note that is a fill or a primer.
+unfoldable pub can_bring_start : NoteParts → Bool
+can_bring_start n = is_fill (kind_of n.key) || is_primer (kind_of n.key)
+
+-- What comes and goes in a range may change the copy: the range meets that from the partition to the end of the zone,
+-- or there is no zone yet and a start may come.
+abbrev pub may_change : ℕ → ℕ → Bool → CopyInfo → Option ℕ → Bool
+may_change start end brings c None = brings
+may_change start end brings c (Some zone) = nat_lt c.partition end && nat_lt (start - zone) c.bytes
+
+abbrev pub or_itself : CopyInfo → Option CopyInfo → CopyInfo
+or_itself c None = c
+or_itself c (Some d) = d
+
+-- The copy of the same partition, counted anew where it may have changed.
+abbrev pub renewed : List NoteParts → ℕ → ℕ → Bool → CopyInfo → CopyInfo
+renewed notes start end brings c =
+    if may_change start end brings c c.start then or_itself c (find (λ d. d.partition == c.partition) (copies_of notes))
+    else c
+
+-- The copies with another in its place, by their partitions.
+abbrev pub with_copy : CopyInfo → List CopyInfo → List CopyInfo
+with_copy c [] = c ∷ []
+with_copy c (d ∷ copies) = if nat_lt c.partition d.partition then c ∷ d ∷ copies else d ∷ with_copy c copies
+
+abbrev pub with_found : Option CopyInfo → List CopyInfo → List CopyInfo
+with_found None copies = copies
+with_found (Some c) copies = with_copy c copies
+
+-- The copies once a note stands at the offset: those outside of the range counted anew, and that of the offset.
+abbrev pub copies_followed : List NoteParts → ℕ → ℕ → ℕ → Bool → List CopyInfo → List CopyInfo
+copies_followed notes offset start end brings copies =
+    with_found (find (λ d. d.partition == offset) (copies_of notes))
+    (map (renewed notes start end brings) (filter (λ c. is_outside start end c.partition) copies))
+
+abbrev pub passes : (NoteParts → Bool) → Option NoteParts → Bool
+passes test None = false
+passes test (Some n) = test n
+
+-- A clear note stands at the offset, and passes the test.
+abbrev pub stands_clear : (NoteParts → Bool) → List NoteParts → ℕ → Bool
+stands_clear test notes offset = passes test (find (λ n. n.offset == offset) (clear_notes notes))
+
+-- The offsets outside of the range, with another where it is one of theirs.
+abbrev pub followed : Bool → ℕ → ℕ → ℕ → List ℕ → List ℕ
+followed there offset start end offsets =
+    if there then with_one nat_cmp offset (filter (is_outside start end) offsets)
+    else filter (is_outside start end) offsets
+
+-- The clear notes at the offsets.
+abbrev pub notes_at : List NoteParts → List ℕ → List NoteParts
+notes_at notes offsets = filter_map (λ o. find (λ n. n.offset == o) (clear_notes notes)) offsets
+
+-- What is kept of a content: where its partitions, segments and random index packs stand, and its copies.
+pub record Keeps (notes : List NoteParts) (partitions segments rips : List ℕ) (copies : List CopyInfo) : Type 0 where
+  pub partitions_are : partitions ≡ offsets_where (is_placed kinds.Partition) notes
+  pub segments_are : segments ≡ offsets_where (is_placed kinds.Segment) notes
+  pub rips_are : rips ≡ offsets_where (is_placed kinds.RandomIndexPack) notes
+  pub copies_are : copies ≡ copies_of notes
