@@ -14,7 +14,7 @@ use Rattle.mxf_views.specs.Partitions.{PartitionParts}
 use Rattle.mxf_views.specs.Copies.{IsFilled, IsStart, copy_from, copy_of, is_fill_note, is_preface_note}
 use Rattle.mxf_views.specs.Copies.{is_readable_primer, start_of, zone_of}
 use Rattle.mxf_views.specs.Spans.{sizes}
-use Rattle.mxf_views.proofs.StartLaws.{parts, start_is}
+use Rattle.mxf_views.proofs.StartLaws.{fill_note, parts, primer_note, start_is}
 use Rattle.mxf_views.proofs.StartWalk.{none_there}
 
 -- The clear notes that have a byte from one offset up to another are the same among both.
@@ -100,14 +100,14 @@ no_copy_stays before after p r t e f =
     let none = none_there after p.end t (λ s a.
     let b : IsStart before p.end s = record {
       primer = a.primer;
-      clear = f a.primer a.clear (inr a.readable);
+      clear = f a.primer a.clear (inr ((primer_note a.primer).1 a.readable));
       readable = a.readable;
       there = a.there;
       after = a.after;
       filled = λ o low high. let g = a.filled o low high in
           record {
             fill = g.fill;
-            clear = f g.fill g.clear (inl g.kind);
+            clear = f g.fill g.clear (inl ((fill_note g.fill).1 g.kind));
             kind = g.kind;
             from = g.from;
             before = g.before;

@@ -1,5 +1,7 @@
 -- What the views keep of the clear notes, and what an addition changes of it (this project's profile).
 use Rattle.std.specs.Prelude.{◌≡◌, ℕ, ◌-◌, ◌≤◌, ◌⊎◌, Bool, ◌&&◌, ◌||◌, ◌==◌, nat_le, nat_lt, if◌then◌else◌}
+use Rattle.std.specs.Prelude.{◌<◌, count_by}
+use Rattle.std.specs.Vec.{vec_capacity, vec_len}
 use Rattle.std.specs.Prelude.{Option, None, Some, false, is_some, List, [], ◌∷◌, filter, find, map}
 use Rattle.std.specs.List.{filter_map}
 use Rattle.std.specs.Option.{option_and_then}
@@ -10,6 +12,9 @@ use Rattle.mxf_klv.specs.Kind.{kind_of}
 use Rattle.mxf_klv.specs.Rising.{with_one}
 use Rattle.mxf_catalogue.specs.Disputes.{IsClear, SharesByte, clear_notes}
 use Rattle.mxf_views.specs.declared.copy.CopyInfo.{CopyInfo}
+use Rattle.mxf_catalogue.specs.Content.{IsContent}
+use Rattle.mxf_views.specs.declared.kept.Arrival.{Arrival}
+use Rattle.mxf_views.specs.declared.kept.Kept.{Kept}
 use Rattle.mxf_views.specs.declared.kept.Placed.{Placed}
 use Rattle.mxf_views.specs.declared.kept.Placed.TheVariants as kinds
 use Rattle.mxf_views.specs.Copies.{copies_of, copy_of, has_metadata, is_fill, is_primer}
@@ -105,9 +110,47 @@ followed there offset start end offsets =
 abbrev pub notes_at : List NoteParts → List ℕ → List NoteParts
 notes_at notes offsets = filter_map (λ o. find (λ n. n.offset == o) (clear_notes notes)) offsets
 
--- What is kept of a content: where its partitions, segments and random index packs stand, and its copies.
-pub record Keeps (notes : List NoteParts) (partitions segments rips : List ℕ) (copies : List CopyInfo) : Type 0 where
-  pub partitions_are : partitions ≡ offsets_where (is_placed kinds.Partition) notes
-  pub segments_are : segments ≡ offsets_where (is_placed kinds.Segment) notes
-  pub rips_are : rips ≡ offsets_where (is_placed kinds.RandomIndexPack) notes
-  pub copies_are : copies ≡ copies_of notes
+-- What is kept: where partitions, segments and random index packs stand, and the copies.
+pub record KeptParts : Type 0 where
+  pub partitions : List ℕ
+  pub segments : List ℕ
+  pub rips : List ℕ
+  pub copies : List CopyInfo
+
+-- What is kept of a content.
+abbrev pub kept_of : List NoteParts → KeptParts
+kept_of notes = record {
+  partitions = offsets_where (is_placed kinds.Partition) notes;
+  segments = offsets_where (is_placed kinds.Segment) notes;
+  rips = offsets_where (is_placed kinds.RandomIndexPack) notes;
+  copies = copies_of notes;
+}
+
+abbrev pub kept_in : Kept → KeptParts
+kept_in k = record {
+  partitions = k.partitions.items;
+  segments = k.segments.items;
+  rips = k.random_index_packs.items;
+  copies = k.copies.items;
+}
+
+-- What is kept of a content fits without taking memory.
+pub record HasRoom (notes : List NoteParts) (k : Kept) : Type 0 where
+  pub partitions : count_by (is_placed kinds.Partition) (clear_notes notes) ≤ vec_capacity k.partitions
+  pub segments : count_by (is_placed kinds.Segment) (clear_notes notes) ≤ vec_capacity k.segments
+  pub rips : count_by (is_placed kinds.RandomIndexPack) (clear_notes notes) ≤ vec_capacity k.random_index_packs
+  pub copies : count_by states_metadata (clear_notes notes) ≤ vec_capacity k.copies
+
+-- One more of each fits without taking memory.
+pub record HasRoomForOne (k : Kept) : Type 0 where
+  pub partitions : vec_len k.partitions < vec_capacity k.partitions
+  pub segments : vec_len k.segments < vec_capacity k.segments
+  pub rips : vec_len k.random_index_packs < vec_capacity k.random_index_packs
+  pub copies : vec_len k.copies < vec_capacity k.copies
+
+-- What has to be known of a note that is added to a content.
+pub record IsArrival (x : NoteParts) (notes : List NoteParts) (a : Arrival) : Type 0 where
+  pub content : IsContent notes
+  pub hull : IsHull x notes a.start a.end
+  pub offset : a.offset ≡ x.offset
+  pub can_bring_start : a.can_bring_start ≡ can_bring_start x

@@ -1,14 +1,14 @@
 //! What the views keep of the clear notes: where partitions, index table segments and random index packs stand, and the
 //! copies of the header metadata.
-ghost use Rattle.std.specs.Prelude.{◌≡◌, ◌↔◌, ◌<◌, ◌≤◌, IsTrue, IfOk, OnOk, count_by, filter, length, map, ◌++◌, ◌∷◌, ◌+◌, [], vec_len, vec_capacity};
+ghost use Rattle.std.specs.Prelude.{◌≡◌, ◌≢◌, ◌↔◌, List, ◌<◌, ◌≤◌, IsTrue, IfOk, OnOk, count_by, filter, length, map, ◌++◌, ◌∷◌, ◌+◌, [], vec_len, vec_capacity};
 ghost use Rattle.std.specs.Ordering.{nat_cmp};
 ghost use Rattle.mxf_klv.specs.Parts.{NoteParts};
-ghost use Rattle.mxf_klv.specs.Rising.{IsRising, with_one};
-ghost use Rattle.mxf_catalogue.specs.Content.{IsCatalogue};
+ghost use Rattle.mxf_klv.specs.Rising.{In, IsRising, with_one};
+ghost use Rattle.mxf_catalogue.specs.Content.{IsCatalogue, IsContent, union_of, with_note};
 ghost use Rattle.mxf_catalogue.specs.Disputes.{IsClear, clear_notes};
 ghost use Rattle.std.specs.List.{AllWithin};
 ghost use Rattle.mxf_views.specs.Copies.{CopiesRise, copies_of};
-ghost use Rattle.mxf_views.specs.Kept.{IsHull, copy_by, can_bring_start, copies_followed, followed, is_outside, is_placed, may_change, offsets_where, renewed, stands_clear, states_metadata, Keeps, with_copy};
+ghost use Rattle.mxf_views.specs.Kept.{IsHull, copy_by, can_bring_start, copies_followed, followed, is_outside, is_placed, may_change, offsets_where, renewed, stands_clear, states_metadata, with_copy, HasRoom, HasRoomForOne, IsArrival, kept_in, kept_of};
 ghost use Rattle.mxf_views.specs.declared.kept.Placed.{Placed};
 
 use crate::copy::{CopyInfo, copy_of, copy_there, has_metadata};
@@ -65,10 +65,7 @@ pub(crate) struct Arrival {
 impl Arrival {
     /// What has to be known of a note before it is added to the catalogue.
     pub fn of(catalogue: &Catalogue, note: &Note) -> Arrival
-        ensures hull { IsHull note.now catalogue.now result.start result.end }
-        ensures offset { result.offset ≡ note.now.offset }
-        ensures can_bring_start { result.can_bring_start ≡ can_bring_start note.now }
-        ensures catalogue { IsCatalogue catalogue.now }
+        ensures { IsArrival note.now catalogue.now result }
     {
         let (start, end) = hull(catalogue, note);
         Arrival {
@@ -315,10 +312,7 @@ fn copy_by(catalogue: &Catalogue, note: &Note) -> Option<CopyInfo>
 impl Kept {
     /// What is kept of no note.
     pub fn new(alloc: Global) -> Kept
-        ensures partitions { result.partitions.items ≡ [] }
-        ensures segments { result.segments.items ≡ [] }
-        ensures random_index_packs { result.random_index_packs.items ≡ [] }
-        ensures copies { result.copies.items ≡ [] }
+        ensures { kept_in result ≡ kept_of [] }
     {
         Kept {
             partitions: Vec::new(alloc),
@@ -330,8 +324,7 @@ impl Kept {
 
     /// What is kept of a catalogue. It takes memory.
     pub fn of(alloc: Global, catalogue: &Catalogue) -> Result<Kept, AllocError>
-        ensures { IfOk result (λ k. Keeps catalogue.now k.partitions.items k.segments.items k.random_index_packs.items
-            k.copies.items) }
+        ensures { IfOk result (λ k. kept_in k ≡ kept_of catalogue.now) }
     {
         let mut kept = Kept::new(alloc);
         kept.reserve(catalogue)?;
@@ -341,15 +334,8 @@ impl Kept {
 
     /// Makes room for what an addition brings.
     pub fn make_room(&mut self) -> Result<(), AllocError>
-        ensures partitions { self.new.partitions.items ≡ self.old.partitions.items }
-        ensures segments { self.new.segments.items ≡ self.old.segments.items }
-        ensures random_index_packs { self.new.random_index_packs.items ≡ self.old.random_index_packs.items }
-        ensures copies { self.new.copies.items ≡ self.old.copies.items }
-        ensures partition_room { OnOk result (vec_len self.new.partitions < vec_capacity self.new.partitions) }
-        ensures segment_room { OnOk result (vec_len self.new.segments < vec_capacity self.new.segments) }
-        ensures random_index_room { OnOk result
-            (vec_len self.new.random_index_packs < vec_capacity self.new.random_index_packs) }
-        ensures copy_room { OnOk result (vec_len self.new.copies < vec_capacity self.new.copies) }
+        ensures kept { kept_in self.new ≡ kept_in self.old }
+        ensures room { OnOk result (HasRoomForOne self.new) }
     {
         self.partitions.reserve(1)?;
         self.segments.reserve(1)?;
@@ -357,20 +343,29 @@ impl Kept {
         self.copies.reserve(1)
     }
 
+    /// Makes room for what is kept of two catalogues, of which one is followed.
+    pub fn make_room_for(&mut self, own: &Catalogue, other: &Catalogue) -> Result<(), AllocError>
+        requires { kept_in self.old ≡ kept_of own.now }
+        ensures kept { kept_in self.new ≡ kept_in self.old }
+        ensures room { OnOk result (HasRoom (union_of own.now other.now) self.new) }
+    {
+        // What a catalogue lends says that its notes are those of a file.
+        let _own = own.notes();
+        let _others = other.notes();
+        self.reserve(other)
+    }
+
     /// Makes room for what is kept of another catalogue as well.
-    pub fn reserve(&mut self, other: &Catalogue) -> Result<(), AllocError>
-        ensures partitions { self.new.partitions.items ≡ self.old.partitions.items }
-        ensures segments { self.new.segments.items ≡ self.old.segments.items }
-        ensures random_index_packs { self.new.random_index_packs.items ≡ self.old.random_index_packs.items }
-        ensures copies { self.new.copies.items ≡ self.old.copies.items }
-        ensures partition_room { OnOk result (vec_len self.old.partitions
+    fn reserve(&mut self, other: &Catalogue) -> Result<(), AllocError>
+        ensures kept { kept_in self.new ≡ kept_in self.old }
+        ensures partitions { OnOk result (vec_len self.old.partitions
             + count_by (is_placed Placed.Partition) (clear_notes other.now) ≤ vec_capacity self.new.partitions) }
-        ensures segment_room { OnOk result (vec_len self.old.segments
+        ensures segments { OnOk result (vec_len self.old.segments
             + count_by (is_placed Placed.Segment) (clear_notes other.now) ≤ vec_capacity self.new.segments) }
-        ensures random_index_room { OnOk result (vec_len self.old.random_index_packs
+        ensures random_index_packs { OnOk result (vec_len self.old.random_index_packs
             + count_by (is_placed Placed.RandomIndexPack) (clear_notes other.now)
             ≤ vec_capacity self.new.random_index_packs) }
-        ensures copy_room { OnOk result (vec_len self.old.copies
+        ensures copies { OnOk result (vec_len self.old.copies
             + count_by states_metadata (clear_notes other.now) ≤ vec_capacity self.new.copies) }
     {
         self.partitions.reserve(count(other, Placed::Partition))?;
@@ -382,15 +377,8 @@ impl Kept {
 
     /// Puts what is kept of a catalogue in place of what is there, where there is room.
     pub fn refill(&mut self, catalogue: &Catalogue)
-        requires partition_room { count_by (is_placed Placed.Partition) (clear_notes catalogue.now)
-            ≤ vec_capacity self.old.partitions }
-        requires segment_room { count_by (is_placed Placed.Segment) (clear_notes catalogue.now)
-            ≤ vec_capacity self.old.segments }
-        requires random_index_room { count_by (is_placed Placed.RandomIndexPack) (clear_notes catalogue.now)
-            ≤ vec_capacity self.old.random_index_packs }
-        requires copy_room { count_by states_metadata (clear_notes catalogue.now) ≤ vec_capacity self.old.copies }
-        ensures { Keeps catalogue.now self.new.partitions.items self.new.segments.items
-            self.new.random_index_packs.items self.new.copies.items }
+        requires { HasRoom catalogue.now self.old }
+        ensures { kept_in self.new ≡ kept_of catalogue.now }
     {
         refill(&mut self.partitions, catalogue, Placed::Partition);
         refill(&mut self.segments, catalogue, Placed::Segment);
@@ -402,44 +390,22 @@ impl Kept {
         refill_copies(&mut self.copies, catalogue);
     }
 
-    /// Follows the arrival of a note in a catalogue, where there is room.
+    /// Follows the arrival of a note in a catalogue, where there is room: from what is kept of the notes before to what
+    /// is kept of them with the note.
     pub fn follow(&mut self, catalogue: &Catalogue, arrival: &Arrival)
-        requires partitions_rise { IsRising nat_cmp self.old.partitions.items }
-        requires segments_rise { IsRising nat_cmp self.old.segments.items }
-        requires random_index_packs_rise { IsRising nat_cmp self.old.random_index_packs.items }
-        requires copies_rise { CopiesRise self.old.copies.items }
-        requires partition_room { vec_len self.old.partitions < vec_capacity self.old.partitions }
-        requires segment_room { vec_len self.old.segments < vec_capacity self.old.segments }
-        requires random_index_room { vec_len self.old.random_index_packs < vec_capacity self.old.random_index_packs }
-        requires copy_room { vec_len self.old.copies < vec_capacity self.old.copies }
-        ensures partitions { self.new.partitions.items
-            ≡ followed (stands_clear (is_placed Placed.Partition) catalogue.now arrival.now.offset)
-            arrival.now.offset arrival.now.start arrival.now.end self.old.partitions.items }
-        ensures segments { self.new.segments.items
-            ≡ followed (stands_clear (is_placed Placed.Segment) catalogue.now arrival.now.offset)
-            arrival.now.offset arrival.now.start arrival.now.end self.old.segments.items }
-        ensures random_index_packs { self.new.random_index_packs.items
-            ≡ followed (stands_clear (is_placed Placed.RandomIndexPack) catalogue.now arrival.now.offset)
-            arrival.now.offset arrival.now.start arrival.now.end self.old.random_index_packs.items }
-        ensures copies { self.new.copies.items ≡ copies_followed catalogue.now arrival.now.offset arrival.now.start
-            arrival.now.end arrival.now.can_bring_start self.old.copies.items }
+        requires kept { (notes : List NoteParts) × IsContent notes × (kept_in self.old ≡ kept_of notes) }
+        requires room { HasRoomForOne self.old }
+        ensures { (x : NoteParts) (notes : List NoteParts) → ¬ In x notes → IsArrival x notes arrival.now
+            → catalogue.now ≡ with_note x notes → kept_in self.old ≡ kept_of notes
+            → kept_in self.new ≡ kept_of catalogue.now }
     {
         let at = arrival.offset;
-        follow(
-            &mut self.partitions,
-            arrival,
-            stands(catalogue, Placed::Partition, at),
-        );
-        follow(
-            &mut self.segments,
-            arrival,
-            stands(catalogue, Placed::Segment, at),
-        );
-        follow(
-            &mut self.random_index_packs,
-            arrival,
-            stands(catalogue, Placed::RandomIndexPack, at),
-        );
+        let partition = stands(catalogue, Placed::Partition, at);
+        let segment = stands(catalogue, Placed::Segment, at);
+        let random_index_pack = stands(catalogue, Placed::RandomIndexPack, at);
+        follow(&mut self.partitions, arrival, partition);
+        follow(&mut self.segments, arrival, segment);
+        follow(&mut self.random_index_packs, arrival, random_index_pack);
         follow_copies(&mut self.copies, catalogue, arrival);
     }
 }

@@ -52,14 +52,14 @@ impl Model for Views {
     ghost use Rattle.std.specs.Prelude.{List};
     ghost use Rattle.mxf_klv.specs.Parts.{NoteParts};
 
-    ghost use Rattle.mxf_views.specs.Kept.{Keeps};
+    ghost use Rattle.std.specs.Prelude.{◌≡◌};
+    ghost use Rattle.mxf_views.specs.Kept.{kept_in, kept_of};
 
     ghost Value = { List NoteParts };
 
     ghost view = { λ v. v.catalogue };
 
-    ghost invariant = { λ v. Keeps v.catalogue v.kept.partitions.items v.kept.segments.items
-        v.kept.random_index_packs.items v.kept.copies.items };
+    ghost invariant = { λ v. kept_in v.kept ≡ kept_of v.catalogue };
 }
 
 /// A catalogue that makes no views, for want of memory: it comes back.
@@ -104,13 +104,13 @@ impl Views {
         ensures err { OnErr result (self.new ≡ self.old) }
         ensures history { (h : History) → self.old ≡ content h → OnOk result (self.new ≡ content (Add h note)) }
     {
+        let arrival = Arrival::of(&self.catalogue, &note);
         if self.catalogue.holds(&note) {
             return Ok(Change::Repeated);
         }
         let Ok(()) = self.kept.make_room() else {
             return Err(AddFault { note });
         };
-        let arrival = Arrival::of(&self.catalogue, &note);
         let change = self.catalogue.add(note)?;
         self.kept.follow(&self.catalogue, &arrival);
         Ok(change)
@@ -138,7 +138,7 @@ impl Views {
         ensures history { (h k : History) → self.old ≡ content h → other ≡ content k
             → OnOk result (self.new ≡ content (Join h k)) }
     {
-        let Ok(()) = self.kept.reserve(&other) else {
+        let Ok(()) = self.kept.make_room_for(&self.catalogue, &other) else {
             return Err(MergeFault { other });
         };
         self.catalogue.merge(other)?;
