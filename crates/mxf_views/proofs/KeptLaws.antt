@@ -1,6 +1,8 @@
 -- What is kept of a content, and what an addition makes of it.
 use Rattle.std.proofs.Common.{◌≡◌, ℕ, Bool, List, [], refl, sym, ap, subst, ◌∙◌}
 use Rattle.mxf_klv.specs.Parts.{NoteParts}
+use Rattle.mxf_klv.specs.NoteOrder.{note_cmp-IsAntisymmetric, note_total}
+use Rattle.mxf_klv.proofs.RisingLemmas.{with_one_present}
 use Rattle.mxf_klv.specs.Rising.{In}
 use Rattle.mxf_catalogue.specs.Content.{IsContent, with_note}
 use Rattle.mxf_catalogue.specs.Disputes.{clear_notes}
@@ -17,6 +19,10 @@ use Rattle.mxf_views.proofs.ListSteps.{filter_map_some}
 
 abbrev pub the_kept : List ℕ → List ℕ → List ℕ → List CopyInfo → KeptParts
 the_kept ps ss rs cs = record { partitions = ps; segments = ss; rips = rs; copies = cs }
+
+-- A note that is held changes nothing.
+pub with_note_held : (n : NoteParts) (notes : List NoteParts) → IsContent notes → In n notes → with_note n notes ≡ notes
+with_note_held n notes r h = with_one_present note_total note_cmp-IsAntisymmetric n notes r h
 
 -- What is kept of no note.
 pub kept_of_none : kept_of [] ≡ record { partitions = []; segments = []; rips = []; copies = [] }

@@ -1,5 +1,5 @@
 -- How much room is wanted for what is kept of two contents.
-use Rattle.std.proofs.Common.{◌≡◌, ◌≤◌, ◌+◌, ◌⊎◌, ℕ, Bool, true, false, cond, List, [], ◌∷◌, refl, sym, ap, subst, ◌∙◌, inl, inr, arith, length}
+use Rattle.std.proofs.Common.{Ok, Err, ◌≡◌, ◌≤◌, ◌+◌, ◌⊎◌, ℕ, Bool, true, false, cond, List, [], ◌∷◌, refl, sym, ap, subst, ◌∙◌, inl, inr, arith, length}
 use Rattle.std.specs.Prelude.{count_by, filter, map}
 use Rattle.std.proofs.lemmas.List.{length-map}
 use Rattle.mxf_klv.specs.NoteOrder.{note_total}
@@ -15,7 +15,12 @@ use Rattle.mxf_catalogue.proofs.Lists.{In-filter}
 use Rattle.mxf_catalogue.proofs.MergeLaws.{length-union_of}
 use Rattle.mxf_catalogue.proofs.SpanLaws.{not_same}
 use Rattle.mxf_views.specs.Copies.{copies_of}
-use Rattle.mxf_views.specs.Kept.{offsets_where, states_metadata}
+use Rattle.std.specs.Prelude.{OnOk}
+use Rattle.std.specs.declared.result.Result.{Result}
+use Rattle.std.specs.Vec.{vec_capacity, vec_len}
+use Rattle.mxf_views.specs.declared.kept.Kept.{Kept}
+use Rattle.mxf_views.specs.declared.kept.Placed.TheVariants as kinds
+use Rattle.mxf_views.specs.Kept.{HasRoom, KeptParts, is_placed, kept_in, kept_of, offsets_where, states_metadata}
 use Rattle.mxf_views.proofs.CopyUpdates.{length-copies_of}
 use Rattle.mxf_views.proofs.Members.{count_by-cons, tally}
 
@@ -89,3 +94,37 @@ count_in_union test a b r s =
     let cb = count_is_length test (clear_notes b) in
     let cu = count_is_length test (clear_notes (union_of a b)) in
     omega (arith, sub, both, ca, cb, cu)
+
+-- Room for those of another besides what is kept is room for the union.
+pub room_for_both : {E : Type 0} (own other : List NoteParts) (old k : Kept) (result : Result (Unit {0}) E)
+    → IsContent own → IsContent other → kept_in old ≡ kept_of own
+    → OnOk result (vec_len old.partitions + count_by (is_placed kinds.Partition) (clear_notes other)
+    ≤ vec_capacity k.partitions)
+    → OnOk result (vec_len old.segments + count_by (is_placed kinds.Segment) (clear_notes other)
+    ≤ vec_capacity k.segments)
+    → OnOk result (vec_len old.random_index_packs + count_by (is_placed kinds.RandomIndexPack) (clear_notes other)
+    ≤ vec_capacity k.random_index_packs)
+    → OnOk result (vec_len old.copies + count_by states_metadata (clear_notes other) ≤ vec_capacity k.copies)
+    → OnOk result (HasRoom (union_of own other) k)
+room_for_both own other old k (Err e) r s keeps a b c d = tt
+room_for_both own other old k (Ok u) r s keeps a b c d =
+    let one = λ (kind : _) (len cap : ℕ) (os : List ℕ) (l : len ≡ length os)
+    (same : os ≡ offsets_where (is_placed kind) own)
+    (room : len + count_by (is_placed kind) (clear_notes other) ≤ cap).
+    let number = l ∙ ap length same ∙ length-offsets_where (is_placed kind) own in
+    let both = count_in_union (is_placed kind) own other r s in
+    let fits : count_by (is_placed kind) (clear_notes (union_of own other)) ≤ cap = omega (arith, number, both, room) in
+    fits in
+    record {
+      partitions = one kinds.Partition old.partitions.len (vec_capacity k.partitions) old.partitions.items
+      old.partitions.ok (ap (λ (p : KeptParts). p.partitions) keeps) a;
+      segments = one kinds.Segment old.segments.len (vec_capacity k.segments) old.segments.items
+      old.segments.ok (ap (λ (p : KeptParts). p.segments) keeps) b;
+      rips = one kinds.RandomIndexPack old.random_index_packs.len (vec_capacity k.random_index_packs)
+      old.random_index_packs.items old.random_index_packs.ok (ap (λ (p : KeptParts). p.rips) keeps) c;
+      copies =
+      (let number = ap length (ap (λ (p : KeptParts). p.copies) keeps) ∙ length-kept_copies own in
+      let both = count_in_union states_metadata own other r s in
+      let fits : count_by states_metadata (clear_notes (union_of own other)) ≤ vec_capacity k.copies =
+      omega (arith, number, both, d, old.copies.ok) in fits);
+    }

@@ -2,6 +2,8 @@ use Rattle.std.proofs.Common.{rules, ◌≡◌, ◌≤◌, ◌∙◌, ap, arith,
 use Rattle.std.specs.Prelude.{List, ◌&&◌, is_some, nat_lt}
 use Rattle.mxf_klv.specs.Parts.{NoteParts}
 use Rattle.mxf_catalogue.specs.Disputes.{AreApart}
+use Rattle.mxf_klv.specs.Note.{end_of}
+use Rattle.mxf_catalogue.proofs.SpanLaws.{AreApart-lower}
 use Rattle.mxf_views.specs.Partitions.{partition_at, partitions_among, partitions_of, stands_between}
 use Rattle.mxf_views.proofs.PartitionSearch.{between_found, between_from, between_passes, between_stops}
 use Rattle.mxf_views.proofs.partition.stands_between.Goals as goal
@@ -46,4 +48,5 @@ loop-note-preserved c =
     let i = subst (λ (l : List NoteParts). (stands_between low high (partitions_among l) ≡ all) × AreApart 0 l)
     c.in-Some.ensures.steps c.loop-note.invariant in
     let no : (nat_lt low c.in-Some.note.now.offset && is_some (partition_at c.in-Some.note.now)) ≡ false = search rules in
-    (sym (between_passes low high c.in-Some.note.now c.next.new.self no) ∙ i.0, search rules)
+    (sym (between_passes low high c.in-Some.note.now c.next.new.self no) ∙ i.0,
+    AreApart-lower 0 (end_of c.in-Some.note.now) c.next.new.self (omega arith) i.1.1)
