@@ -117,14 +117,14 @@ room_for_both own other old k (Ok u) r s keeps a b c d =
     fits in
     record {
       partitions = one kinds.Partition old.partitions.len (vec_capacity k.partitions) old.partitions.items
-      old.partitions.ok (ap (λ (p : KeptParts). p.partitions) keeps) a;
+      old.partitions.ok.0 (ap (λ (p : KeptParts). p.partitions) keeps) a;
       segments = one kinds.Segment old.segments.len (vec_capacity k.segments) old.segments.items
-      old.segments.ok (ap (λ (p : KeptParts). p.segments) keeps) b;
+      old.segments.ok.0 (ap (λ (p : KeptParts). p.segments) keeps) b;
       rips = one kinds.RandomIndexPack old.random_index_packs.len (vec_capacity k.random_index_packs)
-      old.random_index_packs.items old.random_index_packs.ok (ap (λ (p : KeptParts). p.rips) keeps) c;
+      old.random_index_packs.items old.random_index_packs.ok.0 (ap (λ (p : KeptParts). p.rips) keeps) c;
       copies =
       (let number = ap length (ap (λ (p : KeptParts). p.copies) keeps) ∙ length-kept_copies own in
       let both = count_in_union states_metadata own other r s in
       let fits : count_by states_metadata (clear_notes (union_of own other)) ≤ vec_capacity k.copies =
-      omega (arith, number, both, d, old.copies.ok) in fits);
+      omega (arith, number, both, d, old.copies.ok.0) in fits);
     }
