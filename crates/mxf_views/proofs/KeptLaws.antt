@@ -7,7 +7,7 @@ use Rattle.mxf_klv.specs.Rising.{In}
 use Rattle.mxf_catalogue.specs.Content.{IsContent, with_note}
 use Rattle.mxf_catalogue.specs.Disputes.{clear_notes}
 use Rattle.mxf_views.specs.declared.copy.CopyInfo.{CopyInfo}
-use Rattle.mxf_views.specs.declared.kept.Placed.TheVariants as kinds
+use Rattle.mxf_views.specs.declared.kept.offsets.Placed.TheVariants as kinds
 use Rattle.mxf_views.specs.Copies.{copies_of}
 use Rattle.mxf_views.specs.Kept.{IsHull, KeptParts, kept_of, can_bring_start, copies_followed, followed, is_placed, notes_at, offsets_where, stands_clear}
 use Rattle.mxf_views.specs.Partitions.{partition_at, partitions_among, partitions_of}

@@ -19,7 +19,7 @@ use Rattle.std.specs.Prelude.{OnOk}
 use Rattle.std.specs.declared.result.Result.{Result}
 use Rattle.std.specs.Vec.{vec_capacity, vec_len}
 use Rattle.mxf_views.specs.declared.kept.Kept.{Kept}
-use Rattle.mxf_views.specs.declared.kept.Placed.TheVariants as kinds
+use Rattle.mxf_views.specs.declared.kept.offsets.Placed.TheVariants as kinds
 use Rattle.mxf_views.specs.Kept.{HasRoom, KeptParts, is_placed, kept_in, kept_of, offsets_where, states_metadata}
 use Rattle.mxf_views.proofs.CopyUpdates.{length-copies_of}
 use Rattle.mxf_views.proofs.Members.{count_by-cons, tally}

@@ -13,10 +13,10 @@ use Rattle.mxf_klv.specs.Rising.{with_one}
 use Rattle.mxf_catalogue.specs.Disputes.{IsClear, SharesByte, clear_notes}
 use Rattle.mxf_views.specs.declared.copy.CopyInfo.{CopyInfo}
 use Rattle.mxf_catalogue.specs.Content.{IsContent}
-use Rattle.mxf_views.specs.declared.kept.Arrival.{Arrival}
+use Rattle.mxf_views.specs.declared.kept.arrival.Arrival.{Arrival}
 use Rattle.mxf_views.specs.declared.kept.Kept.{Kept}
-use Rattle.mxf_views.specs.declared.kept.Placed.{Placed}
-use Rattle.mxf_views.specs.declared.kept.Placed.TheVariants as kinds
+use Rattle.mxf_views.specs.declared.kept.offsets.Placed.{Placed}
+use Rattle.mxf_views.specs.declared.kept.offsets.Placed.TheVariants as kinds
 use Rattle.mxf_views.specs.Copies.{copies_of, copy_of, has_metadata, is_fill, is_primer}
 use Rattle.mxf_views.specs.Partitions.{PartitionParts, partition_at}
 use Rattle.mxf_views.specs.Places.{placed_segment}

@@ -1,7 +1,7 @@
 use Rattle.std.proofs.Common.{◌∙◌, ap, subst, sym}
 use Rattle.std.specs.Ordering.{nat_cmp}
 use Rattle.mxf_klv.specs.Rising.{IsRising}
-use Rattle.mxf_views.specs.declared.kept.Placed.TheVariants as kinds
+use Rattle.mxf_views.specs.declared.kept.offsets.Placed.TheVariants as kinds
 use Rattle.mxf_views.specs.Copies.{CopiesRise}
 use Rattle.mxf_views.specs.Kept.{KeptParts, followed, is_placed}
 use Rattle.mxf_views.proofs.ClearChanges.{offsets_rise}

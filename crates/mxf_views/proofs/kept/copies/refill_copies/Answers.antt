@@ -4,7 +4,7 @@ use Rattle.std.specs.List.{filter_map}
 use Rattle.mxf_catalogue.specs.Disputes.{clear_notes}
 use Rattle.mxf_views.specs.Kept.{copy_by, states_metadata}
 use Rattle.mxf_views.proofs.CopyUpdates.{copies_by_notes}
-use Rattle.mxf_views.proofs.kept.refill_copies.Goals as goal
+use Rattle.mxf_views.proofs.kept.copies.refill_copies.Goals as goal
 
 pub loop-note-init : goal.loop-note-init
 loop-note-init c =

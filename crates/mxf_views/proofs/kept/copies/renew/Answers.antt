@@ -4,7 +4,7 @@ use Rattle.mxf_klv.specs.declared.kinds.Status.TheVariants.{OpenIncomplete}
 use Rattle.mxf_views.specs.declared.copy.CopyInfo.{CopyInfo}
 use Rattle.mxf_views.specs.Kept.{renewed}
 use Rattle.mxf_views.proofs.ListSteps.{next_changed}
-use Rattle.mxf_views.proofs.kept.renew.Goals as goal
+use Rattle.mxf_views.proofs.kept.copies.renew.Goals as goal
 
 pub loop-copy-preserved : goal.loop-copy-preserved
 loop-copy-preserved c =

@@ -3,7 +3,7 @@ use Rattle.std.specs.Ordering.{nat_cmp}
 use Rattle.mxf_klv.specs.Rising.{IsRising}
 use Rattle.mxf_views.specs.Kept.{is_outside}
 use Rattle.mxf_views.proofs.ClearChanges.{rising-filter}
-use Rattle.mxf_views.proofs.kept.follow.Goals as goal
+use Rattle.mxf_views.proofs.kept.offsets.follow.Goals as goal
 
 pub put_offset-requires-clause-rising : goal.put_offset-requires-clause-rising
 put_offset-requires-clause-rising c =

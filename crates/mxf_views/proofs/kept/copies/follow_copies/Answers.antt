@@ -2,7 +2,7 @@ use Rattle.std.proofs.Common.{◌∙◌, ap, map, subst, sym}
 use Rattle.mxf_views.specs.Copies.{CopiesRise}
 use Rattle.mxf_views.specs.Kept.{renewed}
 use Rattle.mxf_views.proofs.CopyUpdates.{kept_copies_rise}
-use Rattle.mxf_views.proofs.kept.follow_copies.Goals as goal
+use Rattle.mxf_views.proofs.kept.copies.follow_copies.Goals as goal
 
 pub put_copy-requires-clause-rising : goal.put_copy-requires-clause-rising
 put_copy-requires-clause-rising c =

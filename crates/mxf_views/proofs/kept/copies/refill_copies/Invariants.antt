@@ -5,7 +5,7 @@ use Rattle.std.specs.List.{filter_map}
 use Rattle.mxf_catalogue.specs.Disputes.{clear_notes}
 use Rattle.mxf_views.specs.Copies.{copies_of}
 use Rattle.mxf_views.specs.Kept.{copy_by, states_metadata}
-use Rattle.mxf_views.proofs.kept.refill_copies.Given as goal
+use Rattle.mxf_views.proofs.kept.copies.refill_copies.Given as goal
 
 abbrev pub invariant-loop-note : goal.invariant-loop-note
 invariant-loop-note l =

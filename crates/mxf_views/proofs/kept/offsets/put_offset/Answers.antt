@@ -7,7 +7,7 @@ use Rattle.std.proofs.lemmas.Cmp.{nat_cmp_total}
 use Rattle.mxf_klv.specs.Rising.{In, IsPlaceOf, IsRising, with_one}
 use Rattle.mxf_klv.proofs.RisingLemmas.{with_one_present}
 use Rattle.mxf_catalogue.proofs.Places.{search_says}
-use Rattle.mxf_views.proofs.kept.put_offset.Goals as goal
+use Rattle.mxf_views.proofs.kept.offsets.put_offset.Goals as goal
 
 pub returns-in-Ok : goal.returns-in-Ok
 returns-in-Ok c =

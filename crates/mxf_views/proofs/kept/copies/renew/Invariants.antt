@@ -1,6 +1,6 @@
 use Rattle.std.proofs.Common.{◌≡◌, ◌++◌, drop, map, take}
 use Rattle.mxf_views.specs.Kept.{renewed}
-use Rattle.mxf_views.proofs.kept.renew.Given as goal
+use Rattle.mxf_views.proofs.kept.copies.renew.Given as goal
 
 abbrev pub invariant-loop-copy : goal.invariant-loop-copy
 invariant-loop-copy l =

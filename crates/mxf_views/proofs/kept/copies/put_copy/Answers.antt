@@ -2,7 +2,7 @@ use Rattle.std.proofs.Common.{◌∙◌, ap, sym}
 use Rattle.std.specs.List.{insert}
 use Rattle.mxf_views.specs.Kept.{with_copy}
 use Rattle.mxf_views.proofs.CopyUpdates.{inserted_copy}
-use Rattle.mxf_views.proofs.kept.put_copy.Goals as goal
+use Rattle.mxf_views.proofs.kept.copies.put_copy.Goals as goal
 
 pub returns : goal.returns
 returns c =

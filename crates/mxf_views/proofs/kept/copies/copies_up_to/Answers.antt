@@ -2,7 +2,7 @@ use Rattle.std.proofs.Common.{rules, nat_le}
 use Rattle.std.proofs.lemmas.Bool.{leb-true, leb-false}
 use Rattle.std.proofs.lemmas.List.Sorted.{IsPartitionPoint-from_clause, IsPartitionedBy-leb}
 use Rattle.mxf_views.proofs.CopyUpdates.{partitions_of_copies_rise}
-use Rattle.mxf_views.proofs.kept.copies_up_to.Goals as goal
+use Rattle.mxf_views.proofs.kept.copies.copies_up_to.Goals as goal
 
 pub returns : goal.returns
 returns c =

@@ -2,7 +2,7 @@
 use Rattle.std.proofs.Common.{◌≡◌, ◌+◌, ◌++◌, ◌≤◌, map, vec_capacity, vec_len}
 use Rattle.std.specs.Prelude.{count_by, filter}
 use Rattle.mxf_views.specs.Kept.{is_placed, offsets_where}
-use Rattle.mxf_views.proofs.kept.refill.Given as goal
+use Rattle.mxf_views.proofs.kept.offsets.refill.Given as goal
 
 abbrev pub invariant-loop-note : goal.invariant-loop-note
 invariant-loop-note l =

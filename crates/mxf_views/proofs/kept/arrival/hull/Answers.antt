@@ -1,7 +1,7 @@
 use Rattle.std.proofs.Common.{◌≡◌, ◌∙◌, ap, subst, sym}
 use Rattle.std.specs.Prelude.{max, min}
 use Rattle.mxf_views.proofs.ClearChanges.{HullSoFar, hull_of_all, hull_of_one, hull_with}
-use Rattle.mxf_views.proofs.kept.hull.Goals as goal
+use Rattle.mxf_views.proofs.kept.arrival.hull.Goals as goal
 
 pub loop-other-init : goal.loop-other-init
 loop-other-init c =
