@@ -74,31 +74,31 @@ lies_outside x n notes start end h c far =
     elim (nat_lt x.offset (end_of n)) as (λ b. nat_lt x.offset (end_of n) ≡ b
     → (end_of n ≤ start) ⊎ (end ≤ n.offset)) [
       | false ↦ λ e. (
-        let low : end_of n ≤ x.offset = ltb-false x.offset (end_of n) e in
-        elim h.least [
-          | inl q ↦ inl (omega (arith, q, low))
-          | inr m ↦ (
-            let q : start ≡ m.0.offset = m.3 in
-            let l : x.offset < end_of m.0 = shared_low x m.0 m.2 in
-            let other : n ≡ m.0 → ⊥ = λ s. far (subst (SharesByte x) (sym s) m.2) in
-            let o : end_of n ≤ m.0.offset = ordered notes n m.0 c m.1 other (omega (arith, l, low)) in
-            inl (omega (arith, q, o)))
-        ])
+          let low : end_of n ≤ x.offset = ltb-false x.offset (end_of n) e in
+          elim h.least [
+            | inl q ↦ inl (omega (arith, q, low))
+            | inr m ↦ (
+                let q : start ≡ m.0.offset = m.3 in
+                let l : x.offset < end_of m.0 = shared_low x m.0 m.2 in
+                let other : n ≡ m.0 → ⊥ = λ s. far (subst (SharesByte x) (sym s) m.2) in
+                let o : end_of n ≤ m.0.offset = ordered notes n m.0 c m.1 other (omega (arith, l, low)) in
+                inl (omega (arith, q, o)))
+          ])
       | true ↦ λ e. (
-        let high : end_of x ≤ n.offset =
-        elim (nat_lt n.offset (end_of x)) as (λ b. nat_lt n.offset (end_of x) ≡ b → end_of x ≤ n.offset) [
-          | true ↦ λ f. absurd (far (shares x n (ltb-true x.offset (end_of n) e) (ltb-true n.offset (end_of x) f)))
-          | false ↦ λ f. ltb-false n.offset (end_of x) f
-        ] refl in
-        elim h.greatest [
-          | inl q ↦ inr (omega (arith, q, high))
-          | inr m ↦ (
-            let q : end ≡ end_of m.0 = m.3 in
-            let l : m.0.offset < end_of x = shared_low m.0 x (SharesByte-symmetric x m.0 m.2) in
-            let other : m.0 ≡ n → ⊥ = λ s. far (subst (SharesByte x) s m.2) in
-            let o : end_of m.0 ≤ n.offset = ordered notes m.0 n m.1 c other (omega (arith, l, high)) in
-            inr (omega (arith, q, o)))
-        ])
+          let high : end_of x ≤ n.offset =
+          elim (nat_lt n.offset (end_of x)) as (λ b. nat_lt n.offset (end_of x) ≡ b → end_of x ≤ n.offset) [
+            | true ↦ λ f. absurd (far (shares x n (ltb-true x.offset (end_of n) e) (ltb-true n.offset (end_of x) f)))
+            | false ↦ λ f. ltb-false n.offset (end_of x) f
+          ] refl in
+          elim h.greatest [
+            | inl q ↦ inr (omega (arith, q, high))
+            | inr m ↦ (
+                let q : end ≡ end_of m.0 = m.3 in
+                let l : m.0.offset < end_of x = shared_low m.0 x (SharesByte-symmetric x m.0 m.2) in
+                let other : m.0 ≡ n → ⊥ = λ s. far (subst (SharesByte x) s m.2) in
+                let o : end_of m.0 ≤ n.offset = ordered notes m.0 n m.1 c other (omega (arith, l, high)) in
+                inr (omega (arith, q, o)))
+          ])
     ] refl
 
 outside_by : (start end : ℕ) (n : NoteParts) → (end_of n ≤ start) ⊎ (end ≤ n.offset)
@@ -162,38 +162,38 @@ hull_with x notes start end m left h =
       all = λ n c s. elim (h.all n c s) [
         | inl k ↦ elim k [
           | inl e ↦ inr (subst (λ (y : NoteParts). (min start m.offset ≤ y.offset) × (end_of y ≤ max end (end_of m))) (sym e)
-            (omega arith, omega arith))
+              (omega arith, omega arith))
           | inr i ↦ inl i
         ]
         | inr b ↦ (
-          let l : start ≤ n.offset = b.0 in
-          let g : end_of n ≤ end = b.1 in
-          let p : min start m.offset ≤ n.offset = omega arith in
-          let q : end_of n ≤ max end (end_of m) = omega arith in inr (p, q))
+            let l : start ≤ n.offset = b.0 in
+            let g : end_of n ≤ end = b.1 in
+            let p : min start m.offset ≤ n.offset = omega arith in
+            let q : end_of n ≤ max end (end_of m) = omega arith in inr (p, q))
       ];
       members = λ n k. h.members n (inr k);
       least =
-      elim (nat_lt start m.offset) as (λ b. nat_lt start m.offset ≡ b → (min start m.offset ≡ x.offset)
-      ⊎ ((n : NoteParts) × IsClear n notes × SharesByte x n × (min start m.offset ≡ n.offset))) [
-        | true ↦ λ t. (
-          let l : start < m.offset = ltb-true start m.offset t in
-          let same : min start m.offset ≡ start = omega arith in
-          elim h.least [ inl e ↦ inl (same ∙ e) | inr n ↦ inr (n.0, n.1, n.2, same ∙ n.3) ])
-        | false ↦ λ t. (
-          let l : m.offset ≤ start = ltb-false start m.offset t in
-          let same : min start m.offset ≡ m.offset = omega arith in inr (m, own.0, own.1, same))
-      ] refl;
+          elim (nat_lt start m.offset) as (λ b. nat_lt start m.offset ≡ b → (min start m.offset ≡ x.offset)
+          ⊎ ((n : NoteParts) × IsClear n notes × SharesByte x n × (min start m.offset ≡ n.offset))) [
+            | true ↦ λ t. (
+                let l : start < m.offset = ltb-true start m.offset t in
+                let same : min start m.offset ≡ start = omega arith in
+                elim h.least [ inl e ↦ inl (same ∙ e) | inr n ↦ inr (n.0, n.1, n.2, same ∙ n.3) ])
+            | false ↦ λ t. (
+                let l : m.offset ≤ start = ltb-false start m.offset t in
+                let same : min start m.offset ≡ m.offset = omega arith in inr (m, own.0, own.1, same))
+          ] refl;
       greatest =
-      elim (nat_lt end (end_of m)) as (λ b. nat_lt end (end_of m) ≡ b → (max end (end_of m) ≡ end_of x)
-      ⊎ ((n : NoteParts) × IsClear n notes × SharesByte x n × (max end (end_of m) ≡ end_of n))) [
-        | true ↦ λ t. (
-          let l : end < end_of m = ltb-true end (end_of m) t in
-          let same : max end (end_of m) ≡ end_of m = omega arith in inr (m, own.0, own.1, same))
-        | false ↦ λ t. (
-          let l : end_of m ≤ end = ltb-false end (end_of m) t in
-          let same : max end (end_of m) ≡ end = omega arith in
-          elim h.greatest [ inl e ↦ inl (same ∙ e) | inr n ↦ inr (n.0, n.1, n.2, same ∙ n.3) ])
-      ] refl;
+          elim (nat_lt end (end_of m)) as (λ b. nat_lt end (end_of m) ≡ b → (max end (end_of m) ≡ end_of x)
+          ⊎ ((n : NoteParts) × IsClear n notes × SharesByte x n × (max end (end_of m) ≡ end_of n))) [
+            | true ↦ λ t. (
+                let l : end < end_of m = ltb-true end (end_of m) t in
+                let same : max end (end_of m) ≡ end_of m = omega arith in inr (m, own.0, own.1, same))
+            | false ↦ λ t. (
+                let l : end_of m ≤ end = ltb-false end (end_of m) t in
+                let same : max end (end_of m) ≡ end = omega arith in
+                elim h.greatest [ inl e ↦ inl (same ∙ e) | inr n ↦ inr (n.0, n.1, n.2, same ∙ n.3) ])
+          ] refl;
       low = let l : start ≤ x.offset = h.low in omega arith;
       high = let l : end_of x ≤ end = h.high in omega arith;
     }
@@ -260,10 +260,10 @@ offsets_with test x notes start end r new h clear kind =
       λ k. elim (one.0 k) [
         | inl e ↦ all.1 (x, clear, kind, e)
         | inr i ↦ (
-          let b = kept.0 i in
-          let s = old.0 b.0 in
-          let out : is_outside start end s.0.offset ≡ true = ap (is_outside start end) (sym s.3) ∙ b.1 in
-          all.1 (s.0, (clear_after x notes new s.0).1 (inr (s.1, (outside_iff x s.0 notes start end h s.1).1 out)), s.2, s.3))
+            let b = kept.0 i in
+            let s = old.0 b.0 in
+            let out : is_outside start end s.0.offset ≡ true = ap (is_outside start end) (sym s.3) ∙ b.1 in
+            all.1 (s.0, (clear_after x notes new s.0).1 (inr (s.1, (outside_iff x s.0 notes start end h s.1).1 out)), s.2, s.3))
       ],
       λ k.
           let s = all.0 k in
@@ -321,15 +321,15 @@ offsets_follow test x notes start end r new h =
           none_found (λ (n : NoteParts). n.offset == x.offset) (clear_notes after) x e ((In-clear_notes x after).1 clear)
           (eq-eqb x.offset x.offset refl))
       | Some n ↦ λ e. (
-        let f = found-In (λ (n : NoteParts). n.offset == x.offset) (clear_notes after) n e in
-        let clear = (In-clear_notes n after).0 f.0 in
-        let same : n ≡ x = clear-alone n x after clear held (eqb-true n.offset x.offset f.1) in
-        let own : IsClear x after = subst (λ (y : NoteParts). IsClear y after) same clear in
-        elim (test n) as (λ b. test n ≡ b → followed b x.offset start end offsets ≡ offsets_where test after) [
-          | true ↦ λ t. offsets_with test x notes start end r new h own (ap test (sym same) ∙ t)
-          | false ↦ λ t. offsets_without test x notes start end r new h (λ c u.
-              let v : test n ≡ true = ap test same ∙ u in cc (v, t))
-        ] refl)
+          let f = found-In (λ (n : NoteParts). n.offset == x.offset) (clear_notes after) n e in
+          let clear = (In-clear_notes n after).0 f.0 in
+          let same : n ≡ x = clear-alone n x after clear held (eqb-true n.offset x.offset f.1) in
+          let own : IsClear x after = subst (λ (y : NoteParts). IsClear y after) same clear in
+          elim (test n) as (λ b. test n ≡ b → followed b x.offset start end offsets ≡ offsets_where test after) [
+            | true ↦ λ t. offsets_with test x notes start end r new h own (ap test (sym same) ∙ t)
+            | false ↦ λ t. offsets_without test x notes start end r new h (λ c u.
+                let v : test n ≡ true = ap test same ∙ u in cc (v, t))
+          ] refl)
     ] refl
 
 -- ---- the notes at their offsets

@@ -116,10 +116,10 @@ without_start_stays x notes p r new none s =
     elim ((clear_after x notes new n).0 c) [
       | inr q ↦ q.0
       | inl q ↦ (
-        let brings : can_bring_start x ≡ true = elim k [
-          | inl f ↦ brings_by_fill x (ap is_fill_note (sym q.0) ∙ f)
-          | inr f ↦ brings_by_primer x (ap is_readable_primer (sym q.0) ∙ f)
-        ] in absurd cc (brings, none))
+          let brings : can_bring_start x ≡ true = elim k [
+            | inl f ↦ brings_by_fill x (ap is_fill_note (sym q.0) ∙ f)
+            | inr f ↦ brings_by_primer x (ap is_readable_primer (sym q.0) ∙ f)
+          ] in absurd cc (brings, none))
     ])
 
 -- ---- all copies outside
@@ -173,22 +173,22 @@ becomes x notes start end c r new h k out =
       states = a.states;
       offset = a.offset;
       copy = elim (may_change start end brings c c.start) as (λ b. may_change start end brings c c.start ≡ b
-      → cond b (or_itself c (find (λ d. d.partition == c.partition) (copies_of after))) c
-      ≡ copy_of (clear_notes after) p) [
-        | true ↦ λ e. again
-        | false ↦ λ e. a.copy ∙ sym (
-          elim (c.start) as (λ o. c.start ≡ o → may_change start end brings c o ≡ false
-          → copy_of (clear_notes after) p ≡ copy_of (clear_notes notes) p) [
-            | None ↦ λ s f. without_start_stays x notes p r new f (sym start_is ∙ s)
-            | Some zone ↦ λ s f. with_start_stays x notes start end zone p r new h a.there some (sym start_is ∙ s)
-            (elim (not_both (nat_lt c.partition end) (nat_lt (start - zone) c.bytes) f) [
-              | inl g ↦ (let l : end ≤ c.partition = ltb-false c.partition end g in let o = a.offset in inl
-              (subst (λ z. end ≤ z) o l))
-              | inr g ↦ (let l : c.bytes ≤ start - zone = ltb-false (start - zone) c.bytes g in inr
-              (subst (λ z. z ≤ start - zone) bytes_are l))
-            ])
-          ] refl e)
-      ] refl;
+          → cond b (or_itself c (find (λ d. d.partition == c.partition) (copies_of after))) c
+          ≡ copy_of (clear_notes after) p) [
+            | true ↦ λ e. again
+            | false ↦ λ e. a.copy ∙ sym (
+                elim (c.start) as (λ o. c.start ≡ o → may_change start end brings c o ≡ false
+                → copy_of (clear_notes after) p ≡ copy_of (clear_notes notes) p) [
+                  | None ↦ λ s f. without_start_stays x notes p r new f (sym start_is ∙ s)
+                  | Some zone ↦ λ s f. with_start_stays x notes start end zone p r new h a.there some (sym start_is ∙ s)
+                      (elim (not_both (nat_lt c.partition end) (nat_lt (start - zone) c.bytes) f) [
+                        | inl g ↦ (let l : end ≤ c.partition = ltb-false c.partition end g in let o = a.offset in inl
+                            (subst (λ z. end ≤ z) o l))
+                        | inr g ↦ (let l : c.bytes ≤ start - zone = ltb-false (start - zone) c.bytes g in inr
+                            (subst (λ z. z ≤ start - zone) bytes_are l))
+                      ])
+                ] refl e)
+          ] refl;
     }
 
 -- ---- lists of copies that rise
@@ -208,22 +208,22 @@ same_copies (c ∷ cs) (d ∷ ds) r s m =
       | inr h ↦ elim ((m d).1 (inl refl)) [
         | inl e ↦ sym e
         | inr k ↦ (
-          let a : d.partition < c.partition = low_in d.partition ds c s.0 h in
-          let b : c.partition < d.partition = low_in c.partition cs d r.0 k in absurd (omega (arith, a, b)))
+            let a : d.partition < c.partition = low_in d.partition ds c s.0 h in
+            let b : c.partition < d.partition = low_in c.partition cs d r.0 k in absurd (omega (arith, a, b)))
       ]
     ] in
     let at : c.partition ≡ d.partition = ap (λ (x : CopyInfo). x.partition) same in
     let tails : SameMembers cs ds = λ x. (
       λ h. elim ((m x).0 (inr h)) [
         | inl e ↦ (
-          let a : c.partition < x.partition = low_in c.partition cs x r.0 h in
-          let b : x.partition ≡ d.partition = ap (λ (y : CopyInfo). y.partition) e in absurd (omega (arith, a, b, at)))
+            let a : c.partition < x.partition = low_in c.partition cs x r.0 h in
+            let b : x.partition ≡ d.partition = ap (λ (y : CopyInfo). y.partition) e in absurd (omega (arith, a, b, at)))
         | inr k ↦ k
       ],
       λ h. elim ((m x).1 (inr h)) [
         | inl e ↦ (
-          let a : d.partition < x.partition = low_in d.partition ds x s.0 h in
-          let b : x.partition ≡ c.partition = ap (λ (y : CopyInfo). y.partition) e in absurd (omega (arith, a, b, at)))
+            let a : d.partition < x.partition = low_in d.partition ds x s.0 h in
+            let b : x.partition ≡ c.partition = ap (λ (y : CopyInfo). y.partition) e in absurd (omega (arith, a, b, at)))
         | inr k ↦ k
       ],
     ) in
@@ -242,11 +242,11 @@ rise-map : (f : CopyInfo → CopyInfo) (cs : List CopyInfo) → ((c : CopyInfo) 
 rise-map f [] e r = tt
 rise-map f (c ∷ cs) e r = (
   each-all (λ (d : CopyInfo). (f c).partition < d.partition) (map f cs) (λ d h.
-    let s = (In-map f cs d).0 h in
-    let a : c.partition < s.0.partition = low_in c.partition cs s.0 r.0 s.1 in
-    let b : (f c).partition ≡ c.partition = e c (inl refl) in
-    let g : (f s.0).partition ≡ s.0.partition = e s.0 (inr s.1) in
-    let k : d.partition ≡ (f s.0).partition = ap (λ (x : CopyInfo). x.partition) s.2 in omega (arith, a, b, g, k)),
+      let s = (In-map f cs d).0 h in
+      let a : c.partition < s.0.partition = low_in c.partition cs s.0 r.0 s.1 in
+      let b : (f c).partition ≡ c.partition = e c (inl refl) in
+      let g : (f s.0).partition ≡ s.0.partition = e s.0 (inr s.1) in
+      let k : d.partition ≡ (f s.0).partition = ap (λ (x : CopyInfo). x.partition) s.2 in omega (arith, a, b, g, k)),
   rise-map f cs (λ d h. e d (inr h)) r.1,
 )
 
@@ -277,18 +277,25 @@ rise-with_copy c (d ∷ ds) r ne =
     elim (nat_lt c.partition d.partition) as (λ b. nat_lt c.partition d.partition ≡ b
     → CopiesRise (cond b (c ∷ d ∷ ds) (d ∷ with_copy c ds))) [
       | true ↦ λ e. (
-        let l : c.partition < d.partition = ltb-true c.partition d.partition e in
-        ((l, each-all (λ (x : CopyInfo). c.partition < x.partition) ds (λ x h.
-        let a : d.partition < x.partition = low_in d.partition ds x r.0 h in omega (arith, a, l))), r))
+          let l : c.partition < d.partition = ltb-true c.partition d.partition e in (
+            (
+              l,
+              each-all (λ (x : CopyInfo). c.partition < x.partition) ds (λ x h.
+                  let a : d.partition < x.partition = low_in d.partition ds x r.0 h in omega (arith, a, l)),
+            ),
+            r,
+          ))
       | false ↦ λ e. (
-        let l : d.partition ≤ c.partition = ltb-false c.partition d.partition e in
-        let n : d.partition ≢ c.partition = ne d (inl refl) in
-        (each-all (λ (x : CopyInfo). d.partition < x.partition) (with_copy c ds) (λ x h.
-        elim ((In-with_copy c x ds).0 h) [
-          | inl q ↦ (let b : x.partition ≡ c.partition = ap (λ (y : CopyInfo). y.partition) q in
-            below d.partition c.partition x.partition l n b)
-          | inr k ↦ low_in d.partition ds x r.0 k
-        ]), rise-with_copy c ds r.1 (λ x h. ne x (inr h))))
+          let l : d.partition ≤ c.partition = ltb-false c.partition d.partition e in
+          let n : d.partition ≢ c.partition = ne d (inl refl) in (
+            each-all (λ (x : CopyInfo). d.partition < x.partition) (with_copy c ds) (λ x h.
+                elim ((In-with_copy c x ds).0 h) [
+                  | inl q ↦ (let b : x.partition ≡ c.partition = ap (λ (y : CopyInfo). y.partition) q in
+                      below d.partition c.partition x.partition l n b)
+                  | inr k ↦ low_in d.partition ds x r.0 k
+                ]),
+            rise-with_copy c ds r.1 (λ x h. ne x (inr h)),
+          ))
     ] refl
 
 -- What a place by partitions says.
@@ -327,11 +334,11 @@ renewed_partition notes start end brings c =
     (cond b (or_itself c (find (λ d. d.partition == c.partition) (copies_of notes))) c).partition ≡ c.partition) [
       | false ↦ refl
       | true ↦ elim (find (λ d. d.partition == c.partition) (copies_of notes)) as (λ o.
-        find (λ d. d.partition == c.partition) (copies_of notes) ≡ o → (or_itself c o).partition ≡ c.partition) [
-        | None ↦ λ e. refl
-        | Some d ↦ λ e. eqb-true d.partition c.partition
-          (found-In (λ (d : CopyInfo). d.partition == c.partition) (copies_of notes) d e).1
-      ] refl
+          find (λ d. d.partition == c.partition) (copies_of notes) ≡ o → (or_itself c o).partition ≡ c.partition) [
+            | None ↦ λ e. refl
+            | Some d ↦ λ e. eqb-true d.partition c.partition
+                (found-In (λ (d : CopyInfo). d.partition == c.partition) (copies_of notes) d e).1
+          ] refl
     ]
 
 pub kept_copies_rise : (notes : List NoteParts) (start end : ℕ) (brings : Bool) (cs : List CopyInfo) → CopiesRise cs
@@ -392,16 +399,16 @@ module _ (x : NoteParts) (notes : List NoteParts) (start end : ℕ) (r : IsConte
       elim ((clear_after x notes new n.note).0 clear) [
         | inl q ↦ inr (p, q.1, ap partition_at (sym q.0) ∙ n.read, a.states, a.copy)
         | inr q ↦ (
-          let there = is_there notes n.note p ((In-clear_notes n.note notes).1 q.0) n.read in
-          let c = copy_of (clear_notes notes) p in
-          let held = has_copy notes p there a.states in
-          let at : c.partition ≡ p.offset = copy_there (clear_notes notes) p in
-          let out : is_outside start end c.partition ≡ true =
-          ap (is_outside start end) (at ∙ n.offset) ∙ (outside_iff x n.note notes start end h q.0).0 q.1 in
-          let one = (In-filter (λ (c : CopyInfo). is_outside start end c.partition) (copies_of notes) c).1 (held, out) in
-          let b = each c one in
-          let same : b.partition ≡ p = one_partition notes b.partition p b.there there (sym b.offset ∙ at) in
-          inl ((In-map renew kept d).1 (c, one, a.copy ∙ ap (copy_of (clear_notes after)) (sym same) ∙ sym b.copy)))
+            let there = is_there notes n.note p ((In-clear_notes n.note notes).1 q.0) n.read in
+            let c = copy_of (clear_notes notes) p in
+            let held = has_copy notes p there a.states in
+            let at : c.partition ≡ p.offset = copy_there (clear_notes notes) p in
+            let out : is_outside start end c.partition ≡ true =
+            ap (is_outside start end) (at ∙ n.offset) ∙ (outside_iff x n.note notes start end h q.0).0 q.1 in
+            let one = (In-filter (λ (c : CopyInfo). is_outside start end c.partition) (copies_of notes) c).1 (held, out) in
+            let b = each c one in
+            let same : b.partition ≡ p = one_partition notes b.partition p b.there there (sym b.offset ∙ at) in
+            inl ((In-map renew kept d).1 (c, one, a.copy ∙ ap (copy_of (clear_notes after)) (sym same) ∙ sym b.copy)))
       ]
 
   -- Where the new note is no clear partition with header metadata.
@@ -461,15 +468,15 @@ module _ (x : NoteParts) (notes : List NoteParts) (start end : ℕ) (r : IsConte
             none_found found (copies_of after) (copy_of (clear_notes after) p) e (has_copy after p there states)
             (eq-eqb (copy_of (clear_notes after) p).partition x.offset at))
         | Some c ↦ λ e. (
-          let f = found-In found (copies_of after) c e in
-          let a = of_partition after c f.0 in
-          let n = of_note after a.partition a.there in
-          let clear = (In-clear_notes n.note after).0 n.clear in
-          let at : n.note.offset ≡ x.offset = sym n.offset ∙ sym a.offset ∙ eqb-true c.partition x.offset f.1 in
-          let same : n.note ≡ x = clear-alone n.note x after clear ((In-with_note x x notes).1 (inl refl)) at in
-          let own : IsClear x after = subst (λ (y : NoteParts). IsClear y after) same clear in
-          ap (λ (d : CopyInfo). with_copy d (map renew kept)) a.copy
-          ∙ copies_with a.partition own (ap partition_at (sym same) ∙ n.read) a.states)
+            let f = found-In found (copies_of after) c e in
+            let a = of_partition after c f.0 in
+            let n = of_note after a.partition a.there in
+            let clear = (In-clear_notes n.note after).0 n.clear in
+            let at : n.note.offset ≡ x.offset = sym n.offset ∙ sym a.offset ∙ eqb-true c.partition x.offset f.1 in
+            let same : n.note ≡ x = clear-alone n.note x after clear ((In-with_note x x notes).1 (inl refl)) at in
+            let own : IsClear x after = subst (λ (y : NoteParts). IsClear y after) same clear in
+            ap (λ (d : CopyInfo). with_copy d (map renew kept)) a.copy
+            ∙ copies_with a.partition own (ap partition_at (sym same) ∙ n.read) a.states)
       ] refl
 
 -- ---- copies by the notes
@@ -485,12 +492,12 @@ copies_each clear (n ∷ ns) =
     ≡ map (copy_of clear) (filter has_metadata (cons_option o (filter_map partition_at ns)))) [
       | None ↦ ih
       | Some p ↦ elim (has_metadata p) as (λ b.
-        cons_option (if b then Some (copy_of clear p) else None) (filter_map (copy_by clear) ns)
-        ≡ map (copy_of clear) (cond b (p ∷ filter has_metadata (filter_map partition_at ns))
-        (filter has_metadata (filter_map partition_at ns)))) [
-        | true ↦ ap (λ l. copy_of clear p ∷ l) ih
-        | false ↦ ih
-      ]
+          cons_option (if b then Some (copy_of clear p) else None) (filter_map (copy_by clear) ns)
+          ≡ map (copy_of clear) (cond b (p ∷ filter has_metadata (filter_map partition_at ns))
+          (filter has_metadata (filter_map partition_at ns)))) [
+            | true ↦ ap (λ l. copy_of clear p ∷ l) ih
+            | false ↦ ih
+          ]
     ]
 
 pub copies_by_notes : (notes : List NoteParts)
@@ -510,11 +517,11 @@ length-copies_each clear (n ∷ ns) =
     ≡ length (cond (has_some_metadata o) (n ∷ filter states_metadata ns) (filter states_metadata ns))) [
       | None ↦ ih
       | Some p ↦ elim (has_metadata p) as (λ b.
-        length (cons_option (if b then Some (copy_of clear p) else None) (filter_map (copy_by clear) ns))
-        ≡ length (cond b (n ∷ filter states_metadata ns) (filter states_metadata ns))) [
-        | true ↦ ap suc ih
-        | false ↦ ih
-      ]
+          length (cons_option (if b then Some (copy_of clear p) else None) (filter_map (copy_by clear) ns))
+          ≡ length (cond b (n ∷ filter states_metadata ns) (filter states_metadata ns))) [
+            | true ↦ ap suc ih
+            | false ↦ ih
+          ]
     ]
 
 pub length-copies_of : (notes : List NoteParts)

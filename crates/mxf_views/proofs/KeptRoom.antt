@@ -32,19 +32,19 @@ sub_length (x ∷ xs) [] r s f = absurd (f x (inl refl))
 sub_length (x ∷ xs) (y ∷ ys) r s f =
     elim (f x (inl refl)) [
       | inl e ↦ (
-        let ih = sub_length xs ys r.1 s.1 (λ z h. elim (f z (inr h)) [
-          | inl q ↦ absurd (not_same x z (less_in note_total x z xs r.0 h) (e ∙ sym q))
-          | inr k ↦ k
-        ]) in omega (arith, ih))
+          let ih = sub_length xs ys r.1 s.1 (λ z h. elim (f z (inr h)) [
+            | inl q ↦ absurd (not_same x z (less_in note_total x z xs r.0 h) (e ∙ sym q))
+            | inr k ↦ k
+          ]) in omega (arith, ih))
       | inr h ↦ (
-        let below = less_in note_total y x ys s.0 h in
-        let ih = sub_length (x ∷ xs) ys r s.1 (λ z k. elim k [
-          | inl q ↦ subst (λ w. In w ys) (sym q) h
-          | inr i ↦ elim (f z (inr i)) [
-            | inl q ↦ absurd (not_same y z (note_total.trans y x z below (less_in note_total x z xs r.0 i)) (sym q))
-            | inr m ↦ m
-          ]
-        ]) in omega (arith, ih))
+          let below = less_in note_total y x ys s.0 h in
+          let ih = sub_length (x ∷ xs) ys r s.1 (λ z k. elim k [
+            | inl q ↦ subst (λ w. In w ys) (sym q) h
+            | inr i ↦ elim (f z (inr i)) [
+              | inl q ↦ absurd (not_same y z (note_total.trans y x z below (less_in note_total x z xs r.0 i)) (sym q))
+              | inr m ↦ m
+            ]
+          ]) in omega (arith, ih))
     ]
 
 -- A clear note of the union is a clear note of one of both.
@@ -117,14 +117,14 @@ room_for_both own other old k (Ok u) r s keeps a b c d =
     fits in
     record {
       partitions = one kinds.Partition old.partitions.len (vec_capacity k.partitions) old.partitions.items
-      old.partitions.ok.0 (ap (λ (p : KeptParts). p.partitions) keeps) a;
+          old.partitions.ok.0 (ap (λ (p : KeptParts). p.partitions) keeps) a;
       segments = one kinds.Segment old.segments.len (vec_capacity k.segments) old.segments.items
-      old.segments.ok.0 (ap (λ (p : KeptParts). p.segments) keeps) b;
+          old.segments.ok.0 (ap (λ (p : KeptParts). p.segments) keeps) b;
       rips = one kinds.RandomIndexPack old.random_index_packs.len (vec_capacity k.random_index_packs)
-      old.random_index_packs.items old.random_index_packs.ok.0 (ap (λ (p : KeptParts). p.rips) keeps) c;
+          old.random_index_packs.items old.random_index_packs.ok.0 (ap (λ (p : KeptParts). p.rips) keeps) c;
       copies =
-      (let number = ap length (ap (λ (p : KeptParts). p.copies) keeps) ∙ length-kept_copies own in
-      let both = count_in_union states_metadata own other r s in
-      let fits : count_by states_metadata (clear_notes (union_of own other)) ≤ vec_capacity k.copies =
-      omega (arith, number, both, d, old.copies.ok.0) in fits);
+          (let number = ap length (ap (λ (p : KeptParts). p.copies) keeps) ∙ length-kept_copies own in
+          let both = count_in_union states_metadata own other r s in
+          let fits : count_by states_metadata (clear_notes (union_of own other)) ≤ vec_capacity k.copies =
+          omega (arith, number, both, d, old.copies.ok.0) in fits);
     }

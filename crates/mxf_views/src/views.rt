@@ -52,7 +52,6 @@ pub struct Views {
 impl Model for Views {
     ghost use Rattle.std.specs.Prelude.{List};
     ghost use Rattle.mxf_klv.specs.Parts.{NoteParts};
-
     ghost use Rattle.std.specs.Prelude.{◌≡◌};
     ghost use Rattle.mxf_views.specs.Kept.{kept_in, kept_of};
 

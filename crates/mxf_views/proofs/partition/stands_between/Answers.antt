@@ -12,8 +12,8 @@ pub loop-note-init : goal.loop-note-init
 loop-note-init c =
     let e = c.into_iter-note-iterator.ensures.into_iter_gives in (
       ap (λ (l : List NoteParts). stands_between c.args.low c.args.high (partitions_among l))
-      (e ∙ c.clear_within-note-items.ensures.notes)
-      ∙ between_from c.args.catalogue.now c.args.low c.args.high c.clear_within-note-items.ensures.catalogue,
+          (e ∙ c.clear_within-note-items.ensures.notes)
+          ∙ between_from c.args.catalogue.now c.args.low c.args.high c.clear_within-note-items.ensures.catalogue,
       subst (AreApart 0) (sym e) c.clear_within-note-items.ensures.apart,
     )
 
@@ -47,6 +47,7 @@ loop-note-preserved c =
     let all = stands_between low high (partitions_of c.args.catalogue.now) in
     let i = subst (λ (l : List NoteParts). (stands_between low high (partitions_among l) ≡ all) × AreApart 0 l)
     c.in-Some.ensures.steps c.loop-note.invariant in
-    let no : (nat_lt low c.in-Some.note.now.offset && is_some (partition_at c.in-Some.note.now)) ≡ false = search rules in
-    (sym (between_passes low high c.in-Some.note.now c.next.new.self no) ∙ i.0,
-    AreApart-lower 0 (end_of c.in-Some.note.now) c.next.new.self (omega arith) i.1.1)
+    let no : (nat_lt low c.in-Some.note.now.offset && is_some (partition_at c.in-Some.note.now)) ≡ false = search rules in (
+      sym (between_passes low high c.in-Some.note.now c.next.new.self no) ∙ i.0,
+      AreApart-lower 0 (end_of c.in-Some.note.now) c.next.new.self (omega arith) i.1.1,
+    )

@@ -14,6 +14,6 @@ loop-note-init c =
     let same : all ≡ clear = c.into_iter-note-iterator.ensures.into_iter_gives ∙ c.clear-note-items.ensures.notes in
     let number : count_by states_metadata all ≡ count_by states_metadata clear = ap (count_by states_metadata) same in (
       ap (λ l. l ++ filter_map (copy_by clear) all) c.clear.ensures.items ∙ ap (filter_map (copy_by clear)) same
-      ∙ copies_by_notes notes,
+          ∙ copies_by_notes notes,
       omega (arith, number, c.clear.ensures.len, c.clear.ensures.capacity, c.requires),
     )
