@@ -1,7 +1,7 @@
 -- What leaves a copy of the header metadata as it is.
-use Rattle.std.proofs.Common.{◌≡◌, ◌≢◌, ℕ, ◌+◌, ◌<◌, ◌≤◌, ◌⊎◌, Bool, true, List, Option, Some, None, refl, sym, ap, subst}
+use Rattle.std.proofs.Common.{◌≡◌, ℕ, ◌+◌, ◌<◌, ◌≤◌, ◌⊎◌, true, List, Some, None, sym, ap, subst}
 use Rattle.std.proofs.Common.{◌∙◌, inl, inr, arith, leb-true}
-use Rattle.std.specs.Prelude.{◌↔◌, ◌==◌, count_by, filter}
+use Rattle.std.specs.Prelude.{◌↔◌, ◌==◌, count_by}
 use Rattle.mxf_klv.specs.Parts.{NoteParts}
 use Rattle.mxf_klv.specs.Note.{end_of}
 use Rattle.mxf_klv.specs.Rising.{In}
@@ -11,7 +11,7 @@ use Rattle.mxf_catalogue.proofs.ContentLaws.{In-with_note, same_content}
 use Rattle.mxf_catalogue.proofs.DisputeLaws.{In-clear_notes, IsContent-clear_notes, IsContent-filter}
 use Rattle.mxf_catalogue.proofs.Lists.{In-filter}
 use Rattle.mxf_views.specs.Partitions.{PartitionParts}
-use Rattle.mxf_views.specs.Copies.{IsFilled, IsStart, copy_from, copy_of, is_fill_note, is_preface_note}
+use Rattle.mxf_views.specs.Copies.{IsStart, copy_from, copy_of, is_fill_note, is_preface_note}
 use Rattle.mxf_views.specs.Copies.{is_readable_primer, start_of, zone_of}
 use Rattle.mxf_views.specs.Spans.{sizes}
 use Rattle.mxf_views.proofs.StartLaws.{fill_note, parts, primer_note, start_is}

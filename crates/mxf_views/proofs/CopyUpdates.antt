@@ -1,6 +1,6 @@
 -- The copies of the header metadata once a note was added: those elsewhere are counted anew where they may have changed.
 use Rattle.std.proofs.Common.{◌≡◌, ◌≢◌, ℕ, zero, suc, get_or, length, ◌+◌, ◌-◌, ◌<◌, ◌≤◌, ◌⊎◌, Bool, true, false, cond, List, [], ◌∷◌, Option, Some, None, refl}
-use Rattle.std.proofs.Common.{sym, ap, subst, ◌∙◌, inl, inr, arith, eqb-true, eq-eqb, le-leb}
+use Rattle.std.proofs.Common.{sym, ap, subst, ◌∙◌, inl, inr, arith, eqb-true, eq-eqb}
 use Rattle.std.specs.Prelude.{◌↔◌, ◌&&◌, ◌||◌, ◌==◌, nat_lt, find, filter, map, if◌then◌else◌}
 use Rattle.std.specs.List.{AllByRecursion, AllWithin, cons_option, filter_map, insert}
 use Rattle.std.specs.List.Sorted.{IsNonDecreasingBy}
@@ -25,7 +25,7 @@ use Rattle.mxf_views.specs.Partitions.{PartitionParts, pack_of, partition_at, pa
 use Rattle.mxf_views.proofs.ClearChanges.{clear_after, outside_iff}
 use Rattle.mxf_views.proofs.CopyChanges.{copy_stays, no_copy_stays, same_clear}
 use Rattle.mxf_views.proofs.CopyLaws.{copies_rise, copy_there}
-use Rattle.mxf_views.proofs.Members.{all-each, each-all, both, false_if, parts}
+use Rattle.mxf_views.proofs.Members.{all-each, each-all, false_if, parts}
 use Rattle.mxf_views.proofs.PartitionLaws.{offset-partition_at}
 use Rattle.mxf_views.proofs.PartitionSearch.{copy_found, has_copy, is_there, of_note, of_partition, one_partition}
 

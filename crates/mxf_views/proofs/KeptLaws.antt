@@ -1,5 +1,5 @@
 -- What is kept of a content, and what an addition makes of it.
-use Rattle.std.proofs.Common.{◌≡◌, ℕ, Bool, List, [], refl, sym, ap, subst, ◌∙◌}
+use Rattle.std.proofs.Common.{◌≡◌, ℕ, Bool, List, [], refl, sym, ap, ◌∙◌}
 use Rattle.mxf_klv.specs.Parts.{NoteParts}
 use Rattle.mxf_klv.specs.NoteOrder.{note_cmp-IsAntisymmetric, note_total}
 use Rattle.mxf_klv.proofs.RisingLemmas.{with_one_present}
@@ -12,7 +12,7 @@ use Rattle.mxf_views.specs.Copies.{copies_of}
 use Rattle.mxf_views.specs.Kept.{IsHull, KeptParts, kept_of, can_bring_start, copies_followed, followed, is_placed, notes_at, offsets_where, stands_clear}
 use Rattle.mxf_views.specs.Partitions.{partition_at, partitions_among, partitions_of}
 use Rattle.mxf_views.specs.Places.{placed_segment, segments_among, segments_of}
-use Rattle.mxf_views.specs.RandomIndex.{is_rip_note, rips_of}
+use Rattle.mxf_views.specs.RandomIndex.{rips_of}
 use Rattle.mxf_views.proofs.ClearChanges.{notes_at_offsets, offsets_follow}
 use Rattle.mxf_views.proofs.CopyUpdates.{copies_follow}
 use Rattle.mxf_views.proofs.ListSteps.{filter_map_some}

@@ -1,6 +1,6 @@
 -- Partitions found by search among the clear notes.
 use Rattle.std.proofs.Common.{◌≡◌, ℕ, ◌+◌, ◌<◌, ◌≤◌, true, false, List, ◌∷◌, Option, Some, None, refl}
-use Rattle.std.proofs.Common.{sym, ap, ◌∙◌, inl, inr, arith, eqb-true, eq-eqb, le-leb}
+use Rattle.std.proofs.Common.{sym, ap, ◌∙◌, inl, arith, eqb-true, eq-eqb, le-leb}
 use Rattle.std.specs.Prelude.{◌&&◌, ◌==◌, nat_lt, find, filter, is_some}
 use Rattle.std.specs.List.{cons_option, list_any}
 use Rattle.std.specs.Option.{option_and_then}
@@ -19,7 +19,7 @@ use Rattle.mxf_views.specs.Findings.{footer_stands_at}
 use Rattle.mxf_views.specs.Partitions.{PartitionParts, is_footer, partition_at, partitions_among}
 use Rattle.mxf_views.specs.Partitions.{partitions_of, stands_at, stands_between}
 use Rattle.mxf_views.proofs.CopyLaws.{copy_there}
-use Rattle.mxf_views.proofs.Members.{In-filter_map, all-each, both, false_if, parts}
+use Rattle.mxf_views.proofs.Members.{In-filter_map, both, false_if, parts}
 use Rattle.mxf_views.proofs.PartitionLaws.{above_among, offset-partition_at}
 
 -- A partition is that of a clear note with its offset.

@@ -1,4 +1,4 @@
-use Rattle.std.proofs.Common.{◌≡◌, ◌∙◌, ◌++◌, ◌<◌, List, ap, drop, get_or, length, map, set, subst, take}
+use Rattle.std.proofs.Common.{◌∙◌, ◌<◌, List, ap, get_or, length, set, subst}
 use Rattle.std.proofs.Common.{None, false}
 use Rattle.mxf_klv.specs.declared.kinds.Status.TheVariants.{OpenIncomplete}
 use Rattle.mxf_views.specs.declared.copy.CopyInfo.{CopyInfo}

@@ -1,6 +1,4 @@
-use Rattle.std.proofs.Common.{◌≡◌, ◌∙◌, ap, subst, sym}
-use Rattle.std.specs.Prelude.{List}
-use Rattle.mxf_klv.specs.Parts.{NoteParts}
+use Rattle.std.proofs.Common.{◌∙◌, ap, subst, sym}
 use Rattle.mxf_klv.specs.Rising.{In}
 use Rattle.mxf_catalogue.specs.Content.{IsContent, with_note}
 use Rattle.mxf_views.proofs.KeptLaws.{with_note_held}
