@@ -13,9 +13,9 @@ each-preserved g c =
     let contents = g.W.Write.contents in
     leads_on (contents c.args.writer.now) (contents c.each.writer) (contents c.print.new.writer)
     c.args.self.now.progress.written c.each.self.progress.written c.print.new.self.progress.written
-    (flat_map lines (copies_of c.args.views.now)) lines (drop c.each.copy-index c.each.copy-items) _
-    (drop (c.each.copy-index + 1) c.each.copy-items)
-    (next_item c.each.copy-items c.each.copy-index _ c.each-test.true) c.each.invariant c.in_ok-print.ensures
+    (flat_map lines (copies_of c.args.views.now)) lines (drop c.each.copy-index c.copies-copy-items.result.now) _
+    (drop (c.each.copy-index + 1) c.copies-copy-items.result.now)
+    (next_item c.copies-copy-items.result.now c.each.copy-index _ c.each-test.true) c.each.invariant c.in_ok-print.ensures
 
 pub returns-in_err-print : goal.returns-in_err-print
 returns-in_err-print g c =
@@ -25,8 +25,8 @@ returns-in_err-print g c =
     rw (p.1, p.2) (leads_fault (contents c.args.writer.now) (contents c.each.writer) (contents c.print.new.writer)
     c.args.self.now.progress.written c.each.self.progress.written c.print.new.self.progress.written
     c.in_err-print.field-0.0 (flat_map lines (copies_of c.args.views.now)) lines
-    (drop c.each.copy-index c.each.copy-items) _ (drop (c.each.copy-index + 1) c.each.copy-items)
-    (next_item c.each.copy-items c.each.copy-index _ c.each-test.true) c.each.invariant c.in_err-print.ensures)
+    (drop c.each.copy-index c.copies-copy-items.result.now) _ (drop (c.each.copy-index + 1) c.copies-copy-items.result.now)
+    (next_item c.copies-copy-items.result.now c.each.copy-index _ c.each-test.true) c.each.invariant c.in_err-print.ensures)
 
 pub returns : goal.returns
 returns g c =
@@ -34,5 +34,5 @@ returns g c =
     let contents = g.W.Write.contents in
     leads_last (contents c.args.writer.now) (contents c.each.writer) c.args.self.now.progress.written
     c.each.self.progress.written (flat_map lines (copies_of c.args.views.now)) lines
-    (drop c.each.copy-index c.each.copy-items) (none_left c.each.copy-items c.each.copy-index c.each-test.false)
+    (drop c.each.copy-index c.copies-copy-items.result.now) (none_left c.copies-copy-items.result.now c.each.copy-index c.each-test.false)
     c.each.self.in_range c.each.invariant
