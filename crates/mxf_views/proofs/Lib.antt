@@ -25,6 +25,7 @@ pub mod LaidPartitions
 pub mod LaidRandomIndex
 pub mod ListSteps
 pub mod Members
+pub mod OffsetSearch
 pub mod PartitionLaws
 pub mod PartitionSearch
 pub mod PlaceLaws

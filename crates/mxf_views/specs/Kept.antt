@@ -57,6 +57,10 @@ copy_by notes n =
 abbrev pub is_outside : ℕ → ℕ → ℕ → Bool
 is_outside start end offset = nat_lt offset start || nat_le end offset
 
+-- The offset lies above the lower one and below the upper one.
+abbrev pub lies_between : ℕ → ℕ → ℕ → Bool
+lies_between low high offset = nat_lt low offset && nat_lt offset high
+
 -- A copy without a start can get one only by a note that is a fill or a primer.
 unfoldable pub can_bring_start : NoteParts → Bool
 can_bring_start n = is_fill (kind_of n.key) || is_primer (kind_of n.key)

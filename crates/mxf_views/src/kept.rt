@@ -10,7 +10,7 @@ ghost use Rattle.mxf_views.specs.declared.kept.offsets.Placed.{Placed};
 
 pub(crate) mod arrival;
 mod copies;
-mod offsets;
+pub(crate) mod offsets;
 
 use crate::copy::CopyInfo;
 use crate::kept::arrival::Arrival;

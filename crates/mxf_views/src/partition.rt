@@ -5,7 +5,7 @@ ghost use Rattle.mxf_klv.specs.Rising.{In};
 ghost use Rattle.mxf_catalogue.specs.Content.{IsContent};
 ghost use Rattle.mxf_views.specs.Partitions.{AreInOrder, IsPartition, PartitionParts, partitions_of};
 ghost use Rattle.std.specs.Iterator.{YieldsFirst, item_count};
-ghost use Rattle.mxf_views.specs.Partitions.{pack_of, partition_at, partitions_among, stands_at, stands_between, stands_above, is_header, is_footer, is_no_unreadable_pack};
+ghost use Rattle.mxf_views.specs.Partitions.{pack_of, partition_at, partitions_among, stands_at, stands_above, is_header, is_footer, is_no_unreadable_pack};
 
 use crate::placed::NotesAt;
 use mxf_catalogue::Catalogue;
@@ -125,21 +125,6 @@ pub(crate) fn stands_at(catalogue: &Catalogue, offset: u64) -> bool
     ensures { result ≡ stands_at offset (partitions_of catalogue.now) }
 {
     partition_there(catalogue, offset).is_some()
-}
-
-/// Whether a partition stands between two file offsets.
-pub(crate) fn stands_between(catalogue: &Catalogue, low: u64, high: u64) -> bool
-    ensures { result ≡ stands_between low high (partitions_of catalogue.now) }
-{
-    for note in catalogue.clear_within(low, u64::MAX) {
-        if high <= note.offset() {
-            return false;
-        }
-        if low < note.offset() && partition_at(note).is_some() {
-            return true;
-        }
-    }
-    false
 }
 
 /// Whether the note is no partition pack, or a readable one.

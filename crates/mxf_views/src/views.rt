@@ -184,7 +184,7 @@ impl Views {
     pub fn link_of(&self, partition: &PartitionAt<'_>) -> Link
         ensures { result ≡ link_of (partitions_of self.now) partition.now }
     {
-        link_of(&self.catalogue, partition)
+        link_of(&self.catalogue, &self.kept.partitions, partition)
     }
 
     /// Whether the partitions hang together from the header to the footer.

@@ -1,9 +1,10 @@
 //! Where clear notes of a kind stand, as file offsets that rise.
-ghost use Rattle.std.specs.Prelude.{◌≡◌, ◌<◌, ◌≤◌, count_by, filter, vec_len, vec_capacity};
+ghost use Rattle.std.specs.Prelude.{◌≡◌, ◌<◌, ◌≤◌, count_by, filter, length, vec_len, vec_capacity};
+ghost use Rattle.std.specs.List.{AllWithin, list_any};
 ghost use Rattle.std.specs.Ordering.{nat_cmp};
 ghost use Rattle.mxf_klv.specs.Rising.{IsRising, with_one};
 ghost use Rattle.mxf_catalogue.specs.Disputes.{clear_notes};
-ghost use Rattle.mxf_views.specs.Kept.{followed, is_outside, is_placed, offsets_where, stands_clear};
+ghost use Rattle.mxf_views.specs.Kept.{followed, is_outside, lies_between, is_placed, offsets_where, stands_clear};
 ghost use Rattle.mxf_views.specs.declared.kept.offsets.Placed.{Placed};
 
 use super::push;
@@ -98,5 +99,26 @@ pub(super) fn refill(offsets: &mut Vec<u64>, catalogue: &Catalogue, kind: Placed
         if kind.has(note) {
             push(offsets, note.offset());
         }
+    }
+}
+
+/// The number of the offsets at or below one.
+fn offsets_up_to(offsets: &[u64], offset: u64) -> usize
+    requires { IsRising nat_cmp offsets.now }
+    ensures bound { result ≤ length offsets.now }
+    ensures below { AllWithin (λ o. o ≤ offset) offsets.now 0 result }
+    ensures above { AllWithin (λ o. offset < o) offsets.now result (length offsets.now) }
+{
+    offsets.partition_point(|other| *other <= offset)
+}
+
+/// Whether one of the offsets lies between two others: the first above the lower one tells.
+pub(crate) fn any_between(offsets: &[u64], low: u64, high: u64) -> bool
+    requires { IsRising nat_cmp offsets.now }
+    ensures { result ≡ list_any (lies_between low high) offsets.now }
+{
+    match offsets.get(offsets_up_to(offsets, low)) {
+        Some(offset) => *offset < high,
+        None => false,
     }
 }
