@@ -73,8 +73,8 @@ first_between low high (x ∷ xs) zero d r l f g =
     elim s.1 [
       | inl e ↦ ap (λ y. nat_lt y high) (sym e) ∙ p.1
       | inr k ↦ (
-        let a : x < s.0 = above_first x s.0 xs r k in
-        let b : s.0 < high = ltb-true s.0 high p.1 in lt-ltb x high (omega arith))
+          let a : x < s.0 = above_first x s.0 xs r k in
+          let b : s.0 < high = ltb-true s.0 high p.1 in lt-ltb x high (omega arith))
     ])
 first_between low high (x ∷ xs) (suc i) d r l f g =
     let h : x ≤ low = f 0 d (omega arith) (omega arith) in
@@ -110,6 +110,6 @@ between_offsets notes low high =
     (list_any-In (lies_between low high) offsets).1 (
       s.0.offset,
       (In-offsets (is_placed kinds.Partition) notes s.0.offset).1
-      (a.note, (In-clear_notes a.note notes).0 a.clear, ap is_some a.read, a.offset),
+          (a.note, (In-clear_notes a.note notes).0 a.clear, ap is_some a.read, a.offset),
       s.2,
     ))
