@@ -289,7 +289,7 @@ def read_piece(offset, data):
 
 def seconds_for(size):
     """The bound of processor time of a run on so many bytes."""
-    return 0.1 + 4e-7 * size * math.log2(size + 2)
+    return 0.5 + 4e-7 * size * math.log2(size + 2)
 
 
 def memory_for(size):
