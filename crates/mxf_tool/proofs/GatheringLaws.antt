@@ -146,12 +146,6 @@ module _ {R : Type 0} (left : R → Option (List ℕ)) where
   gathered_good all rest number levels reports g none =
       subst (AllByRecursion (IsGood left)) (all_done all rest number levels reports g none) g.good
 
-  pub gathered_reports : (all rest : List (Part R)) (number : ℕ) (levels : List (List NoteParts))
-      (reports : List PieceReport) → IsGathered all number rest levels reports → length rest ≡ 0
-      → reports ≡ reports_of left all
-  gathered_reports all rest number levels reports g none =
-      subst (λ (ps : List (Part R)). reports ≡ reports_of left ps) (all_done all rest number levels reports g none) g.reported
-
   pub gathered_run : (all rest : List (Part R)) (number : ℕ) (levels : List (List NoteParts))
       (reports : List PieceReport) (views : List NoteParts) → IsGathered all number rest levels reports
       → length rest ≡ 0 → HoldsAll levels views → IsTheRun (HandedBy left all) views
