@@ -35,7 +35,7 @@ above low (n ∷ notes) at l a =
     let b : low ≤ n.offset = a.0 in
     (less at n.offset (omega arith), above (end_of n) notes at (omega arith) a.1)
 
-rising_apart : (low : ℕ) (notes : List NoteParts) → AreApart low notes
+pub rising_apart : (low : ℕ) (notes : List NoteParts) → AreApart low notes
     → IsRising nat_cmp (map (λ (n : NoteParts). n.offset) notes)
 rising_apart low [] a = tt
 rising_apart low (n ∷ notes) a = (above (end_of n) notes n.offset (omega arith) a.1, rising_apart (end_of n) notes a.1)

@@ -8,7 +8,7 @@ ghost use Rattle.mxf_catalogue.specs.Content.{IsCatalogue, IsContent, with_note,
 ghost use Rattle.mxf_catalogue.specs.Disputes.{AreApart, IsClear, clear_notes, disputed_notes, lies_in};
 ghost use Rattle.mxf_catalogue.specs.History.{History, Add, Join, content};
 ghost use Rattle.mxf_catalogue.specs.Moved.{TellsMoved};
-ghost use Rattle.mxf_catalogue.specs.Parts.{Covers};
+ghost use Rattle.mxf_catalogue.specs.Parts.{Covers, touching};
 
 mod change;
 mod clear;
@@ -35,7 +35,7 @@ use merging::{MergedNotes, Room};
 use mxf_klv::{Note, OutOfMemory};
 pub use notes::Notes;
 use parts::Parts;
-use placing::{at_offset, within};
+use placing::{at_offset, touched, within};
 use std::alloc::Global;
 use std::marker::Model;
 use std::mem::replace;
@@ -249,6 +249,17 @@ impl Catalogue {
         ensures bound { length result < 2 ^ 64 }
     {
         ClearNotes::of(within(&self.parts.clear, start, bytes))
+    }
+
+    /// The clear notes that share a byte with the note, in their order: two binary searches. Where the note isn't held, they
+    /// are those that adding it moves.
+    pub fn clear_touching(&self, note: &Note) -> ClearNotes<'_>
+        ensures notes { result ≡ touching note.now (clear_notes self.now) }
+        ensures apart { AreApart 0 result }
+        ensures catalogue { IsCatalogue self.now }
+        ensures bound { length result < 2 ^ 64 }
+    {
+        ClearNotes::of(touched(&self.parts.clear, note))
     }
 
     /// The disputed notes in their order, each with how it is disputed. It takes no memory.

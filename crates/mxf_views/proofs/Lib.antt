@@ -1,7 +1,10 @@
 pub mod BestLaws
 pub mod CauseLaws
 pub mod ChainLaws
+pub mod ClearChanges
+pub mod CopyChanges
 pub mod CopyLaws
+pub mod CopyUpdates
 pub mod FileBytes
 pub mod FindingLaws
 pub mod FindingMembers
@@ -11,6 +14,8 @@ pub mod GapsLaws
 pub mod HeaderCauses
 pub mod GoodFiles
 pub mod IndexCauses
+pub mod KeptLaws
+pub mod KeptRoom
 pub mod KindLaws
 pub mod Laid
 pub mod LaidChain
@@ -18,7 +23,9 @@ pub mod LaidCopies
 pub mod LaidIndex
 pub mod LaidPartitions
 pub mod LaidRandomIndex
+pub mod ListSteps
 pub mod Members
+pub mod OffsetSearch
 pub mod PartitionLaws
 pub mod PartitionSearch
 pub mod PlaceLaws

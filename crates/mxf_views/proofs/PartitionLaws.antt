@@ -68,7 +68,7 @@ partitions_are notes p =
       λ s. m.1 (s.0, (In-clear_notes s.0 notes).1 s.1, readable_to s.0 p s.2),
     )
 
-above_among : (low : ℕ) (notes : List NoteParts) (p : PartitionParts) → AreApart low notes
+pub above_among : (low : ℕ) (notes : List NoteParts) (p : PartitionParts) → AreApart low notes
     → In p (partitions_among notes) → low ≤ p.offset
 above_among low [] p a h = absurd h
 above_among low (n ∷ notes) p a h =

@@ -1,26 +1,26 @@
 -- Partitions found by search among the clear notes.
 use Rattle.std.proofs.Common.{◌≡◌, ℕ, ◌+◌, ◌<◌, ◌≤◌, true, false, List, ◌∷◌, Option, Some, None, refl}
-use Rattle.std.proofs.Common.{sym, ap, ◌∙◌, inl, inr, arith, eqb-true, eq-eqb, le-leb}
+use Rattle.std.proofs.Common.{sym, ap, ◌∙◌, inl, arith, eqb-true, eq-eqb, le-leb}
 use Rattle.std.specs.Prelude.{◌&&◌, ◌==◌, nat_lt, find, filter, is_some}
-use Rattle.std.specs.List.{list_any}
+use Rattle.std.specs.List.{cons_option, list_any}
 use Rattle.std.specs.Option.{option_and_then}
 use Rattle.std.proofs.lemmas.Bool.{ltb-true, lt-ltb}
 use Rattle.mxf_klv.specs.Parts.{NoteParts}
 use Rattle.mxf_klv.specs.Note.{IsNote, end_of}
 use Rattle.mxf_klv.specs.Rising.{In}
 use Rattle.mxf_catalogue.specs.Content.{IsCatalogue}
-use Rattle.mxf_catalogue.specs.Disputes.{clear_notes, lies_in}
+use Rattle.mxf_catalogue.specs.Disputes.{AreApart, clear_notes, lies_in}
 use Rattle.mxf_catalogue.proofs.ContentLaws.{all-In}
 use Rattle.mxf_catalogue.proofs.DisputeLaws.{In-clear_notes, clear-alone, same_bool}
 use Rattle.mxf_catalogue.proofs.Lists.{In-filter, In-map, list_any-In, find-none, find-only, found-In, none_found}
 use Rattle.mxf_views.specs.declared.copy.CopyInfo.{CopyInfo}
 use Rattle.mxf_views.specs.Copies.{copies_of, copy_of, has_metadata}
 use Rattle.mxf_views.specs.Findings.{footer_stands_at}
-use Rattle.mxf_views.specs.Partitions.{AreInOrder, PartitionParts, is_footer, partition_at, partitions_among}
+use Rattle.mxf_views.specs.Partitions.{PartitionParts, is_footer, partition_at, partitions_among}
 use Rattle.mxf_views.specs.Partitions.{partitions_of, stands_at, stands_between}
 use Rattle.mxf_views.proofs.CopyLaws.{copy_there}
-use Rattle.mxf_views.proofs.Members.{In-filter_map, all-each, both, false_if, parts}
-use Rattle.mxf_views.proofs.PartitionLaws.{offset-partition_at}
+use Rattle.mxf_views.proofs.Members.{In-filter_map, both, false_if, parts}
+use Rattle.mxf_views.proofs.PartitionLaws.{above_among, offset-partition_at}
 
 -- A partition is that of a clear note with its offset.
 pub record IsOfNote (notes : List NoteParts) (p : PartitionParts) : Type 0 where
@@ -29,13 +29,13 @@ pub record IsOfNote (notes : List NoteParts) (p : PartitionParts) : Type 0 where
   pub read : partition_at note ≡ Some p
   pub offset : p.offset ≡ note.offset
 
-of_note : (notes : List NoteParts) (p : PartitionParts) → In p (partitions_of notes) → IsOfNote notes p
+pub of_note : (notes : List NoteParts) (p : PartitionParts) → In p (partitions_of notes) → IsOfNote notes p
 unfolding partitions_of
 of_note notes p h =
     let s = (In-filter_map partition_at (clear_notes notes) p).0 h in
     record { note = s.0; clear = s.1; read = s.2; offset = offset-partition_at s.0 p s.2 }
 
-is_there : (notes : List NoteParts) (n : NoteParts) (p : PartitionParts) → In n (clear_notes notes)
+pub is_there : (notes : List NoteParts) (n : NoteParts) (p : PartitionParts) → In n (clear_notes notes)
     → partition_at n ≡ Some p → In p (partitions_of notes)
 unfolding partitions_of
 is_there notes n p h e = (In-filter_map partition_at (clear_notes notes) p).1 (n, h, e)
@@ -47,7 +47,7 @@ one_note notes m n h k e =
     let d = (In-clear_notes n notes).0 k in
     clear-alone m n notes c d.held e
 
-one_partition : (notes : List NoteParts) (p q : PartitionParts) → In p (partitions_of notes)
+pub one_partition : (notes : List NoteParts) (p q : PartitionParts) → In p (partitions_of notes)
     → In q (partitions_of notes) → p.offset ≡ q.offset → p ≡ q
 one_partition notes p q h k e =
     let a = of_note notes p h in
@@ -148,29 +148,55 @@ between_from notes low high c =
     (a.clear, both _ _ (le-leb low a.note.offset low_end) (le-leb (end_of a.note) (low + 18446744073709551615) high_end)) in
     (list_any-In test (partitions_among range)).1 (s.0, (In-filter_map partition_at range s.0).1 (a.note, inside, a.read), s.2))
 
--- Among partitions in order, the first above an offset tells whether one stands between it and another offset.
-pub first_above : (p : PartitionParts) (ps : List PartitionParts) (low high : ℕ) → AreInOrder (p ∷ ps)
-    → low < p.offset → stands_between low high (p ∷ ps) ≡ nat_lt p.offset high
-first_above p ps low high r l =
-    let test = λ (q : PartitionParts). nat_lt low q.offset && nat_lt q.offset high in
-    same_bool (list_any test (p ∷ ps)) (nat_lt p.offset high)
-    (λ t.
-    let s = (list_any-In test (p ∷ ps)).0 t in
-    let b : s.0.offset < high = ltb-true s.0.offset high (parts (nat_lt low s.0.offset) (nat_lt s.0.offset high) s.2).1 in
-    lt-ltb p.offset high (elim s.1 [
-      | inl e ↦ (let f : s.0.offset ≡ p.offset = ap (λ (q : PartitionParts). q.offset) e in omega (arith, b, f))
-      | inr h ↦ (let f : p.offset < s.0.offset = all-each (λ q. p.offset < q.offset) ps s.0 r.0 h in omega (arith, b, f))
-    ]))
-    (λ t. (list_any-In test (p ∷ ps)).1
-    (p, inl refl, both (nat_lt low p.offset) (nat_lt p.offset high) (lt-ltb low p.offset l) t))
+-- Going over notes apart: none behind one at or above the upper offset stands between.
+pub between_stops : (low high : ℕ) (n : NoteParts) (ns : List NoteParts) → AreApart 0 (n ∷ ns) → high ≤ n.offset
+    → stands_between low high (partitions_among (n ∷ ns)) ≡ false
+between_stops low high n ns a l =
+    let test = λ (p : PartitionParts). nat_lt low p.offset && nat_lt p.offset high in
+    false_if (stands_between low high (partitions_among (n ∷ ns))) (λ t.
+    let s = (list_any-In test (partitions_among (n ∷ ns))).0 t in
+    let from : n.offset ≤ n.offset = omega arith in
+    let above : n.offset ≤ s.0.offset = above_among n.offset (n ∷ ns) s.0 (from, a.1) s.1 in
+    let below : s.0.offset < high = ltb-true s.0.offset high (parts (nat_lt low s.0.offset) (nat_lt s.0.offset high) s.2).1 in
+    omega arith)
 
--- One that isn't above the offset doesn't count.
-pub not_above : (p : PartitionParts) (ps : List PartitionParts) (low high : ℕ) → p.offset ≤ low
-    → stands_between low high (p ∷ ps) ≡ stands_between low high ps
-not_above p ps low high l =
-    let below : nat_lt low p.offset ≡ false = false_if (nat_lt low p.offset) (λ t.
-    let u : low < p.offset = ltb-true low p.offset t in omega arith) in
-    rw below refl
+-- A partition above the lower one and below the upper one does.
+pub between_found : (low high : ℕ) (n : NoteParts) (ns : List NoteParts) → low < n.offset → n.offset < high
+    → is_some (partition_at n) ≡ true → stands_between low high (partitions_among (n ∷ ns)) ≡ true
+between_found low high n ns l h e =
+    let test = λ (p : PartitionParts). nat_lt low p.offset && nat_lt p.offset high in
+    elim (partition_at n) as (λ o. partition_at n ≡ o → is_some o ≡ true
+    → stands_between low high (partitions_among (n ∷ ns)) ≡ true) [
+      | None ↦ λ u t. absurd cc
+      | Some p ↦ λ u t.
+          let at : p.offset ≡ n.offset = offset-partition_at n p u in
+          let b : low < p.offset = omega (arith, at, l) in
+          let c : p.offset < high = omega (arith, at, h) in
+          (list_any-In test (partitions_among (n ∷ ns))).1 (
+            p,
+            (In-filter_map partition_at (n ∷ ns) p).1 (n, inl refl, u),
+            both (nat_lt low p.offset) (nat_lt p.offset high) (lt-ltb low p.offset b) (lt-ltb p.offset high c),
+          )
+    ] refl e
+
+-- Any other is passed.
+pub between_passes : (low high : ℕ) (n : NoteParts) (ns : List NoteParts)
+    → (nat_lt low n.offset && is_some (partition_at n)) ≡ false
+    → stands_between low high (partitions_among (n ∷ ns)) ≡ stands_between low high (partitions_among ns)
+between_passes low high n ns e =
+    let test = λ (p : PartitionParts). nat_lt low p.offset && nat_lt p.offset high in
+    elim (partition_at n) as (λ o. partition_at n ≡ o → (nat_lt low n.offset && is_some o) ≡ false
+    → list_any test (cons_option o (partitions_among ns)) ≡ list_any test (partitions_among ns)) [
+      | None ↦ λ u t. refl
+      | Some p ↦ λ u t.
+          let at : p.offset ≡ n.offset = offset-partition_at n p u in
+          let no : nat_lt low n.offset ≡ false = elim (nat_lt low n.offset) as (λ b. (b && true) ≡ false → b ≡ false) [
+            | true ↦ λ f. absurd cc
+            | false ↦ λ f. refl
+          ] t in
+          let low_no : nat_lt low p.offset ≡ false = ap (nat_lt low) at ∙ no in
+          rw low_no refl
+    ] refl e
 
 -- ---- copies
 
@@ -182,7 +208,7 @@ pub record IsOfPartition (notes : List NoteParts) (c : CopyInfo) : Type 0 where
   pub copy : c ≡ copy_of (clear_notes notes) partition
   pub offset : c.partition ≡ partition.offset
 
-of_partition : (notes : List NoteParts) (c : CopyInfo) → In c (copies_of notes) → IsOfPartition notes c
+pub of_partition : (notes : List NoteParts) (c : CopyInfo) → In c (copies_of notes) → IsOfPartition notes c
 unfolding copies_of
 of_partition notes c h =
     let clear = clear_notes notes in
@@ -196,7 +222,7 @@ of_partition notes c h =
       offset = ap (λ (x : CopyInfo). x.partition) s.2 ∙ copy_there clear s.0;
     }
 
-has_copy : (notes : List NoteParts) (p : PartitionParts) → In p (partitions_of notes) → has_metadata p ≡ true
+pub has_copy : (notes : List NoteParts) (p : PartitionParts) → In p (partitions_of notes) → has_metadata p ≡ true
     → In (copy_of (clear_notes notes) p) (copies_of notes)
 unfolding copies_of
 has_copy notes p h t =

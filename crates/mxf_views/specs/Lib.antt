@@ -25,3 +25,4 @@ pub mod WorkedFiles
 pub mod RefusedFiles
 pub mod WorkedBytes
 pub mod Words
+pub mod Kept

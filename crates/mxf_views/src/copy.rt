@@ -19,11 +19,10 @@ pub(crate) mod sets;
 pub(crate) mod zone;
 
 use crate::copy::zone::{covered, is_fill, is_preface, lies_in};
-use crate::partition::{PartitionAt, Partitions, partition_there};
+use crate::partition::{PartitionAt, partition_there};
 use mxf_catalogue::Catalogue;
 use mxf_klv::{Held, Kind, Note, Status};
 use mxf_sets::Primer;
-use std::marker::Model;
 
 /// A copy of the header metadata: that of one partition.
 #[derive(Clone, Copy, Debug, PartialEq, Eq)]
@@ -89,7 +88,7 @@ fn prefaces(catalogue: &Catalogue, start: u64, bytes: u64) -> usize
 }
 
 #[tactic(auto, unfolding(crate::specs::Copies::copy_of))]
-fn copy_of(catalogue: &Catalogue, partition: &PartitionAt<'_>) -> CopyInfo
+pub(crate) fn copy_of(catalogue: &Catalogue, partition: &PartitionAt<'_>) -> CopyInfo
     ensures { result ≡ copy_of (clear_notes catalogue.now) partition.now }
 {
     let bytes = partition.pack.numbers().header_byte_count;
@@ -118,7 +117,7 @@ fn copy_of(catalogue: &Catalogue, partition: &PartitionAt<'_>) -> CopyInfo
 }
 
 /// Whether the partition states header metadata.
-fn has_metadata(partition: &PartitionAt<'_>) -> bool
+pub(crate) fn has_metadata(partition: &PartitionAt<'_>) -> bool
     ensures { result ≡ has_metadata partition.now }
 {
     partition.pack.numbers().header_byte_count > 0
@@ -135,62 +134,29 @@ pub(crate) fn copy_there(catalogue: &Catalogue, partition: u64) -> Option<CopyIn
     Some(copy_of(catalogue, &partition))
 }
 
-/// The copies that are left, rising.
-#[derive(Debug, Drop)]
-pub struct Copies<'a> {
-    catalogue: &'a Catalogue,
-    partitions: Partitions<'a>,
-}
-
-impl<'a> Model for Copies<'a> {
-    ghost use Rattle.std.specs.Prelude.{List};
-    ghost use Rattle.mxf_catalogue.specs.Disputes.{clear_notes};
-    ghost use Rattle.mxf_views.specs.declared.copy.CopyInfo.{CopyInfo};
-    ghost use Rattle.mxf_views.specs.Copies.{copies_among};
-
-    ghost Value = { List CopyInfo };
-
-    ghost view = { λ s. copies_among (clear_notes s.catalogue.now) s.partitions };
-}
-
-impl<'a> Copies<'a> {
-    pub(crate) fn of(catalogue: &'a Catalogue, partitions: Partitions<'a>) -> Copies<'a>
-        requires { length partitions < 2 ^ 64 }
-        ensures copies { result ≡ copies_among (clear_notes catalogue.now) partitions.entry }
-        ensures bound { length result < 2 ^ 64 }
-    {
-        Copies {
-            catalogue,
-            partitions,
+/// The first copy whose zone has the packet of the note.
+pub(crate) fn copy_with(copies: &[CopyInfo], note: &Note) -> Option<CopyInfo>
+    ensures { result ≡ find (is_in_copy note.now) copies.now }
+{
+    for copy in copies {
+        if copy.has(note) {
+            return Some(*copy);
         }
     }
+    None
 }
 
-impl<'a> Copies<'a> {
-    /// The first whose zone has the packet of the note.
-    pub(crate) fn with(self, note: &Note) -> Option<CopyInfo>
-        ensures { result ≡ find (is_in_copy note.now) self.entry }
-    {
-        for copy in self {
-            if copy.has(note) {
-                return Some(copy);
-            }
+/// The preferred one of copies.
+pub(crate) fn preferred(copies: &[CopyInfo]) -> Option<CopyInfo>
+    ensures { result ≡ preferred_of copies.now }
+{
+    let mut best: Option<CopyInfo> = None;
+    for copy in copies {
+        if copy.is_candidate() && copy.is_above(&best) {
+            best = Some(*copy);
         }
-        None
     }
-
-    /// The preferred one.
-    pub(crate) fn preferred(self) -> Option<CopyInfo>
-        ensures { result ≡ preferred_of self.entry }
-    {
-        let mut best: Option<CopyInfo> = None;
-        for copy in self {
-            if copy.is_candidate() && copy.is_above(&best) {
-                best = Some(copy);
-            }
-        }
-        best
-    }
+    best
 }
 
 impl CopyInfo {
@@ -235,23 +201,6 @@ impl CopyInfo {
             }
             None => true,
         }
-    }
-}
-
-impl<'a> Iterator for Copies<'a> {
-    type Item = CopyInfo;
-
-    ghost next_gives = { YieldsFirst (λ s. s) };
-
-    ghost remaining = { item_count (λ s. s) };
-
-    fn next(&mut self) -> Option<CopyInfo> {
-        while let Some(partition) = self.partitions.next() {
-            if has_metadata(&partition) {
-                return Some(copy_of(self.catalogue, &partition));
-            }
-        }
-        None
     }
 }
 

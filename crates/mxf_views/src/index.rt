@@ -12,7 +12,7 @@ ghost use Rattle.mxf_views.specs.Places.{place_of, placed_segment, segment_in, s
 pub(crate) mod place;
 
 use crate::index::place::{Place, pair_of};
-use mxf_catalogue::ClearNotes;
+use crate::placed::NotesAt;
 use mxf_klv::{Held, Kind, Note};
 use mxf_sets::Segment;
 use std::marker::Model;
@@ -55,7 +55,7 @@ fn read_segment(note: &Note) -> Option<Segment<'_>>
 
 /// The same, with where the note is.
 #[tactic(auto, unfolding(crate::specs::Places::placed_segment))]
-fn placed_segment(note: &Note) -> Option<SegmentAt<'_>>
+pub(crate) fn placed_segment(note: &Note) -> Option<SegmentAt<'_>>
     ensures { result ≡ placed_segment note.now }
 {
     let segment = read_segment(note)?;
@@ -68,7 +68,7 @@ fn placed_segment(note: &Note) -> Option<SegmentAt<'_>>
 /// The segments that are left, rising.
 #[derive(Debug, Drop)]
 pub struct Segments<'a> {
-    notes: ClearNotes<'a>,
+    notes: NotesAt<'a>,
 }
 
 impl<'a> Model for Segments<'a> {
@@ -81,7 +81,7 @@ impl<'a> Model for Segments<'a> {
 }
 
 impl<'a> Segments<'a> {
-    pub(crate) fn of(notes: ClearNotes<'a>) -> Segments<'a>
+    pub(crate) fn of(notes: NotesAt<'a>) -> Segments<'a>
         requires { length notes < 2 ^ 64 }
         ensures segments { result ≡ segments_among notes.entry }
         ensures bound { length result < 2 ^ 64 }

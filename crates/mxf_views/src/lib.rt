@@ -49,7 +49,9 @@ mod copy;
 mod finding;
 mod gap;
 mod index;
+mod kept;
 mod partition;
+mod placed;
 mod random_index;
 mod reference;
 mod small_files;
@@ -59,7 +61,7 @@ mod whole_file;
 pub use chain::{Chain, Link, chain_by_definition, links_by_definition};
 pub use copy::sets::{Sets, set_items, set_items_by_definition, sets_by_definition};
 pub use copy::{
-    Copies, CopyInfo, copies_by_definition, covered_counts_offsets, preferred_by_definition,
+    CopyInfo, copies_by_definition, covered_counts_offsets, preferred_by_definition,
     primer_for_by_definition, starts_by_definition,
 };
 pub use finding::{Code, Finding, Findings, findings_by_definition};

@@ -5,9 +5,10 @@ ghost use Rattle.mxf_klv.specs.Rising.{In};
 ghost use Rattle.mxf_catalogue.specs.Content.{IsContent};
 ghost use Rattle.mxf_views.specs.Partitions.{AreInOrder, IsPartition, PartitionParts, partitions_of};
 ghost use Rattle.std.specs.Iterator.{YieldsFirst, item_count};
-ghost use Rattle.mxf_views.specs.Partitions.{pack_of, partition_at, partitions_among, stands_at, stands_between, stands_above, is_header, is_footer, is_no_unreadable_pack};
+ghost use Rattle.mxf_views.specs.Partitions.{pack_of, partition_at, partitions_among, stands_at, stands_above, is_header, is_footer, is_no_unreadable_pack};
 
-use mxf_catalogue::{Catalogue, ClearNotes};
+use crate::placed::NotesAt;
+use mxf_catalogue::Catalogue;
 use mxf_klv::{Held, Kind, Note};
 use mxf_sets::{PackPart, PartitionPack};
 use std::marker::Model;
@@ -57,7 +58,7 @@ pub(crate) fn partition_at(note: &Note) -> Option<PartitionAt<'_>>
 /// The partitions that are left, rising.
 #[derive(Debug, Drop)]
 pub struct Partitions<'a> {
-    notes: ClearNotes<'a>,
+    notes: NotesAt<'a>,
 }
 
 impl<'a> Model for Partitions<'a> {
@@ -70,7 +71,7 @@ impl<'a> Model for Partitions<'a> {
 }
 
 impl<'a> Partitions<'a> {
-    pub(crate) fn of(notes: ClearNotes<'a>) -> Partitions<'a>
+    pub(crate) fn of(notes: NotesAt<'a>) -> Partitions<'a>
         requires { length notes < 2 ^ 64 }
         ensures partitions { result ≡ partitions_among notes.entry }
         ensures bound { length result < 2 ^ 64 }
@@ -80,19 +81,6 @@ impl<'a> Partitions<'a> {
 }
 
 impl<'a> Partitions<'a> {
-    /// Whether one stands between two offsets: the first above the lower one tells.
-    pub(crate) fn any_between(self, low: u64, high: u64) -> bool
-        requires { AreInOrder self }
-        ensures { result ≡ stands_between low high self.entry }
-    {
-        for partition in self {
-            if low < partition.offset {
-                return partition.offset < high;
-            }
-        }
-        false
-    }
-
     pub(crate) fn any_above(self, low: u64) -> bool
         ensures { result ≡ stands_above low self.entry }
     {
@@ -137,13 +125,6 @@ pub(crate) fn stands_at(catalogue: &Catalogue, offset: u64) -> bool
     ensures { result ≡ stands_at offset (partitions_of catalogue.now) }
 {
     partition_there(catalogue, offset).is_some()
-}
-
-/// Whether a partition stands between two file offsets.
-pub(crate) fn stands_between(catalogue: &Catalogue, low: u64, high: u64) -> bool
-    ensures { result ≡ stands_between low high (partitions_of catalogue.now) }
-{
-    Partitions::of(catalogue.clear_within(low, u64::MAX)).any_between(low, high)
 }
 
 /// Whether the note is no partition pack, or a readable one.

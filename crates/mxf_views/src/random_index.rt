@@ -11,7 +11,8 @@ ghost use Rattle.mxf_views.specs.RandomIndexView.{IsRipView, rip_view_of};
 ghost use Rattle.mxf_views.specs.RandomIndex.{IsStanding, is_rip_note, rip_in, rips_of, standing_of, standings};
 
 use crate::partition::partition_there;
-use mxf_catalogue::{Catalogue, ClearNotes};
+use crate::placed::NotesAt;
+use mxf_catalogue::Catalogue;
 use mxf_klv::{Held, Kind, Note};
 use mxf_sets::{Rip, RipEntries, RipEntry};
 use std::fmt;
@@ -140,54 +141,12 @@ fn standing_in(catalogue: &Catalogue, entry: &RipEntry) -> Standing
     }
 }
 
-/// The clear random index packs that are left, readable or not.
-#[derive(Debug, Drop)]
-struct Rips<'a> {
-    notes: ClearNotes<'a>,
-}
-
-impl<'a> Model for Rips<'a> {
-    ghost use Rattle.std.specs.Prelude.{List, filter};
-    ghost use Rattle.mxf_klv.specs.Parts.{NoteParts};
-    ghost use Rattle.mxf_views.specs.RandomIndex.{is_rip_note};
-
-    ghost Value = { List NoteParts };
-
-    ghost view = { λ s. filter is_rip_note s.notes };
-}
-
-impl<'a> Iterator for Rips<'a> {
-    type Item = &'a Note;
-
-    ghost next_gives = { YieldsFirstRef (λ s. s) };
-
-    ghost remaining = { item_count (λ s. s) };
-
-    fn next(&mut self) -> Option<&'a Note> {
-        while let Some(note) = self.notes.next() {
-            if is_rip(note) {
-                return Some(note);
-            }
-        }
-        None
-    }
-}
-
 /// Whether the packet has a random index pack.
 #[tactic(auto, unfolding(crate::specs::RandomIndex::is_rip_note))]
 pub(crate) fn is_rip(note: &Note) -> bool
     ensures { result ≡ is_rip_note note.now }
 {
     note.kind() == Kind::Rip
-}
-
-#[tactic(auto, unfolding(crate::specs::RandomIndex::rips_of))]
-fn clear_rips(catalogue: &Catalogue) -> Rips<'_>
-    ensures { result ≡ rips_of catalogue.now }
-{
-    Rips {
-        notes: catalogue.clear(),
-    }
 }
 
 /// The random index pack that the value of a note is, where it is kept and is one.
@@ -204,11 +163,11 @@ pub(crate) fn read_rip(note: &Note) -> Option<Rip<'_>>
 impl<'a> RipView<'a> {
     ghost use Rattle.mxf_views.specs.RandomIndexView.{rip_view_of};
 
-    /// What is known of the random index pack of a catalogue.
-    pub(crate) fn of(catalogue: &'a Catalogue) -> RipView<'a>
+    /// What is known of the random index pack of a catalogue, by the clear ones.
+    pub(crate) fn of(catalogue: &'a Catalogue, mut rips: NotesAt<'a>) -> RipView<'a>
+        requires { rips ≡ rips_of catalogue.now }
         ensures { result ≡ rip_view_of catalogue.now }
     {
-        let mut rips = clear_rips(catalogue);
         let Some(note) = rips.next() else {
             return RipView::Absent;
         };

@@ -23,12 +23,15 @@ ghost use Rattle.mxf_views.specs.SameViews.{SameViews};
 
 use crate::chain::{Chain, Link, link_of};
 use crate::copy::sets::{Sets, no_sets, sets_of_copy};
-use crate::copy::{Copies, CopyInfo, copy_there, read_primer};
+use crate::copy::{CopyInfo, copy_there, copy_with, preferred, read_primer};
 use crate::finding::Findings;
 use crate::gap::Gaps;
 use crate::index::Segments;
 use crate::index::place::{BadUnit, GREATEST_UNIT, Place};
+use crate::kept::Kept;
+use crate::kept::arrival::Arrival;
 use crate::partition::{PartitionAt, Partitions, is_no_unreadable_pack, partition_there};
+use crate::placed::NotesAt;
 use crate::random_index::RipView;
 use crate::reference::resolved::{Resolved, preface_among, resolved_by};
 use crate::reference::{Found, find_among};
@@ -43,15 +46,20 @@ use uuid::Uuid;
 #[derive(Debug, Drop)]
 pub struct Views {
     catalogue: Catalogue,
+    kept: Kept,
 }
 
 impl Model for Views {
     ghost use Rattle.std.specs.Prelude.{List};
     ghost use Rattle.mxf_klv.specs.Parts.{NoteParts};
+    ghost use Rattle.std.specs.Prelude.{◌≡◌};
+    ghost use Rattle.mxf_views.specs.Kept.{kept_in, kept_of};
 
     ghost Value = { List NoteParts };
 
     ghost view = { λ v. v.catalogue };
+
+    ghost invariant = { λ v. kept_in v.kept ≡ kept_of v.catalogue };
 }
 
 /// A catalogue that makes no views, for want of memory: it comes back.
@@ -67,12 +75,13 @@ impl Views {
     {
         Views {
             catalogue: Catalogue::new(alloc),
+            kept: Kept::new(alloc),
         }
     }
 
     /// The views of a catalogue: whatever calls made it, they are those of the notes that it was handed. Where these are
     /// the notes of a well-formed file, partitions, copies and indexes are what reading the file from the front says.
-    pub fn of(_alloc: Global, catalogue: Catalogue) -> Result<Views, ViewFault>
+    pub fn of(alloc: Global, catalogue: Catalogue) -> Result<Views, ViewFault>
         ensures views { IfOk result (λ v. v ≡ catalogue) }
         ensures run { IfOk result (λ v. IsTheRun (has_note catalogue) v) }
         ensures history { (h : History) → catalogue ≡ content h → IfOk result (λ v. v ≡ content (Of h)) }
@@ -80,7 +89,10 @@ impl Views {
     {
         // What a catalogue lends says that its notes are those of a file.
         let _notes = catalogue.notes();
-        Ok(Views { catalogue })
+        match Kept::of(alloc, &catalogue) {
+            Ok(kept) => Ok(Views { catalogue, kept }),
+            Err(_) => Err(ViewFault { catalogue }),
+        }
     }
 
     /// Adds the note to the catalogue.
@@ -92,7 +104,16 @@ impl Views {
         ensures err { OnErr result (self.new ≡ self.old) }
         ensures history { (h : History) → self.old ≡ content h → OnOk result (self.new ≡ content (Add h note)) }
     {
-        self.catalogue.add(note)
+        let arrival = Arrival::of(&self.catalogue, &note);
+        if self.catalogue.holds(&note) {
+            return Ok(Change::Repeated);
+        }
+        let Ok(()) = self.kept.make_room() else {
+            return Err(AddFault { note });
+        };
+        let change = self.catalogue.add(note)?;
+        self.kept.follow(&self.catalogue, &arrival);
+        Ok(change)
     }
 
     /// The views of the notes of both.
@@ -102,7 +123,8 @@ impl Views {
             → IfOk result (λ v. v ≡ content (Join h k)) }
     {
         let catalogue = Catalogue::join(alloc, &a.catalogue, &b.catalogue)?;
-        Ok(Views { catalogue })
+        let kept = Kept::of(alloc, &catalogue)?;
+        Ok(Views { catalogue, kept })
     }
 
     /// Moves the notes of a catalogue into that of these views, which are of the notes of both then. No kept value is
@@ -116,7 +138,12 @@ impl Views {
         ensures history { (h k : History) → self.old ≡ content h → other ≡ content k
             → OnOk result (self.new ≡ content (Join h k)) }
     {
-        self.catalogue.merge(other)
+        let Ok(()) = self.kept.make_room_for(&self.catalogue, &other) else {
+            return Err(MergeFault { other });
+        };
+        self.catalogue.merge(other)?;
+        self.kept.refill(&self.catalogue);
+        Ok(())
     }
 
     /// The catalogue.
@@ -142,7 +169,7 @@ impl Views {
         // A count of the result fits.
         ensures bound { length result < 2 ^ 64 }
     {
-        Partitions::of(self.catalogue.clear())
+        Partitions::of(NotesAt::of(&self.catalogue, &self.kept.partitions))
     }
 
     /// How the partition at a file offset names the one before it.
@@ -157,7 +184,7 @@ impl Views {
     pub fn link_of(&self, partition: &PartitionAt<'_>) -> Link
         ensures { result ≡ link_of (partitions_of self.now) partition.now }
     {
-        link_of(&self.catalogue, partition)
+        link_of(&self.catalogue, &self.kept.partitions, partition)
     }
 
     /// Whether the partitions hang together from the header to the footer.
@@ -239,15 +266,11 @@ impl Views {
         Gaps::of(&self.catalogue)
     }
 
-    /// The copies of the header metadata, one for each partition that states some, rising.
-    #[tactic(auto, unfolding(crate::specs::Copies::copies_of))]
-    pub fn copies(&self) -> Copies<'_>
-        ensures copies { result ≡ copies_of self.now }
-
-        // A count of the result fits.
-        ensures bound { length result < 2 ^ 64 }
+    /// The copies of the header metadata, one for each partition that states some, rising. They are kept.
+    pub fn copies(&self) -> &[CopyInfo]
+        ensures copies { result.now ≡ copies_of self.now }
     {
-        Copies::of(&self.catalogue, self.partitions())
+        &self.kept.copies
     }
 
     /// The sets of the copy of the partition at a file offset, rising; none where there is no such copy.
@@ -269,7 +292,7 @@ impl Views {
     pub fn preferred(&self) -> Option<CopyInfo>
         ensures { result ≡ preferred_of (copies_of self.now) }
     {
-        self.copies().preferred()
+        preferred(&self.kept.copies)
     }
 
     /// The primer pack of the first copy whose bytes have the set: it says what the set's tags stand for. None where no
@@ -278,7 +301,7 @@ impl Views {
     pub fn primer_for(&self, set: &Note) -> Option<Primer<'_>>
         ensures { result ≡ primer_for self.now set.now }
     {
-        let copy = self.copies().with(set)?;
+        let copy = copy_with(&self.kept.copies, set)?;
         self.primer_of(&copy)
     }
 
@@ -326,7 +349,7 @@ impl Views {
         // A count of the result fits.
         ensures bound { length result < 2 ^ 64 }
     {
-        Segments::of(self.catalogue.clear())
+        Segments::of(NotesAt::of(&self.catalogue, &self.kept.segments))
     }
 
     /// Where the index of an IndexSID puts an edit unit, by all segments that cover it.
@@ -345,7 +368,10 @@ impl Views {
     pub fn rip(&self) -> RipView<'_>
         ensures { result ≡ rip_view_of self.now }
     {
-        RipView::of(&self.catalogue)
+        RipView::of(
+            &self.catalogue,
+            NotesAt::of(&self.catalogue, &self.kept.random_index_packs),
+        )
     }
 
     /// What the notes show to be wrong or missing, by file offset and then code, none twice. It takes memory.

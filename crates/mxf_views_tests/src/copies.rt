@@ -30,9 +30,7 @@ fn set_offsets(alloc: Global, views: &Views, partition: u64) -> Result<Vec<u64>,
 fn a_copy_is_finished_where_all_its_bytes_are_held(rt: HostRuntime) -> Result<(), Fail> {
     let alloc = rt.alloc();
     let views = views_at(alloc, &one_copy(alloc)?, &[0, 108, 154])?;
-    let mut copies = views.copies();
-    assert_eq!(rt; copies.next(), Some(FINISHED));
-    assert_eq!(rt; copies.next(), None);
+    assert_eq!(rt; views.copies(), [FINISHED].as_slice());
     assert_eq!(rt; views.preferred(), Some(FINISHED));
     assert_eq!(rt; set_offsets(alloc, &views, 0)?.as_slice(), [154].as_slice());
     assert!(rt; views.sets(108).next().is_none());

@@ -259,7 +259,7 @@ impl Printer {
             (group_lines views.now groups.Copies) }
     {
         'each: for copy in views.copies() {
-            self.print(writer, CopyLine(copy))?;
+            self.print(writer, CopyLine(*copy))?;
         }
         Ok(())
     }

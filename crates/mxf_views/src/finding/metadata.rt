@@ -32,7 +32,7 @@ impl Findings {
         ensures { OnOk result (self.new ≡ union finding_cmp self.old (findings_for Code.F09 views.now)) }
     {
         for copy in views.copies() {
-            if is_partial(&copy) {
+            if is_partial(copy) {
                 self.add(Code::F09, copy.partition)?;
             }
         }

@@ -1,7 +1,7 @@
 use Rattle.std.proofs.Common.{rules, [], ◌≡◌, length, sym, subst, List, arith}
 use Rattle.std.specs.Vec.Iter.{into_iter_items}
 use Rattle.mxf_tool.proofs.GatheringLaws.{IsPassed, IsGathered, passed_none, gathered_none, passed_one, gathered_one}
-use Rattle.mxf_tool.proofs.GatheringLaws.{gathered_good, gathered_run, gathered_nothing, gathered_fault, gathered_wants, told}
+use Rattle.mxf_tool.proofs.GatheringLaws.{gathered_good, gathered_reports, gathered_run, gathered_nothing, gathered_fault, gathered_wants, told}
 use Rattle.mxf_tool.proofs.gathering.gather.Goals as goal
 
 pub parts-init : goal.parts-init
@@ -65,4 +65,10 @@ pub returns-in-Ok-clause-good : goal.returns-in-Ok-clause-good
 returns-in-Ok-clause-good g c t =
     let none : length (into_iter_items c.parts.part-iterator) ≡ 0 = search rules in
     gathered_good g.R.Read.remaining c.args.parts.items (into_iter_items c.parts.part-iterator) c.parts.number _ _
+    (c.parts.invariant.gathered t) none
+
+pub returns-in-Ok-clause-reports : goal.returns-in-Ok-clause-reports
+returns-in-Ok-clause-reports g c t =
+    let none : length (into_iter_items c.parts.part-iterator) ≡ 0 = search rules in
+    gathered_reports g.R.Read.remaining c.args.parts.items (into_iter_items c.parts.part-iterator) c.parts.number _ _
     (c.parts.invariant.gathered t) none

@@ -1,4 +1,4 @@
-use Rattle.std.proofs.Common.{◌≡◌, map}
+use Rattle.std.proofs.Common.{◌≡◌, drop, map}
 use Rattle.std.specs.Prelude.{filter}
 use Rattle.mxf_klv.specs.Rising.{union}
 use Rattle.mxf_views.specs.declared.finding.Code.TheVariants.{F09}
@@ -10,5 +10,5 @@ use Rattle.mxf_views.proofs.finding.Findings.add_copies.Given as goal
 abbrev pub invariant-loop-copy : goal.invariant-loop-copy
 invariant-loop-copy l =
     union finding_cmp l.self
-    (map (finding F09) (map (λ c. c.partition) (filter is_partial l.copy-iterator)))
+    (map (finding F09) (map (λ c. c.partition) (filter is_partial (drop l.copy-index l.copy-items))))
     ≡ union finding_cmp l.fn.self (findings_for F09 l.views)

@@ -1,17 +1,11 @@
-use Rattle.std.proofs.Common.{[], ◌∷◌, arith}
+use Rattle.std.proofs.Common.{[], ◌+◌, ◌∷◌, drop}
 use Rattle.std.proofs.lemmas.Result.{err_from_is_err_and}
 use Rattle.mxf_views.specs.Copies.{copies_of}
 use Rattle.mxf_tool.specs.Lines.{copy_line}
 use Rattle.mxf_views.specs.declared.copy.CopyInfo.{CopyInfo}
 use Rattle.std.specs.List.{flat_map}
-use Rattle.mxf_tool.proofs.PrintLaws.{leads_first, leads_on, leads_fault, leads_last}
+use Rattle.mxf_tool.proofs.PrintLaws.{leads_on, leads_fault, leads_last, next_item, none_left}
 use Rattle.mxf_tool.proofs.printing.printer.Printer.print_copies.Goals as goal
-
-pub each-init : goal.each-init
-each-init g c =
-    let lines = λ (copy : CopyInfo). copy_line copy ∷ [] in
-    leads_first (g.W.Write.contents c.args.writer.now) c.args.self.now.progress.written lines
-    c.into_iter-copy-iterator.result (copies_of c.args.views.now) (grind arith)
 
 pub each-preserved : goal.each-preserved
 each-preserved g c =
@@ -19,8 +13,9 @@ each-preserved g c =
     let contents = g.W.Write.contents in
     leads_on (contents c.args.writer.now) (contents c.each.writer) (contents c.print.new.writer)
     c.args.self.now.progress.written c.each.self.progress.written c.print.new.self.progress.written
-    (flat_map lines (copies_of c.args.views.now)) lines c.each.copy-iterator c.in-Some.copy c.next.new.self
-    c.in-Some.ensures.steps c.each.invariant c.in_ok-print.ensures
+    (flat_map lines (copies_of c.args.views.now)) lines (drop c.each.copy-index c.copies-copy-items.result.now) _
+    (drop (c.each.copy-index + 1) c.copies-copy-items.result.now)
+    (next_item c.copies-copy-items.result.now c.each.copy-index _ c.each-test.true) c.each.invariant c.in_ok-print.ensures
 
 pub returns-in_err-print : goal.returns-in_err-print
 returns-in_err-print g c =
@@ -29,13 +24,15 @@ returns-in_err-print g c =
     let p = err_from_is_err_and c.from_residual.result c.from_residual.ensures.1 in
     rw (p.1, p.2) (leads_fault (contents c.args.writer.now) (contents c.each.writer) (contents c.print.new.writer)
     c.args.self.now.progress.written c.each.self.progress.written c.print.new.self.progress.written
-    c.in_err-print.field-0.0 (flat_map lines (copies_of c.args.views.now)) lines c.each.copy-iterator c.in-Some.copy
-    c.next.new.self c.in-Some.ensures.steps c.each.invariant c.in_err-print.ensures)
+    c.in_err-print.field-0.0 (flat_map lines (copies_of c.args.views.now)) lines
+    (drop c.each.copy-index c.copies-copy-items.result.now) _ (drop (c.each.copy-index + 1) c.copies-copy-items.result.now)
+    (next_item c.copies-copy-items.result.now c.each.copy-index _ c.each-test.true) c.each.invariant c.in_err-print.ensures)
 
 pub returns : goal.returns
 returns g c =
     let lines = λ (copy : CopyInfo). copy_line copy ∷ [] in
     let contents = g.W.Write.contents in
     leads_last (contents c.args.writer.now) (contents c.each.writer) c.args.self.now.progress.written
-    c.each.self.progress.written (flat_map lines (copies_of c.args.views.now)) lines c.each.copy-iterator
-    c.in-None.ensures.steps.0 c.each.self.in_range c.each.invariant
+    c.each.self.progress.written (flat_map lines (copies_of c.args.views.now)) lines
+    (drop c.each.copy-index c.copies-copy-items.result.now) (none_left c.copies-copy-items.result.now c.each.copy-index c.each-test.false)
+    c.each.self.in_range c.each.invariant

@@ -1,5 +1,5 @@
 -- What is answered of the lines to come is answered of all lines.
-use Rattle.std.proofs.Common.{[], ◌∷◌}
+use Rattle.std.proofs.Common.{[], ◌∷◌, drop}
 use Rattle.mxf_views.specs.Copies.{copies_of}
 use Rattle.mxf_tool.specs.Lines.{copy_line}
 use Rattle.std.specs.List.{flat_map}
@@ -11,4 +11,4 @@ invariant-each g l =
     Leads (g.W.Write.contents l.initial.writer) l.initial.self.progress.written
     (flat_map (λ copy. copy_line copy ∷ []) (copies_of l.views))
     (g.W.Write.contents l.writer) l.self.progress.written
-    (flat_map (λ copy. copy_line copy ∷ []) l.copy-iterator)
+    (flat_map (λ copy. copy_line copy ∷ []) (drop l.copy-index l.copy-items))

@@ -1,0 +1,32 @@
+use Rattle.std.proofs.Common.{◌∙◌, ap, sym, subst}
+use Rattle.mxf_catalogue.specs.Content.{IsCatalogue}
+use Rattle.mxf_catalogue.specs.Disputes.{AreApart, clear_notes, is_byte_shared}
+use Rattle.mxf_catalogue.specs.Parts.{StandApart, touching}
+use Rattle.mxf_catalogue.proofs.KeptLaws.{union_is}
+use Rattle.mxf_catalogue.proofs.PartLaws.{apart_of, clear_part}
+use Rattle.mxf_catalogue.proofs.SpanLaws.{AreApart-clear_notes, AreApart-filter}
+use Rattle.mxf_catalogue.proofs.catalogue.Catalogue.clear_touching.Goals as goal
+
+pub touched-requires-clause-apart : goal.touched-requires-clause-apart
+touched-requires-clause-apart c =
+    let parts = c.self.inside.parts in
+    subst StandApart (sym c.deref.ensures.value) (apart_of _ parts.disputed.items c.self.invariant.kept.parts)
+
+pub returns-clause-notes : goal.returns-clause-notes
+returns-clause-notes c =
+    let parts = c.self.inside.parts in
+    c.of.ensures.notes ∙ c.touched.ensures
+    ∙ ap (touching c.args.note.now) (c.deref.ensures.value
+    ∙ clear_part parts.clear.items parts.disputed.items c.self.invariant.kept.parts ∙ ap clear_notes c.self.view_is)
+
+pub returns-clause-catalogue : goal.returns-clause-catalogue
+returns-clause-catalogue c =
+    let parts = c.self.inside.parts in
+    subst IsCatalogue c.self.view_is
+    (union_is parts.clear.items parts.disputed.items c.self.invariant.kept.parts)
+
+pub returns-clause-apart : goal.returns-clause-apart
+returns-clause-apart c =
+    let all = returns-clause-catalogue c in
+    subst (AreApart 0) (sym (returns-clause-notes c)) (AreApart-filter (λ n. is_byte_shared c.args.note.now n) 0
+    (clear_notes c.args.self.now) (AreApart-clear_notes c.args.self.now all.content))

@@ -1,0 +1,342 @@
+-- What adding a note changes among the clear notes, and among the offsets where clear notes of a kind stand.
+use Rattle.std.proofs.Common.{◌≡◌, ℕ, ◌+◌, ◌<◌, ◌≤◌, ◌⊎◌, Bool, true, false, List, [], ◌∷◌, Some, None, refl}
+use Rattle.std.proofs.Common.{sym, ap, subst, ◌∙◌, inl, inr, arith, leb-true, le-leb, eqb-true, eq-eqb}
+use Rattle.std.specs.declared.cmp.Ordering.TheVariants.{Less}
+use Rattle.std.specs.Prelude.{◌↔◌, ◌||◌, cond, ◌==◌, nat_le, nat_lt, filter, find, map, max, min}
+use Rattle.std.specs.FinSet.{nat_cmp-IsAntisymmetric}
+use Rattle.std.specs.Ordering.{nat_cmp}
+use Rattle.std.proofs.lemmas.Bool.{ltb-true, lt-ltb, ltb-false}
+use Rattle.std.proofs.lemmas.Cmp.{nat_cmp_total}
+use Rattle.mxf_klv.specs.Parts.{NoteParts}
+use Rattle.mxf_klv.specs.Note.{end_of}
+use Rattle.mxf_klv.specs.Rising.{In, IsRising, with_one, same_from_members, In-with_one, IsRising-with_one}
+use Rattle.mxf_catalogue.specs.Content.{IsContent, with_note}
+use Rattle.mxf_catalogue.specs.Disputes.{IsClear, SharesByte, clear_notes}
+use Rattle.mxf_catalogue.proofs.ContentLaws.{In-with_note, IsContent-with_note}
+use Rattle.mxf_catalogue.proofs.DisputeLaws.{In-clear_notes, clear-alone, clear_at-found, is_byte_shared-SharesByte, SharesByte-symmetric}
+use Rattle.mxf_catalogue.proofs.Lists.{In-filter, In-map, all-filter, found-In, none_found}
+use Rattle.mxf_catalogue.specs.Parts.{touching}
+use Rattle.mxf_catalogue.proofs.MovedLaws.{rising_apart}
+use Rattle.mxf_catalogue.proofs.PartLaws.{In-touching}
+use Rattle.mxf_catalogue.proofs.SpanLaws.{AreApart-clear_notes, AreApart-filter}
+use Rattle.mxf_views.specs.Kept.{IsHull, followed, is_outside, notes_at, offsets_where, passes, stands_clear}
+use Rattle.mxf_views.proofs.Members.{both}
+use Rattle.mxf_views.proofs.StartLaws.{clear_same}
+
+-- ---- which notes are clear
+
+shares : (m n : NoteParts) → m.offset < end_of n → n.offset < end_of m → SharesByte m n
+shares m n l h = (is_byte_shared-SharesByte m n).0 (both _ _ (lt-ltb m.offset (end_of n) l) (lt-ltb n.offset (end_of m) h))
+
+shared_low : (m n : NoteParts) → SharesByte m n → m.offset < end_of n
+shared_low m n s = let a : m.offset ≤ s.0 = s.1.from in let b : s.0 + 1 ≤ end_of n = s.2.before in omega arith
+
+-- Clear with a new note are: the note itself, where it is, and what was clear and shares no byte with it.
+pub clear_after : (x : NoteParts) (notes : List NoteParts) → (In x notes → ⊥) → (n : NoteParts)
+    → IsClear n (with_note x notes)
+    ↔ (((n ≡ x) × IsClear x (with_note x notes)) ⊎ (IsClear n notes × (SharesByte x n → ⊥)))
+clear_after x notes new n =
+    let all = λ (m : NoteParts). In-with_note m x notes in (
+      λ c. elim ((all n).0 c.held) [
+        | inl e ↦ inl (e, subst (λ (y : NoteParts). IsClear y (with_note x notes)) e c)
+        | inr k ↦ inr (
+          record { held = k; undisputed = λ d. c.undisputed (d.0, (all d.0).1 (inr d.1), d.2, d.3) },
+          λ s. c.undisputed (x, (all x).1 (inl refl), (λ e. new (subst (λ (y : NoteParts). In y notes) (sym e) k)), s),
+        )
+      ],
+      λ h. elim h [
+        | inl p ↦ subst (λ (y : NoteParts). IsClear y (with_note x notes)) (sym p.0) p.1
+        | inr q ↦ record {
+          held = (all n).1 (inr q.0.held);
+          undisputed = λ d. elim ((all d.0).0 d.1) [
+            | inl e ↦ q.1 (subst (λ (y : NoteParts). SharesByte y n) e d.3)
+            | inr k ↦ q.0.undisputed (d.0, k, d.2, d.3)
+          ];
+        }
+      ],
+    )
+
+-- ---- the hull of what comes and goes
+
+-- Two clear notes of which one begins below the other's end, but isn't the other, stand one behind the other.
+ordered : (notes : List NoteParts) (m n : NoteParts) → IsClear m notes → IsClear n notes → (m ≡ n → ⊥)
+    → m.offset < end_of n → end_of m ≤ n.offset
+ordered notes m n c d ne l =
+    elim (nat_lt n.offset (end_of m)) as (λ b. nat_lt n.offset (end_of m) ≡ b → end_of m ≤ n.offset) [
+      | true ↦ λ e. absurd (ne (clear_same notes m n c d (shares m n l (ltb-true n.offset (end_of m) e))))
+      | false ↦ λ e. ltb-false n.offset (end_of m) e
+    ] refl
+
+-- A clear note that shares no byte with the new one lies outside.
+pub lies_outside : (x n : NoteParts) (notes : List NoteParts) (start end : ℕ) → IsHull x notes start end
+    → IsClear n notes → (SharesByte x n → ⊥) → (end_of n ≤ start) ⊎ (end ≤ n.offset)
+lies_outside x n notes start end h c far =
+    elim (nat_lt x.offset (end_of n)) as (λ b. nat_lt x.offset (end_of n) ≡ b
+    → (end_of n ≤ start) ⊎ (end ≤ n.offset)) [
+      | false ↦ λ e. (
+          let low : end_of n ≤ x.offset = ltb-false x.offset (end_of n) e in
+          elim h.least [
+            | inl q ↦ inl (omega (arith, q, low))
+            | inr m ↦ (
+                let q : start ≡ m.0.offset = m.3 in
+                let l : x.offset < end_of m.0 = shared_low x m.0 m.2 in
+                let other : n ≡ m.0 → ⊥ = λ s. far (subst (SharesByte x) (sym s) m.2) in
+                let o : end_of n ≤ m.0.offset = ordered notes n m.0 c m.1 other (omega (arith, l, low)) in
+                inl (omega (arith, q, o)))
+          ])
+      | true ↦ λ e. (
+          let high : end_of x ≤ n.offset =
+          elim (nat_lt n.offset (end_of x)) as (λ b. nat_lt n.offset (end_of x) ≡ b → end_of x ≤ n.offset) [
+            | true ↦ λ f. absurd (far (shares x n (ltb-true x.offset (end_of n) e) (ltb-true n.offset (end_of x) f)))
+            | false ↦ λ f. ltb-false n.offset (end_of x) f
+          ] refl in
+          elim h.greatest [
+            | inl q ↦ inr (omega (arith, q, high))
+            | inr m ↦ (
+                let q : end ≡ end_of m.0 = m.3 in
+                let l : m.0.offset < end_of x = shared_low m.0 x (SharesByte-symmetric x m.0 m.2) in
+                let other : m.0 ≡ n → ⊥ = λ s. far (subst (SharesByte x) s m.2) in
+                let o : end_of m.0 ≤ n.offset = ordered notes m.0 n m.1 c other (omega (arith, l, high)) in
+                inr (omega (arith, q, o)))
+          ])
+    ] refl
+
+outside_by : (start end : ℕ) (n : NoteParts) → (end_of n ≤ start) ⊎ (end ≤ n.offset)
+    → is_outside start end n.offset ≡ true
+outside_by start end n (inl l) = rw (lt-ltb n.offset start (omega arith)) refl
+outside_by start end n (inr l) =
+    elim (nat_lt n.offset start) as (λ b. (b || nat_le end n.offset) ≡ true) [
+      | true ↦ refl
+      | false ↦ le-leb end n.offset l
+    ]
+
+-- What the test says of an offset.
+outside_says : (start end offset : ℕ) → is_outside start end offset ≡ true → start ≤ offset → offset < end → ⊥
+outside_says start end offset e low high =
+    elim (nat_lt offset start) as (λ b. nat_lt offset start ≡ b → (b || nat_le end offset) ≡ true → ⊥) [
+      | true ↦ λ f g. let l : offset < start = ltb-true offset start f in omega arith
+      | false ↦ λ f g. let l : end ≤ offset = leb-true end offset g in omega arith
+    ] refl e
+
+-- So by its offset alone: a clear note lies outside exactly where it shares no byte with the new one.
+pub outside_iff : (x n : NoteParts) (notes : List NoteParts) (start end : ℕ) → IsHull x notes start end
+    → IsClear n notes → (SharesByte x n → ⊥) ↔ (is_outside start end n.offset ≡ true)
+outside_iff x n notes start end h c = (
+  λ far. outside_by start end n (lies_outside x n notes start end h c far),
+  λ e s.
+      let b = h.all n c s in
+      let low : start ≤ n.offset = b.0 in
+      let high : end_of n ≤ end = b.1 in
+      outside_says start end n.offset e low (omega arith),
+)
+
+-- The hull of the new note and of the touched ones but those that are left.
+pub record HullSoFar (x : NoteParts) (notes : List NoteParts) (start end : ℕ) (left : List NoteParts) : Type 0 where
+  pub all : (m : NoteParts) → IsClear m notes → SharesByte x m
+      → In m left ⊎ ((start ≤ m.offset) × (end_of m ≤ end))
+  pub members : (m : NoteParts) → In m left → IsClear m notes × SharesByte x m
+  pub least : (start ≡ x.offset) ⊎ ((m : NoteParts) × IsClear m notes × SharesByte x m × (start ≡ m.offset))
+  pub greatest : (end ≡ end_of x) ⊎ ((m : NoteParts) × IsClear m notes × SharesByte x m × (end ≡ end_of m))
+  pub low : start ≤ x.offset
+  pub high : end_of x ≤ end
+
+pub hull_of_one : (x : NoteParts) (notes left : List NoteParts) → left ≡ touching x (clear_notes notes)
+    → HullSoFar x notes x.offset (end_of x) left
+hull_of_one x notes left e =
+    let t = λ (m : NoteParts). In-touching x m (clear_notes notes) in
+    let c = λ (m : NoteParts). In-clear_notes m notes in
+    record {
+      all = λ m k s. inl (subst (In m) (sym e) ((t m).1 ((c m).1 k, s)));
+      members = λ m h. let k = (t m).0 (subst (In m) e h) in ((c m).0 k.0, k.1);
+      least = inl refl;
+      greatest = inl refl;
+      low = omega arith;
+      high = omega arith;
+    }
+
+pub hull_with : (x : NoteParts) (notes : List NoteParts) (start end : ℕ) (m : NoteParts) (left : List NoteParts)
+    → HullSoFar x notes start end (m ∷ left) → HullSoFar x notes (min start m.offset) (max end (end_of m)) left
+hull_with x notes start end m left h =
+    let own = h.members m (inl refl) in
+    record {
+      all = λ n c s. elim (h.all n c s) [
+        | inl k ↦ elim k [
+          | inl e ↦ inr (subst (λ (y : NoteParts). (min start m.offset ≤ y.offset) × (end_of y ≤ max end (end_of m))) (sym e)
+              (omega arith, omega arith))
+          | inr i ↦ inl i
+        ]
+        | inr b ↦ (
+            let l : start ≤ n.offset = b.0 in
+            let g : end_of n ≤ end = b.1 in
+            let p : min start m.offset ≤ n.offset = omega arith in
+            let q : end_of n ≤ max end (end_of m) = omega arith in inr (p, q))
+      ];
+      members = λ n k. h.members n (inr k);
+      least =
+          elim (nat_lt start m.offset) as (λ b. nat_lt start m.offset ≡ b → (min start m.offset ≡ x.offset)
+          ⊎ ((n : NoteParts) × IsClear n notes × SharesByte x n × (min start m.offset ≡ n.offset))) [
+            | true ↦ λ t. (
+                let l : start < m.offset = ltb-true start m.offset t in
+                let same : min start m.offset ≡ start = omega arith in
+                elim h.least [ inl e ↦ inl (same ∙ e) | inr n ↦ inr (n.0, n.1, n.2, same ∙ n.3) ])
+            | false ↦ λ t. (
+                let l : m.offset ≤ start = ltb-false start m.offset t in
+                let same : min start m.offset ≡ m.offset = omega arith in inr (m, own.0, own.1, same))
+          ] refl;
+      greatest =
+          elim (nat_lt end (end_of m)) as (λ b. nat_lt end (end_of m) ≡ b → (max end (end_of m) ≡ end_of x)
+          ⊎ ((n : NoteParts) × IsClear n notes × SharesByte x n × (max end (end_of m) ≡ end_of n))) [
+            | true ↦ λ t. (
+                let l : end < end_of m = ltb-true end (end_of m) t in
+                let same : max end (end_of m) ≡ end_of m = omega arith in inr (m, own.0, own.1, same))
+            | false ↦ λ t. (
+                let l : end_of m ≤ end = ltb-false end (end_of m) t in
+                let same : max end (end_of m) ≡ end = omega arith in
+                elim h.greatest [ inl e ↦ inl (same ∙ e) | inr n ↦ inr (n.0, n.1, n.2, same ∙ n.3) ])
+          ] refl;
+      low = let l : start ≤ x.offset = h.low in omega arith;
+      high = let l : end_of x ≤ end = h.high in omega arith;
+    }
+
+pub hull_of_all : (x : NoteParts) (notes : List NoteParts) (start end : ℕ) → HullSoFar x notes start end []
+    → IsHull x notes start end
+hull_of_all x notes start end h = record {
+  all = λ m c s. elim (h.all m c s) [ inl k ↦ absurd k | inr b ↦ b ];
+  least = h.least;
+  greatest = h.greatest;
+  low = h.low;
+  high = h.high;
+}
+
+each_found : (notes ns : List NoteParts) → ((n : NoteParts) → In n ns → IsClear n notes)
+    → notes_at notes (map (λ n. n.offset) ns) ≡ ns
+each_found notes [] c = refl
+each_found notes (n ∷ ns) c =
+    rw (clear_at-found n.offset notes n (c n (inl refl)) refl) (ap (λ l. n ∷ l) (each_found notes ns (λ m h. c m (inr h))))
+
+-- ---- where clear notes of a kind stand
+
+pub In-offsets : (test : NoteParts → Bool) (notes : List NoteParts) (o : ℕ) → In o (offsets_where test notes)
+    ↔ ((n : NoteParts) × IsClear n notes × (test n ≡ true) × (o ≡ n.offset))
+In-offsets test notes o =
+    let m = In-map (λ (n : NoteParts). n.offset) (filter test (clear_notes notes)) o in
+    let f = λ (n : NoteParts). In-filter test (clear_notes notes) n in
+    let c = λ (n : NoteParts). In-clear_notes n notes in (
+      λ h. let s = m.0 h in let k = (f s.0).0 s.1 in (s.0, (c s.0).0 k.0, k.1, s.2),
+      λ s. m.1 (s.0, (f s.0).1 ((c s.0).1 s.1, s.2), s.3),
+    )
+
+pub offsets_rise : (test : NoteParts → Bool) (notes : List NoteParts) → IsContent notes
+    → IsRising nat_cmp (offsets_where test notes)
+offsets_rise test notes r =
+    rising_apart 0 (filter test (clear_notes notes))
+    (AreApart-filter test 0 (clear_notes notes) (AreApart-clear_notes notes r))
+
+pub rising-filter : (p : ℕ → Bool) (xs : List ℕ) → IsRising nat_cmp xs → IsRising nat_cmp (filter p xs)
+rising-filter p [] r = tt
+rising-filter p (x ∷ xs) r =
+    elim (p x) as (λ b. IsRising nat_cmp (cond b (x ∷ filter p xs) (filter p xs))) [
+      | true ↦ (all-filter (λ y. nat_cmp x y ≡ Less) p xs r.0, rising-filter p xs r.1)
+      | false ↦ rising-filter p xs r.1
+    ]
+
+-- Where the new note is clear and of the kind, its offset joins those outside.
+pub offsets_with : (test : NoteParts → Bool) (x : NoteParts) (notes : List NoteParts) (start end : ℕ)
+    → IsContent notes → (In x notes → ⊥) → IsHull x notes start end → IsClear x (with_note x notes)
+    → test x ≡ true
+    → with_one nat_cmp x.offset (filter (is_outside start end) (offsets_where test notes))
+    ≡ offsets_where test (with_note x notes)
+offsets_with test x notes start end r new h clear kind =
+    let before = filter (is_outside start end) (offsets_where test notes) in
+    let rising = rising-filter (is_outside start end) (offsets_where test notes) (offsets_rise test notes r) in
+    same_from_members nat_cmp_total nat_cmp-IsAntisymmetric (with_one nat_cmp x.offset before)
+    (offsets_where test (with_note x notes))
+    (IsRising-with_one nat_cmp_total nat_cmp-IsAntisymmetric x.offset before rising)
+    (offsets_rise test (with_note x notes) (IsContent-with_note x notes r)) (λ o.
+    let one = In-with_one nat_cmp_total nat_cmp-IsAntisymmetric o x.offset before in
+    let kept = In-filter (is_outside start end) (offsets_where test notes) o in
+    let old = In-offsets test notes o in
+    let all = In-offsets test (with_note x notes) o in (
+      λ k. elim (one.0 k) [
+        | inl e ↦ all.1 (x, clear, kind, e)
+        | inr i ↦ (
+            let b = kept.0 i in
+            let s = old.0 b.0 in
+            let out : is_outside start end s.0.offset ≡ true = ap (is_outside start end) (sym s.3) ∙ b.1 in
+            all.1 (s.0, (clear_after x notes new s.0).1 (inr (s.1, (outside_iff x s.0 notes start end h s.1).1 out)), s.2, s.3))
+      ],
+      λ k.
+          let s = all.0 k in
+          elim ((clear_after x notes new s.0).0 s.1) [
+            | inl p ↦ one.1 (inl (s.3 ∙ ap (λ (y : NoteParts). y.offset) p.0))
+            | inr q ↦ one.1 (inr (kept.1 (
+              old.1 (s.0, q.0, s.2, s.3),
+              ap (is_outside start end) s.3 ∙ (outside_iff x s.0 notes start end h q.0).0 q.1,
+            )))
+          ],
+    ))
+
+-- Else those outside are all.
+pub offsets_without : (test : NoteParts → Bool) (x : NoteParts) (notes : List NoteParts) (start end : ℕ)
+    → IsContent notes → (In x notes → ⊥) → IsHull x notes start end
+    → (IsClear x (with_note x notes) → test x ≡ true → ⊥)
+    → filter (is_outside start end) (offsets_where test notes) ≡ offsets_where test (with_note x notes)
+offsets_without test x notes start end r new h none =
+    let before = filter (is_outside start end) (offsets_where test notes) in
+    same_from_members nat_cmp_total nat_cmp-IsAntisymmetric before (offsets_where test (with_note x notes))
+    (rising-filter (is_outside start end) (offsets_where test notes) (offsets_rise test notes r))
+    (offsets_rise test (with_note x notes) (IsContent-with_note x notes r)) (λ o.
+    let kept = In-filter (is_outside start end) (offsets_where test notes) o in
+    let old = In-offsets test notes o in
+    let all = In-offsets test (with_note x notes) o in (
+      λ i.
+          let b = kept.0 i in
+          let s = old.0 b.0 in
+          let out : is_outside start end s.0.offset ≡ true = ap (is_outside start end) (sym s.3) ∙ b.1 in
+          all.1 (s.0, (clear_after x notes new s.0).1 (inr (s.1, (outside_iff x s.0 notes start end h s.1).1 out)), s.2, s.3),
+      λ k.
+          let s = all.0 k in
+          elim ((clear_after x notes new s.0).0 s.1) [
+            | inl p ↦ absurd (none p.1 (ap test (sym p.0) ∙ s.2))
+            | inr q ↦ kept.1 (
+              old.1 (s.0, q.0, s.2, s.3),
+              ap (is_outside start end) s.3 ∙ (outside_iff x s.0 notes start end h q.0).0 q.1,
+            )
+          ],
+    ))
+
+-- So they are what follows an arrival.
+pub offsets_follow : (test : NoteParts → Bool) (x : NoteParts) (notes : List NoteParts) (start end : ℕ)
+    → IsContent notes → (In x notes → ⊥) → IsHull x notes start end
+    → followed (stands_clear test (with_note x notes) x.offset) x.offset start end (offsets_where test notes)
+    ≡ offsets_where test (with_note x notes)
+offsets_follow test x notes start end r new h =
+    let after = with_note x notes in
+    let held = (In-with_note x x notes).1 (inl refl) in
+    let offsets = offsets_where test notes in
+    elim (find (λ n. n.offset == x.offset) (clear_notes after)) as (λ o.
+    find (λ n. n.offset == x.offset) (clear_notes after) ≡ o
+    → followed (passes test o) x.offset start end offsets ≡ offsets_where test after) [
+      | None ↦ λ e. offsets_without test x notes start end r new h (λ clear t.
+          none_found (λ (n : NoteParts). n.offset == x.offset) (clear_notes after) x e ((In-clear_notes x after).1 clear)
+          (eq-eqb x.offset x.offset refl))
+      | Some n ↦ λ e. (
+          let f = found-In (λ (n : NoteParts). n.offset == x.offset) (clear_notes after) n e in
+          let clear = (In-clear_notes n after).0 f.0 in
+          let same : n ≡ x = clear-alone n x after clear held (eqb-true n.offset x.offset f.1) in
+          let own : IsClear x after = subst (λ (y : NoteParts). IsClear y after) same clear in
+          elim (test n) as (λ b. test n ≡ b → followed b x.offset start end offsets ≡ offsets_where test after) [
+            | true ↦ λ t. offsets_with test x notes start end r new h own (ap test (sym same) ∙ t)
+            | false ↦ λ t. offsets_without test x notes start end r new h (λ c u.
+                let v : test n ≡ true = ap test same ∙ u in cc (v, t))
+          ] refl)
+    ] refl
+
+-- ---- the notes at their offsets
+
+-- The clear notes of a kind are those at the offsets where such notes stand.
+pub notes_at_offsets : (test : NoteParts → Bool) (notes : List NoteParts)
+    → notes_at notes (offsets_where test notes) ≡ filter test (clear_notes notes)
+notes_at_offsets test notes =
+    each_found notes (filter test (clear_notes notes)) (λ n h.
+    (In-clear_notes n notes).0 ((In-filter test (clear_notes notes) n).0 h).0)

@@ -1,0 +1,87 @@
+-- What is kept of a content, and what an addition makes of it.
+use Rattle.std.proofs.Common.{◌≡◌, ℕ, Bool, List, [], refl, sym, ap, ◌∙◌}
+use Rattle.mxf_klv.specs.Parts.{NoteParts}
+use Rattle.mxf_klv.specs.NoteOrder.{note_cmp-IsAntisymmetric, note_total}
+use Rattle.mxf_klv.proofs.RisingLemmas.{with_one_present}
+use Rattle.mxf_klv.specs.Rising.{In}
+use Rattle.mxf_catalogue.specs.Content.{IsContent, with_note}
+use Rattle.mxf_catalogue.specs.Disputes.{clear_notes}
+use Rattle.mxf_views.specs.declared.copy.CopyInfo.{CopyInfo}
+use Rattle.mxf_views.specs.declared.kept.offsets.Placed.TheVariants as kinds
+use Rattle.mxf_views.specs.Copies.{copies_of}
+use Rattle.mxf_views.specs.Kept.{IsHull, KeptParts, kept_of, can_bring_start, copies_followed, followed, is_placed, notes_at, offsets_where, stands_clear}
+use Rattle.mxf_views.specs.Partitions.{partition_at, partitions_among, partitions_of}
+use Rattle.mxf_views.specs.Places.{placed_segment, segments_among, segments_of}
+use Rattle.mxf_views.specs.RandomIndex.{rips_of}
+use Rattle.mxf_views.proofs.ClearChanges.{notes_at_offsets, offsets_follow}
+use Rattle.mxf_views.proofs.CopyUpdates.{copies_follow}
+use Rattle.mxf_views.proofs.ListSteps.{filter_map_some}
+
+abbrev pub the_kept : List ℕ → List ℕ → List ℕ → List CopyInfo → KeptParts
+the_kept ps ss rs cs = record { partitions = ps; segments = ss; rips = rs; copies = cs }
+
+-- A note that is held changes nothing.
+pub with_note_held : (n : NoteParts) (notes : List NoteParts) → IsContent notes → In n notes → with_note n notes ≡ notes
+with_note_held n notes r h = with_one_present note_total note_cmp-IsAntisymmetric n notes r h
+
+-- What is kept of no note.
+pub kept_of_none : kept_of [] ≡ record { partitions = []; segments = []; rips = []; copies = [] }
+unfolding copies_of partitions_of
+kept_of_none = refl
+
+pub same_kept : (ps qs ss ts rs us : List ℕ) (cs ds : List CopyInfo) → ps ≡ qs → ss ≡ ts → rs ≡ us → cs ≡ ds
+    → the_kept ps ss rs cs ≡ the_kept qs ts us ds
+same_kept ps qs ss ts rs us cs ds p s r c =
+    ap (λ x. the_kept x ss rs cs) p ∙ ap (λ x. the_kept qs x rs cs) s ∙ ap (λ x. the_kept qs ts x cs) r
+    ∙ ap (the_kept qs ts us) c
+
+-- Once a note has arrived.
+pub kept_after : (x : NoteParts) (notes after : List NoteParts) (start end offset : ℕ) (brings : Bool)
+    (ps ss rs : List ℕ) (cs : List CopyInfo) → IsContent notes → (In x notes → ⊥) → IsHull x notes start end
+    → after ≡ with_note x notes → offset ≡ x.offset → brings ≡ can_bring_start x → the_kept ps ss rs cs ≡ kept_of notes
+    → the_kept (followed (stands_clear (is_placed kinds.Partition) after offset) offset start end ps)
+    (followed (stands_clear (is_placed kinds.Segment) after offset) offset start end ss)
+    (followed (stands_clear (is_placed kinds.RandomIndexPack) after offset) offset start end rs)
+    (copies_followed after offset start end brings cs)
+    ≡ kept_of after
+kept_after x notes after start end offset brings ps ss rs cs r new h e at can k =
+    let one = λ (kind : _) (os : List ℕ) (same : os ≡ offsets_where (is_placed kind) notes).
+    ap (λ a. followed (stands_clear (is_placed kind) a offset) offset start end os) e
+    ∙ ap (λ o. followed (stands_clear (is_placed kind) (with_note x notes) o) o start end os) at
+    ∙ ap (followed (stands_clear (is_placed kind) (with_note x notes) x.offset) x.offset start end) same
+    ∙ offsets_follow (is_placed kind) x notes start end r new h
+    ∙ ap (offsets_where (is_placed kind)) (sym e) in
+    same_kept _ _ _ _ _ _ _ _ (one kinds.Partition ps (ap (λ (k : KeptParts). k.partitions) k))
+    (one kinds.Segment ss (ap (λ (k : KeptParts). k.segments) k))
+    (one kinds.RandomIndexPack rs (ap (λ (k : KeptParts). k.rips) k))
+    (ap (λ a. copies_followed a offset start end brings cs) e
+    ∙ ap (λ o. copies_followed (with_note x notes) o start end brings cs) at
+    ∙ ap (λ b. copies_followed (with_note x notes) x.offset start end b cs) can
+    ∙ ap (copies_followed (with_note x notes) x.offset start end (can_bring_start x)) (ap (λ (k : KeptParts). k.copies) k)
+    ∙ copies_follow x notes start end r new h ∙ ap copies_of (sym e))
+
+-- The notes at kept offsets are read as the partitions, the segments and the random index packs.
+pub partitions_kept : (notes : List NoteParts) (offsets : List ℕ)
+    → offsets ≡ offsets_where (is_placed kinds.Partition) notes
+    → partitions_among (notes_at notes offsets) ≡ partitions_of notes
+unfolding partitions_of
+partitions_kept notes offsets e =
+    ap (λ o. partitions_among (notes_at notes o)) e
+    ∙ ap partitions_among (notes_at_offsets (is_placed kinds.Partition) notes)
+    ∙ filter_map_some partition_at (clear_notes notes)
+
+pub segments_kept : (notes : List NoteParts) (offsets : List ℕ)
+    → offsets ≡ offsets_where (is_placed kinds.Segment) notes
+    → segments_among (notes_at notes offsets) ≡ segments_of notes
+unfolding segments_of
+segments_kept notes offsets e =
+    ap (λ o. segments_among (notes_at notes o)) e
+    ∙ ap segments_among (notes_at_offsets (is_placed kinds.Segment) notes)
+    ∙ filter_map_some placed_segment (clear_notes notes)
+
+pub rips_kept : (notes : List NoteParts) (offsets : List ℕ)
+    → offsets ≡ offsets_where (is_placed kinds.RandomIndexPack) notes
+    → notes_at notes offsets ≡ rips_of notes
+unfolding rips_of
+rips_kept notes offsets e =
+    ap (notes_at notes) e ∙ notes_at_offsets (is_placed kinds.RandomIndexPack) notes

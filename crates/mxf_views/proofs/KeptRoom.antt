@@ -1,0 +1,128 @@
+-- How much room is wanted for what is kept of two contents.
+use Rattle.std.proofs.Common.{Ok, Err, ◌≡◌, ◌≤◌, ◌+◌, ◌⊎◌, ℕ, Bool, true, false, cond, List, [], ◌∷◌, refl, sym, ap, subst, ◌∙◌, inl, inr, arith, length}
+use Rattle.std.specs.Prelude.{count_by, filter}
+use Rattle.std.proofs.lemmas.List.{length-map}
+use Rattle.mxf_klv.specs.NoteOrder.{note_total}
+use Rattle.mxf_klv.specs.Parts.{NoteParts}
+use Rattle.mxf_klv.specs.Rising.{In, less_in}
+use Rattle.mxf_catalogue.specs.Content.{IsContent, union_of}
+use Rattle.mxf_catalogue.specs.Disputes.{IsClear, clear_notes}
+use Rattle.mxf_catalogue.proofs.ContentLaws.{In-union_of, IsContent-union_of}
+use Rattle.mxf_catalogue.proofs.DisputeLaws.{In-clear_notes, IsContent-clear_notes, IsContent-filter}
+use Rattle.mxf_catalogue.proofs.Lists.{In-filter}
+use Rattle.mxf_catalogue.proofs.MergeLaws.{length-union_of}
+use Rattle.mxf_catalogue.proofs.SpanLaws.{not_same}
+use Rattle.mxf_views.specs.Copies.{copies_of}
+use Rattle.std.specs.Prelude.{OnOk}
+use Rattle.std.specs.declared.result.Result.{Result}
+use Rattle.std.specs.Vec.{vec_capacity, vec_len}
+use Rattle.mxf_views.specs.declared.kept.Kept.{Kept}
+use Rattle.mxf_views.specs.declared.kept.offsets.Placed.TheVariants as kinds
+use Rattle.mxf_views.specs.Kept.{HasRoom, KeptParts, is_placed, kept_in, kept_of, offsets_where, states_metadata}
+use Rattle.mxf_views.proofs.CopyUpdates.{length-copies_of}
+use Rattle.mxf_views.proofs.Members.{count_by-cons, tally}
+
+-- A content that has no notes but those of another is no longer.
+sub_length : (xs ys : List NoteParts) → IsContent xs → IsContent ys → ((n : NoteParts) → In n xs → In n ys)
+    → length xs ≤ length ys
+sub_length [] ys r s f = omega arith
+sub_length (x ∷ xs) [] r s f = absurd (f x (inl refl))
+sub_length (x ∷ xs) (y ∷ ys) r s f =
+    elim (f x (inl refl)) [
+      | inl e ↦ (
+          let ih = sub_length xs ys r.1 s.1 (λ z h. elim (f z (inr h)) [
+            | inl q ↦ absurd (not_same x z (less_in note_total x z xs r.0 h) (e ∙ sym q))
+            | inr k ↦ k
+          ]) in omega (arith, ih))
+      | inr h ↦ (
+          let below = less_in note_total y x ys s.0 h in
+          let ih = sub_length (x ∷ xs) ys r s.1 (λ z k. elim k [
+            | inl q ↦ subst (λ w. In w ys) (sym q) h
+            | inr i ↦ elim (f z (inr i)) [
+              | inl q ↦ absurd (not_same y z (note_total.trans y x z below (less_in note_total x z xs r.0 i)) (sym q))
+              | inr m ↦ m
+            ]
+          ]) in omega (arith, ih))
+    ]
+
+-- A clear note of the union is a clear note of one of both.
+clear_in_one : (a b : List NoteParts) (n : NoteParts) → IsClear n (union_of a b) → IsClear n a ⊎ IsClear n b
+clear_in_one a b n c =
+    let all = λ (m : NoteParts). In-union_of m a b in
+    elim ((all n).0 c.held) [
+      | inl h ↦ inl (record { held = h; undisputed = λ d. c.undisputed (d.0, (all d.0).1 (inl d.1), d.2, d.3) })
+      | inr h ↦ inr (record { held = h; undisputed = λ d. c.undisputed (d.0, (all d.0).1 (inr d.1), d.2, d.3) })
+    ]
+
+count_is_length : (test : NoteParts → Bool) (ns : List NoteParts) → count_by test ns ≡ length (filter test ns)
+count_is_length test [] = refl
+count_is_length test (n ∷ ns) =
+    let ih = count_is_length test ns in
+    elim (test n) as (λ b. test n ≡ b → count_by test (n ∷ ns) ≡ length (cond b (n ∷ filter test ns) (filter test ns))) [
+      | true ↦ λ e. let one : tally (test n) ≡ 1 = ap tally e in omega (arith, ih, one, count_by-cons test n ns)
+      | false ↦ λ e. let none : tally (test n) ≡ 0 = ap tally e in omega (arith, ih, none, count_by-cons test n ns)
+    ] refl
+
+pub length-offsets_where : (test : NoteParts → Bool) (notes : List NoteParts)
+    → length (offsets_where test notes) ≡ count_by test (clear_notes notes)
+length-offsets_where test notes =
+    length-map (filter test (clear_notes notes)) (λ n. n.offset) ∙ sym (count_is_length test (clear_notes notes))
+
+pub length-kept_copies : (notes : List NoteParts) → length (copies_of notes) ≡ count_by states_metadata (clear_notes notes)
+length-kept_copies notes = length-copies_of notes ∙ sym (count_is_length states_metadata (clear_notes notes))
+
+-- So there are no more of them in the union than in both.
+pub count_in_union : (test : NoteParts → Bool) (a b : List NoteParts) → IsContent a → IsContent b
+    → count_by test (clear_notes (union_of a b)) ≤ count_by test (clear_notes a) + count_by test (clear_notes b)
+count_in_union test a b r s =
+    let xs = filter test (clear_notes a) in
+    let ys = filter test (clear_notes b) in
+    let all = filter test (clear_notes (union_of a b)) in
+    let u = IsContent-union_of a b r in
+    let rising = IsContent-filter test (clear_notes (union_of a b)) (IsContent-clear_notes (union_of a b) u) in
+    let rx = IsContent-filter test (clear_notes a) (IsContent-clear_notes a r) in
+    let sub = sub_length all (union_of xs ys) rising (IsContent-union_of xs ys rx) (λ n h.
+    let f = (In-filter test (clear_notes (union_of a b)) n).0 h in
+    (In-union_of n xs ys).1 (elim (clear_in_one a b n ((In-clear_notes n (union_of a b)).0 f.0)) [
+      | inl c ↦ inl ((In-filter test (clear_notes a) n).1 ((In-clear_notes n a).1 c, f.1))
+      | inr c ↦ inr ((In-filter test (clear_notes b) n).1 ((In-clear_notes n b).1 c, f.1))
+    ])) in
+    let both = length-union_of xs ys in
+    let ca = count_is_length test (clear_notes a) in
+    let cb = count_is_length test (clear_notes b) in
+    let cu = count_is_length test (clear_notes (union_of a b)) in
+    omega (arith, sub, both, ca, cb, cu)
+
+-- Room for those of another besides what is kept is room for the union.
+pub room_for_both : {E : Type 0} (own other : List NoteParts) (old k : Kept) (result : Result (Unit {0}) E)
+    → IsContent own → IsContent other → kept_in old ≡ kept_of own
+    → OnOk result (vec_len old.partitions + count_by (is_placed kinds.Partition) (clear_notes other)
+    ≤ vec_capacity k.partitions)
+    → OnOk result (vec_len old.segments + count_by (is_placed kinds.Segment) (clear_notes other)
+    ≤ vec_capacity k.segments)
+    → OnOk result (vec_len old.random_index_packs + count_by (is_placed kinds.RandomIndexPack) (clear_notes other)
+    ≤ vec_capacity k.random_index_packs)
+    → OnOk result (vec_len old.copies + count_by states_metadata (clear_notes other) ≤ vec_capacity k.copies)
+    → OnOk result (HasRoom (union_of own other) k)
+room_for_both own other old k (Err e) r s keeps a b c d = tt
+room_for_both own other old k (Ok u) r s keeps a b c d =
+    let one = λ (kind : _) (len cap : ℕ) (os : List ℕ) (l : len ≡ length os)
+    (same : os ≡ offsets_where (is_placed kind) own)
+    (room : len + count_by (is_placed kind) (clear_notes other) ≤ cap).
+    let number = l ∙ ap length same ∙ length-offsets_where (is_placed kind) own in
+    let both = count_in_union (is_placed kind) own other r s in
+    let fits : count_by (is_placed kind) (clear_notes (union_of own other)) ≤ cap = omega (arith, number, both, room) in
+    fits in
+    record {
+      partitions = one kinds.Partition old.partitions.len (vec_capacity k.partitions) old.partitions.items
+          old.partitions.ok.0 (ap (λ (p : KeptParts). p.partitions) keeps) a;
+      segments = one kinds.Segment old.segments.len (vec_capacity k.segments) old.segments.items
+          old.segments.ok.0 (ap (λ (p : KeptParts). p.segments) keeps) b;
+      rips = one kinds.RandomIndexPack old.random_index_packs.len (vec_capacity k.random_index_packs)
+          old.random_index_packs.items old.random_index_packs.ok.0 (ap (λ (p : KeptParts). p.rips) keeps) c;
+      copies =
+          (let number = ap length (ap (λ (p : KeptParts). p.copies) keeps) ∙ length-kept_copies own in
+          let both = count_in_union states_metadata own other r s in
+          let fits : count_by states_metadata (clear_notes (union_of own other)) ≤ vec_capacity k.copies =
+          omega (arith, number, both, d, old.copies.ok.0) in fits);
+    }

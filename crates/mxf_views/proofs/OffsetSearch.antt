@@ -1,0 +1,115 @@
+-- Offsets that rise, searched.
+use Rattle.std.proofs.Common.{◌≡◌, ℕ, zero, suc, ◌+◌, ◌<◌, ◌≤◌, Bool, true, false, cond, List, [], ◌∷◌, refl, sym, ap, subst, ◌∙◌, inl, inr, arith, get_or, length}
+use Rattle.std.specs.Prelude.{◌==◌, ◌&&◌, ◌||◌, nat_lt, is_some, Option, Some, None}
+use Rattle.std.specs.List.{AllWithin, list_any}
+use Rattle.std.specs.List.Sorted.{IsNonDecreasingBy}
+use Rattle.std.specs.Ordering.{nat_cmp}
+use Rattle.std.specs.declared.cmp.Ordering.TheVariants.{Less, Equal, Greater}
+use Rattle.std.proofs.lemmas.Bool.{ltb-true, ltb-false, lt-ltb}
+use Rattle.std.proofs.lemmas.Cmp.{nat_cmp_total}
+use Rattle.mxf_klv.specs.Parts.{NoteParts}
+use Rattle.mxf_klv.specs.Rising.{In, IsRising, less_in}
+use Rattle.mxf_catalogue.specs.Disputes.{clear_notes}
+use Rattle.mxf_catalogue.proofs.DisputeLaws.{In-clear_notes, same_bool}
+use Rattle.mxf_catalogue.proofs.Lists.{list_any-In}
+use Rattle.mxf_catalogue.proofs.Places.{In-at}
+use Rattle.mxf_catalogue.proofs.Ranges.{by_places}
+use Rattle.mxf_views.specs.declared.kept.offsets.Placed.TheVariants as kinds
+use Rattle.mxf_views.specs.Kept.{is_placed, lies_between, offsets_where}
+use Rattle.mxf_views.specs.Partitions.{PartitionParts, partition_at, partitions_of, stands_between}
+use Rattle.mxf_views.proofs.ClearChanges.{In-offsets}
+use Rattle.mxf_views.proofs.Members.{both, false_if, parts}
+use Rattle.mxf_views.proofs.PartitionLaws.{offset-partition_at}
+use Rattle.mxf_views.proofs.PartitionSearch.{is_there, of_note}
+
+less_than : (a b : ℕ) → nat_cmp a b ≡ Less → a < b
+less_than a b e =
+    elim (nat_lt a b) as (λ t. nat_lt a b ≡ t → a < b) [
+      | true ↦ λ t. ltb-true a b t
+      | false ↦ λ t. absurd (no t e)
+    ] refl
+  where
+    no : nat_lt a b ≡ false → nat_cmp a b ≡ Less → ⊥
+    no t = rw t (elim (a == b) as (λ s. cond s Equal Greater ≡ Less → ⊥) [ true ↦ λ q. cc (q) | false ↦ λ q. cc (q) ])
+
+above_first : (x y : ℕ) (xs : List ℕ) → IsRising nat_cmp (x ∷ xs) → In y xs → x < y
+above_first x y xs r h = less_than x y (less_in nat_cmp_total x y xs r.0 h)
+
+rising_places : (xs : List ℕ) (i j d : ℕ) → IsRising nat_cmp xs → i < j → j < length xs → get_or xs i d < get_or xs j d
+rising_places [] i j d r l h = absurd (omega arith)
+rising_places (x ∷ xs) zero zero d r l h = absurd (omega arith)
+rising_places (x ∷ xs) zero (suc j) d r l h = above_first x (get_or xs j d) xs r (In-at xs j d (omega arith))
+rising_places (x ∷ xs) (suc i) zero d r l h = absurd (omega arith)
+rising_places (x ∷ xs) (suc i) (suc j) d r l h = rising_places xs i j d r.1 (omega arith) (omega arith)
+
+pub offsets_never_fall : (xs : List ℕ) → IsRising nat_cmp xs → IsNonDecreasingBy (λ o. o) xs
+offsets_never_fall xs r i j d l h =
+    by_places (λ i j. get_or xs i d ≤ get_or xs j d) i j l (λ k. omega arith)
+    (λ t. let m : get_or xs i d < get_or xs j d = rising_places xs i j d r t h in omega arith)
+
+-- None lies between where all are at or below the lower one.
+pub none_between : (low high : ℕ) (xs : List ℕ) (i : ℕ) → length xs ≤ i → AllWithin (λ o. o ≤ low) xs 0 i
+    → i ≤ length xs → list_any (lies_between low high) xs ≡ false
+none_between low high [] i l f b = refl
+none_between low high (x ∷ xs) zero l f b = absurd (omega arith)
+none_between low high (x ∷ xs) (suc i) l f b =
+    let h : x ≤ low = f 0 0 (omega arith) (omega arith) in
+    let no : nat_lt low x ≡ false = false_if (nat_lt low x) (λ t. let u : low < x = ltb-true low x t in omega arith) in
+    rw no (none_between low high xs i (omega arith) (λ k e a b. f (suc k) e (omega arith) (omega arith)) (omega arith))
+
+-- Else the first above it tells.
+pub first_between : (low high : ℕ) (xs : List ℕ) (i d : ℕ) → IsRising nat_cmp xs → i < length xs
+    → AllWithin (λ o. o ≤ low) xs 0 i → AllWithin (λ o. low < o) xs i (length xs)
+    → nat_lt (get_or xs i d) high ≡ list_any (lies_between low high) xs
+first_between low high [] i d r l f g = absurd (omega arith)
+first_between low high (x ∷ xs) zero d r l f g =
+    let h : low < x = g 0 d (omega arith) (omega arith) in
+    let yes : nat_lt low x ≡ true = lt-ltb low x h in
+    same_bool (nat_lt x high) (list_any (lies_between low high) (x ∷ xs))
+    (λ t. (list_any-In (lies_between low high) (x ∷ xs)).1 (x, inl refl, both (nat_lt low x) (nat_lt x high) yes t))
+    (λ t.
+    let s = (list_any-In (lies_between low high) (x ∷ xs)).0 t in
+    let p = parts (nat_lt low s.0) (nat_lt s.0 high) s.2 in
+    elim s.1 [
+      | inl e ↦ ap (λ y. nat_lt y high) (sym e) ∙ p.1
+      | inr k ↦ (
+          let a : x < s.0 = above_first x s.0 xs r k in
+          let b : s.0 < high = ltb-true s.0 high p.1 in lt-ltb x high (omega arith))
+    ])
+first_between low high (x ∷ xs) (suc i) d r l f g =
+    let h : x ≤ low = f 0 d (omega arith) (omega arith) in
+    let no : nat_lt low x ≡ false = false_if (nat_lt low x) (λ t. let u : low < x = ltb-true low x t in omega arith) in
+    rw no (first_between low high xs i d r.1 (omega arith)
+    (λ k e a b. f (suc k) e (omega arith) (omega arith)) (λ k e a b. g (suc k) e (omega arith) (omega arith)))
+
+-- A partition stands between two offsets where its offset lies between them.
+pub between_offsets : (notes : List NoteParts) (low high : ℕ)
+    → list_any (lies_between low high) (offsets_where (is_placed kinds.Partition) notes)
+    ≡ stands_between low high (partitions_of notes)
+between_offsets notes low high =
+    let offsets = offsets_where (is_placed kinds.Partition) notes in
+    let test = λ (p : PartitionParts). lies_between low high p.offset in
+    same_bool (list_any (lies_between low high) offsets) (list_any test (partitions_of notes))
+    (λ t.
+    let s = (list_any-In (lies_between low high) offsets).0 t in
+    let k = (In-offsets (is_placed kinds.Partition) notes s.0).0 s.1 in
+    elim (partition_at k.0) as (λ o. partition_at k.0 ≡ o → is_some o ≡ true
+    → list_any test (partitions_of notes) ≡ true) [
+      | None ↦ λ u v. absurd cc
+      | Some p ↦ λ u v.
+          let at : s.0 ≡ p.offset = k.3 ∙ sym (offset-partition_at k.0 p u) in
+          (list_any-In test (partitions_of notes)).1 (
+            p,
+            is_there notes k.0 p ((In-clear_notes k.0 notes).1 k.1) u,
+            ap (lies_between low high) (sym at) ∙ s.2,
+          )
+    ] refl k.2)
+    (λ t.
+    let s = (list_any-In test (partitions_of notes)).0 t in
+    let a = of_note notes s.0 s.1 in
+    (list_any-In (lies_between low high) offsets).1 (
+      s.0.offset,
+      (In-offsets (is_placed kinds.Partition) notes s.0.offset).1
+          (a.note, (In-clear_notes a.note notes).0 a.clear, ap is_some a.read, a.offset),
+      s.2,
+    ))

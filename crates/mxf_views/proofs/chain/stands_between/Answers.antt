@@ -1,0 +1,19 @@
+use Rattle.std.proofs.Common.{◌∙◌, ap, subst, sym}
+use Rattle.std.specs.List.{list_any}
+use Rattle.std.specs.Ordering.{nat_cmp}
+use Rattle.mxf_klv.specs.Rising.{IsRising}
+use Rattle.mxf_views.specs.declared.kept.offsets.Placed.TheVariants as kinds
+use Rattle.mxf_views.specs.Kept.{is_placed, lies_between}
+use Rattle.mxf_views.proofs.ClearChanges.{offsets_rise}
+use Rattle.mxf_views.proofs.OffsetSearch.{between_offsets}
+use Rattle.mxf_views.proofs.chain.stands_between.Goals as goal
+
+pub any_between-requires : goal.any_between-requires
+any_between-requires c =
+    subst (IsRising nat_cmp) (sym c.requires)
+    (offsets_rise (is_placed kinds.Partition) c.args.catalogue.now c.notes-notes.ensures.catalogue.content)
+
+pub returns : goal.returns
+returns c =
+    c.any_between.ensures ∙ ap (list_any (lies_between c.args.low c.args.high)) c.requires
+    ∙ between_offsets c.args.catalogue.now c.args.low c.args.high

@@ -1,0 +1,49 @@
+use Rattle.std.proofs.Common.{◌∙◌, ap, subst, sym}
+use Rattle.std.specs.Ordering.{nat_cmp}
+use Rattle.mxf_klv.specs.Rising.{IsRising}
+use Rattle.mxf_views.specs.declared.kept.offsets.Placed.TheVariants as kinds
+use Rattle.mxf_views.specs.Copies.{CopiesRise}
+use Rattle.mxf_views.specs.Kept.{KeptParts, followed, is_placed}
+use Rattle.mxf_views.proofs.ClearChanges.{offsets_rise}
+use Rattle.mxf_views.proofs.CopyLaws.{copies_rise}
+use Rattle.mxf_views.proofs.KeptLaws.{kept_after, same_kept}
+use Rattle.mxf_views.proofs.kept.Kept.follow.Goals as goal
+
+pub follow-requires-clause-rising : goal.follow-requires-clause-rising
+follow-requires-clause-rising c =
+    let k = c.requires.kept in
+    subst (IsRising nat_cmp) (sym (ap (λ (p : KeptParts). p.partitions) k.2))
+    (offsets_rise (is_placed kinds.Partition) k.0 k.1)
+
+pub follow-requires-2-clause-rising : goal.follow-requires-2-clause-rising
+follow-requires-2-clause-rising c =
+    let k = c.requires.kept in
+    subst (IsRising nat_cmp) (sym (ap (λ (p : KeptParts). p.segments) k.2))
+    (offsets_rise (is_placed kinds.Segment) k.0 k.1)
+
+pub follow-requires-3-clause-rising : goal.follow-requires-3-clause-rising
+follow-requires-3-clause-rising c =
+    let k = c.requires.kept in
+    subst (IsRising nat_cmp) (sym (ap (λ (p : KeptParts). p.rips) k.2))
+    (offsets_rise (is_placed kinds.RandomIndexPack) k.0 k.1)
+
+pub follow_copies-requires-clause-rising : goal.follow_copies-requires-clause-rising
+follow_copies-requires-clause-rising c =
+    let k = c.requires.kept in
+    subst CopiesRise (sym (ap (λ (p : KeptParts). p.copies) k.2)) (copies_rise k.0 k.1)
+
+pub returns : goal.returns
+returns c = λ x notes new is e k.
+    let a = c.args.arrival.now in
+    let old = c.args.self.now in
+    same_kept _ _ _ _ _ _ _ _
+    (c.follow.ensures
+    ∙ ap (λ t. followed t a.offset a.start a.end old.partitions.items) c.stands-partition.ensures)
+    (c.follow-2.ensures
+    ∙ ap (λ t. followed t a.offset a.start a.end old.segments.items) c.stands-segment.ensures)
+    (c.follow-3.ensures
+    ∙ ap (λ t. followed t a.offset a.start a.end old.random_index_packs.items) c.stands-random_index_pack.ensures)
+    c.follow_copies.ensures
+    ∙ kept_after x notes c.args.catalogue.now a.start a.end a.offset a.can_bring_start old.partitions.items
+    old.segments.items old.random_index_packs.items old.copies.items is.content new is.hull e is.offset
+    is.can_bring_start k

@@ -1,0 +1,12 @@
+use Rattle.mxf_views.proofs.KeptRoom.{room_for_both}
+use Rattle.mxf_views.proofs.kept.Kept.make_room_for.Goals as goal
+
+pub returns-clause-room : goal.returns-clause-room
+returns-clause-room c =
+    let own = c.args.own.now in
+    let other = c.args.other.now in
+    let k = c.reserve.new.self in
+    let old = c.args.self.now in
+    let e = c.reserve.ensures in
+    room_for_both own other old k c.reserve.result c.notes-own.ensures.catalogue.content
+    c.notes-others.ensures.catalogue.content c.requires e.partitions e.segments e.random_index_packs e.copies

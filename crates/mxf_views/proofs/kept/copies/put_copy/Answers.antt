@@ -1,0 +1,14 @@
+use Rattle.std.proofs.Common.{◌∙◌, ap, sym}
+use Rattle.std.specs.List.{insert}
+use Rattle.mxf_views.specs.Kept.{with_copy}
+use Rattle.mxf_views.proofs.CopyUpdates.{inserted_copy}
+use Rattle.mxf_views.proofs.kept.copies.put_copy.Goals as goal
+
+pub returns : goal.returns
+returns c =
+    let at = c.copies_up_to-at.ensures in
+    let copies = c.deref.result.now in
+    c.in-Ok.ensures.items
+    ∙ ap (λ l. insert l c.copies_up_to-at.result c.args.copy) (sym c.deref.ensures.value)
+    ∙ inserted_copy c.args.copy copies c.copies_up_to-at.result at.bound at.below at.above
+    ∙ ap (with_copy c.args.copy) c.deref.ensures.value

@@ -1,0 +1,160 @@
+-- What the views keep of the clear notes, and what an addition changes of it (this project's profile).
+use Rattle.std.specs.Prelude.{◌≡◌, ℕ, ◌-◌, ◌≤◌, ◌⊎◌, Bool, ◌&&◌, ◌||◌, ◌==◌, nat_le, nat_lt, if◌then◌else◌}
+use Rattle.std.specs.Prelude.{◌<◌, count_by}
+use Rattle.std.specs.Vec.{vec_capacity, vec_len}
+use Rattle.std.specs.Prelude.{Option, None, Some, false, is_some, List, [], ◌∷◌, filter, find, map}
+use Rattle.std.specs.List.{filter_map}
+use Rattle.std.specs.Option.{option_and_then}
+use Rattle.std.specs.Ordering.{nat_cmp}
+use Rattle.mxf_klv.specs.Parts.{NoteParts}
+use Rattle.mxf_klv.specs.Note.{end_of}
+use Rattle.mxf_klv.specs.Kind.{kind_of}
+use Rattle.mxf_klv.specs.Rising.{with_one}
+use Rattle.mxf_catalogue.specs.Disputes.{IsClear, SharesByte, clear_notes}
+use Rattle.mxf_views.specs.declared.copy.CopyInfo.{CopyInfo}
+use Rattle.mxf_catalogue.specs.Content.{IsContent}
+use Rattle.mxf_views.specs.declared.kept.arrival.Arrival.{Arrival}
+use Rattle.mxf_views.specs.declared.kept.Kept.{Kept}
+use Rattle.mxf_views.specs.declared.kept.offsets.Placed.{Placed}
+use Rattle.mxf_views.specs.declared.kept.offsets.Placed.TheVariants as kinds
+use Rattle.mxf_views.specs.Copies.{copies_of, copy_of, has_metadata, is_fill, is_primer}
+use Rattle.mxf_views.specs.Partitions.{PartitionParts, partition_at}
+use Rattle.mxf_views.specs.Places.{placed_segment}
+use Rattle.mxf_views.specs.RandomIndex.{is_rip_note}
+
+-- Where the clear notes stand that pass the test.
+abbrev pub offsets_where : (NoteParts → Bool) → List NoteParts → List ℕ
+offsets_where test notes = map (λ n. n.offset) (filter test (clear_notes notes))
+
+-- The range goes from the least offset of a note and of the clear notes that share a byte with it to their greatest end.
+pub record IsHull (x : NoteParts) (notes : List NoteParts) (start end : ℕ) : Type 0 where
+  pub all : (m : NoteParts) → IsClear m notes → SharesByte x m → (start ≤ m.offset) × (end_of m ≤ end)
+  pub least : (start ≡ x.offset) ⊎ ((m : NoteParts) × IsClear m notes × SharesByte x m × (start ≡ m.offset))
+  pub greatest : (end ≡ end_of x) ⊎ ((m : NoteParts) × IsClear m notes × SharesByte x m × (end ≡ end_of m))
+  pub low : start ≤ x.offset
+  pub high : end_of x ≤ end
+
+-- The note is a readable partition pack, a readable index table segment or a random index pack.
+abbrev pub is_placed : Placed → NoteParts → Bool
+is_placed kinds.Partition n = is_some (partition_at n)
+is_placed kinds.Segment n = is_some (placed_segment n)
+is_placed kinds.RandomIndexPack n = is_rip_note n
+
+abbrev pub has_some_metadata : Option PartitionParts → Bool
+has_some_metadata None = false
+has_some_metadata (Some p) = has_metadata p
+
+-- It is a partition pack that states header metadata.
+abbrev pub states_metadata : NoteParts → Bool
+states_metadata n = has_some_metadata (partition_at n)
+
+-- The copy of the partition that the note is, where it states header metadata.
+abbrev pub copy_by : List NoteParts → NoteParts → Option CopyInfo
+copy_by notes n =
+    option_and_then (λ p. if has_metadata p then Some (copy_of notes p) else None) (partition_at n)
+
+-- The offset lies outside of the range.
+abbrev pub is_outside : ℕ → ℕ → ℕ → Bool
+is_outside start end offset = nat_lt offset start || nat_le end offset
+
+-- The offset lies above the lower one and below the upper one.
+abbrev pub lies_between : ℕ → ℕ → ℕ → Bool
+lies_between low high offset = nat_lt low offset && nat_lt offset high
+
+-- A copy without a start can get one only by a note that is a fill or a primer.
+unfoldable pub can_bring_start : NoteParts → Bool
+can_bring_start n = is_fill (kind_of n.key) || is_primer (kind_of n.key)
+
+-- What comes and goes in a range may change the copy: the range meets that from the partition to the end of the zone,
+-- or there is no zone yet and a start may come.
+abbrev pub may_change : ℕ → ℕ → Bool → CopyInfo → Option ℕ → Bool
+may_change start end brings c None = brings
+may_change start end brings c (Some zone) = nat_lt c.partition end && nat_lt (start - zone) c.bytes
+
+abbrev pub or_itself : CopyInfo → Option CopyInfo → CopyInfo
+or_itself c None = c
+or_itself c (Some d) = d
+
+-- The copy of the same partition, counted anew where it may have changed.
+abbrev pub renewed : List NoteParts → ℕ → ℕ → Bool → CopyInfo → CopyInfo
+renewed notes start end brings c =
+    if may_change start end brings c c.start then or_itself c (find (λ d. d.partition == c.partition) (copies_of notes))
+    else c
+
+-- The copies with another in its place, by their partitions.
+abbrev pub with_copy : CopyInfo → List CopyInfo → List CopyInfo
+with_copy c [] = c ∷ []
+with_copy c (d ∷ copies) = if nat_lt c.partition d.partition then c ∷ d ∷ copies else d ∷ with_copy c copies
+
+abbrev pub with_found : Option CopyInfo → List CopyInfo → List CopyInfo
+with_found None copies = copies
+with_found (Some c) copies = with_copy c copies
+
+-- The copies once a note stands at the offset: those outside of the range counted anew, and that of the offset.
+abbrev pub copies_followed : List NoteParts → ℕ → ℕ → ℕ → Bool → List CopyInfo → List CopyInfo
+copies_followed notes offset start end brings copies =
+    with_found (find (λ d. d.partition == offset) (copies_of notes))
+    (map (renewed notes start end brings) (filter (λ c. is_outside start end c.partition) copies))
+
+abbrev pub passes : (NoteParts → Bool) → Option NoteParts → Bool
+passes test None = false
+passes test (Some n) = test n
+
+-- A clear note stands at the offset, and passes the test.
+abbrev pub stands_clear : (NoteParts → Bool) → List NoteParts → ℕ → Bool
+stands_clear test notes offset = passes test (find (λ n. n.offset == offset) (clear_notes notes))
+
+-- The offsets outside of the range, with another where it is one of theirs.
+abbrev pub followed : Bool → ℕ → ℕ → ℕ → List ℕ → List ℕ
+followed there offset start end offsets =
+    if there then with_one nat_cmp offset (filter (is_outside start end) offsets)
+    else filter (is_outside start end) offsets
+
+-- The clear notes at the offsets.
+abbrev pub notes_at : List NoteParts → List ℕ → List NoteParts
+notes_at notes offsets = filter_map (λ o. find (λ n. n.offset == o) (clear_notes notes)) offsets
+
+-- What is kept: where partitions, segments and random index packs stand, and the copies.
+pub record KeptParts : Type 0 where
+  pub partitions : List ℕ
+  pub segments : List ℕ
+  pub rips : List ℕ
+  pub copies : List CopyInfo
+
+-- What is kept of a content.
+abbrev pub kept_of : List NoteParts → KeptParts
+kept_of notes = record {
+  partitions = offsets_where (is_placed kinds.Partition) notes;
+  segments = offsets_where (is_placed kinds.Segment) notes;
+  rips = offsets_where (is_placed kinds.RandomIndexPack) notes;
+  copies = copies_of notes;
+}
+
+abbrev pub kept_in : Kept → KeptParts
+kept_in k = record {
+  partitions = k.partitions.items;
+  segments = k.segments.items;
+  rips = k.random_index_packs.items;
+  copies = k.copies.items;
+}
+
+-- What is kept of a content fits without taking memory.
+pub record HasRoom (notes : List NoteParts) (k : Kept) : Type 0 where
+  pub partitions : count_by (is_placed kinds.Partition) (clear_notes notes) ≤ vec_capacity k.partitions
+  pub segments : count_by (is_placed kinds.Segment) (clear_notes notes) ≤ vec_capacity k.segments
+  pub rips : count_by (is_placed kinds.RandomIndexPack) (clear_notes notes) ≤ vec_capacity k.random_index_packs
+  pub copies : count_by states_metadata (clear_notes notes) ≤ vec_capacity k.copies
+
+-- One more of each fits without taking memory.
+pub record HasRoomForOne (k : Kept) : Type 0 where
+  pub partitions : vec_len k.partitions < vec_capacity k.partitions
+  pub segments : vec_len k.segments < vec_capacity k.segments
+  pub rips : vec_len k.random_index_packs < vec_capacity k.random_index_packs
+  pub copies : vec_len k.copies < vec_capacity k.copies
+
+-- What has to be known of a note that is added to a content.
+pub record IsArrival (x : NoteParts) (notes : List NoteParts) (a : Arrival) : Type 0 where
+  pub content : IsContent notes
+  pub hull : IsHull x notes a.start a.end
+  pub offset : a.offset ≡ x.offset
+  pub can_bring_start : a.can_bring_start ≡ can_bring_start x

@@ -1,0 +1,142 @@
+//! What the views keep of the clear notes: where partitions, index table segments and random index packs stand, and the
+//! copies of the header metadata.
+ghost use Rattle.std.specs.Prelude.{◌≡◌, List, ◌<◌, ◌≤◌, IfOk, OnOk, count_by, ◌++◌, ◌∷◌, ◌+◌, [], vec_len, vec_capacity};
+ghost use Rattle.mxf_klv.specs.Parts.{NoteParts};
+ghost use Rattle.mxf_klv.specs.Rising.{In};
+ghost use Rattle.mxf_catalogue.specs.Content.{IsContent, union_of, with_note};
+ghost use Rattle.mxf_catalogue.specs.Disputes.{clear_notes};
+ghost use Rattle.mxf_views.specs.Kept.{is_placed, states_metadata, HasRoom, HasRoomForOne, IsArrival, kept_in, kept_of};
+ghost use Rattle.mxf_views.specs.declared.kept.offsets.Placed.{Placed};
+
+pub(crate) mod arrival;
+mod copies;
+pub(crate) mod offsets;
+
+use crate::copy::CopyInfo;
+use crate::kept::arrival::Arrival;
+use crate::kept::copies::{count_copies, follow_copies, refill_copies};
+use crate::kept::offsets::{Placed, count, follow, refill, stands};
+use mxf_catalogue::Catalogue;
+use std::alloc::{AllocError, Global};
+
+/// What the views keep. The file offsets, in bytes, rise; so do the partitions of the copies.
+#[derive(Debug, Drop)]
+pub(crate) struct Kept {
+    pub partitions: Vec<u64>,
+    pub segments: Vec<u64>,
+    pub random_index_packs: Vec<u64>,
+    pub copies: Vec<CopyInfo>,
+}
+
+impl Kept {
+    /// What is kept of no note.
+    pub fn new(alloc: Global) -> Kept
+        ensures { kept_in result ≡ kept_of [] }
+    {
+        Kept {
+            partitions: Vec::new(alloc),
+            segments: Vec::new(alloc),
+            random_index_packs: Vec::new(alloc),
+            copies: Vec::new(alloc),
+        }
+    }
+
+    /// What is kept of a catalogue. It takes memory.
+    pub fn of(alloc: Global, catalogue: &Catalogue) -> Result<Kept, AllocError>
+        ensures { IfOk result (λ k. kept_in k ≡ kept_of catalogue.now) }
+    {
+        let mut kept = Kept::new(alloc);
+        kept.reserve(catalogue)?;
+        kept.refill(catalogue);
+        Ok(kept)
+    }
+
+    /// Makes room for what an addition brings.
+    pub fn make_room(&mut self) -> Result<(), AllocError>
+        ensures kept { kept_in self.new ≡ kept_in self.old }
+        ensures room { OnOk result (HasRoomForOne self.new) }
+    {
+        self.partitions.reserve(1)?;
+        self.segments.reserve(1)?;
+        self.random_index_packs.reserve(1)?;
+        self.copies.reserve(1)
+    }
+
+    /// Makes room for what is kept of two catalogues, of which one is followed.
+    pub fn make_room_for(&mut self, own: &Catalogue, other: &Catalogue) -> Result<(), AllocError>
+        requires { kept_in self.old ≡ kept_of own.now }
+        ensures kept { kept_in self.new ≡ kept_in self.old }
+        ensures room { OnOk result (HasRoom (union_of own.now other.now) self.new) }
+    {
+        // What a catalogue lends says that its notes are those of a file.
+        let _own = own.notes();
+        let _others = other.notes();
+        self.reserve(other)
+    }
+
+    /// Makes room for what is kept of another catalogue as well.
+    fn reserve(&mut self, other: &Catalogue) -> Result<(), AllocError>
+        ensures kept { kept_in self.new ≡ kept_in self.old }
+        ensures partitions { OnOk result (vec_len self.old.partitions
+            + count_by (is_placed Placed.Partition) (clear_notes other.now) ≤ vec_capacity self.new.partitions) }
+        ensures segments { OnOk result (vec_len self.old.segments
+            + count_by (is_placed Placed.Segment) (clear_notes other.now) ≤ vec_capacity self.new.segments) }
+        ensures random_index_packs { OnOk result (vec_len self.old.random_index_packs
+            + count_by (is_placed Placed.RandomIndexPack) (clear_notes other.now)
+            ≤ vec_capacity self.new.random_index_packs) }
+        ensures copies { OnOk result (vec_len self.old.copies
+            + count_by states_metadata (clear_notes other.now) ≤ vec_capacity self.new.copies) }
+    {
+        self.partitions.reserve(count(other, Placed::Partition))?;
+        self.segments.reserve(count(other, Placed::Segment))?;
+        self.random_index_packs
+            .reserve(count(other, Placed::RandomIndexPack))?;
+        self.copies.reserve(count_copies(other))
+    }
+
+    /// Puts what is kept of a catalogue in place of what is there, where there is room.
+    pub fn refill(&mut self, catalogue: &Catalogue)
+        requires { HasRoom catalogue.now self.old }
+        ensures { kept_in self.new ≡ kept_of catalogue.now }
+    {
+        refill(&mut self.partitions, catalogue, Placed::Partition);
+        refill(&mut self.segments, catalogue, Placed::Segment);
+        refill(
+            &mut self.random_index_packs,
+            catalogue,
+            Placed::RandomIndexPack,
+        );
+        refill_copies(&mut self.copies, catalogue);
+    }
+
+    /// Follows the arrival of a note in a catalogue, where there is room: from what is kept of the notes before to what
+    /// is kept of them with the note.
+    pub fn follow(&mut self, catalogue: &Catalogue, arrival: &Arrival)
+        requires kept { (notes : List NoteParts) × IsContent notes × (kept_in self.old ≡ kept_of notes) }
+        requires room { HasRoomForOne self.old }
+        ensures { (x : NoteParts) (notes : List NoteParts) → ¬ In x notes → IsArrival x notes arrival.now
+            → catalogue.now ≡ with_note x notes → kept_in self.old ≡ kept_of notes
+            → kept_in self.new ≡ kept_of catalogue.now }
+    {
+        let at = arrival.offset;
+        let partition = stands(catalogue, Placed::Partition, at);
+        let segment = stands(catalogue, Placed::Segment, at);
+        let random_index_pack = stands(catalogue, Placed::RandomIndexPack, at);
+        follow(&mut self.partitions, arrival, partition);
+        follow(&mut self.segments, arrival, segment);
+        follow(&mut self.random_index_packs, arrival, random_index_pack);
+        follow_copies(&mut self.copies, catalogue, arrival);
+    }
+}
+
+/// Puts an element at the end, where there is room.
+fn push<T: Drop>(items: &mut Vec<T>, item: T)
+    requires { vec_len items.old < vec_capacity items.old }
+    ensures items { items.new.items ≡ items.old.items ++ item ∷ [] }
+    ensures len { vec_len items.new ≡ vec_len items.old + 1 }
+    ensures capacity { vec_capacity items.old ≤ vec_capacity items.new }
+{
+    let Ok(()) = items.push(item) else {
+        unreachable!()
+    };
+}

@@ -1,0 +1,138 @@
+//! The copies of the header metadata, kept by their partitions, which rise.
+ghost use Rattle.std.specs.Prelude.{◌≡◌, ◌<◌, ◌≤◌, count_by, filter, length, map, vec_len, vec_capacity};
+ghost use Rattle.mxf_catalogue.specs.Disputes.{clear_notes};
+ghost use Rattle.std.specs.List.{AllWithin};
+ghost use Rattle.mxf_views.specs.Copies.{CopiesRise, copies_of};
+ghost use Rattle.mxf_views.specs.Kept.{copy_by, can_bring_start, copies_followed, is_outside, may_change, renewed, states_metadata, with_copy};
+
+use super::push;
+use crate::copy::{CopyInfo, copy_of, copy_there, has_metadata};
+use crate::kept::arrival::Arrival;
+use crate::partition::partition_at;
+use mxf_catalogue::Catalogue;
+use mxf_klv::Note;
+
+/// Whether what comes and goes with an arrival may change the copy.
+fn may_change(copy: &CopyInfo, arrival: &Arrival) -> bool
+    ensures { result ≡ may_change arrival.now.start arrival.now.end arrival.now.can_bring_start copy.now copy.now.start }
+{
+    match copy.start {
+        Some(zone) => {
+            copy.partition < arrival.end && arrival.start.saturating_sub(zone) < copy.bytes
+        }
+        None => arrival.can_bring_start,
+    }
+}
+
+/// The copy, counted anew where it may have changed.
+fn renewed(catalogue: &Catalogue, arrival: &Arrival, copy: &CopyInfo) -> CopyInfo
+    ensures { result ≡ renewed catalogue.now arrival.now.start arrival.now.end arrival.now.can_bring_start copy.now }
+{
+    if !may_change(copy, arrival) {
+        return *copy;
+    }
+    match copy_there(catalogue, copy.partition) {
+        Some(copy) => copy,
+        None => *copy,
+    }
+}
+
+/// Counts the copies anew that may have changed.
+fn renew(copies: &mut Vec<CopyInfo>, catalogue: &Catalogue, arrival: &Arrival)
+    ensures items { copies.new.items ≡ map
+        (renewed catalogue.now arrival.now.start arrival.now.end arrival.now.can_bring_start) copies.old.items }
+    ensures len { vec_len copies.new ≡ vec_len copies.old }
+    ensures capacity { vec_capacity copies.new ≡ vec_capacity copies.old }
+{
+    for copy in copies.iter_mut() {
+        *copy = renewed(catalogue, arrival, copy);
+    }
+}
+
+/// Puts a copy among others by its partition, where there is room.
+fn put_copy(copies: &mut Vec<CopyInfo>, copy: CopyInfo)
+    requires rising { CopiesRise copies.old.items }
+    requires room { vec_len copies.old < vec_capacity copies.old }
+    ensures { copies.new.items ≡ with_copy copy copies.old.items }
+{
+    let at = copies_up_to(copies, copy.partition);
+    match copies.insert(at, copy) {
+        Ok(()) => (),
+        Err(_) => unreachable!(),
+    }
+}
+
+/// The number of the copies of partitions at or below an offset.
+fn copies_up_to(copies: &[CopyInfo], partition: u64) -> usize
+    requires { CopiesRise copies.now }
+    ensures bound { result ≤ length copies.now }
+    ensures below { AllWithin (λ c. c.partition ≤ partition) copies.now 0 result }
+    ensures above { AllWithin (λ c. partition < c.partition) copies.now result (length copies.now) }
+{
+    copies.partition_point(|copy| copy.partition <= partition)
+}
+
+/// Takes the copies out that an arrival moves.
+fn leave_copies(copies: &mut Vec<CopyInfo>, arrival: &Arrival)
+    ensures items { copies.new.items
+        ≡ filter (λ c. is_outside arrival.now.start arrival.now.end c.partition) copies.old.items }
+    ensures len { vec_len copies.new ≤ vec_len copies.old }
+    ensures capacity { vec_capacity copies.new ≡ vec_capacity copies.old }
+{
+    copies.retain(|copy| arrival.is_outside(copy.partition));
+}
+
+/// The same, counts those anew that may have changed, and puts that of the arrival's partition among them.
+pub(super) fn follow_copies(copies: &mut Vec<CopyInfo>, catalogue: &Catalogue, arrival: &Arrival)
+    requires rising { CopiesRise copies.old.items }
+    requires room { vec_len copies.old < vec_capacity copies.old }
+    ensures { copies.new.items ≡ copies_followed catalogue.now arrival.now.offset arrival.now.start arrival.now.end
+        arrival.now.can_bring_start copies.old.items }
+{
+    leave_copies(copies, arrival);
+    renew(copies, catalogue, arrival);
+    if let Some(copy) = copy_there(catalogue, arrival.offset) {
+        put_copy(copies, copy);
+    }
+}
+
+/// The number of the partitions that state header metadata.
+pub(super) fn count_copies(catalogue: &Catalogue) -> usize
+    ensures { result ≡ count_by states_metadata (clear_notes catalogue.now) }
+{
+    catalogue.clear().filter(|note| brings_copy(note)).count()
+}
+
+/// Whether the note is a partition pack that states header metadata.
+fn brings_copy(note: &Note) -> bool
+    ensures { result ≡ states_metadata note.now }
+{
+    match partition_at(note) {
+        Some(partition) => has_metadata(&partition),
+        None => false,
+    }
+}
+
+/// Puts the copies of a catalogue in place of others, where there is room.
+pub(super) fn refill_copies(copies: &mut Vec<CopyInfo>, catalogue: &Catalogue)
+    requires { count_by states_metadata (clear_notes catalogue.now) ≤ vec_capacity copies.old }
+    ensures { copies.new.items ≡ copies_of catalogue.now }
+{
+    copies.clear();
+    for note in catalogue.clear() {
+        if let Some(copy) = copy_by(catalogue, note) {
+            push(copies, copy);
+        }
+    }
+}
+
+/// The copy of the partition that the note is, where it states header metadata.
+fn copy_by(catalogue: &Catalogue, note: &Note) -> Option<CopyInfo>
+    ensures { result ≡ copy_by (clear_notes catalogue.now) note.now }
+{
+    let partition = partition_at(note)?;
+    if !has_metadata(&partition) {
+        return None;
+    }
+    Some(copy_of(catalogue, &partition))
+}
