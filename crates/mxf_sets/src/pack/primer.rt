@@ -9,6 +9,7 @@ ghost use Rattle.mxf_sets.specs.Primer.{ArePrimerEntries, IsOnlyLabel, ReadsPrim
 ghost use Rattle.mxf_sets.specs.declared.pack.PackFault.{PackFault};
 
 mod labels;
+mod table;
 
 use super::PackFault;
 use crate::Batch;
@@ -16,6 +17,8 @@ use labels::Labels;
 use mxf_klv::{Encode, Progress, WriteFault};
 use std::io::Write;
 use std::marker::Model;
+
+pub use table::PrimerLabels;
 
 /// A primer pack (ST 377-1, Primer Pack): the labels that the tags of the local sets stand for.
 #[derive(Debug, Drop)]

@@ -39,7 +39,7 @@ impl<'a> Labels<'a> {
 }
 
 /// The tag and the label of an entry.
-fn split_entry(entry: &[u8]) -> (u16, [u8; 16])
+pub(super) fn split_entry(entry: &[u8]) -> (u16, [u8; 16])
     requires { length entry.now ≡ 18 }
     ensures tag { result.0 ≡ big_number 2 entry.now }
     ensures label { result.1 ≡ drop 2 entry.now }
