@@ -26,16 +26,16 @@ label_text (Some label) = hex_of label
 abbrev pub value_text : List ℕ → List ℕ
 value_text value = if length value == 0 then codes "-" else hex_of (take 32 value)
 
--- The line of an item of the set at an offset: its tag, the length of its value, what the tag stands for by the primer
--- pack, and its value.
-unfoldable pub item_line : ℕ → Option BatchParts → ItemParts → List ℕ
-item_line offset primer item =
+-- The line of an item of the set at an offset: its tag, the length of its value, the label that the tag stands for, and
+-- its value.
+unfoldable pub item_line : ℕ → Option (List ℕ) → ItemParts → List ℕ
+item_line offset label item =
     line_of (codes "item" ∷ decimal offset ∷ hex_of (to_be_bytes w16 item.tag) ∷ decimal (length item.value)
-    ∷ label_text (label_by primer item.tag) ∷ value_text item.value ∷ [])
+    ∷ label_text label ∷ value_text item.value ∷ [])
 
--- The lines of the items of the set at an offset.
+-- The lines of the items of the set at an offset, the labels by the primer pack.
 abbrev pub item_lines : ℕ → Option BatchParts → List ItemParts → List (List ℕ)
-item_lines offset primer items = flat_map (λ item. item_line offset primer item ∷ []) items
+item_lines offset primer items = flat_map (λ item. item_line offset (label_by primer item.tag) item ∷ []) items
 
 -- The lines of a note, none where it has no items.
 abbrev pub lines_of_items : ℕ → Option BatchParts → Option (List ItemParts) → List (List ℕ)

@@ -1,4 +1,5 @@
 pub mod Answering
+pub mod CopyLabels
 pub mod Exits
 pub mod FindingLines
 pub mod Gathering

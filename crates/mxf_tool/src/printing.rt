@@ -8,6 +8,7 @@ mod fault;
 mod field;
 mod group;
 pub mod hexadecimal;
+mod labels;
 mod line;
 mod printer;
 

@@ -1,5 +1,5 @@
 //! Views of a catalogue.
-ghost use Rattle.std.specs.Prelude.{◌≡◌, ◌≢◌, ◌↔◌, ◌==◌, ◌||◌, List, not, ◌<◌, ◌^◌, length, count_by, [], IfErr, IfOk, OnOk, OnErr};
+ghost use Rattle.std.specs.Prelude.{◌≡◌, ◌≢◌, ◌↔◌, ◌==◌, ◌||◌, List, find, not, ◌<◌, ◌^◌, length, count_by, [], IfErr, IfOk, OnOk, OnErr};
 ghost use Rattle.std.specs.List.{list_all};
 ghost use Rattle.mxf_catalogue.specs.Disputes.{SharesByte, clear_notes};
 ghost use Rattle.mxf_klv.specs.Parts.{NoteParts};
@@ -10,7 +10,7 @@ ghost use Rattle.mxf_catalogue.specs.Moved.{TellsMoved};
 ghost use Rattle.mxf_views.specs.Partitions.{partitions_of, link_of, link_at, is_linked, chain_of, is_header, is_footer, is_greatest, is_no_unreadable_pack};
 ghost use Rattle.mxf_views.specs.Gaps.{gaps_of};
 ghost use Rattle.mxf_views.specs.Copies.{copies_of, preferred_of, sets_of};
-ghost use Rattle.mxf_views.specs.Labels.{primer_for, primer_of, primer_there};
+ghost use Rattle.mxf_views.specs.Labels.{is_in_copy, primer_for, primer_of, primer_there};
 ghost use Rattle.mxf_views.specs.References.{found_in};
 ghost use Rattle.mxf_views.specs.Resolved.{resolved_of};
 ghost use Rattle.std.specs.Prelude.{◌≤◌};
@@ -301,12 +301,21 @@ impl Views {
     pub fn primer_for(&self, set: &Note) -> Option<Primer<'_>>
         ensures { result ≡ primer_for self.now set.now }
     {
-        let copy = copy_with(&self.kept.copies, set)?;
+        let copy = self.copy_with(set)?;
         self.primer_of(&copy)
     }
 
-    /// The primer pack at the start of the copy.
-    fn primer_of(&self, copy: &CopyInfo) -> Option<Primer<'_>>
+    /// The first copy whose bytes have the packet of the note: the primer pack at its start is the one that says what
+    /// the tags of a set stand for. None where no copy has it.
+    pub fn copy_with(&self, note: &Note) -> Option<CopyInfo>
+        ensures { result ≡ find (is_in_copy note.now) (copies_of self.now) }
+    {
+        copy_with(&self.kept.copies, note)
+    }
+
+    /// The primer pack at the start of the copy. None without a start, or where no clear primer pack that can be read
+    /// stands there.
+    pub fn primer_of(&self, copy: &CopyInfo) -> Option<Primer<'_>>
         ensures { result ≡ primer_of self.now copy.now }
     {
         self.primer_there(copy.start?)

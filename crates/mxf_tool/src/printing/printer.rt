@@ -4,8 +4,11 @@ ghost use Rattle.std.specs.List.{flat_map};
 ghost use Rattle.mxf_catalogue.specs.Disputes.{is_disputed};
 ghost use Rattle.mxf_klv.specs.Rising.{In};
 ghost use Rattle.mxf_klv.specs.Written.{Puts};
-ghost use Rattle.mxf_tool.specs.ItemLines.{item_lines, set_lines};
+ghost use Rattle.mxf_tool.specs.CopyLabels.{AreLabelsIn, label_by_copy};
+ghost use Rattle.mxf_tool.specs.ItemLines.{item_line, item_lines, set_lines};
 ghost use Rattle.mxf_tool.specs.PartitionLines.{container_lines, partition_lines};
+ghost use Rattle.std.specs.Option.{option_and_then};
+ghost use Rattle.mxf_views.specs.Labels.{primer_of};
 ghost use Rattle.mxf_views.specs.Partitions.{partitions_of};
 ghost use Rattle.mxf_views.specs.Resolved.{resolved_of};
 ghost use Rattle.mxf_tool.specs.Answering.{join_lines, report_lines};
@@ -19,6 +22,7 @@ mod references;
 
 use super::PrintFault;
 use super::group::{GROUPS, Group};
+use super::labels::{CopyLabels, SetAt};
 use super::line::{
     ChainLine, ContainerLine, CopyLine, GapLine, ItemLine, JoinLine, NoteLine, PartitionLine,
     PieceLine, PreferredLine,
@@ -26,7 +30,7 @@ use super::line::{
 use crate::gathering::{Gathered, PieceReport};
 use mxf_catalogue::Catalogue;
 use mxf_klv::{Note, Progress};
-use mxf_sets::{Batch, Items, Primer};
+use mxf_sets::{Batch, Item, Items};
 use mxf_views::{PartitionAt, Resolved, Views, set_items};
 use std::alloc::Global;
 use std::fmt::Display;
@@ -172,7 +176,7 @@ impl Printer {
             Group::Chain => self.print(writer, ChainLine(views.chain())),
             Group::Copies => self.print_copies(writer, views),
             Group::Preferred => self.print(writer, PreferredLine(views.preferred())),
-            Group::Items => self.print_sets(writer, views),
+            Group::Items => self.print_sets(alloc, writer, views),
             Group::References => {
                 self.print_references(alloc, writer, views.catalogue(), resolved)
             }
@@ -265,12 +269,18 @@ impl Printer {
     }
 
     /// Prints the lines of the items of each clear set.
-    fn print_sets<W: Write>(&mut self, writer: &mut W, views: &Views) -> Result<(), PrintFault>
+    fn print_sets<W: Write>(
+        &mut self,
+        alloc: Global,
+        writer: &mut W,
+        views: &Views,
+    ) -> Result<(), PrintFault>
         ensures { Prints (Puts W.contents writer.old writer.new self.old.progress self.new.progress) result
             (group_lines views.now groups.Items) }
     {
+        let mut labels = CopyLabels::none();
         'each: for note in views.catalogue().clear() {
-            self.print_set(writer, views, note)?;
+            self.print_set(alloc, writer, views, &mut labels, note)?;
         }
         Ok(())
     }
@@ -278,41 +288,70 @@ impl Printer {
     /// Prints a line for each item of a set, and none where the note has no items.
     fn print_set<W: Write>(
         &mut self,
+        alloc: Global,
         writer: &mut W,
         views: &Views,
+        labels: &mut CopyLabels,
         note: &Note,
     ) -> Result<(), PrintFault>
-        ensures { Prints (Puts W.contents writer.old writer.new self.old.progress self.new.progress) result
+        requires { AreLabelsIn views.now labels.old }
+        ensures labels { AreLabelsIn views.now labels.new }
+        ensures lines { Prints (Puts W.contents writer.old writer.new self.old.progress self.new.progress) result
             (set_lines views.now note.now) }
     {
         let Some(items) = set_items(note) else {
             return Ok(());
         };
-        self.print_items(writer, note.offset(), &views.primer_for(note), items)
+        let set = SetAt {
+            offset: note.offset(),
+            copy: views.copy_with(note),
+        };
+        self.print_items(alloc, writer, views, labels, &set, items)
     }
 
-    /// Prints a line for each item of the set at an offset.
+    /// Prints a line for each item of a set.
     fn print_items<W: Write>(
         &mut self,
+        alloc: Global,
         writer: &mut W,
-        offset: u64,
-        primer: &Option<Primer<'_>>,
+        views: &Views,
+        labels: &mut CopyLabels,
+        set: &SetAt,
         items: Items<'_>,
     ) -> Result<(), PrintFault>
-        ensures { Prints (Puts W.contents writer.old writer.new self.old.progress self.new.progress) result
-            (item_lines offset primer.now items.entry) }
+        requires { AreLabelsIn views.now labels.old }
+        ensures labels { AreLabelsIn views.now labels.new }
+        ensures lines { Prints (Puts W.contents writer.old writer.new self.old.progress self.new.progress) result
+            (item_lines set.now.offset (option_and_then (primer_of views.now) set.now.copy) items.entry) }
     {
         'each: for item in items {
-            // The checker wants the primer lent anew for each line.
-            let primer = &*primer;
-            let line = ItemLine {
-                offset,
-                primer,
-                item: &item,
-            };
-            self.print(writer, line)?;
+            self.print_item(alloc, writer, views, labels, set, &item)?;
         }
         Ok(())
+    }
+
+    /// Prints the line of an item of a set.
+    fn print_item<W: Write>(
+        &mut self,
+        alloc: Global,
+        writer: &mut W,
+        views: &Views,
+        labels: &mut CopyLabels,
+        set: &SetAt,
+        item: &Item<'_>,
+    ) -> Result<(), PrintFault>
+        requires { AreLabelsIn views.now labels.old }
+        ensures labels { AreLabelsIn views.now labels.new }
+        ensures lines { Prints (Puts W.contents writer.old writer.new self.old.progress self.new.progress) result
+            (item_line set.now.offset (label_by_copy views.now set.now.copy item.now.tag) item.now ∷ []) }
+    {
+        labels.turn_to(alloc, views, &set.copy)?;
+        let line = ItemLine {
+            offset: set.offset,
+            label: labels.label(item.tag),
+            item,
+        };
+        self.print(writer, line)
     }
 }
 

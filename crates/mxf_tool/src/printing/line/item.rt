@@ -1,9 +1,8 @@
 //! The line of an item of a header metadata set.
 ghost use Rattle.std.specs.Prelude.{◌≡◌, take};
-ghost use Rattle.mxf_tool.specs.ItemLines.{label_by};
 
 use crate::printing::hexadecimal::{HexDigits, LabelDigits};
-use mxf_sets::{Item, Primer};
+use mxf_sets::Item;
 use std::fmt;
 
 /// The label of a tag, or none.
@@ -56,22 +55,12 @@ impl<'a> fmt::Display for ValueText<'a> {
     }
 }
 
-/// The label of a tag by a primer pack, none without one.
-fn label_by(primer: &Option<Primer<'_>>, tag: u16) -> Option<[u8; 16]>
-    ensures { result ≡ label_by primer.now tag }
-{
-    match primer {
-        Some(primer) => primer.label(tag),
-        None => None,
-    }
-}
-
 /// The line of an item of the set at an offset, in bytes: its tag, the length of its value, the label of the tag, and the
 /// first bytes of its value.
 #[derive(Clone, Copy)]
 pub struct ItemLine<'a> {
     pub offset: u64,
-    pub primer: &'a Option<Primer<'a>>,
+    pub label: Option<[u8; 16]>,
     pub item: &'a Item<'a>,
 }
 
@@ -79,7 +68,7 @@ impl<'a> fmt::Display for ItemLine<'a> {
     ghost use Rattle.std.specs.Prelude.{Some};
     ghost use Rattle.mxf_tool.specs.ItemLines.{item_line};
 
-    ghost output = { λ l. Some (item_line l.offset l.primer.now l.item.now) };
+    ghost output = { λ l. Some (item_line l.offset l.label l.item.now) };
 
     #[tactic(auto, unfolding(crate::specs::ItemLines::item_line))]
     fn fmt<W: fmt::Write>(&self, f: &mut fmt::Formatter<W>) -> fmt::Result {
@@ -88,7 +77,7 @@ impl<'a> fmt::Display for ItemLine<'a> {
         let tag = item.tag.to_be_bytes();
         let digits = HexDigits(&tag);
         let length = item.value.len();
-        let label = LabelText(label_by(self.primer, item.tag));
+        let label = LabelText(self.label);
         let value = ValueText(item.value);
         writeln!(f, "item {offset} {digits} {length} {label} {value}")
     }
