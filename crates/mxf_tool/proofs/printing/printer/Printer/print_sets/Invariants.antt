@@ -1,5 +1,6 @@
 -- What is answered of the lines to come is answered of all lines.
 use Rattle.mxf_catalogue.specs.Disputes.{clear_notes}
+use Rattle.mxf_tool.specs.CopyLabels.{AreLabelsIn}
 use Rattle.mxf_tool.specs.ItemLines.{set_lines}
 use Rattle.std.specs.List.{flat_map}
 use Rattle.mxf_tool.proofs.PrintLaws.{Leads}
@@ -9,3 +10,4 @@ abbrev pub invariant-each : goal.invariant-each
 invariant-each g l =
     Leads (g.W.Write.contents l.initial.writer) l.initial.self.progress.written (flat_map (set_lines l.views) (clear_notes l.views))
     (g.W.Write.contents l.writer) l.self.progress.written (flat_map (set_lines l.views) l.note-iterator)
+    × AreLabelsIn l.views l.labels
