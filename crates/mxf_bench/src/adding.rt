@@ -9,7 +9,7 @@ const KEY: [u8; 16] = [
 ];
 
 /// The bytes of a packet: key, length and value.
-const SIZE: u64 = 20;
+pub const SIZE: u64 = 20;
 
 /// A prime that shares no factor with a count of thousands.
 const STRIDE: u64 = 611_953;
@@ -61,7 +61,7 @@ impl Order {
 }
 
 /// The note of a packet at an offset.
-fn note_at(offset: u64) -> Option<Note> {
+pub fn note_at(offset: u64) -> Option<Note> {
     Note::digested(offset, Ul::from_bytes(KEY)?, 1, SIZE - 17, [0; 32])
 }
 

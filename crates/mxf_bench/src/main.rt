@@ -1,30 +1,63 @@
-//! Adds notes to a catalogue one by one, in an order, for benches/run: `mxf_bench ORDER COUNT`.
+//! Takes in notes for benches/run: `mxf_bench RUN COUNT`.
 //!
-//! ORDER is `ascending`, `descending`, `shuffled` or `overlapping`. It prints how many notes are held and how many of
-//! them are disputed, and ends with status 0; with other words, or for want of memory, with status 2.
+//! RUN is an order, `ascending`, `descending`, `shuffled` or `overlapping`, in which so many notes are added to a catalogue
+//! one by one; or `notes`, where they are added to views, in the zone of one copy of the header metadata; or `pieces`,
+//! where so many pieces of ten notes are merged into such views. It prints how many notes are held and how many of them
+//! are disputed, and ends with status 0; with other words, or for want of memory, with status 2.
 #![tactic(auto)]
 
 mod adding;
+mod filling;
 
 use adding::{Counts, Order, add_notes};
+use filling::{fill_by_notes, fill_by_pieces};
+use std::alloc::Global;
 use std::env;
 use std::process::ExitCode;
 use std::rt::Env;
 
-/// The order and the count that the arguments ask for.
-fn asked<R: Env + AllocGlobal>(rt: &R) -> Option<(Order, u64)> {
+/// What is measured.
+#[derive(Clone, Copy, Debug)]
+enum Run {
+    Adds(Order),
+    Notes,
+    Pieces,
+}
+
+impl Run {
+    /// The run with the name.
+    fn named(name: &str) -> Option<Run> {
+        match name {
+            "notes" => Some(Run::Notes),
+            "pieces" => Some(Run::Pieces),
+            _ => Some(Run::Adds(Order::named(name)?)),
+        }
+    }
+
+    /// Takes so many notes or pieces in; None where there is no memory or an offset is too great.
+    fn take_in(self, alloc: Global, count: u64) -> Option<Counts> {
+        match self {
+            Run::Adds(order) => add_notes(alloc, order, count),
+            Run::Notes => fill_by_notes(alloc, count),
+            Run::Pieces => fill_by_pieces(alloc, count),
+        }
+    }
+}
+
+/// The run and the count that the arguments ask for.
+fn asked<R: Env + AllocGlobal>(rt: &R) -> Option<(Run, u64)> {
     let arguments = env::args(rt).ok()?;
     let words: Vec<String> = arguments.collect(rt.alloc()).ok()?;
-    let order = Order::named(words.get(1)?.as_str())?;
+    let run = Run::named(words.get(1)?.as_str())?;
     let count = words.get(2)?.as_str().parse().ok()?;
-    Some((order, count))
+    Some((run, count))
 }
 
 fn main(rt: HostRuntime) -> ExitCode {
-    let Some((order, count)) = asked(&rt) else {
+    let Some((run, count)) = asked(&rt) else {
         return ExitCode::from(2);
     };
-    match add_notes(rt.alloc(), order, count) {
+    match run.take_in(rt.alloc(), count) {
         Some(Counts { notes, disputed }) => {
             match println!(rt; "added {notes} notes {disputed} disputed") {
                 Ok(()) => ExitCode::SUCCESS,

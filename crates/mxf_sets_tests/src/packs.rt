@@ -1,7 +1,8 @@
 //! Partition packs, primer packs and random index packs.
 use mxf_klv::{Encode, Status};
 use mxf_sets::{
-    Batch, PackFault, PackPart, PartitionNumbers, PartitionPack, Primer, Rip, RipEntry,
+    Batch, PackFault, PackPart, PartitionNumbers, PartitionPack, Primer, PrimerLabels, Rip,
+    RipEntry,
 };
 use mxf_worked::builders::{joined, label};
 use mxf_worked::worked_files::{
@@ -123,6 +124,18 @@ fn a_tag_has_the_label_that_its_entries_agree_on(rt: HostRuntime) -> Result<(), 
     assert_eq!(rt; primer.label(0x8002), None);
     let different = two_entries(rt.alloc(), 0xAA, 0xBB)?;
     assert_eq!(rt; Primer::read(&different)?.label(0x8001), None);
+    Ok(())
+}
+
+#[test]
+fn a_table_of_a_primer_has_the_same_labels(rt: HostRuntime) -> Result<(), Fail> {
+    let alike = two_entries(rt.alloc(), 0xAA, 0xAA)?;
+    let labels = PrimerLabels::of(rt.alloc(), &Primer::read(&alike)?)?;
+    assert_eq!(rt; labels.label(0x8001), Some([0xAA; 16]));
+    assert_eq!(rt; labels.label(0x8002), None);
+    let different = two_entries(rt.alloc(), 0xAA, 0xBB)?;
+    let labels = PrimerLabels::of(rt.alloc(), &Primer::read(&different)?)?;
+    assert_eq!(rt; labels.label(0x8001), None);
     Ok(())
 }
 

@@ -34,5 +34,8 @@ fn a_copy_is_finished_where_all_its_bytes_are_held(rt: HostRuntime) -> Result<()
     assert_eq!(rt; views.preferred(), Some(FINISHED));
     assert_eq!(rt; set_offsets(alloc, &views, 0)?.as_slice(), [154].as_slice());
     assert!(rt; views.sets(108).next().is_none());
+    let preface = views.sets(0).next().ok_or("a Preface")?;
+    assert_eq!(rt; views.copy_with(preface), Some(FINISHED));
+    assert_eq!(rt; views.primer_of(&FINISHED).is_some(), true);
     Ok(())
 }
