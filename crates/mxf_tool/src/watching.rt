@@ -1,4 +1,7 @@
 //! Reading a file, and telling on standard error how far a long piece has been read.
+ghost use Rattle.std.specs.Prelude.{◌≡◌, ◌↔◌, IsTrue};
+ghost use Rattle.mxf_tool.specs.declared.watching.Screen.TheVariants.{Terminal};
+
 mod line;
 mod progress;
 
@@ -18,7 +21,9 @@ pub enum Screen {
 
 impl Screen {
     /// What standard error is, by whether it is a terminal.
-    pub fn of(is_terminal: bool) -> Screen {
+    pub fn of(is_terminal: bool) -> Screen
+        ensures { IsTrue is_terminal ↔ (result ≡ Terminal) }
+    {
         if is_terminal {
             Screen::Terminal
         } else {
@@ -42,7 +47,9 @@ impl<'a, R: Files + Eprint + Clock> Watched<'a, R, R::File> {
         screen: Screen,
         source: &Source<'a>,
         from: R::File,
-    ) -> Watched<'a, R, R::File> {
+    ) -> Watched<'a, R, R::File>
+        ensures { result.from ≡ from }
+    {
         let progress = match (screen, source) {
             (Screen::Terminal, Source::Piece { path, .. }) => match from.metadata() {
                 Ok(found) if found.is_file() && is_long(found.len()) => {
