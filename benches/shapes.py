@@ -12,7 +12,6 @@ from recordings import ESSENCE_KEY, PATTERN, packet
 
 HEADER_KEY = bytes.fromhex("060e2b34020501010d01020101020400")
 BODY_KEY = bytes.fromhex("060e2b34020501010d01020101030400")
-FOOTER_KEY = bytes.fromhex("060e2b34020501010d01020101040400")
 PRIMER_KEY = bytes.fromhex("060e2b34020501010d01020101050100")
 RANDOM_INDEX_KEY = bytes.fromhex("060e2b34020501010d01020101110100")
 PREFACE_KEY = bytes.fromhex("060e2b34025301010d01010101012f00")
@@ -82,17 +81,11 @@ def far(count: int) -> list[bytes]:
     return [b"".join(pack(key_of(number), number * PACK, 0) for number in range(count))]
 
 
-def footers(count: int) -> list[bytes]:
-    """A header partition and so many footers, each with the right link."""
-    parts = [pack(HEADER_KEY, 0, 0)]
-    parts += [pack(FOOTER_KEY, number * PACK, (number - 1) * PACK) for number in range(1, count)]
-    return [b"".join(parts)]
-
-
 def random_indexes(count: int) -> list[bytes]:
-    """A header partition and so many random index packs that list it."""
+    """A header partition, so many essence packets, and as many random index packs that list the partition."""
+    essence = packet(ESSENCE_KEY, b"")
     index = packet(RANDOM_INDEX_KEY, struct.pack(">IQI", 0, 0, 36))
-    return [pack(HEADER_KEY, 0, 0) + index * count]
+    return [pack(HEADER_KEY, 0, 0) + essence * count + index * count]
 
 
 def tags(count: int) -> list[bytes]:
@@ -137,8 +130,7 @@ SHAPES = {
     "checked": Shape("partitions with 28 sets each", "check", 500, growing),
     "zones": Shape("zones over one another", "show", 2000, zones),
     "far": Shape("partitions that name the first", "check", 4000, far),
-    "footers": Shape("footer partitions", "check", 4000, footers),
-    "indexes": Shape("random index packs", "check", 4000, random_indexes),
+    "indexes": Shape("random index packs behind as many packets", "check", 4000, random_indexes),
     "tags": Shape("tags for as many items", "show", 2000, tags),
     "references": Shape("references among as many sets", "check", 500, references),
     "causes": Shape("partitions with two findings", "check", 8000, causes),
