@@ -77,6 +77,22 @@ fn three_notes_are_319_bytes_and_are_read_back(rt: HostRuntime) -> Result<(), Fa
 }
 
 #[test]
+fn a_file_is_written_through_1024_interruptions_and_no_more(rt: HostRuntime) -> Result<(), Fail> {
+    let alloc = rt.alloc();
+    let file = file_of_m(alloc)?;
+    let all = catalogue_of_m(alloc, &[0, 108, 216])?;
+    let mut patient = Narrow::new(alloc, 319);
+    patient.interruptions = 1024;
+    assert_eq!(rt; all.write_to(&mut patient), Ok(()));
+    assert_eq!(rt; patient.taken.as_slice(), file.as_slice());
+    let mut interrupted = Narrow::new(alloc, 319);
+    interrupted.interruptions = 1025;
+    assert_eq!(rt; all.write_to(&mut interrupted), Err(WriteFault { written: 0 }));
+    assert!(rt; interrupted.taken.is_empty());
+    Ok(())
+}
+
+#[test]
 fn a_failed_write_leaves_the_front_of_the_file(rt: HostRuntime) -> Result<(), Fail> {
     let alloc = rt.alloc();
     let file = file_of_m(alloc)?;

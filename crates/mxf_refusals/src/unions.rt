@@ -1,0 +1,140 @@
+//! Catalogues that are joined, merged and read: what was handed stands, or comes back.
+ghost use Rattle.std.specs.Prelude.{◌<◌, ◌≤◌};
+
+use mxf_catalogue::{Catalogue, Cover, FileFault, Semilattice};
+use mxf_klv::{Encode, Note, OutOfMemory, read_packet};
+use mxf_views::Views;
+use mxf_worked::worked_files::M;
+use std::alloc::Global;
+use std::test::Fail;
+
+/// The catalogue of the packets of M at these offsets. None where a growth is refused.
+fn of_m(alloc: Global, offsets: &[usize]) -> Option<Catalogue> {
+    let mut all = Catalogue::new(alloc);
+    for offset in offsets {
+        let (packet, _) = read_packet(M.get(*offset..)?).ok()?;
+        all.add(Note::of(alloc, *offset as u64, &packet).ok()?)
+            .ok()?;
+    }
+    Some(all)
+}
+
+/// The same, also where one growth is refused.
+fn at_last(alloc: Global, offsets: &[usize]) -> Result<Catalogue, Fail> {
+    match of_m(alloc, offsets) {
+        Some(all) => Ok(all),
+        None => Ok(of_m(alloc, offsets).ok_or("packets of M")?),
+    }
+}
+
+#[test]
+fn a_join_of_catalogues(rt: HostRuntime) -> Result<(), Fail> {
+    let alloc = rt.alloc();
+    let front = at_last(alloc, &[0])?;
+    let back = at_last(alloc, &[108, 216])?;
+    let whole = at_last(alloc, &[0, 108, 216])?;
+    let joined = match Catalogue::join(alloc, &front, &back) {
+        Ok(joined) => joined,
+        Err(OutOfMemory) => Catalogue::join(alloc, &front, &back)?,
+    };
+    assert!(rt; joined.same(&whole));
+    assert_eq!(rt; front.len(), 1);
+    assert_eq!(rt; back.len(), 2);
+    Ok(())
+}
+
+#[test]
+fn a_merge_of_catalogues(rt: HostRuntime) -> Result<(), Fail> {
+    let alloc = rt.alloc();
+    let mut front = at_last(alloc, &[0, 216])?;
+    let before = at_last(alloc, &[0, 216])?;
+    let back = at_last(alloc, &[108])?;
+    let again = at_last(alloc, &[108])?;
+    let whole = at_last(alloc, &[0, 108, 216])?;
+    if let Err(fault) = front.merge(back) {
+        assert!(rt; front.same(&before));
+        assert!(rt; fault.other.same(&again));
+        front.merge(fault.other)?;
+    }
+    assert!(rt; front.same(&whole));
+    Ok(())
+}
+
+#[test]
+fn a_join_of_views(rt: HostRuntime) -> Result<(), Fail> {
+    let alloc = rt.alloc();
+    let mut front = Views::new(alloc);
+    let mut back = Views::new(alloc);
+    if let Err(fault) = front.merge(at_last(alloc, &[0])?) {
+        front.merge(fault.other)?;
+    }
+    if let Err(fault) = back.merge(at_last(alloc, &[108, 216])?) {
+        back.merge(fault.other)?;
+    }
+    let whole = at_last(alloc, &[0, 108, 216])?;
+    let joined = match Views::join(alloc, &front, &back) {
+        Ok(joined) => joined,
+        Err(OutOfMemory) => Views::join(alloc, &front, &back)?,
+    };
+    assert!(rt; joined.catalogue().same(&whole));
+    if let Err(fault) = front.merge(back.into_catalogue()) {
+        assert_eq!(rt; front.catalogue().len(), 1);
+        assert_eq!(rt; fault.other.len(), 2);
+        front.merge(fault.other)?;
+    }
+    assert!(rt; front.catalogue().same(&whole));
+    Ok(())
+}
+
+/// The file of a catalogue. None where a growth is refused.
+fn written(alloc: Global, all: &Catalogue) -> Option<Vec<u8>> {
+    let mut file = Vec::with_capacity(alloc, 319).ok()?;
+    all.write_to(&mut file).ok()?;
+    Some(file)
+}
+
+#[test]
+fn a_catalogue_that_is_read(rt: HostRuntime) -> Result<(), Fail> {
+    let alloc = rt.alloc();
+    let whole = at_last(alloc, &[0, 108, 216])?;
+    let file = match written(alloc, &whole) {
+        Some(file) => file,
+        None => written(alloc, &whole).ok_or("a file")?,
+    };
+    let read = match Catalogue::read(alloc, &file) {
+        Ok(read) => read,
+        Err(fault) => {
+            assert_eq!(rt; fault, FileFault::OutOfMemory);
+            Catalogue::read(alloc, &file)?
+        }
+    };
+    assert!(rt; read.same(&whole));
+    Ok(())
+}
+
+/// A cover of one run.
+fn run_of(alloc: Global, start: u64, end: u64) -> Result<Cover, OutOfMemory>
+    requires rising { start < end }
+    requires within { end ≤ 9223372036854775807 }
+{
+    let mut cover = Cover::new(alloc);
+    if let Err(OutOfMemory) = cover.add(start, end) {
+        cover.add(start, end)?;
+    }
+    Ok(cover)
+}
+
+#[test]
+fn a_join_of_covers(rt: HostRuntime) -> Result<(), Fail> {
+    let alloc = rt.alloc();
+    let front = run_of(alloc, 0, 30)?;
+    let back = run_of(alloc, 40, 50)?;
+    let joined = match Cover::join(alloc, &front, &back) {
+        Ok(joined) => joined,
+        Err(OutOfMemory) => Cover::join(alloc, &front, &back)?,
+    };
+    assert_eq!(rt; joined.runs().count(), 2);
+    assert_eq!(rt; joined.gaps().count(), 1);
+    assert_eq!(rt; front.runs().count(), 1);
+    Ok(())
+}

@@ -1,0 +1,81 @@
+//! What takes no memory: it answers while every growth is refused.
+use crate::files::R;
+use mxf_catalogue::{Catalogue, Change};
+use mxf_klv::{Encode, Note, read_packet};
+use mxf_read::absorb;
+use mxf_views::{Chain, Found, Link, RipView, Views};
+use mxf_worked::worked_files::M;
+use std::alloc::Global;
+use std::test::Fail;
+use uuid::Uuid;
+
+/// The views of a file. None where a growth is refused.
+fn views_of(alloc: Global, file: &[u8]) -> Option<Views> {
+    let mut views = Views::new(alloc);
+    absorb(alloc, &mut views, 0, file).ok()?;
+    Some(views)
+}
+
+/// The note of M's footer, at 108. None where a growth is refused.
+fn footer(alloc: Global) -> Option<Note> {
+    let (packet, _) = read_packet(M.get(108..)?).ok()?;
+    Note::of(alloc, 108, &packet).ok()
+}
+
+/// Whether M's notes are found, all of them clear.
+fn holds_m(all: &Catalogue) -> bool {
+    all.len() == 3
+        && all.notes().count() == 3
+        && all.clear().count() == 3
+        && all.disputed().count() == 0
+        && all.spans().gaps().count() == 0
+        && all.clear_at(108).is_some_and(|note| all.holds(note))
+}
+
+/// Whether M's partitions hang together.
+fn hangs_together(views: &Views) -> bool {
+    views.partitions().count() == 2
+        && views.chain() == Chain::Whole
+        && views.link(108) == Some(Link::Held)
+        && views.gaps().count() == 0
+        && views.segments().count() == 0
+        && matches!(&views.rip(), RipView::One(rip) if rip.entries().count() == 2)
+}
+
+#[test]
+fn without_memory_a_held_note_is_added(rt: HostRuntime) -> Result<(), Fail> {
+    let alloc = rt.alloc();
+    let (Some(mut views), Some(note)) = (views_of(alloc, &M), footer(alloc)) else {
+        return Ok(());
+    };
+    assert_eq!(rt; views.add(note)?, Change::Repeated);
+    assert!(rt; holds_m(views.catalogue()));
+    assert!(rt; hangs_together(&views));
+    Ok(())
+}
+
+#[test]
+fn without_memory_a_catalogue_is_written(rt: HostRuntime) -> Result<(), Fail> {
+    let alloc = rt.alloc();
+    let (Some(views), Ok(mut file)) = (views_of(alloc, &M), Vec::with_capacity(alloc, 319)) else {
+        return Ok(());
+    };
+    assert_eq!(rt; views.catalogue().write_to(&mut file), Ok(()));
+    assert_eq!(rt; file.len(), 319);
+    Ok(())
+}
+
+#[test]
+fn without_memory_sets_are_found(rt: HostRuntime) -> Result<(), Fail> {
+    let Some(views) = views_of(rt.alloc(), &R) else {
+        return Ok(());
+    };
+    let preferred = views.preferred().ok_or("a preferred copy")?;
+    assert_eq!(rt; (preferred.partition, preferred.start), (0, Some(108)));
+    assert_eq!(rt; views.copies().len(), 1);
+    assert_eq!(rt; views.find(0, Uuid::from_bytes([0x33; 16])), Found::One(298));
+    let set = views.sets(0).next().ok_or("a set")?;
+    let primer = views.primer_for(set).ok_or("a primer pack")?;
+    assert_eq!(rt; primer.label(0x8001), Some([0xAA; 16]));
+    Ok(())
+}
