@@ -6,7 +6,11 @@ use Rattle.std.specs.List.Sorted.{IsNonDecreasingBy}
 use Rattle.std.specs.Bool.{Decides}
 use Rattle.std.proofs.Common.{◌==◌, ◌&&◌, eqb-true, eq-eqb, sym, ap, subst, inl, inr, arith, get_or}
 use Rattle.std.proofs.lemmas.Bool.{ltb-true, ltb-false}
+use Rattle.std.specs.Prelude.{◌-◌, Some, slice_get}
+use Rattle.std.proofs.lemmas.Option.{get_or_from_slice_get, slice_get_within}
 use Rattle.mxf_klv.specs.Note.{greatest_end}
+use Rattle.mxf_klv.specs.Rising.{In}
+use Rattle.mxf_catalogue.proofs.Places.{Contains-from_In, In-at}
 use Rattle.mxf_catalogue.specs.declared.run.Run.{Run}
 use Rattle.mxf_catalogue.specs.Runs.{AreMaximal, IsWithin, LiesIn, SameOffsets, run}
 use Rattle.mxf_catalogue.specs.Covers.{IsCover, IsRun, both, spanned, with_run, union_of_runs, gaps_from, gaps_of_runs}
@@ -375,3 +379,33 @@ length-gaps low (r ∷ runs) =
       | true ↦ omega arith
       | false ↦ omega arith
     ]
+
+-- ---- the greatest end
+
+-- The end of the last run lies above what lies in the runs, and just above one of the offsets.
+pub last_end : (runs : List Run) (r : Run) → AreMaximal 0 runs → slice_get runs (length runs - 1) ≡ Some r
+    → (bound : ℕ) → r.end ≤ bound ↔ ((offset : ℕ) → LiesIn runs offset → offset < bound)
+last_end runs r m e bound =
+    let k = length runs - 1 in
+    let within = slice_get_within runs k r e in
+    let at = get_or_from_slice_get runs k r r e in
+    let filled : r.start < r.end =
+    subst (λ (s : Run). s.start < s.end) at (start_below_end 0 runs k r m within) in
+    let held : In r runs = subst (λ (s : Run). In s runs) at (In-at runs k r within) in (
+      λ l offset h.
+          let low : h.0.end ≤ r.end = below_last h.0 h.1 in let b : offset + 1 ≤ h.0.end = h.2.before in omega (arith, low, b, l),
+      λ f.
+          let last : r.start ≤ r.end - 1 = omega (arith, filled) in
+          let end : r.end - 1 + 1 ≤ r.end = omega (arith, filled) in
+          let b = f (r.end - 1) (r, held, record { from = last; before = end }) in omega (arith, b),
+    )
+  where
+    below_last : (s : Run) → In s runs → s.end ≤ r.end
+    below_last s h =
+        let c = Contains-from_In s runs h in
+        let k = length runs - 1 in
+        let last = slice_get_within runs k r e in
+        let i : c.0 < length runs = c.1 in
+        let up = ends_rise 0 runs m c.0 k s (omega arith) last in
+        let there = ap (λ (t : Run). t.end) c.2 in
+        let at = ap (λ (t : Run). t.end) (get_or_from_slice_get runs k r s e) in omega (arith, up, there, at)

@@ -83,6 +83,16 @@ impl Cover {
         CoverRuns::of(&self.runs)
     }
 
+    /// The greatest end of a run, in bytes; 0 where there is none.
+    pub fn end(&self) -> u64
+        ensures { (bound : ℕ) → result ≤ bound ↔ ((offset : ℕ) → LiesIn self.now offset → offset < bound) }
+    {
+        match self.runs.last() {
+            Some(run) => run.end,
+            None => 0,
+        }
+    }
+
     /// The maximal ranges of offsets below the greatest end that aren't in the set, rising.
     pub fn gaps(&self) -> CoverGaps<'_>
         ensures gaps { result ≡ gaps_of_runs self.now }

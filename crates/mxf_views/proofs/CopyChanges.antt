@@ -22,7 +22,7 @@ abbrev pub SameClear : ℕ → ℕ → List NoteParts → List NoteParts → Typ
 SameClear low high before after =
     (n : NoteParts) → n.offset < high → low < end_of n → IsClear n before ↔ IsClear n after
 
-start_stays : (before after : List NoteParts) (end high s : ℕ) → SameClear end high before after → s < high
+pub start_stays : (before after : List NoteParts) (end high s : ℕ) → SameClear end high before after → s < high
     → IsStart before end s → IsStart after end s
 start_stays before after end high s same l a =
     let there : a.primer.offset ≡ s = a.there in

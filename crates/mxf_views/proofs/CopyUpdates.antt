@@ -31,7 +31,7 @@ use Rattle.mxf_views.proofs.PartitionSearch.{copy_found, has_copy, is_there, of_
 
 -- ---- what a copy says of its partition
 
-start_is_found : (notes : List NoteParts) (p : PartitionParts) → (copy_of notes p).start ≡ start_of p.end notes
+pub start_is_found : (notes : List NoteParts) (p : PartitionParts) → (copy_of notes p).start ≡ start_of p.end notes
 unfolding copy_of
 start_is_found notes p = elim (start_of p.end notes) as (λ o. (copy_from notes p o).start ≡ o) [
   | None ↦ refl
@@ -47,7 +47,7 @@ bytes_are_stated notes p =
       | Some start ↦ refl
     ]
 
-end-partition_at : (n : NoteParts) (p : PartitionParts) → partition_at n ≡ Some p → p.end ≡ end_of n
+pub end-partition_at : (n : NoteParts) (p : PartitionParts) → partition_at n ≡ Some p → p.end ≡ end_of n
 unfolding partition_at
 end-partition_at n p e =
     elim (pack_of n) as (λ o. option_map (λ pack. record { offset = n.offset; end = end_of n; pack = pack }) o ≡ Some p
@@ -57,7 +57,7 @@ end-partition_at n p e =
           (λ (x : PartitionParts). x.end) (sym same)
     ] e
 
-partition_found : (notes : List NoteParts) (p : PartitionParts) → In p (partitions_of notes)
+pub partition_found : (notes : List NoteParts) (p : PartitionParts) → In p (partitions_of notes)
     → find (λ q. q.offset == p.offset) (partitions_of notes) ≡ Some p
 partition_found notes p h =
     find-only (λ (q : PartitionParts). q.offset == p.offset) (partitions_of notes) p h (eq-eqb p.offset p.offset refl)
@@ -124,7 +124,7 @@ without_start_stays x notes p r new none s =
 
 -- ---- all copies outside
 
-or_of : (c d : CopyInfo) (o : Option CopyInfo) → o ≡ Some d → or_itself c o ≡ d
+pub or_of : (c d : CopyInfo) (o : Option CopyInfo) → o ≡ Some d → or_itself c o ≡ d
 or_of c d o e = ap (or_itself c) e
 
 not_both : (a b : Bool) → (a && b) ≡ false → (a ≡ false) ⊎ (b ≡ false)

@@ -46,7 +46,7 @@ sub_length (x ∷ xs) (y ∷ ys) r s f =
     ]
 
 -- A clear note of the union is a clear note of one of both.
-clear_in_one : (a b : List NoteParts) (n : NoteParts) → IsClear n (union_of a b) → IsClear n a ⊎ IsClear n b
+pub clear_in_one : (a b : List NoteParts) (n : NoteParts) → IsClear n (union_of a b) → IsClear n a ⊎ IsClear n b
 clear_in_one a b n c =
     let all = λ (m : NoteParts). In-union_of m a b in
     elim ((all n).0 c.held) [

@@ -1,3 +1,6 @@
+pub mod AboveCopies
+pub mod AboveKept
+pub mod AboveLaws
 pub mod BestLaws
 pub mod CauseLaws
 pub mod ChainLaws

@@ -26,3 +26,10 @@ filter_map_some f (x ∷ xs) =
       | None ↦ λ e. ih
       | Some y ↦ λ e. ap (λ o. cons_option o (filter_map f (filter (λ x. is_some (f x)) xs))) e ∙ ap (λ l. y ∷ l) ih
     ] refl
+
+-- What is not changed yet is there as before.
+pub next_unchanged : {K : Type 0} (f : K → K) (xs : List K) (d : K) (i : ℕ) → i < length xs
+    → get_or (map f (take i xs) ++ drop i xs) i d ≡ get_or xs i d
+next_unchanged f [] d i h = absurd (omega arith)
+next_unchanged f (x ∷ xs) d zero h = refl
+next_unchanged f (x ∷ xs) d (suc i) h = next_unchanged f xs d i (omega arith)

@@ -26,3 +26,4 @@ pub mod RefusedFiles
 pub mod WorkedBytes
 pub mod Words
 pub mod Kept
+pub mod KeptAbove

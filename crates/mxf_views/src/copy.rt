@@ -62,7 +62,7 @@ fn is_readable_primer(note: &Note) -> bool
 
 /// Where the header metadata begin of a partition whose pack ends at an offset: at the primer that follows it, or the
 /// fills behind it.
-fn start_of(catalogue: &Catalogue, end: u64) -> Option<u64>
+pub(crate) fn start_of(catalogue: &Catalogue, end: u64) -> Option<u64>
     ensures { result ≡ start_of end (clear_notes catalogue.now) }
 {
     let mut reached = end;
@@ -78,7 +78,7 @@ fn start_of(catalogue: &Catalogue, end: u64) -> Option<u64>
     None
 }
 
-fn prefaces(catalogue: &Catalogue, start: u64, bytes: u64) -> usize
+pub(crate) fn prefaces(catalogue: &Catalogue, start: u64, bytes: u64) -> usize
     ensures { result ≡ prefaces_of start bytes (clear_notes catalogue.now) }
 {
     catalogue

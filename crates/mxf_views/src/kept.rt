@@ -6,13 +6,16 @@ ghost use Rattle.mxf_klv.specs.Rising.{In};
 ghost use Rattle.mxf_catalogue.specs.Content.{IsContent, union_of, with_note};
 ghost use Rattle.mxf_catalogue.specs.Disputes.{clear_notes};
 ghost use Rattle.mxf_views.specs.Kept.{is_placed, states_metadata, HasRoom, HasRoomForOne, IsArrival, kept_in, kept_of};
+ghost use Rattle.mxf_views.specs.KeptAbove.{IsUnionAt};
 ghost use Rattle.mxf_views.specs.declared.kept.offsets.Placed.{Placed};
 
+pub(crate) mod above;
 pub(crate) mod arrival;
 mod copies;
 pub(crate) mod offsets;
 
 use crate::copy::CopyInfo;
+use crate::kept::above::{append_offsets, follow_copies_above};
 use crate::kept::arrival::Arrival;
 use crate::kept::copies::{count_copies, follow_copies, refill_copies};
 use crate::kept::offsets::{Placed, count, follow, refill, stands};
@@ -107,6 +110,25 @@ impl Kept {
             Placed::RandomIndexPack,
         );
         refill_copies(&mut self.copies, catalogue);
+    }
+
+    /// Follows the arrival of notes that begin at the boundary or above, where there is room: from what is kept of the notes
+    /// below it to what is kept of all. Only what is new is counted.
+    pub fn follow_above(&mut self, catalogue: &Catalogue, boundary: u64)
+        requires kept { (own : List NoteParts) × IsUnionAt boundary catalogue.now own
+            × (kept_in self.old ≡ kept_of own) }
+        requires room { HasRoom catalogue.now self.old }
+        ensures { kept_in self.new ≡ kept_of catalogue.now }
+    {
+        append_offsets(&mut self.partitions, catalogue, boundary, Placed::Partition);
+        append_offsets(&mut self.segments, catalogue, boundary, Placed::Segment);
+        append_offsets(
+            &mut self.random_index_packs,
+            catalogue,
+            boundary,
+            Placed::RandomIndexPack,
+        );
+        follow_copies_above(&mut self.copies, catalogue, boundary);
     }
 
     /// Follows the arrival of a note in a catalogue, where there is room: from what is kept of the notes before to what

@@ -29,6 +29,7 @@ use crate::gap::Gaps;
 use crate::index::Segments;
 use crate::index::place::{BadUnit, GREATEST_UNIT, Place};
 use crate::kept::Kept;
+use crate::kept::above::boundary;
 use crate::kept::arrival::Arrival;
 use crate::partition::{PartitionAt, Partitions, is_no_unreadable_pack, partition_there};
 use crate::placed::NotesAt;
@@ -128,7 +129,7 @@ impl Views {
     }
 
     /// Moves the notes of a catalogue into that of these views, which are of the notes of both then. No kept value is
-    /// copied.
+    /// copied. Where the other's notes begin where these end, or above, only they are counted.
     ///
     /// The only fault is want of memory. The other catalogue comes back and these views are unchanged.
     pub fn merge(&mut self, other: Catalogue) -> Result<(), MergeFault>
@@ -138,11 +139,15 @@ impl Views {
         ensures history { (h k : History) → self.old ≡ content h → other ≡ content k
             → OnOk result (self.new ≡ content (Join h k)) }
     {
+        let boundary = boundary(&self.catalogue, &other);
         let Ok(()) = self.kept.make_room_for(&self.catalogue, &other) else {
             return Err(MergeFault { other });
         };
         self.catalogue.merge(other)?;
-        self.kept.refill(&self.catalogue);
+        match boundary {
+            Some(boundary) => self.kept.follow_above(&self.catalogue, boundary),
+            None => self.kept.refill(&self.catalogue),
+        }
         Ok(())
     }
 

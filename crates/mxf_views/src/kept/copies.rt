@@ -127,7 +127,7 @@ pub(super) fn refill_copies(copies: &mut Vec<CopyInfo>, catalogue: &Catalogue)
 }
 
 /// The copy of the partition that the note is, where it states header metadata.
-fn copy_by(catalogue: &Catalogue, note: &Note) -> Option<CopyInfo>
+pub(super) fn copy_by(catalogue: &Catalogue, note: &Note) -> Option<CopyInfo>
     ensures { result ≡ copy_by (clear_notes catalogue.now) note.now }
 {
     let partition = partition_at(note)?;

@@ -25,7 +25,7 @@ pub(crate) enum Placed {
 
 impl Placed {
     /// Whether the note is one of these.
-    fn has(self, note: &Note) -> bool
+    pub(super) fn has(self, note: &Note) -> bool
         ensures { result ≡ is_placed self note.now }
     {
         match self {

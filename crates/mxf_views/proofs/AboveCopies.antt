@@ -1,0 +1,374 @@
+-- The copies of the header metadata, once notes are there that begin where the others end, or above.
+use Rattle.std.proofs.Common.{◌≡◌, ℕ, ◌+◌, ◌-◌, ◌<◌, ◌≤◌, ◌⊎◌, true, false, cond, List, [], ◌∷◌, ◌++◌, Option, Some, None}
+use Rattle.std.proofs.Common.{refl, sym, ap, subst, ◌∙◌, inl, inr, arith, length, eqb-true, eq-eqb}
+use Rattle.std.specs.Prelude.{◌==◌, nat_lt, slice_get, find, map, count_by, if◌then◌else◌}
+use Rattle.std.specs.List.{cons_option, filter_map}
+use Rattle.std.specs.Option.{option_and_then, option_map}
+use Rattle.std.specs.Prelude.{◌^◌}
+use Rattle.std.specs.Result.{result_ok}
+use Rattle.std.proofs.lemmas.Bool.{ltb-true, ltb-false}
+use Rattle.std.proofs.lemmas.List.Elements.{filter_map-append}
+use Rattle.std.proofs.lemmas.List.Sums.{count_by-le-length, sum_by-append}
+use Rattle.std.proofs.lemmas.Option.{get_or_from_slice_get, slice_get_within}
+use Rattle.mxf_klv.specs.declared.kinds.Kind.TheVariants as kinds
+use Rattle.mxf_klv.specs.Parts.{NoteParts}
+use Rattle.mxf_klv.specs.Note.{end_of}
+use Rattle.mxf_klv.specs.Kind.{kind_of}
+use Rattle.mxf_klv.specs.Rising.{In}
+use Rattle.mxf_sets.specs.PackReadings.{pack_at}
+use Rattle.mxf_sets.specs.PartitionPack.{PartitionPackParts}
+use Rattle.mxf_sets.specs.Readable.{read_as}
+use Rattle.mxf_klv.specs.Note.{keeps}
+use Rattle.mxf_catalogue.specs.Disputes.{lies_in}
+use Rattle.mxf_catalogue.proofs.Lists.{length-filter_le}
+use Rattle.mxf_views.specs.Spans.{is_in_one}
+use Rattle.mxf_views.proofs.CopyLaws.{copy_there}
+use Rattle.mxf_views.proofs.CopyUpdates.{start_is_found}
+use Rattle.mxf_views.proofs.PartitionSearch.{has_copy}
+use Rattle.mxf_views.proofs.AboveLaws.{no_bytes}
+use Rattle.mxf_catalogue.specs.Content.{union_of}
+use Rattle.mxf_catalogue.specs.Disputes.{IsClear, SharesByte, clear_notes}
+use Rattle.mxf_catalogue.proofs.DisputeLaws.{In-clear_notes}
+use Rattle.mxf_catalogue.proofs.Places.{Contains-from_In, In-at}
+use Rattle.mxf_catalogue.proofs.SpanLaws.{AreApart-clear_notes}
+use Rattle.mxf_views.specs.declared.copy.CopyInfo.{CopyInfo}
+use Rattle.mxf_views.specs.Copies.{CopiesRise, IsStart, copies_of, copy_from, copy_of, covered_of, has_metadata}
+use Rattle.mxf_views.specs.Copies.{is_preface_note, prefaces_of, start_of, zone_of}
+use Rattle.mxf_views.specs.Kept.{copy_by, or_itself}
+use Rattle.mxf_views.specs.KeptAbove.{CountsFit, IsStarting, IsUnionAt, MeetAt, clear_from, counted_above, counted_on, is_of, with_counts}
+use Rattle.mxf_views.specs.Partitions.{PartitionParts, partition_at, partitions_of}
+use Rattle.mxf_views.specs.Spans.{sizes, size_of}
+use Rattle.mxf_views.proofs.AboveLaws.{clear_in_both, clear_of_both, new_are_clear, union_is_content, zone_from, zone_goes_on, zone_of_both}
+use Rattle.mxf_views.proofs.CopyChanges.{SameClear, start_stays}
+use Rattle.mxf_views.proofs.CopyUpdates.{copies_by_notes, end-partition_at, or_of, partition_found, partitions_of_copies_rise}
+use Rattle.mxf_views.proofs.PartitionSearch.{copy_found, is_there, of_note, of_partition}
+use Rattle.mxf_views.proofs.SpanCounts.{count-le, zone-count}
+use Rattle.mxf_views.proofs.StartLaws.{clear_same, start_is}
+use Rattle.mxf_views.proofs.StartWalk.{none_there}
+
+-- The last copy is that of the greatest partition.
+pub last_copy : (cs : List CopyInfo) (last c : CopyInfo) → CopiesRise cs → slice_get cs (length cs - 1) ≡ Some last
+    → In c cs → (last.partition == c.partition) ≡ false → c.partition < last.partition
+last_copy cs last c r e h other =
+    let k = length cs - 1 in
+    let within = slice_get_within cs k last e in
+    let place = Contains-from_In c cs h in
+    let i : place.0 < length cs = place.1 in
+    let up = partitions_of_copies_rise cs r place.0 k c (omega arith) within in
+    let here = ap (λ (x : CopyInfo). x.partition) place.2 in
+    let there = ap (λ (x : CopyInfo). x.partition) (get_or_from_slice_get cs k last c e) in
+    elim (nat_lt c.partition last.partition) as (λ b. nat_lt c.partition last.partition ≡ b → c.partition < last.partition) [
+      | true ↦ λ t. ltb-true c.partition last.partition t
+      | false ↦ λ t. (
+          let l : last.partition ≤ c.partition = ltb-false c.partition last.partition t in
+          let same : last.partition ≡ c.partition = omega (arith, l, up, here, there) in
+          let u = eq-eqb last.partition c.partition same in absurd (cc (u, other)))
+    ] refl
+
+pub last_held : (cs : List CopyInfo) (last : CopyInfo) → slice_get cs (length cs - 1) ≡ Some last → In last cs
+last_held cs last e =
+    let k = length cs - 1 in
+    subst (λ (x : CopyInfo). In x cs) (get_or_from_slice_get cs k last last e)
+    (In-at cs k last (slice_get_within cs k last e))
+
+-- ---- what can be a start
+
+abbrev the_partition : NoteParts → PartitionPackParts → PartitionParts
+the_partition n pack = record { offset = n.offset; end = end_of n; pack = pack }
+
+-- No fill is a partition pack.
+no_fill : (n : NoteParts) (p : PartitionParts) → partition_at n ≡ Some p → kind_of n.key ≡ kinds.Fill → ⊥
+unfolding partition_at
+no_fill n p e fill =
+    let placed = λ (pack : PartitionPackParts). the_partition n pack in
+    let none : option_map placed (read_as (pack_at kinds.Fill) n) ≡ None =
+    elim (keeps n.key n.length) as (λ b. option_map placed (if b then result_ok (pack_at kinds.Fill n.held) else None) ≡ None) [
+      | true ↦ refl
+      | false ↦ refl
+    ] in
+    let is = ap (λ k. option_map placed (read_as (pack_at k) n)) fill in
+    let u : None ≡ Some p = sym none ∙ sym is ∙ e in
+    cc (u)
+
+ordered : (notes : List NoteParts) (x y : NoteParts) → IsClear x notes → IsClear y notes → x.offset < y.offset
+    → end_of x ≤ y.offset
+ordered notes x y c d l =
+    elim (nat_lt y.offset (end_of x)) as (λ b. nat_lt y.offset (end_of x) ≡ b → end_of x ≤ y.offset) [
+      | true ↦ λ t. (
+          let h : y.offset < end_of x = ltb-true y.offset (end_of x) t in
+          let from : x.offset ≤ y.offset = omega (arith, l) in
+          let before : y.offset + 1 ≤ end_of x = omega (arith, h) in
+          let own : y.offset ≤ y.offset = omega arith in
+          let end : y.offset + 1 ≤ end_of y = omega arith in
+          let shares : SharesByte x y =
+          (y.offset, record { from = from; before = before }, record { from = own; before = end }) in
+          let same = ap (λ (n : NoteParts). n.offset) (clear_same notes x y c d shares) in absurd (omega (arith, same, l)))
+      | false ↦ λ t. ltb-false y.offset (end_of x) t
+    ] refl
+
+abbrev the_copy : PartitionParts → ℕ → ℕ → ℕ → CopyInfo
+the_copy p s covered prefaces = record {
+  partition = p.offset;
+  start = Some s;
+  bytes = p.pack.numbers.header_byte_count;
+  covered = covered;
+  finished = covered == p.pack.numbers.header_byte_count;
+  prefaces = prefaces;
+  status = p.pack.status;
+}
+
+module _ (b : ℕ) (own other : List NoteParts) (m : MeetAt b own other) where
+  abbrev pub all : List NoteParts
+  all = union_of own other
+
+  same_below : (end : ℕ) → SameClear end b own all
+  same_below end n l g =
+      let both = clear_in_both b own other m n in (
+        λ c. both.1 (inl c),
+        λ c. elim (both.0 c) [
+          | inl k ↦ k
+          | inr k ↦ (let h : b ≤ n.offset = m.begins n k.held in absurd (omega (arith, h, l)))
+        ],
+      )
+
+  own_starts : (end s : ℕ) → IsStart own end s → s < b
+  own_starts end s a =
+      let e : end_of a.primer ≤ b = m.ends a.primer a.clear.held in
+      let t : a.primer.offset ≡ s = a.there in omega (arith, e, t)
+
+  start_kept : (end s : ℕ) → start_of end (clear_notes own) ≡ Some s → start_of end (clear_notes all) ≡ Some s
+  start_kept end s e =
+      let a = (start_is own end s m.own_is.content).0 e in
+      (start_is all end s (union_is_content b own other m)).1
+      (start_stays own all end b s (same_below end) (own_starts end s a) a)
+
+  from_boundary : (end s : ℕ) → end ≤ b → b ≤ s → IsStart all end s → IsStart all b s
+  from_boundary end s low high a = record {
+    primer = a.primer;
+    clear = a.clear;
+    readable = a.readable;
+    there = a.there;
+    after = high;
+    filled = λ o from up.
+        let g = a.filled o (omega (arith, low, from)) up in
+        record {
+          fill = g.fill;
+          clear = g.clear;
+          kind = g.kind;
+          from = elim ((clear_in_both b own other m g.fill).0 g.clear) [
+            | inl k ↦ (
+                let e : end_of g.fill ≤ b = m.ends g.fill k.held in
+                let w : o + 1 ≤ end_of g.fill = g.within.before in absurd (omega (arith, e, w, from)))
+            | inr k ↦ m.begins g.fill k.held
+          ];
+          before = g.before;
+          within = g.within;
+        };
+  }
+
+  not_behind : (p : PartitionParts) → In p (partitions_of own) → (d : CopyInfo) → In d (copies_of own)
+      → p.offset < d.partition → (s : ℕ) → b ≤ s → IsStart all p.end s → ⊥
+  not_behind p h d k l s high a =
+      let x = of_note own p h in
+      let q = of_partition own d k in
+      let y = of_note own q.partition q.there in
+      let cx = (In-clear_notes x.note own).0 x.clear in
+      let cy = (In-clear_notes y.note own).0 y.clear in
+      let at : d.partition ≡ y.note.offset =
+      ap (λ (c : CopyInfo). c.partition) q.copy ∙ copy_there (clear_notes own) q.partition ∙ y.offset in
+      let here : p.offset ≡ x.note.offset = x.offset in
+      let end : p.end ≡ end_of x.note = end-partition_at x.note p x.read in
+      let apart = ordered own x.note y.note cx cy (omega (arith, at, here, l)) in
+      let ends : end_of y.note ≤ b = m.ends y.note cy.held in
+      let g = a.filled y.note.offset (omega (arith, end, apart)) (omega (arith, ends, high)) in
+      let from : y.note.offset ≤ y.note.offset = omega arith in
+      let before : y.note.offset + 1 ≤ end_of y.note = omega arith in
+      let shares : SharesByte g.fill y.note = (y.note.offset, g.within, record { from = from; before = before }) in
+      let same = clear_same all g.fill y.note g.clear ((clear_in_both b own other m y.note).1 (inl cy)) shares in
+      no_fill y.note q.partition y.read (ap (λ (n : NoteParts). kind_of n.key) (sym same) ∙ g.kind)
+
+  own_end : (p : PartitionParts) → In p (partitions_of own) → p.end ≤ b
+  own_end p h =
+      let x = of_note own p h in
+      let e : p.end ≡ end_of x.note = end-partition_at x.note p x.read in
+      let l : end_of x.note ≤ b = m.ends x.note ((In-clear_notes x.note own).0 x.clear).held in omega (arith, e, l)
+
+  no_start : (p : PartitionParts) → In p (partitions_of own) → start_of p.end (clear_notes own) ≡ None
+      → (start_of b (clear_notes all) ≡ None) ⊎ ((d : CopyInfo) × In d (copies_of own) × (p.offset < d.partition))
+      → start_of p.end (clear_notes all) ≡ None
+  no_start p there none f = none_there all p.end (union_is_content b own other m) (λ s a.
+      elim (nat_lt s b) as (λ t. nat_lt s b ≡ t → ⊥) [
+        | true ↦ λ t. (
+            let before = start_stays all own p.end b s (λ n l g. let q = same_below p.end n l g in (q.1, q.0))
+            (ltb-true s b t) a in
+            let u = (start_is own p.end s m.own_is.content).1 before in cc (u, none))
+        | false ↦ λ t. (
+            let high : b ≤ s = ltb-false s b t in
+            elim f [
+              | inl g ↦ (
+                  let u = (start_is all b s (union_is_content b own other m)).1
+                  (from_boundary p.end s (own_end p there) high a) in cc (u, g))
+              | inr d ↦ not_behind p there d.0 d.1 d.2 s high a
+            ])
+      ] refl)
+
+  -- ---- what is counted
+
+  covered_on : (s bytes : ℕ) → s ≤ b → covered_of s bytes (clear_notes all)
+      ≡ covered_of s bytes (clear_notes own) + covered_of b (bytes - (b - s)) (clear_notes all)
+  covered_on s bytes l =
+      ap sizes (zone_of_both b own other m s bytes)
+      ∙ sum_by-append size_of (zone_of s bytes (clear_notes own)) (zone_of s bytes (clear_notes other))
+      ∙ ap (λ z. covered_of s bytes (clear_notes own) + sizes z)
+      (zone_goes_on b own other m s bytes l ∙ sym (zone_from b own other m (bytes - (b - s))))
+
+  prefaces_on : (s bytes : ℕ) → s ≤ b → prefaces_of s bytes (clear_notes all)
+      ≡ prefaces_of s bytes (clear_notes own) + prefaces_of b (bytes - (b - s)) (clear_notes all)
+  prefaces_on s bytes l =
+      ap (count_by is_preface_note) (zone_of_both b own other m s bytes)
+      ∙ sum_by-append (λ n. cond (is_preface_note n) 1 0) (zone_of s bytes (clear_notes own))
+      (zone_of s bytes (clear_notes other))
+      ∙ ap (λ z. prefaces_of s bytes (clear_notes own) + count_by is_preface_note z)
+      (zone_goes_on b own other m s bytes l ∙ sym (zone_from b own other m (bytes - (b - s))))
+
+  with_start : (p : PartitionParts) (s : ℕ) → s ≤ b
+      → copy_from (clear_notes all) p (Some s) ≡ counted_on all b (copy_from (clear_notes own) p (Some s)) s
+  with_start p s l =
+      let bytes = p.pack.numbers.header_byte_count in
+      let rest = bytes - (b - s) in
+      let c = copy_from (clear_notes own) p (Some s) in
+      let x = covered_of b rest (clear_notes all) in
+      let y = prefaces_of b rest (clear_notes all) in
+      let two : copy_from (clear_notes all) p (Some s) ≡ with_counts c x y =
+      ap (λ k. the_copy p s k (prefaces_of s bytes (clear_notes all))) (covered_on s bytes l)
+      ∙ ap (the_copy p s (covered_of s bytes (clear_notes own) + x)) (prefaces_on s bytes l) in
+      elim (rest == 0) as (λ t. (rest == 0) ≡ t
+      → copy_from (clear_notes all) p (Some s) ≡ cond t c (with_counts c x y)) [
+        | true ↦ λ t. (
+            let zone = zone_from b own other m rest ∙ no_bytes b own other m rest (eqb-true rest 0 t) in
+            let no_x : c.covered + x ≡ c.covered = omega (arith, ap sizes zone) in
+            let no_y : c.prefaces + y ≡ c.prefaces = omega (arith, ap (count_by is_preface_note) zone) in
+            two ∙ ap (λ k. the_copy p s k (c.prefaces + y)) no_x ∙ ap (the_copy p s c.covered) no_y)
+        | false ↦ λ t. two
+      ] refl
+
+  -- ---- all copies
+
+  own_copy : (p : PartitionParts) (starting : Option ℕ) → In p (partitions_of own) → has_metadata p ≡ true
+      → IsStarting all b (copies_of own) starting
+      → copy_of (clear_notes all) p
+      ≡ counted_above all b starting (copy_of (clear_notes own) p) (copy_of (clear_notes own) p).start
+  unfolding copy_of
+  own_copy p starting there states f =
+      elim (start_of p.end (clear_notes own)) as (λ o. start_of p.end (clear_notes own) ≡ o
+      → copy_of (clear_notes all) p
+      ≡ counted_above all b starting (copy_from (clear_notes own) p o) (copy_from (clear_notes own) p o).start) [
+        | Some s ↦ λ e. (
+            let low : s < b = own_starts p.end s ((start_is own p.end s m.own_is.content).0 e) in
+            ap (copy_from (clear_notes all) p) (start_kept p.end s e) ∙ with_start p s (omega (arith, low)))
+        | None ↦ λ e. (
+            let c = copy_from (clear_notes own) p None in
+            let note = of_note own p there in
+            let clear = (clear_in_both b own other m note.note).1 (inl ((In-clear_notes note.note own).0 note.clear)) in
+            let stays = is_there all note.note p ((In-clear_notes note.note all).1 clear) note.read in
+            elim (is_of p.offset starting) as (λ t. is_of p.offset starting ≡ t → copy_of (clear_notes all) p
+            ≡ cond t (or_itself c (find (λ d. d.partition == p.offset) (copies_of all))) c) [
+              | true ↦ λ t. sym (or_of c (copy_of (clear_notes all) p) (find (λ d. d.partition == p.offset) (copies_of all))
+                  (copy_found all p.offset p (partition_found all p stays) states))
+              | false ↦ λ t. (
+                  let at = copy_there (clear_notes own) p in
+                  let k = f (copy_of (clear_notes own) p) (has_copy own p there states)
+                  (ap (λ o. is_of o starting) at ∙ t) in
+                  ap (copy_from (clear_notes all) p) (no_start p there e (elim k [
+                    | inl g ↦ inl g
+                    | inr d ↦ inr (d.0, d.1, subst (λ o. o < d.0.partition) at d.2)
+                  ])))
+            ] refl)
+      ] refl
+
+  counted_each : (starting : Option ℕ) → IsStarting all b (copies_of own) starting → (ns : List NoteParts)
+      → ((n : NoteParts) → In n ns → In n (clear_notes own))
+      → filter_map (copy_by (clear_notes all)) ns
+      ≡ map (λ c. counted_above all b starting c c.start) (filter_map (copy_by (clear_notes own)) ns)
+  counted_each starting f [] held = refl
+  counted_each starting f (n ∷ ns) held =
+      let ih = counted_each starting f ns (λ x h. held x (inr h)) in
+      let count = λ (c : CopyInfo). counted_above all b starting c c.start in
+      elim (partition_at n) as (λ o. partition_at n ≡ o →
+      cons_option (option_and_then (λ p. if has_metadata p then Some (copy_of (clear_notes all) p) else None) o)
+      (filter_map (copy_by (clear_notes all)) ns)
+      ≡ map count (cons_option
+      (option_and_then (λ p. if has_metadata p then Some (copy_of (clear_notes own) p) else None) o)
+      (filter_map (copy_by (clear_notes own)) ns))) [
+        | None ↦ λ e. ih
+        | Some p ↦ λ e. elim (has_metadata p) as (λ t. has_metadata p ≡ t →
+            cons_option (if t then Some (copy_of (clear_notes all) p) else None)
+            (filter_map (copy_by (clear_notes all)) ns)
+            ≡ map count (cons_option (if t then Some (copy_of (clear_notes own) p) else None)
+            (filter_map (copy_by (clear_notes own)) ns))) [
+              | true ↦ λ t. (
+                  let there = is_there own n p (held n (inl refl)) e in
+                  let one = own_copy p starting there t f in λ i. one i ∷ ih i)
+              | false ↦ λ t. ih
+            ] refl
+      ] refl
+
+  pub copies_of_both : (starting : Option ℕ) → IsStarting all b (copies_of own) starting
+      → map (λ c. counted_above all b starting c c.start) (copies_of own)
+      ++ filter_map (copy_by (clear_notes all)) (clear_from b all) ≡ copies_of all
+  copies_of_both starting f =
+      let count = λ (c : CopyInfo). counted_above all b starting c c.start in
+      let new = filter_map (copy_by (clear_notes all)) (clear_from b all) in
+      ap (λ l. map count l ++ new) (sym (copies_by_notes own))
+      ∙ ap (λ l. l ++ new) (sym (counted_each starting f (clear_notes own) (λ n h. h)))
+      ∙ ap (λ l. filter_map (copy_by (clear_notes all)) (clear_notes own) ++ filter_map (copy_by (clear_notes all)) l)
+      (new_are_clear b own other m)
+      ∙ sym (filter_map-append (copy_by (clear_notes all)) (clear_notes own) (clear_notes other))
+      ∙ ap (filter_map (copy_by (clear_notes all))) (sym (clear_of_both b own other m)) ∙ copies_by_notes all
+
+  pub counts_fit : (c : CopyInfo) (s : ℕ) → length (clear_notes all) < 2 ^ 64 → In c (copies_of own)
+      → c.start ≡ Some s → CountsFit all b c s
+  unfolding copy_of
+  counts_fit c s fits k e =
+      let q = of_partition own c k in
+      let p = q.partition in
+      let bytes = p.pack.numbers.header_byte_count in
+      let found : start_of p.end (clear_notes own) ≡ Some s =
+      sym (start_is_found (clear_notes own) p) ∙ ap (λ (d : CopyInfo). d.start) (sym q.copy) ∙ e in
+      let is : c ≡ copy_from (clear_notes own) p (Some s) = q.copy ∙ ap (copy_from (clear_notes own) p) found in
+      let low = own_starts p.end s ((start_is own p.end s m.own_is.content).0 found) in
+      let l : s ≤ b = omega (arith, low) in
+      let zone = zone_of s bytes (clear_notes all) in
+      let content = union_is_content b own other m in
+      let covered = covered_on s bytes l in
+      let counted = zone-count (clear_notes all) 0 s bytes (AreApart-clear_notes all content) in
+      let most = count-le (is_in_one zone) s bytes in
+      let prefaces = prefaces_on s bytes l in
+      let some = count_by-le-length is_preface_note zone in
+      let part = length-filter_le (lies_in s bytes) (clear_notes all) in
+      subst (λ (d : CopyInfo). CountsFit all b d s) (sym is) (record {
+        covered = omega (arith, covered, counted, most);
+        prefaces = omega (arith, prefaces, some, part, fits);
+      })
+
+-- ---- the same of a content that is such a union
+
+pub copies_at : (b : ℕ) (notes own : List NoteParts) (starting : Option ℕ) (cs : List CopyInfo)
+    → IsUnionAt b notes own → cs ≡ copies_of own → IsStarting notes b cs starting
+    → map (λ c. counted_above notes b starting c c.start) cs
+    ++ filter_map (copy_by (clear_notes notes)) (clear_from b notes) ≡ copies_of notes
+copies_at b notes own starting cs u same f =
+    let g = subst (λ (ns : List NoteParts). IsStarting ns b (copies_of own) starting) u.union
+    (subst (λ (l : List CopyInfo). IsStarting notes b l starting) same f) in
+    ap (λ l. map (λ c. counted_above notes b starting c c.start) l
+    ++ filter_map (copy_by (clear_notes notes)) (clear_from b notes)) same
+    ∙ subst (λ (ns : List NoteParts). map (λ c. counted_above ns b starting c c.start) (copies_of own)
+    ++ filter_map (copy_by (clear_notes ns)) (clear_from b ns) ≡ copies_of ns) (sym u.union)
+    (copies_of_both b own u.other u.meet starting g)
+
+pub fits_at : (b : ℕ) (notes own : List NoteParts) (cs : List CopyInfo) (c : CopyInfo) (s : ℕ) → IsUnionAt b notes own
+    → cs ≡ copies_of own → length (clear_notes notes) < 2 ^ 64 → In c cs → c.start ≡ Some s → CountsFit notes b c s
+fits_at b notes own cs c s u same fits h e =
+    subst (λ (ns : List NoteParts). CountsFit ns b c s) (sym u.union)
+    (counts_fit b own u.other u.meet c s (subst (λ (ns : List NoteParts). length (clear_notes ns) < 2 ^ 64) u.union fits)
+    (subst (λ (l : List CopyInfo). In c l) same h) e)

@@ -1,0 +1,229 @@
+-- A content and notes that begin where it ends, or above: the clear notes of both are those of the one and then those of
+-- the other.
+use Rattle.std.proofs.Common.{◌≡◌, ℕ, ◌+◌, ◌-◌, ◌<◌, ◌≤◌, ◌⊎◌, Bool, true, cond, List, [], ◌∷◌, ◌++◌, refl}
+use Rattle.std.proofs.Common.{sym, ap, subst, ◌∙◌, inl, inr, arith, leb-true, le-leb}
+use Rattle.std.specs.declared.cmp.Ordering.TheVariants.{Less}
+use Rattle.std.specs.Prelude.{◌↔◌, nat_le, filter, map, count_by}
+use Rattle.std.proofs.lemmas.Bool.{lt-ltb}
+use Rattle.std.proofs.lemmas.List.{map-append}
+use Rattle.std.proofs.lemmas.List.Elements.{filter-append}
+use Rattle.mxf_klv.specs.Parts.{NoteParts}
+use Rattle.mxf_klv.specs.Note.{IsNote, end_of, note_cmp}
+use Rattle.mxf_klv.specs.Rising.{In}
+use Rattle.mxf_catalogue.specs.Content.{IsCatalogue, IsContent, union_of}
+use Rattle.mxf_catalogue.specs.Parts.{Covers}
+use Rattle.mxf_catalogue.specs.Runs.{AreMaximal, LiesIn}
+use Rattle.mxf_catalogue.specs.declared.run.Run.{Run}
+use Rattle.mxf_catalogue.specs.Disputes.{IsClear, clear_notes, lies_in}
+use Rattle.mxf_catalogue.proofs.ContentLaws.{In-union_of, IsContent-union_of, all-In, all_from_In, same_content}
+use Rattle.mxf_catalogue.proofs.DisputeLaws.{In-clear_notes, IsContent-clear_notes, same_bool}
+use Rattle.mxf_catalogue.proofs.Fronts.{In-append}
+use Rattle.mxf_views.specs.Copies.{zone_of}
+use Rattle.mxf_views.specs.Kept.{offsets_where}
+use Rattle.mxf_views.specs.KeptAbove.{MeetAt, clear_from}
+use Rattle.mxf_views.proofs.KeptRoom.{clear_in_one}
+use Rattle.mxf_views.proofs.Members.{both, false_if, parts}
+
+-- ---- lists
+
+filter_none : {K : Type 0} (p : K → Bool) (xs : List K) → ((x : K) → In x xs → p x ≡ true → ⊥) → filter p xs ≡ []
+filter_none p [] f = refl
+filter_none p (x ∷ xs) f = rw (false_if (p x) (f x (inl refl))) (filter_none p xs (λ y h. f y (inr h)))
+
+filter_all : {K : Type 0} (p : K → Bool) (xs : List K) → ((x : K) → In x xs → p x ≡ true) → filter p xs ≡ xs
+filter_all p [] f = refl
+filter_all p (x ∷ xs) f = rw (f x (inl refl)) (ap (λ l. x ∷ l) (filter_all p xs (λ y h. f y (inr h))))
+
+filter_alike : {K : Type 0} (p q : K → Bool) (xs : List K) → ((x : K) → In x xs → p x ≡ q x)
+    → filter p xs ≡ filter q xs
+filter_alike p q [] f = refl
+filter_alike p q (x ∷ xs) f =
+    ap (λ b. cond b (x ∷ filter p xs) (filter p xs)) (f x (inl refl))
+    ∙ ap (λ l. cond (q x) (x ∷ l) l) (filter_alike p q xs (λ y h. f y (inr h)))
+
+lower_first : (m n : NoteParts) → m.offset < n.offset → note_cmp m n ≡ Less
+lower_first m n l = rw (lt-ltb m.offset n.offset l) refl
+
+contents_append : (xs ys : List NoteParts) → IsContent xs → IsContent ys
+    → ((m n : NoteParts) → In m xs → In n ys → m.offset < n.offset) → IsContent (xs ++ ys)
+contents_append [] ys r s f = s
+contents_append (x ∷ xs) ys r s f = (
+  all_from_In (λ y. note_cmp x y ≡ Less) (xs ++ ys) (λ y h. elim ((In-append y xs ys).0 h) [
+    | inl k ↦ all-In (λ z. note_cmp x z ≡ Less) xs y r.0 k
+    | inr k ↦ lower_first x y (f x y (inl refl) k)
+  ]),
+  contents_append xs ys r.1 s (λ m n h k. f m n (inr h) k),
+)
+
+-- ---- the clear notes
+
+module _ (b : ℕ) (own other : List NoteParts) (m : MeetAt b own other) where
+  nothing_shared : (x y : NoteParts) → In x own → In y other → (o : ℕ) → x.offset ≤ o → o + 1 ≤ end_of x
+      → y.offset ≤ o → ⊥
+  nothing_shared x y h k o from before low =
+      let e : end_of x ≤ b = m.ends x h in
+      let g : b ≤ y.offset = m.begins y k in omega (arith, e, g, before, low)
+
+  pub clear_in_both : (n : NoteParts) → IsClear n (union_of own other) ↔ (IsClear n own ⊎ IsClear n other)
+  clear_in_both n =
+      let all = λ (x : NoteParts). In-union_of x own other in (
+        λ c. clear_in_one own other n c,
+        λ h. elim h [
+          | inl c ↦ record {
+            held = (all n).1 (inl c.held);
+            undisputed = λ d. elim ((all d.0).0 d.1) [
+              | inl k ↦ c.undisputed (d.0, k, d.2, d.3)
+              | inr k ↦ nothing_shared n d.0 c.held k d.3.0 d.3.2.from d.3.2.before d.3.1.from
+            ];
+          }
+          | inr c ↦ record {
+            held = (all n).1 (inr c.held);
+            undisputed = λ d. elim ((all d.0).0 d.1) [
+              | inl k ↦ nothing_shared d.0 n k c.held d.3.0 d.3.1.from d.3.1.before d.3.2.from
+              | inr k ↦ c.undisputed (d.0, k, d.2, d.3)
+            ];
+          }
+        ],
+      )
+
+  pub union_is_content : IsContent (union_of own other)
+  union_is_content = IsContent-union_of own other m.own_is.content
+
+  pub clear_of_both : clear_notes (union_of own other) ≡ clear_notes own ++ clear_notes other
+  clear_of_both =
+      same_content (clear_notes (union_of own other)) (clear_notes own ++ clear_notes other)
+      (IsContent-clear_notes (union_of own other) union_is_content)
+      (contents_append (clear_notes own) (clear_notes other) (IsContent-clear_notes own m.own_is.content)
+      (IsContent-clear_notes other m.other_is.content) (λ x y h k.
+      let e : end_of x ≤ b = m.ends x ((In-clear_notes x own).0 h).held in
+      let g : b ≤ y.offset = m.begins y ((In-clear_notes y other).0 k).held in omega (arith, e, g)))
+      (λ n.
+      let u = In-clear_notes n (union_of own other) in
+      let x = In-clear_notes n own in
+      let y = In-clear_notes n other in
+      let c = clear_in_both n in
+      let a = In-append n (clear_notes own) (clear_notes other) in (
+        λ h. a.1 (elim (c.0 (u.0 h)) [ inl k ↦ inl (x.1 k) | inr k ↦ inr (y.1 k) ]),
+        λ h. u.1 (c.1 (elim (a.0 h) [ inl k ↦ inl (x.0 k) | inr k ↦ inr (y.0 k) ])),
+      ))
+
+  -- ---- zones
+
+  pub zone_below : (bytes : ℕ) → zone_of b bytes (clear_notes own) ≡ []
+  zone_below bytes = filter_none (lies_in b bytes) (clear_notes own) (λ n h t.
+      let e : end_of n ≤ b = m.ends n ((In-clear_notes n own).0 h).held in
+      let l : b ≤ n.offset = leb-true b n.offset (parts (nat_le b n.offset) (nat_le (end_of n) (b + bytes)) t).0 in
+      omega (arith, e, l))
+
+  pub zone_of_both : (start bytes : ℕ) → zone_of start bytes (clear_notes (union_of own other))
+      ≡ zone_of start bytes (clear_notes own) ++ zone_of start bytes (clear_notes other)
+  zone_of_both start bytes =
+      ap (zone_of start bytes) clear_of_both
+      ∙ filter-append (lies_in start bytes) (clear_notes own) (clear_notes other)
+
+  pub zone_from : (bytes : ℕ) → zone_of b bytes (clear_notes (union_of own other)) ≡ zone_of b bytes (clear_notes other)
+  zone_from bytes = zone_of_both b bytes ∙ ap (λ l. l ++ zone_of b bytes (clear_notes other)) (zone_below bytes)
+
+  pub new_are_clear : clear_from b (union_of own other) ≡ clear_notes other
+  new_are_clear =
+      zone_from 18446744073709551615
+      ∙ filter_all (lies_in b 18446744073709551615) (clear_notes other) (λ n h.
+      let held = ((In-clear_notes n other).0 h).held in
+      let low : b ≤ n.offset = m.begins n held in
+      let within = (all-In IsNote other n m.other_is.members held).within in
+      let high : end_of n ≤ b + 18446744073709551615 = omega (arith, within) in
+      both (nat_le b n.offset) (nat_le (end_of n) (b + 18446744073709551615)) (le-leb b n.offset low)
+      (le-leb (end_of n) (b + 18446744073709551615) high))
+
+  pub no_bytes : (bytes : ℕ) → bytes ≡ 0 → zone_of b bytes (clear_notes other) ≡ []
+  no_bytes bytes none = filter_none (lies_in b bytes) (clear_notes other) (λ n h t.
+      let l : b ≤ n.offset = m.begins n ((In-clear_notes n other).0 h).held in
+      let e : end_of n ≤ b + bytes =
+      leb-true (end_of n) (b + bytes) (parts (nat_le b n.offset) (nat_le (end_of n) (b + bytes)) t).1 in
+      omega (arith, e, l, none))
+
+  -- Of what is new the part of a zone that begins below the boundary is that from the boundary on.
+  pub zone_goes_on : (start bytes : ℕ) → start ≤ b
+      → zone_of start bytes (clear_notes other) ≡ zone_of b (bytes - (b - start)) (clear_notes other)
+  zone_goes_on start bytes l =
+      let rest = bytes - (b - start) in
+      filter_alike (lies_in start bytes) (lies_in b rest) (clear_notes other) (λ n h.
+      let low : b ≤ n.offset = m.begins n ((In-clear_notes n other).0 h).held in
+      let from : start ≤ n.offset = omega (arith, low, l) in
+      same_bool (lies_in start bytes n) (lies_in b rest n)
+      (λ t.
+      let e : end_of n ≤ start + bytes =
+      leb-true (end_of n) (start + bytes) (parts (nat_le start n.offset) (nat_le (end_of n) (start + bytes)) t).1 in
+      both (nat_le b n.offset) (nat_le (end_of n) (b + rest)) (le-leb b n.offset low)
+      (le-leb (end_of n) (b + rest) (omega (arith, e, l, low))))
+      (λ t.
+      let e : end_of n ≤ b + rest =
+      leb-true (end_of n) (b + rest) (parts (nat_le b n.offset) (nat_le (end_of n) (b + rest)) t).1 in
+      both (nat_le start n.offset) (nat_le (end_of n) (start + bytes)) (le-leb start n.offset from)
+      (le-leb (end_of n) (start + bytes) (omega (arith, e, l, low)))))
+
+  -- ---- where clear notes of a kind stand
+
+  pub offsets_of_both : (test : NoteParts → Bool)
+      → offsets_where test own ++ map (λ n. n.offset) (filter test (clear_from b (union_of own other)))
+      ≡ offsets_where test (union_of own other)
+  offsets_of_both test =
+      ap (λ l. offsets_where test own ++ map (λ n. n.offset) (filter test l)) new_are_clear
+      ∙ sym (map-append (λ n. n.offset) (filter test (clear_notes own)) (filter test (clear_notes other)))
+      ∙ ap (map (λ n. n.offset)) (sym (filter-append test (clear_notes own) (clear_notes other)))
+      ∙ ap (λ l. map (λ n. n.offset) (filter test l)) (sym clear_of_both)
+
+  pub count_of_both : (test : NoteParts → Bool)
+      → count_by test (clear_notes (union_of own other))
+      ≡ count_by test (clear_notes own) + count_by test (clear_from b (union_of own other))
+  count_of_both test =
+      ap (count_by test) clear_of_both ∙ count_append test (clear_notes own) (clear_notes other)
+      ∙ ap (λ l. count_by test (clear_notes own) + count_by test l) (sym new_are_clear)
+    where
+      count_append : (test : NoteParts → Bool) (xs ys : List NoteParts)
+          → count_by test (xs ++ ys) ≡ count_by test xs + count_by test ys
+      count_append test xs ys = Rattle.std.proofs.lemmas.List.Sums.sum_by-append (λ n. cond (test n) 1 0) xs ys
+
+-- ---- how two catalogues meet
+
+starts_above : (low : ℕ) (runs : List Run) (r : Run) → AreMaximal low runs → In r runs → low ≤ r.start
+starts_above low [] r m h = absurd h
+starts_above low (s ∷ runs) r m (inl e) = let l : low ≤ s.start = m.0 in subst (λ (x : Run). low ≤ x.start) (sym e) l
+starts_above low (s ∷ runs) r m (inr h) =
+    let ih = starts_above (s.end + 1) runs r m.2 h in
+    let l : low ≤ s.start = m.0 in
+    let k : s.start < s.end = m.1 in omega (arith, ih, l, k)
+
+-- What lies in the runs lies at or above the start of the first.
+pub all_above : (end : ℕ) (runs rest : List Run) (first : Run) → AreMaximal 0 runs → runs ≡ first ∷ rest
+    → end ≤ first.start → (offset : ℕ) → LiesIn runs offset → end ≤ offset
+all_above end runs rest first m e l offset h =
+    let all : AreMaximal 0 (first ∷ rest) = subst (AreMaximal 0) e m in
+    let from : h.0.start ≤ offset = h.2.from in
+    elim (subst (In h.0) e h.1) [
+      | inl q ↦ (let s : h.0.start ≡ first.start = ap (λ (r : Run). r.start) q in omega (arith, s, from, l))
+      | inr k ↦ (
+          let s = starts_above (first.end + 1) rest h.0 all.2 k in
+          let f : first.start < first.end = all.1 in omega (arith, s, f, from, l))
+    ]
+
+pub none_above : (end : ℕ) (runs : List Run) → runs ≡ [] → (offset : ℕ) → LiesIn runs offset → end ≤ offset
+none_above end runs e offset h = absurd (subst (In h.0) e h.1)
+
+pub meet_at : (end : ℕ) (own other : List NoteParts) (runs others : List Run) → IsCatalogue own → IsCatalogue other
+    → Covers runs own → Covers others other
+    → ((bound : ℕ) → end ≤ bound ↔ ((offset : ℕ) → LiesIn runs offset → offset < bound))
+    → ((offset : ℕ) → LiesIn others offset → end ≤ offset) → MeetAt end own other
+meet_at end own other runs others c d covers covers_other greatest above = record {
+  own_is = c;
+  other_is = d;
+  ends = λ n h.
+      let last : n.offset ≤ end_of n - 1 = omega arith in
+      let b : end_of n - 1 + 1 ≤ end_of n = omega arith in
+      let l = (greatest end).0 (omega arith) (end_of n - 1)
+      ((covers (end_of n - 1)).1 (n, h, record { from = last; before = b })) in omega (arith, l);
+  begins = λ n h.
+      let first : n.offset ≤ n.offset = omega arith in
+      let b : n.offset + 1 ≤ end_of n = omega arith in
+      above n.offset ((covers_other n.offset).1 (n, h, record { from = first; before = b }));
+}

@@ -1,0 +1,9 @@
+use Rattle.std.proofs.Common.{◌≡◌, ◌++◌, drop, map, take}
+use Rattle.mxf_views.specs.KeptAbove.{counted_above}
+use Rattle.mxf_views.proofs.kept.above.count_above.Given as goal
+
+abbrev pub invariant-loop-copy : goal.invariant-loop-copy
+invariant-loop-copy l =
+    l.copy-items
+    ≡ map (λ c. counted_above l.catalogue l.boundary l.starting c c.start) (take l.copy-index l.fn.copies.items)
+    ++ drop l.copy-index l.fn.copies.items
