@@ -1,53 +1,107 @@
--- Findings that are added list by list.
-use Rattle.std.proofs.Common.{◌≡◌, ℕ, List, [], ◌∷◌, ◌++◌, ◌∙◌, refl, sym, ap, map, Result, Ok, Err}
-use Rattle.std.specs.Prelude.{flat_map, OnOk}
+-- Findings that are collected cause by cause, and then put in order.
+use Rattle.std.proofs.Common.{◌≡◌, ℕ, List, [], ◌∷◌, ◌++◌, ◌∙◌, refl, sym, subst, ap, map, inl, inr, Result, Ok, Err}
+use Rattle.std.specs.Prelude.{flat_map, OnOk, true}
+use Rattle.std.specs.List.{dedup}
+use Rattle.std.specs.List.Retain.{DiffersFromLast, IsFiltered}
+use Rattle.std.proofs.lemmas.List.Filters.{dedup_is}
+use Rattle.std.specs.List.Sorted.{IsPermutation, IsSorted, IsStrictlySortedBy}
+use Rattle.std.specs.Ordering.{eq_by_cmp, is_eq}
+use Rattle.std.specs.declared.cmp.Ordering.{Ordering}
+use Rattle.std.specs.declared.cmp.Ordering.TheVariants.{Less, Equal, Greater}
+use Rattle.std.proofs.lemmas.List.{append_assoc, append-nil, map-append}
+use Rattle.std.proofs.lemmas.List.Kept.{Contains-dedup, Contains-from_dedup, IsStrictlySortedBy-dedup}
+use Rattle.std.proofs.lemmas.List.Sorted.{Contains-permutation, IsPermutation-sym}
 use Rattle.mxf_klv.specs.Parts.{NoteParts}
-use Rattle.mxf_klv.specs.Rising.{union, with_one}
+use Rattle.mxf_klv.specs.Rising.{IsRising, In-union, IsRising-union, same_from_members, union}
+use Rattle.mxf_catalogue.proofs.Places.{Contains-from_In, In-from_Contains}
 use Rattle.mxf_views.specs.declared.finding.Code.{Code}
 use Rattle.mxf_views.specs.declared.finding.Finding.{Finding}
-use Rattle.mxf_views.specs.Codes.{all_codes, finding, finding_cmp}
+use Rattle.mxf_views.specs.Codes.{all_codes, finding, finding_cmp, finding_cmp-IsAntisymmetric, finding_equiv, finding_total}
 use Rattle.mxf_views.specs.Findings.{findings_for, findings_of}
 
 pub on_ok : {A E : Type 0} (P Q : Type 0) (r : Result A E) → (P → Q) → OnOk r P → OnOk r Q
 on_ok P Q (Ok x) f p = f p
 on_ok P Q (Err e) f p = tt
 
-union-append : (fs xs ys : List Finding)
-    → union finding_cmp fs (xs ++ ys) ≡ union finding_cmp (union finding_cmp fs xs) ys
-union-append fs [] ys = refl
-union-append fs (x ∷ xs) ys = union-append (with_one finding_cmp x fs) xs ys
+-- ---- Cause by cause
 
--- two are_entries_of of offsets of one code
-pub union-offsets : (code : Code) (fs : List Finding) (xs ys : List ℕ)
-    → union finding_cmp fs (map (finding code) (xs ++ ys))
-    ≡ union finding_cmp (union finding_cmp fs (map (finding code) xs)) (map (finding code) ys)
-union-offsets code fs [] ys = refl
-union-offsets code fs (x ∷ xs) ys = union-offsets code (with_one finding_cmp (finding code x) fs) xs ys
+-- two lists of offsets of one code
+pub then-offsets : (code : Code) (fs : List Finding) (xs ys : List ℕ)
+    → fs ++ map (finding code) (xs ++ ys) ≡ fs ++ map (finding code) xs ++ map (finding code) ys
+then-offsets code fs xs ys =
+    ap (λ l. fs ++ l) (map-append (finding code) xs ys)
+    ∙ sym (append_assoc fs (map (finding code) xs) (map (finding code) ys))
 
--- the are_entries_of of some codes, one after another
+-- the findings of some codes, one after another
 abbrev pub added : (Code → List Finding) → List Finding → List Code → List Finding
 added f fs [] = fs
-added f fs (code ∷ rest) = added f (union finding_cmp fs (f code)) rest
+added f fs (code ∷ rest) = added f (fs ++ f code) rest
 
 all_added : (f : Code → List Finding) (fs : List Finding) (rest : List Code)
-    → union finding_cmp fs (flat_map f rest) ≡ added f fs rest
-all_added f fs [] = refl
+    → fs ++ flat_map f rest ≡ added f fs rest
+all_added f fs [] = append-nil fs
 all_added f fs (code ∷ rest) =
-    union-append fs (f code) (flat_map f rest) ∙ all_added f (union finding_cmp fs (f code)) rest
+    sym (append_assoc fs (f code) (flat_map f rest)) ∙ all_added f (fs ++ f code) rest
 
--- the last list is what the first becomes by the are_entries_of of some codes
+-- the last list is what the first becomes by the findings of some codes
 pub record Becomes (f : Code → List Finding) (fs : List Finding) (rest : List Code) (last : List Finding) : Type 0 where
   is : last ≡ added f fs rest
 
 pub first_added : {f : Code → List Finding} {fs gs last : List Finding} {code : Code} {rest : List Code}
-    → gs ≡ union finding_cmp fs (f code) → Becomes f gs rest last → Becomes f fs (code ∷ rest) last
+    → gs ≡ fs ++ f code → Becomes f gs rest last → Becomes f fs (code ∷ rest) last
 first_added {f} {fs} {gs} {last} {code} {rest} e h = record { is = h.is ∙ ap (λ x. added f x rest) e }
 
 pub none_added : {f : Code → List Finding} {fs : List Finding} → Becomes f fs [] fs
 none_added = record { is = refl }
 
-pub findings_of-added : (notes : List NoteParts) (fs last : List Finding) → fs ≡ []
-    → Becomes (λ code. findings_for code notes) fs all_codes last → last ≡ findings_of notes
-findings_of-added notes fs last e h =
-    h.is ∙ sym (all_added (λ code. findings_for code notes) fs all_codes)
-    ∙ ap (λ x. union finding_cmp x (flat_map (λ code. findings_for code notes) all_codes)) e
+pub findings_of-collected : (notes : List NoteParts) (fs last : List Finding) → fs ≡ []
+    → Becomes (λ code. findings_for code notes) fs all_codes last → union finding_cmp [] last ≡ findings_of notes
+findings_of-collected notes fs last e h =
+    let f : Code → List Finding = λ code. findings_for code notes in
+    ap (union finding_cmp []) (h.is ∙ sym (all_added f fs all_codes) ∙ ap (λ x. x ++ flat_map f all_codes) e)
+
+-- ---- In order, none twice
+
+rising : (xs : List Finding) → IsStrictlySortedBy finding_cmp xs → IsRising finding_cmp xs
+unfolding IsStrictlySortedBy
+rising [] r = tt
+rising (x ∷ xs) r = (r.0, rising xs r.1)
+
+alike_equal : (o : Ordering) → is_eq o ≡ true → o ≡ Equal
+alike_equal Less e = cc
+alike_equal Equal e = refl
+alike_equal Greater e = cc
+
+alike_one : (x y : Finding) → eq_by_cmp finding_cmp x y ≡ true → x ≡ y
+alike_one x y e = finding_cmp-IsAntisymmetric x y (alike_equal (finding_cmp x y) e)
+
+sorted-union : (xs ys : List Finding) → IsPermutation xs ys → IsSorted finding_cmp ys
+    → dedup (eq_by_cmp finding_cmp) ys ≡ union finding_cmp [] xs
+sorted-union xs ys p s =
+    let once = dedup (eq_by_cmp finding_cmp) ys in
+    same_from_members finding_total finding_cmp-IsAntisymmetric once (union finding_cmp [] xs)
+    (rising once (IsStrictlySortedBy-dedup finding_total (λ x y. refl) ys s))
+    (IsRising-union finding_total finding_cmp-IsAntisymmetric [] xs tt)
+    (λ x.
+    let u = In-union finding_total finding_cmp-IsAntisymmetric x [] xs in (
+      λ h.
+          let there = Contains-from_dedup (eq_by_cmp finding_cmp) ys x (Contains-from_In x once h) in
+          u.1 (inr (In-from_Contains x xs (Contains-permutation ys xs x (IsPermutation-sym xs ys p) there))),
+      λ h. elim (u.0 h) [
+        | inl k ↦ absurd k
+        | inr k ↦
+            let there = Contains-permutation xs ys x p (Contains-from_In x xs k) in
+            In-from_Contains x once (Contains-dedup finding_equiv alike_one ys x there)
+      ],
+    ))
+
+-- Sorted, and without those that repeat the one before, they are the set of them.
+pub in_order : (xs ys zs : List Finding) → IsPermutation xs ys → IsSorted finding_cmp ys
+    → IsFiltered (DiffersFromLast (eq_by_cmp finding_cmp)) [] ys zs → zs ≡ union finding_cmp [] xs
+in_order xs ys zs p s f = dedup_is (eq_by_cmp finding_cmp) ys zs f ∙ sorted-union xs ys p s
+
+pub in_order-rises : (xs ys zs : List Finding) → IsPermutation xs ys → IsSorted finding_cmp ys
+    → IsFiltered (DiffersFromLast (eq_by_cmp finding_cmp)) [] ys zs → IsRising finding_cmp zs
+in_order-rises xs ys zs p s f =
+    subst (IsRising finding_cmp) (sym (in_order xs ys zs p s f))
+    (IsRising-union finding_total finding_cmp-IsAntisymmetric [] xs tt)

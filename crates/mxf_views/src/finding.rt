@@ -1,19 +1,21 @@
 //! Findings: what the notes of a file show to be wrong or missing (this project's profile).
-ghost use Rattle.std.specs.Prelude.{◌≡◌, ◌↔◌, [], List, length, IfErr, IfOk, IsTrue, OnOk};
+ghost use Rattle.std.specs.Prelude.{◌≡◌, ◌↔◌, [], List, length, IfOk, IsTrue};
 ghost use Rattle.mxf_klv.specs.Parts.{NoteParts};
-ghost use Rattle.mxf_klv.specs.Rising.{In, IsPlaceOf, IsRising, with_one};
+ghost use Rattle.mxf_klv.specs.Rising.{In, IsRising};
 ghost use Rattle.mxf_catalogue.specs.Content.{IsContent};
 ghost use Rattle.mxf_views.specs.declared.finding.Finding.{Finding};
-ghost use Rattle.mxf_views.specs.Codes.{code_name, code_number, code_text, finding, finding_cmp};
+ghost use Rattle.mxf_views.specs.Codes.{code_name, code_number, code_text, finding_cmp};
 ghost use Rattle.mxf_views.specs.Findings.{findings_of};
 ghost use Rattle.mxf_views.specs.FindingCauses.{IsFinding};
 
+mod collected;
 mod index;
 mod metadata;
 mod notes;
 mod partitions;
 mod readable;
 
+use crate::finding::collected::Collected;
 use crate::views::Views;
 use mxf_klv::OutOfMemory;
 use std::alloc::Global;
@@ -207,65 +209,27 @@ impl Model for Findings {
     ghost invariant = { λ f. IsRising finding_cmp f.items.items };
 }
 
-/// Where the finding is, or where it goes.
-fn place(items: &[Finding], finding: &Finding) -> Result<usize, usize>
-    requires { IsRising finding_cmp items.now }
-    ensures found { OnOk result (In finding.now items.now) }
-    ensures absent { IfErr result (λ at. IsPlaceOf finding_cmp finding.now items.now at) }
-{
-    items.binary_search(finding)
-}
-
 impl Findings {
-    fn new(alloc: Global) -> Findings
-        ensures { result ≡ [] }
-    {
-        Findings {
-            items: Vec::new(alloc),
-        }
-    }
-
     /// What the notes of the views show, code by code.
     pub(crate) fn of(alloc: Global, views: &Views) -> Result<Findings, OutOfMemory>
         ensures { IfOk result (λ f. f ≡ findings_of views.now) }
     {
-        let mut findings = Findings::new(alloc);
-        findings.add_shared_offsets(views)?;
-        findings.add_overlaps(views)?;
-        findings.add_gaps(views)?;
-        findings.add_packs(views)?;
-        findings.add_misplaced(views)?;
-        findings.add_links(views)?;
-        findings.add_open_footers(views)?;
-        findings.add_lost_footers(views)?;
-        findings.add_copies(views)?;
-        findings.add_sets(views)?;
-        findings.add_segments(views)?;
-        findings.add_random_index(views)?;
-        findings.add_references(alloc, views)?;
-        findings.add_chain(views)?;
-        Ok(findings)
-    }
-
-    /// Adds the finding of the code at an offset, unless it is there.
-    fn add(&mut self, code: Code, offset: u64) -> Result<(), OutOfMemory>
-        ensures { OnOk result (self.new ≡ with_one finding_cmp (finding code offset) self.old) }
-    {
-        let found = Finding { offset, code };
-        match place(&self.items, &found) {
-            Ok(_) => Ok(()),
-            Err(at) => self.insert(at, found),
-        }
-    }
-
-    fn insert(&mut self, at: usize, found: Finding) -> Result<(), OutOfMemory>
-        requires { IsPlaceOf finding_cmp found self.old at }
-        ensures { OnOk result (self.new ≡ with_one finding_cmp found self.old) }
-    {
-        match self.items.insert(at, found) {
-            Ok(()) => Ok(()),
-            Err(_) => Err(OutOfMemory),
-        }
+        let mut found = Collected::new(alloc);
+        found.add_shared_offsets(views)?;
+        found.add_overlaps(views)?;
+        found.add_gaps(views)?;
+        found.add_packs(views)?;
+        found.add_misplaced(views)?;
+        found.add_links(views)?;
+        found.add_open_footers(views)?;
+        found.add_lost_footers(views)?;
+        found.add_copies(views)?;
+        found.add_sets(views)?;
+        found.add_segments(views)?;
+        found.add_random_index(views)?;
+        found.add_references(alloc, views)?;
+        found.add_chain(views)?;
+        Ok(found.into_findings())
     }
 
     /// The findings.

@@ -1,12 +1,11 @@
 //! Findings of index table segments and random index packs.
-ghost use Rattle.std.specs.Prelude.{◌≡◌, OnOk};
-ghost use Rattle.mxf_klv.specs.Rising.{union};
-ghost use Rattle.mxf_views.specs.Codes.{finding_cmp};
+ghost use Rattle.std.specs.Prelude.{◌≡◌, ◌++◌, OnOk};
 ghost use Rattle.mxf_views.specs.Findings.{ends_above, findings_for, has_other_rip, is_unfit_rip, are_entries_of, is_index_of};
 ghost use Rattle.mxf_views.specs.RandomIndex.{rip_in};
 
+use super::Code;
+use super::collected::Collected;
 use super::readable::is_unreadable_segment;
-use super::{Code, Findings};
 use crate::partition::Partitions;
 use crate::random_index::{is_rip, read_rip};
 use crate::views::Views;
@@ -75,10 +74,10 @@ fn is_unfit_rip(views: &Views, note: &Note) -> bool
             || !is_index_of(note, views.partitions()))
 }
 
-impl Findings {
+impl Collected {
     /// Index table segments that aren't readable.
     pub(super) fn add_segments(&mut self, views: &Views) -> Result<(), OutOfMemory>
-        ensures { OnOk result (self.new ≡ union finding_cmp self.old (findings_for Code.F11 views.now)) }
+        ensures { OnOk result (self.new ≡ self.old ++ findings_for Code.F11 views.now) }
     {
         for note in views.catalogue().clear() {
             if is_unreadable_segment(note) {
@@ -90,7 +89,7 @@ impl Findings {
 
     /// Random index packs that don't fit.
     pub(super) fn add_random_index(&mut self, views: &Views) -> Result<(), OutOfMemory>
-        ensures { OnOk result (self.new ≡ union finding_cmp self.old (findings_for Code.F12 views.now)) }
+        ensures { OnOk result (self.new ≡ self.old ++ findings_for Code.F12 views.now) }
     {
         for note in views.catalogue().clear() {
             if is_unfit_rip(views, note) {

@@ -1,11 +1,11 @@
 //! Findings of the header metadata: copies, sets and references.
-ghost use Rattle.std.specs.Prelude.{◌≡◌, OnOk, map};
-ghost use Rattle.mxf_klv.specs.Rising.{union};
-ghost use Rattle.mxf_views.specs.Codes.{finding, finding_cmp};
+ghost use Rattle.std.specs.Prelude.{◌≡◌, ◌++◌, OnOk, map};
+ghost use Rattle.mxf_views.specs.Codes.{finding};
 ghost use Rattle.mxf_views.specs.Findings.{findings_for, is_found, is_partial, lost_at, lost_behind, lost_by};
 
+use super::Code;
+use super::collected::Collected;
 use super::readable::is_unreadable_set;
-use super::{Code, Findings};
 use crate::copy::CopyInfo;
 use crate::reference::resolved::Resolved;
 use crate::reference::target::{Ref, Target};
@@ -26,10 +26,10 @@ fn is_found(target: Target) -> bool
     matches!(&target, Target::Found(_))
 }
 
-impl Findings {
+impl Collected {
     /// Copies that aren't whole.
     pub(super) fn add_copies(&mut self, views: &Views) -> Result<(), OutOfMemory>
-        ensures { OnOk result (self.new ≡ union finding_cmp self.old (findings_for Code.F09 views.now)) }
+        ensures { OnOk result (self.new ≡ self.old ++ findings_for Code.F09 views.now) }
     {
         for copy in views.copies() {
             if is_partial(copy) {
@@ -41,7 +41,7 @@ impl Findings {
 
     /// Primer packs and sets that aren't readable.
     pub(super) fn add_sets(&mut self, views: &Views) -> Result<(), OutOfMemory>
-        ensures { OnOk result (self.new ≡ union finding_cmp self.old (findings_for Code.F10 views.now)) }
+        ensures { OnOk result (self.new ≡ self.old ++ findings_for Code.F10 views.now) }
     {
         for note in views.catalogue().clear() {
             if is_unreadable_set(note) {
@@ -53,7 +53,7 @@ impl Findings {
 
     /// References of the preferred copy that lead to no readable set of their kind.
     pub(super) fn add_references(&mut self, alloc: Global, views: &Views) -> Result<(), OutOfMemory>
-        ensures { OnOk result (self.new ≡ union finding_cmp self.old (findings_for Code.F13 views.now)) }
+        ensures { OnOk result (self.new ≡ self.old ++ findings_for Code.F13 views.now) }
     {
         match views.resolved(alloc)? {
             Some(resolved) => self.add_resolved(&resolved),
@@ -62,7 +62,7 @@ impl Findings {
     }
 
     fn add_resolved(&mut self, resolved: &Resolved) -> Result<(), OutOfMemory>
-        ensures { OnOk result (self.new ≡ union finding_cmp self.old (map (finding Code.F13) (lost_by resolved.now))) }
+        ensures { OnOk result (self.new ≡ self.old ++ map (finding Code.F13) (lost_by resolved.now)) }
     {
         let preface = resolved.preface;
         self.add_lost(preface, resolved.identifications.as_slice())?;
@@ -82,8 +82,8 @@ impl Findings {
         storage: Target,
         packages: &[Ref],
     ) -> Result<(), OutOfMemory>
-        ensures { OnOk result (self.new ≡ union finding_cmp self.old
-            (map (finding Code.F13) (lost_behind preface storage packages.now))) }
+        ensures { OnOk result (self.new ≡ self.old
+            ++ map (finding Code.F13) (lost_behind preface storage packages.now)) }
     {
         match storage {
             Target::Found(offset) => self.add_lost(offset, packages),
@@ -93,8 +93,8 @@ impl Findings {
 
     /// Those of the references that a set holds which aren't found, at the offset of the set.
     fn add_lost(&mut self, offset: u64, references: &[Ref]) -> Result<(), OutOfMemory>
-        ensures { OnOk result (self.new ≡ union finding_cmp self.old
-            (map (finding Code.F13) (lost_at offset references.now))) }
+        ensures { OnOk result (self.new ≡ self.old
+            ++ map (finding Code.F13) (lost_at offset references.now)) }
     {
         for reference in references {
             if !is_found(reference.target) {

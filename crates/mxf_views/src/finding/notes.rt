@@ -1,17 +1,16 @@
 //! Findings of all notes: disputes and gaps.
-ghost use Rattle.std.specs.Prelude.{◌≡◌, OnOk};
-ghost use Rattle.mxf_klv.specs.Rising.{union};
-ghost use Rattle.mxf_views.specs.Codes.{finding_cmp};
+ghost use Rattle.std.specs.Prelude.{◌≡◌, ◌++◌, OnOk};
 ghost use Rattle.mxf_views.specs.Findings.{findings_for};
 
-use super::{Code, Findings};
+use super::Code;
+use super::collected::Collected;
 use crate::views::Views;
 use mxf_klv::OutOfMemory;
 
-impl Findings {
+impl Collected {
     /// Notes with the offset of another.
     pub(super) fn add_shared_offsets(&mut self, views: &Views) -> Result<(), OutOfMemory>
-        ensures { OnOk result (self.new ≡ union finding_cmp self.old (findings_for Code.F01 views.now)) }
+        ensures { OnOk result (self.new ≡ self.old ++ findings_for Code.F01 views.now) }
     {
         for disputed in views.catalogue().disputed() {
             if disputed.same_offset {
@@ -23,7 +22,7 @@ impl Findings {
 
     /// Notes that share a byte with a note at another offset.
     pub(super) fn add_overlaps(&mut self, views: &Views) -> Result<(), OutOfMemory>
-        ensures { OnOk result (self.new ≡ union finding_cmp self.old (findings_for Code.F02 views.now)) }
+        ensures { OnOk result (self.new ≡ self.old ++ findings_for Code.F02 views.now) }
     {
         for disputed in views.catalogue().disputed() {
             if disputed.overlaps {
@@ -35,7 +34,7 @@ impl Findings {
 
     /// Gaps.
     pub(super) fn add_gaps(&mut self, views: &Views) -> Result<(), OutOfMemory>
-        ensures { OnOk result (self.new ≡ union finding_cmp self.old (findings_for Code.F03 views.now)) }
+        ensures { OnOk result (self.new ≡ self.old ++ findings_for Code.F03 views.now) }
     {
         for gap in views.gaps() {
             self.add(Code::F03, gap.start)?;

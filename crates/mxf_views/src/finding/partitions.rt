@@ -1,11 +1,10 @@
 //! Findings of partitions: their packs, links and footer, and their chain.
-ghost use Rattle.std.specs.Prelude.{◌≡◌, OnOk};
-ghost use Rattle.mxf_klv.specs.Rising.{union};
-ghost use Rattle.mxf_views.specs.Codes.{finding_cmp};
+ghost use Rattle.std.specs.Prelude.{◌≡◌, ◌++◌, OnOk};
 ghost use Rattle.mxf_views.specs.Findings.{footer_stands_at, findings_for, is_misplaced, is_open, is_open_footer, is_unfit, lacks_footer};
 ghost use Rattle.mxf_views.specs.Partitions.{is_footer, partitions_of};
 
-use super::{Code, Findings};
+use super::Code;
+use super::collected::Collected;
 use crate::chain::{Chain, Link};
 use crate::partition::{PartitionAt, is_no_unreadable_pack, partition_there};
 use crate::views::Views;
@@ -64,10 +63,10 @@ fn lacks_footer(views: &Views, partition: &PartitionAt<'_>) -> bool
     footer != 0 && !footer_stands_at(views.catalogue(), footer)
 }
 
-impl Findings {
+impl Collected {
     /// Partition packs that aren't readable.
     pub(super) fn add_packs(&mut self, views: &Views) -> Result<(), OutOfMemory>
-        ensures { OnOk result (self.new ≡ union finding_cmp self.old (findings_for Code.F04 views.now)) }
+        ensures { OnOk result (self.new ≡ self.old ++ findings_for Code.F04 views.now) }
     {
         for note in views.catalogue().clear() {
             if !is_no_unreadable_pack(note) {
@@ -79,7 +78,7 @@ impl Findings {
 
     /// Partitions that name another offset as their own.
     pub(super) fn add_misplaced(&mut self, views: &Views) -> Result<(), OutOfMemory>
-        ensures { OnOk result (self.new ≡ union finding_cmp self.old (findings_for Code.F05 views.now)) }
+        ensures { OnOk result (self.new ≡ self.old ++ findings_for Code.F05 views.now) }
     {
         for partition in views.partitions() {
             if is_misplaced(&partition) {
@@ -91,7 +90,7 @@ impl Findings {
 
     /// Partitions that don't name the one before them.
     pub(super) fn add_links(&mut self, views: &Views) -> Result<(), OutOfMemory>
-        ensures { OnOk result (self.new ≡ union finding_cmp self.old (findings_for Code.F06 views.now)) }
+        ensures { OnOk result (self.new ≡ self.old ++ findings_for Code.F06 views.now) }
     {
         for partition in views.partitions() {
             if is_unfit(views.link_of(&partition)) {
@@ -103,7 +102,7 @@ impl Findings {
 
     /// Footer partitions that aren't closed.
     pub(super) fn add_open_footers(&mut self, views: &Views) -> Result<(), OutOfMemory>
-        ensures { OnOk result (self.new ≡ union finding_cmp self.old (findings_for Code.F07 views.now)) }
+        ensures { OnOk result (self.new ≡ self.old ++ findings_for Code.F07 views.now) }
     {
         for partition in views.partitions() {
             if is_open_footer(&partition) {
@@ -115,7 +114,7 @@ impl Findings {
 
     /// Partitions that name a footer partition which isn't there.
     pub(super) fn add_lost_footers(&mut self, views: &Views) -> Result<(), OutOfMemory>
-        ensures { OnOk result (self.new ≡ union finding_cmp self.old (findings_for Code.F08 views.now)) }
+        ensures { OnOk result (self.new ≡ self.old ++ findings_for Code.F08 views.now) }
     {
         for partition in views.partitions() {
             if lacks_footer(views, &partition) {
@@ -127,7 +126,7 @@ impl Findings {
 
     /// A broken chain.
     pub(super) fn add_chain(&mut self, views: &Views) -> Result<(), OutOfMemory>
-        ensures { OnOk result (self.new ≡ union finding_cmp self.old (findings_for Code.F14 views.now)) }
+        ensures { OnOk result (self.new ≡ self.old ++ findings_for Code.F14 views.now) }
     {
         match views.chain() {
             Chain::Whole => Ok(()),

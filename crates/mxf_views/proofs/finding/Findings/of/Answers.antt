@@ -1,11 +1,13 @@
+use Rattle.std.proofs.Common.{◌∙◌}
 use Rattle.mxf_views.specs.declared.finding.Code.TheVariants.{F01, F02, F03, F04, F05, F06, F07}
 use Rattle.mxf_views.specs.declared.finding.Code.TheVariants.{F08, F09, F10, F11, F12, F13, F14}
-use Rattle.mxf_views.proofs.FindingUnions.{findings_of-added, first_added, none_added}
+use Rattle.mxf_views.proofs.FindingUnions.{findings_of-collected, first_added, none_added}
 use Rattle.mxf_views.proofs.finding.Findings.of.Goals as goal
 
 pub returns : goal.returns
 returns c =
-    findings_of-added c.args.views.now c.new-findings.result c.add_chain.new.self c.new-findings.ensures
+    c.into_findings.ensures ∙
+    findings_of-collected c.args.views.now c.new-found.result c.add_chain.new.self c.new-found.ensures
     (first_added {code = F01} c.in_ok-add_shared_offsets.ensures
     (first_added {code = F02} c.in_ok-add_overlaps.ensures
     (first_added {code = F03} c.in_ok-add_gaps.ensures

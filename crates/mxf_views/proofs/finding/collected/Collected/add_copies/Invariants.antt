@@ -1,0 +1,13 @@
+use Rattle.std.proofs.Common.{◌≡◌, ◌++◌, drop, map}
+use Rattle.std.specs.Prelude.{filter}
+use Rattle.mxf_views.specs.declared.finding.Code.TheVariants.{F09}
+use Rattle.mxf_views.specs.Findings.{is_partial}
+use Rattle.mxf_views.specs.Codes.{finding}
+use Rattle.mxf_views.specs.Findings.{findings_for}
+use Rattle.mxf_views.proofs.finding.collected.Collected.add_copies.Given as goal
+
+abbrev pub invariant-loop-copy : goal.invariant-loop-copy
+invariant-loop-copy l =
+    l.self ++
+    (map (finding F09) (map (λ c. c.partition) (filter is_partial (drop l.copy-index l.copy-items))))
+    ≡ l.fn.self ++ (findings_for F09 l.views)

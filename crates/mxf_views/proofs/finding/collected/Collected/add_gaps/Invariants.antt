@@ -1,0 +1,11 @@
+use Rattle.std.proofs.Common.{◌≡◌, ◌++◌, map}
+use Rattle.mxf_views.specs.declared.finding.Code.TheVariants.{F03}
+use Rattle.mxf_views.specs.Codes.{finding}
+use Rattle.mxf_views.specs.Findings.{findings_for}
+use Rattle.mxf_views.proofs.finding.collected.Collected.add_gaps.Given as goal
+
+abbrev pub invariant-loop-gap : goal.invariant-loop-gap
+invariant-loop-gap l =
+    l.self ++
+    (map (finding F03) (map (λ r. r.start) l.gap-iterator))
+    ≡ l.fn.self ++ (findings_for F03 l.views)

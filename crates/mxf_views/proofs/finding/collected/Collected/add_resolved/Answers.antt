@@ -1,0 +1,26 @@
+use Rattle.std.proofs.Common.{◌≡◌, ◌∙◌, ◌++◌, sym, ap, map, subst, Some}
+use Rattle.std.specs.Prelude.{OnOk}
+use Rattle.mxf_views.specs.declared.finding.Code.TheVariants.{F13}
+use Rattle.mxf_views.specs.Codes.{finding}
+use Rattle.mxf_views.specs.Findings.{lost_at, lost_beside, lost_by}
+use Rattle.mxf_views.proofs.FindingUnions.{on_ok, then-offsets}
+use Rattle.mxf_views.proofs.finding.collected.Collected.add_resolved.Goals as goal
+
+pub returns-in-Some : goal.returns-in-Some
+returns-in-Some c =
+    let preface = c.resolved.inside.preface in
+    let old = c.args.self.now in
+    let held = lost_at preface c.resolved.inside.identifications in
+    let names = ap (λ refs. map (finding F13) (lost_at preface refs)) c.as_slice.ensures in
+    let packages = ap (λ refs. lost_beside preface (Some c.in-Some.storage) refs) c.as_slice-in-Some.ensures in
+    let storage = ap (λ s. lost_beside preface s c.resolved.inside.packages) (sym c.in-Some.is) in
+    let first = c.in_ok-add_lost.ensures ∙ ap (λ fs. old ++ fs) names in
+    let beside = lost_beside preface (Some c.in-Some.storage) c.as_slice-in-Some.result.now in
+    subst (λ r. OnOk c.add_behind.result
+    (c.add_behind.new.self ≡ old ++ map (finding F13) (lost_by r)))
+    c.resolved.view_is
+    (on_ok _ _ c.add_behind.result (λ p. p
+    ∙ ap (λ fs. fs ++ map (finding F13) beside) first
+    ∙ ap (λ xs. (old ++ map (finding F13) held) ++ map (finding F13) xs) (packages ∙ storage)
+    ∙ sym (then-offsets F13 old held (lost_beside preface c.resolved.inside.storage c.resolved.inside.packages)))
+    c.add_behind.ensures)
