@@ -4,6 +4,7 @@ pub mod ChainLaws
 pub mod ClearChanges
 pub mod CopyChanges
 pub mod CopyLaws
+pub mod CopySearch
 pub mod CopyUpdates
 pub mod FileBytes
 pub mod FindingLaws

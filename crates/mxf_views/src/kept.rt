@@ -9,7 +9,7 @@ ghost use Rattle.mxf_views.specs.Kept.{is_placed, states_metadata, HasRoom, HasR
 ghost use Rattle.mxf_views.specs.declared.kept.offsets.Placed.{Placed};
 
 pub(crate) mod arrival;
-mod copies;
+pub(crate) mod copies;
 pub(crate) mod offsets;
 
 use crate::copy::CopyInfo;
