@@ -14,6 +14,7 @@ pub mod FoundLaws
 pub mod GapsLaws
 pub mod HeaderCauses
 pub mod GoodFiles
+pub mod IdentifiedLaws
 pub mod IndexCauses
 pub mod KeptLaws
 pub mod KeptRoom
