@@ -1,5 +1,5 @@
 -- Sets gathered, sorted and searched by their identifiers.
-use Rattle.std.proofs.Common.{◌≡◌, ℕ, zero, suc, ◌+◌, ◌<◌, ◌≤◌, Bool, true, false, cond, List, [], ◌∷◌, Result, Ok, Err, Some, None, refl}
+use Rattle.std.proofs.Common.{◌≡◌, ℕ, zero, suc, ◌+◌, ◌<◌, ◌≤◌, Bool, true, false, cond, List, [], ◌∷◌, Ok, Err, Some, None, refl}
 use Rattle.std.proofs.Common.{sym, ap, subst, ◌∙◌, inl, inr, arith, get_or, length}
 use Rattle.std.specs.Prelude.{◌&&◌, count_by, filter, if◌then◌else◌, map}
 use Rattle.std.specs.List.{AllWithin, cons_option, filter_map}
@@ -18,14 +18,13 @@ use Rattle.std.proofs.lemmas.Slice.Eq.{bytes_eq-Decides}
 use Rattle.mxf_klv.specs.Parts.{NoteParts}
 use Rattle.mxf_klv.specs.Note.{keeps}
 use Rattle.mxf_klv.specs.Rising.{In}
-use Rattle.mxf_sets.specs.declared.record.FieldFault.{FieldFault}
 use Rattle.mxf_sets.specs.Instance.{instance_uid_at}
 use Rattle.mxf_catalogue.proofs.Lists.{In-filter}
 use Rattle.mxf_catalogue.proofs.Places.{Contains-from_In, In-from_Contains}
 use Rattle.mxf_views.specs.declared.reference.Found.{Found}
 use Rattle.mxf_views.specs.declared.reference.Found.TheVariants.{Absent, One, Several}
 use Rattle.mxf_views.specs.declared.reference.identified.Identified.{Identified}
-use Rattle.mxf_views.specs.Identified.{AreByUid, AreSorted, found_at, is_below, is_of, uid_of, uid_read, with_uid}
+use Rattle.mxf_views.specs.Identified.{AreByUid, AreSorted, found_at, is_below, is_of, uid_read, with_uid}
 use Rattle.mxf_views.specs.References.{found_among, has_uid, reads_uid}
 use Rattle.mxf_views.proofs.Members.{count_by-cons, false_if, tally}
 

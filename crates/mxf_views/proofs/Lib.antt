@@ -28,6 +28,7 @@ pub mod LaidRandomIndex
 pub mod ListSteps
 pub mod Members
 pub mod OffsetSearch
+pub mod OnlyFound
 pub mod PartitionLaws
 pub mod PartitionSearch
 pub mod PlaceLaws
