@@ -193,7 +193,7 @@ becomes x notes start end c r new h k out =
 
 -- ---- lists of copies that rise
 
-low_in : (low : ℕ) (cs : List CopyInfo) (c : CopyInfo) → AllByRecursion (λ d. low < d.partition) cs → In c cs
+pub low_in : (low : ℕ) (cs : List CopyInfo) (c : CopyInfo) → AllByRecursion (λ d. low < d.partition) cs → In c cs
     → low < c.partition
 low_in low cs c a h = all-each (λ (d : CopyInfo). low < d.partition) cs c a h
 

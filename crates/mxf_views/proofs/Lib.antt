@@ -7,6 +7,7 @@ pub mod ChainLaws
 pub mod ClearChanges
 pub mod CopyChanges
 pub mod CopyLaws
+pub mod CopySearch
 pub mod CopyUpdates
 pub mod FileBytes
 pub mod FindingLaws
@@ -16,6 +17,7 @@ pub mod FoundLaws
 pub mod GapsLaws
 pub mod HeaderCauses
 pub mod GoodFiles
+pub mod IdentifiedLaws
 pub mod IndexCauses
 pub mod KeptLaws
 pub mod KeptRoom
@@ -29,6 +31,7 @@ pub mod LaidRandomIndex
 pub mod ListSteps
 pub mod Members
 pub mod OffsetSearch
+pub mod OnlyFound
 pub mod PartitionLaws
 pub mod PartitionSearch
 pub mod PlaceLaws

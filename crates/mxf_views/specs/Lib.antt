@@ -21,6 +21,7 @@ pub mod Reading
 pub mod WellFormed
 pub mod WholeFile
 pub mod Headline
+pub mod Identified
 pub mod WorkedFiles
 pub mod RefusedFiles
 pub mod WorkedBytes

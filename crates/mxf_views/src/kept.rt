@@ -11,7 +11,7 @@ ghost use Rattle.mxf_views.specs.declared.kept.offsets.Placed.{Placed};
 
 pub(crate) mod above;
 pub(crate) mod arrival;
-mod copies;
+pub(crate) mod copies;
 pub(crate) mod offsets;
 
 use crate::copy::CopyInfo;

@@ -7,6 +7,7 @@ ghost use Rattle.mxf_views.specs.declared.reference.Found.{Found};
 ghost use Rattle.mxf_sets.specs.Instance.{instance_uid_at};
 ghost use Rattle.mxf_views.specs.References.{IsFound, found_among, found_in, has_uid, reads_uid};
 
+pub(crate) mod identified;
 pub(crate) mod resolved;
 pub(crate) mod target;
 

@@ -1,5 +1,5 @@
 //! Views of a catalogue.
-ghost use Rattle.std.specs.Prelude.{◌≡◌, ◌≢◌, ◌↔◌, ◌==◌, ◌||◌, List, find, not, ◌<◌, ◌^◌, length, count_by, [], IfErr, IfOk, OnOk, OnErr};
+ghost use Rattle.std.specs.Prelude.{◌≡◌, ◌≢◌, ◌↔◌, ◌==◌, ◌||◌, List, not, ◌<◌, ◌^◌, find, length, count_by, [], IfErr, IfOk, OnOk, OnErr};
 ghost use Rattle.std.specs.List.{list_all};
 ghost use Rattle.mxf_catalogue.specs.Disputes.{SharesByte, clear_notes};
 ghost use Rattle.mxf_klv.specs.Parts.{NoteParts};
@@ -23,7 +23,7 @@ ghost use Rattle.mxf_views.specs.SameViews.{SameViews};
 
 use crate::chain::{Chain, Link, link_of};
 use crate::copy::sets::{Sets, no_sets, sets_of_copy};
-use crate::copy::{CopyInfo, copy_there, copy_with, preferred, read_primer};
+use crate::copy::{CopyInfo, copy_with, preferred, read_primer};
 use crate::finding::Findings;
 use crate::gap::Gaps;
 use crate::index::Segments;
@@ -31,6 +31,7 @@ use crate::index::place::{BadUnit, GREATEST_UNIT, Place};
 use crate::kept::Kept;
 use crate::kept::above::boundary;
 use crate::kept::arrival::Arrival;
+use crate::kept::copies::copy_at;
 use crate::partition::{PartitionAt, Partitions, is_no_unreadable_pack, partition_there};
 use crate::placed::NotesAt;
 use crate::random_index::RipView;
@@ -286,10 +287,19 @@ impl Views {
         // A count of the result fits.
         ensures bound { length result < 2 ^ 64 }
     {
-        match copy_there(&self.catalogue, partition) {
+        match self.copy_at(partition) {
             Some(copy) => sets_of_copy(&self.catalogue, &copy),
             None => no_sets(&self.catalogue),
         }
+    }
+
+    /// The copy of the partition at a file offset.
+    fn copy_at(&self, partition: u64) -> Option<CopyInfo>
+        ensures { result ≡ find (λ c. c.partition == partition) (copies_of self.now) }
+    {
+        // What a catalogue lends says that its notes are those of a file.
+        let _notes = self.catalogue.notes();
+        copy_at(&self.kept.copies, partition)
     }
 
     /// The preferred copy: of those with a start and exactly one Preface, a finished one before all others, then by the

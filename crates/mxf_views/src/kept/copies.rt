@@ -1,5 +1,5 @@
 //! The copies of the header metadata, kept by their partitions, which rise.
-ghost use Rattle.std.specs.Prelude.{◌≡◌, ◌<◌, ◌≤◌, count_by, filter, length, map, vec_len, vec_capacity};
+ghost use Rattle.std.specs.Prelude.{◌≡◌, ◌==◌, ◌<◌, ◌≤◌, count_by, filter, find, length, map, vec_len, vec_capacity};
 ghost use Rattle.mxf_catalogue.specs.Disputes.{clear_notes};
 ghost use Rattle.std.specs.List.{AllWithin};
 ghost use Rattle.mxf_views.specs.Copies.{CopiesRise, copies_of};
@@ -70,6 +70,17 @@ fn copies_up_to(copies: &[CopyInfo], partition: u64) -> usize
     ensures above { AllWithin (λ c. partition < c.partition) copies.now result (length copies.now) }
 {
     copies.partition_point(|copy| copy.partition <= partition)
+}
+
+/// The copy of the partition at a file offset.
+pub(crate) fn copy_at(copies: &[CopyInfo], partition: u64) -> Option<CopyInfo>
+    requires { CopiesRise copies.now }
+    ensures { result ≡ find (λ c. c.partition == partition) copies.now }
+{
+    match copies.binary_search_by_key(&partition, |copy| copy.partition) {
+        Ok(at) => Some(copies[at]),
+        Err(_) => None,
+    }
 }
 
 /// Takes the copies out that an arrival moves.

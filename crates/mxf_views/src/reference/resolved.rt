@@ -10,7 +10,9 @@ ghost use Rattle.mxf_views.specs.ResolvedView.{IsResolved};
 
 use crate::copy::sets::Sets;
 use crate::copy::zone::is_preface;
-use crate::reference::target::{Ref, Refs, Wanted, WithUid, refs_of, target_of};
+use crate::reference::Found;
+use crate::reference::identified::CopySets;
+use crate::reference::target::{Ref, Refs, Wanted, refs_of, target_of};
 use crate::views::Views;
 use mxf_klv::{Held, Kind, Note, OutOfMemory};
 use mxf_sets::{ContentStorage, Preface};
@@ -75,20 +77,14 @@ fn storage_in(note: &Note) -> Option<ContentStorage<'_>>
     }
 }
 
-fn storage_among(mut sets: WithUid<'_>) -> Option<ContentStorage<'_>>
-    ensures { result ≡ storage_among sets.entry }
+/// The storage with the identifier, where it is the only set of the copy that has it.
+fn storage_of<'a>(sets: &CopySets<'a>, uid: &Uuid) -> Option<ContentStorage<'a>>
+    ensures { result ≡ storage_among (filter (has_uid uid.now) (sets_of sets.now.notes sets.now.partition)) }
 {
-    let note = sets.next()?;
-    if let Some(_) = sets.next() {
-        return None;
+    match sets.find(uid) {
+        Found::One(offset) => storage_in(sets.note_at(offset)?),
+        _ => None,
     }
-    storage_in(note)
-}
-
-fn storage_of(views: &Views, partition: u64, uid: Uuid) -> Option<ContentStorage<'_>>
-    ensures { result ≡ storage_among (filter (has_uid uid) (sets_of views.now partition)) }
-{
-    storage_among(WithUid::of(uid, views.sets(partition)))
 }
 
 /// What the Preface of a copy names.
@@ -109,12 +105,13 @@ pub(crate) fn resolved_by(
             packages: Refs::new(alloc),
         });
     };
+    let sets = CopySets::of(alloc, views, partition)?;
     let uid = preface.content_storage();
-    let target = target_of(views, partition, Wanted::Storage, uid);
+    let target = target_of(&sets, Wanted::Storage, &uid);
     let names = preface.identifications();
-    let identifications = refs_of(alloc, views, partition, Wanted::Identification, names)?;
-    let packages = match storage_of(views, partition, uid) {
-        Some(storage) => refs_of(alloc, views, partition, Wanted::Package, storage.packages())?,
+    let identifications = refs_of(alloc, &sets, Wanted::Identification, names)?;
+    let packages = match storage_of(&sets, &uid) {
+        Some(storage) => refs_of(alloc, &sets, Wanted::Package, storage.packages())?,
         None => Refs::new(alloc),
     };
     Ok(Resolved {

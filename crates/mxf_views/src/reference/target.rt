@@ -1,17 +1,14 @@
 //! What references in header metadata lead to.
-ghost use Rattle.std.specs.Prelude.{◌≡◌, ◌↔◌, ℕ, List, [], filter, IfOk};
+ghost use Rattle.std.specs.Prelude.{◌≡◌, ◌↔◌, ℕ, List, [], IfOk};
 ghost use Rattle.mxf_klv.specs.Parts.{NoteParts};
 ghost use Rattle.mxf_catalogue.specs.Content.{IsContent};
 ghost use Rattle.mxf_views.specs.Copies.{sets_of};
 ghost use Rattle.mxf_views.specs.declared.reference.target.Wanted.{Wanted};
 ghost use Rattle.mxf_views.specs.declared.reference.target.Target.{Target};
-ghost use Rattle.std.specs.Iterator.{YieldsFirstRef, item_count};
-ghost use Rattle.mxf_views.specs.References.{has_uid};
-ghost use Rattle.mxf_views.specs.Targets.{IsTarget, fits, is_readable, ref_of, refs_of, target_among, target_at, target_of};
+ghost use Rattle.mxf_views.specs.Targets.{IsTarget, fits, is_readable, refs_of, target_at, target_of};
 
-use crate::copy::sets::Sets;
-use crate::reference::has_uid;
-use crate::views::Views;
+use crate::reference::Found;
+use crate::reference::identified::CopySets;
 use mxf_klv::{Held, Kind, Note, OutOfMemory};
 use mxf_sets::{ContentStorage, Identification, Package, References};
 use std::alloc::Global;
@@ -91,31 +88,6 @@ impl Wanted {
     }
 }
 
-/// The sets with an identifier that are left.
-#[derive(Debug, Drop)]
-pub(crate) struct WithUid<'a> {
-    uid: Uuid,
-    sets: Sets<'a>,
-}
-
-impl<'a> Model for WithUid<'a> {
-    ghost use Rattle.std.specs.Prelude.{List, filter};
-    ghost use Rattle.mxf_klv.specs.Parts.{NoteParts};
-    ghost use Rattle.mxf_views.specs.References.{has_uid};
-
-    ghost Value = { List NoteParts };
-
-    ghost view = { λ s. filter (has_uid s.uid) s.sets };
-}
-
-impl<'a> WithUid<'a> {
-    pub(crate) fn of(uid: Uuid, sets: Sets<'a>) -> WithUid<'a>
-        ensures { result ≡ filter (has_uid uid) sets.entry }
-    {
-        WithUid { uid, sets }
-    }
-}
-
 /// References with what they lead to, in order.
 #[derive(Debug, Drop)]
 pub struct Refs {
@@ -148,60 +120,33 @@ impl Refs {
     }
 }
 
-impl<'a> Iterator for WithUid<'a> {
-    type Item = &'a Note;
-
-    ghost next_gives = { YieldsFirstRef (λ s. s) };
-
-    ghost remaining = { item_count (λ s. s) };
-
-    fn next(&mut self) -> Option<&'a Note> {
-        while let Some(note) = self.sets.next() {
-            if has_uid(note, &self.uid) {
-                return Some(note);
-            }
-        }
-        None
-    }
-}
-
-fn target_among(mut sets: WithUid<'_>, wanted: Wanted) -> Target
-    ensures { result ≡ target_among wanted sets.entry }
-{
-    let Some(note) = sets.next() else {
-        return Target::Missing;
-    };
-    if let Some(_) = sets.next() {
-        return Target::Several;
-    }
-    wanted.target_at(note)
-}
-
-/// What a reference leads to, among the sets of the copy of a partition.
+/// What a reference leads to, among the sets of a copy.
 #[tactic(auto, unfolding(crate::specs::Targets::target_of))]
-pub(crate) fn target_of(views: &Views, partition: u64, wanted: Wanted, uid: Uuid) -> Target
-    ensures { result ≡ target_of views.now partition wanted uid }
+pub(crate) fn target_of(sets: &CopySets<'_>, wanted: Wanted, uid: &Uuid) -> Target
+    ensures { result ≡ target_of sets.now.notes sets.now.partition wanted uid.now }
 {
-    let sets = WithUid {
-        uid,
-        sets: views.sets(partition),
-    };
-    target_among(sets, wanted)
+    match sets.find(uid) {
+        Found::Absent => Target::Missing,
+        Found::One(offset) => match sets.note_at(offset) {
+            Some(note) => wanted.target_at(note),
+            None => unreachable!(),
+        },
+        Found::Several => Target::Several,
+    }
 }
 
 /// What each of the references leads to.
 pub(crate) fn refs_of(
     alloc: Global,
-    views: &Views,
-    partition: u64,
+    sets: &CopySets<'_>,
     wanted: Wanted,
     references: References<'_>,
 ) -> Result<Refs, OutOfMemory>
-    ensures { IfOk result (λ refs. refs ≡ refs_of views.now partition wanted references.entry) }
+    ensures { IfOk result (λ refs. refs ≡ refs_of sets.now.notes sets.now.partition wanted references.entry) }
 {
     let mut items = Vec::new(alloc);
     for uid in references {
-        let target = target_of(views, partition, wanted, uid);
+        let target = target_of(sets, wanted, &uid);
         items.push(Ref { uid, target })?;
     }
     Ok(Refs { items })

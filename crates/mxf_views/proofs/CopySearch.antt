@@ -1,0 +1,62 @@
+-- Copies that rise, searched for that of a partition.
+use Rattle.std.proofs.Common.{◌≡◌, ℕ, ◌<◌, ◌≤◌, List, [], ◌∷◌, Some, None, sym, ap, ◌∙◌, inl, inr, arith, eqb-true, eq-eqb, get_or, length, Err}
+use Rattle.std.specs.Prelude.{◌==◌, find}
+use Rattle.std.specs.List.{HoldsAt}
+use Rattle.std.specs.List.Sorted.{IsBinarySearchResult, IsNonDecreasingBy}
+use Rattle.std.specs.Ordering.{nat_cmp, ordering_index}
+use Rattle.std.specs.declared.cmp.Ordering.TheVariants.{Less, Equal, Greater}
+use Rattle.std.proofs.lemmas.Bool.{cases_order}
+use Rattle.std.proofs.lemmas.Bool.Decides.{nat_tests}
+use Rattle.std.proofs.lemmas.Cmp.{ranked}
+use Rattle.mxf_klv.specs.Rising.{In}
+use Rattle.mxf_catalogue.proofs.Lists.{find-none, find-only}
+use Rattle.mxf_catalogue.proofs.Places.{Contains-from_In, In-at}
+use Rattle.mxf_views.specs.declared.copy.CopyInfo.{CopyInfo}
+use Rattle.mxf_views.specs.Copies.{CopiesRise}
+use Rattle.mxf_views.proofs.CopyUpdates.{low_in, partitions_of_copies_rise}
+
+comparisons_rise : (p : ℕ) (cs : List CopyInfo) → CopiesRise cs
+    → IsNonDecreasingBy (λ c. ordering_index (nat_cmp c.partition p)) cs
+comparisons_rise p cs r i j d l h =
+    let m : (get_or cs i d).partition ≤ (get_or cs j d).partition = partitions_of_copies_rise cs r i j d l h in
+    grind (arith, nat_tests)
+
+-- Copies of one partition are one.
+pub one_in_rising : (cs : List CopyInfo) (c d : CopyInfo) → CopiesRise cs → In c cs → In d cs
+    → c.partition ≡ d.partition → c ≡ d
+one_in_rising [] c d r h k e = absurd h
+one_in_rising (x ∷ cs) c d r (inl e) (inl f) same = e ∙ sym f
+one_in_rising (x ∷ cs) c d r (inl e) (inr k) same =
+    let l : x.partition < d.partition = low_in x.partition cs d r.0 k in
+    let at : c.partition ≡ x.partition = ap (λ (y : CopyInfo). y.partition) e in
+    absurd (omega (arith, l, at, same))
+one_in_rising (x ∷ cs) c d r (inr h) (inl f) same =
+    let l : x.partition < c.partition = low_in x.partition cs c r.0 h in
+    let at : d.partition ≡ x.partition = ap (λ (y : CopyInfo). y.partition) f in
+    absurd (omega (arith, l, at, same))
+one_in_rising (x ∷ cs) c d r (inr h) (inr k) same = one_in_rising cs c d r.1 h k same
+
+-- The copy at the place that a search finds.
+pub copy_searched : (p : ℕ) (cs : List CopyInfo) (i : ℕ) (d : CopyInfo) → CopiesRise cs → i < length cs
+    → HoldsAt (λ c. nat_cmp c.partition p ≡ Equal) cs i → Some (get_or cs i d) ≡ find (λ c. c.partition == p) cs
+copy_searched p cs i d r l at =
+    let same : (get_or cs i d).partition ≡ p = ranked (get_or cs i d).partition p Equal (sym (at d)) in
+    sym (find-only (λ (c : CopyInfo). c.partition == p) cs (get_or cs i d) (In-at cs i d l)
+    (eq-eqb (get_or cs i d).partition p same)
+    (λ c h t. one_in_rising cs c (get_or cs i d) r h (In-at cs i d l) (eqb-true c.partition p t ∙ sym same)))
+
+-- There is none where it finds none.
+pub no_copy_searched : (p : ℕ) (cs : List CopyInfo) (i : ℕ) → CopiesRise cs
+    → IsBinarySearchResult (λ c. nat_cmp c.partition p) cs (Err i) → None ≡ find (λ c. c.partition == p) cs
+no_copy_searched p cs i r says =
+    let point = says (comparisons_rise p cs r) in
+    sym (find-none (λ (c : CopyInfo). c.partition == p) cs (λ c h t.
+    let k = Contains-from_In c cs h in
+    let at : (get_or cs k.0 c).partition ≡ p = ap (λ (y : CopyInfo). y.partition) k.2 ∙ eqb-true c.partition p t in
+    let below = λ (l : k.0 < i). ranked (get_or cs k.0 c).partition p Less (sym (point.0 k.0 c (omega arith) l)) in
+    let above = λ (l : i ≤ k.0). ranked (get_or cs k.0 c).partition p Greater (sym (point.1 k.0 c l k.1)) in
+    elim (cases_order k.0 i) [
+      | inl e ↦ (let u : p < (get_or cs k.0 c).partition = above (omega (arith, e)) in omega (arith, u, at))
+      | inr (inl l) ↦ (let u : (get_or cs k.0 c).partition < p = below l in omega (arith, u, at))
+      | inr (inr l) ↦ (let u : p < (get_or cs k.0 c).partition = above (omega (arith, l)) in omega (arith, u, at))
+    ]))

@@ -1,0 +1,142 @@
+//! The sets of a copy, sorted by their instance identifiers.
+ghost use Rattle.std.specs.Prelude.{◌≡◌, ◌==◌, ◌≤◌, true, false, IfOk, filter, find, length, map};
+ghost use Rattle.std.specs.List.{AllWithin, filter_map};
+ghost use Rattle.std.specs.Option.{option_copied};
+ghost use Rattle.mxf_catalogue.specs.Disputes.{clear_notes};
+ghost use Rattle.mxf_views.specs.Identified.{AreByUid, AreSorted, found_at, with_uid, is_below, is_of, uid_of};
+ghost use Rattle.mxf_views.specs.References.{found_in};
+
+use crate::copy::sets::Sets;
+use crate::reference::Found;
+use crate::views::Views;
+use mxf_catalogue::Catalogue;
+use mxf_klv::{Held, Note, OutOfMemory};
+use mxf_sets::instance_uid;
+use std::alloc::Global;
+use std::marker::Model;
+use uuid::Uuid;
+
+/// A set that has a readable instance identifier.
+#[derive(Clone, Copy, Debug)]
+pub(crate) struct Identified {
+    pub uid: Uuid,
+    /// Its file offset, in bytes.
+    pub offset: u64,
+}
+
+/// The instance identifier of a set, where the set is kept and the identifier can be read.
+fn uid_of(note: &Note) -> Option<Uuid>
+    ensures { result ≡ uid_of note.now }
+{
+    match note.held() {
+        Held::Whole(value) => instance_uid(value).ok(),
+        Held::Digest(_) => None,
+    }
+}
+
+/// The set, where it has a readable identifier.
+fn with_uid(note: &Note) -> Option<Identified>
+    ensures { result ≡ with_uid note.now }
+{
+    let uid = uid_of(note)?;
+    let offset = note.offset();
+    Some(Identified { uid, offset })
+}
+
+/// The sets that have one, in their order.
+fn gathered(alloc: Global, sets: Sets<'_>) -> Result<Vec<Identified>, OutOfMemory>
+    ensures { IfOk result (λ v. v.items ≡ filter_map with_uid sets.entry) }
+{
+    let mut items = Vec::new(alloc);
+    for note in sets {
+        if let Some(set) = with_uid(note) {
+            items.push(set)?;
+        }
+    }
+    Ok(items)
+}
+
+/// The same, sorted by their identifiers.
+fn sorted(alloc: Global, sets: Sets<'_>) -> Result<Vec<Identified>, OutOfMemory>
+    ensures { IfOk result (λ v. AreByUid sets.entry v.items) }
+{
+    let mut items = gathered(alloc, sets)?;
+    items.sort_unstable_by_key(|set| set.uid);
+    Ok(items)
+}
+
+/// The number of the sets whose identifiers stand below one.
+fn count_below(sets: &[Identified], uid: &Uuid) -> usize
+    requires { AreSorted sets.now }
+    ensures bound { result ≤ length sets.now }
+    ensures below { AllWithin (λ e. is_below uid.now e ≡ true) sets.now 0 result }
+    ensures above { AllWithin (λ e. is_below uid.now e ≡ false) sets.now result (length sets.now) }
+{
+    sets.partition_point(|set| set.uid < *uid)
+}
+
+/// What is found of an identifier among sorted sets: the first that isn't below it and the next one tell.
+fn find_sorted(sets: &[Identified], uid: &Uuid) -> Found
+    requires { AreSorted sets.now }
+    ensures { result ≡ found_at (map (λ e. e.offset) (filter (is_of uid.now) sets.now)) }
+{
+    let at = count_below(sets, uid);
+    let Some(first) = sets.get(at) else {
+        return Found::Absent;
+    };
+    if first.uid != *uid {
+        return Found::Absent;
+    }
+    match sets.get(at + 1) {
+        Some(second) if second.uid == *uid => Found::Several,
+        _ => Found::One(first.offset),
+    }
+}
+
+/// The sets of the copy of a partition, to be found by their identifiers.
+#[derive(Debug, Drop)]
+pub(crate) struct CopySets<'a> {
+    catalogue: &'a Catalogue,
+    partition: u64,
+    by_uid: Vec<Identified>,
+}
+
+impl<'a> Model for CopySets<'a> {
+    ghost use Rattle.mxf_views.specs.Copies.{sets_of};
+    ghost use Rattle.mxf_views.specs.Identified.{AreByUid, CopySetsParts};
+
+    ghost Value = { CopySetsParts };
+
+    ghost view = { λ s. record { notes = s.catalogue.now; partition = s.partition } };
+
+    ghost invariant = { λ s. AreByUid (sets_of s.catalogue.now s.partition) s.by_uid.items };
+}
+
+impl<'a> CopySets<'a> {
+    /// Those of the copy of a partition. It takes memory.
+    pub fn of(alloc: Global, views: &'a Views, partition: u64) -> Result<CopySets<'a>, OutOfMemory>
+        ensures { IfOk result (λ s. s ≡ record { notes = views.now; partition = partition }) }
+    {
+        let by_uid = sorted(alloc, views.sets(partition))?;
+        let catalogue = views.catalogue();
+        Ok(CopySets {
+            catalogue,
+            partition,
+            by_uid,
+        })
+    }
+
+    /// What is found of an identifier.
+    pub fn find(&self, uid: &Uuid) -> Found
+        ensures { result ≡ found_in self.now.notes self.now.partition uid.now }
+    {
+        find_sorted(&self.by_uid, uid)
+    }
+
+    /// The clear note at a file offset.
+    pub fn note_at(&self, offset: u64) -> Option<&'a Note>
+        ensures { option_copied result ≡ find (λ n. n.offset == offset) (clear_notes self.now.notes) }
+    {
+        self.catalogue.clear_at(offset)
+    }
+}
