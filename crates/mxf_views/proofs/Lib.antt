@@ -14,6 +14,7 @@ pub mod GapsLaws
 pub mod HeaderCauses
 pub mod GoodFiles
 pub mod IndexCauses
+pub mod KeptFindings
 pub mod KeptLaws
 pub mod KeptRoom
 pub mod KindLaws
