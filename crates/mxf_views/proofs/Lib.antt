@@ -19,6 +19,7 @@ pub mod HeaderCauses
 pub mod GoodFiles
 pub mod IdentifiedLaws
 pub mod IndexCauses
+pub mod KeptFindings
 pub mod KeptLaws
 pub mod KeptRoom
 pub mod KindLaws

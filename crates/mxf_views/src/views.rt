@@ -16,6 +16,7 @@ ghost use Rattle.mxf_views.specs.Resolved.{resolved_of};
 ghost use Rattle.std.specs.Prelude.{◌≤◌};
 ghost use Rattle.std.specs.Result.{OkIff};
 ghost use Rattle.mxf_views.specs.Places.{greatest_unit, place_of, segments_of};
+ghost use Rattle.mxf_views.specs.RandomIndex.{rips_of};
 ghost use Rattle.mxf_views.specs.RandomIndexView.{rip_view_of};
 ghost use Rattle.mxf_views.specs.Findings.{findings_of};
 ghost use Rattle.mxf_views.specs.Headline.{IsTheRun};
@@ -392,10 +393,14 @@ impl Views {
     pub fn rip(&self) -> RipView<'_>
         ensures { result ≡ rip_view_of self.now }
     {
-        RipView::of(
-            &self.catalogue,
-            NotesAt::of(&self.catalogue, &self.kept.random_index_packs),
-        )
+        RipView::of(&self.catalogue, self.random_index_packs())
+    }
+
+    /// The clear random index packs, readable or not, rising.
+    pub(crate) fn random_index_packs(&self) -> NotesAt<'_>
+        ensures { result ≡ rips_of self.now }
+    {
+        NotesAt::of(&self.catalogue, &self.kept.random_index_packs)
     }
 
     /// What the notes show to be wrong or missing, by file offset and then code, none twice. It takes memory.

@@ -1,5 +1,6 @@
 //! Findings of index table segments and random index packs.
 ghost use Rattle.std.specs.Prelude.{◌≡◌, ◌++◌, OnOk};
+ghost use Rattle.mxf_catalogue.specs.Disputes.{clear_notes};
 ghost use Rattle.mxf_views.specs.Findings.{ends_above, findings_for, has_other_rip, is_unfit_rip, are_entries_of, is_index_of};
 ghost use Rattle.mxf_views.specs.RandomIndex.{rip_in};
 
@@ -9,7 +10,7 @@ use super::readable::is_unreadable_segment;
 use crate::partition::Partitions;
 use crate::random_index::{is_rip, read_rip};
 use crate::views::Views;
-use mxf_catalogue::{ClearNotes, Notes};
+use mxf_catalogue::Notes;
 use mxf_klv::{Note, OutOfMemory};
 use mxf_sets::RipEntries;
 
@@ -39,12 +40,12 @@ fn is_index_of(note: &Note, partitions: Partitions<'_>) -> bool
     }
 }
 
-/// Whether one of the notes has a random index pack at another offset.
-fn has_other_rip(note: &Note, notes: ClearNotes<'_>) -> bool
-    ensures { result ≡ has_other_rip note.now notes.entry }
+/// Whether another clear note has a random index pack. It reads two of them at most.
+fn has_other_rip(views: &Views, note: &Note) -> bool
+    ensures { result ≡ has_other_rip note.now (clear_notes views.now) }
 {
-    for other in notes {
-        if is_rip(other) && other.offset() != note.offset() {
+    for other in views.random_index_packs() {
+        if other.offset() != note.offset() {
             return true;
         }
     }
@@ -69,7 +70,7 @@ fn is_unfit_rip(views: &Views, note: &Note) -> bool
     ensures { result ≡ is_unfit_rip views.now note.now }
 {
     is_rip(note)
-        && (has_other_rip(note, views.catalogue().clear())
+        && (has_other_rip(views, note)
             || ends_above(note.end(), views.catalogue().notes())
             || !is_index_of(note, views.partitions()))
 }
@@ -91,7 +92,7 @@ impl Collected {
     pub(super) fn add_random_index(&mut self, views: &Views) -> Result<(), OutOfMemory>
         ensures { OnOk result (self.new ≡ self.old ++ findings_for Code.F12 views.now) }
     {
-        for note in views.catalogue().clear() {
+        for note in views.random_index_packs() {
             if is_unfit_rip(views, note) {
                 self.add(Code::F12, note.offset())?;
             }

@@ -1,9 +1,11 @@
 use Rattle.std.proofs.Common.{◌∙◌, ap}
 use Rattle.mxf_views.specs.Kept.{KeptParts, notes_at}
+use Rattle.mxf_views.specs.RandomIndex.{rips_of}
 use Rattle.mxf_views.proofs.KeptLaws.{rips_kept}
-use Rattle.mxf_views.proofs.views.Views.rip.Goals as goal
+use Rattle.mxf_views.proofs.views.Views.random_index_packs.Goals as goal
 
-pub of-requires-2 : goal.of-requires-2
-of-requires-2 c =
+pub returns : goal.returns
+returns c =
     c.of.ensures.notes ∙ ap (notes_at c.self.inside.catalogue) c.deref.ensures.value
     ∙ rips_kept c.self.inside.catalogue _ (ap (λ (k : KeptParts). k.rips) c.self.invariant)
+    ∙ ap rips_of c.self.view_is
