@@ -35,6 +35,7 @@ pub mod PlaceLaws
 pub mod PreferredRead
 pub mod PrimerLaws
 pub mod RandomIndexLaws
+pub mod ReachLaws
 pub mod ReadingLaws
 pub mod RefusedLaws
 pub mod ResolvedLaws

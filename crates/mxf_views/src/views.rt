@@ -10,7 +10,7 @@ ghost use Rattle.mxf_catalogue.specs.Moved.{TellsMoved};
 ghost use Rattle.mxf_views.specs.Partitions.{partitions_of, link_of, link_at, is_linked, chain_of, is_header, is_footer, is_greatest, is_no_unreadable_pack};
 ghost use Rattle.mxf_views.specs.Gaps.{gaps_of};
 ghost use Rattle.mxf_views.specs.Copies.{copies_of, preferred_of, sets_of};
-ghost use Rattle.mxf_views.specs.Labels.{primer_for, primer_of, primer_there};
+ghost use Rattle.mxf_views.specs.Labels.{is_in_copy, primer_for, primer_of, primer_there};
 ghost use Rattle.mxf_views.specs.References.{found_in};
 ghost use Rattle.mxf_views.specs.Resolved.{resolved_of};
 ghost use Rattle.std.specs.Prelude.{◌≤◌};
@@ -23,7 +23,7 @@ ghost use Rattle.mxf_views.specs.SameViews.{SameViews};
 
 use crate::chain::{Chain, Link, link_of};
 use crate::copy::sets::{Sets, no_sets, sets_of_copy};
-use crate::copy::{CopyInfo, copy_with, preferred, read_primer};
+use crate::copy::{CopyInfo, preferred, read_primer};
 use crate::finding::Findings;
 use crate::gap::Gaps;
 use crate::index::Segments;
@@ -31,6 +31,7 @@ use crate::index::place::{BadUnit, GREATEST_UNIT, Place};
 use crate::kept::Kept;
 use crate::kept::arrival::Arrival;
 use crate::kept::copies::copy_at;
+use crate::kept::reaches::copy_with;
 use crate::partition::{PartitionAt, Partitions, is_no_unreadable_pack, partition_there};
 use crate::placed::NotesAt;
 use crate::random_index::RipView;
@@ -311,8 +312,17 @@ impl Views {
     pub fn primer_for(&self, set: &Note) -> Option<Primer<'_>>
         ensures { result ≡ primer_for self.now set.now }
     {
-        let copy = copy_with(&self.kept.copies, set)?;
+        let copy = self.copy_with(set)?;
         self.primer_of(&copy)
+    }
+
+    /// The first copy whose bytes have the set.
+    fn copy_with(&self, set: &Note) -> Option<CopyInfo>
+        ensures { result ≡ find (is_in_copy set.now) (copies_of self.now) }
+    {
+        // What a catalogue lends says that its notes are those of a file.
+        let _notes = self.catalogue.notes();
+        copy_with(&self.kept.copies, &self.kept.reaches, set)
     }
 
     /// The primer pack at the start of the copy.
