@@ -47,7 +47,7 @@ bytes_are_stated notes p =
       | Some start ↦ refl
     ]
 
-end-partition_at : (n : NoteParts) (p : PartitionParts) → partition_at n ≡ Some p → p.end ≡ end_of n
+pub end-partition_at : (n : NoteParts) (p : PartitionParts) → partition_at n ≡ Some p → p.end ≡ end_of n
 unfolding partition_at
 end-partition_at n p e =
     elim (pack_of n) as (λ o. option_map (λ pack. record { offset = n.offset; end = end_of n; pack = pack }) o ≡ Some p

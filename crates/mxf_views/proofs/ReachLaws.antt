@@ -1,17 +1,18 @@
 -- How far copies reach, and the first of them that has a packet.
 use Rattle.std.proofs.Common.{◌≡◌, ℕ, zero, suc, ◌+◌, ◌<◌, ◌≤◌, Bool, true, false, List, [], ◌∷◌, Option, Some, None}
-use Rattle.std.proofs.Common.{refl, sym, ap, subst, ◌∙◌, arith, get_or, length, leb-true, le-leb, cond}
-use Rattle.std.specs.Prelude.{find, max, min, nat_le}
+use Rattle.std.proofs.Common.{refl, sym, ap, subst, arith, get_or, length, leb-true, le-leb, cond}
+use Rattle.std.specs.Prelude.{◌==◌, filter, find, map, max, nat_le, nat_lt}
 use Rattle.std.specs.Bool.{then_some}
-use Rattle.std.specs.List.{AllByRecursion, AllWithin}
+use Rattle.std.specs.List.{AllWithin}
 use Rattle.std.specs.List.Sorted.{IsNonDecreasing}
 use Rattle.std.proofs.lemmas.Bool.{leb-false}
+use Rattle.std.proofs.lemmas.List.{length-map}
 use Rattle.mxf_klv.specs.Parts.{NoteParts}
 use Rattle.mxf_klv.specs.Note.{end_of}
-use Rattle.mxf_klv.specs.Rising.{In}
-use Rattle.mxf_catalogue.proofs.Lists.{find-none}
+use Rattle.mxf_catalogue.proofs.Lists.{find-none, length-filter_le}
 use Rattle.mxf_views.specs.declared.copy.CopyInfo.{CopyInfo}
-use Rattle.mxf_views.specs.Kept.{IsStartBelow, StartsRise, reach_from, reach_of, reaches_from, reaches_of}
+use Rattle.mxf_views.specs.Copies.{copies_of}
+use Rattle.mxf_views.specs.Kept.{IsStartBelow, StartsRise, copies_followed, is_outside, reach_from, reach_of, reaches_from, renewed, with_copy, with_found}
 use Rattle.mxf_views.specs.Labels.{is_in_copy, is_in_zone}
 use Rattle.mxf_views.proofs.Members.{all-each, both, false_if, parts}
 
@@ -108,3 +109,26 @@ first_reaches n high (c ∷ cs) (suc at) d fits r h l a b =
     let lacks : is_in_copy n c ≡ false = far_lacks n c fits (omega (arith, first)) in
     rw lacks (first_reaches n (max high (reach_of c)) cs at d fits r.1 first (omega arith)
     (λ k d m h. a (suc k) d (omega arith) (omega arith)) b)
+
+-- An arrival brings one copy at most.
+length-with_copy : (c : CopyInfo) (cs : List CopyInfo) → length (with_copy c cs) ≡ suc (length cs)
+length-with_copy c [] = refl
+length-with_copy c (d ∷ cs) =
+    elim (nat_lt c.partition d.partition) as (λ b. length (cond b (c ∷ d ∷ cs) (d ∷ with_copy c cs)) ≡ suc (suc (length cs))) [
+      | true ↦ refl
+      | false ↦ ap suc (length-with_copy c cs)
+    ]
+
+length-with_found : (o : Option CopyInfo) (cs : List CopyInfo) → length (with_found o cs) ≤ length cs + 1
+length-with_found None cs = omega arith
+length-with_found (Some c) cs = let l = length-with_copy c cs in omega (arith, l)
+
+pub length-copies_followed : (notes : List NoteParts) (offset start end : ℕ) (brings : Bool) (cs : List CopyInfo)
+    → length (copies_followed notes offset start end brings cs) ≤ length cs + 1
+length-copies_followed notes offset start end brings cs =
+    let outside = filter (λ (c : CopyInfo). is_outside start end c.partition) cs in
+    let l = length-with_found (find (λ (d : CopyInfo). d.partition == offset) (copies_of notes))
+    (map (renewed notes start end brings) outside) in
+    let m = length-map outside (renewed notes start end brings) in
+    let f = length-filter_le (λ (c : CopyInfo). is_outside start end c.partition) cs in
+    omega (arith, l, m, f)
