@@ -96,22 +96,25 @@ copies_followed notes offset start end brings copies =
     with_found (find (λ d. d.partition == offset) (copies_of notes))
     (map (renewed notes start end brings) (filter (λ c. is_outside start end c.partition) copies))
 
+-- Where a zone of so many bytes ends, at most at the greatest file offset; 0 without a start.
 abbrev pub reach_from : ℕ → Option ℕ → ℕ
 reach_from bytes None = 0
 reach_from bytes (Some start) = min (start + bytes) 18446744073709551615
 
--- Where the zone of the copy ends, at most at the greatest file offset; 0 without a start.
+-- The same for the zone of the copy.
 abbrev pub reach_of : CopyInfo → ℕ
 reach_of c = reach_from c.bytes c.start
 
+-- For each copy the greatest of an offset, the end of its zone and those of the copies before it.
 abbrev pub reaches_from : ℕ → List CopyInfo → List ℕ
 reaches_from high [] = []
 reaches_from high (c ∷ copies) = max high (reach_of c) ∷ reaches_from (max high (reach_of c)) copies
 
--- How far the copies reach: for each, the greatest end of its zone and of the zones of those before it.
+-- How far the copies reach: for each the greatest end of its zone and of the zones of those before it.
 abbrev pub reaches_of : List CopyInfo → List ℕ
 reaches_of copies = reaches_from 0 copies
 
+-- The one start is below the other, where there are both.
 abbrev pub IsStartBelow : Option ℕ → Option ℕ → Type 0
 IsStartBelow None other = Unit {0}
 IsStartBelow (Some start) None = Unit {0}
