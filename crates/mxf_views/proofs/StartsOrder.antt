@@ -71,13 +71,13 @@ starts_in_order notes c d s t r h k l e f =
       | inl u ↦ (
           let there : a.primer.offset ≡ n.note.offset = a.there ∙ u in
           let same = one_at notes a.primer n.note a.clear cn there in
-          let kind = ap part_and_status a.readable.1.0 in
+          let kind : part_and_status (kind_of a.primer.key) ≡ None = ap part_and_status a.readable.1.0 in
           absurd (no_partition a.primer id.0 kind (ap partition_at same ∙ n.read)))
       | inr (inl u) ↦ omega (arith, u, end_n, after)
       | inr (inr u) ↦ (
           let fill = a.filled n.note.offset (omega (arith, behind, end_m)) u in
           let same = clear_same notes fill.fill n.note fill.clear cn (n.note.offset, fill.within, first_byte n.note) in
-          let kind = ap part_and_status fill.kind in
+          let kind : part_and_status (kind_of fill.fill.key) ≡ None = ap part_and_status fill.kind in
           absurd (no_partition fill.fill id.0 kind (ap partition_at same ∙ n.read)))
     ]
 
