@@ -7,6 +7,7 @@ use Rattle.std.specs.List.Sorted.{IsNonDecreasingBy, IsPartitionedBy, IsPermutat
 use Rattle.std.specs.Cmp.Lexicographic.{lists_agrees, nat_list_cmp_total, slice_cmp, slice_partial_cmp}
 use Rattle.std.specs.FinSet.{nat_cmp-IsAntisymmetric, slice_cmp-IsAntisymmetric}
 use Rattle.std.specs.Option.{option_map}
+use Rattle.std.specs.Result.{result_ok}
 use Rattle.std.specs.Str.{bytes_eq}
 use Rattle.std.specs.Ordering.{is_lt, is_some_and, nat_cmp, ordering_index}
 use Rattle.std.specs.declared.cmp.Ordering.{Ordering}
@@ -24,7 +25,7 @@ use Rattle.mxf_catalogue.proofs.Places.{Contains-from_In, In-from_Contains}
 use Rattle.mxf_views.specs.declared.reference.Found.{Found}
 use Rattle.mxf_views.specs.declared.reference.Found.TheVariants.{Absent, One, Several}
 use Rattle.mxf_views.specs.declared.reference.identified.Identified.{Identified}
-use Rattle.mxf_views.specs.Identified.{AreByUid, AreSorted, found_at, is_below, is_of, uid_read, with_uid}
+use Rattle.mxf_views.specs.Identified.{AreByUid, AreSorted, found_at, is_below, is_of, with_uid}
 use Rattle.mxf_views.specs.References.{found_among, has_uid, reads_uid}
 use Rattle.mxf_views.proofs.Members.{count_by-cons, false_if, tally}
 
@@ -196,13 +197,13 @@ same_offsets uid (n ∷ sets) =
     elim (keeps n.key n.length) as (λ k.
     offsets (filter (is_of uid)
     (cons_option (option_map (λ uid. record { uid = uid; offset = n.offset })
-    (if k then uid_read (instance_uid_at n.held) else None)) (filter_map with_uid sets)))
+    (if k then result_ok (instance_uid_at n.held) else None)) (filter_map with_uid sets)))
     ≡ map (λ (n : NoteParts). n.offset)
     (cond (k && reads_uid uid (instance_uid_at n.held)) (n ∷ filter (has_uid uid) sets) (filter (has_uid uid) sets))) [
       | false ↦ ih
       | true ↦ elim (instance_uid_at n.held) as (λ r.
           offsets (filter (is_of uid)
-          (cons_option (option_map (λ uid. record { uid = uid; offset = n.offset }) (uid_read r)) (filter_map with_uid sets)))
+          (cons_option (option_map (λ uid. record { uid = uid; offset = n.offset }) (result_ok r)) (filter_map with_uid sets)))
           ≡ map (λ (n : NoteParts). n.offset)
           (cond (reads_uid uid r) (n ∷ filter (has_uid uid) sets) (filter (has_uid uid) sets))) [
             | Err f ↦ ih

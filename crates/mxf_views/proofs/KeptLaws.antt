@@ -9,7 +9,7 @@ use Rattle.mxf_catalogue.specs.Disputes.{clear_notes}
 use Rattle.mxf_views.specs.declared.copy.CopyInfo.{CopyInfo}
 use Rattle.mxf_views.specs.declared.kept.offsets.Placed.TheVariants as kinds
 use Rattle.mxf_views.specs.Copies.{copies_of}
-use Rattle.mxf_views.specs.Kept.{IsHull, KeptParts, kept_of, can_bring_start, copies_followed, followed, is_placed, notes_at, offsets_where, stands_clear}
+use Rattle.mxf_views.specs.Kept.{IsHull, KeptParts, kept_of, can_bring_start, copies_followed, followed, is_placed, notes_at, offsets_where, reaches_of, stands_clear}
 use Rattle.mxf_views.specs.Partitions.{partition_at, partitions_among, partitions_of}
 use Rattle.mxf_views.specs.Places.{placed_segment, segments_among, segments_of}
 use Rattle.mxf_views.specs.RandomIndex.{rips_of}
@@ -18,16 +18,22 @@ use Rattle.mxf_views.proofs.CopyUpdates.{copies_follow}
 use Rattle.mxf_views.proofs.ListSteps.{filter_map_some}
 
 abbrev pub the_kept : List ℕ → List ℕ → List ℕ → List CopyInfo → KeptParts
-the_kept ps ss rs cs = record { partitions = ps; segments = ss; rips = rs; copies = cs }
+the_kept ps ss rs cs = record { partitions = ps; segments = ss; rips = rs; copies = cs; reaches = reaches_of cs }
 
 -- A note that is held changes nothing.
 pub with_note_held : (n : NoteParts) (notes : List NoteParts) → IsContent notes → In n notes → with_note n notes ≡ notes
 with_note_held n notes r h = with_one_present note_total note_cmp-IsAntisymmetric n notes r h
 
 -- What is kept of no note.
-pub kept_of_none : kept_of [] ≡ record { partitions = []; segments = []; rips = []; copies = [] }
+pub kept_of_none : kept_of [] ≡ record { partitions = []; segments = []; rips = []; copies = []; reaches = [] }
 unfolding copies_of partitions_of
 kept_of_none = refl
+
+-- What reaches as far as the copies is kept with them.
+pub with_reaches : (ps ss rs hs : List ℕ) (cs : List CopyInfo) → hs ≡ reaches_of cs
+    → record { partitions = ps; segments = ss; rips = rs; copies = cs; reaches = hs } ≡ the_kept ps ss rs cs
+with_reaches ps ss rs hs cs e =
+    ap (λ x. record { partitions = ps; segments = ss; rips = rs; copies = cs; reaches = x }) e
 
 pub same_kept : (ps qs ss ts rs us : List ℕ) (cs ds : List CopyInfo) → ps ≡ qs → ss ≡ ts → rs ≡ us → cs ≡ ds
     → the_kept ps ss rs cs ≡ the_kept qs ts us ds

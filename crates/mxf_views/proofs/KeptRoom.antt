@@ -21,6 +21,7 @@ use Rattle.mxf_views.specs.declared.kept.offsets.Placed.TheVariants as kinds
 use Rattle.mxf_views.specs.Kept.{HasRoom, KeptParts, is_placed, kept_in, kept_of, offsets_where, states_metadata}
 use Rattle.mxf_views.proofs.CopyUpdates.{length-copies_of}
 use Rattle.mxf_views.proofs.Members.{count_by-cons, tally}
+use Rattle.mxf_views.proofs.ReachLaws.{length-reaches_from}
 
 -- A content that has no notes but those of another is no longer.
 sub_length : (xs ys : List NoteParts) → IsContent xs → IsContent ys → ((n : NoteParts) → In n xs → In n ys)
@@ -103,9 +104,10 @@ pub room_for_both : {E : Type 0} (own other : List NoteParts) (old k : Kept) (re
     → OnOk result (vec_len old.random_index_packs + count_by (is_placed kinds.RandomIndexPack) (clear_notes other)
     ≤ vec_capacity k.random_index_packs)
     → OnOk result (vec_len old.copies + count_by states_metadata (clear_notes other) ≤ vec_capacity k.copies)
+    → OnOk result (vec_len old.reaches + count_by states_metadata (clear_notes other) ≤ vec_capacity k.reaches)
     → OnOk result (HasRoom (union_of own other) k)
-room_for_both own other old k (Err e) r s keeps a b c d = tt
-room_for_both own other old k (Ok u) r s keeps a b c d =
+room_for_both own other old k (Err e) r s keeps a b c d f = tt
+room_for_both own other old k (Ok u) r s keeps a b c d f =
     let one = λ (kind : _) (len cap : ℕ) (os : List ℕ) (l : len ≡ length os)
     (same : os ≡ offsets_where (is_placed kind) own)
     (room : len + count_by (is_placed kind) (clear_notes other) ≤ cap).
@@ -125,4 +127,10 @@ room_for_both own other old k (Ok u) r s keeps a b c d =
           let both = count_in_union states_metadata own other r s in
           let fits : count_by states_metadata (clear_notes (union_of own other)) ≤ vec_capacity k.copies =
           omega (arith, number, both, d, old.copies.ok.0) in fits);
+      reaches =
+          (let number = ap length (ap (λ (p : KeptParts). p.reaches) keeps) ∙ length-reaches_from 0 (copies_of own)
+          ∙ length-kept_copies own in
+          let both = count_in_union states_metadata own other r s in
+          let fits : count_by states_metadata (clear_notes (union_of own other)) ≤ vec_capacity k.reaches =
+          omega (arith, number, both, f, old.reaches.ok.0) in fits);
     }

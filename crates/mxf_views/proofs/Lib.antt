@@ -39,6 +39,7 @@ pub mod PlaceLaws
 pub mod PreferredRead
 pub mod PrimerLaws
 pub mod RandomIndexLaws
+pub mod ReachLaws
 pub mod ReadingLaws
 pub mod RefusedLaws
 pub mod ResolvedLaws
@@ -52,3 +53,4 @@ pub mod SpanCounts
 pub mod SpanGaps
 pub mod StartLaws
 pub mod StartWalk
+pub mod StartsOrder

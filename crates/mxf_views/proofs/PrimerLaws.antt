@@ -66,7 +66,7 @@ found_first p (x ∷ copies) c d r e h t =
 
 -- ---- the primer at a start
 
-one_at : (notes : List NoteParts) (m n : NoteParts) → IsClear m notes → IsClear n notes → m.offset ≡ n.offset → m ≡ n
+pub one_at : (notes : List NoteParts) (m n : NoteParts) → IsClear m notes → IsClear n notes → m.offset ≡ n.offset → m ≡ n
 one_at notes m n c d e = clear_same notes m n c d (SharesByte-same_offset m n e)
 
 there_is : (notes : List NoteParts) (n : NoteParts) (primer : BatchParts) → IsClear n notes → IsPrimerOf n primer
@@ -79,7 +79,7 @@ there_is notes n primer c i =
     ap (option_and_then (read_as primer_at)) found ∙ (reads primer_at n primer).1 i.1
 
 -- the primer of a copy with a start
-start_of_copy : (notes : List NoteParts) (c : CopyInfo) (s : ℕ) → (i : IsCopy notes c) → c.start ≡ Some s
+pub start_of_copy : (notes : List NoteParts) (c : CopyInfo) (s : ℕ) → (i : IsCopy notes c) → c.start ≡ Some s
     → IsStart notes i.0.end s
 start_of_copy notes c s i e = subst (IsStartFound notes i.0.end) e i.2.start
 

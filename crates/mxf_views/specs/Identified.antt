@@ -1,30 +1,21 @@
 -- The sets of a copy by their instance identifiers (this project's profile).
-use Rattle.std.specs.Prelude.{◌≡◌, ℕ, Bool, if◌then◌else◌, Option, None, Some, List, [], ◌∷◌, filter, map, Result, Ok, Err}
+use Rattle.std.specs.Prelude.{◌≡◌, ℕ, Bool, Option, List, [], ◌∷◌, filter, map}
 use Rattle.std.specs.List.Sorted.{IsSortedByKey}
 use Rattle.std.specs.Option.{option_map}
 use Rattle.std.specs.Ordering.{is_lt, nat_cmp}
 use Rattle.std.specs.Cmp.Lexicographic.{slice_cmp}
 use Rattle.std.specs.Str.{bytes_eq}
 use Rattle.mxf_klv.specs.Parts.{NoteParts}
-use Rattle.mxf_klv.specs.Note.{keeps}
-use Rattle.mxf_sets.specs.declared.record.FieldFault.{FieldFault}
 use Rattle.mxf_sets.specs.Instance.{instance_uid_at}
+use Rattle.mxf_sets.specs.Readable.{read_as}
 use Rattle.mxf_views.specs.declared.reference.Found.{Found}
 use Rattle.mxf_views.specs.declared.reference.Found.TheVariants.{Absent, One, Several}
 use Rattle.mxf_views.specs.declared.reference.identified.Identified.{Identified}
 use Rattle.mxf_views.specs.References.{found_among, has_uid}
 
-abbrev pub uid_read : Result (List ℕ) FieldFault → Option (List ℕ)
-uid_read (Ok uid) = Some uid
-uid_read (Err fault) = None
-
--- The instance identifier of a set, where the set is kept and the identifier can be read.
-abbrev pub uid_of : NoteParts → Option (List ℕ)
-uid_of n = if keeps n.key n.length then uid_read (instance_uid_at n.held) else None
-
--- The set, where it has a readable identifier.
+-- The set with its instance identifier, where it is kept and the identifier can be read.
 abbrev pub with_uid : NoteParts → Option Identified
-with_uid n = option_map (λ uid. record { uid = uid; offset = n.offset }) (uid_of n)
+with_uid n = option_map (λ uid. record { uid = uid; offset = n.offset }) (read_as instance_uid_at n)
 
 -- It has the identifier.
 abbrev pub is_of : List ℕ → Identified → Bool
@@ -44,7 +35,8 @@ found_at [] = Absent
 found_at (offset ∷ []) = One offset
 found_at (offset ∷ other ∷ offsets) = Several
 
--- They are sorted, and of each identifier as many have it as of the sets; where it is one, it stands at the same offset.
+-- They are sorted, and of each identifier the same is found among them as among the sets: none, one, at the same offset,
+-- or more.
 pub record AreByUid (sets : List NoteParts) (es : List Identified) : Type 0 where
   pub sorted : AreSorted es
   pub found : (uid : List ℕ) → found_at (map (λ e. e.offset) (filter (is_of uid) es)) ≡ found_among (filter (has_uid uid) sets)

@@ -1,9 +1,9 @@
 -- What the views keep of the clear notes, and what an addition changes of it (this project's profile).
-use Rattle.std.specs.Prelude.{◌≡◌, ℕ, ◌-◌, ◌≤◌, ◌⊎◌, Bool, ◌&&◌, ◌||◌, ◌==◌, nat_le, nat_lt, if◌then◌else◌}
+use Rattle.std.specs.Prelude.{◌≡◌, ℕ, ◌+◌, ◌-◌, ◌≤◌, max, min, ◌⊎◌, Bool, ◌&&◌, ◌||◌, ◌==◌, nat_le, nat_lt, if◌then◌else◌}
 use Rattle.std.specs.Prelude.{◌<◌, count_by}
 use Rattle.std.specs.Vec.{vec_capacity, vec_len}
 use Rattle.std.specs.Prelude.{Option, None, Some, false, is_some, List, [], ◌∷◌, filter, find, map}
-use Rattle.std.specs.List.{filter_map}
+use Rattle.std.specs.List.{AllByRecursion, filter_map}
 use Rattle.std.specs.Option.{option_and_then}
 use Rattle.std.specs.Ordering.{nat_cmp}
 use Rattle.mxf_klv.specs.Parts.{NoteParts}
@@ -96,6 +96,35 @@ copies_followed notes offset start end brings copies =
     with_found (find (λ d. d.partition == offset) (copies_of notes))
     (map (renewed notes start end brings) (filter (λ c. is_outside start end c.partition) copies))
 
+-- Where a zone of so many bytes ends, at most at the greatest file offset; 0 without a start.
+abbrev pub reach_from : ℕ → Option ℕ → ℕ
+reach_from bytes None = 0
+reach_from bytes (Some start) = min (start + bytes) 18446744073709551615
+
+-- The same for the zone of the copy.
+abbrev pub reach_of : CopyInfo → ℕ
+reach_of c = reach_from c.bytes c.start
+
+-- For each copy the greatest of an offset, the end of its zone and those of the copies before it.
+abbrev pub reaches_from : ℕ → List CopyInfo → List ℕ
+reaches_from high [] = []
+reaches_from high (c ∷ copies) = max high (reach_of c) ∷ reaches_from (max high (reach_of c)) copies
+
+-- How far the copies reach: for each the greatest end of its zone and of the zones of those before it.
+abbrev pub reaches_of : List CopyInfo → List ℕ
+reaches_of copies = reaches_from 0 copies
+
+-- The one start is below the other, where there are both.
+abbrev pub IsStartBelow : Option ℕ → Option ℕ → Type 0
+IsStartBelow None other = Unit {0}
+IsStartBelow (Some start) None = Unit {0}
+IsStartBelow (Some start) (Some other) = start < other
+
+-- Each copy starts below all later ones, where both have a start.
+abbrev pub StartsRise : List CopyInfo → Type 0
+StartsRise [] = Unit {0}
+StartsRise (c ∷ copies) = AllByRecursion (λ d. IsStartBelow c.start d.start) copies × StartsRise copies
+
 abbrev pub passes : (NoteParts → Bool) → Option NoteParts → Bool
 passes test None = false
 passes test (Some n) = test n
@@ -114,12 +143,13 @@ followed there offset start end offsets =
 abbrev pub notes_at : List NoteParts → List ℕ → List NoteParts
 notes_at notes offsets = filter_map (λ o. find (λ n. n.offset == o) (clear_notes notes)) offsets
 
--- What is kept: where partitions, segments and random index packs stand, and the copies.
+-- What is kept: where partitions, segments and random index packs stand, the copies, and how far these reach.
 pub record KeptParts : Type 0 where
   pub partitions : List ℕ
   pub segments : List ℕ
   pub rips : List ℕ
   pub copies : List CopyInfo
+  pub reaches : List ℕ
 
 -- What is kept of a content.
 abbrev pub kept_of : List NoteParts → KeptParts
@@ -128,6 +158,7 @@ kept_of notes = record {
   segments = offsets_where (is_placed kinds.Segment) notes;
   rips = offsets_where (is_placed kinds.RandomIndexPack) notes;
   copies = copies_of notes;
+  reaches = reaches_of (copies_of notes);
 }
 
 abbrev pub kept_in : Kept → KeptParts
@@ -136,6 +167,7 @@ kept_in k = record {
   segments = k.segments.items;
   rips = k.random_index_packs.items;
   copies = k.copies.items;
+  reaches = k.reaches.items;
 }
 
 -- What is kept of a content fits without taking memory.
@@ -144,6 +176,7 @@ pub record HasRoom (notes : List NoteParts) (k : Kept) : Type 0 where
   pub segments : count_by (is_placed kinds.Segment) (clear_notes notes) ≤ vec_capacity k.segments
   pub rips : count_by (is_placed kinds.RandomIndexPack) (clear_notes notes) ≤ vec_capacity k.random_index_packs
   pub copies : count_by states_metadata (clear_notes notes) ≤ vec_capacity k.copies
+  pub reaches : count_by states_metadata (clear_notes notes) ≤ vec_capacity k.reaches
 
 -- One more of each fits without taking memory.
 pub record HasRoomForOne (k : Kept) : Type 0 where
@@ -151,6 +184,7 @@ pub record HasRoomForOne (k : Kept) : Type 0 where
   pub segments : vec_len k.segments < vec_capacity k.segments
   pub rips : vec_len k.random_index_packs < vec_capacity k.random_index_packs
   pub copies : vec_len k.copies < vec_capacity k.copies
+  pub reaches : vec_len k.reaches < vec_capacity k.reaches
 
 -- What has to be known of a note that is added to a content.
 pub record IsArrival (x : NoteParts) (notes : List NoteParts) (a : Arrival) : Type 0 where

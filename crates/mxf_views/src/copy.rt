@@ -134,18 +134,6 @@ pub(crate) fn copy_there(catalogue: &Catalogue, partition: u64) -> Option<CopyIn
     Some(copy_of(catalogue, &partition))
 }
 
-/// The first copy whose zone has the packet of the note.
-pub(crate) fn copy_with(copies: &[CopyInfo], note: &Note) -> Option<CopyInfo>
-    ensures { result ≡ find (is_in_copy note.now) copies.now }
-{
-    for copy in copies {
-        if copy.has(note) {
-            return Some(*copy);
-        }
-    }
-    None
-}
-
 /// The preferred one of copies.
 pub(crate) fn preferred(copies: &[CopyInfo]) -> Option<CopyInfo>
     ensures { result ≡ preferred_of copies.now }
@@ -161,7 +149,7 @@ pub(crate) fn preferred(copies: &[CopyInfo]) -> Option<CopyInfo>
 
 impl CopyInfo {
     /// Whether the packet of the note lies wholly in the zone.
-    fn has(&self, note: &Note) -> bool
+    pub(crate) fn has(&self, note: &Note) -> bool
         ensures { result ≡ is_in_copy note.now self.now }
     {
         match self.start {

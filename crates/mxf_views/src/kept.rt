@@ -13,12 +13,14 @@ pub(crate) mod above;
 pub(crate) mod arrival;
 pub(crate) mod copies;
 pub(crate) mod offsets;
+pub(crate) mod reaches;
 
 use crate::copy::CopyInfo;
 use crate::kept::above::{append_offsets, follow_copies_above};
 use crate::kept::arrival::Arrival;
 use crate::kept::copies::{count_copies, follow_copies, refill_copies};
 use crate::kept::offsets::{Placed, count, follow, refill, stands};
+use crate::kept::reaches::refill_reaches;
 use mxf_catalogue::Catalogue;
 use std::alloc::{AllocError, Global};
 
@@ -29,6 +31,8 @@ pub(crate) struct Kept {
     pub segments: Vec<u64>,
     pub random_index_packs: Vec<u64>,
     pub copies: Vec<CopyInfo>,
+    /// How far each copy and those before it reach.
+    pub reaches: Vec<u64>,
 }
 
 impl Kept {
@@ -41,6 +45,7 @@ impl Kept {
             segments: Vec::new(alloc),
             random_index_packs: Vec::new(alloc),
             copies: Vec::new(alloc),
+            reaches: Vec::new(alloc),
         }
     }
 
@@ -62,7 +67,8 @@ impl Kept {
         self.partitions.reserve(1)?;
         self.segments.reserve(1)?;
         self.random_index_packs.reserve(1)?;
-        self.copies.reserve(1)
+        self.copies.reserve(1)?;
+        self.reaches.reserve(1)
     }
 
     /// Makes room for what is kept of two catalogues, of which one is followed.
@@ -89,12 +95,16 @@ impl Kept {
             ≤ vec_capacity self.new.random_index_packs) }
         ensures copies { OnOk result (vec_len self.old.copies
             + count_by states_metadata (clear_notes other.now) ≤ vec_capacity self.new.copies) }
+        ensures reaches { OnOk result (vec_len self.old.reaches
+            + count_by states_metadata (clear_notes other.now) ≤ vec_capacity self.new.reaches) }
     {
         self.partitions.reserve(count(other, Placed::Partition))?;
         self.segments.reserve(count(other, Placed::Segment))?;
         self.random_index_packs
             .reserve(count(other, Placed::RandomIndexPack))?;
-        self.copies.reserve(count_copies(other))
+        let copies = count_copies(other);
+        self.copies.reserve(copies)?;
+        self.reaches.reserve(copies)
     }
 
     /// Puts what is kept of a catalogue in place of what is there, where there is room.
@@ -110,6 +120,7 @@ impl Kept {
             Placed::RandomIndexPack,
         );
         refill_copies(&mut self.copies, catalogue);
+        refill_reaches(&mut self.reaches, &self.copies);
     }
 
     /// Follows the arrival of notes that begin at the boundary or above, where there is room: from what is kept of the notes
@@ -129,6 +140,7 @@ impl Kept {
             Placed::RandomIndexPack,
         );
         follow_copies_above(&mut self.copies, catalogue, boundary);
+        refill_reaches(&mut self.reaches, &self.copies);
     }
 
     /// Follows the arrival of a note in a catalogue, where there is room: from what is kept of the notes before to what
@@ -148,6 +160,7 @@ impl Kept {
         follow(&mut self.segments, arrival, segment);
         follow(&mut self.random_index_packs, arrival, random_index_pack);
         follow_copies(&mut self.copies, catalogue, arrival);
+        refill_reaches(&mut self.reaches, &self.copies);
     }
 }
 

@@ -24,7 +24,7 @@ ghost use Rattle.mxf_views.specs.SameViews.{SameViews};
 
 use crate::chain::{Chain, Link, link_of};
 use crate::copy::sets::{Sets, no_sets, sets_of_copy};
-use crate::copy::{CopyInfo, copy_with, preferred, read_primer};
+use crate::copy::{CopyInfo, preferred, read_primer};
 use crate::finding::Findings;
 use crate::gap::Gaps;
 use crate::index::Segments;
@@ -33,6 +33,7 @@ use crate::kept::Kept;
 use crate::kept::above::boundary;
 use crate::kept::arrival::Arrival;
 use crate::kept::copies::copy_at;
+use crate::kept::reaches::copy_with;
 use crate::partition::{PartitionAt, Partitions, is_no_unreadable_pack, partition_there};
 use crate::placed::NotesAt;
 use crate::random_index::RipView;
@@ -326,7 +327,9 @@ impl Views {
     pub fn copy_with(&self, note: &Note) -> Option<CopyInfo>
         ensures { result ≡ find (is_in_copy note.now) (copies_of self.now) }
     {
-        copy_with(&self.kept.copies, note)
+        // What a catalogue lends says that its notes are those of a file.
+        let _notes = self.catalogue.notes();
+        copy_with(&self.kept.copies, &self.kept.reaches, note)
     }
 
     /// The primer pack at the start of the copy. None without a start, or where no clear primer pack that can be read

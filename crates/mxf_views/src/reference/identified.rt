@@ -3,7 +3,9 @@ ghost use Rattle.std.specs.Prelude.{◌≡◌, ◌==◌, ◌≤◌, true, false,
 ghost use Rattle.std.specs.List.{AllWithin, filter_map};
 ghost use Rattle.std.specs.Option.{option_copied};
 ghost use Rattle.mxf_catalogue.specs.Disputes.{clear_notes};
-ghost use Rattle.mxf_views.specs.Identified.{AreByUid, AreSorted, found_at, with_uid, is_below, is_of, uid_of};
+ghost use Rattle.mxf_sets.specs.Instance.{instance_uid_at};
+ghost use Rattle.mxf_sets.specs.Readable.{read_as};
+ghost use Rattle.mxf_views.specs.Identified.{AreByUid, AreSorted, found_at, is_below, is_of, with_uid};
 ghost use Rattle.mxf_views.specs.References.{found_in};
 
 use crate::copy::sets::Sets;
@@ -26,7 +28,7 @@ pub(crate) struct Identified {
 
 /// The instance identifier of a set, where the set is kept and the identifier can be read.
 fn uid_of(note: &Note) -> Option<Uuid>
-    ensures { result ≡ uid_of note.now }
+    ensures { result ≡ read_as instance_uid_at note.now }
 {
     match note.held() {
         Held::Whole(value) => instance_uid(value).ok(),

@@ -1,0 +1,134 @@
+-- How far copies reach, and the first of them that has a packet.
+use Rattle.std.proofs.Common.{◌≡◌, ℕ, zero, suc, ◌+◌, ◌<◌, ◌≤◌, Bool, true, false, List, [], ◌∷◌, Option, Some, None}
+use Rattle.std.proofs.Common.{refl, sym, ap, subst, arith, get_or, length, leb-true, le-leb, cond}
+use Rattle.std.specs.Prelude.{◌==◌, filter, find, map, max, nat_le, nat_lt}
+use Rattle.std.specs.Bool.{then_some}
+use Rattle.std.specs.List.{AllWithin}
+use Rattle.std.specs.List.Sorted.{IsNonDecreasing}
+use Rattle.std.proofs.lemmas.Bool.{leb-false}
+use Rattle.std.proofs.lemmas.List.{length-map}
+use Rattle.mxf_klv.specs.Parts.{NoteParts}
+use Rattle.mxf_klv.specs.Note.{end_of}
+use Rattle.mxf_catalogue.proofs.Lists.{find-none, length-filter_le}
+use Rattle.mxf_views.specs.declared.copy.CopyInfo.{CopyInfo}
+use Rattle.mxf_views.specs.Copies.{copies_of}
+use Rattle.mxf_views.specs.Kept.{IsStartBelow, StartsRise, copies_followed, is_outside, reach_from, reach_of, reaches_from, renewed, with_copy, with_found}
+use Rattle.mxf_views.specs.Labels.{is_in_copy, is_in_zone}
+use Rattle.mxf_views.proofs.Members.{all-each, both, false_if, parts}
+
+pub length-reaches_from : (high : ℕ) (cs : List CopyInfo) → length (reaches_from high cs) ≡ length cs
+length-reaches_from high [] = refl
+length-reaches_from high (c ∷ cs) = ap suc (length-reaches_from (max high (reach_of c)) cs)
+
+above_high : (high : ℕ) (cs : List CopyInfo) (i d : ℕ) → i < length (reaches_from high cs)
+    → high ≤ get_or (reaches_from high cs) i d
+above_high high [] i d h = absurd (omega arith)
+above_high high (c ∷ cs) zero d h = omega arith
+above_high high (c ∷ cs) (suc i) d h =
+    let m = above_high (max high (reach_of c)) cs i d (omega arith) in omega (arith, m)
+
+pub reaches_never_fall : (high : ℕ) (cs : List CopyInfo) → IsNonDecreasing (reaches_from high cs)
+reaches_never_fall high [] i j d l h = absurd (omega arith)
+reaches_never_fall high (c ∷ cs) zero zero d l h = omega arith
+reaches_never_fall high (c ∷ cs) zero (suc j) d l h = above_high (max high (reach_of c)) cs j d (omega arith)
+reaches_never_fall high (c ∷ cs) (suc i) zero d l h = absurd (omega arith)
+reaches_never_fall high (c ∷ cs) (suc i) (suc j) d l h =
+    reaches_never_fall (max high (reach_of c)) cs i j d (omega arith) (omega arith)
+
+-- A copy that ends below the packet's end doesn't have it.
+far_lacks : (n : NoteParts) (c : CopyInfo) → end_of n ≤ 18446744073709551615 → reach_of c < end_of n
+    → is_in_copy n c ≡ false
+far_lacks n c fits l =
+    elim (c.start) as (λ o. reach_from c.bytes o < end_of n → is_in_zone n c.bytes o ≡ false) [
+      | None ↦ λ h. refl
+      | Some s ↦ λ h. false_if (is_in_zone n c.bytes (Some s)) (λ t.
+          let m : end_of n ≤ s + c.bytes = leb-true (end_of n) (s + c.bytes)
+          (parts (nat_le s n.offset) (nat_le (end_of n) (s + c.bytes)) t).1 in omega (arith, fits, h, m))
+    ] l
+
+-- One that reaches the packet's end and doesn't have it starts behind the packet's offset.
+record StartsBehind (n : NoteParts) (c : CopyInfo) : Type 0 where
+  start : ℕ
+  begins : c.start ≡ Some start
+  behind : n.offset < start
+
+near_lacks : (n : NoteParts) (c : CopyInfo) → end_of n ≤ reach_of c → is_in_copy n c ≡ false → StartsBehind n c
+near_lacks n c l f =
+    elim (c.start) as (λ o. c.start ≡ o → end_of n ≤ reach_from c.bytes o → is_in_zone n c.bytes o ≡ false
+    → StartsBehind n c) [
+      | None ↦ λ e h g. absurd (omega (arith, h))
+      | Some s ↦ λ e h g. record {
+        start = s;
+        begins = e;
+        behind = leb-false s n.offset (false_if (nat_le s n.offset) (λ t.
+            let m : end_of n ≤ s + c.bytes = omega (arith, h) in
+            let has = both (nat_le s n.offset) (nat_le (end_of n) (s + c.bytes)) t (le-leb (end_of n) (s + c.bytes) m) in
+            cc (has, g)));
+      }
+    ] refl l f
+
+-- So do all later ones.
+later_lacks : (n : NoteParts) (c d : CopyInfo) → StartsBehind n c → IsStartBelow c.start d.start → is_in_copy n d ≡ false
+later_lacks n c d b l =
+    let below : IsStartBelow (Some b.start) d.start = subst (λ o. IsStartBelow o d.start) b.begins l in
+    let behind : n.offset < b.start = b.behind in
+    elim (d.start) as (λ o. IsStartBelow (Some b.start) o → is_in_zone n d.bytes o ≡ false) [
+      | None ↦ λ h. refl
+      | Some t ↦ λ h. false_if (is_in_zone n d.bytes (Some t)) (λ u.
+          let m : t ≤ n.offset = leb-true t n.offset
+          (parts (nat_le t n.offset) (nat_le (end_of n) (t + d.bytes)) u).0 in omega (arith, h, m, behind))
+    ] below
+
+-- None has the packet where all end below its end.
+pub none_reaches : (n : NoteParts) (high : ℕ) (cs : List CopyInfo) (at : ℕ) → end_of n ≤ 18446744073709551615
+    → AllWithin (λ r. r < end_of n) (reaches_from high cs) 0 at → length cs ≤ at → find (is_in_copy n) cs ≡ None
+none_reaches n high [] at fits a l = refl
+none_reaches n high (c ∷ cs) zero fits a l = absurd (omega arith)
+none_reaches n high (c ∷ cs) (suc at) fits a l =
+    let first : max high (reach_of c) < end_of n = a 0 0 (omega arith) (omega arith) in
+    let lacks : is_in_copy n c ≡ false = far_lacks n c fits (omega (arith, first)) in
+    rw lacks (none_reaches n (max high (reach_of c)) cs at fits
+    (λ k d m h. a (suc k) d (omega arith) (omega arith)) (omega arith))
+
+-- Else the first that reaches it tells.
+pub first_reaches : (n : NoteParts) (high : ℕ) (cs : List CopyInfo) (at : ℕ) (d : CopyInfo)
+    → end_of n ≤ 18446744073709551615 → StartsRise cs → high < end_of n → at < length cs
+    → AllWithin (λ r. r < end_of n) (reaches_from high cs) 0 at → end_of n ≤ get_or (reaches_from high cs) at 0
+    → then_some (is_in_copy n (get_or cs at d)) (get_or cs at d) ≡ find (is_in_copy n) cs
+first_reaches n high [] at d fits r h l a b = absurd (omega arith)
+first_reaches n high (c ∷ cs) zero d fits r h l a b =
+    let near : end_of n ≤ reach_of c = omega (arith, b, h) in
+    elim (is_in_copy n c) as (λ t. is_in_copy n c ≡ t → then_some t c ≡ cond t (Some c) (find (is_in_copy n) cs)) [
+      | true ↦ λ t. refl
+      | false ↦ λ t. sym (find-none (is_in_copy n) cs (λ x k u.
+          let below = all-each (λ (x : CopyInfo). IsStartBelow c.start x.start) cs x r.0 k in
+          let lacks = later_lacks n c x (near_lacks n c near t) below in cc (lacks, u)))
+    ] refl
+first_reaches n high (c ∷ cs) (suc at) d fits r h l a b =
+    let first : max high (reach_of c) < end_of n = a 0 0 (omega arith) (omega arith) in
+    let lacks : is_in_copy n c ≡ false = far_lacks n c fits (omega (arith, first)) in
+    rw lacks (first_reaches n (max high (reach_of c)) cs at d fits r.1 first (omega arith)
+    (λ k d m h. a (suc k) d (omega arith) (omega arith)) b)
+
+-- An arrival brings one copy at most.
+length-with_copy : (c : CopyInfo) (cs : List CopyInfo) → length (with_copy c cs) ≡ suc (length cs)
+length-with_copy c [] = refl
+length-with_copy c (d ∷ cs) =
+    elim (nat_lt c.partition d.partition) as (λ b. length (cond b (c ∷ d ∷ cs) (d ∷ with_copy c cs)) ≡ suc (suc (length cs))) [
+      | true ↦ refl
+      | false ↦ ap suc (length-with_copy c cs)
+    ]
+
+length-with_found : (o : Option CopyInfo) (cs : List CopyInfo) → length (with_found o cs) ≤ length cs + 1
+length-with_found None cs = omega arith
+length-with_found (Some c) cs = let l = length-with_copy c cs in omega (arith, l)
+
+pub length-copies_followed : (notes : List NoteParts) (offset start end : ℕ) (brings : Bool) (cs : List CopyInfo)
+    → length (copies_followed notes offset start end brings cs) ≤ length cs + 1
+length-copies_followed notes offset start end brings cs =
+    let outside = filter (λ (c : CopyInfo). is_outside start end c.partition) cs in
+    let l = length-with_found (find (λ (d : CopyInfo). d.partition == offset) (copies_of notes))
+    (map (renewed notes start end brings) outside) in
+    let m = length-map outside (renewed notes start end brings) in
+    let f = length-filter_le (λ (c : CopyInfo). is_outside start end c.partition) cs in
+    omega (arith, l, m, f)

@@ -1,0 +1,100 @@
+-- The copies of a content start one behind another: behind the pack of each partition and before that of the next one.
+use Rattle.std.proofs.Common.{◌≡◌, ℕ, ◌<◌, ◌≤◌, true, false, List, [], ◌∷◌, Option, Some, None, refl}
+use Rattle.std.proofs.Common.{ap, ◌∙◌, inl, inr, arith}
+use Rattle.std.specs.Prelude.{if◌then◌else◌}
+use Rattle.std.specs.Option.{option_map}
+use Rattle.std.specs.Result.{result_ok}
+use Rattle.std.proofs.lemmas.Bool.{cases_lt, cases_order}
+use Rattle.mxf_klv.specs.Parts.{NoteParts}
+use Rattle.mxf_klv.specs.Kind.{kind_of}
+use Rattle.mxf_klv.specs.Note.{IsInSpan, end_of, keeps}
+use Rattle.mxf_klv.specs.Rising.{In}
+use Rattle.mxf_sets.specs.PackReadings.{pack_under, part_and_status}
+use Rattle.mxf_catalogue.specs.Content.{IsContent}
+use Rattle.mxf_catalogue.proofs.DisputeLaws.{In-clear_notes}
+use Rattle.mxf_views.specs.declared.copy.CopyInfo.{CopyInfo}
+use Rattle.mxf_views.specs.Copies.{CopiesRise, copies_of}
+use Rattle.mxf_views.specs.Kept.{IsStartBelow, StartsRise}
+use Rattle.mxf_views.specs.Partitions.{PartitionParts, pack_of, partition_at}
+use Rattle.mxf_views.proofs.CopyLaws.{copies_are, copies_rise}
+use Rattle.mxf_views.proofs.CopyUpdates.{end-partition_at, low_in}
+use Rattle.mxf_views.proofs.Members.{each-all, none_some}
+use Rattle.mxf_views.proofs.PartitionSearch.{of_note}
+use Rattle.mxf_views.proofs.PrimerLaws.{one_at, start_of_copy}
+use Rattle.mxf_views.proofs.StartLaws.{clear_same}
+
+-- A note whose kind isn't that of a partition pack is no partition.
+no_pack : (n : NoteParts) → part_and_status (kind_of n.key) ≡ None → pack_of n ≡ None
+no_pack n e =
+    elim (keeps n.key n.length) as (λ k.
+    (if k then result_ok (pack_under (part_and_status (kind_of n.key)) n.held) else None) ≡ None) [
+      | false ↦ refl
+      | true ↦ ap (λ o. result_ok (pack_under o n.held)) e
+    ]
+
+no_partition : (n : NoteParts) (p : PartitionParts) → part_and_status (kind_of n.key) ≡ None
+    → partition_at n ≡ Some p → ⊥
+unfolding partition_at
+no_partition n p e q =
+    none_some _ p (ap (option_map (λ pack. record { offset = n.offset; end = end_of n; pack = pack })) (no_pack n e)) q
+
+first_byte : (n : NoteParts) → IsInSpan n n.offset
+first_byte n = record { from = omega arith; before = omega arith }
+
+-- A copy starts below the start of each later one.
+pub starts_in_order : (notes : List NoteParts) (c d : CopyInfo) (s t : ℕ) → IsContent notes → In c (copies_of notes)
+    → In d (copies_of notes) → c.partition < d.partition → c.start ≡ Some s → d.start ≡ Some t → s < t
+starts_in_order notes c d s t r h k l e f =
+    let ic = (copies_are notes c r).0 h in
+    let id = (copies_are notes d r).0 k in
+    let a = start_of_copy notes c s ic e in
+    let b = start_of_copy notes d t id f in
+    let m = of_note notes ic.0 ic.1 in
+    let n = of_note notes id.0 id.1 in
+    let cm = (In-clear_notes m.note notes).0 m.clear in
+    let cn = (In-clear_notes n.note notes).0 n.clear in
+    let at_m : c.partition ≡ m.note.offset = ic.2.partition ∙ m.offset in
+    let at_n : d.partition ≡ n.note.offset = id.2.partition ∙ n.offset in
+    let low : m.note.offset < n.note.offset = omega (arith, l, at_m, at_n) in
+    let end_m : ic.0.end ≡ end_of m.note = end-partition_at m.note ic.0 m.read in
+    let end_n : id.0.end ≡ end_of n.note = end-partition_at n.note id.0 n.read in
+    let behind : end_of m.note ≤ n.note.offset = elim (cases_lt n.note.offset (end_of m.note)) [
+      | inl u ↦ (
+          let inside : IsInSpan m.note n.note.offset = record { from = omega (arith, low); before = omega (arith, u) } in
+          let same = clear_same notes m.note n.note cm cn (n.note.offset, inside, first_byte n.note) in
+          let equal : m.note.offset ≡ n.note.offset = ap (λ (x : NoteParts). x.offset) same in
+          absurd (omega (arith, equal, low)))
+      | inr u ↦ u
+    ] in
+    let after : id.0.end ≤ t = b.after in
+    elim (cases_order s n.note.offset) [
+      | inl u ↦ (
+          let there : a.primer.offset ≡ n.note.offset = a.there ∙ u in
+          let same = one_at notes a.primer n.note a.clear cn there in
+          let kind : part_and_status (kind_of a.primer.key) ≡ None = ap part_and_status a.readable.1.0 in
+          absurd (no_partition a.primer id.0 kind (ap partition_at same ∙ n.read)))
+      | inr (inl u) ↦ omega (arith, u, end_n, after)
+      | inr (inr u) ↦ (
+          let fill = a.filled n.note.offset (omega (arith, behind, end_m)) u in
+          let same = clear_same notes fill.fill n.note fill.clear cn (n.note.offset, fill.within, first_byte n.note) in
+          let kind : part_and_status (kind_of fill.fill.key) ≡ None = ap part_and_status fill.kind in
+          absurd (no_partition fill.fill id.0 kind (ap partition_at same ∙ n.read)))
+    ]
+
+below_by : (o u : Option ℕ) → ((s t : ℕ) → o ≡ Some s → u ≡ Some t → s < t) → IsStartBelow o u
+below_by None u f = tt
+below_by (Some s) None f = tt
+below_by (Some s) (Some t) f = f s t refl refl
+
+rise_in : (notes : List NoteParts) (cs : List CopyInfo) → IsContent notes → CopiesRise cs
+    → ((c : CopyInfo) → In c cs → In c (copies_of notes)) → StartsRise cs
+rise_in notes [] r rising all = tt
+rise_in notes (c ∷ cs) r rising all = (
+  each-all (λ (d : CopyInfo). IsStartBelow c.start d.start) cs (λ d h.
+      below_by c.start d.start (λ s t e f.
+      starts_in_order notes c d s t r (all c (inl refl)) (all d (inr h)) (low_in c.partition cs d rising.0 h) e f)),
+  rise_in notes cs r rising.1 (λ d h. all d (inr h)),
+)
+
+pub starts_rise : (notes : List NoteParts) → IsContent notes → StartsRise (copies_of notes)
+starts_rise notes r = rise_in notes (copies_of notes) r (copies_rise notes r) (λ c h. h)
