@@ -1,5 +1,5 @@
 //! Views of a catalogue.
-ghost use Rattle.std.specs.Prelude.{◌≡◌, ◌≢◌, ◌↔◌, ◌==◌, ◌||◌, List, not, ◌<◌, ◌^◌, length, count_by, [], IfErr, IfOk, OnOk, OnErr};
+ghost use Rattle.std.specs.Prelude.{◌≡◌, ◌≢◌, ◌↔◌, ◌==◌, ◌||◌, List, filter, not, ◌<◌, ◌^◌, length, count_by, [], IfErr, IfOk, OnOk, OnErr};
 ghost use Rattle.std.specs.List.{list_all};
 ghost use Rattle.mxf_catalogue.specs.Disputes.{SharesByte, clear_notes};
 ghost use Rattle.mxf_klv.specs.Parts.{NoteParts};
@@ -31,7 +31,7 @@ use crate::index::Segments;
 use crate::index::place::{BadUnit, GREATEST_UNIT, Place};
 use crate::kept::Kept;
 use crate::kept::arrival::Arrival;
-use crate::partition::{PartitionAt, Partitions, is_no_unreadable_pack, partition_there};
+use crate::partition::{PartitionAt, Partitions, partition_there};
 use crate::placed::NotesAt;
 use crate::random_index::RipView;
 use crate::reference::resolved::{Resolved, preface_among, resolved_by};
@@ -252,9 +252,14 @@ impl Views {
     fn has_readable_packs(&self) -> bool
         ensures { result ≡ list_all is_no_unreadable_pack (clear_notes self.now) }
     {
-        self.catalogue
-            .clear()
-            .all(|note| is_no_unreadable_pack(note))
+        self.kept.unreadable_packs.is_empty()
+    }
+
+    /// The clear partition packs that aren't readable, rising.
+    pub(crate) fn unreadable_packs(&self) -> NotesAt<'_>
+        ensures { result ≡ filter (λ n. not (is_no_unreadable_pack n)) (clear_notes self.now) }
+    {
+        NotesAt::of(&self.catalogue, &self.kept.unreadable_packs)
     }
 
     /// The gaps: the maximal ranges of bytes below the greatest end of a note that lie in no note.

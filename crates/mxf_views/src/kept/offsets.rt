@@ -10,7 +10,7 @@ ghost use Rattle.mxf_views.specs.declared.kept.offsets.Placed.{Placed};
 use super::push;
 use crate::index::placed_segment;
 use crate::kept::arrival::Arrival;
-use crate::partition::partition_at;
+use crate::partition::{is_no_unreadable_pack, partition_at};
 use crate::random_index::is_rip;
 use mxf_catalogue::Catalogue;
 use mxf_klv::Note;
@@ -21,6 +21,7 @@ pub(crate) enum Placed {
     Partition,
     Segment,
     RandomIndexPack,
+    UnreadablePack,
 }
 
 impl Placed {
@@ -32,6 +33,7 @@ impl Placed {
             Placed::Partition => partition_at(note).is_some(),
             Placed::Segment => placed_segment(note).is_some(),
             Placed::RandomIndexPack => is_rip(note),
+            Placed::UnreadablePack => !is_no_unreadable_pack(note),
         }
     }
 }
