@@ -7,7 +7,7 @@ ghost use Rattle.mxf_klv.specs.Rising.{In};
 ghost use Rattle.mxf_catalogue.specs.Content.{has_note, with_note, union_of};
 ghost use Rattle.mxf_catalogue.specs.History.{History, Add, Join, Of, content};
 ghost use Rattle.mxf_catalogue.specs.Moved.{TellsMoved};
-ghost use Rattle.mxf_views.specs.Partitions.{partitions_of, link_of, link_at, is_linked, chain_of, is_header, is_footer, is_greatest, is_no_unreadable_pack};
+ghost use Rattle.mxf_views.specs.Partitions.{partitions_of, link_of, link_at, is_linked, chain_of, is_header, is_footer, is_greatest, is_no_unreadable_pack, stands_above};
 ghost use Rattle.mxf_views.specs.Gaps.{gaps_of};
 ghost use Rattle.mxf_views.specs.Copies.{copies_of, preferred_of, sets_of};
 ghost use Rattle.mxf_views.specs.Labels.{primer_for, primer_of, primer_there};
@@ -31,6 +31,7 @@ use crate::index::Segments;
 use crate::index::place::{BadUnit, GREATEST_UNIT, Place};
 use crate::kept::Kept;
 use crate::kept::arrival::Arrival;
+use crate::kept::offsets::any_above;
 use crate::partition::{PartitionAt, Partitions, partition_there};
 use crate::placed::NotesAt;
 use crate::random_index::RipView;
@@ -241,12 +242,21 @@ impl Views {
     {
         for partition in self.partitions() {
             if partition.pack.part() == PackPart::Footer
-                && self.partitions().any_above(partition.offset)
+                && self.any_partition_above(partition.offset)
             {
                 return false;
             }
         }
         true
+    }
+
+    /// Whether a partition stands above a file offset.
+    fn any_partition_above(&self, offset: u64) -> bool
+        ensures { result ≡ stands_above offset (partitions_of self.now) }
+    {
+        // What a catalogue lends says that its notes stand in their order.
+        let _notes = self.catalogue.notes();
+        any_above(&self.kept.partitions, offset)
     }
 
     fn has_readable_packs(&self) -> bool

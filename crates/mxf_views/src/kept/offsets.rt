@@ -1,5 +1,5 @@
 //! Where clear notes of a kind stand, as file offsets that rise.
-ghost use Rattle.std.specs.Prelude.{◌≡◌, ◌<◌, ◌≤◌, count_by, filter, length, vec_len, vec_capacity};
+ghost use Rattle.std.specs.Prelude.{◌≡◌, ◌<◌, ◌≤◌, count_by, filter, length, nat_lt, vec_len, vec_capacity};
 ghost use Rattle.std.specs.List.{AllWithin, list_any};
 ghost use Rattle.std.specs.Ordering.{nat_cmp};
 ghost use Rattle.mxf_klv.specs.Rising.{IsRising, with_one};
@@ -112,6 +112,17 @@ fn offsets_up_to(offsets: &[u64], offset: u64) -> usize
     ensures above { AllWithin (λ o. offset < o) offsets.now result (length offsets.now) }
 {
     offsets.partition_point(|other| *other <= offset)
+}
+
+/// Whether one of the offsets lies above another: the last tells.
+pub(crate) fn any_above(offsets: &[u64], low: u64) -> bool
+    requires { IsRising nat_cmp offsets.now }
+    ensures { result ≡ list_any (nat_lt low) offsets.now }
+{
+    match offsets.last() {
+        Some(offset) => low < *offset,
+        None => false,
+    }
 }
 
 /// Whether one of the offsets lies between two others: the first above the lower one tells.
