@@ -17,49 +17,53 @@ use Rattle.mxf_views.proofs.ClearChanges.{notes_at_offsets, offsets_follow}
 use Rattle.mxf_views.proofs.CopyUpdates.{copies_follow}
 use Rattle.mxf_views.proofs.ListSteps.{filter_map_some}
 
-abbrev pub the_kept : List ℕ → List ℕ → List ℕ → List CopyInfo → KeptParts
-the_kept ps ss rs cs = record { partitions = ps; segments = ss; rips = rs; copies = cs; reaches = reaches_of cs }
+abbrev pub the_kept : List ℕ → List ℕ → List ℕ → List ℕ → List CopyInfo → KeptParts
+the_kept ps ss rs us cs =
+    record { partitions = ps; segments = ss; rips = rs; unreadable = us; copies = cs; reaches = reaches_of cs }
 
 -- A note that is held changes nothing.
 pub with_note_held : (n : NoteParts) (notes : List NoteParts) → IsContent notes → In n notes → with_note n notes ≡ notes
 with_note_held n notes r h = with_one_present note_total note_cmp-IsAntisymmetric n notes r h
 
 -- What is kept of no note.
-pub kept_of_none : kept_of [] ≡ record { partitions = []; segments = []; rips = []; copies = []; reaches = [] }
+pub kept_of_none : kept_of [] ≡ the_kept [] [] [] [] []
 unfolding copies_of partitions_of
 kept_of_none = refl
 
 -- What reaches as far as the copies is kept with them.
-pub with_reaches : (ps ss rs hs : List ℕ) (cs : List CopyInfo) → hs ≡ reaches_of cs
-    → record { partitions = ps; segments = ss; rips = rs; copies = cs; reaches = hs } ≡ the_kept ps ss rs cs
-with_reaches ps ss rs hs cs e =
-    ap (λ x. record { partitions = ps; segments = ss; rips = rs; copies = cs; reaches = x }) e
+pub with_reaches : (ps ss rs us hs : List ℕ) (cs : List CopyInfo) → hs ≡ reaches_of cs
+    → record { partitions = ps; segments = ss; rips = rs; unreadable = us; copies = cs; reaches = hs }
+    ≡ the_kept ps ss rs us cs
+with_reaches ps ss rs us hs cs e =
+    ap (λ x. record { partitions = ps; segments = ss; rips = rs; unreadable = us; copies = cs; reaches = x }) e
 
-pub same_kept : (ps qs ss ts rs us : List ℕ) (cs ds : List CopyInfo) → ps ≡ qs → ss ≡ ts → rs ≡ us → cs ≡ ds
-    → the_kept ps ss rs cs ≡ the_kept qs ts us ds
-same_kept ps qs ss ts rs us cs ds p s r c =
-    ap (λ x. the_kept x ss rs cs) p ∙ ap (λ x. the_kept qs x rs cs) s ∙ ap (λ x. the_kept qs ts x cs) r
-    ∙ ap (the_kept qs ts us) c
+pub same_kept : (ps qs ss ts rs rt us ut : List ℕ) (cs ds : List CopyInfo) → ps ≡ qs → ss ≡ ts → rs ≡ rt → us ≡ ut
+    → cs ≡ ds → the_kept ps ss rs us cs ≡ the_kept qs ts rt ut ds
+same_kept ps qs ss ts rs rt us ut cs ds p s r u c =
+    ap (λ x. the_kept x ss rs us cs) p ∙ ap (λ x. the_kept qs x rs us cs) s ∙ ap (λ x. the_kept qs ts x us cs) r
+    ∙ ap (λ x. the_kept qs ts rt x cs) u ∙ ap (the_kept qs ts rt ut) c
 
 -- Once a note has arrived.
 pub kept_after : (x : NoteParts) (notes after : List NoteParts) (start end offset : ℕ) (brings : Bool)
-    (ps ss rs : List ℕ) (cs : List CopyInfo) → IsContent notes → (In x notes → ⊥) → IsHull x notes start end
-    → after ≡ with_note x notes → offset ≡ x.offset → brings ≡ can_bring_start x → the_kept ps ss rs cs ≡ kept_of notes
+    (ps ss rs us : List ℕ) (cs : List CopyInfo) → IsContent notes → (In x notes → ⊥) → IsHull x notes start end
+    → after ≡ with_note x notes → offset ≡ x.offset → brings ≡ can_bring_start x → the_kept ps ss rs us cs ≡ kept_of notes
     → the_kept (followed (stands_clear (is_placed kinds.Partition) after offset) offset start end ps)
     (followed (stands_clear (is_placed kinds.Segment) after offset) offset start end ss)
     (followed (stands_clear (is_placed kinds.RandomIndexPack) after offset) offset start end rs)
+    (followed (stands_clear (is_placed kinds.UnreadablePack) after offset) offset start end us)
     (copies_followed after offset start end brings cs)
     ≡ kept_of after
-kept_after x notes after start end offset brings ps ss rs cs r new h e at can k =
+kept_after x notes after start end offset brings ps ss rs us cs r new h e at can k =
     let one = λ (kind : _) (os : List ℕ) (same : os ≡ offsets_where (is_placed kind) notes).
     ap (λ a. followed (stands_clear (is_placed kind) a offset) offset start end os) e
     ∙ ap (λ o. followed (stands_clear (is_placed kind) (with_note x notes) o) o start end os) at
     ∙ ap (followed (stands_clear (is_placed kind) (with_note x notes) x.offset) x.offset start end) same
     ∙ offsets_follow (is_placed kind) x notes start end r new h
     ∙ ap (offsets_where (is_placed kind)) (sym e) in
-    same_kept _ _ _ _ _ _ _ _ (one kinds.Partition ps (ap (λ (k : KeptParts). k.partitions) k))
+    same_kept _ _ _ _ _ _ _ _ _ _ (one kinds.Partition ps (ap (λ (k : KeptParts). k.partitions) k))
     (one kinds.Segment ss (ap (λ (k : KeptParts). k.segments) k))
     (one kinds.RandomIndexPack rs (ap (λ (k : KeptParts). k.rips) k))
+    (one kinds.UnreadablePack us (ap (λ (k : KeptParts). k.unreadable) k))
     (ap (λ a. copies_followed a offset start end brings cs) e
     ∙ ap (λ o. copies_followed (with_note x notes) o start end brings cs) at
     ∙ ap (λ b. copies_followed (with_note x notes) x.offset start end b cs) can

@@ -103,11 +103,13 @@ pub room_for_both : {E : Type 0} (own other : List NoteParts) (old k : Kept) (re
     ≤ vec_capacity k.segments)
     → OnOk result (vec_len old.random_index_packs + count_by (is_placed kinds.RandomIndexPack) (clear_notes other)
     ≤ vec_capacity k.random_index_packs)
+    → OnOk result (vec_len old.unreadable_packs + count_by (is_placed kinds.UnreadablePack) (clear_notes other)
+    ≤ vec_capacity k.unreadable_packs)
     → OnOk result (vec_len old.copies + count_by states_metadata (clear_notes other) ≤ vec_capacity k.copies)
     → OnOk result (vec_len old.reaches + count_by states_metadata (clear_notes other) ≤ vec_capacity k.reaches)
     → OnOk result (HasRoom (union_of own other) k)
-room_for_both own other old k (Err e) r s keeps a b c d f = tt
-room_for_both own other old k (Ok u) r s keeps a b c d f =
+room_for_both own other old k (Err e) r s keeps a b c u d f = tt
+room_for_both own other old k (Ok done) r s keeps a b c u d f =
     let one = λ (kind : _) (len cap : ℕ) (os : List ℕ) (l : len ≡ length os)
     (same : os ≡ offsets_where (is_placed kind) own)
     (room : len + count_by (is_placed kind) (clear_notes other) ≤ cap).
@@ -122,6 +124,8 @@ room_for_both own other old k (Ok u) r s keeps a b c d f =
           old.segments.ok.0 (ap (λ (p : KeptParts). p.segments) keeps) b;
       rips = one kinds.RandomIndexPack old.random_index_packs.len (vec_capacity k.random_index_packs)
           old.random_index_packs.items old.random_index_packs.ok.0 (ap (λ (p : KeptParts). p.rips) keeps) c;
+      unreadable = one kinds.UnreadablePack old.unreadable_packs.len (vec_capacity k.unreadable_packs)
+          old.unreadable_packs.items old.unreadable_packs.ok.0 (ap (λ (p : KeptParts). p.unreadable) keeps) u;
       copies =
           (let number = ap length (ap (λ (p : KeptParts). p.copies) keeps) ∙ length-kept_copies own in
           let both = count_in_union states_metadata own other r s in

@@ -1,5 +1,5 @@
 -- Offsets that rise, searched.
-use Rattle.std.proofs.Common.{◌≡◌, ℕ, zero, suc, ◌<◌, ◌≤◌, true, false, cond, List, [], ◌∷◌, refl, sym, ap, ◌∙◌, inl, inr, arith, get_or, length}
+use Rattle.std.proofs.Common.{◌≡◌, ℕ, Bool, ◌+◌, zero, suc, ◌<◌, ◌≤◌, true, false, cond, List, [], ◌∷◌, refl, sym, ap, ◌∙◌, inl, inr, arith, get_or, length}
 use Rattle.std.specs.Prelude.{◌==◌, nat_lt, is_some, Some, None}
 use Rattle.std.specs.List.{AllWithin, list_any}
 use Rattle.std.specs.List.Sorted.{IsNonDecreasingBy}
@@ -15,7 +15,7 @@ use Rattle.mxf_catalogue.proofs.Places.{In-at}
 use Rattle.mxf_catalogue.proofs.Ranges.{by_places}
 use Rattle.mxf_views.specs.declared.kept.offsets.Placed.TheVariants as kinds
 use Rattle.mxf_views.specs.Kept.{is_placed, lies_between, offsets_where}
-use Rattle.mxf_views.specs.Partitions.{PartitionParts, partition_at, partitions_of, stands_between}
+use Rattle.mxf_views.specs.Partitions.{PartitionParts, partition_at, partitions_of, stands_above, stands_between}
 use Rattle.mxf_views.proofs.ClearChanges.{In-offsets}
 use Rattle.mxf_views.proofs.Members.{both, false_if, parts}
 use Rattle.mxf_views.proofs.PartitionLaws.{offset-partition_at}
@@ -45,6 +45,33 @@ pub offsets_never_fall : (xs : List ℕ) → IsRising nat_cmp xs → IsNonDecrea
 offsets_never_fall xs r i j d l h =
     by_places (λ i j. get_or xs i d ≤ get_or xs j d) i j l (λ k. omega arith)
     (λ t. let m : get_or xs i d < get_or xs j d = rising_places xs i j d r t h in omega arith)
+
+-- None lies above the last.
+at_most_last : (xs : List ℕ) (y k d : ℕ) → IsRising nat_cmp xs → k + 1 ≡ length xs → In y xs → y ≤ get_or xs k d
+at_most_last [] y k d r l h = absurd h
+at_most_last (x ∷ []) y zero d r l (inl e) = omega (arith, e)
+at_most_last (x ∷ []) y zero d r l (inr h) = absurd h
+at_most_last (x ∷ z ∷ xs) y zero d r l h = absurd (omega (arith, l))
+at_most_last (x ∷ xs) y (suc k) d r l (inl e) =
+    let a : x < get_or xs k d = above_first x (get_or xs k d) xs r (In-at xs k d (omega (arith, l))) in
+    omega (arith, a, e)
+at_most_last (x ∷ xs) y (suc k) d r l (inr h) = at_most_last xs y k d r.1 (omega (arith, l)) h
+
+-- So the last tells whether one lies above another offset.
+pub last_above : (low : ℕ) (xs : List ℕ) (k d : ℕ) → IsRising nat_cmp xs → k + 1 ≡ length xs
+    → nat_lt low (get_or xs k d) ≡ list_any (nat_lt low) xs
+last_above low xs k d r l =
+    same_bool (nat_lt low (get_or xs k d)) (list_any (nat_lt low) xs)
+    (λ t. (list_any-In (nat_lt low) xs).1 (get_or xs k d, In-at xs k d (omega (arith, l)), t))
+    (λ t.
+    let s = (list_any-In (nat_lt low) xs).0 t in
+    let a : s.0 ≤ get_or xs k d = at_most_last xs s.0 k d r l s.1 in
+    let b : low < s.0 = ltb-true low s.0 s.2 in
+    lt-ltb low (get_or xs k d) (omega (arith, a, b)))
+
+pub none_above : (low : ℕ) (xs : List ℕ) → length xs ≤ 0 → list_any (nat_lt low) xs ≡ false
+none_above low [] l = refl
+none_above low (x ∷ xs) l = absurd (omega (arith, l))
 
 -- None lies between where all are at or below the lower one.
 pub none_between : (low high : ℕ) (xs : List ℕ) (i : ℕ) → length xs ≤ i → AllWithin (λ o. o ≤ low) xs 0 i
@@ -81,16 +108,16 @@ first_between low high (x ∷ xs) (suc i) d r l f g =
     rw no (first_between low high xs i d r.1 (omega arith)
     (λ k e a b. f (suc k) e (omega arith) (omega arith)) (λ k e a b. g (suc k) e (omega arith) (omega arith)))
 
--- A partition stands between two offsets where its offset lies between them.
-pub between_offsets : (notes : List NoteParts) (low high : ℕ)
-    → list_any (lies_between low high) (offsets_where (is_placed kinds.Partition) notes)
-    ≡ stands_between low high (partitions_of notes)
-between_offsets notes low high =
+-- A partition passes a test of its offset where one of the offsets passes it.
+tested_offsets : (by : ℕ → Bool) (notes : List NoteParts)
+    → list_any by (offsets_where (is_placed kinds.Partition) notes)
+    ≡ list_any (λ p. by p.offset) (partitions_of notes)
+tested_offsets by notes =
     let offsets = offsets_where (is_placed kinds.Partition) notes in
-    let test = λ (p : PartitionParts). lies_between low high p.offset in
-    same_bool (list_any (lies_between low high) offsets) (list_any test (partitions_of notes))
+    let test = λ (p : PartitionParts). by p.offset in
+    same_bool (list_any by offsets) (list_any test (partitions_of notes))
     (λ t.
-    let s = (list_any-In (lies_between low high) offsets).0 t in
+    let s = (list_any-In by offsets).0 t in
     let k = (In-offsets (is_placed kinds.Partition) notes s.0).0 s.1 in
     elim (partition_at k.0) as (λ o. partition_at k.0 ≡ o → is_some o ≡ true
     → list_any test (partitions_of notes) ≡ true) [
@@ -100,15 +127,26 @@ between_offsets notes low high =
           (list_any-In test (partitions_of notes)).1 (
             p,
             is_there notes k.0 p ((In-clear_notes k.0 notes).1 k.1) u,
-            ap (lies_between low high) (sym at) ∙ s.2,
+            ap by (sym at) ∙ s.2,
           )
     ] refl k.2)
     (λ t.
     let s = (list_any-In test (partitions_of notes)).0 t in
     let a = of_note notes s.0 s.1 in
-    (list_any-In (lies_between low high) offsets).1 (
+    (list_any-In by offsets).1 (
       s.0.offset,
       (In-offsets (is_placed kinds.Partition) notes s.0.offset).1
           (a.note, (In-clear_notes a.note notes).0 a.clear, ap is_some a.read, a.offset),
       s.2,
     ))
+
+-- A partition stands between two offsets where its offset lies between them.
+pub between_offsets : (notes : List NoteParts) (low high : ℕ)
+    → list_any (lies_between low high) (offsets_where (is_placed kinds.Partition) notes)
+    ≡ stands_between low high (partitions_of notes)
+between_offsets notes low high = tested_offsets (lies_between low high) notes
+
+-- One stands above an offset where its own lies above it.
+pub above_offsets : (notes : List NoteParts) (low : ℕ)
+    → list_any (nat_lt low) (offsets_where (is_placed kinds.Partition) notes) ≡ stands_above low (partitions_of notes)
+above_offsets notes low = tested_offsets (nat_lt low) notes

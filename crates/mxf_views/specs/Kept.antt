@@ -1,6 +1,6 @@
 -- What the views keep of the clear notes, and what an addition changes of it (this project's profile).
 use Rattle.std.specs.Prelude.{◌≡◌, ℕ, ◌+◌, ◌-◌, ◌≤◌, max, min, ◌⊎◌, Bool, ◌&&◌, ◌||◌, ◌==◌, nat_le, nat_lt, if◌then◌else◌}
-use Rattle.std.specs.Prelude.{◌<◌, count_by}
+use Rattle.std.specs.Prelude.{◌<◌, count_by, not}
 use Rattle.std.specs.Vec.{vec_capacity, vec_len}
 use Rattle.std.specs.Prelude.{Option, None, Some, false, is_some, List, [], ◌∷◌, filter, find, map}
 use Rattle.std.specs.List.{AllByRecursion, filter_map}
@@ -18,7 +18,7 @@ use Rattle.mxf_views.specs.declared.kept.Kept.{Kept}
 use Rattle.mxf_views.specs.declared.kept.offsets.Placed.{Placed}
 use Rattle.mxf_views.specs.declared.kept.offsets.Placed.TheVariants as kinds
 use Rattle.mxf_views.specs.Copies.{copies_of, copy_of, has_metadata, is_fill, is_primer}
-use Rattle.mxf_views.specs.Partitions.{PartitionParts, partition_at}
+use Rattle.mxf_views.specs.Partitions.{PartitionParts, is_no_unreadable_pack, partition_at}
 use Rattle.mxf_views.specs.Places.{placed_segment}
 use Rattle.mxf_views.specs.RandomIndex.{is_rip_note}
 
@@ -34,11 +34,13 @@ pub record IsHull (x : NoteParts) (notes : List NoteParts) (start end : ℕ) : T
   pub low : start ≤ x.offset
   pub high : end_of x ≤ end
 
--- The note is a readable partition pack, a readable index table segment or a random index pack.
+-- The note is a readable partition pack, a readable index table segment, a random index pack or a partition pack that
+-- isn't readable.
 abbrev pub is_placed : Placed → NoteParts → Bool
 is_placed kinds.Partition n = is_some (partition_at n)
 is_placed kinds.Segment n = is_some (placed_segment n)
 is_placed kinds.RandomIndexPack n = is_rip_note n
+is_placed kinds.UnreadablePack n = not (is_no_unreadable_pack n)
 
 abbrev pub has_some_metadata : Option PartitionParts → Bool
 has_some_metadata None = false
@@ -143,11 +145,13 @@ followed there offset start end offsets =
 abbrev pub notes_at : List NoteParts → List ℕ → List NoteParts
 notes_at notes offsets = filter_map (λ o. find (λ n. n.offset == o) (clear_notes notes)) offsets
 
--- What is kept: where partitions, segments and random index packs stand, the copies, and how far these reach.
+-- What is kept: where partitions, segments, random index packs and unreadable partition packs stand, the copies, and how
+-- far these reach.
 pub record KeptParts : Type 0 where
   pub partitions : List ℕ
   pub segments : List ℕ
   pub rips : List ℕ
+  pub unreadable : List ℕ
   pub copies : List CopyInfo
   pub reaches : List ℕ
 
@@ -157,6 +161,7 @@ kept_of notes = record {
   partitions = offsets_where (is_placed kinds.Partition) notes;
   segments = offsets_where (is_placed kinds.Segment) notes;
   rips = offsets_where (is_placed kinds.RandomIndexPack) notes;
+  unreadable = offsets_where (is_placed kinds.UnreadablePack) notes;
   copies = copies_of notes;
   reaches = reaches_of (copies_of notes);
 }
@@ -166,6 +171,7 @@ kept_in k = record {
   partitions = k.partitions.items;
   segments = k.segments.items;
   rips = k.random_index_packs.items;
+  unreadable = k.unreadable_packs.items;
   copies = k.copies.items;
   reaches = k.reaches.items;
 }
@@ -175,6 +181,7 @@ pub record HasRoom (notes : List NoteParts) (k : Kept) : Type 0 where
   pub partitions : count_by (is_placed kinds.Partition) (clear_notes notes) ≤ vec_capacity k.partitions
   pub segments : count_by (is_placed kinds.Segment) (clear_notes notes) ≤ vec_capacity k.segments
   pub rips : count_by (is_placed kinds.RandomIndexPack) (clear_notes notes) ≤ vec_capacity k.random_index_packs
+  pub unreadable : count_by (is_placed kinds.UnreadablePack) (clear_notes notes) ≤ vec_capacity k.unreadable_packs
   pub copies : count_by states_metadata (clear_notes notes) ≤ vec_capacity k.copies
   pub reaches : count_by states_metadata (clear_notes notes) ≤ vec_capacity k.reaches
 
@@ -183,6 +190,7 @@ pub record HasRoomForOne (k : Kept) : Type 0 where
   pub partitions : vec_len k.partitions < vec_capacity k.partitions
   pub segments : vec_len k.segments < vec_capacity k.segments
   pub rips : vec_len k.random_index_packs < vec_capacity k.random_index_packs
+  pub unreadable : vec_len k.unreadable_packs < vec_capacity k.unreadable_packs
   pub copies : vec_len k.copies < vec_capacity k.copies
   pub reaches : vec_len k.reaches < vec_capacity k.reaches
 

@@ -1,5 +1,5 @@
-//! What the views keep of the clear notes: where partitions, index table segments and random index packs stand, and the
-//! copies of the header metadata.
+//! What the views keep of the clear notes: where partitions, index table segments, random index packs and unreadable
+//! partition packs stand, and the copies of the header metadata.
 ghost use Rattle.std.specs.Prelude.{◌≡◌, List, ◌<◌, ◌≤◌, IfOk, OnOk, count_by, ◌++◌, ◌∷◌, ◌+◌, [], vec_len, vec_capacity};
 ghost use Rattle.mxf_klv.specs.Parts.{NoteParts};
 ghost use Rattle.mxf_klv.specs.Rising.{In};
@@ -30,6 +30,7 @@ pub(crate) struct Kept {
     pub partitions: Vec<u64>,
     pub segments: Vec<u64>,
     pub random_index_packs: Vec<u64>,
+    pub unreadable_packs: Vec<u64>,
     pub copies: Vec<CopyInfo>,
     /// How far each copy and those before it reach.
     pub reaches: Vec<u64>,
@@ -44,6 +45,7 @@ impl Kept {
             partitions: Vec::new(alloc),
             segments: Vec::new(alloc),
             random_index_packs: Vec::new(alloc),
+            unreadable_packs: Vec::new(alloc),
             copies: Vec::new(alloc),
             reaches: Vec::new(alloc),
         }
@@ -67,6 +69,7 @@ impl Kept {
         self.partitions.reserve(1)?;
         self.segments.reserve(1)?;
         self.random_index_packs.reserve(1)?;
+        self.unreadable_packs.reserve(1)?;
         self.copies.reserve(1)?;
         self.reaches.reserve(1)
     }
@@ -93,6 +96,9 @@ impl Kept {
         ensures random_index_packs { OnOk result (vec_len self.old.random_index_packs
             + count_by (is_placed Placed.RandomIndexPack) (clear_notes other.now)
             ≤ vec_capacity self.new.random_index_packs) }
+        ensures unreadable_packs { OnOk result (vec_len self.old.unreadable_packs
+            + count_by (is_placed Placed.UnreadablePack) (clear_notes other.now)
+            ≤ vec_capacity self.new.unreadable_packs) }
         ensures copies { OnOk result (vec_len self.old.copies
             + count_by states_metadata (clear_notes other.now) ≤ vec_capacity self.new.copies) }
         ensures reaches { OnOk result (vec_len self.old.reaches
@@ -102,6 +108,8 @@ impl Kept {
         self.segments.reserve(count(other, Placed::Segment))?;
         self.random_index_packs
             .reserve(count(other, Placed::RandomIndexPack))?;
+        self.unreadable_packs
+            .reserve(count(other, Placed::UnreadablePack))?;
         let copies = count_copies(other);
         self.copies.reserve(copies)?;
         self.reaches.reserve(copies)
@@ -118,6 +126,11 @@ impl Kept {
             &mut self.random_index_packs,
             catalogue,
             Placed::RandomIndexPack,
+        );
+        refill(
+            &mut self.unreadable_packs,
+            catalogue,
+            Placed::UnreadablePack,
         );
         refill_copies(&mut self.copies, catalogue);
         refill_reaches(&mut self.reaches, &self.copies);
@@ -139,6 +152,12 @@ impl Kept {
             boundary,
             Placed::RandomIndexPack,
         );
+        append_offsets(
+            &mut self.unreadable_packs,
+            catalogue,
+            boundary,
+            Placed::UnreadablePack,
+        );
         follow_copies_above(&mut self.copies, catalogue, boundary);
         refill_reaches(&mut self.reaches, &self.copies);
     }
@@ -156,9 +175,11 @@ impl Kept {
         let partition = stands(catalogue, Placed::Partition, at);
         let segment = stands(catalogue, Placed::Segment, at);
         let random_index_pack = stands(catalogue, Placed::RandomIndexPack, at);
+        let unreadable_pack = stands(catalogue, Placed::UnreadablePack, at);
         follow(&mut self.partitions, arrival, partition);
         follow(&mut self.segments, arrival, segment);
         follow(&mut self.random_index_packs, arrival, random_index_pack);
+        follow(&mut self.unreadable_packs, arrival, unreadable_pack);
         follow_copies(&mut self.copies, catalogue, arrival);
         refill_reaches(&mut self.reaches, &self.copies);
     }

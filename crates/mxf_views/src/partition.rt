@@ -5,7 +5,7 @@ ghost use Rattle.mxf_klv.specs.Rising.{In};
 ghost use Rattle.mxf_catalogue.specs.Content.{IsContent};
 ghost use Rattle.mxf_views.specs.Partitions.{AreInOrder, IsPartition, PartitionParts, partitions_of};
 ghost use Rattle.std.specs.Iterator.{YieldsFirst, item_count};
-ghost use Rattle.mxf_views.specs.Partitions.{pack_of, partition_at, partitions_among, stands_at, stands_above, is_header, is_footer, is_no_unreadable_pack};
+ghost use Rattle.mxf_views.specs.Partitions.{pack_of, partition_at, partitions_among, stands_at, is_header, is_footer, is_no_unreadable_pack};
 
 use crate::placed::NotesAt;
 use mxf_catalogue::Catalogue;
@@ -81,17 +81,6 @@ impl<'a> Partitions<'a> {
 }
 
 impl<'a> Partitions<'a> {
-    pub(crate) fn any_above(self, low: u64) -> bool
-        ensures { result ≡ stands_above low self.entry }
-    {
-        for partition in self {
-            if low < partition.offset {
-                return true;
-            }
-        }
-        false
-    }
-
     pub(crate) fn count_headers(self) -> usize
         requires { length self < 2 ^ 64 }
         ensures { result ≡ count_by (λ p. is_header p.pack.part) self.entry }

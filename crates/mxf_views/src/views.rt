@@ -1,5 +1,5 @@
 //! Views of a catalogue.
-ghost use Rattle.std.specs.Prelude.{◌≡◌, ◌≢◌, ◌↔◌, ◌==◌, ◌||◌, List, not, ◌<◌, ◌^◌, find, length, count_by, [], IfErr, IfOk, OnOk, OnErr};
+ghost use Rattle.std.specs.Prelude.{◌≡◌, ◌≢◌, ◌↔◌, ◌==◌, ◌||◌, List, filter, not, ◌<◌, ◌^◌, find, length, count_by, [], IfErr, IfOk, OnOk, OnErr};
 ghost use Rattle.std.specs.List.{list_all};
 ghost use Rattle.mxf_catalogue.specs.Disputes.{SharesByte, clear_notes};
 ghost use Rattle.mxf_klv.specs.Parts.{NoteParts};
@@ -7,7 +7,7 @@ ghost use Rattle.mxf_klv.specs.Rising.{In};
 ghost use Rattle.mxf_catalogue.specs.Content.{has_note, with_note, union_of};
 ghost use Rattle.mxf_catalogue.specs.History.{History, Add, Join, Of, content};
 ghost use Rattle.mxf_catalogue.specs.Moved.{TellsMoved};
-ghost use Rattle.mxf_views.specs.Partitions.{partitions_of, link_of, link_at, is_linked, chain_of, is_header, is_footer, is_greatest, is_no_unreadable_pack};
+ghost use Rattle.mxf_views.specs.Partitions.{partitions_of, link_of, link_at, is_linked, chain_of, is_header, is_footer, is_greatest, is_no_unreadable_pack, stands_above};
 ghost use Rattle.mxf_views.specs.Gaps.{gaps_of};
 ghost use Rattle.mxf_views.specs.Copies.{copies_of, preferred_of, sets_of};
 ghost use Rattle.mxf_views.specs.Labels.{is_in_copy, primer_for, primer_of, primer_there};
@@ -33,8 +33,9 @@ use crate::kept::Kept;
 use crate::kept::above::boundary;
 use crate::kept::arrival::Arrival;
 use crate::kept::copies::copy_at;
+use crate::kept::offsets::any_above;
 use crate::kept::reaches::copy_with;
-use crate::partition::{PartitionAt, Partitions, is_no_unreadable_pack, partition_there};
+use crate::partition::{PartitionAt, Partitions, partition_there};
 use crate::placed::NotesAt;
 use crate::random_index::RipView;
 use crate::reference::resolved::{Resolved, preface_among, resolved_by};
@@ -248,7 +249,7 @@ impl Views {
     {
         for partition in self.partitions() {
             if partition.pack.part() == PackPart::Footer
-                && self.partitions().any_above(partition.offset)
+                && self.any_partition_above(partition.offset)
             {
                 return false;
             }
@@ -256,12 +257,26 @@ impl Views {
         true
     }
 
+    /// Whether a partition stands above a file offset.
+    fn any_partition_above(&self, offset: u64) -> bool
+        ensures { result ≡ stands_above offset (partitions_of self.now) }
+    {
+        // What a catalogue lends says that its notes stand in their order.
+        let _notes = self.catalogue.notes();
+        any_above(&self.kept.partitions, offset)
+    }
+
     fn has_readable_packs(&self) -> bool
         ensures { result ≡ list_all is_no_unreadable_pack (clear_notes self.now) }
     {
-        self.catalogue
-            .clear()
-            .all(|note| is_no_unreadable_pack(note))
+        self.kept.unreadable_packs.is_empty()
+    }
+
+    /// The clear partition packs that aren't readable, rising.
+    pub(crate) fn unreadable_packs(&self) -> NotesAt<'_>
+        ensures { result ≡ filter (λ n. not (is_no_unreadable_pack n)) (clear_notes self.now) }
+    {
+        NotesAt::of(&self.catalogue, &self.kept.unreadable_packs)
     }
 
     /// The gaps: the maximal ranges of bytes below the greatest end of a note that lie in no note.

@@ -6,7 +6,7 @@ ghost use Rattle.mxf_views.specs.Partitions.{is_footer, partitions_of};
 use super::Code;
 use super::collected::Collected;
 use crate::chain::{Chain, Link};
-use crate::partition::{PartitionAt, is_no_unreadable_pack, partition_there};
+use crate::partition::{PartitionAt, partition_there};
 use crate::views::Views;
 use mxf_catalogue::Catalogue;
 use mxf_klv::{OutOfMemory, Status};
@@ -68,10 +68,8 @@ impl Collected {
     pub(super) fn add_packs(&mut self, views: &Views) -> Result<(), OutOfMemory>
         ensures { OnOk result (self.new ≡ self.old ++ findings_for Code.F04 views.now) }
     {
-        for note in views.catalogue().clear() {
-            if !is_no_unreadable_pack(note) {
-                self.add(Code::F04, note.offset())?;
-            }
+        for note in views.unreadable_packs() {
+            self.add(Code::F04, note.offset())?;
         }
         Ok(())
     }

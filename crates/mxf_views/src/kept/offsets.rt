@@ -1,5 +1,5 @@
 //! Where clear notes of a kind stand, as file offsets that rise.
-ghost use Rattle.std.specs.Prelude.{◌≡◌, ◌<◌, ◌≤◌, count_by, filter, length, vec_len, vec_capacity};
+ghost use Rattle.std.specs.Prelude.{◌≡◌, ◌<◌, ◌≤◌, count_by, filter, length, nat_lt, vec_len, vec_capacity};
 ghost use Rattle.std.specs.List.{AllWithin, list_any};
 ghost use Rattle.std.specs.Ordering.{nat_cmp};
 ghost use Rattle.mxf_klv.specs.Rising.{IsRising, with_one};
@@ -10,7 +10,7 @@ ghost use Rattle.mxf_views.specs.declared.kept.offsets.Placed.{Placed};
 use super::push;
 use crate::index::placed_segment;
 use crate::kept::arrival::Arrival;
-use crate::partition::partition_at;
+use crate::partition::{is_no_unreadable_pack, partition_at};
 use crate::random_index::is_rip;
 use mxf_catalogue::Catalogue;
 use mxf_klv::Note;
@@ -21,6 +21,7 @@ pub(crate) enum Placed {
     Partition,
     Segment,
     RandomIndexPack,
+    UnreadablePack,
 }
 
 impl Placed {
@@ -32,6 +33,7 @@ impl Placed {
             Placed::Partition => partition_at(note).is_some(),
             Placed::Segment => placed_segment(note).is_some(),
             Placed::RandomIndexPack => is_rip(note),
+            Placed::UnreadablePack => !is_no_unreadable_pack(note),
         }
     }
 }
@@ -110,6 +112,17 @@ fn offsets_up_to(offsets: &[u64], offset: u64) -> usize
     ensures above { AllWithin (λ o. offset < o) offsets.now result (length offsets.now) }
 {
     offsets.partition_point(|other| *other <= offset)
+}
+
+/// Whether one of the offsets lies above another: the last tells.
+pub(crate) fn any_above(offsets: &[u64], low: u64) -> bool
+    requires { IsRising nat_cmp offsets.now }
+    ensures { result ≡ list_any (nat_lt low) offsets.now }
+{
+    match offsets.last() {
+        Some(offset) => low < *offset,
+        None => false,
+    }
 }
 
 /// Whether one of the offsets lies between two others: the first above the lower one tells.

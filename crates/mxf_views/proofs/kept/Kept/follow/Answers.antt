@@ -28,6 +28,12 @@ follow-requires-3-clause-rising c =
     subst (IsRising nat_cmp) (sym (ap (λ (p : KeptParts). p.rips) k.2))
     (offsets_rise (is_placed kinds.RandomIndexPack) k.0 k.1)
 
+pub follow-requires-4-clause-rising : goal.follow-requires-4-clause-rising
+follow-requires-4-clause-rising c =
+    let k = c.requires.kept in
+    subst (IsRising nat_cmp) (sym (ap (λ (p : KeptParts). p.unreadable) k.2))
+    (offsets_rise (is_placed kinds.UnreadablePack) k.0 k.1)
+
 pub follow_copies-requires-clause-rising : goal.follow_copies-requires-clause-rising
 follow_copies-requires-clause-rising c =
     let k = c.requires.kept in
@@ -53,15 +59,17 @@ returns c = λ x notes new is e k.
     let a = c.args.arrival.now in
     let old = c.args.self.now in
     let before = ap (λ (p : KeptParts). p.reaches) k ∙ ap reaches_of (sym (ap (λ (p : KeptParts). p.copies) k)) in
-    with_reaches _ _ _ _ _ (c.refill_reaches.ensures ∙ ap reaches_of c.deref.ensures.value)
-    ∙ same_kept _ _ _ _ _ _ _ _
+    with_reaches _ _ _ _ _ _ (c.refill_reaches.ensures ∙ ap reaches_of c.deref.ensures.value)
+    ∙ same_kept _ _ _ _ _ _ _ _ _ _
     (c.follow.ensures
     ∙ ap (λ t. followed t a.offset a.start a.end old.partitions.items) c.stands-partition.ensures)
     (c.follow-2.ensures
     ∙ ap (λ t. followed t a.offset a.start a.end old.segments.items) c.stands-segment.ensures)
     (c.follow-3.ensures
     ∙ ap (λ t. followed t a.offset a.start a.end old.random_index_packs.items) c.stands-random_index_pack.ensures)
+    (c.follow-4.ensures
+    ∙ ap (λ t. followed t a.offset a.start a.end old.unreadable_packs.items) c.stands-unreadable_pack.ensures)
     c.follow_copies.ensures
     ∙ kept_after x notes c.args.catalogue.now a.start a.end a.offset a.can_bring_start old.partitions.items
-    old.segments.items old.random_index_packs.items old.copies.items is.content new is.hull e is.offset
-    is.can_bring_start (sym (with_reaches _ _ _ _ _ before) ∙ k)
+    old.segments.items old.random_index_packs.items old.unreadable_packs.items old.copies.items is.content new is.hull e is.offset
+    is.can_bring_start (sym (with_reaches _ _ _ _ _ _ before) ∙ k)

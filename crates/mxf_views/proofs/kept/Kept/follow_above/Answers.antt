@@ -27,6 +27,13 @@ append_offsets-requires-3 c =
     offsets_fit c.args.boundary c.args.catalogue.now k.0 k.1 (is_placed kinds.RandomIndexPack) list.items list.len _
     (ap (λ (p : KeptParts). p.rips) k.2) list.ok.0 c.requires.room.rips
 
+pub append_offsets-requires-4 : goal.append_offsets-requires-4
+append_offsets-requires-4 c =
+    let k = c.requires.kept in
+    let list = c.args.self.now.unreadable_packs in
+    offsets_fit c.args.boundary c.args.catalogue.now k.0 k.1 (is_placed kinds.UnreadablePack) list.items list.len _
+    (ap (λ (p : KeptParts). p.unreadable) k.2) list.ok.0 c.requires.room.unreadable
+
 pub follow_copies_above-requires-clause-room : goal.follow_copies_above-requires-clause-room
 follow_copies_above-requires-clause-room c =
     let k = c.requires.kept in
@@ -46,12 +53,14 @@ returns c =
     let k = c.requires.kept in
     let one = λ (kind : _) (os : _) (same : _).
     offsets_at c.args.boundary c.args.catalogue.now k.0 k.1 (is_placed kind) os same in
-    with_reaches _ _ _ _ _ (c.refill_reaches.ensures ∙ ap reaches_of c.deref.ensures.value)
-    ∙ same_kept _ _ _ _ _ _ _ _
+    with_reaches _ _ _ _ _ _ (c.refill_reaches.ensures ∙ ap reaches_of c.deref.ensures.value)
+    ∙ same_kept _ _ _ _ _ _ _ _ _ _
     (c.append_offsets.ensures
     ∙ one kinds.Partition c.args.self.now.partitions.items (ap (λ (p : KeptParts). p.partitions) k.2))
     (c.append_offsets-2.ensures
     ∙ one kinds.Segment c.args.self.now.segments.items (ap (λ (p : KeptParts). p.segments) k.2))
     (c.append_offsets-3.ensures
     ∙ one kinds.RandomIndexPack c.args.self.now.random_index_packs.items (ap (λ (p : KeptParts). p.rips) k.2))
+    (c.append_offsets-4.ensures
+    ∙ one kinds.UnreadablePack c.args.self.now.unreadable_packs.items (ap (λ (p : KeptParts). p.unreadable) k.2))
     c.follow_copies_above.ensures

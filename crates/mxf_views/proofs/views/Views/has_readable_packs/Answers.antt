@@ -1,0 +1,16 @@
+use Rattle.std.proofs.Common.{◌∙◌, ap, length}
+use Rattle.std.specs.Prelude.{◌==◌}
+use Rattle.std.specs.List.{list_all}
+use Rattle.mxf_catalogue.specs.Disputes.{clear_notes}
+use Rattle.mxf_views.specs.Kept.{KeptParts}
+use Rattle.mxf_views.specs.Partitions.{is_no_unreadable_pack}
+use Rattle.mxf_views.proofs.KeptFindings.{none_left}
+use Rattle.mxf_views.proofs.views.Views.has_readable_packs.Goals as goal
+
+pub returns : goal.returns
+returns c =
+    let kept = c.self.inside.kept.unreadable_packs in
+    let number = kept.ok.0 ∙ ap length (ap (λ (k : KeptParts). k.unreadable) c.self.invariant) in
+    c.is_empty.ensures ∙ ap (λ n. n == 0) number
+    ∙ none_left is_no_unreadable_pack (λ n. n.offset) (clear_notes c.self.inside.catalogue)
+    ∙ ap (λ notes. list_all is_no_unreadable_pack (clear_notes notes)) c.self.view_is
