@@ -19,4 +19,4 @@ copy_with-requires c =
 pub returns : goal.returns
 returns c =
     let kept = c.deref.ensures.value ∙ ap (λ (k : KeptParts). k.copies) c.self.invariant in
-    c.copy_with.ensures ∙ ap (λ (cs : List CopyInfo). find (is_in_copy c.args.set.now) cs) (kept ∙ ap copies_of c.self.view_is)
+    c.copy_with.ensures ∙ ap (λ (cs : List CopyInfo). find (is_in_copy c.args.note.now) cs) (kept ∙ ap copies_of c.self.view_is)
