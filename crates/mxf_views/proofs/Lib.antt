@@ -48,3 +48,4 @@ pub mod SpanCounts
 pub mod SpanGaps
 pub mod StartLaws
 pub mod StartWalk
+pub mod SumLaws
