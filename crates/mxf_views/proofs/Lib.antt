@@ -54,3 +54,4 @@ pub mod SpanGaps
 pub mod StartLaws
 pub mod StartWalk
 pub mod StartsOrder
+pub mod SumLaws

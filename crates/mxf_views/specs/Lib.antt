@@ -28,3 +28,4 @@ pub mod WorkedBytes
 pub mod Words
 pub mod Kept
 pub mod KeptAbove
+pub mod Sums

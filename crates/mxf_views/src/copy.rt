@@ -1,5 +1,5 @@
 //! Copies of the header metadata.
-ghost use Rattle.std.specs.Prelude.{◌≡◌, ◌==◌, ◌↔◌, ◌<◌, ◌^◌, ℕ, List, Option, Some, count_by, find, length};
+ghost use Rattle.std.specs.Prelude.{◌≡◌, ◌==◌, ◌↔◌, ◌<◌, ◌^◌, ℕ, List, [], Option, None, Some, count_by, find, length};
 ghost use Rattle.std.specs.List.{range_with_len};
 ghost use Rattle.mxf_klv.specs.Parts.{NoteParts};
 ghost use Rattle.mxf_catalogue.specs.Content.{IsContent};
@@ -18,7 +18,7 @@ ghost use Rattle.mxf_views.specs.Copies.{preferred_of, is_candidate, is_above, s
 pub(crate) mod sets;
 pub(crate) mod zone;
 
-use crate::copy::zone::{covered, is_fill, is_preface, lies_in};
+use crate::copy::zone::{Counts, covered, is_fill, is_preface, lies_in};
 use crate::partition::{PartitionAt, partition_there};
 use mxf_catalogue::Catalogue;
 use mxf_klv::{Held, Kind, Note, Status};
@@ -91,28 +91,49 @@ pub(crate) fn prefaces(catalogue: &Catalogue, start: u64, bytes: u64) -> usize
 pub(crate) fn copy_of(catalogue: &Catalogue, partition: &PartitionAt<'_>) -> CopyInfo
     ensures { result ≡ copy_of (clear_notes catalogue.now) partition.now }
 {
-    let bytes = partition.pack.numbers().header_byte_count;
-    let status = partition.pack.status();
     let Some(start) = start_of(catalogue, partition.end) else {
-        return CopyInfo {
-            partition: partition.offset,
-            start: None,
-            bytes,
-            covered: 0,
-            finished: false,
-            prefaces: 0,
-            status,
-        };
+        return without_start(partition);
     };
-    let covered = covered(catalogue.clear_within(start, bytes));
+    let bytes = partition.pack.numbers().header_byte_count;
+    let counts = Counts {
+        covered: covered(catalogue.clear_within(start, bytes)),
+        prefaces: prefaces(catalogue, start, bytes),
+    };
+    with_start(partition, start, counts)
+}
+
+/// The copy of a partition that has no start.
+pub(crate) fn without_start(partition: &PartitionAt<'_>) -> CopyInfo
+    ensures { result ≡ copy_from [] partition.now None }
+{
+    CopyInfo {
+        partition: partition.offset,
+        start: None,
+        bytes: partition.pack.numbers().header_byte_count,
+        covered: 0,
+        finished: false,
+        prefaces: 0,
+        status: partition.pack.status(),
+    }
+}
+
+/// The copy of a partition that has a start, by what is counted in its zone.
+pub(crate) fn with_start(partition: &PartitionAt<'_>, start: u64, counts: Counts) -> CopyInfo
+    ensures { (notes : List NoteParts)
+        → counts.covered ≡ covered_of start partition.now.pack.numbers.header_byte_count notes
+        → counts.prefaces ≡ prefaces_of start partition.now.pack.numbers.header_byte_count notes
+        → result ≡ copy_from notes partition.now (Some start) }
+{
+    let bytes = partition.pack.numbers().header_byte_count;
+    let covered = counts.covered;
     CopyInfo {
         partition: partition.offset,
         start: Some(start),
         bytes,
         covered,
         finished: covered == bytes,
-        prefaces: prefaces(catalogue, start, bytes),
-        status,
+        prefaces: counts.prefaces,
+        status: partition.pack.status(),
     }
 }
 

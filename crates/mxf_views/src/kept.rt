@@ -7,6 +7,7 @@ ghost use Rattle.mxf_catalogue.specs.Content.{IsContent, union_of, with_note};
 ghost use Rattle.mxf_catalogue.specs.Disputes.{clear_notes};
 ghost use Rattle.mxf_views.specs.Kept.{is_placed, states_metadata, HasRoom, HasRoomForOne, IsArrival, kept_in, kept_of};
 ghost use Rattle.mxf_views.specs.KeptAbove.{IsUnionAt};
+ghost use Rattle.mxf_views.specs.Sums.{HasSumsRoom};
 ghost use Rattle.mxf_views.specs.declared.kept.offsets.Placed.{Placed};
 
 pub(crate) mod above;
@@ -14,6 +15,7 @@ pub(crate) mod arrival;
 pub(crate) mod copies;
 pub(crate) mod offsets;
 pub(crate) mod reaches;
+pub(crate) mod sums;
 
 use crate::copy::CopyInfo;
 use crate::kept::above::{append_offsets, follow_copies_above};
@@ -21,6 +23,7 @@ use crate::kept::arrival::Arrival;
 use crate::kept::copies::{count_copies, follow_copies, refill_copies};
 use crate::kept::offsets::{Placed, count, follow, refill, stands};
 use crate::kept::reaches::refill_reaches;
+use crate::kept::sums::{Sum, Sums};
 use mxf_catalogue::Catalogue;
 use std::alloc::{AllocError, Global};
 
@@ -57,7 +60,8 @@ impl Kept {
     {
         let mut kept = Kept::new(alloc);
         kept.reserve(catalogue)?;
-        kept.refill(catalogue);
+        let room = Vec::with_capacity(alloc, catalogue.len())?;
+        kept.refill(catalogue, room);
         Ok(kept)
     }
 
@@ -84,6 +88,15 @@ impl Kept {
         let _own = own.notes();
         let _others = other.notes();
         self.reserve(other)
+    }
+
+    /// Room for the sums of the notes of two catalogues.
+    pub fn sums_room(&self, own: &Catalogue, other: &Catalogue) -> Result<Vec<Sum>, AllocError>
+        ensures { IfOk result (λ r. HasSumsRoom (union_of own.now other.now) 0 r.items (vec_capacity r)) }
+    {
+        let count = own.len().saturating_add(other.len());
+        let room = Vec::with_capacity(*self.partitions.allocator(), count)?;
+        Ok(room)
     }
 
     /// Makes room for what is kept of another catalogue as well.
@@ -116,10 +129,12 @@ impl Kept {
     }
 
     /// Puts what is kept of a catalogue in place of what is there, where there is room.
-    pub fn refill(&mut self, catalogue: &Catalogue)
-        requires { HasRoom catalogue.now self.old }
+    pub fn refill(&mut self, catalogue: &Catalogue, room: Vec<Sum>)
+        requires room { HasRoom catalogue.now self.old }
+        requires sums { HasSumsRoom catalogue.now 0 room.items (vec_capacity room) }
         ensures { kept_in self.new ≡ kept_of catalogue.now }
     {
+        let sums = Sums::of(catalogue, 0, room);
         refill(&mut self.partitions, catalogue, Placed::Partition);
         refill(&mut self.segments, catalogue, Placed::Segment);
         refill(
@@ -132,7 +147,7 @@ impl Kept {
             catalogue,
             Placed::UnreadablePack,
         );
-        refill_copies(&mut self.copies, catalogue);
+        refill_copies(&mut self.copies, &sums);
         refill_reaches(&mut self.reaches, &self.copies);
     }
 

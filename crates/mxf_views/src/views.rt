@@ -19,6 +19,7 @@ ghost use Rattle.mxf_views.specs.Places.{greatest_unit, place_of, segments_of};
 ghost use Rattle.mxf_views.specs.RandomIndex.{rips_of};
 ghost use Rattle.mxf_views.specs.RandomIndexView.{rip_view_of};
 ghost use Rattle.mxf_views.specs.Findings.{findings_of};
+ghost use Rattle.mxf_views.specs.KeptAbove.{MeetAt};
 ghost use Rattle.mxf_views.specs.Headline.{IsTheRun};
 ghost use Rattle.mxf_views.specs.SameViews.{SameViews};
 
@@ -143,15 +144,41 @@ impl Views {
         ensures history { (h k : History) → self.old ≡ content h → other ≡ content k
             → OnOk result (self.new ≡ content (Join h k)) }
     {
-        let boundary = boundary(&self.catalogue, &other);
+        match boundary(&self.catalogue, &other) {
+            Some(boundary) => self.merge_above(other, boundary),
+            None => self.merge_among(other),
+        }
+    }
+
+    /// The same, where the other's notes begin at the boundary or above, and these end there or below.
+    fn merge_above(&mut self, other: Catalogue, boundary: u64) -> Result<(), MergeFault>
+        requires { MeetAt boundary self.old other }
+        ensures merged { OnOk result (self.new ≡ union_of self.old other) }
+        ensures err { OnErr result (self.new ≡ self.old) }
+        ensures back { IfErr result (λ f. f.other ≡ other) }
+    {
         let Ok(()) = self.kept.make_room_for(&self.catalogue, &other) else {
             return Err(MergeFault { other });
         };
         self.catalogue.merge(other)?;
-        match boundary {
-            Some(boundary) => self.kept.follow_above(&self.catalogue, boundary),
-            None => self.kept.refill(&self.catalogue),
-        }
+        self.kept.follow_above(&self.catalogue, boundary);
+        Ok(())
+    }
+
+    /// The same, wherever the other's notes stand.
+    fn merge_among(&mut self, other: Catalogue) -> Result<(), MergeFault>
+        ensures merged { OnOk result (self.new ≡ union_of self.old other) }
+        ensures err { OnErr result (self.new ≡ self.old) }
+        ensures back { IfErr result (λ f. f.other ≡ other) }
+    {
+        let Ok(()) = self.kept.make_room_for(&self.catalogue, &other) else {
+            return Err(MergeFault { other });
+        };
+        let Ok(room) = self.kept.sums_room(&self.catalogue, &other) else {
+            return Err(MergeFault { other });
+        };
+        self.catalogue.merge(other)?;
+        self.kept.refill(&self.catalogue, room);
         Ok(())
     }
 

@@ -7,6 +7,13 @@ ghost use Rattle.mxf_views.specs.Spans.{sizes};
 use mxf_catalogue::ClearNotes;
 use mxf_klv::{Kind, Note};
 
+/// What the packets of a range cover, in bytes, and how many Prefaces are among them.
+#[derive(Clone, Copy, Debug)]
+pub(crate) struct Counts {
+    pub covered: u64,
+    pub prefaces: usize,
+}
+
 /// Whether the packet lies wholly in the range.
 pub(crate) fn lies_in(start: u64, bytes: u64, note: &Note) -> bool
     ensures { result ≡ lies_in start bytes note.now }

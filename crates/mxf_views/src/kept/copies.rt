@@ -3,9 +3,10 @@ ghost use Rattle.std.specs.Prelude.{◌≡◌, ◌==◌, ◌<◌, ◌≤◌, cou
 ghost use Rattle.mxf_catalogue.specs.Disputes.{clear_notes};
 ghost use Rattle.std.specs.List.{AllWithin};
 ghost use Rattle.mxf_views.specs.Copies.{CopiesRise, copies_of};
+ghost use Rattle.mxf_views.specs.KeptAbove.{clear_from};
 ghost use Rattle.mxf_views.specs.Kept.{copy_by, can_bring_start, copies_followed, is_outside, may_change, renewed, states_metadata, with_copy};
 
-use super::push;
+use super::sums::{Sums, append_copies};
 use crate::copy::{CopyInfo, copy_of, copy_there, has_metadata};
 use crate::kept::arrival::Arrival;
 use crate::partition::partition_at;
@@ -125,16 +126,13 @@ fn brings_copy(note: &Note) -> bool
 }
 
 /// Puts the copies of a catalogue in place of others, where there is room.
-pub(super) fn refill_copies(copies: &mut Vec<CopyInfo>, catalogue: &Catalogue)
-    requires { count_by states_metadata (clear_notes catalogue.now) ≤ vec_capacity copies.old }
-    ensures { copies.new.items ≡ copies_of catalogue.now }
+pub(super) fn refill_copies(copies: &mut Vec<CopyInfo>, sums: &Sums<'_>)
+    requires all { sums.now.boundary ≡ 0 }
+    requires room { count_by states_metadata (clear_notes sums.now.notes) ≤ vec_capacity copies.old }
+    ensures { copies.new.items ≡ copies_of sums.now.notes }
 {
     copies.clear();
-    for note in catalogue.clear() {
-        if let Some(copy) = copy_by(catalogue, note) {
-            push(copies, copy);
-        }
-    }
+    append_copies(copies, sums);
 }
 
 /// The copy of the partition that the note is, where it states header metadata.

@@ -1,19 +1,22 @@
-use Rattle.std.proofs.Common.{◌≡◌, ◌∙◌, ◌++◌, ap, arith}
-use Rattle.std.specs.Prelude.{count_by}
+use Rattle.std.proofs.Common.{◌∙◌, ◌++◌, ap, arith}
 use Rattle.std.specs.List.{filter_map}
 use Rattle.mxf_catalogue.specs.Disputes.{clear_notes}
 use Rattle.mxf_views.specs.Kept.{copy_by, states_metadata}
+use Rattle.mxf_views.specs.KeptAbove.{clear_from}
 use Rattle.mxf_views.proofs.CopyUpdates.{copies_by_notes}
+use Rattle.mxf_views.proofs.SumLaws.{all_from_none, count_from}
 use Rattle.mxf_views.proofs.kept.copies.refill_copies.Goals as goal
 
-pub loop-note-init : goal.loop-note-init
-loop-note-init c =
-    let notes = c.args.catalogue.now in
-    let clear = clear_notes notes in
-    let all = c.into_iter-note-iterator.result in
-    let same : all ≡ clear = c.into_iter-note-iterator.ensures.into_iter_gives ∙ c.clear-note-items.ensures.notes in
-    let number : count_by states_metadata all ≡ count_by states_metadata clear = ap (count_by states_metadata) same in (
-      ap (λ l. l ++ filter_map (copy_by clear) all) c.clear.ensures.items ∙ ap (filter_map (copy_by clear)) same
-          ∙ copies_by_notes notes,
-      omega (arith, number, c.clear.ensures.len, c.clear.ensures.capacity, c.requires),
-    )
+pub append_copies-requires : goal.append_copies-requires
+append_copies-requires c =
+    let s = c.args.sums.now in
+    let some = count_from states_metadata s.boundary s.notes in
+    omega (arith, some, c.requires.room, c.clear.ensures.len, c.clear.ensures.capacity)
+
+pub returns : goal.returns
+returns c =
+    let s = c.args.sums.now in
+    let by = filter_map (copy_by (clear_notes s.notes)) in
+    c.append_copies.ensures.copies ∙ ap (λ l. l ++ by (clear_from s.boundary s.notes)) c.clear.ensures.items
+    ∙ ap (λ b. by (clear_from b s.notes)) c.requires.all
+    ∙ ap by (all_from_none s.notes c.append_copies.ensures.catalogue) ∙ copies_by_notes s.notes
