@@ -1,9 +1,11 @@
 use Rattle.std.proofs.Common.{◌∙◌, ap, arith, length}
+use Rattle.mxf_views.specs.Copies.{copies_of}
 use Rattle.mxf_views.proofs.KeptRoom.{length-kept_copies}
 use Rattle.mxf_views.proofs.kept.Kept.refill.Goals as goal
 
 pub refill_reaches-requires : goal.refill_reaches-requires
 refill_reaches-requires c =
-    let many = ap length (c.deref.ensures.value ∙ c.refill_copies.ensures) ∙ length-kept_copies c.args.catalogue.now in
-    let room = c.requires.reaches in
+    let copies = c.deref.ensures.value ∙ c.refill_copies.ensures ∙ ap copies_of c.of-sums.ensures.notes in
+    let many = ap length copies ∙ length-kept_copies c.args.catalogue.now in
+    let room = c.requires.room.reaches in
     omega (arith, many, room)
