@@ -1,8 +1,8 @@
-use Rattle.std.proofs.Common.{◌∙◌, ap, arith, sym}
+use Rattle.std.proofs.Common.{ap, arith, sym}
 use Rattle.std.specs.Prelude.{count_by}
 use Rattle.mxf_views.specs.Copies.{is_preface_note}
 use Rattle.mxf_views.specs.Spans.{sizes}
-use Rattle.mxf_views.proofs.SumLaws.{AreBounds, covered_in, empty_at, prefaces_in}
+use Rattle.mxf_views.proofs.SumLaws.{covered_in, empty_at, prefaces_in}
 use Rattle.mxf_views.proofs.kept.sums.between.Goals as goal
 
 pub returns-then-to-from-clause-covered : goal.returns-then-to-from-clause-covered

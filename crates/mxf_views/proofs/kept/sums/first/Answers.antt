@@ -1,4 +1,4 @@
-use Rattle.std.proofs.Common.{◌≡◌, ◌≤◌, ◌∙◌, ◌+◌, ◌-◌, ℕ, List, ap, arith, get_or, length, subst, take}
+use Rattle.std.proofs.Common.{◌≡◌, ◌≤◌, ◌+◌, ◌-◌, ℕ, List, ap, arith, get_or, length, subst, take}
 use Rattle.std.specs.Prelude.{count_by}
 use Rattle.mxf_views.specs.declared.kept.sums.Sum.{Sum}
 use Rattle.mxf_views.specs.Copies.{is_preface_note}

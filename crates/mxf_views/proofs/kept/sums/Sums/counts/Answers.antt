@@ -1,4 +1,4 @@
-use Rattle.std.proofs.Common.{◌≤◌, ◌≡◌, ◌∙◌, List, ap, subst, sym}
+use Rattle.std.proofs.Common.{◌≤◌, ◌∙◌, ap, subst, sym}
 use Rattle.std.specs.Prelude.{count_by}
 use Rattle.mxf_catalogue.specs.Disputes.{AreApart, clear_notes}
 use Rattle.mxf_views.specs.Copies.{covered_of, is_preface_note, prefaces_of}
