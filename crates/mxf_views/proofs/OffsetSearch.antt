@@ -1,15 +1,14 @@
 -- Offsets that rise, searched.
-use Rattle.std.proofs.Common.{◌≡◌, ℕ, zero, suc, ◌+◌, ◌<◌, ◌≤◌, Bool, true, false, cond, List, [], ◌∷◌, refl, sym, ap, subst, ◌∙◌, inl, inr, arith, get_or, length}
-use Rattle.std.specs.Prelude.{◌==◌, ◌&&◌, ◌||◌, nat_lt, is_some, Option, Some, None}
+use Rattle.std.proofs.Common.{◌≡◌, ℕ, zero, suc, ◌+◌, ◌<◌, ◌≤◌, Bool, true, false, cond, List, [], ◌∷◌, refl, sym, ap, ◌∙◌, inl, inr, arith, get_or, length}
+use Rattle.std.specs.Prelude.{◌==◌, nat_lt, is_some, Some, None}
 use Rattle.std.specs.List.{AllWithin, list_any}
 use Rattle.std.specs.List.Sorted.{IsNonDecreasingBy}
 use Rattle.std.specs.Ordering.{nat_cmp}
 use Rattle.std.specs.declared.cmp.Ordering.TheVariants.{Less, Equal, Greater}
-use Rattle.std.proofs.lemmas.Bool.{ltb-true, ltb-false, lt-ltb}
+use Rattle.std.proofs.lemmas.Bool.{ltb-true, lt-ltb}
 use Rattle.std.proofs.lemmas.Cmp.{nat_cmp_total}
 use Rattle.mxf_klv.specs.Parts.{NoteParts}
 use Rattle.mxf_klv.specs.Rising.{In, IsRising, less_in}
-use Rattle.mxf_catalogue.specs.Disputes.{clear_notes}
 use Rattle.mxf_catalogue.proofs.DisputeLaws.{In-clear_notes, same_bool}
 use Rattle.mxf_catalogue.proofs.Lists.{list_any-In}
 use Rattle.mxf_catalogue.proofs.Places.{In-at}

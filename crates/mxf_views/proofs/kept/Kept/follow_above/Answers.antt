@@ -44,7 +44,7 @@ follow_copies_above-requires-clause-room c =
 pub refill_reaches-requires : goal.refill_reaches-requires
 refill_reaches-requires c =
     let many = ap length (c.deref.ensures.value ∙ c.follow_copies_above.ensures)
-        ∙ length-kept_copies c.args.catalogue.now in
+    ∙ length-kept_copies c.args.catalogue.now in
     let room = c.requires.room.reaches in
     omega (arith, many, room)
 

@@ -1,4 +1,4 @@
-use Rattle.std.proofs.Common.{◌≡◌, ◌∙◌, ◌≤◌, ap, sym, arith, length, nat_lt}
+use Rattle.std.proofs.Common.{◌∙◌, ap, sym, length, nat_lt}
 use Rattle.std.proofs.lemmas.Bool.{ltb-true, ltb-false}
 use Rattle.mxf_views.proofs.OffsetSearch.{first_between, none_between}
 use Rattle.mxf_views.proofs.kept.offsets.any_between.Goals as goal
