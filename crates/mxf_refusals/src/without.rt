@@ -73,7 +73,10 @@ fn without_memory_sets_are_found(rt: HostRuntime) -> Result<(), Fail> {
     let preferred = views.preferred().ok_or("a preferred copy")?;
     assert_eq!(rt; (preferred.partition, preferred.start), (0, Some(108)));
     assert_eq!(rt; views.copies().len(), 1);
-    assert_eq!(rt; views.find(0, Uuid::from_bytes([0x33; 16])), Found::One(298));
+    assert_eq!(rt;
+        views.find(0, Uuid::from_bytes([0x33; 16])),
+        Found::One(298)
+    );
     let set = views.sets(0).next().ok_or("a set")?;
     let primer = views.primer_for(set).ok_or("a primer pack")?;
     assert_eq!(rt; primer.label(0x8001), Some([0xAA; 16]));

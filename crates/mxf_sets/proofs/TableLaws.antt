@@ -71,14 +71,14 @@ told_by : (old new : List (ℕ × Option (List ℕ))) (entry : List ℕ) (left a
 told_by old new entry left all agreed tag true same told updates before =
     let at = eqb-true (big_number 2 entry) tag same in
     let here = updates ∙ ap (λ (b : Bool). cond b (Some agreed) (lookup (is_at (nat_cmp tag)) old))
-        (at_equal (big_number 2 entry) tag at) in
+    (at_equal (big_number 2 entry) tag at) in
     let own = subst (λ (t : ℕ). Some agreed ≡ with_label (lookup (is_at (nat_cmp t)) old) (drop 2 entry)) at told in
     let first = ap (λ (b : Bool). with_labels (lookup (is_at (nat_cmp tag)) old) (labels_first b tag entry left)) same in
     ap (λ (t : Option (Option (List ℕ))). with_labels t (labels_among tag left)) (here ∙ own)
     ∙ sym first ∙ before
 told_by old new entry left all agreed tag false other told updates before =
     let there = updates ∙ ap (λ (b : Bool). cond b (Some agreed) (lookup (is_at (nat_cmp tag)) old))
-        (at_other (big_number 2 entry) tag other) in
+    (at_other (big_number 2 entry) tag other) in
     let first = ap (λ (b : Bool). with_labels (lookup (is_at (nat_cmp tag)) old) (labels_first b tag entry left)) other in
     ap (λ (t : Option (Option (List ℕ))). with_labels t (labels_among tag left)) there
     ∙ sym first ∙ before

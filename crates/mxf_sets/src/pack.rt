@@ -14,7 +14,8 @@ pub use partition::{
     partition_packs_are_read_as_written,
 };
 pub use primer::{
-    Primer, PrimerLabels, one_primer_reading, primers_are_read_as_batches, primers_are_read_as_written,
+    Primer, PrimerLabels, one_primer_reading, primers_are_read_as_batches,
+    primers_are_read_as_written,
 };
 pub use random_index::{
     Rip, RipEntries, RipEntry, entries_make_up_their_bytes, one_rip, one_rip_reading,

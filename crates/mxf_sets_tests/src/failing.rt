@@ -52,9 +52,11 @@ fn fails_everywhere<E: Encode>(alloc: Global, value: &E, bytes: &[u8]) -> Result
             return Ok(false);
         }
     }
-    Ok(needs_room(alloc, value)
-        && bears(alloc, value, bytes, 1024)
-        && bears(alloc, value, bytes, 1025))
+    Ok(
+        needs_room(alloc, value)
+            && bears(alloc, value, bytes, 1024)
+            && bears(alloc, value, bytes, 1025),
+    )
 }
 
 #[test]

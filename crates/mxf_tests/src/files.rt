@@ -87,7 +87,10 @@ fn a_file_is_written_through_1024_interruptions_and_no_more(rt: HostRuntime) -> 
     assert_eq!(rt; patient.taken.as_slice(), file.as_slice());
     let mut interrupted = Narrow::new(alloc, 319);
     interrupted.interruptions = 1025;
-    assert_eq!(rt; all.write_to(&mut interrupted), Err(WriteFault { written: 0 }));
+    assert_eq!(rt;
+        all.write_to(&mut interrupted),
+        Err(WriteFault { written: 0 })
+    );
     assert!(rt; interrupted.taken.is_empty());
     Ok(())
 }

@@ -17,7 +17,6 @@ use labels::Labels;
 use mxf_klv::{Encode, Progress, WriteFault};
 use std::io::Write;
 use std::marker::Model;
-
 pub use table::PrimerLabels;
 
 /// A primer pack (ST 377-1, Primer Pack): the labels that the tags of the local sets stand for.

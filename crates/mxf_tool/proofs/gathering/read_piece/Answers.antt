@@ -1,4 +1,3 @@
-use Rattle.std.proofs.Common.{◌≡◌}
 use Rattle.std.proofs.lemmas.Option.{IfSome_then}
 use Rattle.mxf_tool.proofs.gathering.read_piece.Goals as goal
 

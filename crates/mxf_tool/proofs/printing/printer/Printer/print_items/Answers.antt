@@ -7,21 +7,19 @@ use Rattle.mxf_tool.proofs.PrintLaws.{leads_first, leads_on, leads_fault, leads_
 use Rattle.mxf_tool.proofs.printing.printer.Printer.print_items.Goals as goal
 
 pub each-init : goal.each-init
-each-init g c =
-    (
-      leads_first (g.W.Write.contents c.args.writer.now) c.args.self.now.progress.written (λ item. item_line c.args.set.now.offset (label_by_copy c.args.views.now c.args.set.now.copy item.tag) item ∷ [])
+each-init g c = (
+  leads_first (g.W.Write.contents c.args.writer.now) c.args.self.now.progress.written (λ item. item_line c.args.set.now.offset (label_by_copy c.args.views.now c.args.set.now.copy item.tag) item ∷ [])
       c.into_iter-item-iterator.result c.args.items (grind arith),
-      c.requires,
-    )
+  c.requires,
+)
 
 pub each-preserved : goal.each-preserved
 each-preserved g c =
-    let contents = g.W.Write.contents in
-    (
+    let contents = g.W.Write.contents in (
       leads_on (contents c.args.writer.now) (contents c.each.writer) (contents c.print_item.new.writer)
-      c.args.self.now.progress.written c.each.self.progress.written c.print_item.new.self.progress.written
-      (flat_map (λ item. item_line c.args.set.now.offset (label_by_copy c.args.views.now c.args.set.now.copy item.tag) item ∷ []) c.args.items) (λ item. item_line c.args.set.now.offset (label_by_copy c.args.views.now c.args.set.now.copy item.tag) item ∷ []) c.each.item-iterator c.in-Some.item c.next.new.self
-      c.in-Some.ensures.steps c.each.invariant.0 c.in_ok-print_item.ensures.lines,
+          c.args.self.now.progress.written c.each.self.progress.written c.print_item.new.self.progress.written
+          (flat_map (λ item. item_line c.args.set.now.offset (label_by_copy c.args.views.now c.args.set.now.copy item.tag) item ∷ []) c.args.items) (λ item. item_line c.args.set.now.offset (label_by_copy c.args.views.now c.args.set.now.copy item.tag) item ∷ []) c.each.item-iterator c.in-Some.item c.next.new.self
+          c.in-Some.ensures.steps c.each.invariant.0 c.in_ok-print_item.ensures.lines,
       c.in_ok-print_item.ensures.labels,
     )
 

@@ -7,21 +7,19 @@ use Rattle.mxf_tool.proofs.PrintLaws.{leads_first, leads_on, leads_fault, leads_
 use Rattle.mxf_tool.proofs.printing.printer.Printer.print_sets.Goals as goal
 
 pub each-init : goal.each-init
-each-init g c =
-    (
-      leads_first (g.W.Write.contents c.args.writer.now) c.args.self.now.progress.written (set_lines c.args.views.now)
+each-init g c = (
+  leads_first (g.W.Write.contents c.args.writer.now) c.args.self.now.progress.written (set_lines c.args.views.now)
       c.into_iter-note-iterator.result (clear_notes c.args.views.now) (grind arith),
-      c.none-labels.ensures c.args.views.now,
-    )
+  c.none-labels.ensures c.args.views.now,
+)
 
 pub each-preserved : goal.each-preserved
 each-preserved g c =
-    let contents = g.W.Write.contents in
-    (
+    let contents = g.W.Write.contents in (
       leads_on (contents c.args.writer.now) (contents c.each.writer) (contents c.print_set.new.writer)
-      c.args.self.now.progress.written c.each.self.progress.written c.print_set.new.self.progress.written
-      (flat_map (set_lines c.args.views.now) (clear_notes c.args.views.now)) (set_lines c.args.views.now) c.each.note-iterator c.in-Some.note.now c.next.new.self
-      c.in-Some.ensures.steps c.each.invariant.0 c.in_ok-print_set.ensures.lines,
+          c.args.self.now.progress.written c.each.self.progress.written c.print_set.new.self.progress.written
+          (flat_map (set_lines c.args.views.now) (clear_notes c.args.views.now)) (set_lines c.args.views.now) c.each.note-iterator c.in-Some.note.now c.next.new.self
+          c.in-Some.ensures.steps c.each.invariant.0 c.in_ok-print_set.ensures.lines,
       c.in_ok-print_set.ensures.labels,
     )
 
