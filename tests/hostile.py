@@ -10,10 +10,6 @@ of processor time, n log n in the bytes of its sources, and a bound of memory, l
 bound fails, as does anything on standard error. What is noted, why a piece ends, and the saved catalogue are compared with
 those of the reader below, which goes by ST 336 alone. Cut at packets, with repeats, a part saved, in another order, the
 sources leave the same catalogue, and a saved one is shown as they are.
-
-Some shapes cost today's program the product of two counts, so their sizes are kept small here: sets in many copies
-(`copies`, `zones`), items of a long primer pack (`long_primer`), references among many sets (`long_batches`), random index
-packs (`random_indexes`).
 """
 import concurrent.futures
 import math
@@ -146,7 +142,7 @@ def circles(rng):
 def zones(rng):
     """Copies of the header metadata whose zones lie over one another, and past the end."""
     lines = []
-    for number in range(rng.randint(2, 30)):
+    for number in range(rng.choice((rng.randint(2, 30), 3000))):
         lines += [f"{'body' if number else 'header'} header-bytes={rng.choice((46, 106, 500, 3000, 10**5, 2**63, GREATEST))}"]
         lines += ["fill 20"] * rng.randint(0, 2) + ["primer"] * rng.randint(0, 2)
         lines += [f"preface 3C0A={uid(number)} 3B03={uid(9)}"] * rng.randint(0, 2) + ["raw-set"] * rng.randint(0, 3)
@@ -155,15 +151,15 @@ def zones(rng):
 
 def copies(rng):
     """Many copies of the header metadata."""
-    many = rng.choice((10, 100, 1000))
+    many = rng.choice((10, 1000, 8000))
     lines = [f"{'body' if n else 'header'} header-bytes=106;primer;preface 3C0A={uid(1)} 3B03={uid(2)}" for n in range(many)]
     return [(0, laid(";".join(lines).split(";")))]
 
 
 def random_indexes(rng):
     """Many random index packs."""
-    many = rng.choice((2, 100, 3000))
-    return [(0, laid(["header"] + [f"rip 0:0 {rng.randint(0, 3)}:{108 * n}" for n in range(many)]))]
+    many = rng.choice((2, 100, 8000))
+    return [(0, laid(["header"] + ["essence 0"] * many + [f"rip 0:0 {rng.randint(0, 3)}:{108 * n}" for n in range(many)]))]
 
 
 def segments_of_a_unit(rng):
@@ -179,7 +175,7 @@ def segments_of_a_unit(rng):
 
 def long_primer(rng):
     """A primer pack of many entries, some of one tag, and a set of many items: the longest value that is kept, at times."""
-    many, few = rng.choice(((3, 3), (60, 60), (1000, 1000), (1, 60000), (233016, 40)))
+    many, few = rng.choice(((3, 3), (60, 60), (30000, 16000), (1, 60000), (233016, 16000)))
     entries = b"".join(rng.randint(0, 2 * many % 65536).to_bytes(2, "big") + b"\xAB" * 16 for _ in range(many))
     fields = b"".join(rng.randint(0, 2 * many % 65536).to_bytes(2, "big") + b"\0\0" for _ in range(few))
     primer = f"primer value={batch(many, 18, entries)}"
@@ -188,10 +184,10 @@ def long_primer(rng):
 
 def long_batches(rng):
     """Many references in one batch, found, missing or of several sets."""
-    many = rng.choice((10, 200, 3000))
+    many = rng.choice((10, 200, 4000))
     refs = batch(many, 16, b"".join(bytes.fromhex(uid(rng.randint(3, 60))) for _ in range(many)))
     lines = [f"preface 3C0A={uid(1)} 3B03={uid(2)} 3B06={refs}", f"content-storage 3C0A={uid(2)} 1901={refs}"]
-    lines += [f"{rng.choice(SETS[1:])} 3C0A={uid(rng.randint(3, 40))}" for _ in range(rng.randint(0, 60))]
+    lines += [f"{rng.choice(SETS[1:])} 3C0A={uid(rng.randint(3, 40))}" for _ in range(rng.choice((rng.randint(0, 60), many)))]
     size = len(laid(["primer"] + lines))
     return [(0, laid([f"header header-bytes={size}", "primer"] + lines))]
 
