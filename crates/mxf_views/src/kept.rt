@@ -1,12 +1,12 @@
 //! What the views keep of the clear notes: where partitions, index table segments, random index packs and unreadable
 //! partition packs stand, and the copies of the header metadata.
-ghost use Rattle.std.specs.Prelude.{◌≡◌, List, ◌<◌, ◌≤◌, IfOk, OnOk, count_by, ◌++◌, ◌∷◌, ◌+◌, [], vec_len, vec_capacity};
+ghost use Rattle.std.specs.Prelude.{◌≡◌, List, ◌<◌, ◌≤◌, IfOk, OnOk, count_by, ◌++◌, ◌∷◌, ◌+◌, [], ℕ, vec_len, vec_capacity};
 ghost use Rattle.mxf_klv.specs.Parts.{NoteParts};
 ghost use Rattle.mxf_klv.specs.Rising.{In};
 ghost use Rattle.mxf_catalogue.specs.Content.{IsContent, union_of, with_note};
 ghost use Rattle.mxf_catalogue.specs.Disputes.{clear_notes};
 ghost use Rattle.mxf_views.specs.Kept.{is_placed, states_metadata, HasRoom, HasRoomForOne, IsArrival, kept_in, kept_of};
-ghost use Rattle.mxf_views.specs.KeptAbove.{IsUnionAt};
+ghost use Rattle.mxf_views.specs.KeptAbove.{IsUnionAt, MeetAt};
 ghost use Rattle.mxf_views.specs.Sums.{HasSumsRoom};
 ghost use Rattle.mxf_views.specs.declared.kept.offsets.Placed.{Placed};
 
@@ -99,6 +99,15 @@ impl Kept {
         Ok(room)
     }
 
+    /// Room for the sums of the notes of another catalogue, where they begin at a boundary or above.
+    pub fn sums_room_above(&self, other: &Catalogue) -> Result<Vec<Sum>, AllocError>
+        ensures { (boundary : ℕ) (own : List NoteParts) → MeetAt boundary own other.now
+            → IfOk result (λ r. HasSumsRoom (union_of own other.now) boundary r.items (vec_capacity r)) }
+    {
+        let room = Vec::with_capacity(*self.partitions.allocator(), other.len())?;
+        Ok(room)
+    }
+
     /// Makes room for what is kept of another catalogue as well.
     fn reserve(&mut self, other: &Catalogue) -> Result<(), AllocError>
         ensures kept { kept_in self.new ≡ kept_in self.old }
@@ -153,10 +162,11 @@ impl Kept {
 
     /// Follows the arrival of notes that begin at the boundary or above, where there is room: from what is kept of the notes
     /// below it to what is kept of all. Only what is new is counted.
-    pub fn follow_above(&mut self, catalogue: &Catalogue, boundary: u64)
+    pub fn follow_above(&mut self, catalogue: &Catalogue, boundary: u64, room: Vec<Sum>)
         requires kept { (own : List NoteParts) × IsUnionAt boundary catalogue.now own
             × (kept_in self.old ≡ kept_of own) }
         requires room { HasRoom catalogue.now self.old }
+        requires sums { HasSumsRoom catalogue.now boundary room.items (vec_capacity room) }
         ensures { kept_in self.new ≡ kept_of catalogue.now }
     {
         append_offsets(&mut self.partitions, catalogue, boundary, Placed::Partition);
@@ -173,7 +183,7 @@ impl Kept {
             boundary,
             Placed::UnreadablePack,
         );
-        follow_copies_above(&mut self.copies, catalogue, boundary);
+        follow_copies_above(&mut self.copies, catalogue, boundary, room);
         refill_reaches(&mut self.reaches, &self.copies);
     }
 

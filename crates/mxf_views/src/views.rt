@@ -160,8 +160,11 @@ impl Views {
         let Ok(()) = self.kept.make_room_for(&self.catalogue, &other) else {
             return Err(MergeFault { other });
         };
+        let Ok(room) = self.kept.sums_room_above(&other) else {
+            return Err(MergeFault { other });
+        };
         self.catalogue.merge(other)?;
-        self.kept.follow_above(&self.catalogue, boundary);
+        self.kept.follow_above(&self.catalogue, boundary, room);
         Ok(())
     }
 

@@ -1,17 +1,16 @@
 //! What is kept once notes are there that begin where all others end, or above: only what is new is counted.
 ghost use Rattle.std.specs.Prelude.{◌≡◌, ◌≤◌, ◌+◌, ◌++◌, ℕ, List, IfSome, Some, count_by, filter, length, map, vec_len, vec_capacity};
-ghost use Rattle.std.specs.List.{filter_map};
 ghost use Rattle.mxf_klv.specs.Parts.{NoteParts};
 ghost use Rattle.mxf_klv.specs.Rising.{In};
-ghost use Rattle.mxf_catalogue.specs.Disputes.{clear_notes};
 ghost use Rattle.mxf_views.specs.declared.copy.CopyInfo.{CopyInfo};
 ghost use Rattle.mxf_views.specs.Copies.{CopiesRise, copies_of};
-ghost use Rattle.mxf_views.specs.Kept.{copy_by, is_placed, states_metadata};
+ghost use Rattle.mxf_views.specs.Kept.{is_placed, states_metadata};
 ghost use Rattle.mxf_views.specs.KeptAbove.{CountsFit, IsStarting, IsUnionAt, MeetAt, clear_from, counted_above, counted_on, started};
+ghost use Rattle.mxf_views.specs.Sums.{HasSumsRoom};
 
-use super::copies::copy_by;
 use super::offsets::Placed;
 use super::push;
+use super::sums::{Sum, Sums, append_copies};
 use crate::copy::zone::covered;
 use crate::copy::{CopyInfo, copy_there, prefaces, start_of};
 use mxf_catalogue::Catalogue;
@@ -42,20 +41,6 @@ pub(super) fn append_offsets(
     for note in catalogue.clear_within(boundary, u64::MAX) {
         if kind.has(note) {
             push(offsets, note.offset());
-        }
-    }
-}
-
-/// Puts the copies of the partitions from the boundary on behind others, where there is room.
-fn append_copies(copies: &mut Vec<CopyInfo>, catalogue: &Catalogue, boundary: u64)
-    requires { vec_len copies.old + count_by states_metadata (clear_from boundary catalogue.now)
-        ≤ vec_capacity copies.old }
-    ensures { copies.new.items ≡ copies.old.items
-        ++ filter_map (copy_by (clear_notes catalogue.now)) (clear_from boundary catalogue.now) }
-{
-    for note in catalogue.clear_within(boundary, u64::MAX) {
-        if let Some(copy) = copy_by(catalogue, note) {
-            push(copies, copy);
         }
     }
 }
@@ -138,17 +123,24 @@ fn count_above(
 }
 
 /// Follows the arrival of notes from the boundary on, where there is room: from the copies of the notes below it to those
-/// of all notes.
-pub(super) fn follow_copies_above(copies: &mut Vec<CopyInfo>, catalogue: &Catalogue, boundary: u64)
+/// of all notes. The new notes are summed up once for all new copies.
+pub(super) fn follow_copies_above(
+    copies: &mut Vec<CopyInfo>,
+    catalogue: &Catalogue,
+    boundary: u64,
+    room: Vec<Sum>,
+)
     requires kept { (own : List NoteParts) × IsUnionAt boundary catalogue.now own
         × (copies.old.items ≡ copies_of own) }
     requires room { vec_len copies.old + count_by states_metadata (clear_from boundary catalogue.now)
         ≤ vec_capacity copies.old }
+    requires sums { HasSumsRoom catalogue.now boundary room.items (vec_capacity room) }
     ensures { copies.new.items ≡ copies_of catalogue.now }
 {
     // What a catalogue lends can be counted.
     let _clear = catalogue.clear();
+    let sums = Sums::of(catalogue, boundary, room);
     let starting = starting(copies, catalogue, boundary);
     count_above(copies, catalogue, boundary, starting);
-    append_copies(copies, catalogue, boundary);
+    append_copies(copies, &sums);
 }
