@@ -4,6 +4,8 @@
 #![tactic(auto)]
 
 #[cfg(test)]
+mod additions;
+#[cfg(test)]
 mod building;
 #[cfg(test)]
 mod copies;
