@@ -1,6 +1,7 @@
 //! Texts that name sources, and bytes as digits.
 use crate::printing::hexadecimal::hex_text;
 use crate::source::{Source, SourceFault, parse_source};
+use mxf_klv::OutOfMemory;
 use std::test::Fail;
 
 #[test]
@@ -27,9 +28,14 @@ fn words_name_sources(rt: HostRuntime) {
     }
 }
 
+// It holds whichever growth is refused: tests/refusals refuses each.
 #[test]
 fn bytes_print_as_two_digits_each(rt: HostRuntime) -> Result<(), Fail> {
-    let text = hex_text(rt.alloc(), &[0x0A, 0xFF])?;
+    let alloc = rt.alloc();
+    let text = match hex_text(alloc, &[0x0A, 0xFF]) {
+        Ok(text) => text,
+        Err(OutOfMemory) => hex_text(alloc, &[0x0A, 0xFF])?,
+    };
     assert_eq!(rt; text.as_str(), "0aff");
     Ok(())
 }
