@@ -4,13 +4,8 @@ use Rattle.std.specs.List.{AllByRecursion}
 use Rattle.mxf_klv.specs.Parts.{NoteParts}
 use Rattle.mxf_klv.specs.Note.{IsNote, head_note, keeps}
 use Rattle.mxf_klv.specs.Rising.{In}
-use Rattle.mxf_catalogue.specs.Content.{IsReplaced}
+use Rattle.mxf_catalogue.specs.Content.{IsOfPacket, IsReplaced}
 use Rattle.mxf_catalogue.proofs.ContentLaws.{all-In}
-
--- a note with these four fields is that of a whole packet
-abbrev pub IsOfPacket : NoteParts → NoteParts → Type 0
-IsOfPacket m n =
-    (m.whole ≡ true) × (m.offset ≡ n.offset) × (m.key ≡ n.key) × (m.width ≡ n.width) × (m.length ≡ n.length)
 
 no_bytes : (xs : List ℕ) → length xs ≡ 0 → [] ≡ xs
 no_bytes [] e = refl
@@ -32,10 +27,10 @@ own_head n is w =
 
 same_heads : (m n : NoteParts) → IsOfPacket m n → head_note m ≡ head_note n
 same_heads m n s = λ i. record {
-  offset = s.1 i;
-  key = s.2 i;
-  width = s.3 i;
-  length = s.4 i;
+  offset = s.offset i;
+  key = s.key i;
+  width = s.width i;
+  length = s.length i;
   whole = false;
   held = [];
 }
@@ -54,20 +49,20 @@ replaced_words n notes is all = (
         (
           s.0,
           s.1,
-          (
-            whole,
-            ap (λ (x : NoteParts). x.offset) s.3,
-            ap (λ (x : NoteParts). x.key) s.3,
-            ap (λ (x : NoteParts). x.width) s.3,
-            ap (λ (x : NoteParts). x.length) s.3,
-          ),
+          record {
+            whole = whole;
+            offset = ap (λ (x : NoteParts). x.offset) s.3;
+            key = ap (λ (x : NoteParts). x.key) s.3;
+            width = ap (λ (x : NoteParts). x.width) s.3;
+            length = ap (λ (x : NoteParts). x.length) s.3;
+          },
         ),
       ),
   λ h.
       let m = h.1.0 in (
         m,
         h.1.1,
-        (λ e. let a = ap (λ (x : NoteParts). x.whole) e in let b = h.1.2.0 in let c = h.0 in cc (a, b, c)),
+        (λ e. let a = ap (λ (x : NoteParts). x.whole) e in let b = h.1.2.whole in let c = h.0 in cc (a, b, c)),
         same_heads m n h.1.2 ∙ own_head n is h.0,
       ),
 )

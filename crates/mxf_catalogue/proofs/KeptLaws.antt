@@ -1,6 +1,6 @@
 -- What a catalogue keeps, once a note is there.
-use Rattle.std.specs.Prelude.{◌≡◌, ℕ, ◌+◌, ◌≤◌, List, [], map}
-use Rattle.std.proofs.Common.{sym, subst, inl, inr, refl}
+use Rattle.std.specs.Prelude.{◌≡◌, ◌↔◌, ℕ, ◌+◌, ◌-◌, ◌<◌, ◌≤◌, max, List, [], map}
+use Rattle.std.proofs.Common.{arith, sym, subst, inl, inr, refl}
 use Rattle.mxf_klv.specs.Parts.{NoteParts}
 use Rattle.mxf_klv.specs.Note.{IsInSpan, IsNote, end_of, head_note}
 use Rattle.mxf_klv.specs.Rising.{In}
@@ -152,3 +152,27 @@ pub near_clear : (x : NoteParts) (c d : List NoteParts) → (touching x c ≡ []
 near_clear x c d some =
     let m = some_member (touching x c) some in
     let t = (In-touching x m.0 c).0 m.1 in (m.0, (In-union_of m.0 c d).1 (inl t.0), t.1)
+
+-- the greatest end of both parts
+pub end_of_parts : (c d : List NoteParts) (few : List Run) → IsKept c d few → (one two bound : ℕ)
+    → one ≤ bound ↔ ((n : NoteParts) → In n c → end_of n ≤ bound)
+    → two ≤ bound ↔ ((offset : ℕ) → LiesIn few offset → offset < bound)
+    → max one two ≤ bound ↔ ((n : NoteParts) → In n (union_of c d) → end_of n ≤ bound)
+end_of_parts c d few k one two bound p q = (
+  λ l n h. elim ((In-union_of n c d).0 h) [
+    | inl i ↦ p.0 (omega (arith, l)) n i
+    | inr i ↦
+        let from : n.offset ≤ end_of n - 1 = omega arith in
+        let before : end_of n - 1 + 1 ≤ end_of n = omega arith in
+        let low : end_of n - 1 < bound =
+        q.0 (omega (arith, l)) (end_of n - 1) ((k.covers (end_of n - 1)).1 (n, i, record { from = from; before = before })) in
+        omega (arith, low)
+  ],
+  λ f.
+      let a : one ≤ bound = p.1 (λ n h. f n ((In-union_of n c d).1 (inl h))) in
+      let b : two ≤ bound = q.1 (λ offset h.
+      let s = (k.covers offset).0 h in
+      let e : end_of s.0 ≤ bound = f s.0 ((In-union_of s.0 c d).1 (inr s.1)) in
+      let w : offset + 1 ≤ end_of s.0 = s.2.before in omega (arith, e, w)) in
+      omega (arith, a, b),
+)

@@ -321,6 +321,17 @@ disputed_part c d p =
       (λ h. let k = f.0 h in disputed_is c d p n (t.0 k.1) k.0),
     ))
 
+pub In-disputed_part : (c d : List NoteParts) → AreParts c d → (n : NoteParts)
+    → In n d ↔ (In n (union_of c d) × IsDisputed n (union_of c d))
+In-disputed_part c d p n =
+    let u = union_of c d in (
+      λ h. (
+        (In-union_of n c d).1 (inr h),
+        let s = p.shared n h in (s.0, (In-union_of s.0 c d).1 (inr s.1), s.2, s.3),
+      ),
+      λ h. disputed_is c d p n h.1 h.0,
+    )
+
 -- What shares a byte with a disputed note is disputed.
 partner : (c d : List NoteParts) → AreParts c d → (m n : NoteParts) → In n d → In m (union_of c d) → m ≢ n
     → SharesByte m n → In m d

@@ -1,12 +1,14 @@
 //! The set of notes, and the laws of contents.
-ghost use Rattle.std.specs.Prelude.{◌≡◌, ◌≢◌, ◌↔◌, ◌⊎◌, ◌==◌, ◌^◌, ◌<◌, List, [], filter, find, length};
+ghost use Rattle.std.specs.Prelude.{◌≡◌, ◌≢◌, ◌↔◌, ◌⊎◌, ◌==◌, ◌^◌, ◌<◌, ◌≤◌, ℕ, List, [], filter, find, length, false};
 ghost use Rattle.std.specs.Prelude.{IsTrue, IfErr, IfNone, IfOk, IfSome, OnOk, OnErr};
+ghost use Rattle.std.specs.List.{AllByRecursion};
 ghost use Rattle.std.specs.Option.{option_copied};
+ghost use Rattle.mxf_klv.specs.Note.{IsNote, end_of};
 ghost use Rattle.mxf_klv.specs.Parts.{NoteParts};
 ghost use Rattle.mxf_klv.specs.Rising.{In, SameMembers};
-ghost use Rattle.mxf_catalogue.specs.Content.{AreReduced, IsCatalogue, IsContent, IsReplaced, has_note, reduced, reduced_union, reduced_with};
-ghost use Rattle.mxf_catalogue.specs.Content.{union_of, with_note};
-ghost use Rattle.mxf_catalogue.specs.Disputes.{AreApart, IsClear, clear_notes, disputed_notes, lies_in};
+ghost use Rattle.mxf_catalogue.specs.Content.{AreReduced, IsCatalogue, IsContent, IsOfPacket, IsReplaced};
+ghost use Rattle.mxf_catalogue.specs.Content.{has_note, reduced, reduced_union, reduced_with, union_of, with_note};
+ghost use Rattle.mxf_catalogue.specs.Disputes.{AreApart, IsClear, IsDisputed, clear_notes, disputed_notes, lies_in};
 ghost use Rattle.mxf_catalogue.specs.History.{History, Add, Join, content};
 ghost use Rattle.mxf_catalogue.specs.Moved.{TellsMoved};
 ghost use Rattle.mxf_catalogue.specs.Parts.{Covers, touching};
@@ -20,7 +22,7 @@ mod notes;
 mod parts;
 mod placing;
 
-use crate::cover::Cover;
+use crate::cover::{self, Cover};
 use crate::semilattice::Semilattice;
 pub use change::{AddFault, Change, Offsets, moved_notes_by_definition};
 pub use clear::{ClearNotes, clear_notes_by_definition, clear_notes_stand_apart};
@@ -36,7 +38,7 @@ use merging::{MergedNotes, Room};
 use mxf_klv::{Note, OutOfMemory};
 pub use notes::Notes;
 use parts::Parts;
-use placing::{at_offset, touched, within};
+use placing::{at_offset, is_in, last_end, touched, within};
 use std::alloc::Global;
 use std::marker::Model;
 use std::mem::replace;
@@ -274,6 +276,21 @@ impl Catalogue {
         DisputedNotes::of(&self.parts.disputed)
     }
 
+    /// Whether the note is held and disputed: a binary search.
+    pub fn disputes(&self, note: &Note) -> bool
+        ensures { IsTrue result ↔ (In note.now self.now × IsDisputed note.now self.now) }
+    {
+        is_in(&self.parts.disputed, note)
+    }
+
+    /// The greatest end of a note, in bytes, be it claimed by a head; 0 where there is no note.
+    pub fn end(&self) -> u64
+        ensures { (bound : ℕ) → result ≤ bound ↔ ((n : NoteParts) → In n self.now → end_of n ≤ bound) }
+    {
+        let disputed = cover::last_end(&self.parts.disputed_spans);
+        last_end(&self.parts.clear).max(disputed)
+    }
+
     /// The clear note with this file offset, in bytes: a binary search.
     pub fn clear_at(&self, offset: u64) -> Option<&Note>
         ensures first { option_copied result ≡ find (λ n. n.offset == offset) (clear_notes self.now) }
@@ -335,12 +352,14 @@ impl Semilattice for Catalogue {
     }
 }
 
-/// A law: a content is its set of notes, and [`add`](Catalogue::add) and
-/// [`join`](Semilattice::join) are by these sets.
+/// A law: a content is its set of notes, and [`add`](Catalogue::add) and [`join`](Semilattice::join) are by these sets,
+/// reduced: without the heads whose four fields are those of a note of a whole packet.
 pub fn contents_are_sets()
     ensures one { (a b : List NoteParts) → IsContent a → IsContent b → SameMembers a b → a ≡ b }
     ensures with_note { (m n : NoteParts) (notes : List NoteParts) → In m (with_note n notes) ↔ (m ≡ n) ⊎ In m notes }
     ensures union { (n : NoteParts) (a b : List NoteParts) → In n (union_of a b) ↔ In n a ⊎ In n b }
+    ensures replaced { (n : NoteParts) (notes : List NoteParts) → IsNote n → AllByRecursion IsNote notes
+        → IsReplaced n notes ↔ ((n.whole ≡ false) × ((m : NoteParts) × In m notes × IsOfPacket m n)) }
     ensures reduced { (n : NoteParts) (notes : List NoteParts)
         → In n (reduced notes) ↔ (In n notes × (IsReplaced n notes → ⊥)) }
     ensures reduced_before { (a b : List NoteParts) → IsContent a → IsContent b

@@ -1,5 +1,5 @@
 //! Where notes stand in a content: at its end, or by binary search.
-ghost use Rattle.std.specs.Prelude.{◌≡◌, ◌≢◌, ◌↔◌, ◌+◌, ◌<◌, ◌≤◌, ◌++◌, take, drop, filter, map, length};
+ghost use Rattle.std.specs.Prelude.{◌≡◌, ◌≢◌, ◌↔◌, ◌+◌, ◌<◌, ◌≤◌, ◌++◌, ℕ, take, drop, filter, map, length};
 ghost use Rattle.std.specs.Prelude.{vec_len, vec_capacity, IsTrue, IfErr, IfNone, IfOk, IfSome, OnOk};
 ghost use Rattle.std.specs.List.{AllWithin};
 ghost use Rattle.mxf_klv.specs.Parts.{NoteParts};
@@ -60,6 +60,18 @@ pub(super) fn put_over_head(notes: &mut Vec<Note>, note: Note)
     match notes.binary_search(&note.to_head()) {
         Ok(at) => notes[at] = note,
         Err(_) => unreachable!(),
+    }
+}
+
+/// The end of the last of the notes, of which no two share a byte; 0 where there is none.
+pub(super) fn last_end(notes: &[Note]) -> u64
+    requires content { IsContent notes.now }
+    requires apart { StandApart notes.now }
+    ensures { (bound : ℕ) → result ≤ bound ↔ ((n : NoteParts) → In n notes.now → end_of n ≤ bound) }
+{
+    match notes.last() {
+        Some(last) => last.end(),
+        None => 0,
     }
 }
 
