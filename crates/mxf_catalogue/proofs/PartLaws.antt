@@ -380,11 +380,11 @@ same_parts c d c' d' p p' s =
 -- A note takes the place of its head in one of the parts.
 
 -- what shares a byte with a head shares it with the note of its packet
-with_head : (x n : NoteParts) → SharesByte x n → SharesByte (head_note x) n
+pub with_head : (x n : NoteParts) → SharesByte x n → SharesByte (head_note x) n
 with_head x n s =
     (s.0, record { from = s.1.from; before = s.1.before }, s.2)
 
-with_whole : (x n : NoteParts) → SharesByte (head_note x) n → SharesByte x n
+pub with_whole : (x n : NoteParts) → SharesByte (head_note x) n → SharesByte x n
 with_whole x n s =
     (s.0, record { from = s.1.from; before = s.1.before }, s.2)
 

@@ -211,6 +211,13 @@ impl Catalogue {
         self.parts.have(note)
     }
 
+    /// Whether the note is held, or is the head of a held one: to add it is `Repeated` then. Two binary searches.
+    pub fn has(&self, note: &Note) -> bool
+        ensures { IsTrue result ↔ has_note self.now note.now }
+    {
+        self.parts.tell(note)
+    }
+
     /// The number of notes.
     pub fn len(&self) -> usize
         ensures { result ≡ length self.now }
