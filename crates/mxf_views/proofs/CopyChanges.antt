@@ -1,5 +1,5 @@
 -- What leaves a copy of the header metadata as it is.
-use Rattle.std.proofs.Common.{◌≡◌, ℕ, ◌+◌, ◌<◌, ◌≤◌, ◌⊎◌, true, List, Some, None, sym, ap, subst}
+use Rattle.std.proofs.Common.{◌≡◌, ℕ, ◌+◌, ◌<◌, ◌≤◌, ◌⊎◌, true, List, Some, None, sym, ap}
 use Rattle.std.proofs.Common.{◌∙◌, inl, inr, arith, leb-true}
 use Rattle.std.specs.Prelude.{◌↔◌, ◌==◌, count_by}
 use Rattle.mxf_klv.specs.Parts.{NoteParts}

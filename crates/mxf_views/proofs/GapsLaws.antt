@@ -11,7 +11,7 @@ use Rattle.mxf_catalogue.specs.Content.{IsCatalogue, IsContent}
 use Rattle.mxf_catalogue.proofs.ContentLaws.{all-In}
 use Rattle.mxf_catalogue.proofs.SpanLaws.{offset_le}
 use Rattle.mxf_catalogue.specs.declared.run.Run.{Run}
-use Rattle.mxf_views.specs.Gaps.{gaps_from, gaps_of, IsGap, AreGaps}
+use Rattle.mxf_views.specs.Gaps.{gaps_from, gaps_of, AreGaps}
 use Rattle.mxf_catalogue.specs.Runs.{IsWithin, LiesIn, AreMaximal}
 
 -- a note covers its first byte, and nothing above its end

@@ -1,7 +1,6 @@
 -- What is kept of a content, and what an addition makes of it.
 use Rattle.std.proofs.Common.{◌≡◌, ℕ, Bool, List, [], refl, sym, ap, ◌∙◌}
 use Rattle.mxf_klv.specs.Parts.{NoteParts}
-use Rattle.mxf_klv.specs.Rising.{In}
 use Rattle.mxf_catalogue.specs.Content.{IsContent, reduced_with}
 use Rattle.mxf_catalogue.specs.Disputes.{clear_notes}
 use Rattle.mxf_views.specs.declared.copy.CopyInfo.{CopyInfo}

@@ -1,5 +1,5 @@
-use Rattle.std.specs.Prelude.{◌^◌, ◌<◌, ◌∷◌, List, length, refl}
-use Rattle.std.proofs.Common.{◌≡◌, ◌↔◌, ◌∙◌, ap, inl, inr, subst, sym}
+use Rattle.std.specs.Prelude.{◌^◌, ◌<◌, List, length, refl}
+use Rattle.std.proofs.Common.{◌↔◌, ◌∙◌, ap, inl, inr, subst}
 use Rattle.mxf_klv.specs.Note.{head_note}
 use Rattle.mxf_klv.specs.Parts.{NoteParts}
 use Rattle.mxf_klv.specs.Rising.{In}
