@@ -165,12 +165,15 @@ In-reduced_with x n notes p new =
     let w = λ (z : NoteParts). In-with_note z n notes in (
       λ h. elim ((w x).0 (r.0 h).0) [
         | inl e ↦ inl e
-        | inr i ↦ inr (i, λ e. (r.0 h).1 (
-          n,
-          (w n).1 (inl refl),
-          (λ q. new (inl (subst (λ z. In z notes) (sym q) i))),
-          sym e,
-        ))
+        | inr i ↦ inr (
+          i,
+          λ e. (r.0 h).1 (
+            n,
+            (w n).1 (inl refl),
+            (λ q. new (inl (subst (λ z. In z notes) (sym q) i))),
+            sym e,
+          ),
+        )
       ],
       λ h. r.1 (elim h [
         | inl e ↦ (

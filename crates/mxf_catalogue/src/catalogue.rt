@@ -306,16 +306,8 @@ impl Catalogue {
         ensures found { IfSome result (λ n. IsClear n.now self.now × (n.now.offset ≡ offset)) }
         ensures none { IfNone result ((n : NoteParts) → IsClear n self.now → n.offset ≢ offset) }
     {
-        match at_offset(&self.parts.clear, offset) {
-            Some(note) => {
-                if note.is_head() {
-                    None
-                } else {
-                    Some(note)
-                }
-            }
-            None => None,
-        }
+        let note = at_offset(&self.parts.clear, offset)?;
+        if note.is_head() { None } else { Some(note) }
     }
 }
 

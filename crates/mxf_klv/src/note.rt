@@ -59,8 +59,14 @@ impl Model for Note {
 
     ghost Value = { NoteParts };
 
-    ghost view = { λ n. record { offset = n.offset; key = n.key; width = n.width; length = n.length;
-        whole = is_whole n.kept; held = kept_bytes n.kept } };
+    ghost view = { λ n. record {
+      offset = n.offset;
+      key = n.key;
+      width = n.width;
+      length = n.length;
+      whole = is_whole n.kept;
+      held = kept_bytes n.kept;
+    } };
 
     ghost invariant = { λ n. IsLabel n.key × CanSpell n.width n.length
         × (n.offset + 16 + n.width + n.length ≤ greatest_end)

@@ -44,9 +44,12 @@ IsContent-laid at (p ∷ ps) =
 located-laid : (l : List PacketParts) (n : NoteParts) → IsLocated (IsNoteOf l) n ↔ In n (notes_from 0 l)
 located-laid l n = (
   λ h. h.0,
-  λ h. (h, λ y i ne e.
-      let w = is_whole 0 l n h in
-      let u = ap (λ (m : NoteParts). m.whole) e in cc (w, u)),
+  λ h. (
+    h,
+    λ y i ne e.
+        let w = is_whole 0 l n h in
+        let u = ap (λ (m : NoteParts). m.whole) e in cc (w, u),
+  ),
 )
 
 read_from_front : (l : List PacketParts) → IsWellFormed l → IsReadFromFront (notes_from 0 l) l

@@ -32,7 +32,9 @@ impl Offsets {
     pub(super) fn of(alloc: Global, notes: &[Note]) -> Result<Offsets, AllocError>
         ensures { IfOk result (λ o. o ≡ map (λ n. n.offset) (whole_notes notes.now)) }
     {
-        let items = ClearNotes::of(notes).map(|note| note.offset()).collect(alloc)?;
+        let items = ClearNotes::of(notes)
+            .map(|note| note.offset())
+            .collect(alloc)?;
         Ok(Offsets { items })
     }
 

@@ -41,22 +41,31 @@ head_alone cs ds notes m offset p v h at head n clear e =
       | inr ne ↦ apart_of cs ds p n m i h ne (SharesByte-same_offset n m (e ∙ sym at))
     ]
 
-pub returns-in-None-clause-none : goal.returns-in-None-clause-none
-returns-in-None-clause-none c n h =
-    let parts = c.self.inside.parts in
-    c.in-None.ensures.none n (subst (In n) (sym c.deref.ensures.value)
-    (in_part parts.clear.items parts.disputed.items c.args.self.now n c.self.invariant.kept.parts c.self.view_is h))
+-- where no note of the first part stands, no clear note does
+none_there : (cs ds notes some : List NoteParts) (offset : ℕ) → AreParts cs ds → union_of cs ds ≡ notes → some ≡ cs
+    → ((n : NoteParts) → In n some → n.offset ≢ offset) → (n : NoteParts) → IsClear n notes → n.offset ≢ offset
+none_there cs ds notes some offset p v same none n h =
+    none n (subst (In n) (sym same) (in_part cs ds notes n p v h))
 
-pub returns-in-None-clause-first : goal.returns-in-None-clause-first
-returns-in-None-clause-first c =
-    sym (clear_at-lacked c.args.offset c.args.self.now (returns-in-None-clause-none c))
+pub returns-in_err-note-clause-none : goal.returns-in_err-note-clause-none
+returns-in_err-note-clause-none c =
+    let parts = c.self.inside.parts in
+    rw c.from_residual.ensures (none_there parts.clear.items parts.disputed.items c.args.self.now c.deref.result.now
+    c.args.offset c.self.invariant.kept.parts c.self.view_is c.deref.ensures.value c.in_err-note.ensures.none)
+
+pub returns-in_err-note-clause-first : goal.returns-in_err-note-clause-first
+returns-in_err-note-clause-first c =
+    let parts = c.self.inside.parts in
+    let none = none_there parts.clear.items parts.disputed.items c.args.self.now c.deref.result.now c.args.offset
+    c.self.invariant.kept.parts c.self.view_is c.deref.ensures.value c.in_err-note.ensures.none in
+    rw c.from_residual.ensures (sym (clear_at-lacked c.args.offset c.args.self.now none))
 
 pub returns-then-is_head-clause-none : goal.returns-then-is_head-clause-none
 returns-then-is_head-clause-none c =
     let parts = c.self.inside.parts in
-    let m = c.in-Some.note.now in
+    let m = c.in_ok-note.note.now in
     head_alone parts.clear.items parts.disputed.items c.args.self.now m c.args.offset c.self.invariant.kept.parts
-    c.self.view_is (subst (In m) c.deref.ensures.value c.in-Some.ensures.found.0) c.in-Some.ensures.found.1
+    c.self.view_is (subst (In m) c.deref.ensures.value c.in_ok-note.ensures.found.0) c.in_ok-note.ensures.found.1
     (sym c.is_head.ensures ∙ c.if-is_head.true)
 
 pub returns-then-is_head-clause-first : goal.returns-then-is_head-clause-first
@@ -66,14 +75,14 @@ returns-then-is_head-clause-first c =
 pub returns-else-is_head-clause-found : goal.returns-else-is_head-clause-found
 returns-else-is_head-clause-found c =
     let parts = c.self.inside.parts in
-    let m = c.in-Some.note.now in (
+    let m = c.in_ok-note.note.now in (
       clear_there parts.clear.items parts.disputed.items c.args.self.now m c.self.invariant.kept.parts c.self.view_is
-          (subst (In m) c.deref.ensures.value c.in-Some.ensures.found.0)
+          (subst (In m) c.deref.ensures.value c.in_ok-note.ensures.found.0)
           (is_whole m.whole (sym c.is_head.ensures ∙ c.if-is_head.false)),
-      c.in-Some.ensures.found.1,
+      c.in_ok-note.ensures.found.1,
     )
 
 pub returns-else-is_head-clause-first : goal.returns-else-is_head-clause-first
 returns-else-is_head-clause-first c =
     let f = returns-else-is_head-clause-found c in
-    sym (clear_at-found c.args.offset c.args.self.now c.in-Some.note.now f.0 f.1)
+    sym (clear_at-found c.args.offset c.args.self.now c.in_ok-note.note.now f.0 f.1)

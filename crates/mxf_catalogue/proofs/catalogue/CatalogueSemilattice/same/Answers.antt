@@ -21,10 +21,10 @@ returns-then-eq-clause-members c =
     c.other.invariant.kept.parts in (
       λ h (m : NoteParts). (subst (λ l. has_note l m) (same h), subst (λ l. has_note l m) (sym (same h))),
       λ k. d.1 (back (same_members (union_of a.clear.items a.disputed.items) (union_of b.clear.items b.disputed.items)
-      c.self.invariant.kept.reduced c.other.invariant.kept.reduced (λ m. (
-        λ h. subst (λ l. has_note l m) (sym c.other.view_is) ((k m).0 (subst (λ l. has_note l m) c.self.view_is h)),
-        λ h. subst (λ l. has_note l m) (sym c.self.view_is) ((k m).1 (subst (λ l. has_note l m) c.other.view_is h)),
-      )))).1,
+          c.self.invariant.kept.reduced c.other.invariant.kept.reduced (λ m. (
+            λ h. subst (λ l. has_note l m) (sym c.other.view_is) ((k m).0 (subst (λ l. has_note l m) c.self.view_is h)),
+            λ h. subst (λ l. has_note l m) (sym c.self.view_is) ((k m).1 (subst (λ l. has_note l m) c.other.view_is h)),
+          )))).1,
     )
 
 pub returns-then-eq-clause-list : goal.returns-then-eq-clause-list
@@ -49,10 +49,10 @@ returns-else-eq-clause-members c =
     c.other.invariant.kept.parts in (
       λ h. let f = c.if-eq.false in cc (h, f),
       λ k. d.1 (back (same_members (union_of a.clear.items a.disputed.items) (union_of b.clear.items b.disputed.items)
-      c.self.invariant.kept.reduced c.other.invariant.kept.reduced (λ m. (
-        λ h. subst (λ l. has_note l m) (sym c.other.view_is) ((k m).0 (subst (λ l. has_note l m) c.self.view_is h)),
-        λ h. subst (λ l. has_note l m) (sym c.self.view_is) ((k m).1 (subst (λ l. has_note l m) c.other.view_is h)),
-      )))).0,
+          c.self.invariant.kept.reduced c.other.invariant.kept.reduced (λ m. (
+            λ h. subst (λ l. has_note l m) (sym c.other.view_is) ((k m).0 (subst (λ l. has_note l m) c.self.view_is h)),
+            λ h. subst (λ l. has_note l m) (sym c.self.view_is) ((k m).1 (subst (λ l. has_note l m) c.other.view_is h)),
+          )))).0,
     )
 
 pub returns-else-eq-clause-list : goal.returns-else-eq-clause-list

@@ -25,7 +25,6 @@ located_own : (notes : List NoteParts) → AreReduced notes → (n : NoteParts)
     → In n notes ↔ IsLocated (has_note notes) n
 located_own notes r n = In-located (has_note notes) notes r (known_own notes) n
 
-
 pub returns-in-Ok-clause-run : goal.returns-in-Ok-clause-run
 returns-in-Ok-clause-run c =
     let notes = c.notes-notes.ensures in
