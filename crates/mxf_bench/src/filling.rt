@@ -28,8 +28,14 @@ const PRIMER_KEY: [u8; 16] = [
 /// The value of a primer pack without an entry.
 const PRIMER_VALUE: [u8; 8] = [0x00, 0x00, 0x00, 0x00, 0x00, 0x00, 0x00, 0x12];
 
+/// The bytes of the partition pack.
+const PACK: u64 = 17 + 88;
+
+/// The bytes of the primer pack.
+const PRIMER: u64 = 17 + 8;
+
 /// The bytes of the two packets.
-const HEAD: u64 = 17 + 88 + 17 + 8;
+const HEAD: u64 = PACK + PRIMER;
 
 /// The notes of a piece.
 const PIECE: u64 = 10;
@@ -45,7 +51,7 @@ fn views_of_head(alloc: Global) -> Option<Views> {
     let mut views = Views::new(alloc);
     let header = note_of(alloc, 0, HEADER_KEY, &HEADER_VALUE)?;
     views.add(header).ok()?;
-    let primer = note_of(alloc, 105, PRIMER_KEY, &PRIMER_VALUE)?;
+    let primer = note_of(alloc, PACK, PRIMER_KEY, &PRIMER_VALUE)?;
     views.add(primer).ok()?;
     Some(views)
 }
@@ -59,7 +65,7 @@ fn offset(number: u64) -> Option<u64> {
 /// primer pack and so many notes have.
 fn counts(views: &Views, count: u64) -> Option<Counts> {
     let copy = views.copies().first()?;
-    let filled = offset(count)?.checked_sub(105)?;
+    let filled = offset(count)?.checked_sub(PACK)?;
     (copy.covered == filled).then_some(Counts {
         notes: views.catalogue().len(),
         disputed: views.catalogue().disputed().count(),
@@ -92,4 +98,30 @@ pub fn fill_by_pieces(alloc: Global, count: u64) -> Option<Counts> {
         views.merge(piece(alloc, number)?).ok()?;
     }
     counts(&views, count.checked_mul(PIECE)?)
+}
+
+/// The catalogue of a partition pack at an offset, in bytes, whose header metadata is the primer pack behind it.
+fn partition(alloc: Global, offset: u64) -> Option<Catalogue> {
+    let mut value = HEADER_VALUE;
+    value[32..40].copy_from_slice(&PRIMER.to_be_bytes());
+    let mut catalogue = Catalogue::new(alloc);
+    let pack = note_of(alloc, offset, HEADER_KEY, &value)?;
+    catalogue.add(pack).ok()?;
+    let primer = note_of(alloc, offset.checked_add(PACK)?, PRIMER_KEY, &PRIMER_VALUE)?;
+    catalogue.add(primer).ok()?;
+    Some(catalogue)
+}
+
+/// Merges so many consecutive pieces into views, each a partition with a finished copy of the header metadata.
+pub fn take_in_copies(alloc: Global, count: u64) -> Option<Counts> {
+    let mut views = Views::new(alloc);
+    for number in 0..count {
+        let piece = partition(alloc, number.checked_mul(HEAD)?)?;
+        views.merge(piece).ok()?;
+    }
+    let finished = views.copies().iter().filter(|copy| copy.finished).count();
+    (finished as u64 == count).then_some(Counts {
+        notes: views.catalogue().len(),
+        disputed: views.catalogue().disputed().count(),
+    })
 }

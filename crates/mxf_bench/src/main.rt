@@ -2,15 +2,16 @@
 //!
 //! RUN is an order, `ascending`, `descending`, `shuffled` or `overlapping`, in which so many notes are added to a catalogue
 //! one by one; or `notes`, where they are added to views, in the zone of one copy of the header metadata; or `pieces`,
-//! where so many pieces of ten notes are merged into such views. It prints how many notes are held and how many of them
-//! are disputed, and ends with status 0; with other words, or for want of memory, with status 2.
+//! where so many pieces of ten notes are merged into such views; or `copies`, where each piece is a partition with a copy
+//! of its own. It prints how many notes are held and how many of them are disputed, and ends with status 0; with other
+//! words, or for want of memory, with status 2.
 #![tactic(auto)]
 
 mod adding;
 mod filling;
 
 use adding::{Counts, Order, add_notes};
-use filling::{fill_by_notes, fill_by_pieces};
+use filling::{fill_by_notes, fill_by_pieces, take_in_copies};
 use std::alloc::Global;
 use std::env;
 use std::process::ExitCode;
@@ -22,6 +23,7 @@ enum Run {
     Adds(Order),
     Notes,
     Pieces,
+    Copies,
 }
 
 impl Run {
@@ -30,6 +32,7 @@ impl Run {
         match name {
             "notes" => Some(Run::Notes),
             "pieces" => Some(Run::Pieces),
+            "copies" => Some(Run::Copies),
             _ => Some(Run::Adds(Order::named(name)?)),
         }
     }
@@ -40,6 +43,7 @@ impl Run {
             Run::Adds(order) => add_notes(alloc, order, count),
             Run::Notes => fill_by_notes(alloc, count),
             Run::Pieces => fill_by_pieces(alloc, count),
+            Run::Copies => take_in_copies(alloc, count),
         }
     }
 }

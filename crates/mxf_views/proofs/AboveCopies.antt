@@ -1,6 +1,6 @@
 -- The copies of the header metadata, once notes are there that begin where the others end, or above.
 use Rattle.std.proofs.Common.{◌≡◌, ℕ, ◌+◌, ◌-◌, ◌<◌, ◌≤◌, ◌⊎◌, true, false, cond, List, [], ◌∷◌, ◌++◌, Option, Some, None}
-use Rattle.std.proofs.Common.{refl, sym, ap, subst, ◌∙◌, inl, inr, arith, length, eqb-true, eq-eqb}
+use Rattle.std.proofs.Common.{refl, sym, ap, subst, ◌∙◌, inl, inr, arith, get_or, length, eqb-true, eq-eqb}
 use Rattle.std.specs.Prelude.{◌==◌, nat_lt, slice_get, find, map, count_by, if◌then◌else◌}
 use Rattle.std.specs.List.{cons_option, filter_map}
 use Rattle.std.specs.Option.{option_and_then, option_map}
@@ -24,6 +24,7 @@ use Rattle.mxf_catalogue.proofs.Lists.{length-filter_le}
 use Rattle.mxf_views.specs.Spans.{is_in_one}
 use Rattle.mxf_views.proofs.CopyLaws.{copy_there}
 use Rattle.mxf_views.proofs.CopyUpdates.{start_is_found}
+use Rattle.mxf_views.proofs.Members.{false_if}
 use Rattle.mxf_views.proofs.PartitionSearch.{has_copy}
 use Rattle.mxf_views.proofs.AboveLaws.{no_bytes}
 use Rattle.mxf_catalogue.specs.Content.{union_of}
@@ -35,12 +36,12 @@ use Rattle.mxf_views.specs.declared.copy.CopyInfo.{CopyInfo}
 use Rattle.mxf_views.specs.Copies.{CopiesRise, IsStart, copies_of, copy_from, copy_of, covered_of, has_metadata}
 use Rattle.mxf_views.specs.Copies.{is_preface_note, prefaces_of, start_of, zone_of}
 use Rattle.mxf_views.specs.Kept.{copy_by, or_itself}
-use Rattle.mxf_views.specs.KeptAbove.{CountsFit, IsStarting, IsUnionAt, MeetAt, clear_from, counted_above, counted_on, is_of, with_counts}
+use Rattle.mxf_views.specs.KeptAbove.{CountsFit, EndsBy, IsOfNone, IsStarting, IsUnionAt, MeetAt, clear_from, counted_above, counted_on, is_of, with_counts}
 use Rattle.mxf_views.specs.Partitions.{PartitionParts, partition_at, partitions_of}
 use Rattle.mxf_views.specs.Spans.{sizes, size_of}
 use Rattle.mxf_views.proofs.AboveLaws.{clear_in_both, clear_of_both, new_are_clear, union_is_content, zone_from, zone_goes_on, zone_of_both}
 use Rattle.mxf_views.proofs.CopyChanges.{SameClear, start_stays}
-use Rattle.mxf_views.proofs.CopyUpdates.{copies_by_notes, end-partition_at, or_of, partition_found, partitions_of_copies_rise}
+use Rattle.mxf_views.proofs.CopyUpdates.{copies_by_notes, end-partition_at, or_of, partition_found, partitions_at, partitions_of_copies_rise}
 use Rattle.mxf_views.proofs.PartitionSearch.{copy_found, is_there, of_note, of_partition}
 use Rattle.mxf_views.proofs.SpanCounts.{count-le, zone-count}
 use Rattle.mxf_views.proofs.StartLaws.{clear_same, start_is}
@@ -70,6 +71,28 @@ last_held cs last e =
     let k = length cs - 1 in
     subst (λ (x : CopyInfo). In x cs) (get_or_from_slice_get cs k last last e)
     (In-at cs k last (slice_get_within cs k last e))
+
+-- All before the last are of other partitions.
+pub others_before : (cs : List CopyInfo) (last : CopyInfo) → CopiesRise cs → slice_get cs (length cs - 1) ≡ Some last
+    → IsOfNone cs (length cs - 1) (Some last.partition)
+others_before cs last r e k d from below =
+    let at = length cs - 1 in
+    let within = slice_get_within cs at last e in
+    let up = partitions_at cs k at d r below within in
+    let there = ap (λ (x : CopyInfo). x.partition) (get_or_from_slice_get cs at last d e) in
+    false_if (last.partition == (get_or cs k d).partition)
+    (λ t. let same = eqb-true last.partition (get_or cs k d).partition t in omega (arith, same, up, there))
+
+-- Nothing is counted on in a zone that ends at the boundary or below.
+pub stays_above : (notes : List NoteParts) (b : ℕ) (starting : Option ℕ) (c : CopyInfo) → EndsBy b c
+    → is_of c.partition starting ≡ false → counted_above notes b starting c c.start ≡ c
+stays_above notes b starting c ends other =
+    elim (c.start) as (λ o. c.start ≡ o → counted_above notes b starting c o ≡ c) [
+      | None ↦ λ e. rw other refl
+      | Some s ↦ λ e. (
+          let l : s + c.bytes ≤ b = ends s e in
+          let none : c.bytes - (b - s) ≡ 0 = omega (arith, l) in rw (eq-eqb (c.bytes - (b - s)) 0 none) refl)
+    ] refl
 
 -- ---- what can be a start
 

@@ -299,7 +299,7 @@ rise-with_copy c (d ∷ ds) r ne =
     ] refl
 
 -- What a place by partitions says.
-partitions_at : (cs : List CopyInfo) (i j : ℕ) (d : CopyInfo) → CopiesRise cs → i < j → j < length cs
+pub partitions_at : (cs : List CopyInfo) (i j : ℕ) (d : CopyInfo) → CopiesRise cs → i < j → j < length cs
     → (get_or cs i d).partition < (get_or cs j d).partition
 partitions_at [] i j d r l h = absurd (omega arith)
 partitions_at (c ∷ cs) zero zero d r l h = absurd (omega arith)

@@ -1,8 +1,11 @@
 -- Lists whose first elements were changed one after another.
-use Rattle.std.proofs.Common.{◌≡◌, ℕ, zero, suc, ◌+◌, ◌<◌, List, [], ◌∷◌, ◌++◌, refl, ap, arith, drop, get_or, length, map, set, sym, ◌∙◌}
+use borrow.Rule.Slice.PartMut.{post_of, put_mid}
+use Rattle.std.proofs.Common.{◌≡◌, ℕ, zero, suc, ◌+◌, ◌<◌, ◌≤◌, List, [], ◌∷◌, ◌++◌, refl, ap, arith, drop, get_or, length, map, set, sym, ◌∙◌, append-nil, inr, subst}
 use Rattle.std.proofs.Common.{take, cond, filter, Option, Some, None}
-use Rattle.std.specs.Prelude.{is_some}
-use Rattle.std.specs.List.{cons_option, filter_map}
+use Rattle.std.specs.Prelude.{◌-◌, is_some}
+use Rattle.std.proofs.lemmas.List.{drop_all, length-append, length-drop, length-take, take_all}
+use Rattle.mxf_klv.specs.Rising.{In}
+use Rattle.std.specs.List.{AllWithin, cons_option, filter_map}
 
 -- Changing the next one as well.
 pub next_changed : {K : Type 0} (f : K → K) (xs : List K) (d : K) (i : ℕ) → i < length xs
@@ -33,3 +36,55 @@ pub next_unchanged : {K : Type 0} (f : K → K) (xs : List K) (d : K) (i : ℕ) 
 next_unchanged f [] d i h = absurd (omega arith)
 next_unchanged f (x ∷ xs) d zero h = refl
 next_unchanged f (x ∷ xs) d (suc i) h = next_unchanged f xs d i (omega arith)
+
+-- Where a function leaves the first elements as they are, only those behind them need be changed.
+pub map_rest : {K : Type 0} (f : K → K) (xs : List K) (at : ℕ) → AllWithin (λ x. f x ≡ x) xs 0 at
+    → take at xs ++ map f (drop at xs) ≡ map f xs
+map_rest f xs zero a = refl
+map_rest f [] (suc at) a = refl
+map_rest f (x ∷ xs) (suc at) a =
+    ap (λ l. x ∷ l) (map_rest f xs at (λ k d l h. a (suc k) d (omega arith) (omega arith)))
+    ∙ ap (λ y. y ∷ map f xs) (sym (a 0 x (omega arith) (omega arith)))
+
+-- The first of a list with others behind them.
+pub take_front : {K : Type 0} (xs ys : List K) (at : ℕ) → at ≤ length xs → take at (take at xs ++ ys) ≡ take at xs
+take_front xs ys zero l = refl
+take_front [] ys (suc at) l = absurd (omega arith)
+take_front (x ∷ xs) ys (suc at) l = ap (λ l. x ∷ l) (take_front xs ys at (omega arith))
+
+-- What stands before an element is told by the first alone.
+pub before_taken : {K : Type 0} (x : K) (xs : List K) (at : ℕ) (d : K)
+    → get_or (x ∷ xs) at d ≡ get_or (x ∷ take at xs) at d
+before_taken x xs zero d = refl
+before_taken x [] (suc at) d = refl
+before_taken x (y ∷ xs) (suc at) d = before_taken y xs at d
+
+pub rest_taken : {K : Type 0} (xs : List K) (at : ℕ) → take (length xs - at) (drop at xs) ≡ drop at xs
+rest_taken xs at = let l = length-drop at xs in take_all (length xs - at) (drop at xs) (omega (arith, l))
+
+In-drop : {K : Type 0} (xs : List K) (x : K) (at : ℕ) → In x (drop at xs) → In x xs
+In-drop xs x zero h = h
+In-drop [] x (suc at) h = h
+In-drop (y ∷ xs) x (suc at) h = inr (In-drop xs x at h)
+
+-- What is in the rest of a list, read as a range up to its end, is in the list.
+pub in_rest : {K : Type 0} (xs : List K) (x : K) (at : ℕ) → In x (take (length xs - at) (drop at xs)) → In x xs
+in_rest xs x at h = In-drop xs x at (subst (In x) (rest_taken xs at) h)
+
+-- A list once others were written in place of all from a place on.
+pub rest_written : {K : Type 0} (xs zs ys : List K) (at len : ℕ) → zs ≡ xs → len ≡ length xs → at ≤ length xs
+    → length ys ≡ length xs - at
+    → take len (put_mid at (length zs - at) zs ys ++ drop (length (put_mid at (length zs - at) zs ys)) xs)
+    ≡ take at xs ++ ys
+rest_written {K} xs zs ys at len e whole l m =
+    let none : post_of at (length xs - at) xs ≡ [] =
+    let d = length-drop at xs in drop_all (length xs - at) (drop at xs) (omega (arith, d)) in
+    let same : put_mid at (length zs - at) zs ys ≡ take at xs ++ ys =
+    ap (λ (l : List K). put_mid at (length l - at) l ys) e
+    ∙ ap (λ (l : List K). take at xs ++ (ys ++ l)) none ∙ ap (λ (l : List K). take at xs ++ l) (append-nil ys) in
+    let count = length-append (take at xs) ys in
+    let first = length-take at xs in
+    let size : length (take at xs ++ ys) ≡ length xs = omega (arith, count, first, l, m) in
+    ap (λ (l : List K). take len (l ++ drop (length l) xs)) same
+    ∙ ap (λ (l : List K). take len ((take at xs ++ ys) ++ l)) (drop_all (length (take at xs ++ ys)) xs (omega (arith, size)))
+    ∙ ap (take len) (append-nil (take at xs ++ ys)) ∙ take_all len (take at xs ++ ys) (omega (arith, size, whole))

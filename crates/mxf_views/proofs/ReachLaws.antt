@@ -1,6 +1,6 @@
 -- How far copies reach, and the first of them that has a packet.
-use Rattle.std.proofs.Common.{◌≡◌, ℕ, zero, suc, ◌+◌, ◌<◌, ◌≤◌, Bool, true, false, List, [], ◌∷◌, Option, Some, None}
-use Rattle.std.proofs.Common.{refl, sym, ap, subst, arith, get_or, length, leb-true, le-leb, cond}
+use Rattle.std.proofs.Common.{◌≡◌, ℕ, zero, suc, ◌+◌, ◌<◌, ◌≤◌, Bool, true, false, List, [], ◌∷◌, ◌++◌, Option, Some, None}
+use Rattle.std.proofs.Common.{refl, sym, ap, subst, arith, drop, get_or, length, take, leb-true, le-leb, cond}
 use Rattle.std.specs.Prelude.{◌==◌, filter, find, map, max, nat_le, nat_lt}
 use Rattle.std.specs.Bool.{then_some}
 use Rattle.std.specs.List.{AllWithin}
@@ -12,7 +12,8 @@ use Rattle.mxf_klv.specs.Note.{end_of}
 use Rattle.mxf_catalogue.proofs.Lists.{find-none, length-filter_le}
 use Rattle.mxf_views.specs.declared.copy.CopyInfo.{CopyInfo}
 use Rattle.mxf_views.specs.Copies.{copies_of}
-use Rattle.mxf_views.specs.Kept.{IsStartBelow, StartsRise, copies_followed, is_outside, reach_from, reach_of, reaches_from, renewed, with_copy, with_found}
+use Rattle.mxf_views.specs.Kept.{IsStartBelow, StartsRise, copies_followed, is_outside, reach_from, reach_of, reaches_from, reaches_of, renewed, with_copy, with_found}
+use Rattle.mxf_views.specs.KeptAbove.{EndsBy}
 use Rattle.mxf_views.specs.Labels.{is_in_copy, is_in_zone}
 use Rattle.mxf_views.proofs.Members.{all-each, both, false_if, parts}
 
@@ -109,6 +110,38 @@ first_reaches n high (c ∷ cs) (suc at) d fits r h l a b =
     let lacks : is_in_copy n c ≡ false = far_lacks n c fits (omega (arith, first)) in
     rw lacks (first_reaches n (max high (reach_of c)) cs at d fits r.1 first (omega arith)
     (λ k d m h. a (suc k) d (omega arith) (omega arith)) b)
+
+-- The first reaches, and those of the copies behind from the greatest of these on.
+pub reaches_go_on : (high : ℕ) (cs : List CopyInfo) (at : ℕ) → at ≤ length cs
+    → take at (reaches_from high cs) ++ reaches_from (get_or (high ∷ reaches_from high cs) at 0) (drop at cs)
+    ≡ reaches_from high cs
+reaches_go_on high cs zero l = refl
+reaches_go_on high [] (suc at) l = absurd (omega arith)
+reaches_go_on high (c ∷ cs) (suc at) l =
+    ap (λ xs. max high (reach_of c) ∷ xs) (reaches_go_on (max high (reach_of c)) cs at (omega arith))
+
+pub take_reaches : (high : ℕ) (cs : List CopyInfo) (at : ℕ)
+    → take at (reaches_from high cs) ≡ reaches_from high (take at cs)
+take_reaches high cs zero = refl
+take_reaches high [] (suc at) = refl
+take_reaches high (c ∷ cs) (suc at) = ap (λ xs. max high (reach_of c) ∷ xs) (take_reaches (max high (reach_of c)) cs at)
+
+-- A copy reaches no further than it and those before it.
+reach_among : (high : ℕ) (cs : List CopyInfo) (k : ℕ) (d : CopyInfo) → k < length cs
+    → reach_of (get_or cs k d) ≤ get_or (reaches_from high cs) k 0
+reach_among high [] k d h = absurd (omega arith)
+reach_among high (c ∷ cs) zero d h = omega arith
+reach_among high (c ∷ cs) (suc k) d h = reach_among (max high (reach_of c)) cs k d (omega arith)
+
+-- Where the first copies reach no further than an offset, their zones end there or below.
+pub ends_by_reach : (cs : List CopyInfo) (limit offset at : ℕ) → limit ≤ offset + 1 → limit ≤ 18446744073709551615
+    → at ≤ length cs → AllWithin (λ r. r < limit) (reaches_of cs) 0 at → AllWithin (EndsBy offset) cs 0 at
+ends_by_reach cs limit offset at l m n a k d from below s e =
+    let c = get_or cs k d in
+    let reach : reach_of c ≤ get_or (reaches_of cs) k 0 = reach_among 0 cs k d (omega (arith, n, below)) in
+    let high : get_or (reaches_of cs) k 0 < limit = a k 0 from below in
+    let is : reach_of c ≡ reach_from c.bytes (Some s) = ap (reach_from c.bytes) e in
+    omega (arith, reach, high, is, l, m)
 
 -- An arrival brings one copy at most.
 length-with_copy : (c : CopyInfo) (cs : List CopyInfo) → length (with_copy c cs) ≡ suc (length cs)

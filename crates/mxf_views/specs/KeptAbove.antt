@@ -1,6 +1,7 @@
 -- What the views keep once notes are there that begin where the others end, or above (this project's profile).
 use Rattle.std.specs.Prelude.{◌≡◌, ℕ, ◌+◌, ◌-◌, ◌<◌, ◌≤◌, ◌^◌, ◌⊎◌, Bool, false, ◌==◌, if◌then◌else◌}
 use Rattle.std.specs.Prelude.{Option, None, Some, List, find}
+use Rattle.std.specs.List.{AllWithin}
 use Rattle.mxf_klv.specs.Parts.{NoteParts}
 use Rattle.mxf_klv.specs.Note.{end_of}
 use Rattle.mxf_klv.specs.Rising.{In}
@@ -76,3 +77,11 @@ IsStarting notes boundary copies starting =
 pub record CountsFit (notes : List NoteParts) (boundary : ℕ) (c : CopyInfo) (start : ℕ) : Type 0 where
   pub covered : c.covered + covered_of boundary (bytes_above boundary c start) (clear_notes notes) ≤ c.bytes
   pub prefaces : c.prefaces + prefaces_of boundary (bytes_above boundary c start) (clear_notes notes) < 2 ^ 64
+
+-- The zone of the copy, where it has a start, ends at the offset or below.
+abbrev pub EndsBy : ℕ → CopyInfo → Type 0
+EndsBy offset c = (start : ℕ) → c.start ≡ Some start → start + c.bytes ≤ offset
+
+-- The partition is that of none of the first copies.
+abbrev pub IsOfNone : List CopyInfo → ℕ → Option ℕ → Type 0
+IsOfNone copies count partition = AllWithin (λ c. is_of c.partition partition ≡ false) copies 0 count

@@ -18,7 +18,7 @@ pub(crate) mod reaches;
 pub(crate) mod sums;
 
 use crate::copy::CopyInfo;
-use crate::kept::above::{append_offsets, follow_copies_above};
+use crate::kept::above::{append_offsets, follow_copies_above, settled};
 use crate::kept::arrival::Arrival;
 use crate::kept::copies::{count_copies, follow_copies, refill_copies};
 use crate::kept::offsets::{Placed, count, follow, refill, stands};
@@ -159,7 +159,7 @@ impl Kept {
             Placed::UnreadablePack,
         );
         refill_copies(&mut self.copies, &sums);
-        refill_reaches(&mut self.reaches, &self.copies);
+        refill_reaches(&mut self.reaches, &self.copies, 0);
     }
 
     /// Follows the arrival of notes that begin at the boundary or above, where there is room: from what is kept of the notes
@@ -185,8 +185,10 @@ impl Kept {
             boundary,
             Placed::UnreadablePack,
         );
-        follow_copies_above(&mut self.copies, catalogue, boundary, room);
-        refill_reaches(&mut self.reaches, &self.copies);
+        let sums = Sums::of(catalogue, boundary, room);
+        let settled = settled(&self.copies, &self.reaches, boundary);
+        follow_copies_above(&mut self.copies, settled, &sums);
+        refill_reaches(&mut self.reaches, &self.copies, settled);
     }
 
     /// Follows the arrival of a note in a catalogue, where there is room: from what is kept of the notes before to what
@@ -208,7 +210,7 @@ impl Kept {
         follow(&mut self.random_index_packs, arrival, random_index_pack);
         follow(&mut self.unreadable_packs, arrival, unreadable_pack);
         follow_copies(&mut self.copies, catalogue, arrival);
-        refill_reaches(&mut self.reaches, &self.copies);
+        refill_reaches(&mut self.reaches, &self.copies, 0);
     }
 }
 

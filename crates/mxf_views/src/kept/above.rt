@@ -1,18 +1,18 @@
 //! What is kept once notes are there that begin where all others end, or above: only what is new is counted.
-ghost use Rattle.std.specs.Prelude.{◌≡◌, ◌≤◌, ◌+◌, ◌++◌, ℕ, List, IfSome, Some, count_by, filter, length, map, vec_len, vec_capacity};
+ghost use Rattle.std.specs.Prelude.{◌≡◌, ◌≤◌, ◌+◌, ◌-◌, ◌++◌, ℕ, List, IfSome, Some, count_by, filter, length, map, take, vec_len, vec_capacity};
+ghost use Rattle.std.specs.List.{AllWithin};
 ghost use Rattle.mxf_klv.specs.Parts.{NoteParts};
 ghost use Rattle.mxf_klv.specs.Rising.{In};
 ghost use Rattle.mxf_views.specs.declared.copy.CopyInfo.{CopyInfo};
 ghost use Rattle.mxf_views.specs.Copies.{CopiesRise, copies_of};
-ghost use Rattle.mxf_views.specs.Kept.{is_placed, states_metadata};
-ghost use Rattle.mxf_views.specs.KeptAbove.{CountsFit, IsStarting, IsUnionAt, MeetAt, clear_from, counted_above, counted_on, started};
-ghost use Rattle.mxf_views.specs.Sums.{HasSumsRoom};
+ghost use Rattle.mxf_views.specs.Kept.{is_placed, reaches_of, states_metadata};
+ghost use Rattle.mxf_views.specs.KeptAbove.{CountsFit, EndsBy, IsOfNone, IsStarting, IsUnionAt, MeetAt, clear_from, counted_above, counted_on, started};
 
 use super::offsets::Placed;
 use super::push;
-use super::sums::{Sum, Sums, append_copies};
-use crate::copy::zone::covered;
-use crate::copy::{CopyInfo, copy_there, prefaces, start_of};
+use super::reaches::count_below;
+use super::sums::{Sums, append_copies};
+use crate::copy::{CopyInfo, copy_there, start_of};
 use mxf_catalogue::Catalogue;
 
 /// Where the notes of a catalogue end, if those of another begin there or above.
@@ -48,11 +48,23 @@ pub(super) fn append_offsets(
     }
 }
 
+/// The number of the copies before the last whose zones end at the boundary or below, as those of all before them do:
+/// notes from the boundary on leave these copies as they are.
+pub(super) fn settled(copies: &[CopyInfo], reaches: &[u64], boundary: u64) -> usize
+    requires { reaches.now ≡ reaches_of copies.now }
+    ensures bound { result ≤ length copies.now - 1 }
+    ensures ended { AllWithin (EndsBy boundary) copies.now 0 result }
+{
+    let ended = count_below(reaches, boundary.saturating_add(1));
+    ended.min(copies.len().saturating_sub(1))
+}
+
 /// The partition whose copy can get a start by the notes from the boundary on: only that of the last copy can, and only
 /// where these notes begin with a start.
 fn starting(copies: &[CopyInfo], catalogue: &Catalogue, boundary: u64) -> Option<u64>
     requires { CopiesRise copies.now }
-    ensures { IsStarting catalogue.now boundary copies.now result }
+    ensures starting { IsStarting catalogue.now boundary copies.now result }
+    ensures last { IsOfNone copies.now (length copies.now - 1) result }
 {
     start_of(catalogue, boundary)?;
     let last = copies.last()?;
@@ -60,19 +72,21 @@ fn starting(copies: &[CopyInfo], catalogue: &Catalogue, boundary: u64) -> Option
 }
 
 /// The copy that begins below the boundary, with what lies in its zone from the boundary on.
-fn counted_on(catalogue: &Catalogue, boundary: u64, copy: &CopyInfo, start: u64) -> CopyInfo
-    requires { CountsFit catalogue.now boundary copy.now start }
-    ensures { result ≡ counted_on catalogue.now boundary copy.now start }
+fn counted_on(sums: &Sums<'_>, copy: &CopyInfo, start: u64) -> CopyInfo
+    requires { CountsFit sums.now.notes sums.now.boundary copy.now start }
+    ensures { result ≡ counted_on sums.now.notes sums.now.boundary copy.now start }
 {
+    let boundary = sums.boundary();
     let bytes = copy.bytes.saturating_sub(boundary.saturating_sub(start));
     if bytes == 0 {
         return *copy;
     }
-    let covered = copy.covered + covered(catalogue.clear_within(boundary, bytes));
+    let counts = sums.counts(boundary, bytes);
+    let covered = copy.covered + counts.covered;
     CopyInfo {
         covered,
         finished: covered == copy.bytes,
-        prefaces: copy.prefaces + prefaces(catalogue, boundary, bytes),
+        prefaces: copy.prefaces + counts.prefaces,
         ..*copy
     }
 }
@@ -91,59 +105,44 @@ fn started(catalogue: &Catalogue, starting: Option<u64>, copy: &CopyInfo) -> Cop
 }
 
 /// The copy once the notes from the boundary on are there.
-fn counted_above(
-    catalogue: &Catalogue,
-    boundary: u64,
-    starting: Option<u64>,
-    copy: &CopyInfo,
-) -> CopyInfo
-    requires { (start : ℕ) → copy.now.start ≡ Some start → CountsFit catalogue.now boundary copy.now start }
-    ensures { result ≡ counted_above catalogue.now boundary starting copy.now copy.now.start }
+fn counted_above(sums: &Sums<'_>, starting: Option<u64>, copy: &CopyInfo) -> CopyInfo
+    requires { (start : ℕ) → copy.now.start ≡ Some start → CountsFit sums.now.notes sums.now.boundary copy.now start }
+    ensures { result ≡ counted_above sums.now.notes sums.now.boundary starting copy.now copy.now.start }
 {
     match copy.start {
-        Some(start) => counted_on(catalogue, boundary, copy, start),
-        None => started(catalogue, starting, copy),
+        Some(start) => counted_on(sums, copy, start),
+        None => started(sums.catalogue(), starting, copy),
     }
 }
 
 /// Counts what lies in the zones of the copies from the boundary on.
-fn count_above(
-    copies: &mut Vec<CopyInfo>,
-    catalogue: &Catalogue,
-    boundary: u64,
-    starting: Option<u64>,
-)
-    requires { (c : CopyInfo) (start : ℕ) → In c copies.old.items → c.start ≡ Some start
-        → CountsFit catalogue.now boundary c start }
-    ensures items { copies.new.items
-        ≡ map (λ c. counted_above catalogue.now boundary starting c c.start) copies.old.items }
-    ensures len { vec_len copies.new ≡ vec_len copies.old }
-    ensures capacity { vec_capacity copies.new ≡ vec_capacity copies.old }
+fn count_above(copies: &mut [CopyInfo], sums: &Sums<'_>, starting: Option<u64>)
+    requires { (c : CopyInfo) (start : ℕ) → In c copies.old → c.start ≡ Some start
+        → CountsFit sums.now.notes sums.now.boundary c start }
+    ensures { copies.new
+        ≡ map (λ c. counted_above sums.now.notes sums.now.boundary starting c c.start) copies.old }
 {
     for copy in copies.iter_mut() {
-        *copy = counted_above(catalogue, boundary, starting, copy);
+        *copy = counted_above(sums, starting, copy);
     }
 }
 
 /// Follows the arrival of notes from the boundary on, where there is room: from the copies of the notes below it to those
-/// of all notes. The new notes are summed up once for all new copies.
-pub(super) fn follow_copies_above(
-    copies: &mut Vec<CopyInfo>,
-    catalogue: &Catalogue,
-    boundary: u64,
-    room: Vec<Sum>,
-)
-    requires kept { (own : List NoteParts) × IsUnionAt boundary catalogue.now own
+/// of all notes. The new notes are summed up once for all copies; those that are settled stay.
+pub(super) fn follow_copies_above(copies: &mut Vec<CopyInfo>, settled: usize, sums: &Sums<'_>)
+    requires kept { (own : List NoteParts) × IsUnionAt sums.now.boundary sums.now.notes own
         × (copies.old.items ≡ copies_of own) }
-    requires room { vec_len copies.old + count_by states_metadata (clear_from boundary catalogue.now)
+    requires bound { settled ≤ vec_len copies.old - 1 }
+    requires ended { AllWithin (EndsBy sums.now.boundary) copies.old.items 0 settled }
+    requires room { vec_len copies.old + count_by states_metadata (clear_from sums.now.boundary sums.now.notes)
         ≤ vec_capacity copies.old }
-    requires sums { HasSumsRoom catalogue.now boundary room.items (vec_capacity room) }
-    ensures { copies.new.items ≡ copies_of catalogue.now }
+    ensures copies { copies.new.items ≡ copies_of sums.now.notes }
+    ensures settled { take settled copies.new.items ≡ take settled copies.old.items }
+    ensures len { settled ≤ length copies.new.items }
 {
     // What a catalogue lends can be counted.
-    let _clear = catalogue.clear();
-    let sums = Sums::of(catalogue, boundary, room);
-    let starting = starting(copies, catalogue, boundary);
-    count_above(copies, catalogue, boundary, starting);
-    append_copies(copies, &sums);
+    let _clear = sums.catalogue().clear();
+    let starting = starting(copies, sums.catalogue(), sums.boundary());
+    count_above(&mut copies[settled..], sums, starting);
+    append_copies(copies, sums);
 }

@@ -1,5 +1,5 @@
 //! How far the copies of the header metadata reach, and which of them is the first that has a packet.
-ghost use Rattle.std.specs.Prelude.{◌≡◌, ◌<◌, ◌≤◌, find, length, vec_capacity};
+ghost use Rattle.std.specs.Prelude.{◌≡◌, ◌<◌, ◌≤◌, ◌∷◌, find, get_or, length, take, vec_capacity, vec_len};
 ghost use Rattle.std.specs.List.{AllWithin};
 ghost use Rattle.std.specs.List.Sorted.{IsNonDecreasing};
 ghost use Rattle.mxf_views.specs.Kept.{StartsRise, reach_of, reaches_of};
@@ -19,21 +19,32 @@ fn reach_of(copy: &CopyInfo) -> u64
     }
 }
 
-/// Puts how far copies reach in place of what is there, where there is room.
-pub(super) fn refill_reaches(reaches: &mut Vec<u64>, copies: &[CopyInfo])
-    requires { length copies.now ≤ vec_capacity reaches.old }
+/// The greatest of the first reaches; 0 of none.
+fn greatest(reaches: &[u64], count: usize) -> u64
+    requires { count ≤ length reaches.now }
+    ensures { result ≡ get_or (0 ∷ reaches.now) count 0 }
+{
+    if count == 0 { 0 } else { reaches[count - 1] }
+}
+
+/// Puts how far copies reach in place of what is there, where there is room. Those of the first copies stay.
+pub(super) fn refill_reaches(reaches: &mut Vec<u64>, copies: &[CopyInfo], settled: usize)
+    requires room { length copies.now ≤ vec_capacity reaches.old }
+    requires bound { settled ≤ length copies.now }
+    requires reaches { settled ≤ vec_len reaches.old }
+    requires settled { take settled reaches.old.items ≡ take settled (reaches_of copies.now) }
     ensures { reaches.new.items ≡ reaches_of copies.now }
 {
-    reaches.clear();
-    let mut greatest: u64 = 0;
-    for copy in copies {
+    let mut greatest = greatest(reaches, settled);
+    reaches.truncate(settled);
+    for copy in &copies[settled..] {
         greatest = greatest.max(reach_of(copy));
         push(reaches, greatest);
     }
 }
 
 /// The number of the reaches below a file offset.
-fn count_below(reaches: &[u64], end: u64) -> usize
+pub(super) fn count_below(reaches: &[u64], end: u64) -> usize
     requires { IsNonDecreasing reaches.now }
     ensures bound { result ≤ length reaches.now }
     ensures below { AllWithin (λ r. r < end) reaches.now 0 result }

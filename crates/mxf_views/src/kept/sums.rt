@@ -63,6 +63,20 @@ impl<'a> Sums<'a> {
         }
     }
 
+    /// The catalogue whose clear notes are summed up.
+    pub fn catalogue(&self) -> &'a Catalogue
+        ensures { result.now ≡ self.now.notes }
+    {
+        self.catalogue
+    }
+
+    /// From where on, in bytes from the start of the file.
+    pub fn boundary(&self) -> u64
+        ensures { result ≡ self.now.boundary }
+    {
+        self.boundary
+    }
+
     /// What the clear notes that lie wholly in a range cover, and how many Prefaces are among them: two binary searches.
     pub fn counts(&self, start: u64, bytes: u64) -> Counts
         requires { self.now.boundary ≤ start }

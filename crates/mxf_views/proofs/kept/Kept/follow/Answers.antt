@@ -39,8 +39,8 @@ follow_copies-requires-clause-rising c =
     let k = c.requires.kept in
     subst CopiesRise (sym (ap (λ (p : KeptParts). p.copies) k.2)) (copies_rise k.0 k.1)
 
-pub refill_reaches-requires : goal.refill_reaches-requires
-refill_reaches-requires c =
+pub refill_reaches-requires-clause-room : goal.refill_reaches-requires-clause-room
+refill_reaches-requires-clause-room c =
     let a = c.args.arrival.now in
     let old = c.args.self.now in
     let k = c.requires.kept in

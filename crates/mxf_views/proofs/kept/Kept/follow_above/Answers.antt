@@ -1,9 +1,15 @@
-use Rattle.std.proofs.Common.{◌∙◌, ap, arith, length}
+use Rattle.std.proofs.Common.{◌∙◌, ℕ, List, ap, arith, length, sym, take}
+use Rattle.std.specs.Prelude.{count_by}
+use Rattle.mxf_klv.specs.Parts.{NoteParts}
+use Rattle.mxf_views.specs.declared.copy.CopyInfo.{CopyInfo}
+use Rattle.mxf_views.specs.Copies.{copies_of}
+use Rattle.mxf_views.specs.KeptAbove.{clear_from}
 use Rattle.mxf_views.specs.declared.kept.offsets.Placed.TheVariants as kinds
-use Rattle.mxf_views.specs.Kept.{KeptParts, is_placed, reaches_of}
+use Rattle.mxf_views.specs.Kept.{KeptParts, is_placed, reaches_of, states_metadata}
 use Rattle.mxf_views.proofs.AboveKept.{copies_fit, offsets_at, offsets_fit}
 use Rattle.mxf_views.proofs.KeptLaws.{same_kept, with_reaches}
 use Rattle.mxf_views.proofs.KeptRoom.{length-kept_copies}
+use Rattle.mxf_views.proofs.ReachLaws.{length-reaches_from, take_reaches}
 use Rattle.mxf_views.proofs.kept.Kept.follow_above.Goals as goal
 
 pub append_offsets-requires : goal.append_offsets-requires
@@ -38,22 +44,46 @@ pub follow_copies_above-requires-clause-room : goal.follow_copies_above-requires
 follow_copies_above-requires-clause-room c =
     let k = c.requires.kept in
     let list = c.args.self.now.copies in
-    copies_fit c.args.boundary c.args.catalogue.now k.0 k.1 list.items list.len _
-    (ap (λ (p : KeptParts). p.copies) k.2) list.ok.0 c.requires.room.copies
+    let of = c.of-sums.ensures in
+    let count = λ (ns : List NoteParts) (b : ℕ). count_by states_metadata (clear_from b ns) in
+    let same = ap (λ ns. count ns c.of-sums.result.boundary) of.notes ∙ ap (count c.args.catalogue.now) of.boundary in
+    let fit = copies_fit c.args.boundary c.args.catalogue.now k.0 k.1 list.items list.len _
+    (ap (λ (p : KeptParts). p.copies) k.2) list.ok.0 c.requires.room.copies in
+    omega (arith, same, fit)
 
-pub refill_reaches-requires : goal.refill_reaches-requires
-refill_reaches-requires c =
-    let many = ap length (c.deref.ensures.value ∙ c.follow_copies_above.ensures)
-    ∙ length-kept_copies c.args.catalogue.now in
+pub refill_reaches-requires-clause-room : goal.refill_reaches-requires-clause-room
+refill_reaches-requires-clause-room c =
+    let all = c.follow_copies_above.ensures.copies ∙ ap copies_of c.of-sums.ensures.notes in
+    let many = ap length (c.deref-3.ensures.value ∙ all) ∙ length-kept_copies c.args.catalogue.now in
     let room = c.requires.room.reaches in
     omega (arith, many, room)
+
+pub refill_reaches-requires-clause-reaches : goal.refill_reaches-requires-clause-reaches
+refill_reaches-requires-clause-reaches c =
+    let k = c.requires.kept in
+    let list = c.args.self.now in
+    let few = c.settled-settled.ensures.bound in
+    let lent = ap length (c.deref.ensures.value ∙ ap (λ (p : KeptParts). p.copies) k.2) in
+    let many = list.reaches.ok.0 in
+    let same = ap length (ap (λ (p : KeptParts). p.reaches) k.2) ∙ length-reaches_from 0 (copies_of k.0) in
+    omega (arith, few, lent, many, same)
+
+pub refill_reaches-requires-clause-settled : goal.refill_reaches-requires-clause-settled
+refill_reaches-requires-clause-settled c =
+    let k = c.requires.kept in
+    let settled = c.settled-settled.result in
+    let first = λ (l : List CopyInfo). reaches_of (take settled l) in
+    ap (take settled) (ap (λ (p : KeptParts). p.reaches) k.2) ∙ take_reaches 0 (copies_of k.0) settled
+    ∙ ap first (sym (ap (λ (p : KeptParts). p.copies) k.2))
+    ∙ ap reaches_of (sym c.follow_copies_above.ensures.settled) ∙ ap first (sym c.deref-3.ensures.value)
+    ∙ sym (take_reaches 0 c.deref-3.result.now settled)
 
 pub returns : goal.returns
 returns c =
     let k = c.requires.kept in
     let one = λ (kind : _) (os : _) (same : _).
     offsets_at c.args.boundary c.args.catalogue.now k.0 k.1 (is_placed kind) os same in
-    with_reaches _ _ _ _ _ _ (c.refill_reaches.ensures ∙ ap reaches_of c.deref.ensures.value)
+    with_reaches _ _ _ _ _ _ (c.refill_reaches.ensures ∙ ap reaches_of c.deref-3.ensures.value)
     ∙ same_kept _ _ _ _ _ _ _ _ _ _
     (c.append_offsets.ensures
     ∙ one kinds.Partition c.args.self.now.partitions.items (ap (λ (p : KeptParts). p.partitions) k.2))
@@ -63,4 +93,4 @@ returns c =
     ∙ one kinds.RandomIndexPack c.args.self.now.random_index_packs.items (ap (λ (p : KeptParts). p.rips) k.2))
     (c.append_offsets-4.ensures
     ∙ one kinds.UnreadablePack c.args.self.now.unreadable_packs.items (ap (λ (p : KeptParts). p.unreadable) k.2))
-    c.follow_copies_above.ensures
+    (c.follow_copies_above.ensures.copies ∙ ap copies_of c.of-sums.ensures.notes)

@@ -1,14 +1,16 @@
-use Rattle.std.proofs.Common.{◌<◌, ◌^◌, ◌∙◌, ◌++◌, ℕ, List, ap, arith, length, map, subst, sym}
-use Rattle.std.specs.Prelude.{count_by}
-use Rattle.std.specs.List.{filter_map}
+use Rattle.std.proofs.Common.{◌≡◌, ◌<◌, ◌^◌, ◌∙◌, ◌++◌, ◌-◌, List, ap, arith, drop, get_or, length, map, subst, sym, take}
+use Rattle.std.specs.List.{AllWithin, filter_map}
+use Rattle.std.proofs.lemmas.List.{length-drop, length-map}
 use Rattle.mxf_klv.specs.Parts.{NoteParts}
+use Rattle.mxf_klv.specs.Rising.{In}
 use Rattle.mxf_catalogue.specs.Disputes.{clear_notes}
 use Rattle.mxf_views.specs.declared.copy.CopyInfo.{CopyInfo}
 use Rattle.mxf_views.specs.Copies.{CopiesRise}
-use Rattle.mxf_views.specs.Kept.{copy_by, states_metadata}
-use Rattle.mxf_views.specs.KeptAbove.{IsStarting, clear_from, counted_above}
-use Rattle.mxf_views.proofs.AboveCopies.{copies_at, fits_at}
+use Rattle.mxf_views.specs.Kept.{copy_by}
+use Rattle.mxf_views.specs.KeptAbove.{IsOfNone, IsStarting, clear_from, counted_above}
+use Rattle.mxf_views.proofs.AboveCopies.{copies_at, fits_at, stays_above}
 use Rattle.mxf_views.proofs.CopyLaws.{copies_rise}
+use Rattle.mxf_views.proofs.ListSteps.{in_rest, map_rest, rest_taken, rest_written}
 use Rattle.mxf_views.proofs.kept.above.follow_copies_above.Goals as goal
 
 pub starting-starting-requires : goal.starting-starting-requires
@@ -19,28 +21,39 @@ starting-starting-requires c =
 pub count_above-requires : goal.count_above-requires
 count_above-requires c = λ copy s h e.
     let k = c.requires.kept in
-    let notes = c.args.catalogue.now in
-    let fits = subst (λ (ns : List NoteParts). length ns < 2 ^ 64) c.clear-clear.ensures.notes c.clear-clear.ensures.bound in
-    fits_at c.args.boundary notes k.0 c.args.copies.now.items copy s k.1 k.2 fits h e
+    let there = in_rest c.deref_mut.result.now copy c.args.settled h in
+    let lends = c.clear-clear.ensures.notes ∙ ap clear_notes c.catalogue.ensures in
+    let fits = subst (λ (ns : List NoteParts). length ns < 2 ^ 64) lends c.clear-clear.ensures.bound in
+    fits_at c.args.sums.now.boundary c.args.sums.now.notes k.0 c.args.copies.now.items copy s k.1 k.2 fits
+    (subst (In copy) c.deref_mut.ensures.value there) e
 
-pub append_copies-requires : goal.append_copies-requires
-append_copies-requires c =
-    let of = c.of-sums.ensures in
-    let count = λ (ns : List NoteParts) (b : ℕ). count_by states_metadata (clear_from b ns) in
-    let same = ap (λ ns. count ns c.of-sums.result.boundary) of.notes ∙ ap (count c.args.catalogue.now) of.boundary in
-    omega (arith, same, c.requires.room, c.count_above.ensures.len, c.count_above.ensures.capacity)
-
-pub returns : goal.returns
-returns c =
+pub returns-clause-copies : goal.returns-clause-copies
+returns-clause-copies c =
     let k = c.requires.kept in
-    let notes = c.args.catalogue.now in
-    let b = c.args.boundary in
+    let notes = c.args.sums.now.notes in
+    let b = c.args.sums.now.boundary in
+    let at = c.args.settled in
+    let old = c.args.copies.now.items in
+    let lent = c.deref_mut.result.now in
     let starting = c.starting-starting.result in
-    let sums = c.of-sums in
-    let by = λ (ns : List NoteParts) (from : ℕ). filter_map (copy_by (clear_notes ns)) (clear_from from ns) in
+    let count = λ (d : CopyInfo). counted_above notes b starting d d.start in
+    let new = filter_map (copy_by (clear_notes notes)) (clear_from b notes) in
+    let told = c.starting-starting.ensures in
+    let last = subst (λ (l : List CopyInfo). IsOfNone l (length l - 1) starting) c.deref.ensures.value told.last in
+    let can_start = subst (λ (l : List CopyInfo). IsStarting notes b l starting) c.deref.ensures.value
+    (subst (λ ns. IsStarting ns b c.deref.result.now starting) c.catalogue-2.ensures
+    (subst (λ o. IsStarting c.catalogue-2.result.now o c.deref.result.now starting) c.boundary.ensures told.starting)) in
+    let whole = c.args.copies.now.ok.0 in
+    let few = c.requires.bound in
+    let stay : AllWithin (λ d. count d ≡ d) old 0 at =
+    λ i d from below. stays_above notes b starting (get_or old i d) (c.requires.ended i d from below)
+    (last i d from (omega (arith, below, few, whole))) in
+    let counted = c.count_above.ensures ∙ ap (map count) (rest_taken lent at ∙ ap (drop at) c.deref_mut.ensures.value) in
+    let rest = length-map (drop at old) count in
+    let size = length-drop at old in
     c.append_copies.ensures.copies
-    ∙ ap (λ l. l ++ by sums.result.notes sums.result.boundary) c.count_above.ensures.items
-    ∙ ap (λ l. map (λ d. counted_above notes b starting d d.start) c.args.copies.now.items ++ l)
-    (ap (λ ns. by ns sums.result.boundary) sums.ensures.notes ∙ ap (by notes) sums.ensures.boundary)
-    ∙ copies_at b notes k.0 starting c.args.copies.now.items k.1 k.2
-    (subst (λ (l : List CopyInfo). IsStarting notes b l starting) c.deref.ensures.value c.starting-starting.ensures)
+    ∙ ap (λ l. l ++ new)
+    (rest_written old lent c.count_above.new.copies at c.args.copies.now.len c.deref_mut.ensures.value whole
+    (omega (arith, few, whole)) (ap length counted ∙ rest ∙ size) ∙ ap (λ l. take at old ++ l) counted
+    ∙ map_rest count old at stay)
+    ∙ copies_at b notes k.0 starting old k.1 k.2 can_start
