@@ -96,7 +96,8 @@ def read_piece(offset, data):
 def reduced(notes):
     """These notes, sorted and each once, without the heads of packets that are noted whole."""
     notes = set(notes)
-    replaced = {note.head for note in notes if note.is_whole}
+    heads = {note for note in notes if not note.is_whole}
+    replaced = {note.head for note in notes if note.is_whole} if heads else set()
     return sorted(notes - replaced)
 
 
