@@ -171,10 +171,11 @@ fn marks_and_heads_that_no_file_has_are_refused_at_their_places(
 #[test]
 fn files_of_other_versions_are_refused(rt: HostRuntime) -> Result<(), Fail> {
     let alloc = rt.alloc();
-    let mut file = file_of_m(alloc)?;
+    let file = file_of_m(alloc)?;
+    let (magic, rest) = (part(&file, 0, 7)?, part(&file, 8, 322)?);
     for version in [0u8, 1, 3, 7, 255] {
-        file[7] = version;
-        assert_eq!(rt; fault_of(alloc, &[&file])?, FileFault::BadVersion);
+        let fault = fault_of(alloc, &[magic, &[version], rest])?;
+        assert_eq!(rt; fault, FileFault::BadVersion);
     }
     Ok(())
 }
