@@ -65,7 +65,11 @@ fn holds_the_cut(views: &Views) -> bool {
     views.catalogue().len() == 2
         && views.catalogue().clear().count() == 1
         && views.catalogue().disputed().count() == 0
-        && views.gaps().next() == Some(Run { start: 128, end: 216 })
+        && views.gaps().next()
+            == Some(Run {
+                start: 128,
+                end: 216,
+            })
         && views.partitions().count() == 1
         && views.chain() == Chain::Broken
 }

@@ -77,9 +77,15 @@ fn a_head_holds_nothing_and_claims_its_packet(rt: HostRuntime) -> Result<(), Fai
     let head = Note::head(108, header, 4, 88).ok_or("a head")?;
     assert!(rt; head.is_head());
     assert!(rt; matches!(&head.held(), Held::Head));
-    assert_eq!(rt; (head.offset(), head.covered_end(), head.end()), (108, 128, 216));
+    assert_eq!(rt;
+        (head.offset(), head.covered_end(), head.end()),
+        (108, 128, 216)
+    );
     assert_eq!(rt; (head.width(), head.length()), (4, 88));
-    assert_eq!(rt; (head.key(), head.kind()), (header, Kind::Header(Status::ClosedComplete)));
+    assert_eq!(rt;
+        (head.key(), head.kind()),
+        (header, Kind::Header(Status::ClosedComplete))
+    );
     assert!(rt; head.to_head() == head);
     assert!(rt; head.clone_in(rt.alloc())? == head);
     Ok(())
@@ -106,12 +112,13 @@ fn a_head_goes_before_the_notes_of_its_packet(rt: HostRuntime) -> Result<(), Fai
 
 // Twenty-five bytes of key and length stand before a value whose length has nine bytes.
 #[test]
-fn a_head_may_claim_bytes_up_to_the_greatest_end_and_no_later(
-    rt: HostRuntime,
-) -> Result<(), Fail> {
+fn a_head_may_claim_bytes_up_to_the_greatest_end_and_no_later(rt: HostRuntime) -> Result<(), Fail> {
     let essence = label(ESSENCE_KEY)?;
     let last = Note::head(0, essence, 9, 9_223_372_036_854_775_782).ok_or("a head")?;
-    assert_eq!(rt; (last.covered_end(), last.end()), (25, 9_223_372_036_854_775_807));
+    assert_eq!(rt;
+        (last.covered_end(), last.end()),
+        (25, 9_223_372_036_854_775_807)
+    );
     assert!(rt; Note::head(0, essence, 9, 9_223_372_036_854_775_783).is_none());
     assert!(rt; Note::head(1, essence, 9, 9_223_372_036_854_775_782).is_none());
     assert!(rt; Note::head(9_223_372_036_854_775_790, essence, 1, 0).is_some());

@@ -88,7 +88,10 @@ fn each_front_has_its_packets_and_one_head_at_most(rt: HostRuntime) -> Result<()
         let all = views.catalogue();
         assert_eq!(rt; all.len(), held);
         assert_eq!(rt; all.clear().count() as u64, noted);
-        assert!(rt; all.notes().all(|note| note.is_head() == (note.offset() == at)));
+        assert!(rt;
+            all.notes()
+                .all(|note| note.is_head() == (note.offset() == at))
+        );
     }
     Ok(())
 }

@@ -18,13 +18,7 @@ fn start(count: u8) -> [u8; 16] {
 
 /// What is ahead of the value in the note of the packet with this key at this offset, whose length has four bytes: of a
 /// whole packet the mark is 0, of a head 1.
-fn begun(
-    alloc: Global,
-    offset: u8,
-    key: &[u8; 16],
-    length: u8,
-    mark: u8,
-) -> Result<Vec<u8>, Fail> {
+fn begun(alloc: Global, offset: u8, key: &[u8; 16], length: u8, mark: u8) -> Result<Vec<u8>, Fail> {
     joined(
         alloc,
         &[
@@ -154,8 +148,14 @@ fn marks_and_heads_that_no_file_has_are_refused_at_their_places(
     let whole = file_of_m(alloc)?;
     let unmarked = part(&file, 0, 171)?;
     assert_eq!(rt; fault_of(alloc, &[unmarked])?, FileFault::Truncated(138));
-    assert_eq!(rt; fault_of(alloc, &[unmarked, &[0]])?, FileFault::Truncated(138));
-    assert_eq!(rt; fault_of(alloc, &[unmarked, &[2]])?, FileFault::BadNote(138));
+    assert_eq!(rt;
+        fault_of(alloc, &[unmarked, &[0]])?,
+        FileFault::Truncated(138)
+    );
+    assert_eq!(rt;
+        fault_of(alloc, &[unmarked, &[2]])?,
+        FileFault::BadNote(138)
+    );
     assert_eq!(rt; fault_of(alloc, &[&file, &[0]])?, FileFault::Trailing(172));
     let notes = part(&file, 16, 172)?;
     let footer = part(&whole, 138, 260)?;

@@ -35,7 +35,10 @@ fn moves(change: &Change, offsets: &[u64]) -> bool {
 
 /// The runs of what is covered, as pairs of a start and an end.
 fn covered(alloc: Global, all: &Catalogue) -> Result<Vec<(u64, u64)>, AllocError> {
-    all.spans().runs().map(|run| (run.start, run.end)).collect(alloc)
+    all.spans()
+        .runs()
+        .map(|run| (run.start, run.end))
+        .collect(alloc)
 }
 
 /// The disputed notes: their offsets, whether they are heads, and their marks.
@@ -58,6 +61,8 @@ fn a_head_is_held_and_not_clear(rt: HostRuntime) -> Result<(), Fail> {
     assert!(rt; all.clear_at(108).is_none());
     assert_eq!(rt; all.disputed().count(), 0);
     assert!(rt; !all.disputes(&footer_head()?));
+    assert!(rt; all.has(&footer_head()?));
+    assert!(rt; !all.has(&note_of_file(alloc, &M, 108)?));
     assert_eq!(rt; covered(alloc, &all)?.as_slice(), [(0, 128)].as_slice());
     assert_eq!(rt; all.end(), 216);
     assert_eq!(rt; all.add(footer_head()?)?, Change::Repeated);
@@ -77,6 +82,7 @@ fn a_whole_packet_takes_the_place_of_its_head(rt: HostRuntime) -> Result<(), Fai
     assert_eq!(rt; covered(alloc, &all)?.as_slice(), [(0, 216)].as_slice());
     // The head that was replaced isn't held, and nothing is new about it.
     assert!(rt; !all.holds(&footer_head()?));
+    assert!(rt; all.has(&footer_head()?));
     assert_eq!(rt; all.add(footer_head()?)?, Change::Repeated);
     assert!(rt; all.same(&whole));
     Ok(())
@@ -138,7 +144,10 @@ fn a_disputed_head_gives_its_place_too(rt: HostRuntime) -> Result<(), Fail> {
     let mut all = Catalogue::new(alloc);
     all.add(essence(50, 0)?)?;
     assert!(rt; moves(&all.add(essence_head(0, 100)?)?, &[50]));
-    assert_eq!(rt; covered(alloc, &all)?.as_slice(), [(0, 17), (50, 67)].as_slice());
+    assert_eq!(rt;
+        covered(alloc, &all)?.as_slice(),
+        [(0, 17), (50, 67)].as_slice()
+    );
     assert_eq!(rt; all.end(), 117);
     assert!(rt; moves(&all.add(essence(0, 100)?)?, &[]));
     assert_eq!(rt;
@@ -186,7 +195,10 @@ fn heads_up_to_the_greatest_end_dispute_one_another(rt: HostRuntime) -> Result<(
     assert!(rt; rising.same(&falling));
     assert_eq!(rt; rising.disputed().count(), 1000);
     assert!(rt; rising.disputed().all(|d| d.overlaps && !d.same_offset));
-    assert_eq!(rt; covered(alloc, &rising)?.as_slice(), [(0, 25_000)].as_slice());
+    assert_eq!(rt;
+        covered(alloc, &rising)?.as_slice(),
+        [(0, 25_000)].as_slice()
+    );
     assert_eq!(rt; rising.end(), 9_223_372_036_854_775_807);
     Ok(())
 }
