@@ -10,7 +10,7 @@ mod building;
 #[cfg(test)]
 mod copies;
 #[cfg(test)]
-mod heads;
+mod cut_packets;
 #[cfg(test)]
 mod index;
 #[cfg(test)]
