@@ -24,7 +24,7 @@ AreReduced-union_of_parts (p ∷ parts) =
     AreReduced-reduced_union (union_of_parts parts) (part_notes p) (AreReduced-union_of_parts parts)
 
 -- a set of two has with heads what both have
-known-both : (P Q : NoteParts → Type 0) (n : NoteParts)
+pub known-both : (P Q : NoteParts → Type 0) (n : NoteParts)
     → IsKnown head_note (λ m. P m ⊎ Q m) n ↔ IsKnown head_note P n ⊎ IsKnown head_note Q n
 known-both P Q n = (
   λ h. elim h [

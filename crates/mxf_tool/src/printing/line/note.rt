@@ -56,6 +56,9 @@ impl<'a> fmt::Display for NoteLine<'a> {
         let key = LabelDigits(self.note.key().bytes());
         let head = HeadMark(self.note.is_head());
         let disputed = DisputeMark(self.disputed);
-        writeln!(f, "note {offset} {kind} {width} {length} {key}{head}{disputed}")
+        writeln!(
+            f,
+            "note {offset} {kind} {width} {length} {key}{head}{disputed}"
+        )
     }
 }
