@@ -101,10 +101,10 @@ one_or_none at r =
     elim (head_at r) as (λ o. head_at r ≡ o → (heads_at at r ≡ []) ⊎ ((n : NoteParts) × (heads_at at r ≡ n ∷ []))) [
       | None ↦ λ e. inl (rw e refl)
       | Some l ↦ λ e. elim (is_cut_at at r l) as (λ b. is_cut_at at r l ≡ b
-      → (heads_at at r ≡ []) ⊎ ((n : NoteParts) × (heads_at at r ≡ n ∷ []))) [
-        | true ↦ λ t. inr (head_parts at (take 16 r) l.width l.value, rw (e, t) refl)
-        | false ↦ λ t. inl (rw (e, t) refl)
-      ] refl
+          → (heads_at at r ≡ []) ⊎ ((n : NoteParts) × (heads_at at r ≡ n ∷ []))) [
+            | true ↦ λ t. inr (head_parts at (take 16 r) l.width l.value, rw (e, t) refl)
+            | false ↦ λ t. inl (rw (e, t) refl)
+          ] refl
     ] refl
 
 -- there is none, or one, of the packet at the front that is cut

@@ -35,6 +35,7 @@ returns-in-Err-note_head c =
     c.packets.noted c.packets.at c.packets.rest.now i.notes c.in-Err.ensures.ends.notes c.in-Err-note_head.ensures.err
     c.in-Err-note_head.ensures.some
 
+-- a packet more is noted, and one less is left
 one_counted : (noted whole at size : ℕ) (rest after : List ℕ) (p : PacketParts) → packet_at at rest ≡ Some p
     → size ≡ size_of p → drop size rest ≡ after → noted + length (packets_in at rest) ≡ whole
     → noted + 1 + length (packets_in (at + size) after) ≡ whole
