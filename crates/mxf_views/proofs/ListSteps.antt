@@ -46,12 +46,6 @@ map_rest f (x ∷ xs) (suc at) a =
     ap (λ l. x ∷ l) (map_rest f xs at (λ k d l h. a (suc k) d (omega arith) (omega arith)))
     ∙ ap (λ y. y ∷ map f xs) (sym (a 0 x (omega arith) (omega arith)))
 
--- The first of a list with others behind them.
-pub take_front : {K : Type 0} (xs ys : List K) (at : ℕ) → at ≤ length xs → take at (take at xs ++ ys) ≡ take at xs
-take_front xs ys zero l = refl
-take_front [] ys (suc at) l = absurd (omega arith)
-take_front (x ∷ xs) ys (suc at) l = ap (λ l. x ∷ l) (take_front xs ys at (omega arith))
-
 -- What stands before an element is told by the first alone.
 pub before_taken : {K : Type 0} (x : K) (xs : List K) (at : ℕ) (d : K)
     → get_or (x ∷ xs) at d ≡ get_or (x ∷ take at xs) at d
