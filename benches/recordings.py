@@ -18,6 +18,10 @@ FIRST_OFFSET = 1_000_000_000_000
 PACKET_SIZE = 100_020
 GREATEST_NOTES = 10_000_000
 
+# The greatest end of a packet, up to which heads claim their bytes. The key and the length of a head have 25 bytes here.
+GREATEST_END = 2**63 - 1
+HEAD_SIZE = 25
+
 
 def packet(key: bytes, value: bytes) -> bytes:
     """A packet with four bytes that spell its length."""
@@ -81,13 +85,35 @@ def write_pieces(folder: Path, pieces: int, packets: int, value_size: int) -> li
     return sources
 
 
+def catalogue_start(count: int) -> bytes:
+    """What is ahead of so many notes in the file of a catalogue."""
+    return b"MXFCAT\0\x02" + struct.pack(">Q", count)
+
+
 def write_catalogue(path: Path, count: int, indexes: Iterable[int]) -> None:
     """A saved catalogue of so many notes of essence packets, which have the indexes, rising."""
     with open(path, "wb") as file:
-        file.write(b"MXFCAT\0\x01" + struct.pack(">Q", count))
+        file.write(catalogue_start(count))
         for index in indexes:
-            head = struct.pack(">Q16sBQ", FIRST_OFFSET + index * PACKET_SIZE, ESSENCE_KEY, 4, PACKET_SIZE - 20)
-            file.write(head + hashlib.sha256(index.to_bytes(8, "big")).digest())
+            numbers = struct.pack(">Q16sBQB", FIRST_OFFSET + index * PACKET_SIZE, ESSENCE_KEY, 4, PACKET_SIZE - 20, 0)
+            file.write(numbers + hashlib.sha256(index.to_bytes(8, "big")).digest())
+
+
+def write_heads(path: Path, count: int, indexes: Iterable[int]) -> None:
+    """A saved catalogue of the heads of the same packets."""
+    with open(path, "wb") as file:
+        file.write(catalogue_start(count))
+        for index in indexes:
+            file.write(struct.pack(">Q16sBQB", FIRST_OFFSET + index * PACKET_SIZE, ESSENCE_KEY, 4, PACKET_SIZE - 20, 1))
+
+
+def write_heads_under_one_another(path: Path, count: int, indexes: Iterable[int]) -> None:
+    """A saved catalogue of so many heads that all claim the bytes up to the greatest end, each from a place of its own on."""
+    with open(path, "wb") as file:
+        file.write(catalogue_start(count))
+        for index in indexes:
+            offset = FIRST_OFFSET + index * HEAD_SIZE
+            file.write(struct.pack(">Q16sBQB", offset, ESSENCE_KEY, 9, GREATEST_END - HEAD_SIZE - offset, 1))
 
 
 def write_lines(path: Path, indexes: Iterable[int]) -> None:

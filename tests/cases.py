@@ -24,7 +24,8 @@ A case is some lines of a text file in tests/cases. A number sign begins a comme
 
 In a LINE `..` stands for any text, and a `$` at its end shows a space there. packets.py says how a PACKET is named. Each
 command is run on the pieces, and then on the catalogue that `join` saves of them: that prints the same without the lines
-of pieces. The catalogue itself has to be the file of the packets that were laid, byte by byte.
+of pieces. The catalogue itself has to be the file of the packets that were laid, and of the heads of those that are cut,
+byte by byte (notes.py).
 """
 import concurrent.futures
 import itertools
@@ -34,6 +35,7 @@ import subprocess
 import sys
 import tempfile
 
+import notes
 import packets
 
 CASES = pathlib.Path(__file__).parent / "cases"
@@ -191,6 +193,23 @@ def bytes_of(laid):
     return b"".join(map(packets.bytes_of, laid))
 
 
+def notes_of(offset, laid):
+    """The notes of a piece: of the packets that were laid in it, and of what the bytes behind them begin."""
+    for number, fields in enumerate(laid):
+        if fields[0][0] != "key" or offset + packets.size_of(fields) > notes.GREATEST_END:
+            found, heads, _ = notes.read_piece(offset, bytes_of(laid[number:]))
+            yield from found + heads
+            return
+        (_, key), (_, length), *value = fields
+        yield notes.whole(offset, key, len(length), packets.bytes_of(value))
+        offset += packets.size_of(fields)
+
+
+def catalogue(pieces):
+    """The catalogue file of these pieces, each an offset and packets."""
+    return notes.file_of(note for piece in pieces for note in notes_of(*piece))
+
+
 class Run:
     """Runs of a program in a folder of their own."""
 
@@ -233,7 +252,7 @@ class Run:
             if content not in contents:
                 lines += self.wrong_when_saved(case, saved)
             contents.add(content)
-        if contents != {packets.catalogue(case.pieces)}:
+        if contents != {catalogue(case.pieces)}:
             lines.append("  the saved catalogue isn't the file of the packets")
         return lines
 

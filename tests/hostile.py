@@ -7,26 +7,32 @@
 
 Of each file the program is asked everything. Each run has to end with a status that fits what was asked, within a bound
 of processor time, n log n in the bytes of its sources, and a bound of memory, linear in them. Want of memory within that
-bound fails, as does anything on standard error. What is noted, why a piece ends, and the saved catalogue are compared with
-those of the reader below, which goes by ST 336 alone. Cut at packets, with repeats, a part saved, in another order, the
-sources leave the same catalogue, and a saved one is shown as they are.
+bound fails, as does anything on standard error. What is noted, why a piece ends, what is disputed or a gap, and the saved
+catalogue are compared with those of notes.py, which goes by ST 336 alone. Cut at packets and within them, with repeats, a
+part saved, in another order, the sources leave the same catalogue, and a saved one is shown as they are. A damaged
+catalogue is shown, or refused with its cause and place, by notes.py too.
+
+A file that is cut at a byte, and what begins with the packet in which that byte lies, leave its catalogue in both orders,
+as pieces and as saved catalogues.
 """
 import concurrent.futures
 import math
 import os
 import pathlib
 import random
+import re
 import subprocess
 import sys
 import tempfile
 import time
 
+import notes
 import packets
 
 TOP = pathlib.Path(__file__).resolve().parent.parent
 MEBIBYTE = 2**20
 GREATEST = 2**64 - 1
-STARTS = (0, 1, 17, 2**32 - 1, 2**32, 2**62, packets.GREATEST_END - 4096, packets.GREATEST_END - 17, packets.GREATEST_END - 16)
+STARTS = (0, 1, 17, 2**32 - 1, 2**32, 2**62, notes.GREATEST_END - 4096, notes.GREATEST_END - 17, notes.GREATEST_END - 16)
 EDGES = (0, 1, 2, 16, 127, 128, 255, 256, 65535, 65536, 2**24 - 1, 2**31, 2**32 - 1, 2**32, 2**63 - 1, 2**63, GREATEST)
 COUNTS = (0, 1, 2, 3, 2**16, 2**28, 2**32 // 18, 2**31, 2**32 - 2, 2**32 - 1)
 SIZES = (0, 1, 11, 12, 16, 17, 18, 2**31, 2**32 - 1)
@@ -205,6 +211,51 @@ def many_packets(rng):
     return [(rng.choice(STARTS[:6]), laid([rng.choice(("fill", "essence")) + " 0 width=1"] * rng.choice((1000, 20000))))]
 
 
+def some_key(rng):
+    """The key of a packet of some kind."""
+    return packets.digits(rng.choice(list(packets.KEYS.values())))
+
+
+def some_head(rng, most):
+    """A head at some offset up to `most`, that claims few bytes, many, or all up to the greatest end."""
+    offset, width = rng.choice((rng.randint(0, most), rng.choice(STARTS[:6]))), rng.randint(1, 9)
+    room = min(notes.GREATEST_END - offset - 16 - width, 127 if width == 1 else 256 ** (width - 1) - 1)
+    return notes.head(offset, some_key(rng), width, rng.choice((0, 1, rng.randint(0, min(room, most)), room)))
+
+
+def saved_heads(rng):
+    """Saved heads over one another, up to thousands of them, packets among them, and pieces that hold some of these."""
+    many = rng.choice((2, 40, 5000))
+    heads = [some_head(rng, 100 * many) for _ in range(many)]
+    values = [(rng.randint(0, 100 * many), some_key(rng), some_bytes(rng, 60)) for _ in range(rng.randint(0, 20))]
+    wholes = [notes.whole(offset, key, 4, value) for offset, key, value in values]
+    files = [(None, notes.file_of(rng.sample(heads + wholes, rng.randint(1, many)))) for _ in range(rng.randint(1, 3))]
+    pieces = [(offset, key + packets.length_field(4, len(value)) + value) for offset, key, value in values]
+    return files + [(offset, data[: rng.randint(20, len(data))]) for offset, data in pieces] + rng.sample(pieces, len(pieces) // 2)
+
+
+def under_one_another(rng):
+    """Saved heads that all claim the bytes up to the greatest end, each from a place of its own on."""
+    many, step = rng.choice((3, 3000)), rng.choice((1, 17, 25, 1000))
+    key = some_key(rng)
+    heads = [notes.head(step * number, key, 9, notes.GREATEST_END - 25 - step * number) for number in range(many)]
+    part = rng.randint(0, many)
+    return [(None, notes.file_of(heads[:part] + heads[part // 2 : part])), (None, notes.file_of(heads[part:]))]
+
+
+def fronts_of_packets(rng):
+    """Fronts of packets, of other readings of them, and some of them whole, in any order."""
+    pieces = []
+    for _ in range(rng.randint(1, 6)):
+        offset = rng.choice((0, 0, 50, rng.randint(0, 200), notes.GREATEST_END - 4096))
+        for _ in range(rng.randint(1, 3)):
+            value = some_bytes(rng, 200)
+            packet = some_key(rng) + packets.length_field(rng.choice((2, 4, 4, 9)), len(value)) + value
+            pieces += [(offset, packet[: rng.randint(0, len(packet))]) for _ in range(rng.randint(1, 4))]
+            pieces += [(offset, packet)] * rng.randint(0, 1)
+    return rng.sample(pieces, len(pieces))
+
+
 def noise(rng):
     """Labels, and bytes without a meaning behind them."""
     parts = [bytes.fromhex("060E2B34") + some_bytes(rng, 60) for _ in range(rng.randint(1, 10))]
@@ -249,38 +300,23 @@ def two_readings(rng):
 
 SHAPES = (
     spelled_lengths, counts, items, packs_that_name, circles, zones, copies, random_indexes, segments_of_a_unit, long_primer,
-    long_batches, disputes, many_packets, noise, mutated, mutated, mutated, two_readings,
+    long_batches, disputes, many_packets, noise, mutated, mutated, mutated, two_readings, saved_heads, under_one_another,
+    fronts_of_packets,
 )  # fmt: skip
 
 
 def pieces_of(number):
-    """The pieces of the file of this number, each an offset and bytes."""
+    """The pieces of the file of this number, each an offset and bytes; a saved catalogue has None for an offset."""
     rng = random.Random(number)
     return SHAPES[number % len(SHAPES)](rng)
 
 
-def read_piece(offset, data):
-    """The packets of a piece as the standard spells them, each with its offset, and why the piece ends."""
-    found, at = [], 0
-    while at < len(data):
-        rest, place = data[at : at + 25], offset + at
-        if not bytes.fromhex("060E2B34").startswith(rest[:4]):
-            return found, f"not-ul {place}"
-        if len(rest) > 16 and (rest[16] == 0x80 or rest[16] > 0x88):
-            return found, f"bad-length {place}"
-        width = 1 if len(rest) < 17 or rest[16] < 0x80 else rest[16] - 0x7F
-        if len(rest) < 16 + width:
-            return found, f"truncated {place}"
-        length = rest[16] if width == 1 else int.from_bytes(rest[17 : 16 + width], "big")
-        end = 16 + width + length
-        if place + end > packets.GREATEST_END:
-            return found, f"too-far {place}"
-        if at + end > len(data):
-            return found, f"truncated {place}"
-        key, spelled, value = data[at : at + 16], data[at + 16 : at + 16 + width], data[at + 16 + width : at + end]
-        found.append((place, [("key", key), ("length", spelled), ("value", value)]))
-        at += end
-    return found, "end"
+def read_source(offset, data):
+    """The notes of a piece or of a saved catalogue, and what is printed of the piece: how many packets, and its stop."""
+    if offset is None:
+        return notes.read_file(data)[0], None
+    found, heads, stop = notes.read_piece(offset, data)
+    return found + heads, (offset, len(found), stop)
 
 
 def seconds_for(size):
@@ -313,7 +349,7 @@ class Run:
         for number, (offset, data) in enumerate(pieces):
             path = self.folder / f"{name}{number}"
             path.write_bytes(data)
-            sources.append(f"at:{offset}:{path}")
+            sources.append(f"cat:{path}" if offset is None else f"at:{offset}:{path}")
         return sources
 
     def call(self, statuses, size, *words):
@@ -349,87 +385,186 @@ class Run:
         return out.read_text(), seconds
 
     def joined(self, size, sources):
-        """The catalogue that is saved of these sources."""
+        """The catalogue that is saved of these sources, and the line that tells of it."""
         path = self.folder / "joined"
-        self.call((0,), size, "join", "--out", str(path), *sources)
-        return path.read_bytes()
+        line = self.call((0,), size, "join", "--out", str(path), *sources)
+        return path.read_bytes(), line
+
+    def saved(self, name, size, sources):
+        """The source of the catalogue that is saved of these sources."""
+        path = self.folder / name
+        path.write_bytes(self.joined(size, sources)[0])
+        return f"cat:{path}"
+
+
+def cut_at_packets(rng, offset, data):
+    """A piece, cut at some of its packets; or a saved catalogue, its notes in two."""
+    found, printed = read_source(offset, data)
+    if printed is None:
+        part = rng.sample(found, rng.randint(0, len(found)))
+        return [(None, notes.file_of(part)), (None, notes.file_of(set(found) - set(part)))]
+    places = [note.offset for note in found if note.is_whole]
+    borders = sorted(rng.sample(places, min(len(places), rng.randint(0, 5))) + [offset, offset + len(data)])
+    return [(start, data[start - offset : end - offset]) for start, end in zip(borders, borders[1:])]
 
 
 def other_order(rng, pieces):
-    """The same packets in pieces that are cut at packets, some of them twice, in another order."""
-    cut = []
-    for offset, data in pieces:
-        places = [place for place, _ in read_piece(offset, data)[0]]
-        borders = sorted(rng.sample(places, min(len(places), rng.randint(0, 5))) + [offset, offset + len(data)])
-        cut += [(start, data[start - offset : end - offset]) for start, end in zip(borders, borders[1:])]
+    """The same packets in pieces that are cut at packets, some of them twice, with fronts of them, in another order.
+
+    A front leaves no more than its piece: the packet that it cuts is there whole, or is cut there too.
+    """
+    cut = [part for piece in pieces for part in cut_at_packets(rng, *piece)]
     cut += [piece for piece in cut if rng.random() < 0.3]
+    cut += [(at, data[: rng.randint(0, len(data))]) for at, data in cut if at is not None and rng.random() < 0.3]
     rng.shuffle(cut)
     return cut
 
 
+def without_kind(line):
+    """The line of a note, with `..` for its kind."""
+    return re.sub(r"^(note \d+) [a-z-]+ ", r"\1 .. ", line)
+
+
+def is_shown(lines, content):
+    """Whether these lines of `show`, from the first note on, are of these notes and of their gaps."""
+    wanted = [*notes.note_lines(content), *notes.gap_lines(content)]
+    shown = [without_kind(line) for line in lines[: len(wanted)]]
+    return shown == wanted and not any(line.startswith(("note ", "gap ")) for line in lines[len(wanted) :])
+
+
+def finds(checked, content):
+    """Whether the findings of `check` have these notes' disputes and gaps."""
+    found = [line.split(" ")[:2] for line in checked]
+    touching = {offset for code, offset in found if code in ("F01", "F02")}
+    wanted = {str(content[at].offset) for at in notes.disputed(content)}
+    return touching == wanted and [offset for code, offset in found if code == "F03"] == [str(gap[0]) for gap in notes.gaps(content)]
+
+
 def try_pieces(run, rng, pieces):
-    """Asks everything of the pieces."""
+    """Asks everything of the pieces. The answer is what they hold together."""
     size = sum(len(data) for _, data in pieces)
     sources = run.lay("piece", pieces)
-    read = [read_piece(*piece) for piece in pieces]
-    notes = {packets.note(place, fields) for found, _ in read for place, fields in found}
-    wanted = b"MXFCAT\0\1" + len(notes).to_bytes(8, "big") + b"".join(map(b"".join, sorted(notes)))
-    if run.joined(size, sources) != wanted:
+    read = [read_source(*piece) for piece in pieces]
+    printed = [line for _, line in read if line is not None]
+    content = notes.reduced(note for found, _ in read for note in found)
+    wanted = notes.file_of(content)
+    joined = f"joined {len(content)} notes {len(notes.disputed(content))} disputed\n"
+    if run.joined(size, sources) != (wanted, joined):
         raise Wrong("the saved catalogue isn't the file of the packets")
-    heads = [f"piece {piece[0]} noted {len(found)} stop {stop}" for piece, (found, stop) in zip(pieces, read)]
+    told = [f"piece {offset} noted {count} stop {stop}" for offset, count, stop in printed]
     shown = run.call((0,), size, "show", *sources).splitlines()
-    if shown[: len(heads)] != heads:
+    if shown[: len(told)] != told:
         raise Wrong("the lines of the pieces aren't those of their packets")
+    if not is_shown(shown[len(told) :], content):
+        raise Wrong("the lines of notes and gaps aren't those of the packets")
     saved = run.folder / "saved"
     saved.write_bytes(wanted)
-    if run.call((0,), len(wanted), "show", f"cat:{saved}").splitlines() != shown[len(heads) :]:
+    if run.call((0,), len(wanted), "show", f"cat:{saved}").splitlines() != shown[len(told) :]:
         raise Wrong("the saved catalogue isn't shown as its pieces are")
     checked = run.call((0, 1), size, "check", *sources).splitlines()
-    stops = [f"stop {piece[0]} {stop}" for piece, (_, stop) in zip(pieces, read) if stop != "end"]
+    stops = [f"stop {offset} {stop}" for offset, _, stop in printed if stop != "end"]
     if checked[: len(stops)] != stops or checked[-1] != f"findings {len(checked) - len(stops) - 1}":
         raise Wrong("the lines of a check aren't the stops, the findings and their number")
+    if not finds(checked[len(stops) : -1], content):
+        raise Wrong("the findings aren't those of the packets' disputes and gaps")
     place = ["--index", str(rng.choice((0, 1, 2**32 - 1))), "--unit", str(rng.choice((0, 1, 2**63 - 1)))]
     if len(run.call((0, 1), size, "locate", *place, *sources).splitlines()) != 1:
         raise Wrong("a place isn't one line")
+    try_other_order(run, rng, pieces, wanted)
+    return content
+
+
+def try_other_order(run, rng, pieces, wanted):
+    """Joins the same in another order, a part of it saved at times: the catalogue has to be the one that is wanted."""
+    size = 4 * sum(len(data) for _, data in pieces) + len(wanted)
     others = run.lay("other", other_order(rng, pieces))
     if rng.random() < 0.3 and len(others) > 1:
-        part = run.folder / "part"
-        part.write_bytes(run.joined(size, others[:1]))
-        others[0] = f"cat:{part}"
-    if run.joined(3 * size + len(wanted), others or ["at:0:/dev/null"]) != wanted:
+        others[0] = run.saved("part", size, others[:1])
+    if run.joined(size, others or ["at:0:/dev/null"])[0] != wanted:
         raise Wrong("in another order the catalogue is another")
-    return wanted
 
 
-def try_catalogue(run, rng, file):
+def disordered(rng, content):
+    """The file of these notes where something is put in, exchanged or stated that may not be there."""
+    content, mark = list(content), None
+    at = rng.randrange(len(content) or 1)
+    change = rng.randrange(6)
+    if change == 0:
+        content[at:at] = [note.head for note in content[at : at + 1]]
+    elif change == 1:
+        content[at + 1 : at + 1] = [note.head for note in content[at : at + 1]]
+    elif change == 2:
+        content[at : at + 2] = content[at : at + 2][::-1]
+    elif change == 3:
+        content[at:at] = content[at : at + 1]
+    elif change == 4:
+        mark = rng.choice((1, 2, 255))
+    count = len(content) + (rng.choice((-1, 1)) if change == 5 else 0)
+    saved = [bytearray(note.saved) for note in content]
+    if mark is not None and saved:
+        saved[at][33] = mark
+    return notes.MAGIC + notes.VERSION + (count % 2**64).to_bytes(8, "big") + b"".join(saved)
+
+
+def try_catalogue(run, rng, content):
     """Asks for a damaged catalogue: it is shown, or refused with its cause."""
     path = run.folder / "damaged"
-    path.write_bytes(mutated_bytes(rng, file))
-    said = run.call((0, 4), path.stat().st_size, "show", f"cat:{path}")
-    if (run.folder / "err").stat().st_size > 0 and said != "":
-        raise Wrong("a refused catalogue is shown")
+    file = disordered(rng, content) if rng.random() < 0.5 else mutated_bytes(rng, notes.file_of(content))
+    path.write_bytes(file)
+    found, fault = notes.read_file(file)
+    said = run.call((0 if fault is None else 4,), len(file), "show", f"cat:{path}")
+    told = (run.folder / "err").read_text(errors="replace")
+    if fault is None and not is_shown(said.splitlines(), found):
+        raise Wrong("a damaged catalogue isn't shown by its notes")
+    if fault is not None and (said, told) != ("", f"catalogue fault: {path}: {fault}\n"):
+        raise Wrong(f"a damaged catalogue isn't refused with '{fault}': {told[:200]}")
 
 
 def try_number(run, number):
     """Tries the file of a number."""
     rng = random.Random(f"asked of {number}")
-    wanted = try_pieces(run, rng, pieces_of(number))
-    try_catalogue(run, rng, wanted)
+    content = try_pieces(run, rng, pieces_of(number))
+    try_catalogue(run, rng, content)
+
+
+def fronts_of(data, step):
+    """How long the fronts of a file are: every `step` bytes, and beside each packet."""
+    found, _, _ = notes.read_piece(0, data)
+    borders = {note.offset + beside for note in found for beside in (-1, 0, 1, 15, 16, 17, 18, 19, 20, 21, 25)}
+    return sorted(length for length in {*range(0, len(data) + 1, step), *borders, len(data)} if 0 <= length <= len(data))
 
 
 def try_fronts(run, name, step):
     """Tries each front of a file: every `step` bytes, and beside each packet."""
     data = (TOP / name).read_bytes()
-    borders = {place + beside for place, _ in read_piece(0, data)[0] for beside in (-1, 0, 1, 16, 17)}
-    lengths = {*range(0, len(data) + 1, step), *borders, len(data)}
-    for length in sorted(length for length in lengths if 0 <= length <= len(data)):
+    for length in fronts_of(data, step):
         run.fronts += 1
         front = [(0, data[:length])]
-        (found, stop), sources = read_piece(*front[0]), run.lay("front", front)
-        head = run.call((0,), length, "show", *sources).splitlines()[0]
-        run.call((0, 1), length, "check", *sources)
-        if head != f"piece 0 noted {len(found)} stop {stop}":
-            raise Wrong(f"{length} bytes of {name}: {head}")
+        (found, (_, count, stop)), sources = read_source(*front[0]), run.lay("front", front)
+        lines = run.call((0,), length, "show", *sources).splitlines()
+        checked = run.call((0, 1), length, "check", *sources).splitlines()
+        if lines[0] != f"piece 0 noted {count} stop {stop}" or not is_shown(lines[1:], found):
+            raise Wrong(f"{length} bytes of {name}: {lines[0]}")
+        if not finds([line for line in checked if line.startswith("F")], found):
+            raise Wrong(f"{length} bytes of {name}: {checked}")
+
+
+def try_cuts(run, name, step):
+    """Cuts a file every `step` bytes, and beside each packet: the bytes before, and those from the packet on in which the
+    cut lies, leave its catalogue in both orders, as pieces and as saved catalogues."""
+    data = (TOP / name).read_bytes()
+    found, _, _ = notes.read_piece(0, data)
+    wanted, saved = notes.file_of(found), {}
+    for length in fronts_of(data, step):
+        run.fronts += 1
+        place = max((note.offset for note in found if note.offset <= length < note.end), default=length)
+        front, rest = run.lay("cut", [(0, data[:length]), (place, data[place:])])
+        if place not in saved:
+            saved[place] = run.saved(f"from{place}", len(data), [rest])
+        of_front = run.saved("before", len(data), [front])
+        for sources in ([front, rest], [rest, front], [of_front, saved[place]], [saved[place], of_front], [rest, of_front]):
+            if run.joined(2 * len(data) + len(wanted), sources)[0] != wanted:
+                raise Wrong(f"{name}, cut at {length}: {sources} leave another catalogue")
 
 
 def tried(program, name, what, *arguments):
@@ -447,7 +582,9 @@ def parts(count, first):
     """What is tried: each part's name, its function and its arguments."""
     for path in sorted((TOP / "tests/worked").glob("*.bin")):
         yield f"fronts of {path.name}", try_fronts, f"tests/worked/{path.name}", 1
+        yield f"cuts of {path.name}", try_cuts, f"tests/worked/{path.name}", 1 if count > 1000 or path.stem == "M" else 41
     yield "fronts of an example", try_fronts, "examples/op1a_jpeg2000.mxf", 1 if count > 1000 else 97
+    yield "cuts of an example", try_cuts, "examples/op1a_jpeg2000.mxf", 1 if count > 1000 else 97
     for number in range(first, first + count):
         yield f"file {number}, {SHAPES[number % len(SHAPES)].__name__}", try_number, number
 
@@ -467,7 +604,7 @@ def main():
     failed = sum(wrong is not None for wrong, _ in found)
     runs, fronts = sum(run.runs for _, run in found), sum(run.fronts for _, run in found)
     slowest = max(run.slowest for _, run in found)
-    print(f"hostile files: {count} from number {first} on, and {fronts} fronts: {runs} runs; the slowest took {slowest:.0%} of its bound")
+    print(f"hostile files: {count} from number {first} on, and {fronts} fronts and cuts: {runs} runs; the slowest took {slowest:.0%} of its bound")
     print(f"{len(found) - failed} passed, {failed} failed")
     return failed > 0
 

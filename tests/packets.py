@@ -1,10 +1,9 @@
-"""Packets, laid field by field from what a case states of them, and the catalogue file that they have.
+"""Packets, laid field by field from what a case states of them.
 
 Keys and layouts are those of SMPTE ST 336 and ST 377-1, as the tables of docs/FORMATS.md restate them; nothing here is
 taken from the program. A packet is a list of fields, each a name and its bytes, so that it can be read with its names:
-`tests/cases.py --bytes CASE` prints it so.
+`tests/cases.py --bytes CASE` prints it so. What is noted of packets, and the catalogue file of notes, is notes.py.
 """
-import hashlib
 import re
 
 KEYS = {
@@ -57,13 +56,6 @@ SEGMENT = [
 
 # The one entry of a primer pack where a case states none: the tag 8001 has a label of sixteen bytes AA.
 PRIMER_ENTRY = ("8001", "AA*16")
-
-# The keys of packets whose value is kept: partition packs, primer packs, random index packs, and sets but those of essence.
-PACKS = "020501..0d010201(010[234]0[1234]00|01050100|01110100)"
-SETS = "0253....(?!0d010301).{16}"
-KEPT = re.compile(f"060e2b34({PACKS}|{SETS})")
-LONGEST_KEPT = 4_194_304
-GREATEST_END = 2**63 - 1
 
 # A tag, as it stands before the value of an item.
 TAG = re.compile("[0-9A-F]{4}")
@@ -180,7 +172,7 @@ def packet(line, offset):
     TAG=BYTES is an item of a set or an entry of a primer pack, BODYSID:OFFSET an entry of a random index pack, a bare
     number the length of a fill's or an essence packet's value, all zeros. Of any packet can be stated: `width=` bytes of
     the length field (4), `key=` another key, `status=` of a partition, `value=` its whole value, `cut=` so many bytes off
-    the end of that.
+    the end of that; and `front=` so many of its first bytes that are there, where the packet itself is cut.
     """
     name, *words = line.split()
     if name == "hex":
@@ -195,7 +187,7 @@ def packet(line, offset):
     key = bytearray(digits(stated.pop("key", KEYS[name])))
     if "status" in stated:
         key[14] = STATUSES[stated.pop("status")]
-    cut = int(stated.pop("cut", "0"))
+    cut, front = int(stated.pop("cut", "0")), stated.pop("front", None)
     if "value" in stated:
         value = [("value", digits(stated.pop("value")))]
     else:
@@ -204,26 +196,5 @@ def packet(line, offset):
         raise Mistake(f"{name} has no field {', '.join(stated)}")
     if cut:
         value = [("value", bytes_of(value)[:-cut])]
-    return [("key", bytes(key)), ("length", length_field(width, size_of(value)))] + value
-
-
-def note(offset, fields):
-    """The saved note of a packet at this offset: its parts, in the order by which notes are sorted."""
-    (_, key), (_, length), *rest = fields
-    value = bytes_of(rest)
-    kept = KEPT.fullmatch(key.hex()) and len(value) <= LONGEST_KEPT
-    held = value if kept else hashlib.sha256(value).digest()
-    return offset.to_bytes(8, "big"), key, bytes([len(length)]), len(value).to_bytes(8, "big"), held
-
-
-def catalogue(pieces):
-    """The catalogue file of these pieces, each an offset and packets. Bytes that are no packet end a piece."""
-    notes = set()
-    for offset, packets in pieces:
-        for fields in packets:
-            end = offset + size_of(fields)
-            if fields[0][0] != "key" or end > GREATEST_END:
-                break
-            notes.add(note(offset, fields))
-            offset = end
-    return b"MXFCAT\0\1" + len(notes).to_bytes(8, "big") + b"".join(map(b"".join, sorted(notes)))
+    fields = [("key", bytes(key)), ("length", length_field(width, size_of(value)))] + value
+    return fields if front is None else [("front", bytes_of(fields)[: int(front)])]

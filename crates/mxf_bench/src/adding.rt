@@ -1,6 +1,6 @@
 //! Notes that are added one by one.
 use mxf_catalogue::Catalogue;
-use mxf_klv::{Note, Ul};
+use mxf_klv::{MAX, Note, Ul};
 use std::alloc::Global;
 
 /// The key of the packets: essence.
@@ -10,6 +10,9 @@ const KEY: [u8; 16] = [
 
 /// The bytes of a packet: key, length and value.
 pub const SIZE: u64 = 20;
+
+/// The bytes of the key and the length of a head.
+const HEAD_SIZE: u64 = 25;
 
 /// A prime that shares no factor with a count of thousands.
 const STRIDE: u64 = 611_953;
@@ -25,6 +28,8 @@ pub enum Order {
     Shuffled,
     /// From the first to the last, each packet over half of the next.
     Overlapping,
+    /// The same of heads, each of which claims all bytes up to the greatest end.
+    Heads,
 }
 
 /// How many notes are held, and how many of them are disputed.
@@ -42,6 +47,7 @@ impl Order {
             "descending" => Some(Order::Descending),
             "shuffled" => Some(Order::Shuffled),
             "overlapping" => Some(Order::Overlapping),
+            "heads" => Some(Order::Heads),
             _ => None,
         }
     }
@@ -56,6 +62,16 @@ impl Order {
                 .checked_rem(count)?
                 .checked_mul(SIZE),
             Order::Overlapping => number.checked_mul(SIZE / 2),
+            Order::Heads => number.checked_mul(HEAD_SIZE),
+        }
+    }
+
+    /// The note that is added as the one with the number.
+    fn note(self, number: u64, count: u64) -> Option<Note> {
+        let offset = self.offset(number, count)?;
+        match self {
+            Order::Heads => head_at(offset),
+            _ => note_at(offset),
         }
     }
 }
@@ -65,11 +81,17 @@ pub fn note_at(offset: u64) -> Option<Note> {
     Note::digested(offset, Ul::from_bytes(KEY)?, 1, SIZE - 17, [0; 32])
 }
 
+/// A head at an offset that claims all bytes up to the greatest end.
+fn head_at(offset: u64) -> Option<Note> {
+    let length = MAX.checked_sub(HEAD_SIZE)?.checked_sub(offset)?;
+    Note::head(offset, Ul::from_bytes(KEY)?, 9, length)
+}
+
 /// Adds so many notes, one by one; None where there is no memory or an offset is too great.
 pub fn add_notes(alloc: Global, order: Order, count: u64) -> Option<Counts> {
     let mut all = Catalogue::new(alloc);
     for number in 0..count {
-        all.add(note_at(order.offset(number, count)?)?).ok()?;
+        all.add(order.note(number, count)?).ok()?;
     }
     Some(Counts {
         notes: all.len(),

@@ -11,6 +11,7 @@ use Rattle.mxf_klv.specs.Rising.{In}
 use Rattle.mxf_catalogue.specs.Content.{IsContent}
 use Rattle.mxf_catalogue.specs.Disputes.{SharesByte, SharesOffset, Overlaps, IsDisputed, IsClear}
 use Rattle.mxf_catalogue.specs.Disputes.{DisputedParts, IsDisputedOf, disputed_parts, clear_notes, disputed_notes}
+use Rattle.mxf_catalogue.specs.Disputes.{undisputed_notes}
 use Rattle.mxf_catalogue.specs.Disputes.{is_same_note, is_byte_shared, is_offset_shared, is_overlapped, is_disputed}
 use Rattle.mxf_catalogue.proofs.ContentLaws.{note_eq-Decides}
 use Rattle.mxf_catalogue.proofs.Lists.{list_any-In, In-filter, all-filter, length-filter_le, In-map}
@@ -119,13 +120,23 @@ is_disputed-IsDisputed n notes =
       ],
     )
 
+-- the undisputed notes are those that no other shares a byte with
+pub In-undisputed_notes : (n : NoteParts) (notes : List NoteParts)
+    → In n (undisputed_notes notes) ↔ (In n notes × (IsDisputed n notes → ⊥))
+In-undisputed_notes n notes =
+    let f = In-filter (λ m. not (is_disputed m notes)) notes n in
+    let d = is_disputed-IsDisputed n notes in (
+      λ h. ((f.0 h).0, λ k. not-true-false (is_disputed n notes) (f.0 h).1 (d.1 k)),
+      λ c. f.1 (c.0, not_true (is_disputed n notes) (λ e. c.1 (d.0 e))),
+    )
+
 -- the clear notes are those that are clear
 pub In-clear_notes : (n : NoteParts) (notes : List NoteParts) → In n (clear_notes notes) ↔ IsClear n notes
 In-clear_notes n notes =
-    let f = In-filter (λ m. not (is_disputed m notes)) notes n in
-    let d = is_disputed-IsDisputed n notes in (
-      λ h. record { held = (f.0 h).0; undisputed = λ k. not-true-false (is_disputed n notes) (f.0 h).1 (d.1 k) },
-      λ c. f.1 (c.held, not_true (is_disputed n notes) (λ e. c.undisputed (d.0 e))),
+    let f = In-filter (λ m. m.whole) (undisputed_notes notes) n in
+    let u = In-undisputed_notes n notes in (
+      λ h. let p = u.0 (f.0 h).0 in record { held = p.0; whole = (f.0 h).1; undisputed = p.1 },
+      λ c. f.1 (u.1 (c.held, c.undisputed), c.whole),
     )
 
 -- some of a content's notes are a content
@@ -139,7 +150,8 @@ IsContent-filter p (x ∷ xs) r =
 
 -- the clear notes and the disputed notes rise
 pub IsContent-clear_notes : (notes : List NoteParts) → IsContent notes → IsContent (clear_notes notes)
-IsContent-clear_notes notes = IsContent-filter (λ n. not (is_disputed n notes)) notes
+IsContent-clear_notes notes r =
+    IsContent-filter (λ n. n.whole) (undisputed_notes notes) (IsContent-filter (λ n. not (is_disputed n notes)) notes r)
 
 marks : (f : NoteParts → DisputedParts) → ((n : NoteParts) → (f n).note ≡ n) → (notes : List NoteParts)
     → map (λ d. d.note) (map f notes) ≡ notes
@@ -186,13 +198,14 @@ In-disputed_notes d notes =
           m.1 (n, held, λ i. record { note = n; same_offset = a i; overlaps = b i }),
     )
 
--- a note is clear or disputed
-pub clear_or_disputed : (n : NoteParts) (notes : List NoteParts) → In n notes → IsClear n notes ⊎ IsDisputed n notes
-clear_or_disputed n notes h =
+-- a note of a whole packet is clear or disputed
+pub clear_or_disputed : (n : NoteParts) (notes : List NoteParts) → In n notes → IsTrue n.whole
+    → IsClear n notes ⊎ IsDisputed n notes
+clear_or_disputed n notes h whole =
     let d = is_disputed-IsDisputed n notes in
     elim (is_disputed n notes) as (λ b. is_disputed n notes ≡ b → IsClear n notes ⊎ IsDisputed n notes) [
       | true ↦ λ e. inr (d.0 e)
-      | false ↦ λ e. inl (record { held = h; undisputed = λ k. let t = d.1 k in cc (t, e) })
+      | false ↦ λ e. inl (record { held = h; whole = whole; undisputed = λ k. let t = d.1 k in cc (t, e) })
     ] refl
 
 -- a clear note shares no byte with another note
@@ -228,7 +241,11 @@ clear_at-lacked offset notes none =
 
 -- there are no more of them than notes
 pub length-clear_notes : (notes : List NoteParts) → length (clear_notes notes) ≤ length notes
-length-clear_notes notes = length-filter_le (λ n. not (is_disputed n notes)) notes
+length-clear_notes notes =
+    let a : length (clear_notes notes) ≤ length (undisputed_notes notes) =
+    length-filter_le (λ n. n.whole) (undisputed_notes notes) in
+    let b : length (undisputed_notes notes) ≤ length notes = length-filter_le (λ n. not (is_disputed n notes)) notes in
+    omega (arith, a, b)
 
 pub length-disputed_notes : (notes : List NoteParts) → length (disputed_notes notes) ≤ length notes
 length-disputed_notes notes =

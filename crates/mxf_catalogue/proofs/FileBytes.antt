@@ -10,13 +10,15 @@ use Rattle.std.specs.Cmp.{IsTotalOrder}
 use Rattle.std.specs.declared.cmp.Ordering.{Ordering}
 use Rattle.std.specs.declared.cmp.Ordering.TheVariants.{Less}
 use Rattle.mxf_klv.specs.Parts.{NoteParts}
-use Rattle.mxf_klv.specs.Note.{IsNote}
+use Rattle.mxf_klv.specs.Note.{IsNote, keeps}
+use Rattle.std.specs.Prelude.{◌==◌, ◌≤◌, Bool, true, false, cond}
 use Rattle.mxf_klv.specs.Rising.{IsRising, less_in}
 use Rattle.mxf_catalogue.specs.declared.catalogue.file.head.Head.{Head}
-use Rattle.mxf_catalogue.specs.Content.{IsContent}
+use Rattle.mxf_catalogue.specs.Content.{AreReduced, IsContent}
 use Rattle.mxf_catalogue.specs.CatalogueFile.{number_bytes, IsHead, head_bytes, CanBeNoted, held_length, head_of}
-use Rattle.mxf_catalogue.specs.CatalogueFile.{note_bytes, start_bytes, IsFileOf, BeginsWithHead, BeginsWithNote}
+use Rattle.mxf_catalogue.specs.CatalogueFile.{note_bytes, start_bytes, IsFileOf, BeginsWithNote}
 use Rattle.mxf_catalogue.specs.CatalogueFile.{IsCutNote, IsBadNote, IsFront, place_after}
+use Rattle.mxf_catalogue.specs.CatalogueFile.{BeginsWithMark, CanBeMarked, mark_of}
 use Rattle.mxf_catalogue.proofs.Places.{In-at}
 
 -- ---- parts of a text
@@ -91,29 +93,52 @@ head_fits n i =
 pub head_noted : (n : NoteParts) → IsNote n → CanBeNoted (head_of n)
 head_noted n i = record { label = i.label; width = i.width; within = i.within }
 
-length-held : (n : NoteParts) → IsNote n → length n.held ≡ held_length (head_of n)
-length-held n i = i.held
+pub note_marked : (n : NoteParts) → IsNote n → CanBeMarked (head_of n) (mark_of n.whole)
+note_marked n i = (head_noted n i, elim n.whole as (λ b. mark_of b ≤ 1) [ true ↦ omega arith | false ↦ omega arith ])
 
-notes_from : (m n : NoteParts) → head_of m ≡ head_of n → m.held ≡ n.held → m ≡ n
-notes_from m n e f i = record
-    { offset = (e i).offset; key = (e i).key; width = (e i).width; length = (e i).length; held = f i }
+length-held : (n : NoteParts) → IsNote n → length n.held ≡ held_length (head_of n) (mark_of n.whole)
+length-held n i =
+    i.held ∙ elim n.whole as (λ b. cond b (cond (keeps n.key n.length) n.length 32) 0
+    ≡ cond (mark_of b == 0) (cond (keeps n.key n.length) n.length 32) 0) [ true ↦ refl | false ↦ refl ]
 
-after_head : (n : NoteParts) (xs : List ℕ) → note_bytes n ++ xs ≡ head_bytes (head_of n) ++ (n.held ++ xs)
-after_head n xs = append_assoc (head_bytes (head_of n)) n.held xs
+-- a mark stands for one thing
+same_whole : (a b : Bool) → mark_of a ≡ mark_of b → a ≡ b
+same_whole true true e = refl
+same_whole true false e = absurd (omega (arith, e))
+same_whole false true e = absurd (omega (arith, e))
+same_whole false false e = refl
+
+notes_from : (m n : NoteParts) → head_of m ≡ head_of n → m.whole ≡ n.whole → m.held ≡ n.held → m ≡ n
+notes_from m n e w f i = record
+    { offset = (e i).offset; key = (e i).key; width = (e i).width; length = (e i).length; whole = w i; held = f i }
+
+after_head : (n : NoteParts) (xs : List ℕ)
+    → note_bytes n ++ xs ≡ head_bytes (head_of n) ++ (mark_of n.whole ∷ (n.held ++ xs))
+after_head n xs = append_assoc (head_bytes (head_of n)) (mark_of n.whole ∷ n.held) xs
+
+-- two heads with their marks at the front of one text are one
+pub same_mark : (g h : Head) (a b : ℕ) (xs ys : List ℕ) → IsHead g → IsHead h
+    → head_bytes g ++ (a ∷ xs) ≡ head_bytes h ++ (b ∷ ys) → (g ≡ h) × (a ≡ b) × (xs ≡ ys)
+same_mark g h a b xs ys p q e =
+    let s = same_head g h (a ∷ xs) (b ∷ ys) p q e in
+    (s.0, ap (λ (t : List ℕ). get_or t 0 0) s.1, ap (drop 1) s.1)
 
 -- two notes at the front of one text are one
 pub same_note : (m n : NoteParts) (xs ys : List ℕ) → IsNote m → IsNote n → note_bytes m ++ xs ≡ note_bytes n ++ ys
     → (m ≡ n) × (xs ≡ ys)
 same_note m n xs ys i j e =
-    let a = same_head (head_of m) (head_of n) (m.held ++ xs) (n.held ++ ys) (head_fits m i) (head_fits n j)
-    (sym (after_head m xs) ∙ e ∙ after_head n ys) in
-    let b = same_front m.held n.held xs ys (length-held m i ∙ ap held_length a.0 ∙ sym (length-held n j)) a.1 in
-    (notes_from m n a.0 b.0, b.1)
+    let a = same_mark (head_of m) (head_of n) (mark_of m.whole) (mark_of n.whole) (m.held ++ xs) (n.held ++ ys)
+    (head_fits m i) (head_fits n j) (sym (after_head m xs) ∙ e ∙ after_head n ys) in
+    let len : held_length (head_of m) (mark_of m.whole) ≡ held_length (head_of n) (mark_of n.whole) =
+    λ i. held_length (a.0 i) (a.1 i) in
+    let b = same_front m.held n.held xs ys (length-held m i ∙ len ∙ sym (length-held n j)) a.2 in
+    (notes_from m n a.0 (same_whole m.whole n.whole a.1) b.0, b.1)
 
--- the head that a note at the front begins with is the note's
-note_head : (n : NoteParts) (h : Head) (bytes more rest : List ℕ) → BeginsWithNote bytes n more
-    → BeginsWithHead bytes h rest → (h ≡ head_of n) × (rest ≡ n.held ++ more)
-note_head n h bytes more rest b f = same_head h (head_of n) rest (n.held ++ more) f.head (head_fits n b.note)
+-- the head and the mark that a note at the front begins with are the note's
+note_head : (n : NoteParts) (h : Head) (mark : ℕ) (bytes more rest : List ℕ) → BeginsWithNote bytes n more
+    → BeginsWithMark bytes h mark rest → (h ≡ head_of n) × (mark ≡ mark_of n.whole) × (rest ≡ n.held ++ more)
+note_head n h mark bytes more rest b f =
+    same_mark h (head_of n) mark (mark_of n.whole) rest (n.held ++ more) f.head (head_fits n b.note)
     (sym f.whole ∙ b.whole ∙ after_head n more)
 
 -- a note at the front isn't cut
@@ -121,28 +146,29 @@ pub note_uncut : (n : NoteParts) (bytes more : List ℕ) → BeginsWithNote byte
 note_uncut n bytes more b (inl short) =
     let len = ap length (b.whole ∙ after_head n more) in
     let head = length-head_bytes (head_of n) b.note.label.0 in
-    omega (arith, len, head, length-append (head_bytes (head_of n)) (n.held ++ more))
-note_uncut n bytes more b (inr (h, rest, f, good, short)) =
-    let same = note_head n h bytes more rest b f in
-    let len = ap length same.1 in
+    omega (arith, len, head, length-append (head_bytes (head_of n)) (mark_of n.whole ∷ (n.held ++ more)))
+note_uncut n bytes more b (inr (h, mark, rest, f, good, short)) =
+    let same = note_head n h mark bytes more rest b f in
+    let len = ap length same.2 in
     let held = length-held n b.note in
-    let size : held_length h ≡ held_length (head_of n) = ap held_length same.0 in
+    let size : held_length h mark ≡ held_length (head_of n) (mark_of n.whole) = λ i. held_length (same.0 i) (same.1 i) in
     omega (arith, len, held, size, short, length-append n.held more)
 
 -- and its head is no bad one
 pub note_good : (n : NoteParts) (bytes more : List ℕ) → BeginsWithNote bytes n more → IsBadNote bytes → ⊥
-note_good n bytes more b (h, rest, f, bad) =
-    let same = note_head n h bytes more rest b f in
-    bad (subst CanBeNoted (sym same.0) (head_noted n b.note))
+note_good n bytes more b (h, mark, rest, f, bad) =
+    let same = note_head n h mark bytes more rest b f in
+    bad (subst (λ k. CanBeMarked k mark) (sym same.0)
+    (subst (λ m. CanBeMarked (head_of n) m) (sym same.1) (note_marked n b.note)))
 
 pub cut_good : (bytes : List ℕ) → IsCutNote bytes → IsBadNote bytes → ⊥
-cut_good bytes (inl short) (h, rest, f, bad) =
+cut_good bytes (inl short) (h, mark, rest, f, bad) =
     let len = ap length f.whole in
     let head = length-head_bytes h f.head.key in
-    omega (arith, len, head, length-append (head_bytes h) rest)
-cut_good bytes (inr (g, more, b, good, short)) (h, rest, f, bad) =
-    let same = same_head h g rest more f.head b.head (sym f.whole ∙ b.whole) in
-    bad (subst CanBeNoted (sym same.0) good)
+    omega (arith, len, head, length-append (head_bytes h) (mark ∷ rest))
+cut_good bytes (inr (g, m, more, b, good, short)) (h, mark, rest, f, bad) =
+    let same = same_mark h g mark m rest more f.head b.head (sym f.whole ∙ b.whole) in
+    bad (subst (λ k. CanBeMarked k mark) (sym same.0) (subst (λ x. CanBeMarked g x) (sym same.1) good))
 
 -- ---- lists that go on
 
@@ -198,15 +224,16 @@ length-start_bytes count = omega (arith, length-number_bytes count)
 pub front_begins : (bytes rest : List ℕ) (count : ℕ) → count < 2 ^ 64 → bytes ≡ start_bytes count ++ rest
     → IsFront bytes count [] rest
 front_begins bytes rest count h e = record
-    { catalogue = record { content = tt; members = tt }; room = omega arith; fits = h; whole = e }
+    { catalogue = record { content = tt; members = tt }; reduced = λ x i k. i; room = omega arith; fits = h; whole = e }
 
 pub front_next : (bytes rest more : List ℕ) (count : ℕ) (notes : List NoteParts) (n : NoteParts)
     → IsFront bytes count notes rest → length notes < count → BeginsWithNote rest n more → IsContent (notes ++ n ∷ [])
-    → IsFront bytes count (notes ++ n ∷ []) more
-front_next bytes rest more count notes n f lt b r =
+    → AreReduced (notes ++ n ∷ []) → IsFront bytes count (notes ++ n ∷ []) more
+front_next bytes rest more count notes n f lt b r p =
     let len : length (notes ++ n ∷ []) ≡ length notes + 1 = length-append notes (n ∷ []) in
     record {
       catalogue = record { content = r; members = all_push IsNote notes n f.catalogue.members b.note };
+      reduced = p;
       room = omega arith;
       fits = f.fits;
       whole = f.whole
@@ -230,6 +257,7 @@ pub front_whole : (bytes rest : List ℕ) (count : ℕ) (notes : List NoteParts)
     → length notes ≡ count → length rest ≡ 0 → IsFileOf bytes notes
 front_whole bytes [] count notes f e l = record {
   catalogue = f.catalogue;
+  reduced = f.reduced;
   fits = rw e f.fits;
   whole = f.whole ∙ (λ i. start_bytes (sym e i) ++ append-nil (flat_map note_bytes notes) i);
 }

@@ -1,6 +1,6 @@
 -- Bytes are the file of a content, or there is a cause in them why they are none.
 use Rattle.std.proofs.Common.{◌≡◌, ◌≢◌, ℕ, zero, suc, ◌+◌, ◌-◌, ◌^◌, ◌<◌, ◌≤◌, Bool, true, false, List, [], ◌∷◌, ◌++◌, length}
-use Rattle.std.proofs.Common.{take, drop, Option, None, Some, refl, sym, ap, subst, ◌∙◌, arith, inl, inr, ◌⊎◌}
+use Rattle.std.proofs.Common.{get_or, take, drop, Option, None, Some, refl, sym, ap, subst, ◌∙◌, arith, inl, inr, ◌⊎◌}
 use Rattle.std.proofs.Common.{append_assoc, length-append, take-append-drop}
 use Rattle.std.proofs.lemmas.Bool.{cases_lt}
 use Rattle.std.proofs.lemmas.Bool.Decides.{Decides-eqb}
@@ -15,18 +15,20 @@ use Rattle.std.specs.declared.cmp.Ordering.{Ordering}
 use Rattle.std.specs.declared.cmp.Ordering.TheVariants.{Less, Equal, Greater}
 use Rattle.mxf_klv.specs.Bytes.{AreBytes}
 use Rattle.mxf_klv.specs.Label.{IsLabel, label_start}
-use Rattle.mxf_klv.specs.Note.{greatest_end, note_cmp}
-use Rattle.mxf_klv.specs.Parts.{CanSpell, NoteParts, note_parts}
+use Rattle.mxf_klv.specs.Note.{greatest_end, head_note, note_cmp}
+use Rattle.mxf_klv.specs.Parts.{CanSpell, NoteParts}
 use Rattle.mxf_klv.specs.Rising.{IsRising}
 use Rattle.mxf_catalogue.specs.declared.catalogue.file.FileFault.{FileFault}
 use Rattle.mxf_catalogue.specs.declared.catalogue.file.FileFault.TheVariants.{BadMagic, BadVersion, Truncated, BadNote}
-use Rattle.mxf_catalogue.specs.declared.catalogue.file.FileFault.TheVariants.{NotSorted, Trailing, OutOfMemory}
+use Rattle.mxf_catalogue.specs.declared.catalogue.file.FileFault.TheVariants.{NotReduced, NotSorted, Trailing, OutOfMemory}
 use Rattle.mxf_catalogue.specs.declared.catalogue.file.head.Head.{Head}
 use Rattle.mxf_catalogue.specs.CatalogueFile.{magic, version, number_bytes, start_bytes, head_bytes, held_length}
-use Rattle.mxf_catalogue.specs.CatalogueFile.{CanBeNoted, IsFileOf, IsFront, IsRefused, IsCutNote, BeginsAsFile}
-use Rattle.mxf_catalogue.specs.CatalogueFile.{BeginsWithHead, BeginsWithNote, place_after}
+use Rattle.mxf_catalogue.specs.CatalogueFile.{CanBeMarked, CanBeNoted, IsFileOf, IsFront, IsRefused, IsCutNote}
+use Rattle.mxf_catalogue.specs.CatalogueFile.{BeginsAsFile, BeginsWithHead, BeginsWithMark, BeginsWithNote, IsHeadLast}
+use Rattle.mxf_catalogue.specs.CatalogueFile.{mark_of, place_after}
 use Rattle.mxf_catalogue.proofs.FileBytes.{front_begins, front_next, front_whole, length-head_bytes}
 use Rattle.mxf_catalogue.proofs.FileLaws.{if_some}
+use Rattle.mxf_catalogue.proofs.HeadLaws.{AreReduced-push, same_note}
 use Rattle.mxf_catalogue.proofs.FileParts.{at_front_of_rest, head_split, number_split, start_split}
 
 -- ---- what can be decided
@@ -85,6 +87,41 @@ can_be_noted h =
           | inl within ↦ inl (record { label = label; width = width; within = within })
         ]
       ]
+    ]
+
+can_be_marked : (h : Head) (mark : ℕ) → Decided (CanBeMarked h mark)
+can_be_marked h mark =
+    elim (can_be_noted h) [
+      | inr never ↦ inr (λ c. never c.0)
+      | inl noted ↦ elim (at_most mark 1) [
+        | inr never ↦ inr (λ c. never c.1)
+        | inl known ↦ inl (noted, known)
+      ]
+    ]
+
+behind_first : (x : NoteParts) (xs front back : List NoteParts) → x ∷ xs ≡ front ++ back → 1 ≤ length front
+    → (more : List NoteParts) × (xs ≡ more ++ back)
+behind_first x xs [] back e l = absurd (omega arith)
+behind_first x xs (f ∷ more) back e l = (more, ap (drop 1) e)
+
+is_head_last : (notes : List NoteParts) (n : NoteParts) → Decided (IsHeadLast notes n)
+is_head_last [] n = inr (λ k. let len = ap length k.1 ∙ length-append k.0 (head_note n ∷ []) in absurd (omega (arith, len)))
+is_head_last (x ∷ []) n =
+    elim (same_note x (head_note n)) [
+      | inl e ↦ inl ([], ap (λ y. y ∷ []) e)
+      | inr ne ↦ inr (λ k. only k.0 k.1 ne)
+    ]
+  where
+    only : (front : List NoteParts) → x ∷ [] ≡ front ++ head_note n ∷ [] → (x ≢ head_note n) → ⊥
+    only [] e ne = ne (ap (λ (l : List NoteParts). get_or l 0 x) e)
+    only (f ∷ front) e ne =
+        let len = ap length e ∙ length-append (f ∷ front) (head_note n ∷ []) in absurd (omega (arith, len))
+is_head_last (x ∷ y ∷ ys) n =
+    elim (is_head_last (y ∷ ys) n) [
+      | inl k ↦ inl (x ∷ k.0, ap (λ l. x ∷ l) k.1)
+      | inr never ↦ inr (λ k.
+          let len = ap length k.1 ∙ length-append k.0 (head_note n ∷ []) in
+          never (behind_first x (y ∷ ys) k.0 (head_note n ∷ []) k.1 (omega (arith, len))))
     ]
 
 is_below : (o : Ordering) → Decided (o ≡ Less)
@@ -183,6 +220,29 @@ head_at bytes long h =
           offset.whole offset.small refl refl (omega arith) width.whole len.whole len.small h;
     }
 
+-- a head and a mark in the first 34 bytes
+record MarkAt (bytes : List ℕ) : Type 0 where
+  pub head : Head
+  pub mark : ℕ
+  pub rest : List ℕ
+  pub begins : BeginsWithMark bytes head mark rest
+
+mark_at : (bytes : List ℕ) → 34 ≤ length bytes → AreBytes bytes → MarkAt bytes
+mark_at bytes long h =
+    let at : HeadAt bytes = head_at bytes (omega arith) h in
+    let len = ap length at.begins.whole ∙ length-append (head_bytes at.head) at.rest in
+    let mark : FirstOf at.rest =
+    first_of at.rest (omega (arith, len, length-head_bytes at.head at.begins.head.key)) in
+    record {
+      head = at.head;
+      mark = mark.first;
+      rest = mark.others;
+      begins = record {
+        head = at.begins.head;
+        whole = at.begins.whole ∙ ap (λ (t : List ℕ). head_bytes at.head ++ t) mark.whole;
+      };
+    }
+
 -- ---- causes
 
 -- what bytes are
@@ -221,7 +281,24 @@ behind_note : (bytes rest more : List ℕ) (count : ℕ) (notes : List NoteParts
     → length more < length rest → GoesOn bytes rest count notes → IsFileOrRefused bytes
 behind_note bytes rest more count notes n f lt b are short next =
     elim (is_rising note_cmp (notes ++ n ∷ [])) [
-      | inl rises ↦ next n more (front_next bytes rest more count notes n f lt b rises) are short
+      | inl rises ↦ elim (is_head_last notes n) [
+        | inl last ↦ inr (
+          NotReduced (place_after notes),
+          λ h. cc,
+          record {
+            count = count;
+            notes = notes;
+            rest = rest;
+            front = f;
+            stands = refl;
+            why = (lt, (n, more, b, rises, last));
+          },
+        )
+        | inr never ↦
+            let red = AreReduced-push notes n rises f.reduced
+            (λ front l e t. never (front, e ∙ ap (λ h. front ++ h ∷ []) (sym t))) in
+            next n more (front_next bytes rest more count notes n f lt b rises red) are short
+      ]
       | inr never ↦ inr (
         NotSorted (place_after notes),
         λ h. cc,
@@ -236,30 +313,49 @@ behind_note bytes rest more count notes n f lt b are short next =
       )
     ]
 
--- the note with a head, which holds the first of the bytes behind it
-note_there : (h : Head) (rest more : List ℕ) → BeginsWithHead rest h more → CanBeNoted h
-    → held_length h ≤ length more
-    → BeginsWithNote rest (note_parts h.offset h.key h.width h.length (take (held_length h) more))
-    (drop (held_length h) more)
-note_there h rest more b good long =
-    let k = held_length h in
+-- the note with a head and a mark, which holds these bytes
+marked_note : Head → ℕ → List ℕ → NoteParts
+marked_note h mark held = record {
+  offset = h.offset;
+  key = h.key;
+  width = h.width;
+  length = h.length;
+  whole = mark == 0;
+  held = held;
+}
+
+mark_back : (mark : ℕ) → mark ≤ 1 → mark_of (mark == 0) ≡ mark
+mark_back zero l = refl
+mark_back (suc zero) l = refl
+mark_back (suc (suc mark)) l = absurd (omega arith)
+
+-- that which holds the first of the bytes behind them
+note_there : (h : Head) (mark : ℕ) (rest more : List ℕ) → BeginsWithMark rest h mark more → CanBeMarked h mark
+    → held_length h mark ≤ length more
+    → BeginsWithNote rest (marked_note h mark (take (held_length h mark) more)) (drop (held_length h mark) more)
+unfolding marked_note
+note_there h mark rest more b good long =
+    let k : ℕ = held_length h mark in
+    let held = take k more in
+    let behind : List ℕ → List ℕ = λ t. head_bytes h ++ t in
     record {
       note = record {
-        label = good.label;
-        width = good.width;
-        within = good.within;
+        label = good.0.label;
+        width = good.0.width;
+        within = good.0.within;
         held = omega (arith, length-take k more);
       };
-      whole = b.whole ∙ ap (λ (t : List ℕ). head_bytes h ++ t) (sym (take-append-drop k more))
-          ∙ sym (append_assoc (head_bytes h) (take k more) (drop k more));
+      whole = b.whole
+          ∙ ap behind ((λ i. sym (mark_back mark good.1) i ∷ sym (take-append-drop k more) i))
+          ∙ sym (append_assoc (head_bytes h) (mark_of (mark == 0) ∷ held) (drop k more));
     }
 
--- a head stands at the front
-behind_head : (bytes rest more : List ℕ) (count : ℕ) (notes : List NoteParts) (h : Head)
-    → IsFront bytes count notes rest → length notes < count → BeginsWithHead rest h more → AreBytes rest
+-- a head and a mark stand at the front
+behind_mark : (bytes rest more : List ℕ) (count : ℕ) (notes : List NoteParts) (h : Head) (mark : ℕ)
+    → IsFront bytes count notes rest → length notes < count → BeginsWithMark rest h mark more → AreBytes rest
     → GoesOn bytes rest count notes → IsFileOrRefused bytes
-behind_head bytes rest more count notes h f lt b are next =
-    elim (can_be_noted h) [
+behind_mark bytes rest more count notes h mark f lt b are next =
+    elim (can_be_marked h mark) [
       | inr bad ↦ inr (
         BadNote (place_after notes),
         λ e. cc,
@@ -269,17 +365,18 @@ behind_head bytes rest more count notes h f lt b are next =
           rest = rest;
           front = f;
           stands = refl;
-          why = (lt, (h, more, b, bad));
+          why = (lt, (h, mark, more, b, bad));
         },
       )
-      | inl good ↦ elim (cases_lt (length more) (held_length h)) [
-        | inl short ↦ cut bytes rest count notes f lt (inr (h, more, b, good, short))
+      | inl good ↦ elim (cases_lt (length more) (held_length h mark)) [
+        | inl short ↦ cut bytes rest count notes f lt (inr (h, mark, more, b, good, short))
         | inr long ↦
-            let k = held_length h in
-            let len = ap length b.whole ∙ length-append (head_bytes h) more in
-            behind_note bytes rest (drop k more) count notes
-            (note_parts h.offset h.key h.width h.length (take k more)) f lt (note_there h rest more b good long)
-            (bytes_drop k more (bytes_after (head_bytes h) more (subst AreBytes b.whole are)))
+            let k : ℕ = held_length h mark in
+            let len = ap length b.whole ∙ length-append (head_bytes h) (mark ∷ more) in
+            behind_note bytes rest (drop k more) count notes (marked_note h mark (take k more)) f lt
+            (note_there h mark rest more b good long)
+            (bytes_drop k more (bytes_drop 1 (mark ∷ more)
+            (bytes_after (head_bytes h) (mark ∷ more) (subst AreBytes b.whole are))))
             (omega (arith, len, length-head_bytes h b.head.key, length-drop k more)) next
       ]
     ]
@@ -289,11 +386,11 @@ one_step : (bytes rest : List ℕ) (count : ℕ) (notes : List NoteParts) → Is
 one_step bytes rest count notes f are next =
     elim (cases_lt (length notes) count) [
       | inr all ↦ ended bytes rest count notes f (omega (arith, f.room))
-      | inl lt ↦ elim (cases_lt (length rest) 33) [
+      | inl lt ↦ elim (cases_lt (length rest) 34) [
         | inl short ↦ cut bytes rest count notes f lt (inl short)
         | inr long ↦
-            let at = head_at rest long are in
-            behind_head bytes rest at.rest count notes at.head f lt at.begins are next
+            let at = mark_at rest long are in
+            behind_mark bytes rest at.rest count notes at.head at.mark f lt at.begins are next
       ]
     ]
 

@@ -8,8 +8,11 @@ use Rattle.mxf_klv.specs.Parts.{NoteParts}
 use Rattle.mxf_klv.specs.Note.{IsNote, note_cmp}
 use Rattle.mxf_catalogue.specs.declared.catalogue.file.FileFault.{FileFault}
 use Rattle.mxf_catalogue.specs.declared.catalogue.file.FileFault.TheVariants.{BadMagic, BadVersion, Truncated, BadNote}
-use Rattle.mxf_catalogue.specs.declared.catalogue.file.FileFault.TheVariants.{NotSorted, Trailing, OutOfMemory}
-use Rattle.mxf_catalogue.specs.Content.{IsContent}
+use Rattle.mxf_catalogue.specs.declared.catalogue.file.FileFault.TheVariants.{NotSorted, NotReduced, Trailing, OutOfMemory}
+use Rattle.mxf_catalogue.specs.Content.{AreReduced, IsContent}
+use Rattle.mxf_catalogue.specs.CatalogueFile.{IsUnreducedNote}
+use Rattle.mxf_catalogue.proofs.HeadLaws.{AreReduced-part, not-AreReduced-push}
+use Rattle.mxf_catalogue.proofs.ReducedPlaces.{In-append}
 use Rattle.mxf_catalogue.specs.CatalogueFile.{number_bytes, note_bytes, start_bytes, version, IsFileOf, BeginsWithNote}
 use Rattle.mxf_catalogue.specs.CatalogueFile.{IsCutNote, IsBadNote, IsUnsortedNote, IsFront, place_after, BeginsAsFile}
 use Rattle.mxf_catalogue.specs.CatalogueFile.{ReadsFile}
@@ -25,24 +28,31 @@ EndsWith count notes rest (Err (Truncated p)) = (p ≡ place_after notes) × (le
 EndsWith count notes rest (Err (BadNote p)) = (p ≡ place_after notes) × (length notes < count) × IsBadNote rest
 EndsWith count notes rest (Err (NotSorted p)) =
     (p ≡ place_after notes) × (length notes < count) × IsUnsortedNote notes rest
+EndsWith count notes rest (Err (NotReduced p)) =
+    (p ≡ place_after notes) × (length notes < count) × IsUnreducedNote notes rest
 EndsWith count notes rest (Err (Trailing p)) = (p ≡ place_after notes) × (length notes ≡ count) × (0 < length rest)
 EndsWith count notes rest (Err OutOfMemory) = ⊥
 
 -- it isn't another note
 no_next : (count : ℕ) (notes : List NoteParts) (rest more : List ℕ) (m : NoteParts)
     (r : Result (List NoteParts) FileFault) → EndsWith count notes rest r → length notes < count
-    → BeginsWithNote rest m more → IsContent (notes ++ m ∷ []) → ⊥
-no_next count notes rest more m (Ok all) e lt b c = omega (arith, e.1)
-no_next count notes rest more m (Err BadMagic) e lt b c = e
-no_next count notes rest more m (Err BadVersion) e lt b c = e
-no_next count notes rest more m (Err (Truncated p)) e lt b c = note_uncut m rest more b e.2
-no_next count notes rest more m (Err (BadNote p)) e lt b c = note_good m rest more b e.2
-no_next count notes rest more m (Err (NotSorted p)) e lt b c =
-    let (n, others, d, never) = e.2 in
-    let same = same_note m n more others b.note d.note (sym b.whole ∙ d.whole) in
+    → BeginsWithNote rest m more → IsContent (notes ++ m ∷ []) → AreReduced (notes ++ m ∷ []) → ⊥
+no_next count notes rest more m (Ok all) e lt b c d = omega (arith, e.1)
+no_next count notes rest more m (Err BadMagic) e lt b c d = e
+no_next count notes rest more m (Err BadVersion) e lt b c d = e
+no_next count notes rest more m (Err (Truncated p)) e lt b c d = note_uncut m rest more b e.2
+no_next count notes rest more m (Err (BadNote p)) e lt b c d = note_good m rest more b e.2
+no_next count notes rest more m (Err (NotSorted p)) e lt b c d =
+    let (n, others, g, never) = e.2 in
+    let same = same_note m n more others b.note g.note (sym b.whole ∙ g.whole) in
     never (subst (λ (x : NoteParts). IsContent (notes ++ x ∷ [])) same.0 c)
-no_next count notes rest more m (Err (Trailing p)) e lt b c = omega (arith, e.1)
-no_next count notes rest more m (Err OutOfMemory) e lt b c = e
+no_next count notes rest more m (Err (NotReduced p)) e lt b c d =
+    let (n, others, g, rises, last) = e.2 in
+    let same = same_note m n more others b.note g.note (sym b.whole ∙ g.whole) in
+    not-AreReduced-push notes last.0 n _ rises last.1 refl
+    (subst (λ (x : NoteParts). AreReduced (notes ++ x ∷ [])) same.0 d)
+no_next count notes rest more m (Err (Trailing p)) e lt b c d = omega (arith, e.1)
+no_next count notes rest more m (Err OutOfMemory) e lt b c d = e
 
 -- it is one thing
 same_end : (count : ℕ) (notes : List NoteParts) (rest : List ℕ) (r s : Result (List NoteParts) FileFault)
@@ -79,35 +89,71 @@ same_end count notes rest (Err (NotSorted p)) (Err (BadNote q)) e f = let (n, mo
 same_end count notes rest (Err (NotSorted p)) (Err (NotSorted q)) e f = ap (λ (t : ℕ). Err (NotSorted t)) (e.0
     ∙ sym f.0)
 same_end count notes rest (Err (NotSorted p)) (Err (Trailing q)) e f = absurd (omega (arith, e.1, f.1))
+same_end count notes rest (Ok x) (Err (NotReduced q)) e f = absurd (omega (arith, e.1, f.1))
+same_end count notes rest (Err (NotReduced p)) (Ok y) e f = absurd (omega (arith, e.1, f.1))
+same_end count notes rest (Err (Truncated p)) (Err (NotReduced q)) e f = let (n, more, d, rises, last) = f.2 in absurd
+    (note_uncut n rest more d e.2)
+same_end count notes rest (Err (NotReduced p)) (Err (Truncated q)) e f = let (n, more, d, rises, last) = e.2 in absurd
+    (note_uncut n rest more d f.2)
+same_end count notes rest (Err (BadNote p)) (Err (NotReduced q)) e f = let (n, more, d, rises, last) = f.2 in absurd
+    (note_good n rest more d e.2)
+same_end count notes rest (Err (NotReduced p)) (Err (BadNote q)) e f = let (n, more, d, rises, last) = e.2 in absurd
+    (note_good n rest more d f.2)
+same_end count notes rest (Err (NotSorted p)) (Err (NotReduced q)) e f =
+    let (n, more, d, rises, last) = f.2 in
+    let (m, others, g, never) = e.2 in
+    let same = same_note n m more others d.note g.note (sym d.whole ∙ g.whole) in
+    absurd (never (subst (λ (x : NoteParts). IsContent (notes ++ x ∷ [])) same.0 rises))
+same_end count notes rest (Err (NotReduced p)) (Err (NotSorted q)) e f =
+    let (n, more, d, rises, last) = e.2 in
+    let (m, others, g, never) = f.2 in
+    let same = same_note n m more others d.note g.note (sym d.whole ∙ g.whole) in
+    absurd (never (subst (λ (x : NoteParts). IsContent (notes ++ x ∷ [])) same.0 rises))
+same_end count notes rest (Err (NotReduced p)) (Err (NotReduced q)) e f = ap (λ (t : ℕ). Err (NotReduced t)) (e.0
+    ∙ sym f.0)
+same_end count notes rest (Err (NotReduced p)) (Err (Trailing q)) e f = absurd (omega (arith, e.1, f.1))
+same_end count notes rest (Err (Trailing p)) (Err (NotReduced q)) e f = absurd (omega (arith, e.1, f.1))
 same_end count notes rest (Err (Trailing p)) (Ok y) e f = absurd (omega (arith, e.2, f.2))
 same_end count notes rest (Err (Trailing p)) (Err (Truncated q)) e f = absurd (omega (arith, e.1, f.1))
 same_end count notes rest (Err (Trailing p)) (Err (BadNote q)) e f = absurd (omega (arith, e.1, f.1))
 same_end count notes rest (Err (Trailing p)) (Err (NotSorted q)) e f = absurd (omega (arith, e.1, f.1))
 same_end count notes rest (Err (Trailing p)) (Err (Trailing q)) e f = ap (λ (t : ℕ). Err (Trailing t)) (e.0 ∙ sym f.0)
 
+-- the first of a reduced list are reduced
+AreReduced-front : (before ks : List NoteParts) (k : NoteParts) → AreReduced (before ++ k ∷ ks)
+    → AreReduced (before ++ k ∷ [])
+AreReduced-front before ks k r =
+    AreReduced-part (before ++ k ∷ []) (before ++ k ∷ ks) (λ n h. elim ((In-append n before (k ∷ [])).0 h) [
+      | inl i ↦ (In-append n before (k ∷ ks)).1 (inl i)
+      | inr i ↦ (In-append n before (k ∷ ks)).1 (inr (elim i [ inl e ↦ inl e | inr z ↦ absurd z ]))
+    ]) r
+
 -- behind two lists of notes of one text there is one thing, and so the lists are one
 same_walk : (count : ℕ) (before ns ms : List NoteParts) (x y : List ℕ) (r s : Result (List NoteParts) FileFault)
     → AllByRecursion IsNote ns → AllByRecursion IsNote ms → IsContent (before ++ ns) → IsContent (before ++ ms)
+    → AreReduced (before ++ ns) → AreReduced (before ++ ms)
     → length (before ++ ns) ≤ count → length (before ++ ms) ≤ count
     → flat_map note_bytes ns ++ x ≡ flat_map note_bytes ms ++ y → EndsWith count (before ++ ns) x r
     → EndsWith count (before ++ ms) y s → r ≡ s
-same_walk count before [] [] x y r s a b c d l m t e f =
+same_walk count before [] [] x y r s a b c d u v l m t e f =
     same_end count (before ++ []) y r s (subst (λ (z : List ℕ). EndsWith count (before ++ []) z r) t e) f
-same_walk count before [] (k ∷ ks) x y r s a b c d l m t e f =
+same_walk count before [] (k ∷ ks) x y r s a b c d u v l m t e f =
     let at : before ++ [] ≡ before = append-nil before in
     let next : IsContent (before ++ k ∷ []) = rising_front note_cmp (before ++ k ∷ []) ks
     (subst IsContent (sym (append_assoc before (k ∷ []) ks)) d) in
     absurd (no_next count before x (flat_map note_bytes ks ++ y) k r
     (subst (λ (z : List NoteParts). EndsWith count z x r) at e) (omega (arith, m, length-append before (k ∷ ks)))
-    (record { note = b.0; whole = t ∙ append_assoc (note_bytes k) (flat_map note_bytes ks) y }) next)
-same_walk count before (k ∷ ks) [] x y r s a b c d l m t e f =
+    (record { note = b.0; whole = t ∙ append_assoc (note_bytes k) (flat_map note_bytes ks) y }) next
+    (AreReduced-front before ks k v))
+same_walk count before (k ∷ ks) [] x y r s a b c d u v l m t e f =
     let at : before ++ [] ≡ before = append-nil before in
     let next : IsContent (before ++ k ∷ []) = rising_front note_cmp (before ++ k ∷ []) ks
     (subst IsContent (sym (append_assoc before (k ∷ []) ks)) c) in
     absurd (no_next count before y (flat_map note_bytes ks ++ x) k s
     (subst (λ (z : List NoteParts). EndsWith count z y s) at f) (omega (arith, l, length-append before (k ∷ ks)))
-    (record { note = a.0; whole = sym t ∙ append_assoc (note_bytes k) (flat_map note_bytes ks) x }) next)
-same_walk count before (j ∷ js) (k ∷ ks) x y r s a b c d l m t e f =
+    (record { note = a.0; whole = sym t ∙ append_assoc (note_bytes k) (flat_map note_bytes ks) x }) next
+    (AreReduced-front before ks k u))
+same_walk count before (j ∷ js) (k ∷ ks) x y r s a b c d u v l m t e f =
     let same = same_note j k (flat_map note_bytes js ++ x) (flat_map note_bytes ks ++ y) a.0 b.0
     (sym (append_assoc (note_bytes j) (flat_map note_bytes js) x) ∙ t
     ∙ append_assoc (note_bytes k) (flat_map note_bytes ks) y) in
@@ -115,6 +161,7 @@ same_walk count before (j ∷ js) (k ∷ ks) x y r s a b c d l m t e f =
     let right : before ++ (k ∷ ks) ≡ (before ++ j ∷ []) ++ ks = ap (λ (z : NoteParts). before ++ (z ∷ ks)) (sym same.0)
     ∙ sym (append_assoc before (j ∷ []) ks) in
     same_walk count (before ++ j ∷ []) js ks x y r s a.1 b.1 (subst IsContent left c) (subst IsContent right d)
+    (subst AreReduced left u) (subst AreReduced right v)
     (subst (λ (z : List NoteParts). length z ≤ count) left l)
     (subst (λ (z : List NoteParts). length z ≤ count) right m) same.1
     (subst (λ (z : List NoteParts). EndsWith count z x r) left e)
@@ -142,7 +189,7 @@ same_late bytes r s p q =
     q.count ++ (flat_map note_bytes q.notes ++ q.rest) = ap (drop 8) (sym f.whole ∙ g.whole) in
     let same = same_number p.count q.count _ _ f.fits g.fits starts in
     same_walk p.count [] p.notes q.notes p.rest q.rest r s f.catalogue.members g.catalogue.members f.catalogue.content
-    g.catalogue.content f.room (rw same.0 g.room) same.1 p.ends
+    g.catalogue.content f.reduced g.reduced f.room (rw same.0 g.room) same.1 p.ends
     (subst (λ (c : ℕ). EndsWith c q.notes q.rest s) (sym same.0) q.ends)
 
 some_and : (o : Option ℕ) (P : ℕ → Type 0) → IsSomeAnd o P → (v : ℕ) × (o ≡ Some v) × P v
@@ -162,6 +209,7 @@ sorted bytes (Ok notes) m f = inl (record {
   rest = [];
   front = record {
     catalogue = f.catalogue;
+    reduced = f.reduced;
     room = omega arith;
     fits = f.fits;
     whole = f.whole
@@ -179,6 +227,8 @@ sorted bytes (Err (Truncated p)) m (inr s) = inl
 sorted bytes (Err (BadNote p)) m s = inl
     (record { count = s.count; notes = s.notes; rest = s.rest; front = s.front; ends = (s.stands, s.why.0, s.why.1) })
 sorted bytes (Err (NotSorted p)) m s = inl
+    (record { count = s.count; notes = s.notes; rest = s.rest; front = s.front; ends = (s.stands, s.why.0, s.why.1) })
+sorted bytes (Err (NotReduced p)) m s = inl
     (record { count = s.count; notes = s.notes; rest = s.rest; front = s.front; ends = (s.stands, s.why.0, s.why.1) })
 sorted bytes (Err (Trailing p)) m s = inl
     (record { count = s.count; notes = s.notes; rest = s.rest; front = s.front; ends = (s.stands, s.why.0, s.why.1) })

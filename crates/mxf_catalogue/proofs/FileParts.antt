@@ -23,7 +23,7 @@ use Rattle.mxf_klv.specs.Written.{StopsIn, WritesPart, counted}
 use Rattle.mxf_klv.proofs.WrittenParts.{StopsIn-part, WritesPart-after}
 use Rattle.mxf_catalogue.specs.declared.catalogue.file.FileFault.{FileFault}
 use Rattle.mxf_catalogue.specs.declared.catalogue.file.FileFault.TheVariants.{BadMagic, BadVersion, Truncated, BadNote}
-use Rattle.mxf_catalogue.specs.declared.catalogue.file.FileFault.TheVariants.{NotSorted, Trailing, OutOfMemory}
+use Rattle.mxf_catalogue.specs.declared.catalogue.file.FileFault.TheVariants.{NotSorted, NotReduced, Trailing, OutOfMemory}
 use Rattle.mxf_catalogue.specs.declared.catalogue.file.head.Head.{Head}
 use Rattle.mxf_catalogue.specs.Content.{IsContent}
 use Rattle.mxf_catalogue.specs.CatalogueFile.{magic, version, number_bytes, CanBeNoted, note_bytes, start_bytes}
@@ -113,12 +113,12 @@ above_last notes last n b at r e =
 
 pub digest_noted : (h : Head) (n : NoteParts) (bytes digest more key : List ℕ) → CanBeNoted h
     → keeps h.key h.length ≡ false → key ≡ h.key → n ≡ note_parts h.offset key h.width h.length digest
-    → digest ≡ take 32 bytes → more ≡ drop 32 bytes → 32 ≤ length bytes → NoteAfterHead h bytes n more
+    → digest ≡ take 32 bytes → more ≡ drop 32 bytes → 32 ≤ length bytes → NoteAfterHead h 0 bytes n more
 digest_noted h n bytes digest more key g kept k is d m long =
     let same : n ≡ note_parts h.offset h.key h.width h.length digest = is
     ∙ ap (λ (t : List ℕ). note_parts h.offset t h.width h.length digest) k in
     let len : length digest ≡ 32 = ap length d ∙ omega (arith, length-take 32 bytes) in
-    subst (λ (x : NoteParts). NoteAfterHead h bytes x more) (sym same) (record {
+    subst (λ (x : NoteParts). NoteAfterHead h 0 bytes x more) (sym same) (record {
       note = record {
         label = g.label;
         width = g.width;
@@ -127,6 +127,7 @@ digest_noted h n bytes digest more key g kept k is d m long =
             ∙ sym (ap (λ (b : Bool). cond b h.length 32) kept);
       };
       head = refl;
+      marked = refl;
       held = sym (take-append-drop 32 bytes) ∙ ap (λ (t : List ℕ). t ++ drop 32 bytes) (sym d)
           ∙ ap (λ (t : List ℕ). digest ++ t) (sym m);
     })
@@ -216,6 +217,7 @@ note_fault bytes rest count place notes (Truncated p) f lt at r = inr
     (stops bytes rest count p notes _ f (r.0 ∙ at) (lt, r.1))
 note_fault bytes rest count place notes (BadNote p) f lt at r = stops bytes rest count p notes _ f (r.0 ∙ at) (lt, r.1)
 note_fault bytes rest count place notes (NotSorted p) f lt at r = absurd r
+note_fault bytes rest count place notes (NotReduced p) f lt at r = absurd r
 note_fault bytes rest count place notes (Trailing p) f lt at r = absurd r
 note_fault bytes rest count place notes OutOfMemory f lt at r = tt
 

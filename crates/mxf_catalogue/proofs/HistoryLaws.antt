@@ -1,69 +1,125 @@
 -- What a history of calls leaves is the set that it was handed.
-use Rattle.std.specs.Prelude.{◌≡◌, ◌↔◌, List, [], ◌∷◌, take}
-use Rattle.std.proofs.Common.{inl, inr}
+use Rattle.std.specs.Prelude.{◌≡◌, ◌↔◌, ◌⊎◌, List, [], ◌∷◌, refl, take}
+use Rattle.std.proofs.Common.{inl, inr, sym, ap, ◌∙◌}
 use Rattle.mxf_klv.specs.Parts.{NoteParts}
 use Rattle.mxf_klv.specs.PieceReading.{notes_in}
 use Rattle.mxf_klv.specs.Rising.{In}
-use Rattle.mxf_catalogue.specs.Content.{IsContent}
+use Rattle.mxf_klv.specs.Note.{head_note}
+use Rattle.mxf_catalogue.specs.Content.{AreReduced, IsContent, IsLocated, has_note, with_note}
+use Rattle.mxf_catalogue.specs.Reduced.{IsKnown}
 use Rattle.mxf_catalogue.specs.History.{Part, HandIn, part_notes, union_of_parts, Hands, HandsSame, content}
 use Rattle.mxf_catalogue.specs.History.{History, New, Add, Join, Read, Absorb, Cut, Of, Gather}
-use Rattle.mxf_catalogue.proofs.ContentLaws.{same_content, In-with_note, In-union_of}
-use Rattle.mxf_catalogue.proofs.ContentLaws.{IsContent-with_note, IsContent-union_of}
+use Rattle.mxf_catalogue.proofs.ContentLaws.{same_content}
+use Rattle.mxf_catalogue.proofs.HeadLaws.{AreReduced-reduced, AreReduced-reduced_union, IsContent-reduced_union, IsContent-reduced_with, In-located}
+use Rattle.mxf_catalogue.proofs.HeadLaws.{has-reduced_union, has-reduced_with}
 
 pub IsContent-union_of_parts : (parts : List Part) → IsContent (union_of_parts parts)
 IsContent-union_of_parts [] = tt
 IsContent-union_of_parts (p ∷ parts) =
-    IsContent-union_of (union_of_parts parts) (part_notes p) (IsContent-union_of_parts parts)
+    IsContent-reduced_union (union_of_parts parts) (part_notes p) (IsContent-union_of_parts parts)
 
--- the union of all parts has exactly the notes that they hand
-pub In-union_of_parts : (parts : List Part) (n : NoteParts) → In n (union_of_parts parts) ↔ HandIn parts n
-In-union_of_parts [] n = (λ k. k, λ k. k)
-In-union_of_parts (p ∷ parts) n =
-    let all = In-union_of n (union_of_parts parts) (part_notes p) in let ih = In-union_of_parts parts n in (
-      λ k. elim (all.0 k) [ inl i ↦ inr (ih.0 i) | inr j ↦ inl j ],
-      λ k. all.1 (elim k [ inl j ↦ inr j | inr i ↦ inl (ih.1 i) ]),
+pub AreReduced-union_of_parts : (parts : List Part) → AreReduced (union_of_parts parts)
+AreReduced-union_of_parts [] = λ x h k. h
+AreReduced-union_of_parts (p ∷ parts) =
+    AreReduced-reduced_union (union_of_parts parts) (part_notes p) (AreReduced-union_of_parts parts)
+
+-- a set of two has with heads what both have
+pub known-both : (P Q : NoteParts → Type 0) (n : NoteParts)
+    → IsKnown head_note (λ m. P m ⊎ Q m) n ↔ IsKnown head_note P n ⊎ IsKnown head_note Q n
+known-both P Q n = (
+  λ h. elim h [
+    | inl k ↦ elim k [ inl p ↦ inl (inl p) | inr q ↦ inr (inl q) ]
+    | inr s ↦ elim s.1 [ inl p ↦ inl (inr (s.0, p, s.2)) | inr q ↦ inr (inr (s.0, q, s.2)) ]
+  ],
+  λ h. elim h [
+    | inl k ↦ elim k [ inl p ↦ inl (inl p) | inr s ↦ inr (s.0, inl s.1, s.2) ]
+    | inr k ↦ elim k [ inl q ↦ inl (inr q) | inr s ↦ inr (s.0, inr s.1, s.2) ]
+  ],
+)
+
+-- the union of all parts has what they hand, with its heads
+pub has-union_of_parts : (parts : List Part) (n : NoteParts)
+    → has_note (union_of_parts parts) n ↔ IsKnown head_note (HandIn parts) n
+has-union_of_parts [] n = (λ k. k, λ k. k)
+has-union_of_parts (p ∷ parts) n =
+    let all = has-reduced_union n (union_of_parts parts) (part_notes p) in
+    let ih = has-union_of_parts parts n in
+    let k = known-both (λ m. In m (part_notes p)) (HandIn parts) n in (
+      λ h. k.1 (elim (all.0 h) [ inl i ↦ inr (ih.0 i) | inr j ↦ inl j ]),
+      λ h. all.1 (elim (k.0 h) [ inl j ↦ inr j | inr i ↦ inl (ih.1 i) ]),
     )
 
 pub IsContent-content : (h : History) → IsContent (content h)
 IsContent-content New = tt
-IsContent-content (Add h m) = IsContent-with_note m (content h) (IsContent-content h)
-IsContent-content (Join h k) = IsContent-union_of (content h) (content k) (IsContent-content h)
+IsContent-content (Add h m) = IsContent-reduced_with m (content h) (IsContent-content h)
+IsContent-content (Join h k) = IsContent-reduced_union (content h) (content k) (IsContent-content h)
 IsContent-content (Read bytes notes is) = is.catalogue.content
 IsContent-content (Absorb h offset bytes) =
-    IsContent-union_of (content h) (notes_in offset bytes) (IsContent-content h)
+    IsContent-reduced_union (content h) (notes_in offset bytes) (IsContent-content h)
 IsContent-content (Cut h offset bytes noted) =
-    IsContent-union_of (content h) (take noted (notes_in offset bytes)) (IsContent-content h)
+    IsContent-reduced_union (content h) (take noted (notes_in offset bytes)) (IsContent-content h)
 IsContent-content (Of h) = IsContent-content h
 IsContent-content (Gather parts) = IsContent-union_of_parts parts
 
--- the content has exactly the notes that were handed
-pub In-content : (h : History) (n : NoteParts) → In n (content h) ↔ Hands h n
-In-content New n = (λ k. k, λ k. k)
-In-content (Add h m) n =
-    let one = In-with_note n m (content h) in let ih = In-content h n in (
-      λ k. elim (one.0 k) [ inl e ↦ inr e | inr i ↦ inl (ih.0 i) ],
-      λ k. one.1 (elim k [ inl i ↦ inr (ih.1 i) | inr e ↦ inl e ]),
-    )
-In-content (Join h k) n =
-    let all = In-union_of n (content h) (content k) in let ih = In-content h n in let ik = In-content k n in (
-      λ m. elim (all.0 m) [ inl i ↦ inl (ih.0 i) | inr j ↦ inr (ik.0 j) ],
-      λ m. all.1 (elim m [ inl i ↦ inl (ih.1 i) | inr j ↦ inr (ik.1 j) ]),
-    )
-In-content (Read bytes notes is) n = (λ k. k, λ k. k)
-In-content (Absorb h offset bytes) n =
-    let all = In-union_of n (content h) (notes_in offset bytes) in let ih = In-content h n in (
-      λ m. elim (all.0 m) [ inl i ↦ inl (ih.0 i) | inr j ↦ inr j ],
-      λ m. all.1 (elim m [ inl i ↦ inl (ih.1 i) | inr j ↦ inr j ]),
-    )
-In-content (Cut h offset bytes noted) n =
-    let all = In-union_of n (content h) (take noted (notes_in offset bytes)) in let ih = In-content h n in (
-      λ m. elim (all.0 m) [ inl i ↦ inl (ih.0 i) | inr j ↦ inr j ],
-      λ m. all.1 (elim m [ inl i ↦ inl (ih.1 i) | inr j ↦ inr j ]),
-    )
-In-content (Of h) n = In-content h n
-In-content (Gather parts) n = In-union_of_parts parts n
+pub AreReduced-content : (h : History) → AreReduced (content h)
+AreReduced-content New = λ x i k. i
+AreReduced-content (Add h m) = AreReduced-reduced (with_note m (content h))
+AreReduced-content (Join h k) = AreReduced-reduced_union (content h) (content k) (AreReduced-content h)
+AreReduced-content (Read bytes notes is) = is.reduced
+AreReduced-content (Absorb h offset bytes) =
+    AreReduced-reduced_union (content h) (notes_in offset bytes) (AreReduced-content h)
+AreReduced-content (Cut h offset bytes noted) =
+    AreReduced-reduced_union (content h) (take noted (notes_in offset bytes)) (AreReduced-content h)
+AreReduced-content (Of h) = AreReduced-content h
+AreReduced-content (Gather parts) = AreReduced-union_of_parts parts
 
--- one set of notes, one content
+-- the content has what was handed, with its heads
+pub has-content : (h : History) (n : NoteParts) → has_note (content h) n ↔ IsKnown head_note (Hands h) n
+has-content New n = (λ k. k, λ k. k)
+has-content (Add h m) n =
+    let one = has-reduced_with n m (content h) in
+    let ih = has-content h n in
+    let k = known-both (Hands h) (λ x. x ≡ m) n in (
+      λ i. k.1 (elim (one.0 i) [
+        | inl e ↦ inr (elim e [ inl q ↦ inl q | inr q ↦ inr (m, refl, sym q) ])
+        | inr j ↦ inl (ih.0 j)
+      ]),
+      λ i. one.1 (elim (k.0 i) [
+        | inl j ↦ inr (ih.1 j)
+        | inr j ↦ inl (elim j [ inl q ↦ inl q | inr s ↦ inr (sym s.2 ∙ ap head_note s.1) ])
+      ]),
+    )
+has-content (Join h k) n =
+    let all = has-reduced_union n (content h) (content k) in
+    let ih = has-content h n in let ik = has-content k n in
+    let b = known-both (Hands h) (Hands k) n in (
+      λ m. b.1 (elim (all.0 m) [ inl i ↦ inl (ih.0 i) | inr j ↦ inr (ik.0 j) ]),
+      λ m. all.1 (elim (b.0 m) [ inl i ↦ inl (ih.1 i) | inr j ↦ inr (ik.1 j) ]),
+    )
+has-content (Read bytes notes is) n = (λ k. k, λ k. k)
+has-content (Absorb h offset bytes) n =
+    let all = has-reduced_union n (content h) (notes_in offset bytes) in
+    let ih = has-content h n in
+    let b = known-both (Hands h) (λ m. In m (notes_in offset bytes)) n in (
+      λ m. b.1 (elim (all.0 m) [ inl i ↦ inl (ih.0 i) | inr j ↦ inr j ]),
+      λ m. all.1 (elim (b.0 m) [ inl i ↦ inl (ih.1 i) | inr j ↦ inr j ]),
+    )
+has-content (Cut h offset bytes noted) n =
+    let some = take noted (notes_in offset bytes) in
+    let all = has-reduced_union n (content h) some in
+    let ih = has-content h n in
+    let b = known-both (Hands h) (λ m. In m some) n in (
+      λ m. b.1 (elim (all.0 m) [ inl i ↦ inl (ih.0 i) | inr j ↦ inr j ]),
+      λ m. all.1 (elim (b.0 m) [ inl i ↦ inl (ih.1 i) | inr j ↦ inr j ]),
+    )
+has-content (Of h) n = has-content h n
+has-content (Gather parts) n = has-union_of_parts parts n
+
+-- the content is the handed set without the heads that are replaced
+pub In-content : (h : History) (n : NoteParts) → In n (content h) ↔ IsLocated (Hands h) n
+In-content h n = In-located (Hands h) (content h) (AreReduced-content h) (has-content h) n
+
+-- one set of located packets, one content
 pub same_history_content : (h k : History) → HandsSame (Hands h) (Hands k) → content h ≡ content k
 same_history_content h k s =
     same_content (content h) (content k) (IsContent-content h) (IsContent-content k) (λ n. (

@@ -8,7 +8,7 @@ use Rattle.std.proofs.lemmas.Bool.{lt-ltb}
 use Rattle.mxf_klv.specs.Parts.{NoteParts}
 use Rattle.mxf_klv.specs.Note.{end_of}
 use Rattle.mxf_klv.specs.Rising.{In, IsRising}
-use Rattle.mxf_catalogue.specs.Content.{IsContent, with_note}
+use Rattle.mxf_catalogue.specs.Content.{IsContent, reduced_with}
 use Rattle.mxf_catalogue.specs.Disputes.{AreApart, IsClear, IsDisputed, clear_notes, is_disputed}
 use Rattle.mxf_catalogue.specs.Parts.{moved_by, moved_notes}
 use Rattle.mxf_catalogue.proofs.DisputeLaws.{In-clear_notes, is_disputed-IsDisputed}
@@ -16,12 +16,12 @@ use Rattle.mxf_catalogue.proofs.Lists.{In-filter}
 use Rattle.mxf_catalogue.proofs.SpanLaws.{AreApart-clear_notes, AreApart-filter}
 
 pub In-moved_notes : (m n : NoteParts) (notes : List NoteParts)
-    → In m (moved_notes n notes) ↔ (IsClear m notes × IsDisputed m (with_note n notes))
+    → In m (moved_notes n notes) ↔ (IsClear m notes × IsDisputed m (reduced_with n notes))
 unfolding moved_notes
 In-moved_notes m n notes =
-    let f = In-filter (λ m. is_disputed m (with_note n notes)) (clear_notes notes) m in
+    let f = In-filter (λ m. is_disputed m (reduced_with n notes)) (clear_notes notes) m in
     let c = In-clear_notes m notes in
-    let d = is_disputed-IsDisputed m (with_note n notes) in
+    let d = is_disputed-IsDisputed m (reduced_with n notes) in
     (λ h. (c.0 (f.0 h).0, d.0 (f.0 h).1), λ h. f.1 (c.1 h.0, d.1 h.1))
 
 less : (a b : ℕ) → a < b → nat_cmp a b ≡ Less
@@ -44,4 +44,4 @@ pub rising-moved_by : (n : NoteParts) (notes : List NoteParts) → IsContent not
 unfolding moved_notes
 rising-moved_by n notes r =
     rising_apart 0 (moved_notes n notes)
-    (AreApart-filter (λ m. is_disputed m (with_note n notes)) 0 (clear_notes notes) (AreApart-clear_notes notes r))
+    (AreApart-filter (λ m. is_disputed m (reduced_with n notes)) 0 (clear_notes notes) (AreApart-clear_notes notes r))

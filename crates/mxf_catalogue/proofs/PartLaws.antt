@@ -10,17 +10,21 @@ use Rattle.mxf_klv.specs.Parts.{NoteParts}
 use Rattle.mxf_klv.specs.Note.{IsNote, note_cmp}
 use Rattle.mxf_klv.specs.NoteOrder.{note_total, note_cmp-IsAntisymmetric}
 use Rattle.mxf_klv.specs.Rising.{In, SameMembers, less_in}
-use Rattle.mxf_catalogue.specs.Content.{IsContent, IsCatalogue, with_note, union_of}
+use Rattle.mxf_catalogue.specs.Content.{AreReduced, IsContent, IsCatalogue, has_note, reduced_with, with_note, union_of}
 use Rattle.mxf_catalogue.specs.Disputes.{SharesByte, IsDisputed, is_byte_shared, is_offset_shared, is_overlapped}
 use Rattle.mxf_catalogue.specs.Disputes.{is_disputed, clear_notes, disputed_parts, disputed_notes}
+use Rattle.mxf_catalogue.specs.Disputes.{undisputed_notes, whole_notes}
 use Rattle.mxf_catalogue.specs.Parts.{AreParts, StandApart, touching, away_from, disputed_with}
 use Rattle.mxf_catalogue.specs.Parts.{moved_by, moved_notes}
 use Rattle.mxf_catalogue.proofs.ContentLaws.{same_content, In-with_note, In-union_of, IsContent-with_note}
 use Rattle.mxf_catalogue.proofs.ContentLaws.{IsContent-union_of, IsCatalogue-with_note, IsCatalogue-union_of}
+use Rattle.mxf_catalogue.proofs.ContentLaws.{all-In, all_from_In}
 use Rattle.mxf_catalogue.proofs.DisputeLaws.{is_byte_shared-SharesByte, is_offset_shared-SharesOffset}
 use Rattle.mxf_catalogue.proofs.DisputeLaws.{is_overlapped-Overlaps, SharesByte-same_offset, SharesByte-symmetric}
-use Rattle.mxf_catalogue.proofs.DisputeLaws.{is_disputed-IsDisputed, In-clear_notes, IsContent-filter}
-use Rattle.mxf_catalogue.proofs.DisputeLaws.{IsContent-clear_notes, not_true, not-true-false, same_bool}
+use Rattle.mxf_catalogue.proofs.DisputeLaws.{is_disputed-IsDisputed, IsContent-filter}
+use Rattle.mxf_catalogue.proofs.DisputeLaws.{In-undisputed_notes, not_true, not-true-false, same_bool}
+use Rattle.mxf_klv.specs.Note.{head_note}
+use Rattle.mxf_catalogue.proofs.HeadLaws.{AreReduced-part, In-reduced_with, IsContent-reduced_with, same_note}
 use Rattle.mxf_catalogue.proofs.Lists.{In-filter, all-filter}
 
 IsCatalogue-filter : (p : NoteParts → Bool) (notes : List NoteParts) → IsCatalogue notes → IsCatalogue (filter p notes)
@@ -51,25 +55,28 @@ touches_or_not x n =
           cc (t, e))
     ] refl
 
--- The clear part is the list of the clear notes.
-pub clear_part : (c d : List NoteParts) → AreParts c d → c ≡ clear_notes (union_of c d)
-clear_part c d p =
+-- The first part is the list of the undisputed notes.
+pub undisputed_part : (c d : List NoteParts) → AreParts c d → c ≡ undisputed_notes (union_of c d)
+undisputed_part c d p =
     let u = union_of c d in
-    same_content c (clear_notes u) p.clear_is.content
-    (IsContent-clear_notes u (IsContent-union_of c d p.clear_is.content))
+    same_content c (undisputed_notes u) p.clear_is.content
+    (IsContent-filter (λ n. not (is_disputed n u)) u (IsContent-union_of c d p.clear_is.content))
     (λ n. (
-      (λ h. (In-clear_notes n u).1 (record {
-        held = (In-union_of n c d).1 (inl h);
-        undisputed =
-            λ k. p.apart n k.0 h ((In-union_of k.0 c d).0 k.1) (λ e. k.2 (sym e)) (SharesByte-symmetric k.0 n k.3);
-      })),
-      (λ h. let k = (In-clear_notes n u).0 h in
-          elim ((In-union_of n c d).0 k.held) [
+      (λ h. (In-undisputed_notes n u).1 (
+        (In-union_of n c d).1 (inl h),
+        λ k. p.apart n k.0 h ((In-union_of k.0 c d).0 k.1) (λ e. k.2 (sym e)) (SharesByte-symmetric k.0 n k.3),
+      )),
+      (λ h. let k = (In-undisputed_notes n u).0 h in
+          elim ((In-union_of n c d).0 k.0) [
             | inl i ↦ i
             | inr j ↦ absurd
-                (k.undisputed (let s = p.shared n j in (s.0, (In-union_of s.0 c d).1 (inr s.1), s.2, s.3)))
+                (k.1 (let s = p.shared n j in (s.0, (In-union_of s.0 c d).1 (inr s.1), s.2, s.3)))
           ]),
     ))
+
+-- Those of it that are no heads are the clear notes.
+pub clear_part : (c d : List NoteParts) → AreParts c d → whole_notes c ≡ clear_notes (union_of c d)
+clear_part c d p = ap whole_notes (undisputed_part c d p)
 
 -- The parts together, once a note is there.
 view_with : (x : NoteParts) (c d c' d' : List NoteParts) → IsContent c → IsContent c'
@@ -189,30 +196,59 @@ filter_same p q [] f = refl
 filter_same p q (x ∷ xs) f = (λ i. cond (f x (inl refl) i) (x ∷ filter p xs) (filter p xs))
     ∙ ap (λ l. cond (q x) (x ∷ l) l) (filter_same p q xs (λ n h. f n (inr h)))
 
+-- Two filters may change places.
+pub filter-both : (p q : NoteParts → Bool) (notes : List NoteParts)
+    → filter p (filter q notes) ≡ filter q (filter p notes)
+filter-both p q [] = refl
+filter-both p q (x ∷ xs) =
+    let ih = filter-both p q xs in
+    elim (p x) as (λ a. p x ≡ a → filter p (cond (q x) (x ∷ filter q xs) (filter q xs))
+    ≡ filter q (cond a (x ∷ filter p xs) (filter p xs))) [
+      | true ↦ λ e. elim (q x) as (λ b. q x ≡ b → filter p (cond b (x ∷ filter q xs) (filter q xs))
+          ≡ cond b (x ∷ filter q (filter p xs)) (filter q (filter p xs))) [
+            | true ↦ λ f. rw e (ap (λ l. x ∷ l) ih)
+            | false ↦ λ f. ih
+          ] refl
+      | false ↦ λ e. elim (q x) as (λ b. q x ≡ b → filter p (cond b (x ∷ filter q xs) (filter q xs))
+          ≡ filter q (filter p xs)) [
+            | true ↦ λ f. rw e ih
+            | false ↦ λ f. ih
+          ] refl
+    ] refl
+
 -- The clear notes that it touches are those that it moves.
-pub moved_part : (x : NoteParts) (c d : List NoteParts) → AreParts c d → (In x c ⊎ In x d → ⊥)
-    → map (λ n. n.offset) (touching x c) ≡ moved_by x (union_of c d)
+pub moved_part : (x : NoteParts) (c d : List NoteParts) → AreParts c d → AreReduced (union_of c d)
+    → (has_note (union_of c d) x → ⊥) → map (λ n. n.offset) (whole_notes (touching x c)) ≡ moved_by x (union_of c d)
 unfolding moved_notes
-moved_part x c d p new =
+moved_part x c d p red new =
     let u = union_of c d in
-    let test : (n : NoteParts) → In n c → is_byte_shared x n ≡ is_disputed n (with_note x u) = λ n h.
-    let s = is_byte_shared-SharesByte x n in let t = is_disputed-IsDisputed n (with_note x u) in
+    let test : (n : NoteParts) → In n c → is_byte_shared x n ≡ is_disputed n (reduced_with x u) = λ n h.
+    let s = is_byte_shared-SharesByte x n in let t = is_disputed-IsDisputed n (reduced_with x u) in
+    let there = λ (m : NoteParts). In-reduced_with m x u red new in
     same_bool _ _
-    (λ k. t.1 (x, (In-with_note x x u).1 (inl refl), (λ e. new (inl (subst (λ y. In y c) (sym e) h))), s.0 k))
+    (λ k. t.1 (
+      x,
+      (there x).1 (inl refl),
+      (λ e. new (inl ((In-union_of x c d).1 (inl (subst (λ y. In y c) (sym e) h))))),
+      s.0 k,
+    ))
     (λ k.
     let w = t.0 k in
-    s.1 (elim ((In-with_note w.0 x u).0 w.1) [
+    s.1 (elim ((there w.0).0 w.1) [
       | inl e ↦ subst (λ y. SharesByte y n) e w.3
-      | inr i ↦ absurd (p.apart n w.0 h ((In-union_of w.0 c d).0 i) (λ e. w.2 (sym e)) (SharesByte-symmetric w.0 n w.3))
+      | inr i ↦ absurd
+          (p.apart n w.0 h ((In-union_of w.0 c d).0 i.0) (λ e. w.2 (sym e)) (SharesByte-symmetric w.0 n w.3))
     ])) in
     ap (λ l. map (λ (n : NoteParts). n.offset) l)
-    (filter_same _ _ c test ∙ ap (filter (λ n. is_disputed n (with_note x u))) (clear_part c d p))
+    (filter-both (λ n. n.whole) (λ n. is_byte_shared x n) c
+    ∙ filter_same _ _ (whole_notes c) (λ n h. test n ((In-filter (λ m. m.whole) c n).0 h).0)
+    ∙ ap (filter (λ n. is_disputed n (reduced_with x u))) (clear_part c d p))
 
 pub apart_of : (c d : List NoteParts) → AreParts c d → StandApart c
 apart_of c d p m n h k ne s = p.apart m n h (inl k) ne s
 
 -- No note is in both parts.
-not_in_both : (c d : List NoteParts) → AreParts c d → (n : NoteParts) → In n c → In n d → ⊥
+pub not_in_both : (c d : List NoteParts) → AreParts c d → (n : NoteParts) → In n c → In n d → ⊥
 not_in_both c d p n h k = let s = p.shared n k in
     p.apart n s.0 h (inr s.1) (λ e. s.2 (sym e)) (SharesByte-symmetric s.0 n s.3)
 
@@ -285,6 +321,17 @@ disputed_part c d p =
       (λ h. let k = f.0 h in disputed_is c d p n (t.0 k.1) k.0),
     ))
 
+pub In-disputed_part : (c d : List NoteParts) → AreParts c d → (n : NoteParts)
+    → In n d ↔ (In n (union_of c d) × IsDisputed n (union_of c d))
+In-disputed_part c d p n =
+    let u = union_of c d in (
+      λ h. (
+        (In-union_of n c d).1 (inr h),
+        let s = p.shared n h in (s.0, (In-union_of s.0 c d).1 (inr s.1), s.2, s.3),
+      ),
+      λ h. disputed_is c d p n h.1 h.0,
+    )
+
 -- What shares a byte with a disputed note is disputed.
 partner : (c d : List NoteParts) → AreParts c d → (m n : NoteParts) → In n d → In m (union_of c d) → m ≢ n
     → SharesByte m n → In m d
@@ -325,7 +372,161 @@ pub same_parts : (c d c' d' : List NoteParts) → AreParts c d → AreParts c' d
 same_parts c d c' d' p p' s =
     let u = same_content (union_of c d) (union_of c' d') (IsContent-union_of c d p.clear_is.content)
     (IsContent-union_of c' d' p'.clear_is.content) s in (
-      clear_part c d p ∙ ap clear_notes u ∙ sym (clear_part c' d' p'),
+      undisputed_part c d p ∙ ap undisputed_notes u ∙ sym (undisputed_part c' d' p'),
       disputed_part c d p
           ∙ ap (λ l. filter (λ n. is_disputed n l) l) u ∙ sym (disputed_part c' d' p'),
     )
+
+-- A note takes the place of its head in one of the parts.
+
+-- what shares a byte with a head shares it with the note of its packet
+pub with_head : (x n : NoteParts) → SharesByte x n → SharesByte (head_note x) n
+with_head x n s =
+    (s.0, record { from = s.1.from; before = s.1.before }, s.2)
+
+pub with_whole : (x n : NoteParts) → SharesByte (head_note x) n → SharesByte x n
+with_whole x n s =
+    (s.0, record { from = s.1.from; before = s.1.before }, s.2)
+
+module _ (x : NoteParts) (c d : List NoteParts) (is : IsNote x) (p : AreParts c d) (red : AreReduced (union_of c d))
+    (new : has_note (union_of c d) x → ⊥) where
+  abbrev u : List NoteParts
+  u = union_of c d
+
+  in_c : (n : NoteParts) → In n c → In n u
+  in_c n h = (In-union_of n c d).1 (inl h)
+
+  in_d : (n : NoteParts) → In n d → In n u
+  in_d n h = (In-union_of n c d).1 (inr h)
+
+  new_c : has_note c x → ⊥
+  new_c h = new (elim h [ inl i ↦ inl (in_c x i) | inr s ↦ inr (s.0, in_c s.0 s.1, s.2) ])
+
+  new_d : has_note d x → ⊥
+  new_d h = new (elim h [ inl i ↦ inl (in_d x i) | inr s ↦ inr (s.0, in_d s.0 s.1, s.2) ])
+
+  there_c : (n : NoteParts) → In n (reduced_with x c) ↔ ((n ≡ x) ⊎ (In n c × (n ≢ head_note x)))
+  there_c n = In-reduced_with n x c (AreReduced-part c u in_c red) new_c
+
+  there_d : (n : NoteParts) → In n (reduced_with x d) ↔ ((n ≡ x) ⊎ (In n d × (n ≢ head_note x)))
+  there_d n = In-reduced_with n x d (AreReduced-part d u in_d red) new_d
+
+  there_u : (n : NoteParts) → In n (reduced_with x u) ↔ ((n ≡ x) ⊎ (In n u × (n ≢ head_note x)))
+  there_u n = In-reduced_with n x u red new
+
+  is_c : IsCatalogue (reduced_with x c)
+  is_c = record {
+    content = IsContent-reduced_with x c p.clear_is.content;
+    members = all_from_In IsNote (reduced_with x c) (λ n h. elim ((there_c n).0 h) [
+      | inl e ↦ subst IsNote (sym e) is
+      | inr i ↦ all-In IsNote c n p.clear_is.members i.0
+    ]);
+  }
+
+  is_d : IsCatalogue (reduced_with x d)
+  is_d = record {
+    content = IsContent-reduced_with x d p.disputed_is.content;
+    members = all_from_In IsNote (reduced_with x d) (λ n h. elim ((there_d n).0 h) [
+      | inl e ↦ subst IsNote (sym e) is
+      | inr i ↦ all-In IsNote d n p.disputed_is.members i.0
+    ]);
+  }
+
+  pub parts_swap_clear : In (head_note x) c → AreParts (reduced_with x c) d
+  parts_swap_clear h = record {
+    clear_is = is_c;
+    disputed_is = p.disputed_is;
+    apart = λ m n i k ne s. elim ((there_c m).0 i) [
+      | inl e ↦
+          let s' = with_head x n (subst (λ y. SharesByte y n) e s) in
+          elim k [
+            | inl j ↦ elim ((there_c n).0 j) [
+              | inl f ↦ ne (e ∙ sym f)
+              | inr q ↦ p.apart (head_note x) n h (inl q.0) (λ r. q.1 (sym r)) s'
+            ]
+            | inr j ↦ p.apart (head_note x) n h (inr j)
+                (λ r. not_in_both c d p n (subst (λ y. In y c) r h) j) s'
+          ]
+      | inr a ↦ elim k [
+        | inl j ↦ elim ((there_c n).0 j) [
+          | inl f ↦
+              let s' = with_head x m (subst (λ y. SharesByte y m) f (SharesByte-symmetric m n s)) in
+              p.apart (head_note x) m h (inl a.0) (λ r. a.1 (sym r)) s'
+          | inr q ↦ p.apart m n a.0 (inl q.0) ne s
+        ]
+        | inr j ↦ p.apart m n a.0 (inr j) ne s
+      ]
+    ];
+    shared = p.shared;
+  }
+
+  pub view_swap_clear : In (head_note x) c → union_of (reduced_with x c) d ≡ reduced_with x (union_of c d)
+  view_swap_clear h =
+      same_content _ _ (IsContent-union_of (reduced_with x c) d is_c.content)
+      (IsContent-reduced_with x u (IsContent-union_of c d p.clear_is.content))
+      (λ n.
+      let v = In-union_of n (reduced_with x c) d in
+      let w = In-union_of n c d in (
+        λ i. (there_u n).1 (elim (v.0 i) [
+          | inl j ↦ elim ((there_c n).0 j) [ inl e ↦ inl e | inr q ↦ inr (w.1 (inl q.0), q.1) ]
+          | inr j ↦ inr (w.1 (inr j), λ e. not_in_both c d p n (subst (λ y. In y c) (sym e) h) j)
+        ]),
+        λ i. v.1 (elim ((there_u n).0 i) [
+          | inl e ↦ inl ((there_c n).1 (inl e))
+          | inr q ↦ elim (w.0 q.0) [ inl j ↦ inl ((there_c n).1 (inr (j, q.1))) | inr j ↦ inr j ]
+        ]),
+      ))
+
+  pub parts_swap_disputed : In (head_note x) d → AreParts c (reduced_with x d)
+  parts_swap_disputed h = record {
+    clear_is = p.clear_is;
+    disputed_is = is_d;
+    apart = λ m n i k ne s. elim k [
+      | inl j ↦ p.apart m n i (inl j) ne s
+      | inr j ↦ elim ((there_d n).0 j) [
+        | inl e ↦
+            let s' = with_head x m (subst (λ y. SharesByte y m) e (SharesByte-symmetric m n s)) in
+            p.apart m (head_note x) i (inr h)
+            (λ r. not_in_both c d p m i (subst (λ y. In y d) (sym r) h)) (SharesByte-symmetric (head_note x) m s')
+        | inr q ↦ p.apart m n i (inr q.0) ne s
+      ]
+    ];
+    shared = λ n i. elim ((there_d n).0 i) [
+      | inl e ↦
+          let s = p.shared (head_note x) h in (
+            s.0,
+            (there_d s.0).1 (inr (s.1, s.2)),
+            (λ r. new (inl (in_d x (subst (λ y. In y d) (r ∙ e) s.1)))),
+            subst (SharesByte s.0) (sym e)
+                (SharesByte-symmetric x s.0 (with_whole x s.0 (SharesByte-symmetric s.0 (head_note x) s.3))),
+          )
+      | inr q ↦
+          let s = p.shared n q.0 in
+          elim (same_note s.0 (head_note x)) [
+            | inl e ↦ (
+              x,
+              (there_d x).1 (inl refl),
+              (λ r. new (inl (in_d x (subst (λ y. In y d) (sym r) q.0)))),
+              with_whole x n (subst (λ y. SharesByte y n) e s.3),
+            )
+            | inr ne ↦ (s.0, (there_d s.0).1 (inr (s.1, ne)), s.2, s.3)
+          ]
+    ];
+  }
+
+  pub view_swap_disputed : In (head_note x) d → union_of c (reduced_with x d) ≡ reduced_with x (union_of c d)
+  view_swap_disputed h =
+      same_content _ _ (IsContent-union_of c (reduced_with x d) p.clear_is.content)
+      (IsContent-reduced_with x u (IsContent-union_of c d p.clear_is.content))
+      (λ n.
+      let v = In-union_of n c (reduced_with x d) in
+      let w = In-union_of n c d in (
+        λ i. (there_u n).1 (elim (v.0 i) [
+          | inl j ↦ inr (w.1 (inl j), λ e. not_in_both c d p n j (subst (λ y. In y d) (sym e) h))
+          | inr j ↦ elim ((there_d n).0 j) [ inl e ↦ inl e | inr q ↦ inr (w.1 (inr q.0), q.1) ]
+        ]),
+        λ i. v.1 (elim ((there_u n).0 i) [
+          | inl e ↦ inr ((there_d n).1 (inl e))
+          | inr q ↦ elim (w.0 q.0) [ inl j ↦ inl j | inr j ↦ inr ((there_d n).1 (inr (j, q.1))) ]
+        ]),
+      ))

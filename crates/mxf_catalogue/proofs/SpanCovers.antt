@@ -1,14 +1,16 @@
 -- The runs of the spans of notes.
-use Rattle.std.specs.Prelude.{◌≡◌, ℕ, ◌+◌, ◌<◌, ◌≤◌, List, [], ◌∷◌, map, ◌⊎◌, ◌↔◌, refl}
+use Rattle.std.specs.Prelude.{◌≡◌, ℕ, ◌+◌, ◌<◌, ◌≤◌, true, false, cond, List, [], ◌∷◌, map, ◌⊎◌, ◌↔◌, refl}
 use Rattle.std.proofs.Common.{subst, inl, inr, arith}
 use Rattle.mxf_klv.specs.Parts.{NoteParts}
-use Rattle.mxf_klv.specs.Note.{IsInSpan, IsNote, end_of, greatest_end}
+use Rattle.mxf_klv.specs.Note.{IsCovered, IsInSpan, IsNote, covered_end, end_of, greatest_end, head_note}
 use Rattle.mxf_klv.specs.Rising.{In}
 use Rattle.mxf_catalogue.specs.declared.run.Run.{Run}
 use Rattle.mxf_catalogue.specs.Covers.{IsRun, both, spanned, with_run, in_both, LiesIn-with_run}
 use Rattle.mxf_catalogue.specs.Disputes.{SharesByte}
-use Rattle.mxf_catalogue.specs.Parts.{Covers, LiesInNote, run_of}
+use Rattle.mxf_catalogue.specs.Content.{AreReduced, has_note, reduced_with}
+use Rattle.mxf_catalogue.specs.Parts.{Covers, LiesInNote, LiesInSpan, Spans, covered_run, run_of}
 use Rattle.mxf_catalogue.specs.Runs.{IsWithin, LiesIn}
+use Rattle.mxf_catalogue.proofs.HeadLaws.{In-reduced_with, same_note}
 
 -- an offset lies in the run of a note where it lies in its span
 in_span : (n : NoteParts) (at : ℕ) → IsWithin (run_of n) at → IsInSpan n at
@@ -17,26 +19,56 @@ in_span n at w = record { from = w.from; before = w.before }
 in_run : (n : NoteParts) (at : ℕ) → IsInSpan n at → IsWithin (run_of n) at
 in_run n at s = record { from = s.from; before = s.before }
 
--- the runs of a cover, with the span of one more note
-pub Covers-with : (x : NoteParts) (runs : List Run) (old new : List NoteParts) → Covers runs old
-    → ((n : NoteParts) → In n new ↔ ((n ≡ x) ⊎ In n old)) → Covers (with_run (run_of x) runs) new
-Covers-with x runs old new c same at =
-    let w = LiesIn-with_run (run_of x) runs at in
-    let k = c at in (
-      λ h. elim (w.0 h) [
-        | inl r ↦ (x, (same x).1 (inl refl), in_span x at r)
-        | inr r ↦ let s = k.0 r in (s.0, (same s.0).1 (inr s.1), s.2)
+-- what the head of a packet covers, the note of the packet covers
+head_covers : (n : NoteParts) (at : ℕ) → IsCovered (head_note n) at → IsCovered n at
+head_covers n at h =
+    let before : at + 1 ≤ n.offset + 16 + n.width = h.before in
+    let more : n.offset + 16 + n.width ≤ covered_end n =
+    elim n.whole as (λ b. n.offset + 16 + n.width ≤ cond b (end_of n) (n.offset + 16 + n.width)) [
+      | true ↦ omega arith
+      | false ↦ omega arith
+    ] in
+    record { from = h.from; before = omega (arith, before, more) }
+
+-- a content with a note covers what it covered, and what the note covers
+pub LiesInNote-reduced_with : (x : NoteParts) (notes : List NoteParts) (at : ℕ) → AreReduced notes
+    → (has_note notes x → ⊥) → LiesInNote (reduced_with x notes) at ↔ (IsCovered x at ⊎ LiesInNote notes at)
+LiesInNote-reduced_with x notes at r new =
+    let there = λ (n : NoteParts). In-reduced_with n x notes r new in (
+      λ h. elim ((there h.0).0 h.1) [
+        | inl e ↦ inl (subst (λ n. IsCovered n at) e h.2)
+        | inr i ↦ inr (h.0, i.0, h.2)
       ],
-      λ h. w.1 (elim ((same h.0).0 h.1) [
-        | inl e ↦ inl (in_run x at (subst (λ n. IsInSpan n at) e h.2))
-        | inr i ↦ inr (k.1 (h.0, i, h.2))
+      λ h. elim h [
+        | inl c ↦ (x, (there x).1 (inl refl), c)
+        | inr s ↦ elim (same_note s.0 (head_note x)) [
+          | inl e ↦ (x, (there x).1 (inl refl), head_covers x at (subst (λ n. IsCovered n at) e s.2))
+          | inr ne ↦ (s.0, (there s.0).1 (inr (s.1, ne)), s.2)
+        ]
+      ],
+    )
+
+-- the runs of a cover, with what one more note covers
+pub Covers-with : (x : NoteParts) (runs : List Run) (notes : List NoteParts) → AreReduced notes
+    → (has_note notes x → ⊥) → Covers runs notes → Covers (with_run (covered_run x) runs) (reduced_with x notes)
+Covers-with x runs notes r new c at =
+    let w = LiesIn-with_run (covered_run x) runs at in
+    let k = c at in
+    let l = LiesInNote-reduced_with x notes at r new in (
+      λ h. l.1 (elim (w.0 h) [
+        | inl q ↦ inl (record { from = q.from; before = q.before })
+        | inr q ↦ inr (k.0 q)
+      ]),
+      λ h. w.1 (elim (l.0 h) [
+        | inl s ↦ inl (record { from = s.from; before = s.before })
+        | inr s ↦ inr (k.1 s)
       ]),
     )
 
 -- what lies in the run of a note with others that it touches, lies in the note or in one of them
 in_spanned : (r : Run) (ms : List NoteParts) (at : ℕ)
     → ((n : NoteParts) → In n ms → (n.offset ≤ r.end) × (r.start ≤ end_of n))
-    → IsWithin (spanned r (map run_of ms)) at ↔ (IsWithin r at ⊎ LiesInNote ms at)
+    → IsWithin (spanned r (map run_of ms)) at ↔ (IsWithin r at ⊎ LiesInSpan ms at)
 in_spanned r [] at t = (inl, λ h. elim h [ inl k ↦ k | inr k ↦ absurd k.1 ])
 in_spanned r (m ∷ ms) at t =
     let first = t m (inl refl) in
@@ -72,11 +104,11 @@ pub run_of-IsRun : (n : NoteParts) → IsNote n → IsRun (run_of n)
 run_of-IsRun n is = record { order = omega arith; within = is.within }
 
 -- the runs of a cover, with the span of one more note and of others that it touches
-pub Covers-with_all : (x : NoteParts) (ms : List NoteParts) (runs : List Run) (old new : List NoteParts)
-    → Covers runs old → ((n : NoteParts) → In n ms → SharesByte x n)
+pub Spans-with_all : (x : NoteParts) (ms : List NoteParts) (runs : List Run) (old new : List NoteParts)
+    → Spans runs old → ((n : NoteParts) → In n ms → SharesByte x n)
     → ((n : NoteParts) → In n new ↔ ((n ≡ x) ⊎ (In n old ⊎ In n ms)))
-    → Covers (with_run (spanned (run_of x) (map run_of ms)) runs) new
-Covers-with_all x ms runs old new c touch same at =
+    → Spans (with_run (spanned (run_of x) (map run_of ms)) runs) new
+Spans-with_all x ms runs old new c touch same at =
     let w = LiesIn-with_run (spanned (run_of x) (map run_of ms)) runs at in
     let k = c at in
     let all = in_spanned (run_of x) ms at (λ n h.
@@ -99,7 +131,7 @@ Covers-with_all x ms runs old new c touch same at =
     )
 
 -- where a cover of notes meets the span of a note, the note shares a byte with one of them
-pub met_note : (x : NoteParts) (runs : List Run) (notes : List NoteParts) → Covers runs notes
+pub met_note : (x : NoteParts) (runs : List Run) (notes : List NoteParts) → Spans runs notes
     → ((at : ℕ) × LiesIn runs at × (x.offset ≤ at) × (at + 1 ≤ end_of x))
     ↔ ((n : NoteParts) × In n notes × SharesByte x n)
 met_note x runs notes c = (

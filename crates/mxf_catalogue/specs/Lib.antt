@@ -8,5 +8,7 @@ pub mod Joins
 pub mod Moved
 pub mod Parts
 pub mod Reach
+pub mod Reduced
+pub mod ReducedLaws
 pub mod Rooms
 pub mod Runs

@@ -1,10 +1,10 @@
--- A content in two parts, its clear notes and its disputed ones, and what a new note moves (this project's profile).
+-- A content in two parts, its undisputed notes and its disputed ones, and what a new note moves (this project's profile).
 use Rattle.std.specs.Prelude.{◌≢◌, ◌↔◌, ◌⊎◌, ℕ, List, filter, map, not}
 use Rattle.mxf_klv.specs.Parts.{NoteParts}
-use Rattle.mxf_klv.specs.Note.{IsInSpan, end_of}
+use Rattle.mxf_klv.specs.Note.{IsCovered, IsInSpan, covered_end, end_of}
 use Rattle.mxf_klv.specs.Rising.{In}
 use Rattle.mxf_catalogue.specs.declared.run.Run.{Run}
-use Rattle.mxf_catalogue.specs.Content.{IsCatalogue, union_of, with_note}
+use Rattle.mxf_catalogue.specs.Content.{AreReduced, IsCatalogue, reduced_with, union_of, with_note}
 use Rattle.mxf_catalogue.specs.Covers.{IsCover}
 use Rattle.mxf_catalogue.specs.Disputes.{SharesByte, IsDisputed, clear_notes, is_byte_shared, is_disputed}
 use Rattle.mxf_catalogue.specs.Runs.{LiesIn, run}
@@ -24,21 +24,34 @@ pub record AreParts (clear disputed : List NoteParts) : Type 0 where
 abbrev pub run_of : NoteParts → Run
 run_of n = run n.offset (end_of n)
 
+-- What a note covers as a run.
+abbrev pub covered_run : NoteParts → Run
+covered_run n = run n.offset (covered_end n)
+
 -- The offset lies in the span of one of the notes.
+abbrev pub LiesInSpan : List NoteParts → ℕ → Type 0
+LiesInSpan notes offset = (n : NoteParts) × In n notes × IsInSpan n offset
+
+-- One of the notes covers the offset.
 abbrev pub LiesInNote : List NoteParts → ℕ → Type 0
-LiesInNote notes offset = (n : NoteParts) × In n notes × IsInSpan n offset
+LiesInNote notes offset = (n : NoteParts) × In n notes × IsCovered n offset
 
 -- The offsets in the runs are those in the spans of the notes.
+abbrev pub Spans : List Run → List NoteParts → Type 0
+Spans runs notes = (offset : ℕ) → LiesIn runs offset ↔ LiesInSpan notes offset
+
+-- The offsets in the runs are those that the notes cover.
 abbrev pub Covers : List Run → List NoteParts → Type 0
 Covers runs notes = (offset : ℕ) → LiesIn runs offset ↔ LiesInNote notes offset
 
--- The two parts of a content, and the cover of the spans of the second.
+-- The two parts of a reduced content, and the cover of the spans of the second.
 pub record IsKept (clear disputed : List NoteParts) (disputed_spans : List Run) : Type 0 where
   pub parts : AreParts clear disputed
+  pub reduced : AreReduced (union_of clear disputed)
   pub cover : IsCover disputed_spans
-  pub covers : Covers disputed_spans disputed
+  pub covers : Spans disputed_spans disputed
 
--- The same with the cover of the spans of both.
+-- The same with the cover of what both cover.
 pub record IsWhole (clear disputed : List NoteParts) (disputed_spans spans : List Run) : Type 0 where
   pub kept : IsKept clear disputed disputed_spans
   pub covers : Covers spans (union_of clear disputed)
@@ -57,7 +70,7 @@ disputed_with x clear disputed = with_note x (union_of disputed (touching x clea
 
 -- The notes that were clear before and are disputed once a note is there.
 unfoldable pub moved_notes : NoteParts → List NoteParts → List NoteParts
-moved_notes n notes = filter (λ m. is_disputed m (with_note n notes)) (clear_notes notes)
+moved_notes n notes = filter (λ m. is_disputed m (reduced_with n notes)) (clear_notes notes)
 
 -- Their offsets.
 abbrev pub moved_by : NoteParts → List NoteParts → List ℕ
@@ -66,4 +79,4 @@ moved_by n notes = map (λ m. m.offset) (moved_notes n notes)
 -- The note was clear before, and is disputed once another is there.
 pub record IsMoved (m n : NoteParts) (notes : List NoteParts) : Type 0 where
   pub before : In m (clear_notes notes)
-  pub after : IsDisputed m (with_note n notes)
+  pub after : IsDisputed m (reduced_with n notes)

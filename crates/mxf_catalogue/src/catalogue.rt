@@ -1,11 +1,14 @@
 //! The set of notes, and the laws of contents.
-ghost use Rattle.std.specs.Prelude.{◌≡◌, ◌≢◌, ◌↔◌, ◌⊎◌, ◌==◌, ◌^◌, ◌<◌, List, [], filter, find, length};
+ghost use Rattle.std.specs.Prelude.{◌≡◌, ◌≢◌, ◌↔◌, ◌⊎◌, ◌==◌, ◌^◌, ◌<◌, ◌≤◌, ℕ, List, [], filter, find, length, false};
 ghost use Rattle.std.specs.Prelude.{IsTrue, IfErr, IfNone, IfOk, IfSome, OnOk, OnErr};
+ghost use Rattle.std.specs.List.{AllByRecursion};
 ghost use Rattle.std.specs.Option.{option_copied};
+ghost use Rattle.mxf_klv.specs.Note.{IsNote, end_of};
 ghost use Rattle.mxf_klv.specs.Parts.{NoteParts};
 ghost use Rattle.mxf_klv.specs.Rising.{In, SameMembers};
-ghost use Rattle.mxf_catalogue.specs.Content.{IsCatalogue, IsContent, with_note, union_of};
-ghost use Rattle.mxf_catalogue.specs.Disputes.{AreApart, IsClear, clear_notes, disputed_notes, lies_in};
+ghost use Rattle.mxf_catalogue.specs.Content.{AreReduced, IsCatalogue, IsContent, IsOfPacket, IsReplaced};
+ghost use Rattle.mxf_catalogue.specs.Content.{has_note, reduced, reduced_union, reduced_with, union_of, with_note};
+ghost use Rattle.mxf_catalogue.specs.Disputes.{AreApart, IsClear, IsDisputed, clear_notes, disputed_notes, lies_in};
 ghost use Rattle.mxf_catalogue.specs.History.{History, Add, Join, content};
 ghost use Rattle.mxf_catalogue.specs.Moved.{TellsMoved};
 ghost use Rattle.mxf_catalogue.specs.Parts.{Covers, touching};
@@ -19,7 +22,7 @@ mod notes;
 mod parts;
 mod placing;
 
-use crate::cover::Cover;
+use crate::cover::{self, Cover};
 use crate::semilattice::Semilattice;
 pub use change::{AddFault, Change, Offsets, moved_notes_by_definition};
 pub use clear::{ClearNotes, clear_notes_by_definition, clear_notes_stand_apart};
@@ -35,7 +38,7 @@ use merging::{MergedNotes, Room};
 use mxf_klv::{Note, OutOfMemory};
 pub use notes::Notes;
 use parts::Parts;
-use placing::{at_offset, touched, within};
+use placing::{at_offset, is_in, last_end, touched, within};
 use std::alloc::Global;
 use std::marker::Model;
 use std::mem::replace;
@@ -77,26 +80,27 @@ impl Catalogue {
         }
     }
 
-    /// Adds the note. A held note is `Repeated` and takes no memory.
+    /// Adds the note, which takes the place of its head where that is held. A held note, and the head of one, is `Repeated`
+    /// and takes no memory.
     ///
     /// The only fault is want of memory. The note comes back and the catalogue is unchanged: all memory is taken before
     /// a note is moved.
     pub fn add(&mut self, note: Note) -> Result<Change, AddFault>
-        ensures added { OnOk result (self.new ≡ with_note note self.old) }
-        ensures repeated { (result ≡ Ok Change.Repeated) ↔ In note self.old }
+        ensures added { OnOk result (self.new ≡ reduced_with note self.old) }
+        ensures repeated { (result ≡ Ok Change.Repeated) ↔ has_note self.old note }
         ensures moved { IfOk result (TellsMoved note self.old) }
         ensures fault { IfErr result (λ f. f.note ≡ note) }
         ensures err { OnErr result (self.new ≡ self.old) }
         ensures history { (h : History) → self.old ≡ content h → OnOk result (self.new ≡ content (Add h note)) }
     {
-        if self.parts.have(&note) {
+        if self.parts.tell(&note) {
             return Ok(Change::Repeated);
         }
         let Ok(moved) = self.parts.make_room(&note) else {
             return Err(AddFault { note });
         };
         // What is held is a note, which ends where a packet may.
-        let Ok(()) = self.spans.add(note.offset(), note.end()) else {
+        let Ok(()) = self.spans.add(note.offset(), note.covered_end()) else {
             return Err(AddFault { note });
         };
         self.parts.put(note);
@@ -111,7 +115,7 @@ impl Catalogue {
     /// The only fault is want of memory. The other comes back and this catalogue is unchanged: all memory is taken before
     /// a note of either is moved.
     pub fn merge(&mut self, other: Catalogue) -> Result<(), MergeFault>
-        ensures merged { OnOk result (self.new ≡ union_of self.old other) }
+        ensures merged { OnOk result (self.new ≡ reduced_union self.old other) }
         ensures err { OnErr result (self.new ≡ self.old) }
         ensures back { IfErr result (λ f. f.other ≡ other) }
         ensures history { (h k : History) → self.old ≡ content h → other ≡ content k
@@ -130,7 +134,7 @@ impl Catalogue {
 
     /// Puts the notes of another into the parts of this one. All room is taken before.
     fn put_all(&mut self, other: Catalogue) -> Result<(), MergeFault>
-        ensures merged { OnOk result (self.new ≡ union_of self.old other) }
+        ensures merged { OnOk result (self.new ≡ reduced_union self.old other) }
         ensures err { OnErr result (self.new ≡ self.old) }
         ensures back { IfErr result (λ f. f.other ≡ other) }
     {
@@ -150,7 +154,7 @@ impl Catalogue {
 
     /// Puts the notes of both into new parts, in one pass over both. All room is taken before.
     fn rebuild(&mut self, other: Catalogue) -> Result<(), MergeFault>
-        ensures merged { OnOk result (self.new ≡ union_of self.old other) }
+        ensures merged { OnOk result (self.new ≡ reduced_union self.old other) }
         ensures err { OnErr result (self.new ≡ self.old) }
         ensures back { IfErr result (λ f. f.other ≡ other) }
     {
@@ -170,7 +174,8 @@ impl Catalogue {
 
     /// A catalogue of the notes of a content.
     fn of_notes(alloc: Global, notes: Vec<Note>) -> Result<Catalogue, OutOfMemory>
-        requires { IsContent notes.items }
+        requires content { IsContent notes.items }
+        requires reduced { AreReduced notes.items }
         ensures { IfOk result (λ c. c ≡ notes.items) }
     {
         let mut all = Catalogue::new(alloc);
@@ -206,6 +211,13 @@ impl Catalogue {
         self.parts.have(note)
     }
 
+    /// Whether the note is held, or is the head of a held one: to add it is `Repeated` then. Two binary searches.
+    pub fn has(&self, note: &Note) -> bool
+        ensures { IsTrue result ↔ has_note self.now note.now }
+    {
+        self.parts.tell(note)
+    }
+
     /// The number of notes.
     pub fn len(&self) -> usize
         ensures { result ≡ length self.now }
@@ -224,6 +236,7 @@ impl Catalogue {
     pub fn notes(&self) -> Notes<'_>
         ensures notes { result ≡ self.now }
         ensures catalogue { IsCatalogue self.now }
+        ensures reduced { AreReduced self.now }
 
         // A count of them fits.
         ensures bound { length result < 2 ^ 64 }
@@ -270,6 +283,21 @@ impl Catalogue {
         DisputedNotes::of(&self.parts.disputed)
     }
 
+    /// Whether the note is held and disputed: a binary search.
+    pub fn disputes(&self, note: &Note) -> bool
+        ensures { IsTrue result ↔ (In note.now self.now × IsDisputed note.now self.now) }
+    {
+        is_in(&self.parts.disputed, note)
+    }
+
+    /// The greatest end of a note, in bytes, be it claimed by a head; 0 where there is no note.
+    pub fn end(&self) -> u64
+        ensures { (bound : ℕ) → result ≤ bound ↔ ((n : NoteParts) → In n self.now → end_of n ≤ bound) }
+    {
+        let disputed = cover::last_end(&self.parts.disputed_spans);
+        last_end(&self.parts.clear).max(disputed)
+    }
+
     /// The clear note with this file offset, in bytes: a binary search.
     pub fn clear_at(&self, offset: u64) -> Option<&Note>
         ensures first { option_copied result ≡ find (λ n. n.offset == offset) (clear_notes self.now) }
@@ -278,34 +306,35 @@ impl Catalogue {
         ensures found { IfSome result (λ n. IsClear n.now self.now × (n.now.offset ≡ offset)) }
         ensures none { IfNone result ((n : NoteParts) → IsClear n self.now → n.offset ≢ offset) }
     {
-        at_offset(&self.parts.clear, offset)
+        let note = at_offset(&self.parts.clear, offset)?;
+        if note.is_head() { None } else { Some(note) }
     }
 }
 
 impl Semilattice for Catalogue {
     type Member = Note;
 
-    ghost use Rattle.mxf_catalogue.specs.Content.{has_note, union_of, union_of-IsUnion};
+    ghost use Rattle.mxf_catalogue.specs.Content.{has_note, reduced_union, reduced_union-IsUnion};
     ghost use Rattle.mxf_catalogue.specs.Joins.{SameContent, joined_assoc, joined_comm, joined_idem};
 
     ghost has = { has_note };
 
-    ghost joined = { union_of };
+    ghost joined = { reduced_union };
 
     ghost equal = { SameContent has_note };
 
-    ghost is_union = { union_of-IsUnion };
+    ghost is_union = { reduced_union-IsUnion };
 
     ghost is_equality = { λ a b. (λ h. h, λ h. h) };
 
-    ghost associative = { joined_assoc has_note union_of union_of-IsUnion };
+    ghost associative = { joined_assoc has_note reduced_union reduced_union-IsUnion };
 
-    ghost commutative = { joined_comm has_note union_of union_of-IsUnion };
+    ghost commutative = { joined_comm has_note reduced_union reduced_union-IsUnion };
 
-    ghost idempotent = { joined_idem has_note union_of union_of-IsUnion };
+    ghost idempotent = { joined_idem has_note reduced_union reduced_union-IsUnion };
 
     fn join(alloc: Global, a: &Catalogue, b: &Catalogue) -> Result<Catalogue, OutOfMemory>
-        ensures joined { IfOk result (λ c. c ≡ union_of a.now b.now) }
+        ensures joined { IfOk result (λ c. c ≡ reduced_union a.now b.now) }
         ensures history { (h k : History) → a.now ≡ content h → b.now ≡ content k
             → IfOk result (λ c. c ≡ content (Join h k)) }
     {
@@ -322,13 +351,21 @@ impl Semilattice for Catalogue {
     }
 }
 
-/// A law: a content is its set of notes, and [`add`](Catalogue::add) and
-/// [`join`](Semilattice::join) are by these sets.
+/// A law: a content is its set of notes, and [`add`](Catalogue::add) and [`join`](Semilattice::join) are by these sets,
+/// reduced: without the heads whose four fields are those of a note of a whole packet.
 pub fn contents_are_sets()
     ensures one { (a b : List NoteParts) → IsContent a → IsContent b → SameMembers a b → a ≡ b }
     ensures with_note { (m n : NoteParts) (notes : List NoteParts) → In m (with_note n notes) ↔ (m ≡ n) ⊎ In m notes }
     ensures union { (n : NoteParts) (a b : List NoteParts) → In n (union_of a b) ↔ In n a ⊎ In n b }
-    ensures with_note_rises { (n : NoteParts) (notes : List NoteParts)
-        → IsContent notes → IsContent (with_note n notes) }
-    ensures union_rises { (a b : List NoteParts) → IsContent a → IsContent (union_of a b) }
+    ensures replaced { (n : NoteParts) (notes : List NoteParts) → IsNote n → AllByRecursion IsNote notes
+        → IsReplaced n notes ↔ ((n.whole ≡ false) × ((m : NoteParts) × In m notes × IsOfPacket m n)) }
+    ensures reduced { (n : NoteParts) (notes : List NoteParts)
+        → In n (reduced notes) ↔ (In n notes × (IsReplaced n notes → ⊥)) }
+    ensures reduced_before { (a b : List NoteParts) → IsContent a → IsContent b
+        → reduced (union_of a b) ≡ reduced (union_of (reduced a) (reduced b)) }
+    ensures reduced_union { (a b : List NoteParts) → IsContent a → AreReduced a
+        → reduced_union a b ≡ reduced (union_of a b) }
+    ensures reduced_with_rises { (n : NoteParts) (notes : List NoteParts)
+        → IsContent notes → IsContent (reduced_with n notes) }
+    ensures reduced_union_rises { (a b : List NoteParts) → IsContent a → IsContent (reduced_union a b) }
 {}

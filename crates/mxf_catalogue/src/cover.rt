@@ -14,7 +14,7 @@ use crate::run::Run;
 use crate::semilattice::Semilattice;
 pub use gaps::CoverGaps;
 use mxf_klv::OutOfMemory;
-pub(crate) use placing::{meets, put_run};
+pub(crate) use placing::{last_end, meets, put_run};
 pub use runs::CoverRuns;
 use std::alloc::Global;
 use std::marker::Model;
@@ -87,10 +87,7 @@ impl Cover {
     pub fn end(&self) -> u64
         ensures { (bound : ℕ) → result ≤ bound ↔ ((offset : ℕ) → LiesIn self.now offset → offset < bound) }
     {
-        match self.runs.last() {
-            Some(run) => run.end,
-            None => 0,
-        }
+        last_end(&self.runs)
     }
 
     /// The maximal ranges of offsets below the greatest end that aren't in the set, rising.

@@ -9,3 +9,5 @@ pub mod MoreBytes
 pub mod Keeping
 pub mod RoundTrips
 pub mod RisingLemmas
+pub mod CutHeads
+pub mod HeadOrder

@@ -14,7 +14,7 @@ use Rattle.mxf_klv.specs.Packet.{IsCutPacket, IsSpelledPacket, ReadsPacket, size
 use Rattle.mxf_klv.specs.Head.{BeginsWithHead, HasNoHead}
 use Rattle.mxf_klv.specs.Note.{greatest_end, note_of}
 use Rattle.mxf_klv.specs.Piece.{AreLaid, BeginsWithNone, IsStop, end_after, notes_from}
-use Rattle.mxf_klv.specs.PieceReading.{IsOpen, notes_in, packet_at, packets_in, rest_in, stop_in, stop_of}
+use Rattle.mxf_klv.specs.PieceReading.{IsOpen, packet_at, packets_in, rest_in, stop_in, stop_of}
 use Rattle.mxf_klv.specs.declared.packet.PacketFault.{PacketFault}
 use Rattle.mxf_klv.specs.declared.packet.PacketFault.TheVariants as faults
 use Rattle.mxf_klv.specs.declared.piece.Stop.{Stop}
@@ -107,7 +107,8 @@ none_more o m b e =
 
 -- What is known where one packet more is whole, and nothing behind it has come.
 pub record OneMore (o : ℕ) (m b : List ℕ) (p : PacketParts) : Type 0 where
-  pub notes : notes_in o (m ++ b) ≡ notes_in o m ++ note_of (end_after o (packets_in o m)) p ∷ []
+  pub notes : notes_from o (packets_in o (m ++ b))
+      ≡ notes_from o (packets_in o m) ++ note_of (end_after o (packets_in o m)) p ∷ []
   pub at : end_after o (packets_in o (m ++ b)) ≡ end_after o (packets_in o m) + size_of p
   pub rest : rest_in o (m ++ b) ≡ []
 

@@ -16,7 +16,7 @@ use Rattle.mxf_klv.specs.Label.{label_start, BeginsAsLabel, begins_as_label}
 use Rattle.mxf_klv.specs.Ber.{IsSpelledLength, ReadsLength}
 use Rattle.mxf_klv.specs.Packet.{IsSpelledPacket, ReadsPacket, size_of}
 use Rattle.mxf_klv.specs.Note.{greatest_end}
-use Rattle.mxf_klv.specs.Piece.{AreLaid, BeginsWithNone, IsPiece, notes_from}
+use Rattle.mxf_klv.specs.Piece.{AreLaid, BeginsWithNone, IsPiece}
 use Rattle.mxf_klv.specs.declared.piece.Stop.{Stop}
 use Rattle.mxf_klv.specs.PieceReading.{length_at, head_at, end_with, fits_at, packet_with, packet_at, packets_by}
 use Rattle.mxf_klv.specs.PieceReading.{rest_by, packets_in, rest_in, stop_of, GoesOn, EndsAt}
@@ -387,13 +387,13 @@ goes_on offset bytes p size e is =
       some = omega arith;
       room = s.room;
       within = s.within;
-      notes = ap (notes_from offset) (packets_in-some offset bytes p e);
+      notes = rw (packets_in-some offset bytes p e, rest_in-some offset bytes p e) refl;
       stop = rw (packets_in-some offset bytes p e, rest_in-some offset bytes p e) refl;
     })
 
 pub ends_at : (offset : ℕ) (bytes : List ℕ) (stop : Stop) → packet_at offset bytes ≡ None
     → stop ≡ stop_of offset bytes → EndsAt offset bytes stop
 ends_at offset bytes stop e is = record {
-  notes = ap (notes_from offset) (packets_in-none offset bytes e);
+  notes = rw (packets_in-none offset bytes e, rest_in-none offset bytes e) refl;
   stop = rw (packets_in-none offset bytes e, rest_in-none offset bytes e) (sym is);
 }

@@ -1,6 +1,6 @@
 -- The packets of a piece: bytes that lie at an offset of a file (this project's profile).
-use Rattle.std.specs.Prelude.{◌≡◌, ◌≢◌, ◌⊎◌, ℕ, ◌+◌, ◌≤◌, ◌<◌, List, [], ◌∷◌, ◌++◌, Err}
-use Rattle.mxf_klv.specs.Parts.{LengthParts, PacketParts, NoteParts}
+use Rattle.std.specs.Prelude.{◌≡◌, ◌≢◌, ◌⊎◌, ℕ, ◌+◌, ◌≤◌, ◌<◌, List, [], ◌∷◌, ◌++◌, length as len, Err}
+use Rattle.mxf_klv.specs.Parts.{LengthParts, PacketParts, NoteParts, head_parts}
 use Rattle.mxf_klv.specs.Packet.{IsSpelledPacket, ReadsPacket, size_of}
 use Rattle.mxf_klv.specs.Head.{BeginsWithHead}
 use Rattle.mxf_klv.specs.Note.{greatest_end, note_of}
@@ -42,6 +42,17 @@ abbrev pub EndsTooFar : ℕ → List ℕ → Type 0
 EndsTooFar offset bytes =
     (key : List ℕ) × (l : LengthParts) × (after : List ℕ) × BeginsWithHead bytes key l after
     × (greatest_end < offset + (16 + l.width + l.value))
+
+-- A whole key and a whole length stand at the front of a rest, with a value that is cut; the packet would end at or below
+-- the greatest end, and this is its head.
+pub record BeginsWithCut (offset : ℕ) (rest : List ℕ) (n : NoteParts) : Type 0 where
+  pub key : List ℕ
+  pub length : LengthParts
+  pub after : List ℕ
+  pub stands : BeginsWithHead rest key length after
+  pub cut : len after < length.value
+  pub within : offset + (16 + length.width + length.value) ≤ greatest_end
+  pub head : n ≡ head_parts offset key length.width length.value
 
 -- Why no packet is noted at the front of a rest at an offset: no byte is left; what is there doesn't begin as a label;
 -- the length is at fault; the packet would end too far on; or else the packet is cut.

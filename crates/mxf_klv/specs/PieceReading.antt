@@ -2,10 +2,10 @@
 -- packets, the rest and the stop of `Piece`, and that there are no others, is what the laws
 -- `each_piece_is_read_one_way` and `each_piece_has_one_stop` say.
 use Rattle.std.specs.Prelude.{◌≡◌, ◌<◌, ◌≤◌, ℕ, zero, suc, ◌+◌, ◌-◌, nat_le, nat_lt, nat_eq, Bool, false, ◌&&◌, ◌||◌}
-use Rattle.std.specs.Prelude.{not, if◌then◌else◌, List, [], ◌∷◌, length, take, drop, Option, None, Some}
+use Rattle.std.specs.Prelude.{not, if◌then◌else◌, List, [], ◌∷◌, ◌++◌, length, take, drop, Option, None, Some}
 use Rattle.std.specs.Option.{option_map_or, option_and_then}
 use Rattle.byteorder.specs.Endian.{big_number}
-use Rattle.mxf_klv.specs.Parts.{LengthParts, PacketParts, NoteParts, packet_parts}
+use Rattle.mxf_klv.specs.Parts.{LengthParts, PacketParts, NoteParts, head_parts, packet_parts}
 use Rattle.mxf_klv.specs.Label.{begins_as_label}
 use Rattle.mxf_klv.specs.Head.{BeginsWithHead, HasNoHead}
 use Rattle.mxf_klv.specs.Packet.{size_of}
@@ -64,9 +64,21 @@ packets_in offset bytes = packets_by (length bytes) offset bytes
 unfoldable pub rest_in : ℕ → List ℕ → List ℕ
 rest_in offset bytes = rest_by (length bytes) offset bytes
 
--- The notes of a piece's packets, in order.
+-- A packet of this length at the front is cut: its value isn't whole, and it would end at or below the greatest end.
+abbrev pub is_cut_at : ℕ → List ℕ → LengthParts → Bool
+is_cut_at offset bytes l = nat_lt (length bytes) (16 + l.width + l.value) && nat_le (end_with offset l) greatest_end
+
+-- The head of the packet at the front, where that is cut behind its key and length; else none.
+unfoldable pub heads_at : ℕ → List ℕ → List NoteParts
+heads_at offset bytes =
+    option_map_or (λ l. if is_cut_at offset bytes l then head_parts offset (take 16 bytes) l.width l.value ∷ [] else [])
+    (head_at bytes) []
+
+-- The notes of a piece, in order: those of its packets, and the head of the packet that its end cuts.
 abbrev pub notes_in : ℕ → List ℕ → List NoteParts
-notes_in offset bytes = notes_from offset (packets_in offset bytes)
+notes_in offset bytes =
+    notes_from offset (packets_in offset bytes)
+    ++ heads_at (end_after offset (packets_in offset bytes)) (rest_in offset bytes)
 
 -- The length at the front is at fault: it is indefinite, or has more than eight bytes.
 abbrev pub is_bad_length : List ℕ → Bool
@@ -118,7 +130,7 @@ pub record GoesOn (offset : ℕ) (bytes : List ℕ) (p : PacketParts) (size : �
   pub notes : notes_in offset bytes ≡ note_of offset p ∷ notes_in (offset + size) (drop size bytes)
   pub stop : stop_in offset bytes ≡ stop_in (offset + size) (drop size bytes)
 
--- The piece has no packets, and stops so.
+-- The piece has no packets, no note but the head of a packet that is cut, and stops so.
 pub record EndsAt (offset : ℕ) (bytes : List ℕ) (why : Stop) : Type 0 where
-  pub notes : notes_in offset bytes ≡ []
+  pub notes : notes_in offset bytes ≡ heads_at offset bytes
   pub stop : stop_in offset bytes ≡ why

@@ -45,7 +45,7 @@ pub use packet::{
     Packet, PacketFault, one_packet, one_reading, packets_are_read_as_written, read_packet,
 };
 pub use piece::{
-    Stop, each_piece_has_one_stop, each_piece_is_read_one_way, more_bytes_go_on_with_a_piece,
-    next_head, next_packet,
+    Stop, cut_head, each_piece_has_its_head, each_piece_has_one_stop, each_piece_is_read_one_way,
+    more_bytes_go_on_with_a_piece, next_head, next_packet,
 };
 pub use writing::{Encode, Progress, WriteFault};

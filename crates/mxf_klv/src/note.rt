@@ -1,11 +1,12 @@
 //! Notes: what is known of a packet at an offset (this project's profile).
-ghost use Rattle.std.specs.Prelude.{◌≡◌, ◌↔◌, ◌+◌, ◌<◌, ◌≤◌, length, vec_len, true, false};
+ghost use Rattle.std.specs.Prelude.{◌≡◌, ◌↔◌, ◌+◌, ◌<◌, ◌≤◌, length, vec_len, true, false, not};
 ghost use Rattle.std.specs.Prelude.{IfOk, IfErr, IsOk, IsErr, IsTrue, IsErrOf};
 ghost use Rattle.std.specs.Option.{SomeIff};
-ghost use Rattle.mxf_klv.specs.Parts.{CanSpell, NoteParts, note_parts};
+ghost use Rattle.mxf_klv.specs.Parts.{CanSpell, NoteParts, head_parts, note_parts};
 ghost use Rattle.mxf_klv.specs.Kind.{kind_of};
 ghost use Rattle.mxf_klv.specs.Label.{IsLabel};
-ghost use Rattle.mxf_klv.specs.Note.{CanNote, IsNote, greatest_end, keeps, keeps_of, end_of, note_cmp, note_of};
+ghost use Rattle.mxf_klv.specs.Note.{CanHead, CanNote, IsNote, greatest_end, keeps, keeps_of, keeps_value, covered_end, end_of};
+ghost use Rattle.mxf_klv.specs.Note.{head_note, note_cmp, note_of};
 ghost use Rattle.std.specs.Cmp.{IsTotalOrder};
 ghost use Rattle.std.specs.declared.cmp.Ordering.TheVariants.{Equal};
 ghost use Rattle.mxf_klv.specs.declared.note.NoteFault.TheVariants as faults;
@@ -32,10 +33,12 @@ pub const MAX: u64 = 9_223_372_036_854_775_807;
 /// The greatest length of a value that is kept, in bytes.
 const GREATEST_KEPT: u64 = 4_194_304;
 
-/// What is known of a packet at an offset: its key, its length, and its value or the value's SHA-256.
+/// What is known of a packet at an offset: its key, its length, and its value or the value's SHA-256. A head is the note
+/// of a packet of which key and length alone were read.
 ///
 /// A structural packet's value of at most 4,194,304 bytes is kept whole; of every other value the digest is kept.
-/// Notes go by offset, then key, then width, then length, then held bytes.
+/// Notes go by offset, then key, then width, then length; a head goes before the notes of whole packets with the same
+/// four, which go by held bytes.
 #[derive(Debug, Drop)]
 pub struct Note {
     offset: u64,
@@ -49,14 +52,21 @@ pub struct Note {
 impl Model for Note {
     ghost use Rattle.std.specs.Prelude.{◌≡◌, ◌+◌, ◌≤◌};
     ghost use Rattle.mxf_klv.specs.Kind.{kind_of};
-    ghost use Rattle.mxf_klv.specs.Kept.{kept_bytes, IsKeptBy};
+    ghost use Rattle.mxf_klv.specs.Kept.{kept_bytes, is_whole, IsKeptBy};
     ghost use Rattle.mxf_klv.specs.Label.{IsLabel};
     ghost use Rattle.mxf_klv.specs.Note.{greatest_end};
-    ghost use Rattle.mxf_klv.specs.Parts.{CanSpell, NoteParts, note_parts};
+    ghost use Rattle.mxf_klv.specs.Parts.{CanSpell, NoteParts};
 
     ghost Value = { NoteParts };
 
-    ghost view = { λ n. note_parts n.offset n.key n.width n.length (kept_bytes n.kept) };
+    ghost view = { λ n. record {
+      offset = n.offset;
+      key = n.key;
+      width = n.width;
+      length = n.length;
+      whole = is_whole n.kept;
+      held = kept_bytes n.kept;
+    } };
 
     ghost invariant = { λ n. IsLabel n.key × CanSpell n.width n.length
         × (n.offset + 16 + n.width + n.length ≤ greatest_end)
@@ -149,7 +159,7 @@ impl Note {
         self.offset
     }
 
-    /// The file offset after the packet's last byte, at most [`MAX`].
+    /// The file offset after the packet's last byte, at most [`MAX`]. Of a head, it is where the packet would end.
     pub fn end(&self) -> u64
         ensures { result ≡ end_of self.now }
     {
@@ -184,22 +194,75 @@ impl Note {
         self.kind
     }
 
+    /// The file offset after the last byte that the note covers: the packet's last; of a head, the last of its length.
+    pub fn covered_end(&self) -> u64
+        ensures covered { result ≡ covered_end self.now }
+        ensures some { self.now.offset < result }
+        ensures within { result ≤ greatest_end }
+    {
+        if self.is_whole() {
+            self.end()
+        } else {
+            self.offset + 16 + u64::from(self.width)
+        }
+    }
+
+    /// Whether the packet was read whole.
+    fn is_whole(&self) -> bool
+        ensures { result ≡ self.now.whole }
+    {
+        match &self.kept {
+            Kept::Whole(_) | Kept::Digest(_) => true,
+            Kept::Head => false,
+        }
+    }
+
+    /// Whether key and length alone were read of the packet.
+    pub fn is_head(&self) -> bool
+        ensures { result ≡ not self.now.whole }
+    {
+        !self.is_whole()
+    }
+
+    /// The head of the note's packet; of a head, an equal note. It takes no memory.
+    pub fn to_head(&self) -> Note
+        ensures { result ≡ head_note self.now }
+    {
+        Note {
+            offset: self.offset,
+            key: self.key,
+            width: self.width,
+            length: self.length,
+            kind: self.kind,
+            kept: Kept::Head,
+        }
+    }
+
+    /// Whether the other note is the head of this note's packet.
+    pub fn tells(&self, other: &Note) -> bool
+        ensures { IsTrue result ↔ (head_note self.now ≡ other.now) }
+    {
+        self.to_head() == *other
+    }
+
     fn held_bytes(&self) -> &[u8]
         ensures { result.now ≡ self.now.held }
     {
         match &self.kept {
             Kept::Whole(value) => value,
             Kept::Digest(digest) => digest,
+            Kept::Head => &[],
         }
     }
 
-    /// What is held of the value: the whole of it, or its digest.
+    /// What is held of the value: the whole of it, or its digest; nothing where the note is a head.
     pub fn held(&self) -> Held<'_>
         ensures { Shows result self.now }
     {
         match &self.kept {
             Kept::Whole(value) => Held::Whole(value),
             Kept::Digest(digest) => Held::Digest(digest),
+            Kept::Head => Held::Head,
         }
     }
 
@@ -261,14 +324,33 @@ impl Note {
         })
     }
 
+    /// The head of a packet of which key and length were read. None where the width can't spell the length, or the packet
+    /// would end above [`MAX`]. It takes no memory.
+    pub fn head(offset: u64, key: Ul, width: u8, length: u64) -> Option<Note>
+        ensures { SomeIff result (CanHead (head_parts offset key width length)) (head_parts offset key width length) }
+    {
+        if !Note::can_be(offset, width, length) {
+            return None;
+        }
+        Some(Note {
+            offset,
+            key,
+            width,
+            length,
+            kind: kind(&key),
+            kept: Kept::Head,
+        })
+    }
+
     /// A note equal to this one. It takes memory where the value is kept.
     pub fn clone_in(&self, alloc: Global) -> Result<Note, OutOfMemory>
         ensures equal { IfOk result (λ n. n ≡ self.now) }
-        ensures memory { IsErr result → keeps self.now.key self.now.length ≡ true }
+        ensures memory { IsErr result → keeps_value self.now ≡ true }
     {
         let kept = match &self.kept {
             Kept::Whole(value) => Kept::Whole(Vec::from_slice(alloc, value)?),
             Kept::Digest(digest) => Kept::Digest(*digest),
+            Kept::Head => Kept::Head,
         };
         Ok(Note {
             offset: self.offset,

@@ -1,18 +1,20 @@
 //! The packets of a piece: bytes that lie at an offset of a file (this project's profile).
-ghost use Rattle.std.specs.Prelude.{◌≡◌, ◌↔◌, ◌+◌, ◌≤◌, ◌++◌, ℕ, List, None, Some, Ok, IfOk, IfErr};
-ghost use Rattle.mxf_klv.specs.Parts.{LengthParts, PacketParts};
+ghost use Rattle.std.specs.Prelude.{◌≡◌, ◌↔◌, ◌+◌, ◌≤◌, ◌++◌, ◌∷◌, [], ℕ, List, None, Some, Ok, IfOk, IfErr, IfSome, IfNone};
+ghost use Rattle.mxf_klv.specs.Parts.{LengthParts, NoteParts, PacketParts};
+ghost use Rattle.mxf_klv.specs.Rising.{In};
 ghost use Rattle.mxf_klv.specs.Ber.{ReadsLength};
 ghost use Rattle.mxf_klv.specs.Packet.{size_of};
 ghost use Rattle.mxf_klv.specs.declared.piece.Stop.{Stop};
-ghost use Rattle.mxf_klv.specs.Piece.{BeginsWithNone, IsPiece, IsStop, end_after};
+ghost use Rattle.mxf_klv.specs.declared.piece.Stop.TheVariants.{Truncated};
+ghost use Rattle.mxf_klv.specs.Piece.{BeginsWithCut, BeginsWithNone, IsPiece, IsStop, end_after};
 ghost use Rattle.mxf_klv.specs.Head.{BeginsWithHead};
 ghost use Rattle.mxf_klv.specs.Note.{greatest_end};
-ghost use Rattle.mxf_klv.specs.PieceReading.{EndsAt, GoesOn, IsHeadOf, IsNoHead, IsOpen, end_with, length_at, packet_at};
-ghost use Rattle.mxf_klv.specs.PieceReading.{packets_in, rest_in, stop_in, stop_of};
+ghost use Rattle.mxf_klv.specs.PieceReading.{EndsAt, GoesOn, IsHeadOf, IsNoHead, IsOpen, end_with, heads_at, length_at};
+ghost use Rattle.mxf_klv.specs.PieceReading.{packet_at, packets_in, rest_in, stop_in, stop_of};
 
 use crate::ber::Ber;
 use crate::label::Ul;
-use crate::note::MAX;
+use crate::note::{MAX, Note};
 use crate::packet::head::Head;
 use crate::packet::{Packet, PacketFault};
 use std::fmt;
@@ -105,6 +107,21 @@ fn read_head(offset: u64, bytes: &[u8]) -> Result<Head<'_>, Stop>
     Ok(head)
 }
 
+/// The head of the packet at the front of a piece at a file offset, where key and length are whole and the value is cut,
+/// and the packet would end at or below [`MAX`]. It takes no memory.
+pub fn cut_head(offset: u64, bytes: &[u8]) -> Option<Note>
+    ensures some { IfSome result (λ n. heads_at offset bytes.now ≡ n ∷ []) }
+    ensures none { IfNone result (heads_at offset bytes.now ≡ []) }
+{
+    let Ok(head) = Head::read(bytes) else {
+        return None;
+    };
+    match head.packet() {
+        Some(_) => None,
+        None => head.note(offset),
+    }
+}
+
 /// A law: each piece has exactly one list of packets and one rest, those that `packets_in` and `rest_in` give.
 pub fn each_piece_is_read_one_way()
     ensures some { (offset : ℕ) (bytes : List ℕ)
@@ -134,4 +151,13 @@ pub fn more_bytes_go_on_with_a_piece()
     ensures stop { (offset : ℕ) (bytes more : List ℕ) → ¬ IsOpen (stop_in offset bytes)
         → (packets_in offset (bytes ++ more) ≡ packets_in offset bytes)
         × (stop_in offset (bytes ++ more) ≡ stop_in offset bytes) }
+{}
+
+/// A law: the head that a piece has beside its packets is that of its rest, where this begins with a label and a whole
+/// length, and its stop is `Truncated`.
+pub fn each_piece_has_its_head()
+    ensures head { (offset : ℕ) (rest : List ℕ) (n : NoteParts)
+        → In n (heads_at offset rest) ↔ BeginsWithCut offset rest n }
+    ensures truncated { (offset : ℕ) (rest : List ℕ) (n : NoteParts)
+        → BeginsWithCut offset rest n → stop_of offset rest ≡ Truncated offset }
 {}

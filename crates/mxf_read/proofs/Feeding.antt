@@ -7,7 +7,7 @@ use Rattle.std.specs.Prelude.{true, is_some}
 use Rattle.mxf_klv.specs.Head.{BeginsWithHead, HasNoHead}
 use Rattle.mxf_klv.specs.Note.{note_of, end_of}
 use Rattle.mxf_klv.specs.Piece.{end_after, notes_from}
-use Rattle.mxf_klv.specs.PieceReading.{IsHeadOf, IsNoHead, IsOpen, notes_in, packet_at, packets_in, rest_in, stop_of}
+use Rattle.mxf_klv.specs.PieceReading.{IsHeadOf, IsNoHead, IsOpen, packet_at, packets_in, rest_in, stop_of}
 use Rattle.mxf_klv.specs.declared.piece.Stop.{Stop}
 use Rattle.mxf_klv.specs.declared.piece.Stop.TheVariants.{Truncated}
 use Rattle.mxf_klv.proofs.MoreBytes.{IsHeadNow, few_without_head, head_now}
@@ -15,8 +15,9 @@ use Rattle.mxf_klv.proofs.MoreBytes.{more_head, none_more, one_more, stays, whol
 use Rattle.mxf_klv.proofs.PieceLaws.{none_at_end, packets_in-none, rest_in-none}
 use Rattle.mxf_klv.proofs.HeadLemmas.{no_head_short}
 use Rattle.mxf_klv.proofs.StopLaws.{at_cut, stops}
-use Rattle.mxf_catalogue.specs.Content.{IsContent, with_note}
-use Rattle.mxf_read.proofs.Pieces.{IsContent-notes_in}
+use Rattle.mxf_catalogue.specs.Content.{reduced_with}
+use Rattle.mxf_catalogue.specs.Disputes.{AreApart}
+use Rattle.mxf_read.proofs.Pieces.{apart_packets}
 use Rattle.mxf_read.proofs.Taking.{with_last}
 use Rattle.mxf_read.specs.Coming.{HasCome, HasTaken, IsSamePacket}
 use Rattle.mxf_read.specs.Feeding.{Fails, Fed, Feeds, IsFed, IsNext, Knows, NotesNone}
@@ -93,7 +94,7 @@ waits o m x p q v k come some notes at stop value head =
 pub noted : (o : ℕ) (m x : List ℕ) (p q : Piece) (v : ComingValue) (n : NoteParts) → Knows o m p
     → HasCome p.at v (rest_in o m ++ x)
     → v.left ≡ 0 → ((y : List ℕ) → HasTaken v y → n ≡ note_of v.offset (packet_parts v.key v.ber.width y))
-    → q.notes ≡ with_note n p.notes → q.at ≡ end_of n → q.stop ≡ None → q.value ≡ None → q.head.items ≡ []
+    → q.notes ≡ reduced_with n p.notes → q.at ≡ end_of n → q.stop ≡ None → q.value ≡ None → q.head.items ≡ []
     → Fed o (m ++ x) q
 noted o m x p q v n k come none_left note notes at stop value head =
     let r = rest_in o m ++ x in
@@ -106,15 +107,15 @@ noted o m x p q v n k come none_left note notes at stop value head =
     let one = one_more o m x pk (subst (λ (j : ℕ). packet_at j r ≡ Some pk) k.at whole.stands) whole.size in
     let is : n ≡ note_of here pk =
     note come.after come.taken ∙ ap (λ (j : ℕ). note_of j pk) (come.offset ∙ k.at) in
-    let rises : IsContent (notes_in o m ++ note_of here pk ∷ []) =
-    subst IsContent one.notes (IsContent-notes_in o (m ++ x)) in
+    let apart : AreApart o (notes_from o (packets_in o m) ++ note_of here pk ∷ []) =
+    subst (AreApart o) one.notes (apart_packets o (packets_in o (m ++ x))) in
     let ends : q.at ≡ end_after o (packets_in o (m ++ x)) =
     at ∙ ap end_of is ∙ (let e : end_of (note_of here pk) ≡ here + size_of pk = omega arith in e) ∙ sym one.at in
     record {
       knows = record {
         notes =
-            notes ∙ ap (λ (y : NoteParts). with_note y p.notes) is ∙ ap (with_note (note_of here pk)) k.notes
-            ∙ with_last (notes_in o m) (note_of here pk) rises ∙ sym one.notes;
+            notes ∙ ap (λ (y : NoteParts). reduced_with y p.notes) is ∙ ap (reduced_with (note_of here pk)) k.notes
+            ∙ with_last o (notes_from o (packets_in o m)) (note_of here pk) apart ∙ sym one.notes;
         at = ends;
       };
       next = subst (λ (t : List ℕ). IsNext q.at q.stop q.value q.head.items t) (sym one.rest)

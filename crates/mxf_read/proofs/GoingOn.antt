@@ -1,29 +1,33 @@
 -- The rest of a piece from one of its packets on.
 use Rattle.std.proofs.Common.{◌≡◌, ℕ, zero, suc, ◌+◌, ◌-◌, ◌≤◌, List, [], ◌∷◌, ◌++◌, length, take, drop, length-append}
-use Rattle.std.proofs.Common.{Option, None, Some, Result, Ok, Err, refl, sym, ap, subst, ◌∙◌, arith}
+use Rattle.std.proofs.Common.{Option, None, Some, Result, Ok, Err, refl, sym, ap, subst, ◌∙◌, arith, append_assoc, inl}
+use Rattle.std.proofs.Common.{inr}
 use Rattle.std.specs.Prelude.{slice_get, IsSomeAnd}
-use Rattle.std.proofs.lemmas.List.{drop-drop, length-drop, length-take, take-append-le}
+use Rattle.std.proofs.lemmas.List.{drop-drop, length-drop, take-append-le}
 use Rattle.mxf_klv.specs.Parts.{NoteParts, PacketParts}
 use Rattle.mxf_klv.specs.Note.{note_of}
 use Rattle.mxf_klv.specs.Packet.{size_of}
 use Rattle.mxf_klv.specs.Piece.{end_after, notes_from}
-use Rattle.mxf_klv.specs.PieceReading.{GoesOn, notes_in, packet_at, packets_in, rest_in, stop_in}
-use Rattle.mxf_klv.proofs.PieceLaws.{goes_on, packets_in-none, packets_in-some}
+use Rattle.mxf_klv.specs.PieceReading.{GoesOn, heads_at, notes_in, packet_at, packets_in, rest_in, stop_in, stop_of}
+use Rattle.mxf_klv.proofs.HeadLemmas.{head-size}
+use Rattle.mxf_klv.proofs.PieceLaws.{ends_at, goes_on, packets_in-none, packets_in-some}
 use Rattle.mxf_klv.proofs.MoreBytes.{seam}
-use Rattle.mxf_catalogue.specs.Content.{union_of, with_note}
+use Rattle.mxf_catalogue.specs.Content.{reduced_union}
 use Rattle.mxf_catalogue.specs.History.{History, Absorb, Cut, content}
 use Rattle.mxf_read.specs.declared.report.Report.{Report}
 use Rattle.mxf_read.specs.declared.report.AbsorbFault.{AbsorbFault}
 use Rattle.mxf_read.specs.declared.report.AbsorbFault.TheVariants.{OutOfMemory, ReadFault}
 use Rattle.mxf_read.specs.Absorbs.{AbsorbsFrom, Absorbs, AddsFirst, GoesOnAt, first_notes_in, history_with}
 use Rattle.mxf_read.specs.Reading.{Takes}
-use Rattle.mxf_read.proofs.Pieces.{length-notes_in, notes_from-append}
+use Rattle.mxf_read.proofs.Pieces.{head_begins, heads_few, notes_for_packets, notes_from-append}
+use Rattle.mxf_read.proofs.Taking.{union_append}
 
 -- what is left from the offset on has the other notes and the stop, and so many bytes at least
 pub record Continues (left noted offset : ℕ) (bytes : List ℕ) (at : ℕ) : Type 0 where
   pub from : offset ≤ at
   pub within : at + left ≤ offset + length bytes
   pub notes : notes_in offset bytes ≡ first_notes_in noted offset bytes ++ notes_in at (drop (at - offset) bytes)
+  pub count : length (packets_in offset bytes) ≡ noted + length (packets_in at (drop (at - offset) bytes))
   pub stop : stop_in offset bytes ≡ stop_in at (drop (at - offset) bytes)
 
 -- at its own offset it is the piece
@@ -35,14 +39,16 @@ from_its_start left offset bytes at e some =
       from = omega arith;
       within = omega arith;
       notes = ap (λ (k : ℕ). notes_in offset (drop k bytes)) none;
+      count = omega (arith, ap (λ (k : ℕ). length (packets_in offset (drop k bytes))) none);
       stop = ap (λ (k : ℕ). stop_in offset (drop k bytes)) none;
     })
 
 -- a packet further on
 one_further : (left noted offset : ℕ) (bytes : List ℕ) (at : ℕ) (p : PacketParts) (size : ℕ)
-    → GoesOn offset bytes p size → Continues left noted (offset + size) (drop size bytes) at
+    → GoesOn offset bytes p size → packets_in offset bytes ≡ p ∷ packets_in (offset + size) (drop size bytes)
+    → Continues left noted (offset + size) (drop size bytes) at
     → Continues left (suc noted) offset bytes at
-one_further left noted offset bytes at p size g r =
+one_further left noted offset bytes at p size g packets r =
     let n = note_of offset p in
     let from = r.from in
     let within = r.within in
@@ -56,17 +62,38 @@ one_further left noted offset bytes at p size g r =
       within = omega (arith, length-drop size bytes);
       notes = g.notes ∙ ap (λ (t : List NoteParts). n ∷ t) r.notes
           ∙ (λ i. sym front i ++ notes_in at (rest i));
+      count = omega (arith, ap length packets, r.count, ap (λ (t : List ℕ). length (packets_in at t)) rest);
       stop = g.stop ∙ r.stop ∙ ap (stop_in at) rest;
     }
 
--- behind so many of its packets, the next of which begins there
+-- where no packet stands at the front the first note is the head of what does, and there is no other
+at_head : (count offset : ℕ) (bytes : List ℕ) (at : ℕ) → packet_at offset bytes ≡ None → GoesOnAt count offset bytes at
+    → (count ≡ 0) × (offset ≡ at) × (1 ≤ length bytes)
+at_head count offset bytes at none h =
+    let heads = (ends_at offset bytes (stop_of offset bytes) none refl).notes in
+    elim (heads_few offset bytes) [
+      | inl e ↦ absurd (subst (λ (l : List NoteParts). IsSomeAnd (slice_get l count) (λ n. n.offset ≡ at)) (heads ∙ e) h)
+      | inr s ↦
+          let cut = s.2 in
+          let size = head-size cut.stands in
+          let first = the_first count s.0 at
+          (subst (λ (l : List NoteParts). IsSomeAnd (slice_get l count) (λ n. n.offset ≡ at)) (heads ∙ s.1) h) in
+          (first.0, sym (head_begins offset bytes s.0 cut) ∙ first.1, omega arith)
+    ]
+  where
+    the_first : (count : ℕ) (n : NoteParts) (at : ℕ) → IsSomeAnd (slice_get (n ∷ []) count) (λ m. m.offset ≡ at)
+        → (count ≡ 0) × (n.offset ≡ at)
+    the_first zero n at h = (refl, h)
+    the_first (suc count) n at h = absurd h
+
+-- behind so many of its packets, where the next note stands
 pub continues : (noted offset : ℕ) (bytes : List ℕ) (at : ℕ) → GoesOnAt noted offset bytes at
     → Continues 1 noted offset bytes at
 continues zero offset bytes at h =
     elim (packet_at offset bytes) as (λ o. packet_at offset bytes ≡ o → Continues 1 zero offset bytes at) [
       | None ↦ λ e.
-          let none = ap (notes_from offset) (packets_in-none offset bytes e) in
-          absurd (subst (λ (l : List NoteParts). IsSomeAnd (slice_get l zero) (λ n. n.offset ≡ at)) none h)
+          let head = at_head zero offset bytes at e h in
+          from_its_start 1 offset bytes at head.1 head.2
       | Some p ↦ λ e.
           let g = goes_on offset bytes p (size_of p) e refl in
           let some = g.some in
@@ -76,12 +103,10 @@ continues zero offset bytes at h =
     ] refl
 continues (suc noted) offset bytes at h =
     elim (packet_at offset bytes) as (λ o. packet_at offset bytes ≡ o → Continues 1 (suc noted) offset bytes at) [
-      | None ↦ λ e.
-          let none = ap (notes_from offset) (packets_in-none offset bytes e) in
-          absurd (subst (λ (l : List NoteParts). IsSomeAnd (slice_get l (suc noted)) (λ n. n.offset ≡ at)) none h)
+      | None ↦ λ e. absurd (let head = at_head (suc noted) offset bytes at e h in let none = head.0 in omega arith)
       | Some p ↦ λ e.
           let g = goes_on offset bytes p (size_of p) e refl in
-          one_further 1 noted offset bytes at p (size_of p) g
+          one_further 1 noted offset bytes at p (size_of p) g (packets_in-some offset bytes p e)
           (continues noted (offset + size_of p) (drop (size_of p) bytes) at
           (subst (λ (l : List NoteParts). IsSomeAnd (slice_get l (suc noted)) (λ n. n.offset ≡ at)) g.notes h))
     ] refl
@@ -95,14 +120,10 @@ continues_behind (suc noted) offset bytes at h e =
       | None ↦ λ none. absurd (omega (arith, ap length (packets_in-none offset bytes none)))
       | Some p ↦ λ some.
           let ps = packets_in-some offset bytes p some in
-          one_further 0 noted offset bytes at p (size_of p) (goes_on offset bytes p (size_of p) some refl)
+          one_further 0 noted offset bytes at p (size_of p) (goes_on offset bytes p (size_of p) some refl) ps
           (continues_behind noted (offset + size_of p) (drop (size_of p) bytes) at (omega (arith, ap length ps))
           (sym (ap (λ (qs : List PacketParts). end_after offset (take (suc noted) qs)) ps) ∙ e))
     ] refl
-
-union_append : (old xs ys : List NoteParts) → union_of old (xs ++ ys) ≡ union_of (union_of old xs) ys
-union_append old [] ys = refl
-union_append old (x ∷ xs) ys = union_append (with_note x old) xs ys
 
 -- a refused call and one of the rest leave what one of the whole piece does
 pub completes : (h : History) (noted offset : ℕ) (bytes : List ℕ) (at : ℕ) → GoesOnAt noted offset bytes at
@@ -110,12 +131,12 @@ pub completes : (h : History) (noted offset : ℕ) (bytes : List ℕ) (at : ℕ)
 completes h noted offset bytes at g =
     let whole = (continues noted offset bytes at g).notes in
     sym (union_append (content h) (first_notes_in noted offset bytes) (notes_in at (drop (at - offset) bytes)))
-    ∙ ap (union_of (content h)) (sym whole)
+    ∙ ap (reduced_union (content h)) (sym whole)
 
 -- what a refused call that took these bytes noted, and the rest of the whole piece from there on
 pub record CompletedBy (old new : List NoteParts) (offset : ℕ) (whole : List ℕ) (noted at : ℕ) : Type 0 where
   pub from : offset ≤ at
-  pub content : union_of new (notes_in at (drop (at - offset) whole)) ≡ union_of old (notes_in offset whole)
+  pub content : reduced_union new (notes_in at (drop (at - offset) whole)) ≡ reduced_union old (notes_in offset whole)
   pub count : length (packets_in offset whole) ≡ noted + length (packets_in at (drop (at - offset) whole))
   pub stop : stop_in offset whole ≡ stop_in at (drop (at - offset) whole)
 
@@ -127,13 +148,18 @@ first_stay : (noted offset : ℕ) (taken more : List ℕ) → noted ≤ length (
 first_stay noted offset taken more h =
     let ps = packets_in offset taken in
     let joined = (seam offset taken more).packets in
-    let at = end_after offset ps in
-    let others = packets_in at (rest_in offset taken ++ more) in
-    let notes = ap (notes_from offset) joined ∙ notes_from-append offset ps others in (
+    let others = packets_in (end_after offset ps) (rest_in offset taken ++ more) in
+    let behind = notes_from (end_after offset ps) others in
+    let heads = λ (m : List ℕ). heads_at (end_after offset (packets_in offset m)) (rest_in offset m) in
+    let whole = taken ++ more in
+    let size = notes_for_packets offset ps in
+    let notes : notes_in offset whole ≡ notes_from offset ps ++ (behind ++ heads whole) =
+    ap (λ (l : List NoteParts). l ++ heads whole) (ap (notes_from offset) joined ∙ notes_from-append offset ps others)
+    ∙ append_assoc (notes_from offset ps) behind (heads whole) in (
       omega (arith, h, ap length joined, length-append ps others),
       ap (take noted) joined ∙ take-append-le noted ps others h,
-      ap (take noted) notes ∙ take-append-le noted (notes_in offset taken) (notes_from at others)
-          (omega (arith, h, length-notes_in offset taken)),
+      ap (take noted) notes ∙ take-append-le noted (notes_from offset ps) (behind ++ heads whole) (omega (arith, h, size))
+          ∙ sym (take-append-le noted (notes_from offset ps) (heads taken) (omega (arith, h, size))),
     )
 
 pub completed : (old new : List NoteParts) (offset : ℕ) (taken : List ℕ) (noted at : ℕ)
@@ -149,17 +175,9 @@ completed old new offset taken noted at a more =
     c.notes ∙ ap (λ (l : List NoteParts). l ++ notes_in at rest) s.2 in
     record {
       from = c.from;
-      content = ap (λ (l : List NoteParts). union_of l (notes_in at rest)) a.added
-          ∙ sym (union_append old first (notes_in at rest)) ∙ ap (union_of old) (sym notes);
-      count = omega (
-        arith,
-        s.0,
-        ap length c.notes,
-        length-append (first_notes_in noted offset whole) (notes_in at rest),
-        length-take noted (notes_in offset whole),
-        length-notes_in offset whole,
-        length-notes_in at rest,
-      );
+      content = ap (λ (l : List NoteParts). reduced_union l (notes_in at rest)) a.added
+          ∙ sym (union_append old first (notes_in at rest)) ∙ ap (reduced_union old) (sym notes);
+      count = c.count;
       stop = c.stop;
     }
 
@@ -167,9 +185,9 @@ completed old new offset taken noted at a more =
 pub content_with : (h : History) (old new : List NoteParts) (offset : ℕ) (bytes : List ℕ)
     (r : Result Report AbsorbFault) → Absorbs old new offset bytes r → old ≡ content h
     → new ≡ content (history_with h offset bytes r)
-content_with h old new offset bytes (Ok report) a e = a.0 ∙ ap (λ l. union_of l (notes_in offset bytes)) e
+content_with h old new offset bytes (Ok report) a e = a.0 ∙ ap (λ l. reduced_union l (notes_in offset bytes)) e
 content_with h old new offset bytes (Err (OutOfMemory noted at)) a e =
-    a.0 ∙ ap (λ l. union_of l (first_notes_in noted offset bytes)) e
+    a.0 ∙ ap (λ l. reduced_union l (first_notes_in noted offset bytes)) e
 content_with h old new offset bytes (Err (ReadFault noted at)) a e = absurd a
 
 -- the same of bytes that a reader gave
@@ -179,6 +197,6 @@ pub content_from : (h : History) (old new : List NoteParts) (before after : Opti
 content_from h old new before after offset limit (Ok report) (taken, takes, adds, ends) e =
     (taken, takes, content_with h old new offset taken (Ok report) adds e)
 content_from h old new before after offset limit (Err (ReadFault noted at)) (taken, takes, adds, all, cut) e =
-    (taken, takes, adds.added ∙ ap (λ (l : List NoteParts). union_of l (first_notes_in noted offset taken)) e)
+    (taken, takes, adds.added ∙ ap (λ (l : List NoteParts). reduced_union l (first_notes_in noted offset taken)) e)
 content_from h old new before after offset limit (Err (OutOfMemory noted at)) (taken, takes, adds) e =
-    (taken, takes, adds.added ∙ ap (λ (l : List NoteParts). union_of l (first_notes_in noted offset taken)) e)
+    (taken, takes, adds.added ∙ ap (λ (l : List NoteParts). reduced_union l (first_notes_in noted offset taken)) e)

@@ -1,26 +1,28 @@
 -- What is reported of a piece whose bytes come in parts, and what a reader's piece adds.
 use Rattle.std.proofs.Common.{◌≡◌, ℕ, ◌+◌, ◌-◌, ◌≤◌, List, [], ◌∷◌, ◌++◌, length, take, Option, None, Some}
-use Rattle.std.proofs.Common.{Result, Ok, Err, refl, sym, ap, subst, ◌∙◌, arith, inl, inr, ◌⊎◌, append-nil, length-append}
+use Rattle.std.proofs.Common.{Result, Ok, Err, refl, sym, ap, subst, ◌∙◌, arith, inl, inr, ◌⊎◌, append-nil, append_assoc}
+use Rattle.std.proofs.Common.{length-append}
 use Rattle.std.specs.Prelude.{true, false, is_some, nat_eq, IfOk, IfSome}
 use Rattle.std.specs.Io.KnownBytes.{IsAtEnd}
 use Rattle.std.proofs.Math.Seq.{take-append-add}
 use Rattle.std.proofs.lemmas.Bool.{eqb-true}
 use Rattle.std.proofs.lemmas.List.{take_at, take_all}
-use Rattle.mxf_klv.specs.Parts.{NoteParts, PacketParts}
+use Rattle.mxf_klv.specs.Parts.{NoteParts, head_parts}
 use Rattle.mxf_klv.specs.Head.{HasNoHead}
-use Rattle.mxf_klv.specs.Note.{note_cmp}
 use Rattle.mxf_klv.specs.Piece.{end_after, notes_from}
-use Rattle.mxf_klv.specs.PieceReading.{IsOpen, notes_in, packets_in, rest_in, stop_in, stop_of}
+use Rattle.mxf_klv.specs.PieceReading.{IsOpen, heads_at, notes_in, packets_in, rest_in, stop_in, stop_of}
 use Rattle.mxf_klv.specs.declared.piece.Stop.{Stop}
 use Rattle.mxf_klv.specs.declared.piece.Stop.TheVariants.{End, NotUl, BadLength, TooFar, Truncated}
 use Rattle.mxf_klv.proofs.MoreBytes.{seam, stop_is, stop_stays}
 use Rattle.mxf_klv.proofs.StopLaws.{at_cut, stops}
-use Rattle.mxf_catalogue.specs.Content.{union_of}
-use Rattle.mxf_catalogue.proofs.Fronts.{rising_take}
-use Rattle.mxf_catalogue.proofs.MergeLaws.{union_of-none}
-use Rattle.mxf_read.proofs.Pieces.{IsContent-notes_in, length-notes_in, notes_from-append}
-use Rattle.mxf_read.specs.Absorbs.{Absorbs, AbsorbsFrom, AddsFirst, report_of}
-use Rattle.mxf_read.specs.Feeding.{Fed, IsNext, Knows}
+use Rattle.mxf_klv.proofs.CutHeads.{heads_at-cut, heads_at-none}
+use Rattle.mxf_catalogue.specs.Content.{reduced_union, reduced_with}
+use Rattle.mxf_read.proofs.Pieces.{alone_first, alone_in, alone_packets, closed_notes, no_heads, notes_for_packets}
+use Rattle.mxf_read.proofs.Pieces.{notes_from-append}
+use Rattle.mxf_read.proofs.Taking.{union_append}
+use Rattle.mxf_read.specs.Absorbs.{Absorbs, AbsorbsFrom, AddsFirst, Finishes, report_of}
+use Rattle.mxf_read.specs.Feeding.{Fed, IsNext, Knows, NotesNone}
+use Rattle.mxf_read.specs.declared.coming.ComingValue.{ComingValue}
 use Rattle.mxf_read.specs.Reading.{ReadsAll, Takes}
 use Rattle.mxf_read.specs.declared.piece.Piece.{Piece}
 use Rattle.mxf_read.specs.declared.reading.Cause.TheVariants as causes
@@ -35,7 +37,7 @@ abbrev made : ℕ → Stop → Report
 made noted stop = record { noted = noted; stop = stop }
 
 pub count_noted : (o : ℕ) (m : List ℕ) (p : Piece) → Knows o m p → length p.notes ≡ length (packets_in o m)
-count_noted o m p k = ap length k.notes ∙ length-notes_in o m
+count_noted o m p k = ap length k.notes ∙ notes_for_packets o (packets_in o m)
 
 reported : (o : ℕ) (m : List ℕ) (p : Piece) (noted : ℕ) (stop : Stop) → Knows o m p → noted ≡ length p.notes
     → stop ≡ stop_of p.at (rest_in o m)
@@ -107,6 +109,52 @@ report_cut_value o m p noted fed n stop some =
           reported o m p noted (Truncated p.at) fed.knows n (stops p.at r (Truncated p.at) cut).1
     ] refl some
 
+-- ---- the head
+
+-- a stop that the piece has come to isn't open
+closed_next : (o : ℕ) (m : List ℕ) (p : Piece) → Fed o m p → is_some p.stop ≡ true → IsOpen (stop_in o m) → ⊥
+closed_next o m p fed some o-pen =
+    elim p.stop as (λ s. p.stop ≡ s → is_some s ≡ true → ⊥) [
+      | None ↦ λ e t. absurd cc
+      | Some stop ↦ λ e t.
+          let next : IsNext p.at (Some stop) p.value p.head.items (rest_in o m) =
+          subst (λ (s : Option Stop). IsNext p.at s p.value p.head.items (rest_in o m)) e fed.next in
+          let r = report_stopped o m p (length p.notes) stop fed refl e in
+          next.2 (subst IsOpen (sym (ap (λ (q : Report). q.stop) r)) o-pen)
+    ] refl some
+
+-- the packet whose value is coming is cut
+pub coming_head : (o : ℕ) (m : List ℕ) (p : Piece) (v : ComingValue) → Fed o m p → p.stop ≡ None → p.value ≡ Some v
+    → heads_at p.at (rest_in o m) ≡ head_parts v.offset v.key v.ber.width v.ber.value ∷ []
+coming_head o m p v fed stop value =
+    let a = awaits o m p v fed stop value in
+    let within = v.within in
+    let here = a.come.offset in
+    let counted = a.come.taken.counted in
+    let left = a.left in
+    heads_at-cut p.at (rest_in o m) v.key a.come.after v.ber a.come.begins (omega arith) (omega arith)
+    ∙ ap (λ (at : ℕ). head_parts at v.key v.ber.width v.ber.value ∷ []) (sym here)
+
+-- bytes without a whole key and length have no head
+pub held_head : (o : ℕ) (m : List ℕ) (p : Piece) → Fed o m p → p.stop ≡ None → p.value ≡ None
+    → heads_at p.at (rest_in o m) ≡ []
+held_head o m p fed stop value = heads_at-none p.at (rest_in o m) (holds o m p fed stop value).none
+
+-- nor is there one behind a stop
+pub stopped_head : (o : ℕ) (m : List ℕ) (p : Piece) → Fed o m p → is_some p.stop ≡ true
+    → heads_at p.at (rest_in o m) ≡ []
+stopped_head o m p fed some =
+    no_heads p.at (rest_in o m) (λ t. closed_next o m p fed some
+    (subst (λ (a : ℕ). IsOpen (stop_of a (rest_in o m))) fed.knows.at t))
+
+pub same_with_none : (notes heads : List NoteParts) → heads ≡ [] → notes ≡ reduced_union notes heads
+same_with_none notes heads e = ap (reduced_union notes) (sym e)
+
+pub with_one_head : (old new heads : List NoteParts) (h n : NoteParts) → new ≡ reduced_with h old → h ≡ n
+    → heads ≡ n ∷ [] → new ≡ reduced_union old heads
+with_one_head old new heads h n e is one =
+    e ∙ ap (λ (x : NoteParts). reduced_with x old) is ∙ ap (reduced_union old) (sym one)
+
 -- ---- what was read
 
 take_behind : (xs ys : List ℕ) (n : ℕ) → length xs ≤ n → take n (xs ++ ys) ≡ xs ++ take (n - length xs) ys
@@ -121,21 +169,21 @@ adds_front o m x p k =
     let s = seam o m x in
     let ps = packets_in o m in
     let qs = packets_in (end_after o ps) (rest_in o m ++ x) in
+    let behind = notes_from (end_after o ps) qs in
+    let heads = heads_at (end_after o (packets_in o (m ++ x))) (rest_in o (m ++ x)) in
     let count = count_noted o m p k in
-    let all : notes_in o (m ++ x) ≡ notes_in o m ++ notes_from (end_after o ps) qs =
-    ap (notes_from o) s.packets ∙ notes_from-append o ps qs in
-    let front : take (length p.notes) (notes_in o (m ++ x)) ≡ notes_in o m =
+    let all : notes_in o (m ++ x) ≡ notes_from o ps ++ (behind ++ heads) =
+    ap (λ (l : List NoteParts). l ++ heads) (ap (notes_from o) s.packets ∙ notes_from-append o ps qs)
+    ∙ append_assoc (notes_from o ps) behind heads in
+    let front : take (length p.notes) (notes_in o (m ++ x)) ≡ notes_from o ps =
     ap (take (length p.notes)) all
-    ∙ take_at (notes_in o m) (notes_from (end_after o ps) qs) (length p.notes) (sym (ap length k.notes)) in
+    ∙ take_at (notes_from o ps) (behind ++ heads) (length p.notes) (sym (ap length k.notes)) in
     let packets : take (length p.notes) (packets_in o (m ++ x)) ≡ ps =
     ap (take (length p.notes)) s.packets ∙ take_at ps qs (length p.notes) (sym count) in
     let size = ap length s.packets in
     record {
       within = omega (arith, count, size, length-append ps qs);
-      added =
-          k.notes ∙ sym front
-          ∙ sym (union_of-none (take (length p.notes) (notes_in o (m ++ x)))
-          (rising_take note_cmp (length p.notes) (notes_in o (m ++ x)) (IsContent-notes_in o (m ++ x))));
+      added = k.notes ∙ sym front ∙ sym (alone_first (length p.notes) o (m ++ x));
       place = k.at ∙ ap (end_after o) (sym packets);
     }
 
@@ -151,35 +199,56 @@ open_next o m p fed stop =
           subst IsOpen (ap (λ (t : Report). t.stop) r) tt
     ] refl
 
--- a stop that the piece has come to isn't open
-closed_next : (o : ℕ) (m : List ℕ) (p : Piece) → Fed o m p → is_some p.stop ≡ true → IsOpen (stop_in o m) → ⊥
-closed_next o m p fed some o-pen =
-    elim p.stop as (λ s. p.stop ≡ s → is_some s ≡ true → ⊥) [
-      | None ↦ λ e t. absurd cc
-      | Some stop ↦ λ e t.
-          let next : IsNext p.at (Some stop) p.value p.head.items (rest_in o m) =
-          subst (λ (s : Option Stop). IsNext p.at s p.value p.head.items (rest_in o m)) e fed.next in
-          let r = report_stopped o m p (length p.notes) stop fed refl e in
-          next.2 (subst IsOpen (sym (ap (λ (q : Report). q.stop) r)) o-pen)
-    ] refl some
+-- the head that was added is the piece's
+pub heads_added : (o : ℕ) (m : List ℕ) (p q : Piece) → Knows o m p
+    → q.notes ≡ reduced_union p.notes (heads_at p.at (rest_in o m)) → q.notes ≡ reduced_union [] (notes_in o m)
+heads_added o m p q k e =
+    let ps = packets_in o m in
+    let heads = heads_at (end_after o ps) (rest_in o m) in
+    e ∙ ap (λ (a : ℕ). reduced_union p.notes (heads_at a (rest_in o m))) k.at
+    ∙ ap (λ (l : List NoteParts). reduced_union l heads) (k.notes ∙ sym (alone_packets o ps))
+    ∙ sym (union_append [] (notes_from o ps) heads)
 
-pub filled_ok : (o limit : ℕ) (before after : Option (List ℕ)) (p q : Piece) (report : Report) → Fed o [] p
+pub finished : (o : ℕ) (m : List ℕ) (p q : Piece) (report : Report) → Fed o m p → report ≡ report_of o m
+    → q.notes ≡ reduced_union p.notes (heads_at p.at (rest_in o m)) → Finishes o m q.notes (Ok report)
+finished o m p q report fed is e = (heads_added o m p q fed.knows e, is)
+
+-- it found no memory
+pub unfinished : (o : ℕ) (m : List ℕ) (p q : Piece) (report : Report) (at : ℕ) → Fed o m p → report ≡ report_of o m
+    → NotesNone p q → at ≡ q.at → Finishes o m q.notes (Err (OutOfMemory report.noted at))
+unfinished o m p q report at fed is none here =
+    let k : Knows o m q = record { notes = none.notes ∙ fed.knows.notes; at = none.at ∙ fed.knows.at } in
+    let noted : length q.notes ≡ report.noted =
+    count_noted o m q k ∙ sym (ap (λ (r : Report). r.noted) is) in
+    subst (λ (j : ℕ). AddsFirst [] q.notes o m j at) noted
+    (subst (λ (b : ℕ). AddsFirst [] q.notes o m (length q.notes) b) (sym here)
+    (subst (λ (t : List ℕ). AddsFirst [] q.notes o t (length q.notes) q.at) (append-nil m) (adds_front o m [] q k)))
+
+-- a stop that may be gone on behind comes where no more bytes may be taken
+pub filled_end : (o limit : ℕ) (before after : Option (List ℕ)) (p q : Piece) (notes : List NoteParts)
+    (r : Result Report AbsorbFault) → Fed o [] p
     → ReadsAll before after p q limit (Ok tt)
-    → ((m : List ℕ) → Fed o m q → report ≡ report_of o m)
-    → AbsorbsFrom [] q.notes before after o limit (Ok report)
-filled_ok o limit before after p q report start h tells =
+    → ((m : List ℕ) → Fed o m q → Finishes o m notes r)
+    → AbsorbsFrom [] notes before after o limit r
+filled_end o limit before after p q notes (Ok report) start h tells =
     let (taken, takes, feeds, ends) = h in
     let fed = feeds o [] start in
-    let is = tells taken fed in (
+    let adds = tells taken fed in (
       taken,
       takes,
-      (fed.knows.notes ∙ sym (union_of-none (notes_in o taken) (IsContent-notes_in o taken)), is),
+      adds,
       λ goes. elim ends [
         | inl e ↦ e
         | inr stopped ↦
-            absurd (closed_next o taken q fed stopped (subst IsOpen (ap (λ (r : Report). r.stop) is) goes))
+            absurd (closed_next o taken q fed stopped (subst IsOpen (ap (λ (r : Report). r.stop) adds.1) goes))
       ],
     )
+filled_end o limit before after p q notes (Err (OutOfMemory noted at)) start h tells =
+    let (taken, takes, feeds, ends) = h in
+    (taken, takes, tells taken (feeds o [] start))
+filled_end o limit before after p q notes (Err (ReadFault noted at)) start h tells =
+    let (taken, takes, feeds, ends) = h in
+    absurd (tells taken (feeds o [] start))
 
 pub filled_fault : (o limit : ℕ) (before after : Option (List ℕ)) (p q : Piece) (noted at : ℕ) → Fed o [] p
     → ReadsAll before after p q limit (Err causes.ReadFault) → noted ≡ length q.notes → at ≡ q.at
@@ -214,26 +283,19 @@ filled_memory o limit before after p q noted at start h n a =
 -- ---- a piece as a whole
 
 adds_first_merged : (old piece new : List NoteParts) (o : ℕ) (m : List ℕ) (noted at : ℕ)
-    → AddsFirst [] piece o m noted at → new ≡ union_of old piece → AddsFirst old new o m noted at
-adds_first_merged old piece new o m noted at a e =
-    let rises = rising_take note_cmp noted (notes_in o m) (IsContent-notes_in o m) in
-    record {
-      within = a.within;
-      added = e ∙ ap (union_of old) (a.added ∙ union_of-none (take noted (notes_in o m)) rises);
-      place = a.place;
-    }
+    → AddsFirst [] piece o m noted at → new ≡ reduced_union old piece → AddsFirst old new o m noted at
+adds_first_merged old piece new o m noted at a e = record {
+  within = a.within;
+  added = e ∙ ap (reduced_union old) (a.added ∙ alone_first noted o m);
+  place = a.place;
+}
 
 -- what a piece's own catalogue has, joined with another
 pub from_merged : (old piece new : List NoteParts) (before after : Option (List ℕ)) (o limit : ℕ)
     (r : Result Report AbsorbFault)
-    → AbsorbsFrom [] piece before after o limit r → new ≡ union_of old piece → AbsorbsFrom old new before after o limit r
+    → AbsorbsFrom [] piece before after o limit r → new ≡ reduced_union old piece → AbsorbsFrom old new before after o limit r
 from_merged old piece new before after o limit (Ok report) (taken, takes, adds, ends) e =
-    let same = union_of-none (notes_in o taken) (IsContent-notes_in o taken) in (
-      taken,
-      takes,
-      (e ∙ ap (union_of old) (adds.0 ∙ same), adds.1),
-      ends,
-    )
+    (taken, takes, (e ∙ ap (reduced_union old) (adds.0 ∙ alone_in o taken), adds.1), ends)
 from_merged old piece new before after o limit (Err (ReadFault noted at)) (taken, takes, adds, all, cut) e =
     (taken, takes, adds_first_merged old piece new o taken noted at adds e, all, cut)
 from_merged old piece new before after o limit (Err (OutOfMemory noted at)) (taken, takes, adds) e =
@@ -260,8 +322,13 @@ from_none old piece new before after o limit r h e =
 adds_more : (old new : List NoteParts) (o : ℕ) (m x : List ℕ) (report : Report) → Absorbs old new o m (Ok report)
     → (IsOpen report.stop → ⊥) → Absorbs old new o (m ++ x) (Ok report)
 adds_more old new o m x report a final =
-    let s = stop_stays o m x (λ t. final (subst IsOpen (sym (ap (λ (r : Report). r.stop) a.1)) t)) in (
-      a.0 ∙ ap (λ (ps : List PacketParts). union_of old (notes_from o ps)) (sym s.0),
+    let closed : IsOpen (stop_in o m) → ⊥ =
+    λ t. final (subst IsOpen (sym (ap (λ (r : Report). r.stop) a.1)) t) in
+    let s = stop_stays o m x closed in
+    let same : notes_in o m ≡ notes_in o (m ++ x) =
+    closed_notes o m closed ∙ ap (notes_from o) (sym s.0)
+    ∙ sym (closed_notes o (m ++ x) (λ t. closed (subst IsOpen s.1 t))) in (
+      a.0 ∙ ap (reduced_union old) same,
       a.1 ∙ (λ i. record { noted = length (sym s.0 i); stop = sym s.1 i }),
     )
 

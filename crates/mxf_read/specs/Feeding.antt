@@ -1,8 +1,8 @@
 -- A piece whose bytes come in parts: what is known after those that came (this project's profile).
 use Rattle.std.specs.Prelude.{◌≡◌, ℕ, ◌<◌, List, [], ◌++◌, Option, None, Some}
 use Rattle.mxf_klv.specs.Head.{HasNoHead}
-use Rattle.mxf_klv.specs.Piece.{end_after}
-use Rattle.mxf_klv.specs.PieceReading.{IsOpen, notes_in, packet_at, packets_in, rest_in, stop_of}
+use Rattle.mxf_klv.specs.Piece.{end_after, notes_from}
+use Rattle.mxf_klv.specs.PieceReading.{IsOpen, packet_at, packets_in, rest_in, stop_of}
 use Rattle.mxf_klv.specs.declared.piece.Stop.{Stop}
 use Rattle.mxf_read.specs.Coming.{HasCome}
 use Rattle.mxf_read.specs.declared.coming.ComingValue.{ComingValue}
@@ -10,7 +10,7 @@ use Rattle.mxf_read.specs.declared.piece.Piece.{Piece}
 
 -- The notes are those of the packets that have come whole, and the next packet begins behind them.
 pub record Knows (offset : ℕ) (bytes : List ℕ) (p : Piece) : Type 0 where
-  pub notes : p.notes ≡ notes_in offset bytes
+  pub notes : p.notes ≡ notes_from offset (packets_in offset bytes)
   pub at : p.at ≡ end_after offset (packets_in offset bytes)
 
 -- No further packet was noted.

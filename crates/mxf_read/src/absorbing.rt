@@ -3,11 +3,11 @@ ghost use Rattle.std.specs.Prelude.{◌≡◌, ◌≢◌, ◌+◌, ◌-◌, ◌<
 ghost use Rattle.std.specs.Prelude.{IfOk, IfErr, IfSome, Ok, OnOk, OnErr};
 ghost use Rattle.mxf_klv.specs.Note.{end_of, greatest_end, note_of};
 ghost use Rattle.mxf_klv.specs.Parts.{NoteParts};
-ghost use Rattle.mxf_klv.specs.PieceReading.{notes_in, packets_in, stop_in};
-ghost use Rattle.mxf_catalogue.specs.Content.{IsContent, union_of, with_note};
+ghost use Rattle.mxf_klv.specs.PieceReading.{heads_at, notes_in, packets_in, stop_in};
+ghost use Rattle.mxf_catalogue.specs.Content.{IsContent, reduced_union, reduced_with};
 ghost use Rattle.mxf_catalogue.specs.Disputes.{AreApart};
 ghost use Rattle.mxf_catalogue.specs.History.{History, Absorb, Cut, content};
-ghost use Rattle.mxf_read.specs.Absorbs.{Absorbs, AbsorbsFrom, AddsFirst, GoesOnAt, first_notes_in, history_with};
+ghost use Rattle.mxf_read.specs.Absorbs.{Absorbs, AbsorbsFrom, AddsFirst, Finishes, GoesOnAt, first_notes_in, history_with};
 ghost use Rattle.mxf_read.specs.Feeding.{Fed};
 ghost use Rattle.mxf_read.specs.Reading.{Takes};
 ghost use Rattle.mxf_read.specs.declared.report.AbsorbFault.TheVariants as faults;
@@ -17,7 +17,7 @@ use crate::reading::{Cause, read_all};
 use crate::report::{AbsorbFault, Report};
 use crate::ticks::ReadTicks;
 use mxf_catalogue::Catalogue;
-use mxf_klv::{Note, OutOfMemory, Packet, next_packet};
+use mxf_klv::{Note, OutOfMemory, Packet, cut_head, next_packet};
 use mxf_views::Views;
 use std::alloc::Global;
 use std::io::Read;
@@ -27,10 +27,14 @@ use std::io::Read;
 /// Packet after packet is noted, up to the first place where none stands whole or one would end above
 /// [`MAX`](mxf_klv::MAX): the report's stop says why and where. A packet that the views hold already is counted too.
 ///
+/// Where the piece ends behind a whole key and length and inside the value, the head of that packet is noted as well. It is
+/// no packet: the report's count is without it, and its place is the stop's.
+///
 /// The piece's own catalogue is made first and then moved into the views at once. So pieces may come in any order: beside
 /// its own packets a piece costs one pass over the held notes, and none where it follows all of them.
 ///
-/// The only fault is want of memory. Then the notes of the packets that it counts were added, and nothing else.
+/// The only fault is want of memory. Then the notes of the packets that it counts were added, and nothing else. Where the
+/// head alone found no room, all packets are counted, and the fault's place is the head's.
 pub fn absorb(
     alloc: Global,
     views: &mut Views,
@@ -54,8 +58,8 @@ pub fn absorb(
 /// stop nothing is read. It holds 65,536 bytes of the reader and one value that is kept; another is digested as it passes.
 ///
 /// Each read that it asks for is counted in `ticks`. An interrupted read is repeated, 1,024 times at most. Where a read
-/// fails the packets that are whole among the bytes taken were noted. Where memory is wanting the notes of the packets that
-/// the fault counts were added, and nothing else.
+/// fails the packets that are whole among the bytes taken were noted, and no head. Where memory is wanting the notes of the
+/// packets that the fault counts were added, and nothing else.
 pub fn absorb_from<R: Read>(
     alloc: Global,
     views: &mut Views,
@@ -84,7 +88,7 @@ pub fn absorb_from<R: Read>(
 /// Moves the notes of a piece at a file offset into the views. The only fault is want of memory, at the piece's offset,
 /// where it has notes; then none was added.
 fn merge_notes(views: &mut Views, offset: u64, notes: Catalogue) -> Result<(), AbsorbFault>
-    ensures merged { OnOk result (views.new ≡ union_of views.old notes) }
+    ensures merged { OnOk result (views.new ≡ reduced_union views.old notes) }
     ensures err { OnErr result (views.new ≡ views.old) }
     ensures some { OnErr result (notes ≢ []) }
     ensures fault { IfErr result (λ fault. fault ≡ faults.OutOfMemory 0 offset) }
@@ -115,7 +119,7 @@ fn fill<R: Read>(
         → AbsorbsFrom [] piece.new.notes (R.remaining from.old) (R.remaining from.new) o limit result }
 {
     match read_all(piece, from, limit, ticks) {
-        Ok(()) => Ok(piece.report()),
+        Ok(()) => finish(piece),
         Err(Cause::OutOfMemory) => Err(AbsorbFault::OutOfMemory {
             noted: piece.noted(),
             at: piece.at(),
@@ -127,7 +131,22 @@ fn fill<R: Read>(
     }
 }
 
-/// Adds the notes of the packets of a piece to a catalogue, one after another.
+/// Says what was noted of the piece, to which no more bytes come, and adds the head of the packet that its end cuts.
+fn finish(piece: &mut Piece) -> Result<Report, AbsorbFault>
+    ensures { (o : ℕ) (m : List ℕ) → Fed o m piece.old → Finishes o m piece.new.notes result }
+{
+    let report = piece.report();
+    match piece.add_head() {
+        Ok(()) => Ok(report),
+        Err(OutOfMemory) => Err(AbsorbFault::OutOfMemory {
+            noted: report.noted,
+            at: piece.at(),
+        }),
+    }
+}
+
+/// Adds the notes of the packets of a piece to a catalogue, one after another, and then the head of the packet that the
+/// piece's end cuts.
 fn note_packets(
     alloc: Global,
     catalogue: &mut Catalogue,
@@ -150,7 +169,12 @@ fn note_packets(
                 let (_, after) = rest.split_at(size);
                 rest = after;
             }
-            Err(stop) => return Ok(Report { noted, stop }),
+            Err(stop) => {
+                return match note_head(catalogue, at, rest) {
+                    Ok(()) => Ok(Report { noted, stop }),
+                    Err(OutOfMemory) => Err(AbsorbFault::OutOfMemory { noted, at }),
+                };
+            }
         }
     }
 }
@@ -163,7 +187,7 @@ fn note_packet(
     packet: &Packet<'_>,
 ) -> Result<(), OutOfMemory>
     requires { end_of (note_of offset packet.now) ≤ greatest_end }
-    ensures noted { OnOk result (catalogue.new ≡ with_note (note_of offset packet.now) catalogue.old) }
+    ensures noted { OnOk result (catalogue.new ≡ reduced_with (note_of offset packet.now) catalogue.old) }
     ensures err { OnErr result (catalogue.new ≡ catalogue.old) }
 {
     let note = Note::within(alloc, offset, packet)?;
@@ -173,15 +197,29 @@ fn note_packet(
     }
 }
 
-/// A law: the notes of a piece's packets stand in their order, each begins at or after the end of the one before, and the
-/// first at or after the piece's offset.
+/// Adds the head of the packet at the front of a piece at a file offset to a catalogue, where key and length are whole and
+/// the value is cut.
+fn note_head(catalogue: &mut Catalogue, offset: u64, bytes: &[u8]) -> Result<(), OutOfMemory>
+    ensures noted { OnOk result (catalogue.new ≡ reduced_union catalogue.old (heads_at offset bytes.now)) }
+    ensures err { OnErr result (catalogue.new ≡ catalogue.old) }
+    ensures some { OnErr result (heads_at offset bytes.now ≢ []) }
+{
+    if let Some(head) = cut_head(offset, bytes) {
+        catalogue.add(head)?;
+    }
+    Ok(())
+}
+
+/// A law: the notes of a piece, those of its packets and the head of the one that its end cuts, stand in their order, each
+/// begins at or after the end of the one before, and the first at or after the piece's offset.
 pub fn packets_of_a_piece_stand_apart()
     ensures rising { (offset : ℕ) (bytes : List ℕ) → IsContent (notes_in offset bytes) }
     ensures apart { (offset : ℕ) (bytes : List ℕ) → AreApart offset (notes_in offset bytes) }
 {}
 
 /// A law of [`absorb`]: where a piece goes on at an offset after so many packets, the rest of it from there on is a piece
-/// that has the other packets and the same stop. So what a refused call counts and one of the rest complete the piece.
+/// that has the other packets, the same head and the same stop. So what a refused call counts and one of the rest complete
+/// the piece.
 pub fn going_on_completes_a_piece()
     ensures within { (noted offset : ℕ) (bytes : List ℕ) (at : ℕ) → GoesOnAt noted offset bytes at
         → (offset ≤ at) × (at < offset + length bytes) }
@@ -201,7 +239,8 @@ pub fn going_on_after_a_fault_completes_a_piece()
         → AddsFirst old new offset taken noted at → offset ≤ at }
     ensures content { (old new : List NoteParts) (offset : ℕ) (taken more : List ℕ) (noted at : ℕ)
         → AddsFirst old new offset taken noted at
-        → union_of new (notes_in at (drop (at - offset) (taken ++ more))) ≡ union_of old (notes_in offset (taken ++ more)) }
+        → reduced_union new (notes_in at (drop (at - offset) (taken ++ more)))
+        ≡ reduced_union old (notes_in offset (taken ++ more)) }
     ensures count { (old new : List NoteParts) (offset : ℕ) (taken more : List ℕ) (noted at : ℕ)
         → AddsFirst old new offset taken noted at
         → length (packets_in offset (taken ++ more))

@@ -32,7 +32,7 @@ pub(crate) struct ComingValue {
 
 impl ComingValue {
     ghost use Rattle.mxf_klv.specs.Note.{note_of};
-    ghost use Rattle.mxf_klv.specs.Parts.{packet_parts};
+    ghost use Rattle.mxf_klv.specs.Parts.{head_parts, packet_parts};
     ghost use Rattle.mxf_read.specs.Coming.{HasTaken, IsSamePacket};
 
     /// No byte of the value has come.
@@ -68,6 +68,13 @@ impl ComingValue {
         ensures { result ≡ self.now.left }
     {
         self.left
+    }
+
+    /// The head of the packet.
+    pub(crate) fn head(&self) -> Note
+        ensures { result ≡ head_parts self.now.offset self.now.key self.now.ber.width self.now.ber.value }
+    {
+        Note::head(self.offset, self.key, self.ber.width(), self.ber.value()).unwrap()
     }
 
     /// Takes the next bytes of the value.

@@ -4,11 +4,11 @@
 //! A piece is bytes that begin at a packet, and the file offset of the first, in bytes. Pieces may come in any order,
 //! overlap and repeat.
 //!
-//! What is proved: after [`absorb`] the views hold what they held and the notes of the piece's packets, and the report
-//! tells the number of packets and why they end. Where memory was wanting they hold what they held and the notes of the
-//! packets that the fault counts, and [`going_on_completes_a_piece`] says that the rest completes the piece;
-//! [`going_on_after_a_fault_completes_a_piece`] says it of what a reader gave.
-//! [`packets_of_a_piece_stand_apart`] says how the packets of a piece lie.
+//! What is proved: after [`absorb`] the views hold what they held and the notes of the piece: those of its packets, and the
+//! head of the packet that its end cuts. The report tells the number of packets and why they end. Where memory was wanting
+//! the views hold what they held and the notes of the packets that the fault counts, and [`going_on_completes_a_piece`]
+//! says that the rest completes the piece; [`going_on_after_a_fault_completes_a_piece`] says it of what a reader gave.
+//! [`packets_of_a_piece_stand_apart`] says how the notes of a piece lie.
 //!
 //! That memory is there, and that a call succeeds with it, is tested.
 //!

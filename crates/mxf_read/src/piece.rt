@@ -1,6 +1,7 @@
 //! A piece whose bytes come in parts.
 ghost use Rattle.std.specs.Prelude.{◌≡◌, ◌≤◌, ◌<◌, ◌++◌, ◌↔◌, [], List, ℕ, None, length, take, IfOk, IsTrue, OnOk, OnErr, is_some};
-ghost use Rattle.mxf_klv.specs.PieceReading.{IsOpen, rest_in};
+ghost use Rattle.mxf_klv.specs.PieceReading.{IsOpen, heads_at, rest_in};
+ghost use Rattle.mxf_catalogue.specs.Content.{reduced_union};
 
 use crate::coming::ComingValue;
 use crate::report::Report;
@@ -69,6 +70,21 @@ impl Piece {
             noted,
             stop: Stop::Truncated(self.at),
         }
+    }
+
+    /// Adds the head of the next packet, where key and length have come whole. No more bytes come.
+    pub(crate) fn add_head(&mut self) -> Result<(), OutOfMemory>
+        ensures added { OnOk result ((o : ℕ) (m : List ℕ) → Fed o m self.old
+            → self.new.notes ≡ reduced_union self.old.notes (heads_at self.old.at (rest_in o m))) }
+        ensures err { OnErr result (NotesNone self.old self.new) }
+    {
+        if self.has_stopped() {
+            return Ok(());
+        }
+        if let Some(value) = &self.value {
+            self.notes.add(value.head())?;
+        }
+        Ok(())
     }
 
     /// The number of notes.

@@ -58,6 +58,44 @@ fn an_addition_to_a_catalogue(rt: HostRuntime) -> Result<(), Fail> {
     Ok(())
 }
 
+/// The head of the packet between the two.
+fn head_between() -> Result<Note, Fail> {
+    Ok(between()?.to_head())
+}
+
+#[test]
+fn an_addition_of_a_head_and_of_its_packet(rt: HostRuntime) -> Result<(), Fail> {
+    let alloc = rt.alloc();
+    let mut all = match two_apart(alloc) {
+        Some(all) => all,
+        None => two_apart(alloc).ok_or("two notes")?,
+    };
+    let change = match all.add(head_between()?) {
+        Ok(change) => change,
+        Err(fault) => {
+            assert!(rt; holds_two(&all));
+            assert!(rt; fault.note == head_between()?);
+            all.add(fault.note)?
+        }
+    };
+    assert!(rt; disputes_both(&change));
+    // The head covers the bytes from 90 to 107 alone.
+    assert_eq!(rt; all.spans().gaps().count(), 1);
+    let change = match all.add(between()?) {
+        Ok(change) => change,
+        Err(fault) => {
+            assert!(rt; all.holds(&head_between()?));
+            assert!(rt; fault.note == between()?);
+            all.add(fault.note)?
+        }
+    };
+    assert!(rt; matches!(&change, Change::Added { moved } if moved.as_slice().is_empty()));
+    assert_eq!(rt; all.disputed().count(), 3);
+    assert_eq!(rt; all.spans().gaps().count(), 0);
+    assert_eq!(rt; all.add(head_between()?)?, Change::Repeated);
+    Ok(())
+}
+
 #[test]
 fn an_addition_to_views(rt: HostRuntime) -> Result<(), Fail> {
     let alloc = rt.alloc();

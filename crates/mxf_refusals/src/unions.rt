@@ -2,7 +2,7 @@
 ghost use Rattle.std.specs.Prelude.{◌<◌, ◌≤◌};
 
 use mxf_catalogue::{Catalogue, Cover, FileFault, Semilattice};
-use mxf_klv::{Encode, Note, OutOfMemory, read_packet};
+use mxf_klv::{Encode, Note, OutOfMemory, cut_head, read_packet};
 use mxf_views::Views;
 use mxf_worked::worked_files::M;
 use std::alloc::Global;
@@ -25,6 +25,63 @@ fn at_last(alloc: Global, offsets: &[usize]) -> Result<Catalogue, Fail> {
         Some(all) => Ok(all),
         None => Ok(of_m(alloc, offsets).ok_or("packets of M")?),
     }
+}
+
+/// The catalogue of M's first packet and the head of its second. None where a growth is refused.
+fn of_cut_m(alloc: Global) -> Option<Catalogue> {
+    let mut all = of_m(alloc, &[0])?;
+    all.add(cut_head(108, &M[108..128])?).ok()?;
+    Some(all)
+}
+
+/// The same, also where one growth is refused.
+fn of_cut_m_at_last(alloc: Global) -> Result<Catalogue, Fail> {
+    match of_cut_m(alloc) {
+        Some(all) => Ok(all),
+        None => Ok(of_cut_m(alloc).ok_or("a head of M")?),
+    }
+}
+
+#[test]
+fn a_join_and_a_merge_over_a_head(rt: HostRuntime) -> Result<(), Fail> {
+    let alloc = rt.alloc();
+    let mut cut = of_cut_m_at_last(alloc)?;
+    let before = of_cut_m_at_last(alloc)?;
+    let whole = at_last(alloc, &[0, 108, 216])?;
+    let back = at_last(alloc, &[108, 216])?;
+    let joined = match Catalogue::join(alloc, &back, &cut) {
+        Ok(joined) => joined,
+        Err(OutOfMemory) => Catalogue::join(alloc, &back, &cut)?,
+    };
+    assert!(rt; joined.same(&whole));
+    assert!(rt; cut.same(&before));
+    if let Err(fault) = cut.merge(back) {
+        assert!(rt; cut.same(&before));
+        assert_eq!(rt; fault.other.len(), 2);
+        cut.merge(fault.other)?;
+    }
+    assert!(rt; cut.same(&whole));
+    Ok(())
+}
+
+#[test]
+fn a_catalogue_with_a_head_that_is_read(rt: HostRuntime) -> Result<(), Fail> {
+    let alloc = rt.alloc();
+    let cut = of_cut_m_at_last(alloc)?;
+    let file = match written(alloc, &cut) {
+        Some(file) => file,
+        None => written(alloc, &cut).ok_or("a file")?,
+    };
+    assert_eq!(rt; file.len(), 172);
+    let read = match Catalogue::read(alloc, &file) {
+        Ok(read) => read,
+        Err(fault) => {
+            assert_eq!(rt; fault, FileFault::OutOfMemory);
+            Catalogue::read(alloc, &file)?
+        }
+    };
+    assert!(rt; read.same(&cut));
+    Ok(())
 }
 
 #[test]
@@ -88,7 +145,7 @@ fn a_join_of_views(rt: HostRuntime) -> Result<(), Fail> {
 
 /// The file of a catalogue. None where a growth is refused.
 fn written(alloc: Global, all: &Catalogue) -> Option<Vec<u8>> {
-    let mut file = Vec::with_capacity(alloc, 319).ok()?;
+    let mut file = Vec::with_capacity(alloc, 322).ok()?;
     all.write_to(&mut file).ok()?;
     Some(file)
 }

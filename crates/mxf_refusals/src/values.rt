@@ -12,7 +12,7 @@ use std::test::Fail;
 fn keeps_the_header(note: &Note) -> bool {
     match note.held() {
         Held::Whole(value) => value == header_value(),
-        Held::Digest(_) => false,
+        Held::Digest(_) | Held::Head => false,
     }
 }
 

@@ -1,7 +1,7 @@
 //! What takes no memory: it answers while every growth is refused.
 use crate::files::R;
 use mxf_catalogue::{Catalogue, Change};
-use mxf_klv::{Encode, Note, read_packet};
+use mxf_klv::{Encode, Held, Note, cut_head, read_packet};
 use mxf_read::absorb;
 use mxf_views::{Chain, Found, Link, RipView, Views};
 use mxf_worked::worked_files::M;
@@ -54,14 +54,54 @@ fn without_memory_a_held_note_is_added(rt: HostRuntime) -> Result<(), Fail> {
     Ok(())
 }
 
+/// Whether M's header is held, and the head of its footer, which claims the bytes up to 216.
+fn holds_the_cut(views: &Views, head: &Note) -> bool {
+    let all = views.catalogue();
+    all.len() == 2
+        && all.clear().count() == 1
+        && all.holds(head)
+        && !all.disputes(head)
+        && all.clear_at(108).is_none()
+        && all.end() == 216
+        && views.gaps().count() == 1
+}
+
+#[test]
+fn without_memory_heads_are_made_and_a_held_one_is_added(rt: HostRuntime) -> Result<(), Fail> {
+    let Some(mut views) = views_of(rt.alloc(), &M[..128]) else {
+        return Ok(());
+    };
+    let head = cut_head(108, &M[108..128]).ok_or("a head")?;
+    let made = Note::head(108, head.key(), 4, 88).ok_or("a head")?;
+    assert!(rt; made == head && made.is_head() && made.tells(&head));
+    assert!(rt; made.to_head().clone_in(rt.alloc())? == head);
+    assert!(rt; matches!(&head.held(), Held::Head));
+    assert_eq!(rt; (head.covered_end(), head.end()), (128, 216));
+    assert_eq!(rt; views.add(made)?, Change::Repeated);
+    assert!(rt; holds_the_cut(&views, &head));
+    Ok(())
+}
+
+#[test]
+fn without_memory_a_head_that_is_replaced_is_added(rt: HostRuntime) -> Result<(), Fail> {
+    let Some(mut views) = views_of(rt.alloc(), &M) else {
+        return Ok(());
+    };
+    let head = cut_head(108, &M[108..128]).ok_or("a head")?;
+    assert_eq!(rt; views.add(head)?, Change::Repeated);
+    assert!(rt; holds_m(views.catalogue()));
+    assert!(rt; hangs_together(&views));
+    Ok(())
+}
+
 #[test]
 fn without_memory_a_catalogue_is_written(rt: HostRuntime) -> Result<(), Fail> {
     let alloc = rt.alloc();
-    let (Some(views), Ok(mut file)) = (views_of(alloc, &M), Vec::with_capacity(alloc, 319)) else {
+    let (Some(views), Ok(mut file)) = (views_of(alloc, &M), Vec::with_capacity(alloc, 322)) else {
         return Ok(());
     };
     assert_eq!(rt; views.catalogue().write_to(&mut file), Ok(()));
-    assert_eq!(rt; file.len(), 319);
+    assert_eq!(rt; file.len(), 322);
     Ok(())
 }
 

@@ -1,7 +1,7 @@
 //! Notes of packets.
-use mxf_klv::{Held, Kind, Note, NoteFault, Packet, read_packet};
+use mxf_klv::{Held, Kind, Note, NoteFault, Packet, Status, cut_head, read_packet};
 use mxf_worked::builders::{label, note_at};
-use mxf_worked::worked_files::{ESSENCE_KEY, FILL_KEY, HEADER_KEY};
+use mxf_worked::worked_files::{ESSENCE_KEY, FILL_KEY, FOOTER_KEY, HEADER_KEY, M};
 use std::test::Fail;
 
 /// The SHA-256 of no bytes.
@@ -68,5 +68,89 @@ fn a_note_holds_what_its_key_and_length_say(rt: HostRuntime) -> Result<(), Fail>
     assert!(rt; Note::digested(0, fill, 1, 128, EMPTY_DIGEST).is_none());
     assert!(rt; Note::digested(9_223_372_036_854_775_791, fill, 1, 0, EMPTY_DIGEST).is_none());
     assert!(rt; Note::digested(0, header, 4, 4_194_305, EMPTY_DIGEST).is_some());
+    Ok(())
+}
+
+#[test]
+fn a_head_holds_nothing_and_claims_its_packet(rt: HostRuntime) -> Result<(), Fail> {
+    let header = label(HEADER_KEY)?;
+    let head = Note::head(108, header, 4, 88).ok_or("a head")?;
+    assert!(rt; head.is_head());
+    assert!(rt; matches!(&head.held(), Held::Head));
+    assert_eq!(rt;
+        (head.offset(), head.covered_end(), head.end()),
+        (108, 128, 216)
+    );
+    assert_eq!(rt; (head.width(), head.length()), (4, 88));
+    assert_eq!(rt;
+        (head.key(), head.kind()),
+        (header, Kind::Header(Status::ClosedComplete))
+    );
+    assert!(rt; head.to_head() == head);
+    assert!(rt; head.clone_in(rt.alloc())? == head);
+    Ok(())
+}
+
+#[test]
+fn a_head_goes_before_the_notes_of_its_packet(rt: HostRuntime) -> Result<(), Fail> {
+    let whole = note_at(rt.alloc(), 108, HEADER_KEY, 4, b"abc")?;
+    let head = whole.to_head();
+    assert!(rt; !whole.is_head() && head.is_head());
+    assert_eq!(rt; (whole.covered_end(), head.covered_end()), (131, 128));
+    assert!(rt; whole.tells(&head));
+    assert!(rt; !head.tells(&whole));
+    assert!(rt; head < whole);
+    // A longer one goes behind both, and tells another head.
+    let longer = Note::head(108, label(HEADER_KEY)?, 4, 4).ok_or("a head")?;
+    assert!(rt; whole < longer);
+    assert!(rt; !whole.tells(&longer));
+    let wider = Note::head(108, label(HEADER_KEY)?, 5, 3).ok_or("a head")?;
+    assert!(rt; longer < wider);
+    assert!(rt; !whole.tells(&wider));
+    Ok(())
+}
+
+// Twenty-five bytes of key and length stand before a value whose length has nine bytes.
+#[test]
+fn a_head_may_claim_bytes_up_to_the_greatest_end_and_no_later(rt: HostRuntime) -> Result<(), Fail> {
+    let essence = label(ESSENCE_KEY)?;
+    let last = Note::head(0, essence, 9, 9_223_372_036_854_775_782).ok_or("a head")?;
+    assert_eq!(rt;
+        (last.covered_end(), last.end()),
+        (25, 9_223_372_036_854_775_807)
+    );
+    assert!(rt; Note::head(0, essence, 9, 9_223_372_036_854_775_783).is_none());
+    assert!(rt; Note::head(1, essence, 9, 9_223_372_036_854_775_782).is_none());
+    assert!(rt; Note::head(9_223_372_036_854_775_790, essence, 1, 0).is_some());
+    assert!(rt; Note::head(9_223_372_036_854_775_791, essence, 1, 0).is_none());
+    for (width, length) in [(0, 0), (1, 128), (2, 256), (10, 0)] {
+        assert!(rt; Note::head(0, essence, width, length).is_none());
+    }
+    Ok(())
+}
+
+#[test]
+fn a_packet_that_is_cut_behind_its_length_has_a_head(rt: HostRuntime) -> Result<(), Fail> {
+    let wanted = Note::head(108, label(FOOTER_KEY)?, 4, 88).ok_or("a head")?;
+    let packet = &M[108..216];
+    for count in 0..=108usize {
+        let head = cut_head(108, &packet[..count]);
+        match count {
+            20..=107 => assert!(rt; head.ok_or("a head")? == wanted),
+            _ => assert!(rt; head.is_none()),
+        }
+    }
+    // No label, no length, a length of nine bytes, and a packet that would end too far on.
+    let mut bytes = [0u8; 25];
+    bytes[..16].copy_from_slice(&ESSENCE_KEY);
+    for first in [0x80, 0x89, 0xFF] {
+        bytes[16] = first;
+        assert!(rt; cut_head(0, &bytes).is_none());
+    }
+    bytes[16..].copy_from_slice(&[0x88, 0x7F, 0xFF, 0xFF, 0xFF, 0xFF, 0xFF, 0xFF, 0xE6]);
+    assert!(rt; cut_head(0, &bytes).is_some());
+    assert!(rt; cut_head(1, &bytes).is_none());
+    bytes[3] = 0x35;
+    assert!(rt; cut_head(0, &bytes).is_none());
     Ok(())
 }

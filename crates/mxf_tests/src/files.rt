@@ -1,5 +1,5 @@
 //! Files of catalogues: what is written, also where that fails, and read back.
-use mxf_catalogue::{Catalogue, Semilattice};
+use mxf_catalogue::{Catalogue, FileFault, Semilattice};
 use mxf_klv::{Encode, WriteFault};
 use mxf_worked::builders::{Narrow, joined, note_of_file};
 use mxf_worked::worked_files::{
@@ -8,32 +8,36 @@ use mxf_worked::worked_files::{
 use std::alloc::Global;
 use std::test::Fail;
 
-/// What is ahead of the notes of M: the format and its version, and three notes.
-const START: [u8; 16] = [
-    0x4D, 0x58, 0x46, 0x43, 0x41, 0x54, 0x00, 0x01, 0x00, 0x00, 0x00, 0x00, 0x00, 0x00, 0x00, 0x03,
-];
+/// What is ahead of so many notes: the format and its version, and the number.
+fn start(count: u8) -> [u8; 16] {
+    [
+        0x4D, 0x58, 0x46, 0x43, 0x41, 0x54, 0x00, 0x02, 0x00, 0x00, 0x00, 0x00, 0x00, 0x00, 0x00,
+        count,
+    ]
+}
 
-/// The head of the note of the packet with this key at this offset, whose length has four bytes.
-fn head(alloc: Global, offset: u8, key: &[u8; 16], length: u8) -> Result<Vec<u8>, Fail> {
+/// What is ahead of the value in the note of the packet with this key at this offset, whose length has four bytes: of a
+/// whole packet the mark is 0, of a head 1.
+fn begun(alloc: Global, offset: u8, key: &[u8; 16], length: u8, mark: u8) -> Result<Vec<u8>, Fail> {
     joined(
         alloc,
         &[
             &[0, 0, 0, 0, 0, 0, 0, offset],
             key,
-            &[4, 0, 0, 0, 0, 0, 0, 0, length],
+            &[4, 0, 0, 0, 0, 0, 0, 0, length, mark],
         ],
     )
 }
 
-/// The file of the catalogue of M's three notes, which stand at 16, 137 and 258.
-fn file_of_m(alloc: Global) -> Result<Vec<u8>, Fail> {
-    let header = head(alloc, 0, &HEADER_KEY, 88)?;
-    let footer = head(alloc, 108, &FOOTER_KEY, 88)?;
-    let rip = head(alloc, 216, &RIP_KEY, 28)?;
+/// The file of the catalogue of M's three notes, which stand at 16, 138 and 260.
+pub(crate) fn file_of_m(alloc: Global) -> Result<Vec<u8>, Fail> {
+    let header = begun(alloc, 0, &HEADER_KEY, 88, 0)?;
+    let footer = begun(alloc, 108, &FOOTER_KEY, 88, 0)?;
+    let rip = begun(alloc, 216, &RIP_KEY, 28, 0)?;
     joined(
         alloc,
         &[
-            &START,
+            &start(3),
             &header,
             header_value(),
             &footer,
@@ -42,6 +46,13 @@ fn file_of_m(alloc: Global) -> Result<Vec<u8>, Fail> {
             rip_value(),
         ],
     )
+}
+
+/// The file of the catalogue of M's first note and the head of its second, which stand at 16 and 138.
+fn file_of_cut_m(alloc: Global) -> Result<Vec<u8>, Fail> {
+    let header = begun(alloc, 0, &HEADER_KEY, 88, 0)?;
+    let footer = begun(alloc, 108, &FOOTER_KEY, 88, 1)?;
+    joined(alloc, &[&start(2), &header, header_value(), &footer])
 }
 
 /// The catalogue of M's packets at these offsets, added in this order.
@@ -53,7 +64,8 @@ fn catalogue_of_m(alloc: Global, offsets: &[usize]) -> Result<Catalogue, Fail> {
     Ok(all)
 }
 
-fn written(alloc: Global, catalogue: &Catalogue) -> Result<Vec<u8>, Fail> {
+/// The file of a catalogue.
+pub(crate) fn written(alloc: Global, catalogue: &Catalogue) -> Result<Vec<u8>, Fail> {
     let mut writer = Narrow::new(alloc, 1000);
     writer.chunk = 1000;
     catalogue.write_to(&mut writer)?;
@@ -66,11 +78,11 @@ fn part(bytes: &[u8], from: usize, to: usize) -> Result<&[u8], Fail> {
 }
 
 #[test]
-fn three_notes_are_319_bytes_and_are_read_back(rt: HostRuntime) -> Result<(), Fail> {
+fn three_notes_are_322_bytes_and_are_read_back(rt: HostRuntime) -> Result<(), Fail> {
     let alloc = rt.alloc();
     let file = file_of_m(alloc)?;
     let all = catalogue_of_m(alloc, &[0, 108, 216])?;
-    assert_eq!(rt; file.len(), 319);
+    assert_eq!(rt; file.len(), 322);
     assert_eq!(rt; written(alloc, &all)?.as_slice(), file.as_slice());
     assert!(rt; Catalogue::read(alloc, &file)?.same(&all));
     Ok(())
@@ -81,11 +93,11 @@ fn a_file_is_written_through_1024_interruptions_and_no_more(rt: HostRuntime) -> 
     let alloc = rt.alloc();
     let file = file_of_m(alloc)?;
     let all = catalogue_of_m(alloc, &[0, 108, 216])?;
-    let mut patient = Narrow::new(alloc, 319);
+    let mut patient = Narrow::new(alloc, 322);
     patient.interruptions = 1024;
     assert_eq!(rt; all.write_to(&mut patient), Ok(()));
     assert_eq!(rt; patient.taken.as_slice(), file.as_slice());
-    let mut interrupted = Narrow::new(alloc, 319);
+    let mut interrupted = Narrow::new(alloc, 322);
     interrupted.interruptions = 1025;
     assert_eq!(rt;
         all.write_to(&mut interrupted),
@@ -100,11 +112,70 @@ fn a_failed_write_leaves_the_front_of_the_file(rt: HostRuntime) -> Result<(), Fa
     let alloc = rt.alloc();
     let file = file_of_m(alloc)?;
     let all = catalogue_of_m(alloc, &[0, 108, 216])?;
-    for room in 0..319usize {
+    for room in 0..322usize {
         let mut writer = Narrow::new(alloc, room);
         let written = room as u64;
         assert_eq!(rt; all.write_to(&mut writer), Err(WriteFault { written }));
         assert_eq!(rt; writer.taken.as_slice(), part(&file, 0, room)?);
+    }
+    Ok(())
+}
+
+#[test]
+fn a_saved_head_has_34_bytes_and_is_read_back(rt: HostRuntime) -> Result<(), Fail> {
+    let alloc = rt.alloc();
+    let file = file_of_cut_m(alloc)?;
+    let mut all = catalogue_of_m(alloc, &[0])?;
+    all.add(note_of_file(alloc, &M, 108)?.to_head())?;
+    assert_eq!(rt; file.len(), 172);
+    assert_eq!(rt; written(alloc, &all)?.as_slice(), file.as_slice());
+    assert!(rt; Catalogue::read(alloc, &file)?.same(&all));
+    Ok(())
+}
+
+/// Why these parts, one after another, are no file.
+fn fault_of(alloc: Global, parts: &[&[u8]]) -> Result<FileFault, Fail> {
+    let file = joined(alloc, parts)?;
+    Ok(Catalogue::read(alloc, &file).err().ok_or("no file")?)
+}
+
+#[test]
+fn marks_and_heads_that_no_file_has_are_refused_at_their_places(
+    rt: HostRuntime,
+) -> Result<(), Fail> {
+    let alloc = rt.alloc();
+    let file = file_of_cut_m(alloc)?;
+    let whole = file_of_m(alloc)?;
+    let unmarked = part(&file, 0, 171)?;
+    assert_eq!(rt; fault_of(alloc, &[unmarked])?, FileFault::Truncated(138));
+    assert_eq!(rt;
+        fault_of(alloc, &[unmarked, &[0]])?,
+        FileFault::Truncated(138)
+    );
+    assert_eq!(rt;
+        fault_of(alloc, &[unmarked, &[2]])?,
+        FileFault::BadNote(138)
+    );
+    assert_eq!(rt; fault_of(alloc, &[&file, &[0]])?, FileFault::Trailing(172));
+    let notes = part(&file, 16, 172)?;
+    let footer = part(&whole, 138, 260)?;
+    let both = joined(alloc, &[&start(3), notes, footer])?;
+    assert_eq!(rt; both.len(), 294);
+    assert_eq!(rt; fault_of(alloc, &[&both])?, FileFault::NotReduced(172));
+    let head = part(&file, 138, 172)?;
+    let exchanged = joined(alloc, &[&start(3), part(&whole, 16, 260)?, head])?;
+    assert_eq!(rt; fault_of(alloc, &[&exchanged])?, FileFault::NotSorted(260));
+    Ok(())
+}
+
+#[test]
+fn files_of_other_versions_are_refused(rt: HostRuntime) -> Result<(), Fail> {
+    let alloc = rt.alloc();
+    let file = file_of_m(alloc)?;
+    let (magic, rest) = (part(&file, 0, 7)?, part(&file, 8, 322)?);
+    for version in [0u8, 1, 3, 7, 255] {
+        let fault = fault_of(alloc, &[magic, &[version], rest])?;
+        assert_eq!(rt; fault, FileFault::BadVersion);
     }
     Ok(())
 }

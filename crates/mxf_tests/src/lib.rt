@@ -10,6 +10,10 @@ mod catalogues;
 #[cfg(test)]
 mod covers;
 #[cfg(test)]
+mod cuts;
+#[cfg(test)]
 mod files;
+#[cfg(test)]
+mod heads;
 #[cfg(test)]
 mod readers;

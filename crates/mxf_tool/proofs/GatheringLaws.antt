@@ -6,7 +6,11 @@ use Rattle.std.specs.Prelude.{slice_get}
 use Rattle.std.specs.List.{AllByRecursion}
 use Rattle.std.proofs.lemmas.List.{take_at}
 use Rattle.mxf_klv.specs.Parts.{NoteParts}
-use Rattle.mxf_klv.specs.Rising.{In}
+use Rattle.mxf_klv.specs.Note.{head_note}
+use Rattle.mxf_catalogue.specs.Content.{has_note}
+use Rattle.mxf_catalogue.specs.Reduced.{IsKnown}
+use Rattle.mxf_catalogue.proofs.HeadLaws.{In-located}
+use Rattle.mxf_catalogue.proofs.HistoryLaws.{known-both}
 use Rattle.mxf_views.specs.Headline.{IsTheRun}
 use Rattle.mxf_views.proofs.RunLaws.{IsTheRun-from_set}
 use Rattle.mxf_tool.specs.declared.gathering.part.Part.{Part}
@@ -92,6 +96,22 @@ module _ {R : Type 0} (left : R → Option (List ℕ)) where
         ],
       )
 
+  -- The same of what they hand with its heads.
+  known_push : (ps : List (Part R)) (p : Part R) (n : NoteParts)
+      → IsKnown head_note (HandedBy left (ps ++ p ∷ [])) n
+      ↔ IsKnown head_note (HandedBy left ps) n ⊎ IsKnown head_note (HandsNote left p) n
+  known_push ps p n =
+      let both = known-both (HandedBy left ps) (HandsNote left p) n in (
+        λ h. both.0 (elim h [
+          | inl k ↦ inl ((handed_push ps p n).0 k)
+          | inr s ↦ inr (s.0, (handed_push ps p s.0).0 s.1, s.2)
+        ]),
+        λ h. elim (both.1 h) [
+          | inl k ↦ inl ((handed_push ps p n).1 k)
+          | inr s ↦ inr (s.0, (handed_push ps p s.0).1 s.1, s.2)
+        ],
+      )
+
   reports_push : (ps : List (Part R)) (p : Part R)
       → reports_of left (ps ++ p ∷ []) ≡ reports_of left ps ++ reports_in left p
   reports_push [] p = append-nil (reports_in left p)
@@ -103,13 +123,13 @@ module _ {R : Type 0} (left : R → Option (List ℕ)) where
   pub record IsGathered (all : List (Part R)) (number : ℕ) (rest : List (Part R)) (levels : List (List NoteParts))
       (reports : List PieceReport) : Type 0 where
     pub passed : IsPassed all number rest
-    pub members : (n : NoteParts) → HeldIn levels n ↔ HandedBy left passed.done n
+    pub members : (n : NoteParts) → HeldIn levels n ↔ IsKnown head_note (HandedBy left passed.done) n
     pub reported : reports ≡ reports_of left passed.done
     pub good : AllByRecursion (IsGood left) passed.done
 
   pub gathered_none : (all : List (Part R)) → IsGathered all 0 all [] []
   gathered_none all =
-      record { passed = passed_none all; members = λ n. (λ h. h, λ h. h); reported = refl; good = tt }
+      record { passed = passed_none all; members = λ n. (λ h. absurd h, λ h. elim h [ inl k ↦ k | inr k ↦ k.1 ]); reported = refl; good = tt }
 
   pub gathered_one : (all rest more : List (Part R)) (p : Part R) (number : ℕ) (levels new : List (List NoteParts))
       (reports added : List PieceReport) → IsGathered all number rest levels reports → rest ≡ p ∷ more
@@ -119,7 +139,7 @@ module _ {R : Type 0} (left : R → Option (List ℕ)) where
     members = λ n.
         let before = g.members n in
         let here = t.members n in
-        let both = handed_push g.passed.done p n in (
+        let both = known_push g.passed.done p n in (
           λ h. both.1 (elim (here.0 h) [ inl k ↦ inr k | inr k ↦ inl (before.0 k) ]),
           λ h. here.1 (elim (both.0 h) [ inl k ↦ inr (before.1 k) | inr k ↦ inl k ]),
         );
@@ -152,17 +172,23 @@ module _ {R : Type 0} (left : R → Option (List ℕ)) where
   gathered_run all rest number levels reports views g none h =
       let is = all_done all rest number levels reports g none in
       IsTheRun-from_set (HandedBy left all) views
-      (λ n. subst (λ (ps : List (Part R)). In n views ↔ HandedBy left ps n) is
-      (λ k. (g.members n).0 ((h.members n).0 k), λ k. (h.members n).1 ((g.members n).1 k)))
-      (record { catalogue = h.catalogue; fits = h.fits; whole = refl })
+      (In-located (HandedBy left all) views h.reduced
+      (λ n. subst (λ (ps : List (Part R)). has_note views n ↔ IsKnown head_note (HandedBy left ps) n) is
+      (λ k. (g.members n).0 ((h.members n).0 k), λ k. (h.members n).1 ((g.members n).1 k))))
+      (record { catalogue = h.catalogue; fits = h.fits; reduced = h.reduced; whole = refl })
 
   -- there was no part
   pub gathered_nothing : (all rest : List (Part R)) (number : ℕ) (views : List NoteParts) → IsPassed all number rest
       → length rest ≡ 0 → number ≡ 0 → views ≡ [] → IsTheRun (HandedBy left all) views
   gathered_nothing [] rest number views p none zero-parts is =
       subst (IsTheRun (HandedBy left [])) (sym is)
-      (IsTheRun-from_set (HandedBy left []) [] (λ n. (λ h. h, λ h. h))
-      (record { catalogue = record { content = tt; members = tt }; fits = omega arith; whole = refl }))
+      (IsTheRun-from_set (HandedBy left []) [] (λ n. (λ h. absurd h, λ h. h.0))
+      (record {
+        catalogue = record { content = tt; members = tt };
+        fits = omega arith;
+        reduced = λ x h k. h;
+        whole = refl;
+      }))
   gathered_nothing (q ∷ all) rest number views p none zero-parts is =
       let len = passed_all (q ∷ all) rest number p none in absurd (omega (arith, len, zero-parts))
 

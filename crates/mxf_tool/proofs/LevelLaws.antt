@@ -1,12 +1,11 @@
 -- Catalogues that wait to be merged: what they hold together stays the same.
 use Rattle.std.proofs.Common.{◌≡◌, ◌<◌, ◌^◌, ◌⊎◌, ◌↔◌, List, [], ◌∷◌, ◌++◌, length, sym, subst, inl, inr}
 use Rattle.mxf_klv.specs.Parts.{NoteParts}
-use Rattle.mxf_klv.specs.Rising.{In}
-use Rattle.mxf_catalogue.specs.Content.{IsCatalogue, union_of, union_of-IsUnion}
+use Rattle.mxf_catalogue.specs.Content.{AreReduced, IsCatalogue, has_note, reduced_union, reduced_union-IsUnion}
 use Rattle.mxf_tool.specs.Levels.{Adds, HeldIn, HoldsAll}
 
 pub held_last : (levels : List (List NoteParts)) (last : List NoteParts) (n : NoteParts)
-    → HeldIn (levels ++ last ∷ []) n ↔ In n last ⊎ HeldIn levels n
+    → HeldIn (levels ++ last ∷ []) n ↔ has_note last n ⊎ HeldIn levels n
 held_last [] last n = (λ h. h, λ h. h)
 held_last (notes ∷ levels) last n =
     let more = held_last levels last n in (
@@ -22,15 +21,15 @@ held_last (notes ∷ levels) last n =
 
 -- What is merged and what waits hold the notes of a catalogue and of those that waited at first.
 abbrev pub HoldTogether : List NoteParts → List (List NoteParts) → List NoteParts → List (List NoteParts) → Type 0
-HoldTogether merged levels notes old = (n : NoteParts) → (In n merged ⊎ HeldIn levels n) ↔ (In n notes ⊎ HeldIn old n)
+HoldTogether merged levels notes old = (n : NoteParts) → (has_note merged n ⊎ HeldIn levels n) ↔ (has_note notes n ⊎ HeldIn old n)
 
 -- the last that waited was merged
 pub merged_one : (merged next last notes : List NoteParts) (levels rest old : List (List NoteParts))
-    → HoldTogether merged levels notes old → levels ≡ rest ++ last ∷ [] → next ≡ union_of last merged
+    → HoldTogether merged levels notes old → levels ≡ rest ++ last ∷ [] → next ≡ reduced_union last merged
     → HoldTogether next rest notes old
 merged_one merged next last notes levels rest old h is e n =
-    let waits = subst (λ ls. HeldIn ls n ↔ In n last ⊎ HeldIn rest n) (sym is) (held_last rest last n) in
-    let both = subst (λ ns. In n ns ↔ In n last ⊎ In n merged) (sym e) (union_of-IsUnion last merged n) in (
+    let waits = subst (λ ls. HeldIn ls n ↔ has_note last n ⊎ HeldIn rest n) (sym is) (held_last rest last n) in
+    let both = subst (λ ns. has_note ns n ↔ has_note last n ⊎ has_note merged n) (sym e) (reduced_union-IsUnion last merged n) in (
       λ k. (h n).0 (elim k [
         | inl a ↦ elim (both.0 a) [ inl b ↦ inr (waits.1 (inl b)) | inr c ↦ inl c ]
         | inr d ↦ inr (waits.1 (inr d))
@@ -45,23 +44,27 @@ merged_one merged next last notes levels rest old h is e n =
 pub merged_last : (merged notes : List NoteParts) (levels new old : List (List NoteParts))
     → HoldTogether merged levels notes old → new ≡ levels ++ merged ∷ [] → Adds old notes new
 merged_last merged notes levels new old h is n =
-    let waits = subst (λ ls. HeldIn ls n ↔ In n merged ⊎ HeldIn levels n) (sym is) (held_last levels merged n) in
+    let waits = subst (λ ls. HeldIn ls n ↔ has_note merged n ⊎ HeldIn levels n) (sym is) (held_last levels merged n) in
     (λ k. (h n).0 (waits.0 k), λ k. waits.1 ((h n).1 k))
+
+-- A content of no note has none.
+pub none_has : (n : NoteParts) → has_note [] n → ⊥
+none_has n h = elim h [ inl k ↦ k | inr k ↦ k.1 ]
 
 -- What the views hold and what is left of the catalogues hold the notes of all.
 abbrev pub IsMerging : List (List NoteParts) → List NoteParts → List (List NoteParts) → Type 0
-IsMerging all views left = (n : NoteParts) → (In n views ⊎ HeldIn left n) ↔ HeldIn all n
+IsMerging all views left = (n : NoteParts) → (has_note views n ⊎ HeldIn left n) ↔ HeldIn all n
 
 pub merging_first : (all left : List (List NoteParts)) → left ≡ all → IsMerging all [] left
 merging_first all left is n =
-    subst (λ ls. (In n [] ⊎ HeldIn ls n) ↔ HeldIn all n) (sym is)
-    (λ h. elim h [ inl k ↦ absurd k | inr k ↦ k ], λ h. inr h)
+    subst (λ ls. (has_note [] n ⊎ HeldIn ls n) ↔ HeldIn all n) (sym is)
+    (λ h. elim h [ inl k ↦ absurd (none_has n k) | inr k ↦ k ], λ h. inr h)
 
 pub merging_one : (all left rest : List (List NoteParts)) (views next notes : List NoteParts)
-    → IsMerging all views left → left ≡ notes ∷ rest → next ≡ union_of views notes → IsMerging all next rest
+    → IsMerging all views left → left ≡ notes ∷ rest → next ≡ reduced_union views notes → IsMerging all next rest
 merging_one all left rest views next notes m is e n =
-    let waits = subst (λ ls. (In n views ⊎ HeldIn ls n) ↔ HeldIn all n) is (m n) in
-    let both = subst (λ ns. In n ns ↔ In n views ⊎ In n notes) (sym e) (union_of-IsUnion views notes n) in (
+    let waits = subst (λ ls. (has_note views n ⊎ HeldIn ls n) ↔ HeldIn all n) is (m n) in
+    let both = subst (λ ns. has_note ns n ↔ has_note views n ⊎ has_note notes n) (sym e) (reduced_union-IsUnion views notes n) in (
       λ k. waits.0 (elim k [
         | inl a ↦ elim (both.0 a) [ inl b ↦ inl b | inr c ↦ inr (inl c) ]
         | inr d ↦ inr (inr d)
@@ -74,12 +77,13 @@ merging_one all left rest views next notes m is e n =
 
 -- all are merged, into a catalogue that can be counted
 pub merging_last : (all left : List (List NoteParts)) (views : List NoteParts) → IsMerging all views left → left ≡ []
-    → IsCatalogue views → length views < 2 ^ 64 → HoldsAll all views
-merging_last all left views m is c fits = record {
+    → IsCatalogue views → length views < 2 ^ 64 → AreReduced views → HoldsAll all views
+merging_last all left views m is c fits r = record {
   catalogue = c;
   fits = fits;
+  reduced = r;
   members = λ n.
-      let waits = subst (λ ls. (In n views ⊎ HeldIn ls n) ↔ HeldIn all n) is (m n) in (
+      let waits = subst (λ ls. (has_note views n ⊎ HeldIn ls n) ↔ HeldIn all n) is (m n) in (
         λ k. waits.0 (inl k),
         λ k. elim (waits.1 k) [ inl b ↦ b | inr d ↦ absurd d ],
       );

@@ -5,8 +5,10 @@ use Rattle.std.specs.Prelude.{IfSome, IsSome, unwrap_or}
 use Rattle.std.proofs.lemmas.List.{length-take, take_all}
 use Rattle.mxf_klv.specs.Parts.{NoteParts}
 use Rattle.mxf_klv.specs.PieceReading.{notes_in}
+use Rattle.mxf_klv.specs.Note.{head_note}
 use Rattle.mxf_klv.specs.Rising.{In}
-use Rattle.mxf_catalogue.specs.Content.{union_of, union_of-IsUnion}
+use Rattle.mxf_catalogue.specs.Content.{has_note, reduced_union, reduced_union-IsUnion}
+use Rattle.mxf_catalogue.specs.Reduced.{IsKnown}
 use Rattle.mxf_catalogue.specs.CatalogueFile.{IsFileOf, IsRefused}
 use Rattle.mxf_catalogue.specs.declared.catalogue.file.FileFault.{FileFault}
 use Rattle.mxf_catalogue.proofs.FileLaws.{one_content}
@@ -16,6 +18,7 @@ use Rattle.mxf_tool.specs.declared.gathering.part.Part.TheVariants.{Piece, Saved
 use Rattle.mxf_tool.specs.declared.gathering.report.PieceReport.{PieceReport}
 use Rattle.mxf_tool.specs.declared.gathering.fault.PartFault.{PartFault}
 use Rattle.mxf_tool.specs.Levels.{Adds}
+use Rattle.mxf_tool.proofs.LevelLaws.{none_has}
 use Rattle.mxf_tool.specs.Gathering.{HandsNote, IsSavedAs, IsSavedFault, TakesPart, Tells, bytes_of, piece_limit}
 use Rattle.mxf_tool.specs.Gathering.{saved_limit}
 
@@ -53,8 +56,8 @@ saved_taken left from old new notes reports h a t =
     let k = known (left from) h t in
     record {
       members = λ n. (
-        λ i. elim ((a n).0 i) [ inl p ↦ inl (notes, k.1, p) | inr q ↦ inr q ],
-        λ i. (a n).1 (elim i [ inl p ↦ inl (same n p k.1) | inr q ↦ inr q ]),
+        λ i. elim ((a n).0 i) [ inl p ↦ inl (handed n k.1 p) | inr q ↦ inr q ],
+        λ i. (a n).1 (elim i [ inl p ↦ inl (held n k.1 p) | inr q ↦ inr q ]),
       );
       reported = sym (append-nil reports);
       good = (notes, k);
@@ -67,10 +70,18 @@ saved_taken left from old new notes reports h a t =
     same : (n : NoteParts) → HandsNote left (Saved from) n → IsFileOf (bytes_of left from) notes → In n notes
     same n (others, f, j) g = subst (In n) (one_content (bytes_of left from) others notes f g) j
 
+    handed : (n : NoteParts) → IsFileOf (bytes_of left from) notes → has_note notes n
+        → IsKnown head_note (HandsNote left (Saved from)) n
+    handed n g p = elim p [ inl i ↦ inl (notes, g, i) | inr s ↦ inr (s.0, (notes, g, s.1), s.2) ]
+
+    held : (n : NoteParts) → IsFileOf (bytes_of left from) notes → IsKnown head_note (HandsNote left (Saved from)) n
+        → has_note notes n
+    held n g p = elim p [ inl h ↦ inl (same n h g) | inr s ↦ inr (s.0, same s.0 s.1 g, s.2) ]
+
 -- a piece was taken
 pub piece_taken : {R : Type 0} (left : R → Option (List ℕ)) (offset : ℕ) (from : R) (old new : List (List NoteParts))
     (notes : List NoteParts) (report : Report) (reports more : List PieceReport)
-    → IfSome (left from) (λ all. notes ≡ union_of [] (notes_in offset (take piece_limit all)))
+    → IfSome (left from) (λ all. notes ≡ reduced_union [] (notes_in offset (take piece_limit all)))
     → IfSome (left from) (λ all. report ≡ report_of offset (take piece_limit all))
     → Adds old notes new → more ≡ reports ++ record { offset = offset; report = report } ∷ []
     → Tells left (Piece offset from) → TakesPart left (Piece offset from) old new reports more
@@ -79,10 +90,11 @@ piece_taken left offset from old new notes report reports more h r a m t =
     let s = reported (left from) r t in
     record {
       members = λ n.
-          let all = subst (λ (ns : List NoteParts). In n ns ↔ In n [] ⊎ In n (notes_in offset (take piece_limit (bytes_of left from)))) (sym k)
-          (union_of-IsUnion [] (notes_in offset (take piece_limit (bytes_of left from))) n) in (
+          let noted = notes_in offset (take piece_limit (bytes_of left from)) in
+          let all = subst (λ (ns : List NoteParts). has_note ns n ↔ has_note [] n ⊎ has_note noted n) (sym k)
+          (reduced_union-IsUnion [] noted n) in (
             λ i. elim ((a n).0 i) [
-              | inl p ↦ elim (all.0 p) [ inl q ↦ absurd q | inr q ↦ inl q ]
+              | inl p ↦ elim (all.0 p) [ inl q ↦ absurd (none_has n q) | inr q ↦ inl q ]
               | inr q ↦ inr q
             ],
             λ i. (a n).1 (elim i [ inl p ↦ inl (all.1 (inr p)) | inr q ↦ inr q ]),
@@ -91,8 +103,8 @@ piece_taken left offset from old new notes report reports more h r a m t =
       good = tt;
     }
   where
-    known : (o : Option (List ℕ)) → IfSome o (λ all. notes ≡ union_of [] (notes_in offset (take piece_limit all)))
-        → IsSome o → notes ≡ union_of [] (notes_in offset (take piece_limit (unwrap_or o [])))
+    known : (o : Option (List ℕ)) → IfSome o (λ all. notes ≡ reduced_union [] (notes_in offset (take piece_limit all)))
+        → IsSome o → notes ≡ reduced_union [] (notes_in offset (take piece_limit (unwrap_or o [])))
     known None h t = absurd cc
     known (Some all) h t = h
 

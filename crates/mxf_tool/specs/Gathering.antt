@@ -4,7 +4,9 @@ use Rattle.std.specs.Prelude.{◌≡◌, ◌≢◌, ℕ, ◌<◌, ◌≤◌, ◌
 use Rattle.std.specs.Prelude.{IsSome, unwrap_or, Option, Some}
 use Rattle.std.specs.List.{AllByRecursion, flat_map}
 use Rattle.mxf_klv.specs.Parts.{NoteParts}
+use Rattle.mxf_klv.specs.Note.{head_note}
 use Rattle.mxf_klv.specs.Rising.{In}
+use Rattle.mxf_catalogue.specs.Reduced.{IsKnown}
 use Rattle.mxf_klv.specs.PieceReading.{notes_in}
 use Rattle.mxf_catalogue.specs.CatalogueFile.{IsFileOf, IsRefused}
 use Rattle.mxf_catalogue.specs.declared.catalogue.file.FileFault.TheVariants as files
@@ -69,8 +71,8 @@ module _ {R : Type 0} (left : R → Option (List ℕ)) where
   abbrev pub piece_of : R → List ℕ
   piece_of from = take piece_limit (bytes_of from)
 
-  -- The part hands the note: a piece the notes of its packets, a saved catalogue those of the content that it is the
-  -- file of.
+  -- The part hands the note: a piece the notes of its packets and its head, a saved catalogue those of the content that
+  -- it is the file of.
   abbrev pub HandsNote : Part R → NoteParts → Type 0
   HandsNote (Piece offset from) n = In n (notes_in offset (piece_of from))
   HandsNote (Saved from) n = (notes : List NoteParts) × IsFileOf (bytes_of from) notes × In n notes
@@ -99,9 +101,10 @@ module _ {R : Type 0} (left : R → Option (List ℕ)) where
   HasFault fault (Piece offset from) = IsOfAnyPart fault
   HasFault fault (Saved from) = IsSavedFault (bytes_of from) fault
 
-  -- A part was taken: its notes stand among those that wait to be merged, and its reports behind those before.
+  -- A part was taken: its notes, and the heads that they tell, stand among those that wait to be merged, and its reports
+  -- behind those before.
   pub record TakesPart (p : Part R) (old new : List (List NoteParts)) (before after : List PieceReport) : Type 0 where
-    pub members : (n : NoteParts) → HeldIn new n ↔ HandsNote p n ⊎ HeldIn old n
+    pub members : (n : NoteParts) → HeldIn new n ↔ IsKnown head_note (HandsNote p) n ⊎ HeldIn old n
     pub reported : after ≡ before ++ reports_in p
     pub good : IsGood p
 

@@ -1,5 +1,5 @@
 -- The texts of the lines that are printed (this project's profile). Numbers are decimal.
-use Rattle.std.specs.Prelude.{ℕ, Bool, true, false, List, [], ◌∷◌, ◌++◌, codes, Option, None, Some}
+use Rattle.std.specs.Prelude.{ℕ, Bool, true, false, List, [], ◌∷◌, ◌++◌, codes, not, Option, None, Some}
 use Rattle.std.specs.Fmt.{decimal}
 use Rattle.mxf_klv.specs.Kind.{kind_of}
 use Rattle.mxf_klv.specs.Parts.{NoteParts}
@@ -47,11 +47,17 @@ abbrev pub dispute_mark : Bool → List ℕ
 dispute_mark false = []
 dispute_mark true = codes " disputed"
 
--- The line of a note: its offset, its kind, the width and value of its length, its key, and whether it is disputed.
+-- The word behind the key where the note is a head.
+abbrev pub head_mark : Bool → List ℕ
+head_mark false = []
+head_mark true = codes " head"
+
+-- The line of a note: its offset, its kind, the width and value of its length, its key, whether it is a head, and whether
+-- it is disputed.
 unfoldable pub note_line : NoteParts → Bool → List ℕ
 note_line n disputed =
     line_of (codes "note" ∷ decimal n.offset ∷ kind_name (kind_of n.key) ∷ decimal n.width ∷ decimal n.length
-    ∷ (hex_of n.key ++ dispute_mark disputed) ∷ [])
+    ∷ (hex_of n.key ++ (head_mark (not n.whole) ++ dispute_mark disputed)) ∷ [])
 
 -- The line of a gap: where it begins and ends.
 unfoldable pub gap_line : Run → List ℕ

@@ -2,7 +2,7 @@
 ghost use Rattle.std.specs.Prelude.{◌≡◌, ◌<◌, ◌≤◌, ℕ, List, [], length, take, IfOk, IfErr, IfSome, OnOk};
 ghost use Rattle.mxf_klv.specs.Parts.{NoteParts};
 ghost use Rattle.mxf_klv.specs.PieceReading.{notes_in};
-ghost use Rattle.mxf_catalogue.specs.Content.{union_of};
+ghost use Rattle.mxf_catalogue.specs.Content.{reduced_union};
 ghost use Rattle.mxf_catalogue.specs.CatalogueFile.{IsRefused};
 ghost use Rattle.mxf_views.specs.Headline.{IsTheRun};
 ghost use Rattle.mxf_read.specs.Absorbs.{report_of};
@@ -53,7 +53,7 @@ fn read_piece<R: Read>(alloc: Global, offset: u64, from: &mut R) -> Result<Piece
     ensures report { IfOk result (λ p. IfSome (R.remaining from.old) (λ all.
         p.report ≡ report_of offset (take piece_limit all))) }
     ensures notes { IfOk result (λ p. IfSome (R.remaining from.old) (λ all.
-        p.notes ≡ union_of [] (notes_in offset (take piece_limit all)))) }
+        p.notes ≡ reduced_union [] (notes_in offset (take piece_limit all)))) }
     ensures fault { IfErr result IsOfAnyPart }
 {
     let mut views = Views::new(alloc);

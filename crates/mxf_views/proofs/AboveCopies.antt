@@ -18,7 +18,7 @@ use Rattle.mxf_klv.specs.Rising.{In}
 use Rattle.mxf_sets.specs.PackReadings.{pack_at}
 use Rattle.mxf_sets.specs.PartitionPack.{PartitionPackParts}
 use Rattle.mxf_sets.specs.Readable.{read_as}
-use Rattle.mxf_klv.specs.Note.{keeps}
+use Rattle.mxf_klv.specs.Note.{keeps_value}
 use Rattle.mxf_catalogue.specs.Disputes.{lies_in}
 use Rattle.mxf_catalogue.proofs.Lists.{length-filter_le}
 use Rattle.mxf_views.specs.Spans.{is_in_one}
@@ -105,7 +105,7 @@ unfolding partition_at
 no_fill n p e fill =
     let placed = λ (pack : PartitionPackParts). the_partition n pack in
     let none : option_map placed (read_as (pack_at kinds.Fill) n) ≡ None =
-    elim (keeps n.key n.length) as (λ b. option_map placed (if b then result_ok (pack_at kinds.Fill n.held) else None) ≡ None) [
+    elim (keeps_value n) as (λ b. option_map placed (if b then result_ok (pack_at kinds.Fill n.held) else None) ≡ None) [
       | true ↦ refl
       | false ↦ refl
     ] in

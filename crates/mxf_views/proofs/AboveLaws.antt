@@ -10,18 +10,20 @@ use Rattle.std.proofs.lemmas.List.Elements.{filter-append}
 use Rattle.mxf_klv.specs.Parts.{NoteParts}
 use Rattle.mxf_klv.specs.Note.{IsNote, end_of, note_cmp}
 use Rattle.mxf_klv.specs.Rising.{In}
-use Rattle.mxf_catalogue.specs.Content.{IsCatalogue, IsContent, union_of}
+use Rattle.mxf_catalogue.specs.Content.{AreReduced, IsCatalogue, IsContent, reduced_union, union_of}
 use Rattle.mxf_catalogue.specs.Parts.{Covers}
 use Rattle.mxf_catalogue.specs.Runs.{AreMaximal, LiesIn}
 use Rattle.mxf_catalogue.specs.declared.run.Run.{Run}
 use Rattle.mxf_catalogue.specs.Disputes.{IsClear, clear_notes, lies_in}
 use Rattle.mxf_catalogue.proofs.ContentLaws.{In-union_of, IsContent-union_of, all-In, all_from_In, same_content}
 use Rattle.mxf_catalogue.proofs.DisputeLaws.{In-clear_notes, IsContent-clear_notes, same_bool}
+use Rattle.mxf_catalogue.proofs.HeadLaws.{reduced-same, reduced_union-is}
 use Rattle.mxf_catalogue.proofs.Fronts.{In-append}
 use Rattle.mxf_views.specs.Copies.{zone_of}
 use Rattle.mxf_views.specs.Kept.{offsets_where}
 use Rattle.mxf_views.specs.KeptAbove.{MeetAt, clear_from}
-use Rattle.mxf_views.proofs.KeptRoom.{clear_in_one}
+use Rattle.mxf_views.proofs.GapsLaws.{covers_first}
+use Rattle.mxf_views.proofs.KeptRoom.{clear_in_union}
 use Rattle.mxf_views.proofs.Members.{both, false_if, parts}
 
 -- ---- lists
@@ -67,10 +69,11 @@ module _ (b : ℕ) (own other : List NoteParts) (m : MeetAt b own other) where
   pub clear_in_both : (n : NoteParts) → IsClear n (union_of own other) ↔ (IsClear n own ⊎ IsClear n other)
   clear_in_both n =
       let all = λ (x : NoteParts). In-union_of x own other in (
-        λ c. clear_in_one own other n c,
+        λ c. clear_in_union own other n c,
         λ h. elim h [
           | inl c ↦ record {
             held = (all n).1 (inl c.held);
+            whole = c.whole;
             undisputed = λ d. elim ((all d.0).0 d.1) [
               | inl k ↦ c.undisputed (d.0, k, d.2, d.3)
               | inr k ↦ nothing_shared n d.0 c.held k d.3.0 d.3.2.from d.3.2.before d.3.1.from
@@ -78,6 +81,7 @@ module _ (b : ℕ) (own other : List NoteParts) (m : MeetAt b own other) where
           }
           | inr c ↦ record {
             held = (all n).1 (inr c.held);
+            whole = c.whole;
             undisputed = λ d. elim ((all d.0).0 d.1) [
               | inl k ↦ nothing_shared d.0 n k c.held d.3.0 d.3.1.from d.3.1.before d.3.2.from
               | inr k ↦ c.undisputed (d.0, k, d.2, d.3)
@@ -88,6 +92,26 @@ module _ (b : ℕ) (own other : List NoteParts) (m : MeetAt b own other) where
 
   pub union_is_content : IsContent (union_of own other)
   union_is_content = IsContent-union_of own other m.own_is.content
+
+  -- None of the one is the head of one of the other.
+  pub union_is_reduced : reduced_union own other ≡ union_of own other
+  union_is_reduced =
+      let all = λ (x : NoteParts). In-union_of x own other in
+      let apart : (x y : NoteParts) → In x own → In y other → x.offset ≡ y.offset → ⊥ = λ x y h k e.
+      nothing_shared x y h k x.offset (omega arith) (omega arith) (omega (arith, e)) in
+      reduced_union-is own other m.own_is.content m.own_reduced
+      ∙ reduced-same (union_of own other) union_is_content (λ x h k.
+      let same : k.0.offset ≡ x.offset = ap (λ (y : NoteParts). y.offset) k.3 in
+      elim ((all x).0 h) [
+        | inl i ↦ elim ((all k.0).0 k.1) [
+          | inl j ↦ m.own_reduced x i (k.0, j, k.2, k.3)
+          | inr j ↦ apart x k.0 i j (sym same)
+        ]
+        | inr i ↦ elim ((all k.0).0 k.1) [
+          | inl j ↦ apart k.0 x j i same
+          | inr j ↦ m.other_reduced x i (k.0, j, k.2, k.3)
+        ]
+      ])
 
   pub clear_of_both : clear_notes (union_of own other) ≡ clear_notes own ++ clear_notes other
   clear_of_both =
@@ -210,20 +234,17 @@ all_above end runs rest first m e l offset h =
 pub none_above : (end : ℕ) (runs : List Run) → runs ≡ [] → (offset : ℕ) → LiesIn runs offset → end ≤ offset
 none_above end runs e offset h = absurd (subst (In h.0) e h.1)
 
-pub meet_at : (end : ℕ) (own other : List NoteParts) (runs others : List Run) → IsCatalogue own → IsCatalogue other
-    → Covers runs own → Covers others other
-    → ((bound : ℕ) → end ≤ bound ↔ ((offset : ℕ) → LiesIn runs offset → offset < bound))
+pub meet_at : (end : ℕ) (own other : List NoteParts) (others : List Run) → IsCatalogue own → IsCatalogue other
+    → AreReduced own → AreReduced other → Covers others other
+    → ((bound : ℕ) → end ≤ bound ↔ ((n : NoteParts) → In n own → end_of n ≤ bound))
     → ((offset : ℕ) → LiesIn others offset → end ≤ offset) → MeetAt end own other
-meet_at end own other runs others c d covers covers_other greatest above = record {
+meet_at end own other others c d p q covers_other greatest above = record {
   own_is = c;
   other_is = d;
-  ends = λ n h.
-      let last : n.offset ≤ end_of n - 1 = omega arith in
-      let b : end_of n - 1 + 1 ≤ end_of n = omega arith in
-      let l = (greatest end).0 (omega arith) (end_of n - 1)
-      ((covers (end_of n - 1)).1 (n, h, record { from = last; before = b })) in omega (arith, l);
+  own_reduced = p;
+  other_reduced = q;
+  ends = (greatest end).0 (omega arith);
   begins = λ n h.
       let first : n.offset ≤ n.offset = omega arith in
-      let b : n.offset + 1 ≤ end_of n = omega arith in
-      above n.offset ((covers_other n.offset).1 (n, h, record { from = first; before = b }));
+      above n.offset ((covers_other n.offset).1 (n, h, record { from = first; before = covers_first n }));
 }

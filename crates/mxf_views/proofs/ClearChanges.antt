@@ -1,5 +1,5 @@
 -- What adding a note changes among the clear notes, and among the offsets where clear notes of a kind stand.
-use Rattle.std.proofs.Common.{◌≡◌, ℕ, ◌+◌, ◌<◌, ◌≤◌, ◌⊎◌, Bool, true, false, List, [], ◌∷◌, Some, None, refl}
+use Rattle.std.proofs.Common.{◌≡◌, ◌≢◌, ℕ, ◌+◌, ◌<◌, ◌≤◌, ◌⊎◌, Bool, true, false, List, [], ◌∷◌, Some, None, refl}
 use Rattle.std.proofs.Common.{sym, ap, subst, ◌∙◌, inl, inr, arith, leb-true, le-leb, eqb-true, eq-eqb}
 use Rattle.std.specs.declared.cmp.Ordering.TheVariants.{Less}
 use Rattle.std.specs.Prelude.{◌↔◌, ◌||◌, cond, ◌==◌, nat_le, nat_lt, filter, find, map, max, min}
@@ -8,16 +8,16 @@ use Rattle.std.specs.Ordering.{nat_cmp}
 use Rattle.std.proofs.lemmas.Bool.{ltb-true, lt-ltb, ltb-false}
 use Rattle.std.proofs.lemmas.Cmp.{nat_cmp_total}
 use Rattle.mxf_klv.specs.Parts.{NoteParts}
-use Rattle.mxf_klv.specs.Note.{end_of}
+use Rattle.mxf_klv.specs.Note.{end_of, head_note}
 use Rattle.mxf_klv.specs.Rising.{In, IsRising, with_one, same_from_members, In-with_one, IsRising-with_one}
-use Rattle.mxf_catalogue.specs.Content.{IsContent, with_note}
+use Rattle.mxf_catalogue.specs.Content.{AreReduced, IsContent, has_note, reduced_with}
 use Rattle.mxf_catalogue.specs.Disputes.{IsClear, SharesByte, clear_notes}
-use Rattle.mxf_catalogue.proofs.ContentLaws.{In-with_note, IsContent-with_note}
+use Rattle.mxf_catalogue.proofs.HeadLaws.{In-reduced_with, IsContent-reduced_with, same_note}
 use Rattle.mxf_catalogue.proofs.DisputeLaws.{In-clear_notes, clear-alone, clear_at-found, is_byte_shared-SharesByte, SharesByte-symmetric}
 use Rattle.mxf_catalogue.proofs.Lists.{In-filter, In-map, all-filter, found-In, none_found}
 use Rattle.mxf_catalogue.specs.Parts.{touching}
 use Rattle.mxf_catalogue.proofs.MovedLaws.{rising_apart}
-use Rattle.mxf_catalogue.proofs.PartLaws.{In-touching}
+use Rattle.mxf_catalogue.proofs.PartLaws.{In-touching, with_whole}
 use Rattle.mxf_catalogue.proofs.SpanLaws.{AreApart-clear_notes, AreApart-filter}
 use Rattle.mxf_views.specs.Kept.{IsHull, followed, is_outside, notes_at, offsets_where, passes, stands_clear}
 use Rattle.mxf_views.proofs.Members.{both}
@@ -31,26 +31,52 @@ shares m n l h = (is_byte_shared-SharesByte m n).0 (both _ _ (lt-ltb m.offset (e
 shared_low : (m n : NoteParts) → SharesByte m n → m.offset < end_of n
 shared_low m n s = let a : m.offset ≤ s.0 = s.1.from in let b : s.0 + 1 ≤ end_of n = s.2.before in omega arith
 
+-- The note is neither one of the reduced notes nor the head of one.
+abbrev pub IsNew : NoteParts → List NoteParts → Type 0
+IsNew x notes = AreReduced notes × (has_note notes x → ⊥)
+
+pub new_is_none : (x n : NoteParts) (notes : List NoteParts) → IsNew x notes → In n notes → x ≢ n
+new_is_none x n notes new h e = new.1 (inl (subst (λ (y : NoteParts). In y notes) (sym e) h))
+
+pub In-with_new : (x m : NoteParts) (notes : List NoteParts) → IsNew x notes
+    → In m (reduced_with x notes) ↔ ((m ≡ x) ⊎ (In m notes × (m ≢ head_note x)))
+In-with_new x m notes new = In-reduced_with m x notes new.0 new.1
+
+-- A whole note is no head.
+pub no_head : (x n : NoteParts) → n.whole ≡ true → n ≢ head_note x
+no_head x n w e = let h : n.whole ≡ false = ap (λ (y : NoteParts). y.whole) e in cc (w, h)
+
 -- Clear with a new note are: the note itself, where it is, and what was clear and shares no byte with it.
-pub clear_after : (x : NoteParts) (notes : List NoteParts) → (In x notes → ⊥) → (n : NoteParts)
-    → IsClear n (with_note x notes)
-    ↔ (((n ≡ x) × IsClear x (with_note x notes)) ⊎ (IsClear n notes × (SharesByte x n → ⊥)))
+pub clear_after : (x : NoteParts) (notes : List NoteParts) → IsNew x notes → (n : NoteParts)
+    → IsClear n (reduced_with x notes)
+    ↔ (((n ≡ x) × IsClear x (reduced_with x notes)) ⊎ (IsClear n notes × (SharesByte x n → ⊥)))
 clear_after x notes new n =
-    let all = λ (m : NoteParts). In-with_note m x notes in (
+    let all = λ (m : NoteParts). In-with_new x m notes new in
+    let added = (all x).1 (inl refl) in (
       λ c. elim ((all n).0 c.held) [
-        | inl e ↦ inl (e, subst (λ (y : NoteParts). IsClear y (with_note x notes)) e c)
-        | inr k ↦ inr (
-          record { held = k; undisputed = λ d. c.undisputed (d.0, (all d.0).1 (inr d.1), d.2, d.3) },
-          λ s. c.undisputed (x, (all x).1 (inl refl), (λ e. new (subst (λ (y : NoteParts). In y notes) (sym e) k)), s),
-        )
+        | inl e ↦ inl (e, subst (λ (y : NoteParts). IsClear y (reduced_with x notes)) e c)
+        | inr k ↦ (
+            let other = new_is_none x n notes new k.0 in
+            inr (
+              record {
+                held = k.0;
+                whole = c.whole;
+                undisputed = λ d. elim (same_note d.0 (head_note x)) [
+                  | inl e ↦ c.undisputed (x, added, other, with_whole x n (subst (λ (y : NoteParts). SharesByte y n) e d.3))
+                  | inr ne ↦ c.undisputed (d.0, (all d.0).1 (inr (d.1, ne)), d.2, d.3)
+                ];
+              },
+              λ s. c.undisputed (x, added, other, s),
+            ))
       ],
       λ h. elim h [
-        | inl p ↦ subst (λ (y : NoteParts). IsClear y (with_note x notes)) (sym p.0) p.1
+        | inl p ↦ subst (λ (y : NoteParts). IsClear y (reduced_with x notes)) (sym p.0) p.1
         | inr q ↦ record {
-          held = (all n).1 (inr q.0.held);
+          held = (all n).1 (inr (q.0.held, no_head x n q.0.whole));
+          whole = q.0.whole;
           undisputed = λ d. elim ((all d.0).0 d.1) [
             | inl e ↦ q.1 (subst (λ (y : NoteParts). SharesByte y n) e d.3)
-            | inr k ↦ q.0.undisputed (d.0, k, d.2, d.3)
+            | inr k ↦ q.0.undisputed (d.0, k.0, d.2, d.3)
           ];
         }
       ],
@@ -242,21 +268,21 @@ rising-filter p (x ∷ xs) r =
 
 -- Where the new note is clear and of the kind, its offset joins those outside.
 pub offsets_with : (test : NoteParts → Bool) (x : NoteParts) (notes : List NoteParts) (start end : ℕ)
-    → IsContent notes → (In x notes → ⊥) → IsHull x notes start end → IsClear x (with_note x notes)
+    → IsContent notes → IsNew x notes → IsHull x notes start end → IsClear x (reduced_with x notes)
     → test x ≡ true
     → with_one nat_cmp x.offset (filter (is_outside start end) (offsets_where test notes))
-    ≡ offsets_where test (with_note x notes)
+    ≡ offsets_where test (reduced_with x notes)
 offsets_with test x notes start end r new h clear kind =
     let before = filter (is_outside start end) (offsets_where test notes) in
     let rising = rising-filter (is_outside start end) (offsets_where test notes) (offsets_rise test notes r) in
     same_from_members nat_cmp_total nat_cmp-IsAntisymmetric (with_one nat_cmp x.offset before)
-    (offsets_where test (with_note x notes))
+    (offsets_where test (reduced_with x notes))
     (IsRising-with_one nat_cmp_total nat_cmp-IsAntisymmetric x.offset before rising)
-    (offsets_rise test (with_note x notes) (IsContent-with_note x notes r)) (λ o.
+    (offsets_rise test (reduced_with x notes) (IsContent-reduced_with x notes r)) (λ o.
     let one = In-with_one nat_cmp_total nat_cmp-IsAntisymmetric o x.offset before in
     let kept = In-filter (is_outside start end) (offsets_where test notes) o in
     let old = In-offsets test notes o in
-    let all = In-offsets test (with_note x notes) o in (
+    let all = In-offsets test (reduced_with x notes) o in (
       λ k. elim (one.0 k) [
         | inl e ↦ all.1 (x, clear, kind, e)
         | inr i ↦ (
@@ -278,17 +304,17 @@ offsets_with test x notes start end r new h clear kind =
 
 -- Else those outside are all.
 pub offsets_without : (test : NoteParts → Bool) (x : NoteParts) (notes : List NoteParts) (start end : ℕ)
-    → IsContent notes → (In x notes → ⊥) → IsHull x notes start end
-    → (IsClear x (with_note x notes) → test x ≡ true → ⊥)
-    → filter (is_outside start end) (offsets_where test notes) ≡ offsets_where test (with_note x notes)
+    → IsContent notes → IsNew x notes → IsHull x notes start end
+    → (IsClear x (reduced_with x notes) → test x ≡ true → ⊥)
+    → filter (is_outside start end) (offsets_where test notes) ≡ offsets_where test (reduced_with x notes)
 offsets_without test x notes start end r new h none =
     let before = filter (is_outside start end) (offsets_where test notes) in
-    same_from_members nat_cmp_total nat_cmp-IsAntisymmetric before (offsets_where test (with_note x notes))
+    same_from_members nat_cmp_total nat_cmp-IsAntisymmetric before (offsets_where test (reduced_with x notes))
     (rising-filter (is_outside start end) (offsets_where test notes) (offsets_rise test notes r))
-    (offsets_rise test (with_note x notes) (IsContent-with_note x notes r)) (λ o.
+    (offsets_rise test (reduced_with x notes) (IsContent-reduced_with x notes r)) (λ o.
     let kept = In-filter (is_outside start end) (offsets_where test notes) o in
     let old = In-offsets test notes o in
-    let all = In-offsets test (with_note x notes) o in (
+    let all = In-offsets test (reduced_with x notes) o in (
       λ i.
           let b = kept.0 i in
           let s = old.0 b.0 in
@@ -307,12 +333,12 @@ offsets_without test x notes start end r new h none =
 
 -- So they are what follows an arrival.
 pub offsets_follow : (test : NoteParts → Bool) (x : NoteParts) (notes : List NoteParts) (start end : ℕ)
-    → IsContent notes → (In x notes → ⊥) → IsHull x notes start end
-    → followed (stands_clear test (with_note x notes) x.offset) x.offset start end (offsets_where test notes)
-    ≡ offsets_where test (with_note x notes)
+    → IsContent notes → IsNew x notes → IsHull x notes start end
+    → followed (stands_clear test (reduced_with x notes) x.offset) x.offset start end (offsets_where test notes)
+    ≡ offsets_where test (reduced_with x notes)
 offsets_follow test x notes start end r new h =
-    let after = with_note x notes in
-    let held = (In-with_note x x notes).1 (inl refl) in
+    let after = reduced_with x notes in
+    let held = (In-with_new x x notes new).1 (inl refl) in
     let offsets = offsets_where test notes in
     elim (find (λ n. n.offset == x.offset) (clear_notes after)) as (λ o.
     find (λ n. n.offset == x.offset) (clear_notes after) ≡ o

@@ -1,13 +1,13 @@
 -- What leaves a copy of the header metadata as it is.
-use Rattle.std.proofs.Common.{◌≡◌, ℕ, ◌+◌, ◌<◌, ◌≤◌, ◌⊎◌, true, List, Some, None, sym, ap, subst}
+use Rattle.std.proofs.Common.{◌≡◌, ℕ, ◌+◌, ◌<◌, ◌≤◌, ◌⊎◌, true, List, Some, None, sym, ap}
 use Rattle.std.proofs.Common.{◌∙◌, inl, inr, arith, leb-true}
 use Rattle.std.specs.Prelude.{◌↔◌, ◌==◌, count_by}
 use Rattle.mxf_klv.specs.Parts.{NoteParts}
 use Rattle.mxf_klv.specs.Note.{end_of}
 use Rattle.mxf_klv.specs.Rising.{In}
-use Rattle.mxf_catalogue.specs.Content.{IsContent, with_note}
+use Rattle.mxf_catalogue.specs.Content.{IsContent, reduced_with}
 use Rattle.mxf_catalogue.specs.Disputes.{IsClear, SharesByte, clear_notes, lies_in}
-use Rattle.mxf_catalogue.proofs.ContentLaws.{In-with_note, same_content}
+use Rattle.mxf_catalogue.proofs.ContentLaws.{same_content}
 use Rattle.mxf_catalogue.proofs.DisputeLaws.{In-clear_notes, IsContent-clear_notes, IsContent-filter}
 use Rattle.mxf_catalogue.proofs.Lists.{In-filter}
 use Rattle.mxf_views.specs.Partitions.{PartitionParts}
@@ -15,6 +15,7 @@ use Rattle.mxf_views.specs.Copies.{IsStart, copy_from, copy_of, is_fill_note, is
 use Rattle.mxf_views.specs.Copies.{is_readable_primer, start_of, zone_of}
 use Rattle.mxf_views.specs.Spans.{sizes}
 use Rattle.mxf_views.proofs.StartLaws.{fill_note, parts, primer_note, start_is}
+use Rattle.mxf_views.proofs.ClearChanges.{IsNew, clear_after}
 use Rattle.mxf_views.proofs.StartWalk.{none_there}
 
 -- The clear notes that have a byte from one offset up to another are the same among both.
@@ -118,20 +119,11 @@ no_copy_stays before after p r t e f =
     ap (copy_from (clear_notes after) p) none ∙ ap (copy_from (clear_notes before) p) (sym e)
 
 -- A new note, and the clear notes that it makes disputed, leave the clear notes elsewhere.
-pub same_clear : (x : NoteParts) (notes : List NoteParts) (low high : ℕ) → (In x notes → ⊥)
+pub same_clear : (x : NoteParts) (notes : List NoteParts) (low high : ℕ) → IsNew x notes
     → ((n : NoteParts) → (n ≡ x) ⊎ (IsClear n notes × SharesByte x n) → n.offset < high → low < end_of n → ⊥)
-    → SameClear low high notes (with_note x notes)
+    → SameClear low high notes (reduced_with x notes)
 same_clear x notes low high new far n l h =
-    let all = λ (m : NoteParts). In-with_note m x notes in (
-      λ c. record {
-        held = (all n).1 (inr c.held);
-        undisputed = λ d. elim ((all d.0).0 d.1) [
-          | inl e ↦ far n (inr (c, subst (λ (y : NoteParts). SharesByte y n) e d.3)) l h
-          | inr k ↦ c.undisputed (d.0, k, d.2, d.3)
-        ];
-      },
-      λ c. record {
-        held = elim ((all n).0 c.held) [ inl e ↦ absurd (far n (inl e) l h) | inr k ↦ k ];
-        undisputed = λ d. c.undisputed (d.0, (all d.0).1 (inr d.1), d.2, d.3);
-      },
+    let after = clear_after x notes new n in (
+      λ c. after.1 (inr (c, λ s. far n (inr (c, s)) l h)),
+      λ c. elim (after.0 c) [ inl p ↦ absurd (far n (inl p.0) l h) | inr q ↦ q.0 ],
     )

@@ -10,9 +10,9 @@ use Rattle.mxf_klv.specs.Parts.{NoteParts}
 use Rattle.mxf_klv.specs.Kind.{kind_of}
 use Rattle.mxf_klv.specs.Note.{end_of}
 use Rattle.mxf_klv.specs.Rising.{In, SameMembers}
-use Rattle.mxf_catalogue.specs.Content.{IsContent, with_note}
+use Rattle.mxf_catalogue.specs.Content.{IsContent, reduced_with}
 use Rattle.mxf_catalogue.specs.Disputes.{IsClear, SharesByte, clear_notes}
-use Rattle.mxf_catalogue.proofs.ContentLaws.{In-with_note, IsContent-with_note}
+use Rattle.mxf_catalogue.proofs.HeadLaws.{IsContent-reduced_with}
 use Rattle.mxf_catalogue.proofs.DisputeLaws.{In-clear_notes, SharesByte-same_offset, clear-alone}
 use Rattle.mxf_catalogue.proofs.Lists.{In-filter, In-map, all-filter, find-only, found-In, none_found}
 use Rattle.mxf_catalogue.proofs.Places.{In-at}
@@ -22,7 +22,7 @@ use Rattle.mxf_views.specs.Copies.{CopiesRise, copies_of, copy_from, copy_of, ha
 use Rattle.mxf_views.specs.Copies.{is_primer, is_readable_primer, start_of}
 use Rattle.mxf_views.specs.Kept.{IsHull, can_bring_start, copies_followed, copy_by, has_some_metadata, states_metadata, is_outside, may_change, or_itself, renewed, with_copy, with_found}
 use Rattle.mxf_views.specs.Partitions.{PartitionParts, pack_of, partition_at, partitions_of}
-use Rattle.mxf_views.proofs.ClearChanges.{clear_after, outside_iff}
+use Rattle.mxf_views.proofs.ClearChanges.{In-with_new, IsNew, clear_after, new_is_none, no_head, outside_iff}
 use Rattle.mxf_views.proofs.CopyChanges.{copy_stays, no_copy_stays, same_clear}
 use Rattle.mxf_views.proofs.CopyLaws.{copies_rise, copy_there}
 use Rattle.mxf_views.proofs.Members.{all-each, each-all, false_if, parts}
@@ -79,10 +79,10 @@ nothing_comes x notes start end low high h apart n k l g =
     elim apart [ inl q ↦ omega (arith, a, b, q, l, g) | inr q ↦ omega (arith, a, b, q, l, g) ]
 
 with_start_stays : (x : NoteParts) (notes : List NoteParts) (start end zone : ℕ) (p : PartitionParts)
-    → IsContent notes → (In x notes → ⊥) → IsHull x notes start end → In p (partitions_of notes)
+    → IsContent notes → IsNew x notes → IsHull x notes start end → In p (partitions_of notes)
     → 0 < p.pack.numbers.header_byte_count → start_of p.end (clear_notes notes) ≡ Some zone
     → (end ≤ p.offset) ⊎ (p.pack.numbers.header_byte_count ≤ start - zone)
-    → copy_of (clear_notes (with_note x notes)) p ≡ copy_of (clear_notes notes) p
+    → copy_of (clear_notes (reduced_with x notes)) p ≡ copy_of (clear_notes notes) p
 with_start_stays x notes start end zone p r new h there some s apart =
     let bytes = p.pack.numbers.header_byte_count in
     let a = of_note notes p there in
@@ -92,7 +92,7 @@ with_start_stays x notes start end zone p r new h there some s apart =
       | inl q ↦ inl (omega (arith, q, behind, at))
       | inr q ↦ inr (omega (arith, q, some))
     ] in
-    copy_stays notes (with_note x notes) p zone r (IsContent-with_note x notes r) some s
+    copy_stays notes (reduced_with x notes) p zone r (IsContent-reduced_with x notes r) some s
     (same_clear x notes p.end (zone + bytes) new (nothing_comes x notes start end p.end (zone + bytes) h far))
 
 brings_by_fill : (x : NoteParts) → is_fill_note x ≡ true → can_bring_start x ≡ true
@@ -109,10 +109,10 @@ brings_by_primer x e =
     ]
 
 without_start_stays : (x : NoteParts) (notes : List NoteParts) (p : PartitionParts) → IsContent notes
-    → (In x notes → ⊥) → can_bring_start x ≡ false → start_of p.end (clear_notes notes) ≡ None
-    → copy_of (clear_notes (with_note x notes)) p ≡ copy_of (clear_notes notes) p
+    → IsNew x notes → can_bring_start x ≡ false → start_of p.end (clear_notes notes) ≡ None
+    → copy_of (clear_notes (reduced_with x notes)) p ≡ copy_of (clear_notes notes) p
 without_start_stays x notes p r new none s =
-    no_copy_stays notes (with_note x notes) p r (IsContent-with_note x notes r) s (λ n c k.
+    no_copy_stays notes (reduced_with x notes) p r (IsContent-reduced_with x notes r) s (λ n c k.
     elim ((clear_after x notes new n).0 c) [
       | inr q ↦ q.0
       | inl q ↦ (
@@ -142,10 +142,10 @@ pub record Becomes (notes after : List NoteParts) (c d : CopyInfo) : Type 0 wher
   pub copy : d ≡ copy_of (clear_notes after) partition
 
 pub becomes : (x : NoteParts) (notes : List NoteParts) (start end : ℕ) (c : CopyInfo) → IsContent notes
-    → (In x notes → ⊥) → IsHull x notes start end → In c (copies_of notes) → is_outside start end c.partition ≡ true
-    → Becomes notes (with_note x notes) c (renewed (with_note x notes) start end (can_bring_start x) c)
+    → IsNew x notes → IsHull x notes start end → In c (copies_of notes) → is_outside start end c.partition ≡ true
+    → Becomes notes (reduced_with x notes) c (renewed (reduced_with x notes) start end (can_bring_start x) c)
 becomes x notes start end c r new h k out =
-    let after = with_note x notes in
+    let after = reduced_with x notes in
     let brings = can_bring_start x in
     let a = of_partition notes c k in
     let p = a.partition in
@@ -349,16 +349,16 @@ kept_copies_rise notes start end brings cs r =
 
 -- ---- all copies
 
-module _ (x : NoteParts) (notes : List NoteParts) (start end : ℕ) (r : IsContent notes) (new : In x notes → ⊥)
+module _ (x : NoteParts) (notes : List NoteParts) (start end : ℕ) (r : IsContent notes) (new : IsNew x notes)
     (h : IsHull x notes start end) where
   abbrev pub after : List NoteParts
-  after = with_note x notes
+  after = reduced_with x notes
 
   abbrev pub kept : List CopyInfo
   kept = filter (λ c. is_outside start end c.partition) (copies_of notes)
 
   abbrev pub renew : CopyInfo → CopyInfo
-  renew = renewed (with_note x notes) start end (can_bring_start x)
+  renew = renewed (reduced_with x notes) start end (can_bring_start x)
 
   each : (c : CopyInfo) → In c kept → Becomes notes after c (renew c)
   each c k =
@@ -415,7 +415,7 @@ module _ (x : NoteParts) (notes : List NoteParts) (start end : ℕ) (r : IsConte
   pub copies_without : ((p : PartitionParts) → IsClear x after → partition_at x ≡ Some p → has_metadata p ≡ true → ⊥)
       → map renew kept ≡ copies_of after
   copies_without none =
-      same_copies (map renew kept) (copies_of after) rises (copies_rise after (IsContent-with_note x notes r)) (λ d. (
+      same_copies (map renew kept) (copies_of after) rises (copies_rise after (IsContent-reduced_with x notes r)) (λ d. (
         λ k. (kept_is d k).0,
         λ k. elim (is_kept d k) [ inl i ↦ i | inr q ↦ absurd (none q.0 q.1 q.2 q.3) ],
       ))
@@ -434,12 +434,12 @@ module _ (x : NoteParts) (notes : List NoteParts) (start end : ℕ) (r : IsConte
       let same : x.offset ≡ n.note.offset = sym at ∙ sym e ∙ s.2 ∙ n.offset in
       clear.undisputed (
         n.note,
-        (In-with_note n.note x notes).1 (inr old.held),
-        (λ q. new (subst (λ (y : NoteParts). In y notes) q old.held)),
+        (In-with_new x n.note notes new).1 (inr (old.held, no_head x n.note old.whole)),
+        (λ q. new_is_none x n.note notes new old.held (sym q)),
         SharesByte-same_offset n.note x (sym same),
       ) in
       same_copies (with_copy c (map renew kept)) (copies_of after) (rise-with_copy c (map renew kept) rises other)
-      (copies_rise after (IsContent-with_note x notes r)) (λ d.
+      (copies_rise after (IsContent-reduced_with x notes r)) (λ d.
       let w = In-with_copy c d (map renew kept) in (
         λ k. elim (w.0 k) [
           | inl e ↦ subst (λ (y : CopyInfo). In y (copies_of after)) (sym e) (has_copy after p there states)
@@ -455,8 +455,8 @@ module _ (x : NoteParts) (notes : List NoteParts) (start end : ℕ) (r : IsConte
       one_read a b e f = let s : Some a ≡ Some b = sym e ∙ f in cc (s)
 
   -- So they are what follows an arrival.
-  pub copies_follow : copies_followed (with_note x notes) x.offset start end (can_bring_start x) (copies_of notes)
-      ≡ copies_of (with_note x notes)
+  pub copies_follow : copies_followed (reduced_with x notes) x.offset start end (can_bring_start x) (copies_of notes)
+      ≡ copies_of (reduced_with x notes)
   copies_follow =
       let found = λ (d : CopyInfo). d.partition == x.offset in
       elim (find found (copies_of after)) as (λ o. find found (copies_of after) ≡ o
@@ -473,7 +473,7 @@ module _ (x : NoteParts) (notes : List NoteParts) (start end : ℕ) (r : IsConte
             let n = of_note after a.partition a.there in
             let clear = (In-clear_notes n.note after).0 n.clear in
             let at : n.note.offset ≡ x.offset = sym n.offset ∙ sym a.offset ∙ eqb-true c.partition x.offset f.1 in
-            let same : n.note ≡ x = clear-alone n.note x after clear ((In-with_note x x notes).1 (inl refl)) at in
+            let same : n.note ≡ x = clear-alone n.note x after clear ((In-with_new x x notes new).1 (inl refl)) at in
             let own : IsClear x after = subst (λ (y : NoteParts). IsClear y after) same clear in
             ap (λ (d : CopyInfo). with_copy d (map renew kept)) a.copy
             ∙ copies_with a.partition own (ap partition_at (sym same) ∙ n.read) a.states)

@@ -6,7 +6,7 @@ use Rattle.std.proofs.lemmas.Slice.Eq.{bytes_eq-Decides}
 use Rattle.mxf_klv.specs.declared.kinds.Kind.{Kind}
 use Rattle.mxf_klv.specs.declared.kinds.Kind.TheVariants as kinds
 use Rattle.mxf_klv.specs.Parts.{NoteParts}
-use Rattle.mxf_klv.specs.Note.{end_of, keeps}
+use Rattle.mxf_klv.specs.Note.{end_of, keeps_value}
 use Rattle.mxf_klv.specs.Kind.{kind_of}
 use Rattle.mxf_klv.specs.Rising.{In}
 use Rattle.mxf_sets.specs.declared.record.FieldFault.{FieldFault}
@@ -40,13 +40,13 @@ reads_it uid r e = ap (reads_uid uid) e ∙ (bytes_eq-Decides uid uid).1 refl
 has_uid_iff : (uid : List ℕ) (n : NoteParts) → IsTrue (has_uid uid n) ↔ HasUid uid n
 unfolding has_uid
 has_uid_iff uid n = (
-  λ h. let p = parts (keeps n.key n.length)
+  λ h. let p = parts (keeps_value n)
       (reads_uid uid (instance_uid_at n.held)) h in record {
         kept = p.0;
         own = reads_says uid
             (instance_uid_at n.held) p.1;
       },
-  λ h. both (keeps n.key n.length) (reads_uid uid (instance_uid_at n.held)) h.kept
+  λ h. both (keeps_value n) (reads_uid uid (instance_uid_at n.held)) h.kept
       (reads_it uid (instance_uid_at n.held) h.own),
 )
 
@@ -148,7 +148,7 @@ pub wanted_kind : (w : Wanted) (k : Kind) → (fits w k ≡ true) ↔ IsWanted w
 wanted_kind w k = (fits_says w k, fits_tells w k)
 
 readable_as : (w : Wanted) (n : NoteParts)
-    → ((keeps n.key n.length && is_readable w n.held) ≡ true) ↔ IsReadableAs w n
+    → ((keeps_value n && is_readable w n.held) ≡ true) ↔ IsReadableAs w n
 readable_as Storage n = ok_readable storage_at n
 readable_as Identification n = ok_readable identification_at n
 readable_as Package n = ok_readable package_at n
@@ -164,7 +164,7 @@ at_only sets w uid n o =
     let kind = wanted_kind w (kind_of n.key) in
     let fit = fits w (kind_of n.key) in
     let value = readable_as w n in
-    let read = keeps n.key n.length && is_readable w n.held in
+    let read = keeps_value n && is_readable w n.held in
     elim fit as (λ b. fit ≡ b → IsTarget sets w uid (target_by b read n.offset)) [
       | false ↦ λ e. (n, o, refl, λ k. let t = kind.1 k in cc (t, e))
       | true ↦ λ e. elim read as (λ b. read ≡ b → IsTarget sets w uid (target_by true b n.offset)) [
@@ -174,19 +174,19 @@ at_only sets w uid n o =
     ] refl
 
 only_at : (w : Wanted) (n : NoteParts) (f r : Bool) → fits w (kind_of n.key) ≡ f
-    → (keeps n.key n.length && is_readable w n.held) ≡ r → target_at w n ≡ target_by f r n.offset
+    → (keeps_value n && is_readable w n.held) ≡ r → target_at w n ≡ target_by f r n.offset
 unfolding target_at
 only_at w n f r e g = λ i. target_by (e i) (g i) n.offset
 
 wrong_kind : (w : Wanted) (n : NoteParts) → ¬ IsWanted w (kind_of n.key) → target_at w n ≡ targets.WrongKind n.offset
 wrong_kind w n k =
     let e = false_if (fits w (kind_of n.key)) (λ t. k ((wanted_kind w (kind_of n.key)).0 t)) in
-    only_at w n false (keeps n.key n.length && is_readable w n.held) e refl
+    only_at w n false (keeps_value n && is_readable w n.held) e refl
 
 unreadable : (w : Wanted) (n : NoteParts) → IsWanted w (kind_of n.key) → ¬ IsReadableAs w n
     → target_at w n ≡ targets.Unreadable n.offset
 unreadable w n k r =
-    let f = false_if (keeps n.key n.length && is_readable w n.held) (λ t. r ((readable_as w n).0 t)) in
+    let f = false_if (keeps_value n && is_readable w n.held) (λ t. r ((readable_as w n).0 t)) in
     only_at w n true false ((wanted_kind w (kind_of n.key)).1 k) f
 
 target_from : (sets : List NoteParts) (w : Wanted) (uid : List ℕ) (ws : List NoteParts) → Picks sets uid ws

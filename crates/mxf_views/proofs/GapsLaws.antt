@@ -1,101 +1,123 @@
--- The gaps of a content are its maximal ranges of offsets that lie in no note.
-use Rattle.std.proofs.Common.{◌≡◌, ℕ, ◌+◌, ◌<◌, ◌≤◌, ◌⊎◌, true, false, List, [], ◌∷◌, refl, ap, subst}
+-- The gaps of a content are its maximal ranges of offsets that no note covers.
+use Rattle.std.proofs.Common.{◌≡◌, ℕ, ◌+◌, ◌-◌, ◌^◌, ◌<◌, ◌≤◌, ◌⊎◌, true, false, List, [], ◌∷◌, refl, ap, subst, length}
 use Rattle.std.proofs.Common.{inl, inr, arith}
 use Rattle.std.specs.Prelude.{◌↔◌, max, cond, nat_lt}
 use Rattle.std.proofs.lemmas.Bool.{ltb-true, ltb-false}
 use Rattle.mxf_klv.specs.Parts.{NoteParts}
-use Rattle.mxf_klv.specs.Note.{IsInSpan, end_of}
+use Rattle.mxf_klv.specs.Note.{IsCovered, IsNote, covered_end, end_of, greatest_end}
 use Rattle.mxf_klv.specs.NoteOrder.{note_total}
-use Rattle.mxf_klv.specs.Rising.{less_in}
-use Rattle.mxf_catalogue.specs.Content.{IsContent}
+use Rattle.mxf_klv.specs.Rising.{In, less_in}
+use Rattle.mxf_catalogue.specs.Content.{IsCatalogue, IsContent}
+use Rattle.mxf_catalogue.proofs.ContentLaws.{all-In}
 use Rattle.mxf_catalogue.proofs.SpanLaws.{offset_le}
 use Rattle.mxf_catalogue.specs.declared.run.Run.{Run}
-use Rattle.mxf_views.specs.Gaps.{gaps_from, gaps_of, IsGap, AreGaps}
+use Rattle.mxf_views.specs.Gaps.{gaps_from, gaps_of, AreGaps}
 use Rattle.mxf_catalogue.specs.Runs.{IsWithin, LiesIn, AreMaximal}
+
+-- a note covers its first byte, and nothing above its end
+pub covers_first : (n : NoteParts) → n.offset + 1 ≤ covered_end n
+covers_first n = elim n.whole as (λ b. n.offset + 1 ≤ cond b (end_of n) (n.offset + 16 + n.width)) [
+  | true ↦ omega arith
+  | false ↦ omega arith
+]
+
+pub covers_below_end : (n : NoteParts) → covered_end n ≤ end_of n
+covers_below_end n = elim n.whole as (λ b. cond b (end_of n) (n.offset + 16 + n.width) ≤ end_of n) [
+  | true ↦ omega arith
+  | false ↦ omega arith
+]
 
 -- the runs rise from the offset that is reached, none begins at or above the ends
 AreMaximal-lower : (low high : ℕ) (runs : List Run) → low ≤ high → AreMaximal high runs → AreMaximal low runs
 AreMaximal-lower low high [] l m = tt
 AreMaximal-lower low high (r ∷ runs) l m = let a : high ≤ r.start = m.0 in (omega arith, m.1, m.2)
 
-maximal_from : (notes : List NoteParts) (reached : ℕ) → AreMaximal reached (gaps_from reached notes)
-maximal_from [] reached = tt
-maximal_from (n ∷ notes) reached =
-    let top = max reached (end_of n) in
-    let ih = maximal_from notes top in
+maximal_from : (notes : List NoteParts) (reached top : ℕ) → AreMaximal reached (gaps_from reached top notes)
+maximal_from [] reached top =
+    elim (nat_lt reached top) as (λ b. nat_lt reached top ≡ b
+    → AreMaximal reached (cond b (record { start = reached; end = top } ∷ []) [])) [
+      | true ↦ λ t. (omega arith, ltb-true reached top t, tt)
+      | false ↦ λ t. tt
+    ] refl
+maximal_from (n ∷ notes) reached top =
+    let high = max reached (covered_end n) in
+    let rest = gaps_from high (max top (end_of n)) notes in
+    let ih = maximal_from notes high (max top (end_of n)) in
     elim (nat_lt reached n.offset) as (λ b. nat_lt reached n.offset ≡ b
-    → AreMaximal reached (cond b (record { start = reached; end = n.offset } ∷ gaps_from top notes)
-    (gaps_from top notes))) [
+    → AreMaximal reached (cond b (record { start = reached; end = n.offset } ∷ rest) rest)) [
       | true ↦ λ t.
           let l : reached < n.offset = ltb-true reached n.offset t in
-          let h : n.offset + 1 ≤ top = omega arith in
-          (omega arith, l, AreMaximal-lower (n.offset + 1) top (gaps_from top notes) h ih)
-      | false ↦ λ t. let h : reached ≤ top = omega arith in AreMaximal-lower reached top (gaps_from top notes) h ih
+          let h : n.offset + 1 ≤ high = omega (arith, covers_first n) in
+          (omega arith, l, AreMaximal-lower (n.offset + 1) high rest h ih)
+      | false ↦ λ t. let h : reached ≤ high = omega arith in AreMaximal-lower reached high rest h ih
     ] refl
 
--- a gap above what is reached
-record IsGapAbove (reached : ℕ) (notes : List NoteParts) (offset : ℕ) : Type 0 where
+-- a gap above what is reached, below the greatest end so far or that of a note to come
+record IsGapAbove (reached top : ℕ) (notes : List NoteParts) (offset : ℕ) : Type 0 where
   above : reached ≤ offset
-  gap : IsGap notes offset
+  below : (offset < top) ⊎ ((n : NoteParts) × In n notes × (offset < end_of n))
+  in_none : (n : NoteParts) → In n notes → IsCovered n offset → ⊥
 
-fewer : (n : NoteParts) (notes : List NoteParts) (reached offset : ℕ)
-    → IsGapAbove (max reached (end_of n)) notes offset → IsGapAbove reached (n ∷ notes) offset
-fewer n notes reached offset g =
-    let a : max reached (end_of n) ≤ offset = g.above in
+fewer : (n : NoteParts) (notes : List NoteParts) (reached top offset : ℕ)
+    → IsGapAbove (max reached (covered_end n)) (max top (end_of n)) notes offset
+    → IsGapAbove reached top (n ∷ notes) offset
+fewer n notes reached top offset g =
+    let a : max reached (covered_end n) ≤ offset = g.above in
     record {
       above = omega arith;
-      gap = record {
-        below = (g.gap.below.0, inr g.gap.below.1, g.gap.below.2);
-        in_none = λ m h s. elim h [
-          | inl e ↦
-              (let t : IsInSpan n offset = subst
-              (λ (x : NoteParts). IsInSpan x offset) e s in let u : offset + 1 ≤ end_of n = t.before in absurd
-              (omega arith))
-          | inr k ↦ g.gap.in_none m k s
-        ];
-      };
+      below = elim g.below [
+        | inl l ↦ elim (nat_lt offset top) as (λ b. nat_lt offset top ≡ b
+            → (offset < top) ⊎ ((m : NoteParts) × In m (n ∷ notes) × (offset < end_of m))) [
+              | true ↦ λ t. inl (ltb-true offset top t)
+              | false ↦ λ t. let h : top ≤ offset = ltb-false offset top t in inr (n, inl refl, omega (arith, l, h))
+            ] refl
+        | inr s ↦ inr (s.0, inr s.1, s.2)
+      ];
+      in_none = λ m h s. elim h [
+        | inl e ↦
+            (let t : IsCovered n offset = subst (λ (x : NoteParts). IsCovered x offset) e s in
+            let u : offset + 1 ≤ covered_end n = t.before in absurd (omega arith))
+        | inr k ↦ g.in_none m k s
+      ];
     }
 
--- an offset that lies in no note, above what is reached, lies before the first note or above its end
-before_or_after : (n : NoteParts) (notes : List NoteParts) (reached offset : ℕ) → IsGapAbove reached (n ∷ notes) offset
-    → (offset < n.offset) ⊎ IsGapAbove (max reached (end_of n)) notes offset
-before_or_after n notes reached offset g =
+-- an offset that no note covers, above what is reached, lies before the first note or above what that covers
+before_or_after : (n : NoteParts) (notes : List NoteParts) (reached top offset : ℕ)
+    → IsGapAbove reached top (n ∷ notes) offset
+    → (offset < n.offset) ⊎ IsGapAbove (max reached (covered_end n)) (max top (end_of n)) notes offset
+before_or_after n notes reached top offset g =
     let a : reached ≤ offset = g.above in
-    elim (nat_lt offset n.offset) as (λ b. nat_lt offset n.offset ≡ b
-    → (offset < n.offset) ⊎ IsGapAbove (max reached (end_of n)) notes offset) [
+    let later = IsGapAbove (max reached (covered_end n)) (max top (end_of n)) notes offset in
+    elim (nat_lt offset n.offset) as (λ b. nat_lt offset n.offset ≡ b → (offset < n.offset) ⊎ later) [
       | true ↦ λ t. inl (ltb-true offset n.offset t)
       | false ↦ λ t.
           let l : n.offset ≤ offset = ltb-false offset n.offset t in
-          elim (nat_lt offset (end_of n)) as (λ b. nat_lt offset (end_of n) ≡ b
-          → (offset < n.offset) ⊎ IsGapAbove (max reached (end_of n)) notes offset) [
-            | true ↦ λ u. let r : offset < end_of n = ltb-true offset (end_of n) u in absurd
-                (g.gap.in_none n (inl refl) (record { from = l; before = omega arith }))
+          elim (nat_lt offset (covered_end n)) as (λ b. nat_lt offset (covered_end n) ≡ b
+          → (offset < n.offset) ⊎ later) [
+            | true ↦ λ u. let r : offset < covered_end n = ltb-true offset (covered_end n) u in absurd
+                (g.in_none n (inl refl) (record { from = l; before = omega arith }))
             | false ↦ λ u.
-                let r : end_of n ≤ offset = ltb-false offset (end_of n) u in
+                let r : covered_end n ≤ offset = ltb-false offset (covered_end n) u in
                 inr (record {
                   above = omega arith;
-                  gap = record {
-                    below = (
-                      g.gap.below.0,
-                      elim g.gap.below.1 [
-                        | inl e ↦
-                            (let f = ap end_of e in let w : offset < end_of g.gap.below.0 = g.gap.below.2 in absurd
-                            (omega (arith, f)))
-                        | inr k ↦ k
-                      ],
-                      g.gap.below.2,
-                    );
-                    in_none = λ m h s. g.gap.in_none m (inr h) s;
-                  };
+                  below = elim g.below [
+                    | inl k ↦ inl (omega (arith, k))
+                    | inr s ↦ elim s.1 [
+                      | inl e ↦ (let f = ap end_of e in inl (omega (arith, f, s.2)))
+                      | inr k ↦ inr (s.0, k, s.2)
+                    ]
+                  ];
+                  in_none = λ m h s. g.in_none m (inr h) s;
                 })
           ] refl
     ] refl
 
 -- before the first note of a content is none
-before_first : (n : NoteParts) (notes : List NoteParts) (offset : ℕ) → IsContent (n ∷ notes) → offset < n.offset
-    → IsGap (n ∷ notes) offset
-before_first n notes offset r l = record {
-  below = (n, inl refl, omega arith);
+before_first : (n : NoteParts) (notes : List NoteParts) (reached top offset : ℕ) → IsContent (n ∷ notes)
+    → reached ≤ offset → offset < n.offset → IsGapAbove reached top (n ∷ notes) offset
+before_first n notes reached top offset r a l = record {
+  above = a;
+  below = inr (n, inl refl, omega arith);
   in_none = λ m h s.
       let f : m.offset ≤ offset = s.from in
       elim h [
@@ -105,34 +127,60 @@ before_first n notes offset r l = record {
       ];
 }
 
-offsets_from : (notes : List NoteParts) (reached offset : ℕ) → IsContent notes
-    → LiesIn (gaps_from reached notes) offset ↔ IsGapAbove reached notes offset
-offsets_from [] reached offset r = (λ h. absurd h.1, λ g. absurd g.gap.below.1)
-offsets_from (n ∷ notes) reached offset r =
-    let top = max reached (end_of n) in
-    let ih = offsets_from notes top offset r.1 in
-    elim (nat_lt reached n.offset) as (λ b. nat_lt reached n.offset ≡ b
-    → LiesIn (cond b (record { start = reached; end = n.offset } ∷ gaps_from top notes)
-    (gaps_from top notes)) offset ↔ IsGapAbove reached (n ∷ notes) offset) [
+offsets_from : (notes : List NoteParts) (reached top offset : ℕ) → IsContent notes
+    → LiesIn (gaps_from reached top notes) offset ↔ IsGapAbove reached top notes offset
+offsets_from [] reached top offset r =
+    elim (nat_lt reached top) as (λ b. nat_lt reached top ≡ b
+    → LiesIn (cond b (record { start = reached; end = top } ∷ []) []) offset ↔ IsGapAbove reached top [] offset) [
       | true ↦ λ t. (
         λ h. elim h.1 [
           | inl e ↦
-              let w : IsWithin (record { start = reached; end = n.offset }) offset = subst
-              (λ (x : Run). IsWithin x offset) e h.2 in
+              let w : IsWithin (record { start = reached; end = top }) offset =
+              subst (λ (x : Run). IsWithin x offset) e h.2 in
+              let w0 : reached ≤ offset = w.from in
+              let w1 : offset + 1 ≤ top = w.before in
+              record { above = w0; below = inl (omega (arith, w1)); in_none = λ n k s. k }
+          | inr k ↦ absurd k
+        ],
+        λ g. elim g.below [
+          | inl l ↦ (record { start = reached; end = top }, inl refl, record { from = g.above; before = omega (arith, l) })
+          | inr s ↦ absurd s.1
+        ],
+      )
+      | false ↦ λ t.
+          let le : top ≤ reached = ltb-false reached top t in (
+            λ h. absurd h.1,
+            λ g. elim g.below [
+              | inl l ↦ (let a : reached ≤ offset = g.above in absurd (omega (arith, l)))
+              | inr s ↦ absurd s.1
+            ],
+          )
+    ] refl
+offsets_from (n ∷ notes) reached top offset r =
+    let rest = gaps_from (max reached (covered_end n)) (max top (end_of n)) notes in
+    let ih = offsets_from notes (max reached (covered_end n)) (max top (end_of n)) offset r.1 in
+    elim (nat_lt reached n.offset) as (λ b. nat_lt reached n.offset ≡ b
+    → LiesIn (cond b (record { start = reached; end = n.offset } ∷ rest) rest) offset
+    ↔ IsGapAbove reached top (n ∷ notes) offset) [
+      | true ↦ λ t. (
+        λ h. elim h.1 [
+          | inl e ↦
+              let w : IsWithin (record { start = reached; end = n.offset }) offset =
+              subst (λ (x : Run). IsWithin x offset) e h.2 in
               let w0 : reached ≤ offset = w.from in
               let w1 : offset + 1 ≤ n.offset = w.before in
-              record { above = w0; gap = before_first n notes offset r (omega arith) }
-          | inr k ↦ fewer n notes reached offset (ih.0 (h.0, k, h.2))
+              before_first n notes reached top offset r w0 (omega arith)
+          | inr k ↦ fewer n notes reached top offset (ih.0 (h.0, k, h.2))
         ],
-        λ g. elim (before_or_after n notes reached offset g) [
+        λ g. elim (before_or_after n notes reached top offset g) [
           | inl l ↦ (record { start = reached; end = n.offset }, inl refl, record { from = g.above; before = omega arith })
           | inr k ↦ let w = ih.1 k in (w.0, inr w.1, w.2)
         ],
       )
       | false ↦ λ t.
           let le : n.offset ≤ reached = ltb-false reached n.offset t in (
-            λ h. fewer n notes reached offset (ih.0 h),
-            λ g. elim (before_or_after n notes reached offset g) [
+            λ h. fewer n notes reached top offset (ih.0 h),
+            λ g. elim (before_or_after n notes reached top offset g) [
               | inl l ↦
                   (let a : reached ≤ offset = g.above in absurd (omega arith))
               | inr k ↦ ih.1 k
@@ -142,7 +190,52 @@ offsets_from (n ∷ notes) reached offset r =
 
 pub gaps_are : (notes : List NoteParts) → IsContent notes → AreGaps notes (gaps_of notes)
 gaps_are notes r = record {
-  maximal = maximal_from notes 0;
-  offsets = λ offset. let o = offsets_from notes 0 offset r in
-      (λ h. (o.0 h).gap, λ g. o.1 (record { above = omega arith; gap = g }));
+  maximal = maximal_from notes 0 0;
+  offsets = λ offset. let o = offsets_from notes 0 0 offset r in (
+    λ h. let g = o.0 h in record {
+      below = elim g.below [ inl l ↦ absurd (omega (arith, l)) | inr s ↦ s ];
+      in_none = g.in_none;
+    },
+    λ g. o.1 (record { above = omega arith; below = inr g.below; in_none = g.in_none }),
+  );
 }
+
+-- ---- how many there are
+
+-- maximal runs have a byte each
+pub has_byte : (low : ℕ) (runs : List Run) (r : Run) → AreMaximal low runs → In r runs → r.start < r.end
+has_byte low [] r m h = absurd h
+has_byte low (s ∷ runs) r m (inl e) =
+    let a : s.start < s.end = m.1 in
+    let b : r.start ≡ s.start = ap (λ (x : Run). x.start) e in
+    let c : r.end ≡ s.end = ap (λ (x : Run). x.end) e in omega arith
+has_byte low (s ∷ runs) r m (inr h) = has_byte (s.end + 1) runs r m.2 h
+
+-- maximal runs from an offset on are no more than the offsets up to where they end
+length_maximal : (low high : ℕ) (runs : List Run) → AreMaximal low runs → ((r : Run) → In r runs → r.end ≤ high)
+    → (length runs ≡ 0) ⊎ (low + length runs ≤ high)
+length_maximal low high [] m ends = inl refl
+length_maximal low high (r ∷ runs) m ends =
+    let a : low ≤ r.start = m.0 in
+    let b : r.start < r.end = m.1 in
+    let c : r.end ≤ high = ends r (inl refl) in
+    elim (length_maximal (r.end + 1) high runs m.2 (λ s h. ends s (inr h))) [
+      | inl none ↦ inr (omega (arith, none))
+      | inr some ↦ inr (omega (arith, some))
+    ]
+
+-- so gaps can be counted
+pub few_gaps : (notes : List NoteParts) (gaps : List Run) → IsCatalogue notes → AreGaps notes gaps
+    → length gaps < 2 ^ 64
+few_gaps notes gaps c g =
+    let ends : (r : Run) → In r gaps → r.end ≤ greatest_end = λ r h.
+    let some : r.start < r.end = has_byte 0 gaps r g.maximal h in
+    let from : r.start ≤ r.end - 1 = omega (arith, some) in
+    let before : r.end - 1 + 1 ≤ r.end = omega (arith, some) in
+    let below = ((g.offsets (r.end - 1)).0 (r, h, record { from = from; before = before })).below in
+    let within = (all-In IsNote notes below.0 c.members below.1).within in
+    omega (arith, below.2, within, some) in
+    elim (length_maximal 0 greatest_end gaps g.maximal ends) [
+      | inl none ↦ omega (arith, none)
+      | inr few ↦ omega (arith, few)
+    ]

@@ -5,7 +5,7 @@ use Rattle.std.specs.Prelude.{◌↔◌, ◌&&◌, ◌||◌, ◌==◌, not, is_n
 use Rattle.mxf_klv.specs.declared.kinds.Kind.{Kind}
 use Rattle.mxf_klv.specs.declared.kinds.Kind.TheVariants as kinds
 use Rattle.mxf_klv.specs.Parts.{NoteParts}
-use Rattle.mxf_klv.specs.Note.{keeps}
+use Rattle.mxf_klv.specs.Note.{keeps_value}
 use Rattle.mxf_klv.specs.Kind.{kind_of}
 use Rattle.mxf_klv.specs.Rising.{In}
 use Rattle.mxf_sets.specs.PackReadings.{primer_at}
@@ -82,15 +82,15 @@ whole_says bytes = (
       (eq-eqb (length (left_of bytes)) 0 (ap length e)),
 )
 
-raw_readable : (n : NoteParts) → ((keeps n.key n.length && is_some (whole_items n.held)) ≡ true)
+raw_readable : (n : NoteParts) → ((keeps_value n && is_some (whole_items n.held)) ≡ true)
     ↔ IsReadableSet kinds.RawSet n
 raw_readable n = (
-  λ h. let s = parts (keeps n.key n.length) (is_some (whole_items n.held)) h in (s.0, (whole_says n.held).0 s.1),
-  λ s. both (keeps n.key n.length) (is_some (whole_items n.held)) s.0 ((whole_says n.held).1 s.1),
+  λ h. let s = parts (keeps_value n) (is_some (whole_items n.held)) h in (s.0, (whole_says n.held).0 s.1),
+  λ s. both (keeps_value n) (is_some (whole_items n.held)) s.0 ((whole_says n.held).1 s.1),
 )
 
 set_readable : (k : Kind) (n : NoteParts) → (is_primer k || is_set k) ≡ true
-    → ((keeps n.key n.length && reads_value k n.held) ≡ true) ↔ IsReadableSet k n
+    → ((keeps_value n && reads_value k n.held) ≡ true) ↔ IsReadableSet k n
 set_readable kinds.Primer n h = ok_readable primer_at n
 set_readable kinds.Preface n h = ok_readable preface_at n
 set_readable kinds.Identification n h = ok_readable identification_at n
@@ -125,7 +125,7 @@ unfolding is_unreadable_set
 unreadable_set n =
     let kind = kind_of n.key in
     let some = is_primer kind || is_set kind in
-    let read = keeps n.key n.length && reads_value kind n.held in (
+    let read = keeps_value n && reads_value kind n.held in (
       λ h.
           let s = parts some (not read) h in
           ((metadata_kind kind).0 s.0, λ k. if_not read s.1 ((set_readable kind n s.0).1 k)),
@@ -149,9 +149,9 @@ unreadable_segment : (n : NoteParts) → (is_unreadable_segment n ≡ true)
 unfolding is_unreadable_segment
 unreadable_segment n =
     let kind = kind_of n.key in
-    let read = keeps n.key n.length && reads_value kind n.held in
+    let read = keeps_value n && reads_value kind n.held in
     let r = ok_readable segment_at n in
-    let same = λ (e : kind ≡ kinds.Segment). ap (λ (k : Kind). keeps n.key n.length && reads_value k n.held) e in (
+    let same = λ (e : kind ≡ kinds.Segment). ap (λ (k : Kind). keeps_value n && reads_value k n.held) e in (
       λ h.
           let s = parts (is_segment kind) (not read) h in
           let e = (segment_kind kind).0 s.0 in

@@ -17,7 +17,7 @@ use Rattle.std.proofs.lemmas.Cmp.{tied_itself}
 use Rattle.std.proofs.lemmas.List.Sorted.{Contains-permutation, searchable_from_sorted, sum_by-IsPermutation}
 use Rattle.std.proofs.lemmas.Slice.Eq.{bytes_eq-Decides}
 use Rattle.mxf_klv.specs.Parts.{NoteParts}
-use Rattle.mxf_klv.specs.Note.{keeps}
+use Rattle.mxf_klv.specs.Note.{keeps_value}
 use Rattle.mxf_klv.specs.Rising.{In}
 use Rattle.mxf_sets.specs.Instance.{instance_uid_at}
 use Rattle.mxf_catalogue.proofs.Lists.{In-filter}
@@ -194,7 +194,7 @@ same_offsets uid [] = refl
 same_offsets uid (n ∷ sets) =
     let ih = same_offsets uid sets in
     let offsets = map (λ (e : Identified). e.offset) in
-    elim (keeps n.key n.length) as (λ k.
+    elim (keeps_value n) as (λ k.
     offsets (filter (is_of uid)
     (cons_option (option_map (λ uid. record { uid = uid; offset = n.offset })
     (if k then result_ok (instance_uid_at n.held) else None)) (filter_map with_uid sets)))

@@ -93,9 +93,12 @@ other_says notes n clear =
 
 not_last_says : (notes : List NoteParts) (n : NoteParts) → (ends_above (end_of n) notes ≡ true) ↔ IsNotLast notes n
 not_last_says notes n =
-    let l = list_any-In (λ (m : NoteParts). nat_lt (end_of n) (end_of m)) notes in (
-      λ h. let s = l.0 h in (s.0, s.1, ltb-true (end_of n) (end_of s.0) s.2),
-      λ s. l.1 (s.0, s.1, lt-ltb (end_of n) (end_of s.0) s.2),
+    let l = list_any-In (λ (m : NoteParts). m.whole && nat_lt (end_of n) (end_of m)) notes in (
+      λ h.
+          let s = l.0 h in
+          let p = parts s.0.whole (nat_lt (end_of n) (end_of s.0)) s.2 in
+          (s.0, s.1, p.0, ltb-true (end_of n) (end_of s.0) p.1),
+      λ s. l.1 (s.0, s.1, both s.0.whole (nat_lt (end_of n) (end_of s.0)) s.2 (lt-ltb (end_of n) (end_of s.0) s.3)),
     )
 
 -- why a random index pack doesn't fit

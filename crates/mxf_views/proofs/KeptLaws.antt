@@ -1,10 +1,7 @@
 -- What is kept of a content, and what an addition makes of it.
 use Rattle.std.proofs.Common.{◌≡◌, ℕ, Bool, List, [], refl, sym, ap, ◌∙◌}
 use Rattle.mxf_klv.specs.Parts.{NoteParts}
-use Rattle.mxf_klv.specs.NoteOrder.{note_cmp-IsAntisymmetric, note_total}
-use Rattle.mxf_klv.proofs.RisingLemmas.{with_one_present}
-use Rattle.mxf_klv.specs.Rising.{In}
-use Rattle.mxf_catalogue.specs.Content.{IsContent, with_note}
+use Rattle.mxf_catalogue.specs.Content.{IsContent, reduced_with}
 use Rattle.mxf_catalogue.specs.Disputes.{clear_notes}
 use Rattle.mxf_views.specs.declared.copy.CopyInfo.{CopyInfo}
 use Rattle.mxf_views.specs.declared.kept.offsets.Placed.TheVariants as kinds
@@ -13,17 +10,13 @@ use Rattle.mxf_views.specs.Kept.{IsHull, KeptParts, kept_of, can_bring_start, co
 use Rattle.mxf_views.specs.Partitions.{partition_at, partitions_among, partitions_of}
 use Rattle.mxf_views.specs.Places.{placed_segment, segments_among, segments_of}
 use Rattle.mxf_views.specs.RandomIndex.{rips_of}
-use Rattle.mxf_views.proofs.ClearChanges.{notes_at_offsets, offsets_follow}
+use Rattle.mxf_views.proofs.ClearChanges.{IsNew, notes_at_offsets, offsets_follow}
 use Rattle.mxf_views.proofs.CopyUpdates.{copies_follow}
 use Rattle.mxf_views.proofs.ListSteps.{filter_map_some}
 
 abbrev pub the_kept : List ℕ → List ℕ → List ℕ → List ℕ → List CopyInfo → KeptParts
 the_kept ps ss rs us cs =
     record { partitions = ps; segments = ss; rips = rs; unreadable = us; copies = cs; reaches = reaches_of cs }
-
--- A note that is held changes nothing.
-pub with_note_held : (n : NoteParts) (notes : List NoteParts) → IsContent notes → In n notes → with_note n notes ≡ notes
-with_note_held n notes r h = with_one_present note_total note_cmp-IsAntisymmetric n notes r h
 
 -- What is kept of no note.
 pub kept_of_none : kept_of [] ≡ the_kept [] [] [] [] []
@@ -45,8 +38,8 @@ same_kept ps qs ss ts rs rt us ut cs ds p s r u c =
 
 -- Once a note has arrived.
 pub kept_after : (x : NoteParts) (notes after : List NoteParts) (start end offset : ℕ) (brings : Bool)
-    (ps ss rs us : List ℕ) (cs : List CopyInfo) → IsContent notes → (In x notes → ⊥) → IsHull x notes start end
-    → after ≡ with_note x notes → offset ≡ x.offset → brings ≡ can_bring_start x → the_kept ps ss rs us cs ≡ kept_of notes
+    (ps ss rs us : List ℕ) (cs : List CopyInfo) → IsContent notes → IsNew x notes → IsHull x notes start end
+    → after ≡ reduced_with x notes → offset ≡ x.offset → brings ≡ can_bring_start x → the_kept ps ss rs us cs ≡ kept_of notes
     → the_kept (followed (stands_clear (is_placed kinds.Partition) after offset) offset start end ps)
     (followed (stands_clear (is_placed kinds.Segment) after offset) offset start end ss)
     (followed (stands_clear (is_placed kinds.RandomIndexPack) after offset) offset start end rs)
@@ -56,8 +49,8 @@ pub kept_after : (x : NoteParts) (notes after : List NoteParts) (start end offse
 kept_after x notes after start end offset brings ps ss rs us cs r new h e at can k =
     let one = λ (kind : _) (os : List ℕ) (same : os ≡ offsets_where (is_placed kind) notes).
     ap (λ a. followed (stands_clear (is_placed kind) a offset) offset start end os) e
-    ∙ ap (λ o. followed (stands_clear (is_placed kind) (with_note x notes) o) o start end os) at
-    ∙ ap (followed (stands_clear (is_placed kind) (with_note x notes) x.offset) x.offset start end) same
+    ∙ ap (λ o. followed (stands_clear (is_placed kind) (reduced_with x notes) o) o start end os) at
+    ∙ ap (followed (stands_clear (is_placed kind) (reduced_with x notes) x.offset) x.offset start end) same
     ∙ offsets_follow (is_placed kind) x notes start end r new h
     ∙ ap (offsets_where (is_placed kind)) (sym e) in
     same_kept _ _ _ _ _ _ _ _ _ _ (one kinds.Partition ps (ap (λ (k : KeptParts). k.partitions) k))
@@ -65,9 +58,9 @@ kept_after x notes after start end offset brings ps ss rs us cs r new h e at can
     (one kinds.RandomIndexPack rs (ap (λ (k : KeptParts). k.rips) k))
     (one kinds.UnreadablePack us (ap (λ (k : KeptParts). k.unreadable) k))
     (ap (λ a. copies_followed a offset start end brings cs) e
-    ∙ ap (λ o. copies_followed (with_note x notes) o start end brings cs) at
-    ∙ ap (λ b. copies_followed (with_note x notes) x.offset start end b cs) can
-    ∙ ap (copies_followed (with_note x notes) x.offset start end (can_bring_start x)) (ap (λ (k : KeptParts). k.copies) k)
+    ∙ ap (λ o. copies_followed (reduced_with x notes) o start end brings cs) at
+    ∙ ap (λ b. copies_followed (reduced_with x notes) x.offset start end b cs) can
+    ∙ ap (copies_followed (reduced_with x notes) x.offset start end (can_bring_start x)) (ap (λ (k : KeptParts). k.copies) k)
     ∙ copies_follow x notes start end r new h ∙ ap copies_of (sym e))
 
 -- The notes at kept offsets are read as the partitions, the segments and the random index packs.

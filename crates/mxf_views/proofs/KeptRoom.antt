@@ -1,12 +1,16 @@
 -- How much room is wanted for what is kept of two contents.
 use Rattle.std.proofs.Common.{Ok, Err, ◌≡◌, ◌≤◌, ◌+◌, ◌⊎◌, ℕ, Bool, true, false, cond, List, [], ◌∷◌, refl, sym, ap, subst, ◌∙◌, inl, inr, arith, length}
-use Rattle.std.specs.Prelude.{count_by, filter}
+use Rattle.std.specs.Prelude.{count_by, filter, not}
 use Rattle.std.proofs.lemmas.List.{length-map}
 use Rattle.mxf_klv.specs.NoteOrder.{note_total}
 use Rattle.mxf_klv.specs.Parts.{NoteParts}
 use Rattle.mxf_klv.specs.Rising.{In, less_in}
-use Rattle.mxf_catalogue.specs.Content.{IsContent, union_of}
-use Rattle.mxf_catalogue.specs.Disputes.{IsClear, clear_notes}
+use Rattle.mxf_catalogue.specs.Content.{AreReduced, IsContent, has_note, reduced_union, union_of}
+use Rattle.mxf_catalogue.specs.Reduced.{is_told}
+use Rattle.mxf_klv.specs.Note.{head_note, note_cmp}
+use Rattle.mxf_catalogue.proofs.HeadLaws.{IsContent-reduced_union, has-reduced_union, reduced_union-is, same_note}
+use Rattle.mxf_catalogue.proofs.PartLaws.{with_whole}
+use Rattle.mxf_catalogue.specs.Disputes.{IsClear, SharesByte, clear_notes}
 use Rattle.mxf_catalogue.proofs.ContentLaws.{In-union_of, IsContent-union_of}
 use Rattle.mxf_catalogue.proofs.DisputeLaws.{In-clear_notes, IsContent-clear_notes, IsContent-filter}
 use Rattle.mxf_catalogue.proofs.Lists.{In-filter}
@@ -20,6 +24,7 @@ use Rattle.mxf_views.specs.declared.kept.Kept.{Kept}
 use Rattle.mxf_views.specs.declared.kept.offsets.Placed.TheVariants as kinds
 use Rattle.mxf_views.specs.Kept.{HasRoom, KeptParts, is_placed, kept_in, kept_of, offsets_where, states_metadata}
 use Rattle.mxf_views.proofs.CopyUpdates.{length-copies_of}
+use Rattle.mxf_views.proofs.ClearChanges.{no_head}
 use Rattle.mxf_views.proofs.Members.{count_by-cons, tally}
 use Rattle.mxf_views.proofs.ReachLaws.{length-reaches_from}
 
@@ -47,13 +52,69 @@ sub_length (x ∷ xs) (y ∷ ys) r s f =
     ]
 
 -- A clear note of the union is a clear note of one of both.
-pub clear_in_one : (a b : List NoteParts) (n : NoteParts) → IsClear n (union_of a b) → IsClear n a ⊎ IsClear n b
-clear_in_one a b n c =
+pub clear_in_union : (a b : List NoteParts) (n : NoteParts) → IsClear n (union_of a b) → IsClear n a ⊎ IsClear n b
+clear_in_union a b n c =
     let all = λ (m : NoteParts). In-union_of m a b in
     elim ((all n).0 c.held) [
-      | inl h ↦ inl (record { held = h; undisputed = λ d. c.undisputed (d.0, (all d.0).1 (inl d.1), d.2, d.3) })
-      | inr h ↦ inr (record { held = h; undisputed = λ d. c.undisputed (d.0, (all d.0).1 (inr d.1), d.2, d.3) })
+      | inl h ↦ inl (record {
+        held = h;
+        whole = c.whole;
+        undisputed = λ d. c.undisputed (d.0, (all d.0).1 (inl d.1), d.2, d.3);
+      })
+      | inr h ↦ inr (record {
+        held = h;
+        whole = c.whole;
+        undisputed = λ d. c.undisputed (d.0, (all d.0).1 (inr d.1), d.2, d.3);
+      })
     ]
+
+-- A whole note that notes have is one of them.
+held_whole : (notes : List NoteParts) (n : NoteParts) → n.whole ≡ true → has_note notes n → In n notes
+held_whole notes n w (inl h) = h
+held_whole notes n w (inr s) = absurd (no_head s.0 n w (sym s.2))
+
+-- A note that is clear among all is clear among some that all have.
+clear_among_some : (some all : List NoteParts) (n : NoteParts) → AreReduced some
+    → ((m : NoteParts) → In m some → has_note all m) → IsClear n all → In n some → IsClear n some
+clear_among_some some all n r has c h = record {
+  held = h;
+  whole = c.whole;
+  undisputed = λ d. elim (has d.0 d.1) [
+    | inl k ↦ c.undisputed (d.0, k, d.2, d.3)
+    | inr s ↦ elim (same_note s.0 n) [
+      | inl e ↦ r d.0 d.1 (n, h, (λ q. d.2 (sym q)), ap head_note (sym e) ∙ s.2)
+      | inr ne ↦ c.undisputed (s.0, s.1, ne, with_whole s.0 n (subst (λ (y : NoteParts). SharesByte y n) (sym s.2) d.3))
+    ]
+  ];
+}
+
+-- So is one of their reduced union.
+pub clear_in_one : (a b : List NoteParts) (n : NoteParts) → AreReduced a → AreReduced b
+    → IsClear n (reduced_union a b) → IsClear n a ⊎ IsClear n b
+clear_in_one a b n p q c =
+    let has = λ (m : NoteParts). has-reduced_union m a b in
+    let all = reduced_union a b in
+    elim ((has n).0 (inl c.held)) [
+      | inl h ↦ inl (clear_among_some a all n p (λ m k. (has m).1 (inl (inl k))) c (held_whole a n c.whole h))
+      | inr h ↦ inr (clear_among_some b all n q (λ m k. (has m).1 (inr (inl k))) c (held_whole b n c.whole h))
+    ]
+
+-- It is no longer than the union.
+pub length-reduced_union : (a b : List NoteParts) → IsContent a → AreReduced a
+    → length (reduced_union a b) ≤ length (union_of a b)
+length-reduced_union a b r p =
+    let same = ap length (reduced_union-is a b r p) in
+    let few = length-filter (λ x. not (is_told note_cmp head_note x (union_of a b))) (union_of a b) in
+    omega (arith, same, few)
+  where
+    length-filter : (p : NoteParts → Bool) (ns : List NoteParts) → length (filter p ns) ≤ length ns
+    length-filter p [] = omega arith
+    length-filter p (n ∷ ns) =
+        let ih = length-filter p ns in
+        elim (p n) as (λ b. length (cond b (n ∷ filter p ns) (filter p ns)) ≤ length (n ∷ ns)) [
+          | true ↦ omega (arith, ih)
+          | false ↦ omega (arith, ih)
+        ]
 
 count_is_length : (test : NoteParts → Bool) (ns : List NoteParts) → count_by test ns ≡ length (filter test ns)
 count_is_length test [] = refl
@@ -73,30 +134,30 @@ pub length-kept_copies : (notes : List NoteParts) → length (copies_of notes) �
 length-kept_copies notes = length-copies_of notes ∙ sym (count_is_length states_metadata (clear_notes notes))
 
 -- So there are no more of them in the union than in both.
-pub count_in_union : (test : NoteParts → Bool) (a b : List NoteParts) → IsContent a → IsContent b
-    → count_by test (clear_notes (union_of a b)) ≤ count_by test (clear_notes a) + count_by test (clear_notes b)
-count_in_union test a b r s =
+pub count_in_union : (test : NoteParts → Bool) (a b : List NoteParts) → IsContent a → IsContent b → AreReduced a
+    → AreReduced b → count_by test (clear_notes (reduced_union a b)) ≤ count_by test (clear_notes a) + count_by test (clear_notes b)
+count_in_union test a b r s p q =
     let xs = filter test (clear_notes a) in
     let ys = filter test (clear_notes b) in
-    let all = filter test (clear_notes (union_of a b)) in
-    let u = IsContent-union_of a b r in
-    let rising = IsContent-filter test (clear_notes (union_of a b)) (IsContent-clear_notes (union_of a b) u) in
+    let all = filter test (clear_notes (reduced_union a b)) in
+    let u = IsContent-reduced_union a b r in
+    let rising = IsContent-filter test (clear_notes (reduced_union a b)) (IsContent-clear_notes (reduced_union a b) u) in
     let rx = IsContent-filter test (clear_notes a) (IsContent-clear_notes a r) in
     let sub = sub_length all (union_of xs ys) rising (IsContent-union_of xs ys rx) (λ n h.
-    let f = (In-filter test (clear_notes (union_of a b)) n).0 h in
-    (In-union_of n xs ys).1 (elim (clear_in_one a b n ((In-clear_notes n (union_of a b)).0 f.0)) [
+    let f = (In-filter test (clear_notes (reduced_union a b)) n).0 h in
+    (In-union_of n xs ys).1 (elim (clear_in_one a b n p q ((In-clear_notes n (reduced_union a b)).0 f.0)) [
       | inl c ↦ inl ((In-filter test (clear_notes a) n).1 ((In-clear_notes n a).1 c, f.1))
       | inr c ↦ inr ((In-filter test (clear_notes b) n).1 ((In-clear_notes n b).1 c, f.1))
     ])) in
     let both = length-union_of xs ys in
     let ca = count_is_length test (clear_notes a) in
     let cb = count_is_length test (clear_notes b) in
-    let cu = count_is_length test (clear_notes (union_of a b)) in
+    let cu = count_is_length test (clear_notes (reduced_union a b)) in
     omega (arith, sub, both, ca, cb, cu)
 
 -- Room for those of another besides what is kept is room for the union.
 pub room_for_both : {E : Type 0} (own other : List NoteParts) (old k : Kept) (result : Result (Unit {0}) E)
-    → IsContent own → IsContent other → kept_in old ≡ kept_of own
+    → IsContent own → IsContent other → AreReduced own → AreReduced other → kept_in old ≡ kept_of own
     → OnOk result (vec_len old.partitions + count_by (is_placed kinds.Partition) (clear_notes other)
     ≤ vec_capacity k.partitions)
     → OnOk result (vec_len old.segments + count_by (is_placed kinds.Segment) (clear_notes other)
@@ -107,15 +168,15 @@ pub room_for_both : {E : Type 0} (own other : List NoteParts) (old k : Kept) (re
     ≤ vec_capacity k.unreadable_packs)
     → OnOk result (vec_len old.copies + count_by states_metadata (clear_notes other) ≤ vec_capacity k.copies)
     → OnOk result (vec_len old.reaches + count_by states_metadata (clear_notes other) ≤ vec_capacity k.reaches)
-    → OnOk result (HasRoom (union_of own other) k)
-room_for_both own other old k (Err e) r s keeps a b c u d f = tt
-room_for_both own other old k (Ok done) r s keeps a b c u d f =
+    → OnOk result (HasRoom (reduced_union own other) k)
+room_for_both own other old k (Err e) r s p q keeps a b c u d f = tt
+room_for_both own other old k (Ok done) r s p q keeps a b c u d f =
     let one = λ (kind : _) (len cap : ℕ) (os : List ℕ) (l : len ≡ length os)
     (same : os ≡ offsets_where (is_placed kind) own)
     (room : len + count_by (is_placed kind) (clear_notes other) ≤ cap).
     let number = l ∙ ap length same ∙ length-offsets_where (is_placed kind) own in
-    let both = count_in_union (is_placed kind) own other r s in
-    let fits : count_by (is_placed kind) (clear_notes (union_of own other)) ≤ cap = omega (arith, number, both, room) in
+    let both = count_in_union (is_placed kind) own other r s p q in
+    let fits : count_by (is_placed kind) (clear_notes (reduced_union own other)) ≤ cap = omega (arith, number, both, room) in
     fits in
     record {
       partitions = one kinds.Partition old.partitions.len (vec_capacity k.partitions) old.partitions.items
@@ -128,13 +189,13 @@ room_for_both own other old k (Ok done) r s keeps a b c u d f =
           old.unreadable_packs.items old.unreadable_packs.ok.0 (ap (λ (p : KeptParts). p.unreadable) keeps) u;
       copies =
           (let number = ap length (ap (λ (p : KeptParts). p.copies) keeps) ∙ length-kept_copies own in
-          let both = count_in_union states_metadata own other r s in
-          let fits : count_by states_metadata (clear_notes (union_of own other)) ≤ vec_capacity k.copies =
+          let both = count_in_union states_metadata own other r s p q in
+          let fits : count_by states_metadata (clear_notes (reduced_union own other)) ≤ vec_capacity k.copies =
           omega (arith, number, both, d, old.copies.ok.0) in fits);
       reaches =
           (let number = ap length (ap (λ (p : KeptParts). p.reaches) keeps) ∙ length-reaches_from 0 (copies_of own)
           ∙ length-kept_copies own in
-          let both = count_in_union states_metadata own other r s in
-          let fits : count_by states_metadata (clear_notes (union_of own other)) ≤ vec_capacity k.reaches =
+          let both = count_in_union states_metadata own other r s p q in
+          let fits : count_by states_metadata (clear_notes (reduced_union own other)) ≤ vec_capacity k.reaches =
           omega (arith, number, both, f, old.reaches.ok.0) in fits);
     }

@@ -82,10 +82,16 @@ no_dispute : (at : ℕ) (l : List PacketParts) (n : NoteParts) → In n (notes_f
     → IsDisputed n (notes_from at l) → ⊥
 no_dispute at l n k d = d.2 (apart at l d.0 n d.1 k d.3)
 
+-- Each note of the file is of a packet that was read whole.
+pub is_whole : (at : ℕ) (l : List PacketParts) (n : NoteParts) → In n (notes_from at l) → n.whole ≡ true
+is_whole at [] n h = absurd h
+is_whole at (p ∷ ps) n (inl e) = ap (λ (m : NoteParts). m.whole) e
+is_whole at (p ∷ ps) n (inr h) = is_whole (at + size_of p) ps n h
+
 -- Each note of the file is clear.
 pub IsClear-laid : (at : ℕ) (l : List PacketParts) (n : NoteParts) → In n (notes_from at l)
     → IsClear n (notes_from at l)
-IsClear-laid at l n h = record { held = h; undisputed = no_dispute at l n h }
+IsClear-laid at l n h = record { held = h; whole = is_whole at l n h; undisputed = no_dispute at l n h }
 
 filter_all : (p : NoteParts → Bool) (notes : List NoteParts) → ((n : NoteParts) → In n notes → p n ≡ true)
     → filter p notes ≡ notes
@@ -102,7 +108,10 @@ not_disputed at l n h =
     ] refl
 
 pub clear-laid : (at : ℕ) (l : List PacketParts) → clear_notes (notes_from at l) ≡ notes_from at l
-clear-laid at l = filter_all (λ n. not (is_disputed n (notes_from at l))) (notes_from at l) (not_disputed at l)
+clear-laid at l =
+    ap (filter (λ (n : NoteParts). n.whole))
+    (filter_all (λ n. not (is_disputed n (notes_from at l))) (notes_from at l) (not_disputed at l))
+    ∙ filter_all (λ n. n.whole) (notes_from at l) (is_whole at l)
 
 -- The partition of a packet's note is that of the packet.
 pub partition-note : (at : ℕ) (p : PacketParts) → partition_at (note_of at p) ≡ partition_read at p

@@ -52,8 +52,8 @@ no_disputes-laid at l =
     let notes = notes_from at l in
     ap (map (λ n. disputed_parts n notes)) (none_left (λ n. is_disputed n notes) notes (not_disputed at l))
 
-no_gaps-laid : (at : ℕ) (l : List PacketParts) → gaps_from at (notes_from at l) ≡ []
-no_gaps-laid at [] = refl
+no_gaps-laid : (at : ℕ) (l : List PacketParts) → gaps_from at at (notes_from at l) ≡ []
+no_gaps-laid at [] = rw (le-ltb at at (omega arith)) refl
 no_gaps-laid at (p ∷ ps) =
     let e : max at (end_of (note_of at p)) ≡ at + size_of p = omega arith in
     rw (le-ltb at at (omega arith), e) (no_gaps-laid (at + size_of p) ps)

@@ -3,7 +3,7 @@ use Rattle.std.proofs.Common.{◌≡◌, ℕ, ◌∙◌, true, false, cond, List
 use Rattle.std.specs.Prelude.{◌↔◌, ◌&&◌, is_ok, is_some}
 use Rattle.std.specs.Result.{result_ok}
 use Rattle.mxf_klv.specs.Parts.{NoteParts}
-use Rattle.mxf_klv.specs.Note.{keeps}
+use Rattle.mxf_klv.specs.Note.{keeps_value}
 use Rattle.mxf_sets.specs.Readable.{read_as}
 use Rattle.mxf_views.specs.Readings.{IsReadAs, IsReadable}
 use Rattle.mxf_views.proofs.Members.{both, parts}
@@ -11,7 +11,7 @@ use Rattle.mxf_views.proofs.Members.{both, parts}
 pub reads : {A E : Type 0} (read : List ℕ → Result A E) (n : NoteParts) (value : A)
     → (read_as read n ≡ Some value) ↔ IsReadAs read n value
 reads {A} {E} read n value = (
-  λ h. elim (keeps n.key n.length) as (λ b. keeps n.key n.length ≡ b
+  λ h. elim (keeps_value n) as (λ b. keeps_value n ≡ b
       → cond b (result_ok (read n.held)) None ≡ Some value → IsReadAs read n value) [
         | false ↦ λ _ q. absurd cc
         | true ↦ λ k q. elim (read n.held) as (λ r. read n.held ≡ r
@@ -20,7 +20,7 @@ reads {A} {E} read n value = (
               | Ok x ↦ λ e u. (k, e ∙ (let same : x ≡ value = cc (u) in ap (λ (y : A). Ok y) same))
             ] refl q
       ] refl h,
-  λ s. let k : keeps n.key n.length ≡ true = s.0 in let e = s.1 in rw k (rw e refl),
+  λ s. let k : keeps_value n ≡ true = s.0 in let e = s.1 in rw k (rw e refl),
 )
 
 pub is_some_readable : {A E : Type 0} (read : List ℕ → Result A E) (n : NoteParts)
@@ -34,13 +34,13 @@ is_some_readable {A} read n = (
 )
 
 pub ok_readable : {A E : Type 0} (read : List ℕ → Result A E) (n : NoteParts)
-    → ((keeps n.key n.length && is_ok (read n.held)) ≡ true) ↔ IsReadable read n
+    → ((keeps_value n && is_ok (read n.held)) ≡ true) ↔ IsReadable read n
 ok_readable {A} {E} read n = (
   λ h.
-      let s = parts (keeps n.key n.length) (is_ok (read n.held)) h in
+      let s = parts (keeps_value n) (is_ok (read n.held)) h in
       elim (read n.held) as (λ r. read n.held ≡ r → is_ok r ≡ true → IsReadable read n) [
         | Ok x ↦ λ e _. (x, (s.0, e))
         | Err f ↦ λ _ q. absurd cc
       ] refl s.1,
-  λ s. both (keeps n.key n.length) (is_ok (read n.held)) s.1.0 (ap (λ (r : Result A E). is_ok r) s.1.1),
+  λ s. both (keeps_value n) (is_ok (read n.held)) s.1.0 (ap (λ (r : Result A E). is_ok r) s.1.1),
 )

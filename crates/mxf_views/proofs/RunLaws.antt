@@ -2,7 +2,7 @@
 use Rattle.std.specs.Prelude.{◌≡◌, ◌↔◌, ℕ, ◌+◌, ◌<◌, List, [], ◌∷◌, filter, refl}
 use Rattle.std.specs.List.{AllByRecursion}
 use Rattle.std.specs.declared.cmp.Ordering.TheVariants.{Less}
-use Rattle.std.proofs.Common.{sym, subst, arith}
+use Rattle.std.proofs.Common.{sym, subst, arith, ap}
 use Rattle.std.proofs.lemmas.Bool.{lt-ltb}
 use Rattle.mxf_klv.specs.Note.{note_cmp, note_of}
 use Rattle.mxf_klv.specs.Packet.{size_of}
@@ -10,15 +10,16 @@ use Rattle.mxf_klv.specs.Parts.{PacketParts, NoteParts}
 use Rattle.mxf_klv.specs.Piece.{notes_from}
 use Rattle.mxf_klv.specs.Rising.{In}
 use Rattle.mxf_catalogue.specs.CatalogueFile.{IsFileOf, file_bytes}
-use Rattle.mxf_catalogue.specs.Content.{IsContent}
+use Rattle.mxf_catalogue.specs.Content.{IsContent, IsLocated}
 use Rattle.mxf_catalogue.specs.Disputes.{is_disputed}
 use Rattle.mxf_catalogue.specs.History.{content}
 use Rattle.mxf_catalogue.proofs.ContentLaws.{same_content}
 use Rattle.mxf_catalogue.proofs.DisputeLaws.{is_disputed-IsDisputed, notes-disputed_notes}
 use Rattle.mxf_catalogue.proofs.HistoryLaws.{In-content, IsContent-content}
 use Rattle.mxf_catalogue.proofs.Lists.{In-filter}
-use Rattle.mxf_views.specs.Headline.{IsDisputedAmong, IsReadFromFront, IsTheRun}
+use Rattle.mxf_views.specs.Headline.{IsDisputedAmong, IsNoteOf, IsReadFromFront, IsTheRun}
 use Rattle.mxf_views.specs.WellFormed.{IsWellFormed}
+use Rattle.mxf_views.proofs.Laid.{is_whole}
 use Rattle.mxf_views.proofs.LaidCopies.{copies-laid}
 use Rattle.mxf_views.proofs.LaidIndex.{index-laid}
 use Rattle.mxf_views.proofs.LaidPartitions.{partitions-laid}
@@ -39,6 +40,18 @@ IsContent-laid at [] = tt
 IsContent-laid at (p ∷ ps) =
     (less_than_later (note_of at p) (at + size_of p) ps (omega arith), IsContent-laid (at + size_of p) ps)
 
+-- All that was handed is located where it is the notes of a file: these are of packets that were read whole.
+located-laid : (l : List PacketParts) (n : NoteParts) → IsLocated (IsNoteOf l) n ↔ In n (notes_from 0 l)
+located-laid l n = (
+  λ h. h.0,
+  λ h. (
+    h,
+    λ y i ne e.
+        let w = is_whole 0 l n h in
+        let u = ap (λ (m : NoteParts). m.whole) e in cc (w, u),
+  ),
+)
+
 read_from_front : (l : List PacketParts) → IsWellFormed l → IsReadFromFront (notes_from 0 l) l
 read_from_front l w = record {
   partitions = partitions-laid l w;
@@ -47,7 +60,7 @@ read_from_front l w = record {
   random_index = random_index-laid l w;
 }
 
-module _ (handed : NoteParts → Type 0) (notes : List NoteParts) (members : (n : NoteParts) → In n notes ↔ handed n) where
+module _ (handed : NoteParts → Type 0) (notes : List NoteParts) (members : (n : NoteParts) → In n notes ↔ IsLocated handed n) where
   -- The disputed notes are those that share a byte with a different one that was handed.
   disputed_among : (n : NoteParts) → In n (filter (λ m. is_disputed m notes) notes) ↔ IsDisputedAmong handed n
   disputed_among n =
@@ -80,6 +93,9 @@ module _ (handed : NoteParts → Type 0) (notes : List NoteParts) (members : (n 
         whole = λ l w same.
             let e : notes_from 0 l ≡ notes =
             same_content (notes_from 0 l) notes (IsContent-laid 0 l) rises
-            (λ n. (λ i. (members n).1 ((same n).0 i), λ i. (same n).1 ((members n).0 i))) in
+            (λ n. let own = located-laid l n in (
+              λ i. (members n).1 ((same n).0 (own.1 i)),
+              λ i. own.0 ((same n).1 ((members n).0 i)),
+            )) in
             subst (λ ns. IsReadFromFront ns l) e (read_from_front l w);
       }

@@ -1,17 +1,17 @@
 -- Views are those of the clear notes, and added notes take clear ones away.
-use Rattle.std.proofs.Common.{◌≡◌, ◌≢◌, ℕ, List, [], ◌∷◌, Option, Some, None, refl, ap, ◌∙◌, inl}
+use Rattle.std.proofs.Common.{◌≡◌, ℕ, List, [], ◌∷◌, Option, Some, None, refl, ap, ◌∙◌, inl, subst, sym}
 use Rattle.std.specs.Prelude.{◌&&◌, ◌||◌, ◌==◌, not, Bool, count_by, filter, find, map, if◌then◌else◌}
 use Rattle.std.specs.Option.{option_and_then, option_map}
 use Rattle.std.specs.List.{list_all}
 use Rattle.mxf_klv.specs.Parts.{NoteParts}
-use Rattle.mxf_klv.specs.NoteOrder.{note_total, note_cmp-IsAntisymmetric}
-use Rattle.mxf_klv.specs.Rising.{In, In-with_one}
+use Rattle.mxf_klv.specs.Rising.{In}
 use Rattle.mxf_sets.specs.PackReadings.{primer_at}
 use Rattle.mxf_sets.specs.Preface.{PrefaceParts}
 use Rattle.mxf_sets.specs.Readable.{read_as}
-use Rattle.mxf_catalogue.specs.Content.{with_note}
+use Rattle.mxf_catalogue.specs.Content.{AreReduced, has_note, reduced_with}
 use Rattle.mxf_catalogue.specs.Disputes.{SharesByte, clear_notes}
 use Rattle.mxf_catalogue.proofs.DisputeLaws.{In-clear_notes}
+use Rattle.mxf_catalogue.proofs.HeadLaws.{In-reduced_with}
 use Rattle.mxf_views.specs.declared.chain.Chain.TheVariants.{Whole, Broken}
 use Rattle.mxf_views.specs.declared.copy.CopyInfo.{CopyInfo}
 use Rattle.mxf_views.specs.declared.reference.target.Wanted.{Wanted}
@@ -128,10 +128,10 @@ module _ (a b : List NoteParts) (e : clear_notes a ≡ clear_notes b) where
     rip = rip;
   }
 
--- A note that is added leaves no other note clear that it shares a byte with.
-pub touched : (m n : NoteParts) (notes : List NoteParts) → In m notes → n ≢ m → SharesByte n m
-    → In m (clear_notes (with_note n notes)) → ⊥
-touched m n notes h ne s k =
-    let clear = (In-clear_notes m (with_note n notes)).0 k in
-    let added = (In-with_one note_total note_cmp-IsAntisymmetric n n notes).1 (inl refl) in
-    clear.undisputed (n, added, ne, s)
+-- A new note that is added leaves no note clear that it shares a byte with.
+pub touched : (m n : NoteParts) (notes : List NoteParts) → AreReduced notes → (has_note notes n → ⊥) → In m notes
+    → SharesByte n m → In m (clear_notes (reduced_with n notes)) → ⊥
+touched m n notes r new h s k =
+    let clear = (In-clear_notes m (reduced_with n notes)).0 k in
+    let added = (In-reduced_with n n notes r new).1 (inl refl) in
+    clear.undisputed (n, added, (λ e. new (inl (subst (λ x. In x notes) (sym e) h))), s)

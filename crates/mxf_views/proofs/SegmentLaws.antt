@@ -5,7 +5,7 @@ use Rattle.std.specs.Prelude.{◌↔◌}
 use Rattle.std.specs.Option.{option_map}
 use Rattle.std.specs.Result.{result_ok}
 use Rattle.mxf_klv.specs.Parts.{NoteParts}
-use Rattle.mxf_klv.specs.Note.{end_of, keeps}
+use Rattle.mxf_klv.specs.Note.{end_of, keeps_value}
 use Rattle.mxf_klv.specs.Kind.{kind_of}
 use Rattle.mxf_klv.specs.Rising.{In}
 use Rattle.mxf_sets.specs.Segment.{SegmentParts, segment_at}
@@ -31,7 +31,7 @@ segment_from notes n s clear e =
     → option_map (placed n.offset) (cond b (read_as segment_at n) None) ≡ Some s → IsSegmentAt notes s) [
       | false ↦ λ _ q. absurd cc
       | true ↦ λ t q.
-          elim (keeps n.key n.length) as (λ b. keeps n.key n.length ≡ b
+          elim (keeps_value n) as (λ b. keeps_value n ≡ b
           → option_map (placed n.offset) (cond b (result_ok (segment_at n.held)) None) ≡ Some s → IsSegmentAt notes s) [
             | false ↦ λ _ u. absurd cc
             | true ↦ λ kept u.
@@ -55,7 +55,7 @@ segment_from notes n s clear e =
 segment_to : (notes : List NoteParts) (s : SegmentAtParts) → (i : IsSegmentAt notes s) → placed_segment i.note ≡ Some s
 unfolding placed_segment
 segment_to notes s i =
-    let k : keeps i.note.key i.note.length ≡ true = i.kept in
+    let k : keeps_value i.note ≡ true = i.kept in
     let t = ap is_segment i.kind in
     let r = i.read in
     let o = i.offset in

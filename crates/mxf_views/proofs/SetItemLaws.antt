@@ -4,7 +4,7 @@ use Rattle.std.proofs.Common.{eq-eqb}
 use Rattle.std.specs.Prelude.{◌↔◌, ◌==◌, ◌&&◌, if◌then◌else◌}
 use Rattle.mxf_klv.specs.Bytes.{AreBytes}
 use Rattle.mxf_klv.specs.Parts.{NoteParts}
-use Rattle.mxf_klv.specs.Note.{keeps}
+use Rattle.mxf_klv.specs.Note.{keeps_value}
 use Rattle.mxf_sets.specs.Items.{ItemParts, items_of, left_of}
 use Rattle.mxf_sets.proofs.ItemLemmas.{are_items, empty_from_test, only_are}
 use Rattle.mxf_views.specs.Copies.{is_set_note}
@@ -17,7 +17,7 @@ items_if set kept whole bytes = if set && kept then (if whole then Some (items_o
 items_are : (n : NoteParts) → AreBytes n.held → AreSetItems n (set_items n)
 unfolding set_items
 items_are n bytes =
-    let kept = keeps n.key n.length in
+    let kept = keeps_value n in
     let whole = length (left_of n.held) == 0 in
     elim (is_set_note n) as (λ b. is_set_note n ≡ b → AreSetItems n (items_if b kept whole n.held)) [
       | false ↦ λ e items m. let t = (set_note n).1 m.kind in cc (t, e)

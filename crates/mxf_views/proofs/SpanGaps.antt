@@ -1,57 +1,177 @@
--- The gaps of notes are those of the cover of their spans.
-use Rattle.std.proofs.Common.{◌≡◌, ℕ, ◌+◌, ◌-◌, ◌<◌, ◌≤◌, List, [], ◌∷◌, ap, arith, inl, inr}
-use Rattle.mxf_klv.specs.Note.{end_of}
+-- The gaps of notes are those of the cover of what they cover, and what lies between its end and the greatest end.
+use Rattle.std.proofs.Common.{◌≡◌, ℕ, ◌+◌, ◌-◌, ◌<◌, ◌≤◌, ◌++◌, true, false, List, [], ◌∷◌, ap, arith, inl, inr, refl}
+use Rattle.std.specs.Prelude.{◌↔◌, cond, nat_lt}
+use Rattle.std.proofs.lemmas.Bool.{ltb-true, ltb-false}
+use Rattle.mxf_klv.specs.Note.{covered_end, end_of}
 use Rattle.mxf_klv.specs.Parts.{NoteParts}
 use Rattle.mxf_klv.specs.Rising.{In}
 use Rattle.mxf_catalogue.specs.Content.{IsContent}
 use Rattle.mxf_catalogue.specs.Covers.{IsBetween, IsCover, gaps_of_runs}
 use Rattle.mxf_catalogue.specs.Parts.{Covers}
-use Rattle.mxf_catalogue.specs.Runs.{AreMaximal}
+use Rattle.mxf_catalogue.specs.Runs.{AreMaximal, LiesIn, run}
 use Rattle.mxf_catalogue.specs.declared.run.Run.{Run}
 use Rattle.mxf_catalogue.proofs.CoverLaws.{gaps_by_definition}
+use Rattle.mxf_catalogue.proofs.Fronts.{In-append}
 use Rattle.mxf_catalogue.proofs.RunLaws.{same_runs}
-use Rattle.mxf_views.specs.Gaps.{IsGap, gaps_of}
-use Rattle.mxf_views.proofs.GapsLaws.{gaps_are}
+use Rattle.mxf_views.specs.Gaps.{AreGaps, IsGap, gaps_of}
+use Rattle.mxf_views.proofs.GapsLaws.{covers_below_end, gaps_are, has_byte}
 
--- Maximal runs have a byte each.
-has_byte : (low : ℕ) (runs : List Run) (r : Run) → AreMaximal low runs → In r runs → r.start < r.end
-has_byte low [] r m h = absurd h
-has_byte low (s ∷ runs) r m (inl e) =
-    let a : s.start < s.end = m.1 in
-    let b : r.start ≡ s.start = ap (λ (x : Run). x.start) e in
-    let c : r.end ≡ s.end = ap (λ (x : Run). x.end) e in omega arith
-has_byte low (s ∷ runs) r m (inr h) = has_byte (s.end + 1) runs r m.2 h
+-- A run that begins above the ends of maximal ones goes on with them.
+maximal_push : (low : ℕ) (runs : List Run) (r : Run) → AreMaximal low runs → low ≤ r.start → r.start < r.end
+    → ((s : Run) → In s runs → s.end + 1 ≤ r.start) → AreMaximal low (runs ++ r ∷ [])
+maximal_push low [] r m l b f = (l, b, tt)
+maximal_push low (s ∷ runs) r m l b f = (m.0, m.1, maximal_push (s.end + 1) runs r m.2 (f s (inl refl)) b (λ x h. f x (inr h)))
 
-module _ (runs : List Run) (notes : List NoteParts) (cover : IsCover runs) (covers : Covers runs notes) where
-  -- An offset lies between the runs exactly where it lies in a gap of the notes.
+-- Where not all are at most a number, one lies above it.
+some_above : {K : Type 0} (size : K → ℕ) (xs : List K) (at : ℕ) → (((x : K) → In x xs → size x ≤ at) → ⊥)
+    → (x : K) × In x xs × (at < size x)
+some_above size [] at f = absurd (f (λ x h. absurd h))
+some_above {K} size (x ∷ xs) at f =
+    elim (nat_lt at (size x)) as (λ b. nat_lt at (size x) ≡ b → (y : K) × In y (x ∷ xs) × (at < size y)) [
+      | true ↦ λ t. (x, inl refl, ltb-true at (size x) t)
+      | false ↦ λ t.
+          let low : size x ≤ at = ltb-false at (size x) t in
+          let s = some_above size xs at (λ g. f (λ y h. elim h [
+            | inl e ↦ (let q = ap size e in omega (arith, q, low))
+            | inr k ↦ g y k
+          ])) in (s.0, inr s.1, s.2)
+    ] refl
+
+module _ (runs : List Run) (notes : List NoteParts) (reached top : ℕ) (cover : IsCover runs) (covers : Covers runs notes)
+    (reached_is : (bound : ℕ) → reached ≤ bound ↔ ((offset : ℕ) → LiesIn runs offset → offset < bound))
+    (top_is : (bound : ℕ) → top ≤ bound ↔ ((n : NoteParts) → In n notes → end_of n ≤ bound)) where
+  -- What lies between the end of the cover and the greatest end.
+  abbrev pub last_gap : List Run
+  last_gap = cond (nat_lt reached top) (run reached top ∷ []) []
+
+  ends_in_reach : (r : Run) → In r runs → r.end ≤ reached
+  ends_in_reach r h =
+      let some : r.start < r.end = has_byte 0 runs r cover.maximal h in
+      let from : r.start ≤ r.end - 1 = omega (arith, some) in
+      let before : r.end - 1 + 1 ≤ r.end = omega (arith, some) in
+      let l = (reached_is reached).0 (omega arith) (r.end - 1) (r, h, record { from = from; before = before }) in
+      omega (arith, l)
+
+  -- An offset lies between the runs exactly where it lies in a gap of the notes below the end of the cover.
   between_gap : (at : ℕ) → IsBetween runs at → IsGap notes at
   between_gap at b =
       let r = b.below.0 in
       let some : r.start < r.end = has_byte 0 runs r cover.maximal b.below.1 in
       let above : at < r.end = b.below.2 in
-      let last = (covers (r.end - 1)).0 (r, b.below.1, record { from = omega arith; before = omega arith }) in
-      let within : r.end - 1 + 1 ≤ end_of last.0 = last.2.before in
+      let from : r.start ≤ r.end - 1 = omega (arith, some) in
+      let before : r.end - 1 + 1 ≤ r.end = omega (arith, some) in
+      let last = (covers (r.end - 1)).0 (r, b.below.1, record { from = from; before = before }) in
+      let within : r.end - 1 + 1 ≤ covered_end last.0 = last.2.before in
       record {
-        below = (last.0, last.1, omega arith);
+        below = (last.0, last.1, omega (arith, within, above, covers_below_end last.0));
         in_none = λ n h s. b.in_none ((covers at).1 (n, h, s));
       }
 
-  gap_between : (at : ℕ) → IsGap notes at → IsBetween runs at
-  gap_between at g =
-      let n = g.below.0 in
-      let above : at < end_of n = g.below.2 in
-      let last = (covers (end_of n - 1)).1 (n, g.below.1, record { from = omega arith; before = omega arith }) in
-      let within : end_of n - 1 + 1 ≤ last.0.end = last.2.before in
+  gap_between : (at : ℕ) → at < reached → IsGap notes at → IsBetween runs at
+  gap_between at low g =
+      let s = some_above (λ (r : Run). r.end) runs at (λ f.
+      let l = (reached_is at).1 (λ offset h.
+      let e : h.0.end ≤ at = f h.0 h.1 in
+      let b : offset + 1 ≤ h.0.end = h.2.before in omega (arith, e, b)) in
+      omega (arith, l, low)) in
       record {
-        below = (last.0, last.1, omega arith);
-        in_none = λ l. let s = (covers at).0 l in g.in_none s.0 s.1 s.2;
+        below = s;
+        in_none = λ l. let c = (covers at).0 l in g.in_none c.0 c.1 c.2;
       }
 
-  pub gaps_of-spans : IsContent notes → gaps_of_runs runs ≡ gaps_of notes
-  gaps_of-spans rises =
+  -- Above the end of the cover it does so exactly where it lies below the greatest end.
+  above_gap : (at : ℕ) → reached ≤ at → at < top → IsGap notes at
+  above_gap at l h = record {
+    below = some_above end_of notes at (λ f. let t = (top_is at).1 f in omega (arith, t, h));
+    in_none = λ n k s. let b = (reached_is reached).0 (omega arith) at ((covers at).1 (n, k, s)) in omega (arith, b, l);
+  }
+
+  gap_below : (at : ℕ) → IsGap notes at → at < top
+  gap_below at g =
+      let e : end_of g.below.0 ≤ top = (top_is top).0 (omega arith) g.below.0 g.below.1 in omega (arith, e, g.below.2)
+
+  ends_below : (s : Run) → In s (gaps_of_runs runs) → s.end + 1 ≤ reached
+  ends_below s h =
       let of_runs = gaps_by_definition runs cover in
+      let some : s.start < s.end = has_byte 0 (gaps_of_runs runs) s of_runs.maximal h in
+      let from : s.start ≤ s.end - 1 = omega (arith, some) in
+      let before : s.end - 1 + 1 ≤ s.end = omega (arith, some) in
+      let b = (of_runs.offsets (s.end - 1)).0 (s, h, record { from = from; before = before }) in
+      let r = b.below.0 in
+      let filled : r.start < r.end = has_byte 0 runs r cover.maximal b.below.1 in
+      let up : s.end - 1 < r.end = b.below.2 in
+      let top : r.end ≤ reached = ends_in_reach r b.below.1 in
+      elim (nat_lt s.end r.end) as (λ t. nat_lt s.end r.end ≡ t → s.end + 1 ≤ reached) [
+        | true ↦ λ t. let l : s.end < r.end = ltb-true s.end r.end t in omega (arith, l, top)
+        | false ↦ λ t.
+            let l : r.end ≤ s.end = ltb-false s.end r.end t in
+            let low : r.start ≤ s.end - 1 = omega (arith, l, filled) in
+            let high : s.end - 1 + 1 ≤ r.end = omega (arith, up) in
+            absurd (b.in_none (r, b.below.1, record { from = low; before = high }))
+      ] refl
+
+  pub are_gaps : AreGaps notes (gaps_of_runs runs ++ last_gap)
+  are_gaps =
+      let of_runs = gaps_by_definition runs cover in
+      elim (nat_lt reached top) as (λ b. nat_lt reached top ≡ b
+      → AreGaps notes (gaps_of_runs runs ++ cond b (run reached top ∷ []) [])) [
+        | true ↦ λ t.
+            let some : reached < top = ltb-true reached top t in
+            let all = λ (r : Run). In-append r (gaps_of_runs runs) (run reached top ∷ []) in
+            record {
+              maximal = maximal_push 0 (gaps_of_runs runs) (run reached top) of_runs.maximal (omega arith) some ends_below;
+              offsets = λ at. (
+                λ h. elim ((all h.0).0 h.1) [
+                  | inl k ↦ between_gap at ((of_runs.offsets at).0 (h.0, k, h.2))
+                  | inr k ↦ elim k [
+                    | inl e ↦
+                        let low : h.0.start ≤ at = h.2.from in
+                        let high : at + 1 ≤ h.0.end = h.2.before in
+                        let s : h.0.start ≡ reached = ap (λ (r : Run). r.start) e in
+                        let f : h.0.end ≡ top = ap (λ (r : Run). r.end) e in
+                        above_gap at (omega (arith, low, s)) (omega (arith, high, f))
+                    | inr z ↦ absurd z
+                  ]
+                ],
+                λ g. elim (nat_lt at reached) as (λ b. nat_lt at reached ≡ b
+                    → LiesIn (gaps_of_runs runs ++ run reached top ∷ []) at) [
+                      | true ↦ λ u.
+                          let s = (of_runs.offsets at).1 (gap_between at (ltb-true at reached u) g) in
+                          (s.0, (all s.0).1 (inl s.1), s.2)
+                      | false ↦ λ u.
+                          let low : reached ≤ at = ltb-false at reached u in
+                          let high : at + 1 ≤ top = omega (arith, gap_below at g) in
+                          (run reached top, (all (run reached top)).1 (inr (inl refl)), record { from = low; before = high })
+                    ] refl,
+              );
+            }
+        | false ↦ λ t.
+            let none : top ≤ reached = ltb-false reached top t in
+            let all = λ (r : Run). In-append r (gaps_of_runs runs) [] in
+            record {
+              maximal = maximal_none 0 (gaps_of_runs runs) of_runs.maximal;
+              offsets = λ at. (
+                λ h. elim ((all h.0).0 h.1) [
+                  | inl k ↦ between_gap at ((of_runs.offsets at).0 (h.0, k, h.2))
+                  | inr k ↦ absurd k
+                ],
+                λ g.
+                    let low : at < reached = omega (arith, gap_below at g, none) in
+                    let s = (of_runs.offsets at).1 (gap_between at low g) in
+                    (s.0, (all s.0).1 (inl s.1), s.2),
+              );
+            }
+      ] refl
+    where
+      maximal_none : (low : ℕ) (runs : List Run) → AreMaximal low runs → AreMaximal low (runs ++ [])
+      maximal_none low [] m = tt
+      maximal_none low (s ∷ runs) m = (m.0, m.1, maximal_none (s.end + 1) runs m.2)
+
+  pub gaps_of-spans : IsContent notes → gaps_of_runs runs ++ last_gap ≡ gaps_of notes
+  gaps_of-spans rises =
+      let of_runs = are_gaps in
       let of_notes = gaps_are notes rises in
-      same_runs 0 0 (gaps_of_runs runs) (gaps_of notes) of_runs.maximal of_notes.maximal (λ at. (
-        (λ h. (of_notes.offsets at).1 (between_gap at ((of_runs.offsets at).0 h))),
-        (λ h. (of_runs.offsets at).1 (gap_between at ((of_notes.offsets at).0 h))),
+      same_runs 0 0 (gaps_of_runs runs ++ last_gap) (gaps_of notes) of_runs.maximal of_notes.maximal (λ at. (
+        (λ h. (of_notes.offsets at).1 ((of_runs.offsets at).0 h)),
+        (λ h. (of_runs.offsets at).1 ((of_notes.offsets at).0 h)),
       ))

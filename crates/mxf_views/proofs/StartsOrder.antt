@@ -7,7 +7,7 @@ use Rattle.std.specs.Result.{result_ok}
 use Rattle.std.proofs.lemmas.Bool.{cases_lt, cases_order}
 use Rattle.mxf_klv.specs.Parts.{NoteParts}
 use Rattle.mxf_klv.specs.Kind.{kind_of}
-use Rattle.mxf_klv.specs.Note.{IsInSpan, end_of, keeps}
+use Rattle.mxf_klv.specs.Note.{IsInSpan, end_of, keeps_value}
 use Rattle.mxf_klv.specs.Rising.{In}
 use Rattle.mxf_sets.specs.PackReadings.{pack_under, part_and_status}
 use Rattle.mxf_catalogue.specs.Content.{IsContent}
@@ -26,7 +26,7 @@ use Rattle.mxf_views.proofs.StartLaws.{clear_same}
 -- A note whose kind isn't that of a partition pack is no partition.
 no_pack : (n : NoteParts) → part_and_status (kind_of n.key) ≡ None → pack_of n ≡ None
 no_pack n e =
-    elim (keeps n.key n.length) as (λ k.
+    elim (keeps_value n) as (λ k.
     (if k then result_ok (pack_under (part_and_status (kind_of n.key)) n.held) else None) ≡ None) [
       | false ↦ refl
       | true ↦ ap (λ o. result_ok (pack_under o n.held)) e

@@ -5,7 +5,7 @@ use Rattle.mxf_klv.specs.declared.kinds.Kind.TheVariants as kinds
 use Rattle.mxf_klv.specs.declared.kinds.Status.{Status}
 use Rattle.mxf_klv.specs.declared.kinds.Status.TheVariants.{OpenIncomplete, OpenComplete}
 use Rattle.mxf_klv.specs.Parts.{NoteParts}
-use Rattle.mxf_klv.specs.Note.{end_of, keeps}
+use Rattle.mxf_klv.specs.Note.{end_of, keeps_value}
 use Rattle.mxf_klv.specs.Kind.{kind_of}
 use Rattle.mxf_klv.specs.Rising.{In}
 use Rattle.mxf_sets.specs.declared.pack.part.PackPart.TheVariants.{Footer}
@@ -43,7 +43,7 @@ IsReadableSet kinds.Identification n = IsReadable identification_at n
 IsReadableSet kinds.ContentStorage n = IsReadable storage_at n
 IsReadableSet kinds.MaterialPackage n = IsReadable package_at n
 IsReadableSet kinds.SourcePackage n = IsReadable package_at n
-IsReadableSet kinds.RawSet n = IsTrue (keeps n.key n.length) × (left_of n.held ≡ [])
+IsReadableSet kinds.RawSet n = IsTrue (keeps_value n) × (left_of n.held ≡ [])
 IsReadableSet _ n = ⊥
 
 -- The kinds of header metadata: primer packs, metadata sets and raw sets.
@@ -76,9 +76,9 @@ entry_of p = record { body_sid = p.pack.numbers.body_sid; offset = p.offset }
 abbrev pub HasOther : List NoteParts → NoteParts → Type 0
 HasOther notes n = (m : NoteParts) × IsClear m notes × (m ≢ n) × (kind_of m.key ≡ kinds.Rip)
 
--- Some note, a disputed one too, ends above the end of this one.
+-- Some note of a whole packet, a disputed one too, ends above the end of this one.
 abbrev pub IsNotLast : List NoteParts → NoteParts → Type 0
-IsNotLast notes n = (m : NoteParts) × In m notes × (end_of n < end_of m)
+IsNotLast notes n = (m : NoteParts) × In m notes × IsTrue m.whole × (end_of n < end_of m)
 
 -- The entries of the random index pack aren't those of the partitions, in their order.
 abbrev pub ListsOthers : List NoteParts → NoteParts → Type 0

@@ -7,7 +7,7 @@ use Rattle.mxf_klv.specs.declared.kinds.Kind.TheVariants as kinds
 use Rattle.mxf_klv.specs.declared.kinds.Status.{Status}
 use Rattle.mxf_klv.specs.declared.kinds.Status.TheVariants.{OpenIncomplete, OpenComplete}
 use Rattle.mxf_klv.specs.Parts.{NoteParts}
-use Rattle.mxf_klv.specs.Note.{end_of, keeps}
+use Rattle.mxf_klv.specs.Note.{end_of, keeps_value}
 use Rattle.mxf_klv.specs.Kind.{kind_of}
 use Rattle.mxf_klv.specs.Rising.{union}
 use Rattle.mxf_sets.specs.declared.pack.random_index.RipEntry.{RipEntry}
@@ -89,7 +89,7 @@ reads_value _ bytes = true
 
 -- The value isn't kept, or can't be read by its kind.
 abbrev pub is_unreadable : NoteParts → Bool
-is_unreadable n = not (keeps n.key n.length && reads_value (kind_of n.key) n.held)
+is_unreadable n = not (keeps_value n && reads_value (kind_of n.key) n.held)
 
 -- A primer pack, a metadata set or a raw set that isn't readable.
 unfoldable pub is_unreadable_set : NoteParts → Bool
@@ -151,9 +151,9 @@ is_index_of partitions (Some rip) = are_entries_of partitions rip.entries
 abbrev pub has_other_rip : NoteParts → List NoteParts → Bool
 has_other_rip n notes = list_any (λ m. is_rip_note m && not (m.offset == n.offset)) notes
 
--- One of the notes ends above the offset.
+-- One of the notes of whole packets ends above the offset.
 abbrev pub ends_above : ℕ → List NoteParts → Bool
-ends_above end notes = list_any (λ m. nat_lt end (end_of m)) notes
+ends_above end notes = list_any (λ m. m.whole && nat_lt end (end_of m)) notes
 
 -- A random index pack that doesn't fit: another clear note has one too, some note ends above its end, or it can't be
 -- read or doesn't list the partitions.

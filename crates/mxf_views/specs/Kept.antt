@@ -12,7 +12,7 @@ use Rattle.mxf_klv.specs.Kind.{kind_of}
 use Rattle.mxf_klv.specs.Rising.{with_one}
 use Rattle.mxf_catalogue.specs.Disputes.{IsClear, SharesByte, clear_notes}
 use Rattle.mxf_views.specs.declared.copy.CopyInfo.{CopyInfo}
-use Rattle.mxf_catalogue.specs.Content.{IsContent}
+use Rattle.mxf_catalogue.specs.Content.{AreReduced, IsContent}
 use Rattle.mxf_views.specs.declared.kept.arrival.Arrival.{Arrival}
 use Rattle.mxf_views.specs.declared.kept.Kept.{Kept}
 use Rattle.mxf_views.specs.declared.kept.offsets.Placed.{Placed}
@@ -197,6 +197,7 @@ pub record HasRoomForOne (k : Kept) : Type 0 where
 -- What has to be known of a note that is added to a content.
 pub record IsArrival (x : NoteParts) (notes : List NoteParts) (a : Arrival) : Type 0 where
   pub content : IsContent notes
+  pub reduced : AreReduced notes
   pub hull : IsHull x notes a.start a.end
   pub offset : a.offset ≡ x.offset
   pub can_bring_start : a.can_bring_start ≡ can_bring_start x

@@ -9,7 +9,7 @@ use Rattle.std.specs.declared.cmp.Ordering.{Ordering}
 use Rattle.mxf_klv.specs.declared.kinds.Kind.{Kind}
 use Rattle.mxf_klv.specs.declared.kinds.Kind.TheVariants as kinds
 use Rattle.mxf_klv.specs.Parts.{NoteParts}
-use Rattle.mxf_klv.specs.Note.{keeps}
+use Rattle.mxf_klv.specs.Note.{keeps_value}
 use Rattle.mxf_klv.specs.Kind.{kind_of}
 use Rattle.mxf_klv.specs.Rising.{In, union}
 use Rattle.mxf_sets.specs.Segment.{SegmentParts, segment_at}
@@ -80,7 +80,7 @@ pub record IsSegmentAt (notes : List NoteParts) (s : SegmentAtParts) : Type 0 wh
   pub note : NoteParts
   pub clear : IsClear note notes
   pub kind : kind_of note.key ≡ kinds.Segment
-  pub kept : IsTrue (keeps note.key note.length)
+  pub kept : IsTrue (keeps_value note)
   pub read : segment_at note.held ≡ Ok s.segment
   pub offset : s.offset ≡ note.offset
 

@@ -2,7 +2,7 @@
 use Rattle.std.specs.Prelude.{◌≡◌, ◌≢◌, ℕ, IsTrue, Bool, false, ◌&&◌, List, [], ◌∷◌, filter, Result, Ok, Err}
 use Rattle.std.specs.Str.{bytes_eq}
 use Rattle.mxf_klv.specs.Parts.{NoteParts}
-use Rattle.mxf_klv.specs.Note.{keeps}
+use Rattle.mxf_klv.specs.Note.{keeps_value}
 use Rattle.mxf_klv.specs.Rising.{In}
 use Rattle.mxf_sets.specs.declared.record.FieldFault.{FieldFault}
 use Rattle.mxf_sets.specs.Instance.{instance_uid_at}
@@ -16,7 +16,7 @@ reads_uid uid (Err fault) = false
 
 -- The set is kept, and its instance identifier can be read and is this one.
 unfoldable pub has_uid : List ℕ → NoteParts → Bool
-has_uid uid n = keeps n.key n.length && reads_uid uid (instance_uid_at n.held)
+has_uid uid n = keeps_value n && reads_uid uid (instance_uid_at n.held)
 
 -- None, the one at this offset, or more.
 abbrev pub found_among : List NoteParts → Found
@@ -37,7 +37,7 @@ found_after Several notes = Several
 
 -- The set is kept, and its instance identifier is this one.
 pub record HasUid (uid : List ℕ) (n : NoteParts) : Type 0 where
-  pub kept : IsTrue (keeps n.key n.length)
+  pub kept : IsTrue (keeps_value n)
   pub own : instance_uid_at n.held ≡ Ok uid
 
 -- The only one of the sets that has the identifier.

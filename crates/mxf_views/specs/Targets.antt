@@ -3,7 +3,7 @@ use Rattle.std.specs.Prelude.{◌≡◌, ℕ, ◌⊎◌, Bool, true, false, not,
 use Rattle.mxf_klv.specs.declared.kinds.Kind.{Kind}
 use Rattle.mxf_klv.specs.declared.kinds.Kind.TheVariants as kinds
 use Rattle.mxf_klv.specs.Parts.{NoteParts}
-use Rattle.mxf_klv.specs.Note.{keeps}
+use Rattle.mxf_klv.specs.Note.{keeps_value}
 use Rattle.mxf_klv.specs.Kind.{kind_of}
 use Rattle.mxf_sets.specs.Storage.{storage_at}
 use Rattle.mxf_sets.specs.Identification.{identification_at}
@@ -38,7 +38,7 @@ is_readable Package bytes = is_ok (package_at bytes)
 unfoldable pub target_at : Wanted → NoteParts → Target
 target_at wanted n =
     if not (fits wanted (kind_of n.key)) then WrongKind n.offset else
-    (if keeps n.key n.length && is_readable wanted n.held then Found n.offset else Unreadable n.offset)
+    (if keeps_value n && is_readable wanted n.held then Found n.offset else Unreadable n.offset)
 
 abbrev pub target_among : Wanted → List NoteParts → Target
 target_among wanted [] = Missing

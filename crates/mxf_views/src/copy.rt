@@ -49,6 +49,7 @@ pub(crate) fn read_primer(note: &Note) -> Option<Primer<'_>>
     match note.held() {
         Held::Whole(value) => Primer::read(value).ok(),
         Held::Digest(_) => None,
+        Held::Head => None,
     }
 }
 

@@ -1,7 +1,8 @@
-//! Gaps: bytes of the file that no note holds.
-ghost use Rattle.std.specs.Prelude.{◌≡◌, ◌<◌, ◌^◌, List, length};
+//! Gaps: bytes of the file that no note covers.
+ghost use Rattle.std.specs.Prelude.{◌≡◌, ◌∷◌, [], ◌<◌, ◌^◌, List, cond, length, nat_lt, option_to_list};
 ghost use Rattle.mxf_klv.specs.Parts.{NoteParts};
 ghost use Rattle.mxf_catalogue.specs.Content.{IsContent};
+ghost use Rattle.mxf_catalogue.specs.Runs.{run};
 ghost use Rattle.std.specs.Iterator.{YieldsFirst, item_count};
 ghost use Rattle.mxf_views.specs.Gaps.{AreGaps, gaps_of};
 
@@ -11,16 +12,19 @@ use std::marker::Model;
 /// The gaps that are left, rising.
 #[derive(Debug, Drop)]
 pub struct Gaps<'a> {
+    /// The gaps of what the notes cover.
     gaps: CoverGaps<'a>,
+    /// Behind these the one up to the greatest end.
+    last: Option<Run>,
 }
 
 impl<'a> Model for Gaps<'a> {
-    ghost use Rattle.std.specs.Prelude.{List};
+    ghost use Rattle.std.specs.Prelude.{◌++◌, List, option_to_list};
     ghost use Rattle.mxf_catalogue.specs.declared.run.Run.{Run};
 
     ghost Value = { List Run };
 
-    ghost view = { λ s. s.gaps };
+    ghost view = { λ s. s.gaps ++ option_to_list s.last };
 }
 
 impl<'a> Gaps<'a> {
@@ -28,8 +32,10 @@ impl<'a> Gaps<'a> {
         ensures gaps { result ≡ gaps_of catalogue.now }
         ensures bound { length result < 2 ^ 64 }
     {
+        let spans = catalogue.spans();
         Gaps {
-            gaps: catalogue.spans().gaps(),
+            gaps: spans.gaps(),
+            last: range(spans.end(), catalogue.end()),
         }
     }
 }
@@ -42,12 +48,26 @@ impl<'a> Iterator for Gaps<'a> {
     ghost remaining = { item_count (λ s. s) };
 
     fn next(&mut self) -> Option<Run> {
-        self.gaps.next()
+        match self.gaps.next() {
+            Some(gap) => Some(gap),
+            None => self.last.take(),
+        }
+    }
+}
+
+/// The range from `start` up to `end`, where it has a byte.
+fn range(start: u64, end: u64) -> Option<Run>
+    ensures { option_to_list result ≡ cond (nat_lt start end) (run start end ∷ []) [] }
+{
+    if start < end {
+        Some(Run { start, end })
+    } else {
+        None
     }
 }
 
 /// A law of [`Views::gaps`](crate::Views::gaps): its runs are the maximal ranges of offsets that lie below the end of some
-/// note and in none.
+/// note and that none covers.
 pub fn gaps_by_definition()
     ensures { (notes : List NoteParts) → IsContent notes → AreGaps notes (gaps_of notes) }
 {}

@@ -40,6 +40,7 @@ fn read_value(note: &Note) -> Option<Segment<'_>>
     match note.held() {
         Held::Whole(value) => Segment::read(value).ok(),
         Held::Digest(_) => None,
+        Held::Head => None,
     }
 }
 

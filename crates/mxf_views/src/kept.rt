@@ -3,7 +3,7 @@
 ghost use Rattle.std.specs.Prelude.{◌≡◌, List, ◌<◌, ◌≤◌, IfOk, OnOk, count_by, ◌++◌, ◌∷◌, ◌+◌, [], ℕ, vec_len, vec_capacity};
 ghost use Rattle.mxf_klv.specs.Parts.{NoteParts};
 ghost use Rattle.mxf_klv.specs.Rising.{In};
-ghost use Rattle.mxf_catalogue.specs.Content.{IsContent, union_of, with_note};
+ghost use Rattle.mxf_catalogue.specs.Content.{IsContent, has_note, reduced_union, reduced_with, union_of};
 ghost use Rattle.mxf_catalogue.specs.Disputes.{clear_notes};
 ghost use Rattle.mxf_views.specs.Kept.{is_placed, states_metadata, HasRoom, HasRoomForOne, IsArrival, kept_in, kept_of};
 ghost use Rattle.mxf_views.specs.KeptAbove.{IsUnionAt, MeetAt};
@@ -82,7 +82,7 @@ impl Kept {
     pub fn make_room_for(&mut self, own: &Catalogue, other: &Catalogue) -> Result<(), AllocError>
         requires { kept_in self.old ≡ kept_of own.now }
         ensures kept { kept_in self.new ≡ kept_in self.old }
-        ensures room { OnOk result (HasRoom (union_of own.now other.now) self.new) }
+        ensures room { OnOk result (HasRoom (reduced_union own.now other.now) self.new) }
     {
         // What a catalogue lends says that its notes are those of a file.
         let _own = own.notes();
@@ -92,8 +92,10 @@ impl Kept {
 
     /// Room for the sums of the notes of two catalogues.
     pub fn sums_room(&self, own: &Catalogue, other: &Catalogue) -> Result<Vec<Sum>, AllocError>
-        ensures { IfOk result (λ r. HasSumsRoom (union_of own.now other.now) 0 r.items (vec_capacity r)) }
+        ensures { IfOk result (λ r. HasSumsRoom (reduced_union own.now other.now) 0 r.items (vec_capacity r)) }
     {
+        // What a catalogue lends says that its notes are reduced.
+        let _own = own.notes();
         let count = own.len().saturating_add(other.len());
         let room = Vec::with_capacity(*self.partitions.allocator(), count)?;
         Ok(room)
@@ -194,8 +196,8 @@ impl Kept {
     pub fn follow(&mut self, catalogue: &Catalogue, arrival: &Arrival)
         requires kept { (notes : List NoteParts) × IsContent notes × (kept_in self.old ≡ kept_of notes) }
         requires room { HasRoomForOne self.old }
-        ensures { (x : NoteParts) (notes : List NoteParts) → ¬ In x notes → IsArrival x notes arrival.now
-            → catalogue.now ≡ with_note x notes → kept_in self.old ≡ kept_of notes
+        ensures { (x : NoteParts) (notes : List NoteParts) → ¬ has_note notes x → IsArrival x notes arrival.now
+            → catalogue.now ≡ reduced_with x notes → kept_in self.old ≡ kept_of notes
             → kept_in self.new ≡ kept_of catalogue.now }
     {
         let at = arrival.offset;

@@ -39,6 +39,7 @@ fn read_pack(note: &Note) -> Option<PartitionPack<'_>>
     match note.held() {
         Held::Whole(value) => PartitionPack::read(&note.key(), value).ok(),
         Held::Digest(_) => None,
+        Held::Head => None,
     }
 }
 

@@ -157,6 +157,7 @@ pub(crate) fn read_rip(note: &Note) -> Option<Rip<'_>>
     match note.held() {
         Held::Whole(value) => Rip::read(note.width(), value).ok(),
         Held::Digest(_) => None,
+        Held::Head => None,
     }
 }
 

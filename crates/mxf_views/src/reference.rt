@@ -42,6 +42,7 @@ pub(crate) fn has_uid(note: &Note, uid: &Uuid) -> bool
     match note.held() {
         Held::Whole(value) => reads_uid(value, uid),
         Held::Digest(_) => false,
+        Held::Head => false,
     }
 }
 

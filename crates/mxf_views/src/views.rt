@@ -4,7 +4,7 @@ ghost use Rattle.std.specs.List.{list_all};
 ghost use Rattle.mxf_catalogue.specs.Disputes.{SharesByte, clear_notes};
 ghost use Rattle.mxf_klv.specs.Parts.{NoteParts};
 ghost use Rattle.mxf_klv.specs.Rising.{In};
-ghost use Rattle.mxf_catalogue.specs.Content.{has_note, with_note, union_of};
+ghost use Rattle.mxf_catalogue.specs.Content.{AreReduced, has_note, reduced_union, reduced_with};
 ghost use Rattle.mxf_catalogue.specs.History.{History, Add, Join, Of, content};
 ghost use Rattle.mxf_catalogue.specs.Moved.{TellsMoved};
 ghost use Rattle.mxf_views.specs.Partitions.{partitions_of, link_of, link_at, is_linked, chain_of, is_header, is_footer, is_greatest, is_no_unreadable_pack, stands_above};
@@ -101,17 +101,17 @@ impl Views {
         }
     }
 
-    /// Adds the note to the catalogue.
+    /// Adds the note to the catalogue. A held note, and the head of one, is `Repeated` and takes no memory.
     pub fn add(&mut self, note: Note) -> Result<Change, AddFault>
-        ensures added { OnOk result (self.new ≡ with_note note self.old) }
-        ensures repeated { (result ≡ Ok Change.Repeated) ↔ In note self.old }
+        ensures added { OnOk result (self.new ≡ reduced_with note self.old) }
+        ensures repeated { (result ≡ Ok Change.Repeated) ↔ has_note self.old note }
         ensures moved { IfOk result (TellsMoved note self.old) }
         ensures fault { IfErr result (λ f. f.note ≡ note) }
         ensures err { OnErr result (self.new ≡ self.old) }
         ensures history { (h : History) → self.old ≡ content h → OnOk result (self.new ≡ content (Add h note)) }
     {
         let arrival = Arrival::of(&self.catalogue, &note);
-        if self.catalogue.holds(&note) {
+        if self.catalogue.has(&note) {
             return Ok(Change::Repeated);
         }
         let Ok(()) = self.kept.make_room() else {
@@ -124,7 +124,7 @@ impl Views {
 
     /// The views of the notes of both.
     pub fn join(alloc: Global, a: &Views, b: &Views) -> Result<Views, OutOfMemory>
-        ensures joined { IfOk result (λ v. v ≡ union_of a.now b.now) }
+        ensures joined { IfOk result (λ v. v ≡ reduced_union a.now b.now) }
         ensures history { (h k : History) → a.now ≡ content h → b.now ≡ content k
             → IfOk result (λ v. v ≡ content (Join h k)) }
     {
@@ -138,7 +138,7 @@ impl Views {
     ///
     /// The only fault is want of memory. The other catalogue comes back and these views are unchanged.
     pub fn merge(&mut self, other: Catalogue) -> Result<(), MergeFault>
-        ensures merged { OnOk result (self.new ≡ union_of self.old other) }
+        ensures merged { OnOk result (self.new ≡ reduced_union self.old other) }
         ensures err { OnErr result (self.new ≡ self.old) }
         ensures back { IfErr result (λ f. f.other ≡ other) }
         ensures history { (h k : History) → self.old ≡ content h → other ≡ content k
@@ -153,7 +153,7 @@ impl Views {
     /// The same, where the other's notes begin at the boundary or above, and these end there or below.
     fn merge_above(&mut self, other: Catalogue, boundary: u64) -> Result<(), MergeFault>
         requires { MeetAt boundary self.old other }
-        ensures merged { OnOk result (self.new ≡ union_of self.old other) }
+        ensures merged { OnOk result (self.new ≡ reduced_union self.old other) }
         ensures err { OnErr result (self.new ≡ self.old) }
         ensures back { IfErr result (λ f. f.other ≡ other) }
     {
@@ -170,7 +170,7 @@ impl Views {
 
     /// The same, wherever the other's notes stand.
     fn merge_among(&mut self, other: Catalogue) -> Result<(), MergeFault>
-        ensures merged { OnOk result (self.new ≡ union_of self.old other) }
+        ensures merged { OnOk result (self.new ≡ reduced_union self.old other) }
         ensures err { OnErr result (self.new ≡ self.old) }
         ensures back { IfErr result (λ f. f.other ≡ other) }
     {
@@ -464,8 +464,8 @@ pub fn views_let_go_of_disputed_notes()
     ensures { (a b : List NoteParts) → clear_notes a ≡ clear_notes b → SameViews a b }
 {}
 
-/// A law of [`Views::add`]: no note is clear that shares a byte with another one which is added.
+/// A law of [`Views::add`]: no note is clear that shares a byte with a new one which is added.
 pub fn added_notes_dispute_what_they_touch()
-    ensures { (m n : NoteParts) (notes : List NoteParts) → In m notes → n ≢ m → SharesByte n m
-        → ¬ In m (clear_notes (with_note n notes)) }
+    ensures { (m n : NoteParts) (notes : List NoteParts) → AreReduced notes → ¬ has_note notes n → In m notes
+        → SharesByte n m → ¬ In m (clear_notes (reduced_with n notes)) }
 {}

@@ -1,7 +1,7 @@
 //! Notes that are added to views one by one: what is kept of the copies follows each.
-use crate::building::views_at;
+use crate::building::{finds, views_at};
 use mxf_catalogue::Change;
-use mxf_views::{Chain, Code, CopyInfo, Finding, Views};
+use mxf_views::{Chain, Code, CopyInfo, Views};
 use mxf_worked::builders::{essence, joined, packet};
 use mxf_worked::worked_files::{
     FILL_KEY, FOOTER_KEY, Numbers, bare_preface, header, one_copy, partition_value, primer,
@@ -81,18 +81,6 @@ fn moves(views: &mut Views, offset: u64, wanted: &[u64]) -> Result<bool, Fail> {
         Change::Added { moved } => Ok(moved.as_slice() == wanted),
         Change::Repeated => Ok(false),
     }
-}
-
-/// Whether these are the findings.
-fn finds(alloc: Global, views: &Views, wanted: &[(u64, Code)]) -> Result<bool, Fail> {
-    let mut findings = Vec::new(alloc);
-    for (offset, code) in wanted {
-        findings.push(Finding {
-            offset: *offset,
-            code: *code,
-        })?;
-    }
-    Ok(views.findings(alloc)?.as_slice() == findings.as_slice())
 }
 
 /// The copy at a place.

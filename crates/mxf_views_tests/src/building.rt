@@ -1,5 +1,5 @@
 //! The views that tests build.
-use mxf_views::Views;
+use mxf_views::{Code, Finding, Views};
 use mxf_worked::builders::note_of_file;
 use std::alloc::Global;
 use std::test::Fail;
@@ -11,4 +11,16 @@ pub(crate) fn views_at(alloc: Global, file: &[u8], offsets: &[usize]) -> Result<
         views.add(note_of_file(alloc, file, *offset)?)?;
     }
     Ok(views)
+}
+
+/// Whether these are the findings.
+pub(crate) fn finds(alloc: Global, views: &Views, wanted: &[(u64, Code)]) -> Result<bool, Fail> {
+    let mut findings = Vec::new(alloc);
+    for (offset, code) in wanted {
+        findings.push(Finding {
+            offset: *offset,
+            code: *code,
+        })?;
+    }
+    Ok(views.findings(alloc)?.as_slice() == findings.as_slice())
 }

@@ -10,6 +10,10 @@ mod building;
 #[cfg(test)]
 mod copies;
 #[cfg(test)]
+mod cut_packets;
+#[cfg(test)]
+mod heads;
+#[cfg(test)]
 mod index;
 #[cfg(test)]
 mod partitions;

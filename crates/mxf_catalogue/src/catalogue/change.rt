@@ -3,10 +3,11 @@ ghost use Rattle.std.specs.Prelude.{◌≡◌, ◌↔◌, List, map, IfOk};
 ghost use Rattle.std.specs.Ordering.{nat_cmp};
 ghost use Rattle.mxf_klv.specs.Parts.{NoteParts};
 ghost use Rattle.mxf_klv.specs.Rising.{In, IsRising};
-ghost use Rattle.mxf_catalogue.specs.Content.{IsContent, with_note};
-ghost use Rattle.mxf_catalogue.specs.Disputes.{IsClear, IsDisputed};
+ghost use Rattle.mxf_catalogue.specs.Content.{IsContent, reduced_with};
+ghost use Rattle.mxf_catalogue.specs.Disputes.{IsClear, IsDisputed, whole_notes};
 ghost use Rattle.mxf_catalogue.specs.Parts.{moved_by, moved_notes};
 
+use super::clear::ClearNotes;
 use mxf_klv::{Note, OutOfMemory};
 use std::alloc::{AllocError, Global};
 use std::marker::Model;
@@ -27,10 +28,13 @@ impl Model for Offsets {
 }
 
 impl Offsets {
+    /// Those of the notes that are no heads.
     pub(super) fn of(alloc: Global, notes: &[Note]) -> Result<Offsets, AllocError>
-        ensures { IfOk result (λ o. o ≡ map (λ n. n.offset) notes.now) }
+        ensures { IfOk result (λ o. o ≡ map (λ n. n.offset) (whole_notes notes.now)) }
     {
-        let items = notes.iter().map(|note| note.offset()).collect(alloc)?;
+        let items = ClearNotes::of(notes)
+            .map(|note| note.offset())
+            .collect(alloc)?;
         Ok(Offsets { items })
     }
 
@@ -66,9 +70,10 @@ impl Eq for Offsets {
 /// What adding a note did.
 #[derive(Debug, Drop, PartialEq, Eq)]
 pub enum Change {
-    /// The note was held already.
+    /// The note was held already, or is the head of a whole note that was held.
     Repeated,
-    /// The note is new. The offsets, rising, are those of the notes that were clear before and are disputed now.
+    /// The note is new, and takes the place of its head where that was held. The offsets, rising, are those of the notes
+    /// that were clear before and are disputed now; none is a head's.
     Added { moved: Offsets },
 }
 
@@ -89,7 +94,7 @@ impl From<AddFault> for OutOfMemory {
 /// were clear before and are disputed with the new note, rising.
 pub fn moved_notes_by_definition()
     ensures members { (m n : NoteParts) (notes : List NoteParts)
-        → In m (moved_notes n notes) ↔ IsClear m notes × IsDisputed m (with_note n notes) }
+        → In m (moved_notes n notes) ↔ IsClear m notes × IsDisputed m (reduced_with n notes) }
     ensures offsets { (n : NoteParts) (notes : List NoteParts)
         → moved_by n notes ≡ map (λ m. m.offset) (moved_notes n notes) }
     ensures rising { (n : NoteParts) (notes : List NoteParts) → IsContent notes → IsRising nat_cmp (moved_by n notes) }

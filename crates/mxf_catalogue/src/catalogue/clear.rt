@@ -1,10 +1,10 @@
-//! The clear notes of a catalogue: those that share no byte with another.
+//! The clear notes of a catalogue: those of whole packets that share no byte with another.
 ghost use Rattle.std.specs.Prelude.{◌≡◌, ◌≢◌, ◌↔◌, ◌^◌, ◌<◌, List, length};
 ghost use Rattle.std.specs.Iterator.{YieldsFirstRef, item_count};
 ghost use Rattle.mxf_klv.specs.Parts.{NoteParts};
 ghost use Rattle.mxf_klv.specs.Rising.{In};
 ghost use Rattle.mxf_catalogue.specs.Content.{IsContent};
-ghost use Rattle.mxf_catalogue.specs.Disputes.{IsClear, SharesByte, clear_notes};
+ghost use Rattle.mxf_catalogue.specs.Disputes.{IsClear, SharesByte, clear_notes, whole_notes};
 
 use mxf_klv::Note;
 use std::marker::Model;
@@ -18,15 +18,16 @@ pub struct ClearNotes<'a> {
 impl<'a> Model for ClearNotes<'a> {
     ghost use Rattle.std.specs.Prelude.{List};
     ghost use Rattle.mxf_klv.specs.Parts.{NoteParts};
+    ghost use Rattle.mxf_catalogue.specs.Disputes.{whole_notes};
 
     ghost Value = { List NoteParts };
 
-    ghost view = { λ s. s.left.now };
+    ghost view = { λ s. whole_notes s.left.now };
 }
 
 impl<'a> ClearNotes<'a> {
     pub(super) fn of(notes: &'a [Note]) -> ClearNotes<'a>
-        ensures notes { result ≡ notes.now }
+        ensures notes { result ≡ whole_notes notes.now }
         ensures bound { length result < 2 ^ 64 }
     {
         ClearNotes { left: notes }
@@ -41,9 +42,13 @@ impl<'a> Iterator for ClearNotes<'a> {
     ghost remaining = { item_count (λ s. s) };
 
     fn next(&mut self) -> Option<&'a Note> {
-        let (first, left) = self.left.split_first()?;
-        self.left = left;
-        Some(first)
+        while let Some((first, left)) = self.left.split_first() {
+            self.left = left;
+            if !first.is_head() {
+                return Some(first);
+            }
+        }
+        None
     }
 }
 

@@ -128,9 +128,10 @@ pub fn notes_are_disputed_in_two_ways()
     ensures { (n : NoteParts) (notes : List NoteParts) → IsDisputed n notes ↔ SharesOffset n notes ⊎ Overlaps n notes }
 {}
 
-/// A law: each note is clear or disputed, and none is both.
+/// A law: each note of a whole packet is clear or disputed, and none is both. A head is disputed, or neither.
 pub fn notes_are_clear_or_disputed()
-    ensures one { (n : NoteParts) (notes : List NoteParts) → In n notes → IsClear n notes ⊎ IsDisputed n notes }
+    ensures one { (n : NoteParts) (notes : List NoteParts) → In n notes → IsTrue n.whole
+        → IsClear n notes ⊎ IsDisputed n notes }
     ensures not_both { (n : NoteParts) (notes : List NoteParts) → IsClear n notes → IsDisputed n notes → ⊥ }
 {}
 

@@ -1,11 +1,11 @@
-//! The file of a catalogue, version 1 (this project's profile).
+//! The file of a catalogue, version 2 (this project's profile).
 ghost use Rattle.std.specs.Prelude.{◌≡◌, ◌≢◌, ◌⊎◌, ◌++◌, ◌∷◌, ◌<◌, ◌^◌, ◌↔◌, [], ℕ, List, length, flat_map};
-ghost use Rattle.std.specs.Prelude.{IfErr, IfOk, IsTrue, Result, Ok, Err};
+ghost use Rattle.std.specs.Prelude.{IfErr, IfOk, IsTrue, Result, Ok, Err, true, false};
 ghost use Rattle.mxf_klv.specs.Bytes.{AreBytes};
 ghost use Rattle.mxf_klv.specs.Parts.{NoteParts};
 ghost use Rattle.mxf_klv.specs.Written.{Puts};
-ghost use Rattle.mxf_catalogue.specs.Content.{IsCatalogue, IsContent};
-ghost use Rattle.mxf_catalogue.specs.CatalogueFile.{IsFileOf, IsRefused, ReadsFile};
+ghost use Rattle.mxf_catalogue.specs.Content.{AreReduced, IsCatalogue, IsContent};
+ghost use Rattle.mxf_catalogue.specs.CatalogueFile.{IsFileOf, IsHeadLast, IsRefused, ReadsFile};
 ghost use Rattle.mxf_catalogue.specs.CatalogueFile.{file_bytes, note_bytes, start_bytes};
 ghost use Rattle.mxf_catalogue.specs.History.{Read, content};
 ghost use Rattle.mxf_catalogue.specs.declared.catalogue.file.FileFault.{FileFault};
@@ -27,9 +27,9 @@ use thiserror::Error;
 /// Why bytes aren't the file of a catalogue. A place is a number of bytes from the first byte of the file.
 ///
 /// The causes are tested in this order: the first seven bytes, as far as there are any; byte eight, if there is one;
-/// whether there are sixteen; then for one note after another whether its head of 33 bytes is whole (`Truncated`),
+/// whether there are sixteen; then for one note after another whether its head of 33 bytes and its mark are whole (`Truncated`),
 /// whether a note can have it (`BadNote`), whether what the note holds is whole (`Truncated`), and whether the note is
-/// above the one before (`NotSorted`); then that nothing follows (`Trailing`). Memory may be found wanting between two
+/// above the one before (`NotSorted`) and takes no head's place (`NotReduced`); then that nothing follows (`Trailing`). Memory may be found wanting between two
 /// of these tests.
 #[derive(Clone, Copy, Debug, PartialEq, Eq, Error)]
 pub enum FileFault {
@@ -49,6 +49,9 @@ pub enum FileFault {
     /// The note at this place isn't above the one before it.
     #[error("not sorted at {0}")]
     NotSorted(u64),
+    /// The note before the one at this place is the head of its packet.
+    #[error("not reduced at {0}")]
+    NotReduced(u64),
     /// Bytes follow the last note, from this place on.
     #[error("trailing bytes at {0}")]
     Trailing(u64),
@@ -105,6 +108,9 @@ fn read_notes(alloc: Global, bytes: &[u8], count: u64, start: &[u8]) -> Result<V
         if !is_above(&notes, &note) {
             return Err(FileFault::NotSorted(place));
         }
+        if replaces_last(&notes, &note) {
+            return Err(FileFault::NotReduced(place));
+        }
         notes.push(note)?;
         rest = after;
     }
@@ -122,6 +128,17 @@ fn is_above(notes: &[Note], note: &Note) -> bool
     match notes.last() {
         Some(last) => last.cmp(note) == Ordering::Less,
         None => true,
+    }
+}
+
+/// Whether the last note of a content is the head of the note.
+fn replaces_last(notes: &[Note], note: &Note) -> bool
+    ensures last { result ≡ true → IsHeadLast notes.now note.now }
+    ensures none { result ≡ false → IsHeadLast notes.now note.now → ⊥ }
+{
+    match notes.last() {
+        Some(last) => note.tells(last),
+        None => false,
     }
 }
 
@@ -168,7 +185,7 @@ pub fn bytes_are_a_file_or_refused()
 pub fn one_file()
     ensures content { (bytes : List ℕ) (a b : List NoteParts) → IsFileOf bytes a → IsFileOf bytes b → a ≡ b }
     ensures bytes { (x y : List ℕ) (notes : List NoteParts) → IsFileOf x notes → IsFileOf y notes → x ≡ y }
-    ensures equal { (a b : List NoteParts) → IsCatalogue a → IsCatalogue b
+    ensures equal { (a b : List NoteParts) → IsCatalogue a → IsCatalogue b → AreReduced a → AreReduced b
         → length a < 2 ^ 64 → length b < 2 ^ 64 → file_bytes a ≡ file_bytes b → a ≡ b }
 {}
 
@@ -177,9 +194,9 @@ pub fn one_file()
 ///
 /// [`Catalogue::notes`] says that a catalogue meets both premises.
 pub fn files_are_read_as_written()
-    ensures file { (notes : List NoteParts) → IsCatalogue notes → length notes < 2 ^ 64
+    ensures file { (notes : List NoteParts) → IsCatalogue notes → AreReduced notes → length notes < 2 ^ 64
         → IsFileOf (file_bytes notes) notes }
-    ensures read_back { (notes : List NoteParts) → IsCatalogue notes → length notes < 2 ^ 64
+    ensures read_back { (notes : List NoteParts) → IsCatalogue notes → AreReduced notes → length notes < 2 ^ 64
         → ReadsFile (file_bytes notes) (Ok notes) }
     ensures written_back { (bytes : List ℕ) (notes : List NoteParts)
         → ReadsFile bytes (Ok notes) → bytes ≡ file_bytes notes }

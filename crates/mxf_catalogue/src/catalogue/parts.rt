@@ -1,24 +1,25 @@
-//! The two parts of a content: its clear notes and its disputed ones.
+//! The two parts of a content: its undisputed notes and its disputed ones.
 ghost use Rattle.std.specs.Prelude.{◌≡◌, ◌↔◌, ◌⊎◌, ◌++◌, ◌+◌, ◌<◌, ◌≤◌, ℕ, [], length, map, false};
 ghost use Rattle.std.specs.Prelude.{vec_len, vec_capacity, IsTrue, IfOk, OnOk};
 ghost use Rattle.mxf_klv.specs.Parts.{NoteParts};
 ghost use Rattle.mxf_klv.specs.Rising.{In};
-ghost use Rattle.mxf_catalogue.specs.Content.{IsContent, union_of, with_note};
+ghost use Rattle.mxf_klv.specs.Note.{head_note};
+ghost use Rattle.mxf_catalogue.specs.Content.{AreReduced, IsContent, has_note, reduced_union, reduced_with, union_of};
 ghost use Rattle.mxf_catalogue.specs.Covers.{IsCover};
-ghost use Rattle.mxf_catalogue.specs.Disputes.{SharesByte};
+ghost use Rattle.mxf_catalogue.specs.Disputes.{SharesByte, whole_notes};
 ghost use Rattle.mxf_catalogue.specs.Parts.{AreParts, IsKept, IsWhole, touching};
 ghost use Rattle.mxf_catalogue.specs.Rooms.{IsRoomFor};
 
 use super::change::Offsets;
 use super::merging::{MergedNotes, merged};
-use super::placing::{hull, is_in, move_touched, put, touched};
+use super::placing::{hull, is_in, move_touched, put, put_over_head, tell, touched};
 use crate::cover::{meets, put_run};
 use crate::run::Run;
 use mxf_klv::{MAX, Note};
 use std::alloc::{AllocError, Global};
 
-/// The clear notes of a content and the disputed ones, each in their order, and the maximal runs of the spans of the
-/// disputed ones.
+/// The undisputed notes of a content, its clear notes and the heads that share no byte with another, and the disputed
+/// ones, each in their order, and the maximal runs of the spans of the disputed ones.
 #[derive(Debug, Drop)]
 pub(super) struct Parts {
     pub clear: Vec<Note>,
@@ -48,13 +49,21 @@ impl Parts {
         is_in(&self.clear, note) || is_in(&self.disputed, note)
     }
 
-    /// Makes room for a new note and for those that it moves, whose offsets are the answer.
+    /// Whether one of the parts has the note, or a note of its packet that was read whole, where it is a head.
+    pub fn tell(&self, note: &Note) -> bool
+        requires { AreParts self.now.clear.items self.now.disputed.items }
+        ensures { IsTrue result ↔ has_note (union_of self.now.clear.items self.now.disputed.items) note.now }
+    {
+        tell(&self.clear, note) || tell(&self.disputed, note)
+    }
+
+    /// Makes room for a new note and for those that it moves; the answer is the offsets of those that are no heads.
     pub fn make_room(&mut self, note: &Note) -> Result<Offsets, AllocError>
         requires { AreParts self.old.clear.items self.old.disputed.items }
         ensures clear { self.new.clear.items ≡ self.old.clear.items }
         ensures disputed { self.new.disputed.items ≡ self.old.disputed.items }
         ensures disputed_spans { self.new.disputed_spans.items ≡ self.old.disputed_spans.items }
-        ensures moved { IfOk result (λ o. o ≡ map (λ n. n.offset) (touching note.now self.old.clear.items)) }
+        ensures moved { IfOk result (λ o. o ≡ map (λ n. n.offset) (whole_notes (touching note.now self.old.clear.items))) }
         ensures clear_room { OnOk result (vec_len self.new.clear < vec_capacity self.new.clear) }
         ensures disputed_room { OnOk result (vec_len self.new.disputed + length (touching note.now self.new.clear.items)
             < vec_capacity self.new.disputed) }
@@ -84,14 +93,14 @@ impl Parts {
     /// Puts a new note into the parts, which have room for it and for what it moves.
     pub fn put(&mut self, note: Note)
         requires kept { IsKept self.old.clear.items self.old.disputed.items self.old.disputed_spans.items }
-        requires new { In note (union_of self.old.clear.items self.old.disputed.items) → ⊥ }
+        requires new { has_note (union_of self.old.clear.items self.old.disputed.items) note → ⊥ }
         requires clear_room { vec_len self.old.clear < vec_capacity self.old.clear }
         requires disputed_room { vec_len self.old.disputed + length (touching note self.old.clear.items)
             < vec_capacity self.old.disputed }
         requires spans_room { vec_len self.old.disputed_spans < vec_capacity self.old.disputed_spans }
         ensures kept { IsKept self.new.clear.items self.new.disputed.items self.new.disputed_spans.items }
         ensures content { union_of self.new.clear.items self.new.disputed.items
-            ≡ with_note note (union_of self.old.clear.items self.old.disputed.items) }
+            ≡ reduced_with note (union_of self.old.clear.items self.old.disputed.items) }
         ensures clear_len { vec_len self.new.clear ≤ vec_len self.old.clear + 1 }
         ensures len { vec_len self.new.clear + vec_len self.new.disputed
             ≤ vec_len self.old.clear + vec_len self.old.disputed + 1 }
@@ -102,6 +111,10 @@ impl Parts {
     {
         // What is held is a note, which ends where a packet may.
         prove!(note.offset() <= MAX);
+        if self.have(&note.to_head()) {
+            self.put_in_place(note);
+            return;
+        }
         if self.are_apart_from(&note) {
             put(&mut self.clear, note);
             return;
@@ -110,6 +123,30 @@ impl Parts {
         put_run(&mut self.disputed_spans, hull);
         move_touched(&note, &mut self.clear, &mut self.disputed);
         put(&mut self.disputed, note);
+    }
+
+    /// Puts a new note in the place of its head. The spans of both are one, so nothing else changes.
+    fn put_in_place(&mut self, note: Note)
+        requires kept { IsKept self.old.clear.items self.old.disputed.items self.old.disputed_spans.items }
+        requires new { has_note (union_of self.old.clear.items self.old.disputed.items) note → ⊥ }
+        requires head { In (head_note note) (union_of self.old.clear.items self.old.disputed.items) }
+        ensures kept { IsKept self.new.clear.items self.new.disputed.items self.new.disputed_spans.items }
+        ensures content { union_of self.new.clear.items self.new.disputed.items
+            ≡ reduced_with note (union_of self.old.clear.items self.old.disputed.items) }
+        ensures clear_len { vec_len self.new.clear ≡ vec_len self.old.clear }
+        ensures disputed_len { vec_len self.new.disputed ≡ vec_len self.old.disputed }
+        ensures spans_len { vec_len self.new.disputed_spans ≡ vec_len self.old.disputed_spans }
+        ensures clear_capacity { vec_capacity self.new.clear ≡ vec_capacity self.old.clear }
+        ensures disputed_capacity { vec_capacity self.new.disputed ≡ vec_capacity self.old.disputed }
+        ensures spans_capacity { vec_capacity self.new.disputed_spans ≡ vec_capacity self.old.disputed_spans }
+    {
+        // What is held is a note.
+        prove!(note.offset() <= MAX);
+        if is_in(&self.clear, &note.to_head()) {
+            put_over_head(&mut self.clear, note);
+        } else {
+            put_over_head(&mut self.disputed, note);
+        }
     }
 
     /// Empty parts with room for so many notes.
@@ -156,7 +193,7 @@ impl Parts {
             runs.new.items }
         ensures cover { IsCover runs.new.items }
         ensures content { union_of self.new.clear.items self.new.disputed.items
-            ≡ union_of (union_of self.old.clear.items self.old.disputed.items) notes }
+            ≡ reduced_union (union_of self.old.clear.items self.old.disputed.items) notes }
     {
         for note in notes {
             self.put_any(runs, note);
@@ -176,7 +213,7 @@ impl Parts {
             runs.new.items }
         ensures cover { IsCover runs.new.items }
         ensures content { union_of self.new.clear.items self.new.disputed.items
-            ≡ with_note note (union_of self.old.clear.items self.old.disputed.items) }
+            ≡ reduced_with note (union_of self.old.clear.items self.old.disputed.items) }
         ensures clear_len { vec_len self.new.clear ≤ vec_len self.old.clear + 1 }
         ensures len { vec_len self.new.clear + vec_len self.new.disputed
             ≤ vec_len self.old.clear + vec_len self.old.disputed + 1 }
@@ -187,14 +224,14 @@ impl Parts {
         ensures spans_capacity { vec_capacity self.new.disputed_spans ≡ vec_capacity self.old.disputed_spans }
         ensures runs_capacity { vec_capacity runs.new ≡ vec_capacity runs.old }
     {
-        if self.have(&note) {
+        if self.tell(&note) {
             return;
         }
         // What is held is a note, which ends where a packet may.
         prove!(note.offset() <= MAX);
         let span = Run {
             start: note.offset(),
-            end: note.end(),
+            end: note.covered_end(),
         };
         put_run(runs, span);
         self.put(note);

@@ -1,11 +1,11 @@
 //! Where notes stand in a content: at its end, or by binary search.
-ghost use Rattle.std.specs.Prelude.{◌≡◌, ◌≢◌, ◌↔◌, ◌+◌, ◌<◌, ◌≤◌, ◌++◌, take, drop, filter, map, length};
+ghost use Rattle.std.specs.Prelude.{◌≡◌, ◌≢◌, ◌↔◌, ◌+◌, ◌<◌, ◌≤◌, ◌++◌, ℕ, take, drop, filter, map, length};
 ghost use Rattle.std.specs.Prelude.{vec_len, vec_capacity, IsTrue, IfErr, IfNone, IfOk, IfSome, OnOk};
 ghost use Rattle.std.specs.List.{AllWithin};
 ghost use Rattle.mxf_klv.specs.Parts.{NoteParts};
-ghost use Rattle.mxf_klv.specs.Note.{end_of};
+ghost use Rattle.mxf_klv.specs.Note.{end_of, head_note};
 ghost use Rattle.mxf_klv.specs.Rising.{In};
-ghost use Rattle.mxf_catalogue.specs.Content.{IsCatalogue, IsContent, IsPlace, with_note, union_of};
+ghost use Rattle.mxf_catalogue.specs.Content.{AreReduced, IsCatalogue, IsContent, IsPlace, has_note, reduced_with, with_note, union_of};
 ghost use Rattle.mxf_catalogue.specs.Covers.{spanned};
 ghost use Rattle.mxf_catalogue.specs.Disputes.{lies_in};
 ghost use Rattle.mxf_catalogue.specs.Parts.{StandApart, touching, away_from, run_of};
@@ -31,6 +31,48 @@ pub(super) fn is_in(notes: &[Note], note: &Note) -> bool
     ensures { IsTrue result ↔ In note.now notes.now }
 {
     place(notes, note).is_ok()
+}
+
+/// Whether the note is one of the content, or the head of one: that stands directly behind the place of the head.
+pub(super) fn tell(notes: &[Note], note: &Note) -> bool
+    requires { IsContent notes.now }
+    ensures { IsTrue result ↔ has_note notes.now note.now }
+{
+    match place(notes, note) {
+        Ok(_) => true,
+        Err(at) => match notes.get(at) {
+            Some(next) => next.tells(note),
+            None => false,
+        },
+    }
+}
+
+/// Puts a new note in the place of its head, which is one of the content.
+pub(super) fn put_over_head(notes: &mut Vec<Note>, note: Note)
+    requires content { IsContent notes.old.items }
+    requires reduced { AreReduced notes.old.items }
+    requires head { In (head_note note) notes.old.items }
+    requires new { In note notes.old.items → ⊥ }
+    ensures items { notes.new.items ≡ reduced_with note notes.old.items }
+    ensures len { vec_len notes.new ≡ vec_len notes.old }
+    ensures room { vec_capacity notes.new ≡ vec_capacity notes.old }
+{
+    match notes.binary_search(&note.to_head()) {
+        Ok(at) => notes[at] = note,
+        Err(_) => unreachable!(),
+    }
+}
+
+/// The end of the last of the notes, of which no two share a byte; 0 where there is none.
+pub(super) fn last_end(notes: &[Note]) -> u64
+    requires content { IsContent notes.now }
+    requires apart { StandApart notes.now }
+    ensures { (bound : ℕ) → result ≤ bound ↔ ((n : NoteParts) → In n notes.now → end_of n ≤ bound) }
+{
+    match notes.last() {
+        Some(last) => last.end(),
+        None => 0,
+    }
 }
 
 /// The number of the notes that end at or below the offset, of which no two share a byte.

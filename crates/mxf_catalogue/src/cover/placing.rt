@@ -7,6 +7,17 @@ ghost use Rattle.mxf_catalogue.specs.Runs.{LiesIn};
 
 use crate::run::Run;
 
+/// The end of the last run of a cover; 0 where there is none.
+pub(crate) fn last_end(runs: &[Run]) -> u64
+    requires { IsCover runs.now }
+    ensures { (bound : ℕ) → result ≤ bound ↔ ((offset : ℕ) → LiesIn runs.now offset → offset < bound) }
+{
+    match runs.last() {
+        Some(run) => run.end,
+        None => 0,
+    }
+}
+
 /// The number of the runs that end at or below the offset.
 fn ending_by(runs: &[Run], offset: u64) -> usize
     requires { IsCover runs.now }

@@ -1,8 +1,23 @@
 //! The order of notes (this project's profile).
 ghost use Rattle.std.specs.Prelude.{◌≡◌};
+ghost use Rattle.std.specs.Ordering.{bool_cmp, nat_cmp, on, then_cmp};
+ghost use Rattle.std.specs.Cmp.Lexicographic.{slice_cmp};
+ghost use Rattle.mxf_klv.specs.Parts.{NoteParts};
 
 use super::Note;
 use std::cmp::Ordering;
+
+impl Note {
+    /// How two notes of one packet stand: a head first, then by the held bytes.
+    fn cmp_held(&self, other: &Note) -> Ordering
+        ensures { result ≡ then_cmp (on (λ (n : NoteParts). n.whole) bool_cmp)
+            (on (λ (n : NoteParts). n.held) (slice_cmp nat_cmp)) self.now other.now }
+    {
+        self.is_whole()
+            .cmp(&other.is_whole())
+            .then_with(|| self.held_bytes().cmp(&other.held_bytes()))
+    }
+}
 
 impl PartialEq for Note {
     ghost use Rattle.std.specs.Ordering.{eq_by_cmp};
@@ -60,6 +75,6 @@ impl Ord for Note {
             .then(self.key.cmp(&other.key))
             .then(self.width.cmp(&other.width))
             .then(self.length.cmp(&other.length))
-            .then_with(|| self.held_bytes().cmp(&other.held_bytes()))
+            .then_with(|| self.cmp_held(other))
     }
 }

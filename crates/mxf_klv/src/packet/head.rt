@@ -2,10 +2,13 @@
 ghost use Rattle.std.specs.Prelude.{◌≡◌, ◌+◌, ◌≤◌, ◌↔◌, IsTrue, length};
 ghost use Rattle.std.specs.Option.{SomeIff};
 ghost use Rattle.mxf_klv.specs.Label.{BeginsAsLabel, IsLabel};
+ghost use Rattle.mxf_klv.specs.Note.{greatest_end};
+ghost use Rattle.mxf_klv.specs.Parts.{head_parts};
 
 use super::{Packet, PacketFault};
 use crate::ber::{Ber, read_ber};
 use crate::label::Ul;
+use crate::note::Note;
 
 /// A packet's key and length, and the bytes after them.
 #[derive(Debug, Drop)]
@@ -58,6 +61,14 @@ impl<'a> Head<'a> {
         ensures { result ≡ 16 + self.now.ber.width + self.now.ber.value }
     {
         16 + u128::from(self.ber.width()) + u128::from(self.ber.value())
+    }
+
+    /// The note that is a head, of a packet at a file offset, where that ends at or below [`MAX`](crate::MAX).
+    pub(crate) fn note(&self, offset: u64) -> Option<Note>
+        ensures { SomeIff result (offset + 16 + self.now.ber.width + self.now.ber.value ≤ greatest_end)
+            (head_parts offset self.now.key self.now.ber.width self.now.ber.value) }
+    {
+        Note::head(offset, self.key, self.ber.width(), self.ber.value())
     }
 
     /// The packet and its number of bytes, where its value is whole.

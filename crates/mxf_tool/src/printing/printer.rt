@@ -360,8 +360,5 @@ fn is_disputed(catalogue: &Catalogue, note: &Note) -> bool
     requires { In note.now catalogue.now }
     ensures { result ≡ is_disputed note.now catalogue.now }
 {
-    match catalogue.clear_at(note.offset()) {
-        Some(_) => false,
-        None => true,
-    }
+    catalogue.disputes(note)
 }

@@ -1,6 +1,6 @@
 //! What parts hold together, and which is at fault.
 use super::WORKED_FILE;
-use super::readers::{End, Slow, catalogue_file, packet, piece, saved};
+use super::readers::{End, Slow, catalogue_file, catalogue_file_with_head, packet, piece, saved};
 use crate::gathering::{GatherFault, Gathered, Part, PartFault, PieceReport, gather};
 use mxf_catalogue::FileFault;
 use mxf_klv::{Encode, Stop};
@@ -107,14 +107,42 @@ fn packets_in_every_order_with_repeats_and_empty_parts_save_equal_bytes(
     Ok(())
 }
 
+// The first 128 bytes of the worked file end behind the length of its second packet.
+#[test]
+fn a_cut_piece_hands_a_head_which_its_packet_replaces(rt: HostRuntime) -> Result<(), Fail> {
+    let alloc = rt.alloc();
+    let cut = catalogue_file_with_head(alloc)?;
+    let whole = catalogue_file(alloc, 3)?;
+    let front = packet(0, 128)?;
+    let gathered = gather_all(alloc, [piece(alloc, 0, front)?])?;
+    let report = Report {
+        noted: 1,
+        stop: Stop::Truncated(108),
+    };
+    assert_eq!(rt;
+        gathered.reports.as_slice(),
+        [PieceReport { offset: 0, report }].as_slice()
+    );
+    assert_eq!(rt; written(alloc, &gathered)?, cut);
+    for parts in [
+        [piece(alloc, 0, front)?, saved(alloc, &whole)?],
+        [saved(alloc, &whole)?, piece(alloc, 0, front)?],
+        [saved(alloc, &cut)?, piece(alloc, 0, WORKED_FILE)?],
+        [saved(alloc, &cut)?, saved(alloc, &whole)?],
+    ] {
+        assert_eq!(rt; written(alloc, &gather_all(alloc, parts)?)?, whole);
+    }
+    Ok(())
+}
+
 #[test]
 fn the_first_part_at_fault_is_named(rt: HostRuntime) -> Result<(), Fail> {
     let alloc = rt.alloc();
     let file = catalogue_file(alloc, 3)?;
-    let cut = file.get(..318).ok_or("past the end")?;
+    let cut = file.get(..321).ok_or("past the end")?;
     let truncated = GatherFault {
         part: 0,
-        fault: PartFault::Catalogue(FileFault::Truncated(258)),
+        fault: PartFault::Catalogue(FileFault::Truncated(260)),
     };
     assert_eq!(rt;
         fault_of(alloc, [saved(alloc, cut)?, saved(alloc, cut)?]),

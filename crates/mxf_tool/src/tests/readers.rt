@@ -76,9 +76,10 @@ pub(crate) fn packet(from: usize, to: usize) -> Result<&'static [u8], Fail> {
 }
 
 /// The file of the catalogue of the worked file's first packets, of which there are so many, by its format: sixteen bytes
-/// ahead, then of each note its offset, its key, the width of its length, its length, and its value.
+/// ahead, then of each note its offset, its key, the width of its length, its length, the mark of a whole packet, and its
+/// value.
 pub(crate) fn catalogue_file(alloc: Global, count: u8) -> Result<Vec<u8>, Fail> {
-    let mut file = Vec::from_slice(alloc, b"MXFCAT\x00\x01\x00\x00\x00\x00\x00\x00\x00")?;
+    let mut file = Vec::from_slice(alloc, b"MXFCAT\x00\x02\x00\x00\x00\x00\x00\x00\x00")?;
     file.push(count)?;
     let packets = [
         (0u8, 0usize, 108usize, 88u8),
@@ -88,8 +89,20 @@ pub(crate) fn catalogue_file(alloc: Global, count: u8) -> Result<Vec<u8>, Fail> 
     for (offset, from, to, length) in packets.into_iter().take(count as usize) {
         file.extend_from_slice(&[0, 0, 0, 0, 0, 0, 0, offset])?;
         file.extend_from_slice(packet(from, from + 16)?)?;
-        file.extend_from_slice(&[4, 0, 0, 0, 0, 0, 0, 0, length])?;
+        file.extend_from_slice(&[4, 0, 0, 0, 0, 0, 0, 0, length, 0])?;
         file.extend_from_slice(packet(from + 20, to)?)?;
     }
+    Ok(file)
+}
+
+/// The file of the catalogue of the worked file's first packet and the head of its second: that has the other mark, and
+/// nothing behind it.
+pub(crate) fn catalogue_file_with_head(alloc: Global) -> Result<Vec<u8>, Fail> {
+    let whole = catalogue_file(alloc, 1)?;
+    let mut file = Vec::from_slice(alloc, b"MXFCAT\x00\x02\x00\x00\x00\x00\x00\x00\x00\x02")?;
+    file.extend_from_slice(whole.get(16..).ok_or("a note")?)?;
+    file.extend_from_slice(&[0, 0, 0, 0, 0, 0, 0, 108])?;
+    file.extend_from_slice(packet(108, 124)?)?;
+    file.extend_from_slice(&[4, 0, 0, 0, 0, 0, 0, 0, 88, 1])?;
     Ok(file)
 }

@@ -98,6 +98,7 @@ pub fn set_items(note: &Note) -> Option<Items<'_>>
     match note.held() {
         Held::Whole(value) => whole_items(value),
         Held::Digest(_) => None,
+        Held::Head => None,
     }
 }
 

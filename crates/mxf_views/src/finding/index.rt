@@ -57,7 +57,7 @@ fn ends_above(end: u64, notes: Notes<'_>) -> bool
     ensures { result ≡ ends_above end notes.entry }
 {
     for note in notes {
-        if end < note.end() {
+        if !note.is_head() && end < note.end() {
             return true;
         }
     }

@@ -32,6 +32,7 @@ fn is_unreadable(note: &Note) -> bool
     match note.held() {
         Held::Whole(value) => !reads_value(note.kind(), value),
         Held::Digest(_) => true,
+        Held::Head => true,
     }
 }
 

@@ -19,7 +19,10 @@ use mxf_catalogue::Catalogue;
 pub(crate) fn boundary(own: &Catalogue, other: &Catalogue) -> Option<u64>
     ensures { IfSome result (λ b. MeetAt b own.now other.now) }
 {
-    let end = own.spans().end();
+    // What a catalogue lends says that its notes are reduced.
+    let _own = own.notes();
+    let _others = other.notes();
+    let end = own.end();
     match other.spans().runs().next() {
         Some(first) if first.start < end => None,
         _ => Some(end),

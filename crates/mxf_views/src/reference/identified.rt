@@ -33,6 +33,7 @@ fn uid_of(note: &Note) -> Option<Uuid>
     match note.held() {
         Held::Whole(value) => instance_uid(value).ok(),
         Held::Digest(_) => None,
+        Held::Head => None,
     }
 }
 

@@ -61,6 +61,7 @@ fn preface_in(note: &Note) -> Option<Preface<'_>>
     match note.held() {
         Held::Whole(value) => Preface::read(value).ok(),
         Held::Digest(_) => None,
+        Held::Head => None,
     }
 }
 
@@ -74,6 +75,7 @@ fn storage_in(note: &Note) -> Option<ContentStorage<'_>>
     match note.held() {
         Held::Whole(value) => ContentStorage::read(value).ok(),
         Held::Digest(_) => None,
+        Held::Head => None,
     }
 }
 

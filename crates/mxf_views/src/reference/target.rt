@@ -79,6 +79,7 @@ impl Wanted {
         let readable = match note.held() {
             Held::Whole(value) => self.is_readable(value),
             Held::Digest(_) => false,
+            Held::Head => false,
         };
         if readable {
             Target::Found(offset)

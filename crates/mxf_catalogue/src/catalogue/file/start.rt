@@ -12,7 +12,7 @@ use std::io::Write;
 const MAGIC: [u8; 7] = [0x4D, 0x58, 0x46, 0x43, 0x41, 0x54, 0x00];
 
 /// The byte after it.
-const VERSION: u8 = 1;
+const VERSION: u8 = 2;
 
 /// The count of notes that a file tells, and the bytes after it.
 pub(super) fn split_start(bytes: &[u8]) -> Result<(u64, &[u8]), FileFault>

@@ -1,6 +1,6 @@
 use Rattle.std.proofs.Common.{◌∙◌, ap}
 use Rattle.std.proofs.lemmas.Result.{err_from_is_err_and}
-use Rattle.mxf_catalogue.specs.Content.{union_of}
+use Rattle.mxf_catalogue.specs.Content.{reduced_union}
 use Rattle.mxf_read.proofs.GoingOn.{content_from}
 use Rattle.mxf_read.proofs.Reports.{from_merged, from_none, of_stream}
 use Rattle.mxf_read.proofs.absorbing.absorb_from.Goals as goal
@@ -17,7 +17,7 @@ pub returns-clause-taken : goal.returns-clause-taken
 returns-clause-taken g c =
     from_merged c.args.views.now c.fill-absorbed.new.piece.notes c.merge_notes.new.views _ _ c.args.offset c.args.limit
     c.fill-absorbed.result (c.fill-absorbed.ensures.taken c.args.offset c.new-piece.ensures)
-    (c.in_ok-merge_notes.ensures.merged ∙ ap (union_of c.args.views.now) c.into_notes.ensures)
+    (c.in_ok-merge_notes.ensures.merged ∙ ap (reduced_union c.args.views.now) c.into_notes.ensures)
 
 pub returns-clause-stream : goal.returns-clause-stream
 returns-clause-stream g c =

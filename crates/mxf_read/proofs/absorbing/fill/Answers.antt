@@ -1,10 +1,10 @@
-use Rattle.mxf_read.proofs.Reports.{filled_fault, filled_memory, filled_ok}
+use Rattle.mxf_read.proofs.Reports.{filled_end, filled_fault, filled_memory}
 use Rattle.mxf_read.proofs.absorbing.fill.Goals as goal
 
 pub returns-in-Ok-clause-taken : goal.returns-in-Ok-clause-taken
 returns-in-Ok-clause-taken g c = λ o start.
-    filled_ok o c.args.limit _ _ c.args.piece.now c.read_all.new.piece c.report.result start c.in-Ok.ensures.bytes
-    (c.report.ensures o)
+    filled_end o c.args.limit _ _ c.args.piece.now c.read_all.new.piece c.finish.new.piece.notes c.finish.result start
+    c.in-Ok.ensures.bytes (c.finish.ensures o)
 
 pub returns-in-Err-OutOfMemory-clause-taken : goal.returns-in-Err-OutOfMemory-clause-taken
 returns-in-Err-OutOfMemory-clause-taken g c = λ o start.

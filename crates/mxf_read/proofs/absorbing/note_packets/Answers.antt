@@ -1,8 +1,11 @@
-use Rattle.std.proofs.Common.{◌∙◌, ◌+◌, ◌∷◌, List, ℕ, refl, sym, ap, arith, length}
+use Rattle.std.proofs.Common.{◌≡◌, ◌∙◌, ◌+◌, None, Some, drop, ◌∷◌, List, ℕ, refl, sym, ap, arith, length}
 use Rattle.std.proofs.lemmas.List.{length-drop}
 use Rattle.mxf_klv.specs.Note.{note_of}
-use Rattle.mxf_klv.specs.PieceReading.{notes_in, stop_in}
-use Rattle.mxf_read.proofs.Taking.{one_more, stopped, ended}
+use Rattle.mxf_klv.specs.Packet.{size_of}
+use Rattle.mxf_klv.specs.Parts.{PacketParts}
+use Rattle.mxf_klv.specs.PieceReading.{notes_in, packet_at, packets_in, stop_in}
+use Rattle.mxf_klv.proofs.PieceLaws.{packets_in-none, packets_in-some}
+use Rattle.mxf_read.proofs.Taking.{ended, one_more, stopped, stopped_at_head}
 use Rattle.mxf_read.proofs.absorbing.note_packets.Goals as goal
 
 pub returns-in_default : goal.returns-in_default
@@ -11,11 +14,35 @@ returns-in_default c =
     c.packets.noted c.packets.at (note_of c.packets.at c.in-Ok.packet) c.packets.invariant.notes
     c.in-Ok.ensures.goes_on.notes c.in_default.ensures.err refl
 
-pub returns-in-Err : goal.returns-in-Err
-returns-in-Err c =
+-- all packets were noted
+all_noted : (noted at offset : ℕ) (rest bytes : List ℕ)
+    → noted + length (packets_in at rest) ≡ length (packets_in offset bytes) → packet_at at rest ≡ None
+    → noted ≡ length (packets_in offset bytes)
+all_noted noted at offset rest bytes count none = omega (arith, count, ap length (packets_in-none at rest none))
+
+pub returns-in-Ok-note_head : goal.returns-in-Ok-note_head
+returns-in-Ok-note_head c =
     let i = c.packets.invariant in
-    ended c.args.catalogue.now c.packets.catalogue c.args.offset c.args.bytes.now _ c.packets.noted c.in-Err.stop i.notes
-    c.in-Err.ensures.ends.notes (sym (i.stop ∙ c.in-Err.ensures.ends.stop))
+    ended c.args.catalogue.now c.packets.catalogue c.note_head.new.catalogue c.args.offset c.args.bytes.now _ _
+    c.packets.noted c.in-Err.stop i.notes c.in-Err.ensures.ends.notes c.in-Ok-note_head.ensures.noted
+    (all_noted c.packets.noted c.packets.at c.args.offset c.packets.rest.now c.args.bytes.now i.count
+    c.in-Err.ensures.none.0) (sym (i.stop ∙ c.in-Err.ensures.ends.stop))
+
+pub returns-in-Err-note_head : goal.returns-in-Err-note_head
+returns-in-Err-note_head c =
+    let i = c.packets.invariant in
+    stopped_at_head c.args.catalogue.now c.packets.catalogue c.note_head.new.catalogue c.args.offset c.args.bytes.now _
+    c.packets.noted c.packets.at c.packets.rest.now i.notes c.in-Err.ensures.ends.notes c.in-Err-note_head.ensures.err
+    c.in-Err-note_head.ensures.some
+
+-- a packet more is noted, and one less is left
+one_counted : (noted whole at size : ℕ) (rest after : List ℕ) (p : PacketParts) → packet_at at rest ≡ Some p
+    → size ≡ size_of p → drop size rest ≡ after → noted + length (packets_in at rest) ≡ whole
+    → noted + 1 + length (packets_in (at + size) after) ≡ whole
+one_counted noted whole at size rest after p e is left count =
+    let next : packets_in (at + size_of p) (drop (size_of p) rest) ≡ packets_in (at + size) after =
+    ap (λ (n : ℕ). packets_in (at + n) (drop n rest)) (sym is) ∙ ap (packets_in (at + size)) left in
+    omega (arith, count, ap length (packets_in-some at rest p e), ap length next)
 
 pub packets-preserved : goal.packets-preserved
 packets-preserved c =
@@ -32,6 +59,8 @@ packets-preserved c =
       notes = one_more c.args.catalogue.now c.packets.catalogue c.note_packet.new.catalogue
           (notes_in c.args.offset c.args.bytes.now) _ _ c.packets.noted n i.notes left
           c.in-Ok-note_packet.ensures.noted;
+      count = one_counted c.packets.noted _ c.packets.at c.in-Ok.size c.packets.rest.now _ c.in-Ok.packet
+          c.in-Ok.ensures.packet.0 c.in-Ok.ensures.packet.1 (sym back) i.count;
       stop = i.stop ∙ on.stop ∙ ap (λ (t : List ℕ). stop_in at t) (sym back);
       fits = omega (arith, i.fits, len, some, room, length-drop c.in-Ok.size c.packets.rest.now);
     }

@@ -18,8 +18,23 @@ impl fmt::Display for DisputeMark {
     }
 }
 
-/// The line of a note: its offset in bytes, its kind, the width and value of its length, its key, and whether it is
-/// disputed.
+/// Whether a note is a head, as it stands after the key.
+#[derive(Clone, Copy)]
+struct HeadMark(bool);
+
+impl fmt::Display for HeadMark {
+    ghost use Rattle.std.specs.Prelude.{Some};
+    ghost use Rattle.mxf_tool.specs.Lines.{head_mark};
+
+    ghost output = { λ m. Some (head_mark m.0) };
+
+    fn fmt<W: fmt::Write>(&self, f: &mut fmt::Formatter<W>) -> fmt::Result {
+        f.write_str(if self.0 { " head" } else { "" })
+    }
+}
+
+/// The line of a note: its offset in bytes, its kind, the width and value of its length, its key, whether it is a head,
+/// and whether it is disputed.
 #[derive(Clone, Copy)]
 pub struct NoteLine<'a> {
     pub note: &'a Note,
@@ -39,7 +54,11 @@ impl<'a> fmt::Display for NoteLine<'a> {
         let width = self.note.width();
         let length = self.note.length();
         let key = LabelDigits(self.note.key().bytes());
-        let mark = DisputeMark(self.disputed);
-        writeln!(f, "note {offset} {kind} {width} {length} {key}{mark}")
+        let head = HeadMark(self.note.is_head());
+        let disputed = DisputeMark(self.disputed);
+        writeln!(
+            f,
+            "note {offset} {kind} {width} {length} {key}{head}{disputed}"
+        )
     }
 }

@@ -23,6 +23,7 @@ fn identification_in(note: &Note) -> Option<Identification<'_>>
     match note.held() {
         Held::Whole(value) => Identification::read(value).ok(),
         Held::Digest(_) => None,
+        Held::Head => None,
     }
 }
 
@@ -34,6 +35,7 @@ fn package_in(note: &Note) -> Option<Package<'_>>
     match note.held() {
         Held::Whole(value) => Package::read(value).ok(),
         Held::Digest(_) => None,
+        Held::Head => None,
     }
 }
 

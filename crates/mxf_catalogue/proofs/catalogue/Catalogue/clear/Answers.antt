@@ -1,6 +1,6 @@
 use Rattle.std.proofs.Common.{◌∙◌, ap, sym, subst}
 use Rattle.mxf_catalogue.specs.Content.{IsCatalogue}
-use Rattle.mxf_catalogue.specs.Disputes.{AreApart, clear_notes}
+use Rattle.mxf_catalogue.specs.Disputes.{AreApart, clear_notes, whole_notes}
 use Rattle.mxf_catalogue.proofs.KeptLaws.{union_is}
 use Rattle.mxf_catalogue.proofs.PartLaws.{clear_part}
 use Rattle.mxf_catalogue.proofs.SpanLaws.{AreApart-clear_notes}
@@ -9,7 +9,7 @@ use Rattle.mxf_catalogue.proofs.catalogue.Catalogue.clear.Goals as goal
 pub returns-clause-notes : goal.returns-clause-notes
 returns-clause-notes c =
     let parts = c.self.inside.parts in
-    c.of.ensures.notes ∙ c.deref.ensures.value
+    c.of.ensures.notes ∙ ap whole_notes c.deref.ensures.value
     ∙ clear_part parts.clear.items parts.disputed.items c.self.invariant.kept.parts ∙ ap clear_notes c.self.view_is
 
 pub returns-clause-apart : goal.returns-clause-apart

@@ -1,45 +1,88 @@
-use Rattle.std.proofs.Common.{◌≡◌, ◌≢◌, ◌==◌, ◌∙◌, ℕ, ap, subst, sym, find, List, Some, None, Bor}
-use Rattle.std.specs.Prelude.{Option, IfSome, IfNone}
-use Rattle.std.specs.Option.{option_copied}
+use Rattle.std.proofs.Common.{inl, inr, refl, false, ◌≡◌, ◌≢◌, ◌∙◌, ℕ, ap, subst, sym, List, true, Bool}
+use Rattle.std.specs.Prelude.{not}
 use Rattle.mxf_klv.specs.Parts.{NoteParts}
 use Rattle.mxf_klv.specs.Rising.{In}
+use Rattle.mxf_catalogue.specs.Content.{union_of}
 use Rattle.mxf_catalogue.specs.Disputes.{IsClear, clear_notes}
-use Rattle.mxf_catalogue.proofs.DisputeLaws.{In-clear_notes, clear_at-found, clear_at-lacked}
-use Rattle.mxf_catalogue.proofs.PartLaws.{clear_part}
+use Rattle.mxf_catalogue.specs.Parts.{AreParts}
+use Rattle.mxf_catalogue.proofs.DisputeLaws.{In-clear_notes, SharesByte-same_offset, clear_at-found, clear_at-lacked}
+use Rattle.mxf_catalogue.proofs.HeadLaws.{same_note}
+use Rattle.mxf_catalogue.proofs.Lists.{In-filter}
+use Rattle.mxf_catalogue.proofs.PartLaws.{apart_of, clear_part}
 use Rattle.mxf_catalogue.proofs.catalogue.Catalogue.clear_at.Goals as goal
 
-some_more : {X : Type 0} (P Q : X → Type 0) (o : Option X) → ((x : X) → P x → Q x) → IfSome o P → IfSome o Q
-some_more P Q None f h = h
-some_more P Q (Some x) f h = f x h
+is_whole : (b : Bool) → not b ≡ false → b ≡ true
+is_whole true e = refl
+is_whole false e = cc
 
-none_more : {X : Type 0} {P Q : Type 0} (o : Option X) → (P → Q) → IfNone o P → IfNone o Q
-none_more None f h = f h
-none_more (Some x) f h = h
+-- a clear note is a note of the first part that is no head
+in_part : (cs ds notes : List NoteParts) (n : NoteParts) → AreParts cs ds → union_of cs ds ≡ notes → IsClear n notes
+    → In n cs
+in_part cs ds notes n p v h =
+    let i = subst (In n) (sym (clear_part cs ds p ∙ ap clear_notes v)) ((In-clear_notes n notes).1 h) in
+    ((In-filter (λ m. m.whole) cs n).0 i).0
 
--- what is found is the first clear note with the offset
-first_of : (offset : ℕ) (notes : List NoteParts) (o : Option (Bor NoteParts))
-    → IfSome o (λ n. IsClear n.now notes × (n.now.offset ≡ offset))
-    → IfNone o ((n : NoteParts) → IsClear n notes → n.offset ≢ offset)
-    → option_copied o ≡ find (λ n. n.offset == offset) (clear_notes notes)
-first_of offset notes None found none = sym (clear_at-lacked offset notes none)
-first_of offset notes (Some n) found none = sym (clear_at-found offset notes n.now found.0 found.1)
+clear_there : (cs ds notes : List NoteParts) (n : NoteParts) → AreParts cs ds → union_of cs ds ≡ notes → In n cs
+    → n.whole ≡ true → IsClear n notes
+clear_there cs ds notes n p v h e =
+    (In-clear_notes n notes).0 (subst (In n) (clear_part cs ds p ∙ ap clear_notes v)
+    ((In-filter (λ m. m.whole) cs n).1 (h, e)))
 
-pub returns-clause-found : goal.returns-clause-found
-returns-clause-found c =
+-- where a head of the first part stands, no clear note does
+head_alone : (cs ds notes : List NoteParts) (m : NoteParts) (offset : ℕ) → AreParts cs ds → union_of cs ds ≡ notes
+    → In m cs → m.offset ≡ offset → not m.whole ≡ true → (n : NoteParts) → IsClear n notes → n.offset ≢ offset
+head_alone cs ds notes m offset p v h at head n clear e =
+    let i = in_part cs ds notes n p v clear in
+    elim (same_note n m) [
+      | inl q ↦
+          let w : n.whole ≡ true = clear.whole in
+          let u : m.whole ≡ true = sym (ap (λ (x : NoteParts). x.whole) q) ∙ w in
+          cc (u, head)
+      | inr ne ↦ apart_of cs ds p n m i h ne (SharesByte-same_offset n m (e ∙ sym at))
+    ]
+
+-- where no note of the first part stands, no clear note does
+none_there : (cs ds notes some : List NoteParts) (offset : ℕ) → AreParts cs ds → union_of cs ds ≡ notes → some ≡ cs
+    → ((n : NoteParts) → In n some → n.offset ≢ offset) → (n : NoteParts) → IsClear n notes → n.offset ≢ offset
+none_there cs ds notes some offset p v same none n h =
+    none n (subst (In n) (sym same) (in_part cs ds notes n p v h))
+
+pub returns-in_err-note-clause-none : goal.returns-in_err-note-clause-none
+returns-in_err-note-clause-none c =
     let parts = c.self.inside.parts in
-    let is = c.deref.ensures.value ∙ clear_part parts.clear.items parts.disputed.items c.self.invariant.kept.parts
-    ∙ ap clear_notes c.self.view_is in
-    some_more _ _ c.at_offset.result
-    (λ n h. ((In-clear_notes n.now c.args.self.now).0 (subst (In n.now) is h.0), h.1)) c.at_offset.ensures.found
+    rw c.from_residual.ensures (none_there parts.clear.items parts.disputed.items c.args.self.now c.deref.result.now
+    c.args.offset c.self.invariant.kept.parts c.self.view_is c.deref.ensures.value c.in_err-note.ensures.none)
 
-pub returns-clause-none : goal.returns-clause-none
-returns-clause-none c =
+pub returns-in_err-note-clause-first : goal.returns-in_err-note-clause-first
+returns-in_err-note-clause-first c =
     let parts = c.self.inside.parts in
-    let is = c.deref.ensures.value ∙ clear_part parts.clear.items parts.disputed.items c.self.invariant.kept.parts
-    ∙ ap clear_notes c.self.view_is in
-    none_more c.at_offset.result
-    (λ f n h. f n (subst (In n) (sym is) ((In-clear_notes n c.args.self.now).1 h))) c.at_offset.ensures.none
+    let none = none_there parts.clear.items parts.disputed.items c.args.self.now c.deref.result.now c.args.offset
+    c.self.invariant.kept.parts c.self.view_is c.deref.ensures.value c.in_err-note.ensures.none in
+    rw c.from_residual.ensures (sym (clear_at-lacked c.args.offset c.args.self.now none))
 
-pub returns-clause-first : goal.returns-clause-first
-returns-clause-first c =
-    first_of c.args.offset c.args.self.now c.at_offset.result (returns-clause-found c) (returns-clause-none c)
+pub returns-then-is_head-clause-none : goal.returns-then-is_head-clause-none
+returns-then-is_head-clause-none c =
+    let parts = c.self.inside.parts in
+    let m = c.in_ok-note.note.now in
+    head_alone parts.clear.items parts.disputed.items c.args.self.now m c.args.offset c.self.invariant.kept.parts
+    c.self.view_is (subst (In m) c.deref.ensures.value c.in_ok-note.ensures.found.0) c.in_ok-note.ensures.found.1
+    (sym c.is_head.ensures ∙ c.if-is_head.true)
+
+pub returns-then-is_head-clause-first : goal.returns-then-is_head-clause-first
+returns-then-is_head-clause-first c =
+    sym (clear_at-lacked c.args.offset c.args.self.now (returns-then-is_head-clause-none c))
+
+pub returns-else-is_head-clause-found : goal.returns-else-is_head-clause-found
+returns-else-is_head-clause-found c =
+    let parts = c.self.inside.parts in
+    let m = c.in_ok-note.note.now in (
+      clear_there parts.clear.items parts.disputed.items c.args.self.now m c.self.invariant.kept.parts c.self.view_is
+          (subst (In m) c.deref.ensures.value c.in_ok-note.ensures.found.0)
+          (is_whole m.whole (sym c.is_head.ensures ∙ c.if-is_head.false)),
+      c.in_ok-note.ensures.found.1,
+    )
+
+pub returns-else-is_head-clause-first : goal.returns-else-is_head-clause-first
+returns-else-is_head-clause-first c =
+    let f = returns-else-is_head-clause-found c in
+    sym (clear_at-found c.args.offset c.args.self.now c.in_ok-note.note.now f.0 f.1)

@@ -1,9 +1,9 @@
 use Rattle.std.proofs.Common.{◌∙◌, ap, sym, subst}
 use Rattle.mxf_catalogue.specs.Content.{IsCatalogue}
-use Rattle.mxf_catalogue.specs.Disputes.{AreApart, clear_notes, is_byte_shared}
+use Rattle.mxf_catalogue.specs.Disputes.{AreApart, clear_notes, is_byte_shared, whole_notes}
 use Rattle.mxf_catalogue.specs.Parts.{StandApart, touching}
 use Rattle.mxf_catalogue.proofs.KeptLaws.{union_is}
-use Rattle.mxf_catalogue.proofs.PartLaws.{apart_of, clear_part}
+use Rattle.mxf_catalogue.proofs.PartLaws.{apart_of, clear_part, filter-both}
 use Rattle.mxf_catalogue.proofs.SpanLaws.{AreApart-clear_notes, AreApart-filter}
 use Rattle.mxf_catalogue.proofs.catalogue.Catalogue.clear_touching.Goals as goal
 
@@ -15,8 +15,9 @@ touched-requires-clause-apart c =
 pub returns-clause-notes : goal.returns-clause-notes
 returns-clause-notes c =
     let parts = c.self.inside.parts in
-    c.of.ensures.notes ∙ c.touched.ensures
-    ∙ ap (touching c.args.note.now) (c.deref.ensures.value
+    c.of.ensures.notes ∙ ap whole_notes c.touched.ensures
+    ∙ sym (filter-both (λ n. is_byte_shared c.args.note.now n) (λ n. n.whole) c.deref.result.now)
+    ∙ ap (touching c.args.note.now) (ap whole_notes c.deref.ensures.value
     ∙ clear_part parts.clear.items parts.disputed.items c.self.invariant.kept.parts ∙ ap clear_notes c.self.view_is)
 
 pub returns-clause-catalogue : goal.returns-clause-catalogue

@@ -1,9 +1,9 @@
 use Rattle.std.proofs.Common.{◌∙◌, ap, filter, sym, subst}
 use Rattle.mxf_catalogue.specs.Content.{IsCatalogue}
-use Rattle.mxf_catalogue.specs.Disputes.{AreApart, clear_notes, lies_in}
+use Rattle.mxf_catalogue.specs.Disputes.{AreApart, clear_notes, lies_in, whole_notes}
 use Rattle.mxf_catalogue.specs.Parts.{StandApart}
 use Rattle.mxf_catalogue.proofs.KeptLaws.{union_is}
-use Rattle.mxf_catalogue.proofs.PartLaws.{apart_of, clear_part}
+use Rattle.mxf_catalogue.proofs.PartLaws.{apart_of, clear_part, filter-both}
 use Rattle.mxf_catalogue.proofs.SpanLaws.{AreApart-clear_notes, AreApart-filter}
 use Rattle.mxf_catalogue.proofs.catalogue.Catalogue.clear_within.Goals as goal
 
@@ -15,8 +15,9 @@ within-requires-clause-apart c =
 pub returns-clause-notes : goal.returns-clause-notes
 returns-clause-notes c =
     let parts = c.self.inside.parts in
-    c.of.ensures.notes ∙ c.within.ensures
-    ∙ ap (filter (lies_in c.args.start c.args.bytes)) (c.deref.ensures.value
+    c.of.ensures.notes ∙ ap whole_notes c.within.ensures
+    ∙ sym (filter-both (lies_in c.args.start c.args.bytes) (λ n. n.whole) c.deref.result.now)
+    ∙ ap (filter (lies_in c.args.start c.args.bytes)) (ap whole_notes c.deref.ensures.value
     ∙ clear_part parts.clear.items parts.disputed.items c.self.invariant.kept.parts ∙ ap clear_notes c.self.view_is)
 
 pub returns-clause-catalogue : goal.returns-clause-catalogue

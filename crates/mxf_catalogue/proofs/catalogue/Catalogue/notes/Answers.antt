@@ -1,5 +1,5 @@
 use Rattle.std.proofs.Common.{◌∙◌, ap, subst, arith, length}
-use Rattle.mxf_catalogue.specs.Content.{IsCatalogue, union_of}
+use Rattle.mxf_catalogue.specs.Content.{AreReduced, IsCatalogue, union_of}
 use Rattle.mxf_catalogue.proofs.KeptLaws.{union_is}
 use Rattle.mxf_catalogue.proofs.PartLaws.{length-parts}
 use Rattle.mxf_catalogue.proofs.catalogue.Catalogue.notes.Goals as goal
@@ -15,3 +15,6 @@ returns-clause-bound c =
     let is = ap length (c.of.ensures ∙ (λ i. union_of (c.deref.ensures.value i) (c.deref-2.ensures.value i))) in
     let both = length-parts parts.clear.items parts.disputed.items c.self.invariant.kept.parts in
     omega (arith, is, both, parts.clear.ok, parts.disputed.ok, parts.clear.small, parts.disputed.small)
+
+pub returns-clause-reduced : goal.returns-clause-reduced
+returns-clause-reduced c = subst AreReduced c.self.view_is c.self.invariant.kept.reduced

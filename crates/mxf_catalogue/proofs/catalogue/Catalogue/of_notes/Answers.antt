@@ -1,11 +1,12 @@
 use Rattle.std.proofs.Common.{◌≡◌, ◌∙◌, rules}
 use Rattle.std.specs.Vec.Iter.{into_iter_items}
-use Rattle.mxf_catalogue.specs.Content.{union_of}
-use Rattle.mxf_catalogue.proofs.MergeLaws.{union_of-none}
+use Rattle.mxf_catalogue.specs.Content.{reduced_union}
+use Rattle.mxf_catalogue.proofs.HeadLaws.{reduced_union-none}
 use Rattle.mxf_catalogue.proofs.catalogue.Catalogue.of_notes.Goals as goal
 
 pub loop-note-init : goal.loop-note-init
 loop-note-init c =
     let given : into_iter_items c.into_iter-note-iterator.result ≡ c.args.notes.items =
     search rules in
-    (λ i. union_of (c.new-all.ensures i) (given i)) ∙ union_of-none c.args.notes.items c.requires
+    (λ i. reduced_union (c.new-all.ensures i) (given i))
+    ∙ reduced_union-none c.args.notes.items c.requires.content c.requires.reduced

@@ -1,9 +1,8 @@
 use Rattle.std.proofs.Common.{◌∙◌, arith, ap, length, subst}
 use Rattle.mxf_catalogue.specs.declared.catalogue.parts.Parts.{Parts}
-use Rattle.mxf_catalogue.specs.Content.{IsCatalogue, union_of}
-use Rattle.mxf_catalogue.proofs.ContentLaws.{IsContent-union_of}
+use Rattle.mxf_catalogue.specs.Content.{AreReduced, IsCatalogue, reduced_union, union_of}
 use Rattle.mxf_catalogue.proofs.KeptLaws.{union_is}
-use Rattle.mxf_catalogue.proofs.MergeLaws.{union_of-none}
+use Rattle.mxf_catalogue.proofs.HeadLaws.{reduced_union-all}
 use Rattle.mxf_catalogue.proofs.catalogue.Catalogue.rebuild.Goals as goal
 
 pub into_notes-own-requires-clause-room : goal.into_notes-own-requires-clause-room
@@ -22,6 +21,9 @@ returns-clause-merged c =
     ∙ ap (λ (p : Parts). union_of p.clear.items p.disputed.items) c.replace.ensures.value ∙ c.self.view_is in
     let others = c.into_notes-others.ensures.notes ∙ c.other.view_is in
     let both = c.of-2.ensures.notes ∙ (λ i. union_of (own i) (others i)) in
-    c.put_all.ensures.content ∙ (λ i. union_of (union_of (none.clear.0 i) (none.disputed.0 i)) (both i))
-    ∙ union_of-none (union_of c.args.self.now c.args.other)
-    (IsContent-union_of c.args.self.now c.args.other all.content)
+    let red = subst AreReduced c.self.view_is c.self.invariant.kept.reduced in
+    let parts-2 = c.other.inside.parts in
+    let more = subst IsCatalogue c.other.view_is
+    (union_is parts-2.clear.items parts-2.disputed.items c.other.invariant.kept.parts) in
+    c.put_all.ensures.content ∙ (λ i. reduced_union (union_of (none.clear.0 i) (none.disputed.0 i)) (both i))
+    ∙ reduced_union-all c.args.self.now c.args.other all.content red more.content

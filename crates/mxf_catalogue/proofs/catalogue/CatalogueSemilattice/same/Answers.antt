@@ -1,9 +1,9 @@
 use Rattle.std.proofs.Common.{◌≡◌, true, sym, ◌∙◌, subst}
 use Rattle.std.proofs.lemmas.Slice.Eq.{slice_eq-Decides}
 use Rattle.mxf_klv.specs.Parts.{NoteParts}
-use Rattle.mxf_klv.specs.Rising.{In}
-use Rattle.mxf_catalogue.specs.Content.{union_of}
+use Rattle.mxf_catalogue.specs.Content.{has_note, union_of}
 use Rattle.mxf_catalogue.proofs.ContentLaws.{note_eq-Decides}
+use Rattle.mxf_catalogue.proofs.HeadLaws.{same_members}
 use Rattle.mxf_catalogue.proofs.PartLaws.{same_parts}
 use Rattle.mxf_catalogue.proofs.catalogue.CatalogueSemilattice.same.Goals as goal
 
@@ -19,11 +19,12 @@ returns-then-eq-clause-members c =
     sym c.self.view_is ∙ (λ i. union_of (first i) (d.0 h i)) ∙ c.other.view_is in
     let back = same_parts a.clear.items a.disputed.items b.clear.items b.disputed.items c.self.invariant.kept.parts
     c.other.invariant.kept.parts in (
-      λ h (m : NoteParts). (subst (In m) (same h), subst (In m) (sym (same h))),
-      λ k. d.1 (back (λ m. (
-        λ h. subst (In m) (sym c.other.view_is) ((k m).0 (subst (In m) c.self.view_is h)),
-        λ h. subst (In m) (sym c.self.view_is) ((k m).1 (subst (In m) c.other.view_is h)),
-      ))).1,
+      λ h (m : NoteParts). (subst (λ l. has_note l m) (same h), subst (λ l. has_note l m) (sym (same h))),
+      λ k. d.1 (back (same_members (union_of a.clear.items a.disputed.items) (union_of b.clear.items b.disputed.items)
+          c.self.invariant.kept.reduced c.other.invariant.kept.reduced (λ m. (
+            λ h. subst (λ l. has_note l m) (sym c.other.view_is) ((k m).0 (subst (λ l. has_note l m) c.self.view_is h)),
+            λ h. subst (λ l. has_note l m) (sym c.self.view_is) ((k m).1 (subst (λ l. has_note l m) c.other.view_is h)),
+          )))).1,
     )
 
 pub returns-then-eq-clause-list : goal.returns-then-eq-clause-list
@@ -36,7 +37,7 @@ returns-then-eq-clause-list c =
     c.eq-then-eq.ensures in
     let members = returns-then-eq-clause-members c in (
       λ h. sym c.self.view_is ∙ (λ i. union_of (first i) (d.0 h i)) ∙ c.other.view_is,
-      λ e. members.1 (λ (m : NoteParts). (subst (In m) e, subst (In m) (sym e))),
+      λ e. members.1 (λ (m : NoteParts). (subst (λ l. has_note l m) e, subst (λ l. has_note l m) (sym e))),
     )
 
 pub returns-else-eq-clause-members : goal.returns-else-eq-clause-members
@@ -47,15 +48,16 @@ returns-else-eq-clause-members c =
     let back = same_parts a.clear.items a.disputed.items b.clear.items b.disputed.items c.self.invariant.kept.parts
     c.other.invariant.kept.parts in (
       λ h. let f = c.if-eq.false in cc (h, f),
-      λ k. d.1 (back (λ m. (
-        λ h. subst (In m) (sym c.other.view_is) ((k m).0 (subst (In m) c.self.view_is h)),
-        λ h. subst (In m) (sym c.self.view_is) ((k m).1 (subst (In m) c.other.view_is h)),
-      ))).0,
+      λ k. d.1 (back (same_members (union_of a.clear.items a.disputed.items) (union_of b.clear.items b.disputed.items)
+          c.self.invariant.kept.reduced c.other.invariant.kept.reduced (λ m. (
+            λ h. subst (λ l. has_note l m) (sym c.other.view_is) ((k m).0 (subst (λ l. has_note l m) c.self.view_is h)),
+            λ h. subst (λ l. has_note l m) (sym c.self.view_is) ((k m).1 (subst (λ l. has_note l m) c.other.view_is h)),
+          )))).0,
     )
 
 pub returns-else-eq-clause-list : goal.returns-else-eq-clause-list
 returns-else-eq-clause-list c =
     let members = returns-else-eq-clause-members c in (
       λ h. let f = c.if-eq.false in cc (h, f),
-      λ e. members.1 (λ (m : NoteParts). (subst (In m) e, subst (In m) (sym e))),
+      λ e. members.1 (λ (m : NoteParts). (subst (λ l. has_note l m) e, subst (λ l. has_note l m) (sym e))),
     )

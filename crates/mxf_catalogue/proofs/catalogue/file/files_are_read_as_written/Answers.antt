@@ -3,7 +3,7 @@ use Rattle.mxf_catalogue.proofs.catalogue.file.files_are_read_as_written.Goals a
 
 pub returns : goal.returns
 returns c = record {
-  file = λ notes c h. record { catalogue = c; fits = h; whole = refl };
-  read_back = λ notes c h. record { catalogue = c; fits = h; whole = refl };
+  file = λ notes c p h. record { catalogue = c; reduced = p; fits = h; whole = refl };
+  read_back = λ notes c p h. record { catalogue = c; reduced = p; fits = h; whole = refl };
   written_back = λ bytes notes f. f.whole;
 }

@@ -7,6 +7,7 @@ pub returns : goal.returns
 returns c = record {
   content = one_content;
   bytes = λ x y notes p q. p.whole ∙ sym q.whole;
-  equal = λ a b p q m n e. one_content (file_bytes a) a b
-      (record { catalogue = p; fits = m; whole = refl }) (record { catalogue = q; fits = n; whole = e });
+  equal = λ a b p q u v m n e. one_content (file_bytes a) a b
+      (record { catalogue = p; reduced = u; fits = m; whole = refl })
+      (record { catalogue = q; reduced = v; fits = n; whole = e });
 }

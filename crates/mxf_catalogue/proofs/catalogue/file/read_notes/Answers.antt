@@ -1,8 +1,11 @@
-use Rattle.std.proofs.Common.{◌++◌, ◌∷◌, ◌∙◌, [], List, arith, refl, sym, subst, length}
+use Rattle.std.proofs.Common.{◌+◌, ◌++◌, ◌∷◌, ◌∙◌, [], List, arith, ap, refl, sym, subst, length, length-append}
 use Rattle.std.specs.Prelude.{IsTrue}
 use Rattle.std.proofs.lemmas.Result.{err_from_is_err_and}
 use Rattle.mxf_klv.specs.Parts.{NoteParts}
 use Rattle.mxf_catalogue.specs.Content.{IsContent}
+use Rattle.mxf_catalogue.specs.CatalogueFile.{IsFront, IsHeadLast}
+use Rattle.mxf_catalogue.proofs.FileBytes.{front_next}
+use Rattle.mxf_catalogue.proofs.HeadLaws.{AreReduced-push}
 use Rattle.mxf_catalogue.proofs.FileParts.{is_some, note_fault, stops}
 use Rattle.mxf_catalogue.proofs.catalogue.file.read_notes.Goals as goal
 
@@ -37,3 +40,39 @@ returns-then-not-is_empty-clause-fault c =
       omega (arith, i.counted, c.loop-i-test.false),
       is_some (length c.loop-i.rest.now) (sym c.if-not-is_empty.true ∙ c.is_empty.ensures),
     )
+
+pub returns-then-replaces_last-clause-fault : goal.returns-then-replaces_last-clause-fault
+returns-then-replaces_last-clause-fault c =
+    let i = c.loop-i.invariant in
+    let n = c.in_ok-note.note in
+    stops c.args.bytes.now c.loop-i.rest.now c.args.count _ c.loop-i.notes.items _ i.front refl (
+      omega (arith, i.counted, c.loop-i-test.true),
+      (
+        n,
+        c.in_ok-note.after.now,
+        c.in_ok-note.ensures.note,
+        subst (λ (l : List NoteParts). IsContent (l ++ n ∷ [])) c.deref.ensures.value
+            (c.is_above.ensures.0 c.if-not-is_above.false),
+        subst (λ (l : List NoteParts). IsHeadLast l n) c.deref-in-loop-i.ensures.value
+            (c.replaces_last.ensures.last c.if-replaces_last.true),
+      ),
+    )
+
+pub loop-i-preserved : goal.loop-i-preserved
+loop-i-preserved c =
+    let i = c.loop-i.invariant in
+    let n = c.in_ok-note.note in
+    let notes = c.loop-i.notes.items in
+    let rises = subst (λ (l : List NoteParts). IsContent (l ++ n ∷ [])) c.deref.ensures.value
+    (c.is_above.ensures.0 c.if-not-is_above.false) in
+    let none : (IsHeadLast notes n → ⊥) = λ h. c.replaces_last.ensures.none c.if-replaces_last.false
+    (subst (λ (l : List NoteParts). IsHeadLast l n) (sym c.deref-in-loop-i.ensures.value) h) in
+    let red = AreReduced-push notes n rises i.front.reduced
+    (λ front l e t. none (front, e ∙ ap (λ h. front ++ h ∷ []) (sym t))) in
+    let items = c.in_ok-push.ensures.items in
+    record {
+      front = subst (λ (l : List NoteParts). IsFront c.args.bytes.now c.args.count l c.in_ok-note.after.now) (sym items)
+          (front_next c.args.bytes.now c.loop-i.rest.now c.in_ok-note.after.now c.args.count notes n i.front
+          (omega (arith, i.counted, c.loop-i-test.true)) c.in_ok-note.ensures.note rises red);
+      counted = ap length items ∙ length-append notes (n ∷ []) ∙ ap (λ k. k + 1) i.counted;
+    }

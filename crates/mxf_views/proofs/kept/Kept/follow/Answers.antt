@@ -71,5 +71,5 @@ returns c = λ x notes new is e k.
     ∙ ap (λ t. followed t a.offset a.start a.end old.unreadable_packs.items) c.stands-unreadable_pack.ensures)
     c.follow_copies.ensures
     ∙ kept_after x notes c.args.catalogue.now a.start a.end a.offset a.can_bring_start old.partitions.items
-    old.segments.items old.random_index_packs.items old.unreadable_packs.items old.copies.items is.content new is.hull e is.offset
+    old.segments.items old.random_index_packs.items old.unreadable_packs.items old.copies.items is.content (is.reduced, new) is.hull e is.offset
     is.can_bring_start (sym (with_reaches _ _ _ _ _ _ before) ∙ k)

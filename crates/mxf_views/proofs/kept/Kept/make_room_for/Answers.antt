@@ -9,5 +9,5 @@ returns-clause-room c =
     let old = c.args.self.now in
     let e = c.reserve.ensures in
     room_for_both own other old k c.reserve.result c.notes-own.ensures.catalogue.content
-    c.notes-others.ensures.catalogue.content c.requires e.partitions e.segments e.random_index_packs
+    c.notes-others.ensures.catalogue.content c.notes-own.ensures.reduced c.notes-others.ensures.reduced c.requires e.partitions e.segments e.random_index_packs
     e.unreadable_packs e.copies e.reaches

@@ -1,15 +1,43 @@
-use Rattle.std.proofs.Common.{◌∙◌, ap, subst, sym}
-use Rattle.mxf_klv.specs.Rising.{In}
-use Rattle.mxf_catalogue.specs.Content.{IsContent, with_note}
-use Rattle.mxf_views.proofs.KeptLaws.{with_note_held}
+use Rattle.std.proofs.Common.{◌≡◌, ◌↔◌, List, Ok, ◌∙◌, ap, refl, subst, sym}
+use Rattle.std.proofs.lemmas.Result.{err_from_is_err_and}
+use Rattle.mxf_catalogue.specs.declared.catalogue.change.Change.TheVariants.{Repeated}
+use Rattle.mxf_klv.specs.Parts.{NoteParts}
+use Rattle.mxf_catalogue.specs.Content.{AreReduced, IsContent, has_note, reduced_with}
+use Rattle.mxf_catalogue.proofs.HeadLaws.{reduced_with-present}
 use Rattle.mxf_views.proofs.views.Views.add.Goals as goal
 
-pub returns-then-holds-clause-added : goal.returns-then-holds-clause-added
-returns-then-holds-clause-added c =
+pub returns-then-has-clause-added : goal.returns-then-has-clause-added
+returns-then-has-clause-added c =
     let r = subst IsContent c.self.view_is c.of-arrival.ensures.content in
-    let held = subst (In c.args.note) c.self.view_is (c.holds.ensures.0 c.if-holds.true) in
-    sym (with_note_held c.args.note c.args.self.now r held)
+    let p = subst AreReduced c.self.view_is c.of-arrival.ensures.reduced in
+    let held = subst (λ (l : List NoteParts). has_note l c.args.note) c.self.view_is (c.has.ensures.0 c.if-has.true) in
+    sym (reduced_with-present c.args.note c.args.self.now r p held)
 
-pub returns-then-holds-clause-history : goal.returns-then-holds-clause-history
-returns-then-holds-clause-history c = λ h e.
-    returns-then-holds-clause-added c ∙ ap (with_note c.args.note) e
+pub returns-then-has-clause-history : goal.returns-then-has-clause-history
+returns-then-has-clause-history c = λ h e.
+    returns-then-has-clause-added c ∙ ap (reduced_with c.args.note) e
+
+pub returns-then-has-clause-repeated : goal.returns-then-has-clause-repeated
+returns-then-has-clause-repeated c = (
+  λ e. subst (λ (l : List NoteParts). has_note l c.args.note) c.self.view_is (c.has.ensures.0 c.if-has.true),
+  λ h. refl,
+)
+
+pub returns-in_err-change-clause-repeated : goal.returns-in_err-change-clause-repeated
+returns-in_err-change-clause-repeated c = (
+  λ e. let q = (err_from_is_err_and c.from_residual.result c.from_residual.ensures.1).1 in absurd (cc (q, e)),
+  λ h.
+      let t = c.has.ensures.1 (subst (λ (l : List NoteParts). has_note l c.args.note) (sym c.self.view_is) h) in
+      let f = c.if-has.false in absurd (cc (t, f)),
+)
+
+pub invariant_of-self-2 : goal.invariant_of-self-2
+invariant_of-self-2 c =
+    c.follow.ensures c.args.note c.self.inside.catalogue
+    (λ h. let t = c.has.ensures.1 h in let f = c.if-has.false in cc (t, f))
+    c.of-arrival.ensures c.in_ok-change.ensures.added (c.make_room.ensures.kept ∙ c.self.invariant)
+
+pub returns-clause-repeated : goal.returns-clause-repeated
+returns-clause-repeated c =
+    subst (λ (l : List NoteParts). (Ok c.in_ok-change.change ≡ Ok Repeated) ↔ has_note l c.args.note) c.self.view_is
+    c.in_ok-change.ensures.repeated

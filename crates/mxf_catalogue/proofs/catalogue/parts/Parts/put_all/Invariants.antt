@@ -1,6 +1,6 @@
 -- What is there and what is to come make up the union, and there is room for it.
 use Rattle.std.proofs.Common.{◌≡◌, ◌+◌, ◌≤◌, length, vec_len, vec_capacity}
-use Rattle.mxf_catalogue.specs.Content.{union_of}
+use Rattle.mxf_catalogue.specs.Content.{reduced_union, union_of}
 use Rattle.mxf_catalogue.specs.Covers.{IsCover}
 use Rattle.mxf_catalogue.specs.Parts.{IsWhole}
 use Rattle.mxf_catalogue.proofs.catalogue.parts.Parts.put_all.Given as goal
@@ -9,8 +9,8 @@ abbrev pub invariant-loop-note : goal.invariant-loop-note
 invariant-loop-note l = record {
   whole : IsWhole l.self.clear.items l.self.disputed.items l.self.disputed_spans.items l.runs.items;
   cover : IsCover l.runs.items;
-  content : union_of (union_of l.self.clear.items l.self.disputed.items) l.note-iterator
-      ≡ union_of (union_of l.fn.self.clear.items l.fn.self.disputed.items) l.fn.notes;
+  content : reduced_union (union_of l.self.clear.items l.self.disputed.items) l.note-iterator
+      ≡ reduced_union (union_of l.fn.self.clear.items l.fn.self.disputed.items) l.fn.notes;
   clear_room : vec_len l.self.clear + length l.note-iterator ≤ vec_capacity l.self.clear;
   disputed_room : vec_len l.self.clear + vec_len l.self.disputed + length l.note-iterator
       ≤ vec_capacity l.self.disputed;

@@ -1,6 +1,5 @@
 use Rattle.std.proofs.Common.{arith, sym, subst, ◌∙◌}
-use Rattle.mxf_klv.specs.NoteOrder.{note_total, note_cmp-IsAntisymmetric}
-use Rattle.mxf_klv.proofs.RisingLemmas.{with_one_present}
+use Rattle.mxf_catalogue.proofs.HeadLaws.{reduced_with-present}
 use Rattle.mxf_catalogue.specs.Content.{union_of}
 use Rattle.mxf_catalogue.specs.Covers.{with_run}
 use Rattle.mxf_catalogue.specs.Disputes.{is_byte_shared}
@@ -11,16 +10,16 @@ use Rattle.mxf_catalogue.proofs.KeptLaws.{covers_with}
 use Rattle.mxf_catalogue.proofs.Lists.{length-filter_le}
 use Rattle.mxf_catalogue.proofs.catalogue.parts.Parts.put_any.Goals as goal
 
-pub returns-then-have-clause-content : goal.returns-then-have-clause-content
-returns-then-have-clause-content c =
+pub returns-then-tell-clause-content : goal.returns-then-tell-clause-content
+returns-then-tell-clause-content c =
     let cs = c.args.self.now.clear.items in
     let ds = c.args.self.now.disputed.items in
     let rises = IsContent-union_of cs ds c.requires.whole.kept.parts.clear_is.content in
-    sym (with_one_present note_total note_cmp-IsAntisymmetric c.args.note (union_of cs ds) rises
-    (c.have.ensures.0 c.if-have.true))
+    sym (reduced_with-present c.args.note (union_of cs ds) rises c.requires.whole.kept.reduced
+    (c.tell.ensures.0 c.if-tell.true))
 
 pub put-requires-clause-new : goal.put-requires-clause-new
-put-requires-clause-new c h = let t = c.have.ensures.1 h in let f = c.if-have.false in cc (t, f)
+put-requires-clause-new c h = let t = c.tell.ensures.1 h in let f = c.if-tell.false in cc (t, f)
 
 pub put-requires-clause-disputed_room : goal.put-requires-clause-disputed_room
 put-requires-clause-disputed_room c =
@@ -34,9 +33,11 @@ returns-clause-whole c =
     let ds = c.args.self.now.disputed.items in
     let old = c.args.runs.now.items in
     let new = union_of c.put.new.self.clear.items c.put.new.self.disputed.items in
-    let runs = c.put_run.ensures.items ∙ (λ i. with_run (run (c.offset-2.ensures.offset i) (c.end.ensures i)) old) in
+    let runs = c.put_run.ensures.items ∙ (λ i. with_run (run (c.offset-2.ensures.offset i) (c.covered_end.ensures.covered i)) old) in
     record {
       kept = c.put.ensures.kept;
       covers = subst (λ r. Covers r new) (sym runs)
-          (covers_with c.args.note cs ds new old c.requires.whole.covers c.put.ensures.content);
+          (covers_with c.args.note cs ds new old c.requires.whole.kept.reduced
+          (λ h. let t = c.tell.ensures.1 h in let f = c.if-tell.false in cc (t, f)) c.requires.whole.covers
+          c.put.ensures.content);
     }

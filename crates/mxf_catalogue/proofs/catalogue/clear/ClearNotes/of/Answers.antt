@@ -1,0 +1,10 @@
+use Rattle.std.proofs.Common.{◌≤◌, length, arith}
+use Rattle.mxf_catalogue.specs.Disputes.{whole_notes}
+use Rattle.mxf_catalogue.proofs.Lists.{length-filter_le}
+use Rattle.mxf_catalogue.proofs.catalogue.clear.ClearNotes.of.Goals as goal
+
+pub returns-clause-bound : goal.returns-clause-bound
+returns-clause-bound c =
+    let l : length (whole_notes c.args.notes.now) ≤ length c.args.notes.now =
+    length-filter_le (λ n. n.whole) c.args.notes.now in
+    omega (arith, l)

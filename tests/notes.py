@@ -1,0 +1,186 @@
+"""What is noted of a piece, by ST 336 alone, and the catalogue file of notes, as docs/FORMATS.md lays it out.
+
+Nothing here is taken from the program: a reader of its own says what a piece holds and why it ends, which notes are
+disputed, what lies in none, and what is at fault in the bytes of a catalogue.
+"""
+import hashlib
+import re
+from typing import NamedTuple
+
+# The keys of packets whose value is kept: partition packs, primer packs, random index packs, and sets but those of essence.
+PACKS = "020501..0d010201(010[234]0[1234]00|01050100|01110100)"
+SETS = "0253....(?!0d010301).{16}"
+KEPT = re.compile(f"060e2b34({PACKS}|{SETS})")
+LONGEST_KEPT = 4_194_304
+GREATEST_END = 2**63 - 1
+
+LABEL = bytes.fromhex("060E2B34")
+MAGIC = b"MXFCAT\0"
+VERSION = b"\2"
+# A note in the file: offset, key, width and length, the mark of a head, and then what it holds.
+FIXED = 8 + 16 + 1 + 8 + 1
+
+
+class Note(NamedTuple):
+    """A note, its parts in the order by which notes are sorted: of two with equal offset, key, width and length the head
+    comes first. A head holds nothing."""
+
+    offset: int
+    key: bytes
+    width: int
+    length: int
+    is_whole: bool
+    held: bytes
+
+    @property
+    def end(self):
+        """Where its packet ends; that of a head, where it would."""
+        return self.offset + 16 + self.width + self.length
+
+    @property
+    def covered_end(self):
+        """Where the bytes end that are held of it: behind the packet, and behind the length of a head."""
+        return self.end if self.is_whole else self.offset + 16 + self.width
+
+    @property
+    def head(self):
+        """The head of its packet."""
+        return self._replace(is_whole=False, held=b"")
+
+    @property
+    def saved(self):
+        """Its bytes in a catalogue file."""
+        numbers = self.offset.to_bytes(8, "big") + self.key + bytes([self.width]) + self.length.to_bytes(8, "big")
+        return numbers + (b"\0" if self.is_whole else b"\1") + self.held
+
+
+def is_kept(key, length):
+    """Whether a note holds the value of a packet, and not its digest."""
+    return KEPT.fullmatch(key.hex()) is not None and length <= LONGEST_KEPT
+
+
+def whole(offset, key, width, value):
+    """The note of a whole packet."""
+    held = value if is_kept(key, len(value)) else hashlib.sha256(value).digest()
+    return Note(offset, key, width, len(value), True, held)
+
+
+def head(offset, key, width, length):
+    """The head of a packet of which key and length alone were read."""
+    return Note(offset, key, width, length, False, b"")
+
+
+def read_piece(offset, data):
+    """The notes of a piece's whole packets, those of the packet that its end cuts, a head or none, and why it ends."""
+    found, at = [], 0
+    while at < len(data):
+        rest, place = data[at : at + 25], offset + at
+        if not LABEL.startswith(rest[:4]):
+            return found, [], f"not-ul {place}"
+        if len(rest) > 16 and (rest[16] == 0x80 or rest[16] > 0x88):
+            return found, [], f"bad-length {place}"
+        width = 1 if len(rest) < 17 or rest[16] < 0x80 else rest[16] - 0x7F
+        if len(rest) < 16 + width:
+            return found, [], f"truncated {place}"
+        length = rest[16] if width == 1 else int.from_bytes(rest[17 : 16 + width], "big")
+        end = 16 + width + length
+        if place + end > GREATEST_END:
+            return found, [], f"too-far {place}"
+        if at + end > len(data):
+            return found, [head(place, rest[:16], width, length)], f"truncated {place}"
+        found.append(whole(place, rest[:16], width, data[at + 16 + width : at + end]))
+        at += end
+    return found, [], "end"
+
+
+def reduced(notes):
+    """These notes, sorted and each once, without the heads of packets that are noted whole."""
+    notes = set(notes)
+    heads = {note for note in notes if not note.is_whole}
+    replaced = {note.head for note in notes if note.is_whole} if heads else set()
+    return sorted(notes - replaced)
+
+
+def file_of(notes):
+    """The catalogue file of these notes, whatever their order, with repeats and heads of what is whole."""
+    content = reduced(notes)
+    return MAGIC + VERSION + len(content).to_bytes(8, "big") + b"".join(note.saved for note in content)
+
+
+def can_be(offset, key, width, length, mark):
+    """Whether there is a note of these parts."""
+    spelled = length < 128 if width == 1 else 2 <= width <= 9 and length < 256 ** (width - 1)
+    return key.startswith(LABEL) and spelled and offset + 16 + width + length <= GREATEST_END and mark < 2
+
+
+def read_note(data, at):
+    """The note that stands at this place of a file and how many bytes it has, or else what is at fault."""
+    fixed = data[at : at + FIXED]
+    if len(fixed) < FIXED:
+        return None, f"truncated at {at}"
+    offset, key, width, length = int.from_bytes(fixed[:8], "big"), fixed[8:24], fixed[24], int.from_bytes(fixed[25:33], "big")
+    if not can_be(offset, key, width, length, fixed[33]):
+        return None, f"bad note at {at}"
+    size = 0 if fixed[33] else length if is_kept(key, length) else 32
+    if len(data) < at + FIXED + size:
+        return None, f"truncated at {at}"
+    held = data[at + FIXED : at + FIXED + size]
+    return Note(offset, key, width, length, fixed[33] == 0, held), FIXED + size
+
+
+def read_file(data):
+    """The notes of a catalogue file, and None; or None and what is at fault first."""
+    if not MAGIC.startswith(data[:7]):
+        return None, "bad magic"
+    if data[7:8] not in (b"", VERSION):
+        return None, "bad version"
+    if len(data) < 16:
+        return None, "truncated at 0"
+    notes, at = [], 16
+    for _ in range(int.from_bytes(data[8:16], "big")):
+        note, size = read_note(data, at)
+        if note is None:
+            return None, size
+        if notes and note <= notes[-1]:
+            return None, f"not sorted at {at}"
+        if notes and note.is_whole and note.head == notes[-1]:
+            return None, f"not reduced at {at}"
+        notes.append(note)
+        at += size
+    return (notes, None) if at == len(data) else (None, f"trailing bytes at {at}")
+
+
+def disputed(notes):
+    """Which of these sorted notes share a byte with another, by their places: a head claims all of its packet's bytes."""
+    found, reach = set(), 0
+    for at, note in enumerate(notes):
+        if note.offset < reach:
+            found.add(at)
+        if at + 1 < len(notes) and notes[at + 1].offset < note.end:
+            found.add(at)
+        reach = max(reach, note.end)
+    return found
+
+
+def note_lines(notes):
+    """What `show` prints of these sorted notes, with `..` for the word of the kind."""
+    marked = disputed(notes)
+    for at, note in enumerate(notes):
+        marks = ("" if note.is_whole else " head") + (" disputed" if at in marked else "")
+        yield f"note {note.offset} .. {note.width} {note.length} {note.key.hex()}{marks}"
+
+
+def gaps(notes):
+    """The ranges of bytes, below the greatest end, that these sorted notes don't cover, rising."""
+    found, reach = [], 0
+    for note in notes:
+        if reach < note.offset:
+            found.append((reach, note.offset))
+        reach = max(reach, note.covered_end)
+    last = max((note.end for note in notes), default=0)
+    return found + ([(reach, last)] if reach < last else [])
+
+
+def gap_lines(notes):
+    """What `show` prints of them."""
+    return [f"gap {start} {end}" for start, end in gaps(notes)]
