@@ -13,12 +13,14 @@ use Rattle.mxf_klv.specs.Parts.{NoteParts}
 use Rattle.mxf_klv.specs.Note.{IsNote, keeps}
 use Rattle.std.specs.Prelude.{◌==◌, ◌≤◌, Bool, true, false, cond}
 use Rattle.mxf_klv.specs.Rising.{IsRising, less_in}
-use Rattle.mxf_catalogue.specs.declared.catalogue.file.head.Head.{Head}
+use Rattle.mxf_catalogue.specs.declared.catalogue.file.fixed_part.FixedPart.{FixedPart}
 use Rattle.mxf_catalogue.specs.Content.{AreReduced, IsContent}
-use Rattle.mxf_catalogue.specs.CatalogueFile.{number_bytes, IsHead, head_bytes, CanBeNoted, held_length, head_of}
-use Rattle.mxf_catalogue.specs.CatalogueFile.{note_bytes, start_bytes, IsFileOf, BeginsWithNote}
-use Rattle.mxf_catalogue.specs.CatalogueFile.{IsCutNote, IsBadNote, IsFront, place_after}
-use Rattle.mxf_catalogue.specs.CatalogueFile.{BeginsWithMark, CanBeMarked, mark_of}
+use Rattle.mxf_catalogue.specs.declared.catalogue.file.start.Version.{Version}
+use Rattle.mxf_catalogue.specs.declared.catalogue.file.start.Version.TheVariants.{One, Two}
+use Rattle.mxf_catalogue.specs.CatalogueFile.{number_bytes, IsFixedPart, fixed_bytes, CanBeNoted, held_length, fixed_part_of}
+use Rattle.mxf_catalogue.specs.CatalogueFile.{note_bytes, start_bytes, IsFileOfVersion, BeginsWithNote}
+use Rattle.mxf_catalogue.specs.CatalogueFile.{IsCutNote, IsBadNote, IsFront, place_after, CanHave, IsMarkIn}
+use Rattle.mxf_catalogue.specs.CatalogueFile.{BeginsWithParts, CanBeMarked, length_ahead, mark_bytes, mark_of}
 use Rattle.mxf_catalogue.proofs.Places.{In-at}
 
 -- ---- parts of a text
@@ -50,37 +52,37 @@ same_number m n xs ys p q e =
     e in
     (sym (number_read m p) ∙ ap (from_be_bytes w64) same.0 ∙ number_read n q, same.1)
 
--- ---- heads
+-- ---- fixed parts
 
-pub regrouped : (h : Head) (xs : List ℕ)
-    → head_bytes h ++ xs ≡ number_bytes h.offset ++ (h.key ++ (h.width ∷ (number_bytes h.length ++ xs)))
+pub regrouped : (h : FixedPart) (xs : List ℕ)
+    → fixed_bytes h ++ xs ≡ number_bytes h.offset ++ (h.key ++ (h.width ∷ (number_bytes h.length ++ xs)))
 regrouped h xs =
     append_assoc (number_bytes h.offset) (h.key ++ (h.width ∷ number_bytes h.length)) xs
     ∙ ap (λ (t : List ℕ). number_bytes h.offset ++ t) (append_assoc h.key (h.width ∷ number_bytes h.length) xs)
 
-pub length-head_bytes : (h : Head) → length h.key ≡ 16 → length (head_bytes h) ≡ 33
-length-head_bytes h k =
+pub length-fixed_bytes : (h : FixedPart) → length h.key ≡ 16 → length (fixed_bytes h) ≡ 33
+length-fixed_bytes h k =
     let a = length-append (number_bytes h.offset) (h.key ++ (h.width ∷ number_bytes h.length)) in
     let b = length-append h.key (h.width ∷ number_bytes h.length) in
     omega (arith, a, b, length-number_bytes h.offset, length-number_bytes h.length)
 
-heads_from : (g h : Head) → g.offset ≡ h.offset → g.key ≡ h.key → g.width ≡ h.width → g.length ≡ h.length → g ≡ h
-heads_from g h a b c d i = record { offset = a i; key = b i; width = c i; length = d i }
+fixed_parts_from : (g h : FixedPart) → g.offset ≡ h.offset → g.key ≡ h.key → g.width ≡ h.width → g.length ≡ h.length → g ≡ h
+fixed_parts_from g h a b c d i = record { offset = a i; key = b i; width = c i; length = d i }
 
-pub same_head : (g h : Head) (xs ys : List ℕ) → IsHead g → IsHead h → head_bytes g ++ xs ≡ head_bytes h ++ ys
+pub same_fixed_part : (g h : FixedPart) (xs ys : List ℕ) → IsFixedPart g → IsFixedPart h → fixed_bytes g ++ xs ≡ fixed_bytes h ++ ys
     → (g ≡ h) × (xs ≡ ys)
-same_head g h xs ys p q e =
+same_fixed_part g h xs ys p q e =
     let a = same_number g.offset h.offset _ _ p.offset q.offset (sym (regrouped g xs) ∙ e ∙ regrouped h ys) in
     let b = same_front g.key h.key _ _ (p.key ∙ sym q.key) a.1 in
     let width : g.width ≡ h.width = ap (λ (t : List ℕ). get_or t 0 0) b.1 in
     let rest : number_bytes g.length ++ xs ≡ number_bytes h.length ++ ys = ap (drop 1) b.1 in
     let c = same_number g.length h.length xs ys p.length q.length rest in
-    (heads_from g h a.0 b.0 width c.0, c.1)
+    (fixed_parts_from g h a.0 b.0 width c.0, c.1)
 
 -- ---- notes
 
-pub head_fits : (n : NoteParts) → IsNote n → IsHead (head_of n)
-head_fits n i =
+pub fixed_part_fits : (n : NoteParts) → IsNote n → IsFixedPart (fixed_part_of n)
+fixed_part_fits n i =
     let within = i.within in
     record {
       offset = omega arith;
@@ -90,13 +92,13 @@ head_fits n i =
       length = omega arith;
     }
 
-pub head_noted : (n : NoteParts) → IsNote n → CanBeNoted (head_of n)
-head_noted n i = record { label = i.label; width = i.width; within = i.within }
+pub fixed_part_noted : (n : NoteParts) → IsNote n → CanBeNoted (fixed_part_of n)
+fixed_part_noted n i = record { label = i.label; width = i.width; within = i.within }
 
-pub note_marked : (n : NoteParts) → IsNote n → CanBeMarked (head_of n) (mark_of n.whole)
-note_marked n i = (head_noted n i, elim n.whole as (λ b. mark_of b ≤ 1) [ true ↦ omega arith | false ↦ omega arith ])
+pub note_marked : (n : NoteParts) → IsNote n → CanBeMarked (fixed_part_of n) (mark_of n.whole)
+note_marked n i = (fixed_part_noted n i, elim n.whole as (λ b. mark_of b ≤ 1) [ true ↦ omega arith | false ↦ omega arith ])
 
-length-held : (n : NoteParts) → IsNote n → length n.held ≡ held_length (head_of n) (mark_of n.whole)
+length-held : (n : NoteParts) → IsNote n → length n.held ≡ held_length (fixed_part_of n) (mark_of n.whole)
 length-held n i =
     i.held ∙ elim n.whole as (λ b. cond b (cond (keeps n.key n.length) n.length 32) 0
     ≡ cond (mark_of b == 0) (cond (keeps n.key n.length) n.length 32) 0) [ true ↦ refl | false ↦ refl ]
@@ -108,66 +110,107 @@ same_whole true false e = absurd (omega (arith, e))
 same_whole false true e = absurd (omega (arith, e))
 same_whole false false e = refl
 
-notes_from : (m n : NoteParts) → head_of m ≡ head_of n → m.whole ≡ n.whole → m.held ≡ n.held → m ≡ n
+notes_from : (m n : NoteParts) → fixed_part_of m ≡ fixed_part_of n → m.whole ≡ n.whole → m.held ≡ n.held → m ≡ n
 notes_from m n e w f i = record
     { offset = (e i).offset; key = (e i).key; width = (e i).width; length = (e i).length; whole = w i; held = f i }
 
-after_head : (n : NoteParts) (xs : List ℕ)
-    → note_bytes n ++ xs ≡ head_bytes (head_of n) ++ (mark_of n.whole ∷ (n.held ++ xs))
-after_head n xs = append_assoc (head_bytes (head_of n)) (mark_of n.whole ∷ n.held) xs
+laid : (v : Version) (n : NoteParts) (xs : List ℕ)
+    → note_bytes v n ++ xs
+    ≡ fixed_bytes (fixed_part_of n) ++ (mark_bytes v (mark_of n.whole) ++ (n.held ++ xs))
+laid v n xs =
+    append_assoc (fixed_bytes (fixed_part_of n)) (mark_bytes v (mark_of n.whole) ++ n.held) xs
+    ∙ ap (λ (t : List ℕ). fixed_bytes (fixed_part_of n) ++ t) (append_assoc (mark_bytes v (mark_of n.whole)) n.held xs)
 
--- two heads with their marks at the front of one text are one
-pub same_mark : (g h : Head) (a b : ℕ) (xs ys : List ℕ) → IsHead g → IsHead h
-    → head_bytes g ++ (a ∷ xs) ≡ head_bytes h ++ (b ∷ ys) → (g ≡ h) × (a ≡ b) × (xs ≡ ys)
-same_mark g h a b xs ys p q e =
-    let s = same_head g h (a ∷ xs) (b ∷ ys) p q e in
-    (s.0, ap (λ (t : List ℕ). get_or t 0 0) s.1, ap (drop 1) s.1)
+-- the mark of a note that a version can have is one of the version
+pub mark_in : (v : Version) (n : NoteParts) → CanHave v n → IsMarkIn v (mark_of n.whole)
+mark_in One n w = ap mark_of w
+mark_in Two n w = tt
+
+-- a mark at the front of one text is one
+same_mark : (v : Version) (a b : ℕ) (xs ys : List ℕ) → IsMarkIn v a → IsMarkIn v b
+    → mark_bytes v a ++ xs ≡ mark_bytes v b ++ ys → (a ≡ b) × (xs ≡ ys)
+same_mark One a b xs ys i j e = (i ∙ sym j, e)
+same_mark Two a b xs ys i j e = (ap (λ (t : List ℕ). get_or t 0 0) e, ap (drop 1) e)
+
+-- two fixed parts with their marks at the front of one text are one
+pub same_parts : (v : Version) (g h : FixedPart) (a b : ℕ) (xs ys : List ℕ) → IsFixedPart g → IsFixedPart h
+    → IsMarkIn v a → IsMarkIn v b
+    → fixed_bytes g ++ (mark_bytes v a ++ xs) ≡ fixed_bytes h ++ (mark_bytes v b ++ ys)
+    → (g ≡ h) × (a ≡ b) × (xs ≡ ys)
+same_parts v g h a b xs ys p q i j e =
+    let s = same_fixed_part g h (mark_bytes v a ++ xs) (mark_bytes v b ++ ys) p q e in
+    let m = same_mark v a b xs ys i j s.1 in
+    (s.0, m.0, m.1)
+
+-- how many bytes a fixed part with its mark has
+pub length-ahead : (v : Version) (f : FixedPart) (mark : ℕ) → length f.key ≡ 16
+    → length (fixed_bytes f) + length (mark_bytes v mark) ≡ length_ahead v
+length-ahead One f mark k = omega (arith, length-fixed_bytes f k)
+length-ahead Two f mark k = omega (arith, length-fixed_bytes f k)
+
+pub length-parts : (v : Version) (f : FixedPart) (mark : ℕ) (xs : List ℕ) → length f.key ≡ 16
+    → length (fixed_bytes f ++ (mark_bytes v mark ++ xs)) ≡ length_ahead v + length xs
+length-parts v f mark xs k =
+    let a = length-append (fixed_bytes f) (mark_bytes v mark ++ xs) in
+    let b = length-append (mark_bytes v mark) xs in
+    omega (arith, a, b, length-ahead v f mark k)
 
 -- two notes at the front of one text are one
-pub same_note : (m n : NoteParts) (xs ys : List ℕ) → IsNote m → IsNote n → note_bytes m ++ xs ≡ note_bytes n ++ ys
-    → (m ≡ n) × (xs ≡ ys)
-same_note m n xs ys i j e =
-    let a = same_mark (head_of m) (head_of n) (mark_of m.whole) (mark_of n.whole) (m.held ++ xs) (n.held ++ ys)
-    (head_fits m i) (head_fits n j) (sym (after_head m xs) ∙ e ∙ after_head n ys) in
-    let len : held_length (head_of m) (mark_of m.whole) ≡ held_length (head_of n) (mark_of n.whole) =
+pub same_note : (v : Version) (m n : NoteParts) (xs ys : List ℕ) → IsNote m → IsNote n → CanHave v m → CanHave v n
+    → note_bytes v m ++ xs ≡ note_bytes v n ++ ys → (m ≡ n) × (xs ≡ ys)
+same_note v m n xs ys i j c d e =
+    let a = same_parts v (fixed_part_of m) (fixed_part_of n) (mark_of m.whole) (mark_of n.whole) (m.held ++ xs)
+    (n.held ++ ys) (fixed_part_fits m i) (fixed_part_fits n j) (mark_in v m c) (mark_in v n d)
+    (sym (laid v m xs) ∙ e ∙ laid v n ys) in
+    let len : held_length (fixed_part_of m) (mark_of m.whole) ≡ held_length (fixed_part_of n) (mark_of n.whole) =
     λ i. held_length (a.0 i) (a.1 i) in
     let b = same_front m.held n.held xs ys (length-held m i ∙ len ∙ sym (length-held n j)) a.2 in
     (notes_from m n a.0 (same_whole m.whole n.whole a.1) b.0, b.1)
 
--- the head and the mark that a note at the front begins with are the note's
-note_head : (n : NoteParts) (h : Head) (mark : ℕ) (bytes more rest : List ℕ) → BeginsWithNote bytes n more
-    → BeginsWithMark bytes h mark rest → (h ≡ head_of n) × (mark ≡ mark_of n.whole) × (rest ≡ n.held ++ more)
-note_head n h mark bytes more rest b f =
-    same_mark h (head_of n) mark (mark_of n.whole) rest (n.held ++ more) f.head (head_fits n b.note)
-    (sym f.whole ∙ b.whole ∙ after_head n more)
+-- the same of what begins with them
+pub same_beginning : (v : Version) (m n : NoteParts) (bytes xs ys : List ℕ) → BeginsWithNote v bytes m xs
+    → BeginsWithNote v bytes n ys → m ≡ n
+same_beginning v m n bytes xs ys b d =
+    (same_note v m n xs ys b.note d.note b.can_have d.can_have (sym b.whole ∙ d.whole)).0
+
+-- the fixed part and the mark that a note at the front begins with are the note's
+note_mark : (v : Version) (n : NoteParts) (f : FixedPart) (mark : ℕ) (bytes more rest : List ℕ)
+    → BeginsWithNote v bytes n more → BeginsWithParts v bytes f mark rest
+    → (f ≡ fixed_part_of n) × (mark ≡ mark_of n.whole) × (rest ≡ n.held ++ more)
+note_mark v n f mark bytes more rest b p =
+    same_parts v f (fixed_part_of n) mark (mark_of n.whole) rest (n.held ++ more) p.fixed (fixed_part_fits n b.note)
+    p.marked (mark_in v n b.can_have) (sym p.whole ∙ b.whole ∙ laid v n more)
 
 -- a note at the front isn't cut
-pub note_uncut : (n : NoteParts) (bytes more : List ℕ) → BeginsWithNote bytes n more → IsCutNote bytes → ⊥
-note_uncut n bytes more b (inl short) =
-    let len = ap length (b.whole ∙ after_head n more) in
-    let head = length-head_bytes (head_of n) b.note.label.0 in
-    omega (arith, len, head, length-append (head_bytes (head_of n)) (mark_of n.whole ∷ (n.held ++ more)))
-note_uncut n bytes more b (inr (h, mark, rest, f, good, short)) =
-    let same = note_head n h mark bytes more rest b f in
+pub note_uncut : (v : Version) (n : NoteParts) (bytes more : List ℕ) → BeginsWithNote v bytes n more
+    → IsCutNote v bytes → ⊥
+note_uncut v n bytes more b (inl short) =
+    let len = ap length (b.whole ∙ laid v n more) in
+    let parts = length-parts v (fixed_part_of n) (mark_of n.whole) (n.held ++ more) b.note.label.0 in
+    omega (arith, len, parts, short)
+note_uncut v n bytes more b (inr (f, mark, rest, p, good, short)) =
+    let same = note_mark v n f mark bytes more rest b p in
     let len = ap length same.2 in
     let held = length-held n b.note in
-    let size : held_length h mark ≡ held_length (head_of n) (mark_of n.whole) = λ i. held_length (same.0 i) (same.1 i) in
+    let size : held_length f mark ≡ held_length (fixed_part_of n) (mark_of n.whole) =
+    λ i. held_length (same.0 i) (same.1 i) in
     omega (arith, len, held, size, short, length-append n.held more)
 
--- and its head is no bad one
-pub note_good : (n : NoteParts) (bytes more : List ℕ) → BeginsWithNote bytes n more → IsBadNote bytes → ⊥
-note_good n bytes more b (h, mark, rest, f, bad) =
-    let same = note_head n h mark bytes more rest b f in
+-- and its fixed part is no bad one
+pub note_good : (v : Version) (n : NoteParts) (bytes more : List ℕ) → BeginsWithNote v bytes n more
+    → IsBadNote v bytes → ⊥
+note_good v n bytes more b (f, mark, rest, p, bad) =
+    let same = note_mark v n f mark bytes more rest b p in
     bad (subst (λ k. CanBeMarked k mark) (sym same.0)
-    (subst (λ m. CanBeMarked (head_of n) m) (sym same.1) (note_marked n b.note)))
+    (subst (λ m. CanBeMarked (fixed_part_of n) m) (sym same.1) (note_marked n b.note)))
 
-pub cut_good : (bytes : List ℕ) → IsCutNote bytes → IsBadNote bytes → ⊥
-cut_good bytes (inl short) (h, mark, rest, f, bad) =
-    let len = ap length f.whole in
-    let head = length-head_bytes h f.head.key in
-    omega (arith, len, head, length-append (head_bytes h) (mark ∷ rest))
-cut_good bytes (inr (g, m, more, b, good, short)) (h, mark, rest, f, bad) =
-    let same = same_mark h g mark m rest more f.head b.head (sym f.whole ∙ b.whole) in
+pub cut_good : (v : Version) (bytes : List ℕ) → IsCutNote v bytes → IsBadNote v bytes → ⊥
+cut_good v bytes (inl short) (f, mark, rest, p, bad) =
+    let len = ap length p.whole in
+    let parts = length-parts v f mark rest p.fixed.key in
+    omega (arith, len, parts, short)
+cut_good v bytes (inr (g, m, more, b, good, short)) (f, mark, rest, p, bad) =
+    let same = same_parts v f g mark m rest more p.fixed b.fixed p.marked b.marked (sym p.whole ∙ b.whole) in
     bad (subst (λ k. CanBeMarked k mark) (sym same.0) (subst (λ x. CanBeMarked g x) (sym same.1) good))
 
 -- ---- lists that go on
@@ -218,47 +261,55 @@ flat_push f xs x more =
 
 -- ---- fronts of files
 
-pub length-start_bytes : (count : ℕ) → length (start_bytes count) ≡ 16
-length-start_bytes count = omega (arith, length-number_bytes count)
+pub length-start_bytes : (v : Version) (count : ℕ) → length (start_bytes v count) ≡ 16
+length-start_bytes v count = omega (arith, length-number_bytes count)
 
-pub front_begins : (bytes rest : List ℕ) (count : ℕ) → count < 2 ^ 64 → bytes ≡ start_bytes count ++ rest
-    → IsFront bytes count [] rest
-front_begins bytes rest count h e = record
-    { catalogue = record { content = tt; members = tt }; reduced = λ x i k. i; room = omega arith; fits = h; whole = e }
+pub front_begins : (v : Version) (bytes rest : List ℕ) (count : ℕ) → count < 2 ^ 64 → bytes ≡ start_bytes v count ++ rest
+    → IsFront v bytes count [] rest
+front_begins v bytes rest count h e = record {
+  catalogue = record { content = tt; members = tt };
+  reduced = λ x i k. i;
+  can_have = tt;
+  room = omega arith;
+  fits = h;
+  whole = e;
+}
 
-pub front_next : (bytes rest more : List ℕ) (count : ℕ) (notes : List NoteParts) (n : NoteParts)
-    → IsFront bytes count notes rest → length notes < count → BeginsWithNote rest n more → IsContent (notes ++ n ∷ [])
-    → AreReduced (notes ++ n ∷ []) → IsFront bytes count (notes ++ n ∷ []) more
-front_next bytes rest more count notes n f lt b r p =
+pub front_next : (v : Version) (bytes rest more : List ℕ) (count : ℕ) (notes : List NoteParts) (n : NoteParts)
+    → IsFront v bytes count notes rest → length notes < count → BeginsWithNote v rest n more
+    → IsContent (notes ++ n ∷ []) → AreReduced (notes ++ n ∷ []) → IsFront v bytes count (notes ++ n ∷ []) more
+front_next v bytes rest more count notes n f lt b r p =
     let len : length (notes ++ n ∷ []) ≡ length notes + 1 = length-append notes (n ∷ []) in
     record {
       catalogue = record { content = r; members = all_push IsNote notes n f.catalogue.members b.note };
       reduced = p;
+      can_have = all_push (CanHave v) notes n f.can_have b.can_have;
       room = omega arith;
       fits = f.fits;
       whole = f.whole
-          ∙ ap (λ (t : List ℕ). start_bytes count ++ t) (ap (λ (t : List ℕ). flat_map note_bytes notes ++ t) b.whole
-          ∙ sym (flat_push note_bytes notes n more));
+          ∙ ap (λ (t : List ℕ). start_bytes v count ++ t) (ap (λ (t : List ℕ). flat_map (note_bytes v) notes ++ t) b.whole
+          ∙ sym (flat_push (note_bytes v) notes n more));
     }
 
-pub front_place : (bytes rest : List ℕ) (count : ℕ) (notes : List NoteParts) → IsFront bytes count notes rest
-    → length bytes ≡ place_after notes + length rest
-front_place bytes rest count notes f =
+pub front_place : (v : Version) (bytes rest : List ℕ) (count : ℕ) (notes : List NoteParts)
+    → IsFront v bytes count notes rest → length bytes ≡ place_after v notes + length rest
+front_place v bytes rest count notes f =
     let len = ap length f.whole in
     omega (
       arith,
       len,
-      length-append (start_bytes count) (flat_map note_bytes notes ++ rest),
-      length-append (flat_map note_bytes notes) rest,
-      length-start_bytes count,
+      length-append (start_bytes v count) (flat_map (note_bytes v) notes ++ rest),
+      length-append (flat_map (note_bytes v) notes) rest,
+      length-start_bytes v count,
     )
 
-pub front_whole : (bytes rest : List ℕ) (count : ℕ) (notes : List NoteParts) → IsFront bytes count notes rest
-    → length notes ≡ count → length rest ≡ 0 → IsFileOf bytes notes
-front_whole bytes [] count notes f e l = record {
+pub front_whole : (v : Version) (bytes rest : List ℕ) (count : ℕ) (notes : List NoteParts)
+    → IsFront v bytes count notes rest → length notes ≡ count → length rest ≡ 0 → IsFileOfVersion v bytes notes
+front_whole v bytes [] count notes f e l = record {
   catalogue = f.catalogue;
   reduced = f.reduced;
+  can_have = f.can_have;
   fits = rw e f.fits;
-  whole = f.whole ∙ (λ i. start_bytes (sym e i) ++ append-nil (flat_map note_bytes notes) i);
+  whole = f.whole ∙ (λ i. start_bytes v (sym e i) ++ append-nil (flat_map (note_bytes v) notes) i);
 }
-front_whole bytes (b ∷ bs) count notes f e l = absurd (omega arith)
+front_whole v bytes (b ∷ bs) count notes f e l = absurd (omega arith)

@@ -21,15 +21,18 @@ use Rattle.mxf_klv.specs.Rising.{IsRising}
 use Rattle.mxf_catalogue.specs.declared.catalogue.file.FileFault.{FileFault}
 use Rattle.mxf_catalogue.specs.declared.catalogue.file.FileFault.TheVariants.{BadMagic, BadVersion, Truncated, BadNote}
 use Rattle.mxf_catalogue.specs.declared.catalogue.file.FileFault.TheVariants.{NotReduced, NotSorted, Trailing, OutOfMemory}
-use Rattle.mxf_catalogue.specs.declared.catalogue.file.head.Head.{Head}
-use Rattle.mxf_catalogue.specs.CatalogueFile.{magic, version, number_bytes, start_bytes, head_bytes, held_length}
-use Rattle.mxf_catalogue.specs.CatalogueFile.{CanBeMarked, CanBeNoted, IsFileOf, IsFront, IsRefused, IsCutNote}
-use Rattle.mxf_catalogue.specs.CatalogueFile.{BeginsAsFile, BeginsWithHead, BeginsWithMark, BeginsWithNote, IsHeadLast}
-use Rattle.mxf_catalogue.specs.CatalogueFile.{mark_of, place_after}
-use Rattle.mxf_catalogue.proofs.FileBytes.{front_begins, front_next, front_whole, length-head_bytes}
+use Rattle.mxf_catalogue.specs.declared.catalogue.file.fixed_part.FixedPart.{FixedPart}
+use Rattle.mxf_catalogue.specs.declared.catalogue.file.start.Version.{Version}
+use Rattle.mxf_catalogue.specs.declared.catalogue.file.start.Version.TheVariants.{One, Two}
+use Rattle.mxf_catalogue.specs.CatalogueFile.{magic, version_byte, number_bytes, start_bytes, fixed_bytes, held_length}
+use Rattle.mxf_catalogue.specs.CatalogueFile.{CanBeMarked, CanBeNoted, CanHave, IsFileOf, IsFront, IsRefused, IsCutNote}
+use Rattle.mxf_catalogue.specs.CatalogueFile.{BeginsAsFile, BeginsWithFixedPart, BeginsWithMark, BeginsWithNote}
+use Rattle.mxf_catalogue.specs.CatalogueFile.{BeginsWithParts, IsHeadLast, IsKnownVersion, IsMarkIn, IsUnknownVersion}
+use Rattle.mxf_catalogue.specs.CatalogueFile.{length_ahead, mark_bytes, mark_of, place_after}
+use Rattle.mxf_catalogue.proofs.FileBytes.{front_begins, front_next, front_whole, length-fixed_bytes, length-parts}
 use Rattle.mxf_catalogue.proofs.FileLaws.{if_some}
 use Rattle.mxf_catalogue.proofs.HeadLaws.{AreReduced-push, same_note}
-use Rattle.mxf_catalogue.proofs.FileParts.{at_front_of_rest, head_split, number_split, start_split}
+use Rattle.mxf_catalogue.proofs.FileParts.{at_front_of_rest, fixed_part_split, number_split, parts_begin, start_split}
 
 -- ---- what can be decided
 
@@ -76,7 +79,7 @@ is_label key =
           ]
     ]
 
-can_be_noted : (h : Head) → Decided (CanBeNoted h)
+can_be_noted : (h : FixedPart) → Decided (CanBeNoted h)
 can_be_noted h =
     elim (is_label h.key) [
       | inr never ↦ inr (λ c. never c.label)
@@ -89,7 +92,7 @@ can_be_noted h =
       ]
     ]
 
-can_be_marked : (h : Head) (mark : ℕ) → Decided (CanBeMarked h mark)
+can_be_marked : (h : FixedPart) (mark : ℕ) → Decided (CanBeMarked h mark)
 can_be_marked h mark =
     elim (can_be_noted h) [
       | inr never ↦ inr (λ c. never c.0)
@@ -194,14 +197,14 @@ first_of : (bytes : List ℕ) → 0 < length bytes → FirstOf bytes
 first_of [] l = absurd (omega arith)
 first_of (b ∷ bs) l = record { first = b; others = bs; whole = refl }
 
--- a head in the first 33 bytes
-record HeadAt (bytes : List ℕ) : Type 0 where
-  pub head : Head
+-- a fixed part in the first 33 bytes
+record FixedPartAt (bytes : List ℕ) : Type 0 where
+  pub fixed : FixedPart
   pub rest : List ℕ
-  pub begins : BeginsWithHead bytes head rest
+  pub begins : BeginsWithFixedPart bytes fixed rest
 
-head_at : (bytes : List ℕ) → 33 ≤ length bytes → AreBytes bytes → HeadAt bytes
-head_at bytes long h =
+fixed_part_at : (bytes : List ℕ) → 33 ≤ length bytes → AreBytes bytes → FixedPartAt bytes
+fixed_part_at bytes long h =
     let a = drop 8 bytes in
     let b = drop 16 a in
     let len_a : length a ≡ length bytes - 8 = length-drop 8 bytes in
@@ -214,33 +217,46 @@ head_at bytes long h =
     let len : NumberAt width.others =
     number_at width.others (omega arith) (λ i. are (suc i)) in
     record {
-      head = record { offset = offset.number; key = take 16 a; width = width.first; length = len.number };
+      fixed = record { offset = offset.number; key = take 16 a; width = width.first; length = len.number };
       rest = drop 8 width.others;
-      begins = head_split bytes a (take 16 a) b width.others (drop 8 width.others) offset.number width.first len.number
+      begins = fixed_part_split bytes a (take 16 a) b width.others (drop 8 width.others) offset.number width.first len.number
           offset.whole offset.small refl refl (omega arith) width.whole len.whole len.small h;
     }
 
--- a head and a mark in the first 34 bytes
-record MarkAt (bytes : List ℕ) : Type 0 where
-  pub head : Head
+-- a mark at the front
+record MarkAt (v : Version) (bytes : List ℕ) : Type 0 where
   pub mark : ℕ
   pub rest : List ℕ
-  pub begins : BeginsWithMark bytes head mark rest
+  pub begins : BeginsWithMark v bytes mark rest
 
-mark_at : (bytes : List ℕ) → 34 ≤ length bytes → AreBytes bytes → MarkAt bytes
-mark_at bytes long h =
-    let at : HeadAt bytes = head_at bytes (omega arith) h in
-    let len = ap length at.begins.whole ∙ length-append (head_bytes at.head) at.rest in
-    let mark : FirstOf at.rest =
-    first_of at.rest (omega (arith, len, length-head_bytes at.head at.begins.head.key)) in
+mark_at : (v : Version) (bytes : List ℕ) → length_ahead v ≤ 33 + length bytes → MarkAt v bytes
+mark_at One bytes long = record { mark = 0; rest = bytes; begins = record { marked = refl; whole = refl } }
+mark_at Two bytes long =
+    let first : FirstOf bytes = first_of bytes (omega (arith, long)) in
+    record { mark = first.first; rest = first.others; begins = record { marked = tt; whole = first.whole } }
+
+-- a fixed part and a mark in the first bytes
+record PartsAt (v : Version) (bytes : List ℕ) : Type 0 where
+  pub fixed : FixedPart
+  pub mark : ℕ
+  pub rest : List ℕ
+  pub begins : BeginsWithParts v bytes fixed mark rest
+
+ahead_from : (v : Version) → 33 ≤ length_ahead v
+ahead_from One = omega arith
+ahead_from Two = omega arith
+
+parts_at : (v : Version) (bytes : List ℕ) → length_ahead v ≤ length bytes → AreBytes bytes → PartsAt v bytes
+parts_at v bytes long h =
+    let at : FixedPartAt bytes = fixed_part_at bytes (omega (arith, ahead_from v)) h in
+    let len = ap length at.begins.whole ∙ length-append (fixed_bytes at.fixed) at.rest in
+    let size = length-fixed_bytes at.fixed at.begins.fixed.key in
+    let mark : MarkAt v at.rest = mark_at v at.rest (omega (arith, len, size)) in
     record {
-      head = at.head;
-      mark = mark.first;
-      rest = mark.others;
-      begins = record {
-        head = at.begins.head;
-        whole = at.begins.whole ∙ ap (λ (t : List ℕ). head_bytes at.head ++ t) mark.whole;
-      };
+      fixed = at.fixed;
+      mark = mark.mark;
+      rest = mark.rest;
+      begins = parts_begin v at.fixed mark.mark bytes at.rest mark.rest at.begins mark.begins;
     }
 
 -- ---- causes
@@ -252,40 +268,41 @@ IsFileOrRefused bytes =
     ⊎ ((fault : FileFault) × (fault ≢ OutOfMemory) × IsRefused bytes fault)
 
 -- what longer fronts come to
-abbrev GoesOn : List ℕ → List ℕ → ℕ → List NoteParts → Type 0
-GoesOn bytes rest count notes =
-    (n : NoteParts) (more : List ℕ) → IsFront bytes count (notes ++ n ∷ []) more → AreBytes more
+abbrev GoesOn : Version → List ℕ → List ℕ → ℕ → List NoteParts → Type 0
+GoesOn v bytes rest count notes =
+    (n : NoteParts) (more : List ℕ) → IsFront v bytes count (notes ++ n ∷ []) more → AreBytes more
     → length more < length rest → IsFileOrRefused bytes
 
 -- all notes are there
-ended : (bytes rest : List ℕ) (count : ℕ) (notes : List NoteParts) → IsFront bytes count notes rest
+ended : (v : Version) (bytes rest : List ℕ) (count : ℕ) (notes : List NoteParts) → IsFront v bytes count notes rest
     → length notes ≡ count → IsFileOrRefused bytes
-ended bytes [] count notes f e = inl (notes, front_whole bytes [] count notes f e refl)
-ended bytes (b ∷ bs) count notes f e = inr (
-  Trailing (place_after notes),
+ended v bytes [] count notes f e = inl (notes, (v, front_whole v bytes [] count notes f e refl))
+ended v bytes (b ∷ bs) count notes f e = inr (
+  Trailing (place_after v notes),
   λ h. cc,
-  record { count = count; notes = notes; rest = b ∷ bs; front = f; stands = refl; why = (e, omega arith) },
+  record { version = v; count = count; notes = notes; rest = b ∷ bs; front = f; stands = refl; why = (e, omega arith) },
 )
 
-cut : (bytes rest : List ℕ) (count : ℕ) (notes : List NoteParts) → IsFront bytes count notes rest
-    → length notes < count → IsCutNote rest → IsFileOrRefused bytes
-cut bytes rest count notes f lt is = inr (
-  Truncated (place_after notes),
+cut : (v : Version) (bytes rest : List ℕ) (count : ℕ) (notes : List NoteParts) → IsFront v bytes count notes rest
+    → length notes < count → IsCutNote v rest → IsFileOrRefused bytes
+cut v bytes rest count notes f lt is = inr (
+  Truncated (place_after v notes),
   λ h. cc,
-  inr (record { count = count; notes = notes; rest = rest; front = f; stands = refl; why = (lt, is) }),
+  inr (record { version = v; count = count; notes = notes; rest = rest; front = f; stands = refl; why = (lt, is) }),
 )
 
 -- a note stands at the front
-behind_note : (bytes rest more : List ℕ) (count : ℕ) (notes : List NoteParts) (n : NoteParts)
-    → IsFront bytes count notes rest → length notes < count → BeginsWithNote rest n more → AreBytes more
-    → length more < length rest → GoesOn bytes rest count notes → IsFileOrRefused bytes
-behind_note bytes rest more count notes n f lt b are short next =
+behind_note : (v : Version) (bytes rest more : List ℕ) (count : ℕ) (notes : List NoteParts) (n : NoteParts)
+    → IsFront v bytes count notes rest → length notes < count → BeginsWithNote v rest n more → AreBytes more
+    → length more < length rest → GoesOn v bytes rest count notes → IsFileOrRefused bytes
+behind_note v bytes rest more count notes n f lt b are short next =
     elim (is_rising note_cmp (notes ++ n ∷ [])) [
       | inl rises ↦ elim (is_head_last notes n) [
         | inl last ↦ inr (
-          NotReduced (place_after notes),
+          NotReduced (place_after v notes),
           λ h. cc,
           record {
+            version = v;
             count = count;
             notes = notes;
             rest = rest;
@@ -297,12 +314,13 @@ behind_note bytes rest more count notes n f lt b are short next =
         | inr never ↦
             let red = AreReduced-push notes n rises f.reduced
             (λ front l e t. never (front, e ∙ ap (λ h. front ++ h ∷ []) (sym t))) in
-            next n more (front_next bytes rest more count notes n f lt b rises red) are short
+            next n more (front_next v bytes rest more count notes n f lt b rises red) are short
       ]
       | inr never ↦ inr (
-        NotSorted (place_after notes),
+        NotSorted (place_after v notes),
         λ h. cc,
         record {
+          version = v;
           count = count;
           notes = notes;
           rest = rest;
@@ -313,13 +331,13 @@ behind_note bytes rest more count notes n f lt b are short next =
       )
     ]
 
--- the note with a head and a mark, which holds these bytes
-marked_note : Head → ℕ → List ℕ → NoteParts
-marked_note h mark held = record {
-  offset = h.offset;
-  key = h.key;
-  width = h.width;
-  length = h.length;
+-- the note with a fixed part and a mark, which holds these bytes
+marked_note : FixedPart → ℕ → List ℕ → NoteParts
+marked_note f mark held = record {
+  offset = f.offset;
+  key = f.key;
+  width = f.width;
+  length = f.length;
   whole = mark == 0;
   held = held;
 }
@@ -329,15 +347,21 @@ mark_back zero l = refl
 mark_back (suc zero) l = refl
 mark_back (suc (suc mark)) l = absurd (omega arith)
 
+marked_in : (v : Version) (mark : ℕ) (n : NoteParts) → IsMarkIn v mark → n.whole ≡ (mark == 0) → CanHave v n
+marked_in One mark n z w = w ∙ ap (λ k. k == 0) z
+marked_in Two mark n z w = tt
+
 -- that which holds the first of the bytes behind them
-note_there : (h : Head) (mark : ℕ) (rest more : List ℕ) → BeginsWithMark rest h mark more → CanBeMarked h mark
-    → held_length h mark ≤ length more
-    → BeginsWithNote rest (marked_note h mark (take (held_length h mark) more)) (drop (held_length h mark) more)
+note_there : (v : Version) (f : FixedPart) (mark : ℕ) (rest more : List ℕ) → BeginsWithParts v rest f mark more
+    → CanBeMarked f mark → held_length f mark ≤ length more
+    → BeginsWithNote v rest (marked_note f mark (take (held_length f mark) more)) (drop (held_length f mark) more)
 unfolding marked_note
-note_there h mark rest more b good long =
-    let k : ℕ = held_length h mark in
+note_there v f mark rest more b good long =
+    let k : ℕ = held_length f mark in
     let held = take k more in
-    let behind : List ℕ → List ℕ = λ t. head_bytes h ++ t in
+    let behind : List ℕ → List ℕ = λ t. fixed_bytes f ++ t in
+    let n : NoteParts = marked_note f mark held in
+    let marks : List ℕ = mark_bytes v (mark_of (mark == 0)) in
     record {
       note = record {
         label = good.0.label;
@@ -345,70 +369,89 @@ note_there h mark rest more b good long =
         within = good.0.within;
         held = omega (arith, length-take k more);
       };
+      can_have = marked_in v mark n b.marked refl;
       whole = b.whole
-          ∙ ap behind ((λ i. sym (mark_back mark good.1) i ∷ sym (take-append-drop k more) i))
-          ∙ sym (append_assoc (head_bytes h) (mark_of (mark == 0) ∷ held) (drop k more));
+          ∙ ap behind (λ i. mark_bytes v (sym (mark_back mark good.1) i) ++ sym (take-append-drop k more) i)
+          ∙ ap behind (sym (append_assoc marks held (drop k more)))
+          ∙ sym (append_assoc (fixed_bytes f) (marks ++ held) (drop k more));
     }
 
--- a head and a mark stand at the front
-behind_mark : (bytes rest more : List ℕ) (count : ℕ) (notes : List NoteParts) (h : Head) (mark : ℕ)
-    → IsFront bytes count notes rest → length notes < count → BeginsWithMark rest h mark more → AreBytes rest
-    → GoesOn bytes rest count notes → IsFileOrRefused bytes
-behind_mark bytes rest more count notes h mark f lt b are next =
-    elim (can_be_marked h mark) [
+-- a fixed part and a mark stand at the front
+behind_mark : (v : Version) (bytes rest more : List ℕ) (count : ℕ) (notes : List NoteParts) (f : FixedPart) (mark : ℕ)
+    → IsFront v bytes count notes rest → length notes < count → BeginsWithParts v rest f mark more → AreBytes rest
+    → GoesOn v bytes rest count notes → IsFileOrRefused bytes
+behind_mark v bytes rest more count notes f mark front lt b are next =
+    elim (can_be_marked f mark) [
       | inr bad ↦ inr (
-        BadNote (place_after notes),
+        BadNote (place_after v notes),
         λ e. cc,
         record {
+          version = v;
           count = count;
           notes = notes;
           rest = rest;
-          front = f;
+          front = front;
           stands = refl;
-          why = (lt, (h, mark, more, b, bad));
+          why = (lt, (f, mark, more, b, bad));
         },
       )
-      | inl good ↦ elim (cases_lt (length more) (held_length h mark)) [
-        | inl short ↦ cut bytes rest count notes f lt (inr (h, mark, more, b, good, short))
+      | inl good ↦ elim (cases_lt (length more) (held_length f mark)) [
+        | inl short ↦ cut v bytes rest count notes front lt (inr (f, mark, more, b, good, short))
         | inr long ↦
-            let k : ℕ = held_length h mark in
-            let len = ap length b.whole ∙ length-append (head_bytes h) (mark ∷ more) in
-            behind_note bytes rest (drop k more) count notes (marked_note h mark (take k more)) f lt
-            (note_there h mark rest more b good long)
-            (bytes_drop k more (bytes_drop 1 (mark ∷ more)
-            (bytes_after (head_bytes h) (mark ∷ more) (subst AreBytes b.whole are))))
-            (omega (arith, len, length-head_bytes h b.head.key, length-drop k more)) next
+            let k : ℕ = held_length f mark in
+            let len = ap length b.whole in
+            let parts = length-parts v f mark more b.fixed.key in
+            behind_note v bytes rest (drop k more) count notes (marked_note f mark (take k more)) front lt
+            (note_there v f mark rest more b good long)
+            (bytes_drop k more (bytes_after (mark_bytes v mark) more
+            (bytes_after (fixed_bytes f) (mark_bytes v mark ++ more) (subst AreBytes b.whole are))))
+            (omega (arith, len, parts, ahead_from v, length-drop k more)) next
       ]
     ]
 
-one_step : (bytes rest : List ℕ) (count : ℕ) (notes : List NoteParts) → IsFront bytes count notes rest → AreBytes rest
-    → GoesOn bytes rest count notes → IsFileOrRefused bytes
-one_step bytes rest count notes f are next =
+one_step : (v : Version) (bytes rest : List ℕ) (count : ℕ) (notes : List NoteParts) → IsFront v bytes count notes rest
+    → AreBytes rest → GoesOn v bytes rest count notes → IsFileOrRefused bytes
+one_step v bytes rest count notes f are next =
     elim (cases_lt (length notes) count) [
-      | inr all ↦ ended bytes rest count notes f (omega (arith, f.room))
-      | inl lt ↦ elim (cases_lt (length rest) 34) [
-        | inl short ↦ cut bytes rest count notes f lt (inl short)
+      | inr all ↦ ended v bytes rest count notes f (omega (arith, f.room))
+      | inl lt ↦ elim (cases_lt (length rest) (length_ahead v)) [
+        | inl short ↦ cut v bytes rest count notes f lt (inl short)
         | inr long ↦
-            let at = mark_at rest long are in
-            behind_mark bytes rest at.rest count notes at.head at.mark f lt at.begins are next
+            let at : PartsAt v rest = parts_at v rest long are in
+            behind_mark v bytes rest at.rest count notes at.fixed at.mark f lt at.begins are next
       ]
     ]
 
 -- note after note, each leaves fewer bytes
-all_steps : (most : ℕ) (bytes rest : List ℕ) (count : ℕ) (notes : List NoteParts) → IsFront bytes count notes rest
-    → AreBytes rest → length rest ≤ most → IsFileOrRefused bytes
-all_steps zero bytes rest count notes f are l =
-    one_step bytes rest count notes f are (λ n more g k lt. absurd (omega arith))
-all_steps (suc most) bytes rest count notes f are l =
-    one_step bytes rest count notes f are
-    (λ n more g k lt. all_steps most bytes more count (notes ++ n ∷ []) g k (omega arith))
+all_steps : (v : Version) (most : ℕ) (bytes rest : List ℕ) (count : ℕ) (notes : List NoteParts)
+    → IsFront v bytes count notes rest → AreBytes rest → length rest ≤ most → IsFileOrRefused bytes
+all_steps v zero bytes rest count notes f are l =
+    one_step v bytes rest count notes f are (λ n more g k lt. absurd (omega arith))
+all_steps v (suc most) bytes rest count notes f are l =
+    one_step v bytes rest count notes f are
+    (λ n more g k lt. all_steps v most bytes more count (notes ++ n ∷ []) g k (omega arith))
 
-known_version : (o : Option ℕ) → IfSome o (λ v. v ≡ version) ⊎ IsSomeAnd o (λ v. v ≢ version)
+-- each byte is that of a version or of none
+version_of : (byte : ℕ) → IsKnownVersion byte ⊎ IsUnknownVersion byte
+version_of byte =
+    elim (equal byte 1) [
+      | inl one ↦ inl (One, one)
+      | inr first ↦ elim (equal byte 2) [
+        | inl two ↦ inl (Two, two)
+        | inr second ↦ inr (neither byte first second)
+      ]
+    ]
+  where
+    neither : (byte : ℕ) → byte ≢ 1 → byte ≢ 2 → IsUnknownVersion byte
+    neither byte first second One = first
+    neither byte first second Two = second
+
+known_version : (o : Option ℕ) → IfSome o IsKnownVersion ⊎ IsSomeAnd o IsUnknownVersion
 known_version None = inl tt
-known_version (Some v) = equal v version
+known_version (Some v) = version_of v
 
 -- the sixteen bytes ahead of the notes
-behind_start : (bytes : List ℕ) → AreBytes bytes → BeginsAsFile bytes → IfSome (slice_get bytes 7) (λ v. v ≡ version)
+behind_start : (bytes : List ℕ) → AreBytes bytes → BeginsAsFile bytes → IfSome (slice_get bytes 7) IsKnownVersion
     → 16 ≤ length bytes → IsFileOrRefused bytes
 behind_start bytes are begins known long =
     let rest = drop 7 bytes in
@@ -418,12 +461,13 @@ behind_start bytes are begins known long =
     let are_rest : AreBytes (v.first ∷ v.others) = subst AreBytes v.whole (bytes_drop 7 bytes are) in
     let count : NumberAt v.others = number_at v.others (omega arith) (λ i. are_rest (suc i)) in
     let at = at_front_of_rest 7 bytes rest v.others v.first refl v.whole in
-    let is = if_some (slice_get bytes 7) (λ w. w ≡ version) known v.first at in
+    let is = if_some (slice_get bytes 7) IsKnownVersion known v.first at in
     let left = drop 8 v.others in
-    let whole : bytes ≡ start_bytes count.number ++ left =
-    start_split bytes rest v.others left v.first count.number begins (omega arith) refl v.whole is count.whole in
-    all_steps (length left) bytes left count.number [] (front_begins bytes left count.number count.small whole)
-    (bytes_after (start_bytes count.number) left (subst AreBytes whole are)) (omega arith)
+    let whole : bytes ≡ start_bytes is.0 count.number ++ left =
+    start_split is.0 bytes rest v.others left v.first count.number begins (omega arith) refl v.whole is.1 count.whole in
+    all_steps is.0 (length left) bytes left count.number []
+    (front_begins is.0 bytes left count.number count.small whole)
+    (bytes_after (start_bytes is.0 count.number) left (subst AreBytes whole are)) (omega arith)
 
 pub file_or_refused : (bytes : List ℕ) → AreBytes bytes → IsFileOrRefused bytes
 file_or_refused bytes are =

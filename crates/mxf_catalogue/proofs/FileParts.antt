@@ -1,5 +1,5 @@
 -- What the readers and writers of a file's parts come to.
-use Rattle.std.proofs.Common.{◌≡◌, ℕ, zero, suc, ◌+◌, ◌-◌, ◌^◌, ◌<◌, ◌≤◌, Bool, false, cond, List, [], ◌∷◌, ◌++◌}
+use Rattle.std.proofs.Common.{◌≡◌, ℕ, zero, suc, ◌+◌, ◌-◌, ◌^◌, ◌<◌, ◌≤◌, Bool, true, false, cond, List, [], ◌∷◌, ◌++◌}
 use Rattle.std.proofs.Common.{length, take, drop, get_or, Result, Ok, Option, Some, refl, sym, ap, subst, ◌∙◌, arith}
 use Rattle.std.proofs.Common.{inl, inr, ◌↔◌, append_assoc, append-nil, length-append, take-append-drop}
 use Rattle.std.specs.Prelude.{IsTrue, ◌==◌}
@@ -24,11 +24,15 @@ use Rattle.mxf_klv.proofs.WrittenParts.{StopsIn-part, WritesPart-after}
 use Rattle.mxf_catalogue.specs.declared.catalogue.file.FileFault.{FileFault}
 use Rattle.mxf_catalogue.specs.declared.catalogue.file.FileFault.TheVariants.{BadMagic, BadVersion, Truncated, BadNote}
 use Rattle.mxf_catalogue.specs.declared.catalogue.file.FileFault.TheVariants.{NotSorted, NotReduced, Trailing, OutOfMemory}
-use Rattle.mxf_catalogue.specs.declared.catalogue.file.head.Head.{Head}
+use Rattle.mxf_catalogue.specs.declared.catalogue.file.fixed_part.FixedPart.{FixedPart}
 use Rattle.mxf_catalogue.specs.Content.{IsContent}
-use Rattle.mxf_catalogue.specs.CatalogueFile.{magic, version, number_bytes, CanBeNoted, note_bytes, start_bytes}
-use Rattle.mxf_catalogue.specs.CatalogueFile.{BeginsAsFile, BeginsWithHead, IsRefused, IsFront, StopsAt}
-use Rattle.mxf_catalogue.specs.FileReading.{NoteAfterHead, RefusesNote}
+use Rattle.mxf_catalogue.specs.declared.catalogue.file.start.Version.{Version}
+use Rattle.mxf_catalogue.specs.declared.catalogue.file.start.Version.TheVariants.{One, Two}
+use Rattle.mxf_catalogue.specs.CatalogueFile.{magic, version_byte, number_bytes, CanBeNoted, note_bytes, start_bytes}
+use Rattle.mxf_catalogue.specs.CatalogueFile.{BeginsAsFile, BeginsWithFixedPart, BeginsWithMark, BeginsWithNote}
+use Rattle.mxf_catalogue.specs.CatalogueFile.{BeginsWithParts, CanHave, IsMarkIn, IsRefused, IsFront, StopsAt}
+use Rattle.mxf_catalogue.specs.CatalogueFile.{fixed_bytes, fixed_part_of, mark_bytes, mark_of}
+use Rattle.mxf_catalogue.specs.FileReading.{NoteBehindMark, RefusesBehindMark, RefusesNote}
 use Rattle.mxf_catalogue.proofs.FileBytes.{front_place, number_in, regrouped, length-number_bytes, rising_push}
 use Rattle.mxf_catalogue.proofs.FileBytes.{rising_last}
 
@@ -53,18 +57,18 @@ number_split bytes front rest n f r long h e =
     sym (take-append-drop 8 bytes) ∙ ap (λ (t : List ℕ). t ++ drop 8 bytes) (sym f ∙ number_in front n len fits e)
     ∙ ap (λ (t : List ℕ). number_bytes n ++ t) (sym r)
 
-pub head_split : (bytes a key b c d : List ℕ) (offset width len : ℕ) → bytes ≡ number_bytes offset ++ a
+pub fixed_part_split : (bytes a key b c d : List ℕ) (offset width len : ℕ) → bytes ≡ number_bytes offset ++ a
     → offset < 2 ^ 64 → key ≡ take 16 a → b ≡ drop 16 a → 16 ≤ length a → b ≡ width ∷ c
     → c ≡ number_bytes len ++ d → len < 2 ^ 64 → ((i : ℕ) → get_or bytes i 0 < 256)
-    → BeginsWithHead bytes (record { offset = offset; key = key; width = width; length = len }) d
-head_split bytes a key b c d offset width len e o k r long w l p h =
+    → BeginsWithFixedPart bytes (record { offset = offset; key = key; width = width; length = len }) d
+fixed_part_split bytes a key b c d offset width len e o k r long w l p h =
     let first : a ≡ drop 8 bytes = sym (ap (drop 8) e ∙ drop_at (number_bytes offset) a 8 (length-number_bytes offset))
     in
     let at : width ≡ get_or bytes 24 0 = ap (λ (t : List ℕ). get_or t 0 0) (sym w ∙ r) ∙ get_or-drop 16 a 0 0
     ∙ ap (λ (t : List ℕ). get_or t 16 0) first ∙ get_or-drop 8 bytes 16 0 in
     let fits = h 24 in
     record {
-      head = record {
+      fixed = record {
         offset = o;
         key = ap length k
             ∙ omega (arith, length-take 16 a);
@@ -85,10 +89,10 @@ at_front_of_rest (suc n) [] rest more v r e = let f : length (v ∷ more) ≡ 0 
     (omega arith)
 at_front_of_rest (suc n) (b ∷ bytes) rest more v r e = at_front_of_rest n bytes rest more v r e
 
-pub start_split : (bytes rest more left : List ℕ) (v count : ℕ) → BeginsAsFile bytes → 7 ≤ length bytes
-    → rest ≡ drop 7 bytes → rest ≡ v ∷ more → v ≡ version → more ≡ number_bytes count ++ left
-    → bytes ≡ start_bytes count ++ left
-start_split bytes rest more left v count b long r e w m =
+pub start_split : (version : Version) (bytes rest more left : List ℕ) (v count : ℕ) → BeginsAsFile bytes
+    → 7 ≤ length bytes → rest ≡ drop 7 bytes → rest ≡ v ∷ more → v ≡ version_byte version
+    → more ≡ number_bytes count ++ left → bytes ≡ start_bytes version count ++ left
+start_split version bytes rest more left v count b long r e w m =
     sym (take-append-drop 7 bytes) ∙ ap (λ (t : List ℕ). t ++ drop 7 bytes) (b ∙ take_all (length bytes) magic long)
     ∙ ap (λ (t : List ℕ). magic ++ t) (sym r ∙ e ∙ (λ i. w i ∷ m i))
 
@@ -111,14 +115,14 @@ above_last notes last n b at r e =
           (subst (λ (m : NoteParts). note_cmp m n ≡ Less) is (rising_last note_cmp notes k last n within h)),
     )
 
-pub digest_noted : (h : Head) (n : NoteParts) (bytes digest more key : List ℕ) → CanBeNoted h
+pub digest_noted : (h : FixedPart) (n : NoteParts) (bytes digest more key : List ℕ) → CanBeNoted h
     → keeps h.key h.length ≡ false → key ≡ h.key → n ≡ note_parts h.offset key h.width h.length digest
-    → digest ≡ take 32 bytes → more ≡ drop 32 bytes → 32 ≤ length bytes → NoteAfterHead h 0 bytes n more
+    → digest ≡ take 32 bytes → more ≡ drop 32 bytes → 32 ≤ length bytes → NoteBehindMark h 0 bytes n more
 digest_noted h n bytes digest more key g kept k is d m long =
     let same : n ≡ note_parts h.offset h.key h.width h.length digest = is
     ∙ ap (λ (t : List ℕ). note_parts h.offset t h.width h.length digest) k in
     let len : length digest ≡ 32 = ap length d ∙ omega (arith, length-take 32 bytes) in
-    subst (λ (x : NoteParts). NoteAfterHead h 0 bytes x more) (sym same) (record {
+    subst (λ (x : NoteParts). NoteBehindMark h 0 bytes x more) (sym same) (record {
       note = record {
         label = g.label;
         width = g.width;
@@ -126,11 +130,59 @@ digest_noted h n bytes digest more key g kept k is d m long =
         held = len
             ∙ sym (ap (λ (b : Bool). cond b h.length 32) kept);
       };
-      head = refl;
+      fixed = refl;
       marked = refl;
       held = sym (take-append-drop 32 bytes) ∙ ap (λ (t : List ℕ). t ++ drop 32 bytes) (sym d)
           ∙ ap (λ (t : List ℕ). digest ++ t) (sym m);
     })
+
+-- a note that has the fixed part and the mark at the front stands there
+pub note_begins : (v : Version) (f : FixedPart) (mark : ℕ) (n : NoteParts) (bytes rest behind more : List ℕ)
+    → BeginsWithFixedPart bytes f rest → BeginsWithMark v rest mark behind → NoteBehindMark f mark behind n more
+    → BeginsWithNote v bytes n more
+note_begins v f mark n bytes rest behind more b m h = record {
+  note = h.note;
+  can_have = can_have_by v n mark m.marked h.marked;
+  whole = b.whole
+      ∙ (λ i. fixed_bytes (sym h.fixed i) ++ m.whole i)
+      ∙ (λ i. fixed_bytes (fixed_part_of n) ++ (mark_bytes v (sym h.marked i) ++ h.held i))
+      ∙ ap (λ (t : List ℕ). fixed_bytes (fixed_part_of n) ++ t)
+      (sym (append_assoc (mark_bytes v (mark_of n.whole)) n.held more))
+      ∙ sym (append_assoc (fixed_bytes (fixed_part_of n)) (mark_bytes v (mark_of n.whole) ++ n.held) more);
+}
+  where
+    can_have_by : (v : Version) (n : NoteParts) (mark : ℕ) → IsMarkIn v mark → mark_of n.whole ≡ mark → CanHave v n
+    can_have_by One n mark z e = whole_by n.whole (e ∙ z)
+      where
+        whole_by : (b : Bool) → mark_of b ≡ 0 → b ≡ true
+        whole_by true e = refl
+        whole_by false e = absurd (omega (arith, e))
+    can_have_by Two n mark z e = tt
+
+-- the fixed part and the mark at the front
+pub parts_begin : (v : Version) (f : FixedPart) (mark : ℕ) (bytes rest behind : List ℕ)
+    → BeginsWithFixedPart bytes f rest → BeginsWithMark v rest mark behind → BeginsWithParts v bytes f mark behind
+parts_begin v f mark bytes rest behind b m = record {
+  fixed = b.fixed;
+  marked = m.marked;
+  whole = b.whole
+      ∙ ap (λ (t : List ℕ). fixed_bytes f ++ t) m.whole;
+}
+
+-- why no note is behind them, is why none is at the front
+pub note_refused : (v : Version) (f : FixedPart) (mark place : ℕ) (bytes rest behind : List ℕ) (fault : FileFault)
+    → BeginsWithFixedPart bytes f rest → BeginsWithMark v rest mark behind → RefusesBehindMark place f mark behind fault
+    → RefusesNote v place bytes fault
+note_refused v f mark place bytes rest behind BadMagic b m r = r
+note_refused v f mark place bytes rest behind BadVersion b m r = r
+note_refused v f mark place bytes rest behind (Truncated p) b m r =
+    (r.0, inr (f, mark, behind, parts_begin v f mark bytes rest behind b m, r.1, r.2))
+note_refused v f mark place bytes rest behind (BadNote p) b m r =
+    (r.0, (f, mark, behind, parts_begin v f mark bytes rest behind b m, r.1))
+note_refused v f mark place bytes rest behind (NotSorted p) b m r = r
+note_refused v f mark place bytes rest behind (NotReduced p) b m r = r
+note_refused v f mark place bytes rest behind (Trailing p) b m r = r
+note_refused v f mark place bytes rest behind OutOfMemory b m r = tt
 
 -- ---- writing
 
@@ -159,20 +211,20 @@ WritesPart-second a b c before mid after r bytes part rest is p m q =
 
 -- the bytes of notes, of which one stands behind some and before others
 flat_at : (notes done rest : List NoteParts) (n : NoteParts) → done ++ n ∷ rest ≡ notes
-    → (flat_map note_bytes done ++ note_bytes n) ++ flat_map note_bytes rest ≡ flat_map note_bytes notes
+    → (flat_map (note_bytes Two) done ++ note_bytes Two n) ++ flat_map (note_bytes Two) rest ≡ flat_map (note_bytes Two) notes
 flat_at notes done rest n is =
-    append_assoc (flat_map note_bytes done) (note_bytes n) (flat_map note_bytes rest)
-    ∙ sym (flat_map-append note_bytes done (n ∷ rest)) ∙ ap (flat_map note_bytes) is
+    append_assoc (flat_map (note_bytes Two) done) (note_bytes Two n) (flat_map (note_bytes Two) rest)
+    ∙ sym (flat_map-append (note_bytes Two) done (n ∷ rest)) ∙ ap (flat_map (note_bytes Two)) is
 
 -- a fault in a note is a fault of all of them
 pub fails_in_note : (a b c : Option (List ℕ)) (before mid after : ℕ) (e : WriteFault) (notes done rest : List NoteParts)
-    (n : NoteParts) → done ++ n ∷ rest ≡ notes → Appends a b (flat_map note_bytes done)
-    → mid ≡ counted (before + length (flat_map note_bytes done))
-    → StopsIn b c mid e (note_bytes n) × (after ≡ e.written)
-    → StopsIn a c before e (flat_map note_bytes notes) × (after ≡ e.written)
+    (n : NoteParts) → done ++ n ∷ rest ≡ notes → Appends a b (flat_map (note_bytes Two) done)
+    → mid ≡ counted (before + length (flat_map (note_bytes Two) done))
+    → StopsIn b c mid e (note_bytes Two n) × (after ≡ e.written)
+    → StopsIn a c before e (flat_map (note_bytes Two) notes) × (after ≡ e.written)
 fails_in_note a b c before mid after e notes done rest n is p m (q, told) = (
   subst (StopsIn a c before e) (flat_at notes done rest n is)
-      (StopsIn-part a b c before mid e (flat_map note_bytes done) (note_bytes n) (flat_map note_bytes rest) p m q),
+      (StopsIn-part a b c before mid e (flat_map (note_bytes Two) done) (note_bytes Two n) (flat_map (note_bytes Two) rest) p m q),
   told,
 )
 
@@ -182,44 +234,45 @@ number_is n m bs e f = ap (to_be_bytes w64) (sym f) ∙ sym e
 
 -- one more note was written
 pub note_written : (a b c : Option (List ℕ)) (before mid after : ℕ) (done : List NoteParts) (n : NoteParts)
-    → Appends a b (flat_map note_bytes done) → mid ≡ counted (before + length (flat_map note_bytes done))
-    → Appends b c (note_bytes n) → after ≡ counted (mid + length (note_bytes n))
-    → Appends a c (flat_map note_bytes (done ++ n ∷ []))
-    × (after ≡ counted (before + length (flat_map note_bytes (done ++ n ∷ []))))
+    → Appends a b (flat_map (note_bytes Two) done) → mid ≡ counted (before + length (flat_map (note_bytes Two) done))
+    → Appends b c (note_bytes Two n) → after ≡ counted (mid + length (note_bytes Two n))
+    → Appends a c (flat_map (note_bytes Two) (done ++ n ∷ []))
+    × (after ≡ counted (before + length (flat_map (note_bytes Two) (done ++ n ∷ []))))
 note_written a b c before mid after done n p m q r =
-    let flat : flat_map note_bytes (done ++ n ∷ []) ≡ flat_map note_bytes done ++ note_bytes n =
-    flat_map-append note_bytes done (n ∷ [])
-    ∙ ap (λ (t : List ℕ). flat_map note_bytes done ++ t) (append-nil (note_bytes n)) in
-    WritesPart-second {X = Unit {0}} a b c before mid after (Ok tt) (flat_map note_bytes (done ++ n ∷ []))
-    (flat_map note_bytes done) (note_bytes n) flat p m (q, r)
+    let flat : flat_map (note_bytes Two) (done ++ n ∷ []) ≡ flat_map (note_bytes Two) done ++ note_bytes Two n =
+    flat_map-append (note_bytes Two) done (n ∷ [])
+    ∙ ap (λ (t : List ℕ). flat_map (note_bytes Two) done ++ t) (append-nil (note_bytes Two n)) in
+    WritesPart-second {X = Unit {0}} a b c before mid after (Ok tt) (flat_map (note_bytes Two) (done ++ n ∷ []))
+    (flat_map (note_bytes Two) done) (note_bytes Two n) flat p m (q, r)
 
 -- ---- faults behind a front
 
-pub stops : (bytes rest : List ℕ) (count place : ℕ) (notes : List NoteParts) (why : ℕ → List NoteParts → List ℕ
-    → Type 0) → IsFront bytes count notes rest → place ≡ length bytes - length rest → why count notes rest
-    → StopsAt bytes place why
-stops bytes rest count place notes why f at w = record {
+pub stops : (v : Version) (bytes rest : List ℕ) (count place : ℕ) (notes : List NoteParts)
+    (why : Version → ℕ → List NoteParts → List ℕ → Type 0) → IsFront v bytes count notes rest
+    → place ≡ length bytes - length rest → why v count notes rest → StopsAt bytes place why
+stops v bytes rest count place notes why f at w = record {
+  version = v;
   count = count;
   notes = notes;
   rest = rest;
   front = f;
   stands = at
-      ∙ omega (arith, front_place bytes rest count notes f);
+      ∙ omega (arith, front_place v bytes rest count notes f);
   why = w;
 }
 
-pub note_fault : (bytes rest : List ℕ) (count place : ℕ) (notes : List NoteParts) (fault : FileFault)
-    → IsFront bytes count notes rest → length notes < count → place ≡ length bytes - length rest
-    → RefusesNote place rest fault → IsRefused bytes fault
-note_fault bytes rest count place notes BadMagic f lt at r = absurd r
-note_fault bytes rest count place notes BadVersion f lt at r = absurd r
-note_fault bytes rest count place notes (Truncated p) f lt at r = inr
-    (stops bytes rest count p notes _ f (r.0 ∙ at) (lt, r.1))
-note_fault bytes rest count place notes (BadNote p) f lt at r = stops bytes rest count p notes _ f (r.0 ∙ at) (lt, r.1)
-note_fault bytes rest count place notes (NotSorted p) f lt at r = absurd r
-note_fault bytes rest count place notes (NotReduced p) f lt at r = absurd r
-note_fault bytes rest count place notes (Trailing p) f lt at r = absurd r
-note_fault bytes rest count place notes OutOfMemory f lt at r = tt
+pub note_fault : (v : Version) (bytes rest : List ℕ) (count place : ℕ) (notes : List NoteParts) (fault : FileFault)
+    → IsFront v bytes count notes rest → length notes < count → place ≡ length bytes - length rest
+    → RefusesNote v place rest fault → IsRefused bytes fault
+note_fault v bytes rest count place notes BadMagic f lt at r = absurd r
+note_fault v bytes rest count place notes BadVersion f lt at r = absurd r
+note_fault v bytes rest count place notes (Truncated p) f lt at r = inr
+    (stops v bytes rest count p notes _ f (r.0 ∙ at) (lt, r.1))
+note_fault v bytes rest count place notes (BadNote p) f lt at r = stops v bytes rest count p notes _ f (r.0 ∙ at) (lt, r.1)
+note_fault v bytes rest count place notes (NotSorted p) f lt at r = absurd r
+note_fault v bytes rest count place notes (NotReduced p) f lt at r = absurd r
+note_fault v bytes rest count place notes (Trailing p) f lt at r = absurd r
+note_fault v bytes rest count place notes OutOfMemory f lt at r = tt
 
 pub is_some : (n : ℕ) → false ≡ (n == 0) → 0 < n
 is_some zero e = absurd cc

@@ -53,7 +53,7 @@ pub IsContent-content : (h : History) → IsContent (content h)
 IsContent-content New = tt
 IsContent-content (Add h m) = IsContent-reduced_with m (content h) (IsContent-content h)
 IsContent-content (Join h k) = IsContent-reduced_union (content h) (content k) (IsContent-content h)
-IsContent-content (Read bytes notes is) = is.catalogue.content
+IsContent-content (Read bytes notes is) = is.1.catalogue.content
 IsContent-content (Absorb h offset bytes) =
     IsContent-reduced_union (content h) (notes_in offset bytes) (IsContent-content h)
 IsContent-content (Cut h offset bytes noted) =
@@ -65,7 +65,7 @@ pub AreReduced-content : (h : History) → AreReduced (content h)
 AreReduced-content New = λ x i k. i
 AreReduced-content (Add h m) = AreReduced-reduced (with_note m (content h))
 AreReduced-content (Join h k) = AreReduced-reduced_union (content h) (content k) (AreReduced-content h)
-AreReduced-content (Read bytes notes is) = is.reduced
+AreReduced-content (Read bytes notes is) = is.1.reduced
 AreReduced-content (Absorb h offset bytes) =
     AreReduced-reduced_union (content h) (notes_in offset bytes) (AreReduced-content h)
 AreReduced-content (Cut h offset bytes noted) =

@@ -31,7 +31,8 @@ pub use disputed::{
     notes_are_clear_or_disputed, notes_are_disputed_in_two_ways,
 };
 pub use file::{
-    FileFault, bytes_are_a_file_or_refused, files_are_read_as_written, one_file, one_file_reading,
+    FileFault, bytes_are_a_file_or_refused, files_are_read_as_written, files_of_both_versions,
+    one_file, one_file_reading,
 };
 pub use merging::MergeFault;
 use merging::{MergedNotes, Room};

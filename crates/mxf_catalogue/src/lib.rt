@@ -13,7 +13,8 @@
 //! - joins are associative, commutative and idempotent on contents: the laws of [`Semilattice`];
 //! - bytes are read as the file of one content, or refused for one cause, and what is written is read back:
 //!   [`Catalogue::read`], [`bytes_are_a_file_or_refused`], [`one_file_reading`], [`one_file`],
-//!   [`files_are_read_as_written`].
+//!   [`files_are_read_as_written`]; the file has two versions, and a content without heads has one file of each:
+//!   [`files_of_both_versions`].
 //!
 //! That memory is there, and that a call succeeds with it, is tested.
 //!
@@ -39,8 +40,8 @@ pub use catalogue::{
     AddFault, Catalogue, Change, ClearNotes, Disputed, DisputedNotes, FileFault, MergeFault, Notes,
     Offsets, bytes_are_a_file_or_refused, clear_notes_by_definition, clear_notes_stand_apart,
     contents_are_sets, disputed_notes_by_definition, disputes_by_tests, files_are_read_as_written,
-    moved_notes_by_definition, notes_are_clear_or_disputed, notes_are_disputed_in_two_ways,
-    one_file, one_file_reading,
+    files_of_both_versions, moved_notes_by_definition, notes_are_clear_or_disputed,
+    notes_are_disputed_in_two_ways, one_file, one_file_reading,
 };
 pub use cover::{Cover, CoverGaps, CoverRuns, covers_are_sets, gaps_of_covers_by_definition};
 pub use history::{histories_leave_what_they_were_handed, one_set_one_content};

@@ -81,7 +81,7 @@ module _ (handed : NoteParts → Type 0) (notes : List NoteParts) (members : (n 
   -- A content of exactly what was handed is what the run holds.
   pub IsTheRun-from_set : IsFileOf (file_bytes notes) notes → IsTheRun handed notes
   IsTheRun-from_set file =
-      let rises : IsContent notes = file.catalogue.content in
+      let rises : IsContent notes = file.1.catalogue.content in
       record {
         members = members;
         file = file;

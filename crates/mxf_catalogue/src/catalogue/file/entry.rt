@@ -1,28 +1,50 @@
-//! A note in a file: its head, its mark, and what it holds.
-ghost use Rattle.std.specs.Prelude.{◌≡◌, ◌≤◌, ℕ, List, IfErr, IfOk, true, false};
+//! A note in a file: its fixed part, its mark, and what it holds.
+ghost use Rattle.std.specs.Prelude.{◌≡◌, ◌+◌, ◌<◌, ◌≤◌, ℕ, List, IfErr, IfNone, IfOk, IfSome, length, true, false};
 ghost use Rattle.mxf_klv.specs.Note.{keeps};
 ghost use Rattle.mxf_klv.specs.Written.{Puts};
-ghost use Rattle.mxf_catalogue.specs.CatalogueFile.{BeginsWithNote, CanBeNoted, IsHead, note_bytes};
-ghost use Rattle.mxf_catalogue.specs.FileReading.{NoteAfterHead, RefusesAfterHead, RefusesNote};
+ghost use Rattle.mxf_catalogue.specs.CatalogueFile.{BeginsWithMark, BeginsWithNote, CanBeNoted, IsFixedPart};
+ghost use Rattle.mxf_catalogue.specs.CatalogueFile.{length_ahead, note_bytes};
+ghost use Rattle.mxf_catalogue.specs.FileReading.{NoteBehindMark, RefusesBehindMark, RefusesNote};
+ghost use Rattle.mxf_catalogue.specs.declared.catalogue.file.start.Version.TheVariants.{Two};
 
 use super::FileFault;
-use super::head::{Head, put_head, split_head};
+use super::fixed_part::{FixedPart, put_fixed_part, split_fixed_part};
+use super::start::Version;
 use mxf_klv::{Held, Note, Progress, Ul, WriteFault};
 use std::alloc::Global;
 use std::io::Write;
 
-/// The note at the front, and the bytes after it. It stands at a place of the file, which faults name.
-pub(super) fn read_note(alloc: Global, place: u64, bytes: &[u8]) -> Result<(Note, &[u8]), FileFault>
-    ensures note { IfOk result (λ s. BeginsWithNote bytes.now s.0 s.1.now) }
-    ensures fault { IfErr result (RefusesNote place bytes.now) }
+/// The note of this version at the front, and the bytes after it. It stands at a place of the file, which faults name.
+pub(super) fn read_note(
+    alloc: Global,
+    version: Version,
+    place: u64,
+    bytes: &[u8],
+) -> Result<(Note, &[u8]), FileFault>
+    ensures note { IfOk result (λ s. BeginsWithNote version bytes.now s.0 s.1.now) }
+    ensures fault { IfErr result (RefusesNote version place bytes.now) }
 {
-    let Some((head, rest)) = split_head(bytes) else {
+    let Some((fixed, behind)) = split_fixed_part(bytes) else {
         return Err(FileFault::Truncated(place));
     };
-    let Some((mark, rest)) = rest.split_first() else {
+    let Some((mark, rest)) = split_mark(version, behind) else {
         return Err(FileFault::Truncated(place));
     };
-    read_held(alloc, place, head, *mark, rest)
+    read_held(alloc, place, fixed, mark, rest)
+}
+
+/// The mark behind a fixed part, and the bytes after it. Where the version has none it is that of a whole packet.
+fn split_mark(version: Version, bytes: &[u8]) -> Option<(u8, &[u8])>
+    ensures some { IfSome result (λ s. BeginsWithMark version bytes.now s.0 s.1.now) }
+    ensures none { IfNone result (33 + length bytes.now < length_ahead version) }
+{
+    match version {
+        Version::One => Some((WHOLE, bytes)),
+        Version::Two => {
+            let (mark, rest) = bytes.split_first()?;
+            Some((*mark, rest))
+        }
+    }
 }
 
 /// The mark of a packet that was read whole.
@@ -31,41 +53,41 @@ const WHOLE: u8 = 0;
 /// The mark of a packet of which key and length alone were read.
 const HEAD: u8 = 1;
 
-/// The note with this head and this mark, which holds the first of these bytes, and the bytes after them.
+/// The note with this fixed part and this mark, which holds the first of these bytes, and the bytes after them.
 fn read_held(
     alloc: Global,
     place: u64,
-    head: Head,
+    fixed: FixedPart,
     mark: u8,
     bytes: &[u8],
 ) -> Result<(Note, &[u8]), FileFault>
-    requires { IsHead head }
-    ensures note { IfOk result (λ s. NoteAfterHead head mark bytes.now s.0 s.1.now) }
-    ensures fault { IfErr result (RefusesAfterHead place head mark bytes.now) }
+    requires { IsFixedPart fixed }
+    ensures note { IfOk result (λ s. NoteBehindMark fixed mark bytes.now s.0 s.1.now) }
+    ensures fault { IfErr result (RefusesBehindMark place fixed mark bytes.now) }
 {
-    let Some(key) = Ul::from_bytes(head.key) else {
+    let Some(key) = Ul::from_bytes(fixed.key) else {
         return Err(FileFault::BadNote(place));
     };
-    if !Note::can_be(head.offset, head.width, head.length) || mark > HEAD {
+    if !Note::can_be(fixed.offset, fixed.width, fixed.length) || mark > HEAD {
         return Err(FileFault::BadNote(place));
     }
     if mark == HEAD {
-        return Ok((note_of_head(head, key), bytes));
+        return Ok((note_of_head(fixed, key), bytes));
     }
-    if Note::keeps(&key, head.length) {
-        read_value(alloc, place, head, key, bytes)
+    if Note::keeps(&key, fixed.length) {
+        read_value(alloc, place, fixed, key, bytes)
     } else {
-        read_digest(place, head, key, bytes)
+        read_digest(place, fixed, key, bytes)
     }
 }
 
 /// The note of a packet of which key and length alone were read.
-fn note_of_head(head: Head, key: Ul) -> Note
-    requires key { key ≡ head.key }
-    requires noted { CanBeNoted head }
-    ensures { (bytes : List ℕ) → NoteAfterHead head 1 bytes result bytes }
+fn note_of_head(fixed: FixedPart, key: Ul) -> Note
+    requires key { key ≡ fixed.key }
+    requires noted { CanBeNoted fixed }
+    ensures { (bytes : List ℕ) → NoteBehindMark fixed 1 bytes result bytes }
 {
-    match Note::head(head.offset, key, head.width, head.length) {
+    match Note::head(fixed.offset, key, fixed.width, fixed.length) {
         Some(note) => note,
         None => unreachable!(),
     }
@@ -75,17 +97,17 @@ fn note_of_head(head: Head, key: Ul) -> Note
 fn read_value(
     alloc: Global,
     place: u64,
-    head: Head,
+    fixed: FixedPart,
     key: Ul,
     bytes: &[u8],
 ) -> Result<(Note, &[u8]), FileFault>
-    requires key { key ≡ head.key }
-    requires noted { CanBeNoted head }
-    requires kept { keeps head.key head.length ≡ true }
-    ensures note { IfOk result (λ s. NoteAfterHead head 0 bytes.now s.0 s.1.now) }
-    ensures fault { IfErr result (RefusesAfterHead place head 0 bytes.now) }
+    requires key { key ≡ fixed.key }
+    requires noted { CanBeNoted fixed }
+    requires kept { keeps fixed.key fixed.length ≡ true }
+    ensures note { IfOk result (λ s. NoteBehindMark fixed 0 bytes.now s.0 s.1.now) }
+    ensures fault { IfErr result (RefusesBehindMark place fixed 0 bytes.now) }
 {
-    let Ok(length) = usize::try_from(head.length) else {
+    let Ok(length) = usize::try_from(fixed.length) else {
         return Err(FileFault::Truncated(place));
     };
     if bytes.len() < length {
@@ -93,39 +115,45 @@ fn read_value(
     }
     let (value, after) = bytes.split_at(length);
     let value = Vec::from_slice(alloc, value)?;
-    match Note::kept(head.offset, key, head.width, value) {
+    match Note::kept(fixed.offset, key, fixed.width, value) {
         Ok(note) => Ok((note, after)),
         Err(_) => unreachable!(),
     }
 }
 
 /// The same where the note holds a digest.
-fn read_digest(place: u64, head: Head, key: Ul, bytes: &[u8]) -> Result<(Note, &[u8]), FileFault>
-    requires key { key ≡ head.key }
-    requires noted { CanBeNoted head }
-    requires digested { keeps head.key head.length ≡ false }
-    ensures note { IfOk result (λ s. NoteAfterHead head 0 bytes.now s.0 s.1.now) }
-    ensures fault { IfErr result (RefusesAfterHead place head 0 bytes.now) }
+fn read_digest(
+    place: u64,
+    fixed: FixedPart,
+    key: Ul,
+    bytes: &[u8],
+) -> Result<(Note, &[u8]), FileFault>
+    requires key { key ≡ fixed.key }
+    requires noted { CanBeNoted fixed }
+    requires digested { keeps fixed.key fixed.length ≡ false }
+    ensures note { IfOk result (λ s. NoteBehindMark fixed 0 bytes.now s.0 s.1.now) }
+    ensures fault { IfErr result (RefusesBehindMark place fixed 0 bytes.now) }
 {
     let Some((digest, after)) = bytes.split_first_chunk::<32>() else {
         return Err(FileFault::Truncated(place));
     };
-    match Note::digested(head.offset, key, head.width, head.length, *digest) {
+    match Note::digested(fixed.offset, key, fixed.width, fixed.length, *digest) {
         Some(note) => Ok((note, after)),
         None => unreachable!(),
     }
 }
 
+/// Writes the note as version 2 has it.
 pub(super) fn put_note<W: Write>(
     note: &Note,
     progress: &mut Progress,
     writer: &mut W,
 ) -> Result<(), WriteFault>
-    ensures { Puts W.contents writer.old writer.new progress.old progress.new result (note_bytes note.now) }
+    ensures { Puts W.contents writer.old writer.new progress.old progress.new result (note_bytes Two note.now) }
 {
     // What a head holds is no byte, since it is a note.
     let _offset = note.offset();
-    put_head(note, progress, writer)?;
+    put_fixed_part(note, progress, writer)?;
     match note.held() {
         Held::Whole(value) => {
             progress.put(writer, &[WHOLE])?;

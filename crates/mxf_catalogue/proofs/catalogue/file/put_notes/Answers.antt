@@ -6,6 +6,7 @@ use Rattle.std.specs.List.{flat_map}
 use Rattle.mxf_klv.specs.Parts.{NoteParts}
 use Rattle.mxf_klv.specs.Written.{counted}
 use Rattle.mxf_catalogue.specs.CatalogueFile.{note_bytes}
+use Rattle.mxf_catalogue.specs.declared.catalogue.file.start.Version.TheVariants.{Two}
 use Rattle.mxf_catalogue.proofs.FileParts.{fails_in_note, note_written}
 use Rattle.mxf_catalogue.proofs.catalogue.file.put_notes.Goals as goal
 
@@ -40,7 +41,7 @@ returns g c =
     let before = c.args.progress.now.written in
     let all = sym (append-nil i.0) ∙ ap (λ (l : List NoteParts). i.0 ++ l) (sym c.in-None.ensures.steps.0) ∙ i.1 in (
       subst (λ (l : List NoteParts). Appends (contents c.args.writer.now) (contents c.notes.writer)
-          (flat_map note_bytes l)) all
+          (flat_map (note_bytes Two) l)) all
           i.2,
-      i.3 ∙ ap (λ (l : List NoteParts). counted (before + length (flat_map note_bytes l))) all,
+      i.3 ∙ ap (λ (l : List NoteParts). counted (before + length (flat_map (note_bytes Two) l))) all,
     )

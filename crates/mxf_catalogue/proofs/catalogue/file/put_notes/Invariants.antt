@@ -5,9 +5,10 @@ use Rattle.std.specs.List.{flat_map}
 use Rattle.mxf_klv.specs.Parts.{NoteParts}
 use Rattle.mxf_klv.specs.Written.{counted}
 use Rattle.mxf_catalogue.specs.CatalogueFile.{note_bytes}
+use Rattle.mxf_catalogue.specs.declared.catalogue.file.start.Version.TheVariants.{Two}
 use Rattle.mxf_catalogue.proofs.catalogue.file.put_notes.Given as goal
 
 abbrev pub invariant-notes : goal.invariant-notes
 invariant-notes g l = (done : List NoteParts) × (done ++ l.note-iterator ≡ l.fn.notes)
-    × Appends (g.W.Write.contents l.initial.writer) (g.W.Write.contents l.writer) (flat_map note_bytes done)
-    × (l.progress.written ≡ counted (l.initial.progress.written + length (flat_map note_bytes done)))
+    × Appends (g.W.Write.contents l.initial.writer) (g.W.Write.contents l.writer) (flat_map (note_bytes Two) done)
+    × (l.progress.written ≡ counted (l.initial.progress.written + length (flat_map (note_bytes Two) done)))

@@ -5,6 +5,6 @@ use Rattle.mxf_catalogue.proofs.catalogue.file.read_notes.Given as goal
 
 abbrev pub invariant-loop-i : goal.invariant-loop-i
 invariant-loop-i l = record {
-  front : IsFront l.bytes l.count l.notes.items l.rest;
+  front : IsFront l.start.version l.bytes l.start.count l.notes.items l.rest;
   counted : length l.notes.items ≡ l.i;
 }

@@ -5,6 +5,6 @@ use Rattle.mxf_catalogue.proofs.catalogue.file.entry.read_digest.Goals as goal
 pub returns-clause-note : goal.returns-clause-note
 returns-clause-note c =
     let k = c.in-Some.ensures.cases in
-    digest_noted c.args.head c.in-Some-digested.note c.args.bytes.now c.in-Some.digest.now c.in-Some.after.now
+    digest_noted c.args.fixed c.in-Some-digested.note c.args.bytes.now c.in-Some.digest.now c.in-Some.after.now
     c.args.key c.requires.noted c.requires.digested c.requires.key c.in-Some-digested.ensures.1 k.0 k.1
     (omega (arith, k.2))

@@ -1,12 +1,13 @@
-use Rattle.std.proofs.Common.{arith, ap, length, refl, inl, length-append}
-use Rattle.mxf_catalogue.specs.CatalogueFile.{head_bytes}
-use Rattle.mxf_catalogue.proofs.FileBytes.{length-head_bytes}
+use Rattle.std.proofs.Common.{arith, ap, length, refl, inl, length-append, Ok, Err}
+use Rattle.mxf_catalogue.specs.CatalogueFile.{fixed_bytes}
+use Rattle.mxf_catalogue.proofs.FileBytes.{length-fixed_bytes}
+use Rattle.mxf_catalogue.proofs.FileParts.{note_begins, note_refused}
 use Rattle.mxf_catalogue.proofs.catalogue.file.entry.read_note.Goals as goal
 
-pub returns-in_default-split_first-clause-fault : goal.returns-in_default-split_first-clause-fault
-returns-in_default-split_first-clause-fault c =
+pub returns-in_default-split_mark-clause-fault : goal.returns-in_default-split_mark-clause-fault
+returns-in_default-split_mark-clause-fault c =
     let b = c.in-Some.ensures.some in
     let len = ap length b.whole in
-    let head = length-head_bytes c.in-Some.head b.head.key in
-    let none = c.in_default-split_first.ensures.cases in
-    (refl, inl (omega (arith, len, head, none, length-append (head_bytes c.in-Some.head) c.in-Some.rest.now)))
+    let fixed = length-fixed_bytes c.in-Some.fixed b.fixed.key in
+    let none = c.in_default-split_mark.ensures.none in
+    (refl, inl (omega (arith, len, fixed, none, length-append (fixed_bytes c.in-Some.fixed) c.in-Some.behind.now)))

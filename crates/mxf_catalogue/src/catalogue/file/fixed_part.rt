@@ -1,36 +1,36 @@
-//! The head of a note in a file: 33 bytes, ahead of what the note holds.
+//! The fixed part of a note in a file: 33 bytes, ahead of its mark and of what the note holds.
 ghost use Rattle.std.specs.Prelude.{◌≡◌, ◌++◌, ◌<◌, ◌^◌, IfNone, IfSome, length};
 ghost use Rattle.mxf_klv.specs.Written.{Puts};
-ghost use Rattle.mxf_catalogue.specs.CatalogueFile.{BeginsWithHead, head_bytes, head_of, number_bytes};
+ghost use Rattle.mxf_catalogue.specs.CatalogueFile.{BeginsWithFixedPart, fixed_bytes, fixed_part_of, number_bytes};
 
 use mxf_klv::{Note, Progress, WriteFault};
 use std::io::Write;
 
 /// What a note of a file says of its packet, ahead of what it holds.
 #[derive(Clone, Copy, Debug, PartialEq, Eq)]
-pub(super) struct Head {
+pub(super) struct FixedPart {
     pub offset: u64,
     pub key: [u8; 16],
     pub width: u8,
     pub length: u64,
 }
 
-/// The head at the front, and the bytes after it; none where there are fewer than 33 bytes.
-pub(super) fn split_head(bytes: &[u8]) -> Option<(Head, &[u8])>
-    ensures some { IfSome result (λ s. BeginsWithHead bytes.now s.0 s.1.now) }
+/// The fixed part at the front, and the bytes after it; none where there are fewer than 33 bytes.
+pub(super) fn split_fixed_part(bytes: &[u8]) -> Option<(FixedPart, &[u8])>
+    ensures some { IfSome result (λ s. BeginsWithFixedPart bytes.now s.0 s.1.now) }
     ensures none { IfNone result (length bytes.now < 33) }
 {
     let (offset, rest) = split_number(bytes)?;
     let (key, rest) = rest.split_first_chunk::<16>()?;
     let (width, rest) = rest.split_first()?;
     let (length, rest) = split_number(rest)?;
-    let head = Head {
+    let fixed = FixedPart {
         offset,
         key: *key,
         width: *width,
         length,
     };
-    Some((head, rest))
+    Some((fixed, rest))
 }
 
 /// The number in the first eight bytes, and the bytes after them.
@@ -43,12 +43,12 @@ pub(super) fn split_number(bytes: &[u8]) -> Option<(u64, &[u8])>
     Some((u64::from_be_bytes(*number), rest))
 }
 
-pub(super) fn put_head<W: Write>(
+pub(super) fn put_fixed_part<W: Write>(
     note: &Note,
     progress: &mut Progress,
     writer: &mut W,
 ) -> Result<(), WriteFault>
-    ensures { Puts W.contents writer.old writer.new progress.old progress.new result (head_bytes (head_of note.now)) }
+    ensures { Puts W.contents writer.old writer.new progress.old progress.new result (fixed_bytes (fixed_part_of note.now)) }
 {
     progress.put(writer, &note.offset().to_be_bytes())?;
     progress.put(writer, &note.key().bytes())?;

@@ -2,7 +2,7 @@ use Rattle.std.proofs.Common.{Err, ◌≡◌, ◌∷◌, ◌++◌, [], List, ℕ
 use Rattle.std.proofs.lemmas.Result.{err_from_is_err_and}
 use Rattle.mxf_catalogue.specs.CatalogueFile.{number_bytes}
 use Rattle.mxf_catalogue.proofs.FileParts.{fails_in_first, WritesPart-second, number_is}
-use Rattle.mxf_catalogue.proofs.catalogue.file.head.put_head.Goals as goal
+use Rattle.mxf_catalogue.proofs.catalogue.file.fixed_part.put_fixed_part.Goals as goal
 
 pub returns-in_err-put : goal.returns-in_err-put
 returns-in_err-put g c =
