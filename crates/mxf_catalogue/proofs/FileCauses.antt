@@ -24,7 +24,7 @@ use Rattle.mxf_catalogue.specs.declared.catalogue.file.FileFault.TheVariants.{No
 use Rattle.mxf_catalogue.specs.declared.catalogue.file.fixed_part.FixedPart.{FixedPart}
 use Rattle.mxf_catalogue.specs.declared.catalogue.file.start.Version.{Version}
 use Rattle.mxf_catalogue.specs.declared.catalogue.file.start.Version.TheVariants.{One, Two}
-use Rattle.mxf_catalogue.specs.CatalogueFile.{magic, version_byte, number_bytes, start_bytes, fixed_bytes, held_length}
+use Rattle.mxf_catalogue.specs.CatalogueFile.{magic, number_bytes, start_bytes, fixed_bytes, held_length}
 use Rattle.mxf_catalogue.specs.CatalogueFile.{CanBeMarked, CanBeNoted, CanHave, IsFileOf, IsFront, IsRefused, IsCutNote}
 use Rattle.mxf_catalogue.specs.CatalogueFile.{BeginsAsFile, BeginsWithFixedPart, BeginsWithMark, BeginsWithNote}
 use Rattle.mxf_catalogue.specs.CatalogueFile.{BeginsWithParts, IsHeadLast, IsKnownVersion, IsMarkIn, IsUnknownVersion}

@@ -1,7 +1,6 @@
-use Rattle.std.proofs.Common.{arith, ap, length, refl, inl, length-append, Ok, Err}
+use Rattle.std.proofs.Common.{arith, ap, length, refl, inl, length-append}
 use Rattle.mxf_catalogue.specs.CatalogueFile.{fixed_bytes}
 use Rattle.mxf_catalogue.proofs.FileBytes.{length-fixed_bytes}
-use Rattle.mxf_catalogue.proofs.FileParts.{note_begins, note_refused}
 use Rattle.mxf_catalogue.proofs.catalogue.file.entry.read_note.Goals as goal
 
 pub returns-in_default-split_mark-clause-fault : goal.returns-in_default-split_mark-clause-fault
