@@ -45,7 +45,7 @@ pub fn command<'a>(alloc: Global) -> Result<Command<'a>, AllocError> {
         .arg(sources(alloc))?;
     Command::new(alloc, "mxf_tool")
         .about("Prints and keeps the structure of MXF files, or of parts of them")
-        .version("0.1.0")
+        .version("1.0.0")
         .subcommand_required(true)
         .arg_required_else_help(true)
         .subcommand(show)?
