@@ -185,8 +185,7 @@ module _ {R : Type 0} (left : R → Option (List ℕ)) where
       → length rest ≡ 0 → number ≡ 0 → views ≡ [] → IsTheRun (HandedBy left all) views
   gathered_nothing [] rest number views p none zero-parts is =
       subst (IsTheRun (HandedBy left [])) (sym is)
-      (IsTheRun-from_set (HandedBy left []) [] (λ n. (λ h. absurd h, λ h. h.0))
-      (
+      (IsTheRun-from_set (HandedBy left []) [] (λ n. (λ h. absurd h, λ h. h.0)) (
         Two,
         written_file [] (record { content = tt; members = tt }) (λ x h k. h) (omega arith) (file_bytes []) refl,
       ))

@@ -31,8 +31,7 @@ located_own notes r n = In-located (has_note notes) notes r (known_own notes) n
 pub returns-in-Ok-clause-run : goal.returns-in-Ok-clause-run
 returns-in-Ok-clause-run c =
     let notes = c.notes-notes.ensures in
-    IsTheRun-from_set (has_note c.args.catalogue) c.args.catalogue (located_own c.args.catalogue notes.reduced)
-    (
+    IsTheRun-from_set (has_note c.args.catalogue) c.args.catalogue (located_own c.args.catalogue notes.reduced) (
       Two,
       written_file c.args.catalogue notes.catalogue notes.reduced
           (subst (λ (ns : List NoteParts). length ns < 2 ^ 64) notes.notes notes.bound) (file_bytes c.args.catalogue) refl,
