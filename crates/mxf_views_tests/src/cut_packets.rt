@@ -1,8 +1,8 @@
 //! Heads of cut packets: they are in no view but gaps and disputes, and whole packets in their places are in all.
-use crate::building::views_at;
+use crate::building::{finds, views_at};
 use mxf_catalogue::{Change, Run};
 use mxf_klv::{Note, cut_head};
-use mxf_views::{Chain, Code, Finding, RipView, Views};
+use mxf_views::{Chain, Code, RipView, Views};
 use mxf_worked::builders::{essence, label, note_of_file};
 use mxf_worked::worked_files::{ESSENCE_KEY, FOOTER_KEY, M, one_copy};
 use std::alloc::Global;
@@ -15,18 +15,6 @@ fn lacks(alloc: Global, views: &Views, wanted: &[(u64, u64)]) -> Result<bool, Fa
         gaps.push((start, end))?;
     }
     Ok(gaps.as_slice() == wanted)
-}
-
-/// Whether these are the findings.
-fn finds(alloc: Global, views: &Views, wanted: &[(u64, Code)]) -> Result<bool, Fail> {
-    let mut findings = Vec::new(alloc);
-    for (offset, code) in wanted {
-        findings.push(Finding {
-            offset: *offset,
-            code: *code,
-        })?;
-    }
-    Ok(views.findings(alloc)?.as_slice() == findings.as_slice())
 }
 
 /// Whether the note was new, and moved the clear notes at these offsets.

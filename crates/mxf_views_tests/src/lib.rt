@@ -12,8 +12,6 @@ mod copies;
 #[cfg(test)]
 mod cut_packets;
 #[cfg(test)]
-mod heads;
-#[cfg(test)]
 mod index;
 #[cfg(test)]
 mod partitions;
