@@ -1,0 +1,229 @@
+//! Both versions of the file of a catalogue: version 1 had no marks, so no heads. It is read, and written as version 2.
+use crate::files::{catalogue_of_m, fault_of, file_of_cut_m, file_of_m, part, start, written};
+use mxf_catalogue::{Catalogue, FileFault, Semilattice};
+use mxf_worked::builders::{essence, joined};
+use mxf_worked::saved_files::M_OF_VERSION_1;
+use mxf_worked::worked_files::ESSENCE_KEY;
+use std::alloc::Global;
+use std::test::Fail;
+
+#[test]
+fn a_file_of_version_1_is_read_and_written_as_version_2(rt: HostRuntime) -> Result<(), Fail> {
+    let alloc = rt.alloc();
+    let all = Catalogue::read(alloc, &M_OF_VERSION_1)?;
+    assert!(rt; all.same(&catalogue_of_m(alloc, &[0, 108, 216])?));
+    assert_eq!(rt; written(alloc, &all)?, file_of_m(alloc)?);
+    let none = Catalogue::read(alloc, &start(1, 0))?;
+    assert!(rt; none.is_empty());
+    assert_eq!(rt; written(alloc, &none)?.as_slice(), start(2, 0).as_slice());
+    Ok(())
+}
+
+#[test]
+fn each_front_of_a_file_of_version_1_is_cut_at_its_place(rt: HostRuntime) -> Result<(), Fail> {
+    let alloc = rt.alloc();
+    for size in 0..319usize {
+        let place = match size {
+            0..=15 => 0,
+            16..=136 => 16,
+            137..=257 => 137,
+            _ => 258,
+        };
+        let fault = fault_of(alloc, &[part(&M_OF_VERSION_1, 0, size)?])?;
+        assert_eq!(rt; fault, FileFault::Truncated(place));
+    }
+    Ok(())
+}
+
+#[test]
+fn each_front_of_a_file_of_version_2_is_cut_at_its_place(rt: HostRuntime) -> Result<(), Fail> {
+    let alloc = rt.alloc();
+    let file = file_of_m(alloc)?;
+    for size in 0..322usize {
+        let place = match size {
+            0..=15 => 0,
+            16..=137 => 16,
+            138..=259 => 138,
+            _ => 260,
+        };
+        let fault = fault_of(alloc, &[part(&file, 0, size)?])?;
+        assert_eq!(rt; fault, FileFault::Truncated(place));
+    }
+    Ok(())
+}
+
+#[test]
+fn notes_of_version_1_that_do_not_rise_are_refused_at_their_places(
+    rt: HostRuntime,
+) -> Result<(), Fail> {
+    let alloc = rt.alloc();
+    let (first, second) = (&M_OF_VERSION_1[16..137], &M_OF_VERSION_1[137..258]);
+    for (notes, place) in [
+        ([second, first, &[]], 137),
+        ([first, first, &[]], 137),
+        ([first, second, second], 258),
+        ([first, second, first], 258),
+    ] {
+        let [a, b, c] = notes;
+        let fault = fault_of(alloc, &[&start(1, 3), a, b, c])?;
+        assert_eq!(rt; fault, FileFault::NotSorted(place));
+    }
+    Ok(())
+}
+
+#[test]
+fn counts_that_version_1_does_not_have_are_refused_at_its_places(
+    rt: HostRuntime,
+) -> Result<(), Fail> {
+    let alloc = rt.alloc();
+    let notes = &M_OF_VERSION_1[16..319];
+    for (count, end, fault) in [
+        (3, [0].as_slice(), FileFault::Trailing(319)),
+        (2, &[], FileFault::Trailing(258)),
+        (1, &[], FileFault::Trailing(137)),
+        (0, &[], FileFault::Trailing(16)),
+        (4, &[], FileFault::Truncated(319)),
+        (4, &[0; 32], FileFault::Truncated(319)),
+        (4, &[0; 33], FileFault::BadNote(319)),
+    ] {
+        assert_eq!(rt; fault_of(alloc, &[&start(1, count), notes, end])?, fault);
+    }
+    Ok(())
+}
+
+// A note is judged where what stands before what it holds is whole: 33 bytes, and in version 2 the mark.
+#[test]
+fn fields_that_no_note_has_are_refused_in_both_versions(rt: HostRuntime) -> Result<(), Fail> {
+    let alloc = rt.alloc();
+    let marked = file_of_m(alloc)?;
+    for (file, ahead) in [(M_OF_VERSION_1.as_slice(), 49usize), (&marked, 50)] {
+        // The first byte of the key, the width twice, and the first bytes of length and offset.
+        for (at, byte) in [(24usize, 7u8), (40, 0), (40, 10), (41, 128), (16, 128)] {
+            let (front, rest) = (part(file, 0, at)?, part(file, at + 1, ahead)?);
+            let fault = fault_of(alloc, &[front, &[byte], rest])?;
+            assert_eq!(rt; fault, FileFault::BadNote(16));
+            let rest = part(file, at + 1, ahead - 1)?;
+            let fault = fault_of(alloc, &[front, &[byte], rest])?;
+            assert_eq!(rt; fault, FileFault::Truncated(16));
+        }
+    }
+    Ok(())
+}
+
+#[test]
+fn files_of_other_versions_are_refused(rt: HostRuntime) -> Result<(), Fail> {
+    let alloc = rt.alloc();
+    let marked = file_of_m(alloc)?;
+    for file in [M_OF_VERSION_1.as_slice(), &marked] {
+        let (magic, rest) = (part(file, 0, 7)?, part(file, 8, file.len())?);
+        for version in [0u8, 3, 7, 255] {
+            let fault = fault_of(alloc, &[magic, &[version], rest])?;
+            assert_eq!(rt; fault, FileFault::BadVersion);
+            let fault = fault_of(alloc, &[magic, &[version]])?;
+            assert_eq!(rt; fault, FileFault::BadVersion);
+        }
+    }
+    Ok(())
+}
+
+// The first value begins with 00, so version 2 reads a mark there, and the value with a byte of the next note. Version 1
+// reads the mark for a byte of the value, and the last byte of that for the next note's.
+#[test]
+fn a_file_that_says_the_other_version_has_a_bad_second_note(rt: HostRuntime) -> Result<(), Fail> {
+    let alloc = rt.alloc();
+    let (marked, cut) = (file_of_m(alloc)?, file_of_cut_m(alloc)?);
+    for (version, notes, place) in [
+        (2, &M_OF_VERSION_1[16..319], 138),
+        (1, part(&marked, 16, 322)?, 137),
+    ] {
+        let fault = fault_of(alloc, &[&start(version, 3), notes])?;
+        assert_eq!(rt; fault, FileFault::BadNote(place));
+    }
+    let fault = fault_of(alloc, &[&start(1, 2), part(&cut, 16, 172)?])?;
+    assert_eq!(rt; fault, FileFault::BadNote(137));
+    Ok(())
+}
+
+#[test]
+fn notes_of_both_versions_are_no_file(rt: HostRuntime) -> Result<(), Fail> {
+    let alloc = rt.alloc();
+    let file = file_of_m(alloc)?;
+    let (bare, bare_next) = (&M_OF_VERSION_1[16..137], &M_OF_VERSION_1[137..258]);
+    let (marked, marked_next) = (part(&file, 16, 138)?, part(&file, 138, 260)?);
+    let (bare_last, marked_last) = (&M_OF_VERSION_1[258..319], part(&file, 260, 322)?);
+    for (start, notes, fault) in [
+        (
+            start(1, 2),
+            [bare, marked_next, &[]],
+            FileFault::Trailing(258),
+        ),
+        (
+            start(1, 3),
+            [bare, marked_next, bare_last],
+            FileFault::BadNote(258),
+        ),
+        (
+            start(2, 2),
+            [marked, bare_next, &[]],
+            FileFault::Truncated(138),
+        ),
+        (
+            start(2, 3),
+            [marked, bare_next, marked_last],
+            FileFault::BadNote(260),
+        ),
+    ] {
+        let [a, b, c] = notes;
+        assert_eq!(rt; fault_of(alloc, &[&start, a, b, c])?, fault);
+    }
+    Ok(())
+}
+
+#[test]
+fn a_note_of_version_1_takes_the_place_of_its_head(rt: HostRuntime) -> Result<(), Fail> {
+    let alloc = rt.alloc();
+    let cut = Catalogue::read(alloc, &file_of_cut_m(alloc)?)?;
+    let whole = Catalogue::read(alloc, &M_OF_VERSION_1)?;
+    for all in [
+        Catalogue::join(alloc, &cut, &whole)?,
+        Catalogue::join(alloc, &whole, &cut)?,
+    ] {
+        assert_eq!(rt; (all.len(), all.disputed().count()), (3, 0));
+        assert!(rt; all.notes().all(|note| !note.is_head()));
+        assert_eq!(rt; written(alloc, &all)?, file_of_m(alloc)?);
+    }
+    Ok(())
+}
+
+/// The note of an essence packet at 0 with no bytes of value, as a file has it: with this mark, and this digest.
+fn saved_essence(alloc: Global, mark: &[u8], digest: [u8; 32]) -> Result<Vec<u8>, Fail> {
+    let (offset, numbers) = ([0; 8], [1, 0, 0, 0, 0, 0, 0, 0, 0]);
+    joined(alloc, &[&offset, &ESSENCE_KEY, &numbers, mark, &digest])
+}
+
+#[test]
+fn digests_of_version_1_are_read_and_dispute_one_another(rt: HostRuntime) -> Result<(), Fail> {
+    let alloc = rt.alloc();
+    let one = saved_essence(alloc, &[], [0; 32])?;
+    let other = saved_essence(alloc, &[], [255; 32])?;
+    let file = joined(alloc, &[&start(1, 2), &one, &other])?;
+    let all = Catalogue::read(alloc, &file)?;
+    assert_eq!(rt;
+        (file.len(), all.len(), all.disputed().count()),
+        (146, 2, 2)
+    );
+    assert!(rt; all.holds(&essence(0, 0)?));
+    let marked = saved_essence(alloc, &[0], [0; 32])?;
+    let marked_other = saved_essence(alloc, &[0], [255; 32])?;
+    let wanted = joined(alloc, &[&start(2, 2), &marked, &marked_other])?;
+    assert_eq!(rt; written(alloc, &all)?, wanted);
+    for (notes, fault) in [
+        ([&other, &one], FileFault::NotSorted(81)),
+        ([&one, &one], FileFault::NotSorted(81)),
+        ([&one, &marked_other], FileFault::Trailing(146)),
+    ] {
+        let [a, b] = notes;
+        assert_eq!(rt; fault_of(alloc, &[&start(1, 2), a, b])?, fault);
+    }
+    Ok(())
+}
