@@ -96,15 +96,23 @@ fn counts_that_version_1_does_not_have_are_refused_at_its_places(
 fn fields_that_no_note_has_are_refused_in_both_versions(rt: HostRuntime) -> Result<(), Fail> {
     let alloc = rt.alloc();
     let marked = file_of_m(alloc)?;
-    for (file, ahead) in [(M_OF_VERSION_1.as_slice(), 49usize), (&marked, 50)] {
+    let old = M_OF_VERSION_1.as_slice();
+    for (file, end, fault) in [
+        (old, 48usize, FileFault::Truncated(16)),
+        (old, 49, FileFault::BadNote(16)),
+        (&marked, 49, FileFault::Truncated(16)),
+        (&marked, 50, FileFault::BadNote(16)),
+    ] {
         // The first byte of the key, the width twice, and the first bytes of length and offset.
-        for (at, byte) in [(24usize, 7u8), (40, 0), (40, 10), (41, 128), (16, 128)] {
-            let (front, rest) = (part(file, 0, at)?, part(file, at + 1, ahead)?);
-            let fault = fault_of(alloc, &[front, &[byte], rest])?;
-            assert_eq!(rt; fault, FileFault::BadNote(16));
-            let rest = part(file, at + 1, ahead - 1)?;
-            let fault = fault_of(alloc, &[front, &[byte], rest])?;
-            assert_eq!(rt; fault, FileFault::Truncated(16));
+        for (at, next, byte) in [
+            (24usize, 25usize, 7u8),
+            (40, 41, 0),
+            (40, 41, 10),
+            (41, 42, 128),
+            (16, 17, 128),
+        ] {
+            let (front, rest) = (part(file, 0, at)?, part(file, next, end)?);
+            assert_eq!(rt; fault_of(alloc, &[front, &[byte], rest])?, fault);
         }
     }
     Ok(())
@@ -132,15 +140,15 @@ fn files_of_other_versions_are_refused(rt: HostRuntime) -> Result<(), Fail> {
 fn a_file_that_says_the_other_version_has_a_bad_second_note(rt: HostRuntime) -> Result<(), Fail> {
     let alloc = rt.alloc();
     let (marked, cut) = (file_of_m(alloc)?, file_of_cut_m(alloc)?);
-    for (version, notes, place) in [
-        (2, &M_OF_VERSION_1[16..319], 138),
-        (1, part(&marked, 16, 322)?, 137),
+    let (marked, cut) = (part(&marked, 16, 322)?, part(&cut, 16, 172)?);
+    for (start, notes, place) in [
+        (start(2, 3), &M_OF_VERSION_1[16..319], 138),
+        (start(1, 3), marked, 137),
+        (start(1, 2), cut, 137),
     ] {
-        let fault = fault_of(alloc, &[&start(version, 3), notes])?;
+        let fault = fault_of(alloc, &[&start, notes])?;
         assert_eq!(rt; fault, FileFault::BadNote(place));
     }
-    let fault = fault_of(alloc, &[&start(1, 2), part(&cut, 16, 172)?])?;
-    assert_eq!(rt; fault, FileFault::BadNote(137));
     Ok(())
 }
 
@@ -184,13 +192,12 @@ fn a_note_of_version_1_takes_the_place_of_its_head(rt: HostRuntime) -> Result<()
     let alloc = rt.alloc();
     let cut = Catalogue::read(alloc, &file_of_cut_m(alloc)?)?;
     let whole = Catalogue::read(alloc, &M_OF_VERSION_1)?;
-    for all in [
-        Catalogue::join(alloc, &cut, &whole)?,
-        Catalogue::join(alloc, &whole, &cut)?,
-    ] {
+    let one = Catalogue::join(alloc, &cut, &whole)?;
+    let other = Catalogue::join(alloc, &whole, &cut)?;
+    for all in [&one, &other] {
         assert_eq!(rt; (all.len(), all.disputed().count()), (3, 0));
         assert!(rt; all.notes().all(|note| !note.is_head()));
-        assert_eq!(rt; written(alloc, &all)?, file_of_m(alloc)?);
+        assert_eq!(rt; written(alloc, all)?, file_of_m(alloc)?);
     }
     Ok(())
 }
