@@ -53,40 +53,49 @@ fn each_front_of_a_file_of_version_2_is_cut_at_its_place(rt: HostRuntime) -> Res
 }
 
 #[test]
-fn notes_of_version_1_that_do_not_rise_are_refused_at_their_places(
-    rt: HostRuntime,
-) -> Result<(), Fail> {
+fn notes_that_do_not_rise_are_refused_at_their_places(rt: HostRuntime) -> Result<(), Fail> {
     let alloc = rt.alloc();
-    let (first, second) = (&M_OF_VERSION_1[16..137], &M_OF_VERSION_1[137..258]);
-    for (notes, place) in [
-        ([second, first, &[]], 137),
-        ([first, first, &[]], 137),
-        ([first, second, second], 258),
-        ([first, second, first], 258),
+    let marked = file_of_m(alloc)?;
+    for (version, file, [second, third]) in [
+        (1u8, M_OF_VERSION_1.as_slice(), [137usize, 258]),
+        (2, &marked, [138, 260]),
     ] {
-        let [a, b, c] = notes;
-        let fault = fault_of(alloc, &[&start(1, 3), a, b, c])?;
-        assert_eq!(rt; fault, FileFault::NotSorted(place));
+        let (a, b) = (part(file, 16, second)?, part(file, second, third)?);
+        for (notes, place) in [
+            ([b, a, b], second),
+            ([a, a, b], second),
+            ([a, b, b], third),
+            ([a, b, a], third),
+        ] {
+            let [first, next, last] = notes;
+            let fault = fault_of(alloc, &[&start(version, 3), first, next, last])?;
+            assert_eq!(rt; fault, FileFault::NotSorted(place as u64));
+        }
     }
     Ok(())
 }
 
 #[test]
-fn counts_that_version_1_does_not_have_are_refused_at_its_places(
-    rt: HostRuntime,
-) -> Result<(), Fail> {
+fn counts_that_are_not_those_of_the_notes_are_refused(rt: HostRuntime) -> Result<(), Fail> {
     let alloc = rt.alloc();
-    let notes = &M_OF_VERSION_1[16..319];
-    for (count, end, fault) in [
-        (3, [0].as_slice(), FileFault::Trailing(319)),
-        (2, &[], FileFault::Trailing(258)),
-        (1, &[], FileFault::Trailing(137)),
-        (0, &[], FileFault::Trailing(16)),
-        (4, &[], FileFault::Truncated(319)),
-        (4, &[0; 32], FileFault::Truncated(319)),
-        (4, &[0; 33], FileFault::BadNote(319)),
+    let marked = file_of_m(alloc)?;
+    for (version, file, [second, third, end]) in [
+        (1u8, M_OF_VERSION_1.as_slice(), [137u64, 258, 319]),
+        (2, &marked, [138, 260, 322]),
     ] {
-        assert_eq!(rt; fault_of(alloc, &[&start(1, count), notes, end])?, fault);
+        let notes = part(file, 16, file.len())?;
+        for (count, behind, fault) in [
+            (0u8, [].as_slice(), FileFault::Trailing(16)),
+            (1, &[], FileFault::Trailing(second)),
+            (2, &[], FileFault::Trailing(third)),
+            (3, &[0], FileFault::Trailing(end)),
+            (4, &[], FileFault::Truncated(end)),
+            (4, &[0; 32], FileFault::Truncated(end)),
+            (4, &[0; 34], FileFault::BadNote(end)),
+        ] {
+            let refused = fault_of(alloc, &[&start(version, count), notes, behind])?;
+            assert_eq!(rt; refused, fault);
+        }
     }
     Ok(())
 }
@@ -224,6 +233,7 @@ fn digests_of_version_1_are_read_and_dispute_one_another(rt: HostRuntime) -> Res
     let marked_other = saved_essence(alloc, &[0], [255; 32])?;
     let wanted = joined(alloc, &[&start(2, 2), &marked, &marked_other])?;
     assert_eq!(rt; written(alloc, &all)?, wanted);
+    assert!(rt; Catalogue::read(alloc, &wanted)?.same(&all));
     for (notes, fault) in [
         ([&other, &one], FileFault::NotSorted(81)),
         ([&one, &one], FileFault::NotSorted(81)),
