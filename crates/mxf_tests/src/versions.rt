@@ -3,7 +3,7 @@ use crate::files::{catalogue_of_m, fault_of, file_of_cut_m, file_of_m, part, sta
 use mxf_catalogue::{Catalogue, FileFault, Semilattice};
 use mxf_worked::builders::{essence, joined};
 use mxf_worked::saved_files::M_OF_VERSION_1;
-use mxf_worked::worked_files::ESSENCE_KEY;
+use mxf_worked::worked_files::{ESSENCE_KEY, PREFACE_KEY};
 use std::alloc::Global;
 use std::test::Fail;
 
@@ -242,5 +242,21 @@ fn digests_of_version_1_are_read_and_dispute_one_another(rt: HostRuntime) -> Res
         let [a, b] = notes;
         assert_eq!(rt; fault_of(alloc, &[&start(1, 2), a, b])?, fault);
     }
+    Ok(())
+}
+
+#[test]
+fn a_set_without_items_ends_with_its_length_in_version_1(rt: HostRuntime) -> Result<(), Fail> {
+    let alloc = rt.alloc();
+    let (offset, numbers) = ([0; 8], [1, 0, 0, 0, 0, 0, 0, 0, 0]);
+    let fields = joined(alloc, &[&offset, &PREFACE_KEY, &numbers])?;
+    let file = joined(alloc, &[&start(1, 1), &fields])?;
+    let all = Catalogue::read(alloc, &file)?;
+    assert_eq!(rt; (file.len(), all.len()), (49, 1));
+    let marked = joined(alloc, &[&start(2, 1), &fields, &[0]])?;
+    assert_eq!(rt; written(alloc, &all)?, marked);
+    assert_eq!(rt; fault_of(alloc, &[&file, &[0]])?, FileFault::Trailing(49));
+    let unmarked = fault_of(alloc, &[&start(2, 1), &fields])?;
+    assert_eq!(rt; unmarked, FileFault::Truncated(16));
     Ok(())
 }
