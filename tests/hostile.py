@@ -9,8 +9,9 @@ Of each file the program is asked everything. Each run has to end with a status 
 of processor time, n log n in the bytes of its sources, and a bound of memory, linear in them. Want of memory within that
 bound fails, as does anything on standard error. What is noted, why a piece ends, what is disputed or a gap, and the saved
 catalogue are compared with those of notes.py, which goes by ST 336 alone. Cut at packets and within them, with repeats, a
-part saved, in another order, the sources leave the same catalogue, and a saved one is shown as they are. A damaged
-catalogue is shown, or refused with its cause and place, by notes.py too.
+part saved, in another order, the sources leave the same catalogue, and a saved one is shown as they are. Whole notes that
+version 1 of the file saved are shown, and joined with the others. A damaged catalogue of either version, or one with
+parts of both, is shown, or refused with its cause and place, by notes.py too.
 
 A file that is cut at a byte, and what begins with the packet in which that byte lies, leave its catalogue in both orders,
 as pieces and as saved catalogues.
@@ -484,8 +485,9 @@ def try_other_order(run, rng, pieces, wanted):
         raise Wrong("in another order the catalogue is another")
 
 
-def disordered(rng, content):
-    """The file of these notes where something is put in, exchanged or stated that may not be there."""
+def disordered(rng, content, version=notes.CURRENT):
+    """The file of these notes where something is put in, exchanged or stated that may not be there: a mark too, which
+    version 1 doesn't have."""
     content, mark = list(content), None
     at = rng.randrange(len(content) or 1)
     change = rng.randrange(6)
@@ -500,16 +502,31 @@ def disordered(rng, content):
     elif change == 4:
         mark = rng.choice((1, 2, 255))
     count = len(content) + (rng.choice((-1, 1)) if change == 5 else 0)
-    saved = [bytearray(note.saved) for note in content]
+    saved = [bytearray(note.saved(version)) for note in content]
     if mark is not None and saved:
-        saved[at][33] = mark
-    return notes.MAGIC + notes.VERSION + (count % 2**64).to_bytes(8, "big") + b"".join(saved)
+        saved[at][33:34] = bytes([mark])
+    return notes.file_start(count % 2**64, version) + b"".join(saved)
 
 
-def try_catalogue(run, rng, content):
-    """Asks for a damaged catalogue: it is shown, or refused with its cause."""
+def of_both_versions(rng, content, version):
+    """The file of these notes, of this version, with another byte eight, or with a note, or all from it on, as the other
+    version saves them."""
+    other, change = 3 - version, rng.randrange(3)
+    at = rng.randrange(len(content) or 1)
+    until = at + 1 if change == 0 else len(content)
+    saved = [note.saved(other if change < 2 and at <= number < until else version) for number, note in enumerate(content)]
+    stated = rng.choice((other, other, 0, 3, 255)) if change == 2 else version
+    return notes.file_start(len(content), stated) + b"".join(saved)
+
+
+def damaged(rng, content, version=notes.CURRENT):
+    """The file of these notes, disordered or with other bytes."""
+    return disordered(rng, content, version) if rng.random() < 0.5 else mutated_bytes(rng, notes.file_of(content, version))
+
+
+def try_file(run, file):
+    """Asks for a catalogue that may be damaged: it is shown, or refused with its cause."""
     path = run.folder / "damaged"
-    file = disordered(rng, content) if rng.random() < 0.5 else mutated_bytes(rng, notes.file_of(content))
     path.write_bytes(file)
     found, fault = notes.read_file(file)
     said = run.call((0 if fault is None else 4,), len(file), "show", f"cat:{path}")
@@ -520,11 +537,31 @@ def try_catalogue(run, rng, content):
         raise Wrong(f"a damaged catalogue isn't refused with '{fault}': {told[:200]}")
 
 
+def try_older(run, rng, content):
+    """Has some of the whole notes saved by version 1 of the file: they are shown, and joined with the others in any order."""
+    whole = [note for note in content if note.is_whole]
+    older = notes.file_of(rng.sample(whole, rng.randint(0, len(whole))), 1)
+    found, _ = notes.read_file(older)
+    known = set(found)
+    others = notes.file_of(note for note in content if note not in known or rng.random() < 0.3)
+    sources = run.lay("older", [(None, older), (None, others)])
+    shown = run.call((0,), len(older), "show", sources[0]).splitlines()
+    if not is_shown(shown, found):
+        raise Wrong("a catalogue of version 1 isn't shown by its notes")
+    rng.shuffle(sources)
+    if run.joined(len(older) + len(others), sources)[0] != notes.file_of(content):
+        raise Wrong("joined with a catalogue of version 1 they leave another catalogue")
+    try_file(run, damaged(rng, whole, 1))
+    version = rng.choice((1, notes.CURRENT))
+    try_file(run, of_both_versions(rng, whole if version == 1 else content, version))
+
+
 def try_number(run, number):
     """Tries the file of a number."""
     rng = random.Random(f"asked of {number}")
     content = try_pieces(run, rng, pieces_of(number))
-    try_catalogue(run, rng, content)
+    try_file(run, damaged(rng, content))
+    try_older(run, random.Random(f"version 1 of {number}"), content)
 
 
 def fronts_of(data, step):
@@ -567,6 +604,19 @@ def try_cuts(run, name, step):
                 raise Wrong(f"{name}, cut at {length}: {sources} leave another catalogue")
 
 
+def try_saved_fronts(run, name, step):
+    """Tries fronts of a saved catalogue, every `step` bytes and beside each note: but the last they are refused."""
+    data, at = (TOP / name).read_bytes(), 16
+    borders = [at]
+    for _ in range(int.from_bytes(data[8:16], "big")):
+        at += notes.read_note(data, at, data[7])[1]
+        borders.append(at)
+    lengths = {*range(0, len(data), step), *(border + beside for border in borders for beside in (-1, 0, 1, 32, 33, 34))}
+    for length in sorted(length for length in lengths if length <= len(data)):
+        run.fronts += 1
+        try_file(run, data[:length])
+
+
 def tried(program, name, what, *arguments):
     """What is wrong with a part that was tried, or None, and its run."""
     with tempfile.TemporaryDirectory() as folder:
@@ -585,6 +635,7 @@ def parts(count, first):
         yield f"cuts of {path.name}", try_cuts, f"tests/worked/{path.name}", 1 if count > 1000 or path.stem == "M" else 41
     yield "fronts of an example", try_fronts, "examples/op1a_jpeg2000.mxf", 1 if count > 1000 else 97
     yield "cuts of an example", try_cuts, "examples/op1a_jpeg2000.mxf", 1 if count > 1000 else 97
+    yield "fronts of a saved example", try_saved_fronts, "examples/opatom_pcm.version1.cat", 1 if count > 1000 else 97
     for number in range(first, first + count):
         yield f"file {number}, {SHAPES[number % len(SHAPES)].__name__}", try_number, number
 

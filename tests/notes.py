@@ -1,4 +1,5 @@
-"""What is noted of a piece, by ST 336 alone, and the catalogue file of notes, as docs/FORMATS.md lays it out.
+"""What is noted of a piece, by ST 336 alone, and the catalogue file of notes in both versions, as docs/FORMATS.md lays them
+out. Version 2 is written; version 1, of older programs, has no marks, so no heads.
 
 Nothing here is taken from the program: a reader of its own says what a piece holds and why it ends, which notes are
 disputed, what lies in none, and what is at fault in the bytes of a catalogue.
@@ -16,9 +17,10 @@ GREATEST_END = 2**63 - 1
 
 LABEL = bytes.fromhex("060E2B34")
 MAGIC = b"MXFCAT\0"
-VERSION = b"\2"
-# A note in the file: offset, key, width and length, the mark of a head, and then what it holds.
-FIXED = 8 + 16 + 1 + 8 + 1
+# The version that is written.
+CURRENT = 2
+# By version, the bytes of a note ahead of what it holds: offset, key, width and length, and in version 2 the mark of a head.
+FIXED = {1: 8 + 16 + 1 + 8, 2: 8 + 16 + 1 + 8 + 1}
 
 
 class Note(NamedTuple):
@@ -47,11 +49,11 @@ class Note(NamedTuple):
         """The head of its packet."""
         return self._replace(is_whole=False, held=b"")
 
-    @property
-    def saved(self):
-        """Its bytes in a catalogue file."""
+    def saved(self, version=CURRENT):
+        """Its bytes in a catalogue file of this version. Of a head, which version 1 can't have, these are the fields alone."""
         numbers = self.offset.to_bytes(8, "big") + self.key + bytes([self.width]) + self.length.to_bytes(8, "big")
-        return numbers + (b"\0" if self.is_whole else b"\1") + self.held
+        mark = b"" if version == 1 else b"\0" if self.is_whole else b"\1"
+        return numbers + mark + self.held
 
 
 def is_kept(key, length):
@@ -101,10 +103,15 @@ def reduced(notes):
     return sorted(notes - replaced)
 
 
-def file_of(notes):
+def file_start(count, version=CURRENT):
+    """What a catalogue file of this version has ahead of so many notes."""
+    return MAGIC + bytes([version]) + count.to_bytes(8, "big")
+
+
+def file_of(notes, version=CURRENT):
     """The catalogue file of these notes, whatever their order, with repeats and heads of what is whole."""
     content = reduced(notes)
-    return MAGIC + VERSION + len(content).to_bytes(8, "big") + b"".join(note.saved for note in content)
+    return file_start(len(content), version) + b"".join(note.saved(version) for note in content)
 
 
 def can_be(offset, key, width, length, mark):
@@ -113,32 +120,34 @@ def can_be(offset, key, width, length, mark):
     return key.startswith(LABEL) and spelled and offset + 16 + width + length <= GREATEST_END and mark < 2
 
 
-def read_note(data, at):
+def read_note(data, at, version):
     """The note that stands at this place of a file and how many bytes it has, or else what is at fault."""
-    fixed = data[at : at + FIXED]
-    if len(fixed) < FIXED:
+    begins = at + FIXED[version]
+    fixed = data[at:begins]
+    if len(data) < begins:
         return None, f"truncated at {at}"
     offset, key, width, length = int.from_bytes(fixed[:8], "big"), fixed[8:24], fixed[24], int.from_bytes(fixed[25:33], "big")
-    if not can_be(offset, key, width, length, fixed[33]):
+    mark = 0 if version == 1 else fixed[33]
+    if not can_be(offset, key, width, length, mark):
         return None, f"bad note at {at}"
-    size = 0 if fixed[33] else length if is_kept(key, length) else 32
-    if len(data) < at + FIXED + size:
+    size = 0 if mark else length if is_kept(key, length) else 32
+    if len(data) < begins + size:
         return None, f"truncated at {at}"
-    held = data[at + FIXED : at + FIXED + size]
-    return Note(offset, key, width, length, fixed[33] == 0, held), FIXED + size
+    held = data[begins : begins + size]
+    return Note(offset, key, width, length, mark == 0, held), FIXED[version] + size
 
 
 def read_file(data):
     """The notes of a catalogue file, and None; or None and what is at fault first."""
     if not MAGIC.startswith(data[:7]):
         return None, "bad magic"
-    if data[7:8] not in (b"", VERSION):
+    if len(data) > 7 and data[7] not in FIXED:
         return None, "bad version"
     if len(data) < 16:
         return None, "truncated at 0"
     notes, at = [], 16
     for _ in range(int.from_bytes(data[8:16], "big")):
-        note, size = read_note(data, at)
+        note, size = read_note(data, at, data[7])
         if note is None:
             return None, size
         if notes and note <= notes[-1]:

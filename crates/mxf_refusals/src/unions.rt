@@ -4,6 +4,7 @@ ghost use Rattle.std.specs.Prelude.{◌<◌, ◌≤◌};
 use mxf_catalogue::{Catalogue, Cover, FileFault, Semilattice};
 use mxf_klv::{Encode, Note, OutOfMemory, cut_head, read_packet};
 use mxf_views::Views;
+use mxf_worked::saved_files::M_OF_VERSION_1;
 use mxf_worked::worked_files::M;
 use std::alloc::Global;
 use std::test::Fail;
@@ -166,6 +167,33 @@ fn a_catalogue_that_is_read(rt: HostRuntime) -> Result<(), Fail> {
         }
     };
     assert!(rt; read.same(&whole));
+    Ok(())
+}
+
+#[test]
+fn a_catalogue_of_version_1_that_is_read(rt: HostRuntime) -> Result<(), Fail> {
+    let alloc = rt.alloc();
+    let whole = at_last(alloc, &[0, 108, 216])?;
+    let read = match Catalogue::read(alloc, &M_OF_VERSION_1) {
+        Ok(read) => read,
+        Err(fault) => {
+            assert_eq!(rt; fault, FileFault::OutOfMemory);
+            Catalogue::read(alloc, &M_OF_VERSION_1)?
+        }
+    };
+    assert!(rt; read.same(&whole));
+    Ok(())
+}
+
+#[test]
+fn a_catalogue_of_version_1_that_is_refused(rt: HostRuntime) -> Result<(), Fail> {
+    let alloc = rt.alloc();
+    let cut = &M_OF_VERSION_1[..318];
+    let mut fault = Catalogue::read(alloc, cut).err();
+    if fault == Some(FileFault::OutOfMemory) {
+        fault = Catalogue::read(alloc, cut).err();
+    }
+    assert_eq!(rt; fault, Some(FileFault::Truncated(258)));
     Ok(())
 }
 

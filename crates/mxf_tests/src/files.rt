@@ -9,10 +9,10 @@ use std::alloc::Global;
 use std::test::Fail;
 
 /// What is ahead of so many notes: the format and its version, and the number.
-fn start(count: u8) -> [u8; 16] {
+pub(crate) fn start(version: u8, count: u8) -> [u8; 16] {
     [
-        0x4D, 0x58, 0x46, 0x43, 0x41, 0x54, 0x00, 0x02, 0x00, 0x00, 0x00, 0x00, 0x00, 0x00, 0x00,
-        count,
+        0x4D, 0x58, 0x46, 0x43, 0x41, 0x54, 0x00, version, 0x00, 0x00, 0x00, 0x00, 0x00, 0x00,
+        0x00, count,
     ]
 }
 
@@ -37,7 +37,7 @@ pub(crate) fn file_of_m(alloc: Global) -> Result<Vec<u8>, Fail> {
     joined(
         alloc,
         &[
-            &start(3),
+            &start(2, 3),
             &header,
             header_value(),
             &footer,
@@ -49,14 +49,14 @@ pub(crate) fn file_of_m(alloc: Global) -> Result<Vec<u8>, Fail> {
 }
 
 /// The file of the catalogue of M's first note and the head of its second, which stand at 16 and 138.
-fn file_of_cut_m(alloc: Global) -> Result<Vec<u8>, Fail> {
+pub(crate) fn file_of_cut_m(alloc: Global) -> Result<Vec<u8>, Fail> {
     let header = begun(alloc, 0, &HEADER_KEY, 88, 0)?;
     let footer = begun(alloc, 108, &FOOTER_KEY, 88, 1)?;
-    joined(alloc, &[&start(2), &header, header_value(), &footer])
+    joined(alloc, &[&start(2, 2), &header, header_value(), &footer])
 }
 
 /// The catalogue of M's packets at these offsets, added in this order.
-fn catalogue_of_m(alloc: Global, offsets: &[usize]) -> Result<Catalogue, Fail> {
+pub(crate) fn catalogue_of_m(alloc: Global, offsets: &[usize]) -> Result<Catalogue, Fail> {
     let mut all = Catalogue::new(alloc);
     for offset in offsets {
         all.add(note_of_file(alloc, &M, *offset)?)?;
@@ -73,7 +73,7 @@ pub(crate) fn written(alloc: Global, catalogue: &Catalogue) -> Result<Vec<u8>, F
 }
 
 /// The bytes from one place up to another.
-fn part(bytes: &[u8], from: usize, to: usize) -> Result<&[u8], Fail> {
+pub(crate) fn part(bytes: &[u8], from: usize, to: usize) -> Result<&[u8], Fail> {
     Ok(bytes.get(from..to).ok_or("past the end")?)
 }
 
@@ -134,7 +134,7 @@ fn a_saved_head_has_34_bytes_and_is_read_back(rt: HostRuntime) -> Result<(), Fai
 }
 
 /// Why these parts, one after another, are no file.
-fn fault_of(alloc: Global, parts: &[&[u8]]) -> Result<FileFault, Fail> {
+pub(crate) fn fault_of(alloc: Global, parts: &[&[u8]]) -> Result<FileFault, Fail> {
     let file = joined(alloc, parts)?;
     Ok(Catalogue::read(alloc, &file).err().ok_or("no file")?)
 }
@@ -159,23 +159,11 @@ fn marks_and_heads_that_no_file_has_are_refused_at_their_places(
     assert_eq!(rt; fault_of(alloc, &[&file, &[0]])?, FileFault::Trailing(172));
     let notes = part(&file, 16, 172)?;
     let footer = part(&whole, 138, 260)?;
-    let both = joined(alloc, &[&start(3), notes, footer])?;
+    let both = joined(alloc, &[&start(2, 3), notes, footer])?;
     assert_eq!(rt; both.len(), 294);
     assert_eq!(rt; fault_of(alloc, &[&both])?, FileFault::NotReduced(172));
     let head = part(&file, 138, 172)?;
-    let exchanged = joined(alloc, &[&start(3), part(&whole, 16, 260)?, head])?;
+    let exchanged = joined(alloc, &[&start(2, 3), part(&whole, 16, 260)?, head])?;
     assert_eq!(rt; fault_of(alloc, &[&exchanged])?, FileFault::NotSorted(260));
-    Ok(())
-}
-
-#[test]
-fn files_of_other_versions_are_refused(rt: HostRuntime) -> Result<(), Fail> {
-    let alloc = rt.alloc();
-    let file = file_of_m(alloc)?;
-    let (magic, rest) = (part(&file, 0, 7)?, part(&file, 8, 322)?);
-    for version in [0u8, 1, 3, 7, 255] {
-        let fault = fault_of(alloc, &[magic, &[version], rest])?;
-        assert_eq!(rt; fault, FileFault::BadVersion);
-    }
     Ok(())
 }

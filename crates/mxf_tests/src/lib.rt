@@ -17,3 +17,5 @@ mod files;
 mod heads;
 #[cfg(test)]
 mod readers;
+#[cfg(test)]
+mod versions;

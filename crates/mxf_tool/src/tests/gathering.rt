@@ -1,6 +1,9 @@
 //! What parts hold together, and which is at fault.
 use super::WORKED_FILE;
-use super::readers::{End, Slow, catalogue_file, catalogue_file_with_head, packet, piece, saved};
+use super::readers::{
+    End, Slow, catalogue_file, catalogue_file_of_version_1, catalogue_file_with_head, packet,
+    piece, saved,
+};
 use crate::gathering::{GatherFault, Gathered, Part, PartFault, PieceReport, gather};
 use mxf_catalogue::FileFault;
 use mxf_klv::{Encode, Stop};
@@ -132,6 +135,39 @@ fn a_cut_piece_hands_a_head_which_its_packet_replaces(rt: HostRuntime) -> Result
     ] {
         assert_eq!(rt; written(alloc, &gather_all(alloc, parts)?)?, whole);
     }
+    Ok(())
+}
+
+#[test]
+fn a_catalogue_of_version_1_is_gathered_with_a_saved_head(rt: HostRuntime) -> Result<(), Fail> {
+    let alloc = rt.alloc();
+    let old = catalogue_file_of_version_1(alloc, 3)?;
+    let cut = catalogue_file_with_head(alloc)?;
+    assert_eq!(rt; (old.len(), cut.len()), (319, 172));
+    for parts in [
+        [saved(alloc, &cut)?, saved(alloc, &old)?],
+        [saved(alloc, &old)?, saved(alloc, &cut)?],
+    ] {
+        let gathered = gather_all(alloc, parts)?;
+        let all = gathered.views.catalogue();
+        assert_eq!(rt; (all.len(), all.disputed().count()), (3, 0));
+        assert!(rt; all.notes().all(|note| !note.is_head()));
+        assert_eq!(rt; written(alloc, &gathered)?, catalogue_file(alloc, 3)?);
+    }
+    Ok(())
+}
+
+#[test]
+fn a_catalogue_of_version_1_at_fault_is_named_with_its_place(rt: HostRuntime) -> Result<(), Fail> {
+    let alloc = rt.alloc();
+    let old = catalogue_file_of_version_1(alloc, 3)?;
+    let cut = old.get(..318).ok_or("past the end")?;
+    let truncated = GatherFault {
+        part: 1,
+        fault: PartFault::Catalogue(FileFault::Truncated(258)),
+    };
+    let parts = [saved(alloc, &old)?, saved(alloc, cut)?];
+    assert_eq!(rt; fault_of(alloc, parts), Some(truncated));
     Ok(())
 }
 

@@ -1,5 +1,5 @@
 //! The lines of an answer.
-use super::readers::piece;
+use super::readers::{catalogue_file_of_version_1, catalogue_file_with_head, piece, saved};
 use super::{WORKED_FILE, WORKED_LINES};
 use crate::gathering::{Gathered, gather};
 use crate::printing::{AnswerFault, Ask, answer};
@@ -62,6 +62,28 @@ fn each_question_has_its_lines_and_status(rt: HostRuntime) -> Result<(), Fail> {
         let answered = answer(alloc, &ask, &gathered, &mut writer);
         assert_eq!(rt; answered, Ok(status), "printing {lines}");
         assert_eq!(rt; writer.taken.as_slice(), lines.as_bytes());
+    }
+    Ok(())
+}
+
+// The head of the second packet is replaced by the packet.
+#[test]
+fn a_join_counts_the_notes_of_version_1_and_no_head_of_them(rt: HostRuntime) -> Result<(), Fail> {
+    let alloc = rt.alloc();
+    let old = catalogue_file_of_version_1(alloc, 3)?;
+    let cut = catalogue_file_with_head(alloc)?;
+    for [first, last] in [[&cut, &old], [&old, &cut]] {
+        let mut parts = Vec::new(alloc);
+        parts.push(saved(alloc, first)?)?;
+        parts.push(saved(alloc, last)?)?;
+        let gathered = gather(alloc, parts)?;
+        let mut writer = Narrow::new(alloc, 1000);
+        let answered = answer(alloc, &Ask::Join, &gathered, &mut writer);
+        assert_eq!(rt; answered, Ok(0));
+        assert_eq!(rt;
+            writer.taken.as_slice(),
+            b"joined 3 notes 0 disputed\n".as_slice()
+        );
     }
     Ok(())
 }

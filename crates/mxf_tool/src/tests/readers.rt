@@ -79,8 +79,18 @@ pub(crate) fn packet(from: usize, to: usize) -> Result<&'static [u8], Fail> {
 /// ahead, then of each note its offset, its key, the width of its length, its length, the mark of a whole packet, and its
 /// value.
 pub(crate) fn catalogue_file(alloc: Global, count: u8) -> Result<Vec<u8>, Fail> {
-    let mut file = Vec::from_slice(alloc, b"MXFCAT\x00\x02\x00\x00\x00\x00\x00\x00\x00")?;
-    file.push(count)?;
+    file_of_version(alloc, 2, &[0], count)
+}
+
+/// The same file in version 1, which had no marks.
+pub(crate) fn catalogue_file_of_version_1(alloc: Global, count: u8) -> Result<Vec<u8>, Fail> {
+    file_of_version(alloc, 1, &[], count)
+}
+
+/// The file of this version, with the mark that it has of a whole packet.
+fn file_of_version(alloc: Global, version: u8, mark: &[u8], count: u8) -> Result<Vec<u8>, Fail> {
+    let mut file = Vec::from_slice(alloc, b"MXFCAT\x00")?;
+    file.extend_from_slice(&[version, 0, 0, 0, 0, 0, 0, 0, count])?;
     let packets = [
         (0u8, 0usize, 108usize, 88u8),
         (108, 108, 216, 88),
@@ -89,7 +99,8 @@ pub(crate) fn catalogue_file(alloc: Global, count: u8) -> Result<Vec<u8>, Fail> 
     for (offset, from, to, length) in packets.into_iter().take(count as usize) {
         file.extend_from_slice(&[0, 0, 0, 0, 0, 0, 0, offset])?;
         file.extend_from_slice(packet(from, from + 16)?)?;
-        file.extend_from_slice(&[4, 0, 0, 0, 0, 0, 0, 0, length, 0])?;
+        file.extend_from_slice(&[4, 0, 0, 0, 0, 0, 0, 0, length])?;
+        file.extend_from_slice(mark)?;
         file.extend_from_slice(packet(from + 20, to)?)?;
     }
     Ok(file)
