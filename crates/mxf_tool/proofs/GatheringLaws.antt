@@ -10,7 +10,6 @@ use Rattle.mxf_klv.specs.Note.{head_note}
 use Rattle.mxf_catalogue.specs.Content.{has_note}
 use Rattle.mxf_catalogue.specs.Reduced.{IsKnown}
 use Rattle.mxf_catalogue.specs.CatalogueFile.{file_bytes}
-use Rattle.mxf_catalogue.specs.declared.catalogue.file.start.Version.TheVariants.{Two}
 use Rattle.mxf_catalogue.proofs.FileLaws.{written_file}
 use Rattle.mxf_catalogue.proofs.HeadLaws.{In-located}
 use Rattle.mxf_catalogue.proofs.HistoryLaws.{known-both}
@@ -178,7 +177,7 @@ module _ {R : Type 0} (left : R → Option (List ℕ)) where
       (In-located (HandedBy left all) views h.reduced
       (λ n. subst (λ (ps : List (Part R)). has_note views n ↔ IsKnown head_note (HandedBy left ps) n) is
       (λ k. (g.members n).0 ((h.members n).0 k), λ k. (h.members n).1 ((g.members n).1 k))))
-      (Two, written_file views h.catalogue h.reduced h.fits (file_bytes views) refl)
+      (_, written_file views h.catalogue h.reduced h.fits (file_bytes views) refl)
 
   -- there was no part
   pub gathered_nothing : (all rest : List (Part R)) (number : ℕ) (views : List NoteParts) → IsPassed all number rest
@@ -186,7 +185,7 @@ module _ {R : Type 0} (left : R → Option (List ℕ)) where
   gathered_nothing [] rest number views p none zero-parts is =
       subst (IsTheRun (HandedBy left [])) (sym is)
       (IsTheRun-from_set (HandedBy left []) [] (λ n. (λ h. absurd h, λ h. h.0)) (
-        Two,
+        _,
         written_file [] (record { content = tt; members = tt }) (λ x h k. h) (omega arith) (file_bytes []) refl,
       ))
   gathered_nothing (q ∷ all) rest number views p none zero-parts is =

@@ -6,7 +6,6 @@ use Rattle.mxf_klv.specs.Rising.{In}
 use Rattle.mxf_catalogue.specs.Content.{AreReduced, IsLocated, has_note}
 use Rattle.mxf_catalogue.specs.Reduced.{IsKnown}
 use Rattle.mxf_catalogue.specs.CatalogueFile.{file_bytes}
-use Rattle.mxf_catalogue.specs.declared.catalogue.file.start.Version.TheVariants.{Two}
 use Rattle.mxf_catalogue.proofs.FileLaws.{written_file}
 use Rattle.mxf_catalogue.proofs.HeadLaws.{In-located}
 use Rattle.mxf_views.proofs.RunLaws.{IsTheRun-from_set}
@@ -32,7 +31,7 @@ pub returns-in-Ok-clause-run : goal.returns-in-Ok-clause-run
 returns-in-Ok-clause-run c =
     let notes = c.notes-notes.ensures in
     IsTheRun-from_set (has_note c.args.catalogue) c.args.catalogue (located_own c.args.catalogue notes.reduced) (
-      Two,
+      _,
       written_file c.args.catalogue notes.catalogue notes.reduced
           (subst (λ (ns : List NoteParts). length ns < 2 ^ 64) notes.notes notes.bound) (file_bytes c.args.catalogue) refl,
     )
