@@ -7,7 +7,7 @@ use std::alloc::Global;
 use std::test::Fail;
 
 /// The note of an essence packet with a value of this length.
-fn essence(offset: u64, length: u64) -> Option<Note> {
+pub(crate) fn essence(offset: u64, length: u64) -> Option<Note> {
     Note::digested(offset, Ul::from_bytes(ESSENCE_KEY)?, 1, length, [0; 32])
 }
 

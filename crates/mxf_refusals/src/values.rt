@@ -1,9 +1,10 @@
 //! Notes and texts, and what is looked for in views.
+use crate::additions::essence;
 use crate::files::R;
 use mxf_klv::{Held, Note, NoteFault, OutOfMemory, read_packet};
 use mxf_read::absorb;
 use mxf_sets::{Primer, PrimerLabels, TextFault, text};
-use mxf_views::{Findings, Resolved, Views};
+use mxf_views::{Code, Finding, Findings, Resolved, Views};
 use mxf_worked::worked_files::{M, header_value};
 use std::alloc::Global;
 use std::test::Fail;
@@ -102,6 +103,35 @@ fn are_of_the_package(findings: &Findings) -> bool {
     }
 }
 
+/// The views of a packet from 0 to 100, one from 200 to 300, and one from 90 to 210 over both. None where a growth is refused.
+fn views_of_three(alloc: Global) -> Option<Views> {
+    let mut views = Views::new(alloc);
+    for (offset, length) in [(0, 83), (200, 83), (90, 103)] {
+        views.add(essence(offset, length)?).ok()?;
+    }
+    Some(views)
+}
+
+/// Whether all three are disputed, and the chain isn't whole.
+fn are_of_three(findings: &Findings) -> bool {
+    let wanted = [
+        (0, Code::F02),
+        (0, Code::F14),
+        (90, Code::F02),
+        (200, Code::F02),
+    ]
+    .map(|(offset, code)| Finding { offset, code });
+    findings.as_slice() == wanted.as_slice()
+}
+
+/// What is found in the views, also where one growth is refused.
+fn found_in(alloc: Global, views: &Views) -> Result<Findings, Fail> {
+    match views.findings(alloc) {
+        Ok(found) => Ok(found),
+        Err(OutOfMemory) => Ok(views.findings(alloc)?),
+    }
+}
+
 #[test]
 fn findings(rt: HostRuntime) -> Result<(), Fail> {
     let alloc = rt.alloc();
@@ -109,10 +139,11 @@ fn findings(rt: HostRuntime) -> Result<(), Fail> {
         Some(views) => views,
         None => views_of_a_package(alloc).ok_or("views of R")?,
     };
-    let found = match views.findings(alloc) {
-        Ok(found) => found,
-        Err(OutOfMemory) => views.findings(alloc)?,
+    assert!(rt; are_of_the_package(&found_in(alloc, &views)?));
+    let views = match views_of_three(alloc) {
+        Some(views) => views,
+        None => views_of_three(alloc).ok_or("views of three packets")?,
     };
-    assert!(rt; are_of_the_package(&found));
+    assert!(rt; are_of_three(&found_in(alloc, &views)?));
     Ok(())
 }

@@ -1,10 +1,12 @@
 //! What takes no memory: it answers while every growth is refused.
-use crate::files::R;
-use mxf_catalogue::{Catalogue, Change};
+use crate::files::{R, SEGMENT};
+use mxf_catalogue::{Catalogue, Change, FileFault};
 use mxf_klv::{Encode, Held, Note, cut_head, read_packet};
 use mxf_read::absorb;
-use mxf_views::{Chain, Found, Link, RipView, Views};
-use mxf_worked::worked_files::M;
+use mxf_sets::PartitionPack;
+use mxf_views::{Chain, Found, Link, Place, RipView, Views};
+use mxf_worked::builders::essence;
+use mxf_worked::worked_files::{M, header_value};
 use std::alloc::Global;
 use std::test::Fail;
 use uuid::Uuid;
@@ -30,6 +32,7 @@ fn holds_m(all: &Catalogue) -> bool {
         && all.disputed().count() == 0
         && all.spans().gaps().count() == 0
         && all.clear_at(108).is_some_and(|note| all.holds(note))
+        && all.clear_within(0, 263).count() == 2
 }
 
 /// Whether M's partitions hang together.
@@ -51,6 +54,9 @@ fn without_memory_a_held_note_is_added(rt: HostRuntime) -> Result<(), Fail> {
     assert_eq!(rt; views.add(note)?, Change::Repeated);
     assert!(rt; holds_m(views.catalogue()));
     assert!(rt; hangs_together(&views));
+    // A packet from 100 to 117, over the ends of the first packet and the second.
+    let over = essence(100, 0)?;
+    assert_eq!(rt; views.catalogue().clear_touching(&over).count(), 2);
     Ok(())
 }
 
@@ -102,6 +108,51 @@ fn without_memory_a_catalogue_is_written(rt: HostRuntime) -> Result<(), Fail> {
     };
     assert_eq!(rt; views.catalogue().write_to(&mut file), Ok(()));
     assert_eq!(rt; file.len(), 322);
+    Ok(())
+}
+
+#[test]
+fn without_memory_a_packet_and_a_pack_are_written(rt: HostRuntime) -> Result<(), Fail> {
+    let Ok(mut bytes) = Vec::with_capacity(rt.alloc(), 108) else {
+        return Ok(());
+    };
+    let (packet, _) = read_packet(&M)?;
+    assert_eq!(rt; packet.write_to(&mut bytes), Ok(()));
+    assert_eq!(rt; bytes.as_slice(), &M[..108]);
+    bytes.clear();
+    let pack = PartitionPack::read(&packet.key(), packet.value())?;
+    assert_eq!(rt; pack.write_to(&mut bytes), Ok(()));
+    assert_eq!(rt; bytes.as_slice(), header_value());
+    Ok(())
+}
+
+/// What is ahead of the notes in a file of this version, whose number of notes is eight bytes FF.
+fn start_of_many(version: u8) -> [u8; 16] {
+    [
+        0x4D, 0x58, 0x46, 0x43, 0x41, 0x54, 0x00, version, 0xFF, 0xFF, 0xFF, 0xFF, 0xFF, 0xFF,
+        0xFF, 0xFF,
+    ]
+}
+
+#[test]
+fn without_memory_a_number_of_notes_alone_is_refused(rt: HostRuntime) {
+    for version in [1, 2] {
+        let read = Catalogue::read(rt.alloc(), &start_of_many(version));
+        assert_eq!(rt; read.err(), Some(FileFault::Truncated(16)));
+    }
+}
+
+#[test]
+fn without_memory_a_unit_is_located(rt: HostRuntime) -> Result<(), Fail> {
+    let Some(views) = views_of(rt.alloc(), &SEGMENT) else {
+        return Ok(());
+    };
+    let place = Place::At {
+        body_sid: 2,
+        offset: 2_500_000,
+    };
+    assert_eq!(rt; views.locate(1, 10), Ok(place));
+    assert_eq!(rt; views.locate(1, 100), Ok(Place::NotIndexed));
     Ok(())
 }
 

@@ -21,5 +21,3 @@ mod records;
 mod segments;
 #[cfg(test)]
 mod texts;
-#[cfg(test)]
-mod writing;

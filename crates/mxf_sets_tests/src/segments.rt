@@ -1,7 +1,7 @@
 //! Index table segments.
-use mxf_klv::{Encode, WriteFault};
+use mxf_klv::Encode;
 use mxf_sets::{Segment, SegmentFault, SegmentNumbers};
-use mxf_worked::builders::{Narrow, set_value};
+use mxf_worked::builders::set_value;
 use mxf_worked::worked_files::WRITTEN;
 use std::test::Fail;
 
@@ -95,18 +95,6 @@ fn entries_give_the_offsets_of_their_units(rt: HostRuntime) -> Result<(), Fail> 
     let mut written = Vec::new(rt.alloc());
     assert_eq!(rt; made.write_to(&mut written), Ok(()));
     assert_eq!(rt; written.as_slice(), WRITTEN.as_slice());
-    Ok(())
-}
-
-#[test]
-fn a_failed_write_counts_the_bytes_that_were_taken(rt: HostRuntime) -> Result<(), Fail> {
-    let segment = Segment::of(WITH_ENTRIES, &ENTRIES).ok_or("a segment")?;
-    for room in 0..104usize {
-        let mut writer = Narrow::new(rt.alloc(), room);
-        let written = room as u64;
-        assert_eq!(rt; segment.write_to(&mut writer), Err(WriteFault { written }));
-        assert_eq!(rt; writer.taken.as_slice(), &WRITTEN[..room]);
-    }
     Ok(())
 }
 

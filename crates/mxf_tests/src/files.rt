@@ -118,6 +118,9 @@ fn a_failed_write_leaves_the_front_of_the_file(rt: HostRuntime) -> Result<(), Fa
         assert_eq!(rt; all.write_to(&mut writer), Err(WriteFault { written }));
         assert_eq!(rt; writer.taken.as_slice(), part(&file, 0, room)?);
     }
+    let mut full = Narrow::new(alloc, 0);
+    full.refusal = None;
+    assert_eq!(rt; all.write_to(&mut full), Err(WriteFault { written: 0 }));
     Ok(())
 }
 

@@ -75,12 +75,18 @@ fn two_copies(alloc: Global) -> Result<Vec<u8>, Fail> {
     )
 }
 
-/// Whether an essence packet of 17 bytes, added at an offset, disputes the notes at these.
-fn moves(views: &mut Views, offset: u64, wanted: &[u64]) -> Result<bool, Fail> {
-    match views.add(essence(offset, 0)?)? {
+/// Whether an essence packet at an offset, with a value of a length, is new and moves the clear notes at these.
+fn moves_of(views: &mut Views, packet: (u64, u64), wanted: &[u64]) -> Result<bool, Fail> {
+    let (offset, length) = packet;
+    match views.add(essence(offset, length)?)? {
         Change::Added { moved } => Ok(moved.as_slice() == wanted),
         Change::Repeated => Ok(false),
     }
+}
+
+/// Whether an essence packet of 17 bytes, added at an offset, disputes the notes at these.
+fn moves(views: &mut Views, offset: u64, wanted: &[u64]) -> Result<bool, Fail> {
+    moves_of(views, (offset, 0), wanted)
 }
 
 /// The copy at a place.
@@ -152,6 +158,56 @@ fn a_copy_is_found_in_each_order_of_its_packets(rt: HostRuntime) -> Result<(), F
         let views = views_at(alloc, &file, order)?;
         let found = copy(&views, 0)?;
         assert_eq!(rt; (found.start, found.finished), (Some(140), true));
+    }
+    Ok(())
+}
+
+/// An essence packet, by its offset and the length of its value, and the clear notes that it moves.
+type Addition = ((u64, u64), &'static [u64]);
+
+/// A packet from 0 to 100, one from 90 to 210 over it, one from 200 to 300, and one from 120 to 150; and the last of them
+/// added first.
+const ADDITIONS: [[Addition; 4]; 2] = [
+    [
+        ((0, 83), &[]),
+        ((90, 103), &[0]),
+        ((200, 83), &[]),
+        ((120, 13), &[]),
+    ],
+    [
+        ((120, 13), &[]),
+        ((0, 83), &[]),
+        ((90, 103), &[0, 120]),
+        ((200, 83), &[]),
+    ],
+];
+
+/// Whether so many notes are held, all disputed by overlap alone.
+fn all_overlap(views: &Views, count: usize) -> bool {
+    let all = views.catalogue();
+    all.len() == count
+        && all.disputed().count() == count
+        && all.disputed().all(|d| d.overlaps && !d.same_offset)
+}
+
+#[test]
+fn a_packet_among_disputed_ones_moves_none(rt: HostRuntime) -> Result<(), Fail> {
+    let alloc = rt.alloc();
+    let wanted = [
+        (0, Code::F02),
+        (0, Code::F14),
+        (90, Code::F02),
+        (120, Code::F02),
+        (200, Code::F02),
+    ];
+    for additions in &ADDITIONS {
+        let mut views = Views::new(alloc);
+        for (packet, moved) in additions {
+            assert!(rt; moves_of(&mut views, *packet, moved)?);
+        }
+        assert!(rt; all_overlap(&views, 4));
+        assert_eq!(rt; views.gaps().next(), None);
+        assert!(rt; finds(alloc, &views, &wanted)?);
     }
     Ok(())
 }

@@ -1,18 +1,24 @@
 //! Partitions, how they name the one before them, and what an addition to their notes moves.
-use crate::building::views_at;
+use crate::building::{finds, views_at};
 use mxf_catalogue::{Catalogue, Change};
-use mxf_views::{Chain, Link, Views};
+use mxf_klv::Encode;
+use mxf_views::{Chain, Link, RipView, Standing, Views};
 use mxf_worked::builders::note_at;
 use mxf_worked::worked_files::{HEADER_KEY, M, header_value};
 use std::alloc::Global;
 use std::test::Fail;
 
-/// The views of three packets, made in three ways: note after note, of a catalogue, and joined.
+/// The catalogue of three packets, read from its file.
+fn read_catalogue(alloc: Global) -> Result<Catalogue, Fail> {
+    let mut file = Vec::new(alloc);
+    let views = views_at(alloc, &M, &[0, 108, 216])?;
+    views.catalogue().write_to(&mut file)?;
+    Ok(Catalogue::read(alloc, &file)?)
+}
+
+/// The views of these packets, made in three ways: note after note, of the catalogue that was read, and joined.
 fn views_in_three_ways(alloc: Global) -> Result<[Views; 3], Fail> {
-    let mut catalogue = Catalogue::new(alloc);
-    for note in views_at(alloc, &M, &[0, 108, 216])?.catalogue().notes() {
-        catalogue.add(note.clone_in(alloc)?)?;
-    }
+    let catalogue = read_catalogue(alloc)?;
     let front = views_at(alloc, &M, &[0])?;
     let rest = views_at(alloc, &M, &[108, 216])?;
     Ok([
@@ -41,6 +47,29 @@ fn the_partitions_of_a_whole_file_hang_together(rt: HostRuntime) -> Result<(), F
         assert_eq!(rt; views.preferred(), None);
         assert_eq!(rt; views.catalogue().len(), 3);
         assert_eq!(rt; views.catalogue().clear().count(), 3);
+    }
+    Ok(())
+}
+
+/// Whether the random index pack is the only one and has two entries, which are held.
+fn has_two_entries(views: &Views) -> bool {
+    match views.rip() {
+        RipView::One(rip) => {
+            rip.entries().count() == 2
+                && rip
+                    .entries()
+                    .all(|(_, standing)| standing == Standing::Held)
+        }
+        _ => false,
+    }
+}
+
+#[test]
+fn the_entries_of_a_whole_file_are_held_and_nothing_is_found(rt: HostRuntime) -> Result<(), Fail> {
+    let alloc = rt.alloc();
+    for views in views_in_three_ways(alloc)? {
+        assert!(rt; has_two_entries(&views));
+        assert!(rt; finds(alloc, &views, &[])?);
     }
     Ok(())
 }
