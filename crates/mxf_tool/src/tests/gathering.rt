@@ -5,6 +5,7 @@ use super::readers::{
     piece, saved,
 };
 use crate::gathering::{GatherFault, Gathered, Part, PartFault, PieceReport, gather};
+use crate::printing::{Ask, answer};
 use mxf_catalogue::FileFault;
 use mxf_klv::{Encode, Stop};
 use mxf_read::Report;
@@ -55,6 +56,26 @@ fn a_piece_and_a_saved_catalogue_hold_the_notes_of_both(rt: HostRuntime) -> Resu
     );
     assert_eq!(rt; gathered.views.catalogue().len(), 3);
     assert_eq!(rt; written(alloc, &gathered)?, file);
+    Ok(())
+}
+
+#[test]
+fn a_piece_and_a_saved_catalogue_are_asked_as_one_file(rt: HostRuntime) -> Result<(), Fail> {
+    let alloc = rt.alloc();
+    let file = catalogue_file(alloc, 3)?;
+    let parts = [piece(alloc, 0, packet(0, 108)?)?, saved(alloc, &file)?];
+    let gathered = gather_all(alloc, parts)?;
+    let place = Ask::Locate { index: 1, unit: 10 };
+    for (ask, line, status) in [
+        (Ask::Check, "findings 0\n", 0),
+        (Ask::Join, "joined 3 notes 0 disputed\n", 0),
+        (place, "not indexed\n", 1),
+    ] {
+        let mut lines = Vec::new(alloc);
+        let answered = answer(alloc, &ask, &gathered, &mut lines);
+        assert_eq!(rt; answered, Ok(status), "printing {line}");
+        assert_eq!(rt; lines.as_slice(), line.as_bytes());
+    }
     Ok(())
 }
 
