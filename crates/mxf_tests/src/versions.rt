@@ -75,6 +75,20 @@ fn notes_that_do_not_rise_are_refused_at_their_places(rt: HostRuntime) -> Result
     Ok(())
 }
 
+/// As many bytes as stand ahead of what a note holds in version 2.
+const ZEROS: [u8; 34] = [0; 34];
+
+/// The fault of a file that tells this count, with these notes and what stands behind them.
+fn counted(
+    alloc: Global,
+    version: u8,
+    count: u8,
+    notes: &[u8],
+    behind: &[u8],
+) -> Result<FileFault, Fail> {
+    fault_of(alloc, &[&start(version, count), notes, behind])
+}
+
 #[test]
 fn counts_that_are_not_those_of_the_notes_are_refused(rt: HostRuntime) -> Result<(), Fail> {
     let alloc = rt.alloc();
@@ -84,18 +98,20 @@ fn counts_that_are_not_those_of_the_notes_are_refused(rt: HostRuntime) -> Result
         (2, &marked, [138, 260, 322]),
     ] {
         let notes = part(file, 16, file.len())?;
-        for (count, behind, fault) in [
-            (0u8, [].as_slice(), FileFault::Trailing(16)),
-            (1, &[], FileFault::Trailing(second)),
-            (2, &[], FileFault::Trailing(third)),
-            (3, &[0], FileFault::Trailing(end)),
-            (4, &[], FileFault::Truncated(end)),
-            (4, &[0; 32], FileFault::Truncated(end)),
-            (4, &[0; 34], FileFault::BadNote(end)),
-        ] {
-            let refused = fault_of(alloc, &[&start(version, count), notes, behind])?;
-            assert_eq!(rt; refused, fault);
+        let fault = counted(alloc, version, 0, notes, &[])?;
+        assert_eq!(rt; fault, FileFault::Trailing(16));
+        let fault = counted(alloc, version, 1, notes, &[])?;
+        assert_eq!(rt; fault, FileFault::Trailing(second));
+        let fault = counted(alloc, version, 2, notes, &[])?;
+        assert_eq!(rt; fault, FileFault::Trailing(third));
+        let fault = counted(alloc, version, 3, notes, &[0])?;
+        assert_eq!(rt; fault, FileFault::Trailing(end));
+        for behind in [0usize, 32] {
+            let fault = counted(alloc, version, 4, notes, part(&ZEROS, 0, behind)?)?;
+            assert_eq!(rt; fault, FileFault::Truncated(end));
         }
+        let fault = counted(alloc, version, 4, notes, &ZEROS)?;
+        assert_eq!(rt; fault, FileFault::BadNote(end));
     }
     Ok(())
 }
@@ -150,14 +166,12 @@ fn a_file_that_says_the_other_version_has_a_bad_second_note(rt: HostRuntime) -> 
     let alloc = rt.alloc();
     let (marked, cut) = (file_of_m(alloc)?, file_of_cut_m(alloc)?);
     let (marked, cut) = (part(&marked, 16, 322)?, part(&cut, 16, 172)?);
-    for (start, notes, place) in [
-        (start(2, 3), &M_OF_VERSION_1[16..319], 138),
-        (start(1, 3), marked, 137),
-        (start(1, 2), cut, 137),
-    ] {
-        let fault = fault_of(alloc, &[&start, notes])?;
-        assert_eq!(rt; fault, FileFault::BadNote(place));
-    }
+    let fault = fault_of(alloc, &[&start(2, 3), &M_OF_VERSION_1[16..319]])?;
+    assert_eq!(rt; fault, FileFault::BadNote(138));
+    let fault = fault_of(alloc, &[&start(1, 3), marked])?;
+    assert_eq!(rt; fault, FileFault::BadNote(137));
+    let fault = fault_of(alloc, &[&start(1, 2), cut])?;
+    assert_eq!(rt; fault, FileFault::BadNote(137));
     Ok(())
 }
 
@@ -234,14 +248,12 @@ fn digests_of_version_1_are_read_and_dispute_one_another(rt: HostRuntime) -> Res
     let wanted = joined(alloc, &[&start(2, 2), &marked, &marked_other])?;
     assert_eq!(rt; written(alloc, &all)?, wanted);
     assert!(rt; Catalogue::read(alloc, &wanted)?.same(&all));
-    for (notes, fault) in [
-        ([&other, &one], FileFault::NotSorted(81)),
-        ([&one, &one], FileFault::NotSorted(81)),
-        ([&one, &marked_other], FileFault::Trailing(146)),
-    ] {
-        let [a, b] = notes;
-        assert_eq!(rt; fault_of(alloc, &[&start(1, 2), a, b])?, fault);
-    }
+    let fault = fault_of(alloc, &[&start(1, 2), &other, &one])?;
+    assert_eq!(rt; fault, FileFault::NotSorted(81));
+    let fault = fault_of(alloc, &[&start(1, 2), &one, &one])?;
+    assert_eq!(rt; fault, FileFault::NotSorted(81));
+    let fault = fault_of(alloc, &[&start(1, 2), &one, &marked_other])?;
+    assert_eq!(rt; fault, FileFault::Trailing(146));
     Ok(())
 }
 
