@@ -1,27 +1,18 @@
 -- What a history of calls leaves is the set that it was handed.
-use Rattle.std.specs.Prelude.{◌≡◌, ◌↔◌, ◌⊎◌, List, [], ◌∷◌, refl, take}
-use Rattle.std.proofs.Common.{inl, inr, sym, ap, ◌∙◌}
+use Rattle.std.specs.Prelude.{◌≡◌, ◌↔◌, ◌⊎◌, refl, take}
+use Rattle.std.proofs.Common.{inl, inr, sym, ap, subst, ◌∙◌}
 use Rattle.mxf_klv.specs.Parts.{NoteParts}
 use Rattle.mxf_klv.specs.PieceReading.{notes_in}
 use Rattle.mxf_klv.specs.Rising.{In}
 use Rattle.mxf_klv.specs.Note.{head_note}
 use Rattle.mxf_catalogue.specs.Content.{AreReduced, IsContent, IsLocated, has_note, with_note}
 use Rattle.mxf_catalogue.specs.Reduced.{IsKnown}
-use Rattle.mxf_catalogue.specs.History.{Part, HandIn, part_notes, union_of_parts, Hands, HandsSame, content}
-use Rattle.mxf_catalogue.specs.History.{History, New, Add, Join, Read, Absorb, Cut, Of, Gather}
+use Rattle.mxf_catalogue.specs.History.{Hands, HandsSame, content}
+use Rattle.mxf_catalogue.specs.History.{History, New, Add, Join, Read, Absorb, Cut, Of}
 use Rattle.mxf_catalogue.proofs.ContentLaws.{same_content}
 use Rattle.mxf_catalogue.proofs.HeadLaws.{AreReduced-reduced, AreReduced-reduced_union, IsContent-reduced_union, IsContent-reduced_with, In-located}
-use Rattle.mxf_catalogue.proofs.HeadLaws.{has-reduced_union, has-reduced_with}
-
-pub IsContent-union_of_parts : (parts : List Part) → IsContent (union_of_parts parts)
-IsContent-union_of_parts [] = tt
-IsContent-union_of_parts (p ∷ parts) =
-    IsContent-reduced_union (union_of_parts parts) (part_notes p) (IsContent-union_of_parts parts)
-
-pub AreReduced-union_of_parts : (parts : List Part) → AreReduced (union_of_parts parts)
-AreReduced-union_of_parts [] = λ x h k. h
-AreReduced-union_of_parts (p ∷ parts) =
-    AreReduced-reduced_union (union_of_parts parts) (part_notes p) (AreReduced-union_of_parts parts)
+use Rattle.mxf_klv.proofs.HeadOrder.{head_note-once}
+use Rattle.mxf_catalogue.proofs.HeadLaws.{has-reduced_union, has-reduced_with, one_reduced}
 
 -- a set of two has with heads what both have
 pub known-both : (P Q : NoteParts → Type 0) (n : NoteParts)
@@ -37,18 +28,6 @@ known-both P Q n = (
   ],
 )
 
--- the union of all parts has what they hand, with its heads
-pub has-union_of_parts : (parts : List Part) (n : NoteParts)
-    → has_note (union_of_parts parts) n ↔ IsKnown head_note (HandIn parts) n
-has-union_of_parts [] n = (λ k. k, λ k. k)
-has-union_of_parts (p ∷ parts) n =
-    let all = has-reduced_union n (union_of_parts parts) (part_notes p) in
-    let ih = has-union_of_parts parts n in
-    let k = known-both (λ m. In m (part_notes p)) (HandIn parts) n in (
-      λ h. k.1 (elim (all.0 h) [ inl i ↦ inr (ih.0 i) | inr j ↦ inl j ]),
-      λ h. all.1 (elim (k.0 h) [ inl j ↦ inr j | inr i ↦ inl (ih.1 i) ]),
-    )
-
 pub IsContent-content : (h : History) → IsContent (content h)
 IsContent-content New = tt
 IsContent-content (Add h m) = IsContent-reduced_with m (content h) (IsContent-content h)
@@ -59,7 +38,6 @@ IsContent-content (Absorb h offset bytes) =
 IsContent-content (Cut h offset bytes noted) =
     IsContent-reduced_union (content h) (take noted (notes_in offset bytes)) (IsContent-content h)
 IsContent-content (Of h) = IsContent-content h
-IsContent-content (Gather parts) = IsContent-union_of_parts parts
 
 pub AreReduced-content : (h : History) → AreReduced (content h)
 AreReduced-content New = λ x i k. i
@@ -71,7 +49,6 @@ AreReduced-content (Absorb h offset bytes) =
 AreReduced-content (Cut h offset bytes noted) =
     AreReduced-reduced_union (content h) (take noted (notes_in offset bytes)) (AreReduced-content h)
 AreReduced-content (Of h) = AreReduced-content h
-AreReduced-content (Gather parts) = AreReduced-union_of_parts parts
 
 -- the content has what was handed, with its heads
 pub has-content : (h : History) (n : NoteParts) → has_note (content h) n ↔ IsKnown head_note (Hands h) n
@@ -113,16 +90,51 @@ has-content (Cut h offset bytes noted) n =
       λ m. all.1 (elim (b.0 m) [ inl i ↦ inl (ih.1 i) | inr j ↦ inr j ]),
     )
 has-content (Of h) n = has-content h n
-has-content (Gather parts) n = has-union_of_parts parts n
 
 -- the content is the handed set without the heads that are replaced
 pub In-content : (h : History) (n : NoteParts) → In n (content h) ↔ IsLocated (Hands h) n
 In-content h n = In-located (Hands h) (content h) (AreReduced-content h) (has-content h) n
 
 -- one set of located packets, one content
-pub same_history_content : (h k : History) → HandsSame (Hands h) (Hands k) → content h ≡ content k
-same_history_content h k s =
-    same_content (content h) (content k) (IsContent-content h) (IsContent-content k) (λ n. (
-      λ i. (In-content k n).1 ((s n).0 ((In-content h n).0 i)),
-      λ i. (In-content h n).1 ((s n).1 ((In-content k n).0 i)),
+pub same_history_content : (h k : History) → HandsSame (Hands h) (Hands k) ↔ (content h ≡ content k)
+same_history_content h k = (
+  λ s. same_content (content h) (content k) (IsContent-content h) (IsContent-content k) (λ n. (
+    λ i. (In-content k n).1 ((s n).0 ((In-content h n).0 i)),
+    λ i. (In-content h n).1 ((s n).1 ((In-content k n).0 i)),
+  )),
+  λ e n. (
+    λ l. (In-content k n).0 (subst (In n) e ((In-content h n).1 l)),
+    λ l. (In-content h n).0 (subst (In n) (sym e) ((In-content k n).1 l)),
+  ),
+)
+
+-- one set of notes, with what they tell
+known-same : (P Q : NoteParts → Type 0) (n : NoteParts) → ((m : NoteParts) → P m → Q m) → IsKnown head_note P n
+    → IsKnown head_note Q n
+known-same P Q n f k = elim k [ inl p ↦ inl (f n p) | inr s ↦ inr (s.0, f s.0 s.1, s.2) ]
+
+-- histories that were handed the same notes leave equal contents
+pub equal_history_content : (h k : History) → ((n : NoteParts) → Hands h n ↔ Hands k n) → content h ≡ content k
+equal_history_content h k s =
+    one_reduced (content h) (content k) (IsContent-content h) (IsContent-content k) (AreReduced-content h)
+    (AreReduced-content k) (λ n. (
+      λ i. (has-content k n).1 (known-same (Hands h) (Hands k) n (λ m. (s m).0) ((has-content h n).0 i)),
+      λ i. (has-content h n).1 (known-same (Hands k) (Hands h) n (λ m. (s m).1) ((has-content k n).0 i)),
+    ))
+
+-- the head of a note that was handed adds nothing
+pub head_adds_nothing : (h : History) (n : NoteParts) → Hands h n → content (Add h (head_note n)) ≡ content h
+head_adds_nothing h n p =
+    let there : has_note (content h) (head_note n) = (has-content h (head_note n)).1 (inr (n, p, refl)) in
+    one_reduced (content (Add h (head_note n))) (content h) (IsContent-content (Add h (head_note n)))
+    (IsContent-content h) (AreReduced-content (Add h (head_note n))) (AreReduced-content h) (λ m.
+    let one = has-reduced_with m (head_note n) (content h) in (
+      λ i. elim (one.0 i) [
+        | inl e ↦ elim e [
+          | inl q ↦ subst (has_note (content h)) (sym q) there
+          | inr q ↦ subst (has_note (content h)) (sym (q ∙ head_note-once n)) there
+        ]
+        | inr j ↦ j
+      ],
+      λ j. one.1 (inr j),
     ))

@@ -75,8 +75,3 @@ moved_notes n notes = filter (λ m. is_disputed m (reduced_with n notes)) (clear
 -- Their offsets.
 abbrev pub moved_by : NoteParts → List NoteParts → List ℕ
 moved_by n notes = map (λ m. m.offset) (moved_notes n notes)
-
--- The note was clear before, and is disputed once another is there.
-pub record IsMoved (m n : NoteParts) (notes : List NoteParts) : Type 0 where
-  pub before : In m (clear_notes notes)
-  pub after : IsDisputed m (reduced_with n notes)

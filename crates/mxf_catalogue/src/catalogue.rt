@@ -197,7 +197,7 @@ impl Catalogue {
         Ok(all)
     }
 
-    /// The file offsets, in bytes, that lie in the span of some note.
+    /// The file offsets, in bytes, that some note covers: of a whole note its span, of a head its key and length alone.
     pub fn spans(&self) -> &Cover
         ensures spans { Covers result.now self.now }
         ensures catalogue { IsCatalogue self.now }
@@ -245,7 +245,8 @@ impl Catalogue {
         Notes::of(&self.parts.clear, &self.parts.disputed)
     }
 
-    /// The clear notes in their order: those that share no byte with another. It takes no memory.
+    /// The clear notes in their order: those of whole packets that share no byte with another note. A head that nothing
+    /// touches isn't clear. It takes no memory.
     pub fn clear(&self) -> ClearNotes<'_>
         ensures notes { result ≡ clear_notes self.now }
         ensures apart { AreApart 0 result }
@@ -265,8 +266,8 @@ impl Catalogue {
         ClearNotes::of(within(&self.parts.clear, start, bytes))
     }
 
-    /// The clear notes that share a byte with the note, in their order: two binary searches. Where the note isn't held, they
-    /// are those that adding it moves.
+    /// The clear notes that share a byte with the note, in their order: two binary searches. Where the catalogue hasn't the
+    /// note ([`Catalogue::has`]), they are those that adding it moves.
     pub fn clear_touching(&self, note: &Note) -> ClearNotes<'_>
         ensures notes { result ≡ touching note.now (clear_notes self.now) }
         ensures apart { AreApart 0 result }

@@ -3,5 +3,8 @@ pub mod Pieces
 pub mod Taking
 pub mod Feeding
 pub mod Reports
+pub mod LevelLaws
+pub mod SavedLaws
+pub mod GatheringLaws
 mod ComingLaws
 mod Walks

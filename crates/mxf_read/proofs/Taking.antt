@@ -16,7 +16,7 @@ use Rattle.mxf_read.proofs.Pieces.{alone, alone_first, alone_front, alone_in, fi
 
 -- ---- note after note
 
-slice_get_at : {X : Type 0} (done left : List X) (x : X) (n : ℕ) → length done ≡ n
+pub slice_get_at : {X : Type 0} (done left : List X) (x : X) (n : ℕ) → length done ≡ n
     → slice_get (done ++ x ∷ left) n ≡ Some x
 slice_get_at [] left x zero l = refl
 slice_get_at [] left x (suc n) l = absurd (omega arith)

@@ -10,6 +10,9 @@
 //! says that the rest completes the piece; [`going_on_after_a_fault_completes_a_piece`] says it of what a reader gave.
 //! [`packets_of_a_piece_stand_apart`] says how the notes of a piece lie.
 //!
+//! [`gather`] takes any number of pieces and saved catalogues, from readers: what they hold together is exactly what they hand,
+//! and a fault names the part that it is of.
+//!
 //! That memory is there, and that a call succeeds with it, is tested.
 //!
 //! Two pieces of a file, in any order:
@@ -20,10 +23,21 @@
 //! let head = absorb(alloc, &mut views, 0, first_bytes)?;
 //! // head.noted, head.stop; views.partitions() ..
 //! ```
+//!
+//! A piece and a saved catalogue, in any order:
+//!
+//! ```
+//! let mut parts = Vec::new(alloc);
+//! parts.push(Part::Piece { offset: 4096, from: piece })?;
+//! parts.push(Part::Saved { from: catalogue })?;
+//! let gathered = gather(alloc, parts)?;
+//! // gathered.views.partitions(), gathered.reports.as_slice() ..
+//! ```
 #![tactic(auto)]
 
 mod absorbing;
 mod coming;
+mod gathering;
 mod piece;
 mod reading;
 mod report;
@@ -33,6 +47,7 @@ pub use absorbing::{
     absorb, absorb_from, going_on_after_a_fault_completes_a_piece, going_on_completes_a_piece,
     packets_of_a_piece_stand_apart,
 };
+pub use gathering::{GatherFault, Gathered, Part, PartFault, PieceReport, PieceReports, gather};
 pub use mxf_klv::Stop;
 pub use report::{AbsorbFault, Report};
 pub use ticks::ReadTicks;

@@ -11,6 +11,8 @@ mod additions;
 #[cfg(test)]
 mod files;
 #[cfg(test)]
+mod looked_up;
+#[cfg(test)]
 mod pieces;
 #[cfg(test)]
 mod unions;
@@ -18,3 +20,5 @@ mod unions;
 mod values;
 #[cfg(test)]
 mod without;
+#[cfg(test)]
+mod written;

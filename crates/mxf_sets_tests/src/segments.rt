@@ -63,6 +63,24 @@ const WITH_ENTRIES: SegmentNumbers = SegmentNumbers {
     positions: 0,
 };
 
+/// Duration 2.
+const DURATION_OF_TWO: (u16, &[u8]) = (0x3F0D, &[0, 0, 0, 0, 0, 0, 0, 2]);
+
+const TWO_SLICES: (u16, &[u8]) = (0x3F08, &[2]);
+
+const ONE_POSITION_TABLE: (u16, &[u8]) = (0x3F0E, &[1]);
+
+/// Two entries of two slices and one position table, of 27 bytes: the stream offsets 258 and 772, then four bytes for each
+/// slice and eight for the position table.
+const ENTRIES_OF_27_BYTES: (u16, &[u8]) = (
+    0x3F0A,
+    &[
+        0, 0, 0, 2, 0, 0, 0, 27, 0, 0, 0, 0, 0, 0, 0, 0, 0, 1, 2, 9, 9, 9, 9, 9, 9, 9, 9, 8, 8, 8,
+        8, 8, 8, 8, 8, 0, 0, 0, 0, 0, 0, 0, 0, 0, 3, 4, 9, 9, 9, 9, 9, 9, 9, 9, 8, 8, 8, 8, 8, 8,
+        8, 8,
+    ],
+);
+
 #[test]
 fn the_constant_segment_is_read_with_its_numbers(rt: HostRuntime) -> Result<(), Fail> {
     let items = [
@@ -95,6 +113,53 @@ fn entries_give_the_offsets_of_their_units(rt: HostRuntime) -> Result<(), Fail> 
     let mut written = Vec::new(rt.alloc());
     assert_eq!(rt; made.write_to(&mut written), Ok(()));
     assert_eq!(rt; written.as_slice(), WRITTEN.as_slice());
+    Ok(())
+}
+
+#[test]
+fn an_entry_has_four_bytes_a_slice_and_eight_a_position_table(rt: HostRuntime) -> Result<(), Fail> {
+    let items = [
+        RATE,
+        START,
+        DURATION_OF_TWO,
+        BODY_SID,
+        TWO_SLICES,
+        ONE_POSITION_TABLE,
+        ENTRIES_OF_27_BYTES,
+    ];
+    let bytes = set_value(rt.alloc(), &items)?;
+    let segment = Segment::read(&bytes)?;
+    let numbers = segment.numbers();
+    assert_eq!(rt; (numbers.slices, numbers.positions), (2, 1));
+    assert_eq!(rt; segment.entry_count(), 2);
+    for (unit, offset) in [(0, Some(258)), (1, Some(772)), (2, None)] {
+        assert_eq!(rt; segment.offset_of(unit), offset);
+    }
+    Ok(())
+}
+
+#[test]
+fn a_segment_of_duration_0_gives_its_entries_no_place(rt: HostRuntime) -> Result<(), Fail> {
+    let mut numbers = WITH_ENTRIES;
+    numbers.duration = 0;
+    let segment = Segment::of(numbers, &ENTRIES).ok_or("a segment")?;
+    assert_eq!(rt; segment.entry_count(), 2);
+    for unit in [4, 5, 6, 7] {
+        assert_eq!(rt; segment.offset_of(unit), None);
+    }
+    Ok(())
+}
+
+#[test]
+fn units_of_0_bytes_need_no_entries(rt: HostRuntime) -> Result<(), Fail> {
+    let items = [RATE, START, DURATION, NO_UNIT_BYTES, BODY_SID];
+    let bytes = set_value(rt.alloc(), &items)?;
+    let segment = Segment::read(&bytes)?;
+    assert_eq!(rt;
+        (segment.numbers().unit_bytes, segment.entry_count()),
+        (0, 0)
+    );
+    assert_eq!(rt; segment.offset_of(0), None);
     Ok(())
 }
 

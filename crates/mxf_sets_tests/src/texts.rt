@@ -19,6 +19,30 @@ fn texts_end_at_a_zero_unit(rt: HostRuntime) -> Result<(), Fail> {
     Ok(())
 }
 
+// U+1F600 is 10000 + 3D * 400 + 200 in hexadecimal digits; the others are the least and the greatest that a pair stands for.
+#[test]
+fn a_surrogate_pair_is_one_character(rt: HostRuntime) -> Result<(), Fail> {
+    for (pair, character) in [
+        ([0xD8, 0x3D, 0xDE, 0x00], "\u{1F600}"),
+        ([0xD8, 0x00, 0xDC, 0x00], "\u{10000}"),
+        ([0xDB, 0xFF, 0xDF, 0xFF], "\u{10FFFF}"),
+        ([0xDE, 0x00, 0xD8, 0x3D], "\u{FFFD}\u{FFFD}"),
+    ] {
+        assert_eq!(rt; text(rt.alloc(), &pair)?.as_str(), character);
+    }
+    Ok(())
+}
+
+#[test]
+fn a_text_keeps_its_control_characters(rt: HostRuntime) -> Result<(), Fail> {
+    let units = [0x00, 0x01, 0x00, 0x7F, 0x00, 0x80, 0x00, 0x9F];
+    assert_eq!(rt;
+        text(rt.alloc(), &units)?.as_str(),
+        "\u{1}\u{7F}\u{80}\u{9F}"
+    );
+    Ok(())
+}
+
 #[test]
 fn patterns_have_names_by_their_complexities(rt: HostRuntime) {
     assert!(rt; matches!(pattern_name(&PATTERN), Some("OP1a")));

@@ -12,7 +12,11 @@ mod covers;
 #[cfg(test)]
 mod cuts;
 #[cfg(test)]
+mod failing;
+#[cfg(test)]
 mod files;
+#[cfg(test)]
+mod gathering;
 #[cfg(test)]
 mod heads;
 #[cfg(test)]

@@ -15,17 +15,17 @@ const ESSENCE_KEY: [u8; 16] = [
 /// A reader that counts its reads. It gives `chunk` bytes a read at most, and `first` at the first where that is above 0,
 /// after some interruptions. Behind its bytes it has ended, or fails where it is broken.
 #[derive(Drop)]
-struct Slow<'a> {
-    bytes: &'a [u8],
-    first: usize,
-    chunk: usize,
-    interruptions: u32,
-    is_broken: bool,
-    reads: u64,
+pub(crate) struct Slow<'a> {
+    pub(crate) bytes: &'a [u8],
+    pub(crate) first: usize,
+    pub(crate) chunk: usize,
+    pub(crate) interruptions: u32,
+    pub(crate) is_broken: bool,
+    pub(crate) reads: u64,
 }
 
 /// A reader that gives the bytes, so many a read at most, and then has ended.
-fn in_chunks(bytes: &[u8], chunk: usize) -> Slow<'_> {
+pub(crate) fn in_chunks(bytes: &[u8], chunk: usize) -> Slow<'_> {
     Slow {
         bytes,
         first: 0,

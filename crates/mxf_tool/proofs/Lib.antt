@@ -1,6 +1,2 @@
-pub mod GatheringLaws
-pub mod HexadecimalLaws
-pub mod LevelLaws
-pub mod PrintLaws
-pub mod SavedLaws
+pub mod ListLaws
 pub mod SourceLaws

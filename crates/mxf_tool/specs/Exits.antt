@@ -1,11 +1,17 @@
 -- How a run of the program ends, and the exit statuses (this project's profile).
-use Rattle.std.specs.Prelude.{ℕ, ◌==◌, if◌then◌else◌, Bool, true, false, Result, Ok, Err}
+use Rattle.std.specs.Prelude.{ℕ, ◌==◌, ◌&&◌, not, if◌then◌else◌, Bool, true, false, List, Result, Ok, Err}
+use Rattle.std.specs.List.{list_all}
+use Rattle.mxf_klv.specs.declared.piece.Stop.{Stop}
+use Rattle.mxf_klv.specs.declared.piece.Stop.TheVariants.{End, Truncated}
 use Rattle.mxf_tool.specs.declared.exit.Exit.{Exit}
 use Rattle.mxf_tool.specs.declared.exit.Exit.TheVariants.{Done, Found, Usage, Unread, Refused, NoMemory, Unwritten}
-use Rattle.mxf_tool.specs.declared.gathering.fault.PartFault.{PartFault}
-use Rattle.mxf_tool.specs.declared.gathering.fault.PartFault.TheVariants as parts
-use Rattle.mxf_tool.specs.declared.printing.AnswerFault.{AnswerFault}
-use Rattle.mxf_tool.specs.declared.printing.AnswerFault.TheVariants as answers
+use Rattle.mxf_tool.specs.declared.program.fault.RunFault.{RunFault}
+use Rattle.mxf_tool.specs.declared.program.fault.RunFault.TheVariants as runs
+use Rattle.mxf_read.specs.declared.gathering.fault.PartFault.{PartFault}
+use Rattle.mxf_read.specs.declared.gathering.fault.PartFault.TheVariants as parts
+use Rattle.mxf_read.specs.declared.gathering.report.PieceReport.{PieceReport}
+use Rattle.mxf_lines.specs.declared.printing.AnswerFault.{AnswerFault}
+use Rattle.mxf_lines.specs.declared.printing.AnswerFault.TheVariants as answers
 
 -- The exit status of each end of a run.
 abbrev pub status_of : Exit → ℕ
@@ -32,3 +38,28 @@ exit_of_fault parts.ReadFault = Unread
 exit_of_fault parts.TooLong = Refused
 exit_of_fault (parts.Catalogue fault) = Refused
 exit_of_fault parts.OutOfMemory = NoMemory
+
+-- The end of a run for the fault that it tells.
+abbrev pub exit_of_run : RunFault → Exit
+exit_of_run runs.OutOfMemory = NoMemory
+exit_of_run (runs.Signed option text) = Usage
+exit_of_run (runs.BadSource word) = Usage
+exit_of_run runs.NoSource = Usage
+exit_of_run (runs.BadLine number path) = Usage
+exit_of_run (runs.BadOutput path) = Usage
+exit_of_run runs.BadUnit = Usage
+exit_of_run (runs.Unread path cause) = Unread
+exit_of_run (runs.BadCatalogue path fault) = Refused
+exit_of_run (runs.Unwritten cause) = Unwritten
+exit_of_run (runs.Unsaved path fault) = Unwritten
+
+-- All packets of a piece are noted that stops so: none is behind the stop but one that is cut.
+abbrev pub is_noted : Stop → Bool
+is_noted End = true
+is_noted (Truncated place) = true
+is_noted _ = false
+
+-- The end of a join that would end so: a strict one finds something where a piece has bytes behind its stop.
+abbrev pub exit_of_join : Exit → Bool → List PieceReport → Exit
+exit_of_join exit strict reports =
+    if strict && not (list_all (λ r. is_noted r.report.stop) reports) then Found else exit

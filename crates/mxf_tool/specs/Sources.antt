@@ -3,6 +3,8 @@ use Rattle.std.specs.Prelude.{◌≡◌, ℕ, ◌+◌, ◌-◌, ◌*◌, ◌<◌
 use Rattle.std.specs.Prelude.{length, slice_index, codes, Result, Ok, Err}
 use Rattle.std.specs.Str.{all_ascii_digits}
 use Rattle.mxf_klv.specs.Note.{greatest_end}
+use Rattle.mxf_read.specs.declared.gathering.part.Part.{Part}
+use Rattle.mxf_read.specs.declared.gathering.part.Part.TheVariants as parts
 use Rattle.mxf_tool.specs.declared.source.Source.{Source}
 use Rattle.mxf_tool.specs.declared.source.Source.TheVariants as sources
 use Rattle.mxf_tool.specs.declared.source.SourceFault.{SourceFault}
@@ -21,6 +23,11 @@ source_parts (sources.Saved path) = Saved path.now
 abbrev pub path_of : SourceParts → List ℕ
 path_of (Piece offset path) = path
 path_of (Saved path) = path
+
+-- The part that a source names, by a reader of its file.
+abbrev pub part_of : {R : Type 0} → SourceParts → R → Part R
+part_of (Piece offset path) from = parts.Piece offset from
+part_of (Saved path) from = parts.Saved from
 
 abbrev pub at_scheme : List ℕ
 at_scheme = codes "at:"

@@ -1,51 +1,90 @@
 //! The command line.
 use clap::{Arg, ArgAction, ArgMatches, Command, value_parser};
+use mxf_lines::Ask;
 use std::alloc::{AllocError, Global};
 
-/// What the command line asks for.
+/// What the command line asks for, of the sources that words name and a list behind them.
 #[derive(Clone, Copy, Debug)]
-pub enum Request<'m, 'a> {
-    /// To print what the sources hold.
-    Show {
-        words: &'m [&'a str],
-    },
-    /// To print what is found wrong or missing.
-    Check {
-        words: &'m [&'a str],
-    },
-    /// To print where an edit unit begins in its essence stream, by the index of an IndexSID.
-    Locate {
-        index: u32,
-        unit: u64,
-        words: &'m [&'a str],
-    },
-    /// To write the catalogue of what the sources hold to the file at `out`.
-    Join {
-        out: &'a str,
-        words: &'m [&'a str],
-    },
+pub struct Request<'m, 'a> {
+    pub task: Task<'a>,
+    pub words: Option<&'m [&'a str]>,
+    pub list: Option<&'a str>,
 }
+
+/// What is to be done.
+#[derive(Clone, Copy, Debug)]
+pub enum Task<'a> {
+    /// To print an answer.
+    Tell(Ask),
+    /// To write the catalogue to the file at `out`. A strict join ends with another status where a piece isn't noted whole.
+    Join { out: &'a str, is_strict: bool },
+}
+
+/// What the help of the program ends with.
+const HELP: &str = "A source SRC is one of
+  at:OFFSET:PATH  a piece: the bytes of the file PATH, whose first byte lies at byte OFFSET of the recording
+  cat:PATH        a catalogue that join wrote
+
+Example: mxf_tool check at:0:clip.mxf";
+
+/// What the help of `show` ends with.
+const SHOW_HELP: &str = "A source SRC is one of
+  at:OFFSET:PATH  a piece: the bytes of the file PATH, whose first byte lies at byte OFFSET of the recording
+  cat:PATH        a catalogue that join wrote
+
+Example: mxf_tool show at:0:clip.mxf";
+
+/// What the help of `check` ends with.
+const CHECK_HELP: &str = "A source SRC is one of
+  at:OFFSET:PATH  a piece: the bytes of the file PATH, whose first byte lies at byte OFFSET of the recording
+  cat:PATH        a catalogue that join wrote
+
+Example: mxf_tool check at:0:front.bin at:62914560:rest.bin";
+
+/// What the help of `locate` ends with.
+const LOCATE_HELP: &str = "A source SRC is one of
+  at:OFFSET:PATH  a piece: the bytes of the file PATH, whose first byte lies at byte OFFSET of the recording
+  cat:PATH        a catalogue that join wrote
+
+Example: mxf_tool locate --index 1 --unit 250 at:0:clip.mxf";
+
+/// What the help of `join` ends with.
+const JOIN_HELP: &str = "A source SRC is one of
+  at:OFFSET:PATH  a piece: the bytes of the file PATH, whose first byte lies at byte OFFSET of the recording
+  cat:PATH        a catalogue that join wrote
+
+Example: mxf_tool join --out clip.cat at:0:front.bin cat:earlier.cat";
 
 /// The program's command with its subcommands.
 pub fn command<'a>(alloc: Global) -> Result<Command<'a>, AllocError> {
     let show = Command::new(alloc, "show")
         .about("Prints what the sources hold together")
-        .arg(sources(alloc))?;
+        .after_help(SHOW_HELP)
+        .arg(sources(alloc)?)?
+        .arg(list(alloc))?;
     let check = Command::new(alloc, "check")
         .about("Prints what is wrong or missing in what the sources hold together")
-        .arg(sources(alloc))?;
+        .after_help(CHECK_HELP)
+        .arg(sources(alloc)?)?
+        .arg(list(alloc))?;
     let locate = Command::new(alloc, "locate")
         .about("Prints where an edit unit begins in its essence stream")
+        .after_help(LOCATE_HELP)
         .arg(index(alloc))?
         .arg(unit(alloc))?
-        .arg(sources(alloc))?;
+        .arg(sources(alloc)?)?
+        .arg(list(alloc))?;
     let join = Command::new(alloc, "join")
         .about("Writes the catalogue of what the sources hold together to a file")
+        .after_help(JOIN_HELP)
         .arg(out(alloc))?
-        .arg(sources(alloc))?;
+        .arg(strict(alloc))?
+        .arg(sources(alloc)?)?
+        .arg(list(alloc))?;
     Command::new(alloc, "mxf_tool")
         .about("Prints and keeps the structure of MXF files, or of parts of them")
         .version("1.0.0")
+        .after_help(HELP)
         .subcommand_required(true)
         .arg_required_else_help(true)
         .subcommand(show)?
@@ -54,13 +93,28 @@ pub fn command<'a>(alloc: Global) -> Result<Command<'a>, AllocError> {
         .subcommand(join)
 }
 
-fn sources<'a>(alloc: Global) -> Arg<'a> {
+fn sources<'a>(alloc: Global) -> Result<Arg<'a>, AllocError> {
     Arg::new(alloc, "SRC")
-        .required(true)
         .num_args(1..)
         .action(ArgAction::Append)
+        .help("A piece at:OFFSET:PATH, or a catalogue cat:PATH")
+        .required_unless_present("sources")
+}
+
+fn list<'a>(alloc: Global) -> Arg<'a> {
+    Arg::new(alloc, "sources")
+        .long("sources")
+        .value_name("FILE")
+        .action(ArgAction::Set)
+        .help("A file with further sources, one a line; - is standard input")
+}
+
+fn strict<'a>(alloc: Global) -> Arg<'a> {
+    Arg::new(alloc, "strict")
+        .long("strict")
+        .action(ArgAction::SetTrue)
         .help(
-            "at:OFFSET:PATH, the bytes of the file PATH, the first of which lies at byte OFFSET of the recording, for example at:0:clip.mxf; or cat:PATH, a catalogue that join wrote",
+            "Ends with status 1 where a piece ends neither with a packet nor with one that is cut",
         )
 }
 
@@ -91,32 +145,45 @@ fn out<'a>(alloc: Global) -> Arg<'a> {
         .required(true)
         .action(ArgAction::Set)
         .help(
-            "The file to write: replaced whole or, at a fault, left as it was; not standard output",
+            "The file to write: replaced whole or, at a fault, left as it was; not standard output, nor a recording",
         )
 }
 
 /// What the matches ask for, or `None` where they are of another command.
 pub fn request_of<'m, 'a>(matches: &'m ArgMatches<'a>) -> Option<Request<'m, 'a>> {
     let (name, inner) = matches.subcommand()?;
-    let words = inner.get_strs("SRC")?;
+    Some(Request {
+        task: task_of(name, inner)?,
+        words: inner.get_strs("SRC"),
+        list: inner.get_str("sources"),
+    })
+}
+
+/// What the matches of the command with this name are to do.
+fn task_of<'a>(name: &str, inner: &ArgMatches<'a>) -> Option<Task<'a>> {
     match name {
-        "show" => Some(Request::Show { words }),
-        "check" => Some(Request::Check { words }),
-        "locate" => locate_of(inner, words),
-        "join" => join_of(inner, words),
+        "show" => Some(Task::Tell(Ask::Show)),
+        "check" => Some(Task::Tell(Ask::Check)),
+        "locate" => Some(Task::Tell(Ask::Locate {
+            index: inner.get_one("index")?,
+            unit: inner.get_one("unit")?,
+        })),
+        "join" => Some(Task::Join {
+            out: inner.get_str("out")?,
+            is_strict: inner.get_flag("strict"),
+        }),
         _ => None,
     }
 }
 
-/// What the matches of `locate` ask for.
-fn locate_of<'m, 'a>(matches: &'m ArgMatches<'a>, words: &'m [&'a str]) -> Option<Request<'m, 'a>> {
-    let index = matches.get_one("index")?;
-    let unit = matches.get_one("unit")?;
-    Some(Request::Locate { index, unit, words })
-}
-
-/// What the matches of `join` ask for.
-fn join_of<'m, 'a>(matches: &'m ArgMatches<'a>, words: &'m [&'a str]) -> Option<Request<'m, 'a>> {
-    let out = matches.get_str("out")?;
-    Some(Request::Join { out, words })
+/// The option whose number has a sign, and the number. An offset has none either.
+pub fn signed_number<'a>(matches: &ArgMatches<'a>) -> Option<(&'a str, &'a str)> {
+    let (_, inner) = matches.subcommand()?;
+    for option in ["index", "unit"] {
+        match inner.get_str(option) {
+            Some(text) if text.starts_with('+') => return Some((option, text)),
+            _ => {}
+        }
+    }
+    None
 }

@@ -1,16 +1,19 @@
 //! How a run of the program ends.
 ghost use Rattle.std.specs.Prelude.{◌≡◌};
-ghost use Rattle.mxf_tool.specs.Exits.{exit_of_answer, exit_of_fault, status_of};
+ghost use Rattle.mxf_tool.specs.Exits.{exit_of_answer, exit_of_join, is_noted, status_of};
+ghost use Rattle.std.specs.List.{list_all};
 
-use crate::gathering::PartFault;
-use crate::printing::AnswerFault;
+use mxf_klv::Stop;
+use mxf_lines::AnswerFault;
+use mxf_read::PieceReport;
 
 /// How a run ended, and with which exit status.
 #[derive(Clone, Copy, Debug, PartialEq, Eq)]
 pub enum Exit {
     /// All was printed; also help.
     Done,
-    /// All was printed, and a check found something, or an edit unit has no place or more than one.
+    /// All was printed, and a check found something or has a piece that doesn't end with a packet, a strict join has a piece
+    /// with bytes behind its stop, or an edit unit has no place or more than one.
     Found,
     /// The arguments were refused, or one names no source.
     Usage,
@@ -40,14 +43,15 @@ impl Exit {
         }
     }
 
-    /// How a run ends for the fault of a part.
-    pub fn of_fault(fault: PartFault) -> Exit
-        ensures { result ≡ exit_of_fault fault }
+    /// How a join ends that would end so: a strict one finds something where a piece ends otherwise than with a packet or one
+    /// that is cut.
+    pub fn of_join(self, is_strict: bool, reports: &[PieceReport]) -> Exit
+        ensures { result ≡ exit_of_join self is_strict reports.now }
     {
-        match fault {
-            PartFault::ReadFault => Exit::Unread,
-            PartFault::TooLong | PartFault::Catalogue(_) => Exit::Refused,
-            PartFault::OutOfMemory => Exit::NoMemory,
+        if is_strict && !are_noted(reports) {
+            Exit::Found
+        } else {
+            self
         }
     }
 
@@ -65,4 +69,18 @@ impl Exit {
             Exit::Unwritten => 6,
         }
     }
+}
+
+/// Whether all packets of the pieces are noted.
+fn are_noted(reports: &[PieceReport]) -> bool
+    ensures { result ≡ list_all (λ r. is_noted r.report.stop) reports.now }
+{
+    reports.iter().all(|piece| is_noted(piece.report.stop))
+}
+
+/// Whether a piece that stops so has no packet behind the stop that isn't noted.
+fn is_noted(stop: Stop) -> bool
+    ensures { result ≡ is_noted stop }
+{
+    matches!(stop, Stop::End | Stop::Truncated(_))
 }

@@ -2,13 +2,16 @@
 #![tactic(auto)]
 
 mod arguments;
+mod beginning;
 mod command_line;
 mod exit;
-mod gathering;
-mod printing;
+mod listed;
+mod part;
 mod program;
 mod saving;
+mod shown;
 mod source;
+mod system_fault;
 mod watching;
 
 use std::io::IsTerminal;
@@ -19,6 +22,3 @@ fn main(rt: HostRuntime) -> ExitCode {
     let screen = Screen::of(rt.stderr().is_terminal());
     ExitCode::from(program::run(&rt, screen).status())
 }
-
-#[cfg(test)]
-mod tests;

@@ -1,249 +1,246 @@
 //! The run of the program: its arguments, its files, its lines, and its exit status.
+mod fault;
+mod hint;
+mod sources;
+mod stops;
+mod telling;
+
 use crate::arguments::unreadable_argument;
-use crate::command_line::{Request, command, request_of};
+use crate::command_line::{Request, Task, command, request_of, signed_number};
 use crate::exit::Exit;
-use crate::gathering::{GatherFault, Gathered, Part, gather};
-use crate::printing::{Ask, answer};
-use crate::saving::{SaveFault, is_standard_output, save};
-use crate::source::{Source, parse_source};
+use crate::part::part_of;
+use crate::saving::{Held, Kept, SaveFault, is_refused};
+use crate::source::Source;
+use crate::system_fault::{LastFault, SystemFault};
 use crate::watching::{Screen, Watched};
 use clap::error::ErrorKind;
-use std::io::{BufWriter, Write};
+use fault::RunFault;
+use mxf_lines::{Ask, answer};
+use mxf_read::{GatherFault, Gathered, Part, gather};
+use sources::{read_list, sources_of, unread};
+use std::fs::{self, File};
+use std::io::{BufWriter, Input, Write};
 use std::rt::{Clock, Env, Files};
-use std::{env, fs, io};
+use std::{env, io};
+use stops::tell_stops;
+use telling::tell;
+
+/// All that a run takes of the system.
+pub trait System: Files<File = File> + Clock + Env + Input + Print + Eprint + AllocGlobal {}
+
+impl<R: Files<File = File> + Clock + Env + Input + Print + Eprint + AllocGlobal> System for R {}
 
 /// Runs the program on the arguments that it was started with.
-pub fn run<R: Files + Clock + Env + Print + Eprint + AllocGlobal>(rt: &R, screen: Screen) -> Exit {
+pub fn run<R: System>(rt: &R, screen: Screen) -> Exit {
     let arguments = match env::args(rt) {
         Ok(arguments) => arguments,
-        Err(fault) => return unread_arguments(rt, &fault),
+        Err(fault) => return unread_arguments(rt, screen, &fault),
     };
     let arguments: Vec<String> = match arguments.collect(rt.alloc()) {
         Ok(arguments) => arguments,
-        Err(_) => return no_memory(rt),
+        Err(_) => return tell(rt, screen, &RunFault::OutOfMemory),
     };
     let Ok(command) = command(rt.alloc()) else {
-        return no_memory(rt);
+        return tell(rt, screen, &RunFault::OutOfMemory);
     };
     match command.try_get_matches_from(arguments.as_slice()) {
-        Ok(matches) => match request_of(&matches) {
-            Some(request) => perform(rt, screen, &request),
-            None => Exit::Usage,
+        Ok(matches) => match (signed_number(&matches), request_of(&matches)) {
+            (Some((option, text)), _) => tell(rt, screen, &RunFault::Signed { option, text }),
+            (None, Some(request)) => perform(rt, screen, &request),
+            (None, None) => Exit::Usage,
         },
-        Err(refusal) => refused(rt, &refusal),
+        Err(refusal) => refused(rt, screen, &refusal),
     }
 }
 
 /// Tells why there are no arguments.
-fn unread_arguments<R: Env + Eprint + AllocGlobal>(rt: &R, fault: &io::Error) -> Exit {
+fn unread_arguments<R: System>(rt: &R, screen: Screen, fault: &io::Error) -> Exit {
     if fault.kind() == io::ErrorKind::OutOfMemory {
-        return no_memory(rt);
+        return tell(rt, screen, &RunFault::OutOfMemory);
     }
     let _ = match unreadable_argument(rt) {
         Ok(Some(number)) => rt.eprintln(format_args!("error: argument {number} is not UTF-8")),
         Ok(None) => rt.eprintln("error: an argument is not UTF-8"),
-        Err(_) => return no_memory(rt),
+        Err(_) => return tell(rt, screen, &RunFault::OutOfMemory),
     };
-    Exit::Usage
-}
-
-/// Tells that memory ran out.
-fn no_memory<R: Eprint>(rt: &R) -> Exit {
-    let _ = rt.eprintln("out of memory");
-    Exit::NoMemory
-}
-
-/// Tells that a source couldn't be opened or read.
-fn unread<R: Eprint>(rt: &R, path: &str) -> Exit {
-    let _ = rt.eprintln(format_args!("read fault: {path}"));
-    Exit::Unread
-}
-
-/// Tells that a write failed.
-fn unwritten<R: Eprint>(rt: &R) -> Exit {
-    let _ = rt.eprintln("write fault");
-    Exit::Unwritten
-}
-
-/// Tells that the file to write is standard output.
-fn bad_output<R: Eprint>(rt: &R, path: &str) -> Exit {
-    let _ = rt.eprintln(format_args!("bad output: {path}"));
-    Exit::Usage
-}
-
-/// Tells why a catalogue wasn't saved.
-fn unsaved<R: Eprint>(rt: &R, fault: SaveFault) -> Exit {
-    match fault {
-        SaveFault::OutOfMemory => no_memory(rt),
-        SaveFault::Write => unwritten(rt),
-    }
-}
-
-/// Tells that an edit unit is above the greatest.
-fn bad_unit<R: Eprint>(rt: &R) -> Exit {
-    let _ = rt.eprintln("bad unit");
     Exit::Usage
 }
 
 /// Prints what `clap` says of arguments that it refused, or its help.
-fn refused<R: Print + Eprint>(rt: &R, refusal: &clap::Error) -> Exit {
+fn refused<R: System>(rt: &R, screen: Screen, refusal: &clap::Error) -> Exit {
     if refusal.kind() == ErrorKind::OutOfMemory {
-        return no_memory(rt);
+        return tell(rt, screen, &RunFault::OutOfMemory);
     }
     let printed = refusal.print(rt);
     if refusal.use_stderr() {
-        Exit::Usage
-    } else if printed.is_ok() {
-        Exit::Done
-    } else {
-        unwritten(rt)
+        return Exit::Usage;
+    }
+    match printed {
+        Ok(()) => Exit::Done,
+        Err(fault) => tell(
+            rt,
+            screen,
+            &RunFault::Unwritten {
+                cause: SystemFault::of(&fault),
+            },
+        ),
     }
 }
 
-/// Does what is asked for.
-fn perform<R: Files + Clock + Print + Eprint + AllocGlobal>(
-    rt: &R,
-    screen: Screen,
-    request: &Request<'_, '_>,
-) -> Exit {
-    let done = match *request {
-        Request::Show { words } => tell(rt, screen, Ask::Show, words),
-        Request::Check { words } => tell(rt, screen, Ask::Check, words),
-        Request::Locate { index, unit, words } => tell(
-            rt,
-            screen,
-            Ask::Locate { index, unit },
-            words,
-        ),
-        Request::Join { out, words } => join(rt, screen, out, words),
+/// Does what is asked for, and tells a fault.
+fn perform<R: System>(rt: &R, screen: Screen, request: &Request<'_, '_>) -> Exit {
+    let list = match read_list(rt, request.list) {
+        Ok(list) => list,
+        Err(fault) => return tell(rt, screen, &fault),
+    };
+    let path = request.list.unwrap_or("");
+    let sources = match sources_of(rt.alloc(), request.words, path, &list) {
+        Ok(sources) => sources,
+        Err(fault) => return tell(rt, screen, &fault),
+    };
+    let done = match request.task {
+        Task::Tell(ask) => print_told(rt, screen, ask, &sources),
+        Task::Join { out, is_strict } => print_joined(rt, screen, out, is_strict, &sources),
     };
     match done {
-        Ok(exit) | Err(exit) => exit,
+        Ok(exit) => exit,
+        Err(fault) => tell(rt, screen, &fault),
     }
 }
 
 /// Prints what is asked of what the sources hold together.
-fn tell<R: Files + Clock + Print + Eprint + AllocGlobal>(
+fn print_told<'a, R: System>(
     rt: &R,
     screen: Screen,
     ask: Ask,
-    words: &[&str],
-) -> Result<Exit, Exit> {
-    let sources = parse_sources(rt, words)?;
-    let gathered = gather_sources(rt, screen, &sources)?;
-    print_answer(rt, ask, &gathered)
+    sources: &[Source<'a>],
+) -> Result<Exit, RunFault<'a>> {
+    let gathered = gather_sources(rt, screen, sources)?;
+    let exit = print_answer(rt, ask, &gathered)?;
+    told(rt, screen, sources, &gathered, false, exit)
 }
 
-/// Writes the catalogue of what the sources hold together, and then prints how many notes it has.
-fn join<R: Files + Clock + Print + Eprint + AllocGlobal>(
+/// Writes the catalogue of what the sources hold together, and prints how many notes it has.
+fn print_joined<'a, R: System>(
     rt: &R,
     screen: Screen,
-    out: &str,
-    words: &[&str],
-) -> Result<Exit, Exit> {
-    let sources = parse_sources(rt, words)?;
-    if is_standard_output(rt, out) {
-        return Err(bad_output(rt, out));
-    }
-    let gathered = gather_sources(rt, screen, &sources)?;
-    if let Err(fault) = save(rt, out, gathered.views.catalogue()) {
-        return Err(unsaved(rt, fault));
-    }
-    print_answer(rt, Ask::Join, &gathered)
+    out: &'a str,
+    is_strict: bool,
+    sources: &[Source<'a>],
+) -> Result<Exit, RunFault<'a>> {
+    let gathered = join(rt, screen, out, sources)?;
+    let exit = print_answer(rt, Ask::Join, &gathered)?;
+    let exit = exit.of_join(is_strict, gathered.reports.as_slice());
+    told(rt, screen, sources, &gathered, true, exit)
 }
 
-/// What the sources hold together. All are opened before the first is read.
-fn gather_sources<R: Files + Clock + Eprint + AllocGlobal>(
+/// Writes the catalogue of what the sources hold together. Its place is held before the first source is opened.
+fn join<'a, R: System>(
+    rt: &R,
+    screen: Screen,
+    out: &'a str,
+    sources: &[Source<'a>],
+) -> Result<Gathered, RunFault<'a>> {
+    match is_refused(rt, out, sources) {
+        Ok(false) => {}
+        Ok(true) => return Err(RunFault::BadOutput { path: out }),
+        Err(fault) => return Err(unsaved(out, SaveFault::from(fault))),
+    }
+    let held = match Held::take(rt, out) {
+        Ok(held) => held,
+        Err(fault) => return Err(unsaved(out, fault)),
+    };
+    let gathered = gather_sources(rt, screen, sources)?;
+    match held.save(rt, gathered.views.catalogue()) {
+        Ok(()) => Ok(gathered),
+        Err(fault) => Err(unsaved(out, fault)),
+    }
+}
+
+/// Why a catalogue wasn't saved at the path.
+fn unsaved(path: &str, fault: SaveFault) -> RunFault<'_> {
+    match fault {
+        SaveFault::OutOfMemory => RunFault::OutOfMemory,
+        fault => RunFault::Unsaved { path, fault },
+    }
+}
+
+/// Ends a run that was answered: on a terminal it tells of pieces that weren't noted whole.
+fn told<'a, R: System>(
     rt: &R,
     screen: Screen,
     sources: &[Source<'_>],
-) -> Result<Gathered, Exit> {
-    let parts = open_parts(rt, screen, sources)?;
-    match gather(rt.alloc(), parts) {
-        Ok(gathered) => Ok(gathered),
-        Err(fault) => Err(ungathered(rt, &fault, sources)),
+    gathered: &Gathered,
+    with_stops: bool,
+    exit: Exit,
+) -> Result<Exit, RunFault<'a>> {
+    if screen == Screen::Terminal
+        && tell_stops(rt, sources, gathered.reports.as_slice(), with_stops).is_err()
+    {
+        return Err(RunFault::OutOfMemory);
     }
+    Ok(exit)
 }
 
-/// The sources that the words name.
-fn parse_sources<'a, R: Eprint + AllocGlobal>(
+/// What the sources hold together. All are opened before the first is read.
+fn gather_sources<'a, R: System>(
     rt: &R,
-    words: &[&'a str],
-) -> Result<Vec<Source<'a>>, Exit> {
-    let mut sources = Vec::new(rt.alloc());
-    for word in words {
-        let Ok(source) = parse_source(word) else {
-            let _ = rt.eprintln(format_args!("bad source: {word}"));
-            return Err(Exit::Usage);
-        };
-        if sources.push(source).is_err() {
-            return Err(no_memory(rt));
-        }
+    screen: Screen,
+    sources: &[Source<'a>],
+) -> Result<Gathered, RunFault<'a>> {
+    let last = LastFault::new();
+    let parts = open_parts(rt, screen, sources, &last)?;
+    match gather(rt.alloc(), parts) {
+        Ok(gathered) => Ok(gathered),
+        Err(fault) => Err(ungathered(&fault, sources, &last)),
     }
-    Ok(sources)
 }
 
 /// The sources, opened in their order.
-fn open_parts<'a, R: Files + Clock + Eprint + AllocGlobal>(
-    rt: &'a R,
+fn open_parts<'r, 'a, R: System>(
+    rt: &'r R,
     screen: Screen,
     sources: &[Source<'a>],
-) -> Result<Vec<Part<Watched<'a, R, R::File>>>, Exit> {
+    last: &'r LastFault,
+) -> Result<Vec<Part<Watched<'r, R, R::File>>>, RunFault<'a>> {
     let mut parts = Vec::new(rt.alloc());
     for source in sources {
-        let part = open_part(rt, screen, source)?;
+        let part = match fs::open(rt, source.path()) {
+            Ok(from) => part_of(source, Watched::new(rt, screen, source, from, last)),
+            Err(fault) => return Err(unread(source.path(), &fault)),
+        };
         if parts.push(part).is_err() {
-            return Err(no_memory(rt));
+            return Err(RunFault::OutOfMemory);
         }
     }
     Ok(parts)
 }
 
-/// The source, opened.
-fn open_part<'a, R: Files + Clock + Eprint>(
-    rt: &'a R,
-    screen: Screen,
-    source: &Source<'a>,
-) -> Result<Part<Watched<'a, R, R::File>>, Exit> {
-    match fs::open(rt, source.path()) {
-        Ok(from) => Ok(Part::of(source, Watched::new(rt, screen, source, from))),
-        Err(fault) if fault.kind() == io::ErrorKind::OutOfMemory => Err(no_memory(rt)),
-        Err(_) => Err(unread(rt, source.path())),
-    }
-}
-
-/// Tells which source is at fault, and why.
-fn ungathered<R: Eprint>(rt: &R, fault: &GatherFault, sources: &[Source<'_>]) -> Exit {
+/// Which source is at fault, and why.
+fn ungathered<'a>(fault: &GatherFault, sources: &[Source<'a>], last: &LastFault) -> RunFault<'a> {
     let path = match sources.get(fault.part) {
         Some(source) => source.path(),
         None => "",
     };
-    match Exit::of_fault(fault.fault) {
-        Exit::NoMemory => no_memory(rt),
-        Exit::Unread => unread(rt, path),
-        exit => {
-            let cause = fault.fault;
-            let _ = rt.eprintln(format_args!("catalogue fault: {path}: {cause}"));
-            exit
-        }
-    }
+    RunFault::of_part(path, fault.fault, last.get())
 }
 
 /// Prints the answer on standard output.
-fn print_answer<R: Print + Eprint + AllocGlobal>(
+fn print_answer<'a, R: System>(
     rt: &R,
     ask: Ask,
     gathered: &Gathered,
-) -> Result<Exit, Exit> {
-    let Ok(mut out) = BufWriter::new(rt.alloc(), io::writer(rt)) else {
-        return Err(no_memory(rt));
+) -> Result<Exit, RunFault<'a>> {
+    let last = LastFault::new();
+    let Ok(mut out) = BufWriter::new(rt.alloc(), Kept::new(io::writer(rt), &last)) else {
+        return Err(RunFault::OutOfMemory);
     };
     let answered = answer(rt.alloc(), &ask, gathered, &mut out);
     let is_flushed = answered.is_ok() && out.flush().is_ok();
     match Exit::of_answer(answered, is_flushed) {
-        Exit::NoMemory => Err(no_memory(rt)),
-        Exit::Usage => Err(bad_unit(rt)),
-        Exit::Unwritten => Err(unwritten(rt)),
+        Exit::NoMemory => Err(RunFault::OutOfMemory),
+        Exit::Usage => Err(RunFault::BadUnit),
+        Exit::Unwritten => Err(RunFault::Unwritten { cause: last.get() }),
         exit => Ok(exit),
     }
 }

@@ -5,7 +5,9 @@ ghost use Rattle.mxf_tool.specs.declared.watching.Screen.TheVariants.{Terminal};
 mod line;
 mod progress;
 
+use crate::shown::text_on_screen;
 use crate::source::Source;
+use crate::system_fault::LastFault;
 use progress::{Progress, is_long};
 use std::fs::OpenFile;
 use std::io::{self, Read};
@@ -32,34 +34,56 @@ impl Screen {
     }
 }
 
-/// Reads a file. Where the reading is told, the line is gone once this is dropped.
+/// Reads a file, and keeps what the system says of a read that fails. Where the reading is told, the line is gone once this is
+/// dropped.
 #[derive(Drop)]
 pub struct Watched<'a, R: Eprint + Clock, F: Drop> {
     from: F,
     progress: Option<Progress<'a, R>>,
+    last: &'a LastFault,
 }
 
-impl<'a, R: Files + Eprint + Clock> Watched<'a, R, R::File> {
+impl<'a, R: Files + Eprint + Clock + AllocGlobal> Watched<'a, R, R::File> {
     /// The file of the source. Its reading is told where standard error is a terminal and the source is a long piece in a
     /// regular file.
     pub fn new(
         rt: &'a R,
         screen: Screen,
-        source: &Source<'a>,
+        source: &Source<'_>,
         from: R::File,
+        last: &'a LastFault,
     ) -> Watched<'a, R, R::File>
         ensures { result.from ≡ from }
     {
         let progress = match (screen, source) {
-            (Screen::Terminal, Source::Piece { path, .. }) => match from.metadata() {
-                Ok(found) if found.is_file() && is_long(found.len()) => {
-                    Some(Progress::new(rt, path, found.len()))
-                }
-                _ => None,
-            },
+            (Screen::Terminal, Source::Piece { path, .. }) => progress_of(rt, *path, &from),
             _ => None,
         };
-        Watched { from, progress }
+        Watched {
+            from,
+            progress,
+            last,
+        }
+    }
+}
+
+/// What is told of the reading of the file at the path: nothing of a short one, nor of what isn't a regular file. Nor is it
+/// told where there is no memory for the line.
+fn progress_of<'a, R: Files + Eprint + Clock + AllocGlobal>(
+    rt: &'a R,
+    path: &str,
+    from: &R::File,
+) -> Option<Progress<'a, R>> {
+    let size = match from.metadata() {
+        Ok(found) if found.is_file() => found.len(),
+        _ => return None,
+    };
+    if !is_long(size) {
+        return None;
+    }
+    match text_on_screen(rt.alloc(), path) {
+        Ok(path) => Some(Progress::new(rt, path, size)),
+        Err(_) => None,
     }
 }
 
@@ -70,10 +94,15 @@ impl<R: Eprint + Clock, F: Read + Drop> Read for Watched<'_, R, F> {
         if let Some(progress) = &mut self.progress {
             progress.begin();
         }
-        let count = self.from.read(buf)?;
-        if let Some(progress) = &mut self.progress {
-            progress.count(count);
+        let read = self.from.read(buf);
+        match &read {
+            Ok(count) => {
+                if let Some(progress) = &mut self.progress {
+                    progress.count(*count);
+                }
+            }
+            Err(fault) => self.last.keep(fault),
         }
-        Ok(count)
+        read
     }
 }

@@ -17,7 +17,7 @@ use Rattle.mxf_views.specs.Reading.{place_by_segment, segments_read}
 use Rattle.mxf_views.specs.Records.{read_pack, read_rip, read_segment}
 use Rattle.mxf_views.specs.WellFormed.{Agree, EndsWithFooter, HasMetadata, IsPartitionPack, IsWellFormed}
 use Rattle.mxf_views.specs.WorkedFiles.{agreeing_file, bare_file, constant, fill, filled_file, m_file, numbers}
-use Rattle.mxf_views.specs.WorkedFiles.{open_file, pack, pack_of, preface, primer, segment, two_entries}
+use Rattle.mxf_views.specs.WorkedFiles.{open_file, pack, pack_of, preface, primer, segment, twice_filled_file, two_entries}
 use Rattle.mxf_views.specs.declared.index.place.Place.{Place}
 use Rattle.mxf_views.specs.declared.index.place.Place.TheVariants.{At}
 use Rattle.mxf_views.proofs.Members.{all-each, none_some, some_same}
@@ -123,6 +123,75 @@ filled_well_formed = record {
   random_index = (
     no_rip (pack Header (numbers 0 0 222 86 0 0 0)) refl,
     (no_rip fill refl, (no_rip primer refl, (no_rip preface refl, tt))),
+  );
+}
+
+twice_filled_metadata : (rest : List PacketParts) → HasMetadata 86 (fill ∷ fill ∷ primer ∷ preface ∷ rest)
+twice_filled_metadata rest = record {
+  fills = fill ∷ fill ∷ [];
+  primer = primer;
+  sets = preface ∷ [];
+  rest = rest;
+  order = refl;
+  are_fills = (refl, (refl, tt));
+  is_primer = refl;
+  no_pack = (no_pack preface refl, tt);
+  exact = refl;
+}
+
+pub twice_filled_well_formed : IsWellFormed twice_filled_file
+unfolding read_pack read_segment read_rip
+twice_filled_well_formed = record {
+  packets = (
+    pack_packet Header (numbers 0 0 250 86 0 0 0),
+    (
+      fill_packet,
+      (
+        fill_packet,
+        (primer_packet, (preface_packet, (pack_packet Footer (numbers 250 0 250 0 0 0 0), tt))),
+      ),
+    ),
+  );
+  within = omega arith;
+  header = (
+    (ClosedComplete, refl),
+    (
+      no_header fill refl,
+      (
+        no_header fill refl,
+        (
+          no_header primer refl,
+          (no_header preface refl, (no_header (pack Footer (numbers 250 0 250 0 0 0 0)) refl, tt)),
+        ),
+      ),
+    ),
+  );
+  footer = record {
+    before = pack Header (numbers 0 0 250 86 0 0 0) ∷ fill ∷ fill ∷ primer ∷ preface ∷ [];
+    footer = pack Footer (numbers 250 0 250 0 0 0 0);
+    after = [];
+    order = refl;
+    is_footer = (ClosedComplete, refl);
+    only = (
+      no_footer (pack Header (numbers 0 0 250 86 0 0 0)) refl,
+      (
+        no_footer fill refl,
+        (no_footer fill refl, (no_footer primer refl, (no_footer preface refl, tt))),
+      ),
+    );
+    last = tt;
+  };
+  readable = (refl, (refl, (refl, (refl, (refl, (refl, tt))))));
+  this = (refl, (refl, tt));
+  previous = (refl, (refl, tt));
+  metadata = (
+    λ h. twice_filled_metadata (pack Footer (numbers 250 0 250 0 0 0 0) ∷ []),
+    (tt, (tt, (tt, (tt, (λ h. absurd (omega arith), tt))))),
+  );
+  index = λ s t sid unit p q h k e f. absurd h;
+  random_index = (
+    no_rip (pack Header (numbers 0 0 250 86 0 0 0)) refl,
+    (no_rip fill refl, (no_rip fill refl, (no_rip primer refl, (no_rip preface refl, tt)))),
   );
 }
 

@@ -208,6 +208,15 @@ short_metadata_refused w =
     (Footer, ClosedComplete, refl) (λ (e : 87 ≡ 46). omega (arith, e)) (λ (e : 87 ≡ 86). omega (arith, e)) m.order
     m.are_fills m.no_pack m.exact
 
+pub metadata_with_a_pack_refused : ¬ IsWellFormed refused.metadata_with_a_pack
+unfolding read_pack
+metadata_with_a_pack_refused w =
+    let footer = pack Footer (numbers 194 0 194 0 0 0 0) in
+    let m : HasMetadata 194 (primer ∷ preface ∷ footer ∷ []) = w.metadata.0 (omega arith) in
+    metadata_by 194 primer preface footer m.fills m.primer m.sets m.rest (no_fill primer refl)
+    (Footer, ClosedComplete, refl) (λ (e : 194 ≡ 46). omega (arith, e)) (λ (e : 194 ≡ 86). omega (arith, e)) m.order
+    m.are_fills m.no_pack m.exact
+
 -- ---- index and random index
 
 abbrev offset_in : Place → ℕ

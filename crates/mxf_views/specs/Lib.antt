@@ -24,6 +24,7 @@ pub mod Headline
 pub mod Identified
 pub mod WorkedFiles
 pub mod RefusedFiles
+pub mod WorkedSegments
 pub mod WorkedBytes
 pub mod Words
 pub mod Kept

@@ -52,6 +52,11 @@ abbrev pub short_metadata : List PacketParts
 short_metadata =
     pack Header (numbers 0 0 194 87 0 0 0) ∷ primer ∷ preface ∷ pack Footer (numbers 194 0 194 0 0 0 0) ∷ []
 
+-- The header partition states the bytes of its primer, its Preface and the footer partition pack behind them.
+abbrev pub metadata_with_a_pack : List PacketParts
+metadata_with_a_pack =
+    pack Header (numbers 0 0 194 194 0 0 0) ∷ primer ∷ preface ∷ pack Footer (numbers 194 0 194 0 0 0 0) ∷ []
+
 -- The segments of one index put unit 50 at different offsets.
 abbrev pub differing_segments : List PacketParts
 differing_segments = bare_file (constant ∷ segment 0x32 0x91 ∷ [])

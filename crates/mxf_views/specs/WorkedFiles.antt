@@ -177,6 +177,12 @@ filled_file =
     pack Header (numbers 0 0 222 86 0 0 0) ∷ fill ∷ primer ∷ preface
     ∷ pack Footer (numbers 222 0 222 0 0 0 0) ∷ []
 
+-- The same with two fills.
+abbrev pub twice_filled_file : List PacketParts
+twice_filled_file =
+    pack Header (numbers 0 0 250 86 0 0 0) ∷ fill ∷ fill ∷ primer ∷ preface
+    ∷ pack Footer (numbers 250 0 250 0 0 0 0) ∷ []
+
 -- A header that is open and incomplete and doesn't know the footer, and the footer.
 abbrev pub open_file : List PacketParts
 open_file =

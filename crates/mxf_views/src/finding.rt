@@ -53,7 +53,7 @@ pub enum Code {
     F10,
     /// A clear index table segment isn't readable.
     F11,
-    /// A clear random index pack isn't readable; or there is another clear one; or a note ends above its end; or its
+    /// A clear random index pack isn't readable; or there is another clear one; or a whole note ends above its end; or its
     /// entries aren't the BodySIDs and the offsets of the partitions, in their order.
     F12,
     /// A set of the preferred copy holds a reference whose target isn't [`Found`](crate::Target::Found): the Preface

@@ -14,7 +14,7 @@
 //! | Which partitions are held? | [`Views::partitions`] | [`PartitionAt`]: offset, end and pack |
 //! | How does one name the one before it? | [`Views::link`], [`Views::link_of`] | [`Link`] |
 //! | Do they hang together, header to footer? | [`Views::chain`] | [`Chain`] |
-//! | Which bytes are missing, up to the last that is held? | [`Views::gaps`] | runs from a start up to an end |
+//! | Which bytes are missing, up to the greatest end, claimed ones too? | [`Views::gaps`] | runs from a start up to an end |
 //! | Which copies of the header metadata are there? | [`Views::copies`] | [`CopyInfo`]: start, bytes stated, bytes held |
 //! | Which of them is to be taken? | [`Views::preferred`] | [`CopyInfo`], or None |
 //! | Which sets has the copy of a partition? | [`Views::sets`], [`set_items`] | notes, and the items of one |
@@ -29,7 +29,8 @@
 //! Each call's clause says that its answer is a function of the notes; a law beside its type (`.._by_definition`) says
 //! what that function is in the words of the standards. [`well_formed_files_are_read_whole`] and the laws beside it say
 //! what the answers are on a whole file. `resolved` and `findings` take memory, and fail for want of it alone; the
-//! other questions take none, and each is computed when it is asked.
+//! other questions take none. The copies, and where partitions, segments and random index packs stand, are kept; all
+//! else is computed when it is asked.
 //!
 //! A piece whose first byte lies at `offset` (the whole program is the crate mxf_example):
 //!

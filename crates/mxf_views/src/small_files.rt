@@ -3,6 +3,7 @@ ghost use Rattle.std.specs.Prelude.{◌≡◌, ℕ, ◌+◌, ◌<◌, ◌≤◌,
 ghost use Rattle.mxf_klv.specs.Kind.{kind_of};
 ghost use Rattle.mxf_klv.specs.Note.{greatest_end};
 ghost use Rattle.mxf_klv.specs.declared.kinds.Status.TheVariants.{OpenIncomplete, ClosedIncomplete, OpenComplete, ClosedComplete};
+ghost use Rattle.mxf_sets.specs.Offset.{stream_offset};
 ghost use Rattle.mxf_sets.specs.declared.pack.part.PackPart.TheVariants.{Header};
 ghost use Rattle.mxf_klv.specs.declared.kinds.Kind.{Kind};
 ghost use Rattle.mxf_klv.specs.declared.kinds.Kind.TheVariants as kinds;
@@ -14,9 +15,10 @@ ghost use Rattle.mxf_views.specs.Reading.{place_read, preferred_read, rip_read, 
 ghost use Rattle.mxf_views.specs.WellFormed.{IsWellFormed, file_bytes};
 ghost use Rattle.mxf_views.specs.WorkedBytes.{h_bytes, m_bytes, n_bytes, r_bytes, w_bytes};
 ghost use Rattle.mxf_views.specs.RefusedFiles as refused;
-ghost use Rattle.mxf_views.specs.WorkedFiles.{agreeing_file, filled_file, m_file, open_file};
+ghost use Rattle.mxf_views.specs.WorkedFiles.{agreeing_file, filled_file, m_file, open_file, twice_filled_file};
 ghost use Rattle.mxf_views.specs.WorkedFiles.{constant, copy_of_86, essence, h_file, linked_preface, material, n_copies, n_file};
 ghost use Rattle.mxf_views.specs.WorkedFiles.{numbers, pack, primer, r_file, storage, three_entries, w_file, w_rip};
+ghost use Rattle.mxf_views.specs.WorkedSegments.{constant_units, entry_units, sliced_segment, sliced_units};
 ghost use Rattle.mxf_views.specs.declared.chain.Chain.TheVariants as chains;
 ghost use Rattle.mxf_views.specs.declared.chain.Link.TheVariants as links;
 ghost use Rattle.mxf_views.specs.declared.copy.CopyInfo.{CopyInfo};
@@ -24,7 +26,7 @@ ghost use Rattle.mxf_views.specs.declared.index.place.Place.TheVariants as place
 ghost use Rattle.mxf_views.specs.declared.random_index.RipView.TheVariants as rips;
 
 /// A law: which of some small files are well-formed. Two have no footer partition. Of the others one has a fill before its
-/// header metadata, one an open header partition, and one two segments of an index that agree.
+/// header metadata, one two of them, one an open header partition, and one two segments of an index that agree.
 pub fn small_files_are_well_formed_or_not()
     ensures two_copies { IsWellFormed n_file }
     ensures indexed { IsWellFormed w_file }
@@ -32,6 +34,7 @@ pub fn small_files_are_well_formed_or_not()
     ensures no_footer_either { ¬ IsWellFormed r_file }
     ensures random_index { IsWellFormed m_file }
     ensures filled { IsWellFormed filled_file }
+    ensures twice_filled { IsWellFormed twice_filled_file }
     ensures open { IsWellFormed open_file }
     ensures agreeing_segments { IsWellFormed agreeing_file }
 {}
@@ -49,6 +52,7 @@ pub fn each_condition_of_well_formed_files_refuses_a_file()
     ensures previous { ¬ IsWellFormed refused.unlinked_footer }
     ensures metadata { ¬ IsWellFormed refused.no_metadata }
     ensures exact_metadata { ¬ IsWellFormed refused.short_metadata }
+    ensures metadata_alone { ¬ IsWellFormed refused.metadata_with_a_pack }
     ensures index { ¬ IsWellFormed refused.differing_segments }
     ensures random_index { ¬ IsWellFormed refused.other_entries }
     ensures random_index_last { ¬ IsWellFormed refused.early_random_index }
@@ -90,8 +94,9 @@ pub fn an_indexed_file_is_read_from_the_front()
 {}
 
 /// A law: the rules that the views and the reading from the front share, which no law of whole files can tell apart from
-/// others: how statuses stand to one another, which copies are candidates, and which kinds of packets are sets, fills,
-/// primer packs, Prefaces, index table segments and random index packs.
+/// others: how statuses stand to one another, which copies are candidates, which kinds of packets are sets, fills, primer
+/// packs, Prefaces, index table segments and random index packs, and which stream offsets segments give: of units of one
+/// size, of entries, and of entries with slices and position tables.
 pub fn shared_rules_are_these()
     ensures statuses { (rank OpenIncomplete < rank OpenComplete)
         × (rank OpenComplete < rank ClosedIncomplete) × (rank ClosedIncomplete < rank ClosedComplete) }
@@ -108,4 +113,16 @@ pub fn shared_rules_are_these()
     ensures prefaces { (k : Kind) → (is_preface k ≡ true) ↔ (k ≡ kinds.Preface) }
     ensures segments { (k : Kind) → (is_segment k ≡ true) ↔ (k ≡ kinds.Segment) }
     ensures random_index_packs { (k : Kind) → (is_rip k ≡ true) ↔ (k ≡ kinds.Rip) }
+    ensures sizes { (stream_offset (constant_units 0 100) 10 ≡ Some 2500000)
+        × (stream_offset (constant_units 0 100) 99 ≡ Some 24750000) × (stream_offset (constant_units 0 100) 100 ≡ None) }
+    ensures endless_sizes { (stream_offset (constant_units 5 0) 4 ≡ None)
+        × (stream_offset (constant_units 5 0) 1000 ≡ Some 250000000) }
+    ensures entries { (stream_offset (entry_units 3) 4 ≡ None) × (stream_offset (entry_units 3) 5 ≡ Some 1000)
+        × (stream_offset (entry_units 3) 6 ≡ Some 1500) × (stream_offset (entry_units 3) 7 ≡ None) }
+    ensures fewer_units { (stream_offset (entry_units 1) 5 ≡ Some 1000) × (stream_offset (entry_units 1) 6 ≡ None)
+        × (stream_offset (entry_units 0) 5 ≡ None) }
+    ensures slices { (stream_offset (sliced_units 2 1) 3 ≡ Some 258) × (stream_offset (sliced_units 2 1) 4 ≡ Some 772)
+        × (stream_offset (sliced_units 1 2) 4 ≡ Some 772) }
+    ensures sliced_places { (place_read 1 0 (segments_read 0 (sliced_segment ∷ [])) ≡ places.At 2 258)
+        × (place_read 1 1 (segments_read 0 (sliced_segment ∷ [])) ≡ places.At 2 772) }
 {}

@@ -46,6 +46,7 @@ use mxf_klv::{Note, OutOfMemory};
 use mxf_sets::{PackPart, Primer};
 use std::alloc::Global;
 use std::marker::Model;
+use thiserror::Error;
 use uuid::Uuid;
 
 /// A catalogue, with the views of its notes.
@@ -69,7 +70,8 @@ impl Model for Views {
 }
 
 /// A catalogue that makes no views, for want of memory: it comes back.
-#[derive(Debug, Drop)]
+#[derive(Debug, Drop, Error)]
+#[error("out of memory")]
 pub struct ViewFault {
     pub catalogue: Catalogue,
 }
@@ -309,7 +311,7 @@ impl Views {
         NotesAt::of(&self.catalogue, &self.kept.unreadable_packs)
     }
 
-    /// The gaps: the maximal ranges of bytes below the greatest end of a note that lie in no note.
+    /// The gaps: the maximal ranges of bytes below the greatest end of a note that no note covers.
     pub fn gaps(&self) -> Gaps<'_>
         ensures gaps { result ≡ gaps_of self.now }
 

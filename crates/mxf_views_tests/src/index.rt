@@ -46,3 +46,9 @@ fn a_unit_above_the_greatest_is_refused(rt: HostRuntime) -> Result<(), Fail> {
     }
     Ok(())
 }
+
+#[test]
+fn a_unit_above_the_greatest_has_a_text(rt: HostRuntime) -> Result<(), Fail> {
+    assert_eq!(rt; BadUnit.to_string(rt.alloc())?.as_str(), "bad unit");
+    Ok(())
+}

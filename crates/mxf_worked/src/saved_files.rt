@@ -1,4 +1,8 @@
-//! Files of catalogues whose bytes stand at hand, a field a line, so that nothing grows where they are made.
+//! Files of catalogues, by their format. The bytes of one stand at hand, a field a line, so that nothing grows where it is
+//! made.
+use crate::worked_files::M;
+use std::alloc::Global;
+use std::test::Fail;
 
 /// The catalogue of M as version 1 of the file has it, which had no marks: notes at 16, 137 and 258.
 #[rattlefmt::skip]
@@ -37,3 +41,38 @@ pub const M_OF_VERSION_1: [u8; 319] = [
     0x00, 0x00, 0x00, 0x00, 0x00, 0x00, 0x00, 0x00, 0x00, 0x00, 0x00, 0x00, 0x00, 0x00, 0x00, 0x00, // the value
     0x00, 0x00, 0x00, 0x00, 0x00, 0x00, 0x00, 0x6C, 0x00, 0x00, 0x00, 0x30,
 ];
+
+/// The packet of M from one offset up to another.
+pub fn packet_of_m(from: usize, to: usize) -> Result<&'static [u8], Fail> {
+    Ok(M.get(from..to).ok_or("past the end")?)
+}
+
+/// The file of the catalogue of M's first packets, of which there are so many: sixteen bytes ahead, then of each note its
+/// offset, its key, the width of its length, its length, the mark of a whole packet, and its value.
+pub fn catalogue_file(alloc: Global, count: u8) -> Result<Vec<u8>, Fail> {
+    let mut file = Vec::from_slice(alloc, b"MXFCAT\x00\x02\x00\x00\x00\x00\x00\x00\x00")?;
+    file.push(count)?;
+    let packets = [
+        (0u8, 0usize, 108usize, 88u8),
+        (108, 108, 216, 88),
+        (216, 216, 264, 28),
+    ];
+    for (offset, from, to, length) in packets.into_iter().take(count as usize) {
+        file.extend_from_slice(&[0, 0, 0, 0, 0, 0, 0, offset])?;
+        file.extend_from_slice(packet_of_m(from, from + 16)?)?;
+        file.extend_from_slice(&[4, 0, 0, 0, 0, 0, 0, 0, length, 0])?;
+        file.extend_from_slice(packet_of_m(from + 20, to)?)?;
+    }
+    Ok(file)
+}
+
+/// The file of the catalogue of M's first packet and the head of its second: that has the other mark, and nothing behind it.
+pub fn catalogue_file_with_head(alloc: Global) -> Result<Vec<u8>, Fail> {
+    let whole = catalogue_file(alloc, 1)?;
+    let mut file = Vec::from_slice(alloc, b"MXFCAT\x00\x02\x00\x00\x00\x00\x00\x00\x00\x02")?;
+    file.extend_from_slice(whole.get(16..).ok_or("a note")?)?;
+    file.extend_from_slice(&[0, 0, 0, 0, 0, 0, 0, 108])?;
+    file.extend_from_slice(packet_of_m(108, 124)?)?;
+    file.extend_from_slice(&[4, 0, 0, 0, 0, 0, 0, 0, 88, 1])?;
+    Ok(file)
+}

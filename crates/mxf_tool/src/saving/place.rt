@@ -4,7 +4,7 @@ ghost use Rattle.std.specs.Path.{path_buf_bytes, path_with_file_name};
 
 use super::SaveFault;
 use std::alloc::{AllocError, Global};
-use std::fs::{self, OpenFile, OpenOptions, Permissions};
+use std::fs::{self, Metadata, OpenFile, OpenOptions};
 use std::io;
 use std::path::PathBuf;
 use std::rt::Files;
@@ -15,10 +15,10 @@ const GREATEST_LINKS: u32 = 40;
 /// What stands where a catalogue is to be saved.
 #[derive(Debug, Drop)]
 pub enum Place {
-    /// A regular file, with its permissions, or nothing yet. The path is that of no link.
+    /// A regular file, as it is found, or nothing yet. The path is that of no link.
     File {
         path: PathBuf,
-        permissions: Option<Permissions>,
+        before: Option<Metadata>,
     },
     /// A terminal, a pipe or a device.
     Stream,
@@ -30,23 +30,22 @@ impl Place {
         match fs::metadata(rt, path) {
             Ok(found) if found.is_file() => {
                 let path = behind_links(rt, path)?;
-                let permissions = Some(permissions_to_write(rt, &path)?);
-                Ok(Place::File { path, permissions })
+                let before = Some(file_to_write(rt, &path)?);
+                Ok(Place::File { path, before })
             }
             Ok(_) => Ok(Place::Stream),
             Err(fault) if fault.kind() == io::ErrorKind::NotFound => Ok(Place::File {
                 path: behind_links(rt, path)?,
-                permissions: None,
+                before: None,
             }),
             Err(fault) => Err(SaveFault::from(fault)),
         }
     }
 }
 
-/// The permissions of the file, which has to let itself be written.
-fn permissions_to_write<R: Files>(rt: &R, path: &PathBuf) -> io::Result<Permissions> {
-    let file = OpenOptions::new().write(true).open(rt, path)?;
-    Ok(file.metadata()?.permissions())
+/// What the file is, which has to let itself be written.
+fn file_to_write<R: Files>(rt: &R, path: &PathBuf) -> io::Result<Metadata> {
+    OpenOptions::new().write(true).open(rt, path)?.metadata()
 }
 
 /// The path, which is no link, that links lead to from `path`. Nothing need stand there.

@@ -2,8 +2,9 @@
 ghost use Rattle.std.specs.Prelude.{◌↔◌, IsTrue};
 ghost use Rattle.mxf_tool.specs.Saving.{NamesStandardOutput};
 
+use super::same_file::is_same_file;
 use std::fs::{self, Metadata};
-use std::os::unix::fs::{FileTypeExt, MetadataExt};
+use std::os::unix::fs::FileTypeExt;
 use std::rt::Files;
 
 /// Whether `path` is that of standard output: by its name, or since it is the same regular file or pipe.
@@ -29,9 +30,4 @@ fn names_standard_output(path: &str) -> bool
 /// Whether a line that goes to this file would follow the catalogue that goes there.
 fn keeps_lines(output: &Metadata) -> bool {
     output.is_file() || output.file_type().is_fifo()
-}
-
-/// Whether both are of one file.
-fn is_same_file(a: &Metadata, b: &Metadata) -> bool {
-    a.dev() == b.dev() && a.ino() == b.ino()
 }

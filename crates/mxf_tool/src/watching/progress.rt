@@ -46,7 +46,7 @@ fn milliseconds(from: Instant, to: Instant) -> Option<u64> {
 /// How far a piece has been read. Its line stands on standard error until this is dropped.
 pub struct Progress<'a, R: Eprint + Clock> {
     rt: &'a R,
-    path: &'a str,
+    path: String,
     size: u64,
     done: u64,
     looked: u64,
@@ -55,8 +55,8 @@ pub struct Progress<'a, R: Eprint + Clock> {
 }
 
 impl<'a, R: Eprint + Clock> Progress<'a, R> {
-    /// Of the piece at `path`, which has `size` bytes, none has been read.
-    pub fn new(rt: &'a R, path: &'a str, size: u64) -> Progress<'a, R> {
+    /// Of the piece at `path`, as it is shown, which has `size` bytes, none has been read.
+    pub fn new(rt: &'a R, path: String, size: u64) -> Progress<'a, R> {
         Progress {
             rt,
             path,
@@ -99,7 +99,7 @@ impl<'a, R: Eprint + Clock> Progress<'a, R> {
             return;
         }
         let line = ProgressLine {
-            path: self.path,
+            path: self.path.as_str(),
             done: self.done,
             size: self.size,
             left: seconds_left(self.done, self.size, elapsed),

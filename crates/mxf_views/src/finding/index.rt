@@ -52,7 +52,7 @@ fn has_other_rip(views: &Views, note: &Note) -> bool
     false
 }
 
-/// Whether one of the notes ends above a file offset.
+/// Whether one of the whole notes ends above a file offset.
 fn ends_above(end: u64, notes: Notes<'_>) -> bool
     ensures { result ≡ ends_above end notes.entry }
 {
@@ -64,8 +64,8 @@ fn ends_above(end: u64, notes: Notes<'_>) -> bool
     false
 }
 
-/// Whether the note has a random index pack that doesn't fit: another clear note has one too, some note ends above its
-/// end, or it can't be read or doesn't list the partitions.
+/// Whether the note has a random index pack that doesn't fit: another clear note has one too, some whole note ends above
+/// its end, or it can't be read or doesn't list the partitions.
 fn is_unfit_rip(views: &Views, note: &Note) -> bool
     ensures { result ≡ is_unfit_rip views.now note.now }
 {

@@ -1,5 +1,5 @@
 use Rattle.mxf_views.proofs.RefusedLaws.{differing_refused, early_footer_refused, early_random_index_refused, empty_segment_refused, long_iff}
-use Rattle.mxf_views.proofs.RefusedLaws.{misplaced_refused, narrow_refused, no_footer_refused, no_header_refused, no_metadata_refused}
+use Rattle.mxf_views.proofs.RefusedLaws.{metadata_with_a_pack_refused, misplaced_refused, narrow_refused, no_footer_refused, no_header_refused, no_metadata_refused}
 use Rattle.mxf_views.proofs.RefusedLaws.{other_entries_refused, short_metadata_refused, two_headers_refused, unlinked_refused}
 use Rattle.mxf_views.proofs.small_files.each_condition_of_well_formed_files_refuses_a_file.Goals as goal
 
@@ -35,6 +35,9 @@ returns-clause-metadata c = no_metadata_refused
 
 pub returns-clause-exact_metadata : goal.returns-clause-exact_metadata
 returns-clause-exact_metadata c = short_metadata_refused
+
+pub returns-clause-metadata_alone : goal.returns-clause-metadata_alone
+returns-clause-metadata_alone c = metadata_with_a_pack_refused
 
 pub returns-clause-index : goal.returns-clause-index
 returns-clause-index c = differing_refused

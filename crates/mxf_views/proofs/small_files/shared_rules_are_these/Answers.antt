@@ -1,6 +1,8 @@
 use Rattle.std.specs.Prelude.{◌≡◌, ◌+◌, ◌<◌, ◌==◌, cond, is_some, refl}
 use Rattle.std.proofs.Common.{ap, arith, eq-eqb, eqb-true}
+use Rattle.mxf_sets.specs.Items.{item_at, items_of, left_of}
 use Rattle.mxf_views.specs.Copies.{rank, standing}
+use Rattle.mxf_views.specs.Records.{read_segment}
 use Rattle.mxf_views.proofs.KindLaws.{fill_kind, preface_kind, primer_kind, rip_kind, segment_kind, set_kind}
 use Rattle.mxf_views.proofs.Members.{both, parts}
 use Rattle.mxf_views.proofs.SmallFiles.{rank_below_4}
@@ -45,3 +47,22 @@ returns-clause-segments c = segment_kind
 
 pub returns-clause-random_index_packs : goal.returns-clause-random_index_packs
 returns-clause-random_index_packs c = rip_kind
+
+pub returns-clause-sizes : goal.returns-clause-sizes
+returns-clause-sizes c = (refl, refl, refl)
+
+pub returns-clause-endless_sizes : goal.returns-clause-endless_sizes
+returns-clause-endless_sizes c = (refl, refl)
+
+pub returns-clause-entries : goal.returns-clause-entries
+returns-clause-entries c = (refl, refl, refl, refl)
+
+pub returns-clause-fewer_units : goal.returns-clause-fewer_units
+returns-clause-fewer_units c = (refl, refl, refl)
+
+pub returns-clause-slices : goal.returns-clause-slices
+returns-clause-slices c = (refl, refl, refl)
+
+pub returns-clause-sliced_places : goal.returns-clause-sliced_places
+unfolding read_segment item_at items_of left_of
+returns-clause-sliced_places c = (refl, refl)

@@ -1,4 +1,4 @@
-use Rattle.mxf_views.proofs.GoodFiles.{agreeing_well_formed, filled_well_formed, m_well_formed, open_well_formed}
+use Rattle.mxf_views.proofs.GoodFiles.{agreeing_well_formed, filled_well_formed, m_well_formed, open_well_formed, twice_filled_well_formed}
 use Rattle.mxf_views.proofs.SmallFiles.{h_not_well_formed, n_well_formed, r_not_well_formed, w_well_formed}
 use Rattle.mxf_views.proofs.small_files.small_files_are_well_formed_or_not.Goals as goal
 
@@ -19,6 +19,9 @@ returns-clause-random_index c = m_well_formed
 
 pub returns-clause-filled : goal.returns-clause-filled
 returns-clause-filled c = filled_well_formed
+
+pub returns-clause-twice_filled : goal.returns-clause-twice_filled
+returns-clause-twice_filled c = twice_filled_well_formed
 
 pub returns-clause-open : goal.returns-clause-open
 returns-clause-open c = open_well_formed

@@ -1,0 +1,38 @@
+use Rattle.std.proofs.Common.{[], ◌+◌, ◌∷◌, drop}
+use Rattle.std.proofs.lemmas.Result.{err_from_is_err_and}
+use Rattle.mxf_views.specs.Copies.{copies_of}
+use Rattle.mxf_lines.specs.Lines.{copy_line}
+use Rattle.mxf_views.specs.declared.copy.CopyInfo.{CopyInfo}
+use Rattle.std.specs.List.{flat_map}
+use Rattle.mxf_lines.proofs.PrintLaws.{leads_on, leads_fault, leads_last, next_item, none_left}
+use Rattle.mxf_lines.proofs.printing.printer.Printer.print_copies.Goals as goal
+
+pub each-preserved : goal.each-preserved
+each-preserved g c =
+    let lines = λ (copy : CopyInfo). copy_line copy ∷ [] in
+    let contents = g.W.Write.contents in
+    leads_on (contents c.args.writer.now) (contents c.each.writer) (contents c.print.new.writer)
+    c.args.self.now.progress.written c.each.self.progress.written c.print.new.self.progress.written
+    (flat_map lines (copies_of c.args.views.now)) lines (drop c.each.copy-index c.copies-copy-items.result.now) _
+    (drop (c.each.copy-index + 1) c.copies-copy-items.result.now)
+    (next_item c.copies-copy-items.result.now c.each.copy-index _ c.each-test.true) c.each.invariant c.in_ok-print.ensures
+
+pub returns-in_err-print : goal.returns-in_err-print
+returns-in_err-print g c =
+    let lines = λ (copy : CopyInfo). copy_line copy ∷ [] in
+    let contents = g.W.Write.contents in
+    let p = err_from_is_err_and c.from_residual.result c.from_residual.ensures.1 in
+    rw (p.1, p.2) (leads_fault (contents c.args.writer.now) (contents c.each.writer) (contents c.print.new.writer)
+    c.args.self.now.progress.written c.each.self.progress.written c.print.new.self.progress.written
+    c.in_err-print.field-0.0 (flat_map lines (copies_of c.args.views.now)) lines
+    (drop c.each.copy-index c.copies-copy-items.result.now) _ (drop (c.each.copy-index + 1) c.copies-copy-items.result.now)
+    (next_item c.copies-copy-items.result.now c.each.copy-index _ c.each-test.true) c.each.invariant c.in_err-print.ensures)
+
+pub returns : goal.returns
+returns g c =
+    let lines = λ (copy : CopyInfo). copy_line copy ∷ [] in
+    let contents = g.W.Write.contents in
+    leads_last (contents c.args.writer.now) (contents c.each.writer) c.args.self.now.progress.written
+    c.each.self.progress.written (flat_map lines (copies_of c.args.views.now)) lines
+    (drop c.each.copy-index c.copies-copy-items.result.now) (none_left c.copies-copy-items.result.now c.each.copy-index c.each-test.false)
+    c.each.self.in_range c.each.invariant

@@ -1,0 +1,14 @@
+-- What is answered of the lines to come is answered of all lines.
+use Rattle.std.proofs.Common.{[], ◌∷◌}
+use Rattle.mxf_views.specs.Places.{segments_of}
+use Rattle.mxf_lines.specs.IndexLines.{segment_line}
+use Rattle.std.specs.List.{flat_map}
+use Rattle.mxf_lines.proofs.PrintLaws.{Leads}
+use Rattle.mxf_lines.proofs.printing.printer.Printer.print_segments.Given as goal
+
+abbrev pub invariant-each : goal.invariant-each
+invariant-each g l =
+    Leads (g.W.Write.contents l.initial.writer) l.initial.self.progress.written
+    (flat_map (λ s. segment_line s ∷ []) (segments_of l.views))
+    (g.W.Write.contents l.writer) l.self.progress.written
+    (flat_map (λ s. segment_line s ∷ []) l.segment-iterator)

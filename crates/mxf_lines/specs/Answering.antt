@@ -1,0 +1,93 @@
+-- What a run is answered: its lines and its status (this project's profile).
+use Rattle.std.specs.Prelude.{ℕ, ◌<◌, ◌==◌, ◌&&◌, if◌then◌else◌, Bool, true, false, List, [], ◌∷◌, ◌++◌, length, take}
+use Rattle.std.specs.Prelude.{Result, Ok, Err}
+use Rattle.std.specs.List.{concat, flat_map, list_all}
+use Rattle.mxf_klv.specs.Parts.{NoteParts}
+use Rattle.mxf_klv.specs.declared.piece.Stop.{Stop}
+use Rattle.mxf_klv.specs.declared.piece.Stop.TheVariants.{End}
+use Rattle.mxf_klv.specs.declared.writing.WriteFault.{WriteFault}
+use Rattle.mxf_catalogue.specs.Disputes.{disputed_notes}
+use Rattle.mxf_views.specs.Findings.{findings_of}
+use Rattle.mxf_views.specs.Places.{greatest_unit, place_of, segments_of}
+use Rattle.mxf_views.specs.declared.finding.Finding.{Finding}
+use Rattle.mxf_views.specs.declared.index.place.Place.{Place}
+use Rattle.mxf_views.specs.declared.index.place.Place.TheVariants.{At}
+use Rattle.mxf_read.specs.declared.gathering.report.PieceReport.{PieceReport}
+use Rattle.mxf_lines.specs.declared.printing.Ask.{Ask}
+use Rattle.mxf_lines.specs.declared.printing.Ask.TheVariants.{Show, Check, Locate, Join}
+use Rattle.mxf_lines.specs.declared.printing.AnswerFault.{AnswerFault}
+use Rattle.mxf_lines.specs.declared.printing.AnswerFault.TheVariants.{OutOfMemory, Write, BadUnit}
+use Rattle.mxf_lines.specs.declared.printing.fault.PrintFault.{PrintFault}
+use Rattle.mxf_lines.specs.declared.printing.fault.PrintFault.TheVariants as prints
+use Rattle.mxf_lines.specs.FindingLines.{count_line, finding_line, stop_line}
+use Rattle.mxf_lines.specs.IndexLines.{place_line}
+use Rattle.mxf_lines.specs.Lines.{join_line, piece_line}
+use Rattle.mxf_lines.specs.Printing.{content_lines}
+
+-- A line for each report of a piece: its offset, the number of its packets, and its stop.
+abbrev pub report_lines : List PieceReport → List (List ℕ)
+report_lines reports = flat_map (λ r. piece_line r.offset r.report.noted r.report.stop ∷ []) reports
+
+-- The piece ends with a packet.
+abbrev pub is_end : Stop → Bool
+is_end End = true
+is_end _ = false
+
+-- The line of a piece that doesn't end with a packet, none of another.
+abbrev pub stop_lines : PieceReport → List (List ℕ)
+stop_lines r = if is_end r.report.stop then [] else stop_line r.offset r.report.stop ∷ []
+
+-- The lines of findings, and then how many there are.
+abbrev pub finding_lines : List Finding → List (List ℕ)
+finding_lines findings = flat_map (λ f. finding_line f ∷ []) findings ++ count_line (length findings) ∷ []
+
+-- The lines of a check: of the pieces that don't end with a packet, and of the findings of the content.
+abbrev pub check_lines : List PieceReport → List NoteParts → List (List ℕ)
+check_lines reports content = flat_map stop_lines reports ++ finding_lines (findings_of content)
+
+-- The line of a content that was joined: the number of its notes, and of its disputed ones.
+abbrev pub join_lines : List NoteParts → List (List ℕ)
+join_lines content = join_line (length content) (length (disputed_notes content)) ∷ []
+
+-- The lines that are asked for, of pieces with these reports and of a content.
+abbrev pub answer_lines : Ask → List PieceReport → List NoteParts → List (List ℕ)
+answer_lines Show reports content = report_lines reports ++ content_lines content
+answer_lines Check reports content = check_lines reports content
+answer_lines (Locate index unit) reports content = place_line (place_of (segments_of content) index unit) ∷ []
+answer_lines Join reports content = join_lines content
+
+-- 0 where all pieces end with a packet and nothing is found, else 1.
+abbrev pub check_status : List PieceReport → List Finding → ℕ
+check_status reports findings = if list_all (λ r. is_end r.report.stop) reports && length findings == 0 then 0 else 1
+
+-- 0 for the one place of an edit unit, else 1.
+abbrev pub place_status : Place → ℕ
+place_status (At body_sid offset) = 0
+place_status _ = 1
+
+-- The status of what is asked for.
+abbrev pub answer_status : Ask → List PieceReport → List NoteParts → ℕ
+answer_status Show reports content = 0
+answer_status Check reports content = check_status reports (findings_of content)
+answer_status (Locate index unit) reports content = place_status (place_of (segments_of content) index unit)
+answer_status Join reports content = 0
+
+-- An edit unit above the greatest is asked for.
+abbrev pub IsBadAsk : Ask → Type 0
+IsBadAsk Show = ⊥
+IsBadAsk Check = ⊥
+IsBadAsk (Locate index unit) = greatest_unit < unit
+IsBadAsk Join = ⊥
+
+-- The fault of an answer whose lines ended early.
+abbrev pub answer_fault : PrintFault → AnswerFault
+answer_fault prints.OutOfMemory = OutOfMemory
+answer_fault (prints.Write fault) = Write fault
+
+-- What is answered, where `Wrote` says what a writer took: all bytes of the lines; or the writer failed among them; or
+-- memory ran out, after some whole lines and before the last; or the edit unit is a bad one, and nothing was written.
+abbrev pub Answers : (Result (Unit {0}) WriteFault → List ℕ → Type 0) → Result ℕ AnswerFault → List (List ℕ) → Type 0
+Answers Wrote (Ok status) lines = Wrote (Ok tt) (concat lines)
+Answers Wrote (Err (Write fault)) lines = Wrote (Err fault) (concat lines)
+Answers Wrote (Err OutOfMemory) lines = (k : ℕ) × (k < length lines) × Wrote (Ok tt) (concat (take k lines))
+Answers Wrote (Err BadUnit) lines = Wrote (Ok tt) []

@@ -1,0 +1,47 @@
+-- The lines of the items of header metadata sets (ST 336, local sets; the lines are this project's profile).
+use Rattle.std.specs.Prelude.{ℕ, ◌==◌, if◌then◌else◌, List, [], ◌∷◌, length, take, codes, Option, None, Some}
+use Rattle.std.specs.List.{flat_map}
+use Rattle.std.specs.Fmt.{decimal}
+use Rattle.std.specs.Int.{w16, to_be_bytes}
+use Rattle.mxf_klv.specs.Parts.{NoteParts}
+use Rattle.mxf_sets.specs.Batch.{BatchParts}
+use Rattle.mxf_sets.specs.Items.{ItemParts}
+use Rattle.mxf_sets.specs.PackReadings.{label_of}
+use Rattle.mxf_views.specs.Labels.{primer_for}
+use Rattle.mxf_views.specs.SetItems.{set_items}
+use Rattle.mxf_lines.specs.Hexadecimal.{hex_of}
+use Rattle.mxf_lines.specs.Lines.{line_of}
+
+-- The label of a tag by a primer pack, none without one.
+abbrev pub label_by : Option BatchParts → ℕ → Option (List ℕ)
+label_by None tag = None
+label_by (Some entries) tag = label_of tag entries
+
+-- The digits of a label, or a hyphen for none.
+abbrev pub label_text : Option (List ℕ) → List ℕ
+label_text None = codes "-"
+label_text (Some label) = hex_of label
+
+-- The digits of the first 32 bytes of a value, or a hyphen where it is empty.
+abbrev pub value_text : List ℕ → List ℕ
+value_text value = if length value == 0 then codes "-" else hex_of (take 32 value)
+
+-- The line of an item of the set at an offset: its tag, the length of its value, the label that the tag stands for, and
+-- its value.
+unfoldable pub item_line : ℕ → Option (List ℕ) → ItemParts → List ℕ
+item_line offset label item =
+    line_of (codes "item" ∷ decimal offset ∷ hex_of (to_be_bytes w16 item.tag) ∷ decimal (length item.value)
+    ∷ label_text label ∷ value_text item.value ∷ [])
+
+-- The lines of the items of the set at an offset, the labels by the primer pack.
+abbrev pub item_lines : ℕ → Option BatchParts → List ItemParts → List (List ℕ)
+item_lines offset primer items = flat_map (λ item. item_line offset (label_by primer item.tag) item ∷ []) items
+
+-- The lines of a note, none where it has no items.
+abbrev pub lines_of_items : ℕ → Option BatchParts → Option (List ItemParts) → List (List ℕ)
+lines_of_items offset primer None = []
+lines_of_items offset primer (Some items) = item_lines offset primer items
+
+-- The lines of one of the notes of a content.
+abbrev pub set_lines : List NoteParts → NoteParts → List (List ℕ)
+set_lines content n = lines_of_items n.offset (primer_for content n) (set_items n)

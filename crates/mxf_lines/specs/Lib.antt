@@ -1,0 +1,11 @@
+pub mod Answering
+pub mod CopyLabels
+pub mod FindingLines
+pub mod Hexadecimal
+pub mod IndexLines
+pub mod ItemLines
+pub mod Lines
+pub mod PartitionLines
+pub mod Printing
+pub mod ReferenceLines
+pub mod ShownText

@@ -1,0 +1,55 @@
+-- The lines that are printed of what a run gathers, and what a call that prints lines answers (this project's profile).
+use Rattle.std.specs.Prelude.{ℕ, ◌<◌, List, [], ◌∷◌, length, take, Result, Ok, Err}
+use Rattle.std.specs.List.{concat, flat_map}
+use Rattle.mxf_klv.specs.Parts.{NoteParts}
+use Rattle.mxf_klv.specs.declared.writing.WriteFault.{WriteFault}
+use Rattle.mxf_catalogue.specs.Disputes.{clear_notes, is_disputed}
+use Rattle.mxf_views.specs.Copies.{copies_of, preferred_of}
+use Rattle.mxf_views.specs.Gaps.{gaps_of}
+use Rattle.mxf_views.specs.Partitions.{chain_of, partitions_of}
+use Rattle.mxf_views.specs.Places.{segments_of}
+use Rattle.mxf_views.specs.RandomIndexView.{rip_view_of}
+use Rattle.mxf_views.specs.Resolved.{resolved_of}
+use Rattle.mxf_lines.specs.declared.printing.fault.PrintFault.{PrintFault}
+use Rattle.mxf_lines.specs.declared.printing.fault.PrintFault.TheVariants.{OutOfMemory, Write}
+use Rattle.mxf_lines.specs.declared.printing.group.Group.{Group}
+use Rattle.mxf_lines.specs.declared.printing.group.Group.TheVariants as groups
+use Rattle.mxf_lines.specs.Lines.{chain_line, copy_line, gap_line, note_line, preferred_line}
+use Rattle.mxf_lines.specs.IndexLines.{rip_lines, segment_line}
+use Rattle.mxf_lines.specs.ItemLines.{set_lines}
+use Rattle.mxf_lines.specs.PartitionLines.{partition_lines}
+use Rattle.mxf_lines.specs.ReferenceLines.{reference_lines}
+
+-- The lines of a group: of each note, gap, partition and copy, of the chain, of the preferred copy, of the items of
+-- each clear set, of what the references of the preferred copy lead to, of each index table segment, and of the random
+-- index pack.
+abbrev pub group_lines : List NoteParts → Group → List (List ℕ)
+group_lines content groups.Notes = flat_map (λ n. note_line n (is_disputed n content) ∷ []) content
+group_lines content groups.Gaps = flat_map (λ gap. gap_line gap ∷ []) (gaps_of content)
+group_lines content groups.Partitions = flat_map (partition_lines (partitions_of content)) (partitions_of content)
+group_lines content groups.Chain = chain_line (chain_of content) ∷ []
+group_lines content groups.Copies = flat_map (λ copy. copy_line copy ∷ []) (copies_of content)
+group_lines content groups.Preferred = preferred_line (preferred_of (copies_of content)) ∷ []
+group_lines content groups.Items = flat_map (set_lines content) (clear_notes content)
+group_lines content groups.References = reference_lines content (resolved_of content)
+group_lines content groups.Segments = flat_map (λ s. segment_line s ∷ []) (segments_of content)
+group_lines content groups.RandomIndex = rip_lines (rip_view_of content)
+
+-- The groups in their order.
+abbrev pub all_groups : List Group
+all_groups =
+    groups.Notes ∷ groups.Gaps ∷ groups.Partitions ∷ groups.Chain ∷ groups.Copies ∷ groups.Preferred
+    ∷ groups.Items ∷ groups.References
+    ∷ groups.Segments ∷ groups.RandomIndex ∷ []
+
+-- The lines of a content.
+abbrev pub content_lines : List NoteParts → List (List ℕ)
+content_lines content = flat_map (group_lines content) all_groups
+
+-- What a call that prints lines answers, where `Wrote` says what a writer took: all bytes of the lines; or the writer
+-- failed among them; or memory ran out, after some whole lines and before the last.
+abbrev pub Prints : {X : Type 0} → (Result (Unit {0}) WriteFault → List ℕ → Type 0) → Result X PrintFault
+    → List (List ℕ) → Type 0
+Prints Wrote (Ok x) lines = Wrote (Ok tt) (concat lines)
+Prints Wrote (Err (Write fault)) lines = Wrote (Err fault) (concat lines)
+Prints Wrote (Err OutOfMemory) lines = (k : ℕ) × (k < length lines) × Wrote (Ok tt) (concat (take k lines))

@@ -1,0 +1,160 @@
+-- The lines of what the references of the preferred copy lead to (this project's profile; the fields are those of
+-- ST 377-1, Identification and Generic Package sets). An identifier is printed as RFC 9562 writes a UUID.
+use Rattle.std.specs.Prelude.{ℕ, ◌==◌, List, [], ◌∷◌, ◌++◌, length, find, codes, Option, None, Some}
+use Rattle.std.specs.List.{flat_map}
+use Rattle.std.specs.Fmt.{decimal, signed_decimal}
+use Rattle.uuid.specs.Text.{hyphenated_text, lower}
+use Rattle.mxf_klv.specs.Kind.{kind_of}
+use Rattle.mxf_klv.specs.Parts.{NoteParts}
+use Rattle.mxf_klv.specs.declared.kinds.Kind.{Kind}
+use Rattle.mxf_klv.specs.declared.kinds.Kind.TheVariants.{MaterialPackage}
+use Rattle.mxf_sets.specs.Identification.{IdentificationParts, identification_at}
+use Rattle.mxf_sets.specs.Package.{PackageParts, package_at}
+use Rattle.mxf_sets.specs.Readable.{read_as}
+use Rattle.mxf_sets.specs.declared.record.timestamp.Timestamp.{Timestamp}
+use Rattle.mxf_catalogue.specs.Disputes.{clear_notes}
+use Rattle.mxf_views.specs.Resolved.{ResolvedParts}
+use Rattle.mxf_views.specs.declared.reference.target.Ref.{Ref}
+use Rattle.mxf_views.specs.declared.reference.target.Target.{Target}
+use Rattle.mxf_views.specs.declared.reference.target.Target.TheVariants.{Missing, Several, WrongKind, Unreadable, Found}
+use Rattle.mxf_lines.specs.declared.printing.field.IdentificationField.{IdentificationField}
+use Rattle.mxf_lines.specs.declared.printing.field.IdentificationField.TheVariants as identifications
+use Rattle.mxf_lines.specs.declared.printing.field.PackageField.{PackageField}
+use Rattle.mxf_lines.specs.declared.printing.field.PackageField.TheVariants as packages
+use Rattle.mxf_lines.specs.declared.printing.line.record.FieldValue.{FieldValue}
+use Rattle.mxf_lines.specs.declared.printing.line.record.FieldValue.TheVariants as values
+use Rattle.mxf_lines.specs.declared.printing.line.reference.Named.{Named}
+use Rattle.mxf_lines.specs.declared.printing.line.reference.Named.TheVariants.{Identification, Package}
+use Rattle.mxf_lines.specs.Hexadecimal.{hex_of}
+use Rattle.mxf_lines.specs.Lines.{line_of, spaced}
+use Rattle.mxf_lines.specs.ShownText.{shown_value}
+
+-- The word for what a reference names.
+abbrev pub named_word : Named → List ℕ
+named_word Identification = codes "identification"
+named_word Package = codes "package"
+
+-- An identifier as lower-case digits with hyphens.
+abbrev pub uid_text : List ℕ → List ℕ
+uid_text uid = hyphenated_text lower uid
+
+-- What a reference leads to, and at which offset.
+abbrev pub target_text : Target → List ℕ
+target_text Missing = codes "missing"
+target_text Several = codes "several"
+target_text (WrongKind offset) = codes "wrong-kind " ++ decimal offset
+target_text (Unreadable offset) = codes "unreadable " ++ decimal offset
+target_text (Found offset) = codes "found " ++ decimal offset
+
+-- The line of a reference: what it names, its identifier, and what it leads to.
+unfoldable pub reference_line : Named → Ref → List ℕ
+reference_line named r = line_of (named_word named ∷ uid_text r.uid ∷ target_text r.target ∷ [])
+
+-- The seven numbers of a timestamp, of which the year alone may be negative.
+unfoldable pub timestamp_text : Timestamp → List ℕ
+timestamp_text t =
+    spaced (signed_decimal t.year ∷ decimal t.month ∷ decimal t.day ∷ decimal t.hour ∷ decimal t.minute
+    ∷ decimal t.second ∷ decimal t.milliseconds_by_four ∷ [])
+
+-- The text of the value of a field.
+abbrev pub field_text : FieldValue → List ℕ
+field_text (values.Uid uid) = uid_text uid
+field_text (values.Digits bytes) = hex_of bytes.now
+field_text (values.Time t) = timestamp_text t
+field_text (values.Text text) = text.now
+field_text (values.Count n) = decimal n
+
+-- The line of a field: its word and its value.
+unfoldable pub field_line : List ℕ → List ℕ → List ℕ
+field_line word value = line_of (word ∷ value ∷ [])
+
+-- The lines of what is there, and none where it isn't.
+abbrev pub lines_where : {X : Type 0} → (X → List (List ℕ)) → Option X → List (List ℕ)
+lines_where lines None = []
+lines_where lines (Some x) = lines x
+
+-- The line of a field by the form of its value, where the field is there.
+
+abbrev pub uid_lines : List ℕ → Option (List ℕ) → List (List ℕ)
+uid_lines word uid = lines_where (λ u. field_line word (uid_text u) ∷ []) uid
+
+abbrev pub digits_lines : List ℕ → Option (List ℕ) → List (List ℕ)
+digits_lines word bytes = lines_where (λ b. field_line word (hex_of b) ∷ []) bytes
+
+abbrev pub time_lines : List ℕ → Option Timestamp → List (List ℕ)
+time_lines word time = lines_where (λ t. field_line word (timestamp_text t) ∷ []) time
+
+abbrev pub text_lines : List ℕ → Option (List ℕ) → List (List ℕ)
+text_lines word value = lines_where (λ v. field_line word (shown_value v) ∷ []) value
+
+-- The line of a field of an Identification, where the field is there.
+abbrev pub identification_field_lines : IdentificationParts → IdentificationField → List (List ℕ)
+identification_field_lines i identifications.Generation = uid_lines (codes "generation") i.this_generation_uid
+identification_field_lines i identifications.Company = text_lines (codes "company") i.company_name
+identification_field_lines i identifications.Product = text_lines (codes "product") i.product_name
+identification_field_lines i identifications.Version = text_lines (codes "version") i.version_string
+identification_field_lines i identifications.ProductUid = digits_lines (codes "product-uid") i.product_uid
+identification_field_lines i identifications.Modified = time_lines (codes "modified") i.modification_date
+
+-- The lines of an Identification: those of its fields in this order.
+abbrev pub identification_lines : IdentificationParts → List (List ℕ)
+identification_lines i =
+    flat_map (identification_field_lines i) (identifications.Generation ∷ identifications.Company
+    ∷ identifications.Product ∷ identifications.Version ∷ identifications.ProductUid ∷ identifications.Modified ∷ [])
+
+-- The word for a package by the kind of its set, a Material Package or a Source Package.
+abbrev pub package_word : Kind → List ℕ
+package_word MaterialPackage = codes "material"
+package_word _ = codes "source"
+
+-- The line of a field of a package whose set has this kind, where the field is there.
+abbrev pub package_field_lines : Kind → PackageParts → PackageField → List (List ℕ)
+package_field_lines kind p packages.Kind = field_line (codes "kind") (package_word kind) ∷ []
+package_field_lines kind p packages.PackageUid = field_line (codes "package-uid") (hex_of p.package_uid) ∷ []
+package_field_lines kind p packages.Name = text_lines (codes "name") p.name
+package_field_lines kind p packages.Created = time_lines (codes "created") p.creation_date
+package_field_lines kind p packages.Modified = time_lines (codes "modified") p.modified_date
+package_field_lines kind p packages.Tracks = field_line (codes "tracks") (decimal (length p.tracks)) ∷ []
+package_field_lines kind p packages.Descriptor = uid_lines (codes "descriptor") p.descriptor
+
+-- The lines of a package whose set has this kind: those of its fields in this order.
+abbrev pub package_lines : Kind → PackageParts → List (List ℕ)
+package_lines kind p =
+    flat_map (package_field_lines kind p) (packages.Kind ∷ packages.PackageUid ∷ packages.Name ∷ packages.Created
+    ∷ packages.Modified ∷ packages.Tracks ∷ packages.Descriptor ∷ [])
+
+-- The Identification of a note, where it is kept and readable.
+unfoldable pub identification_in : NoteParts → Option IdentificationParts
+identification_in n = read_as identification_at n
+
+-- The package of a note, where it is kept and readable.
+unfoldable pub package_in : NoteParts → Option PackageParts
+package_in n = read_as package_at n
+
+-- The lines of the record of a note, none where it has no such record.
+abbrev pub record_lines : Named → NoteParts → List (List ℕ)
+record_lines Identification n = lines_where identification_lines (identification_in n)
+record_lines Package n = lines_where (package_lines (kind_of n.key)) (package_in n)
+
+-- The lines of the record that was found, which is that of the clear note at its offset.
+abbrev pub found_lines : List NoteParts → Named → Target → List (List ℕ)
+found_lines content named (Found offset) =
+    lines_where (record_lines named) (find (λ n. n.offset == offset) (clear_notes content))
+found_lines content named target = []
+
+-- The lines of a reference: its own, and those of what it leads to.
+abbrev pub lines_of_reference : List NoteParts → Named → Ref → List (List ℕ)
+lines_of_reference content named r = reference_line named r ∷ found_lines content named r.target
+
+-- The lines of references that all name identifications, or all packages.
+abbrev pub named_lines : List NoteParts → Named → List Ref → List (List ℕ)
+named_lines content named references = flat_map (lines_of_reference content named) references
+
+-- The lines of the references of a copy: of those to identifications, then of those to packages.
+abbrev pub resolved_lines : List NoteParts → ResolvedParts → List (List ℕ)
+resolved_lines content r =
+    named_lines content Identification r.identifications ++ named_lines content Package r.packages
+
+-- The lines of the references of the preferred copy, none without one.
+abbrev pub reference_lines : List NoteParts → Option ResolvedParts → List (List ℕ)
+reference_lines content resolved = lines_where (resolved_lines content) resolved

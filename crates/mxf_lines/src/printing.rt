@@ -1,0 +1,115 @@
+//! Printing what a run is asked for.
+ghost use Rattle.std.specs.Prelude.{◌≡◌, ◌↔◌, IfOk, Err};
+ghost use Rattle.mxf_klv.specs.Written.{Writes};
+ghost use Rattle.mxf_lines.specs.Answering.{Answers, IsBadAsk, answer_fault, answer_lines, answer_status, place_status};
+ghost use Rattle.mxf_lines.specs.declared.printing.AnswerFault.TheVariants as faults;
+
+mod fault;
+mod field;
+mod group;
+mod hexadecimal;
+mod labels;
+mod line;
+mod printer;
+
+pub(crate) use fault::PrintFault;
+pub use hexadecimal::hex_text;
+use line::PlaceLine;
+use mxf_klv::WriteFault;
+use mxf_read::Gathered;
+use mxf_views::{BadUnit, Place};
+use printer::Printer;
+use std::alloc::Global;
+use std::io::Write;
+use thiserror::Error;
+
+/// Why an answer wasn't printed whole.
+#[derive(Clone, Copy, Debug, PartialEq, Eq, Error)]
+pub enum AnswerFault {
+    /// A growth was refused. Some whole lines have been written.
+    #[error("out of memory")]
+    OutOfMemory,
+    /// A write failed. A front of the lines has been written.
+    #[error(transparent)]
+    Write(WriteFault),
+    /// The edit unit is above the greatest. Nothing was written.
+    #[error("bad unit")]
+    BadUnit,
+}
+
+impl From<PrintFault> for AnswerFault {
+    ghost from_gives = { λ fault e. e ≡ answer_fault fault };
+
+    fn from(fault: PrintFault) -> AnswerFault {
+        match fault {
+            PrintFault::OutOfMemory => AnswerFault::OutOfMemory,
+            PrintFault::Write(fault) => AnswerFault::Write(fault),
+        }
+    }
+}
+
+impl From<BadUnit> for AnswerFault {
+    ghost from_gives = { λ _ e. e ≡ faults.BadUnit };
+
+    fn from(_fault: BadUnit) -> AnswerFault {
+        AnswerFault::BadUnit
+    }
+}
+
+/// What a run is asked for.
+#[derive(Clone, Copy, Debug, PartialEq, Eq)]
+pub enum Ask {
+    /// What was noted of each piece, and all that is known of the recording.
+    Show,
+    /// What is found wrong or missing.
+    Check,
+    /// Where the edit unit begins in its essence stream, by the index of this IndexSID.
+    Locate { index: u32, unit: u64 },
+    /// How many notes the parts hold together.
+    Join,
+}
+
+/// Prints the lines that are asked for. The answer is 1 where a check finds something, or a piece doesn't end with a packet,
+/// or where an edit unit has no place or more than one; else it is 0.
+///
+/// The unit is tested first: above 9,223,372,036,854,775,807 it is a `BadUnit`. After want of memory some whole lines have
+/// been written; after a write fault the first bytes, which it counts.
+pub fn answer<W: Write>(
+    alloc: Global,
+    ask: &Ask,
+    gathered: &Gathered,
+    writer: &mut W,
+) -> Result<u8, AnswerFault>
+    ensures status { IfOk result (λ status. status ≡ answer_status ask.now gathered.now.reports gathered.now.views) }
+    ensures bad_unit { (result ≡ Err faults.BadUnit) ↔ IsBadAsk ask.now }
+    ensures lines { Answers (Writes (W.contents writer.old) (W.contents writer.new)) result
+        (answer_lines ask.now gathered.now.reports gathered.now.views) }
+{
+    let mut printer = Printer::new(alloc);
+    match *ask {
+        Ask::Show => {
+            printer.print_shown(alloc, writer, gathered)?;
+            Ok(0)
+        }
+        Ask::Check => Ok(printer.print_checked(alloc, writer, gathered)?),
+        Ask::Locate { index, unit } => {
+            let place = gathered.views.locate(index, unit)?;
+            printer.print(writer, PlaceLine(place))?;
+            Ok(place_status(place))
+        }
+        Ask::Join => {
+            printer.print_joined(writer, gathered.views.catalogue())?;
+            Ok(0)
+        }
+    }
+}
+
+/// 0 for the one place of an edit unit, else 1.
+fn place_status(place: Place) -> u8
+    ensures { result ≡ place_status place }
+{
+    match place {
+        Place::At { .. } => 0,
+        Place::NotIndexed | Place::Ambiguous { .. } => 1,
+    }
+}

@@ -1,0 +1,199 @@
+//! The lines of an answer.
+use mxf_klv::{OutOfMemory, WriteFault};
+use mxf_lines::{AnswerFault, Ask, answer, hex_text};
+use mxf_read::{Gathered, Part, gather};
+use mxf_worked::saved_files::{
+    M_OF_VERSION_1, catalogue_file, catalogue_file_with_head, packet_of_m,
+};
+use mxf_worked::worked_files::M;
+use std::alloc::Global;
+use std::io::{self, Cursor, Error, ErrorKind, Write};
+use std::test::Fail;
+
+/// What `show` prints of M.
+const LINES_OF_M: &str = "piece 0 noted 3 stop end\n\
+note 0 header 4 88 060e2b34020501010d01020101020400\n\
+note 108 footer 4 88 060e2b34020501010d01020101040400\n\
+note 216 rip 4 28 060e2b34020501010d01020101110100\n\
+partition 0 header closed-complete version 1.3 kag 1 this 0 previous 0 footer 108 header-bytes 0 index-bytes 0 \
+index-sid 0 body-offset 0 body-sid 0 pattern OP1a 01 link first\n\
+partition 108 footer closed-complete version 1.3 kag 1 this 108 previous 0 footer 108 header-bytes 0 index-bytes 0 \
+index-sid 0 body-offset 0 body-sid 0 pattern OP1a 01 link held\n\
+chain whole\n\
+preferred none\n\
+rip 216\n\
+rip-entry 0 0 held\n\
+rip-entry 0 108 held\n";
+
+/// Takes `room` bytes, `chunk` a call at most, and then fails.
+#[derive(Drop)]
+struct Narrow {
+    taken: Vec<u8>,
+    room: usize,
+    chunk: usize,
+}
+
+impl Narrow {
+    fn new(alloc: Global, room: usize, chunk: usize) -> Narrow {
+        Narrow {
+            taken: Vec::new(alloc),
+            room,
+            chunk,
+        }
+    }
+}
+
+impl Write for Narrow {
+    fn write(&mut self, buf: &[u8]) -> io::Result<usize> {
+        let count = buf.len().min(self.chunk).min(self.room);
+        if count == 0 {
+            return Err(Error::from(ErrorKind::StorageFull));
+        }
+        self.taken.extend_from_slice(&buf[..count])?;
+        self.room -= count;
+        Ok(count)
+    }
+
+    fn flush(&mut self) -> io::Result<()> {
+        Ok(())
+    }
+}
+
+/// A piece of these bytes.
+fn piece(alloc: Global, offset: u64, bytes: &[u8]) -> Result<Part<Cursor<Vec<u8>>>, Fail> {
+    Ok(Part::Piece {
+        offset,
+        from: Cursor::new(Vec::from_slice(alloc, bytes)?),
+    })
+}
+
+/// A saved catalogue of these bytes.
+fn saved(alloc: Global, bytes: &[u8]) -> Result<Part<Cursor<Vec<u8>>>, Fail> {
+    Ok(Part::Saved {
+        from: Cursor::new(Vec::from_slice(alloc, bytes)?),
+    })
+}
+
+/// What M holds.
+fn worked(alloc: Global) -> Result<Gathered, Fail> {
+    let mut parts = Vec::new(alloc);
+    parts.push(piece(alloc, 0, &M)?)?;
+    Ok(gather(alloc, parts)?)
+}
+
+#[test]
+fn each_question_has_its_lines_and_status(rt: HostRuntime) -> Result<(), Fail> {
+    let alloc = rt.alloc();
+    let gathered = worked(alloc)?;
+    let place = Ask::Locate { index: 1, unit: 10 };
+    for (ask, lines, status) in [
+        (Ask::Show, LINES_OF_M, 0),
+        (Ask::Check, "findings 0\n", 0),
+        (place, "not indexed\n", 1),
+        (Ask::Join, "joined 3 notes 0 disputed\n", 0),
+    ] {
+        let mut writer = Narrow::new(alloc, 1000, 1000);
+        let answered = answer(alloc, &ask, &gathered, &mut writer);
+        assert_eq!(rt; answered, Ok(status), "printing {lines}");
+        assert_eq!(rt; writer.taken.as_slice(), lines.as_bytes());
+    }
+    Ok(())
+}
+
+#[test]
+fn a_piece_and_a_saved_catalogue_are_asked_as_one_file(rt: HostRuntime) -> Result<(), Fail> {
+    let alloc = rt.alloc();
+    let file = catalogue_file(alloc, 3)?;
+    let mut parts = Vec::new(alloc);
+    parts.push(piece(alloc, 0, packet_of_m(0, 108)?)?)?;
+    parts.push(saved(alloc, &file)?)?;
+    let gathered = gather(alloc, parts)?;
+    let place = Ask::Locate { index: 1, unit: 10 };
+    for (ask, line, status) in [
+        (Ask::Check, "findings 0\n", 0),
+        (Ask::Join, "joined 3 notes 0 disputed\n", 0),
+        (place, "not indexed\n", 1),
+    ] {
+        let mut lines = Vec::new(alloc);
+        let answered = answer(alloc, &ask, &gathered, &mut lines);
+        assert_eq!(rt; answered, Ok(status), "printing {line}");
+        assert_eq!(rt; lines.as_slice(), line.as_bytes());
+    }
+    Ok(())
+}
+
+/// Whether `join` of two saved catalogues prints three notes, none of them disputed.
+fn joins_three_notes(alloc: Global, first: &[u8], last: &[u8]) -> Result<bool, Fail> {
+    let mut parts = Vec::new(alloc);
+    parts.push(saved(alloc, first)?)?;
+    parts.push(saved(alloc, last)?)?;
+    let gathered = gather(alloc, parts)?;
+    let mut writer = Narrow::new(alloc, 1000, 1000);
+    let answered = answer(alloc, &Ask::Join, &gathered, &mut writer);
+    let line = b"joined 3 notes 0 disputed\n".as_slice();
+    Ok(answered == Ok(0) && writer.taken.as_slice() == line)
+}
+
+// The head of the second packet is replaced by the packet.
+#[test]
+fn a_join_counts_the_notes_of_version_1_and_no_head_of_them(rt: HostRuntime) -> Result<(), Fail> {
+    let alloc = rt.alloc();
+    let cut = catalogue_file_with_head(alloc)?;
+    assert!(rt; joins_three_notes(alloc, &cut, &M_OF_VERSION_1)?);
+    assert!(rt; joins_three_notes(alloc, &M_OF_VERSION_1, &cut)?);
+    Ok(())
+}
+
+#[test]
+fn a_unit_above_the_greatest_is_refused_and_nothing_printed(rt: HostRuntime) -> Result<(), Fail> {
+    let alloc = rt.alloc();
+    let gathered = worked(alloc)?;
+    for unit in [9_223_372_036_854_775_808, 18_446_744_073_709_551_615] {
+        let mut writer = Narrow::new(alloc, 0, 1000);
+        let answered = answer(
+            alloc,
+            &Ask::Locate { index: 1, unit },
+            &gathered,
+            &mut writer,
+        );
+        assert_eq!(rt; answered, Err(AnswerFault::BadUnit));
+    }
+    Ok(())
+}
+
+// A writer that fails behind each byte of the lines.
+#[test]
+fn lines_that_fail_have_been_written_up_to_there(rt: HostRuntime) -> Result<(), Fail> {
+    let alloc = rt.alloc();
+    let gathered = worked(alloc)?;
+    let lines = LINES_OF_M.as_bytes();
+    for room in 0..=lines.len() {
+        for chunk in [1usize, 7, 1000] {
+            let mut writer = Narrow::new(alloc, room, chunk);
+            let answered = answer(alloc, &Ask::Show, &gathered, &mut writer);
+            let fault = WriteFault {
+                written: room as u64,
+            };
+            let wanted = if room < lines.len() {
+                Err(AnswerFault::Write(fault))
+            } else {
+                Ok(0)
+            };
+            assert_eq!(rt; answered, wanted);
+            assert_eq!(rt; writer.taken.as_slice(), &lines[..room]);
+        }
+    }
+    Ok(())
+}
+
+// It holds whichever growth is refused: tests/refusals refuses each.
+#[test]
+fn bytes_print_as_two_digits_each(rt: HostRuntime) -> Result<(), Fail> {
+    let alloc = rt.alloc();
+    let text = match hex_text(alloc, &[0x0A, 0xFF]) {
+        Ok(text) => text,
+        Err(OutOfMemory) => hex_text(alloc, &[0x0A, 0xFF])?,
+    };
+    assert_eq!(rt; text.as_str(), "0aff");
+    Ok(())
+}

@@ -1,0 +1,62 @@
+-- Catalogues that wait to be merged: what adding one leaves, in balance, and what merging all does.
+use Rattle.std.proofs.Common.{◌≡◌, ◌<◌, ◌^◌, List, [], ◌∷◌, ◌++◌, length, refl, sym, ap, ◌∙◌, append_assoc}
+use Rattle.mxf_klv.specs.Parts.{NoteParts}
+use Rattle.mxf_catalogue.specs.Content.{IsCatalogue, reduced_union}
+use Rattle.mxf_read.specs.Levels.{Adds, AreBalanced, EndsAbove, HoldsAll, all_merged, merged_with}
+
+pub balanced_front : (levels back : List (List NoteParts)) → AreBalanced (levels ++ back) → AreBalanced levels
+balanced_front [] back b = tt
+balanced_front (level ∷ []) back b = (tt, tt)
+balanced_front (level ∷ next ∷ levels) back b = (b.0, balanced_front (next ∷ levels) back b.1)
+
+pub balanced_last : (levels : List (List NoteParts)) (notes : List NoteParts) → AreBalanced levels
+    → EndsAbove levels (length notes) → AreBalanced (levels ++ notes ∷ [])
+balanced_last [] notes b e = (tt, tt)
+balanced_last (level ∷ []) notes b e = (e [] level refl, (tt, tt))
+balanced_last (level ∷ next ∷ levels) notes b e =
+    (b.0, balanced_last (next ∷ levels) notes b.1 (λ front last is. e (level ∷ front) last (ap (λ (l : List _). level ∷ l) is)))
+
+-- Those that wait are the first of the old ones, and what is merged is the others with a catalogue.
+pub record IsAdding (merged : List NoteParts) (levels : List (List NoteParts)) (notes : List NoteParts)
+    (old : List (List NoteParts)) : Type 0 where
+  pub back : List (List NoteParts)
+  pub whole : old ≡ levels ++ back
+  pub is : merged ≡ merged_with back notes
+
+-- none was merged
+pub adding_none : (notes : List NoteParts) (old : List (List NoteParts)) → old ≡ old ++ [] → IsAdding notes old notes old
+adding_none notes old e = record { back = []; whole = e; is = refl }
+
+-- the last that waited was merged
+pub adding_one : (merged next last notes : List NoteParts) (levels rest old : List (List NoteParts))
+    → IsAdding merged levels notes old → levels ≡ rest ++ last ∷ [] → next ≡ reduced_union last merged
+    → IsAdding next rest notes old
+adding_one merged next last notes levels rest old h is e = record {
+  back = last ∷ h.back;
+  whole = h.whole ∙ ap (λ (l : List (List NoteParts)). l ++ h.back) is ∙ append_assoc rest (last ∷ []) h.back;
+  is = e ∙ ap (reduced_union last) h.is;
+}
+
+-- what was merged waits behind the others
+pub adding_last : (merged notes : List NoteParts) (levels new old : List (List NoteParts))
+    → IsAdding merged levels notes old → new ≡ levels ++ merged ∷ [] → Adds old notes new
+adding_last merged notes levels new old h is =
+    (levels, h.back, h.whole, is ∙ ap (λ (m : List NoteParts). levels ++ m ∷ []) h.is)
+
+-- What the views hold, with what is left of the catalogues, is all of them merged.
+abbrev pub IsMerging : List (List NoteParts) → List NoteParts → List (List NoteParts) → Type 0
+IsMerging all views left = all_merged views left ≡ all_merged [] all
+
+pub merging_first : (all left : List (List NoteParts)) → left ≡ all → IsMerging all [] left
+merging_first all left is = ap (all_merged []) is
+
+pub merging_one : (all left rest : List (List NoteParts)) (views next notes : List NoteParts)
+    → IsMerging all views left → left ≡ notes ∷ rest → next ≡ reduced_union views notes → IsMerging all next rest
+merging_one all left rest views next notes m is e =
+    ap (λ (v : List NoteParts). all_merged v rest) e ∙ sym (ap (all_merged views) is) ∙ m
+
+-- all are merged, into a catalogue that can be counted
+pub merging_last : (all left : List (List NoteParts)) (views : List NoteParts) → IsMerging all views left → left ≡ []
+    → IsCatalogue views → length views < 2 ^ 64 → HoldsAll all views
+merging_last all left views m is c fits =
+    record { merged = sym (ap (all_merged views) is) ∙ m; catalogue = c; fits = fits }

@@ -1,0 +1,87 @@
+use Rattle.std.proofs.Common.{rules, [], ◌≡◌, length, sym, subst, List, arith}
+use Rattle.std.specs.Vec.Iter.{into_iter_items}
+use Rattle.mxf_read.proofs.GatheringLaws.{IsPassed, IsGathered, passed_none, gathered_none, passed_one, gathered_one}
+use Rattle.mxf_read.proofs.GatheringLaws.{nothing_left}
+use Rattle.mxf_read.proofs.GatheringLaws.{gathered_good, gathered_reports, gathered_run, gathered_left, gathered_nothing, gathered_fault, gathered_wants, told}
+use Rattle.mxf_read.proofs.gathering.gather.Goals as goal
+
+pub parts-init : goal.parts-init
+parts-init g c =
+    let all = c.args.parts.items in
+    let is : into_iter_items c.into_iter-part-iterator.result ≡ all =
+    c.into_iter-part-iterator.ensures.into_iter_gives.0 in
+    record {
+      passed = subst (IsPassed all 0) (sym is) (passed_none all);
+      gathered = λ t. rw (c.new-levels.ensures, c.new-reports.ensures)
+          (subst (λ (l : List _). IsGathered g.R.Read.remaining all 0 l [] []) (sym is)
+          (gathered_none g.R.Read.remaining all));
+    }
+
+pub returns-in-Err-clause-fault : goal.returns-in-Err-clause-fault
+returns-in-Err-clause-fault g c t =
+    let left = g.R.Read.remaining in
+    let all = c.args.parts.items in
+    let i = c.parts.invariant in
+    let next = c.in-Some.ensures.steps.0 in
+    gathered_fault left all _ _ c.in-Some.part c.parts.number _ _ c.in-Err.fault (i.gathered t) next
+    (c.in-Err.ensures.fault (told left all _ _ c.in-Some.part c.parts.number i.passed next t))
+
+pub parts-preserved : goal.parts-preserved
+parts-preserved g c =
+    let left = g.R.Read.remaining in
+    let all = c.args.parts.items in
+    let i = c.parts.invariant in
+    let next = c.in-Some.ensures.steps.0 in
+    record {
+      passed = passed_one all _ _ c.in-Some.part c.parts.number i.passed next;
+      gathered = λ t. gathered_one left all _ _ c.in-Some.part c.parts.number _ _ _ _ (i.gathered t) next
+          (c.in_default.ensures.taken (told left all _ _ c.in-Some.part c.parts.number i.passed next t));
+    }
+
+pub returns-then-number-eq0-clause-run : goal.returns-then-number-eq0-clause-run
+returns-then-number-eq0-clause-run g c t =
+    let none : length (into_iter_items c.parts.part-iterator) ≡ 0 = search rules in
+    gathered_nothing g.R.Read.remaining c.args.parts.items (into_iter_items c.parts.part-iterator) c.parts.number _
+    c.parts.invariant.passed none c.if-number-eq0.true c.new.ensures
+
+pub returns-then-number-eq0-clause-history : goal.returns-then-number-eq0-clause-history
+returns-then-number-eq0-clause-history g c t =
+    let none : length (into_iter_items c.parts.part-iterator) ≡ 0 = search rules in
+    nothing_left g.R.Read.remaining c.args.parts.items (into_iter_items c.parts.part-iterator) c.parts.number _
+    c.parts.invariant.passed none c.if-number-eq0.true c.new.ensures
+
+pub returns-in-Ok-clause-history : goal.returns-in-Ok-clause-history
+returns-in-Ok-clause-history g c t =
+    let none : length (into_iter_items c.parts.part-iterator) ≡ 0 = search rules in
+    gathered_left g.R.Read.remaining c.args.parts.items (into_iter_items c.parts.part-iterator) c.parts.number _ _ _
+    (c.parts.invariant.gathered t) none c.in-Ok.ensures
+
+pub returns-in-Ok-clause-run : goal.returns-in-Ok-clause-run
+returns-in-Ok-clause-run g c t =
+    let none : length (into_iter_items c.parts.part-iterator) ≡ 0 = search rules in
+    gathered_run g.R.Read.remaining c.args.parts.items (into_iter_items c.parts.part-iterator) c.parts.number _ _ _
+    (c.parts.invariant.gathered t) none c.in-Ok.ensures
+
+pub returns-in-Err-into_views-clause-fault : goal.returns-in-Err-into_views-clause-fault
+returns-in-Err-into_views-clause-fault g c t =
+    let none : length (into_iter_items c.parts.part-iterator) ≡ 0 = search rules in
+    gathered_wants g.R.Read.remaining c.args.parts.items (into_iter_items c.parts.part-iterator) c.parts.number _ _
+    (c.parts.invariant.gathered t) none (omega arith)
+
+pub returns-then-number-eq0-clause-good : goal.returns-then-number-eq0-clause-good
+returns-then-number-eq0-clause-good g c t =
+    let none : length (into_iter_items c.parts.part-iterator) ≡ 0 = search rules in
+    gathered_good g.R.Read.remaining c.args.parts.items (into_iter_items c.parts.part-iterator) c.parts.number _ _
+    (c.parts.invariant.gathered t) none
+
+pub returns-in-Ok-clause-good : goal.returns-in-Ok-clause-good
+returns-in-Ok-clause-good g c t =
+    let none : length (into_iter_items c.parts.part-iterator) ≡ 0 = search rules in
+    gathered_good g.R.Read.remaining c.args.parts.items (into_iter_items c.parts.part-iterator) c.parts.number _ _
+    (c.parts.invariant.gathered t) none
+
+pub returns-in-Ok-clause-reports : goal.returns-in-Ok-clause-reports
+returns-in-Ok-clause-reports g c t =
+    let none : length (into_iter_items c.parts.part-iterator) ≡ 0 = search rules in
+    gathered_reports g.R.Read.remaining c.args.parts.items (into_iter_items c.parts.part-iterator) c.parts.number _ _
+    (c.parts.invariant.gathered t) none

@@ -1,0 +1,25 @@
+use Rattle.std.proofs.Common.{subst, sym}
+use Rattle.mxf_read.specs.declared.gathering.part.Part.{Part}
+use Rattle.mxf_read.specs.Gathering.{TakesPart, Tells}
+use Rattle.mxf_read.proofs.SavedLaws.{piece_taken, saved_taken}
+use Rattle.mxf_read.proofs.gathering.take_part.Goals as goal
+
+pub returns-in_ok-push-in-Piece-clause-taken : goal.returns-in_ok-push-in-Piece-clause-taken
+returns-in_ok-push-in-Piece-clause-taken g c =
+    let left = g.R.Read.remaining in
+    subst (λ (p : Part _). Tells left p
+    → TakesPart left p c.args.levels.now c.add.new.self c.args.reports.now c.push.new.self)
+    (sym c.in-Piece.is)
+    (piece_taken left c.in-Piece.offset c.in-Piece.from c.args.levels.now c.add.new.self c.in_ok-notes-in-Piece.field-0.notes
+    c.in_ok-notes-in-Piece.field-0.report c.args.reports.now c.push.new.self
+    c.in_ok-notes-in-Piece.ensures.notes c.in_ok-notes-in-Piece.ensures.report c.in_ok-add-in-Piece.ensures
+    c.in_ok-push-in-Piece.ensures)
+
+pub returns-in_ok-add-in-Saved-clause-taken : goal.returns-in_ok-add-in-Saved-clause-taken
+returns-in_ok-add-in-Saved-clause-taken g c =
+    let left = g.R.Read.remaining in
+    let reports = c.args.reports.now in
+    subst (λ (p : Part _). Tells left p
+    → TakesPart left p c.args.levels.now c.add-in-Saved.new.self reports reports) (sym c.in-Saved.is)
+    (saved_taken left c.in-Saved.from c.args.levels.now c.add-in-Saved.new.self c.in_ok-saved-in-Saved.saved reports
+    c.in_ok-saved-in-Saved.ensures.saved c.in_ok-add-in-Saved.ensures)

@@ -1,0 +1,168 @@
+//! Gathering the parts of a run: pieces and saved catalogues.
+ghost use Rattle.std.specs.Prelude.{◌≡◌, ◌<◌, ◌≤◌, ℕ, List, [], length, take, IfOk, IfErr, IfSome, OnOk};
+ghost use Rattle.mxf_klv.specs.Parts.{NoteParts};
+ghost use Rattle.mxf_klv.specs.PieceReading.{notes_in};
+ghost use Rattle.mxf_catalogue.specs.Content.{reduced_union};
+ghost use Rattle.mxf_catalogue.specs.CatalogueFile.{IsRefused};
+ghost use Rattle.mxf_views.specs.Headline.{IsTheRun};
+ghost use Rattle.mxf_read.specs.Absorbs.{report_of};
+ghost use Rattle.std.specs.List.{AllByRecursion};
+ghost use Rattle.mxf_read.specs.Gathering.{AllTell, HandedBy, HasFault, IsGatherFault, IsGood, IsLeftBy};
+ghost use Rattle.mxf_read.specs.Gathering.{IsOfAnyPart, IsSavedAs, IsSavedFault, TakesPart, Tells, piece_limit, reports_of, saved_limit};
+
+mod fault;
+mod levels;
+mod part;
+mod reading;
+mod report;
+
+use crate::absorbing::absorb_from;
+use crate::report::Report;
+use crate::ticks::ReadTicks;
+pub use fault::{GatherFault, PartFault};
+use levels::Levels;
+use mxf_catalogue::{Catalogue, FileFault};
+use mxf_klv::OutOfMemory;
+use mxf_views::Views;
+pub use part::Part;
+use reading::read_up_to;
+pub use report::{PieceReport, PieceReports};
+use std::alloc::Global;
+use std::io::Read;
+
+/// The greatest number of bytes that is read of one piece.
+const GREATEST_PIECE: u64 = 1_099_511_627_776;
+
+/// The greatest number of bytes of the file of a catalogue.
+const GREATEST_SAVED: u64 = 1_073_741_824;
+
+/// The views of what the parts of a run hold together, and what was noted of each piece, in their order.
+#[derive(Debug, Drop)]
+pub struct Gathered {
+    pub views: Views,
+    pub reports: PieceReports,
+}
+
+/// The notes of a piece, and what is reported of it.
+#[derive(Debug, Drop)]
+struct PieceNotes {
+    notes: Catalogue,
+    report: Report,
+}
+
+/// Notes the packets of the piece that a reader gives.
+fn read_piece<R: Read>(alloc: Global, offset: u64, from: &mut R) -> Result<PieceNotes, PartFault>
+    ensures report { IfOk result (λ p. IfSome (R.remaining from.old) (λ all.
+        p.report ≡ report_of offset (take piece_limit all))) }
+    ensures notes { IfOk result (λ p. IfSome (R.remaining from.old) (λ all.
+        p.notes ≡ reduced_union [] (notes_in offset (take piece_limit all)))) }
+    ensures fault { IfErr result IsOfAnyPart }
+{
+    let mut views = Views::new(alloc);
+    let mut ticks = ReadTicks::new();
+    let report = absorb_from(alloc, &mut views, offset, from, GREATEST_PIECE, &mut ticks)?;
+    Ok(PieceNotes {
+        notes: views.into_catalogue(),
+        report,
+    })
+}
+
+/// What the fault of a file is for its part.
+fn saved_fault(fault: FileFault) -> PartFault
+    ensures { (bytes : List ℕ) → length bytes ≤ saved_limit → IsRefused bytes fault → IsSavedFault bytes result }
+{
+    match fault {
+        FileFault::OutOfMemory => PartFault::OutOfMemory,
+        other => PartFault::Catalogue(other),
+    }
+}
+
+/// The catalogue of the file that a reader gives.
+fn read_saved<R: Read>(alloc: Global, from: &mut R) -> Result<Catalogue, PartFault>
+    ensures saved { IfOk result (λ notes. IfSome (R.remaining from.old) (λ all. IsSavedAs all notes)) }
+    ensures fault { IfErr result (λ f. IfSome (R.remaining from.old) (λ all. IsSavedFault all f)) }
+{
+    let bytes = read_up_to(alloc, from, GREATEST_SAVED + 1)?;
+    if bytes.len() as u64 > GREATEST_SAVED {
+        return Err(PartFault::TooLong);
+    }
+    match Catalogue::read(alloc, &bytes) {
+        Ok(saved) => Ok(saved),
+        Err(fault) => Err(saved_fault(fault)),
+    }
+}
+
+/// Takes one part: its notes, and the report of a piece.
+fn take_part<R: Read + Drop>(
+    alloc: Global,
+    levels: &mut Levels,
+    reports: &mut PieceReports,
+    part: Part<R>,
+) -> Result<(), PartFault>
+    ensures taken { Tells R.remaining part
+        → OnOk result (TakesPart R.remaining part levels.old levels.new reports.old reports.new) }
+    ensures fault { Tells R.remaining part → IfErr result (λ f. HasFault R.remaining f part) }
+{
+    match part {
+        Part::Piece { offset, mut from } => {
+            let PieceNotes { notes, report } = read_piece(alloc, offset, &mut from)?;
+            levels.add(notes)?;
+            reports.push(PieceReport { offset, report })?;
+        }
+        Part::Saved { mut from } => {
+            let saved = read_saved(alloc, &mut from)?;
+            levels.add(saved)?;
+        }
+    }
+    Ok(())
+}
+
+/// What all parts hold together. Of each piece 1,099,511,627,776 bytes are read at most; the file of a catalogue has
+/// 1,073,741,824 bytes at most.
+///
+/// Whatever the order, the repeats and the joins of the parts, the notes are exactly those that the parts hand: any
+/// calls that were handed the same notes hold the same and write the same bytes. Each view is its function of the
+/// notes. The disputed notes are those that share a byte with a different one. Where the notes are those of a
+/// well-formed whole file, the views of partitions, copies and indexes are those of reading it from the front.
+///
+/// The first part that is at fault ends the run. The parts are dropped in every case.
+pub fn gather<R: Read + Drop>(alloc: Global, parts: Vec<Part<R>>) -> Result<Gathered, GatherFault>
+    ensures run { AllTell R.remaining parts.items
+        → IfOk result (λ g. IsTheRun (HandedBy R.remaining parts.items) g.views) }
+    ensures history { AllTell R.remaining parts.items
+        → IfOk result (λ g. IsLeftBy R.remaining parts.items g.views) }
+    ensures reports { AllTell R.remaining parts.items
+        → IfOk result (λ g. g.reports ≡ reports_of R.remaining parts.items) }
+    ensures good { AllTell R.remaining parts.items
+        → IfOk result (λ _. AllByRecursion (IsGood R.remaining) parts.items) }
+    ensures fault { AllTell R.remaining parts.items → IfErr result (IsGatherFault R.remaining parts.items) }
+
+    // Whatever the readers tell, a fault has the number of a part.
+    ensures number { IfErr result (λ f. f.part < length parts.items) }
+{
+    let mut levels = Levels::new(alloc);
+    let mut reports = PieceReports::new(alloc);
+    let mut number: usize = 0;
+    'parts: for part in parts {
+        if let Err(fault) = take_part(alloc, &mut levels, &mut reports, part) {
+            return Err(GatherFault {
+                part: number,
+                fault,
+            });
+        }
+        number += 1;
+    }
+    if number == 0 {
+        return Ok(Gathered {
+            views: Views::new(alloc),
+            reports,
+        });
+    }
+    match levels.into_views(alloc) {
+        Ok(views) => Ok(Gathered { views, reports }),
+        Err(OutOfMemory) => Err(GatherFault {
+            part: number - 1,
+            fault: PartFault::OutOfMemory,
+        }),
+    }
+}

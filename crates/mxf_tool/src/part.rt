@@ -1,0 +1,16 @@
+//! The parts that sources name.
+ghost use Rattle.std.specs.Prelude.{◌≡◌};
+ghost use Rattle.mxf_tool.specs.Sources.{part_of, source_parts};
+
+use crate::source::Source;
+use mxf_read::Part;
+
+/// The part that a source names, by a reader of its file.
+pub fn part_of<R>(source: &Source<'_>, from: R) -> Part<R>
+    ensures { result ≡ part_of (source_parts source.now) from }
+{
+    match *source {
+        Source::Piece { offset, .. } => Part::Piece { offset, from },
+        Source::Saved { .. } => Part::Saved { from },
+    }
+}

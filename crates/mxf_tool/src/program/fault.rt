@@ -1,0 +1,99 @@
+//! Why a run ends without its answer.
+ghost use Rattle.std.specs.Prelude.{◌≡◌};
+ghost use Rattle.mxf_tool.specs.Exits.{exit_of_fault, exit_of_run};
+
+use crate::exit::Exit;
+use crate::saving::SaveFault;
+use crate::system_fault::SystemFault;
+use mxf_read::PartFault;
+use thiserror::Error;
+
+/// Why a run ends without its answer. It prints as the line that tells it.
+#[derive(Debug, Drop, Error)]
+pub enum RunFault<'a> {
+    /// Memory is wanting.
+    #[error("out of memory")]
+    OutOfMemory,
+    /// A number has a sign.
+    #[error("error: invalid value '{text}' for '--{option} <N>': a number has digits alone")]
+    Signed {
+        option: &'a str,
+        text: &'a str,
+    },
+    /// A word, or a line of a list, names no source.
+    #[error("bad source: {word}")]
+    BadSource {
+        word: &'a str,
+    },
+    /// The list names no source, and no word does.
+    #[error("error: no source is named")]
+    NoSource,
+    /// A line of a list isn't UTF-8.
+    #[error("error: line {number} of {path} is not UTF-8")]
+    BadLine {
+        number: usize,
+        path: &'a str,
+    },
+    /// No catalogue is saved there.
+    #[error("bad output: {path}")]
+    BadOutput {
+        path: &'a str,
+    },
+    /// The edit unit is above the greatest.
+    #[error("bad unit")]
+    BadUnit,
+    /// A source or a list couldn't be opened or read, as the system says.
+    #[error("read fault: {path}")]
+    Unread {
+        path: &'a str,
+        cause: Option<SystemFault>,
+    },
+    /// The file of a catalogue was refused or is too long.
+    #[error("catalogue fault: {path}: {fault}")]
+    BadCatalogue {
+        path: &'a str,
+        fault: PartFault,
+    },
+    /// The answer couldn't be written to standard output, as the system says.
+    #[error("write fault")]
+    Unwritten {
+        cause: Option<SystemFault>,
+    },
+    /// The catalogue couldn't be saved.
+    #[error("write fault")]
+    Unsaved {
+        path: &'a str,
+        fault: SaveFault,
+    },
+}
+
+impl RunFault<'_> {
+    /// How the run ends.
+    pub fn exit(&self) -> Exit
+        ensures { result ≡ exit_of_run self.now }
+    {
+        match self {
+            RunFault::OutOfMemory => Exit::NoMemory,
+            RunFault::Signed { .. }
+            | RunFault::BadSource { .. }
+            | RunFault::NoSource
+            | RunFault::BadLine { .. }
+            | RunFault::BadOutput { .. }
+            | RunFault::BadUnit => Exit::Usage,
+            RunFault::Unread { .. } => Exit::Unread,
+            RunFault::BadCatalogue { .. } => Exit::Refused,
+            RunFault::Unwritten { .. } | RunFault::Unsaved { .. } => Exit::Unwritten,
+        }
+    }
+
+    /// The fault of the part at the path, of a read as the system says.
+    pub fn of_part<'a>(path: &'a str, fault: PartFault, cause: Option<SystemFault>) -> RunFault<'a>
+        ensures { exit_of_run result ≡ exit_of_fault fault }
+    {
+        match fault {
+            PartFault::OutOfMemory => RunFault::OutOfMemory,
+            PartFault::ReadFault => RunFault::Unread { path, cause },
+            PartFault::TooLong | PartFault::Catalogue(_) => RunFault::BadCatalogue { path, fault },
+        }
+    }
+}

@@ -1,0 +1,97 @@
+//! What to do about a fault, told in a second line where standard error is a terminal.
+use super::fault::RunFault;
+use crate::beginning::Beginning;
+use crate::saving::SaveFault;
+use crate::system_fault::{SystemFault, TOO_MANY_FILES};
+use std::fmt;
+
+/// What to do about a fault. Of a file that is refused as a catalogue it is known what it begins with.
+#[derive(Clone, Copy)]
+pub struct Hint<'f, 'a> {
+    pub fault: &'f RunFault<'a>,
+    pub beginning: Option<Beginning>,
+}
+
+impl fmt::Display for Hint<'_, '_> {
+    fn fmt<W: fmt::Write>(&self, f: &mut fmt::Formatter<W>) -> fmt::Result {
+        f.write_str("hint: ")?;
+        match self.fault {
+            RunFault::OutOfMemory => f.write_str(
+                "join fewer sources at once, and then the catalogues of these joins",
+            ),
+            RunFault::Signed { .. } => f.write_str("write the number without a sign"),
+            RunFault::BadSource { .. } => f.write_str(
+                "a source is at:OFFSET:PATH, with OFFSET in decimal digits alone, or cat:PATH",
+            ),
+            RunFault::NoSource => f.write_str("name a source as a word, or in a line of the list"),
+            RunFault::BadLine { .. } => f.write_str("a line of a list is a source in UTF-8"),
+            RunFault::BadOutput { path } => write!(
+                f,
+                "{path} is standard output, or a recording, which a catalogue would replace: name another file"
+            ),
+            RunFault::BadUnit => f.write_str("the greatest edit unit is 9223372036854775807"),
+            RunFault::Unread { path, cause } => write_cause(f, *path, *cause),
+            RunFault::BadCatalogue { path, .. } => write_form(f, *path, self.beginning),
+            RunFault::Unwritten { cause } => write_cause(f, "standard output", *cause),
+            RunFault::Unsaved { path, fault } => write_unsaved(f, *path, fault),
+        }
+    }
+}
+
+/// Writes the path and what the system says of it.
+fn write_cause<W: fmt::Write>(
+    f: &mut fmt::Formatter<W>,
+    path: &str,
+    cause: Option<SystemFault>,
+) -> fmt::Result {
+    match cause {
+        Some(TOO_MANY_FILES) => write!(
+            f,
+            "{path}: {TOO_MANY_FILES}: all sources are open at once; join them in groups, a file each, and then these files; or raise the limit by ulimit -n"
+        ),
+        Some(cause) => write!(f, "{path}: {cause}"),
+        None => write!(f, "{path}: the system gives no cause"),
+    }
+}
+
+/// Writes what the file that was refused as a catalogue looks like.
+fn write_form<W: fmt::Write>(
+    f: &mut fmt::Formatter<W>,
+    path: &str,
+    beginning: Option<Beginning>,
+) -> fmt::Result {
+    match beginning {
+        Some(Beginning::Label) => write!(
+            f,
+            "{path} looks like a piece of a recording: name it at:OFFSET:{path}"
+        ),
+        Some(Beginning::Catalogue) => write!(
+            f,
+            "{path} begins as a catalogue: it was damaged or cut, or a newer program wrote it"
+        ),
+        Some(Beginning::Other) => write!(f, "{path} is no catalogue that join wrote"),
+        None => write!(
+            f,
+            "{path} is no regular file, and gave no catalogue that join wrote"
+        ),
+    }
+}
+
+/// Writes why a catalogue wasn't saved.
+fn write_unsaved<W: fmt::Write>(
+    f: &mut fmt::Formatter<W>,
+    path: &str,
+    fault: &SaveFault,
+) -> fmt::Result {
+    match fault {
+        SaveFault::Held(part) => {
+            let part = part.as_str();
+            write!(
+                f,
+                "another join holds {part} and writes this catalogue: run this one again when it has ended; where none runs, remove that file"
+            )
+        }
+        SaveFault::Write(cause) => write_cause(f, path, *cause),
+        SaveFault::OutOfMemory => f.write_str("memory is wanting"),
+    }
+}

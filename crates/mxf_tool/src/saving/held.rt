@@ -1,0 +1,126 @@
+//! The place of a catalogue, held from before the sources are read until it is saved.
+ghost use Rattle.std.specs.Prelude.{IfOk};
+ghost use Rattle.std.specs.Io.KnownBytes.{Appends};
+ghost use Rattle.mxf_catalogue.specs.CatalogueFile.{file_bytes};
+
+use super::SaveFault;
+use super::attributes::permissions_of;
+use super::kept::Kept;
+use super::part::PartFile;
+use super::place::Place;
+use crate::system_fault::LastFault;
+use mxf_catalogue::Catalogue;
+use mxf_klv::Encode;
+use std::alloc::Global;
+use std::fs::{File, Metadata, OpenOptions};
+use std::io::{self, BufWriter, ErrorKind, Write};
+use std::path::PathBuf;
+use std::rt::Files;
+
+/// The place of a catalogue, which no other join takes meanwhile.
+#[derive(Drop)]
+pub enum Held<'a, R: Files<File = File>> {
+    /// A regular file, or nothing yet: the file beside is to take its place.
+    File(HeldFile<'a, R>),
+    /// A terminal, a pipe or a device takes the bytes as they come.
+    Stream(&'a str),
+}
+
+/// The place of a regular file.
+#[derive(Drop)]
+pub struct HeldFile<'a, R: Files<File = File>> {
+    path: PathBuf,
+    before: Option<Metadata>,
+    part: PartFile<'a, R>,
+    folder: File,
+}
+
+impl<'a, R: Files<File = File> + AllocGlobal> Held<'a, R> {
+    /// Holds the place at `path`. A regular file there stays as it is until the catalogue is saved.
+    pub fn take(rt: &'a R, path: &'a str) -> Result<Held<'a, R>, SaveFault> {
+        match Place::of(rt, path)? {
+            Place::Stream => Ok(Held::Stream(path)),
+            Place::File { path, before } => {
+                let folder = folder_of(rt, &path)?;
+                let part = PartFile::create(rt, &path, before.is_some())?;
+                Ok(Held::File(HeldFile {
+                    path,
+                    before,
+                    part,
+                    folder,
+                }))
+            }
+        }
+    }
+
+    /// Saves the file of the catalogue. A regular file, or none, is replaced by it whole and stays so after a loss of power; at
+    /// a fault before that it is as it was. Anything else takes the bytes as they come.
+    ///
+    /// No file is open any more when it answers, so that a line told afterwards can't go into one.
+    pub fn save(self, rt: &R, catalogue: &Catalogue) -> Result<(), SaveFault> {
+        match self {
+            Held::File(held) => held.save(rt.alloc(), catalogue),
+            Held::Stream(path) => {
+                let file = OpenOptions::new().write(true).open(rt, path)?;
+                write_whole(rt.alloc(), file, catalogue)?;
+                Ok(())
+            }
+        }
+    }
+}
+
+impl<R: Files<File = File> + AllocGlobal> HeldFile<'_, R> {
+    /// Writes the file beside and puts it in its place. All of it has reached the disk then.
+    fn save(self, alloc: Global, catalogue: &Catalogue) -> Result<(), SaveFault> {
+        let HeldFile {
+            path,
+            before,
+            mut part,
+            folder,
+        } = self;
+        let file = part.file();
+        if let Some(before) = &before {
+            file.set_permissions(permissions_of(before, &file.metadata()?))?;
+        }
+        write_whole(alloc, file, catalogue)?;
+        file.sync_all()?;
+        part.rename(&path)?;
+        Ok(sync_folder(&folder)?)
+    }
+}
+
+/// The folder of the file at the path, opened.
+fn folder_of<R: Files<File = File>>(rt: &R, path: &PathBuf) -> io::Result<File> {
+    let folder = match path.parent() {
+        Some(folder) if !folder.as_os_str().is_empty() => folder.as_os_str(),
+        _ => ".",
+    };
+    File::open(rt, folder)
+}
+
+/// Has the disk keep the new name of a file in the folder. Some file systems can't be asked, and keep it by themselves.
+fn sync_folder(folder: &File) -> io::Result<()> {
+    match folder.sync_all() {
+        Err(fault) if fault.kind() != ErrorKind::InvalidInput => Err(fault),
+        _ => Ok(()),
+    }
+}
+
+/// Writes the file of the catalogue through a buffer, and hands the writer back.
+fn write_whole<W: Write + Drop>(
+    alloc: Global,
+    writer: W,
+    catalogue: &Catalogue,
+) -> Result<W, SaveFault>
+    ensures { IfOk result (λ w. Appends (W.contents writer) (W.contents w) (file_bytes catalogue.now)) }
+{
+    let last = LastFault::new();
+    let mut out = BufWriter::new(alloc, Kept::new(writer, &last))?;
+    if catalogue.write_to(&mut out).is_err() || out.flush().is_err() {
+        return Err(SaveFault::Write(last.get()));
+    }
+    match out.into_inner() {
+        Ok(kept) => Ok(kept.into_inner()),
+        Err(_) => Err(SaveFault::Write(last.get())),
+    }
+}
