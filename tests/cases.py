@@ -22,8 +22,8 @@ A case is some lines of a text file in tests/cases. A number sign begins a comme
         LINE
     status N                           the status of the command above, where it isn't 0
 
-In a LINE `..` stands for any text, and a `$` at its end shows a space there. packets.py says how a PACKET is named. Each
-command is run on the pieces, and then on the catalogue that `join` saves of them: that prints the same without the lines
+In a LINE `..` stands for any text, `<U+0080>` for that character, and a `$` at its end shows a space there. packets.py says
+how a PACKET is named. Each command is run on the pieces, and then on the catalogue that `join` saves of them: that prints the same without the lines
 of pieces. The catalogue itself has to be the file of the packets that were laid, and of the heads of those that are cut,
 byte by byte (notes.py).
 """
@@ -46,6 +46,11 @@ COMMANDS = ("show", "check", "locate", "join")
 def fits(form, line):
     """Whether the line is the form, in which `..` stands for any text."""
     return re.fullmatch(re.escape(form).replace(r"\.\.", ".*"), line) is not None
+
+
+def with_characters(line):
+    """The line with the characters that it names by their numbers."""
+    return re.sub(r"<U\+([0-9A-F]{4,6})>", lambda number: chr(int(number[1], 16)), line)
 
 
 class Command:
@@ -147,7 +152,7 @@ def case_of(name, lines, files):
             if indented and takes_packets:
                 case.lay(text, files)
             elif indented:
-                case.commands[-1].lines.append(text.removesuffix("$"))
+                case.commands[-1].lines.append(with_characters(text.removesuffix("$")))
             elif text == "in each order":
                 case.in_each_order = True
             elif word == "at":

@@ -2,9 +2,12 @@
 """Looks up each link of the documents: the file is there, and has the heading that the link names. Looks up each test and
 case that is named: `crate::module::test`, `cases/TOPIC: NAME` or `end_to_end.d/TOPIC: NAME`. Where a link is to a source and
 names a function or a type, that is there, and the function has the clauses that stand in parentheses behind the link. Sees
-that each row of a table stands in a table, which an empty line would end. Only failures are printed; the last line is
-'N passed, M failed'.
+that each row of a table stands in a table, which an empty line would end, and that the numbers of tests, edits, runs and
+files that a document gives are those of the scripts and crates. Looks up in docs/MODEL.md each definition that a clause of a
+public function of the libraries cites, and compares the table of docs/LAYERS.md with crates.txt. Only failures are printed;
+the last line is 'N passed, M failed'.
 """
+import ast
 import itertools
 import pathlib
 import re
@@ -13,6 +16,10 @@ import sys
 TOP = pathlib.Path(__file__).resolve().parent.parent
 LINK = re.compile(r"\[[^\]]*\]\(([^)\s]+)\)")
 CONTRACT = re.compile(r"\[`([\w:]+)`\]\(([^)\s]+\.rt)\)(?: \(((?:`\w+`,? ?)+))?")
+LIBRARIES = ("mxf_klv", "mxf_sets", "mxf_catalogue", "mxf_views", "mxf_read", "mxf_lines")
+IMPORT = re.compile(r"^ghost use Rattle\.(mxf_\w+)\.specs\.(\w+)\.\{([^}]*)\};", re.MULTILINE)
+# Modules of small files alone, of which docs/MODEL.md names the file.
+EXAMPLES = re.compile(r"Worked\w+|RefusedFiles")
 NAMED = re.compile(r"`(mxf_\w+(?:::\w+)+|(?:cases|end_to_end\.d)/\w+: [^`]+)`")
 
 
@@ -104,7 +111,132 @@ def verdicts_of_tables(document):
             rows = []
 
 
-VERDICTS = (verdicts_of_links, verdicts_of_contracts, verdicts_of_names, verdicts_of_tables)
+def exported_by(crate):
+    """The names that a library passes on."""
+    passed_on = re.findall(r"^pub use ([^;]*);", text_of(TOP / "crates" / crate / "src/lib.rt"), re.MULTILINE)
+    return set(re.findall(r"\w+", " ".join(passed_on)))
+
+
+def clauses_of(text, exported):
+    """The clauses of the public functions of a source, one text a function: of those that are passed on by their names or
+    by those of their types."""
+    lines, owner = iter(text.splitlines()), None
+    for line in lines:
+        if line.startswith("impl"):
+            owner = re.search(r"(\w+)(?:<[^>]*>)?$", line.split(" where")[0].removesuffix(" {"))
+        begin = re.match(r"( *)pub fn (\w+)", line)
+        name = begin and (owner and owner[1] if begin[1] else begin[2])
+        clauses = []
+        while name in exported and not line.endswith(" {") and line.strip() not in ("{", "{}"):
+            line = next(lines)
+            clauses.append(line)
+        yield "\n".join(clauses)
+
+
+def cited_in(source, exported):
+    """The definitions that the public clauses of a source cite: the file of each, and its name."""
+    text = text_of(source)
+    words = set(re.findall(r"\w+", " ".join(clauses_of(text, exported))))
+    for crate, module, names in IMPORT.findall(text):
+        for name in re.findall(r"\w+", names):
+            if name in words:
+                yield f"crates/{crate}/specs/{module}.antt", name
+
+
+def has_entry(model, file, name):
+    """Whether the text has the name of a definition, or that of its relation or record: a test and a maker have that in
+    small letters. Of small files it has the file."""
+    if EXAMPLES.fullmatch(pathlib.Path(file).stem):
+        return f"(../{file})" in model
+    return f"`{name}`" in model or f"`{name.title().replace('_', '')}`" in model
+
+
+def verdicts_of_definitions(document):
+    """For each definition that a public clause of the libraries cites: that docs/MODEL.md hasn't its name, or None."""
+    if document.name != "MODEL.md":
+        return
+    cited = set()
+    for crate in LIBRARIES:
+        for source in (TOP / "crates" / crate / "src").rglob("*.rt"):
+            cited.update(cited_in(source, exported_by(crate)))
+    for file, name in sorted(cited):
+        yield 1, f"{name} of {file}", None if has_entry(text_of(document), file, name) else "no such definition"
+
+
+def crates():
+    """What each crate of crates.txt stands on."""
+    rows = (line.split(":") for line in text_of(TOP / "crates.txt").splitlines() if ":" in line)
+    return {name.strip(): set(below.split()) for name, below in rows}
+
+
+def verdicts_of_layers(document):
+    """For each row of crates of docs/LAYERS.md: its line, its crates, and how it differs from crates.txt, or None. The
+    table names each crate."""
+    if document.name != "LAYERS.md":
+        return
+    known, told = crates(), set()
+    for number, line in enumerate(lines_of(document), 1):
+        named = re.findall(r"\[(mxf_\w+)\]\(\.\./crates/", line.split(" | ")[0]) if line.startswith("| [") else []
+        if named:
+            told.update(named)
+            stated = set(re.findall(r"\w+", line.split(" | ")[2].replace("the libraries", " ".join(LIBRARIES))))
+            below = set().union(*(known.get(name, set()) for name in named))
+            yield number, ", ".join(named), None if stated == below else f"crates.txt differs in {sorted(stated ^ below)}"
+    yield 1, "the table of crates", None if told == set(known) else f"crates.txt differs in {sorted(told ^ set(known))}"
+
+
+def length_of(script, name):
+    """How many entries the list or table of this name has in a Python script."""
+    for node in ast.parse(text_of(TOP / script)).body:
+        if isinstance(node, ast.Assign) and getattr(node.targets[0], "id", None) == name:
+            return len(getattr(node.value, "elts", None) or node.value.keys)
+    return None
+
+
+def number_in(script, pattern):
+    """The number that the pattern finds in a script."""
+    found = re.search(pattern, text_of(TOP / script))
+    return found and int(found[1])
+
+
+def tests_of(crate):
+    """How many tests a crate has."""
+    return sum(file.read_text(encoding="utf-8").count("#[test]") for file in (TOP / "crates" / crate / "src").rglob("*.rt"))
+
+
+def edits_of(crate):
+    """How many edits of a crate the gate tries."""
+    return len(list((TOP / "crates" / crate / "must-fail").glob("*.edit")))
+
+
+# Where a document gives a number that a script or a crate has: the document, how the number stands there, and what it is. A
+# name of a crate that is found is handed on.
+NUMBERS = (
+    ("docs/PROMISES.md", r"()(\d+) small runs", lambda _: length_of("tests/refusals", "RUNS")),
+    ("docs/PROMISES.md", r"()the same (\d+) runs", lambda _: length_of("tests/refusals", "RUNS")),
+    ("docs/PROMISES.md", r"()in (\d+) of them each byte", lambda _: length_of("tests/refusals", "BYTEWISE")),
+    ("docs/PROMISES.md", r"()(\d+) tests of mxf_refusals", lambda _: tests_of("mxf_refusals")),
+    ("docs/PROMISES.md", r"()(\d+) files in tests/all", lambda _: number_in("tests/hostile.py", r'\["(\d+)", "0"\]')),
+    ("docs/PROMISES.md", r"()(\d[\d,]*) in tests/long", lambda _: number_in("tests/long", r"\{1:-(\d+)\}")),
+    ("docs/PROMISES.md", r"()each of (\d+) shapes", lambda _: length_of("tests/hostile_files.py", "MANY")),
+    ("CONTRIBUTING.md", r"^\| (mxf_\w+) \|.*\((\d+) tests?\)", tests_of),
+    ("CONTRIBUTING.md", r"^\| (mxf_\w+) \|.*\((\d+) edits?\)", edits_of),
+)
+
+
+def verdicts_of_numbers(document):
+    """For each number of the document that a script or a crate has: its line, the words, and that it isn't that, or None."""
+    for name, pattern, count in NUMBERS:
+        for number, line in enumerate(lines_of(document) if document == TOP / name else (), 1):
+            for found in re.finditer(pattern, line):
+                there = count(found[1])
+                yield number, found[0][-80:], None if int(found[2].replace(",", "")) == there else f"it's {there}"
+
+
+VERDICTS = (
+    verdicts_of_links, verdicts_of_contracts, verdicts_of_names, verdicts_of_tables, verdicts_of_definitions,
+    verdicts_of_layers, verdicts_of_numbers,
+)  # fmt: skip
 
 
 def main():

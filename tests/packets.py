@@ -114,7 +114,10 @@ def rip_value(entries, stated, width):
 
 
 def segment_value(stated):
-    """The value of an index table segment. `-` leaves an item out; `entries=` are stream offsets, without slices."""
+    """The value of an index table segment. `-` leaves an item out; `entries=` are stream offsets. Behind each stand four
+    bytes 09 for each slice, and eight bytes 08 for each position table."""
+    slices, positions = (int(stated.get(name, "0").replace("-", "0")) for name in ("slices", "positions"))
+    after = bytes([9] * 4 * slices + [8] * 8 * positions)
     fields = []
     for name, tag, size, default in SEGMENT:
         value = stated.pop(name, default)
@@ -123,8 +126,8 @@ def segment_value(stated):
             fields += item(tag, numbers)
     if "entries" in stated:
         offsets = stated.pop("entries").split(",")
-        entries = b"".join(bytes(3) + number(offset, 8) for offset in offsets)
-        fields += item("3F0A", number(str(len(offsets)), 4) + number("11", 4) + entries)
+        entries = b"".join(bytes(3) + number(offset, 8) + after for offset in offsets)
+        fields += item("3F0A", number(str(len(offsets)), 4) + number(str(11 + len(after)), 4) + entries)
     return fields
 
 

@@ -1,5 +1,5 @@
 // Refuses calls of the program that this library is loaded ahead of. REFUSED_CALL says which: growth (of memory), read,
-// write, open, sync, or rename (fchmod too). Refused is the one whose number, counted from 1, is in REFUSED_AT, or that one
+// write, open, lock, permissions, sync or rename. Refused is the one whose number, counted from 1, is in REFUSED_AT, or that one
 // and all later ones where it is in REFUSED_FROM; the first ones, as interrupted, up to the number in INTERRUPTED. Of
 // byte-read and byte-written the byte of that number and all later ones can't be moved, standard error aside. Where
 // REFUSED_LOG names a descriptor, a byte is written to it for each. ONE_BYTE has each read and write move one byte at most.
@@ -10,6 +10,7 @@
 #include <stdarg.h>
 #include <stdlib.h>
 #include <string.h>
+#include <sys/file.h>
 #include <sys/syscall.h>
 #include <unistd.h>
 
@@ -82,4 +83,6 @@ int fdatasync(int file) { return is_refused("sync", EIO) ? -1 : (int)syscall(SYS
 
 int rename(const char *old, const char *new) { return is_refused("rename", EIO) ? -1 : (int)syscall(SYS_rename, old, new); }
 
-int fchmod(int file, mode_t mode) { return is_refused("rename", EPERM) ? -1 : (int)syscall(SYS_fchmod, file, mode); }
+int fchmod(int file, mode_t mode) { return is_refused("permissions", EPERM) ? -1 : (int)syscall(SYS_fchmod, file, mode); }
+
+int flock(int file, int how) { return is_refused("lock", ENOLCK) ? -1 : (int)syscall(SYS_flock, file, how); }

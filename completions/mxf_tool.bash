@@ -1,0 +1,62 @@
+# Completion of mxf_tool for bash: its commands and options, and the two forms of a source with the paths behind them.
+# shellcheck shell=bash
+
+# _mxf_tool_paths PREFIX PATH: completes the path, behind the prefix. Readline completes what stands behind the last of the
+# characters at which it breaks words, of which the colon is one; so the words that are answered begin there.
+_mxf_tool_paths() {
+  local path
+  while IFS= read -r path; do
+    if [ -d "$path" ]; then
+      COMPREPLY+=("$1$path/")
+    else
+      COMPREPLY+=("$1$path")
+    fi
+  done < <(compgen -f -- "$2")
+  compopt -o nospace -o filenames 2>/dev/null || true
+}
+
+_mxf_tool() {
+  local line=${COMP_LINE:0:COMP_POINT} word before command='' one
+  # The words as the shell sees them, where a colon breaks none.
+  local -a words
+  read -ra words <<<"$line"
+  case $line in
+    *[[:space:]]) word='' before=${words[-1]} ;;
+    *) word=${words[-1]} before=${words[-2]-} ;;
+  esac
+  for one in "${words[@]:1}"; do
+    case $one in show | check | locate | join | help) command=$one && break ;; esac
+  done
+  [ "$command" != "$word" ] || command=''
+  COMPREPLY=()
+  case $before in
+    --out | --sources) _mxf_tool_paths '' "$word" && return ;;
+    --index | --unit) return ;;
+  esac
+  # What stands before the last colon is no part of the word that readline replaces.
+  local behind=''
+  case $COMP_WORDBREAKS in *:*) ;; *) behind=${word%:*}: ;; esac
+  case $word in
+    cat:* | at:*:*)
+      case $word in
+        at:*) local path=${word#at:*:} ;;
+        *) local path=${word#cat:} ;;
+      esac
+      _mxf_tool_paths "${behind:+${word%"$path"}}" "$path"
+      return
+      ;;
+    at:*) return ;;
+  esac
+  local options='--help'
+  case $command in
+    '') options='show check locate join help --help --version' ;;
+    help) options='show check locate join' ;;
+    show | check) options='at: cat: --sources --help' ;;
+    locate) options='at: cat: --index --unit --sources --help' ;;
+    join) options='at: cat: --out --strict --sources --help' ;;
+  esac
+  mapfile -t COMPREPLY < <(compgen -W "$options" -- "$word")
+  case ${COMPREPLY[0]-} in at: | cat:) compopt -o nospace 2>/dev/null ;; esac
+}
+
+complete -F _mxf_tool mxf_tool

@@ -1,0 +1,298 @@
+"""Hostile files, made from a seed each. A shape is a function that makes the pieces of one: each an offset and bytes; a
+saved catalogue has None for an offset. A shape of many alike takes how many there are, so that it can be made twice as
+large.
+"""
+import pathlib
+import random
+
+import notes
+import packets
+
+TOP = pathlib.Path(__file__).resolve().parent.parent
+GREATEST = 2**64 - 1
+STARTS = (0, 1, 17, 2**32 - 1, 2**32, 2**62, notes.GREATEST_END - 4096, notes.GREATEST_END - 17, notes.GREATEST_END - 16)
+EDGES = (0, 1, 2, 16, 127, 128, 255, 256, 65535, 65536, 2**24 - 1, 2**31, 2**32 - 1, 2**32, 2**63 - 1, 2**63, GREATEST)
+COUNTS = (0, 1, 2, 3, 2**16, 2**28, 2**32 // 18, 2**31, 2**32 - 2, 2**32 - 1)
+SIZES = (0, 1, 11, 12, 16, 17, 18, 2**31, 2**32 - 1)
+TAGS = ("3C0A", "3B03", "3B06", "1901", "3C09", "3C01", "4401", "4402", "4403", "3F0A", "3F0B", "3F0C", "3F05", "FFFF", "0000")
+SETS = ("preface", "identification", "content-storage", "material-package", "source-package", "raw-set")
+
+
+def laid(lines):
+    """The bytes of the packets of these lines, from offset 0 on."""
+    data = bytearray()
+    for line in lines:
+        data += packets.bytes_of(packets.packet(line, len(data)))
+    return bytes(data)
+
+
+def batch(count, size, items=b""):
+    """A batch that states this count and size, whatever its items, as digits."""
+    return (count.to_bytes(4, "big") + size.to_bytes(4, "big") + items).hex()
+
+
+def some_bytes(rng, most):
+    return rng.randbytes(rng.randint(0, most))
+
+
+def uid(number):
+    """An identifier, as digits."""
+    return f"{number:032x}"
+
+
+def spelled_lengths(rng):
+    """Packets whose lengths lie at the edges, spelled in each width, true or not."""
+    data = b""
+    for _ in range(rng.randint(1, 12)):
+        key = packets.digits(rng.choice(list(packets.KEYS.values())))
+        value = some_bytes(rng, 40)
+        width = rng.randint(1, 9)
+        length = len(value) if rng.random() < 0.8 else rng.choice(EDGES)
+        length %= 128 if width == 1 else 256 ** (width - 1)
+        first = bytes([rng.choice((0x80, 0x89, 0xFF))])
+        data += key + (packets.length_field(width, length) if rng.random() < 0.95 else first) + value
+    return [(rng.choice(STARTS), data)]
+
+
+def counts(rng, many=None):
+    """Batches of no items, of wrong sizes, and of counts near 2^32."""
+    lines = []
+    for _ in range(many or rng.randint(1, 10)):
+        stated = batch(rng.choice(COUNTS), rng.choice(SIZES), some_bytes(rng, 60))
+        lines += [
+            rng.choice([
+                f"primer value={stated}",
+                f"header value={'00' * 80}{stated}",
+                f"header header-bytes=400 count={rng.choice(COUNTS)} labels=AA*{16 * rng.randint(1, 3)}",
+                f"preface 3C0A={uid(1)} 3B03={uid(2)} 3B06={stated}",
+                f"content-storage 3C0A={uid(2)} 1901={stated}",
+                f"segment value=3F0C00080000000000000000{item('3F0A', stated)}",
+                f"rip value={stated}",
+            ])
+        ]
+    return [(0, laid(lines))]
+
+
+def item(tag, value):
+    """An item of a local set, as digits."""
+    return f"{tag}{len(value) // 2:04x}{value}"
+
+
+def items(rng, many=None):
+    """Sets whose items are cut, repeated, empty, or as long as can be."""
+    lines = ["header header-bytes=100000", "primer"]
+    for _ in range(many or rng.randint(1, 12)):
+        value = b""
+        for _ in range(rng.randint(0, 8)):
+            length = rng.choice((0, 1, 2, 8, 16, 24))
+            stated = length if rng.random() < 0.9 else rng.choice((0, 65535, 32768))
+            value += bytes.fromhex(rng.choice(TAGS)) + stated.to_bytes(2, "big") + rng.randbytes(length)
+        if rng.random() < 0.05:
+            value += b"\x44\x02\xff\xff" + bytes(65535)
+        lines.append(f"{rng.choice(SETS + ('segment',))} value={value.hex() or '00*0'}")
+    return [(0, laid(lines))]
+
+
+def packs_that_name(rng, many=None):
+    """Partition packs that name themselves, one another in circles, and the farthest places."""
+    many = many or rng.randint(1, 60)
+    places = [108 * number for number in range(many)] + [GREATEST, 2**63, 2**63 - 1, 107]
+    lines = []
+    for number in range(many):
+        own = 108 * number
+        named = [own if rng.random() < 0.4 else rng.choice(places) for _ in range(3)]
+        numbers = f"this={named[0]} previous={named[1]} footer={named[2]}"
+        zone = rng.choice((0, 1, 108, 10**6, GREATEST))
+        lines.append(f"{rng.choice(('header', 'body', 'footer'))} {numbers} header-bytes={zone} index-bytes={zone}")
+    entries = [f"{rng.randint(0, 2)}:{rng.choice(places)}" for _ in range(many or rng.randint(0, 80))]
+    return [(0, laid(lines + [f"rip {' '.join(entries)}"]))]
+
+
+def circles(rng, many=None):
+    """Sets that refer to themselves and one another, several of one identifier among them."""
+    pool = rng.randint(1, 6)
+    lines = []
+    for name in ["preface", "content-storage"] + [rng.choice(SETS) for _ in range(many or rng.randint(0, 30))]:
+        refs = b"".join(bytes.fromhex(uid(rng.randint(1, pool))) for _ in range(rng.randint(0, 12)))
+        many = batch(len(refs) // 16, 16, refs)
+        lines.append(
+            f"{name} 3C0A={uid(rng.randint(1, pool))} 3B03={uid(rng.randint(1, pool))} 3B06={many} 1901={many} 4403={many}"
+        )
+    rng.shuffle(lines)
+    size = len(laid(["primer"] + lines))
+    return [(0, laid([f"header header-bytes={size}", "primer"] + lines))]
+
+
+def zones(rng, many=None):
+    """Copies of the header metadata whose zones lie over one another, and past the end."""
+    lines = []
+    for number in range(many or rng.choice((rng.randint(2, 30), 3000))):
+        lines += [f"{'body' if number else 'header'} header-bytes={rng.choice((46, 106, 500, 3000, 10**5, 2**63, GREATEST))}"]
+        lines += ["fill 20"] * rng.randint(0, 2) + ["primer"] * rng.randint(0, 2)
+        lines += [f"preface 3C0A={uid(number)} 3B03={uid(9)}"] * rng.randint(0, 2) + ["raw-set"] * rng.randint(0, 3)
+    return [(0, laid(lines))]
+
+
+def copies(rng, many=None):
+    """Many copies of the header metadata."""
+    many = many or rng.choice((10, 1000, 8000))
+    lines = [f"{'body' if n else 'header'} header-bytes=106;primer;preface 3C0A={uid(1)} 3B03={uid(2)}" for n in range(many)]
+    return [(0, laid(";".join(lines).split(";")))]
+
+
+def random_indexes(rng, many=None):
+    """Many random index packs."""
+    many = many or rng.choice((2, 100, 8000))
+    return [(0, laid(["header"] + ["essence 0"] * many + [f"rip 0:0 {rng.randint(0, 3)}:{108 * n}" for n in range(many)]))]
+
+
+def segments_of_a_unit(rng, many=None):
+    """Many index table segments that give one unit a place, the same or another."""
+    many = many or rng.choice((2, 50, 3000))
+    sizes = [1] if rng.random() < 0.5 else [1, 2, 2**32 - 1]
+    lines = []
+    for _ in range(many):
+        start = rng.choice((0, 0, 1, 2**63 - 1))
+        lines.append(f"segment unit-bytes={rng.choice(sizes)} start={start} duration={rng.choice((0, 1, 2**63 - 1))}")
+    return [(0, laid(lines))]
+
+
+def long_primer(rng, many=None):
+    """A primer pack of many entries, some of one tag, and a set of many items: the longest value that is kept, at times."""
+    sizes = ((3, 3), (60, 60), (30000, 16000), (1, 60000), (233016, 16000))
+    many, few = (many, many) if many else rng.choice(sizes)
+    entries = b"".join(rng.randint(0, 2 * many % 65536).to_bytes(2, "big") + b"\xAB" * 16 for _ in range(many))
+    fields = b"".join(rng.randint(0, 2 * many % 65536).to_bytes(2, "big") + b"\0\0" for _ in range(few))
+    primer = f"primer value={batch(many, 18, entries)}"
+    return [(0, laid(["header header-bytes=10000000", primer, f"raw-set value={fields.hex()}"]))]
+
+
+def long_batches(rng, many=None):
+    """Many references in one batch, found, missing or of several sets."""
+    many = many or rng.choice((10, 200, 4000))
+    refs = batch(many, 16, b"".join(bytes.fromhex(uid(rng.randint(3, 60))) for _ in range(many)))
+    lines = [f"preface 3C0A={uid(1)} 3B03={uid(2)} 3B06={refs}", f"content-storage 3C0A={uid(2)} 1901={refs}"]
+    lines += [f"{rng.choice(SETS[1:])} 3C0A={uid(rng.randint(3, 40))}" for _ in range(rng.choice((rng.randint(0, 60), many)))]
+    size = len(laid(["primer"] + lines))
+    return [(0, laid([f"header header-bytes={size}", "primer"] + lines))]
+
+
+def disputes(rng, many=None):
+    """Packets over one another, and one over all others, first or last."""
+    pieces = [(rng.randint(0, 300), laid([rng.choice(("header", "fill 30", "essence 100", "primer", "rip 0:0"))])) for _ in range(rng.randint(2, 10))]
+    row = (0, laid(["essence 0 width=1"] * (many or rng.choice((1, 40, 4096)))))
+    over = (8, laid([f"essence {len(row[1])}"]))
+    return rng.sample(pieces + [row, over], len(pieces) + 2)
+
+
+def many_packets(rng, many=None):
+    """Thousands of the smallest packets."""
+    return [(rng.choice(STARTS[:6]), laid([rng.choice(("fill", "essence")) + " 0 width=1"] * (many or rng.choice((1000, 20000)))))]
+
+
+def some_key(rng):
+    """The key of a packet of some kind."""
+    return packets.digits(rng.choice(list(packets.KEYS.values())))
+
+
+def some_head(rng, most):
+    """A head at some offset up to `most`, that claims few bytes, many, or all up to the greatest end."""
+    offset, width = rng.choice((rng.randint(0, most), rng.choice(STARTS[:6]))), rng.randint(1, 9)
+    room = min(notes.GREATEST_END - offset - 16 - width, 127 if width == 1 else 256 ** (width - 1) - 1)
+    return notes.head(offset, some_key(rng), width, rng.choice((0, 1, rng.randint(0, min(room, most)), room)))
+
+
+def saved_heads(rng, many=None):
+    """Saved heads over one another, up to thousands of them, packets among them, and pieces that hold some of these."""
+    many = many or rng.choice((2, 40, 5000))
+    heads = [some_head(rng, 100 * many) for _ in range(many)]
+    values = [(rng.randint(0, 100 * many), some_key(rng), some_bytes(rng, 60)) for _ in range(rng.randint(0, 20))]
+    wholes = [notes.whole(offset, key, 4, value) for offset, key, value in values]
+    files = [(None, notes.file_of(rng.sample(heads + wholes, rng.randint(1, many)))) for _ in range(rng.randint(1, 3))]
+    pieces = [(offset, key + packets.length_field(4, len(value)) + value) for offset, key, value in values]
+    return files + [(offset, data[: rng.randint(20, len(data))]) for offset, data in pieces] + rng.sample(pieces, len(pieces) // 2)
+
+
+def under_one_another(rng, many=None):
+    """Saved heads that all claim the bytes up to the greatest end, each from a place of its own on."""
+    many, step = many or rng.choice((3, 3000)), rng.choice((1, 17, 25, 1000))
+    key = some_key(rng)
+    heads = [notes.head(step * number, key, 9, notes.GREATEST_END - 25 - step * number) for number in range(many)]
+    part = rng.randint(0, many)
+    return [(None, notes.file_of(heads[:part] + heads[part // 2 : part])), (None, notes.file_of(heads[part:]))]
+
+
+def fronts_of_packets(rng):
+    """Fronts of packets, of other readings of them, and some of them whole, in any order."""
+    pieces = []
+    for _ in range(rng.randint(1, 6)):
+        offset = rng.choice((0, 0, 50, rng.randint(0, 200), notes.GREATEST_END - 4096))
+        for _ in range(rng.randint(1, 3)):
+            value = some_bytes(rng, 200)
+            packet = some_key(rng) + packets.length_field(rng.choice((2, 4, 4, 9)), len(value)) + value
+            pieces += [(offset, packet[: rng.randint(0, len(packet))]) for _ in range(rng.randint(1, 4))]
+            pieces += [(offset, packet)] * rng.randint(0, 1)
+    return rng.sample(pieces, len(pieces))
+
+
+def noise(rng):
+    """Labels, and bytes without a meaning behind them."""
+    parts = [bytes.fromhex("060E2B34") + some_bytes(rng, 60) for _ in range(rng.randint(1, 10))]
+    return [(rng.choice(STARTS), b"".join(parts))]
+
+
+def mutated_bytes(rng, data):
+    """The bytes with some changed, put in, taken out, or doubled; mostly few, so that most of the file stays."""
+    data = bytearray(data)
+    for _ in range(rng.choice((1, 1, 2, 5, 20))):
+        at, size = rng.randrange(len(data) or 1), rng.choice((1, 1, 4, 16, 100))
+        change = rng.randrange(5)
+        if change == 0:
+            data[at : at + size] = rng.randbytes(size)
+        elif change == 1:
+            data[at:at] = rng.randbytes(size)
+        elif change == 2:
+            del data[at : at + size]
+        elif change == 3:
+            data[at:at] = data[at : at + 10 * size]
+        else:
+            data[at : at + 1] = bytes([rng.choice((0, 1, 0x7F, 0x80, 0x83, 0x88, 0xFF))])
+    return bytes(data)
+
+
+def real_files():
+    """The worked files and the examples, which other programs wrote."""
+    paths = [*sorted((TOP / "tests/worked").glob("*.bin")), *sorted((TOP / "examples").glob("*.mxf"))]
+    return [path.read_bytes() for path in paths]
+
+
+def mutated(rng):
+    """A real file, damaged."""
+    return [(0, mutated_bytes(rng, rng.choice(real_files())))]
+
+
+def two_readings(rng):
+    """A real file and a damaged reading of it, or of another, at the same place."""
+    data = rng.choice(real_files())
+    return [(0, data), (rng.choice((0, 0, 0, 1, 108)), mutated_bytes(rng, data if rng.random() < 0.8 else rng.choice(real_files())))]
+
+
+SHAPES = (
+    spelled_lengths, counts, items, packs_that_name, circles, zones, copies, random_indexes, segments_of_a_unit, long_primer,
+    long_batches, disputes, many_packets, noise, mutated, mutated, mutated, two_readings, saved_heads, under_one_another,
+    fronts_of_packets,
+)  # fmt: skip
+
+
+def pieces_of(number):
+    """The pieces of the file of this number, each an offset and bytes; a saved catalogue has None for an offset."""
+    rng = random.Random(number)
+    return SHAPES[number % len(SHAPES)](rng)
+
+# How many alike a shape has, where it is compared with itself doubled: as many as tell a square from n log n, and no more
+# than one value has room for.
+MANY = {
+    counts: 10000, items: 5000, packs_that_name: 10000, circles: 5000, zones: 5000, copies: 5000,
+    random_indexes: 10000, segments_of_a_unit: 10000, long_primer: 32000, long_batches: 2000, disputes: 20000,
+    many_packets: 40000, saved_heads: 10000, under_one_another: 10000,
+}  # fmt: skip

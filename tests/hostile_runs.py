@@ -1,0 +1,270 @@
+"""Runs of the program on hostile files, and what each has to print by notes.py."""
+import math
+import os
+import pathlib
+import random
+import re
+import subprocess
+import time
+
+import notes
+from hostile_files import mutated_bytes, pieces_of
+
+MEBIBYTE = 2**20
+
+
+def read_source(offset, data):
+    """The notes of a piece or of a saved catalogue, and what is printed of the piece: how many packets, and its stop."""
+    if offset is None:
+        return notes.read_file(data)[0], None
+    found, heads, stop = notes.read_piece(offset, data)
+    return found + heads, (offset, len(found), stop)
+
+
+def seconds_for(size):
+    """The bound of processor time of a run on so many bytes."""
+    return 0.5 + 4e-7 * size * math.log2(size + 2)
+
+
+def memory_for(size):
+    """The bound of address space of a run on so many bytes."""
+    return 8 * MEBIBYTE + 40 * size
+
+
+class Wrong(Exception):
+    """What is wrong with a run."""
+
+
+class Run:
+    """Runs of the program on sources in a folder of their own."""
+
+    def __init__(self, program, folder):
+        self.program = program
+        self.folder = pathlib.Path(folder)
+        self.runs = 0
+        self.fronts = 0
+        self.slowest = 0.0
+        self.ratio = 0.0
+
+    def figures(self):
+        """How many runs there were, of how many fronts and cuts; the greatest share of a bound, and the greatest ratio."""
+        return self.runs, self.fronts, self.slowest, self.ratio
+
+    def lay(self, name, pieces):
+        """Lays pieces down, and tells their sources."""
+        sources = []
+        for number, (offset, data) in enumerate(pieces):
+            path = self.folder / f"{name}{number}"
+            path.write_bytes(data)
+            sources.append(f"cat:{path}" if offset is None else f"at:{offset}:{path}")
+        return sources
+
+    def call(self, statuses, size, *words):
+        """Runs the program within its bounds, and tells what it printed. `size` bytes are in its sources.
+
+        Where the machine is busy a run takes more processor time too, so one that takes too much is run again.
+        """
+        for wait in (1, 2, 4, 8, 0):
+            printed, seconds = self.call_once(statuses, size, *words)
+            if seconds <= seconds_for(size):
+                break
+            time.sleep(wait)
+        self.slowest = max(self.slowest, seconds / seconds_for(size))
+        if seconds > seconds_for(size):
+            raise Wrong(f"{words[0]}: {seconds:.2f} s of processor time for {size} bytes")
+        return printed
+
+    def call_once(self, statuses, size, *words):
+        """The same: what it printed, and its processor time."""
+        out, err = self.folder / "out", self.folder / "err"
+        limited = ["prlimit", f"--as={memory_for(size)}", self.program, *words]
+        with out.open("wb") as to, err.open("wb") as told:
+            child = subprocess.Popen(limited, stdin=subprocess.DEVNULL, stdout=to, stderr=told)
+            _, status, used = os.wait4(child.pid, 0)
+        child.returncode = os.waitstatus_to_exitcode(status)
+        self.runs += 1
+        seconds = used.ru_utime + used.ru_stime
+        said = err.read_text(errors="replace")
+        if child.returncode not in statuses:
+            raise Wrong(f"{words[0]}: status {child.returncode}: {said[:200]}")
+        if (said != "") != (child.returncode == 4):
+            raise Wrong(f"{words[0]}: on standard error: {said[:200]}")
+        return out.read_text(), seconds
+
+    def joined(self, size, sources):
+        """The catalogue that is saved of these sources, and the line that tells of it."""
+        path = self.folder / "joined"
+        line = self.call((0,), size, "join", "--out", str(path), *sources)
+        return path.read_bytes(), line
+
+    def saved(self, name, size, sources):
+        """The source of the catalogue that is saved of these sources."""
+        path = self.folder / name
+        path.write_bytes(self.joined(size, sources)[0])
+        return f"cat:{path}"
+
+
+def cut_at_packets(rng, offset, data):
+    """A piece, cut at some of its packets; or a saved catalogue, its notes in two."""
+    found, printed = read_source(offset, data)
+    if printed is None:
+        part = rng.sample(found, rng.randint(0, len(found)))
+        return [(None, notes.file_of(part)), (None, notes.file_of(set(found) - set(part)))]
+    places = [note.offset for note in found if note.is_whole]
+    borders = sorted(rng.sample(places, min(len(places), rng.randint(0, 5))) + [offset, offset + len(data)])
+    return [(start, data[start - offset : end - offset]) for start, end in zip(borders, borders[1:])]
+
+
+def other_order(rng, pieces):
+    """The same packets in pieces that are cut at packets, some of them twice, with fronts of them, in another order.
+
+    A front leaves no more than its piece: the packet that it cuts is there whole, or is cut there too.
+    """
+    cut = [part for piece in pieces for part in cut_at_packets(rng, *piece)]
+    cut += [piece for piece in cut if rng.random() < 0.3]
+    cut += [(at, data[: rng.randint(0, len(data))]) for at, data in cut if at is not None and rng.random() < 0.3]
+    rng.shuffle(cut)
+    return cut
+
+
+def without_kind(line):
+    """The line of a note, with `..` for its kind."""
+    return re.sub(r"^(note \d+) [a-z-]+ ", r"\1 .. ", line)
+
+
+def is_shown(lines, content):
+    """Whether these lines of `show`, from the first note on, are of these notes and of their gaps."""
+    wanted = [*notes.note_lines(content), *notes.gap_lines(content)]
+    shown = [without_kind(line) for line in lines[: len(wanted)]]
+    return shown == wanted and not any(line.startswith(("note ", "gap ")) for line in lines[len(wanted) :])
+
+
+def finds(checked, content):
+    """Whether the findings of `check` have these notes' disputes and gaps."""
+    found = [line.split(" ")[:2] for line in checked]
+    touching = {offset for code, offset in found if code in ("F01", "F02")}
+    wanted = {str(content[at].offset) for at in notes.disputed(content)}
+    return touching == wanted and [offset for code, offset in found if code == "F03"] == [str(gap[0]) for gap in notes.gaps(content)]
+
+
+def try_pieces(run, rng, pieces):
+    """Asks everything of the pieces. The answer is what they hold together."""
+    size = sum(len(data) for _, data in pieces)
+    sources = run.lay("piece", pieces)
+    read = [read_source(*piece) for piece in pieces]
+    printed = [line for _, line in read if line is not None]
+    content = notes.reduced(note for found, _ in read for note in found)
+    wanted = notes.file_of(content)
+    joined = f"joined {len(content)} notes {len(notes.disputed(content))} disputed\n"
+    if run.joined(size, sources) != (wanted, joined):
+        raise Wrong("the saved catalogue isn't the file of the packets")
+    told = [f"piece {offset} noted {count} stop {stop}" for offset, count, stop in printed]
+    shown = run.call((0,), size, "show", *sources).splitlines()
+    if shown[: len(told)] != told:
+        raise Wrong("the lines of the pieces aren't those of their packets")
+    if not is_shown(shown[len(told) :], content):
+        raise Wrong("the lines of notes and gaps aren't those of the packets")
+    saved = run.folder / "saved"
+    saved.write_bytes(wanted)
+    if run.call((0,), len(wanted), "show", f"cat:{saved}").splitlines() != shown[len(told) :]:
+        raise Wrong("the saved catalogue isn't shown as its pieces are")
+    checked = run.call((0, 1), size, "check", *sources).splitlines()
+    stops = [f"stop {offset} {stop}" for offset, _, stop in printed if stop != "end"]
+    if checked[: len(stops)] != stops or checked[-1] != f"findings {len(checked) - len(stops) - 1}":
+        raise Wrong("the lines of a check aren't the stops, the findings and their number")
+    if not finds(checked[len(stops) : -1], content):
+        raise Wrong("the findings aren't those of the packets' disputes and gaps")
+    place = ["--index", str(rng.choice((0, 1, 2**32 - 1))), "--unit", str(rng.choice((0, 1, 2**63 - 1)))]
+    if len(run.call((0, 1), size, "locate", *place, *sources).splitlines()) != 1:
+        raise Wrong("a place isn't one line")
+    try_other_order(run, rng, pieces, wanted)
+    return content
+
+
+def try_other_order(run, rng, pieces, wanted):
+    """Joins the same in another order, a part of it saved at times: the catalogue has to be the one that is wanted."""
+    size = 4 * sum(len(data) for _, data in pieces) + len(wanted)
+    others = run.lay("other", other_order(rng, pieces))
+    if rng.random() < 0.3 and len(others) > 1:
+        others[0] = run.saved("part", size, others[:1])
+    if run.joined(size, others or ["at:0:/dev/null"])[0] != wanted:
+        raise Wrong("in another order the catalogue is another")
+
+
+def disordered(rng, content, version=notes.CURRENT):
+    """The file of these notes where something is put in, exchanged or stated that may not be there: a mark too, which
+    version 1 doesn't have."""
+    content, mark = list(content), None
+    at = rng.randrange(len(content) or 1)
+    change = rng.randrange(6)
+    if change == 0:
+        content[at:at] = [note.head for note in content[at : at + 1]]
+    elif change == 1:
+        content[at + 1 : at + 1] = [note.head for note in content[at : at + 1]]
+    elif change == 2:
+        content[at : at + 2] = content[at : at + 2][::-1]
+    elif change == 3:
+        content[at:at] = content[at : at + 1]
+    elif change == 4:
+        mark = rng.choice((1, 2, 255))
+    count = len(content) + (rng.choice((-1, 1)) if change == 5 else 0)
+    saved = [bytearray(note.saved(version)) for note in content]
+    if mark is not None and saved:
+        saved[at][33:34] = bytes([mark])
+    return notes.file_start(count % 2**64, version) + b"".join(saved)
+
+
+def of_both_versions(rng, content, version):
+    """The file of these notes, of this version, with another byte eight, or with a note, or all from it on, as the other
+    version saves them."""
+    other, change = 3 - version, rng.randrange(3)
+    at = rng.randrange(len(content) or 1)
+    until = at + 1 if change == 0 else len(content)
+    saved = [note.saved(other if change < 2 and at <= number < until else version) for number, note in enumerate(content)]
+    stated = rng.choice((other, other, 0, 3, 255)) if change == 2 else version
+    return notes.file_start(len(content), stated) + b"".join(saved)
+
+
+def damaged(rng, content, version=notes.CURRENT):
+    """The file of these notes, disordered or with other bytes."""
+    return disordered(rng, content, version) if rng.random() < 0.5 else mutated_bytes(rng, notes.file_of(content, version))
+
+
+def try_file(run, file):
+    """Asks for a catalogue that may be damaged: it is shown, or refused with its cause."""
+    path = run.folder / "damaged"
+    path.write_bytes(file)
+    found, fault = notes.read_file(file)
+    said = run.call((0 if fault is None else 4,), len(file), "show", f"cat:{path}")
+    told = (run.folder / "err").read_text(errors="replace")
+    if fault is None and not is_shown(said.splitlines(), found):
+        raise Wrong("a damaged catalogue isn't shown by its notes")
+    if fault is not None and (said, told) != ("", f"catalogue fault: {path}: {fault}\n"):
+        raise Wrong(f"a damaged catalogue isn't refused with '{fault}': {told[:200]}")
+
+
+def try_older(run, rng, content):
+    """Has some of the whole notes saved by version 1 of the file: they are shown, and joined with the others in any order."""
+    whole = [note for note in content if note.is_whole]
+    older = notes.file_of(rng.sample(whole, rng.randint(0, len(whole))), 1)
+    found, _ = notes.read_file(older)
+    known = set(found)
+    others = notes.file_of(note for note in content if note not in known or rng.random() < 0.3)
+    sources = run.lay("older", [(None, older), (None, others)])
+    shown = run.call((0,), len(older), "show", sources[0]).splitlines()
+    if not is_shown(shown, found):
+        raise Wrong("a catalogue of version 1 isn't shown by its notes")
+    rng.shuffle(sources)
+    if run.joined(len(older) + len(others), sources)[0] != notes.file_of(content):
+        raise Wrong("joined with a catalogue of version 1 they leave another catalogue")
+    try_file(run, damaged(rng, whole, 1))
+    version = rng.choice((1, notes.CURRENT))
+    try_file(run, of_both_versions(rng, whole if version == 1 else content, version))
+
+
+def try_number(run, number):
+    """Tries the file of a number."""
+    rng = random.Random(f"asked of {number}")
+    content = try_pieces(run, rng, pieces_of(number))
+    try_file(run, damaged(rng, content))
+    try_older(run, random.Random(f"version 1 of {number}"), content)
