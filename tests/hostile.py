@@ -34,8 +34,8 @@ from hostile_runs import Run, Wrong, finds, is_shown, read_source, try_file, try
 
 # The greatest ratio of two times, one of twice as many: n log n at these sizes is below 2.2, a square is 4.
 GREATEST_RATIO = 2.5
-# Seconds of processor time within which a ratio says nothing.
-NOISE = 0.02
+# Seconds of processor time that a busy machine adds to a run: a ratio doesn't count them.
+NOISE = 0.05
 
 
 def fronts_of(data, step):
@@ -117,7 +117,7 @@ def try_doubled(run, shape, many, seed):
             for name, seconds in seconds_of(run, sources, size).items():
                 times[name] = min(seconds, times.get(name, seconds))
         once, twice = least
-        run.ratio = max(twice[name] / max(once[name], NOISE) for name in once)
+        run.ratio = max((twice[name] - NOISE) / once[name] for name in once)
         if run.ratio <= GREATEST_RATIO:
             return
     raise Wrong(f"{many} and twice as many take {once} and {twice}")
