@@ -18,7 +18,7 @@ some_where None P v none wanted = absurd (none wanted)
 some_where (Some x) P v some wanted = refl
 
 -- all bytes have come
-all_came : (v : ComingValue) (m : List ℕ) → v.left ≡ 0 → HasTaken v m → length m ≡ v.ber.value
+pub all_came : (v : ComingValue) (m : List ℕ) → v.left ≡ 0 → HasTaken v m → length m ≡ v.ber.value
 all_came v m none taken = omega (arith, none, taken.counted)
 
 -- a note can be made of it, where what is held is as the key and the length ask for

@@ -20,7 +20,7 @@ use Rattle.mxf_read.specs.declared.gathering.part.Part.TheVariants.{Piece, Saved
 use Rattle.mxf_read.specs.declared.gathering.report.PieceReport.{PieceReport}
 use Rattle.mxf_read.specs.declared.gathering.fault.PartFault.{PartFault}
 use Rattle.mxf_read.specs.declared.gathering.fault.PartFault.TheVariants.{OutOfMemory}
-use Rattle.mxf_read.specs.Levels.{Adds, HoldsAll, all_merged, merged_with}
+use Rattle.mxf_read.specs.Levels.{Adds, HoldsAll, merged_with}
 use Rattle.mxf_read.specs.Gathering.{AllTell, Gathers, HandedBy, HasFault, IsGatherFault, IsGood, IsLeftBy}
 use Rattle.mxf_read.proofs.Taking.{slice_get_at}
 use Rattle.mxf_read.specs.Gathering.{TakesPart, Tells, bytes_of, piece_of, reports_in, reports_of}
@@ -182,17 +182,6 @@ module _ {R : Type 0} (left : R → Option (List ℕ)) where
       (subst (Waits (front ++ merged_with back notes ∷ [])) all
       (waits_both front (merged_with back notes ∷ []) rs (ts ++ qs) v last))
 
-  all_left : (notes : List NoteParts) (levels : List (List NoteParts)) (ps qs : List (Part R)) → IsLeftBy left ps notes
-      → Waits levels qs → IsLeftBy left (ps ++ qs) (all_merged notes levels)
-  all_left notes [] ps qs i e =
-      subst (λ (t : List (Part R)). IsLeftBy left t notes)
-      (sym (ap (λ (t : List (Part R)). ps ++ t) e ∙ append-nil ps)) i
-  all_left notes (level ∷ levels) ps qs i (rs, ts, e, h, w) =
-      let all : (ps ++ rs) ++ ts ≡ ps ++ qs =
-      append_assoc ps rs ts ∙ ap (λ (t : List (Part R)). ps ++ t) (sym e) in
-      subst (λ (t : List (Part R)). IsLeftBy left t (all_merged (reduced_union notes level) levels)) all
-      (all_left (reduced_union notes level) levels (ps ++ rs) ts (joined ps rs notes level i h) w)
-
   -- what parts leave is what the run holds
   run_left : (parts : List (Part R)) (views : List NoteParts) → IsLeftBy left parts views → IsCatalogue views
       → length views < 2 ^ 64 → IsTheRun (HandedBy left parts) views
@@ -261,8 +250,9 @@ module _ {R : Type 0} (left : R → Option (List ℕ)) where
       → length rest ≡ 0 → HoldsAll levels views → IsLeftBy left all views
   gathered_left all rest number levels reports views g none h =
       let is = all_done all rest number levels reports g none in
-      let whole : IsLeftBy left g.passed.done (all_merged [] levels) =
-      all_left [] levels [] g.passed.done (New, refl, refl) g.waits in
+      let whole : IsLeftBy left g.passed.done (merged_with levels []) =
+      subst (λ (ps : List (Part R)). IsLeftBy left ps (merged_with levels [])) (append-nil g.passed.done)
+      (merged_left levels [] g.passed.done [] g.waits (New, refl, refl)) in
       subst (λ (ps : List (Part R)). IsLeftBy left ps views) is (subst (IsLeftBy left g.passed.done) (sym h.merged) whole)
 
   pub gathered_run : (all rest : List (Part R)) (number : ℕ) (levels : List (List NoteParts))

@@ -1,8 +1,8 @@
 -- Catalogues that wait to be merged: what adding one leaves, in balance, and what merging all does.
-use Rattle.std.proofs.Common.{◌≡◌, ◌<◌, ◌^◌, List, [], ◌∷◌, ◌++◌, length, refl, sym, ap, ◌∙◌, append_assoc}
+use Rattle.std.proofs.Common.{◌≡◌, List, [], ◌∷◌, ◌++◌, length, refl, sym, ap, ◌∙◌, append_assoc}
 use Rattle.mxf_klv.specs.Parts.{NoteParts}
-use Rattle.mxf_catalogue.specs.Content.{IsCatalogue, reduced_union}
-use Rattle.mxf_read.specs.Levels.{Adds, AreBalanced, EndsAbove, HoldsAll, all_merged, merged_with}
+use Rattle.mxf_catalogue.specs.Content.{reduced_union}
+use Rattle.mxf_read.specs.Levels.{Adds, AreBalanced, EndsAbove, merged_with}
 
 pub balanced_front : (levels back : List (List NoteParts)) → AreBalanced (levels ++ back) → AreBalanced levels
 balanced_front [] back b = tt
@@ -43,20 +43,8 @@ pub adding_last : (merged notes : List NoteParts) (levels new old : List (List N
 adding_last merged notes levels new old h is =
     (levels, h.back, h.whole, is ∙ ap (λ (m : List NoteParts). levels ++ m ∷ []) h.is)
 
--- What the views hold, with what is left of the catalogues, is all of them merged.
-abbrev pub IsMerging : List (List NoteParts) → List NoteParts → List (List NoteParts) → Type 0
-IsMerging all views left = all_merged views left ≡ all_merged [] all
-
-pub merging_first : (all left : List (List NoteParts)) → left ≡ all → IsMerging all [] left
-merging_first all left is = ap (all_merged []) is
-
-pub merging_one : (all left rest : List (List NoteParts)) (views next notes : List NoteParts)
-    → IsMerging all views left → left ≡ notes ∷ rest → next ≡ reduced_union views notes → IsMerging all next rest
-merging_one all left rest views next notes m is e =
-    ap (λ (v : List NoteParts). all_merged v rest) e ∙ sym (ap (all_merged views) is) ∙ m
-
--- all are merged, into a catalogue that can be counted
-pub merging_last : (all left : List (List NoteParts)) (views : List NoteParts) → IsMerging all views left → left ≡ []
-    → IsCatalogue views → length views < 2 ^ 64 → HoldsAll all views
-merging_last all left views m is c fits =
-    record { merged = sym (ap (all_merged views) is) ∙ m; catalogue = c; fits = fits }
+-- all are merged
+pub adding_all : (merged : List NoteParts) (levels old : List (List NoteParts)) → IsAdding merged levels [] old
+    → levels ≡ [] → merged ≡ merged_with old []
+adding_all merged levels old h none =
+    h.is ∙ ap (λ (l : List (List NoteParts)). merged_with l []) (sym (h.whole ∙ ap (λ (l : List (List NoteParts)). l ++ h.back) none))

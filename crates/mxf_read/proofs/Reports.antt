@@ -59,7 +59,7 @@ end_at : (at : ℕ) → stop_of at [] ≡ End
 unfolding stop_of
 end_at at = refl
 
-nil_from : (xs : List ℕ) (n : ℕ) → n ≡ length xs → nat_eq n 0 ≡ true → xs ≡ []
+pub nil_from : (xs : List ℕ) (n : ℕ) → n ≡ length xs → nat_eq n 0 ≡ true → xs ≡ []
 nil_from [] n e t = refl
 nil_from (x ∷ xs) n e t = let zero_is : n ≡ 0 = eqb-true n 0 t in absurd (omega (arith, e, zero_is))
 

@@ -14,14 +14,9 @@ Adds old notes new =
     (front : List (List NoteParts)) × (back : List (List NoteParts)) × (old ≡ front ++ back)
     × (new ≡ front ++ merged_with back notes ∷ [])
 
--- What is left of contents that are merged one after another into a first one.
-abbrev pub all_merged : List NoteParts → List (List NoteParts) → List NoteParts
-all_merged notes [] = notes
-all_merged notes (level ∷ levels) = all_merged (reduced_union notes level) levels
-
 -- The notes are those of all contents merged, and a count of them fits.
 pub record HoldsAll (levels : List (List NoteParts)) (notes : List NoteParts) : Type 0 where
-  pub merged : notes ≡ all_merged [] levels
+  pub merged : notes ≡ merged_with levels []
   pub catalogue : IsCatalogue notes
   pub fits : length notes < 2 ^ 64
 

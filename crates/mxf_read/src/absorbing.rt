@@ -51,15 +51,51 @@ pub fn absorb(
     absorbed
 }
 
-/// Notes the packets of a piece that a reader gives, the first byte of which lies at a file offset, in bytes.
+/// The notes of a piece, and what is reported of it. Behind a fault the notes are those that it counts.
+#[derive(Debug, Drop)]
+pub struct PieceNotes {
+    pub notes: Catalogue,
+    pub outcome: Result<Report, AbsorbFault>,
+}
+
+/// The notes of the packets of a piece that a reader gives, the first byte of which lies at a file offset, in bytes, in a
+/// catalogue of their own.
 ///
 /// At most `limit` bytes are taken, and those are noted as [`absorb`] does, however they come. [`Stop::End`](mxf_klv::Stop)
 /// and [`Stop::Truncated`](mxf_klv::Stop) come only where the reader has ended or `limit` bytes were taken; behind any other
 /// stop nothing is read. It holds 65,536 bytes of the reader and one value that is kept; another is digested as it passes.
 ///
 /// Each read that it asks for is counted in `ticks`. An interrupted read is repeated, 1,024 times at most. Where a read
-/// fails the packets that are whole among the bytes taken were noted, and no head. Where memory is wanting the notes of the
-/// packets that the fault counts were added, and nothing else.
+/// fails the packets that are whole among the bytes taken were noted, and no head. Where memory is wanting the notes are
+/// those of the packets that the fault counts.
+pub fn notes_from<R: Read>(
+    alloc: Global,
+    offset: u64,
+    from: &mut R,
+    limit: u64,
+    ticks: &mut ReadTicks,
+) -> PieceNotes
+    ensures reads { ticks.new.count ≤ ticks.old.count + limit + 1026 }
+    ensures counts { ticks.old.count ≤ ticks.new.count }
+    ensures taken { AbsorbsFrom [] result.notes (R.remaining from.old) (R.remaining from.new) offset limit result.outcome }
+
+    // The same by the stream, however its bytes came.
+    ensures stream { IfOk result.outcome (λ report. IfSome (R.remaining from.old) (λ all.
+        Absorbs [] result.notes offset (take limit all) (Ok report))) }
+{
+    let mut piece = Piece::new(alloc, offset);
+    let outcome = fill(&mut piece, from, limit, ticks);
+    PieceNotes {
+        notes: piece.into_notes(),
+        outcome,
+    }
+}
+
+/// Notes the packets of a piece that a reader gives, the first byte of which lies at a file offset, in bytes.
+///
+/// The piece is read as [`notes_from`] does, and its notes are moved into the views at once, as those of [`absorb`] are.
+/// Where a read fails the packets that are whole among the bytes taken were noted, and no head. Where memory is wanting the
+/// notes of the packets that the fault counts were added, and nothing else.
 pub fn absorb_from<R: Read>(
     alloc: Global,
     views: &mut Views,
@@ -79,10 +115,9 @@ pub fn absorb_from<R: Read>(
     ensures stream { IfOk result (λ report. IfSome (R.remaining from.old) (λ all.
         Absorbs views.old views.new offset (take limit all) (Ok report))) }
 {
-    let mut piece = Piece::new(alloc, offset);
-    let absorbed = fill(&mut piece, from, limit, ticks);
-    merge_notes(views, offset, piece.into_notes())?;
-    absorbed
+    let PieceNotes { notes, outcome } = notes_from(alloc, offset, from, limit, ticks);
+    merge_notes(views, offset, notes)?;
+    outcome
 }
 
 /// Moves the notes of a piece at a file offset into the views. The only fault is want of memory, at the piece's offset,

@@ -1,5 +1,7 @@
 //! The value of a packet that comes in parts.
 ghost use Rattle.std.specs.Prelude.{◌≡◌, ◌+◌, ◌≤◌, ◌++◌, [], List, ℕ, length, IfOk, OnOk};
+ghost use Rattle.sha2.specs.Hashers.{Holds256};
+ghost use Rattle.sha2.specs.Sha256.{sha256};
 ghost use Rattle.mxf_klv.specs.Note.{greatest_end, keeps};
 ghost use Rattle.mxf_read.specs.Held.{came_of, is_whole};
 
@@ -91,9 +93,11 @@ impl ComingValue {
         Ok(())
     }
 
-    /// The note of the packet, the value of which has come whole.
-    pub(crate) fn into_note(self) -> Note
-        requires { self.left ≡ 0 }
+    /// The note of the packet, the value of which has come whole. The digest of no byte is at hand, as many packets have
+    /// no value.
+    pub(crate) fn into_note(self, of_nothing: [u8; 32]) -> Note
+        requires left { self.left ≡ 0 }
+        requires of_nothing { of_nothing ≡ sha256 [] }
         ensures { (m : List ℕ) → HasTaken self m
             → result ≡ note_of self.offset (packet_parts self.key self.ber.width m) }
     {
@@ -107,9 +111,21 @@ impl ComingValue {
         match held {
             Held::Whole(value) => Note::kept(offset, key, ber.width(), value).unwrap(),
             Held::Digest(hasher) => {
-                let digest = hasher.finalize();
+                let digest = digest_of(hasher, ber.value(), of_nothing);
                 Note::digested(offset, key, ber.width(), ber.value(), digest).unwrap()
             }
         }
+    }
+}
+
+/// The digest of a value of so many bytes, which the hasher has taken.
+fn digest_of(hasher: Sha256, count: u64, of_nothing: [u8; 32]) -> [u8; 32]
+    requires { of_nothing ≡ sha256 [] }
+    ensures { (m : List ℕ) → Holds256 hasher m → length m ≡ count → result ≡ sha256 m }
+{
+    if count == 0 {
+        of_nothing
+    } else {
+        hasher.finalize()
     }
 }

@@ -16,7 +16,7 @@ mod part;
 mod reading;
 mod report;
 
-use crate::absorbing::absorb_from;
+use crate::absorbing::{PieceNotes, notes_from};
 use crate::report::Report;
 use crate::ticks::ReadTicks;
 pub use fault::{GatherFault, PartFault};
@@ -43,28 +43,21 @@ pub struct Gathered {
     pub reports: PieceReports,
 }
 
-/// The notes of a piece, and what is reported of it.
-#[derive(Debug, Drop)]
-struct PieceNotes {
-    notes: Catalogue,
-    report: Report,
-}
-
-/// Notes the packets of the piece that a reader gives.
-fn read_piece<R: Read>(alloc: Global, offset: u64, from: &mut R) -> Result<PieceNotes, PartFault>
+/// The notes of the piece that a reader gives, and what is reported of it.
+fn read_piece<R: Read>(
+    alloc: Global,
+    offset: u64,
+    from: &mut R,
+) -> Result<(Catalogue, Report), PartFault>
     ensures report { IfOk result (λ p. IfSome (R.remaining from.old) (λ all.
-        p.report ≡ report_of offset (take piece_limit all))) }
+        p.1 ≡ report_of offset (take piece_limit all))) }
     ensures notes { IfOk result (λ p. IfSome (R.remaining from.old) (λ all.
-        p.notes ≡ reduced_union [] (notes_in offset (take piece_limit all)))) }
+        p.0 ≡ reduced_union [] (notes_in offset (take piece_limit all)))) }
     ensures fault { IfErr result IsOfAnyPart }
 {
-    let mut views = Views::new(alloc);
     let mut ticks = ReadTicks::new();
-    let report = absorb_from(alloc, &mut views, offset, from, GREATEST_PIECE, &mut ticks)?;
-    Ok(PieceNotes {
-        notes: views.into_catalogue(),
-        report,
-    })
+    let PieceNotes { notes, outcome } = notes_from(alloc, offset, from, GREATEST_PIECE, &mut ticks);
+    Ok((notes, outcome?))
 }
 
 /// What the fault of a file is for its part.
@@ -105,7 +98,7 @@ fn take_part<R: Read + Drop>(
 {
     match part {
         Part::Piece { offset, mut from } => {
-            let PieceNotes { notes, report } = read_piece(alloc, offset, &mut from)?;
+            let (notes, report) = read_piece(alloc, offset, &mut from)?;
             levels.add(notes)?;
             reports.push(PieceReport { offset, report })?;
         }

@@ -10,6 +10,9 @@
 //! says that the rest completes the piece; [`going_on_after_a_fault_completes_a_piece`] says it of what a reader gave.
 //! [`packets_of_a_piece_stand_apart`] says how the notes of a piece lie.
 //!
+//! [`notes_from`] makes a catalogue of the notes of a piece, where no views are wanted; [`absorb_from`] is that, and moves
+//! them into views.
+//!
 //! [`gather`] takes any number of pieces and saved catalogues, from readers: what they hold together is exactly what they hand,
 //! and a fault names the part that it is of.
 //!
@@ -44,8 +47,8 @@ mod report;
 mod ticks;
 
 pub use absorbing::{
-    absorb, absorb_from, going_on_after_a_fault_completes_a_piece, going_on_completes_a_piece,
-    packets_of_a_piece_stand_apart,
+    PieceNotes, absorb, absorb_from, going_on_after_a_fault_completes_a_piece,
+    going_on_completes_a_piece, notes_from, packets_of_a_piece_stand_apart,
 };
 pub use gathering::{GatherFault, Gathered, Part, PartFault, PieceReport, PieceReports, gather};
 pub use mxf_klv::Stop;

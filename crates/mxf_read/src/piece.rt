@@ -1,5 +1,6 @@
 //! A piece whose bytes come in parts.
 ghost use Rattle.std.specs.Prelude.{◌≡◌, ◌≤◌, ◌<◌, ◌++◌, ◌↔◌, [], List, ℕ, None, length, take, IfOk, IsTrue, OnOk, OnErr, is_some};
+ghost use Rattle.sha2.specs.Sha256.{sha256};
 ghost use Rattle.mxf_klv.specs.PieceReading.{IsOpen, heads_at, rest_in};
 ghost use Rattle.mxf_catalogue.specs.Content.{reduced_union};
 
@@ -7,6 +8,7 @@ use crate::coming::ComingValue;
 use crate::report::Report;
 use mxf_catalogue::Catalogue;
 use mxf_klv::{OutOfMemory, Stop, next_head};
+use sha2::{Digest, Sha256};
 use std::alloc::Global;
 
 /// The greatest number of bytes of a packet's key and length.
@@ -24,6 +26,10 @@ pub(crate) struct Piece {
     head: Vec<u8>,
     value: Option<ComingValue>,
     stop: Option<Stop>,
+    /// The digest of no byte.
+    of_nothing: [u8; 32],
+
+    ghost digested: { of_nothing ≡ sha256 [] },
 }
 
 impl Piece {
@@ -42,6 +48,7 @@ impl Piece {
             head: Vec::new(alloc),
             value: None,
             stop: None,
+            of_nothing: Sha256::digest(&[]),
         }
     }
 
@@ -139,8 +146,33 @@ impl Piece {
         }
     }
 
-    /// Takes bytes of the next packet's key and length, and says how many.
+    /// Takes bytes of the next packet's key and length, and says how many. Where they come whole, they are read where they
+    /// lie.
     fn take_head(&mut self, bytes: &[u8]) -> Result<usize, OutOfMemory>
+        requires fed { IsFed self.old }
+        requires goes_on { self.old.stop ≡ None }
+        requires head { self.old.value ≡ None }
+        requires more { 0 < length bytes.now }
+        ensures some { IfOk result (λ n. 0 < n) }
+        ensures room { IfOk result (λ n. n ≤ length bytes.now) }
+        ensures fed { IfOk result (λ n. Feeds self.old self.new (take n bytes.now)) }
+        ensures err { OnErr result (NotesNone self.old self.new) }
+    {
+        if !self.head.is_empty() {
+            return self.take_more_of_head(bytes);
+        }
+        match next_head(self.at, bytes) {
+            Ok((key, ber)) => {
+                let value = ComingValue::of(self.alloc, self.at, key, ber)?;
+                self.go_on(value)?;
+                Ok(16 + usize::from(ber.width()))
+            }
+            Err(_) => self.take_more_of_head(bytes),
+        }
+    }
+
+    /// Takes bytes of the next packet's key and length, behind those that came before, and says how many.
+    fn take_more_of_head(&mut self, bytes: &[u8]) -> Result<usize, OutOfMemory>
         requires fed { IsFed self.old }
         requires goes_on { self.old.stop ≡ None }
         requires head { self.old.value ≡ None }
@@ -202,7 +234,7 @@ impl Piece {
             self.value = Some(value);
             return Ok(());
         }
-        let note = value.into_note();
+        let note = value.into_note(self.of_nothing);
         let end = note.end();
         self.notes.add(note)?;
         self.at = end;

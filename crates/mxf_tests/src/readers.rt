@@ -1,7 +1,7 @@
 //! Pieces that a reader gives, however their bytes come.
 use mxf_catalogue::Semilattice;
 use mxf_klv::{Note, Packet, Ul};
-use mxf_read::{AbsorbFault, ReadTicks, Report, Stop, absorb, absorb_from};
+use mxf_read::{AbsorbFault, ReadTicks, Report, Stop, absorb, absorb_from, notes_from};
 use mxf_views::Views;
 use mxf_worked::worked_files::M;
 use std::alloc::Global;
@@ -97,6 +97,17 @@ fn bytes_that_come_one_by_one_are_noted_up_to_the_limit(rt: HostRuntime) -> Resu
         let (whole, _) = at_hand(alloc, &M[..count])?;
         assert!(rt; views.catalogue().same(whole.catalogue()));
     }
+    Ok(())
+}
+
+#[test]
+fn a_piece_from_a_reader_makes_a_catalogue_of_its_own(rt: HostRuntime) -> Result<(), Fail> {
+    let alloc = rt.alloc();
+    let (whole, report) = at_hand(alloc, &M)?;
+    let mut from = in_chunks(&M, 100);
+    let noted = notes_from(alloc, 0, &mut from, 1000, &mut ReadTicks::new());
+    assert_eq!(rt; noted.outcome, Ok(report));
+    assert!(rt; noted.notes.same(whole.catalogue()));
     Ok(())
 }
 

@@ -9,7 +9,7 @@ use crate::arguments::unreadable_argument;
 use crate::command_line::{Request, Task, command, request_of, signed_number};
 use crate::exit::Exit;
 use crate::part::part_of;
-use crate::saving::{Held, Kept, SaveFault, is_refused};
+use crate::saving::{BUFFER_BYTES, Held, Kept, SaveFault, is_refused};
 use crate::source::Source;
 use crate::system_fault::{LastFault, SystemFault};
 use crate::watching::{Screen, Watched};
@@ -232,7 +232,8 @@ fn print_answer<'a, R: System>(
     gathered: &Gathered,
 ) -> Result<Exit, RunFault<'a>> {
     let last = LastFault::new();
-    let Ok(mut out) = BufWriter::new(rt.alloc(), Kept::new(io::writer(rt), &last)) else {
+    let kept = Kept::new(io::writer(rt), &last);
+    let Ok(mut out) = BufWriter::with_capacity(rt.alloc(), BUFFER_BYTES, kept) else {
         return Err(RunFault::OutOfMemory);
     };
     let answered = answer(rt.alloc(), &ask, gathered, &mut out);

@@ -11,5 +11,5 @@ mod standard_output;
 
 pub use fault::SaveFault;
 pub use held::Held;
-pub use kept::Kept;
+pub use kept::{BUFFER_BYTES, Kept};
 pub use refusal::is_refused;

@@ -1,6 +1,6 @@
 //! Merging catalogues in balance.
 ghost use Rattle.std.specs.Prelude.{◌≡◌, ◌++◌, ◌∷◌, [], IfOk, IfNone, MatchOption, OnOk};
-ghost use Rattle.mxf_read.specs.Levels.{Adds, EndsAbove, HoldsAll};
+ghost use Rattle.mxf_read.specs.Levels.{Adds, EndsAbove, HoldsAll, merged_with};
 
 use mxf_catalogue::Catalogue;
 use mxf_klv::OutOfMemory;
@@ -62,17 +62,30 @@ impl Levels {
         self.items.pop()
     }
 
-    /// The views of the notes of all.
+    /// The views of the notes of all, which are made once.
     pub(super) fn into_views(self, alloc: Global) -> Result<Views, OutOfMemory>
         ensures { IfOk result (λ views. HoldsAll self views) }
     {
-        let mut views = Views::new(alloc);
-        'levels: for catalogue in self.items {
-            views.merge(catalogue)?;
-        }
+        let catalogue = self.merged(alloc)?;
 
-        // They are a catalogue, and a count of its notes fits.
-        let _notes = views.catalogue().notes();
-        Ok(views)
+        // It is a catalogue, and a count of its notes fits.
+        let _notes = catalogue.notes();
+        match Views::of(alloc, catalogue) {
+            Ok(views) => Ok(views),
+            Err(_) => Err(OutOfMemory),
+        }
+    }
+
+    /// The notes of all. The shortest are merged first.
+    fn merged(self, alloc: Global) -> Result<Catalogue, OutOfMemory>
+        ensures { IfOk result (λ notes. notes ≡ merged_with self []) }
+    {
+        let mut levels = self.items;
+        let mut merged = Catalogue::new(alloc);
+        'levels: while let Some(mut last) = levels.pop() {
+            last.merge(merged)?;
+            merged = last;
+        }
+        Ok(merged)
     }
 }

@@ -5,7 +5,7 @@ ghost use Rattle.mxf_catalogue.specs.CatalogueFile.{file_bytes};
 
 use super::SaveFault;
 use super::attributes::permissions_of;
-use super::kept::Kept;
+use super::kept::{BUFFER_BYTES, Kept};
 use super::part::PartFile;
 use super::place::Place;
 use crate::system_fault::LastFault;
@@ -115,7 +115,7 @@ fn write_whole<W: Write + Drop>(
     ensures { IfOk result (λ w. Appends (W.contents writer) (W.contents w) (file_bytes catalogue.now)) }
 {
     let last = LastFault::new();
-    let mut out = BufWriter::new(alloc, Kept::new(writer, &last))?;
+    let mut out = BufWriter::with_capacity(alloc, BUFFER_BYTES, Kept::new(writer, &last))?;
     if catalogue.write_to(&mut out).is_err() || out.flush().is_err() {
         return Err(SaveFault::Write(last.get()));
     }

@@ -4,6 +4,9 @@ ghost use Rattle.std.specs.Prelude.{◌≡◌};
 use crate::system_fault::LastFault;
 use std::io::{self, Write};
 
+/// How many bytes are gathered ahead of a write.
+pub const BUFFER_BYTES: usize = 65_536;
+
 /// Writes to a writer, and keeps what the system says of a write that fails.
 #[derive(Drop)]
 pub struct Kept<'a, W: Drop> {

@@ -10,8 +10,8 @@ returns-in_ok-push-in-Piece-clause-taken g c =
     subst (λ (p : Part _). Tells left p
     → TakesPart left p c.args.levels.now c.add.new.self c.args.reports.now c.push.new.self)
     (sym c.in-Piece.is)
-    (piece_taken left c.in-Piece.offset c.in-Piece.from c.args.levels.now c.add.new.self c.in_ok-notes-in-Piece.field-0.notes
-    c.in_ok-notes-in-Piece.field-0.report c.args.reports.now c.push.new.self
+    (piece_taken left c.in-Piece.offset c.in-Piece.from c.args.levels.now c.add.new.self c.in_ok-notes-in-Piece.notes
+    c.in_ok-notes-in-Piece.report c.args.reports.now c.push.new.self
     c.in_ok-notes-in-Piece.ensures.notes c.in_ok-notes-in-Piece.ensures.report c.in_ok-add-in-Piece.ensures
     c.in_ok-push-in-Piece.ensures)
 

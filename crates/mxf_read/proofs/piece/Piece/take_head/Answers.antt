@@ -1,108 +1,30 @@
-use Rattle.std.proofs.Common.{◌≡◌, ◌++◌, ◌+◌, ◌-◌, length, take, arith, refl, sym, ap, ◌∙◌}
+use Rattle.std.proofs.Common.{◌≡◌, ◌+◌, ◌-◌, ◌++◌, [], length, take, arith, refl, sym, ap, ◌∙◌}
+use Rattle.std.proofs.lemmas.List.{take_all}
 use Rattle.mxf_klv.specs.Parts.{LengthParts}
 use Rattle.mxf_klv.proofs.MoreBytes.{IsHeadNow}
-use Rattle.mxf_read.proofs.Feeding.{begun, few_held, head_whole, held_more, lacks_head, stopped}
+use Rattle.mxf_read.proofs.Feeding.{begun, head_whole}
+use Rattle.mxf_read.proofs.Reports.{nil_from}
 use Rattle.mxf_read.proofs.piece.Piece.take_head.Goals as goal
-
-pub overflow_sub-known : goal.overflow_sub-known
-overflow_sub-known c =
-    let few = few_held c.args.self.now c.requires.fed c.requires.goes_on c.requires.head in
-    omega (arith, few, c.len-known.ensures, c.args.self.now.head.ok.0)
-
-pub overflow_sub-result : goal.overflow_sub-result
-overflow_sub-result c =
-    let p = c.args.self.now in
-    let v = c.in_ok-value-in-Ok.value in
-    let made = c.in_ok-value-in-Ok.ensures in
-    let items : c.extend_from_slice.new.self.items ≡ p.head.items ++ take c.min-count.result c.args.bytes.now =
-    c.in_ok-extend_from_slice.ensures.items in
-    let now : IsHeadNow p.head.items c.args.bytes.now v.key v.ber =
-    head_whole p c.args.bytes.now c.deref.result.now c.extend_from_slice.new.self.items _ c.min-count.result _ v
-    c.requires.fed c.requires.goes_on c.requires.head c.deref.ensures.value items c.in-Ok.ensures.head made.key
-    made.length in
-    let below = now.below in
-    let width : v.ber.width ≡ c.width.result =
-    ap (λ (l : LengthParts). l.width) made.length ∙ sym c.width.ensures.width in
-    omega (arith, below, width, c.from.ensures, c.len-known.ensures, p.head.ok.0)
-
-pub returns-in_ok-go_on-in-Ok-clause-some : goal.returns-in_ok-go_on-in-Ok-clause-some
-returns-in_ok-go_on-in-Ok-clause-some c =
-    let p = c.args.self.now in
-    let v = c.in_ok-value-in-Ok.value in
-    let made = c.in_ok-value-in-Ok.ensures in
-    let items : c.extend_from_slice.new.self.items ≡ p.head.items ++ take c.min-count.result c.args.bytes.now =
-    c.in_ok-extend_from_slice.ensures.items in
-    let now : IsHeadNow p.head.items c.args.bytes.now v.key v.ber =
-    head_whole p c.args.bytes.now c.deref.result.now c.extend_from_slice.new.self.items _ c.min-count.result _ v
-    c.requires.fed c.requires.goes_on c.requires.head c.deref.ensures.value items c.in-Ok.ensures.head made.key
-    made.length in
-    let below = now.below in
-    let width : v.ber.width ≡ c.width.result =
-    ap (λ (l : LengthParts). l.width) made.length ∙ sym c.width.ensures.width in
-    omega (arith, below, width, c.from.ensures, c.len-known.ensures, p.head.ok.0)
-
-pub returns-in_ok-go_on-in-Ok-clause-room : goal.returns-in_ok-go_on-in-Ok-clause-room
-returns-in_ok-go_on-in-Ok-clause-room c =
-    let p = c.args.self.now in
-    let v = c.in_ok-value-in-Ok.value in
-    let made = c.in_ok-value-in-Ok.ensures in
-    let items : c.extend_from_slice.new.self.items ≡ p.head.items ++ take c.min-count.result c.args.bytes.now =
-    c.in_ok-extend_from_slice.ensures.items in
-    let now : IsHeadNow p.head.items c.args.bytes.now v.key v.ber =
-    head_whole p c.args.bytes.now c.deref.result.now c.extend_from_slice.new.self.items _ c.min-count.result _ v
-    c.requires.fed c.requires.goes_on c.requires.head c.deref.ensures.value items c.in-Ok.ensures.head made.key
-    made.length in
-    let below = now.below in
-    let width : v.ber.width ≡ c.width.result =
-    ap (λ (l : LengthParts). l.width) made.length ∙ sym c.width.ensures.width in
-    let room = now.room in
-    omega (arith, below, room, width, c.from.ensures, c.len-known.ensures, p.head.ok.0)
 
 pub returns-in_ok-go_on-in-Ok-clause-fed : goal.returns-in_ok-go_on-in-Ok-clause-fed
 returns-in_ok-go_on-in-Ok-clause-fed c =
     let p = c.args.self.now in
+    let bytes = c.args.bytes.now in
     let v = c.in_ok-value-in-Ok.value in
     let made = c.in_ok-value-in-Ok.ensures in
-    let items : c.extend_from_slice.new.self.items ≡ p.head.items ++ take c.min-count.result c.args.bytes.now =
-    c.in_ok-extend_from_slice.ensures.items in
-    let now : IsHeadNow p.head.items c.args.bytes.now v.key v.ber =
-    head_whole p c.args.bytes.now c.deref.result.now c.extend_from_slice.new.self.items _ c.min-count.result _ v
-    c.requires.fed c.requires.goes_on c.requires.head c.deref.ensures.value items c.in-Ok.ensures.head made.key
-    made.length in
-    let below = now.below in
+    let empty : p.head.items ≡ [] =
+    nil_from p.head.items p.head.len p.head.ok.0 (sym c.is_empty.ensures ∙ c.if-not-is_empty.false) in
+    let items : bytes ≡ p.head.items ++ take (length bytes) bytes =
+    sym (take_all (length bytes) bytes (omega arith)) ∙ ap (λ (held : _). held ++ take (length bytes) bytes) (sym empty) in
+    let now : IsHeadNow p.head.items bytes v.key v.ber =
+    head_whole p bytes bytes bytes _ (length bytes) _ v c.requires.fed c.requires.goes_on c.requires.head refl items
+    c.in-Ok.ensures.head made.key made.length in
     let width : v.ber.width ≡ c.width.result =
     ap (λ (l : LengthParts). l.width) made.length ∙ sym c.width.ensures.width in
-    let used = 16 + c.from.result - c.len-known.result in
-    let is : used ≡ 16 + v.ber.width - length p.head.items =
-    omega (arith, below, width, c.from.ensures, c.len-known.ensures, p.head.ok.0) in
+    let none : length p.head.items ≡ 0 = ap length empty in
+    let used : 16 + c.from.result ≡ 16 + v.ber.width - length p.head.items =
+    omega (arith, width, c.from.ensures, none) in
     λ o m fed.
-    c.in_ok-go_on-in-Ok.ensures.fed o m (take used c.args.bytes.now)
+    c.in_ok-go_on-in-Ok.ensures.fed o m (take (16 + c.from.result) bytes)
     (record { notes = fed.knows.notes; at = fed.knows.at })
-    (begun o m c.args.bytes.now p v used fed c.requires.goes_on c.requires.head now is made.offset made.none)
-
-pub returns-then-not-may_go_on-clause-fed : goal.returns-then-not-may_go_on-clause-fed
-returns-then-not-may_go_on-clause-fed c =
-    let p = c.args.self.now in
-    let items : c.extend_from_slice.new.self.items ≡ p.head.items ++ take c.min-count.result c.args.bytes.now =
-    c.in_ok-extend_from_slice.ensures.items in
-    let lacks = lacks_head p c.deref.result.now c.extend_from_slice.new.self.items _ c.in-Err.stop c.deref.ensures.value
-    items c.in-Err.ensures.none in
-    λ o m fed.
-    stopped o m _ p _ c.in-Err.stop fed c.requires.goes_on c.requires.head lacks
-    (λ t. let yes = c.may_go_on.ensures.1 t in absurd (cc (yes, c.if-not-may_go_on.true))) refl refl refl
-
-pub returns-else-not-may_go_on-clause-some : goal.returns-else-not-may_go_on-clause-some
-returns-else-not-may_go_on-clause-some c =
-    let few = few_held c.args.self.now c.requires.fed c.requires.goes_on c.requires.head in
-    omega (arith, few, c.len-known.ensures, c.args.self.now.head.ok.0, c.min-count.ensures, c.requires.more)
-
-pub returns-else-not-may_go_on-clause-fed : goal.returns-else-not-may_go_on-clause-fed
-returns-else-not-may_go_on-clause-fed c =
-    let p = c.args.self.now in
-    let items : c.extend_from_slice.new.self.items ≡ p.head.items ++ take c.min-count.result c.args.bytes.now =
-    c.in_ok-extend_from_slice.ensures.items in
-    let lacks = lacks_head p c.deref.result.now c.extend_from_slice.new.self.items _ c.in-Err.stop c.deref.ensures.value
-    items c.in-Err.ensures.none in
-    λ o m fed.
-    held_more o m _ p _ c.in-Err.stop fed c.requires.goes_on c.requires.head lacks
-    (c.may_go_on.ensures.0 c.if-not-may_go_on.false) refl refl c.requires.goes_on c.requires.head items
+    (begun o m bytes p v (16 + c.from.result) fed c.requires.goes_on c.requires.head now used made.offset made.none)
