@@ -5,6 +5,7 @@ pub mod Hexadecimal
 pub mod IndexLines
 pub mod ItemLines
 pub mod Lines
+pub mod NamedRecords
 pub mod PartitionLines
 pub mod Printing
 pub mod ReferenceLines

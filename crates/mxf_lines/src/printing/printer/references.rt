@@ -2,42 +2,17 @@
 ghost use Rattle.std.specs.Prelude.{◌≡◌};
 ghost use Rattle.mxf_klv.specs.Written.{Puts};
 ghost use Rattle.mxf_lines.specs.Printing.{Prints};
-ghost use Rattle.mxf_lines.specs.ReferenceLines.{found_lines, identification_in, lines_of_reference, named_lines};
-ghost use Rattle.mxf_lines.specs.ReferenceLines.{package_in, record_lines, reference_lines, resolved_lines};
+ghost use Rattle.mxf_lines.specs.NamedRecords.{IsRecordIn, lines_of_record};
+ghost use Rattle.mxf_lines.specs.ReferenceLines.{lines_of_reference, lines_where, named_lines, reference_lines, resolved_lines};
 
 use super::Printer;
 use crate::printing::PrintFault;
 use crate::printing::line::{Named, ReferenceLine};
+use crate::printing::named_record::{NamedRecord, Record};
 use mxf_catalogue::Catalogue;
-use mxf_klv::{Held, Note};
-use mxf_sets::{Identification, Package};
-use mxf_views::{Ref, Resolved, Target};
+use mxf_views::{Ref, Resolved};
 use std::alloc::Global;
 use std::io::Write;
-
-/// The Identification of a note, where its value is kept and readable.
-#[tactic(auto, unfolding(crate::specs::ReferenceLines::identification_in))]
-fn identification_in(note: &Note) -> Option<Identification<'_>>
-    ensures { result ≡ identification_in note.now }
-{
-    match note.held() {
-        Held::Whole(value) => Identification::read(value).ok(),
-        Held::Digest(_) => None,
-        Held::Head => None,
-    }
-}
-
-/// The package of a note, where its value is kept and readable.
-#[tactic(auto, unfolding(crate::specs::ReferenceLines::package_in))]
-fn package_in(note: &Note) -> Option<Package<'_>>
-    ensures { result ≡ package_in note.now }
-{
-    match note.held() {
-        Held::Whole(value) => Package::read(value).ok(),
-        Held::Digest(_) => None,
-        Held::Head => None,
-    }
-}
 
 impl Printer {
     /// Prints the lines of the references of the preferred copy, and none without one.
@@ -92,70 +67,51 @@ impl Printer {
         ensures { Prints (Puts W.contents writer.old writer.new self.old.progress self.new.progress) result
             (named_lines catalogue.now named references.now) }
     {
+        let mut last = NamedRecord::none();
         'each: for reference in references {
-            self.print_reference(alloc, writer, catalogue, named, *reference)?;
+            self.print_reference(alloc, writer, catalogue, named, &mut last, *reference)?;
         }
         Ok(())
     }
 
     /// Prints the line of a reference, and the lines of what it leads to.
-    fn print_reference<W: Write>(
+    fn print_reference<'a, W: Write>(
         &mut self,
         alloc: Global,
         writer: &mut W,
-        catalogue: &Catalogue,
+        catalogue: &'a Catalogue,
         named: Named,
+        last: &mut NamedRecord<'a>,
         reference: Ref,
     ) -> Result<(), PrintFault>
-        ensures { Prints (Puts W.contents writer.old writer.new self.old.progress self.new.progress) result
+        requires { IsRecordIn catalogue.now named last.old }
+        ensures last { IsRecordIn catalogue.now named last.new }
+        ensures lines { Prints (Puts W.contents writer.old writer.new self.old.progress self.new.progress) result
             (lines_of_reference catalogue.now named reference) }
     {
-        let target = reference.target;
+        last.turn_to(catalogue, named, reference.target);
         self.print(writer, ReferenceLine { named, reference })?;
-        self.print_found(alloc, writer, catalogue, named, target)
+        self.print_record(alloc, writer, last.found())
     }
 
-    /// Prints the lines of the record that was found, and none where none was.
-    fn print_found<W: Write>(
-        &mut self,
-        alloc: Global,
-        writer: &mut W,
-        catalogue: &Catalogue,
-        named: Named,
-        target: Target,
-    ) -> Result<(), PrintFault>
-        ensures { Prints (Puts W.contents writer.old writer.new self.old.progress self.new.progress) result
-            (found_lines catalogue.now named target) }
-    {
-        let Target::Found(offset) = target else {
-            return Ok(());
-        };
-        let Some(note) = catalogue.clear_at(offset) else {
-            return Ok(());
-        };
-        self.print_record(alloc, writer, named, note)
-    }
-
-    /// Prints the lines of the record of a note, and none where it has no such record.
+    /// Prints the lines of a record, and none where there is none.
     fn print_record<W: Write>(
         &mut self,
         alloc: Global,
         writer: &mut W,
-        named: Named,
-        note: &Note,
+        found: &Option<Record<'_>>,
     ) -> Result<(), PrintFault>
         ensures { Prints (Puts W.contents writer.old writer.new self.old.progress self.new.progress) result
-            (record_lines named note.now) }
+            (lines_where lines_of_record found.now) }
     {
-        match named {
-            Named::Identification => match identification_in(note) {
-                Some(identification) => self.print_identification(alloc, writer, &identification),
-                None => Ok(()),
-            },
-            Named::Package => match package_in(note) {
-                Some(package) => self.print_package(alloc, writer, note.kind(), &package),
-                None => Ok(()),
-            },
+        match found {
+            Some(Record::Identification(identification)) => {
+                self.print_identification(alloc, writer, identification)
+            }
+            Some(Record::Package(kind, package)) => {
+                self.print_package(alloc, writer, *kind, package)
+            }
+            None => Ok(()),
         }
     }
 }

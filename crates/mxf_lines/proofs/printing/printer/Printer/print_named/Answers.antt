@@ -13,11 +13,13 @@ each-preserved g c =
     let i = c.each.reference-index in
     let r = c.reference-item.result in
     let step : drop i items ≡ r ∷ drop (i + 1) items =
-    next_item items i r c.each-test.true ∙ ap (λ x. x ∷ drop (i + 1) items) (sym c.reference-item.is) in
-    leads_on (contents c.args.writer.now) (contents c.each.writer) (contents c.print_reference.new.writer)
-    c.args.self.now.progress.written c.each.self.progress.written c.print_reference.new.self.progress.written
-    (flat_map lines items) lines (drop i items) r (drop (i + 1) items) step c.each.invariant
-    c.in_ok-print_reference.ensures
+    next_item items i r c.each-test.true ∙ ap (λ x. x ∷ drop (i + 1) items) (sym c.reference-item.is) in (
+      leads_on (contents c.args.writer.now) (contents c.each.writer) (contents c.print_reference.new.writer)
+          c.args.self.now.progress.written c.each.self.progress.written c.print_reference.new.self.progress.written
+          (flat_map lines items) lines (drop i items) r (drop (i + 1) items) step c.each.invariant.0
+          c.in_ok-print_reference.ensures.lines,
+      c.in_ok-print_reference.ensures.last,
+    )
 
 pub returns-in_err-print_reference : goal.returns-in_err-print_reference
 returns-in_err-print_reference g c =
@@ -32,7 +34,7 @@ returns-in_err-print_reference g c =
     rw (p.1, p.2) (leads_fault (contents c.args.writer.now) (contents c.each.writer)
     (contents c.print_reference.new.writer) c.args.self.now.progress.written c.each.self.progress.written
     c.print_reference.new.self.progress.written c.in_err-print_reference.field-0.0 (flat_map lines items) lines
-    (drop i items) r (drop (i + 1) items) step c.each.invariant c.in_err-print_reference.ensures)
+    (drop i items) r (drop (i + 1) items) step c.each.invariant.0 c.in_err-print_reference.ensures.lines)
 
 pub returns : goal.returns
 returns g c =
@@ -42,4 +44,4 @@ returns g c =
     let i = c.each.reference-index in
     leads_last (contents c.args.writer.now) (contents c.each.writer) c.args.self.now.progress.written
     c.each.self.progress.written (flat_map lines items) lines (drop i items)
-    (none_left items i c.each-test.false) c.each.self.in_range c.each.invariant
+    (none_left items i c.each-test.false) c.each.self.in_range c.each.invariant.0
