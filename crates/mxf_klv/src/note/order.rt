@@ -72,8 +72,8 @@ impl Ord for Note {
     fn cmp(&self, other: &Note) -> Ordering {
         self.offset
             .cmp(&other.offset)
-            .then_with(|| self.key.cmp(&other.key))
-            .then_with(|| self.width.cmp(&other.width))
+            .then_with(|| self.key().cmp(&other.key()))
+            .then_with(|| self.width().cmp(&other.width()))
             .then_with(|| self.length.cmp(&other.length))
             .then_with(|| self.cmp_held(other))
     }
