@@ -11,3 +11,4 @@ pub mod RoundTrips
 pub mod RisingLemmas
 pub mod CutHeads
 pub mod HeadOrder
+pub mod LabelOrder

@@ -10,20 +10,19 @@ use std::marker::Model;
 /// Labels compare by their sixteen bytes, the version (byte 8) included.
 #[derive(Clone, Copy, Debug, PartialEq, Eq, PartialOrd, Ord, Hash)]
 pub struct Ul {
-    bytes: [u8; 16],
+    /// The twelve bytes after those that each label begins with.
+    tail: [u8; 12],
 }
 
 impl Model for Ul {
-    ghost use Rattle.std.specs.Prelude.{ℕ, List};
-    ghost use Rattle.mxf_klv.specs.Label.{IsLabel};
+    ghost use Rattle.std.specs.Prelude.{ℕ, List, ◌++◌, drop};
+    ghost use Rattle.mxf_klv.specs.Label.{label_start};
 
     ghost Value = { List ℕ };
 
-    ghost view = { λ u. u.bytes };
+    ghost view = { λ u. label_start ++ u.tail };
 
-    ghost invariant = { λ u. IsLabel u.bytes };
-
-    ghost inverse = { λ xs. record { bytes = xs } };
+    ghost inverse = { λ xs. record { tail = drop 4 xs } };
 }
 
 impl Ul {
@@ -33,8 +32,9 @@ impl Ul {
     pub fn from_bytes(bytes: [u8; 16]) -> Option<Ul>
         ensures { SomeIff result (take 4 bytes ≡ label_start) bytes }
     {
-        if bytes[..4] == Self::START[..] {
-            Some(Ul { bytes })
+        let (start, tail) = bytes.split_last_chunk::<12>()?;
+        if start == Self::START.as_slice() {
+            Some(Ul { tail: *tail })
         } else {
             None
         }
@@ -45,6 +45,9 @@ impl Ul {
         ensures bytes { result ≡ self.now }
         ensures label { IsLabel self.now }
     {
-        self.bytes
+        let mut bytes = [0; 16];
+        bytes[..4].copy_from_slice(&Self::START);
+        bytes[4..].copy_from_slice(&self.tail);
+        bytes
     }
 }

@@ -11,6 +11,7 @@ ghost use Rattle.std.specs.Cmp.{IsTotalOrder};
 ghost use Rattle.std.specs.declared.cmp.Ordering.TheVariants.{Equal};
 ghost use Rattle.mxf_klv.specs.declared.note.NoteFault.TheVariants as faults;
 
+mod front;
 mod held;
 mod order;
 
@@ -20,11 +21,13 @@ use crate::kinds::table::kind;
 use crate::label::Ul;
 use crate::memory::OutOfMemory;
 use crate::packet::Packet;
+use front::Front;
 pub use held::Held;
 use held::Kept;
 use sha2::{Digest, Sha256};
 use std::alloc::Global;
 use std::marker::Model;
+use std::mem::size_of;
 use thiserror::Error;
 
 /// The greatest end of a packet: file offsets, in bytes, go up to it.
@@ -42,35 +45,29 @@ const GREATEST_KEPT: u64 = 4_194_304;
 #[derive(Debug, Drop)]
 pub struct Note {
     offset: u64,
-    key: Ul,
-    width: u8,
     length: u64,
-    kind: Kind,
     kept: Kept,
 }
 
+// In memory a note takes 64 bytes, beside a value that it keeps.
+const _: () = prove!(size_of::<Note>() == 64);
+
 impl Model for Note {
-    ghost use Rattle.std.specs.Prelude.{◌≡◌, ◌+◌, ◌≤◌};
-    ghost use Rattle.mxf_klv.specs.Kind.{kind_of};
-    ghost use Rattle.mxf_klv.specs.Kept.{kept_bytes, is_whole, IsKeptBy};
-    ghost use Rattle.mxf_klv.specs.Label.{IsLabel};
-    ghost use Rattle.mxf_klv.specs.Note.{greatest_end};
-    ghost use Rattle.mxf_klv.specs.Parts.{CanSpell, NoteParts};
+    ghost use Rattle.mxf_klv.specs.Kept.{AreNoteFields, front_of, kept_bytes, is_whole};
+    ghost use Rattle.mxf_klv.specs.Parts.{NoteParts};
 
     ghost Value = { NoteParts };
 
     ghost view = { λ n. record {
       offset = n.offset;
-      key = n.key;
-      width = n.width;
+      key = (front_of n.kept).key;
+      width = (front_of n.kept).width;
       length = n.length;
       whole = is_whole n.kept;
       held = kept_bytes n.kept;
     } };
 
-    ghost invariant = { λ n. IsLabel n.key × CanSpell n.width n.length
-        × (n.offset + 16 + n.width + n.length ≤ greatest_end)
-        × (n.kind ≡ kind_of n.key) × IsKeptBy n.kept n.key n.length };
+    ghost invariant = { λ n. AreNoteFields n.offset n.length n.kept };
 }
 
 /// Why there is no note of a packet. The causes are tested in this order.
@@ -131,22 +128,17 @@ impl Note {
         ensures noted { IfOk result (λ n. n ≡ note_of offset packet.now) }
         ensures memory { IsErr result → keeps packet.now.key (length packet.now.value) ≡ true }
     {
+        let front = Front::new(packet.key(), packet.width());
         let value = packet.value();
-        let width = packet.width();
         let length = value.len() as u64;
-        let key = packet.key();
-        let kind = kind(&key);
-        let kept = if keeps(kind, length) {
-            Kept::Whole(Vec::from_slice(alloc, value)?)
+        let kept = if keeps(front.kind, length) {
+            Kept::Whole(front, Vec::from_slice(alloc, value)?)
         } else {
-            Kept::Digest(Sha256::digest(value))
+            Kept::Digest(front, Sha256::digest(value))
         };
         Ok(Note {
             offset,
-            key,
-            width,
             length,
-            kind,
             kept,
         })
     }
@@ -163,21 +155,21 @@ impl Note {
     pub fn end(&self) -> u64
         ensures { result ≡ end_of self.now }
     {
-        self.offset + 16 + u64::from(self.width) + self.length
+        self.offset + 16 + u64::from(self.width()) + self.length
     }
 
     /// The packet's key.
     pub fn key(&self) -> Ul
         ensures { result ≡ self.now.key }
     {
-        self.key
+        self.kept.front().key
     }
 
     /// The number of bytes that spell the length, 1 to 9.
     pub fn width(&self) -> u8
         ensures { result ≡ self.now.width }
     {
-        self.width
+        self.kept.front().width
     }
 
     /// The number of bytes of the value.
@@ -191,7 +183,7 @@ impl Note {
     pub fn kind(&self) -> Kind
         ensures { result ≡ kind_of self.now.key }
     {
-        self.kind
+        self.kept.front().kind
     }
 
     /// The file offset after the last byte that the note covers: the packet's last; of a head, the last of its length.
@@ -203,7 +195,7 @@ impl Note {
         if self.is_whole() {
             self.end()
         } else {
-            self.offset + 16 + u64::from(self.width)
+            self.offset + 16 + u64::from(self.width())
         }
     }
 
@@ -212,8 +204,8 @@ impl Note {
         ensures { result ≡ self.now.whole }
     {
         match &self.kept {
-            Kept::Whole(_) | Kept::Digest(_) => true,
-            Kept::Head => false,
+            Kept::Whole(_, _) | Kept::Digest(_, _) => true,
+            Kept::Head(_) => false,
         }
     }
 
@@ -230,11 +222,8 @@ impl Note {
     {
         Note {
             offset: self.offset,
-            key: self.key,
-            width: self.width,
             length: self.length,
-            kind: self.kind,
-            kept: Kept::Head,
+            kept: Kept::Head(self.kept.front()),
         }
     }
 
@@ -249,9 +238,9 @@ impl Note {
         ensures { result.now ≡ self.now.held }
     {
         match &self.kept {
-            Kept::Whole(value) => value,
-            Kept::Digest(digest) => digest,
-            Kept::Head => &[],
+            Kept::Whole(_, value) => value,
+            Kept::Digest(_, digest) => digest,
+            Kept::Head(_) => &[],
         }
     }
 
@@ -260,9 +249,9 @@ impl Note {
         ensures { Shows result self.now }
     {
         match &self.kept {
-            Kept::Whole(value) => Held::Whole(value),
-            Kept::Digest(digest) => Held::Digest(digest),
-            Kept::Head => Held::Head,
+            Kept::Whole(_, value) => Held::Whole(value),
+            Kept::Digest(_, digest) => Held::Digest(digest),
+            Kept::Head(_) => Held::Head,
         }
     }
 
@@ -290,17 +279,14 @@ impl Note {
         ensures back { IfErr result (λ e. e.value ≡ value) }
     {
         let length = value.len() as u64;
-        let kind = kind(&key);
-        if !Note::can_be(offset, width, length) || !keeps(kind, length) {
+        let front = Front::new(key, width);
+        if !Note::can_be(offset, width, length) || !keeps(front.kind, length) {
             return Err(NotANote { value });
         }
         Ok(Note {
             offset,
-            key,
-            width,
             length,
-            kind,
-            kept: Kept::Whole(value),
+            kept: Kept::Whole(front, value),
         })
     }
 
@@ -310,17 +296,14 @@ impl Note {
         ensures { SomeIff result (CanNote (note_parts offset key width length digest) false)
             (note_parts offset key width length digest) }
     {
-        let kind = kind(&key);
-        if !Note::can_be(offset, width, length) || keeps(kind, length) {
+        let front = Front::new(key, width);
+        if !Note::can_be(offset, width, length) || keeps(front.kind, length) {
             return None;
         }
         Some(Note {
             offset,
-            key,
-            width,
             length,
-            kind,
-            kept: Kept::Digest(digest),
+            kept: Kept::Digest(front, digest),
         })
     }
 
@@ -334,11 +317,8 @@ impl Note {
         }
         Some(Note {
             offset,
-            key,
-            width,
             length,
-            kind: kind(&key),
-            kept: Kept::Head,
+            kept: Kept::Head(Front::new(key, width)),
         })
     }
 
@@ -348,16 +328,13 @@ impl Note {
         ensures memory { IsErr result → keeps_value self.now ≡ true }
     {
         let kept = match &self.kept {
-            Kept::Whole(value) => Kept::Whole(Vec::from_slice(alloc, value)?),
-            Kept::Digest(digest) => Kept::Digest(*digest),
-            Kept::Head => Kept::Head,
+            Kept::Whole(front, value) => Kept::Whole(*front, Vec::from_slice(alloc, value)?),
+            Kept::Digest(front, digest) => Kept::Digest(*front, *digest),
+            Kept::Head(front) => Kept::Head(*front),
         };
         Ok(Note {
             offset: self.offset,
-            key: self.key,
-            width: self.width,
             length: self.length,
-            kind: self.kind,
             kept,
         })
     }

@@ -71,5 +71,10 @@ pub fn kind(key: &Ul) -> Kind
     ensures label { IsLabel key.now }
 {
     let key = key.bytes();
+    // Bytes 5 and 6 (ST 336, category and registry designator) that name the dictionary of essence: most packets have
+    // them, and no row of the table has.
+    if key[4] == 0x01 && key[5] == 0x02 {
+        return kind_in_part(&key);
+    }
     kind_in_full(&TABLE, &key).unwrap_or_else(|| kind_in_part(&key))
 }

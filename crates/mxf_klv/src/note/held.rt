@@ -1,11 +1,28 @@
-//! What a note keeps of a value.
+//! What a note keeps of a packet.
+use super::front::Front;
 
-/// A value, or its digest; or neither, of a packet of which key and length alone were read.
+/// What stands ahead of a value, with the value or its digest; or alone, where key and length alone were read.
+///
+/// The front stands in each variant, and not beside them, since there it fills bytes that would lie empty.
 #[derive(Debug, Drop)]
 pub(super) enum Kept {
-    Whole(Vec<u8>),
-    Digest([u8; 32]),
-    Head,
+    Whole(Front, Vec<u8>),
+    Digest(Front, [u8; 32]),
+    Head(Front),
+}
+
+impl Kept {
+    ghost use Rattle.std.specs.Prelude.{◌≡◌};
+    ghost use Rattle.mxf_klv.specs.Kept.{front_of};
+
+    /// What stands ahead of the value.
+    pub(super) fn front(&self) -> Front
+        ensures { result ≡ front_of self.now }
+    {
+        match self {
+            Kept::Whole(front, _) | Kept::Digest(front, _) | Kept::Head(front) => *front,
+        }
+    }
 }
 
 /// What a note holds of a value: all of it, or its digest, or nothing where the note is a head.

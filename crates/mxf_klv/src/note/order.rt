@@ -72,9 +72,9 @@ impl Ord for Note {
     fn cmp(&self, other: &Note) -> Ordering {
         self.offset
             .cmp(&other.offset)
-            .then(self.key.cmp(&other.key))
-            .then(self.width.cmp(&other.width))
-            .then(self.length.cmp(&other.length))
+            .then_with(|| self.key().cmp(&other.key()))
+            .then_with(|| self.width().cmp(&other.width()))
+            .then_with(|| self.length.cmp(&other.length))
             .then_with(|| self.cmp_held(other))
     }
 }

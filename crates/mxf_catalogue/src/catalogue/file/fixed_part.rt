@@ -43,6 +43,22 @@ pub(super) fn split_number(bytes: &[u8]) -> Option<(u64, &[u8])>
     Some((u64::from_be_bytes(*number), rest))
 }
 
+/// The bytes of a note's fixed part.
+#[tactic(auto, unfolding(crate::specs::CatalogueFile::number_bytes))]
+fn fixed_part_bytes(note: &Note) -> [u8; 33]
+    ensures { result ≡ fixed_bytes (fixed_part_of note.now) }
+{
+    let mut bytes = [0; 33];
+    let (offset, rest) = bytes.split_at_mut(8);
+    let (key, rest) = rest.split_at_mut(16);
+    let (width, length) = rest.split_at_mut(1);
+    offset.copy_from_slice(&note.offset().to_be_bytes());
+    key.copy_from_slice(&note.key().bytes());
+    width.copy_from_slice(&[note.width()]);
+    length.copy_from_slice(&note.length().to_be_bytes());
+    bytes
+}
+
 pub(super) fn put_fixed_part<W: Write>(
     note: &Note,
     progress: &mut Progress,
@@ -50,8 +66,5 @@ pub(super) fn put_fixed_part<W: Write>(
 ) -> Result<(), WriteFault>
     ensures { Puts W.contents writer.old writer.new progress.old progress.new result (fixed_bytes (fixed_part_of note.now)) }
 {
-    progress.put(writer, &note.offset().to_be_bytes())?;
-    progress.put(writer, &note.key().bytes())?;
-    progress.put(writer, &[note.width()])?;
-    progress.put(writer, &note.length().to_be_bytes())
+    progress.put(writer, &fixed_part_bytes(note))
 }

@@ -6,9 +6,8 @@ returns-clause-note c =
     let i = c.self.invariant in
     rw (← c.self.view_is)
     (record {
-      label = i.0;
-      width = i.1;
-      within = i.2;
-      held =
-          length-kept_bytes c.self.inside.kept c.self.inside.key c.self.inside.length i.4;
+      label = i.label;
+      width = i.width;
+      within = i.within;
+      held = length-kept_bytes c.self.inside.kept c.self.inside.length i.value;
     })

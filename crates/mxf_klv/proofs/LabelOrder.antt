@@ -1,0 +1,14 @@
+-- Labels go by the bytes after those that each of them begins with.
+use Rattle.std.specs.Prelude.{◌≡◌, ℕ, List, ◌++◌, drop}
+use Rattle.std.specs.Ordering.{nat_cmp}
+use Rattle.std.specs.Cmp.Lexicographic.{slice_cmp}
+use Rattle.std.proofs.Common.{sym, ◌∙◌, ap}
+use Rattle.std.proofs.lemmas.List.{take-append-drop}
+use Rattle.mxf_klv.specs.Label.{IsLabel, label_start}
+
+parts : (a : List ℕ) → IsLabel a → label_start ++ drop 4 a ≡ a
+parts a h = ap (λ (s : List ℕ). s ++ drop 4 a) (sym h.1) ∙ take-append-drop 4 a
+
+-- the order of the tails is the order of the labels
+pub cmp-tails : (a b : List ℕ) → IsLabel a → IsLabel b → slice_cmp nat_cmp (drop 4 a) (drop 4 b) ≡ slice_cmp nat_cmp a b
+cmp-tails a b h k = λ i. slice_cmp nat_cmp (parts a h i) (parts b k i)
