@@ -1,6 +1,6 @@
 -- What a catalogue keeps, once a note is there.
 use Rattle.std.specs.Prelude.{◌≡◌, ◌↔◌, ℕ, ◌+◌, ◌-◌, ◌<◌, ◌≤◌, max, List, [], map}
-use Rattle.std.proofs.Common.{arith, sym, subst, inl, inr, refl}
+use Rattle.std.proofs.Common.{arith, ap, sym, subst, inl, inr, refl}
 use Rattle.mxf_klv.specs.Parts.{NoteParts}
 use Rattle.mxf_klv.specs.Note.{IsInSpan, IsNote, end_of, head_note}
 use Rattle.mxf_klv.specs.Rising.{In}
@@ -176,3 +176,22 @@ end_of_parts c d few k one two bound p q = (
       let w : offset + 1 ≤ end_of s.0 = s.2.before in omega (arith, e, w)) in
       omega (arith, a, b),
 )
+
+-- a note that begins where another has ended shares no byte with it
+pub above_far : (x n : NoteParts) → end_of n ≤ x.offset → SharesByte x n → ⊥
+above_far x n l s =
+    let a : x.offset ≤ s.0 = s.1.from in let b : s.0 + 1 ≤ end_of n = s.2.before in omega (arith, l)
+
+-- where all have ended, it is new, and so is its head
+pub above_new : (x : NoteParts) (notes : List NoteParts) → ((n : NoteParts) → In n notes → end_of n ≤ x.offset)
+    → has_note notes x → ⊥
+above_new x notes above h = elim h [
+  | inl i ↦ let l : end_of x ≤ x.offset = above x i in omega (arith, l)
+  | inr s ↦
+      let e : s.0.offset ≡ x.offset = ap (λ (n : NoteParts). n.offset) s.2 in
+      let l : end_of s.0 ≤ x.offset = above s.0 s.1 in omega (arith, l, e)
+]
+
+pub above_alone : (x : NoteParts) (notes : List NoteParts) → ((n : NoteParts) → In n notes → end_of n ≤ x.offset)
+    → In (head_note x) notes → ⊥
+above_alone x notes above i = let l : end_of x ≤ x.offset = above (head_note x) i in omega (arith, l)

@@ -22,7 +22,7 @@ mod notes;
 mod parts;
 mod placing;
 
-use crate::cover::{self, Cover};
+use crate::cover::Cover;
 use crate::semilattice::Semilattice;
 pub use change::{AddFault, Change, Offsets, moved_notes_by_definition};
 pub use clear::{ClearNotes, clear_notes_by_definition, clear_notes_stand_apart};
@@ -39,7 +39,7 @@ use merging::{MergedNotes, Room};
 use mxf_klv::{Note, OutOfMemory};
 pub use notes::Notes;
 use parts::Parts;
-use placing::{at_offset, is_in, last_end, touched, within};
+use placing::{at_offset, is_in, touched, within};
 use std::alloc::Global;
 use std::marker::Model;
 use std::mem::replace;
@@ -296,8 +296,7 @@ impl Catalogue {
     pub fn end(&self) -> u64
         ensures { (bound : ℕ) → result ≤ bound ↔ ((n : NoteParts) → In n self.now → end_of n ≤ bound) }
     {
-        let disputed = cover::last_end(&self.parts.disputed_spans);
-        last_end(&self.parts.clear).max(disputed)
+        self.parts.end()
     }
 
     /// The clear note with this file offset, in bytes: a binary search.

@@ -3,7 +3,7 @@ ghost use Rattle.std.specs.Prelude.{◌≡◌, ◌↔◌, ◌⊎◌, ◌++◌, �
 ghost use Rattle.std.specs.Prelude.{vec_len, vec_capacity, IsTrue, IfOk, OnOk};
 ghost use Rattle.mxf_klv.specs.Parts.{NoteParts};
 ghost use Rattle.mxf_klv.specs.Rising.{In};
-ghost use Rattle.mxf_klv.specs.Note.{head_note};
+ghost use Rattle.mxf_klv.specs.Note.{end_of, head_note};
 ghost use Rattle.mxf_catalogue.specs.Content.{AreReduced, IsContent, has_note, reduced_union, reduced_with, union_of};
 ghost use Rattle.mxf_catalogue.specs.Covers.{IsCover};
 ghost use Rattle.mxf_catalogue.specs.Disputes.{SharesByte, whole_notes};
@@ -12,8 +12,8 @@ ghost use Rattle.mxf_catalogue.specs.Rooms.{IsRoomFor};
 
 use super::change::Offsets;
 use super::merging::{MergedNotes, merged};
-use super::placing::{hull, is_in, move_touched, put, put_over_head, tell, touched};
-use crate::cover::{meets, put_run};
+use super::placing::{hull, is_in, last_end, move_touched, put, put_over_head, tell, touched};
+use crate::cover::{self, meets, put_run};
 use crate::run::Run;
 use mxf_klv::{MAX, Note};
 use std::alloc::{AllocError, Global};
@@ -49,8 +49,27 @@ impl Parts {
         is_in(&self.clear, note) || is_in(&self.disputed, note)
     }
 
-    /// Whether one of the parts has the note, or a note of its packet that was read whole, where it is a head.
+    /// The greatest end of a note, in bytes, be it claimed by a head; 0 where there is no note.
+    pub fn end(&self) -> u64
+        requires { IsKept self.now.clear.items self.now.disputed.items self.now.disputed_spans.items }
+        ensures { (bound : ℕ) → result ≤ bound
+            ↔ ((n : NoteParts) → In n (union_of self.now.clear.items self.now.disputed.items) → end_of n ≤ bound) }
+    {
+        let disputed = cover::last_end(&self.disputed_spans);
+        last_end(&self.clear).max(disputed)
+    }
+
+    /// Whether one of the parts has the note, or a note of its packet that was read whole, where it is a head. None has it
+    /// that begins where all notes have ended, or above.
     pub fn tell(&self, note: &Note) -> bool
+        requires { IsKept self.now.clear.items self.now.disputed.items self.now.disputed_spans.items }
+        ensures { IsTrue result ↔ has_note (union_of self.now.clear.items self.now.disputed.items) note.now }
+    {
+        self.end() > note.offset() && self.tell_below(note)
+    }
+
+    /// The same by binary search, wherever the note begins.
+    fn tell_below(&self, note: &Note) -> bool
         requires { AreParts self.now.clear.items self.now.disputed.items }
         ensures { IsTrue result ↔ has_note (union_of self.now.clear.items self.now.disputed.items) note.now }
     {
@@ -111,6 +130,10 @@ impl Parts {
     {
         // What is held is a note, which ends where a packet may.
         prove!(note.offset() <= MAX);
+        if self.end() <= note.offset() {
+            put(&mut self.clear, note);
+            return;
+        }
         if self.have(&note.to_head()) {
             self.put_in_place(note);
             return;
@@ -253,6 +276,9 @@ impl Parts {
         ensures notes { result.items ≡ union_of self.clear.items self.disputed.items }
         ensures content { IsContent result.items }
     {
+        if self.disputed.is_empty() {
+            return self.clear;
+        }
         merged(room, self.clear, self.disputed)
     }
 
