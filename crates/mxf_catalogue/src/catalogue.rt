@@ -94,6 +94,9 @@ impl Catalogue {
         ensures err { OnErr result (self.new ≡ self.old) }
         ensures history { (h : History) → self.old ≡ content h → OnOk result (self.new ≡ content (Add h note)) }
     {
+        if self.parts.end_by(note.offset()) {
+            return self.append(note);
+        }
         if self.parts.tell(&note) {
             return Ok(Change::Repeated);
         }
@@ -106,6 +109,29 @@ impl Catalogue {
         };
         self.parts.put(note);
         Ok(Change::Added { moved })
+    }
+
+    /// Adds a note that begins where all others have ended, or above: it is new, goes behind them and moves none.
+    fn append(&mut self, note: Note) -> Result<Change, AddFault>
+        requires above { (n : NoteParts) → In n self.old → end_of n ≤ note.offset }
+        ensures added { OnOk result (self.new ≡ reduced_with note self.old) }
+        ensures new { IfOk result (λ c. c ≡ Change.Added []) }
+        ensures fault { IfErr result (λ f. f.note ≡ note) }
+        ensures err { OnErr result (self.new ≡ self.old) }
+    {
+        let alloc = *self.parts.clear.allocator();
+        let Ok(()) = self.parts.clear.reserve(1) else {
+            return Err(AddFault { note });
+        };
+        // What is held is a note, which ends where a packet may.
+        let end = note.covered_end();
+        let Ok(()) = self.spans.add(note.offset(), end) else {
+            return Err(AddFault { note });
+        };
+        self.parts.append(note);
+        Ok(Change::Added {
+            moved: Offsets::none(alloc),
+        })
     }
 
     /// Moves the notes of another catalogue into this one, which holds the notes of both then. No kept value is copied.
@@ -212,11 +238,12 @@ impl Catalogue {
         self.parts.have(note)
     }
 
-    /// Whether the note is held, or is the head of a held one: to add it is `Repeated` then. Two binary searches.
+    /// Whether the note is held, or is the head of a held one: to add it is `Repeated` then. At most
+    /// two binary searches.
     pub fn has(&self, note: &Note) -> bool
         ensures { IsTrue result ↔ has_note self.now note.now }
     {
-        self.parts.tell(note)
+        !self.parts.end_by(note.offset()) && self.parts.tell(note)
     }
 
     /// The number of notes.

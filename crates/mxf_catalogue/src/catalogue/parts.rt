@@ -59,17 +59,17 @@ impl Parts {
         last_end(&self.clear).max(disputed)
     }
 
-    /// Whether one of the parts has the note, or a note of its packet that was read whole, where it is a head. None has it
-    /// that begins where all notes have ended, or above.
-    pub fn tell(&self, note: &Note) -> bool
+    /// Whether all notes have ended at the offset, in bytes, or below.
+    pub fn end_by(&self, offset: u64) -> bool
         requires { IsKept self.now.clear.items self.now.disputed.items self.now.disputed_spans.items }
-        ensures { IsTrue result ↔ has_note (union_of self.now.clear.items self.now.disputed.items) note.now }
+        ensures { IsTrue result
+            ↔ ((n : NoteParts) → In n (union_of self.now.clear.items self.now.disputed.items) → end_of n ≤ offset) }
     {
-        self.end() > note.offset() && self.tell_below(note)
+        self.end() <= offset
     }
 
-    /// The same by binary search, wherever the note begins.
-    fn tell_below(&self, note: &Note) -> bool
+    /// Whether one of the parts has the note, or a note of its packet that was read whole, where it is a head.
+    pub fn tell(&self, note: &Note) -> bool
         requires { AreParts self.now.clear.items self.now.disputed.items }
         ensures { IsTrue result ↔ has_note (union_of self.now.clear.items self.now.disputed.items) note.now }
     {
@@ -109,6 +109,25 @@ impl Parts {
             && !meets(&self.disputed_spans, note.offset(), note.end() - 1)
     }
 
+    /// Puts a note that begins where all others have ended, or above, behind them. There is room for it.
+    pub fn append(&mut self, note: Note)
+        requires kept { IsKept self.old.clear.items self.old.disputed.items self.old.disputed_spans.items }
+        requires above { (n : NoteParts) → In n (union_of self.old.clear.items self.old.disputed.items)
+            → end_of n ≤ note.offset }
+        requires room { vec_len self.old.clear < vec_capacity self.old.clear }
+        ensures kept { IsKept self.new.clear.items self.new.disputed.items self.new.disputed_spans.items }
+        ensures content { union_of self.new.clear.items self.new.disputed.items
+            ≡ reduced_with note (union_of self.old.clear.items self.old.disputed.items) }
+        ensures clear_len { vec_len self.new.clear ≤ vec_len self.old.clear + 1 }
+        ensures disputed { self.new.disputed ≡ self.old.disputed }
+        ensures disputed_spans { self.new.disputed_spans ≡ self.old.disputed_spans }
+        ensures capacity { vec_capacity self.new.clear ≡ vec_capacity self.old.clear }
+    {
+        // What is held is a note.
+        prove!(note.offset() <= MAX);
+        put(&mut self.clear, note);
+    }
+
     /// Puts a new note into the parts, which have room for it and for what it moves.
     pub fn put(&mut self, note: Note)
         requires kept { IsKept self.old.clear.items self.old.disputed.items self.old.disputed_spans.items }
@@ -130,10 +149,6 @@ impl Parts {
     {
         // What is held is a note, which ends where a packet may.
         prove!(note.offset() <= MAX);
-        if self.end() <= note.offset() {
-            put(&mut self.clear, note);
-            return;
-        }
         if self.have(&note.to_head()) {
             self.put_in_place(note);
             return;
@@ -247,15 +262,20 @@ impl Parts {
         ensures spans_capacity { vec_capacity self.new.disputed_spans ≡ vec_capacity self.old.disputed_spans }
         ensures runs_capacity { vec_capacity runs.new ≡ vec_capacity runs.old }
     {
-        if self.tell(&note) {
-            return;
-        }
         // What is held is a note, which ends where a packet may.
         prove!(note.offset() <= MAX);
         let span = Run {
             start: note.offset(),
             end: note.covered_end(),
         };
+        if self.end_by(note.offset()) {
+            put_run(runs, span);
+            self.append(note);
+            return;
+        }
+        if self.tell(&note) {
+            return;
+        }
         put_run(runs, span);
         self.put(note);
     }

@@ -1,11 +1,11 @@
-use Rattle.std.proofs.Common.{arith, sym, ◌∙◌, ap, subst, map}
+use Rattle.std.proofs.Common.{sym, ◌∙◌, ap, subst, map}
 use Rattle.mxf_klv.specs.Rising.{In}
 use Rattle.mxf_catalogue.specs.Content.{with_note, union_of}
 use Rattle.mxf_catalogue.proofs.ContentLaws.{IsContent-union_of}
 use Rattle.mxf_catalogue.proofs.HeadLaws.{reduced_with-new}
 use Rattle.mxf_catalogue.specs.Covers.{IsRun, with_run, spanned}
 use Rattle.mxf_catalogue.specs.Parts.{IsKept, StandApart, away_from, disputed_with, run_of, touching}
-use Rattle.mxf_catalogue.proofs.KeptLaws.{above_alone, above_far, hull-IsRun, kept_with_clear, kept_with_disputed}
+use Rattle.mxf_catalogue.proofs.KeptLaws.{hull-IsRun, kept_with_clear, kept_with_disputed}
 use Rattle.mxf_catalogue.proofs.PartLaws.{apart_of, view_with_clear, view_with_disputed}
 use Rattle.mxf_catalogue.proofs.catalogue.parts.Parts.put.Goals as goal
 
@@ -30,7 +30,7 @@ returns-then-are_apart_from-clause-kept c =
     let cs = c.args.self.now.clear.items in
     let ds = c.args.self.now.disputed.items in
     let few = c.args.self.now.disputed_spans.items in
-    subst (λ l. IsKept l ds few) (sym c.put-then-are_apart_from.ensures.items)
+    subst (λ l. IsKept l ds few) (sym c.put.ensures.items)
     (kept_with_clear n cs ds few c.offset.ensures.note c.requires.kept c.requires.new (λ h.
     let t = c.have-2.ensures.1 (subst (λ m. In m (union_of cs ds)) (sym c.to_head.ensures) h) in
     let f = c.if-have.false in cc (t, f))
@@ -40,37 +40,11 @@ pub returns-then-are_apart_from-clause-content : goal.returns-then-are_apart_fro
 returns-then-are_apart_from-clause-content c =
     let cs = c.args.self.now.clear.items in
     let ds = c.args.self.now.disputed.items in
-    ap (λ l. union_of l ds) c.put-then-are_apart_from.ensures.items ∙ view_with_clear c.args.note cs ds c.requires.kept.parts
+    ap (λ l. union_of l ds) c.put.ensures.items ∙ view_with_clear c.args.note cs ds c.requires.kept.parts
     ∙ sym (reduced_with-new c.args.note (union_of cs ds)
     (IsContent-union_of cs ds c.requires.kept.parts.clear_is.content) c.requires.kept.reduced c.requires.new (λ h.
     let t = c.have-2.ensures.1 (subst (λ m. In m (union_of cs ds)) (sym c.to_head.ensures) h) in
     let f = c.if-have.false in cc (t, f)))
-
-pub returns-then-end-offset-clause-kept : goal.returns-then-end-offset-clause-kept
-returns-then-end-offset-clause-kept c =
-    let n = c.args.note in
-    let cs = c.args.self.now.clear.items in
-    let ds = c.args.self.now.disputed.items in
-    let few = c.args.self.now.disputed_spans.items in
-    let o = c.offset-2.ensures.offset in
-    let t = c.if-end-offset.true in
-    let above = (c.end.ensures n.offset).0 (omega (arith, o, t)) in
-    subst (λ l. IsKept l ds few) (sym c.put.ensures.items)
-    (kept_with_clear n cs ds few c.offset.ensures.note c.requires.kept c.requires.new
-    (above_alone n (union_of cs ds) above) (λ m h. above_far n m (above m h)))
-
-pub returns-then-end-offset-clause-content : goal.returns-then-end-offset-clause-content
-returns-then-end-offset-clause-content c =
-    let n = c.args.note in
-    let cs = c.args.self.now.clear.items in
-    let ds = c.args.self.now.disputed.items in
-    let o = c.offset-2.ensures.offset in
-    let t = c.if-end-offset.true in
-    let above = (c.end.ensures n.offset).0 (omega (arith, o, t)) in
-    ap (λ l. union_of l ds) c.put.ensures.items ∙ view_with_clear n cs ds c.requires.kept.parts
-    ∙ sym (reduced_with-new n (union_of cs ds)
-    (IsContent-union_of cs ds c.requires.kept.parts.clear_is.content) c.requires.kept.reduced c.requires.new
-    (above_alone n (union_of cs ds) above))
 
 pub returns-clause-kept : goal.returns-clause-kept
 returns-clause-kept c =

@@ -1,16 +1,29 @@
-use Rattle.std.proofs.Common.{◌<◌, ◌≤◌, arith}
-use Rattle.std.proofs.lemmas.Bool.{ltb-true}
-use Rattle.mxf_catalogue.specs.Content.{union_of}
-use Rattle.mxf_catalogue.proofs.KeptLaws.{above_new}
+use Rattle.std.proofs.Common.{sym, subst, inl, inr}
+use Rattle.mxf_catalogue.specs.Content.{has_note}
+use Rattle.mxf_catalogue.proofs.HeadLaws.{has-union_of}
 use Rattle.mxf_catalogue.proofs.catalogue.parts.Parts.tell.Goals as goal
 
-pub returns-else-end-offset : goal.returns-else-end-offset
-returns-else-end-offset c =
+pub returns-then-tell : goal.returns-then-tell
+returns-then-tell c =
     let n = c.args.note.now in
-    let f = c.if-end-offset.false in
-    let o = c.offset.ensures.offset in (
-      λ t. let l : c.offset.result < c.end.result = ltb-true _ _ t in absurd (omega (arith, l, f)),
-      λ h.
-          let l : c.end.result ≤ n.offset = omega (arith, o, f) in
-          absurd (above_new n (union_of c.args.self.now.clear.items c.args.self.now.disputed.items) ((c.end.ensures n.offset).0 l) h),
+    let cs = c.args.self.now.clear.items in
+    let ds = c.args.self.now.disputed.items in (
+      λ h. (has-union_of n cs ds).1 (inl (subst (λ l. has_note l n) c.deref.ensures.value (c.tell.ensures.0 h))),
+      λ _. c.if-tell.true,
+    )
+
+pub returns-else-tell : goal.returns-else-tell
+returns-else-tell c =
+    let n = c.args.note.now in
+    let cs = c.args.self.now.clear.items in
+    let ds = c.args.self.now.disputed.items in
+    let u = has-union_of n cs ds in
+    let other = c.deref-else-tell.ensures.value in (
+      λ h. u.1 (inr (subst (λ l. has_note l n) other (c.tell-else-tell.ensures.0 h))),
+      λ h. elim (u.0 h) [
+        | inl i ↦
+            let t = c.tell.ensures.1 (subst (λ l. has_note l n) (sym c.deref.ensures.value) i) in
+            let f = c.if-tell.false in cc (t, f)
+        | inr i ↦ c.tell-else-tell.ensures.1 (subst (λ l. has_note l n) (sym other) i)
+      ],
     )
