@@ -199,17 +199,34 @@ impl Catalogue {
         Ok(())
     }
 
-    /// A catalogue of the notes of a content.
+    /// A catalogue of the notes of a content. Where each begins at or above the end of the one before, their list is taken
+    /// over as it is.
     fn of_notes(alloc: Global, notes: Vec<Note>) -> Result<Catalogue, OutOfMemory>
-        requires content { IsContent notes.items }
+        requires catalogue { IsCatalogue notes.items }
         requires reduced { AreReduced notes.items }
         ensures { IfOk result (λ c. c ≡ notes.items) }
     {
+        if are_apart(&notes) {
+            return Catalogue::of_apart(alloc, notes);
+        }
         let mut all = Catalogue::new(alloc);
         for note in notes {
             all.add(note)?;
         }
         Ok(all)
+    }
+
+    /// A catalogue of the notes of a content, each of which begins at or above the end of the one before.
+    fn of_apart(alloc: Global, notes: Vec<Note>) -> Result<Catalogue, OutOfMemory>
+        requires catalogue { IsCatalogue notes.items }
+        requires reduced { AreReduced notes.items }
+        requires apart { AreApart 0 notes.items }
+        ensures { IfOk result (λ c. c ≡ notes.items) }
+    {
+        let spans = spans_of(alloc, &notes)?;
+        let mut parts = Parts::new(alloc);
+        parts.clear = notes;
+        Ok(Catalogue { parts, spans })
     }
 
     /// A catalogue of equal notes, in new memory.
@@ -337,6 +354,32 @@ impl Catalogue {
         let note = at_offset(&self.parts.clear, offset)?;
         if note.is_head() { None } else { Some(note) }
     }
+}
+
+/// Whether each of the notes begins at or above the end of the one before.
+fn are_apart(notes: &[Note]) -> bool
+    ensures { IsTrue result → AreApart 0 notes.now }
+{
+    let mut end = 0;
+    for note in notes {
+        if note.offset() < end {
+            return false;
+        }
+        end = note.end();
+    }
+    true
+}
+
+/// The file offsets, in bytes, that some of the notes covers.
+fn spans_of(alloc: Global, notes: &[Note]) -> Result<Cover, OutOfMemory>
+    ensures { IfOk result (λ c. Covers c notes.now) }
+{
+    let mut spans = Cover::new(alloc);
+    for note in notes {
+        // What is held is a note, which ends where a packet may.
+        spans.add(note.offset(), note.covered_end())?;
+    }
+    Ok(spans)
 }
 
 impl Semilattice for Catalogue {
