@@ -233,11 +233,12 @@ impl Catalogue {
     fn copy(&self, alloc: Global) -> Result<Catalogue, OutOfMemory>
         ensures { IfOk result (λ c. c ≡ self.now) }
     {
-        let mut all = Catalogue::new(alloc);
-        for note in self.notes() {
-            all.add(note.clone_in(alloc)?)?;
-        }
-        Ok(all)
+        let parts = self.parts.copy(alloc)?;
+        let runs = Vec::from_slice(alloc, &self.spans.runs)?;
+        Ok(Catalogue {
+            parts,
+            spans: Cover { runs },
+        })
     }
 
     /// The file offsets, in bytes, that some note covers: of a whole note its span, of a head its key and length alone.

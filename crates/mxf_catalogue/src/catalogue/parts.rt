@@ -15,7 +15,7 @@ use super::merging::{MergedNotes, merged};
 use super::placing::{hull, is_in, last_end, move_touched, put, put_over_head, tell, touched};
 use crate::cover::{self, meets, put_run};
 use crate::run::Run;
-use mxf_klv::{MAX, Note};
+use mxf_klv::{MAX, Note, OutOfMemory};
 use std::alloc::{AllocError, Global};
 
 /// The undisputed notes of a content, its clear notes and the heads that share no byte with another, and the disputed
@@ -39,6 +39,19 @@ impl Parts {
             disputed: Vec::new(alloc),
             disputed_spans: Vec::new(alloc),
         }
+    }
+
+    /// Equal parts, in new memory.
+    pub fn copy(&self, alloc: Global) -> Result<Parts, OutOfMemory>
+        ensures clear { IfOk result (λ p. p.clear.items ≡ self.now.clear.items) }
+        ensures disputed { IfOk result (λ p. p.disputed.items ≡ self.now.disputed.items) }
+        ensures disputed_spans { IfOk result (λ p. p.disputed_spans.items ≡ self.now.disputed_spans.items) }
+    {
+        Ok(Parts {
+            clear: copies_of(alloc, &self.clear)?,
+            disputed: copies_of(alloc, &self.disputed)?,
+            disputed_spans: Vec::from_slice(alloc, &self.disputed_spans)?,
+        })
     }
 
     /// Whether one of the parts has the note.
@@ -317,6 +330,17 @@ impl Parts {
             (clear, disputed) => clear.or(disputed),
         }
     }
+}
+
+/// Equal notes, in new memory, of which no more is taken.
+fn copies_of(alloc: Global, notes: &[Note]) -> Result<Vec<Note>, OutOfMemory>
+    ensures { IfOk result (λ copies. copies.items ≡ notes.now) }
+{
+    let mut copies = Vec::with_capacity(alloc, notes.len())?;
+    for note in notes {
+        copies.push(note.clone_in(alloc)?)?;
+    }
+    Ok(copies)
 }
 
 /// Whether a last note, where there is one, stands below the other.
