@@ -1,13 +1,13 @@
 -- Runs that touch a run, and offsets in runs, by their places in a cover.
-use Rattle.std.specs.Prelude.{◌≡◌, ℕ, suc, zero, ◌+◌, ◌<◌, ◌≤◌, nat_lt, max, true, false, ◌↔◌, ◌⊎◌, cond}
-use Rattle.std.specs.Prelude.{List, [], ◌∷◌, ◌++◌, length, take, drop, refl}
+use Rattle.std.specs.Prelude.{◌≡◌, ℕ, suc, zero, ◌+◌, ◌<◌, ◌≤◌, nat_lt, min, max, true, false, ◌↔◌, ◌⊎◌, cond}
+use Rattle.std.specs.Prelude.{List, [], ◌∷◌, ◌++◌, length, insert, slice_set, take, drop, refl}
 use Rattle.std.specs.List.{AllByRecursion, AllWithin}
 use Rattle.std.specs.List.Sorted.{IsNonDecreasingBy}
 use Rattle.std.specs.Bool.{Decides}
 use Rattle.std.proofs.Common.{◌==◌, ◌&&◌, eqb-true, eq-eqb, sym, ap, subst, inl, inr, arith, get_or}
 use Rattle.std.proofs.lemmas.Bool.{ltb-true, ltb-false}
-use Rattle.std.specs.Prelude.{◌-◌, Some, slice_get}
-use Rattle.std.proofs.lemmas.Option.{get_or_from_slice_get, slice_get_within}
+use Rattle.std.specs.Prelude.{◌-◌, None, Some, slice_get}
+use Rattle.std.proofs.lemmas.Option.{get_or_from_slice_get, slice_get-get_or, slice_get_within}
 use Rattle.mxf_klv.specs.Note.{greatest_end}
 use Rattle.mxf_klv.specs.Rising.{In}
 use Rattle.mxf_catalogue.proofs.Places.{Contains-from_In, In-at}
@@ -132,6 +132,55 @@ pub start_below_end : (low : ℕ) (runs : List Run) (k : ℕ) (d : Run) → AreM
 start_below_end low [] k d m l = absurd (omega arith)
 start_below_end low (r ∷ runs) zero d m l = m.1
 start_below_end low (r ∷ runs) (suc k) d m l = start_below_end (r.end + 1) runs k d m.2 (omega arith)
+
+-- the first run stands alone
+pub with_run_first : (r : Run) (runs : List Run) → None ≡ slice_get runs (length runs - 1)
+    → insert runs (length runs) r ≡ with_run r runs
+with_run_first r [] e = refl
+with_run_first r (x ∷ xs) e =
+    let there = slice_get-get_or (x ∷ xs) (length (x ∷ xs) - 1) x (omega arith) in absurd (cc (e, there))
+
+-- a run that begins above the end of the last goes behind it
+pub with_run_behind : (low k : ℕ) (r s : Run) (runs : List Run) → AreMaximal low runs → k + 1 ≡ length runs
+    → get_or runs k s ≡ s → s.end < r.start → r.start < r.end → insert runs (length runs) r ≡ with_run r runs
+with_run_behind low k r s [] m e g t n = absurd (omega arith)
+with_run_behind low zero r s (x ∷ []) m e g t n =
+    let p : x.end ≡ s.end = ap (λ (q : Run). q.end) g in
+    let o : x.start < x.end = m.1 in
+    with_run_cases r x [] (λ l. x ∷ r ∷ [] ≡ l) (λ f. absurd (omega (arith, p, o, t, n))) (λ f. refl)
+    (λ f h. absurd (omega (arith, p, t)))
+with_run_behind low zero r s (x ∷ y ∷ ys) m e g t n = absurd (omega arith)
+with_run_behind low (suc k) r s (x ∷ xs) m e g t n =
+    let ih = with_run_behind (x.end + 1) k r s xs m.2 (omega arith) g t n in
+    let from : x.end + 1 ≤ s.start =
+    subst (λ (q : Run). x.end + 1 ≤ q.start) g (above (x.end + 1) xs k s m.2 (omega arith)) in
+    let some : s.start < s.end = subst (λ (q : Run). q.start < q.end) g (start_below_end (x.end + 1) xs k s m.2 (omega arith)) in
+    let o : x.start < x.end = m.1 in
+    with_run_cases r x xs (λ l. x ∷ insert xs (length xs) r ≡ l) (λ f. absurd (omega (arith, from, some, o, t, n)))
+    (λ f. ap (λ l. x ∷ l) ih) (λ f h. absurd (omega (arith, from, some, t)))
+
+-- a run that begins at the end of the last makes one run with it
+pub with_run_grown : (low k : ℕ) (r s : Run) (runs : List Run) → AreMaximal low runs → k + 1 ≡ length runs
+    → get_or runs k s ≡ s → s.end ≡ r.start → r.start < r.end → slice_set runs k (run s.start r.end) ≡ with_run r runs
+with_run_grown low k r s [] m e g t n = absurd (omega arith)
+with_run_grown low zero r s (x ∷ []) m e g t n =
+    let p : x.end ≡ s.end = ap (λ (q : Run). q.end) g in
+    let q : x.start ≡ s.start = ap (λ (q : Run). q.start) g in
+    let o : x.start < x.end = m.1 in
+    let start : s.start ≡ min r.start x.start = omega (arith, p, q, o, t, n) in
+    let end : r.end ≡ max r.end x.end = omega (arith, p, o, t, n) in
+    with_run_cases r x [] (λ l. run s.start r.end ∷ [] ≡ l) (λ f. absurd (omega (arith, p, o, t, n)))
+    (λ f. absurd (omega (arith, p, t))) (λ f h i. run (start i) (end i) ∷ [])
+with_run_grown low zero r s (x ∷ y ∷ ys) m e g t n = absurd (omega arith)
+with_run_grown low (suc k) r s (x ∷ xs) m e g t n =
+    let ih = with_run_grown (x.end + 1) k r s xs m.2 (omega arith) g t n in
+    let from : x.end + 1 ≤ s.start =
+    subst (λ (q : Run). x.end + 1 ≤ q.start) g (above (x.end + 1) xs k s m.2 (omega arith)) in
+    let some : s.start < s.end = subst (λ (q : Run). q.start < q.end) g (start_below_end (x.end + 1) xs k s m.2 (omega arith)) in
+    let o : x.start < x.end = m.1 in
+    with_run_cases r x xs (λ l. x ∷ slice_set xs k (run s.start r.end) ≡ l)
+    (λ f. absurd (omega (arith, from, some, o, t, n))) (λ f. ap (λ l. x ∷ l) ih)
+    (λ f h. absurd (omega (arith, from, some, t)))
 
 pub end_within : (high : ℕ) (runs : List Run) (k : ℕ) (d : Run) → AllByRecursion (λ r. r.end ≤ high) runs
     → k < length runs → (get_or runs k d).end ≤ high

@@ -1,20 +1,21 @@
 -- What a catalogue keeps, once a note is there.
 use Rattle.std.specs.Prelude.{◌≡◌, ◌↔◌, ℕ, ◌+◌, ◌-◌, ◌<◌, ◌≤◌, max, List, [], map}
-use Rattle.std.proofs.Common.{arith, sym, subst, inl, inr, refl}
+use Rattle.std.proofs.Common.{◌∙◌, arith, ap, sym, subst, inl, inr, refl}
 use Rattle.mxf_klv.specs.Parts.{NoteParts}
 use Rattle.mxf_klv.specs.Note.{IsInSpan, IsNote, end_of, head_note}
 use Rattle.mxf_klv.specs.Rising.{In}
 use Rattle.mxf_catalogue.specs.declared.run.Run.{Run}
 use Rattle.mxf_catalogue.specs.Content.{AreReduced, IsCatalogue, has_note, reduced_with, union_of, with_note}
 use Rattle.mxf_catalogue.specs.Covers.{IsRun, spanned, with_run}
-use Rattle.mxf_catalogue.specs.Disputes.{SharesByte}
+use Rattle.mxf_catalogue.specs.Disputes.{SharesByte, whole_notes}
 use Rattle.mxf_catalogue.specs.Parts.{AreParts, Covers, IsKept, IsWhole, Spans, away_from, covered_run, disputed_with}
-use Rattle.mxf_catalogue.specs.Parts.{run_of, touching}
+use Rattle.mxf_catalogue.specs.Parts.{moved_by, run_of, touching}
 use Rattle.mxf_catalogue.specs.Runs.{LiesIn}
 use Rattle.mxf_catalogue.proofs.ContentLaws.{In-union_of, IsCatalogue-union_of, all-In}
 use Rattle.mxf_catalogue.proofs.CoverLaws.{IsCover-with_run}
 use Rattle.mxf_catalogue.proofs.PartLaws.{In-disputed_with, In-touching, parts_with_clear, parts_with_disputed}
 use Rattle.mxf_catalogue.proofs.PartLaws.{some_member, view_with_clear, view_with_disputed, parts_swap_clear}
+use Rattle.mxf_catalogue.proofs.PartLaws.{moved_part, no_members}
 use Rattle.mxf_catalogue.proofs.PartLaws.{parts_swap_disputed, view_swap_clear, view_swap_disputed}
 use Rattle.mxf_catalogue.proofs.HeadLaws.{AreReduced-reduced, AreReduced-with_note, In-reduced_with, AreReduced-part}
 use Rattle.mxf_catalogue.proofs.HeadLaws.{same_note}
@@ -176,3 +177,31 @@ end_of_parts c d few k one two bound p q = (
       let w : offset + 1 ≤ end_of s.0 = s.2.before in omega (arith, e, w)) in
       omega (arith, a, b),
 )
+
+-- a note that begins where another has ended shares no byte with it
+pub above_far : (x n : NoteParts) → end_of n ≤ x.offset → SharesByte x n → ⊥
+above_far x n l s =
+    let a : x.offset ≤ s.0 = s.1.from in let b : s.0 + 1 ≤ end_of n = s.2.before in omega (arith, l)
+
+-- where all have ended, it is new, and so is its head
+pub above_new : (x : NoteParts) (notes : List NoteParts) → ((n : NoteParts) → In n notes → end_of n ≤ x.offset)
+    → has_note notes x → ⊥
+above_new x notes above h = elim h [
+  | inl i ↦ let l : end_of x ≤ x.offset = above x i in omega (arith, l)
+  | inr s ↦
+      let e : s.0.offset ≡ x.offset = ap (λ (n : NoteParts). n.offset) s.2 in
+      let l : end_of s.0 ≤ x.offset = above s.0 s.1 in omega (arith, l, e)
+]
+
+pub above_alone : (x : NoteParts) (notes : List NoteParts) → ((n : NoteParts) → In n notes → end_of n ≤ x.offset)
+    → In (head_note x) notes → ⊥
+above_alone x notes above i = let l : end_of x ≤ x.offset = above (head_note x) i in omega (arith, l)
+
+-- and it moves none
+pub above_moves_none : (x : NoteParts) (c d : List NoteParts) → AreParts c d → AreReduced (union_of c d)
+    → ((n : NoteParts) → In n (union_of c d) → end_of n ≤ x.offset) → [] ≡ moved_by x (union_of c d)
+above_moves_none x c d p red above =
+    let none : touching x c ≡ [] = no_members (touching x c) (λ n h.
+    let t = (In-touching x n c).0 h in above_far x n (above n ((In-union_of n c d).1 (inl t.0))) t.1) in
+    sym (ap (λ l. map (λ (n : NoteParts). n.offset) (whole_notes l)) none)
+    ∙ moved_part x c d p red (above_new x (union_of c d) above)

@@ -22,7 +22,7 @@ mod notes;
 mod parts;
 mod placing;
 
-use crate::cover::{self, Cover};
+use crate::cover::Cover;
 use crate::semilattice::Semilattice;
 pub use change::{AddFault, Change, Offsets, moved_notes_by_definition};
 pub use clear::{ClearNotes, clear_notes_by_definition, clear_notes_stand_apart};
@@ -39,7 +39,7 @@ use merging::{MergedNotes, Room};
 use mxf_klv::{Note, OutOfMemory};
 pub use notes::Notes;
 use parts::Parts;
-use placing::{at_offset, is_in, last_end, touched, within};
+use placing::{at_offset, is_in, touched, within};
 use std::alloc::Global;
 use std::marker::Model;
 use std::mem::replace;
@@ -94,6 +94,9 @@ impl Catalogue {
         ensures err { OnErr result (self.new ≡ self.old) }
         ensures history { (h : History) → self.old ≡ content h → OnOk result (self.new ≡ content (Add h note)) }
     {
+        if self.parts.end_by(note.offset()) {
+            return self.append(note);
+        }
         if self.parts.tell(&note) {
             return Ok(Change::Repeated);
         }
@@ -106,6 +109,29 @@ impl Catalogue {
         };
         self.parts.put(note);
         Ok(Change::Added { moved })
+    }
+
+    /// Adds a note that begins where all others have ended, or above: it is new, goes behind them and moves none.
+    fn append(&mut self, note: Note) -> Result<Change, AddFault>
+        requires above { (n : NoteParts) → In n self.old → end_of n ≤ note.offset }
+        ensures added { OnOk result (self.new ≡ reduced_with note self.old) }
+        ensures new { IfOk result (λ c. c ≡ Change.Added []) }
+        ensures fault { IfErr result (λ f. f.note ≡ note) }
+        ensures err { OnErr result (self.new ≡ self.old) }
+    {
+        let alloc = *self.parts.clear.allocator();
+        let Ok(()) = self.parts.clear.reserve(1) else {
+            return Err(AddFault { note });
+        };
+        // What is held is a note, which ends where a packet may.
+        let end = note.covered_end();
+        let Ok(()) = self.spans.add(note.offset(), end) else {
+            return Err(AddFault { note });
+        };
+        self.parts.append(note);
+        Ok(Change::Added {
+            moved: Offsets::none(alloc),
+        })
     }
 
     /// Moves the notes of another catalogue into this one, which holds the notes of both then. No kept value is copied.
@@ -173,12 +199,16 @@ impl Catalogue {
         Ok(())
     }
 
-    /// A catalogue of the notes of a content.
+    /// A catalogue of the notes of a content. Where each begins at or above the end of the one before, their list is taken
+    /// over as it is.
     fn of_notes(alloc: Global, notes: Vec<Note>) -> Result<Catalogue, OutOfMemory>
-        requires content { IsContent notes.items }
+        requires catalogue { IsCatalogue notes.items }
         requires reduced { AreReduced notes.items }
         ensures { IfOk result (λ c. c ≡ notes.items) }
     {
+        if are_apart(&notes) {
+            return Catalogue::of_apart(alloc, notes);
+        }
         let mut all = Catalogue::new(alloc);
         for note in notes {
             all.add(note)?;
@@ -186,15 +216,29 @@ impl Catalogue {
         Ok(all)
     }
 
+    /// A catalogue of the notes of a content, each of which begins at or above the end of the one before.
+    fn of_apart(alloc: Global, notes: Vec<Note>) -> Result<Catalogue, OutOfMemory>
+        requires catalogue { IsCatalogue notes.items }
+        requires reduced { AreReduced notes.items }
+        requires apart { AreApart 0 notes.items }
+        ensures { IfOk result (λ c. c ≡ notes.items) }
+    {
+        let spans = spans_of(alloc, &notes)?;
+        let mut parts = Parts::new(alloc);
+        parts.clear = notes;
+        Ok(Catalogue { parts, spans })
+    }
+
     /// A catalogue of equal notes, in new memory.
     fn copy(&self, alloc: Global) -> Result<Catalogue, OutOfMemory>
         ensures { IfOk result (λ c. c ≡ self.now) }
     {
-        let mut all = Catalogue::new(alloc);
-        for note in self.notes() {
-            all.add(note.clone_in(alloc)?)?;
-        }
-        Ok(all)
+        let parts = self.parts.copy(alloc)?;
+        let runs = Vec::from_slice(alloc, &self.spans.runs)?;
+        Ok(Catalogue {
+            parts,
+            spans: Cover { runs },
+        })
     }
 
     /// The file offsets, in bytes, that some note covers: of a whole note its span, of a head its key and length alone.
@@ -212,11 +256,12 @@ impl Catalogue {
         self.parts.have(note)
     }
 
-    /// Whether the note is held, or is the head of a held one: to add it is `Repeated` then. Two binary searches.
+    /// Whether the note is held, or is the head of a held one: to add it is `Repeated` then. At most
+    /// two binary searches.
     pub fn has(&self, note: &Note) -> bool
         ensures { IsTrue result ↔ has_note self.now note.now }
     {
-        self.parts.tell(note)
+        !self.parts.end_by(note.offset()) && self.parts.tell(note)
     }
 
     /// The number of notes.
@@ -296,8 +341,7 @@ impl Catalogue {
     pub fn end(&self) -> u64
         ensures { (bound : ℕ) → result ≤ bound ↔ ((n : NoteParts) → In n self.now → end_of n ≤ bound) }
     {
-        let disputed = cover::last_end(&self.parts.disputed_spans);
-        last_end(&self.parts.clear).max(disputed)
+        self.parts.end()
     }
 
     /// The clear note with this file offset, in bytes: a binary search.
@@ -311,6 +355,32 @@ impl Catalogue {
         let note = at_offset(&self.parts.clear, offset)?;
         if note.is_head() { None } else { Some(note) }
     }
+}
+
+/// Whether each of the notes begins at or above the end of the one before.
+fn are_apart(notes: &[Note]) -> bool
+    ensures { IsTrue result → AreApart 0 notes.now }
+{
+    let mut end = 0;
+    for note in notes {
+        if note.offset() < end {
+            return false;
+        }
+        end = note.end();
+    }
+    true
+}
+
+/// The file offsets, in bytes, that some of the notes covers.
+fn spans_of(alloc: Global, notes: &[Note]) -> Result<Cover, OutOfMemory>
+    ensures { IfOk result (λ c. Covers c notes.now) }
+{
+    let mut spans = Cover::new(alloc);
+    for note in notes {
+        // What is held is a note, which ends where a packet may.
+        spans.add(note.offset(), note.covered_end())?;
+    }
+    Ok(spans)
 }
 
 impl Semilattice for Catalogue {

@@ -1,5 +1,5 @@
 //! What adding a note did, or why it wasn't added.
-ghost use Rattle.std.specs.Prelude.{◌≡◌, ◌↔◌, List, map, IfOk};
+ghost use Rattle.std.specs.Prelude.{◌≡◌, ◌↔◌, List, [], map, IfOk};
 ghost use Rattle.std.specs.Ordering.{nat_cmp};
 ghost use Rattle.mxf_klv.specs.Parts.{NoteParts};
 ghost use Rattle.mxf_klv.specs.Rising.{In, IsRising};
@@ -28,6 +28,15 @@ impl Model for Offsets {
 }
 
 impl Offsets {
+    /// None.
+    pub(super) fn none(alloc: Global) -> Offsets
+        ensures { result ≡ [] }
+    {
+        Offsets {
+            items: Vec::new(alloc),
+        }
+    }
+
     /// Those of the notes that are no heads.
     pub(super) fn of(alloc: Global, notes: &[Note]) -> Result<Offsets, AllocError>
         ensures { IfOk result (λ o. o ≡ map (λ n. n.offset) (whole_notes notes.now)) }

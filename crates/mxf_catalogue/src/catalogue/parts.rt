@@ -3,7 +3,7 @@ ghost use Rattle.std.specs.Prelude.{◌≡◌, ◌↔◌, ◌⊎◌, ◌++◌, �
 ghost use Rattle.std.specs.Prelude.{vec_len, vec_capacity, IsTrue, IfOk, OnOk};
 ghost use Rattle.mxf_klv.specs.Parts.{NoteParts};
 ghost use Rattle.mxf_klv.specs.Rising.{In};
-ghost use Rattle.mxf_klv.specs.Note.{head_note};
+ghost use Rattle.mxf_klv.specs.Note.{end_of, head_note};
 ghost use Rattle.mxf_catalogue.specs.Content.{AreReduced, IsContent, has_note, reduced_union, reduced_with, union_of};
 ghost use Rattle.mxf_catalogue.specs.Covers.{IsCover};
 ghost use Rattle.mxf_catalogue.specs.Disputes.{SharesByte, whole_notes};
@@ -12,10 +12,10 @@ ghost use Rattle.mxf_catalogue.specs.Rooms.{IsRoomFor};
 
 use super::change::Offsets;
 use super::merging::{MergedNotes, merged};
-use super::placing::{hull, is_in, move_touched, put, put_over_head, tell, touched};
-use crate::cover::{meets, put_run};
+use super::placing::{hull, is_in, last_end, move_touched, put, put_over_head, tell, touched};
+use crate::cover::{self, meets, put_run};
 use crate::run::Run;
-use mxf_klv::{MAX, Note};
+use mxf_klv::{MAX, Note, OutOfMemory};
 use std::alloc::{AllocError, Global};
 
 /// The undisputed notes of a content, its clear notes and the heads that share no byte with another, and the disputed
@@ -41,12 +41,44 @@ impl Parts {
         }
     }
 
+    /// Equal parts, in new memory.
+    pub fn copy(&self, alloc: Global) -> Result<Parts, OutOfMemory>
+        ensures clear { IfOk result (λ p. p.clear.items ≡ self.now.clear.items) }
+        ensures disputed { IfOk result (λ p. p.disputed.items ≡ self.now.disputed.items) }
+        ensures disputed_spans { IfOk result (λ p. p.disputed_spans.items ≡ self.now.disputed_spans.items) }
+    {
+        Ok(Parts {
+            clear: copies_of(alloc, &self.clear)?,
+            disputed: copies_of(alloc, &self.disputed)?,
+            disputed_spans: Vec::from_slice(alloc, &self.disputed_spans)?,
+        })
+    }
+
     /// Whether one of the parts has the note.
     pub fn have(&self, note: &Note) -> bool
         requires { AreParts self.now.clear.items self.now.disputed.items }
         ensures { IsTrue result ↔ In note.now (union_of self.now.clear.items self.now.disputed.items) }
     {
         is_in(&self.clear, note) || is_in(&self.disputed, note)
+    }
+
+    /// The greatest end of a note, in bytes, be it claimed by a head; 0 where there is no note.
+    pub fn end(&self) -> u64
+        requires { IsKept self.now.clear.items self.now.disputed.items self.now.disputed_spans.items }
+        ensures { (bound : ℕ) → result ≤ bound
+            ↔ ((n : NoteParts) → In n (union_of self.now.clear.items self.now.disputed.items) → end_of n ≤ bound) }
+    {
+        let disputed = cover::last_end(&self.disputed_spans);
+        last_end(&self.clear).max(disputed)
+    }
+
+    /// Whether all notes have ended at the offset, in bytes, or below.
+    pub fn end_by(&self, offset: u64) -> bool
+        requires { IsKept self.now.clear.items self.now.disputed.items self.now.disputed_spans.items }
+        ensures { IsTrue result
+            ↔ ((n : NoteParts) → In n (union_of self.now.clear.items self.now.disputed.items) → end_of n ≤ offset) }
+    {
+        self.end() <= offset
     }
 
     /// Whether one of the parts has the note, or a note of its packet that was read whole, where it is a head.
@@ -88,6 +120,25 @@ impl Parts {
     {
         touched(&self.clear, note).is_empty()
             && !meets(&self.disputed_spans, note.offset(), note.end() - 1)
+    }
+
+    /// Puts a note that begins where all others have ended, or above, behind them. There is room for it.
+    pub fn append(&mut self, note: Note)
+        requires kept { IsKept self.old.clear.items self.old.disputed.items self.old.disputed_spans.items }
+        requires above { (n : NoteParts) → In n (union_of self.old.clear.items self.old.disputed.items)
+            → end_of n ≤ note.offset }
+        requires room { vec_len self.old.clear < vec_capacity self.old.clear }
+        ensures kept { IsKept self.new.clear.items self.new.disputed.items self.new.disputed_spans.items }
+        ensures content { union_of self.new.clear.items self.new.disputed.items
+            ≡ reduced_with note (union_of self.old.clear.items self.old.disputed.items) }
+        ensures clear_len { vec_len self.new.clear ≤ vec_len self.old.clear + 1 }
+        ensures disputed { self.new.disputed ≡ self.old.disputed }
+        ensures disputed_spans { self.new.disputed_spans ≡ self.old.disputed_spans }
+        ensures capacity { vec_capacity self.new.clear ≡ vec_capacity self.old.clear }
+    {
+        // What is held is a note.
+        prove!(note.offset() <= MAX);
+        put(&mut self.clear, note);
     }
 
     /// Puts a new note into the parts, which have room for it and for what it moves.
@@ -224,15 +275,20 @@ impl Parts {
         ensures spans_capacity { vec_capacity self.new.disputed_spans ≡ vec_capacity self.old.disputed_spans }
         ensures runs_capacity { vec_capacity runs.new ≡ vec_capacity runs.old }
     {
-        if self.tell(&note) {
-            return;
-        }
         // What is held is a note, which ends where a packet may.
         prove!(note.offset() <= MAX);
         let span = Run {
             start: note.offset(),
             end: note.covered_end(),
         };
+        if self.end_by(note.offset()) {
+            put_run(runs, span);
+            self.append(note);
+            return;
+        }
+        if self.tell(&note) {
+            return;
+        }
         put_run(runs, span);
         self.put(note);
     }
@@ -253,6 +309,9 @@ impl Parts {
         ensures notes { result.items ≡ union_of self.clear.items self.disputed.items }
         ensures content { IsContent result.items }
     {
+        if self.disputed.is_empty() {
+            return self.clear;
+        }
         merged(room, self.clear, self.disputed)
     }
 
@@ -271,6 +330,17 @@ impl Parts {
             (clear, disputed) => clear.or(disputed),
         }
     }
+}
+
+/// Equal notes, in new memory, of which no more is taken.
+fn copies_of(alloc: Global, notes: &[Note]) -> Result<Vec<Note>, OutOfMemory>
+    ensures { IfOk result (λ copies. copies.items ≡ notes.now) }
+{
+    let mut copies = Vec::with_capacity(alloc, notes.len())?;
+    for note in notes {
+        copies.push(note.clone_in(alloc)?)?;
+    }
+    Ok(copies)
 }
 
 /// Whether a last note, where there is one, stands below the other.

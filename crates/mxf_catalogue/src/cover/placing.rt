@@ -1,4 +1,4 @@
-//! Where offsets and runs stand among the runs of a cover: all by binary search.
+//! Where offsets and runs stand among the runs of a cover: at its end, or by binary search.
 ghost use Rattle.std.specs.Prelude.{◌≡◌, ◌↔◌, ℕ, ◌+◌, ◌<◌, ◌≤◌, ◌++◌, ◌∷◌, take, drop, length};
 ghost use Rattle.std.specs.Prelude.{vec_len, vec_capacity, IsTrue};
 ghost use Rattle.std.specs.List.{AllWithin};
@@ -99,6 +99,29 @@ fn touched(runs: &[Run], run: Run) -> (usize, usize, Run)
     (from, to, span(run, others))
 }
 
+/// Puts a run that begins where all runs of a cover have ended, or above, behind them, or grows the last by it. There is
+/// room for it.
+fn append_run(runs: &mut Vec<Run>, run: Run)
+    requires cover { IsCover runs.old.items }
+    requires run { IsRun run }
+    requires above { (offset : ℕ) → LiesIn runs.old.items offset → offset < run.start }
+    requires room { vec_len runs.old < vec_capacity runs.old }
+    ensures items { runs.new.items ≡ with_run run runs.old.items }
+    ensures len { vec_len runs.new ≤ vec_len runs.old + 1 }
+    ensures room { vec_capacity runs.new ≡ vec_capacity runs.old }
+{
+    let count = runs.len();
+    match runs.last() {
+        Some(last) if last.end == run.start => runs[count - 1].end = run.end,
+        _ => {
+            // There is room.
+            let Ok(()) = runs.insert(count, run) else {
+                unreachable!()
+            };
+        }
+    }
+}
+
 /// Puts the run among the runs of a cover, which have room for one more.
 pub(crate) fn put_run(runs: &mut Vec<Run>, run: Run)
     requires cover { IsCover runs.old.items }
@@ -109,6 +132,10 @@ pub(crate) fn put_run(runs: &mut Vec<Run>, run: Run)
     ensures len { vec_len runs.new ≤ vec_len runs.old + 1 }
     ensures room { vec_capacity runs.new ≡ vec_capacity runs.old }
 {
+    if last_end(runs) <= run.start {
+        append_run(runs, run);
+        return;
+    }
     let (from, to, all) = touched(runs, run);
     drop(runs.drain(from..to));
     // There is room.

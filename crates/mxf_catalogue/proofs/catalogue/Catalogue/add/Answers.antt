@@ -1,13 +1,54 @@
-use Rattle.std.proofs.Common.{◌≡◌, ◌∙◌, ap, sym, subst, List}
+use Rattle.std.proofs.Common.{◌≡◌, ◌≤◌, ◌∙◌, [], IfOk, ap, arith, sym, subst, List}
+use Rattle.std.proofs.lemmas.Result.{IfOk-weaker}
+use Rattle.mxf_klv.specs.Note.{end_of}
+use Rattle.mxf_klv.specs.Rising.{In}
+use Rattle.mxf_catalogue.specs.Moved.{TellsMoved}
+use Rattle.mxf_catalogue.specs.declared.catalogue.change.Change.{Change}
+use Rattle.mxf_catalogue.specs.declared.catalogue.change.Change.TheVariants.{Repeated, Added}
 use Rattle.mxf_klv.specs.Parts.{NoteParts}
 use Rattle.mxf_catalogue.proofs.HeadLaws.{reduced_with-present}
 use Rattle.mxf_catalogue.specs.Content.{AreReduced, IsCatalogue, has_note, reduced_with, union_of}
 use Rattle.mxf_catalogue.specs.Covers.{with_run}
 use Rattle.mxf_catalogue.specs.Parts.{Covers, moved_by}
 use Rattle.mxf_catalogue.specs.Runs.{run}
-use Rattle.mxf_catalogue.proofs.KeptLaws.{covers_with, union_is}
+use Rattle.mxf_catalogue.proofs.KeptLaws.{above_moves_none, above_new, covers_with, union_is}
 use Rattle.mxf_catalogue.proofs.PartLaws.{moved_part}
 use Rattle.mxf_catalogue.proofs.catalogue.Catalogue.add.Goals as goal
+
+pub append-requires : goal.append-requires
+append-requires c =
+    let o = c.offset.ensures.offset in
+    record {
+      above = λ n h.
+          let l : end_of n ≤ c.offset.result = c.end_by.ensures.0 c.if-end_by.true n
+          (subst (λ (l : List NoteParts). In n l) (sym c.self.view_is) h) in
+          omega (arith, l, o);
+    }
+
+pub returns-then-end_by-clause-repeated : goal.returns-then-end_by-clause-repeated
+returns-then-end_by-clause-repeated c =
+    let n = c.args.note in
+    let o = c.offset.ensures.offset in
+    let above : (m : NoteParts) → In m c.args.self.now → end_of m ≤ n.offset = λ m h.
+    let l : end_of m ≤ c.offset.result = c.end_by.ensures.0 c.if-end_by.true m
+    (subst (λ (l : List NoteParts). In m l) (sym c.self.view_is) h) in omega (arith, l, o) in (
+      λ e.
+          let t : Repeated ≡ Added [] = subst (λ r. IfOk r (λ (x : Change). x ≡ Added [])) e c.append.ensures.new in
+          absurd (cc (t)),
+      λ h. absurd (above_new n c.args.self.now above h),
+    )
+
+pub returns-then-end_by-clause-moved : goal.returns-then-end_by-clause-moved
+returns-then-end_by-clause-moved c =
+    let n = c.args.note in
+    let parts = c.self.inside.parts in
+    let o = c.offset.ensures.offset in
+    let none = above_moves_none n parts.clear.items parts.disputed.items c.self.invariant.kept.parts
+    c.self.invariant.kept.reduced (λ m h.
+    let l : end_of m ≤ c.offset.result = c.end_by.ensures.0 c.if-end_by.true m h in omega (arith, l, o))
+    ∙ ap (moved_by n) c.self.view_is in
+    IfOk-weaker c.append.result (λ (x : Change). x ≡ Added []) (TellsMoved n c.args.self.now)
+    (λ x e. subst (TellsMoved n c.args.self.now) (sym e) none) c.append.ensures.new
 
 pub returns-then-tell-clause-added : goal.returns-then-tell-clause-added
 returns-then-tell-clause-added c =
@@ -34,7 +75,7 @@ invariant_of-self-2 c =
     let fresh : has_note (union_of cs ds) c.args.note → ⊥ = λ h.
     let t = c.tell.ensures.1 h in let f = c.if-tell.false in cc (t, f) in
     let runs = c.in-Ok-add.ensures.added
-    ∙ (λ i. with_run (run (c.offset.ensures.offset i) (c.covered_end.ensures.covered i)) old) in
+    ∙ (λ i. with_run (run (c.offset-2.ensures.offset i) (c.covered_end.ensures.covered i)) old) in
     record {
       kept = c.put.ensures.kept;
       covers = subst (λ r. Covers r new) (sym runs)

@@ -1,26 +1,10 @@
-use Rattle.std.proofs.Common.{◌↔◌, ◌<◌, ◌≤◌, ℕ, List, subst, sym, max}
+use Rattle.std.proofs.Common.{◌↔◌, ◌≤◌, List, subst}
 use Rattle.mxf_klv.specs.Note.{end_of}
 use Rattle.mxf_klv.specs.Parts.{NoteParts}
 use Rattle.mxf_klv.specs.Rising.{In}
-use Rattle.mxf_catalogue.specs.declared.run.Run.{Run}
-use Rattle.mxf_catalogue.specs.Parts.{StandApart}
-use Rattle.mxf_catalogue.specs.Runs.{LiesIn}
-use Rattle.mxf_catalogue.proofs.KeptLaws.{end_of_parts}
-use Rattle.mxf_catalogue.proofs.PartLaws.{apart_of}
 use Rattle.mxf_catalogue.proofs.catalogue.Catalogue.end.Goals as goal
-
-pub last_end-requires-clause-apart : goal.last_end-requires-clause-apart
-last_end-requires-clause-apart c =
-    let parts = c.self.inside.parts in
-    subst StandApart (sym c.deref-2.ensures.value) (apart_of _ parts.disputed.items c.self.invariant.kept.parts)
 
 pub returns : goal.returns
 returns c = λ bound.
-    let parts = c.self.inside.parts in
-    let ends : ℕ → List NoteParts → Type 0 = λ e notes. e ≤ bound ↔ ((n : NoteParts) → In n notes → end_of n ≤ bound) in
-    let one = subst (ends c.last_end.result) c.deref-2.ensures.value (c.last_end.ensures bound) in
-    let two = subst (λ (runs : List Run). c.last_end-disputed.result ≤ bound
-    ↔ ((offset : ℕ) → LiesIn runs offset → offset < bound)) c.deref.ensures.value (c.last_end-disputed.ensures bound) in
-    subst (λ (e : ℕ). ends e c.args.self.now) (sym c.max.ensures) (subst (ends (max c.last_end.result c.last_end-disputed.result))
-    c.self.view_is (end_of_parts parts.clear.items parts.disputed.items parts.disputed_spans.items
-    c.self.invariant.kept c.last_end.result c.last_end-disputed.result bound one two))
+    subst (λ (l : List NoteParts). c.end.result ≤ bound ↔ ((n : NoteParts) → In n l → end_of n ≤ bound)) c.self.view_is
+    (c.end.ensures bound)

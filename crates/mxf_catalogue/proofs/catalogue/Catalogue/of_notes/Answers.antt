@@ -9,4 +9,4 @@ loop-note-init c =
     let given : into_iter_items c.into_iter-note-iterator.result ≡ c.args.notes.items =
     search rules in
     (λ i. reduced_union (c.new-all.ensures i) (given i))
-    ∙ reduced_union-none c.args.notes.items c.requires.content c.requires.reduced
+    ∙ reduced_union-none c.args.notes.items c.requires.catalogue.content c.requires.reduced

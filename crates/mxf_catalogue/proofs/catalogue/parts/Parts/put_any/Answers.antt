@@ -1,4 +1,5 @@
-use Rattle.std.proofs.Common.{arith, sym, subst, ◌∙◌}
+use Rattle.std.proofs.Common.{◌≤◌, arith, sym, subst, ◌∙◌}
+use Rattle.mxf_klv.specs.Note.{end_of}
 use Rattle.mxf_catalogue.proofs.HeadLaws.{reduced_with-present}
 use Rattle.mxf_catalogue.specs.Content.{union_of}
 use Rattle.mxf_catalogue.specs.Covers.{with_run}
@@ -6,7 +7,7 @@ use Rattle.mxf_catalogue.specs.Disputes.{is_byte_shared}
 use Rattle.mxf_catalogue.specs.Parts.{Covers}
 use Rattle.mxf_catalogue.specs.Runs.{run}
 use Rattle.mxf_catalogue.proofs.ContentLaws.{IsContent-union_of}
-use Rattle.mxf_catalogue.proofs.KeptLaws.{covers_with}
+use Rattle.mxf_catalogue.proofs.KeptLaws.{above_new, covers_with}
 use Rattle.mxf_catalogue.proofs.Lists.{length-filter_le}
 use Rattle.mxf_catalogue.proofs.catalogue.parts.Parts.put_any.Goals as goal
 
@@ -17,6 +18,28 @@ returns-then-tell-clause-content c =
     let rises = IsContent-union_of cs ds c.requires.whole.kept.parts.clear_is.content in
     sym (reduced_with-present c.args.note (union_of cs ds) rises c.requires.whole.kept.reduced
     (c.tell.ensures.0 c.if-tell.true))
+
+pub append-requires-clause-above : goal.append-requires-clause-above
+append-requires-clause-above c n h =
+    let l : end_of n ≤ c.offset-3.result = c.end_by.ensures.0 c.if-end_by.true n h in
+    let o = c.offset-3.ensures.offset in omega (arith, l, o)
+
+pub returns-then-end_by-clause-whole : goal.returns-then-end_by-clause-whole
+returns-then-end_by-clause-whole c =
+    let n = c.args.note in
+    let cs = c.args.self.now.clear.items in
+    let ds = c.args.self.now.disputed.items in
+    let old = c.args.runs.now.items in
+    let new = union_of c.append.new.self.clear.items c.append.new.self.disputed.items in
+    let runs = c.put_run.ensures.items ∙ (λ i. with_run (run (c.offset-2.ensures.offset i) (c.covered_end.ensures.covered i)) old) in
+    let o = c.offset-3.ensures.offset in
+    let fresh = above_new n (union_of cs ds) (λ m h.
+    let l : end_of m ≤ c.offset-3.result = c.end_by.ensures.0 c.if-end_by.true m h in omega (arith, l, o)) in
+    record {
+      kept = c.append.ensures.kept;
+      covers = subst (λ r. Covers r new) (sym runs)
+          (covers_with n cs ds new old c.requires.whole.kept.reduced fresh c.requires.whole.covers c.append.ensures.content);
+    }
 
 pub put-requires-clause-new : goal.put-requires-clause-new
 put-requires-clause-new c h = let t = c.tell.ensures.1 h in let f = c.if-tell.false in cc (t, f)
@@ -33,7 +56,7 @@ returns-clause-whole c =
     let ds = c.args.self.now.disputed.items in
     let old = c.args.runs.now.items in
     let new = union_of c.put.new.self.clear.items c.put.new.self.disputed.items in
-    let runs = c.put_run.ensures.items ∙ (λ i. with_run (run (c.offset-2.ensures.offset i) (c.covered_end.ensures.covered i)) old) in
+    let runs = c.put_run-2.ensures.items ∙ (λ i. with_run (run (c.offset-2.ensures.offset i) (c.covered_end.ensures.covered i)) old) in
     record {
       kept = c.put.ensures.kept;
       covers = subst (λ r. Covers r new) (sym runs)

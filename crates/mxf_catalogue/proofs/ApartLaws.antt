@@ -1,0 +1,68 @@
+-- Notes each of which begins at or above the end of the one before.
+use Rattle.std.specs.Prelude.{◌≡◌, ℕ, ◌≤◌, List, [], ◌∷◌, map}
+use Rattle.std.proofs.Common.{◌∙◌, arith, ap, sym, subst, inl, inr, refl}
+use Rattle.mxf_klv.specs.Parts.{NoteParts}
+use Rattle.mxf_klv.specs.Note.{end_of}
+use Rattle.mxf_klv.specs.Rising.{In}
+use Rattle.mxf_catalogue.specs.declared.run.Run.{Run}
+use Rattle.mxf_catalogue.specs.Content.{AreReduced, IsCatalogue}
+use Rattle.mxf_catalogue.specs.Covers.{union_of_runs, union_of_runs-IsUnion}
+use Rattle.mxf_catalogue.specs.Disputes.{AreApart, SharesByte}
+use Rattle.mxf_catalogue.specs.Parts.{AreParts, Covers, IsWhole, StandApart, covered_run}
+use Rattle.mxf_catalogue.specs.Runs.{IsWithin}
+use Rattle.mxf_catalogue.proofs.DisputeLaws.{SharesByte-symmetric}
+use Rattle.mxf_catalogue.proofs.KeptLaws.{above_far, whole_none}
+use Rattle.mxf_catalogue.proofs.Lists.{In-map}
+
+-- none begins below the bound
+begins_above : (low : ℕ) (notes : List NoteParts) (n : NoteParts) → AreApart low notes → In n notes → low ≤ n.offset
+begins_above low [] n a h = absurd h
+begins_above low (x ∷ xs) n a (inl e) =
+    let l : low ≤ x.offset = a.0 in
+    let o : n.offset ≡ x.offset = ap (λ (m : NoteParts). m.offset) e in omega (arith, l, o)
+begins_above low (x ∷ xs) n a (inr h) =
+    let l : low ≤ x.offset = a.0 in
+    let more : end_of x ≤ n.offset = begins_above (end_of x) xs n a.1 h in omega (arith, l, more)
+
+-- no two share a byte
+stand_apart : (low : ℕ) (notes : List NoteParts) → AreApart low notes → StandApart notes
+stand_apart low [] a m n h k ne s = h
+stand_apart low (x ∷ xs) a m n (inl e) (inl f) ne s = ne (e ∙ sym f)
+stand_apart low (x ∷ xs) a m n (inl e) (inr k) ne s =
+    above_far n x (begins_above (end_of x) xs n a.1 k) (subst (SharesByte n) e (SharesByte-symmetric m n s))
+stand_apart low (x ∷ xs) a m n (inr h) (inl f) ne s =
+    above_far m x (begins_above (end_of x) xs m a.1 h) (subst (SharesByte m) f s)
+stand_apart low (x ∷ xs) a m n (inr h) (inr k) ne s = stand_apart (end_of x) xs a.1 m n h k ne s
+
+-- so they are the undisputed notes of a content, and it has no others
+pub whole_apart : (notes : List NoteParts) (runs : List Run) → IsCatalogue notes → AreReduced notes
+    → AreApart 0 notes → Covers runs notes → IsWhole notes [] [] runs
+whole_apart notes runs is red apart covers =
+    let none = whole_none.kept in
+    let parts : AreParts notes [] = record {
+      clear_is = is;
+      disputed_is = none.parts.disputed_is;
+      apart = λ m n h k ne s. elim k [ inl i ↦ stand_apart 0 notes apart m n h i ne s | inr i ↦ i ];
+      shared = none.parts.shared;
+    } in
+    record {
+      kept = record { parts = parts; reduced = red; cover = none.cover; covers = none.covers };
+      covers = covers;
+    }
+
+-- the runs of what each covers are those of what they cover
+pub covers_all : (notes : List NoteParts) → Covers (union_of_runs [] (map covered_run notes)) notes
+covers_all notes at =
+    let both = union_of_runs-IsUnion [] (map covered_run notes) at in (
+      λ h. elim (both.0 h) [
+        | inl k ↦ absurd k.1
+        | inr k ↦
+            let s = (In-map covered_run notes k.0).0 k.1 in
+            let w = subst (λ (r : Run). IsWithin r at) s.2 k.2 in (s.0, s.1, record { from = w.from; before = w.before })
+      ],
+      λ h. both.1 (inr (
+        covered_run h.0,
+        (In-map covered_run notes (covered_run h.0)).1 (h.0, h.1, refl),
+        record { from = h.2.from; before = h.2.before },
+      )),
+    )

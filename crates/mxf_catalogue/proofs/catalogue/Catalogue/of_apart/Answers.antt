@@ -1,0 +1,16 @@
+use Rattle.std.proofs.Common.{[], subst, sym, List}
+use Rattle.mxf_klv.specs.Parts.{NoteParts}
+use Rattle.mxf_catalogue.specs.declared.run.Run.{Run}
+use Rattle.mxf_catalogue.specs.Parts.{Covers, IsWhole}
+use Rattle.mxf_catalogue.proofs.ApartLaws.{whole_apart}
+use Rattle.mxf_catalogue.proofs.catalogue.Catalogue.of_apart.Goals as goal
+
+pub invariant_of-result : goal.invariant_of-result
+invariant_of-result c =
+    let notes = c.args.notes.items in
+    let spans = c.in_ok-spans.spans in
+    let none = c.new-parts.ensures in
+    let covers = subst (λ (l : List NoteParts). Covers spans l) c.deref.ensures.value c.in_ok-spans.ensures in
+    subst (λ (l : List NoteParts). IsWhole notes l c.new-parts.result.disputed_spans.items spans) (sym none.disputed)
+    (subst (λ (l : List Run). IsWhole notes [] l spans) (sym none.disputed_spans)
+    (whole_apart notes spans c.requires.catalogue c.requires.reduced c.requires.apart covers))
