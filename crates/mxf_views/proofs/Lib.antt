@@ -55,3 +55,4 @@ pub mod StartLaws
 pub mod StartWalk
 pub mod StartsOrder
 pub mod SumLaws
+pub mod UnreadableLaws
