@@ -30,6 +30,7 @@ pub mod LaidIndex
 pub mod LaidPartitions
 pub mod LaidRandomIndex
 pub mod ListSteps
+pub mod MarkLaws
 pub mod Members
 pub mod OffsetSearch
 pub mod OnlyFound
