@@ -153,7 +153,7 @@ readable_as Storage n = ok_readable storage_at n
 readable_as Identification n = ok_readable identification_at n
 readable_as Package n = ok_readable package_at n
 
-abbrev target_by : Bool → Bool → ℕ → Target
+abbrev pub target_by : Bool → Bool → ℕ → Target
 target_by fit read o = if not fit then targets.WrongKind o else
     (if read then targets.Found o else targets.Unreadable o)
 
@@ -173,7 +173,7 @@ at_only sets w uid n o =
       ] refl
     ] refl
 
-only_at : (w : Wanted) (n : NoteParts) (f r : Bool) → fits w (kind_of n.key) ≡ f
+pub only_at : (w : Wanted) (n : NoteParts) (f r : Bool) → fits w (kind_of n.key) ≡ f
     → (keeps_value n && is_readable w n.held) ≡ r → target_at w n ≡ target_by f r n.offset
 unfolding target_at
 only_at w n f r e g = λ i. target_by (e i) (g i) n.offset

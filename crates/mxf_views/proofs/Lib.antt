@@ -30,6 +30,7 @@ pub mod LaidIndex
 pub mod LaidPartitions
 pub mod LaidRandomIndex
 pub mod ListSteps
+pub mod MarkLaws
 pub mod Members
 pub mod OffsetSearch
 pub mod OnlyFound
@@ -55,3 +56,4 @@ pub mod StartLaws
 pub mod StartWalk
 pub mod StartsOrder
 pub mod SumLaws
+pub mod UnreadableLaws

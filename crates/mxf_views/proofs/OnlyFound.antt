@@ -23,7 +23,7 @@ clear_found : (clear : List NoteParts) (copy : Option CopyInfo) (n : NoteParts) 
 clear_found clear None n h = absurd h
 clear_found clear (Some c) n h = clear_from clear c.bytes c.start n h
 
-sets_are_clear : (notes : List NoteParts) (partition : ℕ) (n : NoteParts) → In n (sets_of notes partition)
+pub sets_are_clear : (notes : List NoteParts) (partition : ℕ) (n : NoteParts) → In n (sets_of notes partition)
     → In n (clear_notes notes)
 unfolding sets_of
 sets_are_clear notes partition n h =

@@ -11,6 +11,7 @@ use Rattle.mxf_sets.specs.Readable.{read_as}
 use Rattle.mxf_views.specs.declared.reference.Found.{Found}
 use Rattle.mxf_views.specs.declared.reference.Found.TheVariants.{Absent, One, Several}
 use Rattle.mxf_views.specs.declared.reference.identified.Identified.{Identified}
+use Rattle.mxf_views.specs.Findings.{is_unreadable}
 use Rattle.mxf_views.specs.References.{found_among, has_uid}
 
 -- The set with its instance identifier, where it is kept and the identifier can be read.
@@ -40,6 +41,10 @@ found_at (offset ∷ other ∷ offsets) = Several
 pub record AreByUid (sets : List NoteParts) (es : List Identified) : Type 0 where
   pub sorted : AreSorted es
   pub found : (uid : List ℕ) → found_at (map (λ e. e.offset) (filter (is_of uid) es)) ≡ found_among (filter (has_uid uid) sets)
+
+-- Where those stand that can't be read as what their kinds say.
+abbrev pub unreadable_offsets : List NoteParts → List ℕ
+unreadable_offsets sets = map (λ n. n.offset) (filter is_unreadable sets)
 
 -- The sets of the copy of a partition.
 pub record CopySetsParts : Type 0 where

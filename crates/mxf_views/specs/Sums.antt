@@ -1,24 +1,34 @@
--- What clear notes cover and how many Prefaces are among them, summed up from note to note (this project's profile).
-use Rattle.std.specs.Prelude.{◌≡◌, ℕ, ◌+◌, ◌<◌, ◌≤◌, ◌^◌, if◌then◌else◌, List, [], ◌∷◌, length}
+-- What clear notes cover and how many Prefaces are among them, summed up from mark to mark (this project's profile).
+use Rattle.std.specs.Prelude.{◌≡◌, ℕ, ◌+◌, ◌≤◌, ◌⊎◌, List}
+use Rattle.std.specs.List.Sorted.{IsNonDecreasingBy}
 use Rattle.mxf_klv.specs.Parts.{NoteParts}
 use Rattle.mxf_klv.specs.Note.{end_of}
-use Rattle.mxf_views.specs.declared.kept.sums.Sum.{Sum}
-use Rattle.mxf_views.specs.Copies.{is_preface_note}
-use Rattle.mxf_views.specs.KeptAbove.{clear_from}
-use Rattle.mxf_views.specs.Spans.{size_of}
+use Rattle.mxf_klv.specs.Rising.{In}
+use Rattle.mxf_views.specs.declared.kept.sums.Mark.{Mark}
+use Rattle.mxf_views.specs.Copies.{covered_of, prefaces_of}
 
--- Each note, with what is covered up to its end and how many Prefaces there are, from so much on.
-abbrev pub sums_from : ℕ → ℕ → List NoteParts → List Sum
-sums_from covered prefaces [] = []
-sums_from covered prefaces (n ∷ notes) =
-    let more = covered + size_of n in
-    let count = prefaces + (if is_preface_note n then 1 else 0) in
-    record { offset = n.offset; end = end_of n; covered = more; prefaces = count } ∷ sums_from more count notes
+-- No note lies across the offset: each ends there or below, or begins there or above.
+abbrev pub IsCut : ℕ → List NoteParts → Type 0
+IsCut offset notes = (n : NoteParts) → In n notes → (end_of n ≤ offset) ⊎ (offset ≤ n.offset)
 
--- The list is empty and has room for the sums of the clear notes from the boundary on.
-pub record HasSumsRoom (notes : List NoteParts) (boundary : ℕ) (items : List Sum) (capacity : ℕ) : Type 0 where
-  pub empty : items ≡ []
-  pub fits : length (clear_from boundary notes) < 2 ^ 64 → length (clear_from boundary notes) ≤ capacity
+-- No note lies across the mark, and its counts are those of the notes below it.
+pub record IsMark (notes : List NoteParts) (mark : Mark) : Type 0 where
+  pub cut : IsCut mark.offset notes
+  pub covered : mark.covered ≡ covered_of 0 mark.offset notes
+  pub prefaces : mark.prefaces ≡ prefaces_of 0 mark.offset notes
+
+-- Marks among the notes, whose offsets don't fall.
+pub record AreMarks (notes : List NoteParts) (marks : List Mark) : Type 0 where
+  pub each : (mark : Mark) → In mark marks → IsMark notes mark
+  pub rise : IsNonDecreasingBy (λ (mark : Mark). mark.offset) marks
+
+-- Two marks among the notes, of which the one isn't above the other, and both are in a range of so many bytes.
+pub record AreInRange (notes : List NoteParts) (start bytes : ℕ) (first last : Mark) : Type 0 where
+  pub first_is : IsMark notes first
+  pub last_is : IsMark notes last
+  pub from : start ≤ first.offset
+  pub order : first.offset ≤ last.offset
+  pub to : last.offset ≤ start + bytes
 
 -- A content, and the boundary from which on its clear notes are summed up.
 pub record SumsParts : Type 0 where

@@ -79,13 +79,24 @@ pub(crate) fn start_of(catalogue: &Catalogue, end: u64) -> Option<u64>
     None
 }
 
-pub(crate) fn prefaces(catalogue: &Catalogue, start: u64, bytes: u64) -> usize
+fn prefaces(catalogue: &Catalogue, start: u64, bytes: u64) -> usize
     ensures { result ≡ prefaces_of start bytes (clear_notes catalogue.now) }
 {
     catalogue
         .clear_within(start, bytes)
         .filter(|note| is_preface(note))
         .count()
+}
+
+/// What the notes that lie wholly in a range cover, and how many Prefaces are among them.
+pub(crate) fn counts(catalogue: &Catalogue, start: u64, bytes: u64) -> Counts
+    ensures covered { result.covered ≡ covered_of start bytes (clear_notes catalogue.now) }
+    ensures prefaces { result.prefaces ≡ prefaces_of start bytes (clear_notes catalogue.now) }
+{
+    Counts {
+        covered: covered(catalogue.clear_within(start, bytes)),
+        prefaces: prefaces(catalogue, start, bytes),
+    }
 }
 
 #[tactic(auto, unfolding(crate::specs::Copies::copy_of))]
@@ -96,10 +107,7 @@ pub(crate) fn copy_of(catalogue: &Catalogue, partition: &PartitionAt<'_>) -> Cop
         return without_start(partition);
     };
     let bytes = partition.pack.numbers().header_byte_count;
-    let counts = Counts {
-        covered: covered(catalogue.clear_within(start, bytes)),
-        prefaces: prefaces(catalogue, start, bytes),
-    };
+    let counts = counts(catalogue, start, bytes);
     with_start(partition, start, counts)
 }
 

@@ -13,7 +13,7 @@ mod index;
 mod metadata;
 mod notes;
 mod partitions;
-mod readable;
+pub(crate) mod readable;
 
 use crate::finding::collected::Collected;
 use crate::views::Views;

@@ -3,11 +3,10 @@
 ghost use Rattle.std.specs.Prelude.{◌≡◌, List, ◌<◌, ◌≤◌, IfOk, OnOk, count_by, ◌++◌, ◌∷◌, ◌+◌, [], ℕ, vec_len, vec_capacity};
 ghost use Rattle.mxf_klv.specs.Parts.{NoteParts};
 ghost use Rattle.mxf_klv.specs.Rising.{In};
-ghost use Rattle.mxf_catalogue.specs.Content.{IsContent, has_note, reduced_union, reduced_with, union_of};
+ghost use Rattle.mxf_catalogue.specs.Content.{IsContent, has_note, reduced_union, reduced_with};
 ghost use Rattle.mxf_catalogue.specs.Disputes.{clear_notes};
 ghost use Rattle.mxf_views.specs.Kept.{is_placed, states_metadata, HasRoom, HasRoomForOne, IsArrival, kept_in, kept_of};
 ghost use Rattle.mxf_views.specs.KeptAbove.{IsUnionAt, MeetAt};
-ghost use Rattle.mxf_views.specs.Sums.{HasSumsRoom};
 ghost use Rattle.mxf_views.specs.declared.kept.offsets.Placed.{Placed};
 
 pub(crate) mod above;
@@ -23,7 +22,7 @@ use crate::kept::arrival::Arrival;
 use crate::kept::copies::{count_copies, follow_copies, refill_copies};
 use crate::kept::offsets::{Placed, count, follow, refill, stands};
 use crate::kept::reaches::refill_reaches;
-use crate::kept::sums::{Sum, Sums};
+use crate::kept::sums::{Mark, Sums, mark_count};
 use mxf_catalogue::Catalogue;
 use std::alloc::{AllocError, Global};
 
@@ -60,7 +59,7 @@ impl Kept {
     {
         let mut kept = Kept::new(alloc);
         kept.reserve(catalogue)?;
-        let room = Vec::with_capacity(alloc, catalogue.len())?;
+        let room = kept.marks_room(catalogue.len())?;
         kept.refill(catalogue, room);
         Ok(kept)
     }
@@ -90,24 +89,16 @@ impl Kept {
         self.reserve(other)
     }
 
-    /// Room for the sums of the notes of two catalogues.
-    pub fn sums_room(&self, own: &Catalogue, other: &Catalogue) -> Result<Vec<Sum>, AllocError>
-        ensures { IfOk result (λ r. HasSumsRoom (reduced_union own.now other.now) 0 r.items (vec_capacity r)) }
+    /// Room for marks among so many notes: none where there is no room for a copy.
+    pub fn marks_room(&self, notes: usize) -> Result<Vec<Mark>, AllocError>
+        ensures { IfOk result (λ r. r.items ≡ []) }
     {
-        // What a catalogue lends says that its notes are reduced.
-        let _own = own.notes();
-        let count = own.len().saturating_add(other.len());
-        let room = Vec::with_capacity(*self.partitions.allocator(), count)?;
-        Ok(room)
-    }
-
-    /// Room for the sums of the notes of another catalogue, where they begin at a boundary or above.
-    pub fn sums_room_above(&self, other: &Catalogue) -> Result<Vec<Sum>, AllocError>
-        ensures { (boundary : ℕ) (own : List NoteParts) → MeetAt boundary own other.now
-            → IfOk result (λ r. HasSumsRoom (union_of own other.now) boundary r.items (vec_capacity r)) }
-    {
-        let room = Vec::with_capacity(*self.partitions.allocator(), other.len())?;
-        Ok(room)
+        let count = if self.copies.capacity() == 0 {
+            0
+        } else {
+            mark_count(notes)
+        };
+        Vec::with_capacity(*self.partitions.allocator(), count)
     }
 
     /// Makes room for what is kept of another catalogue as well.
@@ -140,9 +131,9 @@ impl Kept {
     }
 
     /// Puts what is kept of a catalogue in place of what is there, where there is room.
-    pub fn refill(&mut self, catalogue: &Catalogue, room: Vec<Sum>)
+    pub fn refill(&mut self, catalogue: &Catalogue, room: Vec<Mark>)
         requires room { HasRoom catalogue.now self.old }
-        requires sums { HasSumsRoom catalogue.now 0 room.items (vec_capacity room) }
+        requires empty { room.items ≡ [] }
         ensures { kept_in self.new ≡ kept_of catalogue.now }
     {
         let sums = Sums::of(catalogue, 0, room);
@@ -164,11 +155,11 @@ impl Kept {
 
     /// Follows the arrival of notes that begin at the boundary or above, where there is room: from what is kept of the notes
     /// below it to what is kept of all. Only what is new is counted.
-    pub fn follow_above(&mut self, catalogue: &Catalogue, boundary: u64, room: Vec<Sum>)
+    pub fn follow_above(&mut self, catalogue: &Catalogue, boundary: u64, room: Vec<Mark>)
         requires kept { (own : List NoteParts) × IsUnionAt boundary catalogue.now own
             × (kept_in self.old ≡ kept_of own) }
         requires room { HasRoom catalogue.now self.old }
-        requires sums { HasSumsRoom catalogue.now boundary room.items (vec_capacity room) }
+        requires empty { room.items ≡ [] }
         ensures { kept_in self.new ≡ kept_of catalogue.now }
     {
         append_offsets(&mut self.partitions, catalogue, boundary, Placed::Partition);

@@ -162,7 +162,7 @@ impl Views {
         let Ok(()) = self.kept.make_room_for(&self.catalogue, &other) else {
             return Err(MergeFault { other });
         };
-        let Ok(room) = self.kept.sums_room_above(&other) else {
+        let Ok(room) = self.kept.marks_room(other.len()) else {
             return Err(MergeFault { other });
         };
         self.catalogue.merge(other)?;
@@ -179,7 +179,8 @@ impl Views {
         let Ok(()) = self.kept.make_room_for(&self.catalogue, &other) else {
             return Err(MergeFault { other });
         };
-        let Ok(room) = self.kept.sums_room(&self.catalogue, &other) else {
+        let notes = self.catalogue.len().saturating_add(other.len());
+        let Ok(room) = self.kept.marks_room(notes) else {
             return Err(MergeFault { other });
         };
         self.catalogue.merge(other)?;

@@ -26,7 +26,7 @@ fn reads_value(kind: Kind, value: &[u8]) -> bool
 }
 
 /// Whether the value isn't kept, or can't be read by its kind.
-fn is_unreadable(note: &Note) -> bool
+pub(crate) fn is_unreadable(note: &Note) -> bool
     ensures { result ≡ is_unreadable note.now }
 {
     match note.held() {

@@ -1,65 +1,65 @@
-//! What clear notes cover and how many Prefaces are among them, summed up once for many zones.
-ghost use Rattle.std.specs.Prelude.{◌≡◌, ◌≤◌, ◌<◌, ◌+◌, ◌++◌, ◌^◌, if◌then◌else◌, List, [], count_by, filter, length, take, vec_len, vec_capacity};
+//! What clear notes cover and how many Prefaces are among them, summed up from mark to mark for many zones.
+ghost use Rattle.std.specs.Prelude.{◌≡◌, ◌≤◌, ◌<◌, ◌+◌, ◌++◌, ◌∷◌, ◌⊎◌, ◌^◌, if◌then◌else◌, IfSome, List, [], count_by, length, vec_len, vec_capacity};
 ghost use Rattle.std.specs.List.{AllWithin, filter_map};
+ghost use Rattle.std.specs.List.Sorted.{IsNonDecreasingBy};
 ghost use Rattle.mxf_klv.specs.Parts.{NoteParts};
 ghost use Rattle.mxf_catalogue.specs.Content.{IsCatalogue};
 ghost use Rattle.mxf_catalogue.specs.Disputes.{AreApart, clear_notes};
-ghost use Rattle.mxf_views.specs.declared.kept.sums.Sum.{Sum};
 ghost use Rattle.mxf_views.specs.Copies.{copy_of, covered_of, is_preface_note, prefaces_of};
 ghost use Rattle.mxf_views.specs.Kept.{copy_by, states_metadata};
 ghost use Rattle.mxf_views.specs.KeptAbove.{clear_from};
-ghost use Rattle.mxf_views.specs.Spans.{sizes};
-ghost use Rattle.mxf_views.specs.Sums.{HasSumsRoom, sums_from};
+ghost use Rattle.mxf_views.specs.Sums.{AreInRange, AreMarks};
 
 use super::push;
 use crate::copy::zone::{Counts, is_preface};
-use crate::copy::{CopyInfo, has_metadata, start_of, with_start, without_start};
+use crate::copy::{CopyInfo, counts, has_metadata, start_of, with_start, without_start};
 use crate::partition::{PartitionAt, partition_at};
 use mxf_catalogue::{Catalogue, ClearNotes};
 use mxf_klv::Note;
 use std::marker::Model;
 
-/// Where a clear note stands, and what the notes up to it cover and how many Prefaces are among them.
+/// How many notes stand from one mark to the next.
+const SPACING: usize = 64;
+
+/// An offset that no clear note lies across, and what the notes below it cover and how many Prefaces are among them.
 #[derive(Clone, Copy, Debug)]
-pub(crate) struct Sum {
+pub(crate) struct Mark {
     pub offset: u64,
-    pub end: u64,
     pub covered: u64,
     pub prefaces: usize,
 }
 
-/// The sums of the clear notes of a catalogue from a boundary on.
+/// The clear notes of a catalogue from a boundary on, with marks among them.
 #[derive(Debug, Drop)]
 pub(super) struct Sums<'a> {
     catalogue: &'a Catalogue,
     boundary: u64,
-    sums: Vec<Sum>,
+    marks: Vec<Mark>,
 }
 
 impl<'a> Model for Sums<'a> {
-    ghost use Rattle.std.specs.Prelude.{◌≡◌};
     ghost use Rattle.mxf_views.specs.KeptAbove.{clear_from};
-    ghost use Rattle.mxf_views.specs.Sums.{SumsParts, sums_from};
+    ghost use Rattle.mxf_views.specs.Sums.{AreMarks, SumsParts};
 
     ghost Value = { SumsParts };
 
     ghost view = { λ s. record { notes = s.catalogue.now; boundary = s.boundary } };
 
-    ghost invariant = { λ s. s.sums.items ≡ sums_from 0 0 (clear_from s.boundary s.catalogue.now) };
+    ghost invariant = { λ s. AreMarks (clear_from s.boundary s.catalogue.now) s.marks.items };
 }
 
 impl<'a> Sums<'a> {
-    /// The sums of the clear notes from a boundary on, in an empty list that has room for them.
-    pub fn of(catalogue: &'a Catalogue, boundary: u64, mut room: Vec<Sum>) -> Sums<'a>
-        requires { HasSumsRoom catalogue.now boundary room.items (vec_capacity room) }
+    /// The clear notes from a boundary on, with marks among them as far as an empty list has room for some.
+    pub fn of(catalogue: &'a Catalogue, boundary: u64, mut room: Vec<Mark>) -> Sums<'a>
+        requires { room.items ≡ [] }
         ensures notes { result.notes ≡ catalogue.now }
         ensures boundary { result.boundary ≡ boundary }
     {
-        fill(&mut room, catalogue.clear_within(boundary, u64::MAX));
+        put_marks(&mut room, catalogue.clear_within(boundary, u64::MAX));
         Sums {
             catalogue,
             boundary,
-            sums: room,
+            marks: room,
         }
     }
 
@@ -77,15 +77,36 @@ impl<'a> Sums<'a> {
         self.boundary
     }
 
-    /// What the clear notes that lie wholly in a range cover, and how many Prefaces are among them: two binary searches.
+    /// What the clear notes that lie wholly in a range cover, and how many Prefaces are among them: a few binary searches,
+    /// and a walk over the notes before the first mark in the range and behind the last.
     pub fn counts(&self, start: u64, bytes: u64) -> Counts
         requires { self.now.boundary ≤ start }
         ensures covered { result.covered ≡ covered_of start bytes (clear_notes self.now.notes) }
         ensures prefaces { result.prefaces ≡ prefaces_of start bytes (clear_notes self.now.notes) }
     {
+        match marks_within(&self.marks, start, bytes) {
+            Some((first, last)) => self.counts_by(start, bytes, &first, &last),
+            None => counts(self.catalogue, start, bytes),
+        }
+    }
+
+    /// The same by two marks in the range.
+    fn counts_by(&self, start: u64, bytes: u64, first: &Mark, last: &Mark) -> Counts
+        requires above { self.now.boundary ≤ start }
+        requires marks { AreInRange (clear_from self.now.boundary self.now.notes) start bytes first.now last.now }
+        ensures covered { result.covered ≡ covered_of start bytes (clear_notes self.now.notes) }
+        ensures prefaces { result.prefaces ≡ prefaces_of start bytes (clear_notes self.now.notes) }
+    {
         // What a catalogue lends says that its clear notes are apart.
-        let _clear = self.catalogue.clear_within(self.boundary, u64::MAX);
-        between(&self.sums, start, bytes)
+        let _clear = self.catalogue.clear();
+        let _notes = self.catalogue.notes();
+        let below = counts(self.catalogue, start, first.offset - start);
+        let rest = bytes - (last.offset - start);
+        let above = counts(self.catalogue, last.offset, rest);
+        Counts {
+            covered: below.covered + (last.covered - first.covered) + above.covered,
+            prefaces: below.prefaces + (last.prefaces - first.prefaces) + above.prefaces,
+        }
     }
 
     /// The clear notes from the boundary on.
@@ -138,28 +159,36 @@ pub(super) fn append_copies(copies: &mut Vec<CopyInfo>, sums: &Sums<'_>)
     }
 }
 
-/// What the notes that lie wholly in a range cover, and how many Prefaces are among them.
-fn between(sums: &[Sum], start: u64, bytes: u64) -> Counts
-    requires { (notes : List NoteParts) × AreApart 0 notes × (sums.now ≡ sums_from 0 0 notes) }
-    ensures covered { (notes : List NoteParts) → AreApart 0 notes → sums.now ≡ sums_from 0 0 notes
-        → result.covered ≡ covered_of start bytes notes }
-    ensures prefaces { (notes : List NoteParts) → AreApart 0 notes → sums.now ≡ sums_from 0 0 notes
-        → result.prefaces ≡ prefaces_of start bytes notes }
+/// The first and the last mark in a range.
+fn marks_within(marks: &[Mark], start: u64, bytes: u64) -> Option<(Mark, Mark)>
+    requires { IsNonDecreasingBy (λ m. m.offset) marks.now }
+    ensures { (notes : List NoteParts) → AreMarks notes marks.now
+        → IfSome result (λ r. AreInRange notes start bytes r.0 r.1) }
 {
-    let from = starting_below(sums, start);
-    let to = ending_by(sums, start, bytes);
+    let from = marks_below(marks, start);
+    let to = marks_up_to(marks, start, bytes);
     if to <= from {
-        return Counts {
-            covered: 0,
-            prefaces: 0,
-        };
+        return None;
     }
-    let all = first(sums, to);
-    let below = first(sums, from);
-    Counts {
-        covered: all.covered - below.covered,
-        prefaces: all.prefaces - below.prefaces,
-    }
+    Some((marks[from], marks[to - 1]))
+}
+
+/// The number of the marks below an offset.
+fn marks_below(marks: &[Mark], start: u64) -> usize
+    requires { IsNonDecreasingBy (λ m. m.offset) marks.now }
+    ensures bound { result ≤ length marks.now }
+    ensures above { AllWithin (λ m. start ≤ m.offset) marks.now result (length marks.now) }
+{
+    marks.partition_point(|mark| mark.offset < start)
+}
+
+/// The number of the marks at or below the end of a range.
+fn marks_up_to(marks: &[Mark], start: u64, bytes: u64) -> usize
+    requires { IsNonDecreasingBy (λ m. m.offset) marks.now }
+    ensures bound { result ≤ length marks.now }
+    ensures below { AllWithin (λ m. m.offset ≤ start + bytes) marks.now 0 result }
+{
+    marks.partition_point(|mark| mark.offset.saturating_sub(start) <= bytes)
 }
 
 /// One for a Preface.
@@ -169,68 +198,43 @@ fn tally(note: &Note) -> usize
     if is_preface(note) { 1 } else { 0 }
 }
 
-/// Puts the sums of notes into an empty list that has room for them.
-fn fill(sums: &mut Vec<Sum>, notes: ClearNotes<'_>)
-    requires empty { sums.old.items ≡ [] }
+/// Puts marks among notes into an empty list, as far as it has room: one for each so many.
+fn put_marks(marks: &mut Vec<Mark>, notes: ClearNotes<'_>)
+    requires empty { marks.old.items ≡ [] }
     requires apart { AreApart 0 notes }
     requires bound { length notes < 2 ^ 64 }
-    requires room { length notes ≤ vec_capacity sums.old }
-    ensures { sums.new.items ≡ sums_from 0 0 notes.entry }
+    ensures { AreMarks notes.entry marks.new.items }
 {
+    if marks.capacity() == 0 {
+        return;
+    }
+    let mut passed = 0;
     let mut covered = 0;
     let mut prefaces = 0;
     for note in notes {
         let offset = note.offset();
-        let end = note.end();
-        covered += end - offset;
-        prefaces += tally(note);
-        let sum = Sum {
+        let mark = Mark {
             offset,
-            end,
             covered,
             prefaces,
         };
-        push(sums, sum);
+        put_mark(marks, passed, mark);
+        passed += 1;
+        covered += note.end() - offset;
+        prefaces += tally(note);
     }
 }
 
-/// The number of the notes that begin below an offset.
-fn starting_below(sums: &[Sum], start: u64) -> usize
-    requires { (notes : List NoteParts) × AreApart 0 notes × (sums.now ≡ sums_from 0 0 notes) }
-    ensures bound { result ≤ length sums.now }
-    ensures below { AllWithin (λ s. s.offset < start) sums.now 0 result }
-    ensures above { AllWithin (λ s. start ≤ s.offset) sums.now result (length sums.now) }
+/// Puts a mark behind others where there is room, if so many notes have passed that it is its turn.
+fn put_mark(marks: &mut Vec<Mark>, passed: usize, mark: Mark)
+    ensures { (marks.new.items ≡ marks.old.items) ⊎ (marks.new.items ≡ marks.old.items ++ mark ∷ []) }
 {
-    sums.partition_point(|sum| sum.offset < start)
+    if passed % SPACING == 0 && marks.len() < marks.capacity() {
+        push(marks, mark);
+    }
 }
 
-/// The number of the notes that end at or below the end of a range.
-fn ending_by(sums: &[Sum], start: u64, bytes: u64) -> usize
-    requires { (notes : List NoteParts) × AreApart 0 notes × (sums.now ≡ sums_from 0 0 notes) }
-    ensures bound { result ≤ length sums.now }
-    ensures below { AllWithin (λ s. s.end ≤ start + bytes) sums.now 0 result }
-    ensures above { AllWithin (λ s. start + bytes < s.end) sums.now result (length sums.now) }
-{
-    sums.partition_point(|sum| sum.end.saturating_sub(start) <= bytes)
-}
-
-/// What the first so many notes cover, and how many Prefaces are among them.
-fn first(sums: &[Sum], count: usize) -> Counts
-    requires { count ≤ length sums.now }
-    ensures covered { (notes : List NoteParts) → sums.now ≡ sums_from 0 0 notes
-        → result.covered ≡ sizes (take count notes) }
-    ensures prefaces { (notes : List NoteParts) → sums.now ≡ sums_from 0 0 notes
-        → result.prefaces ≡ count_by is_preface_note (take count notes) }
-{
-    if count == 0 {
-        return Counts {
-            covered: 0,
-            prefaces: 0,
-        };
-    }
-    let sum = sums[count - 1];
-    Counts {
-        covered: sum.covered,
-        prefaces: sum.prefaces,
-    }
+/// How many marks stand among so many notes.
+pub(super) fn mark_count(notes: usize) -> usize {
+    notes.div_ceil(SPACING)
 }

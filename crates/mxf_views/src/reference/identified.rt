@@ -1,14 +1,19 @@
 //! The sets of a copy, sorted by their instance identifiers.
-ghost use Rattle.std.specs.Prelude.{◌≡◌, ◌==◌, ◌≤◌, true, false, IfOk, filter, find, length, map};
+ghost use Rattle.std.specs.Prelude.{◌≡◌, ◌↔◌, ◌==◌, ◌≤◌, true, false, IfOk, IsTrue, filter, find, length, map};
 ghost use Rattle.std.specs.List.{AllWithin, filter_map};
 ghost use Rattle.std.specs.Option.{option_copied};
 ghost use Rattle.mxf_catalogue.specs.Disputes.{clear_notes};
+ghost use Rattle.mxf_klv.specs.Rising.{In, IsRising};
+ghost use Rattle.std.specs.Ordering.{nat_cmp};
 ghost use Rattle.mxf_sets.specs.Instance.{instance_uid_at};
 ghost use Rattle.mxf_sets.specs.Readable.{read_as};
-ghost use Rattle.mxf_views.specs.Identified.{AreByUid, AreSorted, found_at, is_below, is_of, with_uid};
+ghost use Rattle.mxf_views.specs.Identified.{AreByUid, AreSorted, found_at, is_below, is_of, unreadable_offsets, with_uid};
+ghost use Rattle.mxf_views.specs.Findings.{is_unreadable};
+ghost use Rattle.mxf_views.specs.Copies.{sets_of};
 ghost use Rattle.mxf_views.specs.References.{found_in};
 
 use crate::copy::sets::Sets;
+use crate::finding::readable::is_unreadable;
 use crate::reference::Found;
 use crate::views::Views;
 use mxf_catalogue::Catalogue;
@@ -68,6 +73,28 @@ fn sorted(alloc: Global, sets: Sets<'_>) -> Result<Vec<Identified>, OutOfMemory>
     Ok(items)
 }
 
+/// The file offsets of the sets that can't be read, in their order: each set is read once, however many references name
+/// it.
+fn unreadable_offsets(alloc: Global, sets: Sets<'_>) -> Result<Vec<u64>, OutOfMemory>
+    ensures { IfOk result (λ v. v.items ≡ unreadable_offsets sets.entry) }
+{
+    let mut offsets = Vec::new(alloc);
+    for note in sets {
+        if is_unreadable(note) {
+            offsets.push(note.offset())?;
+        }
+    }
+    Ok(offsets)
+}
+
+/// Whether an offset is one of those that rise.
+fn is_among(offsets: &[u64], offset: u64) -> bool
+    requires { IsRising nat_cmp offsets.now }
+    ensures { IsTrue result ↔ In offset offsets.now }
+{
+    offsets.binary_search(&offset).is_ok()
+}
+
 /// The number of the sets whose identifiers stand below one.
 fn count_below(sets: &[Identified], uid: &Uuid) -> usize
     requires { AreSorted sets.now }
@@ -102,17 +129,21 @@ pub(crate) struct CopySets<'a> {
     catalogue: &'a Catalogue,
     partition: u64,
     by_uid: Vec<Identified>,
+    /// The file offsets, in bytes, of those that can't be read.
+    unreadable: Vec<u64>,
 }
 
 impl<'a> Model for CopySets<'a> {
     ghost use Rattle.mxf_views.specs.Copies.{sets_of};
-    ghost use Rattle.mxf_views.specs.Identified.{AreByUid, CopySetsParts};
+    ghost use Rattle.mxf_views.specs.Identified.{AreByUid, CopySetsParts, unreadable_offsets};
+    ghost use Rattle.std.specs.Prelude.{◌≡◌};
 
     ghost Value = { CopySetsParts };
 
     ghost view = { λ s. record { notes = s.catalogue.now; partition = s.partition } };
 
-    ghost invariant = { λ s. AreByUid (sets_of s.catalogue.now s.partition) s.by_uid.items };
+    ghost invariant = { λ s. AreByUid (sets_of s.catalogue.now s.partition) s.by_uid.items
+        × (s.unreadable.items ≡ unreadable_offsets (sets_of s.catalogue.now s.partition)) };
 }
 
 impl<'a> CopySets<'a> {
@@ -121,11 +152,13 @@ impl<'a> CopySets<'a> {
         ensures { IfOk result (λ s. s ≡ record { notes = views.now; partition = partition }) }
     {
         let by_uid = sorted(alloc, views.sets(partition))?;
+        let unreadable = unreadable_offsets(alloc, views.sets(partition))?;
         let catalogue = views.catalogue();
         Ok(CopySets {
             catalogue,
             partition,
             by_uid,
+            unreadable,
         })
     }
 
@@ -134,6 +167,16 @@ impl<'a> CopySets<'a> {
         ensures { result ≡ found_in self.now.notes self.now.partition uid.now }
     {
         find_sorted(&self.by_uid, uid)
+    }
+
+    /// Whether the set isn't kept, or can't be read by its kind: a binary search.
+    pub fn is_unreadable(&self, set: &Note) -> bool
+        requires { In set.now (sets_of self.now.notes self.now.partition) }
+        ensures { result ≡ is_unreadable set.now }
+    {
+        // What a catalogue lends says that its notes are those of a file.
+        let _notes = self.catalogue.notes();
+        is_among(&self.unreadable, set.offset())
     }
 
     /// The clear note at a file offset.

@@ -1,16 +1,17 @@
 //! What references in header metadata lead to.
 ghost use Rattle.std.specs.Prelude.{◌≡◌, ◌↔◌, ℕ, List, [], IfOk};
 ghost use Rattle.mxf_klv.specs.Parts.{NoteParts};
+ghost use Rattle.mxf_klv.specs.Rising.{In};
 ghost use Rattle.mxf_catalogue.specs.Content.{IsContent};
 ghost use Rattle.mxf_views.specs.Copies.{sets_of};
 ghost use Rattle.mxf_views.specs.declared.reference.target.Wanted.{Wanted};
 ghost use Rattle.mxf_views.specs.declared.reference.target.Target.{Target};
-ghost use Rattle.mxf_views.specs.Targets.{IsTarget, fits, is_readable, refs_of, target_at, target_of};
+ghost use Rattle.mxf_views.specs.Targets.{IsTarget, fits, refs_of, target_at, target_of};
 
 use crate::reference::Found;
 use crate::reference::identified::CopySets;
-use mxf_klv::{Held, Kind, Note, OutOfMemory};
-use mxf_sets::{ContentStorage, Identification, Package, References};
+use mxf_klv::{Kind, Note, OutOfMemory};
+use mxf_sets::References;
 use std::alloc::Global;
 use std::marker::Model;
 use uuid::Uuid;
@@ -57,36 +58,6 @@ impl Wanted {
             _ => false,
         }
     }
-
-    fn is_readable(self, value: &[u8]) -> bool
-        ensures { result ≡ is_readable self value.now }
-    {
-        match self {
-            Wanted::Storage => ContentStorage::read(value).is_ok(),
-            Wanted::Identification => Identification::read(value).is_ok(),
-            Wanted::Package => Package::read(value).is_ok(),
-        }
-    }
-
-    #[tactic(auto, unfolding(crate::specs::Targets::target_at))]
-    fn target_at(self, note: &Note) -> Target
-        ensures { result ≡ target_at self note.now }
-    {
-        let offset = note.offset();
-        if !self.fits(note.kind()) {
-            return Target::WrongKind(offset);
-        }
-        let readable = match note.held() {
-            Held::Whole(value) => self.is_readable(value),
-            Held::Digest(_) => false,
-            Held::Head => false,
-        };
-        if readable {
-            Target::Found(offset)
-        } else {
-            Target::Unreadable(offset)
-        }
-    }
 }
 
 /// References with what they lead to, in order.
@@ -121,6 +92,23 @@ impl Refs {
     }
 }
 
+/// What the only set with an identifier is to a reference.
+#[tactic(auto, unfolding(crate::specs::Targets::target_at))]
+fn target_at(sets: &CopySets<'_>, wanted: Wanted, set: &Note) -> Target
+    requires { In set.now (sets_of sets.now.notes sets.now.partition) }
+    ensures { result ≡ target_at wanted set.now }
+{
+    let offset = set.offset();
+    if !wanted.fits(set.kind()) {
+        return Target::WrongKind(offset);
+    }
+    if sets.is_unreadable(set) {
+        Target::Unreadable(offset)
+    } else {
+        Target::Found(offset)
+    }
+}
+
 /// What a reference leads to, among the sets of a copy.
 #[tactic(auto, unfolding(crate::specs::Targets::target_of))]
 pub(crate) fn target_of(sets: &CopySets<'_>, wanted: Wanted, uid: &Uuid) -> Target
@@ -129,7 +117,7 @@ pub(crate) fn target_of(sets: &CopySets<'_>, wanted: Wanted, uid: &Uuid) -> Targ
     match sets.find(uid) {
         Found::Absent => Target::Missing,
         Found::One(offset) => match sets.note_at(offset) {
-            Some(note) => wanted.target_at(note),
+            Some(set) => target_at(sets, wanted, set),
             None => unreachable!(),
         },
         Found::Several => Target::Several,

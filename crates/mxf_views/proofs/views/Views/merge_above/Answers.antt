@@ -1,19 +1,8 @@
 use Rattle.std.proofs.Common.{◌∙◌, List, subst, sym}
 use Rattle.mxf_klv.specs.Parts.{NoteParts}
 use Rattle.mxf_views.specs.KeptAbove.{MeetAt}
-use Rattle.mxf_views.specs.Sums.{HasSumsRoom}
-use Rattle.std.specs.Vec.{vec_capacity}
 use Rattle.mxf_views.proofs.AboveLaws.{union_is_reduced}
 use Rattle.mxf_views.proofs.views.Views.merge_above.Goals as goal
-
-pub follow_above-requires-clause-sums : goal.follow_above-requires-clause-sums
-follow_above-requires-clause-sums c =
-    let room = c.in-Ok-sums_room_above.room in
-    let own = c.self.inside.catalogue in
-    let meet = subst (λ (ns : List NoteParts). MeetAt c.args.boundary ns c.args.other) (sym c.self.view_is) c.requires in
-    let both = c.in_ok-merge.ensures.merged ∙ union_is_reduced c.args.boundary own c.args.other meet in
-    subst (λ (ns : List NoteParts). HasSumsRoom ns c.args.boundary room.items (vec_capacity room))
-    (sym both) (c.in-Ok-sums_room_above.ensures c.args.boundary own meet)
 
 pub follow_above-requires-clause-kept : goal.follow_above-requires-clause-kept
 follow_above-requires-clause-kept c =

@@ -1,0 +1,88 @@
+use Rattle.std.proofs.Common.{◌≡◌, ◌+◌, ◌-◌, ◌<◌, ◌^◌, ◌≤◌, ◌∙◌, ap, arith, length, subst, sym}
+use Rattle.mxf_catalogue.specs.Disputes.{AreApart, clear_notes}
+use Rattle.mxf_views.specs.Copies.{covered_of, prefaces_of}
+use Rattle.mxf_views.specs.KeptAbove.{clear_from}
+use Rattle.mxf_views.specs.Sums.{AreInRange, SumsParts}
+use Rattle.mxf_views.proofs.MarkLaws.{covered_by, covered_fits, covered_order, prefaces_by, prefaces_fit, prefaces_order}
+use Rattle.mxf_views.proofs.kept.sums.Sums.counts_by.Goals as goal
+use Rattle.mxf_views.proofs.kept.sums.Sums.counts_by.Goals.{After-counts-above}
+
+low : (c : After-counts-above) → c.self.inside.boundary ≤ c.args.start
+low c = subst (λ (s : SumsParts). s.boundary ≤ c.args.start) (sym c.self.view_is) c.requires.above
+
+range : (c : After-counts-above)
+    → AreInRange (clear_from c.self.inside.boundary c.self.inside.catalogue.now) c.args.start c.args.bytes
+    c.args.first.now c.args.last.now
+range c =
+    subst (λ (s : SumsParts). AreInRange (clear_from s.boundary s.notes) c.args.start c.args.bytes c.args.first.now
+    c.args.last.now) (sym c.self.view_is) c.requires.marks
+
+covered_all : (c : After-counts-above)
+    → c.counts-below.result.covered + (c.args.last.now.covered - c.args.first.now.covered)
+    + c.counts-above.result.covered ≡ covered_of c.args.start c.args.bytes (clear_notes c.self.inside.catalogue.now)
+covered_all c =
+    let all = covered_by c.self.inside.boundary c.args.start c.args.bytes c.self.inside.catalogue.now c.args.first.now
+    c.args.last.now c.notes-notes.ensures.catalogue (low c) (range c) in
+    omega (arith, all, c.counts-below.ensures.covered, c.counts-above.ensures.covered)
+
+prefaces_all : (c : After-counts-above)
+    → c.counts-below.result.prefaces + (c.args.last.now.prefaces - c.args.first.now.prefaces)
+    + c.counts-above.result.prefaces ≡ prefaces_of c.args.start c.args.bytes (clear_notes c.self.inside.catalogue.now)
+prefaces_all c =
+    let all = prefaces_by c.self.inside.boundary c.args.start c.args.bytes c.self.inside.catalogue.now c.args.first.now
+    c.args.last.now c.notes-notes.ensures.catalogue (low c) (range c) in
+    omega (arith, all, c.counts-below.ensures.prefaces, c.counts-above.ensures.prefaces)
+
+covered_bound : (c : After-counts-above)
+    → covered_of c.args.start c.args.bytes (clear_notes c.self.inside.catalogue.now) ≤ c.args.bytes
+covered_bound c =
+    covered_fits c.args.start c.args.bytes (clear_notes c.self.inside.catalogue.now)
+    (subst (AreApart 0) c.clear-clear.ensures.notes c.clear-clear.ensures.apart)
+
+prefaces_bound : (c : After-counts-above)
+    → prefaces_of c.args.start c.args.bytes (clear_notes c.self.inside.catalogue.now) < 2 ^ 64
+prefaces_bound c =
+    let some = prefaces_fit c.args.start c.args.bytes (clear_notes c.self.inside.catalogue.now) in
+    let many = ap length c.clear-clear.ensures.notes in omega (arith, some, many, c.clear-clear.ensures.bound)
+
+pub overflow_sub-result : goal.overflow_sub-result
+overflow_sub-result c =
+    let d = (goal.at.overflow_sub-result c).After-counts-above in
+    covered_order c.self.inside.boundary c.args.start c.args.bytes c.self.inside.catalogue.now c.args.first.now
+    c.args.last.now c.notes-notes.ensures.catalogue (low d) (range d)
+
+pub overflow_add-result : goal.overflow_add-result
+overflow_add-result c =
+    let d = (goal.at.overflow_add-result c).After-counts-above in
+    omega (arith, covered_all d, covered_bound d, c.ranges.bytes.fits)
+
+pub overflow_add-result-2 : goal.overflow_add-result-2
+overflow_add-result-2 c =
+    let d = (goal.at.overflow_add-result-2 c).After-counts-above in
+    omega (arith, covered_all d, covered_bound d, c.ranges.bytes.fits)
+
+pub overflow_sub-result-2 : goal.overflow_sub-result-2
+overflow_sub-result-2 c =
+    let d = (goal.at.overflow_sub-result-2 c).After-counts-above in
+    prefaces_order c.self.inside.boundary c.args.start c.args.bytes c.self.inside.catalogue.now c.args.first.now
+    c.args.last.now c.notes-notes.ensures.catalogue (low d) (range d)
+
+pub overflow_add-result-3 : goal.overflow_add-result-3
+overflow_add-result-3 c =
+    let d = (goal.at.overflow_add-result-3 c).After-counts-above in
+    omega (arith, prefaces_all d, prefaces_bound d)
+
+pub overflow_add-result-4 : goal.overflow_add-result-4
+overflow_add-result-4 c =
+    let d = (goal.at.overflow_add-result-4 c).After-counts-above in
+    omega (arith, prefaces_all d, prefaces_bound d)
+
+pub returns-clause-covered : goal.returns-clause-covered
+returns-clause-covered c =
+    let d = (goal.at.returns-clause-covered c).After-counts-above in
+    covered_all d ∙ ap (λ (s : SumsParts). covered_of c.args.start c.args.bytes (clear_notes s.notes)) c.self.view_is
+
+pub returns-clause-prefaces : goal.returns-clause-prefaces
+returns-clause-prefaces c =
+    let d = (goal.at.returns-clause-prefaces c).After-counts-above in
+    prefaces_all d ∙ ap (λ (s : SumsParts). prefaces_of c.args.start c.args.bytes (clear_notes s.notes)) c.self.view_is
