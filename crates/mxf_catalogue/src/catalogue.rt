@@ -186,7 +186,7 @@ impl Catalogue {
         ensures back { IfErr result (λ f. f.other ≡ other) }
     {
         let alloc = *self.parts.clear.allocator();
-        let Ok(room) = Room::of(alloc, self.len(), other.len()) else {
+        let Ok(room) = Room::of(alloc, &self.parts, &other.parts) else {
             return Err(MergeFault { other });
         };
         let mut parts = room.parts;

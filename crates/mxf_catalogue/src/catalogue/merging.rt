@@ -1,8 +1,9 @@
 //! Merging: the notes of two contents in one list, by moving them, and the room for that.
-ghost use Rattle.std.specs.Prelude.{◌≡◌, ◌+◌, ◌≤◌, ◌∷◌, [], length, vec_len, vec_capacity};
+ghost use Rattle.std.specs.Prelude.{◌≡◌, ◌≢◌, ◌+◌, ◌≤◌, ◌∷◌, [], length, vec_len, vec_capacity};
 ghost use Rattle.std.specs.Prelude.{IfOk, IfSome, MatchOption};
 ghost use Rattle.std.specs.Iterator.{YieldsFirst, item_count};
 ghost use Rattle.mxf_catalogue.specs.Content.{IsContent, union_of};
+ghost use Rattle.mxf_catalogue.specs.Parts.{AreParts};
 ghost use Rattle.mxf_catalogue.specs.Rooms.{IsRoomFor};
 
 use super::Catalogue;
@@ -28,7 +29,8 @@ impl From<MergeFault> for OutOfMemory {
     }
 }
 
-/// What the merging of two catalogues needs: a list for the notes of each, and parts and runs for those of both.
+/// What the merging of two catalogues needs: a list for the notes of each that has disputed ones, and parts and runs for
+/// those of both.
 #[derive(Debug, Drop)]
 pub(super) struct Room {
     pub own: Vec<Note>,
@@ -38,21 +40,29 @@ pub(super) struct Room {
 }
 
 impl Room {
-    /// Room for so many notes of each.
-    pub fn of(alloc: Global, own: usize, others: usize) -> Result<Room, AllocError>
-        ensures own { IfOk result (λ r. IsRoomFor own r.own) }
-        ensures others { IfOk result (λ r. IsRoomFor others r.others) }
-        ensures clear { IfOk result (λ r. IsRoomFor (own + others) r.parts.clear) }
-        ensures disputed { IfOk result (λ r. IsRoomFor (own + others) r.parts.disputed) }
-        ensures disputed_spans { IfOk result (λ r. IsRoomFor (own + others) r.parts.disputed_spans) }
-        ensures runs { IfOk result (λ r. IsRoomFor (own + others) r.runs) }
+    /// Room for the notes of both.
+    pub fn of(alloc: Global, own: &Parts, others: &Parts) -> Result<Room, AllocError>
+        requires own_parts { AreParts own.now.clear.items own.now.disputed.items }
+        requires other_parts { AreParts others.now.clear.items others.now.disputed.items }
+        ensures own_empty { IfOk result (λ r. r.own.items ≡ []) }
+        ensures own { IfOk result (λ r. own.now.disputed.items ≢ []
+            → length (union_of own.now.clear.items own.now.disputed.items) ≤ vec_capacity r.own) }
+        ensures others_empty { IfOk result (λ r. r.others.items ≡ []) }
+        ensures others { IfOk result (λ r. others.now.disputed.items ≢ []
+            → length (union_of others.now.clear.items others.now.disputed.items) ≤ vec_capacity r.others) }
+        ensures clear { IfOk result (λ r. IsRoomFor (length (union_of own.now.clear.items own.now.disputed.items)
+            + length (union_of others.now.clear.items others.now.disputed.items)) r.parts.clear) }
+        ensures disputed { IfOk result (λ r. IsRoomFor (length (union_of own.now.clear.items own.now.disputed.items)
+            + length (union_of others.now.clear.items others.now.disputed.items)) r.parts.disputed) }
+        ensures disputed_spans { IfOk result (λ r. IsRoomFor (length (union_of own.now.clear.items own.now.disputed.items)
+            + length (union_of others.now.clear.items others.now.disputed.items)) r.parts.disputed_spans) }
+        ensures runs { IfOk result (λ r. IsRoomFor (length (union_of own.now.clear.items own.now.disputed.items)
+            + length (union_of others.now.clear.items others.now.disputed.items)) r.runs) }
     {
-        let own_notes = Vec::with_capacity(alloc, own)?;
-        let other_notes = Vec::with_capacity(alloc, others)?;
-        let count = own + others;
+        let count = own.len().checked_add(others.len()).ok_or(AllocError)?;
         Ok(Room {
-            own: own_notes,
-            others: other_notes,
+            own: own.list_room(alloc)?,
+            others: others.list_room(alloc)?,
             parts: Parts::with_room(alloc, count)?,
             runs: Vec::with_capacity(alloc, count)?,
         })

@@ -1,5 +1,5 @@
 //! The two parts of a content: its undisputed notes and its disputed ones.
-ghost use Rattle.std.specs.Prelude.{◌≡◌, ◌↔◌, ◌⊎◌, ◌++◌, ◌+◌, ◌<◌, ◌≤◌, ℕ, [], length, map, false};
+ghost use Rattle.std.specs.Prelude.{◌≡◌, ◌≢◌, ◌↔◌, ◌⊎◌, ◌++◌, ◌+◌, ◌<◌, ◌≤◌, ℕ, [], length, map, false};
 ghost use Rattle.std.specs.Prelude.{vec_len, vec_capacity, IsTrue, IfOk, OnOk};
 ghost use Rattle.mxf_klv.specs.Parts.{NoteParts};
 ghost use Rattle.mxf_klv.specs.Rising.{In};
@@ -301,11 +301,26 @@ impl Parts {
         self.clear.len() + self.disputed.len()
     }
 
-    /// The notes of both parts, in their order, moved into an empty list that has room for them.
+    /// An empty list with the room that [`into_notes`](Parts::into_notes) asks for: none where nothing is disputed.
+    pub fn list_room(&self, alloc: Global) -> Result<Vec<Note>, AllocError>
+        requires { AreParts self.now.clear.items self.now.disputed.items }
+        ensures empty { IfOk result (λ room. room.items ≡ []) }
+        ensures room { IfOk result (λ room. self.now.disputed.items ≢ []
+            → length (union_of self.now.clear.items self.now.disputed.items) ≤ vec_capacity room) }
+    {
+        if self.disputed.is_empty() {
+            return Ok(Vec::new(alloc));
+        }
+        Vec::with_capacity(alloc, self.len())
+    }
+
+    /// The notes of both parts, in their order. They are moved into an empty list that has room for them, but where
+    /// nothing is disputed.
     pub fn into_notes(self, room: Vec<Note>) -> Vec<Note>
         requires parts { AreParts self.clear.items self.disputed.items }
         requires empty { room.items ≡ [] }
-        requires room { length (union_of self.clear.items self.disputed.items) ≤ vec_capacity room }
+        requires room { self.disputed.items ≢ []
+            → length (union_of self.clear.items self.disputed.items) ≤ vec_capacity room }
         ensures notes { result.items ≡ union_of self.clear.items self.disputed.items }
         ensures content { IsContent result.items }
     {

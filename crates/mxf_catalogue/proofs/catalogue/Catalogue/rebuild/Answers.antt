@@ -1,4 +1,4 @@
-use Rattle.std.proofs.Common.{◌∙◌, arith, ap, length, subst}
+use Rattle.std.proofs.Common.{◌∙◌, ◌≢◌, ◌≤◌, [], ap, length, subst, sym, vec_capacity}
 use Rattle.mxf_catalogue.specs.declared.catalogue.parts.Parts.{Parts}
 use Rattle.mxf_catalogue.specs.Content.{AreReduced, IsCatalogue, reduced_union, union_of}
 use Rattle.mxf_catalogue.proofs.KeptLaws.{union_is}
@@ -7,9 +7,8 @@ use Rattle.mxf_catalogue.proofs.catalogue.Catalogue.rebuild.Goals as goal
 
 pub into_notes-own-requires-clause-room : goal.into_notes-own-requires-clause-room
 into_notes-own-requires-clause-room c =
-    let moved = ap (λ (p : Parts). length (union_of p.clear.items p.disputed.items)) c.replace.ensures.value in
-    let same = ap length c.self.view_is in
-    omega (arith, moved, same, c.len.ensures, c.in-Ok.ensures.own.2)
+    subst (λ (p : Parts). p.disputed.items ≢ [] → length (union_of p.clear.items p.disputed.items) ≤ vec_capacity c.in-Ok.room.own)
+    (sym c.replace.ensures.value) c.in-Ok.ensures.own
 
 pub returns-clause-merged : goal.returns-clause-merged
 returns-clause-merged c =
