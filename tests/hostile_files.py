@@ -177,6 +177,18 @@ def long_batches(rng, many=None):
     return [(0, laid([f"header header-bytes={size}", "primer"] + lines))]
 
 
+def named_by_all(rng, many=None):
+    """References that all name one package of many items, which may be read and may not."""
+    many = many or rng.choice((3, 100, 500))
+    refs = batch(many, 16, bytes.fromhex(uid(3)) * many)
+    value = item("3C0A", uid(3)) + item("4401", "00" * rng.choice((32, 32, 32, 31)))
+    value += "".join(item(f"{0x8000 + n % 0x4000:04x}", "") for n in range(60 * many))
+    lines = [f"preface 3C0A={uid(1)} 3B03={uid(2)} 3B06={batch(0, 16)}", f"content-storage 3C0A={uid(2)} 1901={refs}"]
+    lines += [f"{rng.choice(('source', 'material'))}-package value={value}"]
+    size = len(laid(["primer"] + lines))
+    return [(0, laid([f"header header-bytes={size}", "primer"] + lines))]
+
+
 def disputes(rng, many=None):
     """Packets over one another, and one over all others, first or last."""
     pieces = [(rng.randint(0, 300), laid([rng.choice(("header", "fill 30", "essence 100", "primer", "rip 0:0"))])) for _ in range(rng.randint(2, 10))]
@@ -279,7 +291,7 @@ def two_readings(rng):
 
 SHAPES = (
     spelled_lengths, counts, items, packs_that_name, circles, zones, copies, random_indexes, segments_of_a_unit, long_primer,
-    long_batches, disputes, many_packets, noise, mutated, mutated, mutated, two_readings, saved_heads, under_one_another,
+    long_batches, named_by_all, disputes, many_packets, noise, mutated, mutated, mutated, two_readings, saved_heads, under_one_another,
     fronts_of_packets,
 )  # fmt: skip
 
@@ -293,6 +305,6 @@ def pieces_of(number):
 # than one value has room for.
 MANY = {
     counts: 10000, items: 5000, packs_that_name: 10000, circles: 5000, zones: 5000, copies: 5000,
-    random_indexes: 10000, segments_of_a_unit: 10000, long_primer: 32000, long_batches: 2000, disputes: 20000,
+    random_indexes: 10000, segments_of_a_unit: 10000, long_primer: 32000, long_batches: 2000, named_by_all: 2000, disputes: 20000,
     many_packets: 40000, saved_heads: 10000, under_one_another: 10000,
 }  # fmt: skip

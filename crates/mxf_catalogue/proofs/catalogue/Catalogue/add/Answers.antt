@@ -1,4 +1,4 @@
-use Rattle.std.proofs.Common.{◌≡◌, ◌≤◌, ◌∙◌, [], IfOk, ap, arith, sym, subst, List}
+use Rattle.std.proofs.Common.{◌≡◌, ◌≤◌, ◌∙◌, [], IfOk, ap, arith, refl, sym, subst, List}
 use Rattle.std.proofs.lemmas.Result.{IfOk-weaker}
 use Rattle.mxf_klv.specs.Note.{end_of}
 use Rattle.mxf_klv.specs.Rising.{In}
@@ -92,3 +92,25 @@ returns-clause-moved c =
     let f = c.if-tell.false in cc (t, f) in
     c.in-Ok.ensures.moved ∙ moved_part n cs ds c.self.invariant.kept.parts c.self.invariant.kept.reduced fresh
     ∙ ap (moved_by n) c.self.view_is
+
+pub returns-then-tell-clause-repeated : goal.returns-then-tell-clause-repeated
+returns-then-tell-clause-repeated c = (
+  λ _. subst (λ (l : List NoteParts). has_note l c.args.note) c.self.view_is (c.tell.ensures.0 c.if-tell.true),
+  λ _. refl,
+)
+
+pub returns-in_default-clause-repeated : goal.returns-in_default-clause-repeated
+returns-in_default-clause-repeated c = (
+  λ e. absurd (cc (e)),
+  λ h.
+      let t = c.tell.ensures.1 (subst (λ (l : List NoteParts). has_note l c.args.note) (sym c.self.view_is) h) in
+      let f = c.if-tell.false in absurd (cc (t, f)),
+)
+
+pub returns-clause-repeated : goal.returns-clause-repeated
+returns-clause-repeated c = (
+  λ e. absurd (cc (e)),
+  λ h.
+      let t = c.tell.ensures.1 (subst (λ (l : List NoteParts). has_note l c.args.note) (sym c.self.view_is) h) in
+      let f = c.if-tell.false in absurd (cc (t, f)),
+)
