@@ -60,10 +60,12 @@ def write_sparse_recording(path: Path, packets: int, value_size: int) -> None:
         file.truncate()
 
 
-def write_small_packets(path: Path, packets: int) -> None:
-    """So many essence packets without a value."""
+def write_small_packets(path: Path, packets: int, value_size: int = 0) -> None:
+    """So many essence packets with values of so many bytes, 32 at most."""
+    head = ESSENCE_KEY + bytes([value_size])
     with open(path, "wb") as file:
-        file.write((ESSENCE_KEY + b"\0") * packets)
+        for number in range(packets):
+            file.write(head + number.to_bytes(32, "big")[32 - value_size :])
 
 
 def write_pieces(folder: Path, pieces: int, packets: int, value_size: int) -> list[str]:

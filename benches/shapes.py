@@ -15,6 +15,8 @@ BODY_KEY = bytes.fromhex("060e2b34020501010d01020101030400")
 PRIMER_KEY = bytes.fromhex("060e2b34020501010d01020101050100")
 RANDOM_INDEX_KEY = bytes.fromhex("060e2b34020501010d01020101110100")
 PREFACE_KEY = bytes.fromhex("060e2b34025301010d01010101012f00")
+STORAGE_KEY = bytes.fromhex("060e2b34025301010d01010101011800")
+SOURCE_PACKAGE_KEY = bytes.fromhex("060e2b34025301010d01010101013700")
 IDENTIFICATION_KEY = bytes.fromhex("060e2b34025301010d01010101013000")
 RAW_KEY = bytes.fromhex("060e2b34025301010d01010101013b01")
 
@@ -105,6 +107,18 @@ def references(count: int) -> list[bytes]:
     return [pack(HEADER_KEY, 0, 0, len(metadata)) + metadata]
 
 
+def named(count: int) -> list[bytes]:
+    """A content storage of so many references, which all name one package of sixty times as many items."""
+    names = struct.pack(">II", count, 16) + (3).to_bytes(16, "big") * count
+    storage = packet(STORAGE_KEY, identified(2) + item(0x1901, names))
+    few = item(0x3B06, struct.pack(">II", 0, 16))
+    preface = packet(PREFACE_KEY, identified(1) + item(0x3B03, (2).to_bytes(16, "big")) + few)
+    items = b"".join(item(0x8000 + number % 0x4000, b"") for number in range(60 * count))
+    package = packet(SOURCE_PACKAGE_KEY, identified(3) + item(0x4401, bytes(32)) + items)
+    metadata = primer() + preface + storage + package
+    return [pack(HEADER_KEY, 0, 0, len(metadata)) + metadata]
+
+
 def causes(count: int) -> list[bytes]:
     """Partitions that name another offset as their own, and none that is there as the one before them."""
     return [b"".join(pack(BODY_KEY, number * PACK + 1, 1) for number in range(count))]
@@ -133,6 +147,7 @@ SHAPES = {
     "indexes": Shape("random index packs behind as many packets", "check", 4000, random_indexes),
     "tags": Shape("tags for as many items", "show", 2000, tags),
     "references": Shape("references among as many sets", "check", 500, references),
+    "named": Shape("references to one package of many items", "check", 500, named),
     "causes": Shape("partitions with two findings", "check", 8000, causes),
     "disputed": Shape("disputed notes", "show", 37_500, disputed),
 }
