@@ -1,6 +1,6 @@
 -- Runs that touch a run, and offsets in runs, by their places in a cover.
 use Rattle.std.specs.Prelude.{◌≡◌, ℕ, suc, zero, ◌+◌, ◌<◌, ◌≤◌, nat_lt, min, max, true, false, ◌↔◌, ◌⊎◌, cond}
-use Rattle.std.specs.Prelude.{List, [], ◌∷◌, ◌++◌, length, insert, slice_set, take, drop, refl}
+use Rattle.std.specs.Prelude.{List, [], ◌∷◌, ◌++◌, length, slice_set, take, drop, refl}
 use Rattle.std.specs.List.{AllByRecursion, AllWithin}
 use Rattle.std.specs.List.Sorted.{IsNonDecreasingBy}
 use Rattle.std.specs.Bool.{Decides}
@@ -135,14 +135,14 @@ start_below_end low (r ∷ runs) (suc k) d m l = start_below_end (r.end + 1) run
 
 -- the first run stands alone
 pub with_run_first : (r : Run) (runs : List Run) → None ≡ slice_get runs (length runs - 1)
-    → insert runs (length runs) r ≡ with_run r runs
+    → runs ++ r ∷ [] ≡ with_run r runs
 with_run_first r [] e = refl
 with_run_first r (x ∷ xs) e =
     let there = slice_get-get_or (x ∷ xs) (length (x ∷ xs) - 1) x (omega arith) in absurd (cc (e, there))
 
 -- a run that begins above the end of the last goes behind it
 pub with_run_behind : (low k : ℕ) (r s : Run) (runs : List Run) → AreMaximal low runs → k + 1 ≡ length runs
-    → get_or runs k s ≡ s → s.end < r.start → r.start < r.end → insert runs (length runs) r ≡ with_run r runs
+    → get_or runs k s ≡ s → s.end < r.start → r.start < r.end → runs ++ r ∷ [] ≡ with_run r runs
 with_run_behind low k r s [] m e g t n = absurd (omega arith)
 with_run_behind low zero r s (x ∷ []) m e g t n =
     let p : x.end ≡ s.end = ap (λ (q : Run). q.end) g in
@@ -156,7 +156,7 @@ with_run_behind low (suc k) r s (x ∷ xs) m e g t n =
     subst (λ (q : Run). x.end + 1 ≤ q.start) g (above (x.end + 1) xs k s m.2 (omega arith)) in
     let some : s.start < s.end = subst (λ (q : Run). q.start < q.end) g (start_below_end (x.end + 1) xs k s m.2 (omega arith)) in
     let o : x.start < x.end = m.1 in
-    with_run_cases r x xs (λ l. x ∷ insert xs (length xs) r ≡ l) (λ f. absurd (omega (arith, from, some, o, t, n)))
+    with_run_cases r x xs (λ l. x ∷ (xs ++ r ∷ []) ≡ l) (λ f. absurd (omega (arith, from, some, o, t, n)))
     (λ f. ap (λ l. x ∷ l) ih) (λ f h. absurd (omega (arith, from, some, t)))
 
 -- a run that begins at the end of the last makes one run with it

@@ -1,8 +1,11 @@
 -- What a catalogue keeps, once a note is there.
-use Rattle.std.specs.Prelude.{◌≡◌, ◌↔◌, ℕ, ◌+◌, ◌-◌, ◌<◌, ◌≤◌, max, List, [], map}
+use Rattle.std.specs.Prelude.{◌≡◌, ◌↔◌, ℕ, ◌+◌, ◌-◌, ◌<◌, ◌≤◌, max, List, [], ◌∷◌, ◌++◌, map}
 use Rattle.std.proofs.Common.{◌∙◌, arith, ap, sym, subst, inl, inr, refl}
 use Rattle.mxf_klv.specs.Parts.{NoteParts}
-use Rattle.mxf_klv.specs.Note.{IsInSpan, IsNote, end_of, head_note}
+use Rattle.std.specs.declared.cmp.Ordering.TheVariants.{Less, Greater}
+use Rattle.std.proofs.lemmas.Bool.{lt-ltb}
+use Rattle.mxf_klv.specs.Note.{IsInSpan, IsNote, end_of, head_note, note_cmp}
+use Rattle.mxf_klv.specs.NoteOrder.{note_total}
 use Rattle.mxf_klv.specs.Rising.{In}
 use Rattle.mxf_catalogue.specs.declared.run.Run.{Run}
 use Rattle.mxf_catalogue.specs.Content.{AreReduced, IsCatalogue, has_note, reduced_with, union_of, with_note}
@@ -196,6 +199,16 @@ above_new x notes above h = elim h [
 pub above_alone : (x : NoteParts) (notes : List NoteParts) → ((n : NoteParts) → In n notes → end_of n ≤ x.offset)
     → In (head_note x) notes → ⊥
 above_alone x notes above i = let l : end_of x ≤ x.offset = above (head_note x) i in omega (arith, l)
+
+-- so it goes behind them
+pub above_last : (x : NoteParts) (notes : List NoteParts) → ((n : NoteParts) → In n notes → end_of n ≤ x.offset)
+    → notes ++ x ∷ [] ≡ with_note x notes
+above_last x [] above = refl
+above_last x (y ∷ ys) above =
+    let l : end_of y ≤ x.offset = above y (inl refl) in
+    let b : note_cmp y x ≡ Less = rw (lt-ltb y.offset x.offset (omega (arith, l))) refl in
+    let e : note_cmp x y ≡ Greater = let a = note_total.antisymm x y in rw b at a in
+    rw e (ap (λ t. y ∷ t) (above_last x ys (λ n h. above n (inr h))))
 
 -- and it moves none
 pub above_moves_none : (x : NoteParts) (c d : List NoteParts) → AreParts c d → AreReduced (union_of c d)

@@ -150,10 +150,7 @@ pub(super) fn merged(mut room: Vec<Note>, left: Vec<Note>, right: Vec<Note>) -> 
     ensures content { IsContent result.items }
 {
     for note in MergedNotes::of(left, right) {
-        // There is room.
-        let Ok(()) = room.push(note) else {
-            unreachable!()
-        };
+        room.push_reserved(note);
     }
     room
 }

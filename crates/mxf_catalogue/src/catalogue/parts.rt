@@ -138,7 +138,7 @@ impl Parts {
     {
         // What is held is a note.
         prove!(note.offset() <= MAX);
-        put(&mut self.clear, note);
+        self.clear.push_reserved(note);
     }
 
     /// Puts a new note into the parts, which have room for it and for what it moves.

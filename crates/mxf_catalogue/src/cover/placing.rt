@@ -113,12 +113,7 @@ fn append_run(runs: &mut Vec<Run>, run: Run)
     let count = runs.len();
     match runs.last() {
         Some(last) if last.end == run.start => runs[count - 1].end = run.end,
-        _ => {
-            // There is room.
-            let Ok(()) = runs.insert(count, run) else {
-                unreachable!()
-            };
-        }
+        _ => runs.push_reserved(run),
     }
 }
 

@@ -1,6 +1,5 @@
 use Rattle.std.proofs.Common.{◌≡◌, ◌-◌, ℕ, List, length, get_or, slice_set, None, Some, arith, sym, ◌∙◌, ap, subst}
 use Rattle.std.specs.Prelude.{slice_get}
-use Rattle.std.specs.List.{insert}
 use Rattle.std.proofs.lemmas.Option.{get_or_from_slice_get, slice_get_within}
 use Rattle.mxf_catalogue.specs.declared.run.Run.{Run}
 use Rattle.mxf_catalogue.specs.Covers.{with_run}
@@ -24,11 +23,10 @@ returns-in-Some-clause-items c =
     (with_run_grown 0 (length runs - 1) c.args.run own runs c.requires.cover.maximal (omega (arith, within)) (sym there)
     (ap (λ (r : Run). r.end) same ∙ c.if-last-run.true) c.requires.run.order)
 
-pub returns-in-Ok-clause-items : goal.returns-in-Ok-clause-items
-returns-in-Ok-clause-items c =
+pub returns-in_default-clause-items : goal.returns-in_default-clause-items
+returns-in_default-clause-items c =
     let runs = c.args.runs.now.items in
-    let count = c.len-count.ensures ∙ sym c.deref.ensures.len ∙ ap length c.deref.ensures.value in
-    c.in-Ok.ensures.items ∙ ap (λ (k : ℕ). insert runs k c.args.run) count ∙ elim c.in_default.branch [
+    c.push_reserved.ensures.items ∙ elim c.in_default.branch [
       | in_default-via-in-Some+else-last-run w ↦
           let last = w.in-Some.last.now in
           let at = subst (λ (l : List Run). slice_get l (length l - 1) ≡ Some last) c.deref.ensures.value (sym w.in-Some.ensures.value) in
@@ -40,6 +38,3 @@ returns-in-Ok-clause-items c =
       | in_default-via-in_default w ↦
           with_run_first c.args.run runs (subst (λ (l : List Run). None ≡ slice_get l (length l - 1)) c.deref.ensures.value w.in_default.ensures.value)
     ]
-
-pub returns-in-Ok-clause-room : goal.returns-in-Ok-clause-room
-returns-in-Ok-clause-room c = (c.in-Ok.ensures.in_place c.requires.room).1.0
