@@ -1,14 +1,14 @@
 //! A note in a file: its fixed part, its mark, and what it holds.
-ghost use Rattle.std.specs.Prelude.{◌≡◌, ◌+◌, ◌<◌, ◌≤◌, ℕ, List, IfErr, IfNone, IfOk, IfSome, length, true, false};
+ghost use Rattle.std.specs.Prelude.{◌≡◌, ◌+◌, ◌++◌, ◌∷◌, [], ◌<◌, ◌≤◌, ℕ, List, IfErr, IfNone, IfOk, IfSome, length, true, false};
 ghost use Rattle.mxf_klv.specs.Note.{keeps};
 ghost use Rattle.mxf_klv.specs.Written.{Puts};
 ghost use Rattle.mxf_catalogue.specs.CatalogueFile.{BeginsWithMark, BeginsWithNote, CanBeNoted, IsFixedPart};
-ghost use Rattle.mxf_catalogue.specs.CatalogueFile.{length_ahead, note_bytes};
+ghost use Rattle.mxf_catalogue.specs.CatalogueFile.{fixed_bytes, fixed_part_of, length_ahead, mark_of, note_bytes};
 ghost use Rattle.mxf_catalogue.specs.FileReading.{NoteBehindMark, RefusesBehindMark, RefusesNote};
 ghost use Rattle.mxf_catalogue.specs.declared.catalogue.file.start.Version.TheVariants.{Two};
 
 use super::FileFault;
-use super::fixed_part::{FixedPart, put_fixed_part, split_fixed_part};
+use super::fixed_part::{FixedPart, fixed_part_bytes, split_fixed_part};
 use super::start::Version;
 use mxf_klv::{Held, Note, Progress, Ul, WriteFault};
 use std::alloc::Global;
@@ -143,7 +143,32 @@ fn read_digest(
     }
 }
 
-/// Writes the note as version 2 has it.
+/// The mark of a note, and what it holds.
+fn mark_and_held(note: &Note) -> (u8, &[u8])
+    ensures mark { result.0 ≡ mark_of note.now.whole }
+    ensures held { result.1.now ≡ note.now.held }
+{
+    // What a head holds is no byte, since it is a note.
+    let _offset = note.offset();
+    match note.held() {
+        Held::Whole(value) => (WHOLE, value),
+        Held::Digest(digest) => (WHOLE, digest),
+        Held::Head => (HEAD, &[]),
+    }
+}
+
+/// The bytes of a note of version 2 ahead of what it holds: its fixed part and its mark.
+fn bytes_ahead(note: &Note, mark: u8) -> [u8; 34]
+    ensures { result ≡ fixed_bytes (fixed_part_of note.now) ++ mark ∷ [] }
+{
+    let mut bytes = [0; 34];
+    let (fixed, last) = bytes.split_at_mut(33);
+    fixed.copy_from_slice(&fixed_part_bytes(note));
+    last.copy_from_slice(&[mark]);
+    bytes
+}
+
+/// Writes the note as version 2 has it, in two parts.
 pub(super) fn put_note<W: Write>(
     note: &Note,
     progress: &mut Progress,
@@ -151,18 +176,7 @@ pub(super) fn put_note<W: Write>(
 ) -> Result<(), WriteFault>
     ensures { Puts W.contents writer.old writer.new progress.old progress.new result (note_bytes Two note.now) }
 {
-    // What a head holds is no byte, since it is a note.
-    let _offset = note.offset();
-    put_fixed_part(note, progress, writer)?;
-    match note.held() {
-        Held::Whole(value) => {
-            progress.put(writer, &[WHOLE])?;
-            progress.put(writer, value)
-        }
-        Held::Digest(digest) => {
-            progress.put(writer, &[WHOLE])?;
-            progress.put(writer, digest)
-        }
-        Held::Head => progress.put(writer, &[HEAD]),
-    }
+    let (mark, held) = mark_and_held(note);
+    progress.put(writer, &bytes_ahead(note, mark))?;
+    progress.put(writer, held)
 }

@@ -1,10 +1,8 @@
 //! The fixed part of a note in a file: 33 bytes, ahead of its mark and of what the note holds.
 ghost use Rattle.std.specs.Prelude.{◌≡◌, ◌++◌, ◌<◌, ◌^◌, IfNone, IfSome, length};
-ghost use Rattle.mxf_klv.specs.Written.{Puts};
 ghost use Rattle.mxf_catalogue.specs.CatalogueFile.{BeginsWithFixedPart, fixed_bytes, fixed_part_of, number_bytes};
 
-use mxf_klv::{Note, Progress, WriteFault};
-use std::io::Write;
+use mxf_klv::Note;
 
 /// What a note of a file says of its packet, ahead of what it holds.
 #[derive(Clone, Copy, Debug, PartialEq, Eq)]
@@ -45,7 +43,7 @@ pub(super) fn split_number(bytes: &[u8]) -> Option<(u64, &[u8])>
 
 /// The bytes of a note's fixed part.
 #[tactic(auto, unfolding(crate::specs::CatalogueFile::number_bytes))]
-fn fixed_part_bytes(note: &Note) -> [u8; 33]
+pub(super) fn fixed_part_bytes(note: &Note) -> [u8; 33]
     ensures { result ≡ fixed_bytes (fixed_part_of note.now) }
 {
     let mut bytes = [0; 33];
@@ -57,14 +55,4 @@ fn fixed_part_bytes(note: &Note) -> [u8; 33]
     width.copy_from_slice(&[note.width()]);
     length.copy_from_slice(&note.length().to_be_bytes());
     bytes
-}
-
-pub(super) fn put_fixed_part<W: Write>(
-    note: &Note,
-    progress: &mut Progress,
-    writer: &mut W,
-) -> Result<(), WriteFault>
-    ensures { Puts W.contents writer.old writer.new progress.old progress.new result (fixed_bytes (fixed_part_of note.now)) }
-{
-    progress.put(writer, &fixed_part_bytes(note))
 }
