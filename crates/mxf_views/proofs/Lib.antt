@@ -56,4 +56,5 @@ pub mod StartLaws
 pub mod StartWalk
 pub mod StartsOrder
 pub mod SumLaws
+pub mod TallyLaws
 pub mod UnreadableLaws

@@ -15,14 +15,16 @@ pub(crate) mod copies;
 pub(crate) mod offsets;
 pub(crate) mod reaches;
 pub(crate) mod sums;
+pub(crate) mod tally;
 
 use crate::copy::CopyInfo;
 use crate::kept::above::{append_offsets, follow_copies_above, settled};
 use crate::kept::arrival::Arrival;
-use crate::kept::copies::{count_copies, follow_copies, refill_copies};
-use crate::kept::offsets::{Placed, count, follow, refill, stands};
+use crate::kept::copies::{follow_copies, refill_copies};
+use crate::kept::offsets::{Placed, follow, refill, stands};
 use crate::kept::reaches::refill_reaches;
 use crate::kept::sums::{Mark, Sums, mark_count};
+use crate::kept::tally::Tally;
 use mxf_catalogue::Catalogue;
 use std::alloc::{AllocError, Global};
 
@@ -119,15 +121,13 @@ impl Kept {
         ensures reaches { OnOk result (vec_len self.old.reaches
             + count_by states_metadata (clear_notes other.now) ≤ vec_capacity self.new.reaches) }
     {
-        self.partitions.reserve(count(other, Placed::Partition))?;
-        self.segments.reserve(count(other, Placed::Segment))?;
-        self.random_index_packs
-            .reserve(count(other, Placed::RandomIndexPack))?;
-        self.unreadable_packs
-            .reserve(count(other, Placed::UnreadablePack))?;
-        let copies = count_copies(other);
-        self.copies.reserve(copies)?;
-        self.reaches.reserve(copies)
+        let most = Tally::of(other);
+        self.partitions.reserve(most.packs)?;
+        self.segments.reserve(most.segments)?;
+        self.random_index_packs.reserve(most.random_index_packs)?;
+        self.unreadable_packs.reserve(most.packs)?;
+        self.copies.reserve(most.packs)?;
+        self.reaches.reserve(most.packs)
     }
 
     /// Puts what is kept of a catalogue in place of what is there, where there is room.

@@ -84,13 +84,6 @@ pub(super) fn follow(offsets: &mut Vec<u64>, arrival: &Arrival, there: bool)
     }
 }
 
-/// The number of the clear notes of a kind.
-pub(super) fn count(catalogue: &Catalogue, kind: Placed) -> usize
-    ensures { result ≡ count_by (is_placed kind) (clear_notes catalogue.now) }
-{
-    catalogue.clear().filter(|note| kind.has(note)).count()
-}
-
 /// Puts the offsets of the clear notes of a kind in place of others, where there is room.
 pub(super) fn refill(offsets: &mut Vec<u64>, catalogue: &Catalogue, kind: Placed)
     requires { count_by (is_placed kind) (clear_notes catalogue.now) ≤ vec_capacity offsets.old }
