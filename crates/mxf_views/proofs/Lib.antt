@@ -1,6 +1,7 @@
 pub mod AboveCopies
 pub mod AboveKept
 pub mod AboveLaws
+pub mod AppendLaws
 pub mod BestLaws
 pub mod CauseLaws
 pub mod ChainLaws
