@@ -1,6 +1,7 @@
 pub mod AboveCopies
 pub mod AboveKept
 pub mod AboveLaws
+pub mod AppendLaws
 pub mod BestLaws
 pub mod CauseLaws
 pub mod ChainLaws
@@ -56,4 +57,5 @@ pub mod StartLaws
 pub mod StartWalk
 pub mod StartsOrder
 pub mod SumLaws
+pub mod TallyLaws
 pub mod UnreadableLaws

@@ -24,7 +24,7 @@ use Rattle.mxf_views.proofs.PrimerLaws.{one_at, start_of_copy}
 use Rattle.mxf_views.proofs.StartLaws.{clear_same}
 
 -- A note whose kind isn't that of a partition pack is no partition.
-no_pack : (n : NoteParts) → part_and_status (kind_of n.key) ≡ None → pack_of n ≡ None
+pub no_pack : (n : NoteParts) → part_and_status (kind_of n.key) ≡ None → pack_of n ≡ None
 no_pack n e =
     elim (keeps_value n) as (λ k.
     (if k then result_ok (pack_under (part_and_status (kind_of n.key)) n.held) else None) ≡ None) [

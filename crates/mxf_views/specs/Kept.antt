@@ -22,9 +22,13 @@ use Rattle.mxf_views.specs.Partitions.{PartitionParts, is_no_unreadable_pack, pa
 use Rattle.mxf_views.specs.Places.{placed_segment}
 use Rattle.mxf_views.specs.RandomIndex.{is_rip_note}
 
+-- Where the notes stand that pass the test.
+abbrev pub offsets_among : (NoteParts → Bool) → List NoteParts → List ℕ
+offsets_among test notes = map (λ n. n.offset) (filter test notes)
+
 -- Where the clear notes stand that pass the test.
 abbrev pub offsets_where : (NoteParts → Bool) → List NoteParts → List ℕ
-offsets_where test notes = map (λ n. n.offset) (filter test (clear_notes notes))
+offsets_where test notes = offsets_among test (clear_notes notes)
 
 -- The range goes from the least offset of a note and of the clear notes that share a byte with it to their greatest end.
 pub record IsHull (x : NoteParts) (notes : List NoteParts) (start end : ℕ) : Type 0 where

@@ -3,10 +3,10 @@
 ghost use Rattle.std.specs.Prelude.{◌≡◌, List, ◌<◌, ◌≤◌, IfOk, OnOk, count_by, ◌++◌, ◌∷◌, ◌+◌, [], ℕ, vec_len, vec_capacity};
 ghost use Rattle.mxf_klv.specs.Parts.{NoteParts};
 ghost use Rattle.mxf_klv.specs.Rising.{In};
-ghost use Rattle.mxf_catalogue.specs.Content.{IsContent, has_note, reduced_union, reduced_with};
+ghost use Rattle.mxf_catalogue.specs.Content.{IsCatalogue, IsContent, has_note, reduced_union, reduced_with};
 ghost use Rattle.mxf_catalogue.specs.Disputes.{clear_notes};
-ghost use Rattle.mxf_views.specs.Kept.{is_placed, states_metadata, HasRoom, HasRoomForOne, IsArrival, kept_in, kept_of};
-ghost use Rattle.mxf_views.specs.KeptAbove.{IsUnionAt, MeetAt};
+ghost use Rattle.mxf_views.specs.Kept.{is_placed, states_metadata, HasRoom, HasRoomForOne, IsArrival, kept_in, kept_of, offsets_among};
+ghost use Rattle.mxf_views.specs.KeptAbove.{IsUnionAt, MeetAt, clear_from};
 ghost use Rattle.mxf_views.specs.declared.kept.offsets.Placed.{Placed};
 
 pub(crate) mod above;
@@ -15,14 +15,16 @@ pub(crate) mod copies;
 pub(crate) mod offsets;
 pub(crate) mod reaches;
 pub(crate) mod sums;
+pub(crate) mod tally;
 
 use crate::copy::CopyInfo;
-use crate::kept::above::{append_offsets, follow_copies_above, settled};
+use crate::kept::above::{follow_copies_above, settled};
 use crate::kept::arrival::Arrival;
-use crate::kept::copies::{count_copies, follow_copies, refill_copies};
-use crate::kept::offsets::{Placed, count, follow, refill, stands};
+use crate::kept::copies::{follow_copies, refill_copies};
+use crate::kept::offsets::{Placed, append, follow, stands};
 use crate::kept::reaches::refill_reaches;
 use crate::kept::sums::{Mark, Sums, mark_count};
+use crate::kept::tally::Tally;
 use mxf_catalogue::Catalogue;
 use std::alloc::{AllocError, Global};
 
@@ -119,15 +121,67 @@ impl Kept {
         ensures reaches { OnOk result (vec_len self.old.reaches
             + count_by states_metadata (clear_notes other.now) ≤ vec_capacity self.new.reaches) }
     {
-        self.partitions.reserve(count(other, Placed::Partition))?;
-        self.segments.reserve(count(other, Placed::Segment))?;
-        self.random_index_packs
-            .reserve(count(other, Placed::RandomIndexPack))?;
-        self.unreadable_packs
-            .reserve(count(other, Placed::UnreadablePack))?;
-        let copies = count_copies(other);
-        self.copies.reserve(copies)?;
-        self.reaches.reserve(copies)
+        let most = Tally::of(other);
+        self.partitions.reserve(most.packs)?;
+        self.segments.reserve(most.segments)?;
+        self.random_index_packs.reserve(most.random_index_packs)?;
+        self.unreadable_packs.reserve(most.packs)?;
+        self.copies.reserve(most.packs)?;
+        self.reaches.reserve(most.packs)
+    }
+
+    /// Takes all offsets out.
+    fn clear_offsets(&mut self)
+        ensures partitions { (vec_len self.new.partitions ≡ 0) × (self.new.partitions.items ≡ [])
+            × (vec_capacity self.new.partitions ≡ vec_capacity self.old.partitions) }
+        ensures segments { (vec_len self.new.segments ≡ 0) × (self.new.segments.items ≡ [])
+            × (vec_capacity self.new.segments ≡ vec_capacity self.old.segments) }
+        ensures random_index_packs { (vec_len self.new.random_index_packs ≡ 0)
+            × (self.new.random_index_packs.items ≡ [])
+            × (vec_capacity self.new.random_index_packs ≡ vec_capacity self.old.random_index_packs) }
+        ensures unreadable_packs { (vec_len self.new.unreadable_packs ≡ 0) × (self.new.unreadable_packs.items ≡ [])
+            × (vec_capacity self.new.unreadable_packs ≡ vec_capacity self.old.unreadable_packs) }
+        ensures copies { self.new.copies ≡ self.old.copies }
+        ensures reaches { self.new.reaches ≡ self.old.reaches }
+    {
+        self.partitions.clear();
+        self.segments.clear();
+        self.random_index_packs.clear();
+        self.unreadable_packs.clear();
+    }
+
+    /// Puts the offsets of what is kept of the clear notes from a boundary on behind others, in one pass, where there is
+    /// room.
+    fn append_offsets(&mut self, catalogue: &Catalogue, boundary: u64)
+        requires partitions { vec_len self.old.partitions
+            + count_by (is_placed Placed.Partition) (clear_from boundary catalogue.now)
+            ≤ vec_capacity self.old.partitions }
+        requires segments { vec_len self.old.segments
+            + count_by (is_placed Placed.Segment) (clear_from boundary catalogue.now) ≤ vec_capacity self.old.segments }
+        requires random_index_packs { vec_len self.old.random_index_packs
+            + count_by (is_placed Placed.RandomIndexPack) (clear_from boundary catalogue.now)
+            ≤ vec_capacity self.old.random_index_packs }
+        requires unreadable_packs { vec_len self.old.unreadable_packs
+            + count_by (is_placed Placed.UnreadablePack) (clear_from boundary catalogue.now)
+            ≤ vec_capacity self.old.unreadable_packs }
+        ensures partitions { self.new.partitions.items ≡ self.old.partitions.items
+            ++ offsets_among (is_placed Placed.Partition) (clear_from boundary catalogue.now) }
+        ensures segments { self.new.segments.items ≡ self.old.segments.items
+            ++ offsets_among (is_placed Placed.Segment) (clear_from boundary catalogue.now) }
+        ensures random_index_packs { self.new.random_index_packs.items ≡ self.old.random_index_packs.items
+            ++ offsets_among (is_placed Placed.RandomIndexPack) (clear_from boundary catalogue.now) }
+        ensures unreadable_packs { self.new.unreadable_packs.items ≡ self.old.unreadable_packs.items
+            ++ offsets_among (is_placed Placed.UnreadablePack) (clear_from boundary catalogue.now) }
+        ensures copies { self.new.copies ≡ self.old.copies }
+        ensures reaches { self.new.reaches ≡ self.old.reaches }
+        ensures catalogue { IsCatalogue catalogue.now }
+    {
+        for note in catalogue.clear_within(boundary, u64::MAX) {
+            append(&mut self.partitions, Placed::Partition, note);
+            append(&mut self.segments, Placed::Segment, note);
+            append(&mut self.random_index_packs, Placed::RandomIndexPack, note);
+            append(&mut self.unreadable_packs, Placed::UnreadablePack, note);
+        }
     }
 
     /// Puts what is kept of a catalogue in place of what is there, where there is room.
@@ -137,20 +191,10 @@ impl Kept {
         ensures { kept_in self.new ≡ kept_of catalogue.now }
     {
         let sums = Sums::of(catalogue, 0, room);
-        refill(&mut self.partitions, catalogue, Placed::Partition);
-        refill(&mut self.segments, catalogue, Placed::Segment);
-        refill(
-            &mut self.random_index_packs,
-            catalogue,
-            Placed::RandomIndexPack,
-        );
-        refill(
-            &mut self.unreadable_packs,
-            catalogue,
-            Placed::UnreadablePack,
-        );
         refill_copies(&mut self.copies, &sums);
         refill_reaches(&mut self.reaches, &self.copies, 0);
+        self.clear_offsets();
+        self.append_offsets(catalogue, 0);
     }
 
     /// Follows the arrival of notes that begin at the boundary or above, where there is room: from what is kept of the notes
@@ -162,24 +206,11 @@ impl Kept {
         requires empty { room.items ≡ [] }
         ensures { kept_in self.new ≡ kept_of catalogue.now }
     {
-        append_offsets(&mut self.partitions, catalogue, boundary, Placed::Partition);
-        append_offsets(&mut self.segments, catalogue, boundary, Placed::Segment);
-        append_offsets(
-            &mut self.random_index_packs,
-            catalogue,
-            boundary,
-            Placed::RandomIndexPack,
-        );
-        append_offsets(
-            &mut self.unreadable_packs,
-            catalogue,
-            boundary,
-            Placed::UnreadablePack,
-        );
         let sums = Sums::of(catalogue, boundary, room);
         let settled = settled(&self.copies, &self.reaches, boundary);
         follow_copies_above(&mut self.copies, settled, &sums);
         refill_reaches(&mut self.reaches, &self.copies, settled);
+        self.append_offsets(catalogue, boundary);
     }
 
     /// Follows the arrival of a note in a catalogue, where there is room: from what is kept of the notes before to what

@@ -1,5 +1,6 @@
 //! Partitions: clear readable partition packs.
-ghost use Rattle.std.specs.Prelude.{◌≡◌, ◌==◌, ◌<◌, ◌^◌, ◌↔◌, List, find, count_by, length};
+ghost use Rattle.std.specs.Prelude.{◌≡◌, ◌==◌, ◌<◌, ◌^◌, ◌↔◌, List, find, count_by, is_some, length};
+ghost use Rattle.mxf_sets.specs.PackReadings.{part_and_status};
 ghost use Rattle.mxf_klv.specs.Parts.{NoteParts};
 ghost use Rattle.mxf_klv.specs.Rising.{In};
 ghost use Rattle.mxf_catalogue.specs.Content.{IsContent};
@@ -32,10 +33,20 @@ impl<'a> Model for PartitionAt<'a> {
     ghost view = { λ p. record { offset = p.offset; end = p.end; pack = p.pack } };
 }
 
-/// The partition pack of a note, where it is a readable one.
+/// Whether packets of the kind have a partition pack.
+pub(crate) fn is_pack(kind: Kind) -> bool
+    ensures { result ≡ is_some (part_and_status kind) }
+{
+    matches!(&kind, Kind::Header(_) | Kind::Body(_) | Kind::Footer(_))
+}
+
+/// The partition pack of a note, where it is a readable one: its kind tells first whether there is one to read.
 fn read_pack(note: &Note) -> Option<PartitionPack<'_>>
     ensures { result ≡ pack_of note.now }
 {
+    if !is_pack(note.kind()) {
+        return None;
+    }
     match note.held() {
         Held::Whole(value) => PartitionPack::read(&note.key(), value).ok(),
         Held::Digest(_) => None,

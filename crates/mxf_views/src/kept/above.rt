@@ -8,8 +8,6 @@ ghost use Rattle.mxf_views.specs.Copies.{CopiesRise, copies_of};
 ghost use Rattle.mxf_views.specs.Kept.{is_placed, reaches_of, states_metadata};
 ghost use Rattle.mxf_views.specs.KeptAbove.{CountsFit, EndsBy, IsOfNone, IsStarting, IsUnionAt, MeetAt, clear_from, counted_above, counted_on, started};
 
-use super::offsets::Placed;
-use super::push;
 use super::reaches::count_below;
 use super::sums::{Sums, append_copies};
 use crate::copy::{CopyInfo, copy_there, start_of};
@@ -26,25 +24,6 @@ pub(crate) fn boundary(own: &Catalogue, other: &Catalogue) -> Option<u64>
     match other.spans().runs().next() {
         Some(first) if first.start < end => None,
         _ => Some(end),
-    }
-}
-
-/// Puts the offsets of the clear notes of a kind from the boundary on behind others, where there is room.
-pub(super) fn append_offsets(
-    offsets: &mut Vec<u64>,
-    catalogue: &Catalogue,
-    boundary: u64,
-    kind: Placed,
-)
-    requires { vec_len offsets.old + count_by (is_placed kind) (clear_from boundary catalogue.now)
-        ≤ vec_capacity offsets.old }
-    ensures { offsets.new.items ≡ offsets.old.items
-        ++ map (λ n. n.offset) (filter (is_placed kind) (clear_from boundary catalogue.now)) }
-{
-    for note in catalogue.clear_within(boundary, u64::MAX) {
-        if kind.has(note) {
-            push(offsets, note.offset());
-        }
     }
 }
 

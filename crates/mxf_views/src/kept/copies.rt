@@ -108,23 +108,6 @@ pub(super) fn follow_copies(copies: &mut Vec<CopyInfo>, catalogue: &Catalogue, a
     }
 }
 
-/// The number of the partitions that state header metadata.
-pub(super) fn count_copies(catalogue: &Catalogue) -> usize
-    ensures { result ≡ count_by states_metadata (clear_notes catalogue.now) }
-{
-    catalogue.clear().filter(|note| brings_copy(note)).count()
-}
-
-/// Whether the note is a partition pack that states header metadata.
-fn brings_copy(note: &Note) -> bool
-    ensures { result ≡ states_metadata note.now }
-{
-    match partition_at(note) {
-        Some(partition) => has_metadata(&partition),
-        None => false,
-    }
-}
-
 /// Puts the copies of a catalogue in place of others, where there is room.
 pub(super) fn refill_copies(copies: &mut Vec<CopyInfo>, sums: &Sums<'_>)
     requires all { sums.now.boundary ≡ 0 }

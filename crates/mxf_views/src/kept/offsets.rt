@@ -1,10 +1,9 @@
 //! Where clear notes of a kind stand, as file offsets that rise.
-ghost use Rattle.std.specs.Prelude.{◌≡◌, ◌<◌, ◌≤◌, count_by, filter, length, nat_lt, vec_len, vec_capacity};
+ghost use Rattle.std.specs.Prelude.{◌≡◌, ◌<◌, ◌≤◌, ◌+◌, ◌++◌, ◌∷◌, [], count_by, filter, length, nat_lt, vec_len, vec_capacity};
 ghost use Rattle.std.specs.List.{AllWithin, list_any};
 ghost use Rattle.std.specs.Ordering.{nat_cmp};
 ghost use Rattle.mxf_klv.specs.Rising.{IsRising, with_one};
-ghost use Rattle.mxf_catalogue.specs.Disputes.{clear_notes};
-ghost use Rattle.mxf_views.specs.Kept.{followed, is_outside, lies_between, is_placed, offsets_where, stands_clear};
+ghost use Rattle.mxf_views.specs.Kept.{followed, is_outside, lies_between, is_placed, offsets_among, stands_clear};
 ghost use Rattle.mxf_views.specs.declared.kept.offsets.Placed.{Placed};
 
 use super::push;
@@ -84,23 +83,15 @@ pub(super) fn follow(offsets: &mut Vec<u64>, arrival: &Arrival, there: bool)
     }
 }
 
-/// The number of the clear notes of a kind.
-pub(super) fn count(catalogue: &Catalogue, kind: Placed) -> usize
-    ensures { result ≡ count_by (is_placed kind) (clear_notes catalogue.now) }
+/// Puts the offset of a note behind others, if it is of the kind, where there is room.
+pub(super) fn append(offsets: &mut Vec<u64>, kind: Placed, note: &Note)
+    requires { vec_len offsets.old + count_by (is_placed kind) (note.now ∷ []) ≤ vec_capacity offsets.old }
+    ensures items { offsets.new.items ≡ offsets.old.items ++ offsets_among (is_placed kind) (note.now ∷ []) }
+    ensures len { vec_len offsets.new ≡ vec_len offsets.old + count_by (is_placed kind) (note.now ∷ []) }
+    ensures capacity { vec_capacity offsets.old ≤ vec_capacity offsets.new }
 {
-    catalogue.clear().filter(|note| kind.has(note)).count()
-}
-
-/// Puts the offsets of the clear notes of a kind in place of others, where there is room.
-pub(super) fn refill(offsets: &mut Vec<u64>, catalogue: &Catalogue, kind: Placed)
-    requires { count_by (is_placed kind) (clear_notes catalogue.now) ≤ vec_capacity offsets.old }
-    ensures { offsets.new.items ≡ offsets_where (is_placed kind) catalogue.now }
-{
-    offsets.clear();
-    for note in catalogue.clear() {
-        if kind.has(note) {
-            push(offsets, note.offset());
-        }
+    if kind.has(note) {
+        push(offsets, note.offset());
     }
 }
 

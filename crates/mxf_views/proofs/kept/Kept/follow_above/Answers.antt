@@ -1,4 +1,4 @@
-use Rattle.std.proofs.Common.{◌∙◌, ℕ, List, ap, arith, length, sym, take}
+use Rattle.std.proofs.Common.{◌∙◌, ℕ, Global, List, Vec, ap, arith, length, sym, take}
 use Rattle.std.specs.Prelude.{count_by}
 use Rattle.mxf_klv.specs.Parts.{NoteParts}
 use Rattle.mxf_views.specs.declared.copy.CopyInfo.{CopyInfo}
@@ -12,29 +12,29 @@ use Rattle.mxf_views.proofs.KeptRoom.{length-kept_copies}
 use Rattle.mxf_views.proofs.ReachLaws.{length-reaches_from, take_reaches}
 use Rattle.mxf_views.proofs.kept.Kept.follow_above.Goals as goal
 
-pub append_offsets-requires : goal.append_offsets-requires
-append_offsets-requires c =
+pub append_offsets-requires-clause-partitions : goal.append_offsets-requires-clause-partitions
+append_offsets-requires-clause-partitions c =
     let k = c.requires.kept in
     let list = c.args.self.now.partitions in
     offsets_fit c.args.boundary c.args.catalogue.now k.0 k.1 (is_placed kinds.Partition) list.items list.len _
     (ap (λ (p : KeptParts). p.partitions) k.2) list.ok.0 c.requires.room.partitions
 
-pub append_offsets-requires-2 : goal.append_offsets-requires-2
-append_offsets-requires-2 c =
+pub append_offsets-requires-clause-segments : goal.append_offsets-requires-clause-segments
+append_offsets-requires-clause-segments c =
     let k = c.requires.kept in
     let list = c.args.self.now.segments in
     offsets_fit c.args.boundary c.args.catalogue.now k.0 k.1 (is_placed kinds.Segment) list.items list.len _
     (ap (λ (p : KeptParts). p.segments) k.2) list.ok.0 c.requires.room.segments
 
-pub append_offsets-requires-3 : goal.append_offsets-requires-3
-append_offsets-requires-3 c =
+pub append_offsets-requires-clause-random_index_packs : goal.append_offsets-requires-clause-random_index_packs
+append_offsets-requires-clause-random_index_packs c =
     let k = c.requires.kept in
     let list = c.args.self.now.random_index_packs in
     offsets_fit c.args.boundary c.args.catalogue.now k.0 k.1 (is_placed kinds.RandomIndexPack) list.items list.len _
     (ap (λ (p : KeptParts). p.rips) k.2) list.ok.0 c.requires.room.rips
 
-pub append_offsets-requires-4 : goal.append_offsets-requires-4
-append_offsets-requires-4 c =
+pub append_offsets-requires-clause-unreadable_packs : goal.append_offsets-requires-clause-unreadable_packs
+append_offsets-requires-clause-unreadable_packs c =
     let k = c.requires.kept in
     let list = c.args.self.now.unreadable_packs in
     offsets_fit c.args.boundary c.args.catalogue.now k.0 k.1 (is_placed kinds.UnreadablePack) list.items list.len _
@@ -83,14 +83,18 @@ returns c =
     let k = c.requires.kept in
     let one = λ (kind : _) (os : _) (same : _).
     offsets_at c.args.boundary c.args.catalogue.now k.0 k.1 (is_placed kind) os same in
-    with_reaches _ _ _ _ _ _ (c.refill_reaches.ensures ∙ ap reaches_of c.deref-3.ensures.value)
+    with_reaches _ _ _ _ _ _
+    (ap (λ (v : Vec ℕ Global). v.items) c.append_offsets.ensures.reaches ∙ c.refill_reaches.ensures
+    ∙ ap reaches_of c.deref-3.ensures.value
+    ∙ ap (λ (v : Vec CopyInfo Global). reaches_of v.items) (sym c.append_offsets.ensures.copies))
     ∙ same_kept _ _ _ _ _ _ _ _ _ _
-    (c.append_offsets.ensures
+    (c.append_offsets.ensures.partitions
     ∙ one kinds.Partition c.args.self.now.partitions.items (ap (λ (p : KeptParts). p.partitions) k.2))
-    (c.append_offsets-2.ensures
+    (c.append_offsets.ensures.segments
     ∙ one kinds.Segment c.args.self.now.segments.items (ap (λ (p : KeptParts). p.segments) k.2))
-    (c.append_offsets-3.ensures
+    (c.append_offsets.ensures.random_index_packs
     ∙ one kinds.RandomIndexPack c.args.self.now.random_index_packs.items (ap (λ (p : KeptParts). p.rips) k.2))
-    (c.append_offsets-4.ensures
+    (c.append_offsets.ensures.unreadable_packs
     ∙ one kinds.UnreadablePack c.args.self.now.unreadable_packs.items (ap (λ (p : KeptParts). p.unreadable) k.2))
-    (c.follow_copies_above.ensures.copies ∙ ap copies_of c.of-sums.ensures.notes)
+    (ap (λ (v : Vec CopyInfo Global). v.items) c.append_offsets.ensures.copies ∙ c.follow_copies_above.ensures.copies
+    ∙ ap copies_of c.of-sums.ensures.notes)

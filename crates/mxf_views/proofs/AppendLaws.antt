@@ -1,0 +1,73 @@
+-- Offsets of notes, put behind others one after another.
+use Rattle.std.proofs.Common.{◌≡◌, ◌∙◌, ℕ, ◌+◌, ◌++◌, ◌≤◌, Bool, true, false, List, [], ◌∷◌, ap, append-nil, append_assoc, arith, refl, sym}
+use Rattle.std.specs.Prelude.{cond, count_by, filter, map}
+use Rattle.std.specs.Vec.{vec_capacity, vec_len}
+use Rattle.std.proofs.Common.{Global, Vec}
+use Rattle.mxf_klv.specs.Parts.{NoteParts}
+use Rattle.mxf_views.specs.declared.kept.offsets.Placed.{Placed}
+use Rattle.mxf_catalogue.specs.Content.{IsCatalogue}
+use Rattle.mxf_views.specs.Kept.{is_placed, offsets_among, offsets_where}
+use Rattle.mxf_views.specs.KeptAbove.{clear_from}
+use Rattle.mxf_views.proofs.SumLaws.{all_from_none}
+use Rattle.mxf_views.proofs.Members.{count_by-cons}
+
+-- What is there and what the notes left bring are the offsets before and those of all new notes, and there is room.
+pub record AreAppended (kind : Placed) (before now : Vec ℕ Global) (left new : List NoteParts) : Type 0 where
+  pub items : now.items ++ offsets_among (is_placed kind) left ≡ before.items ++ offsets_among (is_placed kind) new
+  pub room : vec_len now + count_by (is_placed kind) left ≤ vec_capacity now
+
+pub appended_none : (kind : Placed) (list : Vec ℕ Global) (left new : List NoteParts) → left ≡ new
+    → vec_len list + count_by (is_placed kind) new ≤ vec_capacity list → AreAppended kind list list left new
+appended_none kind list left new e room = record {
+  items = ap (λ l. list.items ++ offsets_among (is_placed kind) l) e;
+  room = (let many = ap (count_by (is_placed kind)) e in omega (arith, many, room));
+}
+
+first_among : (test : NoteParts → Bool) (n : NoteParts) (rest : List NoteParts)
+    → offsets_among test (n ∷ rest) ≡ offsets_among test (n ∷ []) ++ offsets_among test rest
+first_among test n rest =
+    elim (test n) as (λ b. map (λ (m : NoteParts). m.offset) (cond b (n ∷ filter test rest) (filter test rest))
+    ≡ map (λ (m : NoteParts). m.offset) (cond b (n ∷ []) []) ++ offsets_among test rest) [
+      | true ↦ refl
+      | false ↦ refl
+    ]
+
+-- There is room for the next.
+pub next_fits : (kind : Placed) (before now : Vec ℕ Global) (left new rest : List NoteParts) (n : NoteParts)
+    → AreAppended kind before now left new → left ≡ n ∷ rest
+    → vec_len now + count_by (is_placed kind) (n ∷ []) ≤ vec_capacity now
+next_fits kind before now left new rest n a e =
+    let all = ap (count_by (is_placed kind)) e in
+    let more = count_by-cons (is_placed kind) n rest in
+    let one = count_by-cons (is_placed kind) n [] in omega (arith, all, more, one, a.room)
+
+pub appended_next : (kind : Placed) (before now next : Vec ℕ Global) (left new rest : List NoteParts) (n : NoteParts)
+    → AreAppended kind before now left new → left ≡ n ∷ rest
+    → next.items ≡ now.items ++ offsets_among (is_placed kind) (n ∷ [])
+    → vec_len next ≡ vec_len now + count_by (is_placed kind) (n ∷ []) → vec_capacity now ≤ vec_capacity next
+    → AreAppended kind before next rest new
+appended_next kind before now next left new rest n a e items len capacity =
+    let test = is_placed kind in record {
+      items =
+          ap (λ l. l ++ offsets_among test rest) items ∙ append_assoc now.items _ _
+          ∙ ap (λ l. now.items ++ l) (sym (first_among test n rest))
+          ∙ ap (λ l. now.items ++ offsets_among test l) (sym e) ∙ a.items;
+      room =
+          (let all = ap (count_by test) e in
+          let more = count_by-cons test n rest in
+          let one = count_by-cons test n [] in omega (arith, all, more, one, a.room, len, capacity));
+    }
+
+-- Where none is left, they are those of all.
+pub appended_all : (kind : Placed) (before now : Vec ℕ Global) (left new : List NoteParts)
+    → AreAppended kind before now left new → left ≡ []
+    → now.items ≡ before.items ++ offsets_among (is_placed kind) new
+appended_all kind before now left new a e =
+    sym (append-nil now.items) ∙ ap (λ l. now.items ++ offsets_among (is_placed kind) l) (sym e) ∙ a.items
+
+-- Behind none, those of the clear notes from the first offset on are those of all clear notes.
+pub appended_to_none : (kind : Placed) (notes : List NoteParts) (before now : List ℕ) → IsCatalogue notes → before ≡ []
+    → now ≡ before ++ offsets_among (is_placed kind) (clear_from 0 notes) → now ≡ offsets_where (is_placed kind) notes
+appended_to_none kind notes before now c none is =
+    is ∙ ap (λ l. l ++ offsets_among (is_placed kind) (clear_from 0 notes)) none
+    ∙ ap (offsets_among (is_placed kind)) (all_from_none notes c)

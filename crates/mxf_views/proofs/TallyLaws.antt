@@ -1,0 +1,100 @@
+-- How many notes there are at most that something is kept of.
+use Rattle.std.proofs.Common.{◌≡◌, ℕ, ◌+◌, ◌≤◌, Bool, true, false, List, [], ◌∷◌, Option, None, Some, ap, arith, refl}
+use Rattle.std.specs.Prelude.{◌||◌, cond, count_by, is_some, not}
+use Rattle.std.specs.Option.{option_map}
+use Rattle.mxf_klv.specs.Kind.{kind_of}
+use Rattle.mxf_klv.specs.Note.{end_of}
+use Rattle.mxf_klv.specs.Parts.{NoteParts}
+use Rattle.mxf_sets.specs.PackReadings.{part_and_status}
+use Rattle.mxf_sets.specs.Readable.{read_as}
+use Rattle.mxf_sets.specs.Segment.{SegmentParts, segment_at}
+use Rattle.mxf_views.specs.declared.kept.offsets.Placed.TheVariants as kinds
+use Rattle.mxf_views.specs.Kept.{has_some_metadata, is_placed, states_metadata}
+use Rattle.mxf_views.specs.Partitions.{PartitionParts, is_no_unreadable_pack, pack_of, partition_at}
+use Rattle.mxf_views.specs.Places.{SegmentAtParts, is_segment, placed_segment}
+use Rattle.mxf_views.proofs.Members.{count_by-cons, tally}
+use Rattle.mxf_views.proofs.StartsOrder.{no_pack}
+
+-- Packets of the note's kind have a partition pack.
+abbrev pub has_pack : NoteParts → Bool
+has_pack n = is_some (part_and_status (kind_of n.key))
+
+abbrev pub has_segment : NoteParts → Bool
+has_segment n = is_segment (kind_of n.key)
+
+-- One more note is counted.
+pub next_tally : (test : NoteParts → Bool) (count one total : ℕ) (n : NoteParts) (left rest : List NoteParts)
+    → left ≡ n ∷ rest → count + count_by test left ≡ total → one ≡ tally (test n)
+    → count + one + count_by test rest ≡ total
+next_tally test count one total n left rest e same is =
+    let all = ap (count_by test) e in
+    let more = count_by-cons test n rest in omega (arith, all, more, same, is)
+
+-- Where each that passes one test passes another, no more are counted by it.
+count_le : (p q : NoteParts → Bool) (ns : List NoteParts) → ((n : NoteParts) → p n ≡ true → q n ≡ true)
+    → count_by p ns ≤ count_by q ns
+count_le p q [] f = omega arith
+count_le p q (n ∷ ns) f =
+    let ih = count_le p q ns f in
+    let a = count_by-cons p n ns in
+    let b = count_by-cons q n ns in
+    elim (p n) as (λ v. p n ≡ v → count_by p (n ∷ ns) ≤ count_by q (n ∷ ns)) [
+      | true ↦ λ t. (
+          let one : tally (p n) ≡ 1 = ap tally t in
+          let other : tally (q n) ≡ 1 = ap tally (f n t) in omega (arith, ih, a, b, one, other))
+      | false ↦ λ t. (let none : tally (p n) ≡ 0 = ap tally t in omega (arith, ih, a, b, none))
+    ] refl
+
+none_if : {A : Type 0} (o : Option A) → is_some o ≡ false → o ≡ None
+none_if None e = refl
+none_if (Some x) e = absurd cc
+
+pub pack_lacked : (n : NoteParts) → has_pack n ≡ false → pack_of n ≡ None
+pack_lacked n e = no_pack n (none_if (part_and_status (kind_of n.key)) e)
+
+no_partition : (n : NoteParts) → has_pack n ≡ false → partition_at n ≡ None
+unfolding partition_at
+no_partition n e =
+    ap (option_map (λ pack. record { offset = n.offset; end = end_of n; pack = pack })) (pack_lacked n e)
+
+-- What is no partition has nothing that only a partition has.
+pack_if : (by : Option PartitionParts → Bool) → by None ≡ false → (n : NoteParts) → by (partition_at n) ≡ true
+    → has_pack n ≡ true
+pack_if by none n t =
+    elim (has_pack n) as (λ b. has_pack n ≡ b → b ≡ true) [
+      | true ↦ λ e. refl
+      | false ↦ λ e. (let f = ap by (no_partition n e) in absurd (cc (f, none, t)))
+    ] refl
+
+pub partitions_at_most : (ns : List NoteParts) → count_by (is_placed kinds.Partition) ns ≤ count_by has_pack ns
+partitions_at_most ns = count_le (is_placed kinds.Partition) has_pack ns (pack_if is_some refl)
+
+pub copies_at_most : (ns : List NoteParts) → count_by states_metadata ns ≤ count_by has_pack ns
+copies_at_most ns = count_le states_metadata has_pack ns (pack_if has_some_metadata refl)
+
+pack_if_unreadable : (n : NoteParts) → not (is_no_unreadable_pack n) ≡ true → has_pack n ≡ true
+unfolding is_no_unreadable_pack
+pack_if_unreadable n t =
+    elim (has_pack n) as (λ b. not (not b || is_some (partition_at n)) ≡ true → b ≡ true) [
+      | true ↦ λ e. refl
+      | false ↦ λ e. absurd cc
+    ] t
+
+pub unreadable_at_most : (ns : List NoteParts) → count_by (is_placed kinds.UnreadablePack) ns ≤ count_by has_pack ns
+unreadable_at_most ns = count_le (is_placed kinds.UnreadablePack) has_pack ns pack_if_unreadable
+
+no_segment : (n : NoteParts) → has_segment n ≡ false → placed_segment n ≡ None
+unfolding placed_segment
+no_segment n e =
+    let placed : SegmentParts → SegmentAtParts = λ segment. record { offset = n.offset; segment = segment } in
+    ap (λ b. option_map placed (cond b (read_as segment_at n) None)) e
+
+segment_if : (n : NoteParts) → is_some (placed_segment n) ≡ true → has_segment n ≡ true
+segment_if n t =
+    elim (has_segment n) as (λ b. has_segment n ≡ b → b ≡ true) [
+      | true ↦ λ e. refl
+      | false ↦ λ e. (let f = ap is_some (no_segment n e) in absurd (cc (f, t)))
+    ] refl
+
+pub segments_at_most : (ns : List NoteParts) → count_by (is_placed kinds.Segment) ns ≤ count_by has_segment ns
+segments_at_most ns = count_le (is_placed kinds.Segment) has_segment ns segment_if
