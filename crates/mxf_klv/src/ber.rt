@@ -14,7 +14,12 @@ use thiserror::Error;
 
 /// The length of a packet's value, in bytes, and the number of bytes that spell it (ST 336, length field).
 ///
-/// Lengths of up to nine bytes are known: one byte up to 127, or a first byte and 1 to 8 more.
+/// By its length a packet can be passed over unread: the next key stands behind so many bytes. Writers often spell a
+/// length in more bytes than it needs, to fill it in when the value is there, so one length has several spellings. They
+/// count: packets that differ in nothing else are two packets, and the last number of a random index pack counts them.
+///
+/// A first byte of at most 127 is the length itself. Of a greater one the low seven bits say how many bytes behind it
+/// spell the length, the most significant first. Up to eight are known; `80`, a length that isn't told, is none.
 #[derive(Clone, Copy, Debug, PartialEq, Eq)]
 pub struct Ber {
     width: u8,

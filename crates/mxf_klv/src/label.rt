@@ -5,9 +5,14 @@ ghost use Rattle.mxf_klv.specs.Label.{IsLabel, label_start};
 
 use std::marker::Model;
 
-/// A universal label (ST 336): sixteen bytes that begin `06 0E 2B 34`.
+/// A universal label (ST 336, universal label): sixteen bytes that begin `06 0E 2B 34`.
 ///
-/// Labels compare by their sixteen bytes, the version (byte 8) included.
+/// Labels are the names of the format. The key of each packet is one, and packs and sets name by them what they can't
+/// spell out: operational patterns, essence containers, properties. What a label stands for is written in the registers
+/// of SMPTE; here those keys are known that tell what a packet is, by [`kind`](crate::kind).
+///
+/// Byte 5 says the register and how what follows is coded, byte 8 the version of the register. Labels compare by their
+/// sixteen bytes, the version included.
 #[derive(Clone, Copy, Debug, PartialEq, Eq, PartialOrd, Ord, Hash)]
 pub struct Ul {
     /// The twelve bytes after those that each label begins with.

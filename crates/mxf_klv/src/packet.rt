@@ -16,7 +16,13 @@ use std::io::Write;
 use std::marker::Model;
 use thiserror::Error;
 
-/// A packet (ST 336, KLV triplet) in the bytes that hold it.
+/// A packet (ST 336, KLV triplet): a key, a length and a value, in the bytes that hold it.
+///
+/// All that a file consists of are packets, so whoever knows where one begins can go through the file without
+/// understanding any value. The key says what the value is, the length how far it reaches.
+///
+/// Behind the sixteen bytes of the key stand the one to nine bytes of the length, and then the value. Packets are equal
+/// where all their bytes are, the spelling of the length included.
 #[derive(Debug, Drop)]
 pub struct Packet<'a> {
     key: Ul,

@@ -10,7 +10,12 @@ pub(crate) mod split;
 use std::marker::Model;
 use thiserror::Error;
 
-/// An item of a local set.
+/// An item of a local set (ST 336, local sets with tags and lengths of two bytes): a property of what the set
+/// describes.
+///
+/// Two bytes are the tag, two more the length of the value, and the value follows. A tag is short for a label. Tags
+/// below `8000` are the standard's own; the others are given by whoever wrote the file, and the primer pack of the same
+/// header metadata says which label each of them stands for.
 #[derive(Debug, Drop)]
 pub struct Item<'a> {
     /// The tag, which the primer or a static dictionary ties to a label.
@@ -27,7 +32,12 @@ impl<'a> Model for Item<'a> {
     ghost view = { λ i. record { tag = i.tag; value = i.value.now } };
 }
 
-/// The items of a local set that aren't given yet, in the order of their bytes.
+/// The items of a local set that aren't given yet, in the order of their bytes (ST 336, local sets).
+///
+/// The header metadata is a tree of such sets: each describes one thing, a package, a track, a program that wrote the
+/// file, by its items, and names others by the identifiers that stand in them. The items stand one behind another and
+/// fill the value of the set's packet. Their order says nothing, and a tag that is used twice is refused by those who
+/// read the set, not here.
 #[derive(Debug, Drop)]
 pub struct Items<'a> {
     rest: &'a [u8],

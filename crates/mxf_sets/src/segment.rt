@@ -59,7 +59,14 @@ impl From<FieldFault> for SegmentFault {
 /// The greatest number of bytes of the entries, which have to fit into one item beside the head of their batch.
 const MOST_ENTRY_BYTES: usize = 65_527;
 
-/// An index table segment: its numbers and its entries.
+/// An index table segment (ST 377-1, Index Table Segment): its numbers and its entries.
+///
+/// Players jump by it: it says at which byte of an essence stream an edit unit begins. Where all units have one size
+/// the size is enough. Else there is an entry for each unit, with its offset in the stream, how far away its key frame
+/// and its place on the screen are, and flags.
+///
+/// A segment covers a range of edit units, in the order in which they are stored. Those of one index, by IndexSID,
+/// stand in any number of partitions, often a piece of the index in each, and may repeat one another.
 #[derive(Debug, Drop)]
 pub struct Segment<'a> {
     numbers: SegmentNumbers,

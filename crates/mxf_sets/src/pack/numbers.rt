@@ -6,7 +6,11 @@ use super::fixed_numbers::{NumberWriter, take_u16, take_u32, take_u64};
 
 /// The numbers of a partition pack, in the order of its value (ST 377-1, Partition Pack).
 ///
-/// Offsets of partitions count bytes from the first byte of the header partition pack.
+/// By them the partitions of a file hang together, and a reader finds his way from any of them: back to the one before,
+/// on to the footer, past the header metadata and the index to the essence.
+///
+/// Offsets of partitions count bytes from the first byte of the header partition pack. A number that a writer didn't
+/// know yet is 0, so 0 says little in an open partition.
 #[derive(Clone, Copy, Debug, PartialEq, Eq)]
 pub struct PartitionNumbers {
     pub major_version: u16,

@@ -8,6 +8,10 @@ use mxf_klv::{Kind, Status};
 use std::fmt;
 
 /// The part of the file that a partition is (ST 377-1, Partition Pack Key).
+///
+/// The header partition begins the file and says what it is. Body partitions carry essence and index, and may repeat
+/// the header metadata, so that a reader who comes in the middle needn't wait. The footer partition ends a file that
+/// was closed: its metadata and index are written last and know the whole recording. It has no essence.
 #[derive(Clone, Copy, Debug, PartialEq, Eq)]
 pub enum PackPart {
     Header,

@@ -17,6 +17,13 @@ use std::io::Write;
 use std::marker::Model;
 
 /// A partition pack (ST 377-1, Partition Pack), with the labels of its essence containers in the bytes that hold them.
+///
+/// It begins each partition and says what follows in it: how many bytes of header metadata and of index, which stream
+/// of essence and from which of its bytes on, and where other partitions lie. Its key says the part of the file and how
+/// far the partition is filled in.
+///
+/// The value is a row of numbers of fixed width, the label of the operational pattern, and a batch of labels, one for
+/// each kind of essence container in the file.
 #[derive(Debug, Drop)]
 pub struct PartitionPack<'a> {
     part: PackPart,

@@ -20,6 +20,12 @@ use std::marker::Model;
 pub use table::PrimerLabels;
 
 /// A primer pack (ST 377-1, Primer Pack): the labels that the tags of the local sets stand for.
+///
+/// The sets of the header metadata name their properties by tags of two bytes, and what a tag means may differ from
+/// file to file. The primer pack stands first in the header metadata and is the dictionary of that copy alone.
+///
+/// Its value is a batch of entries of 18 bytes, a tag and its label. A tag should have one entry; where several stand
+/// there, they have to agree.
 #[derive(Debug, Drop)]
 pub struct Primer<'a> {
     entries: Batch<'a>,

@@ -22,7 +22,11 @@ use std::marker::Model;
 /// The number of bytes of an entry.
 const ENTRY: usize = 12;
 
-/// An entry of a random index pack (ST 377-1, Random Index Pack).
+/// An entry of a random index pack (ST 377-1, Random Index Pack): one partition, and the essence stream that it
+/// carries.
+///
+/// Entries stand in the order of the file, so that the partitions of one stream can be picked out without reading any
+/// pack.
 #[derive(Clone, Copy, Debug, PartialEq, Eq)]
 pub struct RipEntry {
     /// The BodySID of the partition, 0 where it has no essence.
@@ -33,7 +37,12 @@ pub struct RipEntry {
 
 /// A random index pack (ST 377-1, Random Index Pack), with its entries in the bytes that hold them.
 ///
-/// Its last number counts the bytes of its packet, so it depends on how many bytes spell the packet's length.
+/// It is the table of contents of a closed file: the offset of each partition pack. It is the last packet, and its last
+/// four bytes are the number of its bytes, so a reader at the end of a file finds first its key and then each
+/// partition.
+///
+/// That number counts key and length too, so it depends on how many bytes spell the packet's length. Entries of twelve
+/// bytes fill the value before it.
 #[derive(Debug, Drop)]
 pub struct Rip<'a> {
     width: u8,

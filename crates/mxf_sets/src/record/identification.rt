@@ -35,7 +35,10 @@ const FIELDS: [Field; 7] = [
     Field { tag: MODIFICATION_DATE, shape: Shape::Exactly(8), required: false },
 ];
 
-/// The Identification of a program that wrote a file. Texts are the bytes of their items, for [`text`](crate::text).
+/// The Identification of a program that wrote or changed a file (ST 377-1, Identification set).
+///
+/// Each program that modifies the header metadata adds one, so the list of a file's identifications is its history: who
+/// wrote it, with which version, and when. Texts are the bytes of their items, for [`text`](crate::text).
 #[derive(Debug, Drop)]
 pub struct Identification<'a> {
     instance_uid: Uuid,

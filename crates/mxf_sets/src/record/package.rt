@@ -35,7 +35,13 @@ const FIELDS: [Field; 7] = [
     Field { tag: DESCRIPTOR, shape: Shape::Exactly(16), required: false },
 ];
 
-/// A package, material or source. The name is the bytes of its item, for [`text`](crate::text).
+/// A package, material or source (ST 377-1, Material Package and Source Package sets).
+///
+/// A material package is what a viewer is to see: the programme, put together from tracks. A source package is what
+/// there is: the essence in this file, or the tape or file that it came from. Tracks of the one refer to tracks of the
+/// other. The package identifier (ST 330, UMID) is the same wherever the package is copied.
+///
+/// The name is the bytes of its item, for [`text`](crate::text).
 #[derive(Debug, Drop)]
 pub struct Package<'a> {
     instance_uid: Uuid,

@@ -21,7 +21,10 @@ const FIELDS: [Field; 3] = [
     Field { tag: IDENTIFICATIONS, shape: Shape::References, required: false },
 ];
 
-/// The Preface of a file.
+/// The Preface of a file (ST 377-1, Preface set): the set that all others of the header metadata hang on.
+///
+/// It names the content storage, under which the packages stand, and the identifications of the programs that wrote the
+/// file. So a reader begins here, and a copy of the header metadata without its Preface leads nowhere.
 #[derive(Debug, Drop)]
 pub struct Preface<'a> {
     instance_uid: Uuid,

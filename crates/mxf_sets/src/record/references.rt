@@ -9,7 +9,10 @@ use crate::Items;
 use std::marker::Model;
 use uuid::Uuid;
 
-/// References in the order of their batch, repeated ones too. Each is the instance identifier of the set that it names.
+/// References to other sets (ST 377-1, strong references), in the order of their batch, repeated ones too.
+///
+/// Each set has an instance identifier, and another set names it by the same sixteen bytes: so the sets of the header
+/// metadata hang together, in whatever order they stand. A reference leads to the sets of its own copy alone.
 #[derive(Debug, Drop)]
 pub struct References<'a> {
     bytes: &'a [u8],

@@ -4,7 +4,10 @@ ghost use Rattle.mxf_sets.specs.Timestamp.{timestamp_of};
 
 use byteorder::{BigEndian, ByteOrder};
 
-/// A timestamp (ST 377-1): seven numbers, which aren't checked as a date.
+/// A timestamp (ST 377-1, Timestamp): seven numbers, which aren't checked as a date.
+///
+/// It says when a file or a package was made or changed, in universal time to 4 milliseconds. A writer that doesn't
+/// know stores zeros.
 #[derive(Clone, Copy, Debug, PartialEq, Eq)]
 pub struct Timestamp {
     pub year: i16,

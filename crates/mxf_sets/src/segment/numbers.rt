@@ -42,7 +42,11 @@ pub(super) const FIELDS: [Field; 9] = [
     Field { tag: ENTRIES, shape: Shape::Any, required: false },
 ];
 
-/// The numbers of an index table segment (ST 377-1).
+/// The numbers of an index table segment (ST 377-1, Index Table Segment).
+///
+/// They say which units the segment covers, in which stream, and how an entry is laid out: eleven bytes for its own,
+/// and then four for each slice and eight for each position table, since the parts of an edit unit whose size varies
+/// can be looked up too.
 #[derive(Clone, Copy, Debug, PartialEq, Eq)]
 pub struct SegmentNumbers {
     /// Edit units a second, as numerator and denominator.
