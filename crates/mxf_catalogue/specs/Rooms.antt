@@ -1,7 +1,43 @@
 -- Memory that was taken before it is used (this project's profile).
-use Rattle.std.specs.Prelude.{◌≡◌, ℕ, ◌≤◌, [], vec_len, vec_capacity}
+use Rattle.std.specs.Prelude.{◌≡◌, ℕ, ◌+◌, ◌<◌, ◌≤◌, [], length, vec_len, vec_capacity}
 use Rattle.std.specs.declared.vec.Vec.{Vec}
+use Rattle.mxf_klv.specs.Parts.{NoteParts}
+use Rattle.mxf_catalogue.specs.declared.catalogue.parts.Parts.{Parts}
+use Rattle.mxf_catalogue.specs.Parts.{touching}
 
 -- The list is empty, and has room for so many.
 abbrev pub IsRoomFor : {X Z : Type 0} → ℕ → Vec X Z → Type 0
 IsRoomFor count v = (v.items ≡ []) × (vec_len v ≡ 0) × (count ≤ vec_capacity v)
+
+-- Empty parts with room for so many notes.
+pub record AreRoomFor (count : ℕ) (p : Parts) : Type 0 where
+  pub clear : IsRoomFor count p.clear
+  pub disputed : IsRoomFor count p.disputed
+  pub disputed_spans : IsRoomFor count p.disputed_spans
+
+-- Parts with room for so many more notes, whatever these move: each note that is there may be disputed then.
+pub record HaveRoom (count : ℕ) (p : Parts) : Type 0 where
+  pub clear : vec_len p.clear + count ≤ vec_capacity p.clear
+  pub disputed : vec_len p.clear + vec_len p.disputed + count ≤ vec_capacity p.disputed
+  pub disputed_spans : vec_len p.disputed_spans + count ≤ vec_capacity p.disputed_spans
+
+-- Parts with room for one note and for those that it moves.
+pub record HaveRoomFor (n : NoteParts) (p : Parts) : Type 0 where
+  pub clear : vec_len p.clear < vec_capacity p.clear
+  pub disputed : vec_len p.disputed + length (touching n p.clear.items) < vec_capacity p.disputed
+  pub disputed_spans : vec_len p.disputed_spans < vec_capacity p.disputed_spans
+
+-- The parts hold what they held.
+pub record HoldSame (old new : Parts) : Type 0 where
+  pub clear : new.clear.items ≡ old.clear.items
+  pub disputed : new.disputed.items ≡ old.disputed.items
+  pub disputed_spans : new.disputed_spans.items ≡ old.disputed_spans.items
+
+-- Of the room that there was, no more was taken than one note takes.
+pub record TakeRoomOfOne (old new : Parts) : Type 0 where
+  pub clear : vec_len new.clear ≤ vec_len old.clear + 1
+  pub notes : vec_len new.clear + vec_len new.disputed ≤ vec_len old.clear + vec_len old.disputed + 1
+  pub disputed_spans : vec_len new.disputed_spans ≤ vec_len old.disputed_spans + 1
+  pub clear_capacity : vec_capacity new.clear ≡ vec_capacity old.clear
+  pub disputed_capacity : vec_capacity new.disputed ≡ vec_capacity old.disputed
+  pub spans_capacity : vec_capacity new.disputed_spans ≡ vec_capacity old.disputed_spans

@@ -4,7 +4,7 @@ ghost use Rattle.std.specs.Prelude.{IfOk, IfSome, MatchOption};
 ghost use Rattle.std.specs.Iterator.{YieldsFirst, item_count};
 ghost use Rattle.mxf_catalogue.specs.Content.{IsContent, union_of};
 ghost use Rattle.mxf_catalogue.specs.Parts.{AreParts};
-ghost use Rattle.mxf_catalogue.specs.Rooms.{IsRoomFor};
+ghost use Rattle.mxf_catalogue.specs.Rooms.{AreRoomFor, IsRoomFor};
 
 use super::Catalogue;
 use super::parts::Parts;
@@ -50,12 +50,8 @@ impl Room {
         ensures others_empty { IfOk result (λ r. r.others.items ≡ []) }
         ensures others { IfOk result (λ r. others.now.disputed.items ≢ []
             → length (union_of others.now.clear.items others.now.disputed.items) ≤ vec_capacity r.others) }
-        ensures clear { IfOk result (λ r. IsRoomFor (length (union_of own.now.clear.items own.now.disputed.items)
-            + length (union_of others.now.clear.items others.now.disputed.items)) r.parts.clear) }
-        ensures disputed { IfOk result (λ r. IsRoomFor (length (union_of own.now.clear.items own.now.disputed.items)
-            + length (union_of others.now.clear.items others.now.disputed.items)) r.parts.disputed) }
-        ensures disputed_spans { IfOk result (λ r. IsRoomFor (length (union_of own.now.clear.items own.now.disputed.items)
-            + length (union_of others.now.clear.items others.now.disputed.items)) r.parts.disputed_spans) }
+        ensures parts { IfOk result (λ r. AreRoomFor (length (union_of own.now.clear.items own.now.disputed.items)
+            + length (union_of others.now.clear.items others.now.disputed.items)) r.parts) }
         ensures runs { IfOk result (λ r. IsRoomFor (length (union_of own.now.clear.items own.now.disputed.items)
             + length (union_of others.now.clear.items others.now.disputed.items)) r.runs) }
     {

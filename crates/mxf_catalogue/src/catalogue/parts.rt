@@ -8,7 +8,7 @@ ghost use Rattle.mxf_catalogue.specs.Content.{AreReduced, IsContent, has_note, r
 ghost use Rattle.mxf_catalogue.specs.Covers.{IsCover};
 ghost use Rattle.mxf_catalogue.specs.Disputes.{SharesByte, whole_notes};
 ghost use Rattle.mxf_catalogue.specs.Parts.{AreParts, IsKept, IsWhole, touching};
-ghost use Rattle.mxf_catalogue.specs.Rooms.{IsRoomFor};
+ghost use Rattle.mxf_catalogue.specs.Rooms.{AreRoomFor, HaveRoom, HaveRoomFor, HoldSame, TakeRoomOfOne};
 
 use super::change::Offsets;
 use super::merging::{MergedNotes, merged};
@@ -92,14 +92,9 @@ impl Parts {
     /// Makes room for a new note and for those that it moves; the answer is the offsets of those that are no heads.
     pub fn make_room(&mut self, note: &Note) -> Result<Offsets, AllocError>
         requires { AreParts self.old.clear.items self.old.disputed.items }
-        ensures clear { self.new.clear.items ≡ self.old.clear.items }
-        ensures disputed { self.new.disputed.items ≡ self.old.disputed.items }
-        ensures disputed_spans { self.new.disputed_spans.items ≡ self.old.disputed_spans.items }
+        ensures same { HoldSame self.old self.new }
         ensures moved { IfOk result (λ o. o ≡ map (λ n. n.offset) (whole_notes (touching note.now self.old.clear.items))) }
-        ensures clear_room { OnOk result (vec_len self.new.clear < vec_capacity self.new.clear) }
-        ensures disputed_room { OnOk result (vec_len self.new.disputed + length (touching note.now self.new.clear.items)
-            < vec_capacity self.new.disputed) }
-        ensures spans_room { OnOk result (vec_len self.new.disputed_spans < vec_capacity self.new.disputed_spans) }
+        ensures room { OnOk result (HaveRoomFor note.now self.new) }
     {
         let moved = touched(&self.clear, note);
         let count = moved.len() + 1;
@@ -145,20 +140,11 @@ impl Parts {
     pub fn put(&mut self, note: Note)
         requires kept { IsKept self.old.clear.items self.old.disputed.items self.old.disputed_spans.items }
         requires new { has_note (union_of self.old.clear.items self.old.disputed.items) note → ⊥ }
-        requires clear_room { vec_len self.old.clear < vec_capacity self.old.clear }
-        requires disputed_room { vec_len self.old.disputed + length (touching note self.old.clear.items)
-            < vec_capacity self.old.disputed }
-        requires spans_room { vec_len self.old.disputed_spans < vec_capacity self.old.disputed_spans }
+        requires room { HaveRoomFor note self.old }
         ensures kept { IsKept self.new.clear.items self.new.disputed.items self.new.disputed_spans.items }
         ensures content { union_of self.new.clear.items self.new.disputed.items
             ≡ reduced_with note (union_of self.old.clear.items self.old.disputed.items) }
-        ensures clear_len { vec_len self.new.clear ≤ vec_len self.old.clear + 1 }
-        ensures len { vec_len self.new.clear + vec_len self.new.disputed
-            ≤ vec_len self.old.clear + vec_len self.old.disputed + 1 }
-        ensures spans_len { vec_len self.new.disputed_spans ≤ vec_len self.old.disputed_spans + 1 }
-        ensures clear_capacity { vec_capacity self.new.clear ≡ vec_capacity self.old.clear }
-        ensures disputed_capacity { vec_capacity self.new.disputed ≡ vec_capacity self.old.disputed }
-        ensures spans_capacity { vec_capacity self.new.disputed_spans ≡ vec_capacity self.old.disputed_spans }
+        ensures room { TakeRoomOfOne self.old self.new }
     {
         // What is held is a note, which ends where a packet may.
         prove!(note.offset() <= MAX);
@@ -184,12 +170,7 @@ impl Parts {
         ensures kept { IsKept self.new.clear.items self.new.disputed.items self.new.disputed_spans.items }
         ensures content { union_of self.new.clear.items self.new.disputed.items
             ≡ reduced_with note (union_of self.old.clear.items self.old.disputed.items) }
-        ensures clear_len { vec_len self.new.clear ≡ vec_len self.old.clear }
-        ensures disputed_len { vec_len self.new.disputed ≡ vec_len self.old.disputed }
-        ensures spans_len { vec_len self.new.disputed_spans ≡ vec_len self.old.disputed_spans }
-        ensures clear_capacity { vec_capacity self.new.clear ≡ vec_capacity self.old.clear }
-        ensures disputed_capacity { vec_capacity self.new.disputed ≡ vec_capacity self.old.disputed }
-        ensures spans_capacity { vec_capacity self.new.disputed_spans ≡ vec_capacity self.old.disputed_spans }
+        ensures room { TakeRoomOfOne self.old self.new }
     {
         // What is held is a note.
         prove!(note.offset() <= MAX);
@@ -202,9 +183,7 @@ impl Parts {
 
     /// Empty parts with room for so many notes.
     pub fn with_room(alloc: Global, count: usize) -> Result<Parts, AllocError>
-        ensures clear { IfOk result (λ p. IsRoomFor count p.clear) }
-        ensures disputed { IfOk result (λ p. IsRoomFor count p.disputed) }
-        ensures disputed_spans { IfOk result (λ p. IsRoomFor count p.disputed_spans) }
+        ensures { IfOk result (λ p. AreRoomFor count p) }
     {
         Ok(Parts {
             clear: Vec::with_capacity(alloc, count)?,
@@ -215,14 +194,8 @@ impl Parts {
 
     /// Makes room for other notes and for all that they can move.
     pub fn reserve(&mut self, count: usize) -> Result<(), AllocError>
-        ensures clear { self.new.clear.items ≡ self.old.clear.items }
-        ensures disputed { self.new.disputed.items ≡ self.old.disputed.items }
-        ensures disputed_spans { self.new.disputed_spans.items ≡ self.old.disputed_spans.items }
-        ensures clear_room { OnOk result (vec_len self.new.clear + count ≤ vec_capacity self.new.clear) }
-        ensures disputed_room { OnOk result
-            (vec_len self.new.clear + vec_len self.new.disputed + count ≤ vec_capacity self.new.disputed) }
-        ensures spans_room { OnOk result
-            (vec_len self.new.disputed_spans + count ≤ vec_capacity self.new.disputed_spans) }
+        ensures same { HoldSame self.old self.new }
+        ensures room { OnOk result (HaveRoom count self.new) }
     {
         self.clear.reserve(count)?;
         self.disputed.reserve(self.clear.len() + count)?;
@@ -235,10 +208,7 @@ impl Parts {
         requires whole { IsWhole self.old.clear.items self.old.disputed.items self.old.disputed_spans.items
             runs.old.items }
         requires cover { IsCover runs.old.items }
-        requires clear_room { vec_len self.old.clear + length notes ≤ vec_capacity self.old.clear }
-        requires disputed_room { vec_len self.old.clear + vec_len self.old.disputed + length notes
-            ≤ vec_capacity self.old.disputed }
-        requires spans_room { vec_len self.old.disputed_spans + length notes ≤ vec_capacity self.old.disputed_spans }
+        requires room { HaveRoom (length notes) self.old }
         requires runs_room { vec_len runs.old + length notes ≤ vec_capacity runs.old }
         ensures whole { IsWhole self.new.clear.items self.new.disputed.items self.new.disputed_spans.items
             runs.new.items }
@@ -256,23 +226,15 @@ impl Parts {
         requires whole { IsWhole self.old.clear.items self.old.disputed.items self.old.disputed_spans.items
             runs.old.items }
         requires cover { IsCover runs.old.items }
-        requires clear_room { vec_len self.old.clear < vec_capacity self.old.clear }
-        requires disputed_room { vec_len self.old.clear + vec_len self.old.disputed < vec_capacity self.old.disputed }
-        requires spans_room { vec_len self.old.disputed_spans < vec_capacity self.old.disputed_spans }
+        requires room { HaveRoom 1 self.old }
         requires runs_room { vec_len runs.old < vec_capacity runs.old }
         ensures whole { IsWhole self.new.clear.items self.new.disputed.items self.new.disputed_spans.items
             runs.new.items }
         ensures cover { IsCover runs.new.items }
         ensures content { union_of self.new.clear.items self.new.disputed.items
             ≡ reduced_with note (union_of self.old.clear.items self.old.disputed.items) }
-        ensures clear_len { vec_len self.new.clear ≤ vec_len self.old.clear + 1 }
-        ensures len { vec_len self.new.clear + vec_len self.new.disputed
-            ≤ vec_len self.old.clear + vec_len self.old.disputed + 1 }
-        ensures spans_len { vec_len self.new.disputed_spans ≤ vec_len self.old.disputed_spans + 1 }
+        ensures room { TakeRoomOfOne self.old self.new }
         ensures runs_len { vec_len runs.new ≤ vec_len runs.old + 1 }
-        ensures clear_capacity { vec_capacity self.new.clear ≡ vec_capacity self.old.clear }
-        ensures disputed_capacity { vec_capacity self.new.disputed ≡ vec_capacity self.old.disputed }
-        ensures spans_capacity { vec_capacity self.new.disputed_spans ≡ vec_capacity self.old.disputed_spans }
         ensures runs_capacity { vec_capacity runs.new ≡ vec_capacity runs.old }
     {
         // What is held is a note, which ends where a packet may.

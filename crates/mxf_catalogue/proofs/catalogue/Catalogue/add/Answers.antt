@@ -70,7 +70,7 @@ invariant_of-self-2 c =
     let ds = parts.disputed.items in
     let new = union_of c.put.new.self.clear.items c.put.new.self.disputed.items in
     let items : union_of c.make_room.new.self.clear.items c.make_room.new.self.disputed.items ≡ union_of cs ds =
-    λ i. union_of (c.in-Ok.ensures.clear i) (c.in-Ok.ensures.disputed i) in
+    λ i. union_of (c.in-Ok.ensures.same.clear i) (c.in-Ok.ensures.same.disputed i) in
     let all = c.put.ensures.content ∙ ap (reduced_with c.args.note) items in
     let fresh : has_note (union_of cs ds) c.args.note → ⊥ = λ h.
     let t = c.tell.ensures.1 h in let f = c.if-tell.false in cc (t, f) in

@@ -15,7 +15,7 @@ returns-clause-merged c =
     let parts = c.self.inside.parts in
     let all = subst IsCatalogue c.self.view_is
     (union_is parts.clear.items parts.disputed.items c.self.invariant.kept.parts) in
-    let none = c.in-Ok.ensures in
+    let none = c.in-Ok.ensures.parts in
     let own = c.into_notes-own.ensures.notes
     ∙ ap (λ (p : Parts). union_of p.clear.items p.disputed.items) c.replace.ensures.value ∙ c.self.view_is in
     let others = c.into_notes-others.ensures.notes ∙ c.other.view_is in

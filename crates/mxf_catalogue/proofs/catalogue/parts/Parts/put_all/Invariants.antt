@@ -3,6 +3,7 @@ use Rattle.std.proofs.Common.{◌≡◌, ◌+◌, ◌≤◌, length, vec_len, ve
 use Rattle.mxf_catalogue.specs.Content.{reduced_union, union_of}
 use Rattle.mxf_catalogue.specs.Covers.{IsCover}
 use Rattle.mxf_catalogue.specs.Parts.{IsWhole}
+use Rattle.mxf_catalogue.specs.Rooms.{HaveRoom}
 use Rattle.mxf_catalogue.proofs.catalogue.parts.Parts.put_all.Given as goal
 
 abbrev pub invariant-loop-note : goal.invariant-loop-note
@@ -11,10 +12,6 @@ invariant-loop-note l = record {
   cover : IsCover l.runs.items;
   content : reduced_union (union_of l.self.clear.items l.self.disputed.items) l.note-iterator
       ≡ reduced_union (union_of l.fn.self.clear.items l.fn.self.disputed.items) l.fn.notes;
-  clear_room : vec_len l.self.clear + length l.note-iterator ≤ vec_capacity l.self.clear;
-  disputed_room : vec_len l.self.clear + vec_len l.self.disputed + length l.note-iterator
-      ≤ vec_capacity l.self.disputed;
-  spans_room : vec_len l.self.disputed_spans + length l.note-iterator
-      ≤ vec_capacity l.self.disputed_spans;
+  room : HaveRoom (length l.note-iterator) l.self;
   runs_room : vec_len l.runs + length l.note-iterator ≤ vec_capacity l.runs;
 }

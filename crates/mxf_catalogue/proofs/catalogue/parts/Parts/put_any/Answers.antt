@@ -44,11 +44,16 @@ returns-then-end_by-clause-whole c =
 pub put-requires-clause-new : goal.put-requires-clause-new
 put-requires-clause-new c h = let t = c.tell.ensures.1 h in let f = c.if-tell.false in cc (t, f)
 
-pub put-requires-clause-disputed_room : goal.put-requires-clause-disputed_room
-put-requires-clause-disputed_room c =
+pub put-requires-clause-room : goal.put-requires-clause-room
+put-requires-clause-room c =
     let l = length-filter_le (λ n. is_byte_shared c.args.note n) c.args.self.now.clear.items in
     let k = c.args.self.now.clear.ok.0 in
-    omega (arith, l, k, c.requires.disputed_room)
+    let room = c.requires.room in
+    record {
+      clear = let r = room.clear in omega (arith, r);
+      disputed = let r = room.disputed in omega (arith, l, k, r);
+      disputed_spans = let r = room.disputed_spans in omega (arith, r);
+    }
 
 pub returns-clause-whole : goal.returns-clause-whole
 returns-clause-whole c =
