@@ -40,7 +40,7 @@ pub whole_apart : (notes : List NoteParts) (runs : List Run) → IsCatalogue not
 whole_apart notes runs is red apart covers =
     let none = whole_none.kept in
     let parts : AreParts notes [] = record {
-      clear_is = is;
+      undisputed_is = is;
       disputed_is = none.parts.disputed_is;
       apart = λ m n h k ne s. elim k [ inl i ↦ stand_apart 0 notes apart m n h i ne s | inr i ↦ i ];
       shared = none.parts.shared;

@@ -29,7 +29,7 @@ pub whole_none : IsWhole [] [] [] []
 whole_none =
     let none : IsCatalogue [] = record { content = tt; members = tt } in
     let parts : AreParts [] [] =
-    record { clear_is = none; disputed_is = none; apart = λ m n h k ne s. h; shared = λ n h. absurd h } in
+    record { undisputed_is = none; disputed_is = none; apart = λ m n h k ne s. h; shared = λ n h. absurd h } in
     let covers : Covers [] [] = λ at. (λ h. absurd h.1, λ h. absurd h.1) in
     let spans : Spans [] [] = λ at. (λ h. absurd h.1, λ h. absurd h.1) in
     record {
@@ -44,7 +44,7 @@ whole_none =
 
 -- the notes of both parts
 pub union_is : (c d : List NoteParts) → AreParts c d → IsCatalogue (union_of c d)
-union_is c d p = IsCatalogue-union_of c d p.clear_is p.disputed_is
+union_is c d p = IsCatalogue-union_of c d p.undisputed_is p.disputed_is
 
 -- a clear note is put
 pub kept_with_clear : (x : NoteParts) (c d : List NoteParts) (few : List Run) → IsNote x → IsKept c d few
@@ -63,7 +63,7 @@ pub hull-IsRun : (x : NoteParts) (c d : List NoteParts) → IsNote x → ArePart
     → IsRun (spanned (run_of x) (map run_of (touching x c)))
 hull-IsRun x c d is p =
     spanned-IsRun (run_of x) (touching x c) (run_of-IsRun x is)
-    (λ n h. (all-In IsNote c n p.clear_is.members ((In-touching x n c).0 h).0).within)
+    (λ n h. (all-In IsNote c n p.undisputed_is.members ((In-touching x n c).0 h).0).within)
 
 -- a disputed note is put, and moves the clear notes that it touches
 pub kept_with_disputed : (x : NoteParts) (c d : List NoteParts) (few : List Run) → IsNote x → IsKept c d few

@@ -59,8 +59,8 @@ touches_or_not x n =
 pub undisputed_part : (c d : List NoteParts) → AreParts c d → c ≡ undisputed_notes (union_of c d)
 undisputed_part c d p =
     let u = union_of c d in
-    same_content c (undisputed_notes u) p.clear_is.content
-    (IsContent-filter (λ n. not (is_disputed n u)) u (IsContent-union_of c d p.clear_is.content))
+    same_content c (undisputed_notes u) p.undisputed_is.content
+    (IsContent-filter (λ n. not (is_disputed n u)) u (IsContent-union_of c d p.undisputed_is.content))
     (λ n. (
       (λ h. (In-undisputed_notes n u).1 (
         (In-union_of n c d).1 (inl h),
@@ -94,7 +94,7 @@ view_with x c d c' d' r r' same =
 pub parts_with_clear : (x : NoteParts) (c d : List NoteParts) → IsNote x → AreParts c d
     → ((n : NoteParts) → In n c ⊎ In n d → SharesByte x n → ⊥) → AreParts (with_note x c) d
 parts_with_clear x c d is p far = record {
-  clear_is = IsCatalogue-with_note x c is p.clear_is;
+  undisputed_is = IsCatalogue-with_note x c is p.undisputed_is;
   disputed_is = p.disputed_is;
   apart = λ m n h k ne s.
       let old : (n : NoteParts) → In n (with_note x c) ⊎ In n d
@@ -116,7 +116,7 @@ parts_with_clear x c d is p far = record {
 pub view_with_clear : (x : NoteParts) (c d : List NoteParts) → AreParts c d
     → union_of (with_note x c) d ≡ with_note x (union_of c d)
 view_with_clear x c d p =
-    view_with x c d (with_note x c) d p.clear_is.content (IsContent-with_note x c p.clear_is.content)
+    view_with x c d (with_note x c) d p.undisputed_is.content (IsContent-with_note x c p.undisputed_is.content)
     (λ n. let one = In-with_note n x c in (
       λ h. elim h [ inl k ↦ elim (one.0 k) [ inl e ↦ inl e | inr i ↦ inr (inl i) ] | inr k ↦ inr (inr k) ],
       λ h. elim h [ inl e ↦ inl (one.1 (inl e)) | inr k ↦ elim k [ inl i ↦ inl (one.1 (inr i)) | inr i ↦ inr i ] ],
@@ -137,10 +137,10 @@ parts_with_disputed x c d is p new hit =
     let there = λ (n : NoteParts). In-disputed_with x n c d in
     let other : (n : NoteParts) → In n c ⊎ In n d → x ≢ n = λ n h e. new (subst (λ y. In y c ⊎ In y d) (sym e) h) in
     record {
-      clear_is = IsCatalogue-filter (λ n. not (is_byte_shared x n)) c p.clear_is;
+      undisputed_is = IsCatalogue-filter (λ n. not (is_byte_shared x n)) c p.undisputed_is;
       disputed_is = IsCatalogue-with_note x _ is
           (IsCatalogue-union_of d (touching x c) p.disputed_is
-          (IsCatalogue-filter (λ n. is_byte_shared x n) c p.clear_is));
+          (IsCatalogue-filter (λ n. is_byte_shared x n) c p.undisputed_is));
       apart = λ m n h k ne s.
           let a = (In-away_from x m c).0 h in
           elim k [
@@ -171,8 +171,8 @@ parts_with_disputed x c d is p new hit =
 pub view_with_disputed : (x : NoteParts) (c d : List NoteParts) → AreParts c d
     → union_of (away_from x c) (disputed_with x c d) ≡ with_note x (union_of c d)
 view_with_disputed x c d p =
-    view_with x c d (away_from x c) (disputed_with x c d) p.clear_is.content
-    (IsContent-filter (λ n. not (is_byte_shared x n)) c p.clear_is.content)
+    view_with x c d (away_from x c) (disputed_with x c d) p.undisputed_is.content
+    (IsContent-filter (λ n. not (is_byte_shared x n)) c p.undisputed_is.content)
     (λ n. let t = In-disputed_with x n c d in let a = In-away_from x n c in (
       λ h. elim h [
         | inl k ↦ inr (inl (a.0 k).0)
@@ -310,7 +310,7 @@ pub disputed_part : (c d : List NoteParts) → AreParts c d
 disputed_part c d p =
     let u = union_of c d in
     same_content d (filter (λ n. is_disputed n u) u) p.disputed_is.content
-    (IsContent-filter (λ n. is_disputed n u) u (IsContent-union_of c d p.clear_is.content))
+    (IsContent-filter (λ n. is_disputed n u) u (IsContent-union_of c d p.undisputed_is.content))
     (λ n.
     let f = In-filter (λ m. is_disputed m u) u n in let t = is_disputed-IsDisputed n u in (
       (λ h. f.1 (
@@ -370,8 +370,8 @@ disputed_by_part c d p = map_same (λ n. disputed_parts n d) (λ n. disputed_par
 pub same_parts : (c d c' d' : List NoteParts) → AreParts c d → AreParts c' d'
     → SameMembers (union_of c d) (union_of c' d') → (c ≡ c') × (d ≡ d')
 same_parts c d c' d' p p' s =
-    let u = same_content (union_of c d) (union_of c' d') (IsContent-union_of c d p.clear_is.content)
-    (IsContent-union_of c' d' p'.clear_is.content) s in (
+    let u = same_content (union_of c d) (union_of c' d') (IsContent-union_of c d p.undisputed_is.content)
+    (IsContent-union_of c' d' p'.undisputed_is.content) s in (
       undisputed_part c d p ∙ ap undisputed_notes u ∙ sym (undisputed_part c' d' p'),
       disputed_part c d p
           ∙ ap (λ l. filter (λ n. is_disputed n l) l) u ∙ sym (disputed_part c' d' p'),
@@ -416,10 +416,10 @@ module _ (x : NoteParts) (c d : List NoteParts) (is : IsNote x) (p : AreParts c 
 
   is_c : IsCatalogue (reduced_with x c)
   is_c = record {
-    content = IsContent-reduced_with x c p.clear_is.content;
+    content = IsContent-reduced_with x c p.undisputed_is.content;
     members = all_from_In IsNote (reduced_with x c) (λ n h. elim ((there_c n).0 h) [
       | inl e ↦ subst IsNote (sym e) is
-      | inr i ↦ all-In IsNote c n p.clear_is.members i.0
+      | inr i ↦ all-In IsNote c n p.undisputed_is.members i.0
     ]);
   }
 
@@ -434,7 +434,7 @@ module _ (x : NoteParts) (c d : List NoteParts) (is : IsNote x) (p : AreParts c 
 
   pub parts_swap_clear : In (head_note x) c → AreParts (reduced_with x c) d
   parts_swap_clear h = record {
-    clear_is = is_c;
+    undisputed_is = is_c;
     disputed_is = p.disputed_is;
     apart = λ m n i k ne s. elim ((there_c m).0 i) [
       | inl e ↦
@@ -463,7 +463,7 @@ module _ (x : NoteParts) (c d : List NoteParts) (is : IsNote x) (p : AreParts c 
   pub view_swap_clear : In (head_note x) c → union_of (reduced_with x c) d ≡ reduced_with x (union_of c d)
   view_swap_clear h =
       same_content _ _ (IsContent-union_of (reduced_with x c) d is_c.content)
-      (IsContent-reduced_with x u (IsContent-union_of c d p.clear_is.content))
+      (IsContent-reduced_with x u (IsContent-union_of c d p.undisputed_is.content))
       (λ n.
       let v = In-union_of n (reduced_with x c) d in
       let w = In-union_of n c d in (
@@ -479,7 +479,7 @@ module _ (x : NoteParts) (c d : List NoteParts) (is : IsNote x) (p : AreParts c 
 
   pub parts_swap_disputed : In (head_note x) d → AreParts c (reduced_with x d)
   parts_swap_disputed h = record {
-    clear_is = p.clear_is;
+    undisputed_is = p.undisputed_is;
     disputed_is = is_d;
     apart = λ m n i k ne s. elim k [
       | inl j ↦ p.apart m n i (inl j) ne s
@@ -516,8 +516,8 @@ module _ (x : NoteParts) (c d : List NoteParts) (is : IsNote x) (p : AreParts c 
 
   pub view_swap_disputed : In (head_note x) d → union_of c (reduced_with x d) ≡ reduced_with x (union_of c d)
   view_swap_disputed h =
-      same_content _ _ (IsContent-union_of c (reduced_with x d) p.clear_is.content)
-      (IsContent-reduced_with x u (IsContent-union_of c d p.clear_is.content))
+      same_content _ _ (IsContent-union_of c (reduced_with x d) p.undisputed_is.content)
+      (IsContent-reduced_with x u (IsContent-union_of c d p.undisputed_is.content))
       (λ n.
       let v = In-union_of n c (reduced_with x d) in
       let w = In-union_of n c d in (

@@ -14,10 +14,10 @@ abbrev pub StandApart : List NoteParts → Type 0
 StandApart notes = (m n : NoteParts) → In m notes → In n notes → m ≢ n → SharesByte m n → ⊥
 
 -- A note of the first part shares no byte with another note, and each of the second shares one with another of it.
-pub record AreParts (clear disputed : List NoteParts) : Type 0 where
-  pub clear_is : IsCatalogue clear
+pub record AreParts (undisputed disputed : List NoteParts) : Type 0 where
+  pub undisputed_is : IsCatalogue undisputed
   pub disputed_is : IsCatalogue disputed
-  pub apart : (m n : NoteParts) → In m clear → In n clear ⊎ In n disputed → m ≢ n → SharesByte m n → ⊥
+  pub apart : (m n : NoteParts) → In m undisputed → In n undisputed ⊎ In n disputed → m ≢ n → SharesByte m n → ⊥
   pub shared : (n : NoteParts) → In n disputed → IsDisputed n disputed
 
 -- The span of a note as a run.
@@ -45,16 +45,16 @@ abbrev pub Covers : List Run → List NoteParts → Type 0
 Covers runs notes = (offset : ℕ) → LiesIn runs offset ↔ LiesInNote notes offset
 
 -- The two parts of a reduced content, and the cover of the spans of the second.
-pub record IsKept (clear disputed : List NoteParts) (disputed_spans : List Run) : Type 0 where
-  pub parts : AreParts clear disputed
-  pub reduced : AreReduced (union_of clear disputed)
+pub record IsKept (undisputed disputed : List NoteParts) (disputed_spans : List Run) : Type 0 where
+  pub parts : AreParts undisputed disputed
+  pub reduced : AreReduced (union_of undisputed disputed)
   pub cover : IsCover disputed_spans
   pub covers : Spans disputed_spans disputed
 
 -- The same with the cover of what both cover.
-pub record IsWhole (clear disputed : List NoteParts) (disputed_spans spans : List Run) : Type 0 where
-  pub kept : IsKept clear disputed disputed_spans
-  pub covers : Covers spans (union_of clear disputed)
+pub record IsWhole (undisputed disputed : List NoteParts) (disputed_spans spans : List Run) : Type 0 where
+  pub kept : IsKept undisputed disputed disputed_spans
+  pub covers : Covers spans (union_of undisputed disputed)
 
 -- Of some notes those that share a byte with the note.
 abbrev pub touching : NoteParts → List NoteParts → List NoteParts
@@ -66,7 +66,7 @@ away_from x notes = filter (λ n. not (is_byte_shared x n)) notes
 
 -- The disputed part, once a note is there that shares a byte with another: it takes the clear notes that it touches.
 abbrev pub disputed_with : NoteParts → List NoteParts → List NoteParts → List NoteParts
-disputed_with x clear disputed = with_note x (union_of disputed (touching x clear))
+disputed_with x undisputed disputed = with_note x (union_of disputed (touching x undisputed))
 
 -- The notes that were clear before and are disputed once a note is there.
 unfoldable pub moved_notes : NoteParts → List NoteParts → List NoteParts

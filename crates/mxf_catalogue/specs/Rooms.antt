@@ -11,33 +11,33 @@ IsRoomFor count v = (v.items ≡ []) × (vec_len v ≡ 0) × (count ≤ vec_capa
 
 -- Empty parts with room for so many notes.
 pub record AreRoomFor (count : ℕ) (p : Parts) : Type 0 where
-  pub clear : IsRoomFor count p.clear
+  pub undisputed : IsRoomFor count p.undisputed
   pub disputed : IsRoomFor count p.disputed
   pub disputed_spans : IsRoomFor count p.disputed_spans
 
 -- Parts with room for so many more notes, whatever these move: each note that is there may be disputed then.
 pub record HaveRoom (count : ℕ) (p : Parts) : Type 0 where
-  pub clear : vec_len p.clear + count ≤ vec_capacity p.clear
-  pub disputed : vec_len p.clear + vec_len p.disputed + count ≤ vec_capacity p.disputed
+  pub undisputed : vec_len p.undisputed + count ≤ vec_capacity p.undisputed
+  pub disputed : vec_len p.undisputed + vec_len p.disputed + count ≤ vec_capacity p.disputed
   pub disputed_spans : vec_len p.disputed_spans + count ≤ vec_capacity p.disputed_spans
 
 -- Parts with room for one note and for those that it moves.
 pub record HaveRoomFor (n : NoteParts) (p : Parts) : Type 0 where
-  pub clear : vec_len p.clear < vec_capacity p.clear
-  pub disputed : vec_len p.disputed + length (touching n p.clear.items) < vec_capacity p.disputed
+  pub undisputed : vec_len p.undisputed < vec_capacity p.undisputed
+  pub disputed : vec_len p.disputed + length (touching n p.undisputed.items) < vec_capacity p.disputed
   pub disputed_spans : vec_len p.disputed_spans < vec_capacity p.disputed_spans
 
 -- The parts hold what they held.
 pub record HoldSame (old new : Parts) : Type 0 where
-  pub clear : new.clear.items ≡ old.clear.items
+  pub undisputed : new.undisputed.items ≡ old.undisputed.items
   pub disputed : new.disputed.items ≡ old.disputed.items
   pub disputed_spans : new.disputed_spans.items ≡ old.disputed_spans.items
 
 -- Of the room that there was, no more was taken than one note takes.
 pub record TakeRoomOfOne (old new : Parts) : Type 0 where
-  pub clear : vec_len new.clear ≤ vec_len old.clear + 1
-  pub notes : vec_len new.clear + vec_len new.disputed ≤ vec_len old.clear + vec_len old.disputed + 1
+  pub undisputed : vec_len new.undisputed ≤ vec_len old.undisputed + 1
+  pub notes : vec_len new.undisputed + vec_len new.disputed ≤ vec_len old.undisputed + vec_len old.disputed + 1
   pub disputed_spans : vec_len new.disputed_spans ≤ vec_len old.disputed_spans + 1
-  pub clear_capacity : vec_capacity new.clear ≡ vec_capacity old.clear
+  pub undisputed_capacity : vec_capacity new.undisputed ≡ vec_capacity old.undisputed
   pub disputed_capacity : vec_capacity new.disputed ≡ vec_capacity old.disputed
   pub spans_capacity : vec_capacity new.disputed_spans ≡ vec_capacity old.disputed_spans

@@ -65,9 +65,9 @@ impl Model for Catalogue {
 
     ghost Value = { List NoteParts };
 
-    ghost view = { λ c. union_of c.parts.clear.items c.parts.disputed.items };
+    ghost view = { λ c. union_of c.parts.undisputed.items c.parts.disputed.items };
 
-    ghost invariant = { λ c. IsWhole c.parts.clear.items c.parts.disputed.items c.parts.disputed_spans.items c.spans };
+    ghost invariant = { λ c. IsWhole c.parts.undisputed.items c.parts.disputed.items c.parts.disputed_spans.items c.spans };
 }
 
 impl Catalogue {
@@ -119,8 +119,8 @@ impl Catalogue {
         ensures fault { IfErr result (λ f. f.note ≡ note) }
         ensures err { OnErr result (self.new ≡ self.old) }
     {
-        let alloc = *self.parts.clear.allocator();
-        let Ok(()) = self.parts.clear.reserve(1) else {
+        let alloc = *self.parts.undisputed.allocator();
+        let Ok(()) = self.parts.undisputed.reserve(1) else {
             return Err(AddFault { note });
         };
         // What is held is a note, which ends where a packet may.
@@ -174,7 +174,7 @@ impl Catalogue {
             return Err(MergeFault { other });
         };
         let others = other.parts;
-        let notes = MergedNotes::of(others.clear, others.disputed);
+        let notes = MergedNotes::of(others.undisputed, others.disputed);
         self.parts.put_all(&mut spans.runs, notes);
         Ok(())
     }
@@ -185,7 +185,7 @@ impl Catalogue {
         ensures err { OnErr result (self.new ≡ self.old) }
         ensures back { IfErr result (λ f. f.other ≡ other) }
     {
-        let alloc = *self.parts.clear.allocator();
+        let alloc = *self.parts.undisputed.allocator();
         let Ok(room) = Room::of(alloc, &self.parts, &other.parts) else {
             return Err(MergeFault { other });
         };
@@ -225,7 +225,7 @@ impl Catalogue {
     {
         let spans = spans_of(alloc, &notes)?;
         let mut parts = Parts::new(alloc);
-        parts.clear = notes;
+        parts.undisputed = notes;
         Ok(Catalogue { parts, spans })
     }
 
@@ -287,7 +287,7 @@ impl Catalogue {
         // A count of them fits.
         ensures bound { length result < 2 ^ 64 }
     {
-        Notes::of(&self.parts.clear, &self.parts.disputed)
+        Notes::of(&self.parts.undisputed, &self.parts.disputed)
     }
 
     /// The clear notes in their order: those of whole packets that share no byte with another note. A head that nothing
@@ -297,7 +297,7 @@ impl Catalogue {
         ensures apart { AreApart 0 result }
         ensures bound { length result < 2 ^ 64 }
     {
-        ClearNotes::of(&self.parts.clear)
+        ClearNotes::of(&self.parts.undisputed)
     }
 
     /// The clear notes whose packets lie wholly in the range of so many bytes from `start` on, in their order: two binary
@@ -308,7 +308,7 @@ impl Catalogue {
         ensures catalogue { IsCatalogue self.now }
         ensures bound { length result < 2 ^ 64 }
     {
-        ClearNotes::of(within(&self.parts.clear, start, bytes))
+        ClearNotes::of(within(&self.parts.undisputed, start, bytes))
     }
 
     /// The clear notes that share a byte with the note, in their order: two binary searches. Where the catalogue hasn't the
@@ -319,7 +319,7 @@ impl Catalogue {
         ensures catalogue { IsCatalogue self.now }
         ensures bound { length result < 2 ^ 64 }
     {
-        ClearNotes::of(touched(&self.parts.clear, note))
+        ClearNotes::of(touched(&self.parts.undisputed, note))
     }
 
     /// The disputed notes in their order, each with how it is disputed. It takes no memory.
@@ -352,7 +352,7 @@ impl Catalogue {
         ensures found { IfSome result (λ n. IsClear n.now self.now × (n.now.offset ≡ offset)) }
         ensures none { IfNone result ((n : NoteParts) → IsClear n self.now → n.offset ≢ offset) }
     {
-        let note = at_offset(&self.parts.clear, offset)?;
+        let note = at_offset(&self.parts.undisputed, offset)?;
         if note.is_head() { None } else { Some(note) }
     }
 }
@@ -419,7 +419,7 @@ impl Semilattice for Catalogue {
         ensures members { IsTrue result ↔ SameContent has_note self.now other.now }
         ensures list { IsTrue result ↔ (self.now ≡ other.now) }
     {
-        self.parts.clear == other.parts.clear && self.parts.disputed == other.parts.disputed
+        self.parts.undisputed == other.parts.undisputed && self.parts.disputed == other.parts.disputed
     }
 }
 

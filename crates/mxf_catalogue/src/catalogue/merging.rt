@@ -42,18 +42,18 @@ pub(super) struct Room {
 impl Room {
     /// Room for the notes of both.
     pub fn of(alloc: Global, own: &Parts, others: &Parts) -> Result<Room, AllocError>
-        requires own_parts { AreParts own.now.clear.items own.now.disputed.items }
-        requires other_parts { AreParts others.now.clear.items others.now.disputed.items }
+        requires own_parts { AreParts own.now.undisputed.items own.now.disputed.items }
+        requires other_parts { AreParts others.now.undisputed.items others.now.disputed.items }
         ensures own_empty { IfOk result (λ r. r.own.items ≡ []) }
         ensures own { IfOk result (λ r. own.now.disputed.items ≢ []
-            → length (union_of own.now.clear.items own.now.disputed.items) ≤ vec_capacity r.own) }
+            → length (union_of own.now.undisputed.items own.now.disputed.items) ≤ vec_capacity r.own) }
         ensures others_empty { IfOk result (λ r. r.others.items ≡ []) }
         ensures others { IfOk result (λ r. others.now.disputed.items ≢ []
-            → length (union_of others.now.clear.items others.now.disputed.items) ≤ vec_capacity r.others) }
-        ensures parts { IfOk result (λ r. AreRoomFor (length (union_of own.now.clear.items own.now.disputed.items)
-            + length (union_of others.now.clear.items others.now.disputed.items)) r.parts) }
-        ensures runs { IfOk result (λ r. IsRoomFor (length (union_of own.now.clear.items own.now.disputed.items)
-            + length (union_of others.now.clear.items others.now.disputed.items)) r.runs) }
+            → length (union_of others.now.undisputed.items others.now.disputed.items) ≤ vec_capacity r.others) }
+        ensures parts { IfOk result (λ r. AreRoomFor (length (union_of own.now.undisputed.items own.now.disputed.items)
+            + length (union_of others.now.undisputed.items others.now.disputed.items)) r.parts) }
+        ensures runs { IfOk result (λ r. IsRoomFor (length (union_of own.now.undisputed.items own.now.disputed.items)
+            + length (union_of others.now.undisputed.items others.now.disputed.items)) r.runs) }
     {
         let count = own.len().checked_add(others.len()).ok_or(AllocError)?;
         Ok(Room {

@@ -10,7 +10,7 @@ use std::marker::Model;
 /// The notes of a catalogue that are left, in their order.
 #[derive(Debug, Drop)]
 pub struct Notes<'a> {
-    clear: &'a [Note],
+    undisputed: &'a [Note],
     disputed: &'a [Note],
 }
 
@@ -21,18 +21,18 @@ impl<'a> Model for Notes<'a> {
 
     ghost Value = { List NoteParts };
 
-    ghost view = { λ s. union_of s.clear.now s.disputed.now };
+    ghost view = { λ s. union_of s.undisputed.now s.disputed.now };
 
-    ghost invariant = { λ s. IsContent s.clear.now × IsContent s.disputed.now };
+    ghost invariant = { λ s. IsContent s.undisputed.now × IsContent s.disputed.now };
 }
 
 impl<'a> Notes<'a> {
-    pub(super) fn of(clear: &'a [Note], disputed: &'a [Note]) -> Notes<'a>
-        requires clear { IsContent clear.now }
+    pub(super) fn of(undisputed: &'a [Note], disputed: &'a [Note]) -> Notes<'a>
+        requires undisputed { IsContent undisputed.now }
         requires disputed { IsContent disputed.now }
-        ensures { result ≡ union_of clear.now disputed.now }
+        ensures { result ≡ union_of undisputed.now disputed.now }
     {
-        Notes { clear, disputed }
+        Notes { undisputed, disputed }
     }
 }
 
@@ -44,8 +44,8 @@ impl<'a> Iterator for Notes<'a> {
     ghost remaining = { item_count (λ s. s) };
 
     fn next(&mut self) -> Option<&'a Note> {
-        let (first, clear, disputed) = split_first(self.clear, self.disputed)?;
-        self.clear = clear;
+        let (first, undisputed, disputed) = split_first(self.undisputed, self.disputed)?;
+        self.undisputed = undisputed;
         self.disputed = disputed;
         Some(first)
     }

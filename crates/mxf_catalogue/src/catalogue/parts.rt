@@ -22,7 +22,7 @@ use std::alloc::{AllocError, Global};
 /// ones, each in their order, and the maximal runs of the spans of the disputed ones.
 #[derive(Debug, Drop)]
 pub(super) struct Parts {
-    pub clear: Vec<Note>,
+    pub undisputed: Vec<Note>,
     pub disputed: Vec<Note>,
     pub disputed_spans: Vec<Run>,
 }
@@ -30,12 +30,12 @@ pub(super) struct Parts {
 impl Parts {
     /// No note.
     pub fn new(alloc: Global) -> Parts
-        ensures clear { result.clear.items ≡ [] }
+        ensures undisputed { result.undisputed.items ≡ [] }
         ensures disputed { result.disputed.items ≡ [] }
         ensures disputed_spans { result.disputed_spans.items ≡ [] }
     {
         Parts {
-            clear: Vec::new(alloc),
+            undisputed: Vec::new(alloc),
             disputed: Vec::new(alloc),
             disputed_spans: Vec::new(alloc),
         }
@@ -43,12 +43,12 @@ impl Parts {
 
     /// Equal parts, in new memory.
     pub fn copy(&self, alloc: Global) -> Result<Parts, OutOfMemory>
-        ensures clear { IfOk result (λ p. p.clear.items ≡ self.now.clear.items) }
+        ensures undisputed { IfOk result (λ p. p.undisputed.items ≡ self.now.undisputed.items) }
         ensures disputed { IfOk result (λ p. p.disputed.items ≡ self.now.disputed.items) }
         ensures disputed_spans { IfOk result (λ p. p.disputed_spans.items ≡ self.now.disputed_spans.items) }
     {
         Ok(Parts {
-            clear: copies_of(alloc, &self.clear)?,
+            undisputed: copies_of(alloc, &self.undisputed)?,
             disputed: copies_of(alloc, &self.disputed)?,
             disputed_spans: Vec::from_slice(alloc, &self.disputed_spans)?,
         })
@@ -56,50 +56,50 @@ impl Parts {
 
     /// Whether one of the parts has the note.
     pub fn have(&self, note: &Note) -> bool
-        requires { AreParts self.now.clear.items self.now.disputed.items }
-        ensures { IsTrue result ↔ In note.now (union_of self.now.clear.items self.now.disputed.items) }
+        requires { AreParts self.now.undisputed.items self.now.disputed.items }
+        ensures { IsTrue result ↔ In note.now (union_of self.now.undisputed.items self.now.disputed.items) }
     {
-        is_in(&self.clear, note) || is_in(&self.disputed, note)
+        is_in(&self.undisputed, note) || is_in(&self.disputed, note)
     }
 
     /// The greatest end of a note, in bytes, be it claimed by a head; 0 where there is no note.
     pub fn end(&self) -> u64
-        requires { IsKept self.now.clear.items self.now.disputed.items self.now.disputed_spans.items }
+        requires { IsKept self.now.undisputed.items self.now.disputed.items self.now.disputed_spans.items }
         ensures { (bound : ℕ) → result ≤ bound
-            ↔ ((n : NoteParts) → In n (union_of self.now.clear.items self.now.disputed.items) → end_of n ≤ bound) }
+            ↔ ((n : NoteParts) → In n (union_of self.now.undisputed.items self.now.disputed.items) → end_of n ≤ bound) }
     {
         let disputed = cover::last_end(&self.disputed_spans);
-        last_end(&self.clear).max(disputed)
+        last_end(&self.undisputed).max(disputed)
     }
 
     /// Whether all notes have ended at the offset, in bytes, or below.
     pub fn end_by(&self, offset: u64) -> bool
-        requires { IsKept self.now.clear.items self.now.disputed.items self.now.disputed_spans.items }
+        requires { IsKept self.now.undisputed.items self.now.disputed.items self.now.disputed_spans.items }
         ensures { IsTrue result
-            ↔ ((n : NoteParts) → In n (union_of self.now.clear.items self.now.disputed.items) → end_of n ≤ offset) }
+            ↔ ((n : NoteParts) → In n (union_of self.now.undisputed.items self.now.disputed.items) → end_of n ≤ offset) }
     {
         self.end() <= offset
     }
 
     /// Whether one of the parts has the note, or a note of its packet that was read whole, where it is a head.
     pub fn tell(&self, note: &Note) -> bool
-        requires { AreParts self.now.clear.items self.now.disputed.items }
-        ensures { IsTrue result ↔ has_note (union_of self.now.clear.items self.now.disputed.items) note.now }
+        requires { AreParts self.now.undisputed.items self.now.disputed.items }
+        ensures { IsTrue result ↔ has_note (union_of self.now.undisputed.items self.now.disputed.items) note.now }
     {
-        tell(&self.clear, note) || tell(&self.disputed, note)
+        tell(&self.undisputed, note) || tell(&self.disputed, note)
     }
 
     /// Makes room for a new note and for those that it moves; the answer is the offsets of those that are no heads.
     pub fn make_room(&mut self, note: &Note) -> Result<Offsets, AllocError>
-        requires { AreParts self.old.clear.items self.old.disputed.items }
+        requires { AreParts self.old.undisputed.items self.old.disputed.items }
         ensures same { HoldSame self.old self.new }
-        ensures moved { IfOk result (λ o. o ≡ map (λ n. n.offset) (whole_notes (touching note.now self.old.clear.items))) }
+        ensures moved { IfOk result (λ o. o ≡ map (λ n. n.offset) (whole_notes (touching note.now self.old.undisputed.items))) }
         ensures room { OnOk result (HaveRoomFor note.now self.new) }
     {
-        let moved = touched(&self.clear, note);
+        let moved = touched(&self.undisputed, note);
         let count = moved.len() + 1;
-        let moved = Offsets::of(*self.clear.allocator(), moved)?;
-        self.clear.reserve(1)?;
+        let moved = Offsets::of(*self.undisputed.allocator(), moved)?;
+        self.undisputed.reserve(1)?;
         self.disputed.reserve(count)?;
         self.disputed_spans.reserve(1)?;
         Ok(moved)
@@ -107,43 +107,43 @@ impl Parts {
 
     /// Whether a note shares no byte with those of the parts.
     fn are_apart_from(&self, note: &Note) -> bool
-        requires { IsKept self.now.clear.items self.now.disputed.items self.now.disputed_spans.items }
-        ensures far { IsTrue result → (n : NoteParts) → In n (union_of self.now.clear.items self.now.disputed.items)
+        requires { IsKept self.now.undisputed.items self.now.disputed.items self.now.disputed_spans.items }
+        ensures far { IsTrue result → (n : NoteParts) → In n (union_of self.now.undisputed.items self.now.disputed.items)
             → SharesByte note.now n → ⊥ }
         ensures near { result ≡ false
-            → ((n : NoteParts) × In n (union_of self.now.clear.items self.now.disputed.items) × SharesByte note.now n) }
+            → ((n : NoteParts) × In n (union_of self.now.undisputed.items self.now.disputed.items) × SharesByte note.now n) }
     {
-        touched(&self.clear, note).is_empty()
+        touched(&self.undisputed, note).is_empty()
             && !meets(&self.disputed_spans, note.offset(), note.end() - 1)
     }
 
     /// Puts a note that begins where all others have ended, or above, behind them. There is room for it.
     pub fn append(&mut self, note: Note)
-        requires kept { IsKept self.old.clear.items self.old.disputed.items self.old.disputed_spans.items }
-        requires above { (n : NoteParts) → In n (union_of self.old.clear.items self.old.disputed.items)
+        requires kept { IsKept self.old.undisputed.items self.old.disputed.items self.old.disputed_spans.items }
+        requires above { (n : NoteParts) → In n (union_of self.old.undisputed.items self.old.disputed.items)
             → end_of n ≤ note.offset }
-        requires room { vec_len self.old.clear < vec_capacity self.old.clear }
-        ensures kept { IsKept self.new.clear.items self.new.disputed.items self.new.disputed_spans.items }
-        ensures content { union_of self.new.clear.items self.new.disputed.items
-            ≡ reduced_with note (union_of self.old.clear.items self.old.disputed.items) }
-        ensures clear_len { vec_len self.new.clear ≤ vec_len self.old.clear + 1 }
+        requires room { vec_len self.old.undisputed < vec_capacity self.old.undisputed }
+        ensures kept { IsKept self.new.undisputed.items self.new.disputed.items self.new.disputed_spans.items }
+        ensures content { union_of self.new.undisputed.items self.new.disputed.items
+            ≡ reduced_with note (union_of self.old.undisputed.items self.old.disputed.items) }
+        ensures undisputed_len { vec_len self.new.undisputed ≤ vec_len self.old.undisputed + 1 }
         ensures disputed { self.new.disputed ≡ self.old.disputed }
         ensures disputed_spans { self.new.disputed_spans ≡ self.old.disputed_spans }
-        ensures capacity { vec_capacity self.new.clear ≡ vec_capacity self.old.clear }
+        ensures capacity { vec_capacity self.new.undisputed ≡ vec_capacity self.old.undisputed }
     {
         // What is held is a note.
         prove!(note.offset() <= MAX);
-        self.clear.push_reserved(note);
+        self.undisputed.push_reserved(note);
     }
 
     /// Puts a new note into the parts, which have room for it and for what it moves.
     pub fn put(&mut self, note: Note)
-        requires kept { IsKept self.old.clear.items self.old.disputed.items self.old.disputed_spans.items }
-        requires new { has_note (union_of self.old.clear.items self.old.disputed.items) note → ⊥ }
+        requires kept { IsKept self.old.undisputed.items self.old.disputed.items self.old.disputed_spans.items }
+        requires new { has_note (union_of self.old.undisputed.items self.old.disputed.items) note → ⊥ }
         requires room { HaveRoomFor note self.old }
-        ensures kept { IsKept self.new.clear.items self.new.disputed.items self.new.disputed_spans.items }
-        ensures content { union_of self.new.clear.items self.new.disputed.items
-            ≡ reduced_with note (union_of self.old.clear.items self.old.disputed.items) }
+        ensures kept { IsKept self.new.undisputed.items self.new.disputed.items self.new.disputed_spans.items }
+        ensures content { union_of self.new.undisputed.items self.new.disputed.items
+            ≡ reduced_with note (union_of self.old.undisputed.items self.old.disputed.items) }
         ensures room { TakeRoomOfOne self.old self.new }
     {
         // What is held is a note, which ends where a packet may.
@@ -153,29 +153,29 @@ impl Parts {
             return;
         }
         if self.are_apart_from(&note) {
-            put(&mut self.clear, note);
+            put(&mut self.undisputed, note);
             return;
         }
-        let hull = hull(&note, touched(&self.clear, &note));
+        let hull = hull(&note, touched(&self.undisputed, &note));
         put_run(&mut self.disputed_spans, hull);
-        move_touched(&note, &mut self.clear, &mut self.disputed);
+        move_touched(&note, &mut self.undisputed, &mut self.disputed);
         put(&mut self.disputed, note);
     }
 
     /// Puts a new note in the place of its head. The spans of both are one, so nothing else changes.
     fn put_in_place(&mut self, note: Note)
-        requires kept { IsKept self.old.clear.items self.old.disputed.items self.old.disputed_spans.items }
-        requires new { has_note (union_of self.old.clear.items self.old.disputed.items) note → ⊥ }
-        requires head { In (head_note note) (union_of self.old.clear.items self.old.disputed.items) }
-        ensures kept { IsKept self.new.clear.items self.new.disputed.items self.new.disputed_spans.items }
-        ensures content { union_of self.new.clear.items self.new.disputed.items
-            ≡ reduced_with note (union_of self.old.clear.items self.old.disputed.items) }
+        requires kept { IsKept self.old.undisputed.items self.old.disputed.items self.old.disputed_spans.items }
+        requires new { has_note (union_of self.old.undisputed.items self.old.disputed.items) note → ⊥ }
+        requires head { In (head_note note) (union_of self.old.undisputed.items self.old.disputed.items) }
+        ensures kept { IsKept self.new.undisputed.items self.new.disputed.items self.new.disputed_spans.items }
+        ensures content { union_of self.new.undisputed.items self.new.disputed.items
+            ≡ reduced_with note (union_of self.old.undisputed.items self.old.disputed.items) }
         ensures room { TakeRoomOfOne self.old self.new }
     {
         // What is held is a note.
         prove!(note.offset() <= MAX);
-        if is_in(&self.clear, &note.to_head()) {
-            put_over_head(&mut self.clear, note);
+        if is_in(&self.undisputed, &note.to_head()) {
+            put_over_head(&mut self.undisputed, note);
         } else {
             put_over_head(&mut self.disputed, note);
         }
@@ -186,7 +186,7 @@ impl Parts {
         ensures { IfOk result (λ p. AreRoomFor count p) }
     {
         Ok(Parts {
-            clear: Vec::with_capacity(alloc, count)?,
+            undisputed: Vec::with_capacity(alloc, count)?,
             disputed: Vec::with_capacity(alloc, count)?,
             disputed_spans: Vec::with_capacity(alloc, count)?,
         })
@@ -197,24 +197,24 @@ impl Parts {
         ensures same { HoldSame self.old self.new }
         ensures room { OnOk result (HaveRoom count self.new) }
     {
-        self.clear.reserve(count)?;
-        self.disputed.reserve(self.clear.len() + count)?;
+        self.undisputed.reserve(count)?;
+        self.disputed.reserve(self.undisputed.len() + count)?;
         self.disputed_spans.reserve(count)
     }
 
     /// Puts notes into the parts, and their spans among the runs, all of which have room. Where the notes stand above
     /// all that is there, each takes a few binary searches.
     pub fn put_all(&mut self, runs: &mut Vec<Run>, notes: MergedNotes)
-        requires whole { IsWhole self.old.clear.items self.old.disputed.items self.old.disputed_spans.items
+        requires whole { IsWhole self.old.undisputed.items self.old.disputed.items self.old.disputed_spans.items
             runs.old.items }
         requires cover { IsCover runs.old.items }
         requires room { HaveRoom (length notes) self.old }
         requires runs_room { vec_len runs.old + length notes ≤ vec_capacity runs.old }
-        ensures whole { IsWhole self.new.clear.items self.new.disputed.items self.new.disputed_spans.items
+        ensures whole { IsWhole self.new.undisputed.items self.new.disputed.items self.new.disputed_spans.items
             runs.new.items }
         ensures cover { IsCover runs.new.items }
-        ensures content { union_of self.new.clear.items self.new.disputed.items
-            ≡ reduced_union (union_of self.old.clear.items self.old.disputed.items) notes }
+        ensures content { union_of self.new.undisputed.items self.new.disputed.items
+            ≡ reduced_union (union_of self.old.undisputed.items self.old.disputed.items) notes }
     {
         for note in notes {
             self.put_any(runs, note);
@@ -223,16 +223,16 @@ impl Parts {
 
     /// Puts a note, held or new, into the parts, and its span among the runs.
     fn put_any(&mut self, runs: &mut Vec<Run>, note: Note)
-        requires whole { IsWhole self.old.clear.items self.old.disputed.items self.old.disputed_spans.items
+        requires whole { IsWhole self.old.undisputed.items self.old.disputed.items self.old.disputed_spans.items
             runs.old.items }
         requires cover { IsCover runs.old.items }
         requires room { HaveRoom 1 self.old }
         requires runs_room { vec_len runs.old < vec_capacity runs.old }
-        ensures whole { IsWhole self.new.clear.items self.new.disputed.items self.new.disputed_spans.items
+        ensures whole { IsWhole self.new.undisputed.items self.new.disputed.items self.new.disputed_spans.items
             runs.new.items }
         ensures cover { IsCover runs.new.items }
-        ensures content { union_of self.new.clear.items self.new.disputed.items
-            ≡ reduced_with note (union_of self.old.clear.items self.old.disputed.items) }
+        ensures content { union_of self.new.undisputed.items self.new.disputed.items
+            ≡ reduced_with note (union_of self.old.undisputed.items self.old.disputed.items) }
         ensures room { TakeRoomOfOne self.old self.new }
         ensures runs_len { vec_len runs.new ≤ vec_len runs.old + 1 }
         ensures runs_capacity { vec_capacity runs.new ≡ vec_capacity runs.old }
@@ -257,18 +257,18 @@ impl Parts {
 
     /// The number of notes in both parts.
     pub fn len(&self) -> usize
-        requires { AreParts self.now.clear.items self.now.disputed.items }
-        ensures { result ≡ length (union_of self.now.clear.items self.now.disputed.items) }
+        requires { AreParts self.now.undisputed.items self.now.disputed.items }
+        ensures { result ≡ length (union_of self.now.undisputed.items self.now.disputed.items) }
     {
-        self.clear.len() + self.disputed.len()
+        self.undisputed.len() + self.disputed.len()
     }
 
     /// An empty list with the room that [`into_notes`](Parts::into_notes) asks for: none where nothing is disputed.
     pub fn list_room(&self, alloc: Global) -> Result<Vec<Note>, AllocError>
-        requires { AreParts self.now.clear.items self.now.disputed.items }
+        requires { AreParts self.now.undisputed.items self.now.disputed.items }
         ensures empty { IfOk result (λ room. room.items ≡ []) }
         ensures room { IfOk result (λ room. self.now.disputed.items ≢ []
-            → length (union_of self.now.clear.items self.now.disputed.items) ≤ vec_capacity room) }
+            → length (union_of self.now.undisputed.items self.now.disputed.items) ≤ vec_capacity room) }
     {
         if self.disputed.is_empty() {
             return Ok(Vec::new(alloc));
@@ -279,17 +279,17 @@ impl Parts {
     /// The notes of both parts, in their order. They are moved into an empty list that has room for them, but where
     /// nothing is disputed.
     pub fn into_notes(self, room: Vec<Note>) -> Vec<Note>
-        requires parts { AreParts self.clear.items self.disputed.items }
+        requires parts { AreParts self.undisputed.items self.disputed.items }
         requires empty { room.items ≡ [] }
         requires room { self.disputed.items ≢ []
-            → length (union_of self.clear.items self.disputed.items) ≤ vec_capacity room }
-        ensures notes { result.items ≡ union_of self.clear.items self.disputed.items }
+            → length (union_of self.undisputed.items self.disputed.items) ≤ vec_capacity room }
+        ensures notes { result.items ≡ union_of self.undisputed.items self.disputed.items }
         ensures content { IsContent result.items }
     {
         if self.disputed.is_empty() {
-            return self.clear;
+            return self.undisputed;
         }
-        merged(room, self.clear, self.disputed)
+        merged(room, self.undisputed, self.disputed)
     }
 
     /// Whether all notes of other parts stand above those of these.
@@ -297,14 +297,14 @@ impl Parts {
         let Some(first) = others.first() else {
             return true;
         };
-        is_below(self.clear.last(), first) && is_below(self.disputed.last(), first)
+        is_below(self.undisputed.last(), first) && is_below(self.disputed.last(), first)
     }
 
     /// The first note of both parts.
     fn first(&self) -> Option<&Note> {
-        match (self.clear.first(), self.disputed.first()) {
-            (Some(clear), Some(disputed)) => Some(clear.min(disputed)),
-            (clear, disputed) => clear.or(disputed),
+        match (self.undisputed.first(), self.disputed.first()) {
+            (Some(undisputed), Some(disputed)) => Some(undisputed.min(disputed)),
+            (undisputed, disputed) => undisputed.or(disputed),
         }
     }
 }

@@ -43,7 +43,7 @@ returns-then-end_by-clause-moved c =
     let n = c.args.note in
     let parts = c.self.inside.parts in
     let o = c.offset.ensures.offset in
-    let none = above_moves_none n parts.clear.items parts.disputed.items c.self.invariant.kept.parts
+    let none = above_moves_none n parts.undisputed.items parts.disputed.items c.self.invariant.kept.parts
     c.self.invariant.kept.reduced (λ m h.
     let l : end_of m ≤ c.offset.result = c.end_by.ensures.0 c.if-end_by.true m h in omega (arith, l, o))
     ∙ ap (moved_by n) c.self.view_is in
@@ -54,7 +54,7 @@ pub returns-then-tell-clause-added : goal.returns-then-tell-clause-added
 returns-then-tell-clause-added c =
     let parts = c.self.inside.parts in
     let all = subst IsCatalogue c.self.view_is
-    (union_is parts.clear.items parts.disputed.items c.self.invariant.kept.parts) in
+    (union_is parts.undisputed.items parts.disputed.items c.self.invariant.kept.parts) in
     let held = subst (λ (l : List NoteParts). has_note l c.args.note) c.self.view_is (c.tell.ensures.0 c.if-tell.true) in
     let red = subst AreReduced c.self.view_is c.self.invariant.kept.reduced in
     sym (reduced_with-present c.args.note c.args.self.now all.content red held)
@@ -66,11 +66,11 @@ pub invariant_of-self-2 : goal.invariant_of-self-2
 invariant_of-self-2 c =
     let parts = c.self.inside.parts in
     let old = c.self.inside.spans in
-    let cs = parts.clear.items in
+    let cs = parts.undisputed.items in
     let ds = parts.disputed.items in
-    let new = union_of c.put.new.self.clear.items c.put.new.self.disputed.items in
-    let items : union_of c.make_room.new.self.clear.items c.make_room.new.self.disputed.items ≡ union_of cs ds =
-    λ i. union_of (c.in-Ok.ensures.same.clear i) (c.in-Ok.ensures.same.disputed i) in
+    let new = union_of c.put.new.self.undisputed.items c.put.new.self.disputed.items in
+    let items : union_of c.make_room.new.self.undisputed.items c.make_room.new.self.disputed.items ≡ union_of cs ds =
+    λ i. union_of (c.in-Ok.ensures.same.undisputed i) (c.in-Ok.ensures.same.disputed i) in
     let all = c.put.ensures.content ∙ ap (reduced_with c.args.note) items in
     let fresh : has_note (union_of cs ds) c.args.note → ⊥ = λ h.
     let t = c.tell.ensures.1 h in let f = c.if-tell.false in cc (t, f) in
@@ -85,7 +85,7 @@ invariant_of-self-2 c =
 pub returns-clause-moved : goal.returns-clause-moved
 returns-clause-moved c =
     let n = c.args.note in
-    let cs = c.self.inside.parts.clear.items in
+    let cs = c.self.inside.parts.undisputed.items in
     let ds = c.self.inside.parts.disputed.items in
     let fresh : has_note (union_of cs ds) n → ⊥ = λ h.
     let t = c.tell.ensures.1 h in

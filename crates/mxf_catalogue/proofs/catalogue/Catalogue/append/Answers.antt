@@ -16,10 +16,10 @@ append-requires-clause-above c n h =
 pub invariant_of-self-2 : goal.invariant_of-self-2
 invariant_of-self-2 c =
     let n = c.args.note in
-    let cs = c.self.inside.parts.clear.items in
+    let cs = c.self.inside.parts.undisputed.items in
     let ds = c.self.inside.parts.disputed.items in
     let old = c.self.inside.spans in
-    let new = union_of c.append.new.self.clear.items c.append.new.self.disputed.items in
+    let new = union_of c.append.new.self.undisputed.items c.append.new.self.disputed.items in
     let all = c.append.ensures.content ∙ ap (λ l. reduced_with n (union_of l ds)) c.in-Ok.ensures.items in
     let runs = c.in-Ok-add.ensures.added
     ∙ (λ i. with_run (run (c.offset.ensures.offset i) (c.covered_end-end.ensures.covered i)) old) in

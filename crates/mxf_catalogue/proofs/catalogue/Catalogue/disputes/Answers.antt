@@ -9,7 +9,7 @@ pub returns : goal.returns
 returns c =
     let n = c.args.note.now in
     let parts = c.self.inside.parts in
-    let here = In-disputed_part parts.clear.items parts.disputed.items c.self.invariant.kept.parts n in
+    let here = In-disputed_part parts.undisputed.items parts.disputed.items c.self.invariant.kept.parts n in
     let told = c.is_in.ensures in
     let there = λ (l : List NoteParts). In n l × IsDisputed n l in (
       λ h. subst there c.self.view_is (here.0 (subst (In n) c.deref.ensures.value (told.0 h))),

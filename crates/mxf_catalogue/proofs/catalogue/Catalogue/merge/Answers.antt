@@ -9,7 +9,7 @@ returns-then-is_empty-clause-merged c =
     let none = c.is_empty.ensures.0 c.if-is_empty.true in
     let parts = c.other.inside.parts in
     let all = subst IsCatalogue c.other.view_is
-    (union_is parts.clear.items parts.disputed.items c.other.invariant.kept.parts) in
+    (union_is parts.undisputed.items parts.disputed.items c.other.invariant.kept.parts) in
     let red = subst AreReduced c.other.view_is c.other.invariant.kept.reduced in
     c.other.view_is ∙ sym (reduced_union-none c.args.other all.content red)
     ∙ ap (λ l. reduced_union l c.args.other) (sym none)

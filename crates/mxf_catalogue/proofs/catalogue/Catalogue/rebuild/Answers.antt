@@ -7,22 +7,22 @@ use Rattle.mxf_catalogue.proofs.catalogue.Catalogue.rebuild.Goals as goal
 
 pub into_notes-own-requires-clause-room : goal.into_notes-own-requires-clause-room
 into_notes-own-requires-clause-room c =
-    subst (λ (p : Parts). p.disputed.items ≢ [] → length (union_of p.clear.items p.disputed.items) ≤ vec_capacity c.in-Ok.room.own)
+    subst (λ (p : Parts). p.disputed.items ≢ [] → length (union_of p.undisputed.items p.disputed.items) ≤ vec_capacity c.in-Ok.room.own)
     (sym c.replace.ensures.value) c.in-Ok.ensures.own
 
 pub returns-clause-merged : goal.returns-clause-merged
 returns-clause-merged c =
     let parts = c.self.inside.parts in
     let all = subst IsCatalogue c.self.view_is
-    (union_is parts.clear.items parts.disputed.items c.self.invariant.kept.parts) in
+    (union_is parts.undisputed.items parts.disputed.items c.self.invariant.kept.parts) in
     let none = c.in-Ok.ensures.parts in
     let own = c.into_notes-own.ensures.notes
-    ∙ ap (λ (p : Parts). union_of p.clear.items p.disputed.items) c.replace.ensures.value ∙ c.self.view_is in
+    ∙ ap (λ (p : Parts). union_of p.undisputed.items p.disputed.items) c.replace.ensures.value ∙ c.self.view_is in
     let others = c.into_notes-others.ensures.notes ∙ c.other.view_is in
     let both = c.of-2.ensures.notes ∙ (λ i. union_of (own i) (others i)) in
     let red = subst AreReduced c.self.view_is c.self.invariant.kept.reduced in
     let parts-2 = c.other.inside.parts in
     let more = subst IsCatalogue c.other.view_is
-    (union_is parts-2.clear.items parts-2.disputed.items c.other.invariant.kept.parts) in
-    c.put_all.ensures.content ∙ (λ i. reduced_union (union_of (none.clear.0 i) (none.disputed.0 i)) (both i))
+    (union_is parts-2.undisputed.items parts-2.disputed.items c.other.invariant.kept.parts) in
+    c.put_all.ensures.content ∙ (λ i. reduced_union (union_of (none.undisputed.0 i) (none.disputed.0 i)) (both i))
     ∙ reduced_union-all c.args.self.now c.args.other all.content red more.content

@@ -10,4 +10,4 @@ returns-clause-spans c = subst (Covers c.self.inside.spans) c.self.view_is c.sel
 pub returns-clause-catalogue : goal.returns-clause-catalogue
 returns-clause-catalogue c =
     let parts = c.self.inside.parts in
-    subst IsCatalogue c.self.view_is (union_is parts.clear.items parts.disputed.items c.self.invariant.kept.parts)
+    subst IsCatalogue c.self.view_is (union_is parts.undisputed.items parts.disputed.items c.self.invariant.kept.parts)

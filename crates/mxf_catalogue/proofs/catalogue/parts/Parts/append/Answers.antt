@@ -10,7 +10,7 @@ use Rattle.mxf_catalogue.proofs.catalogue.parts.Parts.append.Goals as goal
 pub returns-clause-kept : goal.returns-clause-kept
 returns-clause-kept c =
     let n = c.args.note in
-    let cs = c.args.self.now.clear.items in
+    let cs = c.args.self.now.undisputed.items in
     let ds = c.args.self.now.disputed.items in
     let few = c.args.self.now.disputed_spans.items in
     let above = c.requires.above in
@@ -22,11 +22,11 @@ returns-clause-kept c =
 pub returns-clause-content : goal.returns-clause-content
 returns-clause-content c =
     let n = c.args.note in
-    let cs = c.args.self.now.clear.items in
+    let cs = c.args.self.now.undisputed.items in
     let ds = c.args.self.now.disputed.items in
     let above = c.requires.above in
     let items = c.push_reserved.ensures.items ∙ above_last n cs (λ m h. above m ((In-union_of m cs ds).1 (inl h))) in
     ap (λ l. union_of l ds) items ∙ view_with_clear n cs ds c.requires.kept.parts
     ∙ sym (reduced_with-new n (union_of cs ds)
-    (IsContent-union_of cs ds c.requires.kept.parts.clear_is.content) c.requires.kept.reduced
+    (IsContent-union_of cs ds c.requires.kept.parts.undisputed_is.content) c.requires.kept.reduced
     (above_new n (union_of cs ds) above) (above_alone n (union_of cs ds) above))

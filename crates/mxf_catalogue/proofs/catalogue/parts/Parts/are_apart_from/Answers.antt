@@ -19,7 +19,7 @@ touched-requires-clause-apart c =
 pub returns-then-is_empty-clause-far : goal.returns-then-is_empty-clause-far
 returns-then-is_empty-clause-far c t =
     let n = c.args.note.now in
-    let cs = c.args.self.now.clear.items in
+    let cs = c.args.self.now.undisputed.items in
     let ds = c.args.self.now.disputed.items in
     let few = c.args.self.now.disputed_spans.items in
     let touched = c.touched.ensures ∙ ap (touching n) c.deref.ensures.value in
@@ -42,12 +42,12 @@ returns-then-is_empty-clause-near c t =
     let a : c.offset.result ≤ h.0 = h.2 in
     let b : h.0 ≤ c.end.result - 1 = h.3 in
     let lies = subst (λ l. LiesIn l h.0) c.deref-then-is_empty.ensures.value h.1 in
-    near_disputed n c.args.self.now.clear.items c.args.self.now.disputed.items c.args.self.now.disputed_spans.items
+    near_disputed n c.args.self.now.undisputed.items c.args.self.now.disputed.items c.args.self.now.disputed_spans.items
     c.requires.covers (h.0, lies, omega arith, omega arith)
 
 pub returns-else-is_empty-clause-near : goal.returns-else-is_empty-clause-near
 returns-else-is_empty-clause-near c t =
     let n = c.args.note.now in
     let touched = c.touched.ensures ∙ ap (touching n) c.deref.ensures.value in
-    near_clear n c.args.self.now.clear.items c.args.self.now.disputed.items
+    near_clear n c.args.self.now.undisputed.items c.args.self.now.disputed.items
     (is_not_nil _ (subst (λ l. (length l == 0) ≡ false) touched (sym c.is_empty.ensures ∙ c.if-is_empty.false)))

@@ -21,6 +21,6 @@ returns c = λ bound.
     let one = subst (ends c.last_end.result) c.deref-2.ensures.value (c.last_end.ensures bound) in
     let two = subst (λ (runs : List Run). c.last_end-disputed.result ≤ bound
     ↔ ((offset : ℕ) → LiesIn runs offset → offset < bound)) c.deref.ensures.value (c.last_end-disputed.ensures bound) in
-    subst (λ (e : ℕ). ends e (union_of parts.clear.items parts.disputed.items)) (sym c.max.ensures)
-    (end_of_parts parts.clear.items parts.disputed.items parts.disputed_spans.items
+    subst (λ (e : ℕ). ends e (union_of parts.undisputed.items parts.disputed.items)) (sym c.max.ensures)
+    (end_of_parts parts.undisputed.items parts.disputed.items parts.disputed_spans.items
     c.requires c.last_end.result c.last_end-disputed.result bound one two)

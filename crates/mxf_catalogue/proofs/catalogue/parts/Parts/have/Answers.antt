@@ -6,7 +6,7 @@ use Rattle.mxf_catalogue.proofs.catalogue.parts.Parts.have.Goals as goal
 pub returns-then-is_in : goal.returns-then-is_in
 returns-then-is_in c =
     let n = c.args.note.now in
-    let cs = c.args.self.now.clear.items in
+    let cs = c.args.self.now.undisputed.items in
     let ds = c.args.self.now.disputed.items in (
       λ h. (In-union_of n cs ds).1 (inl (subst (In n) c.deref.ensures.value (c.is_in.ensures.0 h))),
       λ _. c.if-is_in.true,
@@ -15,7 +15,7 @@ returns-then-is_in c =
 pub returns-else-is_in : goal.returns-else-is_in
 returns-else-is_in c =
     let n = c.args.note.now in
-    let cs = c.args.self.now.clear.items in
+    let cs = c.args.self.now.undisputed.items in
     let ds = c.args.self.now.disputed.items in
     let u = In-union_of n cs ds in
     let other = c.deref-else-is_in.ensures.value in (

@@ -5,5 +5,5 @@ use Rattle.mxf_catalogue.proofs.catalogue.parts.Parts.len.Goals as goal
 pub returns : goal.returns
 returns c =
     let parts = c.args.self.now in
-    let both = length-parts parts.clear.items parts.disputed.items c.requires in
-    omega (arith, both, c.len.ensures, c.len-2.ensures, parts.clear.ok.0, parts.disputed.ok.0)
+    let both = length-parts parts.undisputed.items parts.disputed.items c.requires in
+    omega (arith, both, c.len.ensures, c.len-2.ensures, parts.undisputed.ok.0, parts.disputed.ok.0)

@@ -19,7 +19,7 @@ move_touched-requires-clause-apart c = apart_of _ c.args.self.now.disputed.items
 pub put_run-requires-clause-run : goal.put_run-requires-clause-run
 put_run-requires-clause-run c =
     let n = c.args.note in
-    let cs = c.args.self.now.clear.items in
+    let cs = c.args.self.now.undisputed.items in
     let touched = c.touched.ensures ∙ ap (touching n) c.deref.ensures.value in
     let hull = c.hull-hull.ensures ∙ ap (λ l. spanned (run_of n) (map run_of l)) touched in
     subst IsRun (sym hull) (hull-IsRun n cs c.args.self.now.disputed.items c.offset.ensures.note c.requires.kept.parts)
@@ -27,7 +27,7 @@ put_run-requires-clause-run c =
 pub returns-then-are_apart_from-clause-kept : goal.returns-then-are_apart_from-clause-kept
 returns-then-are_apart_from-clause-kept c =
     let n = c.args.note in
-    let cs = c.args.self.now.clear.items in
+    let cs = c.args.self.now.undisputed.items in
     let ds = c.args.self.now.disputed.items in
     let few = c.args.self.now.disputed_spans.items in
     subst (λ l. IsKept l ds few) (sym c.put.ensures.items)
@@ -38,18 +38,18 @@ returns-then-are_apart_from-clause-kept c =
 
 pub returns-then-are_apart_from-clause-content : goal.returns-then-are_apart_from-clause-content
 returns-then-are_apart_from-clause-content c =
-    let cs = c.args.self.now.clear.items in
+    let cs = c.args.self.now.undisputed.items in
     let ds = c.args.self.now.disputed.items in
     ap (λ l. union_of l ds) c.put.ensures.items ∙ view_with_clear c.args.note cs ds c.requires.kept.parts
     ∙ sym (reduced_with-new c.args.note (union_of cs ds)
-    (IsContent-union_of cs ds c.requires.kept.parts.clear_is.content) c.requires.kept.reduced c.requires.new (λ h.
+    (IsContent-union_of cs ds c.requires.kept.parts.undisputed_is.content) c.requires.kept.reduced c.requires.new (λ h.
     let t = c.have-2.ensures.1 (subst (λ m. In m (union_of cs ds)) (sym c.to_head.ensures) h) in
     let f = c.if-have.false in cc (t, f)))
 
 pub returns-clause-kept : goal.returns-clause-kept
 returns-clause-kept c =
     let n = c.args.note in
-    let cs = c.args.self.now.clear.items in
+    let cs = c.args.self.now.undisputed.items in
     let ds = c.args.self.now.disputed.items in
     let few = c.args.self.now.disputed_spans.items in
     let disputed = c.put-2.ensures.items ∙ ap (with_note n) c.move_touched.ensures.moved in
@@ -67,16 +67,16 @@ returns-clause-kept c =
 pub returns-clause-content : goal.returns-clause-content
 returns-clause-content c =
     let n = c.args.note in
-    let cs = c.args.self.now.clear.items in
+    let cs = c.args.self.now.undisputed.items in
     let ds = c.args.self.now.disputed.items in
     let disputed = c.put-2.ensures.items ∙ ap (with_note n) c.move_touched.ensures.moved in
     (λ i. union_of (c.move_touched.ensures.left i) (disputed i)) ∙ view_with_disputed n cs ds c.requires.kept.parts
     ∙ sym (reduced_with-new c.args.note (union_of cs ds)
-    (IsContent-union_of cs ds c.requires.kept.parts.clear_is.content) c.requires.kept.reduced c.requires.new (λ h.
+    (IsContent-union_of cs ds c.requires.kept.parts.undisputed_is.content) c.requires.kept.reduced c.requires.new (λ h.
     let t = c.have-2.ensures.1 (subst (λ m. In m (union_of cs ds)) (sym c.to_head.ensures) h) in
     let f = c.if-have.false in cc (t, f)))
 
 pub put_in_place-requires-clause-head : goal.put_in_place-requires-clause-head
 put_in_place-requires-clause-head c =
-    let all = union_of c.args.self.now.clear.items c.args.self.now.disputed.items in
+    let all = union_of c.args.self.now.undisputed.items c.args.self.now.disputed.items in
     subst (λ m. In m all) c.to_head.ensures (c.have-2.ensures.0 c.if-have.true)

@@ -8,10 +8,10 @@ use Rattle.mxf_catalogue.proofs.catalogue.parts.Parts.put_all.Given as goal
 
 abbrev pub invariant-loop-note : goal.invariant-loop-note
 invariant-loop-note l = record {
-  whole : IsWhole l.self.clear.items l.self.disputed.items l.self.disputed_spans.items l.runs.items;
+  whole : IsWhole l.self.undisputed.items l.self.disputed.items l.self.disputed_spans.items l.runs.items;
   cover : IsCover l.runs.items;
-  content : reduced_union (union_of l.self.clear.items l.self.disputed.items) l.note-iterator
-      ≡ reduced_union (union_of l.fn.self.clear.items l.fn.self.disputed.items) l.fn.notes;
+  content : reduced_union (union_of l.self.undisputed.items l.self.disputed.items) l.note-iterator
+      ≡ reduced_union (union_of l.fn.self.undisputed.items l.fn.self.disputed.items) l.fn.notes;
   room : HaveRoom (length l.note-iterator) l.self;
   runs_room : vec_len l.runs + length l.note-iterator ≤ vec_capacity l.runs;
 }

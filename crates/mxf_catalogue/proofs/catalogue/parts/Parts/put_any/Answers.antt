@@ -13,9 +13,9 @@ use Rattle.mxf_catalogue.proofs.catalogue.parts.Parts.put_any.Goals as goal
 
 pub returns-then-tell-clause-content : goal.returns-then-tell-clause-content
 returns-then-tell-clause-content c =
-    let cs = c.args.self.now.clear.items in
+    let cs = c.args.self.now.undisputed.items in
     let ds = c.args.self.now.disputed.items in
-    let rises = IsContent-union_of cs ds c.requires.whole.kept.parts.clear_is.content in
+    let rises = IsContent-union_of cs ds c.requires.whole.kept.parts.undisputed_is.content in
     sym (reduced_with-present c.args.note (union_of cs ds) rises c.requires.whole.kept.reduced
     (c.tell.ensures.0 c.if-tell.true))
 
@@ -27,10 +27,10 @@ append-requires-clause-above c n h =
 pub returns-then-end_by-clause-whole : goal.returns-then-end_by-clause-whole
 returns-then-end_by-clause-whole c =
     let n = c.args.note in
-    let cs = c.args.self.now.clear.items in
+    let cs = c.args.self.now.undisputed.items in
     let ds = c.args.self.now.disputed.items in
     let old = c.args.runs.now.items in
-    let new = union_of c.append.new.self.clear.items c.append.new.self.disputed.items in
+    let new = union_of c.append.new.self.undisputed.items c.append.new.self.disputed.items in
     let runs = c.put_run.ensures.items ∙ (λ i. with_run (run (c.offset-2.ensures.offset i) (c.covered_end.ensures.covered i)) old) in
     let o = c.offset-3.ensures.offset in
     let fresh = above_new n (union_of cs ds) (λ m h.
@@ -46,21 +46,21 @@ put-requires-clause-new c h = let t = c.tell.ensures.1 h in let f = c.if-tell.fa
 
 pub put-requires-clause-room : goal.put-requires-clause-room
 put-requires-clause-room c =
-    let l = length-filter_le (λ n. is_byte_shared c.args.note n) c.args.self.now.clear.items in
-    let k = c.args.self.now.clear.ok.0 in
+    let l = length-filter_le (λ n. is_byte_shared c.args.note n) c.args.self.now.undisputed.items in
+    let k = c.args.self.now.undisputed.ok.0 in
     let room = c.requires.room in
     record {
-      clear = let r = room.clear in omega (arith, r);
+      undisputed = let r = room.undisputed in omega (arith, r);
       disputed = let r = room.disputed in omega (arith, l, k, r);
       disputed_spans = let r = room.disputed_spans in omega (arith, r);
     }
 
 pub returns-clause-whole : goal.returns-clause-whole
 returns-clause-whole c =
-    let cs = c.args.self.now.clear.items in
+    let cs = c.args.self.now.undisputed.items in
     let ds = c.args.self.now.disputed.items in
     let old = c.args.runs.now.items in
-    let new = union_of c.put.new.self.clear.items c.put.new.self.disputed.items in
+    let new = union_of c.put.new.self.undisputed.items c.put.new.self.disputed.items in
     let runs = c.put_run-2.ensures.items ∙ (λ i. with_run (run (c.offset-2.ensures.offset i) (c.covered_end.ensures.covered i)) old) in
     record {
       kept = c.put.ensures.kept;

@@ -6,7 +6,7 @@ use Rattle.mxf_catalogue.proofs.catalogue.parts.Parts.tell.Goals as goal
 pub returns-then-tell : goal.returns-then-tell
 returns-then-tell c =
     let n = c.args.note.now in
-    let cs = c.args.self.now.clear.items in
+    let cs = c.args.self.now.undisputed.items in
     let ds = c.args.self.now.disputed.items in (
       λ h. (has-union_of n cs ds).1 (inl (subst (λ l. has_note l n) c.deref.ensures.value (c.tell.ensures.0 h))),
       λ _. c.if-tell.true,
@@ -15,7 +15,7 @@ returns-then-tell c =
 pub returns-else-tell : goal.returns-else-tell
 returns-else-tell c =
     let n = c.args.note.now in
-    let cs = c.args.self.now.clear.items in
+    let cs = c.args.self.now.undisputed.items in
     let ds = c.args.self.now.disputed.items in
     let u = has-union_of n cs ds in
     let other = c.deref-else-tell.ensures.value in (
