@@ -7,10 +7,10 @@ use Rattle.sha2.specs.Hashers.{Holds256}
 use Rattle.mxf_klv.specs.Parts.{CanSpell, note_parts, packet_parts}
 use Rattle.mxf_klv.specs.Note.{CanNote, greatest_end, keeps, note_of}
 use Rattle.mxf_read.specs.Coming.{HasTaken}
-use Rattle.mxf_read.specs.Held.{Has, came_of, is_whole}
+use Rattle.mxf_read.specs.ValueSoFar.{Has, came_of, is_gathered}
 use Rattle.mxf_read.specs.declared.coming.ComingValue.{ComingValue}
-use Rattle.mxf_read.specs.declared.coming.Held.{Held}
-use Rattle.mxf_read.specs.declared.coming.Held.TheVariants.{Whole, Digest}
+use Rattle.mxf_read.specs.declared.coming.ValueSoFar.{ValueSoFar}
+use Rattle.mxf_read.specs.declared.coming.ValueSoFar.TheVariants.{Gathered, Digested}
 
 -- there is a value where it is wanted
 pub some_where : {T : Type 0} (r : Option T) (P : Type 0) (v : T) → SomeIff r P v → P → IsSome r
@@ -23,7 +23,7 @@ all_came v m none taken = omega (arith, none, taken.counted)
 
 -- a note can be made of it, where what is held is as the key and the length ask for
 pub can_note : (v : ComingValue) (width len : ℕ) (held : List ℕ) (whole : Bool) → width ≡ v.ber.width → len ≡ v.ber.value
-    → CanSpell v.ber.width v.ber.value → is_whole v.held ≡ whole → CanNote (note_parts v.offset v.key width len held) whole
+    → CanSpell v.ber.width v.ber.value → is_gathered v.so_far ≡ whole → CanNote (note_parts v.offset v.key width len held) whole
 can_note v width len held whole same_width same_len spelled is =
     let within : v.offset + 16 + width + len ≤ greatest_end = omega (arith, same_width, same_len, v.within) in (
       subst (λ (w : ℕ). CanSpell w len) (sym same_width) (subst (CanSpell v.ber.width) (sym same_len) spelled),
@@ -33,7 +33,7 @@ can_note v width len held whole same_width same_len spelled is =
 
 -- it is the packet's
 pub same_note : (v : ComingValue) (m : List ℕ) (width len : ℕ) (held : List ℕ) (whole : Bool) → v.left ≡ 0 → HasTaken v m
-    → width ≡ v.ber.width → len ≡ v.ber.value → is_whole v.held ≡ whole → held ≡ (if whole then m else sha256 m)
+    → width ≡ v.ber.width → len ≡ v.ber.value → is_gathered v.so_far ≡ whole → held ≡ (if whole then m else sha256 m)
     → note_parts v.offset v.key width len held ≡ note_of v.offset (packet_parts v.key v.ber.width m)
 same_note v m width len held whole none taken same_width same_len is held_is =
     let all = all_came v m none taken in
@@ -44,18 +44,18 @@ same_note v m width len held whole none taken same_width same_len is held_is =
     (held_is ∙ ap (λ (t : Bool). if t then m else sha256 m) (sym kept))
 
 -- a value that is gathered has its length
-pub gathered : (v : ComingValue) (value : Vec ℕ Global) → v.held ≡ Whole value → v.left ≡ 0 → vec_len value ≡ v.ber.value
+pub gathered : (v : ComingValue) (value : Vec ℕ Global) → v.so_far ≡ Gathered value → v.left ≡ 0 → vec_len value ≡ v.ber.value
 gathered v value is none =
     let came : length value.items + v.left ≡ v.ber.value =
-    subst (λ (h : Held). came_of h v.ber.value v.left + v.left ≡ v.ber.value) is v.counted in
+    subst (λ (h : ValueSoFar). came_of h v.ber.value v.left + v.left ≡ v.ber.value) is v.counted in
     omega (arith, value.ok.0, none, came)
 
 -- and its bytes
-pub gathered_bytes : (v : ComingValue) (value : Vec ℕ Global) (m : List ℕ) → v.held ≡ Whole value → HasTaken v m
+pub gathered_bytes : (v : ComingValue) (value : Vec ℕ Global) (m : List ℕ) → v.so_far ≡ Gathered value → HasTaken v m
     → value.items ≡ m
-gathered_bytes v value m is taken = subst (λ (h : Held). Has h m) is taken.held
+gathered_bytes v value m is taken = subst (λ (h : ValueSoFar). Has h m) is taken.so_far
 
 -- its digest has taken them
-pub digested_bytes : (v : ComingValue) (hasher : Sha256) (m : List ℕ) → v.held ≡ Digest hasher → HasTaken v m
+pub digested_bytes : (v : ComingValue) (hasher : Sha256) (m : List ℕ) → v.so_far ≡ Digested hasher → HasTaken v m
     → Holds256 hasher m
-digested_bytes v hasher m is taken = subst (λ (h : Held). Has h m) is taken.held
+digested_bytes v hasher m is taken = subst (λ (h : ValueSoFar). Has h m) is taken.so_far

@@ -1,13 +1,13 @@
 -- A packet of which key and length are known, and a front of the value (this project's profile).
 use Rattle.std.specs.Prelude.{◌≡◌, ℕ, ◌+◌, List, length}
 use Rattle.mxf_klv.specs.Head.{BeginsWithHead}
-use Rattle.mxf_read.specs.Held.{Has}
+use Rattle.mxf_read.specs.ValueSoFar.{Has}
 use Rattle.mxf_read.specs.declared.coming.ComingValue.{ComingValue}
 
 -- These bytes of the value have come.
 pub record HasTaken (v : ComingValue) (bytes : List ℕ) : Type 0 where
   pub counted : v.left + length bytes ≡ v.ber.value
-  pub held : Has v.held bytes
+  pub so_far : Has v.so_far bytes
 
 -- Both are of one packet.
 pub record IsSamePacket (v w : ComingValue) : Type 0 where

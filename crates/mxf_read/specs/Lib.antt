@@ -1,4 +1,4 @@
-pub mod Held
+pub mod ValueSoFar
 pub mod Coming
 pub mod Feeding
 pub mod Reading

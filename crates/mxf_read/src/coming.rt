@@ -3,7 +3,7 @@ ghost use Rattle.std.specs.Prelude.{◌≡◌, ◌+◌, ◌≤◌, ◌++◌, [],
 ghost use Rattle.sha2.specs.Hashers.{Holds256};
 ghost use Rattle.sha2.specs.Sha256.{sha256};
 ghost use Rattle.mxf_klv.specs.Note.{greatest_end, keeps};
-ghost use Rattle.mxf_read.specs.Held.{came_of, is_whole};
+ghost use Rattle.mxf_read.specs.ValueSoFar.{came_of, is_gathered};
 
 use mxf_klv::{Ber, Note, OutOfMemory, Ul};
 use sha2::{Digest, Sha256};
@@ -11,9 +11,9 @@ use std::alloc::Global;
 
 /// What is held of a value so far: all of its bytes, or a digest that has taken them.
 #[derive(Drop)]
-pub(crate) enum Held {
-    Whole(Vec<u8>),
-    Digest(Sha256),
+pub(crate) enum ValueSoFar {
+    Gathered(Vec<u8>),
+    Digested(Sha256),
 }
 
 /// A packet at an offset of which key and length are known, and a front of the value has come.
@@ -25,11 +25,11 @@ pub(crate) struct ComingValue {
     key: Ul,
     ber: Ber,
     left: u64,
-    held: Held,
+    so_far: ValueSoFar,
 
     ghost within: { offset + 16 + ber.width + ber.value ≤ greatest_end },
-    ghost sort: { is_whole held ≡ keeps key ber.value },
-    ghost counted: { came_of held ber.value left + left ≡ ber.value },
+    ghost sort: { is_gathered so_far ≡ keeps key ber.value },
+    ghost counted: { came_of so_far ber.value left + left ≡ ber.value },
 }
 
 impl ComingValue {
@@ -51,17 +51,17 @@ impl ComingValue {
         ensures none { IfOk result (λ v. HasTaken v []) }
     {
         let left = ber.value();
-        let held = if Note::keeps(&key, left) {
-            Held::Whole(Vec::with_capacity(alloc, left as usize)?)
+        let so_far = if Note::keeps(&key, left) {
+            ValueSoFar::Gathered(Vec::with_capacity(alloc, left as usize)?)
         } else {
-            Held::Digest(Sha256::new())
+            ValueSoFar::Digested(Sha256::new())
         };
         Ok(ComingValue {
             offset,
             key,
             ber,
             left,
-            held,
+            so_far,
         })
     }
 
@@ -85,9 +85,9 @@ impl ComingValue {
         ensures same { IsSamePacket self.old self.new }
         ensures taken { OnOk result ((m : List ℕ) → HasTaken self.old m → HasTaken self.new (m ++ bytes.now)) }
     {
-        match &mut self.held {
-            Held::Whole(value) => value.extend_from_slice(bytes)?,
-            Held::Digest(hasher) => hasher.update(bytes),
+        match &mut self.so_far {
+            ValueSoFar::Gathered(value) => value.extend_from_slice(bytes)?,
+            ValueSoFar::Digested(hasher) => hasher.update(bytes),
         }
         self.left -= bytes.len() as u64;
         Ok(())
@@ -105,12 +105,12 @@ impl ComingValue {
             offset,
             key,
             ber,
-            held,
+            so_far,
             ..
         } = self;
-        match held {
-            Held::Whole(value) => Note::kept(offset, key, ber.width(), value).unwrap(),
-            Held::Digest(hasher) => {
+        match so_far {
+            ValueSoFar::Gathered(value) => Note::kept(offset, key, ber.width(), value).unwrap(),
+            ValueSoFar::Digested(hasher) => {
                 let digest = digest_of(hasher, ber.value(), of_nothing);
                 Note::digested(offset, key, ber.width(), ber.value(), digest).unwrap()
             }
