@@ -419,7 +419,8 @@ impl Semilattice for Catalogue {
         ensures members { IsTrue result ↔ SameContent has_note self.now other.now }
         ensures list { IsTrue result ↔ (self.now ≡ other.now) }
     {
-        self.parts.undisputed == other.parts.undisputed && self.parts.disputed == other.parts.disputed
+        self.parts.undisputed == other.parts.undisputed
+            && self.parts.disputed == other.parts.disputed
     }
 }
 

@@ -32,7 +32,10 @@ impl<'a> Notes<'a> {
         requires disputed { IsContent disputed.now }
         ensures { result ≡ union_of undisputed.now disputed.now }
     {
-        Notes { undisputed, disputed }
+        Notes {
+            undisputed,
+            disputed,
+        }
     }
 }
 

@@ -1,4 +1,4 @@
-//! Worked examples of catalogues and pieces, by their public items.
+//! Worked examples of pieces and of gathering, by their public items.
 //!
 //! Expected values come from the standards, from other tools, or are computed by hand.
 #![tactic(auto)]
@@ -6,20 +6,10 @@
 #[cfg(test)]
 mod absorbing;
 #[cfg(test)]
-mod catalogues;
-#[cfg(test)]
-mod covers;
-#[cfg(test)]
 mod cuts;
 #[cfg(test)]
 mod failing;
 #[cfg(test)]
-mod files;
-#[cfg(test)]
 mod gathering;
 #[cfg(test)]
-mod heads;
-#[cfg(test)]
 mod readers;
-#[cfg(test)]
-mod versions;

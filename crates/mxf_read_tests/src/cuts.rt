@@ -1,8 +1,9 @@
 //! M, cut at each byte: the bytes before, and those from the packet on in which the cut lies, leave M's catalogue.
-use crate::files::{file_of_m, written};
 use mxf_catalogue::{Catalogue, Semilattice};
+use mxf_klv::Encode;
 use mxf_read::{ReadTicks, Stop, absorb, absorb_from};
 use mxf_views::Views;
+use mxf_worked::saved_files::catalogue_file;
 use mxf_worked::worked_files::M;
 use std::alloc::Global;
 use std::test::Fail;
@@ -27,6 +28,13 @@ fn absorbed(alloc: Global, pieces: [(usize, usize); 2]) -> Result<Views, Fail> {
     Ok(views)
 }
 
+/// The file of a catalogue.
+fn written(alloc: Global, all: &Catalogue) -> Result<Vec<u8>, Fail> {
+    let mut file = Vec::new(alloc);
+    all.write_to(&mut file)?;
+    Ok(file)
+}
+
 /// The catalogue of a piece of M, saved and read again.
 fn saved(alloc: Global, piece: (usize, usize)) -> Result<Catalogue, Fail> {
     let views = absorbed(alloc, [piece, (264, 264)])?;
@@ -37,7 +45,7 @@ fn saved(alloc: Global, piece: (usize, usize)) -> Result<Catalogue, Fail> {
 #[test]
 fn both_parts_leave_the_whole_in_both_orders(rt: HostRuntime) -> Result<(), Fail> {
     let alloc = rt.alloc();
-    let whole = file_of_m(alloc)?;
+    let whole = catalogue_file(alloc, 3)?;
     for place in 0..=264usize {
         let (front, rest) = ((0, place), (packet_at(place), 264));
         for pieces in [[front, rest], [rest, front]] {
@@ -51,7 +59,7 @@ fn both_parts_leave_the_whole_in_both_orders(rt: HostRuntime) -> Result<(), Fail
 #[test]
 fn both_parts_leave_the_whole_when_they_were_saved(rt: HostRuntime) -> Result<(), Fail> {
     let alloc = rt.alloc();
-    let whole = file_of_m(alloc)?;
+    let whole = catalogue_file(alloc, 3)?;
     for place in 0..=264usize {
         let front = saved(alloc, (0, place))?;
         let rest = saved(alloc, (packet_at(place), 264))?;
