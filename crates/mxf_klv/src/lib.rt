@@ -33,6 +33,7 @@ mod memory;
 mod note;
 mod packet;
 mod piece;
+mod search;
 mod writing;
 
 pub use ber::{Ber, BerFault, lengths_are_read_as_written, one_length_at_front, read_ber};
@@ -48,4 +49,5 @@ pub use piece::{
     Stop, cut_head, each_piece_has_its_head, each_piece_has_one_stop, each_piece_is_read_one_way,
     more_bytes_go_on_with_a_piece, next_head, next_packet,
 };
+pub use search::{Keyed, below, up_to};
 pub use writing::{Encode, Progress, WriteFault};

@@ -21,6 +21,7 @@ use Rattle.mxf_views.specs.declared.random_index.Standing.{Standing}
 use Rattle.mxf_views.specs.declared.random_index.Standing.TheVariants.{Held, Differs, Missing}
 use Rattle.mxf_views.specs.declared.random_index.RipView.{RipView}
 use Rattle.mxf_views.specs.declared.random_index.RipView.TheVariants.{Absent, Several, Unreadable, One}
+use Rattle.mxf_views.proofs.FoundLaws.{later_differs}
 use Rattle.mxf_views.proofs.KindLaws.{rip_kind}
 use Rattle.mxf_views.proofs.Members.{false_if}
 use Rattle.mxf_views.proofs.PartitionLaws.{one_there, partitions_rise}
@@ -92,12 +93,6 @@ picks notes n =
 rips_apart : (notes : List NoteParts) → IsContent notes → AreApart 0 (rips_of notes)
 unfolding rips_of
 rips_apart notes r = AreApart-filter is_rip_note 0 (clear_notes notes) (AreApart-clear_notes notes r)
-
-later_differs : (m n : NoteParts) (rips : List NoteParts) → AreApart 0 (m ∷ n ∷ rips) → m ≢ n
-later_differs m n rips a e =
-    let l : end_of m ≤ n.offset = a.1.0 in
-    let o : m.offset ≡ n.offset = ap (λ (x : NoteParts). x.offset) e in
-    omega (arith, l, o)
 
 -- ---- what is known of them
 

@@ -1,14 +1,13 @@
 use Rattle.std.proofs.Common.{rules, nat_le}
 use Rattle.std.proofs.lemmas.Bool.{leb-true, leb-false}
 use Rattle.std.proofs.lemmas.List.Sorted.{IsPartitionPoint-from_clause, IsPartitionedBy-leb}
-use Rattle.mxf_views.proofs.OffsetSearch.{offsets_never_fall}
-use Rattle.mxf_views.proofs.kept.offsets.offsets_up_to.Goals as goal
+use Rattle.mxf_klv.proofs.search.up_to.Goals as goal
 
 pub returns : goal.returns
-returns c =
-    let parted = IsPartitionedBy-leb (λ o. o) _ c.args.offset (offsets_never_fall _ c.requires) in
+returns g c =
+    let parted = IsPartitionedBy-leb g.T.Keyed.key _ c.args.bound c.requires in
     let point = IsPartitionPoint-from_clause
-    (λ o. nat_le o c.args.offset) _ _ c.partition_point.ensures.partitioned parted (λ a r q k. search rules) in
+    (λ x. nat_le (g.T.Keyed.key x) c.args.bound) _ _ c.partition_point.ensures.partitioned parted (λ a r q k. search rules) in
     record {
       bound = c.partition_point.ensures.bound;
       below = λ k d l h. leb-true _ _ (point.0 k d l h);
