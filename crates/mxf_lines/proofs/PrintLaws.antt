@@ -157,3 +157,31 @@ pub some_shown : (content : List NoteParts) → 0 < length (content_lines conten
 some_shown content =
     some_behind (group_lines content groups.Notes) _ (some_behind (group_lines content groups.Gaps) _
     (some_behind (group_lines content groups.Partitions) _ (omega arith)))
+
+-- none of the lines that come was printed yet
+pub leads_none : (a : Option (List ℕ)) (before : ℕ) (all : List (List ℕ)) → Leads a before all a before all
+leads_none a before all = record {
+  leads = λ c after r q. q;
+}
+
+-- those of one more item were printed
+pub leads_more : (a b c : Option (List ℕ)) (before mid next : ℕ) (all left lines rest : List (List ℕ))
+    → left ≡ lines ++ rest → Leads a before all b mid left → Printed b c mid next lines → Leads a before all c next rest
+leads_more a b c before mid next all left lines rest e led p = record {
+  leads = λ d after r q. led.leads d after r (subst (PrintsPart b d mid after r) (sym e)
+      (Prints-after b c d mid next after r lines rest p q));
+}
+
+-- a fault among those of the next item
+pub leads_failed : (a b c : Option (List ℕ)) (before mid after : ℕ) (f : PrintFault) (all left lines rest : List (List ℕ))
+    → left ≡ lines ++ rest → Leads a before all b mid left → PrintsPart {X = Unit {0}} b c mid after (Err f) lines
+    → PrintsPart {X = Unit {0}} a c before after (Err f) all
+leads_failed a b c before mid after f all left lines rest e led p =
+    led.leads c after (Err f) (subst (PrintsPart {X = Unit {0}} b c mid after (Err f)) (sym e)
+    (Prints-fault (Unit {0}) (Unit {0}) b c mid after f lines rest p))
+
+-- no line is left
+pub leads_end : (a b : Option (List ℕ)) (before mid : ℕ) (all left : List (List ℕ)) → left ≡ [] → mid < 2 ^ 64
+    → Leads a before all b mid left → Printed a b before mid all
+leads_end a b before mid all left e h led =
+    led.leads b mid (Ok tt) (subst (Printed b b mid mid) (sym e) (none_printed b mid h))

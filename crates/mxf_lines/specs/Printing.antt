@@ -1,5 +1,5 @@
 -- The lines that are printed of what a run gathers, and what a call that prints lines answers (this project's profile).
-use Rattle.std.specs.Prelude.{ℕ, ◌<◌, List, [], ◌∷◌, length, take, Result, Ok, Err}
+use Rattle.std.specs.Prelude.{ℕ, ◌≡◌, ◌<◌, List, [], ◌∷◌, ◌++◌, length, take, Result, Ok, Err, Option, None, Some}
 use Rattle.std.specs.List.{concat, flat_map}
 use Rattle.mxf_klv.specs.Parts.{NoteParts}
 use Rattle.mxf_klv.specs.declared.writing.WriteFault.{WriteFault}
@@ -53,3 +53,14 @@ abbrev pub Prints : {X : Type 0} → (Result (Unit {0}) WriteFault → List ℕ 
 Prints Wrote (Ok x) lines = Wrote (Ok tt) (concat lines)
 Prints Wrote (Err (Write fault)) lines = Wrote (Err fault) (concat lines)
 Prints Wrote (Err OutOfMemory) lines = (k : ℕ) × (k < length lines) × Wrote (Ok tt) (concat (take k lines))
+
+-- The lines of what is there, and none where it isn't.
+abbrev pub lines_where : {X : Type 0} → (X → List (List ℕ)) → Option X → List (List ℕ)
+lines_where lines None = []
+lines_where lines (Some x) = lines x
+
+-- What a call answers that gives the next of some items, by how many are left and what their lines are: none where
+-- none is left, else the first, and the others are left.
+abbrev pub Gives : {S X : Type 0} → (S → ℕ) → (S → List (List ℕ)) → (X → List (List ℕ)) → S → S → Option X → Type 0
+Gives left lines_left lines old new None = lines_left old ≡ []
+Gives left lines_left lines old new (Some x) = (left new < left old) × (lines_left old ≡ lines x ++ lines_left new)

@@ -10,6 +10,7 @@ mod group;
 mod hexadecimal;
 mod labels;
 mod line;
+mod lines;
 mod named_record;
 mod printer;
 
