@@ -4,11 +4,12 @@ ghost use Rattle.mxf_klv.specs.Written.{Puts};
 ghost use Rattle.mxf_lines.specs.Printing.{Gives, Prints};
 
 mod each;
+mod printer;
 mod then;
 
 use super::PrintFault;
-use super::printer::Printer;
 pub use each::Each;
+pub use printer::Printer;
 use std::io::Write;
 pub use then::Then;
 

@@ -1,7 +1,6 @@
 //! The lines of items that come one by one.
-use super::{Lines, Series};
+use super::{Lines, Printer, Series};
 use crate::printing::PrintFault;
-use crate::printing::printer::Printer;
 use std::io::Write;
 
 /// The lines of each item that is left.

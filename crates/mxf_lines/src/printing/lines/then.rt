@@ -1,7 +1,6 @@
 //! Lines, and then other lines.
-use super::Lines;
+use super::{Lines, Printer};
 use crate::printing::PrintFault;
-use crate::printing::printer::Printer;
 use std::io::Write;
 
 /// The lines of the first, and then those of the second.
@@ -22,7 +21,7 @@ impl<A: Lines + Drop, B: Lines + Drop> Lines for Then<A, B> {
 
 /// The lines of what is there, none where nothing is.
 impl<A: Lines + Drop> Lines for Option<A> {
-    ghost use Rattle.mxf_lines.specs.Printing.{lines_where};
+    ghost use Rattle.mxf_lines.specs.Optional.{lines_where};
 
     ghost lines = { λ o. lines_where A.lines o };
 
