@@ -13,8 +13,12 @@ use Rattle.mxf_klv.proofs.WrittenParts.{WritesPart-after}
 use Rattle.mxf_lines.specs.declared.printing.fault.PrintFault.{PrintFault}
 use Rattle.mxf_lines.specs.declared.printing.fault.PrintFault.TheVariants.{OutOfMemory, Write}
 use Rattle.mxf_klv.specs.Parts.{NoteParts}
-use Rattle.mxf_lines.specs.declared.printing.group.Group.TheVariants as groups
-use Rattle.mxf_lines.specs.Printing.{Prints, content_lines, group_lines}
+use Rattle.mxf_catalogue.specs.Disputes.{is_disputed}
+use Rattle.mxf_views.specs.Gaps.{gaps_of}
+use Rattle.mxf_views.specs.Partitions.{chain_of, partitions_of}
+use Rattle.mxf_lines.specs.Lines.{chain_line, gap_line, note_line}
+use Rattle.mxf_lines.specs.PartitionLines.{partition_lines}
+use Rattle.mxf_lines.specs.Printing.{Prints, content_lines, metadata_lines}
 
 -- What a call answers that prints lines after `before` bytes; `after` counts both.
 abbrev pub PrintsPart : {X : Type 0} → Option (List ℕ) → Option (List ℕ) → ℕ → ℕ → Result X PrintFault
@@ -100,37 +104,32 @@ pub record Leads (a : Option (List ℕ)) (before : ℕ) (all : List (List ℕ)) 
       → PrintsPart b c mid after r left → PrintsPart a c before after r all
 
 -- none was printed yet
-pub leads_first : {X : Type 0} (a : Option (List ℕ)) (before : ℕ) (lines : X → List (List ℕ)) (items all : List X)
-    → items ≡ all → Leads a before (flat_map lines all) a before (flat_map lines items)
-leads_first a before lines items all e = record {
-  leads = λ c after r q. subst (λ xs. PrintsPart a c before after r (flat_map lines xs)) e q;
+pub leads_first : (a : Option (List ℕ)) (before : ℕ) (all left : List (List ℕ)) → left ≡ all → Leads a before all a before left
+leads_first a before all left e = record {
+  leads = λ c after r q. subst (PrintsPart a c before after r) e q;
 }
 
 -- those of one more item were printed
-pub leads_on : {X : Type 0} (a b c : Option (List ℕ)) (before mid next : ℕ) (all : List (List ℕ))
-    (lines : X → List (List ℕ)) (items : List X) (x : X) (rest : List X) → items ≡ x ∷ rest
-    → Leads a before all b mid (flat_map lines items) → Printed b c mid next (lines x)
-    → Leads a before all c next (flat_map lines rest)
-leads_on a b c before mid next all lines items x rest e led p = record {
-  leads = λ d after r q. led.leads d after r (subst (λ xs. PrintsPart b d mid after r (flat_map lines xs)) (sym e)
-      (Prints-after b c d mid next after r (lines x) (flat_map lines rest) p q));
+pub leads_more : (a b c : Option (List ℕ)) (before mid next : ℕ) (all left lines rest : List (List ℕ))
+    → left ≡ lines ++ rest → Leads a before all b mid left → Printed b c mid next lines → Leads a before all c next rest
+leads_more a b c before mid next all left lines rest e led p = record {
+  leads = λ d after r q. led.leads d after r (subst (PrintsPart b d mid after r) (sym e)
+      (Prints-after b c d mid next after r lines rest p q));
 }
 
 -- a fault among those of the next item
-pub leads_fault : {X : Type 0} (a b c : Option (List ℕ)) (before mid after : ℕ) (f : PrintFault) (all : List (List ℕ))
-    (lines : X → List (List ℕ)) (items : List X) (x : X) (rest : List X) → items ≡ x ∷ rest
-    → Leads a before all b mid (flat_map lines items) → PrintsPart {X = Unit {0}} b c mid after (Err f) (lines x)
+pub leads_failed : (a b c : Option (List ℕ)) (before mid after : ℕ) (f : PrintFault) (all left lines rest : List (List ℕ))
+    → left ≡ lines ++ rest → Leads a before all b mid left → PrintsPart {X = Unit {0}} b c mid after (Err f) lines
     → PrintsPart {X = Unit {0}} a c before after (Err f) all
-leads_fault a b c before mid after f all lines items x rest e led p =
-    led.leads c after (Err f) (subst (λ xs. PrintsPart {X = Unit {0}} b c mid after (Err f) (flat_map lines xs)) (sym e)
-    (Prints-fault (Unit {0}) (Unit {0}) b c mid after f (lines x) (flat_map lines rest) p))
+leads_failed a b c before mid after f all left lines rest e led p =
+    led.leads c after (Err f) (subst (PrintsPart {X = Unit {0}} b c mid after (Err f)) (sym e)
+    (Prints-fault (Unit {0}) (Unit {0}) b c mid after f lines rest p))
 
--- no item is left
-pub leads_last : {X : Type 0} (a b : Option (List ℕ)) (before mid : ℕ) (all : List (List ℕ))
-    (lines : X → List (List ℕ)) (items : List X) → items ≡ [] → mid < 2 ^ 64
-    → Leads a before all b mid (flat_map lines items) → Printed a b before mid all
-leads_last a b before mid all lines items e h led =
-    led.leads b mid (Ok tt) (subst (λ xs. Printed b b mid mid (flat_map lines xs)) (sym e) (none_printed b mid h))
+-- no line is left
+pub leads_end : (a b : Option (List ℕ)) (before mid : ℕ) (all left : List (List ℕ)) → left ≡ [] → mid < 2 ^ 64
+    → Leads a before all b mid left → Printed a b before mid all
+leads_end a b before mid all left e h led =
+    led.leads b mid (Ok tt) (subst (Printed b b mid mid) (sym e) (none_printed b mid h))
 
 -- the item at a place is the next
 pub next_item : {X : Type 0} (items : List X) (i : ℕ) (d : X) → i < length items
@@ -152,8 +151,15 @@ Prints-failed X Y a c before after OutOfMemory lines e (k, low, q) = (k, low, q.
 some_behind : (front lines : List (List ℕ)) → 0 < length lines → 0 < length (front ++ lines)
 some_behind front lines h = omega (arith, h, length-append front lines)
 
+some_after : (a b c : List (List ℕ)) (line : List ℕ) (more : List (List ℕ))
+    → 0 < length (a ++ (b ++ (c ++ line ∷ more)))
+some_after a b c line more =
+    some_behind a (b ++ (c ++ line ∷ more)) (some_behind b (c ++ line ∷ more) (some_behind c (line ∷ more) (omega arith)))
+
 -- a content has a line, that of the chain
 pub some_shown : (content : List NoteParts) → 0 < length (content_lines content)
 some_shown content =
-    some_behind (group_lines content groups.Notes) _ (some_behind (group_lines content groups.Gaps) _
-    (some_behind (group_lines content groups.Partitions) _ (omega arith)))
+    some_after (flat_map (λ n. note_line n (is_disputed n content) ∷ []) content)
+    (flat_map (λ gap. gap_line gap ∷ []) (gaps_of content))
+    (flat_map (partition_lines (partitions_of content)) (partitions_of content)) (chain_line (chain_of content))
+    (metadata_lines content)

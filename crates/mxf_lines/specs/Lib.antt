@@ -6,6 +6,7 @@ pub mod IndexLines
 pub mod ItemLines
 pub mod Lines
 pub mod NamedRecords
+pub mod Optional
 pub mod PartitionLines
 pub mod Printing
 pub mod ReferenceLines

@@ -5,7 +5,8 @@ use Rattle.mxf_lines.specs.declared.printing.line.reference.Named.{Named}
 use Rattle.mxf_lines.specs.declared.printing.named_record.NamedRecord.{NamedRecord}
 use Rattle.mxf_lines.specs.declared.printing.named_record.Record.{Record}
 use Rattle.mxf_lines.specs.declared.printing.named_record.Record.TheVariants.{Identification, Package}
-use Rattle.mxf_lines.specs.ReferenceLines.{found_lines, identification_lines, lines_where, package_lines}
+use Rattle.mxf_lines.specs.Optional.{lines_where}
+use Rattle.mxf_lines.specs.ReferenceLines.{found_lines, identification_lines, package_lines}
 
 -- The lines of a record.
 abbrev pub lines_of_record : Record → List (List ℕ)

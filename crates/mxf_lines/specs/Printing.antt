@@ -1,5 +1,5 @@
 -- The lines that are printed of what a run gathers, and what a call that prints lines answers (this project's profile).
-use Rattle.std.specs.Prelude.{ℕ, ◌<◌, List, [], ◌∷◌, length, take, Result, Ok, Err}
+use Rattle.std.specs.Prelude.{ℕ, ◌≡◌, ◌<◌, List, [], ◌∷◌, ◌++◌, length, take, Result, Ok, Err, Option, None, Some}
 use Rattle.std.specs.List.{concat, flat_map}
 use Rattle.mxf_klv.specs.Parts.{NoteParts}
 use Rattle.mxf_klv.specs.declared.writing.WriteFault.{WriteFault}
@@ -12,39 +12,31 @@ use Rattle.mxf_views.specs.RandomIndexView.{rip_view_of}
 use Rattle.mxf_views.specs.Resolved.{resolved_of}
 use Rattle.mxf_lines.specs.declared.printing.fault.PrintFault.{PrintFault}
 use Rattle.mxf_lines.specs.declared.printing.fault.PrintFault.TheVariants.{OutOfMemory, Write}
-use Rattle.mxf_lines.specs.declared.printing.group.Group.{Group}
-use Rattle.mxf_lines.specs.declared.printing.group.Group.TheVariants as groups
 use Rattle.mxf_lines.specs.Lines.{chain_line, copy_line, gap_line, note_line, preferred_line}
 use Rattle.mxf_lines.specs.IndexLines.{rip_lines, segment_line}
 use Rattle.mxf_lines.specs.ItemLines.{set_lines}
 use Rattle.mxf_lines.specs.PartitionLines.{partition_lines}
 use Rattle.mxf_lines.specs.ReferenceLines.{reference_lines}
 
--- The lines of a group: of each note, gap, partition and copy, of the chain, of the preferred copy, of the items of
--- each clear set, of what the references of the preferred copy lead to, of each index table segment, and of the random
--- index pack.
-abbrev pub group_lines : List NoteParts → Group → List (List ℕ)
-group_lines content groups.Notes = flat_map (λ n. note_line n (is_disputed n content) ∷ []) content
-group_lines content groups.Gaps = flat_map (λ gap. gap_line gap ∷ []) (gaps_of content)
-group_lines content groups.Partitions = flat_map (partition_lines (partitions_of content)) (partitions_of content)
-group_lines content groups.Chain = chain_line (chain_of content) ∷ []
-group_lines content groups.Copies = flat_map (λ copy. copy_line copy ∷ []) (copies_of content)
-group_lines content groups.Preferred = preferred_line (preferred_of (copies_of content)) ∷ []
-group_lines content groups.Items = flat_map (set_lines content) (clear_notes content)
-group_lines content groups.References = reference_lines content (resolved_of content)
-group_lines content groups.Segments = flat_map (λ s. segment_line s ∷ []) (segments_of content)
-group_lines content groups.RandomIndex = rip_lines (rip_view_of content)
+-- The lines of what a content's copies, index table segments and random index pack say: of each copy, of the preferred
+-- copy, of the items of each clear set, of what the references of the preferred copy lead to, of each index table
+-- segment, and of the random index pack.
+abbrev pub metadata_lines : List NoteParts → List (List ℕ)
+metadata_lines content =
+    flat_map (λ copy. copy_line copy ∷ []) (copies_of content)
+    ++ (preferred_line (preferred_of (copies_of content))
+    ∷ (flat_map (set_lines content) (clear_notes content)
+    ++ (reference_lines content (resolved_of content)
+    ++ (flat_map (λ s. segment_line s ∷ []) (segments_of content)
+    ++ rip_lines (rip_view_of content)))))
 
--- The groups in their order.
-abbrev pub all_groups : List Group
-all_groups =
-    groups.Notes ∷ groups.Gaps ∷ groups.Partitions ∷ groups.Chain ∷ groups.Copies ∷ groups.Preferred
-    ∷ groups.Items ∷ groups.References
-    ∷ groups.Segments ∷ groups.RandomIndex ∷ []
-
--- The lines of a content.
+-- The lines of a content: of each note, gap and partition, of the chain, and then those above.
 abbrev pub content_lines : List NoteParts → List (List ℕ)
-content_lines content = flat_map (group_lines content) all_groups
+content_lines content =
+    flat_map (λ n. note_line n (is_disputed n content) ∷ []) content
+    ++ (flat_map (λ gap. gap_line gap ∷ []) (gaps_of content)
+    ++ (flat_map (partition_lines (partitions_of content)) (partitions_of content)
+    ++ (chain_line (chain_of content) ∷ metadata_lines content)))
 
 -- What a call that prints lines answers, where `Wrote` says what a writer took: all bytes of the lines; or the writer
 -- failed among them; or memory ran out, after some whole lines and before the last.
@@ -53,3 +45,9 @@ abbrev pub Prints : {X : Type 0} → (Result (Unit {0}) WriteFault → List ℕ 
 Prints Wrote (Ok x) lines = Wrote (Ok tt) (concat lines)
 Prints Wrote (Err (Write fault)) lines = Wrote (Err fault) (concat lines)
 Prints Wrote (Err OutOfMemory) lines = (k : ℕ) × (k < length lines) × Wrote (Ok tt) (concat (take k lines))
+
+-- What a call answers that gives the next of some items, by how many are left and what their lines are: none where
+-- none is left, else the first, and the others are left.
+abbrev pub Gives : {S X : Type 0} → (S → ℕ) → (S → List (List ℕ)) → (X → List (List ℕ)) → S → S → Option X → Type 0
+Gives left lines_left lines old new None = lines_left old ≡ []
+Gives left lines_left lines old new (Some x) = (left new < left old) × (lines_left old ≡ lines x ++ lines_left new)

@@ -17,16 +17,15 @@ use Rattle.mxf_views.specs.Resolved.{ResolvedParts}
 use Rattle.mxf_views.specs.declared.reference.target.Ref.{Ref}
 use Rattle.mxf_views.specs.declared.reference.target.Target.{Target}
 use Rattle.mxf_views.specs.declared.reference.target.Target.TheVariants.{Missing, Several, WrongKind, Unreadable, Found}
-use Rattle.mxf_lines.specs.declared.printing.field.IdentificationField.{IdentificationField}
-use Rattle.mxf_lines.specs.declared.printing.field.IdentificationField.TheVariants as identifications
-use Rattle.mxf_lines.specs.declared.printing.field.PackageField.{PackageField}
-use Rattle.mxf_lines.specs.declared.printing.field.PackageField.TheVariants as packages
+use Rattle.mxf_lines.specs.declared.printing.line.record.FieldName.{FieldName}
+use Rattle.mxf_lines.specs.declared.printing.line.record.FieldName.TheVariants as names
 use Rattle.mxf_lines.specs.declared.printing.line.record.FieldValue.{FieldValue}
 use Rattle.mxf_lines.specs.declared.printing.line.record.FieldValue.TheVariants as values
 use Rattle.mxf_lines.specs.declared.printing.line.reference.Named.{Named}
 use Rattle.mxf_lines.specs.declared.printing.line.reference.Named.TheVariants.{Identification, Package}
 use Rattle.mxf_lines.specs.Hexadecimal.{hex_of}
 use Rattle.mxf_lines.specs.Lines.{line_of, spaced}
+use Rattle.mxf_lines.specs.Optional.{lines_where}
 use Rattle.mxf_lines.specs.ShownText.{shown_value}
 
 -- The word for what a reference names.
@@ -68,10 +67,18 @@ field_text (values.Count n) = decimal n
 unfoldable pub field_line : List ℕ → List ℕ → List ℕ
 field_line word value = line_of (word ∷ value ∷ [])
 
--- The lines of what is there, and none where it isn't.
-abbrev pub lines_where : {X : Type 0} → (X → List (List ℕ)) → Option X → List (List ℕ)
-lines_where lines None = []
-lines_where lines (Some x) = lines x
+-- The word for the name of a field.
+abbrev pub field_name : FieldName → List ℕ
+field_name names.Generation = codes "generation"
+field_name names.Company = codes "company"
+field_name names.Product = codes "product"
+field_name names.Version = codes "version"
+field_name names.ProductUid = codes "product-uid"
+field_name names.PackageUid = codes "package-uid"
+field_name names.Modified = codes "modified"
+field_name names.Name = codes "name"
+field_name names.Created = codes "created"
+field_name names.Descriptor = codes "descriptor"
 
 -- The line of a field by the form of its value, where the field is there.
 
@@ -87,41 +94,29 @@ time_lines word time = lines_where (λ t. field_line word (timestamp_text t) ∷
 abbrev pub text_lines : List ℕ → Option (List ℕ) → List (List ℕ)
 text_lines word value = lines_where (λ v. field_line word (shown_value v) ∷ []) value
 
--- The line of a field of an Identification, where the field is there.
-abbrev pub identification_field_lines : IdentificationParts → IdentificationField → List (List ℕ)
-identification_field_lines i identifications.Generation = uid_lines (codes "generation") i.this_generation_uid
-identification_field_lines i identifications.Company = text_lines (codes "company") i.company_name
-identification_field_lines i identifications.Product = text_lines (codes "product") i.product_name
-identification_field_lines i identifications.Version = text_lines (codes "version") i.version_string
-identification_field_lines i identifications.ProductUid = digits_lines (codes "product-uid") i.product_uid
-identification_field_lines i identifications.Modified = time_lines (codes "modified") i.modification_date
-
--- The lines of an Identification: those of its fields in this order.
+-- The lines of an Identification: those of its fields that are there, in this order.
 abbrev pub identification_lines : IdentificationParts → List (List ℕ)
 identification_lines i =
-    flat_map (identification_field_lines i) (identifications.Generation ∷ identifications.Company
-    ∷ identifications.Product ∷ identifications.Version ∷ identifications.ProductUid ∷ identifications.Modified ∷ [])
+    uid_lines (codes "generation") i.this_generation_uid
+    ++ (text_lines (codes "company") i.company_name
+    ++ (text_lines (codes "product") i.product_name
+    ++ (text_lines (codes "version") i.version_string
+    ++ (digits_lines (codes "product-uid") i.product_uid
+    ++ time_lines (codes "modified") i.modification_date))))
 
 -- The word for a package by the kind of its set, a Material Package or a Source Package.
 abbrev pub package_word : Kind → List ℕ
 package_word MaterialPackage = codes "material"
 package_word _ = codes "source"
 
--- The line of a field of a package whose set has this kind, where the field is there.
-abbrev pub package_field_lines : Kind → PackageParts → PackageField → List (List ℕ)
-package_field_lines kind p packages.Kind = field_line (codes "kind") (package_word kind) ∷ []
-package_field_lines kind p packages.PackageUid = field_line (codes "package-uid") (hex_of p.package_uid) ∷ []
-package_field_lines kind p packages.Name = text_lines (codes "name") p.name
-package_field_lines kind p packages.Created = time_lines (codes "created") p.creation_date
-package_field_lines kind p packages.Modified = time_lines (codes "modified") p.modified_date
-package_field_lines kind p packages.Tracks = field_line (codes "tracks") (decimal (length p.tracks)) ∷ []
-package_field_lines kind p packages.Descriptor = uid_lines (codes "descriptor") p.descriptor
-
--- The lines of a package whose set has this kind: those of its fields in this order.
+-- The lines of a package whose set has this kind: those of its fields that are there, in this order.
 abbrev pub package_lines : Kind → PackageParts → List (List ℕ)
 package_lines kind p =
-    flat_map (package_field_lines kind p) (packages.Kind ∷ packages.PackageUid ∷ packages.Name ∷ packages.Created
-    ∷ packages.Modified ∷ packages.Tracks ∷ packages.Descriptor ∷ [])
+    field_line (codes "kind") (package_word kind) ∷ field_line (codes "package-uid") (hex_of p.package_uid)
+    ∷ (text_lines (codes "name") p.name
+    ++ (time_lines (codes "created") p.creation_date
+    ++ (time_lines (codes "modified") p.modified_date
+    ++ (field_line (codes "tracks") (decimal (length p.tracks)) ∷ uid_lines (codes "descriptor") p.descriptor))))
 
 -- The Identification of a note, where it is kept and readable.
 unfoldable pub identification_in : NoteParts → Option IdentificationParts

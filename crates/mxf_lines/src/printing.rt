@@ -4,22 +4,25 @@ ghost use Rattle.mxf_klv.specs.Written.{Writes};
 ghost use Rattle.mxf_lines.specs.Answering.{Answers, IsBadAsk, answer_fault, answer_lines, answer_status, place_status};
 ghost use Rattle.mxf_lines.specs.declared.printing.AnswerFault.TheVariants as faults;
 
+mod check;
+mod content;
 mod fault;
-mod field;
-mod group;
 mod hexadecimal;
 mod labels;
 mod line;
+mod lines;
 mod named_record;
-mod printer;
+mod references;
+mod sets;
 
+use check::print_checked;
 pub(crate) use fault::PrintFault;
 pub use hexadecimal::hex_text;
-use line::PlaceLine;
+use line::{JoinLine, PlaceLine};
+use lines::{Lines, Printer};
 use mxf_klv::WriteFault;
 use mxf_read::Gathered;
 use mxf_views::{BadUnit, Place};
-use printer::Printer;
 use std::alloc::Global;
 use std::io::Write;
 use thiserror::Error;
@@ -89,17 +92,22 @@ pub fn answer<W: Write>(
     let mut printer = Printer::new(alloc);
     match *ask {
         Ask::Show => {
-            printer.print_shown(alloc, writer, gathered)?;
+            gathered.print_to(&mut printer, writer)?;
             Ok(0)
         }
-        Ask::Check => Ok(printer.print_checked(alloc, writer, gathered)?),
+        Ask::Check => Ok(print_checked(&mut printer, writer, gathered)?),
         Ask::Locate { index, unit } => {
             let place = gathered.views.locate(index, unit)?;
-            printer.print(writer, PlaceLine(place))?;
+            PlaceLine(place).print_to(&mut printer, writer)?;
             Ok(place_status(place))
         }
         Ask::Join => {
-            printer.print_joined(writer, gathered.views.catalogue())?;
+            let catalogue = gathered.views.catalogue();
+            let line = JoinLine {
+                notes: catalogue.len(),
+                disputed: catalogue.disputed().count(),
+            };
+            line.print_to(&mut printer, writer)?;
             Ok(0)
         }
     }

@@ -8,15 +8,6 @@ use mxf_sets::PrimerLabels;
 use mxf_views::{CopyInfo, Views};
 use std::alloc::Global;
 
-/// A set whose items are printed.
-#[derive(Clone, Copy)]
-pub struct SetAt {
-    /// Where its packet begins, in bytes.
-    pub offset: u64,
-    /// The first copy that has it.
-    pub copy: Option<CopyInfo>,
-}
-
 /// The labels of a copy, by its primer pack: made once for all of its sets, since sets that follow each other are mostly
 /// of one copy.
 #[derive(Drop)]

@@ -2,13 +2,17 @@
 ghost use Rattle.std.specs.Prelude.{◌≡◌, List};
 ghost use Rattle.mxf_klv.specs.Parts.{NoteParts};
 ghost use Rattle.mxf_lines.specs.NamedRecords.{IsRecordIn, lines_of_record};
-ghost use Rattle.mxf_lines.specs.ReferenceLines.{found_lines, identification_in, lines_where, package_in, record_lines};
+ghost use Rattle.mxf_lines.specs.Optional.{lines_where};
+ghost use Rattle.mxf_lines.specs.ReferenceLines.{found_lines, identification_in, package_in, record_lines};
 
-use super::line::Named;
+use super::PrintFault;
+use super::line::{Named, PackageLines};
+use super::lines::{Lines, Printer};
 use mxf_catalogue::Catalogue;
 use mxf_klv::{Held, Kind, Note};
 use mxf_sets::{Identification, Package};
 use mxf_views::Target;
+use std::io::Write;
 
 /// The record of a set that a reference names.
 #[derive(Drop)]
@@ -16,6 +20,30 @@ pub enum Record<'a> {
     Identification(Identification<'a>),
     /// A package, and the kind of its set.
     Package(Kind, Package<'a>),
+}
+
+/// The lines of a record that was found, none where there is none.
+impl<'r, 'a> Lines for &'r Option<Record<'a>> {
+    ghost use Rattle.mxf_lines.specs.NamedRecords.{lines_of_record};
+    ghost use Rattle.mxf_lines.specs.Optional.{lines_where};
+
+    ghost lines = { λ r. lines_where lines_of_record r.now };
+
+    fn print_to<W: Write>(self, printer: &mut Printer, writer: &mut W) -> Result<(), PrintFault> {
+        match self {
+            Some(Record::Identification(identification)) => identification.print_to(
+                printer, writer,
+            ),
+            Some(Record::Package(kind, package)) => {
+                PackageLines {
+                    kind: *kind,
+                    package,
+                }
+                .print_to(printer, writer)
+            }
+            None => Ok(()),
+        }
+    }
 }
 
 /// What the last reference led to, with its record: read once for references in a row that name one set, however long

@@ -1,6 +1,9 @@
 //! The lines of the copies of the header metadata.
+use crate::printing::PrintFault;
+use crate::printing::lines::{Lines, Printer, Series};
 use mxf_views::CopyInfo;
 use std::fmt;
+use std::io::Write;
 
 /// An offset in bytes, or none.
 #[derive(Clone, Copy)]
@@ -62,6 +65,39 @@ impl fmt::Display for CopyLine {
     }
 }
 
+impl Lines for CopyLine {
+    ghost use Rattle.std.specs.Prelude.{[], ◌∷◌};
+    ghost use Rattle.mxf_lines.specs.Lines.{copy_line};
+
+    ghost lines = { λ l. copy_line l.0 ∷ [] };
+
+    fn print_to<W: Write>(self, printer: &mut Printer, writer: &mut W) -> Result<(), PrintFault> {
+        printer.print(writer, self)
+    }
+}
+
+/// A line for each copy.
+#[derive(Clone, Copy)]
+pub struct CopyLines<'a>(pub &'a [CopyInfo]);
+
+impl<'a> Series for CopyLines<'a> {
+    type Item = CopyLine;
+
+    ghost use Rattle.std.specs.Prelude.{[], ◌∷◌, length};
+    ghost use Rattle.std.specs.List.{flat_map};
+    ghost use Rattle.mxf_lines.specs.Lines.{copy_line};
+
+    ghost lines_left = { λ s. flat_map (λ copy. copy_line copy ∷ []) s.0.now };
+
+    ghost left = { λ s. length s.0.now };
+
+    fn next_item(&mut self) -> Option<CopyLine> {
+        let (first, left) = self.0.split_first()?;
+        self.0 = left;
+        Some(CopyLine(*first))
+    }
+}
+
 /// The line of the preferred copy: its partition.
 #[derive(Clone, Copy)]
 pub struct PreferredLine(pub Option<CopyInfo>);
@@ -81,5 +117,16 @@ impl fmt::Display for PreferredLine {
             }
             None => f.write_str("preferred none\n"),
         }
+    }
+}
+
+impl Lines for PreferredLine {
+    ghost use Rattle.std.specs.Prelude.{[], ◌∷◌};
+    ghost use Rattle.mxf_lines.specs.Lines.{preferred_line};
+
+    ghost lines = { λ l. preferred_line l.0 ∷ [] };
+
+    fn print_to<W: Write>(self, printer: &mut Printer, writer: &mut W) -> Result<(), PrintFault> {
+        printer.print(writer, self)
     }
 }

@@ -1,9 +1,12 @@
 //! The line of an item of a header metadata set.
 ghost use Rattle.std.specs.Prelude.{◌≡◌, take};
 
+use crate::printing::PrintFault;
 use crate::printing::hexadecimal::{HexDigits, LabelDigits};
+use crate::printing::lines::{Lines, Printer};
 use mxf_sets::Item;
 use std::fmt;
+use std::io::Write;
 
 /// The label of a tag, or none.
 #[derive(Clone, Copy)]
@@ -57,22 +60,22 @@ impl<'a> fmt::Display for ValueText<'a> {
 
 /// The line of an item of the set at an offset, in bytes: its tag, the length of its value, the label of the tag, and the
 /// first bytes of its value.
-#[derive(Clone, Copy)]
+#[derive(Drop)]
 pub struct ItemLine<'a> {
     pub offset: u64,
     pub label: Option<[u8; 16]>,
-    pub item: &'a Item<'a>,
+    pub item: Item<'a>,
 }
 
 impl<'a> fmt::Display for ItemLine<'a> {
     ghost use Rattle.std.specs.Prelude.{Some};
     ghost use Rattle.mxf_lines.specs.ItemLines.{item_line};
 
-    ghost output = { λ l. Some (item_line l.offset l.label l.item.now) };
+    ghost output = { λ l. Some (item_line l.offset l.label l.item) };
 
     #[tactic(auto, unfolding(crate::specs::ItemLines::item_line))]
     fn fmt<W: fmt::Write>(&self, f: &mut fmt::Formatter<W>) -> fmt::Result {
-        let item = self.item;
+        let item = &self.item;
         let offset = self.offset;
         let tag = item.tag.to_be_bytes();
         let digits = HexDigits(&tag);
@@ -80,5 +83,16 @@ impl<'a> fmt::Display for ItemLine<'a> {
         let label = LabelText(self.label);
         let value = ValueText(item.value);
         writeln!(f, "item {offset} {digits} {length} {label} {value}")
+    }
+}
+
+impl<'a> Lines for ItemLine<'a> {
+    ghost use Rattle.std.specs.Prelude.{[], ◌∷◌};
+    ghost use Rattle.mxf_lines.specs.ItemLines.{item_line};
+
+    ghost lines = { λ l. item_line l.offset l.label l.item ∷ [] };
+
+    fn print_to<W: Write>(self, printer: &mut Printer, writer: &mut W) -> Result<(), PrintFault> {
+        printer.print(writer, self)
     }
 }

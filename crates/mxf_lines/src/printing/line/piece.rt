@@ -1,6 +1,10 @@
 //! The lines of a piece and of a join.
+use crate::printing::PrintFault;
+use crate::printing::lines::{Lines, Printer, Series};
 use mxf_klv::Stop;
+use mxf_read::PieceReport;
 use std::fmt;
+use std::io::Write;
 
 /// A stop as its word, and the offset where it has one.
 #[derive(Clone, Copy)]
@@ -49,6 +53,42 @@ impl fmt::Display for PieceLine {
     }
 }
 
+impl Lines for PieceLine {
+    ghost use Rattle.std.specs.Prelude.{[], ◌∷◌};
+    ghost use Rattle.mxf_lines.specs.Lines.{piece_line};
+
+    ghost lines = { λ l. piece_line l.offset l.count l.stop ∷ [] };
+
+    fn print_to<W: Write>(self, printer: &mut Printer, writer: &mut W) -> Result<(), PrintFault> {
+        printer.print(writer, self)
+    }
+}
+
+/// A line for each piece.
+#[derive(Clone, Copy)]
+pub struct PieceLines<'a>(pub &'a [PieceReport]);
+
+impl<'a> Series for PieceLines<'a> {
+    type Item = PieceLine;
+
+    ghost use Rattle.std.specs.Prelude.{length};
+    ghost use Rattle.mxf_lines.specs.Answering.{report_lines};
+
+    ghost lines_left = { λ s. report_lines s.0.now };
+
+    ghost left = { λ s. length s.0.now };
+
+    fn next_item(&mut self) -> Option<PieceLine> {
+        let (piece, left) = self.0.split_first()?;
+        self.0 = left;
+        Some(PieceLine {
+            offset: piece.offset,
+            count: piece.report.noted,
+            stop: piece.report.stop,
+        })
+    }
+}
+
 /// The line of a join: the number of notes, and how many of them are disputed.
 #[derive(Clone, Copy)]
 pub struct JoinLine {
@@ -66,5 +106,16 @@ impl fmt::Display for JoinLine {
     fn fmt<W: fmt::Write>(&self, f: &mut fmt::Formatter<W>) -> fmt::Result {
         let JoinLine { notes, disputed } = *self;
         writeln!(f, "joined {notes} notes {disputed} disputed")
+    }
+}
+
+impl Lines for JoinLine {
+    ghost use Rattle.std.specs.Prelude.{[], ◌∷◌};
+    ghost use Rattle.mxf_lines.specs.Lines.{join_line};
+
+    ghost lines = { λ l. join_line l.notes l.disputed ∷ [] };
+
+    fn print_to<W: Write>(self, printer: &mut Printer, writer: &mut W) -> Result<(), PrintFault> {
+        printer.print(writer, self)
     }
 }

@@ -1,6 +1,9 @@
 //! The line of a reference.
+use crate::printing::PrintFault;
+use crate::printing::lines::{Lines, Printer};
 use mxf_views::{Ref, Target};
 use std::fmt;
+use std::io::Write;
 
 /// What a reference names.
 #[derive(Clone, Copy, Debug)]
@@ -67,5 +70,16 @@ impl fmt::Display for ReferenceLine {
         let Ref { uid, target } = self.reference;
         let target = TargetText(target);
         writeln!(f, "{word} {uid} {target}")
+    }
+}
+
+impl Lines for ReferenceLine {
+    ghost use Rattle.std.specs.Prelude.{[], ◌∷◌};
+    ghost use Rattle.mxf_lines.specs.ReferenceLines.{reference_line};
+
+    ghost lines = { λ l. reference_line l.named l.reference ∷ [] };
+
+    fn print_to<W: Write>(self, printer: &mut Printer, writer: &mut W) -> Result<(), PrintFault> {
+        printer.print(writer, self)
     }
 }

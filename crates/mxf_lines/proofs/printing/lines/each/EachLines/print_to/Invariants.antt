@@ -1,0 +1,11 @@
+-- What is answered of the lines to come is answered of all lines.
+use Rattle.mxf_lines.proofs.PrintLaws.{Leads}
+use Rattle.mxf_lines.proofs.printing.lines.each.EachLines.print_to.Given as goal
+
+abbrev pub invariant-loop-item : goal.invariant-loop-item
+invariant-loop-item g l =
+    Leads (g.W.Write.contents l.initial.writer) l.initial.printer.progress.written (g.S.Series.lines_left l.fn.self.0)
+    (g.W.Write.contents l.writer) l.printer.progress.written (g.S.Series.lines_left l.series)
+
+abbrev pub decreases-loop-item : goal.decreases-loop-item
+decreases-loop-item g l = g.S.Series.left l.series

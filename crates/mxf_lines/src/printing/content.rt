@@ -1,0 +1,50 @@
+//! What is known of a recording.
+use super::PrintFault;
+use super::line::{ChainLine, CopyLines, NoteLines, PartitionLines, PieceLines, PreferredLine};
+use super::lines::{Each, Lines, Printer, Then};
+use super::references::ReferenceLines;
+use super::sets::SetLines;
+use mxf_read::Gathered;
+use mxf_views::Views;
+use std::io::Write;
+
+/// A line for each piece, and what the views show.
+impl<'a> Lines for &'a Gathered {
+    ghost use Rattle.std.specs.Prelude.{◌++◌};
+    ghost use Rattle.mxf_lines.specs.Answering.{report_lines};
+    ghost use Rattle.mxf_lines.specs.Printing.{content_lines};
+
+    ghost lines = { λ g. report_lines g.now.reports ++ content_lines g.now.views };
+
+    fn print_to<W: Write>(self, printer: &mut Printer, writer: &mut W) -> Result<(), PrintFault> {
+        let pieces = Each(PieceLines(self.reports.as_slice()));
+        Then(pieces, &self.views).print_to(printer, writer)
+    }
+}
+
+/// What the views show, in this order.
+impl<'a> Lines for &'a Views {
+    ghost use Rattle.mxf_lines.specs.Printing.{content_lines};
+
+    ghost lines = { λ v. content_lines v.now };
+
+    fn print_to<W: Write>(self, printer: &mut Printer, writer: &mut W) -> Result<(), PrintFault> {
+        // Want of memory here comes before the first line.
+        let resolved = self.resolved(printer.alloc())?;
+        let catalogue = self.catalogue();
+        let references = ReferenceLines {
+            catalogue,
+            resolved: &resolved,
+        };
+        let index = Then(Each(self.segments()), self.rip());
+        let metadata = Then(SetLines(self), Then(references, index));
+        let copies = Then(PreferredLine(self.preferred()), metadata);
+        let chain = Then(
+            ChainLine(self.chain()),
+            Then(Each(CopyLines(self.copies())), copies),
+        );
+        let partitions = Then(Each(PartitionLines::of(self)), chain);
+        let notes = Each(NoteLines::of(catalogue));
+        Then(notes, Then(Each(self.gaps()), partitions)).print_to(printer, writer)
+    }
+}

@@ -1,0 +1,40 @@
+//! What is printed as lines.
+ghost use Rattle.std.specs.Prelude.{ℕ, List};
+ghost use Rattle.mxf_klv.specs.Written.{Puts};
+ghost use Rattle.mxf_lines.specs.Printing.{Gives, Prints};
+
+mod each;
+mod printer;
+mod then;
+
+use super::PrintFault;
+pub use each::Each;
+pub use printer::Printer;
+use std::io::Write;
+pub use then::Then;
+
+/// What is printed as lines.
+pub trait Lines {
+    // The lines.
+    ghost lines: { Self → List (List ℕ) };
+
+    /// Prints the lines. After want of memory some whole lines have been written, and not all.
+    fn print_to<W: Write>(self, printer: &mut Printer, writer: &mut W) -> Result<(), PrintFault>
+        ensures { Prints (Puts W.contents writer.old writer.new printer.old.progress printer.new.progress) result
+            (lines self) };
+}
+
+/// Items that come one by one, each of which is printed as lines.
+pub trait Series {
+    type Item: Lines + Drop;
+
+    // The lines of the items that are left.
+    ghost lines_left: { Self → List (List ℕ) };
+
+    // How many items are left.
+    ghost left: { Self → ℕ };
+
+    /// The next item.
+    fn next_item(&mut self) -> Option<Self::Item>
+        ensures { Gives left lines_left Self.Item.lines self.old self.new result };
+}
