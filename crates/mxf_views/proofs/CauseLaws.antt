@@ -20,6 +20,7 @@ use Rattle.mxf_catalogue.specs.Content.{IsContent}
 use Rattle.mxf_catalogue.specs.Disputes.{DisputedParts, IsClear, IsDisputedOf, Overlaps, SharesOffset, clear_notes}
 use Rattle.mxf_catalogue.specs.Disputes.{disputed_notes, disputed_parts}
 use Rattle.mxf_catalogue.proofs.DisputeLaws.{In-clear_notes, In-disputed_notes, IsDisputed-two_ways}
+use Rattle.mxf_catalogue.proofs.DisputeLaws.{not-true-false, not_true}
 use Rattle.mxf_catalogue.proofs.DisputeLaws.{is_offset_shared-SharesOffset, is_overlapped-Overlaps}
 use Rattle.mxf_catalogue.proofs.Lists.{In-map, list_any-In}
 use Rattle.mxf_views.specs.declared.chain.Link.TheVariants as links
@@ -38,14 +39,6 @@ use Rattle.mxf_views.proofs.PartitionLaws.{link_iff}
 use Rattle.mxf_views.proofs.ReadingLaws.{is_some_readable}
 
 -- ---- tests
-
-pub not_if : (b : Bool) → (b ≡ true → ⊥) → not b ≡ true
-not_if true h = absurd (h refl)
-not_if false h = refl
-
-pub if_not : (b : Bool) → not b ≡ true → b ≡ true → ⊥
-if_not true h k = cc
-if_not false h k = cc
 
 pub one_of : (a b : Bool) → (a || b) ≡ true → (a ≡ true) ⊎ (b ≡ true)
 one_of true b h = inl refl
@@ -198,12 +191,12 @@ unreadable_pack n =
       λ h. (
         kind_says (kind_of n.key) (elim told as (λ b. told ≡ b → told ≡ true) [
           | true ↦ λ t. t
-          | false ↦ λ t. absurd (if_not (not told || there) h (ap (λ b. not b || there) t))
+          | false ↦ λ t. absurd (not-true-false (not told || there) h (ap (λ b. not b || there) t))
         ] refl),
-        λ s. if_not (not told || there) h (either (not told) there (inr (e ∙ r.1 s))),
+        λ s. not-true-false (not told || there) h (either (not told) there (inr (e ∙ r.1 s))),
       ),
-      λ s. not_if (not told || there) (λ t. elim (one_of (not told) there t) [
-        | inl u ↦ if_not told u (kind_tells (kind_of n.key) s.0)
+      λ s. not_true (not told || there) (λ t. elim (one_of (not told) there t) [
+        | inl u ↦ not-true-false told u (kind_tells (kind_of n.key) s.0)
         | inr u ↦ s.1 (r.0 (sym e ∙ u))
       ]),
     )
@@ -238,7 +231,7 @@ at_partition p P notes o each =
     )
 
 pub not_equal : (a b : ℕ) → (not (a == b) ≡ true) ↔ (a ≢ b)
-not_equal a b = (λ h e. if_not (a == b) h (eq-eqb a b e), λ h. not_if (a == b) (λ t. h (eqb-true a b t)))
+not_equal a b = (λ h e. not-true-false (a == b) h (eq-eqb a b e), λ h. not_true (a == b) (λ t. h (eqb-true a b t)))
 
 unlinked : (ps : List PartitionParts) (p : PartitionParts) → (is_unfit (link_of ps p) ≡ true) ↔ IsUnlinked ps p
 unlinked ps p = (
@@ -286,10 +279,10 @@ footer_lacks ps p =
           let s = parts (not (at == 0)) (not (footer_stands_at at ps)) h in
           record {
             named = zero.0 s.0;
-            none = λ q k f e. if_not (footer_stands_at at ps) s.1
+            none = λ q k f e. not-true-false (footer_stands_at at ps) s.1
                 (there.1 (q, k, both (is_footer q.pack.part) (q.offset == at) (ap is_footer f) (eq-eqb q.offset at e)));
           },
-      λ l. both (not (at == 0)) (not (footer_stands_at at ps)) (zero.1 l.named) (not_if (footer_stands_at at ps) (λ t.
+      λ l. both (not (at == 0)) (not (footer_stands_at at ps)) (zero.1 l.named) (not_true (footer_stands_at at ps) (λ t.
           let s = there.0 t in
           let b = parts (is_footer s.0.pack.part) (s.0.offset == at) s.2 in
           l.none s.0 s.1 (footer_says s.0.pack.part b.0) (eqb-true s.0.offset at b.1))),

@@ -14,7 +14,8 @@ use Rattle.mxf_views.specs.Partitions.{PartitionParts}
 use Rattle.mxf_views.specs.Copies.{IsStart, copy_from, copy_of, is_fill_note, is_preface_note}
 use Rattle.mxf_views.specs.Copies.{is_readable_primer, start_of, zone_of}
 use Rattle.mxf_views.specs.Spans.{sizes}
-use Rattle.mxf_views.proofs.StartLaws.{fill_note, parts, primer_note, start_is}
+use Rattle.mxf_views.proofs.Members.{parts}
+use Rattle.mxf_views.proofs.StartLaws.{fill_note, primer_note, start_is}
 use Rattle.mxf_views.proofs.ClearChanges.{IsNew, clear_after}
 use Rattle.mxf_views.proofs.StartWalk.{none_there}
 

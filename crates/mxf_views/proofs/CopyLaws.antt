@@ -1,5 +1,5 @@
 -- Copies of the header metadata and their sets.
-use Rattle.std.proofs.Common.{◌≡◌, ℕ, suc, ◌+◌, ◌<◌, ◌≤◌, Bool, true, false, cond, List, [], ◌∷◌, Option, Some, None}
+use Rattle.std.proofs.Common.{◌≡◌, ℕ, suc, ◌+◌, ◌<◌, ◌≤◌, true, false, cond, List, [], ◌∷◌, Option, Some, None}
 use Rattle.std.proofs.Common.{length, inl, inr, refl, sym, ap, subst, ◌∙◌, arith, eqb-true, eq-eqb, leb-true, le-leb}
 use Rattle.std.specs.Prelude.{◌↔◌, ◌==◌, nat_le, IsTrue, count_by, filter, find, map}
 use Rattle.std.specs.List.{range_with_len, AllByRecursion}
@@ -12,7 +12,7 @@ use Rattle.mxf_klv.specs.declared.kinds.Kind.TheVariants as kinds
 use Rattle.mxf_klv.specs.Rising.{In}
 use Rattle.mxf_catalogue.specs.Content.{IsContent}
 use Rattle.mxf_catalogue.specs.Disputes.{AreApart, IsClear, clear_notes}
-use Rattle.mxf_catalogue.proofs.DisputeLaws.{In-clear_notes}
+use Rattle.mxf_catalogue.proofs.DisputeLaws.{In-clear_notes, same_bool}
 use Rattle.mxf_catalogue.proofs.SpanLaws.{AreApart-clear_notes, AreApart-filter}
 use Rattle.mxf_catalogue.proofs.Lists.{In-filter, In-map, found-In, none_found}
 use Rattle.mxf_views.specs.declared.copy.CopyInfo.{CopyInfo}
@@ -80,7 +80,7 @@ prefaces_are notes start bytes r =
       number = length-filter is_preface_note zone;
     }
 
-apart_above : (low : ℕ) (ns : List NoteParts) (n : NoteParts) → AreApart low ns → In n ns → low ≤ n.offset
+pub apart_above : (low : ℕ) (ns : List NoteParts) (n : NoteParts) → AreApart low ns → In n ns → low ≤ n.offset
 apart_above low [] n a h = absurd h
 apart_above low (x ∷ ns) n a (inl e) =
     let l : low ≤ x.offset = a.0 in
@@ -178,11 +178,6 @@ one_start_found notes end None (Some t) a b = absurd (a t b)
 one_start_found notes end (Some s) None a b = absurd (b s a)
 one_start_found notes end (Some s) (Some t) a b = ap (λ (x : ℕ). Some x) (one_start notes end s t a b)
 
-same_if : (a b : Bool) → (IsTrue a → IsTrue b) → (IsTrue b → IsTrue a) → a ≡ b
-same_if true b f g = sym (f refl)
-same_if false true f g = g refl
-same_if false false f g = refl
-
 -- the counts are by the start and the bytes
 abbrev Counted : List NoteParts → ℕ → Option ℕ → ℕ → ℕ → Type 0
 Counted notes bytes None covered prefaces = (covered ≡ 0) × (prefaces ≡ 0)
@@ -214,7 +209,7 @@ one_copy notes p c d a b =
     (subst (λ (k : ℕ). Counted notes k d.start d.covered d.prefaces) (sym bytes)
     (counted notes d d.start b.counts)) in
     let counts = one_counted notes c.bytes c.start c.covered d.covered c.prefaces d.prefaces m n in
-    let finished : c.finished ≡ d.finished = same_if c.finished d.finished
+    let finished : c.finished ≡ d.finished = same_bool c.finished d.finished
     (λ t. b.finished.1 (sym counts.0 ∙ a.finished.0 t ∙ bytes))
     (λ t. a.finished.1 (counts.0 ∙ b.finished.0 t ∙ sym bytes)) in
     λ i. record { partition = partition i; start = start i; bytes = bytes i; covered = counts.0 i; finished = finished i; prefaces = counts.1 i; status = status i }

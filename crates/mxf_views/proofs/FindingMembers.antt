@@ -1,33 +1,22 @@
 -- Which findings there are: those of each code, and no others.
-use Rattle.std.proofs.Common.{◌≡◌, ℕ, ◌⊎◌, Bool, List, [], ◌∷◌, ◌++◌, refl, sym, subst, inl, inr}
+use Rattle.std.proofs.Common.{◌≡◌, ℕ, zero, suc, ◌-◌, ◌⊎◌, Bool, List, [], ◌∷◌, refl, sym, subst, get_or, inl, inr}
 use Rattle.std.specs.Prelude.{◌↔◌, IsTrue, flat_map, filter, map}
 use Rattle.mxf_klv.specs.Parts.{NoteParts}
 use Rattle.mxf_klv.specs.Rising.{In, IsRising, IsRising-union, In-union}
+use Rattle.mxf_catalogue.proofs.Fronts.{In-append}
 use Rattle.mxf_catalogue.proofs.Lists.{In-filter, In-map}
 use Rattle.mxf_views.specs.declared.finding.Code.{Code}
-use Rattle.mxf_views.specs.declared.finding.Code.TheVariants.{F01, F02, F03, F04, F05, F06, F07}
-use Rattle.mxf_views.specs.declared.finding.Code.TheVariants.{F08, F09, F10, F11, F12, F13, F14}
+use Rattle.mxf_views.specs.declared.finding.Code.TheVariants.{F01}
 use Rattle.mxf_views.specs.declared.finding.Finding.{Finding}
-use Rattle.mxf_views.specs.Codes.{all_codes, finding, finding_cmp, finding_cmp-IsAntisymmetric, finding_total}
+use Rattle.mxf_views.specs.Codes.{all_codes, code_number, finding, finding_cmp, finding_cmp-IsAntisymmetric, finding_total, numbered_back}
 use Rattle.mxf_views.specs.Findings.{findings_for, findings_of, offsets_for}
-
-pub In-append : {K : Type 0} (xs ys : List K) (x : K) → In x (xs ++ ys) ↔ (In x xs ⊎ In x ys)
-In-append [] ys x = (inr, λ h. elim h [ inl k ↦ absurd k | inr k ↦ k ])
-In-append (z ∷ xs) ys x =
-    let ih = In-append xs ys x in (
-      λ h. elim h [ inl q ↦ inl (inl q) | inr k ↦ elim (ih.0 k) [ inl m ↦ inl (inr m) | inr m ↦ inr m ] ],
-      λ h. elim h [
-        | inl k ↦ elim k [ inl q ↦ inl q | inr m ↦ inr (ih.1 (inl m)) ]
-        | inr k ↦ inr (ih.1 (inr k))
-      ],
-    )
 
 In-flat_map : {K L : Type 0} (f : K → List L) (xs : List K) (y : L)
     → In y (flat_map f xs) ↔ ((x : K) × In x xs × In y (f x))
 In-flat_map f [] y = (λ h. absurd h, λ s. absurd s.1)
 In-flat_map f (x ∷ xs) y =
     let ih = In-flat_map f xs y in
-    let a = In-append (f x) (flat_map f xs) y in (
+    let a = In-append y (f x) (flat_map f xs) in (
       λ h. elim (a.0 h) [ inl k ↦ (x, inl refl, k) | inr k ↦ let s = ih.0 k in (s.0, inr s.1, s.2) ],
       λ s. elim s.1 [
         | inl q ↦ a.1 (inl (subst (λ z. In y (f z)) q s.2))
@@ -44,21 +33,17 @@ In-chosen f p xs o =
       λ s. m.1 (s.0, (In-filter p xs s.0).1 (s.1, s.2), sym s.3),
     )
 
+-- What a place of a list answers stands in it, or is what is answered else.
+at_place : {K : Type 0} (xs : List K) (i : ℕ) (d : K) → (get_or xs i d ≡ d) ⊎ In (get_or xs i d) xs
+at_place [] i d = inl refl
+at_place (x ∷ xs) zero d = inr (inl refl)
+at_place (x ∷ xs) (suc i) d = elim (at_place xs i d) [ inl e ↦ inl e | inr h ↦ inr (inr h) ]
+
+-- Each code stands at the place of its number.
 held : (code : Code) → In code all_codes
-held F01 = inl refl
-held F02 = inr (inl refl)
-held F03 = inr (inr (inl refl))
-held F04 = inr (inr (inr (inl refl)))
-held F05 = inr (inr (inr (inr (inl refl))))
-held F06 = inr (inr (inr (inr (inr (inl refl)))))
-held F07 = inr (inr (inr (inr (inr (inr (inl refl))))))
-held F08 = inr (inr (inr (inr (inr (inr (inr (inl refl)))))))
-held F09 = inr (inr (inr (inr (inr (inr (inr (inr (inl refl))))))))
-held F10 = inr (inr (inr (inr (inr (inr (inr (inr (inr (inl refl)))))))))
-held F11 = inr (inr (inr (inr (inr (inr (inr (inr (inr (inr (inl refl))))))))))
-held F12 = inr (inr (inr (inr (inr (inr (inr (inr (inr (inr (inr (inl refl)))))))))))
-held F13 = inr (inr (inr (inr (inr (inr (inr (inr (inr (inr (inr (inr (inl refl))))))))))))
-held F14 = inr (inr (inr (inr (inr (inr (inr (inr (inr (inr (inr (inr (inr (inl refl)))))))))))))
+held code =
+    subst (λ c. In c all_codes) (numbered_back code)
+    (elim (at_place all_codes (code_number code - 1) F01) [ inl e ↦ inl e | inr h ↦ h ])
 
 -- The findings are those offsets that are found of their code.
 pub findings_are : (notes : List NoteParts) (f : Finding)

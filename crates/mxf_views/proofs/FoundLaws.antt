@@ -60,7 +60,7 @@ picks sets uid n = let f = In-filter (has_uid uid) sets n in (
   λ s. f.1 (s.0, (has_uid_iff uid n).1 s.1),
 )
 
-later_differs : (m n : NoteParts) (ws : List NoteParts) → AreApart 0 (m ∷ n ∷ ws) → m ≢ n
+pub later_differs : (m n : NoteParts) (ws : List NoteParts) → AreApart 0 (m ∷ n ∷ ws) → m ≢ n
 later_differs m n ws a e =
     let l : end_of m ≤ n.offset = a.1.0 in
     let o : m.offset ≡ n.offset = ap (λ (x : NoteParts). x.offset) e in

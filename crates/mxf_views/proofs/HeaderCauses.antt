@@ -17,6 +17,8 @@ use Rattle.mxf_sets.specs.Package.{package_at}
 use Rattle.mxf_sets.specs.Segment.{segment_at}
 use Rattle.mxf_catalogue.specs.Content.{IsContent}
 use Rattle.mxf_catalogue.specs.Disputes.{clear_notes}
+use Rattle.mxf_catalogue.proofs.DisputeLaws.{not-true-false, not_true}
+use Rattle.mxf_catalogue.proofs.Fronts.{In-append}
 use Rattle.mxf_views.specs.declared.copy.CopyInfo.{CopyInfo}
 use Rattle.mxf_views.specs.declared.reference.target.Ref.{Ref}
 use Rattle.mxf_views.specs.declared.reference.target.Target.{Target}
@@ -30,10 +32,10 @@ use Rattle.mxf_views.specs.Findings.{reads_value}
 use Rattle.mxf_views.specs.Places.{is_segment}
 use Rattle.mxf_views.specs.FindingCauses.{AtClear, Holds, HoldsLost, IsMetadataKind, IsReadableSet}
 use Rattle.mxf_views.specs.Readings.{IsReadable}
-use Rattle.mxf_views.proofs.CauseLaws.{at_clear, either, if_not, not_if, one_of}
+use Rattle.mxf_views.proofs.CauseLaws.{at_clear, either, one_of}
 use Rattle.mxf_views.proofs.CopyLaws.{copies_are}
 use Rattle.mxf_views.proofs.KindLaws.{primer_kind, segment_kind, set_kind}
-use Rattle.mxf_views.proofs.FindingMembers.{In-append, In-chosen}
+use Rattle.mxf_views.proofs.FindingMembers.{In-chosen}
 use Rattle.mxf_views.proofs.Members.{both, false_if, parts}
 use Rattle.mxf_views.proofs.ReadingLaws.{ok_readable}
 use Rattle.mxf_views.proofs.ResolvedLaws.{resolved_iff}
@@ -48,7 +50,7 @@ partial_is : (c : CopyInfo) → (is_partial c ≡ true) ↔ ((c.start ≡ None) 
 partial_is c = (
   λ h. elim (one_of (is_none c.start) (not c.finished) h) [
     | inl t ↦ inl (none_says c.start t)
-    | inr t ↦ inr (false_if c.finished (if_not c.finished t))
+    | inr t ↦ inr (false_if c.finished (not-true-false c.finished t))
   ],
   λ s. either (is_none c.start) (not c.finished) (elim s [
     | inl e ↦ inl (ap (λ (o : Option ℕ). is_none o) e)
@@ -128,10 +130,10 @@ unreadable_set n =
     let read = keeps_value n && reads_value kind n.held in (
       λ h.
           let s = parts some (not read) h in
-          ((metadata_kind kind).0 s.0, λ k. if_not read s.1 ((set_readable kind n s.0).1 k)),
+          ((metadata_kind kind).0 s.0, λ k. not-true-false read s.1 ((set_readable kind n s.0).1 k)),
       λ s.
           let t = (metadata_kind kind).1 s.0 in
-          both some (not read) t (not_if read (λ r. s.1 ((set_readable kind n t).0 r))),
+          both some (not read) t (not_true read (λ r. s.1 ((set_readable kind n t).0 r))),
     )
 
 pub unreadable_sets : (notes : List NoteParts) (o : ℕ)
@@ -155,8 +157,8 @@ unreadable_segment n =
       λ h.
           let s = parts (is_segment kind) (not read) h in
           let e = (segment_kind kind).0 s.0 in
-          (e, λ k. if_not read s.1 (same e ∙ r.1 k)),
-      λ s. both (is_segment kind) (not read) (ap is_segment s.0) (not_if read (λ t. s.1 (r.0 (sym (same s.0) ∙ t)))),
+          (e, λ k. not-true-false read s.1 (same e ∙ r.1 k)),
+      λ s. both (is_segment kind) (not read) (ap is_segment s.0) (not_true read (λ t. s.1 (r.0 (sym (same s.0) ∙ t)))),
     )
 
 pub unreadable_segments : (notes : List NoteParts) (o : ℕ)
@@ -170,8 +172,8 @@ unreadable_segments notes o =
 
 lost_says : (t : Target) → (not (is_found t) ≡ true) ↔ ((found : ℕ) → t ≢ Found found)
 lost_says t = (
-  λ h found e. if_not (is_found t) h (ap is_found e),
-  λ f. not_if (is_found t) (λ q. elim t as (λ x. t ≡ x → is_found x ≡ true → ⊥) [
+  λ h found e. not-true-false (is_found t) h (ap is_found e),
+  λ f. not_true (is_found t) (λ q. elim t as (λ x. t ≡ x → is_found x ≡ true → ⊥) [
     | Found found ↦ λ e _. f found e
     | Missing ↦ λ _ u. cc
     | Several ↦ λ _ u. cc
@@ -227,7 +229,7 @@ LosesAt r o = (ref : Ref) × Holds r o ref × ((found : ℕ) → ref.target ≢ 
 In-lost_by : (r : ResolvedParts) (o : ℕ) → In o (lost_by r) ↔ LosesAt r o
 In-lost_by r o =
     let names = lost_at r.preface r.identifications in
-    let a = In-append names (lost_beside r.preface r.storage r.packages) o in
+    let a = In-append o names (lost_beside r.preface r.storage r.packages) in
     let m = In-lost_at r.preface r.identifications o in (
       λ h. elim (a.0 h) [
         | inl k ↦ let s = m.0 k in (s.1.0, inl (sym s.0, inr s.1.1), s.1.2)

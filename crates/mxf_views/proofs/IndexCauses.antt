@@ -13,7 +13,7 @@ use Rattle.mxf_sets.specs.RandomIndexPack.{RipParts}
 use Rattle.mxf_sets.specs.PackReadings.{rip_at}
 use Rattle.mxf_catalogue.specs.Content.{IsContent}
 use Rattle.mxf_catalogue.specs.Disputes.{IsClear, clear_notes}
-use Rattle.mxf_catalogue.proofs.DisputeLaws.{In-clear_notes, clear-alone}
+use Rattle.mxf_catalogue.proofs.DisputeLaws.{In-clear_notes, clear-alone, not-true-false, not_true}
 use Rattle.mxf_catalogue.proofs.Lists.{list_any-In}
 use Rattle.mxf_views.specs.declared.chain.Chain.{Chain}
 use Rattle.mxf_views.specs.declared.chain.Chain.TheVariants.{Whole, Broken}
@@ -23,7 +23,7 @@ use Rattle.mxf_views.specs.Findings.{is_unfit_rip}
 use Rattle.mxf_views.specs.RandomIndex.{is_rip_note, rip_in}
 use Rattle.mxf_views.specs.FindingCauses.{AtClear, HasOther, IsNotLast, ListsOthers, entry_of}
 use Rattle.mxf_views.specs.Readings.{IsReadable, IsReadAs}
-use Rattle.mxf_views.proofs.CauseLaws.{at_clear, either, if_not, not_equal, not_if, one_of}
+use Rattle.mxf_views.proofs.CauseLaws.{at_clear, either, not_equal, one_of}
 use Rattle.mxf_views.proofs.ReadingLaws.{reads}
 use Rattle.mxf_views.proofs.ChainLaws.{chain_iff}
 use Rattle.mxf_views.proofs.Members.{both, parts}
@@ -115,7 +115,7 @@ lists_not notes n h =
       | None ↦ λ e. inl (λ s. let k = (reads (rip_at n.width) n s.0).1 s.1 in cc (k, e))
       | Some rip ↦ λ e.
           let r = (reads (rip_at n.width) n rip).0 e in
-          inr (inr (inr (rip, r, λ same. if_not (is_index_of ps (rip_in n)) h (a.1 (rip, r, same)))))
+          inr (inr (inr (rip, r, λ same. not-true-false (is_index_of ps (rip_in n)) h (a.1 (rip, r, same)))))
     ] refl
 
 unfit_says : (notes : List NoteParts) (n : NoteParts) → IsClear n notes → (is_unfit_rip notes n ≡ true)
@@ -139,12 +139,12 @@ unfit_says notes n clear =
           ),
       λ s. both (is_rip_note n) (other || above || not all) ((rip_note_says n).1 s.0)
           (either (other || above) (not all) (elim s.1 [
-            | inl u ↦ inr (not_if all (λ t. let k = a.0 t in u (k.0, k.1)))
+            | inl u ↦ inr (not_true all (λ t. let k = a.0 t in u (k.0, k.1)))
             | inr v ↦ elim v [
               | inl u ↦ inl (either other above (inl ((other_says notes n clear).1 u)))
               | inr w ↦ elim w [
                 | inl u ↦ inl (either other above (inr ((not_last_says notes n).1 u)))
-                | inr u ↦ inr (not_if all (λ t.
+                | inr u ↦ inr (not_true all (λ t.
                     let k = a.0 t in
                     let x = (reads (rip_at n.width) n k.0).1 k.1 in
                     let y = (reads (rip_at n.width) n u.0).1 u.1 in

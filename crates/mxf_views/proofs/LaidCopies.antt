@@ -24,13 +24,10 @@ use Rattle.mxf_views.specs.WellFormed.{is_readable_as, total_of}
 use Rattle.mxf_views.specs.WholeFile.{HasCopiesOf}
 use Rattle.mxf_views.proofs.Laid.{LastFrom, clear-laid, covered-laid, last_all, last_next, last_past}
 use Rattle.mxf_views.proofs.Laid.{partitions_of-laid, primer-note, zone-laid}
+use Rattle.mxf_views.proofs.LaidPartitions.{all-right}
 use Rattle.mxf_views.proofs.PreferredRead.{preferred-rising, rise-read}
 
 -- What holds of each packet holds of each of the last.
-all-right : (P : PacketParts → Type 0) (xs ys : List PacketParts) → AllByRecursion P (xs ++ ys) → AllByRecursion P ys
-all-right P [] ys a = a
-all-right P (x ∷ xs) ys a = all-right P xs ys a.1
-
 -- ---- the reading
 
 -- Fills are passed over.

@@ -186,7 +186,7 @@ read-none at (p ∷ ps) a =
       | Some pack ↦ λ e. absurd (a.0 (pack.part, pack.status, kind_of_packet p pack e))
     ] refl
 
-all-right : (P : PacketParts → Type 0) (xs ys : List PacketParts) → AllByRecursion P (xs ++ ys) → AllByRecursion P ys
+pub all-right : (P : PacketParts → Type 0) (xs ys : List PacketParts) → AllByRecursion P (xs ++ ys) → AllByRecursion P ys
 all-right P [] ys a = a
 all-right P (x ∷ xs) ys a = all-right P xs ys a.1
 

@@ -23,6 +23,7 @@ use Rattle.mxf_views.specs.Sums.{AreInRange, AreMarks, IsCut, IsMark}
 use Rattle.mxf_views.proofs.Members.{both, count_by-cons, false_if, parts, tally}
 use Rattle.mxf_views.proofs.SpanCounts.{count-le, zone-count}
 use Rattle.mxf_views.proofs.SumLaws.{zone_above}
+use Rattle.mxf_views.proofs.CopyLaws.{apart_above}
 
 -- ---- a range, cut in two
 
@@ -116,24 +117,15 @@ prefaces_fit start bytes ns =
 
 -- ---- no note lies across the offset of another
 
-above_low : (low : ℕ) (ns : List NoteParts) (n : NoteParts) → AreApart low ns → In n ns → low ≤ n.offset
-above_low low [] n a h = absurd h
-above_low low (m ∷ ns) n a (inl e) =
-    let l : low ≤ m.offset = a.0 in
-    let s : n.offset ≡ m.offset = ap (λ (x : NoteParts). x.offset) e in omega (arith, l, s)
-above_low low (m ∷ ns) n a (inr h) =
-    let l : low ≤ m.offset = a.0 in
-    let g : end_of m ≤ n.offset = above_low (end_of m) ns n a.1 h in omega (arith, l, g)
-
 above_first : (low : ℕ) (y n : NoteParts) (ys rest : List NoteParts) → AreApart low (y ∷ (ys ++ n ∷ rest))
     → end_of y ≤ n.offset
 above_first low y n ys rest a =
-    above_low (end_of y) (ys ++ n ∷ rest) n a.1 ((In-append n ys (n ∷ rest)).1 (inr (inl refl)))
+    apart_above (end_of y) (ys ++ n ∷ rest) n a.1 ((In-append n ys (n ∷ rest)).1 (inr (inl refl)))
 
 rest_above : (low : ℕ) (before rest : List NoteParts) (n x : NoteParts) → AreApart low (before ++ n ∷ rest) → In x rest
     → n.offset ≤ x.offset
 rest_above low [] rest n x a h =
-    let g : end_of n ≤ x.offset = above_low (end_of n) rest x a.1 h in omega (arith, g)
+    let g : end_of n ≤ x.offset = apart_above (end_of n) rest x a.1 h in omega (arith, g)
 rest_above low (y ∷ ys) rest n x a h = rest_above (end_of y) ys rest n x a.1 h
 
 cut_there : (low : ℕ) (before rest : List NoteParts) (n x : NoteParts) → AreApart low (before ++ n ∷ rest)

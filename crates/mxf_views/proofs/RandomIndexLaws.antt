@@ -1,9 +1,8 @@
 -- The random index pack, and how its entries stand to the partitions.
-use Rattle.std.proofs.Common.{◌≡◌, ◌≢◌, ℕ, ◌≤◌, Bool, true, false, cond, List, [], ◌∷◌, Some, None}
-use Rattle.std.proofs.Common.{refl, sym, ap, subst, ◌∙◌, inl, inr, arith, eqb-true, eq-eqb}
+use Rattle.std.proofs.Common.{◌≡◌, ℕ, Bool, true, false, cond, List, [], ◌∷◌, Some, None}
+use Rattle.std.proofs.Common.{refl, sym, ap, subst, ◌∙◌, inl, inr, eqb-true, eq-eqb}
 use Rattle.std.specs.Prelude.{◌↔◌, ◌==◌, find}
 use Rattle.mxf_klv.specs.Parts.{NoteParts}
-use Rattle.mxf_klv.specs.Note.{end_of}
 use Rattle.mxf_klv.specs.Kind.{kind_of}
 use Rattle.mxf_klv.specs.Rising.{In}
 use Rattle.mxf_sets.specs.declared.pack.random_index.RipEntry.{RipEntry}
@@ -21,6 +20,7 @@ use Rattle.mxf_views.specs.declared.random_index.Standing.{Standing}
 use Rattle.mxf_views.specs.declared.random_index.Standing.TheVariants.{Held, Differs, Missing}
 use Rattle.mxf_views.specs.declared.random_index.RipView.{RipView}
 use Rattle.mxf_views.specs.declared.random_index.RipView.TheVariants.{Absent, Several, Unreadable, One}
+use Rattle.mxf_views.proofs.FoundLaws.{later_differs}
 use Rattle.mxf_views.proofs.KindLaws.{rip_kind}
 use Rattle.mxf_views.proofs.Members.{false_if}
 use Rattle.mxf_views.proofs.PartitionLaws.{one_there, partitions_rise}
@@ -92,12 +92,6 @@ picks notes n =
 rips_apart : (notes : List NoteParts) → IsContent notes → AreApart 0 (rips_of notes)
 unfolding rips_of
 rips_apart notes r = AreApart-filter is_rip_note 0 (clear_notes notes) (AreApart-clear_notes notes r)
-
-later_differs : (m n : NoteParts) (rips : List NoteParts) → AreApart 0 (m ∷ n ∷ rips) → m ≢ n
-later_differs m n rips a e =
-    let l : end_of m ≤ n.offset = a.1.0 in
-    let o : m.offset ≡ n.offset = ap (λ (x : NoteParts). x.offset) e in
-    omega (arith, l, o)
 
 -- ---- what is known of them
 

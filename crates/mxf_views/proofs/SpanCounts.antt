@@ -1,5 +1,5 @@
 -- Of packets that share no byte, the bytes that they take are the offsets that lie in one of them.
-use Rattle.std.specs.Prelude.{◌≡◌, ◌≢◌, ℕ, zero, suc, ◌+◌, ◌-◌, ◌<◌, ◌≤◌, Bool, true, false, cond, ◌&&◌, nat_le}
+use Rattle.std.specs.Prelude.{◌≡◌, ◌≢◌, ℕ, zero, suc, ◌+◌, ◌-◌, ◌<◌, ◌≤◌, Bool, true, false, cond, nat_le}
 use Rattle.std.specs.Prelude.{nat_lt, ◌==◌, List, [], ◌∷◌, count_by, filter, refl}
 use Rattle.std.specs.List.{range_with_len}
 use Rattle.std.proofs.Common.{sym, ◌∙◌, ap, subst, inl, inr, arith, leb-true, le-leb, eqb-true}
@@ -11,6 +11,7 @@ use Rattle.mxf_catalogue.specs.Disputes.{AreApart}
 use Rattle.mxf_catalogue.proofs.SpanLaws.{AreApart-filter, AreApart-lower}
 use Rattle.mxf_views.specs.Spans.{size_of, sizes, is_in_span, is_in_one, AllEndBy}
 use Rattle.mxf_catalogue.specs.Disputes.{lies_in}
+use Rattle.mxf_views.proofs.Members.{false_if, parts}
 
 -- ---- counting offsets of a range
 
@@ -99,26 +100,18 @@ count-full p a (suc m) e o l r =
 
 -- ---- packets that share no byte
 
-and_parts : (a b : Bool) → (a && b) ≡ true → (a ≡ true) × (b ≡ true)
-and_parts true b h = (refl, h)
-and_parts false b h = cc
-
-is_false : (b : Bool) → (b ≡ true → ⊥) → b ≡ false
-is_false true h = absurd (h refl)
-is_false false h = refl
-
 pub in_span : (o : ℕ) (n : NoteParts) → n.offset ≤ o → o < end_of n → is_in_span o n ≡ true
 in_span o n l r = rw (le-leb n.offset o l) (lt-ltb o (end_of n) r)
 
 pub in_span-says : (o : ℕ) (n : NoteParts) → is_in_span o n ≡ true → (n.offset ≤ o) × (o < end_of n)
-in_span-says o n h = let p = and_parts (nat_le n.offset o) (nat_lt o (end_of n)) h in
+in_span-says o n h = let p = parts (nat_le n.offset o) (nat_lt o (end_of n)) h in
     (leb-true n.offset o p.0, ltb-true o (end_of n) p.1)
 
 pub in_none-below : (o low : ℕ) (notes : List NoteParts) → AreApart low notes → o < low → is_in_one notes o ≡ false
 in_none-below o low [] a l = refl
 in_none-below o low (n ∷ notes) a l =
     let start : low ≤ n.offset = a.0 in
-    let here : is_in_span o n ≡ false = is_false (is_in_span o n)
+    let here : is_in_span o n ≡ false = false_if (is_in_span o n)
     (λ t. let s : n.offset ≤ o = (in_span-says o n t).0 in absurd (omega arith)) in
     let e : n.offset ≤ end_of n = omega arith in
     rw here (in_none-below o (end_of n) notes a.1 (omega arith))
@@ -146,7 +139,7 @@ sizes-count (n ∷ notes) low len a e =
     (λ o l r. let t = in_span o n l (omega arith) in rw t refl) in
     let z3 : count_by p (range_with_len (end_of n) after) ≡ count_by (is_in_one notes)
     (range_with_len (end_of n) after) = count-same p (is_in_one notes) (end_of n) after
-    (λ o l r. let f : is_in_span o n ≡ false = is_false (is_in_span o n)
+    (λ o l r. let f : is_in_span o n ≡ false = false_if (is_in_span o n)
     (λ t. let s : o < end_of n = (in_span-says o n t).1 in absurd (omega arith)) in rw f refl) in
     let at3 : end_of n + after ≡ low + len = omega arith in
     let ih : sizes notes ≡ count_by (is_in_one notes) (range_with_len (end_of n) after) = sizes-count notes
@@ -167,7 +160,7 @@ AllEndBy-zone start len (n ∷ notes) =
     let ih = AllEndBy-zone start len notes in
     elim (lies_in start len n) as (λ b. lies_in start len n ≡ b
     → AllEndBy (start + len) (cond b (n ∷ filter (lies_in start len) notes) (filter (lies_in start len) notes))) [
-      | true ↦ λ t. let p = and_parts (nat_le start n.offset) (nat_le (end_of n) (start + len)) t in
+      | true ↦ λ t. let p = parts (nat_le start n.offset) (nat_le (end_of n) (start + len)) t in
           (leb-true (end_of n) (start + len) p.1, ih)
       | false ↦ λ t. ih
     ] refl
@@ -180,7 +173,7 @@ AreApart-zone start len low (n ∷ notes) a =
     let keep = AreApart-filter (lies_in start len) (end_of n) notes a.1 in
     elim (lies_in start len n) as (λ b. lies_in start len n ≡ b
     → AreApart start (cond b (n ∷ filter (lies_in start len) notes) (filter (lies_in start len) notes))) [
-      | true ↦ λ t. let p = and_parts (nat_le start n.offset) (nat_le (end_of n) (start + len)) t in
+      | true ↦ λ t. let p = parts (nat_le start n.offset) (nat_le (end_of n) (start + len)) t in
           (leb-true start n.offset p.0, keep)
       | false ↦ λ t. ih
     ] refl

@@ -25,15 +25,8 @@ use Rattle.mxf_catalogue.specs.Disputes.{lies_in}
 use Rattle.mxf_views.proofs.KindLaws.{fill_kind, primer_kind}
 use Rattle.mxf_views.proofs.ReadingLaws.{is_some_readable}
 use Rattle.mxf_views.proofs.SpanCounts.{count-all, count-full, in_span, in_span-says, zone-count}
+use Rattle.mxf_views.proofs.Members.{both, parts}
 use Rattle.mxf_catalogue.proofs.SpanLaws.{AreApart-clear_notes}
-
-pub both : (a b : Bool) → a ≡ true → b ≡ true → (a && b) ≡ true
-both true b p q = q
-both false b p q = absurd cc
-
-pub parts : (a b : Bool) → (a && b) ≡ true → (a ≡ true) × (b ≡ true)
-parts true b h = (refl, h)
-parts false b h = absurd cc
 
 both3 : (a b c : Bool) → a ≡ true → b ≡ true → c ≡ true → (a && b && c) ≡ true
 both3 true true c p q r = r

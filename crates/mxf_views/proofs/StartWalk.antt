@@ -13,7 +13,8 @@ use Rattle.mxf_catalogue.proofs.ContentLaws.{all-In}
 use Rattle.mxf_catalogue.proofs.DisputeLaws.{In-clear_notes}
 use Rattle.mxf_catalogue.proofs.Lists.{In-filter}
 use Rattle.mxf_views.specs.Copies.{IsFilled, IsStart, is_fill_note, is_readable_primer, start_of}
-use Rattle.mxf_views.proofs.StartLaws.{both, clear_same, fill_note, not_in_fill, parts, primer_note, start_is}
+use Rattle.mxf_views.proofs.Members.{both, parts}
+use Rattle.mxf_views.proofs.StartLaws.{clear_same, fill_note, not_in_fill, primer_note, start_is}
 
 -- From the end of the pack up to an offset there are clear fills alone, and these clear notes are left.
 pub record Passed (notes : List NoteParts) (end reached : ℕ) (left : List NoteParts) : Type 0 where

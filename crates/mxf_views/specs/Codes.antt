@@ -80,10 +80,11 @@ pub finding_equiv : IsEquivalence (eq_by_cmp finding_cmp)
 finding_equiv = eq_by_cmp_equiv finding_total
 
 -- The code with the number.
-abbrev numbered : ℕ → Code
+abbrev pub numbered : ℕ → Code
 numbered n = get_or all_codes (n - 1) F01
 
-numbered_back : (c : Code) → numbered (code_number c) ≡ c
+-- Its number is its place in the list.
+pub numbered_back : (c : Code) → numbered (code_number c) ≡ c
 numbered_back F01 = refl
 numbered_back F02 = refl
 numbered_back F03 = refl

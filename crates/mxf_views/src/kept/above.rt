@@ -8,10 +8,10 @@ ghost use Rattle.mxf_views.specs.Copies.{CopiesRise, copies_of};
 ghost use Rattle.mxf_views.specs.Kept.{is_placed, reaches_of, states_metadata};
 ghost use Rattle.mxf_views.specs.KeptAbove.{CountsFit, EndsBy, IsOfNone, IsStarting, IsUnionAt, MeetAt, clear_from, counted_above, counted_on, started};
 
-use super::reaches::count_below;
 use super::sums::{Sums, append_copies};
 use crate::copy::{CopyInfo, copy_there, start_of};
 use mxf_catalogue::Catalogue;
+use mxf_klv::below;
 
 /// Where the notes of a catalogue end, if those of another begin there or above.
 pub(crate) fn boundary(own: &Catalogue, other: &Catalogue) -> Option<u64>
@@ -34,7 +34,7 @@ pub(super) fn settled(copies: &[CopyInfo], reaches: &[u64], boundary: u64) -> us
     ensures bound { result ≤ length copies.now - 1 }
     ensures ended { AllWithin (EndsBy boundary) copies.now 0 result }
 {
-    let ended = count_below(reaches, boundary.saturating_add(1));
+    let ended = below(reaches, boundary.saturating_add(1));
     ended.min(copies.len().saturating_sub(1))
 }
 

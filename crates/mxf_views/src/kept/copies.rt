@@ -1,7 +1,6 @@
 //! The copies of the header metadata, kept by their partitions, which rise.
-ghost use Rattle.std.specs.Prelude.{◌≡◌, ◌==◌, ◌<◌, ◌≤◌, count_by, filter, find, length, map, vec_len, vec_capacity};
+ghost use Rattle.std.specs.Prelude.{◌≡◌, ◌==◌, ◌<◌, ◌≤◌, count_by, filter, find, map, vec_len, vec_capacity};
 ghost use Rattle.mxf_catalogue.specs.Disputes.{clear_notes};
-ghost use Rattle.std.specs.List.{AllWithin};
 ghost use Rattle.mxf_views.specs.Copies.{CopiesRise, copies_of};
 ghost use Rattle.mxf_views.specs.KeptAbove.{clear_from};
 ghost use Rattle.mxf_views.specs.Kept.{copy_by, can_bring_start, copies_followed, is_outside, may_change, renewed, states_metadata, with_copy};
@@ -11,7 +10,7 @@ use crate::copy::{CopyInfo, copy_of, copy_there, has_metadata};
 use crate::kept::arrival::Arrival;
 use crate::partition::partition_at;
 use mxf_catalogue::Catalogue;
-use mxf_klv::Note;
+use mxf_klv::{Keyed, Note, up_to};
 
 /// Whether what comes and goes with an arrival may change the copy.
 fn may_change(copy: &CopyInfo, arrival: &Arrival) -> bool
@@ -50,27 +49,26 @@ fn renew(copies: &mut Vec<CopyInfo>, catalogue: &Catalogue, arrival: &Arrival)
     }
 }
 
+/// Copies rise by their partitions.
+impl Keyed for CopyInfo {
+    ghost key = { λ c. c.partition };
+
+    fn key(&self) -> u64 {
+        self.partition
+    }
+}
+
 /// Puts a copy among others by its partition, where there is room.
 fn put_copy(copies: &mut Vec<CopyInfo>, copy: CopyInfo)
     requires rising { CopiesRise copies.old.items }
     requires room { vec_len copies.old < vec_capacity copies.old }
     ensures { copies.new.items ≡ with_copy copy copies.old.items }
 {
-    let at = copies_up_to(copies, copy.partition);
+    let at = up_to(copies, copy.partition);
     match copies.insert(at, copy) {
         Ok(()) => (),
         Err(_) => unreachable!(),
     }
-}
-
-/// The number of the copies of partitions at or below an offset.
-fn copies_up_to(copies: &[CopyInfo], partition: u64) -> usize
-    requires { CopiesRise copies.now }
-    ensures bound { result ≤ length copies.now }
-    ensures below { AllWithin (λ c. c.partition ≤ partition) copies.now 0 result }
-    ensures above { AllWithin (λ c. partition < c.partition) copies.now result (length copies.now) }
-{
-    copies.partition_point(|copy| copy.partition <= partition)
 }
 
 /// The copy of the partition at a file offset.

@@ -1,6 +1,6 @@
 //! Where clear notes of a kind stand, as file offsets that rise.
-ghost use Rattle.std.specs.Prelude.{◌≡◌, ◌<◌, ◌≤◌, ◌+◌, ◌++◌, ◌∷◌, [], count_by, filter, length, nat_lt, vec_len, vec_capacity};
-ghost use Rattle.std.specs.List.{AllWithin, list_any};
+ghost use Rattle.std.specs.Prelude.{◌≡◌, ◌<◌, ◌≤◌, ◌+◌, ◌++◌, ◌∷◌, [], count_by, filter, nat_lt, vec_len, vec_capacity};
+ghost use Rattle.std.specs.List.{list_any};
 ghost use Rattle.std.specs.Ordering.{nat_cmp};
 ghost use Rattle.mxf_klv.specs.Rising.{IsRising, with_one};
 ghost use Rattle.mxf_views.specs.Kept.{followed, is_outside, lies_between, is_placed, offsets_among, stands_clear};
@@ -12,7 +12,7 @@ use crate::kept::arrival::Arrival;
 use crate::partition::{is_no_unreadable_pack, partition_at};
 use crate::random_index::is_rip;
 use mxf_catalogue::Catalogue;
-use mxf_klv::Note;
+use mxf_klv::{Note, up_to};
 
 /// What the views keep the offsets of.
 #[derive(Clone, Copy, Debug)]
@@ -95,16 +95,6 @@ pub(super) fn append(offsets: &mut Vec<u64>, kind: Placed, note: &Note)
     }
 }
 
-/// The number of the offsets at or below one.
-fn offsets_up_to(offsets: &[u64], offset: u64) -> usize
-    requires { IsRising nat_cmp offsets.now }
-    ensures bound { result ≤ length offsets.now }
-    ensures below { AllWithin (λ o. o ≤ offset) offsets.now 0 result }
-    ensures above { AllWithin (λ o. offset < o) offsets.now result (length offsets.now) }
-{
-    offsets.partition_point(|other| *other <= offset)
-}
-
 /// Whether one of the offsets lies above another: the last tells.
 pub(crate) fn any_above(offsets: &[u64], low: u64) -> bool
     requires { IsRising nat_cmp offsets.now }
@@ -121,7 +111,7 @@ pub(crate) fn any_between(offsets: &[u64], low: u64, high: u64) -> bool
     requires { IsRising nat_cmp offsets.now }
     ensures { result ≡ list_any (lies_between low high) offsets.now }
 {
-    match offsets.get(offsets_up_to(offsets, low)) {
+    match offsets.get(up_to(offsets, low)) {
         Some(offset) => *offset < high,
         None => false,
     }

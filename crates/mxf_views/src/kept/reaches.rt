@@ -1,13 +1,11 @@
 //! How far the copies of the header metadata reach, and which of them is the first that has a packet.
-ghost use Rattle.std.specs.Prelude.{◌≡◌, ◌<◌, ◌≤◌, ◌∷◌, find, get_or, length, take, vec_capacity, vec_len};
-ghost use Rattle.std.specs.List.{AllWithin};
-ghost use Rattle.std.specs.List.Sorted.{IsNonDecreasing};
+ghost use Rattle.std.specs.Prelude.{◌≡◌, ◌≤◌, ◌∷◌, find, get_or, length, take, vec_capacity, vec_len};
 ghost use Rattle.mxf_views.specs.Kept.{StartsRise, reach_of, reaches_of};
 ghost use Rattle.mxf_views.specs.Labels.{is_in_copy};
 
 use super::push;
 use crate::copy::CopyInfo;
-use mxf_klv::Note;
+use mxf_klv::{Note, below};
 
 /// Where the zone of a copy ends; 0 without a start.
 fn reach_of(copy: &CopyInfo) -> u64
@@ -43,23 +41,13 @@ pub(super) fn refill_reaches(reaches: &mut Vec<u64>, copies: &[CopyInfo], settle
     }
 }
 
-/// The number of the reaches below a file offset.
-pub(super) fn count_below(reaches: &[u64], end: u64) -> usize
-    requires { IsNonDecreasing reaches.now }
-    ensures bound { result ≤ length reaches.now }
-    ensures below { AllWithin (λ r. r < end) reaches.now 0 result }
-    ensures above { AllWithin (λ r. end ≤ r) reaches.now result (length reaches.now) }
-{
-    reaches.partition_point(|reach| *reach < end)
-}
-
 /// The first copy whose zone has the packet of the note: the first that reaches the packet's end, or none.
 pub(crate) fn copy_with(copies: &[CopyInfo], reaches: &[u64], note: &Note) -> Option<CopyInfo>
     requires starts { StartsRise copies.now }
     requires reaches { reaches.now ≡ reaches_of copies.now }
     ensures { result ≡ find (is_in_copy note.now) copies.now }
 {
-    let at = count_below(reaches, note.end());
+    let at = below(reaches, note.end());
     let copy = copies.get(at)?;
     copy.has(note).then_some(*copy)
 }

@@ -1,6 +1,6 @@
 //! What clear notes cover and how many Prefaces are among them, summed up from mark to mark for many zones.
 ghost use Rattle.std.specs.Prelude.{◌≡◌, ◌≤◌, ◌<◌, ◌+◌, ◌++◌, ◌∷◌, ◌⊎◌, ◌^◌, if◌then◌else◌, IfSome, List, [], count_by, length, vec_len, vec_capacity};
-ghost use Rattle.std.specs.List.{AllWithin, filter_map};
+ghost use Rattle.std.specs.List.{filter_map};
 ghost use Rattle.std.specs.List.Sorted.{IsNonDecreasingBy};
 ghost use Rattle.mxf_klv.specs.Parts.{NoteParts};
 ghost use Rattle.mxf_catalogue.specs.Content.{IsCatalogue};
@@ -15,7 +15,7 @@ use crate::copy::zone::{Counts, is_preface};
 use crate::copy::{CopyInfo, counts, has_metadata, start_of, with_start, without_start};
 use crate::partition::{PartitionAt, partition_at};
 use mxf_catalogue::{Catalogue, ClearNotes};
-use mxf_klv::Note;
+use mxf_klv::{Keyed, Note, below, up_to};
 use std::marker::Model;
 
 /// How many notes stand from one mark to the next.
@@ -27,6 +27,15 @@ pub(crate) struct Mark {
     pub offset: u64,
     pub covered: u64,
     pub prefaces: usize,
+}
+
+/// Marks rise by their offsets.
+impl Keyed for Mark {
+    ghost key = { λ m. m.offset };
+
+    fn key(&self) -> u64 {
+        self.offset
+    }
 }
 
 /// The clear notes of a catalogue from a boundary on, with marks among them.
@@ -165,30 +174,12 @@ fn marks_within(marks: &[Mark], start: u64, bytes: u64) -> Option<(Mark, Mark)>
     ensures { (notes : List NoteParts) → AreMarks notes marks.now
         → IfSome result (λ r. AreInRange notes start bytes r.0 r.1) }
 {
-    let from = marks_below(marks, start);
-    let to = marks_up_to(marks, start, bytes);
+    let from = below(marks, start);
+    let to = up_to(marks, start.saturating_add(bytes));
     if to <= from {
         return None;
     }
     Some((marks[from], marks[to - 1]))
-}
-
-/// The number of the marks below an offset.
-fn marks_below(marks: &[Mark], start: u64) -> usize
-    requires { IsNonDecreasingBy (λ m. m.offset) marks.now }
-    ensures bound { result ≤ length marks.now }
-    ensures above { AllWithin (λ m. start ≤ m.offset) marks.now result (length marks.now) }
-{
-    marks.partition_point(|mark| mark.offset < start)
-}
-
-/// The number of the marks at or below the end of a range.
-fn marks_up_to(marks: &[Mark], start: u64, bytes: u64) -> usize
-    requires { IsNonDecreasingBy (λ m. m.offset) marks.now }
-    ensures bound { result ≤ length marks.now }
-    ensures below { AllWithin (λ m. m.offset ≤ start + bytes) marks.now 0 result }
-{
-    marks.partition_point(|mark| mark.offset.saturating_sub(start) <= bytes)
 }
 
 /// One for a Preface.

@@ -9,15 +9,15 @@ use Rattle.mxf_views.specs.Labels.{is_in_copy}
 use Rattle.mxf_views.proofs.ReachLaws.{first_reaches, length-reaches_from, none_reaches, reaches_never_fall}
 use Rattle.mxf_views.proofs.kept.reaches.copy_with.Goals as goal
 
-pub count_below-at-requires : goal.count_below-at-requires
-count_below-at-requires c =
+pub below-at-requires : goal.below-at-requires
+below-at-requires c =
     subst IsNonDecreasing (sym c.requires.reaches) (reaches_never_fall 0 c.args.copies.now)
 
 pub returns-in_err-copy : goal.returns-in_err-copy
 returns-in_err-copy c =
     let n = c.args.note.now in
     let copies = c.args.copies.now in
-    let at = c.count_below-at in
+    let at = c.below-at in
     let end : c.end.result ≡ end_of n = c.end.ensures in
     let fits : end_of n ≤ 18446744073709551615 = omega (arith, end, c.end.type_inv) in
     let below : AllWithin (λ r. r < end_of n) (reaches_of copies) 0 at.result =
@@ -31,7 +31,7 @@ pub returns : goal.returns
 returns c =
     let n = c.args.note.now in
     let copies = c.args.copies.now in
-    let at = c.count_below-at in
+    let at = c.below-at in
     let found = c.in_ok-copy.ensures.lookup in
     let end : c.end.result ≡ end_of n = c.end.ensures in
     let fits : end_of n ≤ 18446744073709551615 = omega (arith, end, c.end.type_inv) in
