@@ -1,5 +1,5 @@
 -- Which findings there are: those of each code, and no others.
-use Rattle.std.proofs.Common.{◌≡◌, ℕ, zero, suc, ◌-◌, ◌⊎◌, Bool, List, [], ◌∷◌, ◌++◌, refl, sym, subst, get_or, inl, inr}
+use Rattle.std.proofs.Common.{◌≡◌, ℕ, zero, suc, ◌-◌, ◌⊎◌, Bool, List, [], ◌∷◌, refl, sym, subst, get_or, inl, inr}
 use Rattle.std.specs.Prelude.{◌↔◌, IsTrue, flat_map, filter, map}
 use Rattle.mxf_klv.specs.Parts.{NoteParts}
 use Rattle.mxf_klv.specs.Rising.{In, IsRising, IsRising-union, In-union}

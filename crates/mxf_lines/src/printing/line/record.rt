@@ -298,7 +298,11 @@ impl<'r, 'a> Lines for PackageLines<'r, 'a> {
         let PackageLines { kind, package } = self;
         let uid = PackageUidField(FieldName::PackageUid, Some(package.package_uid()));
         let name = TextField(FieldName::Name, package.name());
-        Then(Then(KindField(kind), uid), Then(name, PackageDates(package))).print_to(printer, writer)
+        Then(
+            Then(KindField(kind), uid),
+            Then(name, PackageDates(package)),
+        )
+        .print_to(printer, writer)
     }
 }
 
