@@ -1,6 +1,6 @@
 -- The lines of what the references of the preferred copy lead to (this project's profile; the fields are those of
 -- ST 377-1, Identification and Generic Package sets). An identifier is printed as RFC 9562 writes a UUID.
-use Rattle.std.specs.Prelude.{ℕ, ◌==◌, List, [], ◌∷◌, ◌++◌, length, find, codes, Option, None, Some}
+use Rattle.std.specs.Prelude.{ℕ, ◌==◌, List, [], ◌∷◌, ◌++◌, length, find, codes, Option}
 use Rattle.std.specs.List.{flat_map}
 use Rattle.std.specs.Fmt.{decimal, signed_decimal}
 use Rattle.uuid.specs.Text.{hyphenated_text, lower}
