@@ -8,9 +8,9 @@ import struct
 from collections.abc import Iterable, Iterator
 from pathlib import Path
 
-HEADER_KEY = bytes.fromhex("060e2b34020501010d01020101020400")
-ESSENCE_KEY = bytes.fromhex("060e2b34010201010d01030115010500")
-PATTERN = bytes.fromhex("060e2b34040101010d01020101010100")
+import packets
+
+ESSENCE_KEY = packets.digits(packets.KEYS["essence"])
 
 # The notes of saved catalogues: whole packets of so many bytes, one after another. Each offset has thirteen digits up to
 # some 89 million notes, so that lines that are sorted as text are sorted by offset.
@@ -23,15 +23,14 @@ GREATEST_END = 2**63 - 1
 HEAD_SIZE = 25
 
 
-def packet(key: bytes, value: bytes) -> bytes:
-    """A packet with four bytes that spell its length."""
-    return key + b"\x83" + len(value).to_bytes(3, "big") + value
+def laid(line: str, offset: int = 0) -> bytes:
+    """The packet at this offset that a line of a case states, as tests/packets.py lays it."""
+    return packets.bytes_of(packets.packet(line, offset))
 
 
-def header_pack() -> bytes:
-    """The packet of a header partition pack, closed and complete, that names no footer."""
-    numbers = struct.pack(">HHIQQQQQIQI", 1, 3, 1, 0, 0, 0, 0, 0, 0, 0, 0)
-    return packet(HEADER_KEY, numbers + PATTERN + struct.pack(">II", 0, 16))
+def essence_packet(value: bytes) -> bytes:
+    """An essence packet with this value, four bytes that spell its length."""
+    return ESSENCE_KEY + packets.length_field(4, len(value)) + value
 
 
 def essence_value(size: int) -> bytes:
@@ -40,43 +39,43 @@ def essence_value(size: int) -> bytes:
     return b"".join(digests)[:size]
 
 
-def write_recording(path: Path, packets: int, value_size: int) -> None:
+def write_recording(path: Path, count: int, value_size: int) -> None:
     """A header partition pack, then so many essence packets."""
-    essence = packet(ESSENCE_KEY, essence_value(value_size))
+    essence = essence_packet(essence_value(value_size))
     with open(path, "wb") as file:
-        file.write(header_pack())
-        for _ in range(packets):
+        file.write(laid("header"))
+        for _ in range(count):
             file.write(essence)
 
 
-def write_sparse_recording(path: Path, packets: int, value_size: int) -> None:
+def write_sparse_recording(path: Path, count: int, value_size: int) -> None:
     """The same with values of zero bytes, which are holes of the file."""
-    head = packet(ESSENCE_KEY, bytes(value_size))[:20]
+    head = essence_packet(bytes(value_size))[:20]
     with open(path, "wb") as file:
-        file.write(header_pack())
-        for _ in range(packets):
+        file.write(laid("header"))
+        for _ in range(count):
             file.write(head)
             file.seek(value_size, 1)
         file.truncate()
 
 
-def write_small_packets(path: Path, packets: int, value_size: int = 0) -> None:
+def write_small_packets(path: Path, count: int, value_size: int = 0) -> None:
     """So many essence packets with values of so many bytes, 32 at most."""
     head = ESSENCE_KEY + bytes([value_size])
     with open(path, "wb") as file:
-        for number in range(packets):
+        for number in range(count):
             file.write(head + number.to_bytes(32, "big")[32 - value_size :])
 
 
-def write_pieces(folder: Path, pieces: int, packets: int, value_size: int) -> list[str]:
+def write_pieces(folder: Path, pieces: int, count: int, value_size: int) -> list[str]:
     """A recording of a header partition pack and essence packets, so many in all, in pieces as equal as can be. Answers
     the sources of the pieces, in the order of the recording."""
-    header = header_pack()
-    essence = packet(ESSENCE_KEY, essence_value(value_size))
+    header = laid("header")
+    essence = essence_packet(essence_value(value_size))
     sources = []
     offset = 0
     for number in range(pieces):
-        first, last = packets * number // pieces, packets * (number + 1) // pieces
+        first, last = count * number // pieces, count * (number + 1) // pieces
         path = folder / f"piece_{number}"
         size = 0
         with open(path, "wb") as file:
