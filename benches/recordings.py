@@ -12,13 +12,14 @@ import packets
 
 ESSENCE_KEY = packets.digits(packets.KEYS["essence"])
 
-# The notes of saved catalogues: whole packets of so many bytes, one after another. Each offset has thirteen digits up to
-# some 89 million notes, so that lines that are sorted as text are sorted by offset.
+# The notes of saved catalogues: whole packets of so many bytes, one after another. Each offset has thirteen digits up
+# to some 89 million notes, so that lines that are sorted as text are sorted by offset.
 FIRST_OFFSET = 1_000_000_000_000
 PACKET_SIZE = 100_020
 GREATEST_NOTES = 10_000_000
 
-# The greatest end of a packet, up to which heads claim their bytes. The key and the length of a head have 25 bytes here.
+# The greatest end of a packet, up to which heads claim their bytes. The key and the length of a head have 25 bytes
+# here.
 GREATEST_END = 2**63 - 1
 HEAD_SIZE = 25
 
@@ -126,8 +127,8 @@ def write_lines(path: Path, indexes: Iterable[int]) -> None:
 
 
 def half_shared(notes: int, part: int) -> Iterator[int]:
-    """The indexes of one of two sets of so many notes, an even number, which share half of them: of each three indexes in
-    a row the first is in part 0, the second in both and the third in part 1."""
+    """The indexes of one of two sets of so many notes, an even number, which share half of them: of each three indexes
+    in a row the first is in part 0, the second in both and the third in part 1."""
     return (3 * (number // 2) + number % 2 + part for number in range(notes))
 
 

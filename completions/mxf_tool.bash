@@ -1,8 +1,8 @@
 # Completion of mxf_tool for bash: its commands and options, and the two forms of a source with the paths behind them.
 # shellcheck shell=bash
 
-# _mxf_tool_paths PREFIX PATH: completes the path, behind the prefix. Readline completes what stands behind the last of the
-# characters at which it breaks words, of which the colon is one; so the words that are answered begin there.
+# _mxf_tool_paths PREFIX PATH: completes the path, behind the prefix. Readline completes what stands behind the last of
+# the characters at which it breaks words, of which the colon is one; so the words that are answered begin there.
 _mxf_tool_paths() {
   local path
   while IFS= read -r path; do

@@ -4,8 +4,8 @@
     tests/cases.py PROGRAM [WORD]    all cases, or those whose name has the WORD; the last line is 'N passed, M failed'
     tests/cases.py --bytes NAME      the bytes of the cases of that name, a field a line, or of a worked file
 
-Before, the worked files are compared with the bytes in tests/worked, and each form of a printed line (forms.txt) has to be
-wanted by a case.
+Before, the worked files are compared with the bytes in tests/worked, and each form of a printed line (forms.txt) has to
+be wanted by a case.
 
 A case is some lines of a text file in tests/cases. A number sign begins a comment.
 
@@ -22,10 +22,10 @@ A case is some lines of a text file in tests/cases. A number sign begins a comme
         LINE
     status N                           the status of the command above, where it isn't 0
 
-In a LINE `..` stands for any text, `<U+0080>` for that character, and a `$` at its end shows a space there. packets.py says
-how a PACKET is named. Each command is run on the pieces, and then on the catalogue that `join` saves of them: that prints the same without the lines
-of pieces. The catalogue itself has to be the file of the packets that were laid, and of the heads of those that are cut,
-byte by byte (notes.py).
+In a LINE `..` stands for any text, `<U+0080>` for that character, and a `$` at its end shows a space there. packets.py
+says how a PACKET is named. Each command is run on the pieces, and then on the catalogue that `join` saves of them: that
+prints the same without the lines of pieces. The catalogue itself has to be the file of the packets that were laid, and
+of the heads of those that are cut, byte by byte (notes.py).
 """
 import concurrent.futures
 import itertools

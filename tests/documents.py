@@ -1,11 +1,11 @@
 #!/usr/bin/env python3
-"""Looks up each link of the documents: the file is there, and has the heading that the link names. Looks up each test and
-case that is named: `crate::module::test`, `cases/TOPIC: NAME` or `end_to_end.d/TOPIC: NAME`. Where a link is to a source and
-names a function or a type, that is there, and the function has the clauses that stand in parentheses behind the link. Sees
-that each row of a table stands in a table, which an empty line would end, and that the numbers of tests, edits, runs and
-files that a document gives are those of the scripts and crates. Looks up in docs/MODEL.md each definition that a clause of a
-public function of the libraries cites, and compares the table of docs/LAYERS.md with crates.txt. Only failures are printed;
-the last line is 'N passed, M failed'.
+"""Looks up each link of the documents: the file is there, and has the heading that the link names. Looks up each test
+and case that is named: `crate::module::test`, `cases/TOPIC: NAME` or `end_to_end.d/TOPIC: NAME`. Where a link is to a
+source and names a function or a type, that is there, and the function has the clauses that stand in parentheses behind
+the link. Sees that each row of a table stands in a table, which an empty line would end, and that the numbers of tests,
+edits, runs and files that a document gives are those of the scripts and crates. Looks up in docs/MODEL.md each
+definition that a clause of a public function of the libraries cites, and compares the table of docs/LAYERS.md with
+crates.txt. Only failures are printed; the last line is 'N passed, M failed'.
 """
 import ast
 import itertools
@@ -118,8 +118,8 @@ def exported_by(crate):
 
 
 def clauses_of(text, exported):
-    """The clauses of the public functions of a source, one text a function: of those that are passed on by their names or
-    by those of their types."""
+    """The clauses of the public functions of a source, one text a function: of those that are passed on by their names
+    or by those of their types."""
     lines, owner = iter(text.splitlines()), None
     for line in lines:
         if line.startswith("impl"):
@@ -209,8 +209,8 @@ def edits_of(crate):
     return len(list((TOP / "crates" / crate / "must-fail").glob("*.edit")))
 
 
-# Where a document gives a number that a script or a crate has: the document, how the number stands there, and what it is. A
-# name of a crate that is found is handed on.
+# Where a document gives a number that a script or a crate has: the document, how the number stands there, and what it
+# is. A name of a crate that is found is handed on.
 NUMBERS = (
     ("docs/PROMISES.md", r"()(\d+) small runs", lambda _: length_of("tests/refusals", "RUNS")),
     ("docs/PROMISES.md", r"()the same (\d+) runs", lambda _: length_of("tests/refusals", "RUNS")),

@@ -7,17 +7,17 @@
     tests/hostile.py --make NUMBER FOLDER       writes the sources of that number into the folder
 
 Of each file the program is asked everything. Each run has to end with a status that fits what was asked, within a bound
-of processor time, n log n in the bytes of its sources, and a bound of memory, linear in them. Want of memory within that
-bound fails, as does anything on standard error. What is noted, why a piece ends, what is disputed or a gap, and the saved
-catalogue are compared with those of notes.py, which goes by ST 336 alone. Cut at packets and within them, with repeats, a
-part saved, in another order, the sources leave the same catalogue, and a saved one is shown as they are. Whole notes that
-version 1 of the file saved are shown, and joined with the others. A damaged catalogue of either version, or one with
-parts of both, is shown, or refused with its cause and place, by notes.py too.
+of processor time, n log n in the bytes of its sources, and a bound of memory, linear in them. Want of memory within
+that bound fails, as does anything on standard error. What is noted, why a piece ends, what is disputed or a gap, and
+the saved catalogue are compared with those of notes.py, which goes by ST 336 alone. Cut at packets and within them,
+with repeats, a part saved, in another order, the sources leave the same catalogue, and a saved one is shown as they
+are. Whole notes that version 1 of the file saved are shown, and joined with the others. A damaged catalogue of either
+version, or one with parts of both, is shown, or refused with its cause and place, by notes.py too.
 
 A file of a shape with many alike, and one of twice as many: no question takes more than two and a half times as long.
 
-A file that is cut at a byte, and what begins with the packet in which that byte lies, leave its catalogue in both orders,
-as pieces and as saved catalogues.
+A file that is cut at a byte, and what begins with the packet in which that byte lies, leave its catalogue in both
+orders, as pieces and as saved catalogues.
 
 The shapes are those of hostile_files.py, the runs those of hostile_runs.py.
 """
@@ -67,8 +67,8 @@ def try_fronts(run, name, step, share):
 
 
 def try_cuts(run, name, step, share):
-    """Cuts a file every `step` bytes, and beside each packet, of these a share: the bytes before, and those from the packet
-    on in which the cut lies, leave its catalogue in both orders, as pieces and as saved catalogues."""
+    """Cuts a file every `step` bytes, and beside each packet, of these a share: the bytes before, and those from the
+    packet on in which the cut lies, leave its catalogue in both orders, as pieces and as saved catalogues."""
     data = (TOP / name).read_bytes()
     found, _, _ = notes.read_piece(0, data)
     wanted, saved = notes.file_of(found), {}
@@ -85,8 +85,8 @@ def try_cuts(run, name, step, share):
 
 
 def try_saved_fronts(run, name, step, share):
-    """Tries fronts of a saved catalogue, every `step` bytes and beside each note, of these a share: but the last they are
-    refused."""
+    """Tries fronts of a saved catalogue, every `step` bytes and beside each note, of these a share: but the last they
+    are refused."""
     data, at = (TOP / name).read_bytes(), 16
     borders = [at]
     for _ in range(int.from_bytes(data[8:16], "big")):
@@ -106,8 +106,8 @@ def seconds_of(run, sources, size):
 
 
 def try_doubled(run, shape, many, seed):
-    """Compares a file of a shape with one of twice as many. Where the machine is busy a run takes more processor time too,
-    so what takes too much is run again, and the least times count."""
+    """Compares a file of a shape with one of twice as many. Where the machine is busy a run takes more processor time
+    too, so what takes too much is run again, and the least times count."""
     files = [shape(random.Random(seed), times * many) for times in (1, 2)]
     laid = [(run.lay(f"times{times}.", pieces), sum(len(data) for _, data in pieces)) for times, pieces in enumerate(files)]
     least = [{}, {}]

@@ -301,8 +301,8 @@ def pieces_of(number):
     rng = random.Random(number)
     return SHAPES[number % len(SHAPES)](rng)
 
-# How many alike a shape has, where it is compared with itself doubled: as many as tell a square from n log n, and no more
-# than one value has room for.
+# How many alike a shape has, where it is compared with itself doubled: as many as tell a square from n log n, and no
+# more than one value has room for.
 MANY = {
     counts: 10000, items: 5000, packs_that_name: 10000, circles: 5000, zones: 5000, copies: 5000,
     random_indexes: 10000, segments_of_a_unit: 10000, long_primer: 32000, long_batches: 2000, named_by_all: 2000, disputes: 20000,

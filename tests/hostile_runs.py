@@ -215,8 +215,8 @@ def disordered(rng, content, version=notes.CURRENT):
 
 
 def of_both_versions(rng, content, version):
-    """The file of these notes, of this version, with another byte eight, or with a note, or all from it on, as the other
-    version saves them."""
+    """The file of these notes, of this version, with another byte eight, or with a note, or all from it on, as the
+    other version saves them."""
     other, change = 3 - version, rng.randrange(3)
     at = rng.randrange(len(content) or 1)
     until = at + 1 if change == 0 else len(content)

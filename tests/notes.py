@@ -1,5 +1,5 @@
-"""What is noted of a piece, by ST 336 alone, and the catalogue file of notes in both versions, as docs/FORMATS.md lays them
-out. Version 2 is written; version 1, of older programs, has no marks, so no heads.
+"""What is noted of a piece, by ST 336 alone, and the catalogue file of notes in both versions, as docs/FORMATS.md lays
+them out. Version 2 is written; version 1, of older programs, has no marks, so no heads.
 
 Nothing here is taken from the program: a reader of its own says what a piece holds and why it ends, which notes are
 disputed, what lies in none, and what is at fault in the bytes of a catalogue.
@@ -8,7 +8,8 @@ import hashlib
 import re
 from typing import NamedTuple
 
-# The keys of packets whose value is kept: partition packs, primer packs, random index packs, and sets but those of essence.
+# The keys of packets whose value is kept: partition packs, primer packs, random index packs, and sets but those of
+# essence.
 PACKS = "020501..0d010201(010[234]0[1234]00|01050100|01110100)"
 SETS = "0253....(?!0d010301).{16}"
 KEPT = re.compile(f"060e2b34({PACKS}|{SETS})")
@@ -19,13 +20,14 @@ LABEL = bytes.fromhex("060E2B34")
 MAGIC = b"MXFCAT\0"
 # The version that is written.
 CURRENT = 2
-# By version, the bytes of a note ahead of what it holds: offset, key, width and length, and in version 2 the mark of a head.
+# By version, the bytes of a note ahead of what it holds: offset, key, width and length, and in version 2 the mark of a
+# head.
 FIXED = {1: 8 + 16 + 1 + 8, 2: 8 + 16 + 1 + 8 + 1}
 
 
 class Note(NamedTuple):
-    """A note, its parts in the order by which notes are sorted: of two with equal offset, key, width and length the head
-    comes first. A head holds nothing."""
+    """A note, its parts in the order by which notes are sorted: of two with equal offset, key, width and length the
+    head comes first. A head holds nothing."""
 
     offset: int
     key: bytes

@@ -1,7 +1,7 @@
 #!/usr/bin/env python3
 """Runs a program with a terminal as its standard error: on_terminal.py [--until PATTERN] FILE PROGRAM WORDS... What it
-writes there is kept in FILE. Its standard input and output are those of this script, and so is its exit status. Once what
-it wrote there has the regular expression PATTERN in it the program is ended.
+writes there is kept in FILE. Its standard input and output are those of this script, and so is its exit status. Once
+what it wrote there has the regular expression PATTERN in it the program is ended.
 """
 import os
 import pty

@@ -26,7 +26,8 @@ KEYS = {
 # Byte 15 of a partition pack's key.
 STATUSES = {"open-incomplete": 1, "closed-incomplete": 2, "open-complete": 3, "closed-complete": 4}
 
-# The numbers of a partition pack: name, bytes, and the value where a case states none ("this": where the packet stands).
+# The numbers of a partition pack: name, bytes, and the value where a case states none ("this": where the packet
+# stands).
 PARTITION = [
     ("major", 2, "1"),
     ("minor", 2, "3"),
@@ -114,8 +115,8 @@ def rip_value(entries, stated, width):
 
 
 def segment_value(stated):
-    """The value of an index table segment. `-` leaves an item out; `entries=` are stream offsets. Behind each stand four
-    bytes 09 for each slice, and eight bytes 08 for each position table."""
+    """The value of an index table segment. `-` leaves an item out; `entries=` are stream offsets. Behind each stand
+    four bytes 09 for each slice, and eight bytes 08 for each position table."""
     slices, positions = (int(stated.get(name, "0").replace("-", "0")) for name in ("slices", "positions"))
     after = bytes([9] * 4 * slices + [8] * 8 * positions)
     fields = []
@@ -173,9 +174,9 @@ def packet(line, offset):
     """The fields of a packet that stands at this offset, by a line of a case: its name, then what is stated of it.
 
     TAG=BYTES is an item of a set or an entry of a primer pack, BODYSID:OFFSET an entry of a random index pack, a bare
-    number the length of a fill's or an essence packet's value, all zeros. Of any packet can be stated: `width=` bytes of
-    the length field (4), `key=` another key, `status=` of a partition, `value=` its whole value, `cut=` so many bytes off
-    the end of that; and `front=` so many of its first bytes that are there, where the packet itself is cut.
+    number the length of a fill's or an essence packet's value, all zeros. Of any packet can be stated: `width=` bytes
+    of the length field (4), `key=` another key, `status=` of a partition, `value=` its whole value, `cut=` so many
+    bytes off the end of that; and `front=` so many of its first bytes that are there, where the packet itself is cut.
     """
     name, *words = line.split()
     if name == "hex":

@@ -1,9 +1,9 @@
 // Refuses calls of the program that this library is loaded ahead of. REFUSED_CALL says which: growth (of memory), read,
-// write, open, lock, permissions, sync or rename. Refused is the one whose number, counted from 1, is in REFUSED_AT, or that one
-// and all later ones where it is in REFUSED_FROM; the first ones, as interrupted, up to the number in INTERRUPTED. Of
-// byte-read and byte-written the byte of that number and all later ones can't be moved, standard error aside. Where
-// REFUSED_LOG names a descriptor, a byte is written to it for each. ONE_BYTE has each read and write move one byte at most.
-// The scripts build it where there is a C compiler.
+// write, open, lock, permissions, sync or rename. Refused is the one whose number, counted from 1, is in REFUSED_AT, or
+// that one and all later ones where it is in REFUSED_FROM; the first ones, as interrupted, up to the number in
+// INTERRUPTED. Of byte-read and byte-written the byte of that number and all later ones can't be moved, standard error
+// aside. Where REFUSED_LOG names a descriptor, a byte is written to it for each. ONE_BYTE has each read and write move
+// one byte at most. The scripts build it where there is a C compiler.
 #define _GNU_SOURCE
 #include <errno.h>
 #include <fcntl.h>
