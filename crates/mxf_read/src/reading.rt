@@ -8,8 +8,8 @@ use crate::ticks::ReadTicks;
 use mxf_klv::OutOfMemory;
 use std::io::{ErrorKind, Read};
 
-/// How often an interrupted read of one piece is repeated.
-const GREATEST_INTERRUPTIONS: u32 = 1024;
+/// How often an interrupted read of one piece, or of one part, is repeated.
+pub(crate) const GREATEST_INTERRUPTIONS: u32 = 1024;
 
 /// What one read came to.
 #[derive(Clone, Copy, Debug, Drop, PartialEq, Eq)]

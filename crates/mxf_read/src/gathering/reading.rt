@@ -4,22 +4,9 @@ ghost use Rattle.mxf_read.specs.Gathering.{IsOfAnyPart};
 ghost use Rattle.mxf_read.specs.PartReading.{Reads};
 
 use super::PartFault;
+use crate::reading::{GREATEST_INTERRUPTIONS, Step};
 use std::alloc::{AllocError, Global};
 use std::io::{ErrorKind, Read};
-
-/// How often an interrupted read of one part is repeated.
-const GREATEST_INTERRUPTIONS: u32 = 1024;
-
-/// What one read came to.
-#[derive(Clone, Copy, Debug, PartialEq, Eq)]
-enum Step {
-    /// Bytes were taken.
-    Took,
-    /// The reader has ended.
-    Ended,
-    Interrupted,
-    Failed,
-}
 
 /// Reads once, as many bytes at most as there is room, and puts them behind the bytes so far.
 fn read_once<R: Read>(
@@ -34,7 +21,7 @@ fn read_once<R: Read>(
         Ok(0) => Ok(Step::Ended),
         Ok(count) => {
             bytes.extend_from_slice(&room[..count])?;
-            Ok(Step::Took)
+            Ok(Step::Took(count))
         }
         Err(fault) if fault.kind() == ErrorKind::Interrupted => Ok(Step::Interrupted),
         Err(_) => Ok(Step::Failed),
@@ -57,7 +44,7 @@ pub(super) fn read_up_to<R: Read>(
     'reads: while (bytes.len() as u64) < limit {
         let room = (limit - bytes.len() as u64).min(buffer.len() as u64) as usize;
         match read_once(from, &mut bytes, &mut buffer[..room])? {
-            Step::Took => {}
+            Step::Took(_) => {}
             Step::Ended => return Ok(bytes),
             Step::Interrupted if interruptions < GREATEST_INTERRUPTIONS => interruptions += 1,
             Step::Interrupted | Step::Failed => return Err(PartFault::ReadFault),
