@@ -23,5 +23,5 @@ NamesStandardOutput path = (path ≡ codes "/dev/stdout") ⊎ (path ≡ codes "/
 -- Why a catalogue isn't saved, by what the system says.
 abbrev pub IsSaveFaultOf : ErrorKind → SaveFault → Type 0
 IsSaveFaultOf kind faults.OutOfMemory = kind ≡ kinds.OutOfMemory
-IsSaveFaultOf kind (faults.Held part) = ⊥
+IsSaveFaultOf kind (faults.Reserved part) = ⊥
 IsSaveFaultOf kind (faults.Write cause) = kind ≢ kinds.OutOfMemory

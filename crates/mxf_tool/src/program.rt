@@ -9,7 +9,7 @@ use crate::arguments::unreadable_argument;
 use crate::command_line::{Request, Task, command, request_of, signed_number};
 use crate::exit::Exit;
 use crate::part::part_of;
-use crate::saving::{BUFFER_BYTES, Held, Kept, SaveFault, is_refused};
+use crate::saving::{BUFFER_BYTES, Reservation, SaveFault, WatchedWriter, is_refused};
 use crate::source::Source;
 use crate::system_fault::{LastFault, SystemFault};
 use crate::watching::{Screen, Watched};
@@ -146,7 +146,7 @@ fn join<'a, R: System>(
         Ok(true) => return Err(RunFault::BadOutput { path: out }),
         Err(fault) => return Err(unsaved(out, SaveFault::from(fault))),
     }
-    let held = match Held::take(rt, out) {
+    let held = match Reservation::take(rt, out) {
         Ok(held) => held,
         Err(fault) => return Err(unsaved(out, fault)),
     };
@@ -232,7 +232,7 @@ fn print_answer<'a, R: System>(
     gathered: &Gathered,
 ) -> Result<Exit, RunFault<'a>> {
     let last = LastFault::new();
-    let kept = Kept::new(io::writer(rt), &last);
+    let kept = WatchedWriter::new(io::writer(rt), &last);
     let Ok(mut out) = BufWriter::with_capacity(rt.alloc(), BUFFER_BYTES, kept) else {
         return Err(RunFault::OutOfMemory);
     };

@@ -1,15 +1,15 @@
 //! Saving a catalogue, so that what a file held before is never lost.
 mod attributes;
+mod destination;
 mod fault;
-mod held;
-mod kept;
 mod part;
-mod place;
 mod refusal;
+mod reservation;
 mod same_file;
 mod standard_output;
+mod watched_writer;
 
 pub use fault::SaveFault;
-pub use held::Held;
-pub use kept::{BUFFER_BYTES, Kept};
 pub use refusal::is_refused;
+pub use reservation::Reservation;
+pub use watched_writer::{BUFFER_BYTES, WatchedWriter};

@@ -8,7 +8,7 @@ mod progress;
 use crate::shown::text_on_screen;
 use crate::source::Source;
 use crate::system_fault::LastFault;
-use progress::{Progress, is_long};
+use progress::{ReadProgress, is_long};
 use std::fs::OpenFile;
 use std::io::{self, Read};
 use std::rt::{Clock, Files};
@@ -39,7 +39,7 @@ impl Screen {
 #[derive(Drop)]
 pub struct Watched<'a, R: Eprint + Clock, F: Drop> {
     from: F,
-    progress: Option<Progress<'a, R>>,
+    progress: Option<ReadProgress<'a, R>>,
     last: &'a LastFault,
 }
 
@@ -73,7 +73,7 @@ fn progress_of<'a, R: Files + Eprint + Clock + AllocGlobal>(
     rt: &'a R,
     path: &str,
     from: &R::File,
-) -> Option<Progress<'a, R>> {
+) -> Option<ReadProgress<'a, R>> {
     let size = match from.metadata() {
         Ok(found) if found.is_file() => found.len(),
         _ => return None,
@@ -82,7 +82,7 @@ fn progress_of<'a, R: Files + Eprint + Clock + AllocGlobal>(
         return None;
     }
     match text_on_screen(rt.alloc(), path) {
-        Ok(path) => Some(Progress::new(rt, path, size)),
+        Ok(path) => Some(ReadProgress::new(rt, path, size)),
         Err(_) => None,
     }
 }

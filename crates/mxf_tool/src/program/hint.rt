@@ -84,7 +84,7 @@ fn write_unsaved<W: fmt::Write>(
     fault: &SaveFault,
 ) -> fmt::Result {
     match fault {
-        SaveFault::Held(part) => {
+        SaveFault::Reserved(part) => {
             let part = part.as_str();
             write!(
                 f,

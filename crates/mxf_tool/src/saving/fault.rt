@@ -10,7 +10,7 @@ pub enum SaveFault {
     /// Want of memory.
     OutOfMemory,
     /// Another join holds this file, which takes the place of the one before.
-    Held(PathBuf),
+    Reserved(PathBuf),
     /// A file couldn't be looked at, made, written, synced or renamed, as the system says.
     Write(Option<SystemFault>),
 }

@@ -53,13 +53,13 @@ impl<'a, R: Files<File = File> + AllocGlobal> PartFile<'a, R> {
                 }
                 Err(fault) if fault.kind() == ErrorKind::AlreadyExists => {
                     if !remove_left_over(rt, &beside)? {
-                        return Err(SaveFault::Held(beside));
+                        return Err(SaveFault::Reserved(beside));
                     }
                 }
                 Err(fault) => return Err(SaveFault::from(fault)),
             }
         }
-        Err(SaveFault::Held(beside))
+        Err(SaveFault::Reserved(beside))
     }
 
     /// The file, to be written.

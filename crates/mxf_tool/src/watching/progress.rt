@@ -44,7 +44,7 @@ fn milliseconds(from: Instant, to: Instant) -> Option<u64> {
 }
 
 /// How far a piece has been read. Its line stands on standard error until this is dropped.
-pub struct Progress<'a, R: Eprint + Clock> {
+pub struct ReadProgress<'a, R: Eprint + Clock> {
     rt: &'a R,
     path: String,
     size: u64,
@@ -54,10 +54,10 @@ pub struct Progress<'a, R: Eprint + Clock> {
     told: Option<Instant>,
 }
 
-impl<'a, R: Eprint + Clock> Progress<'a, R> {
+impl<'a, R: Eprint + Clock> ReadProgress<'a, R> {
     /// Of the piece at `path`, as it is shown, which has `size` bytes, none has been read.
-    pub fn new(rt: &'a R, path: String, size: u64) -> Progress<'a, R> {
-        Progress {
+    pub fn new(rt: &'a R, path: String, size: u64) -> ReadProgress<'a, R> {
+        ReadProgress {
             rt,
             path,
             size,
@@ -109,9 +109,9 @@ impl<'a, R: Eprint + Clock> Progress<'a, R> {
     }
 }
 
-impl<R: Eprint + Clock> Drop for Progress<'_, R> {
+impl<R: Eprint + Clock> Drop for ReadProgress<'_, R> {
     fn drop(self) {
-        let Progress {
+        let ReadProgress {
             rt,
             path: _,
             size: _,

@@ -14,7 +14,7 @@ const GREATEST_LINKS: u32 = 40;
 
 /// What stands where a catalogue is to be saved.
 #[derive(Debug, Drop)]
-pub enum Place {
+pub enum Destination {
     /// A regular file, as it is found, or nothing yet. The path is that of no link.
     File {
         path: PathBuf,
@@ -24,17 +24,17 @@ pub enum Place {
     Stream,
 }
 
-impl Place {
+impl Destination {
     /// What stands at `path`, behind all links. A file that can't be written is a fault, although it could be replaced.
-    pub fn of<R: Files + AllocGlobal>(rt: &R, path: &str) -> Result<Place, SaveFault> {
+    pub fn of<R: Files + AllocGlobal>(rt: &R, path: &str) -> Result<Destination, SaveFault> {
         match fs::metadata(rt, path) {
             Ok(found) if found.is_file() => {
                 let path = behind_links(rt, path)?;
                 let before = Some(file_to_write(rt, &path)?);
-                Ok(Place::File { path, before })
+                Ok(Destination::File { path, before })
             }
-            Ok(_) => Ok(Place::Stream),
-            Err(fault) if fault.kind() == io::ErrorKind::NotFound => Ok(Place::File {
+            Ok(_) => Ok(Destination::Stream),
+            Err(fault) if fault.kind() == io::ErrorKind::NotFound => Ok(Destination::File {
                 path: behind_links(rt, path)?,
                 before: None,
             }),

@@ -9,17 +9,17 @@ pub const BUFFER_BYTES: usize = 65_536;
 
 /// Writes to a writer, and keeps what the system says of a write that fails.
 #[derive(Drop)]
-pub struct Kept<'a, W: Drop> {
+pub struct WatchedWriter<'a, W: Drop> {
     writer: W,
     last: &'a LastFault,
 }
 
-impl<'a, W: Write + Drop> Kept<'a, W> {
+impl<'a, W: Write + Drop> WatchedWriter<'a, W> {
     /// The writer, and where its faults are kept.
-    pub fn new(writer: W, last: &'a LastFault) -> Kept<'a, W>
+    pub fn new(writer: W, last: &'a LastFault) -> WatchedWriter<'a, W>
         ensures { result.writer ≡ writer }
     {
-        Kept { writer, last }
+        WatchedWriter { writer, last }
     }
 
     /// The writer.
@@ -30,7 +30,7 @@ impl<'a, W: Write + Drop> Kept<'a, W> {
     }
 }
 
-impl<W: Write + Drop> Write for Kept<'_, W> {
+impl<W: Write + Drop> Write for WatchedWriter<'_, W> {
     ghost contents = { λ k. W.contents k.writer };
 
     fn write(&mut self, buf: &[u8]) -> io::Result<usize> {

@@ -5,9 +5,9 @@ ghost use Rattle.mxf_catalogue.specs.CatalogueFile.{file_bytes};
 
 use super::SaveFault;
 use super::attributes::permissions_of;
-use super::kept::{BUFFER_BYTES, Kept};
+use super::destination::Destination;
 use super::part::PartFile;
-use super::place::Place;
+use super::watched_writer::{BUFFER_BYTES, WatchedWriter};
 use crate::system_fault::LastFault;
 use mxf_catalogue::Catalogue;
 use mxf_klv::Encode;
@@ -19,31 +19,31 @@ use std::rt::Files;
 
 /// The place of a catalogue, which no other join takes meanwhile.
 #[derive(Drop)]
-pub enum Held<'a, R: Files<File = File>> {
+pub enum Reservation<'a, R: Files<File = File>> {
     /// A regular file, or nothing yet: the file beside is to take its place.
-    File(HeldFile<'a, R>),
+    File(ReservedFile<'a, R>),
     /// A terminal, a pipe or a device takes the bytes as they come.
     Stream(&'a str),
 }
 
 /// The place of a regular file.
 #[derive(Drop)]
-pub struct HeldFile<'a, R: Files<File = File>> {
+pub struct ReservedFile<'a, R: Files<File = File>> {
     path: PathBuf,
     before: Option<Metadata>,
     part: PartFile<'a, R>,
     folder: File,
 }
 
-impl<'a, R: Files<File = File> + AllocGlobal> Held<'a, R> {
+impl<'a, R: Files<File = File> + AllocGlobal> Reservation<'a, R> {
     /// Holds the place at `path`. A regular file there stays as it is until the catalogue is saved.
-    pub fn take(rt: &'a R, path: &'a str) -> Result<Held<'a, R>, SaveFault> {
-        match Place::of(rt, path)? {
-            Place::Stream => Ok(Held::Stream(path)),
-            Place::File { path, before } => {
+    pub fn take(rt: &'a R, path: &'a str) -> Result<Reservation<'a, R>, SaveFault> {
+        match Destination::of(rt, path)? {
+            Destination::Stream => Ok(Reservation::Stream(path)),
+            Destination::File { path, before } => {
                 let folder = folder_of(rt, &path)?;
                 let part = PartFile::create(rt, &path, before.is_some())?;
-                Ok(Held::File(HeldFile {
+                Ok(Reservation::File(ReservedFile {
                     path,
                     before,
                     part,
@@ -59,8 +59,8 @@ impl<'a, R: Files<File = File> + AllocGlobal> Held<'a, R> {
     /// No file is open any more when it answers, so that a line told afterwards can't go into one.
     pub fn save(self, rt: &R, catalogue: &Catalogue) -> Result<(), SaveFault> {
         match self {
-            Held::File(held) => held.save(rt.alloc(), catalogue),
-            Held::Stream(path) => {
+            Reservation::File(held) => held.save(rt.alloc(), catalogue),
+            Reservation::Stream(path) => {
                 let file = OpenOptions::new().write(true).open(rt, path)?;
                 write_whole(rt.alloc(), file, catalogue)?;
                 Ok(())
@@ -69,10 +69,10 @@ impl<'a, R: Files<File = File> + AllocGlobal> Held<'a, R> {
     }
 }
 
-impl<R: Files<File = File> + AllocGlobal> HeldFile<'_, R> {
+impl<R: Files<File = File> + AllocGlobal> ReservedFile<'_, R> {
     /// Writes the file beside and puts it in its place. All of it has reached the disk then.
     fn save(self, alloc: Global, catalogue: &Catalogue) -> Result<(), SaveFault> {
-        let HeldFile {
+        let ReservedFile {
             path,
             before,
             mut part,
@@ -115,7 +115,7 @@ fn write_whole<W: Write + Drop>(
     ensures { IfOk result (λ w. Appends (W.contents writer) (W.contents w) (file_bytes catalogue.now)) }
 {
     let last = LastFault::new();
-    let mut out = BufWriter::with_capacity(alloc, BUFFER_BYTES, Kept::new(writer, &last))?;
+    let mut out = BufWriter::with_capacity(alloc, BUFFER_BYTES, WatchedWriter::new(writer, &last))?;
     if catalogue.write_to(&mut out).is_err() || out.flush().is_err() {
         return Err(SaveFault::Write(last.get()));
     }
