@@ -87,11 +87,17 @@ fn head_at(offset: u64) -> Option<Note> {
     Note::head(offset, Ul::from_bytes(KEY)?, 9, length)
 }
 
+/// Adds the note with the number.
+fn add_note(all: &mut Catalogue, order: Order, number: u64, count: u64) -> Option<()> {
+    all.add(order.note(number, count)?).ok()?;
+    Some(())
+}
+
 /// Adds so many notes, one by one; None where there is no memory or an offset is too great.
 pub fn add_notes(alloc: Global, order: Order, count: u64) -> Option<Counts> {
     let mut all = Catalogue::new(alloc);
     for number in 0..count {
-        all.add(order.note(number, count)?).ok()?;
+        add_note(&mut all, order, number, count)?;
     }
     Some(Counts {
         notes: all.len(),

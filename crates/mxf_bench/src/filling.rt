@@ -46,13 +46,23 @@ fn note_of(alloc: Global, offset: u64, key: [u8; 16], value: &[u8]) -> Option<No
     Note::of(alloc, offset, &packet).ok()
 }
 
+/// Adds the note of a packet whose length is spelled in one byte.
+fn add_packet(
+    alloc: Global,
+    views: &mut Views,
+    offset: u64,
+    key: [u8; 16],
+    value: &[u8],
+) -> Option<()> {
+    views.add(note_of(alloc, offset, key, value)?).ok()?;
+    Some(())
+}
+
 /// The views of a header partition pack and its primer pack, whose copy reaches over all that follows.
 fn views_of_head(alloc: Global) -> Option<Views> {
     let mut views = Views::new(alloc);
-    let header = note_of(alloc, 0, HEADER_KEY, &HEADER_VALUE)?;
-    views.add(header).ok()?;
-    let primer = note_of(alloc, PACK, PRIMER_KEY, &PRIMER_VALUE)?;
-    views.add(primer).ok()?;
+    add_packet(alloc, &mut views, 0, HEADER_KEY, &HEADER_VALUE)?;
+    add_packet(alloc, &mut views, PACK, PRIMER_KEY, &PRIMER_VALUE)?;
     Some(views)
 }
 
@@ -72,52 +82,75 @@ fn counts(views: &Views, count: u64) -> Option<Counts> {
     })
 }
 
+/// Adds the note with the number.
+fn add_note(views: &mut Views, number: u64) -> Option<()> {
+    views.add(note_at(offset(number)?)?).ok()?;
+    Some(())
+}
+
 /// Adds so many notes to views one by one, in the zone of one copy.
 pub fn fill_by_notes(alloc: Global, count: u64) -> Option<Counts> {
     let mut views = views_of_head(alloc)?;
     for number in 0..count {
-        views.add(note_at(offset(number)?)?).ok()?;
+        add_note(&mut views, number)?;
     }
     counts(&views, count)
 }
 
-/// The catalogue of the notes of a piece.
-fn piece(alloc: Global, number: u64) -> Option<Catalogue> {
-    let mut catalogue = Catalogue::new(alloc);
-    let first = number.checked_mul(PIECE)?;
-    for index in first..first.checked_add(PIECE)? {
-        catalogue.add(note_at(offset(index)?)?).ok()?;
+/// Puts the notes of a piece into a catalogue, up to the packet with the number `end`.
+fn put_notes(catalogue: &mut Catalogue, first: u64, end: u64) -> Option<()> {
+    for number in first..end {
+        catalogue.add(note_at(offset(number)?)?).ok()?;
     }
-    Some(catalogue)
+    Some(())
+}
+
+/// Merges the piece with the number, of ten notes, into views.
+fn merge_piece(alloc: Global, views: &mut Views, number: u64) -> Option<()> {
+    let first = number.checked_mul(PIECE)?;
+    let end = first.checked_add(PIECE)?;
+    let mut piece = Catalogue::new(alloc);
+    put_notes(&mut piece, first, end)?;
+    views.merge(piece).ok()
 }
 
 /// Merges so many consecutive pieces of ten notes into views, in the zone of one copy.
 pub fn fill_by_pieces(alloc: Global, count: u64) -> Option<Counts> {
+    let notes = count.checked_mul(PIECE)?;
     let mut views = views_of_head(alloc)?;
     for number in 0..count {
-        views.merge(piece(alloc, number)?).ok()?;
+        merge_piece(alloc, &mut views, number)?;
     }
-    counts(&views, count.checked_mul(PIECE)?)
+    counts(&views, notes)
 }
 
-/// The catalogue of a partition pack at an offset, in bytes, whose header metadata is the primer pack behind it.
-fn partition(alloc: Global, offset: u64) -> Option<Catalogue> {
+/// Puts a partition pack at an offset, in bytes, into a catalogue, whose header metadata is the primer pack behind it.
+fn put_partition(alloc: Global, catalogue: &mut Catalogue, offset: u64) -> Option<()> {
     let mut value = HEADER_VALUE;
     value[32..40].copy_from_slice(&PRIMER.to_be_bytes());
-    let mut catalogue = Catalogue::new(alloc);
-    let pack = note_of(alloc, offset, HEADER_KEY, &value)?;
-    catalogue.add(pack).ok()?;
-    let primer = note_of(alloc, offset.checked_add(PACK)?, PRIMER_KEY, &PRIMER_VALUE)?;
-    catalogue.add(primer).ok()?;
-    Some(catalogue)
+    catalogue
+        .add(note_of(alloc, offset, HEADER_KEY, &value)?)
+        .ok()?;
+    let primer = offset.checked_add(PACK)?;
+    catalogue
+        .add(note_of(alloc, primer, PRIMER_KEY, &PRIMER_VALUE)?)
+        .ok()?;
+    Some(())
+}
+
+/// Merges the piece with the number, a partition, into views.
+fn merge_partition(alloc: Global, views: &mut Views, number: u64) -> Option<()> {
+    let offset = number.checked_mul(HEAD)?;
+    let mut piece = Catalogue::new(alloc);
+    put_partition(alloc, &mut piece, offset)?;
+    views.merge(piece).ok()
 }
 
 /// Merges so many consecutive pieces into views, each a partition with a finished copy of the header metadata.
 pub fn take_in_copies(alloc: Global, count: u64) -> Option<Counts> {
     let mut views = Views::new(alloc);
     for number in 0..count {
-        let piece = partition(alloc, number.checked_mul(HEAD)?)?;
-        views.merge(piece).ok()?;
+        merge_partition(alloc, &mut views, number)?;
     }
     let finished = views.copies().iter().filter(|copy| copy.finished).count();
     (finished as u64 == count).then_some(Counts {

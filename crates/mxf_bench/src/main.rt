@@ -19,40 +19,40 @@ use std::rt::Env;
 
 /// What is measured.
 #[derive(Clone, Copy, Debug)]
-enum Run {
+enum Bench {
     Adds(Order),
     Notes,
     Pieces,
     Copies,
 }
 
-impl Run {
+impl Bench {
     /// The run with the name.
-    fn named(name: &str) -> Option<Run> {
+    fn named(name: &str) -> Option<Bench> {
         match name {
-            "notes" => Some(Run::Notes),
-            "pieces" => Some(Run::Pieces),
-            "copies" => Some(Run::Copies),
-            _ => Some(Run::Adds(Order::named(name)?)),
+            "notes" => Some(Bench::Notes),
+            "pieces" => Some(Bench::Pieces),
+            "copies" => Some(Bench::Copies),
+            _ => Some(Bench::Adds(Order::named(name)?)),
         }
     }
 
     /// Takes so many notes or pieces in; None where there is no memory or an offset is too great.
     fn take_in(self, alloc: Global, count: u64) -> Option<Counts> {
         match self {
-            Run::Adds(order) => add_notes(alloc, order, count),
-            Run::Notes => fill_by_notes(alloc, count),
-            Run::Pieces => fill_by_pieces(alloc, count),
-            Run::Copies => take_in_copies(alloc, count),
+            Bench::Adds(order) => add_notes(alloc, order, count),
+            Bench::Notes => fill_by_notes(alloc, count),
+            Bench::Pieces => fill_by_pieces(alloc, count),
+            Bench::Copies => take_in_copies(alloc, count),
         }
     }
 }
 
 /// The run and the count that the arguments ask for.
-fn asked<R: Env + AllocGlobal>(rt: &R) -> Option<(Run, u64)> {
+fn asked<R: Env + AllocGlobal>(rt: &R) -> Option<(Bench, u64)> {
     let arguments = env::args(rt).ok()?;
     let words: Vec<String> = arguments.collect(rt.alloc()).ok()?;
-    let run = Run::named(words.get(1)?.as_str())?;
+    let run = Bench::named(words.get(1)?.as_str())?;
     let count = words.get(2)?.as_str().parse().ok()?;
     Some((run, count))
 }

@@ -8,7 +8,7 @@ use Rattle.mxf_catalogue.specs.declared.run.Run.{Run}
 use Rattle.mxf_catalogue.specs.Content.{AreReduced, IsCatalogue}
 use Rattle.mxf_catalogue.specs.Covers.{union_of_runs, union_of_runs-IsUnion}
 use Rattle.mxf_catalogue.specs.Disputes.{AreApart, SharesByte}
-use Rattle.mxf_catalogue.specs.Parts.{AreParts, Covers, IsWhole, StandApart, covered_run}
+use Rattle.mxf_catalogue.specs.NoteLists.{AreNoteLists, Covers, AreCatalogueFields, StandApart, covered_run}
 use Rattle.mxf_catalogue.specs.Runs.{IsWithin}
 use Rattle.mxf_catalogue.proofs.DisputeLaws.{SharesByte-symmetric}
 use Rattle.mxf_catalogue.proofs.KeptLaws.{above_far, whole_none}
@@ -36,10 +36,10 @@ stand_apart low (x ∷ xs) a m n (inr h) (inr k) ne s = stand_apart (end_of x) x
 
 -- so they are the undisputed notes of a content, and it has no others
 pub whole_apart : (notes : List NoteParts) (runs : List Run) → IsCatalogue notes → AreReduced notes
-    → AreApart 0 notes → Covers runs notes → IsWhole notes [] [] runs
+    → AreApart 0 notes → Covers runs notes → AreCatalogueFields notes [] [] runs
 whole_apart notes runs is red apart covers =
     let none = whole_none.kept in
-    let parts : AreParts notes [] = record {
+    let parts : AreNoteLists notes [] = record {
       undisputed_is = is;
       disputed_is = none.parts.disputed_is;
       apart = λ m n h k ne s. elim k [ inl i ↦ stand_apart 0 notes apart m n h i ne s | inr i ↦ i ];

@@ -11,8 +11,8 @@ use Rattle.mxf_catalogue.specs.declared.run.Run.{Run}
 use Rattle.mxf_catalogue.specs.Content.{AreReduced, IsCatalogue, has_note, reduced_with, union_of, with_note}
 use Rattle.mxf_catalogue.specs.Covers.{IsRun, spanned, with_run}
 use Rattle.mxf_catalogue.specs.Disputes.{SharesByte, whole_notes}
-use Rattle.mxf_catalogue.specs.Parts.{AreParts, Covers, IsKept, IsWhole, Spans, away_from, covered_run, disputed_with}
-use Rattle.mxf_catalogue.specs.Parts.{moved_by, run_of, touching}
+use Rattle.mxf_catalogue.specs.NoteLists.{AreNoteLists, Covers, AreKeptLists, AreCatalogueFields, Spans, away_from, covered_run, disputed_with}
+use Rattle.mxf_catalogue.specs.NoteLists.{moved_by, run_of, touching}
 use Rattle.mxf_catalogue.specs.Runs.{LiesIn}
 use Rattle.mxf_catalogue.proofs.ContentLaws.{In-union_of, IsCatalogue-union_of, all-In}
 use Rattle.mxf_catalogue.proofs.CoverLaws.{IsCover-with_run}
@@ -25,10 +25,10 @@ use Rattle.mxf_catalogue.proofs.HeadLaws.{same_note}
 use Rattle.mxf_catalogue.proofs.SpanCovers.{Covers-with, Spans-with_all, met_note, run_of-IsRun, spanned-IsRun}
 
 -- nothing is kept
-pub whole_none : IsWhole [] [] [] []
+pub whole_none : AreCatalogueFields [] [] [] []
 whole_none =
     let none : IsCatalogue [] = record { content = tt; members = tt } in
-    let parts : AreParts [] [] =
+    let parts : AreNoteLists [] [] =
     record { undisputed_is = none; disputed_is = none; apart = λ m n h k ne s. h; shared = λ n h. absurd h } in
     let covers : Covers [] [] = λ at. (λ h. absurd h.1, λ h. absurd h.1) in
     let spans : Spans [] [] = λ at. (λ h. absurd h.1, λ h. absurd h.1) in
@@ -43,13 +43,13 @@ whole_none =
     }
 
 -- the notes of both parts
-pub union_is : (c d : List NoteParts) → AreParts c d → IsCatalogue (union_of c d)
+pub union_is : (c d : List NoteParts) → AreNoteLists c d → IsCatalogue (union_of c d)
 union_is c d p = IsCatalogue-union_of c d p.undisputed_is p.disputed_is
 
 -- a clear note is put
-pub kept_with_clear : (x : NoteParts) (c d : List NoteParts) (few : List Run) → IsNote x → IsKept c d few
+pub kept_with_clear : (x : NoteParts) (c d : List NoteParts) (few : List Run) → IsNote x → AreKeptLists c d few
     → (has_note (union_of c d) x → ⊥) → (In (head_note x) (union_of c d) → ⊥)
-    → ((n : NoteParts) → In n (union_of c d) → SharesByte x n → ⊥) → IsKept (with_note x c) d few
+    → ((n : NoteParts) → In n (union_of c d) → SharesByte x n → ⊥) → AreKeptLists (with_note x c) d few
 kept_with_clear x c d few is k new alone far = record {
   parts = parts_with_clear x c d is k.parts (λ n h. far n ((In-union_of n c d).1 h));
   reduced = subst AreReduced (sym (view_with_clear x c d k.parts))
@@ -59,17 +59,17 @@ kept_with_clear x c d few is k new alone far = record {
 }
 
 -- the run of a note with the clear notes that it touches
-pub hull-IsRun : (x : NoteParts) (c d : List NoteParts) → IsNote x → AreParts c d
+pub hull-IsRun : (x : NoteParts) (c d : List NoteParts) → IsNote x → AreNoteLists c d
     → IsRun (spanned (run_of x) (map run_of (touching x c)))
 hull-IsRun x c d is p =
     spanned-IsRun (run_of x) (touching x c) (run_of-IsRun x is)
     (λ n h. (all-In IsNote c n p.undisputed_is.members ((In-touching x n c).0 h).0).within)
 
 -- a disputed note is put, and moves the clear notes that it touches
-pub kept_with_disputed : (x : NoteParts) (c d : List NoteParts) (few : List Run) → IsNote x → IsKept c d few
+pub kept_with_disputed : (x : NoteParts) (c d : List NoteParts) (few : List Run) → IsNote x → AreKeptLists c d few
     → (has_note (union_of c d) x → ⊥) → (In (head_note x) (union_of c d) → ⊥)
     → ((n : NoteParts) × In n (union_of c d) × SharesByte x n)
-    → IsKept (away_from x c) (disputed_with x c d) (with_run (spanned (run_of x) (map run_of (touching x c))) few)
+    → AreKeptLists (away_from x c) (disputed_with x c d) (with_run (spanned (run_of x) (map run_of (touching x c))) few)
 kept_with_disputed x c d few is k new alone near = record {
   parts = parts_with_disputed x c d is k.parts (λ h. new (inl ((In-union_of x c d).1 h)))
       (near.0, (In-union_of near.0 c d).0 near.1, near.2);
@@ -93,8 +93,8 @@ covers_with x c d all runs r new k e =
     subst (Covers (with_run (covered_run x) runs)) (sym e) (Covers-with x runs (union_of c d) r new k)
 
 -- a note takes the place of its head
-pub kept_swap_clear : (x : NoteParts) (c d : List NoteParts) (few : List Run) → IsNote x → IsKept c d few
-    → (has_note (union_of c d) x → ⊥) → In (head_note x) c → IsKept (reduced_with x c) d few
+pub kept_swap_clear : (x : NoteParts) (c d : List NoteParts) (few : List Run) → IsNote x → AreKeptLists c d few
+    → (has_note (union_of c d) x → ⊥) → In (head_note x) c → AreKeptLists (reduced_with x c) d few
 kept_swap_clear x c d few is k new h = record {
   parts = parts_swap_clear x c d is k.parts k.reduced new h;
   reduced = subst AreReduced (sym (view_swap_clear x c d is k.parts k.reduced new h))
@@ -103,8 +103,8 @@ kept_swap_clear x c d few is k new h = record {
   covers = k.covers;
 }
 
-pub kept_swap_disputed : (x : NoteParts) (c d : List NoteParts) (few : List Run) → IsNote x → IsKept c d few
-    → (has_note (union_of c d) x → ⊥) → In (head_note x) d → IsKept c (reduced_with x d) few
+pub kept_swap_disputed : (x : NoteParts) (c d : List NoteParts) (few : List Run) → IsNote x → AreKeptLists c d few
+    → (has_note (union_of c d) x → ⊥) → In (head_note x) d → AreKeptLists c (reduced_with x d) few
 kept_swap_disputed x c d few is k new h =
     let own = AreReduced-part d (union_of c d) (λ n i. (In-union_of n c d).1 (inr i)) k.reduced in
     let new_d : has_note d x → ⊥ = λ i. new (elim i [
@@ -136,7 +136,7 @@ kept_swap_disputed x c d few is k new h =
     }
 
 -- a note that touches no clear note, and meets no disputed span, shares no byte with any
-pub far_from_all : (x : NoteParts) (c d : List NoteParts) (few : List Run) → AreParts c d → Spans few d
+pub far_from_all : (x : NoteParts) (c d : List NoteParts) (few : List Run) → AreNoteLists c d → Spans few d
     → touching x c ≡ []
     → (((at : ℕ) × LiesIn few at × (x.offset ≤ at) × (at + 1 ≤ end_of x)) → ⊥)
     → (n : NoteParts) → In n (union_of c d) → SharesByte x n → ⊥
@@ -158,7 +158,7 @@ near_clear x c d some =
     let t = (In-touching x m.0 c).0 m.1 in (m.0, (In-union_of m.0 c d).1 (inl t.0), t.1)
 
 -- the greatest end of both parts
-pub end_of_parts : (c d : List NoteParts) (few : List Run) → IsKept c d few → (one two bound : ℕ)
+pub end_of_parts : (c d : List NoteParts) (few : List Run) → AreKeptLists c d few → (one two bound : ℕ)
     → one ≤ bound ↔ ((n : NoteParts) → In n c → end_of n ≤ bound)
     → two ≤ bound ↔ ((offset : ℕ) → LiesIn few offset → offset < bound)
     → max one two ≤ bound ↔ ((n : NoteParts) → In n (union_of c d) → end_of n ≤ bound)
@@ -211,7 +211,7 @@ above_last x (y ∷ ys) above =
     rw e (ap (λ t. y ∷ t) (above_last x ys (λ n h. above n (inr h))))
 
 -- and it moves none
-pub above_moves_none : (x : NoteParts) (c d : List NoteParts) → AreParts c d → AreReduced (union_of c d)
+pub above_moves_none : (x : NoteParts) (c d : List NoteParts) → AreNoteLists c d → AreReduced (union_of c d)
     → ((n : NoteParts) → In n (union_of c d) → end_of n ≤ x.offset) → [] ≡ moved_by x (union_of c d)
 above_moves_none x c d p red above =
     let none : touching x c ≡ [] = no_members (touching x c) (λ n h.

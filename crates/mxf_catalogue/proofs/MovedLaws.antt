@@ -10,7 +10,7 @@ use Rattle.mxf_klv.specs.Note.{end_of}
 use Rattle.mxf_klv.specs.Rising.{In, IsRising}
 use Rattle.mxf_catalogue.specs.Content.{IsContent, reduced_with}
 use Rattle.mxf_catalogue.specs.Disputes.{AreApart, IsClear, IsDisputed, clear_notes, is_disputed}
-use Rattle.mxf_catalogue.specs.Parts.{moved_by, moved_notes}
+use Rattle.mxf_catalogue.specs.NoteLists.{moved_by, moved_notes}
 use Rattle.mxf_catalogue.proofs.DisputeLaws.{In-clear_notes, is_disputed-IsDisputed}
 use Rattle.mxf_catalogue.proofs.Lists.{In-filter}
 use Rattle.mxf_catalogue.proofs.SpanLaws.{AreApart-clear_notes, AreApart-filter}

@@ -14,8 +14,8 @@ use Rattle.mxf_catalogue.specs.Content.{AreReduced, IsContent, IsCatalogue, has_
 use Rattle.mxf_catalogue.specs.Disputes.{SharesByte, IsDisputed, is_byte_shared, is_offset_shared, is_overlapped}
 use Rattle.mxf_catalogue.specs.Disputes.{is_disputed, clear_notes, disputed_parts, disputed_notes}
 use Rattle.mxf_catalogue.specs.Disputes.{undisputed_notes, whole_notes}
-use Rattle.mxf_catalogue.specs.Parts.{AreParts, StandApart, touching, away_from, disputed_with}
-use Rattle.mxf_catalogue.specs.Parts.{moved_by, moved_notes}
+use Rattle.mxf_catalogue.specs.NoteLists.{AreNoteLists, StandApart, touching, away_from, disputed_with}
+use Rattle.mxf_catalogue.specs.NoteLists.{moved_by, moved_notes}
 use Rattle.mxf_catalogue.proofs.ContentLaws.{same_content, In-with_note, In-union_of, IsContent-with_note}
 use Rattle.mxf_catalogue.proofs.ContentLaws.{IsContent-union_of, IsCatalogue-with_note, IsCatalogue-union_of}
 use Rattle.mxf_catalogue.proofs.ContentLaws.{all-In, all_from_In}
@@ -56,7 +56,7 @@ touches_or_not x n =
     ] refl
 
 -- The first part is the list of the undisputed notes.
-pub undisputed_part : (c d : List NoteParts) → AreParts c d → c ≡ undisputed_notes (union_of c d)
+pub undisputed_part : (c d : List NoteParts) → AreNoteLists c d → c ≡ undisputed_notes (union_of c d)
 undisputed_part c d p =
     let u = union_of c d in
     same_content c (undisputed_notes u) p.undisputed_is.content
@@ -75,7 +75,7 @@ undisputed_part c d p =
     ))
 
 -- Those of it that are no heads are the clear notes.
-pub clear_part : (c d : List NoteParts) → AreParts c d → whole_notes c ≡ clear_notes (union_of c d)
+pub clear_part : (c d : List NoteParts) → AreNoteLists c d → whole_notes c ≡ clear_notes (union_of c d)
 clear_part c d p = ap whole_notes (undisputed_part c d p)
 
 -- The parts together, once a note is there.
@@ -91,8 +91,8 @@ view_with x c d c' d' r r' same =
     ))
 
 -- A note that shares no byte with the others is clear.
-pub parts_with_clear : (x : NoteParts) (c d : List NoteParts) → IsNote x → AreParts c d
-    → ((n : NoteParts) → In n c ⊎ In n d → SharesByte x n → ⊥) → AreParts (with_note x c) d
+pub parts_with_clear : (x : NoteParts) (c d : List NoteParts) → IsNote x → AreNoteLists c d
+    → ((n : NoteParts) → In n c ⊎ In n d → SharesByte x n → ⊥) → AreNoteLists (with_note x c) d
 parts_with_clear x c d is p far = record {
   undisputed_is = IsCatalogue-with_note x c is p.undisputed_is;
   disputed_is = p.disputed_is;
@@ -113,7 +113,7 @@ parts_with_clear x c d is p far = record {
   shared = p.shared;
 }
 
-pub view_with_clear : (x : NoteParts) (c d : List NoteParts) → AreParts c d
+pub view_with_clear : (x : NoteParts) (c d : List NoteParts) → AreNoteLists c d
     → union_of (with_note x c) d ≡ with_note x (union_of c d)
 view_with_clear x c d p =
     view_with x c d (with_note x c) d p.undisputed_is.content (IsContent-with_note x c p.undisputed_is.content)
@@ -131,8 +131,8 @@ In-disputed_with x n c d =
       λ h. one.1 (elim h [ inl e ↦ inl e | inr k ↦ inr (two.1 (elim k [ inl i ↦ inl i | inr i ↦ inr (t.1 i) ])) ]),
     )
 
-pub parts_with_disputed : (x : NoteParts) (c d : List NoteParts) → IsNote x → AreParts c d → (In x c ⊎ In x d → ⊥)
-    → ((n : NoteParts) × (In n c ⊎ In n d) × SharesByte x n) → AreParts (away_from x c) (disputed_with x c d)
+pub parts_with_disputed : (x : NoteParts) (c d : List NoteParts) → IsNote x → AreNoteLists c d → (In x c ⊎ In x d → ⊥)
+    → ((n : NoteParts) × (In n c ⊎ In n d) × SharesByte x n) → AreNoteLists (away_from x c) (disputed_with x c d)
 parts_with_disputed x c d is p new hit =
     let there = λ (n : NoteParts). In-disputed_with x n c d in
     let other : (n : NoteParts) → In n c ⊎ In n d → x ≢ n = λ n h e. new (subst (λ y. In y c ⊎ In y d) (sym e) h) in
@@ -168,7 +168,7 @@ parts_with_disputed x c d is p new hit =
       ];
     }
 
-pub view_with_disputed : (x : NoteParts) (c d : List NoteParts) → AreParts c d
+pub view_with_disputed : (x : NoteParts) (c d : List NoteParts) → AreNoteLists c d
     → union_of (away_from x c) (disputed_with x c d) ≡ with_note x (union_of c d)
 view_with_disputed x c d p =
     view_with x c d (away_from x c) (disputed_with x c d) p.undisputed_is.content
@@ -217,7 +217,7 @@ filter-both p q (x ∷ xs) =
     ] refl
 
 -- The clear notes that it touches are those that it moves.
-pub moved_part : (x : NoteParts) (c d : List NoteParts) → AreParts c d → AreReduced (union_of c d)
+pub moved_part : (x : NoteParts) (c d : List NoteParts) → AreNoteLists c d → AreReduced (union_of c d)
     → (has_note (union_of c d) x → ⊥) → map (λ n. n.offset) (whole_notes (touching x c)) ≡ moved_by x (union_of c d)
 unfolding moved_notes
 moved_part x c d p red new =
@@ -244,11 +244,11 @@ moved_part x c d p red new =
     ∙ filter_same _ _ (whole_notes c) (λ n h. test n ((In-filter (λ m. m.whole) c n).0 h).0)
     ∙ ap (filter (λ n. is_disputed n (reduced_with x u))) (clear_part c d p))
 
-pub apart_of : (c d : List NoteParts) → AreParts c d → StandApart c
+pub apart_of : (c d : List NoteParts) → AreNoteLists c d → StandApart c
 apart_of c d p m n h k ne s = p.apart m n h (inl k) ne s
 
 -- No note is in both parts.
-pub not_in_both : (c d : List NoteParts) → AreParts c d → (n : NoteParts) → In n c → In n d → ⊥
+pub not_in_both : (c d : List NoteParts) → AreNoteLists c d → (n : NoteParts) → In n c → In n d → ⊥
 not_in_both c d p n h k = let s = p.shared n k in
     p.apart n s.0 h (inr s.1) (λ e. s.2 (sym e)) (SharesByte-symmetric s.0 n s.3)
 
@@ -286,7 +286,7 @@ length-union_apart xs (y ∷ ys) r f =
     ]) in
     omega (arith, new, ih)
 
-pub length-parts : (c d : List NoteParts) → AreParts c d → length (union_of c d) ≡ length c + length d
+pub length-parts : (c d : List NoteParts) → AreNoteLists c d → length (union_of c d) ≡ length c + length d
 length-parts c d p = length-union_apart c d p.disputed_is.content (not_in_both c d p)
 
 pub is_nil : (notes : List NoteParts) → (length notes == 0) ≡ true → notes ≡ []
@@ -297,7 +297,7 @@ pub is_not_nil : (notes : List NoteParts) → (length notes == 0) ≡ false → 
 is_not_nil notes e q = let t = eq-eqb (length notes) 0 (ap length q) in cc (t, e)
 
 -- The disputed part is the list of the disputed notes, and it alone decides how they are disputed.
-disputed_is : (c d : List NoteParts) → AreParts c d → (n : NoteParts) → IsDisputed n (union_of c d)
+disputed_is : (c d : List NoteParts) → AreNoteLists c d → (n : NoteParts) → IsDisputed n (union_of c d)
     → In n (union_of c d) → In n d
 disputed_is c d p n k h = elim ((In-union_of n c d).0 h) [
   | inl i ↦ absurd
@@ -305,7 +305,7 @@ disputed_is c d p n k h = elim ((In-union_of n c d).0 h) [
   | inr i ↦ i
 ]
 
-pub disputed_part : (c d : List NoteParts) → AreParts c d
+pub disputed_part : (c d : List NoteParts) → AreNoteLists c d
     → d ≡ filter (λ n. is_disputed n (union_of c d)) (union_of c d)
 disputed_part c d p =
     let u = union_of c d in
@@ -321,7 +321,7 @@ disputed_part c d p =
       (λ h. let k = f.0 h in disputed_is c d p n (t.0 k.1) k.0),
     ))
 
-pub In-disputed_part : (c d : List NoteParts) → AreParts c d → (n : NoteParts)
+pub In-disputed_part : (c d : List NoteParts) → AreNoteLists c d → (n : NoteParts)
     → In n d ↔ (In n (union_of c d) × IsDisputed n (union_of c d))
 In-disputed_part c d p n =
     let u = union_of c d in (
@@ -333,11 +333,11 @@ In-disputed_part c d p n =
     )
 
 -- What shares a byte with a disputed note is disputed.
-partner : (c d : List NoteParts) → AreParts c d → (m n : NoteParts) → In n d → In m (union_of c d) → m ≢ n
+partner : (c d : List NoteParts) → AreNoteLists c d → (m n : NoteParts) → In n d → In m (union_of c d) → m ≢ n
     → SharesByte m n → In m d
 partner c d p m n h k ne s = elim ((In-union_of m c d).0 k) [ inl i ↦ absurd (p.apart m n i (inr h) ne s) | inr i ↦ i ]
 
-marks_by_part : (c d : List NoteParts) → AreParts c d → (n : NoteParts) → In n d
+marks_by_part : (c d : List NoteParts) → AreNoteLists c d → (n : NoteParts) → In n d
     → disputed_parts n d ≡ disputed_parts n (union_of c d)
 marks_by_part c d p n h =
     let u = union_of c d in
@@ -361,13 +361,13 @@ map_same : {B : Type 0} (f g : NoteParts → B) (notes : List NoteParts) → ((n
 map_same f g [] h = refl
 map_same f g (x ∷ xs) h = λ i. h x (inl refl) i ∷ map_same f g xs (λ n k. h n (inr k)) i
 
-pub disputed_by_part : (c d : List NoteParts) → AreParts c d
+pub disputed_by_part : (c d : List NoteParts) → AreNoteLists c d
     → map (λ n. disputed_parts n d) d ≡ disputed_notes (union_of c d)
 disputed_by_part c d p = map_same (λ n. disputed_parts n d) (λ n. disputed_parts n (union_of c d)) d
     (marks_by_part c d p) ∙ ap (map (λ n. disputed_parts n (union_of c d))) (disputed_part c d p)
 
 -- One content has one pair of parts.
-pub same_parts : (c d c' d' : List NoteParts) → AreParts c d → AreParts c' d'
+pub same_parts : (c d c' d' : List NoteParts) → AreNoteLists c d → AreNoteLists c' d'
     → SameMembers (union_of c d) (union_of c' d') → (c ≡ c') × (d ≡ d')
 same_parts c d c' d' p p' s =
     let u = same_content (union_of c d) (union_of c' d') (IsContent-union_of c d p.undisputed_is.content)
@@ -388,7 +388,7 @@ pub with_whole : (x n : NoteParts) → SharesByte (head_note x) n → SharesByte
 with_whole x n s =
     (s.0, record { from = s.1.from; before = s.1.before }, s.2)
 
-module _ (x : NoteParts) (c d : List NoteParts) (is : IsNote x) (p : AreParts c d) (red : AreReduced (union_of c d))
+module _ (x : NoteParts) (c d : List NoteParts) (is : IsNote x) (p : AreNoteLists c d) (red : AreReduced (union_of c d))
     (new : has_note (union_of c d) x → ⊥) where
   abbrev u : List NoteParts
   u = union_of c d
@@ -432,7 +432,7 @@ module _ (x : NoteParts) (c d : List NoteParts) (is : IsNote x) (p : AreParts c 
     ]);
   }
 
-  pub parts_swap_clear : In (head_note x) c → AreParts (reduced_with x c) d
+  pub parts_swap_clear : In (head_note x) c → AreNoteLists (reduced_with x c) d
   parts_swap_clear h = record {
     undisputed_is = is_c;
     disputed_is = p.disputed_is;
@@ -477,7 +477,7 @@ module _ (x : NoteParts) (c d : List NoteParts) (is : IsNote x) (p : AreParts c 
         ]),
       ))
 
-  pub parts_swap_disputed : In (head_note x) d → AreParts c (reduced_with x d)
+  pub parts_swap_disputed : In (head_note x) d → AreNoteLists c (reduced_with x d)
   parts_swap_disputed h = record {
     undisputed_is = p.undisputed_is;
     disputed_is = is_d;

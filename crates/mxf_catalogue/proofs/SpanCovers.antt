@@ -8,7 +8,7 @@ use Rattle.mxf_catalogue.specs.declared.run.Run.{Run}
 use Rattle.mxf_catalogue.specs.Covers.{IsRun, both, spanned, with_run, in_both, LiesIn-with_run}
 use Rattle.mxf_catalogue.specs.Disputes.{SharesByte}
 use Rattle.mxf_catalogue.specs.Content.{AreReduced, has_note, reduced_with}
-use Rattle.mxf_catalogue.specs.Parts.{Covers, LiesInNote, LiesInSpan, Spans, covered_run, run_of}
+use Rattle.mxf_catalogue.specs.NoteLists.{Covers, LiesInNote, LiesInSpan, Spans, covered_run, run_of}
 use Rattle.mxf_catalogue.specs.Runs.{IsWithin, LiesIn}
 use Rattle.mxf_catalogue.proofs.HeadLaws.{In-reduced_with, same_note}
 

@@ -6,7 +6,7 @@ pub mod FileReading
 pub mod History
 pub mod Joins
 pub mod Moved
-pub mod Parts
+pub mod NoteLists
 pub mod Reach
 pub mod Reduced
 pub mod ReducedLaws

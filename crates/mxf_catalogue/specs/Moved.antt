@@ -3,7 +3,7 @@ use Rattle.std.specs.Prelude.{◌≡◌, List}
 use Rattle.mxf_klv.specs.Parts.{NoteParts}
 use Rattle.mxf_catalogue.specs.declared.catalogue.change.Change.{Change}
 use Rattle.mxf_catalogue.specs.declared.catalogue.change.Change.TheVariants.{Repeated, Added}
-use Rattle.mxf_catalogue.specs.Parts.{moved_by}
+use Rattle.mxf_catalogue.specs.NoteLists.{moved_by}
 
 -- Where the note was new, the offsets are those of the notes that it moves.
 abbrev pub TellsMoved : NoteParts → List NoteParts → Change → Type 0

@@ -11,15 +11,15 @@ ghost use Rattle.mxf_catalogue.specs.Content.{has_note, reduced, reduced_union, 
 ghost use Rattle.mxf_catalogue.specs.Disputes.{AreApart, IsClear, IsDisputed, clear_notes, disputed_notes, lies_in};
 ghost use Rattle.mxf_catalogue.specs.History.{History, Add, Join, content};
 ghost use Rattle.mxf_catalogue.specs.Moved.{TellsMoved};
-ghost use Rattle.mxf_catalogue.specs.Parts.{Covers, touching};
+ghost use Rattle.mxf_catalogue.specs.NoteLists.{Covers, touching};
 
 mod change;
 mod clear;
 mod disputed;
 mod file;
 mod merging;
+mod note_lists;
 mod notes;
-mod parts;
 mod placing;
 
 use crate::cover::Cover;
@@ -37,8 +37,8 @@ pub use file::{
 pub use merging::MergeFault;
 use merging::{MergedNotes, Room};
 use mxf_klv::{Note, OutOfMemory};
+use note_lists::NoteLists;
 pub use notes::Notes;
-use parts::Parts;
 use placing::{at_offset, is_in, touched, within};
 use std::alloc::Global;
 use std::marker::Model;
@@ -53,7 +53,7 @@ use std::mem::replace;
 /// compared with a few of them, by binary search.
 #[derive(Debug, Drop)]
 pub struct Catalogue {
-    parts: Parts,
+    parts: NoteLists,
     spans: Cover,
 }
 
@@ -61,13 +61,13 @@ impl Model for Catalogue {
     ghost use Rattle.std.specs.Prelude.{List};
     ghost use Rattle.mxf_klv.specs.Parts.{NoteParts};
     ghost use Rattle.mxf_catalogue.specs.Content.{union_of};
-    ghost use Rattle.mxf_catalogue.specs.Parts.{IsWhole};
+    ghost use Rattle.mxf_catalogue.specs.NoteLists.{AreCatalogueFields};
 
     ghost Value = { List NoteParts };
 
     ghost view = { λ c. union_of c.parts.undisputed.items c.parts.disputed.items };
 
-    ghost invariant = { λ c. IsWhole c.parts.undisputed.items c.parts.disputed.items c.parts.disputed_spans.items c.spans };
+    ghost invariant = { λ c. AreCatalogueFields c.parts.undisputed.items c.parts.disputed.items c.parts.disputed_spans.items c.spans };
 }
 
 impl Catalogue {
@@ -76,7 +76,7 @@ impl Catalogue {
         ensures { result ≡ [] }
     {
         Catalogue {
-            parts: Parts::new(alloc),
+            parts: NoteLists::new(alloc),
             spans: Cover::new(alloc),
         }
     }
@@ -191,7 +191,7 @@ impl Catalogue {
         };
         let mut parts = room.parts;
         let mut runs = room.runs;
-        let own = replace(&mut self.parts, Parts::new(alloc)).into_notes(room.own);
+        let own = replace(&mut self.parts, NoteLists::new(alloc)).into_notes(room.own);
         let others = other.parts.into_notes(room.others);
         parts.put_all(&mut runs, MergedNotes::of(own, others));
         self.parts = parts;
@@ -224,7 +224,7 @@ impl Catalogue {
         ensures { IfOk result (λ c. c ≡ notes.items) }
     {
         let spans = spans_of(alloc, &notes)?;
-        let mut parts = Parts::new(alloc);
+        let mut parts = NoteLists::new(alloc);
         parts.undisputed = notes;
         Ok(Catalogue { parts, spans })
     }
@@ -288,6 +288,18 @@ impl Catalogue {
         ensures bound { length result < 2 ^ 64 }
     {
         Notes::of(&self.parts.undisputed, &self.parts.disputed)
+    }
+
+    /// A law of each catalogue: its notes are a reduced content, its clear notes stand apart, and a count of either fits.
+    pub fn laws(&self)
+        ensures catalogue { IsCatalogue self.now }
+        ensures reduced { AreReduced self.now }
+        ensures apart { AreApart 0 (clear_notes self.now) }
+        ensures bound { length self.now < 2 ^ 64 }
+        ensures clear_bound { length (clear_notes self.now) < 2 ^ 64 }
+    {
+        let _ = self.notes();
+        let _ = self.clear();
     }
 
     /// The clear notes in their order: those of whole packets that share no byte with another note. A head that nothing

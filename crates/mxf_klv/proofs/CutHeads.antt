@@ -7,13 +7,13 @@ use Rattle.std.proofs.lemmas.Bool.{leb-true, ltb-true, le-leb, lt-leb, le-ltb, l
 use Rattle.std.proofs.lemmas.List.{take_at}
 use Rattle.mxf_klv.specs.Parts.{LengthParts, NoteParts, head_parts}
 use Rattle.mxf_klv.specs.Note.{greatest_end}
-use Rattle.mxf_klv.specs.Head.{BeginsWithHead, HasNoHead}
+use Rattle.mxf_klv.specs.KeyAndLength.{BeginsWithKeyAndLength, HasNoKeyAndLength}
 use Rattle.mxf_klv.specs.Piece.{BeginsWithCut}
 use Rattle.mxf_klv.specs.PieceReading.{head_at, heads_at, is_cut_at, stop_of}
 use Rattle.mxf_klv.specs.Rising.{In}
 use Rattle.mxf_klv.specs.declared.piece.Stop.TheVariants.{Truncated}
 use Rattle.std.specs.Option.{SomeIff}
-use Rattle.mxf_klv.proofs.HeadLemmas.{head-size}
+use Rattle.mxf_klv.proofs.KeyAndLengthLaws.{head-size}
 use Rattle.mxf_klv.proofs.PieceLaws.{head_at-stands, head_at-head}
 use Rattle.mxf_klv.proofs.StopLaws.{at_cut, stops}
 
@@ -25,14 +25,14 @@ heads_at-is : (offset : ℕ) (bytes : List ℕ) → heads_at offset bytes ≡ he
 unfolding heads_at head_at
 heads_at-is offset bytes = refl
 
-heads_at-of : (offset : ℕ) (bytes key after : List ℕ) (l : LengthParts) → BeginsWithHead bytes key l after
+heads_at-of : (offset : ℕ) (bytes key after : List ℕ) (l : LengthParts) → BeginsWithKeyAndLength bytes key l after
     → heads_at offset bytes ≡ cond (is_cut_at offset bytes l) (head_parts offset key l.width l.value ∷ []) []
 heads_at-of offset bytes key after l h =
     let front : take 16 bytes ≡ key = ap (take 16) h.whole ∙ take_at key _ 16 h.label.0 in
     heads_at-is offset bytes ∙ ap (heads_for offset bytes) (head_at-head bytes key l after h)
     ∙ ap (λ (k : List ℕ). cond (is_cut_at offset bytes l) (head_parts offset k l.width l.value ∷ []) []) front
 
-pub heads_at-cut : (offset : ℕ) (bytes key after : List ℕ) (l : LengthParts) → BeginsWithHead bytes key l after
+pub heads_at-cut : (offset : ℕ) (bytes key after : List ℕ) (l : LengthParts) → BeginsWithKeyAndLength bytes key l after
     → offset + (16 + l.width + l.value) ≤ greatest_end → length after < l.value
     → heads_at offset bytes ≡ head_parts offset key l.width l.value ∷ []
 heads_at-cut offset bytes key after l h near short =
@@ -49,20 +49,20 @@ false_right : (a b : Bool) → b ≡ false → (a && b) ≡ false
 false_right true b e = e
 false_right false b e = refl
 
-pub heads_at-whole : (offset : ℕ) (bytes key after : List ℕ) (l : LengthParts) → BeginsWithHead bytes key l after
+pub heads_at-whole : (offset : ℕ) (bytes key after : List ℕ) (l : LengthParts) → BeginsWithKeyAndLength bytes key l after
     → l.value ≤ length after → heads_at offset bytes ≡ []
 heads_at-whole offset bytes key after l h whole =
     let size = head-size h in
     heads_at-of offset bytes key after l h
     ∙ cond-false _ _ _ (false_left _ _ (le-ltb (length bytes) (16 + l.width + l.value) (omega arith)))
 
-pub heads_at-far : (offset : ℕ) (bytes key after : List ℕ) (l : LengthParts) → BeginsWithHead bytes key l after
+pub heads_at-far : (offset : ℕ) (bytes key after : List ℕ) (l : LengthParts) → BeginsWithKeyAndLength bytes key l after
     → greatest_end < offset + (16 + l.width + l.value) → heads_at offset bytes ≡ []
 heads_at-far offset bytes key after l h far =
     heads_at-of offset bytes key after l h
     ∙ cond-false _ _ _ (false_right _ _ (lt-leb (offset + (16 + l.width + l.value)) greatest_end far))
 
-pub heads_at-none : (offset : ℕ) (bytes : List ℕ) → HasNoHead bytes → heads_at offset bytes ≡ []
+pub heads_at-none : (offset : ℕ) (bytes : List ℕ) → HasNoKeyAndLength bytes → heads_at offset bytes ≡ []
 heads_at-none offset bytes none =
     heads_at-is offset bytes ∙ elim (head_at bytes) as (λ o. head_at bytes ≡ o → heads_for offset bytes o ≡ []) [
       | None ↦ λ e. refl
@@ -110,7 +110,7 @@ pub record Cut (offset : ℕ) (bytes : List ℕ) (r : Option NoteParts) : Type 0
   pub none : IfNone r (heads_at offset bytes ≡ [])
 
 pub cut_by : (offset : ℕ) (bytes key after : List ℕ) (l : LengthParts) (r : Option NoteParts)
-    → BeginsWithHead bytes key l after → (l.value ≤ length after → ⊥)
+    → BeginsWithKeyAndLength bytes key l after → (l.value ≤ length after → ⊥)
     → SomeIff r (offset + 16 + l.width + l.value ≤ greatest_end) (head_parts offset key l.width l.value)
     → Cut offset bytes r
 cut_by offset bytes key after l (Some n) h short s =

@@ -1,12 +1,12 @@
 -- What a note keeps has the length that its key and length say.
 use Rattle.std.proofs.Common.{◌≡◌, ℕ, length, cond, ◌∙◌, sym, refl}
 use Rattle.std.proofs.lemmas.Bool.{cond-true, cond-false}
-use Rattle.mxf_klv.specs.declared.note.held.Kept.{Kept}
-use Rattle.mxf_klv.specs.declared.note.held.Kept.TheVariants.{Whole, Digest, Head}
+use Rattle.mxf_klv.specs.declared.note.held.KeptValue.{KeptValue}
+use Rattle.mxf_klv.specs.declared.note.held.KeptValue.TheVariants.{Whole, Digest, Head}
 use Rattle.mxf_klv.specs.Note.{keeps}
-use Rattle.mxf_klv.specs.Kept.{front_of, kept_bytes, is_whole, IsKeptBy}
+use Rattle.mxf_klv.specs.KeptValue.{front_of, kept_bytes, is_whole, IsKeptBy}
 
-pub length-kept_bytes : (k : Kept) (len : ℕ) → IsKeptBy k len
+pub length-kept_bytes : (k : KeptValue) (len : ℕ) → IsKeptBy k len
     → length (kept_bytes k) ≡ cond (is_whole k) (cond (keeps (front_of k).key len) len 32) 0
 length-kept_bytes (Whole f v) len h = h.1 ∙ sym (cond-true _ _ _ h.0)
 length-kept_bytes (Digest f d) len h = h.1 ∙ sym (cond-false _ _ _ h.0)

@@ -1,5 +1,5 @@
 pub mod LengthLemmas
-pub mod HeadLemmas
+pub mod KeyAndLengthLaws
 pub mod PacketLemmas
 pub mod PacketLaw
 pub mod WrittenParts

@@ -11,7 +11,7 @@ use Rattle.mxf_klv.specs.Parts.{LengthParts, NoteParts, PacketParts, packet_part
 use Rattle.mxf_klv.specs.Label.{label_start, BeginsAsLabel}
 use Rattle.mxf_klv.specs.Ber.{IsSpelledLength}
 use Rattle.mxf_klv.specs.Packet.{IsCutPacket, IsSpelledPacket, ReadsPacket, size_of}
-use Rattle.mxf_klv.specs.Head.{BeginsWithHead, HasNoHead}
+use Rattle.mxf_klv.specs.KeyAndLength.{BeginsWithKeyAndLength, HasNoKeyAndLength}
 use Rattle.mxf_klv.specs.Note.{greatest_end, note_of}
 use Rattle.mxf_klv.specs.Piece.{AreLaid, BeginsWithNone, IsStop, end_after, notes_from}
 use Rattle.mxf_klv.specs.PieceReading.{IsOpen, packet_at, packets_in, rest_in, stop_in, stop_of}
@@ -19,7 +19,7 @@ use Rattle.mxf_klv.specs.declared.packet.PacketFault.{PacketFault}
 use Rattle.mxf_klv.specs.declared.packet.PacketFault.TheVariants as faults
 use Rattle.mxf_klv.specs.declared.piece.Stop.{Stop}
 use Rattle.mxf_klv.specs.declared.piece.Stop.TheVariants.{End, NotUl, BadLength, TooFar, Truncated}
-use Rattle.mxf_klv.proofs.HeadLemmas.{head_in, head-size, head-width}
+use Rattle.mxf_klv.proofs.KeyAndLengthLaws.{head_in, head-size, head-width}
 use Rattle.mxf_klv.proofs.PieceLaws.{none-packet_at, one_piece, packet_at-fault, packet_at-given, packet_at-none}
 use Rattle.mxf_klv.proofs.PieceLaws.{packets_in-none, packets_in-some, rest_in-none, rest_in-some, some_piece}
 use Rattle.mxf_klv.proofs.PieceLaws.{none_at_end}
@@ -134,8 +134,8 @@ one_more o m b p e whole =
 
 -- ---- heads
 
-pub more_head : (r key : List ℕ) (l : LengthParts) (after x : List ℕ) → BeginsWithHead r key l after
-    → BeginsWithHead (r ++ x) key l (after ++ x)
+pub more_head : (r key : List ℕ) (l : LengthParts) (after x : List ℕ) → BeginsWithKeyAndLength r key l after
+    → BeginsWithKeyAndLength (r ++ x) key l (after ++ x)
 more_head r key l after x h = record {
   spelled = h.spelled;
   label = h.label;
@@ -144,11 +144,11 @@ more_head r key l after x h = record {
 }
 
 -- where there is no whole key and length there is no packet
-pub no_head_no_packet : (at : ℕ) (r : List ℕ) → HasNoHead r → packet_at at r ≡ None
+pub no_head_no_packet : (at : ℕ) (r : List ℕ) → HasNoKeyAndLength r → packet_at at r ≡ None
 no_head_no_packet at r none =
     none-packet_at at r (λ front after p s is.
     absurd (none p.key (p.value ++ after) (record { width = p.width; value = length p.value })
-    (subst (λ (t : List ℕ). BeginsWithHead t p.key (record { width = p.width; value = length p.value }) (p.value ++ after))
+    (subst (λ (t : List ℕ). BeginsWithKeyAndLength t p.key (record { width = p.width; value = length p.value }) (p.value ++ after))
     (sym is) (head_in front after p s))))
 
 -- A value that has come whole makes a packet, behind which nothing has come.
@@ -156,7 +156,7 @@ pub record IsWholePacket (at : ℕ) (r key : List ℕ) (l : LengthParts) (after 
   pub stands : packet_at at r ≡ Some (packet_parts key l.width after)
   pub size : size_of (packet_parts key l.width after) ≡ length r
 
-pub whole_value : (at : ℕ) (r key : List ℕ) (l : LengthParts) (after : List ℕ) → BeginsWithHead r key l after
+pub whole_value : (at : ℕ) (r key : List ℕ) (l : LengthParts) (after : List ℕ) → BeginsWithKeyAndLength r key l after
     → at + (16 + l.width + l.value) ≤ greatest_end → length after ≡ l.value → IsWholePacket at r key l after
 whole_value at r key l after h near e =
     let size = head-size h in
@@ -179,10 +179,10 @@ whole_value at r key l after h near e =
 pub record IsHeadNow (r x key : List ℕ) (l : LengthParts) : Type 0 where
   pub below : length r < 16 + l.width
   pub room : 16 + l.width ≤ length r + length x
-  pub begins : BeginsWithHead (r ++ take (16 + l.width - length r) x) key l []
+  pub begins : BeginsWithKeyAndLength (r ++ take (16 + l.width - length r) x) key l []
 
-head_front : (r key : List ℕ) (l : LengthParts) (after : List ℕ) (n : ℕ) → BeginsWithHead r key l after
-    → 16 + l.width ≤ n → BeginsWithHead (take n r) key l (take (n - (16 + l.width)) after)
+head_front : (r key : List ℕ) (l : LengthParts) (after : List ℕ) (n : ℕ) → BeginsWithKeyAndLength r key l after
+    → 16 + l.width ≤ n → BeginsWithKeyAndLength (take n r) key l (take (n - (16 + l.width)) after)
 head_front r key l after n h long =
     let k : length (key ++ h.spelled) ≡ 16 + l.width = omega (arith, length-append key h.spelled, h.label.0, head-width h) in
     let all : r ≡ (key ++ h.spelled) ++ after = h.whole ∙ sym (append_assoc key h.spelled after) in
@@ -195,8 +195,8 @@ head_front r key l after n h long =
           ∙ append_assoc key h.spelled (take (n - (16 + l.width)) after);
     }
 
-pub head_now : (r x key : List ℕ) (count : ℕ) (l : LengthParts) (after : List ℕ) → HasNoHead r
-    → BeginsWithHead (r ++ take count x) key l after → IsHeadNow r x key l
+pub head_now : (r x key : List ℕ) (count : ℕ) (l : LengthParts) (after : List ℕ) → HasNoKeyAndLength r
+    → BeginsWithKeyAndLength (r ++ take count x) key l after → IsHeadNow r x key l
 head_now r x key count l after none h =
     let y = take count x in
     let used = 16 + l.width - length r in
@@ -213,17 +213,17 @@ head_now r x key count l after none h =
             take_past (16 + l.width) r y (length r) refl (omega arith)
             ∙ ap (λ (t : List ℕ). r ++ t) (take-take used count x (omega arith)) in
             let nothing : take (16 + l.width - (16 + l.width)) after ≡ [] = nothing_taken (16 + l.width) after in
-            subst (λ (t : List ℕ). BeginsWithHead t key l []) cut
-            (subst (λ (t : List ℕ). BeginsWithHead (take (16 + l.width) (r ++ y)) key l t) nothing front);
+            subst (λ (t : List ℕ). BeginsWithKeyAndLength t key l []) cut
+            (subst (λ (t : List ℕ). BeginsWithKeyAndLength (take (16 + l.width) (r ++ y)) key l t) nothing front);
       }
       | inr long ↦
           absurd (none key (take (length r - (16 + l.width)) after) l
-          (subst (λ (t : List ℕ). BeginsWithHead t key l (take (length r - (16 + l.width)) after))
+          (subst (λ (t : List ℕ). BeginsWithKeyAndLength t key l (take (length r - (16 + l.width)) after))
           (take_at r y (length r) refl) (head_front (r ++ y) key l after (length r) h long)))
     ]
 
 -- the stop of a rest that begins with no key and length
-pub stop_is : (at : ℕ) (r : List ℕ) (s : Stop) → HasNoHead r → stop_of at r ≡ s → IsStop at r s
+pub stop_is : (at : ℕ) (r : List ℕ) (s : Stop) → HasNoKeyAndLength r → stop_of at r ≡ s → IsStop at r s
 stop_is at r s none e = (one_stop at r s (packet_at-none at r (no_head_no_packet at r none))).0 e
 
 spelled_width : (spelled : List ℕ) (w v : ℕ) → IsSpelledLength spelled w v → w ≤ 9
@@ -231,24 +231,24 @@ spelled_width [] w v h = absurd h
 spelled_width (x ∷ xs) w v (inl h) = let one = h.0 in omega (arith, one)
 spelled_width (x ∷ xs) w v (inr h) = h.1
 
-few_cut : (r : List ℕ) → HasNoHead r → IsCutPacket r → length r ≤ 24
+few_cut : (r : List ℕ) → HasNoKeyAndLength r → IsCutPacket r → length r ≤ 24
 few_cut r none c =
     let p = c.packet in
     let s = c.spells in
     let l : LengthParts = record { width = p.width; value = length p.value } in
-    let h : BeginsWithHead (r ++ c.more) p.key l p.value =
+    let h : BeginsWithKeyAndLength (r ++ c.more) p.key l p.value =
     record { spelled = s.spelled; label = s.label; width = s.width; whole = s.whole } in
     let nine = spelled_width s.spelled p.width (length p.value) s.width in
     elim (cases_lt (length r) (16 + p.width)) [
       | inl below ↦ omega arith
       | inr long ↦
           absurd (none p.key (take (length r - (16 + p.width)) p.value) l
-          (subst (λ (t : List ℕ). BeginsWithHead t p.key l (take (length r - (16 + p.width)) p.value))
+          (subst (λ (t : List ℕ). BeginsWithKeyAndLength t p.key l (take (length r - (16 + p.width)) p.value))
           (take_at r c.more (length r) refl) (head_front (r ++ c.more) p.key l p.value (length r) h long)))
     ]
 
 -- bytes that may go on and have no head are few
-pub few_without_head : (at : ℕ) (r : List ℕ) → HasNoHead r → IsOpen (stop_of at r) → length r ≤ 24
+pub few_without_head : (at : ℕ) (r : List ℕ) → HasNoKeyAndLength r → IsOpen (stop_of at r) → length r ≤ 24
 few_without_head at r none cut =
     elim (stop_of at r) as (λ s. stop_of at r ≡ s → IsOpen s → length r ≤ 24) [
       | End ↦ λ e o. (let is = stop_is at r End none e in let len = ap length is in omega arith)

@@ -14,7 +14,7 @@ use Rattle.mxf_klv.specs.Label.{label_start, BeginsAsLabel}
 use Rattle.mxf_klv.specs.Ber.{ReadsLength}
 use Rattle.mxf_klv.specs.Packet.{IsSpelledPacket, IsCutPacket, ReadsPacket}
 use Rattle.mxf_klv.proofs.LengthLemmas.{one_reading}
-use Rattle.mxf_klv.proofs.HeadLemmas.{head_in, head-length}
+use Rattle.mxf_klv.proofs.KeyAndLengthLaws.{head_in, head-length}
 use Rattle.mxf_klv.proofs.PacketLemmas.{same_packet}
 
 -- what begins a text that begins as a label begins as a label

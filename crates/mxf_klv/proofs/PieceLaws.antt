@@ -21,9 +21,9 @@ use Rattle.mxf_klv.specs.declared.piece.Stop.{Stop}
 use Rattle.mxf_klv.specs.PieceReading.{length_at, head_at, end_with, fits_at, packet_with, packet_at, packets_by}
 use Rattle.mxf_klv.specs.PieceReading.{rest_by, packets_in, rest_in, stop_of, GoesOn, EndsAt}
 use Rattle.mxf_klv.proofs.LengthLemmas.{one_reading, wide_found}
-use Rattle.mxf_klv.specs.Head.{BeginsWithHead}
+use Rattle.mxf_klv.specs.KeyAndLength.{BeginsWithKeyAndLength}
 use Rattle.mxf_klv.proofs.LengthLemmas.{spelled_len}
-use Rattle.mxf_klv.proofs.HeadLemmas.{head_of, head_in, head-begins, head-length, head-packet, head-size}
+use Rattle.mxf_klv.proofs.KeyAndLengthLaws.{head_of, head_in, head-begins, head-length, head-packet, head-size}
 use Rattle.mxf_klv.proofs.PacketLemmas.{label_of, same_packet}
 use Rattle.mxf_klv.proofs.PacketLaw.{one_packet_reading}
 
@@ -121,7 +121,7 @@ length-spelled bytes p s =
 
 -- what is given as the length of a head is that of one
 pub head_at-stands : (bytes : List ℕ) (l : LengthParts) → head_at bytes ≡ Some l
-    → BeginsWithHead bytes (take 16 bytes) l (drop l.width (drop 16 bytes))
+    → BeginsWithKeyAndLength bytes (take 16 bytes) l (drop l.width (drop 16 bytes))
 unfolding head_at
 head_at-stands bytes l e =
     let g = guarded (begins_as_label bytes && nat_le 16 (length bytes)) _ _ e in
@@ -130,7 +130,7 @@ head_at-stands bytes l e =
     (length_at-stands (drop 16 bytes) l g.1)
 
 -- and that of each head is given
-pub head_at-head : (bytes key : List ℕ) (l : LengthParts) (after : List ℕ) → BeginsWithHead bytes key l after
+pub head_at-head : (bytes key : List ℕ) (l : LengthParts) (after : List ℕ) → BeginsWithKeyAndLength bytes key l after
     → head_at bytes ≡ Some l
 unfolding head_at
 head_at-head bytes key l after h =
@@ -195,7 +195,7 @@ packet_at-given offset bytes front after p s is within =
     let long : size_of p ≤ length bytes = omega (arith, size, whole, length-append front after) in
     let l = made p.width (length p.value) in
     let head : head_at bytes ≡ Some l = head_at-head bytes p.key l (p.value ++ after)
-    (subst (λ (t : List ℕ). BeginsWithHead t p.key l (p.value ++ after)) (sym is) (head_in front after p s)) in
+    (subst (λ (t : List ℕ). BeginsWithKeyAndLength t p.key l (p.value ++ after)) (sym is) (head_in front after p s)) in
     let test : fits_at offset bytes l ≡ true = and_from _ _ (le-leb (16 + l.width + l.value) (length bytes) long)
     (le-leb (end_with offset l) greatest_end within) in
     let given : packet_at offset bytes ≡ Some (packet_with bytes l) =

@@ -10,7 +10,7 @@ use Rattle.mxf_klv.specs.Parts.{LengthParts, PacketParts, packet_parts}
 use Rattle.mxf_klv.specs.Label.{BeginsAsLabel, begins_as_label}
 use Rattle.mxf_klv.specs.Ber.{IsCutLength, ReadsLength}
 use Rattle.mxf_klv.specs.Packet.{IsCutPacket, size_of}
-use Rattle.mxf_klv.specs.Head.{BeginsWithHead, HasNoHead, ReadsHead}
+use Rattle.mxf_klv.specs.KeyAndLength.{BeginsWithKeyAndLength, HasNoKeyAndLength, ReadsKeyAndLength}
 use Rattle.mxf_klv.specs.Note.{greatest_end}
 use Rattle.mxf_klv.specs.Piece.{BeginsWithNone, EndsTooFar, IsPiece, IsStop, end_after}
 use Rattle.mxf_klv.specs.PieceReading.{EndsAt, GoesOn, head_at, length_at, packet_at, is_bad_length, end_with}
@@ -21,8 +21,8 @@ use Rattle.mxf_klv.specs.declared.packet.PacketFault.TheVariants as faults
 use Rattle.mxf_klv.specs.declared.piece.Stop.{Stop}
 use Rattle.mxf_klv.specs.declared.piece.Stop.TheVariants.{End, NotUl, BadLength, TooFar, Truncated}
 use Rattle.mxf_klv.proofs.LengthLemmas.{one_reading, wide_found}
-use Rattle.mxf_klv.proofs.HeadLemmas.{head_of, head-begins, head-cut, head-length, head-packet, head-size, head_in}
-use Rattle.mxf_klv.proofs.HeadLemmas.{no_head, no_head_short}
+use Rattle.mxf_klv.proofs.KeyAndLengthLaws.{head_of, head-begins, head-cut, head-length, head-packet, head-size, head_in}
+use Rattle.mxf_klv.proofs.KeyAndLengthLaws.{no_head, no_head_short}
 use Rattle.mxf_klv.proofs.PacketLemmas.{key_cut, label_of, length_cut}
 use Rattle.mxf_klv.proofs.PacketLaw.{cut_begins, no_fault_cut}
 use Rattle.mxf_klv.proofs.PieceLaws.{begins-test, test-begins, ends_at, goes_on, head_at-head, head_at-stands}
@@ -150,7 +150,7 @@ cut offset rest none begins sound near =
         | None ↦ λ e. length_cut rest (drop 16 rest) refl begins long (cut_else (drop 16 rest) sound e)
         | Some l ↦ λ e.
             let after = drop l.width (drop 16 rest) in
-            let head : BeginsWithHead rest (take 16 rest) l after =
+            let head : BeginsWithKeyAndLength rest (take 16 rest) l after =
             head_of rest l (label_of rest begins long) (length_at-stands (drop 16 rest) l e) in
             elim (cases_lt (length after) l.value) [
               | inl short ↦ head-cut head short
@@ -200,7 +200,7 @@ long-some xs p e =
     both_ways _ (ap (λ (t : List ℕ). is_bad_length (drop 16 t)) e) (reads-bad (drop 16 xs) p)
 
 -- no length is at fault where a head or a cut packet stands
-sound_head : (bytes key after : List ℕ) (l : LengthParts) → BeginsWithHead bytes key l after
+sound_head : (bytes key after : List ℕ) (l : LengthParts) → BeginsWithKeyAndLength bytes key l after
     → ReadsLength (drop 16 bytes) (Err lengths.Indefinite) ⊎ ReadsLength (drop 16 bytes) (Err lengths.TooWide) → ⊥
 sound_head bytes key after l head p =
     elim p [
@@ -290,7 +290,7 @@ stop_for offset faults.Indefinite = BadLength offset
 stop_for offset faults.TooWide = BadLength offset
 stop_for offset faults.Short = Truncated offset
 
-is_stop_for : (offset : ℕ) (bytes : List ℕ) (f : PacketFault) → (bytes ≡ [] → ⊥) → ReadsHead bytes (Err f)
+is_stop_for : (offset : ℕ) (bytes : List ℕ) (f : PacketFault) → (bytes ≡ [] → ⊥) → ReadsKeyAndLength bytes (Err f)
     → IsStop offset bytes (stop_for offset f)
 is_stop_for offset bytes faults.NotUl some r = (refl, r.0)
 is_stop_for offset bytes faults.Indefinite some r = (refl, inl r.0)
@@ -298,28 +298,28 @@ is_stop_for offset bytes faults.TooWide some r = (refl, inr r.0)
 is_stop_for offset bytes faults.Short some r = (refl, some, r.0, λ far. r.1 far.0 far.2 far.1 far.3)
 
 pub at_fault : (offset : ℕ) (bytes : List ℕ) (f g : PacketFault) → nat_eq (length bytes) 0 ≡ false → f ≡ g
-    → ReadsHead bytes (Err f)
+    → ReadsKeyAndLength bytes (Err f)
     → Stopped offset bytes (stop_for offset g)
 at_fault offset bytes f g some same r =
-    let read : ReadsHead bytes (Err g) = subst (λ (x : PacketFault). ReadsHead bytes (Err x)) same r in
+    let read : ReadsKeyAndLength bytes (Err g) = subst (λ (x : PacketFault). ReadsKeyAndLength bytes (Err x)) same r in
     record {
       none = packet_at-none offset bytes (packet_at-fault offset bytes g read.0);
       is = is_stop_for offset bytes g (λ e. both_ways _ some (eq-eqb (length bytes) 0 (ap length e))) read;
     }
 
 -- two heads of the same bytes have one length
-same_length : (bytes j k a b : List ℕ) (l m : LengthParts) → BeginsWithHead bytes j l a → BeginsWithHead bytes k m b
+same_length : (bytes j k a b : List ℕ) (l m : LengthParts) → BeginsWithKeyAndLength bytes j l a → BeginsWithKeyAndLength bytes k m b
     → l ≡ m
 same_length bytes j k a b l m h i =
     let e : Ok l ≡ Ok m = one_reading (drop 16 bytes) (Ok l) (Ok m) (head-length h) (head-length i) in
     cc
 
 -- a packet that ends too far on
-pub at_far : (offset : ℕ) (bytes key after : List ℕ) (l : LengthParts) → BeginsWithHead bytes key l after
+pub at_far : (offset : ℕ) (bytes key after : List ℕ) (l : LengthParts) → BeginsWithKeyAndLength bytes key l after
     → greatest_end < offset + (16 + l.width + l.value) → Stopped offset bytes (TooFar offset)
 at_far offset bytes key after l h far = record {
   none = λ front rest p s is.
-      let other = subst (λ (t : List ℕ). BeginsWithHead t p.key (record { width = p.width; value = length p.value })
+      let other = subst (λ (t : List ℕ). BeginsWithKeyAndLength t p.key (record { width = p.width; value = length p.value })
       (p.value ++ rest)) (sym is) (head_in front rest p s) in
       let same = same_length bytes key p.key after (p.value ++ rest) l _ h other in
       let width : l.width ≡ p.width = ap (λ (m : LengthParts). m.width) same in
@@ -329,7 +329,7 @@ at_far offset bytes key after l h far = record {
 }
 
 -- a value that is cut
-pub at_cut : (offset : ℕ) (bytes key after : List ℕ) (l : LengthParts) → BeginsWithHead bytes key l after
+pub at_cut : (offset : ℕ) (bytes key after : List ℕ) (l : LengthParts) → BeginsWithKeyAndLength bytes key l after
     → offset + (16 + l.width + l.value) ≤ greatest_end → length after < l.value → Stopped offset bytes
     (Truncated offset)
 at_cut offset bytes key after l h near short = record {
@@ -357,7 +357,7 @@ pub record Answers (offset : ℕ) (bytes : List ℕ) (r : Result (PacketParts ×
 abbrev given : PacketParts → ℕ → Result (PacketParts × ℕ) Stop
 given p size = Ok (p, size)
 
-at_packet : (offset : ℕ) (bytes key after : List ℕ) (l : LengthParts) → BeginsWithHead bytes key l after
+at_packet : (offset : ℕ) (bytes key after : List ℕ) (l : LengthParts) → BeginsWithKeyAndLength bytes key l after
     → offset + (16 + l.width + l.value) ≤ greatest_end → l.value ≤ length after
     → Answers offset bytes (given (packet_parts key l.width (take l.value after)) (16 + l.width + l.value))
 at_packet offset bytes key after l h near whole =
@@ -372,7 +372,7 @@ at_packet offset bytes key after l h near whole =
 
 -- the last exit: the packet, or its value is cut
 pub at_value : (offset : ℕ) (bytes key after : List ℕ) (l : LengthParts) (r : Option (PacketParts × ℕ))
-    → BeginsWithHead bytes key l after
+    → BeginsWithKeyAndLength bytes key l after
     → offset + (16 + l.width + l.value) ≤ greatest_end
     → SomeIff r (l.value ≤ length after) (packet_parts key l.width (take l.value after), 16 + l.width + l.value)
     → Answers offset bytes (ok_or r (Truncated offset))
@@ -392,16 +392,16 @@ at_value offset bytes key after l (Some x) h near whole =
 -- ---- the exits of `next_head`
 
 pub no_head_for : (offset : ℕ) (bytes : List ℕ) (stop : Stop) → Stopped offset bytes stop
-    → (IsOpen stop → HasNoHead bytes)
+    → (IsOpen stop → HasNoKeyAndLength bytes)
     → IsNoHead offset bytes stop
 no_head_for offset bytes stop s cut =
     let t = stops offset bytes stop s in
     record { none = t.0; is = t.1; cut = cut }
 
-pub end_has_no_head : (bytes : List ℕ) → nat_eq (length bytes) 0 ≡ true → HasNoHead bytes
+pub end_has_no_head : (bytes : List ℕ) → nat_eq (length bytes) 0 ≡ true → HasNoKeyAndLength bytes
 end_has_no_head bytes e =
     let len = ap length (no-bytes bytes e) in
     no_head_short bytes (omega arith)
 
-pub fault_has_no_head : (bytes : List ℕ) (f : PacketFault) → ReadsHead bytes (Err f) → HasNoHead bytes
+pub fault_has_no_head : (bytes : List ℕ) (f : PacketFault) → ReadsKeyAndLength bytes (Err f) → HasNoKeyAndLength bytes
 fault_has_no_head bytes f r = r.1

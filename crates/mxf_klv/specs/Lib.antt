@@ -3,12 +3,12 @@ pub mod Ber
 pub mod Kind
 pub mod Label
 pub mod Packet
-pub mod Head
+pub mod KeyAndLength
 pub mod Parts
 pub mod Piece
 pub mod PieceReading
 pub mod Note
-pub mod Kept
+pub mod KeptValue
 pub mod NoteOrder
 pub mod Rising
 pub mod Words

@@ -2,7 +2,7 @@
 use Rattle.std.specs.Prelude.{◌≡◌, ◌≢◌, ◌⊎◌, ℕ, ◌+◌, ◌≤◌, ◌<◌, List, [], ◌∷◌, ◌++◌, length as len, Err}
 use Rattle.mxf_klv.specs.Parts.{LengthParts, PacketParts, NoteParts, head_parts}
 use Rattle.mxf_klv.specs.Packet.{IsSpelledPacket, ReadsPacket, size_of}
-use Rattle.mxf_klv.specs.Head.{BeginsWithHead}
+use Rattle.mxf_klv.specs.KeyAndLength.{BeginsWithKeyAndLength}
 use Rattle.mxf_klv.specs.Note.{greatest_end, note_of}
 use Rattle.mxf_klv.specs.declared.packet.PacketFault.TheVariants as faults
 use Rattle.mxf_klv.specs.declared.piece.Stop.{Stop}
@@ -40,7 +40,7 @@ notes_from offset (p ∷ ps) = note_of offset p ∷ notes_from (offset + size_of
 -- A whole key and a whole length stand at the front, and the packet would end above the greatest end.
 abbrev pub EndsTooFar : ℕ → List ℕ → Type 0
 EndsTooFar offset bytes =
-    (key : List ℕ) × (l : LengthParts) × (after : List ℕ) × BeginsWithHead bytes key l after
+    (key : List ℕ) × (l : LengthParts) × (after : List ℕ) × BeginsWithKeyAndLength bytes key l after
     × (greatest_end < offset + (16 + l.width + l.value))
 
 -- A whole key and a whole length stand at the front of a rest, with a value that is cut; the packet would end at or below
@@ -49,7 +49,7 @@ pub record BeginsWithCut (offset : ℕ) (rest : List ℕ) (n : NoteParts) : Type
   pub key : List ℕ
   pub length : LengthParts
   pub after : List ℕ
-  pub stands : BeginsWithHead rest key length after
+  pub stands : BeginsWithKeyAndLength rest key length after
   pub cut : len after < length.value
   pub within : offset + (16 + length.width + length.value) ≤ greatest_end
   pub head : n ≡ head_parts offset key length.width length.value

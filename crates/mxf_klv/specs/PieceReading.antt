@@ -7,7 +7,7 @@ use Rattle.std.specs.Option.{option_map_or, option_and_then}
 use Rattle.byteorder.specs.Endian.{big_number}
 use Rattle.mxf_klv.specs.Parts.{LengthParts, PacketParts, NoteParts, head_parts, packet_parts}
 use Rattle.mxf_klv.specs.Label.{begins_as_label}
-use Rattle.mxf_klv.specs.Head.{BeginsWithHead, HasNoHead}
+use Rattle.mxf_klv.specs.KeyAndLength.{BeginsWithKeyAndLength, HasNoKeyAndLength}
 use Rattle.mxf_klv.specs.Packet.{size_of}
 use Rattle.mxf_klv.specs.Note.{greatest_end, note_of}
 use Rattle.mxf_klv.specs.Piece.{notes_from, end_after}
@@ -113,14 +113,14 @@ IsOpen (TooFar place) = ⊥
 -- The key and the length of the packet at the front, which would end at or below the greatest end.
 pub record IsHeadOf (offset : ℕ) (bytes key : List ℕ) (l : LengthParts) : Type 0 where
   pub after : List ℕ
-  pub begins : BeginsWithHead bytes key l after
+  pub begins : BeginsWithKeyAndLength bytes key l after
   pub within : end_with offset l ≤ greatest_end
 
 -- No packet stands at the front, and the piece stops so. Where it may go on, key and length aren't whole.
 pub record IsNoHead (offset : ℕ) (bytes : List ℕ) (stop : Stop) : Type 0 where
   pub none : packet_at offset bytes ≡ None
   pub is : stop ≡ stop_of offset bytes
-  pub cut : IsOpen stop → HasNoHead bytes
+  pub cut : IsOpen stop → HasNoKeyAndLength bytes
 
 -- The packet at the front is the first of the piece, and the piece after it has the others, and the stop.
 pub record GoesOn (offset : ℕ) (bytes : List ℕ) (p : PacketParts) (size : ℕ) : Type 0 where

@@ -1,6 +1,6 @@
 //! Notes: what is known of a packet at an offset (this project's profile).
 ghost use Rattle.std.specs.Prelude.{◌≡◌, ◌↔◌, ◌+◌, ◌<◌, ◌≤◌, length, vec_len, true, false, not};
-ghost use Rattle.std.specs.Prelude.{IfOk, IfErr, IsOk, IsErr, IsTrue, IsErrOf};
+ghost use Rattle.std.specs.Prelude.{IfOk, IfErr, IfSome, IfNone, IsOk, IsErr, IsTrue, IsErrOf};
 ghost use Rattle.std.specs.Option.{SomeIff};
 ghost use Rattle.mxf_klv.specs.Parts.{CanSpell, NoteParts, head_parts, note_parts};
 ghost use Rattle.mxf_klv.specs.Kind.{kind_of};
@@ -23,7 +23,7 @@ use crate::memory::OutOfMemory;
 use crate::packet::Packet;
 use front::Front;
 pub use held::Held;
-use held::Kept;
+use held::KeptValue;
 use sha2::{Digest, Sha256};
 use std::alloc::Global;
 use std::marker::Model;
@@ -46,14 +46,14 @@ const GREATEST_KEPT: u64 = 4_194_304;
 pub struct Note {
     offset: u64,
     length: u64,
-    kept: Kept,
+    kept: KeptValue,
 }
 
 // In memory a note takes 64 bytes, beside a value that it keeps.
 const _: () = prove!(size_of::<Note>() == 64);
 
 impl Model for Note {
-    ghost use Rattle.mxf_klv.specs.Kept.{AreNoteFields, front_of, kept_bytes, is_whole};
+    ghost use Rattle.mxf_klv.specs.KeptValue.{AreNoteFields, front_of, kept_bytes, is_whole};
     ghost use Rattle.mxf_klv.specs.Parts.{NoteParts};
 
     ghost Value = { NoteParts };
@@ -104,7 +104,7 @@ pub struct NotANote {
 }
 
 impl Note {
-    ghost use Rattle.mxf_klv.specs.Kept.{Shows};
+    ghost use Rattle.mxf_klv.specs.KeptValue.{Shows};
 
     /// The note of a packet at a file offset, in bytes.
     pub fn of(alloc: Global, offset: u64, packet: &Packet<'_>) -> Result<Note, NoteFault>
@@ -132,9 +132,9 @@ impl Note {
         let value = packet.value();
         let length = value.len() as u64;
         let kept = if keeps(front.kind, length) {
-            Kept::Whole(front, Vec::from_slice(alloc, value)?)
+            KeptValue::Whole(front, Vec::from_slice(alloc, value)?)
         } else {
-            Kept::Digest(front, Sha256::digest(value))
+            KeptValue::Digest(front, Sha256::digest(value))
         };
         Ok(Note {
             offset,
@@ -204,8 +204,8 @@ impl Note {
         ensures { result ≡ self.now.whole }
     {
         match &self.kept {
-            Kept::Whole(_, _) | Kept::Digest(_, _) => true,
-            Kept::Head(_) => false,
+            KeptValue::Whole(_, _) | KeptValue::Digest(_, _) => true,
+            KeptValue::Head(_) => false,
         }
     }
 
@@ -223,7 +223,7 @@ impl Note {
         Note {
             offset: self.offset,
             length: self.length,
-            kept: Kept::Head(self.kept.front()),
+            kept: KeptValue::Head(self.kept.front()),
         }
     }
 
@@ -238,9 +238,9 @@ impl Note {
         ensures { result.now ≡ self.now.held }
     {
         match &self.kept {
-            Kept::Whole(_, value) => value,
-            Kept::Digest(_, digest) => digest,
-            Kept::Head(_) => &[],
+            KeptValue::Whole(_, value) => value,
+            KeptValue::Digest(_, digest) => digest,
+            KeptValue::Head(_) => &[],
         }
     }
 
@@ -249,9 +249,20 @@ impl Note {
         ensures { Shows result self.now }
     {
         match &self.kept {
-            Kept::Whole(_, value) => Held::Whole(value),
-            Kept::Digest(_, digest) => Held::Digest(digest),
-            Kept::Head(_) => Held::Head,
+            KeptValue::Whole(_, value) => Held::Whole(value),
+            KeptValue::Digest(_, digest) => Held::Digest(digest),
+            KeptValue::Head(_) => Held::Head,
+        }
+    }
+
+    /// The whole value, where the note keeps it; none where it holds a digest, or is a head.
+    pub fn value(&self) -> Option<&[u8]>
+        ensures some { IfSome result (λ v. (keeps_value self.now ≡ true) × (v.now ≡ self.now.held)) }
+        ensures none { IfNone result (keeps_value self.now ≡ false) }
+    {
+        match self.held() {
+            Held::Whole(value) => Some(value),
+            Held::Digest(_) | Held::Head => None,
         }
     }
 
@@ -286,7 +297,7 @@ impl Note {
         Ok(Note {
             offset,
             length,
-            kept: Kept::Whole(front, value),
+            kept: KeptValue::Whole(front, value),
         })
     }
 
@@ -303,7 +314,7 @@ impl Note {
         Some(Note {
             offset,
             length,
-            kept: Kept::Digest(front, digest),
+            kept: KeptValue::Digest(front, digest),
         })
     }
 
@@ -318,7 +329,7 @@ impl Note {
         Some(Note {
             offset,
             length,
-            kept: Kept::Head(Front::new(key, width)),
+            kept: KeptValue::Head(Front::new(key, width)),
         })
     }
 
@@ -328,9 +339,12 @@ impl Note {
         ensures memory { IsErr result → keeps_value self.now ≡ true }
     {
         let kept = match &self.kept {
-            Kept::Whole(front, value) => Kept::Whole(*front, Vec::from_slice(alloc, value)?),
-            Kept::Digest(front, digest) => Kept::Digest(*front, *digest),
-            Kept::Head(front) => Kept::Head(*front),
+            KeptValue::Whole(front, value) => KeptValue::Whole(
+                *front,
+                Vec::from_slice(alloc, value)?,
+            ),
+            KeptValue::Digest(front, digest) => KeptValue::Digest(*front, *digest),
+            KeptValue::Head(front) => KeptValue::Head(*front),
         };
         Ok(Note {
             offset: self.offset,

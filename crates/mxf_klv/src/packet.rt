@@ -6,12 +6,12 @@ ghost use Rattle.mxf_klv.specs.Bytes.{AreBytes};
 ghost use Rattle.mxf_klv.specs.Packet.{IsPacket, IsSpelledPacket, ReadsPacket, packet_bytes, packet_fault, size_of};
 ghost use Rattle.mxf_klv.specs.Parts.{PacketParts, CanSpell, packet_parts};
 
-pub(crate) mod head;
+pub(crate) mod key_and_length;
 
 use crate::ber::{Ber, BerFault};
 use crate::label::Ul;
 use crate::writing::{Encode, Progress, WriteFault};
-use head::Head;
+use key_and_length::KeyAndLength;
 use std::io::Write;
 use std::marker::Model;
 use thiserror::Error;
@@ -115,8 +115,8 @@ impl<'a> Encode for Packet<'a> {
 pub fn read_packet(bytes: &[u8]) -> Result<(Packet<'_>, usize), PacketFault>
     ensures { ReadsPacket bytes.now result }
 {
-    match Head::read(bytes) {
-        Ok(head) => head.packet().ok_or(PacketFault::Short),
+    match KeyAndLength::read(bytes) {
+        Ok(front) => front.packet().ok_or(PacketFault::Short),
         Err(fault) => Err(fault),
     }
 }

@@ -7,7 +7,7 @@ ghost use Rattle.mxf_klv.specs.Packet.{size_of};
 ghost use Rattle.mxf_klv.specs.declared.piece.Stop.{Stop};
 ghost use Rattle.mxf_klv.specs.declared.piece.Stop.TheVariants.{Truncated};
 ghost use Rattle.mxf_klv.specs.Piece.{BeginsWithCut, BeginsWithNone, IsPiece, IsStop, end_after};
-ghost use Rattle.mxf_klv.specs.Head.{BeginsWithHead};
+ghost use Rattle.mxf_klv.specs.KeyAndLength.{BeginsWithKeyAndLength};
 ghost use Rattle.mxf_klv.specs.Note.{greatest_end};
 ghost use Rattle.mxf_klv.specs.PieceReading.{EndsAt, GoesOn, IsHeadOf, IsNoHead, IsOpen, end_with, heads_at, length_at};
 ghost use Rattle.mxf_klv.specs.PieceReading.{packet_at, packets_in, rest_in, stop_in, stop_of};
@@ -15,7 +15,7 @@ ghost use Rattle.mxf_klv.specs.PieceReading.{packet_at, packets_in, rest_in, sto
 use crate::ber::Ber;
 use crate::label::Ul;
 use crate::note::{MAX, Note};
-use crate::packet::head::Head;
+use crate::packet::key_and_length::KeyAndLength;
 use crate::packet::{Packet, PacketFault};
 use std::fmt;
 
@@ -65,7 +65,7 @@ pub fn next_packet(offset: u64, bytes: &[u8]) -> Result<(Packet<'_>, usize), Sto
     ensures goes_on { IfOk result (λ x. GoesOn offset bytes.now x.0 x.1) }
     ensures ends { IfErr result (EndsAt offset bytes.now) }
 {
-    match read_head(offset, bytes) {
+    match read_key_and_length(offset, bytes) {
         Ok(head) => head.packet().ok_or(Stop::Truncated(offset)),
         Err(stop) => Err(stop),
     }
@@ -79,22 +79,22 @@ pub fn next_head(offset: u64, bytes: &[u8]) -> Result<(Ul, Ber), Stop>
     ensures head { IfOk result (λ x. IsHeadOf offset bytes.now x.0 x.1) }
     ensures none { IfErr result (IsNoHead offset bytes.now) }
 {
-    match read_head(offset, bytes) {
+    match read_key_and_length(offset, bytes) {
         Ok(head) => Ok((head.key(), head.ber())),
         Err(stop) => Err(stop),
     }
 }
 
 /// The head of the packet at the front of a piece, which ends at or below [`MAX`]; else why the piece stops there.
-fn read_head(offset: u64, bytes: &[u8]) -> Result<Head<'_>, Stop>
-    ensures head { IfOk result (λ h. BeginsWithHead bytes.now h.key h.ber h.after.now) }
+fn read_key_and_length(offset: u64, bytes: &[u8]) -> Result<KeyAndLength<'_>, Stop>
+    ensures head { IfOk result (λ h. BeginsWithKeyAndLength bytes.now h.key h.ber h.after.now) }
     ensures within { IfOk result (λ h. end_with offset h.ber ≤ greatest_end) }
     ensures none { IfErr result (IsNoHead offset bytes.now) }
 {
     if bytes.is_empty() {
         return Err(Stop::End);
     }
-    let head = match Head::read(bytes) {
+    let head = match KeyAndLength::read(bytes) {
         Ok(head) => head,
         Err(PacketFault::NotUl) => return Err(Stop::NotUl(offset)),
         Err(PacketFault::Indefinite) => return Err(Stop::BadLength(offset)),
@@ -113,7 +113,7 @@ pub fn cut_head(offset: u64, bytes: &[u8]) -> Option<Note>
     ensures some { IfSome result (λ n. heads_at offset bytes.now ≡ n ∷ []) }
     ensures none { IfNone result (heads_at offset bytes.now ≡ []) }
 {
-    let Ok(head) = Head::read(bytes) else {
+    let Ok(head) = KeyAndLength::read(bytes) else {
         return None;
     };
     match head.packet() {

@@ -4,7 +4,7 @@ use Rattle.std.proofs.Common.{refl, sym, ap, subst, ◌∙◌, arith, append_ass
 use Rattle.mxf_klv.specs.Parts.{LengthParts, NoteParts, packet_parts}
 use Rattle.mxf_klv.specs.Packet.{size_of}
 use Rattle.std.specs.Prelude.{true, is_some}
-use Rattle.mxf_klv.specs.Head.{BeginsWithHead, HasNoHead}
+use Rattle.mxf_klv.specs.KeyAndLength.{BeginsWithKeyAndLength, HasNoKeyAndLength}
 use Rattle.mxf_klv.specs.Note.{note_of, end_of}
 use Rattle.mxf_klv.specs.Piece.{end_after, notes_from}
 use Rattle.mxf_klv.specs.PieceReading.{IsHeadOf, IsNoHead, IsOpen, packet_at, packets_in, rest_in, stop_of}
@@ -13,7 +13,7 @@ use Rattle.mxf_klv.specs.declared.piece.Stop.TheVariants.{Truncated}
 use Rattle.mxf_klv.proofs.MoreBytes.{IsHeadNow, few_without_head, head_now}
 use Rattle.mxf_klv.proofs.MoreBytes.{more_head, none_more, one_more, stays, whole_value}
 use Rattle.mxf_klv.proofs.PieceLaws.{none_at_end, packets_in-none, rest_in-none}
-use Rattle.mxf_klv.proofs.HeadLemmas.{no_head_short}
+use Rattle.mxf_klv.proofs.KeyAndLengthLaws.{no_head_short}
 use Rattle.mxf_klv.proofs.StopLaws.{at_cut, stops}
 use Rattle.mxf_catalogue.specs.Content.{reduced_with}
 use Rattle.mxf_catalogue.specs.Disputes.{AreApart}
@@ -38,7 +38,7 @@ next_value at s vo head r v es ev h come some =
     (subst (λ (w : Option ComingValue). IsNext at None w head r) (sym ev) (h, come, some))
 
 next_head : (at : ℕ) (s : Option Stop) (vo : Option ComingValue) (head r : List ℕ) → s ≡ None → vo ≡ None → head ≡ r
-    → HasNoHead r → IsOpen (stop_of at r) → IsNext at s vo head r
+    → HasNoKeyAndLength r → IsOpen (stop_of at r) → IsNext at s vo head r
 next_head at s vo head r es ev h none cut =
     subst (λ (t : Option Stop). IsNext at t vo head r) (sym es)
     (subst (λ (w : Option ComingValue). IsNext at None w head r) (sym ev) (h, none, cut))
@@ -129,8 +129,8 @@ pub come_more : (at : ℕ) (v w : ComingValue) (r x : List ℕ) → HasCome at v
 come_more at v w r x come same taken = record {
   after = come.after ++ x;
   begins =
-      subst (λ (l : LengthParts). BeginsWithHead (r ++ x) w.key l (come.after ++ x)) (sym same.spelled)
-      (subst (λ (key : List ℕ). BeginsWithHead (r ++ x) key v.ber (come.after ++ x)) (sym same.key)
+      subst (λ (l : LengthParts). BeginsWithKeyAndLength (r ++ x) w.key l (come.after ++ x)) (sym same.spelled)
+      (subst (λ (key : List ℕ). BeginsWithKeyAndLength (r ++ x) key v.ber (come.after ++ x)) (sym same.key)
       (more_head r v.key v.ber come.after x come.begins));
   offset = same.offset ∙ come.offset;
   taken = taken come.after come.taken;
@@ -140,7 +140,7 @@ come_more at v w r x come same taken = record {
 
 pub record Holds (o : ℕ) (m : List ℕ) (p : Piece) : Type 0 where
   pub head : p.head.items ≡ rest_in o m
-  pub none : HasNoHead (rest_in o m)
+  pub none : HasNoKeyAndLength (rest_in o m)
   pub cut : IsOpen (stop_of p.at (rest_in o m))
 
 pub holds : (o : ℕ) (m : List ℕ) (p : Piece) → Fed o m p → p.stop ≡ None → p.value ≡ None → Holds o m p
@@ -158,10 +158,10 @@ few_held p (o, m, fed) stop value =
     let len = ap length h.head in
     omega arith
 
-pub held_no_head : (p : Piece) → IsFed p → p.stop ≡ None → p.value ≡ None → HasNoHead p.head.items
+pub held_no_head : (p : Piece) → IsFed p → p.stop ≡ None → p.value ≡ None → HasNoKeyAndLength p.head.items
 held_no_head p (o, m, fed) stop value =
     let h = holds o m p fed stop value in
-    subst HasNoHead (sym h.head) h.none
+    subst HasNoKeyAndLength (sym h.head) h.none
 
 -- key and length are whole now
 pub begun : (o : ℕ) (m x : List ℕ) (p : Piece) (v : ComingValue) (n : ℕ) → Fed o m p → p.stop ≡ None → p.value ≡ None
@@ -172,8 +172,8 @@ begun o m x p v n fed stop value now is offset taken =
     record {
       after = [];
       begins =
-          subst (λ (t : List ℕ). BeginsWithHead (t ++ take n x) v.key v.ber []) h.head
-          (subst (λ (j : ℕ). BeginsWithHead (p.head.items ++ take j x) v.key v.ber []) (sym is) now.begins);
+          subst (λ (t : List ℕ). BeginsWithKeyAndLength (t ++ take n x) v.key v.ber []) h.head
+          (subst (λ (j : ℕ). BeginsWithKeyAndLength (p.head.items ++ take j x) v.key v.ber []) (sym is) now.begins);
       offset = offset;
       taken = taken;
     }
@@ -272,7 +272,7 @@ pub head_whole : (p : Piece) (x window items key : List ℕ) (count : ℕ) (l : 
 head_whole p x window items key count l v fed stop value win is h same spelled =
     let now : IsHeadNow p.head.items x key l =
     head_now p.head.items x key count l h.after (held_no_head p fed stop value)
-    (subst (λ (t : List ℕ). BeginsWithHead t key l h.after) (win ∙ is) h.begins)
+    (subst (λ (t : List ℕ). BeginsWithKeyAndLength t key l h.after) (win ∙ is) h.begins)
     in
     subst (λ (k : List ℕ). IsHeadNow p.head.items x k v.ber) (sym same)
     (subst (λ (j : LengthParts). IsHeadNow p.head.items x key j) (sym spelled) now)

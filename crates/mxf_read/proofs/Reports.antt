@@ -8,7 +8,7 @@ use Rattle.std.proofs.Math.Seq.{take-append-add}
 use Rattle.std.proofs.lemmas.Bool.{eqb-true}
 use Rattle.std.proofs.lemmas.List.{take_at, take_all}
 use Rattle.mxf_klv.specs.Parts.{NoteParts, head_parts}
-use Rattle.mxf_klv.specs.Head.{HasNoHead}
+use Rattle.mxf_klv.specs.KeyAndLength.{HasNoKeyAndLength}
 use Rattle.mxf_klv.specs.Piece.{end_after, notes_from}
 use Rattle.mxf_klv.specs.PieceReading.{IsOpen, heads_at, notes_in, packets_in, rest_in, stop_in, stop_of}
 use Rattle.mxf_klv.specs.declared.piece.Stop.{Stop}
@@ -23,7 +23,7 @@ use Rattle.mxf_read.proofs.Taking.{union_append}
 use Rattle.mxf_read.specs.Absorbs.{Absorbs, AbsorbsFrom, AddsFirst, Finishes, report_of}
 use Rattle.mxf_read.specs.Feeding.{Fed, IsNext, Knows, NotesNone}
 use Rattle.mxf_read.specs.declared.coming.ComingValue.{ComingValue}
-use Rattle.mxf_read.specs.Reading.{ReadsAll, Takes}
+use Rattle.mxf_read.specs.Reads.{ReadsAll, Takes}
 use Rattle.mxf_read.specs.declared.piece.Piece.{Piece}
 use Rattle.mxf_read.specs.declared.reading.Cause.TheVariants as causes
 use Rattle.mxf_read.specs.declared.report.Report.{Report}
@@ -71,7 +71,7 @@ report_end o m p noted len fed n stop value is empty =
     let nothing : rest_in o m ≡ [] = sym h.head ∙ nil_from p.head.items len is empty in
     reported o m p noted End fed.knows n (sym (end_at p.at) ∙ ap (stop_of p.at) (sym nothing))
 
-open_cut : (at : ℕ) (r : List ℕ) → HasNoHead r → IsOpen (stop_of at r) → (length r ≡ 0 → ⊥) → stop_of at r ≡ Truncated at
+open_cut : (at : ℕ) (r : List ℕ) → HasNoKeyAndLength r → IsOpen (stop_of at r) → (length r ≡ 0 → ⊥) → stop_of at r ≡ Truncated at
 open_cut at r none cut some =
     elim (stop_of at r) as (λ s. stop_of at r ≡ s → IsOpen s → s ≡ Truncated at) [
       | End ↦ λ e o. absurd (some (ap length (stop_is at r End none e)))

@@ -6,7 +6,7 @@ use Rattle.mxf_klv.specs.Piece.{end_after}
 use Rattle.mxf_klv.specs.PieceReading.{IsOpen, notes_in, packets_in, stop_in}
 use Rattle.mxf_catalogue.specs.Content.{reduced_union}
 use Rattle.mxf_catalogue.specs.History.{History, Absorb, Cut}
-use Rattle.mxf_read.specs.Reading.{Takes}
+use Rattle.mxf_read.specs.Reads.{Takes}
 use Rattle.mxf_read.specs.declared.report.Report.{Report}
 use Rattle.mxf_read.specs.declared.report.AbsorbFault.{AbsorbFault}
 use Rattle.mxf_read.specs.declared.report.AbsorbFault.TheVariants.{OutOfMemory, ReadFault}

@@ -1,6 +1,6 @@
 -- A packet of which key and length are known, and a front of the value (this project's profile).
 use Rattle.std.specs.Prelude.{◌≡◌, ℕ, ◌+◌, List, length}
-use Rattle.mxf_klv.specs.Head.{BeginsWithHead}
+use Rattle.mxf_klv.specs.KeyAndLength.{BeginsWithKeyAndLength}
 use Rattle.mxf_read.specs.ValueSoFar.{Has}
 use Rattle.mxf_read.specs.declared.coming.ComingValue.{ComingValue}
 
@@ -18,6 +18,6 @@ pub record IsSamePacket (v w : ComingValue) : Type 0 where
 -- The packet begins at a place, and these bytes of it have come: key, length and a front of the value.
 pub record HasCome (at : ℕ) (v : ComingValue) (bytes : List ℕ) : Type 0 where
   pub after : List ℕ
-  pub begins : BeginsWithHead bytes v.key v.ber after
+  pub begins : BeginsWithKeyAndLength bytes v.key v.ber after
   pub offset : v.offset ≡ at
   pub taken : HasTaken v after

@@ -1,6 +1,6 @@
 -- A piece whose bytes come in parts: what is known after those that came (this project's profile).
 use Rattle.std.specs.Prelude.{◌≡◌, ℕ, ◌<◌, List, [], ◌++◌, Option, None, Some}
-use Rattle.mxf_klv.specs.Head.{HasNoHead}
+use Rattle.mxf_klv.specs.KeyAndLength.{HasNoKeyAndLength}
 use Rattle.mxf_klv.specs.Piece.{end_after, notes_from}
 use Rattle.mxf_klv.specs.PieceReading.{IsOpen, packet_at, packets_in, rest_in, stop_of}
 use Rattle.mxf_klv.specs.declared.piece.Stop.{Stop}
@@ -22,7 +22,7 @@ pub record NotesNone (old new : Piece) : Type 0 where
 -- front of the value.
 abbrev pub IsNext : ℕ → Option Stop → Option ComingValue → List ℕ → List ℕ → Type 0
 IsNext at (Some stop) value head rest = (packet_at at rest ≡ None) × (stop ≡ stop_of at rest) × ¬ IsOpen stop
-IsNext at None None head rest = (head ≡ rest) × HasNoHead rest × IsOpen (stop_of at rest)
+IsNext at None None head rest = (head ≡ rest) × HasNoKeyAndLength rest × IsOpen (stop_of at rest)
 IsNext at None (Some value) head rest = (head ≡ []) × HasCome at value rest × (0 < value.left)
 
 -- These bytes of a piece at an offset have come.

@@ -1,8 +1,8 @@
 pub mod ValueSoFar
 pub mod Coming
 pub mod Feeding
-pub mod Reading
+pub mod Reads
 pub mod Absorbs
-pub mod PartReading
+pub mod PartReads
 pub mod Levels
 pub mod Gathering

@@ -9,7 +9,7 @@ ghost use Rattle.mxf_catalogue.specs.Disputes.{AreApart};
 ghost use Rattle.mxf_catalogue.specs.History.{History, Absorb, Cut, content};
 ghost use Rattle.mxf_read.specs.Absorbs.{Absorbs, AbsorbsFrom, AddsFirst, Finishes, GoesOnAt, first_notes_in, history_with};
 ghost use Rattle.mxf_read.specs.Feeding.{Fed};
-ghost use Rattle.mxf_read.specs.Reading.{Takes};
+ghost use Rattle.mxf_read.specs.Reads.{Takes};
 ghost use Rattle.mxf_read.specs.declared.report.AbsorbFault.TheVariants as faults;
 
 use crate::piece::Piece;

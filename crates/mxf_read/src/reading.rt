@@ -1,7 +1,7 @@
 //! Feeding a piece from a reader.
 ghost use Rattle.std.specs.Prelude.{◌≡◌, ◌+◌, ◌<◌, ◌≤◌, None, length};
 ghost use Rattle.mxf_read.specs.Feeding.{IsFed};
-ghost use Rattle.mxf_read.specs.Reading.{ReadsAll, ReadsOnce};
+ghost use Rattle.mxf_read.specs.Reads.{ReadsAll, ReadsOnce};
 
 use crate::piece::Piece;
 use crate::ticks::ReadTicks;

@@ -11,7 +11,7 @@ use Rattle.mxf_klv.specs.Parts.{NoteParts}
 use Rattle.mxf_klv.specs.Note.{IsNote, end_of, note_cmp}
 use Rattle.mxf_klv.specs.Rising.{In}
 use Rattle.mxf_catalogue.specs.Content.{AreReduced, IsCatalogue, IsContent, reduced_union, union_of}
-use Rattle.mxf_catalogue.specs.Parts.{Covers}
+use Rattle.mxf_catalogue.specs.NoteLists.{Covers}
 use Rattle.mxf_catalogue.specs.Runs.{AreMaximal, LiesIn}
 use Rattle.mxf_catalogue.specs.declared.run.Run.{Run}
 use Rattle.mxf_catalogue.specs.Disputes.{IsClear, clear_notes, lies_in}

@@ -20,9 +20,9 @@ use Rattle.mxf_catalogue.proofs.Lists.{list_any-In}
 use Rattle.mxf_views.specs.declared.chain.Link.{Link}
 use Rattle.mxf_views.specs.declared.chain.Link.TheVariants.{First, Held, Skips, Missing, Wrong}
 use Rattle.mxf_views.specs.declared.chain.Chain.TheVariants.{Whole, Broken}
-use Rattle.mxf_views.specs.Partitions.{PartitionParts, AreInOrder, StandsAt, IsLink, IsOnly, IsWhole, chain_of}
+use Rattle.mxf_views.specs.Partitions.{PartitionParts, AreInOrder, StandsAt, IsLink, IsOnly, HangTogether, chain_of}
 use Rattle.mxf_views.specs.Partitions.{is_first, is_footer, is_greatest, is_header, is_held, is_linked}
-use Rattle.mxf_views.specs.Partitions.{is_no_unreadable_pack, is_whole, link_of, partition_at, partitions_of}
+use Rattle.mxf_views.specs.Partitions.{is_no_unreadable_pack, hang_together, link_of, partition_at, partitions_of}
 use Rattle.mxf_views.specs.Partitions.{stands_above}
 use Rattle.mxf_views.proofs.Members.{In-filter_map, all-each, both, count_by-cons, count-none, count-one, false_if}
 use Rattle.mxf_views.proofs.Members.{In-list_all, list_all-In, parts, tally}
@@ -213,7 +213,7 @@ header_is : (ps : List PartitionParts) (h p : PartitionParts) → IsOnly ps Head
     → is_header p.pack.part ≡ true → p ≡ h
 header_is ps h p o k t = o.only p k (header_says p.pack.part t)
 
-whole_says : (notes : List NoteParts) → is_whole notes ≡ true → IsWhole notes
+whole_says : (notes : List NoteParts) → hang_together notes ≡ true → HangTogether notes
 whole_says notes w =
     let ps = partitions_of notes in
     let headers = count_by (λ p. is_header p.pack.part) ps in
@@ -244,8 +244,8 @@ whole_says notes w =
           (list_all-In is_no_unreadable_pack (clear_notes notes) n w4.1 ((In-clear_notes n notes).1 k));
     }
 
-is_whole_from : (notes : List NoteParts) → IsContent notes → IsWhole notes → is_whole notes ≡ true
-is_whole_from notes r w =
+hang_together_from : (notes : List NoteParts) → IsContent notes → HangTogether notes → hang_together notes ≡ true
+hang_together_from notes r w =
     let ps = partitions_of notes in
     let rise = partitions_rise notes r in
     let headers = count_by (λ p. is_header p.pack.part) ps in
@@ -278,11 +278,11 @@ is_whole_from notes r w =
     (both ((headers == 1) && (footers == 1)) linked (both (headers == 1) (footers == 1) a b) c) d) e
 
 -- The chain is whole exactly where the partitions hang together.
-pub chain_iff : (notes : List NoteParts) → IsContent notes → (chain_of notes ≡ Whole) ↔ IsWhole notes
+pub chain_iff : (notes : List NoteParts) → IsContent notes → (chain_of notes ≡ Whole) ↔ HangTogether notes
 chain_iff notes r = (
-  λ e. elim (is_whole notes) as (λ b. is_whole notes ≡ b → (if b then Whole else Broken) ≡ Whole → IsWhole notes) [
+  λ e. elim (hang_together notes) as (λ b. hang_together notes ≡ b → (if b then Whole else Broken) ≡ Whole → HangTogether notes) [
     | true ↦ λ t _. whole_says notes t
     | false ↦ λ t q. absurd cc
   ] refl e,
-  λ w. ap (λ (b : Bool). if b then Whole else Broken) (is_whole_from notes r w),
+  λ w. ap (λ (b : Bool). if b then Whole else Broken) (hang_together_from notes r w),
 )

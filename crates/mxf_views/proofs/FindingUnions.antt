@@ -1,6 +1,6 @@
 -- Findings that are collected cause by cause, and then put in order.
 use Rattle.std.proofs.Common.{◌≡◌, ℕ, List, [], ◌∷◌, ◌++◌, ◌∙◌, refl, sym, subst, ap, map, inl, inr, Result, Ok, Err}
-use Rattle.std.specs.Prelude.{flat_map, OnOk, true}
+use Rattle.std.specs.Prelude.{OnOk, true}
 use Rattle.std.specs.List.{dedup}
 use Rattle.std.specs.List.Retain.{DiffersFromLast, IsFiltered}
 use Rattle.std.proofs.lemmas.List.Filters.{dedup_is}
@@ -8,22 +8,18 @@ use Rattle.std.specs.List.Sorted.{IsPermutation, IsSorted, IsStrictlySortedBy}
 use Rattle.std.specs.Ordering.{eq_by_cmp, is_eq}
 use Rattle.std.specs.declared.cmp.Ordering.{Ordering}
 use Rattle.std.specs.declared.cmp.Ordering.TheVariants.{Less, Equal, Greater}
-use Rattle.std.proofs.lemmas.List.{append_assoc, append-nil, map-append}
+use Rattle.std.proofs.lemmas.List.{append_assoc, map-append}
 use Rattle.std.proofs.lemmas.List.Kept.{Contains-dedup, Contains-from_dedup, IsStrictlySortedBy-dedup}
 use Rattle.std.proofs.lemmas.List.Sorted.{Contains-permutation, IsPermutation-sym}
-use Rattle.mxf_klv.specs.Parts.{NoteParts}
 use Rattle.mxf_klv.specs.Rising.{IsRising, In-union, IsRising-union, same_from_members, union}
 use Rattle.mxf_catalogue.proofs.Places.{Contains-from_In, In-from_Contains}
 use Rattle.mxf_views.specs.declared.finding.Code.{Code}
 use Rattle.mxf_views.specs.declared.finding.Finding.{Finding}
-use Rattle.mxf_views.specs.Codes.{all_codes, finding, finding_cmp, finding_cmp-IsAntisymmetric, finding_equiv, finding_total}
-use Rattle.mxf_views.specs.Findings.{findings_for, findings_of}
+use Rattle.mxf_views.specs.Codes.{finding, finding_cmp, finding_cmp-IsAntisymmetric, finding_equiv, finding_total}
 
 pub on_ok : {A E : Type 0} (P Q : Type 0) (r : Result A E) → (P → Q) → OnOk r P → OnOk r Q
 on_ok P Q (Ok x) f p = f p
 on_ok P Q (Err e) f p = tt
-
--- ---- Cause by cause
 
 -- two lists of offsets of one code
 pub then-offsets : (code : Code) (fs : List Finding) (xs ys : List ℕ)
@@ -31,34 +27,6 @@ pub then-offsets : (code : Code) (fs : List Finding) (xs ys : List ℕ)
 then-offsets code fs xs ys =
     ap (λ l. fs ++ l) (map-append (finding code) xs ys)
     ∙ sym (append_assoc fs (map (finding code) xs) (map (finding code) ys))
-
--- the findings of some codes, one after another
-abbrev pub added : (Code → List Finding) → List Finding → List Code → List Finding
-added f fs [] = fs
-added f fs (code ∷ rest) = added f (fs ++ f code) rest
-
-all_added : (f : Code → List Finding) (fs : List Finding) (rest : List Code)
-    → fs ++ flat_map f rest ≡ added f fs rest
-all_added f fs [] = append-nil fs
-all_added f fs (code ∷ rest) =
-    sym (append_assoc fs (f code) (flat_map f rest)) ∙ all_added f (fs ++ f code) rest
-
--- the last list is what the first becomes by the findings of some codes
-pub record Becomes (f : Code → List Finding) (fs : List Finding) (rest : List Code) (last : List Finding) : Type 0 where
-  is : last ≡ added f fs rest
-
-pub first_added : {f : Code → List Finding} {fs gs last : List Finding} {code : Code} {rest : List Code}
-    → gs ≡ fs ++ f code → Becomes f gs rest last → Becomes f fs (code ∷ rest) last
-first_added {f} {fs} {gs} {last} {code} {rest} e h = record { is = h.is ∙ ap (λ x. added f x rest) e }
-
-pub none_added : {f : Code → List Finding} {fs : List Finding} → Becomes f fs [] fs
-none_added = record { is = refl }
-
-pub findings_of-collected : (notes : List NoteParts) (fs last : List Finding) → fs ≡ []
-    → Becomes (λ code. findings_for code notes) fs all_codes last → union finding_cmp [] last ≡ findings_of notes
-findings_of-collected notes fs last e h =
-    let f : Code → List Finding = λ code. findings_for code notes in
-    ap (union finding_cmp []) (h.is ∙ sym (all_added f fs all_codes) ∙ ap (λ x. x ++ flat_map f all_codes) e)
 
 -- ---- In order, none twice
 

@@ -17,7 +17,7 @@ use Rattle.mxf_catalogue.proofs.DisputeLaws.{In-clear_notes, clear-alone, not-tr
 use Rattle.mxf_catalogue.proofs.Lists.{list_any-In}
 use Rattle.mxf_views.specs.declared.chain.Chain.{Chain}
 use Rattle.mxf_views.specs.declared.chain.Chain.TheVariants.{Whole, Broken}
-use Rattle.mxf_views.specs.Partitions.{IsWhole, PartitionParts, chain_of, partitions_of}
+use Rattle.mxf_views.specs.Partitions.{HangTogether, PartitionParts, chain_of, partitions_of}
 use Rattle.mxf_views.specs.Findings.{are_entries_of, ends_above, has_other_rip, is_broken, is_index_of}
 use Rattle.mxf_views.specs.Findings.{is_unfit_rip}
 use Rattle.mxf_views.specs.RandomIndex.{is_rip_note, rip_in}
@@ -169,11 +169,11 @@ broken_says Whole h = absurd (h refl)
 broken_says Broken h = refl
 
 pub broken_chain : (notes : List NoteParts) (o : ℕ) → IsContent notes
-    → In o (if is_broken (chain_of notes) then 0 ∷ [] else []) ↔ ((o ≡ 0) × ¬ IsWhole notes)
+    → In o (if is_broken (chain_of notes) then 0 ∷ [] else []) ↔ ((o ≡ 0) × ¬ HangTogether notes)
 broken_chain notes o r =
     let c = chain_iff notes r in (
       λ h. elim (is_broken (chain_of notes)) as (λ b. is_broken (chain_of notes) ≡ b
-          → In o (if b then 0 ∷ [] else []) → ((o ≡ 0) × ¬ IsWhole notes)) [
+          → In o (if b then 0 ∷ [] else []) → ((o ≡ 0) × ¬ HangTogether notes)) [
             | true ↦ λ t k. elim k [
               | inl e ↦ (e, λ w. let f = ap is_broken (c.1 w) in cc (f, t))
               | inr m ↦ absurd m

@@ -35,8 +35,8 @@ module _ (a b : List NoteParts) (e : clear_notes a ≡ clear_notes b) where
   unfolding partitions_of
   partitions = ap partitions_among e
 
-  is_whole_by : List PartitionParts → List NoteParts → Bool
-  is_whole_by ps clear =
+  hang_together_by : List PartitionParts → List NoteParts → Bool
+  hang_together_by ps clear =
       (count_by (λ p. is_header p.pack.part) ps == 1)
       && (count_by (λ p. is_footer p.pack.part) ps == 1)
       && list_all (is_linked ps) ps
@@ -44,8 +44,8 @@ module _ (a b : List NoteParts) (e : clear_notes a ≡ clear_notes b) where
       && list_all is_no_unreadable_pack clear
 
   chain : chain_of a ≡ chain_of b
-  unfolding is_whole_by
-  chain = λ i. if is_whole_by (partitions i) (e i) then Whole else Broken
+  unfolding hang_together_by
+  chain = λ i. if hang_together_by (partitions i) (e i) then Whole else Broken
 
   copies : copies_of a ≡ copies_of b
   unfolding copies_of

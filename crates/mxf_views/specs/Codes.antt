@@ -1,5 +1,6 @@
 -- The codes of findings with their texts, and the order of findings (this project's profile).
-use Rattle.std.specs.Prelude.{◌≡◌, ℕ, ◌-◌, List, [], ◌∷◌, codes, refl}
+use Rattle.std.specs.Prelude.{◌≡◌, ℕ, ◌-◌, ◌/◌, ◌%◌, List, [], ◌∷◌, ◌++◌, codes, refl}
+use Rattle.std.specs.Fmt.{decimal}
 use Rattle.std.specs.Ordering.{nat_cmp, on, then_cmp, eq_by_cmp, ordering_then}
 use Rattle.std.specs.Cmp.{IsTotalOrder, IsEquivalence}
 use Rattle.std.specs.FinSet.{IsAntisymmetric, nat_cmp-IsAntisymmetric}
@@ -33,21 +34,9 @@ code_number F12 = 12
 code_number F13 = 13
 code_number F14 = 14
 
+-- The name of a code: F, and two digits.
 abbrev pub code_name : Code → List ℕ
-code_name F01 = codes "F01"
-code_name F02 = codes "F02"
-code_name F03 = codes "F03"
-code_name F04 = codes "F04"
-code_name F05 = codes "F05"
-code_name F06 = codes "F06"
-code_name F07 = codes "F07"
-code_name F08 = codes "F08"
-code_name F09 = codes "F09"
-code_name F10 = codes "F10"
-code_name F11 = codes "F11"
-code_name F12 = codes "F12"
-code_name F13 = codes "F13"
-code_name F14 = codes "F14"
+code_name code = codes "F" ++ decimal (code_number code / 10) ++ decimal (code_number code % 10)
 
 abbrev pub code_text : Code → List ℕ
 code_text F01 = codes "different packets at one offset"

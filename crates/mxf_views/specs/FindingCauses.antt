@@ -28,7 +28,7 @@ use Rattle.mxf_views.specs.declared.finding.Code.{Code}
 use Rattle.mxf_views.specs.declared.finding.Code.TheVariants.{F01, F02, F03, F04, F05, F06, F07}
 use Rattle.mxf_views.specs.declared.finding.Code.TheVariants.{F08, F09, F10, F11, F12, F13, F14}
 use Rattle.mxf_views.specs.declared.finding.Finding.{Finding}
-use Rattle.mxf_views.specs.Partitions.{IsLink, IsWhole, PartitionParts, partitions_of}
+use Rattle.mxf_views.specs.Partitions.{IsLink, HangTogether, PartitionParts, partitions_of}
 use Rattle.mxf_views.specs.Gaps.{IsGap}
 use Rattle.mxf_views.specs.Readings.{IsReadAs, IsReadable}
 use Rattle.mxf_views.specs.Copies.{IsCopy, IsSetKind}
@@ -133,7 +133,7 @@ IsFoundAt F12 notes offset =
     AtClear notes offset (λ n. (kind_of n.key ≡ kinds.Rip)
     × (¬ IsReadable (rip_at n.width) n ⊎ (HasOther notes n ⊎ (IsNotLast notes n ⊎ ListsOthers notes n))))
 IsFoundAt F13 notes offset = HoldsLost notes offset
-IsFoundAt F14 notes offset = (offset ≡ 0) × ¬ IsWhole notes
+IsFoundAt F14 notes offset = (offset ≡ 0) × ¬ HangTogether notes
 
 -- The cause of the finding's code is met at its offset.
 abbrev pub IsFinding : List NoteParts → Finding → Type 0

@@ -18,7 +18,7 @@ use Rattle.mxf_sets.specs.Identification.{identification_at}
 use Rattle.mxf_sets.specs.Storage.{storage_at}
 use Rattle.mxf_sets.specs.Package.{package_at}
 use Rattle.mxf_sets.specs.Segment.{segment_at}
-use Rattle.mxf_catalogue.specs.Disputes.{clear_notes, disputed_notes}
+use Rattle.mxf_catalogue.specs.Disputes.{DisputedParts, clear_notes, disputed_notes}
 use Rattle.mxf_views.specs.declared.chain.Link.{Link}
 use Rattle.mxf_views.specs.declared.chain.Link.TheVariants.{Skips, Missing, Wrong}
 use Rattle.mxf_views.specs.declared.chain.Chain.{Chain}
@@ -168,20 +168,50 @@ abbrev pub is_broken : Chain → Bool
 is_broken Broken = true
 is_broken Whole = false
 
+-- The code is that of how the note is disputed.
+abbrev pub is_dispute_cause : Code → DisputedParts → Bool
+is_dispute_cause F01 d = d.same_offset
+is_dispute_cause F02 d = d.overlaps
+is_dispute_cause _ d = false
+
+-- The code is that of what is wrong with the partition, of these.
+abbrev pub is_partition_cause : Code → List PartitionParts → PartitionParts → Bool
+is_partition_cause F05 partitions p = is_misplaced p
+is_partition_cause F06 partitions p = is_unfit (link_of partitions p)
+is_partition_cause F07 partitions p = is_open_footer p
+is_partition_cause F08 partitions p = lacks_footer partitions p
+is_partition_cause _ partitions p = false
+
+-- The code is that of a packet which isn't readable, as the note's isn't.
+abbrev pub is_note_cause : Code → NoteParts → Bool
+is_note_cause F10 n = is_unreadable_set n
+is_note_cause F11 n = is_unreadable_segment n
+is_note_cause _ n = false
+
+-- Where disputed notes, partitions and clear notes have the cause of the code.
+abbrev pub disputed_at : Code → List NoteParts → List ℕ
+disputed_at code notes = map (λ d. d.note.offset) (filter (is_dispute_cause code) (disputed_notes notes))
+
+abbrev pub partitions_at : Code → List NoteParts → List ℕ
+partitions_at code notes =
+    let partitions = partitions_of notes in map (λ p. p.offset) (filter (is_partition_cause code partitions) partitions)
+
+abbrev pub clear_at : Code → List NoteParts → List ℕ
+clear_at code notes = map (λ n. n.offset) (filter (is_note_cause code) (clear_notes notes))
+
 -- Where the cause of a code is met: file offsets, of which some may stand there twice.
 abbrev pub offsets_for : Code → List NoteParts → List ℕ
-offsets_for F01 notes = map (λ d. d.note.offset) (filter (λ d. d.same_offset) (disputed_notes notes))
-offsets_for F02 notes = map (λ d. d.note.offset) (filter (λ d. d.overlaps) (disputed_notes notes))
+offsets_for F01 notes = disputed_at F01 notes
+offsets_for F02 notes = disputed_at F02 notes
 offsets_for F03 notes = map (λ r. r.start) (gaps_of notes)
 offsets_for F04 notes = map (λ n. n.offset) (filter (λ n. not (is_no_unreadable_pack n)) (clear_notes notes))
-offsets_for F05 notes = map (λ p. p.offset) (filter is_misplaced (partitions_of notes))
-offsets_for F06 notes =
-    map (λ p. p.offset) (filter (λ p. is_unfit (link_of (partitions_of notes) p)) (partitions_of notes))
-offsets_for F07 notes = map (λ p. p.offset) (filter is_open_footer (partitions_of notes))
-offsets_for F08 notes = map (λ p. p.offset) (filter (lacks_footer (partitions_of notes)) (partitions_of notes))
+offsets_for F05 notes = partitions_at F05 notes
+offsets_for F06 notes = partitions_at F06 notes
+offsets_for F07 notes = partitions_at F07 notes
+offsets_for F08 notes = partitions_at F08 notes
 offsets_for F09 notes = map (λ c. c.partition) (filter is_partial (copies_of notes))
-offsets_for F10 notes = map (λ n. n.offset) (filter is_unreadable_set (clear_notes notes))
-offsets_for F11 notes = map (λ n. n.offset) (filter is_unreadable_segment (clear_notes notes))
+offsets_for F10 notes = clear_at F10 notes
+offsets_for F11 notes = clear_at F11 notes
 offsets_for F12 notes = map (λ n. n.offset) (filter (is_unfit_rip notes) (clear_notes notes))
 offsets_for F13 notes = lost_in (resolved_of notes)
 offsets_for F14 notes = if is_broken (chain_of notes) then 0 ∷ [] else []

@@ -99,8 +99,8 @@ is_no_unreadable_pack n = not (is_some (part_and_status (kind_of n.key))) || is_
 
 -- One header partition with link First, which stands at 0; one footer partition, above which none stands; all other
 -- links are Held; and every clear partition pack is readable.
-abbrev pub is_whole : List NoteParts → Bool
-is_whole notes =
+abbrev pub hang_together : List NoteParts → Bool
+hang_together notes =
     let partitions = partitions_of notes in
     (count_by (λ p. is_header p.pack.part) partitions == 1)
     && (count_by (λ p. is_footer p.pack.part) partitions == 1)
@@ -109,7 +109,7 @@ is_whole notes =
     && list_all is_no_unreadable_pack (clear_notes notes)
 
 abbrev pub chain_of : List NoteParts → Chain
-chain_of notes = if is_whole notes then Whole else Broken
+chain_of notes = if hang_together notes then Whole else Broken
 
 -- The note keeps its value, which is that of the partition's pack under the note's key, and the pack stands where the
 -- note does.
@@ -164,7 +164,7 @@ pub record IsOnly (partitions : List PartitionParts) (which : PackPart) (p : Par
 
 -- The only header partition stands at 0 with link First; the greatest partition is the only footer partition; each link
 -- but the header's is Held; and at each clear partition pack a partition stands, for it is readable.
-pub record IsWhole (notes : List NoteParts) : Type 0 where
+pub record HangTogether (notes : List NoteParts) : Type 0 where
   pub header : PartitionParts
   pub one_header : IsOnly (partitions_of notes) Header header
   pub front : header.offset ≡ 0

@@ -21,10 +21,17 @@ pub(crate) mod zone;
 use crate::copy::zone::{Counts, covered, is_fill, is_preface, lies_in};
 use crate::partition::{PartitionAt, partition_there};
 use mxf_catalogue::Catalogue;
-use mxf_klv::{Held, Kind, Note, Status};
+use mxf_klv::{Kind, Note, Status};
 use mxf_sets::Primer;
 
-/// A copy of the header metadata: that of one partition.
+/// A copy of the header metadata: that of one partition (ST 377-1, header metadata).
+///
+/// A file can state its header metadata, what the essence is and who made it, in several partitions: a first draft in
+/// the header, and a later one in a body partition or in the footer. Each copy begins with a primer pack, behind the
+/// partition pack and its fill, and takes as many bytes as the pack's HeaderByteCount says.
+///
+/// Of a file that is held in parts a copy can be whole, in parts, or without a beginning; which of them is finished
+/// decides which one to read.
 #[derive(Clone, Copy, Debug, PartialEq, Eq)]
 pub struct CopyInfo {
     /// The file offset of the partition, in bytes.
@@ -46,11 +53,7 @@ pub struct CopyInfo {
 pub(crate) fn read_primer(note: &Note) -> Option<Primer<'_>>
     ensures { result ≡ read_as primer_at note.now }
 {
-    match note.held() {
-        Held::Whole(value) => Primer::read(value).ok(),
-        Held::Digest(_) => None,
-        Held::Head => None,
-    }
+    Primer::read(note.value()?).ok()
 }
 
 /// Whether the note is a readable primer pack.

@@ -1,11 +1,11 @@
 //! Findings: what the notes of a file show to be wrong or missing (this project's profile).
-ghost use Rattle.std.specs.Prelude.{◌≡◌, ◌↔◌, [], List, length, IfOk, IsTrue};
+ghost use Rattle.std.specs.Prelude.{◌≡◌, ◌↔◌, ◌++◌, [], List, flat_map, length, IfOk, IsTrue, OnOk};
 ghost use Rattle.mxf_klv.specs.Parts.{NoteParts};
 ghost use Rattle.mxf_klv.specs.Rising.{In, IsRising};
 ghost use Rattle.mxf_catalogue.specs.Content.{IsContent};
 ghost use Rattle.mxf_views.specs.declared.finding.Finding.{Finding};
-ghost use Rattle.mxf_views.specs.Codes.{code_name, code_number, code_text, finding_cmp};
-ghost use Rattle.mxf_views.specs.Findings.{findings_of};
+ghost use Rattle.mxf_views.specs.Codes.{code_number, code_text, finding_cmp};
+ghost use Rattle.mxf_views.specs.Findings.{findings_for, findings_of};
 ghost use Rattle.mxf_views.specs.FindingCauses.{IsFinding};
 
 mod collected;
@@ -63,6 +63,24 @@ pub enum Code {
     F14,
 }
 
+/// All codes. The number of a code is its place among them, from 1 on.
+const CODES: [Code; 14] = [
+    Code::F01,
+    Code::F02,
+    Code::F03,
+    Code::F04,
+    Code::F05,
+    Code::F06,
+    Code::F07,
+    Code::F08,
+    Code::F09,
+    Code::F10,
+    Code::F11,
+    Code::F12,
+    Code::F13,
+    Code::F14,
+];
+
 /// What is found, and where.
 #[derive(Clone, Copy, Debug)]
 pub struct Finding {
@@ -94,27 +112,6 @@ impl Code {
         }
     }
 
-    fn name(self) -> &'static str
-        ensures { result.now ≡ code_name self }
-    {
-        match self {
-            Code::F01 => "F01",
-            Code::F02 => "F02",
-            Code::F03 => "F03",
-            Code::F04 => "F04",
-            Code::F05 => "F05",
-            Code::F06 => "F06",
-            Code::F07 => "F07",
-            Code::F08 => "F08",
-            Code::F09 => "F09",
-            Code::F10 => "F10",
-            Code::F11 => "F11",
-            Code::F12 => "F12",
-            Code::F13 => "F13",
-            Code::F14 => "F14",
-        }
-    }
-
     /// The number in its name.
     fn number(self) -> u8
         ensures { result ≡ code_number self }
@@ -123,7 +120,7 @@ impl Code {
     }
 }
 
-/// The name of the code.
+/// The name of the code: `F`, and two digits.
 impl fmt::Display for Code {
     ghost use Rattle.std.specs.Prelude.{Some};
     ghost use Rattle.mxf_views.specs.Codes.{code_name};
@@ -131,7 +128,8 @@ impl fmt::Display for Code {
     ghost output = { λ code. Some (code_name code) };
 
     fn fmt<W: fmt::Write>(&self, f: &mut fmt::Formatter<W>) -> fmt::Result {
-        f.write_str(self.name())
+        let number = self.number();
+        write!(f, "F{}{}", number / 10, number % 10)
     }
 }
 
@@ -190,6 +188,35 @@ impl Ord for Finding {
     }
 }
 
+impl Collected {
+    /// Adds what is found of each of the codes.
+    fn add_codes(&mut self, alloc: Global, codes: &[Code], views: &Views) -> Result<(), OutOfMemory>
+        ensures { OnOk result (self.new ≡ self.old ++ flat_map (λ code. findings_for code views.now) codes.now) }
+    {
+        for code in codes {
+            self.add_code(alloc, *code, views)?;
+        }
+        Ok(())
+    }
+
+    /// Adds what is found of the code.
+    fn add_code(&mut self, alloc: Global, code: Code, views: &Views) -> Result<(), OutOfMemory>
+        ensures { OnOk result (self.new ≡ self.old ++ findings_for code views.now) }
+    {
+        match code {
+            Code::F01 | Code::F02 => self.add_disputed(code, views),
+            Code::F03 => self.add_gaps(views),
+            Code::F04 => self.add_packs(views),
+            Code::F05 | Code::F06 | Code::F07 | Code::F08 => self.add_partitions(code, views),
+            Code::F09 => self.add_copies(views),
+            Code::F10 | Code::F11 => self.add_clear(code, views),
+            Code::F12 => self.add_random_index(views),
+            Code::F13 => self.add_references(alloc, views),
+            Code::F14 => self.add_chain(views),
+        }
+    }
+}
+
 /// A set of findings, in their order.
 #[derive(Debug, Drop)]
 pub struct Findings {
@@ -215,20 +242,7 @@ impl Findings {
         ensures { IfOk result (λ f. f ≡ findings_of views.now) }
     {
         let mut found = Collected::new(alloc);
-        found.add_shared_offsets(views)?;
-        found.add_overlaps(views)?;
-        found.add_gaps(views)?;
-        found.add_packs(views)?;
-        found.add_misplaced(views)?;
-        found.add_links(views)?;
-        found.add_open_footers(views)?;
-        found.add_lost_footers(views)?;
-        found.add_copies(views)?;
-        found.add_sets(views)?;
-        found.add_segments(views)?;
-        found.add_random_index(views)?;
-        found.add_references(alloc, views)?;
-        found.add_chain(views)?;
+        found.add_codes(alloc, &CODES, views)?;
         Ok(found.into_findings())
     }
 

@@ -9,7 +9,10 @@ ghost use Rattle.mxf_views.specs.Gaps.{AreGaps, gaps_of};
 use mxf_catalogue::{Catalogue, CoverGaps, Run};
 use std::marker::Model;
 
-/// The gaps that are left, rising.
+/// The gaps that are left, rising: the maximal ranges of offsets below the last end that no note covers.
+///
+/// They are what is missing of the file as far as it is known: bytes between the packets that are held, and what a cut
+/// packet lacks up to its end. What lies behind the last packet isn't known, and is no gap.
 #[derive(Debug, Drop)]
 pub struct Gaps<'a> {
     /// The gaps of what the notes cover.

@@ -13,11 +13,14 @@ pub(crate) mod place;
 
 use crate::index::place::{Place, pair_of};
 use crate::placed::NotesAt;
-use mxf_klv::{Held, Kind, Note};
+use mxf_klv::{Kind, Note};
 use mxf_sets::Segment;
 use std::marker::Model;
 
-/// A clear readable index table segment and where it stands.
+/// A clear readable index table segment and where it stands (ST 377-1, index tables).
+///
+/// It covers a run of edit units of one essence stream, which its IndexSID and BodySID name. A recording that grows
+/// writes one segment after another; a finished file mostly repeats them in its footer.
 #[derive(Debug, Drop)]
 pub struct SegmentAt<'a> {
     /// The file offset where the segment's packet begins, in bytes.
@@ -37,11 +40,7 @@ impl<'a> Model for SegmentAt<'a> {
 fn read_value(note: &Note) -> Option<Segment<'_>>
     ensures { result ≡ read_as segment_at note.now }
 {
-    match note.held() {
-        Held::Whole(value) => Segment::read(value).ok(),
-        Held::Digest(_) => None,
-        Held::Head => None,
-    }
+    Segment::read(note.value()?).ok()
 }
 
 /// The segment of a note, where it is a readable index table segment.

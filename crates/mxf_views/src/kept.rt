@@ -85,9 +85,8 @@ impl Kept {
         ensures kept { kept_in self.new ≡ kept_in self.old }
         ensures room { OnOk result (HasRoom (reduced_union own.now other.now) self.new) }
     {
-        // What a catalogue lends says that its notes are those of a file.
-        let _own = own.notes();
-        let _others = other.notes();
+        own.laws();
+        other.laws();
         self.reserve(other)
     }
 

@@ -10,11 +10,15 @@ ghost use Rattle.mxf_views.specs.Partitions.{pack_of, partition_at, partitions_a
 
 use crate::placed::NotesAt;
 use mxf_catalogue::Catalogue;
-use mxf_klv::{Held, Kind, Note};
+use mxf_klv::{Kind, Note};
 use mxf_sets::{PackPart, PartitionPack};
 use std::marker::Model;
 
-/// A partition: a clear readable partition pack and where it stands.
+/// A partition: a clear readable partition pack and where it stands (ST 377-1, partition pack).
+///
+/// Partitions divide a file: a header, bodies with essence, index or a further copy of the header metadata, and a
+/// footer. The pack at the front of each says what follows it, and where the partition before it and the footer stand.
+/// A pack that shares a byte with another packet isn't relied on, and is no partition.
 #[derive(Debug, Drop)]
 pub struct PartitionAt<'a> {
     /// The file offset where the pack's packet begins, in bytes.
@@ -47,11 +51,7 @@ fn read_pack(note: &Note) -> Option<PartitionPack<'_>>
     if !is_pack(note.kind()) {
         return None;
     }
-    match note.held() {
-        Held::Whole(value) => PartitionPack::read(&note.key(), value).ok(),
-        Held::Digest(_) => None,
-        Held::Head => None,
-    }
+    PartitionPack::read(&note.key(), note.value()?).ok()
 }
 
 /// The partition that the note is, where it is a readable partition pack.

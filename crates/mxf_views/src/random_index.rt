@@ -13,12 +13,15 @@ ghost use Rattle.mxf_views.specs.RandomIndex.{IsStanding, is_rip_note, rip_in, r
 use crate::partition::partition_there;
 use crate::placed::NotesAt;
 use mxf_catalogue::Catalogue;
-use mxf_klv::{Held, Kind, Note};
+use mxf_klv::{Kind, Note};
 use mxf_sets::{Rip, RipEntries, RipEntry};
 use std::fmt;
 use std::marker::Model;
 
-/// How an entry stands to the partitions.
+/// How an entry of a random index pack stands to the partitions.
+///
+/// The entry promises a partition with its BodySID at its offset: it is there, another one stands there, or none is
+/// held there, which makes the offset one to restore.
 #[derive(Clone, Copy, Debug, PartialEq, Eq)]
 pub enum Standing {
     /// A partition at the entry's offset has its BodySID.
@@ -45,7 +48,11 @@ impl fmt::Display for Standing {
     }
 }
 
-/// What is known of the random index pack, by those that share no byte with another packet.
+/// What is known of the random index pack, by those that share no byte with another packet (ST 377-1, random index
+/// pack).
+///
+/// The last packet of a file can list all partitions with their offsets, so that a reader finds each without following
+/// the links. A file has one at most: where two are held, one is of another reading, and neither is relied on.
 #[derive(Debug, Drop)]
 pub enum RipView<'a> {
     /// There is none.
@@ -154,11 +161,7 @@ pub(crate) fn read_rip(note: &Note) -> Option<Rip<'_>>
     ensures rip { result ≡ rip_in note.now }
     ensures bound { IfSome result (λ rip. length rip.entries < 2 ^ 64) }
 {
-    match note.held() {
-        Held::Whole(value) => Rip::read(note.width(), value).ok(),
-        Held::Digest(_) => None,
-        Held::Head => None,
-    }
+    Rip::read(note.width(), note.value()?).ok()
 }
 
 impl<'a> RipView<'a> {

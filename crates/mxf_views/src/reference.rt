@@ -12,11 +12,14 @@ pub(crate) mod resolved;
 pub(crate) mod target;
 
 use crate::copy::sets::Sets;
-use mxf_klv::{Held, Note};
+use mxf_klv::Note;
 use mxf_sets::instance_uid;
 use uuid::Uuid;
 
-/// What is found of an identifier among the sets of a copy.
+/// What is found of an identifier among the sets of a copy (ST 377-1, strong references).
+///
+/// Sets name each other by their instance identifiers, which are unique in a copy of the header metadata. Of a copy
+/// that is held in parts the set may be missing, and of one that is damaged several can have the identifier.
 #[derive(Clone, Copy, Debug, PartialEq, Eq)]
 pub enum Found {
     Absent,
@@ -39,11 +42,7 @@ fn reads_uid(value: &[u8], uid: &Uuid) -> bool
 pub(crate) fn has_uid(note: &Note, uid: &Uuid) -> bool
     ensures { result ≡ has_uid uid.now note.now }
 {
-    match note.held() {
-        Held::Whole(value) => reads_uid(value, uid),
-        Held::Digest(_) => false,
-        Held::Head => false,
-    }
+    note.value().is_some_and(|value| reads_uid(value, uid))
 }
 
 /// The set with the identifier.

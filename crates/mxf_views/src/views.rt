@@ -33,9 +33,9 @@ use crate::index::place::{BadUnit, GREATEST_UNIT, Place};
 use crate::kept::Kept;
 use crate::kept::above::boundary;
 use crate::kept::arrival::Arrival;
-use crate::kept::copies::copy_at;
+use crate::kept::copies::find_copy;
 use crate::kept::offsets::any_above;
-use crate::kept::reaches::copy_with;
+use crate::kept::reaches::copy_around;
 use crate::partition::{PartitionAt, Partitions, partition_there};
 use crate::placed::NotesAt;
 use crate::random_index::RipView;
@@ -49,7 +49,10 @@ use std::marker::Model;
 use thiserror::Error;
 use uuid::Uuid;
 
-/// A catalogue, with the views of its notes.
+/// A catalogue, with the views of its notes: what the packets that are held say of the file.
+///
+/// Each view is a function of the catalogue's content, whichever way its notes came. Views are by clear notes, those
+/// that share no byte with another: what is disputed is shown as such, and relied on nowhere.
 #[derive(Debug, Drop)]
 pub struct Views {
     catalogue: Catalogue,
@@ -95,8 +98,7 @@ impl Views {
         ensures history { (h : History) → catalogue ≡ content h → IfOk result (λ v. v ≡ content (Of h)) }
         ensures back { IfErr result (λ f. f.catalogue ≡ catalogue) }
     {
-        // What a catalogue lends says that its notes are those of a file.
-        let _notes = catalogue.notes();
+        catalogue.laws();
         match Kept::of(alloc, &catalogue) {
             Ok(kept) => Ok(Views { catalogue, kept }),
             Err(_) => Err(ViewFault { catalogue }),
@@ -294,8 +296,7 @@ impl Views {
     fn any_partition_above(&self, offset: u64) -> bool
         ensures { result ≡ stands_above offset (partitions_of self.now) }
     {
-        // What a catalogue lends says that its notes stand in their order.
-        let _notes = self.catalogue.notes();
+        self.catalogue.laws();
         any_above(&self.kept.partitions, offset)
     }
 
@@ -347,9 +348,8 @@ impl Views {
     fn copy_at(&self, partition: u64) -> Option<CopyInfo>
         ensures { result ≡ find (λ c. c.partition == partition) (copies_of self.now) }
     {
-        // What a catalogue lends says that its notes are those of a file.
-        let _notes = self.catalogue.notes();
-        copy_at(&self.kept.copies, partition)
+        self.catalogue.laws();
+        find_copy(&self.kept.copies, partition)
     }
 
     /// The preferred copy: of those with a start and exactly one Preface, a finished one before all others, then by the
@@ -375,9 +375,8 @@ impl Views {
     pub fn copy_with(&self, note: &Note) -> Option<CopyInfo>
         ensures { result ≡ find (is_in_copy note.now) (copies_of self.now) }
     {
-        // What a catalogue lends says that its notes are those of a file.
-        let _notes = self.catalogue.notes();
-        copy_with(&self.kept.copies, &self.kept.reaches, note)
+        self.catalogue.laws();
+        copy_around(&self.kept.copies, &self.kept.reaches, note)
     }
 
     /// The primer pack at the start of the copy. None without a start, or where no clear primer pack that can be read

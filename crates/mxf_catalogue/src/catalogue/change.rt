@@ -5,7 +5,7 @@ ghost use Rattle.mxf_klv.specs.Parts.{NoteParts};
 ghost use Rattle.mxf_klv.specs.Rising.{In, IsRising};
 ghost use Rattle.mxf_catalogue.specs.Content.{IsContent, reduced_with};
 ghost use Rattle.mxf_catalogue.specs.Disputes.{IsClear, IsDisputed, whole_notes};
-ghost use Rattle.mxf_catalogue.specs.Parts.{moved_by, moved_notes};
+ghost use Rattle.mxf_catalogue.specs.NoteLists.{moved_by, moved_notes};
 
 use super::clear::ClearNotes;
 use mxf_klv::{Note, OutOfMemory};

@@ -15,6 +15,10 @@ use mxf_klv::Note;
 use std::marker::Model;
 
 /// A disputed note: another note of the catalogue shares a byte with it.
+///
+/// In one file packets lie one behind another, so of two notes that share a byte one at least isn't of this file, or is
+/// of an earlier state of it: a header that was rewritten in place, a source with a wrong offset, bytes of another
+/// file. The catalogue keeps both, since nothing in them tells which is right.
 #[derive(Debug, Drop)]
 pub struct Disputed<'a> {
     pub note: &'a Note,

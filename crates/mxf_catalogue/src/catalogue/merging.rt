@@ -3,11 +3,11 @@ ghost use Rattle.std.specs.Prelude.{◌≡◌, ◌≢◌, ◌+◌, ◌≤◌, �
 ghost use Rattle.std.specs.Prelude.{IfOk, IfSome, MatchOption};
 ghost use Rattle.std.specs.Iterator.{YieldsFirst, item_count};
 ghost use Rattle.mxf_catalogue.specs.Content.{IsContent, union_of};
-ghost use Rattle.mxf_catalogue.specs.Parts.{AreParts};
+ghost use Rattle.mxf_catalogue.specs.NoteLists.{AreNoteLists};
 ghost use Rattle.mxf_catalogue.specs.Rooms.{AreRoomFor, IsRoomFor};
 
 use super::Catalogue;
-use super::parts::Parts;
+use super::note_lists::NoteLists;
 use crate::run::Run;
 use mxf_klv::{Note, OutOfMemory};
 use std::alloc::{AllocError, Global};
@@ -35,15 +35,15 @@ impl From<MergeFault> for OutOfMemory {
 pub(super) struct Room {
     pub own: Vec<Note>,
     pub others: Vec<Note>,
-    pub parts: Parts,
+    pub parts: NoteLists,
     pub runs: Vec<Run>,
 }
 
 impl Room {
     /// Room for the notes of both.
-    pub fn of(alloc: Global, own: &Parts, others: &Parts) -> Result<Room, AllocError>
-        requires own_parts { AreParts own.now.undisputed.items own.now.disputed.items }
-        requires other_parts { AreParts others.now.undisputed.items others.now.disputed.items }
+    pub fn of(alloc: Global, own: &NoteLists, others: &NoteLists) -> Result<Room, AllocError>
+        requires own_parts { AreNoteLists own.now.undisputed.items own.now.disputed.items }
+        requires other_parts { AreNoteLists others.now.undisputed.items others.now.disputed.items }
         ensures own_empty { IfOk result (λ r. r.own.items ≡ []) }
         ensures own { IfOk result (λ r. own.now.disputed.items ≢ []
             → length (union_of own.now.undisputed.items own.now.disputed.items) ≤ vec_capacity r.own) }
@@ -59,7 +59,7 @@ impl Room {
         Ok(Room {
             own: own.list_room(alloc)?,
             others: others.list_room(alloc)?,
-            parts: Parts::with_room(alloc, count)?,
+            parts: NoteLists::with_room(alloc, count)?,
             runs: Vec::with_capacity(alloc, count)?,
         })
     }

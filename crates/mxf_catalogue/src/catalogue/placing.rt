@@ -8,7 +8,7 @@ ghost use Rattle.mxf_klv.specs.Rising.{In};
 ghost use Rattle.mxf_catalogue.specs.Content.{AreReduced, IsCatalogue, IsContent, IsPlace, has_note, reduced_with, with_note, union_of};
 ghost use Rattle.mxf_catalogue.specs.Covers.{spanned};
 ghost use Rattle.mxf_catalogue.specs.Disputes.{lies_in};
-ghost use Rattle.mxf_catalogue.specs.Parts.{StandApart, touching, away_from, run_of};
+ghost use Rattle.mxf_catalogue.specs.NoteLists.{StandApart, touching, away_from, run_of};
 
 use crate::run::Run;
 use mxf_klv::Note;

@@ -5,22 +5,23 @@ use super::front::Front;
 ///
 /// The front stands in each variant, and not beside them, since there it fills bytes that would lie empty.
 #[derive(Debug, Drop)]
-pub(super) enum Kept {
+pub(super) enum KeptValue {
     Whole(Front, Vec<u8>),
     Digest(Front, [u8; 32]),
     Head(Front),
 }
 
-impl Kept {
+impl KeptValue {
     ghost use Rattle.std.specs.Prelude.{◌≡◌};
-    ghost use Rattle.mxf_klv.specs.Kept.{front_of};
+    ghost use Rattle.mxf_klv.specs.KeptValue.{front_of};
 
     /// What stands ahead of the value.
     pub(super) fn front(&self) -> Front
         ensures { result ≡ front_of self.now }
     {
         match self {
-            Kept::Whole(front, _) | Kept::Digest(front, _) | Kept::Head(front) => *front,
+            KeptValue::Whole(front, _) | KeptValue::Digest(front, _) | KeptValue::Head(front) =>
+                *front,
         }
     }
 }

@@ -9,7 +9,7 @@ use super::PrintFault;
 use super::line::{Named, PackageLines};
 use super::lines::{Lines, Printer};
 use mxf_catalogue::Catalogue;
-use mxf_klv::{Held, Kind, Note};
+use mxf_klv::{Kind, Note};
 use mxf_sets::{Identification, Package};
 use mxf_views::Target;
 use std::io::Write;
@@ -110,11 +110,7 @@ fn record_in<'a>(named: Named, note: &'a Note) -> Option<Record<'a>>
 fn identification_in(note: &Note) -> Option<Identification<'_>>
     ensures { result ≡ identification_in note.now }
 {
-    match note.held() {
-        Held::Whole(value) => Identification::read(value).ok(),
-        Held::Digest(_) => None,
-        Held::Head => None,
-    }
+    Identification::read(note.value()?).ok()
 }
 
 /// The package of a note, where its value is kept and readable.
@@ -122,9 +118,5 @@ fn identification_in(note: &Note) -> Option<Identification<'_>>
 fn package_in(note: &Note) -> Option<Package<'_>>
     ensures { result ≡ package_in note.now }
 {
-    match note.held() {
-        Held::Whole(value) => Package::read(value).ok(),
-        Held::Digest(_) => None,
-        Held::Head => None,
-    }
+    Package::read(note.value()?).ok()
 }

@@ -67,9 +67,7 @@ impl Levels {
         ensures { IfOk result (λ views. HoldsAll self views) }
     {
         let catalogue = self.merged(alloc)?;
-
-        // It is a catalogue, and a count of its notes fits.
-        let _notes = catalogue.notes();
+        catalogue.laws();
         match Views::of(alloc, catalogue) {
             Ok(views) => Ok(views),
             Err(_) => Err(OutOfMemory),

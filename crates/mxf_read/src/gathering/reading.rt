@@ -1,7 +1,7 @@
 //! Reading the bytes of a part.
 ghost use Rattle.std.specs.Prelude.{◌≡◌, ◌<◌, ◌≤◌, length, take, IfErr, IfOk, IfSome};
 ghost use Rattle.mxf_read.specs.Gathering.{IsOfAnyPart};
-ghost use Rattle.mxf_read.specs.PartReading.{Reads};
+ghost use Rattle.mxf_read.specs.PartReads.{Reads};
 
 use super::PartFault;
 use crate::reading::{GREATEST_INTERRUPTIONS, Step};

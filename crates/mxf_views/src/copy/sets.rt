@@ -13,7 +13,7 @@ ghost use Rattle.mxf_views.specs.Copies.{IsSetOf, is_set_note, sets_from, sets_o
 use super::CopyInfo;
 use crate::copy::zone::is_set;
 use mxf_catalogue::{Catalogue, ClearNotes};
-use mxf_klv::{Held, Note};
+use mxf_klv::Note;
 use mxf_sets::{Items, items};
 use std::marker::Model;
 
@@ -95,11 +95,7 @@ pub fn set_items(note: &Note) -> Option<Items<'_>>
     if !is_set(note) {
         return None;
     }
-    match note.held() {
-        Held::Whole(value) => whole_items(value),
-        Held::Digest(_) => None,
-        Held::Head => None,
-    }
+    whole_items(note.value()?)
 }
 
 /// A law of [`Views::sets`](crate::Views::sets): they are the clear sets that lie wholly in the bytes of the copy,

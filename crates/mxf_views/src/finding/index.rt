@@ -1,4 +1,4 @@
-//! Findings of index table segments and random index packs.
+//! Findings of random index packs.
 ghost use Rattle.std.specs.Prelude.{◌≡◌, ◌++◌, OnOk};
 ghost use Rattle.mxf_catalogue.specs.Disputes.{clear_notes};
 ghost use Rattle.mxf_views.specs.Findings.{ends_above, findings_for, has_other_rip, is_unfit_rip, are_entries_of, is_index_of};
@@ -6,7 +6,6 @@ ghost use Rattle.mxf_views.specs.RandomIndex.{rip_in};
 
 use super::Code;
 use super::collected::Collected;
-use super::readable::is_unreadable_segment;
 use crate::partition::Partitions;
 use crate::random_index::{is_rip, read_rip};
 use crate::views::Views;
@@ -76,18 +75,6 @@ fn is_unfit_rip(views: &Views, note: &Note) -> bool
 }
 
 impl Collected {
-    /// Index table segments that aren't readable.
-    pub(super) fn add_segments(&mut self, views: &Views) -> Result<(), OutOfMemory>
-        ensures { OnOk result (self.new ≡ self.old ++ findings_for Code.F11 views.now) }
-    {
-        for note in views.catalogue().clear() {
-            if is_unreadable_segment(note) {
-                self.add(Code::F11, note.offset())?;
-            }
-        }
-        Ok(())
-    }
-
     /// Random index packs that don't fit.
     pub(super) fn add_random_index(&mut self, views: &Views) -> Result<(), OutOfMemory>
         ensures { OnOk result (self.new ≡ self.old ++ findings_for Code.F12 views.now) }

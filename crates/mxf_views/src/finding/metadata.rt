@@ -5,7 +5,6 @@ ghost use Rattle.mxf_views.specs.Findings.{findings_for, is_found, is_partial, l
 
 use super::Code;
 use super::collected::Collected;
-use super::readable::is_unreadable_set;
 use crate::copy::CopyInfo;
 use crate::reference::resolved::Resolved;
 use crate::reference::target::{Ref, Target};
@@ -34,18 +33,6 @@ impl Collected {
         for copy in views.copies() {
             if is_partial(copy) {
                 self.add(Code::F09, copy.partition)?;
-            }
-        }
-        Ok(())
-    }
-
-    /// Primer packs and sets that aren't readable.
-    pub(super) fn add_sets(&mut self, views: &Views) -> Result<(), OutOfMemory>
-        ensures { OnOk result (self.new ≡ self.old ++ findings_for Code.F10 views.now) }
-    {
-        for note in views.catalogue().clear() {
-            if is_unreadable_set(note) {
-                self.add(Code::F10, note.offset())?;
             }
         }
         Ok(())

@@ -1,32 +1,45 @@
-//! Findings of all notes: disputes and gaps.
-ghost use Rattle.std.specs.Prelude.{◌≡◌, ◌++◌, OnOk};
-ghost use Rattle.mxf_views.specs.Findings.{findings_for};
+//! Findings of all notes: disputes, gaps, and packets that can't be read.
+ghost use Rattle.std.specs.Prelude.{◌≡◌, ◌++◌, OnOk, map};
+ghost use Rattle.mxf_views.specs.Codes.{finding};
+ghost use Rattle.mxf_views.specs.Findings.{clear_at, disputed_at, findings_for, is_dispute_cause, is_note_cause};
 
 use super::Code;
 use super::collected::Collected;
+use super::readable::{is_unreadable_segment, is_unreadable_set};
 use crate::views::Views;
-use mxf_klv::OutOfMemory;
+use mxf_catalogue::Disputed;
+use mxf_klv::{Note, OutOfMemory};
+
+/// Whether the code is that of how the note is disputed.
+fn is_dispute_cause(code: Code, disputed: &Disputed<'_>) -> bool
+    ensures { result ≡ is_dispute_cause code disputed.now }
+{
+    match code {
+        Code::F01 => disputed.same_offset,
+        Code::F02 => disputed.overlaps,
+        _ => false,
+    }
+}
+
+/// Whether the code is that of a packet which isn't readable, as the note's isn't.
+fn is_note_cause(code: Code, note: &Note) -> bool
+    ensures { result ≡ is_note_cause code note.now }
+{
+    match code {
+        Code::F10 => is_unreadable_set(note),
+        Code::F11 => is_unreadable_segment(note),
+        _ => false,
+    }
+}
 
 impl Collected {
-    /// Notes with the offset of another.
-    pub(super) fn add_shared_offsets(&mut self, views: &Views) -> Result<(), OutOfMemory>
-        ensures { OnOk result (self.new ≡ self.old ++ findings_for Code.F01 views.now) }
+    /// Disputed notes, by how they are disputed.
+    pub(super) fn add_disputed(&mut self, code: Code, views: &Views) -> Result<(), OutOfMemory>
+        ensures { OnOk result (self.new ≡ self.old ++ map (finding code) (disputed_at code views.now)) }
     {
         for disputed in views.catalogue().disputed() {
-            if disputed.same_offset {
-                self.add(Code::F01, disputed.note.offset())?;
-            }
-        }
-        Ok(())
-    }
-
-    /// Notes that share a byte with a note at another offset.
-    pub(super) fn add_overlaps(&mut self, views: &Views) -> Result<(), OutOfMemory>
-        ensures { OnOk result (self.new ≡ self.old ++ findings_for Code.F02 views.now) }
-    {
-        for disputed in views.catalogue().disputed() {
-            if disputed.overlaps {
-                self.add(Code::F02, disputed.note.offset())?;
+            if is_dispute_cause(code, &disputed) {
+                self.add(code, disputed.note.offset())?;
             }
         }
         Ok(())
@@ -38,6 +51,18 @@ impl Collected {
     {
         for gap in views.gaps() {
             self.add(Code::F03, gap.start)?;
+        }
+        Ok(())
+    }
+
+    /// Clear packets that aren't readable.
+    pub(super) fn add_clear(&mut self, code: Code, views: &Views) -> Result<(), OutOfMemory>
+        ensures { OnOk result (self.new ≡ self.old ++ map (finding code) (clear_at code views.now)) }
+    {
+        for note in views.catalogue().clear() {
+            if is_note_cause(code, note) {
+                self.add(code, note.offset())?;
+            }
         }
         Ok(())
     }

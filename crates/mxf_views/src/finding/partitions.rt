@@ -1,6 +1,8 @@
 //! Findings of partitions: their packs, links and footer, and their chain.
-ghost use Rattle.std.specs.Prelude.{◌≡◌, ◌++◌, OnOk};
-ghost use Rattle.mxf_views.specs.Findings.{footer_stands_at, findings_for, is_misplaced, is_open, is_open_footer, is_unfit, lacks_footer};
+ghost use Rattle.std.specs.Prelude.{◌≡◌, ◌++◌, OnOk, map};
+ghost use Rattle.mxf_views.specs.Codes.{finding};
+ghost use Rattle.mxf_views.specs.Findings.{findings_for, footer_stands_at, is_misplaced, is_open, is_open_footer};
+ghost use Rattle.mxf_views.specs.Findings.{is_partition_cause, is_unfit, lacks_footer, partitions_at};
 ghost use Rattle.mxf_views.specs.Partitions.{is_footer, partitions_of};
 
 use super::Code;
@@ -63,6 +65,19 @@ fn lacks_footer(views: &Views, partition: &PartitionAt<'_>) -> bool
     footer != 0 && !footer_stands_at(views.catalogue(), footer)
 }
 
+/// Whether the code is that of what is wrong with the partition.
+fn is_partition_cause(code: Code, views: &Views, partition: &PartitionAt<'_>) -> bool
+    ensures { result ≡ is_partition_cause code (partitions_of views.now) partition.now }
+{
+    match code {
+        Code::F05 => is_misplaced(partition),
+        Code::F06 => is_unfit(views.link_of(partition)),
+        Code::F07 => is_open_footer(partition),
+        Code::F08 => lacks_footer(views, partition),
+        _ => false,
+    }
+}
+
 impl Collected {
     /// Partition packs that aren't readable.
     pub(super) fn add_packs(&mut self, views: &Views) -> Result<(), OutOfMemory>
@@ -74,49 +89,13 @@ impl Collected {
         Ok(())
     }
 
-    /// Partitions that name another offset as their own.
-    pub(super) fn add_misplaced(&mut self, views: &Views) -> Result<(), OutOfMemory>
-        ensures { OnOk result (self.new ≡ self.old ++ findings_for Code.F05 views.now) }
+    /// Partitions of which the code tells something.
+    pub(super) fn add_partitions(&mut self, code: Code, views: &Views) -> Result<(), OutOfMemory>
+        ensures { OnOk result (self.new ≡ self.old ++ map (finding code) (partitions_at code views.now)) }
     {
         for partition in views.partitions() {
-            if is_misplaced(&partition) {
-                self.add(Code::F05, partition.offset)?;
-            }
-        }
-        Ok(())
-    }
-
-    /// Partitions that don't name the one before them.
-    pub(super) fn add_links(&mut self, views: &Views) -> Result<(), OutOfMemory>
-        ensures { OnOk result (self.new ≡ self.old ++ findings_for Code.F06 views.now) }
-    {
-        for partition in views.partitions() {
-            if is_unfit(views.link_of(&partition)) {
-                self.add(Code::F06, partition.offset)?;
-            }
-        }
-        Ok(())
-    }
-
-    /// Footer partitions that aren't closed.
-    pub(super) fn add_open_footers(&mut self, views: &Views) -> Result<(), OutOfMemory>
-        ensures { OnOk result (self.new ≡ self.old ++ findings_for Code.F07 views.now) }
-    {
-        for partition in views.partitions() {
-            if is_open_footer(&partition) {
-                self.add(Code::F07, partition.offset)?;
-            }
-        }
-        Ok(())
-    }
-
-    /// Partitions that name a footer partition which isn't there.
-    pub(super) fn add_lost_footers(&mut self, views: &Views) -> Result<(), OutOfMemory>
-        ensures { OnOk result (self.new ≡ self.old ++ findings_for Code.F08 views.now) }
-    {
-        for partition in views.partitions() {
-            if lacks_footer(views, &partition) {
-                self.add(Code::F08, partition.offset)?;
+            if is_partition_cause(code, views, &partition) {
+                self.add(code, partition.offset)?;
             }
         }
         Ok(())

@@ -4,7 +4,7 @@ ghost use Rattle.mxf_views.specs.Findings.{is_unreadable, is_unreadable_segment,
 
 use crate::copy::sets::whole_items;
 use crate::copy::zone::is_set;
-use mxf_klv::{Held, Kind, Note};
+use mxf_klv::{Kind, Note};
 use mxf_sets::{ContentStorage, Identification, Package, Preface, Primer, Segment};
 
 /// Whether the value can be read by its kind: as a primer pack, as a metadata set, as the items of a raw set, or as an
@@ -29,11 +29,9 @@ fn reads_value(kind: Kind, value: &[u8]) -> bool
 pub(crate) fn is_unreadable(note: &Note) -> bool
     ensures { result ≡ is_unreadable note.now }
 {
-    match note.held() {
-        Held::Whole(value) => !reads_value(note.kind(), value),
-        Held::Digest(_) => true,
-        Held::Head => true,
-    }
+    !note
+        .value()
+        .is_some_and(|value| reads_value(note.kind(), value))
 }
 
 /// Whether the note is a primer pack, a metadata set or a raw set that isn't readable.

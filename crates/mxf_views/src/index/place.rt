@@ -22,7 +22,14 @@ pub struct Pair {
     pub offset: u128,
 }
 
-/// Where the index puts an edit unit.
+/// Where the index puts an edit unit (ST 377-1, index tables).
+///
+/// An edit unit is the smallest part of the essence that can be cut out, mostly a frame of the picture with its sound.
+/// An index table segment tells of a run of them where in the essence stream each begins: by one size that all of them
+/// have, or by an entry for each.
+///
+/// Segments can repeat each other, as a footer repeats those of the body, and are used where they agree. Where they put
+/// a unit at different places, no place can be relied on.
 #[derive(Clone, Copy, Debug, PartialEq, Eq)]
 pub enum Place {
     /// No segment gives a place.

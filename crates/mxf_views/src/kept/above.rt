@@ -17,9 +17,8 @@ use mxf_klv::below;
 pub(crate) fn boundary(own: &Catalogue, other: &Catalogue) -> Option<u64>
     ensures { IfSome result (λ b. MeetAt b own.now other.now) }
 {
-    // What a catalogue lends says that its notes are reduced.
-    let _own = own.notes();
-    let _others = other.notes();
+    own.laws();
+    other.laws();
     let end = own.end();
     match other.spans().runs().next() {
         Some(first) if first.start < end => None,
@@ -119,8 +118,7 @@ pub(super) fn follow_copies_above(copies: &mut Vec<CopyInfo>, settled: usize, su
     ensures settled { take settled copies.new.items ≡ take settled copies.old.items }
     ensures len { settled ≤ length copies.new.items }
 {
-    // What a catalogue lends can be counted.
-    let _clear = sums.catalogue().clear();
+    sums.catalogue().laws();
     let starting = starting(copies, sums.catalogue(), sums.boundary());
     count_above(&mut copies[settled..], sums, starting);
     append_copies(copies, sums);

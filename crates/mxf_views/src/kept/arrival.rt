@@ -24,8 +24,7 @@ impl Arrival {
     pub fn of(catalogue: &Catalogue, note: &Note) -> Arrival
         ensures { IsArrival note.now catalogue.now result }
     {
-        // What a catalogue lends says that its notes are reduced.
-        let _notes = catalogue.notes();
+        catalogue.laws();
         let (start, end) = hull(catalogue, note);
         Arrival {
             offset: note.offset(),

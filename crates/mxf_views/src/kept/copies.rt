@@ -3,14 +3,13 @@ ghost use Rattle.std.specs.Prelude.{◌≡◌, ◌==◌, ◌<◌, ◌≤◌, cou
 ghost use Rattle.mxf_catalogue.specs.Disputes.{clear_notes};
 ghost use Rattle.mxf_views.specs.Copies.{CopiesRise, copies_of};
 ghost use Rattle.mxf_views.specs.KeptAbove.{clear_from};
-ghost use Rattle.mxf_views.specs.Kept.{copy_by, can_bring_start, copies_followed, is_outside, may_change, renewed, states_metadata, with_copy};
+ghost use Rattle.mxf_views.specs.Kept.{can_bring_start, copies_followed, is_outside, may_change, renewed, states_metadata, with_copy};
 
 use super::sums::{Sums, append_copies};
-use crate::copy::{CopyInfo, copy_of, copy_there, has_metadata};
+use crate::copy::{CopyInfo, copy_there};
 use crate::kept::arrival::Arrival;
-use crate::partition::partition_at;
 use mxf_catalogue::Catalogue;
-use mxf_klv::{Keyed, Note, up_to};
+use mxf_klv::{Keyed, up_to};
 
 /// Whether what comes and goes with an arrival may change the copy.
 fn may_change(copy: &CopyInfo, arrival: &Arrival) -> bool
@@ -72,7 +71,7 @@ fn put_copy(copies: &mut Vec<CopyInfo>, copy: CopyInfo)
 }
 
 /// The copy of the partition at a file offset.
-pub(crate) fn copy_at(copies: &[CopyInfo], partition: u64) -> Option<CopyInfo>
+pub(crate) fn find_copy(copies: &[CopyInfo], partition: u64) -> Option<CopyInfo>
     requires { CopiesRise copies.now }
     ensures { result ≡ find (λ c. c.partition == partition) copies.now }
 {
@@ -114,15 +113,4 @@ pub(super) fn refill_copies(copies: &mut Vec<CopyInfo>, sums: &Sums<'_>)
 {
     copies.clear();
     append_copies(copies, sums);
-}
-
-/// The copy of the partition that the note is, where it states header metadata.
-pub(super) fn copy_by(catalogue: &Catalogue, note: &Note) -> Option<CopyInfo>
-    ensures { result ≡ copy_by (clear_notes catalogue.now) note.now }
-{
-    let partition = partition_at(note)?;
-    if !has_metadata(&partition) {
-        return None;
-    }
-    Some(copy_of(catalogue, &partition))
 }

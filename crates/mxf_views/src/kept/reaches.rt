@@ -42,7 +42,7 @@ pub(super) fn refill_reaches(reaches: &mut Vec<u64>, copies: &[CopyInfo], settle
 }
 
 /// The first copy whose zone has the packet of the note: the first that reaches the packet's end, or none.
-pub(crate) fn copy_with(copies: &[CopyInfo], reaches: &[u64], note: &Note) -> Option<CopyInfo>
+pub(crate) fn copy_around(copies: &[CopyInfo], reaches: &[u64], note: &Note) -> Option<CopyInfo>
     requires starts { StartsRise copies.now }
     requires reaches { reaches.now ≡ reaches_of copies.now }
     ensures { result ≡ find (is_in_copy note.now) copies.now }

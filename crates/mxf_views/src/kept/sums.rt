@@ -106,9 +106,7 @@ impl<'a> Sums<'a> {
         ensures covered { result.covered ≡ covered_of start bytes (clear_notes self.now.notes) }
         ensures prefaces { result.prefaces ≡ prefaces_of start bytes (clear_notes self.now.notes) }
     {
-        // What a catalogue lends says that its clear notes are apart.
-        let _clear = self.catalogue.clear();
-        let _notes = self.catalogue.notes();
+        self.catalogue.laws();
         let below = counts(self.catalogue, start, first.offset - start);
         let rest = bytes - (last.offset - start);
         let above = counts(self.catalogue, last.offset, rest);
@@ -136,12 +134,12 @@ impl<'a> Sums<'a> {
         if !has_metadata(&partition) {
             return None;
         }
-        Some(self.copy_of(&partition))
+        Some(self.counted_copy(&partition))
     }
 
     /// The copy of the partition.
     #[tactic(auto, unfolding(crate::specs::Copies::copy_of))]
-    fn copy_of(&self, partition: &PartitionAt<'_>) -> CopyInfo
+    fn counted_copy(&self, partition: &PartitionAt<'_>) -> CopyInfo
         requires { self.now.boundary ≤ partition.now.end }
         ensures { result ≡ copy_of (clear_notes self.now.notes) partition.now }
     {

@@ -17,7 +17,7 @@ use crate::finding::readable::is_unreadable;
 use crate::reference::Found;
 use crate::views::Views;
 use mxf_catalogue::Catalogue;
-use mxf_klv::{Held, Note, OutOfMemory};
+use mxf_klv::{Note, OutOfMemory};
 use mxf_sets::instance_uid;
 use std::alloc::Global;
 use std::marker::Model;
@@ -35,11 +35,7 @@ pub(crate) struct Identified {
 fn uid_of(note: &Note) -> Option<Uuid>
     ensures { result ≡ read_as instance_uid_at note.now }
 {
-    match note.held() {
-        Held::Whole(value) => instance_uid(value).ok(),
-        Held::Digest(_) => None,
-        Held::Head => None,
-    }
+    instance_uid(note.value()?).ok()
 }
 
 /// The set, where it has a readable identifier.
@@ -174,8 +170,7 @@ impl<'a> CopySets<'a> {
         requires { In set.now (sets_of self.now.notes self.now.partition) }
         ensures { result ≡ is_unreadable set.now }
     {
-        // What a catalogue lends says that its notes are those of a file.
-        let _notes = self.catalogue.notes();
+        self.catalogue.laws();
         is_among(&self.unreadable, set.offset())
     }
 

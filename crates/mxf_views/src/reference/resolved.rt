@@ -14,13 +14,17 @@ use crate::reference::Found;
 use crate::reference::identified::CopySets;
 use crate::reference::target::{Ref, Refs, Wanted, refs_of, target_of};
 use crate::views::Views;
-use mxf_klv::{Held, Kind, Note, OutOfMemory};
+use mxf_klv::{Kind, Note, OutOfMemory};
 use mxf_sets::{ContentStorage, Preface};
 use std::alloc::Global;
 use std::marker::Model;
 use uuid::Uuid;
 
-/// What the Preface of the preferred copy names, and what its storage names.
+/// What the Preface of the preferred copy names, and what its storage names (ST 377-1, structural metadata).
+///
+/// The Preface is the root of the header metadata. It names the identifications, one for each program that wrote the
+/// file, and the content storage, which names the packages: the material that is played and the sources it is from.
+/// Each name comes with what it leads to, in the order of the file.
 #[derive(Debug, Drop)]
 pub struct Resolved {
     /// The file offset of the partition, in bytes.
@@ -58,11 +62,7 @@ pub(crate) fn preface_among(sets: Sets<'_>) -> Option<&Note>
 fn preface_in(note: &Note) -> Option<Preface<'_>>
     ensures { result ≡ preface_in note.now }
 {
-    match note.held() {
-        Held::Whole(value) => Preface::read(value).ok(),
-        Held::Digest(_) => None,
-        Held::Head => None,
-    }
+    Preface::read(note.value()?).ok()
 }
 
 #[tactic(auto, unfolding(crate::specs::Resolved::storage_in))]
@@ -72,11 +72,7 @@ fn storage_in(note: &Note) -> Option<ContentStorage<'_>>
     if !Wanted::Storage.fits(note.kind()) {
         return None;
     }
-    match note.held() {
-        Held::Whole(value) => ContentStorage::read(value).ok(),
-        Held::Digest(_) => None,
-        Held::Head => None,
-    }
+    ContentStorage::read(note.value()?).ok()
 }
 
 /// The storage with the identifier, where it is the only set of the copy that has it.

@@ -16,7 +16,10 @@ use std::alloc::Global;
 use std::marker::Model;
 use uuid::Uuid;
 
-/// What a reference leads to, with file offsets in bytes.
+/// What a reference leads to, with file offsets in bytes: a set of the kind that the reference wants, in the same copy.
+///
+/// A reference is of use where exactly one set has the identifier and that set is of the kind and readable. Else the
+/// target says which of these fails first.
 #[derive(Clone, Copy, Debug, PartialEq, Eq)]
 pub enum Target {
     /// No set of the copy has the identifier.

@@ -3,7 +3,7 @@ use Rattle.std.proofs.lemmas.List.{drop_all}
 use Rattle.mxf_klv.specs.Parts.{NoteParts}
 use Rattle.mxf_catalogue.specs.declared.run.Run.{Run}
 use Rattle.mxf_catalogue.specs.Covers.{union_of_runs}
-use Rattle.mxf_catalogue.specs.Parts.{Covers, covered_run}
+use Rattle.mxf_catalogue.specs.NoteLists.{Covers, covered_run}
 use Rattle.mxf_catalogue.proofs.ApartLaws.{covers_all}
 use Rattle.mxf_catalogue.proofs.catalogue.spans_of.Goals as goal
 

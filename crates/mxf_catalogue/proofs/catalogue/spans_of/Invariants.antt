@@ -1,7 +1,7 @@
 -- The runs, with those of what is to come.
 use Rattle.std.proofs.Common.{◌≡◌, [], drop, map}
 use Rattle.mxf_catalogue.specs.Covers.{union_of_runs}
-use Rattle.mxf_catalogue.specs.Parts.{covered_run}
+use Rattle.mxf_catalogue.specs.NoteLists.{covered_run}
 use Rattle.mxf_catalogue.proofs.catalogue.spans_of.Given as goal
 
 abbrev pub invariant-loop-note : goal.invariant-loop-note

@@ -11,7 +11,7 @@ use Rattle.mxf_views.proofs.chain.stands_between.Goals as goal
 pub any_between-requires : goal.any_between-requires
 any_between-requires c =
     subst (IsRising nat_cmp) (sym c.requires)
-    (offsets_rise (is_placed kinds.Partition) c.args.catalogue.now c.notes-notes.ensures.catalogue.content)
+    (offsets_rise (is_placed kinds.Partition) c.args.catalogue.now c.laws.ensures.catalogue.content)
 
 pub returns : goal.returns
 returns c =

@@ -3,9 +3,9 @@ use Rattle.std.specs.Result.{result_ok}
 use Rattle.mxf_sets.specs.Segment.{segment_at}
 use Rattle.mxf_views.proofs.index.read_value.Goals as goal
 
-pub returns-in-Whole : goal.returns-in-Whole
-returns-in-Whole c =
-    let kept = c.in-Whole.ensures in
+pub returns : goal.returns
+returns c =
+    let kept = c.in_ok-value.ensures.some in
     let held = c.args.note.now.held in
     c.ok.ensures.value ∙ ap result_ok (c.read.ensures ∙ ap segment_at kept.1)
     ∙ sym (ap (λ (k : Bool). cond k (result_ok (segment_at held)) None) kept.0)

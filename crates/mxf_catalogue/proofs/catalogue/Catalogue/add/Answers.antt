@@ -9,7 +9,7 @@ use Rattle.mxf_klv.specs.Parts.{NoteParts}
 use Rattle.mxf_catalogue.proofs.HeadLaws.{reduced_with-present}
 use Rattle.mxf_catalogue.specs.Content.{AreReduced, IsCatalogue, has_note, reduced_with, union_of}
 use Rattle.mxf_catalogue.specs.Covers.{with_run}
-use Rattle.mxf_catalogue.specs.Parts.{Covers, moved_by}
+use Rattle.mxf_catalogue.specs.NoteLists.{Covers, moved_by}
 use Rattle.mxf_catalogue.specs.Runs.{run}
 use Rattle.mxf_catalogue.proofs.KeptLaws.{above_moves_none, above_new, covers_with, union_is}
 use Rattle.mxf_catalogue.proofs.PartLaws.{moved_part}

@@ -3,7 +3,7 @@ use Rattle.mxf_klv.specs.Parts.{NoteParts}
 use Rattle.mxf_klv.specs.Rising.{In}
 use Rattle.mxf_catalogue.specs.Content.{reduced_with, union_of}
 use Rattle.mxf_catalogue.specs.Covers.{with_run}
-use Rattle.mxf_catalogue.specs.Parts.{Covers}
+use Rattle.mxf_catalogue.specs.NoteLists.{Covers}
 use Rattle.mxf_catalogue.specs.Runs.{run}
 use Rattle.mxf_catalogue.proofs.KeptLaws.{above_new, covers_with}
 use Rattle.mxf_catalogue.proofs.catalogue.Catalogue.append.Goals as goal

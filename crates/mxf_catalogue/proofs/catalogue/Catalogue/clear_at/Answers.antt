@@ -4,7 +4,7 @@ use Rattle.mxf_klv.specs.Parts.{NoteParts}
 use Rattle.mxf_klv.specs.Rising.{In}
 use Rattle.mxf_catalogue.specs.Content.{union_of}
 use Rattle.mxf_catalogue.specs.Disputes.{IsClear, clear_notes}
-use Rattle.mxf_catalogue.specs.Parts.{AreParts}
+use Rattle.mxf_catalogue.specs.NoteLists.{AreNoteLists}
 use Rattle.mxf_catalogue.proofs.DisputeLaws.{In-clear_notes, SharesByte-same_offset, clear_at-found, clear_at-lacked}
 use Rattle.mxf_catalogue.proofs.HeadLaws.{same_note}
 use Rattle.mxf_catalogue.proofs.Lists.{In-filter}
@@ -16,20 +16,20 @@ is_whole true e = refl
 is_whole false e = cc
 
 -- a clear note is a note of the first part that is no head
-in_part : (cs ds notes : List NoteParts) (n : NoteParts) → AreParts cs ds → union_of cs ds ≡ notes → IsClear n notes
+in_part : (cs ds notes : List NoteParts) (n : NoteParts) → AreNoteLists cs ds → union_of cs ds ≡ notes → IsClear n notes
     → In n cs
 in_part cs ds notes n p v h =
     let i = subst (In n) (sym (clear_part cs ds p ∙ ap clear_notes v)) ((In-clear_notes n notes).1 h) in
     ((In-filter (λ m. m.whole) cs n).0 i).0
 
-clear_there : (cs ds notes : List NoteParts) (n : NoteParts) → AreParts cs ds → union_of cs ds ≡ notes → In n cs
+clear_there : (cs ds notes : List NoteParts) (n : NoteParts) → AreNoteLists cs ds → union_of cs ds ≡ notes → In n cs
     → n.whole ≡ true → IsClear n notes
 clear_there cs ds notes n p v h e =
     (In-clear_notes n notes).0 (subst (In n) (clear_part cs ds p ∙ ap clear_notes v)
     ((In-filter (λ m. m.whole) cs n).1 (h, e)))
 
 -- where a head of the first part stands, no clear note does
-head_alone : (cs ds notes : List NoteParts) (m : NoteParts) (offset : ℕ) → AreParts cs ds → union_of cs ds ≡ notes
+head_alone : (cs ds notes : List NoteParts) (m : NoteParts) (offset : ℕ) → AreNoteLists cs ds → union_of cs ds ≡ notes
     → In m cs → m.offset ≡ offset → not m.whole ≡ true → (n : NoteParts) → IsClear n notes → n.offset ≢ offset
 head_alone cs ds notes m offset p v h at head n clear e =
     let i = in_part cs ds notes n p v clear in
@@ -42,7 +42,7 @@ head_alone cs ds notes m offset p v h at head n clear e =
     ]
 
 -- where no note of the first part stands, no clear note does
-none_there : (cs ds notes some : List NoteParts) (offset : ℕ) → AreParts cs ds → union_of cs ds ≡ notes → some ≡ cs
+none_there : (cs ds notes some : List NoteParts) (offset : ℕ) → AreNoteLists cs ds → union_of cs ds ≡ notes → some ≡ cs
     → ((n : NoteParts) → In n some → n.offset ≢ offset) → (n : NoteParts) → IsClear n notes → n.offset ≢ offset
 none_there cs ds notes some offset p v same none n h =
     none n (subst (In n) (sym same) (in_part cs ds notes n p v h))

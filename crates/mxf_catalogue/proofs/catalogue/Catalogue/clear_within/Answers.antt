@@ -1,7 +1,7 @@
 use Rattle.std.proofs.Common.{◌∙◌, ap, filter, sym, subst}
 use Rattle.mxf_catalogue.specs.Content.{IsCatalogue}
 use Rattle.mxf_catalogue.specs.Disputes.{AreApart, clear_notes, lies_in, whole_notes}
-use Rattle.mxf_catalogue.specs.Parts.{StandApart}
+use Rattle.mxf_catalogue.specs.NoteLists.{StandApart}
 use Rattle.mxf_catalogue.proofs.KeptLaws.{union_is}
 use Rattle.mxf_catalogue.proofs.PartLaws.{apart_of, clear_part, filter-both}
 use Rattle.mxf_catalogue.proofs.SpanLaws.{AreApart-clear_notes, AreApart-filter}

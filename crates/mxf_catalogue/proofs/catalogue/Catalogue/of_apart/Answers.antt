@@ -1,7 +1,7 @@
 use Rattle.std.proofs.Common.{[], subst, sym, List}
 use Rattle.mxf_klv.specs.Parts.{NoteParts}
 use Rattle.mxf_catalogue.specs.declared.run.Run.{Run}
-use Rattle.mxf_catalogue.specs.Parts.{Covers, IsWhole}
+use Rattle.mxf_catalogue.specs.NoteLists.{Covers, AreCatalogueFields}
 use Rattle.mxf_catalogue.proofs.ApartLaws.{whole_apart}
 use Rattle.mxf_catalogue.proofs.catalogue.Catalogue.of_apart.Goals as goal
 
@@ -11,6 +11,6 @@ invariant_of-result c =
     let spans = c.in_ok-spans.spans in
     let none = c.new-parts.ensures in
     let covers = subst (λ (l : List NoteParts). Covers spans l) c.deref.ensures.value c.in_ok-spans.ensures in
-    subst (λ (l : List NoteParts). IsWhole notes l c.new-parts.result.disputed_spans.items spans) (sym none.disputed)
-    (subst (λ (l : List Run). IsWhole notes [] l spans) (sym none.disputed_spans)
+    subst (λ (l : List NoteParts). AreCatalogueFields notes l c.new-parts.result.disputed_spans.items spans) (sym none.disputed)
+    (subst (λ (l : List Run). AreCatalogueFields notes [] l spans) (sym none.disputed_spans)
     (whole_apart notes spans c.requires.catalogue c.requires.reduced c.requires.apart covers))

@@ -1,5 +1,5 @@
 use Rattle.std.proofs.Common.{◌∙◌, ◌≢◌, ◌≤◌, [], ap, length, subst, sym, vec_capacity}
-use Rattle.mxf_catalogue.specs.declared.catalogue.parts.Parts.{Parts}
+use Rattle.mxf_catalogue.specs.declared.catalogue.note_lists.NoteLists.{NoteLists}
 use Rattle.mxf_catalogue.specs.Content.{AreReduced, IsCatalogue, reduced_union, union_of}
 use Rattle.mxf_catalogue.proofs.KeptLaws.{union_is}
 use Rattle.mxf_catalogue.proofs.HeadLaws.{reduced_union-all}
@@ -7,7 +7,7 @@ use Rattle.mxf_catalogue.proofs.catalogue.Catalogue.rebuild.Goals as goal
 
 pub into_notes-own-requires-clause-room : goal.into_notes-own-requires-clause-room
 into_notes-own-requires-clause-room c =
-    subst (λ (p : Parts). p.disputed.items ≢ [] → length (union_of p.undisputed.items p.disputed.items) ≤ vec_capacity c.in-Ok.room.own)
+    subst (λ (p : NoteLists). p.disputed.items ≢ [] → length (union_of p.undisputed.items p.disputed.items) ≤ vec_capacity c.in-Ok.room.own)
     (sym c.replace.ensures.value) c.in-Ok.ensures.own
 
 pub returns-clause-merged : goal.returns-clause-merged
@@ -17,7 +17,7 @@ returns-clause-merged c =
     (union_is parts.undisputed.items parts.disputed.items c.self.invariant.kept.parts) in
     let none = c.in-Ok.ensures.parts in
     let own = c.into_notes-own.ensures.notes
-    ∙ ap (λ (p : Parts). union_of p.undisputed.items p.disputed.items) c.replace.ensures.value ∙ c.self.view_is in
+    ∙ ap (λ (p : NoteLists). union_of p.undisputed.items p.disputed.items) c.replace.ensures.value ∙ c.self.view_is in
     let others = c.into_notes-others.ensures.notes ∙ c.other.view_is in
     let both = c.of-2.ensures.notes ∙ (λ i. union_of (own i) (others i)) in
     let red = subst AreReduced c.self.view_is c.self.invariant.kept.reduced in

@@ -1,6 +1,6 @@
 use Rattle.std.proofs.Common.{◌≡◌, drop, map}
 use Rattle.mxf_catalogue.specs.Covers.{spanned}
-use Rattle.mxf_catalogue.specs.Parts.{run_of}
+use Rattle.mxf_catalogue.specs.NoteLists.{run_of}
 use Rattle.mxf_catalogue.proofs.catalogue.placing.hull.Given as goal
 
 abbrev pub invariant-loop-other : goal.invariant-loop-other

@@ -1,7 +1,7 @@
 use Rattle.std.proofs.Common.{◌≡◌, arith, length, take, drop, refl, sym, ◌∙◌, ap, subst}
 use Rattle.std.specs.Vec.Iter.{drain_items}
 use Rattle.mxf_catalogue.specs.Content.{union_of}
-use Rattle.mxf_catalogue.specs.Parts.{StandApart, touching}
+use Rattle.mxf_catalogue.specs.NoteLists.{StandApart, touching}
 use Rattle.mxf_catalogue.proofs.Ranges.{middle}
 use Rattle.mxf_catalogue.proofs.catalogue.placing.move_touched.Goals as goal
 

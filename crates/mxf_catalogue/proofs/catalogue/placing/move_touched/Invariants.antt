@@ -1,7 +1,7 @@
 use Rattle.std.proofs.Common.{◌≡◌, ◌+◌, ◌≤◌, length, vec_len, vec_capacity}
 use Rattle.std.specs.Vec.Iter.{drain_items}
 use Rattle.mxf_catalogue.specs.Content.{IsContent, union_of}
-use Rattle.mxf_catalogue.specs.Parts.{touching}
+use Rattle.mxf_catalogue.specs.NoteLists.{touching}
 use Rattle.mxf_catalogue.proofs.catalogue.placing.move_touched.Given as goal
 
 abbrev pub invariant-loop-moved : goal.invariant-loop-moved

@@ -8,6 +8,6 @@ returns-clause-room c =
     let k = c.reserve.new.self in
     let old = c.args.self.now in
     let e = c.reserve.ensures in
-    room_for_both own other old k c.reserve.result c.notes-own.ensures.catalogue.content
-    c.notes-others.ensures.catalogue.content c.notes-own.ensures.reduced c.notes-others.ensures.reduced c.requires e.partitions e.segments e.random_index_packs
-    e.unreadable_packs e.copies e.reaches
+    room_for_both own other old k c.reserve.result c.laws.ensures.catalogue.content
+    c.laws-2.ensures.catalogue.content c.laws.ensures.reduced c.laws-2.ensures.reduced c.requires e.partitions e.segments
+    e.random_index_packs e.unreadable_packs e.copies e.reaches

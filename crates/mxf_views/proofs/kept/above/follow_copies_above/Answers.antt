@@ -22,8 +22,8 @@ pub count_above-requires : goal.count_above-requires
 count_above-requires c = λ copy s h e.
     let k = c.requires.kept in
     let there = in_rest c.deref_mut.result.now copy c.args.settled h in
-    let lends = c.clear-clear.ensures.notes ∙ ap clear_notes c.catalogue.ensures in
-    let fits = subst (λ (ns : List NoteParts). length ns < 2 ^ 64) lends c.clear-clear.ensures.bound in
+    let fits = subst (λ (ns : List NoteParts). length (clear_notes ns) < 2 ^ 64) c.catalogue.ensures
+    c.laws.ensures.clear_bound in
     fits_at c.args.sums.now.boundary c.args.sums.now.notes k.0 c.args.copies.now.items copy s k.1 k.2 fits
     (subst (In copy) c.deref_mut.ensures.value there) e
 

@@ -13,7 +13,7 @@ pub any_above-requires : goal.any_above-requires
 any_above-requires c =
     let same = c.deref.ensures.value ∙ ap (λ (k : KeptParts). k.partitions) c.self.invariant in
     subst (IsRising nat_cmp) (sym same)
-    (offsets_rise (is_placed Partition) c.self.inside.catalogue c.notes-notes.ensures.catalogue.content)
+    (offsets_rise (is_placed Partition) c.self.inside.catalogue c.laws.ensures.catalogue.content)
 
 pub returns : goal.returns
 returns c =

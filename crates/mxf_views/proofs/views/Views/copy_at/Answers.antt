@@ -6,12 +6,12 @@ use Rattle.mxf_views.specs.Kept.{KeptParts}
 use Rattle.mxf_views.proofs.CopyLaws.{copies_rise}
 use Rattle.mxf_views.proofs.views.Views.copy_at.Goals as goal
 
-pub copy_at-requires : goal.copy_at-requires
-copy_at-requires c =
+pub find_copy-requires : goal.find_copy-requires
+find_copy-requires c =
     let kept = c.deref.ensures.value ∙ ap (λ (k : KeptParts). k.copies) c.self.invariant in
-    subst CopiesRise (sym kept) (copies_rise c.self.inside.catalogue c.notes-notes.ensures.catalogue.content)
+    subst CopiesRise (sym kept) (copies_rise c.self.inside.catalogue c.laws.ensures.catalogue.content)
 
 pub returns : goal.returns
 returns c =
     let kept = c.deref.ensures.value ∙ ap (λ (k : KeptParts). k.copies) c.self.invariant in
-    c.copy_at.ensures ∙ ap (λ (cs : List CopyInfo). find (λ d. d.partition == c.args.partition) cs) (kept ∙ ap copies_of c.self.view_is)
+    c.find_copy.ensures ∙ ap (λ (cs : List CopyInfo). find (λ d. d.partition == c.args.partition) cs) (kept ∙ ap copies_of c.self.view_is)

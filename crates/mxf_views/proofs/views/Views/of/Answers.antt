@@ -29,9 +29,8 @@ located_own notes r n = In-located (has_note notes) notes r (known_own notes) n
 
 pub returns-in-Ok-clause-run : goal.returns-in-Ok-clause-run
 returns-in-Ok-clause-run c =
-    let notes = c.notes-notes.ensures in
-    IsTheRun-from_set (has_note c.args.catalogue) c.args.catalogue (located_own c.args.catalogue notes.reduced) (
+    let laws = c.laws.ensures in
+    IsTheRun-from_set (has_note c.args.catalogue) c.args.catalogue (located_own c.args.catalogue laws.reduced) (
       _,
-      written_file c.args.catalogue notes.catalogue notes.reduced
-          (subst (λ (ns : List NoteParts). length ns < 2 ^ 64) notes.notes notes.bound) (file_bytes c.args.catalogue) refl,
+      written_file c.args.catalogue laws.catalogue laws.reduced laws.bound (file_bytes c.args.catalogue) refl,
     )

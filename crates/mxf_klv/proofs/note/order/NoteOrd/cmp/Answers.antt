@@ -1,5 +1,5 @@
 use Rattle.std.proofs.Common.{rules}
-use Rattle.mxf_klv.specs.Kept.{front_of}
+use Rattle.mxf_klv.specs.KeptValue.{front_of}
 use Rattle.mxf_klv.proofs.LabelOrder.{cmp-tails}
 use Rattle.mxf_klv.proofs.note.order.NoteOrd.cmp.Goals as goal
 

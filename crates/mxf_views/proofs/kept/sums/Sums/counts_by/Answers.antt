@@ -22,7 +22,7 @@ covered_all : (c : After-counts-above)
     + c.counts-above.result.covered ≡ covered_of c.args.start c.args.bytes (clear_notes c.self.inside.catalogue.now)
 covered_all c =
     let all = covered_by c.self.inside.boundary c.args.start c.args.bytes c.self.inside.catalogue.now c.args.first.now
-    c.args.last.now c.notes-notes.ensures.catalogue (low c) (range c) in
+    c.args.last.now c.laws.ensures.catalogue (low c) (range c) in
     omega (arith, all, c.counts-below.ensures.covered, c.counts-above.ensures.covered)
 
 prefaces_all : (c : After-counts-above)
@@ -30,26 +30,25 @@ prefaces_all : (c : After-counts-above)
     + c.counts-above.result.prefaces ≡ prefaces_of c.args.start c.args.bytes (clear_notes c.self.inside.catalogue.now)
 prefaces_all c =
     let all = prefaces_by c.self.inside.boundary c.args.start c.args.bytes c.self.inside.catalogue.now c.args.first.now
-    c.args.last.now c.notes-notes.ensures.catalogue (low c) (range c) in
+    c.args.last.now c.laws.ensures.catalogue (low c) (range c) in
     omega (arith, all, c.counts-below.ensures.prefaces, c.counts-above.ensures.prefaces)
 
 covered_bound : (c : After-counts-above)
     → covered_of c.args.start c.args.bytes (clear_notes c.self.inside.catalogue.now) ≤ c.args.bytes
 covered_bound c =
     covered_fits c.args.start c.args.bytes (clear_notes c.self.inside.catalogue.now)
-    (subst (AreApart 0) c.clear-clear.ensures.notes c.clear-clear.ensures.apart)
+    c.laws.ensures.apart
 
 prefaces_bound : (c : After-counts-above)
     → prefaces_of c.args.start c.args.bytes (clear_notes c.self.inside.catalogue.now) < 2 ^ 64
 prefaces_bound c =
-    let some = prefaces_fit c.args.start c.args.bytes (clear_notes c.self.inside.catalogue.now) in
-    let many = ap length c.clear-clear.ensures.notes in omega (arith, some, many, c.clear-clear.ensures.bound)
+    let some = prefaces_fit c.args.start c.args.bytes (clear_notes c.self.inside.catalogue.now) in omega (arith, some, c.laws.ensures.clear_bound)
 
 pub overflow_sub-result : goal.overflow_sub-result
 overflow_sub-result c =
     let d = (goal.at.overflow_sub-result c).After-counts-above in
     covered_order c.self.inside.boundary c.args.start c.args.bytes c.self.inside.catalogue.now c.args.first.now
-    c.args.last.now c.notes-notes.ensures.catalogue (low d) (range d)
+    c.args.last.now c.laws.ensures.catalogue (low d) (range d)
 
 pub overflow_add-result : goal.overflow_add-result
 overflow_add-result c =
@@ -65,7 +64,7 @@ pub overflow_sub-result-2 : goal.overflow_sub-result-2
 overflow_sub-result-2 c =
     let d = (goal.at.overflow_sub-result-2 c).After-counts-above in
     prefaces_order c.self.inside.boundary c.args.start c.args.bytes c.self.inside.catalogue.now c.args.first.now
-    c.args.last.now c.notes-notes.ensures.catalogue (low d) (range d)
+    c.args.last.now c.laws.ensures.catalogue (low d) (range d)
 
 pub overflow_add-result-3 : goal.overflow_add-result-3
 overflow_add-result-3 c =

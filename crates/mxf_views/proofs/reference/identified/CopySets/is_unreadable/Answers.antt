@@ -12,7 +12,7 @@ pub is_among-requires : goal.is_among-requires
 is_among-requires c =
     let s = c.self.inside in
     subst (IsRising nat_cmp) (sym (c.deref.ensures.value ∙ c.self.invariant.1))
-    (unreadable_rise s.catalogue.now s.partition c.notes-notes.ensures.catalogue.content)
+    (unreadable_rise s.catalogue.now s.partition c.laws.ensures.catalogue.content)
 
 pub returns : goal.returns
 returns c =

@@ -1,6 +1,0 @@
--- What is there and what is to come make up the notes.
-use Rattle.std.proofs.Common.{◌≡◌, ◌++◌, drop}
-use Rattle.mxf_catalogue.proofs.catalogue.parts.copies_of.Given as goal
-
-abbrev pub invariant-loop-note : goal.invariant-loop-note
-invariant-loop-note l = l.copies.items ++ drop l.note-index l.notes ≡ l.notes

@@ -1,0 +1,13 @@
+use Rattle.std.proofs.Common.{◌≡◌, ◌++◌, map}
+use Rattle.std.specs.Prelude.{filter}
+use Rattle.mxf_views.specs.Codes.{finding}
+use Rattle.mxf_views.specs.Findings.{is_partition_cause, partitions_at}
+use Rattle.mxf_views.specs.Partitions.{partitions_of}
+use Rattle.mxf_views.proofs.finding.collected.Collected.add_partitions.Given as goal
+
+abbrev pub invariant-loop-partition : goal.invariant-loop-partition
+invariant-loop-partition l =
+    l.self
+    ++ map (finding l.code)
+    (map (λ p. p.offset) (filter (is_partition_cause l.code (partitions_of l.views)) l.partition-iterator))
+    ≡ l.fn.self ++ map (finding l.code) (partitions_at l.code l.views)

@@ -1,0 +1,11 @@
+use Rattle.std.proofs.Common.{◌∙◌, ap, arith, sym}
+use Rattle.mxf_catalogue.specs.Disputes.{clear_notes}
+use Rattle.mxf_views.specs.Partitions.{PartitionParts}
+use Rattle.mxf_views.proofs.SumLaws.{start_after}
+use Rattle.mxf_views.proofs.kept.sums.Sums.counted_copy.Goals as goal
+
+pub counts-requires : goal.counts-requires
+counts-requires c =
+    let l = start_after c.partition.inside.end (clear_notes c.self.inside.catalogue.now) c.in-Some.start
+    (sym c.start_of.ensures ∙ c.in-Some.is) in
+    let same = ap (λ (p : PartitionParts). p.end) c.partition.view_is in omega (arith, l, same, c.requires)
