@@ -1,4 +1,5 @@
-//! How many elements of a list that rises by a key lie below a bound, by binary search.
+//! How many elements of a list that rises by a key lie below a bound: all of them by a look at the last, else by binary
+//! search.
 ghost use Rattle.std.specs.Prelude.{◌≡◌, ◌<◌, ◌≤◌, ℕ, length};
 ghost use Rattle.std.specs.List.{AllWithin};
 ghost use Rattle.std.specs.List.Sorted.{IsNonDecreasingBy};
@@ -29,7 +30,10 @@ pub fn below<T: Keyed>(items: &[T], bound: u64) -> usize
     ensures below { AllWithin (λ x. T.key x < bound) items.now 0 result }
     ensures above { AllWithin (λ x. bound ≤ T.key x) items.now result (length items.now) }
 {
-    items.partition_point(|item| item.key() < bound)
+    match items.last() {
+        Some(last) if last.key() < bound => items.len(),
+        _ => items.partition_point(|item| item.key() < bound),
+    }
 }
 
 /// The number of the elements whose key lies at or below the bound.
@@ -39,5 +43,8 @@ pub fn up_to<T: Keyed>(items: &[T], bound: u64) -> usize
     ensures below { AllWithin (λ x. T.key x ≤ bound) items.now 0 result }
     ensures above { AllWithin (λ x. bound < T.key x) items.now result (length items.now) }
 {
-    items.partition_point(|item| item.key() <= bound)
+    match items.last() {
+        Some(last) if last.key() <= bound => items.len(),
+        _ => items.partition_point(|item| item.key() <= bound),
+    }
 }

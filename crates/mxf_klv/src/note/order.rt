@@ -5,6 +5,7 @@ ghost use Rattle.std.specs.Cmp.Lexicographic.{slice_cmp};
 ghost use Rattle.mxf_klv.specs.Parts.{NoteParts};
 
 use super::Note;
+use crate::search::Keyed;
 use std::cmp::Ordering;
 
 impl Note {
@@ -76,5 +77,14 @@ impl Ord for Note {
             .then_with(|| self.width().cmp(&other.width()))
             .then_with(|| self.length.cmp(&other.length))
             .then_with(|| self.cmp_held(other))
+    }
+}
+
+/// Notes rise by their offsets, in bytes.
+impl Keyed for Note {
+    ghost key = { λ n. n.offset };
+
+    fn key(&self) -> u64 {
+        self.offset
     }
 }

@@ -1,10 +1,20 @@
-use Rattle.std.proofs.Common.{rules, nat_le}
+use Rattle.std.proofs.Common.{rules, nat_le, arith, ap, length, sym, ◌-◌}
 use Rattle.std.proofs.lemmas.Bool.{leb-true, leb-false}
 use Rattle.std.proofs.lemmas.List.Sorted.{IsPartitionPoint-from_clause, IsPartitionedBy-leb}
+use Rattle.std.proofs.lemmas.Option.{get_or_from_slice_get, slice_get_within}
 use Rattle.mxf_klv.proofs.search.up_to.Goals as goal
 
-pub returns : goal.returns
-returns g c =
+pub returns-in-Some-clause-below : goal.returns-in-Some-clause-below
+returns-in-Some-clause-below g c j d l h =
+    let xs = c.args.items.now in
+    let k = length xs - 1 in
+    let e = sym c.in-Some.ensures.value in
+    let at = get_or_from_slice_get xs k c.in-Some.last.now d e in
+    let up = c.requires j k d (omega arith) (slice_get_within xs k c.in-Some.last.now e) in
+    omega (arith, up, ap g.T.Keyed.key at, c.if-key-bound.true, c.key.ensures)
+
+pub returns-in_default : goal.returns-in_default
+returns-in_default g c =
     let parted = IsPartitionedBy-leb g.T.Keyed.key _ c.args.bound c.requires in
     let point = IsPartitionPoint-from_clause
     (λ x. nat_le (g.T.Keyed.key x) c.args.bound) _ _ c.partition_point.ensures.partitioned parted (λ a r q k. search rules) in

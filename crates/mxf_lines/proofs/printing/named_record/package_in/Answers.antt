@@ -4,8 +4,8 @@ use Rattle.mxf_sets.specs.Package.{package_at}
 use Rattle.mxf_lines.specs.ReferenceLines.{package_in}
 use Rattle.mxf_lines.proofs.printing.named_record.package_in.Goals as goal
 
-pub returns-in-Whole : goal.returns-in-Whole
+pub returns : goal.returns
 unfolding package_in
-returns-in-Whole c =
-    rw c.in-Whole.ensures.0
-    (c.ok.ensures.value ∙ ap result_ok (c.read.ensures ∙ ap package_at c.in-Whole.ensures.1))
+returns c =
+    rw c.in_ok-value.ensures.some.0
+    (c.ok.ensures.value ∙ ap result_ok (c.read.ensures ∙ ap package_at c.in_ok-value.ensures.some.1))
