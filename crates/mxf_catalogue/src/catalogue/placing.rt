@@ -11,7 +11,7 @@ ghost use Rattle.mxf_catalogue.specs.Disputes.{lies_in};
 ghost use Rattle.mxf_catalogue.specs.NoteLists.{StandApart, touching, away_from, run_of};
 
 use crate::run::Run;
-use mxf_klv::Note;
+use mxf_klv::{Note, below};
 
 /// Where the note is, or where it goes: behind all others at once where it stands above them, else by binary search.
 fn place(notes: &[Note], note: &Note) -> Result<usize, usize>
@@ -96,10 +96,7 @@ pub(super) fn starting_below(notes: &[Note], offset: u64) -> usize
     ensures below { AllWithin (λ n. n.offset < offset) notes.now 0 result }
     ensures above { AllWithin (λ n. offset ≤ n.offset) notes.now result (length notes.now) }
 {
-    match notes.last() {
-        Some(last) if last.offset() < offset => notes.len(),
-        _ => notes.partition_point(|note| note.offset() < offset),
-    }
+    below(notes, offset)
 }
 
 /// From where to where the notes, of which no two share a byte, share one with the note.

@@ -6,6 +6,7 @@ ghost use Rattle.mxf_catalogue.specs.Covers.{IsCover, IsRun, spanned, with_run};
 ghost use Rattle.mxf_catalogue.specs.Runs.{LiesIn};
 
 use crate::run::Run;
+use mxf_klv::{below, up_to};
 
 /// The end of the last run of a cover; 0 where there is none.
 pub(crate) fn last_end(runs: &[Run]) -> u64
@@ -25,10 +26,7 @@ fn ending_by(runs: &[Run], offset: u64) -> usize
     ensures below { AllWithin (λ r. r.end ≤ offset) runs.now 0 result }
     ensures above { AllWithin (λ r. offset < r.end) runs.now result (length runs.now) }
 {
-    match runs.last() {
-        Some(last) if last.end <= offset => runs.len(),
-        _ => runs.partition_point(|run| run.end <= offset),
-    }
+    up_to(runs, offset)
 }
 
 /// Whether an offset from `first` to `last`, both included, lies in one of the runs of a cover.
@@ -51,10 +49,7 @@ fn ending_below(runs: &[Run], offset: u64) -> usize
     ensures below { AllWithin (λ r. r.end < offset) runs.now 0 result }
     ensures above { AllWithin (λ r. offset ≤ r.end) runs.now result (length runs.now) }
 {
-    match runs.last() {
-        Some(last) if last.end < offset => runs.len(),
-        _ => runs.partition_point(|run| run.end < offset),
-    }
+    below(runs, offset)
 }
 
 /// The number of the runs that start at or below the offset.
