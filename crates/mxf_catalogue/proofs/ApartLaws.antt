@@ -12,10 +12,10 @@ use Rattle.mxf_catalogue.specs.Parts.{AreParts, Covers, IsWhole, StandApart, cov
 use Rattle.mxf_catalogue.specs.Runs.{IsWithin}
 use Rattle.mxf_catalogue.proofs.DisputeLaws.{SharesByte-symmetric}
 use Rattle.mxf_catalogue.proofs.KeptLaws.{above_far, whole_none}
-use Rattle.mxf_catalogue.proofs.Lists.{In-map}
+use Rattle.mxf_klv.proofs.Lists.{In-map}
 
 -- none begins below the bound
-begins_above : (low : ℕ) (notes : List NoteParts) (n : NoteParts) → AreApart low notes → In n notes → low ≤ n.offset
+pub begins_above : (low : ℕ) (notes : List NoteParts) (n : NoteParts) → AreApart low notes → In n notes → low ≤ n.offset
 begins_above low [] n a h = absurd h
 begins_above low (x ∷ xs) n a (inl e) =
     let l : low ≤ x.offset = a.0 in

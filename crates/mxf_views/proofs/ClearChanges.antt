@@ -5,7 +5,7 @@ use Rattle.std.specs.declared.cmp.Ordering.TheVariants.{Less}
 use Rattle.std.specs.Prelude.{◌↔◌, ◌||◌, cond, ◌==◌, nat_le, nat_lt, filter, find, map, max, min}
 use Rattle.std.specs.FinSet.{nat_cmp-IsAntisymmetric}
 use Rattle.std.specs.Ordering.{nat_cmp}
-use Rattle.std.proofs.lemmas.Bool.{ltb-true, lt-ltb, ltb-false}
+use Rattle.std.proofs.lemmas.Bool.{ltb-true, lt-ltb, ltb-false, and_from}
 use Rattle.std.proofs.lemmas.Cmp.{nat_cmp_total}
 use Rattle.mxf_klv.specs.Parts.{NoteParts}
 use Rattle.mxf_klv.specs.Note.{end_of, head_note}
@@ -14,19 +14,18 @@ use Rattle.mxf_catalogue.specs.Content.{AreReduced, IsContent, has_note, reduced
 use Rattle.mxf_catalogue.specs.Disputes.{IsClear, SharesByte, clear_notes}
 use Rattle.mxf_catalogue.proofs.HeadLaws.{In-reduced_with, IsContent-reduced_with, same_note}
 use Rattle.mxf_catalogue.proofs.DisputeLaws.{In-clear_notes, clear-alone, clear_at-found, is_byte_shared-SharesByte, SharesByte-symmetric}
-use Rattle.mxf_catalogue.proofs.Lists.{In-filter, In-map, all-filter, found-In, none_found}
 use Rattle.mxf_catalogue.specs.Parts.{touching}
 use Rattle.mxf_catalogue.proofs.MovedLaws.{rising_apart}
 use Rattle.mxf_catalogue.proofs.PartLaws.{In-touching, with_whole}
 use Rattle.mxf_catalogue.proofs.SpanLaws.{AreApart-clear_notes, AreApart-filter}
 use Rattle.mxf_views.specs.Kept.{IsHull, followed, is_outside, notes_at, offsets_where, passes, stands_clear}
-use Rattle.mxf_views.proofs.Members.{both}
 use Rattle.mxf_views.proofs.StartLaws.{clear_same}
+use Rattle.mxf_klv.proofs.Lists.{In-filter, In-map, all-filter, found-In, none_found}
 
 -- ---- which notes are clear
 
 shares : (m n : NoteParts) → m.offset < end_of n → n.offset < end_of m → SharesByte m n
-shares m n l h = (is_byte_shared-SharesByte m n).0 (both _ _ (lt-ltb m.offset (end_of n) l) (lt-ltb n.offset (end_of m) h))
+shares m n l h = (is_byte_shared-SharesByte m n).0 (and_from _ _ (lt-ltb m.offset (end_of n) l) (lt-ltb n.offset (end_of m) h))
 
 shared_low : (m n : NoteParts) → SharesByte m n → m.offset < end_of n
 shared_low m n s = let a : m.offset ≤ s.0 = s.1.from in let b : s.0 + 1 ≤ end_of n = s.2.before in omega arith

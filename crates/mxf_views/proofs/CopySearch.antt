@@ -9,11 +9,10 @@ use Rattle.std.proofs.lemmas.Bool.{cases_order}
 use Rattle.std.proofs.lemmas.Bool.Decides.{nat_tests}
 use Rattle.std.proofs.lemmas.Cmp.{ranked}
 use Rattle.mxf_klv.specs.Rising.{In}
-use Rattle.mxf_catalogue.proofs.Lists.{find-none, find-only}
-use Rattle.mxf_catalogue.proofs.Places.{Contains-from_In, In-at}
 use Rattle.mxf_views.specs.declared.copy.CopyInfo.{CopyInfo}
 use Rattle.mxf_views.specs.Copies.{CopiesRise}
 use Rattle.mxf_views.proofs.CopyUpdates.{low_in, partitions_of_copies_rise}
+use Rattle.mxf_klv.proofs.Lists.{find-none, find-only, Contains-from_In, In-at}
 
 comparisons_rise : (p : ℕ) (cs : List CopyInfo) → CopiesRise cs
     → IsNonDecreasingBy (λ c. ordering_index (nat_cmp c.partition p)) cs

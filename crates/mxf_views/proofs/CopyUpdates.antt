@@ -5,7 +5,7 @@ use Rattle.std.specs.Prelude.{◌↔◌, ◌&&◌, ◌||◌, ◌==◌, nat_lt, f
 use Rattle.std.specs.List.{AllByRecursion, AllWithin, cons_option, filter_map, insert}
 use Rattle.std.specs.List.Sorted.{IsNonDecreasingBy}
 use Rattle.std.specs.Option.{option_and_then, option_map}
-use Rattle.std.proofs.lemmas.Bool.{ltb-true, lt-ltb, ltb-false}
+use Rattle.std.proofs.lemmas.Bool.{ltb-true, lt-ltb, ltb-false, and_cases, false_from_ne_true, and_parts}
 use Rattle.mxf_klv.specs.Parts.{NoteParts}
 use Rattle.mxf_klv.specs.Kind.{kind_of}
 use Rattle.mxf_klv.specs.Note.{end_of}
@@ -14,9 +14,6 @@ use Rattle.mxf_catalogue.specs.Content.{IsContent, reduced_with}
 use Rattle.mxf_catalogue.specs.Disputes.{IsClear, SharesByte, clear_notes}
 use Rattle.mxf_catalogue.proofs.HeadLaws.{IsContent-reduced_with}
 use Rattle.mxf_catalogue.proofs.DisputeLaws.{In-clear_notes, SharesByte-same_offset, clear-alone}
-use Rattle.mxf_catalogue.proofs.Lists.{In-filter, In-map, all-filter, find-only, found-In, none_found}
-use Rattle.mxf_catalogue.proofs.Places.{In-at}
-use Rattle.mxf_catalogue.proofs.Ranges.{by_places}
 use Rattle.mxf_views.specs.declared.copy.CopyInfo.{CopyInfo}
 use Rattle.mxf_views.specs.Copies.{CopiesRise, copies_of, copy_from, copy_of, has_metadata, is_fill, is_fill_note}
 use Rattle.mxf_views.specs.Copies.{is_primer, is_readable_primer, start_of}
@@ -25,9 +22,11 @@ use Rattle.mxf_views.specs.Partitions.{PartitionParts, pack_of, partition_at, pa
 use Rattle.mxf_views.proofs.ClearChanges.{In-with_new, IsNew, clear_after, new_is_none, no_head, outside_iff}
 use Rattle.mxf_views.proofs.CopyChanges.{copy_stays, no_copy_stays, same_clear}
 use Rattle.mxf_views.proofs.CopyLaws.{copies_rise, copy_there}
-use Rattle.mxf_views.proofs.Members.{all-each, each-all, false_if, parts}
 use Rattle.mxf_views.proofs.PartitionLaws.{offset-partition_at}
 use Rattle.mxf_views.proofs.PartitionSearch.{copy_found, has_copy, is_there, of_note, of_partition, one_partition}
+use Rattle.mxf_klv.proofs.Lists.{In-filter, In-map, all-filter, find-only, found-In, none_found, In-at, all-In}
+use Rattle.mxf_klv.proofs.Lists.{all_from_In}
+use Rattle.mxf_klv.proofs.Tests.{by_places}
 
 -- ---- what a copy says of its partition
 
@@ -102,7 +101,7 @@ brings_by_fill x e = rw e refl
 brings_by_primer : (x : NoteParts) → is_readable_primer x ≡ true → can_bring_start x ≡ true
 unfolding can_bring_start is_readable_primer
 brings_by_primer x e =
-    let k : is_primer (kind_of x.key) ≡ true = (parts _ _ e).0 in
+    let k : is_primer (kind_of x.key) ≡ true = (and_parts _ _ e).0 in
     elim (is_fill (kind_of x.key)) as (λ b. (b || is_primer (kind_of x.key)) ≡ true) [
       | true ↦ refl
       | false ↦ k
@@ -126,11 +125,6 @@ without_start_stays x notes p r new none s =
 
 pub or_of : (c d : CopyInfo) (o : Option CopyInfo) → o ≡ Some d → or_itself c o ≡ d
 or_of c d o e = ap (or_itself c) e
-
-not_both : (a b : Bool) → (a && b) ≡ false → (a ≡ false) ⊎ (b ≡ false)
-not_both true true e = absurd cc
-not_both true false e = inr refl
-not_both false b e = inl refl
 
 -- What a copy outside becomes is the copy of its partition, which is still there.
 pub record Becomes (notes after : List NoteParts) (c d : CopyInfo) : Type 0 where
@@ -181,7 +175,7 @@ becomes x notes start end c r new h k out =
                 → copy_of (clear_notes after) p ≡ copy_of (clear_notes notes) p) [
                   | None ↦ λ s f. without_start_stays x notes p r new f (sym start_is ∙ s)
                   | Some zone ↦ λ s f. with_start_stays x notes start end zone p r new h a.there some (sym start_is ∙ s)
-                      (elim (not_both (nat_lt c.partition end) (nat_lt (start - zone) c.bytes) f) [
+                      (elim (and_cases (nat_lt c.partition end) (nat_lt (start - zone) c.bytes) f) [
                         | inl g ↦ (let l : end ≤ c.partition = ltb-false c.partition end g in let o = a.offset in inl
                             (subst (λ z. end ≤ z) o l))
                         | inr g ↦ (let l : c.bytes ≤ start - zone = ltb-false (start - zone) c.bytes g in inr
@@ -195,7 +189,7 @@ becomes x notes start end c r new h k out =
 
 pub low_in : (low : ℕ) (cs : List CopyInfo) (c : CopyInfo) → AllByRecursion (λ d. low < d.partition) cs → In c cs
     → low < c.partition
-low_in low cs c a h = all-each (λ (d : CopyInfo). low < d.partition) cs c a h
+low_in low cs c a h = all-In (λ (d : CopyInfo). low < d.partition) cs c a h
 
 -- Copies that rise are one list where they are the same.
 pub same_copies : (cs ds : List CopyInfo) → CopiesRise cs → CopiesRise ds → SameMembers cs ds → cs ≡ ds
@@ -241,7 +235,7 @@ rise-map : (f : CopyInfo → CopyInfo) (cs : List CopyInfo) → ((c : CopyInfo) 
     → CopiesRise cs → CopiesRise (map f cs)
 rise-map f [] e r = tt
 rise-map f (c ∷ cs) e r = (
-  each-all (λ (d : CopyInfo). (f c).partition < d.partition) (map f cs) (λ d h.
+  all_from_In (λ (d : CopyInfo). (f c).partition < d.partition) (map f cs) (λ d h.
       let s = (In-map f cs d).0 h in
       let a : c.partition < s.0.partition = low_in c.partition cs s.0 r.0 s.1 in
       let b : (f c).partition ≡ c.partition = e c (inl refl) in
@@ -280,7 +274,7 @@ rise-with_copy c (d ∷ ds) r ne =
           let l : c.partition < d.partition = ltb-true c.partition d.partition e in (
             (
               l,
-              each-all (λ (x : CopyInfo). c.partition < x.partition) ds (λ x h.
+              all_from_In (λ (x : CopyInfo). c.partition < x.partition) ds (λ x h.
                   let a : d.partition < x.partition = low_in d.partition ds x r.0 h in omega (arith, a, l)),
             ),
             r,
@@ -288,7 +282,7 @@ rise-with_copy c (d ∷ ds) r ne =
       | false ↦ λ e. (
           let l : d.partition ≤ c.partition = ltb-false c.partition d.partition e in
           let n : d.partition ≢ c.partition = ne d (inl refl) in (
-            each-all (λ (x : CopyInfo). d.partition < x.partition) (with_copy c ds) (λ x h.
+            all_from_In (λ (x : CopyInfo). d.partition < x.partition) (with_copy c ds) (λ x h.
                 elim ((In-with_copy c x ds).0 h) [
                   | inl q ↦ (let b : x.partition ≡ c.partition = ap (λ (y : CopyInfo). y.partition) q in
                       below d.partition c.partition x.partition l n b)
@@ -321,7 +315,7 @@ inserted_copy c (d ∷ ds) zero l f g =
     let h : c.partition < d.partition = g 0 c (omega arith) (omega arith) in rw (lt-ltb c.partition d.partition h) refl
 inserted_copy c (d ∷ ds) (suc i) l f g =
     let h : d.partition ≤ c.partition = f 0 c (omega arith) (omega arith) in
-    let no : nat_lt c.partition d.partition ≡ false = false_if (nat_lt c.partition d.partition) (λ t.
+    let no : nat_lt c.partition d.partition ≡ false = false_from_ne_true (nat_lt c.partition d.partition) (λ t.
     let u : c.partition < d.partition = ltb-true c.partition d.partition t in omega arith) in
     rw no (ap (λ l. d ∷ l) (inserted_copy c ds i (omega arith)
     (λ k e a b. f (suc k) e (omega arith) (omega arith)) (λ k e a b. g (suc k) e (omega arith) (omega arith))))

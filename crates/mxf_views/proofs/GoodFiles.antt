@@ -20,9 +20,11 @@ use Rattle.mxf_views.specs.WorkedFiles.{agreeing_file, bare_file, constant, fill
 use Rattle.mxf_views.specs.WorkedFiles.{open_file, pack, pack_of, preface, primer, segment, twice_filled_file, two_entries}
 use Rattle.mxf_views.specs.declared.index.place.Place.{Place}
 use Rattle.mxf_views.specs.declared.index.place.Place.TheVariants.{At}
-use Rattle.mxf_views.proofs.Members.{all-each, none_some, some_same}
 use Rattle.mxf_views.proofs.SmallFiles.{constant_packet, no_footer, no_header, no_pack, no_rip, open_packet, pack_packet}
 use Rattle.mxf_views.proofs.SmallFiles.{packet_of, preface_packet, primer_packet}
+use Rattle.mxf_klv.proofs.Lists.{all-In}
+use Rattle.mxf_klv.proofs.Tests.{none_some}
+use Rattle.std.proofs.lemmas.Option.{same_Some}
 
 pub bare_footer : (after : List PacketParts) → AllByRecursion (λ p. ¬ IsPartitionPack p) after
     → EndsWithFooter (bare_file after)
@@ -241,14 +243,14 @@ steady_place body bytes sid unit s p i e =
           elim (covers_constant s unit) as (λ c. option_map (λ o. At b o) (cond c (Some k) None) ≡ Some p
           → p ≡ At body (bytes * unit)) [
             | false ↦ λ u. absurd (none_some None p refl u)
-            | true ↦ λ u. sym (some_same (At b k) p u) ∙ at
+            | true ↦ λ u. sym (same_Some (At b k) p u) ∙ at
           ] r
     ] e
 
 steady_agree : (body bytes : ℕ) (ss : List SegmentAtParts)
     → AllByRecursion (λ s. IsSteady body bytes s.segment) ss → Agree ss
 steady_agree body bytes ss a s t sid unit p q h k e f =
-    let each = all-each (λ (x : SegmentAtParts). IsSteady body bytes x.segment) ss in
+    let each = all-In (λ (x : SegmentAtParts). IsSteady body bytes x.segment) ss in
     steady_place body bytes sid unit s.segment p (each s a h) e
     ∙ sym (steady_place body bytes sid unit t.segment q (each t a k) f)
 

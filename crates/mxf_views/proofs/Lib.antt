@@ -30,9 +30,7 @@ pub mod LaidCopies
 pub mod LaidIndex
 pub mod LaidPartitions
 pub mod LaidRandomIndex
-pub mod ListSteps
 pub mod MarkLaws
-pub mod Members
 pub mod OffsetSearch
 pub mod OnlyFound
 pub mod PartitionLaws

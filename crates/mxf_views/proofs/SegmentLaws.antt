@@ -17,7 +17,7 @@ use Rattle.mxf_catalogue.proofs.SpanLaws.{AreApart-clear_notes}
 use Rattle.mxf_views.specs.Places.{IsSegmentAt, SegmentAtParts, SegmentsRise, is_segment, placed_segment, segment_in}
 use Rattle.mxf_views.specs.Places.{segments_among, segments_of}
 use Rattle.mxf_views.proofs.KindLaws.{segment_kind}
-use Rattle.mxf_views.proofs.Members.{In-filter_map, each-all}
+use Rattle.mxf_klv.proofs.Lists.{In-filter_map, all_from_In}
 
 abbrev placed : ℕ → SegmentParts → SegmentAtParts
 placed offset segment = record { offset = offset; segment = segment }
@@ -100,7 +100,7 @@ rise_among low (n ∷ notes) a =
     elim (placed_segment n) as (λ o. placed_segment n ≡ o → SegmentsRise (segments_among (n ∷ notes))) [
       | None ↦ λ e. rw e ih
       | Some s ↦ λ e. rw e (
-        each-all (λ t. s.offset < t.offset) (segments_among notes) (λ t h.
+        all_from_In (λ t. s.offset < t.offset) (segments_among notes) (λ t h.
             let o : s.offset ≡ n.offset = offset-placed_segment n s e in
             let l : end_of n ≤ t.offset = above_among (end_of n) notes t a.1 h in
             omega (arith, o, l)),
