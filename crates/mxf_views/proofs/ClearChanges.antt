@@ -21,6 +21,7 @@ use Rattle.mxf_catalogue.proofs.SpanLaws.{AreApart-clear_notes, AreApart-filter}
 use Rattle.mxf_views.specs.Kept.{IsHull, followed, is_outside, notes_at, offsets_where, passes, stands_clear}
 use Rattle.mxf_views.proofs.StartLaws.{clear_same}
 use Rattle.mxf_klv.proofs.Lists.{In-filter, In-map, all-filter, found-In, none_found}
+use Rattle.mxf_catalogue.specs.ReducedLaws.{rising-filter}
 
 -- ---- which notes are clear
 
@@ -257,14 +258,6 @@ offsets_rise test notes r =
     rising_apart 0 (filter test (clear_notes notes))
     (AreApart-filter test 0 (clear_notes notes) (AreApart-clear_notes notes r))
 
-pub rising-filter : (p : ℕ → Bool) (xs : List ℕ) → IsRising nat_cmp xs → IsRising nat_cmp (filter p xs)
-rising-filter p [] r = tt
-rising-filter p (x ∷ xs) r =
-    elim (p x) as (λ b. IsRising nat_cmp (cond b (x ∷ filter p xs) (filter p xs))) [
-      | true ↦ (all-filter (λ y. nat_cmp x y ≡ Less) p xs r.0, rising-filter p xs r.1)
-      | false ↦ rising-filter p xs r.1
-    ]
-
 -- Where the new note is clear and of the kind, its offset joins those outside.
 pub offsets_with : (test : NoteParts → Bool) (x : NoteParts) (notes : List NoteParts) (start end : ℕ)
     → IsContent notes → IsNew x notes → IsHull x notes start end → IsClear x (reduced_with x notes)
@@ -273,7 +266,7 @@ pub offsets_with : (test : NoteParts → Bool) (x : NoteParts) (notes : List Not
     ≡ offsets_where test (reduced_with x notes)
 offsets_with test x notes start end r new h clear kind =
     let before = filter (is_outside start end) (offsets_where test notes) in
-    let rising = rising-filter (is_outside start end) (offsets_where test notes) (offsets_rise test notes r) in
+    let rising = rising-filter nat_cmp (is_outside start end) (offsets_where test notes) (offsets_rise test notes r) in
     same_from_members nat_cmp_total nat_cmp-IsAntisymmetric (with_one nat_cmp x.offset before)
     (offsets_where test (reduced_with x notes))
     (IsRising-with_one nat_cmp_total nat_cmp-IsAntisymmetric x.offset before rising)
@@ -309,7 +302,7 @@ pub offsets_without : (test : NoteParts → Bool) (x : NoteParts) (notes : List 
 offsets_without test x notes start end r new h none =
     let before = filter (is_outside start end) (offsets_where test notes) in
     same_from_members nat_cmp_total nat_cmp-IsAntisymmetric before (offsets_where test (reduced_with x notes))
-    (rising-filter (is_outside start end) (offsets_where test notes) (offsets_rise test notes r))
+    (rising-filter nat_cmp (is_outside start end) (offsets_where test notes) (offsets_rise test notes r))
     (offsets_rise test (reduced_with x notes) (IsContent-reduced_with x notes r)) (λ o.
     let kept = In-filter (is_outside start end) (offsets_where test notes) o in
     let old = In-offsets test notes o in

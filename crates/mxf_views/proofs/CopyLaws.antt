@@ -29,6 +29,8 @@ use Rattle.mxf_views.proofs.StartLaws.{one_start, start_is}
 use Rattle.mxf_catalogue.proofs.ApartLaws.{begins_above}
 use Rattle.mxf_klv.proofs.Lists.{In-filter, In-map, found-In, none_found}
 use Rattle.mxf_klv.proofs.Tests.{equals_itself, same_bool}
+use Rattle.mxf_klv.proofs.RisingBy.{rises-map, rises-filter}
+use Rattle.mxf_views.proofs.Rising.{by_offset, by_partition}
 
 -- ---- Prefaces
 
@@ -308,33 +310,11 @@ copy_there notes p = elim (start_of p.end notes) as (λ o. (copy_from notes p o)
   | Some start ↦ refl
 ]
 
-copies_above : (low : ℕ) (notes : List NoteParts) (ps : List PartitionParts) → AllByRecursion (λ q. low < q.offset) ps
-    → AllByRecursion (λ d. low < d.partition) (map (copy_of notes) (filter has_metadata ps))
-copies_above low notes [] h = tt
-copies_above low notes (p ∷ ps) h =
-    let ih = copies_above low notes ps h.1 in
-    elim (has_metadata p) as (λ b. AllByRecursion (λ d. low < d.partition)
-    (map (copy_of notes) (cond b (p ∷ filter has_metadata ps) (filter has_metadata ps)))) [
-      | true ↦ (subst (λ k. low < k) (sym (copy_there notes p)) h.0, ih)
-      | false ↦ ih
-    ]
-
-copies_in_order : (notes : List NoteParts) (ps : List PartitionParts) → AreInOrder ps
-    → CopiesRise (map (copy_of notes) (filter has_metadata ps))
-copies_in_order notes [] h = tt
-copies_in_order notes (p ∷ ps) h =
-    let ih = copies_in_order notes ps h.1 in
-    let later = map (copy_of notes) (filter has_metadata ps) in
-    elim (has_metadata p) as (λ b. CopiesRise
-    (map (copy_of notes) (cond b (p ∷ filter has_metadata ps) (filter has_metadata ps)))) [
-      | true ↦ (
-        subst (λ k. AllByRecursion (λ d. k < d.partition) later) (sym (copy_there notes p))
-            (copies_above p.offset notes ps h.0),
-        ih,
-      )
-      | false ↦ ih
-    ]
-
 pub copies_rise : (notes : List NoteParts) → IsContent notes → CopiesRise (copies_of notes)
 unfolding copies_of
-copies_rise notes h = copies_in_order (clear_notes notes) (partitions_of notes) (partitions_rise notes h)
+copies_rise notes h =
+    let ps = partitions_of notes in
+    let copy = copy_of (clear_notes notes) in
+    (by_partition _).1 (rises-map (λ p. p.offset) copy (λ c. c.partition) (filter has_metadata ps)
+    (λ p k. copy_there (clear_notes notes) p)
+    (rises-filter (λ p. p.offset) has_metadata ps ((by_offset ps).0 (partitions_rise notes h))))

@@ -27,6 +27,8 @@ use Rattle.mxf_views.proofs.PartitionSearch.{copy_found, has_copy, is_there, of_
 use Rattle.mxf_klv.proofs.Lists.{In-filter, In-map, all-filter, find-only, found-In, none_found, In-at, all-In}
 use Rattle.mxf_klv.proofs.Lists.{all_from_In}
 use Rattle.mxf_klv.proofs.Tests.{by_places}
+use Rattle.mxf_klv.proofs.RisingBy.{rises-map, rises-filter, same_by_members}
+use Rattle.mxf_views.proofs.Rising.{by_partition}
 
 -- ---- what a copy says of its partition
 
@@ -187,62 +189,10 @@ becomes x notes start end c r new h k out =
 
 -- ---- lists of copies that rise
 
-pub low_in : (low : ℕ) (cs : List CopyInfo) (c : CopyInfo) → AllByRecursion (λ d. low < d.partition) cs → In c cs
-    → low < c.partition
-low_in low cs c a h = all-In (λ (d : CopyInfo). low < d.partition) cs c a h
-
 -- Copies that rise are one list where they are the same.
 pub same_copies : (cs ds : List CopyInfo) → CopiesRise cs → CopiesRise ds → SameMembers cs ds → cs ≡ ds
-same_copies [] [] r s m = refl
-same_copies [] (d ∷ ds) r s m = absurd ((m d).1 (inl refl))
-same_copies (c ∷ cs) [] r s m = absurd ((m c).0 (inl refl))
-same_copies (c ∷ cs) (d ∷ ds) r s m =
-    let same : c ≡ d = elim ((m c).0 (inl refl)) [
-      | inl e ↦ e
-      | inr h ↦ elim ((m d).1 (inl refl)) [
-        | inl e ↦ sym e
-        | inr k ↦ (
-            let a : d.partition < c.partition = low_in d.partition ds c s.0 h in
-            let b : c.partition < d.partition = low_in c.partition cs d r.0 k in absurd (omega (arith, a, b)))
-      ]
-    ] in
-    let at : c.partition ≡ d.partition = ap (λ (x : CopyInfo). x.partition) same in
-    let tails : SameMembers cs ds = λ x. (
-      λ h. elim ((m x).0 (inr h)) [
-        | inl e ↦ (
-            let a : c.partition < x.partition = low_in c.partition cs x r.0 h in
-            let b : x.partition ≡ d.partition = ap (λ (y : CopyInfo). y.partition) e in absurd (omega (arith, a, b, at)))
-        | inr k ↦ k
-      ],
-      λ h. elim ((m x).1 (inr h)) [
-        | inl e ↦ (
-            let a : d.partition < x.partition = low_in d.partition ds x s.0 h in
-            let b : x.partition ≡ c.partition = ap (λ (y : CopyInfo). y.partition) e in absurd (omega (arith, a, b, at)))
-        | inr k ↦ k
-      ],
-    ) in
-    let rest = same_copies cs ds r.1 s.1 tails in λ i. same i ∷ rest i
-
-rise-filter : (p : CopyInfo → Bool) (cs : List CopyInfo) → CopiesRise cs → CopiesRise (filter p cs)
-rise-filter p [] r = tt
-rise-filter p (c ∷ cs) r =
-    elim (p c) as (λ b. CopiesRise (cond b (c ∷ filter p cs) (filter p cs))) [
-      | true ↦ (all-filter (λ (d : CopyInfo). c.partition < d.partition) p cs r.0, rise-filter p cs r.1)
-      | false ↦ rise-filter p cs r.1
-    ]
-
-rise-map : (f : CopyInfo → CopyInfo) (cs : List CopyInfo) → ((c : CopyInfo) → In c cs → (f c).partition ≡ c.partition)
-    → CopiesRise cs → CopiesRise (map f cs)
-rise-map f [] e r = tt
-rise-map f (c ∷ cs) e r = (
-  all_from_In (λ (d : CopyInfo). (f c).partition < d.partition) (map f cs) (λ d h.
-      let s = (In-map f cs d).0 h in
-      let a : c.partition < s.0.partition = low_in c.partition cs s.0 r.0 s.1 in
-      let b : (f c).partition ≡ c.partition = e c (inl refl) in
-      let g : (f s.0).partition ≡ s.0.partition = e s.0 (inr s.1) in
-      let k : d.partition ≡ (f s.0).partition = ap (λ (x : CopyInfo). x.partition) s.2 in omega (arith, a, b, g, k)),
-  rise-map f cs (λ d h. e d (inr h)) r.1,
-)
+same_copies cs ds r s =
+    same_by_members (λ (c : CopyInfo). c.partition) cs ds ((by_partition cs).0 r) ((by_partition ds).0 s)
 
 pub In-with_copy : (c x : CopyInfo) (ds : List CopyInfo) → In x (with_copy c ds) ↔ ((x ≡ c) ⊎ In x ds)
 In-with_copy c x [] = (λ h. h, λ h. h)
@@ -257,13 +207,6 @@ In-with_copy c x (d ∷ ds) =
       )
     ]
 
-below : (a b x : ℕ) → a ≤ b → a ≢ b → x ≡ b → a < x
-below a b x l n e =
-    elim (nat_lt a b) as (λ t. nat_lt a b ≡ t → a < x) [
-      | true ↦ λ t. let m : a < b = ltb-true a b t in omega (arith, m, e)
-      | false ↦ λ t. let m : b ≤ a = ltb-false a b t in absurd (n (omega (arith, l, m)))
-    ] refl
-
 rise-with_copy : (c : CopyInfo) (ds : List CopyInfo) → CopiesRise ds
     → ((d : CopyInfo) → In d ds → d.partition ≢ c.partition) → CopiesRise (with_copy c ds)
 rise-with_copy c [] r ne = (tt, tt)
@@ -275,7 +218,8 @@ rise-with_copy c (d ∷ ds) r ne =
             (
               l,
               all_from_In (λ (x : CopyInfo). c.partition < x.partition) ds (λ x h.
-                  let a : d.partition < x.partition = low_in d.partition ds x r.0 h in omega (arith, a, l)),
+                  let a : d.partition < x.partition = all-In (λ (y : CopyInfo). d.partition < y.partition) ds x r.0 h in
+                  omega (arith, a, l)),
             ),
             r,
           ))
@@ -284,27 +228,13 @@ rise-with_copy c (d ∷ ds) r ne =
           let n : d.partition ≢ c.partition = ne d (inl refl) in (
             all_from_In (λ (x : CopyInfo). d.partition < x.partition) (with_copy c ds) (λ x h.
                 elim ((In-with_copy c x ds).0 h) [
-                  | inl q ↦ (let b : x.partition ≡ c.partition = ap (λ (y : CopyInfo). y.partition) q in
-                      below d.partition c.partition x.partition l n b)
-                  | inr k ↦ low_in d.partition ds x r.0 k
+                  | inl q ↦ (
+                      let b : x.partition ≡ c.partition = ap (λ (y : CopyInfo). y.partition) q in omega (arith, l, n, b))
+                  | inr k ↦ all-In (λ (y : CopyInfo). d.partition < y.partition) ds x r.0 k
                 ]),
             rise-with_copy c ds r.1 (λ x h. ne x (inr h)),
           ))
     ] refl
-
--- What a place by partitions says.
-pub partitions_at : (cs : List CopyInfo) (i j : ℕ) (d : CopyInfo) → CopiesRise cs → i < j → j < length cs
-    → (get_or cs i d).partition < (get_or cs j d).partition
-partitions_at [] i j d r l h = absurd (omega arith)
-partitions_at (c ∷ cs) zero zero d r l h = absurd (omega arith)
-partitions_at (c ∷ cs) zero (suc j) d r l h = low_in c.partition cs (get_or cs j d) r.0 (In-at cs j d (omega arith))
-partitions_at (c ∷ cs) (suc i) zero d r l h = absurd (omega arith)
-partitions_at (c ∷ cs) (suc i) (suc j) d r l h = partitions_at cs i j d r.1 (omega arith) (omega arith)
-
-pub partitions_of_copies_rise : (cs : List CopyInfo) → CopiesRise cs → IsNonDecreasingBy (λ c. c.partition) cs
-partitions_of_copies_rise cs r i j d l h =
-    by_places (λ i j. (get_or cs i d).partition ≤ (get_or cs j d).partition) i j l (λ k. omega arith)
-    (λ t. let m : (get_or cs i d).partition < (get_or cs j d).partition = partitions_at cs i j d r t h in omega arith)
 
 pub inserted_copy : (c : CopyInfo) (cs : List CopyInfo) (i : ℕ) → i ≤ length cs
     → AllWithin (λ d. d.partition ≤ c.partition) cs 0 i → AllWithin (λ d. c.partition < d.partition) cs i (length cs)
@@ -338,8 +268,10 @@ renewed_partition notes start end brings c =
 pub kept_copies_rise : (notes : List NoteParts) (start end : ℕ) (brings : Bool) (cs : List CopyInfo) → CopiesRise cs
     → CopiesRise (map (renewed notes start end brings) (filter (λ c. is_outside start end c.partition) cs))
 kept_copies_rise notes start end brings cs r =
-    rise-map (renewed notes start end brings) (filter (λ c. is_outside start end c.partition) cs)
-    (λ c h. renewed_partition notes start end brings c) (rise-filter (λ c. is_outside start end c.partition) cs r)
+    let key = λ (c : CopyInfo). c.partition in
+    let outside = λ (c : CopyInfo). is_outside start end c.partition in
+    (by_partition _).1 (rises-map key (renewed notes start end brings) key (filter outside cs)
+    (λ c h. renewed_partition notes start end brings c) (rises-filter key outside cs ((by_partition cs).0 r)))
 
 -- ---- all copies
 
@@ -365,9 +297,7 @@ module _ (x : NoteParts) (notes : List NoteParts) (start end : ℕ) (r : IsConte
       ap (λ (y : CopyInfo). y.partition) b.copy ∙ copy_there (clear_notes after) b.partition ∙ sym b.offset
 
   rises : CopiesRise (map renew kept)
-  rises =
-      rise-map renew kept stays_there
-      (rise-filter (λ c. is_outside start end c.partition) (copies_of notes) (copies_rise notes r))
+  rises = kept_copies_rise after start end (can_bring_start x) (copies_of notes) (copies_rise notes r)
 
   -- What is kept and renewed are copies, of partitions that stood there before.
   pub kept_is : (d : CopyInfo) → In d (map renew kept)

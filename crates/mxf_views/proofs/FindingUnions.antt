@@ -19,10 +19,6 @@ use Rattle.mxf_views.specs.Codes.{all_codes, finding, finding_cmp, finding_cmp-I
 use Rattle.mxf_views.specs.Findings.{findings_for, findings_of}
 use Rattle.mxf_klv.proofs.Lists.{Contains-from_In, In-from_Contains}
 
-pub on_ok : {A E : Type 0} (P Q : Type 0) (r : Result A E) → (P → Q) → OnOk r P → OnOk r Q
-on_ok P Q (Ok x) f p = f p
-on_ok P Q (Err e) f p = tt
-
 -- ---- Cause by cause
 
 -- two lists of offsets of one code

@@ -18,44 +18,18 @@ use Rattle.mxf_views.proofs.PartitionLaws.{offset-partition_at}
 use Rattle.mxf_views.proofs.PartitionSearch.{is_there, of_note}
 use Rattle.mxf_klv.proofs.Lists.{list_any-In, In-at}
 use Rattle.mxf_klv.proofs.Tests.{lt_from_less, same_bool, by_places}
+use Rattle.mxf_klv.proofs.RisingBy.{by_itself, never_falls, last_above as any_above}
 
 above_first : (x y : ℕ) (xs : List ℕ) → IsRising nat_cmp (x ∷ xs) → In y xs → x < y
 above_first x y xs r h = lt_from_less x y (less_in nat_cmp_total x y xs r.0 h)
 
-rising_places : (xs : List ℕ) (i j d : ℕ) → IsRising nat_cmp xs → i < j → j < length xs → get_or xs i d < get_or xs j d
-rising_places [] i j d r l h = absurd (omega arith)
-rising_places (x ∷ xs) zero zero d r l h = absurd (omega arith)
-rising_places (x ∷ xs) zero (suc j) d r l h = above_first x (get_or xs j d) xs r (In-at xs j d (omega arith))
-rising_places (x ∷ xs) (suc i) zero d r l h = absurd (omega arith)
-rising_places (x ∷ xs) (suc i) (suc j) d r l h = rising_places xs i j d r.1 (omega arith) (omega arith)
-
 pub offsets_never_fall : (xs : List ℕ) → IsRising nat_cmp xs → IsNonDecreasingBy (λ o. o) xs
-offsets_never_fall xs r i j d l h =
-    by_places (λ i j. get_or xs i d ≤ get_or xs j d) i j l (λ k. omega arith)
-    (λ t. let m : get_or xs i d < get_or xs j d = rising_places xs i j d r t h in omega arith)
-
--- None lies above the last.
-at_most_last : (xs : List ℕ) (y k d : ℕ) → IsRising nat_cmp xs → k + 1 ≡ length xs → In y xs → y ≤ get_or xs k d
-at_most_last [] y k d r l h = absurd h
-at_most_last (x ∷ []) y zero d r l (inl e) = omega (arith, e)
-at_most_last (x ∷ []) y zero d r l (inr h) = absurd h
-at_most_last (x ∷ z ∷ xs) y zero d r l h = absurd (omega (arith, l))
-at_most_last (x ∷ xs) y (suc k) d r l (inl e) =
-    let a : x < get_or xs k d = above_first x (get_or xs k d) xs r (In-at xs k d (omega (arith, l))) in
-    omega (arith, a, e)
-at_most_last (x ∷ xs) y (suc k) d r l (inr h) = at_most_last xs y k d r.1 (omega (arith, l)) h
+offsets_never_fall xs r = never_falls (λ o. o) xs (by_itself xs r)
 
 -- So the last tells whether one lies above another offset.
 pub last_above : (low : ℕ) (xs : List ℕ) (k d : ℕ) → IsRising nat_cmp xs → k + 1 ≡ length xs
     → nat_lt low (get_or xs k d) ≡ list_any (nat_lt low) xs
-last_above low xs k d r l =
-    same_bool (nat_lt low (get_or xs k d)) (list_any (nat_lt low) xs)
-    (λ t. (list_any-In (nat_lt low) xs).1 (get_or xs k d, In-at xs k d (omega (arith, l)), t))
-    (λ t.
-    let s = (list_any-In (nat_lt low) xs).0 t in
-    let a : s.0 ≤ get_or xs k d = at_most_last xs s.0 k d r l s.1 in
-    let b : low < s.0 = ltb-true low s.0 s.2 in
-    lt-ltb low (get_or xs k d) (omega (arith, a, b)))
+last_above low xs k d r = any_above (λ o. o) low xs k d (by_itself xs r)
 
 pub none_above : (low : ℕ) (xs : List ℕ) → length xs ≤ 0 → list_any (nat_lt low) xs ≡ false
 none_above low [] l = refl

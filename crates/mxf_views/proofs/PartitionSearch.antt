@@ -17,7 +17,7 @@ use Rattle.mxf_views.specs.Findings.{footer_stands_at}
 use Rattle.mxf_views.specs.Partitions.{PartitionParts, is_footer, partition_at, partitions_among}
 use Rattle.mxf_views.specs.Partitions.{partitions_of, stands_at, stands_between}
 use Rattle.mxf_views.proofs.CopyLaws.{copy_there}
-use Rattle.mxf_views.proofs.PartitionLaws.{above_among, offset-partition_at}
+use Rattle.mxf_views.proofs.PartitionLaws.{offset-partition_at}
 use Rattle.mxf_klv.proofs.Lists.{all-In, In-filter, In-map, list_any-In, find-none, find-only, found-In, none_found}
 use Rattle.mxf_klv.proofs.Lists.{In-filter_map}
 use Rattle.mxf_klv.proofs.Tests.{same_bool}
