@@ -1,6 +1,6 @@
 -- Notes each of which begins at or above the end of the one before.
 use Rattle.std.specs.Prelude.{◌≡◌, ℕ, ◌≤◌, List, [], ◌∷◌, map}
-use Rattle.std.proofs.Common.{◌∙◌, arith, ap, sym, subst, inl, inr, refl}
+use Rattle.std.proofs.Common.{◌∙◌, arith, ap, sym, subst, inl, inr, refl, ◌<◌, ◌+◌}
 use Rattle.mxf_klv.specs.Parts.{NoteParts}
 use Rattle.mxf_klv.specs.Note.{end_of}
 use Rattle.mxf_klv.specs.Rising.{In}
@@ -12,10 +12,11 @@ use Rattle.mxf_catalogue.specs.NoteLists.{AreNoteLists, Covers, AreCatalogueFiel
 use Rattle.mxf_catalogue.specs.Runs.{IsWithin}
 use Rattle.mxf_catalogue.proofs.DisputeLaws.{SharesByte-symmetric}
 use Rattle.mxf_catalogue.proofs.KeptLaws.{above_far, whole_none}
-use Rattle.mxf_catalogue.proofs.Lists.{In-map}
+use Rattle.mxf_klv.proofs.Lists.{In-map, all_from_In}
+use Rattle.mxf_klv.proofs.RisingBy.{IsRisingBy}
 
 -- none begins below the bound
-begins_above : (low : ℕ) (notes : List NoteParts) (n : NoteParts) → AreApart low notes → In n notes → low ≤ n.offset
+pub begins_above : (low : ℕ) (notes : List NoteParts) (n : NoteParts) → AreApart low notes → In n notes → low ≤ n.offset
 begins_above low [] n a h = absurd h
 begins_above low (x ∷ xs) n a (inl e) =
     let l : low ≤ x.offset = a.0 in
@@ -23,6 +24,15 @@ begins_above low (x ∷ xs) n a (inl e) =
 begins_above low (x ∷ xs) n a (inr h) =
     let l : low ≤ x.offset = a.0 in
     let more : end_of x ≤ n.offset = begins_above (end_of x) xs n a.1 h in omega (arith, l, more)
+
+-- so their offsets rise
+pub apart_rises : (low : ℕ) (notes : List NoteParts) → AreApart low notes → IsRisingBy (λ n. n.offset) notes
+apart_rises low [] a = tt
+apart_rises low (n ∷ notes) a = (
+  all_from_In (λ m. n.offset < m.offset) notes (λ m h.
+      let l = begins_above (end_of n) notes m a.1 h in omega (arith, l)),
+  apart_rises (end_of n) notes a.1,
+)
 
 -- no two share a byte
 stand_apart : (low : ℕ) (notes : List NoteParts) → AreApart low notes → StandApart notes

@@ -13,6 +13,7 @@ use Rattle.mxf_klv.specs.NoteOrder.{note_total, note_cmp-IsAntisymmetric}
 use Rattle.mxf_klv.specs.Rising.{In, SameMembers, same_from_members, In-with_one, In-union}
 use Rattle.mxf_klv.specs.Rising.{IsRising-with_one, IsRising-union}
 use Rattle.mxf_catalogue.specs.Content.{IsContent, IsCatalogue, with_note, union_of}
+use Rattle.mxf_klv.proofs.Lists.{all_from_In, all-In}
 
 -- contents with the same notes are one list
 pub same_content : (a b : List NoteParts) → IsContent a → IsContent b → SameMembers a b → a ≡ b
@@ -29,15 +30,6 @@ IsContent-with_note = IsRising-with_one note_total note_cmp-IsAntisymmetric
 
 pub IsContent-union_of : (a b : List NoteParts) → IsContent a → IsContent (union_of a b)
 IsContent-union_of = IsRising-union note_total note_cmp-IsAntisymmetric
-
-pub all_from_In : {K : Type 0} (P : K → Type 0) (xs : List K) → ((x : K) → In x xs → P x) → AllByRecursion P xs
-all_from_In P [] f = tt
-all_from_In P (x ∷ xs) f = (f x (inl refl), all_from_In P xs (λ y h. f y (inr h)))
-
-pub all-In : {K : Type 0} (P : K → Type 0) (xs : List K) (x : K) → AllByRecursion P xs → In x xs → P x
-all-In P [] x all h = absurd h
-all-In P (y ∷ ys) x all (inl e) = subst P (sym e) all.0
-all-In P (y ∷ ys) x all (inr h) = all-In P ys x all.1 h
 
 -- what a catalogue with one more note is
 pub IsCatalogue-with_note : (n : NoteParts) (notes : List NoteParts) → IsNote n → IsCatalogue notes
@@ -61,10 +53,3 @@ IsCatalogue-union_of a b c d = record {
         | inr k ↦ all-In IsNote b m d.members k
       ]);
 }
-
--- `==` of notes tells whether they are one
-pub note_eq-Decides : (a b : NoteParts) → Decides (eq_by_cmp note_cmp a b) (a ≡ b)
-note_eq-Decides a b = (
-  λ h. note_cmp-IsAntisymmetric a b ((Equal-is (note_cmp a b)).0 h),
-  λ e. (Equal-is (note_cmp a b)).1 (subst (λ c. note_cmp a c ≡ Equal) e (tied_itself note_total a)),
-)

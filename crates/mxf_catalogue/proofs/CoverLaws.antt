@@ -10,18 +10,14 @@ use Rattle.std.specs.Prelude.{◌-◌, None, Some, slice_get}
 use Rattle.std.proofs.lemmas.Option.{get_or_from_slice_get, slice_get-get_or, slice_get_within}
 use Rattle.mxf_klv.specs.Note.{greatest_end}
 use Rattle.mxf_klv.specs.Rising.{In}
-use Rattle.mxf_catalogue.proofs.Places.{Contains-from_In, In-at}
 use Rattle.mxf_catalogue.specs.declared.run.Run.{Run}
 use Rattle.mxf_catalogue.specs.Runs.{AreMaximal, IsWithin, LiesIn, SameOffsets, run}
 use Rattle.mxf_catalogue.specs.Covers.{IsCover, IsRun, both, spanned, with_run, union_of_runs, gaps_from, gaps_of_runs}
 use Rattle.mxf_catalogue.specs.Covers.{IsBetween, AreGapsOf, LiesIn-first, with_run_cases}
-use Rattle.mxf_catalogue.proofs.RunLaws.{same_runs}
+use Rattle.mxf_catalogue.proofs.RunLaws.{same_runs, AreMaximal-lower, at_or_above}
+use Rattle.mxf_klv.proofs.Lists.{Contains-from_In, In-at}
 
 -- ---- runs with one more are a cover
-
-lower : (low high : ℕ) (runs : List Run) → low ≤ high → AreMaximal high runs → AreMaximal low runs
-lower low high [] l m = tt
-lower low high (r ∷ runs) l m = let a : high ≤ r.start = m.0 in (omega arith, m.1, m.2)
 
 AreMaximal-with_run : (low : ℕ) (r : Run) (runs : List Run) → low ≤ r.start → r.start < r.end → AreMaximal low runs
     → AreMaximal low (with_run r runs)
@@ -33,7 +29,7 @@ AreMaximal-with_run low r (s ∷ runs) l b m =
     (λ e. (l, b, (omega arith, m.1, m.2)))
     (λ e. (m.0, m.1, AreMaximal-with_run (s.end + 1) r runs (omega arith) b m.2))
     (λ e f. AreMaximal-with_run low (both r s) runs (omega arith) (omega arith)
-    (lower low (s.end + 1) runs (omega arith) m.2))
+    (AreMaximal-lower low (s.end + 1) runs (omega arith) m.2))
 
 ends-with_run : (high : ℕ) (r : Run) (runs : List Run) → r.end ≤ high → AllByRecursion (λ s. s.end ≤ high) runs
     → AllByRecursion (λ s. s.end ≤ high) (with_run r runs)
@@ -56,7 +52,7 @@ pub IsCover-union_of_runs : (runs others : List Run) → IsCover runs → IsCove
 IsCover-union_of_runs runs [] c d = c
 IsCover-union_of_runs runs (s ∷ others) c d =
     let rest : IsCover others = record {
-      maximal = lower 0 (s.end + 1) others (omega arith) d.maximal.2;
+      maximal = AreMaximal-lower 0 (s.end + 1) others (omega arith) d.maximal.2;
       within =
           d.within.1;
     } in
@@ -272,17 +268,6 @@ run_eq-Decides r s =
 
 -- ---- gaps
 
--- runs from an offset on lie at or above it
-low_of : (low : ℕ) (runs : List Run) (at : ℕ) → AreMaximal low runs → LiesIn runs at → low ≤ at
-low_of low [] at m h = absurd h.1
-low_of low (r ∷ runs) at m h =
-    let a : low ≤ r.start = m.0 in
-    let b : r.start < r.end = m.1 in
-    elim ((LiesIn-first r runs at).0 h) [
-      | inl w ↦ (let c : r.start ≤ at = w.from in omega arith)
-      | inr k ↦ (let c = low_of (r.end + 1) runs at m.2 k in omega (arith, c))
-    ]
-
 -- the gaps of runs that start above an offset where a run ends: none touches it
 maximal_above : (low : ℕ) (runs : List Run) → AreMaximal (low + 1) runs → AreMaximal low (gaps_from low runs)
 maximal_above low [] m = tt
@@ -294,7 +279,7 @@ maximal_above low (r ∷ runs) m =
       | true ↦ λ e. (
         omega arith,
         omega arith,
-        lower (r.start + 1) r.end (gaps_from r.end runs) (omega arith)
+        AreMaximal-lower (r.start + 1) r.end (gaps_from r.end runs) (omega arith)
             (maximal_above r.end runs m.2),
       )
       | false ↦ λ e. let f : r.start ≤ low = ltb-false _ _ e in absurd (omega arith)
@@ -310,10 +295,10 @@ maximal_gaps (r ∷ runs) m =
           let f : 0 < r.start = ltb-true _ _ e in (
             omega arith,
             omega arith,
-            lower (r.start + 1) r.end
+            AreMaximal-lower (r.start + 1) r.end
                 (gaps_from r.end runs) (omega arith) (maximal_above r.end runs m.2),
           )
-      | false ↦ λ e. lower 0 r.end (gaps_from r.end runs) (omega arith) (maximal_above r.end runs m.2)
+      | false ↦ λ e. AreMaximal-lower 0 r.end (gaps_from r.end runs) (omega arith) (maximal_above r.end runs m.2)
     ] refl
 
 -- the offset is at or above the first, and lies below the end of some run and in none
@@ -362,7 +347,7 @@ first_gap low r runs at m =
                 below = (r, inl refl, omega arith);
                 in_none = λ i. elim ((LiesIn-first r runs at).0 i) [
                   | inl w ↦ (let f : r.start ≤ at = w.from in omega arith)
-                  | inr j ↦ (let f = low_of (r.end + 1) runs at m.2 j in omega (arith, f))
+                  | inr j ↦ (let f = at_or_above (r.end + 1) runs at m.2 j in omega (arith, f))
                 ];
               },
             )
@@ -384,7 +369,7 @@ offsets_of_gaps : (low : ℕ) (runs : List Run) (at : ℕ) → AreMaximal low ru
     → LiesIn (gaps_from low runs) at ↔ IsBetweenFrom low runs at
 offsets_of_gaps low [] at m = (λ h. absurd h.1, λ h. absurd h.1.below.1)
 offsets_of_gaps low (r ∷ runs) at m =
-    let ih = offsets_of_gaps r.end runs at (lower r.end (r.end + 1) runs (omega arith) m.2) in
+    let ih = offsets_of_gaps r.end runs at (AreMaximal-lower r.end (r.end + 1) runs (omega arith) m.2) in
     let one = first_gap low r runs at m in
     elim (nat_lt low r.start) as (λ c. nat_lt low r.start ≡ c
     → LiesIn (cond c (run low r.start ∷ gaps_from r.end runs) (gaps_from r.end runs)) at

@@ -13,22 +13,9 @@ use Rattle.mxf_catalogue.specs.Disputes.{SharesByte, SharesOffset, Overlaps, IsD
 use Rattle.mxf_catalogue.specs.Disputes.{DisputedParts, IsDisputedOf, disputed_parts, clear_notes, disputed_notes}
 use Rattle.mxf_catalogue.specs.Disputes.{undisputed_notes}
 use Rattle.mxf_catalogue.specs.Disputes.{is_same_note, is_byte_shared, is_offset_shared, is_overlapped, is_disputed}
-use Rattle.mxf_catalogue.proofs.ContentLaws.{note_eq-Decides}
-use Rattle.mxf_catalogue.proofs.Lists.{list_any-In, In-filter, all-filter, length-filter_le, In-map}
-use Rattle.mxf_catalogue.proofs.Lists.{find-none, find-only}
-
-pub not_true : (b : Bool) → (b ≡ true → ⊥) → not b ≡ true
-not_true true f = absurd (f refl)
-not_true false f = refl
-
-pub not-true-false : (b : Bool) → not b ≡ true → b ≡ true → ⊥
-not-true-false true h e = cc
-not-true-false false h e = cc
-
-pub same_bool : (a b : Bool) → (IsTrue a → IsTrue b) → (IsTrue b → IsTrue a) → a ≡ b
-same_bool true b f g = sym (f refl)
-same_bool false true f g = g refl
-same_bool false false f g = refl
+use Rattle.mxf_klv.proofs.HeadOrder.{same_note-Decides}
+use Rattle.mxf_klv.proofs.Lists.{list_any-In, In-filter, all-filter, length-filter_le, In-map, find-none, find-only}
+use Rattle.mxf_klv.proofs.Tests.{not_true, not-true-false, same_bool}
 
 -- the test of shared bytes
 pub is_byte_shared-SharesByte : (m n : NoteParts) → IsTrue (is_byte_shared m n) ↔ SharesByte m n
@@ -66,10 +53,10 @@ is_offset_shared-SharesOffset n notes =
       λ h.
           let s = l.0 h in
           let p = and_parts (s.0.offset == n.offset) (not (is_same_note s.0 n)) s.2 in
-          let other = λ (e : s.0 ≡ n). not-true-false (is_same_note s.0 n) p.1 ((note_eq-Decides s.0 n).1 e) in
+          let other = λ (e : s.0 ≡ n). not-true-false (is_same_note s.0 n) p.1 ((same_note-Decides s.0 n).1 e) in
           (s.0, s.1, other, eqb-true _ _ p.0),
       λ s.
-          let other = not_true (is_same_note s.0 n) (λ e. s.2 ((note_eq-Decides s.0 n).0 e)) in
+          let other = not_true (is_same_note s.0 n) (λ e. s.2 ((same_note-Decides s.0 n).0 e)) in
           l.1 (s.0, s.1, and_from (s.0.offset == n.offset) (not (is_same_note s.0 n)) (eq-eqb _ _ s.3) other),
     )
 
@@ -217,9 +204,9 @@ pub clear-alone : (m n : NoteParts) (notes : List NoteParts) → IsClear m notes
     → m ≡ n
 clear-alone m n notes c h e =
     elim (is_same_note m n) as (λ b. is_same_note m n ≡ b → m ≡ n) [
-      | true ↦ λ t. (note_eq-Decides m n).0 t
+      | true ↦ λ t. (same_note-Decides m n).0 t
       | false ↦ λ t.
-          let other : m ≢ n = λ p. let u = (note_eq-Decides m n).1 p in cc (u, t) in
+          let other : m ≢ n = λ p. let u = (same_note-Decides m n).1 p in cc (u, t) in
           absurd (clear-apart m n notes c h other (SharesByte-same_offset m n e))
     ] refl
 
@@ -238,18 +225,3 @@ pub clear_at-lacked : (offset : ℕ) (notes : List NoteParts)
 clear_at-lacked offset notes none =
     find-none (λ (m : NoteParts). m.offset == offset) (clear_notes notes)
     (λ n h t. none n ((In-clear_notes n notes).0 h) (eqb-true _ _ t))
-
--- there are no more of them than notes
-pub length-clear_notes : (notes : List NoteParts) → length (clear_notes notes) ≤ length notes
-length-clear_notes notes =
-    let a : length (clear_notes notes) ≤ length (undisputed_notes notes) =
-    length-filter_le (λ n. n.whole) (undisputed_notes notes) in
-    let b : length (undisputed_notes notes) ≤ length notes = length-filter_le (λ n. not (is_disputed n notes)) notes in
-    omega (arith, a, b)
-
-pub length-disputed_notes : (notes : List NoteParts) → length (disputed_notes notes) ≤ length notes
-length-disputed_notes notes =
-    let some : List NoteParts = filter (λ n. is_disputed n notes) notes in
-    let e : length (disputed_notes notes) ≡ length some = length-map some (λ n. disputed_parts n notes) in
-    let l : length some ≤ length notes = length-filter_le (λ n. is_disputed n notes) notes in
-    omega (arith, e, l)

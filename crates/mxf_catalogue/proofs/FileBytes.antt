@@ -21,7 +21,7 @@ use Rattle.mxf_catalogue.specs.CatalogueFile.{number_bytes, IsFixedPart, fixed_b
 use Rattle.mxf_catalogue.specs.CatalogueFile.{note_bytes, start_bytes, IsFileOfVersion, BeginsWithNote}
 use Rattle.mxf_catalogue.specs.CatalogueFile.{IsCutNote, IsBadNote, IsFront, place_after, CanHave, IsMarkIn}
 use Rattle.mxf_catalogue.specs.CatalogueFile.{BeginsWithParts, CanBeMarked, length_ahead, mark_bytes, mark_of}
-use Rattle.mxf_catalogue.proofs.Places.{In-at}
+use Rattle.mxf_klv.proofs.Lists.{all_push, all_last, all_front, In-at}
 
 -- ---- parts of a text
 
@@ -214,23 +214,6 @@ cut_good v bytes (inr (g, m, more, b, good, short)) (f, mark, rest, p, bad) =
     bad (subst (λ k. CanBeMarked k mark) (sym same.0) (subst (λ x. CanBeMarked g x) (sym same.1) good))
 
 -- ---- lists that go on
-
-pub all_push : {K : Type 0} (P : K → Type 0) (xs : List K) (x : K) → AllByRecursion P xs → P x
-    → AllByRecursion P (xs ++ x ∷ [])
-all_push P [] x a p = (p, tt)
-all_push P (y ∷ ys) x a p = (a.0, all_push P ys x a.1 p)
-
-all_last : {K : Type 0} (P : K → Type 0) (xs : List K) (x : K) → AllByRecursion P (xs ++ x ∷ []) → P x
-all_last P [] x a = a.0
-all_last P (y ∷ ys) x a = all_last P ys x a.1
-
-all_front : {K : Type 0} (P : K → Type 0) (xs ys : List K) → AllByRecursion P (xs ++ ys) → AllByRecursion P xs
-all_front P [] ys a = tt
-all_front P (x ∷ xs) ys a = (a.0, all_front P xs ys a.1)
-
-pub rising_front : {K : Type 0} (R : K → K → Ordering) (xs ys : List K) → IsRising R (xs ++ ys) → IsRising R xs
-rising_front R [] ys r = tt
-rising_front R (x ∷ xs) ys r = (all_front (λ y. R x y ≡ Less) xs ys r.0, rising_front R xs ys r.1)
 
 module _ {K : Type 0} {R : K → K → Ordering} (o : IsTotalOrder R) where
   -- a list goes on rising above its last element

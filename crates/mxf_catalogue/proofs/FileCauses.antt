@@ -33,6 +33,7 @@ use Rattle.mxf_catalogue.proofs.FileBytes.{front_begins, front_next, front_whole
 use Rattle.mxf_catalogue.proofs.FileLaws.{if_some}
 use Rattle.mxf_catalogue.proofs.HeadLaws.{AreReduced-push, same_note}
 use Rattle.mxf_catalogue.proofs.FileParts.{at_front_of_rest, fixed_part_split, number_split, parts_begin, start_split}
+use Rattle.mxf_klv.proofs.RoundTrips.{AreBytes-drop, AreBytes-take}
 
 -- ---- what can be decided
 
@@ -161,15 +162,6 @@ bytes_after : (xs ys : List ℕ) → AreBytes (xs ++ ys) → AreBytes ys
 bytes_after [] ys h = h
 bytes_after (x ∷ xs) ys h = bytes_after xs ys (λ i. h (suc i))
 
-bytes_drop : (n : ℕ) (xs : List ℕ) → AreBytes xs → AreBytes (drop n xs)
-bytes_drop n xs h = bytes_after (take n xs) (drop n xs) (subst AreBytes (sym (take-append-drop n xs)) h)
-
-bytes_take : (n : ℕ) (xs : List ℕ) → AreBytes xs → AreBytes (take n xs)
-bytes_take zero xs h i = omega arith
-bytes_take (suc n) [] h i = omega arith
-bytes_take (suc n) (x ∷ xs) h zero = h 0
-bytes_take (suc n) (x ∷ xs) h (suc i) = bytes_take n xs (λ j. h (suc j)) i
-
 -- eight bytes stand for a number below 2^64
 number_small : (bs : List ℕ) → AreBytes bs → from_be_bytes w64 bs < 2 ^ 64
 number_small bs h = omega (arith, h 0, h 1, h 2, h 3, h 4, h 5, h 6, h 7)
@@ -183,7 +175,7 @@ record NumberAt (bytes : List ℕ) : Type 0 where
 number_at : (bytes : List ℕ) → 8 ≤ length bytes → AreBytes bytes → NumberAt bytes
 number_at bytes long h = record {
   number = from_be_bytes w64 (take 8 bytes);
-  small = number_small (take 8 bytes) (bytes_take 8 bytes h);
+  small = number_small (take 8 bytes) (AreBytes-take 8 bytes h);
   whole = number_split bytes (take 8 bytes) (drop 8 bytes) (from_be_bytes w64 (take 8 bytes)) refl refl long h refl;
 }
 
@@ -213,7 +205,7 @@ fixed_part_at bytes long h =
     let width : FirstOf b = first_of b (omega arith) in
     let len_c : length b ≡ length (width.first ∷ width.others) = ap length width.whole in
     let are : AreBytes (width.first ∷ width.others) =
-    subst AreBytes width.whole (bytes_drop 16 a (bytes_drop 8 bytes h)) in
+    subst AreBytes width.whole (AreBytes-drop 16 a (AreBytes-drop 8 bytes h)) in
     let len : NumberAt width.others =
     number_at width.others (omega arith) (λ i. are (suc i)) in
     record {
@@ -403,7 +395,7 @@ behind_mark v bytes rest more count notes f mark front lt b are next =
             let parts = length-parts v f mark more b.fixed.key in
             behind_note v bytes rest (drop k more) count notes (marked_note f mark (take k more)) front lt
             (note_there v f mark rest more b good long)
-            (bytes_drop k more (bytes_after (mark_bytes v mark) more
+            (AreBytes-drop k more (bytes_after (mark_bytes v mark) more
             (bytes_after (fixed_bytes f) (mark_bytes v mark ++ more) (subst AreBytes b.whole are))))
             (omega (arith, len, parts, ahead_from v, length-drop k more)) next
       ]
@@ -458,7 +450,7 @@ behind_start bytes are begins known long =
     let len : length rest ≡ length bytes - 7 = length-drop 7 bytes in
     let v : FirstOf rest = first_of rest (omega arith) in
     let len_more : length rest ≡ length (v.first ∷ v.others) = ap length v.whole in
-    let are_rest : AreBytes (v.first ∷ v.others) = subst AreBytes v.whole (bytes_drop 7 bytes are) in
+    let are_rest : AreBytes (v.first ∷ v.others) = subst AreBytes v.whole (AreBytes-drop 7 bytes are) in
     let count : NumberAt v.others = number_at v.others (omega arith) (λ i. are_rest (suc i)) in
     let at = at_front_of_rest 7 bytes rest v.others v.first refl v.whole in
     let is = if_some (slice_get bytes 7) IsKnownVersion known v.first at in

@@ -13,17 +13,16 @@ use Rattle.mxf_catalogue.specs.declared.catalogue.file.FileFault.TheVariants.{No
 use Rattle.mxf_catalogue.specs.Content.{AreReduced, IsCatalogue, IsContent}
 use Rattle.mxf_catalogue.specs.CatalogueFile.{IsUnreducedNote}
 use Rattle.mxf_catalogue.proofs.HeadLaws.{AreReduced-part, not-AreReduced-push}
-use Rattle.mxf_catalogue.proofs.ReducedPlaces.{In-append}
-use Rattle.mxf_catalogue.proofs.ContentLaws.{all-In}
-use Rattle.mxf_catalogue.proofs.Fronts.{all_last}
+use Rattle.mxf_catalogue.proofs.Fronts.{rising_front}
 use Rattle.mxf_catalogue.specs.declared.catalogue.file.start.Version.{Version}
 use Rattle.mxf_catalogue.specs.declared.catalogue.file.start.Version.TheVariants.{One, Two}
 use Rattle.mxf_catalogue.specs.CatalogueFile.{number_bytes, note_bytes, start_bytes, version_byte, IsFileOf, BeginsWithNote}
 use Rattle.mxf_catalogue.specs.CatalogueFile.{CanHave, IsKnownVersion, IsUnknownVersion}
 use Rattle.mxf_catalogue.specs.CatalogueFile.{IsCutNote, IsBadNote, IsUnsortedNote, IsFront, place_after, BeginsAsFile}
 use Rattle.mxf_catalogue.specs.CatalogueFile.{IsFileOfVersion, IsHeadLast, IsRefused, ReadsFile, StopsAt, file_bytes, version_bytes}
-use Rattle.mxf_catalogue.proofs.FileBytes.{same_number, same_note, same_beginning, note_uncut, note_good, cut_good, rising_front}
+use Rattle.mxf_catalogue.proofs.FileBytes.{same_number, same_note, same_beginning, note_uncut, note_good, cut_good}
 use Rattle.mxf_catalogue.proofs.FileBytes.{length-start_bytes}
+use Rattle.mxf_klv.proofs.Lists.{In-append, all-In, all_last}
 
 -- what is told behind the notes of a front
 abbrev EndsWith : Version → ℕ → List NoteParts → List ℕ → Result (List NoteParts) FileFault → Type 0

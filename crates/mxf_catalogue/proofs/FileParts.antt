@@ -136,29 +136,6 @@ digest_noted h n bytes digest more key g kept k is d m long =
           ∙ ap (λ (t : List ℕ). digest ++ t) (sym m);
     })
 
--- a note that has the fixed part and the mark at the front stands there
-pub note_begins : (v : Version) (f : FixedPart) (mark : ℕ) (n : NoteParts) (bytes rest behind more : List ℕ)
-    → BeginsWithFixedPart bytes f rest → BeginsWithMark v rest mark behind → NoteBehindMark f mark behind n more
-    → BeginsWithNote v bytes n more
-note_begins v f mark n bytes rest behind more b m h = record {
-  note = h.note;
-  can_have = can_have_by v n mark m.marked h.marked;
-  whole = b.whole
-      ∙ (λ i. fixed_bytes (sym h.fixed i) ++ m.whole i)
-      ∙ (λ i. fixed_bytes (fixed_part_of n) ++ (mark_bytes v (sym h.marked i) ++ h.held i))
-      ∙ ap (λ (t : List ℕ). fixed_bytes (fixed_part_of n) ++ t)
-      (sym (append_assoc (mark_bytes v (mark_of n.whole)) n.held more))
-      ∙ sym (append_assoc (fixed_bytes (fixed_part_of n)) (mark_bytes v (mark_of n.whole) ++ n.held) more);
-}
-  where
-    can_have_by : (v : Version) (n : NoteParts) (mark : ℕ) → IsMarkIn v mark → mark_of n.whole ≡ mark → CanHave v n
-    can_have_by One n mark z e = whole_by n.whole (e ∙ z)
-      where
-        whole_by : (b : Bool) → mark_of b ≡ 0 → b ≡ true
-        whole_by true e = refl
-        whole_by false e = absurd (omega (arith, e))
-    can_have_by Two n mark z e = tt
-
 -- the fixed part and the mark at the front
 pub parts_begin : (v : Version) (f : FixedPart) (mark : ℕ) (bytes rest behind : List ℕ)
     → BeginsWithFixedPart bytes f rest → BeginsWithMark v rest mark behind → BeginsWithParts v bytes f mark behind
@@ -168,21 +145,6 @@ parts_begin v f mark bytes rest behind b m = record {
   whole = b.whole
       ∙ ap (λ (t : List ℕ). fixed_bytes f ++ t) m.whole;
 }
-
--- why no note is behind them, is why none is at the front
-pub note_refused : (v : Version) (f : FixedPart) (mark place : ℕ) (bytes rest behind : List ℕ) (fault : FileFault)
-    → BeginsWithFixedPart bytes f rest → BeginsWithMark v rest mark behind → RefusesBehindMark place f mark behind fault
-    → RefusesNote v place bytes fault
-note_refused v f mark place bytes rest behind BadMagic b m r = r
-note_refused v f mark place bytes rest behind BadVersion b m r = r
-note_refused v f mark place bytes rest behind (Truncated p) b m r =
-    (r.0, inr (f, mark, behind, parts_begin v f mark bytes rest behind b m, r.1, r.2))
-note_refused v f mark place bytes rest behind (BadNote p) b m r =
-    (r.0, (f, mark, behind, parts_begin v f mark bytes rest behind b m, r.1))
-note_refused v f mark place bytes rest behind (NotSorted p) b m r = r
-note_refused v f mark place bytes rest behind (NotReduced p) b m r = r
-note_refused v f mark place bytes rest behind (Trailing p) b m r = r
-note_refused v f mark place bytes rest behind OutOfMemory b m r = tt
 
 -- ---- writing
 

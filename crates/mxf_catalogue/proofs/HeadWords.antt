@@ -5,7 +5,7 @@ use Rattle.mxf_klv.specs.Parts.{NoteParts}
 use Rattle.mxf_klv.specs.Note.{IsNote, head_note, keeps}
 use Rattle.mxf_klv.specs.Rising.{In}
 use Rattle.mxf_catalogue.specs.Content.{IsOfPacket, IsReplaced}
-use Rattle.mxf_catalogue.proofs.ContentLaws.{all-In}
+use Rattle.mxf_klv.proofs.Lists.{all-In}
 
 no_bytes : (xs : List ℕ) → length xs ≡ 0 → [] ≡ xs
 no_bytes [] e = refl

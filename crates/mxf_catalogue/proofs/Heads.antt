@@ -9,7 +9,7 @@ use Rattle.mxf_klv.specs.Rising.{In}
 use Rattle.mxf_catalogue.specs.Content.{AreReduced, IsContent, IsPlace, has_note, reduced_with}
 use Rattle.mxf_catalogue.proofs.ContentLaws.{IsContent-with_note}
 use Rattle.mxf_catalogue.proofs.HeadLaws.{next_replaces, swapped}
-use Rattle.mxf_catalogue.proofs.Places.{In-at}
+use Rattle.mxf_klv.proofs.Lists.{In-at}
 
 -- what has a note that isn't there stands at its place
 replaces_at : (xs : List NoteParts) (at : ℕ) (n : NoteParts) → IsContent xs → IsPlace n xs at → has_note xs n

@@ -14,7 +14,7 @@ use Rattle.mxf_catalogue.specs.Disputes.{SharesByte, whole_notes}
 use Rattle.mxf_catalogue.specs.NoteLists.{AreNoteLists, Covers, AreKeptLists, AreCatalogueFields, Spans, away_from, covered_run, disputed_with}
 use Rattle.mxf_catalogue.specs.NoteLists.{moved_by, run_of, touching}
 use Rattle.mxf_catalogue.specs.Runs.{LiesIn}
-use Rattle.mxf_catalogue.proofs.ContentLaws.{In-union_of, IsCatalogue-union_of, all-In}
+use Rattle.mxf_catalogue.proofs.ContentLaws.{In-union_of, IsCatalogue-union_of}
 use Rattle.mxf_catalogue.proofs.CoverLaws.{IsCover-with_run}
 use Rattle.mxf_catalogue.proofs.PartLaws.{In-disputed_with, In-touching, parts_with_clear, parts_with_disputed}
 use Rattle.mxf_catalogue.proofs.PartLaws.{some_member, view_with_clear, view_with_disputed, parts_swap_clear}
@@ -23,6 +23,7 @@ use Rattle.mxf_catalogue.proofs.PartLaws.{parts_swap_disputed, view_swap_clear, 
 use Rattle.mxf_catalogue.proofs.HeadLaws.{AreReduced-reduced, AreReduced-with_note, In-reduced_with, AreReduced-part}
 use Rattle.mxf_catalogue.proofs.HeadLaws.{same_note}
 use Rattle.mxf_catalogue.proofs.SpanCovers.{Covers-with, Spans-with_all, met_note, run_of-IsRun, spanned-IsRun}
+use Rattle.mxf_klv.proofs.Lists.{all-In}
 
 -- nothing is kept
 pub whole_none : AreCatalogueFields [] [] [] []

@@ -14,11 +14,11 @@ use Rattle.mxf_catalogue.specs.Content.{IsContent}
 use Rattle.mxf_catalogue.specs.Disputes.{DisputedParts, SharesOffset, Overlaps, disputed_parts}
 use Rattle.mxf_catalogue.specs.Disputes.{is_offset_shared, is_overlapped}
 use Rattle.mxf_catalogue.specs.Reach.{IsLeft, IsReach, StandsIn}
-use Rattle.mxf_catalogue.proofs.DisputeLaws.{is_offset_shared-SharesOffset, is_overlapped-Overlaps, same_bool}
-use Rattle.mxf_catalogue.proofs.Fronts.{In-append}
-use Rattle.mxf_catalogue.proofs.Places.{In-at, Contains-from_In}
+use Rattle.mxf_catalogue.proofs.DisputeLaws.{is_offset_shared-SharesOffset, is_overlapped-Overlaps}
 use Rattle.mxf_catalogue.proofs.Ranges.{offsets_rise}
 use Rattle.mxf_catalogue.proofs.SpanLaws.{offset_le, not_same}
+use Rattle.mxf_klv.proofs.Lists.{In-append, In-at, Contains-from_In}
+use Rattle.mxf_klv.proofs.Tests.{same_bool}
 
 before_less : (passed left : List NoteParts) (m n : NoteParts) → IsContent (passed ++ n ∷ left) → In m passed
     → note_cmp m n ≡ Less
@@ -301,15 +301,4 @@ left_behind n all left rest above lower reached is e reach low high =
         lower_is = subst (λ (o : ℕ). IsReach o passed reach) same lower_is;
         reached_is = reached_is;
       };
-    }
-
--- before the first note
-pub left_at_first : (all : List NoteParts) → IsContent all → IsLeft all all 0 0 0
-left_at_first all r =
-    let none : IsReach 0 [] 0 = record { bound = λ m h l. absurd h; some = λ z. absurd (omega arith) } in
-    record {
-      passed = [];
-      whole = refl;
-      rises = r;
-      are = record { below = λ m h. absurd h; last = λ z. absurd (omega arith); lower_is = none; reached_is = none };
     }

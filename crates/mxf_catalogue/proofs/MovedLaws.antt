@@ -12,8 +12,9 @@ use Rattle.mxf_catalogue.specs.Content.{IsContent, reduced_with}
 use Rattle.mxf_catalogue.specs.Disputes.{AreApart, IsClear, IsDisputed, clear_notes, is_disputed}
 use Rattle.mxf_catalogue.specs.NoteLists.{moved_by, moved_notes}
 use Rattle.mxf_catalogue.proofs.DisputeLaws.{In-clear_notes, is_disputed-IsDisputed}
-use Rattle.mxf_catalogue.proofs.Lists.{In-filter}
 use Rattle.mxf_catalogue.proofs.SpanLaws.{AreApart-clear_notes, AreApart-filter}
+use Rattle.mxf_klv.proofs.Lists.{In-filter}
+use Rattle.mxf_klv.proofs.Tests.{less_from_lt}
 
 pub In-moved_notes : (m n : NoteParts) (notes : List NoteParts)
     → In m (moved_notes n notes) ↔ (IsClear m notes × IsDisputed m (reduced_with n notes))
@@ -24,16 +25,13 @@ In-moved_notes m n notes =
     let d = is_disputed-IsDisputed m (reduced_with n notes) in
     (λ h. (c.0 (f.0 h).0, d.0 (f.0 h).1), λ h. f.1 (c.1 h.0, d.1 h.1))
 
-less : (a b : ℕ) → a < b → nat_cmp a b ≡ Less
-less a b l = rw (lt-ltb a b l) refl
-
 -- notes apart begin at or above the first end
 above : (low : ℕ) (notes : List NoteParts) (at : ℕ) → at < low → AreApart low notes
     → AllByRecursion (λ o. nat_cmp at o ≡ Less) (map (λ (n : NoteParts). n.offset) notes)
 above low [] at l a = tt
 above low (n ∷ notes) at l a =
     let b : low ≤ n.offset = a.0 in
-    (less at n.offset (omega arith), above (end_of n) notes at (omega arith) a.1)
+    (less_from_lt at n.offset (omega arith), above (end_of n) notes at (omega arith) a.1)
 
 pub rising_apart : (low : ℕ) (notes : List NoteParts) → AreApart low notes
     → IsRising nat_cmp (map (λ (n : NoteParts). n.offset) notes)

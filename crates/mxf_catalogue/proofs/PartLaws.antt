@@ -18,14 +18,14 @@ use Rattle.mxf_catalogue.specs.NoteLists.{AreNoteLists, StandApart, touching, aw
 use Rattle.mxf_catalogue.specs.NoteLists.{moved_by, moved_notes}
 use Rattle.mxf_catalogue.proofs.ContentLaws.{same_content, In-with_note, In-union_of, IsContent-with_note}
 use Rattle.mxf_catalogue.proofs.ContentLaws.{IsContent-union_of, IsCatalogue-with_note, IsCatalogue-union_of}
-use Rattle.mxf_catalogue.proofs.ContentLaws.{all-In, all_from_In}
 use Rattle.mxf_catalogue.proofs.DisputeLaws.{is_byte_shared-SharesByte, is_offset_shared-SharesOffset}
 use Rattle.mxf_catalogue.proofs.DisputeLaws.{is_overlapped-Overlaps, SharesByte-same_offset, SharesByte-symmetric}
 use Rattle.mxf_catalogue.proofs.DisputeLaws.{is_disputed-IsDisputed, IsContent-filter}
-use Rattle.mxf_catalogue.proofs.DisputeLaws.{In-undisputed_notes, not_true, not-true-false, same_bool}
+use Rattle.mxf_catalogue.proofs.DisputeLaws.{In-undisputed_notes}
 use Rattle.mxf_klv.specs.Note.{head_note}
 use Rattle.mxf_catalogue.proofs.HeadLaws.{AreReduced-part, In-reduced_with, IsContent-reduced_with, same_note}
-use Rattle.mxf_catalogue.proofs.Lists.{In-filter, all-filter}
+use Rattle.mxf_klv.proofs.Lists.{all-In, all_from_In, In-filter, all-filter}
+use Rattle.mxf_klv.proofs.Tests.{not_true, not-true-false, same_bool}
 
 IsCatalogue-filter : (p : NoteParts → Bool) (notes : List NoteParts) → IsCatalogue notes → IsCatalogue (filter p notes)
 IsCatalogue-filter p notes c = record {

@@ -12,34 +12,7 @@ use Rattle.mxf_klv.specs.Rising.{IsRising-with_one}
 use Rattle.mxf_catalogue.specs.Reduced.{IsReduced, reduce}
 use Rattle.mxf_catalogue.specs.ReducedLaws.{Has-reduce, Has-with_one, IsReduced-reduce, IsRising-reduce}
 use Rattle.mxf_catalogue.specs.ReducedLaws.{one_from_has, same_or_not, teller_untold}
-
-pub In-append : {K : Type 0} (x : K) (xs ys : List K) → In x (xs ++ ys) ↔ In x xs ⊎ In x ys
-In-append x [] ys = (inr, λ h. elim h [ inl k ↦ absurd k | inr k ↦ k ])
-In-append x (z ∷ xs) ys =
-    let ih = In-append x xs ys in (
-      λ h. elim h [
-        | inl e ↦ inl (inl e)
-        | inr k ↦ elim (ih.0 k) [ inl i ↦ inl (inr i) | inr i ↦ inr i ]
-      ],
-      λ h. elim h [
-        | inl k ↦ elim k [ inl e ↦ inl e | inr i ↦ inr (ih.1 (inl i)) ]
-        | inr k ↦ inr (ih.1 (inr k))
-      ],
-    )
-
-all_append : {K : Type 0} (P : K → Type 0) (xs ys : List K) → AllByRecursion P (xs ++ ys)
-    → AllByRecursion P xs × AllByRecursion P ys
-all_append P [] ys a = (tt, a)
-all_append P (x ∷ xs) ys a = let ih = all_append P xs ys a.1 in ((a.0, ih.0), ih.1)
-
-append_all : {K : Type 0} (P : K → Type 0) (xs ys : List K) → AllByRecursion P xs → AllByRecursion P ys
-    → AllByRecursion P (xs ++ ys)
-append_all P [] ys a b = b
-append_all P (x ∷ xs) ys a b = (a.0, append_all P xs ys a.1 b)
-
-all_of : {K : Type 0} (P : K → Type 0) (xs : List K) → ((x : K) → In x xs → P x) → AllByRecursion P xs
-all_of P [] f = tt
-all_of P (x ∷ xs) f = (f x (inl refl), all_of P xs (λ y h. f y (inr h)))
+use Rattle.mxf_klv.proofs.Lists.{In-append, all_from_In, all_append, all_parts}
 
 module _ {K : Type 0} {R : K → K → Ordering} (o : IsTotalOrder R) (same : IsAntisymmetric R) where
   not_itself : (x : K) → R x x ≡ Less → ⊥
@@ -49,7 +22,7 @@ module _ {K : Type 0} {R : K → K → Ordering} (o : IsTotalOrder R) (same : Is
   pub before : (xs ys : List K) (n z : K) → IsRising R (xs ++ n ∷ ys) → In z xs → R z n ≡ Less
   before [] ys n z r h = absurd h
   before (x ∷ xs) ys n z r (inl e) =
-      ap (λ w. R w n) e ∙ (all_append (λ y. R x y ≡ Less) xs (n ∷ ys) r.0).1.0
+      ap (λ w. R w n) e ∙ (all_parts (λ y. R x y ≡ Less) xs (n ∷ ys) r.0).1.0
   before (x ∷ xs) ys n z r (inr h) = before xs ys n z r.1 h
 
   pub behind : (xs ys : List K) (n z : K) → IsRising R (xs ++ n ∷ ys) → In z ys → R n z ≡ Less
@@ -63,10 +36,10 @@ module _ {K : Type 0} {R : K → K → Ordering} (o : IsTotalOrder R) (same : Is
   -- another in its place rises as well, where it stands so to the others
   rises_at : (xs ys : List K) (n m : K) → IsRising R (xs ++ n ∷ ys) → ((z : K) → In z xs → R z m ≡ Less)
       → ((z : K) → In z ys → R m z ≡ Less) → IsRising R (xs ++ m ∷ ys)
-  rises_at [] ys n m r f g = (all_of (λ z. R m z ≡ Less) ys g, r.1)
+  rises_at [] ys n m r f g = (all_from_In (λ z. R m z ≡ Less) ys g, r.1)
   rises_at (x ∷ xs) ys n m r f g =
-      let a = all_append (λ y. R x y ≡ Less) xs (n ∷ ys) r.0 in (
-        append_all (λ y. R x y ≡ Less) xs (m ∷ ys) a.0 (f x (inl refl), a.1.1),
+      let a = all_parts (λ y. R x y ≡ Less) xs (n ∷ ys) r.0 in (
+        all_append (λ y. R x y ≡ Less) xs (m ∷ ys) a.0 (f x (inl refl), a.1.1),
         rises_at xs ys n m r.1 (λ z h. f z (inr h)) g,
       )
 
@@ -242,7 +215,7 @@ module _ {K : Type 0} {R : K → K → Ordering} (o : IsTotalOrder R) (same : Is
           where
             front_rises : (zs : List K) → IsRising R (zs ++ n ∷ []) → IsRising R zs
             front_rises [] r = tt
-            front_rises (z ∷ zs) r = ((all_append (λ y. R z y ≡ Less) zs (n ∷ []) r.0).0, front_rises zs r.1)
+            front_rises (z ∷ zs) r = ((all_parts (λ y. R z y ≡ Less) zs (n ∷ []) r.0).0, front_rises zs r.1)
 
     -- and doesn't with one that does
     pub unreduced_push : (xs front : List K) (n l : K) → IsRising R (xs ++ n ∷ []) → xs ≡ front ++ l ∷ []

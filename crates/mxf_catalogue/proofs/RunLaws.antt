@@ -16,15 +16,19 @@ in_first r rs at w = (r, inl refl, w)
 in_others : (r : Run) (rs : List Run) (at : ℕ) → LiesIn rs at → LiesIn (r ∷ rs) at
 in_others r rs at (q, k, w) = (q, inr k, w)
 
+pub AreMaximal-lower : (low high : ℕ) (runs : List Run) → low ≤ high → AreMaximal high runs → AreMaximal low runs
+AreMaximal-lower low high [] l m = tt
+AreMaximal-lower low high (r ∷ runs) l m = let a : high ≤ r.start = m.0 in (omega arith, m.1, m.2)
+
 -- what lies in runs is at or above the offset from which they rise
-above : (low : ℕ) (rs : List Run) (at : ℕ) → AreMaximal low rs → LiesIn rs at → low ≤ at
-above low [] at m (q, k, w) = elim k [ ]
-above low (r ∷ rs) at m h =
+pub at_or_above : (low : ℕ) (rs : List Run) (at : ℕ) → AreMaximal low rs → LiesIn rs at → low ≤ at
+at_or_above low [] at m (q, k, w) = elim k [ ]
+at_or_above low (r ∷ rs) at m h =
     let a : low ≤ r.start = m.0 in
     let b : r.start < r.end = m.1 in
     elim (first_or_others r rs at h) [
       | inl w ↦ (let c : r.start ≤ at = w.from in omega arith)
-      | inr k ↦ (let c = above (r.end + 1) rs at m.2 k in omega (arith, c))
+      | inr k ↦ (let c = at_or_above (r.end + 1) rs at m.2 k in omega (arith, c))
     ]
 
 -- the start of the first run is the least offset
@@ -33,7 +37,7 @@ least : (low lo : ℕ) (r s : Run) (rs ss : List Run) → AreMaximal low (r ∷ 
 least low lo r s rs ss m n e =
     let a : r.start < r.end = m.1 in
     let here : IsWithin r r.start = record { from = omega arith; before = omega arith } in
-    above s.start (s ∷ ss) r.start (omega arith, n.1, n.2) ((e r.start).0 (in_first r rs r.start here))
+    at_or_above s.start (s ∷ ss) r.start (omega arith, n.1, n.2) ((e r.start).0 (in_first r rs r.start here))
 
 -- the end of the first run is the first offset that lies in none
 last : (low lo : ℕ) (r s : Run) (rs ss : List Run) → AreMaximal low (r ∷ rs) → AreMaximal lo (s ∷ ss)
@@ -46,7 +50,7 @@ last low lo r s rs ss m n e same =
           let there : IsWithin s r.end = record { from = omega arith; before = omega arith } in
           elim (first_or_others r rs r.end ((same r.end).1 (in_first s ss r.end there))) [
             | inl w ↦ (let g : r.end + 1 ≤ r.end = w.before in absurd (omega arith))
-            | inr k ↦ (let g = above (r.end + 1) rs r.end m.2 k in absurd (omega (arith, g)))
+            | inr k ↦ (let g = at_or_above (r.end + 1) rs r.end m.2 k in absurd (omega (arith, g)))
           ]
       | false ↦ λ t. ltb-false r.end s.end t
     ] refl
@@ -75,13 +79,13 @@ same_runs low lo (r ∷ rs) (s ∷ ss) m n e =
     let first : r ≡ s = same_run r s start stop in
     let tails : SameOffsets rs ss = λ at. (
       λ h.
-          let f = above (r.end + 1) rs at m.2 h in
+          let f = at_or_above (r.end + 1) rs at m.2 h in
           elim (first_or_others s ss at ((e at).0 (in_others r rs at h))) [
             | inl w ↦ (let g : at + 1 ≤ s.end = w.before in absurd (omega (arith, f)))
             | inr k ↦ k
           ],
       λ h.
-          let f = above (s.end + 1) ss at n.2 h in
+          let f = at_or_above (s.end + 1) ss at n.2 h in
           elim (first_or_others r rs at ((e at).1 (in_others s ss at h))) [
             | inl w ↦ (let g : at + 1 ≤ r.end = w.before in absurd (omega (arith, f)))
             | inr k ↦ k

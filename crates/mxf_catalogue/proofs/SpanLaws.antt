@@ -11,6 +11,7 @@ use Rattle.mxf_klv.specs.Parts.{NoteParts}
 use Rattle.mxf_klv.specs.Note.{end_of, note_cmp}
 use Rattle.mxf_klv.specs.NoteOrder.{note_total}
 use Rattle.mxf_klv.specs.Rising.{In, less_in}
+use Rattle.mxf_klv.proofs.Tests.{less_from_lt}
 use Rattle.mxf_catalogue.specs.Content.{IsContent}
 use Rattle.mxf_catalogue.specs.Disputes.{AreApart, IsClear, SharesByte, clear_notes}
 use Rattle.mxf_catalogue.proofs.DisputeLaws.{clear-apart, In-clear_notes, IsContent-clear_notes}
@@ -46,6 +47,9 @@ first_less a b r e =
 
 pub offset_le : (m n : NoteParts) → note_cmp m n ≡ Less → m.offset ≤ n.offset
 offset_le m n e = first_less m.offset n.offset _ e
+
+pub less_by_offset : (m n : NoteParts) → m.offset < n.offset → note_cmp m n ≡ Less
+less_by_offset m n l = rw (less_from_lt m.offset n.offset l) refl
 
 pub not_same : (m n : NoteParts) → note_cmp m n ≡ Less → m ≢ n
 not_same m n e same = let t = tied_itself note_total n in

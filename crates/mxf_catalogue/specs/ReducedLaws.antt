@@ -13,58 +13,8 @@ use Rattle.std.proofs.lemmas.Cmp.{tied_itself}
 use Rattle.mxf_klv.specs.Rising.{In, IsRising, SameMembers, union, with_one, same_from_members, In-with_one, In-union}
 use Rattle.mxf_klv.specs.Rising.{IsRising-with_one, IsRising-union}
 use Rattle.mxf_catalogue.specs.Reduced.{IsTold, IsReduced, Has, IsUntold, IsKnown, is_told, reduce, union_reduced}
-
--- one of the list passes the test
-list_any-In : {K : Type 0} (p : K → Bool) (xs : List K)
-    → IsTrue (list_any p xs) ↔ ((x : K) × In x xs × IsTrue (p x))
-list_any-In p [] = (λ h. cc, λ s. absurd s.1)
-list_any-In {K} p (x ∷ xs) =
-    let ih = list_any-In p xs in (
-      λ h. elim (p x) as (λ b. p x ≡ b → (b || list_any p xs) ≡ true → ((y : K) × In y (x ∷ xs) × IsTrue (p y))) [
-        | true ↦ λ e _. (x, inl refl, e)
-        | false ↦ λ e k. let s = ih.0 k in (s.0, inr s.1, s.2)
-      ] refl h,
-      λ s. elim (p x) as (λ b. p x ≡ b → (b || list_any p xs) ≡ true) [
-        | true ↦ λ e. refl
-        | false ↦ λ e. ih.1 (elim s.1 [
-          | inl q ↦ absurd (let t = ap p q in let u = s.2 in cc (t, u, e))
-          | inr k ↦ (s.0, k, s.2)
-        ])
-      ] refl,
-    )
-
--- what a filter leaves
-In-filter : {K : Type 0} (p : K → Bool) (xs : List K) (y : K) → In y (filter p xs) ↔ (In y xs × IsTrue (p y))
-In-filter p [] y = (λ h. absurd h, λ s. absurd s.0)
-In-filter p (x ∷ xs) y =
-    let ih = In-filter p xs y in
-    elim (p x) as (λ b. p x ≡ b → In y (cond b (x ∷ filter p xs) (filter p xs)) ↔ (In y (x ∷ xs) × IsTrue (p y))) [
-      | true ↦ λ e. (
-        λ h. elim h [ inl q ↦ (inl q, ap p q ∙ e) | inr k ↦ (inr (ih.0 k).0, (ih.0 k).1) ],
-        λ s. elim s.0 [ inl q ↦ inl q | inr k ↦ inr (ih.1 (k, s.1)) ],
-      )
-      | false ↦ λ e. (
-        λ h. (inr (ih.0 h).0, (ih.0 h).1),
-        λ s. elim s.0 [ inl q ↦ absurd (let t = ap p q in let u = s.1 in cc (t, u, e)) | inr k ↦ ih.1 (k, s.1) ],
-      )
-    ] refl
-
-all-filter : {K : Type 0} (P : K → Type 0) (p : K → Bool) (xs : List K) → AllByRecursion P xs
-    → AllByRecursion P (filter p xs)
-all-filter P p [] a = tt
-all-filter P p (x ∷ xs) a =
-    elim (p x) as (λ b. AllByRecursion P (cond b (x ∷ filter p xs) (filter p xs))) [
-      | true ↦ (a.0, all-filter P p xs a.1)
-      | false ↦ all-filter P p xs a.1
-    ]
-
-not_true : (b : Bool) → (b ≡ true → ⊥) → not b ≡ true
-not_true true f = absurd (f refl)
-not_true false f = refl
-
-not-true-false : (b : Bool) → not b ≡ true → b ≡ true → ⊥
-not-true-false true h e = cc
-not-true-false false h e = cc
+use Rattle.mxf_klv.proofs.Lists.{list_any-In, In-filter, all-filter}
+use Rattle.mxf_klv.proofs.Tests.{not_true, not-true-false}
 
 pub rising-filter : {K : Type 0} (R : K → K → Ordering) (p : K → Bool) (xs : List K) → IsRising R xs
     → IsRising R (filter p xs)

@@ -3,7 +3,8 @@ use Rattle.std.proofs.Common.{◌≡◌, ◌↔◌, ℕ, ◌+◌, ◌<◌, ◌�
 use Rattle.std.specs.Prelude.{IfSome, IfNone}
 use Rattle.std.proofs.Common.{length, take, drop, Option, None, Some, refl, sym, ap, subst, ◌∙◌, arith, inl, inr}
 use Rattle.std.specs.Option.{option_map_or}
-use Rattle.std.proofs.lemmas.Bool.{leb-true, ltb-true, le-leb, lt-leb, le-ltb, lt-ltb, and_parts, and_from, cond-true, cond-false}
+use Rattle.std.proofs.lemmas.Bool.{leb-true, ltb-true, le-leb, lt-leb, le-ltb, lt-ltb, and_parts, and_from, cond-true}
+use Rattle.std.proofs.lemmas.Bool.{cond-false, and_left, and_right}
 use Rattle.std.proofs.lemmas.List.{take_at}
 use Rattle.mxf_klv.specs.Parts.{LengthParts, NoteParts, head_parts}
 use Rattle.mxf_klv.specs.Note.{greatest_end}
@@ -41,26 +42,18 @@ heads_at-cut offset bytes key after l h near short =
     ∙ cond-true _ _ _ (and_from _ _ (lt-ltb (length bytes) (16 + l.width + l.value) (omega arith))
     (le-leb (offset + (16 + l.width + l.value)) greatest_end near))
 
-false_left : (a b : Bool) → a ≡ false → (a && b) ≡ false
-false_left true b e = cc
-false_left false b e = refl
-
-false_right : (a b : Bool) → b ≡ false → (a && b) ≡ false
-false_right true b e = e
-false_right false b e = refl
-
 pub heads_at-whole : (offset : ℕ) (bytes key after : List ℕ) (l : LengthParts) → BeginsWithKeyAndLength bytes key l after
     → l.value ≤ length after → heads_at offset bytes ≡ []
 heads_at-whole offset bytes key after l h whole =
     let size = head-size h in
     heads_at-of offset bytes key after l h
-    ∙ cond-false _ _ _ (false_left _ _ (le-ltb (length bytes) (16 + l.width + l.value) (omega arith)))
+    ∙ cond-false _ _ _ (and_left _ _ (le-ltb (length bytes) (16 + l.width + l.value) (omega arith)))
 
 pub heads_at-far : (offset : ℕ) (bytes key after : List ℕ) (l : LengthParts) → BeginsWithKeyAndLength bytes key l after
     → greatest_end < offset + (16 + l.width + l.value) → heads_at offset bytes ≡ []
 heads_at-far offset bytes key after l h far =
     heads_at-of offset bytes key after l h
-    ∙ cond-false _ _ _ (false_right _ _ (lt-leb (offset + (16 + l.width + l.value)) greatest_end far))
+    ∙ cond-false _ _ _ (and_right _ _ (lt-leb (offset + (16 + l.width + l.value)) greatest_end far))
 
 pub heads_at-none : (offset : ℕ) (bytes : List ℕ) → HasNoKeyAndLength bytes → heads_at offset bytes ≡ []
 heads_at-none offset bytes none =

@@ -12,3 +12,8 @@ pub mod RisingLemmas
 pub mod CutHeads
 pub mod HeadOrder
 pub mod LabelOrder
+pub mod Tests
+pub mod Lists
+pub mod ListSteps
+pub mod Counts
+pub mod RisingBy

@@ -4,7 +4,7 @@ use Rattle.std.proofs.Common.{Err, refl, sym, ap, subst, ◌∙◌, arith, inl, 
 use Rattle.std.proofs.Common.{length-append, length-take}
 use Rattle.std.proofs.lemmas.List.{length-drop}
 use Rattle.std.specs.Prelude.{slice_get, IsSomeAnd}
-use Rattle.std.proofs.lemmas.List.{take_at, take_all, take-take, take-append-le, drop-append-le}
+use Rattle.std.proofs.lemmas.List.{take_at, take_all, take-take, take-append-le, drop-append-le, nil_from_length}
 use Rattle.std.proofs.Math.Seq.{take-append-add}
 use Rattle.std.proofs.lemmas.Bool.{cases_lt}
 use Rattle.mxf_klv.specs.Parts.{LengthParts, NoteParts, PacketParts, packet_parts}
@@ -45,17 +45,14 @@ take_both n r x =
 nothing_taken : (n : ℕ) (xs : List ℕ) → take (n - n) xs ≡ []
 nothing_taken n xs = let none : n - n ≡ 0 = omega arith in ap (λ (k : ℕ). take k xs) none
 
-nothing : (xs : List ℕ) → length xs ≡ 0 → xs ≡ []
-nothing [] e = refl
-nothing (x ∷ xs) e = absurd (omega (arith, e))
-
 -- ---- the seam
 
 end_after-append : (o : ℕ) (ps qs : List PacketParts) → end_after o (ps ++ qs) ≡ end_after (end_after o ps) qs
 end_after-append o [] qs = refl
 end_after-append o (p ∷ ps) qs = end_after-append (o + size_of p) ps qs
 
-notes_from-append : (o : ℕ) (ps qs : List PacketParts)
+-- the notes of more packets stand behind those before
+pub notes_from-append : (o : ℕ) (ps qs : List PacketParts)
     → notes_from o (ps ++ qs) ≡ notes_from o ps ++ notes_from (end_after o ps) qs
 notes_from-append o [] qs = refl
 notes_from-append o (p ∷ ps) qs = ap (λ (ns : List NoteParts). note_of o p ∷ ns) (notes_from-append (o + size_of p) ps qs)
@@ -105,7 +102,7 @@ none_more o m b e =
       s.rest ∙ rest_in-none at t e,
     )
 
--- What is known where one packet more is whole, and nothing behind it has come.
+-- What is known where one packet more is whole, and nil_from_length behind it has come.
 pub record OneMore (o : ℕ) (m b : List ℕ) (p : PacketParts) : Type 0 where
   pub notes : notes_from o (packets_in o (m ++ b))
       ≡ notes_from o (packets_in o m) ++ note_of (end_after o (packets_in o m)) p ∷ []
@@ -129,7 +126,7 @@ one_more o m b p e whole =
     record {
       notes = ap (notes_from o) packets ∙ notes_from-append o ps (p ∷ []);
       at = ap (end_after o) packets ∙ end_after-append o ps (p ∷ []);
-      rest = s.rest ∙ rest_in-some at t p e ∙ rest_in-none (at + size_of p) after none ∙ nothing after (omega (arith, length-drop (size_of p) t));
+      rest = s.rest ∙ rest_in-some at t p e ∙ rest_in-none (at + size_of p) after none ∙ nil_from_length after (omega (arith, length-drop (size_of p) t));
     }
 
 -- ---- heads
@@ -151,7 +148,7 @@ no_head_no_packet at r none =
     (subst (λ (t : List ℕ). BeginsWithKeyAndLength t p.key (record { width = p.width; value = length p.value }) (p.value ++ after))
     (sym is) (head_in front after p s))))
 
--- A value that has come whole makes a packet, behind which nothing has come.
+-- A value that has come whole makes a packet, behind which nil_from_length has come.
 pub record IsWholePacket (at : ℕ) (r key : List ℕ) (l : LengthParts) (after : List ℕ) : Type 0 where
   pub stands : packet_at at r ≡ Some (packet_parts key l.width after)
   pub size : size_of (packet_parts key l.width after) ≡ length r
@@ -212,9 +209,9 @@ head_now r x key count l after none h =
             let cut : take (16 + l.width) (r ++ y) ≡ r ++ take used x =
             take_past (16 + l.width) r y (length r) refl (omega arith)
             ∙ ap (λ (t : List ℕ). r ++ t) (take-take used count x (omega arith)) in
-            let nothing : take (16 + l.width - (16 + l.width)) after ≡ [] = nothing_taken (16 + l.width) after in
+            let emptied : take (16 + l.width - (16 + l.width)) after ≡ [] = nothing_taken (16 + l.width) after in
             subst (λ (t : List ℕ). BeginsWithKeyAndLength t key l []) cut
-            (subst (λ (t : List ℕ). BeginsWithKeyAndLength (take (16 + l.width) (r ++ y)) key l t) nothing front);
+            (subst (λ (t : List ℕ). BeginsWithKeyAndLength (take (16 + l.width) (r ++ y)) key l t) emptied front);
       }
       | inr long ↦
           absurd (none key (take (length r - (16 + l.width)) after) l

@@ -26,19 +26,14 @@ use Rattle.mxf_klv.proofs.LengthLemmas.{spelled_len}
 use Rattle.mxf_klv.proofs.KeyAndLengthLaws.{head_of, head_in, head-begins, head-length, head-packet, head-size}
 use Rattle.mxf_klv.proofs.PacketLemmas.{label_of, same_packet}
 use Rattle.mxf_klv.proofs.PacketLaw.{one_packet_reading}
+use Rattle.mxf_klv.proofs.Tests.{guarded}
+use Rattle.std.proofs.lemmas.Option.{same_Some}
 
 -- ---- choices
 
 pub chosen : {A : Type 0} (b : Bool) (x y z : A) → cond b x y ≡ z → ((b ≡ true) × (x ≡ z)) ⊎ ((b ≡ false) × (y ≡ z))
 chosen true x y z e = inl (refl, e)
 chosen false x y z e = inr (refl, e)
-
-pub guarded : {A : Type 0} (b : Bool) (o : Option A) (x : A) → cond b o None ≡ Some x → (b ≡ true) × (o ≡ Some x)
-guarded true o x e = (refl, e)
-guarded false o x e = absurd cc
-
-some_is : {A : Type 0} (x y : A) → Some x ≡ Some y → x ≡ y
-some_is x y e = cc
 
 -- ---- lengths
 
@@ -51,12 +46,12 @@ length_at-stands [] l e = absurd cc
 length_at-stands (f ∷ rest) l e =
     elim (chosen (nat_le f 127) _ _ _ e) [
       | inl p ↦ subst (λ (m : LengthParts). IsSpelledLength (take m.width (f ∷ rest)) m.width m.value)
-          (some_is _ _ p.1) (inl (refl, leb-true f 127 p.0, refl, refl))
+          (same_Some _ _ p.1) (inl (refl, leb-true f 127 p.0, refl, refl))
       | inr p ↦
           let q = guarded (nat_lt 128 f && nat_le f 136 && nat_le (f - 128) (length rest)) _ _ p.1 in
           let r = and_parts (nat_lt 128 f && nat_le f 136) (nat_le (f - 128) (length rest)) q.0 in
           let s = and_parts (nat_lt 128 f) (nat_le f 136) r.0 in
-          subst (λ (m : LengthParts). IsSpelledLength (take m.width (f ∷ rest)) m.width m.value) (some_is _ _ q.1)
+          subst (λ (m : LengthParts). IsSpelledLength (take m.width (f ∷ rest)) m.width m.value) (same_Some _ _ q.1)
           (wide_found (f ∷ rest) f rest refl (let low = ltb-true 128 f s.0 in omega arith) (leb-true f 136 s.1)
           (leb-true (f - 128) (length rest) r.1))
     ]
@@ -171,7 +166,7 @@ packet_at-stands offset bytes p e =
           let size = packet_with-size bytes l room in
           let found = head-packet (head_at-stands bytes l h)
           (omega (arith, length-drop l.width (drop 16 bytes), length-drop 16 bytes)) in
-          subst (Stands offset bytes) (some_is _ _ g.1) (record {
+          subst (Stands offset bytes) (same_Some _ _ g.1) (record {
             room = rw size room;
             spelled = subst (λ (n : ℕ). IsSpelledPacket (take n bytes) (packet_with bytes l)) (sym size) found.1;
             within = rw size within;

@@ -108,6 +108,10 @@ AreBytes-take n bytes h i =
       | inr le ↦ rw (get_or_past (take n bytes) i 0 (omega (arith, length-take n bytes))) (omega arith)
     ]
 
+-- so is what is left of bytes
+pub AreBytes-drop : (n : ℕ) (bytes : List ℕ) → AreBytes bytes → AreBytes (drop n bytes)
+AreBytes-drop n bytes h i = rw get_or-drop (h (n + i))
+
 pub length_written_back : (bytes : List ℕ) (w v : ℕ) → AreBytes bytes → ReadsLength bytes
     (Ok (record { width = w; value = v })) → take w bytes ≡ length_bytes w v
 length_written_back bytes w v h p = spelled-length_bytes (take w bytes) w v (AreBytes-take w bytes h) p

@@ -4,7 +4,7 @@ use Rattle.std.proofs.Common.{[], ◌∷◌, ◌++◌, length, take, drop, Err, 
 use Rattle.std.proofs.Common.{None, Some, refl, sym, ap, subst, ◌∙◌, arith, inl, inr, ◌⊎◌, ◌↔◌, length-take}
 use Rattle.std.proofs.Common.{take-append-drop}
 use Rattle.std.proofs.lemmas.Bool.{eqb-true, eq-eqb, ltb-true, lt-ltb, or_cases}
-use Rattle.std.proofs.lemmas.Bool.{cases_lt, false_from_ne_true, both_ways}
+use Rattle.std.proofs.lemmas.Bool.{cases_lt, false_from_ne_true, both_ways, or_right, or_left}
 use Rattle.std.specs.Option.{option_map_or}
 use Rattle.mxf_klv.specs.Parts.{LengthParts, PacketParts, packet_parts}
 use Rattle.mxf_klv.specs.Label.{BeginsAsLabel, begins_as_label}
@@ -40,27 +40,20 @@ bad-reads (f ∷ rest) e =
       | inr p ↦ inr (ltb-true 136 f p)
     ]
 
-or-right : (a b : Bool) → b ≡ true → (a || b) ≡ true
-or-right true b e = refl
-or-right false b e = e
-
-or-left : (a b : Bool) → a ≡ true → (a || b) ≡ true
-or-left a b e = rw e refl
-
 reads-bad : (xs : List ℕ) → ReadsLength xs (Err lengths.Indefinite) ⊎ ReadsLength xs (Err lengths.TooWide)
     → is_bad_length xs ≡ true
 reads-bad [] (inl p) = absurd cc
 reads-bad [] (inr p) = absurd p
-reads-bad (f ∷ rest) (inl p) = or-left (nat_eq f 128) (nat_lt 136 f) (eq-eqb f 128 cc)
-reads-bad (f ∷ rest) (inr p) = or-right (nat_eq f 128) (nat_lt 136 f) (lt-ltb 136 f p)
+reads-bad (f ∷ rest) (inl p) = or_left (nat_eq f 128) (nat_lt 136 f) (eq-eqb f 128 cc)
+reads-bad (f ∷ rest) (inr p) = or_right (nat_eq f 128) (nat_lt 136 f) (lt-ltb 136 f p)
 
 -- where no length is given and none is at fault, one is cut
 cut_else : (xs : List ℕ) → is_bad_length xs ≡ false → length_at xs ≡ None → IsCutLength xs
 cut_else [] b e = tt
 cut_else (f ∷ rest) b e =
-    let definite : f ≡ 128 → ⊥ = λ is. both_ways _ b (or-left (nat_eq f 128) (nat_lt 136 f) (eq-eqb f 128 is)) in
+    let definite : f ≡ 128 → ⊥ = λ is. both_ways _ b (or_left (nat_eq f 128) (nat_lt 136 f) (eq-eqb f 128 is)) in
     let narrow : f ≤ 136 = elim (cases_lt 136 f) [
-      | inl wide ↦ absurd (both_ways _ b (or-right (nat_eq f 128) (nat_lt 136 f) (lt-ltb 136 f wide)))
+      | inl wide ↦ absurd (both_ways _ b (or_right (nat_eq f 128) (nat_lt 136 f) (lt-ltb 136 f wide)))
       | inr narrow ↦ narrow
     ] in
     let long : 128 ≤ f = elim (cases_lt f 128) [

@@ -24,11 +24,7 @@ use Rattle.mxf_read.specs.Levels.{Adds, HoldsAll, merged_with}
 use Rattle.mxf_read.specs.Gathering.{AllTell, Gathers, HandedBy, HasFault, IsGatherFault, IsGood, IsLeftBy}
 use Rattle.mxf_read.proofs.Taking.{slice_get_at}
 use Rattle.mxf_read.specs.Gathering.{TakesPart, Tells, bytes_of, piece_of, reports_in, reports_of}
-
-all_push : {K : Type 0} (P : K → Type 0) (xs : List K) (x : K) → AllByRecursion P xs → P x
-    → AllByRecursion P (xs ++ x ∷ [])
-all_push P [] x a p = (p, tt)
-all_push P (y ∷ ys) x a p = (a.0, all_push P ys x a.1 p)
+use Rattle.mxf_klv.proofs.Lists.{all_push}
 
 all_at : {K : Type 0} (P : K → Type 0) (xs ys : List K) (x : K) → AllByRecursion P (xs ++ x ∷ ys) → P x
 all_at P [] ys x a = a.0

@@ -11,7 +11,7 @@ use Rattle.mxf_klv.specs.Piece.{end_after, notes_from}
 use Rattle.mxf_klv.specs.PieceReading.{GoesOn, heads_at, notes_in, packet_at, packets_in, rest_in, stop_in, stop_of}
 use Rattle.mxf_klv.proofs.KeyAndLengthLaws.{head-size}
 use Rattle.mxf_klv.proofs.PieceLaws.{ends_at, goes_on, packets_in-none, packets_in-some}
-use Rattle.mxf_klv.proofs.MoreBytes.{seam}
+use Rattle.mxf_klv.proofs.MoreBytes.{seam, notes_from-append}
 use Rattle.mxf_catalogue.specs.Content.{reduced_union}
 use Rattle.mxf_catalogue.specs.History.{History, Absorb, Cut, content}
 use Rattle.mxf_read.specs.declared.report.Report.{Report}
@@ -19,7 +19,7 @@ use Rattle.mxf_read.specs.declared.report.AbsorbFault.{AbsorbFault}
 use Rattle.mxf_read.specs.declared.report.AbsorbFault.TheVariants.{OutOfMemory, ReadFault}
 use Rattle.mxf_read.specs.Absorbs.{AbsorbsFrom, Absorbs, AddsFirst, GoesOnAt, first_notes_in, history_with}
 use Rattle.mxf_read.specs.Reads.{Takes}
-use Rattle.mxf_read.proofs.Pieces.{head_begins, heads_few, notes_for_packets, notes_from-append}
+use Rattle.mxf_read.proofs.Pieces.{head_begins, heads_few, notes_for_packets}
 use Rattle.mxf_read.proofs.Taking.{union_append}
 
 -- what is left from the offset on has the other notes and the stop, and so many bytes at least

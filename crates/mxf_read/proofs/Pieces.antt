@@ -18,24 +18,10 @@ use Rattle.mxf_klv.proofs.CutHeads.{cut_stops, heads_at-stands}
 use Rattle.mxf_catalogue.specs.Content.{AreReduced, IsContent, reduced_union}
 use Rattle.mxf_catalogue.specs.Disputes.{AreApart}
 use Rattle.mxf_catalogue.proofs.HeadLaws.{reduced_union-none}
-
-less_at : (a b : ℕ) → a < b → nat_cmp a b ≡ Less
-less_at a b h =
-    elim (nat_cmp a b) as (λ o. nat_cmp a b ≡ o → o ≡ Less) [
-      | Less ↦ λ e. refl
-      | Equal ↦ λ e. absurd (let r : a ≡ b = ranked a b Equal (sym e) in omega arith)
-      | Greater ↦ λ e. absurd (let r : b < a = ranked a b Greater (sym e) in omega arith)
-    ] refl
-
--- the note that begins below another is below it
-less_by_offset : (m n : NoteParts) → m.offset < n.offset → note_cmp m n ≡ Less
-less_by_offset m n h = rw (less_at m.offset n.offset h) refl
+use Rattle.mxf_catalogue.proofs.ApartLaws.{begins_above}
+use Rattle.mxf_catalogue.proofs.SpanLaws.{AreApart-lower, less_by_offset}
 
 -- ---- notes that stand apart
-
-apart_lower : (low offset : ℕ) (ns : List NoteParts) → low ≤ offset → AreApart offset ns → AreApart low ns
-apart_lower low offset [] h a = tt
-apart_lower low offset (n ∷ ns) h a = (let from = a.0 in omega arith, a.1)
 
 apart_front : (low : ℕ) (xs ys : List NoteParts) → AreApart low (xs ++ ys) → AreApart low xs
 apart_front low [] ys a = tt
@@ -46,14 +32,6 @@ apart_take n low [] a = subst (AreApart low) (sym (take_all n [] (omega arith)))
 apart_take zero low (x ∷ xs) a = tt
 apart_take (suc n) low (x ∷ xs) a = (a.0, apart_take n (x.offset + 16 + x.width + x.length) xs a.1)
 
-above : (low : ℕ) (ns : List NoteParts) (x : NoteParts) → AreApart low ns → In x ns → low ≤ x.offset
-above low [] x a h = absurd h
-above low (n ∷ ns) x a (inl e) = let same = ap (λ (m : NoteParts). m.offset) e in let from = a.0 in omega arith
-above low (n ∷ ns) x a (inr h) =
-    let behind = above (n.offset + 16 + n.width + n.length) ns x a.1 h in
-    let from = a.0 in
-    omega arith
-
 -- no two of them have one offset
 one_at : (low : ℕ) (ns : List NoteParts) (x y : NoteParts) → AreApart low ns → In x ns → In y ns → x.offset ≡ y.offset
     → y ≡ x
@@ -61,11 +39,11 @@ one_at low [] x y a h k e = absurd h
 one_at low (n ∷ ns) x y a (inl p) (inl q) e = q ∙ sym p
 one_at low (n ∷ ns) x y a (inl p) (inr k) e =
     let same = ap (λ (m : NoteParts). m.offset) p in
-    let behind = above (n.offset + 16 + n.width + n.length) ns y a.1 k in
+    let behind = begins_above (n.offset + 16 + n.width + n.length) ns y a.1 k in
     absurd (omega arith)
 one_at low (n ∷ ns) x y a (inr h) (inl q) e =
     let same = ap (λ (m : NoteParts). m.offset) q in
-    let behind = above (n.offset + 16 + n.width + n.length) ns x a.1 h in
+    let behind = begins_above (n.offset + 16 + n.width + n.length) ns x a.1 h in
     absurd (omega arith)
 one_at low (n ∷ ns) x y a (inr h) (inr k) e = one_at (n.offset + 16 + n.width + n.length) ns x y a.1 h k e
 
@@ -138,7 +116,7 @@ apart_heads at r =
 
 apart_from : (low offset : ℕ) (ps : List PacketParts) (heads : List NoteParts) → low ≤ offset
     → AreApart (end_after offset ps) heads → AreApart low (notes_from offset ps ++ heads)
-apart_from low offset [] heads h a = apart_lower low offset heads h a
+apart_from low offset [] heads h a = AreApart-lower low offset heads h a
 apart_from low offset (p ∷ ps) heads h a =
     (h, apart_from (offset + 16 + p.width + length p.value) (offset + size_of p) ps heads (omega arith) a)
 
@@ -171,12 +149,6 @@ alone_first count offset bytes =
 pub notes_for_packets : (offset : ℕ) (ps : List PacketParts) → length (notes_from offset ps) ≡ length ps
 notes_for_packets offset [] = refl
 notes_for_packets offset (p ∷ ps) = ap suc (notes_for_packets (offset + size_of p) ps)
-
--- the notes of more packets stand behind those before
-pub notes_from-append : (o : ℕ) (ps qs : List PacketParts)
-    → notes_from o (ps ++ qs) ≡ notes_from o ps ++ notes_from (end_after o ps) qs
-notes_from-append o [] qs = refl
-notes_from-append o (p ∷ ps) qs = ap (λ (ns : List NoteParts). note_of o p ∷ ns) (notes_from-append (o + size_of p) ps qs)
 
 -- behind a stop that no bytes lead past there is no head
 pub closed_notes : (o : ℕ) (m : List ℕ) → (IsOpen (stop_in o m) → ⊥) → notes_in o m ≡ notes_from o (packets_in o m)

@@ -13,12 +13,11 @@ use Rattle.mxf_klv.specs.Piece.{end_after, notes_from}
 use Rattle.mxf_klv.specs.PieceReading.{IsOpen, heads_at, notes_in, packets_in, rest_in, stop_in, stop_of}
 use Rattle.mxf_klv.specs.declared.piece.Stop.{Stop}
 use Rattle.mxf_klv.specs.declared.piece.Stop.TheVariants.{End, NotUl, BadLength, TooFar, Truncated}
-use Rattle.mxf_klv.proofs.MoreBytes.{seam, stop_is, stop_stays}
+use Rattle.mxf_klv.proofs.MoreBytes.{seam, stop_is, stop_stays, notes_from-append}
 use Rattle.mxf_klv.proofs.StopLaws.{at_cut, stops}
 use Rattle.mxf_klv.proofs.CutHeads.{heads_at-cut, heads_at-none}
 use Rattle.mxf_catalogue.specs.Content.{reduced_union, reduced_with}
 use Rattle.mxf_read.proofs.Pieces.{alone_first, alone_in, alone_packets, closed_notes, no_heads, notes_for_packets}
-use Rattle.mxf_read.proofs.Pieces.{notes_from-append}
 use Rattle.mxf_read.proofs.Taking.{union_append}
 use Rattle.mxf_read.specs.Absorbs.{Absorbs, AbsorbsFrom, AddsFirst, Finishes, report_of}
 use Rattle.mxf_read.specs.Feeding.{Fed, IsNext, Knows, NotesNone}
@@ -372,7 +371,3 @@ of_stream old new (Some xs) after o limit (Ok report) (taken, takes, adds, ends)
           let (x, split) = front_taken (Some xs) after limit taken takes in
           subst (λ (t : List ℕ). Absorbs old new o t (Ok report)) (sym split) (adds_more old new o taken x report adds final)
     ]
-
-pub none_from : {X : Type 0} (s : Option X) → is_some s ≡ false → s ≡ None
-none_from None e = refl
-none_from (Some x) e = absurd cc

@@ -7,7 +7,7 @@ use Rattle.mxf_sets.specs.declared.batch.BatchFault.TheVariants as faults
 use Rattle.mxf_sets.specs.Batch.{BatchParts, AreBatchParts, IsBatch, HasItemsOf, ReadsBatch, batch_bytes}
 use Rattle.mxf_sets.proofs.Numbers.{same_number}
 
-same_parts : (a b : BatchParts) → a.count ≡ b.count → a.size ≡ b.size → a.items ≡ b.items → a ≡ b
+pub same_parts : (a b : BatchParts) → a.count ≡ b.count → a.size ≡ b.size → a.items ≡ b.items → a ≡ b
 same_parts a b e f g i = record { count = e i; size = f i; items = g i }
 
 -- two batches with the same bytes are one

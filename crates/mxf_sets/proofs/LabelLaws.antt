@@ -12,6 +12,7 @@ use Rattle.mxf_sets.specs.Batch.{BatchParts, HasItemsOf, batch_items, item_in, s
 use Rattle.mxf_sets.specs.Primer.{IsOnlyLabel, label_at}
 use Rattle.mxf_sets.specs.PackReadings.{agreed, label_of, labels_among}
 use Rattle.std.proofs.lemmas.Slice.Eq.{bytes_eq-Decides}
+use Rattle.std.proofs.lemmas.Bool.{and_parts}
 
 -- ---- the items of a batch
 
@@ -98,15 +99,11 @@ sized_items-In (suc count) size (suc place) bytes h =
 
 -- ---- the label that all agree on
 
-both_true : (a b : Bool) → (a && b) ≡ true → (a ≡ true) × (b ≡ true)
-both_true true b h = (refl, h)
-both_true false b h = cc
-
 all_alike : (label : List ℕ) (labels : List (List ℕ)) → list_all (λ other. bytes_eq label other) labels ≡ true
     → (other : List ℕ) → In other labels → other ≡ label
 all_alike label [] h other m = elim m [ ]
 all_alike label (first ∷ labels) h other m =
-    let t = both_true (bytes_eq label first) (list_all (λ o. bytes_eq label o) labels) h in
+    let t = and_parts (bytes_eq label first) (list_all (λ o. bytes_eq label o) labels) h in
     elim m [ inl e ↦ e ∙ sym ((bytes_eq-Decides label first).0 t.0) | inr k ↦ all_alike label labels t.1 other k ]
 
 alike_all : (label : List ℕ) (labels : List (List ℕ)) → ((other : List ℕ) → In other labels → other ≡ label)

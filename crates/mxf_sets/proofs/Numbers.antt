@@ -7,10 +7,6 @@ use Rattle.byteorder.specs.Numbers.{big_number-reads_back, length-bytes_high_fir
 use Rattle.mxf_klv.specs.Bytes.{AreBytes}
 use Rattle.mxf_klv.proofs.RoundTrips.{bytes_again}
 
--- what is left of bytes is bytes
-pub AreBytes-drop : (n : ℕ) (bytes : List ℕ) → AreBytes bytes → AreBytes (drop n bytes)
-AreBytes-drop n bytes h i = rw get_or-drop (h (n + i))
-
 -- the number that bytes begin with, and the bytes after it
 pub number_in_front : (n x : ℕ) (bytes front rest : List ℕ) → front ≡ take n bytes → rest ≡ drop n bytes
     → x ≡ big_number n front → n ≤ length bytes → AreBytes front → bytes ≡ big_bytes n x ++ rest

@@ -2,13 +2,13 @@
 use Rattle.std.proofs.Common.{◌≡◌, ℕ, ◌+◌, ◌-◌, ◌%◌, ◌≤◌, ◌⊎◌, ◌↔◌, ◌++◌, List, Bool, true, false, cond, length}
 use Rattle.std.proofs.Common.{length-drop, take, drop, None, Some, Result, Ok, Err, refl, sym, ap, subst, ◌∙◌, arith}
 use Rattle.std.proofs.Common.{inl, inr, leb-true, eq-eqb, eqb-true}
-use Rattle.std.proofs.lemmas.Bool.{leb-false}
+use Rattle.std.proofs.lemmas.Bool.{leb-false, and_parts, and_cases}
 use Rattle.std.proofs.lemmas.List.{take-append-drop, drop-drop, length-take}
 use Rattle.std.specs.Prelude.{nat_le, ◌==◌, ◌&&◌}
 use Rattle.byteorder.specs.Endian.{big_number, big_bytes}
 use Rattle.byteorder.specs.Numbers.{big_from-lt}
 use Rattle.mxf_klv.specs.Bytes.{AreBytes}
-use Rattle.mxf_klv.proofs.RoundTrips.{AreBytes-take}
+use Rattle.mxf_klv.proofs.RoundTrips.{AreBytes-take, AreBytes-drop}
 use Rattle.mxf_klv.specs.declared.kinds.Kind.{Kind}
 use Rattle.mxf_klv.specs.declared.kinds.Kind.TheVariants as kinds
 use Rattle.mxf_klv.specs.declared.kinds.Status.{Status}
@@ -24,21 +24,17 @@ use Rattle.mxf_sets.specs.PartitionPack.{IsPartitionPack, IsPartitionKind, Reads
 use Rattle.mxf_sets.specs.RandomIndexPack.{RipParts, ReadsRip, entries_of, rip_parts}
 use Rattle.mxf_sets.specs.PackReadings.{batch_in, numbers_in, part_and_status, pack_in, pack_under, pack_at, primer_at}
 use Rattle.mxf_sets.specs.PackReadings.{rip_at}
-use Rattle.mxf_sets.proofs.BatchLaws.{stated}
+use Rattle.mxf_sets.proofs.BatchLaws.{stated, same_parts}
 use Rattle.mxf_sets.proofs.BatchTests.{tested_batch, batch_tested}
-use Rattle.mxf_sets.proofs.Numbers.{AreBytes-drop}
 use Rattle.mxf_sets.proofs.PackLaws.{one_pack_read}
 use Rattle.mxf_sets.proofs.PrimerLaws.{one_primer_read}
 use Rattle.mxf_sets.proofs.RipLaws.{number_here, length-entries_of, entries_are, one_rip_read, rip_read}
 
 -- ---- batches
 
-one_batch : (a b : BatchParts) → a.count ≡ b.count → a.size ≡ b.size → a.items ≡ b.items → a ≡ b
-one_batch a b e f g i = record { count = e i; size = f i; items = g i }
-
 -- the batch that bytes state is the one that they are
 pub batch_is : (bytes : List ℕ) (b : BatchParts) → IsBatch bytes b → batch_in bytes ≡ b
-batch_is bytes b is = let s = stated bytes b is in one_batch (batch_in bytes) b s.0 s.1 (ap (drop 8) is.whole)
+batch_is bytes b is = let s = stated bytes b is in same_parts (batch_in bytes) b s.0 s.1 (ap (drop 8) is.whole)
 
 -- bytes that pass the test are the batch that they state
 batch_stated : (size : ℕ) (bytes : List ℕ) → AreBytes bytes → is_batch size bytes ≡ true
@@ -176,15 +172,6 @@ pack_computes kind bytes r h p = one_pack_read kind bytes r (pack_at kind bytes)
 
 -- ---- random index packs
 
-two_tests : (a b : Bool) → (a && b) ≡ true → (a ≡ true) × (b ≡ true)
-two_tests true b h = (refl, h)
-two_tests false b h = cc
-
--- where two tests don't both pass, one fails
-one_fails : (a b : Bool) → (a && b) ≡ false → (a ≡ false) ⊎ (b ≡ false)
-one_fails true b h = inr h
-one_fails false b h = inl refl
-
 pub rip_computed : (width : ℕ) (bytes : List ℕ) → AreBytes bytes → ReadsRip width bytes (rip_at width bytes)
 rip_computed width bytes h =
     let rest = length bytes - 4 in
@@ -199,7 +186,7 @@ rip_computed width bytes h =
       | true ↦ λ t. let long : 4 ≤ length bytes = leb-true 4 (length bytes) t in
           elim fits as (λ b. fits ≡ b → ReadsRip width bytes (cond b ok wrong)) [
             | true ↦ λ u.
-                let both = two_tests (rest % 12 == 0) (big_number 4 last == 16 + width + length bytes) u in
+                let both = and_parts (rest % 12 == 0) (big_number 4 last == 16 + width + length bytes) u in
                 let whole : rest % 12 ≡ 0 = eqb-true (rest % 12) 0 both.0 in
                 let number : big_number 4 last ≡ 16 + width + length bytes = eqb-true (big_number 4 last)
                 (16 + width + length bytes) both.1 in
@@ -212,7 +199,7 @@ rip_computed width bytes h =
                 )
             | false ↦ λ u. (
               long,
-              elim (one_fails (rest % 12 == 0) (big_number 4 last == 16 + width + length bytes) u) [
+              elim (and_cases (rest % 12 == 0) (big_number 4 last == 16 + width + length bytes) u) [
                 | inl p ↦ inl (λ e. let q = eq-eqb (rest % 12) 0 e in cc (p, q))
                 | inr p ↦ inr (λ e. let q = eq-eqb (big_number 4 last) (16 + width + length bytes) e in cc (p, q))
               ],

@@ -13,6 +13,7 @@ use Rattle.mxf_sets.specs.Fields.{Meets, checked, fields_at, has_shape, first_ta
 use Rattle.mxf_sets.specs.Fields.{or_else}
 use Rattle.mxf_sets.proofs.ItemLemmas.{are_items, empty_from_test, only_are}
 use Rattle.mxf_sets.proofs.Checks.{head_clear}
+use Rattle.std.proofs.lemmas.Bool.{not-false}
 
 -- ---- one field
 
@@ -29,14 +30,10 @@ of_there true None h = let some : IsSome {T = List ℕ} None = h refl in absurd 
 of_there true (Some v) h = refl
 of_there false o h = refl
 
-not_false : (b : Bool) → not b ≡ false → b ≡ true
-not_false true h = refl
-not_false false h = absurd cc
-
 shaped_of : (t : List ℕ → Bool) (o : Option (List ℕ)) → option_map_or (λ v. not (t v)) o false ≡ false → (v : List ℕ)
     → o ≡ Some v → t v ≡ true
 shaped_of t None h v e = absurd cc
-shaped_of t (Some w) h v e = (let same : w ≡ v = cc in subst (λ (u : List ℕ). t u ≡ true) same (not_false (t w) h))
+shaped_of t (Some w) h v e = (let same : w ≡ v = cc in subst (λ (u : List ℕ). t u ≡ true) same (not-false (t w) h))
 
 of_shaped : (t : List ℕ → Bool) (o : Option (List ℕ)) → ((v : List ℕ) → o ≡ Some v → t v ≡ true)
     → option_map_or (λ v. not (t v)) o false ≡ false

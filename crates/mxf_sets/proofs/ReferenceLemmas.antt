@@ -3,6 +3,7 @@ use Rattle.std.proofs.Common.{◌≡◌, ℕ, zero, suc, ◌*◌, ◌/◌, ◌%�
 use Rattle.std.proofs.Common.{drop, drop-drop, take-append-drop, length-take, length-drop, refl, ap, ◌∙◌, sym, arith}
 use Rattle.std.specs.List.{AllByRecursion, flat_map, slice_get}
 use Rattle.mxf_sets.specs.Reference.{references_of, sixteens}
+use Rattle.std.proofs.lemmas.List.{nil_from_length}
 
 pub length-sixteens : (n : ℕ) (bytes : List ℕ) → length (sixteens n bytes) ≡ n
 length-sixteens zero bytes = refl
@@ -23,9 +24,6 @@ sixteens-at (suc n) (suc i) bytes h =
 
 -- ---- the first reference
 
-pub no_reference : (bytes : List ℕ) → length bytes < 16 → references_of bytes ≡ []
-no_reference bytes h = let none : length bytes / 16 ≡ 0 = omega arith in ap (λ (n : ℕ). sixteens n bytes) none
-
 pub first_reference : (bytes : List ℕ) → 16 ≤ length bytes
     → references_of bytes ≡ take 16 bytes ∷ references_of (drop 16 bytes)
 first_reference bytes h =
@@ -36,10 +34,7 @@ first_reference bytes h =
 
 sixteens_whole : (n : ℕ) (bytes : List ℕ) → length bytes ≡ 16 * n
     → flat_map (λ reference. reference) (sixteens n bytes) ≡ bytes
-sixteens_whole zero bytes h = sym (empty_list bytes (omega arith)) where
-  empty_list : (xs : List ℕ) → length xs ≡ 0 → xs ≡ []
-  empty_list [] e = refl
-  empty_list (x ∷ xs) e = absurd (omega arith)
+sixteens_whole zero bytes h = sym (nil_from_length bytes (omega arith))
 sixteens_whole (suc n) bytes h =
     ap (λ (t : List ℕ). take 16 bytes ++ t) (sixteens_whole n (drop 16 bytes) (omega (arith, length-drop 16 bytes)))
     ∙ take-append-drop 16 bytes

@@ -15,8 +15,8 @@ use Rattle.mxf_sets.specs.declared.pack.PackFault.TheVariants as faults
 use Rattle.mxf_sets.specs.declared.pack.random_index.RipEntry.{RipEntry}
 use Rattle.mxf_sets.specs.RandomIndexPack.{IsEntry, entry_bytes, RipParts, packet_length, IsRip, ReadsRip, entry_in}
 use Rattle.mxf_sets.specs.RandomIndexPack.{entries_by, entries_of, rip_parts}
-use Rattle.mxf_klv.proofs.RoundTrips.{AreBytes-take}
-use Rattle.mxf_sets.proofs.Numbers.{AreBytes-drop, number_in_front, same_number}
+use Rattle.mxf_klv.proofs.RoundTrips.{AreBytes-take, AreBytes-drop}
+use Rattle.mxf_sets.proofs.Numbers.{number_in_front, same_number}
 
 -- ---- the entries of bytes
 
@@ -77,7 +77,7 @@ length-flat [] = refl
 length-flat (e ∷ es) = ap length (flat_map-cons entry_bytes e es)
     ∙ omega (arith, length-append (entry_bytes e) (flat_map entry_bytes es), length-flat es)
 
-same_entry : (a b : RipEntry) → a.body_sid ≡ b.body_sid → a.offset ≡ b.offset → a ≡ b
+pub same_entry : (a b : RipEntry) → a.body_sid ≡ b.body_sid → a.offset ≡ b.offset → a ≡ b
 same_entry a b e f i = record { body_sid = e i; offset = f i }
 
 same_entries : (es fs : List RipEntry) (xs ys : List ℕ) → length es ≡ length fs → AllByRecursion IsEntry es

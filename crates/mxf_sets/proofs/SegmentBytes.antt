@@ -69,10 +69,3 @@ entries_bytes s n is h =
     ++ flat_map item_bytes (cond b [] (entry_item s ∷ []))) (le-ltb 0 s.numbers.unit_bytes none)
     ∙ ap (λ (t : List ℕ). flat_map item_bytes (number_items s.numbers) ++ t) (append-nil (item_bytes (entry_item s)))
     ∙ ap (λ (m : SegmentNumbers). flat_map item_bytes (number_items m) ++ item_bytes (entry_item s)) (sym is)
-
--- each item of a list of items that have bytes
-pub item_at_place : (items : List ItemParts) (k : ℕ) (d : ItemParts) → AllByRecursion IsItem items → k < length items
-    → IsItem (get_or items k d)
-item_at_place [] k d h p = absurd (omega arith)
-item_at_place (i ∷ is) zero d h p = h.0
-item_at_place (i ∷ is) (suc k) d h p = item_at_place is k d h.1 (omega arith)

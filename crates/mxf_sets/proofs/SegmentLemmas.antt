@@ -16,10 +16,6 @@ use Rattle.mxf_sets.specs.Lookup.{value_of}
 use Rattle.mxf_sets.specs.Fields.{is_batch}
 use Rattle.mxf_sets.specs.Segment.{entries_in, entry_size, segment_numbers, segment_of, segment_parts, IsSegment}
 
--- what a batch that passes the test is long
-pub batch_long : (size : ℕ) (v : List ℕ) → is_batch size v ≡ true → 8 ≤ length v
-batch_long size v h = grind arith
-
 pub batch_items : (size : ℕ) (v : List ℕ) → is_batch size v ≡ true → length v ≡ 8 + big_number 4 v * size
 batch_items size v h = grind arith
 

@@ -6,7 +6,7 @@ use Rattle.std.specs.List.{cons_option, filter_map}
 use Rattle.std.specs.Option.{option_and_then, option_map}
 use Rattle.std.specs.Prelude.{◌^◌}
 use Rattle.std.specs.Result.{result_ok}
-use Rattle.std.proofs.lemmas.Bool.{ltb-true, ltb-false}
+use Rattle.std.proofs.lemmas.Bool.{ltb-true, ltb-false, false_from_ne_true, eqb-false}
 use Rattle.std.proofs.lemmas.List.Elements.{filter_map-append}
 use Rattle.std.proofs.lemmas.List.Sums.{count_by-le-length, sum_by-append}
 use Rattle.std.proofs.lemmas.Option.{get_or_from_slice_get, slice_get_within}
@@ -20,17 +20,14 @@ use Rattle.mxf_sets.specs.PartitionPack.{PartitionPackParts}
 use Rattle.mxf_sets.specs.Readable.{read_as}
 use Rattle.mxf_klv.specs.Note.{keeps_value}
 use Rattle.mxf_catalogue.specs.Disputes.{lies_in}
-use Rattle.mxf_catalogue.proofs.Lists.{length-filter_le}
 use Rattle.mxf_views.specs.Spans.{is_in_one}
 use Rattle.mxf_views.proofs.CopyLaws.{copy_there}
 use Rattle.mxf_views.proofs.CopyUpdates.{start_is_found}
-use Rattle.mxf_views.proofs.Members.{false_if}
 use Rattle.mxf_views.proofs.PartitionSearch.{has_copy}
 use Rattle.mxf_views.proofs.AboveLaws.{no_bytes}
 use Rattle.mxf_catalogue.specs.Content.{union_of}
 use Rattle.mxf_catalogue.specs.Disputes.{IsClear, SharesByte, clear_notes}
 use Rattle.mxf_catalogue.proofs.DisputeLaws.{In-clear_notes}
-use Rattle.mxf_catalogue.proofs.Places.{Contains-from_In, In-at}
 use Rattle.mxf_catalogue.proofs.SpanLaws.{AreApart-clear_notes}
 use Rattle.mxf_views.specs.declared.copy.CopyInfo.{CopyInfo}
 use Rattle.mxf_views.specs.Copies.{CopiesRise, IsStart, copies_of, copy_from, copy_of, covered_of, has_metadata}
@@ -41,11 +38,15 @@ use Rattle.mxf_views.specs.Partitions.{PartitionParts, partition_at, partitions_
 use Rattle.mxf_views.specs.Spans.{sizes, size_of}
 use Rattle.mxf_views.proofs.AboveLaws.{clear_in_both, clear_of_both, new_are_clear, union_is_content, zone_from, zone_goes_on, zone_of_both}
 use Rattle.mxf_views.proofs.CopyChanges.{SameClear, start_stays}
-use Rattle.mxf_views.proofs.CopyUpdates.{copies_by_notes, end-partition_at, or_of, partition_found, partitions_at, partitions_of_copies_rise}
+use Rattle.mxf_views.proofs.CopyUpdates.{copies_by_notes, end-partition_at, or_of, partition_found}
 use Rattle.mxf_views.proofs.PartitionSearch.{copy_found, is_there, of_note, of_partition}
-use Rattle.mxf_views.proofs.SpanCounts.{count-le, zone-count}
+use Rattle.mxf_views.proofs.SpanCounts.{zone-count}
 use Rattle.mxf_views.proofs.StartLaws.{clear_same, start_is}
 use Rattle.mxf_views.proofs.StartWalk.{none_there}
+use Rattle.mxf_klv.proofs.Counts.{range-le}
+use Rattle.mxf_klv.proofs.Lists.{length-filter_le, In-at}
+use Rattle.mxf_klv.proofs.RisingBy.{at_most_last, rises_at}
+use Rattle.mxf_views.proofs.Rising.{by_partition}
 
 -- The last copy is that of the greatest partition.
 pub last_copy : (cs : List CopyInfo) (last c : CopyInfo) → CopiesRise cs → slice_get cs (length cs - 1) ≡ Some last
@@ -53,18 +54,10 @@ pub last_copy : (cs : List CopyInfo) (last c : CopyInfo) → CopiesRise cs → s
 last_copy cs last c r e h other =
     let k = length cs - 1 in
     let within = slice_get_within cs k last e in
-    let place = Contains-from_In c cs h in
-    let i : place.0 < length cs = place.1 in
-    let up = partitions_of_copies_rise cs r place.0 k c (omega arith) within in
-    let here = ap (λ (x : CopyInfo). x.partition) place.2 in
+    let up = at_most_last (λ (x : CopyInfo). x.partition) cs c k c ((by_partition cs).0 r) (omega (arith, within)) h in
     let there = ap (λ (x : CopyInfo). x.partition) (get_or_from_slice_get cs k last c e) in
-    elim (nat_lt c.partition last.partition) as (λ b. nat_lt c.partition last.partition ≡ b → c.partition < last.partition) [
-      | true ↦ λ t. ltb-true c.partition last.partition t
-      | false ↦ λ t. (
-          let l : last.partition ≤ c.partition = ltb-false c.partition last.partition t in
-          let same : last.partition ≡ c.partition = omega (arith, l, up, here, there) in
-          let u = eq-eqb last.partition c.partition same in absurd (cc (u, other)))
-    ] refl
+    let unlike = eqb-false last.partition c.partition other in
+    omega (arith, up, there, unlike)
 
 pub last_held : (cs : List CopyInfo) (last : CopyInfo) → slice_get cs (length cs - 1) ≡ Some last → In last cs
 last_held cs last e =
@@ -78,9 +71,9 @@ pub others_before : (cs : List CopyInfo) (last : CopyInfo) → CopiesRise cs →
 others_before cs last r e k d from below =
     let at = length cs - 1 in
     let within = slice_get_within cs at last e in
-    let up = partitions_at cs k at d r below within in
+    let up = rises_at (λ (x : CopyInfo). x.partition) cs k at d ((by_partition cs).0 r) below within in
     let there = ap (λ (x : CopyInfo). x.partition) (get_or_from_slice_get cs at last d e) in
-    false_if (last.partition == (get_or cs k d).partition)
+    false_from_ne_true (last.partition == (get_or cs k d).partition)
     (λ t. let same = eqb-true last.partition (get_or cs k d).partition t in omega (arith, same, up, there))
 
 -- Nothing is counted on in a zone that ends at the boundary or below.
@@ -365,7 +358,7 @@ module _ (b : ℕ) (own other : List NoteParts) (m : MeetAt b own other) where
       let content = union_is_content b own other m in
       let covered = covered_on s bytes l in
       let counted = zone-count (clear_notes all) 0 s bytes (AreApart-clear_notes all content) in
-      let most = count-le (is_in_one zone) s bytes in
+      let most = range-le (is_in_one zone) s bytes in
       let prefaces = prefaces_on s bytes l in
       let some = count_by-le-length is_preface_note zone in
       let part = length-filter_le (lies_in s bytes) (clear_notes all) in

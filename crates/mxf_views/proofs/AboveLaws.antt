@@ -4,7 +4,7 @@ use Rattle.std.proofs.Common.{◌≡◌, ℕ, ◌+◌, ◌-◌, ◌<◌, ◌≤�
 use Rattle.std.proofs.Common.{sym, ap, subst, ◌∙◌, inl, inr, arith, leb-true, le-leb}
 use Rattle.std.specs.declared.cmp.Ordering.TheVariants.{Less}
 use Rattle.std.specs.Prelude.{◌↔◌, nat_le, filter, map, count_by}
-use Rattle.std.proofs.lemmas.Bool.{lt-ltb}
+use Rattle.std.proofs.lemmas.Bool.{lt-ltb, and_from, false_from_ne_true, and_parts}
 use Rattle.std.proofs.lemmas.List.{map-append}
 use Rattle.std.proofs.lemmas.List.Elements.{filter-append}
 use Rattle.mxf_klv.specs.Parts.{NoteParts}
@@ -15,36 +15,19 @@ use Rattle.mxf_catalogue.specs.NoteLists.{Covers}
 use Rattle.mxf_catalogue.specs.Runs.{AreMaximal, LiesIn}
 use Rattle.mxf_catalogue.specs.declared.run.Run.{Run}
 use Rattle.mxf_catalogue.specs.Disputes.{IsClear, clear_notes, lies_in}
-use Rattle.mxf_catalogue.proofs.ContentLaws.{In-union_of, IsContent-union_of, all-In, all_from_In, same_content}
-use Rattle.mxf_catalogue.proofs.DisputeLaws.{In-clear_notes, IsContent-clear_notes, same_bool}
+use Rattle.mxf_catalogue.proofs.ContentLaws.{In-union_of, IsContent-union_of, same_content}
+use Rattle.mxf_catalogue.proofs.DisputeLaws.{In-clear_notes, IsContent-clear_notes}
 use Rattle.mxf_catalogue.proofs.HeadLaws.{reduced-same, reduced_union-is}
-use Rattle.mxf_catalogue.proofs.Fronts.{In-append}
 use Rattle.mxf_views.specs.Copies.{zone_of}
 use Rattle.mxf_views.specs.Kept.{offsets_where}
 use Rattle.mxf_views.specs.KeptAbove.{MeetAt, clear_from}
 use Rattle.mxf_views.proofs.GapsLaws.{covers_first}
 use Rattle.mxf_views.proofs.KeptRoom.{clear_in_union}
-use Rattle.mxf_views.proofs.Members.{both, false_if, parts}
+use Rattle.mxf_catalogue.proofs.SpanLaws.{less_by_offset}
+use Rattle.mxf_klv.proofs.Lists.{filter_none, filter_all, filter_alike, all-In, all_from_In, In-append}
+use Rattle.mxf_klv.proofs.Tests.{same_bool}
 
 -- ---- lists
-
-filter_none : {K : Type 0} (p : K → Bool) (xs : List K) → ((x : K) → In x xs → p x ≡ true → ⊥) → filter p xs ≡ []
-filter_none p [] f = refl
-filter_none p (x ∷ xs) f = rw (false_if (p x) (f x (inl refl))) (filter_none p xs (λ y h. f y (inr h)))
-
-filter_all : {K : Type 0} (p : K → Bool) (xs : List K) → ((x : K) → In x xs → p x ≡ true) → filter p xs ≡ xs
-filter_all p [] f = refl
-filter_all p (x ∷ xs) f = rw (f x (inl refl)) (ap (λ l. x ∷ l) (filter_all p xs (λ y h. f y (inr h))))
-
-filter_alike : {K : Type 0} (p q : K → Bool) (xs : List K) → ((x : K) → In x xs → p x ≡ q x)
-    → filter p xs ≡ filter q xs
-filter_alike p q [] f = refl
-filter_alike p q (x ∷ xs) f =
-    ap (λ b. cond b (x ∷ filter p xs) (filter p xs)) (f x (inl refl))
-    ∙ ap (λ l. cond (q x) (x ∷ l) l) (filter_alike p q xs (λ y h. f y (inr h)))
-
-lower_first : (m n : NoteParts) → m.offset < n.offset → note_cmp m n ≡ Less
-lower_first m n l = rw (lt-ltb m.offset n.offset l) refl
 
 contents_append : (xs ys : List NoteParts) → IsContent xs → IsContent ys
     → ((m n : NoteParts) → In m xs → In n ys → m.offset < n.offset) → IsContent (xs ++ ys)
@@ -52,7 +35,7 @@ contents_append [] ys r s f = s
 contents_append (x ∷ xs) ys r s f = (
   all_from_In (λ y. note_cmp x y ≡ Less) (xs ++ ys) (λ y h. elim ((In-append y xs ys).0 h) [
     | inl k ↦ all-In (λ z. note_cmp x z ≡ Less) xs y r.0 k
-    | inr k ↦ lower_first x y (f x y (inl refl) k)
+    | inr k ↦ less_by_offset x y (f x y (inl refl) k)
   ]),
   contents_append xs ys r.1 s (λ m n h k. f m n (inr h) k),
 )
@@ -136,7 +119,7 @@ module _ (b : ℕ) (own other : List NoteParts) (m : MeetAt b own other) where
   pub zone_below : (bytes : ℕ) → zone_of b bytes (clear_notes own) ≡ []
   zone_below bytes = filter_none (lies_in b bytes) (clear_notes own) (λ n h t.
       let e : end_of n ≤ b = m.ends n ((In-clear_notes n own).0 h).held in
-      let l : b ≤ n.offset = leb-true b n.offset (parts (nat_le b n.offset) (nat_le (end_of n) (b + bytes)) t).0 in
+      let l : b ≤ n.offset = leb-true b n.offset (and_parts (nat_le b n.offset) (nat_le (end_of n) (b + bytes)) t).0 in
       omega (arith, e, l))
 
   pub zone_of_both : (start bytes : ℕ) → zone_of start bytes (clear_notes (union_of own other))
@@ -156,14 +139,14 @@ module _ (b : ℕ) (own other : List NoteParts) (m : MeetAt b own other) where
       let low : b ≤ n.offset = m.begins n held in
       let within = (all-In IsNote other n m.other_is.members held).within in
       let high : end_of n ≤ b + 18446744073709551615 = omega (arith, within) in
-      both (nat_le b n.offset) (nat_le (end_of n) (b + 18446744073709551615)) (le-leb b n.offset low)
+      and_from (nat_le b n.offset) (nat_le (end_of n) (b + 18446744073709551615)) (le-leb b n.offset low)
       (le-leb (end_of n) (b + 18446744073709551615) high))
 
   pub no_bytes : (bytes : ℕ) → bytes ≡ 0 → zone_of b bytes (clear_notes other) ≡ []
   no_bytes bytes none = filter_none (lies_in b bytes) (clear_notes other) (λ n h t.
       let l : b ≤ n.offset = m.begins n ((In-clear_notes n other).0 h).held in
       let e : end_of n ≤ b + bytes =
-      leb-true (end_of n) (b + bytes) (parts (nat_le b n.offset) (nat_le (end_of n) (b + bytes)) t).1 in
+      leb-true (end_of n) (b + bytes) (and_parts (nat_le b n.offset) (nat_le (end_of n) (b + bytes)) t).1 in
       omega (arith, e, l, none))
 
   -- Of what is new the part of a zone that begins below the boundary is that from the boundary on.
@@ -177,13 +160,13 @@ module _ (b : ℕ) (own other : List NoteParts) (m : MeetAt b own other) where
       same_bool (lies_in start bytes n) (lies_in b rest n)
       (λ t.
       let e : end_of n ≤ start + bytes =
-      leb-true (end_of n) (start + bytes) (parts (nat_le start n.offset) (nat_le (end_of n) (start + bytes)) t).1 in
-      both (nat_le b n.offset) (nat_le (end_of n) (b + rest)) (le-leb b n.offset low)
+      leb-true (end_of n) (start + bytes) (and_parts (nat_le start n.offset) (nat_le (end_of n) (start + bytes)) t).1 in
+      and_from (nat_le b n.offset) (nat_le (end_of n) (b + rest)) (le-leb b n.offset low)
       (le-leb (end_of n) (b + rest) (omega (arith, e, l, low))))
       (λ t.
       let e : end_of n ≤ b + rest =
-      leb-true (end_of n) (b + rest) (parts (nat_le b n.offset) (nat_le (end_of n) (b + rest)) t).1 in
-      both (nat_le start n.offset) (nat_le (end_of n) (start + bytes)) (le-leb start n.offset from)
+      leb-true (end_of n) (b + rest) (and_parts (nat_le b n.offset) (nat_le (end_of n) (b + rest)) t).1 in
+      and_from (nat_le start n.offset) (nat_le (end_of n) (start + bytes)) (le-leb start n.offset from)
       (le-leb (end_of n) (start + bytes) (omega (arith, e, l, low)))))
 
   -- ---- where clear notes of a kind stand

@@ -9,7 +9,7 @@ use Rattle.mxf_catalogue.specs.Content.{IsCatalogue}
 use Rattle.mxf_views.specs.Kept.{is_placed, offsets_among, offsets_where}
 use Rattle.mxf_views.specs.KeptAbove.{clear_from}
 use Rattle.mxf_views.proofs.SumLaws.{all_from_none}
-use Rattle.mxf_views.proofs.Members.{count_by-cons}
+use Rattle.mxf_klv.proofs.Counts.{count_by-cons}
 
 -- What is there and what the notes left bring are the offsets before and those of all new notes, and there is room.
 pub record AreAppended (kind : Placed) (before now : Vec ℕ Global) (left new : List NoteParts) : Type 0 where

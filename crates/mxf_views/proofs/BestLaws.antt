@@ -2,12 +2,11 @@
 use Rattle.std.proofs.Common.{◌≡◌, ◌+◌, ◌<◌, ◌≤◌, ◌⊎◌, Bool, true, false, List, [], ◌∷◌, ◌++◌, Option, Some, None, refl}
 use Rattle.std.proofs.Common.{cond, append_assoc, append-nil, subst, ap, ◌∙◌, sym, inl, inr, arith, eqb-true, eq-eqb}
 use Rattle.std.specs.Prelude.{ℕ, ◌↔◌, ◌&&◌, ◌||◌, ◌==◌, nat_lt, is_some}
-use Rattle.std.proofs.lemmas.Bool.{ltb-true, ltb-false}
+use Rattle.std.proofs.lemmas.Bool.{ltb-true, ltb-false, and_from, and_parts}
 use Rattle.mxf_klv.specs.Rising.{In}
 use Rattle.mxf_views.specs.declared.copy.CopyInfo.{CopyInfo}
 use Rattle.mxf_views.specs.Copies.{best_of, better, preferred_of, is_candidate, is_above, standing, IsNotAbove, IsBest}
 use Rattle.mxf_views.specs.Copies.{IsCandidate, IsPreferred}
-use Rattle.mxf_views.proofs.Members.{both, parts}
 
 In-push : (d c : CopyInfo) (seen : List CopyInfo) → In d (seen ++ c ∷ []) → In d seen ⊎ (d ≡ c)
 In-push d c [] h = elim h [ inl e ↦ inr e | inr k ↦ absurd k ]
@@ -35,9 +34,9 @@ candidate_says c (Some s) e h one = record { start = s; begins = e; one = one }
 pub candidate_iff : (c : CopyInfo) → (is_candidate c ≡ true) ↔ IsCandidate c
 candidate_iff c = (
   λ h.
-      let p = parts (is_some c.start) (c.prefaces == 1) h in
+      let p = and_parts (is_some c.start) (c.prefaces == 1) h in
       candidate_says c c.start refl p.0 (eqb-true c.prefaces 1 p.1),
-  λ i. both (is_some c.start) (c.prefaces == 1) (ap (λ (o : Option ℕ). is_some o) i.begins)
+  λ i. and_from (is_some c.start) (c.prefaces == 1) (ap (λ (o : Option ℕ). is_some o) i.begins)
       (eq-eqb c.prefaces 1 i.one),
 )
 

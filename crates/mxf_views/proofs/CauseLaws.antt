@@ -4,7 +4,7 @@ use Rattle.std.proofs.Common.{Some}
 use Rattle.std.proofs.Common.{None, refl, sym, ap, ◌∙◌, inl, inr, arith, eqb-true, eq-eqb}
 use Rattle.std.specs.Prelude.{◌↔◌, ◌&&◌, ◌||◌, ◌==◌, nat_lt, not, is_some, filter, map}
 use Rattle.std.specs.Option.{option_map}
-use Rattle.std.proofs.lemmas.Bool.{ltb-false, ltb-true}
+use Rattle.std.proofs.lemmas.Bool.{ltb-false, ltb-true, or_cases, and_from, and_parts}
 use Rattle.mxf_klv.specs.declared.kinds.Status.{Status}
 use Rattle.mxf_klv.specs.declared.kinds.Status.TheVariants as statuses
 use Rattle.mxf_klv.specs.Parts.{NoteParts}
@@ -20,9 +20,7 @@ use Rattle.mxf_catalogue.specs.Content.{IsContent}
 use Rattle.mxf_catalogue.specs.Disputes.{DisputedParts, IsClear, IsDisputedOf, Overlaps, SharesOffset, clear_notes}
 use Rattle.mxf_catalogue.specs.Disputes.{disputed_notes, disputed_parts}
 use Rattle.mxf_catalogue.proofs.DisputeLaws.{In-clear_notes, In-disputed_notes, IsDisputed-two_ways}
-use Rattle.mxf_catalogue.proofs.DisputeLaws.{not-true-false, not_true}
 use Rattle.mxf_catalogue.proofs.DisputeLaws.{is_offset_shared-SharesOffset, is_overlapped-Overlaps}
-use Rattle.mxf_catalogue.proofs.Lists.{In-map, list_any-In}
 use Rattle.mxf_views.specs.declared.chain.Link.TheVariants as links
 use Rattle.mxf_views.specs.Partitions.{PartitionParts, is_footer, is_no_unreadable_pack, link_of, pack_of}
 use Rattle.mxf_views.specs.Partitions.{partition_at, partitions_of}
@@ -32,23 +30,13 @@ use Rattle.mxf_views.specs.Readings.{IsReadable}
 use Rattle.mxf_views.specs.FindingCauses.{AtClear, AtNote, AtPartition, IsGapStart, IsOpen}
 use Rattle.mxf_views.specs.FindingCauses.{IsUnlinked, LacksFooter}
 use Rattle.mxf_views.proofs.ChainLaws.{footer_says, kind_says, kind_tells}
-use Rattle.mxf_views.proofs.FindingMembers.{In-chosen}
 use Rattle.mxf_views.proofs.GapsLaws.{gaps_are}
-use Rattle.mxf_views.proofs.Members.{both, parts}
 use Rattle.mxf_views.proofs.PartitionLaws.{link_iff}
 use Rattle.mxf_views.proofs.ReadingLaws.{is_some_readable}
+use Rattle.mxf_klv.proofs.Lists.{In-map, list_any-In, In-chosen}
+use Rattle.mxf_klv.proofs.Tests.{either, is_some-map, not_equal, not-true-false, not_true}
 
 -- ---- tests
-
-pub one_of : (a b : Bool) → (a || b) ≡ true → (a ≡ true) ⊎ (b ≡ true)
-one_of true b h = inl refl
-one_of false b h = inr h
-
-pub either : (a b : Bool) → (a ≡ true) ⊎ (b ≡ true) → (a || b) ≡ true
-either true b h = refl
-either false true h = refl
-either false false (inl h) = absurd cc
-either false false (inr h) = absurd cc
 
 -- ---- disputes
 
@@ -169,10 +157,6 @@ gap_starts notes o content =
 
 -- ---- partition packs
 
-is_some-map : {A B : Type 0} (f : A → B) (o : Option A) → is_some (option_map f o) ≡ is_some o
-is_some-map f None = refl
-is_some-map f (Some x) = refl
-
 is_some-partition_at : (n : NoteParts) → is_some (partition_at n) ≡ is_some (pack_of n)
 unfolding partition_at
 is_some-partition_at n =
@@ -195,7 +179,7 @@ unreadable_pack n =
         ] refl),
         λ s. not-true-false (not told || there) h (either (not told) there (inr (e ∙ r.1 s))),
       ),
-      λ s. not_true (not told || there) (λ t. elim (one_of (not told) there t) [
+      λ s. not_true (not told || there) (λ t. elim (or_cases (not told) there t) [
         | inl u ↦ not-true-false told u (kind_tells (kind_of n.key) s.0)
         | inr u ↦ s.1 (r.0 (sym e ∙ u))
       ]),
@@ -230,9 +214,6 @@ at_partition p P notes o each =
       λ s. m.1 (s.0, s.1, (each s.0).1 s.3, s.2),
     )
 
-pub not_equal : (a b : ℕ) → (not (a == b) ≡ true) ↔ (a ≢ b)
-not_equal a b = (λ h e. not-true-false (a == b) h (eq-eqb a b e), λ h. not_true (a == b) (λ t. h (eqb-true a b t)))
-
 unlinked : (ps : List PartitionParts) (p : PartitionParts) → (is_unfit (link_of ps p) ≡ true) ↔ IsUnlinked ps p
 unlinked ps p = (
   λ h. elim (link_of ps p) as (λ l. link_of ps p ≡ l → is_unfit l ≡ true → IsUnlinked ps p) [
@@ -265,9 +246,9 @@ open_says s = (
 open_footer : (p : PartitionParts) → (is_open_footer p ≡ true) ↔ ((p.pack.part ≡ Footer) × IsOpen p.pack.status)
 open_footer p = (
   λ h.
-      let s = parts (is_footer p.pack.part) (is_open p.pack.status) h in
+      let s = and_parts (is_footer p.pack.part) (is_open p.pack.status) h in
       (footer_says p.pack.part s.0, (open_says p.pack.status).0 s.1),
-  λ s. both (is_footer p.pack.part) (is_open p.pack.status) (ap is_footer s.0) ((open_says p.pack.status).1 s.1),
+  λ s. and_from (is_footer p.pack.part) (is_open p.pack.status) (ap is_footer s.0) ((open_says p.pack.status).1 s.1),
 )
 
 footer_lacks : (ps : List PartitionParts) (p : PartitionParts) → (lacks_footer ps p ≡ true) ↔ LacksFooter ps p
@@ -276,15 +257,15 @@ footer_lacks ps p =
     let there = list_any-In (λ (q : PartitionParts). is_footer q.pack.part && q.offset == at) ps in
     let zero = not_equal at 0 in (
       λ h.
-          let s = parts (not (at == 0)) (not (footer_stands_at at ps)) h in
+          let s = and_parts (not (at == 0)) (not (footer_stands_at at ps)) h in
           record {
             named = zero.0 s.0;
             none = λ q k f e. not-true-false (footer_stands_at at ps) s.1
-                (there.1 (q, k, both (is_footer q.pack.part) (q.offset == at) (ap is_footer f) (eq-eqb q.offset at e)));
+                (there.1 (q, k, and_from (is_footer q.pack.part) (q.offset == at) (ap is_footer f) (eq-eqb q.offset at e)));
           },
-      λ l. both (not (at == 0)) (not (footer_stands_at at ps)) (zero.1 l.named) (not_true (footer_stands_at at ps) (λ t.
+      λ l. and_from (not (at == 0)) (not (footer_stands_at at ps)) (zero.1 l.named) (not_true (footer_stands_at at ps) (λ t.
           let s = there.0 t in
-          let b = parts (is_footer s.0.pack.part) (s.0.offset == at) s.2 in
+          let b = and_parts (is_footer s.0.pack.part) (s.0.offset == at) s.2 in
           l.none s.0 s.1 (footer_says s.0.pack.part b.0) (eqb-true s.0.offset at b.1))),
     )
 

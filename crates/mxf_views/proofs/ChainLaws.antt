@@ -3,7 +3,7 @@ use Rattle.std.proofs.Common.{◌≡◌, ◌<◌, ◌≤◌, Bool, true, false, 
 use Rattle.std.proofs.Common.{None, refl, sym, ap, subst, ◌∙◌, inl, inr, arith, eqb-true, eq-eqb}
 use Rattle.std.specs.Prelude.{◌↔◌, ◌&&◌, ◌||◌, ◌==◌, nat_lt, not, if◌then◌else◌, is_some, count_by}
 use Rattle.std.specs.List.{list_all}
-use Rattle.std.proofs.lemmas.Bool.{ltb-true, ltb-false}
+use Rattle.std.proofs.lemmas.Bool.{ltb-true, ltb-false, and_from, false_from_ne_true, and_parts}
 use Rattle.mxf_klv.specs.Parts.{NoteParts}
 use Rattle.mxf_klv.specs.Kind.{kind_of}
 use Rattle.mxf_klv.specs.Rising.{In}
@@ -16,7 +16,6 @@ use Rattle.mxf_sets.specs.PackReadings.{part_and_status}
 use Rattle.mxf_catalogue.specs.Content.{IsContent}
 use Rattle.mxf_catalogue.specs.Disputes.{IsClear, SharesByte, clear_notes}
 use Rattle.mxf_catalogue.proofs.DisputeLaws.{In-clear_notes}
-use Rattle.mxf_catalogue.proofs.Lists.{list_any-In}
 use Rattle.mxf_views.specs.declared.chain.Link.{Link}
 use Rattle.mxf_views.specs.declared.chain.Link.TheVariants.{First, Held, Skips, Missing, Wrong}
 use Rattle.mxf_views.specs.declared.chain.Chain.TheVariants.{Whole, Broken}
@@ -24,10 +23,11 @@ use Rattle.mxf_views.specs.Partitions.{PartitionParts, AreInOrder, StandsAt, IsL
 use Rattle.mxf_views.specs.Partitions.{is_first, is_footer, is_greatest, is_header, is_held, is_linked}
 use Rattle.mxf_views.specs.Partitions.{is_no_unreadable_pack, hang_together, link_of, partition_at, partitions_of}
 use Rattle.mxf_views.specs.Partitions.{stands_above}
-use Rattle.mxf_views.proofs.Members.{In-filter_map, all-each, both, count_by-cons, count-none, count-one, false_if}
-use Rattle.mxf_views.proofs.Members.{In-list_all, list_all-In, parts, tally}
 use Rattle.mxf_views.proofs.PartitionLaws.{link_iff, offset-partition_at, partitions_rise}
 use Rattle.mxf_views.proofs.StartLaws.{clear_same}
+use Rattle.mxf_klv.proofs.Counts.{count_by-cons, count-none, count-one, tally}
+use Rattle.mxf_klv.proofs.Lists.{list_any-In, In-filter_map, all-In, In-list_all, list_all-In}
+use Rattle.mxf_klv.proofs.Tests.{some_is}
 
 header_says : (part : PackPart) → is_header part ≡ true → part ≡ Header
 header_says Header h = refl
@@ -91,7 +91,7 @@ one-count p (y ∷ ps) x r h t only =
           let same : y ≡ x = only y (inl refl) u in
           let one : tally (p y) ≡ 1 = ap tally u in
           let none : count_by p ps ≡ 0 = count-none p ps (λ z k v.
-          let l : y.offset < z.offset = all-each (λ q. y.offset < q.offset) ps z r.0 k in
+          let l : y.offset < z.offset = all-In (λ q. y.offset < q.offset) ps z r.0 k in
           let e = ap (λ (q : PartitionParts). q.offset) (only z (inr k) v ∙ sym same) in
           omega (arith, l, e)) in
           omega (arith, c, one, none)
@@ -114,7 +114,7 @@ greatest_says ps p g q h =
 greatest_is : (ps : List PartitionParts) (p : PartitionParts) → ((q : PartitionParts) → In q ps → q.offset ≤ p.offset)
     → is_greatest ps p ≡ true
 greatest_is ps p f =
-    ap not (false_if (stands_above p.offset ps) (λ t.
+    ap not (false_from_ne_true (stands_above p.offset ps) (λ t.
     let s = (list_any-In (λ x. nat_lt p.offset x.offset) ps).0 t in
     let l : p.offset < s.0.offset = ltb-true p.offset s.0.offset s.2 in
     let m : s.0.offset ≤ p.offset = f s.0 s.1 in
@@ -160,10 +160,6 @@ from_only ps is part p says own r o = one-count (λ p. is p.pack.part) ps p r o.
 
 abbrev readable_by : Bool → Bool → Bool
 readable_by pack read = not pack || read
-
-some_is : {K : Type 0} (o : Option K) → is_some o ≡ true → (x : K) × (o ≡ Some x)
-some_is None h = absurd cc
-some_is (Some x) h = (x, refl)
 
 stands_there : (notes : List NoteParts) (n : NoteParts) → IsClear n notes → IsPartitionKind (kind_of n.key)
     → is_no_unreadable_pack n ≡ true → StandsAt (partitions_of notes) n.offset
@@ -221,10 +217,10 @@ whole_says notes w =
     let linked = list_all (is_linked ps) ps in
     let ends = list_all (λ p. not (is_footer p.pack.part) || is_greatest ps p) ps in
     let readable = list_all is_no_unreadable_pack (clear_notes notes) in
-    let w4 = parts ((headers == 1) && (footers == 1) && linked && ends) readable w in
-    let w3 = parts ((headers == 1) && (footers == 1) && linked) ends w4.0 in
-    let w2 = parts ((headers == 1) && (footers == 1)) linked w3.0 in
-    let w1 = parts (headers == 1) (footers == 1) w2.0 in
+    let w4 = and_parts ((headers == 1) && (footers == 1) && linked && ends) readable w in
+    let w3 = and_parts ((headers == 1) && (footers == 1) && linked) ends w4.0 in
+    let w2 = and_parts ((headers == 1) && (footers == 1)) linked w3.0 in
+    let w1 = and_parts (headers == 1) (footers == 1) w2.0 in
     let h = only_from ps is_header Header header_says refl (eqb-true headers 1 w1.0) in
     let f = only_from ps is_footer Footer footer_says refl (eqb-true footers 1 w1.1) in
     let first = first_link ps h.0 (ap is_header h.1.part) (list_all-In (is_linked ps) ps h.0 w2.1 h.1.held) in
@@ -238,7 +234,7 @@ whole_says notes w =
       footer = f.0;
       one_footer = f.1;
       greatest = greatest_says ps f.0 g;
-      held = λ p k ne. held_link ps p (false_if (is_header p.pack.part) (λ t. ne (header_is ps h.0 p h.1 k t)))
+      held = λ p k ne. held_link ps p (false_from_ne_true (is_header p.pack.part) (λ t. ne (header_is ps h.0 p h.1 k t)))
           (list_all-In (is_linked ps) ps p w2.1 k);
       readable = λ n k kind. stands_there notes n k kind
           (list_all-In is_no_unreadable_pack (clear_notes notes) n w4.1 ((In-clear_notes n notes).1 k));
@@ -273,9 +269,9 @@ hang_together_from notes r w =
     ] refl) in
     let e : readable ≡ true = In-list_all is_no_unreadable_pack (clear_notes notes)
     (λ n h. let k = (In-clear_notes n notes).0 h in no_unreadable notes n k (w.readable n k)) in
-    both ((headers == 1) && (footers == 1) && linked && ends) readable
-    (both ((headers == 1) && (footers == 1) && linked) ends
-    (both ((headers == 1) && (footers == 1)) linked (both (headers == 1) (footers == 1) a b) c) d) e
+    and_from ((headers == 1) && (footers == 1) && linked && ends) readable
+    (and_from ((headers == 1) && (footers == 1) && linked) ends
+    (and_from ((headers == 1) && (footers == 1)) linked (and_from (headers == 1) (footers == 1) a b) c) d) e
 
 -- The chain is whole exactly where the partitions hang together.
 pub chain_iff : (notes : List NoteParts) → IsContent notes → (chain_of notes ≡ Whole) ↔ HangTogether notes

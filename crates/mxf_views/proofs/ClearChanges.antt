@@ -5,7 +5,7 @@ use Rattle.std.specs.declared.cmp.Ordering.TheVariants.{Less}
 use Rattle.std.specs.Prelude.{◌↔◌, ◌||◌, cond, ◌==◌, nat_le, nat_lt, filter, find, map, max, min}
 use Rattle.std.specs.FinSet.{nat_cmp-IsAntisymmetric}
 use Rattle.std.specs.Ordering.{nat_cmp}
-use Rattle.std.proofs.lemmas.Bool.{ltb-true, lt-ltb, ltb-false}
+use Rattle.std.proofs.lemmas.Bool.{ltb-true, lt-ltb, ltb-false, and_from}
 use Rattle.std.proofs.lemmas.Cmp.{nat_cmp_total}
 use Rattle.mxf_klv.specs.Parts.{NoteParts}
 use Rattle.mxf_klv.specs.Note.{end_of, head_note}
@@ -14,19 +14,19 @@ use Rattle.mxf_catalogue.specs.Content.{AreReduced, IsContent, has_note, reduced
 use Rattle.mxf_catalogue.specs.Disputes.{IsClear, SharesByte, clear_notes}
 use Rattle.mxf_catalogue.proofs.HeadLaws.{In-reduced_with, IsContent-reduced_with, same_note}
 use Rattle.mxf_catalogue.proofs.DisputeLaws.{In-clear_notes, clear-alone, clear_at-found, is_byte_shared-SharesByte, SharesByte-symmetric}
-use Rattle.mxf_catalogue.proofs.Lists.{In-filter, In-map, all-filter, found-In, none_found}
 use Rattle.mxf_catalogue.specs.NoteLists.{touching}
 use Rattle.mxf_catalogue.proofs.MovedLaws.{rising_apart}
 use Rattle.mxf_catalogue.proofs.PartLaws.{In-touching, with_whole}
 use Rattle.mxf_catalogue.proofs.SpanLaws.{AreApart-clear_notes, AreApart-filter}
 use Rattle.mxf_views.specs.Kept.{IsHull, followed, is_outside, notes_at, offsets_where, passes, stands_clear}
-use Rattle.mxf_views.proofs.Members.{both}
 use Rattle.mxf_views.proofs.StartLaws.{clear_same}
+use Rattle.mxf_klv.proofs.Lists.{In-filter, In-map, all-filter, found-In, none_found}
+use Rattle.mxf_catalogue.specs.ReducedLaws.{rising-filter}
 
 -- ---- which notes are clear
 
 shares : (m n : NoteParts) → m.offset < end_of n → n.offset < end_of m → SharesByte m n
-shares m n l h = (is_byte_shared-SharesByte m n).0 (both _ _ (lt-ltb m.offset (end_of n) l) (lt-ltb n.offset (end_of m) h))
+shares m n l h = (is_byte_shared-SharesByte m n).0 (and_from _ _ (lt-ltb m.offset (end_of n) l) (lt-ltb n.offset (end_of m) h))
 
 shared_low : (m n : NoteParts) → SharesByte m n → m.offset < end_of n
 shared_low m n s = let a : m.offset ≤ s.0 = s.1.from in let b : s.0 + 1 ≤ end_of n = s.2.before in omega arith
@@ -258,14 +258,6 @@ offsets_rise test notes r =
     rising_apart 0 (filter test (clear_notes notes))
     (AreApart-filter test 0 (clear_notes notes) (AreApart-clear_notes notes r))
 
-pub rising-filter : (p : ℕ → Bool) (xs : List ℕ) → IsRising nat_cmp xs → IsRising nat_cmp (filter p xs)
-rising-filter p [] r = tt
-rising-filter p (x ∷ xs) r =
-    elim (p x) as (λ b. IsRising nat_cmp (cond b (x ∷ filter p xs) (filter p xs))) [
-      | true ↦ (all-filter (λ y. nat_cmp x y ≡ Less) p xs r.0, rising-filter p xs r.1)
-      | false ↦ rising-filter p xs r.1
-    ]
-
 -- Where the new note is clear and of the kind, its offset joins those outside.
 pub offsets_with : (test : NoteParts → Bool) (x : NoteParts) (notes : List NoteParts) (start end : ℕ)
     → IsContent notes → IsNew x notes → IsHull x notes start end → IsClear x (reduced_with x notes)
@@ -274,7 +266,7 @@ pub offsets_with : (test : NoteParts → Bool) (x : NoteParts) (notes : List Not
     ≡ offsets_where test (reduced_with x notes)
 offsets_with test x notes start end r new h clear kind =
     let before = filter (is_outside start end) (offsets_where test notes) in
-    let rising = rising-filter (is_outside start end) (offsets_where test notes) (offsets_rise test notes r) in
+    let rising = rising-filter nat_cmp (is_outside start end) (offsets_where test notes) (offsets_rise test notes r) in
     same_from_members nat_cmp_total nat_cmp-IsAntisymmetric (with_one nat_cmp x.offset before)
     (offsets_where test (reduced_with x notes))
     (IsRising-with_one nat_cmp_total nat_cmp-IsAntisymmetric x.offset before rising)
@@ -310,7 +302,7 @@ pub offsets_without : (test : NoteParts → Bool) (x : NoteParts) (notes : List 
 offsets_without test x notes start end r new h none =
     let before = filter (is_outside start end) (offsets_where test notes) in
     same_from_members nat_cmp_total nat_cmp-IsAntisymmetric before (offsets_where test (reduced_with x notes))
-    (rising-filter (is_outside start end) (offsets_where test notes) (offsets_rise test notes r))
+    (rising-filter nat_cmp (is_outside start end) (offsets_where test notes) (offsets_rise test notes r))
     (offsets_rise test (reduced_with x notes) (IsContent-reduced_with x notes r)) (λ o.
     let kept = In-filter (is_outside start end) (offsets_where test notes) o in
     let old = In-offsets test notes o in

@@ -9,15 +9,15 @@ use Rattle.mxf_catalogue.specs.Content.{IsContent, reduced_with}
 use Rattle.mxf_catalogue.specs.Disputes.{IsClear, SharesByte, clear_notes, lies_in}
 use Rattle.mxf_catalogue.proofs.ContentLaws.{same_content}
 use Rattle.mxf_catalogue.proofs.DisputeLaws.{In-clear_notes, IsContent-clear_notes, IsContent-filter}
-use Rattle.mxf_catalogue.proofs.Lists.{In-filter}
 use Rattle.mxf_views.specs.Partitions.{PartitionParts}
 use Rattle.mxf_views.specs.Copies.{IsStart, copy_from, copy_of, is_fill_note, is_preface_note}
 use Rattle.mxf_views.specs.Copies.{is_readable_primer, start_of, zone_of}
 use Rattle.mxf_views.specs.Spans.{sizes}
-use Rattle.mxf_views.proofs.Members.{parts}
 use Rattle.mxf_views.proofs.StartLaws.{fill_note, primer_note, start_is}
 use Rattle.mxf_views.proofs.ClearChanges.{IsNew, clear_after}
 use Rattle.mxf_views.proofs.StartWalk.{none_there}
+use Rattle.mxf_klv.proofs.Lists.{In-filter}
+use Rattle.std.proofs.lemmas.Bool.{and_parts}
 
 -- The clear notes that have a byte from one offset up to another are the same among both.
 abbrev pub SameClear : ℕ → ℕ → List NoteParts → List NoteParts → Type 0
@@ -63,7 +63,7 @@ zone_stays before after low high start bytes r s same l h =
     let a = In-zone start bytes n after in
     let b = In-zone start bytes n before in
     let one = λ (t : lies_in start bytes n ≡ true).
-    let p = parts _ _ t in
+    let p = and_parts _ _ t in
     let from : start ≤ n.offset = leb-true start n.offset p.0 in
     let to : end_of n ≤ start + bytes = leb-true (end_of n) (start + bytes) p.1 in
     same n (omega arith) (omega arith) in

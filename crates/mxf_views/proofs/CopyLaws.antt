@@ -3,7 +3,7 @@ use Rattle.std.proofs.Common.{◌≡◌, ℕ, suc, ◌+◌, ◌<◌, ◌≤◌, 
 use Rattle.std.proofs.Common.{length, inl, inr, refl, sym, ap, subst, ◌∙◌, arith, eqb-true, eq-eqb, leb-true, le-leb}
 use Rattle.std.specs.Prelude.{◌↔◌, ◌==◌, nat_le, IsTrue, count_by, filter, find, map}
 use Rattle.std.specs.List.{range_with_len, AllByRecursion}
-use Rattle.std.proofs.lemmas.Bool.{ltb-true, lt-ltb}
+use Rattle.std.proofs.lemmas.Bool.{ltb-true, lt-ltb, and_from, and_parts}
 use Rattle.std.proofs.lemmas.List.Sums.{length-filter}
 use Rattle.mxf_klv.specs.Parts.{NoteParts}
 use Rattle.mxf_klv.specs.Note.{end_of}
@@ -12,9 +12,8 @@ use Rattle.mxf_klv.specs.declared.kinds.Kind.TheVariants as kinds
 use Rattle.mxf_klv.specs.Rising.{In}
 use Rattle.mxf_catalogue.specs.Content.{IsContent}
 use Rattle.mxf_catalogue.specs.Disputes.{AreApart, IsClear, clear_notes}
-use Rattle.mxf_catalogue.proofs.DisputeLaws.{In-clear_notes, same_bool}
+use Rattle.mxf_catalogue.proofs.DisputeLaws.{In-clear_notes}
 use Rattle.mxf_catalogue.proofs.SpanLaws.{AreApart-clear_notes, AreApart-filter}
-use Rattle.mxf_catalogue.proofs.Lists.{In-filter, In-map, found-In, none_found}
 use Rattle.mxf_views.specs.declared.copy.CopyInfo.{CopyInfo}
 use Rattle.mxf_views.specs.Partitions.{AreInOrder, PartitionParts, partitions_of}
 use Rattle.mxf_views.specs.Copies.{AreSoMany, CountsZone, IsCopy, IsCopyOf, IsPrefaceIn, IsSetKind, IsSetOf}
@@ -24,10 +23,14 @@ use Rattle.mxf_views.specs.Copies.{CopiesRise, sets_found, sets_from, sets_in, s
 use Rattle.mxf_views.specs.Spans.{is_in_one}
 use Rattle.mxf_catalogue.specs.Disputes.{lies_in}
 use Rattle.mxf_views.proofs.KindLaws.{preface_kind, set_kind}
-use Rattle.mxf_views.proofs.Members.{both, parts}
 use Rattle.mxf_views.proofs.PartitionLaws.{one_there, partitions_rise}
 use Rattle.mxf_views.proofs.SpanCounts.{zone-count}
 use Rattle.mxf_views.proofs.StartLaws.{one_start, start_is}
+use Rattle.mxf_catalogue.proofs.ApartLaws.{begins_above}
+use Rattle.mxf_klv.proofs.Lists.{In-filter, In-map, found-In, none_found}
+use Rattle.mxf_klv.proofs.Tests.{equals_itself, same_bool}
+use Rattle.mxf_klv.proofs.RisingBy.{rises-map, rises-filter}
+use Rattle.mxf_views.proofs.Rising.{by_offset, by_partition}
 
 -- ---- Prefaces
 
@@ -47,11 +50,11 @@ In-zone notes start bytes n =
     let g = In-filter (lies_in start bytes) clear n in (
       λ h.
           let z = g.0 h in
-          let l = parts (nat_le start n.offset) (nat_le (end_of n) (start + bytes)) z.1 in
+          let l = and_parts (nat_le start n.offset) (nat_le (end_of n) (start + bytes)) z.1 in
           ((In-clear_notes n notes).0 z.0, leb-true start n.offset l.0, leb-true (end_of n) (start + bytes) l.1),
       λ s. g.1 (
         (In-clear_notes n notes).1 s.0,
-        both (nat_le start n.offset) (nat_le (end_of n) (start + bytes))
+        and_from (nat_le start n.offset) (nat_le (end_of n) (start + bytes))
             (le-leb start n.offset s.1) (le-leb (end_of n) (start + bytes) s.2),
       ),
     )
@@ -80,21 +83,10 @@ prefaces_are notes start bytes r =
       number = length-filter is_preface_note zone;
     }
 
-pub apart_above : (low : ℕ) (ns : List NoteParts) (n : NoteParts) → AreApart low ns → In n ns → low ≤ n.offset
-apart_above low [] n a h = absurd h
-apart_above low (x ∷ ns) n a (inl e) =
-    let l : low ≤ x.offset = a.0 in
-    let o = ap (λ (y : NoteParts). y.offset) e in
-    omega (arith, l, o)
-apart_above low (x ∷ ns) n a (inr h) =
-    let l : low ≤ x.offset = a.0 in
-    let k : end_of x ≤ n.offset = apart_above (end_of x) ns n a.1 h in
-    omega arith
-
 -- the rest of a list apart lacks its first
 first_once : (low : ℕ) (x : NoteParts) (ns : List NoteParts) → AreApart low (x ∷ ns) → In x ns → ⊥
 first_once low x ns a h =
-    let k : end_of x ≤ x.offset = apart_above (end_of x) ns x a.1 h in
+    let k : end_of x ≤ x.offset = begins_above (end_of x) ns x a.1 h in
     omega arith
 
 -- the firsts of two lists apart with the same members are one
@@ -103,8 +95,8 @@ same_first : (low : ℕ) (x y : NoteParts) (xs ys : List NoteParts) → AreApart
 same_first low x y xs ys a b (inl e) k = e
 same_first low x y xs ys a b (inr h) (inl e) = sym e
 same_first low x y xs ys a b (inr h) (inr k) =
-    let m : end_of y ≤ x.offset = apart_above (end_of y) ys x b.1 h in
-    let n : end_of x ≤ y.offset = apart_above (end_of x) xs y a.1 k in
+    let m : end_of y ≤ x.offset = begins_above (end_of y) ys x b.1 h in
+    let n : end_of x ≤ y.offset = begins_above (end_of x) xs y a.1 k in
     absurd (omega arith)
 
 -- what is behind the first
@@ -139,9 +131,6 @@ one_number a b IsSuch p q =
     sym p.number ∙ e ∙ q.number
 
 -- ---- one copy of a partition
-
-equals_itself : (a b : ℕ) → IsTrue (a == b) ↔ (a ≡ b)
-equals_itself a b = (eqb-true a b, eq-eqb a b)
 
 copy_is : (notes : List NoteParts) (p : PartitionParts) → IsContent notes → has_metadata p ≡ true
     → IsCopyOf notes p (copy_of (clear_notes notes) p)
@@ -321,33 +310,11 @@ copy_there notes p = elim (start_of p.end notes) as (λ o. (copy_from notes p o)
   | Some start ↦ refl
 ]
 
-copies_above : (low : ℕ) (notes : List NoteParts) (ps : List PartitionParts) → AllByRecursion (λ q. low < q.offset) ps
-    → AllByRecursion (λ d. low < d.partition) (map (copy_of notes) (filter has_metadata ps))
-copies_above low notes [] h = tt
-copies_above low notes (p ∷ ps) h =
-    let ih = copies_above low notes ps h.1 in
-    elim (has_metadata p) as (λ b. AllByRecursion (λ d. low < d.partition)
-    (map (copy_of notes) (cond b (p ∷ filter has_metadata ps) (filter has_metadata ps)))) [
-      | true ↦ (subst (λ k. low < k) (sym (copy_there notes p)) h.0, ih)
-      | false ↦ ih
-    ]
-
-copies_in_order : (notes : List NoteParts) (ps : List PartitionParts) → AreInOrder ps
-    → CopiesRise (map (copy_of notes) (filter has_metadata ps))
-copies_in_order notes [] h = tt
-copies_in_order notes (p ∷ ps) h =
-    let ih = copies_in_order notes ps h.1 in
-    let later = map (copy_of notes) (filter has_metadata ps) in
-    elim (has_metadata p) as (λ b. CopiesRise
-    (map (copy_of notes) (cond b (p ∷ filter has_metadata ps) (filter has_metadata ps)))) [
-      | true ↦ (
-        subst (λ k. AllByRecursion (λ d. k < d.partition) later) (sym (copy_there notes p))
-            (copies_above p.offset notes ps h.0),
-        ih,
-      )
-      | false ↦ ih
-    ]
-
 pub copies_rise : (notes : List NoteParts) → IsContent notes → CopiesRise (copies_of notes)
 unfolding copies_of
-copies_rise notes h = copies_in_order (clear_notes notes) (partitions_of notes) (partitions_rise notes h)
+copies_rise notes h =
+    let ps = partitions_of notes in
+    let copy = copy_of (clear_notes notes) in
+    (by_partition _).1 (rises-map (λ p. p.offset) copy (λ c. c.partition) (filter has_metadata ps)
+    (λ p k. copy_there (clear_notes notes) p)
+    (rises-filter (λ p. p.offset) has_metadata ps ((by_offset ps).0 (partitions_rise notes h))))

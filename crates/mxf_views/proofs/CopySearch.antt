@@ -9,32 +9,22 @@ use Rattle.std.proofs.lemmas.Bool.{cases_order}
 use Rattle.std.proofs.lemmas.Bool.Decides.{nat_tests}
 use Rattle.std.proofs.lemmas.Cmp.{ranked}
 use Rattle.mxf_klv.specs.Rising.{In}
-use Rattle.mxf_catalogue.proofs.Lists.{find-none, find-only}
-use Rattle.mxf_catalogue.proofs.Places.{Contains-from_In, In-at}
 use Rattle.mxf_views.specs.declared.copy.CopyInfo.{CopyInfo}
 use Rattle.mxf_views.specs.Copies.{CopiesRise}
-use Rattle.mxf_views.proofs.CopyUpdates.{low_in, partitions_of_copies_rise}
+use Rattle.mxf_klv.proofs.Lists.{find-none, find-only, Contains-from_In, In-at}
+use Rattle.mxf_klv.proofs.RisingBy.{one_by_key}
+use Rattle.mxf_views.proofs.Rising.{by_partition, partitions_never_fall}
 
 comparisons_rise : (p : ℕ) (cs : List CopyInfo) → CopiesRise cs
     → IsNonDecreasingBy (λ c. ordering_index (nat_cmp c.partition p)) cs
 comparisons_rise p cs r i j d l h =
-    let m : (get_or cs i d).partition ≤ (get_or cs j d).partition = partitions_of_copies_rise cs r i j d l h in
+    let m : (get_or cs i d).partition ≤ (get_or cs j d).partition = partitions_never_fall cs r i j d l h in
     grind (arith, nat_tests)
 
 -- Copies of one partition are one.
 pub one_in_rising : (cs : List CopyInfo) (c d : CopyInfo) → CopiesRise cs → In c cs → In d cs
     → c.partition ≡ d.partition → c ≡ d
-one_in_rising [] c d r h k e = absurd h
-one_in_rising (x ∷ cs) c d r (inl e) (inl f) same = e ∙ sym f
-one_in_rising (x ∷ cs) c d r (inl e) (inr k) same =
-    let l : x.partition < d.partition = low_in x.partition cs d r.0 k in
-    let at : c.partition ≡ x.partition = ap (λ (y : CopyInfo). y.partition) e in
-    absurd (omega (arith, l, at, same))
-one_in_rising (x ∷ cs) c d r (inr h) (inl f) same =
-    let l : x.partition < c.partition = low_in x.partition cs c r.0 h in
-    let at : d.partition ≡ x.partition = ap (λ (y : CopyInfo). y.partition) f in
-    absurd (omega (arith, l, at, same))
-one_in_rising (x ∷ cs) c d r (inr h) (inr k) same = one_in_rising cs c d r.1 h k same
+one_in_rising cs c d r = one_by_key (λ (x : CopyInfo). x.partition) cs c d ((by_partition cs).0 r)
 
 -- The copy at the place that a search finds.
 pub copy_searched : (p : ℕ) (cs : List CopyInfo) (i : ℕ) (d : CopyInfo) → CopiesRise cs → i < length cs

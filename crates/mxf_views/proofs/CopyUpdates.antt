@@ -5,7 +5,7 @@ use Rattle.std.specs.Prelude.{◌↔◌, ◌&&◌, ◌||◌, ◌==◌, nat_lt, f
 use Rattle.std.specs.List.{AllByRecursion, AllWithin, cons_option, filter_map, insert}
 use Rattle.std.specs.List.Sorted.{IsNonDecreasingBy}
 use Rattle.std.specs.Option.{option_and_then, option_map}
-use Rattle.std.proofs.lemmas.Bool.{ltb-true, lt-ltb, ltb-false}
+use Rattle.std.proofs.lemmas.Bool.{ltb-true, lt-ltb, ltb-false, and_cases, false_from_ne_true, and_parts}
 use Rattle.mxf_klv.specs.Parts.{NoteParts}
 use Rattle.mxf_klv.specs.Kind.{kind_of}
 use Rattle.mxf_klv.specs.Note.{end_of}
@@ -14,9 +14,6 @@ use Rattle.mxf_catalogue.specs.Content.{IsContent, reduced_with}
 use Rattle.mxf_catalogue.specs.Disputes.{IsClear, SharesByte, clear_notes}
 use Rattle.mxf_catalogue.proofs.HeadLaws.{IsContent-reduced_with}
 use Rattle.mxf_catalogue.proofs.DisputeLaws.{In-clear_notes, SharesByte-same_offset, clear-alone}
-use Rattle.mxf_catalogue.proofs.Lists.{In-filter, In-map, all-filter, find-only, found-In, none_found}
-use Rattle.mxf_catalogue.proofs.Places.{In-at}
-use Rattle.mxf_catalogue.proofs.Ranges.{by_places}
 use Rattle.mxf_views.specs.declared.copy.CopyInfo.{CopyInfo}
 use Rattle.mxf_views.specs.Copies.{CopiesRise, copies_of, copy_from, copy_of, has_metadata, is_fill, is_fill_note}
 use Rattle.mxf_views.specs.Copies.{is_primer, is_readable_primer, start_of}
@@ -25,9 +22,13 @@ use Rattle.mxf_views.specs.Partitions.{PartitionParts, pack_of, partition_at, pa
 use Rattle.mxf_views.proofs.ClearChanges.{In-with_new, IsNew, clear_after, new_is_none, no_head, outside_iff}
 use Rattle.mxf_views.proofs.CopyChanges.{copy_stays, no_copy_stays, same_clear}
 use Rattle.mxf_views.proofs.CopyLaws.{copies_rise, copy_there}
-use Rattle.mxf_views.proofs.Members.{all-each, each-all, false_if, parts}
 use Rattle.mxf_views.proofs.PartitionLaws.{offset-partition_at}
 use Rattle.mxf_views.proofs.PartitionSearch.{copy_found, has_copy, is_there, of_note, of_partition, one_partition}
+use Rattle.mxf_klv.proofs.Lists.{In-filter, In-map, all-filter, find-only, found-In, none_found, In-at, all-In}
+use Rattle.mxf_klv.proofs.Lists.{all_from_In}
+use Rattle.mxf_klv.proofs.Tests.{by_places}
+use Rattle.mxf_klv.proofs.RisingBy.{rises-map, rises-filter, same_by_members}
+use Rattle.mxf_views.proofs.Rising.{by_partition}
 
 -- ---- what a copy says of its partition
 
@@ -102,7 +103,7 @@ brings_by_fill x e = rw e refl
 brings_by_primer : (x : NoteParts) → is_readable_primer x ≡ true → can_bring_start x ≡ true
 unfolding can_bring_start is_readable_primer
 brings_by_primer x e =
-    let k : is_primer (kind_of x.key) ≡ true = (parts _ _ e).0 in
+    let k : is_primer (kind_of x.key) ≡ true = (and_parts _ _ e).0 in
     elim (is_fill (kind_of x.key)) as (λ b. (b || is_primer (kind_of x.key)) ≡ true) [
       | true ↦ refl
       | false ↦ k
@@ -126,11 +127,6 @@ without_start_stays x notes p r new none s =
 
 pub or_of : (c d : CopyInfo) (o : Option CopyInfo) → o ≡ Some d → or_itself c o ≡ d
 or_of c d o e = ap (or_itself c) e
-
-not_both : (a b : Bool) → (a && b) ≡ false → (a ≡ false) ⊎ (b ≡ false)
-not_both true true e = absurd cc
-not_both true false e = inr refl
-not_both false b e = inl refl
 
 -- What a copy outside becomes is the copy of its partition, which is still there.
 pub record Becomes (notes after : List NoteParts) (c d : CopyInfo) : Type 0 where
@@ -181,7 +177,7 @@ becomes x notes start end c r new h k out =
                 → copy_of (clear_notes after) p ≡ copy_of (clear_notes notes) p) [
                   | None ↦ λ s f. without_start_stays x notes p r new f (sym start_is ∙ s)
                   | Some zone ↦ λ s f. with_start_stays x notes start end zone p r new h a.there some (sym start_is ∙ s)
-                      (elim (not_both (nat_lt c.partition end) (nat_lt (start - zone) c.bytes) f) [
+                      (elim (and_cases (nat_lt c.partition end) (nat_lt (start - zone) c.bytes) f) [
                         | inl g ↦ (let l : end ≤ c.partition = ltb-false c.partition end g in let o = a.offset in inl
                             (subst (λ z. end ≤ z) o l))
                         | inr g ↦ (let l : c.bytes ≤ start - zone = ltb-false (start - zone) c.bytes g in inr
@@ -193,62 +189,10 @@ becomes x notes start end c r new h k out =
 
 -- ---- lists of copies that rise
 
-pub low_in : (low : ℕ) (cs : List CopyInfo) (c : CopyInfo) → AllByRecursion (λ d. low < d.partition) cs → In c cs
-    → low < c.partition
-low_in low cs c a h = all-each (λ (d : CopyInfo). low < d.partition) cs c a h
-
 -- Copies that rise are one list where they are the same.
 pub same_copies : (cs ds : List CopyInfo) → CopiesRise cs → CopiesRise ds → SameMembers cs ds → cs ≡ ds
-same_copies [] [] r s m = refl
-same_copies [] (d ∷ ds) r s m = absurd ((m d).1 (inl refl))
-same_copies (c ∷ cs) [] r s m = absurd ((m c).0 (inl refl))
-same_copies (c ∷ cs) (d ∷ ds) r s m =
-    let same : c ≡ d = elim ((m c).0 (inl refl)) [
-      | inl e ↦ e
-      | inr h ↦ elim ((m d).1 (inl refl)) [
-        | inl e ↦ sym e
-        | inr k ↦ (
-            let a : d.partition < c.partition = low_in d.partition ds c s.0 h in
-            let b : c.partition < d.partition = low_in c.partition cs d r.0 k in absurd (omega (arith, a, b)))
-      ]
-    ] in
-    let at : c.partition ≡ d.partition = ap (λ (x : CopyInfo). x.partition) same in
-    let tails : SameMembers cs ds = λ x. (
-      λ h. elim ((m x).0 (inr h)) [
-        | inl e ↦ (
-            let a : c.partition < x.partition = low_in c.partition cs x r.0 h in
-            let b : x.partition ≡ d.partition = ap (λ (y : CopyInfo). y.partition) e in absurd (omega (arith, a, b, at)))
-        | inr k ↦ k
-      ],
-      λ h. elim ((m x).1 (inr h)) [
-        | inl e ↦ (
-            let a : d.partition < x.partition = low_in d.partition ds x s.0 h in
-            let b : x.partition ≡ c.partition = ap (λ (y : CopyInfo). y.partition) e in absurd (omega (arith, a, b, at)))
-        | inr k ↦ k
-      ],
-    ) in
-    let rest = same_copies cs ds r.1 s.1 tails in λ i. same i ∷ rest i
-
-rise-filter : (p : CopyInfo → Bool) (cs : List CopyInfo) → CopiesRise cs → CopiesRise (filter p cs)
-rise-filter p [] r = tt
-rise-filter p (c ∷ cs) r =
-    elim (p c) as (λ b. CopiesRise (cond b (c ∷ filter p cs) (filter p cs))) [
-      | true ↦ (all-filter (λ (d : CopyInfo). c.partition < d.partition) p cs r.0, rise-filter p cs r.1)
-      | false ↦ rise-filter p cs r.1
-    ]
-
-rise-map : (f : CopyInfo → CopyInfo) (cs : List CopyInfo) → ((c : CopyInfo) → In c cs → (f c).partition ≡ c.partition)
-    → CopiesRise cs → CopiesRise (map f cs)
-rise-map f [] e r = tt
-rise-map f (c ∷ cs) e r = (
-  each-all (λ (d : CopyInfo). (f c).partition < d.partition) (map f cs) (λ d h.
-      let s = (In-map f cs d).0 h in
-      let a : c.partition < s.0.partition = low_in c.partition cs s.0 r.0 s.1 in
-      let b : (f c).partition ≡ c.partition = e c (inl refl) in
-      let g : (f s.0).partition ≡ s.0.partition = e s.0 (inr s.1) in
-      let k : d.partition ≡ (f s.0).partition = ap (λ (x : CopyInfo). x.partition) s.2 in omega (arith, a, b, g, k)),
-  rise-map f cs (λ d h. e d (inr h)) r.1,
-)
+same_copies cs ds r s =
+    same_by_members (λ (c : CopyInfo). c.partition) cs ds ((by_partition cs).0 r) ((by_partition ds).0 s)
 
 pub In-with_copy : (c x : CopyInfo) (ds : List CopyInfo) → In x (with_copy c ds) ↔ ((x ≡ c) ⊎ In x ds)
 In-with_copy c x [] = (λ h. h, λ h. h)
@@ -263,13 +207,6 @@ In-with_copy c x (d ∷ ds) =
       )
     ]
 
-below : (a b x : ℕ) → a ≤ b → a ≢ b → x ≡ b → a < x
-below a b x l n e =
-    elim (nat_lt a b) as (λ t. nat_lt a b ≡ t → a < x) [
-      | true ↦ λ t. let m : a < b = ltb-true a b t in omega (arith, m, e)
-      | false ↦ λ t. let m : b ≤ a = ltb-false a b t in absurd (n (omega (arith, l, m)))
-    ] refl
-
 rise-with_copy : (c : CopyInfo) (ds : List CopyInfo) → CopiesRise ds
     → ((d : CopyInfo) → In d ds → d.partition ≢ c.partition) → CopiesRise (with_copy c ds)
 rise-with_copy c [] r ne = (tt, tt)
@@ -280,37 +217,24 @@ rise-with_copy c (d ∷ ds) r ne =
           let l : c.partition < d.partition = ltb-true c.partition d.partition e in (
             (
               l,
-              each-all (λ (x : CopyInfo). c.partition < x.partition) ds (λ x h.
-                  let a : d.partition < x.partition = low_in d.partition ds x r.0 h in omega (arith, a, l)),
+              all_from_In (λ (x : CopyInfo). c.partition < x.partition) ds (λ x h.
+                  let a : d.partition < x.partition = all-In (λ (y : CopyInfo). d.partition < y.partition) ds x r.0 h in
+                  omega (arith, a, l)),
             ),
             r,
           ))
       | false ↦ λ e. (
           let l : d.partition ≤ c.partition = ltb-false c.partition d.partition e in
           let n : d.partition ≢ c.partition = ne d (inl refl) in (
-            each-all (λ (x : CopyInfo). d.partition < x.partition) (with_copy c ds) (λ x h.
+            all_from_In (λ (x : CopyInfo). d.partition < x.partition) (with_copy c ds) (λ x h.
                 elim ((In-with_copy c x ds).0 h) [
-                  | inl q ↦ (let b : x.partition ≡ c.partition = ap (λ (y : CopyInfo). y.partition) q in
-                      below d.partition c.partition x.partition l n b)
-                  | inr k ↦ low_in d.partition ds x r.0 k
+                  | inl q ↦ (
+                      let b : x.partition ≡ c.partition = ap (λ (y : CopyInfo). y.partition) q in omega (arith, l, n, b))
+                  | inr k ↦ all-In (λ (y : CopyInfo). d.partition < y.partition) ds x r.0 k
                 ]),
             rise-with_copy c ds r.1 (λ x h. ne x (inr h)),
           ))
     ] refl
-
--- What a place by partitions says.
-pub partitions_at : (cs : List CopyInfo) (i j : ℕ) (d : CopyInfo) → CopiesRise cs → i < j → j < length cs
-    → (get_or cs i d).partition < (get_or cs j d).partition
-partitions_at [] i j d r l h = absurd (omega arith)
-partitions_at (c ∷ cs) zero zero d r l h = absurd (omega arith)
-partitions_at (c ∷ cs) zero (suc j) d r l h = low_in c.partition cs (get_or cs j d) r.0 (In-at cs j d (omega arith))
-partitions_at (c ∷ cs) (suc i) zero d r l h = absurd (omega arith)
-partitions_at (c ∷ cs) (suc i) (suc j) d r l h = partitions_at cs i j d r.1 (omega arith) (omega arith)
-
-pub partitions_of_copies_rise : (cs : List CopyInfo) → CopiesRise cs → IsNonDecreasingBy (λ c. c.partition) cs
-partitions_of_copies_rise cs r i j d l h =
-    by_places (λ i j. (get_or cs i d).partition ≤ (get_or cs j d).partition) i j l (λ k. omega arith)
-    (λ t. let m : (get_or cs i d).partition < (get_or cs j d).partition = partitions_at cs i j d r t h in omega arith)
 
 pub inserted_copy : (c : CopyInfo) (cs : List CopyInfo) (i : ℕ) → i ≤ length cs
     → AllWithin (λ d. d.partition ≤ c.partition) cs 0 i → AllWithin (λ d. c.partition < d.partition) cs i (length cs)
@@ -321,7 +245,7 @@ inserted_copy c (d ∷ ds) zero l f g =
     let h : c.partition < d.partition = g 0 c (omega arith) (omega arith) in rw (lt-ltb c.partition d.partition h) refl
 inserted_copy c (d ∷ ds) (suc i) l f g =
     let h : d.partition ≤ c.partition = f 0 c (omega arith) (omega arith) in
-    let no : nat_lt c.partition d.partition ≡ false = false_if (nat_lt c.partition d.partition) (λ t.
+    let no : nat_lt c.partition d.partition ≡ false = false_from_ne_true (nat_lt c.partition d.partition) (λ t.
     let u : c.partition < d.partition = ltb-true c.partition d.partition t in omega arith) in
     rw no (ap (λ l. d ∷ l) (inserted_copy c ds i (omega arith)
     (λ k e a b. f (suc k) e (omega arith) (omega arith)) (λ k e a b. g (suc k) e (omega arith) (omega arith))))
@@ -344,8 +268,10 @@ renewed_partition notes start end brings c =
 pub kept_copies_rise : (notes : List NoteParts) (start end : ℕ) (brings : Bool) (cs : List CopyInfo) → CopiesRise cs
     → CopiesRise (map (renewed notes start end brings) (filter (λ c. is_outside start end c.partition) cs))
 kept_copies_rise notes start end brings cs r =
-    rise-map (renewed notes start end brings) (filter (λ c. is_outside start end c.partition) cs)
-    (λ c h. renewed_partition notes start end brings c) (rise-filter (λ c. is_outside start end c.partition) cs r)
+    let key = λ (c : CopyInfo). c.partition in
+    let outside = λ (c : CopyInfo). is_outside start end c.partition in
+    (by_partition _).1 (rises-map key (renewed notes start end brings) key (filter outside cs)
+    (λ c h. renewed_partition notes start end brings c) (rises-filter key outside cs ((by_partition cs).0 r)))
 
 -- ---- all copies
 
@@ -371,9 +297,7 @@ module _ (x : NoteParts) (notes : List NoteParts) (start end : ℕ) (r : IsConte
       ap (λ (y : CopyInfo). y.partition) b.copy ∙ copy_there (clear_notes after) b.partition ∙ sym b.offset
 
   rises : CopiesRise (map renew kept)
-  rises =
-      rise-map renew kept stays_there
-      (rise-filter (λ c. is_outside start end c.partition) (copies_of notes) (copies_rise notes r))
+  rises = kept_copies_rise after start end (can_bring_start x) (copies_of notes) (copies_rise notes r)
 
   -- What is kept and renewed are copies, of partitions that stood there before.
   pub kept_is : (d : CopyInfo) → In d (map renew kept)

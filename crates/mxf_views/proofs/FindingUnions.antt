@@ -12,14 +12,10 @@ use Rattle.std.proofs.lemmas.List.{append_assoc, map-append}
 use Rattle.std.proofs.lemmas.List.Kept.{Contains-dedup, Contains-from_dedup, IsStrictlySortedBy-dedup}
 use Rattle.std.proofs.lemmas.List.Sorted.{Contains-permutation, IsPermutation-sym}
 use Rattle.mxf_klv.specs.Rising.{IsRising, In-union, IsRising-union, same_from_members, union}
-use Rattle.mxf_catalogue.proofs.Places.{Contains-from_In, In-from_Contains}
 use Rattle.mxf_views.specs.declared.finding.Code.{Code}
 use Rattle.mxf_views.specs.declared.finding.Finding.{Finding}
 use Rattle.mxf_views.specs.Codes.{finding, finding_cmp, finding_cmp-IsAntisymmetric, finding_equiv, finding_total}
-
-pub on_ok : {A E : Type 0} (P Q : Type 0) (r : Result A E) → (P → Q) → OnOk r P → OnOk r Q
-on_ok P Q (Ok x) f p = f p
-on_ok P Q (Err e) f p = tt
+use Rattle.mxf_klv.proofs.Lists.{Contains-from_In, In-from_Contains}
 
 -- two lists of offsets of one code
 pub then-offsets : (code : Code) (fs : List Finding) (xs ys : List ℕ)

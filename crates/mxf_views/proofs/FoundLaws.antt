@@ -16,7 +16,6 @@ use Rattle.mxf_sets.specs.Identification.{identification_at}
 use Rattle.mxf_sets.specs.Package.{package_at}
 use Rattle.mxf_catalogue.specs.Disputes.{AreApart}
 use Rattle.mxf_catalogue.proofs.SpanLaws.{AreApart-filter}
-use Rattle.mxf_catalogue.proofs.Lists.{In-filter}
 use Rattle.mxf_views.specs.declared.reference.Found.{Found}
 use Rattle.mxf_views.specs.declared.reference.Found.TheVariants.{Absent, One, Several}
 use Rattle.mxf_views.specs.declared.reference.target.Wanted.{Wanted}
@@ -27,8 +26,9 @@ use Rattle.mxf_views.specs.References.{HasUid, IsFound, IsOnlyWith, IsSeveral, f
 use Rattle.mxf_views.specs.Copies.{sets_of}
 use Rattle.mxf_views.specs.Targets.{IsReadableAs, IsTarget, IsWanted, fits, is_readable, target_among, target_at}
 use Rattle.mxf_views.specs.Targets.{target_of}
-use Rattle.mxf_views.proofs.Members.{both, false_if, parts}
 use Rattle.mxf_views.proofs.ReadingLaws.{ok_readable}
+use Rattle.mxf_klv.proofs.Lists.{In-filter}
+use Rattle.std.proofs.lemmas.Bool.{and_from, false_from_ne_true, and_parts}
 
 reads_says : (uid : List ℕ) (r : Result (List ℕ) FieldFault) → reads_uid uid r ≡ true → r ≡ Ok uid
 reads_says uid (Ok own) h = ap (λ (x : List ℕ). Ok x) ((bytes_eq-Decides own uid).0 h)
@@ -40,13 +40,13 @@ reads_it uid r e = ap (reads_uid uid) e ∙ (bytes_eq-Decides uid uid).1 refl
 has_uid_iff : (uid : List ℕ) (n : NoteParts) → IsTrue (has_uid uid n) ↔ HasUid uid n
 unfolding has_uid
 has_uid_iff uid n = (
-  λ h. let p = parts (keeps_value n)
+  λ h. let p = and_parts (keeps_value n)
       (reads_uid uid (instance_uid_at n.held)) h in record {
         kept = p.0;
         own = reads_says uid
             (instance_uid_at n.held) p.1;
       },
-  λ h. both (keeps_value n) (reads_uid uid (instance_uid_at n.held)) h.kept
+  λ h. and_from (keeps_value n) (reads_uid uid (instance_uid_at n.held)) h.kept
       (reads_it uid (instance_uid_at n.held) h.own),
 )
 
@@ -180,13 +180,13 @@ only_at w n f r e g = λ i. target_by (e i) (g i) n.offset
 
 wrong_kind : (w : Wanted) (n : NoteParts) → ¬ IsWanted w (kind_of n.key) → target_at w n ≡ targets.WrongKind n.offset
 wrong_kind w n k =
-    let e = false_if (fits w (kind_of n.key)) (λ t. k ((wanted_kind w (kind_of n.key)).0 t)) in
+    let e = false_from_ne_true (fits w (kind_of n.key)) (λ t. k ((wanted_kind w (kind_of n.key)).0 t)) in
     only_at w n false (keeps_value n && is_readable w n.held) e refl
 
 unreadable : (w : Wanted) (n : NoteParts) → IsWanted w (kind_of n.key) → ¬ IsReadableAs w n
     → target_at w n ≡ targets.Unreadable n.offset
 unreadable w n k r =
-    let f = false_if (keeps_value n && is_readable w n.held) (λ t. r ((readable_as w n).0 t)) in
+    let f = false_from_ne_true (keeps_value n && is_readable w n.held) (λ t. r ((readable_as w n).0 t)) in
     only_at w n true false ((wanted_kind w (kind_of n.key)).1 k) f
 
 target_from : (sets : List NoteParts) (w : Wanted) (uid : List ℕ) (ws : List NoteParts) → Picks sets uid ws

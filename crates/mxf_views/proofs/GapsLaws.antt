@@ -8,11 +8,12 @@ use Rattle.mxf_klv.specs.Note.{IsCovered, IsNote, covered_end, end_of, greatest_
 use Rattle.mxf_klv.specs.NoteOrder.{note_total}
 use Rattle.mxf_klv.specs.Rising.{In, less_in}
 use Rattle.mxf_catalogue.specs.Content.{IsCatalogue, IsContent}
-use Rattle.mxf_catalogue.proofs.ContentLaws.{all-In}
 use Rattle.mxf_catalogue.proofs.SpanLaws.{offset_le}
 use Rattle.mxf_catalogue.specs.declared.run.Run.{Run}
 use Rattle.mxf_views.specs.Gaps.{gaps_from, gaps_of, AreGaps}
 use Rattle.mxf_catalogue.specs.Runs.{IsWithin, LiesIn, AreMaximal}
+use Rattle.mxf_catalogue.proofs.RunLaws.{AreMaximal-lower}
+use Rattle.mxf_klv.proofs.Lists.{all-In}
 
 -- a note covers its first byte, and nothing above its end
 pub covers_first : (n : NoteParts) → n.offset + 1 ≤ covered_end n
@@ -26,11 +27,6 @@ covers_below_end n = elim n.whole as (λ b. cond b (end_of n) (n.offset + 16 + n
   | true ↦ omega arith
   | false ↦ omega arith
 ]
-
--- the runs rise from the offset that is reached, none begins at or above the ends
-AreMaximal-lower : (low high : ℕ) (runs : List Run) → low ≤ high → AreMaximal high runs → AreMaximal low runs
-AreMaximal-lower low high [] l m = tt
-AreMaximal-lower low high (r ∷ runs) l m = let a : high ≤ r.start = m.0 in (omega arith, m.1, m.2)
 
 maximal_from : (notes : List NoteParts) (reached top : ℕ) → AreMaximal reached (gaps_from reached top notes)
 maximal_from [] reached top =

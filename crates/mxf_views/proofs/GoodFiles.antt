@@ -1,8 +1,8 @@
 -- Further small files that are well-formed.
 use Rattle.std.specs.Prelude.{◌≡◌, ℕ, ◌-◌, ◌*◌, ◌==◌, List, [], ◌∷◌, Some, None, cond, refl}
-use Rattle.std.specs.Prelude.{if◌then◌else◌, unsigned_abs}
+use Rattle.std.specs.Prelude.{if◌then◌else◌, unsigned_abs, drop, take}
 use Rattle.std.specs.Option.{option_map}
-use Rattle.std.specs.List.{AllByRecursion}
+use Rattle.std.specs.List.{AllByRecursion, list_any}
 use Rattle.std.proofs.Common.{Bool, true, false, sym, ◌∙◌, subst, arith}
 use Rattle.mxf_klv.specs.declared.kinds.Status.TheVariants.{OpenIncomplete, ClosedComplete}
 use Rattle.mxf_klv.specs.Packet.{IsPacket}
@@ -13,209 +13,86 @@ use Rattle.mxf_sets.specs.declared.pack.part.PackPart.TheVariants.{Header, Foote
 use Rattle.mxf_sets.specs.Offset.{covers_constant, covers_entry, entry_offset, stream_offset}
 use Rattle.mxf_sets.specs.Segment.{SegmentParts, is_constant}
 use Rattle.mxf_views.specs.Places.{SegmentAtParts}
-use Rattle.mxf_views.specs.Reading.{place_by_segment, segments_read}
+use Rattle.mxf_views.specs.Reading.{place_by_segment, segments_read, partitions_read}
 use Rattle.mxf_views.specs.Records.{read_pack, read_rip, read_segment}
-use Rattle.mxf_views.specs.WellFormed.{Agree, EndsWithFooter, HasMetadata, IsPartitionPack, IsWellFormed}
+use Rattle.mxf_views.specs.WellFormed.{Agree, EndsWithFooter, IsWellFormed}
 use Rattle.mxf_views.specs.WorkedFiles.{agreeing_file, bare_file, constant, fill, filled_file, m_file, numbers}
 use Rattle.mxf_views.specs.WorkedFiles.{open_file, pack, pack_of, preface, primer, segment, twice_filled_file, two_entries}
 use Rattle.mxf_views.specs.declared.index.place.Place.{Place}
 use Rattle.mxf_views.specs.declared.index.place.Place.TheVariants.{At}
-use Rattle.mxf_views.proofs.Members.{all-each, none_some, some_same}
-use Rattle.mxf_views.proofs.SmallFiles.{constant_packet, no_footer, no_header, no_pack, no_rip, open_packet, pack_packet}
-use Rattle.mxf_views.proofs.SmallFiles.{packet_of, preface_packet, primer_packet}
+use Rattle.mxf_views.proofs.SmallFiles.{footer_behind, is_pack_kind}
+use Rattle.mxf_views.proofs.SmallFiles.{metadata_after, no_headers, rip_last, are_packets}
+use Rattle.mxf_klv.proofs.Lists.{all-In}
+use Rattle.mxf_klv.proofs.Tests.{none_some}
+use Rattle.std.proofs.lemmas.Option.{same_Some}
+use Rattle.mxf_klv.specs.Kind.{kind_of}
 
-pub bare_footer : (after : List PacketParts) → AllByRecursion (λ p. ¬ IsPartitionPack p) after
+pub bare_footer : (after : List PacketParts) → list_any (λ p. is_pack_kind (kind_of p.key)) after ≡ false
     → EndsWithFooter (bare_file after)
-bare_footer after none = record {
-  before = pack Header (numbers 0 0 108 0 0 0 0) ∷ [];
-  footer = pack Footer (numbers 108 0 108 0 0 0 0);
-  after = after;
-  order = refl;
-  is_footer = (ClosedComplete, refl);
-  only = (no_footer (pack Header (numbers 0 0 108 0 0 0 0)) refl, tt);
-  last = none;
-}
+bare_footer after none =
+    footer_behind (pack Header (numbers 0 0 108 0 0 0 0) ∷ []) (pack Footer (numbers 108 0 108 0 0 0 0)) after
+    (ClosedComplete, refl) refl none
 
 pub m_well_formed : IsWellFormed m_file
 unfolding read_pack read_segment read_rip item_at items_of left_of entries_of
 m_well_formed = record {
-  packets = (
-    pack_packet Header (numbers 0 0 108 0 0 0 0),
-    (
-      pack_packet Footer (numbers 108 0 108 0 0 0 0),
-      (packet_of two_entries (refl, refl) refl (omega arith), tt),
-    ),
-  );
+  packets = are_packets m_file refl;
   within = omega arith;
-  header = (
-    (ClosedComplete, refl),
-    (no_header (pack Footer (numbers 108 0 108 0 0 0 0)) refl, (no_header two_entries refl, tt)),
-  );
-  footer = bare_footer (two_entries ∷ []) (no_pack two_entries refl, tt);
+  header = ((ClosedComplete, refl), no_headers (drop 1 m_file) refl);
+  footer = bare_footer (two_entries ∷ []) refl;
   readable = (refl, (refl, (refl, tt)));
   this = (refl, (refl, tt));
   previous = (refl, (refl, tt));
   metadata = (λ h. absurd (omega arith), (λ h. absurd (omega arith), (tt, tt)));
   index = λ s t sid unit p q h k e f. absurd h;
-  random_index = (
-    no_rip (pack Header (numbers 0 0 108 0 0 0 0)) refl,
-    (no_rip (pack Footer (numbers 108 0 108 0 0 0 0)) refl, refl),
-  );
-}
-
-fill_packet : IsPacket fill
-fill_packet = packet_of fill (refl, refl) refl (omega arith)
-
-filled_metadata : (rest : List PacketParts) → HasMetadata 86 (fill ∷ primer ∷ preface ∷ rest)
-filled_metadata rest = record {
-  fills = fill ∷ [];
-  primer = primer;
-  sets = preface ∷ [];
-  rest = rest;
-  order = refl;
-  are_fills = (refl, tt);
-  is_primer = refl;
-  no_pack = (no_pack preface refl, tt);
-  exact = refl;
+  random_index = rip_last (partitions_read 0 m_file) m_file refl refl;
 }
 
 pub filled_well_formed : IsWellFormed filled_file
 unfolding read_pack read_segment read_rip
 filled_well_formed = record {
-  packets = (
-    pack_packet Header (numbers 0 0 222 86 0 0 0),
-    (
-      fill_packet,
-      (primer_packet, (preface_packet, (pack_packet Footer (numbers 222 0 222 0 0 0 0), tt))),
-    ),
-  );
+  packets = are_packets filled_file refl;
   within = omega arith;
-  header = (
-    (ClosedComplete, refl),
-    (
-      no_header fill refl,
-      (
-        no_header primer refl,
-        (no_header preface refl, (no_header (pack Footer (numbers 222 0 222 0 0 0 0)) refl, tt)),
-      ),
-    ),
-  );
-  footer = record {
-    before = pack Header (numbers 0 0 222 86 0 0 0) ∷ fill ∷ primer ∷ preface ∷ [];
-    footer = pack Footer (numbers 222 0 222 0 0 0 0);
-    after = [];
-    order = refl;
-    is_footer = (ClosedComplete, refl);
-    only = (
-      no_footer (pack Header (numbers 0 0 222 86 0 0 0)) refl,
-      (no_footer fill refl, (no_footer primer refl, (no_footer preface refl, tt))),
-    );
-    last = tt;
-  };
+  header = ((ClosedComplete, refl), no_headers (drop 1 filled_file) refl);
+  footer = footer_behind (take 4 filled_file) (pack Footer (numbers 222 0 222 0 0 0 0)) []
+      (ClosedComplete, refl) refl refl;
   readable = (refl, (refl, (refl, (refl, (refl, tt)))));
   this = (refl, (refl, tt));
   previous = (refl, (refl, tt));
-  metadata = (
-    λ h. filled_metadata (pack Footer (numbers 222 0 222 0 0 0 0) ∷ []),
-    (tt, (tt, (tt, (λ h. absurd (omega arith), tt)))),
-  );
+  metadata = (λ h. metadata_after (fill ∷ []) (drop 4 filled_file) (refl, tt), (tt, (tt, (tt, (λ h. absurd (omega arith), tt)))));
   index = λ s t sid unit p q h k e f. absurd h;
-  random_index = (
-    no_rip (pack Header (numbers 0 0 222 86 0 0 0)) refl,
-    (no_rip fill refl, (no_rip primer refl, (no_rip preface refl, tt))),
-  );
-}
-
-twice_filled_metadata : (rest : List PacketParts) → HasMetadata 86 (fill ∷ fill ∷ primer ∷ preface ∷ rest)
-twice_filled_metadata rest = record {
-  fills = fill ∷ fill ∷ [];
-  primer = primer;
-  sets = preface ∷ [];
-  rest = rest;
-  order = refl;
-  are_fills = (refl, (refl, tt));
-  is_primer = refl;
-  no_pack = (no_pack preface refl, tt);
-  exact = refl;
+  random_index = rip_last (partitions_read 0 filled_file) filled_file refl tt;
 }
 
 pub twice_filled_well_formed : IsWellFormed twice_filled_file
 unfolding read_pack read_segment read_rip
 twice_filled_well_formed = record {
-  packets = (
-    pack_packet Header (numbers 0 0 250 86 0 0 0),
-    (
-      fill_packet,
-      (
-        fill_packet,
-        (primer_packet, (preface_packet, (pack_packet Footer (numbers 250 0 250 0 0 0 0), tt))),
-      ),
-    ),
-  );
+  packets = are_packets twice_filled_file refl;
   within = omega arith;
-  header = (
-    (ClosedComplete, refl),
-    (
-      no_header fill refl,
-      (
-        no_header fill refl,
-        (
-          no_header primer refl,
-          (no_header preface refl, (no_header (pack Footer (numbers 250 0 250 0 0 0 0)) refl, tt)),
-        ),
-      ),
-    ),
-  );
-  footer = record {
-    before = pack Header (numbers 0 0 250 86 0 0 0) ∷ fill ∷ fill ∷ primer ∷ preface ∷ [];
-    footer = pack Footer (numbers 250 0 250 0 0 0 0);
-    after = [];
-    order = refl;
-    is_footer = (ClosedComplete, refl);
-    only = (
-      no_footer (pack Header (numbers 0 0 250 86 0 0 0)) refl,
-      (
-        no_footer fill refl,
-        (no_footer fill refl, (no_footer primer refl, (no_footer preface refl, tt))),
-      ),
-    );
-    last = tt;
-  };
+  header = ((ClosedComplete, refl), no_headers (drop 1 twice_filled_file) refl);
+  footer = footer_behind (take 5 twice_filled_file) (pack Footer (numbers 250 0 250 0 0 0 0)) []
+      (ClosedComplete, refl) refl refl;
   readable = (refl, (refl, (refl, (refl, (refl, (refl, tt))))));
   this = (refl, (refl, tt));
   previous = (refl, (refl, tt));
-  metadata = (
-    λ h. twice_filled_metadata (pack Footer (numbers 250 0 250 0 0 0 0) ∷ []),
-    (tt, (tt, (tt, (tt, (λ h. absurd (omega arith), tt))))),
-  );
+  metadata = (λ h. metadata_after (fill ∷ fill ∷ []) (drop 5 twice_filled_file) (refl, (refl, tt)), (tt, (tt, (tt, (tt, (λ h. absurd (omega arith), tt))))));
   index = λ s t sid unit p q h k e f. absurd h;
-  random_index = (
-    no_rip (pack Header (numbers 0 0 250 86 0 0 0)) refl,
-    (no_rip fill refl, (no_rip fill refl, (no_rip primer refl, (no_rip preface refl, tt)))),
-  );
+  random_index = rip_last (partitions_read 0 twice_filled_file) twice_filled_file refl tt;
 }
 
 pub open_well_formed : IsWellFormed open_file
 unfolding read_pack read_segment read_rip
 open_well_formed = record {
-  packets = (open_packet (numbers 0 0 0 0 0 0 0), (pack_packet Footer (numbers 108 0 108 0 0 0 0), tt));
+  packets = are_packets open_file refl;
   within = omega arith;
-  header = ((OpenIncomplete, refl), (no_header (pack Footer (numbers 108 0 108 0 0 0 0)) refl, tt));
-  footer = record {
-    before = pack_of OpenIncomplete Header (numbers 0 0 0 0 0 0 0) ∷ [];
-    footer = pack Footer (numbers 108 0 108 0 0 0 0);
-    after = [];
-    order = refl;
-    is_footer = (ClosedComplete, refl);
-    only = (no_footer (pack_of OpenIncomplete Header (numbers 0 0 0 0 0 0 0)) refl, tt);
-    last = tt;
-  };
+  header = ((OpenIncomplete, refl), no_headers (drop 1 open_file) refl);
+  footer = footer_behind (take 1 open_file) (pack Footer (numbers 108 0 108 0 0 0 0)) [] (ClosedComplete, refl) refl refl;
   readable = (refl, (refl, tt));
   this = (refl, (refl, tt));
   previous = (refl, (refl, tt));
   metadata = (λ h. absurd (omega arith), (λ h. absurd (omega arith), tt));
   index = λ s t sid unit p q h k e f. absurd h;
-  random_index = (no_rip (pack_of OpenIncomplete Header (numbers 0 0 0 0 0 0 0)) refl, tt);
+  random_index = rip_last (partitions_read 0 open_file) open_file refl tt;
 }
 
 -- The segment gives units of so many bytes each in the stream of a BodySID.
@@ -241,44 +118,28 @@ steady_place body bytes sid unit s p i e =
           elim (covers_constant s unit) as (λ c. option_map (λ o. At b o) (cond c (Some k) None) ≡ Some p
           → p ≡ At body (bytes * unit)) [
             | false ↦ λ u. absurd (none_some None p refl u)
-            | true ↦ λ u. sym (some_same (At b k) p u) ∙ at
+            | true ↦ λ u. sym (same_Some (At b k) p u) ∙ at
           ] r
     ] e
 
 steady_agree : (body bytes : ℕ) (ss : List SegmentAtParts)
     → AllByRecursion (λ s. IsSteady body bytes s.segment) ss → Agree ss
 steady_agree body bytes ss a s t sid unit p q h k e f =
-    let each = all-each (λ (x : SegmentAtParts). IsSteady body bytes x.segment) ss in
+    let each = all-In (λ (x : SegmentAtParts). IsSteady body bytes x.segment) ss in
     steady_place body bytes sid unit s.segment p (each s a h) e
     ∙ sym (steady_place body bytes sid unit t.segment q (each t a k) f)
-
-later_packet : IsPacket (segment 0x32 0x90)
-later_packet = packet_of (segment 0x32 0x90) (refl, refl) refl (omega arith)
 
 pub agreeing_well_formed : IsWellFormed agreeing_file
 unfolding read_pack read_segment read_rip item_at items_of left_of
 agreeing_well_formed = record {
-  packets = (
-    pack_packet Header (numbers 0 0 108 0 0 0 0),
-    (pack_packet Footer (numbers 108 0 108 0 0 0 0), (constant_packet, (later_packet, tt))),
-  );
+  packets = are_packets agreeing_file refl;
   within = omega arith;
-  header = (
-    (ClosedComplete, refl),
-    (
-      no_header (pack Footer (numbers 108 0 108 0 0 0 0)) refl,
-      (no_header constant refl, (no_header (segment 0x32 0x90) refl, tt)),
-    ),
-  );
-  footer = bare_footer (constant ∷ segment 0x32 0x90 ∷ [])
-      (no_pack constant refl, (no_pack (segment 0x32 0x90) refl, tt));
+  header = ((ClosedComplete, refl), no_headers (drop 1 agreeing_file) refl);
+  footer = bare_footer (constant ∷ segment 0x32 0x90 ∷ []) refl;
   readable = (refl, (refl, (refl, (refl, tt))));
   this = (refl, (refl, tt));
   previous = (refl, (refl, tt));
   metadata = (λ h. absurd (omega arith), (λ h. absurd (omega arith), (tt, (tt, tt))));
   index = steady_agree 2 250000 (segments_read 0 agreeing_file) ((refl, refl, refl), ((refl, refl, refl), tt));
-  random_index = (
-    no_rip (pack Header (numbers 0 0 108 0 0 0 0)) refl,
-    (no_rip (pack Footer (numbers 108 0 108 0 0 0 0)) refl, (no_rip constant refl, tt)),
-  );
+  random_index = rip_last (partitions_read 0 agreeing_file) agreeing_file refl tt;
 }

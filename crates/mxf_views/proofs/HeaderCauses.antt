@@ -17,8 +17,6 @@ use Rattle.mxf_sets.specs.Package.{package_at}
 use Rattle.mxf_sets.specs.Segment.{segment_at}
 use Rattle.mxf_catalogue.specs.Content.{IsContent}
 use Rattle.mxf_catalogue.specs.Disputes.{clear_notes}
-use Rattle.mxf_catalogue.proofs.DisputeLaws.{not-true-false, not_true}
-use Rattle.mxf_catalogue.proofs.Fronts.{In-append}
 use Rattle.mxf_views.specs.declared.copy.CopyInfo.{CopyInfo}
 use Rattle.mxf_views.specs.declared.reference.target.Ref.{Ref}
 use Rattle.mxf_views.specs.declared.reference.target.Target.{Target}
@@ -32,25 +30,23 @@ use Rattle.mxf_views.specs.Findings.{reads_value}
 use Rattle.mxf_views.specs.Places.{is_segment}
 use Rattle.mxf_views.specs.FindingCauses.{AtClear, Holds, HoldsLost, IsMetadataKind, IsReadableSet}
 use Rattle.mxf_views.specs.Readings.{IsReadable}
-use Rattle.mxf_views.proofs.CauseLaws.{at_clear, either, one_of}
+use Rattle.mxf_views.proofs.CauseLaws.{at_clear}
 use Rattle.mxf_views.proofs.CopyLaws.{copies_are}
 use Rattle.mxf_views.proofs.KindLaws.{primer_kind, segment_kind, set_kind}
-use Rattle.mxf_views.proofs.FindingMembers.{In-chosen}
-use Rattle.mxf_views.proofs.Members.{both, false_if, parts}
 use Rattle.mxf_views.proofs.ReadingLaws.{ok_readable}
 use Rattle.mxf_views.proofs.ResolvedLaws.{resolved_iff}
+use Rattle.mxf_klv.proofs.Lists.{In-append, In-chosen}
+use Rattle.mxf_klv.proofs.Tests.{none_says, not-true-false, not_true, either}
+use Rattle.std.proofs.lemmas.Bool.{or_cases, and_from, false_from_ne_true, and_parts}
+use Rattle.std.proofs.lemmas.List.{nil_from_length}
 
 -- ---- copies
 
-none_says : {A : Type 0} (o : Option A) → is_none o ≡ true → o ≡ None
-none_says None h = refl
-none_says (Some x) h = absurd cc
-
 partial_is : (c : CopyInfo) → (is_partial c ≡ true) ↔ ((c.start ≡ None) ⊎ (c.finished ≡ false))
 partial_is c = (
-  λ h. elim (one_of (is_none c.start) (not c.finished) h) [
+  λ h. elim (or_cases (is_none c.start) (not c.finished) h) [
     | inl t ↦ inl (none_says c.start t)
-    | inr t ↦ inr (false_if c.finished (not-true-false c.finished t))
+    | inr t ↦ inr (false_from_ne_true c.finished (not-true-false c.finished t))
   ],
   λ s. either (is_none c.start) (not c.finished) (elim s [
     | inl e ↦ inl (ap (λ (o : Option ℕ). is_none o) e)
@@ -69,15 +65,11 @@ partial_copies notes o r =
 
 -- ---- sets that can't be read
 
-no_length : (xs : List ℕ) → length xs ≡ 0 → xs ≡ []
-no_length [] e = refl
-no_length (x ∷ xs) e = absurd (omega (arith, e))
-
 whole_says : (bytes : List ℕ) → (is_some (whole_items bytes) ≡ true) ↔ (left_of bytes ≡ [])
 whole_says bytes = (
   λ h. elim (length (left_of bytes) == 0) as (λ b. (length (left_of bytes) == 0) ≡ b
       → is_some (if b then Some (items_of bytes) else None) ≡ true → left_of bytes ≡ []) [
-        | true ↦ λ t _. no_length (left_of bytes) (eqb-true (length (left_of bytes)) 0 t)
+        | true ↦ λ t _. nil_from_length (left_of bytes) (eqb-true (length (left_of bytes)) 0 t)
         | false ↦ λ _ q. absurd cc
       ] refl h,
   λ e. ap (λ (b : Bool). is_some (if b then Some (items_of bytes) else None))
@@ -87,8 +79,8 @@ whole_says bytes = (
 raw_readable : (n : NoteParts) → ((keeps_value n && is_some (whole_items n.held)) ≡ true)
     ↔ IsReadableSet kinds.RawSet n
 raw_readable n = (
-  λ h. let s = parts (keeps_value n) (is_some (whole_items n.held)) h in (s.0, (whole_says n.held).0 s.1),
-  λ s. both (keeps_value n) (is_some (whole_items n.held)) s.0 ((whole_says n.held).1 s.1),
+  λ h. let s = and_parts (keeps_value n) (is_some (whole_items n.held)) h in (s.0, (whole_says n.held).0 s.1),
+  λ s. and_from (keeps_value n) (is_some (whole_items n.held)) s.0 ((whole_says n.held).1 s.1),
 )
 
 set_readable : (k : Kind) (n : NoteParts) → (is_primer k || is_set k) ≡ true
@@ -111,7 +103,7 @@ set_readable kinds.Other n h = absurd cc
 
 metadata_kind : (k : Kind) → ((is_primer k || is_set k) ≡ true) ↔ IsMetadataKind k
 metadata_kind k = (
-  λ h. elim (one_of (is_primer k) (is_set k) h) [
+  λ h. elim (or_cases (is_primer k) (is_set k) h) [
     | inl t ↦ inl ((primer_kind k).0 t)
     | inr t ↦ inr ((set_kind k).0 t)
   ],
@@ -129,11 +121,11 @@ unreadable_set n =
     let some = is_primer kind || is_set kind in
     let read = keeps_value n && reads_value kind n.held in (
       λ h.
-          let s = parts some (not read) h in
+          let s = and_parts some (not read) h in
           ((metadata_kind kind).0 s.0, λ k. not-true-false read s.1 ((set_readable kind n s.0).1 k)),
       λ s.
           let t = (metadata_kind kind).1 s.0 in
-          both some (not read) t (not_true read (λ r. s.1 ((set_readable kind n t).0 r))),
+          and_from some (not read) t (not_true read (λ r. s.1 ((set_readable kind n t).0 r))),
     )
 
 pub unreadable_sets : (notes : List NoteParts) (o : ℕ)
@@ -155,10 +147,10 @@ unreadable_segment n =
     let r = ok_readable segment_at n in
     let same = λ (e : kind ≡ kinds.Segment). ap (λ (k : Kind). keeps_value n && reads_value k n.held) e in (
       λ h.
-          let s = parts (is_segment kind) (not read) h in
+          let s = and_parts (is_segment kind) (not read) h in
           let e = (segment_kind kind).0 s.0 in
           (e, λ k. not-true-false read s.1 (same e ∙ r.1 k)),
-      λ s. both (is_segment kind) (not read) (ap is_segment s.0) (not_true read (λ t. s.1 (r.0 (sym (same s.0) ∙ t)))),
+      λ s. and_from (is_segment kind) (not read) (ap is_segment s.0) (not_true read (λ t. s.1 (r.0 (sym (same s.0) ∙ t)))),
     )
 
 pub unreadable_segments : (notes : List NoteParts) (o : ℕ)

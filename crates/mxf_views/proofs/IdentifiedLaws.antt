@@ -12,7 +12,7 @@ use Rattle.std.specs.Str.{bytes_eq}
 use Rattle.std.specs.Ordering.{is_lt, is_some_and, nat_cmp, ordering_index}
 use Rattle.std.specs.declared.cmp.Ordering.{Ordering}
 use Rattle.std.specs.declared.cmp.Ordering.TheVariants.{Less, Equal, Greater}
-use Rattle.std.proofs.lemmas.Bool.{cases_lt}
+use Rattle.std.proofs.lemmas.Bool.{cases_lt, false_from_ne_true}
 use Rattle.std.proofs.lemmas.Cmp.{tied_itself}
 use Rattle.std.proofs.lemmas.List.Sorted.{Contains-permutation, searchable_from_sorted, sum_by-IsPermutation}
 use Rattle.std.proofs.lemmas.Slice.Eq.{bytes_eq-Decides}
@@ -20,14 +20,13 @@ use Rattle.mxf_klv.specs.Parts.{NoteParts}
 use Rattle.mxf_klv.specs.Note.{keeps_value}
 use Rattle.mxf_klv.specs.Rising.{In}
 use Rattle.mxf_sets.specs.Instance.{instance_uid_at}
-use Rattle.mxf_catalogue.proofs.Lists.{In-filter}
-use Rattle.mxf_catalogue.proofs.Places.{Contains-from_In, In-from_Contains}
 use Rattle.mxf_views.specs.declared.reference.Found.{Found}
 use Rattle.mxf_views.specs.declared.reference.Found.TheVariants.{Absent, One, Several}
 use Rattle.mxf_views.specs.declared.reference.identified.Identified.{Identified}
 use Rattle.mxf_views.specs.Identified.{AreByUid, AreSorted, found_at, is_below, is_of, with_uid}
 use Rattle.mxf_views.specs.References.{found_among, has_uid, reads_uid}
-use Rattle.mxf_views.proofs.Members.{count_by-cons, false_if, tally}
+use Rattle.mxf_klv.proofs.Counts.{count_by-cons, tally}
+use Rattle.mxf_klv.proofs.Lists.{In-filter, Contains-from_In, In-from_Contains}
 
 -- ---- one identifier among sorted sets
 
@@ -43,7 +42,7 @@ module _ (uid : List ℕ) where
 
   -- One whose identifier stands below doesn't have it.
   pub below_lacks : (e : Identified) → is_below uid e ≡ true → is_of uid e ≡ false
-  below_lacks e b = false_if (is_of uid e) (λ t. let s = ap is_lt (equal_of e t) in cc (s, b))
+  below_lacks e b = false_from_ne_true (is_of uid e) (λ t. let s = ap is_lt (equal_of e t) in cc (s, b))
 
   -- One that doesn't stand below and lacks it stands above.
   above : (e : Identified) → is_below uid e ≡ false → is_of uid e ≡ false → slice_cmp nat_cmp e.uid uid ≡ Greater
@@ -81,7 +80,7 @@ module _ (uid : List ℕ) where
       → is_below uid (get_or es i d) ≡ false → is_of uid (get_or es i d) ≡ false → i ≤ k → k < length es
       → is_of uid (get_or es k d) ≡ false
   none_behind es i k d s b n l h =
-      false_if (is_of uid (get_or es k d)) (λ t.
+      false_from_ne_true (is_of uid (get_or es k d)) (λ t.
       let m = comparisons es s i k d l h in
       let high : ordering_index (slice_cmp nat_cmp (get_or es i d).uid uid) ≡ 2 = ap ordering_index (above (get_or es i d) b n) in
       let same : ordering_index (slice_cmp nat_cmp (get_or es k d).uid uid) ≡ 1 = ap ordering_index (equal_of (get_or es k d) t) in

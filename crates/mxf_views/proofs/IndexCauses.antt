@@ -2,7 +2,7 @@
 use Rattle.std.proofs.Common.{◌≡◌, ℕ, ◌⊎◌, Bool, true, false, List, [], ◌∷◌, Some, None, refl, sym}
 use Rattle.std.proofs.Common.{ap, subst, ◌∙◌, inl, inr, eqb-true, eq-eqb, map}
 use Rattle.std.specs.Prelude.{◌↔◌, ◌&&◌, ◌||◌, ◌==◌, nat_lt, not, filter, if◌then◌else◌}
-use Rattle.std.proofs.lemmas.Bool.{ltb-true, lt-ltb}
+use Rattle.std.proofs.lemmas.Bool.{ltb-true, lt-ltb, or_cases, and_from, and_parts}
 use Rattle.mxf_klv.specs.declared.kinds.Kind.TheVariants as kinds
 use Rattle.mxf_klv.specs.Parts.{NoteParts}
 use Rattle.mxf_klv.specs.Note.{end_of}
@@ -13,8 +13,7 @@ use Rattle.mxf_sets.specs.RandomIndexPack.{RipParts}
 use Rattle.mxf_sets.specs.PackReadings.{rip_at}
 use Rattle.mxf_catalogue.specs.Content.{IsContent}
 use Rattle.mxf_catalogue.specs.Disputes.{IsClear, clear_notes}
-use Rattle.mxf_catalogue.proofs.DisputeLaws.{In-clear_notes, clear-alone, not-true-false, not_true}
-use Rattle.mxf_catalogue.proofs.Lists.{list_any-In}
+use Rattle.mxf_catalogue.proofs.DisputeLaws.{In-clear_notes, clear-alone}
 use Rattle.mxf_views.specs.declared.chain.Chain.{Chain}
 use Rattle.mxf_views.specs.declared.chain.Chain.TheVariants.{Whole, Broken}
 use Rattle.mxf_views.specs.Partitions.{HangTogether, PartitionParts, chain_of, partitions_of}
@@ -23,18 +22,17 @@ use Rattle.mxf_views.specs.Findings.{is_unfit_rip}
 use Rattle.mxf_views.specs.RandomIndex.{is_rip_note, rip_in}
 use Rattle.mxf_views.specs.FindingCauses.{AtClear, HasOther, IsNotLast, ListsOthers, entry_of}
 use Rattle.mxf_views.specs.Readings.{IsReadable, IsReadAs}
-use Rattle.mxf_views.proofs.CauseLaws.{at_clear, either, not_equal, one_of}
+use Rattle.mxf_views.proofs.CauseLaws.{at_clear}
 use Rattle.mxf_views.proofs.ReadingLaws.{reads}
 use Rattle.mxf_views.proofs.ChainLaws.{chain_iff}
-use Rattle.mxf_views.proofs.Members.{both, parts}
 use Rattle.mxf_views.proofs.KindLaws.{rip_kind}
+use Rattle.mxf_klv.proofs.Lists.{list_any-In}
+use Rattle.mxf_klv.proofs.Tests.{not-true-false, not_true, either, not_equal}
+use Rattle.mxf_sets.proofs.RipLaws.{same_entry}
 
 rip_note_says : (n : NoteParts) → (is_rip_note n ≡ true) ↔ (kind_of n.key ≡ kinds.Rip)
 unfolding is_rip_note
 rip_note_says n = rip_kind (kind_of n.key)
-
-same_entry : (e f : RipEntry) → e.body_sid ≡ f.body_sid → e.offset ≡ f.offset → e ≡ f
-same_entry e f a b i = record { body_sid = a i; offset = b i }
 
 lists_says : (ps : List PartitionParts) (es : List RipEntry) → (are_entries_of ps es ≡ true) ↔ (es ≡ map entry_of ps)
 lists_says [] [] = (λ h. refl, λ h. refl)
@@ -45,8 +43,8 @@ lists_says (p ∷ ps) (e ∷ es) =
     let sid = e.body_sid == p.pack.numbers.body_sid in
     let at = e.offset == p.offset in (
       λ h.
-          let s = parts (sid && at) (are_entries_of ps es) h in
-          let t = parts sid at s.0 in
+          let s = and_parts (sid && at) (are_entries_of ps es) h in
+          let t = and_parts sid at s.0 in
           let one = same_entry e (entry_of p) (eqb-true e.body_sid p.pack.numbers.body_sid t.0)
           (eqb-true e.offset p.offset t.1) in
           let rest = ih.0 s.1 in
@@ -54,8 +52,8 @@ lists_says (p ∷ ps) (e ∷ es) =
       λ q.
           let one : e ≡ entry_of p = cc (q) in
           let rest : es ≡ map entry_of ps = cc (q) in
-          both (sid && at) (are_entries_of ps es)
-          (both sid at (eq-eqb e.body_sid p.pack.numbers.body_sid (ap (λ (x : RipEntry). x.body_sid) one))
+          and_from (sid && at) (are_entries_of ps es)
+          (and_from sid at (eq-eqb e.body_sid p.pack.numbers.body_sid (ap (λ (x : RipEntry). x.body_sid) one))
           (eq-eqb e.offset p.offset (ap (λ (x : RipEntry). x.offset) one))) (ih.1 rest),
     )
 
@@ -77,7 +75,7 @@ other_says notes n clear =
     let l = list_any-In (λ m. is_rip_note m && not (m.offset == n.offset)) (clear_notes notes) in (
       λ h.
           let s = l.0 h in
-          let t = parts (is_rip_note s.0) (not (s.0.offset == n.offset)) s.2 in
+          let t = and_parts (is_rip_note s.0) (not (s.0.offset == n.offset)) s.2 in
           let apart = (not_equal s.0.offset n.offset).0 t.1 in
           let differ = λ (e : s.0 ≡ n). apart (ap (λ (x : NoteParts). x.offset) e) in
           (s.0, (In-clear_notes s.0 notes).0 s.1, differ, (rip_note_says s.0).0 t.0),
@@ -86,7 +84,7 @@ other_says notes n clear =
           l.1 (
             s.0,
             (In-clear_notes s.0 notes).1 s.1,
-            both (is_rip_note s.0) (not (s.0.offset == n.offset))
+            and_from (is_rip_note s.0) (not (s.0.offset == n.offset))
                 ((rip_note_says s.0).1 s.3) apart,
           ),
     )
@@ -96,9 +94,9 @@ not_last_says notes n =
     let l = list_any-In (λ (m : NoteParts). m.whole && nat_lt (end_of n) (end_of m)) notes in (
       λ h.
           let s = l.0 h in
-          let p = parts s.0.whole (nat_lt (end_of n) (end_of s.0)) s.2 in
+          let p = and_parts s.0.whole (nat_lt (end_of n) (end_of s.0)) s.2 in
           (s.0, s.1, p.0, ltb-true (end_of n) (end_of s.0) p.1),
-      λ s. l.1 (s.0, s.1, both s.0.whole (nat_lt (end_of n) (end_of s.0)) s.2 (lt-ltb (end_of n) (end_of s.0) s.3)),
+      λ s. l.1 (s.0, s.1, and_from s.0.whole (nat_lt (end_of n) (end_of s.0)) s.2 (lt-ltb (end_of n) (end_of s.0) s.3)),
     )
 
 -- why a random index pack doesn't fit
@@ -127,17 +125,17 @@ unfit_says notes n clear =
     let all = is_index_of ps (rip_in n) in
     let a = all_says ps n in (
       λ h.
-          let s = parts (is_rip_note n) (other || above || not all) h in (
+          let s = and_parts (is_rip_note n) (other || above || not all) h in (
             (rip_note_says n).0 s.0,
-            elim (one_of (other || above) (not all) s.1) [
-              | inl t ↦ elim (one_of other above t) [
+            elim (or_cases (other || above) (not all) s.1) [
+              | inl t ↦ elim (or_cases other above t) [
                 | inl u ↦ inr (inl ((other_says notes n clear).0 u))
                 | inr u ↦ inr (inr (inl ((not_last_says notes n).0 u)))
               ]
               | inr t ↦ lists_not notes n t
             ],
           ),
-      λ s. both (is_rip_note n) (other || above || not all) ((rip_note_says n).1 s.0)
+      λ s. and_from (is_rip_note n) (other || above || not all) ((rip_note_says n).1 s.0)
           (either (other || above) (not all) (elim s.1 [
             | inl u ↦ inr (not_true all (λ t. let k = a.0 t in u (k.0, k.1)))
             | inr v ↦ elim v [

@@ -12,7 +12,7 @@ use Rattle.mxf_views.specs.Places.{placed_segment, segments_among, segments_of}
 use Rattle.mxf_views.specs.RandomIndex.{rips_of}
 use Rattle.mxf_views.proofs.ClearChanges.{IsNew, notes_at_offsets, offsets_follow}
 use Rattle.mxf_views.proofs.CopyUpdates.{copies_follow}
-use Rattle.mxf_views.proofs.ListSteps.{filter_map_some}
+use Rattle.mxf_klv.proofs.Lists.{filter_map_some}
 
 abbrev pub the_kept : List ℕ → List ℕ → List ℕ → List ℕ → List CopyInfo → KeptParts
 the_kept ps ss rs us cs =

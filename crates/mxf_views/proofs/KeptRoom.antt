@@ -13,7 +13,6 @@ use Rattle.mxf_catalogue.proofs.PartLaws.{with_whole}
 use Rattle.mxf_catalogue.specs.Disputes.{IsClear, SharesByte, clear_notes}
 use Rattle.mxf_catalogue.proofs.ContentLaws.{In-union_of, IsContent-union_of}
 use Rattle.mxf_catalogue.proofs.DisputeLaws.{In-clear_notes, IsContent-clear_notes, IsContent-filter}
-use Rattle.mxf_catalogue.proofs.Lists.{In-filter}
 use Rattle.mxf_catalogue.proofs.MergeLaws.{length-union_of}
 use Rattle.mxf_catalogue.proofs.SpanLaws.{not_same}
 use Rattle.mxf_views.specs.Copies.{copies_of}
@@ -25,8 +24,9 @@ use Rattle.mxf_views.specs.declared.kept.offsets.Placed.TheVariants as kinds
 use Rattle.mxf_views.specs.Kept.{HasRoom, KeptParts, is_placed, kept_in, kept_of, offsets_where, states_metadata}
 use Rattle.mxf_views.proofs.CopyUpdates.{length-copies_of}
 use Rattle.mxf_views.proofs.ClearChanges.{no_head}
-use Rattle.mxf_views.proofs.Members.{count_by-cons, tally}
 use Rattle.mxf_views.proofs.ReachLaws.{length-reaches_from}
+use Rattle.mxf_klv.proofs.Counts.{count_by-cons, tally}
+use Rattle.mxf_klv.proofs.Lists.{In-filter}
 
 -- A content that has no notes but those of another is no longer.
 sub_length : (xs ys : List NoteParts) → IsContent xs → IsContent ys → ((n : NoteParts) → In n xs → In n ys)
@@ -98,23 +98,6 @@ clear_in_one a b n p q c =
       | inl h ↦ inl (clear_among_some a all n p (λ m k. (has m).1 (inl (inl k))) c (held_whole a n c.whole h))
       | inr h ↦ inr (clear_among_some b all n q (λ m k. (has m).1 (inr (inl k))) c (held_whole b n c.whole h))
     ]
-
--- It is no longer than the union.
-pub length-reduced_union : (a b : List NoteParts) → IsContent a → AreReduced a
-    → length (reduced_union a b) ≤ length (union_of a b)
-length-reduced_union a b r p =
-    let same = ap length (reduced_union-is a b r p) in
-    let few = length-filter (λ x. not (is_told note_cmp head_note x (union_of a b))) (union_of a b) in
-    omega (arith, same, few)
-  where
-    length-filter : (p : NoteParts → Bool) (ns : List NoteParts) → length (filter p ns) ≤ length ns
-    length-filter p [] = omega arith
-    length-filter p (n ∷ ns) =
-        let ih = length-filter p ns in
-        elim (p n) as (λ b. length (cond b (n ∷ filter p ns) (filter p ns)) ≤ length (n ∷ ns)) [
-          | true ↦ omega (arith, ih)
-          | false ↦ omega (arith, ih)
-        ]
 
 count_is_length : (test : NoteParts → Bool) (ns : List NoteParts) → count_by test ns ≡ length (filter test ns)
 count_is_length test [] = refl

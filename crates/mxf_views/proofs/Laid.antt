@@ -27,6 +27,7 @@ use Rattle.mxf_views.specs.Spans as spans
 use Rattle.mxf_views.specs.Spans.{sizes}
 use Rattle.mxf_catalogue.specs.Disputes.{lies_in}
 use Rattle.mxf_views.specs.WellFormed.{total_of}
+use Rattle.mxf_klv.proofs.Lists.{filter_all}
 
 -- A value that is read only where it is kept is the same whatever is held of others.
 read_where_kept : {A E : Type 0} (read : List ℕ → Result A E) (kept : Bool) (value other : List ℕ)
@@ -87,16 +88,6 @@ pub is_whole : (at : ℕ) (l : List PacketParts) (n : NoteParts) → In n (notes
 is_whole at [] n h = absurd h
 is_whole at (p ∷ ps) n (inl e) = ap (λ (m : NoteParts). m.whole) e
 is_whole at (p ∷ ps) n (inr h) = is_whole (at + size_of p) ps n h
-
--- Each note of the file is clear.
-pub IsClear-laid : (at : ℕ) (l : List PacketParts) (n : NoteParts) → In n (notes_from at l)
-    → IsClear n (notes_from at l)
-IsClear-laid at l n h = record { held = h; whole = is_whole at l n h; undisputed = no_dispute at l n h }
-
-filter_all : (p : NoteParts → Bool) (notes : List NoteParts) → ((n : NoteParts) → In n notes → p n ≡ true)
-    → filter p notes ≡ notes
-filter_all p [] f = refl
-filter_all p (x ∷ xs) f = rw (f x (inl refl)) (ap (λ l. x ∷ l) (filter_all p xs (λ n h. f n (inr h))))
 
 pub not_disputed : (at : ℕ) (l : List PacketParts) (n : NoteParts) → In n (notes_from at l)
     → not (is_disputed n (notes_from at l)) ≡ true
@@ -160,11 +151,6 @@ last_past at (x ∷ xs) ys notes f =
 In-right : (n : NoteParts) (xs ys : List NoteParts) → In n ys → In n (xs ++ ys)
 In-right n [] ys h = h
 In-right n (x ∷ xs) ys h = inr (In-right n xs ys h)
-
-pub In-last : (at : ℕ) (p : PacketParts) (ps : List PacketParts) (notes : List NoteParts)
-    → LastFrom at (p ∷ ps) notes → In (note_of at p) notes
-In-last at p ps notes f =
-    subst (λ ns. In (note_of at p) ns) (sym f.whole) (In-right (note_of at p) f.before (notes_from at (p ∷ ps)) (inl refl))
 
 -- What ends at or below the start of a zone isn't in it.
 zone_none_before : (start bytes : ℕ) (ns : List NoteParts) → AllByRecursion (λ n. end_of n ≤ start) ns

@@ -4,18 +4,18 @@ use Rattle.std.specs.Prelude.{◌++◌, ◌⊎◌, find, count_by, Option, None,
 use Rattle.std.specs.List.{AllByRecursion, list_all}
 use Rattle.std.specs.Option.{option_map, option_and_then}
 use Rattle.std.proofs.Common.{sym, ◌∙◌, ap, subst, inl, inr, arith}
-use Rattle.std.proofs.lemmas.Bool.{eq-eqb, ltb-true, or_right}
+use Rattle.std.proofs.lemmas.Bool.{eq-eqb, ltb-true, or_right, and_from, false_from_ne_true}
 use Rattle.std.proofs.lemmas.List.Sums.{sum_by-append}
 use Rattle.mxf_klv.specs.Rising.{In}
-use Rattle.mxf_catalogue.proofs.Lists.{list_any-In}
 use Rattle.mxf_views.specs.declared.chain.Link.TheVariants.{First, Held}
 use Rattle.mxf_views.specs.Partitions.{PartitionParts, IsGreatestBelow, is_footer, is_greatest, is_header, is_linked}
 use Rattle.mxf_views.specs.Partitions.{link_at, link_of, stands_above}
 use Rattle.mxf_views.specs.Reading.{ends_with_footer, link_read, link_read_at, links_read}
 use Rattle.mxf_views.specs.WellFormed.{NameTheOneBefore}
-use Rattle.mxf_views.proofs.Members.{In-list_all, all-each, both, count-none, count_by-cons, each-all, false_if, tally}
 use Rattle.mxf_views.proofs.PartitionLaws.{link_iff}
 use Rattle.mxf_views.proofs.RisingPartitions.{IsRisingFrom, at_or_above}
+use Rattle.mxf_klv.proofs.Counts.{count-none, count_by-cons, tally}
+use Rattle.mxf_klv.proofs.Lists.{list_any-In, In-list_all, all-In, all_from_In}
 
 offset-same : (p q : PartitionParts) → p ≡ q → p.offset ≡ q.offset
 offset-same p q e = ap (λ (x : PartitionParts). x.offset) e
@@ -25,7 +25,7 @@ offset-same p q e = ap (λ (x : PartitionParts). x.offset) e
 -- Where none passes, none is counted.
 count_none : (t : PartitionParts → Bool) (xs : List PartitionParts) → AllByRecursion (λ x. t x ≡ false) xs
     → count_by t xs ≡ 0
-count_none t xs a = count-none t xs (λ x h e. let f = all-each (λ y. t y ≡ false) xs x a h in cc (e, f))
+count_none t xs a = count-none t xs (λ x h e. let f = all-In (λ y. t y ≡ false) xs x a h in cc (e, f))
 
 -- Where the first alone passes, one is counted.
 count_first : (t : PartitionParts → Bool) (y : PartitionParts) (ys : List PartitionParts) → t y ≡ true
@@ -86,7 +86,7 @@ all-push Q (b ∷ bs) f a q = (a.0, all-push Q bs f a.1 q)
 footer_greatest : (parts : List PartitionParts) (f : EndsInFooter parts) → IsRisingFrom 0 parts
     → is_greatest parts f.footer ≡ true
 footer_greatest parts f r =
-    ap not (false_if (stands_above f.footer.offset parts) (λ t.
+    ap not (false_from_ne_true (stands_above f.footer.offset parts) (λ t.
     let s = (list_any-In (λ x. nat_lt f.footer.offset x.offset) parts).0 t in
     let a : f.footer.offset < s.0.offset = ltb-true f.footer.offset s.0.offset s.2 in
     let b : s.0.offset ≤ f.footer.offset = last_greatest 0 f.before f.footer s.0 (subst (IsRisingFrom 0) f.order r)
@@ -98,13 +98,13 @@ pub footers_greatest : (parts : List PartitionParts) → EndsInFooter parts → 
     → list_all (λ p. not (is_footer p.pack.part) || is_greatest parts p) parts ≡ true
 footers_greatest parts f r =
     let Q : PartitionParts → Type 0 = λ p. (not (is_footer p.pack.part) || is_greatest parts p) ≡ true in
-    let before : AllByRecursion Q f.before = each-all Q f.before (λ x h.
-    let e : is_footer x.pack.part ≡ false = all-each (λ p. is_footer p.pack.part ≡ false) f.before x f.only h in
+    let before : AllByRecursion Q f.before = all_from_In Q f.before (λ x h.
+    let e : is_footer x.pack.part ≡ false = all-In (λ p. is_footer p.pack.part ≡ false) f.before x f.only h in
     rw e refl) in
     let last : Q f.footer = or_right _ _ (footer_greatest parts f r) in
     let all : AllByRecursion Q parts
     = subst (AllByRecursion Q) (sym f.order) (all-push Q f.before f.footer before last) in
-    In-list_all (λ p. not (is_footer p.pack.part) || is_greatest parts p) parts (λ x h. all-each Q parts x all h)
+    In-list_all (λ p. not (is_footer p.pack.part) || is_greatest parts p) parts (λ x h. all-In Q parts x all h)
 
 -- The last of these is the footer.
 ends-append : (bs : List PartitionParts) (f : PartitionParts)
@@ -179,7 +179,7 @@ all_some : (all : List PartitionParts) (before : Option ℕ) (ps : List Partitio
     → list_all (λ l. is_some l.1) (links_read before ps) ≡ true
 all_some all before [] a = refl
 all_some all before (p ∷ ps) a =
-    both (is_some (link_read before p)) (list_all (λ l. is_some l.1) (links_read (Some p.offset) ps))
+    and_from (is_some (link_read before p)) (list_all (λ l. is_some l.1) (links_read (Some p.offset) ps))
     (ap is_some a.0) (all_some all (Some p.offset) ps a.1)
 
 -- The links are those that are read, and each is the right one.
@@ -200,8 +200,8 @@ all_linked (q ∷ qs) b r n =
     let linked : (x : PartitionParts) → In x all → is_linked all x ≡ true = λ x k. elim k [
       | inl e ↦ ap (is_linked all) e ∙ rw (b.1, first) refl
       | inr m ↦
-          let h : is_header x.pack.part ≡ false = all-each (λ p. is_header p.pack.part ≡ false) qs x b.2 m in
-          let l : link_of all x ≡ Held = all-each (λ p. link_of all p ≡ Held) qs x later m in
+          let h : is_header x.pack.part ≡ false = all-In (λ p. is_header p.pack.part ≡ false) qs x b.2 m in
+          let l : link_of all x ≡ Held = all-In (λ p. link_of all p ≡ Held) qs x later m in
           rw (h, l) refl
     ] in
     record {

@@ -30,9 +30,7 @@ pub mod LaidCopies
 pub mod LaidIndex
 pub mod LaidPartitions
 pub mod LaidRandomIndex
-pub mod ListSteps
 pub mod MarkLaws
-pub mod Members
 pub mod OffsetSearch
 pub mod OnlyFound
 pub mod PartitionLaws
@@ -45,6 +43,7 @@ pub mod ReachLaws
 pub mod ReadingLaws
 pub mod RefusedLaws
 pub mod ResolvedLaws
+pub mod Rising
 pub mod RisingPartitions
 pub mod RunLaws
 pub mod SameViewsLaws

@@ -3,7 +3,7 @@ use Rattle.std.proofs.Common.{◌≡◌, ◌∙◌, ℕ, ◌+◌, ◌-◌, ◌<�
 use Rattle.std.proofs.Common.{ap, append_assoc, arith, get_or, inl, inr, le-leb, leb-true, length, nat_le, nat_lt, subst, sym}
 use Rattle.std.specs.Prelude.{count_by, filter, sum_by}
 use Rattle.std.specs.List.Sorted.{IsNonDecreasingBy}
-use Rattle.std.proofs.lemmas.Bool.{ltb-true, ltb-false}
+use Rattle.std.proofs.lemmas.Bool.{ltb-true, ltb-false, and_from, false_from_ne_true, and_parts}
 use Rattle.std.proofs.lemmas.List.{get_or_append_left, get_or-append_right, length-append}
 use Rattle.std.proofs.lemmas.List.Sums.{count_by-le-length, sum_by-append, sum_by-cons}
 use Rattle.mxf_klv.specs.Parts.{NoteParts}
@@ -11,32 +11,30 @@ use Rattle.mxf_klv.specs.Note.{end_of}
 use Rattle.mxf_klv.specs.Rising.{In}
 use Rattle.mxf_catalogue.specs.Content.{IsCatalogue}
 use Rattle.mxf_catalogue.specs.Disputes.{AreApart, clear_notes, lies_in}
-use Rattle.mxf_catalogue.proofs.DisputeLaws.{same_bool}
-use Rattle.mxf_catalogue.proofs.Lists.{length-filter_le}
-use Rattle.mxf_catalogue.proofs.Places.{In-at}
-use Rattle.mxf_catalogue.proofs.ReducedPlaces.{In-append}
 use Rattle.mxf_views.specs.declared.kept.sums.Mark.{Mark}
 use Rattle.mxf_views.specs.Copies.{covered_of, is_preface_note, prefaces_of, zone_of}
 use Rattle.mxf_views.specs.KeptAbove.{clear_from}
 use Rattle.mxf_views.specs.Spans.{is_in_one, size_of, sizes}
 use Rattle.mxf_views.specs.Sums.{AreInRange, AreMarks, IsCut, IsMark}
-use Rattle.mxf_views.proofs.Members.{both, count_by-cons, false_if, parts, tally}
-use Rattle.mxf_views.proofs.SpanCounts.{count-le, zone-count}
+use Rattle.mxf_views.proofs.SpanCounts.{zone-count}
 use Rattle.mxf_views.proofs.SumLaws.{zone_above}
-use Rattle.mxf_views.proofs.CopyLaws.{apart_above}
+use Rattle.mxf_catalogue.proofs.ApartLaws.{begins_above}
+use Rattle.mxf_klv.proofs.Counts.{count_by-cons, tally, range-le}
+use Rattle.mxf_klv.proofs.Lists.{length-filter_le, In-at, In-append}
+use Rattle.mxf_klv.proofs.Tests.{same_bool}
 
 -- ---- a range, cut in two
 
 lies_says : (start bytes : ℕ) (n : NoteParts) → lies_in start bytes n ≡ true
     → (start ≤ n.offset) × (end_of n ≤ start + bytes)
 lies_says start bytes n t =
-    let p = parts (nat_le start n.offset) (nat_le (end_of n) (start + bytes)) t in
+    let p = and_parts (nat_le start n.offset) (nat_le (end_of n) (start + bytes)) t in
     (leb-true start n.offset p.0, leb-true (end_of n) (start + bytes) p.1)
 
 lies_if : (start bytes : ℕ) (n : NoteParts) → start ≤ n.offset → end_of n ≤ start + bytes
     → lies_in start bytes n ≡ true
 lies_if start bytes n l h =
-    both (nat_le start n.offset) (nat_le (end_of n) (start + bytes)) (le-leb start n.offset l)
+    and_from (nat_le start n.offset) (nat_le (end_of n) (start + bytes)) (le-leb start n.offset l)
     (le-leb (end_of n) (start + bytes) h)
 
 weighed : (f : NoteParts → ℕ) (p : NoteParts → Bool) (n : NoteParts) (ns : List NoteParts)
@@ -47,7 +45,7 @@ weighed f p n ns =
       | false ↦ omega arith
     ]
 
--- What lies in a range is what lies in its parts below and above an offset that no note lies across.
+-- What lies in a range is what lies in its and_parts below and above an offset that no note lies across.
 cut_sum : (f : NoteParts → ℕ) (start cut bytes low high : ℕ) (ns : List NoteParts) → cut ≡ start + low
     → bytes ≡ low + high → IsCut cut ns
     → sum_by f (zone_of start bytes ns) ≡ sum_by f (zone_of start low ns) + sum_by f (zone_of cut high ns)
@@ -65,7 +63,7 @@ cut_sum f start cut bytes low high (n ∷ ns) at all c =
           (λ t.
           let h : end_of n ≤ start + low = (lies_says start low n t).1 in
           lies_if start bytes n (lies_says start low n t).0 (omega (arith, h, all))) in
-          let none : lies_in cut high n ≡ false = false_if (lies_in cut high n) (λ t.
+          let none : lies_in cut high n ≡ false = false_from_ne_true (lies_in cut high n) (λ t.
           let h : cut ≤ n.offset = (lies_says cut high n t).0 in omega (arith, h, l)) in
           let a = ap (λ b. cond b (f n) 0) same in
           let z : cond (lies_in cut high n) (f n) 0 ≡ 0 = ap (λ b. cond b (f n) 0) none in
@@ -79,7 +77,7 @@ cut_sum f start cut bytes low high (n ∷ ns) at all c =
           (λ t.
           let h : end_of n ≤ cut + high = (lies_says cut high n t).1 in
           lies_if start bytes n (omega (arith, l, at)) (omega (arith, h, at, all))) in
-          let none : lies_in start low n ≡ false = false_if (lies_in start low n) (λ t.
+          let none : lies_in start low n ≡ false = false_from_ne_true (lies_in start low n) (λ t.
           let h : end_of n ≤ start + low = (lies_says start low n t).1 in omega (arith, h, l, at)) in
           let a = ap (λ b. cond b (f n) 0) same in
           let z : cond (lies_in start low n) (f n) 0 ≡ 0 = ap (λ b. cond b (f n) 0) none in
@@ -107,7 +105,7 @@ by_cuts f start bytes first last ns c d from order to =
 pub covered_fits : (start bytes : ℕ) (ns : List NoteParts) → AreApart 0 ns → sizes (zone_of start bytes ns) ≤ bytes
 covered_fits start bytes ns a =
     let counted = zone-count ns 0 start bytes a in
-    let most = count-le (is_in_one (zone_of start bytes ns)) start bytes in omega (arith, counted, most)
+    let most = range-le (is_in_one (zone_of start bytes ns)) start bytes in omega (arith, counted, most)
 
 pub prefaces_fit : (start bytes : ℕ) (ns : List NoteParts)
     → count_by is_preface_note (zone_of start bytes ns) ≤ length ns
@@ -120,12 +118,12 @@ prefaces_fit start bytes ns =
 above_first : (low : ℕ) (y n : NoteParts) (ys rest : List NoteParts) → AreApart low (y ∷ (ys ++ n ∷ rest))
     → end_of y ≤ n.offset
 above_first low y n ys rest a =
-    apart_above (end_of y) (ys ++ n ∷ rest) n a.1 ((In-append n ys (n ∷ rest)).1 (inr (inl refl)))
+    begins_above (end_of y) (ys ++ n ∷ rest) n a.1 ((In-append n ys (n ∷ rest)).1 (inr (inl refl)))
 
 rest_above : (low : ℕ) (before rest : List NoteParts) (n x : NoteParts) → AreApart low (before ++ n ∷ rest) → In x rest
     → n.offset ≤ x.offset
 rest_above low [] rest n x a h =
-    let g : end_of n ≤ x.offset = apart_above (end_of n) rest x a.1 h in omega (arith, g)
+    let g : end_of n ≤ x.offset = begins_above (end_of n) rest x a.1 h in omega (arith, g)
 rest_above low (y ∷ ys) rest n x a h = rest_above (end_of y) ys rest n x a.1 h
 
 cut_there : (low : ℕ) (before rest : List NoteParts) (n x : NoteParts) → AreApart low (before ++ n ∷ rest)
@@ -148,7 +146,7 @@ none_below : (offset : ℕ) (ns : List NoteParts) → ((m : NoteParts) → In m 
     → zone_of 0 offset ns ≡ []
 none_below offset [] f = refl
 none_below offset (m ∷ ns) f =
-    left_first (lies_in 0 offset) m ns [] (false_if (lies_in 0 offset m) (λ t.
+    left_first (lies_in 0 offset) m ns [] (false_from_ne_true (lies_in 0 offset m) (λ t.
     let h : end_of m ≤ 0 + offset = (lies_says 0 offset m t).1 in
     let l : offset ≤ m.offset = f m (inl refl) in omega (arith, h, l)))
     (none_below offset ns (λ x h. f x (inr h)))

@@ -5,69 +5,31 @@ use Rattle.std.specs.List.{AllWithin, list_any}
 use Rattle.std.specs.List.Sorted.{IsNonDecreasingBy}
 use Rattle.std.specs.Ordering.{nat_cmp}
 use Rattle.std.specs.declared.cmp.Ordering.TheVariants.{Less, Equal, Greater}
-use Rattle.std.proofs.lemmas.Bool.{ltb-true, lt-ltb}
+use Rattle.std.proofs.lemmas.Bool.{ltb-true, lt-ltb, and_from, false_from_ne_true, and_parts}
 use Rattle.std.proofs.lemmas.Cmp.{nat_cmp_total}
 use Rattle.mxf_klv.specs.Parts.{NoteParts}
 use Rattle.mxf_klv.specs.Rising.{In, IsRising, less_in}
-use Rattle.mxf_catalogue.proofs.DisputeLaws.{In-clear_notes, same_bool}
-use Rattle.mxf_catalogue.proofs.Lists.{list_any-In}
-use Rattle.mxf_catalogue.proofs.Places.{In-at}
-use Rattle.mxf_catalogue.proofs.Ranges.{by_places}
+use Rattle.mxf_catalogue.proofs.DisputeLaws.{In-clear_notes}
 use Rattle.mxf_views.specs.declared.kept.offsets.Placed.TheVariants as kinds
 use Rattle.mxf_views.specs.Kept.{is_placed, lies_between, offsets_where}
 use Rattle.mxf_views.specs.Partitions.{PartitionParts, partition_at, partitions_of, stands_above, stands_between}
 use Rattle.mxf_views.proofs.ClearChanges.{In-offsets}
-use Rattle.mxf_views.proofs.Members.{both, false_if, parts}
 use Rattle.mxf_views.proofs.PartitionLaws.{offset-partition_at}
 use Rattle.mxf_views.proofs.PartitionSearch.{is_there, of_note}
-
-less_than : (a b : ℕ) → nat_cmp a b ≡ Less → a < b
-less_than a b e =
-    elim (nat_lt a b) as (λ t. nat_lt a b ≡ t → a < b) [
-      | true ↦ λ t. ltb-true a b t
-      | false ↦ λ t. absurd (no t e)
-    ] refl
-  where
-    no : nat_lt a b ≡ false → nat_cmp a b ≡ Less → ⊥
-    no t = rw t (elim (a == b) as (λ s. cond s Equal Greater ≡ Less → ⊥) [ true ↦ λ q. cc (q) | false ↦ λ q. cc (q) ])
+use Rattle.mxf_klv.proofs.Lists.{list_any-In, In-at}
+use Rattle.mxf_klv.proofs.Tests.{lt_from_less, same_bool, by_places}
+use Rattle.mxf_klv.proofs.RisingBy.{by_itself, never_falls, last_above as any_above}
 
 above_first : (x y : ℕ) (xs : List ℕ) → IsRising nat_cmp (x ∷ xs) → In y xs → x < y
-above_first x y xs r h = less_than x y (less_in nat_cmp_total x y xs r.0 h)
-
-rising_places : (xs : List ℕ) (i j d : ℕ) → IsRising nat_cmp xs → i < j → j < length xs → get_or xs i d < get_or xs j d
-rising_places [] i j d r l h = absurd (omega arith)
-rising_places (x ∷ xs) zero zero d r l h = absurd (omega arith)
-rising_places (x ∷ xs) zero (suc j) d r l h = above_first x (get_or xs j d) xs r (In-at xs j d (omega arith))
-rising_places (x ∷ xs) (suc i) zero d r l h = absurd (omega arith)
-rising_places (x ∷ xs) (suc i) (suc j) d r l h = rising_places xs i j d r.1 (omega arith) (omega arith)
+above_first x y xs r h = lt_from_less x y (less_in nat_cmp_total x y xs r.0 h)
 
 pub offsets_never_fall : (xs : List ℕ) → IsRising nat_cmp xs → IsNonDecreasingBy (λ o. o) xs
-offsets_never_fall xs r i j d l h =
-    by_places (λ i j. get_or xs i d ≤ get_or xs j d) i j l (λ k. omega arith)
-    (λ t. let m : get_or xs i d < get_or xs j d = rising_places xs i j d r t h in omega arith)
-
--- None lies above the last.
-at_most_last : (xs : List ℕ) (y k d : ℕ) → IsRising nat_cmp xs → k + 1 ≡ length xs → In y xs → y ≤ get_or xs k d
-at_most_last [] y k d r l h = absurd h
-at_most_last (x ∷ []) y zero d r l (inl e) = omega (arith, e)
-at_most_last (x ∷ []) y zero d r l (inr h) = absurd h
-at_most_last (x ∷ z ∷ xs) y zero d r l h = absurd (omega (arith, l))
-at_most_last (x ∷ xs) y (suc k) d r l (inl e) =
-    let a : x < get_or xs k d = above_first x (get_or xs k d) xs r (In-at xs k d (omega (arith, l))) in
-    omega (arith, a, e)
-at_most_last (x ∷ xs) y (suc k) d r l (inr h) = at_most_last xs y k d r.1 (omega (arith, l)) h
+offsets_never_fall xs r = never_falls (λ o. o) xs (by_itself xs r)
 
 -- So the last tells whether one lies above another offset.
 pub last_above : (low : ℕ) (xs : List ℕ) (k d : ℕ) → IsRising nat_cmp xs → k + 1 ≡ length xs
     → nat_lt low (get_or xs k d) ≡ list_any (nat_lt low) xs
-last_above low xs k d r l =
-    same_bool (nat_lt low (get_or xs k d)) (list_any (nat_lt low) xs)
-    (λ t. (list_any-In (nat_lt low) xs).1 (get_or xs k d, In-at xs k d (omega (arith, l)), t))
-    (λ t.
-    let s = (list_any-In (nat_lt low) xs).0 t in
-    let a : s.0 ≤ get_or xs k d = at_most_last xs s.0 k d r l s.1 in
-    let b : low < s.0 = ltb-true low s.0 s.2 in
-    lt-ltb low (get_or xs k d) (omega (arith, a, b)))
+last_above low xs k d r = any_above (λ o. o) low xs k d (by_itself xs r)
 
 pub none_above : (low : ℕ) (xs : List ℕ) → length xs ≤ 0 → list_any (nat_lt low) xs ≡ false
 none_above low [] l = refl
@@ -80,7 +42,7 @@ none_between low high [] i l f b = refl
 none_between low high (x ∷ xs) zero l f b = absurd (omega arith)
 none_between low high (x ∷ xs) (suc i) l f b =
     let h : x ≤ low = f 0 0 (omega arith) (omega arith) in
-    let no : nat_lt low x ≡ false = false_if (nat_lt low x) (λ t. let u : low < x = ltb-true low x t in omega arith) in
+    let no : nat_lt low x ≡ false = false_from_ne_true (nat_lt low x) (λ t. let u : low < x = ltb-true low x t in omega arith) in
     rw no (none_between low high xs i (omega arith) (λ k e a b. f (suc k) e (omega arith) (omega arith)) (omega arith))
 
 -- Else the first above it tells.
@@ -92,10 +54,10 @@ first_between low high (x ∷ xs) zero d r l f g =
     let h : low < x = g 0 d (omega arith) (omega arith) in
     let yes : nat_lt low x ≡ true = lt-ltb low x h in
     same_bool (nat_lt x high) (list_any (lies_between low high) (x ∷ xs))
-    (λ t. (list_any-In (lies_between low high) (x ∷ xs)).1 (x, inl refl, both (nat_lt low x) (nat_lt x high) yes t))
+    (λ t. (list_any-In (lies_between low high) (x ∷ xs)).1 (x, inl refl, and_from (nat_lt low x) (nat_lt x high) yes t))
     (λ t.
     let s = (list_any-In (lies_between low high) (x ∷ xs)).0 t in
-    let p = parts (nat_lt low s.0) (nat_lt s.0 high) s.2 in
+    let p = and_parts (nat_lt low s.0) (nat_lt s.0 high) s.2 in
     elim s.1 [
       | inl e ↦ ap (λ y. nat_lt y high) (sym e) ∙ p.1
       | inr k ↦ (
@@ -104,7 +66,7 @@ first_between low high (x ∷ xs) zero d r l f g =
     ])
 first_between low high (x ∷ xs) (suc i) d r l f g =
     let h : x ≤ low = f 0 d (omega arith) (omega arith) in
-    let no : nat_lt low x ≡ false = false_if (nat_lt low x) (λ t. let u : low < x = ltb-true low x t in omega arith) in
+    let no : nat_lt low x ≡ false = false_from_ne_true (nat_lt low x) (λ t. let u : low < x = ltb-true low x t in omega arith) in
     rw no (first_between low high xs i d r.1 (omega arith)
     (λ k e a b. f (suc k) e (omega arith) (omega arith)) (λ k e a b. g (suc k) e (omega arith) (omega arith)))
 

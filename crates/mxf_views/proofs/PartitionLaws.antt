@@ -3,7 +3,7 @@ use Rattle.std.proofs.Common.{◌≡◌, ℕ, ◌<◌, ◌≤◌, Bool, true, fa
 use Rattle.std.proofs.Common.{None, refl, sym, ap, subst, ◌∙◌, inl, inr, arith, eqb-true, eq-eqb, leb-true}
 use Rattle.std.specs.Prelude.{◌↔◌, ◌&&◌, ◌==◌, nat_le, nat_lt, find, not, if◌then◌else◌}
 use Rattle.std.specs.Option.{option_map}
-use Rattle.std.proofs.lemmas.Bool.{ltb-true, lt-ltb, leb-false}
+use Rattle.std.proofs.lemmas.Bool.{ltb-true, lt-ltb, leb-false, and_from, and_parts}
 use Rattle.mxf_klv.specs.Parts.{NoteParts}
 use Rattle.mxf_klv.specs.Note.{end_of}
 use Rattle.mxf_klv.specs.Kind.{kind_of}
@@ -14,14 +14,16 @@ use Rattle.mxf_catalogue.specs.Content.{IsContent}
 use Rattle.mxf_catalogue.specs.Disputes.{AreApart, clear_notes}
 use Rattle.mxf_catalogue.proofs.DisputeLaws.{In-clear_notes}
 use Rattle.mxf_catalogue.proofs.SpanLaws.{AreApart-clear_notes}
-use Rattle.mxf_catalogue.proofs.Lists.{list_any-In, found-In, find-only}
 use Rattle.mxf_views.specs.declared.chain.Link.{Link}
 use Rattle.mxf_views.specs.declared.chain.Link.TheVariants.{First, Held, Skips, Missing, Wrong}
 use Rattle.mxf_views.specs.Partitions.{PartitionParts, IsReadablePack, IsPartition, AreInOrder, StandsAt}
 use Rattle.mxf_views.specs.Partitions.{IsGreatestBelow, IsLink, IsLinkAt, pack_of, partition_at, partitions_among}
 use Rattle.mxf_views.specs.Partitions.{partitions_of, link_of, link_at, previous_of, stands_at, stands_between}
 use Rattle.mxf_views.proofs.ReadingLaws.{reads}
-use Rattle.mxf_views.proofs.Members.{In-filter_map, all-each, each-all, both, parts}
+use Rattle.mxf_klv.proofs.Lists.{list_any-In, found-In, find-only, In-filter_map, all-In, all_from_In}
+use Rattle.mxf_catalogue.proofs.ApartLaws.{apart_rises}
+use Rattle.mxf_klv.proofs.RisingBy.{one_by_key, rises-filter_map}
+use Rattle.mxf_views.proofs.Rising.{by_offset}
 
 -- ---- which partitions there are
 
@@ -68,56 +70,18 @@ partitions_are notes p =
       λ s. m.1 (s.0, (In-clear_notes s.0 notes).1 s.1, readable_to s.0 p s.2),
     )
 
-pub above_among : (low : ℕ) (notes : List NoteParts) (p : PartitionParts) → AreApart low notes
-    → In p (partitions_among notes) → low ≤ p.offset
-above_among low [] p a h = absurd h
-above_among low (n ∷ notes) p a h =
-    let s = (In-filter_map partition_at (n ∷ notes) p).0 h in
-    let o : p.offset ≡ s.0.offset = offset-partition_at s.0 p s.2 in
-    let l : low ≤ n.offset = a.0 in
-    elim s.1 [
-      | inl e ↦ (let f : s.0.offset ≡ n.offset = ap (λ (x : NoteParts). x.offset) e in omega (arith, o, f, l))
-      | inr k ↦ (let ih : end_of n ≤ p.offset = above_among (end_of n) notes p a.1
-          ((In-filter_map partition_at notes p).1 (s.0, k, s.2)) in omega arith)
-    ]
-
-pub in_order : (low : ℕ) (notes : List NoteParts) → AreApart low notes → AreInOrder (partitions_among notes)
-in_order low [] a = tt
-in_order low (n ∷ notes) a =
-    let ih = in_order (end_of n) notes a.1 in
-    elim (partition_at n) as (λ o. partition_at n ≡ o → AreInOrder (partitions_among (n ∷ notes))) [
-      | None ↦ λ e. rw e ih
-      | Some p ↦ λ e. rw e (
-        each-all (λ q. p.offset < q.offset) (partitions_among notes) (λ q h.
-            let o : p.offset ≡ n.offset = offset-partition_at n p e in
-            let l : end_of n ≤ q.offset = above_among (end_of n) notes q a.1 h in
-            omega (arith, o, l)),
-        ih,
-      )
-    ] refl
-
 -- They rise.
 pub partitions_rise : (notes : List NoteParts) → IsContent notes → AreInOrder (partitions_of notes)
 unfolding partitions_of
-partitions_rise notes r = in_order 0 (clear_notes notes) (AreApart-clear_notes notes r)
+partitions_rise notes r =
+    let clear = clear_notes notes in
+    (by_offset _).1 (rises-filter_map (λ n. n.offset) partition_at (λ p. p.offset) clear offset-partition_at
+    (apart_rises 0 clear (AreApart-clear_notes notes r)))
 
 -- At one offset one partition stands at most.
 pub one_there : (ps : List PartitionParts) (p q : PartitionParts) → AreInOrder ps → In p ps → In q ps
     → p.offset ≡ q.offset → p ≡ q
-one_there [] p q r h k e = absurd h
-one_there (x ∷ ps) p q r h k e =
-    elim h [
-      | inl a ↦ elim k [
-        | inl b ↦ a ∙ sym b
-        | inr b ↦ (let l : x.offset < q.offset = all-each (λ z. x.offset < z.offset) ps q r.0 b in let f = ap
-            (λ (z : PartitionParts). z.offset) a in absurd (omega (arith, l, f, e)))
-      ]
-      | inr a ↦ elim k [
-        | inl b ↦ (let l : x.offset < p.offset = all-each (λ z. x.offset < z.offset) ps p r.0 a in let f = ap
-            (λ (z : PartitionParts). z.offset) b in absurd (omega (arith, l, f, e)))
-        | inr b ↦ one_there ps p q r.1 a b e
-      ]
-    ]
+one_there ps p q r = one_by_key (λ z. z.offset) ps p q ((by_offset ps).0 r)
 
 -- ---- links
 
@@ -135,7 +99,7 @@ between_says : (ps : List PartitionParts) (low high : ℕ) → stands_between lo
     → IsGreatestBelow ps high low → ⊥
 between_says ps low high t g =
     let s = (list_any-In (λ q. nat_lt low q.offset && nat_lt q.offset high) ps).0 t in
-    let b = parts (nat_lt low s.0.offset) (nat_lt s.0.offset high) s.2 in
+    let b = and_parts (nat_lt low s.0.offset) (nat_lt s.0.offset high) s.2 in
     let x : low < s.0.offset = ltb-true low s.0.offset b.0 in
     let y : s.0.offset ≤ low = g.greatest s.0 s.1 (ltb-true s.0.offset high b.1) in
     omega arith
@@ -147,7 +111,7 @@ none_between ps low high s l f = record {
   below = l;
   greatest = λ q h b. elim (nat_lt low q.offset) as (λ t. nat_lt low q.offset ≡ t → q.offset ≤ low) [
     | true ↦ λ t. absurd (let u = (list_any-In (λ x. nat_lt low x.offset && nat_lt x.offset high) ps).1
-        (q, h, both (nat_lt low q.offset) (nat_lt q.offset high) t (lt-ltb q.offset high b)) in cc (u, f))
+        (q, h, and_from (nat_lt low q.offset) (nat_lt q.offset high) t (lt-ltb q.offset high b)) in cc (u, f))
     | false ↦ λ t. Rattle.std.proofs.lemmas.Bool.ltb-false low q.offset t
   ] refl;
 }

@@ -4,23 +4,23 @@ use Rattle.std.proofs.Common.{sym, ap, ◌∙◌, inl, arith, eqb-true, eq-eqb, 
 use Rattle.std.specs.Prelude.{◌&&◌, ◌==◌, nat_lt, find, filter, is_some}
 use Rattle.std.specs.List.{cons_option, list_any}
 use Rattle.std.specs.Option.{option_and_then}
-use Rattle.std.proofs.lemmas.Bool.{ltb-true, lt-ltb}
+use Rattle.std.proofs.lemmas.Bool.{ltb-true, lt-ltb, and_from, false_from_ne_true, and_parts}
 use Rattle.mxf_klv.specs.Parts.{NoteParts}
 use Rattle.mxf_klv.specs.Note.{IsNote, end_of}
 use Rattle.mxf_klv.specs.Rising.{In}
 use Rattle.mxf_catalogue.specs.Content.{IsCatalogue}
 use Rattle.mxf_catalogue.specs.Disputes.{AreApart, clear_notes, lies_in}
-use Rattle.mxf_catalogue.proofs.ContentLaws.{all-In}
-use Rattle.mxf_catalogue.proofs.DisputeLaws.{In-clear_notes, clear-alone, same_bool}
-use Rattle.mxf_catalogue.proofs.Lists.{In-filter, In-map, list_any-In, find-none, find-only, found-In, none_found}
+use Rattle.mxf_catalogue.proofs.DisputeLaws.{In-clear_notes, clear-alone}
 use Rattle.mxf_views.specs.declared.copy.CopyInfo.{CopyInfo}
 use Rattle.mxf_views.specs.Copies.{copies_of, copy_of, has_metadata}
 use Rattle.mxf_views.specs.Findings.{footer_stands_at}
 use Rattle.mxf_views.specs.Partitions.{PartitionParts, is_footer, partition_at, partitions_among}
 use Rattle.mxf_views.specs.Partitions.{partitions_of, stands_at, stands_between}
 use Rattle.mxf_views.proofs.CopyLaws.{copy_there}
-use Rattle.mxf_views.proofs.Members.{In-filter_map, both, false_if, parts}
-use Rattle.mxf_views.proofs.PartitionLaws.{above_among, offset-partition_at}
+use Rattle.mxf_views.proofs.PartitionLaws.{offset-partition_at}
+use Rattle.mxf_klv.proofs.Lists.{all-In, In-filter, In-map, list_any-In, find-none, find-only, found-In, none_found}
+use Rattle.mxf_klv.proofs.Lists.{In-filter_map}
+use Rattle.mxf_klv.proofs.Tests.{same_bool}
 
 -- A partition is that of a clear note with its offset.
 pub record IsOfNote (notes : List NoteParts) (p : PartitionParts) : Type 0 where
@@ -90,7 +90,7 @@ stands_found ps o p e =
 
 stands_lacked : (ps : List PartitionParts) (o : ℕ) → find (λ p. p.offset == o) ps ≡ None → stands_at o ps ≡ false
 stands_lacked ps o e =
-    false_if (stands_at o ps) (λ t.
+    false_from_ne_true (stands_at o ps) (λ t.
     let s = (list_any-In (λ (p : PartitionParts). p.offset == o) ps).0 t in
     none_found (λ (p : PartitionParts). p.offset == o) ps s.0 e s.1 s.2)
 
@@ -109,94 +109,18 @@ footer_found notes o p e =
     same_bool (footer_stands_at o ps) (is_footer p.pack.part)
     (λ t.
     let s = (list_any-In test ps).0 t in
-    let b = parts (is_footer s.0.pack.part) (s.0.offset == o) s.2 in
+    let b = and_parts (is_footer s.0.pack.part) (s.0.offset == o) s.2 in
     let same : s.0 ≡ p = one_partition notes s.0 p s.1 f.0 (eqb-true s.0.offset o b.1 ∙ sym (eqb-true p.offset o f.1)) in
     sym (ap (λ (q : PartitionParts). is_footer q.pack.part) same) ∙ b.0)
-    (λ t. (list_any-In test ps).1 (p, f.0, both (is_footer p.pack.part) (p.offset == o) t f.1))
+    (λ t. (list_any-In test ps).1 (p, f.0, and_from (is_footer p.pack.part) (p.offset == o) t f.1))
 
 pub footer_lacked : (ps : List PartitionParts) (o : ℕ) → find (λ p. p.offset == o) ps ≡ None
     → footer_stands_at o ps ≡ false
 footer_lacked ps o e =
     let test = λ (q : PartitionParts). is_footer q.pack.part && q.offset == o in
-    false_if (footer_stands_at o ps) (λ t.
+    false_from_ne_true (footer_stands_at o ps) (λ t.
     let s = (list_any-In test ps).0 t in
-    none_found (λ (p : PartitionParts). p.offset == o) ps s.0 e s.1 (parts (is_footer s.0.pack.part) (s.0.offset == o) s.2).1)
-
--- Those above an offset are those of the clear notes from it on.
-pub between_from : (notes : List NoteParts) (low high : ℕ) → IsCatalogue notes
-    → stands_between low high (partitions_among (filter (lies_in low 18446744073709551615) (clear_notes notes)))
-    ≡ stands_between low high (partitions_of notes)
-between_from notes low high c =
-    let range = filter (lies_in low 18446744073709551615) (clear_notes notes) in
-    let test = λ (p : PartitionParts). nat_lt low p.offset && nat_lt p.offset high in
-    same_bool (list_any test (partitions_among range)) (list_any test (partitions_of notes))
-    (λ t.
-    let s = (list_any-In test (partitions_among range)).0 t in
-    let of = (In-filter_map partition_at range s.0).0 s.1 in
-    let inside = (In-filter (lies_in low 18446744073709551615) (clear_notes notes) of.0).0 of.1 in
-    (list_any-In test (partitions_of notes)).1 (s.0, is_there notes of.0 s.0 inside.0 of.2, s.2))
-    (λ t.
-    let s = (list_any-In test (partitions_of notes)).0 t in
-    let a = of_note notes s.0 s.1 in
-    let above : low < s.0.offset = ltb-true low s.0.offset (parts (nat_lt low s.0.offset) (nat_lt s.0.offset high) s.2).0 in
-    let at : s.0.offset ≡ a.note.offset = a.offset in
-    let clear = (In-clear_notes a.note notes).0 a.clear in
-    let within = (all-In IsNote notes a.note c.members clear.held).within in
-    let low_end : low ≤ a.note.offset = omega (arith, above, at) in
-    let high_end : end_of a.note ≤ low + 18446744073709551615 = omega (arith, within) in
-    let inside = (In-filter (lies_in low 18446744073709551615) (clear_notes notes) a.note).1
-    (a.clear, both _ _ (le-leb low a.note.offset low_end) (le-leb (end_of a.note) (low + 18446744073709551615) high_end)) in
-    (list_any-In test (partitions_among range)).1 (s.0, (In-filter_map partition_at range s.0).1 (a.note, inside, a.read), s.2))
-
--- Going over notes apart: none behind one at or above the upper offset stands between.
-pub between_stops : (low high : ℕ) (n : NoteParts) (ns : List NoteParts) → AreApart 0 (n ∷ ns) → high ≤ n.offset
-    → stands_between low high (partitions_among (n ∷ ns)) ≡ false
-between_stops low high n ns a l =
-    let test = λ (p : PartitionParts). nat_lt low p.offset && nat_lt p.offset high in
-    false_if (stands_between low high (partitions_among (n ∷ ns))) (λ t.
-    let s = (list_any-In test (partitions_among (n ∷ ns))).0 t in
-    let from : n.offset ≤ n.offset = omega arith in
-    let above : n.offset ≤ s.0.offset = above_among n.offset (n ∷ ns) s.0 (from, a.1) s.1 in
-    let below : s.0.offset < high = ltb-true s.0.offset high (parts (nat_lt low s.0.offset) (nat_lt s.0.offset high) s.2).1 in
-    omega arith)
-
--- A partition above the lower one and below the upper one does.
-pub between_found : (low high : ℕ) (n : NoteParts) (ns : List NoteParts) → low < n.offset → n.offset < high
-    → is_some (partition_at n) ≡ true → stands_between low high (partitions_among (n ∷ ns)) ≡ true
-between_found low high n ns l h e =
-    let test = λ (p : PartitionParts). nat_lt low p.offset && nat_lt p.offset high in
-    elim (partition_at n) as (λ o. partition_at n ≡ o → is_some o ≡ true
-    → stands_between low high (partitions_among (n ∷ ns)) ≡ true) [
-      | None ↦ λ u t. absurd cc
-      | Some p ↦ λ u t.
-          let at : p.offset ≡ n.offset = offset-partition_at n p u in
-          let b : low < p.offset = omega (arith, at, l) in
-          let c : p.offset < high = omega (arith, at, h) in
-          (list_any-In test (partitions_among (n ∷ ns))).1 (
-            p,
-            (In-filter_map partition_at (n ∷ ns) p).1 (n, inl refl, u),
-            both (nat_lt low p.offset) (nat_lt p.offset high) (lt-ltb low p.offset b) (lt-ltb p.offset high c),
-          )
-    ] refl e
-
--- Any other is passed.
-pub between_passes : (low high : ℕ) (n : NoteParts) (ns : List NoteParts)
-    → (nat_lt low n.offset && is_some (partition_at n)) ≡ false
-    → stands_between low high (partitions_among (n ∷ ns)) ≡ stands_between low high (partitions_among ns)
-between_passes low high n ns e =
-    let test = λ (p : PartitionParts). nat_lt low p.offset && nat_lt p.offset high in
-    elim (partition_at n) as (λ o. partition_at n ≡ o → (nat_lt low n.offset && is_some o) ≡ false
-    → list_any test (cons_option o (partitions_among ns)) ≡ list_any test (partitions_among ns)) [
-      | None ↦ λ u t. refl
-      | Some p ↦ λ u t.
-          let at : p.offset ≡ n.offset = offset-partition_at n p u in
-          let no : nat_lt low n.offset ≡ false = elim (nat_lt low n.offset) as (λ b. (b && true) ≡ false → b ≡ false) [
-            | true ↦ λ f. absurd cc
-            | false ↦ λ f. refl
-          ] t in
-          let low_no : nat_lt low p.offset ≡ false = ap (nat_lt low) at ∙ no in
-          rw low_no refl
-    ] refl e
+    none_found (λ (p : PartitionParts). p.offset == o) ps s.0 e s.1 (and_parts (is_footer s.0.pack.part) (s.0.offset == o) s.2).1)
 
 -- ---- copies
 

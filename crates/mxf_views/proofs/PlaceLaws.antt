@@ -19,15 +19,11 @@ use Rattle.mxf_views.specs.declared.index.place.Place.{Place}
 use Rattle.mxf_views.specs.declared.index.place.Place.TheVariants.{NotIndexed, At, Ambiguous}
 use Rattle.mxf_views.specs.Places.{AreTwoLeast, IsBelow, IsGiven, IsOnlyPair, IsPlace, SegmentAtParts, pair_cmp}
 use Rattle.mxf_views.specs.Places.{pair_of, pairs_with, place_by, place_of}
-use Rattle.mxf_views.proofs.Members.{In-filter_map}
+use Rattle.mxf_klv.proofs.Lists.{In-filter_map}
+use Rattle.mxf_klv.proofs.Tests.{ties}
 
 pub pair_total : IsTotalOrder pair_cmp
 pair_total = then_total (on_total (λ p. p.body_sid) nat_cmp_total) (on_total (λ p. p.offset) nat_cmp_total)
-
-ties : (a b : Ordering) → ordering_then a b ≡ Equal → (a ≡ Equal) × (b ≡ Equal)
-ties Less b e = cc
-ties Equal b e = (refl, e)
-ties Greater b e = cc
 
 pub same_pair : (a b : Pair) → a.body_sid ≡ b.body_sid → a.offset ≡ b.offset → a ≡ b
 same_pair a b e f i = record { body_sid = e i; offset = f i }

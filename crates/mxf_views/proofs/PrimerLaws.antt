@@ -12,22 +12,22 @@ use Rattle.mxf_sets.specs.Readable.{read_as}
 use Rattle.mxf_catalogue.specs.Content.{IsContent}
 use Rattle.mxf_catalogue.specs.Disputes.{IsClear, clear_notes}
 use Rattle.mxf_catalogue.proofs.DisputeLaws.{In-clear_notes, SharesByte-same_offset}
-use Rattle.mxf_catalogue.proofs.Lists.{find-only, found-In, none_found}
 use Rattle.mxf_views.specs.declared.copy.CopyInfo.{CopyInfo}
 use Rattle.mxf_views.specs.Copies.{CopiesRise, IsCopy, IsPrimerOf, IsStart, IsStartFound, copies_of}
 use Rattle.mxf_views.specs.Labels.{IsFirstWith, IsInZoneOf, IsPrimerFor, is_in_copy, is_in_zone}
 use Rattle.mxf_views.specs.Labels.{primer_for, primer_of, primer_there}
 use Rattle.mxf_views.proofs.CopyLaws.{copies_are, copies_rise, one_named}
-use Rattle.mxf_views.proofs.Members.{all-each, both, parts}
 use Rattle.mxf_views.proofs.ReadingLaws.{reads}
 use Rattle.mxf_views.proofs.StartLaws.{clear_same}
+use Rattle.mxf_klv.proofs.Lists.{find-only, found-In, none_found, all-In}
+use Rattle.std.proofs.lemmas.Bool.{and_from, and_parts}
 
 -- ---- the copies that have a packet
 
 zone_says : (n : NoteParts) (c : CopyInfo) (o : Option ℕ) → c.start ≡ o → is_in_zone n c.bytes o ≡ true → IsInZoneOf n c
 zone_says n c None e h = absurd cc
 zone_says n c (Some s) e h =
-    let l = parts (nat_le s n.offset) (nat_le (end_of n) (s + c.bytes)) h in
+    let l = and_parts (nat_le s n.offset) (nat_le (end_of n) (s + c.bytes)) h in
     record {
       start = s;
       begins = e;
@@ -39,7 +39,7 @@ in_copy : (n : NoteParts) (c : CopyInfo) → (is_in_copy n c ≡ true) ↔ IsInZ
 in_copy n c = (
   λ h. zone_says n c c.start refl h,
   λ i. ap (is_in_zone n c.bytes) i.begins
-      ∙ both (nat_le i.start n.offset) (nat_le (end_of n) (i.start + c.bytes)) (le-leb i.start n.offset i.from)
+      ∙ and_from (nat_le i.start n.offset) (nat_le (end_of n) (i.start + c.bytes)) (le-leb i.start n.offset i.from)
       (le-leb (end_of n) (i.start + c.bytes) i.before),
 )
 
@@ -55,7 +55,7 @@ found_first p (x ∷ copies) c d r e h t =
           elim h [
             | inl f ↦ let k = ap (λ (y : CopyInfo). y.partition) f in omega (arith, at, k)
             | inr k ↦
-                let l : x.partition < d.partition = all-each (λ (y : CopyInfo). x.partition < y.partition) copies d r.0 k in
+                let l : x.partition < d.partition = all-In (λ (y : CopyInfo). x.partition < y.partition) copies d r.0 k in
                 omega (arith, at, l)
           ]
       | false ↦ λ u q. elim h [

@@ -11,7 +11,6 @@ use Rattle.mxf_catalogue.specs.Content.{IsContent}
 use Rattle.mxf_catalogue.specs.Disputes.{AreApart, clear_notes}
 use Rattle.mxf_catalogue.proofs.DisputeLaws.{In-clear_notes}
 use Rattle.mxf_catalogue.proofs.SpanLaws.{AreApart-clear_notes, AreApart-filter}
-use Rattle.mxf_catalogue.proofs.Lists.{In-filter, found-In, none_found, find-none, find-only}
 use Rattle.mxf_views.specs.Partitions.{AreInOrder, PartitionParts, partitions_of}
 use Rattle.mxf_views.specs.RandomIndex.{AreSeveralRips, IsClearRip, IsOnlyRip, IsStanding, RipAtParts}
 use Rattle.mxf_views.specs.RandomIndex.{is_rip, is_rip_note, rip_in, rips_of, standing_by, standing_of}
@@ -22,9 +21,10 @@ use Rattle.mxf_views.specs.declared.random_index.RipView.{RipView}
 use Rattle.mxf_views.specs.declared.random_index.RipView.TheVariants.{Absent, Several, Unreadable, One}
 use Rattle.mxf_views.proofs.FoundLaws.{later_differs}
 use Rattle.mxf_views.proofs.KindLaws.{rip_kind}
-use Rattle.mxf_views.proofs.Members.{false_if}
 use Rattle.mxf_views.proofs.PartitionLaws.{one_there, partitions_rise}
 use Rattle.mxf_views.proofs.ReadingLaws.{reads}
+use Rattle.mxf_klv.proofs.Lists.{In-filter, found-In, none_found, find-none, find-only}
+use Rattle.std.proofs.lemmas.Bool.{false_from_ne_true}
 
 -- ---- standings
 
@@ -58,7 +58,7 @@ standing_to ps entry r Held i =
     ∙ ap (λ (b : Bool). cond b Held Differs) (eq-eqb sid entry.body_sid i.3)
 standing_to ps entry r Differs i =
     let sid = i.0.pack.numbers.body_sid in
-    let f : (sid == entry.body_sid) ≡ false = false_if (sid == entry.body_sid)
+    let f : (sid == entry.body_sid) ≡ false = false_from_ne_true (sid == entry.body_sid)
     (λ t. i.3 (eqb-true sid entry.body_sid t)) in
     ap (standing_by entry) (found_there ps entry i.0 r i.1 i.2) ∙ ap (λ (b : Bool). cond b Held Differs) f
 standing_to ps entry r Missing i =

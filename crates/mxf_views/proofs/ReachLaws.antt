@@ -5,17 +5,16 @@ use Rattle.std.specs.Prelude.{◌==◌, filter, find, map, max, nat_le, nat_lt}
 use Rattle.std.specs.Bool.{then_some}
 use Rattle.std.specs.List.{AllWithin}
 use Rattle.std.specs.List.Sorted.{IsNonDecreasing}
-use Rattle.std.proofs.lemmas.Bool.{leb-false}
+use Rattle.std.proofs.lemmas.Bool.{leb-false, and_from, false_from_ne_true, and_parts}
 use Rattle.std.proofs.lemmas.List.{length-map}
 use Rattle.mxf_klv.specs.Parts.{NoteParts}
 use Rattle.mxf_klv.specs.Note.{end_of}
-use Rattle.mxf_catalogue.proofs.Lists.{find-none, length-filter_le}
 use Rattle.mxf_views.specs.declared.copy.CopyInfo.{CopyInfo}
 use Rattle.mxf_views.specs.Copies.{copies_of}
 use Rattle.mxf_views.specs.Kept.{IsStartBelow, StartsRise, copies_followed, is_outside, reach_from, reach_of, reaches_from, reaches_of, renewed, with_copy, with_found}
 use Rattle.mxf_views.specs.KeptAbove.{EndsBy}
 use Rattle.mxf_views.specs.Labels.{is_in_copy, is_in_zone}
-use Rattle.mxf_views.proofs.Members.{all-each, both, false_if, parts}
+use Rattle.mxf_klv.proofs.Lists.{find-none, length-filter_le, all-In}
 
 pub length-reaches_from : (high : ℕ) (cs : List CopyInfo) → length (reaches_from high cs) ≡ length cs
 length-reaches_from high [] = refl
@@ -42,9 +41,9 @@ far_lacks : (n : NoteParts) (c : CopyInfo) → end_of n ≤ 18446744073709551615
 far_lacks n c fits l =
     elim (c.start) as (λ o. reach_from c.bytes o < end_of n → is_in_zone n c.bytes o ≡ false) [
       | None ↦ λ h. refl
-      | Some s ↦ λ h. false_if (is_in_zone n c.bytes (Some s)) (λ t.
+      | Some s ↦ λ h. false_from_ne_true (is_in_zone n c.bytes (Some s)) (λ t.
           let m : end_of n ≤ s + c.bytes = leb-true (end_of n) (s + c.bytes)
-          (parts (nat_le s n.offset) (nat_le (end_of n) (s + c.bytes)) t).1 in omega (arith, fits, h, m))
+          (and_parts (nat_le s n.offset) (nat_le (end_of n) (s + c.bytes)) t).1 in omega (arith, fits, h, m))
     ] l
 
 -- One that reaches the packet's end and doesn't have it starts behind the packet's offset.
@@ -61,9 +60,9 @@ near_lacks n c l f =
       | Some s ↦ λ e h g. record {
         start = s;
         begins = e;
-        behind = leb-false s n.offset (false_if (nat_le s n.offset) (λ t.
+        behind = leb-false s n.offset (false_from_ne_true (nat_le s n.offset) (λ t.
             let m : end_of n ≤ s + c.bytes = omega (arith, h) in
-            let has = both (nat_le s n.offset) (nat_le (end_of n) (s + c.bytes)) t (le-leb (end_of n) (s + c.bytes) m) in
+            let has = and_from (nat_le s n.offset) (nat_le (end_of n) (s + c.bytes)) t (le-leb (end_of n) (s + c.bytes) m) in
             cc (has, g)));
       }
     ] refl l f
@@ -75,9 +74,9 @@ later_lacks n c d b l =
     let behind : n.offset < b.start = b.behind in
     elim (d.start) as (λ o. IsStartBelow (Some b.start) o → is_in_zone n d.bytes o ≡ false) [
       | None ↦ λ h. refl
-      | Some t ↦ λ h. false_if (is_in_zone n d.bytes (Some t)) (λ u.
+      | Some t ↦ λ h. false_from_ne_true (is_in_zone n d.bytes (Some t)) (λ u.
           let m : t ≤ n.offset = leb-true t n.offset
-          (parts (nat_le t n.offset) (nat_le (end_of n) (t + d.bytes)) u).0 in omega (arith, h, m, behind))
+          (and_parts (nat_le t n.offset) (nat_le (end_of n) (t + d.bytes)) u).0 in omega (arith, h, m, behind))
     ] below
 
 -- None has the packet where all end below its end.
@@ -102,7 +101,7 @@ first_reaches n high (c ∷ cs) zero d fits r h l a b =
     elim (is_in_copy n c) as (λ t. is_in_copy n c ≡ t → then_some t c ≡ cond t (Some c) (find (is_in_copy n) cs)) [
       | true ↦ λ t. refl
       | false ↦ λ t. sym (find-none (is_in_copy n) cs (λ x k u.
-          let below = all-each (λ (x : CopyInfo). IsStartBelow c.start x.start) cs x r.0 k in
+          let below = all-In (λ (x : CopyInfo). IsStartBelow c.start x.start) cs x r.0 k in
           let lacks = later_lacks n c x (near_lacks n c near t) below in cc (lacks, u)))
     ] refl
 first_reaches n high (c ∷ cs) (suc at) d fits r h l a b =

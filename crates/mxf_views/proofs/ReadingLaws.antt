@@ -6,7 +6,7 @@ use Rattle.mxf_klv.specs.Parts.{NoteParts}
 use Rattle.mxf_klv.specs.Note.{keeps_value}
 use Rattle.mxf_sets.specs.Readable.{read_as}
 use Rattle.mxf_views.specs.Readings.{IsReadAs, IsReadable}
-use Rattle.mxf_views.proofs.Members.{both, parts}
+use Rattle.std.proofs.lemmas.Bool.{and_from, and_parts}
 
 pub reads : {A E : Type 0} (read : List ℕ → Result A E) (n : NoteParts) (value : A)
     → (read_as read n ≡ Some value) ↔ IsReadAs read n value
@@ -37,10 +37,10 @@ pub ok_readable : {A E : Type 0} (read : List ℕ → Result A E) (n : NoteParts
     → ((keeps_value n && is_ok (read n.held)) ≡ true) ↔ IsReadable read n
 ok_readable {A} {E} read n = (
   λ h.
-      let s = parts (keeps_value n) (is_ok (read n.held)) h in
+      let s = and_parts (keeps_value n) (is_ok (read n.held)) h in
       elim (read n.held) as (λ r. read n.held ≡ r → is_ok r ≡ true → IsReadable read n) [
         | Ok x ↦ λ e _. (x, (s.0, e))
         | Err f ↦ λ _ q. absurd cc
       ] refl s.1,
-  λ s. both (keeps_value n) (is_ok (read n.held)) s.1.0 (ap (λ (r : Result A E). is_ok r) s.1.1),
+  λ s. and_from (keeps_value n) (is_ok (read n.held)) s.1.0 (ap (λ (r : Result A E). is_ok r) s.1.1),
 )

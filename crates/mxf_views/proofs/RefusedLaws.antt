@@ -1,6 +1,6 @@
 -- Small files that miss one condition of well-formed files.
 use Rattle.std.specs.Prelude.{◌≡◌, ◌≢◌, ◌↔◌, ℕ, ◌+◌, ◌^◌, ◌<◌, ◌≤◌, false, true, List, [], ◌∷◌, ◌++◌, length, replicate}
-use Rattle.std.specs.Prelude.{refl}
+use Rattle.std.specs.Prelude.{refl, drop}
 use Rattle.std.specs.List.{AllByRecursion}
 use Rattle.std.proofs.Common.{sym, ◌∙◌, ap, subst, inl, inr, arith}
 use Rattle.std.proofs.lemmas.Bool.{false≢true}
@@ -23,8 +23,10 @@ use Rattle.mxf_views.specs.WellFormed.{IsWellFormed, total_of}
 use Rattle.mxf_views.specs.WorkedFiles.{essence_key, numbers, pack, preface, primer}
 use Rattle.mxf_views.specs.declared.index.place.Place.{Place}
 use Rattle.mxf_views.specs.declared.index.place.Place.TheVariants.{At, NotIndexed, Ambiguous}
-use Rattle.mxf_views.proofs.GoodFiles.{bare_footer}
-use Rattle.mxf_views.proofs.SmallFiles.{no_footer, no_header, no_pack, no_rip, pack_packet, without_footer}
+use Rattle.mxf_views.proofs.GoodFiles.{bare_footer, m_well_formed}
+use Rattle.mxf_views.proofs.SmallFiles.{no_footer, no_header, without_footer, no_footers, no_headers}
+use Rattle.mxf_views.proofs.SmallFiles.{rip_last}
+use Rattle.mxf_views.specs.Reading.{partitions_read}
 
 pub narrow_refused : ¬ IsWellFormed refused.narrow_length
 narrow_refused w =
@@ -60,25 +62,16 @@ long_is_packet bytes b = record {
 long_well_formed : (bytes : ℕ) → 241 + bytes ≤ greatest_end → IsWellFormed (refused.long_file bytes)
 unfolding read_pack read_segment read_rip
 long_well_formed bytes h = record {
-  packets = (
-    pack_packet Header (numbers 0 0 108 0 0 0 0),
-    (pack_packet Footer (numbers 108 0 108 0 0 0 0), (long_is_packet bytes (omega (arith, h)), tt)),
-  );
+  packets = (m_well_formed.packets.0, (m_well_formed.packets.1.0, (long_is_packet bytes (omega (arith, h)), tt)));
   within = subst (λ (k : ℕ). k ≤ greatest_end) (sym (long_end bytes)) h;
-  header = (
-    (ClosedComplete, refl),
-    (no_header (pack Footer (numbers 108 0 108 0 0 0 0)) refl, (no_header (long_packet bytes) refl, tt)),
-  );
-  footer = bare_footer (long_packet bytes ∷ []) (no_pack (long_packet bytes) refl, tt);
+  header = ((ClosedComplete, refl), no_headers (drop 1 (refused.long_file bytes)) refl);
+  footer = bare_footer (long_packet bytes ∷ []) refl;
   readable = (refl, (refl, (refl, tt)));
   this = (refl, (refl, tt));
   previous = (refl, (refl, tt));
   metadata = (λ k. absurd (omega arith), (λ k. absurd (omega arith), (tt, tt)));
   index = λ s t sid unit p q i k e f. absurd i;
-  random_index = (
-    no_rip (pack Header (numbers 0 0 108 0 0 0 0)) refl,
-    (no_rip (pack Footer (numbers 108 0 108 0 0 0 0)) refl, tt),
-  );
+  random_index = rip_last (partitions_read 0 (refused.long_file bytes)) (refused.long_file bytes) refl tt;
 }
 
 pub long_iff : (bytes : ℕ) → IsWellFormed (refused.long_file bytes) ↔ (241 + bytes ≤ greatest_end)
@@ -94,8 +87,7 @@ pub two_headers_refused : ¬ IsWellFormed refused.two_headers
 two_headers_refused w = w.header.1.0 (ClosedComplete, refl)
 
 pub no_footer_refused : ¬ IsWellFormed refused.no_footer
-no_footer_refused =
-    without_footer refused.no_footer (no_footer (pack Header (numbers 0 0 0 0 0 0 0)) refl, tt)
+no_footer_refused = without_footer refused.no_footer (no_footers refused.no_footer refl)
 
 -- a list with an element isn't empty
 not_empty : (before : List PacketParts) (p : PacketParts) (after : List PacketParts) → [] ≡ before ++ p ∷ after → ⊥

@@ -13,7 +13,6 @@ use Rattle.mxf_sets.specs.Storage.{StorageParts, storage_at}
 use Rattle.mxf_sets.specs.Readable.{read_as}
 use Rattle.mxf_catalogue.specs.Content.{IsContent}
 use Rattle.mxf_catalogue.specs.Disputes.{AreApart}
-use Rattle.mxf_catalogue.proofs.Lists.{find-only}
 use Rattle.mxf_catalogue.proofs.SpanLaws.{AreApart-filter}
 use Rattle.mxf_views.specs.declared.copy.CopyInfo.{CopyInfo}
 use Rattle.mxf_views.specs.declared.reference.target.Ref.{Ref}
@@ -31,8 +30,10 @@ use Rattle.mxf_views.specs.Targets.{fits, ref_of, refs_of, target_of}
 use Rattle.mxf_views.proofs.BestLaws.{one_best, preferred_is}
 use Rattle.mxf_views.proofs.CopyLaws.{copies_are, one_named, preface_note, sets_are, sets_apart}
 use Rattle.mxf_views.proofs.FoundLaws.{Picks, only_from, only_of, picks, target_of_iff, wanted_kind}
-use Rattle.mxf_views.proofs.Members.{none_some, some_same}
 use Rattle.mxf_views.proofs.ReadingLaws.{reads}
+use Rattle.mxf_klv.proofs.Lists.{find-only}
+use Rattle.mxf_klv.proofs.Tests.{none_some}
+use Rattle.std.proofs.lemmas.Option.{same_Some}
 
 -- ---- references
 
@@ -224,7 +225,7 @@ only_preface notes c s r i e many one =
         only = λ m set kind.
             let same : set.copy ≡ c = one_named notes set.copy c r set.copied i set.there in
             let begins : Some set.start ≡ Some s = sym set.begins ∙ ap (λ (x : CopyInfo). x.start) same ∙ e in
-            let start : set.start ≡ s = some_same set.start s begins in
+            let start : set.start ≡ s = same_Some set.start s begins in
             let bytes : set.copy.bytes ≡ c.bytes = ap (λ (x : CopyInfo). x.bytes) same in
             let from : set.start ≤ m.offset = set.from in
             let before : end_of m ≤ set.start + set.copy.bytes = set.before in

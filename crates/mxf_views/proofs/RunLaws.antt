@@ -16,7 +16,6 @@ use Rattle.mxf_catalogue.specs.History.{content}
 use Rattle.mxf_catalogue.proofs.ContentLaws.{same_content}
 use Rattle.mxf_catalogue.proofs.DisputeLaws.{is_disputed-IsDisputed, notes-disputed_notes}
 use Rattle.mxf_catalogue.proofs.HistoryLaws.{In-content, IsContent-content}
-use Rattle.mxf_catalogue.proofs.Lists.{In-filter}
 use Rattle.mxf_views.specs.Headline.{IsDisputedAmong, IsNoteOf, IsReadFromFront, IsTheRun}
 use Rattle.mxf_views.specs.WellFormed.{IsWellFormed}
 use Rattle.mxf_views.proofs.Laid.{is_whole}
@@ -24,15 +23,14 @@ use Rattle.mxf_views.proofs.LaidCopies.{copies-laid}
 use Rattle.mxf_views.proofs.LaidIndex.{index-laid}
 use Rattle.mxf_views.proofs.LaidPartitions.{partitions-laid}
 use Rattle.mxf_views.proofs.LaidRandomIndex.{random_index-laid}
-
-less_before : (n m : NoteParts) → n.offset < m.offset → note_cmp n m ≡ Less
-less_before n m h = rw (lt-ltb n.offset m.offset h) refl
+use Rattle.mxf_catalogue.proofs.SpanLaws.{less_by_offset}
+use Rattle.mxf_klv.proofs.Lists.{In-filter}
 
 less_than_later : (n : NoteParts) (at : ℕ) (l : List PacketParts) → n.offset < at
     → AllByRecursion (λ m. note_cmp n m ≡ Less) (notes_from at l)
 less_than_later n at [] h = tt
 less_than_later n at (p ∷ ps) h =
-    (less_before n (note_of at p) h, less_than_later n (at + size_of p) ps (omega arith))
+    (less_by_offset n (note_of at p) h, less_than_later n (at + size_of p) ps (omega arith))
 
 -- The notes of a file are a content.
 IsContent-laid : (at : ℕ) (l : List PacketParts) → IsContent (notes_from at l)

@@ -17,7 +17,10 @@ use Rattle.mxf_catalogue.proofs.SpanLaws.{AreApart-clear_notes}
 use Rattle.mxf_views.specs.Places.{IsSegmentAt, SegmentAtParts, SegmentsRise, is_segment, placed_segment, segment_in}
 use Rattle.mxf_views.specs.Places.{segments_among, segments_of}
 use Rattle.mxf_views.proofs.KindLaws.{segment_kind}
-use Rattle.mxf_views.proofs.Members.{In-filter_map, each-all}
+use Rattle.mxf_klv.proofs.Lists.{In-filter_map, all_from_In}
+use Rattle.mxf_catalogue.proofs.ApartLaws.{apart_rises}
+use Rattle.mxf_klv.proofs.RisingBy.{rises-filter_map}
+use Rattle.mxf_views.proofs.Rising.{by_segment}
 
 abbrev placed : ℕ → SegmentParts → SegmentAtParts
 placed offset segment = record { offset = offset; segment = segment }
@@ -80,35 +83,10 @@ offset-placed_segment n s e =
           ap (λ (x : SegmentAtParts). x.offset) (sym same)
     ] e
 
-above_among : (low : ℕ) (notes : List NoteParts) (s : SegmentAtParts) → AreApart low notes
-    → In s (segments_among notes) → low ≤ s.offset
-above_among low [] s a h = absurd h
-above_among low (n ∷ notes) s a h =
-    let g = (In-filter_map placed_segment (n ∷ notes) s).0 h in
-    let o : s.offset ≡ g.0.offset = offset-placed_segment g.0 s g.2 in
-    let l : low ≤ n.offset = a.0 in
-    elim g.1 [
-      | inl e ↦ (let f : g.0.offset ≡ n.offset = ap (λ (x : NoteParts). x.offset) e in omega (arith, o, f, l))
-      | inr k ↦ (let ih : end_of n ≤ s.offset = above_among (end_of n) notes s a.1
-          ((In-filter_map placed_segment notes s).1 (g.0, k, g.2)) in omega arith)
-    ]
-
-rise_among : (low : ℕ) (notes : List NoteParts) → AreApart low notes → SegmentsRise (segments_among notes)
-rise_among low [] a = tt
-rise_among low (n ∷ notes) a =
-    let ih = rise_among (end_of n) notes a.1 in
-    elim (placed_segment n) as (λ o. placed_segment n ≡ o → SegmentsRise (segments_among (n ∷ notes))) [
-      | None ↦ λ e. rw e ih
-      | Some s ↦ λ e. rw e (
-        each-all (λ t. s.offset < t.offset) (segments_among notes) (λ t h.
-            let o : s.offset ≡ n.offset = offset-placed_segment n s e in
-            let l : end_of n ≤ t.offset = above_among (end_of n) notes t a.1 h in
-            omega (arith, o, l)),
-        ih,
-      )
-    ] refl
-
 -- They rise.
 pub segments_rise : (notes : List NoteParts) → IsContent notes → SegmentsRise (segments_of notes)
 unfolding segments_of
-segments_rise notes r = rise_among 0 (clear_notes notes) (AreApart-clear_notes notes r)
+segments_rise notes r =
+    let clear = clear_notes notes in
+    (by_segment _).1 (rises-filter_map (λ n. n.offset) placed_segment (λ s. s.offset) clear offset-placed_segment
+    (apart_rises 0 clear (AreApart-clear_notes notes r)))

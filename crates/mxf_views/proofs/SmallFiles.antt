@@ -1,19 +1,20 @@
 -- Which of the small files are well-formed.
-use Rattle.std.specs.Prelude.{◌≡◌, ◌-◌, ◌^◌, ◌<◌, length, Bool, true, false, List, [], ◌∷◌, ◌++◌, Some, refl}
-use Rattle.std.specs.List.{AllByRecursion}
+use Rattle.std.specs.Prelude.{◌≡◌, ◌-◌, ◌^◌, ◌<◌, length, Bool, true, false, List, [], ◌∷◌, ◌++◌, Some, refl, ◌||◌}
+use Rattle.std.specs.Prelude.{drop, take, map, IfSome, ◌==◌, ◌&&◌, nat_lt}
+use Rattle.std.specs.List.{AllByRecursion, list_any, list_all}
 use Rattle.std.proofs.Common.{sym, ◌∙◌, ap, subst, inl, inr, arith}
-use Rattle.std.proofs.lemmas.Bool.{false≢true}
+use Rattle.std.proofs.lemmas.Bool.{false≢true, or_parts, and_parts, eqb-true, ltb-true}
 use Rattle.mxf_klv.specs.declared.kinds.Kind.{Kind}
 use Rattle.mxf_klv.specs.declared.kinds.Kind.TheVariants as kinds
 use Rattle.mxf_klv.specs.declared.kinds.Status.{Status}
 use Rattle.mxf_klv.specs.declared.kinds.Status.TheVariants.{OpenIncomplete, ClosedIncomplete, OpenComplete}
 use Rattle.mxf_klv.specs.declared.kinds.Status.TheVariants.{ClosedComplete}
 use Rattle.mxf_klv.specs.Kind.{kind_of}
-use Rattle.mxf_klv.specs.Label.{IsLabel}
+use Rattle.mxf_klv.specs.Label.{label_start}
 use Rattle.mxf_klv.specs.Packet.{IsPacket}
 use Rattle.mxf_klv.specs.Parts.{PacketParts}
 use Rattle.mxf_sets.specs.Items.{item_at, items_of, left_of}
-use Rattle.mxf_sets.specs.PartitionPack.{pack_kind, pack_key}
+use Rattle.mxf_sets.specs.PartitionPack.{pack_kind}
 use Rattle.mxf_sets.specs.RandomIndexPack.{entries_of}
 use Rattle.mxf_sets.specs.declared.pack.numbers.PartitionNumbers.{PartitionNumbers}
 use Rattle.mxf_sets.specs.declared.pack.part.PackPart.{PackPart}
@@ -21,12 +22,16 @@ use Rattle.mxf_sets.specs.declared.pack.part.PackPart.TheVariants.{Header, Body,
 use Rattle.mxf_views.specs.Copies.{rank}
 use Rattle.mxf_views.specs.Places.{SegmentAtParts}
 use Rattle.mxf_views.specs.RandomIndex.{is_rip}
-use Rattle.mxf_views.specs.Reading.{place_by_segment, segments_read}
+use Rattle.mxf_views.specs.Reading.{place_by_segment, segments_read, partitions_read}
 use Rattle.mxf_views.specs.Records.{read_pack, read_rip, read_segment}
 use Rattle.mxf_views.specs.WellFormed.{Agree, EndsWithFooter, HasMetadata, IsFooterPack, IsHeaderPack}
-use Rattle.mxf_views.specs.WellFormed.{IsPartitionPack, IsRandomIndexPack, IsWellFormed}
-use Rattle.mxf_views.specs.WorkedFiles.{constant, essence, h_file, linked_preface, material, n_file, numbers, pack, pack_of}
-use Rattle.mxf_views.specs.WorkedFiles.{preface, primer, r_file, storage, three_entries, w_file}
+use Rattle.mxf_views.specs.WellFormed.{IsPartitionPack, IsRandomIndexPack, IsWellFormed, EndsWithRandomIndex, IsFill}
+use Rattle.mxf_views.specs.WellFormed.{entry_of}
+use Rattle.mxf_views.specs.WorkedFiles.{constant, essence, h_file, n_file, numbers, pack, pack_of}
+use Rattle.mxf_views.specs.WorkedFiles.{preface, primer, r_file, three_entries, w_file}
+use Rattle.mxf_views.specs.Partitions.{PartitionParts}
+use Rattle.std.proofs.lemmas.Slice.Eq.{bytes_eq-Decides}
+use Rattle.std.specs.Str.{bytes_eq}
 
 pub rank_below_4 : (status : Status) → rank status < 4
 rank_below_4 OpenIncomplete = omega arith
@@ -34,15 +39,15 @@ rank_below_4 OpenComplete = omega arith
 rank_below_4 ClosedIncomplete = omega arith
 rank_below_4 ClosedComplete = omega arith
 
-abbrev is_header_kind : Kind → Bool
+abbrev pub is_header_kind : Kind → Bool
 is_header_kind (kinds.Header s) = true
 is_header_kind _ = false
 
-abbrev is_footer_kind : Kind → Bool
+abbrev pub is_footer_kind : Kind → Bool
 is_footer_kind (kinds.Footer s) = true
 is_footer_kind _ = false
 
-abbrev is_pack_kind : Kind → Bool
+abbrev pub is_pack_kind : Kind → Bool
 is_pack_kind (kinds.Header s) = true
 is_pack_kind (kinds.Body s) = true
 is_pack_kind (kinds.Footer s) = true
@@ -62,50 +67,74 @@ packs Footer s = refl
 pub no_pack : (p : PacketParts) → is_pack_kind (kind_of p.key) ≡ false → ¬ IsPartitionPack p
 no_pack p e h = false≢true (sym e ∙ ap is_pack_kind h.2 ∙ packs h.0 h.1)
 
-pub packet_of : (p : PacketParts) → IsLabel p.key → p.width ≡ 4 → length p.value < 16777216 → IsPacket p
-packet_of p l w h =
-    record { label = l; width = inr (omega arith, omega arith, subst (λ w. length p.value < 256 ^ (w - 1)) (sym w) h) }
+abbrev pub is_small : PacketParts → Bool
+is_small p =
+    (length p.key == 16) && bytes_eq (take 4 p.key) label_start && (p.width == 4) && nat_lt (length p.value) 16777216
 
-pack_label : (part : PackPart) → IsLabel (pack_key part ClosedComplete)
-pack_label Header = (refl, refl)
-pack_label Body = (refl, refl)
-pack_label Footer = (refl, refl)
+small_packet : (p : PacketParts) → is_small p ≡ true → IsPacket p
+small_packet p e =
+    let long = length p.key == 16 in
+    let begins = bytes_eq (take 4 p.key) label_start in
+    let few = nat_lt (length p.value) 16777216 in
+    let a = and_parts (long && begins && (p.width == 4)) few e in
+    let b = and_parts (long && begins) (p.width == 4) a.0 in
+    let c = and_parts long begins b.0 in
+    let w = eqb-true p.width 4 b.1 in
+    let l = ltb-true (length p.value) 16777216 a.1 in record {
+      label = (eqb-true (length p.key) 16 c.0, (bytes_eq-Decides (take 4 p.key) label_start).0 c.1);
+      width = inr (
+        omega (arith, w),
+        omega (arith, w),
+        subst (λ w. length p.value < 256 ^ (w - 1)) (sym w) l,
+      );
+    }
 
-pub pack_packet : (part : PackPart) (n : PartitionNumbers) → IsPacket (pack part n)
-pack_packet part n = packet_of (pack part n) (pack_label part) refl (let h : 88 < 16777216 = omega arith in h)
+pub are_packets : (l : List PacketParts) → list_all is_small l ≡ true → AllByRecursion IsPacket l
+are_packets [] e = tt
+are_packets (p ∷ ps) e =
+    let a = and_parts (is_small p) (list_all is_small ps) e in (small_packet p a.0, are_packets ps a.1)
 
-pub open_packet : (n : PartitionNumbers) → IsPacket (pack_of OpenIncomplete Header n)
-open_packet n = packet_of (pack_of OpenIncomplete Header n) (refl, refl) refl
-    (let h : 88 < 16777216 = omega arith in h)
+none_of : (P : PacketParts → Type 0) (test : PacketParts → Bool) → ((p : PacketParts) → test p ≡ false → ¬ P p)
+    → (l : List PacketParts) → list_any test l ≡ false → AllByRecursion (λ p. ¬ P p) l
+none_of P test lacks [] e = tt
+none_of P test lacks (p ∷ ps) e = let b = or_parts (test p) (list_any test ps) e in (lacks p b.0, none_of P test lacks ps b.1)
 
-pub primer_packet : IsPacket primer
-primer_packet = packet_of primer (refl, refl) refl (omega arith)
+pub no_headers : (l : List PacketParts) → list_any (λ p. is_header_kind (kind_of p.key)) l ≡ false
+    → AllByRecursion (λ p. ¬ IsHeaderPack p) l
+no_headers = none_of IsHeaderPack (λ p. is_header_kind (kind_of p.key)) no_header
 
-pub preface_packet : IsPacket preface
-preface_packet = packet_of preface (refl, refl) refl (omega arith)
+pub no_footers : (l : List PacketParts) → list_any (λ p. is_footer_kind (kind_of p.key)) l ≡ false
+    → AllByRecursion (λ p. ¬ IsFooterPack p) l
+no_footers = none_of IsFooterPack (λ p. is_footer_kind (kind_of p.key)) no_footer
 
-n_footer : EndsWithFooter n_file
-n_footer = record {
-  before = pack Header (numbers 0 0 194 86 0 0 0) ∷ primer ∷ preface ∷ [];
-  footer = pack Footer (numbers 194 0 194 86 0 0 0);
-  after = primer ∷ preface ∷ [];
+pub no_packs : (l : List PacketParts) → list_any (λ p. is_pack_kind (kind_of p.key)) l ≡ false
+    → AllByRecursion (λ p. ¬ IsPartitionPack p) l
+no_packs = none_of IsPartitionPack (λ p. is_pack_kind (kind_of p.key)) no_pack
+
+-- The footer stands behind packets that are none, and before packets that are no partition packs.
+pub footer_behind : (before : List PacketParts) (footer : PacketParts) (after : List PacketParts) → IsFooterPack footer
+    → list_any (λ p. is_footer_kind (kind_of p.key)) before ≡ false
+    → list_any (λ p. is_pack_kind (kind_of p.key)) after ≡ false → EndsWithFooter (before ++ footer ∷ after)
+footer_behind before footer after is b a = record {
+  before = before;
+  footer = footer;
+  after = after;
   order = refl;
-  is_footer = (ClosedComplete, refl);
-  only = (
-    no_footer (pack Header (numbers 0 0 194 86 0 0 0)) refl,
-    (no_footer primer refl, (no_footer preface refl, tt)),
-  );
-  last = (no_pack primer refl, (no_pack preface refl, tt));
+  is_footer = is;
+  only = no_footers before b;
+  last = no_packs after a;
 }
 
-n_metadata : (rest : List PacketParts) → HasMetadata 86 (primer ∷ preface ∷ rest)
-n_metadata rest = record {
-  fills = [];
+-- The primer and the Preface of the small files are header metadata of 86 bytes.
+pub metadata_after : (fills rest : List PacketParts) → AllByRecursion IsFill fills
+    → HasMetadata 86 (fills ++ (primer ∷ preface ∷ rest))
+metadata_after fills rest are_fills = record {
+  fills = fills;
   primer = primer;
   sets = preface ∷ [];
   rest = rest;
   order = refl;
-  are_fills = tt;
+  are_fills = are_fills;
   is_primer = refl;
   no_pack = (no_pack preface refl, tt);
   exact = refl;
@@ -114,62 +143,39 @@ n_metadata rest = record {
 pub no_rip : (p : PacketParts) → is_rip (kind_of p.key) ≡ false → ¬ IsRandomIndexPack p
 no_rip p e h = false≢true (sym e ∙ ap is_rip h)
 
+abbrev pub rips_before_last : List PacketParts → Bool
+rips_before_last [] = false
+rips_before_last (p ∷ []) = false
+rips_before_last (p ∷ q ∷ ps) = is_rip (kind_of p.key) || rips_before_last (q ∷ ps)
+
+abbrev pub LastFits : List PartitionParts → List PacketParts → Type 0
+LastFits partitions [] = Unit {0}
+LastFits partitions (p ∷ []) = IfSome (read_rip p) (λ rip. rip.entries ≡ map entry_of partitions)
+LastFits partitions (p ∷ q ∷ ps) = LastFits partitions (q ∷ ps)
+
+pub rip_last : (partitions : List PartitionParts) (l : List PacketParts) → rips_before_last l ≡ false
+    → LastFits partitions l → EndsWithRandomIndex partitions l
+rip_last partitions [] e r = tt
+rip_last partitions (p ∷ []) e r = r
+rip_last partitions (p ∷ q ∷ ps) e r =
+    let b = or_parts (is_rip (kind_of p.key)) (rips_before_last (q ∷ ps)) e in
+    (no_rip p b.0, rip_last partitions (q ∷ ps) b.1 r)
+
 pub n_well_formed : IsWellFormed n_file
 unfolding read_pack read_segment read_rip
 n_well_formed = record {
-  packets = (
-    pack_packet Header (numbers 0 0 194 86 0 0 0),
-    (
-      primer_packet,
-      (
-        preface_packet,
-        (pack_packet Footer (numbers 194 0 194 86 0 0 0), (primer_packet, (preface_packet, tt))),
-      ),
-    ),
-  );
+  packets = are_packets n_file refl;
   within = omega arith;
-  header = (
-    (ClosedComplete, refl),
-    (
-      no_header primer refl,
-      (
-        no_header preface refl,
-        (
-          no_header (pack Footer (numbers 194 0 194 86 0 0 0)) refl,
-          (no_header primer refl, (no_header preface refl, tt)),
-        ),
-      ),
-    ),
-  );
-  footer = n_footer;
+  header = ((ClosedComplete, refl), no_headers (drop 1 n_file) refl);
+  footer = footer_behind (take 3 n_file) (pack Footer (numbers 194 0 194 86 0 0 0)) (drop 4 n_file)
+      (ClosedComplete, refl) refl refl;
   readable = (refl, (refl, (refl, (refl, (refl, (refl, tt))))));
   this = (refl, (refl, tt));
   previous = (refl, (refl, tt));
-  metadata = (
-    λ h. n_metadata (pack Footer (numbers 194 0 194 86 0 0 0) ∷ primer ∷ preface ∷ []),
-    (tt, (tt, (λ h. n_metadata [], (tt, (tt, tt))))),
-  );
+  metadata = (λ h. metadata_after [] (drop 3 n_file) tt, (tt, (tt, (λ h. metadata_after [] [] tt, (tt, (tt, tt))))));
   index = λ s t sid unit p q h k e f. absurd h;
-  random_index = (
-    no_rip (pack Header (numbers 0 0 194 86 0 0 0)) refl,
-    (
-      no_rip primer refl,
-      (
-        no_rip preface refl,
-        (no_rip (pack Footer (numbers 194 0 194 86 0 0 0)) refl, (no_rip primer refl, tt)),
-      ),
-    ),
-  );
+  random_index = rip_last (partitions_read 0 n_file) n_file refl tt;
 }
-
-pub essence_packet : IsPacket essence
-essence_packet = packet_of essence (refl, refl) refl (omega arith)
-
-pub constant_packet : IsPacket constant
-constant_packet = packet_of constant (refl, refl) refl (omega arith)
-
-pub entries_packet : IsPacket three_entries
-entries_packet = packet_of three_entries (refl, refl) refl (omega arith)
 
 -- Segments agree where there is one alone.
 pub agree_alone : (s : SegmentAtParts) → Agree (s ∷ [])
@@ -188,57 +194,17 @@ agree_one (s ∷ t ∷ ss) l = absurd (omega arith)
 pub w_well_formed : IsWellFormed w_file
 unfolding read_pack read_segment read_rip item_at items_of left_of entries_of
 w_well_formed = record {
-  packets = (
-    pack_packet Header (numbers 0 0 336 0 0 0 0),
-    (
-      pack_packet Body (numbers 108 0 336 0 0 0 2),
-      (
-        essence_packet,
-        (pack_packet Footer (numbers 336 108 336 0 90 1 0), (constant_packet, (entries_packet, tt))),
-      ),
-    ),
-  );
+  packets = are_packets w_file refl;
   within = omega arith;
-  header = (
-    (ClosedComplete, refl),
-    (
-      no_header (pack Body (numbers 108 0 336 0 0 0 2)) refl,
-      (
-        no_header essence refl,
-        (
-          no_header (pack Footer (numbers 336 108 336 0 90 1 0)) refl,
-          (no_header constant refl, (no_header three_entries refl, tt)),
-        ),
-      ),
-    ),
-  );
-  footer = record {
-    before = pack Header (numbers 0 0 336 0 0 0 0) ∷ pack Body (numbers 108 0 336 0 0 0 2) ∷ essence ∷ [];
-    footer = pack Footer (numbers 336 108 336 0 90 1 0);
-    after = constant ∷ three_entries ∷ [];
-    order = refl;
-    is_footer = (ClosedComplete, refl);
-    only = (
-      no_footer (pack Header (numbers 0 0 336 0 0 0 0)) refl,
-      (no_footer (pack Body (numbers 108 0 336 0 0 0 2)) refl, (no_footer essence refl, tt)),
-    );
-    last = (no_pack constant refl, (no_pack three_entries refl, tt));
-  };
+  header = ((ClosedComplete, refl), no_headers (drop 1 w_file) refl);
+  footer = footer_behind (take 3 w_file) (pack Footer (numbers 336 108 336 0 90 1 0)) (drop 4 w_file)
+      (ClosedComplete, refl) refl refl;
   readable = (refl, (refl, (refl, (refl, (refl, (refl, tt))))));
   this = (refl, (refl, (refl, tt)));
   previous = (refl, (refl, (refl, tt)));
-  metadata = (
-    λ h. absurd (omega arith),
-    (λ h. absurd (omega arith), (tt, (λ h. absurd (omega arith), (tt, (tt, tt))))),
-  );
+  metadata = (λ h. absurd (omega arith), (λ h. absurd (omega arith), (tt, (λ h. absurd (omega arith), (tt, (tt, tt))))));
   index = agree_one (segments_read 0 w_file) refl;
-  random_index = (
-    no_rip (pack Header (numbers 0 0 336 0 0 0 0)) refl,
-    (
-      no_rip (pack Body (numbers 108 0 336 0 0 0 2)) refl,
-      (no_rip essence refl, (no_rip (pack Footer (numbers 336 108 336 0 90 1 0)) refl, (no_rip constant refl, refl))),
-    ),
-  );
+  random_index = rip_last (partitions_read 0 w_file) w_file refl refl;
 }
 
 -- A list with no footer partition pack.
@@ -254,16 +220,7 @@ without_footer l a w =
     f.is_footer
 
 pub h_not_well_formed : ¬ IsWellFormed h_file
-h_not_well_formed =
-    without_footer h_file
-    (no_footer (pack Header (numbers 0 0 0 86 0 0 0)) refl, (no_footer primer refl, (no_footer preface refl, tt)))
+h_not_well_formed = without_footer h_file (no_footers h_file refl)
 
 pub r_not_well_formed : ¬ IsWellFormed r_file
-r_not_well_formed =
-    without_footer r_file (
-      no_footer (pack Header (numbers 0 0 0 266 0 0 0)) refl,
-      (
-        no_footer primer refl,
-        (no_footer linked_preface refl, (no_footer storage refl, (no_footer material refl, tt))),
-      ),
-    )
+r_not_well_formed = without_footer r_file (no_footers r_file refl)

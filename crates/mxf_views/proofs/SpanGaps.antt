@@ -11,31 +11,16 @@ use Rattle.mxf_catalogue.specs.NoteLists.{Covers}
 use Rattle.mxf_catalogue.specs.Runs.{AreMaximal, LiesIn, run}
 use Rattle.mxf_catalogue.specs.declared.run.Run.{Run}
 use Rattle.mxf_catalogue.proofs.CoverLaws.{gaps_by_definition}
-use Rattle.mxf_catalogue.proofs.Fronts.{In-append}
 use Rattle.mxf_catalogue.proofs.RunLaws.{same_runs}
 use Rattle.mxf_views.specs.Gaps.{AreGaps, IsGap, gaps_of}
 use Rattle.mxf_views.proofs.GapsLaws.{covers_below_end, gaps_are, has_byte}
+use Rattle.mxf_klv.proofs.Lists.{some_above, In-append}
 
 -- A run that begins above the ends of maximal ones goes on with them.
 maximal_push : (low : ℕ) (runs : List Run) (r : Run) → AreMaximal low runs → low ≤ r.start → r.start < r.end
     → ((s : Run) → In s runs → s.end + 1 ≤ r.start) → AreMaximal low (runs ++ r ∷ [])
 maximal_push low [] r m l b f = (l, b, tt)
 maximal_push low (s ∷ runs) r m l b f = (m.0, m.1, maximal_push (s.end + 1) runs r m.2 (f s (inl refl)) b (λ x h. f x (inr h)))
-
--- Where not all are at most a number, one lies above it.
-some_above : {K : Type 0} (size : K → ℕ) (xs : List K) (at : ℕ) → (((x : K) → In x xs → size x ≤ at) → ⊥)
-    → (x : K) × In x xs × (at < size x)
-some_above size [] at f = absurd (f (λ x h. absurd h))
-some_above {K} size (x ∷ xs) at f =
-    elim (nat_lt at (size x)) as (λ b. nat_lt at (size x) ≡ b → (y : K) × In y (x ∷ xs) × (at < size y)) [
-      | true ↦ λ t. (x, inl refl, ltb-true at (size x) t)
-      | false ↦ λ t.
-          let low : size x ≤ at = ltb-false at (size x) t in
-          let s = some_above size xs at (λ g. f (λ y h. elim h [
-            | inl e ↦ (let q = ap size e in omega (arith, q, low))
-            | inr k ↦ g y k
-          ])) in (s.0, inr s.1, s.2)
-    ] refl
 
 module _ (runs : List Run) (notes : List NoteParts) (reached top : ℕ) (cover : IsCover runs) (covers : Covers runs notes)
     (reached_is : (bound : ℕ) → reached ≤ bound ↔ ((offset : ℕ) → LiesIn runs offset → offset < bound))

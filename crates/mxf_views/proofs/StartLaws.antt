@@ -4,7 +4,7 @@ use Rattle.std.proofs.Common.{None, refl, sym, ap, subst, ◌∙◌, inl, inr, a
 use Rattle.std.specs.Prelude.{◌↔◌, ◌&&◌, ◌==◌, nat_le, nat_lt, find, is_some, count_by}
 use Rattle.std.specs.Option.{option_map}
 use Rattle.std.specs.List.{list_all, range_with_len}
-use Rattle.std.proofs.lemmas.Bool.{ltb-true, ltb-false}
+use Rattle.std.proofs.lemmas.Bool.{ltb-true, ltb-false, and_from, and_parts}
 use Rattle.mxf_klv.specs.declared.kinds.Kind.TheVariants as kinds
 use Rattle.mxf_klv.specs.Parts.{NoteParts}
 use Rattle.mxf_klv.specs.Note.{end_of}
@@ -14,50 +14,27 @@ use Rattle.mxf_sets.specs.Batch.{BatchParts}
 use Rattle.mxf_sets.specs.PackReadings.{primer_at}
 use Rattle.mxf_sets.specs.Readable.{read_as}
 use Rattle.mxf_catalogue.specs.Content.{IsContent}
-use Rattle.mxf_catalogue.proofs.ContentLaws.{note_eq-Decides}
 use Rattle.mxf_catalogue.specs.Disputes.{IsClear, SharesByte, clear_notes, is_same_note}
 use Rattle.mxf_catalogue.proofs.DisputeLaws.{In-clear_notes, clear-apart}
-use Rattle.mxf_catalogue.proofs.Lists.{In-filter, list_any-In, found-In, none_found}
 use Rattle.mxf_views.specs.Copies.{IsFilled, IsPrimerOf, IsStart, covered_of, is_fill_note, is_filled, is_primer}
 use Rattle.mxf_views.specs.Copies.{is_readable_primer, is_start, start_of, zone_of}
 use Rattle.mxf_views.specs.Spans.{is_in_one, is_in_span}
 use Rattle.mxf_catalogue.specs.Disputes.{lies_in}
 use Rattle.mxf_views.proofs.KindLaws.{fill_kind, primer_kind}
 use Rattle.mxf_views.proofs.ReadingLaws.{is_some_readable}
-use Rattle.mxf_views.proofs.SpanCounts.{count-all, count-full, in_span, in_span-says, zone-count}
-use Rattle.mxf_views.proofs.Members.{both, parts}
+use Rattle.mxf_views.proofs.SpanCounts.{in_span, in_span-says, zone-count}
 use Rattle.mxf_catalogue.proofs.SpanLaws.{AreApart-clear_notes}
-
-both3 : (a b c : Bool) → a ≡ true → b ≡ true → c ≡ true → (a && b && c) ≡ true
-both3 true true c p q r = r
-both3 true false c p q r = absurd cc
-both3 false b c p q r = absurd cc
-
-parts3 : (a b c : Bool) → (a && b && c) ≡ true → (a ≡ true) × (b ≡ true) × (c ≡ true)
-parts3 true true c h = (refl, refl, h)
-parts3 true false c h = absurd cc
-parts3 false b c h = absurd cc
-
-all-In : (p : NoteParts → Bool) (notes : List NoteParts) (n : NoteParts) → list_all p notes ≡ true → In n notes
-    → p n ≡ true
-all-In p [] n a h = absurd h
-all-In p (x ∷ xs) n a h = let q = parts (p x) (list_all p xs) a in elim h [
-  | inl e ↦ ap p e
-      ∙ q.0
-  | inr k ↦ all-In p xs n q.1 k
-]
-
-In-all : (p : NoteParts → Bool) (notes : List NoteParts) → ((n : NoteParts) → In n notes → p n ≡ true)
-    → list_all p notes ≡ true
-In-all p [] f = refl
-In-all p (x ∷ xs) f = both (p x) (list_all p xs) (f x (inl refl)) (In-all p xs (λ n h. f n (inr h)))
+use Rattle.mxf_klv.proofs.Counts.{range-all, range-full}
+use Rattle.mxf_klv.proofs.HeadOrder.{same_note-Decides}
+use Rattle.mxf_klv.proofs.Lists.{list_all-In, In-list_all, In-filter, list_any-In, found-In, none_found}
+use Rattle.mxf_klv.proofs.Tests.{all_three, three_parts}
 
 -- clear notes that share a byte are one
 pub clear_same : (notes : List NoteParts) (m n : NoteParts) → IsClear m notes → IsClear n notes → SharesByte m n → m ≡ n
 clear_same notes m n c d s =
     elim (is_same_note m n) as (λ b. is_same_note m n ≡ b → m ≡ n) [
-      | true ↦ λ t. (note_eq-Decides m n).0 t
-      | false ↦ λ t. absurd (clear-apart m n notes c d.held (λ e. let u = (note_eq-Decides m n).1 e in cc (t, u)) s)
+      | true ↦ λ t. (same_note-Decides m n).0 t
+      | false ↦ λ t. absurd (clear-apart m n notes c d.held (λ e. let u = (same_note-Decides m n).1 e in cc (t, u)) s)
     ] refl
 
 pub fill_note : (n : NoteParts) → (is_fill_note n ≡ true) ↔ (kind_of n.key ≡ kinds.Fill)
@@ -70,10 +47,10 @@ primer_note n =
     let k = primer_kind (kind_of n.key) in
     let r = is_some_readable primer_at n in (
       λ h.
-          let p = parts (is_primer (kind_of n.key)) (is_some (read_as primer_at n)) h in
+          let p = and_parts (is_primer (kind_of n.key)) (is_some (read_as primer_at n)) h in
           let s = r.0 p.1 in
           (s.0, (k.0 p.0, s.1)),
-      λ s. both (is_primer (kind_of n.key)) (is_some (read_as primer_at n)) (k.1 s.1.0) (r.1 (s.0, s.1.1)),
+      λ s. and_from (is_primer (kind_of n.key)) (is_some (read_as primer_at n)) (k.1 s.1.0) (r.1 (s.0, s.1.1)),
     )
 
 -- no start lies in a fill
@@ -108,11 +85,11 @@ tested : (notes : List NoteParts) (end : ℕ) (n : NoteParts) → IsContent note
     → is_start end (clear_notes notes) n ≡ true → IsStart notes end n.offset
 tested notes end n r h t =
     let clear = clear_notes notes in
-    let p = parts3 (is_readable_primer n) (nat_le end n.offset) (is_filled end (n.offset - end) clear) t in
+    let p = three_parts (is_readable_primer n) (nat_le end n.offset) (is_filled end (n.offset - end) clear) t in
     let le : end ≤ n.offset = leb-true end n.offset p.1 in
     let len = n.offset - end in
     let zone = zone_of end len clear in
-    let f = parts (covered_of end len clear == len) (list_all is_fill_note zone) p.2 in
+    let f = and_parts (covered_of end len clear == len) (list_all is_fill_note zone) p.2 in
     let count : count_by (is_in_one zone) (range_with_len end len) ≡ len = sym
     (zone-count clear 0 end len (AreApart-clear_notes notes r)) ∙ eqb-true (covered_of end len clear) len f.0 in
     record {
@@ -123,17 +100,17 @@ tested notes end n r h t =
       after = le;
       filled = λ o from before.
           let k = (list_any-In (is_in_span o) zone).0
-          (count-full (is_in_one zone) end len count o from (omega arith)) in
+          (range-full (is_in_one zone) end len count o from (omega arith)) in
           let m = k.0 in
           let z = (In-filter (lies_in end len) clear m).0 k.1 in
-          let l = parts (nat_le end m.offset) (nat_le (end_of m) (end + len)) z.1 in
+          let l = and_parts (nat_le end m.offset) (nat_le (end_of m) (end + len)) z.1 in
           let b : end_of m ≤ end + len = leb-true (end_of m) (end + len) l.1 in
           let s = in_span-says o m k.2 in
           let s1 : o < end_of m = s.1 in
           record {
             fill = m;
             clear = (In-clear_notes m notes).0 z.0;
-            kind = (fill_note m).0 (all-In is_fill_note zone m f.1 k.1);
+            kind = (fill_note m).0 (list_all-In is_fill_note zone m f.1 k.1);
             from = leb-true end m.offset l.0;
             before = omega arith;
             within = record { from = s.0; before = omega arith };
@@ -155,28 +132,28 @@ passes notes end s r a =
     let h : end_of m ≤ end + len = omega arith in
     (In-filter (lies_in end len) clear m).1 (
       (In-clear_notes m notes).1 c,
-      both (nat_le end m.offset) (nat_le (end_of m) (end + len))
+      and_from (nat_le end m.offset) (nat_le (end_of m) (end + len))
           (le-leb end m.offset low) (le-leb (end_of m) (end + len) h),
     ) in
     let count : count_by (is_in_one zone) (range_with_len end len) ≡ len =
-    count-all (is_in_one zone) end len (λ o from before.
+    range-all (is_in_one zone) end len (λ o from before.
     let f = a.filled o from (omega arith) in
     let w1 : o + 1 ≤ end_of f.fill = f.within.before in
     (list_any-In (is_in_span o) zone).1
     (f.fill, in_zone f.fill f.clear f.from f.before, in_span o f.fill f.within.from (omega arith))) in
     let covered : (covered_of end len clear == len) ≡ true = eq-eqb (covered_of end len clear) len
     (zone-count clear 0 end len (AreApart-clear_notes notes r) ∙ count) in
-    let fills : list_all is_fill_note zone ≡ true = In-all is_fill_note zone (λ m h.
+    let fills : list_all is_fill_note zone ≡ true = In-list_all is_fill_note zone (λ m h.
     let z = (In-filter (lies_in end len) clear m).0 h in
-    let l = parts (nat_le end m.offset) (nat_le (end_of m) (end + len)) z.1 in
+    let l = and_parts (nat_le end m.offset) (nat_le (end_of m) (end + len)) z.1 in
     let low : end ≤ m.offset = leb-true end m.offset l.0 in
     let high : end_of m ≤ end + len = leb-true (end_of m) (end + len) l.1 in
     let f = a.filled m.offset low (omega arith) in
     let shares : SharesByte m f.fill = (m.offset, record { from = omega arith; before = omega arith }, f.within) in
     let same = clear_same notes m f.fill ((In-clear_notes m notes).0 z.0) f.clear shares in
     (fill_note m).1 (ap (λ (x : NoteParts). kind_of x.key) same ∙ f.kind)) in
-    both3 (is_readable_primer n) (nat_le end n.offset) (is_filled end len clear) ((primer_note n).1 a.readable) (le-leb end n.offset le2)
-    (both (covered_of end len clear == len) (list_all is_fill_note zone) covered fills)
+    all_three (is_readable_primer n) (nat_le end n.offset) (is_filled end len clear) ((primer_note n).1 a.readable) (le-leb end n.offset le2)
+    (and_from (covered_of end len clear == len) (list_all is_fill_note zone) covered fills)
 
 -- The start is found exactly where it stands.
 pub start_is : (notes : List NoteParts) (end s : ℕ) → IsContent notes

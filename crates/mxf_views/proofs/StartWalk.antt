@@ -3,18 +3,16 @@ use Rattle.std.proofs.Common.{◌≡◌, ℕ, ◌+◌, ◌<◌, ◌≤◌, ◌�
 use Rattle.std.proofs.Common.{sym, ap, subst, ◌∙◌, inl, inr, arith, le-leb, leb-true}
 use Rattle.std.specs.Prelude.{nat_lt, filter}
 use Rattle.std.specs.Bool.{then_some}
-use Rattle.std.proofs.lemmas.Bool.{ltb-true, ltb-false}
+use Rattle.std.proofs.lemmas.Bool.{ltb-true, ltb-false, and_from, and_parts}
 use Rattle.mxf_klv.specs.Parts.{NoteParts}
 use Rattle.mxf_klv.specs.Note.{IsNote, end_of}
 use Rattle.mxf_klv.specs.Rising.{In}
 use Rattle.mxf_catalogue.specs.Content.{IsCatalogue, IsContent}
 use Rattle.mxf_catalogue.specs.Disputes.{AreApart, IsClear, SharesByte, clear_notes, lies_in}
-use Rattle.mxf_catalogue.proofs.ContentLaws.{all-In}
 use Rattle.mxf_catalogue.proofs.DisputeLaws.{In-clear_notes}
-use Rattle.mxf_catalogue.proofs.Lists.{In-filter}
 use Rattle.mxf_views.specs.Copies.{IsFilled, IsStart, is_fill_note, is_readable_primer, start_of}
-use Rattle.mxf_views.proofs.Members.{both, parts}
 use Rattle.mxf_views.proofs.StartLaws.{clear_same, fill_note, not_in_fill, primer_note, start_is}
+use Rattle.mxf_klv.proofs.Lists.{all-In, In-filter}
 
 -- From the end of the pack up to an offset there are clear fills alone, and these clear notes are left.
 pub record Passed (notes : List NoteParts) (end reached : ℕ) (left : List NoteParts) : Type 0 where
@@ -43,10 +41,10 @@ passed_none notes end left c e a =
           let high : end_of n ≤ end + 18446744073709551615 = omega (arith, within) in
           subst (In n) (sym e) ((member n).1 (
             (In-clear_notes n notes).1 is,
-            both _ _ (le-leb end n.offset low) (le-leb (end_of n) (end + 18446744073709551615) high),
+            and_from _ _ (le-leb end n.offset low) (le-leb (end_of n) (end + 18446744073709551615) high),
           ));
       clear = λ n h. (In-clear_notes n notes).0 ((member n).0 (subst (In n) e h)).0;
-      apart = raised 0 end left a (λ n h. leb-true end n.offset (parts _ _ ((member n).0 (subst (In n) e h)).1).0);
+      apart = raised 0 end left a (λ n h. leb-true end n.offset (and_parts _ _ ((member n).0 (subst (In n) e h)).1).0);
     }
 
 -- A fill is passed.

@@ -17,11 +17,12 @@ use Rattle.mxf_views.specs.Copies.{CopiesRise, copies_of}
 use Rattle.mxf_views.specs.Kept.{IsStartBelow, StartsRise}
 use Rattle.mxf_views.specs.Partitions.{PartitionParts, pack_of, partition_at}
 use Rattle.mxf_views.proofs.CopyLaws.{copies_are, copies_rise}
-use Rattle.mxf_views.proofs.CopyUpdates.{end-partition_at, low_in}
-use Rattle.mxf_views.proofs.Members.{each-all, none_some}
+use Rattle.mxf_views.proofs.CopyUpdates.{end-partition_at}
 use Rattle.mxf_views.proofs.PartitionSearch.{of_note}
 use Rattle.mxf_views.proofs.PrimerLaws.{one_at, start_of_copy}
 use Rattle.mxf_views.proofs.StartLaws.{clear_same}
+use Rattle.mxf_klv.proofs.Lists.{all_from_In, all-In}
+use Rattle.mxf_klv.proofs.Tests.{none_some}
 
 -- A note whose kind isn't that of a partition pack is no partition.
 pub no_pack : (n : NoteParts) → part_and_status (kind_of n.key) ≡ None → pack_of n ≡ None
@@ -90,9 +91,9 @@ rise_in : (notes : List NoteParts) (cs : List CopyInfo) → IsContent notes → 
     → ((c : CopyInfo) → In c cs → In c (copies_of notes)) → StartsRise cs
 rise_in notes [] r rising all = tt
 rise_in notes (c ∷ cs) r rising all = (
-  each-all (λ (d : CopyInfo). IsStartBelow c.start d.start) cs (λ d h.
+  all_from_In (λ (d : CopyInfo). IsStartBelow c.start d.start) cs (λ d h.
       below_by c.start d.start (λ s t e f.
-      starts_in_order notes c d s t r (all c (inl refl)) (all d (inr h)) (low_in c.partition cs d rising.0 h) e f)),
+      starts_in_order notes c d s t r (all c (inl refl)) (all d (inr h)) (all-In (λ (x : CopyInfo). c.partition < x.partition) cs d rising.0 h) e f)),
   rise_in notes cs r rising.1 (λ d h. all d (inr h)),
 )
 

@@ -7,9 +7,7 @@ use Rattle.mxf_klv.specs.Note.{IsNote, end_of}
 use Rattle.mxf_klv.specs.Rising.{In}
 use Rattle.mxf_catalogue.specs.Content.{IsCatalogue}
 use Rattle.mxf_catalogue.specs.Disputes.{AreApart, clear_notes, lies_in}
-use Rattle.mxf_catalogue.proofs.ContentLaws.{all-In}
 use Rattle.mxf_catalogue.proofs.DisputeLaws.{In-clear_notes}
-use Rattle.mxf_catalogue.proofs.Lists.{In-filter, found-In}
 use Rattle.mxf_catalogue.proofs.SpanLaws.{AreApart-lower}
 use Rattle.std.specs.Option.{option_and_then, option_map}
 use Rattle.std.specs.List.{cons_option, filter_map}
@@ -19,7 +17,9 @@ use Rattle.mxf_views.specs.Copies.{copy_of, has_metadata}
 use Rattle.mxf_views.specs.Kept.{copy_by, has_some_metadata, states_metadata}
 use Rattle.mxf_views.specs.KeptAbove.{clear_from}
 use Rattle.mxf_views.specs.Partitions.{partition_at}
-use Rattle.mxf_views.proofs.Members.{both, count_by-cons, false_if, parts, tally}
+use Rattle.mxf_klv.proofs.Counts.{count_by-cons, tally}
+use Rattle.mxf_klv.proofs.Lists.{all-In, In-filter, found-In}
+use Rattle.std.proofs.lemmas.Bool.{and_from, false_from_ne_true, and_parts}
 
 filter_twice : (p q : NoteParts → Bool) (ns : List NoteParts)
     → ((n : NoteParts) → In n ns → p n ≡ true → q n ≡ true) → filter p (filter q ns) ≡ filter p ns
@@ -30,7 +30,7 @@ filter_twice p q (n ∷ ns) f =
     ≡ cond (p n) (n ∷ filter p ns) (filter p ns)) [
       | true ↦ λ t. ap (λ l. cond (p n) (n ∷ l) l) ih
       | false ↦ λ t. (
-          let no : p n ≡ false = false_if (p n) (λ u. let v = f n (inl refl) u in cc (v, t)) in rw no ih)
+          let no : p n ≡ false = false_from_ne_true (p n) (λ u. let v = f n (inl refl) u in cc (v, t)) in rw no ih)
     ] refl
 
 -- A zone from the boundary on lies in the notes from there on.
@@ -39,9 +39,9 @@ pub zone_above : (b start bytes : ℕ) (notes : List NoteParts) → IsCatalogue 
 zone_above b start bytes notes c l =
     filter_twice (lies_in start bytes) (lies_in b 18446744073709551615) (clear_notes notes) (λ n h t.
     let m : start ≤ n.offset =
-    leb-true start n.offset (parts (nat_le start n.offset) (nat_le (end_of n) (start + bytes)) t).0 in
+    leb-true start n.offset (and_parts (nat_le start n.offset) (nat_le (end_of n) (start + bytes)) t).0 in
     let within = (all-In IsNote notes n c.members ((In-clear_notes n notes).0 h).held).within in
-    both (nat_le b n.offset) (nat_le (end_of n) (b + 18446744073709551615)) (le-leb b n.offset (omega (arith, m, l)))
+    and_from (nat_le b n.offset) (nat_le (end_of n) (b + 18446744073709551615)) (le-leb b n.offset (omega (arith, m, l)))
     (le-leb (end_of n) (b + 18446744073709551615) (omega (arith, within))))
 
 pub tally_fits : (b : Bool) → tally b ≤ 1
@@ -56,8 +56,8 @@ start_after end notes s e =
       | None ↦ λ f g. absurd cc
       | Some n ↦ λ f g. (
           let t = (found-In (is_start end notes) notes n f).1 in
-          let l : end ≤ n.offset = leb-true end n.offset (parts (is_readable_primer n) (nat_le end n.offset)
-          (parts (is_readable_primer n && nat_le end n.offset) (is_filled end (n.offset - end) notes) t).0).1 in
+          let l : end ≤ n.offset = leb-true end n.offset (and_parts (is_readable_primer n) (nat_le end n.offset)
+          (and_parts (is_readable_primer n && nat_le end n.offset) (is_filled end (n.offset - end) notes) t).0).1 in
           let same : n.offset ≡ s = cc (g) in omega (arith, l, same))
     ] refl e
 
@@ -65,7 +65,7 @@ start_after end notes s e =
 pub all_from_none : (notes : List NoteParts) → IsCatalogue notes → clear_from 0 notes ≡ clear_notes notes
 all_from_none notes c = filter_every (lies_in 0 18446744073709551615) (clear_notes notes) (λ n h.
     let within = (all-In IsNote notes n c.members ((In-clear_notes n notes).0 h).held).within in
-    both (nat_le 0 n.offset) (nat_le (end_of n) (0 + 18446744073709551615)) (le-leb 0 n.offset (omega arith))
+    and_from (nat_le 0 n.offset) (nat_le (end_of n) (0 + 18446744073709551615)) (le-leb 0 n.offset (omega arith))
     (le-leb (end_of n) (0 + 18446744073709551615) (omega (arith, within))))
   where
     filter_every : (p : NoteParts → Bool) (ns : List NoteParts) → ((n : NoteParts) → In n ns → p n ≡ true)
@@ -78,7 +78,7 @@ pub apart_from : (b : ℕ) (notes left : List NoteParts) → left ≡ clear_from
 apart_from b notes left e a =
     raised left a (λ n h.
     let t = ((In-filter (lies_in b 18446744073709551615) (clear_notes notes) n).0 (subst (In n) e h)).1 in
-    leb-true b n.offset (parts (nat_le b n.offset) (nat_le (end_of n) (b + 18446744073709551615)) t).0)
+    leb-true b n.offset (and_parts (nat_le b n.offset) (nat_le (end_of n) (b + 18446744073709551615)) t).0)
   where
     raised : (ns : List NoteParts) → AreApart 0 ns → ((n : NoteParts) → In n ns → b ≤ n.offset) → AreApart b ns
     raised [] a f = tt

@@ -12,8 +12,9 @@ use Rattle.mxf_views.specs.declared.kept.offsets.Placed.TheVariants as kinds
 use Rattle.mxf_views.specs.Kept.{has_some_metadata, is_placed, states_metadata}
 use Rattle.mxf_views.specs.Partitions.{PartitionParts, is_no_unreadable_pack, pack_of, partition_at}
 use Rattle.mxf_views.specs.Places.{SegmentAtParts, is_segment, placed_segment}
-use Rattle.mxf_views.proofs.Members.{count_by-cons, tally}
 use Rattle.mxf_views.proofs.StartsOrder.{no_pack}
+use Rattle.mxf_klv.proofs.Counts.{count_by-cons, tally}
+use Rattle.mxf_klv.proofs.Tests.{none_if}
 
 -- Packets of the note's kind have a partition pack.
 abbrev pub has_pack : NoteParts → Bool
@@ -44,10 +45,6 @@ count_le p q (n ∷ ns) f =
           let other : tally (q n) ≡ 1 = ap tally (f n t) in omega (arith, ih, a, b, one, other))
       | false ↦ λ t. (let none : tally (p n) ≡ 0 = ap tally t in omega (arith, ih, a, b, none))
     ] refl
-
-none_if : {A : Type 0} (o : Option A) → is_some o ≡ false → o ≡ None
-none_if None e = refl
-none_if (Some x) e = absurd cc
 
 pub pack_lacked : (n : NoteParts) → has_pack n ≡ false → pack_of n ≡ None
 pack_lacked n e = no_pack n (none_if (part_and_status (kind_of n.key)) e)

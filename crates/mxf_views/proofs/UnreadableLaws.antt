@@ -11,7 +11,6 @@ use Rattle.mxf_klv.specs.Rising.{In, IsRising}
 use Rattle.mxf_catalogue.specs.Content.{IsContent}
 use Rattle.mxf_catalogue.specs.Disputes.{IsClear}
 use Rattle.mxf_catalogue.proofs.DisputeLaws.{In-clear_notes, clear-alone}
-use Rattle.mxf_catalogue.proofs.Lists.{In-filter, In-map}
 use Rattle.mxf_catalogue.proofs.MovedLaws.{rising_apart}
 use Rattle.mxf_catalogue.proofs.SpanLaws.{AreApart-filter}
 use Rattle.mxf_views.specs.declared.reference.target.Wanted.{Wanted}
@@ -23,6 +22,7 @@ use Rattle.mxf_views.specs.Targets.{fits, is_readable, target_at}
 use Rattle.mxf_views.proofs.CopyLaws.{sets_apart}
 use Rattle.mxf_views.proofs.FoundLaws.{only_at, target_by}
 use Rattle.mxf_views.proofs.OnlyFound.{sets_are_clear}
+use Rattle.mxf_klv.proofs.Lists.{In-filter, In-map}
 
 pub unreadable_rise : (notes : List NoteParts) (partition : ℕ) → IsContent notes
     → IsRising nat_cmp (unreadable_offsets (sets_of notes partition))

@@ -12,6 +12,7 @@ use Rattle.mxf_views.specs.declared.finding.Code.{Code}
 use Rattle.mxf_views.specs.declared.finding.Code.TheVariants.{F01, F02, F03, F04, F05, F06, F07}
 use Rattle.mxf_views.specs.declared.finding.Code.TheVariants.{F08, F09, F10, F11, F12, F13, F14}
 use Rattle.mxf_views.specs.declared.finding.Finding.{Finding}
+use Rattle.mxf_klv.proofs.Tests.{ties}
 
 -- The codes, rising.
 abbrev pub all_codes : List Code
@@ -88,11 +89,6 @@ numbered_back F11 = refl
 numbered_back F12 = refl
 numbered_back F13 = refl
 numbered_back F14 = refl
-
-ties : (a b : Ordering) → ordering_then a b ≡ Equal → (a ≡ Equal) × (b ≡ Equal)
-ties Less b e = cc
-ties Equal b e = (refl, e)
-ties Greater b e = cc
 
 same_finding : (a b : Finding) → a.offset ≡ b.offset → a.code ≡ b.code → a ≡ b
 same_finding a b e f i = record { offset = e i; code = f i }

@@ -3,8 +3,8 @@ use Rattle.std.specs.Io.KnownBytes.{Consumes}
 use Rattle.std.proofs.KnownBytes.{Consumes-trans, Consumes-kept}
 use Rattle.mxf_read.specs.Feeding.{Feeds}
 use Rattle.mxf_read.proofs.Feeding.{Fails-joined, Feeds-trans}
-use Rattle.mxf_read.proofs.Reports.{none_from}
 use Rattle.mxf_read.specs.declared.piece.Piece.{Piece}
+use Rattle.mxf_klv.proofs.Tests.{none_if}
 use Rattle.mxf_read.proofs.reading.read_all.Goals as goal
 
 pub reads-preserved-in-Ok-Took : goal.reads-preserved-in-Ok-Took
@@ -41,7 +41,7 @@ pub returns-then-interruptions-ge-GREATEST_INTERRUPTIONS-clause-bytes : goal.ret
 returns-then-interruptions-ge-GREATEST_INTERRUPTIONS-clause-bytes g c =
     let (done, counted, consumed, fed, repeats, grows, reads) = c.reads.invariant in
     let (kept, same) = rw c.in-Ok-Interrupted.field-0-is at c.in-Ok-Interrupted.ensures.bytes in
-    let goes = none_from c.reads.piece.stop (sym c.has_stopped.ensures ∙ c.if-not-has_stopped.true) in (
+    let goes = none_if c.reads.piece.stop (sym c.has_stopped.ensures ∙ c.if-not-has_stopped.true) in (
       done,
       record { within = omega arith; consumed = Consumes-kept _ _ _ done consumed kept },
       subst (λ q. Feeds c.args.piece.now q done) (sym same) fed,
@@ -66,7 +66,7 @@ pub returns-in-Ok-Failed-clause-bytes : goal.returns-in-Ok-Failed-clause-bytes
 returns-in-Ok-Failed-clause-bytes g c =
     let (done, counted, consumed, fed, repeats, grows, reads) = c.reads.invariant in
     let (kept, same) = rw c.in-Ok-Failed.field-0-is at c.in-Ok-Failed.ensures.bytes in
-    let goes = none_from c.reads.piece.stop (sym c.has_stopped.ensures ∙ c.if-not-has_stopped.true) in (
+    let goes = none_if c.reads.piece.stop (sym c.has_stopped.ensures ∙ c.if-not-has_stopped.true) in (
       done,
       record { within = omega arith; consumed = Consumes-kept _ _ _ done consumed kept },
       subst (λ q. Feeds c.args.piece.now q done) (sym same) fed,

@@ -4,8 +4,8 @@ use Rattle.mxf_sets.specs.Items.{item_at, items_of, left_of}
 use Rattle.mxf_views.specs.Copies.{rank, standing}
 use Rattle.mxf_views.specs.Records.{read_segment}
 use Rattle.mxf_views.proofs.KindLaws.{fill_kind, preface_kind, primer_kind, rip_kind, segment_kind, set_kind}
-use Rattle.mxf_views.proofs.Members.{both, parts}
 use Rattle.mxf_views.proofs.SmallFiles.{rank_below_4}
+use Rattle.std.proofs.lemmas.Bool.{and_from, and_parts}
 use Rattle.mxf_views.proofs.small_files.shared_rules_are_these.Goals as goal
 
 pub returns-clause-statuses : goal.returns-clause-statuses
@@ -20,8 +20,8 @@ returns-clause-finished g = λ c d f u.
 
 pub returns-clause-candidates : goal.returns-clause-candidates
 returns-clause-candidates g = λ c. (
-  (λ h. let p = parts (is_some c.start) (c.prefaces == 1) h in (p.0, eqb-true c.prefaces 1 p.1)),
-  (λ h. both (is_some c.start) (c.prefaces == 1) h.0 (eq-eqb c.prefaces 1 h.1)),
+  (λ h. let p = and_parts (is_some c.start) (c.prefaces == 1) h in (p.0, eqb-true c.prefaces 1 p.1)),
+  (λ h. and_from (is_some c.start) (c.prefaces == 1) h.0 (eq-eqb c.prefaces 1 h.1)),
 )
 
 pub returns-clause-sets : goal.returns-clause-sets

@@ -7,8 +7,8 @@ use Rattle.mxf_catalogue.specs.Disputes.{IsClear, clear_notes}
 use Rattle.mxf_catalogue.specs.NoteLists.{AreNoteLists}
 use Rattle.mxf_catalogue.proofs.DisputeLaws.{In-clear_notes, SharesByte-same_offset, clear_at-found, clear_at-lacked}
 use Rattle.mxf_catalogue.proofs.HeadLaws.{same_note}
-use Rattle.mxf_catalogue.proofs.Lists.{In-filter}
 use Rattle.mxf_catalogue.proofs.PartLaws.{apart_of, clear_part}
+use Rattle.mxf_klv.proofs.Lists.{In-filter}
 use Rattle.mxf_catalogue.proofs.catalogue.Catalogue.clear_at.Goals as goal
 
 is_whole : (b : Bool) → not b ≡ false → b ≡ true

@@ -2,18 +2,18 @@ use Rattle.std.proofs.Common.{◌≡◌, true, sym, ◌∙◌, subst}
 use Rattle.std.proofs.lemmas.Slice.Eq.{slice_eq-Decides}
 use Rattle.mxf_klv.specs.Parts.{NoteParts}
 use Rattle.mxf_catalogue.specs.Content.{has_note, union_of}
-use Rattle.mxf_catalogue.proofs.ContentLaws.{note_eq-Decides}
 use Rattle.mxf_catalogue.proofs.HeadLaws.{same_members}
 use Rattle.mxf_catalogue.proofs.PartLaws.{same_parts}
+use Rattle.mxf_klv.proofs.HeadOrder.{same_note-Decides}
 use Rattle.mxf_catalogue.proofs.catalogue.CatalogueSemilattice.same.Goals as goal
 
 pub returns-then-eq-clause-members : goal.returns-then-eq-clause-members
 returns-then-eq-clause-members c =
     let a = c.self.inside.parts in
     let b = c.other.inside.parts in
-    let first = (slice_eq-Decides note_eq-Decides a.undisputed.items b.undisputed.items c.eq.result c.eq.ensures).0
+    let first = (slice_eq-Decides same_note-Decides a.undisputed.items b.undisputed.items c.eq.result c.eq.ensures).0
     c.if-eq.true in
-    let d = slice_eq-Decides note_eq-Decides a.disputed.items b.disputed.items c.eq-then-eq.result
+    let d = slice_eq-Decides same_note-Decides a.disputed.items b.disputed.items c.eq-then-eq.result
     c.eq-then-eq.ensures in
     let same = λ (h : c.eq-then-eq.result ≡ true).
     sym c.self.view_is ∙ (λ i. union_of (first i) (d.0 h i)) ∙ c.other.view_is in
@@ -31,9 +31,9 @@ pub returns-then-eq-clause-list : goal.returns-then-eq-clause-list
 returns-then-eq-clause-list c =
     let a = c.self.inside.parts in
     let b = c.other.inside.parts in
-    let first = (slice_eq-Decides note_eq-Decides a.undisputed.items b.undisputed.items c.eq.result c.eq.ensures).0
+    let first = (slice_eq-Decides same_note-Decides a.undisputed.items b.undisputed.items c.eq.result c.eq.ensures).0
     c.if-eq.true in
-    let d = slice_eq-Decides note_eq-Decides a.disputed.items b.disputed.items c.eq-then-eq.result
+    let d = slice_eq-Decides same_note-Decides a.disputed.items b.disputed.items c.eq-then-eq.result
     c.eq-then-eq.ensures in
     let members = returns-then-eq-clause-members c in (
       λ h. sym c.self.view_is ∙ (λ i. union_of (first i) (d.0 h i)) ∙ c.other.view_is,
@@ -44,7 +44,7 @@ pub returns-else-eq-clause-members : goal.returns-else-eq-clause-members
 returns-else-eq-clause-members c =
     let a = c.self.inside.parts in
     let b = c.other.inside.parts in
-    let d = slice_eq-Decides note_eq-Decides a.undisputed.items b.undisputed.items c.eq.result c.eq.ensures in
+    let d = slice_eq-Decides same_note-Decides a.undisputed.items b.undisputed.items c.eq.result c.eq.ensures in
     let back = same_parts a.undisputed.items a.disputed.items b.undisputed.items b.disputed.items c.self.invariant.kept.parts
     c.other.invariant.kept.parts in (
       λ h. let f = c.if-eq.false in cc (h, f),

@@ -2,7 +2,7 @@ use Rattle.std.proofs.Common.{◌≡◌, arith, length, take, drop, refl, sym, �
 use Rattle.std.specs.Vec.Iter.{drain_items}
 use Rattle.mxf_catalogue.specs.Content.{union_of}
 use Rattle.mxf_catalogue.specs.NoteLists.{StandApart, touching}
-use Rattle.mxf_catalogue.proofs.Ranges.{middle}
+use Rattle.mxf_klv.proofs.ListSteps.{middle}
 use Rattle.mxf_catalogue.proofs.catalogue.placing.move_touched.Goals as goal
 
 pub range-from-requires-clause-apart : goal.range-from-requires-clause-apart

@@ -10,7 +10,7 @@ use Rattle.mxf_views.specs.Kept.{copy_by}
 use Rattle.mxf_views.specs.KeptAbove.{IsOfNone, IsStarting, clear_from, counted_above}
 use Rattle.mxf_views.proofs.AboveCopies.{copies_at, fits_at, stays_above}
 use Rattle.mxf_views.proofs.CopyLaws.{copies_rise}
-use Rattle.mxf_views.proofs.ListSteps.{in_rest, map_rest, rest_taken, rest_written}
+use Rattle.mxf_klv.proofs.ListSteps.{in_rest, map_rest, rest_taken, rest_written}
 use Rattle.mxf_views.proofs.kept.above.follow_copies_above.Goals as goal
 
 pub starting-starting-requires : goal.starting-starting-requires

@@ -2,12 +2,13 @@ use Rattle.std.proofs.Common.{◌∙◌, ap, subst, sym}
 use Rattle.std.specs.List.{insert}
 use Rattle.mxf_views.specs.Copies.{CopiesRise}
 use Rattle.mxf_views.specs.Kept.{with_copy}
-use Rattle.mxf_views.proofs.CopyUpdates.{inserted_copy, partitions_of_copies_rise}
+use Rattle.mxf_views.proofs.CopyUpdates.{inserted_copy}
+use Rattle.mxf_views.proofs.Rising.{partitions_never_fall}
 use Rattle.mxf_views.proofs.kept.copies.put_copy.Goals as goal
 
 pub up_to-at-requires : goal.up_to-at-requires
 up_to-at-requires c =
-    partitions_of_copies_rise c.deref.result.now (subst CopiesRise (sym c.deref.ensures.value) c.requires.rising)
+    partitions_never_fall c.deref.result.now (subst CopiesRise (sym c.deref.ensures.value) c.requires.rising)
 
 pub returns : goal.returns
 returns c =

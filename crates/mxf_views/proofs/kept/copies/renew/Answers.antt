@@ -3,7 +3,7 @@ use Rattle.std.proofs.Common.{None, false}
 use Rattle.mxf_klv.specs.declared.kinds.Status.TheVariants.{OpenIncomplete}
 use Rattle.mxf_views.specs.declared.copy.CopyInfo.{CopyInfo}
 use Rattle.mxf_views.specs.Kept.{renewed}
-use Rattle.mxf_views.proofs.ListSteps.{next_changed}
+use Rattle.mxf_klv.proofs.ListSteps.{next_changed}
 use Rattle.mxf_views.proofs.kept.copies.renew.Goals as goal
 
 pub loop-copy-preserved : goal.loop-copy-preserved

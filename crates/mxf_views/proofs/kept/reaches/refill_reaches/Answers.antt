@@ -1,7 +1,7 @@
 use Rattle.std.proofs.Common.{◌∙◌, ◌∷◌, ◌++◌, ℕ, List, ap, arith, drop, get_or, sym, take}
 use Rattle.mxf_views.specs.Kept.{reaches_from, reaches_of}
-use Rattle.mxf_views.proofs.ListSteps.{before_taken}
 use Rattle.mxf_views.proofs.ReachLaws.{reaches_go_on}
+use Rattle.mxf_klv.proofs.ListSteps.{before_taken}
 use Rattle.mxf_views.proofs.kept.reaches.refill_reaches.Goals as goal
 
 pub loop-copy-init : goal.loop-copy-init

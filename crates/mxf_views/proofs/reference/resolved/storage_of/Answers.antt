@@ -1,7 +1,8 @@
 use Rattle.std.proofs.Common.{◌≡◌, ◌∙◌, ap, sym}
 use Rattle.mxf_views.specs.Resolved.{storage_among, storage_in}
-use Rattle.mxf_views.proofs.Members.{none_some, some_same}
 use Rattle.mxf_views.proofs.OnlyFound.{only_there}
+use Rattle.mxf_klv.proofs.Tests.{none_some}
+use Rattle.std.proofs.lemmas.Option.{same_Some}
 use Rattle.mxf_views.proofs.reference.resolved.storage_of.Goals as goal
 
 pub returns-in_err-note_at-in-One : goal.returns-in_err-note_at-in-One
@@ -14,5 +15,5 @@ pub returns-in_ok-note_at-in-One : goal.returns-in_ok-note_at-in-One
 returns-in_ok-note_at-in-One c =
     let sets = c.args.sets.now in
     let only = only_there sets.notes sets.partition c.args.uid.now c.in-One.offset c.in-One.ensures in
-    let same : c.in_ok-note_at-in-One.field-0.now ≡ only.note = some_same _ _ (c.in_ok-note_at-in-One.ensures ∙ only.there) in
+    let same : c.in_ok-note_at-in-One.field-0.now ≡ only.note = same_Some _ _ (c.in_ok-note_at-in-One.ensures ∙ only.there) in
     c.storage_in.ensures ∙ ap storage_in same ∙ ap storage_among (sym only.only)

@@ -2,12 +2,13 @@ use Rattle.std.proofs.Common.{◌≡◌, ◌∙◌, List, ap, inl, refl, subst, 
 use Rattle.std.specs.Prelude.{filter}
 use Rattle.mxf_klv.specs.Parts.{NoteParts}
 use Rattle.mxf_klv.specs.Rising.{In}
-use Rattle.mxf_catalogue.proofs.Lists.{In-filter}
 use Rattle.mxf_views.specs.Copies.{sets_of}
 use Rattle.mxf_views.specs.References.{has_uid}
 use Rattle.mxf_views.specs.Targets.{target_among, target_at, target_of}
-use Rattle.mxf_views.proofs.Members.{none_some, some_same}
 use Rattle.mxf_views.proofs.OnlyFound.{only_there}
+use Rattle.mxf_klv.proofs.Lists.{In-filter}
+use Rattle.mxf_klv.proofs.Tests.{none_some}
+use Rattle.std.proofs.lemmas.Option.{same_Some}
 use Rattle.mxf_views.proofs.reference.target.target_of.Goals as goal
 
 pub unreachable-requires : goal.unreachable-requires
@@ -20,7 +21,7 @@ pub target_at-requires : goal.target_at-requires
 target_at-requires c =
     let sets = c.args.sets.now in
     let only = only_there sets.notes sets.partition c.args.uid.now c.in-One.offset c.in-One.ensures in
-    let same : c.in-Some.set.now ≡ only.note = some_same _ _ (c.in-Some.ensures ∙ only.there) in
+    let same : c.in-Some.set.now ≡ only.note = same_Some _ _ (c.in-Some.ensures ∙ only.there) in
     let among = sets_of sets.notes sets.partition in
     let held : In only.note (filter (has_uid c.args.uid.now) among) =
     subst (λ (ns : List NoteParts). In only.note ns) (sym only.only) (inl refl) in
@@ -31,5 +32,5 @@ unfolding target_of
 returns-in-Some c =
     let sets = c.args.sets.now in
     let only = only_there sets.notes sets.partition c.args.uid.now c.in-One.offset c.in-One.ensures in
-    let same : c.in-Some.set.now ≡ only.note = some_same _ _ (c.in-Some.ensures ∙ only.there) in
+    let same : c.in-Some.set.now ≡ only.note = same_Some _ _ (c.in-Some.ensures ∙ only.there) in
     c.target_at.ensures ∙ ap (target_at c.args.wanted) same ∙ ap (target_among c.args.wanted) (sym only.only)

@@ -1,6 +1,6 @@
 use Rattle.std.proofs.Common.{◌≤◌, length, arith}
 use Rattle.mxf_catalogue.specs.Disputes.{whole_notes}
-use Rattle.mxf_catalogue.proofs.Lists.{length-filter_le}
+use Rattle.mxf_klv.proofs.Lists.{length-filter_le}
 use Rattle.mxf_catalogue.proofs.catalogue.clear.ClearNotes.of.Goals as goal
 
 pub returns-clause-bound : goal.returns-clause-bound

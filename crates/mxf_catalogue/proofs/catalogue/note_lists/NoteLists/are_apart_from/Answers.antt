@@ -3,9 +3,9 @@ use Rattle.std.proofs.Common.{subst}
 use Rattle.mxf_klv.specs.Note.{end_of}
 use Rattle.mxf_catalogue.specs.NoteLists.{StandApart, touching}
 use Rattle.mxf_catalogue.specs.Runs.{LiesIn}
-use Rattle.mxf_catalogue.proofs.DisputeLaws.{not-true-false}
 use Rattle.mxf_catalogue.proofs.PartLaws.{apart_of, is_nil, is_not_nil}
 use Rattle.mxf_catalogue.proofs.KeptLaws.{far_from_all, near_disputed, near_clear}
+use Rattle.mxf_klv.proofs.Tests.{not-true-false}
 use Rattle.mxf_catalogue.proofs.catalogue.note_lists.NoteLists.are_apart_from.Goals as goal
 
 of_not_false : (b : Bool) → not b ≡ false → b ≡ true

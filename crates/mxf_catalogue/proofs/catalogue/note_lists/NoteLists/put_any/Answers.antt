@@ -8,7 +8,7 @@ use Rattle.mxf_catalogue.specs.NoteLists.{Covers}
 use Rattle.mxf_catalogue.specs.Runs.{run}
 use Rattle.mxf_catalogue.proofs.ContentLaws.{IsContent-union_of}
 use Rattle.mxf_catalogue.proofs.KeptLaws.{above_new, covers_with}
-use Rattle.mxf_catalogue.proofs.Lists.{length-filter_le}
+use Rattle.mxf_klv.proofs.Lists.{length-filter_le}
 use Rattle.mxf_catalogue.proofs.catalogue.note_lists.NoteLists.put_any.Goals as goal
 
 pub returns-then-tell-clause-content : goal.returns-then-tell-clause-content

@@ -1,5 +1,6 @@
-use Rattle.mxf_catalogue.proofs.DisputeLaws.{is_disputed-IsDisputed, same_bool}
+use Rattle.mxf_catalogue.proofs.DisputeLaws.{is_disputed-IsDisputed}
 use Rattle.mxf_catalogue.specs.Disputes.{is_disputed}
+use Rattle.mxf_klv.proofs.Tests.{same_bool}
 use Rattle.mxf_lines.proofs.printing.line.note.is_disputed.Goals as goal
 
 pub returns : goal.returns

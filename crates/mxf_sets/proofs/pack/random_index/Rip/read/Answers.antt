@@ -2,9 +2,8 @@ use Rattle.std.proofs.Common.{◌≡◌, ◌∙◌, ◌+◌, ◌-◌, ◌*◌, �
 use Rattle.std.proofs.lemmas.List.{length-drop}
 use Rattle.byteorder.specs.Endian.{big_number}
 use Rattle.mxf_klv.specs.Bytes.{AreBytes}
-use Rattle.mxf_klv.proofs.RoundTrips.{AreBytes-take}
+use Rattle.mxf_klv.proofs.RoundTrips.{AreBytes-take, AreBytes-drop}
 use Rattle.mxf_sets.specs.RandomIndexPack.{entries_of}
-use Rattle.mxf_sets.proofs.Numbers.{AreBytes-drop}
 use Rattle.mxf_sets.proofs.RipLaws.{entries_are, length-entries_of, rip_read}
 use Rattle.mxf_sets.proofs.pack.random_index.Rip.read.Goals as goal
 

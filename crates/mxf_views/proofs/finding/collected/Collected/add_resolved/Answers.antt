@@ -3,7 +3,8 @@ use Rattle.std.specs.Prelude.{OnOk}
 use Rattle.mxf_views.specs.declared.finding.Code.TheVariants.{F13}
 use Rattle.mxf_views.specs.Codes.{finding}
 use Rattle.mxf_views.specs.Findings.{lost_at, lost_beside, lost_by}
-use Rattle.mxf_views.proofs.FindingUnions.{on_ok, then-offsets}
+use Rattle.mxf_views.proofs.FindingUnions.{then-offsets}
+use Rattle.std.proofs.lemmas.Result.{on_ok_weaker}
 use Rattle.mxf_views.proofs.finding.collected.Collected.add_resolved.Goals as goal
 
 pub returns-in-Some : goal.returns-in-Some
@@ -19,7 +20,7 @@ returns-in-Some c =
     subst (λ r. OnOk c.add_behind.result
     (c.add_behind.new.self ≡ old ++ map (finding F13) (lost_by r)))
     c.resolved.view_is
-    (on_ok _ _ c.add_behind.result (λ p. p
+    (on_ok_weaker c.add_behind.result (λ p. p
     ∙ ap (λ fs. fs ++ map (finding F13) beside) first
     ∙ ap (λ xs. (old ++ map (finding F13) held) ++ map (finding F13) xs) (packages ∙ storage)
     ∙ sym (then-offsets F13 old held (lost_beside preface c.resolved.inside.storage c.resolved.inside.packages)))

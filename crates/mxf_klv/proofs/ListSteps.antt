@@ -1,11 +1,10 @@
--- Lists whose first elements were changed one after another.
+-- Lists whose elements are changed one after another, and ranges of lists.
 use borrow.Rule.Slice.PartMut.{post_of, put_mid}
-use Rattle.std.proofs.Common.{◌≡◌, ℕ, zero, suc, ◌+◌, ◌<◌, ◌≤◌, List, [], ◌∷◌, ◌++◌, refl, ap, arith, drop, get_or, length, map, set, sym, ◌∙◌, append-nil, inr, subst}
-use Rattle.std.proofs.Common.{take, cond, filter, Option, Some, None}
-use Rattle.std.specs.Prelude.{◌-◌, is_some}
-use Rattle.std.proofs.lemmas.List.{drop_all, length-append, length-drop, length-take, take_all}
+use Rattle.std.proofs.Common.{◌≡◌, ℕ, zero, suc, ◌+◌, ◌-◌, ◌<◌, ◌≤◌, List, [], ◌∷◌, ◌++◌, refl, ap, arith, drop, get_or}
+use Rattle.std.proofs.Common.{length, map, set, sym, ◌∙◌, append-nil, inr, subst, take}
+use Rattle.std.proofs.lemmas.List.{drop_all, drop-take, length-append, length-drop, length-take, take_all}
 use Rattle.mxf_klv.specs.Rising.{In}
-use Rattle.std.specs.List.{AllWithin, cons_option, filter_map}
+use Rattle.std.specs.List.{AllWithin}
 
 -- Changing the next one as well.
 pub next_changed : {K : Type 0} (f : K → K) (xs : List K) (d : K) (i : ℕ) → i < length xs
@@ -17,18 +16,6 @@ next_changed f (x ∷ xs) d (suc i) h =
     let same : suc i + 1 ≡ suc (i + 1) = omega arith in
     ap (λ l. f x ∷ l) (next_changed f xs d i (omega arith))
     ∙ ap (λ k. map f (take k (x ∷ xs)) ++ drop k (x ∷ xs)) (sym same)
-
--- What a function answers of all is what it answers of those that it answers for.
-pub filter_map_some : {K L : Type 0} (f : K → Option L) (xs : List K)
-    → filter_map f (filter (λ x. is_some (f x)) xs) ≡ filter_map f xs
-filter_map_some f [] = refl
-filter_map_some f (x ∷ xs) =
-    let ih = filter_map_some f xs in
-    elim (f x) as (λ o. f x ≡ o → filter_map f (cond (is_some o) (x ∷ filter (λ x. is_some (f x)) xs)
-    (filter (λ x. is_some (f x)) xs)) ≡ cons_option o (filter_map f xs)) [
-      | None ↦ λ e. ih
-      | Some y ↦ λ e. ap (λ o. cons_option o (filter_map f (filter (λ x. is_some (f x)) xs))) e ∙ ap (λ l. y ∷ l) ih
-    ] refl
 
 -- What is not changed yet is there as before.
 pub next_unchanged : {K : Type 0} (f : K → K) (xs : List K) (d : K) (i : ℕ) → i < length xs
@@ -82,3 +69,9 @@ rest_written {K} xs zs ys at len e whole l m =
     ap (λ (l : List K). take len (l ++ drop (length l) xs)) same
     ∙ ap (λ (l : List K). take len ((take at xs ++ ys) ++ l)) (drop_all (length (take at xs ++ ys)) xs (omega (arith, size)))
     ∙ ap (take len) (append-nil (take at xs ++ ys)) ∙ take_all len (take at xs ++ ys) (omega (arith, size, whole))
+
+-- A range as std takes it out.
+pub middle : {K : Type 0} (xs : List K) (from to : ℕ) → from ≤ to
+    → take (to - from) (drop from xs) ≡ drop from (take to xs)
+middle xs from to l = let e : from + (to - from) ≡ to = omega arith in sym (drop-take from (to - from) xs)
+    ∙ ap (λ n. drop from (take n xs)) e

@@ -1,0 +1,345 @@
+-- Members of lists that are tested, filtered, searched, mapped and appended.
+use Rattle.std.proofs.Common.{◌≡◌, ◌↔◌, ◌⊎◌, ◌≤◌, ◌<◌, ◌&&◌, ◌||◌, ◌==◌, ℕ, zero, suc, Bool, true, false, cond, not, List, [], ◌∷◌, ◌++◌}
+use Rattle.std.proofs.Common.{Option, Some, None, IsTrue, Contains, refl, sym, ◌∙◌, ap, subst, inl, inr, arith, length}
+use Rattle.std.proofs.Common.{filter, filter_map, find, flat_map, get_or, is_some, map}
+use Rattle.std.specs.List.{cons_option, list_all, list_any, AllByRecursion}
+use Rattle.std.proofs.lemmas.Bool.{and_from, and_parts, eqb-true, false_from_ne_true, ltb-true, ltb-false}
+use Rattle.std.specs.Prelude.{nat_lt}
+use Rattle.mxf_klv.specs.Rising.{In}
+
+-- ---- all
+
+pub all_from_In : {K : Type 0} (P : K → Type 0) (xs : List K) → ((x : K) → In x xs → P x) → AllByRecursion P xs
+all_from_In P [] f = tt
+all_from_In P (x ∷ xs) f = (f x (inl refl), all_from_In P xs (λ y h. f y (inr h)))
+
+pub all-In : {K : Type 0} (P : K → Type 0) (xs : List K) (x : K) → AllByRecursion P xs → In x xs → P x
+all-In P [] x all h = absurd h
+all-In P (y ∷ ys) x all (inl e) = subst P (sym e) all.0
+all-In P (y ∷ ys) x all (inr h) = all-In P ys x all.1 h
+
+pub all_append : {K : Type 0} (P : K → Type 0) (xs ys : List K) → AllByRecursion P xs → AllByRecursion P ys
+    → AllByRecursion P (xs ++ ys)
+all_append P [] ys a b = b
+all_append P (x ∷ xs) ys a b = (a.0, all_append P xs ys a.1 b)
+
+pub all_parts : {K : Type 0} (P : K → Type 0) (xs ys : List K) → AllByRecursion P (xs ++ ys)
+    → AllByRecursion P xs × AllByRecursion P ys
+all_parts P [] ys a = (tt, a)
+all_parts P (x ∷ xs) ys a = let rest = all_parts P xs ys a.1 in ((a.0, rest.0), rest.1)
+
+pub all_front : {K : Type 0} (P : K → Type 0) (xs ys : List K) → AllByRecursion P (xs ++ ys) → AllByRecursion P xs
+all_front P xs ys a = (all_parts P xs ys a).0
+
+pub all_last : {K : Type 0} (P : K → Type 0) (xs : List K) (x : K) → AllByRecursion P (xs ++ x ∷ []) → P x
+all_last P xs x a = (all_parts P xs (x ∷ []) a).1.0
+
+pub all_push : {K : Type 0} (P : K → Type 0) (xs : List K) (x : K) → AllByRecursion P xs → P x
+    → AllByRecursion P (xs ++ x ∷ [])
+all_push P xs x a p = all_append P xs (x ∷ []) a (p, tt)
+
+pub all-filter : {K : Type 0} (P : K → Type 0) (p : K → Bool) (xs : List K) → AllByRecursion P xs
+    → AllByRecursion P (filter p xs)
+all-filter P p [] a = tt
+all-filter P p (x ∷ xs) a =
+    elim (p x) as (λ b. AllByRecursion P (cond b (x ∷ filter p xs) (filter p xs))) [
+      | true ↦ (a.0, all-filter P p xs a.1)
+      | false ↦ all-filter P p xs a.1
+    ]
+
+pub list_all-In : {K : Type 0} (p : K → Bool) (xs : List K) (x : K) → list_all p xs ≡ true → In x xs → p x ≡ true
+list_all-In p [] x a h = absurd h
+list_all-In p (y ∷ ys) x a h = let q = and_parts (p y) (list_all p ys) a in elim h [
+  | inl e ↦ ap p e
+      ∙ q.0
+  | inr k ↦ list_all-In p ys x q.1 k
+]
+
+pub In-list_all : {K : Type 0} (p : K → Bool) (xs : List K) → ((x : K) → In x xs → p x ≡ true) → list_all p xs ≡ true
+In-list_all p [] f = refl
+In-list_all p (y ∷ ys) f = and_from (p y) (list_all p ys) (f y (inl refl)) (In-list_all p ys (λ x h. f x (inr h)))
+
+-- ---- members
+
+-- one of the list passes the test
+pub list_any-In : {K : Type 0} (p : K → Bool) (xs : List K)
+    → IsTrue (list_any p xs) ↔ ((x : K) × In x xs × IsTrue (p x))
+list_any-In p [] = (λ h. cc, λ s. absurd s.1)
+list_any-In {K} p (x ∷ xs) =
+    let ih = list_any-In p xs in (
+      λ h. elim (p x) as (λ b. p x ≡ b → (b || list_any p xs) ≡ true → ((y : K) × In y (x ∷ xs) × IsTrue (p y))) [
+        | true ↦ λ e _. (x, inl refl, e)
+        | false ↦ λ e k. let s = ih.0 k in (s.0, inr s.1, s.2)
+      ] refl h,
+      λ s. elim (p x) as (λ b. p x ≡ b → (b || list_any p xs) ≡ true) [
+        | true ↦ λ e. refl
+        | false ↦ λ e. ih.1 (elim s.1 [
+          | inl q ↦ absurd (let t = ap p q in let u = s.2 in cc (t, u, e))
+          | inr k ↦ (s.0, k, s.2)
+        ])
+      ] refl,
+    )
+
+-- what a filter leaves
+pub In-filter : {K : Type 0} (p : K → Bool) (xs : List K) (y : K) → In y (filter p xs) ↔ (In y xs × IsTrue (p y))
+In-filter p [] y = (λ h. absurd h, λ s. absurd s.0)
+In-filter p (x ∷ xs) y =
+    let ih = In-filter p xs y in
+    elim (p x) as (λ b. p x ≡ b → In y (cond b (x ∷ filter p xs) (filter p xs)) ↔ (In y (x ∷ xs) × IsTrue (p y))) [
+      | true ↦ λ e. (
+        λ h. elim h [ inl q ↦ (inl q, ap p q ∙ e) | inr k ↦ (inr (ih.0 k).0, (ih.0 k).1) ],
+        λ s. elim s.0 [ inl q ↦ inl q | inr k ↦ inr (ih.1 (k, s.1)) ],
+      )
+      | false ↦ λ e. (
+        λ h. (inr (ih.0 h).0, (ih.0 h).1),
+        λ s. elim s.0 [ inl q ↦ absurd (let t = ap p q in let u = s.1 in cc (t, u, e)) | inr k ↦ ih.1 (k, s.1) ],
+      )
+    ] refl
+
+pub In-map : {K L : Type 0} (f : K → L) (xs : List K) (y : L) → In y (map f xs) ↔ ((x : K) × In x xs × (y ≡ f x))
+In-map f [] y = (λ h. absurd h, λ s. absurd s.1)
+In-map f (x ∷ xs) y =
+    let ih = In-map f xs y in (
+      λ h. elim h [ inl q ↦ (x, inl refl, q) | inr k ↦ let s = ih.0 k in (s.0, inr s.1, s.2) ],
+      λ s. elim s.1 [ inl q ↦ inl (s.2 ∙ ap f q) | inr k ↦ inr (ih.1 (s.0, k, s.2)) ],
+    )
+
+-- what a map that leaves out leaves
+pub In-filter_map : {K L : Type 0} (f : K → Option L) (xs : List K) (y : L)
+    → In y (filter_map f xs) ↔ ((x : K) × In x xs × (f x ≡ Some y))
+In-filter_map f [] y = (λ h. absurd h, λ s. absurd s.1)
+In-filter_map {K} {L} f (x ∷ xs) y =
+    let ih = In-filter_map f xs y in
+    elim (f x) as (λ o. f x ≡ o → In y (filter_map f (x ∷ xs)) ↔ ((z : K) × In z (x ∷ xs) × (f z ≡ Some y))) [
+      | None ↦ λ e. rw e (
+        (λ h. let g = ih.0 h in (g.0, inr g.1, g.2)),
+        (λ g. elim g.1 [
+          | inl q ↦ (let t = ap f q in let u = g.2 in absurd (cc (t, u, e)))
+          | inr k ↦ ih.1
+              (g.0, k, g.2)
+        ]),
+      )
+      | Some z ↦ λ e. rw e (
+        (λ h. elim h [
+          | inl q ↦ (x, inl refl, e ∙ ap (λ (w : L). Some w) (sym q))
+          | inr k ↦ let g = ih.0 k in
+              (g.0, inr g.1, g.2)
+        ]),
+        (λ g. elim g.1 [
+          | inl q ↦ inl (let t = ap f q in let u = g.2 in cc (t, u, e))
+          | inr k ↦ inr
+              (ih.1 (g.0, k, g.2))
+        ]),
+      )
+    ] refl
+
+pub In-append : {K : Type 0} (z : K) (xs ys : List K) → In z (xs ++ ys) ↔ In z xs ⊎ In z ys
+In-append z [] ys = (λ h. inr h, λ h. elim h [ inl k ↦ absurd k | inr k ↦ k ])
+In-append z (x ∷ xs) ys =
+    let ih = In-append z xs ys in (
+      λ h. elim h [
+        | inl e ↦ inl (inl e)
+        | inr k ↦ elim (ih.0 k) [ inl a ↦ inl (inr a) | inr b ↦ inr b ]
+      ],
+      λ h. elim h [
+        | inl k ↦ elim k [ inl e ↦ inl e | inr a ↦ inr (ih.1 (inl a)) ]
+        | inr b ↦ inr (ih.1 (inr b))
+      ],
+    )
+
+-- what a list with one more at its end has
+pub In-end : {K : Type 0} (z x : K) (xs whole : List K) → whole ≡ xs ++ x ∷ [] → In z whole ↔ In z xs ⊎ (z ≡ x)
+In-end z x xs whole e =
+    let p = In-append z xs (x ∷ []) in (
+      λ h. elim (p.0 (subst (λ l. In z l) e h)) [ inl k ↦ inl k | inr k ↦ elim k [ inl q ↦ inr q | inr n ↦ absurd n ] ],
+      λ h. subst (λ l. In z l) (sym e) (p.1 (elim h [ inl k ↦ inl k | inr q ↦ inr (inl q) ])),
+    )
+
+pub In-flat_map : {K L : Type 0} (f : K → List L) (xs : List K) (y : L)
+    → In y (flat_map f xs) ↔ ((x : K) × In x xs × In y (f x))
+In-flat_map f [] y = (λ h. absurd h, λ s. absurd s.1)
+In-flat_map f (x ∷ xs) y =
+    let ih = In-flat_map f xs y in
+    let a = In-append y (f x) (flat_map f xs) in (
+      λ h. elim (a.0 h) [ inl k ↦ (x, inl refl, k) | inr k ↦ let s = ih.0 k in (s.0, inr s.1, s.2) ],
+      λ s. elim s.1 [
+        | inl q ↦ a.1 (inl (subst (λ z. In y (f z)) q s.2))
+        | inr k ↦ a.1 (inr (ih.1 (s.0, k, s.2)))
+      ],
+    )
+
+-- what is left of some elements that are tested and mapped to offsets
+pub In-chosen : {K : Type 0} (f : K → ℕ) (p : K → Bool) (xs : List K) (o : ℕ)
+    → In o (map f (filter p xs)) ↔ ((x : K) × In x xs × IsTrue (p x) × (f x ≡ o))
+In-chosen f p xs o =
+    let m = In-map f (filter p xs) o in (
+      λ h. let s = m.0 h in let t = (In-filter p xs s.0).0 s.1 in (s.0, t.0, t.1, sym s.2),
+      λ s. m.1 (s.0, (In-filter p xs s.0).1 (s.1, s.2), sym s.3),
+    )
+
+pub In-at : {K : Type 0} (xs : List K) (i : ℕ) (d : K) → i < length xs → In (get_or xs i d) xs
+In-at [] i d h = absurd (omega arith)
+In-at (x ∷ xs) zero d h = inl refl
+In-at (x ∷ xs) (suc i) d h = inr (In-at xs i d (omega arith))
+
+pub Contains-from_In : {K : Type 0} (x : K) (xs : List K) → In x xs → Contains xs x
+Contains-from_In x [] h = absurd h
+Contains-from_In x (y ∷ ys) (inl e) = (0, omega arith, sym e)
+Contains-from_In x (y ∷ ys) (inr h) =
+    let c = Contains-from_In x ys h in
+    let l : c.0 < length ys = c.1 in
+    (suc c.0, omega arith, c.2)
+
+pub In-from_Contains : {K : Type 0} (x : K) (xs : List K) → Contains xs x → In x xs
+In-from_Contains x xs c = subst (λ y. In y xs) c.2 (In-at xs c.0 x c.1)
+
+-- What a place of a list answers stands in it, or is what is answered else.
+pub at_place : {K : Type 0} (xs : List K) (i : ℕ) (d : K) → (get_or xs i d ≡ d) ⊎ In (get_or xs i d) xs
+at_place [] i d = inl refl
+at_place (x ∷ xs) zero d = inr (inl refl)
+at_place (x ∷ xs) (suc i) d = elim (at_place xs i d) [ inl e ↦ inl e | inr h ↦ inr (inr h) ]
+
+-- Where not all are at most a number, one lies above it.
+pub some_above : {K : Type 0} (size : K → ℕ) (xs : List K) (at : ℕ) → (((x : K) → In x xs → size x ≤ at) → ⊥)
+    → (x : K) × In x xs × (at < size x)
+some_above size [] at f = absurd (f (λ x h. absurd h))
+some_above {K} size (x ∷ xs) at f =
+    elim (nat_lt at (size x)) as (λ b. nat_lt at (size x) ≡ b → (y : K) × In y (x ∷ xs) × (at < size y)) [
+      | true ↦ λ t. (x, inl refl, ltb-true at (size x) t)
+      | false ↦ λ t.
+          let low : size x ≤ at = ltb-false at (size x) t in
+          let s = some_above size xs at (λ g. f (λ y h. elim h [
+            | inl e ↦ (let q = ap size e in omega (arith, q, low))
+            | inr k ↦ g y k
+          ])) in (s.0, inr s.1, s.2)
+    ] refl
+
+-- ---- what is found
+
+-- what is found in a list
+pub found-In : {K : Type 0} (p : K → Bool) (xs : List K) (y : K) → find p xs ≡ Some y → In y xs × IsTrue (p y)
+found-In p [] y e = cc
+found-In p (x ∷ xs) y e =
+    elim (p x) as (λ b. p x ≡ b → cond b (Some x) (find p xs) ≡ Some y → In y (x ∷ xs) × IsTrue (p y)) [
+      | true ↦ λ t q. let same : x ≡ y = cc in (inl (sym same), ap p (sym same) ∙ t)
+      | false ↦ λ t q. let ih = found-In p xs y q in (inr ih.0, ih.1)
+    ] refl e
+
+pub none_found : {K : Type 0} (p : K → Bool) (xs : List K) (y : K) → find p xs ≡ None → In y xs → IsTrue (p y) → ⊥
+none_found p [] y e h t = h
+none_found p (x ∷ xs) y e h t =
+    elim (p x) as (λ b. p x ≡ b → cond b (Some x) (find p xs) ≡ None → ⊥) [
+      | true ↦ λ u q. cc
+      | false ↦ λ u q. elim h [ inl same ↦ (let k = ap p same in cc) | inr k ↦ none_found p xs y q k t ]
+    ] refl e
+
+-- where no element passes, none is found
+pub find-none : {K : Type 0} (p : K → Bool) (xs : List K) → ((x : K) → In x xs → IsTrue (p x) → ⊥) → find p xs ≡ None
+find-none p [] none = refl
+find-none p (x ∷ xs) none =
+    elim (p x) as (λ b. p x ≡ b → cond b (Some x) (find p xs) ≡ None) [
+      | true ↦ λ e. absurd (none x (inl refl) e)
+      | false ↦ λ e. find-none p xs (λ y h t. none y (inr h) t)
+    ] refl
+
+-- where one element alone passes, it is found
+pub find-only : {K : Type 0} (p : K → Bool) (xs : List K) (y : K) → In y xs → IsTrue (p y)
+    → ((x : K) → In x xs → IsTrue (p x) → x ≡ y) → find p xs ≡ Some y
+find-only p [] y h t one = absurd h
+find-only p (x ∷ xs) y h t one =
+    elim (p x) as (λ b. p x ≡ b → cond b (Some x) (find p xs) ≡ Some y) [
+      | true ↦ λ e. ap Some (one x (inl refl) e)
+      | false ↦ λ e. elim h [
+        | inl q ↦ absurd (let k = ap p q in cc (k, t, e))
+        | inr k ↦ find-only p xs y k t (λ z m u. one z (inr m) u)
+      ]
+    ] refl
+
+-- ---- what is left
+
+-- there are no more of them
+pub length-filter_le : {K : Type 0} (p : K → Bool) (xs : List K) → length (filter p xs) ≤ length xs
+length-filter_le p [] = omega arith
+length-filter_le p (x ∷ xs) =
+    let ih : length (filter p xs) ≤ length xs = length-filter_le p xs in
+    elim (p x) as (λ b. length (cond b (x ∷ filter p xs) (filter p xs)) ≤ length (x ∷ xs)) [
+      | true ↦ omega arith
+      | false ↦ omega arith
+    ]
+
+-- there are no more of them
+pub length-filter_map : {X Y : Type 0} (f : X → Option Y) (xs : List X) → length (filter_map f xs) ≤ length xs
+length-filter_map f [] = omega arith
+length-filter_map f (x ∷ xs) =
+    let ih = length-filter_map f xs in
+    elim (f x) as (λ o. f x ≡ o → length (filter_map f (x ∷ xs)) ≤ length (x ∷ xs)) [
+      | None ↦ λ e. rw e (omega arith)
+      | Some y ↦ λ e. rw e (omega arith)
+    ] refl
+
+pub filter_none : {K : Type 0} (p : K → Bool) (xs : List K) → ((x : K) → In x xs → p x ≡ true → ⊥) → filter p xs ≡ []
+filter_none p [] f = refl
+filter_none p (x ∷ xs) f = rw (false_from_ne_true (p x) (f x (inl refl))) (filter_none p xs (λ y h. f y (inr h)))
+
+pub filter_all : {K : Type 0} (p : K → Bool) (xs : List K) → ((x : K) → In x xs → p x ≡ true) → filter p xs ≡ xs
+filter_all p [] f = refl
+filter_all p (x ∷ xs) f = rw (f x (inl refl)) (ap (λ l. x ∷ l) (filter_all p xs (λ y h. f y (inr h))))
+
+pub filter_alike : {K : Type 0} (p q : K → Bool) (xs : List K) → ((x : K) → In x xs → p x ≡ q x)
+    → filter p xs ≡ filter q xs
+filter_alike p q [] f = refl
+filter_alike p q (x ∷ xs) f =
+    ap (λ b. cond b (x ∷ filter p xs) (filter p xs)) (f x (inl refl))
+    ∙ ap (λ l. cond (q x) (x ∷ l) l) (filter_alike p q xs (λ y h. f y (inr h)))
+
+-- What a function answers of all is what it answers of those that it answers for.
+pub filter_map_some : {K L : Type 0} (f : K → Option L) (xs : List K)
+    → filter_map f (filter (λ x. is_some (f x)) xs) ≡ filter_map f xs
+filter_map_some f [] = refl
+filter_map_some f (x ∷ xs) =
+    let ih = filter_map_some f xs in
+    elim (f x) as (λ o. f x ≡ o → filter_map f (cond (is_some o) (x ∷ filter (λ x. is_some (f x)) xs)
+    (filter (λ x. is_some (f x)) xs)) ≡ cons_option o (filter_map f xs)) [
+      | None ↦ λ e. ih
+      | Some y ↦ λ e. ap (λ o. cons_option o (filter_map f (filter (λ x. is_some (f x)) xs))) e ∙ ap (λ l. y ∷ l) ih
+    ] refl
+
+-- Some of those that pass a test pass another where some pass and_from.
+pub any_of_both : {K : Type 0} (p q : K → Bool) (xs : List K) → list_any q (filter p xs) ≡ list_any (λ x. p x && q x) xs
+any_of_both p q [] = refl
+any_of_both p q (x ∷ xs) =
+    let ih = any_of_both p q xs in
+    elim (p x) as (λ b. list_any q (cond b (x ∷ filter p xs) (filter p xs)) ≡ b && q x
+    || list_any (λ x. p x && q x) xs) [
+      | true ↦ ap (λ t. q x || t) ih
+      | false ↦ ih
+    ]
+
+-- Those that pass and_from tests are among those that pass the first.
+pub kept_of_both : {K : Type 0} (p q : K → Bool) (xs : List K)
+    → filter (λ x. p x && q x) (filter p xs) ≡ filter (λ x. p x && q x) xs
+kept_of_both p q [] = refl
+kept_of_both p q (x ∷ xs) =
+    let ih = kept_of_both p q xs in
+    elim (p x) as (λ b. p x ≡ b → filter (λ x. p x && q x) (cond b (x ∷ filter p xs) (filter p xs))
+    ≡ cond (b && q x) (x ∷ filter (λ x. p x && q x) xs) (filter (λ x. p x && q x) xs)) [
+      | true ↦ λ e. rw e (elim (q x) as (λ t. cond t (x ∷ filter (λ x. p x && q x) (filter p xs))
+          (filter (λ x. p x && q x) (filter p xs))
+          ≡ cond t (x ∷ filter (λ x. p x && q x) xs) (filter (λ x. p x && q x) xs)) [
+            | true ↦ ap (λ l. x ∷ l) ih
+            | false ↦ ih
+          ])
+      | false ↦ λ e. ih
+    ] refl
+
+-- All pass a test where no place is left of those that don't.
+pub none_left : {K : Type 0} (p : K → Bool) (f : K → ℕ) (xs : List K)
+    → (length (map f (filter (λ x. not (p x)) xs)) == 0) ≡ list_all p xs
+none_left p f [] = refl
+none_left p f (x ∷ xs) =
+    let ih = none_left p f xs in
+    elim (p x) as (λ b. (length (map f (cond (not b) (x ∷ filter (λ x. not (p x)) xs)
+    (filter (λ x. not (p x)) xs))) == 0) ≡ b && list_all p xs) [
+      | true ↦ ih
+      | false ↦ false_from_ne_true (suc _ == 0) (λ t. let e = eqb-true (suc _) 0 t in omega (arith, e))
+    ]

@@ -1,0 +1,150 @@
+-- Lists that rise by a number of each element, their key: that of an element is below those of all later ones.
+use Rattle.std.proofs.Common.{◌≡◌, ℕ, zero, suc, ◌+◌, ◌-◌, ◌<◌, ◌≤◌, Bool, true, false, cond, List, [], ◌∷◌, Option, Some, None}
+use Rattle.std.proofs.Common.{filter, filter_map, get_or, length, map, nat_cmp, nat_lt, refl, sym, ◌∙◌, ap, subst, inl, inr, arith, Less}
+use Rattle.std.specs.List.{cons_option, list_any, AllByRecursion}
+use Rattle.std.specs.List.Sorted.{IsNonDecreasingBy}
+use Rattle.std.proofs.lemmas.Bool.{ltb-true, lt-ltb}
+use Rattle.std.proofs.lemmas.Cmp.{nat_cmp_total}
+use Rattle.mxf_klv.specs.Rising.{In, IsRising, SameMembers, less_in}
+use Rattle.mxf_klv.proofs.Lists.{all-filter, all-In, all_from_In, In-at, In-filter_map, In-map, list_any-In}
+use Rattle.mxf_klv.proofs.Tests.{by_places, lt_from_less, same_bool}
+
+abbrev pub IsRisingBy : {K : Type 0} → (K → ℕ) → List K → Type 0
+IsRisingBy key [] = Unit {0}
+IsRisingBy key (x ∷ xs) = AllByRecursion (λ y. key x < key y) xs × IsRisingBy key xs
+
+-- Numbers that rise do so by themselves.
+pub by_itself : (xs : List ℕ) → IsRising nat_cmp xs → IsRisingBy (λ x. x) xs
+by_itself [] r = tt
+by_itself (x ∷ xs) r = (
+  all_from_In (λ y. x < y) xs (λ y h. lt_from_less x y (less_in nat_cmp_total x y xs r.0 h)),
+  by_itself xs r.1,
+)
+
+module _ {K : Type 0} (key : K → ℕ) where
+  -- Two with one key are one.
+  pub one_by_key : (xs : List K) (x y : K) → IsRisingBy key xs → In x xs → In y xs → key x ≡ key y → x ≡ y
+  one_by_key [] x y r h k e = absurd h
+  one_by_key (z ∷ xs) x y r (inl a) (inl b) e = a ∙ sym b
+  one_by_key (z ∷ xs) x y r (inl a) (inr b) e =
+      let l : key z < key y = all-In (λ w. key z < key w) xs y r.0 b in
+      let f = ap key a in absurd (omega (arith, l, f, e))
+  one_by_key (z ∷ xs) x y r (inr a) (inl b) e =
+      let l : key z < key x = all-In (λ w. key z < key w) xs x r.0 a in
+      let f = ap key b in absurd (omega (arith, l, f, e))
+  one_by_key (z ∷ xs) x y r (inr a) (inr b) e = one_by_key xs x y r.1 a b e
+
+  not_again : (x : K) (xs : List K) → AllByRecursion (λ y. key x < key y) xs → In x xs → ⊥
+  not_again x xs a h = let l : key x < key x = all-In (λ y. key x < key y) xs x a h in omega (arith, l)
+
+  first_same : (x y : K) (xs ys : List K) → IsRisingBy key (x ∷ xs) → IsRisingBy key (y ∷ ys)
+      → SameMembers (x ∷ xs) (y ∷ ys) → x ≡ y
+  first_same x y xs ys r s m = elim ((m x).0 (inl refl)) [
+    | inl e ↦ e
+    | inr h ↦ elim ((m y).1 (inl refl)) [
+      | inl e ↦ sym e
+      | inr k ↦ (
+          let a : key y < key x = all-In (λ z. key y < key z) ys x s.0 h in
+          let b : key x < key y = all-In (λ z. key x < key z) xs y r.0 k in absurd (omega (arith, a, b)))
+    ]
+  ]
+
+  -- With the same members they are one list.
+  pub same_by_members : (xs ys : List K) → IsRisingBy key xs → IsRisingBy key ys → SameMembers xs ys → xs ≡ ys
+  same_by_members [] [] r s m = refl
+  same_by_members [] (y ∷ ys) r s m = absurd ((m y).1 (inl refl))
+  same_by_members (x ∷ xs) [] r s m = absurd ((m x).0 (inl refl))
+  same_by_members (x ∷ xs) (y ∷ ys) r s m =
+      let same = first_same x y xs ys r s m in
+      let tails : SameMembers xs ys = λ z. (
+        λ h. elim ((m z).0 (inr h)) [
+          | inl e ↦ absurd (not_again x xs r.0 (subst (λ w. In w xs) (e ∙ sym same) h))
+          | inr k ↦ k
+        ],
+        λ h. elim ((m z).1 (inr h)) [
+          | inl e ↦ absurd (not_again y ys s.0 (subst (λ w. In w ys) (e ∙ same) h))
+          | inr k ↦ k
+        ],
+      ) in
+      let rest = same_by_members xs ys r.1 s.1 tails in λ i. same i ∷ rest i
+
+  -- They still rise where some are left out, and where each is mapped to one of its key.
+  pub rises-filter : (p : K → Bool) (xs : List K) → IsRisingBy key xs → IsRisingBy key (filter p xs)
+  rises-filter p [] r = tt
+  rises-filter p (x ∷ xs) r =
+      elim (p x) as (λ b. IsRisingBy key (cond b (x ∷ filter p xs) (filter p xs))) [
+        | true ↦ (all-filter (λ y. key x < key y) p xs r.0, rises-filter p xs r.1)
+        | false ↦ rises-filter p xs r.1
+      ]
+
+  pub rises-map : {L : Type 0} (f : K → L) (other : L → ℕ) (xs : List K)
+      → ((x : K) → In x xs → other (f x) ≡ key x) → IsRisingBy key xs → IsRisingBy other (map f xs)
+  rises-map f other [] same r = tt
+  rises-map f other (x ∷ xs) same r = (
+    all_from_In (λ y. other (f x) < other y) (map f xs) (λ y h.
+        let s = (In-map f xs y).0 h in
+        let l : key x < key s.0 = all-In (λ z. key x < key z) xs s.0 r.0 s.1 in
+        let a = same x (inl refl) in
+        let b = same s.0 (inr s.1) in
+        let c = ap other s.2 in omega (arith, l, a, b, c)),
+    rises-map f other xs (λ y h. same y (inr h)) r.1,
+  )
+
+  pub rises-filter_map : {L : Type 0} (f : K → Option L) (other : L → ℕ) (xs : List K)
+      → ((x : K) (y : L) → f x ≡ Some y → other y ≡ key x) → IsRisingBy key xs
+      → IsRisingBy other (filter_map f xs)
+  rises-filter_map f other [] same r = tt
+  rises-filter_map f other (x ∷ xs) same r =
+      let ih = rises-filter_map f other xs same r.1 in
+      elim (f x) as (λ o. f x ≡ o → IsRisingBy other (cons_option o (filter_map f xs))) [
+        | None ↦ λ e. ih
+        | Some y ↦ λ e. (
+          all_from_In (λ z. other y < other z) (filter_map f xs) (λ z h.
+              let s = (In-filter_map f xs z).0 h in
+              let l : key x < key s.0 = all-In (λ w. key x < key w) xs s.0 r.0 s.1 in
+              let a = same x y e in
+              let b = same s.0 z s.2 in omega (arith, l, a, b)),
+          ih,
+        )
+      ] refl
+
+  -- What places say.
+  pub rises_at : (xs : List K) (i j : ℕ) (d : K) → IsRisingBy key xs → i < j → j < length xs
+      → key (get_or xs i d) < key (get_or xs j d)
+  rises_at [] i j d r l h = absurd (omega arith)
+  rises_at (x ∷ xs) zero zero d r l h = absurd (omega arith)
+  rises_at (x ∷ xs) zero (suc j) d r l h =
+      all-In (λ y. key x < key y) xs (get_or xs j d) r.0 (In-at xs j d (omega arith))
+  rises_at (x ∷ xs) (suc i) zero d r l h = absurd (omega arith)
+  rises_at (x ∷ xs) (suc i) (suc j) d r l h = rises_at xs i j d r.1 (omega arith) (omega arith)
+
+  pub never_falls : (xs : List K) → IsRisingBy key xs → IsNonDecreasingBy key xs
+  never_falls xs r i j d l h =
+      by_places (λ i j. key (get_or xs i d) ≤ key (get_or xs j d)) i j l (λ k. omega arith)
+      (λ t. let m : key (get_or xs i d) < key (get_or xs j d) = rises_at xs i j d r t h in omega arith)
+
+  -- None lies above the last.
+  pub at_most_last : (xs : List K) (y : K) (k : ℕ) (d : K) → IsRisingBy key xs → k + 1 ≡ length xs → In y xs
+      → key y ≤ key (get_or xs k d)
+  at_most_last [] y k d r l h = absurd h
+  at_most_last (x ∷ []) y zero d r l (inl e) = let f = ap key e in omega (arith, f)
+  at_most_last (x ∷ []) y zero d r l (inr h) = absurd h
+  at_most_last (x ∷ z ∷ xs) y zero d r l h = absurd (omega (arith, l))
+  at_most_last (x ∷ xs) y (suc k) d r l (inl e) =
+      let a : key x < key (get_or xs k d) =
+      all-In (λ z. key x < key z) xs (get_or xs k d) r.0 (In-at xs k d (omega (arith, l))) in
+      let f = ap key e in omega (arith, a, f)
+  at_most_last (x ∷ xs) y (suc k) d r l (inr h) = at_most_last xs y k d r.1 (omega (arith, l)) h
+
+  -- So the last tells whether one lies above another number.
+  pub last_above : (low : ℕ) (xs : List K) (k : ℕ) (d : K) → IsRisingBy key xs → k + 1 ≡ length xs
+      → nat_lt low (key (get_or xs k d)) ≡ list_any (λ x. nat_lt low (key x)) xs
+  last_above low xs k d r l =
+      let any = list_any-In (λ x. nat_lt low (key x)) xs in
+      same_bool _ _
+      (λ t. any.1 (get_or xs k d, In-at xs k d (omega (arith, l)), t))
+      (λ t.
+      let s = any.0 t in
+      let a : key s.0 ≤ key (get_or xs k d) = at_most_last xs s.0 k d r l s.1 in
+      let b = ltb-true low (key s.0) s.2 in
+      lt-ltb low (key (get_or xs k d)) (omega (arith, a, b)))

@@ -1,0 +1,102 @@
+-- Tests, what is there or not, and orderings.
+use Rattle.std.proofs.Common.{◌≡◌, ◌≢◌, ◌↔◌, ◌⊎◌, ◌&&◌, ◌||◌, ◌==◌, ◌<◌, ◌≤◌, ℕ, Bool, true, false, cond, not, IsTrue, Option, Some, None}
+use Rattle.std.proofs.Common.{is_none, is_some, option_map, refl, sym, ap, subst, inl, inr, arith, eqb-true, eq-eqb}
+use Rattle.std.proofs.Common.{Ordering, Less, Equal, Greater, is_lt, nat_cmp, nat_lt}
+use Rattle.std.specs.Ordering.{ordering_then}
+use Rattle.std.proofs.lemmas.Bool.{ltb-true, ltb-false, lt-ltb, or_left, or_right}
+
+pub not_true : (b : Bool) → (b ≡ true → ⊥) → not b ≡ true
+not_true true f = absurd (f refl)
+not_true false f = refl
+
+pub not-true-false : (b : Bool) → not b ≡ true → b ≡ true → ⊥
+not-true-false true h e = cc
+not-true-false false h e = cc
+
+pub same_bool : (a b : Bool) → (IsTrue a → IsTrue b) → (IsTrue b → IsTrue a) → a ≡ b
+same_bool true b f g = sym (f refl)
+same_bool false true f g = g refl
+same_bool false false f g = refl
+
+pub either : (a b : Bool) → (a ≡ true) ⊎ (b ≡ true) → (a || b) ≡ true
+either a b (inl h) = or_left a b h
+either a b (inr h) = or_right a b h
+
+pub all_three : (a b c : Bool) → a ≡ true → b ≡ true → c ≡ true → (a && b && c) ≡ true
+all_three true true c p q r = r
+all_three true false c p q r = absurd cc
+all_three false b c p q r = absurd cc
+
+pub three_parts : (a b c : Bool) → (a && b && c) ≡ true → (a ≡ true) × (b ≡ true) × (c ≡ true)
+three_parts true true c h = (refl, refl, h)
+three_parts true false c h = absurd cc
+three_parts false b c h = absurd cc
+
+pub not_both : (m n : Bool) → (m ≡ true → n ≡ true → ⊥) → (m && n) ≡ false
+not_both true true f = absurd (f refl refl)
+not_both true false f = refl
+not_both false n f = refl
+
+pub equals_itself : (a b : ℕ) → IsTrue (a == b) ↔ (a ≡ b)
+equals_itself a b = (eqb-true a b, eq-eqb a b)
+
+pub not_equal : (a b : ℕ) → (not (a == b) ≡ true) ↔ (a ≢ b)
+not_equal a b = (λ h e. not-true-false (a == b) h (eq-eqb a b e), λ h. not_true (a == b) (λ t. h (eqb-true a b t)))
+
+-- ---- what is there
+
+pub none_some : {A : Type 0} (o : Option A) (x : A) → o ≡ None → o ≡ Some x → ⊥
+none_some o x e f = cc (e, f)
+
+pub none_if : {A : Type 0} (o : Option A) → is_some o ≡ false → o ≡ None
+none_if None e = refl
+none_if (Some x) e = absurd cc
+
+pub none_says : {A : Type 0} (o : Option A) → is_none o ≡ true → o ≡ None
+none_says None h = refl
+none_says (Some x) h = absurd cc
+
+pub some_is : {K : Type 0} (o : Option K) → is_some o ≡ true → (x : K) × (o ≡ Some x)
+some_is None h = absurd cc
+some_is (Some x) h = (x, refl)
+
+pub is_some-map : {A B : Type 0} (f : A → B) (o : Option A) → is_some (option_map f o) ≡ is_some o
+is_some-map f None = refl
+is_some-map f (Some x) = refl
+
+pub guarded : {A : Type 0} (b : Bool) (o : Option A) (x : A) → cond b o None ≡ Some x → (b ≡ true) × (o ≡ Some x)
+guarded true o x e = (refl, e)
+guarded false o x e = absurd cc
+
+-- ---- orderings
+
+pub less_from_test : (o : Ordering) → is_lt o ≡ true → o ≡ Less
+less_from_test Less e = refl
+less_from_test Equal e = absurd cc
+less_from_test Greater e = absurd cc
+
+pub ties : (a b : Ordering) → ordering_then a b ≡ Equal → (a ≡ Equal) × (b ≡ Equal)
+ties Less b e = cc
+ties Equal b e = (refl, e)
+ties Greater b e = cc
+
+pub less_from_lt : (a b : ℕ) → a < b → nat_cmp a b ≡ Less
+less_from_lt a b h = rw (lt-ltb a b h) refl
+
+pub lt_from_less : (a b : ℕ) → nat_cmp a b ≡ Less → a < b
+lt_from_less a b e =
+    elim (nat_lt a b) as (λ t. nat_lt a b ≡ t → a < b) [
+      | true ↦ λ t. ltb-true a b t
+      | false ↦ λ t. absurd (no t e)
+    ] refl
+  where
+    no : nat_lt a b ≡ false → nat_cmp a b ≡ Less → ⊥
+    no t = rw t (elim (a == b) as (λ s. cond s Equal Greater ≡ Less → ⊥) [ true ↦ λ q. cc (q) | false ↦ λ q. cc (q) ])
+
+-- In a pair of places the first is the second, or stands below it.
+pub by_places : (P : ℕ → ℕ → Type 0) (i j : ℕ) → i ≤ j → ((k : ℕ) → P k k) → (i < j → P i j) → P i j
+by_places P i j l same less =
+    elim (nat_lt i j) as (λ b. nat_lt i j ≡ b → P i j) [
+      | true ↦ λ e. less (ltb-true _ _ e)
+      | false ↦ λ e. let g : j ≤ i = ltb-false _ _ e in let q : i ≡ j = omega arith in subst (P i) q (same i)
+    ] refl
