@@ -1,6 +1,6 @@
 -- The digits that the crate `hex` writes are those of `hex_of`.
-use Rattle.std.proofs.Common.{◌≡◌, ℕ, ◌+◌, ◌<◌, ◌/◌, ◌%◌, get_or, List, [], ◌∷◌, ◌++◌, length, take}
-use Rattle.std.proofs.Common.{add-one, refl, ap, sym}
+use Rattle.std.proofs.Common.{◌≡◌, ℕ, ◌+◌, ◌<◌, ◌/◌, ◌%◌, get_or, List, [], ◌∷◌, ◌++◌, length, take, add-one, refl, ap}
+use Rattle.std.proofs.Common.{sym}
 use Rattle.std.proofs.Math.Seq.{take-suc}
 use Rattle.hex.specs.Hex.{encode_with, encode_lower}
 use Rattle.mxf_lines.specs.Hexadecimal.{hex_digit, hex_of}

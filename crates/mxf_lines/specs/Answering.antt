@@ -1,7 +1,7 @@
 -- What a run is answered: its lines and its status (this project's profile).
 use Rattle.std.specs.Prelude.{ℕ, ◌<◌, ◌==◌, ◌&&◌, if◌then◌else◌, Bool, true, false, List, [], ◌∷◌, ◌++◌, length, take}
-use Rattle.std.specs.Prelude.{Result, Ok, Err}
-use Rattle.std.specs.List.{concat, flat_map, list_all}
+use Rattle.std.specs.Prelude.{Result, Ok, Err, flat_map}
+use Rattle.std.specs.List.{concat, list_all}
 use Rattle.mxf_klv.specs.Parts.{NoteParts}
 use Rattle.mxf_klv.specs.declared.piece.Stop.{Stop}
 use Rattle.mxf_klv.specs.declared.piece.Stop.TheVariants.{End}

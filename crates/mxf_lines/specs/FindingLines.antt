@@ -1,6 +1,5 @@
 -- The lines of a check (this project's profile).
-use Rattle.std.specs.Prelude.{ℕ, List, [], ◌∷◌, codes}
-use Rattle.std.specs.Fmt.{decimal}
+use Rattle.std.specs.Prelude.{ℕ, List, [], ◌∷◌, codes, decimal}
 use Rattle.mxf_klv.specs.declared.piece.Stop.{Stop}
 use Rattle.mxf_views.specs.Codes.{code_name, code_text}
 use Rattle.mxf_views.specs.declared.finding.Finding.{Finding}

@@ -1,8 +1,7 @@
 -- The lines of index table segments, of places, and of the random index pack (this project's profile; the fields are
 -- those of ST 377-1, Index Table Segment and Random Index Pack).
-use Rattle.std.specs.Prelude.{ℕ, List, [], ◌∷◌, ◌++◌, codes}
-use Rattle.std.specs.List.{flat_map}
-use Rattle.std.specs.Fmt.{decimal, signed_decimal}
+use Rattle.std.specs.Prelude.{ℕ, List, [], ◌∷◌, ◌++◌, codes, flat_map, decimal}
+use Rattle.std.specs.Fmt.{signed_decimal}
 use Rattle.mxf_sets.specs.Segment.{entry_count}
 use Rattle.mxf_sets.specs.declared.segment.numbers.SegmentNumbers.{SegmentNumbers}
 use Rattle.mxf_views.specs.Places.{SegmentAtParts}

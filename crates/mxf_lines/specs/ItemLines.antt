@@ -1,14 +1,16 @@
 -- The lines of the items of header metadata sets (ST 336, local sets; the lines are this project's profile).
-use Rattle.std.specs.Prelude.{ℕ, ◌==◌, if◌then◌else◌, List, [], ◌∷◌, length, take, codes, Option, None, Some}
-use Rattle.std.specs.List.{flat_map}
-use Rattle.std.specs.Fmt.{decimal}
+use Rattle.std.specs.Prelude.{ℕ, ◌≡◌, ◌==◌, if◌then◌else◌, List, [], ◌∷◌, length, take, codes, Option, None, Some, flat_map, option_and_then}
+use Rattle.std.specs.Prelude.{decimal}
 use Rattle.std.specs.Int.{w16, to_be_bytes}
 use Rattle.mxf_klv.specs.Parts.{NoteParts}
 use Rattle.mxf_sets.specs.Batch.{BatchParts}
 use Rattle.mxf_sets.specs.Items.{ItemParts}
 use Rattle.mxf_sets.specs.PackReadings.{label_of}
-use Rattle.mxf_views.specs.Labels.{primer_for}
+use Rattle.mxf_sets.specs.PrimerTable.{label_in}
+use Rattle.mxf_views.specs.Labels.{primer_for, primer_of}
+use Rattle.mxf_views.specs.declared.copy.CopyInfo.{CopyInfo}
 use Rattle.mxf_views.specs.SetItems.{set_items}
+use Rattle.mxf_lines.specs.declared.printing.sets.CopyLabels.{CopyLabels}
 use Rattle.mxf_lines.specs.Hexadecimal.{hex_of}
 use Rattle.mxf_lines.specs.Lines.{line_of}
 
@@ -45,3 +47,16 @@ lines_of_items offset primer (Some items) = item_lines offset primer items
 -- The lines of one of the notes of a content.
 abbrev pub set_lines : List NoteParts → NoteParts → List (List ℕ)
 set_lines content n = lines_of_items n.offset (primer_for content n) (set_items n)
+
+-- The label of a tag by the table that is kept of a copy while its sets are printed, none without one.
+abbrev pub label_among : Option (List (ℕ × Option (List ℕ))) → ℕ → Option (List ℕ)
+label_among None tag = None
+label_among (Some table) tag = label_in table tag
+
+-- The label of a tag by the primer pack at the start of a copy, none without a copy.
+abbrev pub label_by_copy : List NoteParts → Option CopyInfo → ℕ → Option (List ℕ)
+label_by_copy content copy tag = label_by (option_and_then (primer_of content) copy) tag
+
+-- What is kept tells what the primer pack of its copy says.
+abbrev pub AreLabelsIn : List NoteParts → CopyLabels → Type 0
+AreLabelsIn content kept = (tag : ℕ) → label_among kept.labels tag ≡ label_by_copy content kept.copy tag

@@ -1,12 +1,9 @@
 pub mod Answering
-pub mod CopyLabels
 pub mod FindingLines
 pub mod Hexadecimal
 pub mod IndexLines
 pub mod ItemLines
 pub mod Lines
-pub mod NamedRecords
-pub mod Optional
 pub mod PartitionLines
 pub mod Printing
 pub mod ReferenceLines

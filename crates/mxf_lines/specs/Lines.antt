@@ -1,6 +1,5 @@
 -- The texts of the lines that are printed (this project's profile). Numbers are decimal.
-use Rattle.std.specs.Prelude.{ℕ, Bool, true, false, List, [], ◌∷◌, ◌++◌, codes, not, Option, None, Some}
-use Rattle.std.specs.Fmt.{decimal}
+use Rattle.std.specs.Prelude.{ℕ, Bool, true, false, List, [], ◌∷◌, ◌++◌, codes, not, Option, None, Some, decimal}
 use Rattle.mxf_klv.specs.Kind.{kind_of}
 use Rattle.mxf_klv.specs.Parts.{NoteParts}
 use Rattle.mxf_klv.specs.Words.{kind_name, stop_name}
@@ -11,6 +10,11 @@ use Rattle.mxf_views.specs.declared.chain.Chain.{Chain}
 use Rattle.mxf_views.specs.declared.copy.CopyInfo.{CopyInfo}
 use Rattle.mxf_views.specs.Words.{chain_name}
 use Rattle.mxf_lines.specs.Hexadecimal.{hex_of}
+
+-- The lines of what is there, and none where it isn't.
+abbrev pub lines_where : {X : Type 0} → (X → List (List ℕ)) → Option X → List (List ℕ)
+lines_where lines None = []
+lines_where lines (Some x) = lines x
 
 -- These words, with a space between them.
 abbrev pub spaced : List (List ℕ) → List ℕ

@@ -1,7 +1,5 @@
 -- The lines of a partition (this project's profile; the fields are those of ST 377-1, Partition Pack).
-use Rattle.std.specs.Prelude.{ℕ, List, [], ◌∷◌, ◌++◌, codes, slice_index, Option, None, Some}
-use Rattle.std.specs.List.{flat_map}
-use Rattle.std.specs.Fmt.{decimal}
+use Rattle.std.specs.Prelude.{ℕ, List, [], ◌∷◌, ◌++◌, codes, slice_index, Option, None, Some, flat_map, decimal}
 use Rattle.mxf_klv.specs.Words.{status_name}
 use Rattle.mxf_sets.specs.declared.pack.numbers.PartitionNumbers.{PartitionNumbers}
 use Rattle.mxf_sets.specs.Batch.{BatchParts, batch_items}

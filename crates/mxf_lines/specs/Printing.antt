@@ -1,6 +1,7 @@
 -- The lines that are printed of what a run gathers, and what a call that prints lines answers (this project's profile).
 use Rattle.std.specs.Prelude.{ℕ, ◌≡◌, ◌<◌, List, [], ◌∷◌, ◌++◌, length, take, Result, Ok, Err, Option, None, Some}
-use Rattle.std.specs.List.{concat, flat_map}
+use Rattle.std.specs.Prelude.{flat_map}
+use Rattle.std.specs.List.{concat}
 use Rattle.mxf_klv.specs.Parts.{NoteParts}
 use Rattle.mxf_klv.specs.declared.writing.WriteFault.{WriteFault}
 use Rattle.mxf_catalogue.specs.Disputes.{clear_notes, is_disputed}

@@ -1,8 +1,7 @@
 -- The lines of what the references of the preferred copy lead to (this project's profile; the fields are those of
 -- ST 377-1, Identification and Generic Package sets). An identifier is printed as RFC 9562 writes a UUID.
-use Rattle.std.specs.Prelude.{ℕ, ◌==◌, List, [], ◌∷◌, ◌++◌, length, find, codes, Option}
-use Rattle.std.specs.List.{flat_map}
-use Rattle.std.specs.Fmt.{decimal, signed_decimal}
+use Rattle.std.specs.Prelude.{ℕ, ◌≡◌, ◌==◌, List, [], ◌∷◌, ◌++◌, length, find, codes, Option, flat_map, decimal}
+use Rattle.std.specs.Fmt.{signed_decimal}
 use Rattle.uuid.specs.Text.{hyphenated_text, lower}
 use Rattle.mxf_klv.specs.Kind.{kind_of}
 use Rattle.mxf_klv.specs.Parts.{NoteParts}
@@ -19,13 +18,13 @@ use Rattle.mxf_views.specs.declared.reference.target.Target.{Target}
 use Rattle.mxf_views.specs.declared.reference.target.Target.TheVariants.{Missing, Several, WrongKind, Unreadable, Found}
 use Rattle.mxf_lines.specs.declared.printing.line.record.FieldName.{FieldName}
 use Rattle.mxf_lines.specs.declared.printing.line.record.FieldName.TheVariants as names
-use Rattle.mxf_lines.specs.declared.printing.line.record.FieldValue.{FieldValue}
-use Rattle.mxf_lines.specs.declared.printing.line.record.FieldValue.TheVariants as values
 use Rattle.mxf_lines.specs.declared.printing.line.reference.Named.{Named}
 use Rattle.mxf_lines.specs.declared.printing.line.reference.Named.TheVariants.{Identification, Package}
+use Rattle.mxf_lines.specs.declared.printing.references.NamedRecord.{NamedRecord}
+use Rattle.mxf_lines.specs.declared.printing.references.Record.{Record}
+use Rattle.mxf_lines.specs.declared.printing.references.Record.TheVariants as records
 use Rattle.mxf_lines.specs.Hexadecimal.{hex_of}
-use Rattle.mxf_lines.specs.Lines.{line_of, spaced}
-use Rattle.mxf_lines.specs.Optional.{lines_where}
+use Rattle.mxf_lines.specs.Lines.{line_of, lines_where, spaced}
 use Rattle.mxf_lines.specs.ShownText.{shown_value}
 
 -- The word for what a reference names.
@@ -55,17 +54,10 @@ timestamp_text t =
     spaced (signed_decimal t.year ∷ decimal t.month ∷ decimal t.day ∷ decimal t.hour ∷ decimal t.minute
     ∷ decimal t.second ∷ decimal t.milliseconds_by_four ∷ [])
 
--- The text of the value of a field.
-abbrev pub field_text : FieldValue → List ℕ
-field_text (values.Uid uid) = uid_text uid
-field_text (values.Digits bytes) = hex_of bytes.now
-field_text (values.Time t) = timestamp_text t
-field_text (values.Text text) = text.now
-field_text (values.Count n) = decimal n
-
--- The line of a field: its word and its value.
-unfoldable pub field_line : List ℕ → List ℕ → List ℕ
-field_line word value = line_of (word ∷ value ∷ [])
+-- The word for a package by the kind of its set, a Material Package or a Source Package.
+abbrev pub package_word : Kind → List ℕ
+package_word MaterialPackage = codes "material"
+package_word _ = codes "source"
 
 -- The word for the name of a field.
 abbrev pub field_name : FieldName → List ℕ
@@ -74,49 +66,44 @@ field_name names.Company = codes "company"
 field_name names.Product = codes "product"
 field_name names.Version = codes "version"
 field_name names.ProductUid = codes "product-uid"
+field_name names.Kind = codes "kind"
 field_name names.PackageUid = codes "package-uid"
 field_name names.Modified = codes "modified"
 field_name names.Name = codes "name"
 field_name names.Created = codes "created"
+field_name names.Tracks = codes "tracks"
 field_name names.Descriptor = codes "descriptor"
 
--- The line of a field by the form of its value, where the field is there.
+-- The line of a field: its word and its value.
+unfoldable pub field_line : List ℕ → List ℕ → List ℕ
+field_line word value = line_of (word ∷ value ∷ [])
 
-abbrev pub uid_lines : List ℕ → Option (List ℕ) → List (List ℕ)
-uid_lines word uid = lines_where (λ u. field_line word (uid_text u) ∷ []) uid
-
-abbrev pub digits_lines : List ℕ → Option (List ℕ) → List (List ℕ)
-digits_lines word bytes = lines_where (λ b. field_line word (hex_of b) ∷ []) bytes
-
-abbrev pub time_lines : List ℕ → Option Timestamp → List (List ℕ)
-time_lines word time = lines_where (λ t. field_line word (timestamp_text t) ∷ []) time
-
-abbrev pub text_lines : List ℕ → Option (List ℕ) → List (List ℕ)
-text_lines word value = lines_where (λ v. field_line word (shown_value v) ∷ []) value
+-- The line of a field where it is there, by the text of its value.
+abbrev pub field_lines : {X : Type 0} → List ℕ → (X → List ℕ) → Option X → List (List ℕ)
+field_lines word text value = lines_where (λ x. field_line word (text x) ∷ []) value
 
 -- The lines of an Identification: those of its fields that are there, in this order.
 abbrev pub identification_lines : IdentificationParts → List (List ℕ)
 identification_lines i =
-    uid_lines (codes "generation") i.this_generation_uid
-    ++ (text_lines (codes "company") i.company_name
-    ++ (text_lines (codes "product") i.product_name
-    ++ (text_lines (codes "version") i.version_string
-    ++ (digits_lines (codes "product-uid") i.product_uid
-    ++ time_lines (codes "modified") i.modification_date))))
+    field_lines (codes "generation") uid_text i.this_generation_uid
+    ++ (field_lines (codes "company") shown_value i.company_name
+    ++ (field_lines (codes "product") shown_value i.product_name
+    ++ (field_lines (codes "version") shown_value i.version_string
+    ++ (field_lines (codes "product-uid") hex_of i.product_uid
+    ++ field_lines (codes "modified") timestamp_text i.modification_date))))
 
--- The word for a package by the kind of its set, a Material Package or a Source Package.
-abbrev pub package_word : Kind → List ℕ
-package_word MaterialPackage = codes "material"
-package_word _ = codes "source"
+-- The lines of the dates of a package, of how many tracks it has, and of its descriptor: of those that are there.
+abbrev pub package_details : PackageParts → List (List ℕ)
+package_details p =
+    field_lines (codes "created") timestamp_text p.creation_date
+    ++ (field_lines (codes "modified") timestamp_text p.modified_date
+    ++ (field_line (codes "tracks") (decimal (length p.tracks)) ∷ field_lines (codes "descriptor") uid_text p.descriptor))
 
--- The lines of a package whose set has this kind: those of its fields that are there, in this order.
+-- The lines of a package whose set has this kind: its kind, its identifier, its name where that is there, and those above.
 abbrev pub package_lines : Kind → PackageParts → List (List ℕ)
 package_lines kind p =
     field_line (codes "kind") (package_word kind) ∷ field_line (codes "package-uid") (hex_of p.package_uid)
-    ∷ (text_lines (codes "name") p.name
-    ++ (time_lines (codes "created") p.creation_date
-    ++ (time_lines (codes "modified") p.modified_date
-    ++ (field_line (codes "tracks") (decimal (length p.tracks)) ∷ uid_lines (codes "descriptor") p.descriptor))))
+    ∷ (field_lines (codes "name") shown_value p.name ++ package_details p)
 
 -- The Identification of a note, where it is kept and readable.
 unfoldable pub identification_in : NoteParts → Option IdentificationParts
@@ -153,3 +140,12 @@ resolved_lines content r =
 -- The lines of the references of the preferred copy, none without one.
 abbrev pub reference_lines : List NoteParts → Option ResolvedParts → List (List ℕ)
 reference_lines content resolved = lines_where (resolved_lines content) resolved
+
+-- The lines of a record.
+abbrev pub lines_of_record : Record → List (List ℕ)
+lines_of_record (records.Identification i) = identification_lines i
+lines_of_record (records.Package kind p) = package_lines kind p
+
+-- What is kept while references in a row name one set is the record that was found at its target.
+abbrev pub IsRecordIn : List NoteParts → Named → NamedRecord → Type 0
+IsRecordIn content named kept = lines_where lines_of_record kept.found ≡ found_lines content named kept.target

@@ -1,7 +1,6 @@
 -- How texts are printed (this project's profile; the texts are those of ST 377-1, UTF-16 strings).
-use Rattle.std.specs.Prelude.{ℕ, ◌%◌, ◌==◌, if◌then◌else◌, List, codes, length, map}
+use Rattle.std.specs.Prelude.{ℕ, ◌%◌, ◌==◌, if◌then◌else◌, List, codes, length, map, chars, encode_utf8_all}
 use Rattle.std.specs.Char.{is_ascii_control}
-use Rattle.std.specs.Str.{chars, encode_utf8_all}
 use Rattle.mxf_sets.specs.Text.{text_of}
 
 -- The character that stands for a character: 63, a question mark, for those below U+0020 and for U+007F.

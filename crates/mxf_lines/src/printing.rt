@@ -8,17 +8,15 @@ mod check;
 mod content;
 mod fault;
 mod hexadecimal;
-mod labels;
 mod line;
 mod lines;
-mod named_record;
 mod references;
 mod sets;
 
 use check::print_checked;
 pub(crate) use fault::PrintFault;
 pub use hexadecimal::hex_text;
-use line::{JoinLine, PlaceLine};
+use line::JoinLine;
 use lines::{Lines, Printer};
 use mxf_klv::WriteFault;
 use mxf_read::Gathered;
@@ -98,16 +96,11 @@ pub fn answer<W: Write>(
         Ask::Check => Ok(print_checked(&mut printer, writer, gathered)?),
         Ask::Locate { index, unit } => {
             let place = gathered.views.locate(index, unit)?;
-            PlaceLine(place).print_to(&mut printer, writer)?;
+            place.print_to(&mut printer, writer)?;
             Ok(place_status(place))
         }
         Ask::Join => {
-            let catalogue = gathered.views.catalogue();
-            let line = JoinLine {
-                notes: catalogue.len(),
-                disputed: catalogue.disputed().count(),
-            };
-            line.print_to(&mut printer, writer)?;
+            JoinLine(gathered.views.catalogue()).print_to(&mut printer, writer)?;
             Ok(0)
         }
     }

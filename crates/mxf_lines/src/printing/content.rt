@@ -1,6 +1,10 @@
 //! What is known of a recording.
+ghost use Rattle.std.specs.Prelude.{◌++◌};
+ghost use Rattle.mxf_lines.specs.Answering.{report_lines};
+ghost use Rattle.mxf_lines.specs.Printing.{content_lines};
+
 use super::PrintFault;
-use super::line::{ChainLine, CopyLines, NoteLines, PartitionLines, PieceLines, PreferredLine};
+use super::line::{NoteLines, PartitionLines, PreferredLine};
 use super::lines::{Each, Lines, Printer, Then};
 use super::references::ReferenceLines;
 use super::sets::SetLines;
@@ -10,22 +14,15 @@ use std::io::Write;
 
 /// A line for each piece, and what the views show.
 impl<'a> Lines for &'a Gathered {
-    ghost use Rattle.std.specs.Prelude.{◌++◌};
-    ghost use Rattle.mxf_lines.specs.Answering.{report_lines};
-    ghost use Rattle.mxf_lines.specs.Printing.{content_lines};
-
     ghost lines = { λ g. report_lines g.now.reports ++ content_lines g.now.views };
 
     fn print_to<W: Write>(self, printer: &mut Printer, writer: &mut W) -> Result<(), PrintFault> {
-        let pieces = Each(PieceLines(self.reports.as_slice()));
-        Then(pieces, &self.views).print_to(printer, writer)
+        Then(Each(self.reports.as_slice()), &self.views).print_to(printer, writer)
     }
 }
 
 /// What the views show, in this order.
 impl<'a> Lines for &'a Views {
-    ghost use Rattle.mxf_lines.specs.Printing.{content_lines};
-
     ghost lines = { λ v. content_lines v.now };
 
     fn print_to<W: Write>(self, printer: &mut Printer, writer: &mut W) -> Result<(), PrintFault> {
@@ -38,12 +35,13 @@ impl<'a> Lines for &'a Views {
         };
         let index = Then(Each(self.segments()), self.rip());
         let metadata = Then(SetLines(self), Then(references, index));
-        let copies = Then(PreferredLine(self.preferred()), metadata);
-        let chain = Then(
-            ChainLine(self.chain()),
-            Then(Each(CopyLines(self.copies())), copies),
-        );
-        let partitions = Then(Each(PartitionLines::of(self)), chain);
+        let preferred = PreferredLine(self.preferred());
+        let copies = Then(Each(self.copies()), Then(preferred, metadata));
+        let partitions = PartitionLines {
+            views: self,
+            left: self.partitions(),
+        };
+        let partitions = Then(Each(partitions), Then(self.chain(), copies));
         let notes = Each(NoteLines::of(catalogue));
         Then(notes, Then(Each(self.gaps()), partitions)).print_to(printer, writer)
     }

@@ -1,5 +1,5 @@
 //! Bytes as hexadecimal text.
-ghost use Rattle.std.specs.Prelude.{◌≡◌, IfOk, string_bytes};
+ghost use Rattle.std.specs.Prelude.{◌≡◌, IfOk, Some, string_bytes};
 ghost use Rattle.mxf_lines.specs.Hexadecimal.{hex_of};
 
 use mxf_klv::OutOfMemory;
@@ -13,64 +13,23 @@ pub fn hex_text(alloc: Global, bytes: &[u8]) -> Result<String, OutOfMemory>
     Ok(hex::encode(alloc, bytes)?)
 }
 
-/// The bytes of a label that print as two lower-case hexadecimal digits each.
-#[derive(Clone, Copy)]
-pub struct LabelDigits(pub [u8; 16]);
-
-impl fmt::Display for LabelDigits {
-    ghost use Rattle.std.specs.Prelude.{Some};
-    ghost use Rattle.mxf_lines.specs.Hexadecimal.{hex_of};
-
-    ghost output = { λ k. Some (hex_of k.0) };
-
-    fn fmt<W: fmt::Write>(&self, f: &mut fmt::Formatter<W>) -> fmt::Result {
-        let mut digits = [0u8; 32];
-        let Ok(()) = hex::encode_to_slice(&self.0, &mut digits) else {
-            return Err(fmt::Error);
-        };
-        let Ok(text) = str::from_utf8(&digits) else {
-            return Err(fmt::Error);
-        };
-        f.write_str(text)
-    }
-}
-
-/// A byte that prints as two lower-case hexadecimal digits.
-#[derive(Clone, Copy)]
-pub struct ByteDigits(pub u8);
-
-impl fmt::Display for ByteDigits {
-    ghost use Rattle.std.specs.Prelude.{Some, [], ◌∷◌};
-    ghost use Rattle.mxf_lines.specs.Hexadecimal.{hex_of};
-
-    ghost output = { λ b. Some (hex_of (b.0 ∷ [])) };
-
-    fn fmt<W: fmt::Write>(&self, f: &mut fmt::Formatter<W>) -> fmt::Result {
-        let mut digits = [0u8; 2];
-        let Ok(()) = hex::encode_to_slice(&[self.0], &mut digits) else {
-            return Err(fmt::Error);
-        };
-        let Ok(text) = str::from_utf8(&digits) else {
-            return Err(fmt::Error);
-        };
-        f.write_str(text)
-    }
-}
-
 /// Bytes that print as two lower-case hexadecimal digits each.
 #[derive(Clone, Copy)]
 pub struct HexDigits<'a>(pub &'a [u8]);
 
 impl<'a> fmt::Display for HexDigits<'a> {
-    ghost use Rattle.std.specs.Prelude.{Some};
-    ghost use Rattle.mxf_lines.specs.Hexadecimal.{hex_of};
-
     ghost output = { λ d. Some (hex_of d.0.now) };
 
     fn fmt<W: fmt::Write>(&self, f: &mut fmt::Formatter<W>) -> fmt::Result {
+        let mut digits = [0u8; 2];
         'bytes: for byte in self.0 {
-            let digits = ByteDigits(*byte);
-            write!(f, "{digits}")?;
+            let Ok(()) = hex::encode_to_slice(&[*byte], &mut digits) else {
+                return Err(fmt::Error);
+            };
+            let Ok(text) = str::from_utf8(&digits) else {
+                return Err(fmt::Error);
+            };
+            f.write_str(text)?;
         }
         Ok(())
     }

@@ -3,15 +3,13 @@ ghost use Rattle.std.specs.Prelude.{ℕ, List};
 ghost use Rattle.mxf_klv.specs.Written.{Puts};
 ghost use Rattle.mxf_lines.specs.Printing.{Gives, Prints};
 
-mod each;
+mod joined;
 mod printer;
-mod then;
 
 use super::PrintFault;
-pub use each::Each;
-pub use printer::Printer;
+pub use joined::{Each, Then};
+pub use printer::{Line, Printer};
 use std::io::Write;
-pub use then::Then;
 
 /// What is printed as lines.
 pub trait Lines {

@@ -1,18 +1,21 @@
 //! What the references of the preferred copy lead to.
+ghost use Rattle.std.specs.Prelude.{◌≡◌};
 ghost use Rattle.mxf_klv.specs.Written.{Puts};
-ghost use Rattle.mxf_lines.specs.NamedRecords.{IsRecordIn};
+ghost use Rattle.mxf_lines.specs.Lines.{lines_where};
 ghost use Rattle.mxf_lines.specs.Printing.{Prints};
-ghost use Rattle.mxf_lines.specs.ReferenceLines.{lines_of_reference};
+ghost use Rattle.mxf_lines.specs.ReferenceLines.{IsRecordIn, found_lines, identification_in, lines_of_record};
+ghost use Rattle.mxf_lines.specs.ReferenceLines.{lines_of_reference, named_lines, package_in, record_lines, reference_lines};
 
 use super::PrintFault;
-use super::line::{Named, ReferenceLine};
+use super::line::{Named, PackageLines, ReferenceLine};
 use super::lines::{Lines, Printer, Then};
-use super::named_record::NamedRecord;
 use mxf_catalogue::Catalogue;
-use mxf_views::{Ref, Resolved};
+use mxf_klv::{Kind, Note};
+use mxf_sets::{Identification, Package};
+use mxf_views::{Ref, Resolved, Target};
 use std::io::Write;
 
-/// The lines of the references of the preferred copy, none without one.
+/// The lines of the references of the preferred copy, to identifications and then to packages; none without one.
 #[derive(Clone, Copy)]
 pub struct ReferenceLines<'a> {
     pub catalogue: &'a Catalogue,
@@ -20,43 +23,13 @@ pub struct ReferenceLines<'a> {
 }
 
 impl<'a> Lines for ReferenceLines<'a> {
-    ghost use Rattle.mxf_lines.specs.ReferenceLines.{reference_lines};
-
     ghost lines = { λ l. reference_lines l.catalogue.now l.resolved.now };
 
     fn print_to<W: Write>(self, printer: &mut Printer, writer: &mut W) -> Result<(), PrintFault> {
-        let ReferenceLines {
-            catalogue,
-            resolved,
-        } = self;
-        match resolved {
-            Some(resolved) => ResolvedLines {
-                catalogue,
-                resolved,
-            }
-            .print_to(printer, writer),
-            None => Ok(()),
-        }
-    }
-}
-
-/// The lines of the references of a copy: of those to identifications, then of those to packages.
-#[derive(Clone, Copy)]
-struct ResolvedLines<'a> {
-    catalogue: &'a Catalogue,
-    resolved: &'a Resolved,
-}
-
-impl<'a> Lines for ResolvedLines<'a> {
-    ghost use Rattle.mxf_lines.specs.ReferenceLines.{resolved_lines};
-
-    ghost lines = { λ l. resolved_lines l.catalogue.now l.resolved.now };
-
-    fn print_to<W: Write>(self, printer: &mut Printer, writer: &mut W) -> Result<(), PrintFault> {
-        let ResolvedLines {
-            catalogue,
-            resolved,
-        } = self;
+        let catalogue = self.catalogue;
+        let Some(resolved) = self.resolved else {
+            return Ok(());
+        };
         let identifications = NamedLines {
             catalogue,
             named: Named::Identification,
@@ -80,19 +53,24 @@ struct NamedLines<'a> {
 }
 
 impl<'a> Lines for NamedLines<'a> {
-    ghost use Rattle.mxf_lines.specs.ReferenceLines.{named_lines};
-
     ghost lines = { λ l. named_lines l.catalogue.now l.named l.references.now };
 
     fn print_to<W: Write>(self, printer: &mut Printer, writer: &mut W) -> Result<(), PrintFault> {
-        let NamedLines {
-            catalogue,
-            named,
-            references,
-        } = self;
-        let mut last = NamedRecord::none();
-        'each: for reference in references {
-            print_reference(printer, writer, catalogue, named, &mut last, *reference)?;
+        let mut last = NamedRecord {
+            target: Target::Missing,
+            found: None,
+        };
+        let mut left = self.references;
+        'each: while let Some((reference, others)) = left.split_first() {
+            print_reference(
+                printer,
+                writer,
+                self.catalogue,
+                self.named,
+                &mut last,
+                *reference,
+            )?;
+            left = others;
         }
         Ok(())
     }
@@ -113,5 +91,86 @@ fn print_reference<'a, W: Write>(
         (lines_of_reference catalogue.now named reference) }
 {
     last.turn_to(catalogue, named, reference.target);
-    Then(ReferenceLine { named, reference }, last.found()).print_to(printer, writer)
+    Then(ReferenceLine { named, reference }, &last.found).print_to(printer, writer)
+}
+
+/// The record of a set that a reference names.
+#[derive(Drop)]
+enum Record<'a> {
+    Identification(Identification<'a>),
+    /// A package, and the kind of its set.
+    Package(Kind, Package<'a>),
+}
+
+/// The lines of a record that was found, none where there is none.
+impl<'r, 'a> Lines for &'r Option<Record<'a>> {
+    ghost lines = { λ r. lines_where lines_of_record r.now };
+
+    fn print_to<W: Write>(self, printer: &mut Printer, writer: &mut W) -> Result<(), PrintFault> {
+        match self {
+            Some(Record::Identification(record)) => record.print_to(printer, writer),
+            Some(Record::Package(kind, record)) => PackageLines(*kind, record).print_to(
+                printer, writer,
+            ),
+            None => Ok(()),
+        }
+    }
+}
+
+/// What the last reference led to, with its record: read once for references in a row that name one set, however long
+/// that is.
+#[derive(Drop)]
+struct NamedRecord<'a> {
+    target: Target,
+    found: Option<Record<'a>>,
+}
+
+impl<'a> NamedRecord<'a> {
+    /// Puts the record of another target in its place.
+    fn turn_to(&mut self, catalogue: &'a Catalogue, named: Named, target: Target)
+        requires { IsRecordIn catalogue.now named self.old }
+        ensures turned { self.new.target ≡ target }
+        ensures found { IsRecordIn catalogue.now named self.new }
+    {
+        if self.target != target {
+            let found = record_at(catalogue, named, target);
+            *self = NamedRecord { target, found };
+        }
+    }
+}
+
+/// The record that was found: that of the clear note at its offset.
+fn record_at<'a>(catalogue: &'a Catalogue, named: Named, target: Target) -> Option<Record<'a>>
+    ensures { lines_where lines_of_record result ≡ found_lines catalogue.now named target }
+{
+    let Target::Found(offset) = target else {
+        return None;
+    };
+    record_in(named, catalogue.clear_at(offset)?)
+}
+
+/// The record of a note, where it has such a one.
+fn record_in<'a>(named: Named, note: &'a Note) -> Option<Record<'a>>
+    ensures { lines_where lines_of_record result ≡ record_lines named note.now }
+{
+    match named {
+        Named::Identification => Some(Record::Identification(identification_in(note)?)),
+        Named::Package => Some(Record::Package(note.kind(), package_in(note)?)),
+    }
+}
+
+/// The Identification of a note, where its value is kept and readable.
+#[tactic(auto, unfolding(crate::specs::ReferenceLines::identification_in))]
+fn identification_in(note: &Note) -> Option<Identification<'_>>
+    ensures { result ≡ identification_in note.now }
+{
+    Identification::read(note.value()?).ok()
+}
+
+/// The package of a note, where its value is kept and readable.
+#[tactic(auto, unfolding(crate::specs::ReferenceLines::package_in))]
+fn package_in(note: &Note) -> Option<Package<'_>>
+    ensures { result ≡ package_in note.now }
+{
+    Package::read(note.value()?).ok()
 }

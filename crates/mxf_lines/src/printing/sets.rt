@@ -1,17 +1,19 @@
 //! The items of the clear sets.
-ghost use Rattle.std.specs.Prelude.{◌≡◌};
+ghost use Rattle.std.specs.Prelude.{◌≡◌, ℕ, List, IfOk, OnOk, length, flat_map, option_and_then};
+ghost use Rattle.mxf_klv.specs.Parts.{NoteParts};
 ghost use Rattle.mxf_klv.specs.Written.{Puts};
-ghost use Rattle.mxf_lines.specs.CopyLabels.{AreLabelsIn};
-ghost use Rattle.mxf_lines.specs.ItemLines.{set_lines};
+ghost use Rattle.mxf_catalogue.specs.Disputes.{clear_notes};
+ghost use Rattle.mxf_views.specs.Labels.{primer_of};
+ghost use Rattle.mxf_lines.specs.ItemLines.{AreLabelsIn, item_lines, label_among, label_by_copy, set_lines};
 ghost use Rattle.mxf_lines.specs.Printing.{Prints};
 
 use super::PrintFault;
-use super::labels::CopyLabels;
 use super::line::ItemLine;
 use super::lines::{Each, Lines, Printer, Series, Then};
-use mxf_klv::Note;
-use mxf_sets::Items;
-use mxf_views::{Views, set_items};
+use mxf_klv::{Note, OutOfMemory};
+use mxf_sets::{Items, PrimerLabels};
+use mxf_views::{CopyInfo, Views, set_items};
+use std::alloc::Global;
 use std::io::Write;
 
 /// The lines of the items of each clear set.
@@ -19,17 +21,15 @@ use std::io::Write;
 pub struct SetLines<'a>(pub &'a Views);
 
 impl<'a> Lines for SetLines<'a> {
-    ghost use Rattle.std.specs.List.{flat_map};
-    ghost use Rattle.mxf_catalogue.specs.Disputes.{clear_notes};
-    ghost use Rattle.mxf_lines.specs.ItemLines.{set_lines};
-
     ghost lines = { λ l. flat_map (set_lines l.0.now) (clear_notes l.0.now) };
 
     fn print_to<W: Write>(self, printer: &mut Printer, writer: &mut W) -> Result<(), PrintFault> {
-        let SetLines(views) = self;
-        let mut labels = CopyLabels::none();
-        'each: for note in views.catalogue().clear() {
-            print_set(printer, writer, views, &mut labels, note)?;
+        let mut labels = CopyLabels {
+            copy: None,
+            labels: None,
+        };
+        'each: for note in self.0.catalogue().clear() {
+            print_set(printer, writer, self.0, &mut labels, note)?;
         }
         Ok(())
     }
@@ -85,11 +85,6 @@ struct ItemLines<'a> {
 impl<'a> Series for ItemLines<'a> {
     type Item = ItemLine<'a>;
 
-    ghost use Rattle.std.specs.Prelude.{length};
-    ghost use Rattle.std.specs.Option.{option_and_then};
-    ghost use Rattle.mxf_views.specs.Labels.{primer_of};
-    ghost use Rattle.mxf_lines.specs.ItemLines.{item_lines};
-
     ghost lines_left = { λ s. item_lines s.offset (option_and_then (primer_of s.views.now) s.labels.now.copy) s.left };
 
     ghost left = { λ s. length s.left };
@@ -102,4 +97,64 @@ impl<'a> Series for ItemLines<'a> {
             item,
         })
     }
+}
+
+/// The labels of a copy, by its primer pack: made once for all of its sets, since sets that follow each other are mostly
+/// of one copy.
+#[derive(Drop)]
+struct CopyLabels {
+    copy: Option<CopyInfo>,
+    labels: Option<PrimerLabels>,
+}
+
+impl CopyLabels {
+    /// Puts those of a copy in place of another's.
+    fn turn_to(
+        &mut self,
+        alloc: Global,
+        views: &Views,
+        copy: &Option<CopyInfo>,
+    ) -> Result<(), OutOfMemory>
+        requires { AreLabelsIn views.now self.old }
+        ensures turned { OnOk result (self.new.copy ≡ copy.now) }
+        ensures labels { AreLabelsIn views.now self.new }
+    {
+        if self.copy == *copy {
+            return Ok(());
+        }
+        let labels = labels_of(alloc, views, copy)?;
+        *self = CopyLabels {
+            copy: *copy,
+            labels,
+        };
+        Ok(())
+    }
+
+    /// The label of a tag.
+    fn label(&self, tag: u16) -> Option<[u8; 16]>
+        ensures { result ≡ label_among self.now.labels tag }
+    {
+        match &self.labels {
+            Some(labels) => labels.label(tag),
+            None => None,
+        }
+    }
+}
+
+/// The labels of a copy, none where it has no primer pack.
+fn labels_of(
+    alloc: Global,
+    views: &Views,
+    copy: &Option<CopyInfo>,
+) -> Result<Option<PrimerLabels>, OutOfMemory>
+    ensures { IfOk result (λ labels. (tag : ℕ) → label_among labels tag ≡ label_by_copy views.now copy.now tag) }
+{
+    let Some(copy) = copy else {
+        return Ok(None);
+    };
+    let Some(primer) = views.primer_of(copy) else {
+        return Ok(None);
+    };
+    let labels = PrimerLabels::of(alloc, &primer)?;
+    Ok(Some(labels))
 }

@@ -1,34 +1,26 @@
 //! The lines of a check.
-ghost use Rattle.std.specs.Prelude.{◌≡◌};
-ghost use Rattle.mxf_lines.specs.Answering.{is_end};
+ghost use Rattle.std.specs.Prelude.{◌≡◌, [], ◌∷◌, length, flat_map};
+ghost use Rattle.mxf_lines.specs.Answering.{finding_lines, is_end, stop_lines};
+ghost use Rattle.mxf_lines.specs.FindingLines.{count_line, finding_line, stop_line};
+ghost use Rattle.mxf_lines.specs.Lines.{lines_where};
 
 use super::piece::StopText;
-use crate::printing::PrintFault;
-use crate::printing::lines::{Each, Lines, Printer, Series, Then};
+use super::{AllocError, Each, Line, Lines, PrintFault, Printer, Series, Then, Write};
 use mxf_klv::Stop;
 use mxf_read::PieceReport;
 use mxf_views::{Finding, Findings};
-use std::fmt;
-use std::io::Write;
 
-/// The line of a piece that doesn't end with a packet: its offset in bytes, and why it ends.
+/// Where a piece begins that doesn't end with a packet, in bytes, and why it ends.
 #[derive(Clone, Copy)]
-pub struct StopLine {
-    pub offset: u64,
-    pub stop: Stop,
-}
+pub struct StopLine(PieceReport);
 
-impl fmt::Display for StopLine {
-    ghost use Rattle.std.specs.Prelude.{Some};
-    ghost use Rattle.mxf_lines.specs.FindingLines.{stop_line};
-
-    ghost output = { λ l. Some (stop_line l.offset l.stop) };
+impl Line for StopLine {
+    ghost text = { λ l. stop_line l.0.offset l.0.report.stop };
 
     #[tactic(auto, unfolding(crate::specs::FindingLines::stop_line))]
-    fn fmt<W: fmt::Write>(&self, f: &mut fmt::Formatter<W>) -> fmt::Result {
-        let StopLine { offset, stop } = *self;
-        let stop = StopText(stop);
-        writeln!(f, "stop {offset} {stop}")
+    fn append_to(&self, line: &mut String) -> Result<(), AllocError> {
+        let PieceReport { offset, report } = self.0;
+        writeln!(line, "stop {offset} {}", StopText(report.stop))
     }
 }
 
@@ -42,134 +34,64 @@ pub fn is_end(stop: Stop) -> bool
     }
 }
 
-/// The line where the piece doesn't end with a packet, none for another.
-impl Lines for StopLine {
-    ghost use Rattle.std.specs.Prelude.{[], ◌∷◌, if◌then◌else◌};
-    ghost use Rattle.mxf_lines.specs.Answering.{is_end};
-    ghost use Rattle.mxf_lines.specs.FindingLines.{stop_line};
-
-    ghost lines = { λ l. if is_end l.stop then [] else stop_line l.offset l.stop ∷ [] };
-
-    fn print_to<W: Write>(self, printer: &mut Printer, writer: &mut W) -> Result<(), PrintFault> {
-        if is_end(self.stop) {
-            return Ok(());
-        }
-        printer.print(writer, self)
-    }
-}
-
 /// A line for each piece that doesn't end with a packet.
 #[derive(Clone, Copy)]
 pub struct StopLines<'a>(pub &'a [PieceReport]);
 
 impl<'a> Series for StopLines<'a> {
-    type Item = StopLine;
-
-    ghost use Rattle.std.specs.Prelude.{length};
-    ghost use Rattle.std.specs.List.{flat_map};
-    ghost use Rattle.mxf_lines.specs.Answering.{stop_lines};
+    type Item = Option<StopLine>;
 
     ghost lines_left = { λ s. flat_map stop_lines s.0.now };
 
     ghost left = { λ s. length s.0.now };
 
-    fn next_item(&mut self) -> Option<StopLine> {
+    fn next_item(&mut self) -> Option<Option<StopLine>> {
         let (piece, left) = self.0.split_first()?;
         self.0 = left;
-        Some(StopLine {
-            offset: piece.offset,
-            stop: piece.report.stop,
-        })
+        Some(stop_line(*piece))
     }
 }
 
-/// The line of a finding: its code, its offset in bytes, and what the code says.
-#[derive(Clone, Copy)]
-pub struct FindingLine(pub Finding);
+/// The line where the piece doesn't end with a packet, none for another.
+fn stop_line(piece: PieceReport) -> Option<StopLine>
+    ensures { lines_where (λ l. stop_line l.0.offset l.0.report.stop ∷ []) result ≡ stop_lines piece }
+{
+    if is_end(piece.report.stop) {
+        None
+    } else {
+        Some(StopLine(piece))
+    }
+}
 
-impl fmt::Display for FindingLine {
-    ghost use Rattle.std.specs.Prelude.{Some};
-    ghost use Rattle.mxf_lines.specs.FindingLines.{finding_line};
-
-    ghost output = { λ l. Some (finding_line l.0) };
+/// A finding: its code, its offset in bytes, and what the code says.
+impl Line for Finding {
+    ghost text = { finding_line };
 
     #[tactic(auto, unfolding(crate::specs::FindingLines::finding_line))]
-    fn fmt<W: fmt::Write>(&self, f: &mut fmt::Formatter<W>) -> fmt::Result {
-        let Finding { offset, code } = self.0;
-        let text = code.text();
-        writeln!(f, "{code} {offset} {text}")
+    fn append_to(&self, line: &mut String) -> Result<(), AllocError> {
+        let Finding { offset, code } = *self;
+        writeln!(line, "{code} {offset} {}", code.text())
     }
 }
 
-impl Lines for FindingLine {
-    ghost use Rattle.std.specs.Prelude.{[], ◌∷◌};
-    ghost use Rattle.mxf_lines.specs.FindingLines.{finding_line};
-
-    ghost lines = { λ l. finding_line l.0 ∷ [] };
-
-    fn print_to<W: Write>(self, printer: &mut Printer, writer: &mut W) -> Result<(), PrintFault> {
-        printer.print(writer, self)
-    }
-}
-
-/// A line for each finding.
+/// How many findings there are.
 #[derive(Clone, Copy)]
-pub struct FindingLines<'a>(pub &'a [Finding]);
+struct CountLine(usize);
 
-impl<'a> Series for FindingLines<'a> {
-    type Item = FindingLine;
-
-    ghost use Rattle.std.specs.Prelude.{[], ◌∷◌, length};
-    ghost use Rattle.std.specs.List.{flat_map};
-    ghost use Rattle.mxf_lines.specs.FindingLines.{finding_line};
-
-    ghost lines_left = { λ s. flat_map (λ f. finding_line f ∷ []) s.0.now };
-
-    ghost left = { λ s. length s.0.now };
-
-    fn next_item(&mut self) -> Option<FindingLine> {
-        let (first, left) = self.0.split_first()?;
-        self.0 = left;
-        Some(FindingLine(*first))
-    }
-}
-
-/// The last line of a check: how many findings there are.
-#[derive(Clone, Copy)]
-pub struct CountLine(pub usize);
-
-impl fmt::Display for CountLine {
-    ghost use Rattle.std.specs.Prelude.{Some};
-    ghost use Rattle.mxf_lines.specs.FindingLines.{count_line};
-
-    ghost output = { λ l. Some (count_line l.0) };
+impl Line for CountLine {
+    ghost text = { λ l. count_line l.0 };
 
     #[tactic(auto, unfolding(crate::specs::FindingLines::count_line))]
-    fn fmt<W: fmt::Write>(&self, f: &mut fmt::Formatter<W>) -> fmt::Result {
-        let count = self.0;
-        writeln!(f, "findings {count}")
-    }
-}
-
-impl Lines for CountLine {
-    ghost use Rattle.std.specs.Prelude.{[], ◌∷◌};
-    ghost use Rattle.mxf_lines.specs.FindingLines.{count_line};
-
-    ghost lines = { λ l. count_line l.0 ∷ [] };
-
-    fn print_to<W: Write>(self, printer: &mut Printer, writer: &mut W) -> Result<(), PrintFault> {
-        printer.print(writer, self)
+    fn append_to(&self, line: &mut String) -> Result<(), AllocError> {
+        writeln!(line, "findings {}", self.0)
     }
 }
 
 /// A line for each finding, and then how many there are.
 impl<'a> Lines for &'a Findings {
-    ghost use Rattle.mxf_lines.specs.Answering.{finding_lines};
-
     ghost lines = { λ f. finding_lines f.now };
 
     fn print_to<W: Write>(self, printer: &mut Printer, writer: &mut W) -> Result<(), PrintFault> {
-        let findings = Each(FindingLines(self.as_slice()));
-        Then(findings, CountLine(self.len())).print_to(printer, writer)
+        Then(Each(self.as_slice()), CountLine(self.len())).print_to(printer, writer)
     }
 }

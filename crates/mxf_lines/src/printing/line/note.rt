@@ -1,86 +1,54 @@
 //! The line of a note.
-ghost use Rattle.std.specs.Prelude.{◌≡◌};
-ghost use Rattle.mxf_catalogue.specs.Disputes.{is_disputed};
+ghost use Rattle.std.specs.Prelude.{◌≡◌, [], ◌∷◌, length, flat_map};
 ghost use Rattle.mxf_klv.specs.Rising.{In};
+ghost use Rattle.mxf_catalogue.specs.Disputes.{is_disputed};
+ghost use Rattle.mxf_lines.specs.Lines.{dispute_mark, head_mark, note_line};
 
-use crate::printing::PrintFault;
-use crate::printing::hexadecimal::LabelDigits;
-use crate::printing::lines::{Lines, Printer, Series};
+use super::{AllocError, HexDigits, Line, Series};
 use mxf_catalogue::{Catalogue, Notes};
 use mxf_klv::Note;
-use std::fmt;
-use std::io::Write;
 use std::marker::Model;
 
-/// Whether a note is disputed, as it stands after the key.
-#[derive(Clone, Copy)]
-struct DisputeMark(bool);
-
-impl fmt::Display for DisputeMark {
-    ghost use Rattle.std.specs.Prelude.{Some};
-    ghost use Rattle.mxf_lines.specs.Lines.{dispute_mark};
-
-    ghost output = { λ m. Some (dispute_mark m.0) };
-
-    fn fmt<W: fmt::Write>(&self, f: &mut fmt::Formatter<W>) -> fmt::Result {
-        f.write_str(if self.0 { " disputed" } else { "" })
-    }
-}
-
-/// Whether a note is a head, as it stands after the key.
-#[derive(Clone, Copy)]
-struct HeadMark(bool);
-
-impl fmt::Display for HeadMark {
-    ghost use Rattle.std.specs.Prelude.{Some};
-    ghost use Rattle.mxf_lines.specs.Lines.{head_mark};
-
-    ghost output = { λ m. Some (head_mark m.0) };
-
-    fn fmt<W: fmt::Write>(&self, f: &mut fmt::Formatter<W>) -> fmt::Result {
-        f.write_str(if self.0 { " head" } else { "" })
-    }
-}
-
-/// The line of a note: its offset in bytes, its kind, the width and value of its length, its key, whether it is a head,
-/// and whether it is disputed.
+/// A note: its offset in bytes, its kind, the width and value of its length, its key, whether it is a head, and whether it
+/// is disputed.
 #[derive(Clone, Copy)]
 pub struct NoteLine<'a> {
-    pub note: &'a Note,
-    pub disputed: bool,
+    note: &'a Note,
+    disputed: bool,
 }
 
-impl<'a> fmt::Display for NoteLine<'a> {
-    ghost use Rattle.std.specs.Prelude.{Some};
-    ghost use Rattle.mxf_lines.specs.Lines.{note_line};
-
-    ghost output = { λ l. Some (note_line l.note.now l.disputed) };
+impl<'a> Line for NoteLine<'a> {
+    ghost text = { λ l. note_line l.note.now l.disputed };
 
     #[tactic(auto, unfolding(crate::specs::Lines::note_line))]
-    fn fmt<W: fmt::Write>(&self, f: &mut fmt::Formatter<W>) -> fmt::Result {
+    fn append_to(&self, line: &mut String) -> Result<(), AllocError> {
         let offset = self.note.offset();
         let kind = self.note.kind();
         let width = self.note.width();
         let length = self.note.length();
-        let key = LabelDigits(self.note.key().bytes());
-        let head = HeadMark(self.note.is_head());
-        let disputed = DisputeMark(self.disputed);
+        let label = self.note.key().bytes();
+        let key = HexDigits(&label);
+        let head = head_mark(self.note.is_head());
+        let disputed = dispute_mark(self.disputed);
         writeln!(
-            f,
+            line,
             "note {offset} {kind} {width} {length} {key}{head}{disputed}"
         )
     }
 }
 
-impl<'a> Lines for NoteLine<'a> {
-    ghost use Rattle.std.specs.Prelude.{[], ◌∷◌};
-    ghost use Rattle.mxf_lines.specs.Lines.{note_line};
+/// What stands behind the key of a head.
+fn head_mark(head: bool) -> &'static str
+    ensures { result.now ≡ head_mark head }
+{
+    if head { " head" } else { "" }
+}
 
-    ghost lines = { λ l. note_line l.note.now l.disputed ∷ [] };
-
-    fn print_to<W: Write>(self, printer: &mut Printer, writer: &mut W) -> Result<(), PrintFault> {
-        printer.print(writer, self)
-    }
+/// What stands behind the key of a disputed note.
+fn dispute_mark(disputed: bool) -> &'static str
+    ensures { result.now ≡ dispute_mark disputed }
+{
+    if disputed { " disputed" } else { "" }
 }
 
 /// The lines of the notes that are left.
@@ -117,11 +85,6 @@ impl<'a> NoteLines<'a> {
 
 impl<'a> Series for NoteLines<'a> {
     type Item = NoteLine<'a>;
-
-    ghost use Rattle.std.specs.Prelude.{[], ◌∷◌, length};
-    ghost use Rattle.std.specs.List.{flat_map};
-    ghost use Rattle.mxf_catalogue.specs.Disputes.{is_disputed};
-    ghost use Rattle.mxf_lines.specs.Lines.{note_line};
 
     ghost lines_left = { λ s. flat_map (λ n. note_line n (is_disputed n s.0) ∷ []) s.1 };
 

@@ -1,9 +1,9 @@
 //! The line of a reference.
-use crate::printing::PrintFault;
-use crate::printing::lines::{Lines, Printer};
+ghost use Rattle.std.specs.Prelude.{◌≡◌, Some};
+ghost use Rattle.mxf_lines.specs.ReferenceLines.{named_word, reference_line, target_text};
+
+use super::{AllocError, Line, fmt};
 use mxf_views::{Ref, Target};
-use std::fmt;
-use std::io::Write;
 
 /// What a reference names.
 #[derive(Clone, Copy, Debug)]
@@ -12,21 +12,13 @@ pub enum Named {
     Package,
 }
 
-/// What a reference names, as its word.
-#[derive(Clone, Copy)]
-struct NamedWord(Named);
-
-impl fmt::Display for NamedWord {
-    ghost use Rattle.std.specs.Prelude.{Some};
-    ghost use Rattle.mxf_lines.specs.ReferenceLines.{named_word};
-
-    ghost output = { λ n. Some (named_word n.0) };
-
-    fn fmt<W: fmt::Write>(&self, f: &mut fmt::Formatter<W>) -> fmt::Result {
-        f.write_str(match self.0 {
-            Named::Identification => "identification",
-            Named::Package => "package",
-        })
+/// The word for what a reference names.
+fn named_word(named: Named) -> &'static str
+    ensures { result.now ≡ named_word named }
+{
+    match named {
+        Named::Identification => "identification",
+        Named::Package => "package",
     }
 }
 
@@ -35,9 +27,6 @@ impl fmt::Display for NamedWord {
 struct TargetText(Target);
 
 impl fmt::Display for TargetText {
-    ghost use Rattle.std.specs.Prelude.{Some};
-    ghost use Rattle.mxf_lines.specs.ReferenceLines.{target_text};
-
     ghost output = { λ t. Some (target_text t.0) };
 
     fn fmt<W: fmt::Write>(&self, f: &mut fmt::Formatter<W>) -> fmt::Result {
@@ -58,28 +47,14 @@ pub struct ReferenceLine {
     pub reference: Ref,
 }
 
-impl fmt::Display for ReferenceLine {
-    ghost use Rattle.std.specs.Prelude.{Some};
-    ghost use Rattle.mxf_lines.specs.ReferenceLines.{reference_line};
-
-    ghost output = { λ l. Some (reference_line l.named l.reference) };
+impl Line for ReferenceLine {
+    ghost text = { λ l. reference_line l.named l.reference };
 
     #[tactic(auto, unfolding(crate::specs::ReferenceLines::reference_line))]
-    fn fmt<W: fmt::Write>(&self, f: &mut fmt::Formatter<W>) -> fmt::Result {
-        let word = NamedWord(self.named);
+    fn append_to(&self, line: &mut String) -> Result<(), AllocError> {
+        let word = named_word(self.named);
         let Ref { uid, target } = self.reference;
         let target = TargetText(target);
-        writeln!(f, "{word} {uid} {target}")
-    }
-}
-
-impl Lines for ReferenceLine {
-    ghost use Rattle.std.specs.Prelude.{[], ◌∷◌};
-    ghost use Rattle.mxf_lines.specs.ReferenceLines.{reference_line};
-
-    ghost lines = { λ l. reference_line l.named l.reference ∷ [] };
-
-    fn print_to<W: Write>(self, printer: &mut Printer, writer: &mut W) -> Result<(), PrintFault> {
-        printer.print(writer, self)
+        writeln!(line, "{word} {uid} {target}")
     }
 }

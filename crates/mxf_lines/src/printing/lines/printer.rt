@@ -1,12 +1,12 @@
 //! Lines that are written one after another.
-ghost use Rattle.std.specs.Prelude.{◌≡◌, ◌^◌, ◌<◌, ◌∷◌, [], IfSome};
+ghost use Rattle.std.specs.Prelude.{◌≡◌, ◌^◌, ◌<◌, ◌++◌, ℕ, List, [], ◌∷◌, IfOk, string_bytes};
 ghost use Rattle.mxf_klv.specs.Written.{Puts};
 ghost use Rattle.mxf_lines.specs.Printing.{Prints};
 
+use super::Lines;
 use crate::printing::PrintFault;
 use mxf_klv::Progress;
-use std::alloc::Global;
-use std::fmt::Display;
+use std::alloc::{AllocError, Global};
 use std::io::Write;
 
 /// Lines that are written one after another, each made in the same text.
@@ -37,17 +37,31 @@ impl Printer {
     }
 
     /// Prints a line.
-    pub fn print<W: Write, L: Display + Drop>(
-        &mut self,
-        writer: &mut W,
-        line: L,
-    ) -> Result<(), PrintFault>
-        ensures { IfSome (L.output line) (λ text.
-            Prints (Puts W.contents writer.old writer.new self.old.progress self.new.progress) result (text ∷ [])) }
+    pub fn print<W: Write, L: Line>(&mut self, writer: &mut W, line: &L) -> Result<(), PrintFault>
+        ensures { Prints (Puts W.contents writer.old writer.new self.old.progress self.new.progress) result
+            (L.text line.now ∷ []) }
     {
         self.line.clear();
-        write!(self.line, "{line}")?;
+        line.append_to(&mut self.line)?;
         self.progress.put(writer, self.line.as_bytes())?;
         Ok(())
+    }
+}
+
+/// What is printed as one line.
+pub trait Line {
+    // Its text, with the newline.
+    ghost text: { Self → List ℕ };
+
+    /// Appends the text.
+    fn append_to(&self, line: &mut String) -> Result<(), AllocError>
+        ensures { IfOk result (λ _. string_bytes line.new ≡ string_bytes line.old ++ text self.now) };
+}
+
+impl<L: Line + Drop> Lines for L {
+    ghost lines = { λ l. L.text l ∷ [] };
+
+    fn print_to<W: Write>(self, printer: &mut Printer, writer: &mut W) -> Result<(), PrintFault> {
+        printer.print(writer, &self)
     }
 }

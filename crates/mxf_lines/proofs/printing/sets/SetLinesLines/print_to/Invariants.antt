@@ -1,8 +1,7 @@
 -- What is answered of the lines to come is answered of all lines, and the labels are those of their copy.
-use Rattle.std.specs.List.{flat_map}
+use Rattle.std.proofs.Common.{flat_map}
 use Rattle.mxf_catalogue.specs.Disputes.{clear_notes}
-use Rattle.mxf_lines.specs.CopyLabels.{AreLabelsIn}
-use Rattle.mxf_lines.specs.ItemLines.{set_lines}
+use Rattle.mxf_lines.specs.ItemLines.{AreLabelsIn, set_lines}
 use Rattle.mxf_lines.proofs.PrintLaws.{Leads}
 use Rattle.mxf_lines.proofs.printing.sets.SetLinesLines.print_to.Given as goal
 

@@ -1,6 +1,6 @@
 -- What is answered of the lines to come is answered of all lines.
 use Rattle.mxf_lines.proofs.PrintLaws.{Leads}
-use Rattle.mxf_lines.proofs.printing.lines.each.EachLines.print_to.Given as goal
+use Rattle.mxf_lines.proofs.printing.lines.joined.EachLines.print_to.Given as goal
 
 abbrev pub invariant-loop-item : goal.invariant-loop-item
 invariant-loop-item g l =

@@ -2,7 +2,7 @@ use Rattle.std.proofs.Common.{◌∙◌, ap}
 use Rattle.std.specs.Result.{result_ok}
 use Rattle.mxf_sets.specs.Identification.{identification_at}
 use Rattle.mxf_lines.specs.ReferenceLines.{identification_in}
-use Rattle.mxf_lines.proofs.printing.named_record.identification_in.Goals as goal
+use Rattle.mxf_lines.proofs.printing.references.identification_in.Goals as goal
 
 pub returns : goal.returns
 unfolding identification_in

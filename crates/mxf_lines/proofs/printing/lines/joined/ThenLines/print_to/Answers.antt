@@ -1,6 +1,6 @@
 use Rattle.std.proofs.lemmas.Result.{err_from_is_err_and}
 use Rattle.mxf_lines.proofs.PrintLaws.{Prints-after, Prints-fault}
-use Rattle.mxf_lines.proofs.printing.lines.then.ThenLines.print_to.Goals as goal
+use Rattle.mxf_lines.proofs.printing.lines.joined.ThenLines.print_to.Goals as goal
 
 pub returns-in_err-print_to : goal.returns-in_err-print_to
 returns-in_err-print_to g c =

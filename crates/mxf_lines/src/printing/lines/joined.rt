@@ -1,0 +1,64 @@
+//! Lines that are made of others.
+ghost use Rattle.std.specs.Prelude.{◌++◌, length, flat_map};
+ghost use Rattle.mxf_lines.specs.Lines.{lines_where};
+
+use super::{Lines, Printer, Series};
+use crate::printing::PrintFault;
+use std::io::Write;
+
+/// The lines of the first, and then those of the second.
+#[derive(Drop)]
+pub struct Then<A, B>(pub A, pub B);
+
+impl<A: Lines + Drop, B: Lines + Drop> Lines for Then<A, B> {
+    ghost lines = { λ t. A.lines t.0 ++ B.lines t.1 };
+
+    fn print_to<W: Write>(self, printer: &mut Printer, writer: &mut W) -> Result<(), PrintFault> {
+        let Then(first, second) = self;
+        first.print_to(printer, writer)?;
+        second.print_to(printer, writer)
+    }
+}
+
+/// The lines of what is there, none where nothing is.
+impl<A: Lines + Drop> Lines for Option<A> {
+    ghost lines = { λ o. lines_where A.lines o };
+
+    fn print_to<W: Write>(self, printer: &mut Printer, writer: &mut W) -> Result<(), PrintFault> {
+        match self {
+            Some(lines) => lines.print_to(printer, writer),
+            None => Ok(()),
+        }
+    }
+}
+
+/// The lines of each item that is left.
+#[derive(Drop)]
+pub struct Each<S>(pub S);
+
+impl<S: Series + Drop> Lines for Each<S> {
+    ghost lines = { λ e. S.lines_left e.0 };
+
+    fn print_to<W: Write>(self, printer: &mut Printer, writer: &mut W) -> Result<(), PrintFault> {
+        let Each(mut series) = self;
+        while let Some(item) = series.next_item() {
+            item.print_to(printer, writer)?;
+        }
+        Ok(())
+    }
+}
+
+/// The items of a slice.
+impl<'a, T: Lines + Copy> Series for &'a [T] {
+    type Item = T;
+
+    ghost lines_left = { λ s. flat_map T.lines s.now };
+
+    ghost left = { λ s. length s.now };
+
+    fn next_item(&mut self) -> Option<T> {
+        let (first, left) = self.split_first()?;
+        *self = left;
+        Some(*first)
+    }
+}
