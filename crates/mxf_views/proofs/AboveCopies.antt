@@ -28,7 +28,7 @@ use Rattle.mxf_views.proofs.AboveLaws.{no_bytes}
 use Rattle.mxf_catalogue.specs.Content.{union_of}
 use Rattle.mxf_catalogue.specs.Disputes.{IsClear, SharesByte, clear_notes}
 use Rattle.mxf_catalogue.proofs.DisputeLaws.{In-clear_notes}
-use Rattle.mxf_catalogue.proofs.SpanLaws.{AreApart-clear_notes}
+use Rattle.mxf_catalogue.proofs.SpanLaws.{AreApart-clear_notes, ends_before, less_by_offset}
 use Rattle.mxf_views.specs.declared.copy.CopyInfo.{CopyInfo}
 use Rattle.mxf_views.specs.Copies.{CopiesRise, IsStart, copies_of, copy_from, copy_of, covered_of, has_metadata}
 use Rattle.mxf_views.specs.Copies.{is_preface_note, prefaces_of, start_of, zone_of}
@@ -106,22 +106,6 @@ no_fill n p e fill =
     let u : None ≡ Some p = sym none ∙ sym is ∙ e in
     cc (u)
 
-ordered : (notes : List NoteParts) (x y : NoteParts) → IsClear x notes → IsClear y notes → x.offset < y.offset
-    → end_of x ≤ y.offset
-ordered notes x y c d l =
-    elim (nat_lt y.offset (end_of x)) as (λ b. nat_lt y.offset (end_of x) ≡ b → end_of x ≤ y.offset) [
-      | true ↦ λ t. (
-          let h : y.offset < end_of x = ltb-true y.offset (end_of x) t in
-          let from : x.offset ≤ y.offset = omega (arith, l) in
-          let before : y.offset + 1 ≤ end_of x = omega (arith, h) in
-          let own : y.offset ≤ y.offset = omega arith in
-          let end : y.offset + 1 ≤ end_of y = omega arith in
-          let shares : SharesByte x y =
-          (y.offset, record { from = from; before = before }, record { from = own; before = end }) in
-          let same = ap (λ (n : NoteParts). n.offset) (clear_same notes x y c d shares) in absurd (omega (arith, same, l)))
-      | false ↦ λ t. ltb-false y.offset (end_of x) t
-    ] refl
-
 abbrev the_copy : PartitionParts → ℕ → ℕ → ℕ → CopyInfo
 the_copy p s covered prefaces = record {
   partition = p.offset;
@@ -194,7 +178,8 @@ module _ (b : ℕ) (own other : List NoteParts) (m : MeetAt b own other) where
       ap (λ (c : CopyInfo). c.partition) q.copy ∙ copy_there (clear_notes own) q.partition ∙ y.offset in
       let here : p.offset ≡ x.note.offset = x.offset in
       let end : p.end ≡ end_of x.note = end-partition_at x.note p x.read in
-      let apart = ordered own x.note y.note cx cy (omega (arith, at, here, l)) in
+      let apart =
+      ends_before own x.note y.note cx cy (less_by_offset x.note y.note (omega (arith, at, here, l))) in
       let ends : end_of y.note ≤ b = m.ends y.note cy.held in
       let g = a.filled y.note.offset (omega (arith, end, apart)) (omega (arith, ends, high)) in
       let from : y.note.offset ≤ y.note.offset = omega arith in

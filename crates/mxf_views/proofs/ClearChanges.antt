@@ -258,6 +258,34 @@ offsets_rise test notes r =
     rising_apart 0 (filter test (clear_notes notes))
     (AreApart-filter test 0 (clear_notes notes) (AreApart-clear_notes notes r))
 
+-- The offsets after it are that of the new note, where that is clear and of the kind, and those outside.
+In-offsets_after : (test : NoteParts → Bool) (x : NoteParts) (notes : List NoteParts) (start end : ℕ)
+    → IsNew x notes → IsHull x notes start end → (o : ℕ) → In o (offsets_where test (reduced_with x notes))
+    ↔ ((IsClear x (reduced_with x notes) × (test x ≡ true) × (o ≡ x.offset))
+    ⊎ In o (filter (is_outside start end) (offsets_where test notes)))
+In-offsets_after test x notes start end new h o =
+    let kept = In-filter (is_outside start end) (offsets_where test notes) o in
+    let old = In-offsets test notes o in
+    let all = In-offsets test (reduced_with x notes) o in (
+      λ k.
+          let s = all.0 k in
+          elim ((clear_after x notes new s.0).0 s.1) [
+            | inl p ↦ inl (p.1, ap test (sym p.0) ∙ s.2, s.3 ∙ ap (λ (y : NoteParts). y.offset) p.0)
+            | inr q ↦ inr (kept.1 (
+              old.1 (s.0, q.0, s.2, s.3),
+              ap (is_outside start end) s.3 ∙ (outside_iff x s.0 notes start end h q.0).0 q.1,
+            ))
+          ],
+      λ k. elim k [
+        | inl e ↦ all.1 (x, e.0, e.1, e.2)
+        | inr i ↦ (
+            let b = kept.0 i in
+            let s = old.0 b.0 in
+            let out : is_outside start end s.0.offset ≡ true = ap (is_outside start end) (sym s.3) ∙ b.1 in
+            all.1 (s.0, (clear_after x notes new s.0).1 (inr (s.1, (outside_iff x s.0 notes start end h s.1).1 out)), s.2, s.3))
+      ],
+    )
+
 -- Where the new note is clear and of the kind, its offset joins those outside.
 pub offsets_with : (test : NoteParts → Bool) (x : NoteParts) (notes : List NoteParts) (start end : ℕ)
     → IsContent notes → IsNew x notes → IsHull x notes start end → IsClear x (reduced_with x notes)
@@ -272,26 +300,9 @@ offsets_with test x notes start end r new h clear kind =
     (IsRising-with_one nat_cmp_total nat_cmp-IsAntisymmetric x.offset before rising)
     (offsets_rise test (reduced_with x notes) (IsContent-reduced_with x notes r)) (λ o.
     let one = In-with_one nat_cmp_total nat_cmp-IsAntisymmetric o x.offset before in
-    let kept = In-filter (is_outside start end) (offsets_where test notes) o in
-    let old = In-offsets test notes o in
-    let all = In-offsets test (reduced_with x notes) o in (
-      λ k. elim (one.0 k) [
-        | inl e ↦ all.1 (x, clear, kind, e)
-        | inr i ↦ (
-            let b = kept.0 i in
-            let s = old.0 b.0 in
-            let out : is_outside start end s.0.offset ≡ true = ap (is_outside start end) (sym s.3) ∙ b.1 in
-            all.1 (s.0, (clear_after x notes new s.0).1 (inr (s.1, (outside_iff x s.0 notes start end h s.1).1 out)), s.2, s.3))
-      ],
-      λ k.
-          let s = all.0 k in
-          elim ((clear_after x notes new s.0).0 s.1) [
-            | inl p ↦ one.1 (inl (s.3 ∙ ap (λ (y : NoteParts). y.offset) p.0))
-            | inr q ↦ one.1 (inr (kept.1 (
-              old.1 (s.0, q.0, s.2, s.3),
-              ap (is_outside start end) s.3 ∙ (outside_iff x s.0 notes start end h q.0).0 q.1,
-            )))
-          ],
+    let after = In-offsets_after test x notes start end new h o in (
+      λ k. after.1 (elim (one.0 k) [ inl e ↦ inl (clear, kind, e) | inr i ↦ inr i ]),
+      λ k. one.1 (elim (after.0 k) [ inl e ↦ inl e.2 | inr i ↦ inr i ]),
     ))
 
 -- Else those outside are all.
@@ -300,28 +311,12 @@ pub offsets_without : (test : NoteParts → Bool) (x : NoteParts) (notes : List 
     → (IsClear x (reduced_with x notes) → test x ≡ true → ⊥)
     → filter (is_outside start end) (offsets_where test notes) ≡ offsets_where test (reduced_with x notes)
 offsets_without test x notes start end r new h none =
-    let before = filter (is_outside start end) (offsets_where test notes) in
-    same_from_members nat_cmp_total nat_cmp-IsAntisymmetric before (offsets_where test (reduced_with x notes))
+    same_from_members nat_cmp_total nat_cmp-IsAntisymmetric (filter (is_outside start end) (offsets_where test notes))
+    (offsets_where test (reduced_with x notes))
     (rising-filter nat_cmp (is_outside start end) (offsets_where test notes) (offsets_rise test notes r))
     (offsets_rise test (reduced_with x notes) (IsContent-reduced_with x notes r)) (λ o.
-    let kept = In-filter (is_outside start end) (offsets_where test notes) o in
-    let old = In-offsets test notes o in
-    let all = In-offsets test (reduced_with x notes) o in (
-      λ i.
-          let b = kept.0 i in
-          let s = old.0 b.0 in
-          let out : is_outside start end s.0.offset ≡ true = ap (is_outside start end) (sym s.3) ∙ b.1 in
-          all.1 (s.0, (clear_after x notes new s.0).1 (inr (s.1, (outside_iff x s.0 notes start end h s.1).1 out)), s.2, s.3),
-      λ k.
-          let s = all.0 k in
-          elim ((clear_after x notes new s.0).0 s.1) [
-            | inl p ↦ absurd (none p.1 (ap test (sym p.0) ∙ s.2))
-            | inr q ↦ kept.1 (
-              old.1 (s.0, q.0, s.2, s.3),
-              ap (is_outside start end) s.3 ∙ (outside_iff x s.0 notes start end h q.0).0 q.1,
-            )
-          ],
-    ))
+    let after = In-offsets_after test x notes start end new h o in
+    (λ i. after.1 (inr i), λ k. elim (after.0 k) [ inl e ↦ absurd (none e.0 e.1) | inr i ↦ i ]))
 
 -- So they are what follows an arrival.
 pub offsets_follow : (test : NoteParts → Bool) (x : NoteParts) (notes : List NoteParts) (start end : ℕ)

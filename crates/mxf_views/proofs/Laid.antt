@@ -148,10 +148,6 @@ last_past at (x ∷ xs) ys notes f =
     let e : at + size_of x + total_of xs ≡ at + (size_of x + total_of xs) = omega arith in
     subst (λ x. LastFrom x ys notes) e (last_past (at + size_of x) xs ys notes (last_next at x (xs ++ ys) notes f))
 
-In-right : (n : NoteParts) (xs ys : List NoteParts) → In n ys → In n (xs ++ ys)
-In-right n [] ys h = h
-In-right n (x ∷ xs) ys h = inr (In-right n xs ys h)
-
 -- What ends at or below the start of a zone isn't in it.
 zone_none_before : (start bytes : ℕ) (ns : List NoteParts) → AllByRecursion (λ n. end_of n ≤ start) ns
     → filter (lies_in start bytes) ns ≡ []

@@ -15,7 +15,7 @@ use Rattle.mxf_views.specs.WellFormed.{NameTheOneBefore}
 use Rattle.mxf_views.proofs.PartitionLaws.{link_iff}
 use Rattle.mxf_views.proofs.RisingPartitions.{IsRisingFrom, at_or_above}
 use Rattle.mxf_klv.proofs.Counts.{count-none, count_by-cons, tally}
-use Rattle.mxf_klv.proofs.Lists.{list_any-In, In-list_all, all-In, all_from_In}
+use Rattle.mxf_klv.proofs.Lists.{list_any-In, In-list_all, all-In, all_from_In, all_push}
 
 offset-same : (p q : PartitionParts) → p ≡ q → p.offset ≡ q.offset
 offset-same p q e = ap (λ (x : PartitionParts). x.offset) e
@@ -78,11 +78,6 @@ last_greatest low (b ∷ bs) f x r (inl e) =
     omega (arith, o, g)
 last_greatest low (b ∷ bs) f x r (inr h) = last_greatest (b.offset + 1) bs f x r.1 h
 
-all-push : (Q : PartitionParts → Type 0) (bs : List PartitionParts) (f : PartitionParts) → AllByRecursion Q bs → Q f
-    → AllByRecursion Q (bs ++ f ∷ [])
-all-push Q [] f a q = (q, tt)
-all-push Q (b ∷ bs) f a q = (a.0, all-push Q bs f a.1 q)
-
 footer_greatest : (parts : List PartitionParts) (f : EndsInFooter parts) → IsRisingFrom 0 parts
     → is_greatest parts f.footer ≡ true
 footer_greatest parts f r =
@@ -103,7 +98,7 @@ footers_greatest parts f r =
     rw e refl) in
     let last : Q f.footer = or_right _ _ (footer_greatest parts f r) in
     let all : AllByRecursion Q parts
-    = subst (AllByRecursion Q) (sym f.order) (all-push Q f.before f.footer before last) in
+    = subst (AllByRecursion Q) (sym f.order) (all_push Q f.before f.footer before last) in
     In-list_all (λ p. not (is_footer p.pack.part) || is_greatest parts p) parts (λ x h. all-In Q parts x all h)
 
 -- The last of these is the footer.

@@ -23,6 +23,7 @@ use Rattle.mxf_views.proofs.PrimerLaws.{one_at, start_of_copy}
 use Rattle.mxf_views.proofs.StartLaws.{clear_same}
 use Rattle.mxf_klv.proofs.Lists.{all_from_In, all-In}
 use Rattle.mxf_klv.proofs.Tests.{none_some}
+use Rattle.mxf_catalogue.proofs.SpanLaws.{ends_before, less_by_offset}
 
 -- A note whose kind isn't that of a partition pack is no partition.
 pub no_pack : (n : NoteParts) → part_and_status (kind_of n.key) ≡ None → pack_of n ≡ None
@@ -59,14 +60,7 @@ starts_in_order notes c d s t r h k l e f =
     let low : m.note.offset < n.note.offset = omega (arith, l, at_m, at_n) in
     let end_m : ic.0.end ≡ end_of m.note = end-partition_at m.note ic.0 m.read in
     let end_n : id.0.end ≡ end_of n.note = end-partition_at n.note id.0 n.read in
-    let behind : end_of m.note ≤ n.note.offset = elim (cases_lt n.note.offset (end_of m.note)) [
-      | inl u ↦ (
-          let inside : IsInSpan m.note n.note.offset = record { from = omega (arith, low); before = omega (arith, u) } in
-          let same = clear_same notes m.note n.note cm cn (n.note.offset, inside, first_byte n.note) in
-          let equal : m.note.offset ≡ n.note.offset = ap (λ (x : NoteParts). x.offset) same in
-          absurd (omega (arith, equal, low)))
-      | inr u ↦ u
-    ] in
+    let behind = ends_before notes m.note n.note cm cn (less_by_offset m.note n.note low) in
     let after : id.0.end ≤ t = b.after in
     elim (cases_order s n.note.offset) [
       | inl u ↦ (
