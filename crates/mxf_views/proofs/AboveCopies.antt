@@ -26,7 +26,7 @@ use Rattle.mxf_views.proofs.CopyUpdates.{start_is_found}
 use Rattle.mxf_views.proofs.PartitionSearch.{has_copy}
 use Rattle.mxf_views.proofs.AboveLaws.{no_bytes}
 use Rattle.mxf_catalogue.specs.Content.{union_of}
-use Rattle.mxf_catalogue.specs.Disputes.{IsClear, SharesByte, clear_notes}
+use Rattle.mxf_catalogue.specs.Disputes.{SharesByte, clear_notes}
 use Rattle.mxf_catalogue.proofs.DisputeLaws.{In-clear_notes}
 use Rattle.mxf_catalogue.proofs.SpanLaws.{AreApart-clear_notes, ends_before, less_by_offset}
 use Rattle.mxf_views.specs.declared.copy.CopyInfo.{CopyInfo}

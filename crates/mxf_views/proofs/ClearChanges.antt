@@ -1,8 +1,7 @@
 -- What adding a note changes among the clear notes, and among the offsets where clear notes of a kind stand.
 use Rattle.std.proofs.Common.{◌≡◌, ◌≢◌, ℕ, ◌+◌, ◌<◌, ◌≤◌, ◌⊎◌, Bool, true, false, List, [], ◌∷◌, Some, None, refl}
 use Rattle.std.proofs.Common.{sym, ap, subst, ◌∙◌, inl, inr, arith, leb-true, le-leb, eqb-true, eq-eqb}
-use Rattle.std.specs.declared.cmp.Ordering.TheVariants.{Less}
-use Rattle.std.specs.Prelude.{◌↔◌, ◌||◌, cond, ◌==◌, nat_le, nat_lt, filter, find, map, max, min}
+use Rattle.std.specs.Prelude.{◌↔◌, ◌||◌, ◌==◌, nat_le, nat_lt, filter, find, map, max, min}
 use Rattle.std.specs.FinSet.{nat_cmp-IsAntisymmetric}
 use Rattle.std.specs.Ordering.{nat_cmp}
 use Rattle.std.proofs.lemmas.Bool.{ltb-true, lt-ltb, ltb-false, and_from}
@@ -20,7 +19,7 @@ use Rattle.mxf_catalogue.proofs.PartLaws.{In-touching, with_whole}
 use Rattle.mxf_catalogue.proofs.SpanLaws.{AreApart-clear_notes, AreApart-filter}
 use Rattle.mxf_views.specs.Kept.{IsHull, followed, is_outside, notes_at, offsets_where, passes, stands_clear}
 use Rattle.mxf_views.proofs.StartLaws.{clear_same}
-use Rattle.mxf_klv.proofs.Lists.{In-filter, In-map, all-filter, found-In, none_found}
+use Rattle.mxf_klv.proofs.Lists.{In-filter, In-map, found-In, none_found}
 use Rattle.mxf_catalogue.specs.ReducedLaws.{rising-filter}
 
 -- ---- which notes are clear

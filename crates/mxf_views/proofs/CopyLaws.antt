@@ -1,8 +1,8 @@
 -- Copies of the header metadata and their sets.
-use Rattle.std.proofs.Common.{◌≡◌, ℕ, suc, ◌+◌, ◌<◌, ◌≤◌, true, false, cond, List, [], ◌∷◌, Option, Some, None}
+use Rattle.std.proofs.Common.{◌≡◌, ℕ, suc, ◌+◌, ◌<◌, ◌≤◌, true, List, [], ◌∷◌, Option, Some, None}
 use Rattle.std.proofs.Common.{length, inl, inr, refl, sym, ap, subst, ◌∙◌, arith, eqb-true, eq-eqb, leb-true, le-leb}
-use Rattle.std.specs.Prelude.{◌↔◌, ◌==◌, nat_le, IsTrue, count_by, filter, find, map}
-use Rattle.std.specs.List.{range_with_len, AllByRecursion}
+use Rattle.std.specs.Prelude.{◌↔◌, ◌==◌, nat_le, count_by, filter, find}
+use Rattle.std.specs.List.{range_with_len}
 use Rattle.std.proofs.lemmas.Bool.{ltb-true, lt-ltb, and_from, and_parts}
 use Rattle.std.proofs.lemmas.List.Sums.{length-filter}
 use Rattle.mxf_klv.specs.Parts.{NoteParts}
@@ -15,7 +15,7 @@ use Rattle.mxf_catalogue.specs.Disputes.{AreApart, IsClear, clear_notes}
 use Rattle.mxf_catalogue.proofs.DisputeLaws.{In-clear_notes}
 use Rattle.mxf_catalogue.proofs.SpanLaws.{AreApart-clear_notes, AreApart-filter}
 use Rattle.mxf_views.specs.declared.copy.CopyInfo.{CopyInfo}
-use Rattle.mxf_views.specs.Partitions.{AreInOrder, PartitionParts, partitions_of}
+use Rattle.mxf_views.specs.Partitions.{PartitionParts, partitions_of}
 use Rattle.mxf_views.specs.Copies.{AreSoMany, CountsZone, IsCopy, IsCopyOf, IsPrefaceIn, IsSetKind, IsSetOf}
 use Rattle.mxf_views.specs.Copies.{IsStartFound, copies_of, copy_from, prefaces_of}
 use Rattle.mxf_views.specs.Copies.{copy_of, covered_of, has_metadata, is_preface_note, is_set_note}

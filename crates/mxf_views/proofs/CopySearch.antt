@@ -1,5 +1,5 @@
 -- Copies that rise, searched for that of a partition.
-use Rattle.std.proofs.Common.{◌≡◌, ℕ, ◌<◌, ◌≤◌, List, [], ◌∷◌, Some, None, sym, ap, ◌∙◌, inl, inr, arith, eqb-true, eq-eqb, get_or, length, Err}
+use Rattle.std.proofs.Common.{◌≡◌, ℕ, ◌<◌, ◌≤◌, List, Some, None, sym, ap, ◌∙◌, inl, inr, arith, eqb-true, eq-eqb, get_or, length, Err}
 use Rattle.std.specs.Prelude.{◌==◌, find}
 use Rattle.std.specs.List.{HoldsAt}
 use Rattle.std.specs.List.Sorted.{IsBinarySearchResult, IsNonDecreasingBy}

@@ -1,9 +1,8 @@
 -- The copies of the header metadata once a note was added: those elsewhere are counted anew where they may have changed.
-use Rattle.std.proofs.Common.{◌≡◌, ◌≢◌, ℕ, zero, suc, get_or, length, ◌+◌, ◌-◌, ◌<◌, ◌≤◌, ◌⊎◌, Bool, true, false, cond, List, [], ◌∷◌, Option, Some, None, refl}
+use Rattle.std.proofs.Common.{◌≡◌, ◌≢◌, ℕ, zero, suc, length, ◌+◌, ◌-◌, ◌<◌, ◌≤◌, ◌⊎◌, Bool, true, false, cond, List, [], ◌∷◌, Option, Some, None, refl}
 use Rattle.std.proofs.Common.{sym, ap, subst, ◌∙◌, inl, inr, arith, eqb-true, eq-eqb}
-use Rattle.std.specs.Prelude.{◌↔◌, ◌&&◌, ◌||◌, ◌==◌, nat_lt, find, filter, map, if◌then◌else◌}
-use Rattle.std.specs.List.{AllByRecursion, AllWithin, cons_option, filter_map, insert}
-use Rattle.std.specs.List.Sorted.{IsNonDecreasingBy}
+use Rattle.std.specs.Prelude.{◌↔◌, ◌||◌, ◌==◌, nat_lt, find, filter, map, if◌then◌else◌}
+use Rattle.std.specs.List.{AllWithin, cons_option, filter_map, insert}
 use Rattle.std.specs.Option.{option_and_then, option_map}
 use Rattle.std.proofs.lemmas.Bool.{ltb-true, lt-ltb, ltb-false, and_cases, false_from_ne_true, and_parts}
 use Rattle.mxf_klv.specs.Parts.{NoteParts}
@@ -24,9 +23,8 @@ use Rattle.mxf_views.proofs.CopyChanges.{copy_stays, no_copy_stays, same_clear}
 use Rattle.mxf_views.proofs.CopyLaws.{copies_rise, copy_there}
 use Rattle.mxf_views.proofs.PartitionLaws.{offset-partition_at}
 use Rattle.mxf_views.proofs.PartitionSearch.{copy_found, has_copy, is_there, of_note, of_partition, one_partition}
-use Rattle.mxf_klv.proofs.Lists.{In-filter, In-map, all-filter, find-only, found-In, none_found, In-at, all-In}
+use Rattle.mxf_klv.proofs.Lists.{In-filter, In-map, find-only, found-In, none_found, all-In}
 use Rattle.mxf_klv.proofs.Lists.{all_from_In}
-use Rattle.mxf_klv.proofs.Tests.{by_places}
 use Rattle.mxf_klv.proofs.RisingBy.{rises-map, rises-filter, same_by_members}
 use Rattle.mxf_views.proofs.Rising.{by_partition}
 

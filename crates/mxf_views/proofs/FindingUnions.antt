@@ -1,6 +1,6 @@
 -- Findings that are collected cause by cause, and then put in order.
-use Rattle.std.proofs.Common.{◌≡◌, ℕ, List, [], ◌∷◌, ◌++◌, ◌∙◌, refl, sym, subst, ap, map, inl, inr, Result, Ok, Err}
-use Rattle.std.specs.Prelude.{flat_map, OnOk, true}
+use Rattle.std.proofs.Common.{◌≡◌, ℕ, List, [], ◌∷◌, ◌++◌, ◌∙◌, refl, sym, subst, ap, map, inl, inr}
+use Rattle.std.specs.Prelude.{flat_map, true}
 use Rattle.std.specs.List.{dedup}
 use Rattle.std.specs.List.Retain.{DiffersFromLast, IsFiltered}
 use Rattle.std.proofs.lemmas.List.Filters.{dedup_is}

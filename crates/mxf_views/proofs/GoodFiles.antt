@@ -5,7 +5,6 @@ use Rattle.std.specs.Option.{option_map}
 use Rattle.std.specs.List.{AllByRecursion, list_any}
 use Rattle.std.proofs.Common.{Bool, true, false, sym, ◌∙◌, subst, arith}
 use Rattle.mxf_klv.specs.declared.kinds.Status.TheVariants.{OpenIncomplete, ClosedComplete}
-use Rattle.mxf_klv.specs.Packet.{IsPacket}
 use Rattle.mxf_klv.specs.Parts.{PacketParts}
 use Rattle.mxf_sets.specs.Items.{item_at, items_of, left_of}
 use Rattle.mxf_sets.specs.RandomIndexPack.{entries_of}
@@ -17,7 +16,7 @@ use Rattle.mxf_views.specs.Reading.{place_by_segment, segments_read, partitions_
 use Rattle.mxf_views.specs.Records.{read_pack, read_rip, read_segment}
 use Rattle.mxf_views.specs.WellFormed.{Agree, EndsWithFooter, IsWellFormed}
 use Rattle.mxf_views.specs.WorkedFiles.{agreeing_file, bare_file, constant, fill, filled_file, m_file, numbers}
-use Rattle.mxf_views.specs.WorkedFiles.{open_file, pack, pack_of, preface, primer, segment, twice_filled_file, two_entries}
+use Rattle.mxf_views.specs.WorkedFiles.{open_file, pack, segment, twice_filled_file, two_entries}
 use Rattle.mxf_views.specs.declared.index.place.Place.{Place}
 use Rattle.mxf_views.specs.declared.index.place.Place.TheVariants.{At}
 use Rattle.mxf_views.proofs.SmallFiles.{footer_behind, is_pack_kind}

@@ -1,8 +1,7 @@
 -- What the kept notes of a kind say of all clear notes.
-use Rattle.std.proofs.Common.{◌≡◌, ℕ, suc, arith, Bool, length, map, true, false, cond, List, [], ◌∷◌, refl, ap}
-use Rattle.std.specs.Prelude.{◌&&◌, ◌||◌, ◌==◌, filter, not}
-use Rattle.std.specs.List.{list_all, list_any}
-use Rattle.std.proofs.lemmas.Bool.{eqb-true, false_from_ne_true}
+use Rattle.std.proofs.Common.{◌≡◌, List}
+use Rattle.std.specs.Prelude.{◌==◌, filter, not}
+use Rattle.std.specs.List.{list_any}
 use Rattle.mxf_klv.specs.Parts.{NoteParts}
 use Rattle.mxf_catalogue.specs.Disputes.{clear_notes}
 use Rattle.mxf_views.specs.Findings.{has_other_rip, is_unfit_rip}

@@ -1,14 +1,13 @@
 -- How much room is wanted for what is kept of two contents.
 use Rattle.std.proofs.Common.{Ok, Err, ◌≡◌, ◌≤◌, ◌+◌, ◌⊎◌, ℕ, Bool, true, false, cond, List, [], ◌∷◌, refl, sym, ap, subst, ◌∙◌, inl, inr, arith, length}
-use Rattle.std.specs.Prelude.{count_by, filter, not}
+use Rattle.std.specs.Prelude.{count_by, filter}
 use Rattle.std.proofs.lemmas.List.{length-map}
 use Rattle.mxf_klv.specs.NoteOrder.{note_total}
 use Rattle.mxf_klv.specs.Parts.{NoteParts}
 use Rattle.mxf_klv.specs.Rising.{In, less_in}
 use Rattle.mxf_catalogue.specs.Content.{AreReduced, IsContent, has_note, reduced_union, union_of}
-use Rattle.mxf_catalogue.specs.Reduced.{is_told}
-use Rattle.mxf_klv.specs.Note.{head_note, note_cmp}
-use Rattle.mxf_catalogue.proofs.HeadLaws.{IsContent-reduced_union, has-reduced_union, reduced_union-is, same_note}
+use Rattle.mxf_klv.specs.Note.{head_note}
+use Rattle.mxf_catalogue.proofs.HeadLaws.{IsContent-reduced_union, has-reduced_union, same_note}
 use Rattle.mxf_catalogue.proofs.PartLaws.{with_whole}
 use Rattle.mxf_catalogue.specs.Disputes.{IsClear, SharesByte, clear_notes}
 use Rattle.mxf_catalogue.proofs.ContentLaws.{In-union_of, IsContent-union_of}

@@ -16,7 +16,7 @@ use Rattle.mxf_klv.specs.Piece.{notes_from}
 use Rattle.mxf_klv.specs.Rising.{In}
 use Rattle.mxf_sets.specs.PackReadings.{pack_at, primer_at, rip_at}
 use Rattle.mxf_sets.specs.Readable.{read_as}
-use Rattle.mxf_catalogue.specs.Disputes.{SharesByte, IsDisputed, IsClear, is_disputed, clear_notes}
+use Rattle.mxf_catalogue.specs.Disputes.{SharesByte, IsDisputed, is_disputed, clear_notes}
 use Rattle.mxf_catalogue.proofs.DisputeLaws.{is_disputed-IsDisputed}
 use Rattle.mxf_views.specs.Copies.{is_primer, is_readable_primer}
 use Rattle.mxf_views.specs.Partitions.{pack_of, partition_at, partitions_of}

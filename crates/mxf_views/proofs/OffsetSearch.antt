@@ -1,10 +1,9 @@
 -- Offsets that rise, searched.
-use Rattle.std.proofs.Common.{◌≡◌, ℕ, zero, suc, ◌+◌, ◌<◌, ◌≤◌, Bool, true, false, cond, List, [], ◌∷◌, refl, sym, ap, ◌∙◌, inl, inr, arith, get_or, length}
-use Rattle.std.specs.Prelude.{◌==◌, nat_lt, is_some, Some, None}
+use Rattle.std.proofs.Common.{◌≡◌, ℕ, zero, suc, ◌+◌, ◌<◌, ◌≤◌, Bool, true, false, List, [], ◌∷◌, refl, sym, ap, ◌∙◌, inl, inr, arith, get_or, length}
+use Rattle.std.specs.Prelude.{nat_lt, is_some, Some, None}
 use Rattle.std.specs.List.{AllWithin, list_any}
 use Rattle.std.specs.List.Sorted.{IsNonDecreasingBy}
 use Rattle.std.specs.Ordering.{nat_cmp}
-use Rattle.std.specs.declared.cmp.Ordering.TheVariants.{Less, Equal, Greater}
 use Rattle.std.proofs.lemmas.Bool.{ltb-true, lt-ltb, and_from, false_from_ne_true, and_parts}
 use Rattle.std.proofs.lemmas.Cmp.{nat_cmp_total}
 use Rattle.mxf_klv.specs.Parts.{NoteParts}
@@ -16,8 +15,8 @@ use Rattle.mxf_views.specs.Partitions.{PartitionParts, partition_at, partitions_
 use Rattle.mxf_views.proofs.ClearChanges.{In-offsets}
 use Rattle.mxf_views.proofs.PartitionLaws.{offset-partition_at}
 use Rattle.mxf_views.proofs.PartitionSearch.{is_there, of_note}
-use Rattle.mxf_klv.proofs.Lists.{list_any-In, In-at}
-use Rattle.mxf_klv.proofs.Tests.{lt_from_less, same_bool, by_places}
+use Rattle.mxf_klv.proofs.Lists.{list_any-In}
+use Rattle.mxf_klv.proofs.Tests.{lt_from_less, same_bool}
 use Rattle.mxf_klv.proofs.RisingBy.{by_itself, never_falls, last_above as any_above}
 
 above_first : (x y : ℕ) (xs : List ℕ) → IsRising nat_cmp (x ∷ xs) → In y xs → x < y

@@ -1,5 +1,5 @@
 -- The partitions, and how each names the one before it.
-use Rattle.std.proofs.Common.{◌≡◌, ℕ, ◌<◌, ◌≤◌, Bool, true, false, List, [], ◌∷◌, Some}
+use Rattle.std.proofs.Common.{◌≡◌, ℕ, ◌<◌, ◌≤◌, Bool, true, false, List, Some}
 use Rattle.std.proofs.Common.{None, refl, sym, ap, subst, ◌∙◌, inl, inr, arith, eqb-true, eq-eqb, leb-true}
 use Rattle.std.specs.Prelude.{◌↔◌, ◌&&◌, ◌==◌, nat_le, nat_lt, find, not, if◌then◌else◌}
 use Rattle.std.specs.Option.{option_map}
@@ -11,16 +11,16 @@ use Rattle.mxf_klv.specs.Rising.{In}
 use Rattle.mxf_sets.specs.PackReadings.{pack_at}
 use Rattle.mxf_sets.specs.PartitionPack.{PartitionPackParts}
 use Rattle.mxf_catalogue.specs.Content.{IsContent}
-use Rattle.mxf_catalogue.specs.Disputes.{AreApart, clear_notes}
+use Rattle.mxf_catalogue.specs.Disputes.{clear_notes}
 use Rattle.mxf_catalogue.proofs.DisputeLaws.{In-clear_notes}
 use Rattle.mxf_catalogue.proofs.SpanLaws.{AreApart-clear_notes}
 use Rattle.mxf_views.specs.declared.chain.Link.{Link}
 use Rattle.mxf_views.specs.declared.chain.Link.TheVariants.{First, Held, Skips, Missing, Wrong}
 use Rattle.mxf_views.specs.Partitions.{PartitionParts, IsReadablePack, IsPartition, AreInOrder, StandsAt}
-use Rattle.mxf_views.specs.Partitions.{IsGreatestBelow, IsLink, IsLinkAt, pack_of, partition_at, partitions_among}
+use Rattle.mxf_views.specs.Partitions.{IsGreatestBelow, IsLink, IsLinkAt, pack_of, partition_at}
 use Rattle.mxf_views.specs.Partitions.{partitions_of, link_of, link_at, previous_of, stands_at, stands_between}
 use Rattle.mxf_views.proofs.ReadingLaws.{reads}
-use Rattle.mxf_klv.proofs.Lists.{list_any-In, found-In, find-only, In-filter_map, all-In, all_from_In}
+use Rattle.mxf_klv.proofs.Lists.{list_any-In, found-In, find-only, In-filter_map}
 use Rattle.mxf_catalogue.proofs.ApartLaws.{apart_rises}
 use Rattle.mxf_klv.proofs.RisingBy.{one_by_key, rises-filter_map}
 use Rattle.mxf_views.proofs.Rising.{by_offset}

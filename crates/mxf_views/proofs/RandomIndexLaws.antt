@@ -12,7 +12,7 @@ use Rattle.mxf_catalogue.specs.Disputes.{AreApart, clear_notes}
 use Rattle.mxf_catalogue.proofs.DisputeLaws.{In-clear_notes}
 use Rattle.mxf_catalogue.proofs.SpanLaws.{AreApart-clear_notes, AreApart-filter}
 use Rattle.mxf_views.specs.Partitions.{AreInOrder, PartitionParts, partitions_of}
-use Rattle.mxf_views.specs.RandomIndex.{AreSeveralRips, IsClearRip, IsOnlyRip, IsStanding, RipAtParts}
+use Rattle.mxf_views.specs.RandomIndex.{IsClearRip, IsOnlyRip, IsStanding, RipAtParts}
 use Rattle.mxf_views.specs.RandomIndex.{is_rip, is_rip_note, rip_in, rips_of, standing_by, standing_of}
 use Rattle.mxf_views.specs.RandomIndexView.{IsRipView, rip_view_among, rip_view_by, rip_view_of}
 use Rattle.mxf_views.specs.declared.random_index.Standing.{Standing}

@@ -1,9 +1,8 @@
 -- A content of exactly what was handed is what the run holds.
-use Rattle.std.specs.Prelude.{◌≡◌, ◌↔◌, ℕ, ◌+◌, ◌<◌, List, [], ◌∷◌, filter, refl}
+use Rattle.std.specs.Prelude.{◌≡◌, ◌↔◌, ℕ, ◌+◌, ◌<◌, List, [], ◌∷◌, filter}
 use Rattle.std.specs.List.{AllByRecursion}
 use Rattle.std.specs.declared.cmp.Ordering.TheVariants.{Less}
 use Rattle.std.proofs.Common.{sym, subst, arith, ap}
-use Rattle.std.proofs.lemmas.Bool.{lt-ltb}
 use Rattle.mxf_klv.specs.Note.{note_cmp, note_of}
 use Rattle.mxf_klv.specs.Packet.{size_of}
 use Rattle.mxf_klv.specs.Parts.{PacketParts, NoteParts}

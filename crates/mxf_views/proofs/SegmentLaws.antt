@@ -1,23 +1,22 @@
 -- Which segments there are.
-use Rattle.std.proofs.Common.{◌≡◌, ℕ, ◌<◌, ◌≤◌, true, false, cond, List, [], ◌∷◌, Some, None, Ok, Err}
-use Rattle.std.proofs.Common.{refl, sym, ap, subst, inl, inr, arith}
+use Rattle.std.proofs.Common.{◌≡◌, ℕ, true, false, cond, List, Some, None}
+use Rattle.std.proofs.Common.{refl, sym, ap, subst}
 use Rattle.std.specs.Prelude.{◌↔◌}
 use Rattle.std.specs.Option.{option_map}
-use Rattle.std.specs.Result.{result_ok}
 use Rattle.mxf_klv.specs.Parts.{NoteParts}
-use Rattle.mxf_klv.specs.Note.{end_of, keeps_value}
+use Rattle.mxf_klv.specs.Note.{keeps_value}
 use Rattle.mxf_klv.specs.Kind.{kind_of}
 use Rattle.mxf_klv.specs.Rising.{In}
 use Rattle.mxf_sets.specs.Segment.{SegmentParts, segment_at}
 use Rattle.mxf_sets.specs.Readable.{read_as}
 use Rattle.mxf_catalogue.specs.Content.{IsContent}
-use Rattle.mxf_catalogue.specs.Disputes.{AreApart, IsClear, clear_notes}
+use Rattle.mxf_catalogue.specs.Disputes.{IsClear, clear_notes}
 use Rattle.mxf_catalogue.proofs.DisputeLaws.{In-clear_notes}
 use Rattle.mxf_catalogue.proofs.SpanLaws.{AreApart-clear_notes}
 use Rattle.mxf_views.specs.Places.{IsSegmentAt, SegmentAtParts, SegmentsRise, is_segment, placed_segment, segment_in}
-use Rattle.mxf_views.specs.Places.{segments_among, segments_of}
+use Rattle.mxf_views.specs.Places.{segments_of}
 use Rattle.mxf_views.proofs.KindLaws.{segment_kind}
-use Rattle.mxf_klv.proofs.Lists.{In-filter_map, all_from_In}
+use Rattle.mxf_klv.proofs.Lists.{In-filter_map}
 use Rattle.mxf_catalogue.proofs.ApartLaws.{apart_rises}
 use Rattle.mxf_klv.proofs.RisingBy.{rises-filter_map}
 use Rattle.mxf_views.proofs.Rising.{by_segment}

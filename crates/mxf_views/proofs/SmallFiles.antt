@@ -16,7 +16,6 @@ use Rattle.mxf_klv.specs.Parts.{PacketParts}
 use Rattle.mxf_sets.specs.Items.{item_at, items_of, left_of}
 use Rattle.mxf_sets.specs.PartitionPack.{pack_kind}
 use Rattle.mxf_sets.specs.RandomIndexPack.{entries_of}
-use Rattle.mxf_sets.specs.declared.pack.numbers.PartitionNumbers.{PartitionNumbers}
 use Rattle.mxf_sets.specs.declared.pack.part.PackPart.{PackPart}
 use Rattle.mxf_sets.specs.declared.pack.part.PackPart.TheVariants.{Header, Body, Footer}
 use Rattle.mxf_views.specs.Copies.{rank}
@@ -27,8 +26,8 @@ use Rattle.mxf_views.specs.Records.{read_pack, read_rip, read_segment}
 use Rattle.mxf_views.specs.WellFormed.{Agree, EndsWithFooter, HasMetadata, IsFooterPack, IsHeaderPack}
 use Rattle.mxf_views.specs.WellFormed.{IsPartitionPack, IsRandomIndexPack, IsWellFormed, EndsWithRandomIndex, IsFill}
 use Rattle.mxf_views.specs.WellFormed.{entry_of}
-use Rattle.mxf_views.specs.WorkedFiles.{constant, essence, h_file, n_file, numbers, pack, pack_of}
-use Rattle.mxf_views.specs.WorkedFiles.{preface, primer, r_file, three_entries, w_file}
+use Rattle.mxf_views.specs.WorkedFiles.{h_file, n_file, numbers, pack}
+use Rattle.mxf_views.specs.WorkedFiles.{preface, primer, r_file, w_file}
 use Rattle.mxf_views.specs.Partitions.{PartitionParts}
 use Rattle.std.proofs.lemmas.Slice.Eq.{bytes_eq-Decides}
 use Rattle.std.specs.Str.{bytes_eq}

@@ -1,5 +1,5 @@
 -- How many notes there are at most that something is kept of.
-use Rattle.std.proofs.Common.{◌≡◌, ℕ, ◌+◌, ◌≤◌, Bool, true, false, List, [], ◌∷◌, Option, None, Some, ap, arith, refl}
+use Rattle.std.proofs.Common.{◌≡◌, ℕ, ◌+◌, ◌≤◌, Bool, true, false, List, [], ◌∷◌, Option, None, ap, arith, refl}
 use Rattle.std.specs.Prelude.{◌||◌, cond, count_by, is_some, not}
 use Rattle.std.specs.Option.{option_map}
 use Rattle.mxf_klv.specs.Kind.{kind_of}
