@@ -1,23 +1,19 @@
 -- Findings that are collected cause by cause, and then put in order.
-use Rattle.std.proofs.Common.{◌≡◌, ℕ, List, [], ◌∷◌, ◌++◌, ◌∙◌, refl, sym, subst, ap, map, inl, inr}
-use Rattle.std.specs.Prelude.{flat_map, true}
+use Rattle.mxf_views.proofs.Common.{◌≡◌, ℕ, List, [], ◌∷◌, ◌++◌, ◌∙◌, refl, sym, subst, ap, map, inl, inr, true}
+use Rattle.mxf_views.proofs.Common.{Ordering, Less, Equal, Greater, append_assoc, append-nil, NoteParts, IsRising}
+use Rattle.mxf_views.proofs.Common.{In-union, IsRising-union, same_from_members, union, Code, Finding, finding}
+use Rattle.mxf_views.proofs.Common.{finding_cmp, findings_for, findings_of, Contains-from_In}
+use Rattle.std.specs.Prelude.{flat_map}
 use Rattle.std.specs.List.{dedup}
 use Rattle.std.specs.List.Retain.{DiffersFromLast, IsFiltered}
 use Rattle.std.proofs.lemmas.List.Filters.{dedup_is}
 use Rattle.std.specs.List.Sorted.{IsPermutation, IsSorted, IsStrictlySortedBy}
 use Rattle.std.specs.Ordering.{eq_by_cmp, is_eq}
-use Rattle.std.specs.declared.cmp.Ordering.{Ordering}
-use Rattle.std.specs.declared.cmp.Ordering.TheVariants.{Less, Equal, Greater}
-use Rattle.std.proofs.lemmas.List.{append_assoc, append-nil, map-append}
+use Rattle.std.proofs.lemmas.List.{map-append}
 use Rattle.std.proofs.lemmas.List.Kept.{Contains-dedup, Contains-from_dedup, IsStrictlySortedBy-dedup}
 use Rattle.std.proofs.lemmas.List.Sorted.{Contains-permutation, IsPermutation-sym}
-use Rattle.mxf_klv.specs.Parts.{NoteParts}
-use Rattle.mxf_klv.specs.Rising.{IsRising, In-union, IsRising-union, same_from_members, union}
-use Rattle.mxf_views.specs.declared.finding.Code.{Code}
-use Rattle.mxf_views.specs.declared.finding.Finding.{Finding}
-use Rattle.mxf_views.specs.Codes.{all_codes, finding, finding_cmp, finding_cmp-IsAntisymmetric, finding_equiv, finding_total}
-use Rattle.mxf_views.specs.Findings.{findings_for, findings_of}
-use Rattle.mxf_klv.proofs.Lists.{Contains-from_In, In-from_Contains}
+use Rattle.mxf_views.specs.Codes.{all_codes, finding_cmp-IsAntisymmetric, finding_equiv, finding_total}
+use Rattle.mxf_klv.proofs.Lists.{In-from_Contains}
 
 -- ---- Cause by cause
 

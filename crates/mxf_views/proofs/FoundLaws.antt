@@ -1,35 +1,23 @@
 -- Sets found by their instance identifiers, and what references lead to.
-use Rattle.std.proofs.Common.{◌≡◌, ℕ, Bool, true, false, List, [], ◌∷◌, Result, Ok, Err, refl}
-use Rattle.std.proofs.Common.{ap, subst, ◌∙◌, inl, inr}
-use Rattle.std.specs.Prelude.{◌↔◌, ◌&&◌, IsTrue, not, if◌then◌else◌, filter}
-use Rattle.std.proofs.lemmas.Slice.Eq.{bytes_eq-Decides}
-use Rattle.mxf_klv.specs.declared.kinds.Kind.{Kind}
-use Rattle.mxf_klv.specs.declared.kinds.Kind.TheVariants as kinds
-use Rattle.mxf_klv.specs.Parts.{NoteParts}
-use Rattle.mxf_klv.specs.Note.{keeps_value}
-use Rattle.mxf_klv.specs.Kind.{kind_of}
-use Rattle.mxf_klv.specs.Rising.{In}
+use Rattle.mxf_views.proofs.Common.{◌≡◌, ℕ, Bool, true, false, List, [], ◌∷◌, Result, Ok, Err, refl, ap, subst, ◌∙◌}
+use Rattle.mxf_views.proofs.Common.{inl, inr, ◌↔◌, ◌&&◌, not, if◌then◌else◌, filter, bytes_eq-Decides, Kind, NoteParts}
+use Rattle.mxf_views.proofs.Common.{keeps_value, kind_of, In, storage_at, AreApart, AreApart-filter, Wanted, Storage}
+use Rattle.mxf_views.proofs.Common.{Identification, Package, found_among, has_uid, sets_of, fits, target_among}
+use Rattle.mxf_views.proofs.Common.{target_at, target_of, In-filter, and_from, false_from_ne_true, and_parts}
+use Rattle.std.specs.Prelude.{IsTrue}
 use Rattle.mxf_sets.specs.declared.record.FieldFault.{FieldFault}
 use Rattle.mxf_sets.specs.Instance.{instance_uid_at}
-use Rattle.mxf_sets.specs.Storage.{storage_at}
 use Rattle.mxf_sets.specs.Identification.{identification_at}
 use Rattle.mxf_sets.specs.Package.{package_at}
-use Rattle.mxf_catalogue.specs.Disputes.{AreApart}
-use Rattle.mxf_catalogue.proofs.SpanLaws.{AreApart-filter}
 use Rattle.mxf_views.specs.declared.reference.Found.{Found}
 use Rattle.mxf_views.specs.declared.reference.Found.TheVariants.{Absent, One, Several}
-use Rattle.mxf_views.specs.declared.reference.target.Wanted.{Wanted}
-use Rattle.mxf_views.specs.declared.reference.target.Wanted.TheVariants.{Storage, Identification, Package}
 use Rattle.mxf_views.specs.declared.reference.target.Target.{Target}
-use Rattle.mxf_views.specs.declared.reference.target.Target.TheVariants as targets
-use Rattle.mxf_views.specs.References.{HasUid, IsFound, IsOnlyWith, IsSeveral, found_among, has_uid, reads_uid}
-use Rattle.mxf_views.specs.Copies.{sets_of}
-use Rattle.mxf_views.specs.Targets.{IsReadableAs, IsTarget, IsWanted, fits, is_readable, target_among, target_at}
-use Rattle.mxf_views.specs.Targets.{target_of}
+use Rattle.mxf_views.specs.References.{HasUid, IsFound, IsOnlyWith, IsSeveral, reads_uid}
+use Rattle.mxf_views.specs.Targets.{IsReadableAs, IsTarget, IsWanted, is_readable}
 use Rattle.mxf_views.proofs.ReadingLaws.{ok_readable}
-use Rattle.mxf_klv.proofs.Lists.{In-filter}
-use Rattle.std.proofs.lemmas.Bool.{and_from, false_from_ne_true, and_parts}
 use Rattle.mxf_catalogue.proofs.ApartLaws.{later_differs, picked_none, picked_one, picked_several}
+use Rattle.mxf_klv.specs.declared.kinds.Kind.TheVariants as kinds
+use Rattle.mxf_views.specs.declared.reference.target.Target.TheVariants as targets
 
 reads_says : (uid : List ℕ) (r : Result (List ℕ) FieldFault) → reads_uid uid r ≡ true → r ≡ Ok uid
 reads_says uid (Ok own) h = ap (λ (x : List ℕ). Ok x) ((bytes_eq-Decides own uid).0 h)

@@ -1,14 +1,6 @@
 -- The partitions of a file rise.
-use Rattle.std.specs.Prelude.{ℕ, ◌+◌, ◌≤◌, List, [], ◌∷◌, None, Some}
-use Rattle.std.specs.List.{cons_option}
-use Rattle.std.specs.Option.{option_map}
-use Rattle.std.proofs.Common.{arith}
-use Rattle.mxf_klv.specs.Packet.{size_of}
-use Rattle.mxf_klv.specs.Parts.{PacketParts}
-use Rattle.mxf_klv.specs.Rising.{In}
-use Rattle.mxf_views.specs.Partitions.{PartitionParts}
-use Rattle.mxf_views.specs.Reading.{partitions_read}
-use Rattle.mxf_views.specs.Records.{read_pack}
+use Rattle.mxf_views.proofs.Common.{ℕ, ◌+◌, ◌≤◌, List, [], ◌∷◌, None, Some, cons_option, option_map, arith, size_of}
+use Rattle.mxf_views.proofs.Common.{PacketParts, In, PartitionParts, partitions_read, read_pack}
 use Rattle.mxf_klv.proofs.RisingBy.{IsRisingFrom as RisesFrom, at_or_above as above_from, from_lower}
 
 -- Partitions that rise from an offset on.

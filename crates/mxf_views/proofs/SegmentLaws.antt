@@ -1,22 +1,10 @@
 -- Which segments there are.
-use Rattle.std.proofs.Common.{◌≡◌, ℕ, true, false, cond, List, Some, None}
-use Rattle.std.proofs.Common.{refl, sym, ap, subst}
-use Rattle.std.specs.Prelude.{◌↔◌}
-use Rattle.std.specs.Option.{option_map}
-use Rattle.mxf_klv.specs.Parts.{NoteParts}
-use Rattle.mxf_klv.specs.Note.{keeps_value}
-use Rattle.mxf_klv.specs.Kind.{kind_of}
-use Rattle.mxf_klv.specs.Rising.{In}
-use Rattle.mxf_sets.specs.Segment.{SegmentParts, segment_at}
-use Rattle.mxf_sets.specs.Readable.{read_as}
-use Rattle.mxf_catalogue.specs.Content.{IsContent}
-use Rattle.mxf_catalogue.specs.Disputes.{IsClear, clear_notes}
-use Rattle.mxf_catalogue.proofs.DisputeLaws.{In-clear_notes}
-use Rattle.mxf_catalogue.proofs.SpanLaws.{AreApart-clear_notes}
-use Rattle.mxf_views.specs.Places.{IsSegmentAt, SegmentAtParts, SegmentsRise, is_segment, placed_segment, segment_in}
-use Rattle.mxf_views.specs.Places.{segments_of}
+use Rattle.mxf_views.proofs.Common.{◌≡◌, ℕ, true, false, cond, List, Some, None, refl, sym, ap, subst, ◌↔◌, option_map}
+use Rattle.mxf_views.proofs.Common.{NoteParts, keeps_value, kind_of, In, SegmentParts, segment_at, read_as, IsContent}
+use Rattle.mxf_views.proofs.Common.{IsClear, clear_notes, In-clear_notes, AreApart-clear_notes, SegmentAtParts}
+use Rattle.mxf_views.proofs.Common.{is_segment, placed_segment, segments_of, In-filter_map}
+use Rattle.mxf_views.specs.Places.{IsSegmentAt, SegmentsRise, segment_in}
 use Rattle.mxf_views.proofs.KindLaws.{segment_kind}
-use Rattle.mxf_klv.proofs.Lists.{In-filter_map}
 use Rattle.mxf_catalogue.proofs.ApartLaws.{apart_rises}
 use Rattle.mxf_klv.proofs.RisingBy.{rises-filter_map}
 use Rattle.mxf_views.proofs.Rising.{by_segment}

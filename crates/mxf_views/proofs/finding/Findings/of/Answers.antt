@@ -1,6 +1,5 @@
-use Rattle.std.proofs.Common.{◌∙◌}
-use Rattle.mxf_views.specs.declared.finding.Code.TheVariants.{F01, F02, F03, F04, F05, F06, F07}
-use Rattle.mxf_views.specs.declared.finding.Code.TheVariants.{F08, F09, F10, F11, F12, F13, F14}
+use Rattle.mxf_views.proofs.Common.{◌∙◌, F01, F02, F03, F04, F05, F06, F07, F08, F09, F10, F11, F12, F13}
+use Rattle.mxf_views.specs.declared.finding.Code.TheVariants.{F14}
 use Rattle.mxf_views.proofs.FindingUnions.{findings_of-collected, first_added, none_added}
 use Rattle.mxf_views.proofs.finding.Findings.of.Goals as goal
 

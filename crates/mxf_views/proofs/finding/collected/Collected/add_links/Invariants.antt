@@ -1,10 +1,5 @@
-use Rattle.std.proofs.Common.{◌≡◌, ◌++◌, map}
-use Rattle.std.specs.Prelude.{filter}
-use Rattle.mxf_views.specs.declared.finding.Code.TheVariants.{F06}
+use Rattle.mxf_views.proofs.Common.{◌≡◌, ◌++◌, map, filter, F06, link_of, partitions_of, finding, findings_for}
 use Rattle.mxf_views.specs.Findings.{is_unfit}
-use Rattle.mxf_views.specs.Partitions.{link_of, partitions_of}
-use Rattle.mxf_views.specs.Codes.{finding}
-use Rattle.mxf_views.specs.Findings.{findings_for}
 use Rattle.mxf_views.proofs.finding.collected.Collected.add_links.Given as goal
 
 abbrev pub invariant-loop-partition : goal.invariant-loop-partition

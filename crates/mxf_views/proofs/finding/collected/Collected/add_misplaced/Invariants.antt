@@ -1,9 +1,5 @@
-use Rattle.std.proofs.Common.{◌≡◌, ◌++◌, map}
-use Rattle.std.specs.Prelude.{filter}
-use Rattle.mxf_views.specs.declared.finding.Code.TheVariants.{F05}
+use Rattle.mxf_views.proofs.Common.{◌≡◌, ◌++◌, map, filter, F05, finding, findings_for}
 use Rattle.mxf_views.specs.Findings.{is_misplaced}
-use Rattle.mxf_views.specs.Codes.{finding}
-use Rattle.mxf_views.specs.Findings.{findings_for}
 use Rattle.mxf_views.proofs.finding.collected.Collected.add_misplaced.Given as goal
 
 abbrev pub invariant-loop-partition : goal.invariant-loop-partition

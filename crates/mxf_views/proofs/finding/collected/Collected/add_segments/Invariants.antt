@@ -1,9 +1,5 @@
-use Rattle.std.proofs.Common.{◌≡◌, ◌++◌, map}
-use Rattle.std.specs.Prelude.{filter}
-use Rattle.mxf_views.specs.declared.finding.Code.TheVariants.{F11}
+use Rattle.mxf_views.proofs.Common.{◌≡◌, ◌++◌, map, filter, F11, finding, findings_for}
 use Rattle.mxf_views.specs.Findings.{is_unreadable_segment}
-use Rattle.mxf_views.specs.Codes.{finding}
-use Rattle.mxf_views.specs.Findings.{findings_for}
 use Rattle.mxf_views.proofs.finding.collected.Collected.add_segments.Given as goal
 
 abbrev pub invariant-loop-note : goal.invariant-loop-note
