@@ -1,5 +1,5 @@
 -- Notes each of which begins at or above the end of the one before.
-use Rattle.std.specs.Prelude.{◌≡◌, ℕ, ◌≤◌, List, [], ◌∷◌, map}
+use Rattle.std.specs.Prelude.{◌≡◌, ℕ, ◌≤◌, List, [], ◌∷◌, map, ◌↔◌, ◌≢◌}
 use Rattle.std.proofs.Common.{◌∙◌, arith, ap, sym, subst, inl, inr, refl, ◌<◌, ◌+◌}
 use Rattle.mxf_klv.specs.Parts.{NoteParts}
 use Rattle.mxf_klv.specs.Note.{end_of}
@@ -76,3 +76,33 @@ covers_all notes at =
         record { from = h.2.from; before = h.2.before },
       )),
     )
+
+-- ---- notes apart that are all those with a property
+
+pub later_differs : (m n : NoteParts) (ws : List NoteParts) → AreApart 0 (m ∷ n ∷ ws) → m ≢ n
+later_differs m n ws a e =
+    let l : end_of m ≤ n.offset = a.1.0 in
+    let o : m.offset ≡ n.offset = ap (λ (x : NoteParts). x.offset) e in
+    omega (arith, l, o)
+
+pub picked_none : (P : NoteParts → Type 0) (ws : List NoteParts) → ((n : NoteParts) → In n ws ↔ P n)
+    → ((n : NoteParts) → P n → ⊥) → ws ≡ []
+picked_none P [] w f = refl
+picked_none P (n ∷ ws) w f = absurd (f n ((w n).0 (inl refl)))
+
+pub picked_one : (P : NoteParts → Type 0) (ws : List NoteParts) → ((n : NoteParts) → In n ws ↔ P n) → AreApart 0 ws
+    → (n : NoteParts) → P n → ((m : NoteParts) → P m → m ≡ n) → ws ≡ n ∷ []
+picked_one P [] w a n h only = absurd ((w n).1 h)
+picked_one P (x ∷ []) w a n h only = ap (λ (y : NoteParts). y ∷ []) (only x ((w x).0 (inl refl)))
+picked_one P (x ∷ y ∷ ws) w a n h only =
+    absurd (later_differs x y ws a (only x ((w x).0 (inl refl)) ∙ sym (only y ((w y).0 (inr (inl refl))))))
+
+pub picked_several : (P : NoteParts → Type 0) (ws : List NoteParts) → ((n : NoteParts) → In n ws ↔ P n)
+    → (m n : NoteParts) → P m → P n → m ≢ n
+    → (x : NoteParts) × (y : NoteParts) × (rest : List NoteParts) × (ws ≡ x ∷ y ∷ rest)
+picked_several P [] w m n h k ne = absurd ((w m).1 h)
+picked_several P (x ∷ []) w m n h k ne = elim ((w m).1 h) [
+  | inl e ↦ elim ((w n).1 k) [ inl f ↦ absurd (ne (e ∙ sym f)) | inr j ↦ absurd j ]
+  | inr j ↦ absurd j
+]
+picked_several P (x ∷ y ∷ rest) w m n h k ne = (x, y, rest, refl)

@@ -56,7 +56,7 @@ not_same m n e same = let t = tied_itself note_total n in
     let u : note_cmp n n ≡ Less = subst (λ (x : NoteParts). note_cmp x n ≡ Less) same e in cc (t, u)
 
 -- a clear note ends at or before a later one begins
-ends_before : (notes : List NoteParts) (x y : NoteParts) → IsClear x notes → IsClear y notes → note_cmp x y ≡ Less
+pub ends_before : (notes : List NoteParts) (x y : NoteParts) → IsClear x notes → IsClear y notes → note_cmp x y ≡ Less
     → end_of x ≤ y.offset
 ends_before notes x y c d e =
     let le : x.offset ≤ y.offset = offset_le x y e in

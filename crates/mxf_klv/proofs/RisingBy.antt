@@ -13,6 +13,11 @@ abbrev pub IsRisingBy : {K : Type 0} → (K → ℕ) → List K → Type 0
 IsRisingBy key [] = Unit {0}
 IsRisingBy key (x ∷ xs) = AllByRecursion (λ y. key x < key y) xs × IsRisingBy key xs
 
+-- The first key is at a number or above it, and each later one above the one before.
+abbrev pub IsRisingFrom : {K : Type 0} → (K → ℕ) → ℕ → List K → Type 0
+IsRisingFrom key low [] = Unit {0}
+IsRisingFrom key low (x ∷ xs) = (low ≤ key x) × IsRisingFrom key (key x + 1) xs
+
 -- Numbers that rise do so by themselves.
 pub by_itself : (xs : List ℕ) → IsRising nat_cmp xs → IsRisingBy (λ x. x) xs
 by_itself [] r = tt
@@ -148,3 +153,16 @@ module _ {K : Type 0} (key : K → ℕ) where
       let a : key s.0 ≤ key (get_or xs k d) = at_most_last xs s.0 k d r l s.1 in
       let b = ltb-true low (key s.0) s.2 in
       lt-ltb low (key (get_or xs k d)) (omega (arith, a, b)))
+
+  -- ---- from a number on
+
+  pub from_lower : (low high : ℕ) (xs : List K) → low ≤ high → IsRisingFrom key high xs → IsRisingFrom key low xs
+  from_lower low high [] h a = tt
+  from_lower low high (x ∷ xs) h a = let b : high ≤ key x = a.0 in (omega arith, a.1)
+
+  pub at_or_above : (low : ℕ) (xs : List K) (x : K) → IsRisingFrom key low xs → In x xs → low ≤ key x
+  at_or_above low [] x a h = absurd h
+  at_or_above low (y ∷ ys) x a (inl e) = let b : low ≤ key y = a.0 in let f = ap key e in omega (arith, b, f)
+  at_or_above low (y ∷ ys) x a (inr h) =
+      let b : low ≤ key y = a.0 in
+      let c = at_or_above (key y + 1) ys x a.1 h in omega (arith, b, c)

@@ -1,52 +1,38 @@
 -- The copies of the header metadata, once notes are there that begin where the others end, or above.
-use Rattle.std.proofs.Common.{◌≡◌, ℕ, ◌+◌, ◌-◌, ◌<◌, ◌≤◌, ◌⊎◌, true, false, cond, List, [], ◌∷◌, ◌++◌, Option, Some, None}
-use Rattle.std.proofs.Common.{refl, sym, ap, subst, ◌∙◌, inl, inr, arith, get_or, length, eqb-true, eq-eqb}
-use Rattle.std.specs.Prelude.{◌==◌, nat_lt, slice_get, find, map, count_by, if◌then◌else◌}
-use Rattle.std.specs.List.{cons_option, filter_map}
-use Rattle.std.specs.Option.{option_and_then, option_map}
-use Rattle.std.specs.Prelude.{◌^◌}
-use Rattle.std.specs.Result.{result_ok}
-use Rattle.std.proofs.lemmas.Bool.{ltb-true, ltb-false, false_from_ne_true, eqb-false}
+use Rattle.mxf_views.proofs.Common.{◌≡◌, ℕ, ◌+◌, ◌-◌, ◌<◌, ◌≤◌, ◌⊎◌, true, false, cond, List, [], ◌∷◌, ◌++◌, Option}
+use Rattle.mxf_views.proofs.Common.{Some, None, refl, sym, ap, subst, ◌∙◌, inl, inr, arith, get_or, length, eqb-true}
+use Rattle.mxf_views.proofs.Common.{eq-eqb, ◌==◌, nat_lt, find, map, count_by, if◌then◌else◌, cons_option, filter_map}
+use Rattle.mxf_views.proofs.Common.{option_and_then, option_map, ◌^◌, result_ok, ltb-true, ltb-false}
+use Rattle.mxf_views.proofs.Common.{false_from_ne_true, sum_by-append, NoteParts, end_of, kind_of, In, pack_at}
+use Rattle.mxf_views.proofs.Common.{PartitionPackParts, read_as, keeps_value, lies_in, is_in_one, union_of, SharesByte}
+use Rattle.mxf_views.proofs.Common.{clear_notes, In-clear_notes, AreApart-clear_notes, less_by_offset, CopyInfo}
+use Rattle.mxf_views.proofs.Common.{CopiesRise, IsStart, copies_of, copy_from, copy_of, covered_of, has_metadata}
+use Rattle.mxf_views.proofs.Common.{is_preface_note, prefaces_of, start_of, zone_of, copy_by, MeetAt, clear_from}
+use Rattle.mxf_views.proofs.Common.{counted_above, PartitionParts, partition_at, partitions_of, sizes, length-filter_le}
+use Rattle.mxf_views.proofs.Common.{In-at}
+use Rattle.std.specs.Prelude.{slice_get}
+use Rattle.std.proofs.lemmas.Bool.{eqb-false}
 use Rattle.std.proofs.lemmas.List.Elements.{filter_map-append}
-use Rattle.std.proofs.lemmas.List.Sums.{count_by-le-length, sum_by-append}
+use Rattle.std.proofs.lemmas.List.Sums.{count_by-le-length}
 use Rattle.std.proofs.lemmas.Option.{get_or_from_slice_get, slice_get_within}
-use Rattle.mxf_klv.specs.declared.kinds.Kind.TheVariants as kinds
-use Rattle.mxf_klv.specs.Parts.{NoteParts}
-use Rattle.mxf_klv.specs.Note.{end_of}
-use Rattle.mxf_klv.specs.Kind.{kind_of}
-use Rattle.mxf_klv.specs.Rising.{In}
-use Rattle.mxf_sets.specs.PackReadings.{pack_at}
-use Rattle.mxf_sets.specs.PartitionPack.{PartitionPackParts}
-use Rattle.mxf_sets.specs.Readable.{read_as}
-use Rattle.mxf_klv.specs.Note.{keeps_value}
-use Rattle.mxf_catalogue.specs.Disputes.{lies_in}
-use Rattle.mxf_views.specs.Spans.{is_in_one}
 use Rattle.mxf_views.proofs.CopyLaws.{copy_there}
-use Rattle.mxf_views.proofs.CopyUpdates.{start_is_found}
-use Rattle.mxf_views.proofs.PartitionSearch.{has_copy}
-use Rattle.mxf_views.proofs.AboveLaws.{no_bytes}
-use Rattle.mxf_catalogue.specs.Content.{union_of}
-use Rattle.mxf_catalogue.specs.Disputes.{IsClear, SharesByte, clear_notes}
-use Rattle.mxf_catalogue.proofs.DisputeLaws.{In-clear_notes}
-use Rattle.mxf_catalogue.proofs.SpanLaws.{AreApart-clear_notes}
-use Rattle.mxf_views.specs.declared.copy.CopyInfo.{CopyInfo}
-use Rattle.mxf_views.specs.Copies.{CopiesRise, IsStart, copies_of, copy_from, copy_of, covered_of, has_metadata}
-use Rattle.mxf_views.specs.Copies.{is_preface_note, prefaces_of, start_of, zone_of}
-use Rattle.mxf_views.specs.Kept.{copy_by, or_itself}
-use Rattle.mxf_views.specs.KeptAbove.{CountsFit, EndsBy, IsOfNone, IsStarting, IsUnionAt, MeetAt, clear_from, counted_above, counted_on, is_of, with_counts}
-use Rattle.mxf_views.specs.Partitions.{PartitionParts, partition_at, partitions_of}
-use Rattle.mxf_views.specs.Spans.{sizes, size_of}
-use Rattle.mxf_views.proofs.AboveLaws.{clear_in_both, clear_of_both, new_are_clear, union_is_content, zone_from, zone_goes_on, zone_of_both}
+use Rattle.mxf_views.proofs.CopyUpdates.{start_is_found, copies_by_notes, end-partition_at, or_of, partition_found}
+use Rattle.mxf_views.proofs.PartitionSearch.{has_copy, copy_found, is_there, of_note, of_partition}
+use Rattle.mxf_views.proofs.AboveLaws.{no_bytes, clear_in_both, clear_of_both, new_are_clear, union_is_content}
+use Rattle.mxf_views.proofs.AboveLaws.{zone_from, zone_goes_on, zone_of_both}
+use Rattle.mxf_catalogue.proofs.SpanLaws.{ends_before}
+use Rattle.mxf_views.specs.Kept.{or_itself}
+use Rattle.mxf_views.specs.KeptAbove.{CountsFit, EndsBy, IsOfNone, IsStarting, IsUnionAt, counted_on, is_of}
+use Rattle.mxf_views.specs.KeptAbove.{with_counts}
+use Rattle.mxf_views.specs.Spans.{size_of}
 use Rattle.mxf_views.proofs.CopyChanges.{SameClear, start_stays}
-use Rattle.mxf_views.proofs.CopyUpdates.{copies_by_notes, end-partition_at, or_of, partition_found}
-use Rattle.mxf_views.proofs.PartitionSearch.{copy_found, is_there, of_note, of_partition}
 use Rattle.mxf_views.proofs.SpanCounts.{zone-count}
 use Rattle.mxf_views.proofs.StartLaws.{clear_same, start_is}
 use Rattle.mxf_views.proofs.StartWalk.{none_there}
 use Rattle.mxf_klv.proofs.Counts.{range-le}
-use Rattle.mxf_klv.proofs.Lists.{length-filter_le, In-at}
 use Rattle.mxf_klv.proofs.RisingBy.{at_most_last, rises_at}
 use Rattle.mxf_views.proofs.Rising.{by_partition}
+use Rattle.mxf_klv.specs.declared.kinds.Kind.TheVariants as kinds
 
 -- The last copy is that of the greatest partition.
 pub last_copy : (cs : List CopyInfo) (last c : CopyInfo) → CopiesRise cs → slice_get cs (length cs - 1) ≡ Some last
@@ -105,22 +91,6 @@ no_fill n p e fill =
     let is = ap (λ k. option_map placed (read_as (pack_at k) n)) fill in
     let u : None ≡ Some p = sym none ∙ sym is ∙ e in
     cc (u)
-
-ordered : (notes : List NoteParts) (x y : NoteParts) → IsClear x notes → IsClear y notes → x.offset < y.offset
-    → end_of x ≤ y.offset
-ordered notes x y c d l =
-    elim (nat_lt y.offset (end_of x)) as (λ b. nat_lt y.offset (end_of x) ≡ b → end_of x ≤ y.offset) [
-      | true ↦ λ t. (
-          let h : y.offset < end_of x = ltb-true y.offset (end_of x) t in
-          let from : x.offset ≤ y.offset = omega (arith, l) in
-          let before : y.offset + 1 ≤ end_of x = omega (arith, h) in
-          let own : y.offset ≤ y.offset = omega arith in
-          let end : y.offset + 1 ≤ end_of y = omega arith in
-          let shares : SharesByte x y =
-          (y.offset, record { from = from; before = before }, record { from = own; before = end }) in
-          let same = ap (λ (n : NoteParts). n.offset) (clear_same notes x y c d shares) in absurd (omega (arith, same, l)))
-      | false ↦ λ t. ltb-false y.offset (end_of x) t
-    ] refl
 
 abbrev the_copy : PartitionParts → ℕ → ℕ → ℕ → CopyInfo
 the_copy p s covered prefaces = record {
@@ -194,7 +164,8 @@ module _ (b : ℕ) (own other : List NoteParts) (m : MeetAt b own other) where
       ap (λ (c : CopyInfo). c.partition) q.copy ∙ copy_there (clear_notes own) q.partition ∙ y.offset in
       let here : p.offset ≡ x.note.offset = x.offset in
       let end : p.end ≡ end_of x.note = end-partition_at x.note p x.read in
-      let apart = ordered own x.note y.note cx cy (omega (arith, at, here, l)) in
+      let apart =
+      ends_before own x.note y.note cx cy (less_by_offset x.note y.note (omega (arith, at, here, l))) in
       let ends : end_of y.note ≤ b = m.ends y.note cy.held in
       let g = a.filled y.note.offset (omega (arith, end, apart)) (omega (arith, ends, high)) in
       let from : y.note.offset ≤ y.note.offset = omega arith in

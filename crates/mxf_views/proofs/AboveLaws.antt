@@ -1,31 +1,22 @@
 -- A content and notes that begin where it ends, or above: the clear notes of both are those of the one and then those of
 -- the other.
-use Rattle.std.proofs.Common.{◌≡◌, ℕ, ◌+◌, ◌-◌, ◌<◌, ◌≤◌, ◌⊎◌, Bool, true, cond, List, [], ◌∷◌, ◌++◌, refl}
-use Rattle.std.proofs.Common.{sym, ap, subst, ◌∙◌, inl, inr, arith, leb-true, le-leb}
-use Rattle.std.specs.declared.cmp.Ordering.TheVariants.{Less}
-use Rattle.std.specs.Prelude.{◌↔◌, nat_le, filter, map, count_by}
-use Rattle.std.proofs.lemmas.Bool.{lt-ltb, and_from, false_from_ne_true, and_parts}
+use Rattle.mxf_views.proofs.Common.{◌≡◌, ℕ, ◌+◌, ◌-◌, ◌<◌, ◌≤◌, ◌⊎◌, Bool, cond, List, [], ◌∷◌, ◌++◌, refl, sym, ap}
+use Rattle.mxf_views.proofs.Common.{subst, ◌∙◌, inl, inr, arith, leb-true, le-leb, Less, ◌↔◌, nat_le, filter, map}
+use Rattle.mxf_views.proofs.Common.{count_by, and_from, and_parts, NoteParts, IsNote, end_of, In, AreReduced}
+use Rattle.mxf_views.proofs.Common.{IsCatalogue, IsContent, union_of, AreMaximal, LiesIn, Run, IsClear, clear_notes}
+use Rattle.mxf_views.proofs.Common.{lies_in, same_content, In-clear_notes, IsContent-clear_notes, zone_of}
+use Rattle.mxf_views.proofs.Common.{offsets_where, MeetAt, clear_from, less_by_offset, all-In, all_from_In, In-append}
+use Rattle.mxf_views.proofs.Common.{same_bool}
 use Rattle.std.proofs.lemmas.List.{map-append}
 use Rattle.std.proofs.lemmas.List.Elements.{filter-append}
-use Rattle.mxf_klv.specs.Parts.{NoteParts}
-use Rattle.mxf_klv.specs.Note.{IsNote, end_of, note_cmp}
-use Rattle.mxf_klv.specs.Rising.{In}
-use Rattle.mxf_catalogue.specs.Content.{AreReduced, IsCatalogue, IsContent, reduced_union, union_of}
+use Rattle.mxf_klv.specs.Note.{note_cmp}
+use Rattle.mxf_catalogue.specs.Content.{reduced_union}
 use Rattle.mxf_catalogue.specs.NoteLists.{Covers}
-use Rattle.mxf_catalogue.specs.Runs.{AreMaximal, LiesIn}
-use Rattle.mxf_catalogue.specs.declared.run.Run.{Run}
-use Rattle.mxf_catalogue.specs.Disputes.{IsClear, clear_notes, lies_in}
-use Rattle.mxf_catalogue.proofs.ContentLaws.{In-union_of, IsContent-union_of, same_content}
-use Rattle.mxf_catalogue.proofs.DisputeLaws.{In-clear_notes, IsContent-clear_notes}
+use Rattle.mxf_catalogue.proofs.ContentLaws.{In-union_of, IsContent-union_of}
 use Rattle.mxf_catalogue.proofs.HeadLaws.{reduced-same, reduced_union-is}
-use Rattle.mxf_views.specs.Copies.{zone_of}
-use Rattle.mxf_views.specs.Kept.{offsets_where}
-use Rattle.mxf_views.specs.KeptAbove.{MeetAt, clear_from}
 use Rattle.mxf_views.proofs.GapsLaws.{covers_first}
 use Rattle.mxf_views.proofs.KeptRoom.{clear_in_union}
-use Rattle.mxf_catalogue.proofs.SpanLaws.{less_by_offset}
-use Rattle.mxf_klv.proofs.Lists.{filter_none, filter_all, filter_alike, all-In, all_from_In, In-append}
-use Rattle.mxf_klv.proofs.Tests.{same_bool}
+use Rattle.mxf_klv.proofs.Lists.{filter_none, filter_all, filter_alike}
 
 -- ---- lists
 

@@ -1,15 +1,11 @@
 -- Offsets of notes, put behind others one after another.
-use Rattle.std.proofs.Common.{◌≡◌, ◌∙◌, ℕ, ◌+◌, ◌++◌, ◌≤◌, Bool, true, false, List, [], ◌∷◌, ap, append-nil, append_assoc, arith, refl, sym}
-use Rattle.std.specs.Prelude.{cond, count_by, filter, map}
-use Rattle.std.specs.Vec.{vec_capacity, vec_len}
-use Rattle.std.proofs.Common.{Global, Vec}
-use Rattle.mxf_klv.specs.Parts.{NoteParts}
+use Rattle.mxf_views.proofs.Common.{◌≡◌, ◌∙◌, ℕ, ◌+◌, ◌++◌, ◌≤◌, Bool, true, false, List, [], ◌∷◌, ap, append-nil}
+use Rattle.mxf_views.proofs.Common.{append_assoc, arith, refl, sym, cond, count_by, filter, map, vec_capacity, vec_len}
+use Rattle.mxf_views.proofs.Common.{Global, Vec, NoteParts, IsCatalogue, is_placed, offsets_where, clear_from}
+use Rattle.mxf_views.proofs.Common.{count_by-cons}
 use Rattle.mxf_views.specs.declared.kept.offsets.Placed.{Placed}
-use Rattle.mxf_catalogue.specs.Content.{IsCatalogue}
-use Rattle.mxf_views.specs.Kept.{is_placed, offsets_among, offsets_where}
-use Rattle.mxf_views.specs.KeptAbove.{clear_from}
+use Rattle.mxf_views.specs.Kept.{offsets_among}
 use Rattle.mxf_views.proofs.SumLaws.{all_from_none}
-use Rattle.mxf_klv.proofs.Counts.{count_by-cons}
 
 -- What is there and what the notes left bring are the offsets before and those of all new notes, and there is room.
 pub record AreAppended (kind : Placed) (before now : Vec ℕ Global) (left new : List NoteParts) : Type 0 where

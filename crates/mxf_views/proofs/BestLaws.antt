@@ -1,12 +1,9 @@
 -- The preferred copy of those seen so far.
-use Rattle.std.proofs.Common.{◌≡◌, ◌+◌, ◌<◌, ◌≤◌, ◌⊎◌, Bool, true, false, List, [], ◌∷◌, ◌++◌, Option, Some, None, refl}
-use Rattle.std.proofs.Common.{cond, append_assoc, append-nil, subst, ap, ◌∙◌, sym, inl, inr, arith, eqb-true, eq-eqb}
-use Rattle.std.specs.Prelude.{ℕ, ◌↔◌, ◌&&◌, ◌||◌, ◌==◌, nat_lt, is_some}
-use Rattle.std.proofs.lemmas.Bool.{ltb-true, ltb-false, and_from, and_parts}
-use Rattle.mxf_klv.specs.Rising.{In}
-use Rattle.mxf_views.specs.declared.copy.CopyInfo.{CopyInfo}
-use Rattle.mxf_views.specs.Copies.{best_of, better, preferred_of, is_candidate, is_above, standing, IsNotAbove, IsBest}
-use Rattle.mxf_views.specs.Copies.{IsCandidate, IsPreferred}
+use Rattle.mxf_views.proofs.Common.{◌≡◌, ◌+◌, ◌<◌, ◌≤◌, ◌⊎◌, Bool, true, false, List, [], ◌∷◌, ◌++◌, Option, Some, None}
+use Rattle.mxf_views.proofs.Common.{refl, cond, append_assoc, append-nil, subst, ap, ◌∙◌, sym, inl, inr, arith}
+use Rattle.mxf_views.proofs.Common.{eqb-true, eq-eqb, ℕ, ◌↔◌, ◌&&◌, ◌||◌, ◌==◌, nat_lt, is_some, ltb-true, ltb-false}
+use Rattle.mxf_views.proofs.Common.{and_from, and_parts, In, CopyInfo, best_of, preferred_of, standing}
+use Rattle.mxf_views.specs.Copies.{better, is_candidate, is_above, IsNotAbove, IsBest, IsCandidate, IsPreferred}
 
 In-push : (d c : CopyInfo) (seen : List CopyInfo) → In d (seen ++ c ∷ []) → In d seen ⊎ (d ≡ c)
 In-push d c [] h = elim h [ inl e ↦ inr e | inr k ↦ absurd k ]

@@ -1,40 +1,27 @@
 -- The cause of each code is met at the offsets that are found of it, and at no others.
-use Rattle.std.proofs.Common.{◌≡◌, ◌≢◌, ℕ, ◌+◌, ◌-◌, ◌<◌, ◌≤◌, ◌⊎◌, Bool, true, false, List, [], ◌∷◌, Option}
-use Rattle.std.proofs.Common.{Some}
-use Rattle.std.proofs.Common.{None, refl, sym, ap, ◌∙◌, inl, inr, arith, eqb-true, eq-eqb}
-use Rattle.std.specs.Prelude.{◌↔◌, ◌&&◌, ◌||◌, ◌==◌, nat_lt, not, is_some, filter, map}
-use Rattle.std.specs.Option.{option_map}
-use Rattle.std.proofs.lemmas.Bool.{ltb-false, ltb-true, or_cases, and_from, and_parts}
-use Rattle.mxf_klv.specs.declared.kinds.Status.{Status}
-use Rattle.mxf_klv.specs.declared.kinds.Status.TheVariants as statuses
-use Rattle.mxf_klv.specs.Parts.{NoteParts}
-use Rattle.mxf_klv.specs.Note.{end_of}
-use Rattle.mxf_klv.specs.Kind.{kind_of}
-use Rattle.mxf_klv.specs.Rising.{In}
-use Rattle.mxf_sets.specs.PartitionPack.{IsPartitionKind, PartitionPackParts}
-use Rattle.mxf_sets.specs.PackReadings.{pack_at, part_and_status}
-use Rattle.mxf_sets.specs.declared.pack.part.PackPart.TheVariants.{Footer}
-use Rattle.mxf_catalogue.specs.declared.run.Run.{Run}
-use Rattle.mxf_catalogue.specs.Runs.{AreMaximal}
-use Rattle.mxf_catalogue.specs.Content.{IsContent}
-use Rattle.mxf_catalogue.specs.Disputes.{DisputedParts, IsClear, IsDisputedOf, Overlaps, SharesOffset, clear_notes}
-use Rattle.mxf_catalogue.specs.Disputes.{disputed_notes, disputed_parts}
-use Rattle.mxf_catalogue.proofs.DisputeLaws.{In-clear_notes, In-disputed_notes, IsDisputed-two_ways}
-use Rattle.mxf_catalogue.proofs.DisputeLaws.{is_offset_shared-SharesOffset, is_overlapped-Overlaps}
-use Rattle.mxf_views.specs.declared.chain.Link.TheVariants as links
-use Rattle.mxf_views.specs.Partitions.{PartitionParts, is_footer, is_no_unreadable_pack, link_of, pack_of}
-use Rattle.mxf_views.specs.Partitions.{partition_at, partitions_of}
-use Rattle.mxf_views.specs.Gaps.{gaps_of}
+use Rattle.mxf_views.proofs.Common.{◌≡◌, ◌≢◌, ℕ, ◌+◌, ◌-◌, ◌<◌, ◌≤◌, ◌⊎◌, Bool, true, false, List, [], ◌∷◌, refl, sym}
+use Rattle.mxf_views.proofs.Common.{ap, ◌∙◌, inl, inr, arith, eqb-true, eq-eqb, ◌↔◌, ◌&&◌, ◌||◌, ◌==◌, nat_lt, not}
+use Rattle.mxf_views.proofs.Common.{is_some, filter, map, ltb-false, ltb-true, or_cases, and_from, and_parts, Status}
+use Rattle.mxf_views.proofs.Common.{NoteParts, end_of, kind_of, In, PartitionPackParts, pack_at, part_and_status}
+use Rattle.mxf_views.proofs.Common.{Footer, Run, AreMaximal, IsContent, IsClear, clear_notes, In-clear_notes}
+use Rattle.mxf_views.proofs.Common.{PartitionParts, is_footer, is_no_unreadable_pack, link_of, pack_of, partition_at}
+use Rattle.mxf_views.proofs.Common.{partitions_of, gaps_of, IsReadable, AtClear, In-map, list_any-In, either}
+use Rattle.mxf_views.proofs.Common.{not-true-false, not_true}
+use Rattle.mxf_sets.specs.PartitionPack.{IsPartitionKind}
+use Rattle.mxf_catalogue.specs.Disputes.{DisputedParts, IsDisputedOf, Overlaps, SharesOffset, disputed_notes}
+use Rattle.mxf_catalogue.specs.Disputes.{disputed_parts}
+use Rattle.mxf_catalogue.proofs.DisputeLaws.{In-disputed_notes, IsDisputed-two_ways, is_offset_shared-SharesOffset}
+use Rattle.mxf_catalogue.proofs.DisputeLaws.{is_overlapped-Overlaps}
 use Rattle.mxf_views.specs.Findings.{footer_stands_at, is_misplaced, is_open, is_open_footer, is_unfit, lacks_footer}
-use Rattle.mxf_views.specs.Readings.{IsReadable}
-use Rattle.mxf_views.specs.FindingCauses.{AtClear, AtNote, AtPartition, IsGapStart, IsOpen}
-use Rattle.mxf_views.specs.FindingCauses.{IsUnlinked, LacksFooter}
+use Rattle.mxf_views.specs.FindingCauses.{AtNote, AtPartition, IsGapStart, IsOpen, IsUnlinked, LacksFooter}
 use Rattle.mxf_views.proofs.ChainLaws.{footer_says, kind_says, kind_tells}
 use Rattle.mxf_views.proofs.GapsLaws.{gaps_are}
 use Rattle.mxf_views.proofs.PartitionLaws.{link_iff}
 use Rattle.mxf_views.proofs.ReadingLaws.{is_some_readable}
-use Rattle.mxf_klv.proofs.Lists.{In-map, list_any-In, In-chosen}
-use Rattle.mxf_klv.proofs.Tests.{either, is_some-map, not_equal, not-true-false, not_true}
+use Rattle.mxf_klv.proofs.Lists.{In-chosen}
+use Rattle.mxf_klv.proofs.Tests.{is_some-map, not_equal}
+use Rattle.mxf_klv.specs.declared.kinds.Status.TheVariants as statuses
+use Rattle.mxf_views.specs.declared.chain.Link.TheVariants as links
 
 -- ---- tests
 

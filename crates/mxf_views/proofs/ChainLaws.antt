@@ -1,74 +1,45 @@
 -- Whether the partitions hang together.
-use Rattle.std.proofs.Common.{◌≡◌, ◌<◌, ◌≤◌, Bool, true, false, List, [], ◌∷◌, Option, Some}
-use Rattle.std.proofs.Common.{None, refl, sym, ap, subst, ◌∙◌, inl, inr, arith, eqb-true, eq-eqb}
-use Rattle.std.specs.Prelude.{◌↔◌, ◌&&◌, ◌||◌, ◌==◌, nat_lt, not, if◌then◌else◌, is_some, count_by}
-use Rattle.std.specs.List.{list_all}
-use Rattle.std.proofs.lemmas.Bool.{ltb-true, ltb-false, and_from, false_from_ne_true, and_parts}
-use Rattle.mxf_klv.specs.Parts.{NoteParts}
-use Rattle.mxf_klv.specs.Kind.{kind_of}
-use Rattle.mxf_klv.specs.Rising.{In}
-use Rattle.mxf_klv.specs.declared.kinds.Kind.{Kind}
-use Rattle.mxf_klv.specs.declared.kinds.Kind.TheVariants as kinds
-use Rattle.mxf_sets.specs.declared.pack.part.PackPart.{PackPart}
-use Rattle.mxf_sets.specs.declared.pack.part.PackPart.TheVariants.{Header, Body, Footer}
-use Rattle.mxf_sets.specs.PartitionPack.{IsPartitionKind, pack_kind}
-use Rattle.mxf_sets.specs.PackReadings.{part_and_status}
-use Rattle.mxf_catalogue.specs.Content.{IsContent}
-use Rattle.mxf_catalogue.specs.Disputes.{IsClear, SharesByte, clear_notes}
-use Rattle.mxf_catalogue.proofs.DisputeLaws.{In-clear_notes}
+use Rattle.mxf_views.proofs.Common.{◌≡◌, ◌<◌, ◌≤◌, Bool, true, false, List, [], ◌∷◌, refl, sym, ap, subst, ◌∙◌, inl}
+use Rattle.mxf_views.proofs.Common.{inr, arith, eqb-true, eq-eqb, ◌↔◌, ◌&&◌, ◌||◌, ◌==◌, nat_lt, not, if◌then◌else◌}
+use Rattle.mxf_views.proofs.Common.{is_some, count_by, list_all, ltb-true, ltb-false, and_from, false_from_ne_true}
+use Rattle.mxf_views.proofs.Common.{and_parts, NoteParts, kind_of, In, Kind, PackPart, Header, Body, Footer, pack_kind}
+use Rattle.mxf_views.proofs.Common.{part_and_status, IsContent, IsClear, SharesByte, clear_notes, In-clear_notes, First}
+use Rattle.mxf_views.proofs.Common.{Held, Whole, Broken, PartitionParts, AreInOrder, chain_of, is_footer, is_greatest}
+use Rattle.mxf_views.proofs.Common.{is_header, is_linked, is_no_unreadable_pack, link_of, partition_at, partitions_of}
+use Rattle.mxf_views.proofs.Common.{stands_above, count_by-cons, tally, list_any-In, In-filter_map, all-In, In-list_all}
+use Rattle.mxf_views.proofs.Common.{not-true-false, lt-ltb, cases_lt}
+use Rattle.mxf_sets.specs.PartitionPack.{IsPartitionKind}
 use Rattle.mxf_views.specs.declared.chain.Link.{Link}
-use Rattle.mxf_views.specs.declared.chain.Link.TheVariants.{First, Held, Skips, Missing, Wrong}
-use Rattle.mxf_views.specs.declared.chain.Chain.TheVariants.{Whole, Broken}
-use Rattle.mxf_views.specs.Partitions.{PartitionParts, AreInOrder, StandsAt, IsLink, IsOnly, HangTogether, chain_of}
-use Rattle.mxf_views.specs.Partitions.{is_first, is_footer, is_greatest, is_header, is_held, is_linked}
-use Rattle.mxf_views.specs.Partitions.{is_no_unreadable_pack, hang_together, link_of, partition_at, partitions_of}
-use Rattle.mxf_views.specs.Partitions.{stands_above}
+use Rattle.mxf_views.specs.declared.chain.Link.TheVariants.{Skips, Missing, Wrong}
+use Rattle.mxf_views.specs.Partitions.{StandsAt, IsLink, IsOnly, HangTogether, is_first, is_held, hang_together}
 use Rattle.mxf_views.proofs.PartitionLaws.{link_iff, offset-partition_at, partitions_rise}
 use Rattle.mxf_views.proofs.StartLaws.{clear_same}
-use Rattle.mxf_klv.proofs.Counts.{count_by-cons, count-none, count-one, tally}
-use Rattle.mxf_klv.proofs.Lists.{list_any-In, In-filter_map, all-In, In-list_all, list_all-In}
+use Rattle.mxf_klv.proofs.Counts.{count-none, count-one}
+use Rattle.mxf_klv.proofs.Lists.{list_all-In}
 use Rattle.mxf_klv.proofs.Tests.{some_is}
+use Rattle.mxf_klv.specs.declared.kinds.Kind.TheVariants as kinds
 
 header_says : (part : PackPart) → is_header part ≡ true → part ≡ Header
 header_says Header h = refl
-header_says Body h = absurd cc
-header_says Footer h = absurd cc
+header_says _ h = absurd cc
 
 pub footer_says : (part : PackPart) → is_footer part ≡ true → part ≡ Footer
 footer_says Footer h = refl
-footer_says Body h = absurd cc
-footer_says Header h = absurd cc
+footer_says _ h = absurd cc
 
 first_says : (l : Link) → is_first l ≡ true → l ≡ First
 first_says First h = refl
-first_says Held h = absurd cc
-first_says Skips h = absurd cc
-first_says Missing h = absurd cc
-first_says Wrong h = absurd cc
+first_says _ h = absurd cc
 
 held_says : (l : Link) → is_held l ≡ true → l ≡ Held
 held_says Held h = refl
-held_says First h = absurd cc
-held_says Skips h = absurd cc
-held_says Missing h = absurd cc
-held_says Wrong h = absurd cc
+held_says _ h = absurd cc
 
 pub kind_says : (k : Kind) → is_some (part_and_status k) ≡ true → IsPartitionKind k
 kind_says (kinds.Header s) h = (Header, s, refl)
 kind_says (kinds.Body s) h = (Body, s, refl)
 kind_says (kinds.Footer s) h = (Footer, s, refl)
-kind_says kinds.Primer h = absurd cc
-kind_says kinds.Segment h = absurd cc
-kind_says kinds.Rip h = absurd cc
-kind_says kinds.Preface h = absurd cc
-kind_says kinds.Identification h = absurd cc
-kind_says kinds.ContentStorage h = absurd cc
-kind_says kinds.MaterialPackage h = absurd cc
-kind_says kinds.SourcePackage h = absurd cc
-kind_says kinds.RawSet h = absurd cc
-kind_says kinds.Fill h = absurd cc
-kind_says kinds.Essence h = absurd cc
-kind_says kinds.Other h = absurd cc
+kind_says _ h = absurd cc
 
 pack_kind_tells : (part : PackPart) → (s : Rattle.mxf_klv.specs.declared.kinds.Status.Status)
     → is_some (part_and_status (pack_kind part s)) ≡ true
@@ -104,12 +75,11 @@ one-count p (y ∷ ps) x r h t only =
 
 greatest_says : (ps : List PartitionParts) (p : PartitionParts) → is_greatest ps p ≡ true → (q : PartitionParts)
     → In q ps → q.offset ≤ p.offset
-greatest_says ps p g q h =
-    elim (nat_lt p.offset q.offset) as (λ b. nat_lt p.offset q.offset ≡ b → q.offset ≤ p.offset) [
-      | true ↦ λ t. absurd (let a = (list_any-In (λ x. nat_lt p.offset x.offset) ps).1
-          (q, h, t) in let k = ap not a in cc (k, g))
-      | false ↦ λ t. ltb-false p.offset q.offset t
-    ] refl
+greatest_says ps p g q h = elim (cases_lt p.offset q.offset) [
+  | inl l ↦ absurd (not-true-false (stands_above p.offset ps) g
+      ((list_any-In (λ x. nat_lt p.offset x.offset) ps).1 (q, h, lt-ltb p.offset q.offset l)))
+  | inr l ↦ l
+]
 
 greatest_is : (ps : List PartitionParts) (p : PartitionParts) → ((q : PartitionParts) → In q ps → q.offset ≤ p.offset)
     → is_greatest ps p ≡ true

@@ -1,26 +1,21 @@
 -- What adding a note changes among the clear notes, and among the offsets where clear notes of a kind stand.
-use Rattle.std.proofs.Common.{◌≡◌, ◌≢◌, ℕ, ◌+◌, ◌<◌, ◌≤◌, ◌⊎◌, Bool, true, false, List, [], ◌∷◌, Some, None, refl}
-use Rattle.std.proofs.Common.{sym, ap, subst, ◌∙◌, inl, inr, arith, leb-true, le-leb, eqb-true, eq-eqb}
-use Rattle.std.specs.declared.cmp.Ordering.TheVariants.{Less}
-use Rattle.std.specs.Prelude.{◌↔◌, ◌||◌, cond, ◌==◌, nat_le, nat_lt, filter, find, map, max, min}
-use Rattle.std.specs.FinSet.{nat_cmp-IsAntisymmetric}
-use Rattle.std.specs.Ordering.{nat_cmp}
-use Rattle.std.proofs.lemmas.Bool.{ltb-true, lt-ltb, ltb-false, and_from}
-use Rattle.std.proofs.lemmas.Cmp.{nat_cmp_total}
-use Rattle.mxf_klv.specs.Parts.{NoteParts}
-use Rattle.mxf_klv.specs.Note.{end_of, head_note}
-use Rattle.mxf_klv.specs.Rising.{In, IsRising, with_one, same_from_members, In-with_one, IsRising-with_one}
-use Rattle.mxf_catalogue.specs.Content.{AreReduced, IsContent, has_note, reduced_with}
-use Rattle.mxf_catalogue.specs.Disputes.{IsClear, SharesByte, clear_notes}
+use Rattle.mxf_views.proofs.Common.{◌≡◌, ◌≢◌, ℕ, ◌+◌, ◌<◌, ◌≤◌, ◌⊎◌, Bool, true, false, List, [], ◌∷◌, Some, None, refl}
+use Rattle.mxf_views.proofs.Common.{sym, ap, subst, ◌∙◌, inl, inr, arith, leb-true, le-leb, eqb-true, eq-eqb, ◌↔◌, ◌||◌}
+use Rattle.mxf_views.proofs.Common.{◌==◌, nat_le, nat_lt, filter, find, map, max, nat_cmp-IsAntisymmetric, nat_cmp}
+use Rattle.mxf_views.proofs.Common.{ltb-true, lt-ltb, ltb-false, and_from, nat_cmp_total, NoteParts, end_of, head_note}
+use Rattle.mxf_views.proofs.Common.{In, IsRising, with_one, same_from_members, AreReduced, IsContent, has_note}
+use Rattle.mxf_views.proofs.Common.{reduced_with, IsClear, SharesByte, clear_notes, In-clear_notes, clear-alone}
+use Rattle.mxf_views.proofs.Common.{AreApart-clear_notes, AreApart-filter, IsHull, followed, is_outside, notes_at}
+use Rattle.mxf_views.proofs.Common.{offsets_where, In-filter, In-map, found-In, none_found, cases_lt}
+use Rattle.std.specs.Prelude.{min}
+use Rattle.mxf_klv.specs.Rising.{In-with_one, IsRising-with_one}
 use Rattle.mxf_catalogue.proofs.HeadLaws.{In-reduced_with, IsContent-reduced_with, same_note}
-use Rattle.mxf_catalogue.proofs.DisputeLaws.{In-clear_notes, clear-alone, clear_at-found, is_byte_shared-SharesByte, SharesByte-symmetric}
+use Rattle.mxf_catalogue.proofs.DisputeLaws.{clear_at-found, is_byte_shared-SharesByte, SharesByte-symmetric}
 use Rattle.mxf_catalogue.specs.NoteLists.{touching}
 use Rattle.mxf_catalogue.proofs.MovedLaws.{rising_apart}
 use Rattle.mxf_catalogue.proofs.PartLaws.{In-touching, with_whole}
-use Rattle.mxf_catalogue.proofs.SpanLaws.{AreApart-clear_notes, AreApart-filter}
-use Rattle.mxf_views.specs.Kept.{IsHull, followed, is_outside, notes_at, offsets_where, passes, stands_clear}
+use Rattle.mxf_views.specs.Kept.{passes, stands_clear}
 use Rattle.mxf_views.proofs.StartLaws.{clear_same}
-use Rattle.mxf_klv.proofs.Lists.{In-filter, In-map, all-filter, found-In, none_found}
 use Rattle.mxf_catalogue.specs.ReducedLaws.{rising-filter}
 
 -- ---- which notes are clear
@@ -88,20 +83,17 @@ clear_after x notes new n =
 ordered : (notes : List NoteParts) (m n : NoteParts) → IsClear m notes → IsClear n notes → (m ≡ n → ⊥)
     → m.offset < end_of n → end_of m ≤ n.offset
 ordered notes m n c d ne l =
-    elim (nat_lt n.offset (end_of m)) as (λ b. nat_lt n.offset (end_of m) ≡ b → end_of m ≤ n.offset) [
-      | true ↦ λ e. absurd (ne (clear_same notes m n c d (shares m n l (ltb-true n.offset (end_of m) e))))
-      | false ↦ λ e. ltb-false n.offset (end_of m) e
-    ] refl
+    elim (cases_lt n.offset (end_of m)) [
+      | inl g ↦ absurd (ne (clear_same notes m n c d (shares m n l g)))
+      | inr g ↦ g
+    ]
 
 -- A clear note that shares no byte with the new one lies outside.
 pub lies_outside : (x n : NoteParts) (notes : List NoteParts) (start end : ℕ) → IsHull x notes start end
     → IsClear n notes → (SharesByte x n → ⊥) → (end_of n ≤ start) ⊎ (end ≤ n.offset)
 lies_outside x n notes start end h c far =
-    elim (nat_lt x.offset (end_of n)) as (λ b. nat_lt x.offset (end_of n) ≡ b
-    → (end_of n ≤ start) ⊎ (end ≤ n.offset)) [
-      | false ↦ λ e. (
-          let low : end_of n ≤ x.offset = ltb-false x.offset (end_of n) e in
-          elim h.least [
+    elim (cases_lt x.offset (end_of n)) [
+      | inr low ↦ elim h.least [
             | inl q ↦ inl (omega (arith, q, low))
             | inr m ↦ (
                 let q : start ≡ m.0.offset = m.3 in
@@ -109,13 +101,12 @@ lies_outside x n notes start end h c far =
                 let other : n ≡ m.0 → ⊥ = λ s. far (subst (SharesByte x) (sym s) m.2) in
                 let o : end_of n ≤ m.0.offset = ordered notes n m.0 c m.1 other (omega (arith, l, low)) in
                 inl (omega (arith, q, o)))
-          ])
-      | true ↦ λ e. (
-          let high : end_of x ≤ n.offset =
-          elim (nat_lt n.offset (end_of x)) as (λ b. nat_lt n.offset (end_of x) ≡ b → end_of x ≤ n.offset) [
-            | true ↦ λ f. absurd (far (shares x n (ltb-true x.offset (end_of n) e) (ltb-true n.offset (end_of x) f)))
-            | false ↦ λ f. ltb-false n.offset (end_of x) f
-          ] refl in
+          ]
+      | inl e ↦ (
+          let high : end_of x ≤ n.offset = elim (cases_lt n.offset (end_of x)) [
+            | inl f ↦ absurd (far (shares x n e f))
+            | inr f ↦ f
+          ] in
           elim h.greatest [
             | inl q ↦ inr (omega (arith, q, high))
             | inr m ↦ (
@@ -125,7 +116,7 @@ lies_outside x n notes start end h c far =
                 let o : end_of m.0 ≤ n.offset = ordered notes m.0 n m.1 c other (omega (arith, l, high)) in
                 inr (omega (arith, q, o)))
           ])
-    ] refl
+    ]
 
 outside_by : (start end : ℕ) (n : NoteParts) → (end_of n ≤ start) ⊎ (end ≤ n.offset)
     → is_outside start end n.offset ≡ true
@@ -199,27 +190,19 @@ hull_with x notes start end m left h =
       ];
       members = λ n k. h.members n (inr k);
       least =
-          elim (nat_lt start m.offset) as (λ b. nat_lt start m.offset ≡ b → (min start m.offset ≡ x.offset)
-          ⊎ ((n : NoteParts) × IsClear n notes × SharesByte x n × (min start m.offset ≡ n.offset))) [
-            | true ↦ λ t. (
-                let l : start < m.offset = ltb-true start m.offset t in
+          elim (cases_lt start m.offset) [
+            | inl l ↦ (
                 let same : min start m.offset ≡ start = omega arith in
                 elim h.least [ inl e ↦ inl (same ∙ e) | inr n ↦ inr (n.0, n.1, n.2, same ∙ n.3) ])
-            | false ↦ λ t. (
-                let l : m.offset ≤ start = ltb-false start m.offset t in
-                let same : min start m.offset ≡ m.offset = omega arith in inr (m, own.0, own.1, same))
-          ] refl;
+            | inr l ↦ (let same : min start m.offset ≡ m.offset = omega arith in inr (m, own.0, own.1, same))
+          ];
       greatest =
-          elim (nat_lt end (end_of m)) as (λ b. nat_lt end (end_of m) ≡ b → (max end (end_of m) ≡ end_of x)
-          ⊎ ((n : NoteParts) × IsClear n notes × SharesByte x n × (max end (end_of m) ≡ end_of n))) [
-            | true ↦ λ t. (
-                let l : end < end_of m = ltb-true end (end_of m) t in
-                let same : max end (end_of m) ≡ end_of m = omega arith in inr (m, own.0, own.1, same))
-            | false ↦ λ t. (
-                let l : end_of m ≤ end = ltb-false end (end_of m) t in
+          elim (cases_lt end (end_of m)) [
+            | inl l ↦ (let same : max end (end_of m) ≡ end_of m = omega arith in inr (m, own.0, own.1, same))
+            | inr l ↦ (
                 let same : max end (end_of m) ≡ end = omega arith in
                 elim h.greatest [ inl e ↦ inl (same ∙ e) | inr n ↦ inr (n.0, n.1, n.2, same ∙ n.3) ])
-          ] refl;
+          ];
       low = let l : start ≤ x.offset = h.low in omega arith;
       high = let l : end_of x ≤ end = h.high in omega arith;
     }
@@ -258,6 +241,34 @@ offsets_rise test notes r =
     rising_apart 0 (filter test (clear_notes notes))
     (AreApart-filter test 0 (clear_notes notes) (AreApart-clear_notes notes r))
 
+-- The offsets after it are that of the new note, where that is clear and of the kind, and those outside.
+In-offsets_after : (test : NoteParts → Bool) (x : NoteParts) (notes : List NoteParts) (start end : ℕ)
+    → IsNew x notes → IsHull x notes start end → (o : ℕ) → In o (offsets_where test (reduced_with x notes))
+    ↔ ((IsClear x (reduced_with x notes) × (test x ≡ true) × (o ≡ x.offset))
+    ⊎ In o (filter (is_outside start end) (offsets_where test notes)))
+In-offsets_after test x notes start end new h o =
+    let kept = In-filter (is_outside start end) (offsets_where test notes) o in
+    let old = In-offsets test notes o in
+    let all = In-offsets test (reduced_with x notes) o in (
+      λ k.
+          let s = all.0 k in
+          elim ((clear_after x notes new s.0).0 s.1) [
+            | inl p ↦ inl (p.1, ap test (sym p.0) ∙ s.2, s.3 ∙ ap (λ (y : NoteParts). y.offset) p.0)
+            | inr q ↦ inr (kept.1 (
+              old.1 (s.0, q.0, s.2, s.3),
+              ap (is_outside start end) s.3 ∙ (outside_iff x s.0 notes start end h q.0).0 q.1,
+            ))
+          ],
+      λ k. elim k [
+        | inl e ↦ all.1 (x, e.0, e.1, e.2)
+        | inr i ↦ (
+            let b = kept.0 i in
+            let s = old.0 b.0 in
+            let out : is_outside start end s.0.offset ≡ true = ap (is_outside start end) (sym s.3) ∙ b.1 in
+            all.1 (s.0, (clear_after x notes new s.0).1 (inr (s.1, (outside_iff x s.0 notes start end h s.1).1 out)), s.2, s.3))
+      ],
+    )
+
 -- Where the new note is clear and of the kind, its offset joins those outside.
 pub offsets_with : (test : NoteParts → Bool) (x : NoteParts) (notes : List NoteParts) (start end : ℕ)
     → IsContent notes → IsNew x notes → IsHull x notes start end → IsClear x (reduced_with x notes)
@@ -272,26 +283,9 @@ offsets_with test x notes start end r new h clear kind =
     (IsRising-with_one nat_cmp_total nat_cmp-IsAntisymmetric x.offset before rising)
     (offsets_rise test (reduced_with x notes) (IsContent-reduced_with x notes r)) (λ o.
     let one = In-with_one nat_cmp_total nat_cmp-IsAntisymmetric o x.offset before in
-    let kept = In-filter (is_outside start end) (offsets_where test notes) o in
-    let old = In-offsets test notes o in
-    let all = In-offsets test (reduced_with x notes) o in (
-      λ k. elim (one.0 k) [
-        | inl e ↦ all.1 (x, clear, kind, e)
-        | inr i ↦ (
-            let b = kept.0 i in
-            let s = old.0 b.0 in
-            let out : is_outside start end s.0.offset ≡ true = ap (is_outside start end) (sym s.3) ∙ b.1 in
-            all.1 (s.0, (clear_after x notes new s.0).1 (inr (s.1, (outside_iff x s.0 notes start end h s.1).1 out)), s.2, s.3))
-      ],
-      λ k.
-          let s = all.0 k in
-          elim ((clear_after x notes new s.0).0 s.1) [
-            | inl p ↦ one.1 (inl (s.3 ∙ ap (λ (y : NoteParts). y.offset) p.0))
-            | inr q ↦ one.1 (inr (kept.1 (
-              old.1 (s.0, q.0, s.2, s.3),
-              ap (is_outside start end) s.3 ∙ (outside_iff x s.0 notes start end h q.0).0 q.1,
-            )))
-          ],
+    let after = In-offsets_after test x notes start end new h o in (
+      λ k. after.1 (elim (one.0 k) [ inl e ↦ inl (clear, kind, e) | inr i ↦ inr i ]),
+      λ k. one.1 (elim (after.0 k) [ inl e ↦ inl e.2 | inr i ↦ inr i ]),
     ))
 
 -- Else those outside are all.
@@ -300,28 +294,12 @@ pub offsets_without : (test : NoteParts → Bool) (x : NoteParts) (notes : List 
     → (IsClear x (reduced_with x notes) → test x ≡ true → ⊥)
     → filter (is_outside start end) (offsets_where test notes) ≡ offsets_where test (reduced_with x notes)
 offsets_without test x notes start end r new h none =
-    let before = filter (is_outside start end) (offsets_where test notes) in
-    same_from_members nat_cmp_total nat_cmp-IsAntisymmetric before (offsets_where test (reduced_with x notes))
+    same_from_members nat_cmp_total nat_cmp-IsAntisymmetric (filter (is_outside start end) (offsets_where test notes))
+    (offsets_where test (reduced_with x notes))
     (rising-filter nat_cmp (is_outside start end) (offsets_where test notes) (offsets_rise test notes r))
     (offsets_rise test (reduced_with x notes) (IsContent-reduced_with x notes r)) (λ o.
-    let kept = In-filter (is_outside start end) (offsets_where test notes) o in
-    let old = In-offsets test notes o in
-    let all = In-offsets test (reduced_with x notes) o in (
-      λ i.
-          let b = kept.0 i in
-          let s = old.0 b.0 in
-          let out : is_outside start end s.0.offset ≡ true = ap (is_outside start end) (sym s.3) ∙ b.1 in
-          all.1 (s.0, (clear_after x notes new s.0).1 (inr (s.1, (outside_iff x s.0 notes start end h s.1).1 out)), s.2, s.3),
-      λ k.
-          let s = all.0 k in
-          elim ((clear_after x notes new s.0).0 s.1) [
-            | inl p ↦ absurd (none p.1 (ap test (sym p.0) ∙ s.2))
-            | inr q ↦ kept.1 (
-              old.1 (s.0, q.0, s.2, s.3),
-              ap (is_outside start end) s.3 ∙ (outside_iff x s.0 notes start end h q.0).0 q.1,
-            )
-          ],
-    ))
+    let after = In-offsets_after test x notes start end new h o in
+    (λ i. after.1 (inr i), λ k. elim (after.0 k) [ inl e ↦ absurd (none e.0 e.1) | inr i ↦ i ]))
 
 -- So they are what follows an arrival.
 pub offsets_follow : (test : NoteParts → Bool) (x : NoteParts) (notes : List NoteParts) (start end : ℕ)

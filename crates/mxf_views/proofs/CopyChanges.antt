@@ -1,23 +1,13 @@
 -- What leaves a copy of the header metadata as it is.
-use Rattle.std.proofs.Common.{◌≡◌, ℕ, ◌+◌, ◌<◌, ◌≤◌, ◌⊎◌, true, List, Some, None, sym, ap}
-use Rattle.std.proofs.Common.{◌∙◌, inl, inr, arith, leb-true}
-use Rattle.std.specs.Prelude.{◌↔◌, ◌==◌, count_by}
-use Rattle.mxf_klv.specs.Parts.{NoteParts}
-use Rattle.mxf_klv.specs.Note.{end_of}
-use Rattle.mxf_klv.specs.Rising.{In}
-use Rattle.mxf_catalogue.specs.Content.{IsContent, reduced_with}
-use Rattle.mxf_catalogue.specs.Disputes.{IsClear, SharesByte, clear_notes, lies_in}
-use Rattle.mxf_catalogue.proofs.ContentLaws.{same_content}
-use Rattle.mxf_catalogue.proofs.DisputeLaws.{In-clear_notes, IsContent-clear_notes, IsContent-filter}
-use Rattle.mxf_views.specs.Partitions.{PartitionParts}
-use Rattle.mxf_views.specs.Copies.{IsStart, copy_from, copy_of, is_fill_note, is_preface_note}
-use Rattle.mxf_views.specs.Copies.{is_readable_primer, start_of, zone_of}
-use Rattle.mxf_views.specs.Spans.{sizes}
+use Rattle.mxf_views.proofs.Common.{◌≡◌, ℕ, ◌+◌, ◌<◌, ◌≤◌, ◌⊎◌, true, List, Some, None, sym, ap, ◌∙◌, inl, inr, arith}
+use Rattle.mxf_views.proofs.Common.{leb-true, ◌↔◌, ◌==◌, count_by, NoteParts, end_of, In, IsContent, reduced_with}
+use Rattle.mxf_views.proofs.Common.{IsClear, SharesByte, clear_notes, lies_in, same_content, In-clear_notes}
+use Rattle.mxf_views.proofs.Common.{IsContent-clear_notes, PartitionParts, IsStart, copy_from, copy_of, is_fill_note}
+use Rattle.mxf_views.proofs.Common.{is_preface_note, is_readable_primer, start_of, zone_of, sizes, In-filter, and_parts}
+use Rattle.mxf_catalogue.proofs.DisputeLaws.{IsContent-filter}
 use Rattle.mxf_views.proofs.StartLaws.{fill_note, primer_note, start_is}
 use Rattle.mxf_views.proofs.ClearChanges.{IsNew, clear_after}
 use Rattle.mxf_views.proofs.StartWalk.{none_there}
-use Rattle.mxf_klv.proofs.Lists.{In-filter}
-use Rattle.std.proofs.lemmas.Bool.{and_parts}
 
 -- The clear notes that have a byte from one offset up to another are the same among both.
 abbrev pub SameClear : ℕ → ℕ → List NoteParts → List NoteParts → Type 0

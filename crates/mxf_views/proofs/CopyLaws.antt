@@ -1,36 +1,25 @@
 -- Copies of the header metadata and their sets.
-use Rattle.std.proofs.Common.{◌≡◌, ℕ, suc, ◌+◌, ◌<◌, ◌≤◌, true, false, cond, List, [], ◌∷◌, Option, Some, None}
-use Rattle.std.proofs.Common.{length, inl, inr, refl, sym, ap, subst, ◌∙◌, arith, eqb-true, eq-eqb, leb-true, le-leb}
-use Rattle.std.specs.Prelude.{◌↔◌, ◌==◌, nat_le, IsTrue, count_by, filter, find, map}
-use Rattle.std.specs.List.{range_with_len, AllByRecursion}
-use Rattle.std.proofs.lemmas.Bool.{ltb-true, lt-ltb, and_from, and_parts}
+use Rattle.mxf_views.proofs.Common.{◌≡◌, ℕ, suc, ◌+◌, ◌<◌, ◌≤◌, true, List, [], ◌∷◌, Option, Some, None, length, inl}
+use Rattle.mxf_views.proofs.Common.{inr, refl, sym, ap, subst, ◌∙◌, arith, eqb-true, eq-eqb, leb-true, le-leb, ◌↔◌}
+use Rattle.mxf_views.proofs.Common.{◌==◌, nat_le, count_by, filter, find, range_with_len, ltb-true, lt-ltb, and_from}
+use Rattle.mxf_views.proofs.Common.{and_parts, NoteParts, end_of, kind_of, In, IsContent, AreApart, IsClear}
+use Rattle.mxf_views.proofs.Common.{clear_notes, In-clear_notes, AreApart-clear_notes, AreApart-filter, CopyInfo}
+use Rattle.mxf_views.proofs.Common.{PartitionParts, partitions_of, IsCopy, copies_of, copy_from, prefaces_of, copy_of}
+use Rattle.mxf_views.proofs.Common.{covered_of, has_metadata, is_preface_note, is_set_note, CopiesRise, sets_found}
+use Rattle.mxf_views.proofs.Common.{sets_from, sets_of, start_of, zone_of, is_in_one, lies_in, In-filter, In-map}
+use Rattle.mxf_views.proofs.Common.{found-In, none_found, same_bool}
 use Rattle.std.proofs.lemmas.List.Sums.{length-filter}
-use Rattle.mxf_klv.specs.Parts.{NoteParts}
-use Rattle.mxf_klv.specs.Note.{end_of}
-use Rattle.mxf_klv.specs.Kind.{kind_of}
-use Rattle.mxf_klv.specs.declared.kinds.Kind.TheVariants as kinds
-use Rattle.mxf_klv.specs.Rising.{In}
-use Rattle.mxf_catalogue.specs.Content.{IsContent}
-use Rattle.mxf_catalogue.specs.Disputes.{AreApart, IsClear, clear_notes}
-use Rattle.mxf_catalogue.proofs.DisputeLaws.{In-clear_notes}
-use Rattle.mxf_catalogue.proofs.SpanLaws.{AreApart-clear_notes, AreApart-filter}
-use Rattle.mxf_views.specs.declared.copy.CopyInfo.{CopyInfo}
-use Rattle.mxf_views.specs.Partitions.{AreInOrder, PartitionParts, partitions_of}
-use Rattle.mxf_views.specs.Copies.{AreSoMany, CountsZone, IsCopy, IsCopyOf, IsPrefaceIn, IsSetKind, IsSetOf}
-use Rattle.mxf_views.specs.Copies.{IsStartFound, copies_of, copy_from, prefaces_of}
-use Rattle.mxf_views.specs.Copies.{copy_of, covered_of, has_metadata, is_preface_note, is_set_note}
-use Rattle.mxf_views.specs.Copies.{CopiesRise, sets_found, sets_from, sets_in, sets_of, start_of, zone_of}
-use Rattle.mxf_views.specs.Spans.{is_in_one}
-use Rattle.mxf_catalogue.specs.Disputes.{lies_in}
+use Rattle.mxf_views.specs.Copies.{AreSoMany, CountsZone, IsCopyOf, IsPrefaceIn, IsSetKind, IsSetOf, IsStartFound}
+use Rattle.mxf_views.specs.Copies.{sets_in}
 use Rattle.mxf_views.proofs.KindLaws.{preface_kind, set_kind}
 use Rattle.mxf_views.proofs.PartitionLaws.{one_there, partitions_rise}
 use Rattle.mxf_views.proofs.SpanCounts.{zone-count}
 use Rattle.mxf_views.proofs.StartLaws.{one_start, start_is}
 use Rattle.mxf_catalogue.proofs.ApartLaws.{begins_above}
-use Rattle.mxf_klv.proofs.Lists.{In-filter, In-map, found-In, none_found}
-use Rattle.mxf_klv.proofs.Tests.{equals_itself, same_bool}
+use Rattle.mxf_klv.proofs.Tests.{equals_itself}
 use Rattle.mxf_klv.proofs.RisingBy.{rises-map, rises-filter}
 use Rattle.mxf_views.proofs.Rising.{by_offset, by_partition}
+use Rattle.mxf_klv.specs.declared.kinds.Kind.TheVariants as kinds
 
 -- ---- Prefaces
 

@@ -1,17 +1,13 @@
 -- Copies that rise, searched for that of a partition.
-use Rattle.std.proofs.Common.{◌≡◌, ℕ, ◌<◌, ◌≤◌, List, [], ◌∷◌, Some, None, sym, ap, ◌∙◌, inl, inr, arith, eqb-true, eq-eqb, get_or, length, Err}
-use Rattle.std.specs.Prelude.{◌==◌, find}
+use Rattle.mxf_views.proofs.Common.{◌≡◌, ℕ, ◌<◌, ◌≤◌, List, Some, None, sym, ap, ◌∙◌, inl, inr, arith, eqb-true, eq-eqb}
+use Rattle.mxf_views.proofs.Common.{get_or, length, Err, ◌==◌, find, IsNonDecreasingBy, nat_cmp, Less, Equal, Greater}
+use Rattle.mxf_views.proofs.Common.{cases_order, In, CopyInfo, CopiesRise, find-none, find-only, Contains-from_In}
+use Rattle.mxf_views.proofs.Common.{In-at}
 use Rattle.std.specs.List.{HoldsAt}
-use Rattle.std.specs.List.Sorted.{IsBinarySearchResult, IsNonDecreasingBy}
-use Rattle.std.specs.Ordering.{nat_cmp, ordering_index}
-use Rattle.std.specs.declared.cmp.Ordering.TheVariants.{Less, Equal, Greater}
-use Rattle.std.proofs.lemmas.Bool.{cases_order}
+use Rattle.std.specs.List.Sorted.{IsBinarySearchResult}
+use Rattle.std.specs.Ordering.{ordering_index}
 use Rattle.std.proofs.lemmas.Bool.Decides.{nat_tests}
 use Rattle.std.proofs.lemmas.Cmp.{ranked}
-use Rattle.mxf_klv.specs.Rising.{In}
-use Rattle.mxf_views.specs.declared.copy.CopyInfo.{CopyInfo}
-use Rattle.mxf_views.specs.Copies.{CopiesRise}
-use Rattle.mxf_klv.proofs.Lists.{find-none, find-only, Contains-from_In, In-at}
 use Rattle.mxf_klv.proofs.RisingBy.{one_by_key}
 use Rattle.mxf_views.proofs.Rising.{by_partition, partitions_never_fall}
 

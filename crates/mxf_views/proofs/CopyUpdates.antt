@@ -1,32 +1,25 @@
 -- The copies of the header metadata once a note was added: those elsewhere are counted anew where they may have changed.
-use Rattle.std.proofs.Common.{◌≡◌, ◌≢◌, ℕ, zero, suc, get_or, length, ◌+◌, ◌-◌, ◌<◌, ◌≤◌, ◌⊎◌, Bool, true, false, cond, List, [], ◌∷◌, Option, Some, None, refl}
-use Rattle.std.proofs.Common.{sym, ap, subst, ◌∙◌, inl, inr, arith, eqb-true, eq-eqb}
-use Rattle.std.specs.Prelude.{◌↔◌, ◌&&◌, ◌||◌, ◌==◌, nat_lt, find, filter, map, if◌then◌else◌}
-use Rattle.std.specs.List.{AllByRecursion, AllWithin, cons_option, filter_map, insert}
-use Rattle.std.specs.List.Sorted.{IsNonDecreasingBy}
-use Rattle.std.specs.Option.{option_and_then, option_map}
-use Rattle.std.proofs.lemmas.Bool.{ltb-true, lt-ltb, ltb-false, and_cases, false_from_ne_true, and_parts}
-use Rattle.mxf_klv.specs.Parts.{NoteParts}
-use Rattle.mxf_klv.specs.Kind.{kind_of}
-use Rattle.mxf_klv.specs.Note.{end_of}
-use Rattle.mxf_klv.specs.Rising.{In, SameMembers}
-use Rattle.mxf_catalogue.specs.Content.{IsContent, reduced_with}
-use Rattle.mxf_catalogue.specs.Disputes.{IsClear, SharesByte, clear_notes}
+use Rattle.mxf_views.proofs.Common.{◌≡◌, ◌≢◌, ℕ, zero, suc, length, ◌+◌, ◌-◌, ◌<◌, ◌≤◌, ◌⊎◌, Bool, true, false, cond}
+use Rattle.mxf_views.proofs.Common.{List, [], ◌∷◌, Option, Some, None, refl, sym, ap, subst, ◌∙◌, inl, inr, arith}
+use Rattle.mxf_views.proofs.Common.{eqb-true, eq-eqb, ◌↔◌, ◌||◌, ◌==◌, nat_lt, find, filter, map, if◌then◌else◌}
+use Rattle.mxf_views.proofs.Common.{AllWithin, cons_option, filter_map, insert, option_and_then, option_map, ltb-true}
+use Rattle.mxf_views.proofs.Common.{lt-ltb, ltb-false, false_from_ne_true, and_parts, NoteParts, kind_of, end_of, In}
+use Rattle.mxf_views.proofs.Common.{IsContent, reduced_with, IsClear, SharesByte, clear_notes, In-clear_notes}
+use Rattle.mxf_views.proofs.Common.{clear-alone, CopyInfo, CopiesRise, copies_of, copy_from, copy_of, has_metadata}
+use Rattle.mxf_views.proofs.Common.{is_fill, is_fill_note, is_primer, is_readable_primer, start_of, IsHull}
+use Rattle.mxf_views.proofs.Common.{copies_followed, copy_by, has_some_metadata, states_metadata, is_outside, renewed}
+use Rattle.mxf_views.proofs.Common.{with_copy, PartitionParts, pack_of, partition_at, partitions_of, In-filter, In-map}
+use Rattle.mxf_views.proofs.Common.{find-only, found-In, none_found, all-In, all_from_In}
+use Rattle.std.proofs.lemmas.Bool.{and_cases}
+use Rattle.mxf_klv.specs.Rising.{SameMembers}
 use Rattle.mxf_catalogue.proofs.HeadLaws.{IsContent-reduced_with}
-use Rattle.mxf_catalogue.proofs.DisputeLaws.{In-clear_notes, SharesByte-same_offset, clear-alone}
-use Rattle.mxf_views.specs.declared.copy.CopyInfo.{CopyInfo}
-use Rattle.mxf_views.specs.Copies.{CopiesRise, copies_of, copy_from, copy_of, has_metadata, is_fill, is_fill_note}
-use Rattle.mxf_views.specs.Copies.{is_primer, is_readable_primer, start_of}
-use Rattle.mxf_views.specs.Kept.{IsHull, can_bring_start, copies_followed, copy_by, has_some_metadata, states_metadata, is_outside, may_change, or_itself, renewed, with_copy, with_found}
-use Rattle.mxf_views.specs.Partitions.{PartitionParts, pack_of, partition_at, partitions_of}
+use Rattle.mxf_catalogue.proofs.DisputeLaws.{SharesByte-same_offset}
+use Rattle.mxf_views.specs.Kept.{can_bring_start, may_change, or_itself, with_found}
 use Rattle.mxf_views.proofs.ClearChanges.{In-with_new, IsNew, clear_after, new_is_none, no_head, outside_iff}
 use Rattle.mxf_views.proofs.CopyChanges.{copy_stays, no_copy_stays, same_clear}
 use Rattle.mxf_views.proofs.CopyLaws.{copies_rise, copy_there}
 use Rattle.mxf_views.proofs.PartitionLaws.{offset-partition_at}
 use Rattle.mxf_views.proofs.PartitionSearch.{copy_found, has_copy, is_there, of_note, of_partition, one_partition}
-use Rattle.mxf_klv.proofs.Lists.{In-filter, In-map, all-filter, find-only, found-In, none_found, In-at, all-In}
-use Rattle.mxf_klv.proofs.Lists.{all_from_In}
-use Rattle.mxf_klv.proofs.Tests.{by_places}
 use Rattle.mxf_klv.proofs.RisingBy.{rises-map, rises-filter, same_by_members}
 use Rattle.mxf_views.proofs.Rising.{by_partition}
 

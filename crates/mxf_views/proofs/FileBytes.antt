@@ -1,16 +1,13 @@
 -- The bytes of a well-formed file are read as its packets.
-use Rattle.std.specs.Prelude.{◌≡◌, ℕ, ◌+◌, ◌≤◌, List, [], ◌∷◌, ◌++◌, length, take, Ok, refl}
-use Rattle.std.specs.List.{AllByRecursion}
-use Rattle.std.proofs.Common.{ap, subst, arith}
+use Rattle.mxf_views.proofs.Common.{◌≡◌, ℕ, ◌+◌, ◌≤◌, List, [], ◌∷◌, ◌++◌, length, take, Ok, refl, AllByRecursion, ap}
+use Rattle.mxf_views.proofs.Common.{subst, arith, greatest_end, IsPacket, size_of, PacketParts, IsWellFormed}
 use Rattle.std.proofs.lemmas.List.{length-append, take_at}
 use Rattle.mxf_klv.specs.Ber.{length_bytes}
-use Rattle.mxf_klv.specs.Note.{greatest_end}
-use Rattle.mxf_klv.specs.Packet.{IsPacket, IsSpelledPacket, ReadsPacket, packet_bytes, size_of}
-use Rattle.mxf_klv.specs.Parts.{PacketParts}
+use Rattle.mxf_klv.specs.Packet.{IsSpelledPacket, ReadsPacket, packet_bytes}
 use Rattle.mxf_klv.specs.Piece.{AreLaid, BeginsWithNone, IsPiece, end_after}
 use Rattle.mxf_klv.proofs.LengthLemmas.{spelled_len}
 use Rattle.mxf_klv.proofs.RoundTrips.{length_bytes-spelled}
-use Rattle.mxf_views.specs.WellFormed.{IsWellFormed, file_bytes}
+use Rattle.mxf_views.specs.WellFormed.{file_bytes}
 
 -- Packets are read as they are written.
 abbrev pub ReadsBack : Type 0

@@ -1,14 +1,8 @@
 -- Findings by their definition.
-use Rattle.std.proofs.Common.{ℕ, List}
-use Rattle.std.specs.Prelude.{◌↔◌}
-use Rattle.mxf_klv.specs.Parts.{NoteParts}
-use Rattle.mxf_klv.specs.Rising.{In}
-use Rattle.mxf_catalogue.specs.Content.{IsContent}
-use Rattle.mxf_views.specs.declared.finding.Code.{Code}
-use Rattle.mxf_views.specs.declared.finding.Code.TheVariants.{F01, F02, F03, F04, F05, F06, F07}
-use Rattle.mxf_views.specs.declared.finding.Code.TheVariants.{F08, F09, F10, F11, F12, F13, F14}
-use Rattle.mxf_views.specs.declared.finding.Finding.{Finding}
-use Rattle.mxf_views.specs.Findings.{findings_of, offsets_for}
+use Rattle.mxf_views.proofs.Common.{ℕ, List, ◌↔◌, NoteParts, In, IsContent, Code, F01, F02, F03, F04, F05, F06, F07}
+use Rattle.mxf_views.proofs.Common.{F08, F09, F10, F11, F12, F13, Finding, findings_of}
+use Rattle.mxf_views.specs.declared.finding.Code.TheVariants.{F14}
+use Rattle.mxf_views.specs.Findings.{offsets_for}
 use Rattle.mxf_views.specs.FindingCauses.{IsFinding, IsFoundAt}
 use Rattle.mxf_views.proofs.CauseLaws.{gap_starts, lost_footers, misplaced_partitions, open_footers, overlaps}
 use Rattle.mxf_views.proofs.CauseLaws.{shared_offsets, unlinked_partitions, unreadable_packs}

@@ -1,14 +1,11 @@
 -- Which findings there are: those of each code, and no others.
-use Rattle.std.proofs.Common.{◌≡◌, ℕ, zero, suc, ◌-◌, ◌⊎◌, Bool, List, [], ◌∷◌, refl, sym, subst, get_or, inl, inr}
-use Rattle.std.specs.Prelude.{◌↔◌, IsTrue, flat_map, filter, map}
-use Rattle.mxf_klv.specs.Parts.{NoteParts}
-use Rattle.mxf_klv.specs.Rising.{In, IsRising, IsRising-union, In-union}
-use Rattle.mxf_views.specs.declared.finding.Code.{Code}
-use Rattle.mxf_views.specs.declared.finding.Code.TheVariants.{F01}
-use Rattle.mxf_views.specs.declared.finding.Finding.{Finding}
-use Rattle.mxf_views.specs.Codes.{all_codes, code_number, finding, finding_cmp, finding_cmp-IsAntisymmetric, finding_total, numbered_back}
-use Rattle.mxf_views.specs.Findings.{findings_for, findings_of, offsets_for}
-use Rattle.mxf_klv.proofs.Lists.{In-flat_map, at_place, In-append, In-filter, In-map}
+use Rattle.mxf_views.proofs.Common.{◌-◌, List, [], refl, sym, subst, inl, inr, ◌↔◌, NoteParts, In, IsRising}
+use Rattle.mxf_views.proofs.Common.{IsRising-union, In-union, Code, F01, Finding, finding, finding_cmp, findings_for}
+use Rattle.mxf_views.proofs.Common.{findings_of, In-map}
+use Rattle.std.specs.Prelude.{flat_map}
+use Rattle.mxf_views.specs.Codes.{all_codes, code_number, finding_cmp-IsAntisymmetric, finding_total, numbered_back}
+use Rattle.mxf_views.specs.Findings.{offsets_for}
+use Rattle.mxf_klv.proofs.Lists.{In-flat_map, at_place}
 
 -- Each code stands at the place of its number.
 held : (code : Code) → In code all_codes

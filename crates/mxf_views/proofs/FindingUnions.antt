@@ -1,21 +1,18 @@
 -- Findings that are collected cause by cause, and then put in order.
-use Rattle.std.proofs.Common.{◌≡◌, ℕ, List, [], ◌∷◌, ◌++◌, ◌∙◌, refl, sym, subst, ap, map, inl, inr, Result, Ok, Err}
-use Rattle.std.specs.Prelude.{OnOk, true}
+use Rattle.mxf_views.proofs.Common.{◌≡◌, ℕ, List, [], ◌∷◌, ◌++◌, ◌∙◌, refl, sym, subst, ap, map, inl, inr, true}
+use Rattle.mxf_views.proofs.Common.{Ordering, Less, Equal, Greater, append_assoc, IsRising}
+use Rattle.mxf_views.proofs.Common.{In-union, IsRising-union, same_from_members, union, Code, Finding, finding}
+use Rattle.mxf_views.proofs.Common.{finding_cmp, Contains-from_In}
 use Rattle.std.specs.List.{dedup}
 use Rattle.std.specs.List.Retain.{DiffersFromLast, IsFiltered}
 use Rattle.std.proofs.lemmas.List.Filters.{dedup_is}
 use Rattle.std.specs.List.Sorted.{IsPermutation, IsSorted, IsStrictlySortedBy}
 use Rattle.std.specs.Ordering.{eq_by_cmp, is_eq}
-use Rattle.std.specs.declared.cmp.Ordering.{Ordering}
-use Rattle.std.specs.declared.cmp.Ordering.TheVariants.{Less, Equal, Greater}
-use Rattle.std.proofs.lemmas.List.{append_assoc, map-append}
+use Rattle.std.proofs.lemmas.List.{map-append}
 use Rattle.std.proofs.lemmas.List.Kept.{Contains-dedup, Contains-from_dedup, IsStrictlySortedBy-dedup}
 use Rattle.std.proofs.lemmas.List.Sorted.{Contains-permutation, IsPermutation-sym}
-use Rattle.mxf_klv.specs.Rising.{IsRising, In-union, IsRising-union, same_from_members, union}
-use Rattle.mxf_views.specs.declared.finding.Code.{Code}
-use Rattle.mxf_views.specs.declared.finding.Finding.{Finding}
-use Rattle.mxf_views.specs.Codes.{finding, finding_cmp, finding_cmp-IsAntisymmetric, finding_equiv, finding_total}
-use Rattle.mxf_klv.proofs.Lists.{Contains-from_In, In-from_Contains}
+use Rattle.mxf_views.specs.Codes.{finding_cmp-IsAntisymmetric, finding_equiv, finding_total}
+use Rattle.mxf_klv.proofs.Lists.{In-from_Contains}
 
 -- two lists of offsets of one code
 pub then-offsets : (code : Code) (fs : List Finding) (xs ys : List ℕ)

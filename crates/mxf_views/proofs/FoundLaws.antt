@@ -1,34 +1,23 @@
 -- Sets found by their instance identifiers, and what references lead to.
-use Rattle.std.proofs.Common.{◌≡◌, ◌≢◌, ℕ, ◌≤◌, Bool, true, false, List, [], ◌∷◌, Result, Ok, Err, refl}
-use Rattle.std.proofs.Common.{sym, ap, subst, ◌∙◌, inl, inr, arith}
-use Rattle.std.specs.Prelude.{◌↔◌, ◌&&◌, IsTrue, not, if◌then◌else◌, filter}
-use Rattle.std.proofs.lemmas.Slice.Eq.{bytes_eq-Decides}
-use Rattle.mxf_klv.specs.declared.kinds.Kind.{Kind}
-use Rattle.mxf_klv.specs.declared.kinds.Kind.TheVariants as kinds
-use Rattle.mxf_klv.specs.Parts.{NoteParts}
-use Rattle.mxf_klv.specs.Note.{end_of, keeps_value}
-use Rattle.mxf_klv.specs.Kind.{kind_of}
-use Rattle.mxf_klv.specs.Rising.{In}
+use Rattle.mxf_views.proofs.Common.{◌≡◌, ℕ, Bool, true, false, List, [], ◌∷◌, Result, Ok, Err, refl, ap, subst, ◌∙◌}
+use Rattle.mxf_views.proofs.Common.{inl, inr, ◌↔◌, ◌&&◌, not, if◌then◌else◌, filter, bytes_eq-Decides, Kind, NoteParts}
+use Rattle.mxf_views.proofs.Common.{keeps_value, kind_of, In, storage_at, AreApart, AreApart-filter, Wanted, Storage}
+use Rattle.mxf_views.proofs.Common.{Identification, Package, found_among, has_uid, sets_of, fits, target_among}
+use Rattle.mxf_views.proofs.Common.{target_at, target_of, In-filter, and_from, false_from_ne_true, and_parts}
+use Rattle.std.specs.Prelude.{IsTrue}
 use Rattle.mxf_sets.specs.declared.record.FieldFault.{FieldFault}
 use Rattle.mxf_sets.specs.Instance.{instance_uid_at}
-use Rattle.mxf_sets.specs.Storage.{storage_at}
 use Rattle.mxf_sets.specs.Identification.{identification_at}
 use Rattle.mxf_sets.specs.Package.{package_at}
-use Rattle.mxf_catalogue.specs.Disputes.{AreApart}
-use Rattle.mxf_catalogue.proofs.SpanLaws.{AreApart-filter}
 use Rattle.mxf_views.specs.declared.reference.Found.{Found}
 use Rattle.mxf_views.specs.declared.reference.Found.TheVariants.{Absent, One, Several}
-use Rattle.mxf_views.specs.declared.reference.target.Wanted.{Wanted}
-use Rattle.mxf_views.specs.declared.reference.target.Wanted.TheVariants.{Storage, Identification, Package}
 use Rattle.mxf_views.specs.declared.reference.target.Target.{Target}
-use Rattle.mxf_views.specs.declared.reference.target.Target.TheVariants as targets
-use Rattle.mxf_views.specs.References.{HasUid, IsFound, IsOnlyWith, IsSeveral, found_among, has_uid, reads_uid}
-use Rattle.mxf_views.specs.Copies.{sets_of}
-use Rattle.mxf_views.specs.Targets.{IsReadableAs, IsTarget, IsWanted, fits, is_readable, target_among, target_at}
-use Rattle.mxf_views.specs.Targets.{target_of}
+use Rattle.mxf_views.specs.References.{HasUid, IsFound, IsOnlyWith, IsSeveral, reads_uid}
+use Rattle.mxf_views.specs.Targets.{IsReadableAs, IsTarget, IsWanted, is_readable}
 use Rattle.mxf_views.proofs.ReadingLaws.{ok_readable}
-use Rattle.mxf_klv.proofs.Lists.{In-filter}
-use Rattle.std.proofs.lemmas.Bool.{and_from, false_from_ne_true, and_parts}
+use Rattle.mxf_catalogue.proofs.ApartLaws.{later_differs, picked_none, picked_one, picked_several}
+use Rattle.mxf_klv.specs.declared.kinds.Kind.TheVariants as kinds
+use Rattle.mxf_views.specs.declared.reference.target.Target.TheVariants as targets
 
 reads_says : (uid : List ℕ) (r : Result (List ℕ) FieldFault) → reads_uid uid r ≡ true → r ≡ Ok uid
 reads_says uid (Ok own) h = ap (λ (x : List ℕ). Ok x) ((bytes_eq-Decides own uid).0 h)
@@ -60,39 +49,20 @@ picks sets uid n = let f = In-filter (has_uid uid) sets n in (
   λ s. f.1 (s.0, (has_uid_iff uid n).1 s.1),
 )
 
-pub later_differs : (m n : NoteParts) (ws : List NoteParts) → AreApart 0 (m ∷ n ∷ ws) → m ≢ n
-later_differs m n ws a e =
-    let l : end_of m ≤ n.offset = a.1.0 in
-    let o : m.offset ≡ n.offset = ap (λ (x : NoteParts). x.offset) e in
-    omega (arith, l, o)
-
 none_of : (sets : List NoteParts) (uid : List ℕ) (ws : List NoteParts) → Picks sets uid ws → IsFound sets uid Absent
     → ws ≡ []
-none_of sets uid [] w f = refl
-none_of sets uid (n ∷ ws) w f = let s = (w n).0 (inl refl) in absurd (f n s.0 s.1)
+none_of sets uid ws w f = picked_none (λ n. In n sets × HasUid uid n) ws w (λ n h. f n h.0 h.1)
 
 pub only_of : (sets : List NoteParts) (uid : List ℕ) (ws : List NoteParts) → Picks sets uid ws → AreApart 0 ws
     → (n : NoteParts) → IsOnlyWith sets uid n → ws ≡ n ∷ []
-only_of sets uid [] w a n o = absurd ((w n).1 (o.held, o.has))
-only_of sets uid (x ∷ []) w a n o = let s = (w x).0 (inl refl) in ap (λ (y : NoteParts). y ∷ []) (o.only x s.0 s.1)
-only_of sets uid (x ∷ y ∷ ws) w a n o =
-    let s = (w x).0 (inl refl) in
-    let t = (w y).0 (inr (inl refl)) in
-    absurd (later_differs x y ws a (o.only x s.0 s.1 ∙ sym (o.only y t.0 t.1)))
+only_of sets uid ws w a n o =
+    picked_one (λ m. In m sets × HasUid uid m) ws w a n (o.held, o.has) (λ m h. o.only m h.0 h.1)
 
 several_of : (sets : List NoteParts) (uid : List ℕ) (ws : List NoteParts) → Picks sets uid ws → IsSeveral sets uid
     → (x : NoteParts) × (y : NoteParts) × (rest : List NoteParts) × (ws ≡ x ∷ y ∷ rest)
-several_of sets uid [] w s = absurd ((w s.one).1 (s.one_held, s.one_has))
-several_of sets uid (x ∷ []) w s =
-    elim ((w s.one).1 (s.one_held, s.one_has)) [
-      | inl e ↦ elim ((w s.other).1 (s.other_held, s.other_has)) [
-        | inl f ↦ absurd (s.differ (e
-            ∙ sym f))
-        | inr k ↦ absurd k
-      ]
-      | inr k ↦ absurd k
-    ]
-several_of sets uid (x ∷ y ∷ rest) w s = (x, y, rest, refl)
+several_of sets uid ws w s =
+    picked_several (λ n. In n sets × HasUid uid n) ws w s.one s.other (s.one_held, s.one_has)
+    (s.other_held, s.other_has) s.differ
 
 pub only_from : (sets : List NoteParts) (uid : List ℕ) (n : NoteParts) → Picks sets uid (n ∷ []) → IsOnlyWith sets uid n
 only_from sets uid n w =

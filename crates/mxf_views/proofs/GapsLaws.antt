@@ -1,19 +1,14 @@
 -- The gaps of a content are its maximal ranges of offsets that no note covers.
-use Rattle.std.proofs.Common.{◌≡◌, ℕ, ◌+◌, ◌-◌, ◌^◌, ◌<◌, ◌≤◌, ◌⊎◌, true, false, List, [], ◌∷◌, refl, ap, subst, length}
-use Rattle.std.proofs.Common.{inl, inr, arith}
-use Rattle.std.specs.Prelude.{◌↔◌, max, cond, nat_lt}
-use Rattle.std.proofs.lemmas.Bool.{ltb-true, ltb-false}
-use Rattle.mxf_klv.specs.Parts.{NoteParts}
-use Rattle.mxf_klv.specs.Note.{IsCovered, IsNote, covered_end, end_of, greatest_end}
+use Rattle.mxf_views.proofs.Common.{◌≡◌, ℕ, ◌+◌, ◌-◌, ◌^◌, ◌<◌, ◌≤◌, ◌⊎◌, true, false, List, [], ◌∷◌, refl, ap, subst}
+use Rattle.mxf_views.proofs.Common.{length, inl, inr, arith, ◌↔◌, max, cond, nat_lt, ltb-true, ltb-false, NoteParts}
+use Rattle.mxf_views.proofs.Common.{IsNote, end_of, greatest_end, In, less_in, IsCatalogue, IsContent, Run, gaps_of}
+use Rattle.mxf_views.proofs.Common.{LiesIn, AreMaximal, all-In}
+use Rattle.mxf_klv.specs.Note.{IsCovered, covered_end}
 use Rattle.mxf_klv.specs.NoteOrder.{note_total}
-use Rattle.mxf_klv.specs.Rising.{In, less_in}
-use Rattle.mxf_catalogue.specs.Content.{IsCatalogue, IsContent}
 use Rattle.mxf_catalogue.proofs.SpanLaws.{offset_le}
-use Rattle.mxf_catalogue.specs.declared.run.Run.{Run}
-use Rattle.mxf_views.specs.Gaps.{gaps_from, gaps_of, AreGaps}
-use Rattle.mxf_catalogue.specs.Runs.{IsWithin, LiesIn, AreMaximal}
+use Rattle.mxf_views.specs.Gaps.{gaps_from, AreGaps}
+use Rattle.mxf_catalogue.specs.Runs.{IsWithin}
 use Rattle.mxf_catalogue.proofs.RunLaws.{AreMaximal-lower}
-use Rattle.mxf_klv.proofs.Lists.{all-In}
 
 -- a note covers its first byte, and nothing above its end
 pub covers_first : (n : NoteParts) → n.offset + 1 ≤ covered_end n

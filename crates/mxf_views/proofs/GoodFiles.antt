@@ -1,31 +1,17 @@
 -- Further small files that are well-formed.
-use Rattle.std.specs.Prelude.{◌≡◌, ℕ, ◌-◌, ◌*◌, ◌==◌, List, [], ◌∷◌, Some, None, cond, refl}
-use Rattle.std.specs.Prelude.{if◌then◌else◌, unsigned_abs, drop, take}
-use Rattle.std.specs.Option.{option_map}
-use Rattle.std.specs.List.{AllByRecursion, list_any}
-use Rattle.std.proofs.Common.{Bool, true, false, sym, ◌∙◌, subst, arith}
-use Rattle.mxf_klv.specs.declared.kinds.Status.TheVariants.{OpenIncomplete, ClosedComplete}
-use Rattle.mxf_klv.specs.Packet.{IsPacket}
-use Rattle.mxf_klv.specs.Parts.{PacketParts}
-use Rattle.mxf_sets.specs.Items.{item_at, items_of, left_of}
-use Rattle.mxf_sets.specs.RandomIndexPack.{entries_of}
-use Rattle.mxf_sets.specs.declared.pack.part.PackPart.TheVariants.{Header, Footer}
-use Rattle.mxf_sets.specs.Offset.{covers_constant, covers_entry, entry_offset, stream_offset}
-use Rattle.mxf_sets.specs.Segment.{SegmentParts, is_constant}
-use Rattle.mxf_views.specs.Places.{SegmentAtParts}
-use Rattle.mxf_views.specs.Reading.{place_by_segment, segments_read, partitions_read}
-use Rattle.mxf_views.specs.Records.{read_pack, read_rip, read_segment}
-use Rattle.mxf_views.specs.WellFormed.{Agree, EndsWithFooter, IsWellFormed}
-use Rattle.mxf_views.specs.WorkedFiles.{agreeing_file, bare_file, constant, fill, filled_file, m_file, numbers}
-use Rattle.mxf_views.specs.WorkedFiles.{open_file, pack, pack_of, preface, primer, segment, twice_filled_file, two_entries}
-use Rattle.mxf_views.specs.declared.index.place.Place.{Place}
-use Rattle.mxf_views.specs.declared.index.place.Place.TheVariants.{At}
-use Rattle.mxf_views.proofs.SmallFiles.{footer_behind, is_pack_kind}
-use Rattle.mxf_views.proofs.SmallFiles.{metadata_after, no_headers, rip_last, are_packets}
-use Rattle.mxf_klv.proofs.Lists.{all-In}
-use Rattle.mxf_klv.proofs.Tests.{none_some}
-use Rattle.std.proofs.lemmas.Option.{same_Some}
-use Rattle.mxf_klv.specs.Kind.{kind_of}
+use Rattle.mxf_views.proofs.Common.{◌≡◌, ℕ, ◌-◌, ◌==◌, List, [], ◌∷◌, Some, None, cond, refl, if◌then◌else◌, drop, take}
+use Rattle.mxf_views.proofs.Common.{option_map, AllByRecursion, list_any, Bool, true, false, sym, ◌∙◌, subst, arith}
+use Rattle.mxf_views.proofs.Common.{OpenIncomplete, ClosedComplete, PacketParts, item_at, items_of, left_of, entries_of}
+use Rattle.mxf_views.proofs.Common.{Header, Footer, stream_offset, SegmentParts, SegmentAtParts, place_by_segment}
+use Rattle.mxf_views.proofs.Common.{segments_read, partitions_read, read_pack, read_rip, read_segment, Agree}
+use Rattle.mxf_views.proofs.Common.{EndsWithFooter, IsWellFormed, numbers, pack, Place, At, all-In, none_some}
+use Rattle.mxf_views.proofs.Common.{same_Some, kind_of}
+use Rattle.std.specs.Prelude.{◌*◌, unsigned_abs}
+use Rattle.mxf_sets.specs.Offset.{covers_constant, covers_entry, entry_offset}
+use Rattle.mxf_sets.specs.Segment.{is_constant}
+use Rattle.mxf_views.specs.WorkedFiles.{agreeing_file, bare_file, constant, fill, filled_file, m_file, open_file}
+use Rattle.mxf_views.specs.WorkedFiles.{segment, twice_filled_file, two_entries}
+use Rattle.mxf_views.proofs.SmallFiles.{footer_behind, is_pack_kind, metadata_after, no_headers, rip_last, are_packets}
 
 pub bare_footer : (after : List PacketParts) → list_any (λ p. is_pack_kind (kind_of p.key)) after ≡ false
     → EndsWithFooter (bare_file after)

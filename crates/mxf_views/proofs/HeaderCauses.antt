@@ -1,44 +1,33 @@
 -- The causes of findings of the header metadata are met at the offsets that are found of them, and at no others.
-use Rattle.std.proofs.Common.{◌≡◌, ◌≢◌, ℕ, ◌⊎◌, Bool, true, false, List, [], ◌∷◌, Option, Some, None}
-use Rattle.std.proofs.Common.{refl, sym, ap, subst, ◌∙◌, inl, inr, arith, eqb-true, eq-eqb, length}
-use Rattle.std.specs.Prelude.{◌↔◌, ◌&&◌, ◌||◌, ◌==◌, not, is_none, is_some, filter, map, if◌then◌else◌}
-use Rattle.mxf_klv.specs.declared.kinds.Kind.{Kind}
-use Rattle.mxf_klv.specs.declared.kinds.Kind.TheVariants as kinds
-use Rattle.mxf_klv.specs.Parts.{NoteParts}
-use Rattle.mxf_klv.specs.Note.{keeps_value}
-use Rattle.mxf_klv.specs.Kind.{kind_of}
-use Rattle.mxf_klv.specs.Rising.{In}
-use Rattle.mxf_sets.specs.PackReadings.{primer_at}
-use Rattle.mxf_sets.specs.Items.{items_of, left_of}
+use Rattle.mxf_views.proofs.Common.{◌≡◌, ◌≢◌, ℕ, ◌⊎◌, Bool, true, false, List, [], Option, Some, None, refl, sym, ap}
+use Rattle.mxf_views.proofs.Common.{subst, ◌∙◌, inl, inr, eqb-true, eq-eqb, length, ◌↔◌, ◌&&◌, ◌||◌, ◌==◌, not, is_some}
+use Rattle.mxf_views.proofs.Common.{filter, map, if◌then◌else◌, Kind, NoteParts, keeps_value, kind_of, In, primer_at}
+use Rattle.mxf_views.proofs.Common.{items_of, left_of, storage_at, segment_at, IsContent, clear_notes, CopyInfo, IsCopy}
+use Rattle.mxf_views.proofs.Common.{copies_of, is_primer, resolved_of, lost_at, is_segment, AtClear, IsReadable}
+use Rattle.mxf_views.proofs.Common.{In-append, not-true-false, not_true, either, or_cases, and_from, false_from_ne_true}
+use Rattle.mxf_views.proofs.Common.{and_parts}
+use Rattle.std.specs.Prelude.{is_none}
 use Rattle.mxf_sets.specs.Preface.{preface_at}
 use Rattle.mxf_sets.specs.Identification.{identification_at}
-use Rattle.mxf_sets.specs.Storage.{storage_at}
 use Rattle.mxf_sets.specs.Package.{package_at}
-use Rattle.mxf_sets.specs.Segment.{segment_at}
-use Rattle.mxf_catalogue.specs.Content.{IsContent}
-use Rattle.mxf_catalogue.specs.Disputes.{clear_notes}
-use Rattle.mxf_views.specs.declared.copy.CopyInfo.{CopyInfo}
 use Rattle.mxf_views.specs.declared.reference.target.Ref.{Ref}
 use Rattle.mxf_views.specs.declared.reference.target.Target.{Target}
 use Rattle.mxf_views.specs.declared.reference.target.Target.TheVariants.{Found, Missing, Several, WrongKind, Unreadable}
-use Rattle.mxf_views.specs.Copies.{IsCopy, copies_of, is_primer, is_set}
+use Rattle.mxf_views.specs.Copies.{is_set}
 use Rattle.mxf_views.specs.SetItems.{whole_items}
-use Rattle.mxf_views.specs.Resolved.{ResolvedParts, resolved_of}
-use Rattle.mxf_views.specs.Findings.{is_found, is_partial, is_unreadable_segment}
-use Rattle.mxf_views.specs.Findings.{is_unreadable_set, lost_at, lost_behind, lost_beside, lost_by, lost_in}
-use Rattle.mxf_views.specs.Findings.{reads_value}
-use Rattle.mxf_views.specs.Places.{is_segment}
-use Rattle.mxf_views.specs.FindingCauses.{AtClear, Holds, HoldsLost, IsMetadataKind, IsReadableSet}
-use Rattle.mxf_views.specs.Readings.{IsReadable}
+use Rattle.mxf_views.specs.Resolved.{ResolvedParts}
+use Rattle.mxf_views.specs.Findings.{is_found, is_partial, is_unreadable_segment, is_unreadable_set, lost_behind}
+use Rattle.mxf_views.specs.Findings.{lost_beside, lost_by, lost_in, reads_value}
+use Rattle.mxf_views.specs.FindingCauses.{Holds, HoldsLost, IsMetadataKind, IsReadableSet}
 use Rattle.mxf_views.proofs.CauseLaws.{at_clear}
 use Rattle.mxf_views.proofs.CopyLaws.{copies_are}
 use Rattle.mxf_views.proofs.KindLaws.{primer_kind, segment_kind, set_kind}
 use Rattle.mxf_views.proofs.ReadingLaws.{ok_readable}
 use Rattle.mxf_views.proofs.ResolvedLaws.{resolved_iff}
-use Rattle.mxf_klv.proofs.Lists.{In-append, In-chosen}
-use Rattle.mxf_klv.proofs.Tests.{none_says, not-true-false, not_true, either}
-use Rattle.std.proofs.lemmas.Bool.{or_cases, and_from, false_from_ne_true, and_parts}
+use Rattle.mxf_klv.proofs.Lists.{In-chosen}
+use Rattle.mxf_klv.proofs.Tests.{none_says}
 use Rattle.std.proofs.lemmas.List.{nil_from_length}
+use Rattle.mxf_klv.specs.declared.kinds.Kind.TheVariants as kinds
 
 -- ---- copies
 

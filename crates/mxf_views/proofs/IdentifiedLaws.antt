@@ -1,32 +1,26 @@
 -- Sets gathered, sorted and searched by their identifiers.
-use Rattle.std.proofs.Common.{◌≡◌, ℕ, zero, suc, ◌+◌, ◌<◌, ◌≤◌, Bool, true, false, cond, List, [], ◌∷◌, Ok, Err, Some, None, refl}
-use Rattle.std.proofs.Common.{sym, ap, subst, ◌∙◌, inl, inr, arith, get_or, length}
-use Rattle.std.specs.Prelude.{◌&&◌, count_by, filter, if◌then◌else◌, map}
-use Rattle.std.specs.List.{AllWithin, cons_option, filter_map}
-use Rattle.std.specs.List.Sorted.{IsNonDecreasingBy, IsPartitionedBy, IsPermutation}
+use Rattle.mxf_views.proofs.Common.{◌≡◌, ℕ, zero, suc, ◌+◌, ◌<◌, ◌≤◌, Bool, true, false, cond, List, [], ◌∷◌, Ok, Err}
+use Rattle.mxf_views.proofs.Common.{Some, None, refl, sym, ap, subst, ◌∙◌, inl, inr, arith, get_or, length, ◌&&◌}
+use Rattle.mxf_views.proofs.Common.{count_by, filter, if◌then◌else◌, map, AllWithin, cons_option, filter_map}
+use Rattle.mxf_views.proofs.Common.{IsNonDecreasingBy, nat_cmp-IsAntisymmetric, option_map, result_ok, nat_cmp}
+use Rattle.mxf_views.proofs.Common.{Ordering, Less, Equal, Greater, false_from_ne_true, tied_itself, bytes_eq-Decides}
+use Rattle.mxf_views.proofs.Common.{NoteParts, keeps_value, In, found_among, has_uid, count_by-cons, tally, In-filter}
+use Rattle.mxf_views.proofs.Common.{Contains-from_In, eqb-true, eq-eqb, cases_lt}
+use Rattle.std.specs.List.Sorted.{IsPartitionedBy, IsPermutation}
 use Rattle.std.specs.Cmp.Lexicographic.{lists_agrees, nat_list_cmp_total, slice_cmp, slice_partial_cmp}
-use Rattle.std.specs.FinSet.{nat_cmp-IsAntisymmetric, slice_cmp-IsAntisymmetric}
-use Rattle.std.specs.Option.{option_map}
-use Rattle.std.specs.Result.{result_ok}
+use Rattle.std.specs.FinSet.{slice_cmp-IsAntisymmetric}
 use Rattle.std.specs.Str.{bytes_eq}
-use Rattle.std.specs.Ordering.{is_lt, is_some_and, nat_cmp, ordering_index}
-use Rattle.std.specs.declared.cmp.Ordering.{Ordering}
-use Rattle.std.specs.declared.cmp.Ordering.TheVariants.{Less, Equal, Greater}
-use Rattle.std.proofs.lemmas.Bool.{cases_lt, false_from_ne_true}
-use Rattle.std.proofs.lemmas.Cmp.{tied_itself}
+use Rattle.std.specs.Ordering.{is_lt, is_some_and, ordering_index}
 use Rattle.std.proofs.lemmas.List.Sorted.{Contains-permutation, searchable_from_sorted, sum_by-IsPermutation}
-use Rattle.std.proofs.lemmas.Slice.Eq.{bytes_eq-Decides}
-use Rattle.mxf_klv.specs.Parts.{NoteParts}
-use Rattle.mxf_klv.specs.Note.{keeps_value}
-use Rattle.mxf_klv.specs.Rising.{In}
 use Rattle.mxf_sets.specs.Instance.{instance_uid_at}
 use Rattle.mxf_views.specs.declared.reference.Found.{Found}
 use Rattle.mxf_views.specs.declared.reference.Found.TheVariants.{Absent, One, Several}
 use Rattle.mxf_views.specs.declared.reference.identified.Identified.{Identified}
 use Rattle.mxf_views.specs.Identified.{AreByUid, AreSorted, found_at, is_below, is_of, with_uid}
-use Rattle.mxf_views.specs.References.{found_among, has_uid, reads_uid}
-use Rattle.mxf_klv.proofs.Counts.{count_by-cons, tally}
-use Rattle.mxf_klv.proofs.Lists.{In-filter, Contains-from_In, In-from_Contains}
+use Rattle.mxf_views.specs.References.{reads_uid}
+use Rattle.mxf_klv.proofs.Lists.{In-from_Contains}
+use Rattle.std.proofs.lemmas.Cmp.{is_lt_index}
+use Rattle.std.proofs.lemmas.List.Sums.{length-filter}
 
 -- ---- one identifier among sorted sets
 
@@ -59,21 +53,13 @@ module _ (uid : List ℕ) where
       → IsNonDecreasingBy (λ (e : Identified). ordering_index (slice_cmp nat_cmp e.uid uid)) es
   comparisons es s = searchable_from_sorted nat_list_cmp_total (λ (e : Identified). e.uid) es uid s
 
-  least : (o : Ordering) → is_lt o ≡ true → ordering_index o ≡ 0
-  least Less e = refl
-  least Equal e = absurd cc
-  least Greater e = absurd cc
-
-  is_least : (o : Ordering) → ordering_index o ≡ 0 → is_lt o ≡ true
-  is_least Less e = refl
-  is_least Equal e = absurd cc
-  is_least Greater e = absurd cc
-
   pub parted : (es : List Identified) → AreSorted es → IsPartitionedBy (is_below uid) es
   parted es s i j d l h t =
       let m = comparisons es s i j d l h in
-      let z = least (slice_cmp nat_cmp (get_or es j d).uid uid) t in
-      is_least (slice_cmp nat_cmp (get_or es i d).uid uid) (omega (arith, m, z))
+      let last = slice_cmp nat_cmp (get_or es j d).uid uid in
+      let first = slice_cmp nat_cmp (get_or es i d).uid uid in
+      let z = eqb-true (ordering_index last) 0 (sym (is_lt_index last) ∙ t) in
+      is_lt_index first ∙ eq-eqb (ordering_index first) 0 (omega (arith, m, z))
 
   -- Behind one that stands above none has it.
   pub none_behind : (es : List Identified) (i k : ℕ) (d : Identified) → AreSorted es
@@ -223,16 +209,6 @@ found_gathered uid sets = ap found_at (same_offsets uid sets) ∙ same_among (fi
 
 -- ---- in another order
 
-count_is_length : (test : Identified → Bool) (es : List Identified) → length (filter test es) ≡ count_by test es
-count_is_length test [] = refl
-count_is_length test (e ∷ es) =
-    let ih = count_is_length test es in
-    let c = count_by-cons test e es in
-    elim (test e) as (λ b. test e ≡ b → length (cond b (e ∷ filter test es) (filter test es)) ≡ count_by test (e ∷ es)) [
-      | true ↦ λ t. (let z : tally (test e) ≡ 1 = ap tally t in omega (arith, ih, c, z))
-      | false ↦ λ t. (let z : tally (test e) ≡ 0 = ap tally t in omega (arith, ih, c, z))
-    ] refl
-
 as_many : (ds es : List Identified) → length ds ≡ length es → ((e : Identified) → In e ds → In e es)
     → found_at (map (λ (e : Identified). e.offset) ds) ≡ found_at (map (λ (e : Identified). e.offset) es)
 as_many [] [] l f = refl
@@ -249,8 +225,8 @@ as_many (d ∷ c ∷ ds) (e ∷ g ∷ es) l f = refl
 found_permuted : (uid : List ℕ) (ds es : List Identified) → IsPermutation ds es → found_by uid ds ≡ found_by uid es
 found_permuted uid ds es p =
     let test = is_of uid in
-    let many : length (filter test ds) ≡ length (filter test es) = count_is_length test ds
-    ∙ sym (sum_by-IsPermutation (λ (e : Identified). cond (test e) 1 0) ds es p) ∙ sym (count_is_length test es) in
+    let many : length (filter test ds) ≡ length (filter test es) = length-filter test ds
+    ∙ sym (sum_by-IsPermutation (λ (e : Identified). cond (test e) 1 0) ds es p) ∙ sym (length-filter test es) in
     as_many (filter test ds) (filter test es) many (λ e h.
     let f = (In-filter test ds e).0 h in
     (In-filter test es e).1 (In-from_Contains e es (Contains-permutation ds es e p (Contains-from_In e ds f.0)), f.1))

@@ -1,34 +1,22 @@
 -- The cause of a finding of a random index pack is met at the offsets that are found of it, and at no others.
-use Rattle.std.proofs.Common.{◌≡◌, ℕ, ◌⊎◌, Bool, true, false, List, [], ◌∷◌, Some, None, refl, sym}
-use Rattle.std.proofs.Common.{ap, subst, ◌∙◌, inl, inr, eqb-true, eq-eqb, map}
-use Rattle.std.specs.Prelude.{◌↔◌, ◌&&◌, ◌||◌, ◌==◌, nat_lt, not, filter, if◌then◌else◌}
-use Rattle.std.proofs.lemmas.Bool.{ltb-true, lt-ltb, or_cases, and_from, and_parts}
-use Rattle.mxf_klv.specs.declared.kinds.Kind.TheVariants as kinds
-use Rattle.mxf_klv.specs.Parts.{NoteParts}
-use Rattle.mxf_klv.specs.Note.{end_of}
-use Rattle.mxf_klv.specs.Kind.{kind_of}
-use Rattle.mxf_klv.specs.Rising.{In}
-use Rattle.mxf_sets.specs.declared.pack.random_index.RipEntry.{RipEntry}
-use Rattle.mxf_sets.specs.RandomIndexPack.{RipParts}
-use Rattle.mxf_sets.specs.PackReadings.{rip_at}
-use Rattle.mxf_catalogue.specs.Content.{IsContent}
-use Rattle.mxf_catalogue.specs.Disputes.{IsClear, clear_notes}
-use Rattle.mxf_catalogue.proofs.DisputeLaws.{In-clear_notes, clear-alone}
+use Rattle.mxf_views.proofs.Common.{◌≡◌, ℕ, ◌⊎◌, Bool, true, false, List, [], ◌∷◌, Some, None, refl, sym, ap, subst}
+use Rattle.mxf_views.proofs.Common.{◌∙◌, inl, inr, eqb-true, eq-eqb, map, ◌↔◌, ◌&&◌, ◌||◌, ◌==◌, nat_lt, not, filter}
+use Rattle.mxf_views.proofs.Common.{if◌then◌else◌, ltb-true, lt-ltb, or_cases, and_from, and_parts, NoteParts, end_of}
+use Rattle.mxf_views.proofs.Common.{kind_of, In, RipEntry, RipParts, rip_at, IsContent, IsClear, clear_notes}
+use Rattle.mxf_views.proofs.Common.{In-clear_notes, clear-alone, Whole, Broken, PartitionParts, chain_of, partitions_of}
+use Rattle.mxf_views.proofs.Common.{has_other_rip, is_unfit_rip, is_rip_note, rip_in, AtClear, IsReadable, IsReadAs}
+use Rattle.mxf_views.proofs.Common.{list_any-In, not-true-false, not_true, either}
 use Rattle.mxf_views.specs.declared.chain.Chain.{Chain}
-use Rattle.mxf_views.specs.declared.chain.Chain.TheVariants.{Whole, Broken}
-use Rattle.mxf_views.specs.Partitions.{HangTogether, PartitionParts, chain_of, partitions_of}
-use Rattle.mxf_views.specs.Findings.{are_entries_of, ends_above, has_other_rip, is_broken, is_index_of}
-use Rattle.mxf_views.specs.Findings.{is_unfit_rip}
-use Rattle.mxf_views.specs.RandomIndex.{is_rip_note, rip_in}
-use Rattle.mxf_views.specs.FindingCauses.{AtClear, HasOther, IsNotLast, ListsOthers, entry_of}
-use Rattle.mxf_views.specs.Readings.{IsReadable, IsReadAs}
+use Rattle.mxf_views.specs.Partitions.{HangTogether}
+use Rattle.mxf_views.specs.Findings.{are_entries_of, ends_above, is_broken, is_index_of}
+use Rattle.mxf_views.specs.FindingCauses.{HasOther, IsNotLast, ListsOthers, entry_of}
 use Rattle.mxf_views.proofs.CauseLaws.{at_clear}
 use Rattle.mxf_views.proofs.ReadingLaws.{reads}
 use Rattle.mxf_views.proofs.ChainLaws.{chain_iff}
 use Rattle.mxf_views.proofs.KindLaws.{rip_kind}
-use Rattle.mxf_klv.proofs.Lists.{list_any-In}
-use Rattle.mxf_klv.proofs.Tests.{not-true-false, not_true, either, not_equal}
+use Rattle.mxf_klv.proofs.Tests.{not_equal}
 use Rattle.mxf_sets.proofs.RipLaws.{same_entry}
+use Rattle.mxf_klv.specs.declared.kinds.Kind.TheVariants as kinds
 
 rip_note_says : (n : NoteParts) → (is_rip_note n ≡ true) ↔ (kind_of n.key ≡ kinds.Rip)
 unfolding is_rip_note

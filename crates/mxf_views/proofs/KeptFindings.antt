@@ -1,12 +1,6 @@
 -- What the kept notes of a kind say of all clear notes.
-use Rattle.std.proofs.Common.{◌≡◌, ℕ, suc, arith, Bool, length, map, true, false, cond, List, [], ◌∷◌, refl, ap}
-use Rattle.std.specs.Prelude.{◌&&◌, ◌||◌, ◌==◌, filter, not}
-use Rattle.std.specs.List.{list_all, list_any}
-use Rattle.std.proofs.lemmas.Bool.{eqb-true, false_from_ne_true}
-use Rattle.mxf_klv.specs.Parts.{NoteParts}
-use Rattle.mxf_catalogue.specs.Disputes.{clear_notes}
-use Rattle.mxf_views.specs.Findings.{has_other_rip, is_unfit_rip}
-use Rattle.mxf_views.specs.RandomIndex.{is_rip_note, rips_of}
+use Rattle.mxf_views.proofs.Common.{◌≡◌, List, ◌==◌, filter, not, list_any, NoteParts, clear_notes, has_other_rip}
+use Rattle.mxf_views.proofs.Common.{is_unfit_rip, is_rip_note, rips_of}
 use Rattle.mxf_klv.proofs.Lists.{any_of_both, kept_of_both}
 
 pub other_among_rips : (notes : List NoteParts) (n : NoteParts)

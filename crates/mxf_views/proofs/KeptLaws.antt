@@ -1,18 +1,13 @@
 -- What is kept of a content, and what an addition makes of it.
-use Rattle.std.proofs.Common.{◌≡◌, ℕ, Bool, List, [], refl, sym, ap, ◌∙◌}
-use Rattle.mxf_klv.specs.Parts.{NoteParts}
-use Rattle.mxf_catalogue.specs.Content.{IsContent, reduced_with}
-use Rattle.mxf_catalogue.specs.Disputes.{clear_notes}
-use Rattle.mxf_views.specs.declared.copy.CopyInfo.{CopyInfo}
-use Rattle.mxf_views.specs.declared.kept.offsets.Placed.TheVariants as kinds
-use Rattle.mxf_views.specs.Copies.{copies_of}
-use Rattle.mxf_views.specs.Kept.{IsHull, KeptParts, kept_of, can_bring_start, copies_followed, followed, is_placed, notes_at, offsets_where, reaches_of, stands_clear}
-use Rattle.mxf_views.specs.Partitions.{partition_at, partitions_among, partitions_of}
-use Rattle.mxf_views.specs.Places.{placed_segment, segments_among, segments_of}
-use Rattle.mxf_views.specs.RandomIndex.{rips_of}
+use Rattle.mxf_views.proofs.Common.{◌≡◌, ℕ, Bool, List, [], refl, sym, ap, ◌∙◌, NoteParts, IsContent, reduced_with}
+use Rattle.mxf_views.proofs.Common.{clear_notes, CopyInfo, copies_of, IsHull, KeptParts, copies_followed, followed}
+use Rattle.mxf_views.proofs.Common.{is_placed, notes_at, offsets_where, reaches_of, partition_at, partitions_among}
+use Rattle.mxf_views.proofs.Common.{partitions_of, placed_segment, segments_among, segments_of, rips_of}
+use Rattle.mxf_views.specs.Kept.{kept_of, can_bring_start, stands_clear}
 use Rattle.mxf_views.proofs.ClearChanges.{IsNew, notes_at_offsets, offsets_follow}
 use Rattle.mxf_views.proofs.CopyUpdates.{copies_follow}
 use Rattle.mxf_klv.proofs.Lists.{filter_map_some}
+use Rattle.mxf_views.specs.declared.kept.offsets.Placed.TheVariants as kinds
 
 abbrev pub the_kept : List ℕ → List ℕ → List ℕ → List ℕ → List CopyInfo → KeptParts
 the_kept ps ss rs us cs =

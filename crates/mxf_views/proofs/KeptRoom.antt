@@ -1,32 +1,24 @@
 -- How much room is wanted for what is kept of two contents.
-use Rattle.std.proofs.Common.{Ok, Err, ◌≡◌, ◌≤◌, ◌+◌, ◌⊎◌, ℕ, Bool, true, false, cond, List, [], ◌∷◌, refl, sym, ap, subst, ◌∙◌, inl, inr, arith, length}
-use Rattle.std.specs.Prelude.{count_by, filter, not}
-use Rattle.std.proofs.lemmas.List.{length-map}
+use Rattle.mxf_views.proofs.Common.{Ok, Err, ◌≡◌, ◌≤◌, ◌+◌, ◌⊎◌, ℕ, Bool, true, false, cond, List, [], ◌∷◌, refl, sym}
+use Rattle.mxf_views.proofs.Common.{ap, subst, ◌∙◌, inl, inr, arith, length, count_by, filter, length-map, NoteParts}
+use Rattle.mxf_views.proofs.Common.{In, less_in, AreReduced, IsContent, has_note, union_of, head_note, IsClear}
+use Rattle.mxf_views.proofs.Common.{SharesByte, clear_notes, In-clear_notes, IsContent-clear_notes, copies_of, OnOk}
+use Rattle.mxf_views.proofs.Common.{Result, vec_capacity, vec_len, KeptParts, is_placed, offsets_where, states_metadata}
+use Rattle.mxf_views.proofs.Common.{count_by-cons, tally, In-filter}
 use Rattle.mxf_klv.specs.NoteOrder.{note_total}
-use Rattle.mxf_klv.specs.Parts.{NoteParts}
-use Rattle.mxf_klv.specs.Rising.{In, less_in}
-use Rattle.mxf_catalogue.specs.Content.{AreReduced, IsContent, has_note, reduced_union, union_of}
-use Rattle.mxf_catalogue.specs.Reduced.{is_told}
-use Rattle.mxf_klv.specs.Note.{head_note, note_cmp}
-use Rattle.mxf_catalogue.proofs.HeadLaws.{IsContent-reduced_union, has-reduced_union, reduced_union-is, same_note}
+use Rattle.mxf_catalogue.specs.Content.{reduced_union}
+use Rattle.mxf_catalogue.proofs.HeadLaws.{IsContent-reduced_union, has-reduced_union, same_note}
 use Rattle.mxf_catalogue.proofs.PartLaws.{with_whole}
-use Rattle.mxf_catalogue.specs.Disputes.{IsClear, SharesByte, clear_notes}
 use Rattle.mxf_catalogue.proofs.ContentLaws.{In-union_of, IsContent-union_of}
-use Rattle.mxf_catalogue.proofs.DisputeLaws.{In-clear_notes, IsContent-clear_notes, IsContent-filter}
+use Rattle.mxf_catalogue.proofs.DisputeLaws.{IsContent-filter}
 use Rattle.mxf_catalogue.proofs.MergeLaws.{length-union_of}
 use Rattle.mxf_catalogue.proofs.SpanLaws.{not_same}
-use Rattle.mxf_views.specs.Copies.{copies_of}
-use Rattle.std.specs.Prelude.{OnOk}
-use Rattle.std.specs.declared.result.Result.{Result}
-use Rattle.std.specs.Vec.{vec_capacity, vec_len}
 use Rattle.mxf_views.specs.declared.kept.Kept.{Kept}
-use Rattle.mxf_views.specs.declared.kept.offsets.Placed.TheVariants as kinds
-use Rattle.mxf_views.specs.Kept.{HasRoom, KeptParts, is_placed, kept_in, kept_of, offsets_where, states_metadata}
+use Rattle.mxf_views.specs.Kept.{HasRoom, kept_in, kept_of}
 use Rattle.mxf_views.proofs.CopyUpdates.{length-copies_of}
 use Rattle.mxf_views.proofs.ClearChanges.{no_head}
 use Rattle.mxf_views.proofs.ReachLaws.{length-reaches_from}
-use Rattle.mxf_klv.proofs.Counts.{count_by-cons, tally}
-use Rattle.mxf_klv.proofs.Lists.{In-filter}
+use Rattle.mxf_views.specs.declared.kept.offsets.Placed.TheVariants as kinds
 
 -- A content that has no notes but those of another is no longer.
 sub_length : (xs ys : List NoteParts) → IsContent xs → IsContent ys → ((n : NoteParts) → In n xs → In n ys)

@@ -1,47 +1,28 @@
 -- What the tests of kinds say.
-use Rattle.std.proofs.Common.{◌≡◌, true, refl, ap}
-use Rattle.std.specs.Prelude.{◌↔◌}
-use Rattle.mxf_klv.specs.declared.kinds.Kind.{Kind}
+use Rattle.mxf_views.proofs.Common.{◌≡◌, true, refl, ap, ◌↔◌, Kind, is_fill, is_primer, is_segment, is_rip}
+use Rattle.mxf_views.specs.Copies.{IsSetKind, is_preface, is_set, preface, identification, storage, material_package}
+use Rattle.mxf_views.specs.Copies.{source_package, raw_set}
 use Rattle.mxf_klv.specs.declared.kinds.Kind.TheVariants as kinds
-use Rattle.mxf_views.specs.Copies.{IsSetKind, is_fill, is_preface, is_primer, is_set}
-use Rattle.mxf_views.specs.Copies.{preface, identification, storage, material_package, source_package, raw_set}
-use Rattle.mxf_views.specs.Places.{is_segment}
-use Rattle.mxf_views.specs.RandomIndex.{is_rip}
-
-fill_says : (k : Kind) → is_fill k ≡ true → k ≡ kinds.Fill
-fill_says kinds.Fill e = refl
-fill_says _ e = absurd cc
 
 pub fill_kind : (k : Kind) → (is_fill k ≡ true) ↔ (k ≡ kinds.Fill)
-fill_kind k = (fill_says k, λ e. ap is_fill e)
-
-primer_says : (k : Kind) → is_primer k ≡ true → k ≡ kinds.Primer
-primer_says kinds.Primer e = refl
-primer_says _ e = absurd cc
+fill_kind kinds.Fill = (λ e. refl, λ e. refl)
+fill_kind _ = (λ e. absurd cc, λ e. absurd cc)
 
 pub primer_kind : (k : Kind) → (is_primer k ≡ true) ↔ (k ≡ kinds.Primer)
-primer_kind k = (primer_says k, λ e. ap is_primer e)
-
-preface_says : (k : Kind) → is_preface k ≡ true → k ≡ kinds.Preface
-preface_says kinds.Preface e = refl
-preface_says _ e = absurd cc
+primer_kind kinds.Primer = (λ e. refl, λ e. refl)
+primer_kind _ = (λ e. absurd cc, λ e. absurd cc)
 
 pub preface_kind : (k : Kind) → (is_preface k ≡ true) ↔ (k ≡ kinds.Preface)
-preface_kind k = (preface_says k, λ e. ap is_preface e)
-
-segment_says : (k : Kind) → is_segment k ≡ true → k ≡ kinds.Segment
-segment_says kinds.Segment e = refl
-segment_says _ e = absurd cc
+preface_kind kinds.Preface = (λ e. refl, λ e. refl)
+preface_kind _ = (λ e. absurd cc, λ e. absurd cc)
 
 pub segment_kind : (k : Kind) → (is_segment k ≡ true) ↔ (k ≡ kinds.Segment)
-segment_kind k = (segment_says k, λ e. ap is_segment e)
-
-rip_says : (k : Kind) → is_rip k ≡ true → k ≡ kinds.Rip
-rip_says kinds.Rip e = refl
-rip_says _ e = absurd cc
+segment_kind kinds.Segment = (λ e. refl, λ e. refl)
+segment_kind _ = (λ e. absurd cc, λ e. absurd cc)
 
 pub rip_kind : (k : Kind) → (is_rip k ≡ true) ↔ (k ≡ kinds.Rip)
-rip_kind k = (rip_says k, λ e. ap is_rip e)
+rip_kind kinds.Rip = (λ e. refl, λ e. refl)
+rip_kind _ = (λ e. absurd cc, λ e. absurd cc)
 
 set_says : (k : Kind) → is_set k ≡ true → IsSetKind k
 set_says kinds.Preface e = preface refl

@@ -1,33 +1,19 @@
 -- Notes of packets that are laid one after another: each is clear, and what a zone has of them.
-use Rattle.std.specs.Prelude.{◌≡◌, ℕ, ◌+◌, ◌≤◌, Bool, true, false, cond, not, ◌&&◌, List, [], ◌∷◌, ◌++◌, length}
-use Rattle.std.specs.Prelude.{filter, filter_map, None, Result, is_some, refl}
-use Rattle.std.specs.List.{AllByRecursion, cons_option}
-use Rattle.std.specs.Option.{option_map}
-use Rattle.std.specs.Result.{result_ok}
-use Rattle.std.proofs.Common.{sym, ◌∙◌, ap, subst, inl, inr, arith, append_assoc}
-use Rattle.std.proofs.lemmas.Bool.{le-leb, lt-leb}
+use Rattle.mxf_views.proofs.Common.{◌≡◌, ℕ, ◌+◌, ◌≤◌, Bool, true, false, cond, not, ◌&&◌, List, [], ◌∷◌, ◌++◌, length}
+use Rattle.mxf_views.proofs.Common.{filter, filter_map, None, Result, is_some, refl, AllByRecursion, cons_option}
+use Rattle.mxf_views.proofs.Common.{option_map, result_ok, sym, ◌∙◌, ap, subst, inl, inr, arith, append_assoc, le-leb}
+use Rattle.mxf_views.proofs.Common.{sum_by-cons, kind_of, note_of, end_of, size_of, PacketParts, NoteParts, notes_from}
+use Rattle.mxf_views.proofs.Common.{In, pack_at, primer_at, rip_at, read_as, SharesByte, is_disputed, clear_notes}
+use Rattle.mxf_views.proofs.Common.{is_primer, is_readable_primer, pack_of, partition_at, partitions_of, is_rip, rip_in}
+use Rattle.mxf_views.proofs.Common.{partition_read, partitions_read, read_pack, read_rip, sizes, lies_in, total_of}
+use Rattle.std.proofs.lemmas.Bool.{lt-leb}
 use Rattle.std.proofs.lemmas.List.Elements.{filter-append}
-use Rattle.std.proofs.lemmas.List.Sums.{sum_by-cons}
-use Rattle.mxf_klv.specs.Kind.{kind_of}
-use Rattle.mxf_klv.specs.Note.{keeps, note_of, end_of}
-use Rattle.mxf_klv.specs.Packet.{size_of}
-use Rattle.mxf_klv.specs.Parts.{PacketParts, NoteParts}
-use Rattle.mxf_klv.specs.Piece.{notes_from}
-use Rattle.mxf_klv.specs.Rising.{In}
-use Rattle.mxf_sets.specs.PackReadings.{pack_at, primer_at, rip_at}
-use Rattle.mxf_sets.specs.Readable.{read_as}
-use Rattle.mxf_catalogue.specs.Disputes.{SharesByte, IsDisputed, IsClear, is_disputed, clear_notes}
+use Rattle.mxf_klv.specs.Note.{keeps}
+use Rattle.mxf_catalogue.specs.Disputes.{IsDisputed}
 use Rattle.mxf_catalogue.proofs.DisputeLaws.{is_disputed-IsDisputed}
-use Rattle.mxf_views.specs.Copies.{is_primer, is_readable_primer}
-use Rattle.mxf_views.specs.Partitions.{pack_of, partition_at, partitions_of}
-use Rattle.mxf_views.specs.RandomIndex.{is_rip, rip_in}
-use Rattle.mxf_views.specs.Reading.{partition_read, partitions_read}
-use Rattle.mxf_views.specs.Records.{read_pack, read_primer, read_rip, value_as}
-use Rattle.mxf_views.specs.Spans as spans
-use Rattle.mxf_views.specs.Spans.{sizes}
-use Rattle.mxf_catalogue.specs.Disputes.{lies_in}
-use Rattle.mxf_views.specs.WellFormed.{total_of}
+use Rattle.mxf_views.specs.Records.{read_primer, value_as}
 use Rattle.mxf_klv.proofs.Lists.{filter_all}
+use Rattle.mxf_views.specs.Spans as spans
 
 -- A value that is read only where it is kept is the same whatever is held of others.
 read_where_kept : {A E : Type 0} (read : List ℕ → Result A E) (kept : Bool) (value other : List ℕ)
@@ -147,10 +133,6 @@ last_past at [] ys notes f = subst (λ x. LastFrom x ys notes) (let e : at ≡ a
 last_past at (x ∷ xs) ys notes f =
     let e : at + size_of x + total_of xs ≡ at + (size_of x + total_of xs) = omega arith in
     subst (λ x. LastFrom x ys notes) e (last_past (at + size_of x) xs ys notes (last_next at x (xs ++ ys) notes f))
-
-In-right : (n : NoteParts) (xs ys : List NoteParts) → In n ys → In n (xs ++ ys)
-In-right n [] ys h = h
-In-right n (x ∷ xs) ys h = inr (In-right n xs ys h)
 
 -- What ends at or below the start of a zone isn't in it.
 zone_none_before : (start bytes : ℕ) (ns : List NoteParts) → AllByRecursion (λ n. end_of n ≤ start) ns

@@ -1,21 +1,18 @@
 -- The links of partitions that rise, each of which names the one before it: they are those of a reading from the front.
-use Rattle.std.specs.Prelude.{◌≡◌, ℕ, ◌+◌, ◌<◌, ◌≤◌, Bool, true, false, cond, not, ◌||◌, ◌==◌, nat_lt, List, [], ◌∷◌}
-use Rattle.std.specs.Prelude.{◌++◌, ◌⊎◌, find, count_by, Option, None, Some, is_some, refl}
-use Rattle.std.specs.List.{AllByRecursion, list_all}
-use Rattle.std.specs.Option.{option_map, option_and_then}
-use Rattle.std.proofs.Common.{sym, ◌∙◌, ap, subst, inl, inr, arith}
-use Rattle.std.proofs.lemmas.Bool.{eq-eqb, ltb-true, or_right, and_from, false_from_ne_true}
-use Rattle.std.proofs.lemmas.List.Sums.{sum_by-append}
-use Rattle.mxf_klv.specs.Rising.{In}
-use Rattle.mxf_views.specs.declared.chain.Link.TheVariants.{First, Held}
-use Rattle.mxf_views.specs.Partitions.{PartitionParts, IsGreatestBelow, is_footer, is_greatest, is_header, is_linked}
-use Rattle.mxf_views.specs.Partitions.{link_at, link_of, stands_above}
+use Rattle.mxf_views.proofs.Common.{◌≡◌, ℕ, ◌+◌, ◌<◌, ◌≤◌, Bool, true, false, cond, not, ◌||◌, ◌==◌, nat_lt, List, []}
+use Rattle.mxf_views.proofs.Common.{◌∷◌, ◌++◌, ◌⊎◌, find, count_by, Option, None, Some, is_some, refl, AllByRecursion}
+use Rattle.mxf_views.proofs.Common.{list_all, option_map, option_and_then, sym, ◌∙◌, ap, subst, inl, inr, arith, eq-eqb}
+use Rattle.mxf_views.proofs.Common.{ltb-true, and_from, false_from_ne_true, sum_by-append, In, First, Held}
+use Rattle.mxf_views.proofs.Common.{PartitionParts, is_footer, is_greatest, is_header, is_linked, link_at, link_of}
+use Rattle.mxf_views.proofs.Common.{stands_above, count_by-cons, tally, list_any-In, In-list_all, all-In, all_from_In}
+use Rattle.std.proofs.lemmas.Bool.{or_right}
+use Rattle.mxf_views.specs.Partitions.{IsGreatestBelow}
 use Rattle.mxf_views.specs.Reading.{ends_with_footer, link_read, link_read_at, links_read}
 use Rattle.mxf_views.specs.WellFormed.{NameTheOneBefore}
 use Rattle.mxf_views.proofs.PartitionLaws.{link_iff}
 use Rattle.mxf_views.proofs.RisingPartitions.{IsRisingFrom, at_or_above}
-use Rattle.mxf_klv.proofs.Counts.{count-none, count_by-cons, tally}
-use Rattle.mxf_klv.proofs.Lists.{list_any-In, In-list_all, all-In, all_from_In}
+use Rattle.mxf_klv.proofs.Counts.{count-none}
+use Rattle.mxf_klv.proofs.Lists.{all_push}
 
 offset-same : (p q : PartitionParts) → p ≡ q → p.offset ≡ q.offset
 offset-same p q e = ap (λ (x : PartitionParts). x.offset) e
@@ -78,11 +75,6 @@ last_greatest low (b ∷ bs) f x r (inl e) =
     omega (arith, o, g)
 last_greatest low (b ∷ bs) f x r (inr h) = last_greatest (b.offset + 1) bs f x r.1 h
 
-all-push : (Q : PartitionParts → Type 0) (bs : List PartitionParts) (f : PartitionParts) → AllByRecursion Q bs → Q f
-    → AllByRecursion Q (bs ++ f ∷ [])
-all-push Q [] f a q = (q, tt)
-all-push Q (b ∷ bs) f a q = (a.0, all-push Q bs f a.1 q)
-
 footer_greatest : (parts : List PartitionParts) (f : EndsInFooter parts) → IsRisingFrom 0 parts
     → is_greatest parts f.footer ≡ true
 footer_greatest parts f r =
@@ -103,7 +95,7 @@ footers_greatest parts f r =
     rw e refl) in
     let last : Q f.footer = or_right _ _ (footer_greatest parts f r) in
     let all : AllByRecursion Q parts
-    = subst (AllByRecursion Q) (sym f.order) (all-push Q f.before f.footer before last) in
+    = subst (AllByRecursion Q) (sym f.order) (all_push Q f.before f.footer before last) in
     In-list_all (λ p. not (is_footer p.pack.part) || is_greatest parts p) parts (λ x h. all-In Q parts x all h)
 
 -- The last of these is the footer.

@@ -1,26 +1,19 @@
 -- The copies of a well-formed file are those of its reading.
-use Rattle.std.specs.Prelude.{◌≡◌, ℕ, ◌+◌, ◌-◌, ◌<◌, ◌≤◌, true, false, cond, ◌&&◌, nat_le, ◌==◌, List, []}
-use Rattle.std.specs.Prelude.{◌∷◌, ◌++◌, map, filter, find, count_by, Some, None, is_some, IfSome, refl}
-use Rattle.std.specs.List.{AllByRecursion, cons_option, list_all}
-use Rattle.std.specs.Option.{option_and_then, option_map, option_map_or}
-use Rattle.std.proofs.Common.{sym, ◌∙◌, ap, subst, arith}
-use Rattle.std.proofs.lemmas.Bool.{and_from, and_left, and_right, eq-eqb, le-leb, lt-leb, lt-ltb, ltb-true}
-use Rattle.mxf_klv.specs.Note.{end_of, note_of}
-use Rattle.mxf_klv.specs.Packet.{size_of}
-use Rattle.mxf_klv.specs.Parts.{NoteParts, PacketParts}
-use Rattle.mxf_klv.specs.Piece.{notes_from}
-use Rattle.mxf_sets.specs.PackReadings.{primer_at}
-use Rattle.mxf_sets.specs.PartitionPack.{PartitionPackParts}
-use Rattle.mxf_views.specs.Copies.{copies_among, copies_of, copy_from, copy_of, covered_of, has_metadata, is_fill_note}
-use Rattle.mxf_views.specs.Copies.{is_filled, is_preface_note, is_primer, is_readable_primer, is_set_note, is_start}
-use Rattle.mxf_views.specs.Copies.{preferred_of, sets_found, sets_from, sets_of, start_of, zone_of}
-use Rattle.mxf_views.specs.Partitions.{PartitionParts}
-use Rattle.mxf_views.specs.Reading.{CopyRead, after_fills, copies_alone, copies_read, copy_read, partitions_read}
-use Rattle.mxf_views.specs.Reading.{sets_read, taken, whole_copy}
-use Rattle.mxf_views.specs.Records.{read_pack, value_as}
-use Rattle.mxf_views.specs.Spans.{sizes}
-use Rattle.mxf_views.specs.WellFormed.{HasMetadata, IsFill, IsPrimerPack, IsReadable, IsWellFormed, MetadataFollow}
-use Rattle.mxf_views.specs.WellFormed.{is_readable_as, total_of}
+use Rattle.mxf_views.proofs.Common.{◌≡◌, ℕ, ◌+◌, ◌-◌, ◌<◌, ◌≤◌, true, false, cond, ◌&&◌, nat_le, ◌==◌, List, [], ◌∷◌}
+use Rattle.mxf_views.proofs.Common.{◌++◌, map, filter, find, count_by, Some, None, is_some, IfSome, refl}
+use Rattle.mxf_views.proofs.Common.{AllByRecursion, cons_option, list_all, option_and_then, option_map, option_map_or}
+use Rattle.mxf_views.proofs.Common.{sym, ◌∙◌, ap, subst, arith, and_from, eq-eqb, le-leb, lt-ltb, ltb-true, end_of}
+use Rattle.mxf_views.proofs.Common.{note_of, size_of, NoteParts, PacketParts, notes_from, primer_at, PartitionPackParts}
+use Rattle.mxf_views.proofs.Common.{copies_of, copy_from, copy_of, covered_of, has_metadata, is_fill_note, is_filled}
+use Rattle.mxf_views.proofs.Common.{is_preface_note, is_primer, is_readable_primer, is_set_note, is_start, preferred_of}
+use Rattle.mxf_views.proofs.Common.{sets_found, sets_from, sets_of, start_of, zone_of, PartitionParts, partitions_read}
+use Rattle.mxf_views.proofs.Common.{read_pack, sizes, HasMetadata, IsFill, IsWellFormed, is_readable_as, total_of}
+use Rattle.std.proofs.lemmas.Bool.{and_left, and_right, lt-leb}
+use Rattle.mxf_views.specs.Copies.{copies_among}
+use Rattle.mxf_views.specs.Reading.{CopyRead, after_fills, copies_alone, copies_read, copy_read, sets_read, taken}
+use Rattle.mxf_views.specs.Reading.{whole_copy}
+use Rattle.mxf_views.specs.Records.{value_as}
+use Rattle.mxf_views.specs.WellFormed.{IsPrimerPack, IsReadable, MetadataFollow}
 use Rattle.mxf_views.specs.WholeFile.{HasCopiesOf}
 use Rattle.mxf_views.proofs.Laid.{LastFrom, clear-laid, covered-laid, last_all, last_next, last_past}
 use Rattle.mxf_views.proofs.Laid.{partitions_of-laid, primer-note, zone-laid}

@@ -1,26 +1,13 @@
 -- The index of a well-formed file is that of its reading.
-use Rattle.std.specs.Prelude.{◌≡◌, ℕ, ◌+◌, ◌==◌, true, false, List, [], ◌∷◌, cond, filter_map, None, Some, refl}
-use Rattle.std.specs.List.{AllByRecursion, cons_option}
-use Rattle.std.specs.Option.{option_map, option_map_or}
-use Rattle.std.proofs.Common.{sym, ◌∙◌, ap, inl, inr}
-use Rattle.std.proofs.lemmas.Cmp.{tied_itself}
-use Rattle.mxf_klv.specs.Kind.{kind_of}
-use Rattle.mxf_klv.specs.Note.{note_of}
-use Rattle.mxf_klv.specs.Packet.{size_of}
-use Rattle.mxf_klv.specs.Parts.{PacketParts}
-use Rattle.mxf_klv.specs.Piece.{notes_from}
-use Rattle.mxf_klv.specs.Rising.{In, with_one, union}
-use Rattle.mxf_sets.specs.Offset.{stream_offset}
-use Rattle.mxf_sets.specs.Segment.{segment_at}
-use Rattle.mxf_views.specs.Places.{SegmentAtParts, is_segment, pair_cmp, pair_of, place_by, place_of}
-use Rattle.mxf_views.specs.Places.{placed_segment, segments_of}
-use Rattle.mxf_views.specs.Reading.{place_by_segment, place_read, segment_read, segments_read}
-use Rattle.mxf_views.specs.Records.{read_segment}
-use Rattle.mxf_views.specs.WellFormed.{Agree, IsWellFormed}
+use Rattle.mxf_views.proofs.Common.{◌≡◌, ℕ, ◌+◌, ◌==◌, true, false, List, [], ◌∷◌, cond, filter_map, None, Some, refl}
+use Rattle.mxf_views.proofs.Common.{AllByRecursion, cons_option, option_map, option_map_or, sym, ◌∙◌, ap, inl, inr}
+use Rattle.mxf_views.proofs.Common.{tied_itself, kind_of, note_of, size_of, PacketParts, notes_from, In, with_one}
+use Rattle.mxf_views.proofs.Common.{union, stream_offset, segment_at, SegmentAtParts, is_segment, pair_cmp, place_by}
+use Rattle.mxf_views.proofs.Common.{place_of, placed_segment, segments_of, place_by_segment, segments_read}
+use Rattle.mxf_views.proofs.Common.{read_segment, Agree, IsWellFormed, Pair, Place, NotIndexed, At, Ambiguous}
+use Rattle.mxf_views.specs.Places.{pair_of}
+use Rattle.mxf_views.specs.Reading.{place_read, segment_read}
 use Rattle.mxf_views.specs.WholeFile.{HasIndexOf}
-use Rattle.mxf_views.specs.declared.index.place.Pair.{Pair}
-use Rattle.mxf_views.specs.declared.index.place.Place.{Place}
-use Rattle.mxf_views.specs.declared.index.place.Place.TheVariants.{NotIndexed, At, Ambiguous}
 use Rattle.mxf_views.proofs.Laid.{clear-laid, read_as-note}
 use Rattle.mxf_views.proofs.PlaceLaws.{pair_total, same_pair}
 

@@ -1,56 +1,38 @@
 -- The partitions of a well-formed file: no dispute and no gap, and the links and the chain of its reading.
-use Rattle.std.specs.Prelude.{◌≡◌, ℕ, ◌+◌, Bool, true, false, cond, max, not, ◌&&◌, ◌||◌, ◌==◌, nat_le, List, [], ◌∷◌}
-use Rattle.std.specs.Prelude.{◌++◌, count_by, drop, length, map, filter, None, Some, Option, Ok, Err, is_some, refl}
-use Rattle.std.specs.List.{AllByRecursion, cons_option, list_all}
-use Rattle.std.specs.Option.{option_map}
-use Rattle.std.specs.Result.{result_ok}
-use Rattle.std.proofs.Common.{sym, ◌∙◌, ap, subst, inl, inr, arith}
+use Rattle.mxf_views.proofs.Common.{◌≡◌, ℕ, ◌+◌, Bool, true, false, cond, max, not, ◌&&◌, ◌||◌, ◌==◌, nat_le, List, []}
+use Rattle.mxf_views.proofs.Common.{◌∷◌, ◌++◌, count_by, drop, length, map, filter, None, Some, Option, Ok, Err}
+use Rattle.mxf_views.proofs.Common.{is_some, refl, AllByRecursion, cons_option, list_all, option_map, result_ok, sym}
+use Rattle.mxf_views.proofs.Common.{◌∙◌, ap, subst, inl, inr, arith, Kind, Status, kind_of, note_of, end_of, size_of}
+use Rattle.mxf_views.proofs.Common.{PacketParts, NoteParts, notes_from, In, PackPart, Header, Body, Footer, pack_at}
+use Rattle.mxf_views.proofs.Common.{part_and_status, PartitionPackParts, pack_kind, is_disputed, Whole, Broken}
+use Rattle.mxf_views.proofs.Common.{PartitionParts, is_footer, is_greatest, is_header, is_linked, link_at}
+use Rattle.mxf_views.proofs.Common.{is_no_unreadable_pack, partition_at, partitions_of, partition_read, partitions_read}
+use Rattle.mxf_views.proofs.Common.{read_pack, EndsWithFooter, IsFooterPack, IsPartitionPack, IsWellFormed}
+use Rattle.mxf_views.proofs.Common.{is_readable_as, total_of, not-true-false}
 use Rattle.std.proofs.lemmas.Bool.{le-ltb}
-use Rattle.mxf_klv.specs.declared.kinds.Kind.{Kind}
-use Rattle.mxf_klv.specs.declared.kinds.Kind.TheVariants as kinds
-use Rattle.mxf_klv.specs.declared.kinds.Status.{Status}
-use Rattle.mxf_klv.specs.Kind.{kind_of}
-use Rattle.mxf_klv.specs.Note.{keeps, note_of, end_of}
-use Rattle.mxf_klv.specs.Packet.{size_of}
-use Rattle.mxf_klv.specs.Parts.{PacketParts, NoteParts}
-use Rattle.mxf_klv.specs.Piece.{notes_from}
-use Rattle.mxf_klv.specs.Rising.{In}
-use Rattle.mxf_sets.specs.declared.pack.PackFault.TheVariants as faults
-use Rattle.mxf_sets.specs.declared.pack.part.PackPart.{PackPart}
-use Rattle.mxf_sets.specs.declared.pack.part.PackPart.TheVariants.{Header, Body, Footer}
+use Rattle.mxf_klv.specs.Note.{keeps}
 use Rattle.mxf_sets.specs.Fields.{is_batch}
-use Rattle.mxf_sets.specs.PackReadings.{pack_at, pack_in, pack_under, part_and_status}
-use Rattle.mxf_sets.specs.PartitionPack.{PartitionPackParts, pack_kind}
-use Rattle.mxf_catalogue.specs.Disputes.{disputed_notes, disputed_parts, is_disputed}
-use Rattle.mxf_views.specs.declared.chain.Chain.TheVariants.{Whole, Broken}
+use Rattle.mxf_sets.specs.PackReadings.{pack_in, pack_under}
+use Rattle.mxf_catalogue.specs.Disputes.{disputed_notes, disputed_parts}
 use Rattle.mxf_views.specs.Gaps.{gaps_from}
-use Rattle.mxf_views.specs.Partitions.{PartitionParts, is_footer, is_greatest, is_header, is_linked, link_at}
-use Rattle.mxf_views.specs.Partitions.{is_no_unreadable_pack, partition_at, partitions_of}
-use Rattle.mxf_views.specs.Reading.{chain_read, link_read_at, links_read, partition_read, partitions_read}
-use Rattle.mxf_views.specs.Records.{read_pack}
-use Rattle.mxf_views.specs.WellFormed.{BeginsWithHeader, EndsWithFooter, IsFooterPack, IsHeaderPack, IsPartitionPack}
-use Rattle.mxf_views.specs.WellFormed.{IsReadable, IsWellFormed, is_readable_as, total_of}
+use Rattle.mxf_views.specs.Reading.{chain_read, link_read_at, links_read}
+use Rattle.mxf_views.specs.WellFormed.{BeginsWithHeader, IsHeaderPack, IsReadable}
 use Rattle.mxf_views.specs.WholeFile.{HasPartitionsOf}
 use Rattle.mxf_views.proofs.Laid.{clear-laid, not_disputed, partition-note, partitions_of-laid}
 use Rattle.mxf_views.proofs.LaidChain.{AreLinked, BeginsAtZero, EndsInFooter, all_linked, ends_in_footer}
 use Rattle.mxf_views.proofs.LaidChain.{footers_greatest, one_footer, one_header}
 use Rattle.mxf_views.proofs.RisingPartitions.{IsRisingFrom, rising-read}
+use Rattle.mxf_klv.proofs.Lists.{filter_none}
+use Rattle.mxf_klv.specs.declared.kinds.Kind.TheVariants as kinds
+use Rattle.mxf_sets.specs.declared.pack.PackFault.TheVariants as faults
 
 -- ---- no dispute and no gap
-
-none_left : (t : NoteParts → Bool) (notes : List NoteParts) → ((n : NoteParts) → In n notes → not (t n) ≡ true)
-    → filter t notes ≡ []
-none_left t [] f = refl
-none_left t (x ∷ xs) f =
-    elim (t x) as (λ b. not b ≡ true → cond b (x ∷ filter t xs) (filter t xs) ≡ []) [
-      | true ↦ λ e. cc
-      | false ↦ λ e. none_left t xs (λ n h. f n (inr h))
-    ] (f x (inl refl))
 
 no_disputes-laid : (at : ℕ) (l : List PacketParts) → disputed_notes (notes_from at l) ≡ []
 no_disputes-laid at l =
     let notes = notes_from at l in
-    ap (map (λ n. disputed_parts n notes)) (none_left (λ n. is_disputed n notes) notes (not_disputed at l))
+    ap (map (λ n. disputed_parts n notes)) (filter_none (λ n. is_disputed n notes) notes
+    (λ n h. not-true-false (is_disputed n notes) (not_disputed at l n h)))
 
 no_gaps-laid : (at : ℕ) (l : List PacketParts) → gaps_from at at (notes_from at l) ≡ []
 no_gaps-laid at [] = rw (le-ltb at at (omega arith)) refl

@@ -1,25 +1,15 @@
 -- What is known of the random index pack of a well-formed file is what its reading says.
-use Rattle.std.specs.Prelude.{◌≡◌, ℕ, ◌+◌, ◌≤◌, true, false, cond, ◌==◌, List, [], ◌∷◌, map, filter, find}
-use Rattle.std.specs.Prelude.{Option, None, Some, is_some, IfSome, refl}
-use Rattle.std.specs.List.{AllByRecursion}
-use Rattle.std.specs.Option.{option_map_or}
-use Rattle.std.proofs.Common.{sym, ◌∙◌, ap, subst, inl, inr, arith}
-use Rattle.std.proofs.lemmas.Bool.{eq-eqb, ne_eqb}
-use Rattle.mxf_klv.specs.Kind.{kind_of}
-use Rattle.mxf_klv.specs.Note.{note_of}
-use Rattle.mxf_klv.specs.Packet.{size_of}
-use Rattle.mxf_klv.specs.Parts.{PacketParts, NoteParts}
-use Rattle.mxf_klv.specs.Piece.{notes_from}
-use Rattle.mxf_klv.specs.Rising.{In}
-use Rattle.mxf_sets.specs.RandomIndexPack.{RipParts}
-use Rattle.mxf_views.specs.Partitions.{PartitionParts, partitions_of}
-use Rattle.mxf_views.specs.RandomIndex.{is_rip, is_rip_note, rips_of, standing_by, standing_of, standings}
-use Rattle.mxf_views.specs.RandomIndexView.{rip_view_among, rip_view_by, rip_view_of}
-use Rattle.mxf_views.specs.Reading.{compared, one_by_one, partitions_read, rip_read}
-use Rattle.mxf_views.specs.Records.{read_rip}
-use Rattle.mxf_views.specs.WellFormed.{EndsWithRandomIndex, IsRandomIndexPack, IsReadable, IsWellFormed, entry_of}
-use Rattle.mxf_views.specs.WellFormed.{is_readable_as}
-use Rattle.mxf_views.specs.declared.random_index.RipView.TheVariants.{Absent, One}
+use Rattle.mxf_views.proofs.Common.{◌≡◌, ℕ, ◌+◌, ◌≤◌, true, false, cond, ◌==◌, List, [], ◌∷◌, map, filter, find, Option}
+use Rattle.mxf_views.proofs.Common.{None, Some, is_some, IfSome, refl, AllByRecursion, option_map_or, sym, ◌∙◌, ap}
+use Rattle.mxf_views.proofs.Common.{subst, inl, inr, arith, eq-eqb, kind_of, note_of, size_of, PacketParts, NoteParts}
+use Rattle.mxf_views.proofs.Common.{notes_from, In, RipParts, PartitionParts, partitions_of, is_rip, is_rip_note}
+use Rattle.mxf_views.proofs.Common.{rips_of, standing_of, rip_view_among, rip_view_by, rip_view_of, partitions_read}
+use Rattle.mxf_views.proofs.Common.{read_rip, IsWellFormed, is_readable_as, One}
+use Rattle.std.proofs.lemmas.Bool.{ne_eqb}
+use Rattle.mxf_views.specs.RandomIndex.{standing_by, standings}
+use Rattle.mxf_views.specs.Reading.{compared, one_by_one, rip_read}
+use Rattle.mxf_views.specs.WellFormed.{EndsWithRandomIndex, IsRandomIndexPack, IsReadable, entry_of}
+use Rattle.mxf_views.specs.declared.random_index.RipView.TheVariants.{Absent}
 use Rattle.mxf_views.specs.declared.random_index.Standing.TheVariants.{Held}
 use Rattle.mxf_views.proofs.Laid.{clear-laid, partitions_of-laid, rip-note}
 use Rattle.mxf_views.proofs.KindLaws.{rip_kind}

@@ -6,6 +6,7 @@ pub mod BestLaws
 pub mod CauseLaws
 pub mod ChainLaws
 pub mod ClearChanges
+pub mod Common
 pub mod CopyChanges
 pub mod CopyLaws
 pub mod CopySearch

@@ -1,27 +1,20 @@
 -- Marks among notes, and what lies in a range by two of them.
-use Rattle.std.proofs.Common.{◌≡◌, ◌∙◌, ℕ, ◌+◌, ◌-◌, ◌<◌, ◌≤◌, ◌⊎◌, Bool, true, false, cond, List, [], ◌∷◌, ◌++◌, refl}
-use Rattle.std.proofs.Common.{ap, append_assoc, arith, get_or, inl, inr, le-leb, leb-true, length, nat_le, nat_lt, subst, sym}
-use Rattle.std.specs.Prelude.{count_by, filter, sum_by}
-use Rattle.std.specs.List.Sorted.{IsNonDecreasingBy}
-use Rattle.std.proofs.lemmas.Bool.{ltb-true, ltb-false, and_from, false_from_ne_true, and_parts}
+use Rattle.mxf_views.proofs.Common.{◌≡◌, ◌∙◌, ℕ, ◌+◌, ◌-◌, ◌<◌, ◌≤◌, ◌⊎◌, Bool, true, false, cond, List, [], ◌∷◌, ◌++◌}
+use Rattle.mxf_views.proofs.Common.{refl, ap, append_assoc, arith, get_or, inl, inr, le-leb, leb-true, length, nat_le}
+use Rattle.mxf_views.proofs.Common.{nat_lt, subst, sym, count_by, filter, IsNonDecreasingBy, ltb-true, ltb-false}
+use Rattle.mxf_views.proofs.Common.{and_from, false_from_ne_true, and_parts, sum_by-append, sum_by-cons, NoteParts}
+use Rattle.mxf_views.proofs.Common.{end_of, In, IsCatalogue, AreApart, clear_notes, lies_in, Mark, covered_of}
+use Rattle.mxf_views.proofs.Common.{is_preface_note, prefaces_of, zone_of, clear_from, is_in_one, sizes, AreInRange}
+use Rattle.mxf_views.proofs.Common.{count_by-cons, tally, length-filter_le, In-at, In-append, same_bool}
+use Rattle.std.specs.Prelude.{sum_by}
 use Rattle.std.proofs.lemmas.List.{get_or_append_left, get_or-append_right, length-append}
-use Rattle.std.proofs.lemmas.List.Sums.{count_by-le-length, sum_by-append, sum_by-cons}
-use Rattle.mxf_klv.specs.Parts.{NoteParts}
-use Rattle.mxf_klv.specs.Note.{end_of}
-use Rattle.mxf_klv.specs.Rising.{In}
-use Rattle.mxf_catalogue.specs.Content.{IsCatalogue}
-use Rattle.mxf_catalogue.specs.Disputes.{AreApart, clear_notes, lies_in}
-use Rattle.mxf_views.specs.declared.kept.sums.Mark.{Mark}
-use Rattle.mxf_views.specs.Copies.{covered_of, is_preface_note, prefaces_of, zone_of}
-use Rattle.mxf_views.specs.KeptAbove.{clear_from}
-use Rattle.mxf_views.specs.Spans.{is_in_one, size_of, sizes}
-use Rattle.mxf_views.specs.Sums.{AreInRange, AreMarks, IsCut, IsMark}
+use Rattle.std.proofs.lemmas.List.Sums.{count_by-le-length}
+use Rattle.mxf_views.specs.Spans.{size_of}
+use Rattle.mxf_views.specs.Sums.{AreMarks, IsCut, IsMark}
 use Rattle.mxf_views.proofs.SpanCounts.{zone-count}
 use Rattle.mxf_views.proofs.SumLaws.{zone_above}
 use Rattle.mxf_catalogue.proofs.ApartLaws.{begins_above}
-use Rattle.mxf_klv.proofs.Counts.{count_by-cons, tally, range-le}
-use Rattle.mxf_klv.proofs.Lists.{length-filter_le, In-at, In-append}
-use Rattle.mxf_klv.proofs.Tests.{same_bool}
+use Rattle.mxf_klv.proofs.Counts.{range-le}
 
 -- ---- a range, cut in two
 

@@ -1,24 +1,18 @@
 -- Offsets that rise, searched.
-use Rattle.std.proofs.Common.{◌≡◌, ℕ, zero, suc, ◌+◌, ◌<◌, ◌≤◌, Bool, true, false, cond, List, [], ◌∷◌, refl, sym, ap, ◌∙◌, inl, inr, arith, get_or, length}
-use Rattle.std.specs.Prelude.{◌==◌, nat_lt, is_some, Some, None}
-use Rattle.std.specs.List.{AllWithin, list_any}
-use Rattle.std.specs.List.Sorted.{IsNonDecreasingBy}
-use Rattle.std.specs.Ordering.{nat_cmp}
-use Rattle.std.specs.declared.cmp.Ordering.TheVariants.{Less, Equal, Greater}
-use Rattle.std.proofs.lemmas.Bool.{ltb-true, lt-ltb, and_from, false_from_ne_true, and_parts}
-use Rattle.std.proofs.lemmas.Cmp.{nat_cmp_total}
-use Rattle.mxf_klv.specs.Parts.{NoteParts}
-use Rattle.mxf_klv.specs.Rising.{In, IsRising, less_in}
-use Rattle.mxf_catalogue.proofs.DisputeLaws.{In-clear_notes}
-use Rattle.mxf_views.specs.declared.kept.offsets.Placed.TheVariants as kinds
-use Rattle.mxf_views.specs.Kept.{is_placed, lies_between, offsets_where}
-use Rattle.mxf_views.specs.Partitions.{PartitionParts, partition_at, partitions_of, stands_above, stands_between}
+use Rattle.mxf_views.proofs.Common.{◌≡◌, ℕ, zero, suc, ◌+◌, ◌<◌, ◌≤◌, Bool, true, false, List, [], ◌∷◌, refl, sym, ap}
+use Rattle.mxf_views.proofs.Common.{◌∙◌, inl, inr, arith, get_or, length, nat_lt, is_some, Some, None, AllWithin}
+use Rattle.mxf_views.proofs.Common.{list_any, IsNonDecreasingBy, nat_cmp, ltb-true, lt-ltb, and_from}
+use Rattle.mxf_views.proofs.Common.{false_from_ne_true, and_parts, nat_cmp_total, NoteParts, In, IsRising, less_in}
+use Rattle.mxf_views.proofs.Common.{In-clear_notes, is_placed, offsets_where, PartitionParts, partition_at}
+use Rattle.mxf_views.proofs.Common.{partitions_of, stands_above, list_any-In, same_bool}
+use Rattle.mxf_views.specs.Kept.{lies_between}
+use Rattle.mxf_views.specs.Partitions.{stands_between}
 use Rattle.mxf_views.proofs.ClearChanges.{In-offsets}
 use Rattle.mxf_views.proofs.PartitionLaws.{offset-partition_at}
 use Rattle.mxf_views.proofs.PartitionSearch.{is_there, of_note}
-use Rattle.mxf_klv.proofs.Lists.{list_any-In, In-at}
-use Rattle.mxf_klv.proofs.Tests.{lt_from_less, same_bool, by_places}
+use Rattle.mxf_klv.proofs.Tests.{lt_from_less}
 use Rattle.mxf_klv.proofs.RisingBy.{by_itself, never_falls, last_above as any_above}
+use Rattle.mxf_views.specs.declared.kept.offsets.Placed.TheVariants as kinds
 
 above_first : (x y : ℕ) (xs : List ℕ) → IsRising nat_cmp (x ∷ xs) → In y xs → x < y
 above_first x y xs r h = lt_from_less x y (less_in nat_cmp_total x y xs r.0 h)

@@ -1,15 +1,11 @@
 -- The only set with an identifier, found by its offset.
-use Rattle.std.proofs.Common.{◌≡◌, ℕ, List, [], ◌∷◌, Option, None, Some, refl, subst, inl, sym}
-use Rattle.std.specs.Prelude.{◌==◌, filter, find}
-use Rattle.mxf_klv.specs.Parts.{NoteParts}
-use Rattle.mxf_klv.specs.Rising.{In}
-use Rattle.mxf_catalogue.specs.Disputes.{clear_notes, lies_in}
-use Rattle.mxf_catalogue.proofs.DisputeLaws.{In-clear_notes, clear_at-found}
-use Rattle.mxf_views.specs.declared.copy.CopyInfo.{CopyInfo}
+use Rattle.mxf_views.proofs.Common.{◌≡◌, ℕ, List, [], ◌∷◌, Option, None, Some, refl, subst, inl, sym, ◌==◌, filter}
+use Rattle.mxf_views.proofs.Common.{find, NoteParts, In, clear_notes, lies_in, In-clear_notes, CopyInfo, copies_of}
+use Rattle.mxf_views.proofs.Common.{is_set_note, sets_found, sets_from, sets_of, zone_of, found_among, has_uid}
+use Rattle.mxf_views.proofs.Common.{In-filter}
+use Rattle.mxf_catalogue.proofs.DisputeLaws.{clear_at-found}
 use Rattle.mxf_views.specs.declared.reference.Found.TheVariants.{One}
-use Rattle.mxf_views.specs.Copies.{copies_of, is_set_note, sets_found, sets_from, sets_of, zone_of}
-use Rattle.mxf_views.specs.References.{found_among, found_in, has_uid}
-use Rattle.mxf_klv.proofs.Lists.{In-filter}
+use Rattle.mxf_views.specs.References.{found_in}
 
 -- The sets of a copy are clear notes.
 clear_from : (clear : List NoteParts) (bytes : ℕ) (start : Option ℕ) (n : NoteParts) → In n (sets_from clear bytes start)

@@ -1,26 +1,17 @@
 -- The partitions, and how each names the one before it.
-use Rattle.std.proofs.Common.{◌≡◌, ℕ, ◌<◌, ◌≤◌, Bool, true, false, List, [], ◌∷◌, Some}
-use Rattle.std.proofs.Common.{None, refl, sym, ap, subst, ◌∙◌, inl, inr, arith, eqb-true, eq-eqb, leb-true}
-use Rattle.std.specs.Prelude.{◌↔◌, ◌&&◌, ◌==◌, nat_le, nat_lt, find, not, if◌then◌else◌}
-use Rattle.std.specs.Option.{option_map}
-use Rattle.std.proofs.lemmas.Bool.{ltb-true, lt-ltb, leb-false, and_from, and_parts}
-use Rattle.mxf_klv.specs.Parts.{NoteParts}
-use Rattle.mxf_klv.specs.Note.{end_of}
-use Rattle.mxf_klv.specs.Kind.{kind_of}
-use Rattle.mxf_klv.specs.Rising.{In}
-use Rattle.mxf_sets.specs.PackReadings.{pack_at}
-use Rattle.mxf_sets.specs.PartitionPack.{PartitionPackParts}
-use Rattle.mxf_catalogue.specs.Content.{IsContent}
-use Rattle.mxf_catalogue.specs.Disputes.{AreApart, clear_notes}
-use Rattle.mxf_catalogue.proofs.DisputeLaws.{In-clear_notes}
-use Rattle.mxf_catalogue.proofs.SpanLaws.{AreApart-clear_notes}
+use Rattle.mxf_views.proofs.Common.{◌≡◌, ℕ, ◌<◌, ◌≤◌, Bool, true, false, List, Some, None, refl, sym, ap, subst, ◌∙◌}
+use Rattle.mxf_views.proofs.Common.{inl, inr, arith, eqb-true, eq-eqb, leb-true, ◌↔◌, ◌&&◌, ◌==◌, nat_le, nat_lt, find}
+use Rattle.mxf_views.proofs.Common.{not, if◌then◌else◌, option_map, ltb-true, lt-ltb, and_from, and_parts, NoteParts}
+use Rattle.mxf_views.proofs.Common.{end_of, kind_of, In, pack_at, PartitionPackParts, IsContent, clear_notes}
+use Rattle.mxf_views.proofs.Common.{In-clear_notes, AreApart-clear_notes, First, Held, PartitionParts, AreInOrder}
+use Rattle.mxf_views.proofs.Common.{pack_of, partition_at, partitions_of, link_of, link_at, list_any-In, found-In}
+use Rattle.mxf_views.proofs.Common.{find-only, In-filter_map, cases_lt}
+use Rattle.std.proofs.lemmas.Bool.{leb-false}
 use Rattle.mxf_views.specs.declared.chain.Link.{Link}
-use Rattle.mxf_views.specs.declared.chain.Link.TheVariants.{First, Held, Skips, Missing, Wrong}
-use Rattle.mxf_views.specs.Partitions.{PartitionParts, IsReadablePack, IsPartition, AreInOrder, StandsAt}
-use Rattle.mxf_views.specs.Partitions.{IsGreatestBelow, IsLink, IsLinkAt, pack_of, partition_at, partitions_among}
-use Rattle.mxf_views.specs.Partitions.{partitions_of, link_of, link_at, previous_of, stands_at, stands_between}
+use Rattle.mxf_views.specs.declared.chain.Link.TheVariants.{Skips, Missing, Wrong}
+use Rattle.mxf_views.specs.Partitions.{IsReadablePack, IsPartition, StandsAt, IsGreatestBelow, IsLink, IsLinkAt}
+use Rattle.mxf_views.specs.Partitions.{previous_of, stands_at, stands_between}
 use Rattle.mxf_views.proofs.ReadingLaws.{reads}
-use Rattle.mxf_klv.proofs.Lists.{list_any-In, found-In, find-only, In-filter_map, all-In, all_from_In}
 use Rattle.mxf_catalogue.proofs.ApartLaws.{apart_rises}
 use Rattle.mxf_klv.proofs.RisingBy.{one_by_key, rises-filter_map}
 use Rattle.mxf_views.proofs.Rising.{by_offset}
@@ -109,11 +100,12 @@ none_between : (ps : List PartitionParts) (low high : ℕ) → StandsAt ps low �
 none_between ps low high s l f = record {
   there = s;
   below = l;
-  greatest = λ q h b. elim (nat_lt low q.offset) as (λ t. nat_lt low q.offset ≡ t → q.offset ≤ low) [
-    | true ↦ λ t. absurd (let u = (list_any-In (λ x. nat_lt low x.offset && nat_lt x.offset high) ps).1
-        (q, h, and_from (nat_lt low q.offset) (nat_lt q.offset high) t (lt-ltb q.offset high b)) in cc (u, f))
-    | false ↦ λ t. Rattle.std.proofs.lemmas.Bool.ltb-false low q.offset t
-  ] refl;
+  greatest = λ q h b. elim (cases_lt low q.offset) [
+    | inl t ↦ absurd (let u = (list_any-In (λ x. nat_lt low x.offset && nat_lt x.offset high) ps).1
+        (q, h, and_from (nat_lt low q.offset) (nat_lt q.offset high) (lt-ltb low q.offset t) (lt-ltb q.offset high b)) in
+        cc (u, f))
+    | inr t ↦ t
+  ];
 }
 
 -- What is computed is the link.

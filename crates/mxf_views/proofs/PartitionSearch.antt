@@ -1,26 +1,14 @@
 -- Partitions found by search among the clear notes.
-use Rattle.std.proofs.Common.{◌≡◌, ℕ, ◌+◌, ◌<◌, ◌≤◌, true, false, List, ◌∷◌, Option, Some, None, refl}
-use Rattle.std.proofs.Common.{sym, ap, ◌∙◌, inl, arith, eqb-true, eq-eqb, le-leb}
-use Rattle.std.specs.Prelude.{◌&&◌, ◌==◌, nat_lt, find, filter, is_some}
-use Rattle.std.specs.List.{cons_option, list_any}
-use Rattle.std.specs.Option.{option_and_then}
-use Rattle.std.proofs.lemmas.Bool.{ltb-true, lt-ltb, and_from, false_from_ne_true, and_parts}
-use Rattle.mxf_klv.specs.Parts.{NoteParts}
-use Rattle.mxf_klv.specs.Note.{IsNote, end_of}
-use Rattle.mxf_klv.specs.Rising.{In}
-use Rattle.mxf_catalogue.specs.Content.{IsCatalogue}
-use Rattle.mxf_catalogue.specs.Disputes.{AreApart, clear_notes, lies_in}
-use Rattle.mxf_catalogue.proofs.DisputeLaws.{In-clear_notes, clear-alone}
-use Rattle.mxf_views.specs.declared.copy.CopyInfo.{CopyInfo}
-use Rattle.mxf_views.specs.Copies.{copies_of, copy_of, has_metadata}
+use Rattle.mxf_views.proofs.Common.{◌≡◌, ℕ, true, false, List, Option, Some, None, refl, sym, ap, ◌∙◌, eqb-true, eq-eqb}
+use Rattle.mxf_views.proofs.Common.{◌&&◌, ◌==◌, find, filter, is_some, option_and_then, and_from, false_from_ne_true}
+use Rattle.mxf_views.proofs.Common.{and_parts, NoteParts, In, clear_notes, In-clear_notes, clear-alone, CopyInfo}
+use Rattle.mxf_views.proofs.Common.{copies_of, copy_of, has_metadata, PartitionParts, is_footer, partition_at}
+use Rattle.mxf_views.proofs.Common.{partitions_of, In-filter, In-map, list_any-In, find-none, find-only, found-In}
+use Rattle.mxf_views.proofs.Common.{none_found, In-filter_map, same_bool}
 use Rattle.mxf_views.specs.Findings.{footer_stands_at}
-use Rattle.mxf_views.specs.Partitions.{PartitionParts, is_footer, partition_at, partitions_among}
-use Rattle.mxf_views.specs.Partitions.{partitions_of, stands_at, stands_between}
+use Rattle.mxf_views.specs.Partitions.{stands_at}
 use Rattle.mxf_views.proofs.CopyLaws.{copy_there}
 use Rattle.mxf_views.proofs.PartitionLaws.{offset-partition_at}
-use Rattle.mxf_klv.proofs.Lists.{all-In, In-filter, In-map, list_any-In, find-none, find-only, found-In, none_found}
-use Rattle.mxf_klv.proofs.Lists.{In-filter_map}
-use Rattle.mxf_klv.proofs.Tests.{same_bool}
 
 -- A partition is that of a clear note with its offset.
 pub record IsOfNote (notes : List NoteParts) (p : PartitionParts) : Type 0 where

@@ -1,25 +1,16 @@
 -- Pairs in their order, those that segments give, and the places by them.
-use Rattle.std.proofs.Common.{◌≡◌, ℕ, ◌⊎◌, true, false, cond, List, [], ◌∷◌, Some, None, refl, sym}
-use Rattle.std.proofs.Common.{ap, subst, ◌∙◌, inl, inr, eqb-true, eq-eqb}
-use Rattle.std.specs.Prelude.{◌↔◌, ◌==◌, nat_lt}
-use Rattle.std.proofs.lemmas.Bool.{ltb-true}
-use Rattle.std.specs.Option.{option_map}
-use Rattle.std.specs.List.{filter_map}
-use Rattle.std.specs.Ordering.{nat_cmp, ordering_then}
+use Rattle.mxf_views.proofs.Common.{◌≡◌, ℕ, ◌⊎◌, true, false, cond, List, [], ◌∷◌, Some, None, refl, sym, ap, subst}
+use Rattle.mxf_views.proofs.Common.{◌∙◌, inl, inr, eqb-true, eq-eqb, ◌↔◌, ◌==◌, nat_lt, ltb-true, option_map}
+use Rattle.mxf_views.proofs.Common.{filter_map, nat_cmp, nat_cmp-IsAntisymmetric, Ordering, Less, Equal, Greater}
+use Rattle.mxf_views.proofs.Common.{nat_cmp_total, tied_itself, In, IsRising, with_one, In-union, IsRising-union}
+use Rattle.mxf_views.proofs.Common.{less_in, same_from_members, stream_offset, Pair, Place, NotIndexed, At, Ambiguous}
+use Rattle.mxf_views.proofs.Common.{SegmentAtParts, pair_cmp, place_by, place_of, In-filter_map}
+use Rattle.std.specs.Ordering.{ordering_then}
 use Rattle.std.specs.Cmp.{IsTotalOrder, nat_cmp_is}
-use Rattle.std.specs.FinSet.{IsAntisymmetric, nat_cmp-IsAntisymmetric}
-use Rattle.std.specs.declared.cmp.Ordering.{Ordering}
-use Rattle.std.specs.declared.cmp.Ordering.TheVariants.{Less, Equal, Greater}
-use Rattle.std.proofs.lemmas.Cmp.{on_total, then_total, nat_cmp_total, tied_itself}
-use Rattle.mxf_klv.specs.Rising.{In, IsRising, with_one, IsRising-with_one, In-union, IsRising-union, less_in}
-use Rattle.mxf_klv.specs.Rising.{same_from_members}
-use Rattle.mxf_sets.specs.Offset.{stream_offset}
-use Rattle.mxf_views.specs.declared.index.place.Pair.{Pair}
-use Rattle.mxf_views.specs.declared.index.place.Place.{Place}
-use Rattle.mxf_views.specs.declared.index.place.Place.TheVariants.{NotIndexed, At, Ambiguous}
-use Rattle.mxf_views.specs.Places.{AreTwoLeast, IsBelow, IsGiven, IsOnlyPair, IsPlace, SegmentAtParts, pair_cmp}
-use Rattle.mxf_views.specs.Places.{pair_of, pairs_with, place_by, place_of}
-use Rattle.mxf_klv.proofs.Lists.{In-filter_map}
+use Rattle.std.specs.FinSet.{IsAntisymmetric}
+use Rattle.std.proofs.lemmas.Cmp.{on_total, then_total}
+use Rattle.mxf_klv.specs.Rising.{IsRising-with_one}
+use Rattle.mxf_views.specs.Places.{AreTwoLeast, IsBelow, IsGiven, IsOnlyPair, IsPlace, pair_of, pairs_with}
 use Rattle.mxf_klv.proofs.Tests.{ties}
 
 pub pair_total : IsTotalOrder pair_cmp

@@ -1,37 +1,28 @@
 -- Of copies that rise by partition, the preferred one is the same by either way of taking the better of two.
-use Rattle.std.specs.Prelude.{◌≡◌, ℕ, ◌+◌, ◌<◌, ◌≤◌, true, false, cond, not, ◌&&◌, ◌||◌, ◌==◌, nat_lt, List, [], ◌∷◌}
-use Rattle.std.specs.Prelude.{fold, Option, Some, None, IfSome, refl}
-use Rattle.std.specs.List.{cons_option}
-use Rattle.std.specs.Option.{option_and_then, option_map}
-use Rattle.std.proofs.Common.{◌∙◌, ap, inl, inr, arith}
-use Rattle.std.proofs.lemmas.Bool.{cases_order, eq-eqb, le-ltb, lt-ltb, ne_eqb}
+use Rattle.mxf_views.proofs.Common.{◌≡◌, ℕ, ◌+◌, ◌<◌, ◌≤◌, true, false, cond, not, ◌&&◌, ◌||◌, ◌==◌, nat_lt, List, []}
+use Rattle.mxf_views.proofs.Common.{◌∷◌, Option, Some, None, IfSome, refl, cons_option, option_and_then, option_map}
+use Rattle.mxf_views.proofs.Common.{◌∙◌, ap, inl, inr, arith, cases_order, eq-eqb, lt-ltb, size_of, PacketParts}
+use Rattle.mxf_views.proofs.Common.{notes_from, best_of, preferred_of, standing, PartitionParts, partition_read}
+use Rattle.mxf_views.proofs.Common.{read_pack, CopyInfo}
+use Rattle.std.specs.Prelude.{fold}
+use Rattle.std.proofs.lemmas.Bool.{le-ltb, ne_eqb}
 use Rattle.std.proofs.lemmas.Option.{IfSome_then}
-use Rattle.mxf_klv.specs.Packet.{size_of}
-use Rattle.mxf_klv.specs.Parts.{PacketParts}
-use Rattle.mxf_klv.specs.Piece.{notes_from}
-use Rattle.mxf_views.specs.Copies.{best_of, better, is_above, is_candidate, preferred_of, standing}
-use Rattle.mxf_views.specs.Partitions.{PartitionParts}
+use Rattle.mxf_views.specs.Copies.{better, is_above, is_candidate}
 use Rattle.mxf_views.specs.Reading.{CopyRead, after_fills, better_read, copies_alone, copies_read, copy_read}
-use Rattle.mxf_views.specs.Reading.{partition_read, preferred_read, taken, whole_copy}
-use Rattle.mxf_views.specs.Records.{read_pack}
-use Rattle.mxf_views.specs.declared.copy.CopyInfo.{CopyInfo}
+use Rattle.mxf_views.specs.Reading.{preferred_read, taken, whole_copy}
+use Rattle.mxf_klv.proofs.RisingBy.{IsRisingFrom, from_lower}
 
 -- Each is of a partition at or above the offset, and below those of all later ones.
 abbrev pub RiseFrom : ℕ → List CopyInfo → Type 0
-RiseFrom low [] = Unit {0}
-RiseFrom low (c ∷ copies) = (low ≤ c.partition) × RiseFrom (c.partition + 1) copies
-
-rise_lower : (low high : ℕ) (copies : List CopyInfo) → low ≤ high → RiseFrom high copies → RiseFrom low copies
-rise_lower low high [] h r = tt
-rise_lower low high (c ∷ copies) h r = let b : high ≤ c.partition = r.0 in (omega arith, r.1)
+RiseFrom low copies = IsRisingFrom (λ c. c.partition) low copies
 
 -- One more in front, or none.
 rise_one : (low high : ℕ) (o : Option CopyRead) (reads : List CopyRead) → low < high
     → IfSome o (λ r. r.copy.partition ≡ low) → RiseFrom high (copies_alone reads)
     → RiseFrom low (copies_alone (cons_option o reads))
-rise_one low high None reads h e r = rise_lower low high (copies_alone reads) (omega arith) r
+rise_one low high None reads h e r = from_lower (λ c. c.partition) low high (copies_alone reads) (omega arith) r
 rise_one low high (Some read) reads h e r =
-    (omega (arith, e), rise_lower (read.copy.partition + 1) high (copies_alone reads) (omega (arith, h, e)) r)
+    (omega (arith, e), from_lower (λ c. c.partition) (read.copy.partition + 1) high (copies_alone reads) (omega (arith, h, e)) r)
 
 -- What is read of a partition is at its offset.
 copy_read_there : (ps : List PacketParts) (q : PartitionParts)

@@ -1,26 +1,17 @@
 -- The primer pack of a set.
-use Rattle.std.proofs.Common.{◌≡◌, ℕ, ◌+◌, ◌<◌, ◌≤◌, Bool, true, false, cond, List, [], ◌∷◌, Option, Some, None}
-use Rattle.std.proofs.Common.{refl, sym, ap, subst, ◌∙◌, inl, inr, arith, eqb-true, eq-eqb, leb-true, le-leb}
-use Rattle.std.specs.Prelude.{◌↔◌, ◌==◌, nat_le, find}
-use Rattle.std.specs.Option.{option_and_then}
-use Rattle.mxf_klv.specs.Parts.{NoteParts}
-use Rattle.mxf_klv.specs.Note.{end_of}
-use Rattle.mxf_klv.specs.Rising.{In}
+use Rattle.mxf_views.proofs.Common.{◌≡◌, ℕ, ◌+◌, ◌<◌, ◌≤◌, Bool, true, false, cond, List, [], ◌∷◌, Option, Some, None}
+use Rattle.mxf_views.proofs.Common.{refl, sym, ap, subst, ◌∙◌, inl, inr, arith, eqb-true, eq-eqb, leb-true, le-leb, ◌↔◌}
+use Rattle.mxf_views.proofs.Common.{◌==◌, nat_le, find, option_and_then, NoteParts, end_of, In, primer_at, read_as}
+use Rattle.mxf_views.proofs.Common.{IsContent, IsClear, clear_notes, In-clear_notes, CopyInfo, CopiesRise, IsCopy}
+use Rattle.mxf_views.proofs.Common.{IsStart, copies_of, is_in_copy, primer_there, find-only, found-In, none_found}
+use Rattle.mxf_views.proofs.Common.{all-In, and_from, and_parts}
 use Rattle.mxf_sets.specs.Batch.{BatchParts}
-use Rattle.mxf_sets.specs.PackReadings.{primer_at}
-use Rattle.mxf_sets.specs.Readable.{read_as}
-use Rattle.mxf_catalogue.specs.Content.{IsContent}
-use Rattle.mxf_catalogue.specs.Disputes.{IsClear, clear_notes}
-use Rattle.mxf_catalogue.proofs.DisputeLaws.{In-clear_notes, SharesByte-same_offset}
-use Rattle.mxf_views.specs.declared.copy.CopyInfo.{CopyInfo}
-use Rattle.mxf_views.specs.Copies.{CopiesRise, IsCopy, IsPrimerOf, IsStart, IsStartFound, copies_of}
-use Rattle.mxf_views.specs.Labels.{IsFirstWith, IsInZoneOf, IsPrimerFor, is_in_copy, is_in_zone}
-use Rattle.mxf_views.specs.Labels.{primer_for, primer_of, primer_there}
+use Rattle.mxf_catalogue.proofs.DisputeLaws.{SharesByte-same_offset}
+use Rattle.mxf_views.specs.Copies.{IsPrimerOf, IsStartFound}
+use Rattle.mxf_views.specs.Labels.{IsFirstWith, IsInZoneOf, IsPrimerFor, is_in_zone, primer_for, primer_of}
 use Rattle.mxf_views.proofs.CopyLaws.{copies_are, copies_rise, one_named}
 use Rattle.mxf_views.proofs.ReadingLaws.{reads}
 use Rattle.mxf_views.proofs.StartLaws.{clear_same}
-use Rattle.mxf_klv.proofs.Lists.{find-only, found-In, none_found, all-In}
-use Rattle.std.proofs.lemmas.Bool.{and_from, and_parts}
 
 -- ---- the copies that have a packet
 

@@ -1,30 +1,20 @@
 -- The random index pack, and how its entries stand to the partitions.
-use Rattle.std.proofs.Common.{◌≡◌, ℕ, Bool, true, false, cond, List, [], ◌∷◌, Some, None}
-use Rattle.std.proofs.Common.{refl, sym, ap, subst, ◌∙◌, inl, inr, eqb-true, eq-eqb}
-use Rattle.std.specs.Prelude.{◌↔◌, ◌==◌, find}
-use Rattle.mxf_klv.specs.Parts.{NoteParts}
-use Rattle.mxf_klv.specs.Kind.{kind_of}
-use Rattle.mxf_klv.specs.Rising.{In}
-use Rattle.mxf_sets.specs.declared.pack.random_index.RipEntry.{RipEntry}
-use Rattle.mxf_sets.specs.PackReadings.{rip_at}
-use Rattle.mxf_catalogue.specs.Content.{IsContent}
-use Rattle.mxf_catalogue.specs.Disputes.{AreApart, clear_notes}
-use Rattle.mxf_catalogue.proofs.DisputeLaws.{In-clear_notes}
-use Rattle.mxf_catalogue.proofs.SpanLaws.{AreApart-clear_notes, AreApart-filter}
-use Rattle.mxf_views.specs.Partitions.{AreInOrder, PartitionParts, partitions_of}
-use Rattle.mxf_views.specs.RandomIndex.{AreSeveralRips, IsClearRip, IsOnlyRip, IsStanding, RipAtParts}
-use Rattle.mxf_views.specs.RandomIndex.{is_rip, is_rip_note, rip_in, rips_of, standing_by, standing_of}
-use Rattle.mxf_views.specs.RandomIndexView.{IsRipView, rip_view_among, rip_view_by, rip_view_of}
+use Rattle.mxf_views.proofs.Common.{◌≡◌, ℕ, Bool, true, false, cond, List, [], ◌∷◌, Some, None, refl, sym, ap, subst}
+use Rattle.mxf_views.proofs.Common.{◌∙◌, inl, inr, eqb-true, eq-eqb, ◌↔◌, ◌==◌, find, NoteParts, kind_of, In, RipEntry}
+use Rattle.mxf_views.proofs.Common.{rip_at, IsContent, AreApart, clear_notes, In-clear_notes, AreApart-clear_notes}
+use Rattle.mxf_views.proofs.Common.{AreApart-filter, AreInOrder, PartitionParts, partitions_of, is_rip, is_rip_note}
+use Rattle.mxf_views.proofs.Common.{rip_in, rips_of, standing_of, rip_view_among, rip_view_by, rip_view_of, One}
+use Rattle.mxf_views.proofs.Common.{In-filter, found-In, none_found, find-none, find-only, false_from_ne_true}
+use Rattle.mxf_views.specs.RandomIndex.{IsClearRip, IsOnlyRip, IsStanding, RipAtParts, standing_by}
+use Rattle.mxf_views.specs.RandomIndexView.{IsRipView}
 use Rattle.mxf_views.specs.declared.random_index.Standing.{Standing}
 use Rattle.mxf_views.specs.declared.random_index.Standing.TheVariants.{Held, Differs, Missing}
 use Rattle.mxf_views.specs.declared.random_index.RipView.{RipView}
-use Rattle.mxf_views.specs.declared.random_index.RipView.TheVariants.{Absent, Several, Unreadable, One}
-use Rattle.mxf_views.proofs.FoundLaws.{later_differs}
+use Rattle.mxf_views.specs.declared.random_index.RipView.TheVariants.{Absent, Several, Unreadable}
 use Rattle.mxf_views.proofs.KindLaws.{rip_kind}
 use Rattle.mxf_views.proofs.PartitionLaws.{one_there, partitions_rise}
 use Rattle.mxf_views.proofs.ReadingLaws.{reads}
-use Rattle.mxf_klv.proofs.Lists.{In-filter, found-In, none_found, find-none, find-only}
-use Rattle.std.proofs.lemmas.Bool.{false_from_ne_true}
+use Rattle.mxf_catalogue.proofs.ApartLaws.{later_differs, picked_none, picked_one, picked_several}
 
 -- ---- standings
 
@@ -118,31 +108,16 @@ view_is notes (m ∷ n ∷ rips) w a = record {
   differ = later_differs m n rips a;
 }
 
-none_of : (notes rips : List NoteParts) → Picks notes rips → IsRipView notes Absent → rips ≡ []
-none_of notes [] w i = refl
-none_of notes (n ∷ rips) w i = absurd (i n ((w n).0 (inl refl)))
-
 only_of : (notes rips : List NoteParts) → Picks notes rips → AreApart 0 rips → (n : NoteParts) → IsOnlyRip notes n
     → rips ≡ n ∷ []
-only_of notes [] w a n o = absurd ((w n).1 o.held)
-only_of notes (x ∷ []) w a n o = ap (λ (y : NoteParts). y ∷ []) (o.only x ((w x).0 (inl refl)))
-only_of notes (x ∷ y ∷ rips) w a n o =
-    absurd (later_differs x y rips a (o.only x ((w x).0 (inl refl)) ∙ sym (o.only y ((w y).0 (inr (inl refl))))))
-
-several_of : (notes rips : List NoteParts) → Picks notes rips → AreSeveralRips notes
-    → rip_view_among notes rips ≡ Several
-several_of notes [] w s = absurd ((w s.one).1 s.one_held)
-several_of notes (x ∷ []) w s =
-    elim ((w s.one).1 s.one_held) [
-      | inl e ↦ elim ((w s.other).1 s.other_held) [ inl f ↦ absurd (s.differ (e ∙ sym f)) | inr k ↦ absurd k ]
-      | inr k ↦ absurd k
-    ]
-several_of notes (x ∷ y ∷ rips) w s = refl
+only_of notes rips w a n o = picked_one (IsClearRip notes) rips w a n o.held o.only
 
 view_to : (notes rips : List NoteParts) → Picks notes rips → AreApart 0 rips → (v : RipView)
     → IsRipView notes v → rip_view_among notes rips ≡ v
-view_to notes rips w a Absent i = ap (rip_view_among notes) (none_of notes rips w i)
-view_to notes rips w a Several i = several_of notes rips w i
+view_to notes rips w a Absent i = ap (rip_view_among notes) (picked_none (IsClearRip notes) rips w i)
+view_to notes rips w a Several i =
+    let s = picked_several (IsClearRip notes) rips w i.one i.other i.one_held i.other_held i.differ in
+    ap (rip_view_among notes) s.3
 view_to notes rips w a (Unreadable offset) i =
     let n = i.0 in
     let none : rip_in n ≡ None = elim (rip_in n) as (λ r. rip_in n ≡ r → r ≡ None) [

@@ -1,20 +1,14 @@
 -- How far copies reach, and the first of them that has a packet.
-use Rattle.std.proofs.Common.{◌≡◌, ℕ, zero, suc, ◌+◌, ◌<◌, ◌≤◌, Bool, true, false, List, [], ◌∷◌, ◌++◌, Option, Some, None}
-use Rattle.std.proofs.Common.{refl, sym, ap, subst, arith, drop, get_or, length, take, leb-true, le-leb, cond}
-use Rattle.std.specs.Prelude.{◌==◌, filter, find, map, max, nat_le, nat_lt}
-use Rattle.std.specs.Bool.{then_some}
-use Rattle.std.specs.List.{AllWithin}
-use Rattle.std.specs.List.Sorted.{IsNonDecreasing}
-use Rattle.std.proofs.lemmas.Bool.{leb-false, and_from, false_from_ne_true, and_parts}
-use Rattle.std.proofs.lemmas.List.{length-map}
-use Rattle.mxf_klv.specs.Parts.{NoteParts}
-use Rattle.mxf_klv.specs.Note.{end_of}
-use Rattle.mxf_views.specs.declared.copy.CopyInfo.{CopyInfo}
-use Rattle.mxf_views.specs.Copies.{copies_of}
-use Rattle.mxf_views.specs.Kept.{IsStartBelow, StartsRise, copies_followed, is_outside, reach_from, reach_of, reaches_from, reaches_of, renewed, with_copy, with_found}
+use Rattle.mxf_views.proofs.Common.{◌≡◌, ℕ, zero, suc, ◌+◌, ◌<◌, ◌≤◌, Bool, true, false, List, [], ◌∷◌, ◌++◌, Option}
+use Rattle.mxf_views.proofs.Common.{Some, None, refl, sym, ap, subst, arith, drop, get_or, length, take, leb-true}
+use Rattle.mxf_views.proofs.Common.{le-leb, cond, ◌==◌, filter, find, map, max, nat_le, nat_lt, then_some, AllWithin}
+use Rattle.mxf_views.proofs.Common.{IsNonDecreasing, and_from, false_from_ne_true, and_parts, length-map, NoteParts}
+use Rattle.mxf_views.proofs.Common.{end_of, CopyInfo, copies_of, StartsRise, copies_followed, is_outside, reaches_from}
+use Rattle.mxf_views.proofs.Common.{reaches_of, renewed, with_copy, is_in_copy, find-none, length-filter_le, all-In}
+use Rattle.std.proofs.lemmas.Bool.{leb-false}
+use Rattle.mxf_views.specs.Kept.{IsStartBelow, reach_from, reach_of, with_found}
 use Rattle.mxf_views.specs.KeptAbove.{EndsBy}
-use Rattle.mxf_views.specs.Labels.{is_in_copy, is_in_zone}
-use Rattle.mxf_klv.proofs.Lists.{find-none, length-filter_le, all-In}
+use Rattle.mxf_views.specs.Labels.{is_in_zone}
 
 pub length-reaches_from : (high : ℕ) (cs : List CopyInfo) → length (reaches_from high cs) ≡ length cs
 length-reaches_from high [] = refl

@@ -1,32 +1,20 @@
 -- Small files that miss one condition of well-formed files.
-use Rattle.std.specs.Prelude.{◌≡◌, ◌≢◌, ◌↔◌, ℕ, ◌+◌, ◌^◌, ◌<◌, ◌≤◌, false, true, List, [], ◌∷◌, ◌++◌, length, replicate}
-use Rattle.std.specs.Prelude.{refl, drop}
-use Rattle.std.specs.List.{AllByRecursion}
-use Rattle.std.proofs.Common.{sym, ◌∙◌, ap, subst, inl, inr, arith}
+use Rattle.mxf_views.proofs.Common.{◌≡◌, ◌≢◌, ◌↔◌, ℕ, ◌+◌, ◌^◌, ◌<◌, ◌≤◌, false, true, List, [], ◌∷◌, ◌++◌, length}
+use Rattle.mxf_views.proofs.Common.{refl, drop, AllByRecursion, sym, ◌∙◌, ap, subst, inl, inr, arith, ClosedComplete}
+use Rattle.mxf_views.proofs.Common.{kind_of, greatest_end, IsPacket, size_of, PacketParts, item_at, items_of, left_of}
+use Rattle.mxf_views.proofs.Common.{entries_of, Header, Body, Footer, RipEntry, is_fill, is_primer, read_pack, read_rip}
+use Rattle.mxf_views.proofs.Common.{read_segment, HasMetadata, IsFill, IsFooterPack, IsPartitionPack, IsWellFormed}
+use Rattle.mxf_views.proofs.Common.{total_of, numbers, pack, Place, At, NotIndexed, Ambiguous, partitions_read}
+use Rattle.std.specs.Prelude.{replicate}
 use Rattle.std.proofs.lemmas.Bool.{false≢true}
 use Rattle.std.proofs.lemmas.List.{length-replicate}
-use Rattle.mxf_klv.specs.declared.kinds.Status.TheVariants.{ClosedComplete}
-use Rattle.mxf_klv.specs.Kind.{kind_of}
-use Rattle.mxf_klv.specs.Note.{greatest_end}
-use Rattle.mxf_klv.specs.Packet.{IsPacket, size_of}
-use Rattle.mxf_klv.specs.Parts.{PacketParts, packet_parts}
+use Rattle.mxf_klv.specs.Parts.{packet_parts}
 use Rattle.mxf_klv.specs.Piece.{end_after}
-use Rattle.mxf_sets.specs.Items.{item_at, items_of, left_of}
-use Rattle.mxf_sets.specs.RandomIndexPack.{entries_of}
-use Rattle.mxf_sets.specs.declared.pack.part.PackPart.TheVariants.{Header, Body, Footer}
-use Rattle.mxf_sets.specs.declared.pack.random_index.RipEntry.{RipEntry}
-use Rattle.mxf_views.specs.Copies.{is_fill, is_primer}
-use Rattle.mxf_views.specs.RefusedFiles as refused
-use Rattle.mxf_views.specs.Records.{read_pack, read_rip, read_segment}
-use Rattle.mxf_views.specs.WellFormed.{HasMetadata, IsFill, IsFooterPack, IsPartitionPack, IsPrimerPack}
-use Rattle.mxf_views.specs.WellFormed.{IsWellFormed, total_of}
-use Rattle.mxf_views.specs.WorkedFiles.{essence_key, numbers, pack, preface, primer}
-use Rattle.mxf_views.specs.declared.index.place.Place.{Place}
-use Rattle.mxf_views.specs.declared.index.place.Place.TheVariants.{At, NotIndexed, Ambiguous}
+use Rattle.mxf_views.specs.WellFormed.{IsPrimerPack}
+use Rattle.mxf_views.specs.WorkedFiles.{essence_key, preface, primer}
 use Rattle.mxf_views.proofs.GoodFiles.{bare_footer, m_well_formed}
-use Rattle.mxf_views.proofs.SmallFiles.{no_footer, no_header, without_footer, no_footers, no_headers}
-use Rattle.mxf_views.proofs.SmallFiles.{rip_last}
-use Rattle.mxf_views.specs.Reading.{partitions_read}
+use Rattle.mxf_views.proofs.SmallFiles.{no_footer, no_header, without_footer, no_footers, no_headers, rip_last}
+use Rattle.mxf_views.specs.RefusedFiles as refused
 
 pub narrow_refused : ¬ IsWellFormed refused.narrow_length
 narrow_refused w =

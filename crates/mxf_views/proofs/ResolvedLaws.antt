@@ -1,39 +1,24 @@
 -- What the Preface of the preferred copy names.
-use Rattle.std.proofs.Common.{◌≡◌, ℕ, ◌+◌, ◌≤◌, Bool, true, false, cond, List, [], ◌∷◌, length, Option, Some, None}
-use Rattle.std.proofs.Common.{refl, sym, ap, subst, ◌∙◌, inl, inr, arith}
-use Rattle.std.specs.Prelude.{◌↔◌, filter, find}
-use Rattle.std.specs.Option.{option_map}
-use Rattle.mxf_klv.specs.declared.kinds.Kind.TheVariants as kinds
-use Rattle.mxf_klv.specs.Parts.{NoteParts}
-use Rattle.mxf_klv.specs.Note.{end_of}
-use Rattle.mxf_klv.specs.Kind.{kind_of}
-use Rattle.mxf_klv.specs.Rising.{In}
+use Rattle.mxf_views.proofs.Common.{◌≡◌, ℕ, ◌+◌, ◌≤◌, Bool, true, false, cond, List, [], ◌∷◌, length, Option, Some}
+use Rattle.mxf_views.proofs.Common.{None, refl, sym, ap, subst, ◌∙◌, inl, inr, arith, ◌↔◌, filter, find, option_map}
+use Rattle.mxf_views.proofs.Common.{NoteParts, end_of, kind_of, In, storage_at, read_as, IsContent, AreApart}
+use Rattle.mxf_views.proofs.Common.{AreApart-filter, CopyInfo, Wanted, Storage, Identification, Package, IsCopy}
+use Rattle.mxf_views.proofs.Common.{copies_of, is_preface_note, preferred_of, sets_of, IsReadAs, has_uid, resolved_of}
+use Rattle.mxf_views.proofs.Common.{storage_among, fits, target_of, find-only, none_some, same_Some}
 use Rattle.mxf_sets.specs.Preface.{PrefaceParts, preface_at}
-use Rattle.mxf_sets.specs.Storage.{StorageParts, storage_at}
-use Rattle.mxf_sets.specs.Readable.{read_as}
-use Rattle.mxf_catalogue.specs.Content.{IsContent}
-use Rattle.mxf_catalogue.specs.Disputes.{AreApart}
-use Rattle.mxf_catalogue.proofs.SpanLaws.{AreApart-filter}
-use Rattle.mxf_views.specs.declared.copy.CopyInfo.{CopyInfo}
+use Rattle.mxf_sets.specs.Storage.{StorageParts}
 use Rattle.mxf_views.specs.declared.reference.target.Ref.{Ref}
-use Rattle.mxf_views.specs.declared.reference.target.Wanted.{Wanted}
-use Rattle.mxf_views.specs.declared.reference.target.Wanted.TheVariants.{Storage, Identification, Package}
-use Rattle.mxf_views.specs.Copies.{AreSoMany, CountsZone, IsBest, IsCopy, IsPreferred, IsPrefaceIn}
-use Rattle.mxf_views.specs.Copies.{copies_of, is_preface_note, preface, preferred_of, sets_of}
-use Rattle.mxf_views.specs.Readings.{IsReadAs}
-use Rattle.mxf_views.specs.References.{has_uid}
+use Rattle.mxf_views.specs.Copies.{AreSoMany, CountsZone, IsBest, IsPreferred, IsPrefaceIn, preface}
 use Rattle.mxf_views.specs.Resolved.{ResolvedParts, packages_of, preface_in, resolved_by, resolved_from, resolved_in}
-use Rattle.mxf_views.specs.Resolved.{resolved_of, storage_among, storage_in}
-use Rattle.mxf_views.specs.ResolvedView.{AreNamedBy, ArePackages, AreRefsOf, IsOnlyPreface, IsRefOf}
-use Rattle.mxf_views.specs.ResolvedView.{IsResolved, IsResolvedFrom, IsStorage}
-use Rattle.mxf_views.specs.Targets.{fits, ref_of, refs_of, target_of}
+use Rattle.mxf_views.specs.Resolved.{storage_in}
+use Rattle.mxf_views.specs.ResolvedView.{AreNamedBy, ArePackages, AreRefsOf, IsOnlyPreface, IsRefOf, IsResolved}
+use Rattle.mxf_views.specs.ResolvedView.{IsResolvedFrom, IsStorage}
+use Rattle.mxf_views.specs.Targets.{ref_of, refs_of}
 use Rattle.mxf_views.proofs.BestLaws.{one_best, preferred_is}
 use Rattle.mxf_views.proofs.CopyLaws.{copies_are, one_named, preface_note, sets_are, sets_apart}
 use Rattle.mxf_views.proofs.FoundLaws.{Picks, only_from, only_of, picks, target_of_iff, wanted_kind}
 use Rattle.mxf_views.proofs.ReadingLaws.{reads}
-use Rattle.mxf_klv.proofs.Lists.{find-only}
-use Rattle.mxf_klv.proofs.Tests.{none_some}
-use Rattle.std.proofs.lemmas.Option.{same_Some}
+use Rattle.mxf_klv.specs.declared.kinds.Kind.TheVariants as kinds
 
 -- ---- references
 

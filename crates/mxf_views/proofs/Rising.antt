@@ -1,11 +1,8 @@
 -- Partitions, copies and segments rise by a number of each, so that what is proved of such lists holds of them.
-use Rattle.std.proofs.Common.{◌↔◌, List, [], ◌∷◌}
-use Rattle.std.specs.List.Sorted.{IsNonDecreasingBy}
+use Rattle.mxf_views.proofs.Common.{◌↔◌, List, [], ◌∷◌, IsNonDecreasingBy, CopyInfo, CopiesRise, AreInOrder}
+use Rattle.mxf_views.proofs.Common.{PartitionParts, SegmentAtParts}
 use Rattle.mxf_klv.proofs.RisingBy.{IsRisingBy, never_falls}
-use Rattle.mxf_views.specs.declared.copy.CopyInfo.{CopyInfo}
-use Rattle.mxf_views.specs.Copies.{CopiesRise}
-use Rattle.mxf_views.specs.Partitions.{AreInOrder, PartitionParts}
-use Rattle.mxf_views.specs.Places.{SegmentAtParts, SegmentsRise}
+use Rattle.mxf_views.specs.Places.{SegmentsRise}
 
 pub by_offset : (ps : List PartitionParts) → AreInOrder ps ↔ IsRisingBy (λ p. p.offset) ps
 by_offset [] = (λ r. r, λ r. r)

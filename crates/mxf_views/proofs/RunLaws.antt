@@ -1,30 +1,19 @@
 -- A content of exactly what was handed is what the run holds.
-use Rattle.std.specs.Prelude.{◌≡◌, ◌↔◌, ℕ, ◌+◌, ◌<◌, List, [], ◌∷◌, filter, refl}
-use Rattle.std.specs.List.{AllByRecursion}
-use Rattle.std.specs.declared.cmp.Ordering.TheVariants.{Less}
-use Rattle.std.proofs.Common.{sym, subst, arith, ap}
-use Rattle.std.proofs.lemmas.Bool.{lt-ltb}
-use Rattle.mxf_klv.specs.Note.{note_cmp, note_of}
-use Rattle.mxf_klv.specs.Packet.{size_of}
-use Rattle.mxf_klv.specs.Parts.{PacketParts, NoteParts}
-use Rattle.mxf_klv.specs.Piece.{notes_from}
-use Rattle.mxf_klv.specs.Rising.{In}
+use Rattle.mxf_views.proofs.Common.{◌≡◌, ◌↔◌, ℕ, ◌+◌, ◌<◌, List, [], ◌∷◌, filter, AllByRecursion, Less, sym, subst}
+use Rattle.mxf_views.proofs.Common.{arith, ap, note_of, size_of, PacketParts, NoteParts, notes_from, In, IsContent}
+use Rattle.mxf_views.proofs.Common.{is_disputed, same_content, IsWellFormed, less_by_offset, In-filter}
+use Rattle.mxf_klv.specs.Note.{note_cmp}
 use Rattle.mxf_catalogue.specs.CatalogueFile.{IsFileOf, file_bytes}
-use Rattle.mxf_catalogue.specs.Content.{IsContent, IsLocated}
-use Rattle.mxf_catalogue.specs.Disputes.{is_disputed}
+use Rattle.mxf_catalogue.specs.Content.{IsLocated}
 use Rattle.mxf_catalogue.specs.History.{content}
-use Rattle.mxf_catalogue.proofs.ContentLaws.{same_content}
 use Rattle.mxf_catalogue.proofs.DisputeLaws.{is_disputed-IsDisputed, notes-disputed_notes}
 use Rattle.mxf_catalogue.proofs.HistoryLaws.{In-content, IsContent-content}
 use Rattle.mxf_views.specs.Headline.{IsDisputedAmong, IsNoteOf, IsReadFromFront, IsTheRun}
-use Rattle.mxf_views.specs.WellFormed.{IsWellFormed}
 use Rattle.mxf_views.proofs.Laid.{is_whole}
 use Rattle.mxf_views.proofs.LaidCopies.{copies-laid}
 use Rattle.mxf_views.proofs.LaidIndex.{index-laid}
 use Rattle.mxf_views.proofs.LaidPartitions.{partitions-laid}
 use Rattle.mxf_views.proofs.LaidRandomIndex.{random_index-laid}
-use Rattle.mxf_catalogue.proofs.SpanLaws.{less_by_offset}
-use Rattle.mxf_klv.proofs.Lists.{In-filter}
 
 less_than_later : (n : NoteParts) (at : ℕ) (l : List PacketParts) → n.offset < at
     → AllByRecursion (λ m. note_cmp n m ≡ Less) (notes_from at l)

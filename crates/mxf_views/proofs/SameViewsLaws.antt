@@ -1,33 +1,20 @@
 -- Views are those of the clear notes, and added notes take clear ones away.
-use Rattle.std.proofs.Common.{◌≡◌, ℕ, List, [], ◌∷◌, Option, Some, None, refl, ap, ◌∙◌, inl, subst, sym}
-use Rattle.std.specs.Prelude.{◌&&◌, ◌||◌, ◌==◌, not, Bool, count_by, filter, find, map, if◌then◌else◌}
-use Rattle.std.specs.Option.{option_and_then, option_map}
-use Rattle.std.specs.List.{list_all}
-use Rattle.mxf_klv.specs.Parts.{NoteParts}
-use Rattle.mxf_klv.specs.Rising.{In}
-use Rattle.mxf_sets.specs.PackReadings.{primer_at}
+use Rattle.mxf_views.proofs.Common.{◌≡◌, ℕ, List, [], ◌∷◌, Option, Some, None, refl, ap, ◌∙◌, inl, subst, sym, ◌&&◌}
+use Rattle.mxf_views.proofs.Common.{◌||◌, ◌==◌, not, Bool, count_by, filter, find, map, if◌then◌else◌, option_and_then}
+use Rattle.mxf_views.proofs.Common.{option_map, list_all, NoteParts, In, primer_at, read_as, AreReduced, has_note}
+use Rattle.mxf_views.proofs.Common.{reduced_with, SharesByte, clear_notes, In-clear_notes, Whole, Broken, CopyInfo}
+use Rattle.mxf_views.proofs.Common.{Wanted, Storage, Identification, Package, PartitionParts, chain_of, is_footer}
+use Rattle.mxf_views.proofs.Common.{is_greatest, is_header, is_linked, is_no_unreadable_pack, link_at, partitions_among}
+use Rattle.mxf_views.proofs.Common.{partitions_of, copies_of, is_preface_note, preferred_of, sets_found, sets_of}
+use Rattle.mxf_views.proofs.Common.{is_in_copy, primer_there, found_among, has_uid, target_among, target_of}
+use Rattle.mxf_views.proofs.Common.{resolved_of, storage_among, RipParts, place_of, segments_among, segments_of}
+use Rattle.mxf_views.proofs.Common.{is_rip_note, rip_in, rips_of, standing_of, rip_view_among, rip_view_by, rip_view_of}
+use Rattle.mxf_views.proofs.Common.{One}
 use Rattle.mxf_sets.specs.Preface.{PrefaceParts}
-use Rattle.mxf_sets.specs.Readable.{read_as}
-use Rattle.mxf_catalogue.specs.Content.{AreReduced, has_note, reduced_with}
-use Rattle.mxf_catalogue.specs.Disputes.{SharesByte, clear_notes}
-use Rattle.mxf_catalogue.proofs.DisputeLaws.{In-clear_notes}
 use Rattle.mxf_catalogue.proofs.HeadLaws.{In-reduced_with}
-use Rattle.mxf_views.specs.declared.chain.Chain.TheVariants.{Whole, Broken}
-use Rattle.mxf_views.specs.declared.copy.CopyInfo.{CopyInfo}
-use Rattle.mxf_views.specs.declared.reference.target.Wanted.{Wanted}
-use Rattle.mxf_views.specs.declared.reference.target.Wanted.TheVariants.{Storage, Identification, Package}
-use Rattle.mxf_views.specs.Partitions.{PartitionParts, chain_of, is_footer, is_greatest, is_header, is_linked}
-use Rattle.mxf_views.specs.Partitions.{is_no_unreadable_pack, link_at, partitions_among, partitions_of}
-use Rattle.mxf_views.specs.Copies.{copies_among, copies_of, is_preface_note, preferred_of, sets_found, sets_of}
-use Rattle.mxf_views.specs.Labels.{is_in_copy, primer_for, primer_there}
-use Rattle.mxf_views.specs.References.{found_among, has_uid}
-use Rattle.mxf_views.specs.Targets.{target_among, target_of}
-use Rattle.mxf_views.specs.Resolved.{packages_of, preface_in, resolved_by, resolved_from, resolved_of, storage_among}
-use Rattle.mxf_sets.specs.RandomIndexPack.{RipParts}
-use Rattle.mxf_views.specs.Places.{place_of, segments_among, segments_of}
-use Rattle.mxf_views.specs.RandomIndex.{is_rip_note, rip_in, rips_of, standing_of}
-use Rattle.mxf_views.specs.RandomIndexView.{rip_view_among, rip_view_by, rip_view_of}
-use Rattle.mxf_views.specs.declared.random_index.RipView.TheVariants.{One}
+use Rattle.mxf_views.specs.Copies.{copies_among}
+use Rattle.mxf_views.specs.Labels.{primer_for}
+use Rattle.mxf_views.specs.Resolved.{packages_of, preface_in, resolved_by, resolved_from}
 use Rattle.mxf_views.specs.SameViews.{SameViews}
 
 module _ (a b : List NoteParts) (e : clear_notes a ≡ clear_notes b) where

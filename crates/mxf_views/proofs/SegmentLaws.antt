@@ -1,26 +1,14 @@
 -- Which segments there are.
-use Rattle.std.proofs.Common.{◌≡◌, ℕ, ◌<◌, ◌≤◌, true, false, cond, List, [], ◌∷◌, Some, None, Ok, Err}
-use Rattle.std.proofs.Common.{refl, sym, ap, subst, inl, inr, arith}
-use Rattle.std.specs.Prelude.{◌↔◌}
-use Rattle.std.specs.Option.{option_map}
-use Rattle.std.specs.Result.{result_ok}
-use Rattle.mxf_klv.specs.Parts.{NoteParts}
-use Rattle.mxf_klv.specs.Note.{end_of, keeps_value}
-use Rattle.mxf_klv.specs.Kind.{kind_of}
-use Rattle.mxf_klv.specs.Rising.{In}
-use Rattle.mxf_sets.specs.Segment.{SegmentParts, segment_at}
-use Rattle.mxf_sets.specs.Readable.{read_as}
-use Rattle.mxf_catalogue.specs.Content.{IsContent}
-use Rattle.mxf_catalogue.specs.Disputes.{AreApart, IsClear, clear_notes}
-use Rattle.mxf_catalogue.proofs.DisputeLaws.{In-clear_notes}
-use Rattle.mxf_catalogue.proofs.SpanLaws.{AreApart-clear_notes}
-use Rattle.mxf_views.specs.Places.{IsSegmentAt, SegmentAtParts, SegmentsRise, is_segment, placed_segment, segment_in}
-use Rattle.mxf_views.specs.Places.{segments_among, segments_of}
+use Rattle.mxf_views.proofs.Common.{◌≡◌, ℕ, true, false, cond, List, Some, None, refl, sym, ap, subst, ◌↔◌, option_map}
+use Rattle.mxf_views.proofs.Common.{NoteParts, keeps_value, kind_of, In, SegmentParts, segment_at, read_as, IsContent}
+use Rattle.mxf_views.proofs.Common.{IsClear, clear_notes, In-clear_notes, AreApart-clear_notes, SegmentAtParts}
+use Rattle.mxf_views.proofs.Common.{is_segment, placed_segment, segments_of, In-filter_map}
+use Rattle.mxf_views.specs.Places.{IsSegmentAt, SegmentsRise, segment_in}
 use Rattle.mxf_views.proofs.KindLaws.{segment_kind}
-use Rattle.mxf_klv.proofs.Lists.{In-filter_map, all_from_In}
 use Rattle.mxf_catalogue.proofs.ApartLaws.{apart_rises}
 use Rattle.mxf_klv.proofs.RisingBy.{rises-filter_map}
 use Rattle.mxf_views.proofs.Rising.{by_segment}
+use Rattle.mxf_views.proofs.ReadingLaws.{reads}
 
 abbrev placed : ℕ → SegmentParts → SegmentAtParts
 placed offset segment = record { offset = offset; segment = segment }
@@ -34,24 +22,15 @@ segment_from notes n s clear e =
     → option_map (placed n.offset) (cond b (read_as segment_at n) None) ≡ Some s → IsSegmentAt notes s) [
       | false ↦ λ _ q. absurd cc
       | true ↦ λ t q.
-          elim (keeps_value n) as (λ b. keeps_value n ≡ b
-          → option_map (placed n.offset) (cond b (result_ok (segment_at n.held)) None) ≡ Some s → IsSegmentAt notes s) [
-            | false ↦ λ _ u. absurd cc
-            | true ↦ λ kept u.
-                elim (segment_at n.held) as (λ r. segment_at n.held ≡ r
-                → option_map (placed n.offset) (result_ok r) ≡ Some s → IsSegmentAt notes s) [
-                  | Err f ↦ λ _ v. absurd cc
-                  | Ok segment ↦ λ r v.
-                      let same : placed n.offset segment ≡ s = cc (v) in
-                      subst (IsSegmentAt notes) same record {
-                        note = n;
-                        clear = clear;
-                        kind = (segment_kind k).0 t;
-                        kept = kept;
-                        read = r;
-                        offset = refl;
-                      }
-                ] refl u
+          elim (read_as segment_at n) as (λ o. read_as segment_at n ≡ o
+          → option_map (placed n.offset) o ≡ Some s → IsSegmentAt notes s) [
+            | None ↦ λ _ u. absurd cc
+            | Some segment ↦ λ r u.
+                let same : placed n.offset segment ≡ s = cc (u) in
+                let is = (reads segment_at n segment).0 r in
+                let kind = (segment_kind k).0 t in
+                subst (IsSegmentAt notes) same
+                record { note = n; clear = clear; kind = kind; kept = is.0; read = is.1; offset = refl }
           ] refl q
     ] refl e
 

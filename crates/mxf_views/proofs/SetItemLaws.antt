@@ -1,13 +1,10 @@
 -- The items of header metadata sets.
-use Rattle.std.proofs.Common.{◌≡◌, ℕ, ◌∙◌, Bool, true, false, List, Option, Some, None, length, refl, sym, ap, subst}
-use Rattle.std.proofs.Common.{eq-eqb}
-use Rattle.std.specs.Prelude.{◌↔◌, ◌==◌, ◌&&◌, if◌then◌else◌}
+use Rattle.mxf_views.proofs.Common.{◌≡◌, ℕ, ◌∙◌, Bool, true, false, List, Option, Some, None, length, refl, sym, ap}
+use Rattle.mxf_views.proofs.Common.{subst, eq-eqb, ◌↔◌, ◌==◌, ◌&&◌, if◌then◌else◌, NoteParts, keeps_value, items_of}
+use Rattle.mxf_views.proofs.Common.{left_of, is_set_note}
 use Rattle.mxf_klv.specs.Bytes.{AreBytes}
-use Rattle.mxf_klv.specs.Parts.{NoteParts}
-use Rattle.mxf_klv.specs.Note.{keeps_value}
-use Rattle.mxf_sets.specs.Items.{ItemParts, items_of, left_of}
+use Rattle.mxf_sets.specs.Items.{ItemParts}
 use Rattle.mxf_sets.proofs.ItemLemmas.{are_items, empty_from_test, only_are}
-use Rattle.mxf_views.specs.Copies.{is_set_note}
 use Rattle.mxf_views.specs.SetItems.{AreSetItems, set_items}
 use Rattle.mxf_views.proofs.CopyLaws.{set_note}
 

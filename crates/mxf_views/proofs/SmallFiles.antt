@@ -1,37 +1,21 @@
 -- Which of the small files are well-formed.
-use Rattle.std.specs.Prelude.{◌≡◌, ◌-◌, ◌^◌, ◌<◌, length, Bool, true, false, List, [], ◌∷◌, ◌++◌, Some, refl, ◌||◌}
-use Rattle.std.specs.Prelude.{drop, take, map, IfSome, ◌==◌, ◌&&◌, nat_lt}
-use Rattle.std.specs.List.{AllByRecursion, list_any, list_all}
-use Rattle.std.proofs.Common.{sym, ◌∙◌, ap, subst, inl, inr, arith}
-use Rattle.std.proofs.lemmas.Bool.{false≢true, or_parts, and_parts, eqb-true, ltb-true}
-use Rattle.mxf_klv.specs.declared.kinds.Kind.{Kind}
-use Rattle.mxf_klv.specs.declared.kinds.Kind.TheVariants as kinds
-use Rattle.mxf_klv.specs.declared.kinds.Status.{Status}
-use Rattle.mxf_klv.specs.declared.kinds.Status.TheVariants.{OpenIncomplete, ClosedIncomplete, OpenComplete}
-use Rattle.mxf_klv.specs.declared.kinds.Status.TheVariants.{ClosedComplete}
-use Rattle.mxf_klv.specs.Kind.{kind_of}
+use Rattle.mxf_views.proofs.Common.{◌≡◌, ◌-◌, ◌^◌, ◌<◌, length, Bool, true, false, List, [], ◌∷◌, ◌++◌, Some, refl}
+use Rattle.mxf_views.proofs.Common.{◌||◌, drop, take, map, IfSome, ◌==◌, ◌&&◌, nat_lt, AllByRecursion, list_any}
+use Rattle.mxf_views.proofs.Common.{list_all, sym, ◌∙◌, ap, subst, inl, inr, arith, and_parts, eqb-true, ltb-true, Kind}
+use Rattle.mxf_views.proofs.Common.{Status, OpenIncomplete, ClosedComplete, kind_of, IsPacket, PacketParts, item_at}
+use Rattle.mxf_views.proofs.Common.{items_of, left_of, pack_kind, entries_of, PackPart, Header, Body, Footer}
+use Rattle.mxf_views.proofs.Common.{SegmentAtParts, is_rip, place_by_segment, segments_read, partitions_read, read_pack}
+use Rattle.mxf_views.proofs.Common.{read_rip, read_segment, Agree, EndsWithFooter, HasMetadata, IsFooterPack}
+use Rattle.mxf_views.proofs.Common.{IsPartitionPack, IsWellFormed, IsFill, numbers, pack, PartitionParts}
+use Rattle.mxf_views.proofs.Common.{bytes_eq-Decides}
+use Rattle.std.proofs.lemmas.Bool.{false≢true, or_parts}
+use Rattle.mxf_klv.specs.declared.kinds.Status.TheVariants.{ClosedIncomplete, OpenComplete}
 use Rattle.mxf_klv.specs.Label.{label_start}
-use Rattle.mxf_klv.specs.Packet.{IsPacket}
-use Rattle.mxf_klv.specs.Parts.{PacketParts}
-use Rattle.mxf_sets.specs.Items.{item_at, items_of, left_of}
-use Rattle.mxf_sets.specs.PartitionPack.{pack_kind}
-use Rattle.mxf_sets.specs.RandomIndexPack.{entries_of}
-use Rattle.mxf_sets.specs.declared.pack.numbers.PartitionNumbers.{PartitionNumbers}
-use Rattle.mxf_sets.specs.declared.pack.part.PackPart.{PackPart}
-use Rattle.mxf_sets.specs.declared.pack.part.PackPart.TheVariants.{Header, Body, Footer}
 use Rattle.mxf_views.specs.Copies.{rank}
-use Rattle.mxf_views.specs.Places.{SegmentAtParts}
-use Rattle.mxf_views.specs.RandomIndex.{is_rip}
-use Rattle.mxf_views.specs.Reading.{place_by_segment, segments_read, partitions_read}
-use Rattle.mxf_views.specs.Records.{read_pack, read_rip, read_segment}
-use Rattle.mxf_views.specs.WellFormed.{Agree, EndsWithFooter, HasMetadata, IsFooterPack, IsHeaderPack}
-use Rattle.mxf_views.specs.WellFormed.{IsPartitionPack, IsRandomIndexPack, IsWellFormed, EndsWithRandomIndex, IsFill}
-use Rattle.mxf_views.specs.WellFormed.{entry_of}
-use Rattle.mxf_views.specs.WorkedFiles.{constant, essence, h_file, n_file, numbers, pack, pack_of}
-use Rattle.mxf_views.specs.WorkedFiles.{preface, primer, r_file, three_entries, w_file}
-use Rattle.mxf_views.specs.Partitions.{PartitionParts}
-use Rattle.std.proofs.lemmas.Slice.Eq.{bytes_eq-Decides}
+use Rattle.mxf_views.specs.WellFormed.{IsHeaderPack, IsRandomIndexPack, EndsWithRandomIndex, entry_of}
+use Rattle.mxf_views.specs.WorkedFiles.{h_file, n_file, preface, primer, r_file, w_file}
 use Rattle.std.specs.Str.{bytes_eq}
+use Rattle.mxf_klv.specs.declared.kinds.Kind.TheVariants as kinds
 
 pub rank_below_4 : (status : Status) → rank status < 4
 rank_below_4 OpenIncomplete = omega arith

@@ -1,17 +1,11 @@
 -- Of packets that share no byte, the bytes that they take are the offsets that lie in one of them.
-use Rattle.std.specs.Prelude.{◌≡◌, ◌≢◌, ℕ, zero, suc, ◌+◌, ◌-◌, ◌<◌, ◌≤◌, Bool, true, false, cond, nat_le}
-use Rattle.std.specs.Prelude.{nat_lt, ◌==◌, List, [], ◌∷◌, count_by, filter, refl}
-use Rattle.std.specs.List.{range_with_len}
-use Rattle.std.proofs.Common.{sym, ◌∙◌, ap, subst, inl, inr, arith, leb-true, le-leb, eqb-true}
-use Rattle.std.proofs.lemmas.Bool.{ltb-true, lt-ltb, false_from_ne_true, and_parts}
-use Rattle.std.proofs.lemmas.List.Sums.{sum_by-cons}
-use Rattle.mxf_klv.specs.Parts.{NoteParts}
-use Rattle.mxf_klv.specs.Note.{end_of}
-use Rattle.mxf_catalogue.specs.Disputes.{AreApart}
-use Rattle.mxf_catalogue.proofs.SpanLaws.{AreApart-filter, AreApart-lower}
-use Rattle.mxf_views.specs.Spans.{size_of, sizes, is_in_span, is_in_one, AllEndBy}
-use Rattle.mxf_catalogue.specs.Disputes.{lies_in}
-use Rattle.mxf_klv.proofs.Counts.{tally, count_by-cons, range-split, range-none, range-all, range-same, range-le}
+use Rattle.mxf_views.proofs.Common.{◌≡◌, ℕ, ◌+◌, ◌-◌, ◌<◌, ◌≤◌, true, false, cond, nat_le, nat_lt, List, [], ◌∷◌}
+use Rattle.mxf_views.proofs.Common.{count_by, filter, refl, range_with_len, sym, ap, subst, arith, leb-true, le-leb}
+use Rattle.mxf_views.proofs.Common.{ltb-true, lt-ltb, false_from_ne_true, and_parts, sum_by-cons, NoteParts, end_of}
+use Rattle.mxf_views.proofs.Common.{AreApart, AreApart-filter, sizes, is_in_one, lies_in}
+use Rattle.mxf_catalogue.proofs.SpanLaws.{AreApart-lower}
+use Rattle.mxf_views.specs.Spans.{size_of, is_in_span, AllEndBy}
+use Rattle.mxf_klv.proofs.Counts.{range-split, range-none, range-all, range-same}
 
 -- ---- counting offsets of a range
 

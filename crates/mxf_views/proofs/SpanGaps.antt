@@ -1,20 +1,16 @@
 -- The gaps of notes are those of the cover of what they cover, and what lies between its end and the greatest end.
-use Rattle.std.proofs.Common.{◌≡◌, ℕ, ◌+◌, ◌-◌, ◌<◌, ◌≤◌, ◌++◌, true, false, List, [], ◌∷◌, ap, arith, inl, inr, refl}
-use Rattle.std.specs.Prelude.{◌↔◌, cond, nat_lt}
-use Rattle.std.proofs.lemmas.Bool.{ltb-true, ltb-false}
-use Rattle.mxf_klv.specs.Note.{covered_end, end_of}
-use Rattle.mxf_klv.specs.Parts.{NoteParts}
-use Rattle.mxf_klv.specs.Rising.{In}
-use Rattle.mxf_catalogue.specs.Content.{IsContent}
+use Rattle.mxf_views.proofs.Common.{◌≡◌, ℕ, ◌+◌, ◌-◌, ◌<◌, ◌≤◌, ◌++◌, true, false, List, [], ◌∷◌, ap, arith, inl, inr}
+use Rattle.mxf_views.proofs.Common.{refl, ◌↔◌, cond, nat_lt, ltb-true, ltb-false, end_of, NoteParts, In, IsContent}
+use Rattle.mxf_views.proofs.Common.{AreMaximal, LiesIn, Run, gaps_of, In-append}
+use Rattle.mxf_klv.specs.Note.{covered_end}
 use Rattle.mxf_catalogue.specs.Covers.{IsBetween, IsCover, gaps_of_runs}
 use Rattle.mxf_catalogue.specs.NoteLists.{Covers}
-use Rattle.mxf_catalogue.specs.Runs.{AreMaximal, LiesIn, run}
-use Rattle.mxf_catalogue.specs.declared.run.Run.{Run}
+use Rattle.mxf_catalogue.specs.Runs.{run}
 use Rattle.mxf_catalogue.proofs.CoverLaws.{gaps_by_definition}
 use Rattle.mxf_catalogue.proofs.RunLaws.{same_runs}
-use Rattle.mxf_views.specs.Gaps.{AreGaps, IsGap, gaps_of}
+use Rattle.mxf_views.specs.Gaps.{AreGaps, IsGap}
 use Rattle.mxf_views.proofs.GapsLaws.{covers_below_end, gaps_are, has_byte}
-use Rattle.mxf_klv.proofs.Lists.{some_above, In-append}
+use Rattle.mxf_klv.proofs.Lists.{some_above}
 
 -- A run that begins above the ends of maximal ones goes on with them.
 maximal_push : (low : ℕ) (runs : List Run) (r : Run) → AreMaximal low runs → low ≤ r.start → r.start < r.end

@@ -1,33 +1,25 @@
 -- Where the header metadata of a partition begin.
-use Rattle.std.proofs.Common.{◌≡◌, ℕ, ◌+◌, ◌-◌, ◌<◌, ◌≤◌, Bool, true, false, List, [], ◌∷◌, Some}
-use Rattle.std.proofs.Common.{None, refl, sym, ap, subst, ◌∙◌, inl, inr, arith, eqb-true, eq-eqb, le-leb, leb-true}
-use Rattle.std.specs.Prelude.{◌↔◌, ◌&&◌, ◌==◌, nat_le, nat_lt, find, is_some, count_by}
-use Rattle.std.specs.Option.{option_map}
-use Rattle.std.specs.List.{list_all, range_with_len}
-use Rattle.std.proofs.lemmas.Bool.{ltb-true, ltb-false, and_from, and_parts}
-use Rattle.mxf_klv.specs.declared.kinds.Kind.TheVariants as kinds
-use Rattle.mxf_klv.specs.Parts.{NoteParts}
-use Rattle.mxf_klv.specs.Note.{end_of}
-use Rattle.mxf_klv.specs.Kind.{kind_of}
-use Rattle.mxf_klv.specs.Rising.{In}
+use Rattle.mxf_views.proofs.Common.{◌≡◌, ℕ, ◌+◌, ◌-◌, ◌<◌, ◌≤◌, true, false, List, Some, None, refl, sym, ap, subst}
+use Rattle.mxf_views.proofs.Common.{◌∙◌, arith, eqb-true, eq-eqb, le-leb, leb-true, ◌↔◌, ◌==◌, nat_le, nat_lt, find}
+use Rattle.mxf_views.proofs.Common.{is_some, count_by, option_map, list_all, range_with_len, ltb-true, ltb-false}
+use Rattle.mxf_views.proofs.Common.{and_from, and_parts, NoteParts, end_of, kind_of, In, primer_at, read_as, IsContent}
+use Rattle.mxf_views.proofs.Common.{IsClear, SharesByte, clear_notes, In-clear_notes, IsStart, covered_of, is_fill_note}
+use Rattle.mxf_views.proofs.Common.{is_filled, is_primer, is_readable_primer, is_start, start_of, zone_of, is_in_one}
+use Rattle.mxf_views.proofs.Common.{lies_in, AreApart-clear_notes, In-list_all, In-filter, list_any-In, found-In}
+use Rattle.mxf_views.proofs.Common.{none_found}
 use Rattle.mxf_sets.specs.Batch.{BatchParts}
-use Rattle.mxf_sets.specs.PackReadings.{primer_at}
-use Rattle.mxf_sets.specs.Readable.{read_as}
-use Rattle.mxf_catalogue.specs.Content.{IsContent}
-use Rattle.mxf_catalogue.specs.Disputes.{IsClear, SharesByte, clear_notes, is_same_note}
-use Rattle.mxf_catalogue.proofs.DisputeLaws.{In-clear_notes, clear-apart}
-use Rattle.mxf_views.specs.Copies.{IsFilled, IsPrimerOf, IsStart, covered_of, is_fill_note, is_filled, is_primer}
-use Rattle.mxf_views.specs.Copies.{is_readable_primer, is_start, start_of, zone_of}
-use Rattle.mxf_views.specs.Spans.{is_in_one, is_in_span}
-use Rattle.mxf_catalogue.specs.Disputes.{lies_in}
+use Rattle.mxf_catalogue.specs.Disputes.{is_same_note}
+use Rattle.mxf_catalogue.proofs.DisputeLaws.{clear-apart}
+use Rattle.mxf_views.specs.Copies.{IsFilled, IsPrimerOf}
+use Rattle.mxf_views.specs.Spans.{is_in_span}
 use Rattle.mxf_views.proofs.KindLaws.{fill_kind, primer_kind}
 use Rattle.mxf_views.proofs.ReadingLaws.{is_some_readable}
 use Rattle.mxf_views.proofs.SpanCounts.{in_span, in_span-says, zone-count}
-use Rattle.mxf_catalogue.proofs.SpanLaws.{AreApart-clear_notes}
 use Rattle.mxf_klv.proofs.Counts.{range-all, range-full}
 use Rattle.mxf_klv.proofs.HeadOrder.{same_note-Decides}
-use Rattle.mxf_klv.proofs.Lists.{list_all-In, In-list_all, In-filter, list_any-In, found-In, none_found}
+use Rattle.mxf_klv.proofs.Lists.{list_all-In}
 use Rattle.mxf_klv.proofs.Tests.{all_three, three_parts}
+use Rattle.mxf_klv.specs.declared.kinds.Kind.TheVariants as kinds
 
 -- clear notes that share a byte are one
 pub clear_same : (notes : List NoteParts) (m n : NoteParts) → IsClear m notes → IsClear n notes → SharesByte m n → m ≡ n

@@ -1,18 +1,11 @@
 -- Going over the fills that follow a pack.
-use Rattle.std.proofs.Common.{◌≡◌, ℕ, ◌+◌, ◌<◌, ◌≤◌, ◌⊎◌, true, false, List, [], ◌∷◌, Some, None, refl}
-use Rattle.std.proofs.Common.{sym, ap, subst, ◌∙◌, inl, inr, arith, le-leb, leb-true}
-use Rattle.std.specs.Prelude.{nat_lt, filter}
-use Rattle.std.specs.Bool.{then_some}
-use Rattle.std.proofs.lemmas.Bool.{ltb-true, ltb-false, and_from, and_parts}
-use Rattle.mxf_klv.specs.Parts.{NoteParts}
-use Rattle.mxf_klv.specs.Note.{IsNote, end_of}
-use Rattle.mxf_klv.specs.Rising.{In}
-use Rattle.mxf_catalogue.specs.Content.{IsCatalogue, IsContent}
-use Rattle.mxf_catalogue.specs.Disputes.{AreApart, IsClear, SharesByte, clear_notes, lies_in}
-use Rattle.mxf_catalogue.proofs.DisputeLaws.{In-clear_notes}
-use Rattle.mxf_views.specs.Copies.{IsFilled, IsStart, is_fill_note, is_readable_primer, start_of}
+use Rattle.mxf_views.proofs.Common.{◌≡◌, ℕ, ◌+◌, ◌<◌, ◌≤◌, ◌⊎◌, true, false, List, [], ◌∷◌, Some, None, refl, sym, ap}
+use Rattle.mxf_views.proofs.Common.{subst, ◌∙◌, inl, inr, arith, le-leb, leb-true, nat_lt, filter, then_some, ltb-true}
+use Rattle.mxf_views.proofs.Common.{ltb-false, and_from, and_parts, NoteParts, IsNote, end_of, In, IsCatalogue}
+use Rattle.mxf_views.proofs.Common.{IsContent, AreApart, IsClear, SharesByte, clear_notes, lies_in, In-clear_notes}
+use Rattle.mxf_views.proofs.Common.{IsStart, is_fill_note, is_readable_primer, start_of, all-In, In-filter}
+use Rattle.mxf_views.specs.Copies.{IsFilled}
 use Rattle.mxf_views.proofs.StartLaws.{clear_same, fill_note, not_in_fill, primer_note, start_is}
-use Rattle.mxf_klv.proofs.Lists.{all-In, In-filter}
 
 -- From the end of the pack up to an offset there are clear fills alone, and these clear notes are left.
 pub record Passed (notes : List NoteParts) (end reached : ℕ) (left : List NoteParts) : Type 0 where

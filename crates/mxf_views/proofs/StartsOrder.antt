@@ -1,28 +1,18 @@
 -- The copies of a content start one behind another: behind the pack of each partition and before that of the next one.
-use Rattle.std.proofs.Common.{◌≡◌, ℕ, ◌<◌, ◌≤◌, true, false, List, [], ◌∷◌, Option, Some, None, refl}
-use Rattle.std.proofs.Common.{ap, ◌∙◌, inl, inr, arith}
-use Rattle.std.specs.Prelude.{if◌then◌else◌}
-use Rattle.std.specs.Option.{option_map}
-use Rattle.std.specs.Result.{result_ok}
-use Rattle.std.proofs.lemmas.Bool.{cases_lt, cases_order}
-use Rattle.mxf_klv.specs.Parts.{NoteParts}
-use Rattle.mxf_klv.specs.Kind.{kind_of}
-use Rattle.mxf_klv.specs.Note.{IsInSpan, end_of, keeps_value}
-use Rattle.mxf_klv.specs.Rising.{In}
-use Rattle.mxf_sets.specs.PackReadings.{pack_under, part_and_status}
-use Rattle.mxf_catalogue.specs.Content.{IsContent}
-use Rattle.mxf_catalogue.proofs.DisputeLaws.{In-clear_notes}
-use Rattle.mxf_views.specs.declared.copy.CopyInfo.{CopyInfo}
-use Rattle.mxf_views.specs.Copies.{CopiesRise, copies_of}
-use Rattle.mxf_views.specs.Kept.{IsStartBelow, StartsRise}
-use Rattle.mxf_views.specs.Partitions.{PartitionParts, pack_of, partition_at}
+use Rattle.mxf_views.proofs.Common.{◌≡◌, ℕ, ◌<◌, ◌≤◌, true, false, List, [], ◌∷◌, Option, Some, None, refl, ap, ◌∙◌}
+use Rattle.mxf_views.proofs.Common.{inl, inr, arith, if◌then◌else◌, option_map, result_ok, cases_order, NoteParts}
+use Rattle.mxf_views.proofs.Common.{kind_of, end_of, keeps_value, In, part_and_status, IsContent, In-clear_notes}
+use Rattle.mxf_views.proofs.Common.{CopyInfo, CopiesRise, copies_of, StartsRise, PartitionParts, pack_of, partition_at}
+use Rattle.mxf_views.proofs.Common.{all_from_In, all-In, none_some, less_by_offset}
+use Rattle.mxf_klv.specs.Note.{IsInSpan}
+use Rattle.mxf_sets.specs.PackReadings.{pack_under}
+use Rattle.mxf_views.specs.Kept.{IsStartBelow}
 use Rattle.mxf_views.proofs.CopyLaws.{copies_are, copies_rise}
 use Rattle.mxf_views.proofs.CopyUpdates.{end-partition_at}
 use Rattle.mxf_views.proofs.PartitionSearch.{of_note}
 use Rattle.mxf_views.proofs.PrimerLaws.{one_at, start_of_copy}
 use Rattle.mxf_views.proofs.StartLaws.{clear_same}
-use Rattle.mxf_klv.proofs.Lists.{all_from_In, all-In}
-use Rattle.mxf_klv.proofs.Tests.{none_some}
+use Rattle.mxf_catalogue.proofs.SpanLaws.{ends_before}
 
 -- A note whose kind isn't that of a partition pack is no partition.
 pub no_pack : (n : NoteParts) → part_and_status (kind_of n.key) ≡ None → pack_of n ≡ None
@@ -59,14 +49,7 @@ starts_in_order notes c d s t r h k l e f =
     let low : m.note.offset < n.note.offset = omega (arith, l, at_m, at_n) in
     let end_m : ic.0.end ≡ end_of m.note = end-partition_at m.note ic.0 m.read in
     let end_n : id.0.end ≡ end_of n.note = end-partition_at n.note id.0 n.read in
-    let behind : end_of m.note ≤ n.note.offset = elim (cases_lt n.note.offset (end_of m.note)) [
-      | inl u ↦ (
-          let inside : IsInSpan m.note n.note.offset = record { from = omega (arith, low); before = omega (arith, u) } in
-          let same = clear_same notes m.note n.note cm cn (n.note.offset, inside, first_byte n.note) in
-          let equal : m.note.offset ≡ n.note.offset = ap (λ (x : NoteParts). x.offset) same in
-          absurd (omega (arith, equal, low)))
-      | inr u ↦ u
-    ] in
+    let behind = ends_before notes m.note n.note cm cn (less_by_offset m.note n.note low) in
     let after : id.0.end ≤ t = b.after in
     elim (cases_order s n.note.offset) [
       | inl u ↦ (

@@ -1,25 +1,13 @@
 -- The clear notes from a boundary on, and the copies of one after another.
-use Rattle.std.proofs.Common.{◌≡◌, ℕ, ◌+◌, ◌-◌, ◌≤◌, Bool, true, false, cond, List, [], ◌∷◌, ◌++◌, refl}
-use Rattle.std.proofs.Common.{sym, ap, subst, inl, inr, append_assoc, ◌∙◌, arith, leb-true, le-leb}
-use Rattle.std.specs.Prelude.{◌&&◌, Option, Some, None, find, count_by, filter, nat_le, if◌then◌else◌}
-use Rattle.mxf_klv.specs.Parts.{NoteParts}
-use Rattle.mxf_klv.specs.Note.{IsNote, end_of}
-use Rattle.mxf_klv.specs.Rising.{In}
-use Rattle.mxf_catalogue.specs.Content.{IsCatalogue}
-use Rattle.mxf_catalogue.specs.Disputes.{AreApart, clear_notes, lies_in}
-use Rattle.mxf_catalogue.proofs.DisputeLaws.{In-clear_notes}
+use Rattle.mxf_views.proofs.Common.{◌≡◌, ℕ, ◌+◌, ◌-◌, ◌≤◌, Bool, true, false, cond, List, [], ◌∷◌, ◌++◌, refl, sym, ap}
+use Rattle.mxf_views.proofs.Common.{subst, inl, inr, append_assoc, ◌∙◌, arith, leb-true, le-leb, ◌&&◌, Option, Some}
+use Rattle.mxf_views.proofs.Common.{None, find, count_by, filter, nat_le, if◌then◌else◌, NoteParts, IsNote, end_of, In}
+use Rattle.mxf_views.proofs.Common.{IsCatalogue, AreApart, clear_notes, lies_in, In-clear_notes, option_and_then}
+use Rattle.mxf_views.proofs.Common.{option_map, cons_option, filter_map, is_filled, is_readable_primer, is_start}
+use Rattle.mxf_views.proofs.Common.{start_of, zone_of, CopyInfo, copy_of, has_metadata, copy_by, has_some_metadata}
+use Rattle.mxf_views.proofs.Common.{states_metadata, clear_from, partition_at, count_by-cons, tally, all-In, In-filter}
+use Rattle.mxf_views.proofs.Common.{found-In, and_from, false_from_ne_true, and_parts}
 use Rattle.mxf_catalogue.proofs.SpanLaws.{AreApart-lower}
-use Rattle.std.specs.Option.{option_and_then, option_map}
-use Rattle.std.specs.List.{cons_option, filter_map}
-use Rattle.mxf_views.specs.Copies.{is_filled, is_readable_primer, is_start, start_of, zone_of}
-use Rattle.mxf_views.specs.declared.copy.CopyInfo.{CopyInfo}
-use Rattle.mxf_views.specs.Copies.{copy_of, has_metadata}
-use Rattle.mxf_views.specs.Kept.{copy_by, has_some_metadata, states_metadata}
-use Rattle.mxf_views.specs.KeptAbove.{clear_from}
-use Rattle.mxf_views.specs.Partitions.{partition_at}
-use Rattle.mxf_klv.proofs.Counts.{count_by-cons, tally}
-use Rattle.mxf_klv.proofs.Lists.{all-In, In-filter, found-In}
-use Rattle.std.proofs.lemmas.Bool.{and_from, false_from_ne_true, and_parts}
 
 filter_twice : (p q : NoteParts → Bool) (ns : List NoteParts)
     → ((n : NoteParts) → In n ns → p n ≡ true → q n ≡ true) → filter p (filter q ns) ≡ filter p ns

@@ -1,20 +1,12 @@
 -- How many notes there are at most that something is kept of.
-use Rattle.std.proofs.Common.{◌≡◌, ℕ, ◌+◌, ◌≤◌, Bool, true, false, List, [], ◌∷◌, Option, None, Some, ap, arith, refl}
-use Rattle.std.specs.Prelude.{◌||◌, cond, count_by, is_some, not}
-use Rattle.std.specs.Option.{option_map}
-use Rattle.mxf_klv.specs.Kind.{kind_of}
-use Rattle.mxf_klv.specs.Note.{end_of}
-use Rattle.mxf_klv.specs.Parts.{NoteParts}
-use Rattle.mxf_sets.specs.PackReadings.{part_and_status}
-use Rattle.mxf_sets.specs.Readable.{read_as}
-use Rattle.mxf_sets.specs.Segment.{SegmentParts, segment_at}
-use Rattle.mxf_views.specs.declared.kept.offsets.Placed.TheVariants as kinds
-use Rattle.mxf_views.specs.Kept.{has_some_metadata, is_placed, states_metadata}
-use Rattle.mxf_views.specs.Partitions.{PartitionParts, is_no_unreadable_pack, pack_of, partition_at}
-use Rattle.mxf_views.specs.Places.{SegmentAtParts, is_segment, placed_segment}
+use Rattle.mxf_views.proofs.Common.{◌≡◌, ℕ, ◌+◌, ◌≤◌, Bool, true, false, List, [], ◌∷◌, Option, None, ap, arith, refl}
+use Rattle.mxf_views.proofs.Common.{◌||◌, cond, count_by, is_some, not, option_map, kind_of, end_of, NoteParts}
+use Rattle.mxf_views.proofs.Common.{part_and_status, read_as, SegmentParts, segment_at, has_some_metadata, is_placed}
+use Rattle.mxf_views.proofs.Common.{states_metadata, PartitionParts, is_no_unreadable_pack, pack_of, partition_at}
+use Rattle.mxf_views.proofs.Common.{SegmentAtParts, is_segment, placed_segment, count_by-cons, tally}
 use Rattle.mxf_views.proofs.StartsOrder.{no_pack}
-use Rattle.mxf_klv.proofs.Counts.{count_by-cons, tally}
 use Rattle.mxf_klv.proofs.Tests.{none_if}
+use Rattle.mxf_views.specs.declared.kept.offsets.Placed.TheVariants as kinds
 
 -- Packets of the note's kind have a partition pack.
 abbrev pub has_pack : NoteParts → Bool

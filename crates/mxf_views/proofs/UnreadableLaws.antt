@@ -1,28 +1,15 @@
 -- The sets of a copy that can't be read, by where they stand.
-use Rattle.std.proofs.Common.{◌≡◌, ◌∙◌, ℕ, Bool, true, false, List, ap, refl, sym}
-use Rattle.std.specs.Prelude.{◌↔◌, ◌&&◌, filter, not}
-use Rattle.std.specs.Ordering.{nat_cmp}
-use Rattle.mxf_klv.specs.declared.kinds.Kind.{Kind}
-use Rattle.mxf_klv.specs.declared.kinds.Kind.TheVariants as kinds
-use Rattle.mxf_klv.specs.Kind.{kind_of}
-use Rattle.mxf_klv.specs.Note.{keeps_value}
-use Rattle.mxf_klv.specs.Parts.{NoteParts}
-use Rattle.mxf_klv.specs.Rising.{In, IsRising}
-use Rattle.mxf_catalogue.specs.Content.{IsContent}
-use Rattle.mxf_catalogue.specs.Disputes.{IsClear}
-use Rattle.mxf_catalogue.proofs.DisputeLaws.{In-clear_notes, clear-alone}
+use Rattle.mxf_views.proofs.Common.{◌≡◌, ◌∙◌, ℕ, Bool, true, false, List, ap, refl, sym, ◌↔◌, ◌&&◌, filter, not}
+use Rattle.mxf_views.proofs.Common.{nat_cmp, Kind, kind_of, keeps_value, NoteParts, In, IsRising, IsContent, IsClear}
+use Rattle.mxf_views.proofs.Common.{In-clear_notes, clear-alone, AreApart-filter, Wanted, Storage, Identification}
+use Rattle.mxf_views.proofs.Common.{Package, sets_of, unreadable_offsets, fits, target_at, In-filter, In-map}
 use Rattle.mxf_catalogue.proofs.MovedLaws.{rising_apart}
-use Rattle.mxf_catalogue.proofs.SpanLaws.{AreApart-filter}
-use Rattle.mxf_views.specs.declared.reference.target.Wanted.{Wanted}
-use Rattle.mxf_views.specs.declared.reference.target.Wanted.TheVariants.{Storage, Identification, Package}
-use Rattle.mxf_views.specs.Copies.{sets_of}
 use Rattle.mxf_views.specs.Findings.{is_unreadable, reads_value}
-use Rattle.mxf_views.specs.Identified.{unreadable_offsets}
-use Rattle.mxf_views.specs.Targets.{fits, is_readable, target_at}
+use Rattle.mxf_views.specs.Targets.{is_readable}
 use Rattle.mxf_views.proofs.CopyLaws.{sets_apart}
 use Rattle.mxf_views.proofs.FoundLaws.{only_at, target_by}
 use Rattle.mxf_views.proofs.OnlyFound.{sets_are_clear}
-use Rattle.mxf_klv.proofs.Lists.{In-filter, In-map}
+use Rattle.mxf_klv.specs.declared.kinds.Kind.TheVariants as kinds
 
 pub unreadable_rise : (notes : List NoteParts) (partition : ℕ) → IsContent notes
     → IsRising nat_cmp (unreadable_offsets (sets_of notes partition))

@@ -1,5 +1,5 @@
+use Rattle.mxf_views.proofs.Common.{partitions_of}
 use Rattle.mxf_views.proofs.PartitionLaws.{link_iff, link_at_iff, partitions_rise}
-use Rattle.mxf_views.specs.Partitions.{partitions_of}
 use Rattle.mxf_views.proofs.chain.links_by_definition.Goals as goal
 
 pub returns : goal.returns

@@ -1,11 +1,8 @@
-use Rattle.std.proofs.Common.{◌∙◌, ap, subst, sym}
-use Rattle.std.specs.List.{list_any}
-use Rattle.std.specs.Ordering.{nat_cmp}
-use Rattle.mxf_klv.specs.Rising.{IsRising}
-use Rattle.mxf_views.specs.declared.kept.offsets.Placed.TheVariants as kinds
-use Rattle.mxf_views.specs.Kept.{is_placed, lies_between}
+use Rattle.mxf_views.proofs.Common.{◌∙◌, ap, subst, sym, list_any, nat_cmp, IsRising, is_placed}
+use Rattle.mxf_views.specs.Kept.{lies_between}
 use Rattle.mxf_views.proofs.ClearChanges.{offsets_rise}
 use Rattle.mxf_views.proofs.OffsetSearch.{between_offsets}
+use Rattle.mxf_views.specs.declared.kept.offsets.Placed.TheVariants as kinds
 use Rattle.mxf_views.proofs.chain.stands_between.Goals as goal
 
 pub any_between-requires : goal.any_between-requires

@@ -1,4 +1,4 @@
-use Rattle.std.proofs.Common.{◌∙◌, Some, ap, sym}
+use Rattle.mxf_views.proofs.Common.{◌∙◌, Some, ap, sym}
 use Rattle.mxf_views.proofs.PartitionSearch.{copy_found, no_metadata, no_partition}
 use Rattle.mxf_views.proofs.copy.copy_there.Goals as goal
 

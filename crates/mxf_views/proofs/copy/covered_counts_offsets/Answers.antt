@@ -1,6 +1,5 @@
-use Rattle.mxf_catalogue.specs.Disputes.{clear_notes}
+use Rattle.mxf_views.proofs.Common.{clear_notes, AreApart-clear_notes}
 use Rattle.mxf_views.proofs.SpanCounts.{zone-count}
-use Rattle.mxf_catalogue.proofs.SpanLaws.{AreApart-clear_notes}
 use Rattle.mxf_views.proofs.copy.covered_counts_offsets.Goals as goal
 
 pub returns : goal.returns

@@ -1,5 +1,4 @@
-use Rattle.std.proofs.Common.{◌≡◌, drop}
-use Rattle.mxf_views.specs.Copies.{best_of, preferred_of}
+use Rattle.mxf_views.proofs.Common.{◌≡◌, drop, best_of, preferred_of}
 use Rattle.mxf_views.proofs.copy.preferred.Given as goal
 
 -- The best of those so far and of those that are left is the preferred one.

@@ -1,6 +1,4 @@
-use Rattle.std.proofs.Common.{◌∙◌, ap, sym, subst}
-use Rattle.mxf_catalogue.specs.Disputes.{AreApart}
-use Rattle.std.specs.Bool.{then_some}
+use Rattle.mxf_views.proofs.Common.{◌∙◌, ap, sym, subst, AreApart, then_some}
 use Rattle.mxf_views.proofs.StartWalk.{Passed, first_other, none_at, none_left, passed_fill, passed_none}
 use Rattle.mxf_views.proofs.copy.start_of.Goals as goal
 

@@ -1,6 +1,4 @@
-use Rattle.std.proofs.Common.{Bool, cond, None, sym, ap, ◌∙◌}
-use Rattle.std.specs.Result.{result_ok}
-use Rattle.mxf_sets.specs.Segment.{segment_at}
+use Rattle.mxf_views.proofs.Common.{Bool, cond, None, sym, ap, ◌∙◌, result_ok, segment_at}
 use Rattle.mxf_views.proofs.index.read_value.Goals as goal
 
 pub returns : goal.returns

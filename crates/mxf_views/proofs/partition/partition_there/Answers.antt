@@ -1,4 +1,4 @@
-use Rattle.std.proofs.Common.{◌∙◌, Some, None}
+use Rattle.mxf_views.proofs.Common.{◌∙◌, Some, None}
 use Rattle.mxf_views.proofs.PartitionSearch.{there_by_note}
 use Rattle.mxf_views.proofs.partition.partition_there.Goals as goal
 

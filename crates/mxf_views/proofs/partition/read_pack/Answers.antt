@@ -1,6 +1,4 @@
-use Rattle.std.proofs.Common.{◌∙◌, ap, sym}
-use Rattle.std.specs.Prelude.{is_some}
-use Rattle.mxf_sets.specs.PackReadings.{part_and_status}
+use Rattle.mxf_views.proofs.Common.{◌∙◌, ap, sym, is_some, part_and_status}
 use Rattle.mxf_views.proofs.TallyLaws.{pack_lacked}
 use Rattle.mxf_views.proofs.partition.read_pack.Goals as goal
 

@@ -1,5 +1,4 @@
-use Rattle.std.proofs.Common.{◌∙◌}
-use Rattle.mxf_views.specs.Partitions.{partitions_of}
+use Rattle.mxf_views.proofs.Common.{◌∙◌, partitions_of}
 use Rattle.mxf_views.proofs.PartitionSearch.{stands_if_found}
 use Rattle.mxf_views.proofs.partition.stands_at.Goals as goal
 

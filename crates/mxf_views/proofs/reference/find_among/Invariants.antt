@@ -1,6 +1,5 @@
-use Rattle.std.proofs.Common.{◌≡◌}
-use Rattle.std.specs.Prelude.{filter}
-use Rattle.mxf_views.specs.References.{found_after, found_among, has_uid}
+use Rattle.mxf_views.proofs.Common.{◌≡◌, filter, found_among, has_uid}
+use Rattle.mxf_views.specs.References.{found_after}
 use Rattle.mxf_views.proofs.reference.find_among.Given as goal
 
 abbrev pub invariant-loop-note : goal.invariant-loop-note

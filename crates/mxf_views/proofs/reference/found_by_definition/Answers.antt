@@ -1,4 +1,4 @@
-use Rattle.mxf_views.specs.Copies.{sets_of}
+use Rattle.mxf_views.proofs.Common.{sets_of}
 use Rattle.mxf_views.proofs.CopyLaws.{sets_apart}
 use Rattle.mxf_views.proofs.FoundLaws.{found_iff}
 use Rattle.mxf_views.proofs.reference.found_by_definition.Goals as goal

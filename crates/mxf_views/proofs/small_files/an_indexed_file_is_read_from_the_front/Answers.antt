@@ -1,7 +1,4 @@
-use Rattle.std.specs.Prelude.{refl}
-use Rattle.mxf_sets.specs.Items.{item_at, items_of, left_of}
-use Rattle.mxf_sets.specs.RandomIndexPack.{entries_of}
-use Rattle.mxf_views.specs.Records.{read_pack, read_rip, read_segment}
+use Rattle.mxf_views.proofs.Common.{refl, item_at, items_of, left_of, entries_of, read_pack, read_rip, read_segment}
 use Rattle.mxf_views.proofs.small_files.an_indexed_file_is_read_from_the_front.Goals as goal
 
 pub returns-clause-links : goal.returns-clause-links

@@ -1,6 +1,8 @@
-use Rattle.mxf_views.proofs.RefusedLaws.{differing_refused, early_footer_refused, early_random_index_refused, empty_segment_refused, long_iff}
-use Rattle.mxf_views.proofs.RefusedLaws.{metadata_with_a_pack_refused, misplaced_refused, narrow_refused, no_footer_refused, no_header_refused, no_metadata_refused}
-use Rattle.mxf_views.proofs.RefusedLaws.{other_entries_refused, short_metadata_refused, two_headers_refused, unlinked_refused}
+use Rattle.mxf_views.proofs.RefusedLaws.{differing_refused, early_footer_refused, early_random_index_refused}
+use Rattle.mxf_views.proofs.RefusedLaws.{empty_segment_refused, long_iff, metadata_with_a_pack_refused}
+use Rattle.mxf_views.proofs.RefusedLaws.{misplaced_refused, narrow_refused, no_footer_refused, no_header_refused}
+use Rattle.mxf_views.proofs.RefusedLaws.{no_metadata_refused, other_entries_refused, short_metadata_refused}
+use Rattle.mxf_views.proofs.RefusedLaws.{two_headers_refused, unlinked_refused}
 use Rattle.mxf_views.proofs.small_files.each_condition_of_well_formed_files_refuses_a_file.Goals as goal
 
 pub returns-clause-packets : goal.returns-clause-packets

@@ -1,11 +1,8 @@
-use Rattle.std.specs.Prelude.{◌≡◌, ◌+◌, ◌<◌, ◌==◌, cond, is_some, refl}
-use Rattle.std.proofs.Common.{ap, arith, eq-eqb, eqb-true}
-use Rattle.mxf_sets.specs.Items.{item_at, items_of, left_of}
-use Rattle.mxf_views.specs.Copies.{rank, standing}
-use Rattle.mxf_views.specs.Records.{read_segment}
+use Rattle.mxf_views.proofs.Common.{◌≡◌, ◌+◌, ◌<◌, ◌==◌, cond, is_some, refl, ap, arith, eq-eqb, eqb-true, item_at}
+use Rattle.mxf_views.proofs.Common.{items_of, left_of, standing, read_segment, and_from, and_parts}
+use Rattle.mxf_views.specs.Copies.{rank}
 use Rattle.mxf_views.proofs.KindLaws.{fill_kind, preface_kind, primer_kind, rip_kind, segment_kind, set_kind}
 use Rattle.mxf_views.proofs.SmallFiles.{rank_below_4}
-use Rattle.std.proofs.lemmas.Bool.{and_from, and_parts}
 use Rattle.mxf_views.proofs.small_files.shared_rules_are_these.Goals as goal
 
 pub returns-clause-statuses : goal.returns-clause-statuses

@@ -1,4 +1,5 @@
-use Rattle.mxf_views.proofs.GoodFiles.{agreeing_well_formed, filled_well_formed, m_well_formed, open_well_formed, twice_filled_well_formed}
+use Rattle.mxf_views.proofs.GoodFiles.{agreeing_well_formed, filled_well_formed, m_well_formed, open_well_formed}
+use Rattle.mxf_views.proofs.GoodFiles.{twice_filled_well_formed}
 use Rattle.mxf_views.proofs.SmallFiles.{h_not_well_formed, n_well_formed, r_not_well_formed, w_well_formed}
 use Rattle.mxf_views.proofs.small_files.small_files_are_well_formed_or_not.Goals as goal
 

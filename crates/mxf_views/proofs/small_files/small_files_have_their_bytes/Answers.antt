@@ -1,4 +1,4 @@
-use Rattle.std.specs.Prelude.{refl}
+use Rattle.mxf_views.proofs.Common.{refl}
 use Rattle.mxf_views.proofs.small_files.small_files_have_their_bytes.Goals as goal
 
 pub returns-clause-h : goal.returns-clause-h

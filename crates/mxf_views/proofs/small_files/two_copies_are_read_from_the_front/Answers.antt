@@ -1,6 +1,4 @@
-use Rattle.std.specs.Prelude.{refl}
-use Rattle.mxf_views.specs.Copies.{is_preface_note, is_set_note}
-use Rattle.mxf_views.specs.Records.{read_pack, read_rip, read_segment}
+use Rattle.mxf_views.proofs.Common.{refl, is_preface_note, is_set_note, read_pack, read_rip, read_segment}
 use Rattle.mxf_views.proofs.small_files.two_copies_are_read_from_the_front.Goals as goal
 
 pub returns-clause-links : goal.returns-clause-links

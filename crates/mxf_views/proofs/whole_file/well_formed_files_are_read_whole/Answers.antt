@@ -1,5 +1,4 @@
-use Rattle.std.specs.Prelude.{[]}
-use Rattle.std.proofs.Common.{sym}
+use Rattle.mxf_views.proofs.Common.{[], sym}
 use Rattle.mxf_views.specs.WellFormed.{file_bytes}
 use Rattle.mxf_views.proofs.FileBytes.{whole_piece}
 use Rattle.mxf_views.proofs.whole_file.well_formed_files_are_read_whole.Goals as goal

@@ -1,10 +1,5 @@
-use Rattle.std.proofs.Common.{◌≡◌, ◌+◌, ◌≤◌, Bool, true, false, List, [], ◌∷◌, ◌∙◌, ap, refl, arith, leb-true}
-use Rattle.std.specs.Prelude.{◌&&◌, nat_le, filter}
-use Rattle.mxf_klv.specs.Parts.{NoteParts}
-use Rattle.mxf_klv.specs.Note.{end_of}
-use Rattle.mxf_catalogue.specs.Disputes.{clear_notes}
-use Rattle.mxf_views.specs.Copies.{is_set_note, zone_of}
-use Rattle.mxf_catalogue.specs.Disputes.{lies_in}
+use Rattle.mxf_views.proofs.Common.{◌≡◌, ◌+◌, ◌≤◌, Bool, true, false, List, [], ◌∷◌, ◌∙◌, ap, refl, arith, leb-true}
+use Rattle.mxf_views.proofs.Common.{◌&&◌, nat_le, filter, NoteParts, end_of, clear_notes, is_set_note, zone_of, lies_in}
 use Rattle.mxf_views.proofs.copy.sets.no_sets.Goals as goal
 
 not_both : (a b : Bool) → (b ≡ true → ⊥) → (a && b) ≡ false

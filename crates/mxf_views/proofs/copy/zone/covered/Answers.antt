@@ -1,4 +1,4 @@
-use Rattle.std.proofs.Common.{◌∙◌}
+use Rattle.mxf_views.proofs.Common.{◌∙◌}
 use Rattle.mxf_views.proofs.SpanCounts.{sizes_more}
 use Rattle.mxf_views.proofs.copy.zone.covered.Goals as goal
 

@@ -1,6 +1,4 @@
-use Rattle.std.proofs.Common.{◌≡◌, ◌+◌}
-use Rattle.mxf_catalogue.specs.Disputes.{AreApart}
-use Rattle.mxf_views.specs.Spans.{sizes}
+use Rattle.mxf_views.proofs.Common.{◌≡◌, ◌+◌, AreApart, sizes}
 use Rattle.mxf_views.proofs.copy.zone.covered.Given as goal
 
 abbrev pub invariant-loop-note : goal.invariant-loop-note

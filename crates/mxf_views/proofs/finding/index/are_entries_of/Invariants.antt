@@ -1,4 +1,4 @@
-use Rattle.std.proofs.Common.{◌≡◌}
+use Rattle.mxf_views.proofs.Common.{◌≡◌}
 use Rattle.mxf_views.specs.Findings.{are_entries_of}
 use Rattle.mxf_views.proofs.finding.index.are_entries_of.Given as goal
 

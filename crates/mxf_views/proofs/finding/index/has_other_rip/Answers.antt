@@ -1,6 +1,4 @@
-use Rattle.std.proofs.Common.{◌∙◌, ap}
-use Rattle.std.specs.Prelude.{◌==◌, not}
-use Rattle.std.specs.List.{list_any}
+use Rattle.mxf_views.proofs.Common.{◌∙◌, ap, ◌==◌, not, list_any}
 use Rattle.mxf_views.proofs.KeptFindings.{other_among_rips}
 use Rattle.mxf_views.proofs.finding.index.has_other_rip.Goals as goal
 

@@ -1,8 +1,4 @@
-use Rattle.std.proofs.Common.{◌≡◌}
-use Rattle.std.specs.Prelude.{◌==◌, not}
-use Rattle.std.specs.List.{list_any}
-use Rattle.mxf_catalogue.specs.Disputes.{clear_notes}
-use Rattle.mxf_views.specs.Findings.{has_other_rip}
+use Rattle.mxf_views.proofs.Common.{◌≡◌, ◌==◌, not, list_any, clear_notes, has_other_rip}
 use Rattle.mxf_views.proofs.finding.index.has_other_rip.Given as goal
 
 abbrev pub invariant-loop-other : goal.invariant-loop-other

@@ -1,5 +1,4 @@
-use Rattle.std.proofs.Common.{◌∙◌, sym}
-use Rattle.mxf_views.specs.Partitions.{partitions_of}
+use Rattle.mxf_views.proofs.Common.{◌∙◌, sym, partitions_of}
 use Rattle.mxf_views.proofs.PartitionSearch.{footer_found, footer_lacked}
 use Rattle.mxf_views.proofs.finding.partitions.footer_stands_at.Goals as goal
 

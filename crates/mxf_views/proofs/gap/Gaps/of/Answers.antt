@@ -1,5 +1,4 @@
-use Rattle.std.proofs.Common.{◌∙◌, ◌++◌, ◌^◌, ◌<◌, length, subst, sym}
-use Rattle.mxf_views.specs.Gaps.{gaps_of}
+use Rattle.mxf_views.proofs.Common.{◌∙◌, ◌++◌, ◌^◌, ◌<◌, length, subst, sym, gaps_of}
 use Rattle.mxf_views.proofs.GapsLaws.{few_gaps, gaps_are}
 use Rattle.mxf_views.proofs.SpanGaps.{gaps_of-spans}
 use Rattle.mxf_views.proofs.gap.Gaps.of.Goals as goal

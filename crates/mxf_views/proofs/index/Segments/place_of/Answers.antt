@@ -1,6 +1,4 @@
-use Rattle.std.proofs.Common.{◌∙◌}
-use Rattle.mxf_klv.specs.Rising.{with_one}
-use Rattle.mxf_views.specs.Places.{pair_cmp}
+use Rattle.mxf_views.proofs.Common.{◌∙◌, with_one, pair_cmp}
 use Rattle.mxf_views.proofs.PlaceLaws.{pairs_more, rises_more}
 use Rattle.mxf_views.proofs.index.Segments.place_of.Goals as goal
 

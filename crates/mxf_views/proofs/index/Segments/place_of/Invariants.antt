@@ -1,7 +1,5 @@
-use Rattle.std.proofs.Common.{◌≡◌, List, []}
-use Rattle.mxf_klv.specs.Rising.{IsRising}
-use Rattle.mxf_views.specs.declared.index.place.Pair.{Pair}
-use Rattle.mxf_views.specs.Places.{pair_cmp, pairs_with, place_by}
+use Rattle.mxf_views.proofs.Common.{◌≡◌, List, [], IsRising, Pair, pair_cmp, place_by}
+use Rattle.mxf_views.specs.Places.{pairs_with}
 use Rattle.mxf_views.proofs.index.Segments.place_of.Given as goal
 
 -- the pairs so far, and with those to come

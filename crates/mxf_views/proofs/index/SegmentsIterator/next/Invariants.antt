@@ -1,5 +1,4 @@
-use Rattle.std.proofs.Common.{◌≡◌, length}
-use Rattle.mxf_views.specs.Places.{segments_among}
+use Rattle.mxf_views.proofs.Common.{◌≡◌, length, segments_among}
 use Rattle.mxf_views.proofs.index.SegmentsIterator.next.Given as goal
 
 abbrev pub invariant-loop-note : goal.invariant-loop-note

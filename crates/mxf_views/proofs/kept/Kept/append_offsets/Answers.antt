@@ -1,7 +1,6 @@
-use Rattle.std.proofs.Common.{◌∙◌, refl}
-use Rattle.mxf_views.specs.declared.kept.offsets.Placed.TheVariants as kinds
-use Rattle.mxf_views.specs.KeptAbove.{clear_from}
+use Rattle.mxf_views.proofs.Common.{◌∙◌, refl, clear_from}
 use Rattle.mxf_views.proofs.AppendLaws.{appended_all, appended_next, appended_none, next_fits}
+use Rattle.mxf_views.specs.declared.kept.offsets.Placed.TheVariants as kinds
 use Rattle.mxf_views.proofs.kept.Kept.append_offsets.Goals as goal
 
 pub loop-note-init : goal.loop-note-init
@@ -19,27 +18,19 @@ loop-note-init c =
 
 pub append-requires : goal.append-requires
 append-requires c =
-    next_fits kinds.Partition c.args.self.now.partitions c.loop-note.self.partitions c.loop-note.note-iterator
-    (clear_from c.args.boundary c.args.catalogue.now) c.next.new.self c.in-Some.note.now c.loop-note.invariant.partitions
-    c.in-Some.ensures.steps
+    next_fits kinds.Partition _ _ _ _ _ c.in-Some.note.now c.loop-note.invariant.partitions c.in-Some.ensures.steps
 
 pub append-requires-in-loop-note : goal.append-requires-in-loop-note
 append-requires-in-loop-note c =
-    next_fits kinds.Segment c.args.self.now.segments c.loop-note.self.segments c.loop-note.note-iterator
-    (clear_from c.args.boundary c.args.catalogue.now) c.next.new.self c.in-Some.note.now c.loop-note.invariant.segments
-    c.in-Some.ensures.steps
+    next_fits kinds.Segment _ _ _ _ _ c.in-Some.note.now c.loop-note.invariant.segments c.in-Some.ensures.steps
 
 pub append-requires-in-loop-note-2 : goal.append-requires-in-loop-note-2
 append-requires-in-loop-note-2 c =
-    next_fits kinds.RandomIndexPack c.args.self.now.random_index_packs c.loop-note.self.random_index_packs c.loop-note.note-iterator
-    (clear_from c.args.boundary c.args.catalogue.now) c.next.new.self c.in-Some.note.now c.loop-note.invariant.rips
-    c.in-Some.ensures.steps
+    next_fits kinds.RandomIndexPack _ _ _ _ _ c.in-Some.note.now c.loop-note.invariant.rips c.in-Some.ensures.steps
 
 pub append-requires-in-loop-note-3 : goal.append-requires-in-loop-note-3
 append-requires-in-loop-note-3 c =
-    next_fits kinds.UnreadablePack c.args.self.now.unreadable_packs c.loop-note.self.unreadable_packs c.loop-note.note-iterator
-    (clear_from c.args.boundary c.args.catalogue.now) c.next.new.self c.in-Some.note.now c.loop-note.invariant.unreadable
-    c.in-Some.ensures.steps
+    next_fits kinds.UnreadablePack _ _ _ _ _ c.in-Some.note.now c.loop-note.invariant.unreadable c.in-Some.ensures.steps
 
 pub loop-note-preserved : goal.loop-note-preserved
 loop-note-preserved c =

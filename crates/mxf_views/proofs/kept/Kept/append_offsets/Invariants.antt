@@ -1,8 +1,7 @@
 -- What is there and what is to come are the offsets before and the new ones, and there is room for them.
-use Rattle.std.proofs.Common.{◌≡◌}
-use Rattle.mxf_views.specs.declared.kept.offsets.Placed.TheVariants as kinds
-use Rattle.mxf_views.specs.KeptAbove.{clear_from}
+use Rattle.mxf_views.proofs.Common.{◌≡◌, clear_from}
 use Rattle.mxf_views.proofs.AppendLaws.{AreAppended}
+use Rattle.mxf_views.specs.declared.kept.offsets.Placed.TheVariants as kinds
 use Rattle.mxf_views.proofs.kept.Kept.append_offsets.Given as goal
 
 abbrev pub invariant-loop-note : goal.invariant-loop-note

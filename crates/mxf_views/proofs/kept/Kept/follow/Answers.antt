@@ -1,13 +1,10 @@
-use Rattle.std.proofs.Common.{◌≡◌, ◌∙◌, ap, arith, length, subst, sym}
-use Rattle.std.specs.Ordering.{nat_cmp}
-use Rattle.mxf_klv.specs.Rising.{IsRising}
-use Rattle.mxf_views.specs.declared.kept.offsets.Placed.TheVariants as kinds
-use Rattle.mxf_views.specs.Copies.{CopiesRise, copies_of}
-use Rattle.mxf_views.specs.Kept.{KeptParts, followed, is_placed, reaches_of}
+use Rattle.mxf_views.proofs.Common.{◌≡◌, ◌∙◌, ap, arith, length, subst, sym, nat_cmp, IsRising, CopiesRise, copies_of}
+use Rattle.mxf_views.proofs.Common.{KeptParts, followed, is_placed, reaches_of}
 use Rattle.mxf_views.proofs.ClearChanges.{offsets_rise}
 use Rattle.mxf_views.proofs.CopyLaws.{copies_rise}
 use Rattle.mxf_views.proofs.KeptLaws.{kept_after, same_kept, with_reaches}
 use Rattle.mxf_views.proofs.ReachLaws.{length-copies_followed, length-reaches_from}
+use Rattle.mxf_views.specs.declared.kept.offsets.Placed.TheVariants as kinds
 use Rattle.mxf_views.proofs.kept.Kept.follow.Goals as goal
 
 pub follow-requires-clause-rising : goal.follow-requires-clause-rising

@@ -1,44 +1,31 @@
-use Rattle.std.proofs.Common.{◌∙◌, ℕ, Global, List, Vec, ap, arith, length, sym, take}
-use Rattle.std.specs.Prelude.{count_by}
-use Rattle.mxf_klv.specs.Parts.{NoteParts}
-use Rattle.mxf_views.specs.declared.copy.CopyInfo.{CopyInfo}
-use Rattle.mxf_views.specs.Copies.{copies_of}
-use Rattle.mxf_views.specs.KeptAbove.{clear_from}
-use Rattle.mxf_views.specs.declared.kept.offsets.Placed.TheVariants as kinds
-use Rattle.mxf_views.specs.Kept.{KeptParts, is_placed, reaches_of, states_metadata}
+use Rattle.mxf_views.proofs.Common.{◌∙◌, ℕ, Global, List, Vec, ap, arith, length, sym, take, count_by, NoteParts}
+use Rattle.mxf_views.proofs.Common.{CopyInfo, copies_of, clear_from, KeptParts, is_placed, reaches_of, states_metadata}
 use Rattle.mxf_views.proofs.AboveKept.{copies_fit, offsets_at, offsets_fit}
 use Rattle.mxf_views.proofs.KeptLaws.{same_kept, with_reaches}
 use Rattle.mxf_views.proofs.KeptRoom.{length-kept_copies}
 use Rattle.mxf_views.proofs.ReachLaws.{length-reaches_from, take_reaches}
+use Rattle.mxf_views.specs.declared.kept.offsets.Placed.TheVariants as kinds
 use Rattle.mxf_views.proofs.kept.Kept.follow_above.Goals as goal
 
 pub append_offsets-requires-clause-partitions : goal.append_offsets-requires-clause-partitions
 append_offsets-requires-clause-partitions c =
     let k = c.requires.kept in
-    let list = c.args.self.now.partitions in
-    offsets_fit c.args.boundary c.args.catalogue.now k.0 k.1 (is_placed kinds.Partition) list.items list.len _
-    (ap (λ (p : KeptParts). p.partitions) k.2) list.ok.0 c.requires.room.partitions
+    offsets_fit _ _ k.0 k.1 (is_placed kinds.Partition) _ _ _ (ap (λ (p : KeptParts). p.partitions) k.2) c.args.self.now.partitions.ok.0 c.requires.room.partitions
 
 pub append_offsets-requires-clause-segments : goal.append_offsets-requires-clause-segments
 append_offsets-requires-clause-segments c =
     let k = c.requires.kept in
-    let list = c.args.self.now.segments in
-    offsets_fit c.args.boundary c.args.catalogue.now k.0 k.1 (is_placed kinds.Segment) list.items list.len _
-    (ap (λ (p : KeptParts). p.segments) k.2) list.ok.0 c.requires.room.segments
+    offsets_fit _ _ k.0 k.1 (is_placed kinds.Segment) _ _ _ (ap (λ (p : KeptParts). p.segments) k.2) c.args.self.now.segments.ok.0 c.requires.room.segments
 
 pub append_offsets-requires-clause-random_index_packs : goal.append_offsets-requires-clause-random_index_packs
 append_offsets-requires-clause-random_index_packs c =
     let k = c.requires.kept in
-    let list = c.args.self.now.random_index_packs in
-    offsets_fit c.args.boundary c.args.catalogue.now k.0 k.1 (is_placed kinds.RandomIndexPack) list.items list.len _
-    (ap (λ (p : KeptParts). p.rips) k.2) list.ok.0 c.requires.room.rips
+    offsets_fit _ _ k.0 k.1 (is_placed kinds.RandomIndexPack) _ _ _ (ap (λ (p : KeptParts). p.rips) k.2) c.args.self.now.random_index_packs.ok.0 c.requires.room.rips
 
 pub append_offsets-requires-clause-unreadable_packs : goal.append_offsets-requires-clause-unreadable_packs
 append_offsets-requires-clause-unreadable_packs c =
     let k = c.requires.kept in
-    let list = c.args.self.now.unreadable_packs in
-    offsets_fit c.args.boundary c.args.catalogue.now k.0 k.1 (is_placed kinds.UnreadablePack) list.items list.len _
-    (ap (λ (p : KeptParts). p.unreadable) k.2) list.ok.0 c.requires.room.unreadable
+    offsets_fit _ _ k.0 k.1 (is_placed kinds.UnreadablePack) _ _ _ (ap (λ (p : KeptParts). p.unreadable) k.2) c.args.self.now.unreadable_packs.ok.0 c.requires.room.unreadable
 
 pub follow_copies_above-requires-clause-room : goal.follow_copies_above-requires-clause-room
 follow_copies_above-requires-clause-room c =

@@ -1,5 +1,4 @@
-use Rattle.std.proofs.Common.{◌∙◌, ap, sym}
-use Rattle.mxf_views.specs.Kept.{reaches_of}
+use Rattle.mxf_views.proofs.Common.{◌∙◌, ap, sym, reaches_of}
 use Rattle.mxf_views.proofs.KeptLaws.{kept_of_none, same_kept, with_reaches}
 use Rattle.mxf_views.proofs.kept.Kept.new.Goals as goal
 

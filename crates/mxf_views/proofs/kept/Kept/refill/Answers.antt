@@ -1,12 +1,10 @@
-use Rattle.std.proofs.Common.{◌∙◌, ℕ, Global, Vec, ap, arith, length, sym}
-use Rattle.mxf_views.specs.declared.copy.CopyInfo.{CopyInfo}
-use Rattle.mxf_views.specs.declared.kept.offsets.Placed.TheVariants as kinds
-use Rattle.mxf_views.specs.Copies.{copies_of}
-use Rattle.mxf_views.specs.Kept.{is_placed, reaches_of}
+use Rattle.mxf_views.proofs.Common.{◌∙◌, ℕ, Global, Vec, ap, arith, length, sym, CopyInfo, copies_of, is_placed}
+use Rattle.mxf_views.proofs.Common.{reaches_of}
 use Rattle.mxf_views.proofs.AppendLaws.{appended_to_none}
 use Rattle.mxf_views.proofs.KeptLaws.{same_kept, with_reaches}
 use Rattle.mxf_views.proofs.KeptRoom.{length-kept_copies}
 use Rattle.mxf_views.proofs.SumLaws.{count_from}
+use Rattle.mxf_views.specs.declared.kept.offsets.Placed.TheVariants as kinds
 use Rattle.mxf_views.proofs.kept.Kept.refill.Goals as goal
 
 pub refill_reaches-requires-clause-room : goal.refill_reaches-requires-clause-room

@@ -1,4 +1,4 @@
-use Rattle.std.proofs.Common.{sym, ◌∙◌}
+use Rattle.mxf_views.proofs.Common.{sym, ◌∙◌}
 use Rattle.mxf_views.proofs.AboveLaws.{all_above, meet_at, none_above}
 use Rattle.mxf_views.proofs.kept.above.boundary.Goals as goal
 

@@ -1,11 +1,7 @@
-use Rattle.std.proofs.Common.{◌∙◌, ap, get_or, set, subst, sym}
-use Rattle.std.proofs.Common.{None, false}
-use Rattle.mxf_klv.specs.declared.kinds.Status.TheVariants.{OpenIncomplete}
-use Rattle.mxf_klv.specs.Rising.{In}
-use Rattle.mxf_views.specs.declared.copy.CopyInfo.{CopyInfo}
-use Rattle.mxf_views.specs.KeptAbove.{counted_above}
+use Rattle.mxf_views.proofs.Common.{◌∙◌, ap, get_or, subst, sym, None, false, OpenIncomplete, In, CopyInfo}
+use Rattle.mxf_views.proofs.Common.{counted_above, In-at}
+use Rattle.std.proofs.Common.{set}
 use Rattle.mxf_klv.proofs.ListSteps.{next_changed, next_unchanged}
-use Rattle.mxf_klv.proofs.Lists.{In-at}
 use Rattle.mxf_views.proofs.kept.above.count_above.Goals as goal
 
 pub counted_above-requires : goal.counted_above-requires

@@ -1,5 +1,4 @@
-use Rattle.std.proofs.Common.{◌≡◌, ◌++◌, drop, map, take}
-use Rattle.mxf_views.specs.KeptAbove.{counted_above}
+use Rattle.mxf_views.proofs.Common.{◌≡◌, ◌++◌, drop, map, take, counted_above}
 use Rattle.mxf_views.proofs.kept.above.count_above.Given as goal
 
 abbrev pub invariant-loop-copy : goal.invariant-loop-copy

@@ -1,13 +1,8 @@
-use Rattle.std.proofs.Common.{◌≡◌, ◌<◌, ◌^◌, ◌∙◌, ◌++◌, ◌-◌, List, ap, arith, drop, get_or, length, map, subst, sym, take}
-use Rattle.std.specs.List.{AllWithin, filter_map}
-use Rattle.std.proofs.lemmas.List.{length-drop, length-map}
-use Rattle.mxf_klv.specs.Parts.{NoteParts}
-use Rattle.mxf_klv.specs.Rising.{In}
-use Rattle.mxf_catalogue.specs.Disputes.{clear_notes}
-use Rattle.mxf_views.specs.declared.copy.CopyInfo.{CopyInfo}
-use Rattle.mxf_views.specs.Copies.{CopiesRise}
-use Rattle.mxf_views.specs.Kept.{copy_by}
-use Rattle.mxf_views.specs.KeptAbove.{IsOfNone, IsStarting, clear_from, counted_above}
+use Rattle.mxf_views.proofs.Common.{◌≡◌, ◌<◌, ◌^◌, ◌∙◌, ◌++◌, ◌-◌, List, ap, arith, drop, get_or, length, map, subst}
+use Rattle.mxf_views.proofs.Common.{sym, take, AllWithin, filter_map, length-map, NoteParts, In, clear_notes, CopyInfo}
+use Rattle.mxf_views.proofs.Common.{CopiesRise, copy_by, clear_from, counted_above}
+use Rattle.std.proofs.lemmas.List.{length-drop}
+use Rattle.mxf_views.specs.KeptAbove.{IsOfNone, IsStarting}
 use Rattle.mxf_views.proofs.AboveCopies.{copies_at, fits_at, stays_above}
 use Rattle.mxf_views.proofs.CopyLaws.{copies_rise}
 use Rattle.mxf_klv.proofs.ListSteps.{in_rest, map_rest, rest_taken, rest_written}

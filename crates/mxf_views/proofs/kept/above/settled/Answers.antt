@@ -1,6 +1,4 @@
-use Rattle.std.proofs.Common.{◌<◌, ℕ, List, arith, subst, sym}
-use Rattle.std.specs.List.{AllWithin}
-use Rattle.std.specs.List.Sorted.{IsNonDecreasing}
+use Rattle.mxf_views.proofs.Common.{◌<◌, ℕ, List, arith, subst, sym, AllWithin, IsNonDecreasing}
 use Rattle.mxf_views.proofs.ReachLaws.{ends_by_reach, reaches_never_fall}
 use Rattle.mxf_views.proofs.kept.above.settled.Goals as goal
 

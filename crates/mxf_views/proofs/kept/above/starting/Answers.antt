@@ -1,4 +1,4 @@
-use Rattle.std.proofs.Common.{inr, sym}
+use Rattle.mxf_views.proofs.Common.{inr, sym}
 use Rattle.mxf_views.proofs.AboveCopies.{last_copy, last_held, others_before}
 use Rattle.mxf_views.proofs.kept.above.starting.Goals as goal
 

@@ -1,4 +1,4 @@
-use Rattle.std.proofs.Common.{rules}
+use Rattle.mxf_views.proofs.Common.{rules}
 use Rattle.std.proofs.lemmas.List.Sorted.{answers_always}
 use Rattle.mxf_views.proofs.CopySearch.{copy_searched, no_copy_searched}
 use Rattle.mxf_views.proofs.kept.copies.find_copy.Goals as goal

@@ -1,6 +1,4 @@
-use Rattle.std.proofs.Common.{◌∙◌, ap, map, subst, sym}
-use Rattle.mxf_views.specs.Copies.{CopiesRise}
-use Rattle.mxf_views.specs.Kept.{renewed}
+use Rattle.mxf_views.proofs.Common.{◌∙◌, ap, map, subst, sym, CopiesRise, renewed}
 use Rattle.mxf_views.proofs.CopyUpdates.{kept_copies_rise}
 use Rattle.mxf_views.proofs.kept.copies.follow_copies.Goals as goal
 

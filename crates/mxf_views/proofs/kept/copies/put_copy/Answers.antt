@@ -1,7 +1,4 @@
-use Rattle.std.proofs.Common.{◌∙◌, ap, subst, sym}
-use Rattle.std.specs.List.{insert}
-use Rattle.mxf_views.specs.Copies.{CopiesRise}
-use Rattle.mxf_views.specs.Kept.{with_copy}
+use Rattle.mxf_views.proofs.Common.{◌∙◌, ap, subst, sym, insert, CopiesRise, with_copy}
 use Rattle.mxf_views.proofs.CopyUpdates.{inserted_copy}
 use Rattle.mxf_views.proofs.Rising.{partitions_never_fall}
 use Rattle.mxf_views.proofs.kept.copies.put_copy.Goals as goal

@@ -1,8 +1,4 @@
-use Rattle.std.proofs.Common.{◌∙◌, ◌++◌, ap, arith}
-use Rattle.std.specs.List.{filter_map}
-use Rattle.mxf_catalogue.specs.Disputes.{clear_notes}
-use Rattle.mxf_views.specs.Kept.{copy_by, states_metadata}
-use Rattle.mxf_views.specs.KeptAbove.{clear_from}
+use Rattle.mxf_views.proofs.Common.{◌∙◌, ◌++◌, ap, arith, filter_map, clear_notes, copy_by, states_metadata, clear_from}
 use Rattle.mxf_views.proofs.CopyUpdates.{copies_by_notes}
 use Rattle.mxf_views.proofs.SumLaws.{all_from_none, count_from}
 use Rattle.mxf_views.proofs.kept.copies.refill_copies.Goals as goal

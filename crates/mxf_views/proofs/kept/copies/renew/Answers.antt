@@ -1,8 +1,6 @@
-use Rattle.std.proofs.Common.{◌∙◌, ◌<◌, List, ap, get_or, length, set, subst}
-use Rattle.std.proofs.Common.{None, false}
-use Rattle.mxf_klv.specs.declared.kinds.Status.TheVariants.{OpenIncomplete}
-use Rattle.mxf_views.specs.declared.copy.CopyInfo.{CopyInfo}
-use Rattle.mxf_views.specs.Kept.{renewed}
+use Rattle.mxf_views.proofs.Common.{◌∙◌, ◌<◌, List, ap, get_or, length, subst, None, false, OpenIncomplete, CopyInfo}
+use Rattle.mxf_views.proofs.Common.{renewed}
+use Rattle.std.proofs.Common.{set}
 use Rattle.mxf_klv.proofs.ListSteps.{next_changed}
 use Rattle.mxf_views.proofs.kept.copies.renew.Goals as goal
 

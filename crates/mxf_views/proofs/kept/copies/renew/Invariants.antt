@@ -1,5 +1,4 @@
-use Rattle.std.proofs.Common.{◌≡◌, ◌++◌, drop, map, take}
-use Rattle.mxf_views.specs.Kept.{renewed}
+use Rattle.mxf_views.proofs.Common.{◌≡◌, ◌++◌, drop, map, take, renewed}
 use Rattle.mxf_views.proofs.kept.copies.renew.Given as goal
 
 abbrev pub invariant-loop-copy : goal.invariant-loop-copy

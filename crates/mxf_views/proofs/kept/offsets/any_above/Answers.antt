@@ -1,5 +1,4 @@
-use Rattle.std.proofs.Common.{◌∙◌, ◌<◌, ◌≤◌, ◌-◌, ap, arith, length, nat_lt, sym}
-use Rattle.std.proofs.lemmas.Bool.{ltb-true, ltb-false}
+use Rattle.mxf_views.proofs.Common.{◌∙◌, ◌<◌, ◌≤◌, ◌-◌, ap, arith, length, nat_lt, sym, ltb-true, ltb-false}
 use Rattle.mxf_views.proofs.OffsetSearch.{last_above, none_above}
 use Rattle.mxf_views.proofs.kept.offsets.any_above.Goals as goal
 
@@ -10,8 +9,3 @@ returns-in-Some c =
     let some : 0 < length offsets = ltb-true _ _ (sym found.0) in
     ap (nat_lt c.args.low) found.1
     ∙ last_above c.args.low offsets (length offsets - 1) _ c.requires (omega (arith, some))
-
-pub returns-in-None : goal.returns-in-None
-returns-in-None c =
-    let none : length c.args.offsets.now ≤ 0 = ltb-false _ _ (sym c.in-None.ensures.item.0) in
-    sym (none_above c.args.low c.args.offsets.now none)

@@ -1,5 +1,4 @@
-use Rattle.std.proofs.Common.{◌∙◌, ap, sym, length, nat_lt}
-use Rattle.std.proofs.lemmas.Bool.{ltb-true, ltb-false}
+use Rattle.mxf_views.proofs.Common.{◌∙◌, ap, sym, length, nat_lt, ltb-true, ltb-false}
 use Rattle.mxf_views.proofs.OffsetSearch.{first_between, none_between, offsets_never_fall}
 use Rattle.mxf_views.proofs.kept.offsets.any_between.Goals as goal
 

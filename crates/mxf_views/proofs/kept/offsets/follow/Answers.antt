@@ -1,7 +1,4 @@
-use Rattle.std.proofs.Common.{subst, sym, nat_cmp}
-use Rattle.std.specs.Ordering.{nat_cmp}
-use Rattle.mxf_klv.specs.Rising.{IsRising}
-use Rattle.mxf_views.specs.Kept.{is_outside}
+use Rattle.mxf_views.proofs.Common.{subst, sym, nat_cmp, IsRising, is_outside}
 use Rattle.mxf_catalogue.specs.ReducedLaws.{rising-filter}
 use Rattle.mxf_views.proofs.kept.offsets.follow.Goals as goal
 

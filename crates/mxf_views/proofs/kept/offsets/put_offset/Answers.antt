@@ -1,10 +1,7 @@
-use Rattle.std.proofs.Common.{sym, ◌∙◌, ap, subst}
-use Rattle.std.specs.FinSet.{nat_cmp-IsAntisymmetric}
-use Rattle.std.specs.List.{insert}
-use Rattle.std.specs.Ordering.{nat_cmp}
-use Rattle.std.specs.Prelude.{IfErr, OnOk}
-use Rattle.std.proofs.lemmas.Cmp.{nat_cmp_total}
-use Rattle.mxf_klv.specs.Rising.{In, IsPlaceOf, IsRising, with_one}
+use Rattle.mxf_views.proofs.Common.{sym, ◌∙◌, ap, subst, nat_cmp-IsAntisymmetric, insert, nat_cmp, OnOk, nat_cmp_total}
+use Rattle.mxf_views.proofs.Common.{In, IsRising, with_one}
+use Rattle.std.specs.Prelude.{IfErr}
+use Rattle.mxf_klv.specs.Rising.{IsPlaceOf}
 use Rattle.mxf_klv.proofs.RisingLemmas.{with_one_present}
 use Rattle.mxf_catalogue.proofs.Places.{search_says}
 use Rattle.mxf_views.proofs.kept.offsets.put_offset.Goals as goal

@@ -1,11 +1,5 @@
-use Rattle.std.proofs.Common.{◌≡◌, ◌∙◌, ◌<◌, ◌≤◌, ℕ, List, ap, arith, get_or, length, subst, sym}
-use Rattle.std.specs.Bool.{then_some}
-use Rattle.std.specs.List.{AllWithin}
-use Rattle.std.specs.List.Sorted.{IsNonDecreasing}
-use Rattle.std.proofs.lemmas.Bool.{ltb-false}
-use Rattle.mxf_klv.specs.Note.{end_of}
-use Rattle.mxf_views.specs.Kept.{reaches_of}
-use Rattle.mxf_views.specs.Labels.{is_in_copy}
+use Rattle.mxf_views.proofs.Common.{◌≡◌, ◌∙◌, ◌<◌, ◌≤◌, ℕ, List, ap, arith, get_or, length, subst, sym, then_some}
+use Rattle.mxf_views.proofs.Common.{AllWithin, IsNonDecreasing, ltb-false, end_of, reaches_of, is_in_copy}
 use Rattle.mxf_views.proofs.ReachLaws.{first_reaches, length-reaches_from, none_reaches, reaches_never_fall}
 use Rattle.mxf_views.proofs.kept.reaches.copy_around.Goals as goal
 

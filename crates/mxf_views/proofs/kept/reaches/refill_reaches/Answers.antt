@@ -1,5 +1,5 @@
-use Rattle.std.proofs.Common.{◌∙◌, ◌∷◌, ◌++◌, ℕ, List, ap, arith, drop, get_or, sym, take}
-use Rattle.mxf_views.specs.Kept.{reaches_from, reaches_of}
+use Rattle.mxf_views.proofs.Common.{◌∙◌, ◌∷◌, ◌++◌, ℕ, List, ap, arith, drop, get_or, sym, take, reaches_from}
+use Rattle.mxf_views.proofs.Common.{reaches_of}
 use Rattle.mxf_views.proofs.ReachLaws.{reaches_go_on}
 use Rattle.mxf_klv.proofs.ListSteps.{before_taken}
 use Rattle.mxf_views.proofs.kept.reaches.refill_reaches.Goals as goal

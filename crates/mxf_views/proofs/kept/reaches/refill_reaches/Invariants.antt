@@ -1,6 +1,5 @@
 -- What is there and what is to come are the reaches of the copies, and there is room for them.
-use Rattle.std.proofs.Common.{◌≡◌, ◌++◌, ◌+◌, ◌≤◌, drop, length, vec_capacity, vec_len}
-use Rattle.mxf_views.specs.Kept.{reaches_from, reaches_of}
+use Rattle.mxf_views.proofs.Common.{◌≡◌, ◌++◌, ◌+◌, ◌≤◌, drop, length, vec_capacity, vec_len, reaches_from, reaches_of}
 use Rattle.mxf_views.proofs.kept.reaches.refill_reaches.Given as goal
 
 abbrev pub invariant-loop-copy : goal.invariant-loop-copy

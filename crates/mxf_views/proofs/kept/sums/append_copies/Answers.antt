@@ -1,8 +1,5 @@
-use Rattle.std.proofs.Common.{◌∙◌, ◌++◌, ap, arith, subst, sym}
-use Rattle.std.specs.Prelude.{count_by}
-use Rattle.std.specs.List.{filter_map}
-use Rattle.mxf_catalogue.specs.Disputes.{AreApart, clear_notes}
-use Rattle.mxf_views.specs.Kept.{copy_by, states_metadata}
+use Rattle.mxf_views.proofs.Common.{◌∙◌, ◌++◌, ap, arith, subst, sym, count_by, filter_map, AreApart, clear_notes}
+use Rattle.mxf_views.proofs.Common.{copy_by, states_metadata}
 use Rattle.mxf_views.proofs.SumLaws.{apart_from, apart_rest, next_copy, next_counted, next_passed, no_next_copy}
 use Rattle.mxf_views.proofs.kept.sums.append_copies.Goals as goal
 

@@ -1,10 +1,6 @@
 -- What is there and what is to come are the copies before and the new ones, and there is room for them.
-use Rattle.std.proofs.Common.{◌≡◌, ◌+◌, ◌++◌, ◌≤◌, vec_capacity, vec_len}
-use Rattle.std.specs.Prelude.{count_by}
-use Rattle.std.specs.List.{filter_map}
-use Rattle.mxf_catalogue.specs.Disputes.{AreApart, clear_notes}
-use Rattle.mxf_views.specs.Kept.{copy_by, states_metadata}
-use Rattle.mxf_views.specs.KeptAbove.{clear_from}
+use Rattle.mxf_views.proofs.Common.{◌≡◌, ◌+◌, ◌++◌, ◌≤◌, vec_capacity, vec_len, count_by, filter_map, AreApart}
+use Rattle.mxf_views.proofs.Common.{clear_notes, copy_by, states_metadata, clear_from}
 use Rattle.mxf_views.proofs.kept.sums.append_copies.Given as goal
 
 abbrev pub invariant-loop-note : goal.invariant-loop-note

@@ -1,6 +1,4 @@
-use Rattle.std.proofs.Common.{◌-◌, ◌<◌, ◌≤◌, arith, get_or, length}
-use Rattle.mxf_views.specs.declared.kept.sums.Mark.{Mark}
-use Rattle.mxf_klv.proofs.Lists.{In-at}
+use Rattle.mxf_views.proofs.Common.{◌-◌, ◌<◌, ◌≤◌, arith, get_or, length, Mark, In-at}
 use Rattle.mxf_views.proofs.kept.sums.marks_within.Goals as goal
 
 pub returns : goal.returns

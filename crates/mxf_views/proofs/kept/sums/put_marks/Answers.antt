@@ -1,24 +1,10 @@
-use Rattle.std.proofs.Common.{◌≡◌, ◌-◌, ◌+◌, ◌⊎◌, ◌∷◌, ◌++◌, ℕ, [], List, ap, arith, length, subst, sym}
-use Rattle.mxf_klv.specs.Parts.{NoteParts}
-use Rattle.mxf_catalogue.specs.Disputes.{AreApart}
-use Rattle.mxf_views.specs.Copies.{is_preface_note}
+use Rattle.mxf_views.proofs.Common.{◌≡◌, ◌-◌, ◌+◌, ◌⊎◌, ◌∷◌, ◌++◌, ℕ, [], List, ap, arith, length, subst, sym}
+use Rattle.mxf_views.proofs.Common.{NoteParts, AreApart, is_preface_note}
 use Rattle.mxf_views.specs.Spans.{size_of}
 use Rattle.mxf_views.proofs.MarkLaws.{AreCounted, counted_next, counted_none}
 use Rattle.mxf_views.proofs.SpanCounts.{sizes_more}
 use Rattle.mxf_views.proofs.SumLaws.{tally_fits}
 use Rattle.mxf_views.proofs.kept.sums.put_marks.Goals as goal
-
-pub loop-note-init : goal.loop-note-init
-loop-note-init c =
-    let all = c.args.notes in
-    let gives = sym c.into_iter-note-iterator.ensures.into_iter_gives in
-    let len = ap length gives in (
-      subst (λ (l : List NoteParts). AreCounted all c.args.marks.now.items 0 0 l) gives
-          (counted_none all c.args.marks.now.items c.requires.empty),
-      subst (AreApart 0) gives c.requires.apart,
-      omega (arith, len, c.requires.bound),
-      omega (arith, len, c.requires.bound),
-    )
 
 pub loop-note-preserved : goal.loop-note-preserved
 loop-note-preserved c =

@@ -1,6 +1,5 @@
 -- The marks so far are marks, what has passed is counted, and the counts fit.
-use Rattle.std.proofs.Common.{◌+◌, ◌<◌, ◌^◌, length}
-use Rattle.mxf_catalogue.specs.Disputes.{AreApart}
+use Rattle.mxf_views.proofs.Common.{◌+◌, ◌<◌, ◌^◌, length, AreApart}
 use Rattle.mxf_views.proofs.MarkLaws.{AreCounted}
 use Rattle.mxf_views.proofs.kept.sums.put_marks.Given as goal
 

@@ -1,6 +1,4 @@
-use Rattle.std.proofs.Common.{◌≡◌, ◌+◌, ◌≤◌, length}
-use Rattle.std.specs.Prelude.{count_by}
-use Rattle.mxf_views.specs.Partitions.{is_header}
+use Rattle.mxf_views.proofs.Common.{◌≡◌, ◌+◌, ◌≤◌, length, count_by, is_header}
 use Rattle.mxf_views.proofs.partition.Partitions.count_headers.Given as goal
 
 abbrev pub invariant-loop-partition : goal.invariant-loop-partition

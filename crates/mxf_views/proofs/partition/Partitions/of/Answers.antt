@@ -1,6 +1,4 @@
-use Rattle.std.proofs.Common.{◌≤◌, length, arith}
-use Rattle.mxf_views.specs.Partitions.{partition_at, partitions_among}
-use Rattle.mxf_klv.proofs.Lists.{length-filter_map}
+use Rattle.mxf_views.proofs.Common.{◌≤◌, length, arith, partition_at, partitions_among, length-filter_map}
 use Rattle.mxf_views.proofs.partition.Partitions.of.Goals as goal
 
 pub returns-clause-bound : goal.returns-clause-bound

@@ -1,5 +1,4 @@
-use Rattle.std.proofs.Common.{◌≡◌, length}
-use Rattle.mxf_views.specs.Partitions.{partitions_among}
+use Rattle.mxf_views.proofs.Common.{◌≡◌, length, partitions_among}
 use Rattle.mxf_views.proofs.partition.PartitionsIterator.next.Given as goal
 
 abbrev pub invariant-loop-note : goal.invariant-loop-note

@@ -1,8 +1,4 @@
-use Rattle.std.proofs.Common.{arith}
-use Rattle.std.specs.Prelude.{◌==◌, find}
-use Rattle.mxf_klv.specs.Parts.{NoteParts}
-use Rattle.mxf_catalogue.specs.Disputes.{clear_notes}
-use Rattle.mxf_klv.proofs.Lists.{length-filter_map}
+use Rattle.mxf_views.proofs.Common.{arith, ◌==◌, find, NoteParts, clear_notes, length-filter_map}
 use Rattle.mxf_views.proofs.placed.NotesAt.of.Goals as goal
 
 pub returns-clause-bound : goal.returns-clause-bound

@@ -1,5 +1,4 @@
-use Rattle.std.proofs.Common.{◌≡◌, length}
-use Rattle.mxf_views.specs.Kept.{notes_at}
+use Rattle.mxf_views.proofs.Common.{◌≡◌, length, notes_at}
 use Rattle.mxf_views.proofs.placed.NotesAtIterator.next.Given as goal
 
 abbrev pub invariant-loop-offset : goal.invariant-loop-offset

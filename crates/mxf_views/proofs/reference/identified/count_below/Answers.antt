@@ -1,4 +1,4 @@
-use Rattle.std.proofs.Common.{rules}
+use Rattle.mxf_views.proofs.Common.{rules}
 use Rattle.std.proofs.lemmas.List.Sorted.{IsPartitionPoint-from_clause}
 use Rattle.mxf_views.specs.Identified.{is_below}
 use Rattle.mxf_views.proofs.IdentifiedLaws.{less_is_below, parted}

@@ -1,10 +1,9 @@
-use Rattle.std.proofs.Common.{◌≡◌, ◌∙◌, ◌+◌, Bool, false, true, ap, arith, length, sym}
-use Rattle.std.specs.Prelude.{not}
-use Rattle.std.proofs.lemmas.Bool.{ltb-false}
+use Rattle.mxf_views.proofs.Common.{◌≡◌, ◌∙◌, ◌+◌, Bool, false, true, ap, arith, length, sym, not, ltb-false}
 use Rattle.mxf_views.specs.Identified.{is_of}
 use Rattle.mxf_views.proofs.IdentifiedLaws.{absent_at_end, absent_there, one_there, several_there}
+use Rattle.mxf_views.proofs.reference.identified.find_sorted.Goals.{in_default-get-via-in-Some-get+else-eq}
+use Rattle.mxf_views.proofs.reference.identified.find_sorted.Goals.{in_default-get-via-in_default-get}
 use Rattle.mxf_views.proofs.reference.identified.find_sorted.Goals as goal
-use Rattle.mxf_views.proofs.reference.identified.find_sorted.Goals.{in_default-get-via-in-Some-get+else-eq, in_default-get-via-in_default-get}
 
 if_not : (b c : Bool) → c ≡ not b → b ≡ not c
 if_not true c e = sym (ap not e)

@@ -1,10 +1,7 @@
-use Rattle.std.proofs.Common.{ℕ, List, Ok, Err, refl, subst, sym}
-use Rattle.std.specs.Prelude.{◌↔◌, IfErr, IsTrue, OnOk, is_ok}
-use Rattle.std.specs.declared.result.Result.{Result}
-use Rattle.std.specs.FinSet.{nat_cmp-IsAntisymmetric}
-use Rattle.std.specs.Ordering.{nat_cmp}
-use Rattle.std.proofs.lemmas.Cmp.{nat_cmp_total}
-use Rattle.mxf_klv.specs.Rising.{In, IsPlaceOf}
+use Rattle.mxf_views.proofs.Common.{ℕ, List, Ok, Err, refl, subst, sym, ◌↔◌, OnOk, Result, nat_cmp-IsAntisymmetric}
+use Rattle.mxf_views.proofs.Common.{nat_cmp, nat_cmp_total, In}
+use Rattle.std.specs.Prelude.{IfErr, IsTrue, is_ok}
+use Rattle.mxf_klv.specs.Rising.{IsPlaceOf}
 use Rattle.mxf_catalogue.proofs.Places.{search_says}
 use Rattle.mxf_views.proofs.reference.identified.is_among.Goals as goal
 

@@ -1,4 +1,4 @@
-use Rattle.std.proofs.Common.{rules}
+use Rattle.mxf_views.proofs.Common.{rules}
 use Rattle.std.proofs.lemmas.List.Sorted.{answers_always}
 use Rattle.mxf_views.proofs.IdentifiedLaws.{by_uid}
 use Rattle.mxf_views.proofs.reference.identified.sorted.Goals as goal

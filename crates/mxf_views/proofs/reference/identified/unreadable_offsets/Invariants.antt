@@ -1,6 +1,5 @@
 -- What is there and what is to come are the offsets of the sets that can't be read.
-use Rattle.std.proofs.Common.{◌≡◌, ◌++◌}
-use Rattle.mxf_views.specs.Identified.{unreadable_offsets}
+use Rattle.mxf_views.proofs.Common.{◌≡◌, ◌++◌, unreadable_offsets}
 use Rattle.mxf_views.proofs.reference.identified.unreadable_offsets.Given as goal
 
 abbrev pub invariant-loop-note : goal.invariant-loop-note

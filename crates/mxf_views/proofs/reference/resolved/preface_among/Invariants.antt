@@ -1,6 +1,4 @@
-use Rattle.std.proofs.Common.{◌≡◌}
-use Rattle.std.specs.Prelude.{find}
-use Rattle.mxf_views.specs.Copies.{is_preface_note}
+use Rattle.mxf_views.proofs.Common.{◌≡◌, find, is_preface_note}
 use Rattle.mxf_views.proofs.reference.resolved.preface_among.Given as goal
 
 abbrev pub invariant-loop-note : goal.invariant-loop-note

@@ -1,8 +1,6 @@
-use Rattle.std.proofs.Common.{◌≡◌, ◌∙◌, ap, sym}
-use Rattle.mxf_views.specs.Resolved.{storage_among, storage_in}
+use Rattle.mxf_views.proofs.Common.{◌≡◌, ◌∙◌, ap, sym, storage_among, none_some, same_Some}
+use Rattle.mxf_views.specs.Resolved.{storage_in}
 use Rattle.mxf_views.proofs.OnlyFound.{only_there}
-use Rattle.mxf_klv.proofs.Tests.{none_some}
-use Rattle.std.proofs.lemmas.Option.{same_Some}
 use Rattle.mxf_views.proofs.reference.resolved.storage_of.Goals as goal
 
 pub returns-in_err-note_at-in-One : goal.returns-in_err-note_at-in-One

@@ -1,4 +1,4 @@
-use Rattle.std.proofs.Common.{◌≡◌, ◌++◌}
+use Rattle.mxf_views.proofs.Common.{◌≡◌, ◌++◌}
 use Rattle.mxf_views.specs.Targets.{refs_of}
 use Rattle.mxf_views.proofs.reference.target.refs_of.Given as goal
 

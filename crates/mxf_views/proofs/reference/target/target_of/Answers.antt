@@ -1,14 +1,6 @@
-use Rattle.std.proofs.Common.{◌≡◌, ◌∙◌, List, ap, inl, refl, subst, sym}
-use Rattle.std.specs.Prelude.{filter}
-use Rattle.mxf_klv.specs.Parts.{NoteParts}
-use Rattle.mxf_klv.specs.Rising.{In}
-use Rattle.mxf_views.specs.Copies.{sets_of}
-use Rattle.mxf_views.specs.References.{has_uid}
-use Rattle.mxf_views.specs.Targets.{target_among, target_at, target_of}
+use Rattle.mxf_views.proofs.Common.{◌≡◌, ◌∙◌, List, ap, inl, refl, subst, sym, filter, NoteParts, In, sets_of, has_uid}
+use Rattle.mxf_views.proofs.Common.{target_among, target_at, target_of, In-filter, none_some, same_Some}
 use Rattle.mxf_views.proofs.OnlyFound.{only_there}
-use Rattle.mxf_klv.proofs.Lists.{In-filter}
-use Rattle.mxf_klv.proofs.Tests.{none_some}
-use Rattle.std.proofs.lemmas.Option.{same_Some}
 use Rattle.mxf_views.proofs.reference.target.target_of.Goals as goal
 
 pub unreachable-requires : goal.unreachable-requires

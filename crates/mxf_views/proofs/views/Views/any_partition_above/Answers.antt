@@ -1,10 +1,6 @@
-use Rattle.std.proofs.Common.{◌∙◌, ap, nat_lt, subst, sym}
-use Rattle.std.specs.List.{list_any}
-use Rattle.std.specs.Ordering.{nat_cmp}
-use Rattle.mxf_klv.specs.Rising.{IsRising}
+use Rattle.mxf_views.proofs.Common.{◌∙◌, ap, nat_lt, subst, sym, list_any, nat_cmp, IsRising, KeptParts, is_placed}
+use Rattle.mxf_views.proofs.Common.{partitions_of, stands_above}
 use Rattle.mxf_views.specs.declared.kept.offsets.Placed.TheVariants.{Partition}
-use Rattle.mxf_views.specs.Kept.{KeptParts, is_placed}
-use Rattle.mxf_views.specs.Partitions.{partitions_of, stands_above}
 use Rattle.mxf_views.proofs.ClearChanges.{offsets_rise}
 use Rattle.mxf_views.proofs.OffsetSearch.{above_offsets}
 use Rattle.mxf_views.proofs.views.Views.any_partition_above.Goals as goal

@@ -1,9 +1,5 @@
-use Rattle.std.proofs.Common.{◌∙◌, List, ap, subst, sym}
-use Rattle.std.specs.Prelude.{find}
-use Rattle.mxf_views.specs.declared.copy.CopyInfo.{CopyInfo}
-use Rattle.mxf_views.specs.Copies.{copies_of}
-use Rattle.mxf_views.specs.Kept.{KeptParts, StartsRise, reaches_of}
-use Rattle.mxf_views.specs.Labels.{is_in_copy}
+use Rattle.mxf_views.proofs.Common.{◌∙◌, List, ap, subst, sym, find, CopyInfo, copies_of, KeptParts, StartsRise}
+use Rattle.mxf_views.proofs.Common.{reaches_of, is_in_copy}
 use Rattle.mxf_views.proofs.StartsOrder.{starts_rise}
 use Rattle.mxf_views.proofs.views.Views.copy_with.Goals as goal
 

@@ -1,9 +1,4 @@
-use Rattle.std.proofs.Common.{◌∙◌, ap, length}
-use Rattle.std.specs.Prelude.{◌==◌}
-use Rattle.std.specs.List.{list_all}
-use Rattle.mxf_catalogue.specs.Disputes.{clear_notes}
-use Rattle.mxf_views.specs.Kept.{KeptParts}
-use Rattle.mxf_views.specs.Partitions.{is_no_unreadable_pack}
+use Rattle.mxf_views.proofs.Common.{◌∙◌, ap, length, ◌==◌, list_all, clear_notes, KeptParts, is_no_unreadable_pack}
 use Rattle.mxf_klv.proofs.Lists.{none_left}
 use Rattle.mxf_views.proofs.views.Views.has_readable_packs.Goals as goal
 

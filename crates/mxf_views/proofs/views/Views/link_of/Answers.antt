@@ -1,5 +1,4 @@
-use Rattle.std.proofs.Common.{◌∙◌, ap}
-use Rattle.mxf_views.specs.Kept.{KeptParts}
+use Rattle.mxf_views.proofs.Common.{◌∙◌, ap, KeptParts}
 use Rattle.mxf_views.proofs.views.Views.link_of.Goals as goal
 
 pub link_of-requires : goal.link_of-requires

@@ -1,6 +1,4 @@
-use Rattle.std.proofs.Common.{◌∙◌, List, subst, sym}
-use Rattle.mxf_klv.specs.Parts.{NoteParts}
-use Rattle.mxf_views.specs.KeptAbove.{MeetAt}
+use Rattle.mxf_views.proofs.Common.{◌∙◌, List, subst, sym, NoteParts, MeetAt}
 use Rattle.mxf_views.proofs.AboveLaws.{union_is_reduced}
 use Rattle.mxf_views.proofs.views.Views.merge_above.Goals as goal
 

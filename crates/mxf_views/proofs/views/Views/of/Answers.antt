@@ -1,9 +1,6 @@
-use Rattle.std.specs.Prelude.{◌^◌, ◌<◌, List, length, refl}
-use Rattle.std.proofs.Common.{◌↔◌, ◌∙◌, ap, inl, inr, subst}
-use Rattle.mxf_klv.specs.Note.{head_note}
-use Rattle.mxf_klv.specs.Parts.{NoteParts}
-use Rattle.mxf_klv.specs.Rising.{In}
-use Rattle.mxf_catalogue.specs.Content.{AreReduced, IsLocated, has_note}
+use Rattle.mxf_views.proofs.Common.{◌^◌, ◌<◌, List, length, refl, ◌↔◌, ◌∙◌, ap, inl, inr, subst, head_note, NoteParts}
+use Rattle.mxf_views.proofs.Common.{In, AreReduced, has_note}
+use Rattle.mxf_catalogue.specs.Content.{IsLocated}
 use Rattle.mxf_catalogue.specs.Reduced.{IsKnown}
 use Rattle.mxf_catalogue.specs.CatalogueFile.{file_bytes}
 use Rattle.mxf_catalogue.proofs.FileLaws.{written_file}

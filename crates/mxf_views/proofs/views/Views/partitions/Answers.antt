@@ -1,6 +1,4 @@
-use Rattle.std.proofs.Common.{◌∙◌, ap}
-use Rattle.mxf_views.specs.Kept.{KeptParts, notes_at}
-use Rattle.mxf_views.specs.Partitions.{partitions_among, partitions_of}
+use Rattle.mxf_views.proofs.Common.{◌∙◌, ap, KeptParts, notes_at, partitions_among, partitions_of}
 use Rattle.mxf_views.proofs.KeptLaws.{partitions_kept}
 use Rattle.mxf_views.proofs.views.Views.partitions.Goals as goal
 

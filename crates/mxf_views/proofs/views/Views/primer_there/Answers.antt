@@ -1,8 +1,4 @@
-use Rattle.std.proofs.Common.{◌≡◌, ◌∙◌, ap, arith}
-use Rattle.std.specs.Option.{option_and_then}
-use Rattle.mxf_sets.specs.PackReadings.{primer_at}
-use Rattle.mxf_sets.specs.Readable.{read_as}
-use Rattle.mxf_views.specs.Labels.{primer_there}
+use Rattle.mxf_views.proofs.Common.{◌≡◌, ◌∙◌, ap, arith, option_and_then, primer_at, read_as, primer_there}
 use Rattle.mxf_views.proofs.views.Views.primer_there.Goals as goal
 
 pub returns : goal.returns

@@ -1,6 +1,4 @@
-use Rattle.std.proofs.Common.{◌∙◌, ap}
-use Rattle.mxf_views.specs.Kept.{KeptParts, notes_at}
-use Rattle.mxf_views.specs.RandomIndex.{rips_of}
+use Rattle.mxf_views.proofs.Common.{◌∙◌, ap, KeptParts, notes_at, rips_of}
 use Rattle.mxf_views.proofs.KeptLaws.{rips_kept}
 use Rattle.mxf_views.proofs.views.Views.random_index_packs.Goals as goal
 

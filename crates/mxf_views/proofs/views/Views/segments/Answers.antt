@@ -1,6 +1,4 @@
-use Rattle.std.proofs.Common.{◌∙◌, ap}
-use Rattle.mxf_views.specs.Kept.{KeptParts, notes_at}
-use Rattle.mxf_views.specs.Places.{segments_among, segments_of}
+use Rattle.mxf_views.proofs.Common.{◌∙◌, ap, KeptParts, notes_at, segments_among, segments_of}
 use Rattle.mxf_views.proofs.KeptLaws.{segments_kept}
 use Rattle.mxf_views.proofs.views.Views.segments.Goals as goal
 

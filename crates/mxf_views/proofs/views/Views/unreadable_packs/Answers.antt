@@ -1,8 +1,5 @@
-use Rattle.std.proofs.Common.{◌∙◌, ap}
-use Rattle.std.specs.Prelude.{filter}
-use Rattle.mxf_catalogue.specs.Disputes.{clear_notes}
+use Rattle.mxf_views.proofs.Common.{◌∙◌, ap, filter, clear_notes, KeptParts, is_placed, notes_at}
 use Rattle.mxf_views.specs.declared.kept.offsets.Placed.TheVariants.{UnreadablePack}
-use Rattle.mxf_views.specs.Kept.{KeptParts, is_placed, notes_at}
 use Rattle.mxf_views.proofs.ClearChanges.{notes_at_offsets}
 use Rattle.mxf_views.proofs.views.Views.unreadable_packs.Goals as goal
 

@@ -1,7 +1,4 @@
-use Rattle.std.proofs.Common.{◌≤◌, length, arith}
-use Rattle.std.specs.Prelude.{filter}
-use Rattle.mxf_views.specs.Copies.{is_set_note}
-use Rattle.mxf_klv.proofs.Lists.{length-filter_le}
+use Rattle.mxf_views.proofs.Common.{◌≤◌, length, arith, filter, is_set_note, length-filter_le}
 use Rattle.mxf_views.proofs.copy.sets.Sets.of.Goals as goal
 
 pub returns-clause-bound : goal.returns-clause-bound

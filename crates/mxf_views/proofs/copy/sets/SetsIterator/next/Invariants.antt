@@ -1,6 +1,4 @@
-use Rattle.std.proofs.Common.{◌≡◌, length}
-use Rattle.std.specs.Prelude.{filter}
-use Rattle.mxf_views.specs.Copies.{is_set_note}
+use Rattle.mxf_views.proofs.Common.{◌≡◌, length, filter, is_set_note}
 use Rattle.mxf_views.proofs.copy.sets.SetsIterator.next.Given as goal
 
 abbrev pub invariant-loop-note : goal.invariant-loop-note

@@ -1,9 +1,5 @@
-use Rattle.std.proofs.Common.{◌≡◌, ◌++◌, drop, map}
-use Rattle.std.specs.Prelude.{filter}
-use Rattle.mxf_views.specs.declared.finding.Code.TheVariants.{F09}
+use Rattle.mxf_views.proofs.Common.{◌≡◌, ◌++◌, drop, map, filter, F09, finding, findings_for}
 use Rattle.mxf_views.specs.Findings.{is_partial}
-use Rattle.mxf_views.specs.Codes.{finding}
-use Rattle.mxf_views.specs.Findings.{findings_for}
 use Rattle.mxf_views.proofs.finding.collected.Collected.add_copies.Given as goal
 
 abbrev pub invariant-loop-copy : goal.invariant-loop-copy

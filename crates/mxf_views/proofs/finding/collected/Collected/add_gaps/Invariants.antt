@@ -1,7 +1,4 @@
-use Rattle.std.proofs.Common.{◌≡◌, ◌++◌, map}
-use Rattle.mxf_views.specs.declared.finding.Code.TheVariants.{F03}
-use Rattle.mxf_views.specs.Codes.{finding}
-use Rattle.mxf_views.specs.Findings.{findings_for}
+use Rattle.mxf_views.proofs.Common.{◌≡◌, ◌++◌, map, F03, finding, findings_for}
 use Rattle.mxf_views.proofs.finding.collected.Collected.add_gaps.Given as goal
 
 abbrev pub invariant-loop-gap : goal.invariant-loop-gap

@@ -1,7 +1,4 @@
-use Rattle.std.proofs.Common.{◌≡◌, ◌++◌, map, drop}
-use Rattle.mxf_views.specs.declared.finding.Code.TheVariants.{F13}
-use Rattle.mxf_views.specs.Codes.{finding}
-use Rattle.mxf_views.specs.Findings.{lost_at}
+use Rattle.mxf_views.proofs.Common.{◌≡◌, ◌++◌, map, drop, F13, finding, lost_at}
 use Rattle.mxf_views.proofs.finding.collected.Collected.add_lost.Given as goal
 
 abbrev pub invariant-loop-reference : goal.invariant-loop-reference

@@ -1,7 +1,4 @@
-use Rattle.std.proofs.Common.{◌≡◌, ◌++◌, map}
-use Rattle.mxf_views.specs.declared.finding.Code.TheVariants.{F04}
-use Rattle.mxf_views.specs.Codes.{finding}
-use Rattle.mxf_views.specs.Findings.{findings_for}
+use Rattle.mxf_views.proofs.Common.{◌≡◌, ◌++◌, map, F04, finding, findings_for}
 use Rattle.mxf_views.proofs.finding.collected.Collected.add_packs.Given as goal
 
 abbrev pub invariant-loop-note : goal.invariant-loop-note

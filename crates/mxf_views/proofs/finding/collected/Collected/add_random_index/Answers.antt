@@ -1,8 +1,4 @@
-use Rattle.std.proofs.Common.{◌∙◌, ◌++◌, ap, map}
-use Rattle.std.specs.Prelude.{filter}
-use Rattle.mxf_views.specs.declared.finding.Code.TheVariants.{F12}
-use Rattle.mxf_views.specs.Codes.{finding}
-use Rattle.mxf_views.specs.Findings.{is_unfit_rip}
+use Rattle.mxf_views.proofs.Common.{◌∙◌, ◌++◌, ap, map, filter, F12, finding, is_unfit_rip}
 use Rattle.mxf_views.proofs.KeptFindings.{unfit_among_rips}
 use Rattle.mxf_views.proofs.finding.collected.Collected.add_random_index.Goals as goal
 

@@ -1,9 +1,4 @@
-use Rattle.std.proofs.Common.{◌≡◌, ◌++◌, map}
-use Rattle.std.specs.Prelude.{filter}
-use Rattle.mxf_views.specs.declared.finding.Code.TheVariants.{F12}
-use Rattle.mxf_views.specs.Findings.{is_unfit_rip}
-use Rattle.mxf_views.specs.Codes.{finding}
-use Rattle.mxf_views.specs.Findings.{findings_for}
+use Rattle.mxf_views.proofs.Common.{◌≡◌, ◌++◌, map, filter, F12, is_unfit_rip, finding, findings_for}
 use Rattle.mxf_views.proofs.finding.collected.Collected.add_random_index.Given as goal
 
 abbrev pub invariant-loop-note : goal.invariant-loop-note

@@ -1,8 +1,5 @@
-use Rattle.std.proofs.Common.{◌≡◌, ◌∙◌, ◌++◌, sym, ap, map, subst, Some}
-use Rattle.std.specs.Prelude.{OnOk}
-use Rattle.mxf_views.specs.declared.finding.Code.TheVariants.{F13}
-use Rattle.mxf_views.specs.Codes.{finding}
-use Rattle.mxf_views.specs.Findings.{lost_at, lost_beside, lost_by}
+use Rattle.mxf_views.proofs.Common.{◌≡◌, ◌∙◌, ◌++◌, sym, ap, map, subst, Some, OnOk, F13, finding, lost_at}
+use Rattle.mxf_views.specs.Findings.{lost_beside, lost_by}
 use Rattle.mxf_views.proofs.FindingUnions.{then-offsets}
 use Rattle.std.proofs.lemmas.Result.{on_ok_weaker}
 use Rattle.mxf_views.proofs.finding.collected.Collected.add_resolved.Goals as goal

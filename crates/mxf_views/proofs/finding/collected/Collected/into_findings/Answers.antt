@@ -1,6 +1,4 @@
-use Rattle.std.proofs.Common.{◌∙◌, [], ap}
-use Rattle.mxf_klv.specs.Rising.{union}
-use Rattle.mxf_views.specs.Codes.{finding_cmp}
+use Rattle.mxf_views.proofs.Common.{◌∙◌, [], ap, union, finding_cmp}
 use Rattle.mxf_views.proofs.FindingUnions.{in_order, in_order-rises}
 use Rattle.mxf_views.proofs.finding.collected.Collected.into_findings.Goals as goal
 

@@ -1,4 +1,4 @@
-use Rattle.std.proofs.Common.{arith, sym}
+use Rattle.mxf_views.proofs.Common.{arith, sym}
 use Rattle.mxf_views.proofs.CopyUpdates.{end-partition_at}
 use Rattle.mxf_views.proofs.kept.sums.Sums.copy_by.Goals as goal
 

@@ -1,6 +1,4 @@
-use Rattle.std.proofs.Common.{◌∙◌, ap, arith, sym}
-use Rattle.mxf_catalogue.specs.Disputes.{clear_notes}
-use Rattle.mxf_views.specs.Partitions.{PartitionParts}
+use Rattle.mxf_views.proofs.Common.{◌∙◌, ap, arith, sym, clear_notes, PartitionParts}
 use Rattle.mxf_views.proofs.SumLaws.{start_after}
 use Rattle.mxf_views.proofs.kept.sums.Sums.counted_copy.Goals as goal
 

@@ -1,7 +1,5 @@
-use Rattle.std.proofs.Common.{List, subst, sym}
-use Rattle.mxf_views.specs.declared.kept.sums.Mark.{Mark}
-use Rattle.mxf_views.specs.KeptAbove.{clear_from}
-use Rattle.mxf_views.specs.Sums.{AreInRange, AreMarks, SumsParts}
+use Rattle.mxf_views.proofs.Common.{List, subst, sym, Mark, clear_from, AreInRange}
+use Rattle.mxf_views.specs.Sums.{AreMarks, SumsParts}
 use Rattle.mxf_views.proofs.kept.sums.Sums.counts.Goals as goal
 
 pub counts_by-requires-clause-marks : goal.counts_by-requires-clause-marks

@@ -1,11 +1,10 @@
-use Rattle.std.proofs.Common.{◌≡◌, ◌+◌, ◌-◌, ◌<◌, ◌^◌, ◌≤◌, ◌∙◌, ap, arith, length, subst, sym}
-use Rattle.mxf_catalogue.specs.Disputes.{AreApart, clear_notes}
-use Rattle.mxf_views.specs.Copies.{covered_of, prefaces_of}
-use Rattle.mxf_views.specs.KeptAbove.{clear_from}
-use Rattle.mxf_views.specs.Sums.{AreInRange, SumsParts}
-use Rattle.mxf_views.proofs.MarkLaws.{covered_by, covered_fits, covered_order, prefaces_by, prefaces_fit, prefaces_order}
-use Rattle.mxf_views.proofs.kept.sums.Sums.counts_by.Goals as goal
+use Rattle.mxf_views.proofs.Common.{◌≡◌, ◌+◌, ◌-◌, ◌<◌, ◌^◌, ◌≤◌, ◌∙◌, ap, arith, length, subst, sym, AreApart}
+use Rattle.mxf_views.proofs.Common.{clear_notes, covered_of, prefaces_of, clear_from, AreInRange}
+use Rattle.mxf_views.specs.Sums.{SumsParts}
+use Rattle.mxf_views.proofs.MarkLaws.{covered_by, covered_fits, covered_order, prefaces_by, prefaces_fit}
+use Rattle.mxf_views.proofs.MarkLaws.{prefaces_order}
 use Rattle.mxf_views.proofs.kept.sums.Sums.counts_by.Goals.{After-counts-above}
+use Rattle.mxf_views.proofs.kept.sums.Sums.counts_by.Goals as goal
 
 low : (c : After-counts-above) → c.self.inside.boundary ≤ c.args.start
 low c = subst (λ (s : SumsParts). s.boundary ≤ c.args.start) (sym c.self.view_is) c.requires.above

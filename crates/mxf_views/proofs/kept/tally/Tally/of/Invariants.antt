@@ -1,8 +1,5 @@
 -- What has passed is counted, and the counts fit.
-use Rattle.std.proofs.Common.{◌≡◌, ◌+◌, ◌<◌, ◌^◌, length}
-use Rattle.std.specs.Prelude.{count_by}
-use Rattle.mxf_catalogue.specs.Disputes.{clear_notes}
-use Rattle.mxf_views.specs.RandomIndex.{is_rip_note}
+use Rattle.mxf_views.proofs.Common.{◌≡◌, ◌+◌, ◌<◌, ◌^◌, length, count_by, clear_notes, is_rip_note}
 use Rattle.mxf_views.proofs.TallyLaws.{has_pack, has_segment}
 use Rattle.mxf_views.proofs.kept.tally.Tally.of.Given as goal
 

@@ -1,11 +1,8 @@
-use Rattle.std.proofs.Common.{◌∙◌, ℕ, List, subst, sym}
-use Rattle.std.specs.Ordering.{nat_cmp}
-use Rattle.mxf_klv.specs.Rising.{In, IsRising}
-use Rattle.mxf_views.specs.Copies.{sets_of}
+use Rattle.mxf_views.proofs.Common.{◌∙◌, ℕ, List, subst, sym, nat_cmp, In, IsRising, sets_of, unreadable_offsets}
+use Rattle.mxf_views.proofs.Common.{same_bool}
 use Rattle.mxf_views.specs.Findings.{is_unreadable}
-use Rattle.mxf_views.specs.Identified.{CopySetsParts, unreadable_offsets}
+use Rattle.mxf_views.specs.Identified.{CopySetsParts}
 use Rattle.mxf_views.proofs.UnreadableLaws.{unreadable_rise, unreadable_there}
-use Rattle.mxf_klv.proofs.Tests.{same_bool}
 use Rattle.mxf_views.proofs.reference.identified.CopySets.is_unreadable.Goals as goal
 
 pub is_among-requires : goal.is_among-requires
