@@ -149,7 +149,8 @@ pub(crate) fn are_refused(alloc: Global, cases: &[(&[&[u8]], FileFault)]) -> Res
     Ok(refused)
 }
 
-/// Whether the mark of the second note of this file may be no other, and its whole note no neighbour, behind it or ahead.
+/// Whether the mark of the second note of this file may be no other, and its whole note no neighbour, behind it or
+/// ahead.
 fn are_refused_at_their_places(alloc: Global, file: &[u8], whole: &[u8]) -> Result<bool, Fail> {
     let (unmarked, notes) = (part(file, 0, 171)?, part(file, 16, 172)?);
     let (footer, both) = (part(whole, 138, 260)?, part(whole, 16, 260)?);

@@ -129,8 +129,8 @@ fn merges_to(all: &mut Catalogue, other: Catalogue, wanted: &Catalogue) -> bool 
     all.merge(other).is_ok() && all.same(wanted)
 }
 
-/// Whether merges leave no head of a whole packet: of the head alone into the first packet, of both into the whole, and of
-/// that into both.
+/// Whether merges leave no head of a whole packet: of the head alone into the first packet, of both into the whole, and
+/// of that into both.
 fn merges_leave_no_head(
     part: &mut Catalogue,
     whole: &Catalogue,
@@ -205,7 +205,8 @@ fn a_head_of_another_length_disputes_what_it_claims(rt: HostRuntime) -> Result<(
     Ok(())
 }
 
-/// Whether a head that claims the bytes from 0 to 117 disputes a packet from 50 to 67, and its own packet takes its place.
+/// Whether a head that claims the bytes from 0 to 117 disputes a packet from 50 to 67, and its own packet takes its
+/// place.
 fn gives_its_place(alloc: Global, all: &mut Catalogue) -> Result<bool, Fail> {
     all.add(essence(50, 0)?)?;
     let moved = adds(all, essence_head(0, 100)?, &[50]) && all.end() == 117;

@@ -72,7 +72,8 @@ fn each_front_of_a_file_of_version_2_is_cut_at_its_place(rt: HostRuntime) -> Res
     Ok(())
 }
 
-/// Whether the notes of a file, of which the second and the third stand at these places, are refused where they don't rise.
+/// Whether the notes of a file, of which the second and the third stand at these places, are refused where they don't
+/// rise.
 fn must_rise(alloc: Global, version: u8, file: &[u8], places: [usize; 2]) -> Result<bool, Fail> {
     let [second, third] = places;
     let (a, b) = (part(file, 16, second)?, part(file, second, third)?);
@@ -111,8 +112,8 @@ fn count_is_refused(
     is_refused(alloc, &[start, notes, behind], fault)
 }
 
-/// Whether counts that aren't that of a file's notes are refused. The second note and the third stand at the first two of
-/// these places, and the last is the file's end.
+/// Whether counts that aren't that of a file's notes are refused. The second note and the third stand at the first two
+/// of these places, and the last is the file's end.
 fn counts_are_refused(
     alloc: Global,
     version: u8,
@@ -233,8 +234,8 @@ fn start_is_refused(
     is_refused(alloc, &[&start(version, count), &notes], fault)
 }
 
-/// Whether the notes of a whole file and of one with a head are refused where the version is another, those of version 1
-/// too.
+/// Whether the notes of a whole file and of one with a head are refused where the version is another, those of version
+/// 1 too.
 fn versions_are_told(alloc: Global, file: &[u8], cut: &[u8]) -> Result<bool, Fail> {
     let (bare, marked) = (&M_OF_VERSION_1[16..319], part(file, 16, 322)?);
     let cut = part(cut, 16, 172)?;
@@ -317,7 +318,8 @@ const ESSENCE: [u8; 33] = [
 /// The least digest and the greatest.
 const DIGESTS: [[u8; 32]; 2] = [[0; 32], [255; 32]];
 
-/// Whether a catalogue has the essence packet with both digests, which dispute one another, and is written as version 2.
+/// Whether a catalogue has the essence packet with both digests, which dispute one another, and is written as version
+/// 2.
 fn is_of_both(alloc: Global, all: &Catalogue) -> Result<bool, Fail> {
     let [least, greatest] = DIGESTS;
     let held = all.holds(&essence(0, 0)?) && all.len() == 2 && all.disputed().count() == 2;

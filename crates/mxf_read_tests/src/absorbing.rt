@@ -38,8 +38,8 @@ fn a_whole_file_is_noted_once(rt: HostRuntime) -> Result<(), Fail> {
     Ok(())
 }
 
-/// Absorbs what is left of M, of which so many packets are held up to an offset. After want of memory it answers how many
-/// are held then, and up to where, and none where M is whole.
+/// Absorbs what is left of M, of which so many packets are held up to an offset. After want of memory it answers how
+/// many are held then, and up to where, and none where M is whole.
 fn absorb_rest(
     alloc: Global,
     views: &mut Views,

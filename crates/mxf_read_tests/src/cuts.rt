@@ -100,8 +100,8 @@ fn both_parts_leave_the_whole_when_they_were_saved(rt: HostRuntime) -> Result<()
     Ok(())
 }
 
-/// The number of packets that are noted of so many first bytes of M, and that of what is held. A packet is cut behind its
-/// length from its byte 20 on.
+/// The number of packets that are noted of so many first bytes of M, and that of what is held. A packet is cut behind
+/// its length from its byte 20 on.
 fn noted_and_held(place: usize) -> (u64, usize) {
     match place {
         0..=19 => (0, 0),

@@ -34,8 +34,8 @@ impl Read for FailsOnce<'_> {
     }
 }
 
-/// Whether a piece of M, whose reader fails once behind so many bytes, is a fault behind its whole packets, and that read
-/// the last: one read a byte, and the one that fails.
+/// Whether a piece of M, whose reader fails once behind so many bytes, is a fault behind its whole packets, and that
+/// read the last: one read a byte, and the one that fails.
 fn is_the_last_read(alloc: Global, kind: ErrorKind, until: usize) -> bool {
     let reads = Cell::new(0);
     let mut from = FailsOnce {
@@ -86,8 +86,8 @@ fn fault_of(alloc: Global, part: Part<FailsOnce<'_>>) -> Result<Option<GatherFau
     Ok(gather(alloc, parts).err())
 }
 
-/// Whether a saved catalogue of these bytes, or a piece at 0, whose reader fails once behind so many of them, is a fault,
-/// and that read the last.
+/// Whether a saved catalogue of these bytes, or a piece at 0, whose reader fails once behind so many of them, is a
+/// fault, and that read the last.
 fn is_the_last_read_of_a_part(
     alloc: Global,
     bytes: &[u8],

@@ -136,8 +136,8 @@ fn has_five(alloc: Global, gathered: &Gathered, file: &[u8]) -> Result<bool, Fai
     Ok(is_written_as(alloc, gathered.views.catalogue(), file)? && counted)
 }
 
-/// Whether M's packets in this order, M, an empty piece, and the saved catalogues of none of them and of two hold those of
-/// the third file.
+/// Whether M's packets in this order, M, an empty piece, and the saved catalogues of none of them and of two hold those
+/// of the third file.
 fn order_holds(alloc: Global, order: [usize; 3], files: [&[u8]; 3]) -> Result<bool, Fail> {
     let [none, two, whole] = files;
     let (first, first_bytes) = packet_numbered(order[0])?;
