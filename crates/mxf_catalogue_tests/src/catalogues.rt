@@ -2,7 +2,8 @@
 ghost use Rattle.std.specs.Prelude.{◌≡◌, IfOk, IsTrue, map};
 ghost use Rattle.mxf_catalogue.specs.Disputes.{clear_notes, disputed_notes};
 
-use mxf_catalogue::{Catalogue, Change, Semilattice};
+use crate::building::{add_of_m, adds, all_overlap, catalogue_of_m, repeats};
+use mxf_catalogue::{Catalogue, Semilattice};
 use mxf_klv::{Note, OutOfMemory, Packet, read_packet};
 use mxf_worked::builders::{essence, label, note_of_file};
 use mxf_worked::worked_files::{ESSENCE_KEY, M};
@@ -24,9 +25,10 @@ const C: (u64, u64) = (90, 103);
 /// From 120 to 150.
 const D: (u64, u64) = (120, 13);
 
-fn add_essence(all: &mut Catalogue, packets: [(u64, u64); 3]) -> Result<(), Fail> {
+/// Adds essence packets of these offsets and lengths.
+fn add_essence(all: &mut Catalogue, packets: &[(u64, u64)]) -> Result<(), Fail> {
     for (offset, length) in packets {
-        all.add(essence(offset, length)?)?;
+        all.add(essence(*offset, *length)?)?;
     }
     Ok(())
 }
@@ -51,14 +53,6 @@ fn marks(alloc: Global, all: &Catalogue) -> Result<Vec<(u64, bool, bool)>, Alloc
         .collect(alloc)
 }
 
-/// Whether the note was new, and moved the clear notes at these offsets.
-fn moves(change: &Change, offsets: &[u64]) -> bool {
-    match change {
-        Change::Added { moved } => moved.as_slice() == offsets,
-        Change::Repeated => false,
-    }
-}
-
 /// By the laws alone: the order of the arguments of a join doesn't matter.
 fn joins_alike<S: Semilattice + Drop>(alloc: Global, a: &S, b: &S) -> Result<bool, OutOfMemory>
     ensures { IfOk result (λ alike. IsTrue alike) }
@@ -68,55 +62,101 @@ fn joins_alike<S: Semilattice + Drop>(alloc: Global, a: &S, b: &S) -> Result<boo
     Ok(one.same(&other))
 }
 
+/// Whether M's packets are new, whichever comes first, and then no more.
+fn are_new_once(alloc: Global, all: &mut Catalogue) -> Result<bool, Fail> {
+    let mut new = all.is_empty();
+    for offset in [216usize, 0, 108] {
+        new = adds(all, of_m(alloc, offset)?, &[]) && new;
+    }
+    Ok(repeats(all, of_m(alloc, 0)?) && new)
+}
+
+/// Whether M's packets are held in their order, and another note isn't.
+fn are_in_order(alloc: Global, all: &Catalogue) -> Result<bool, Fail> {
+    let held = all.holds(&of_m(alloc, 108)?);
+    let another = all.holds(&essence(108, 13)?);
+    let offsets: Vec<u64> = all.notes().map(|note| note.offset()).collect(alloc)?;
+    let counted = all.len() == 3 && !all.is_empty();
+    Ok(held && !another && counted && offsets.as_slice() == [0, 108, 216].as_slice())
+}
+
+/// Whether M's packets are held once and in order.
+fn are_held_once(alloc: Global, all: &mut Catalogue) -> Result<bool, Fail> {
+    Ok(are_new_once(alloc, all)? && are_in_order(alloc, all)?)
+}
+
 #[test]
 fn notes_are_held_once_and_in_order(rt: HostRuntime) -> Result<(), Fail> {
-    let alloc = rt.alloc();
-    let mut all = Catalogue::new(alloc);
-    assert!(rt; all.is_empty());
-    for offset in [216usize, 0, 108] {
-        assert!(rt; moves(&all.add(of_m(alloc, offset)?)?, &[]));
-    }
-    assert_eq!(rt; all.add(of_m(alloc, 0)?)?, Change::Repeated);
-    assert_eq!(rt; all.len(), 3);
-    assert!(rt; !all.is_empty());
-    let offsets: Vec<u64> = all.notes().map(|note| note.offset()).collect(alloc)?;
-    assert_eq!(rt; offsets.as_slice(), [0, 108, 216].as_slice());
-    assert!(rt; all.holds(&of_m(alloc, 108)?));
-    assert!(rt; !all.holds(&essence(108, 13)?));
+    let held = are_held_once(rt.alloc(), &mut Catalogue::new(rt.alloc()));
+    assert!(rt; held?);
     Ok(())
+}
+
+/// Whether M's packets are clear, that at 108 up to 216.
+fn are_clear(alloc: Global, all: &Catalogue) -> Result<bool, Fail> {
+    let offsets = clear_offsets(alloc, all)?;
+    let ends = match all.clear_at(108) {
+        Some(note) => note.end() == 216 && all.clear_at(107).is_none(),
+        None => false,
+    };
+    Ok(ends && all.disputed().count() == 0 && offsets.as_slice() == [0, 108, 216].as_slice())
 }
 
 #[test]
 fn packets_of_a_whole_file_are_clear(rt: HostRuntime) -> Result<(), Fail> {
     let alloc = rt.alloc();
-    let mut all = Catalogue::new(alloc);
-    for offset in [108usize, 216, 0] {
-        all.add(of_m(alloc, offset)?)?;
-    }
-    assert_eq!(rt;
-        clear_offsets(alloc, &all)?.as_slice(),
-        [0, 108, 216].as_slice()
-    );
-    assert_eq!(rt; all.disputed().count(), 0);
-    assert_eq!(rt; all.clear_at(108).ok_or("not clear")?.end(), 216);
-    assert!(rt; all.clear_at(107).is_none());
+    let clear = are_clear(alloc, &catalogue_of_m(alloc, &[108, 216, 0])?);
+    assert!(rt; clear?);
     Ok(())
+}
+
+/// Ranges, each with the number of clear packets in it: of A from 0 to 100, D from 120 to 150 and B from 200 to 300.
+const RANGES: [((u64, u64), usize); 5] = [
+    ((0, 299), 2),
+    ((1, 299), 2),
+    ((120, 30), 1),
+    ((121, 28), 0),
+    ((120, u64::MAX), 2),
+];
+
+/// Whether each range has so many clear packets.
+fn are_within(all: &Catalogue, ranges: &[((u64, u64), usize)]) -> bool {
+    for ((start, length), count) in ranges {
+        if all.clear_within(*start, *length).count() != *count {
+            return false;
+        }
+    }
+    true
+}
+
+/// Whether the ranges have their packets, and none is clear once C shares bytes with A, D and B.
+fn are_clear_until_disputed(all: &mut Catalogue) -> Result<bool, Fail> {
+    add_essence(all, &[B, A, D])?;
+    let counted = are_within(all, &RANGES);
+    add_essence(all, &[C])?;
+    Ok(counted && all.clear_within(0, u64::MAX).count() == 0)
 }
 
 #[test]
 fn clear_packets_of_a_range_lie_wholly_in_it(rt: HostRuntime) -> Result<(), Fail> {
-    let mut all = Catalogue::new(rt.alloc());
-    // From 0 to 100, 120 to 150 and 200 to 300.
-    add_essence(&mut all, [B, A, D])?;
-    assert_eq!(rt; all.clear_within(0, 299).count(), 2);
-    assert_eq!(rt; all.clear_within(1, 299).count(), 2);
-    assert_eq!(rt; all.clear_within(120, 30).count(), 1);
-    assert_eq!(rt; all.clear_within(121, 28).count(), 0);
-    assert_eq!(rt; all.clear_within(120, u64::MAX).count(), 2);
-    // C shares bytes with A, D and B.
-    all.add(essence(C.0, C.1)?)?;
-    assert_eq!(rt; all.clear_within(0, u64::MAX).count(), 0);
+    let clear = are_clear_until_disputed(&mut Catalogue::new(rt.alloc()));
+    assert!(rt; clear?);
     Ok(())
+}
+
+/// Whether the second of two packets at 0 disputes the first, by their offset alone.
+fn disputes_by_offset(
+    alloc: Global,
+    all: &mut Catalogue,
+    first: &Packet<'_>,
+    second: &Packet<'_>,
+) -> Result<bool, Fail> {
+    let alone = adds(all, Note::of(alloc, 0, first)?, &[]) && all.clear_at(0).is_some();
+    let moved = adds(all, Note::of(alloc, 0, second)?, &[0]) && alone;
+    let none_clear = all.clear_at(0).is_none() && all.clear().count() == 0;
+    let marks = marks(alloc, all)?;
+    let wanted = [(0, true, false), (0, true, false)];
+    Ok(moved && none_clear && marks.as_slice() == wanted.as_slice())
 }
 
 #[test]
@@ -126,59 +166,48 @@ fn packets_at_one_offset_are_disputed_by_it_alone(rt: HostRuntime) -> Result<(),
     let mut key = packet.key().bytes();
     key[14] = 0x03;
     let changed = Packet::new(label(key)?, packet.width(), packet.value()).ok_or("no packet")?;
-    for changed_first in [false, true] {
-        let (first, second) = if changed_first {
-            (&changed, &packet)
-        } else {
-            (&packet, &changed)
-        };
-        let mut all = Catalogue::new(alloc);
-        assert!(rt; moves(&all.add(Note::of(alloc, 0, first)?)?, &[]));
-        assert!(rt; all.clear_at(0).is_some());
-        assert!(rt; moves(&all.add(Note::of(alloc, 0, second)?)?, &[0]));
-        let marks = marks(alloc, &all)?;
-        assert_eq!(rt;
-            marks.as_slice(),
-            [(0, true, false), (0, true, false)].as_slice()
-        );
-        assert!(rt; all.clear_at(0).is_none());
-        assert_eq!(rt; all.clear().count(), 0);
-    }
+    let disputed = disputes_by_offset(alloc, &mut Catalogue::new(alloc), &packet, &changed);
+    assert!(rt; disputed?);
+    let disputed = disputes_by_offset(alloc, &mut Catalogue::new(alloc), &changed, &packet);
+    assert!(rt; disputed?);
     Ok(())
 }
 
 /// Whether the last of these packets is new, and moves the clear notes at these offsets.
-fn last_moves(alloc: Global, packets: &[(u64, u64)], offsets: &[u64]) -> Result<bool, Fail> {
-    let mut all = Catalogue::new(alloc);
+fn last_moves(all: &mut Catalogue, packets: &[(u64, u64)], offsets: &[u64]) -> Result<bool, Fail> {
     let mut alike = false;
     for (offset, length) in packets {
-        alike = moves(&all.add(essence(*offset, *length)?)?, offsets);
+        alike = adds(all, essence(*offset, *length)?, offsets);
     }
     Ok(alike)
 }
 
 #[test]
 fn an_addition_tells_the_clear_notes_that_it_disputes(rt: HostRuntime) -> Result<(), Fail> {
-    let alloc = rt.alloc();
-    assert!(rt; last_moves(alloc, &[A], &[])?);
-    assert!(rt; last_moves(alloc, &[A, B], &[])?);
-    assert!(rt; last_moves(alloc, &[A, B, C], &[0, 200])?);
-    assert!(rt; last_moves(alloc, &[A, C], &[0])?);
-    assert!(rt; last_moves(alloc, &[A, C, B], &[])?);
-    assert!(rt; last_moves(alloc, &[A, B, C, D], &[])?);
+    let cases: [(&[(u64, u64)], &[u64]); 6] = [
+        (&[A], &[]),
+        (&[A, B], &[]),
+        (&[A, B, C], &[0, 200]),
+        (&[A, C], &[0]),
+        (&[A, C, B], &[]),
+        (&[A, B, C, D], &[]),
+    ];
+    for (packets, offsets) in cases {
+        let moved = last_moves(&mut Catalogue::new(rt.alloc()), packets, offsets);
+        assert!(rt; moved?);
+    }
     Ok(())
 }
 
 /// The number of small packets.
 const SMALL: usize = 4096;
 
-/// 4,096 packets of 17 bytes, one after another from 0 on.
-fn small_packets(alloc: Global) -> Result<Catalogue, Fail> {
-    let mut all = Catalogue::new(alloc);
+/// Adds 4,096 packets of 17 bytes, one after another from 0 on.
+fn add_small_packets(all: &mut Catalogue) -> Result<(), Fail> {
     for number in 0..SMALL {
         all.add(essence(17 * number as u64, 0)?)?;
     }
-    Ok(all)
+    Ok(())
 }
 
 /// The note of a packet from 8 to 69,632.
@@ -186,53 +215,97 @@ fn long_packet() -> Result<Note, Fail> {
     Ok(Note::digested(8, label(ESSENCE_KEY)?, 4, 69_604, [0; 32]).ok_or("a note")?)
 }
 
-/// Whether the notes are disputed by overlaps alone, and this many.
-fn all_overlap(all: &Catalogue, count: usize) -> bool {
-    all.disputed().count() == count && all.disputed().all(|d| d.overlaps && !d.same_offset)
+/// Whether the long packet disputes all small ones that came before it.
+fn disputes_all_before(alloc: Global, last: &mut Catalogue) -> Result<bool, Fail> {
+    add_small_packets(last)?;
+    let clear = last.clear().count() == SMALL;
+    let note = long_packet()?;
+    let offsets: Vec<u64> = (0..SMALL).map(|number| 17 * number as u64).collect(alloc)?;
+    let moved = adds(last, note, &offsets) && clear;
+    let covered = last.clear().count() == 0 && last.spans().gaps().count() == 0;
+    Ok(moved && covered && all_overlap(last, SMALL + 1))
+}
+
+/// Whether it disputes them all, whichever comes first.
+fn disputes_them_all(
+    alloc: Global,
+    last: &mut Catalogue,
+    first: &mut Catalogue,
+) -> Result<bool, Fail> {
+    let before = disputes_all_before(alloc, last)?;
+    first.add(long_packet()?)?;
+    add_small_packets(first)?;
+    Ok(before && first.same(last) && all_overlap(first, SMALL + 1))
 }
 
 #[test]
 fn a_long_packet_over_many_small_ones_disputes_them_all(rt: HostRuntime) -> Result<(), Fail> {
     let alloc = rt.alloc();
-    let mut last = small_packets(alloc)?;
-    assert_eq!(rt; last.clear().count(), SMALL);
-    let offsets: Vec<u64> = (0..SMALL).map(|number| 17 * number as u64).collect(alloc)?;
-    assert!(rt; moves(&last.add(long_packet()?)?, &offsets));
-    assert_eq!(rt; last.clear().count(), 0);
-    assert!(rt; all_overlap(&last, SMALL + 1));
-    assert_eq!(rt; last.spans().gaps().count(), 0);
-    let mut first = Catalogue::new(alloc);
-    first.add(long_packet()?)?;
-    for number in 0..SMALL {
-        first.add(essence(17 * number as u64, 0)?)?;
-    }
-    assert!(rt; first.same(&last));
-    assert!(rt; all_overlap(&first, SMALL + 1));
+    let disputed = disputes_them_all(
+        alloc,
+        &mut Catalogue::new(alloc),
+        &mut Catalogue::new(alloc),
+    );
+    assert!(rt; disputed?);
     Ok(())
+}
+
+/// Whether the three notes of M are held.
+fn holds_m(alloc: Global, all: &Catalogue) -> Result<bool, Fail> {
+    let mut held = all.len() == 3;
+    for offset in [0usize, 108, 216] {
+        held = all.holds(&of_m(alloc, offset)?) && held;
+    }
+    Ok(held)
+}
+
+/// Whether a join holds the notes of M, more than its tail, and is joined with itself.
+fn is_whole(alloc: Global, joined: &Catalogue, tail: &Catalogue) -> Result<bool, Fail> {
+    let held = holds_m(alloc, joined)? && !joined.same(tail);
+    let again = Catalogue::join(alloc, joined, joined)?;
+    Ok(held && again.same(joined))
+}
+
+/// Whether the join of these two is the whole of M, of which one is the tail.
+fn join_is_whole(
+    alloc: Global,
+    one: &Catalogue,
+    other: &Catalogue,
+    tail: &Catalogue,
+) -> Result<bool, Fail> {
+    let joined = Catalogue::join(alloc, one, other)?;
+    is_whole(alloc, &joined, tail)
+}
+
+/// Whether a merge leaves what the join is.
+fn merges_as_joined(alloc: Global, head: &mut Catalogue, tail: Catalogue) -> Result<bool, Fail> {
+    let joined = Catalogue::join(alloc, head, &tail)?;
+    Ok(head.merge(tail).is_ok() && head.same(&joined))
+}
+
+/// Whether a head and a tail of M have the whole as their join, in each order, and as their merge.
+fn join_in_each_order(
+    alloc: Global,
+    head: &mut Catalogue,
+    tail: &mut Catalogue,
+) -> Result<bool, Fail> {
+    add_of_m(alloc, head, &[0])?;
+    add_of_m(alloc, tail, &[108, 216])?;
+    let one = join_is_whole(alloc, head, tail, tail)?;
+    let other = join_is_whole(alloc, tail, head, tail)?;
+    let alike = joins_alike(alloc, head, tail)?;
+    let merged = merges_as_joined(alloc, head, catalogue_of_m(alloc, &[108, 216])?)?;
+    Ok(one && other && alike && merged)
 }
 
 #[test]
 fn joins_hold_the_notes_of_both(rt: HostRuntime) -> Result<(), Fail> {
     let alloc = rt.alloc();
-    let mut head = Catalogue::new(alloc);
-    head.add(of_m(alloc, 0)?)?;
-    let mut tail = Catalogue::new(alloc);
-    tail.add(of_m(alloc, 108)?)?;
-    tail.add(of_m(alloc, 216)?)?;
-    for joined in [
-        Catalogue::join(alloc, &head, &tail)?,
-        Catalogue::join(alloc, &tail, &head)?,
-    ] {
-        assert_eq!(rt; joined.len(), 3);
-        for offset in [0usize, 108, 216] {
-            assert!(rt; joined.holds(&of_m(alloc, offset)?));
-        }
-        assert!(rt; !joined.same(&tail));
-        assert!(rt; Catalogue::join(alloc, &joined, &joined)?.same(&joined));
-    }
-    assert!(rt; joins_alike(alloc, &head, &tail)?);
-    let joined = Catalogue::join(alloc, &head, &tail)?;
-    assert!(rt; head.merge(tail).is_ok());
-    assert!(rt; head.same(&joined));
+    let joined = join_in_each_order(
+        alloc,
+        &mut Catalogue::new(alloc),
+        &mut Catalogue::new(alloc),
+    );
+    assert!(rt; joined?);
     Ok(())
 }

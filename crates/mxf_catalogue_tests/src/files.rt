@@ -1,10 +1,10 @@
 //! Files of catalogues: what is written, also where that fails, and read back.
+use crate::building::{add_of_m, catalogue_of_m};
 use mxf_catalogue::{Catalogue, FileFault, Semilattice};
 use mxf_klv::{Encode, WriteFault};
 use mxf_worked::builders::{Narrow, joined, note_of_file};
-use mxf_worked::worked_files::{
-    FOOTER_KEY, HEADER_KEY, M, RIP_KEY, footer_value, header_value, rip_value,
-};
+use mxf_worked::saved_files::{catalogue_file, catalogue_file_with_head};
+use mxf_worked::worked_files::M;
 use std::alloc::Global;
 use std::test::Fail;
 
@@ -16,130 +16,156 @@ pub(crate) fn start(version: u8, count: u8) -> [u8; 16] {
     ]
 }
 
-/// What is ahead of the value in the note of the packet with this key at this offset, whose length has four bytes: of a
-/// whole packet the mark is 0, of a head 1.
-fn begun(alloc: Global, offset: u8, key: &[u8; 16], length: u8, mark: u8) -> Result<Vec<u8>, Fail> {
-    joined(
-        alloc,
-        &[
-            &[0, 0, 0, 0, 0, 0, 0, offset],
-            key,
-            &[4, 0, 0, 0, 0, 0, 0, 0, length, mark],
-        ],
-    )
-}
-
-/// The file of the catalogue of M's three notes, which stand at 16, 138 and 260.
-pub(crate) fn file_of_m(alloc: Global) -> Result<Vec<u8>, Fail> {
-    let header = begun(alloc, 0, &HEADER_KEY, 88, 0)?;
-    let footer = begun(alloc, 108, &FOOTER_KEY, 88, 0)?;
-    let rip = begun(alloc, 216, &RIP_KEY, 28, 0)?;
-    joined(
-        alloc,
-        &[
-            &start(2, 3),
-            &header,
-            header_value(),
-            &footer,
-            footer_value(),
-            &rip,
-            rip_value(),
-        ],
-    )
-}
-
-/// The file of the catalogue of M's first note and the head of its second, which stand at 16 and 138.
-pub(crate) fn file_of_cut_m(alloc: Global) -> Result<Vec<u8>, Fail> {
-    let header = begun(alloc, 0, &HEADER_KEY, 88, 0)?;
-    let footer = begun(alloc, 108, &FOOTER_KEY, 88, 1)?;
-    joined(alloc, &[&start(2, 2), &header, header_value(), &footer])
-}
-
-/// The catalogue of M's packets at these offsets, added in this order.
-pub(crate) fn catalogue_of_m(alloc: Global, offsets: &[usize]) -> Result<Catalogue, Fail> {
-    let mut all = Catalogue::new(alloc);
-    for offset in offsets {
-        all.add(note_of_file(alloc, &M, *offset)?)?;
-    }
-    Ok(all)
-}
-
-/// The file of a catalogue.
-pub(crate) fn written(alloc: Global, catalogue: &Catalogue) -> Result<Vec<u8>, Fail> {
-    let mut writer = Narrow::new(alloc, 1000);
-    writer.chunk = 1000;
-    catalogue.write_to(&mut writer)?;
-    Ok(writer.taken)
-}
-
 /// The bytes from one place up to another.
 pub(crate) fn part(bytes: &[u8], from: usize, to: usize) -> Result<&[u8], Fail> {
     Ok(bytes.get(from..to).ok_or("past the end")?)
 }
 
+/// Whether the file of a catalogue has these bytes.
+pub(crate) fn is_written_as(alloc: Global, all: &Catalogue, file: &[u8]) -> Result<bool, Fail> {
+    let mut writer = Narrow::new(alloc, 1000);
+    writer.chunk = 1000;
+    all.write_to(&mut writer)?;
+    Ok(writer.taken.as_slice() == file)
+}
+
+/// Whether the file has so many bytes, these, and is read back.
+fn is_saved_as(alloc: Global, all: &Catalogue, file: &[u8], size: usize) -> Result<bool, Fail> {
+    let written = is_written_as(alloc, all, file)? && file.len() == size;
+    let read = Catalogue::read(alloc, file)?;
+    Ok(written && read.same(all))
+}
+
+/// Whether the catalogue of M's three notes is saved as these bytes.
+fn m_is_saved_as(alloc: Global, all: &mut Catalogue, file: &[u8]) -> Result<bool, Fail> {
+    add_of_m(alloc, all, &[0, 108, 216])?;
+    is_saved_as(alloc, all, file, 322)
+}
+
 #[test]
 fn three_notes_are_322_bytes_and_are_read_back(rt: HostRuntime) -> Result<(), Fail> {
     let alloc = rt.alloc();
-    let file = file_of_m(alloc)?;
-    let all = catalogue_of_m(alloc, &[0, 108, 216])?;
-    assert_eq!(rt; file.len(), 322);
-    assert_eq!(rt; written(alloc, &all)?.as_slice(), file.as_slice());
-    assert!(rt; Catalogue::read(alloc, &file)?.same(&all));
+    let file = catalogue_file(alloc, 3)?;
+    let saved = m_is_saved_as(alloc, &mut Catalogue::new(alloc), &file);
+    assert!(rt; saved?);
     Ok(())
+}
+
+/// Whether the file is written through 1,024 interruptions.
+fn bears(alloc: Global, all: &Catalogue, file: &[u8]) -> bool {
+    let mut patient = Narrow::new(alloc, 322);
+    patient.interruptions = 1024;
+    all.write_to(&mut patient) == Ok(()) && patient.taken.as_slice() == file
+}
+
+/// Whether no byte is written through one more.
+fn bears_no_more(alloc: Global, all: &Catalogue) -> bool {
+    let mut interrupted = Narrow::new(alloc, 322);
+    interrupted.interruptions = 1025;
+    let answer = all.write_to(&mut interrupted);
+    answer == Err(WriteFault { written: 0 }) && interrupted.taken.is_empty()
+}
+
+/// Whether the catalogue of M bears so many, and no more.
+fn m_bears(alloc: Global, file: &[u8]) -> Result<bool, Fail> {
+    let all = catalogue_of_m(alloc, &[0, 108, 216])?;
+    Ok(bears(alloc, &all, file) && bears_no_more(alloc, &all))
 }
 
 #[test]
 fn a_file_is_written_through_1024_interruptions_and_no_more(rt: HostRuntime) -> Result<(), Fail> {
-    let alloc = rt.alloc();
-    let file = file_of_m(alloc)?;
-    let all = catalogue_of_m(alloc, &[0, 108, 216])?;
-    let mut patient = Narrow::new(alloc, 322);
-    patient.interruptions = 1024;
-    assert_eq!(rt; all.write_to(&mut patient), Ok(()));
-    assert_eq!(rt; patient.taken.as_slice(), file.as_slice());
-    let mut interrupted = Narrow::new(alloc, 322);
-    interrupted.interruptions = 1025;
-    assert_eq!(rt;
-        all.write_to(&mut interrupted),
-        Err(WriteFault { written: 0 })
-    );
-    assert!(rt; interrupted.taken.is_empty());
+    let file = catalogue_file(rt.alloc(), 3)?;
+    assert!(rt; m_bears(rt.alloc(), &file)?);
     Ok(())
+}
+
+/// Whether a write into so much room is a fault behind it, and leaves the front of the file.
+fn fails_behind(alloc: Global, all: &Catalogue, file: &[u8], room: usize) -> bool {
+    let mut writer = Narrow::new(alloc, room);
+    let written = room as u64;
+    let answer = all.write_to(&mut writer);
+    answer == Err(WriteFault { written }) && file.get(..room) == Some(writer.taken.as_slice())
+}
+
+/// Whether it is, for each room less than the file's 322 bytes.
+fn fails_everywhere(alloc: Global, all: &Catalogue, file: &[u8]) -> bool {
+    for room in 0..322usize {
+        if !fails_behind(alloc, all, file, room) {
+            return false;
+        }
+    }
+    true
+}
+
+/// Whether a write to a writer that takes nothing is a fault without a byte.
+fn needs_room(alloc: Global, all: &Catalogue) -> bool {
+    let mut full = Narrow::new(alloc, 0);
+    full.refusal = None;
+    all.write_to(&mut full) == Err(WriteFault { written: 0 })
+}
+
+/// Whether writes of the catalogue of M fail so.
+fn m_fails(alloc: Global, file: &[u8]) -> Result<bool, Fail> {
+    let all = catalogue_of_m(alloc, &[0, 108, 216])?;
+    Ok(fails_everywhere(alloc, &all, file) && needs_room(alloc, &all))
 }
 
 #[test]
 fn a_failed_write_leaves_the_front_of_the_file(rt: HostRuntime) -> Result<(), Fail> {
-    let alloc = rt.alloc();
-    let file = file_of_m(alloc)?;
-    let all = catalogue_of_m(alloc, &[0, 108, 216])?;
-    for room in 0..322usize {
-        let mut writer = Narrow::new(alloc, room);
-        let written = room as u64;
-        assert_eq!(rt; all.write_to(&mut writer), Err(WriteFault { written }));
-        assert_eq!(rt; writer.taken.as_slice(), part(&file, 0, room)?);
-    }
-    let mut full = Narrow::new(alloc, 0);
-    full.refusal = None;
-    assert_eq!(rt; all.write_to(&mut full), Err(WriteFault { written: 0 }));
+    let file = catalogue_file(rt.alloc(), 3)?;
+    assert!(rt; m_fails(rt.alloc(), &file)?);
     Ok(())
+}
+
+/// Whether the catalogue of M's first note and the head of its second is saved as these bytes.
+fn head_is_saved_as(alloc: Global, all: &mut Catalogue, file: &[u8]) -> Result<bool, Fail> {
+    add_of_m(alloc, all, &[0])?;
+    let head = note_of_file(alloc, &M, 108)?.to_head();
+    all.add(head)?;
+    is_saved_as(alloc, all, file, 172)
 }
 
 #[test]
 fn a_saved_head_has_34_bytes_and_is_read_back(rt: HostRuntime) -> Result<(), Fail> {
     let alloc = rt.alloc();
-    let file = file_of_cut_m(alloc)?;
-    let mut all = catalogue_of_m(alloc, &[0])?;
-    all.add(note_of_file(alloc, &M, 108)?.to_head())?;
-    assert_eq!(rt; file.len(), 172);
-    assert_eq!(rt; written(alloc, &all)?.as_slice(), file.as_slice());
-    assert!(rt; Catalogue::read(alloc, &file)?.same(&all));
+    let file = catalogue_file_with_head(alloc)?;
+    let saved = head_is_saved_as(alloc, &mut Catalogue::new(alloc), &file);
+    assert!(rt; saved?);
     Ok(())
 }
 
-/// Why these parts, one after another, are no file.
-pub(crate) fn fault_of(alloc: Global, parts: &[&[u8]]) -> Result<FileFault, Fail> {
+/// Whether these parts, one after another, are no file for this reason.
+pub(crate) fn is_refused(alloc: Global, parts: &[&[u8]], fault: FileFault) -> Result<bool, Fail> {
     let file = joined(alloc, parts)?;
-    Ok(Catalogue::read(alloc, &file).err().ok_or("no file")?)
+    Ok(Catalogue::read(alloc, &file).err() == Some(fault))
+}
+
+/// Whether none of these is a file, each for its reason.
+pub(crate) fn are_refused(alloc: Global, cases: &[(&[&[u8]], FileFault)]) -> Result<bool, Fail> {
+    let mut refused = true;
+    for (parts, fault) in cases {
+        refused = is_refused(alloc, parts, *fault)? && refused;
+    }
+    Ok(refused)
+}
+
+/// Whether the mark of the second note of this file may be no other, and its whole note no neighbour, behind it or
+/// ahead.
+fn are_refused_at_their_places(alloc: Global, file: &[u8], whole: &[u8]) -> Result<bool, Fail> {
+    let (unmarked, notes) = (part(file, 0, 171)?, part(file, 16, 172)?);
+    let (footer, both) = (part(whole, 138, 260)?, part(whole, 16, 260)?);
+    let head = part(file, 138, 172)?;
+    let start = start(2, 3);
+    let size = joined(alloc, &[&start, notes, footer])?.len();
+    let cases: [(&[&[u8]], FileFault); 6] = [
+        (&[unmarked], FileFault::Truncated(138)),
+        (&[unmarked, &[0]], FileFault::Truncated(138)),
+        (&[unmarked, &[2]], FileFault::BadNote(138)),
+        (&[file, &[0]], FileFault::Trailing(172)),
+        (&[&start, notes, footer], FileFault::NotReduced(172)),
+        (&[&start, both, head], FileFault::NotSorted(260)),
+    ];
+    Ok(size == 294 && are_refused(alloc, &cases)?)
 }
 
 #[test]
@@ -147,26 +173,8 @@ fn marks_and_heads_that_no_file_has_are_refused_at_their_places(
     rt: HostRuntime,
 ) -> Result<(), Fail> {
     let alloc = rt.alloc();
-    let file = file_of_cut_m(alloc)?;
-    let whole = file_of_m(alloc)?;
-    let unmarked = part(&file, 0, 171)?;
-    assert_eq!(rt; fault_of(alloc, &[unmarked])?, FileFault::Truncated(138));
-    assert_eq!(rt;
-        fault_of(alloc, &[unmarked, &[0]])?,
-        FileFault::Truncated(138)
-    );
-    assert_eq!(rt;
-        fault_of(alloc, &[unmarked, &[2]])?,
-        FileFault::BadNote(138)
-    );
-    assert_eq!(rt; fault_of(alloc, &[&file, &[0]])?, FileFault::Trailing(172));
-    let notes = part(&file, 16, 172)?;
-    let footer = part(&whole, 138, 260)?;
-    let both = joined(alloc, &[&start(2, 3), notes, footer])?;
-    assert_eq!(rt; both.len(), 294);
-    assert_eq!(rt; fault_of(alloc, &[&both])?, FileFault::NotReduced(172));
-    let head = part(&file, 138, 172)?;
-    let exchanged = joined(alloc, &[&start(2, 3), part(&whole, 16, 260)?, head])?;
-    assert_eq!(rt; fault_of(alloc, &[&exchanged])?, FileFault::NotSorted(260));
+    let file = catalogue_file_with_head(alloc)?;
+    let whole = catalogue_file(alloc, 3)?;
+    assert!(rt; are_refused_at_their_places(alloc, &file, &whole)?);
     Ok(())
 }

@@ -1,4 +1,5 @@
 //! A reader that fails once and would then go on, and the texts of faults.
+use crate::building::whole_ahead;
 use mxf_read::{AbsorbFault, GatherFault, Part, PartFault, ReadTicks, absorb_from, gather};
 use mxf_views::Views;
 use mxf_worked::saved_files::catalogue_file;
@@ -33,63 +34,66 @@ impl Read for FailsOnce<'_> {
     }
 }
 
-// One read a byte of M, and the one that fails.
+/// Whether a piece of M, whose reader fails once behind so many bytes, is a fault behind its whole packets, and that
+/// read the last: one read a byte, and the one that fails.
+fn is_the_last_read(alloc: Global, kind: ErrorKind, until: usize) -> bool {
+    let reads = Cell::new(0);
+    let mut from = FailsOnce {
+        bytes: &M,
+        until,
+        kind,
+        has_failed: false,
+        reads: &reads,
+    };
+    let mut views = Views::new(alloc);
+    let answer = absorb_from(alloc, &mut views, 0, &mut from, 1000, &mut ReadTicks::new());
+    let (noted, at) = whole_ahead(until);
+    let told = answer == Err(AbsorbFault::ReadFault { noted, at });
+    let counted = reads.get().checked_sub(1) == Some(until as u64);
+    told && counted && views.catalogue().len() as u64 == noted
+}
+
 #[test]
 fn a_failed_read_is_a_fault_and_the_last_read(rt: HostRuntime) -> Result<(), Fail> {
-    let alloc = rt.alloc();
     for kind in [ErrorKind::Other, ErrorKind::WouldBlock, ErrorKind::TimedOut] {
-        for k in 0..=264usize {
-            let reads = Cell::new(0);
-            let mut from = FailsOnce {
-                bytes: &M,
-                until: k,
-                kind,
-                has_failed: false,
-                reads: &reads,
-            };
-            let mut views = Views::new(alloc);
-            let answer = absorb_from(alloc, &mut views, 0, &mut from, 1000, &mut ReadTicks::new());
-            let (noted, at) = match k {
-                0..=107 => (0, 0),
-                108..=215 => (1, 108),
-                216..=263 => (2, 216),
-                _ => (3, 264),
-            };
-            assert_eq!(rt; answer, Err(AbsorbFault::ReadFault { noted, at }));
-            assert_eq!(rt; reads.get(), k as u64 + 1);
-            assert_eq!(rt; views.catalogue().len() as u64, noted);
+        for until in 0..=264usize {
+            assert!(rt; is_the_last_read(rt.alloc(), kind, until));
         }
     }
     Ok(())
 }
 
+/// Whether a fault has this text.
+fn has_text(alloc: Global, fault: AbsorbFault, text: &str) -> Result<bool, Fail> {
+    Ok(fault.to_string(alloc)?.as_str() == text)
+}
+
 #[test]
 fn faults_of_a_piece_tell_the_cause_and_the_place(rt: HostRuntime) -> Result<(), Fail> {
-    let alloc = rt.alloc();
     let (noted, at) = (2, 216);
-    for (fault, text) in [
-        (
-            AbsorbFault::OutOfMemory { noted, at },
-            "out of memory at 216, after 2 packets",
-        ),
-        (
-            AbsorbFault::ReadFault { noted, at },
-            "a read failed at 216, after 2 packets",
-        ),
-    ] {
-        assert_eq!(rt; fault.to_string(alloc)?.as_str(), text);
-    }
+    let wanting = AbsorbFault::OutOfMemory { noted, at };
+    assert!(rt; has_text(rt.alloc(), wanting, "out of memory at 216, after 2 packets")?);
+    let unread = AbsorbFault::ReadFault { noted, at };
+    assert!(rt; has_text(rt.alloc(), unread, "a read failed at 216, after 2 packets")?);
     Ok(())
 }
 
-/// The fault of a saved catalogue of these bytes, or of a piece at 0, whose reader fails once behind so many of them; and
-/// how often that was read.
-fn fault_and_reads(
+/// The fault of a part.
+fn fault_of(alloc: Global, part: Part<FailsOnce<'_>>) -> Result<Option<GatherFault>, Fail> {
+    let Ok(parts) = Vec::from_array(alloc, [part]) else {
+        return Err("a part".into());
+    };
+    Ok(gather(alloc, parts).err())
+}
+
+/// Whether a saved catalogue of these bytes, or a piece at 0, whose reader fails once behind so many of them, is a
+/// fault, and that read the last.
+fn is_the_last_read_of_a_part(
     alloc: Global,
     bytes: &[u8],
     until: usize,
     is_saved: bool,
-) -> Result<(Option<GatherFault>, u64), Fail> {
+) -> Result<bool, Fail> {
     let reads = Cell::new(0);
     let from = FailsOnce {
         bytes,
@@ -98,31 +102,34 @@ fn fault_and_reads(
         has_failed: false,
         reads: &reads,
     };
-    let mut parts = Vec::new(alloc);
-    if is_saved {
-        parts.push(Part::Saved { from })?;
+    let part = if is_saved {
+        Part::Saved { from }
     } else {
-        parts.push(Part::Piece { offset: 0, from })?;
-    }
-    let fault = gather(alloc, parts).err();
-    Ok((fault, reads.get()))
-}
-
-// One read a byte, and the one that fails.
-#[test]
-fn a_failed_read_of_a_part_is_a_fault_and_the_last_read(rt: HostRuntime) -> Result<(), Fail> {
-    let alloc = rt.alloc();
-    let file = catalogue_file(alloc, 3)?;
-    let read_fault = GatherFault {
+        Part::Piece { offset: 0, from }
+    };
+    let wanted = GatherFault {
         part: 0,
         fault: PartFault::ReadFault,
     };
-    for (bytes, is_saved) in [(file.as_slice(), true), (M.as_slice(), false)] {
-        for until in 0..=bytes.len() {
-            let (fault, reads) = fault_and_reads(alloc, bytes, until, is_saved)?;
-            assert_eq!(rt; fault, Some(read_fault));
-            assert_eq!(rt; reads, until as u64 + 1);
+    let fault = fault_of(alloc, part)?;
+    Ok(fault == Some(wanted) && reads.get().checked_sub(1) == Some(until as u64))
+}
+
+/// Whether it is, behind each of the bytes.
+fn fails_everywhere(alloc: Global, bytes: &[u8], is_saved: bool) -> Result<bool, Fail> {
+    for until in 0..=bytes.len() {
+        if !is_the_last_read_of_a_part(alloc, bytes, until, is_saved)? {
+            return Ok(false);
         }
     }
+    Ok(true)
+}
+
+#[test]
+fn a_failed_read_of_a_part_is_a_fault_and_the_last_read(rt: HostRuntime) -> Result<(), Fail> {
+    let alloc = rt.alloc();
+    assert!(rt; fails_everywhere(alloc, &M, false)?);
+    let file = catalogue_file(alloc, 3)?;
+    assert!(rt; fails_everywhere(alloc, &file, true)?);
     Ok(())
 }

@@ -6,6 +6,8 @@
 #[cfg(test)]
 mod absorbing;
 #[cfg(test)]
+mod building;
+#[cfg(test)]
 mod cuts;
 #[cfg(test)]
 mod failing;

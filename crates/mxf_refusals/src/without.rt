@@ -1,7 +1,8 @@
 //! What takes no memory: it answers while every growth is refused.
 use crate::files::{R, SEGMENT};
+use crate::written::is_written;
 use mxf_catalogue::{Catalogue, Change, FileFault};
-use mxf_klv::{Encode, Held, Note, cut_head, read_packet};
+use mxf_klv::{Encode, Held, Note, OutOfMemory, cut_head, read_packet};
 use mxf_read::absorb;
 use mxf_sets::PartitionPack;
 use mxf_views::{Chain, Found, Link, Place, RipView, Views};
@@ -10,13 +11,6 @@ use mxf_worked::worked_files::{M, header_value};
 use std::alloc::Global;
 use std::test::Fail;
 use uuid::Uuid;
-
-/// The views of a file. None where a growth is refused.
-fn views_of(alloc: Global, file: &[u8]) -> Option<Views> {
-    let mut views = Views::new(alloc);
-    absorb(alloc, &mut views, 0, file).ok()?;
-    Some(views)
-}
 
 /// The note of M's footer, at 108. None where a growth is refused.
 fn footer(alloc: Global) -> Option<Note> {
@@ -45,18 +39,30 @@ fn hangs_together(views: &Views) -> bool {
         && matches!(&views.rip(), RipView::One(rip) if rip.entries().count() == 2)
 }
 
-#[test]
-fn without_memory_a_held_note_is_added(rt: HostRuntime) -> Result<(), Fail> {
-    let alloc = rt.alloc();
-    let (Some(mut views), Some(note)) = (views_of(alloc, &M), footer(alloc)) else {
-        return Ok(());
+/// Whether nothing is new about a note of M, and M's notes and partitions are found.
+fn repeats_in(views: &mut Views, note: Note) -> Result<bool, Fail> {
+    let change = views.add(note)?;
+    Ok(change == Change::Repeated && holds_m(views.catalogue()) && hangs_together(views))
+}
+
+/// Whether a held note is added, and what it touches is found, where M can be noted.
+fn held_note_is_added(alloc: Global, views: &mut Views) -> Result<bool, Fail> {
+    if absorb(alloc, views, 0, &M).is_err() {
+        return Ok(true);
+    }
+    let Some(note) = footer(alloc) else {
+        return Ok(true);
     };
-    assert_eq!(rt; views.add(note)?, Change::Repeated);
-    assert!(rt; holds_m(views.catalogue()));
-    assert!(rt; hangs_together(&views));
+    let added = repeats_in(views, note)?;
     // A packet from 100 to 117, over the ends of the first packet and the second.
     let over = essence(100, 0)?;
-    assert_eq!(rt; views.catalogue().clear_touching(&over).count(), 2);
+    Ok(views.catalogue().clear_touching(&over).count() == 2 && added)
+}
+
+#[test]
+fn without_memory_a_held_note_is_added(rt: HostRuntime) -> Result<(), Fail> {
+    let added = held_note_is_added(rt.alloc(), &mut Views::new(rt.alloc()));
+    assert!(rt; added?);
     Ok(())
 }
 
@@ -72,57 +78,76 @@ fn holds_the_cut(views: &Views, head: &Note) -> bool {
         && views.gaps().count() == 1
 }
 
-#[test]
-fn without_memory_heads_are_made_and_a_held_one_is_added(rt: HostRuntime) -> Result<(), Fail> {
-    let Some(mut views) = views_of(rt.alloc(), &M[..128]) else {
-        return Ok(());
+/// Whether a head that is made and one of cut bytes are the same.
+fn are_alike(alloc: Global, made: &Note, head: &Note) -> bool {
+    let copied = match made.to_head().clone_in(alloc) {
+        Ok(copy) => copy == *head,
+        Err(OutOfMemory) => false,
     };
+    let told = *made == *head && made.is_head() && made.tells(head);
+    copied && told && matches!(&head.held(), Held::Head)
+}
+
+/// Whether the head of M's footer is made and added, where the bytes up to it can be noted.
+fn head_is_added(alloc: Global, views: &mut Views) -> Result<bool, Fail> {
+    if absorb(alloc, views, 0, &M[..128]).is_err() {
+        return Ok(true);
+    }
     let head = cut_head(108, &M[108..128]).ok_or("a head")?;
     let made = Note::head(108, head.key(), 4, 88).ok_or("a head")?;
-    assert!(rt; made == head && made.is_head() && made.tells(&head));
-    assert!(rt; made.to_head().clone_in(rt.alloc())? == head);
-    assert!(rt; matches!(&head.held(), Held::Head));
-    assert_eq!(rt; (head.covered_end(), head.end()), (128, 216));
-    assert_eq!(rt; views.add(made)?, Change::Repeated);
-    assert!(rt; holds_the_cut(&views, &head));
+    let alike = are_alike(alloc, &made, &head) && (head.covered_end(), head.end()) == (128, 216);
+    let change = views.add(made)?;
+    Ok(change == Change::Repeated && alike && holds_the_cut(views, &head))
+}
+
+#[test]
+fn without_memory_heads_are_made_and_a_held_one_is_added(rt: HostRuntime) -> Result<(), Fail> {
+    let added = head_is_added(rt.alloc(), &mut Views::new(rt.alloc()));
+    assert!(rt; added?);
     Ok(())
+}
+
+/// Whether the head of a held packet is added, where M can be noted.
+fn replaced_head_is_added(alloc: Global, views: &mut Views) -> Result<bool, Fail> {
+    if absorb(alloc, views, 0, &M).is_err() {
+        return Ok(true);
+    }
+    repeats_in(views, cut_head(108, &M[108..128]).ok_or("a head")?)
 }
 
 #[test]
 fn without_memory_a_head_that_is_replaced_is_added(rt: HostRuntime) -> Result<(), Fail> {
-    let Some(mut views) = views_of(rt.alloc(), &M) else {
-        return Ok(());
-    };
-    let head = cut_head(108, &M[108..128]).ok_or("a head")?;
-    assert_eq!(rt; views.add(head)?, Change::Repeated);
-    assert!(rt; holds_m(views.catalogue()));
-    assert!(rt; hangs_together(&views));
+    let added = replaced_head_is_added(rt.alloc(), &mut Views::new(rt.alloc()));
+    assert!(rt; added?);
     Ok(())
+}
+
+/// Whether the file of a catalogue has 322 bytes, where there is room for them.
+fn has_322_bytes(alloc: Global, all: &Catalogue) -> bool {
+    match Vec::with_capacity(alloc, 322) {
+        Ok(mut file) => all.write_to(&mut file) == Ok(()) && file.len() == 322,
+        Err(_) => true,
+    }
+}
+
+/// Whether that of M has, where M can be noted.
+fn m_has_322_bytes(alloc: Global, views: &mut Views) -> bool {
+    absorb(alloc, views, 0, &M).is_err() || has_322_bytes(alloc, views.catalogue())
 }
 
 #[test]
 fn without_memory_a_catalogue_is_written(rt: HostRuntime) -> Result<(), Fail> {
-    let alloc = rt.alloc();
-    let (Some(views), Ok(mut file)) = (views_of(alloc, &M), Vec::with_capacity(alloc, 322)) else {
-        return Ok(());
-    };
-    assert_eq!(rt; views.catalogue().write_to(&mut file), Ok(()));
-    assert_eq!(rt; file.len(), 322);
+    let written = m_has_322_bytes(rt.alloc(), &mut Views::new(rt.alloc()));
+    assert!(rt; written);
     Ok(())
 }
 
 #[test]
 fn without_memory_a_packet_and_a_pack_are_written(rt: HostRuntime) -> Result<(), Fail> {
-    let Ok(mut bytes) = Vec::with_capacity(rt.alloc(), 108) else {
-        return Ok(());
-    };
     let (packet, _) = read_packet(&M)?;
-    assert_eq!(rt; packet.write_to(&mut bytes), Ok(()));
-    assert_eq!(rt; bytes.as_slice(), &M[..108]);
-    bytes.clear();
+    assert!(rt; is_written(rt.alloc(), &packet, &M[..108]));
     let pack = PartitionPack::read(&packet.key(), packet.value())?;
-    assert_eq!(rt; pack.write_to(&mut bytes), Ok(()));
-    assert_eq!(rt; bytes.as_slice(), header_value());
+    assert!(rt; is_written(rt.alloc(), &pack, header_value()));
     Ok(())
 }
 
@@ -142,34 +167,45 @@ fn without_memory_a_number_of_notes_alone_is_refused(rt: HostRuntime) {
     }
 }
 
-#[test]
-fn without_memory_a_unit_is_located(rt: HostRuntime) -> Result<(), Fail> {
-    let Some(views) = views_of(rt.alloc(), &SEGMENT) else {
-        return Ok(());
-    };
+/// Whether units are located, where the segment can be noted.
+fn units_are_located(alloc: Global, views: &mut Views) -> bool {
     let place = Place::At {
         body_sid: 2,
         offset: 2_500_000,
     };
-    assert_eq!(rt; views.locate(1, 10), Ok(place));
-    assert_eq!(rt; views.locate(1, 100), Ok(Place::NotIndexed));
+    absorb(alloc, views, 0, &SEGMENT).is_err()
+        || (views.locate(1, 10) == Ok(place) && views.locate(1, 100) == Ok(Place::NotIndexed))
+}
+
+#[test]
+fn without_memory_a_unit_is_located(rt: HostRuntime) -> Result<(), Fail> {
+    let located = units_are_located(rt.alloc(), &mut Views::new(rt.alloc()));
+    assert!(rt; located);
     Ok(())
+}
+
+/// Whether the copy of R is found with a set and its primer pack.
+fn has_its_sets(views: &Views) -> Result<bool, Fail> {
+    let preferred = views.preferred().ok_or("a preferred copy")?;
+    let set = views.sets(0).next().ok_or("a set")?;
+    let primer = views.primer_for(set).ok_or("a primer pack")?;
+    let labelled = primer.label(0x8001) == Some([0xAA; 16]);
+    let found = views.find(0, Uuid::from_bytes([0x33; 16])) == Found::One(298);
+    let copied = (preferred.partition, preferred.start) == (0, Some(108));
+    Ok(labelled && found && copied && views.copies().len() == 1)
+}
+
+/// Whether it is, where R can be noted.
+fn sets_are_found(alloc: Global, views: &mut Views) -> Result<bool, Fail> {
+    if absorb(alloc, views, 0, &R).is_err() {
+        return Ok(true);
+    }
+    has_its_sets(views)
 }
 
 #[test]
 fn without_memory_sets_are_found(rt: HostRuntime) -> Result<(), Fail> {
-    let Some(views) = views_of(rt.alloc(), &R) else {
-        return Ok(());
-    };
-    let preferred = views.preferred().ok_or("a preferred copy")?;
-    assert_eq!(rt; (preferred.partition, preferred.start), (0, Some(108)));
-    assert_eq!(rt; views.copies().len(), 1);
-    assert_eq!(rt;
-        views.find(0, Uuid::from_bytes([0x33; 16])),
-        Found::One(298)
-    );
-    let set = views.sets(0).next().ok_or("a set")?;
-    let primer = views.primer_for(set).ok_or("a primer pack")?;
-    assert_eq!(rt; primer.label(0x8001), Some([0xAA; 16]));
+    let found = sets_are_found(rt.alloc(), &mut Views::new(rt.alloc()));
+    assert!(rt; found?);
     Ok(())
 }

@@ -7,7 +7,7 @@ use std::alloc::Global;
 use std::test::Fail;
 
 /// Whether a value is written as these bytes, where there is room for them.
-fn is_written<E: Encode>(alloc: Global, value: &E, bytes: &[u8]) -> bool {
+pub(crate) fn is_written<E: Encode>(alloc: Global, value: &E, bytes: &[u8]) -> bool {
     match Vec::with_capacity(alloc, bytes.len()) {
         Ok(mut taken) => value.write_to(&mut taken) == Ok(()) && taken.as_slice() == bytes,
         Err(_) => true,

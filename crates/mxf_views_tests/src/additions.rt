@@ -1,7 +1,6 @@
 //! Notes that are added to views one by one: what is kept of the copies follows each.
-use crate::building::{finds, views_at};
-use mxf_catalogue::Change;
-use mxf_views::{Chain, Code, CopyInfo, Views};
+use crate::building::{add_at, adds, copy, finds, lacks, views_at};
+use mxf_views::{Chain, Code, Views};
 use mxf_worked::builders::{essence, joined, packet};
 use mxf_worked::worked_files::{
     FILL_KEY, FOOTER_KEY, Numbers, bare_preface, header, one_copy, partition_value, primer,
@@ -75,32 +74,15 @@ fn two_copies(alloc: Global) -> Result<Vec<u8>, Fail> {
     )
 }
 
-/// Whether an essence packet at an offset, with a value of a length, is new and moves the clear notes at these.
-fn moves_of(views: &mut Views, packet: (u64, u64), wanted: &[u64]) -> Result<bool, Fail> {
-    let (offset, length) = packet;
-    match views.add(essence(offset, length)?)? {
-        Change::Added { moved } => Ok(moved.as_slice() == wanted),
-        Change::Repeated => Ok(false),
-    }
-}
-
 /// Whether an essence packet of 17 bytes, added at an offset, disputes the notes at these.
 fn moves(views: &mut Views, offset: u64, wanted: &[u64]) -> Result<bool, Fail> {
-    moves_of(views, (offset, 0), wanted)
+    Ok(adds(views, essence(offset, 0)?, wanted))
 }
 
-/// The copy at a place.
-fn copy(views: &Views, place: usize) -> Result<CopyInfo, Fail> {
-    Ok(*views.copies().get(place).ok_or("a copy")?)
-}
-
-#[test]
-fn a_packet_over_the_primer_takes_the_start(rt: HostRuntime) -> Result<(), Fail> {
-    let alloc = rt.alloc();
-    let mut views = views_at(alloc, &one_copy(alloc)?, &[0, 108, 154])?;
-    assert!(rt; moves(&mut views, 150, &[108, 154])?);
-    let left = copy(&views, 0)?;
-    assert_eq!(rt; (left.start, left.covered), (None, 0));
+/// Whether a packet over the primer and the Preface takes the start from the copy.
+fn takes_the_start(alloc: Global, views: &mut Views) -> Result<bool, Fail> {
+    let moved = moves(views, 150, &[108, 154])?;
+    let left = copy(views, 0)?;
     let wanted = [
         (0, Code::F09),
         (0, Code::F14),
@@ -108,37 +90,49 @@ fn a_packet_over_the_primer_takes_the_start(rt: HostRuntime) -> Result<(), Fail>
         (150, Code::F02),
         (154, Code::F02),
     ];
-    assert!(rt; finds(alloc, &views, &wanted)?);
-    Ok(())
+    Ok(finds(alloc, views, &wanted)? && moved && (left.start, left.covered) == (None, 0))
 }
 
 #[test]
-fn a_packet_over_a_preface_leaves_what_the_primer_covers(rt: HostRuntime) -> Result<(), Fail> {
+fn a_packet_over_the_primer_takes_the_start(rt: HostRuntime) -> Result<(), Fail> {
     let alloc = rt.alloc();
-    let file = two_copies(alloc)?;
-    let mut views = views_at(alloc, &file, &[0, 108, 154, 194, 302, 348])?;
-    assert!(rt; moves(&mut views, 371, &[348])?);
-    let left = copy(&views, 1)?;
-    assert_eq!(rt; (left.partition, left.covered, left.prefaces), (194, 46, 0));
-    assert_eq!(rt; views.preferred(), Some(copy(&views, 0)?));
-    assert_eq!(rt; views.chain(), Chain::Whole);
+    let file = one_copy(alloc)?;
+    let taken = takes_the_start(alloc, &mut views_at(alloc, &file, &[0, 108, 154])?);
+    assert!(rt; taken?);
+    Ok(())
+}
+
+/// Whether a packet over the second Preface leaves its copy what the primer covers, and prefers the first.
+fn leaves_the_primer(alloc: Global, views: &mut Views) -> Result<bool, Fail> {
+    let moved = moves(views, 371, &[348])?;
+    let left = copy(views, 1)?;
+    let preferred = views.preferred() == Some(copy(views, 0)?);
     let wanted = [
         (154, Code::F10),
         (194, Code::F09),
         (348, Code::F02),
         (371, Code::F02),
     ];
-    assert!(rt; finds(alloc, &views, &wanted)?);
-    Ok(())
+    let found = finds(alloc, views, &wanted)? && views.chain() == Chain::Whole;
+    let covered = (left.partition, left.covered, left.prefaces) == (194, 46, 0);
+    Ok(moved && preferred && found && covered)
 }
 
 #[test]
-fn a_packet_over_the_fill_takes_the_start(rt: HostRuntime) -> Result<(), Fail> {
+fn a_packet_over_a_preface_leaves_what_the_primer_covers(rt: HostRuntime) -> Result<(), Fail> {
     let alloc = rt.alloc();
-    let mut views = views_at(alloc, &with_fill(alloc)?, &[0, 108, 140, 186])?;
-    assert_eq!(rt; copy(&views, 0)?.start, Some(140));
-    assert!(rt; moves(&mut views, 120, &[108])?);
-    assert_eq!(rt; copy(&views, 0)?.start, None);
+    let file = two_copies(alloc)?;
+    let offsets = [0, 108, 154, 194, 302, 348];
+    let left = leaves_the_primer(alloc, &mut views_at(alloc, &file, &offsets)?);
+    assert!(rt; left?);
+    Ok(())
+}
+
+/// Whether a packet over the fill takes the start from the copy behind it.
+fn takes_the_start_behind(alloc: Global, views: &mut Views) -> Result<bool, Fail> {
+    let started = copy(views, 0)?.start == Some(140);
+    let moved = moves(views, 120, &[108])?;
+    let left = copy(views, 0)?.start.is_none();
     let wanted = [
         (0, Code::F09),
         (0, Code::F14),
@@ -146,19 +140,40 @@ fn a_packet_over_the_fill_takes_the_start(rt: HostRuntime) -> Result<(), Fail> {
         (120, Code::F02),
         (186, Code::F10),
     ];
-    assert!(rt; finds(alloc, &views, &wanted)?);
+    Ok(finds(alloc, views, &wanted)? && started && moved && left)
+}
+
+#[test]
+fn a_packet_over_the_fill_takes_the_start(rt: HostRuntime) -> Result<(), Fail> {
+    let alloc = rt.alloc();
+    let file = with_fill(alloc)?;
+    let taken = takes_the_start_behind(alloc, &mut views_at(alloc, &file, &[0, 108, 140, 186])?);
+    assert!(rt; taken?);
     Ok(())
+}
+
+/// Whether the copy of a file with a fill is found when its packets are added in this order.
+fn is_found(alloc: Global, views: &mut Views, file: &[u8], order: &[usize]) -> Result<bool, Fail> {
+    add_at(alloc, views, file, order)?;
+    let found = copy(views, 0)?;
+    Ok((found.start, found.finished) == (Some(140), true))
+}
+
+/// Whether it is in each of these orders.
+fn is_found_in_each(alloc: Global, file: &[u8], orders: &[[usize; 4]]) -> Result<bool, Fail> {
+    for order in orders {
+        let found = is_found(alloc, &mut Views::new(alloc), file, order);
+        if !found? {
+            return Ok(false);
+        }
+    }
+    Ok(true)
 }
 
 #[test]
 fn a_copy_is_found_in_each_order_of_its_packets(rt: HostRuntime) -> Result<(), Fail> {
-    let alloc = rt.alloc();
-    let file = with_fill(alloc)?;
-    for order in &ORDERS {
-        let views = views_at(alloc, &file, order)?;
-        let found = copy(&views, 0)?;
-        assert_eq!(rt; (found.start, found.finished), (Some(140), true));
-    }
+    let file = with_fill(rt.alloc())?;
+    assert!(rt; is_found_in_each(rt.alloc(), &file, &ORDERS)?);
     Ok(())
 }
 
@@ -182,6 +197,15 @@ const ADDITIONS: [[Addition; 4]; 2] = [
     ],
 ];
 
+/// Whether each addition is new and moves what it has to.
+fn move_so(views: &mut Views, additions: &[Addition]) -> Result<bool, Fail> {
+    let mut moved = true;
+    for ((offset, length), offsets) in additions {
+        moved = adds(views, essence(*offset, *length)?, offsets) && moved;
+    }
+    Ok(moved)
+}
+
 /// Whether so many notes are held, all disputed by overlap alone.
 fn all_overlap(views: &Views, count: usize) -> bool {
     let all = views.catalogue();
@@ -190,9 +214,9 @@ fn all_overlap(views: &Views, count: usize) -> bool {
         && all.disputed().all(|d| d.overlaps && !d.same_offset)
 }
 
-#[test]
-fn a_packet_among_disputed_ones_moves_none(rt: HostRuntime) -> Result<(), Fail> {
-    let alloc = rt.alloc();
+/// Whether the additions are all disputed then.
+fn are_disputed(alloc: Global, views: &mut Views, additions: &[Addition]) -> Result<bool, Fail> {
+    let moved = move_so(views, additions)? && all_overlap(views, 4);
     let wanted = [
         (0, Code::F02),
         (0, Code::F14),
@@ -200,14 +224,16 @@ fn a_packet_among_disputed_ones_moves_none(rt: HostRuntime) -> Result<(), Fail> 
         (120, Code::F02),
         (200, Code::F02),
     ];
-    for additions in &ADDITIONS {
-        let mut views = Views::new(alloc);
-        for (packet, moved) in additions {
-            assert!(rt; moves_of(&mut views, *packet, moved)?);
-        }
-        assert!(rt; all_overlap(&views, 4));
-        assert_eq!(rt; views.gaps().next(), None);
-        assert!(rt; finds(alloc, &views, &wanted)?);
-    }
+    Ok(finds(alloc, views, &wanted)? && lacks(alloc, views, &[])? && moved)
+}
+
+#[test]
+fn a_packet_among_disputed_ones_moves_none(rt: HostRuntime) -> Result<(), Fail> {
+    let alloc = rt.alloc();
+    let [first, last] = &ADDITIONS;
+    let disputed = are_disputed(alloc, &mut Views::new(alloc), first);
+    assert!(rt; disputed?);
+    let disputed = are_disputed(alloc, &mut Views::new(alloc), last);
+    assert!(rt; disputed?);
     Ok(())
 }

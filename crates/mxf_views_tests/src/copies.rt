@@ -17,25 +17,39 @@ const FINISHED: CopyInfo = CopyInfo {
     status: Status::ClosedComplete,
 };
 
-/// The file offsets of the sets of a copy.
-fn set_offsets(alloc: Global, views: &Views, partition: u64) -> Result<Vec<u64>, AllocError> {
-    views
+/// Whether these are the file offsets of the sets of a copy.
+fn has_sets(
+    alloc: Global,
+    views: &Views,
+    partition: u64,
+    wanted: &[u64],
+) -> Result<bool, AllocError> {
+    let offsets: Vec<u64> = views
         .sets(partition)
         .map(|note| note.offset())
-        .collect(alloc)
+        .collect(alloc)?;
+    Ok(offsets.as_slice() == wanted)
+}
+
+/// Whether the finished copy is found by its set.
+fn is_found_by_its_set(views: &Views) -> Result<bool, Fail> {
+    let preface = views.sets(0).next().ok_or("a Preface")?;
+    Ok(views.copy_with(preface) == Some(FINISHED) && views.primer_of(&FINISHED).is_some())
+}
+
+/// Whether the finished copy is the only one, with its set.
+fn has_the_finished(alloc: Global, views: &Views) -> Result<bool, Fail> {
+    let sets = has_sets(alloc, views, 0, &[154])? && has_sets(alloc, views, 108, &[])?;
+    let preferred = views.preferred() == Some(FINISHED);
+    Ok(is_found_by_its_set(views)? && sets && preferred && views.copies() == [FINISHED].as_slice())
 }
 
 // A primer from 108 to 154 and a Preface from 154 to 194.
 #[test]
 fn a_copy_is_finished_where_all_its_bytes_are_held(rt: HostRuntime) -> Result<(), Fail> {
     let alloc = rt.alloc();
-    let views = views_at(alloc, &one_copy(alloc)?, &[0, 108, 154])?;
-    assert_eq!(rt; views.copies(), [FINISHED].as_slice());
-    assert_eq!(rt; views.preferred(), Some(FINISHED));
-    assert_eq!(rt; set_offsets(alloc, &views, 0)?.as_slice(), [154].as_slice());
-    assert!(rt; views.sets(108).next().is_none());
-    let preface = views.sets(0).next().ok_or("a Preface")?;
-    assert_eq!(rt; views.copy_with(preface), Some(FINISHED));
-    assert_eq!(rt; views.primer_of(&FINISHED).is_some(), true);
+    let file = one_copy(alloc)?;
+    let finished = has_the_finished(alloc, &views_at(alloc, &file, &[0, 108, 154])?);
+    assert!(rt; finished?);
     Ok(())
 }
