@@ -62,29 +62,31 @@ impl<'a> Lines for NamedLines<'a> {
         };
         let mut left = self.references;
         'each: while let Some((reference, others)) = left.split_first() {
-            print_reference(printer, writer, self.catalogue, self.named, &mut last, *reference)?;
+            self.print_reference(printer, writer, &mut last, *reference)?;
             left = others;
         }
         Ok(())
     }
 }
 
-/// Prints the line of a reference, and the lines of what it leads to.
-fn print_reference<'a, W: Write>(
-    printer: &mut Printer,
-    writer: &mut W,
-    catalogue: &'a Catalogue,
-    named: Named,
-    last: &mut NamedRecord<'a>,
-    reference: Ref,
-) -> Result<(), PrintFault>
-    requires { IsRecordIn catalogue.now named last.old }
-    ensures last { IsRecordIn catalogue.now named last.new }
-    ensures lines { Prints (Puts W.contents writer.old writer.new printer.old.progress printer.new.progress) result
-        (lines_of_reference catalogue.now named reference) }
-{
-    last.turn_to(catalogue, named, reference.target);
-    Then(ReferenceLine { named, reference }, &last.found).print_to(printer, writer)
+impl<'a> NamedLines<'a> {
+    /// Prints the line of a reference, and the lines of what it leads to.
+    fn print_reference<W: Write>(
+        self,
+        printer: &mut Printer,
+        writer: &mut W,
+        last: &mut NamedRecord<'a>,
+        reference: Ref,
+    ) -> Result<(), PrintFault>
+        requires { IsRecordIn self.catalogue.now self.named last.old }
+        ensures last { IsRecordIn self.entry.catalogue.now self.entry.named last.new }
+        ensures lines { Prints (Puts W.contents writer.old writer.new printer.old.progress printer.new.progress) result
+            (lines_of_reference self.entry.catalogue.now self.entry.named reference) }
+    {
+        let named = self.named;
+        last.turn_to(self.catalogue, named, reference.target);
+        Then(ReferenceLine { named, reference }, &last.found).print_to(printer, writer)
+    }
 }
 
 /// The record of a set that a reference names.
@@ -102,7 +104,9 @@ impl<'r, 'a> Lines for &'r Option<Record<'a>> {
     fn print_to<W: Write>(self, printer: &mut Printer, writer: &mut W) -> Result<(), PrintFault> {
         match self {
             Some(Record::Identification(record)) => record.print_to(printer, writer),
-            Some(Record::Package(kind, record)) => PackageLines(*kind, record).print_to(printer, writer),
+            Some(Record::Package(kind, record)) => PackageLines(*kind, record).print_to(
+                printer, writer,
+            ),
             None => Ok(()),
         }
     }

@@ -4,8 +4,8 @@ ghost use Rattle.mxf_lines.specs.Answering.{finding_lines, is_end, stop_lines};
 ghost use Rattle.mxf_lines.specs.FindingLines.{count_line, finding_line, stop_line};
 ghost use Rattle.mxf_lines.specs.Lines.{lines_where};
 
-use super::{AllocError, Each, Line, Lines, PrintFault, Printer, Series, Then, Write};
 use super::piece::StopText;
+use super::{AllocError, Each, Line, Lines, PrintFault, Printer, Series, Then, Write};
 use mxf_klv::Stop;
 use mxf_read::PieceReport;
 use mxf_views::{Finding, Findings};

@@ -5,7 +5,9 @@ ghost use Rattle.mxf_lines.specs.Lines.{chain_line, gap_line};
 ghost use Rattle.mxf_lines.specs.PartitionLines.{container_line, container_lines, numbers_text, partition_line};
 ghost use Rattle.mxf_lines.specs.PartitionLines.{partition_lines, pattern_text};
 
-use super::{AllocError, Each, HexDigits, Line, Lines, PrintFault, Printer, Series, Then, Write, fmt};
+use super::{
+    AllocError, Each, HexDigits, Line, Lines, PrintFault, Printer, Series, Then, Write, fmt,
+};
 use mxf_catalogue::Run;
 use mxf_sets::{BatchItems, PartitionNumbers, pattern_name};
 use mxf_views::{Chain, Gaps, Link, PartitionAt, Partitions, Views};
@@ -21,7 +23,6 @@ impl Line for Run {
     }
 }
 
-/// A line for each gap.
 impl<'a> Series for Gaps<'a> {
     type Item = Run;
 
@@ -132,7 +133,6 @@ impl<'a> Line for ContainerLine<'a> {
     }
 }
 
-/// A line for each label of essence containers.
 impl<'a> Series for BatchItems<'a> {
     type Item = ContainerLine<'a>;
 

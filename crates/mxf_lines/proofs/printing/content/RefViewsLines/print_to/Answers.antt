@@ -7,6 +7,15 @@ pub returns : goal.returns
 returns g c =
     subst (Prints (Puts {X = Unit {0}} g.W.Write.contents c.args.writer.now c.print_to.new.writer
     c.args.printer.now.progress c.print_to.new.printer.progress) c.print_to.result)
-    (simp (c.of.ensures, c.gaps.ensures.gaps, c.partitions.ensures.partitions, c.chain.ensures, c.copies.ensures.copies,
-    c.preferred.ensures, c.catalogue-catalogue.ensures, c.in_ok-resolved.ensures, c.segments.ensures.segments,
-    c.rip.ensures) refl) c.print_to.ensures
+    (simp (
+      c.of.ensures,
+      c.gaps.ensures.gaps,
+      c.partitions.ensures.partitions,
+      c.chain.ensures,
+      c.copies.ensures.copies,
+      c.preferred.ensures,
+      c.catalogue-catalogue.ensures,
+      c.in_ok-resolved.ensures,
+      c.segments.ensures.segments,
+      c.rip.ensures,
+    ) refl) c.print_to.ensures
