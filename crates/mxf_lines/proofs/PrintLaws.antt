@@ -1,5 +1,5 @@
 -- Lines that are printed one after another.
-use Rattle.std.proofs.Common.{◌≡◌, ℕ, ◌+◌, ◌^◌, ◌<◌, List, [], ◌∷◌, ◌++◌, Ok, Err, Result, arith, length, take, sym, ap}
+use Rattle.std.proofs.Common.{◌≡◌, ℕ, ◌+◌, ◌^◌, ◌<◌, List, [], ◌++◌, Ok, Err, Result, arith, length, take, sym, ap}
 use Rattle.std.proofs.Common.{◌∙◌, subst, length-append, Option}
 use Rattle.std.proofs.KnownBytes.{Appends-nil}
 use Rattle.std.proofs.Math.Seq.{take-append-add}

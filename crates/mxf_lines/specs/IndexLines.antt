@@ -17,11 +17,9 @@ use Rattle.mxf_lines.specs.Lines.{line_of, spaced}
 -- The numbers of an index table segment that are shown, each after its name.
 unfoldable pub segment_text : SegmentNumbers → List ℕ
 segment_text n =
-    spaced (codes "index-sid" ∷ decimal n.index_sid
-    ∷ codes "body-sid" ∷ decimal n.body_sid
+    spaced (codes "index-sid" ∷ decimal n.index_sid ∷ codes "body-sid" ∷ decimal n.body_sid
     ∷ codes "rate" ∷ (signed_decimal n.edit_rate.0 ++ (codes "/" ++ signed_decimal n.edit_rate.1))
-    ∷ codes "start" ∷ signed_decimal n.start
-    ∷ codes "duration" ∷ signed_decimal n.duration
+    ∷ codes "start" ∷ signed_decimal n.start ∷ codes "duration" ∷ signed_decimal n.duration
     ∷ codes "unit-bytes" ∷ decimal n.unit_bytes ∷ [])
 
 -- The line of an index table segment: its offset, its numbers, and how many entries it has.

@@ -1,5 +1,6 @@
 -- The texts of the lines that are printed (this project's profile). Numbers are decimal.
-use Rattle.std.specs.Prelude.{ℕ, Bool, true, false, List, [], ◌∷◌, ◌++◌, codes, not, Option, None, Some, decimal}
+use Rattle.std.specs.Prelude.{ℕ, Bool, true, false, List, [], ◌∷◌, ◌++◌}
+use Rattle.std.specs.Prelude.{codes, not, Option, None, Some, decimal, option_map}
 use Rattle.mxf_klv.specs.Kind.{kind_of}
 use Rattle.mxf_klv.specs.Parts.{NoteParts}
 use Rattle.mxf_klv.specs.Words.{kind_name, stop_name}
@@ -86,10 +87,6 @@ copy_line copy =
     line_of (codes "copy" ∷ decimal copy.partition ∷ codes "start" ∷ offset_text copy.start ∷ codes "bytes"
     ∷ decimal copy.bytes ∷ codes "covered" ∷ decimal copy.covered ∷ finished_word copy.finished ∷ [])
 
-abbrev pub partition_offset : Option CopyInfo → Option ℕ
-partition_offset None = None
-partition_offset (Some copy) = Some copy.partition
-
 -- The line of the preferred copy: its partition.
 unfoldable pub preferred_line : Option CopyInfo → List ℕ
-preferred_line copy = line_of (codes "preferred" ∷ offset_text (partition_offset copy) ∷ [])
+preferred_line copy = line_of (codes "preferred" ∷ offset_text (option_map (λ c. c.partition) copy) ∷ [])

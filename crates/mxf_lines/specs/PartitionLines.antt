@@ -15,14 +15,10 @@ use Rattle.mxf_lines.specs.Lines.{line_of, spaced}
 unfoldable pub numbers_text : PartitionNumbers → List ℕ
 numbers_text n =
     spaced (codes "version" ∷ (decimal n.major_version ++ (codes "." ++ decimal n.minor_version))
-    ∷ codes "kag" ∷ decimal n.kag_size
-    ∷ codes "this" ∷ decimal n.this_partition
-    ∷ codes "previous" ∷ decimal n.previous_partition
-    ∷ codes "footer" ∷ decimal n.footer_partition
-    ∷ codes "header-bytes" ∷ decimal n.header_byte_count
-    ∷ codes "index-bytes" ∷ decimal n.index_byte_count
-    ∷ codes "index-sid" ∷ decimal n.index_sid
-    ∷ codes "body-offset" ∷ decimal n.body_offset
+    ∷ codes "kag" ∷ decimal n.kag_size ∷ codes "this" ∷ decimal n.this_partition
+    ∷ codes "previous" ∷ decimal n.previous_partition ∷ codes "footer" ∷ decimal n.footer_partition
+    ∷ codes "header-bytes" ∷ decimal n.header_byte_count ∷ codes "index-bytes" ∷ decimal n.index_byte_count
+    ∷ codes "index-sid" ∷ decimal n.index_sid ∷ codes "body-offset" ∷ decimal n.body_offset
     ∷ codes "body-sid" ∷ decimal n.body_sid ∷ [])
 
 -- What stands for a label under this name: the name and the digits of the qualifier, byte 15; or all digits.

@@ -97,9 +97,10 @@ abbrev pub package_details : PackageParts → List (List ℕ)
 package_details p =
     field_lines (codes "created") timestamp_text p.creation_date
     ++ (field_lines (codes "modified") timestamp_text p.modified_date
-    ++ (field_line (codes "tracks") (decimal (length p.tracks)) ∷ field_lines (codes "descriptor") uid_text p.descriptor))
+    ++ (field_line (codes "tracks") (decimal (length p.tracks))
+    ∷ field_lines (codes "descriptor") uid_text p.descriptor))
 
--- The lines of a package whose set has this kind: its kind, its identifier, its name where that is there, and those above.
+-- The lines of a package whose set has this kind: that, its identifier, its name where it is there, and those above.
 abbrev pub package_lines : Kind → PackageParts → List (List ℕ)
 package_lines kind p =
     field_line (codes "kind") (package_word kind) ∷ field_line (codes "package-uid") (hex_of p.package_uid)

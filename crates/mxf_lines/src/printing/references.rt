@@ -3,8 +3,8 @@ ghost use Rattle.std.specs.Prelude.{◌≡◌};
 ghost use Rattle.mxf_klv.specs.Written.{Puts};
 ghost use Rattle.mxf_lines.specs.Lines.{lines_where};
 ghost use Rattle.mxf_lines.specs.Printing.{Prints};
-ghost use Rattle.mxf_lines.specs.ReferenceLines.{IsRecordIn, found_lines, identification_in, lines_of_record};
-ghost use Rattle.mxf_lines.specs.ReferenceLines.{lines_of_reference, named_lines, package_in, record_lines, reference_lines};
+ghost use Rattle.mxf_lines.specs.ReferenceLines.{IsRecordIn, found_lines, identification_in, lines_of_record, named_lines};
+ghost use Rattle.mxf_lines.specs.ReferenceLines.{lines_of_reference, package_in, record_lines, reference_lines};
 
 use super::PrintFault;
 use super::line::{Named, PackageLines, ReferenceLine};
@@ -62,36 +62,31 @@ impl<'a> Lines for NamedLines<'a> {
         };
         let mut left = self.references;
         'each: while let Some((reference, others)) = left.split_first() {
-            print_reference(
-                printer,
-                writer,
-                self.catalogue,
-                self.named,
-                &mut last,
-                *reference,
-            )?;
+            self.print_reference(printer, writer, &mut last, *reference)?;
             left = others;
         }
         Ok(())
     }
 }
 
-/// Prints the line of a reference, and the lines of what it leads to.
-fn print_reference<'a, W: Write>(
-    printer: &mut Printer,
-    writer: &mut W,
-    catalogue: &'a Catalogue,
-    named: Named,
-    last: &mut NamedRecord<'a>,
-    reference: Ref,
-) -> Result<(), PrintFault>
-    requires { IsRecordIn catalogue.now named last.old }
-    ensures last { IsRecordIn catalogue.now named last.new }
-    ensures lines { Prints (Puts W.contents writer.old writer.new printer.old.progress printer.new.progress) result
-        (lines_of_reference catalogue.now named reference) }
-{
-    last.turn_to(catalogue, named, reference.target);
-    Then(ReferenceLine { named, reference }, &last.found).print_to(printer, writer)
+impl<'a> NamedLines<'a> {
+    /// Prints the line of a reference, and the lines of what it leads to.
+    fn print_reference<W: Write>(
+        self,
+        printer: &mut Printer,
+        writer: &mut W,
+        last: &mut NamedRecord<'a>,
+        reference: Ref,
+    ) -> Result<(), PrintFault>
+        requires { IsRecordIn self.catalogue.now self.named last.old }
+        ensures last { IsRecordIn self.entry.catalogue.now self.entry.named last.new }
+        ensures lines { Prints (Puts W.contents writer.old writer.new printer.old.progress printer.new.progress) result
+            (lines_of_reference self.entry.catalogue.now self.entry.named reference) }
+    {
+        let named = self.named;
+        last.turn_to(self.catalogue, named, reference.target);
+        Then(ReferenceLine { named, reference }, &last.found).print_to(printer, writer)
+    }
 }
 
 /// The record of a set that a reference names.

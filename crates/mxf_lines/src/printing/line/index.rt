@@ -44,7 +44,6 @@ impl<'a> Line for SegmentAt<'a> {
     }
 }
 
-/// A line for each index table segment.
 impl<'a> Series for Segments<'a> {
     type Item = SegmentAt<'a>;
 
@@ -118,7 +117,6 @@ impl Line for (RipEntry, Standing) {
     }
 }
 
-/// A line for each entry of a random index pack.
 impl<'a> Series for Standings<'a> {
     type Item = (RipEntry, Standing);
 

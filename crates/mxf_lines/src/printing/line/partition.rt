@@ -23,7 +23,6 @@ impl Line for Run {
     }
 }
 
-/// A line for each gap.
 impl<'a> Series for Gaps<'a> {
     type Item = Run;
 
@@ -134,7 +133,6 @@ impl<'a> Line for ContainerLine<'a> {
     }
 }
 
-/// A line for each label of essence containers.
 impl<'a> Series for BatchItems<'a> {
     type Item = ContainerLine<'a>;
 

@@ -173,7 +173,6 @@ impl<'a> Lines for TextField<'a> {
     }
 }
 
-/// The lines of an Identification.
 impl<'r, 'a> Lines for &'r Identification<'a> {
     ghost lines = { λ i. identification_lines i.now };
 

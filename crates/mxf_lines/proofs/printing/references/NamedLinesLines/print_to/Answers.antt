@@ -9,15 +9,17 @@ pub each-preserved : goal.each-preserved
 each-preserved g c =
     let lines = lines_of_reference c.args.self.catalogue.now c.args.self.named in
     let printed = c.in_ok-print_reference.ensures in
-    (leads_more (lines c.in-Some.reference.now) _ (ap (flat_map lines) c.in-Some.ensures.cases.0) c.each.invariant.0 printed.lines, printed.last)
+    let steps = ap (flat_map lines) c.in-Some.ensures.cases.0 in
+    (leads_more (lines c.in-Some.reference.now) _ steps c.each.invariant.0 printed.lines, printed.last)
 
 pub returns-in_err-print_reference : goal.returns-in_err-print_reference
 returns-in_err-print_reference g c =
     let lines = lines_of_reference c.args.self.catalogue.now c.args.self.named in
     let new = c.print_reference.new in
+    let steps = ap (flat_map lines) c.in-Some.ensures.cases.0 in
     let p = err_from_is_err_and c.from_residual.result c.from_residual.ensures.1 in
     rw (p.1, p.2) (leads_failed (g.W.Write.contents new.writer) new.printer.progress.written
-    c.in_err-print_reference.field-0.0 (lines c.in-Some.reference.now) _ (ap (flat_map lines) c.in-Some.ensures.cases.0) c.each.invariant.0
+    c.in_err-print_reference.field-0.0 (lines c.in-Some.reference.now) _ steps c.each.invariant.0
     c.in_err-print_reference.ensures.lines)
 
 pub returns : goal.returns
