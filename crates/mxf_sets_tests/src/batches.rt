@@ -1,5 +1,5 @@
 //! Local sets and batches.
-use mxf_klv::Encode;
+use crate::building::is_written_as;
 use mxf_sets::{Batch, BatchFault, RepeatedTag, SetFault, items};
 use std::test::Fail;
 
@@ -34,23 +34,23 @@ fn items_are_given_in_order_and_looked_up_by_tag(rt: HostRuntime) -> Result<(), 
     Ok(())
 }
 
+/// Whether a batch has two items of three bytes.
+fn has_two_items(batch: &Batch<'_>) -> bool {
+    let mut items = batch.items();
+    let first = items.next() == Some([1, 2, 3].as_slice());
+    let second = items.next() == Some([4, 5, 6].as_slice()) && items.next().is_none();
+    let counted = batch.len() == 2 && batch.item_size() == 3;
+    let looked_up = batch.get(1) == Some([4, 5, 6].as_slice()) && batch.get(2).is_none();
+    first && second && counted && looked_up
+}
+
 #[test]
 fn a_batch_is_its_count_its_item_size_and_its_items(rt: HostRuntime) -> Result<(), Fail> {
     let bytes = [0, 0, 0, 2, 0, 0, 0, 3, 1, 2, 3, 4, 5, 6];
-    let batch = Batch::read(&bytes, 3)?;
-    assert_eq!(rt; batch.len(), 2);
-    assert_eq!(rt; batch.item_size(), 3);
-    assert_eq!(rt; batch.get(1), Some([4, 5, 6].as_slice()));
-    assert_eq!(rt; batch.get(2), None);
-    let mut items = batch.items();
-    assert_eq!(rt; items.next(), Some([1, 2, 3].as_slice()));
-    assert_eq!(rt; items.next(), Some([4, 5, 6].as_slice()));
-    assert_eq!(rt; items.next(), None);
+    assert!(rt; has_two_items(&Batch::read(&bytes, 3)?));
     let made = Batch::of(&[1, 2, 3, 4, 5, 6], 3).ok_or("two items")?;
-    let mut written = Vec::new(rt.alloc());
-    made.write_to(&mut written)?;
-    assert_eq!(rt; written.as_slice(), bytes.as_slice());
-    assert_eq!(rt; Batch::of(&[1, 2, 3, 4], 3).is_none(), true);
+    assert!(rt; is_written_as(rt.alloc(), &made, &bytes));
+    assert!(rt; Batch::of(&[1, 2, 3, 4], 3).is_none());
     Ok(())
 }
 

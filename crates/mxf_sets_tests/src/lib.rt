@@ -6,6 +6,8 @@
 #[cfg(test)]
 mod batches;
 #[cfg(test)]
+mod building;
+#[cfg(test)]
 mod failing;
 #[cfg(test)]
 mod lengths;

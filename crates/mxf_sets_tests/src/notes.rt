@@ -1,7 +1,10 @@
 //! Notes of packets.
-use mxf_klv::{Held, Kind, Note, NoteFault, Packet, Status, cut_head, read_packet};
+use mxf_klv::{
+    Held, Kind, Note, NoteFault, OutOfMemory, Packet, Status, Ul, cut_head, read_packet,
+};
 use mxf_worked::builders::{label, note_at};
 use mxf_worked::worked_files::{ESSENCE_KEY, FILL_KEY, FOOTER_KEY, HEADER_KEY, M};
+use std::alloc::Global;
 use std::test::Fail;
 
 /// The SHA-256 of no bytes.
@@ -16,34 +19,60 @@ const ABC_DIGEST: [u8; 32] = [
     0xB0, 0x03, 0x61, 0xA3, 0x96, 0x17, 0x7A, 0x9C, 0xB4, 0x10, 0xFF, 0x61, 0xF2, 0x00, 0x15, 0xAD,
 ];
 
+/// Whether the note of a packet has this digest.
+fn is_digested(note: &Note, wanted: &[u8; 32]) -> bool {
+    matches!(&note.held(), Held::Digest(digest) if **digest == *wanted)
+}
+
+/// Whether a copy of a note is the same.
+fn is_copied(alloc: Global, note: &Note) -> bool {
+    match note.clone_in(alloc) {
+        Ok(copy) => copy == *note,
+        Err(OutOfMemory) => false,
+    }
+}
+
+/// Whether this is the note of the fill without a value, at 0.
+fn is_of_the_fill(alloc: Global, note: &Note) -> Result<bool, Fail> {
+    let made = Note::digested(0, label(FILL_KEY)?, 1, 0, EMPTY_DIGEST).ok_or("a note")?;
+    Ok(is_digested(note, &EMPTY_DIGEST) && is_copied(alloc, note) && made == *note)
+}
+
 #[test]
 fn an_empty_fill_is_a_packet_of_17_bytes(rt: HostRuntime) -> Result<(), Fail> {
     let mut bytes = [0u8; 17];
     bytes[..16].copy_from_slice(&FILL_KEY);
     let (packet, size) = read_packet(&bytes)?;
-    assert_eq!(rt; size, 17);
-    assert_eq!(rt; packet.width(), 1);
-    let note = Note::of(rt.alloc(), 0, &packet)?;
-    assert!(rt; matches!(&note.held(), Held::Digest(digest) if **digest == EMPTY_DIGEST));
-    assert!(rt; note.clone_in(rt.alloc())? == note);
-    let made = Note::digested(0, label(FILL_KEY)?, 1, 0, EMPTY_DIGEST).ok_or("a note")?;
-    assert!(rt; made == note);
+    assert_eq!(rt; (size, packet.width()), (17, 1));
+    let is_note = is_of_the_fill(rt.alloc(), &Note::of(rt.alloc(), 0, &packet)?);
+    assert!(rt; is_note?);
     Ok(())
+}
+
+/// Whether this is the note of the essence packet with the value `abc`.
+fn is_of_essence(essence: &Note) -> bool {
+    is_digested(essence, &ABC_DIGEST) && essence.end() == 20 && essence.kind() == Kind::Essence
+}
+
+/// Whether this is that of the header partition pack, which keeps the three bytes of its value.
+fn is_of_a_pack(alloc: Global, pack: &Note, key: Ul) -> bool {
+    let placed = (pack.offset(), pack.end()) == (108, 131) && pack.key() == key;
+    let sized = (pack.width(), pack.length()) == (4, 3);
+    let kept = matches!(&pack.held(), Held::Whole(value) if value.len() == 3);
+    placed && sized && kept && is_copied(alloc, pack)
+}
+
+/// Whether both are so, the essence ahead.
+fn are_of_both(alloc: Global, essence: &Note, pack: &Note) -> Result<bool, Fail> {
+    let key = label(HEADER_KEY)?;
+    Ok(is_of_essence(essence) && is_of_a_pack(alloc, pack, key) && *essence < *pack)
 }
 
 #[test]
 fn essence_is_digested_and_a_pack_is_kept(rt: HostRuntime) -> Result<(), Fail> {
     let essence = note_at(rt.alloc(), 0, ESSENCE_KEY, 1, b"abc")?;
-    assert_eq!(rt; essence.end(), 20);
-    assert_eq!(rt; essence.kind(), Kind::Essence);
-    assert!(rt; matches!(&essence.held(), Held::Digest(digest) if **digest == ABC_DIGEST));
     let pack = note_at(rt.alloc(), 108, HEADER_KEY, 4, b"abc")?;
-    assert_eq!(rt; (pack.offset(), pack.end()), (108, 131));
-    assert_eq!(rt; (pack.width(), pack.length()), (4, 3));
-    assert_eq!(rt; pack.key(), label(HEADER_KEY)?);
-    assert!(rt; matches!(&pack.held(), Held::Whole(value) if value.len() == 3));
-    assert!(rt; pack.clone_in(rt.alloc())? == pack);
-    assert!(rt; essence < pack);
+    assert!(rt; are_of_both(rt.alloc(), &essence, &pack)?);
     Ok(())
 }
 
@@ -71,42 +100,51 @@ fn a_note_holds_what_its_key_and_length_say(rt: HostRuntime) -> Result<(), Fail>
     Ok(())
 }
 
+/// Whether this is the head of a header partition pack at 108, of 88 bytes.
+fn is_the_head(alloc: Global, head: &Note, key: Ul) -> bool {
+    let placed = (head.offset(), head.covered_end(), head.end()) == (108, 128, 216);
+    let sized = (head.width(), head.length()) == (4, 88) && head.is_head();
+    let named = head.key() == key && head.kind() == Kind::Header(Status::ClosedComplete);
+    let alone = matches!(&head.held(), Held::Head) && head.to_head() == *head;
+    placed && sized && named && alone && is_copied(alloc, head)
+}
+
 #[test]
 fn a_head_holds_nothing_and_claims_its_packet(rt: HostRuntime) -> Result<(), Fail> {
     let header = label(HEADER_KEY)?;
-    let head = Note::head(108, header, 4, 88).ok_or("a head")?;
-    assert!(rt; head.is_head());
-    assert!(rt; matches!(&head.held(), Held::Head));
-    assert_eq!(rt;
-        (head.offset(), head.covered_end(), head.end()),
-        (108, 128, 216)
+    let is_head = is_the_head(
+        rt.alloc(),
+        &Note::head(108, header, 4, 88).ok_or("a head")?,
+        header,
     );
-    assert_eq!(rt; (head.width(), head.length()), (4, 88));
-    assert_eq!(rt;
-        (head.key(), head.kind()),
-        (header, Kind::Header(Status::ClosedComplete))
-    );
-    assert!(rt; head.to_head() == head);
-    assert!(rt; head.clone_in(rt.alloc())? == head);
+    assert!(rt; is_head);
     Ok(())
+}
+
+/// Whether a note tells its own head, which goes before it.
+fn tells_its_head(whole: &Note, head: &Note) -> bool {
+    let ends = (whole.covered_end(), head.covered_end()) == (131, 128);
+    let marked = !whole.is_head() && head.is_head();
+    ends && marked && whole.tells(head) && !head.tells(whole) && *head < *whole
+}
+
+/// Whether another head goes behind a note, and isn't told by it.
+fn goes_behind(whole: &Note, before: &Note, other: &Note) -> bool {
+    *before < *other && !whole.tells(other)
+}
+
+/// Whether a longer one goes behind a note, and a wider one behind that.
+fn heads_go_behind(whole: &Note, key: Ul) -> Result<bool, Fail> {
+    let longer = Note::head(108, key, 4, 4).ok_or("a head")?;
+    let wider = Note::head(108, key, 5, 3).ok_or("a head")?;
+    Ok(goes_behind(whole, whole, &longer) && goes_behind(whole, &longer, &wider))
 }
 
 #[test]
 fn a_head_goes_before_the_notes_of_its_packet(rt: HostRuntime) -> Result<(), Fail> {
+    let key = label(HEADER_KEY)?;
     let whole = note_at(rt.alloc(), 108, HEADER_KEY, 4, b"abc")?;
-    let head = whole.to_head();
-    assert!(rt; !whole.is_head() && head.is_head());
-    assert_eq!(rt; (whole.covered_end(), head.covered_end()), (131, 128));
-    assert!(rt; whole.tells(&head));
-    assert!(rt; !head.tells(&whole));
-    assert!(rt; head < whole);
-    // A longer one goes behind both, and tells another head.
-    let longer = Note::head(108, label(HEADER_KEY)?, 4, 4).ok_or("a head")?;
-    assert!(rt; whole < longer);
-    assert!(rt; !whole.tells(&longer));
-    let wider = Note::head(108, label(HEADER_KEY)?, 5, 3).ok_or("a head")?;
-    assert!(rt; longer < wider);
-    assert!(rt; !whole.tells(&wider));
+    assert!(rt; tells_its_head(&whole, &whole.to_head()) && heads_go_behind(&whole, key)?);
     Ok(())
 }
 

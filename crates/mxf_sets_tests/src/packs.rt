@@ -1,5 +1,6 @@
 //! Partition packs, primer packs and random index packs.
-use mxf_klv::{Encode, Status};
+use crate::building::is_written_as;
+use mxf_klv::Status;
 use mxf_sets::{
     Batch, PackFault, PackPart, PartitionNumbers, PartitionPack, Primer, PrimerLabels, Rip,
     RipEntry,
@@ -88,17 +89,12 @@ fn a_closed_and_complete_footer_has_its_key(rt: HostRuntime) -> Result<(), Fail>
 
 #[test]
 fn packs_that_were_read_are_written_as_they_stood(rt: HostRuntime) -> Result<(), Fail> {
-    let mut written = Vec::new(rt.alloc());
-    let key = label(HEADER_KEY)?;
-    PartitionPack::read(&key, header_value())?.write_to(&mut written)?;
-    assert_eq!(rt; written.as_slice(), header_value());
-    written.clear();
-    let key = label(FOOTER_KEY)?;
-    PartitionPack::read(&key, footer_value())?.write_to(&mut written)?;
-    assert_eq!(rt; written.as_slice(), footer_value());
-    written.clear();
-    Rip::read(4, rip_value())?.write_to(&mut written)?;
-    assert_eq!(rt; written.as_slice(), rip_value());
+    let header = PartitionPack::read(&label(HEADER_KEY)?, header_value())?;
+    assert!(rt; is_written_as(rt.alloc(), &header, header_value()));
+    let footer = PartitionPack::read(&label(FOOTER_KEY)?, footer_value())?;
+    assert!(rt; is_written_as(rt.alloc(), &footer, footer_value()));
+    let rip = Rip::read(4, rip_value())?;
+    assert!(rt; is_written_as(rt.alloc(), &rip, rip_value()));
     Ok(())
 }
 
@@ -116,80 +112,80 @@ fn two_entries(alloc: Global, first: u8, second: u8) -> Result<Vec<u8>, Fail> {
     )
 }
 
+/// The labels of the tags 8001 and 8002 in a primer pack.
+type Labels = (Option<[u8; 16]>, Option<[u8; 16]>);
+
+/// Those that the pack is looked through for.
+fn labels_in(value: &[u8]) -> Result<Labels, PackFault> {
+    let primer = Primer::read(value)?;
+    Ok((primer.label(0x8001), primer.label(0x8002)))
+}
+
 #[test]
 fn a_tag_has_the_label_that_its_entries_agree_on(rt: HostRuntime) -> Result<(), Fail> {
     let alike = two_entries(rt.alloc(), 0xAA, 0xAA)?;
-    let primer = Primer::read(&alike)?;
-    assert_eq!(rt; primer.label(0x8001), Some([0xAA; 16]));
-    assert_eq!(rt; primer.label(0x8002), None);
+    assert!(rt; labels_in(&alike)? == (Some([0xAA; 16]), None));
     let different = two_entries(rt.alloc(), 0xAA, 0xBB)?;
-    assert_eq!(rt; Primer::read(&different)?.label(0x8001), None);
+    assert!(rt; labels_in(&different)? == (None, None));
     Ok(())
+}
+
+/// Those of its table.
+fn labels_of(alloc: Global, value: &[u8]) -> Result<Labels, Fail> {
+    let labels = PrimerLabels::of(alloc, &Primer::read(value)?)?;
+    Ok((labels.label(0x8001), labels.label(0x8002)))
 }
 
 #[test]
 fn a_table_of_a_primer_has_the_same_labels(rt: HostRuntime) -> Result<(), Fail> {
     let alike = two_entries(rt.alloc(), 0xAA, 0xAA)?;
-    let labels = PrimerLabels::of(rt.alloc(), &Primer::read(&alike)?)?;
-    assert_eq!(rt; labels.label(0x8001), Some([0xAA; 16]));
-    assert_eq!(rt; labels.label(0x8002), None);
+    assert!(rt; labels_of(rt.alloc(), &alike)? == (Some([0xAA; 16]), None));
     let different = two_entries(rt.alloc(), 0xAA, 0xBB)?;
-    let labels = PrimerLabels::of(rt.alloc(), &Primer::read(&different)?)?;
-    assert_eq!(rt; labels.label(0x8001), None);
+    assert!(rt; labels_of(rt.alloc(), &different)? == (None, None));
     Ok(())
+}
+
+/// Whether the primer of these entries is written as this value, and entries of another size are no primer.
+fn is_made_of(alloc: Global, value: &[u8]) -> Result<bool, Fail> {
+    let bytes = value.get(8..).ok_or("the entries")?;
+    let entries = Batch::of(bytes, 18).ok_or("two entries")?;
+    let others = Batch::of(bytes, 12).ok_or("three items")?;
+    let primer = Primer::of(entries).ok_or("a primer")?;
+    Ok(is_written_as(alloc, &primer, value) && Primer::of(others).is_none())
 }
 
 #[test]
 fn a_primer_is_a_batch_of_items_of_eighteen_bytes(rt: HostRuntime) -> Result<(), Fail> {
-    let value = two_entries(rt.alloc(), 0xAA, 0xBB)?;
     assert_eq!(rt; Primer::read(&[0u8; 9]).err(), Some(PackFault::BadBatch));
-    let entries = Batch::of(value.as_slice().get(8..).ok_or("the entries")?, 18).ok_or(
-        "two entries",
-    )?;
-    let primer = Primer::of(entries).ok_or("a primer")?;
-    let mut written = Vec::new(rt.alloc());
-    primer.write_to(&mut written)?;
-    assert_eq!(rt; written.as_slice(), value.as_slice());
-    let others = Batch::of(value.as_slice().get(8..).ok_or("the entries")?, 12).ok_or(
-        "three items",
-    )?;
-    assert_eq!(rt; Primer::of(others).is_none(), true);
+    let value = two_entries(rt.alloc(), 0xAA, 0xBB)?;
+    assert!(rt; is_made_of(rt.alloc(), &value)?);
     Ok(())
+}
+
+/// Whether a random index pack has M's two entries.
+fn has_two_entries(alloc: Global, rip: &Rip<'_>) -> Result<bool, Fail> {
+    let [first, second] = [0, 108].map(|offset| RipEntry {
+        body_sid: 0,
+        offset,
+    });
+    let counted = rip.len() == 2 && rip.get(2).is_none();
+    let looked_up = rip.get(0) == Some(first) && rip.get(1) == Some(second);
+    let offsets: Vec<u64> = rip.entries().map(|entry| entry.offset).collect(alloc)?;
+    Ok(counted && looked_up && offsets.as_slice() == [0, 108].as_slice())
+}
+
+/// Why a value is no random index pack in a packet whose length has so many bytes.
+fn rip_fault(width: u8, value: Option<&[u8]>) -> Option<PackFault> {
+    Rip::read(width, value?).err()
 }
 
 #[test]
 fn a_random_index_pack_counts_its_packet(rt: HostRuntime) -> Result<(), Fail> {
-    let rip = Rip::read(4, rip_value())?;
-    assert_eq!(rt; rip.len(), 2);
-    assert_eq!(rt;
-        rip.get(0),
-        Some(RipEntry {
-            body_sid: 0,
-            offset: 0
-        })
-    );
-    assert_eq!(rt;
-        rip.get(1),
-        Some(RipEntry {
-            body_sid: 0,
-            offset: 108
-        })
-    );
-    assert_eq!(rt; rip.get(2), None);
-    let offsets: Vec<u64> = rip.entries().map(|entry| entry.offset).collect(rt.alloc())?;
-    assert_eq!(rt; offsets.as_slice(), [0, 108].as_slice());
-    assert_eq!(rt;
-        Rip::read(1, rip_value()).err(),
-        Some(PackFault::WrongLength)
-    );
-    assert_eq!(rt;
-        Rip::read(4, rip_value().get(..3).ok_or("a front")?).err(),
-        Some(PackFault::Short)
-    );
-    assert_eq!(rt;
-        Rip::read(4, rip_value().get(1..).ok_or("a rest")?).err(),
-        Some(PackFault::WrongLength)
-    );
+    assert!(rt; has_two_entries(rt.alloc(), &Rip::read(4, rip_value())?)?);
+    let value = rip_value();
+    assert!(rt; rip_fault(1, Some(value)) == Some(PackFault::WrongLength));
+    assert!(rt; rip_fault(4, value.get(..3)) == Some(PackFault::Short));
+    assert!(rt; rip_fault(4, value.get(1..)) == Some(PackFault::WrongLength));
     Ok(())
 }
 
@@ -199,12 +195,11 @@ fn a_random_index_pack_is_made_where_its_length_can_be_spelled(
     rt: HostRuntime,
 ) -> Result<(), Fail> {
     let items = [0u8; 132];
-    assert_eq!(rt; Rip::of(1, &items[..120]).is_some(), true);
-    assert_eq!(rt; Rip::of(1, &items).is_none(), true);
-    assert_eq!(rt; Rip::of(2, &items[..131]).is_none(), true);
-    let mut written = Vec::new(rt.alloc());
-    Rip::of(2, &items).ok_or("a pack")?.write_to(&mut written)?;
-    assert_eq!(rt; written.len(), 136);
-    assert_eq!(rt; &written.as_slice()[132..], [0, 0, 0, 154].as_slice());
+    assert!(rt; Rip::of(1, &items[..120]).is_some());
+    assert!(rt; Rip::of(1, &items).is_none() && Rip::of(2, &items[..131]).is_none());
+    let mut value = [0u8; 136];
+    value[135] = 154;
+    let rip = Rip::of(2, &items).ok_or("a pack")?;
+    assert!(rt; is_written_as(rt.alloc(), &rip, &value));
     Ok(())
 }

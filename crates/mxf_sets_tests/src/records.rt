@@ -3,6 +3,7 @@ use mxf_sets::{
     ContentStorage, FieldFault, Identification, Package, Preface, Timestamp, instance_uid,
 };
 use mxf_worked::builders::set_value;
+use std::alloc::Global;
 use std::test::Fail;
 use uuid::Uuid;
 
@@ -54,16 +55,29 @@ fn last_century() -> Timestamp {
     }
 }
 
+/// Whether a Preface names its storage, and no identification.
+fn names_its_storage(value: &[u8]) -> Result<bool, FieldFault> {
+    let preface = Preface::read(value)?;
+    let none = preface.identifications().len() == 0 && preface.identifications().get(0).is_none();
+    let named = preface.instance_uid() == uid(0x11) && preface.content_storage() == uid(0x22);
+    Ok(instance_uid(value)? == uid(0x11) && none && named)
+}
+
 #[test]
 fn a_preface_names_its_storage(rt: HostRuntime) -> Result<(), Fail> {
     let value = set_value(rt.alloc(), &[(0x3C0A, &[0x11; 16]), (0x3B03, &[0x22; 16])])?;
-    let preface = Preface::read(&value)?;
-    assert_eq!(rt; preface.instance_uid(), uid(0x11));
-    assert_eq!(rt; preface.content_storage(), uid(0x22));
-    assert_eq!(rt; preface.identifications().len(), 0);
-    assert_eq!(rt; preface.identifications().get(0), None);
-    assert_eq!(rt; instance_uid(&value)?, uid(0x11));
+    assert!(rt; names_its_storage(&value)?);
     Ok(())
+}
+
+/// Whether a storage lists two packages.
+fn lists_its_packages(value: &[u8]) -> Result<bool, FieldFault> {
+    let storage = ContentStorage::read(value)?;
+    let mut packages = storage.packages();
+    let counted = packages.len() == 2 && packages.get(2).is_none();
+    let second = packages.get(1) == Some(uid(0x62));
+    let first = packages.next() == Some(uid(0x61)) && packages.len() == 1;
+    Ok(storage.instance_uid() == uid(0x22) && counted && second && first)
 }
 
 #[test]
@@ -72,15 +86,20 @@ fn a_storage_lists_its_packages(rt: HostRuntime) -> Result<(), Fail> {
         rt.alloc(),
         &[(0x3C0A, &[0x22; 16]), (0x1901, &TWO_REFERENCES)],
     )?;
-    let storage = ContentStorage::read(&value)?;
-    assert_eq!(rt; storage.instance_uid(), uid(0x22));
-    let mut packages = storage.packages();
-    assert_eq!(rt; packages.len(), 2);
-    assert_eq!(rt; packages.get(1), Some(uid(0x62)));
-    assert_eq!(rt; packages.get(2), None);
-    assert_eq!(rt; packages.next(), Some(uid(0x61)));
-    assert_eq!(rt; packages.len(), 1);
+    assert!(rt; lists_its_packages(&value)?);
     Ok(())
+}
+
+/// Whether an identification has all its fields.
+fn is_identified(value: &[u8]) -> Result<bool, FieldFault> {
+    let read = Identification::read(value)?;
+    let uids = read.instance_uid() == uid(0x51) && read.this_generation_uid() == Some(uid(0x52));
+    let company = read.company_name() == Some(b"\0A".as_slice());
+    let product = read.product_name() == Some(b"\0B\0B".as_slice());
+    let version = read.version_string() == Some(b"\0C\0C\0C".as_slice());
+    let by = read.product_uid() == Some([0x53; 16]);
+    let dated = read.modification_date() == Some(leap_day());
+    Ok(uids && company && product && version && by && dated)
 }
 
 #[test]
@@ -97,18 +116,19 @@ fn an_identification_is_read_with_all_its_fields(rt: HostRuntime) -> Result<(), 
             (0x3C06, &LEAP_DAY),
         ],
     )?;
-    let identification = Identification::read(&value)?;
-    assert_eq!(rt; identification.instance_uid(), uid(0x51));
-    assert_eq!(rt; identification.this_generation_uid(), Some(uid(0x52)));
-    assert_eq!(rt; identification.company_name(), Some(b"\0A".as_slice()));
-    assert_eq!(rt; identification.product_name(), Some(b"\0B\0B".as_slice()));
-    assert_eq!(rt;
-        identification.version_string(),
-        Some(b"\0C\0C\0C".as_slice())
-    );
-    assert_eq!(rt; identification.product_uid(), Some([0x53; 16]));
-    assert_eq!(rt; identification.modification_date(), Some(leap_day()));
+    assert!(rt; is_identified(&value)?);
     Ok(())
+}
+
+/// Whether a material package has all its fields, and no descriptor.
+fn is_packaged(value: &[u8]) -> Result<bool, FieldFault> {
+    let package = Package::read(value)?;
+    let named = package.instance_uid() == uid(0x33) && package.package_uid() == PACKAGE_UID;
+    let titled = package.name() == Some(b"\0N".as_slice()) && package.descriptor().is_none();
+    let created = package.creation_date() == Some(last_century());
+    let dated = package.modified_date() == Some(leap_day()) && created;
+    let tracks = package.tracks().len() == 2 && package.tracks().get(0) == Some(uid(0x61));
+    Ok(named && titled && dated && tracks)
 }
 
 #[test]
@@ -124,15 +144,7 @@ fn a_material_package_is_read_with_all_its_fields(rt: HostRuntime) -> Result<(),
             (0x4403, &TWO_REFERENCES),
         ],
     )?;
-    let package = Package::read(&value)?;
-    assert_eq!(rt; package.instance_uid(), uid(0x33));
-    assert_eq!(rt; package.package_uid(), PACKAGE_UID);
-    assert_eq!(rt; package.name(), Some(b"\0N".as_slice()));
-    assert_eq!(rt; package.creation_date(), Some(last_century()));
-    assert_eq!(rt; package.modified_date(), Some(leap_day()));
-    assert_eq!(rt; package.tracks().len(), 2);
-    assert_eq!(rt; package.tracks().get(0), Some(uid(0x61)));
-    assert_eq!(rt; package.descriptor(), None);
+    assert!(rt; is_packaged(&value)?);
     Ok(())
 }
 
@@ -141,6 +153,20 @@ const UID: (u16, &[u8]) = (0x3C0A, &[0x11; 16]);
 
 /// A reference to the storage of sixteen bytes 22.
 const STORAGE: (u16, &[u8]) = (0x3B03, &[0x22; 16]);
+
+/// Whether these items are no Preface for this reason.
+fn is_no_preface(alloc: Global, items: &[(u16, &[u8])], fault: FieldFault) -> Result<bool, Fail> {
+    let value = set_value(alloc, items)?;
+    Ok(Preface::read(&value).err() == Some(fault))
+}
+
+/// Whether so many bytes of a Preface are none.
+fn is_cut(value: &[u8], size: usize, fault: FieldFault) -> bool {
+    match value.get(..size) {
+        Some(front) => Preface::read(front).err() == Some(fault),
+        None => false,
+    }
+}
 
 #[test]
 fn a_preface_that_is_not_read_tells_the_first_cause(rt: HostRuntime) -> Result<(), Fail> {
@@ -153,24 +179,25 @@ fn a_preface_that_is_not_read_tells_the_first_cause(rt: HostRuntime) -> Result<(
         (&[UID, narrow], FieldFault::WrongWidth(0x3B03)),
         (&[UID, STORAGE, cut_batch], FieldFault::WrongWidth(0x3B06)),
     ];
-    for (items, want) in cases {
-        let value = set_value(rt.alloc(), items)?;
-        assert_eq!(rt; Preface::read(&value).err(), Some(want));
+    for (items, fault) in cases {
+        assert!(rt; is_no_preface(rt.alloc(), items, fault)?);
     }
     let value = set_value(rt.alloc(), &[UID, STORAGE])?;
-    let cut = Preface::read(value.get(..39).ok_or("a front")?);
-    assert_eq!(rt; cut.err(), Some(FieldFault::Set(20)));
+    assert!(rt; is_cut(&value, 39, FieldFault::Set(20)));
     Ok(())
+}
+
+/// Whether a value of an identifier alone is an identification, and no storage or package for want of a field.
+fn lacks_a_field(value: &[u8]) -> bool {
+    let storage = ContentStorage::read(value).err() == Some(FieldFault::Missing(0x1901));
+    let package = Package::read(value).err() == Some(FieldFault::Missing(0x4401));
+    storage && package && Identification::read(value).is_ok()
 }
 
 #[test]
 fn a_record_of_its_identifier_alone_lacks_a_field(rt: HostRuntime) -> Result<(), Fail> {
     let value = set_value(rt.alloc(), &[UID])?;
-    let storage = ContentStorage::read(&value).err();
-    assert_eq!(rt; storage, Some(FieldFault::Missing(0x1901)));
-    let package = Package::read(&value).err();
-    assert_eq!(rt; package, Some(FieldFault::Missing(0x4401)));
-    assert!(rt; Identification::read(&value).is_ok());
+    assert!(rt; lacks_a_field(&value));
     assert_eq!(rt; instance_uid(&[]).err(), Some(FieldFault::Missing(0x3C0A)));
     Ok(())
 }

@@ -1,8 +1,9 @@
 //! Index table segments.
-use mxf_klv::Encode;
+use crate::building::is_written_as;
 use mxf_sets::{Segment, SegmentFault, SegmentNumbers};
 use mxf_worked::builders::set_value;
 use mxf_worked::worked_files::WRITTEN;
+use std::alloc::Global;
 use std::test::Fail;
 
 /// Edit rate 25/1.
@@ -81,39 +82,55 @@ const ENTRIES_OF_27_BYTES: (u16, &[u8]) = (
     ],
 );
 
+/// Whether units of a segment have these offsets.
+fn has_offsets(segment: &Segment<'_>, offsets: &[(u64, Option<u128>)]) -> bool {
+    for (unit, offset) in offsets {
+        if segment.offset_of(*unit) != *offset {
+            return false;
+        }
+    }
+    true
+}
+
+/// Whether this is the segment of units of one size, and is written as these bytes.
+fn is_constant(alloc: Global, bytes: &[u8]) -> Result<bool, SegmentFault> {
+    let segment = Segment::read(bytes)?;
+    let numbered = segment.numbers() == CONSTANT && segment.entry_count() == 0;
+    let offsets = [(10, Some(2_500_000)), (99, Some(24_750_000)), (100, None)];
+    Ok(numbered && has_offsets(&segment, &offsets) && is_written_as(alloc, &segment, bytes))
+}
+
 #[test]
 fn the_constant_segment_is_read_with_its_numbers(rt: HostRuntime) -> Result<(), Fail> {
     let items = [
         RATE, START, DURATION, UNIT_BYTES, INDEX_SID, BODY_SID, SLICES, POSITIONS,
     ];
     let bytes = set_value(rt.alloc(), &items)?;
-    let segment = Segment::read(&bytes)?;
-    assert_eq!(rt; segment.numbers(), CONSTANT);
-    assert_eq!(rt; segment.entry_count(), 0);
-    assert_eq!(rt; segment.offset_of(10), Some(2_500_000));
-    assert_eq!(rt; segment.offset_of(99), Some(24_750_000));
-    assert_eq!(rt; segment.offset_of(100), None);
-    let mut written = Vec::new(rt.alloc());
-    assert_eq!(rt; segment.write_to(&mut written), Ok(()));
-    assert_eq!(rt; written.as_slice(), bytes.as_slice());
+    assert!(rt; is_constant(rt.alloc(), &bytes)?);
     Ok(())
+}
+
+/// Whether this is the segment with two entries.
+fn is_with_entries(segment: &Segment<'_>) -> bool {
+    let numbered = segment.numbers() == WITH_ENTRIES && segment.entry_count() == 2;
+    let offsets = [(4, None), (5, Some(1000)), (6, Some(1500)), (7, None)];
+    has_offsets(segment, &offsets) && numbered
 }
 
 #[test]
 fn entries_give_the_offsets_of_their_units(rt: HostRuntime) -> Result<(), Fail> {
-    let read = Segment::read(&WRITTEN)?;
-    assert_eq!(rt; read.numbers(), WITH_ENTRIES);
-    assert_eq!(rt; read.entry_count(), 2);
-    let offsets = [(4, None), (5, Some(1000)), (6, Some(1500)), (7, None)];
-    for (unit, offset) in offsets {
-        assert_eq!(rt; read.offset_of(unit), offset);
-    }
+    assert!(rt; is_with_entries(&Segment::read(&WRITTEN)?));
     let made = Segment::of(WITH_ENTRIES, &ENTRIES).ok_or("a segment")?;
-    assert_eq!(rt; made.offset_of(6), Some(1500));
-    let mut written = Vec::new(rt.alloc());
-    assert_eq!(rt; made.write_to(&mut written), Ok(()));
-    assert_eq!(rt; written.as_slice(), WRITTEN.as_slice());
+    assert!(rt; made.offset_of(6) == Some(1500) && is_written_as(rt.alloc(), &made, &WRITTEN));
     Ok(())
+}
+
+/// Whether a segment has two slices, one position table, and two entries with their offsets.
+fn is_sliced(bytes: &[u8]) -> Result<bool, SegmentFault> {
+    let segment = Segment::read(bytes)?;
+    let numbers = segment.numbers();
+    let sized = (numbers.slices, numbers.positions) == (2, 1) && segment.entry_count() == 2;
+    Ok(has_offsets(&segment, &[(0, Some(258)), (1, Some(772)), (2, None)]) && sized)
 }
 
 #[test]
@@ -128,13 +145,7 @@ fn an_entry_has_four_bytes_a_slice_and_eight_a_position_table(rt: HostRuntime) -
         ENTRIES_OF_27_BYTES,
     ];
     let bytes = set_value(rt.alloc(), &items)?;
-    let segment = Segment::read(&bytes)?;
-    let numbers = segment.numbers();
-    assert_eq!(rt; (numbers.slices, numbers.positions), (2, 1));
-    assert_eq!(rt; segment.entry_count(), 2);
-    for (unit, offset) in [(0, Some(258)), (1, Some(772)), (2, None)] {
-        assert_eq!(rt; segment.offset_of(unit), offset);
-    }
+    assert!(rt; is_sliced(&bytes)?);
     Ok(())
 }
 
@@ -144,22 +155,23 @@ fn a_segment_of_duration_0_gives_its_entries_no_place(rt: HostRuntime) -> Result
     numbers.duration = 0;
     let segment = Segment::of(numbers, &ENTRIES).ok_or("a segment")?;
     assert_eq!(rt; segment.entry_count(), 2);
-    for unit in [4, 5, 6, 7] {
-        assert_eq!(rt; segment.offset_of(unit), None);
-    }
+    let offsets = [(4, None), (5, None), (6, None), (7, None)];
+    assert!(rt; has_offsets(&segment, &offsets));
     Ok(())
+}
+
+/// Whether a segment has units of 0 bytes, no entries and no place.
+fn has_no_place(bytes: &[u8]) -> Result<bool, SegmentFault> {
+    let segment = Segment::read(bytes)?;
+    let sized = (segment.numbers().unit_bytes, segment.entry_count()) == (0, 0);
+    Ok(sized && segment.offset_of(0).is_none())
 }
 
 #[test]
 fn units_of_0_bytes_need_no_entries(rt: HostRuntime) -> Result<(), Fail> {
     let items = [RATE, START, DURATION, NO_UNIT_BYTES, BODY_SID];
     let bytes = set_value(rt.alloc(), &items)?;
-    let segment = Segment::read(&bytes)?;
-    assert_eq!(rt;
-        (segment.numbers().unit_bytes, segment.entry_count()),
-        (0, 0)
-    );
-    assert_eq!(rt; segment.offset_of(0), None);
+    assert!(rt; has_no_place(&bytes)?);
     Ok(())
 }
 
@@ -187,11 +199,20 @@ const FAULTS: [(&[(u16, &[u8])], Option<SegmentFault>); 7] = [
     (&[RATE, START, DURATION, UNIT_BYTES, BODY_SID, ONE_BYTE_OF_ENTRIES], None),
 ];
 
+/// Whether items are no segment for this reason, or one where there is none.
+fn has_fault(
+    alloc: Global,
+    items: &[(u16, &[u8])],
+    fault: Option<SegmentFault>,
+) -> Result<bool, Fail> {
+    let bytes = set_value(alloc, items)?;
+    Ok(Segment::read(&bytes).err() == fault)
+}
+
 #[test]
 fn a_segment_that_is_not_read_tells_the_first_cause(rt: HostRuntime) -> Result<(), Fail> {
-    for (items, want) in FAULTS {
-        let bytes = set_value(rt.alloc(), items)?;
-        assert_eq!(rt; Segment::read(&bytes).err(), want);
+    for (items, fault) in FAULTS {
+        assert!(rt; has_fault(rt.alloc(), items, fault)?);
     }
     let cut = Segment::read(&WRITTEN[..11]);
     assert_eq!(rt; cut.err(), Some(SegmentFault::Set(0)));
