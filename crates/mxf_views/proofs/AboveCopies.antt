@@ -11,7 +11,7 @@ use Rattle.mxf_views.proofs.Common.{is_preface_note, prefaces_of, start_of, zone
 use Rattle.mxf_views.proofs.Common.{counted_above, PartitionParts, partition_at, partitions_of, sizes, length-filter_le}
 use Rattle.mxf_views.proofs.Common.{In-at}
 use Rattle.std.specs.Prelude.{slice_get}
-use Rattle.std.proofs.lemmas.Bool.{eqb-false}
+use Rattle.std.proofs.lemmas.Bool.{eqb-false, cases_lt}
 use Rattle.std.proofs.lemmas.List.Elements.{filter_map-append}
 use Rattle.std.proofs.lemmas.List.Sums.{count_by-le-length}
 use Rattle.std.proofs.lemmas.Option.{get_or_from_slice_get, slice_get_within}
@@ -184,20 +184,17 @@ module _ (b : ℕ) (own other : List NoteParts) (m : MeetAt b own other) where
       → (start_of b (clear_notes all) ≡ None) ⊎ ((d : CopyInfo) × In d (copies_of own) × (p.offset < d.partition))
       → start_of p.end (clear_notes all) ≡ None
   no_start p there none f = none_there all p.end (union_is_content b own other m) (λ s a.
-      elim (nat_lt s b) as (λ t. nat_lt s b ≡ t → ⊥) [
-        | true ↦ λ t. (
-            let before = start_stays all own p.end b s (λ n l g. let q = same_below p.end n l g in (q.1, q.0))
-            (ltb-true s b t) a in
+      elim (cases_lt s b) [
+        | inl t ↦ (
+            let before = start_stays all own p.end b s (λ n l g. let q = same_below p.end n l g in (q.1, q.0)) t a in
             let u = (start_is own p.end s m.own_is.content).1 before in cc (u, none))
-        | false ↦ λ t. (
-            let high : b ≤ s = ltb-false s b t in
-            elim f [
-              | inl g ↦ (
-                  let u = (start_is all b s (union_is_content b own other m)).1
-                  (from_boundary p.end s (own_end p there) high a) in cc (u, g))
-              | inr d ↦ not_behind p there d.0 d.1 d.2 s high a
-            ])
-      ] refl)
+        | inr high ↦ elim f [
+          | inl g ↦ (
+              let u = (start_is all b s (union_is_content b own other m)).1
+              (from_boundary p.end s (own_end p there) high a) in cc (u, g))
+          | inr d ↦ not_behind p there d.0 d.1 d.2 s high a
+        ]
+      ])
 
   -- ---- what is counted
 

@@ -4,25 +4,8 @@ use Rattle.mxf_views.proofs.Common.{refl, cond, append_assoc, append-nil, subst,
 use Rattle.mxf_views.proofs.Common.{eqb-true, eq-eqb, ℕ, ◌↔◌, ◌&&◌, ◌||◌, ◌==◌, nat_lt, is_some, ltb-true, ltb-false}
 use Rattle.mxf_views.proofs.Common.{and_from, and_parts, In, CopyInfo, best_of, preferred_of, standing}
 use Rattle.mxf_views.specs.Copies.{better, is_candidate, is_above, IsNotAbove, IsBest, IsCandidate, IsPreferred}
-
-In-push : (d c : CopyInfo) (seen : List CopyInfo) → In d (seen ++ c ∷ []) → In d seen ⊎ (d ≡ c)
-In-push d c [] h = elim h [ inl e ↦ inr e | inr k ↦ absurd k ]
-In-push d c (x ∷ xs) h = elim h [
-  | inl e ↦ inl (inl e)
-  | inr k ↦ elim (In-push d c xs k) [
-    | inl m ↦ inl
-        (inr m)
-    | inr e ↦ inr e
-  ]
-]
-
-In-left : (d c : CopyInfo) (seen : List CopyInfo) → In d seen → In d (seen ++ c ∷ [])
-In-left d c [] h = absurd h
-In-left d c (x ∷ xs) h = elim h [ inl e ↦ inl e | inr k ↦ inr (In-left d c xs k) ]
-
-In-last : (c : CopyInfo) (seen : List CopyInfo) → In c (seen ++ c ∷ [])
-In-last c [] = inl refl
-In-last c (x ∷ xs) = inr (In-last c xs)
+use Rattle.mxf_klv.proofs.Lists.{In-end}
+use Rattle.std.proofs.lemmas.Bool.{or_cases, or_parts, and_cases, cases_order}
 
 candidate_says : (c : CopyInfo) (o : Option ℕ) → c.start ≡ o → is_some o ≡ true → c.prefaces ≡ 1 → IsCandidate c
 candidate_says c None e h one = absurd cc
@@ -40,35 +23,28 @@ candidate_iff c = (
 above_says : (c b : CopyInfo) → is_above c (Some b) ≡ true
     → (standing b < standing c) ⊎ ((standing b ≡ standing c) × (b.partition < c.partition))
 above_says c b e =
-    elim (nat_lt (standing b) (standing c)) as (λ t. nat_lt (standing b) (standing c) ≡ t
-    → (t || ((standing b == standing c) && nat_lt b.partition c.partition)) ≡ true
-    → (standing b < standing c) ⊎ ((standing b ≡ standing c) × (b.partition < c.partition))) [
-      | true ↦ λ t _. inl (ltb-true (standing b) (standing c) t)
-      | false ↦ λ t k. elim (standing b == standing c) as (λ u. (standing b == standing c) ≡ u
-          → (u && nat_lt b.partition c.partition) ≡ true
-          → (standing b < standing c) ⊎ ((standing b ≡ standing c) × (b.partition < c.partition))) [
-            | true ↦ λ u m. inr (eqb-true (standing b) (standing c) u, ltb-true b.partition c.partition m)
-            | false ↦ λ u m. absurd cc
-          ] refl k
-    ] refl e
+    let same = standing b == standing c in
+    let low = nat_lt b.partition c.partition in
+    elim (or_cases (nat_lt (standing b) (standing c)) (same && low) e) [
+      | inl t ↦ inl (ltb-true (standing b) (standing c) t)
+      | inr t ↦ (
+          let p = and_parts same low t in
+          inr (eqb-true (standing b) (standing c) p.0, ltb-true b.partition c.partition p.1))
+    ]
 
 not_above_says : (c b : CopyInfo) → is_above c (Some b) ≡ false → IsNotAbove c b
 not_above_says c b e =
-    elim (nat_lt (standing b) (standing c)) as (λ t. nat_lt (standing b) (standing c) ≡ t
-    → (t || ((standing b == standing c) && nat_lt b.partition c.partition)) ≡ false → IsNotAbove c b) [
-      | true ↦ λ t k. absurd cc
-      | false ↦ λ t k. elim (standing b == standing c) as (λ u. (standing b == standing c) ≡ u
-          → (u && nat_lt b.partition c.partition) ≡ false → IsNotAbove c b) [
-            | true ↦ λ u m. inr (sym (eqb-true (standing b) (standing c) u), ltb-false b.partition c.partition m)
-            | false ↦ λ u m.
-                let le : standing c ≤ standing b = ltb-false (standing b) (standing c) t in
-                elim (nat_lt (standing c) (standing b)) as (λ v. nat_lt (standing c) (standing b) ≡ v → IsNotAbove c b) [
-                  | true ↦ λ v. inl (ltb-true (standing c) (standing b) v)
-                  | false ↦ λ v. let ge : standing b ≤ standing c = ltb-false (standing c)
-                      (standing b) v in let same : standing b ≡ standing c = omega arith in let w = Rattle.std.proofs.Common.eq-eqb (standing b) (standing c) same in absurd (cc (u, w))
-                ] refl
-          ] refl k
-    ] refl e
+    let equal = standing b == standing c in
+    let low = nat_lt b.partition c.partition in
+    let o = or_parts (nat_lt (standing b) (standing c)) (equal && low) e in
+    elim (cases_order (standing c) (standing b)) [
+      | inl s ↦ elim (and_cases equal low o.1) [
+        | inl u ↦ (let w = eq-eqb (standing b) (standing c) (sym s) in absurd (cc (u, w)))
+        | inr u ↦ inr (s, ltb-false b.partition c.partition u)
+      ]
+      | inr (inl l) ↦ inl l
+      | inr (inr l) ↦ (let g = ltb-false (standing b) (standing c) o.0 in absurd (omega (arith, g, l)))
+    ]
 
 through : (d b c : CopyInfo) → IsNotAbove d b → (standing b < standing c) ⊎
     ((standing b ≡ standing c) × (b.partition < c.partition)) → IsNotAbove d c
@@ -85,9 +61,9 @@ below_new seen (Some b) c d p a h k = through d b c (p.best d h k) (above_says c
 pub best_takes : (seen : List CopyInfo) (best : Option CopyInfo) (c : CopyInfo) → IsPreferred seen best
     → is_candidate c ≡ true → is_above c best ≡ true → IsBest (seen ++ c ∷ []) c
 best_takes seen best c p k a = record {
-  held = In-last c seen;
+  held = (In-end c c seen (seen ++ c ∷ []) refl).1 (inr refl);
   candidate = (candidate_iff c).0 k;
-  best = λ d h t. elim (In-push d c seen h) [
+  best = λ d h t. elim ((In-end d c seen (seen ++ c ∷ []) refl).0 h) [
     | inl m ↦ below_new seen best c d p a m t
     | inr e ↦ inr
         (ap standing e, let f = ap (λ (x : CopyInfo). x.partition) e in omega (arith, f))
@@ -96,25 +72,25 @@ best_takes seen best c p k a = record {
 
 pub best_keeps : (seen : List CopyInfo) (best : Option CopyInfo) (c : CopyInfo) → IsPreferred seen best
     → (is_candidate c ≡ false) ⊎ (is_above c best ≡ false) → IsPreferred (seen ++ c ∷ []) best
-best_keeps seen None c p (inl k) = λ d h t. elim (In-push d c seen h) [
+best_keeps seen None c p (inl k) = λ d h t. elim ((In-end d c seen (seen ++ c ∷ []) refl).0 h) [
   | inl m ↦ p d m t
   | inr e ↦
       (let f = ap is_candidate e in let u = (candidate_iff d).1 t in absurd (cc (f, k, u)))
 ]
 best_keeps seen None c p (inr a) = absurd cc
 best_keeps seen (Some b) c p (inl k) = record {
-  held = In-left b c seen p.held;
+  held = (In-end b c seen (seen ++ c ∷ []) refl).1 (inl p.held);
   candidate = p.candidate;
-  best = λ d h t. elim (In-push d c seen h) [
+  best = λ d h t. elim ((In-end d c seen (seen ++ c ∷ []) refl).0 h) [
     | inl m ↦ p.best d m t
     | inr e ↦
         (let f = ap is_candidate e in let u = (candidate_iff d).1 t in absurd (cc (f, k, u)))
   ];
 }
 best_keeps seen (Some b) c p (inr a) = record {
-  held = In-left b c seen p.held;
+  held = (In-end b c seen (seen ++ c ∷ []) refl).1 (inl p.held);
   candidate = p.candidate;
-  best = λ d h t. elim (In-push d c seen h) [
+  best = λ d h t. elim ((In-end d c seen (seen ++ c ∷ []) refl).0 h) [
     | inl m ↦ p.best d m t
     | inr e ↦ Rattle.std.proofs.Common.subst
         (λ (x : CopyInfo). IsNotAbove x b) (sym e) (not_above_says c b a)

@@ -7,7 +7,7 @@ use Rattle.mxf_views.proofs.Common.{part_and_status, IsContent, IsClear, SharesB
 use Rattle.mxf_views.proofs.Common.{Held, Whole, Broken, PartitionParts, AreInOrder, chain_of, is_footer, is_greatest}
 use Rattle.mxf_views.proofs.Common.{is_header, is_linked, is_no_unreadable_pack, link_of, partition_at, partitions_of}
 use Rattle.mxf_views.proofs.Common.{stands_above, count_by-cons, tally, list_any-In, In-filter_map, all-In, In-list_all}
-use Rattle.mxf_views.proofs.Common.{not-true-false, lt-ltb, cases_lt}
+use Rattle.mxf_views.proofs.Common.{not-true-false, lt-ltb, cases_lt, clear-alone}
 use Rattle.mxf_sets.specs.PartitionPack.{IsPartitionKind}
 use Rattle.mxf_views.specs.declared.chain.Link.{Link}
 use Rattle.mxf_views.specs.declared.chain.Link.TheVariants.{Skips, Missing, Wrong}
@@ -150,17 +150,7 @@ unfolding partitions_of
 at_partition notes n c s =
     let m = (In-filter_map partition_at (clear_notes notes) s.0).0 s.1 in
     let o : s.0.offset ≡ m.0.offset = offset-partition_at m.0 s.0 m.2 in
-    let e : s.0.offset ≡ n.offset = s.2 in
-    let shares : SharesByte n m.0 = (
-      n.offset,
-      record { from = omega arith; before = omega arith },
-      record {
-        from = omega
-            (arith, o, e);
-        before = omega (arith, o, e);
-      },
-    ) in
-    let same : n ≡ m.0 = clear_same notes n m.0 c ((In-clear_notes m.0 notes).0 m.1) shares in
+    let same : n ≡ m.0 = clear-alone n m.0 notes c ((In-clear_notes m.0 notes).0 m.1).held (sym s.2 ∙ o) in
     ap (λ (x : NoteParts). is_some (partition_at x)) same ∙ ap is_some m.2
 
 no_unreadable : (notes : List NoteParts) (n : NoteParts) → IsClear n notes

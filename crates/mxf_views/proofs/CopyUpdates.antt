@@ -18,7 +18,7 @@ use Rattle.mxf_views.specs.Kept.{can_bring_start, may_change, or_itself, with_fo
 use Rattle.mxf_views.proofs.ClearChanges.{In-with_new, IsNew, clear_after, new_is_none, no_head, outside_iff}
 use Rattle.mxf_views.proofs.CopyChanges.{copy_stays, no_copy_stays, same_clear}
 use Rattle.mxf_views.proofs.CopyLaws.{copies_rise, copy_there}
-use Rattle.mxf_views.proofs.PartitionLaws.{offset-partition_at}
+use Rattle.mxf_views.proofs.PartitionLaws.{offset-partition_at, readable_from}
 use Rattle.mxf_views.proofs.PartitionSearch.{copy_found, has_copy, is_there, of_note, of_partition, one_partition}
 use Rattle.mxf_klv.proofs.RisingBy.{rises-map, rises-filter, same_by_members}
 use Rattle.mxf_views.proofs.Rising.{by_partition}
@@ -42,14 +42,7 @@ bytes_are_stated notes p =
     ]
 
 pub end-partition_at : (n : NoteParts) (p : PartitionParts) → partition_at n ≡ Some p → p.end ≡ end_of n
-unfolding partition_at
-end-partition_at n p e =
-    elim (pack_of n) as (λ o. option_map (λ pack. record { offset = n.offset; end = end_of n; pack = pack }) o ≡ Some p
-    → p.end ≡ end_of n) [
-      | None ↦ λ q. absurd cc
-      | Some pack ↦ λ q. let same : record { offset = n.offset; end = end_of n; pack = pack } ≡ p = cc (q) in ap
-          (λ (x : PartitionParts). x.end) (sym same)
-    ] e
+end-partition_at n p e = (readable_from n p e).end
 
 pub partition_found : (notes : List NoteParts) (p : PartitionParts) → In p (partitions_of notes)
     → find (λ q. q.offset == p.offset) (partitions_of notes) ≡ Some p

@@ -9,6 +9,7 @@ use Rattle.mxf_catalogue.proofs.SpanLaws.{offset_le}
 use Rattle.mxf_views.specs.Gaps.{gaps_from, AreGaps}
 use Rattle.mxf_catalogue.specs.Runs.{IsWithin}
 use Rattle.mxf_catalogue.proofs.RunLaws.{AreMaximal-lower}
+use Rattle.std.proofs.lemmas.Bool.{cases_lt}
 
 -- a note covers its first byte, and nothing above its end
 pub covers_first : (n : NoteParts) → n.offset + 1 ≤ covered_end n
@@ -57,11 +58,7 @@ fewer n notes reached top offset g =
     record {
       above = omega arith;
       below = elim g.below [
-        | inl l ↦ elim (nat_lt offset top) as (λ b. nat_lt offset top ≡ b
-            → (offset < top) ⊎ ((m : NoteParts) × In m (n ∷ notes) × (offset < end_of m))) [
-              | true ↦ λ t. inl (ltb-true offset top t)
-              | false ↦ λ t. let h : top ≤ offset = ltb-false offset top t in inr (n, inl refl, omega (arith, l, h))
-            ] refl
+        | inl l ↦ elim (cases_lt offset top) [ inl t ↦ inl t | inr h ↦ inr (n, inl refl, omega (arith, l, h)) ]
         | inr s ↦ inr (s.0, inr s.1, s.2)
       ];
       in_none = λ m h s. elim h [
@@ -78,18 +75,11 @@ before_or_after : (n : NoteParts) (notes : List NoteParts) (reached top offset :
     → (offset < n.offset) ⊎ IsGapAbove (max reached (covered_end n)) (max top (end_of n)) notes offset
 before_or_after n notes reached top offset g =
     let a : reached ≤ offset = g.above in
-    let later = IsGapAbove (max reached (covered_end n)) (max top (end_of n)) notes offset in
-    elim (nat_lt offset n.offset) as (λ b. nat_lt offset n.offset ≡ b → (offset < n.offset) ⊎ later) [
-      | true ↦ λ t. inl (ltb-true offset n.offset t)
-      | false ↦ λ t.
-          let l : n.offset ≤ offset = ltb-false offset n.offset t in
-          elim (nat_lt offset (covered_end n)) as (λ b. nat_lt offset (covered_end n) ≡ b
-          → (offset < n.offset) ⊎ later) [
-            | true ↦ λ u. let r : offset < covered_end n = ltb-true offset (covered_end n) u in absurd
-                (g.in_none n (inl refl) (record { from = l; before = omega arith }))
-            | false ↦ λ u.
-                let r : covered_end n ≤ offset = ltb-false offset (covered_end n) u in
-                inr (record {
+    elim (cases_lt offset n.offset) [
+      | inl t ↦ inl t
+      | inr l ↦ elim (cases_lt offset (covered_end n)) [
+            | inl r ↦ absurd (g.in_none n (inl refl) (record { from = l; before = omega (arith, r) }))
+            | inr r ↦ inr (record {
                   above = omega arith;
                   below = elim g.below [
                     | inl k ↦ inl (omega (arith, k))
@@ -100,8 +90,8 @@ before_or_after n notes reached top offset g =
                   ];
                   in_none = λ m h s. g.in_none m (inr h) s;
                 })
-          ] refl
-    ] refl
+          ]
+    ]
 
 -- before the first note of a content is none
 before_first : (n : NoteParts) (notes : List NoteParts) (reached top offset : ℕ) → IsContent (n ∷ notes)

@@ -232,7 +232,7 @@ readable-laid at (p ∷ ps) r = rw (readable-note at p r.0) (readable-laid (at +
 -- ---- the whole
 
 -- Whether these partitions and clear notes make a whole chain, as the chain of notes has it.
-abbrev whole_by : List PartitionParts → List NoteParts → Bool
+abbrev pub whole_by : List PartitionParts → List NoteParts → Bool
 whole_by parts clear =
     (count_by (λ p. is_header p.pack.part) parts == 1)
     && (count_by (λ p. is_footer p.pack.part) parts == 1)

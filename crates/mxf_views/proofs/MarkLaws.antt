@@ -15,6 +15,7 @@ use Rattle.mxf_views.proofs.SpanCounts.{zone-count}
 use Rattle.mxf_views.proofs.SumLaws.{zone_above}
 use Rattle.mxf_catalogue.proofs.ApartLaws.{begins_above}
 use Rattle.mxf_klv.proofs.Counts.{range-le}
+use Rattle.std.proofs.lemmas.List.Sorted.{IsNonDecreasingBy-push}
 
 -- ---- a range, cut in two
 
@@ -160,34 +161,9 @@ zone_before low (y ∷ ys) rest n a =
 
 rise_push : (xs : List Mark) (x : Mark) → IsNonDecreasingBy (λ (m : Mark). m.offset) xs
     → ((m : Mark) → In m xs → m.offset ≤ x.offset) → IsNonDecreasingBy (λ (m : Mark). m.offset) (xs ++ x ∷ [])
-rise_push xs x r f i j d l h =
-    let at : ℕ → ℕ = λ k. (get_or (xs ++ x ∷ []) k d).offset in
-    let within = length-append xs (x ∷ []) in
-    let first : (k : ℕ) → k < length xs → at k ≡ (get_or xs k d).offset =
-    λ k t. ap (λ (m : Mark). m.offset) (get_or_append_left xs (x ∷ []) d k t) in
-    let last : (k : ℕ) → k ≡ length xs → at k ≡ x.offset =
-    λ k t. ap (λ (m : Mark). m.offset)
-    (get_or-append_right xs (x ∷ []) (length xs) k d refl (omega arith)
-    ∙ ap (λ o. get_or (x ∷ []) o d) (let z : k - length xs ≡ 0 = omega arith in z)) in
-    elim (nat_lt j (length xs)) as (λ b. nat_lt j (length xs) ≡ b → at i ≤ at j) [
-      | true ↦ λ t. (
-          let u : j < length xs = ltb-true j (length xs) t in
-          let m = r i j d l u in
-          let a = first i (omega (arith, u, l)) in
-          let b = first j u in omega (arith, m, a, b))
-      | false ↦ λ t. (
-          let u : length xs ≤ j = ltb-false j (length xs) t in
-          let b = last j (omega (arith, u, h, within)) in
-          elim (nat_lt i (length xs)) as (λ b. nat_lt i (length xs) ≡ b → at i ≤ at j) [
-            | true ↦ λ s. (
-                let v : i < length xs = ltb-true i (length xs) s in
-                let a = first i v in
-                let m = f (get_or xs i d) (In-at xs i d v) in omega (arith, m, a, b))
-            | false ↦ λ s. (
-                let v : length xs ≤ i = ltb-false i (length xs) s in
-                let a = last i (omega (arith, v, u, l, h, within)) in omega (arith, a, b))
-          ] refl)
-    ] refl
+rise_push xs x r f =
+    IsNonDecreasingBy-push (λ (m : Mark). m.offset) xs x r (λ d l.
+    f (get_or xs (length xs - 1) d) (In-at xs (length xs - 1) d (omega (arith, l))))
 
 -- The marks so far are marks among all notes and none is above those left, and the notes passed so far are counted.
 pub record AreCounted (all : List NoteParts) (marks : List Mark) (covered prefaces : ℕ) (left : List NoteParts) : Type 0 where

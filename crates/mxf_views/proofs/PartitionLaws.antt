@@ -18,20 +18,10 @@ use Rattle.mxf_views.proofs.Rising.{by_offset}
 
 -- ---- which partitions there are
 
-pub offset-partition_at : (n : NoteParts) (p : PartitionParts) → partition_at n ≡ Some p → p.offset ≡ n.offset
-unfolding partition_at
-offset-partition_at n p e =
-    elim (pack_of n) as (λ o. option_map (λ pack. record { offset = n.offset; end = end_of n; pack = pack }) o ≡ Some p
-    → p.offset ≡ n.offset) [
-      | None ↦ λ q. absurd cc
-      | Some pack ↦ λ q. let same : record { offset = n.offset; end = end_of n; pack = pack } ≡ p = cc (q) in ap
-          (λ (x : PartitionParts). x.offset) (sym same)
-    ] e
-
 abbrev placed : NoteParts → PartitionPackParts → PartitionParts
 placed n pack = record { offset = n.offset; end = end_of n; pack = pack }
 
-readable_from : (n : NoteParts) (p : PartitionParts) → partition_at n ≡ Some p → IsReadablePack n p
+pub readable_from : (n : NoteParts) (p : PartitionParts) → partition_at n ≡ Some p → IsReadablePack n p
 unfolding partition_at
 readable_from n p e =
     let read = pack_at (kind_of n.key) in
@@ -41,6 +31,9 @@ readable_from n p e =
           let same : placed n pack ≡ p = cc (q) in
           subst (IsReadablePack n) same record { read = (reads read n pack).0 r; offset = refl; end = refl }
     ] refl e
+
+pub offset-partition_at : (n : NoteParts) (p : PartitionParts) → partition_at n ≡ Some p → p.offset ≡ n.offset
+offset-partition_at n p e = (readable_from n p e).offset
 
 readable_to : (n : NoteParts) (p : PartitionParts) → IsReadablePack n p → partition_at n ≡ Some p
 unfolding partition_at

@@ -16,22 +16,14 @@ use Rattle.mxf_views.specs.Copies.{copies_among}
 use Rattle.mxf_views.specs.Labels.{primer_for}
 use Rattle.mxf_views.specs.Resolved.{packages_of, preface_in, resolved_by, resolved_from}
 use Rattle.mxf_views.specs.SameViews.{SameViews}
+use Rattle.mxf_views.proofs.LaidPartitions.{hang_together_by}
 
 module _ (a b : List NoteParts) (e : clear_notes a ≡ clear_notes b) where
   partitions : partitions_of a ≡ partitions_of b
   unfolding partitions_of
   partitions = ap partitions_among e
 
-  hang_together_by : List PartitionParts → List NoteParts → Bool
-  hang_together_by ps clear =
-      (count_by (λ p. is_header p.pack.part) ps == 1)
-      && (count_by (λ p. is_footer p.pack.part) ps == 1)
-      && list_all (is_linked ps) ps
-      && list_all (λ p. not (is_footer p.pack.part) || is_greatest ps p) ps
-      && list_all is_no_unreadable_pack clear
-
   chain : chain_of a ≡ chain_of b
-  unfolding hang_together_by
   chain = λ i. if hang_together_by (partitions i) (e i) then Whole else Broken
 
   copies : copies_of a ≡ copies_of b

@@ -6,7 +6,7 @@ use Rattle.mxf_views.proofs.Common.{and_from, and_parts, NoteParts, end_of, kind
 use Rattle.mxf_views.proofs.Common.{IsClear, SharesByte, clear_notes, In-clear_notes, IsStart, covered_of, is_fill_note}
 use Rattle.mxf_views.proofs.Common.{is_filled, is_primer, is_readable_primer, is_start, start_of, zone_of, is_in_one}
 use Rattle.mxf_views.proofs.Common.{lies_in, AreApart-clear_notes, In-list_all, In-filter, list_any-In, found-In}
-use Rattle.mxf_views.proofs.Common.{none_found}
+use Rattle.mxf_views.proofs.Common.{none_found, inl, inr}
 use Rattle.mxf_sets.specs.Batch.{BatchParts}
 use Rattle.mxf_catalogue.specs.Disputes.{is_same_note}
 use Rattle.mxf_catalogue.proofs.DisputeLaws.{clear-apart}
@@ -19,6 +19,7 @@ use Rattle.mxf_klv.proofs.Counts.{range-all, range-full}
 use Rattle.mxf_klv.proofs.HeadOrder.{same_note-Decides}
 use Rattle.mxf_klv.proofs.Lists.{list_all-In}
 use Rattle.mxf_klv.proofs.Tests.{all_three, three_parts}
+use Rattle.std.proofs.lemmas.Bool.{cases_order}
 use Rattle.mxf_klv.specs.declared.kinds.Kind.TheVariants as kinds
 
 -- clear notes that share a byte are one
@@ -64,13 +65,11 @@ not_before notes end s t a b l = not_in_fill notes end t s a (b.filled s a.after
 
 pub one_start : (notes : List NoteParts) (end s t : ℕ) → IsStart notes end s → IsStart notes end t → s ≡ t
 one_start notes end s t a b =
-    elim (nat_lt s t) as (λ u. nat_lt s t ≡ u → s ≡ t) [
-      | true ↦ λ u. absurd (not_before notes end s t a b (ltb-true s t u))
-      | false ↦ λ u. elim (nat_lt t s) as (λ v. nat_lt t s ≡ v → s ≡ t) [
-        | true ↦ λ v. absurd (not_before notes end t s b a (ltb-true t s v))
-        | false ↦ λ v. let p : t ≤ s = ltb-false s t u in let q : s ≤ t = ltb-false t s v in omega arith
-      ] refl
-    ] refl
+    elim (cases_order s t) [
+      | inl e ↦ e
+      | inr (inl l) ↦ absurd (not_before notes end s t a b l)
+      | inr (inr l) ↦ absurd (not_before notes end t s b a l)
+    ]
 
 -- a tested start is one
 tested : (notes : List NoteParts) (end : ℕ) (n : NoteParts) → IsContent notes → In n (clear_notes notes)

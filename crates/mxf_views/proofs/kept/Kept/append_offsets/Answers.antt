@@ -1,4 +1,4 @@
-use Rattle.mxf_views.proofs.Common.{◌∙◌, refl, clear_from}
+use Rattle.mxf_views.proofs.Common.{◌∙◌, refl}
 use Rattle.mxf_views.proofs.AppendLaws.{appended_all, appended_next, appended_none, next_fits}
 use Rattle.mxf_views.specs.declared.kept.offsets.Placed.TheVariants as kinds
 use Rattle.mxf_views.proofs.kept.Kept.append_offsets.Goals as goal

@@ -1,5 +1,5 @@
-use Rattle.mxf_views.proofs.Common.{◌∙◌, ◌<◌, ◌≤◌, ◌-◌, ap, arith, length, nat_lt, sym, ltb-true, ltb-false}
-use Rattle.mxf_views.proofs.OffsetSearch.{last_above, none_above}
+use Rattle.mxf_views.proofs.Common.{◌∙◌, ◌<◌, ◌-◌, ap, arith, length, nat_lt, sym, ltb-true}
+use Rattle.mxf_views.proofs.OffsetSearch.{last_above}
 use Rattle.mxf_views.proofs.kept.offsets.any_above.Goals as goal
 
 pub returns-in-Some : goal.returns-in-Some

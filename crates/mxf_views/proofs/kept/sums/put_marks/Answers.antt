@@ -1,7 +1,7 @@
-use Rattle.mxf_views.proofs.Common.{◌≡◌, ◌-◌, ◌+◌, ◌⊎◌, ◌∷◌, ◌++◌, ℕ, [], List, ap, arith, length, subst, sym}
-use Rattle.mxf_views.proofs.Common.{NoteParts, AreApart, is_preface_note}
+use Rattle.mxf_views.proofs.Common.{◌≡◌, ◌-◌, ◌+◌, ◌⊎◌, ◌∷◌, ◌++◌, ℕ, [], ap, arith, length, subst, sym}
+use Rattle.mxf_views.proofs.Common.{is_preface_note}
 use Rattle.mxf_views.specs.Spans.{size_of}
-use Rattle.mxf_views.proofs.MarkLaws.{AreCounted, counted_next, counted_none}
+use Rattle.mxf_views.proofs.MarkLaws.{AreCounted, counted_next}
 use Rattle.mxf_views.proofs.SpanCounts.{sizes_more}
 use Rattle.mxf_views.proofs.SumLaws.{tally_fits}
 use Rattle.mxf_views.proofs.kept.sums.put_marks.Goals as goal

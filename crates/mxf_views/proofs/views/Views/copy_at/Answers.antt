@@ -1,4 +1,4 @@
-use Rattle.mxf_views.proofs.Common.{◌==◌, ◌∙◌, List, ap, subst, sym, find, CopyInfo, CopiesRise, copies_of, KeptParts}
+use Rattle.mxf_views.proofs.Common.{◌∙◌, ap, subst, sym, CopiesRise, KeptParts}
 use Rattle.mxf_views.proofs.CopyLaws.{copies_rise}
 use Rattle.mxf_views.proofs.views.Views.copy_at.Goals as goal
 
