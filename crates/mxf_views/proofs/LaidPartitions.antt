@@ -232,8 +232,8 @@ readable-laid at (p ∷ ps) r = rw (readable-note at p r.0) (readable-laid (at +
 -- ---- the whole
 
 -- Whether these partitions and clear notes make a whole chain, as the chain of notes has it.
-abbrev pub whole_by : List PartitionParts → List NoteParts → Bool
-whole_by parts clear =
+abbrev pub hang_together_by : List PartitionParts → List NoteParts → Bool
+hang_together_by parts clear =
     (count_by (λ p. is_header p.pack.part) parts == 1)
     && (count_by (λ p. is_footer p.pack.part) parts == 1)
     && list_all (is_linked parts) parts
@@ -250,7 +250,7 @@ partitions-laid l w =
     let footer : EndsInFooter parts = footer_last l w.footer w.readable in
     let rising : IsRisingFrom 0 parts = rising-read 0 l in
     let linked : AreLinked parts = all_linked parts header rising w.previous in
-    let whole : whole_by parts notes ≡ true =
+    let whole : hang_together_by parts notes ≡ true =
     rw (one_header parts header, one_footer parts footer, linked.linked, footers_greatest parts footer rising)
     (readable-laid 0 l w.readable) in
     let read : chain_read parts ≡ Whole = rw (linked.some, ends_in_footer parts footer) refl in
@@ -260,5 +260,5 @@ partitions-laid l w =
       partitions = same;
       links = subst (λ ps. (offset : ℕ) → link_at offset ps ≡ link_read_at offset (links_read None parts)) (sym same)
           linked.links;
-      chain = (λ i. cond (whole_by (same i) (clear-laid 0 l i)) Whole Broken) ∙ rw whole (sym read);
+      chain = (λ i. cond (hang_together_by (same i) (clear-laid 0 l i)) Whole Broken) ∙ rw whole (sym read);
     }
