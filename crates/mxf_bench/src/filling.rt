@@ -71,8 +71,8 @@ fn offset(number: u64) -> Option<u64> {
     HEAD.checked_add(number.checked_mul(SIZE)?)
 }
 
-/// How many notes the views hold, and how many of them are disputed, where the only copy has as many bytes covered as the
-/// primer pack and so many notes have.
+/// How many notes the views hold, and how many of them are disputed, where the only copy has as many bytes covered as
+/// the primer pack and so many notes have.
 fn counts(views: &Views, count: u64) -> Option<Counts> {
     let copy = views.copies().first()?;
     let filled = offset(count)?.checked_sub(PACK)?;

@@ -1,10 +1,11 @@
 //! Takes in notes for benches/run: `mxf_bench RUN COUNT`.
 //!
-//! RUN is an order, `ascending`, `descending`, `shuffled` or `overlapping`, in which so many notes are added to a catalogue
-//! one by one, or `heads`, of heads that all claim the bytes up to the greatest end; or `notes`, where they are added to
-//! views, in the zone of one copy of the header metadata; or `pieces`, where so many pieces of ten notes are merged into
-//! such views; or `copies`, where each piece is a partition with a copy of its own. It prints how many notes are held and
-//! how many of them are disputed, and ends with status 0; with other words, or for want of memory, with status 2.
+//! RUN is an order, `ascending`, `descending`, `shuffled` or `overlapping`, in which so many notes are added to a
+//! catalogue one by one, or `heads`, of heads that all claim the bytes up to the greatest end; or `notes`, where they
+//! are added to views, in the zone of one copy of the header metadata; or `pieces`, where so many pieces of ten notes
+//! are merged into such views; or `copies`, where each piece is a partition with a copy of its own. It prints how many
+//! notes are held and how many of them are disputed, and ends with status 0; with other words, or for want of memory,
+//! with status 2.
 #![tactic(auto)]
 
 mod adding;

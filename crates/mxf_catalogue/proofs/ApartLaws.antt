@@ -68,7 +68,8 @@ covers_all notes at =
         | inl k ↦ absurd k.1
         | inr k ↦
             let s = (In-map covered_run notes k.0).0 k.1 in
-            let w = subst (λ (r : Run). IsWithin r at) s.2 k.2 in (s.0, s.1, record { from = w.from; before = w.before })
+            let w = subst (λ (r : Run). IsWithin r at) s.2 k.2 in
+            (s.0, s.1, record { from = w.from; before = w.before })
       ],
       λ h. both.1 (inr (
         covered_run h.0,

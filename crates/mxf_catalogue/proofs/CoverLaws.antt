@@ -150,7 +150,8 @@ with_run_behind low (suc k) r s (x ∷ xs) m e g t n =
     let ih = with_run_behind (x.end + 1) k r s xs m.2 (omega arith) g t n in
     let from : x.end + 1 ≤ s.start =
     subst (λ (q : Run). x.end + 1 ≤ q.start) g (above (x.end + 1) xs k s m.2 (omega arith)) in
-    let some : s.start < s.end = subst (λ (q : Run). q.start < q.end) g (start_below_end (x.end + 1) xs k s m.2 (omega arith)) in
+    let some : s.start < s.end = subst (λ (q : Run). q.start < q.end) g (start_below_end (x.end + 1) xs k s m.2
+    (omega arith)) in
     let o : x.start < x.end = m.1 in
     with_run_cases r x xs (λ l. x ∷ (xs ++ r ∷ []) ≡ l) (λ f. absurd (omega (arith, from, some, o, t, n)))
     (λ f. ap (λ l. x ∷ l) ih) (λ f h. absurd (omega (arith, from, some, t)))
@@ -172,7 +173,8 @@ with_run_grown low (suc k) r s (x ∷ xs) m e g t n =
     let ih = with_run_grown (x.end + 1) k r s xs m.2 (omega arith) g t n in
     let from : x.end + 1 ≤ s.start =
     subst (λ (q : Run). x.end + 1 ≤ q.start) g (above (x.end + 1) xs k s m.2 (omega arith)) in
-    let some : s.start < s.end = subst (λ (q : Run). q.start < q.end) g (start_below_end (x.end + 1) xs k s m.2 (omega arith)) in
+    let some : s.start < s.end = subst (λ (q : Run). q.start < q.end) g (start_below_end (x.end + 1) xs k s m.2
+    (omega arith)) in
     let o : x.start < x.end = m.1 in
     with_run_cases r x xs (λ l. x ∷ slice_set xs k (run s.start r.end) ≡ l)
     (λ f. absurd (omega (arith, from, some, o, t, n))) (λ f. ap (λ l. x ∷ l) ih)
@@ -427,7 +429,8 @@ last_end runs r m e bound =
     subst (λ (s : Run). s.start < s.end) at (start_below_end 0 runs k r m within) in
     let held : In r runs = subst (λ (s : Run). In s runs) at (In-at runs k r within) in (
       λ l offset h.
-          let low : h.0.end ≤ r.end = below_last h.0 h.1 in let b : offset + 1 ≤ h.0.end = h.2.before in omega (arith, low, b, l),
+          let low : h.0.end ≤ r.end = below_last h.0 h.1 in let b : offset + 1 ≤ h.0.end = h.2.before in
+          omega (arith, low, b, l),
       λ f.
           let last : r.start ≤ r.end - 1 = omega (arith, filled) in
           let end : r.end - 1 + 1 ≤ r.end = omega (arith, filled) in

@@ -17,7 +17,8 @@ use Rattle.mxf_catalogue.specs.declared.catalogue.file.fixed_part.FixedPart.{Fix
 use Rattle.mxf_catalogue.specs.Content.{AreReduced, IsContent}
 use Rattle.mxf_catalogue.specs.declared.catalogue.file.start.Version.{Version}
 use Rattle.mxf_catalogue.specs.declared.catalogue.file.start.Version.TheVariants.{One, Two}
-use Rattle.mxf_catalogue.specs.CatalogueFile.{number_bytes, IsFixedPart, fixed_bytes, CanBeNoted, held_length, fixed_part_of}
+use Rattle.mxf_catalogue.specs.CatalogueFile.{number_bytes, IsFixedPart, fixed_bytes, CanBeNoted, held_length}
+use Rattle.mxf_catalogue.specs.CatalogueFile.{fixed_part_of}
 use Rattle.mxf_catalogue.specs.CatalogueFile.{note_bytes, start_bytes, IsFileOfVersion, BeginsWithNote}
 use Rattle.mxf_catalogue.specs.CatalogueFile.{IsCutNote, IsBadNote, IsFront, place_after, CanHave, IsMarkIn}
 use Rattle.mxf_catalogue.specs.CatalogueFile.{BeginsWithParts, CanBeMarked, length_ahead, mark_bytes, mark_of}
@@ -66,10 +67,12 @@ length-fixed_bytes h k =
     let b = length-append h.key (h.width ∷ number_bytes h.length) in
     omega (arith, a, b, length-number_bytes h.offset, length-number_bytes h.length)
 
-fixed_parts_from : (g h : FixedPart) → g.offset ≡ h.offset → g.key ≡ h.key → g.width ≡ h.width → g.length ≡ h.length → g ≡ h
+fixed_parts_from : (g h : FixedPart) → g.offset ≡ h.offset → g.key ≡ h.key → g.width ≡ h.width → g.length ≡ h.length
+    → g ≡ h
 fixed_parts_from g h a b c d i = record { offset = a i; key = b i; width = c i; length = d i }
 
-pub same_fixed_part : (g h : FixedPart) (xs ys : List ℕ) → IsFixedPart g → IsFixedPart h → fixed_bytes g ++ xs ≡ fixed_bytes h ++ ys
+pub same_fixed_part : (g h : FixedPart) (xs ys : List ℕ) → IsFixedPart g → IsFixedPart h
+    → fixed_bytes g ++ xs ≡ fixed_bytes h ++ ys
     → (g ≡ h) × (xs ≡ ys)
 same_fixed_part g h xs ys p q e =
     let a = same_number g.offset h.offset _ _ p.offset q.offset (sym (regrouped g xs) ∙ e ∙ regrouped h ys) in
@@ -96,7 +99,13 @@ pub fixed_part_noted : (n : NoteParts) → IsNote n → CanBeNoted (fixed_part_o
 fixed_part_noted n i = record { label = i.label; width = i.width; within = i.within }
 
 pub note_marked : (n : NoteParts) → IsNote n → CanBeMarked (fixed_part_of n) (mark_of n.whole)
-note_marked n i = (fixed_part_noted n i, elim n.whole as (λ b. mark_of b ≤ 1) [ true ↦ omega arith | false ↦ omega arith ])
+note_marked n i = (
+  fixed_part_noted n i,
+  elim n.whole as (λ b. mark_of b ≤ 1) [
+    | true ↦ omega arith
+    | false ↦ omega arith
+  ],
+)
 
 length-held : (n : NoteParts) → IsNote n → length n.held ≡ held_length (fixed_part_of n) (mark_of n.whole)
 length-held n i =
@@ -247,7 +256,8 @@ flat_push f xs x more =
 pub length-start_bytes : (v : Version) (count : ℕ) → length (start_bytes v count) ≡ 16
 length-start_bytes v count = omega (arith, length-number_bytes count)
 
-pub front_begins : (v : Version) (bytes rest : List ℕ) (count : ℕ) → count < 2 ^ 64 → bytes ≡ start_bytes v count ++ rest
+pub front_begins : (v : Version) (bytes rest : List ℕ) (count : ℕ) → count < 2 ^ 64
+    → bytes ≡ start_bytes v count ++ rest
     → IsFront v bytes count [] rest
 front_begins v bytes rest count h e = record {
   catalogue = record { content = tt; members = tt };
@@ -270,7 +280,8 @@ front_next v bytes rest more count notes n f lt b r p =
       room = omega arith;
       fits = f.fits;
       whole = f.whole
-          ∙ ap (λ (t : List ℕ). start_bytes v count ++ t) (ap (λ (t : List ℕ). flat_map (note_bytes v) notes ++ t) b.whole
+          ∙ ap (λ (t : List ℕ). start_bytes v count ++ t) (ap (λ (t : List ℕ). flat_map (note_bytes v) notes
+          ++ t) b.whole
           ∙ sym (flat_push (note_bytes v) notes n more));
     }
 

@@ -1,5 +1,6 @@
 -- Bytes are the file of a content, or there is a cause in them why they are none.
-use Rattle.std.proofs.Common.{◌≡◌, ◌≢◌, ℕ, zero, suc, ◌+◌, ◌-◌, ◌^◌, ◌<◌, ◌≤◌, Bool, true, false, List, [], ◌∷◌, ◌++◌, length}
+use Rattle.std.proofs.Common.{◌≡◌, ◌≢◌, ℕ, zero, suc, ◌+◌, ◌-◌, ◌^◌, ◌<◌, ◌≤◌, Bool, true, false, List, [], ◌∷◌, ◌++◌}
+use Rattle.std.proofs.Common.{length}
 use Rattle.std.proofs.Common.{get_or, take, drop, Option, None, Some, refl, sym, ap, subst, ◌∙◌, arith, inl, inr, ◌⊎◌}
 use Rattle.std.proofs.Common.{append_assoc, length-append, take-append-drop}
 use Rattle.std.proofs.lemmas.Bool.{cases_lt}
@@ -20,7 +21,8 @@ use Rattle.mxf_klv.specs.Parts.{CanSpell, NoteParts}
 use Rattle.mxf_klv.specs.Rising.{IsRising}
 use Rattle.mxf_catalogue.specs.declared.catalogue.file.FileFault.{FileFault}
 use Rattle.mxf_catalogue.specs.declared.catalogue.file.FileFault.TheVariants.{BadMagic, BadVersion, Truncated, BadNote}
-use Rattle.mxf_catalogue.specs.declared.catalogue.file.FileFault.TheVariants.{NotReduced, NotSorted, Trailing, OutOfMemory}
+use Rattle.mxf_catalogue.specs.declared.catalogue.file.FileFault.TheVariants.{NotReduced, NotSorted, Trailing}
+use Rattle.mxf_catalogue.specs.declared.catalogue.file.FileFault.TheVariants.{OutOfMemory}
 use Rattle.mxf_catalogue.specs.declared.catalogue.file.fixed_part.FixedPart.{FixedPart}
 use Rattle.mxf_catalogue.specs.declared.catalogue.file.start.Version.{Version}
 use Rattle.mxf_catalogue.specs.declared.catalogue.file.start.Version.TheVariants.{One, Two}
@@ -109,7 +111,8 @@ behind_first x xs [] back e l = absurd (omega arith)
 behind_first x xs (f ∷ more) back e l = (more, ap (drop 1) e)
 
 is_head_last : (notes : List NoteParts) (n : NoteParts) → Decided (IsHeadLast notes n)
-is_head_last [] n = inr (λ k. let len = ap length k.1 ∙ length-append k.0 (head_note n ∷ []) in absurd (omega (arith, len)))
+is_head_last [] n = inr (λ k. let len = ap length k.1 ∙ length-append k.0 (head_note n ∷ []) in
+    absurd (omega (arith, len)))
 is_head_last (x ∷ []) n =
     elim (same_note x (head_note n)) [
       | inl e ↦ inl ([], ap (λ y. y ∷ []) e)
@@ -211,7 +214,8 @@ fixed_part_at bytes long h =
     record {
       fixed = record { offset = offset.number; key = take 16 a; width = width.first; length = len.number };
       rest = drop 8 width.others;
-      begins = fixed_part_split bytes a (take 16 a) b width.others (drop 8 width.others) offset.number width.first len.number
+      begins = fixed_part_split bytes a (take 16 a) b width.others
+          (drop 8 width.others) offset.number width.first len.number
           offset.whole offset.small refl refl (omega arith) width.whole len.whole len.small h;
     }
 

@@ -9,17 +9,20 @@ use Rattle.mxf_klv.specs.Note.{IsNote, head_note, note_cmp}
 use Rattle.mxf_klv.specs.Rising.{In}
 use Rattle.mxf_catalogue.specs.declared.catalogue.file.FileFault.{FileFault}
 use Rattle.mxf_catalogue.specs.declared.catalogue.file.FileFault.TheVariants.{BadMagic, BadVersion, Truncated, BadNote}
-use Rattle.mxf_catalogue.specs.declared.catalogue.file.FileFault.TheVariants.{NotSorted, NotReduced, Trailing, OutOfMemory}
+use Rattle.mxf_catalogue.specs.declared.catalogue.file.FileFault.TheVariants.{NotSorted, NotReduced, Trailing}
+use Rattle.mxf_catalogue.specs.declared.catalogue.file.FileFault.TheVariants.{OutOfMemory}
 use Rattle.mxf_catalogue.specs.Content.{AreReduced, IsCatalogue, IsContent}
 use Rattle.mxf_catalogue.specs.CatalogueFile.{IsUnreducedNote}
 use Rattle.mxf_catalogue.proofs.HeadLaws.{AreReduced-part, not-AreReduced-push}
 use Rattle.mxf_catalogue.proofs.Fronts.{rising_front}
 use Rattle.mxf_catalogue.specs.declared.catalogue.file.start.Version.{Version}
 use Rattle.mxf_catalogue.specs.declared.catalogue.file.start.Version.TheVariants.{One, Two}
-use Rattle.mxf_catalogue.specs.CatalogueFile.{number_bytes, note_bytes, start_bytes, version_byte, IsFileOf, BeginsWithNote}
+use Rattle.mxf_catalogue.specs.CatalogueFile.{number_bytes, note_bytes, start_bytes, version_byte, IsFileOf}
+use Rattle.mxf_catalogue.specs.CatalogueFile.{BeginsWithNote}
 use Rattle.mxf_catalogue.specs.CatalogueFile.{CanHave, IsKnownVersion, IsUnknownVersion}
 use Rattle.mxf_catalogue.specs.CatalogueFile.{IsCutNote, IsBadNote, IsUnsortedNote, IsFront, place_after, BeginsAsFile}
-use Rattle.mxf_catalogue.specs.CatalogueFile.{IsFileOfVersion, IsHeadLast, IsRefused, ReadsFile, StopsAt, file_bytes, version_bytes}
+use Rattle.mxf_catalogue.specs.CatalogueFile.{IsFileOfVersion, IsHeadLast, IsRefused, ReadsFile, StopsAt, file_bytes}
+use Rattle.mxf_catalogue.specs.CatalogueFile.{version_bytes}
 use Rattle.mxf_catalogue.proofs.FileBytes.{same_number, same_note, same_beginning, note_uncut, note_good, cut_good}
 use Rattle.mxf_catalogue.proofs.FileBytes.{length-start_bytes}
 use Rattle.mxf_klv.proofs.Lists.{In-append, all-In, all_last}
@@ -218,7 +221,8 @@ same_late_in : (v : Version) (bytes : List ℕ) (k l : ℕ) (ns ms : List NotePa
     (r s : Result (List NoteParts) FileFault) → IsFront v bytes k ns x → IsFront v bytes l ms y
     → EndsWith v k ns x r → EndsWith v l ms y s → r ≡ s
 same_late_in v bytes k l ns ms x y r s f g e h =
-    let starts : number_bytes k ++ (flat_map (note_bytes v) ns ++ x) ≡ number_bytes l ++ (flat_map (note_bytes v) ms ++ y)
+    let starts : number_bytes k ++ (flat_map (note_bytes v) ns ++ x)
+    ≡ number_bytes l ++ (flat_map (note_bytes v) ms ++ y)
     = ap (drop 8) (sym f.whole ∙ g.whole) in
     let same = same_number k l _ _ f.fits g.fits starts in
     same_walk v k [] ns ms x y r s f.catalogue.members g.catalogue.members f.can_have g.can_have f.catalogue.content

@@ -23,7 +23,8 @@ use Rattle.mxf_klv.specs.Written.{StopsIn, WritesPart, counted}
 use Rattle.mxf_klv.proofs.WrittenParts.{StopsIn-part, WritesPart-after}
 use Rattle.mxf_catalogue.specs.declared.catalogue.file.FileFault.{FileFault}
 use Rattle.mxf_catalogue.specs.declared.catalogue.file.FileFault.TheVariants.{BadMagic, BadVersion, Truncated, BadNote}
-use Rattle.mxf_catalogue.specs.declared.catalogue.file.FileFault.TheVariants.{NotSorted, NotReduced, Trailing, OutOfMemory}
+use Rattle.mxf_catalogue.specs.declared.catalogue.file.FileFault.TheVariants.{NotSorted, NotReduced, Trailing}
+use Rattle.mxf_catalogue.specs.declared.catalogue.file.FileFault.TheVariants.{OutOfMemory}
 use Rattle.mxf_catalogue.specs.declared.catalogue.file.fixed_part.FixedPart.{FixedPart}
 use Rattle.mxf_catalogue.specs.Content.{IsContent}
 use Rattle.mxf_catalogue.specs.declared.catalogue.file.start.Version.{Version}
@@ -173,7 +174,8 @@ WritesPart-second a b c before mid after r bytes part rest is p m q =
 
 -- the bytes of notes, of which one stands behind some and before others
 flat_at : (notes done rest : List NoteParts) (n : NoteParts) → done ++ n ∷ rest ≡ notes
-    → (flat_map (note_bytes Two) done ++ note_bytes Two n) ++ flat_map (note_bytes Two) rest ≡ flat_map (note_bytes Two) notes
+    → (flat_map (note_bytes Two) done ++ note_bytes Two n) ++ flat_map (note_bytes Two) rest
+    ≡ flat_map (note_bytes Two) notes
 flat_at notes done rest n is =
     append_assoc (flat_map (note_bytes Two) done) (note_bytes Two n) (flat_map (note_bytes Two) rest)
     ∙ sym (flat_map-append (note_bytes Two) done (n ∷ rest)) ∙ ap (flat_map (note_bytes Two)) is
@@ -186,7 +188,8 @@ pub fails_in_note : (a b c : Option (List ℕ)) (before mid after : ℕ) (e : Wr
     → StopsIn a c before e (flat_map (note_bytes Two) notes) × (after ≡ e.written)
 fails_in_note a b c before mid after e notes done rest n is p m (q, told) = (
   subst (StopsIn a c before e) (flat_at notes done rest n is)
-      (StopsIn-part a b c before mid e (flat_map (note_bytes Two) done) (note_bytes Two n) (flat_map (note_bytes Two) rest) p m q),
+      (StopsIn-part a b c before mid e (flat_map (note_bytes Two) done) (note_bytes Two n) (flat_map
+      (note_bytes Two) rest) p m q),
   told,
 )
 
@@ -230,7 +233,8 @@ note_fault v bytes rest count place notes BadMagic f lt at r = absurd r
 note_fault v bytes rest count place notes BadVersion f lt at r = absurd r
 note_fault v bytes rest count place notes (Truncated p) f lt at r = inr
     (stops v bytes rest count p notes _ f (r.0 ∙ at) (lt, r.1))
-note_fault v bytes rest count place notes (BadNote p) f lt at r = stops v bytes rest count p notes _ f (r.0 ∙ at) (lt, r.1)
+note_fault v bytes rest count place notes (BadNote p) f lt at r = stops v bytes rest count p notes _ f (r.0
+    ∙ at) (lt, r.1)
 note_fault v bytes rest count place notes (NotSorted p) f lt at r = absurd r
 note_fault v bytes rest count place notes (NotReduced p) f lt at r = absurd r
 note_fault v bytes rest count place notes (Trailing p) f lt at r = absurd r

@@ -11,7 +11,8 @@ use Rattle.mxf_catalogue.specs.Content.{reduced_with, reduced_union-IsUnion, uni
 use Rattle.mxf_catalogue.specs.Reduced.{IsKnown}
 use Rattle.mxf_catalogue.proofs.ContentLaws.{In-with_note, IsContent-union_of, IsContent-with_note}
 use Rattle.mxf_catalogue.specs.ReducedLaws.{Has-reduce, Has-union, Has-with_one, In-reduce, In-untold}
-use Rattle.mxf_catalogue.specs.ReducedLaws.{IsReduced-reduce, IsRising-reduce, one_from_has, reduce-reduced, same_or_not}
+use Rattle.mxf_catalogue.specs.ReducedLaws.{IsReduced-reduce, IsRising-reduce, one_from_has, reduce-reduced}
+use Rattle.mxf_catalogue.specs.ReducedLaws.{same_or_not}
 use Rattle.mxf_catalogue.specs.ReducedLaws.{reduce-union, same_from_has}
 use Rattle.mxf_catalogue.proofs.ReducedPlaces.{next_tells, reduced_push, swap_is}
 use Rattle.mxf_catalogue.proofs.ReducedPlaces.{unreduced_push}
@@ -58,7 +59,8 @@ one_reduced a b r s p q h = one_from_has note_total note_cmp-IsAntisymmetric hea
 pub In-located : (handed : NoteParts → Type 0) (notes : List NoteParts) → AreReduced notes
     → ((n : NoteParts) → has_note notes n ↔ IsKnown head_note handed n) → (n : NoteParts)
     → In n notes ↔ IsLocated handed n
-In-located handed notes r h n = In-untold note_total note_cmp-IsAntisymmetric head_note head_note-once handed notes r h n
+In-located handed notes r h n = In-untold note_total note_cmp-IsAntisymmetric head_note head_note-once handed notes r h
+    n
 
 pub IsContent-reduced_with : (n : NoteParts) (notes : List NoteParts) → IsContent notes
     → IsContent (reduced_with n notes)
@@ -110,7 +112,8 @@ reduced-before a b r s = reduce-union note_total note_cmp-IsAntisymmetric head_n
 
 pub reduced_union-none : (b : List NoteParts) → IsContent b → AreReduced b → reduced_union [] b ≡ b
 reduced_union-none b r p =
-    one_reduced (reduced_union [] b) b (IsContent-reduced_union [] b tt) r (AreReduced-reduced_union [] b (λ x i k. i)) p
+    one_reduced (reduced_union [] b) b (IsContent-reduced_union [] b tt) r (AreReduced-reduced_union [] b
+    (λ x i k. i)) p
     (λ n. let u = has-reduced_union n [] b in (
       λ h. elim (u.0 h) [ inl k ↦ elim k [ inl i ↦ absurd i | inr s ↦ absurd s.1 ] | inr k ↦ k ],
       λ h. u.1 (inr h),

@@ -10,7 +10,8 @@ use Rattle.mxf_catalogue.specs.Reduced.{IsKnown}
 use Rattle.mxf_catalogue.specs.History.{Hands, HandsSame, content}
 use Rattle.mxf_catalogue.specs.History.{History, New, Add, Join, Read, Absorb, Cut, Of}
 use Rattle.mxf_catalogue.proofs.ContentLaws.{same_content}
-use Rattle.mxf_catalogue.proofs.HeadLaws.{AreReduced-reduced, AreReduced-reduced_union, IsContent-reduced_union, IsContent-reduced_with, In-located}
+use Rattle.mxf_catalogue.proofs.HeadLaws.{AreReduced-reduced, AreReduced-reduced_union, IsContent-reduced_union}
+use Rattle.mxf_catalogue.proofs.HeadLaws.{IsContent-reduced_with, In-located}
 use Rattle.mxf_klv.proofs.HeadOrder.{head_note-once}
 use Rattle.mxf_catalogue.proofs.HeadLaws.{has-reduced_union, has-reduced_with, one_reduced}
 

@@ -11,7 +11,8 @@ use Rattle.mxf_catalogue.specs.declared.run.Run.{Run}
 use Rattle.mxf_catalogue.specs.Content.{AreReduced, IsCatalogue, has_note, reduced_with, union_of, with_note}
 use Rattle.mxf_catalogue.specs.Covers.{IsRun, spanned, with_run}
 use Rattle.mxf_catalogue.specs.Disputes.{SharesByte, whole_notes}
-use Rattle.mxf_catalogue.specs.NoteLists.{AreNoteLists, Covers, AreKeptLists, AreCatalogueFields, Spans, away_from, covered_run, disputed_with}
+use Rattle.mxf_catalogue.specs.NoteLists.{AreNoteLists, Covers, AreKeptLists, AreCatalogueFields, Spans, away_from}
+use Rattle.mxf_catalogue.specs.NoteLists.{covered_run, disputed_with}
 use Rattle.mxf_catalogue.specs.NoteLists.{moved_by, run_of, touching}
 use Rattle.mxf_catalogue.specs.Runs.{LiesIn}
 use Rattle.mxf_catalogue.proofs.ContentLaws.{In-union_of, IsCatalogue-union_of}
@@ -170,7 +171,8 @@ end_of_parts c d few k one two bound p q = (
         let from : n.offset ≤ end_of n - 1 = omega arith in
         let before : end_of n - 1 + 1 ≤ end_of n = omega arith in
         let low : end_of n - 1 < bound =
-        q.0 (omega (arith, l)) (end_of n - 1) ((k.covers (end_of n - 1)).1 (n, i, record { from = from; before = before })) in
+        q.0 (omega (arith, l)) (end_of n - 1) ((k.covers (end_of n - 1)).1
+        (n, i, record { from = from; before = before })) in
         omega (arith, low)
   ],
   λ f.

@@ -99,7 +99,11 @@ module _ {K : Type 0} {R : K → K → Ordering} (o : IsTotalOrder R) (same : Is
               | inl i ↦ inr (old.1 (inl i), λ e. not_itself h (subst (λ v. R v h ≡ Less) e (before xs ys h x r i)))
               | inr i ↦ elim i [
                 | inl e ↦ inl e
-                | inr j ↦ inr (old.1 (inr (inr j)), λ e. not_itself h (subst (λ v. R h v ≡ Less) e (behind xs ys h x r j)))
+                | inr j ↦ inr (
+                  old.1 (inr (inr j)),
+                  λ e. not_itself h (subst (λ v. R h v
+                      ≡ Less) e (behind xs ys h x r j)),
+                )
               ]
             ],
             λ k. elim k [

@@ -1,7 +1,8 @@
 -- The file of a catalogue (this project's profile): sixteen bytes that tell the format, its version and the number of
 -- notes, then the notes, each above the one before. A note is a fixed part of 33 bytes, a mark of one byte and what the
 -- note holds. Version 1 has no marks, and so no heads.
-use Rattle.std.specs.Prelude.{◌≡◌, ◌≢◌, ◌==◌, ℕ, ◌+◌, ◌^◌, ◌<◌, ◌≤◌, ◌⊎◌, Bool, if◌then◌else◌, List, [], ◌∷◌, ◌++◌, length, take}
+use Rattle.std.specs.Prelude.{◌≡◌, ◌≢◌, ◌==◌, ℕ, ◌+◌, ◌^◌, ◌<◌, ◌≤◌, ◌⊎◌, Bool, if◌then◌else◌, List, [], ◌∷◌, ◌++◌}
+use Rattle.std.specs.Prelude.{length, take}
 use Rattle.std.specs.Prelude.{flat_map, slice_get, IsSomeAnd, IfSome, IsTrue, Result, Ok, Err}
 use Rattle.std.specs.List.{AllByRecursion}
 use Rattle.std.specs.Int.{w64, to_be_bytes}
@@ -206,7 +207,8 @@ IsRefused bytes faults.BadVersion = BeginsAsFile bytes × IsSomeAnd (slice_get b
 IsRefused bytes (faults.Truncated p) =
     ((p ≡ 0) × BeginsAsFile bytes × IfSome (slice_get bytes 7) IsKnownVersion × (length bytes < 16))
     ⊎ StopsAt bytes p (λ version count notes rest. (length notes < count) × IsCutNote version rest)
-IsRefused bytes (faults.BadNote p) = StopsAt bytes p (λ version count notes rest. (length notes < count) × IsBadNote version rest)
+IsRefused bytes (faults.BadNote p) = StopsAt bytes p (λ version count notes rest. (length notes < count)
+    × IsBadNote version rest)
 IsRefused bytes (faults.NotSorted p) =
     StopsAt bytes p (λ version count notes rest. (length notes < count) × IsUnsortedNote version notes rest)
 IsRefused bytes (faults.NotReduced p) =

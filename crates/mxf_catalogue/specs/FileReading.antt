@@ -17,7 +17,8 @@ pub record NoteBehindMark (f : FixedPart) (mark : ℕ) (bytes : List ℕ) (n : N
 
 -- Why there is none, at a place of the file.
 abbrev pub RefusesBehindMark : ℕ → FixedPart → ℕ → List ℕ → FileFault → Type 0
-RefusesBehindMark place f mark bytes (faults.Truncated p) = (p ≡ place) × CanBeMarked f mark × (length bytes < held_length f mark)
+RefusesBehindMark place f mark bytes (faults.Truncated p) = (p
+    ≡ place) × CanBeMarked f mark × (length bytes < held_length f mark)
 RefusesBehindMark place f mark bytes (faults.BadNote p) = (p ≡ place) × ¬ CanBeMarked f mark
 RefusesBehindMark place f mark bytes faults.OutOfMemory = Unit {0}
 RefusesBehindMark place f mark bytes faults.BadMagic = ⊥

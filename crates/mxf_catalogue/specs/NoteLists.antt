@@ -1,4 +1,5 @@
--- A content in two parts, its undisputed notes and its disputed ones, and what a new note moves (this project's profile).
+-- A content in two parts, its undisputed notes and its disputed ones, and what a new note moves (this project's
+-- profile).
 use Rattle.std.specs.Prelude.{◌≢◌, ◌↔◌, ◌⊎◌, ℕ, List, filter, map, not}
 use Rattle.mxf_klv.specs.Parts.{NoteParts}
 use Rattle.mxf_klv.specs.Note.{IsCovered, IsInSpan, covered_end, end_of}

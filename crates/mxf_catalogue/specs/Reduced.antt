@@ -1,5 +1,5 @@
--- Lists in which an element may tell another, as a packet read whole tells its head: what a listed one tells need not be
--- listed (this project's profile). `tells x` is what x tells; each tells itself, or one that tells itself.
+-- Lists in which an element may tell another, as a packet read whole tells its head: what a listed one tells need not
+-- be listed (this project's profile). `tells x` is what x tells; each tells itself, or one that tells itself.
 use Rattle.std.specs.Prelude.{◌≡◌, ◌≢◌, ◌⊎◌, Bool, not, ◌&&◌, List, filter}
 use Rattle.std.specs.List.{list_any}
 use Rattle.std.specs.Ordering.{eq_by_cmp}

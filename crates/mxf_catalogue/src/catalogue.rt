@@ -67,7 +67,8 @@ impl Model for Catalogue {
 
     ghost view = { λ c. union_of c.parts.undisputed.items c.parts.disputed.items };
 
-    ghost invariant = { λ c. AreCatalogueFields c.parts.undisputed.items c.parts.disputed.items c.parts.disputed_spans.items c.spans };
+    ghost invariant = { λ c. AreCatalogueFields c.parts.undisputed.items c.parts.disputed.items
+        c.parts.disputed_spans.items c.spans };
 }
 
 impl Catalogue {
@@ -81,8 +82,8 @@ impl Catalogue {
         }
     }
 
-    /// Adds the note, which takes the place of its head where that is held. A held note, and the head of one, is `Repeated`
-    /// and takes no memory.
+    /// Adds the note, which takes the place of its head where that is held. A held note, and the head of one, is
+    /// `Repeated` and takes no memory.
     ///
     /// The only fault is want of memory. The note comes back and the catalogue is unchanged: all memory is taken before
     /// a note is moved.
@@ -139,8 +140,8 @@ impl Catalogue {
     /// An empty catalogue takes the other as it is. Notes that stand above all of these are put behind them. Otherwise
     /// the notes of both are put into new parts, in their order: one pass over both.
     ///
-    /// The only fault is want of memory. The other comes back and this catalogue is unchanged: all memory is taken before
-    /// a note of either is moved.
+    /// The only fault is want of memory. The other comes back and this catalogue is unchanged: all memory is taken
+    /// before a note of either is moved.
     pub fn merge(&mut self, other: Catalogue) -> Result<(), MergeFault>
         ensures merged { OnOk result (self.new ≡ reduced_union self.old other) }
         ensures err { OnErr result (self.new ≡ self.old) }
@@ -199,8 +200,8 @@ impl Catalogue {
         Ok(())
     }
 
-    /// A catalogue of the notes of a content. Where each begins at or above the end of the one before, their list is taken
-    /// over as it is.
+    /// A catalogue of the notes of a content. Where each begins at or above the end of the one before, their list is
+    /// taken over as it is.
     fn of_notes(alloc: Global, notes: Vec<Note>) -> Result<Catalogue, OutOfMemory>
         requires catalogue { IsCatalogue notes.items }
         requires reduced { AreReduced notes.items }
@@ -290,7 +291,8 @@ impl Catalogue {
         Notes::of(&self.parts.undisputed, &self.parts.disputed)
     }
 
-    /// A law of each catalogue: its notes are a reduced content, its clear notes stand apart, and a count of either fits.
+    /// A law of each catalogue: its notes are a reduced content, its clear notes stand apart, and a count of either
+    /// fits.
     pub fn laws(&self)
         ensures catalogue { IsCatalogue self.now }
         ensures reduced { AreReduced self.now }
@@ -312,8 +314,8 @@ impl Catalogue {
         ClearNotes::of(&self.parts.undisputed)
     }
 
-    /// The clear notes whose packets lie wholly in the range of so many bytes from `start` on, in their order: two binary
-    /// searches. The range may go on beyond all offsets.
+    /// The clear notes whose packets lie wholly in the range of so many bytes from `start` on, in their order: two
+    /// binary searches. The range may go on beyond all offsets.
     pub fn clear_within(&self, start: u64, bytes: u64) -> ClearNotes<'_>
         ensures notes { result ≡ filter (lies_in start bytes) (clear_notes self.now) }
         ensures apart { AreApart 0 result }
@@ -323,8 +325,8 @@ impl Catalogue {
         ClearNotes::of(within(&self.parts.undisputed, start, bytes))
     }
 
-    /// The clear notes that share a byte with the note, in their order: two binary searches. Where the catalogue hasn't the
-    /// note ([`Catalogue::has`]), they are those that adding it moves.
+    /// The clear notes that share a byte with the note, in their order: two binary searches. Where the catalogue hasn't
+    /// the note ([`Catalogue::has`]), they are those that adding it moves.
     pub fn clear_touching(&self, note: &Note) -> ClearNotes<'_>
         ensures notes { result ≡ touching note.now (clear_notes self.now) }
         ensures apart { AreApart 0 result }

@@ -46,7 +46,8 @@ fn clear_offsets(alloc: Global, all: &Catalogue) -> Result<Vec<u64>, AllocError>
 
 /// The offsets of the disputed notes, with their marks.
 fn marks(alloc: Global, all: &Catalogue) -> Result<Vec<(u64, bool, bool)>, AllocError>
-    ensures { IfOk result (λ v. v.items ≡ map (λ d. (d.note.offset, d.same_offset, d.overlaps)) (disputed_notes all.now)) }
+    ensures { IfOk result (λ v. v.items ≡ map (λ d. (d.note.offset, d.same_offset, d.overlaps))
+        (disputed_notes all.now)) }
 {
     all.disputed()
         .map(|d| (d.note.offset(), d.same_offset, d.overlaps))

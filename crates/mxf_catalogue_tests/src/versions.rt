@@ -244,8 +244,8 @@ fn versions_are_told(alloc: Global, file: &[u8], cut: &[u8]) -> Result<bool, Fai
     Ok(start_is_refused(alloc, 1, 2, &[cut], FileFault::BadNote(137))? && old && new)
 }
 
-// The first value begins with 00, so version 2 reads a mark there, and the value with a byte of the next note. Version 1
-// reads the mark for a byte of the value, and the last byte of that for the next note's.
+// The first value begins with 00, so version 2 reads a mark there, and the value with a byte of the next note. Version
+// 1 reads the mark for a byte of the value, and the last byte of that for the next note's.
 #[test]
 fn a_file_that_says_the_other_version_has_a_bad_second_note(rt: HostRuntime) -> Result<(), Fail> {
     let alloc = rt.alloc();

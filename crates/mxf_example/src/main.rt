@@ -1,11 +1,11 @@
-//! An example of the crates: gathers a piece of a recording and a saved catalogue, asks for the partitions and gaps of what
-//! they hold together, and saves what is known.
+//! An example of the crates: gathers a piece of a recording and a saved catalogue, asks for the partitions and gaps of
+//! what they hold together, and saves what is known.
 //!
 //! `mxf_example OFFSET PIECE CATALOGUE`: the first byte of the file PIECE lies at byte OFFSET of the recording, and
 //! CATALOGUE is the file of a catalogue.
 //!
-//! [`mxf_read`] is the entrance for pieces and saved catalogues, [`mxf_views`] for questions, [`mxf_catalogue`] for what is
-//! saved and joined.
+//! [`mxf_read`] is the entrance for pieces and saved catalogues, [`mxf_views`] for questions, [`mxf_catalogue`] for
+//! what is saved and joined.
 #![tactic(auto)]
 
 use anyhow::{Context, Result};

@@ -20,7 +20,8 @@ use Rattle.mxf_klv.proofs.StopLaws.{at_cut, stops}
 
 abbrev heads_for : ℕ → List ℕ → Option LengthParts → List NoteParts
 heads_for offset bytes o =
-    option_map_or (λ l. cond (is_cut_at offset bytes l) (head_parts offset (take 16 bytes) l.width l.value ∷ []) []) o []
+    option_map_or (λ l. cond (is_cut_at offset bytes l) (head_parts offset
+    (take 16 bytes) l.width l.value ∷ []) []) o []
 
 heads_at-is : (offset : ℕ) (bytes : List ℕ) → heads_at offset bytes ≡ heads_for offset bytes (head_at bytes)
 unfolding heads_at head_at
@@ -42,7 +43,8 @@ heads_at-cut offset bytes key after l h near short =
     ∙ cond-true _ _ _ (and_from _ _ (lt-ltb (length bytes) (16 + l.width + l.value) (omega arith))
     (le-leb (offset + (16 + l.width + l.value)) greatest_end near))
 
-pub heads_at-whole : (offset : ℕ) (bytes key after : List ℕ) (l : LengthParts) → BeginsWithKeyAndLength bytes key l after
+pub heads_at-whole : (offset : ℕ) (bytes key after : List ℕ) (l : LengthParts)
+    → BeginsWithKeyAndLength bytes key l after
     → l.value ≤ length after → heads_at offset bytes ≡ []
 heads_at-whole offset bytes key after l h whole =
     let size = head-size h in
@@ -66,28 +68,29 @@ heads_at-none offset bytes none =
 pub heads_at-stands : (offset : ℕ) (bytes : List ℕ) (n : NoteParts)
     → In n (heads_at offset bytes) ↔ BeginsWithCut offset bytes n
 heads_at-stands offset bytes n = (
-  λ h. elim (head_at bytes) as (λ o. head_at bytes ≡ o → In n (heads_for offset bytes o) → BeginsWithCut offset bytes n) [
-    | None ↦ λ e i. absurd i
-    | Some l ↦ λ e i.
-        elim (is_cut_at offset bytes l) as (λ b. is_cut_at offset bytes l ≡ b
-        → In n (cond b (head_parts offset (take 16 bytes) l.width l.value ∷ []) []) → BeginsWithCut offset bytes n) [
-          | true ↦ λ t j.
-              let p = and_parts (nat_lt (length bytes) (16 + l.width + l.value)) _ t in
-              let short = ltb-true (length bytes) (16 + l.width + l.value) p.0 in
-              let stands = head_at-stands bytes l e in
-              let size = head-size stands in
-              record {
-                key = take 16 bytes;
-                length = l;
-                after = drop l.width (drop 16 bytes);
-                stands = stands;
-                cut = omega arith;
-                within = leb-true _ _ p.1;
-                head = elim j [ inl q ↦ q | inr z ↦ absurd z ];
-              }
-          | false ↦ λ t j. absurd j
-        ] refl i
-  ] refl (subst (In n) (heads_at-is offset bytes) h),
+  λ h. elim (head_at bytes) as (λ o. head_at bytes ≡ o → In n (heads_for offset bytes o)
+      → BeginsWithCut offset bytes n) [
+        | None ↦ λ e i. absurd i
+        | Some l ↦ λ e i.
+            elim (is_cut_at offset bytes l) as (λ b. is_cut_at offset bytes l ≡ b
+            → In n (cond b (head_parts offset (take 16 bytes) l.width l.value ∷ []) []) → BeginsWithCut offset bytes n) [
+              | true ↦ λ t j.
+                  let p = and_parts (nat_lt (length bytes) (16 + l.width + l.value)) _ t in
+                  let short = ltb-true (length bytes) (16 + l.width + l.value) p.0 in
+                  let stands = head_at-stands bytes l e in
+                  let size = head-size stands in
+                  record {
+                    key = take 16 bytes;
+                    length = l;
+                    after = drop l.width (drop 16 bytes);
+                    stands = stands;
+                    cut = omega arith;
+                    within = leb-true _ _ p.1;
+                    head = elim j [ inl q ↦ q | inr z ↦ absurd z ];
+                  }
+              | false ↦ λ t j. absurd j
+            ] refl i
+      ] refl (subst (In n) (heads_at-is offset bytes) h),
   λ c. subst (In n) (sym (heads_at-cut offset bytes c.key c.after c.length c.stands c.within c.cut)) (inl c.head),
 )
 
@@ -110,7 +113,8 @@ cut_by offset bytes key after l (Some n) h short s =
     let cut : length after < l.value = omega (arith, short) in
     let near = s.0 in
     record {
-      some = heads_at-cut offset bytes key after l h (omega (arith, near)) cut ∙ ap (λ (m : NoteParts). m ∷ []) (sym s.1);
+      some = heads_at-cut offset bytes key after l h (omega (arith, near)) cut
+          ∙ ap (λ (m : NoteParts). m ∷ []) (sym s.1);
       none = tt;
     }
 cut_by offset bytes key after l None h short s =

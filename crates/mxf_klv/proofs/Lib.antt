@@ -17,3 +17,6 @@ pub mod Lists
 pub mod ListSteps
 pub mod Counts
 pub mod RisingBy
+pub mod NoteFilters
+pub mod SmallPackets
+pub mod SortedUnions

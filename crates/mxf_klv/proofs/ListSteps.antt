@@ -67,7 +67,8 @@ rest_written {K} xs zs ys at len e whole l m =
     let first = length-take at xs in
     let size : length (take at xs ++ ys) ≡ length xs = omega (arith, count, first, l, m) in
     ap (λ (l : List K). take len (l ++ drop (length l) xs)) same
-    ∙ ap (λ (l : List K). take len ((take at xs ++ ys) ++ l)) (drop_all (length (take at xs ++ ys)) xs (omega (arith, size)))
+    ∙ ap (λ (l : List K). take len ((take at xs ++ ys) ++ l)) (drop_all (length (take at xs
+    ++ ys)) xs (omega (arith, size)))
     ∙ ap (take len) (append-nil (take at xs ++ ys)) ∙ take_all len (take at xs ++ ys) (omega (arith, size, whole))
 
 -- A range as std takes it out.

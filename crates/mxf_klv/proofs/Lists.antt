@@ -1,5 +1,6 @@
 -- Members of lists that are tested, filtered, searched, mapped and appended.
-use Rattle.std.proofs.Common.{◌≡◌, ◌↔◌, ◌⊎◌, ◌≤◌, ◌<◌, ◌&&◌, ◌||◌, ◌==◌, ℕ, zero, suc, Bool, true, false, cond, not, List, [], ◌∷◌, ◌++◌}
+use Rattle.std.proofs.Common.{◌≡◌, ◌↔◌, ◌⊎◌, ◌≤◌, ◌<◌, ◌&&◌, ◌||◌, ◌==◌, ℕ, zero, suc, Bool, true, false, cond, not}
+use Rattle.std.proofs.Common.{List, [], ◌∷◌, ◌++◌}
 use Rattle.std.proofs.Common.{Option, Some, None, IsTrue, Contains, refl, sym, ◌∙◌, ap, subst, inl, inr, arith, length}
 use Rattle.std.proofs.Common.{filter, filter_map, find, flat_map, get_or, is_some, map}
 use Rattle.std.specs.List.{cons_option, list_all, list_any, AllByRecursion}

@@ -55,7 +55,8 @@ end_after-append o (p ∷ ps) qs = end_after-append (o + size_of p) ps qs
 pub notes_from-append : (o : ℕ) (ps qs : List PacketParts)
     → notes_from o (ps ++ qs) ≡ notes_from o ps ++ notes_from (end_after o ps) qs
 notes_from-append o [] qs = refl
-notes_from-append o (p ∷ ps) qs = ap (λ (ns : List NoteParts). note_of o p ∷ ns) (notes_from-append (o + size_of p) ps qs)
+notes_from-append o (p ∷ ps) qs = ap (λ (ns : List NoteParts). note_of o p ∷ ns) (notes_from-append
+    (o + size_of p) ps qs)
 
 laid_more : (o : ℕ) (m r b s : List ℕ) (ps qs : List PacketParts) → AreLaid o m ps r
     → AreLaid (end_after o ps) (r ++ b) qs s → AreLaid o (m ++ b) (ps ++ qs) s
@@ -119,14 +120,19 @@ one_more o m b p e whole =
     let at = end_after o ps in
     let t = rest_in o m ++ b in
     let after = drop (size_of p) t in
-    let none : packet_at (at + size_of p) after ≡ None = none_at_end (at + size_of p) after (omega (arith, length-drop (size_of p) t)) in
+    let none : packet_at (at + size_of p) after ≡ None = none_at_end (at + size_of p) after (omega (
+      arith,
+      length-drop
+          (size_of p) t,
+    )) in
     let packets : packets_in o (m ++ b) ≡ ps ++ p ∷ [] =
     s.packets ∙ ap (λ (qs : List PacketParts). ps ++ qs) (packets_in-some at t p e)
     ∙ ap (λ (qs : List PacketParts). ps ++ p ∷ qs) (packets_in-none (at + size_of p) after none) in
     record {
       notes = ap (notes_from o) packets ∙ notes_from-append o ps (p ∷ []);
       at = ap (end_after o) packets ∙ end_after-append o ps (p ∷ []);
-      rest = s.rest ∙ rest_in-some at t p e ∙ rest_in-none (at + size_of p) after none ∙ nil_from_length after (omega (arith, length-drop (size_of p) t));
+      rest = s.rest ∙ rest_in-some at t p e ∙ rest_in-none (at + size_of p) after none ∙ nil_from_length after (omega
+          (arith, length-drop (size_of p) t));
     }
 
 -- ---- heads
@@ -145,7 +151,8 @@ pub no_head_no_packet : (at : ℕ) (r : List ℕ) → HasNoKeyAndLength r → pa
 no_head_no_packet at r none =
     none-packet_at at r (λ front after p s is.
     absurd (none p.key (p.value ++ after) (record { width = p.width; value = length p.value })
-    (subst (λ (t : List ℕ). BeginsWithKeyAndLength t p.key (record { width = p.width; value = length p.value }) (p.value ++ after))
+    (subst (λ (t : List ℕ). BeginsWithKeyAndLength t p.key (record { width = p.width; value = length p.value }) (p.value
+    ++ after))
     (sym is) (head_in front after p s))))
 
 -- A value that has come whole makes a packet, behind which nil_from_length has come.
@@ -181,7 +188,12 @@ pub record IsHeadNow (r x key : List ℕ) (l : LengthParts) : Type 0 where
 head_front : (r key : List ℕ) (l : LengthParts) (after : List ℕ) (n : ℕ) → BeginsWithKeyAndLength r key l after
     → 16 + l.width ≤ n → BeginsWithKeyAndLength (take n r) key l (take (n - (16 + l.width)) after)
 head_front r key l after n h long =
-    let k : length (key ++ h.spelled) ≡ 16 + l.width = omega (arith, length-append key h.spelled, h.label.0, head-width h) in
+    let k : length (key ++ h.spelled) ≡ 16 + l.width = omega (
+      arith,
+      length-append key h.spelled,
+      h.label.0,
+      head-width h,
+    ) in
     let all : r ≡ (key ++ h.spelled) ++ after = h.whole ∙ sym (append_assoc key h.spelled after) in
     record {
       spelled = h.spelled;
@@ -324,7 +336,11 @@ stays at r x (BadLength place) none e o =
     elim is.1 [
       | inl bad ↦
           let f = first_stays r x 128 bad.1 in
-          let reads : ReadsPacket (r ++ x) (Err faults.Indefinite) = (long_begins r x bad.0 (let l = f.0 in omega arith), f.1) in
+          let reads : ReadsPacket (r ++ x) (Err faults.Indefinite) = (
+            long_begins r x bad.0 (let l = f.0 in
+                omega arith),
+            f.1,
+          ) in
           stays_fault at r x faults.Indefinite (BadLength place) e reads (is.0, inl reads)
       | inr bad ↦
           let reads : ReadsPacket (r ++ x) (Err faults.TooWide) = wide_stays r x bad.0 bad.1 in

@@ -21,7 +21,8 @@ use Rattle.mxf_klv.specs.declared.packet.PacketFault.TheVariants as faults
 use Rattle.mxf_klv.specs.declared.piece.Stop.{Stop}
 use Rattle.mxf_klv.specs.declared.piece.Stop.TheVariants.{End, NotUl, BadLength, TooFar, Truncated}
 use Rattle.mxf_klv.proofs.LengthLemmas.{one_reading, wide_found}
-use Rattle.mxf_klv.proofs.KeyAndLengthLaws.{head_of, head-begins, head-cut, head-length, head-packet, head-size, head_in}
+use Rattle.mxf_klv.proofs.KeyAndLengthLaws.{head_of, head-begins, head-cut, head-length, head-packet, head-size}
+use Rattle.mxf_klv.proofs.KeyAndLengthLaws.{head_in}
 use Rattle.mxf_klv.proofs.KeyAndLengthLaws.{no_head, no_head_short}
 use Rattle.mxf_klv.proofs.PacketLemmas.{key_cut, label_of, length_cut}
 use Rattle.mxf_klv.proofs.PacketLaw.{cut_begins, no_fault_cut}
@@ -301,7 +302,8 @@ at_fault offset bytes f g some same r =
     }
 
 -- two heads of the same bytes have one length
-same_length : (bytes j k a b : List ℕ) (l m : LengthParts) → BeginsWithKeyAndLength bytes j l a → BeginsWithKeyAndLength bytes k m b
+same_length : (bytes j k a b : List ℕ) (l m : LengthParts) → BeginsWithKeyAndLength bytes j l a
+    → BeginsWithKeyAndLength bytes k m b
     → l ≡ m
 same_length bytes j k a b l m h i =
     let e : Ok l ≡ Ok m = one_reading (drop 16 bytes) (Ok l) (Ok m) (head-length h) (head-length i) in
@@ -312,7 +314,8 @@ pub at_far : (offset : ℕ) (bytes key after : List ℕ) (l : LengthParts) → B
     → greatest_end < offset + (16 + l.width + l.value) → Stopped offset bytes (TooFar offset)
 at_far offset bytes key after l h far = record {
   none = λ front rest p s is.
-      let other = subst (λ (t : List ℕ). BeginsWithKeyAndLength t p.key (record { width = p.width; value = length p.value })
+      let other = subst (λ (t : List ℕ). BeginsWithKeyAndLength t p.key
+      (record { width = p.width; value = length p.value })
       (p.value ++ rest)) (sym is) (head_in front rest p s) in
       let same = same_length bytes key p.key after (p.value ++ rest) l _ h other in
       let width : l.width ≡ p.width = ap (λ (m : LengthParts). m.width) same in

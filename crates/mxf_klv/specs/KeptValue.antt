@@ -34,8 +34,8 @@ IsKeptBy (Whole f v) len = (keeps f.key len ≡ true) × (length v.items ≡ len
 IsKeptBy (Digest f d) len = (keeps f.key len ≡ false) × (length d ≡ 32)
 IsKeptBy (Head f) len = Unit {0}
 
--- What holds of a note's fields: the key is a label and tells the kind, the width can spell the length, the packet ends at
--- or below the greatest end, and as much is kept as has to be.
+-- What holds of a note's fields: the key is a label and tells the kind, the width can spell the length, the packet ends
+-- at or below the greatest end, and as much is kept as has to be.
 pub record AreNoteFields (offset len : ℕ) (kept : KeptValue) : Type 0 where
   pub label : IsLabel (front_of kept).key
   pub kind : (front_of kept).kind ≡ kind_of (front_of kept).key
@@ -43,8 +43,8 @@ pub record AreNoteFields (offset len : ℕ) (kept : KeptValue) : Type 0 where
   pub within : offset + 16 + (front_of kept).width + len ≤ greatest_end
   pub value : IsKeptBy kept len
 
--- What is shown of a note's value is what the note holds: the whole value exactly where the note keeps it, the digest of
--- another that was read whole, and nothing of a head's.
+-- What is shown of a note's value is what the note holds: the whole value exactly where the note keeps it, the digest
+-- of another that was read whole, and nothing of a head's.
 abbrev pub Shows : Held → NoteParts → Type 0
 Shows (held.Whole v) n = (keeps_value n ≡ true) × (v.now ≡ n.held)
 Shows (held.Digest d) n = (n.whole ≡ true) × (keeps_value n ≡ false) × (d.now ≡ n.held)

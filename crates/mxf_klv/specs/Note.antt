@@ -37,8 +37,8 @@ covered_end n = if n.whole then end_of n else n.offset + 16 + n.width
 abbrev pub held_length : NoteParts → ℕ
 held_length n = if n.whole then (if keeps n.key n.length then n.length else 32) else 0
 
--- A note: its key is a label, its width can spell its length, it ends at or below the greatest end, and it holds as many
--- bytes as it has to.
+-- A note: its key is a label, its width can spell its length, it ends at or below the greatest end, and it holds as
+-- many bytes as it has to.
 pub record IsNote (n : NoteParts) : Type 0 where
   pub label : IsLabel n.key
   pub width : CanSpell n.width n.length
@@ -80,8 +80,8 @@ CanNote n whole = CanSpell n.width n.length × (end_of n ≤ greatest_end) × (k
 abbrev pub CanHead : NoteParts → Type 0
 CanHead n = CanSpell n.width n.length × (end_of n ≤ greatest_end)
 
--- Notes go by offset, then key bytes, then width, then length; then a head goes before the notes of whole packets, which
--- go by held bytes.
+-- Notes go by offset, then key bytes, then width, then length; then a head goes before the notes of whole packets,
+-- which go by held bytes.
 abbrev pub note_cmp : NoteParts → NoteParts → Ordering
 note_cmp =
     then_cmp (on (λ n. n.offset) nat_cmp)

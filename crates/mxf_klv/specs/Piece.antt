@@ -43,8 +43,8 @@ EndsTooFar offset bytes =
     (key : List ℕ) × (l : LengthParts) × (after : List ℕ) × BeginsWithKeyAndLength bytes key l after
     × (greatest_end < offset + (16 + l.width + l.value))
 
--- A whole key and a whole length stand at the front of a rest, with a value that is cut; the packet would end at or below
--- the greatest end, and this is its head.
+-- A whole key and a whole length stand at the front of a rest, with a value that is cut; the packet would end at or
+-- below the greatest end, and this is its head.
 pub record BeginsWithCut (offset : ℕ) (rest : List ℕ) (n : NoteParts) : Type 0 where
   pub key : List ℕ
   pub length : LengthParts

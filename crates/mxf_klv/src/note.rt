@@ -5,7 +5,8 @@ ghost use Rattle.std.specs.Option.{SomeIff};
 ghost use Rattle.mxf_klv.specs.Parts.{CanSpell, NoteParts, head_parts, note_parts};
 ghost use Rattle.mxf_klv.specs.Kind.{kind_of};
 ghost use Rattle.mxf_klv.specs.Label.{IsLabel};
-ghost use Rattle.mxf_klv.specs.Note.{CanHead, CanNote, IsNote, greatest_end, keeps, keeps_of, keeps_value, covered_end, end_of};
+ghost use Rattle.mxf_klv.specs.Note.{CanHead, CanNote, IsNote, greatest_end, keeps, keeps_of, keeps_value, covered_end};
+ghost use Rattle.mxf_klv.specs.Note.{end_of};
 ghost use Rattle.mxf_klv.specs.Note.{head_note, note_cmp, note_of};
 ghost use Rattle.std.specs.Cmp.{IsTotalOrder};
 ghost use Rattle.std.specs.declared.cmp.Ordering.TheVariants.{Equal};
@@ -36,8 +37,8 @@ pub const MAX: u64 = 9_223_372_036_854_775_807;
 /// The greatest length of a value that is kept, in bytes.
 const GREATEST_KEPT: u64 = 4_194_304;
 
-/// What is known of a packet at an offset: its key, its length, and its value or the value's SHA-256. A head is the note
-/// of a packet of which key and length alone were read.
+/// What is known of a packet at an offset: its key, its length, and its value or the value's SHA-256. A head is the
+/// note of a packet of which key and length alone were read.
 ///
 /// A structural packet's value of at most 4,194,304 bytes is kept whole; of every other value the digest is kept.
 /// Notes go by offset, then key, then width, then length; a head goes before the notes of whole packets with the same
@@ -318,8 +319,8 @@ impl Note {
         })
     }
 
-    /// The head of a packet of which key and length were read. None where the width can't spell the length, or the packet
-    /// would end above [`MAX`]. It takes no memory.
+    /// The head of a packet of which key and length were read. None where the width can't spell the length, or the
+    /// packet would end above [`MAX`]. It takes no memory.
     pub fn head(offset: u64, key: Ul, width: u8, length: u64) -> Option<Note>
         ensures { SomeIff result (CanHead (head_parts offset key width length)) (head_parts offset key width length) }
     {

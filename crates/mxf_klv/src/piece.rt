@@ -1,5 +1,6 @@
 //! The packets of a piece: bytes that lie at an offset of a file (this project's profile).
-ghost use Rattle.std.specs.Prelude.{◌≡◌, ◌↔◌, ◌+◌, ◌≤◌, ◌++◌, ◌∷◌, [], ℕ, List, None, Some, Ok, IfOk, IfErr, IfSome, IfNone};
+ghost use Rattle.std.specs.Prelude.{◌≡◌, ◌↔◌, ◌+◌, ◌≤◌, ◌++◌, ◌∷◌, [], ℕ, List, None, Some, Ok, IfOk, IfErr, IfSome};
+ghost use Rattle.std.specs.Prelude.{IfNone};
 ghost use Rattle.mxf_klv.specs.Parts.{LengthParts, NoteParts, PacketParts};
 ghost use Rattle.mxf_klv.specs.Rising.{In};
 ghost use Rattle.mxf_klv.specs.Ber.{ReadsLength};
@@ -107,8 +108,8 @@ fn read_key_and_length(offset: u64, bytes: &[u8]) -> Result<KeyAndLength<'_>, St
     Ok(head)
 }
 
-/// The head of the packet at the front of a piece at a file offset, where key and length are whole and the value is cut,
-/// and the packet would end at or below [`MAX`]. It takes no memory.
+/// The head of the packet at the front of a piece at a file offset, where key and length are whole and the value is
+/// cut, and the packet would end at or below [`MAX`]. It takes no memory.
 pub fn cut_head(offset: u64, bytes: &[u8]) -> Option<Note>
     ensures some { IfSome result (λ n. heads_at offset bytes.now ≡ n ∷ []) }
     ensures none { IfNone result (heads_at offset bytes.now ≡ []) }
@@ -130,8 +131,8 @@ pub fn each_piece_is_read_one_way()
         → IsPiece offset bytes packets rest → (packets ≡ packets_in offset bytes) × (rest ≡ rest_in offset bytes) }
 {}
 
-/// A law: each piece has exactly one stop, that of its rest; and `stop_of` gives the one stop of a rest that begins with
-/// no packet that ends at or below [`MAX`]. The length that it looks at is the one that `ReadsLength` tells.
+/// A law: each piece has exactly one stop, that of its rest; and `stop_of` gives the one stop of a rest that begins
+/// with no packet that ends at or below [`MAX`]. The length that it looks at is the one that `ReadsLength` tells.
 pub fn each_piece_has_one_stop()
     ensures rest { (offset : ℕ) (rest : List ℕ) (stop : Stop) → BeginsWithNone offset rest
         → (stop_of offset rest ≡ stop) ↔ IsStop offset rest stop }
@@ -141,11 +142,13 @@ pub fn each_piece_has_one_stop()
     ensures length { (bytes : List ℕ) (l : LengthParts) → (length_at bytes ≡ Some l) ↔ ReadsLength bytes (Ok l) }
 {}
 
-/// A law: what more bytes make of a piece. Its packets stand, and behind them come those of a piece that begins where they
-/// end, with the bytes of its rest and then the others. A stop that no more bytes lead past stands, and no packet follows.
+/// A law: what more bytes make of a piece. Its packets stand, and behind them come those of a piece that begins where
+/// they end, with the bytes of its rest and then the others. A stop that no more bytes lead past stands, and no packet
+/// follows.
 pub fn more_bytes_go_on_with_a_piece()
     ensures packets { (offset : ℕ) (bytes more : List ℕ) → packets_in offset (bytes ++ more)
-        ≡ packets_in offset bytes ++ packets_in (end_after offset (packets_in offset bytes)) (rest_in offset bytes ++ more) }
+        ≡ packets_in offset bytes ++ packets_in (end_after offset (packets_in offset bytes))
+        (rest_in offset bytes ++ more) }
     ensures rest { (offset : ℕ) (bytes more : List ℕ) → rest_in offset (bytes ++ more)
         ≡ rest_in (end_after offset (packets_in offset bytes)) (rest_in offset bytes ++ more) }
     ensures stop { (offset : ℕ) (bytes more : List ℕ) → ¬ IsOpen (stop_in offset bytes)

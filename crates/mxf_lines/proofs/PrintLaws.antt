@@ -43,7 +43,8 @@ Prints-after a b c before mid after (Err OutOfMemory) done more p (k, low, q) =
       length done + k,
       omega (arith, low, size),
       subst (WritesPart {X = Unit {0}} a c before after (Ok tt)) same
-          (WritesPart-after {X = Unit {0}} a b c before mid after (Ok tt) (concat done) (concat (take k more)) p.0 p.1 q),
+          (WritesPart-after {X = Unit {0}} a b c before mid after (Ok tt) (concat done) (concat
+          (take k more)) p.0 p.1 q),
     )
 
 -- a fault among lines is a fault among these and more

@@ -57,8 +57,8 @@ abbrev pub head_mark : Bool → List ℕ
 head_mark false = []
 head_mark true = codes " head"
 
--- The line of a note: its offset, its kind, the width and value of its length, its key, whether it is a head, and whether
--- it is disputed.
+-- The line of a note: its offset, its kind, the width and value of its length, its key, whether it is a head, and
+-- whether it is disputed.
 unfoldable pub note_line : NoteParts → Bool → List ℕ
 note_line n disputed =
     line_of (codes "note" ∷ decimal n.offset ∷ kind_name (kind_of n.key) ∷ decimal n.width ∷ decimal n.length

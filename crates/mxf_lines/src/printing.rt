@@ -71,11 +71,11 @@ pub enum Ask {
     Join,
 }
 
-/// Prints the lines that are asked for. The answer is 1 where a check finds something, or a piece doesn't end with a packet,
-/// or where an edit unit has no place or more than one; else it is 0.
+/// Prints the lines that are asked for. The answer is 1 where a check finds something, or a piece doesn't end with a
+/// packet, or where an edit unit has no place or more than one; else it is 0.
 ///
-/// The unit is tested first: above 9,223,372,036,854,775,807 it is a `BadUnit`. After want of memory some whole lines have
-/// been written; after a write fault the first bytes, which it counts.
+/// The unit is tested first: above 9,223,372,036,854,775,807 it is a `BadUnit`. After want of memory some whole lines
+/// have been written; after a write fault the first bytes, which it counts.
 pub fn answer<W: Write>(
     alloc: Global,
     ask: &Ask,

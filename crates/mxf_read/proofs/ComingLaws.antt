@@ -1,5 +1,6 @@
 -- The note of a packet, the value of which has come whole.
-use Rattle.std.proofs.Common.{◌≡◌, ℕ, ◌+◌, ◌≤◌, List, length, Bool, Vec, Global, vec_len, Option, None, Some, IsSome, SomeIff}
+use Rattle.std.proofs.Common.{◌≡◌, ℕ, ◌+◌, ◌≤◌, List, length, Bool, Vec, Global, vec_len, Option, None, Some, IsSome}
+use Rattle.std.proofs.Common.{SomeIff}
 use Rattle.std.proofs.Common.{if◌then◌else◌, refl, sym, ap, subst, ◌∙◌, arith}
 use Rattle.sha2.specs.Sha256.{sha256}
 use Rattle.sha2.specs.declared.Sha256.{Sha256}
@@ -22,8 +23,10 @@ pub all_came : (v : ComingValue) (m : List ℕ) → v.left ≡ 0 → HasTaken v 
 all_came v m none taken = omega (arith, none, taken.counted)
 
 -- a note can be made of it, where what is held is as the key and the length ask for
-pub can_note : (v : ComingValue) (width len : ℕ) (held : List ℕ) (whole : Bool) → width ≡ v.ber.width → len ≡ v.ber.value
-    → CanSpell v.ber.width v.ber.value → is_gathered v.so_far ≡ whole → CanNote (note_parts v.offset v.key width len held) whole
+pub can_note : (v : ComingValue) (width len : ℕ) (held : List ℕ) (whole : Bool) → width ≡ v.ber.width
+    → len ≡ v.ber.value
+    → CanSpell v.ber.width v.ber.value → is_gathered v.so_far ≡ whole
+    → CanNote (note_parts v.offset v.key width len held) whole
 can_note v width len held whole same_width same_len spelled is =
     let within : v.offset + 16 + width + len ≤ greatest_end = omega (arith, same_width, same_len, v.within) in (
       subst (λ (w : ℕ). CanSpell w len) (sym same_width) (subst (CanSpell v.ber.width) (sym same_len) spelled),
@@ -32,7 +35,8 @@ can_note v width len held whole same_width same_len spelled is =
     )
 
 -- it is the packet's
-pub same_note : (v : ComingValue) (m : List ℕ) (width len : ℕ) (held : List ℕ) (whole : Bool) → v.left ≡ 0 → HasTaken v m
+pub same_note : (v : ComingValue) (m : List ℕ) (width len : ℕ) (held : List ℕ) (whole : Bool) → v.left ≡ 0
+    → HasTaken v m
     → width ≡ v.ber.width → len ≡ v.ber.value → is_gathered v.so_far ≡ whole → held ≡ (if whole then m else sha256 m)
     → note_parts v.offset v.key width len held ≡ note_of v.offset (packet_parts v.key v.ber.width m)
 same_note v m width len held whole none taken same_width same_len is held_is =
@@ -44,7 +48,8 @@ same_note v m width len held whole none taken same_width same_len is held_is =
     (held_is ∙ ap (λ (t : Bool). if t then m else sha256 m) (sym kept))
 
 -- a value that is gathered has its length
-pub gathered : (v : ComingValue) (value : Vec ℕ Global) → v.so_far ≡ Gathered value → v.left ≡ 0 → vec_len value ≡ v.ber.value
+pub gathered : (v : ComingValue) (value : Vec ℕ Global) → v.so_far ≡ Gathered value → v.left ≡ 0
+    → vec_len value ≡ v.ber.value
 gathered v value is none =
     let came : length value.items + v.left ≡ v.ber.value =
     subst (λ (h : ValueSoFar). came_of h v.ber.value v.left + v.left ≡ v.ber.value) is v.counted in

@@ -256,7 +256,11 @@ none_fed offset p notes at head value stop =
     let packets = packets_in-none offset [] none in
     let rest = rest_in-none offset [] none in
     record {
-      knows = record { notes = notes ∙ sym (ap (notes_from offset) packets); at = at ∙ sym (ap (end_after offset) packets) };
+      knows = record {
+        notes = notes ∙ sym (ap (notes_from offset) packets);
+        at = at
+            ∙ sym (ap (end_after offset) packets);
+      };
       next = subst (λ (r : List ℕ). IsNext p.at p.stop p.value p.head.items r) (sym rest)
           (subst (λ (s : Option Stop). IsNext p.at s p.value p.head.items []) (sym stop)
           (subst (λ (v : Option ComingValue). IsNext p.at None v p.head.items []) (sym value)

@@ -126,8 +126,12 @@ module _ {R : Type 0} (left : R → Option (List ℕ)) where
   -- what two histories leave is left by one that joins them
   joined : (ps qs : List (Part R)) (a b : List NoteParts) → IsLeftBy left ps a → IsLeftBy left qs b
       → IsLeftBy left (ps ++ qs) (reduced_union a b)
-  joined ps qs a b (h, g, e) (k, f, d) =
-      (Join h k, (ps, qs, refl, g, f), ap (λ (t : List NoteParts). reduced_union t b) e ∙ ap (reduced_union (content h)) d)
+  joined ps qs a b (h, g, e) (k, f, d) = (
+    Join h k,
+    (ps, qs, refl, g, f),
+    ap (λ (t : List NoteParts). reduced_union t b) e
+        ∙ ap (reduced_union (content h)) d,
+  )
 
   -- Each of the contents is left by some of the parts, those that follow on the ones of the content before.
   abbrev pub Waits : List (List NoteParts) → List (Part R) → Type 0
@@ -173,7 +177,8 @@ module _ {R : Type 0} (left : R → Option (List ℕ)) where
       let (rs, ts, f, v, u) = waits_split front back ps (subst (λ (l : List (List NoteParts)). Waits l ps) e w) in
       let last : Waits (merged_with back notes ∷ []) (ts ++ qs) =
       (ts ++ qs, [], sym (append-nil (ts ++ qs)), merged_left back notes ts qs u i, refl) in
-      let all : rs ++ (ts ++ qs) ≡ ps ++ qs = sym (append_assoc rs ts qs) ∙ ap (λ (t : List (Part R)). t ++ qs) (sym f) in
+      let all : rs ++ (ts ++ qs) ≡ ps ++ qs = sym (append_assoc rs ts qs)
+      ∙ ap (λ (t : List (Part R)). t ++ qs) (sym f) in
       subst (λ (l : List (List NoteParts)). Waits l (ps ++ qs)) (sym d)
       (subst (Waits (front ++ merged_with back notes ∷ [])) all
       (waits_both front (merged_with back notes ∷ []) rs (ts ++ qs) v last))
@@ -249,7 +254,8 @@ module _ {R : Type 0} (left : R → Option (List ℕ)) where
       let whole : IsLeftBy left g.passed.done (merged_with levels []) =
       subst (λ (ps : List (Part R)). IsLeftBy left ps (merged_with levels [])) (append-nil g.passed.done)
       (merged_left levels [] g.passed.done [] g.waits (New, refl, refl)) in
-      subst (λ (ps : List (Part R)). IsLeftBy left ps views) is (subst (IsLeftBy left g.passed.done) (sym h.merged) whole)
+      subst (λ (ps : List (Part R)). IsLeftBy left ps views) is (subst (IsLeftBy left g.passed.done)
+      (sym h.merged) whole)
 
   pub gathered_run : (all rest : List (Part R)) (number : ℕ) (levels : List (List NoteParts))
       (reports : List PieceReport) (views : List NoteParts) → IsGathered all number rest levels reports

@@ -72,7 +72,8 @@ at_head : (count offset : ℕ) (bytes : List ℕ) (at : ℕ) → packet_at offse
 at_head count offset bytes at none h =
     let heads = (ends_at offset bytes (stop_of offset bytes) none refl).notes in
     elim (heads_few offset bytes) [
-      | inl e ↦ absurd (subst (λ (l : List NoteParts). IsSomeAnd (slice_get l count) (λ n. n.offset ≡ at)) (heads ∙ e) h)
+      | inl e ↦ absurd (subst (λ (l : List NoteParts). IsSomeAnd (slice_get l count) (λ n. n.offset ≡ at)) (heads
+          ∙ e) h)
       | inr s ↦
           let cut = s.2 in
           let size = head-size cut.stands in
@@ -158,7 +159,8 @@ first_stay noted offset taken more h =
     ∙ append_assoc (notes_from offset ps) behind (heads whole) in (
       omega (arith, h, ap length joined, length-append ps others),
       ap (take noted) joined ∙ take-append-le noted ps others h,
-      ap (take noted) notes ∙ take-append-le noted (notes_from offset ps) (behind ++ heads whole) (omega (arith, h, size))
+      ap (take noted) notes ∙ take-append-le noted (notes_from offset ps) (behind
+          ++ heads whole) (omega (arith, h, size))
           ∙ sym (take-append-le noted (notes_from offset ps) (heads taken) (omega (arith, h, size))),
     )
 

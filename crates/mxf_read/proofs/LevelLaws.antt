@@ -13,8 +13,11 @@ pub balanced_last : (levels : List (List NoteParts)) (notes : List NoteParts) �
     → EndsAbove levels (length notes) → AreBalanced (levels ++ notes ∷ [])
 balanced_last [] notes b e = (tt, tt)
 balanced_last (level ∷ []) notes b e = (e [] level refl, (tt, tt))
-balanced_last (level ∷ next ∷ levels) notes b e =
-    (b.0, balanced_last (next ∷ levels) notes b.1 (λ front last is. e (level ∷ front) last (ap (λ (l : List _). level ∷ l) is)))
+balanced_last (level ∷ next ∷ levels) notes b e = (
+  b.0,
+  balanced_last (next ∷ levels) notes b.1 (λ front last is. e (level ∷ front) last (ap (λ
+      (l : List _). level ∷ l) is)),
+)
 
 -- Those that wait are the first of the old ones, and what is merged is the others with a catalogue.
 pub record IsAdding (merged : List NoteParts) (levels : List (List NoteParts)) (notes : List NoteParts)
@@ -24,7 +27,8 @@ pub record IsAdding (merged : List NoteParts) (levels : List (List NoteParts)) (
   pub is : merged ≡ merged_with back notes
 
 -- none was merged
-pub adding_none : (notes : List NoteParts) (old : List (List NoteParts)) → old ≡ old ++ [] → IsAdding notes old notes old
+pub adding_none : (notes : List NoteParts) (old : List (List NoteParts)) → old ≡ old ++ []
+    → IsAdding notes old notes old
 adding_none notes old e = record { back = []; whole = e; is = refl }
 
 -- the last that waited was merged
@@ -47,4 +51,5 @@ adding_last merged notes levels new old h is =
 pub adding_all : (merged : List NoteParts) (levels old : List (List NoteParts)) → IsAdding merged levels [] old
     → levels ≡ [] → merged ≡ merged_with old []
 adding_all merged levels old h none =
-    h.is ∙ ap (λ (l : List (List NoteParts)). merged_with l []) (sym (h.whole ∙ ap (λ (l : List (List NoteParts)). l ++ h.back) none))
+    h.is ∙ ap (λ (l : List (List NoteParts)). merged_with l []) (sym (h.whole
+    ∙ ap (λ (l : List (List NoteParts)). l ++ h.back) none))

@@ -124,7 +124,8 @@ pub apart_packets : (offset : ℕ) (ps : List PacketParts) → AreApart offset (
 apart_packets offset ps =
     apart_front offset (notes_from offset ps) [] (apart_from offset offset ps [] (omega arith) tt)
 
-pub alone_packets : (offset : ℕ) (ps : List PacketParts) → reduced_union [] (notes_from offset ps) ≡ notes_from offset ps
+pub alone_packets : (offset : ℕ) (ps : List PacketParts) → reduced_union [] (notes_from offset ps)
+    ≡ notes_from offset ps
 alone_packets offset ps = alone offset (notes_from offset ps) (apart_packets offset ps)
 
 pub AreApart-notes_in : (offset : ℕ) (bytes : List ℕ) → AreApart offset (notes_in offset bytes)

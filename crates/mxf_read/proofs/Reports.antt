@@ -1,6 +1,7 @@
 -- What is reported of a piece whose bytes come in parts, and what a reader's piece adds.
 use Rattle.std.proofs.Common.{◌≡◌, ℕ, ◌+◌, ◌-◌, ◌≤◌, List, [], ◌∷◌, ◌++◌, length, take, Option, None, Some}
-use Rattle.std.proofs.Common.{Result, Ok, Err, refl, sym, ap, subst, ◌∙◌, arith, inl, inr, ◌⊎◌, append-nil, append_assoc}
+use Rattle.std.proofs.Common.{Result, Ok, Err, refl, sym, ap, subst, ◌∙◌, arith, inl, inr, ◌⊎◌, append-nil}
+use Rattle.std.proofs.Common.{append_assoc}
 use Rattle.std.proofs.Common.{length-append}
 use Rattle.std.specs.Prelude.{true, false, is_some, nat_eq, IfOk, IfSome}
 use Rattle.std.specs.Io.KnownBytes.{IsAtEnd}
@@ -70,7 +71,8 @@ report_end o m p noted len fed n stop value is empty =
     let nothing : rest_in o m ≡ [] = sym h.head ∙ nil_from p.head.items len is empty in
     reported o m p noted End fed.knows n (sym (end_at p.at) ∙ ap (stop_of p.at) (sym nothing))
 
-open_cut : (at : ℕ) (r : List ℕ) → HasNoKeyAndLength r → IsOpen (stop_of at r) → (length r ≡ 0 → ⊥) → stop_of at r ≡ Truncated at
+open_cut : (at : ℕ) (r : List ℕ) → HasNoKeyAndLength r → IsOpen (stop_of at r) → (length r ≡ 0 → ⊥)
+    → stop_of at r ≡ Truncated at
 open_cut at r none cut some =
     elim (stop_of at r) as (λ s. stop_of at r ≡ s → IsOpen s → s ≡ Truncated at) [
       | End ↦ λ e o. absurd (some (ap length (stop_is at r End none e)))
@@ -292,7 +294,8 @@ adds_first_merged old piece new o m noted at a e = record {
 -- what a piece's own catalogue has, joined with another
 pub from_merged : (old piece new : List NoteParts) (before after : Option (List ℕ)) (o limit : ℕ)
     (r : Result Report AbsorbFault)
-    → AbsorbsFrom [] piece before after o limit r → new ≡ reduced_union old piece → AbsorbsFrom old new before after o limit r
+    → AbsorbsFrom [] piece before after o limit r → new ≡ reduced_union old piece
+    → AbsorbsFrom old new before after o limit r
 from_merged old piece new before after o limit (Ok report) (taken, takes, adds, ends) e =
     (taken, takes, (e ∙ ap (reduced_union old) (adds.0 ∙ alone_in o taken), adds.1), ends)
 from_merged old piece new before after o limit (Err (ReadFault noted at)) (taken, takes, adds, all, cut) e =
@@ -357,7 +360,8 @@ front_taken (Some xs) (Some ys) limit taken t =
     let within = t.within in
     (take (limit - length taken) ys, ap (take limit) t.consumed ∙ take_behind taken ys limit within)
 
-pub of_stream : (old new : List NoteParts) (before after : Option (List ℕ)) (o limit : ℕ) (r : Result Report AbsorbFault)
+pub of_stream : (old new : List NoteParts) (before after : Option (List ℕ)) (o limit : ℕ)
+    (r : Result Report AbsorbFault)
     → AbsorbsFrom old new before after o limit r
     → IfOk r (λ report. IfSome before (λ all. Absorbs old new o (take limit all) (Ok report)))
 of_stream old new before after o limit (Err e) h = tt
@@ -365,9 +369,11 @@ of_stream old new None after o limit (Ok report) h = tt
 of_stream old new (Some xs) after o limit (Ok report) (taken, takes, adds, ends) =
     elim (open_or_not report.stop) [
       | inl goes ↦
-          subst (λ (t : List ℕ). Absorbs old new o t (Ok report)) (sym (whole_taken (Some xs) after limit taken takes (ends goes)))
+          subst (λ (t : List ℕ). Absorbs old new o t (Ok report)) (sym (whole_taken (Some xs) after limit taken takes
+          (ends goes)))
           adds
       | inr final ↦
           let (x, split) = front_taken (Some xs) after limit taken takes in
-          subst (λ (t : List ℕ). Absorbs old new o t (Ok report)) (sym split) (adds_more old new o taken x report adds final)
+          subst (λ (t : List ℕ). Absorbs old new o t (Ok report)) (sym split)
+          (adds_more old new o taken x report adds final)
     ]

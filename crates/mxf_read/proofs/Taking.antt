@@ -68,7 +68,8 @@ stopped old mid new offset bytes left rest noted at n p is e o =
     )
 
 -- the head, which is left, isn't added
-pub stopped_at_head : (old mid new : List NoteParts) (offset : ℕ) (bytes : List ℕ) (left : List NoteParts) (noted at : ℕ)
+pub stopped_at_head : (old mid new : List NoteParts) (offset : ℕ) (bytes : List ℕ) (left : List NoteParts)
+    (noted at : ℕ)
     (rest : List ℕ) → IsPart old mid (notes_in offset bytes) noted left → left ≡ heads_at at rest → new ≡ mid
     → heads_at at rest ≢ [] → Absorbs old new offset bytes (Err (OutOfMemory noted at))
 stopped_at_head old mid new offset bytes left noted at rest p is e some =

@@ -19,15 +19,15 @@ report_of offset bytes = record { noted = length (packets_in offset bytes); stop
 abbrev pub first_notes_in : ℕ → ℕ → List ℕ → List NoteParts
 first_notes_in count offset bytes = take count (notes_in offset bytes)
 
--- After so many packets the piece has another note, of a whole packet or of one that its end cuts, and that packet begins
--- at a place.
+-- After so many packets the piece has another note, of a whole packet or of one that its end cuts, and that packet
+-- begins at a place.
 abbrev pub GoesOnAt : ℕ → ℕ → List ℕ → ℕ → Type 0
 GoesOnAt count offset bytes place = IsSomeAnd (slice_get (notes_in offset bytes) count) (λ next. next.offset ≡ place)
 
 -- A piece at an offset is absorbed into an old content, which leaves a new one: all its notes are added, those of its
 -- packets and the head of the one that its end cuts, and the report is that of the whole piece. Or, for want of memory,
--- those of its first `noted` packets are added and nothing else, and the packet of the next note, which there is, begins at
--- `at`.
+-- those of its first `noted` packets are added and nothing else, and the packet of the next note, which there is,
+-- begins at `at`.
 abbrev pub Absorbs : List NoteParts → List NoteParts → ℕ → List ℕ → Result Report AbsorbFault → Type 0
 Absorbs old new offset bytes (Ok report) =
     (new ≡ reduced_union old (notes_in offset bytes)) × (report ≡ report_of offset bytes)
@@ -48,16 +48,17 @@ pub record AddsFirst (old new : List NoteParts) (offset : ℕ) (bytes : List ℕ
   pub added : new ≡ reduced_union old (first_notes_in noted offset bytes)
   pub place : at ≡ end_after offset (take noted (packets_in offset bytes))
 
--- The notes of a piece whose bytes came in parts, after the last of them: all of them, and the report; or, where the head
--- found no memory, those of its packets.
+-- The notes of a piece whose bytes came in parts, after the last of them: all of them, and the report; or, where the
+-- head found no memory, those of its packets.
 abbrev pub Finishes : ℕ → List ℕ → List NoteParts → Result Report AbsorbFault → Type 0
 Finishes offset bytes notes (Ok report) = Absorbs [] notes offset bytes (Ok report)
 Finishes offset bytes notes (Err (OutOfMemory noted at)) = AddsFirst [] notes offset bytes noted at
 Finishes offset bytes notes (Err (ReadFault noted at)) = ⊥
 
--- A piece that a reader gives is absorbed. The bytes taken, at most `limit`, are absorbed as a piece at hand; where it could
--- go on, as many were taken as may be, or the reader has ended. Or a read failed where it could go on: the notes of all
--- packets among the bytes taken are added, and no head. Or memory was wanting: those of the first `noted` of them are.
+-- A piece that a reader gives is absorbed. The bytes taken, at most `limit`, are absorbed as a piece at hand; where it
+-- could go on, as many were taken as may be, or the reader has ended. Or a read failed where it could go on: the notes
+-- of all packets among the bytes taken are added, and no head. Or memory was wanting: those of the first `noted` of
+-- them are.
 abbrev pub AbsorbsFrom : List NoteParts → List NoteParts → Option (List ℕ) → Option (List ℕ) → ℕ → ℕ
     → Result Report AbsorbFault → Type 0
 AbsorbsFrom old new before after offset limit (Ok report) =

@@ -18,8 +18,8 @@ pub record NotesNone (old new : Piece) : Type 0 where
   pub notes : new.notes ≡ old.notes
   pub at : new.at ≡ old.at
 
--- What has come of the next packet stops the piece; or it isn't a whole key and length, and is held; or it is those and a
--- front of the value.
+-- What has come of the next packet stops the piece; or it isn't a whole key and length, and is held; or it is those and
+-- a front of the value.
 abbrev pub IsNext : ℕ → Option Stop → Option ComingValue → List ℕ → List ℕ → Type 0
 IsNext at (Some stop) value head rest = (packet_at at rest ≡ None) × (stop ≡ stop_of at rest) × ¬ IsOpen stop
 IsNext at None None head rest = (head ≡ rest) × HasNoKeyAndLength rest × IsOpen (stop_of at rest)

@@ -74,8 +74,8 @@ module _ {R : Type 0} (left : R → Option (List ℕ)) where
   HandedBy [] n = ⊥
   HandedBy (p ∷ parts) n = HandsNote p n ⊎ HandedBy parts n
 
-  -- The history is handed the parts and nothing else, each of them once and in their order: it absorbs a piece behind what
-  -- it gathered before, reads a saved catalogue, and joins.
+  -- The history is handed the parts and nothing else, each of them once and in their order: it absorbs a piece behind
+  -- what it gathered before, reads a saved catalogue, and joins.
   abbrev pub Gathers : History → List (Part R) → Type 0
   Gathers New parts = parts ≡ []
   Gathers (Add h n) parts = ⊥
@@ -111,8 +111,8 @@ module _ {R : Type 0} (left : R → Option (List ℕ)) where
   HasFault fault (Piece offset from) = IsOfAnyPart fault
   HasFault fault (Saved from) = IsSavedFault (bytes_of from) fault
 
-  -- A part was taken: what it leaves was added to the contents that wait to be merged, and its reports stand behind those
-  -- before.
+  -- A part was taken: what it leaves was added to the contents that wait to be merged, and its reports stand behind
+  -- those before.
   pub record TakesPart (p : Part R) (old new : List (List NoteParts)) (before after : List PieceReport) : Type 0 where
     pub notes : List NoteParts
     pub left_by : IsLeftBy (p ∷ []) notes

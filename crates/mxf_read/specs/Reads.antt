@@ -8,8 +8,8 @@ use Rattle.mxf_read.specs.declared.reading.Step.TheVariants.{Took, Ended, Interr
 use Rattle.mxf_read.specs.declared.reading.Cause.{Cause}
 use Rattle.mxf_read.specs.declared.reading.Cause.TheVariants as causes
 
--- One read: bytes were taken and fed, or the reader has ended, or nothing was taken; or memory was wanting among the bytes
--- taken.
+-- One read: bytes were taken and fed, or the reader has ended, or nothing was taken; or memory was wanting among the
+-- bytes taken.
 abbrev pub ReadsOnce : {E : Type 0} → Option (List ℕ) → Option (List ℕ) → Piece → Piece → ℕ → Result Step E → Type 0
 ReadsOnce old new p q room (Ok (Took n)) =
     (taken : List ℕ) × (length taken ≡ n) × (0 < n) × (n ≤ room) × Consumes old new taken × Feeds p q taken

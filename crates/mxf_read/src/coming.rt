@@ -93,8 +93,8 @@ impl ComingValue {
         Ok(())
     }
 
-    /// The note of the packet, the value of which has come whole. The digest of no byte is at hand, as many packets have
-    /// no value.
+    /// The note of the packet, the value of which has come whole. The digest of no byte is at hand, as many packets
+    /// have no value.
     pub(crate) fn into_note(self, of_nothing: [u8; 32]) -> Note
         requires left { self.left ≡ 0 }
         requires of_nothing { of_nothing ≡ sha256 [] }

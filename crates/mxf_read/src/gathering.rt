@@ -8,7 +8,8 @@ ghost use Rattle.mxf_views.specs.Headline.{IsTheRun};
 ghost use Rattle.mxf_read.specs.Absorbs.{report_of};
 ghost use Rattle.std.specs.List.{AllByRecursion};
 ghost use Rattle.mxf_read.specs.Gathering.{AllTell, HandedBy, HasFault, IsGatherFault, IsGood, IsLeftBy};
-ghost use Rattle.mxf_read.specs.Gathering.{IsOfAnyPart, IsSavedAs, IsSavedFault, TakesPart, Tells, piece_limit, reports_of, saved_limit};
+ghost use Rattle.mxf_read.specs.Gathering.{IsOfAnyPart, IsSavedAs, IsSavedFault, TakesPart, Tells, piece_limit};
+ghost use Rattle.mxf_read.specs.Gathering.{reports_of, saved_limit};
 
 mod fault;
 mod levels;

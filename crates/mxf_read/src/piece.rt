@@ -1,5 +1,6 @@
 //! A piece whose bytes come in parts.
-ghost use Rattle.std.specs.Prelude.{◌≡◌, ◌≤◌, ◌<◌, ◌++◌, ◌↔◌, [], List, ℕ, None, length, take, IfOk, IsTrue, OnOk, OnErr, is_some};
+ghost use Rattle.std.specs.Prelude.{◌≡◌, ◌≤◌, ◌<◌, ◌++◌, ◌↔◌, [], List, ℕ, None, length, take, IfOk, IsTrue, OnOk};
+ghost use Rattle.std.specs.Prelude.{OnErr, is_some};
 ghost use Rattle.sha2.specs.Sha256.{sha256};
 ghost use Rattle.mxf_klv.specs.PieceReading.{IsOpen, heads_at, rest_in};
 ghost use Rattle.mxf_catalogue.specs.Content.{reduced_union};
@@ -146,8 +147,8 @@ impl Piece {
         }
     }
 
-    /// Takes bytes of the next packet's key and length, and says how many. Where they come whole, they are read where they
-    /// lie.
+    /// Takes bytes of the next packet's key and length, and says how many. Where they come whole, they are read where
+    /// they lie.
     fn take_head(&mut self, bytes: &[u8]) -> Result<usize, OutOfMemory>
         requires fed { IsFed self.old }
         requires goes_on { self.old.stop ≡ None }

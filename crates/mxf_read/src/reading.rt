@@ -41,7 +41,8 @@ fn read_once<R: Read>(
     requires goes_on { piece.old.stop ≡ None }
     requires room { 0 < length room.old }
     ensures one { ticks.new.count ≡ ticks.old.count + 1 }
-    ensures bytes { ReadsOnce (R.remaining from.old) (R.remaining from.new) piece.old piece.new (length room.old) result }
+    ensures bytes { ReadsOnce (R.remaining from.old) (R.remaining from.new) piece.old piece.new
+        (length room.old) result }
 {
     *ticks = ticks.next();
     match from.read(room) {
@@ -55,8 +56,8 @@ fn read_once<R: Read>(
     }
 }
 
-/// Feeds the piece with at most `limit` bytes of the reader, until it stops. Interrupted reads are repeated, 1,024 times at
-/// most.
+/// Feeds the piece with at most `limit` bytes of the reader, until it stops. Interrupted reads are repeated, 1,024
+/// times at most.
 pub(crate) fn read_all<R: Read>(
     piece: &mut Piece,
     from: &mut R,

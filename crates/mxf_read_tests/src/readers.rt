@@ -10,8 +10,8 @@ use std::alloc::Global;
 use std::io::{self, Error, ErrorKind, Read};
 use std::test::Fail;
 
-/// A reader that counts its reads. It gives `chunk` bytes a read at most, and `first` at the first where that is above 0,
-/// after some interruptions. Behind its bytes it has ended, or fails where it is broken.
+/// A reader that counts its reads. It gives `chunk` bytes a read at most, and `first` at the first where that is above
+/// 0, after some interruptions. Behind its bytes it has ended, or fails where it is broken.
 #[derive(Drop)]
 struct Slow<'a> {
     bytes: &'a [u8],

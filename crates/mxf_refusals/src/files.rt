@@ -1,7 +1,7 @@
 //! A worked file and a segment whose bytes stand at hand, so that nothing grows where they are made.
 
-/// The file of tests/worked/R.bin: a header partition pack, a primer pack at 108, a Preface at 154, its storage at 214 and
-/// a package at 298. The storage names another package too.
+/// The file of tests/worked/R.bin: a header partition pack, a primer pack at 108, a Preface at 154, its storage at 214
+/// and a package at 298. The storage names another package too.
 #[rattlefmt::skip]
 pub(crate) const R: [u8; 374] = [
     // At 0: the header partition pack.

@@ -149,7 +149,8 @@ only_label tag b label = (
       record {
         some = (there.0, there.1, ap (big_number 2) (sym there.2) ∙ some.2);
         each = λ place room is. says.1 (label_at b place)
-            (labels_among-In tag (batch_items b) (item_in b place) (sized_items-In b.count b.size place b.items room) is);
+            (labels_among-In tag (batch_items b) (item_in b place)
+            (sized_items-In b.count b.size place b.items room) is);
       },
   λ only.
       let place = only.some.0 in

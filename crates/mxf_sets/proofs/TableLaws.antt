@@ -1,5 +1,6 @@
 -- The labels of a tag agree on what a table of them tells, taken one after another.
-use Rattle.std.proofs.Common.{◌≡◌, ℕ, List, [], ◌∷◌, Option, Some, None, true, false, refl, sym, ap, subst, ◌∙◌, Bool, cond, drop, eqb-true}
+use Rattle.std.proofs.Common.{◌≡◌, ℕ, List, [], ◌∷◌, Option, Some, None, true, false, refl, sym, ap, subst, ◌∙◌, Bool}
+use Rattle.std.proofs.Common.{cond, drop, eqb-true}
 use Rattle.std.specs.Prelude.{◌==◌, ◌&&◌, nat_lt, if◌then◌else◌, filter, map}
 use Rattle.std.specs.List.{list_all}
 use Rattle.std.specs.Str.{bytes_eq}
@@ -73,13 +74,15 @@ told_by old new entry left all agreed tag true same told updates before =
     let here = updates ∙ ap (λ (b : Bool). cond b (Some agreed) (lookup (is_at (nat_cmp tag)) old))
     (at_equal (big_number 2 entry) tag at) in
     let own = subst (λ (t : ℕ). Some agreed ≡ with_label (lookup (is_at (nat_cmp t)) old) (drop 2 entry)) at told in
-    let first = ap (λ (b : Bool). with_labels (lookup (is_at (nat_cmp tag)) old) (labels_first b tag entry left)) same in
+    let first = ap (λ (b : Bool). with_labels (lookup (is_at (nat_cmp tag)) old)
+    (labels_first b tag entry left)) same in
     ap (λ (t : Option (Option (List ℕ))). with_labels t (labels_among tag left)) (here ∙ own)
     ∙ sym first ∙ before
 told_by old new entry left all agreed tag false other told updates before =
     let there = updates ∙ ap (λ (b : Bool). cond b (Some agreed) (lookup (is_at (nat_cmp tag)) old))
     (at_other (big_number 2 entry) tag other) in
-    let first = ap (λ (b : Bool). with_labels (lookup (is_at (nat_cmp tag)) old) (labels_first b tag entry left)) other in
+    let first = ap (λ (b : Bool). with_labels (lookup (is_at (nat_cmp tag)) old)
+    (labels_first b tag entry left)) other in
     ap (λ (t : Option (Option (List ℕ))). with_labels t (labels_among tag left)) there
     ∙ sym first ∙ before
 

@@ -1,5 +1,5 @@
--- The labels of a primer pack in a table by their tags (ST 377-1, Primer Pack; which label a tag with several entries has
--- is this project's profile).
+-- The labels of a primer pack in a table by their tags (ST 377-1, Primer Pack; which label a tag with several entries
+-- has is this project's profile).
 use Rattle.std.specs.Prelude.{ℕ, if◌then◌else◌, List, [], ◌∷◌, Option, Some, None}
 use Rattle.std.specs.Str.{bytes_eq}
 use Rattle.std.specs.Map.{lookup}

@@ -34,8 +34,8 @@ fn text_units(alloc: Global, value: &[u8]) -> Result<Vec<u16>, AllocError>
     Ok(units)
 }
 
-/// The text that the value of a text item is: UTF-16, big-endian, up to the first unit that is zero. Each surrogate without
-/// its partner becomes U+FFFD.
+/// The text that the value of a text item is: UTF-16, big-endian, up to the first unit that is zero. Each surrogate
+/// without its partner becomes U+FFFD.
 pub fn text(alloc: Global, value: &[u8]) -> Result<String, TextFault>
     ensures odd { (result ≡ Err TextFault.OddLength) ↔ (length value.now % 2 ≡ 1) }
     ensures text { IfOk result (λ text. string_bytes text ≡ text_of value.now) }

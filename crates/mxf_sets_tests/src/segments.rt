@@ -71,8 +71,8 @@ const TWO_SLICES: (u16, &[u8]) = (0x3F08, &[2]);
 
 const ONE_POSITION_TABLE: (u16, &[u8]) = (0x3F0E, &[1]);
 
-/// Two entries of two slices and one position table, of 27 bytes: the stream offsets 258 and 772, then four bytes for each
-/// slice and eight for the position table.
+/// Two entries of two slices and one position table, of 27 bytes: the stream offsets 258 and 772, then four bytes for
+/// each slice and eight for the position table.
 const ENTRIES_OF_27_BYTES: (u16, &[u8]) = (
     0x3F0A,
     &[

@@ -25,7 +25,8 @@ fn texts_end_at_a_zero_unit(rt: HostRuntime) -> Result<(), Fail> {
     Ok(())
 }
 
-// U+1F600 is 10000 + 3D * 400 + 200 in hexadecimal digits; the others are the least and the greatest that a pair stands for.
+// U+1F600 is 10000 + 3D * 400 + 200 in hexadecimal digits; the others are the least and the greatest that a pair stands
+// for.
 #[test]
 fn a_surrogate_pair_is_one_character(rt: HostRuntime) -> Result<(), Fail> {
     for (pair, character) in [

@@ -1,5 +1,6 @@
 -- The lines of a text are what stands before its first line feed, and the lines behind that.
-use Rattle.std.proofs.Common.{◌≡◌, ℕ, suc, ◌+◌, ◌<◌, ◌==◌, nat_lt, Bool, true, false, List, [], ◌∷◌, ◌++◌, length, take, drop, filter, refl, ap, sym, ◌∙◌, arith, append_assoc}
+use Rattle.std.proofs.Common.{◌≡◌, ℕ, suc, ◌+◌, ◌<◌, ◌==◌, nat_lt, Bool, true, false, List, [], ◌∷◌, ◌++◌, length, take}
+use Rattle.std.proofs.Common.{drop, filter, refl, ap, sym, ◌∙◌, arith, append_assoc}
 use Rattle.std.specs.List.{slice_split, onto_first, before_first, after_first, position_or_len}
 use Rattle.mxf_tool.specs.Lists.{naming_lines}
 
@@ -54,7 +55,8 @@ pub naming_turn : (old new : List (List ℕ)) (rest line behind : List ℕ) (all
     → new ≡ old ++ filter names (line ∷ []) → old ++ naming_lines rest ≡ all → new ++ naming_lines behind ≡ all
 naming_turn old new rest line behind all (a, b, h) pushed so_far =
     let split = ap (filter names) (split_turn is_line_feed rest h) in
-    let first = filter_first (before_first is_line_feed rest) (slice_split is_line_feed (after_first is_line_feed rest)) in
+    let first = filter_first (before_first is_line_feed rest) (slice_split is_line_feed
+    (after_first is_line_feed rest)) in
     let turn : naming_lines rest ≡ filter names (line ∷ []) ++ naming_lines behind = rw (a, b) (split ∙ first) in
     ap (λ (t : List (List ℕ)). t ++ naming_lines behind) pushed
     ∙ append_assoc old (filter names (line ∷ [])) (naming_lines behind)

@@ -3,8 +3,8 @@ use Rattle.std.specs.Prelude.{ℕ, if◌then◌else◌, List, map}
 use Rattle.std.specs.Char.{is_control}
 use Rattle.std.specs.Str.{chars, encode_utf8_all}
 
--- The character that stands for a character: 63, a question mark, for a control character, U+0000 to U+001F and U+007F to
--- U+009F.
+-- The character that stands for a character: 63, a question mark, for a control character, U+0000 to U+001F and U+007F
+-- to U+009F.
 abbrev pub char_on_screen : ℕ → ℕ
 char_on_screen c = if is_control c then 63 else c
 

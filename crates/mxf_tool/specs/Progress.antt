@@ -1,4 +1,5 @@
--- The line that tells how far a long piece has been read (this project's profile). Numbers are decimal and rounded down.
+-- The line that tells how far a long piece has been read (this project's profile). Numbers are decimal and rounded
+-- down.
 use Rattle.std.specs.Prelude.{ℕ, ◌+◌, ◌-◌, ◌/◌, ◌%◌, List, ◌++◌, codes, if◌then◌else◌, nat_lt}
 use Rattle.std.specs.Fmt.{decimal}
 

@@ -16,7 +16,8 @@ pub struct Request<'m, 'a> {
 pub enum Task<'a> {
     /// To print an answer.
     Tell(Ask),
-    /// To write the catalogue to the file at `out`. A strict join ends with another status where a piece isn't noted whole.
+    /// To write the catalogue to the file at `out`. A strict join ends with another status where a piece isn't noted
+    /// whole.
     Join { out: &'a str, is_strict: bool },
 }
 

@@ -43,7 +43,8 @@ pub fn all_words<'a, 'b: 'a>(
 
 /// Adds the lines of the list that aren't empty.
 fn push_lines<'a>(all: &mut Vec<&'a str>, list: &'a str) -> Result<(), AllocError>
-    ensures { OnOk result (map (λ word. word.now) all.new.items ≡ map (λ word. word.now) all.old.items ++ naming_lines list.now) }
+    ensures { OnOk result (map (λ word. word.now) all.new.items
+        ≡ map (λ word. word.now) all.old.items ++ naming_lines list.now) }
 {
     let mut rest = list;
     'lines: while let Some((line, behind)) = rest.split_once('\n') {
@@ -55,7 +56,8 @@ fn push_lines<'a>(all: &mut Vec<&'a str>, list: &'a str) -> Result<(), AllocErro
 
 /// Adds the line unless it is empty.
 fn push_line<'a>(all: &mut Vec<&'a str>, line: &'a str) -> Result<(), AllocError>
-    ensures { OnOk result (map (λ word. word.now) all.new.items ≡ map (λ word. word.now) all.old.items ++ filter (λ l. nat_lt 0 (length l)) (line.now ∷ [])) }
+    ensures { OnOk result (map (λ word. word.now) all.new.items
+        ≡ map (λ word. word.now) all.old.items ++ filter (λ l. nat_lt 0 (length l)) (line.now ∷ [])) }
 {
     if !line.is_empty() {
         all.push(line)?;

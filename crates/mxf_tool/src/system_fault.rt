@@ -26,8 +26,8 @@ impl fmt::Display for SystemFault {
     }
 }
 
-/// What the system said last of a read or a write that failed. Readers and writers keep it here, since the libraries answer
-/// that one failed, and not why.
+/// What the system said last of a read or a write that failed. Readers and writers keep it here, since the libraries
+/// answer that one failed, and not why.
 #[derive(Drop)]
 pub struct LastFault {
     kept: Cell<Option<SystemFault>>,

@@ -34,8 +34,8 @@ impl Screen {
     }
 }
 
-/// Reads a file, and keeps what the system says of a read that fails. Where the reading is told, the line is gone once this is
-/// dropped.
+/// Reads a file, and keeps what the system says of a read that fails. Where the reading is told, the line is gone once
+/// this is dropped.
 #[derive(Drop)]
 pub struct Watched<'a, R: Eprint + Clock, F: Drop> {
     from: F,
@@ -44,8 +44,8 @@ pub struct Watched<'a, R: Eprint + Clock, F: Drop> {
 }
 
 impl<'a, R: Files + Eprint + Clock + AllocGlobal> Watched<'a, R, R::File> {
-    /// The file of the source. Its reading is told where standard error is a terminal and the source is a long piece in a
-    /// regular file.
+    /// The file of the source. Its reading is told where standard error is a terminal and the source is a long piece in
+    /// a regular file.
     pub fn new(
         rt: &'a R,
         screen: Screen,
@@ -67,8 +67,8 @@ impl<'a, R: Files + Eprint + Clock + AllocGlobal> Watched<'a, R, R::File> {
     }
 }
 
-/// What is told of the reading of the file at the path: nothing of a short one, nor of what isn't a regular file. Nor is it
-/// told where there is no memory for the line.
+/// What is told of the reading of the file at the path: nothing of a short one, nor of what isn't a regular file. Nor
+/// is it told where there is no memory for the line.
 fn progress_of<'a, R: Files + Eprint + Clock + AllocGlobal>(
     rt: &'a R,
     path: &str,

@@ -1,35 +1,31 @@
 -- The copies of the header metadata, once notes are there that begin where the others end, or above.
 use Rattle.mxf_views.proofs.Common.{◌≡◌, ℕ, ◌+◌, ◌-◌, ◌<◌, ◌≤◌, ◌⊎◌, true, false, cond, List, [], ◌∷◌, ◌++◌, Option}
 use Rattle.mxf_views.proofs.Common.{Some, None, refl, sym, ap, subst, ◌∙◌, inl, inr, arith, get_or, length, eqb-true}
-use Rattle.mxf_views.proofs.Common.{eq-eqb, ◌==◌, nat_lt, find, map, count_by, if◌then◌else◌, cons_option, filter_map}
-use Rattle.mxf_views.proofs.Common.{option_and_then, option_map, ◌^◌, result_ok, ltb-true, ltb-false}
+use Rattle.mxf_views.proofs.Common.{eq-eqb, ◌==◌, find, map, count_by, if◌then◌else◌, cons_option, filter_map}
+use Rattle.mxf_views.proofs.Common.{option_and_then, option_map, ◌^◌, result_ok}
 use Rattle.mxf_views.proofs.Common.{false_from_ne_true, sum_by-append, NoteParts, end_of, kind_of, In, pack_at}
 use Rattle.mxf_views.proofs.Common.{PartitionPackParts, read_as, keeps_value, lies_in, is_in_one, union_of, SharesByte}
 use Rattle.mxf_views.proofs.Common.{clear_notes, In-clear_notes, AreApart-clear_notes, less_by_offset, CopyInfo}
 use Rattle.mxf_views.proofs.Common.{CopiesRise, IsStart, copies_of, copy_from, copy_of, covered_of, has_metadata}
 use Rattle.mxf_views.proofs.Common.{is_preface_note, prefaces_of, start_of, zone_of, copy_by, MeetAt, clear_from}
 use Rattle.mxf_views.proofs.Common.{counted_above, PartitionParts, partition_at, partitions_of, sizes, length-filter_le}
-use Rattle.mxf_views.proofs.Common.{In-at}
+use Rattle.mxf_views.proofs.Common.{In-at, cases_lt, count_by-le-length, ends_before, or_itself, EndsBy, IsOfNone}
+use Rattle.mxf_views.proofs.Common.{IsStarting, IsUnionAt, range-le, clear_same, SameClear}
 use Rattle.std.specs.Prelude.{slice_get}
-use Rattle.std.proofs.lemmas.Bool.{eqb-false, cases_lt}
+use Rattle.std.proofs.lemmas.Bool.{eqb-false}
 use Rattle.std.proofs.lemmas.List.Elements.{filter_map-append}
-use Rattle.std.proofs.lemmas.List.Sums.{count_by-le-length}
 use Rattle.std.proofs.lemmas.Option.{get_or_from_slice_get, slice_get_within}
 use Rattle.mxf_views.proofs.CopyLaws.{copy_there}
 use Rattle.mxf_views.proofs.CopyUpdates.{start_is_found, copies_by_notes, end-partition_at, or_of, partition_found}
 use Rattle.mxf_views.proofs.PartitionSearch.{has_copy, copy_found, is_there, of_note, of_partition}
 use Rattle.mxf_views.proofs.AboveLaws.{no_bytes, clear_in_both, clear_of_both, new_are_clear, union_is_content}
 use Rattle.mxf_views.proofs.AboveLaws.{zone_from, zone_goes_on, zone_of_both}
-use Rattle.mxf_catalogue.proofs.SpanLaws.{ends_before}
-use Rattle.mxf_views.specs.Kept.{or_itself}
-use Rattle.mxf_views.specs.KeptAbove.{CountsFit, EndsBy, IsOfNone, IsStarting, IsUnionAt, counted_on, is_of}
-use Rattle.mxf_views.specs.KeptAbove.{with_counts}
+use Rattle.mxf_views.specs.KeptAbove.{CountsFit, counted_on, is_of, with_counts}
 use Rattle.mxf_views.specs.Spans.{size_of}
-use Rattle.mxf_views.proofs.CopyChanges.{SameClear, start_stays}
+use Rattle.mxf_views.proofs.CopyChanges.{start_stays}
 use Rattle.mxf_views.proofs.SpanCounts.{zone-count}
-use Rattle.mxf_views.proofs.StartLaws.{clear_same, start_is}
+use Rattle.mxf_views.proofs.StartLaws.{start_is}
 use Rattle.mxf_views.proofs.StartWalk.{none_there}
-use Rattle.mxf_klv.proofs.Counts.{range-le}
 use Rattle.mxf_klv.proofs.RisingBy.{at_most_last, rises_at}
 use Rattle.mxf_views.proofs.Rising.{by_partition}
 use Rattle.mxf_klv.specs.declared.kinds.Kind.TheVariants as kinds
@@ -84,7 +80,8 @@ unfolding partition_at
 no_fill n p e fill =
     let placed = λ (pack : PartitionPackParts). the_partition n pack in
     let none : option_map placed (read_as (pack_at kinds.Fill) n) ≡ None =
-    elim (keeps_value n) as (λ b. option_map placed (if b then result_ok (pack_at kinds.Fill n.held) else None) ≡ None) [
+    elim (keeps_value n) as (λ b. option_map placed (if b then result_ok (pack_at kinds.Fill n.held) else None)
+    ≡ None) [
       | true ↦ refl
       | false ↦ refl
     ] in
@@ -257,7 +254,8 @@ module _ (b : ℕ) (own other : List NoteParts) (m : MeetAt b own other) where
             let stays = is_there all note.note p ((In-clear_notes note.note all).1 clear) note.read in
             elim (is_of p.offset starting) as (λ t. is_of p.offset starting ≡ t → copy_of (clear_notes all) p
             ≡ cond t (or_itself c (find (λ d. d.partition == p.offset) (copies_of all))) c) [
-              | true ↦ λ t. sym (or_of c (copy_of (clear_notes all) p) (find (λ d. d.partition == p.offset) (copies_of all))
+              | true ↦ λ t. sym (or_of c (copy_of (clear_notes all) p) (find (λ d. d.partition == p.offset)
+                  (copies_of all))
                   (copy_found all p.offset p (partition_found all p stays) states))
               | false ↦ λ t. (
                   let at = copy_there (clear_notes own) p in
@@ -354,5 +352,6 @@ pub fits_at : (b : ℕ) (notes own : List NoteParts) (cs : List CopyInfo) (c : C
     → cs ≡ copies_of own → length (clear_notes notes) < 2 ^ 64 → In c cs → c.start ≡ Some s → CountsFit notes b c s
 fits_at b notes own cs c s u same fits h e =
     subst (λ (ns : List NoteParts). CountsFit ns b c s) (sym u.union)
-    (counts_fit b own u.other u.meet c s (subst (λ (ns : List NoteParts). length (clear_notes ns) < 2 ^ 64) u.union fits)
+    (counts_fit b own u.other u.meet c s (subst (λ (ns : List NoteParts). length
+    (clear_notes ns) < 2 ^ 64) u.union fits)
     (subst (λ (l : List CopyInfo). In c l) same h) e)

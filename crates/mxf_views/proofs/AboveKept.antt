@@ -1,8 +1,7 @@
 -- What is kept of a content, once notes are there that begin where the others end, or above.
 use Rattle.mxf_views.proofs.Common.{◌≡◌, ◌≤◌, ◌+◌, ◌++◌, ℕ, Bool, List, ap, arith, length, subst, sym, ◌∙◌, count_by}
 use Rattle.mxf_views.proofs.Common.{filter, map, NoteParts, clear_notes, CopyInfo, copies_of, offsets_where}
-use Rattle.mxf_views.proofs.Common.{states_metadata, clear_from}
-use Rattle.mxf_views.specs.KeptAbove.{IsUnionAt}
+use Rattle.mxf_views.proofs.Common.{states_metadata, clear_from, IsUnionAt}
 use Rattle.mxf_views.proofs.AboveLaws.{count_of_both, offsets_of_both}
 use Rattle.mxf_views.proofs.KeptRoom.{length-kept_copies, length-offsets_where}
 

@@ -1,35 +1,18 @@
--- A content and notes that begin where it ends, or above: the clear notes of both are those of the one and then those of
--- the other.
-use Rattle.mxf_views.proofs.Common.{◌≡◌, ℕ, ◌+◌, ◌-◌, ◌<◌, ◌≤◌, ◌⊎◌, Bool, cond, List, [], ◌∷◌, ◌++◌, refl, sym, ap}
-use Rattle.mxf_views.proofs.Common.{subst, ◌∙◌, inl, inr, arith, leb-true, le-leb, Less, ◌↔◌, nat_le, filter, map}
+-- A content and notes that begin where it ends, or above: the clear notes of both are those of the one and then those
+-- of the other.
+use Rattle.mxf_views.proofs.Common.{◌≡◌, ℕ, ◌+◌, ◌-◌, ◌≤◌, ◌⊎◌, Bool, cond, List, [], ◌++◌, sym, ap}
+use Rattle.mxf_views.proofs.Common.{◌∙◌, inl, inr, arith, leb-true, le-leb, ◌↔◌, nat_le, filter, map}
 use Rattle.mxf_views.proofs.Common.{count_by, and_from, and_parts, NoteParts, IsNote, end_of, In, AreReduced}
-use Rattle.mxf_views.proofs.Common.{IsCatalogue, IsContent, union_of, AreMaximal, LiesIn, Run, IsClear, clear_notes}
+use Rattle.mxf_views.proofs.Common.{IsCatalogue, IsContent, union_of, LiesIn, Run, IsClear, clear_notes}
 use Rattle.mxf_views.proofs.Common.{lies_in, same_content, In-clear_notes, IsContent-clear_notes, zone_of}
-use Rattle.mxf_views.proofs.Common.{offsets_where, MeetAt, clear_from, less_by_offset, all-In, all_from_In, In-append}
-use Rattle.mxf_views.proofs.Common.{same_bool}
-use Rattle.std.proofs.lemmas.List.{map-append}
-use Rattle.std.proofs.lemmas.List.Elements.{filter-append}
-use Rattle.mxf_klv.specs.Note.{note_cmp}
-use Rattle.mxf_catalogue.specs.Content.{reduced_union}
-use Rattle.mxf_catalogue.specs.NoteLists.{Covers}
-use Rattle.mxf_catalogue.proofs.ContentLaws.{In-union_of, IsContent-union_of}
+use Rattle.mxf_views.proofs.Common.{offsets_where, MeetAt, clear_from, all-In, In-append}
+use Rattle.mxf_views.proofs.Common.{same_bool, map-append, filter-append, reduced_union, Covers, In-union_of}
+use Rattle.mxf_views.proofs.Common.{IsContent-union_of, filter_none, filter_all, covers_first}
 use Rattle.mxf_catalogue.proofs.HeadLaws.{reduced-same, reduced_union-is}
-use Rattle.mxf_views.proofs.GapsLaws.{covers_first}
-use Rattle.mxf_views.proofs.KeptRoom.{clear_in_union}
-use Rattle.mxf_klv.proofs.Lists.{filter_none, filter_all, filter_alike}
+use Rattle.mxf_klv.proofs.Lists.{filter_alike}
+use Rattle.mxf_catalogue.proofs.ClearLaws.{clear_in_union, contents_append}
 
 -- ---- lists
-
-contents_append : (xs ys : List NoteParts) → IsContent xs → IsContent ys
-    → ((m n : NoteParts) → In m xs → In n ys → m.offset < n.offset) → IsContent (xs ++ ys)
-contents_append [] ys r s f = s
-contents_append (x ∷ xs) ys r s f = (
-  all_from_In (λ y. note_cmp x y ≡ Less) (xs ++ ys) (λ y h. elim ((In-append y xs ys).0 h) [
-    | inl k ↦ all-In (λ z. note_cmp x z ≡ Less) xs y r.0 k
-    | inr k ↦ less_by_offset x y (f x y (inl refl) k)
-  ]),
-  contents_append xs ys r.1 s (λ m n h k. f m n (inr h) k),
-)
 
 -- ---- the clear notes
 
@@ -183,30 +166,6 @@ module _ (b : ℕ) (own other : List NoteParts) (m : MeetAt b own other) where
       count_append test xs ys = Rattle.std.proofs.lemmas.List.Sums.sum_by-append (λ n. cond (test n) 1 0) xs ys
 
 -- ---- how two catalogues meet
-
-starts_above : (low : ℕ) (runs : List Run) (r : Run) → AreMaximal low runs → In r runs → low ≤ r.start
-starts_above low [] r m h = absurd h
-starts_above low (s ∷ runs) r m (inl e) = let l : low ≤ s.start = m.0 in subst (λ (x : Run). low ≤ x.start) (sym e) l
-starts_above low (s ∷ runs) r m (inr h) =
-    let ih = starts_above (s.end + 1) runs r m.2 h in
-    let l : low ≤ s.start = m.0 in
-    let k : s.start < s.end = m.1 in omega (arith, ih, l, k)
-
--- What lies in the runs lies at or above the start of the first.
-pub all_above : (end : ℕ) (runs rest : List Run) (first : Run) → AreMaximal 0 runs → runs ≡ first ∷ rest
-    → end ≤ first.start → (offset : ℕ) → LiesIn runs offset → end ≤ offset
-all_above end runs rest first m e l offset h =
-    let all : AreMaximal 0 (first ∷ rest) = subst (AreMaximal 0) e m in
-    let from : h.0.start ≤ offset = h.2.from in
-    elim (subst (In h.0) e h.1) [
-      | inl q ↦ (let s : h.0.start ≡ first.start = ap (λ (r : Run). r.start) q in omega (arith, s, from, l))
-      | inr k ↦ (
-          let s = starts_above (first.end + 1) rest h.0 all.2 k in
-          let f : first.start < first.end = all.1 in omega (arith, s, f, from, l))
-    ]
-
-pub none_above : (end : ℕ) (runs : List Run) → runs ≡ [] → (offset : ℕ) → LiesIn runs offset → end ≤ offset
-none_above end runs e offset h = absurd (subst (In h.0) e h.1)
 
 pub meet_at : (end : ℕ) (own other : List NoteParts) (others : List Run) → IsCatalogue own → IsCatalogue other
     → AreReduced own → AreReduced other → Covers others other

@@ -1,11 +1,12 @@
 -- The preferred copy of those seen so far.
-use Rattle.mxf_views.proofs.Common.{◌≡◌, ◌+◌, ◌<◌, ◌≤◌, ◌⊎◌, Bool, true, false, List, [], ◌∷◌, ◌++◌, Option, Some, None}
+use Rattle.mxf_views.proofs.Common.{◌≡◌, ◌<◌, ◌⊎◌, true, false, List, [], ◌∷◌, ◌++◌, Option, Some, None}
 use Rattle.mxf_views.proofs.Common.{refl, cond, append_assoc, append-nil, subst, ap, ◌∙◌, sym, inl, inr, arith}
-use Rattle.mxf_views.proofs.Common.{eqb-true, eq-eqb, ℕ, ◌↔◌, ◌&&◌, ◌||◌, ◌==◌, nat_lt, is_some, ltb-true, ltb-false}
-use Rattle.mxf_views.proofs.Common.{and_from, and_parts, In, CopyInfo, best_of, preferred_of, standing}
-use Rattle.mxf_views.specs.Copies.{better, is_candidate, is_above, IsNotAbove, IsBest, IsCandidate, IsPreferred}
+use Rattle.mxf_views.proofs.Common.{eqb-true, eq-eqb, ℕ, ◌↔◌, ◌&&◌, ◌==◌, nat_lt, is_some, ltb-true, ltb-false}
+use Rattle.mxf_views.proofs.Common.{and_from, and_parts, In, CopyInfo, best_of, preferred_of, standing, better}
+use Rattle.mxf_views.proofs.Common.{is_candidate, is_above, IsBest, IsPreferred, or_cases, or_parts, and_cases}
+use Rattle.mxf_views.proofs.Common.{cases_order}
+use Rattle.mxf_views.specs.Copies.{IsNotAbove, IsCandidate}
 use Rattle.mxf_klv.proofs.Lists.{In-end}
-use Rattle.std.proofs.lemmas.Bool.{or_cases, or_parts, and_cases, cases_order}
 
 candidate_says : (c : CopyInfo) (o : Option ℕ) → c.start ≡ o → is_some o ≡ true → c.prefaces ≡ 1 → IsCandidate c
 candidate_says c None e h one = absurd cc

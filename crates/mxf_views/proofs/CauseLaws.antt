@@ -1,25 +1,24 @@
 -- The cause of each code is met at the offsets that are found of it, and at no others.
-use Rattle.mxf_views.proofs.Common.{◌≡◌, ◌≢◌, ℕ, ◌+◌, ◌-◌, ◌<◌, ◌≤◌, ◌⊎◌, Bool, true, false, List, [], ◌∷◌, refl, sym}
+use Rattle.mxf_views.proofs.Common.{◌≡◌, ◌≢◌, ℕ, ◌+◌, ◌-◌, ◌<◌, ◌≤◌, ◌⊎◌, Bool, true, false, List, refl, sym}
 use Rattle.mxf_views.proofs.Common.{ap, ◌∙◌, inl, inr, arith, eqb-true, eq-eqb, ◌↔◌, ◌&&◌, ◌||◌, ◌==◌, nat_lt, not}
 use Rattle.mxf_views.proofs.Common.{is_some, filter, map, ltb-false, ltb-true, or_cases, and_from, and_parts, Status}
 use Rattle.mxf_views.proofs.Common.{NoteParts, end_of, kind_of, In, PartitionPackParts, pack_at, part_and_status}
-use Rattle.mxf_views.proofs.Common.{Footer, Run, AreMaximal, IsContent, IsClear, clear_notes, In-clear_notes}
+use Rattle.mxf_views.proofs.Common.{Footer, Run, IsContent, IsClear, clear_notes, In-clear_notes}
 use Rattle.mxf_views.proofs.Common.{PartitionParts, is_footer, is_no_unreadable_pack, link_of, pack_of, partition_at}
 use Rattle.mxf_views.proofs.Common.{partitions_of, gaps_of, IsReadable, AtClear, In-map, list_any-In, either}
-use Rattle.mxf_views.proofs.Common.{not-true-false, not_true}
-use Rattle.mxf_sets.specs.PartitionPack.{IsPartitionKind}
-use Rattle.mxf_catalogue.specs.Disputes.{DisputedParts, IsDisputedOf, Overlaps, SharesOffset, disputed_notes}
-use Rattle.mxf_catalogue.specs.Disputes.{disputed_parts}
+use Rattle.mxf_views.proofs.Common.{not-true-false, not_true, IsPartitionKind, disputed_notes, disputed_parts}
+use Rattle.mxf_views.proofs.Common.{footer_stands_at, In-chosen, not_equal, has_byte, kind_says, kind_tells}
+use Rattle.mxf_catalogue.specs.Disputes.{DisputedParts, IsDisputedOf, Overlaps, SharesOffset}
 use Rattle.mxf_catalogue.proofs.DisputeLaws.{In-disputed_notes, IsDisputed-two_ways, is_offset_shared-SharesOffset}
 use Rattle.mxf_catalogue.proofs.DisputeLaws.{is_overlapped-Overlaps}
-use Rattle.mxf_views.specs.Findings.{footer_stands_at, is_misplaced, is_open, is_open_footer, is_unfit, lacks_footer}
+use Rattle.mxf_views.specs.Findings.{is_misplaced, is_open, is_open_footer, is_unfit, lacks_footer}
 use Rattle.mxf_views.specs.FindingCauses.{AtNote, AtPartition, IsGapStart, IsOpen, IsUnlinked, LacksFooter}
-use Rattle.mxf_views.proofs.ChainLaws.{footer_says, kind_says, kind_tells}
+use Rattle.mxf_views.proofs.ChainLaws.{footer_says}
 use Rattle.mxf_views.proofs.GapsLaws.{gaps_are}
 use Rattle.mxf_views.proofs.PartitionLaws.{link_iff}
 use Rattle.mxf_views.proofs.ReadingLaws.{is_some_readable}
-use Rattle.mxf_klv.proofs.Lists.{In-chosen}
-use Rattle.mxf_klv.proofs.Tests.{is_some-map, not_equal}
+use Rattle.mxf_klv.proofs.Tests.{is_some-map}
+use Rattle.mxf_catalogue.proofs.RunBounds.{between}
 use Rattle.mxf_klv.specs.declared.kinds.Status.TheVariants as statuses
 use Rattle.mxf_views.specs.declared.chain.Link.TheVariants as links
 
@@ -27,80 +26,41 @@ use Rattle.mxf_views.specs.declared.chain.Link.TheVariants as links
 
 -- ---- disputes
 
+-- the offsets of the disputed notes that are disputed in one way
+at_disputed : (p : DisputedParts → Bool) (P : NoteParts → Type 0) (notes : List NoteParts) (o : ℕ)
+    → ((d : DisputedParts) → IsDisputedOf d notes → (p d ≡ true) ↔ P d.note)
+    → ((n : NoteParts) → P n → SharesOffset n notes ⊎ Overlaps n notes)
+    → In o (map (λ d. d.note.offset) (filter p (disputed_notes notes))) ↔ AtNote notes o P
+at_disputed p P notes o each two =
+    let m = In-chosen (λ (d : DisputedParts). d.note.offset) p (disputed_notes notes) o in (
+      λ h.
+          let s = m.0 h in
+          let d = (In-disputed_notes s.0 notes).0 s.1 in
+          (s.0.note, d.held, s.3, (each s.0 d).0 s.2),
+      λ s.
+          let n = s.0 in
+          let d : IsDisputedOf (disputed_parts n notes) notes = record {
+            held = s.1;
+            disputed = (IsDisputed-two_ways n notes).1 (two n s.3);
+            same_offset = is_offset_shared-SharesOffset n notes;
+            overlaps = is_overlapped-Overlaps n notes;
+          } in
+          let is = disputed_parts n notes in
+          m.1 (is, (In-disputed_notes is notes).1 d, (each is d).1 s.3, s.2),
+    )
+
 pub shared_offsets : (notes : List NoteParts) (o : ℕ)
     → In o (map (λ d. d.note.offset) (filter (λ d. d.same_offset) (disputed_notes notes)))
     ↔ AtNote notes o (λ n. SharesOffset n notes)
 shared_offsets notes o =
-    let m = In-chosen (λ (d : DisputedParts). d.note.offset) (λ d. d.same_offset) (disputed_notes notes) o in (
-      λ h.
-          let s = m.0 h in
-          let d = (In-disputed_notes s.0 notes).0 s.1 in
-          (s.0.note, d.held, s.3, d.same_offset.0 s.2),
-      λ s.
-          let n = s.0 in
-          let t = is_offset_shared-SharesOffset n notes in
-          let d : IsDisputedOf (disputed_parts n notes) notes = record {
-            held = s.1;
-            disputed = (IsDisputed-two_ways n notes).1 (inl s.3);
-            same_offset = t;
-            overlaps = is_overlapped-Overlaps n notes;
-          } in
-          m.1 (disputed_parts n notes, (In-disputed_notes (disputed_parts n notes) notes).1 d, t.1 s.3, s.2),
-    )
+    at_disputed (λ d. d.same_offset) (λ n. SharesOffset n notes) notes o (λ d is. is.same_offset) (λ n s. inl s)
 
 pub overlaps : (notes : List NoteParts) (o : ℕ)
     → In o (map (λ d. d.note.offset) (filter (λ d. d.overlaps) (disputed_notes notes)))
     ↔ AtNote notes o (λ n. Overlaps n notes)
-overlaps notes o =
-    let m = In-chosen (λ (d : DisputedParts). d.note.offset) (λ d. d.overlaps) (disputed_notes notes) o in (
-      λ h.
-          let s = m.0 h in
-          let d = (In-disputed_notes s.0 notes).0 s.1 in
-          (s.0.note, d.held, s.3, d.overlaps.0 s.2),
-      λ s.
-          let n = s.0 in
-          let t = is_overlapped-Overlaps n notes in
-          let d : IsDisputedOf (disputed_parts n notes) notes = record {
-            held = s.1;
-            disputed = (IsDisputed-two_ways n notes).1 (inr s.3);
-            same_offset = is_offset_shared-SharesOffset n notes;
-            overlaps = t;
-          } in
-          m.1 (disputed_parts n notes, (In-disputed_notes (disputed_parts n notes) notes).1 d, t.1 s.3, s.2),
-    )
+overlaps notes o = at_disputed (λ d. d.overlaps) (λ n. Overlaps n notes) notes o (λ d is. is.overlaps) (λ n s. inr s)
 
 -- ---- gaps
-
--- runs of a maximal list begin at or above what it does, and hold an offset
-bounds : (low : ℕ) (runs : List Run) (r : Run) → AreMaximal low runs → In r runs → (low ≤ r.start) × (r.start < r.end)
-bounds low [] r m h = absurd h
-bounds low (s ∷ runs) r m (inl e) =
-    let a = ap (λ (x : Run). x.start) e in
-    let b = ap (λ (x : Run). x.end) e in
-    let l : low ≤ s.start = m.0 in
-    let k : s.start < s.end = m.1 in
-    (omega (arith, a), omega (arith, a, b))
-bounds low (s ∷ runs) r m (inr h) =
-    let ih = bounds (s.end + 1) runs r m.2 h in
-    let l : low ≤ s.start = m.0 in
-    let k : s.start < s.end = m.1 in
-    let i : s.end + 1 ≤ r.start = ih.0 in
-    (omega arith, ih.1)
-
--- an offset lies between two of them
-between : (low : ℕ) (runs : List Run) (r s : Run) → AreMaximal low runs → In r runs → In s runs
-    → (r.start ≡ s.start) ⊎ ((r.end < s.start) ⊎ (s.end < r.start))
-between low [] r s m h k = absurd h
-between low (x ∷ runs) r s m (inl e) (inl f) = inl (ap (λ (y : Run). y.start) e ∙ sym (ap (λ (y : Run). y.start) f))
-between low (x ∷ runs) r s m (inl e) (inr k) =
-    let b = ap (λ (y : Run). y.end) e in
-    let i : x.end + 1 ≤ s.start = (bounds (x.end + 1) runs s m.2 k).0 in
-    inr (inl (omega (arith, b, i)))
-between low (x ∷ runs) r s m (inr h) (inl f) =
-    let b = ap (λ (y : Run). y.end) f in
-    let i : x.end + 1 ≤ r.start = (bounds (x.end + 1) runs r m.2 h).0 in
-    inr (inr (omega (arith, b, i)))
-between low (x ∷ runs) r s m (inr h) (inr k) = between (x.end + 1) runs r s m.2 h k
 
 pub gap_starts : (notes : List NoteParts) (o : ℕ) → IsContent notes
     → In o (map (λ r. r.start) (gaps_of notes)) ↔ IsGapStart notes o
@@ -112,7 +72,7 @@ gap_starts notes o content =
           let s = m.0 h in
           let r = s.0 in
           let at : o ≡ r.start = s.2 in
-          let b : r.start < r.end = (bounds 0 runs r gaps.maximal s.1).1 in
+          let b : r.start < r.end = has_byte 0 runs r gaps.maximal s.1 in
           record {
             gap = (gaps.offsets o).0 (r, s.1, record { from = omega (arith, at); before = omega (arith, at, b) });
             first = λ before next g.
@@ -248,9 +208,15 @@ footer_lacks ps p =
           record {
             named = zero.0 s.0;
             none = λ q k f e. not-true-false (footer_stands_at at ps) s.1
-                (there.1 (q, k, and_from (is_footer q.pack.part) (q.offset == at) (ap is_footer f) (eq-eqb q.offset at e)));
+                (there.1 (
+                  q,
+                  k,
+                  and_from (is_footer q.pack.part) (q.offset == at) (ap is_footer f)
+                      (eq-eqb q.offset at e),
+                ));
           },
-      λ l. and_from (not (at == 0)) (not (footer_stands_at at ps)) (zero.1 l.named) (not_true (footer_stands_at at ps) (λ t.
+      λ l. and_from (not (at == 0)) (not (footer_stands_at at ps)) (zero.1 l.named) (not_true (footer_stands_at at ps)
+          (λ t.
           let s = there.0 t in
           let b = and_parts (is_footer s.0.pack.part) (s.0.offset == at) s.2 in
           l.none s.0 s.1 (footer_says s.0.pack.part b.0) (eqb-true s.0.offset at b.1))),

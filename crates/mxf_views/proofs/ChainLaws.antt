@@ -1,23 +1,19 @@
 -- Whether the partitions hang together.
 use Rattle.mxf_views.proofs.Common.{◌≡◌, ◌<◌, ◌≤◌, Bool, true, false, List, [], ◌∷◌, refl, sym, ap, subst, ◌∙◌, inl}
 use Rattle.mxf_views.proofs.Common.{inr, arith, eqb-true, eq-eqb, ◌↔◌, ◌&&◌, ◌||◌, ◌==◌, nat_lt, not, if◌then◌else◌}
-use Rattle.mxf_views.proofs.Common.{is_some, count_by, list_all, ltb-true, ltb-false, and_from, false_from_ne_true}
-use Rattle.mxf_views.proofs.Common.{and_parts, NoteParts, kind_of, In, Kind, PackPart, Header, Body, Footer, pack_kind}
-use Rattle.mxf_views.proofs.Common.{part_and_status, IsContent, IsClear, SharesByte, clear_notes, In-clear_notes, First}
+use Rattle.mxf_views.proofs.Common.{is_some, count_by, list_all, ltb-true, and_from, false_from_ne_true}
+use Rattle.mxf_views.proofs.Common.{and_parts, NoteParts, kind_of, In, PackPart, Header, Footer}
+use Rattle.mxf_views.proofs.Common.{part_and_status, IsContent, IsClear, clear_notes, In-clear_notes, First}
 use Rattle.mxf_views.proofs.Common.{Held, Whole, Broken, PartitionParts, AreInOrder, chain_of, is_footer, is_greatest}
 use Rattle.mxf_views.proofs.Common.{is_header, is_linked, is_no_unreadable_pack, link_of, partition_at, partitions_of}
 use Rattle.mxf_views.proofs.Common.{stands_above, count_by-cons, tally, list_any-In, In-filter_map, all-In, In-list_all}
-use Rattle.mxf_views.proofs.Common.{not-true-false, lt-ltb, cases_lt, clear-alone}
-use Rattle.mxf_sets.specs.PartitionPack.{IsPartitionKind}
-use Rattle.mxf_views.specs.declared.chain.Link.{Link}
-use Rattle.mxf_views.specs.declared.chain.Link.TheVariants.{Skips, Missing, Wrong}
-use Rattle.mxf_views.specs.Partitions.{StandsAt, IsLink, IsOnly, HangTogether, is_first, is_held, hang_together}
+use Rattle.mxf_views.proofs.Common.{not-true-false, lt-ltb, cases_lt, clear-alone, IsPartitionKind, Link}
+use Rattle.mxf_views.proofs.Common.{StandsAt, IsLink, HangTogether, count-none, list_all-In}
+use Rattle.mxf_views.proofs.Common.{kind_says, kind_tells}
+use Rattle.mxf_views.specs.Partitions.{IsOnly, is_first, is_held, hang_together}
 use Rattle.mxf_views.proofs.PartitionLaws.{link_iff, offset-partition_at, partitions_rise}
-use Rattle.mxf_views.proofs.StartLaws.{clear_same}
-use Rattle.mxf_klv.proofs.Counts.{count-none, count-one}
-use Rattle.mxf_klv.proofs.Lists.{list_all-In}
+use Rattle.mxf_klv.proofs.Counts.{count-one}
 use Rattle.mxf_klv.proofs.Tests.{some_is}
-use Rattle.mxf_klv.specs.declared.kinds.Kind.TheVariants as kinds
 
 header_says : (part : PackPart) → is_header part ≡ true → part ≡ Header
 header_says Header h = refl
@@ -34,21 +30,6 @@ first_says _ h = absurd cc
 held_says : (l : Link) → is_held l ≡ true → l ≡ Held
 held_says Held h = refl
 held_says _ h = absurd cc
-
-pub kind_says : (k : Kind) → is_some (part_and_status k) ≡ true → IsPartitionKind k
-kind_says (kinds.Header s) h = (Header, s, refl)
-kind_says (kinds.Body s) h = (Body, s, refl)
-kind_says (kinds.Footer s) h = (Footer, s, refl)
-kind_says _ h = absurd cc
-
-pack_kind_tells : (part : PackPart) → (s : Rattle.mxf_klv.specs.declared.kinds.Status.Status)
-    → is_some (part_and_status (pack_kind part s)) ≡ true
-pack_kind_tells Header s = refl
-pack_kind_tells Body s = refl
-pack_kind_tells Footer s = refl
-
-pub kind_tells : (k : Kind) → IsPartitionKind k → is_some (part_and_status k) ≡ true
-kind_tells k s = ap (λ (x : Kind). is_some (part_and_status x)) s.2 ∙ pack_kind_tells s.0 s.1
 
 -- where only one passes, one is counted
 one-count : (p : PartitionParts → Bool) (ps : List PartitionParts) (x : PartitionParts) → AreInOrder ps → In x ps
@@ -194,7 +175,8 @@ whole_says notes w =
       footer = f.0;
       one_footer = f.1;
       greatest = greatest_says ps f.0 g;
-      held = λ p k ne. held_link ps p (false_from_ne_true (is_header p.pack.part) (λ t. ne (header_is ps h.0 p h.1 k t)))
+      held = λ p k ne. held_link ps p (false_from_ne_true (is_header p.pack.part) (λ t. ne
+          (header_is ps h.0 p h.1 k t)))
           (list_all-In (is_linked ps) ps p w2.1 k);
       readable = λ n k kind. stands_there notes n k kind
           (list_all-In is_no_unreadable_pack (clear_notes notes) n w4.1 ((In-clear_notes n notes).1 k));
@@ -236,9 +218,10 @@ hang_together_from notes r w =
 -- The chain is whole exactly where the partitions hang together.
 pub chain_iff : (notes : List NoteParts) → IsContent notes → (chain_of notes ≡ Whole) ↔ HangTogether notes
 chain_iff notes r = (
-  λ e. elim (hang_together notes) as (λ b. hang_together notes ≡ b → (if b then Whole else Broken) ≡ Whole → HangTogether notes) [
-    | true ↦ λ t _. whole_says notes t
-    | false ↦ λ t q. absurd cc
-  ] refl e,
+  λ e. elim (hang_together notes) as (λ b. hang_together notes ≡ b → (if b then Whole else Broken) ≡ Whole
+      → HangTogether notes) [
+        | true ↦ λ t _. whole_says notes t
+        | false ↦ λ t q. absurd cc
+      ] refl e,
   λ w. ap (λ (b : Bool). if b then Whole else Broken) (hang_together_from notes r w),
 )

@@ -1,92 +1,25 @@
 -- What adding a note changes among the clear notes, and among the offsets where clear notes of a kind stand.
-use Rattle.mxf_views.proofs.Common.{◌≡◌, ◌≢◌, ℕ, ◌+◌, ◌<◌, ◌≤◌, ◌⊎◌, Bool, true, false, List, [], ◌∷◌, Some, None, refl}
+use Rattle.mxf_views.proofs.Common.{◌≡◌, ℕ, ◌<◌, ◌≤◌, ◌⊎◌, Bool, true, false, List, [], ◌∷◌, Some, None, refl}
 use Rattle.mxf_views.proofs.Common.{sym, ap, subst, ◌∙◌, inl, inr, arith, leb-true, le-leb, eqb-true, eq-eqb, ◌↔◌, ◌||◌}
 use Rattle.mxf_views.proofs.Common.{◌==◌, nat_le, nat_lt, filter, find, map, max, nat_cmp-IsAntisymmetric, nat_cmp}
-use Rattle.mxf_views.proofs.Common.{ltb-true, lt-ltb, ltb-false, and_from, nat_cmp_total, NoteParts, end_of, head_note}
-use Rattle.mxf_views.proofs.Common.{In, IsRising, with_one, same_from_members, AreReduced, IsContent, has_note}
+use Rattle.mxf_views.proofs.Common.{ltb-true, lt-ltb, nat_cmp_total, NoteParts, end_of}
+use Rattle.mxf_views.proofs.Common.{In, IsRising, with_one, same_from_members, IsContent}
 use Rattle.mxf_views.proofs.Common.{reduced_with, IsClear, SharesByte, clear_notes, In-clear_notes, clear-alone}
 use Rattle.mxf_views.proofs.Common.{AreApart-clear_notes, AreApart-filter, IsHull, followed, is_outside, notes_at}
-use Rattle.mxf_views.proofs.Common.{offsets_where, In-filter, In-map, found-In, none_found, cases_lt}
-use Rattle.std.specs.Prelude.{min}
-use Rattle.mxf_klv.specs.Rising.{In-with_one, IsRising-with_one}
-use Rattle.mxf_catalogue.proofs.HeadLaws.{In-reduced_with, IsContent-reduced_with, same_note}
-use Rattle.mxf_catalogue.proofs.DisputeLaws.{clear_at-found, is_byte_shared-SharesByte, SharesByte-symmetric}
+use Rattle.mxf_views.proofs.Common.{offsets_where, In-filter, In-map, found-In, none_found, cases_lt, min}
+use Rattle.mxf_views.proofs.Common.{IsRising-with_one, IsContent-reduced_with}
+use Rattle.mxf_views.proofs.Common.{clear_at-found, rising_apart, stands_clear, rising-filter, In-with_new}
+use Rattle.mxf_views.proofs.Common.{IsNew, clear_after}
+use Rattle.mxf_klv.specs.Rising.{In-with_one}
+use Rattle.mxf_catalogue.proofs.DisputeLaws.{SharesByte-symmetric}
 use Rattle.mxf_catalogue.specs.NoteLists.{touching}
-use Rattle.mxf_catalogue.proofs.MovedLaws.{rising_apart}
-use Rattle.mxf_catalogue.proofs.PartLaws.{In-touching, with_whole}
-use Rattle.mxf_views.specs.Kept.{passes, stands_clear}
-use Rattle.mxf_views.proofs.StartLaws.{clear_same}
-use Rattle.mxf_catalogue.specs.ReducedLaws.{rising-filter}
+use Rattle.mxf_catalogue.proofs.PartLaws.{In-touching}
+use Rattle.mxf_views.specs.Kept.{passes}
+use Rattle.mxf_catalogue.proofs.ClearLaws.{ordered, shared_low, shares}
 
 -- ---- which notes are clear
 
-shares : (m n : NoteParts) → m.offset < end_of n → n.offset < end_of m → SharesByte m n
-shares m n l h = (is_byte_shared-SharesByte m n).0 (and_from _ _ (lt-ltb m.offset (end_of n) l) (lt-ltb n.offset (end_of m) h))
-
-shared_low : (m n : NoteParts) → SharesByte m n → m.offset < end_of n
-shared_low m n s = let a : m.offset ≤ s.0 = s.1.from in let b : s.0 + 1 ≤ end_of n = s.2.before in omega arith
-
--- The note is neither one of the reduced notes nor the head of one.
-abbrev pub IsNew : NoteParts → List NoteParts → Type 0
-IsNew x notes = AreReduced notes × (has_note notes x → ⊥)
-
-pub new_is_none : (x n : NoteParts) (notes : List NoteParts) → IsNew x notes → In n notes → x ≢ n
-new_is_none x n notes new h e = new.1 (inl (subst (λ (y : NoteParts). In y notes) (sym e) h))
-
-pub In-with_new : (x m : NoteParts) (notes : List NoteParts) → IsNew x notes
-    → In m (reduced_with x notes) ↔ ((m ≡ x) ⊎ (In m notes × (m ≢ head_note x)))
-In-with_new x m notes new = In-reduced_with m x notes new.0 new.1
-
--- A whole note is no head.
-pub no_head : (x n : NoteParts) → n.whole ≡ true → n ≢ head_note x
-no_head x n w e = let h : n.whole ≡ false = ap (λ (y : NoteParts). y.whole) e in cc (w, h)
-
--- Clear with a new note are: the note itself, where it is, and what was clear and shares no byte with it.
-pub clear_after : (x : NoteParts) (notes : List NoteParts) → IsNew x notes → (n : NoteParts)
-    → IsClear n (reduced_with x notes)
-    ↔ (((n ≡ x) × IsClear x (reduced_with x notes)) ⊎ (IsClear n notes × (SharesByte x n → ⊥)))
-clear_after x notes new n =
-    let all = λ (m : NoteParts). In-with_new x m notes new in
-    let added = (all x).1 (inl refl) in (
-      λ c. elim ((all n).0 c.held) [
-        | inl e ↦ inl (e, subst (λ (y : NoteParts). IsClear y (reduced_with x notes)) e c)
-        | inr k ↦ (
-            let other = new_is_none x n notes new k.0 in
-            inr (
-              record {
-                held = k.0;
-                whole = c.whole;
-                undisputed = λ d. elim (same_note d.0 (head_note x)) [
-                  | inl e ↦ c.undisputed (x, added, other, with_whole x n (subst (λ (y : NoteParts). SharesByte y n) e d.3))
-                  | inr ne ↦ c.undisputed (d.0, (all d.0).1 (inr (d.1, ne)), d.2, d.3)
-                ];
-              },
-              λ s. c.undisputed (x, added, other, s),
-            ))
-      ],
-      λ h. elim h [
-        | inl p ↦ subst (λ (y : NoteParts). IsClear y (reduced_with x notes)) (sym p.0) p.1
-        | inr q ↦ record {
-          held = (all n).1 (inr (q.0.held, no_head x n q.0.whole));
-          whole = q.0.whole;
-          undisputed = λ d. elim ((all d.0).0 d.1) [
-            | inl e ↦ q.1 (subst (λ (y : NoteParts). SharesByte y n) e d.3)
-            | inr k ↦ q.0.undisputed (d.0, k.0, d.2, d.3)
-          ];
-        }
-      ],
-    )
-
 -- ---- the hull of what comes and goes
-
--- Two clear notes of which one begins below the other's end, but isn't the other, stand one behind the other.
-ordered : (notes : List NoteParts) (m n : NoteParts) → IsClear m notes → IsClear n notes → (m ≡ n → ⊥)
-    → m.offset < end_of n → end_of m ≤ n.offset
-ordered notes m n c d ne l =
-    elim (cases_lt n.offset (end_of m)) [
-      | inl g ↦ absurd (ne (clear_same notes m n c d (shares m n l g)))
-      | inr g ↦ g
-    ]
 
 -- A clear note that shares no byte with the new one lies outside.
 pub lies_outside : (x n : NoteParts) (notes : List NoteParts) (start end : ℕ) → IsHull x notes start end
@@ -94,14 +27,14 @@ pub lies_outside : (x n : NoteParts) (notes : List NoteParts) (start end : ℕ) 
 lies_outside x n notes start end h c far =
     elim (cases_lt x.offset (end_of n)) [
       | inr low ↦ elim h.least [
-            | inl q ↦ inl (omega (arith, q, low))
-            | inr m ↦ (
-                let q : start ≡ m.0.offset = m.3 in
-                let l : x.offset < end_of m.0 = shared_low x m.0 m.2 in
-                let other : n ≡ m.0 → ⊥ = λ s. far (subst (SharesByte x) (sym s) m.2) in
-                let o : end_of n ≤ m.0.offset = ordered notes n m.0 c m.1 other (omega (arith, l, low)) in
-                inl (omega (arith, q, o)))
-          ]
+        | inl q ↦ inl (omega (arith, q, low))
+        | inr m ↦ (
+            let q : start ≡ m.0.offset = m.3 in
+            let l : x.offset < end_of m.0 = shared_low x m.0 m.2 in
+            let other : n ≡ m.0 → ⊥ = λ s. far (subst (SharesByte x) (sym s) m.2) in
+            let o : end_of n ≤ m.0.offset = ordered notes n m.0 c m.1 other (omega (arith, l, low)) in
+            inl (omega (arith, q, o)))
+      ]
       | inl e ↦ (
           let high : end_of x ≤ n.offset = elim (cases_lt n.offset (end_of x)) [
             | inl f ↦ absurd (far (shares x n e f))
@@ -178,7 +111,8 @@ hull_with x notes start end m left h =
     record {
       all = λ n c s. elim (h.all n c s) [
         | inl k ↦ elim k [
-          | inl e ↦ inr (subst (λ (y : NoteParts). (min start m.offset ≤ y.offset) × (end_of y ≤ max end (end_of m))) (sym e)
+          | inl e ↦ inr (subst (λ (y : NoteParts). (min start m.offset ≤ y.offset)
+              × (end_of y ≤ max end (end_of m))) (sym e)
               (omega arith, omega arith))
           | inr i ↦ inl i
         ]
@@ -221,7 +155,8 @@ each_found : (notes ns : List NoteParts) → ((n : NoteParts) → In n ns → Is
     → notes_at notes (map (λ n. n.offset) ns) ≡ ns
 each_found notes [] c = refl
 each_found notes (n ∷ ns) c =
-    rw (clear_at-found n.offset notes n (c n (inl refl)) refl) (ap (λ l. n ∷ l) (each_found notes ns (λ m h. c m (inr h))))
+    rw (clear_at-found n.offset notes n (c n (inl refl)) refl) (ap (λ l. n ∷ l) (each_found notes ns (λ m h. c m
+    (inr h))))
 
 -- ---- where clear notes of a kind stand
 
@@ -265,7 +200,15 @@ In-offsets_after test x notes start end new h o =
             let b = kept.0 i in
             let s = old.0 b.0 in
             let out : is_outside start end s.0.offset ≡ true = ap (is_outside start end) (sym s.3) ∙ b.1 in
-            all.1 (s.0, (clear_after x notes new s.0).1 (inr (s.1, (outside_iff x s.0 notes start end h s.1).1 out)), s.2, s.3))
+            all.1 (
+              s.0,
+              (clear_after x notes new s.0).1 (inr (
+                s.1,
+                (outside_iff x s.0 notes start end h s.1).1 out,
+              )),
+              s.2,
+              s.3,
+            ))
       ],
     )
 
@@ -314,7 +257,8 @@ offsets_follow test x notes start end r new h =
     find (λ n. n.offset == x.offset) (clear_notes after) ≡ o
     → followed (passes test o) x.offset start end offsets ≡ offsets_where test after) [
       | None ↦ λ e. offsets_without test x notes start end r new h (λ clear t.
-          none_found (λ (n : NoteParts). n.offset == x.offset) (clear_notes after) x e ((In-clear_notes x after).1 clear)
+          none_found (λ (n : NoteParts). n.offset == x.offset) (clear_notes after) x e
+          ((In-clear_notes x after).1 clear)
           (eq-eqb x.offset x.offset refl))
       | Some n ↦ λ e. (
           let f = found-In (λ (n : NoteParts). n.offset == x.offset) (clear_notes after) n e in

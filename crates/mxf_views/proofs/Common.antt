@@ -1,37 +1,68 @@
 -- The names that most proofs cite, passed on from one place. Declares nothing.
-pub use Rattle.std.proofs.Common.{Bool, Equal, Err, Global, Greater, IfSome, Less, List, None, Ok, OnOk, Option}
-pub use Rattle.std.proofs.Common.{Ordering, Result, Some, Vec, [], ap, append-nil, append_assoc, arith, cond, count_by}
-pub use Rattle.std.proofs.Common.{drop, eq-eqb, eqb-true, false, filter, filter_map, find, get_or, if◌then◌else◌, inl}
-pub use Rattle.std.proofs.Common.{inr, insert, is_some, le-leb, leb-true, length, lt-ltb, ltb-false, ltb-true, map, max}
-pub use Rattle.std.proofs.Common.{nat_cmp, nat_le, nat_lt, not, option_and_then, option_map, refl, rules, subst, suc}
-pub use Rattle.std.proofs.Common.{sym, take, true, vec_capacity, vec_len, zero, ℕ, ◌&&◌, ◌++◌, ◌+◌, ◌-◌, ◌<◌, ◌==◌, ◌^◌}
-pub use Rattle.std.proofs.Common.{◌||◌, ◌↔◌, ◌∙◌, ◌∷◌, ◌≡◌, ◌≢◌, ◌≤◌, ◌⊎◌}
-pub use Rattle.mxf_catalogue.proofs.ContentLaws.{same_content}
-pub use Rattle.mxf_catalogue.proofs.DisputeLaws.{In-clear_notes, IsContent-clear_notes, clear-alone}
-pub use Rattle.mxf_catalogue.proofs.SpanLaws.{AreApart-clear_notes, AreApart-filter, less_by_offset}
-pub use Rattle.mxf_catalogue.specs.Content.{AreReduced, IsCatalogue, IsContent, has_note, reduced_with, union_of}
-pub use Rattle.mxf_catalogue.specs.Disputes.{AreApart, IsClear, SharesByte, clear_notes, is_disputed, lies_in}
+pub use Rattle.std.proofs.Common.{Bool, Equal, Err, Global, Greater, IfErr, IfSome, IsPermutation, IsTrue, Less, List}
+pub use Rattle.std.proofs.Common.{None, Ok, OnOk, Option, Ordering, Result, Some, Vec, [], ap, append-nil, append_assoc}
+pub use Rattle.std.proofs.Common.{arith, bytes_eq, cond, count_by, drop, eq-eqb, eqb-true, false, filter, filter_map}
+pub use Rattle.std.proofs.Common.{find, flat_map, get_or, if◌then◌else◌, inl, inr, insert, is_ok, is_some, le-leb}
+pub use Rattle.std.proofs.Common.{le-ltb, leb-false, leb-true, length, length-append, lt-ltb, ltb-false, ltb-true, map}
+pub use Rattle.std.proofs.Common.{max, min, nat_cmp, nat_le, nat_lt, ne_eqb, not, option_and_then, option_map, refl}
+pub use Rattle.std.proofs.Common.{rules, set, subst, suc, sym, take, true, vec_capacity, vec_len, zero, ℕ, ◌&&◌, ◌++◌}
+pub use Rattle.std.proofs.Common.{◌+◌, ◌-◌, ◌<◌, ◌==◌, ◌^◌, ◌||◌, ◌↔◌, ◌∙◌, ◌∷◌, ◌≡◌, ◌≢◌, ◌≤◌, ◌⊎◌}
+pub use Rattle.mxf_catalogue.proofs.ApartLaws.{apart_rises, begins_above, later_differs, picked_none, picked_one}
+pub use Rattle.mxf_catalogue.proofs.ApartLaws.{picked_several}
+pub use Rattle.mxf_catalogue.proofs.ClearLaws.{In-with_new, IsNew, clear-laid, clear_after, clear_same, no_head}
+pub use Rattle.mxf_catalogue.proofs.ContentLaws.{In-union_of, IsContent-union_of, same_content}
+pub use Rattle.mxf_catalogue.proofs.DisputeLaws.{In-clear_notes, IsContent-clear_notes, IsContent-filter}
+pub use Rattle.mxf_catalogue.proofs.DisputeLaws.{SharesByte-same_offset, clear-alone, clear_at-found}
+pub use Rattle.mxf_catalogue.proofs.DisputeLaws.{is_disputed-IsDisputed}
+pub use Rattle.mxf_catalogue.proofs.HeadLaws.{In-reduced_with, IsContent-reduced_with, same_note}
+pub use Rattle.mxf_catalogue.proofs.LaidNotes.{SameClear}
+pub use Rattle.mxf_catalogue.proofs.MovedLaws.{rising_apart}
+pub use Rattle.mxf_catalogue.proofs.PartLaws.{with_whole}
+pub use Rattle.mxf_catalogue.proofs.Places.{search_says}
+pub use Rattle.mxf_catalogue.proofs.RunBounds.{covers_first, has_byte}
+pub use Rattle.mxf_catalogue.proofs.SpanLaws.{AreApart-clear_notes, AreApart-filter, AreApart-lower, ends_before}
+pub use Rattle.mxf_catalogue.proofs.SpanLaws.{less_by_offset}
+pub use Rattle.mxf_catalogue.specs.CatalogueFile.{file_bytes}
+pub use Rattle.mxf_catalogue.specs.Content.{AreReduced, IsCatalogue, IsContent, IsLocated, has_note, reduced_union}
+pub use Rattle.mxf_catalogue.specs.Content.{reduced_with, union_of}
+pub use Rattle.mxf_catalogue.specs.Disputes.{AreApart, IsClear, SharesByte, clear_notes, disputed_notes, disputed_parts}
+pub use Rattle.mxf_catalogue.specs.Disputes.{is_disputed, lies_in}
+pub use Rattle.mxf_catalogue.specs.NoteLists.{Covers}
+pub use Rattle.mxf_catalogue.specs.ReducedLaws.{rising-filter}
 pub use Rattle.mxf_catalogue.specs.Runs.{AreMaximal, LiesIn}
 pub use Rattle.mxf_catalogue.specs.declared.run.Run.{Run}
-pub use Rattle.mxf_klv.proofs.Counts.{count_by-cons, tally}
-pub use Rattle.mxf_klv.proofs.Lists.{Contains-from_In, In-append, In-at, In-filter, In-filter_map, In-list_all, In-map}
-pub use Rattle.mxf_klv.proofs.Lists.{all-In, all_from_In, find-none, find-only, found-In, length-filter_le}
-pub use Rattle.mxf_klv.proofs.Lists.{length-filter_map, list_any-In, none_found}
-pub use Rattle.mxf_klv.proofs.Tests.{either, none_some, not-true-false, not_true, same_bool}
+pub use Rattle.mxf_klv.proofs.Counts.{count-none, count_by-cons, range-all, range-le, tally}
+pub use Rattle.mxf_klv.proofs.ListSteps.{next_changed}
+pub use Rattle.mxf_klv.proofs.Lists.{Contains-from_In, In-append, In-at, In-chosen, In-filter, In-filter_map}
+pub use Rattle.mxf_klv.proofs.Lists.{In-from_Contains, In-list_all, In-map, all-In, all_from_In, filter_all}
+pub use Rattle.mxf_klv.proofs.Lists.{filter_none, find-none, find-only, found-In, length-filter_le, length-filter_map}
+pub use Rattle.mxf_klv.proofs.Lists.{list_all-In, list_any-In, none_found}
+pub use Rattle.mxf_klv.proofs.NoteFilters.{all-right, tally_fits}
+pub use Rattle.mxf_klv.proofs.RisingBy.{from_lower, never_falls, one_by_key, rises-filter, rises-filter_map, rises-map}
+pub use Rattle.mxf_klv.proofs.SmallPackets.{are_packets}
+pub use Rattle.mxf_klv.proofs.Tests.{either, none_some, not-true-false, not_equal, not_true, same_bool}
 pub use Rattle.mxf_klv.specs.Kind.{kind_of}
-pub use Rattle.mxf_klv.specs.Note.{IsNote, end_of, greatest_end, head_note, keeps_value, note_of}
+pub use Rattle.mxf_klv.specs.Note.{IsNote, covered_end, end_of, greatest_end, head_note, keeps, keeps_value, note_cmp}
+pub use Rattle.mxf_klv.specs.Note.{note_of}
+pub use Rattle.mxf_klv.specs.NoteOrder.{note_total}
 pub use Rattle.mxf_klv.specs.Packet.{IsPacket, size_of}
 pub use Rattle.mxf_klv.specs.Parts.{NoteParts, PacketParts}
-pub use Rattle.mxf_klv.specs.Piece.{notes_from}
-pub use Rattle.mxf_klv.specs.Rising.{In, In-union, IsRising, IsRising-union, less_in, same_from_members, union}
-pub use Rattle.mxf_klv.specs.Rising.{with_one}
+pub use Rattle.mxf_klv.specs.Piece.{end_after, notes_from}
+pub use Rattle.mxf_klv.specs.Rising.{In, In-union, IsPlaceOf, IsRising, IsRising-union, IsRising-with_one, less_in}
+pub use Rattle.mxf_klv.specs.Rising.{same_from_members, union, with_one}
 pub use Rattle.mxf_klv.specs.declared.kinds.Kind.{Kind}
 pub use Rattle.mxf_klv.specs.declared.kinds.Status.{Status}
 pub use Rattle.mxf_klv.specs.declared.kinds.Status.TheVariants.{ClosedComplete, OpenIncomplete}
+pub use Rattle.mxf_sets.proofs.PackKinds.{is_pack_kind, kind_says, kind_tells}
+pub use Rattle.mxf_sets.specs.Batch.{BatchParts}
+pub use Rattle.mxf_sets.specs.Identification.{identification_at}
+pub use Rattle.mxf_sets.specs.Instance.{instance_uid_at}
 unfoldable pub use Rattle.mxf_sets.specs.Items.{item_at, items_of, left_of}
 pub use Rattle.mxf_sets.specs.Offset.{stream_offset}
-pub use Rattle.mxf_sets.specs.PackReadings.{pack_at, part_and_status, primer_at, rip_at}
-pub use Rattle.mxf_sets.specs.PartitionPack.{PartitionPackParts, pack_kind}
+pub use Rattle.mxf_sets.specs.PackReadings.{pack_at, pack_under, part_and_status, primer_at, rip_at}
+pub use Rattle.mxf_sets.specs.Package.{package_at}
+pub use Rattle.mxf_sets.specs.PartitionPack.{IsPartitionKind, PartitionPackParts, pack_kind}
+pub use Rattle.mxf_sets.specs.Preface.{PrefaceParts, preface_at}
 pub use Rattle.mxf_sets.specs.RandomIndexPack.{RipParts}
 unfoldable pub use Rattle.mxf_sets.specs.RandomIndexPack.{entries_of}
 pub use Rattle.mxf_sets.specs.Readable.{read_as}
@@ -40,60 +71,85 @@ pub use Rattle.mxf_sets.specs.Storage.{storage_at}
 pub use Rattle.mxf_sets.specs.declared.pack.part.PackPart.{PackPart}
 pub use Rattle.mxf_sets.specs.declared.pack.part.PackPart.TheVariants.{Body, Footer, Header}
 pub use Rattle.mxf_sets.specs.declared.pack.random_index.RipEntry.{RipEntry}
-pub use Rattle.mxf_views.specs.Codes.{finding, finding_cmp}
-pub use Rattle.mxf_views.specs.Copies.{CopiesRise, IsCopy, IsStart, best_of, copy_from, covered_of, has_metadata}
-pub use Rattle.mxf_views.specs.Copies.{is_fill, is_filled, is_primer, is_start, prefaces_of, preferred_of, sets_found}
-pub use Rattle.mxf_views.specs.Copies.{sets_from, standing, start_of, zone_of}
+pub use Rattle.mxf_views.specs.Codes.{finding, finding_cmp, finding_cmp-IsAntisymmetric, finding_total}
+pub use Rattle.mxf_views.specs.Copies.{AreSoMany, CopiesRise, CountsZone, IsBest, IsCopy, IsFilled, IsPrefaceIn}
+pub use Rattle.mxf_views.specs.Copies.{IsPreferred, IsPrimerOf, IsSetKind, IsStart, IsStartFound, best_of, better}
+pub use Rattle.mxf_views.specs.Copies.{copies_among, copy_from, covered_of, has_metadata, is_above, is_candidate}
+pub use Rattle.mxf_views.specs.Copies.{is_fill, is_filled, is_primer, is_set, is_start, preface, prefaces_of}
+pub use Rattle.mxf_views.specs.Copies.{preferred_of, rank, sets_found, sets_from, standing, start_of, zone_of}
 unfoldable pub use Rattle.mxf_views.specs.Copies.{copies_of, copy_of, is_fill_note, is_preface_note, is_readable_primer}
 unfoldable pub use Rattle.mxf_views.specs.Copies.{is_set_note, sets_of}
 pub use Rattle.mxf_views.specs.FindingCauses.{AtClear}
-pub use Rattle.mxf_views.specs.Findings.{findings_for, findings_of, has_other_rip, is_unfit_rip, lost_at}
-pub use Rattle.mxf_views.specs.Gaps.{gaps_of}
-pub use Rattle.mxf_views.specs.Identified.{unreadable_offsets}
-pub use Rattle.mxf_views.specs.Kept.{IsHull, KeptParts, StartsRise, copies_followed, copy_by, followed}
-pub use Rattle.mxf_views.specs.Kept.{has_some_metadata, is_outside, is_placed, notes_at, offsets_where, reaches_from}
-pub use Rattle.mxf_views.specs.Kept.{reaches_of, renewed, states_metadata, with_copy}
-pub use Rattle.mxf_views.specs.KeptAbove.{MeetAt, clear_from, counted_above}
-pub use Rattle.mxf_views.specs.Labels.{is_in_copy, primer_there}
-pub use Rattle.mxf_views.specs.Partitions.{AreInOrder, PartitionParts, chain_of, is_footer, is_greatest, is_header}
-pub use Rattle.mxf_views.specs.Partitions.{is_linked, link_at, link_of, pack_of, partitions_among, stands_above}
+pub use Rattle.mxf_views.specs.Findings.{are_entries_of, ends_above, findings_for, findings_of, footer_stands_at}
+pub use Rattle.mxf_views.specs.Findings.{has_other_rip, is_partial, is_unfit_rip, is_unreadable, lost_at, lost_beside}
+pub use Rattle.mxf_views.specs.Findings.{lost_by, offsets_for, reads_value}
+pub use Rattle.mxf_views.specs.Gaps.{AreGaps, gaps_from, gaps_of}
+pub use Rattle.mxf_views.specs.Identified.{is_below, is_of, unreadable_offsets, with_uid}
+pub use Rattle.mxf_views.specs.Kept.{IsHull, IsStartBelow, KeptParts, StartsRise, copies_followed, copy_by, followed}
+pub use Rattle.mxf_views.specs.Kept.{has_some_metadata, is_outside, is_placed, kept_of, lies_between, notes_at}
+pub use Rattle.mxf_views.specs.Kept.{offsets_where, or_itself, reaches_from, reaches_of, renewed, stands_clear}
+pub use Rattle.mxf_views.specs.Kept.{states_metadata, with_copy, with_found}
+unfoldable pub use Rattle.mxf_views.specs.Kept.{can_bring_start}
+pub use Rattle.mxf_views.specs.KeptAbove.{EndsBy, IsOfNone, IsStarting, IsUnionAt, MeetAt, clear_from, counted_above}
+pub use Rattle.mxf_views.specs.Labels.{is_in_copy, is_in_zone, primer_there}
+unfoldable pub use Rattle.mxf_views.specs.Labels.{primer_for}
+pub use Rattle.mxf_views.specs.Partitions.{AreInOrder, HangTogether, IsGreatestBelow, IsLink, PartitionParts, StandsAt}
+pub use Rattle.mxf_views.specs.Partitions.{chain_of, is_footer, is_greatest, is_header, is_linked, link_at, link_of}
+pub use Rattle.mxf_views.specs.Partitions.{pack_of, partitions_among, stands_above, stands_at, stands_between}
 unfoldable pub use Rattle.mxf_views.specs.Partitions.{is_no_unreadable_pack, partition_at, partitions_of}
-pub use Rattle.mxf_views.specs.Places.{SegmentAtParts, is_segment, pair_cmp, place_by, place_of, segments_among}
-unfoldable pub use Rattle.mxf_views.specs.Places.{placed_segment, segments_of}
-pub use Rattle.mxf_views.specs.RandomIndex.{is_rip, rip_in, standing_of}
+pub use Rattle.mxf_views.specs.Places.{SegmentAtParts, SegmentsRise, is_segment, pair_cmp, pairs_with, place_by}
+pub use Rattle.mxf_views.specs.Places.{place_of, segments_among}
+unfoldable pub use Rattle.mxf_views.specs.Places.{pair_of, placed_segment, segments_of}
+pub use Rattle.mxf_views.specs.RandomIndex.{is_rip, rip_in, standing_by, standing_of}
 unfoldable pub use Rattle.mxf_views.specs.RandomIndex.{is_rip_note, rips_of}
 pub use Rattle.mxf_views.specs.RandomIndexView.{rip_view_among, rip_view_by, rip_view_of}
-pub use Rattle.mxf_views.specs.Reading.{partition_read, partitions_read, place_by_segment, segments_read}
+pub use Rattle.mxf_views.specs.Reading.{CopyRead, after_fills, copies_alone, copies_read, copy_read, link_read_at}
+pub use Rattle.mxf_views.specs.Reading.{links_read, partition_read, partitions_read, place_by_segment, segments_read}
+pub use Rattle.mxf_views.specs.Reading.{taken, whole_copy}
 pub use Rattle.mxf_views.specs.Readings.{IsReadAs, IsReadable}
+pub use Rattle.mxf_views.specs.Records.{value_as}
 unfoldable pub use Rattle.mxf_views.specs.Records.{read_pack, read_rip, read_segment}
-pub use Rattle.mxf_views.specs.References.{found_among}
+pub use Rattle.mxf_views.specs.References.{found_among, reads_uid}
 unfoldable pub use Rattle.mxf_views.specs.References.{has_uid}
-pub use Rattle.mxf_views.specs.Resolved.{resolved_of, storage_among}
-pub use Rattle.mxf_views.specs.Spans.{is_in_one, sizes}
-pub use Rattle.mxf_views.specs.Sums.{AreInRange}
-pub use Rattle.mxf_views.specs.Targets.{fits, target_among}
+pub use Rattle.mxf_views.specs.Resolved.{ResolvedParts, packages_of, resolved_by, resolved_from, resolved_of}
+pub use Rattle.mxf_views.specs.Resolved.{storage_among}
+unfoldable pub use Rattle.mxf_views.specs.Resolved.{preface_in, storage_in}
+pub use Rattle.mxf_views.specs.Spans.{is_in_one, is_in_span, sizes}
+pub use Rattle.mxf_views.specs.Sums.{AreInRange, AreMarks, SumsParts}
+pub use Rattle.mxf_views.specs.Targets.{fits, is_readable, refs_of, target_among}
 unfoldable pub use Rattle.mxf_views.specs.Targets.{target_at, target_of}
-pub use Rattle.mxf_views.specs.WellFormed.{Agree, EndsWithFooter, HasMetadata, IsFill, IsFooterPack, IsPartitionPack}
-pub use Rattle.mxf_views.specs.WellFormed.{IsWellFormed, is_readable_as, total_of}
-pub use Rattle.mxf_views.specs.WorkedFiles.{numbers, pack}
+pub use Rattle.mxf_views.specs.WellFormed.{Agree, EndsWithFooter, EndsWithRandomIndex, HasMetadata, IsFill}
+pub use Rattle.mxf_views.specs.WellFormed.{IsFooterPack, IsHeaderPack, IsPartitionPack, IsPrimerPack, IsRandomIndexPack}
+pub use Rattle.mxf_views.specs.WellFormed.{IsWellFormed, entry_of, is_readable_as, total_of}
+pub use Rattle.mxf_views.specs.WholeFile.{HasCopiesOf, HasIndexOf, HasPartitionsOf}
+pub use Rattle.mxf_views.specs.WorkedFiles.{numbers, pack, primer}
 pub use Rattle.mxf_views.specs.declared.chain.Chain.TheVariants.{Broken, Whole}
-pub use Rattle.mxf_views.specs.declared.chain.Link.TheVariants.{First, Held}
+pub use Rattle.mxf_views.specs.declared.chain.Link.{Link}
+pub use Rattle.mxf_views.specs.declared.chain.Link.TheVariants.{First, Held, Missing, Skips, Wrong}
 pub use Rattle.mxf_views.specs.declared.copy.CopyInfo.{CopyInfo}
 pub use Rattle.mxf_views.specs.declared.finding.Code.{Code}
-pub use Rattle.mxf_views.specs.declared.finding.Code.TheVariants.{F01, F02, F03, F04, F05, F06, F07, F08, F09, F10, F11}
-pub use Rattle.mxf_views.specs.declared.finding.Code.TheVariants.{F12, F13}
+pub use Rattle.mxf_views.specs.declared.finding.Code.TheVariants.{F01, F03, F04, F09, F12, F13}
 pub use Rattle.mxf_views.specs.declared.finding.Finding.{Finding}
 pub use Rattle.mxf_views.specs.declared.index.place.Pair.{Pair}
 pub use Rattle.mxf_views.specs.declared.index.place.Place.{Place}
 pub use Rattle.mxf_views.specs.declared.index.place.Place.TheVariants.{Ambiguous, At, NotIndexed}
 pub use Rattle.mxf_views.specs.declared.kept.sums.Mark.{Mark}
-pub use Rattle.mxf_views.specs.declared.random_index.RipView.TheVariants.{One}
+pub use Rattle.mxf_views.specs.declared.random_index.RipView.TheVariants.{Absent, One}
+pub use Rattle.mxf_views.specs.declared.reference.Found.{Found}
+pub use Rattle.mxf_views.specs.declared.reference.Found.TheVariants.{Several}
+pub use Rattle.mxf_views.specs.declared.reference.target.Ref.{Ref}
+pub use Rattle.mxf_views.specs.declared.reference.target.Target.{Target}
+pub use Rattle.mxf_views.specs.declared.reference.target.Target.TheVariants.{Unreadable}
 pub use Rattle.mxf_views.specs.declared.reference.target.Wanted.{Wanted}
 pub use Rattle.mxf_views.specs.declared.reference.target.Wanted.TheVariants.{Identification, Package, Storage}
-pub use Rattle.std.proofs.lemmas.Bool.{and_from, and_parts, cases_lt, cases_order, false_from_ne_true, or_cases}
+pub use Rattle.std.proofs.lemmas.Bool.{and_cases, and_from, and_parts, cases_lt, cases_order, false_from_ne_true}
+pub use Rattle.std.proofs.lemmas.Bool.{false≢true, lt-leb, or_cases, or_parts}
 pub use Rattle.std.proofs.lemmas.Cmp.{nat_cmp_total, tied_itself}
-pub use Rattle.std.proofs.lemmas.List.{length-map}
-pub use Rattle.std.proofs.lemmas.List.Sums.{sum_by-append, sum_by-cons}
+pub use Rattle.std.proofs.lemmas.Fn.{filter_same}
+pub use Rattle.std.proofs.lemmas.List.{length-map, map-append}
+pub use Rattle.std.proofs.lemmas.List.Elements.{filter-append}
+pub use Rattle.std.proofs.lemmas.List.Sorted.{Contains-permutation, answers_always}
+pub use Rattle.std.proofs.lemmas.List.Sums.{count_by-le-length, length-filter, sum_by-append, sum_by-cons}
 pub use Rattle.std.proofs.lemmas.Option.{same_Some}
 pub use Rattle.std.proofs.lemmas.Slice.Eq.{bytes_eq-Decides}
 pub use Rattle.std.specs.Bool.{then_some}
@@ -101,4 +157,5 @@ pub use Rattle.std.specs.FinSet.{nat_cmp-IsAntisymmetric}
 pub use Rattle.std.specs.List.{AllByRecursion, AllWithin, cons_option, list_all, list_any, range_with_len}
 pub use Rattle.std.specs.List.Sorted.{IsNonDecreasing, IsNonDecreasingBy}
 pub use Rattle.std.specs.Option.{option_map_or}
+pub use Rattle.std.specs.Ordering.{ordering_index}
 pub use Rattle.std.specs.Result.{result_ok}

@@ -1,18 +1,12 @@
 -- What leaves a copy of the header metadata as it is.
 use Rattle.mxf_views.proofs.Common.{◌≡◌, ℕ, ◌+◌, ◌<◌, ◌≤◌, ◌⊎◌, true, List, Some, None, sym, ap, ◌∙◌, inl, inr, arith}
-use Rattle.mxf_views.proofs.Common.{leb-true, ◌↔◌, ◌==◌, count_by, NoteParts, end_of, In, IsContent, reduced_with}
-use Rattle.mxf_views.proofs.Common.{IsClear, SharesByte, clear_notes, lies_in, same_content, In-clear_notes}
+use Rattle.mxf_views.proofs.Common.{leb-true, ◌↔◌, ◌==◌, count_by, NoteParts, end_of, In, IsContent}
+use Rattle.mxf_views.proofs.Common.{IsClear, clear_notes, lies_in, same_content, In-clear_notes}
 use Rattle.mxf_views.proofs.Common.{IsContent-clear_notes, PartitionParts, IsStart, copy_from, copy_of, is_fill_note}
 use Rattle.mxf_views.proofs.Common.{is_preface_note, is_readable_primer, start_of, zone_of, sizes, In-filter, and_parts}
-use Rattle.mxf_catalogue.proofs.DisputeLaws.{IsContent-filter}
+use Rattle.mxf_views.proofs.Common.{IsContent-filter, SameClear}
 use Rattle.mxf_views.proofs.StartLaws.{fill_note, primer_note, start_is}
-use Rattle.mxf_views.proofs.ClearChanges.{IsNew, clear_after}
 use Rattle.mxf_views.proofs.StartWalk.{none_there}
-
--- The clear notes that have a byte from one offset up to another are the same among both.
-abbrev pub SameClear : ℕ → ℕ → List NoteParts → List NoteParts → Type 0
-SameClear low high before after =
-    (n : NoteParts) → n.offset < high → low < end_of n → IsClear n before ↔ IsClear n after
 
 pub start_stays : (before after : List NoteParts) (end high s : ℕ) → SameClear end high before after → s < high
     → IsStart before end s → IsStart after end s
@@ -108,13 +102,3 @@ no_copy_stays before after p r t e f =
     } in
     let u = (start_is before p.end s r).1 b in cc (u, e)) in
     ap (copy_from (clear_notes after) p) none ∙ ap (copy_from (clear_notes before) p) (sym e)
-
--- A new note, and the clear notes that it makes disputed, leave the clear notes elsewhere.
-pub same_clear : (x : NoteParts) (notes : List NoteParts) (low high : ℕ) → IsNew x notes
-    → ((n : NoteParts) → (n ≡ x) ⊎ (IsClear n notes × SharesByte x n) → n.offset < high → low < end_of n → ⊥)
-    → SameClear low high notes (reduced_with x notes)
-same_clear x notes low high new far n l h =
-    let after = clear_after x notes new n in (
-      λ c. after.1 (inr (c, λ s. far n (inr (c, s)) l h)),
-      λ c. elim (after.0 c) [ inl p ↦ absurd (far n (inl p.0) l h) | inr q ↦ q.0 ],
-    )

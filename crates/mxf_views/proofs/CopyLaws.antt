@@ -1,24 +1,22 @@
 -- Copies of the header metadata and their sets.
-use Rattle.mxf_views.proofs.Common.{◌≡◌, ℕ, suc, ◌+◌, ◌<◌, ◌≤◌, true, List, [], ◌∷◌, Option, Some, None, length, inl}
-use Rattle.mxf_views.proofs.Common.{inr, refl, sym, ap, subst, ◌∙◌, arith, eqb-true, eq-eqb, leb-true, le-leb, ◌↔◌}
+use Rattle.mxf_views.proofs.Common.{◌≡◌, ℕ, ◌+◌, ◌<◌, ◌≤◌, true, List, Option, Some, None}
+use Rattle.mxf_views.proofs.Common.{refl, sym, ap, subst, ◌∙◌, arith, eqb-true, eq-eqb, leb-true, le-leb, ◌↔◌}
 use Rattle.mxf_views.proofs.Common.{◌==◌, nat_le, count_by, filter, find, range_with_len, ltb-true, lt-ltb, and_from}
 use Rattle.mxf_views.proofs.Common.{and_parts, NoteParts, end_of, kind_of, In, IsContent, AreApart, IsClear}
 use Rattle.mxf_views.proofs.Common.{clear_notes, In-clear_notes, AreApart-clear_notes, AreApart-filter, CopyInfo}
 use Rattle.mxf_views.proofs.Common.{PartitionParts, partitions_of, IsCopy, copies_of, copy_from, prefaces_of, copy_of}
 use Rattle.mxf_views.proofs.Common.{covered_of, has_metadata, is_preface_note, is_set_note, CopiesRise, sets_found}
 use Rattle.mxf_views.proofs.Common.{sets_from, sets_of, start_of, zone_of, is_in_one, lies_in, In-filter, In-map}
-use Rattle.mxf_views.proofs.Common.{found-In, none_found, same_bool}
-use Rattle.std.proofs.lemmas.List.Sums.{length-filter}
-use Rattle.mxf_views.specs.Copies.{AreSoMany, CountsZone, IsCopyOf, IsPrefaceIn, IsSetKind, IsSetOf, IsStartFound}
-use Rattle.mxf_views.specs.Copies.{sets_in}
+use Rattle.mxf_views.proofs.Common.{found-In, none_found, same_bool, length-filter, AreSoMany, CountsZone, IsPrefaceIn}
+use Rattle.mxf_views.proofs.Common.{IsSetKind, IsStartFound, rises-map, rises-filter}
+use Rattle.mxf_views.specs.Copies.{IsCopyOf, IsSetOf, sets_in}
 use Rattle.mxf_views.proofs.KindLaws.{preface_kind, set_kind}
 use Rattle.mxf_views.proofs.PartitionLaws.{one_there, partitions_rise}
 use Rattle.mxf_views.proofs.SpanCounts.{zone-count}
 use Rattle.mxf_views.proofs.StartLaws.{one_start, start_is}
-use Rattle.mxf_catalogue.proofs.ApartLaws.{begins_above}
 use Rattle.mxf_klv.proofs.Tests.{equals_itself}
-use Rattle.mxf_klv.proofs.RisingBy.{rises-map, rises-filter}
 use Rattle.mxf_views.proofs.Rising.{by_offset, by_partition}
+use Rattle.mxf_catalogue.proofs.ApartNotes.{apart_same}
 use Rattle.mxf_klv.specs.declared.kinds.Kind.TheVariants as kinds
 
 -- ---- Prefaces
@@ -71,45 +69,6 @@ prefaces_are notes start bytes r =
       members = In-prefaces notes start bytes;
       number = length-filter is_preface_note zone;
     }
-
--- the rest of a list apart lacks its first
-first_once : (low : ℕ) (x : NoteParts) (ns : List NoteParts) → AreApart low (x ∷ ns) → In x ns → ⊥
-first_once low x ns a h =
-    let k : end_of x ≤ x.offset = begins_above (end_of x) ns x a.1 h in
-    omega arith
-
--- the firsts of two lists apart with the same members are one
-same_first : (low : ℕ) (x y : NoteParts) (xs ys : List NoteParts) → AreApart low (x ∷ xs) → AreApart low (y ∷ ys)
-    → In x (y ∷ ys) → In y (x ∷ xs) → x ≡ y
-same_first low x y xs ys a b (inl e) k = e
-same_first low x y xs ys a b (inr h) (inl e) = sym e
-same_first low x y xs ys a b (inr h) (inr k) =
-    let m : end_of y ≤ x.offset = begins_above (end_of y) ys x b.1 h in
-    let n : end_of x ≤ y.offset = begins_above (end_of x) xs y a.1 k in
-    absurd (omega arith)
-
--- what is behind the first
-behind : (x n : NoteParts) (xs ys : List NoteParts) → (In n xs → n ≡ x → ⊥) → (In n (x ∷ xs) → In n (x ∷ ys)) → In n xs
-    → In n ys
-behind x n xs ys f g h = elim (g (inr h)) [ inl e ↦ absurd (f h e) | inr k ↦ k ]
-
--- lists apart with the same members are one
-apart_same : (low : ℕ) (xs ys : List NoteParts) → AreApart low xs → AreApart low ys
-    → ((n : NoteParts) → In n xs ↔ In n ys) → length xs ≡ length ys
-apart_same low [] [] a b m = refl
-apart_same low [] (y ∷ ys) a b m = absurd ((m y).1 (inl refl))
-apart_same low (x ∷ xs) [] a b m = absurd ((m x).0 (inl refl))
-apart_same low (x ∷ xs) (y ∷ ys) a b m =
-    let e = same_first low x y xs ys a b ((m x).0 (inl refl)) ((m y).1 (inl refl)) in
-    let c : AreApart low (x ∷ ys) = subst (λ (z : NoteParts). AreApart low (z ∷ ys)) (sym e) b in
-    let k = λ (n : NoteParts). subst (λ (z : NoteParts). In n (x ∷ xs) ↔ In n (z ∷ ys)) (sym e) (m n) in
-    let once = λ (zs : List NoteParts) (z : AreApart low (x ∷ zs)) (n : NoteParts) (h : In n zs) (q : n ≡ x).
-    first_once low x zs z (subst (λ (w : NoteParts). In w zs) q h) in
-    let rest = apart_same (end_of x) xs ys a.1 c.1 (λ n. (
-      behind x n xs ys (once xs a n) (k n).0,
-      behind x n ys xs (once ys c n) (k n).1,
-    )) in
-    ap (λ (l : ℕ). suc l) rest
 
 one_number : (a b : ℕ) (IsSuch : NoteParts → Type 0) → AreSoMany a IsSuch → AreSoMany b IsSuch → a ≡ b
 one_number a b IsSuch p q =
@@ -190,7 +149,16 @@ one_copy notes p c d a b =
     let finished : c.finished ≡ d.finished = same_bool c.finished d.finished
     (λ t. b.finished.1 (sym counts.0 ∙ a.finished.0 t ∙ bytes))
     (λ t. a.finished.1 (counts.0 ∙ b.finished.0 t ∙ sym bytes)) in
-    λ i. record { partition = partition i; start = start i; bytes = bytes i; covered = counts.0 i; finished = finished i; prefaces = counts.1 i; status = status i }
+    λ i. record {
+      partition = partition i;
+      start = start i;
+      bytes = bytes i;
+      covered = counts.0 i;
+      finished = finished
+          i;
+      prefaces = counts.1 i;
+      status = status i;
+    }
 
 -- The copies are those of the partitions that have header metadata.
 pub copies_are : (notes : List NoteParts) (c : CopyInfo) → IsContent notes → In c (copies_of notes) ↔ IsCopy notes c
@@ -258,7 +226,18 @@ sets_says : (notes : List NoteParts) (partition : ℕ) (c : CopyInfo) (o : Optio
 sets_says notes partition c None n i e s h = absurd h
 sets_says notes partition c (Some start) n i e s h =
     let m = (In-sets_in notes start c.bytes n).0 h in
-    record { copy = c; copied = i; there = e; start = start; begins = s; clear = m.0; kind = m.1; from = m.2; before = m.3 }
+    record {
+      copy = c;
+      copied = i;
+      there = e;
+      start = start;
+      begins = s;
+      clear = m.0;
+      kind = m.1;
+      from = m.2;
+      before =
+          m.3;
+    }
 
 -- The sets of a copy are the clear sets that lie wholly in its bytes.
 pub sets_are : (notes : List NoteParts) (partition : ℕ) (n : NoteParts) → IsContent notes

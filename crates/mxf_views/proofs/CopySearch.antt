@@ -2,13 +2,11 @@
 use Rattle.mxf_views.proofs.Common.{◌≡◌, ℕ, ◌<◌, ◌≤◌, List, Some, None, sym, ap, ◌∙◌, inl, inr, arith, eqb-true, eq-eqb}
 use Rattle.mxf_views.proofs.Common.{get_or, length, Err, ◌==◌, find, IsNonDecreasingBy, nat_cmp, Less, Equal, Greater}
 use Rattle.mxf_views.proofs.Common.{cases_order, In, CopyInfo, CopiesRise, find-none, find-only, Contains-from_In}
-use Rattle.mxf_views.proofs.Common.{In-at}
+use Rattle.mxf_views.proofs.Common.{In-at, ordering_index, one_by_key}
 use Rattle.std.specs.List.{HoldsAt}
 use Rattle.std.specs.List.Sorted.{IsBinarySearchResult}
-use Rattle.std.specs.Ordering.{ordering_index}
 use Rattle.std.proofs.lemmas.Bool.Decides.{nat_tests}
 use Rattle.std.proofs.lemmas.Cmp.{ranked}
-use Rattle.mxf_klv.proofs.RisingBy.{one_by_key}
 use Rattle.mxf_views.proofs.Rising.{by_partition, partitions_never_fall}
 
 comparisons_rise : (p : ℕ) (cs : List CopyInfo) → CopiesRise cs

@@ -1,27 +1,29 @@
--- The copies of the header metadata once a note was added: those elsewhere are counted anew where they may have changed.
+-- The copies of the header metadata once a note was added: those elsewhere are counted anew where they may have
+-- changed.
 use Rattle.mxf_views.proofs.Common.{◌≡◌, ◌≢◌, ℕ, zero, suc, length, ◌+◌, ◌-◌, ◌<◌, ◌≤◌, ◌⊎◌, Bool, true, false, cond}
 use Rattle.mxf_views.proofs.Common.{List, [], ◌∷◌, Option, Some, None, refl, sym, ap, subst, ◌∙◌, inl, inr, arith}
 use Rattle.mxf_views.proofs.Common.{eqb-true, eq-eqb, ◌↔◌, ◌||◌, ◌==◌, nat_lt, find, filter, map, if◌then◌else◌}
-use Rattle.mxf_views.proofs.Common.{AllWithin, cons_option, filter_map, insert, option_and_then, option_map, ltb-true}
+use Rattle.mxf_views.proofs.Common.{AllWithin, cons_option, filter_map, insert, option_and_then, ltb-true}
 use Rattle.mxf_views.proofs.Common.{lt-ltb, ltb-false, false_from_ne_true, and_parts, NoteParts, kind_of, end_of, In}
 use Rattle.mxf_views.proofs.Common.{IsContent, reduced_with, IsClear, SharesByte, clear_notes, In-clear_notes}
 use Rattle.mxf_views.proofs.Common.{clear-alone, CopyInfo, CopiesRise, copies_of, copy_from, copy_of, has_metadata}
 use Rattle.mxf_views.proofs.Common.{is_fill, is_fill_note, is_primer, is_readable_primer, start_of, IsHull}
 use Rattle.mxf_views.proofs.Common.{copies_followed, copy_by, has_some_metadata, states_metadata, is_outside, renewed}
-use Rattle.mxf_views.proofs.Common.{with_copy, PartitionParts, pack_of, partition_at, partitions_of, In-filter, In-map}
-use Rattle.mxf_views.proofs.Common.{find-only, found-In, none_found, all-In, all_from_In}
-use Rattle.std.proofs.lemmas.Bool.{and_cases}
+use Rattle.mxf_views.proofs.Common.{with_copy, PartitionParts, partition_at, partitions_of, In-filter, In-map}
+use Rattle.mxf_views.proofs.Common.{find-only, found-In, none_found, all-In, all_from_In, and_cases}
+use Rattle.mxf_views.proofs.Common.{IsContent-reduced_with, SharesByte-same_offset, can_bring_start, or_itself}
+use Rattle.mxf_views.proofs.Common.{with_found, rises-map, rises-filter, In-with_new, IsNew, clear_after, no_head}
 use Rattle.mxf_klv.specs.Rising.{SameMembers}
-use Rattle.mxf_catalogue.proofs.HeadLaws.{IsContent-reduced_with}
-use Rattle.mxf_catalogue.proofs.DisputeLaws.{SharesByte-same_offset}
-use Rattle.mxf_views.specs.Kept.{can_bring_start, may_change, or_itself, with_found}
-use Rattle.mxf_views.proofs.ClearChanges.{In-with_new, IsNew, clear_after, new_is_none, no_head, outside_iff}
-use Rattle.mxf_views.proofs.CopyChanges.{copy_stays, no_copy_stays, same_clear}
+use Rattle.mxf_views.specs.Kept.{may_change}
+use Rattle.mxf_views.proofs.ClearChanges.{outside_iff}
+use Rattle.mxf_views.proofs.CopyChanges.{copy_stays, no_copy_stays}
 use Rattle.mxf_views.proofs.CopyLaws.{copies_rise, copy_there}
 use Rattle.mxf_views.proofs.PartitionLaws.{offset-partition_at, readable_from}
 use Rattle.mxf_views.proofs.PartitionSearch.{copy_found, has_copy, is_there, of_note, of_partition, one_partition}
-use Rattle.mxf_klv.proofs.RisingBy.{rises-map, rises-filter, same_by_members}
+use Rattle.mxf_klv.proofs.RisingBy.{same_by_members}
 use Rattle.mxf_views.proofs.Rising.{by_partition}
+use Rattle.mxf_catalogue.proofs.ClearLaws.{new_is_none}
+use Rattle.mxf_catalogue.proofs.LaidNotes.{same_clear}
 
 -- ---- what a copy says of its partition
 
@@ -215,7 +217,8 @@ rise-with_copy c (d ∷ ds) r ne =
             all_from_In (λ (x : CopyInfo). d.partition < x.partition) (with_copy c ds) (λ x h.
                 elim ((In-with_copy c x ds).0 h) [
                   | inl q ↦ (
-                      let b : x.partition ≡ c.partition = ap (λ (y : CopyInfo). y.partition) q in omega (arith, l, n, b))
+                      let b : x.partition ≡ c.partition = ap (λ (y : CopyInfo). y.partition) q in omega
+                      (arith, l, n, b))
                   | inr k ↦ all-In (λ (y : CopyInfo). d.partition < y.partition) ds x r.0 k
                 ]),
             rise-with_copy c ds r.1 (λ x h. ne x (inr h)),
@@ -315,7 +318,8 @@ module _ (x : NoteParts) (notes : List NoteParts) (start end : ℕ) (r : IsConte
             let at : c.partition ≡ p.offset = copy_there (clear_notes notes) p in
             let out : is_outside start end c.partition ≡ true =
             ap (is_outside start end) (at ∙ n.offset) ∙ (outside_iff x n.note notes start end h q.0).0 q.1 in
-            let one = (In-filter (λ (c : CopyInfo). is_outside start end c.partition) (copies_of notes) c).1 (held, out) in
+            let one = (In-filter (λ (c : CopyInfo). is_outside start end c.partition) (copies_of notes) c).1
+            (held, out) in
             let b = each c one in
             let same : b.partition ≡ p = one_partition notes b.partition p b.there there (sym b.offset ∙ at) in
             inl ((In-map renew kept d).1 (c, one, a.copy ∙ ap (copy_of (clear_notes after)) (sym same) ∙ sym b.copy)))

@@ -1,8 +1,7 @@
 -- Findings by their definition.
-use Rattle.mxf_views.proofs.Common.{ℕ, List, ◌↔◌, NoteParts, In, IsContent, Code, F01, F02, F03, F04, F05, F06, F07}
-use Rattle.mxf_views.proofs.Common.{F08, F09, F10, F11, F12, F13, Finding, findings_of}
-use Rattle.mxf_views.specs.declared.finding.Code.TheVariants.{F14}
-use Rattle.mxf_views.specs.Findings.{offsets_for}
+use Rattle.mxf_views.proofs.Common.{ℕ, List, ◌↔◌, NoteParts, In, IsContent, Code, F01, F03, F04, F09, F12, F13, Finding}
+use Rattle.mxf_views.proofs.Common.{findings_of, offsets_for}
+use Rattle.mxf_views.specs.declared.finding.Code.TheVariants.{F02, F05, F06, F07, F08, F10, F11, F14}
 use Rattle.mxf_views.specs.FindingCauses.{IsFinding, IsFoundAt}
 use Rattle.mxf_views.proofs.CauseLaws.{gap_starts, lost_footers, misplaced_partitions, open_footers, overlaps}
 use Rattle.mxf_views.proofs.CauseLaws.{shared_offsets, unlinked_partitions, unreadable_packs}

@@ -1,10 +1,9 @@
 -- Which findings there are: those of each code, and no others.
 use Rattle.mxf_views.proofs.Common.{◌-◌, List, [], refl, sym, subst, inl, inr, ◌↔◌, NoteParts, In, IsRising}
 use Rattle.mxf_views.proofs.Common.{IsRising-union, In-union, Code, F01, Finding, finding, finding_cmp, findings_for}
-use Rattle.mxf_views.proofs.Common.{findings_of, In-map}
-use Rattle.std.specs.Prelude.{flat_map}
-use Rattle.mxf_views.specs.Codes.{all_codes, code_number, finding_cmp-IsAntisymmetric, finding_total, numbered_back}
-use Rattle.mxf_views.specs.Findings.{offsets_for}
+use Rattle.mxf_views.proofs.Common.{findings_of, In-map, flat_map, finding_cmp-IsAntisymmetric, finding_total}
+use Rattle.mxf_views.proofs.Common.{offsets_for}
+use Rattle.mxf_views.specs.Codes.{all_codes, code_number, numbered_back}
 use Rattle.mxf_klv.proofs.Lists.{In-flat_map, at_place}
 
 -- Each code stands at the place of its number.

@@ -3,19 +3,14 @@ use Rattle.mxf_views.proofs.Common.{◌≡◌, ℕ, Bool, true, false, List, [],
 use Rattle.mxf_views.proofs.Common.{inl, inr, ◌↔◌, ◌&&◌, not, if◌then◌else◌, filter, bytes_eq-Decides, Kind, NoteParts}
 use Rattle.mxf_views.proofs.Common.{keeps_value, kind_of, In, storage_at, AreApart, AreApart-filter, Wanted, Storage}
 use Rattle.mxf_views.proofs.Common.{Identification, Package, found_among, has_uid, sets_of, fits, target_among}
-use Rattle.mxf_views.proofs.Common.{target_at, target_of, In-filter, and_from, false_from_ne_true, and_parts}
-use Rattle.std.specs.Prelude.{IsTrue}
+use Rattle.mxf_views.proofs.Common.{target_at, target_of, In-filter, and_from, false_from_ne_true, and_parts, IsTrue}
+use Rattle.mxf_views.proofs.Common.{instance_uid_at, identification_at, package_at, Found, Several, Target, reads_uid}
+use Rattle.mxf_views.proofs.Common.{is_readable, later_differs, picked_none, picked_one, picked_several}
 use Rattle.mxf_sets.specs.declared.record.FieldFault.{FieldFault}
-use Rattle.mxf_sets.specs.Instance.{instance_uid_at}
-use Rattle.mxf_sets.specs.Identification.{identification_at}
-use Rattle.mxf_sets.specs.Package.{package_at}
-use Rattle.mxf_views.specs.declared.reference.Found.{Found}
-use Rattle.mxf_views.specs.declared.reference.Found.TheVariants.{Absent, One, Several}
-use Rattle.mxf_views.specs.declared.reference.target.Target.{Target}
-use Rattle.mxf_views.specs.References.{HasUid, IsFound, IsOnlyWith, IsSeveral, reads_uid}
-use Rattle.mxf_views.specs.Targets.{IsReadableAs, IsTarget, IsWanted, is_readable}
+use Rattle.mxf_views.specs.declared.reference.Found.TheVariants.{Absent, One}
+use Rattle.mxf_views.specs.References.{HasUid, IsFound, IsOnlyWith, IsSeveral}
+use Rattle.mxf_views.specs.Targets.{IsReadableAs, IsTarget, IsWanted}
 use Rattle.mxf_views.proofs.ReadingLaws.{ok_readable}
-use Rattle.mxf_catalogue.proofs.ApartLaws.{later_differs, picked_none, picked_one, picked_several}
 use Rattle.mxf_klv.specs.declared.kinds.Kind.TheVariants as kinds
 use Rattle.mxf_views.specs.declared.reference.target.Target.TheVariants as targets
 
@@ -74,7 +69,16 @@ several_from : (sets : List NoteParts) (uid : List ℕ) (m n : NoteParts) (ws : 
 several_from sets uid m n ws w a =
     let s = (w m).0 (inl refl) in
     let t = (w n).0 (inr (inl refl)) in
-    record { one = m; other = n; one_held = s.0; one_has = s.1; other_held = t.0; other_has = t.1; differ = later_differs m n ws a }
+    record {
+      one = m;
+      other = n;
+      one_held = s.0;
+      one_has = s.1;
+      other_held = t.0;
+      other_has = t.1;
+      differ =
+          later_differs m n ws a;
+    }
 
 found_from : (sets : List NoteParts) (uid : List ℕ) (ws : List NoteParts) → Picks sets uid ws → AreApart 0 ws
     → IsFound sets uid (found_among ws)

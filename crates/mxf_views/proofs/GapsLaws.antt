@@ -2,27 +2,13 @@
 use Rattle.mxf_views.proofs.Common.{◌≡◌, ℕ, ◌+◌, ◌-◌, ◌^◌, ◌<◌, ◌≤◌, ◌⊎◌, true, false, List, [], ◌∷◌, refl, ap, subst}
 use Rattle.mxf_views.proofs.Common.{length, inl, inr, arith, ◌↔◌, max, cond, nat_lt, ltb-true, ltb-false, NoteParts}
 use Rattle.mxf_views.proofs.Common.{IsNote, end_of, greatest_end, In, less_in, IsCatalogue, IsContent, Run, gaps_of}
-use Rattle.mxf_views.proofs.Common.{LiesIn, AreMaximal, all-In}
-use Rattle.mxf_klv.specs.Note.{IsCovered, covered_end}
-use Rattle.mxf_klv.specs.NoteOrder.{note_total}
+use Rattle.mxf_views.proofs.Common.{LiesIn, AreMaximal, all-In, covered_end, note_total, gaps_from, AreGaps}
+use Rattle.mxf_views.proofs.Common.{covers_first, has_byte, cases_lt}
+use Rattle.mxf_klv.specs.Note.{IsCovered}
 use Rattle.mxf_catalogue.proofs.SpanLaws.{offset_le}
-use Rattle.mxf_views.specs.Gaps.{gaps_from, AreGaps}
 use Rattle.mxf_catalogue.specs.Runs.{IsWithin}
 use Rattle.mxf_catalogue.proofs.RunLaws.{AreMaximal-lower}
-use Rattle.std.proofs.lemmas.Bool.{cases_lt}
-
--- a note covers its first byte, and nothing above its end
-pub covers_first : (n : NoteParts) → n.offset + 1 ≤ covered_end n
-covers_first n = elim n.whole as (λ b. n.offset + 1 ≤ cond b (end_of n) (n.offset + 16 + n.width)) [
-  | true ↦ omega arith
-  | false ↦ omega arith
-]
-
-pub covers_below_end : (n : NoteParts) → covered_end n ≤ end_of n
-covers_below_end n = elim n.whole as (λ b. cond b (end_of n) (n.offset + 16 + n.width) ≤ end_of n) [
-  | true ↦ omega arith
-  | false ↦ omega arith
-]
+use Rattle.mxf_catalogue.proofs.RunBounds.{length_maximal}
 
 maximal_from : (notes : List NoteParts) (reached top : ℕ) → AreMaximal reached (gaps_from reached top notes)
 maximal_from [] reached top =
@@ -78,19 +64,19 @@ before_or_after n notes reached top offset g =
     elim (cases_lt offset n.offset) [
       | inl t ↦ inl t
       | inr l ↦ elim (cases_lt offset (covered_end n)) [
-            | inl r ↦ absurd (g.in_none n (inl refl) (record { from = l; before = omega (arith, r) }))
-            | inr r ↦ inr (record {
-                  above = omega arith;
-                  below = elim g.below [
-                    | inl k ↦ inl (omega (arith, k))
-                    | inr s ↦ elim s.1 [
-                      | inl e ↦ (let f = ap end_of e in inl (omega (arith, f, s.2)))
-                      | inr k ↦ inr (s.0, k, s.2)
-                    ]
-                  ];
-                  in_none = λ m h s. g.in_none m (inr h) s;
-                })
-          ]
+        | inl r ↦ absurd (g.in_none n (inl refl) (record { from = l; before = omega (arith, r) }))
+        | inr r ↦ inr (record {
+          above = omega arith;
+          below = elim g.below [
+            | inl k ↦ inl (omega (arith, k))
+            | inr s ↦ elim s.1 [
+              | inl e ↦ (let f = ap end_of e in inl (omega (arith, f, s.2)))
+              | inr k ↦ inr (s.0, k, s.2)
+            ]
+          ];
+          in_none = λ m h s. g.in_none m (inr h) s;
+        })
+      ]
     ]
 
 -- before the first note of a content is none
@@ -124,7 +110,15 @@ offsets_from [] reached top offset r =
           | inr k ↦ absurd k
         ],
         λ g. elim g.below [
-          | inl l ↦ (record { start = reached; end = top }, inl refl, record { from = g.above; before = omega (arith, l) })
+          | inl l ↦ (
+            record { start = reached; end = top },
+            inl refl,
+            record {
+              from = g.above;
+              before = omega
+                  (arith, l);
+            },
+          )
           | inr s ↦ absurd s.1
         ],
       )
@@ -154,7 +148,11 @@ offsets_from (n ∷ notes) reached top offset r =
           | inr k ↦ fewer n notes reached top offset (ih.0 (h.0, k, h.2))
         ],
         λ g. elim (before_or_after n notes reached top offset g) [
-          | inl l ↦ (record { start = reached; end = n.offset }, inl refl, record { from = g.above; before = omega arith })
+          | inl l ↦ (
+            record { start = reached; end = n.offset },
+            inl refl,
+            record { from = g.above; before = omega arith },
+          )
           | inr k ↦ let w = ih.1 k in (w.0, inr w.1, w.2)
         ],
       )
@@ -182,28 +180,6 @@ gaps_are notes r = record {
 }
 
 -- ---- how many there are
-
--- maximal runs have a byte each
-pub has_byte : (low : ℕ) (runs : List Run) (r : Run) → AreMaximal low runs → In r runs → r.start < r.end
-has_byte low [] r m h = absurd h
-has_byte low (s ∷ runs) r m (inl e) =
-    let a : s.start < s.end = m.1 in
-    let b : r.start ≡ s.start = ap (λ (x : Run). x.start) e in
-    let c : r.end ≡ s.end = ap (λ (x : Run). x.end) e in omega arith
-has_byte low (s ∷ runs) r m (inr h) = has_byte (s.end + 1) runs r m.2 h
-
--- maximal runs from an offset on are no more than the offsets up to where they end
-length_maximal : (low high : ℕ) (runs : List Run) → AreMaximal low runs → ((r : Run) → In r runs → r.end ≤ high)
-    → (length runs ≡ 0) ⊎ (low + length runs ≤ high)
-length_maximal low high [] m ends = inl refl
-length_maximal low high (r ∷ runs) m ends =
-    let a : low ≤ r.start = m.0 in
-    let b : r.start < r.end = m.1 in
-    let c : r.end ≤ high = ends r (inl refl) in
-    elim (length_maximal (r.end + 1) high runs m.2 (λ s h. ends s (inr h))) [
-      | inl none ↦ inr (omega (arith, none))
-      | inr some ↦ inr (omega (arith, some))
-    ]
 
 -- so gaps can be counted
 pub few_gaps : (notes : List NoteParts) (gaps : List Run) → IsCatalogue notes → AreGaps notes gaps

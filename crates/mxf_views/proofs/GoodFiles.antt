@@ -5,13 +5,13 @@ use Rattle.mxf_views.proofs.Common.{OpenIncomplete, ClosedComplete, PacketParts,
 use Rattle.mxf_views.proofs.Common.{Header, Footer, stream_offset, SegmentParts, SegmentAtParts, place_by_segment}
 use Rattle.mxf_views.proofs.Common.{segments_read, partitions_read, read_pack, read_rip, read_segment, Agree}
 use Rattle.mxf_views.proofs.Common.{EndsWithFooter, IsWellFormed, numbers, pack, Place, At, all-In, none_some}
-use Rattle.mxf_views.proofs.Common.{same_Some, kind_of}
+use Rattle.mxf_views.proofs.Common.{same_Some, kind_of, are_packets, is_pack_kind}
 use Rattle.std.specs.Prelude.{◌*◌, unsigned_abs}
 use Rattle.mxf_sets.specs.Offset.{covers_constant, covers_entry, entry_offset}
 use Rattle.mxf_sets.specs.Segment.{is_constant}
 use Rattle.mxf_views.specs.WorkedFiles.{agreeing_file, bare_file, constant, fill, filled_file, m_file, open_file}
 use Rattle.mxf_views.specs.WorkedFiles.{segment, twice_filled_file, two_entries}
-use Rattle.mxf_views.proofs.SmallFiles.{footer_behind, is_pack_kind, metadata_after, no_headers, rip_last, are_packets}
+use Rattle.mxf_views.proofs.SmallFiles.{footer_behind, metadata_after, no_headers, rip_last}
 
 pub bare_footer : (after : List PacketParts) → list_any (λ p. is_pack_kind (kind_of p.key)) after ≡ false
     → EndsWithFooter (bare_file after)
@@ -45,7 +45,23 @@ filled_well_formed = record {
   readable = (refl, (refl, (refl, (refl, (refl, tt)))));
   this = (refl, (refl, tt));
   previous = (refl, (refl, tt));
-  metadata = (λ h. metadata_after (fill ∷ []) (drop 4 filled_file) (refl, tt), (tt, (tt, (tt, (λ h. absurd (omega arith), tt)))));
+  metadata = (
+    λ h. metadata_after (fill ∷ []) (drop 4 filled_file) (refl, tt),
+    (
+      tt,
+      (
+        tt,
+        (
+          tt,
+          (
+            λ h. absurd
+                (omega arith),
+            tt,
+          ),
+        ),
+      ),
+    ),
+  );
   index = λ s t sid unit p q h k e f. absurd h;
   random_index = rip_last (partitions_read 0 filled_file) filled_file refl tt;
 }
@@ -61,7 +77,19 @@ twice_filled_well_formed = record {
   readable = (refl, (refl, (refl, (refl, (refl, (refl, tt))))));
   this = (refl, (refl, tt));
   previous = (refl, (refl, tt));
-  metadata = (λ h. metadata_after (fill ∷ fill ∷ []) (drop 5 twice_filled_file) (refl, (refl, tt)), (tt, (tt, (tt, (tt, (λ h. absurd (omega arith), tt))))));
+  metadata = (
+    λ h. metadata_after (fill ∷ fill ∷ []) (drop 5 twice_filled_file) (refl, (refl, tt)),
+    (
+      tt,
+      (
+        tt,
+        (
+          tt,
+          (tt, (λ h. absurd (omega arith), tt)),
+        ),
+      ),
+    ),
+  );
   index = λ s t sid unit p q h k e f. absurd h;
   random_index = rip_last (partitions_read 0 twice_filled_file) twice_filled_file refl tt;
 }
@@ -72,7 +100,8 @@ open_well_formed = record {
   packets = are_packets open_file refl;
   within = omega arith;
   header = ((OpenIncomplete, refl), no_headers (drop 1 open_file) refl);
-  footer = footer_behind (take 1 open_file) (pack Footer (numbers 108 0 108 0 0 0 0)) [] (ClosedComplete, refl) refl refl;
+  footer = footer_behind (take 1 open_file) (pack Footer (numbers 108 0 108 0 0 0 0)) []
+      (ClosedComplete, refl) refl refl;
   readable = (refl, (refl, tt));
   this = (refl, (refl, tt));
   previous = (refl, (refl, tt));

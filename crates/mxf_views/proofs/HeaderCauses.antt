@@ -5,26 +5,18 @@ use Rattle.mxf_views.proofs.Common.{filter, map, if◌then◌else◌, Kind, Note
 use Rattle.mxf_views.proofs.Common.{items_of, left_of, storage_at, segment_at, IsContent, clear_notes, CopyInfo, IsCopy}
 use Rattle.mxf_views.proofs.Common.{copies_of, is_primer, resolved_of, lost_at, is_segment, AtClear, IsReadable}
 use Rattle.mxf_views.proofs.Common.{In-append, not-true-false, not_true, either, or_cases, and_from, false_from_ne_true}
-use Rattle.mxf_views.proofs.Common.{and_parts}
+use Rattle.mxf_views.proofs.Common.{and_parts, preface_at, identification_at, package_at, Ref, Target, Unreadable}
+use Rattle.mxf_views.proofs.Common.{is_set, ResolvedParts, is_partial, lost_beside, lost_by, reads_value, In-chosen}
 use Rattle.std.specs.Prelude.{is_none}
-use Rattle.mxf_sets.specs.Preface.{preface_at}
-use Rattle.mxf_sets.specs.Identification.{identification_at}
-use Rattle.mxf_sets.specs.Package.{package_at}
-use Rattle.mxf_views.specs.declared.reference.target.Ref.{Ref}
-use Rattle.mxf_views.specs.declared.reference.target.Target.{Target}
-use Rattle.mxf_views.specs.declared.reference.target.Target.TheVariants.{Found, Missing, Several, WrongKind, Unreadable}
-use Rattle.mxf_views.specs.Copies.{is_set}
+use Rattle.mxf_views.specs.declared.reference.target.Target.TheVariants.{Found, Missing, Several, WrongKind}
 use Rattle.mxf_views.specs.SetItems.{whole_items}
-use Rattle.mxf_views.specs.Resolved.{ResolvedParts}
-use Rattle.mxf_views.specs.Findings.{is_found, is_partial, is_unreadable_segment, is_unreadable_set, lost_behind}
-use Rattle.mxf_views.specs.Findings.{lost_beside, lost_by, lost_in, reads_value}
+use Rattle.mxf_views.specs.Findings.{is_found, is_unreadable_segment, is_unreadable_set, lost_behind, lost_in}
 use Rattle.mxf_views.specs.FindingCauses.{Holds, HoldsLost, IsMetadataKind, IsReadableSet}
 use Rattle.mxf_views.proofs.CauseLaws.{at_clear}
 use Rattle.mxf_views.proofs.CopyLaws.{copies_are}
 use Rattle.mxf_views.proofs.KindLaws.{primer_kind, segment_kind, set_kind}
 use Rattle.mxf_views.proofs.ReadingLaws.{ok_readable}
 use Rattle.mxf_views.proofs.ResolvedLaws.{resolved_iff}
-use Rattle.mxf_klv.proofs.Lists.{In-chosen}
 use Rattle.mxf_klv.proofs.Tests.{none_says}
 use Rattle.std.proofs.lemmas.List.{nil_from_length}
 use Rattle.mxf_klv.specs.declared.kinds.Kind.TheVariants as kinds
@@ -139,7 +131,8 @@ unreadable_segment n =
           let s = and_parts (is_segment kind) (not read) h in
           let e = (segment_kind kind).0 s.0 in
           (e, λ k. not-true-false read s.1 (same e ∙ r.1 k)),
-      λ s. and_from (is_segment kind) (not read) (ap is_segment s.0) (not_true read (λ t. s.1 (r.0 (sym (same s.0) ∙ t)))),
+      λ s. and_from (is_segment kind) (not read) (ap is_segment s.0) (not_true read (λ t. s.1 (r.0 (sym (same s.0)
+          ∙ t)))),
     )
 
 pub unreadable_segments : (notes : List NoteParts) (o : ℕ)

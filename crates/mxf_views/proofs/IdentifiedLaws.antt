@@ -1,26 +1,22 @@
 -- Sets gathered, sorted and searched by their identifiers.
-use Rattle.mxf_views.proofs.Common.{◌≡◌, ℕ, zero, suc, ◌+◌, ◌<◌, ◌≤◌, Bool, true, false, cond, List, [], ◌∷◌, Ok, Err}
+use Rattle.mxf_views.proofs.Common.{◌≡◌, ℕ, zero, suc, ◌+◌, ◌<◌, ◌≤◌, true, false, cond, List, [], ◌∷◌, Ok, Err}
 use Rattle.mxf_views.proofs.Common.{Some, None, refl, sym, ap, subst, ◌∙◌, inl, inr, arith, get_or, length, ◌&&◌}
-use Rattle.mxf_views.proofs.Common.{count_by, filter, if◌then◌else◌, map, AllWithin, cons_option, filter_map}
+use Rattle.mxf_views.proofs.Common.{filter, if◌then◌else◌, map, AllWithin, cons_option, filter_map}
 use Rattle.mxf_views.proofs.Common.{IsNonDecreasingBy, nat_cmp-IsAntisymmetric, option_map, result_ok, nat_cmp}
-use Rattle.mxf_views.proofs.Common.{Ordering, Less, Equal, Greater, false_from_ne_true, tied_itself, bytes_eq-Decides}
-use Rattle.mxf_views.proofs.Common.{NoteParts, keeps_value, In, found_among, has_uid, count_by-cons, tally, In-filter}
-use Rattle.mxf_views.proofs.Common.{Contains-from_In, eqb-true, eq-eqb, cases_lt}
-use Rattle.std.specs.List.Sorted.{IsPartitionedBy, IsPermutation}
+use Rattle.mxf_views.proofs.Common.{Less, Equal, Greater, false_from_ne_true, tied_itself, bytes_eq-Decides}
+use Rattle.mxf_views.proofs.Common.{NoteParts, keeps_value, In, found_among, has_uid, In-filter}
+use Rattle.mxf_views.proofs.Common.{Contains-from_In, eqb-true, eq-eqb, cases_lt, IsPermutation, bytes_eq}
+use Rattle.mxf_views.proofs.Common.{ordering_index, Contains-permutation, instance_uid_at, Found, Several, is_below}
+use Rattle.mxf_views.proofs.Common.{is_of, with_uid, reads_uid, In-from_Contains, length-filter}
+use Rattle.std.specs.List.Sorted.{IsPartitionedBy}
 use Rattle.std.specs.Cmp.Lexicographic.{lists_agrees, nat_list_cmp_total, slice_cmp, slice_partial_cmp}
 use Rattle.std.specs.FinSet.{slice_cmp-IsAntisymmetric}
-use Rattle.std.specs.Str.{bytes_eq}
-use Rattle.std.specs.Ordering.{is_lt, is_some_and, ordering_index}
-use Rattle.std.proofs.lemmas.List.Sorted.{Contains-permutation, searchable_from_sorted, sum_by-IsPermutation}
-use Rattle.mxf_sets.specs.Instance.{instance_uid_at}
-use Rattle.mxf_views.specs.declared.reference.Found.{Found}
-use Rattle.mxf_views.specs.declared.reference.Found.TheVariants.{Absent, One, Several}
+use Rattle.std.specs.Ordering.{is_lt, is_some_and}
+use Rattle.std.proofs.lemmas.List.Sorted.{searchable_from_sorted, sum_by-IsPermutation}
+use Rattle.mxf_views.specs.declared.reference.Found.TheVariants.{Absent, One}
 use Rattle.mxf_views.specs.declared.reference.identified.Identified.{Identified}
-use Rattle.mxf_views.specs.Identified.{AreByUid, AreSorted, found_at, is_below, is_of, with_uid}
-use Rattle.mxf_views.specs.References.{reads_uid}
-use Rattle.mxf_klv.proofs.Lists.{In-from_Contains}
+use Rattle.mxf_views.specs.Identified.{AreByUid, AreSorted, found_at}
 use Rattle.std.proofs.lemmas.Cmp.{is_lt_index}
-use Rattle.std.proofs.lemmas.List.Sums.{length-filter}
 
 -- ---- one identifier among sorted sets
 
@@ -68,8 +64,10 @@ module _ (uid : List ℕ) where
   none_behind es i k d s b n l h =
       false_from_ne_true (is_of uid (get_or es k d)) (λ t.
       let m = comparisons es s i k d l h in
-      let high : ordering_index (slice_cmp nat_cmp (get_or es i d).uid uid) ≡ 2 = ap ordering_index (above (get_or es i d) b n) in
-      let same : ordering_index (slice_cmp nat_cmp (get_or es k d).uid uid) ≡ 1 = ap ordering_index (equal_of (get_or es k d) t) in
+      let high : ordering_index (slice_cmp nat_cmp (get_or es i d).uid uid)
+      ≡ 2 = ap ordering_index (above (get_or es i d) b n) in
+      let same : ordering_index (slice_cmp nat_cmp (get_or es k d).uid uid)
+      ≡ 1 = ap ordering_index (equal_of (get_or es k d) t) in
       omega (arith, m, high, same))
 
   filter_none : (es : List Identified) → AllWithin (λ e. is_of uid e ≡ false) es 0 (length es)
@@ -188,12 +186,14 @@ same_offsets uid (n ∷ sets) =
       | false ↦ ih
       | true ↦ elim (instance_uid_at n.held) as (λ r.
           offsets (filter (is_of uid)
-          (cons_option (option_map (λ uid. record { uid = uid; offset = n.offset }) (result_ok r)) (filter_map with_uid sets)))
+          (cons_option (option_map (λ uid. record { uid = uid; offset = n.offset }) (result_ok r))
+          (filter_map with_uid sets)))
           ≡ map (λ (n : NoteParts). n.offset)
           (cond (reads_uid uid r) (n ∷ filter (has_uid uid) sets) (filter (has_uid uid) sets))) [
             | Err f ↦ ih
             | Ok own ↦ elim (bytes_eq own uid) as (λ b.
-                offsets (cond b (record { uid = own; offset = n.offset } ∷ filter (is_of uid) (filter_map with_uid sets))
+                offsets (cond b (record { uid = own; offset = n.offset } ∷ filter (is_of uid)
+                (filter_map with_uid sets))
                 (filter (is_of uid) (filter_map with_uid sets)))
                 ≡ map (λ (n : NoteParts). n.offset)
                 (cond b (n ∷ filter (has_uid uid) sets) (filter (has_uid uid) sets))) [

@@ -5,16 +5,15 @@ use Rattle.mxf_views.proofs.Common.{if◌then◌else◌, ltb-true, lt-ltb, or_ca
 use Rattle.mxf_views.proofs.Common.{kind_of, In, RipEntry, RipParts, rip_at, IsContent, IsClear, clear_notes}
 use Rattle.mxf_views.proofs.Common.{In-clear_notes, clear-alone, Whole, Broken, PartitionParts, chain_of, partitions_of}
 use Rattle.mxf_views.proofs.Common.{has_other_rip, is_unfit_rip, is_rip_note, rip_in, AtClear, IsReadable, IsReadAs}
-use Rattle.mxf_views.proofs.Common.{list_any-In, not-true-false, not_true, either}
+use Rattle.mxf_views.proofs.Common.{list_any-In, not-true-false, not_true, either, HangTogether, are_entries_of}
+use Rattle.mxf_views.proofs.Common.{ends_above, not_equal}
 use Rattle.mxf_views.specs.declared.chain.Chain.{Chain}
-use Rattle.mxf_views.specs.Partitions.{HangTogether}
-use Rattle.mxf_views.specs.Findings.{are_entries_of, ends_above, is_broken, is_index_of}
+use Rattle.mxf_views.specs.Findings.{is_broken, is_index_of}
 use Rattle.mxf_views.specs.FindingCauses.{HasOther, IsNotLast, ListsOthers, entry_of}
 use Rattle.mxf_views.proofs.CauseLaws.{at_clear}
 use Rattle.mxf_views.proofs.ReadingLaws.{reads}
 use Rattle.mxf_views.proofs.ChainLaws.{chain_iff}
 use Rattle.mxf_views.proofs.KindLaws.{rip_kind}
-use Rattle.mxf_klv.proofs.Tests.{not_equal}
 use Rattle.mxf_sets.proofs.RipLaws.{same_entry}
 use Rattle.mxf_klv.specs.declared.kinds.Kind.TheVariants as kinds
 

@@ -2,9 +2,9 @@
 use Rattle.mxf_views.proofs.Common.{◌≡◌, ℕ, Bool, List, [], refl, sym, ap, ◌∙◌, NoteParts, IsContent, reduced_with}
 use Rattle.mxf_views.proofs.Common.{clear_notes, CopyInfo, copies_of, IsHull, KeptParts, copies_followed, followed}
 use Rattle.mxf_views.proofs.Common.{is_placed, notes_at, offsets_where, reaches_of, partition_at, partitions_among}
-use Rattle.mxf_views.proofs.Common.{partitions_of, placed_segment, segments_among, segments_of, rips_of}
-use Rattle.mxf_views.specs.Kept.{kept_of, can_bring_start, stands_clear}
-use Rattle.mxf_views.proofs.ClearChanges.{IsNew, notes_at_offsets, offsets_follow}
+use Rattle.mxf_views.proofs.Common.{partitions_of, placed_segment, segments_among, segments_of, rips_of, kept_of}
+use Rattle.mxf_views.proofs.Common.{can_bring_start, stands_clear, IsNew}
+use Rattle.mxf_views.proofs.ClearChanges.{notes_at_offsets, offsets_follow}
 use Rattle.mxf_views.proofs.CopyUpdates.{copies_follow}
 use Rattle.mxf_klv.proofs.Lists.{filter_map_some}
 use Rattle.mxf_views.specs.declared.kept.offsets.Placed.TheVariants as kinds
@@ -34,7 +34,8 @@ same_kept ps qs ss ts rs rt us ut cs ds p s r u c =
 -- Once a note has arrived.
 pub kept_after : (x : NoteParts) (notes after : List NoteParts) (start end offset : ℕ) (brings : Bool)
     (ps ss rs us : List ℕ) (cs : List CopyInfo) → IsContent notes → IsNew x notes → IsHull x notes start end
-    → after ≡ reduced_with x notes → offset ≡ x.offset → brings ≡ can_bring_start x → the_kept ps ss rs us cs ≡ kept_of notes
+    → after ≡ reduced_with x notes → offset ≡ x.offset → brings ≡ can_bring_start x
+    → the_kept ps ss rs us cs ≡ kept_of notes
     → the_kept (followed (stands_clear (is_placed kinds.Partition) after offset) offset start end ps)
     (followed (stands_clear (is_placed kinds.Segment) after offset) offset start end ss)
     (followed (stands_clear (is_placed kinds.RandomIndexPack) after offset) offset start end rs)
@@ -55,7 +56,8 @@ kept_after x notes after start end offset brings ps ss rs us cs r new h e at can
     (ap (λ a. copies_followed a offset start end brings cs) e
     ∙ ap (λ o. copies_followed (reduced_with x notes) o start end brings cs) at
     ∙ ap (λ b. copies_followed (reduced_with x notes) x.offset start end b cs) can
-    ∙ ap (copies_followed (reduced_with x notes) x.offset start end (can_bring_start x)) (ap (λ (k : KeptParts). k.copies) k)
+    ∙ ap (copies_followed (reduced_with x notes) x.offset start end (can_bring_start x)) (ap (λ
+    (k : KeptParts). k.copies) k)
     ∙ copies_follow x notes start end r new h ∙ ap copies_of (sym e))
 
 -- The notes at kept offsets are read as the partitions, the segments and the random index packs.

@@ -1,18 +1,16 @@
 -- Notes of packets that are laid one after another: each is clear, and what a zone has of them.
-use Rattle.mxf_views.proofs.Common.{◌≡◌, ℕ, ◌+◌, ◌≤◌, Bool, true, false, cond, not, ◌&&◌, List, [], ◌∷◌, ◌++◌, length}
+use Rattle.mxf_views.proofs.Common.{◌≡◌, ℕ, ◌+◌, ◌≤◌, Bool, true, false, cond, ◌&&◌, List, [], ◌∷◌, ◌++◌, length}
 use Rattle.mxf_views.proofs.Common.{filter, filter_map, None, Result, is_some, refl, AllByRecursion, cons_option}
-use Rattle.mxf_views.proofs.Common.{option_map, result_ok, sym, ◌∙◌, ap, subst, inl, inr, arith, append_assoc, le-leb}
+use Rattle.mxf_views.proofs.Common.{option_map, result_ok, sym, ◌∙◌, ap, subst, arith, append_assoc, le-leb}
 use Rattle.mxf_views.proofs.Common.{sum_by-cons, kind_of, note_of, end_of, size_of, PacketParts, NoteParts, notes_from}
-use Rattle.mxf_views.proofs.Common.{In, pack_at, primer_at, rip_at, read_as, SharesByte, is_disputed, clear_notes}
+use Rattle.mxf_views.proofs.Common.{pack_at, primer_at, rip_at, read_as}
 use Rattle.mxf_views.proofs.Common.{is_primer, is_readable_primer, pack_of, partition_at, partitions_of, is_rip, rip_in}
 use Rattle.mxf_views.proofs.Common.{partition_read, partitions_read, read_pack, read_rip, sizes, lies_in, total_of}
-use Rattle.std.proofs.lemmas.Bool.{lt-leb}
-use Rattle.std.proofs.lemmas.List.Elements.{filter-append}
-use Rattle.mxf_klv.specs.Note.{keeps}
-use Rattle.mxf_catalogue.specs.Disputes.{IsDisputed}
-use Rattle.mxf_catalogue.proofs.DisputeLaws.{is_disputed-IsDisputed}
-use Rattle.mxf_views.specs.Records.{read_primer, value_as}
-use Rattle.mxf_klv.proofs.Lists.{filter_all}
+use Rattle.mxf_views.proofs.Common.{lt-leb, filter-append, keeps, value_as}
+use Rattle.mxf_views.proofs.Common.{clear-laid}
+use Rattle.mxf_views.specs.Records.{read_primer}
+use Rattle.mxf_catalogue.proofs.ClearLaws.{end_of-note_of}
+use Rattle.mxf_catalogue.proofs.LaidNotes.{end_with_one, zone_none_before}
 use Rattle.mxf_views.specs.Spans as spans
 
 -- A value that is read only where it is kept is the same whatever is held of others.
@@ -41,55 +39,6 @@ pub rip-note : (offset : ℕ) (p : PacketParts) → is_rip (kind_of p.key) ≡ t
 unfolding read_rip
 rip-note offset p k = rw k (read_as-note (rip_at p.width) offset p)
 
-pub end_of-note_of : (offset : ℕ) (p : PacketParts) → end_of (note_of offset p) ≡ offset + size_of p
-end_of-note_of offset p = omega arith
-
--- Each note of the file begins at or after the offset.
-pub after : (at : ℕ) (l : List PacketParts) (n : NoteParts) → In n (notes_from at l) → at ≤ n.offset
-after at [] n h = absurd h
-after at (p ∷ ps) n (inl e) = let f : n.offset ≡ at = ap (λ (m : NoteParts). m.offset) e in omega arith
-after at (p ∷ ps) n (inr h) = let f : at + size_of p ≤ n.offset = after (at + size_of p) ps n h in omega arith
-
--- Two notes of the file share no byte.
-apart : (at : ℕ) (l : List PacketParts) (m n : NoteParts) → In m (notes_from at l) → In n (notes_from at l)
-    → SharesByte m n → m ≡ n
-apart at [] m n h k s = absurd h
-apart at (p ∷ ps) m n (inl e) (inl f) s = e ∙ sym f
-apart at (p ∷ ps) m n (inl e) (inr k) s =
-    let x : end_of m ≡ end_of (note_of at p) = ap end_of e in
-    let y : at + size_of p ≤ n.offset = after (at + size_of p) ps n k in
-    let a : s.0 + 1 ≤ end_of m = s.1.before in let b : n.offset ≤ s.0 = s.2.from in absurd (omega arith)
-apart at (p ∷ ps) m n (inr h) (inl f) s =
-    let x : end_of n ≡ end_of (note_of at p) = ap end_of f in
-    let y : at + size_of p ≤ m.offset = after (at + size_of p) ps m h in
-    let a : s.0 + 1 ≤ end_of n = s.2.before in let b : m.offset ≤ s.0 = s.1.from in absurd (omega arith)
-apart at (p ∷ ps) m n (inr h) (inr k) s = apart (at + size_of p) ps m n h k s
-
-no_dispute : (at : ℕ) (l : List PacketParts) (n : NoteParts) → In n (notes_from at l)
-    → IsDisputed n (notes_from at l) → ⊥
-no_dispute at l n k d = d.2 (apart at l d.0 n d.1 k d.3)
-
--- Each note of the file is of a packet that was read whole.
-pub is_whole : (at : ℕ) (l : List PacketParts) (n : NoteParts) → In n (notes_from at l) → n.whole ≡ true
-is_whole at [] n h = absurd h
-is_whole at (p ∷ ps) n (inl e) = ap (λ (m : NoteParts). m.whole) e
-is_whole at (p ∷ ps) n (inr h) = is_whole (at + size_of p) ps n h
-
-pub not_disputed : (at : ℕ) (l : List PacketParts) (n : NoteParts) → In n (notes_from at l)
-    → not (is_disputed n (notes_from at l)) ≡ true
-not_disputed at l n h =
-    let d = is_disputed-IsDisputed n (notes_from at l) in
-    elim (is_disputed n (notes_from at l)) as (λ b. is_disputed n (notes_from at l) ≡ b → not b ≡ true) [
-      | true ↦ λ e. absurd (no_dispute at l n h (d.0 e))
-      | false ↦ λ e. refl
-    ] refl
-
-pub clear-laid : (at : ℕ) (l : List PacketParts) → clear_notes (notes_from at l) ≡ notes_from at l
-clear-laid at l =
-    ap (filter (λ (n : NoteParts). n.whole))
-    (filter_all (λ n. not (is_disputed n (notes_from at l))) (notes_from at l) (not_disputed at l))
-    ∙ filter_all (λ n. n.whole) (notes_from at l) (is_whole at l)
-
 -- The partition of a packet's note is that of the packet.
 pub partition-note : (at : ℕ) (p : PacketParts) → partition_at (note_of at p) ≡ partition_read at p
 unfolding partition_at
@@ -114,11 +63,6 @@ pub record LastFrom (at : ℕ) (l : List PacketParts) (notes : List NoteParts) :
 pub last_all : (at : ℕ) (l : List PacketParts) → LastFrom at l (notes_from at l)
 last_all at l = record { before = []; whole = refl; ends = tt }
 
-end_with_one : (at next : ℕ) (ns : List NoteParts) (n : NoteParts) → AllByRecursion (λ m. end_of m ≤ at) ns
-    → at ≤ next → end_of n ≤ next → AllByRecursion (λ m. end_of m ≤ next) (ns ++ n ∷ [])
-end_with_one at next [] n a h e = (e, tt)
-end_with_one at next (m ∷ ms) n a h e = let b : end_of m ≤ at = a.0 in (omega arith, end_with_one at next ms n a.1 h e)
-
 pub last_next : (at : ℕ) (p : PacketParts) (ps : List PacketParts) (notes : List NoteParts)
     → LastFrom at (p ∷ ps) notes → LastFrom (at + size_of p) ps notes
 last_next at p ps notes f = record {
@@ -133,14 +77,6 @@ last_past at [] ys notes f = subst (λ x. LastFrom x ys notes) (let e : at ≡ a
 last_past at (x ∷ xs) ys notes f =
     let e : at + size_of x + total_of xs ≡ at + (size_of x + total_of xs) = omega arith in
     subst (λ x. LastFrom x ys notes) e (last_past (at + size_of x) xs ys notes (last_next at x (xs ++ ys) notes f))
-
--- What ends at or below the start of a zone isn't in it.
-zone_none_before : (start bytes : ℕ) (ns : List NoteParts) → AllByRecursion (λ n. end_of n ≤ start) ns
-    → filter (lies_in start bytes) ns ≡ []
-zone_none_before start bytes [] a = refl
-zone_none_before start bytes (n ∷ ns) a =
-    let b : end_of n ≤ start = a.0 in
-    rw (lt-leb start n.offset (omega arith)) (zone_none_before start bytes ns a.1)
 
 -- What is laid from the zone's end on isn't in it.
 zone_none_after : (start bytes at : ℕ) (l : List PacketParts) → start + bytes ≤ at → start ≤ at

@@ -5,13 +5,12 @@ use Rattle.mxf_views.proofs.Common.{list_all, option_map, option_and_then, sym, 
 use Rattle.mxf_views.proofs.Common.{ltb-true, and_from, false_from_ne_true, sum_by-append, In, First, Held}
 use Rattle.mxf_views.proofs.Common.{PartitionParts, is_footer, is_greatest, is_header, is_linked, link_at, link_of}
 use Rattle.mxf_views.proofs.Common.{stands_above, count_by-cons, tally, list_any-In, In-list_all, all-In, all_from_In}
+use Rattle.mxf_views.proofs.Common.{IsGreatestBelow, link_read_at, links_read, count-none}
 use Rattle.std.proofs.lemmas.Bool.{or_right}
-use Rattle.mxf_views.specs.Partitions.{IsGreatestBelow}
-use Rattle.mxf_views.specs.Reading.{ends_with_footer, link_read, link_read_at, links_read}
+use Rattle.mxf_views.specs.Reading.{ends_with_footer, link_read}
 use Rattle.mxf_views.specs.WellFormed.{NameTheOneBefore}
 use Rattle.mxf_views.proofs.PartitionLaws.{link_iff}
 use Rattle.mxf_views.proofs.RisingPartitions.{IsRisingFrom, at_or_above}
-use Rattle.mxf_klv.proofs.Counts.{count-none}
 use Rattle.mxf_klv.proofs.Lists.{all_push}
 
 offset-same : (p q : PartitionParts) → p ≡ q → p.offset ≡ q.offset

@@ -8,16 +8,13 @@ use Rattle.mxf_views.proofs.Common.{copies_of, copy_from, copy_of, covered_of, h
 use Rattle.mxf_views.proofs.Common.{is_preface_note, is_primer, is_readable_primer, is_set_note, is_start, preferred_of}
 use Rattle.mxf_views.proofs.Common.{sets_found, sets_from, sets_of, start_of, zone_of, PartitionParts, partitions_read}
 use Rattle.mxf_views.proofs.Common.{read_pack, sizes, HasMetadata, IsFill, IsWellFormed, is_readable_as, total_of}
-use Rattle.std.proofs.lemmas.Bool.{and_left, and_right, lt-leb}
-use Rattle.mxf_views.specs.Copies.{copies_among}
-use Rattle.mxf_views.specs.Reading.{CopyRead, after_fills, copies_alone, copies_read, copy_read, sets_read, taken}
-use Rattle.mxf_views.specs.Reading.{whole_copy}
-use Rattle.mxf_views.specs.Records.{value_as}
-use Rattle.mxf_views.specs.WellFormed.{IsPrimerPack, IsReadable, MetadataFollow}
-use Rattle.mxf_views.specs.WholeFile.{HasCopiesOf}
-use Rattle.mxf_views.proofs.Laid.{LastFrom, clear-laid, covered-laid, last_all, last_next, last_past}
-use Rattle.mxf_views.proofs.Laid.{partitions_of-laid, primer-note, zone-laid}
-use Rattle.mxf_views.proofs.LaidPartitions.{all-right}
+use Rattle.mxf_views.proofs.Common.{lt-leb, copies_among, CopyRead, after_fills, copies_alone, copies_read, copy_read}
+use Rattle.mxf_views.proofs.Common.{taken, whole_copy, value_as, IsPrimerPack, HasCopiesOf, clear-laid, all-right}
+use Rattle.std.proofs.lemmas.Bool.{and_left, and_right}
+use Rattle.mxf_views.specs.Reading.{sets_read}
+use Rattle.mxf_views.specs.WellFormed.{IsReadable, MetadataFollow}
+use Rattle.mxf_views.proofs.Laid.{LastFrom, covered-laid, last_all, last_next, last_past, partitions_of-laid}
+use Rattle.mxf_views.proofs.Laid.{primer-note, zone-laid}
 use Rattle.mxf_views.proofs.PreferredRead.{preferred-rising, rise-read}
 
 -- What holds of each packet holds of each of the last.

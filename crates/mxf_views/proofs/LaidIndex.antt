@@ -4,11 +4,10 @@ use Rattle.mxf_views.proofs.Common.{AllByRecursion, cons_option, option_map, opt
 use Rattle.mxf_views.proofs.Common.{tied_itself, kind_of, note_of, size_of, PacketParts, notes_from, In, with_one}
 use Rattle.mxf_views.proofs.Common.{union, stream_offset, segment_at, SegmentAtParts, is_segment, pair_cmp, place_by}
 use Rattle.mxf_views.proofs.Common.{place_of, placed_segment, segments_of, place_by_segment, segments_read}
-use Rattle.mxf_views.proofs.Common.{read_segment, Agree, IsWellFormed, Pair, Place, NotIndexed, At, Ambiguous}
-use Rattle.mxf_views.specs.Places.{pair_of}
+use Rattle.mxf_views.proofs.Common.{read_segment, Agree, IsWellFormed, Pair, Place, NotIndexed, At, Ambiguous, pair_of}
+use Rattle.mxf_views.proofs.Common.{HasIndexOf, clear-laid}
 use Rattle.mxf_views.specs.Reading.{place_read, segment_read}
-use Rattle.mxf_views.specs.WholeFile.{HasIndexOf}
-use Rattle.mxf_views.proofs.Laid.{clear-laid, read_as-note}
+use Rattle.mxf_views.proofs.Laid.{read_as-note}
 use Rattle.mxf_views.proofs.PlaceLaws.{pair_total, same_pair}
 
 -- The segment of a packet's note is that of the packet.
@@ -49,10 +48,16 @@ unfolding pair_of
 place-pair sid unit s =
     elim (s.segment.numbers.index_sid == sid) as (λ b.
     cond b (option_map (At s.segment.numbers.body_sid) (stream_offset s.segment unit)) None
-    ≡ option_map place_at (cond b (option_map (λ offset. record { body_sid = s.segment.numbers.body_sid; offset = offset })
+    ≡ option_map place_at (cond b (option_map (λ offset. record {
+      body_sid = s.segment.numbers.body_sid;
+      offset = offset;
+    })
     (stream_offset s.segment unit)) None)) [
       | true ↦ elim (stream_offset s.segment unit) as (λ o. option_map (At s.segment.numbers.body_sid) o
-          ≡ option_map place_at (option_map (λ offset. record { body_sid = s.segment.numbers.body_sid; offset = offset }) o)) [
+          ≡ option_map place_at (option_map (λ offset. record {
+            body_sid = s.segment.numbers.body_sid;
+            offset = offset;
+          }) o)) [
             | None ↦ refl
             | Some offset ↦ refl
           ]

@@ -1,38 +1,27 @@
 -- The partitions of a well-formed file: no dispute and no gap, and the links and the chain of its reading.
-use Rattle.mxf_views.proofs.Common.{◌≡◌, ℕ, ◌+◌, Bool, true, false, cond, max, not, ◌&&◌, ◌||◌, ◌==◌, nat_le, List, []}
-use Rattle.mxf_views.proofs.Common.{◌∷◌, ◌++◌, count_by, drop, length, map, filter, None, Some, Option, Ok, Err}
+use Rattle.mxf_views.proofs.Common.{◌≡◌, ℕ, ◌+◌, Bool, true, false, cond, max, not, ◌&&◌, ◌||◌, ◌==◌, List, []}
+use Rattle.mxf_views.proofs.Common.{◌∷◌, ◌++◌, count_by, length, None, Some, Option}
 use Rattle.mxf_views.proofs.Common.{is_some, refl, AllByRecursion, cons_option, list_all, option_map, result_ok, sym}
-use Rattle.mxf_views.proofs.Common.{◌∙◌, ap, subst, inl, inr, arith, Kind, Status, kind_of, note_of, end_of, size_of}
-use Rattle.mxf_views.proofs.Common.{PacketParts, NoteParts, notes_from, In, PackPart, Header, Body, Footer, pack_at}
-use Rattle.mxf_views.proofs.Common.{part_and_status, PartitionPackParts, pack_kind, is_disputed, Whole, Broken}
+use Rattle.mxf_views.proofs.Common.{◌∙◌, ap, subst, arith, Kind, Status, kind_of, note_of, end_of, size_of}
+use Rattle.mxf_views.proofs.Common.{PacketParts, NoteParts, notes_from, PackPart, Header, Body, Footer, pack_at}
+use Rattle.mxf_views.proofs.Common.{part_and_status, PartitionPackParts, pack_kind, Whole, Broken}
 use Rattle.mxf_views.proofs.Common.{PartitionParts, is_footer, is_greatest, is_header, is_linked, link_at}
 use Rattle.mxf_views.proofs.Common.{is_no_unreadable_pack, partition_at, partitions_of, partition_read, partitions_read}
 use Rattle.mxf_views.proofs.Common.{read_pack, EndsWithFooter, IsFooterPack, IsPartitionPack, IsWellFormed}
-use Rattle.mxf_views.proofs.Common.{is_readable_as, total_of, not-true-false}
-use Rattle.std.proofs.lemmas.Bool.{le-ltb}
-use Rattle.mxf_klv.specs.Note.{keeps}
-use Rattle.mxf_sets.specs.Fields.{is_batch}
-use Rattle.mxf_sets.specs.PackReadings.{pack_in, pack_under}
-use Rattle.mxf_catalogue.specs.Disputes.{disputed_notes, disputed_parts}
-use Rattle.mxf_views.specs.Gaps.{gaps_from}
-use Rattle.mxf_views.specs.Reading.{chain_read, link_read_at, links_read}
-use Rattle.mxf_views.specs.WellFormed.{BeginsWithHeader, IsHeaderPack, IsReadable}
-use Rattle.mxf_views.specs.WholeFile.{HasPartitionsOf}
-use Rattle.mxf_views.proofs.Laid.{clear-laid, not_disputed, partition-note, partitions_of-laid}
+use Rattle.mxf_views.proofs.Common.{is_readable_as, total_of, le-ltb, keeps}
+use Rattle.mxf_views.proofs.Common.{gaps_from, link_read_at, links_read, IsHeaderPack, HasPartitionsOf}
+use Rattle.mxf_views.proofs.Common.{clear-laid, all-right}
+use Rattle.mxf_views.specs.Reading.{chain_read}
+use Rattle.mxf_views.specs.WellFormed.{BeginsWithHeader, IsReadable}
+use Rattle.mxf_views.proofs.Laid.{partition-note, partitions_of-laid}
 use Rattle.mxf_views.proofs.LaidChain.{AreLinked, BeginsAtZero, EndsInFooter, all_linked, ends_in_footer}
 use Rattle.mxf_views.proofs.LaidChain.{footers_greatest, one_footer, one_header}
 use Rattle.mxf_views.proofs.RisingPartitions.{IsRisingFrom, rising-read}
-use Rattle.mxf_klv.proofs.Lists.{filter_none}
+use Rattle.mxf_catalogue.proofs.LaidNotes.{no_disputes-laid}
+use Rattle.mxf_sets.proofs.PackKinds.{kind_is}
 use Rattle.mxf_klv.specs.declared.kinds.Kind.TheVariants as kinds
-use Rattle.mxf_sets.specs.declared.pack.PackFault.TheVariants as faults
 
 -- ---- no dispute and no gap
-
-no_disputes-laid : (at : ℕ) (l : List PacketParts) → disputed_notes (notes_from at l) ≡ []
-no_disputes-laid at l =
-    let notes = notes_from at l in
-    ap (map (λ n. disputed_parts n notes)) (filter_none (λ n. is_disputed n notes) notes
-    (λ n h. not-true-false (is_disputed n notes) (not_disputed at l n h)))
 
 no_gaps-laid : (at : ℕ) (l : List PacketParts) → gaps_from at at (notes_from at l) ≡ []
 no_gaps-laid at [] = rw (le-ltb at at (omega arith)) refl
@@ -45,34 +34,6 @@ no_gaps-laid at (p ∷ ps) =
 -- The partition whose pack begins and ends at these offsets.
 abbrev partition_parts : ℕ → ℕ → PartitionPackParts → PartitionParts
 partition_parts at end pack = record { offset = at; end = end; pack = pack }
-
--- The part and the status of a pack are those that its key tells.
-part_is : (key : PackPart × Status) (v : List ℕ) (pack : PartitionPackParts)
-    → result_ok (pack_under (Some key) v) ≡ Some pack → (pack.part ≡ key.0) × (pack.status ≡ key.1)
-part_is key v pack e =
-    elim (nat_le 88 (length v)) as (λ b.
-    result_ok (cond b (cond (is_batch 16 (drop 80 v)) (Ok (pack_in key v)) (Err faults.BadBatch)) (Err faults.Short))
-    ≡ Some pack → (pack.part ≡ key.0) × (pack.status ≡ key.1)) [
-      | true ↦ elim (is_batch 16 (drop 80 v)) as (λ b.
-          result_ok (cond b (Ok (pack_in key v)) (Err faults.BadBatch)) ≡ Some pack
-          → (pack.part ≡ key.0) × (pack.status ≡ key.1)) [
-            | true ↦ λ f.
-                let same : pack_in key v ≡ pack = cc (f) in (
-                  ap (λ (x : PartitionPackParts). x.part) (sym same),
-                  ap (λ (x : PartitionPackParts). x.status) (sym same),
-                )
-            | false ↦ λ f. cc
-          ]
-      | false ↦ λ f. cc
-    ] e
-
--- The kind that a pack is read under is that of its part and status.
-kind_is : (kind : Kind) (v : List ℕ) (pack : PartitionPackParts) → result_ok (pack_at kind v) ≡ Some pack
-    → kind ≡ pack_kind pack.part pack.status
-kind_is (kinds.Header s) v pack e = let h = part_is (Header, s) v pack e in λ i. pack_kind (sym h.0 i) (sym h.1 i)
-kind_is (kinds.Body s) v pack e = let h = part_is (Body, s) v pack e in λ i. pack_kind (sym h.0 i) (sym h.1 i)
-kind_is (kinds.Footer s) v pack e = let h = part_is (Footer, s) v pack e in λ i. pack_kind (sym h.0 i) (sym h.1 i)
-kind_is _ v pack e = cc
 
 kind_of_packet : (p : PacketParts) (pack : PartitionPackParts) → read_pack p ≡ Some pack
     → kind_of p.key ≡ pack_kind pack.part pack.status
@@ -167,10 +128,6 @@ read-none at (p ∷ ps) a =
       | None ↦ λ e. read-none end ps a.1
       | Some pack ↦ λ e. absurd (a.0 (pack.part, pack.status, kind_of_packet p pack e))
     ] refl
-
-pub all-right : (P : PacketParts → Type 0) (xs ys : List PacketParts) → AllByRecursion P (xs ++ ys) → AllByRecursion P ys
-all-right P [] ys a = a
-all-right P (x ∷ xs) ys a = all-right P xs ys a.1
 
 -- No partition pack follows the footer, so its partition is the last and the only footer.
 footer_last : (l : List PacketParts) → EndsWithFooter l → AllByRecursion IsReadable l

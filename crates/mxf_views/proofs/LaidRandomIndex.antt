@@ -4,14 +4,13 @@ use Rattle.mxf_views.proofs.Common.{None, Some, is_some, IfSome, refl, AllByRecu
 use Rattle.mxf_views.proofs.Common.{subst, inl, inr, arith, eq-eqb, kind_of, note_of, size_of, PacketParts, NoteParts}
 use Rattle.mxf_views.proofs.Common.{notes_from, In, RipParts, PartitionParts, partitions_of, is_rip, is_rip_note}
 use Rattle.mxf_views.proofs.Common.{rips_of, standing_of, rip_view_among, rip_view_by, rip_view_of, partitions_read}
-use Rattle.mxf_views.proofs.Common.{read_rip, IsWellFormed, is_readable_as, One}
-use Rattle.std.proofs.lemmas.Bool.{ne_eqb}
-use Rattle.mxf_views.specs.RandomIndex.{standing_by, standings}
+use Rattle.mxf_views.proofs.Common.{read_rip, IsWellFormed, is_readable_as, One, ne_eqb, standing_by}
+use Rattle.mxf_views.proofs.Common.{EndsWithRandomIndex, IsRandomIndexPack, entry_of, Absent, clear-laid}
+use Rattle.mxf_views.specs.RandomIndex.{standings}
 use Rattle.mxf_views.specs.Reading.{compared, one_by_one, rip_read}
-use Rattle.mxf_views.specs.WellFormed.{EndsWithRandomIndex, IsRandomIndexPack, IsReadable, entry_of}
-use Rattle.mxf_views.specs.declared.random_index.RipView.TheVariants.{Absent}
+use Rattle.mxf_views.specs.WellFormed.{IsReadable}
 use Rattle.mxf_views.specs.declared.random_index.Standing.TheVariants.{Held}
-use Rattle.mxf_views.proofs.Laid.{clear-laid, partitions_of-laid, rip-note}
+use Rattle.mxf_views.proofs.Laid.{partitions_of-laid, rip-note}
 use Rattle.mxf_views.proofs.KindLaws.{rip_kind}
 use Rattle.mxf_views.proofs.RisingPartitions.{IsRisingFrom, at_or_above, rising-read}
 
@@ -71,7 +70,8 @@ module _ (notes : List NoteParts) (parts : List PartitionParts) (same : partitio
   rips-laid at (p ∷ []) r e =
       elim (is_rip (kind_of p.key)) as (λ b. is_rip (kind_of p.key) ≡ b
       → rip_view_among notes (cond b (note_of at p ∷ []) [])
-      ≡ option_map_or (λ rip. One (record { offset = at; entries = one_by_one rip.entries parts })) (read_rip p) Absent) [
+      ≡ option_map_or (λ rip. One (record { offset = at; entries = one_by_one rip.entries parts }))
+      (read_rip p) Absent) [
         | true ↦ λ k.
             let s : is_some (read_rip p) ≡ true =
             subst (λ kind. is_readable_as kind p ≡ true) ((rip_kind (kind_of p.key)).0 k) r.0 in

@@ -14,7 +14,6 @@ pub mod CopyUpdates
 pub mod FileBytes
 pub mod FindingLaws
 pub mod FindingMembers
-pub mod FindingUnions
 pub mod FoundLaws
 pub mod GapsLaws
 pub mod HeaderCauses

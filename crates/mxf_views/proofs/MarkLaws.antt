@@ -1,43 +1,22 @@
 -- Marks among notes, and what lies in a range by two of them.
-use Rattle.mxf_views.proofs.Common.{◌≡◌, ◌∙◌, ℕ, ◌+◌, ◌-◌, ◌<◌, ◌≤◌, ◌⊎◌, Bool, true, false, cond, List, [], ◌∷◌, ◌++◌}
-use Rattle.mxf_views.proofs.Common.{refl, ap, append_assoc, arith, get_or, inl, inr, le-leb, leb-true, length, nat_le}
-use Rattle.mxf_views.proofs.Common.{nat_lt, subst, sym, count_by, filter, IsNonDecreasingBy, ltb-true, ltb-false}
-use Rattle.mxf_views.proofs.Common.{and_from, false_from_ne_true, and_parts, sum_by-append, sum_by-cons, NoteParts}
+use Rattle.mxf_views.proofs.Common.{◌≡◌, ◌∙◌, ℕ, ◌+◌, ◌-◌, ◌≤◌, ◌⊎◌, false, cond, List, [], ◌∷◌, ◌++◌}
+use Rattle.mxf_views.proofs.Common.{refl, ap, append_assoc, arith, get_or, inl, inr, length}
+use Rattle.mxf_views.proofs.Common.{subst, sym, count_by, IsNonDecreasingBy}
+use Rattle.mxf_views.proofs.Common.{false_from_ne_true, sum_by-append, sum_by-cons, NoteParts}
 use Rattle.mxf_views.proofs.Common.{end_of, In, IsCatalogue, AreApart, clear_notes, lies_in, Mark, covered_of}
 use Rattle.mxf_views.proofs.Common.{is_preface_note, prefaces_of, zone_of, clear_from, is_in_one, sizes, AreInRange}
 use Rattle.mxf_views.proofs.Common.{count_by-cons, tally, length-filter_le, In-at, In-append, same_bool}
+use Rattle.mxf_views.proofs.Common.{count_by-le-length, AreMarks, range-le}
 use Rattle.std.specs.Prelude.{sum_by}
-use Rattle.std.proofs.lemmas.List.{get_or_append_left, get_or-append_right, length-append}
-use Rattle.std.proofs.lemmas.List.Sums.{count_by-le-length}
 use Rattle.mxf_views.specs.Spans.{size_of}
-use Rattle.mxf_views.specs.Sums.{AreMarks, IsCut, IsMark}
+use Rattle.mxf_views.specs.Sums.{IsCut, IsMark}
 use Rattle.mxf_views.proofs.SpanCounts.{zone-count}
 use Rattle.mxf_views.proofs.SumLaws.{zone_above}
-use Rattle.mxf_catalogue.proofs.ApartLaws.{begins_above}
-use Rattle.mxf_klv.proofs.Counts.{range-le}
+use Rattle.mxf_catalogue.proofs.ApartNotes.{above_first, cut_there, lies_if, lies_says, rest_above}
+use Rattle.mxf_klv.proofs.NoteFilters.{kept_first, left_first, weighed}
 use Rattle.std.proofs.lemmas.List.Sorted.{IsNonDecreasingBy-push}
 
 -- ---- a range, cut in two
-
-lies_says : (start bytes : ℕ) (n : NoteParts) → lies_in start bytes n ≡ true
-    → (start ≤ n.offset) × (end_of n ≤ start + bytes)
-lies_says start bytes n t =
-    let p = and_parts (nat_le start n.offset) (nat_le (end_of n) (start + bytes)) t in
-    (leb-true start n.offset p.0, leb-true (end_of n) (start + bytes) p.1)
-
-lies_if : (start bytes : ℕ) (n : NoteParts) → start ≤ n.offset → end_of n ≤ start + bytes
-    → lies_in start bytes n ≡ true
-lies_if start bytes n l h =
-    and_from (nat_le start n.offset) (nat_le (end_of n) (start + bytes)) (le-leb start n.offset l)
-    (le-leb (end_of n) (start + bytes) h)
-
-weighed : (f : NoteParts → ℕ) (p : NoteParts → Bool) (n : NoteParts) (ns : List NoteParts)
-    → sum_by f (filter p (n ∷ ns)) ≡ cond (p n) (f n) 0 + sum_by f (filter p ns)
-weighed f p n ns =
-    elim (p n) as (λ b. sum_by f (cond b (n ∷ filter p ns) (filter p ns)) ≡ cond b (f n) 0 + sum_by f (filter p ns)) [
-      | true ↦ sum_by-cons f n (filter p ns)
-      | false ↦ omega arith
-    ]
 
 -- What lies in a range is what lies in its and_parts below and above an offset that no note lies across.
 cut_sum : (f : NoteParts → ℕ) (start cut bytes low high : ℕ) (ns : List NoteParts) → cut ≡ start + low
@@ -109,33 +88,6 @@ prefaces_fit start bytes ns =
 
 -- ---- no note lies across the offset of another
 
-above_first : (low : ℕ) (y n : NoteParts) (ys rest : List NoteParts) → AreApart low (y ∷ (ys ++ n ∷ rest))
-    → end_of y ≤ n.offset
-above_first low y n ys rest a =
-    begins_above (end_of y) (ys ++ n ∷ rest) n a.1 ((In-append n ys (n ∷ rest)).1 (inr (inl refl)))
-
-rest_above : (low : ℕ) (before rest : List NoteParts) (n x : NoteParts) → AreApart low (before ++ n ∷ rest) → In x rest
-    → n.offset ≤ x.offset
-rest_above low [] rest n x a h =
-    let g : end_of n ≤ x.offset = begins_above (end_of n) rest x a.1 h in omega (arith, g)
-rest_above low (y ∷ ys) rest n x a h = rest_above (end_of y) ys rest n x a.1 h
-
-cut_there : (low : ℕ) (before rest : List NoteParts) (n x : NoteParts) → AreApart low (before ++ n ∷ rest)
-    → In x (before ++ n ∷ rest) → (end_of x ≤ n.offset) ⊎ (n.offset ≤ x.offset)
-cut_there low [] rest n x a (inl e) = inr (let s : x.offset ≡ n.offset = ap (λ (y : NoteParts). y.offset) e in omega (arith, s))
-cut_there low [] rest n x a (inr h) = inr (rest_above low [] rest n x a h)
-cut_there low (y ∷ ys) rest n x a (inl e) =
-    inl (subst (λ (z : NoteParts). end_of z ≤ n.offset) (sym e) (above_first low y n ys rest a))
-cut_there low (y ∷ ys) rest n x a (inr h) = cut_there (end_of y) ys rest n x a.1 h
-
-kept_first : (p : NoteParts → Bool) (n : NoteParts) (ns ms : List NoteParts) → p n ≡ true → filter p ns ≡ ms
-    → filter p (n ∷ ns) ≡ n ∷ ms
-kept_first p n ns ms t e = rw t (ap (λ l. n ∷ l) e)
-
-left_first : (p : NoteParts → Bool) (n : NoteParts) (ns ms : List NoteParts) → p n ≡ false → filter p ns ≡ ms
-    → filter p (n ∷ ns) ≡ ms
-left_first p n ns ms t e = rw t e
-
 none_below : (offset : ℕ) (ns : List NoteParts) → ((m : NoteParts) → In m ns → offset ≤ m.offset)
     → zone_of 0 offset ns ≡ []
 none_below offset [] f = refl
@@ -166,7 +118,8 @@ rise_push xs x r f =
     f (get_or xs (length xs - 1) d) (In-at xs (length xs - 1) d (omega (arith, l))))
 
 -- The marks so far are marks among all notes and none is above those left, and the notes passed so far are counted.
-pub record AreCounted (all : List NoteParts) (marks : List Mark) (covered prefaces : ℕ) (left : List NoteParts) : Type 0 where
+pub record AreCounted (all : List NoteParts) (marks : List Mark) (covered prefaces : ℕ)
+    (left : List NoteParts) : Type 0 where
   pub marks_are : AreMarks all marks
   pub low : (m : Mark) → In m marks → (n : NoteParts) → In n left → m.offset ≤ n.offset
   pub before : List NoteParts
@@ -254,7 +207,8 @@ module _ (all : List NoteParts) (marks : List Mark) (covered prefaces : ℕ) (n 
       ])
 
 -- What a range of clear notes has, by two marks in it.
-module _ (b start bytes : ℕ) (notes : List NoteParts) (first last : Mark) (catalogue : IsCatalogue notes) (low : b ≤ start)
+module _ (b start bytes : ℕ) (notes : List NoteParts) (first last : Mark) (catalogue : IsCatalogue notes)
+    (low : b ≤ start)
     (r : AreInRange (clear_from b notes) start bytes first last) where
   in_range : (f : NoteParts → ℕ) → sum_by f (zone_of start bytes (clear_notes notes))
       ≡ sum_by f (zone_of start (first.offset - start) (clear_notes notes))

@@ -4,14 +4,13 @@ use Rattle.mxf_views.proofs.Common.{◌∙◌, inl, inr, arith, get_or, length, 
 use Rattle.mxf_views.proofs.Common.{list_any, IsNonDecreasingBy, nat_cmp, ltb-true, lt-ltb, and_from}
 use Rattle.mxf_views.proofs.Common.{false_from_ne_true, and_parts, nat_cmp_total, NoteParts, In, IsRising, less_in}
 use Rattle.mxf_views.proofs.Common.{In-clear_notes, is_placed, offsets_where, PartitionParts, partition_at}
-use Rattle.mxf_views.proofs.Common.{partitions_of, stands_above, list_any-In, same_bool}
-use Rattle.mxf_views.specs.Kept.{lies_between}
-use Rattle.mxf_views.specs.Partitions.{stands_between}
+use Rattle.mxf_views.proofs.Common.{partitions_of, stands_above, list_any-In, same_bool, lies_between, stands_between}
+use Rattle.mxf_views.proofs.Common.{never_falls}
 use Rattle.mxf_views.proofs.ClearChanges.{In-offsets}
 use Rattle.mxf_views.proofs.PartitionLaws.{offset-partition_at}
 use Rattle.mxf_views.proofs.PartitionSearch.{is_there, of_note}
 use Rattle.mxf_klv.proofs.Tests.{lt_from_less}
-use Rattle.mxf_klv.proofs.RisingBy.{by_itself, never_falls, last_above as any_above}
+use Rattle.mxf_klv.proofs.RisingBy.{by_itself, last_above as any_above}
 use Rattle.mxf_views.specs.declared.kept.offsets.Placed.TheVariants as kinds
 
 above_first : (x y : ℕ) (xs : List ℕ) → IsRising nat_cmp (x ∷ xs) → In y xs → x < y
@@ -36,7 +35,8 @@ none_between low high [] i l f b = refl
 none_between low high (x ∷ xs) zero l f b = absurd (omega arith)
 none_between low high (x ∷ xs) (suc i) l f b =
     let h : x ≤ low = f 0 0 (omega arith) (omega arith) in
-    let no : nat_lt low x ≡ false = false_from_ne_true (nat_lt low x) (λ t. let u : low < x = ltb-true low x t in omega arith) in
+    let no : nat_lt low x ≡ false = false_from_ne_true (nat_lt low x)
+    (λ t. let u : low < x = ltb-true low x t in omega arith) in
     rw no (none_between low high xs i (omega arith) (λ k e a b. f (suc k) e (omega arith) (omega arith)) (omega arith))
 
 -- Else the first above it tells.
@@ -60,7 +60,8 @@ first_between low high (x ∷ xs) zero d r l f g =
     ])
 first_between low high (x ∷ xs) (suc i) d r l f g =
     let h : x ≤ low = f 0 d (omega arith) (omega arith) in
-    let no : nat_lt low x ≡ false = false_from_ne_true (nat_lt low x) (λ t. let u : low < x = ltb-true low x t in omega arith) in
+    let no : nat_lt low x ≡ false = false_from_ne_true (nat_lt low x)
+    (λ t. let u : low < x = ltb-true low x t in omega arith) in
     rw no (first_between low high xs i d r.1 (omega arith)
     (λ k e a b. f (suc k) e (omega arith) (omega arith)) (λ k e a b. g (suc k) e (omega arith) (omega arith)))
 

@@ -2,13 +2,13 @@
 use Rattle.mxf_views.proofs.Common.{◌≡◌, ℕ, List, [], ◌∷◌, Option, None, Some, refl, subst, inl, sym, ◌==◌, filter}
 use Rattle.mxf_views.proofs.Common.{find, NoteParts, In, clear_notes, lies_in, In-clear_notes, CopyInfo, copies_of}
 use Rattle.mxf_views.proofs.Common.{is_set_note, sets_found, sets_from, sets_of, zone_of, found_among, has_uid}
-use Rattle.mxf_views.proofs.Common.{In-filter}
-use Rattle.mxf_catalogue.proofs.DisputeLaws.{clear_at-found}
+use Rattle.mxf_views.proofs.Common.{In-filter, clear_at-found}
 use Rattle.mxf_views.specs.declared.reference.Found.TheVariants.{One}
 use Rattle.mxf_views.specs.References.{found_in}
 
 -- The sets of a copy are clear notes.
-clear_from : (clear : List NoteParts) (bytes : ℕ) (start : Option ℕ) (n : NoteParts) → In n (sets_from clear bytes start)
+clear_from : (clear : List NoteParts) (bytes : ℕ) (start : Option ℕ) (n : NoteParts)
+    → In n (sets_from clear bytes start)
     → In n clear
 clear_from clear bytes None n h = absurd h
 clear_from clear bytes (Some start) n h =

@@ -5,15 +5,11 @@ use Rattle.mxf_views.proofs.Common.{not, if◌then◌else◌, option_map, ltb-tr
 use Rattle.mxf_views.proofs.Common.{end_of, kind_of, In, pack_at, PartitionPackParts, IsContent, clear_notes}
 use Rattle.mxf_views.proofs.Common.{In-clear_notes, AreApart-clear_notes, First, Held, PartitionParts, AreInOrder}
 use Rattle.mxf_views.proofs.Common.{pack_of, partition_at, partitions_of, link_of, link_at, list_any-In, found-In}
-use Rattle.mxf_views.proofs.Common.{find-only, In-filter_map, cases_lt}
-use Rattle.std.proofs.lemmas.Bool.{leb-false}
-use Rattle.mxf_views.specs.declared.chain.Link.{Link}
-use Rattle.mxf_views.specs.declared.chain.Link.TheVariants.{Skips, Missing, Wrong}
-use Rattle.mxf_views.specs.Partitions.{IsReadablePack, IsPartition, StandsAt, IsGreatestBelow, IsLink, IsLinkAt}
-use Rattle.mxf_views.specs.Partitions.{previous_of, stands_at, stands_between}
+use Rattle.mxf_views.proofs.Common.{find-only, In-filter_map, cases_lt, leb-false, Link, Skips, Missing, Wrong}
+use Rattle.mxf_views.proofs.Common.{StandsAt, IsGreatestBelow, IsLink, stands_at, stands_between, apart_rises}
+use Rattle.mxf_views.proofs.Common.{one_by_key, rises-filter_map}
+use Rattle.mxf_views.specs.Partitions.{IsReadablePack, IsPartition, IsLinkAt, previous_of}
 use Rattle.mxf_views.proofs.ReadingLaws.{reads}
-use Rattle.mxf_catalogue.proofs.ApartLaws.{apart_rises}
-use Rattle.mxf_klv.proofs.RisingBy.{one_by_key, rises-filter_map}
 use Rattle.mxf_views.proofs.Rising.{by_offset}
 
 -- ---- which partitions there are
@@ -94,8 +90,12 @@ none_between ps low high s l f = record {
   there = s;
   below = l;
   greatest = λ q h b. elim (cases_lt low q.offset) [
-    | inl t ↦ absurd (let u = (list_any-In (λ x. nat_lt low x.offset && nat_lt x.offset high) ps).1
-        (q, h, and_from (nat_lt low q.offset) (nat_lt q.offset high) (lt-ltb low q.offset t) (lt-ltb q.offset high b)) in
+    | inl t ↦ absurd (let u = (list_any-In (λ x. nat_lt low x.offset && nat_lt x.offset high) ps).1 (
+      q,
+      h,
+      and_from (nat_lt low q.offset) (nat_lt q.offset high) (lt-ltb low q.offset t)
+          (lt-ltb q.offset high b),
+    ) in
         cc (u, f))
     | inr t ↦ t
   ];

@@ -4,9 +4,7 @@ use Rattle.mxf_views.proofs.Common.{◌&&◌, ◌==◌, find, filter, is_some, o
 use Rattle.mxf_views.proofs.Common.{and_parts, NoteParts, In, clear_notes, In-clear_notes, clear-alone, CopyInfo}
 use Rattle.mxf_views.proofs.Common.{copies_of, copy_of, has_metadata, PartitionParts, is_footer, partition_at}
 use Rattle.mxf_views.proofs.Common.{partitions_of, In-filter, In-map, list_any-In, find-none, find-only, found-In}
-use Rattle.mxf_views.proofs.Common.{none_found, In-filter_map, same_bool}
-use Rattle.mxf_views.specs.Findings.{footer_stands_at}
-use Rattle.mxf_views.specs.Partitions.{stands_at}
+use Rattle.mxf_views.proofs.Common.{none_found, In-filter_map, same_bool, footer_stands_at, stands_at}
 use Rattle.mxf_views.proofs.CopyLaws.{copy_there}
 use Rattle.mxf_views.proofs.PartitionLaws.{offset-partition_at}
 
@@ -98,7 +96,8 @@ footer_found notes o p e =
     (λ t.
     let s = (list_any-In test ps).0 t in
     let b = and_parts (is_footer s.0.pack.part) (s.0.offset == o) s.2 in
-    let same : s.0 ≡ p = one_partition notes s.0 p s.1 f.0 (eqb-true s.0.offset o b.1 ∙ sym (eqb-true p.offset o f.1)) in
+    let same : s.0 ≡ p = one_partition notes s.0 p s.1 f.0 (eqb-true s.0.offset o b.1
+    ∙ sym (eqb-true p.offset o f.1)) in
     sym (ap (λ (q : PartitionParts). is_footer q.pack.part) same) ∙ b.0)
     (λ t. (list_any-In test ps).1 (p, f.0, and_from (is_footer p.pack.part) (p.offset == o) t f.1))
 
@@ -108,7 +107,8 @@ footer_lacked ps o e =
     let test = λ (q : PartitionParts). is_footer q.pack.part && q.offset == o in
     false_from_ne_true (footer_stands_at o ps) (λ t.
     let s = (list_any-In test ps).0 t in
-    none_found (λ (p : PartitionParts). p.offset == o) ps s.0 e s.1 (and_parts (is_footer s.0.pack.part) (s.0.offset == o) s.2).1)
+    none_found (λ (p : PartitionParts). p.offset == o) ps s.0 e s.1 (and_parts (is_footer s.0.pack.part)
+    (s.0.offset == o) s.2).1)
 
 -- ---- copies
 

@@ -4,13 +4,13 @@ use Rattle.mxf_views.proofs.Common.{◌∙◌, inl, inr, eqb-true, eq-eqb, ◌�
 use Rattle.mxf_views.proofs.Common.{filter_map, nat_cmp, nat_cmp-IsAntisymmetric, Ordering, Less, Equal, Greater}
 use Rattle.mxf_views.proofs.Common.{nat_cmp_total, tied_itself, In, IsRising, with_one, In-union, IsRising-union}
 use Rattle.mxf_views.proofs.Common.{less_in, same_from_members, stream_offset, Pair, Place, NotIndexed, At, Ambiguous}
-use Rattle.mxf_views.proofs.Common.{SegmentAtParts, pair_cmp, place_by, place_of, In-filter_map}
+use Rattle.mxf_views.proofs.Common.{SegmentAtParts, pair_cmp, place_by, place_of, In-filter_map, IsRising-with_one}
+use Rattle.mxf_views.proofs.Common.{pair_of, pairs_with}
 use Rattle.std.specs.Ordering.{ordering_then}
 use Rattle.std.specs.Cmp.{IsTotalOrder, nat_cmp_is}
 use Rattle.std.specs.FinSet.{IsAntisymmetric}
 use Rattle.std.proofs.lemmas.Cmp.{on_total, then_total}
-use Rattle.mxf_klv.specs.Rising.{IsRising-with_one}
-use Rattle.mxf_views.specs.Places.{AreTwoLeast, IsBelow, IsGiven, IsOnlyPair, IsPlace, pair_of, pairs_with}
+use Rattle.mxf_views.specs.Places.{AreTwoLeast, IsBelow, IsGiven, IsOnlyPair, IsPlace}
 use Rattle.mxf_klv.proofs.Tests.{ties}
 
 pub pair_total : IsTotalOrder pair_cmp

@@ -1,16 +1,15 @@
 -- Of copies that rise by partition, the preferred one is the same by either way of taking the better of two.
-use Rattle.mxf_views.proofs.Common.{◌≡◌, ℕ, ◌+◌, ◌<◌, ◌≤◌, true, false, cond, not, ◌&&◌, ◌||◌, ◌==◌, nat_lt, List, []}
+use Rattle.mxf_views.proofs.Common.{◌≡◌, ℕ, ◌+◌, ◌<◌, ◌≤◌, true, false, cond, ◌&&◌, nat_lt, List, []}
 use Rattle.mxf_views.proofs.Common.{◌∷◌, Option, Some, None, IfSome, refl, cons_option, option_and_then, option_map}
-use Rattle.mxf_views.proofs.Common.{◌∙◌, ap, inl, inr, arith, cases_order, eq-eqb, lt-ltb, size_of, PacketParts}
+use Rattle.mxf_views.proofs.Common.{◌∙◌, ap, arith, size_of, PacketParts}
 use Rattle.mxf_views.proofs.Common.{notes_from, best_of, preferred_of, standing, PartitionParts, partition_read}
-use Rattle.mxf_views.proofs.Common.{read_pack, CopyInfo}
+use Rattle.mxf_views.proofs.Common.{read_pack, CopyInfo, better, is_above, is_candidate, CopyRead}
+use Rattle.mxf_views.proofs.Common.{after_fills, copies_alone, copies_read, copy_read, taken, whole_copy, from_lower}
 use Rattle.std.specs.Prelude.{fold}
-use Rattle.std.proofs.lemmas.Bool.{le-ltb, ne_eqb}
 use Rattle.std.proofs.lemmas.Option.{IfSome_then}
-use Rattle.mxf_views.specs.Copies.{better, is_above, is_candidate}
-use Rattle.mxf_views.specs.Reading.{CopyRead, after_fills, better_read, copies_alone, copies_read, copy_read}
-use Rattle.mxf_views.specs.Reading.{preferred_read, taken, whole_copy}
-use Rattle.mxf_klv.proofs.RisingBy.{IsRisingFrom, from_lower}
+use Rattle.mxf_views.specs.Reading.{better_read, preferred_read}
+use Rattle.mxf_klv.proofs.RisingBy.{IsRisingFrom}
+use Rattle.mxf_klv.proofs.NoteFilters.{one_above}
 
 -- Each is of a partition at or above the offset, and below those of all later ones.
 abbrev pub RiseFrom : ℕ → List CopyInfo → Type 0
@@ -21,8 +20,11 @@ rise_one : (low high : ℕ) (o : Option CopyRead) (reads : List CopyRead) → lo
     → IfSome o (λ r. r.copy.partition ≡ low) → RiseFrom high (copies_alone reads)
     → RiseFrom low (copies_alone (cons_option o reads))
 rise_one low high None reads h e r = from_lower (λ c. c.partition) low high (copies_alone reads) (omega arith) r
-rise_one low high (Some read) reads h e r =
-    (omega (arith, e), from_lower (λ c. c.partition) (read.copy.partition + 1) high (copies_alone reads) (omega (arith, h, e)) r)
+rise_one low high (Some read) reads h e r = (
+  omega (arith, e),
+  from_lower (λ c. c.partition) (read.copy.partition + 1) high (copies_alone reads) (omega
+      (arith, h, e)) r,
+)
 
 -- What is read of a partition is at its offset.
 copy_read_there : (ps : List PacketParts) (q : PartitionParts)
@@ -52,21 +54,6 @@ rise-read at [] = tt
 rise-read at (p ∷ ps) =
     rise_one at (at + size_of p) (option_and_then (copy_read ps) (partition_read at p))
     (copies_read (at + size_of p) ps) (omega arith) (there at p ps) (rise-read (at + size_of p) ps)
-
--- Of two in different partitions one stands above the other exactly where the other doesn't stand above it.
-one_above : (s t p q : ℕ) → p < q
-    → (nat_lt s t || ((s == t) && nat_lt p q)) ≡ not (nat_lt t s || ((t == s) && nat_lt q p))
-one_above s t p q h =
-    let above : nat_lt p q ≡ true = lt-ltb p q h in
-    let below : nat_lt q p ≡ false = le-ltb q p (omega arith) in
-    elim (cases_order s t) [
-      | inl e ↦
-          let f : t ≡ s = omega (arith, e) in
-          rw (le-ltb s t (omega (arith, e)), le-ltb t s (omega (arith, e)), eq-eqb s t e, eq-eqb t s f, above, below)
-          refl
-      | inr (inl l) ↦ rw (lt-ltb s t l, le-ltb t s (omega arith), ne_eqb t s (λ e. omega (arith, e, l))) refl
-      | inr (inr g) ↦ rw (le-ltb s t (omega arith), lt-ltb t s g, ne_eqb s t (λ e. omega (arith, e, g))) refl
-    ]
 
 -- A copy in a partition above that of the best so far.
 better_same : (low : ℕ) (best : Option CopyInfo) (c : CopyInfo) → IfSome best (λ b. b.partition < low)

@@ -4,14 +4,11 @@ use Rattle.mxf_views.proofs.Common.{refl, sym, ap, subst, ◌∙◌, inl, inr, a
 use Rattle.mxf_views.proofs.Common.{◌==◌, nat_le, find, option_and_then, NoteParts, end_of, In, primer_at, read_as}
 use Rattle.mxf_views.proofs.Common.{IsContent, IsClear, clear_notes, In-clear_notes, CopyInfo, CopiesRise, IsCopy}
 use Rattle.mxf_views.proofs.Common.{IsStart, copies_of, is_in_copy, primer_there, find-only, found-In, none_found}
-use Rattle.mxf_views.proofs.Common.{all-In, and_from, and_parts}
-use Rattle.mxf_sets.specs.Batch.{BatchParts}
-use Rattle.mxf_catalogue.proofs.DisputeLaws.{SharesByte-same_offset}
-use Rattle.mxf_views.specs.Copies.{IsPrimerOf, IsStartFound}
-use Rattle.mxf_views.specs.Labels.{IsFirstWith, IsInZoneOf, IsPrimerFor, is_in_zone, primer_for, primer_of}
+use Rattle.mxf_views.proofs.Common.{all-In, and_from, and_parts, BatchParts, SharesByte-same_offset, IsPrimerOf}
+use Rattle.mxf_views.proofs.Common.{IsStartFound, is_in_zone, primer_for, clear_same}
+use Rattle.mxf_views.specs.Labels.{IsFirstWith, IsInZoneOf, IsPrimerFor, primer_of}
 use Rattle.mxf_views.proofs.CopyLaws.{copies_are, copies_rise, one_named}
 use Rattle.mxf_views.proofs.ReadingLaws.{reads}
-use Rattle.mxf_views.proofs.StartLaws.{clear_same}
 
 -- ---- the copies that have a packet
 
@@ -46,7 +43,8 @@ found_first p (x ∷ copies) c d r e h t =
           elim h [
             | inl f ↦ let k = ap (λ (y : CopyInfo). y.partition) f in omega (arith, at, k)
             | inr k ↦
-                let l : x.partition < d.partition = all-In (λ (y : CopyInfo). x.partition < y.partition) copies d r.0 k in
+                let l : x.partition < d.partition = all-In (λ
+                (y : CopyInfo). x.partition < y.partition) copies d r.0 k in
                 omega (arith, at, l)
           ]
       | false ↦ λ u q. elim h [
@@ -57,7 +55,8 @@ found_first p (x ∷ copies) c d r e h t =
 
 -- ---- the primer at a start
 
-pub one_at : (notes : List NoteParts) (m n : NoteParts) → IsClear m notes → IsClear n notes → m.offset ≡ n.offset → m ≡ n
+pub one_at : (notes : List NoteParts) (m n : NoteParts) → IsClear m notes → IsClear n notes → m.offset ≡ n.offset
+    → m ≡ n
 one_at notes m n c d e = clear_same notes m n c d (SharesByte-same_offset m n e)
 
 there_is : (notes : List NoteParts) (n : NoteParts) (primer : BatchParts) → IsClear n notes → IsPrimerOf n primer

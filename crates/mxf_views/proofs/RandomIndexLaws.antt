@@ -5,16 +5,16 @@ use Rattle.mxf_views.proofs.Common.{rip_at, IsContent, AreApart, clear_notes, In
 use Rattle.mxf_views.proofs.Common.{AreApart-filter, AreInOrder, PartitionParts, partitions_of, is_rip, is_rip_note}
 use Rattle.mxf_views.proofs.Common.{rip_in, rips_of, standing_of, rip_view_among, rip_view_by, rip_view_of, One}
 use Rattle.mxf_views.proofs.Common.{In-filter, found-In, none_found, find-none, find-only, false_from_ne_true}
-use Rattle.mxf_views.specs.RandomIndex.{IsClearRip, IsOnlyRip, IsStanding, RipAtParts, standing_by}
+use Rattle.mxf_views.proofs.Common.{standing_by, Absent, later_differs, picked_none, picked_one, picked_several}
+use Rattle.mxf_views.specs.RandomIndex.{IsClearRip, IsOnlyRip, IsStanding, RipAtParts}
 use Rattle.mxf_views.specs.RandomIndexView.{IsRipView}
 use Rattle.mxf_views.specs.declared.random_index.Standing.{Standing}
 use Rattle.mxf_views.specs.declared.random_index.Standing.TheVariants.{Held, Differs, Missing}
 use Rattle.mxf_views.specs.declared.random_index.RipView.{RipView}
-use Rattle.mxf_views.specs.declared.random_index.RipView.TheVariants.{Absent, Several, Unreadable}
+use Rattle.mxf_views.specs.declared.random_index.RipView.TheVariants.{Several, Unreadable}
 use Rattle.mxf_views.proofs.KindLaws.{rip_kind}
 use Rattle.mxf_views.proofs.PartitionLaws.{one_there, partitions_rise}
 use Rattle.mxf_views.proofs.ReadingLaws.{reads}
-use Rattle.mxf_catalogue.proofs.ApartLaws.{later_differs, picked_none, picked_one, picked_several}
 
 -- ---- standings
 

@@ -5,10 +5,8 @@ use Rattle.mxf_views.proofs.Common.{le-leb, cond, ◌==◌, filter, find, map, m
 use Rattle.mxf_views.proofs.Common.{IsNonDecreasing, and_from, false_from_ne_true, and_parts, length-map, NoteParts}
 use Rattle.mxf_views.proofs.Common.{end_of, CopyInfo, copies_of, StartsRise, copies_followed, is_outside, reaches_from}
 use Rattle.mxf_views.proofs.Common.{reaches_of, renewed, with_copy, is_in_copy, find-none, length-filter_le, all-In}
-use Rattle.std.proofs.lemmas.Bool.{leb-false}
-use Rattle.mxf_views.specs.Kept.{IsStartBelow, reach_from, reach_of, with_found}
-use Rattle.mxf_views.specs.KeptAbove.{EndsBy}
-use Rattle.mxf_views.specs.Labels.{is_in_zone}
+use Rattle.mxf_views.proofs.Common.{leb-false, IsStartBelow, with_found, EndsBy, is_in_zone}
+use Rattle.mxf_views.specs.Kept.{reach_from, reach_of}
 
 pub length-reaches_from : (high : ℕ) (cs : List CopyInfo) → length (reaches_from high cs) ≡ length cs
 length-reaches_from high [] = refl
@@ -56,13 +54,15 @@ near_lacks n c l f =
         begins = e;
         behind = leb-false s n.offset (false_from_ne_true (nat_le s n.offset) (λ t.
             let m : end_of n ≤ s + c.bytes = omega (arith, h) in
-            let has = and_from (nat_le s n.offset) (nat_le (end_of n) (s + c.bytes)) t (le-leb (end_of n) (s + c.bytes) m) in
+            let has = and_from (nat_le s n.offset) (nat_le (end_of n) (s + c.bytes)) t (le-leb (end_of n)
+            (s + c.bytes) m) in
             cc (has, g)));
       }
     ] refl l f
 
 -- So do all later ones.
-later_lacks : (n : NoteParts) (c d : CopyInfo) → StartsBehind n c → IsStartBelow c.start d.start → is_in_copy n d ≡ false
+later_lacks : (n : NoteParts) (c d : CopyInfo) → StartsBehind n c → IsStartBelow c.start d.start
+    → is_in_copy n d ≡ false
 later_lacks n c d b l =
     let below : IsStartBelow (Some b.start) d.start = subst (λ o. IsStartBelow o d.start) b.begins l in
     let behind : n.offset < b.start = b.behind in
@@ -140,7 +140,8 @@ ends_by_reach cs limit offset at l m n a k d from below s e =
 length-with_copy : (c : CopyInfo) (cs : List CopyInfo) → length (with_copy c cs) ≡ suc (length cs)
 length-with_copy c [] = refl
 length-with_copy c (d ∷ cs) =
-    elim (nat_lt c.partition d.partition) as (λ b. length (cond b (c ∷ d ∷ cs) (d ∷ with_copy c cs)) ≡ suc (suc (length cs))) [
+    elim (nat_lt c.partition d.partition) as (λ b. length (cond b (c ∷ d ∷ cs) (d ∷ with_copy c cs))
+    ≡ suc (suc (length cs))) [
       | true ↦ refl
       | false ↦ ap suc (length-with_copy c cs)
     ]

@@ -5,13 +5,11 @@ use Rattle.mxf_views.proofs.Common.{kind_of, greatest_end, IsPacket, size_of, Pa
 use Rattle.mxf_views.proofs.Common.{entries_of, Header, Body, Footer, RipEntry, is_fill, is_primer, read_pack, read_rip}
 use Rattle.mxf_views.proofs.Common.{read_segment, HasMetadata, IsFill, IsFooterPack, IsPartitionPack, IsWellFormed}
 use Rattle.mxf_views.proofs.Common.{total_of, numbers, pack, Place, At, NotIndexed, Ambiguous, partitions_read}
+use Rattle.mxf_views.proofs.Common.{false≢true, end_after, IsPrimerPack, primer}
 use Rattle.std.specs.Prelude.{replicate}
-use Rattle.std.proofs.lemmas.Bool.{false≢true}
 use Rattle.std.proofs.lemmas.List.{length-replicate}
 use Rattle.mxf_klv.specs.Parts.{packet_parts}
-use Rattle.mxf_klv.specs.Piece.{end_after}
-use Rattle.mxf_views.specs.WellFormed.{IsPrimerPack}
-use Rattle.mxf_views.specs.WorkedFiles.{essence_key, preface, primer}
+use Rattle.mxf_views.specs.WorkedFiles.{essence_key, preface}
 use Rattle.mxf_views.proofs.GoodFiles.{bare_footer, m_well_formed}
 use Rattle.mxf_views.proofs.SmallFiles.{no_footer, no_header, without_footer, no_footers, no_headers, rip_last}
 use Rattle.mxf_views.specs.RefusedFiles as refused
@@ -140,7 +138,8 @@ no_fill p e h = false≢true (sym e ∙ ap is_fill h)
 no_primer : (p : PacketParts) → is_primer (kind_of p.key) ≡ false → ¬ IsPrimerPack p
 no_primer p e h = false≢true (sym e ∙ ap is_primer h)
 
-none_alone : (bytes : ℕ) (x : PacketParts) (xs fills : List PacketParts) (primer : PacketParts) (rest : List PacketParts)
+none_alone : (bytes : ℕ) (x : PacketParts) (xs fills : List PacketParts) (primer : PacketParts)
+    (rest : List PacketParts)
     → ¬ IsFill x → ¬ IsPrimerPack x → x ∷ xs ≡ fills ++ primer ∷ rest → AllByRecursion IsFill fills
     → IsPrimerPack primer → ⊥
 none_alone bytes x xs [] primer rest nf np o f p = np (other_kind x primer (same_head x primer xs rest o) ∙ p)

@@ -4,16 +4,15 @@ use Rattle.mxf_views.proofs.Common.{None, refl, sym, ap, subst, ◌∙◌, inl, 
 use Rattle.mxf_views.proofs.Common.{NoteParts, end_of, kind_of, In, storage_at, read_as, IsContent, AreApart}
 use Rattle.mxf_views.proofs.Common.{AreApart-filter, CopyInfo, Wanted, Storage, Identification, Package, IsCopy}
 use Rattle.mxf_views.proofs.Common.{copies_of, is_preface_note, preferred_of, sets_of, IsReadAs, has_uid, resolved_of}
-use Rattle.mxf_views.proofs.Common.{storage_among, fits, target_of, find-only, none_some, same_Some}
-use Rattle.mxf_sets.specs.Preface.{PrefaceParts, preface_at}
+use Rattle.mxf_views.proofs.Common.{storage_among, fits, target_of, find-only, none_some, same_Some, PrefaceParts}
+use Rattle.mxf_views.proofs.Common.{preface_at, Ref, AreSoMany, CountsZone, IsBest, IsPreferred, IsPrefaceIn, preface}
+use Rattle.mxf_views.proofs.Common.{ResolvedParts, packages_of, preface_in, resolved_by, resolved_from, storage_in}
+use Rattle.mxf_views.proofs.Common.{refs_of}
 use Rattle.mxf_sets.specs.Storage.{StorageParts}
-use Rattle.mxf_views.specs.declared.reference.target.Ref.{Ref}
-use Rattle.mxf_views.specs.Copies.{AreSoMany, CountsZone, IsBest, IsPreferred, IsPrefaceIn, preface}
-use Rattle.mxf_views.specs.Resolved.{ResolvedParts, packages_of, preface_in, resolved_by, resolved_from, resolved_in}
-use Rattle.mxf_views.specs.Resolved.{storage_in}
+use Rattle.mxf_views.specs.Resolved.{resolved_in}
 use Rattle.mxf_views.specs.ResolvedView.{AreNamedBy, ArePackages, AreRefsOf, IsOnlyPreface, IsRefOf, IsResolved}
 use Rattle.mxf_views.specs.ResolvedView.{IsResolvedFrom, IsStorage}
-use Rattle.mxf_views.specs.Targets.{ref_of, refs_of}
+use Rattle.mxf_views.specs.Targets.{ref_of}
 use Rattle.mxf_views.proofs.BestLaws.{one_best, preferred_is}
 use Rattle.mxf_views.proofs.CopyLaws.{copies_are, one_named, preface_note, sets_are, sets_apart}
 use Rattle.mxf_views.proofs.FoundLaws.{Picks, only_from, only_of, picks, target_of_iff, wanted_kind}
@@ -97,7 +96,11 @@ packages_are : (notes : List NoteParts) (partition : ℕ) (uid : List ℕ) → A
 packages_are notes partition uid a =
     elim (found_storage notes partition uid) as (λ o. found_storage notes partition uid ≡ o
     → ArePackages notes partition uid (refs_of notes partition Package (packages_of o))) [
-      | None ↦ λ e. inr (λ s i. none_some (found_storage notes partition uid) s e ((storage_iff notes partition uid s a).1 i), refl)
+      | None ↦ λ e. inr (
+        λ s i. none_some (found_storage notes partition uid) s e
+            ((storage_iff notes partition uid s a).1 i),
+        refl,
+      )
       | Some s ↦ λ e. inl
           (s, (storage_iff notes partition uid s a).0 e, refs_are notes partition Package s.packages a)
     ] refl
@@ -205,7 +208,18 @@ only_preface notes c s r i e many one =
     let is = found.1 in (
       n,
       record {
-        set = record { copy = c; copied = i; there = refl; start = s; begins = e; clear = is.clear; kind = preface is.kind; from = is.from; before = is.before };
+        set = record {
+          copy = c;
+          copied = i;
+          there = refl;
+          start = s;
+          begins = e;
+          clear = is.clear;
+          kind = preface
+              is.kind;
+          from = is.from;
+          before = is.before;
+        };
         kind = is.kind;
         only = λ m set kind.
             let same : set.copy ≡ c = one_named notes set.copy c r set.copied i set.there in

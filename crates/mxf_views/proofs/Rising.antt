@@ -1,8 +1,7 @@
 -- Partitions, copies and segments rise by a number of each, so that what is proved of such lists holds of them.
 use Rattle.mxf_views.proofs.Common.{◌↔◌, List, [], ◌∷◌, IsNonDecreasingBy, CopyInfo, CopiesRise, AreInOrder}
-use Rattle.mxf_views.proofs.Common.{PartitionParts, SegmentAtParts}
-use Rattle.mxf_klv.proofs.RisingBy.{IsRisingBy, never_falls}
-use Rattle.mxf_views.specs.Places.{SegmentsRise}
+use Rattle.mxf_views.proofs.Common.{PartitionParts, SegmentAtParts, never_falls, SegmentsRise}
+use Rattle.mxf_klv.proofs.RisingBy.{IsRisingBy}
 
 pub by_offset : (ps : List PartitionParts) → AreInOrder ps ↔ IsRisingBy (λ p. p.offset) ps
 by_offset [] = (λ r. r, λ r. r)

@@ -1,7 +1,7 @@
 -- The partitions of a file rise.
 use Rattle.mxf_views.proofs.Common.{ℕ, ◌+◌, ◌≤◌, List, [], ◌∷◌, None, Some, cons_option, option_map, arith, size_of}
-use Rattle.mxf_views.proofs.Common.{PacketParts, In, PartitionParts, partitions_read, read_pack}
-use Rattle.mxf_klv.proofs.RisingBy.{IsRisingFrom as RisesFrom, at_or_above as above_from, from_lower}
+use Rattle.mxf_views.proofs.Common.{PacketParts, In, PartitionParts, partitions_read, read_pack, from_lower}
+use Rattle.mxf_klv.proofs.RisingBy.{IsRisingFrom as RisesFrom, at_or_above as above_from}
 
 -- Partitions that rise from an offset on.
 abbrev pub IsRisingFrom : ℕ → List PartitionParts → Type 0

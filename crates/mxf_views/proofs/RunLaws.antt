@@ -1,31 +1,19 @@
 -- A content of exactly what was handed is what the run holds.
-use Rattle.mxf_views.proofs.Common.{◌≡◌, ◌↔◌, ℕ, ◌+◌, ◌<◌, List, [], ◌∷◌, filter, AllByRecursion, Less, sym, subst}
-use Rattle.mxf_views.proofs.Common.{arith, ap, note_of, size_of, PacketParts, NoteParts, notes_from, In, IsContent}
-use Rattle.mxf_views.proofs.Common.{is_disputed, same_content, IsWellFormed, less_by_offset, In-filter}
-use Rattle.mxf_klv.specs.Note.{note_cmp}
-use Rattle.mxf_catalogue.specs.CatalogueFile.{IsFileOf, file_bytes}
-use Rattle.mxf_catalogue.specs.Content.{IsLocated}
+use Rattle.mxf_views.proofs.Common.{◌≡◌, ◌↔◌, List, filter, sym, subst}
+use Rattle.mxf_views.proofs.Common.{ap, PacketParts, NoteParts, notes_from, In, IsContent}
+use Rattle.mxf_views.proofs.Common.{is_disputed, same_content, IsWellFormed, In-filter}
+use Rattle.mxf_views.proofs.Common.{file_bytes, IsLocated, is_disputed-IsDisputed}
+use Rattle.mxf_catalogue.specs.CatalogueFile.{IsFileOf}
 use Rattle.mxf_catalogue.specs.History.{content}
-use Rattle.mxf_catalogue.proofs.DisputeLaws.{is_disputed-IsDisputed, notes-disputed_notes}
+use Rattle.mxf_catalogue.proofs.DisputeLaws.{notes-disputed_notes}
 use Rattle.mxf_catalogue.proofs.HistoryLaws.{In-content, IsContent-content}
 use Rattle.mxf_views.specs.Headline.{IsDisputedAmong, IsNoteOf, IsReadFromFront, IsTheRun}
-use Rattle.mxf_views.proofs.Laid.{is_whole}
 use Rattle.mxf_views.proofs.LaidCopies.{copies-laid}
 use Rattle.mxf_views.proofs.LaidIndex.{index-laid}
 use Rattle.mxf_views.proofs.LaidPartitions.{partitions-laid}
 use Rattle.mxf_views.proofs.LaidRandomIndex.{random_index-laid}
-
-less_than_later : (n : NoteParts) (at : ℕ) (l : List PacketParts) → n.offset < at
-    → AllByRecursion (λ m. note_cmp n m ≡ Less) (notes_from at l)
-less_than_later n at [] h = tt
-less_than_later n at (p ∷ ps) h =
-    (less_by_offset n (note_of at p) h, less_than_later n (at + size_of p) ps (omega arith))
-
--- The notes of a file are a content.
-IsContent-laid : (at : ℕ) (l : List PacketParts) → IsContent (notes_from at l)
-IsContent-laid at [] = tt
-IsContent-laid at (p ∷ ps) =
-    (less_than_later (note_of at p) (at + size_of p) ps (omega arith), IsContent-laid (at + size_of p) ps)
+use Rattle.mxf_catalogue.proofs.ClearLaws.{is_whole}
+use Rattle.mxf_catalogue.proofs.LaidNotes.{IsContent-laid}
 
 -- All that was handed is located where it is the notes of a file: these are of packets that were read whole.
 located-laid : (l : List PacketParts) (n : NoteParts) → IsLocated (IsNoteOf l) n ↔ In n (notes_from 0 l)
@@ -47,7 +35,8 @@ read_from_front l w = record {
   random_index = random_index-laid l w;
 }
 
-module _ (handed : NoteParts → Type 0) (notes : List NoteParts) (members : (n : NoteParts) → In n notes ↔ IsLocated handed n) where
+module _ (handed : NoteParts → Type 0) (notes : List NoteParts) (members : (n : NoteParts)
+    → In n notes ↔ IsLocated handed n) where
   -- The disputed notes are those that share a byte with a different one that was handed.
   disputed_among : (n : NoteParts) → In n (filter (λ m. is_disputed m notes) notes) ↔ IsDisputedAmong handed n
   disputed_among n =
@@ -74,7 +63,11 @@ module _ (handed : NoteParts → Type 0) (notes : List NoteParts) (members : (n 
         file = file;
         one = λ h same.
             same_content (content h) notes (IsContent-content h) rises
-            (λ n. (λ i. (members n).1 ((same n).0 ((In-content h n).0 i)), λ i. (In-content h n).1 ((same n).1 ((members n).0 i))));
+            (λ n. (
+              λ i. (members n).1 ((same n).0 ((In-content h n).0 i)),
+              λ i. (In-content h n).1 ((same n).1
+                  ((members n).0 i)),
+            ));
         disputed = λ n. subst (λ ns. In n ns ↔ IsDisputedAmong handed n) (sym (notes-disputed_notes notes))
             (disputed_among n);
         whole = λ l w same.

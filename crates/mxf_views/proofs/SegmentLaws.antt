@@ -2,11 +2,10 @@
 use Rattle.mxf_views.proofs.Common.{◌≡◌, ℕ, true, false, cond, List, Some, None, refl, sym, ap, subst, ◌↔◌, option_map}
 use Rattle.mxf_views.proofs.Common.{NoteParts, keeps_value, kind_of, In, SegmentParts, segment_at, read_as, IsContent}
 use Rattle.mxf_views.proofs.Common.{IsClear, clear_notes, In-clear_notes, AreApart-clear_notes, SegmentAtParts}
-use Rattle.mxf_views.proofs.Common.{is_segment, placed_segment, segments_of, In-filter_map}
-use Rattle.mxf_views.specs.Places.{IsSegmentAt, SegmentsRise, segment_in}
+use Rattle.mxf_views.proofs.Common.{is_segment, placed_segment, segments_of, In-filter_map, SegmentsRise, apart_rises}
+use Rattle.mxf_views.proofs.Common.{rises-filter_map}
+use Rattle.mxf_views.specs.Places.{IsSegmentAt, segment_in}
 use Rattle.mxf_views.proofs.KindLaws.{segment_kind}
-use Rattle.mxf_catalogue.proofs.ApartLaws.{apart_rises}
-use Rattle.mxf_klv.proofs.RisingBy.{rises-filter_map}
 use Rattle.mxf_views.proofs.Rising.{by_segment}
 use Rattle.mxf_views.proofs.ReadingLaws.{reads}
 

@@ -1,21 +1,17 @@
 -- Which of the small files are well-formed.
-use Rattle.mxf_views.proofs.Common.{◌≡◌, ◌-◌, ◌^◌, ◌<◌, length, Bool, true, false, List, [], ◌∷◌, ◌++◌, Some, refl}
-use Rattle.mxf_views.proofs.Common.{◌||◌, drop, take, map, IfSome, ◌==◌, ◌&&◌, nat_lt, AllByRecursion, list_any}
-use Rattle.mxf_views.proofs.Common.{list_all, sym, ◌∙◌, ap, subst, inl, inr, arith, and_parts, eqb-true, ltb-true, Kind}
-use Rattle.mxf_views.proofs.Common.{Status, OpenIncomplete, ClosedComplete, kind_of, IsPacket, PacketParts, item_at}
-use Rattle.mxf_views.proofs.Common.{items_of, left_of, pack_kind, entries_of, PackPart, Header, Body, Footer}
+use Rattle.mxf_views.proofs.Common.{◌≡◌, ◌<◌, length, Bool, false, List, [], ◌∷◌, ◌++◌, Some, refl}
+use Rattle.mxf_views.proofs.Common.{◌||◌, drop, take, map, IfSome, AllByRecursion, list_any}
+use Rattle.mxf_views.proofs.Common.{sym, ◌∙◌, ap, subst, inl, inr, arith}
+use Rattle.mxf_views.proofs.Common.{Status, OpenIncomplete, ClosedComplete, kind_of, PacketParts, item_at}
+use Rattle.mxf_views.proofs.Common.{items_of, left_of, entries_of, Footer}
 use Rattle.mxf_views.proofs.Common.{SegmentAtParts, is_rip, place_by_segment, segments_read, partitions_read, read_pack}
 use Rattle.mxf_views.proofs.Common.{read_rip, read_segment, Agree, EndsWithFooter, HasMetadata, IsFooterPack}
 use Rattle.mxf_views.proofs.Common.{IsPartitionPack, IsWellFormed, IsFill, numbers, pack, PartitionParts}
-use Rattle.mxf_views.proofs.Common.{bytes_eq-Decides}
-use Rattle.std.proofs.lemmas.Bool.{false≢true, or_parts}
+use Rattle.mxf_views.proofs.Common.{false≢true, or_parts, rank, IsHeaderPack, IsRandomIndexPack}
+use Rattle.mxf_views.proofs.Common.{EndsWithRandomIndex, entry_of, primer, are_packets, is_pack_kind}
 use Rattle.mxf_klv.specs.declared.kinds.Status.TheVariants.{ClosedIncomplete, OpenComplete}
-use Rattle.mxf_klv.specs.Label.{label_start}
-use Rattle.mxf_views.specs.Copies.{rank}
-use Rattle.mxf_views.specs.WellFormed.{IsHeaderPack, IsRandomIndexPack, EndsWithRandomIndex, entry_of}
-use Rattle.mxf_views.specs.WorkedFiles.{h_file, n_file, preface, primer, r_file, w_file}
-use Rattle.std.specs.Str.{bytes_eq}
-use Rattle.mxf_klv.specs.declared.kinds.Kind.TheVariants as kinds
+use Rattle.mxf_views.specs.WorkedFiles.{h_file, n_file, preface, r_file, w_file}
+use Rattle.mxf_sets.proofs.PackKinds.{is_footer_kind, is_header_kind, packs}
 
 pub rank_below_4 : (status : Status) → rank status < 4
 rank_below_4 OpenIncomplete = omega arith
@@ -23,65 +19,20 @@ rank_below_4 OpenComplete = omega arith
 rank_below_4 ClosedIncomplete = omega arith
 rank_below_4 ClosedComplete = omega arith
 
-abbrev pub is_header_kind : Kind → Bool
-is_header_kind (kinds.Header s) = true
-is_header_kind _ = false
-
-abbrev pub is_footer_kind : Kind → Bool
-is_footer_kind (kinds.Footer s) = true
-is_footer_kind _ = false
-
-abbrev pub is_pack_kind : Kind → Bool
-is_pack_kind (kinds.Header s) = true
-is_pack_kind (kinds.Body s) = true
-is_pack_kind (kinds.Footer s) = true
-is_pack_kind _ = false
-
 pub no_header : (p : PacketParts) → is_header_kind (kind_of p.key) ≡ false → ¬ IsHeaderPack p
 no_header p e h = false≢true (sym e ∙ ap is_header_kind h.1)
 
 pub no_footer : (p : PacketParts) → is_footer_kind (kind_of p.key) ≡ false → ¬ IsFooterPack p
 no_footer p e h = false≢true (sym e ∙ ap is_footer_kind h.1)
 
-packs : (part : PackPart) (status : Status) → is_pack_kind (pack_kind part status) ≡ true
-packs Header s = refl
-packs Body s = refl
-packs Footer s = refl
-
 pub no_pack : (p : PacketParts) → is_pack_kind (kind_of p.key) ≡ false → ¬ IsPartitionPack p
 no_pack p e h = false≢true (sym e ∙ ap is_pack_kind h.2 ∙ packs h.0 h.1)
-
-abbrev pub is_small : PacketParts → Bool
-is_small p =
-    (length p.key == 16) && bytes_eq (take 4 p.key) label_start && (p.width == 4) && nat_lt (length p.value) 16777216
-
-small_packet : (p : PacketParts) → is_small p ≡ true → IsPacket p
-small_packet p e =
-    let long = length p.key == 16 in
-    let begins = bytes_eq (take 4 p.key) label_start in
-    let few = nat_lt (length p.value) 16777216 in
-    let a = and_parts (long && begins && (p.width == 4)) few e in
-    let b = and_parts (long && begins) (p.width == 4) a.0 in
-    let c = and_parts long begins b.0 in
-    let w = eqb-true p.width 4 b.1 in
-    let l = ltb-true (length p.value) 16777216 a.1 in record {
-      label = (eqb-true (length p.key) 16 c.0, (bytes_eq-Decides (take 4 p.key) label_start).0 c.1);
-      width = inr (
-        omega (arith, w),
-        omega (arith, w),
-        subst (λ w. length p.value < 256 ^ (w - 1)) (sym w) l,
-      );
-    }
-
-pub are_packets : (l : List PacketParts) → list_all is_small l ≡ true → AllByRecursion IsPacket l
-are_packets [] e = tt
-are_packets (p ∷ ps) e =
-    let a = and_parts (is_small p) (list_all is_small ps) e in (small_packet p a.0, are_packets ps a.1)
 
 none_of : (P : PacketParts → Type 0) (test : PacketParts → Bool) → ((p : PacketParts) → test p ≡ false → ¬ P p)
     → (l : List PacketParts) → list_any test l ≡ false → AllByRecursion (λ p. ¬ P p) l
 none_of P test lacks [] e = tt
-none_of P test lacks (p ∷ ps) e = let b = or_parts (test p) (list_any test ps) e in (lacks p b.0, none_of P test lacks ps b.1)
+none_of P test lacks (p ∷ ps) e = let b = or_parts (test p) (list_any test ps) e in
+    (lacks p b.0, none_of P test lacks ps b.1)
 
 pub no_headers : (l : List PacketParts) → list_any (λ p. is_header_kind (kind_of p.key)) l ≡ false
     → AllByRecursion (λ p. ¬ IsHeaderPack p) l
@@ -186,7 +137,22 @@ w_well_formed = record {
   readable = (refl, (refl, (refl, (refl, (refl, (refl, tt))))));
   this = (refl, (refl, (refl, tt)));
   previous = (refl, (refl, (refl, tt)));
-  metadata = (λ h. absurd (omega arith), (λ h. absurd (omega arith), (tt, (λ h. absurd (omega arith), (tt, (tt, tt))))));
+  metadata = (
+    λ h. absurd (omega arith),
+    (
+      λ h. absurd (omega arith),
+      (
+        tt,
+        (
+          λ h. absurd (omega arith),
+          (
+            tt,
+            (tt, tt),
+          ),
+        ),
+      ),
+    ),
+  );
   index = agree_one (segments_read 0 w_file) refl;
   random_index = rip_last (partitions_read 0 w_file) w_file refl refl;
 }

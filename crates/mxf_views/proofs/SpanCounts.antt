@@ -2,10 +2,11 @@
 use Rattle.mxf_views.proofs.Common.{◌≡◌, ℕ, ◌+◌, ◌-◌, ◌<◌, ◌≤◌, true, false, cond, nat_le, nat_lt, List, [], ◌∷◌}
 use Rattle.mxf_views.proofs.Common.{count_by, filter, refl, range_with_len, sym, ap, subst, arith, leb-true, le-leb}
 use Rattle.mxf_views.proofs.Common.{ltb-true, lt-ltb, false_from_ne_true, and_parts, sum_by-cons, NoteParts, end_of}
-use Rattle.mxf_views.proofs.Common.{AreApart, AreApart-filter, sizes, is_in_one, lies_in}
-use Rattle.mxf_catalogue.proofs.SpanLaws.{AreApart-lower}
-use Rattle.mxf_views.specs.Spans.{size_of, is_in_span, AllEndBy}
-use Rattle.mxf_klv.proofs.Counts.{range-split, range-none, range-all, range-same}
+use Rattle.mxf_views.proofs.Common.{AreApart, sizes, is_in_one, lies_in, AreApart-lower, is_in_span}
+use Rattle.mxf_views.proofs.Common.{range-all}
+use Rattle.mxf_views.specs.Spans.{size_of, AllEndBy}
+use Rattle.mxf_klv.proofs.Counts.{range-split, range-none, range-same}
+use Rattle.mxf_catalogue.proofs.ApartNotes.{AreApart-zone}
 
 -- ---- counting offsets of a range
 
@@ -73,19 +74,6 @@ AllEndBy-zone start len (n ∷ notes) =
     → AllEndBy (start + len) (cond b (n ∷ filter (lies_in start len) notes) (filter (lies_in start len) notes))) [
       | true ↦ λ t. let p = and_parts (nat_le start n.offset) (nat_le (end_of n) (start + len)) t in
           (leb-true (end_of n) (start + len) p.1, ih)
-      | false ↦ λ t. ih
-    ] refl
-
-AreApart-zone : (start len low : ℕ) (notes : List NoteParts) → AreApart low notes
-    → AreApart start (filter (lies_in start len) notes)
-AreApart-zone start len low [] a = tt
-AreApart-zone start len low (n ∷ notes) a =
-    let ih = AreApart-zone start len (end_of n) notes a.1 in
-    let keep = AreApart-filter (lies_in start len) (end_of n) notes a.1 in
-    elim (lies_in start len n) as (λ b. lies_in start len n ≡ b
-    → AreApart start (cond b (n ∷ filter (lies_in start len) notes) (filter (lies_in start len) notes))) [
-      | true ↦ λ t. let p = and_parts (nat_le start n.offset) (nat_le (end_of n) (start + len)) t in
-          (leb-true start n.offset p.0, keep)
       | false ↦ λ t. ih
     ] refl
 

@@ -1,24 +1,29 @@
 -- The gaps of notes are those of the cover of what they cover, and what lies between its end and the greatest end.
 use Rattle.mxf_views.proofs.Common.{◌≡◌, ℕ, ◌+◌, ◌-◌, ◌<◌, ◌≤◌, ◌++◌, true, false, List, [], ◌∷◌, ap, arith, inl, inr}
 use Rattle.mxf_views.proofs.Common.{refl, ◌↔◌, cond, nat_lt, ltb-true, ltb-false, end_of, NoteParts, In, IsContent}
-use Rattle.mxf_views.proofs.Common.{AreMaximal, LiesIn, Run, gaps_of, In-append}
-use Rattle.mxf_klv.specs.Note.{covered_end}
+use Rattle.mxf_views.proofs.Common.{AreMaximal, LiesIn, Run, gaps_of, In-append, covered_end, Covers, AreGaps, has_byte}
 use Rattle.mxf_catalogue.specs.Covers.{IsBetween, IsCover, gaps_of_runs}
-use Rattle.mxf_catalogue.specs.NoteLists.{Covers}
 use Rattle.mxf_catalogue.specs.Runs.{run}
 use Rattle.mxf_catalogue.proofs.CoverLaws.{gaps_by_definition}
 use Rattle.mxf_catalogue.proofs.RunLaws.{same_runs}
-use Rattle.mxf_views.specs.Gaps.{AreGaps, IsGap}
-use Rattle.mxf_views.proofs.GapsLaws.{covers_below_end, gaps_are, has_byte}
+use Rattle.mxf_views.specs.Gaps.{IsGap}
+use Rattle.mxf_views.proofs.GapsLaws.{gaps_are}
 use Rattle.mxf_klv.proofs.Lists.{some_above}
+use Rattle.mxf_catalogue.proofs.RunBounds.{covers_below_end}
 
 -- A run that begins above the ends of maximal ones goes on with them.
 maximal_push : (low : ℕ) (runs : List Run) (r : Run) → AreMaximal low runs → low ≤ r.start → r.start < r.end
     → ((s : Run) → In s runs → s.end + 1 ≤ r.start) → AreMaximal low (runs ++ r ∷ [])
 maximal_push low [] r m l b f = (l, b, tt)
-maximal_push low (s ∷ runs) r m l b f = (m.0, m.1, maximal_push (s.end + 1) runs r m.2 (f s (inl refl)) b (λ x h. f x (inr h)))
+maximal_push low (s ∷ runs) r m l b f = (
+  m.0,
+  m.1,
+  maximal_push (s.end + 1) runs r m.2 (f s (inl refl)) b (λ x h. f x
+      (inr h)),
+)
 
-module _ (runs : List Run) (notes : List NoteParts) (reached top : ℕ) (cover : IsCover runs) (covers : Covers runs notes)
+module _ (runs : List Run) (notes : List NoteParts) (reached top : ℕ) (cover : IsCover runs)
+    (covers : Covers runs notes)
     (reached_is : (bound : ℕ) → reached ≤ bound ↔ ((offset : ℕ) → LiesIn runs offset → offset < bound))
     (top_is : (bound : ℕ) → top ≤ bound ↔ ((n : NoteParts) → In n notes → end_of n ≤ bound)) where
   -- What lies between the end of the cover and the greatest end.
@@ -100,7 +105,8 @@ module _ (runs : List Run) (notes : List NoteParts) (reached top : ℕ) (cover :
             let some : reached < top = ltb-true reached top t in
             let all = λ (r : Run). In-append r (gaps_of_runs runs) (run reached top ∷ []) in
             record {
-              maximal = maximal_push 0 (gaps_of_runs runs) (run reached top) of_runs.maximal (omega arith) some ends_below;
+              maximal = maximal_push 0 (gaps_of_runs runs) (run reached top) of_runs.maximal
+                  (omega arith) some ends_below;
               offsets = λ at. (
                 λ h. elim ((all h.0).0 h.1) [
                   | inl k ↦ between_gap at ((of_runs.offsets at).0 (h.0, k, h.2))
@@ -121,8 +127,12 @@ module _ (runs : List Run) (notes : List NoteParts) (reached top : ℕ) (cover :
                           (s.0, (all s.0).1 (inl s.1), s.2)
                       | false ↦ λ u.
                           let low : reached ≤ at = ltb-false at reached u in
-                          let high : at + 1 ≤ top = omega (arith, gap_below at g) in
-                          (run reached top, (all (run reached top)).1 (inr (inl refl)), record { from = low; before = high })
+                          let high : at + 1 ≤ top = omega (arith, gap_below at g) in (
+                            run reached top,
+                            (all (run reached top)).1 (inr
+                                (inl refl)),
+                            record { from = low; before = high },
+                          )
                     ] refl,
               );
             }

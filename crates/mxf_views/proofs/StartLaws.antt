@@ -1,34 +1,19 @@
 -- Where the header metadata of a partition begin.
-use Rattle.mxf_views.proofs.Common.{◌≡◌, ℕ, ◌+◌, ◌-◌, ◌<◌, ◌≤◌, true, false, List, Some, None, refl, sym, ap, subst}
-use Rattle.mxf_views.proofs.Common.{◌∙◌, arith, eqb-true, eq-eqb, le-leb, leb-true, ◌↔◌, ◌==◌, nat_le, nat_lt, find}
-use Rattle.mxf_views.proofs.Common.{is_some, count_by, option_map, list_all, range_with_len, ltb-true, ltb-false}
+use Rattle.mxf_views.proofs.Common.{◌≡◌, ℕ, ◌+◌, ◌-◌, ◌<◌, ◌≤◌, true, List, Some, None, refl, sym, ap, subst}
+use Rattle.mxf_views.proofs.Common.{◌∙◌, arith, eqb-true, eq-eqb, le-leb, leb-true, ◌↔◌, ◌==◌, nat_le, find}
+use Rattle.mxf_views.proofs.Common.{is_some, count_by, option_map, list_all, range_with_len}
 use Rattle.mxf_views.proofs.Common.{and_from, and_parts, NoteParts, end_of, kind_of, In, primer_at, read_as, IsContent}
 use Rattle.mxf_views.proofs.Common.{IsClear, SharesByte, clear_notes, In-clear_notes, IsStart, covered_of, is_fill_note}
 use Rattle.mxf_views.proofs.Common.{is_filled, is_primer, is_readable_primer, is_start, start_of, zone_of, is_in_one}
 use Rattle.mxf_views.proofs.Common.{lies_in, AreApart-clear_notes, In-list_all, In-filter, list_any-In, found-In}
-use Rattle.mxf_views.proofs.Common.{none_found, inl, inr}
-use Rattle.mxf_sets.specs.Batch.{BatchParts}
-use Rattle.mxf_catalogue.specs.Disputes.{is_same_note}
-use Rattle.mxf_catalogue.proofs.DisputeLaws.{clear-apart}
-use Rattle.mxf_views.specs.Copies.{IsFilled, IsPrimerOf}
-use Rattle.mxf_views.specs.Spans.{is_in_span}
+use Rattle.mxf_views.proofs.Common.{none_found, inl, inr, BatchParts, IsFilled, IsPrimerOf, is_in_span, range-all}
+use Rattle.mxf_views.proofs.Common.{list_all-In, cases_order, clear_same}
 use Rattle.mxf_views.proofs.KindLaws.{fill_kind, primer_kind}
 use Rattle.mxf_views.proofs.ReadingLaws.{is_some_readable}
 use Rattle.mxf_views.proofs.SpanCounts.{in_span, in_span-says, zone-count}
-use Rattle.mxf_klv.proofs.Counts.{range-all, range-full}
-use Rattle.mxf_klv.proofs.HeadOrder.{same_note-Decides}
-use Rattle.mxf_klv.proofs.Lists.{list_all-In}
+use Rattle.mxf_klv.proofs.Counts.{range-full}
 use Rattle.mxf_klv.proofs.Tests.{all_three, three_parts}
-use Rattle.std.proofs.lemmas.Bool.{cases_order}
 use Rattle.mxf_klv.specs.declared.kinds.Kind.TheVariants as kinds
-
--- clear notes that share a byte are one
-pub clear_same : (notes : List NoteParts) (m n : NoteParts) → IsClear m notes → IsClear n notes → SharesByte m n → m ≡ n
-clear_same notes m n c d s =
-    elim (is_same_note m n) as (λ b. is_same_note m n ≡ b → m ≡ n) [
-      | true ↦ λ t. (same_note-Decides m n).0 t
-      | false ↦ λ t. absurd (clear-apart m n notes c d.held (λ e. let u = (same_note-Decides m n).1 e in cc (t, u)) s)
-    ] refl
 
 pub fill_note : (n : NoteParts) → (is_fill_note n ≡ true) ↔ (kind_of n.key ≡ kinds.Fill)
 unfolding is_fill_note
@@ -143,7 +128,8 @@ passes notes end s r a =
     let shares : SharesByte m f.fill = (m.offset, record { from = omega arith; before = omega arith }, f.within) in
     let same = clear_same notes m f.fill ((In-clear_notes m notes).0 z.0) f.clear shares in
     (fill_note m).1 (ap (λ (x : NoteParts). kind_of x.key) same ∙ f.kind)) in
-    all_three (is_readable_primer n) (nat_le end n.offset) (is_filled end len clear) ((primer_note n).1 a.readable) (le-leb end n.offset le2)
+    all_three (is_readable_primer n) (nat_le end n.offset) (is_filled end len clear) ((primer_note n).1 a.readable)
+    (le-leb end n.offset le2)
     (and_from (covered_of end len clear == len) (list_all is_fill_note zone) covered fills)
 
 -- The start is found exactly where it stands.

@@ -3,9 +3,10 @@ use Rattle.mxf_views.proofs.Common.{◌≡◌, ℕ, ◌+◌, ◌<◌, ◌≤◌,
 use Rattle.mxf_views.proofs.Common.{subst, ◌∙◌, inl, inr, arith, le-leb, leb-true, nat_lt, filter, then_some, ltb-true}
 use Rattle.mxf_views.proofs.Common.{ltb-false, and_from, and_parts, NoteParts, IsNote, end_of, In, IsCatalogue}
 use Rattle.mxf_views.proofs.Common.{IsContent, AreApart, IsClear, SharesByte, clear_notes, lies_in, In-clear_notes}
-use Rattle.mxf_views.proofs.Common.{IsStart, is_fill_note, is_readable_primer, start_of, all-In, In-filter}
-use Rattle.mxf_views.specs.Copies.{IsFilled}
-use Rattle.mxf_views.proofs.StartLaws.{clear_same, fill_note, not_in_fill, primer_note, start_is}
+use Rattle.mxf_views.proofs.Common.{IsStart, is_fill_note, is_readable_primer, start_of, all-In, In-filter, IsFilled}
+use Rattle.mxf_views.proofs.Common.{clear_same}
+use Rattle.mxf_views.proofs.StartLaws.{fill_note, not_in_fill, primer_note, start_is}
+use Rattle.mxf_catalogue.proofs.ApartNotes.{first_there, raised}
 
 -- From the end of the pack up to an offset there are clear fills alone, and these clear notes are left.
 pub record Passed (notes : List NoteParts) (end reached : ℕ) (left : List NoteParts) : Type 0 where
@@ -14,11 +15,6 @@ pub record Passed (notes : List NoteParts) (end reached : ℕ) (left : List Note
   pub rest : (n : NoteParts) → IsClear n notes → reached ≤ n.offset → In n left
   pub clear : (n : NoteParts) → In n left → IsClear n notes
   pub apart : AreApart reached left
-
-raised : (low high : ℕ) (notes : List NoteParts) → AreApart low notes
-    → ((n : NoteParts) → In n notes → high ≤ n.offset) → AreApart high notes
-raised low high [] a f = tt
-raised low high (n ∷ ns) a f = (f n (inl refl), a.1)
 
 -- Nothing is passed before the first.
 pub passed_none : (notes : List NoteParts) (end : ℕ) (left : List NoteParts) → IsCatalogue notes
@@ -122,39 +118,37 @@ leads_on notes end reached s left p a =
                 let v0 : g.fill.offset ≤ f.fill.offset = g.within.from in
                 let v1 : f.fill.offset + 1 ≤ end_of g.fill = g.within.before in
                 let v2 : end_of g.fill ≤ reached = g.before in
-                let shares : SharesByte f.fill g.fill =
-                (f.fill.offset, record { from = omega arith; before = omega arith }, record { from = v0; before = v1 }) in
+                let shares : SharesByte f.fill g.fill = (
+                  f.fill.offset,
+                  record { from = omega arith; before = omega arith },
+                  record { from = v0; before = v1 },
+                ) in
                 let same : f.fill ≡ g.fill = clear_same notes f.fill g.fill f.clear g.clear shares in
                 let q : end_of f.fill ≡ end_of g.fill = ap end_of same in
                 absurd (omega arith)
             | false ↦ λ u. let m : reached ≤ f.fill.offset = ltb-false f.fill.offset reached u in omega arith
           ] refl) in
-          record { note = f.fill; held = p.rest f.fill f.clear (omega arith); there = at; kind = inl ((fill_note f.fill).1 f.kind) }
+          record {
+            note = f.fill;
+            held = p.rest f.fill f.clear (omega arith);
+            there = at;
+            kind = inl
+                ((fill_note f.fill).1 f.kind);
+          }
       | false ↦ λ t.
           let l : s ≤ reached = ltb-false reached s t in
           elim (nat_lt s reached) as (λ b. nat_lt s reached ≡ b → LeadsOn notes reached left) [
             | true ↦ λ u. absurd (not_among notes end reached s left p a (ltb-true s reached u))
             | false ↦ λ u. let m : reached ≤ s = ltb-false s reached u in
-                record { note = a.primer; held = p.rest a.primer a.clear (omega arith); there = omega arith; kind = inr ((primer_note a.primer).1 a.readable) }
+                record {
+                  note = a.primer;
+                  held = p.rest a.primer a.clear (omega arith);
+                  there = omega arith;
+                  kind = inr
+                      ((primer_note a.primer).1 a.readable);
+                }
           ] refl
     ] refl
-
--- Of notes apart only the first stands where the fills end.
-first_there : (reached : ℕ) (n m : NoteParts) (left : List NoteParts) → AreApart reached (n ∷ left) → In m (n ∷ left)
-    → m.offset ≡ reached → m ≡ n
-first_there reached n m left a (inl e) q = e
-first_there reached n m left a (inr h) q =
-    let l : reached ≤ n.offset = a.0 in
-    let k : end_of n ≤ m.offset = above (end_of n) left m a.1 h in absurd (omega arith)
-  where
-    above : (low : ℕ) (notes : List NoteParts) (m : NoteParts) → AreApart low notes → In m notes → low ≤ m.offset
-    above low (x ∷ xs) m a (inl e) =
-        let l : low ≤ x.offset = a.0 in
-        let q : m.offset ≡ x.offset = ap (λ (y : NoteParts). y.offset) e in omega arith
-    above low (x ∷ xs) m a (inr h) =
-        let l : low ≤ x.offset = a.0 in
-        let k : end_of x ≤ m.offset = above (end_of x) xs m a.1 h in omega arith
-    above low [] m a h = absurd h
 
 -- No start is found where none stands.
 pub none_there : (notes : List NoteParts) (end : ℕ) → IsContent notes → ((s : ℕ) → IsStart notes end s → ⊥)

@@ -3,16 +3,13 @@ use Rattle.mxf_views.proofs.Common.{◌≡◌, ℕ, ◌<◌, ◌≤◌, true, fa
 use Rattle.mxf_views.proofs.Common.{inl, inr, arith, if◌then◌else◌, option_map, result_ok, cases_order, NoteParts}
 use Rattle.mxf_views.proofs.Common.{kind_of, end_of, keeps_value, In, part_and_status, IsContent, In-clear_notes}
 use Rattle.mxf_views.proofs.Common.{CopyInfo, CopiesRise, copies_of, StartsRise, PartitionParts, pack_of, partition_at}
-use Rattle.mxf_views.proofs.Common.{all_from_In, all-In, none_some, less_by_offset}
+use Rattle.mxf_views.proofs.Common.{all_from_In, all-In, none_some, less_by_offset, pack_under, IsStartBelow}
+use Rattle.mxf_views.proofs.Common.{ends_before, clear_same}
 use Rattle.mxf_klv.specs.Note.{IsInSpan}
-use Rattle.mxf_sets.specs.PackReadings.{pack_under}
-use Rattle.mxf_views.specs.Kept.{IsStartBelow}
 use Rattle.mxf_views.proofs.CopyLaws.{copies_are, copies_rise}
 use Rattle.mxf_views.proofs.CopyUpdates.{end-partition_at}
 use Rattle.mxf_views.proofs.PartitionSearch.{of_note}
 use Rattle.mxf_views.proofs.PrimerLaws.{one_at, start_of_copy}
-use Rattle.mxf_views.proofs.StartLaws.{clear_same}
-use Rattle.mxf_catalogue.proofs.SpanLaws.{ends_before}
 
 -- A note whose kind isn't that of a partition pack is no partition.
 pub no_pack : (n : NoteParts) → part_and_status (kind_of n.key) ≡ None → pack_of n ≡ None
@@ -76,7 +73,8 @@ rise_in notes [] r rising all = tt
 rise_in notes (c ∷ cs) r rising all = (
   all_from_In (λ (d : CopyInfo). IsStartBelow c.start d.start) cs (λ d h.
       below_by c.start d.start (λ s t e f.
-      starts_in_order notes c d s t r (all c (inl refl)) (all d (inr h)) (all-In (λ (x : CopyInfo). c.partition < x.partition) cs d rising.0 h) e f)),
+      starts_in_order notes c d s t r (all c (inl refl)) (all d (inr h)) (all-In (λ
+      (x : CopyInfo). c.partition < x.partition) cs d rising.0 h) e f)),
   rise_in notes cs r rising.1 (λ d h. all d (inr h)),
 )
 

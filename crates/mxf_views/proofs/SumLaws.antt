@@ -1,25 +1,13 @@
 -- The clear notes from a boundary on, and the copies of one after another.
-use Rattle.mxf_views.proofs.Common.{◌≡◌, ℕ, ◌+◌, ◌-◌, ◌≤◌, Bool, true, false, cond, List, [], ◌∷◌, ◌++◌, refl, sym, ap}
+use Rattle.mxf_views.proofs.Common.{◌≡◌, ℕ, ◌+◌, ◌-◌, ◌≤◌, Bool, true, false, List, [], ◌∷◌, ◌++◌, refl, sym, ap}
 use Rattle.mxf_views.proofs.Common.{subst, inl, inr, append_assoc, ◌∙◌, arith, leb-true, le-leb, ◌&&◌, Option, Some}
 use Rattle.mxf_views.proofs.Common.{None, find, count_by, filter, nat_le, if◌then◌else◌, NoteParts, IsNote, end_of, In}
 use Rattle.mxf_views.proofs.Common.{IsCatalogue, AreApart, clear_notes, lies_in, In-clear_notes, option_and_then}
 use Rattle.mxf_views.proofs.Common.{option_map, cons_option, filter_map, is_filled, is_readable_primer, is_start}
 use Rattle.mxf_views.proofs.Common.{start_of, zone_of, CopyInfo, copy_of, has_metadata, copy_by, has_some_metadata}
 use Rattle.mxf_views.proofs.Common.{states_metadata, clear_from, partition_at, count_by-cons, tally, all-In, In-filter}
-use Rattle.mxf_views.proofs.Common.{found-In, and_from, false_from_ne_true, and_parts}
-use Rattle.mxf_catalogue.proofs.SpanLaws.{AreApart-lower}
-
-filter_twice : (p q : NoteParts → Bool) (ns : List NoteParts)
-    → ((n : NoteParts) → In n ns → p n ≡ true → q n ≡ true) → filter p (filter q ns) ≡ filter p ns
-filter_twice p q [] f = refl
-filter_twice p q (n ∷ ns) f =
-    let ih = filter_twice p q ns (λ m h. f m (inr h)) in
-    elim (q n) as (λ b. q n ≡ b → filter p (cond b (n ∷ filter q ns) (filter q ns))
-    ≡ cond (p n) (n ∷ filter p ns) (filter p ns)) [
-      | true ↦ λ t. ap (λ l. cond (p n) (n ∷ l) l) ih
-      | false ↦ λ t. (
-          let no : p n ≡ false = false_from_ne_true (p n) (λ u. let v = f n (inl refl) u in cc (v, t)) in rw no ih)
-    ] refl
+use Rattle.mxf_views.proofs.Common.{found-In, and_from, and_parts}
+use Rattle.mxf_klv.proofs.NoteFilters.{count_some, filter_twice}
 
 -- A zone from the boundary on lies in the notes from there on.
 pub zone_above : (b start bytes : ℕ) (notes : List NoteParts) → IsCatalogue notes → b ≤ start
@@ -29,12 +17,9 @@ zone_above b start bytes notes c l =
     let m : start ≤ n.offset =
     leb-true start n.offset (and_parts (nat_le start n.offset) (nat_le (end_of n) (start + bytes)) t).0 in
     let within = (all-In IsNote notes n c.members ((In-clear_notes n notes).0 h).held).within in
-    and_from (nat_le b n.offset) (nat_le (end_of n) (b + 18446744073709551615)) (le-leb b n.offset (omega (arith, m, l)))
+    and_from (nat_le b n.offset) (nat_le (end_of n) (b + 18446744073709551615)) (le-leb b n.offset (omega
+    (arith, m, l)))
     (le-leb (end_of n) (b + 18446744073709551615) (omega (arith, within))))
-
-pub tally_fits : (b : Bool) → tally b ≤ 1
-tally_fits true = omega arith
-tally_fits false = omega arith
 
 -- A copy starts at or after the end of its pack.
 pub start_after : (end : ℕ) (notes : List NoteParts) (s : ℕ) → start_of end notes ≡ Some s → end ≤ s
@@ -71,13 +56,6 @@ apart_from b notes left e a =
     raised : (ns : List NoteParts) → AreApart 0 ns → ((n : NoteParts) → In n ns → b ≤ n.offset) → AreApart b ns
     raised [] a f = tt
     raised (n ∷ ns) a f = (f n (inl refl), a.1)
-
-pub apart_rest : (b : ℕ) (left rest : List NoteParts) (n : NoteParts) → left ≡ n ∷ rest → AreApart b left
-    → (b ≤ n.offset) × AreApart b rest
-apart_rest b left rest n e a =
-    let all : AreApart b (n ∷ rest) = subst (AreApart b) e a in
-    let low : b ≤ n.offset = all.0 in
-    (low, AreApart-lower b (end_of n) rest (omega (arith, low)) all.1)
 
 -- ---- copies of one note after another
 
@@ -120,17 +98,6 @@ pub next_passed : (n : NoteParts) (left rest : List NoteParts) → left ≡ n �
 next_passed n left rest e =
     let all = ap (count_by states_metadata) e in
     let one = count_by-cons states_metadata n rest in omega (arith, all, one)
-
-count_some : (test p : NoteParts → Bool) (ns : List NoteParts) → count_by test (filter p ns) ≤ count_by test ns
-count_some test p [] = omega arith
-count_some test p (n ∷ ns) =
-    let ih = count_some test p ns in
-    let all = count_by-cons test n ns in
-    let some = count_by-cons test n (filter p ns) in
-    elim (p n) as (λ b. count_by test (cond b (n ∷ filter p ns) (filter p ns)) ≤ count_by test (n ∷ ns)) [
-      | true ↦ omega (arith, ih, all, some)
-      | false ↦ omega (arith, ih, all)
-    ]
 
 pub count_from : (test : NoteParts → Bool) (b : ℕ) (notes : List NoteParts)
     → count_by test (clear_from b notes) ≤ count_by test (clear_notes notes)

@@ -1,11 +1,12 @@
 -- How many notes there are at most that something is kept of.
-use Rattle.mxf_views.proofs.Common.{◌≡◌, ℕ, ◌+◌, ◌≤◌, Bool, true, false, List, [], ◌∷◌, Option, None, ap, arith, refl}
+use Rattle.mxf_views.proofs.Common.{◌≡◌, ◌≤◌, Bool, true, false, List, Option, None, ap, refl}
 use Rattle.mxf_views.proofs.Common.{◌||◌, cond, count_by, is_some, not, option_map, kind_of, end_of, NoteParts}
 use Rattle.mxf_views.proofs.Common.{part_and_status, read_as, SegmentParts, segment_at, has_some_metadata, is_placed}
 use Rattle.mxf_views.proofs.Common.{states_metadata, PartitionParts, is_no_unreadable_pack, pack_of, partition_at}
-use Rattle.mxf_views.proofs.Common.{SegmentAtParts, is_segment, placed_segment, count_by-cons, tally}
+use Rattle.mxf_views.proofs.Common.{SegmentAtParts, is_segment, placed_segment}
 use Rattle.mxf_views.proofs.StartsOrder.{no_pack}
 use Rattle.mxf_klv.proofs.Tests.{none_if}
+use Rattle.mxf_klv.proofs.NoteFilters.{count_le}
 use Rattle.mxf_views.specs.declared.kept.offsets.Placed.TheVariants as kinds
 
 -- Packets of the note's kind have a partition pack.
@@ -14,29 +15,6 @@ has_pack n = is_some (part_and_status (kind_of n.key))
 
 abbrev pub has_segment : NoteParts → Bool
 has_segment n = is_segment (kind_of n.key)
-
--- One more note is counted.
-pub next_tally : (test : NoteParts → Bool) (count one total : ℕ) (n : NoteParts) (left rest : List NoteParts)
-    → left ≡ n ∷ rest → count + count_by test left ≡ total → one ≡ tally (test n)
-    → count + one + count_by test rest ≡ total
-next_tally test count one total n left rest e same is =
-    let all = ap (count_by test) e in
-    let more = count_by-cons test n rest in omega (arith, all, more, same, is)
-
--- Where each that passes one test passes another, no more are counted by it.
-count_le : (p q : NoteParts → Bool) (ns : List NoteParts) → ((n : NoteParts) → p n ≡ true → q n ≡ true)
-    → count_by p ns ≤ count_by q ns
-count_le p q [] f = omega arith
-count_le p q (n ∷ ns) f =
-    let ih = count_le p q ns f in
-    let a = count_by-cons p n ns in
-    let b = count_by-cons q n ns in
-    elim (p n) as (λ v. p n ≡ v → count_by p (n ∷ ns) ≤ count_by q (n ∷ ns)) [
-      | true ↦ λ t. (
-          let one : tally (p n) ≡ 1 = ap tally t in
-          let other : tally (q n) ≡ 1 = ap tally (f n t) in omega (arith, ih, a, b, one, other))
-      | false ↦ λ t. (let none : tally (p n) ≡ 0 = ap tally t in omega (arith, ih, a, b, none))
-    ] refl
 
 pub pack_lacked : (n : NoteParts) → has_pack n ≡ false → pack_of n ≡ None
 pack_lacked n e = no_pack n (none_if (part_and_status (kind_of n.key)) e)

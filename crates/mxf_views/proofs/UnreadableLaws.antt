@@ -3,9 +3,7 @@ use Rattle.mxf_views.proofs.Common.{◌≡◌, ◌∙◌, ℕ, Bool, true, false
 use Rattle.mxf_views.proofs.Common.{nat_cmp, Kind, kind_of, keeps_value, NoteParts, In, IsRising, IsContent, IsClear}
 use Rattle.mxf_views.proofs.Common.{In-clear_notes, clear-alone, AreApart-filter, Wanted, Storage, Identification}
 use Rattle.mxf_views.proofs.Common.{Package, sets_of, unreadable_offsets, fits, target_at, In-filter, In-map}
-use Rattle.mxf_catalogue.proofs.MovedLaws.{rising_apart}
-use Rattle.mxf_views.specs.Findings.{is_unreadable, reads_value}
-use Rattle.mxf_views.specs.Targets.{is_readable}
+use Rattle.mxf_views.proofs.Common.{rising_apart, is_unreadable, reads_value, is_readable}
 use Rattle.mxf_views.proofs.CopyLaws.{sets_apart}
 use Rattle.mxf_views.proofs.FoundLaws.{only_at, target_by}
 use Rattle.mxf_views.proofs.OnlyFound.{sets_are_clear}

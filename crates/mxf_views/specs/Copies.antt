@@ -100,7 +100,16 @@ prefaces_of start bytes notes = count_by is_preface_note (zone_of start bytes no
 -- The copy of a partition among the clear notes, by its start.
 abbrev pub copy_from : List NoteParts → PartitionParts → Option ℕ → CopyInfo
 copy_from notes p None =
-    record { partition = p.offset; start = None; bytes = p.pack.numbers.header_byte_count; covered = 0; finished = false; prefaces = 0; status = p.pack.status }
+    record {
+      partition = p.offset;
+      start = None;
+      bytes = p.pack.numbers.header_byte_count;
+      covered = 0;
+      finished =
+          false;
+      prefaces = 0;
+      status = p.pack.status;
+    }
 copy_from notes p (Some start) =
     let bytes = p.pack.numbers.header_byte_count in
     let covered = covered_of start bytes notes in
@@ -240,8 +249,8 @@ pub record AreSoMany (count : ℕ) (IsSuch : NoteParts → Type 0) : Type 0 wher
   pub members : (n : NoteParts) → In n list ↔ IsSuch n
   pub number : length list ≡ count
 
--- The number of offsets of a range that lie in a clear note lying wholly in it, and of the clear Prefaces that lie wholly
--- in it; none without a start.
+-- The number of offsets of a range that lie in a clear note lying wholly in it, and of the clear Prefaces that lie
+-- wholly in it; none without a start.
 abbrev pub CountsZone : List NoteParts → CopyInfo → Option ℕ → Type 0
 CountsZone notes c None = (c.covered ≡ 0) × (c.prefaces ≡ 0)
 CountsZone notes c (Some start) =

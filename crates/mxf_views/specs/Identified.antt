@@ -36,11 +36,12 @@ found_at [] = Absent
 found_at (offset ∷ []) = One offset
 found_at (offset ∷ other ∷ offsets) = Several
 
--- They are sorted, and of each identifier the same is found among them as among the sets: none, one, at the same offset,
--- or more.
+-- They are sorted, and of each identifier the same is found among them as among the sets: none, one, at the same
+-- offset, or more.
 pub record AreByUid (sets : List NoteParts) (es : List Identified) : Type 0 where
   pub sorted : AreSorted es
-  pub found : (uid : List ℕ) → found_at (map (λ e. e.offset) (filter (is_of uid) es)) ≡ found_among (filter (has_uid uid) sets)
+  pub found : (uid : List ℕ) → found_at (map (λ e. e.offset) (filter (is_of uid) es))
+      ≡ found_among (filter (has_uid uid) sets)
 
 -- Where those stand that can't be read as what their kinds say.
 abbrev pub unreadable_offsets : List NoteParts → List ℕ

@@ -1,5 +1,6 @@
 -- What the views keep of the clear notes, and what an addition changes of it (this project's profile).
-use Rattle.std.specs.Prelude.{◌≡◌, ℕ, ◌+◌, ◌-◌, ◌≤◌, max, min, ◌⊎◌, Bool, ◌&&◌, ◌||◌, ◌==◌, nat_le, nat_lt, if◌then◌else◌}
+use Rattle.std.specs.Prelude.{◌≡◌, ℕ, ◌+◌, ◌-◌, ◌≤◌, max, min, ◌⊎◌, Bool, ◌&&◌, ◌||◌, ◌==◌, nat_le, nat_lt}
+use Rattle.std.specs.Prelude.{if◌then◌else◌}
 use Rattle.std.specs.Prelude.{◌<◌, count_by, not}
 use Rattle.std.specs.Vec.{vec_capacity, vec_len}
 use Rattle.std.specs.Prelude.{Option, None, Some, false, is_some, List, [], ◌∷◌, filter, find, map}
@@ -14,7 +15,7 @@ use Rattle.mxf_catalogue.specs.Disputes.{IsClear, SharesByte, clear_notes}
 use Rattle.mxf_views.specs.declared.copy.CopyInfo.{CopyInfo}
 use Rattle.mxf_catalogue.specs.Content.{AreReduced, IsContent}
 use Rattle.mxf_views.specs.declared.kept.arrival.Arrival.{Arrival}
-use Rattle.mxf_views.specs.declared.kept.Kept.{Kept}
+use Rattle.mxf_views.specs.declared.kept.KeptLists.{KeptLists}
 use Rattle.mxf_views.specs.declared.kept.offsets.Placed.{Placed}
 use Rattle.mxf_views.specs.declared.kept.offsets.Placed.TheVariants as kinds
 use Rattle.mxf_views.specs.Copies.{copies_of, copy_of, has_metadata, is_fill, is_primer}
@@ -30,7 +31,8 @@ offsets_among test notes = map (λ n. n.offset) (filter test notes)
 abbrev pub offsets_where : (NoteParts → Bool) → List NoteParts → List ℕ
 offsets_where test notes = offsets_among test (clear_notes notes)
 
--- The range goes from the least offset of a note and of the clear notes that share a byte with it to their greatest end.
+-- The range goes from the least offset of a note and of the clear notes that share a byte with it to their greatest
+-- end.
 pub record IsHull (x : NoteParts) (notes : List NoteParts) (start end : ℕ) : Type 0 where
   pub all : (m : NoteParts) → IsClear m notes → SharesByte x m → (start ≤ m.offset) × (end_of m ≤ end)
   pub least : (start ≡ x.offset) ⊎ ((m : NoteParts) × IsClear m notes × SharesByte x m × (start ≡ m.offset))
@@ -149,8 +151,8 @@ followed there offset start end offsets =
 abbrev pub notes_at : List NoteParts → List ℕ → List NoteParts
 notes_at notes offsets = filter_map (λ o. find (λ n. n.offset == o) (clear_notes notes)) offsets
 
--- What is kept: where partitions, segments, random index packs and unreadable partition packs stand, the copies, and how
--- far these reach.
+-- What is kept: where partitions, segments, random index packs and unreadable partition packs stand, the copies, and
+-- how far these reach.
 pub record KeptParts : Type 0 where
   pub partitions : List ℕ
   pub segments : List ℕ
@@ -170,7 +172,7 @@ kept_of notes = record {
   reaches = reaches_of (copies_of notes);
 }
 
-abbrev pub kept_in : Kept → KeptParts
+abbrev pub kept_in : KeptLists → KeptParts
 kept_in k = record {
   partitions = k.partitions.items;
   segments = k.segments.items;
@@ -181,7 +183,7 @@ kept_in k = record {
 }
 
 -- What is kept of a content fits without taking memory.
-pub record HasRoom (notes : List NoteParts) (k : Kept) : Type 0 where
+pub record HasRoom (notes : List NoteParts) (k : KeptLists) : Type 0 where
   pub partitions : count_by (is_placed kinds.Partition) (clear_notes notes) ≤ vec_capacity k.partitions
   pub segments : count_by (is_placed kinds.Segment) (clear_notes notes) ≤ vec_capacity k.segments
   pub rips : count_by (is_placed kinds.RandomIndexPack) (clear_notes notes) ≤ vec_capacity k.random_index_packs
@@ -190,7 +192,7 @@ pub record HasRoom (notes : List NoteParts) (k : Kept) : Type 0 where
   pub reaches : count_by states_metadata (clear_notes notes) ≤ vec_capacity k.reaches
 
 -- One more of each fits without taking memory.
-pub record HasRoomForOne (k : Kept) : Type 0 where
+pub record HasRoomForOne (k : KeptLists) : Type 0 where
   pub partitions : vec_len k.partitions < vec_capacity k.partitions
   pub segments : vec_len k.segments < vec_capacity k.segments
   pub rips : vec_len k.random_index_packs < vec_capacity k.random_index_packs

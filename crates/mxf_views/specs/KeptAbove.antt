@@ -67,7 +67,8 @@ abbrev pub counted_above : List NoteParts → ℕ → Option ℕ → CopyInfo �
 counted_above notes boundary starting c (Some start) = counted_on notes boundary c start
 counted_above notes boundary starting c None = started notes starting c
 
--- No other copy can get a start by the notes from the boundary on: they begin with no start, or there is a copy behind it.
+-- No other copy can get a start by the notes from the boundary on: they begin with no start, or there is a copy behind
+-- it.
 abbrev pub IsStarting : List NoteParts → ℕ → List CopyInfo → Option ℕ → Type 0
 IsStarting notes boundary copies starting =
     (c : CopyInfo) → In c copies → is_of c.partition starting ≡ false

@@ -1,6 +1,6 @@
 -- The reading of a file's packets from the front, with the offset that has been reached (ST 377-1; the names of the
--- answers are this project's profile). Nothing here knows of clear notes or of covered offsets: each part goes once over
--- the list.
+-- answers are this project's profile). Nothing here knows of clear notes or of covered offsets: each part goes once
+-- over the list.
 use Rattle.std.specs.Prelude.{ℕ, ◌+◌, ◌-◌, nat_lt, Bool, true, false, not, ◌==◌, ◌&&◌, if◌then◌else◌, List, [], ◌∷◌}
 use Rattle.std.specs.Prelude.{map, filter, fold, find, count_by, Option, Some, None, is_some}
 use Rattle.std.specs.List.{cons_option, list_all}

@@ -41,7 +41,13 @@ packages_of None = []
 packages_of (Some s) = s.packages
 
 abbrev pub resolved_by : List NoteParts → ℕ → ℕ → Option PrefaceParts → ResolvedParts
-resolved_by notes partition preface None = record { partition = partition; preface = preface; storage = None; identifications = []; packages = [] }
+resolved_by notes partition preface None = record {
+  partition = partition;
+  preface = preface;
+  storage = None;
+  identifications = [];
+  packages = [];
+}
 resolved_by notes partition preface (Some p) = record {
   partition = partition;
   preface = preface;

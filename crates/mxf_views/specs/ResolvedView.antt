@@ -1,5 +1,5 @@
--- What the Preface of the preferred copy names (ST 377-1, Preface and Content Storage sets, strong references; what stands
--- where a set can't be read is this project's profile).
+-- What the Preface of the preferred copy names (ST 377-1, Preface and Content Storage sets, strong references; what
+-- stands where a set can't be read is this project's profile).
 use Rattle.std.specs.Prelude.{◌≡◌, ℕ, ◌⊎◌, Option, Some, None, List, [], ◌∷◌}
 use Rattle.mxf_klv.specs.declared.kinds.Kind.TheVariants as kinds
 use Rattle.mxf_klv.specs.Parts.{NoteParts}

@@ -51,8 +51,8 @@ pub record EndsWithFooter (l : List PacketParts) : Type 0 where
   pub only : AllByRecursion (λ p. ¬ IsFooterPack p) before
   pub last : AllByRecursion (λ p. ¬ IsPartitionPack p) after
 
--- What a packet of a kind has to be read as: a partition pack, a primer, a segment or a random index pack; no other kind
--- has to be read.
+-- What a packet of a kind has to be read as: a partition pack, a primer, a segment or a random index pack; no other
+-- kind has to be read.
 abbrev pub is_readable_as : Kind → PacketParts → Bool
 is_readable_as (kinds.Header status) p = is_some (read_pack p)
 is_readable_as (kinds.Body status) p = is_some (read_pack p)

@@ -114,8 +114,8 @@ essence_key =
 abbrev pub essence : PacketParts
 essence = packet_parts essence_key 4 (replicate 100 0x00)
 
--- A segment of 100 edit units from a unit below 256 on, at 25 units a second, of IndexSID 1 and BodySID 2. The units have
--- 249,856 bytes each and as many more as are given, below 256.
+-- A segment of 100 edit units from a unit below 256 on, at 25 units a second, of IndexSID 1 and BodySID 2. The units
+-- have 249,856 bytes each and as many more as are given, below 256.
 abbrev pub segment : ℕ → ℕ → PacketParts
 segment start more =
     packet_parts (structure_key 0x53 0x10 0x01) 4

@@ -5,8 +5,8 @@ use Rattle.mxf_sets.specs.Segment.{SegmentParts, segment_parts}
 use Rattle.mxf_sets.specs.declared.segment.numbers.SegmentNumbers.{SegmentNumbers}
 use Rattle.mxf_views.specs.WorkedFiles.{structure_key}
 
--- The numbers of a segment from a unit on, of a duration, of units that all have so many bytes or, where that is 0, have
--- entries, and of slices and position tables.
+-- The numbers of a segment from a unit on, of a duration, of units that all have so many bytes or, where that is 0,
+-- have entries, and of slices and position tables.
 abbrev pub units : ℕ → ℕ → ℕ → ℕ → ℕ → SegmentNumbers
 units start duration unit_bytes slices positions = record {
   edit_rate = (pos 25, pos 1);
@@ -43,8 +43,8 @@ two_entries_of slices positions =
 abbrev pub sliced_units : ℕ → ℕ → SegmentParts
 sliced_units slices positions = segment_parts (units 3 2 0 slices positions) (two_entries_of slices positions)
 
--- The packet of a segment of two units from unit 0 on, of IndexSID 1 and BodySID 2, with two slices and one position table,
--- each item by its tag: entries of 27 bytes.
+-- The packet of a segment of two units from unit 0 on, of IndexSID 1 and BodySID 2, with two slices and one position
+-- table, each item by its tag: entries of 27 bytes.
 abbrev pub sliced_segment : PacketParts
 sliced_segment =
     packet_parts (structure_key 0x53 0x10 0x01) 4

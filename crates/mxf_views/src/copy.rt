@@ -13,7 +13,9 @@ ghost use Rattle.mxf_views.specs.Copies.{CopiesRise, IsBest, IsCopy, IsPreferred
 ghost use Rattle.mxf_views.specs.declared.copy.CopyInfo.{CopyInfo};
 ghost use Rattle.std.specs.Iterator.{YieldsFirst, item_count};
 ghost use Rattle.mxf_catalogue.specs.Disputes.{clear_notes};
-ghost use Rattle.mxf_views.specs.Copies.{preferred_of, is_candidate, is_above, standing, copies_among, copy_from, copy_of, covered_of, has_metadata, is_readable_primer, start_of, zone_of, prefaces_of};
+ghost use Rattle.mxf_views.specs.Copies.{preferred_of, is_candidate, is_above, standing, copies_among, copy_from};
+ghost use Rattle.mxf_views.specs.Copies.{copy_of, covered_of, has_metadata, is_readable_primer, start_of, zone_of};
+ghost use Rattle.mxf_views.specs.Copies.{prefaces_of};
 
 pub(crate) mod sets;
 pub(crate) mod zone;
@@ -228,30 +230,36 @@ impl CopyInfo {
 /// A law of [`Views::copies`](crate::Views::copies): what is covered is the number of offsets of the zone that lie in a
 /// clear note lying wholly in it.
 pub fn covered_counts_offsets()
-    ensures { (notes : List NoteParts) (start bytes : ℕ) → IsContent notes → covered_of start bytes (clear_notes notes) ≡ count_by (is_in_one (zone_of start bytes (clear_notes notes))) (range_with_len start bytes) }
+    ensures { (notes : List NoteParts) (start bytes : ℕ) → IsContent notes
+        → covered_of start bytes (clear_notes notes) ≡ count_by (is_in_one (zone_of start bytes (clear_notes notes)))
+        (range_with_len start bytes) }
 {}
 
-/// A law of [`Views::copies`](crate::Views::copies): a copy starts exactly where its definition says, at one offset at most.
+/// A law of [`Views::copies`](crate::Views::copies): a copy starts exactly where its definition says, at one offset at
+/// most.
 pub fn starts_by_definition()
-    ensures start { (notes : List NoteParts) (end start : ℕ) → IsContent notes → (start_of end (clear_notes notes) ≡ Some start) ↔ IsStart notes end start }
+    ensures start { (notes : List NoteParts) (end start : ℕ) → IsContent notes
+        → (start_of end (clear_notes notes) ≡ Some start) ↔ IsStart notes end start }
     ensures one { (notes : List NoteParts) (end s t : ℕ) → IsStart notes end s → IsStart notes end t → s ≡ t }
 {}
 
-/// A law of [`Views::preferred`](crate::Views::preferred): it is a candidate that no candidate stands above, and there is
-/// none only where no copy is a candidate; two such copies are of one partition.
+/// A law of [`Views::preferred`](crate::Views::preferred): it is a candidate that no candidate stands above, and there
+/// is none only where no copy is a candidate; two such copies are of one partition.
 pub fn preferred_by_definition()
     ensures best { (copies : List CopyInfo) → IsPreferred copies (preferred_of copies) }
-    ensures one { (copies : List CopyInfo) (a b : CopyInfo) → IsBest copies a → IsBest copies b → a.partition ≡ b.partition }
+    ensures one { (copies : List CopyInfo) (a b : CopyInfo) → IsBest copies a → IsBest copies b
+        → a.partition ≡ b.partition }
 {}
 
 /// A law of [`Views::copies`](crate::Views::copies): they are the copies of the partitions that have header metadata.
 pub fn copies_by_definition()
-    ensures copies { (notes : List NoteParts) (c : CopyInfo) → IsContent notes → In c (copies_of notes) ↔ IsCopy notes c }
+    ensures copies { (notes : List NoteParts) (c : CopyInfo) → IsContent notes
+        → In c (copies_of notes) ↔ IsCopy notes c }
     ensures rising { (notes : List NoteParts) → IsContent notes → CopiesRise (copies_of notes) }
 {}
 
-/// A law of [`Views::primer_for`](crate::Views::primer_for): it is the primer pack at the start of the copy of the first
-/// partition whose zone has the packet; there is none only where no copy's zone has it.
+/// A law of [`Views::primer_for`](crate::Views::primer_for): it is the primer pack at the start of the copy of the
+/// first partition whose zone has the packet; there is none only where no copy's zone has it.
 pub fn primer_for_by_definition()
     ensures { (notes : List NoteParts) (n : NoteParts) (primer : Option BatchParts) → IsContent notes
         → (primer_for notes n ≡ primer) ↔ IsPrimerFor notes n primer }

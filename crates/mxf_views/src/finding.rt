@@ -53,8 +53,8 @@ pub enum Code {
     F10,
     /// A clear index table segment isn't readable.
     F11,
-    /// A clear random index pack isn't readable; or there is another clear one; or a whole note ends above its end; or its
-    /// entries aren't the BodySIDs and the offsets of the partitions, in their order.
+    /// A clear random index pack isn't readable; or there is another clear one; or a whole note ends above its end; or
+    /// its entries aren't the BodySIDs and the offsets of the partitions, in their order.
     F12,
     /// A set of the preferred copy holds a reference whose target isn't [`Found`](crate::Target::Found): the Preface
     /// holds those to the storage and to the identifications, the storage those to the packages.
@@ -268,8 +268,8 @@ impl Findings {
     }
 }
 
-/// A law of [`Views::findings`](crate::Views::findings): they are those offsets and codes at which the cause of the code
-/// is met, and rise, so none stands twice.
+/// A law of [`Views::findings`](crate::Views::findings): they are those offsets and codes at which the cause of the
+/// code is met, and rise, so none stands twice.
 pub fn findings_by_definition()
     ensures findings { (notes : List NoteParts) (f : Finding) → IsContent notes
         → In f (findings_of notes) ↔ IsFinding notes f }

@@ -69,8 +69,8 @@ fn range(start: u64, end: u64) -> Option<Run>
     }
 }
 
-/// A law of [`Views::gaps`](crate::Views::gaps): its runs are the maximal ranges of offsets that lie below the end of some
-/// note and that none covers.
+/// A law of [`Views::gaps`](crate::Views::gaps): its runs are the maximal ranges of offsets that lie below the end of
+/// some note and that none covers.
 pub fn gaps_by_definition()
     ensures { (notes : List NoteParts) → IsContent notes → AreGaps notes (gaps_of notes) }
 {}

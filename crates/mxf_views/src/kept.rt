@@ -1,11 +1,13 @@
 //! What the views keep of the clear notes: where partitions, index table segments, random index packs and unreadable
 //! partition packs stand, and the copies of the header metadata.
-ghost use Rattle.std.specs.Prelude.{◌≡◌, List, ◌<◌, ◌≤◌, IfOk, OnOk, count_by, ◌++◌, ◌∷◌, ◌+◌, [], ℕ, vec_len, vec_capacity};
+ghost use Rattle.std.specs.Prelude.{◌≡◌, List, ◌<◌, ◌≤◌, IfOk, OnOk, count_by, ◌++◌, ◌∷◌, ◌+◌, [], ℕ, vec_len};
+ghost use Rattle.std.specs.Prelude.{vec_capacity};
 ghost use Rattle.mxf_klv.specs.Parts.{NoteParts};
 ghost use Rattle.mxf_klv.specs.Rising.{In};
 ghost use Rattle.mxf_catalogue.specs.Content.{IsCatalogue, IsContent, has_note, reduced_union, reduced_with};
 ghost use Rattle.mxf_catalogue.specs.Disputes.{clear_notes};
-ghost use Rattle.mxf_views.specs.Kept.{is_placed, states_metadata, HasRoom, HasRoomForOne, IsArrival, kept_in, kept_of, offsets_among};
+ghost use Rattle.mxf_views.specs.Kept.{is_placed, states_metadata, HasRoom, HasRoomForOne, IsArrival, kept_in, kept_of};
+ghost use Rattle.mxf_views.specs.Kept.{offsets_among};
 ghost use Rattle.mxf_views.specs.KeptAbove.{IsUnionAt, MeetAt, clear_from};
 ghost use Rattle.mxf_views.specs.declared.kept.offsets.Placed.{Placed};
 
@@ -30,7 +32,7 @@ use std::alloc::{AllocError, Global};
 
 /// What the views keep. The file offsets, in bytes, rise; so do the partitions of the copies.
 #[derive(Debug, Drop)]
-pub(crate) struct Kept {
+pub(crate) struct KeptLists {
     pub partitions: Vec<u64>,
     pub segments: Vec<u64>,
     pub random_index_packs: Vec<u64>,
@@ -40,12 +42,12 @@ pub(crate) struct Kept {
     pub reaches: Vec<u64>,
 }
 
-impl Kept {
+impl KeptLists {
     /// What is kept of no note.
-    pub fn new(alloc: Global) -> Kept
+    pub fn new(alloc: Global) -> KeptLists
         ensures { kept_in result ≡ kept_of [] }
     {
-        Kept {
+        KeptLists {
             partitions: Vec::new(alloc),
             segments: Vec::new(alloc),
             random_index_packs: Vec::new(alloc),
@@ -56,10 +58,10 @@ impl Kept {
     }
 
     /// What is kept of a catalogue. It takes memory.
-    pub fn of(alloc: Global, catalogue: &Catalogue) -> Result<Kept, AllocError>
+    pub fn of(alloc: Global, catalogue: &Catalogue) -> Result<KeptLists, AllocError>
         ensures { IfOk result (λ k. kept_in k ≡ kept_of catalogue.now) }
     {
-        let mut kept = Kept::new(alloc);
+        let mut kept = KeptLists::new(alloc);
         kept.reserve(catalogue)?;
         let room = kept.marks_room(catalogue.len())?;
         kept.refill(catalogue, room);
@@ -149,8 +151,8 @@ impl Kept {
         self.unreadable_packs.clear();
     }
 
-    /// Puts the offsets of what is kept of the clear notes from a boundary on behind others, in one pass, where there is
-    /// room.
+    /// Puts the offsets of what is kept of the clear notes from a boundary on behind others, in one pass, where there
+    /// is room.
     fn append_offsets(&mut self, catalogue: &Catalogue, boundary: u64)
         requires partitions { vec_len self.old.partitions
             + count_by (is_placed Placed.Partition) (clear_from boundary catalogue.now)
@@ -196,8 +198,8 @@ impl Kept {
         self.append_offsets(catalogue, 0);
     }
 
-    /// Follows the arrival of notes that begin at the boundary or above, where there is room: from what is kept of the notes
-    /// below it to what is kept of all. Only what is new is counted.
+    /// Follows the arrival of notes that begin at the boundary or above, where there is room: from what is kept of the
+    /// notes below it to what is kept of all. Only what is new is counted.
     pub fn follow_above(&mut self, catalogue: &Catalogue, boundary: u64, room: Vec<Mark>)
         requires kept { (own : List NoteParts) × IsUnionAt boundary catalogue.now own
             × (kept_in self.old ≡ kept_of own) }

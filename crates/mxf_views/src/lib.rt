@@ -14,16 +14,20 @@
 //! | Which partitions are held? | [`Views::partitions`] | [`PartitionAt`]: offset, end and pack |
 //! | How does one name the one before it? | [`Views::link`], [`Views::link_of`] | [`Link`] |
 //! | Do they hang together, header to footer? | [`Views::chain`] | [`Chain`] |
-//! | Which bytes are missing, up to the greatest end, claimed ones too? | [`Views::gaps`] | runs from a start up to an end |
-//! | Which copies of the header metadata are there? | [`Views::copies`] | [`CopyInfo`]: start, bytes stated, bytes held |
+//! | Which bytes are missing, up to the greatest end, claimed ones too? | [`Views::gaps`] | runs from a start up to an
+//! end |
+//! | Which copies of the header metadata are there? | [`Views::copies`] | [`CopyInfo`]: start, bytes stated, bytes held
+//! |
 //! | Which of them is to be taken? | [`Views::preferred`] | [`CopyInfo`], or None |
 //! | Which sets has the copy of a partition? | [`Views::sets`], [`set_items`] | notes, and the items of one |
 //! | What do the tags of a set stand for? | [`Views::primer_for`] | the primer pack of its copy |
 //! | Which set has an identifier? | [`Views::find`] | [`Found`] |
-//! | Which programs wrote the file, which packages has it? | [`Views::resolved`] | [`Resolved`]: each [`Ref`] with its [`Target`] |
+//! | Which programs wrote the file, which packages has it? | [`Views::resolved`] | [`Resolved`]: each [`Ref`] with its
+//! [`Target`] |
 //! | Which index table segments are held? | [`Views::segments`] | [`SegmentAt`] |
 //! | Where does an edit unit begin? | [`Views::locate`] | [`Place`]: bytes from the start of its essence stream |
-//! | What does the random index pack list? | [`Views::rip`], [`RipAt::entries`] | [`RipView`], each entry with its [`Standing`] |
+//! | What does the random index pack list? | [`Views::rip`], [`RipAt::entries`] | [`RipView`], each entry with its
+//! [`Standing`] |
 //! | What is wrong or missing? | [`Views::findings`] | [`Findings`]: each [`Code`] with its offset |
 //!
 //! Each call's clause says that its answer is a function of the notes; a law beside its type (`.._by_definition`) says

@@ -6,7 +6,8 @@ ghost use Rattle.mxf_klv.specs.Rising.{In};
 ghost use Rattle.mxf_catalogue.specs.Content.{IsContent};
 ghost use Rattle.mxf_views.specs.Partitions.{AreInOrder, IsPartition, PartitionParts, partitions_of};
 ghost use Rattle.std.specs.Iterator.{YieldsFirst, item_count};
-ghost use Rattle.mxf_views.specs.Partitions.{pack_of, partition_at, partitions_among, stands_at, is_header, is_footer, is_no_unreadable_pack};
+ghost use Rattle.mxf_views.specs.Partitions.{pack_of, partition_at, partitions_among, stands_at, is_header, is_footer};
+ghost use Rattle.mxf_views.specs.Partitions.{is_no_unreadable_pack};
 
 use crate::placed::NotesAt;
 use mxf_catalogue::Catalogue;

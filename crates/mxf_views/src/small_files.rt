@@ -2,21 +2,25 @@
 ghost use Rattle.std.specs.Prelude.{◌≡◌, ℕ, ◌+◌, ◌<◌, ◌≤◌, ◌↔◌, ◌∷◌, [], map, None, Some, is_some, true, false};
 ghost use Rattle.mxf_klv.specs.Kind.{kind_of};
 ghost use Rattle.mxf_klv.specs.Note.{greatest_end};
-ghost use Rattle.mxf_klv.specs.declared.kinds.Status.TheVariants.{OpenIncomplete, ClosedIncomplete, OpenComplete, ClosedComplete};
+ghost use Rattle.mxf_klv.specs.declared.kinds.Status.TheVariants.{OpenIncomplete, ClosedIncomplete, OpenComplete};
+ghost use Rattle.mxf_klv.specs.declared.kinds.Status.TheVariants.{ClosedComplete};
 ghost use Rattle.mxf_sets.specs.Offset.{stream_offset};
 ghost use Rattle.mxf_sets.specs.declared.pack.part.PackPart.TheVariants.{Header};
 ghost use Rattle.mxf_klv.specs.declared.kinds.Kind.{Kind};
 ghost use Rattle.mxf_klv.specs.declared.kinds.Kind.TheVariants as kinds;
-ghost use Rattle.mxf_views.specs.Copies.{IsSetKind, is_candidate, is_fill, is_preface, is_primer, is_set, rank, standing};
+ghost use Rattle.mxf_views.specs.Copies.{IsSetKind, is_candidate, is_fill, is_preface, is_primer, is_set, rank};
+ghost use Rattle.mxf_views.specs.Copies.{standing};
 ghost use Rattle.mxf_views.specs.Places.{is_segment};
 ghost use Rattle.mxf_views.specs.RandomIndex.{is_rip};
-ghost use Rattle.mxf_views.specs.Reading.{chain_read, copies_alone, copies_read, link_read_at, links_read, partitions_read};
+ghost use Rattle.mxf_views.specs.Reading.{chain_read, copies_alone, copies_read, link_read_at, links_read};
+ghost use Rattle.mxf_views.specs.Reading.{partitions_read};
 ghost use Rattle.mxf_views.specs.Reading.{place_read, preferred_read, rip_read, segments_read, sets_read};
 ghost use Rattle.mxf_views.specs.WellFormed.{IsWellFormed, file_bytes};
 ghost use Rattle.mxf_views.specs.WorkedBytes.{h_bytes, m_bytes, n_bytes, r_bytes, w_bytes};
 ghost use Rattle.mxf_views.specs.RefusedFiles as refused;
 ghost use Rattle.mxf_views.specs.WorkedFiles.{agreeing_file, filled_file, m_file, open_file, twice_filled_file};
-ghost use Rattle.mxf_views.specs.WorkedFiles.{constant, copy_of_86, essence, h_file, linked_preface, material, n_copies, n_file};
+ghost use Rattle.mxf_views.specs.WorkedFiles.{constant, copy_of_86, essence, h_file, linked_preface, material};
+ghost use Rattle.mxf_views.specs.WorkedFiles.{n_copies, n_file};
 ghost use Rattle.mxf_views.specs.WorkedFiles.{numbers, pack, primer, r_file, storage, three_entries, w_file, w_rip};
 ghost use Rattle.mxf_views.specs.WorkedSegments.{constant_units, entry_units, sliced_segment, sliced_units};
 ghost use Rattle.mxf_views.specs.declared.chain.Chain.TheVariants as chains;
@@ -25,8 +29,8 @@ ghost use Rattle.mxf_views.specs.declared.copy.CopyInfo.{CopyInfo};
 ghost use Rattle.mxf_views.specs.declared.index.place.Place.TheVariants as places;
 ghost use Rattle.mxf_views.specs.declared.random_index.RipView.TheVariants as rips;
 
-/// A law: which of some small files are well-formed. Two have no footer partition. Of the others one has a fill before its
-/// header metadata, one two of them, one an open header partition, and one two segments of an index that agree.
+/// A law: which of some small files are well-formed. Two have no footer partition. Of the others one has a fill before
+/// its header metadata, one two of them, one an open header partition, and one two segments of an index that agree.
 pub fn small_files_are_well_formed_or_not()
     ensures two_copies { IsWellFormed n_file }
     ensures indexed { IsWellFormed w_file }
@@ -35,7 +39,7 @@ pub fn small_files_are_well_formed_or_not()
     ensures random_index { IsWellFormed m_file }
     ensures filled { IsWellFormed filled_file }
     ensures twice_filled { IsWellFormed twice_filled_file }
-    ensures open { IsWellFormed open_file }
+    ensures open_header { IsWellFormed open_file }
     ensures agreeing_segments { IsWellFormed agreeing_file }
 {}
 
@@ -93,10 +97,10 @@ pub fn an_indexed_file_is_read_from_the_front()
     ensures rip { rip_read (partitions_read 0 w_file) 0 w_file ≡ w_rip }
 {}
 
-/// A law: the rules that the views and the reading from the front share, which no law of whole files can tell apart from
-/// others: how statuses stand to one another, which copies are candidates, which kinds of packets are sets, fills, primer
-/// packs, Prefaces, index table segments and random index packs, and which stream offsets segments give: of units of one
-/// size, of entries, and of entries with slices and position tables.
+/// A law: the rules that the views and the reading from the front share, which no law of whole files can tell apart
+/// from others: how statuses stand to one another, which copies are candidates, which kinds of packets are sets, fills,
+/// primer packs, Prefaces, index table segments and random index packs, and which stream offsets segments give: of
+/// units of one size, of entries, and of entries with slices and position tables.
 pub fn shared_rules_are_these()
     ensures statuses { (rank OpenIncomplete < rank OpenComplete)
         × (rank OpenComplete < rank ClosedIncomplete) × (rank ClosedIncomplete < rank ClosedComplete) }
@@ -114,7 +118,8 @@ pub fn shared_rules_are_these()
     ensures segments { (k : Kind) → (is_segment k ≡ true) ↔ (k ≡ kinds.Segment) }
     ensures random_index_packs { (k : Kind) → (is_rip k ≡ true) ↔ (k ≡ kinds.Rip) }
     ensures sizes { (stream_offset (constant_units 0 100) 10 ≡ Some 2500000)
-        × (stream_offset (constant_units 0 100) 99 ≡ Some 24750000) × (stream_offset (constant_units 0 100) 100 ≡ None) }
+        × (stream_offset (constant_units 0 100) 99 ≡ Some 24750000) × (stream_offset (constant_units 0 100) 100
+        ≡ None) }
     ensures endless_sizes { (stream_offset (constant_units 5 0) 4 ≡ None)
         × (stream_offset (constant_units 5 0) 1000 ≡ Some 250000000) }
     ensures entries { (stream_offset (entry_units 3) 4 ≡ None) × (stream_offset (entry_units 3) 5 ≡ Some 1000)

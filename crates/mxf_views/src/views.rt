@@ -1,5 +1,6 @@
 //! Views of a catalogue.
-ghost use Rattle.std.specs.Prelude.{◌≡◌, ◌≢◌, ◌↔◌, ◌==◌, ◌||◌, List, filter, not, ◌<◌, ◌^◌, find, length, count_by, [], IfErr, IfOk, OnOk, OnErr};
+ghost use Rattle.std.specs.Prelude.{◌≡◌, ◌≢◌, ◌↔◌, ◌==◌, ◌||◌, List, filter, not, ◌<◌, ◌^◌, find, length, count_by, []};
+ghost use Rattle.std.specs.Prelude.{IfErr, IfOk, OnOk, OnErr};
 ghost use Rattle.std.specs.List.{list_all};
 ghost use Rattle.mxf_catalogue.specs.Disputes.{SharesByte, clear_notes};
 ghost use Rattle.mxf_klv.specs.Parts.{NoteParts};
@@ -7,7 +8,8 @@ ghost use Rattle.mxf_klv.specs.Rising.{In};
 ghost use Rattle.mxf_catalogue.specs.Content.{AreReduced, has_note, reduced_union, reduced_with};
 ghost use Rattle.mxf_catalogue.specs.History.{History, Add, Join, Of, content};
 ghost use Rattle.mxf_catalogue.specs.Moved.{TellsMoved};
-ghost use Rattle.mxf_views.specs.Partitions.{partitions_of, link_of, link_at, is_linked, chain_of, is_header, is_footer, is_greatest, is_no_unreadable_pack, stands_above};
+ghost use Rattle.mxf_views.specs.Partitions.{partitions_of, link_of, link_at, is_linked, chain_of, is_header};
+ghost use Rattle.mxf_views.specs.Partitions.{is_footer, is_greatest, is_no_unreadable_pack, stands_above};
 ghost use Rattle.mxf_views.specs.Gaps.{gaps_of};
 ghost use Rattle.mxf_views.specs.Copies.{copies_of, preferred_of, sets_of};
 ghost use Rattle.mxf_views.specs.Labels.{is_in_copy, primer_for, primer_of, primer_there};
@@ -30,7 +32,7 @@ use crate::finding::Findings;
 use crate::gap::Gaps;
 use crate::index::Segments;
 use crate::index::place::{BadUnit, GREATEST_UNIT, Place};
-use crate::kept::Kept;
+use crate::kept::KeptLists;
 use crate::kept::above::boundary;
 use crate::kept::arrival::Arrival;
 use crate::kept::copies::find_copy;
@@ -56,7 +58,7 @@ use uuid::Uuid;
 #[derive(Debug, Drop)]
 pub struct Views {
     catalogue: Catalogue,
-    kept: Kept,
+    kept: KeptLists,
 }
 
 impl Model for Views {
@@ -86,12 +88,13 @@ impl Views {
     {
         Views {
             catalogue: Catalogue::new(alloc),
-            kept: Kept::new(alloc),
+            kept: KeptLists::new(alloc),
         }
     }
 
-    /// The views of a catalogue: whatever calls made it, they are those of the notes that it was handed. Where these are
-    /// the notes of a well-formed file, partitions, copies and indexes are what reading the file from the front says.
+    /// The views of a catalogue: whatever calls made it, they are those of the notes that it was handed. Where these
+    /// are the notes of a well-formed file, partitions, copies and indexes are what reading the file from the front
+    /// says.
     pub fn of(alloc: Global, catalogue: Catalogue) -> Result<Views, ViewFault>
         ensures views { IfOk result (λ v. v ≡ catalogue) }
         ensures run { IfOk result (λ v. IsTheRun (has_note catalogue) v) }
@@ -99,7 +102,7 @@ impl Views {
         ensures back { IfErr result (λ f. f.catalogue ≡ catalogue) }
     {
         catalogue.laws();
-        match Kept::of(alloc, &catalogue) {
+        match KeptLists::of(alloc, &catalogue) {
             Ok(kept) => Ok(Views { catalogue, kept }),
             Err(_) => Err(ViewFault { catalogue }),
         }
@@ -133,7 +136,7 @@ impl Views {
             → IfOk result (λ v. v ≡ content (Join h k)) }
     {
         let catalogue = Catalogue::join(alloc, &a.catalogue, &b.catalogue)?;
-        let kept = Kept::of(alloc, &catalogue)?;
+        let kept = KeptLists::of(alloc, &catalogue)?;
         Ok(Views { catalogue, kept })
     }
 
@@ -280,7 +283,8 @@ impl Views {
     }
 
     fn ends_in_footer(&self) -> bool
-        ensures { result ≡ list_all (λ p. not (is_footer p.pack.part) || is_greatest (partitions_of self.now) p) (partitions_of self.now) }
+        ensures { result ≡ list_all (λ p. not (is_footer p.pack.part) || is_greatest (partitions_of self.now) p)
+            (partitions_of self.now) }
     {
         for partition in self.partitions() {
             if partition.pack.part() == PackPart::Footer

@@ -180,8 +180,8 @@ fn a_copy_is_found_in_each_order_of_its_packets(rt: HostRuntime) -> Result<(), F
 /// An essence packet, by its offset and the length of its value, and the clear notes that it moves.
 type Addition = ((u64, u64), &'static [u64]);
 
-/// A packet from 0 to 100, one from 90 to 210 over it, one from 200 to 300, and one from 120 to 150; and the last of them
-/// added first.
+/// A packet from 0 to 100, one from 90 to 210 over it, one from 200 to 300, and one from 120 to 150; and the last of
+/// them added first.
 const ADDITIONS: [[Addition; 4]; 2] = [
     [
         ((0, 83), &[]),

@@ -129,8 +129,8 @@ fn a_head_behind_a_random_index_pack_is_no_packet_behind_it(rt: HostRuntime) -> 
     Ok(())
 }
 
-/// The orders of the heads and the packets of a copy's primer at 108 and Preface at 154, each by its offset and whether it
-/// is a head.
+/// The orders of the heads and the packets of a copy's primer at 108 and Preface at 154, each by its offset and whether
+/// it is a head.
 const ORDERS: [[(usize, bool); 4]; 6] = [
     [(108, true), (108, false), (154, true), (154, false)],
     [(108, true), (154, true), (108, false), (154, false)],

@@ -1,4 +1,5 @@
-//! Worked files, saved catalogues, and the notes and writers that tests build. Nothing but the crates of tests stands on it.
+//! Worked files, saved catalogues, and the notes and writers that tests build. Nothing but the crates of tests stands
+//! on it.
 #![tactic(auto)]
 
 pub mod builders;

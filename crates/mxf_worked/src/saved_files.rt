@@ -1,5 +1,5 @@
-//! Files of catalogues, by their format. The bytes of one stand at hand, a field a line, so that nothing grows where it is
-//! made.
+//! Files of catalogues, by their format. The bytes of one stand at hand, a field a line, so that nothing grows where it
+//! is made.
 use crate::worked_files::M;
 use std::alloc::Global;
 use std::test::Fail;
@@ -47,8 +47,8 @@ pub fn packet_of_m(from: usize, to: usize) -> Result<&'static [u8], Fail> {
     Ok(M.get(from..to).ok_or("past the end")?)
 }
 
-/// The file of the catalogue of M's first packets, of which there are so many: sixteen bytes ahead, then of each note its
-/// offset, its key, the width of its length, its length, the mark of a whole packet, and its value.
+/// The file of the catalogue of M's first packets, of which there are so many: sixteen bytes ahead, then of each note
+/// its offset, its key, the width of its length, its length, the mark of a whole packet, and its value.
 pub fn catalogue_file(alloc: Global, count: u8) -> Result<Vec<u8>, Fail> {
     let mut file = Vec::from_slice(alloc, b"MXFCAT\x00\x02\x00\x00\x00\x00\x00\x00\x00")?;
     file.push(count)?;
@@ -66,7 +66,8 @@ pub fn catalogue_file(alloc: Global, count: u8) -> Result<Vec<u8>, Fail> {
     Ok(file)
 }
 
-/// The file of the catalogue of M's first packet and the head of its second: that has the other mark, and nothing behind it.
+/// The file of the catalogue of M's first packet and the head of its second: that has the other mark, and nothing
+/// behind it.
 pub fn catalogue_file_with_head(alloc: Global) -> Result<Vec<u8>, Fail> {
     let whole = catalogue_file(alloc, 1)?;
     let mut file = Vec::from_slice(alloc, b"MXFCAT\x00\x02\x00\x00\x00\x00\x00\x00\x00\x02")?;

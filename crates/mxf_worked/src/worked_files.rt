@@ -229,8 +229,8 @@ pub fn one_copy(alloc: Global) -> Result<Vec<u8>, Fail> {
     joined(alloc, &[&header, &primer(alloc)?, &bare_preface(alloc)?])
 }
 
-/// A file of 374 bytes: a header partition whose metadata are a primer at 108, a Preface at 154, its storage at 214 and a
-/// package at 298.
+/// A file of 374 bytes: a header partition whose metadata are a primer at 108, a Preface at 154, its storage at 214 and
+/// a package at 298.
 pub fn one_package(alloc: Global) -> Result<Vec<u8>, Fail> {
     let header = header(alloc, 0, 266)?;
     let preface = preface(alloc)?;
@@ -294,8 +294,8 @@ fn footer_with_index(alloc: Global) -> Result<Vec<u8>, Fail> {
     packet(alloc, FOOTER_KEY, &value)
 }
 
-/// A file of 594 bytes: a header partition, a body partition at 108 with an essence packet at 216, a footer partition at
-/// 336 with the segment of a hundred units at 444, and a random index pack at 534.
+/// A file of 594 bytes: a header partition, a body partition at 108 with an essence packet at 216, a footer partition
+/// at 336 with the segment of a hundred units at 444, and a random index pack at 534.
 pub fn with_index(alloc: Global) -> Result<Vec<u8>, Fail> {
     let segment = segment_value(alloc)?;
     let entries = joined(

@@ -32,8 +32,8 @@ use thiserror::Error;
 /// The causes are tested in this order: the first seven bytes, as far as there are any; byte eight, if there is one;
 /// whether there are sixteen; then for one note after another whether its fixed part of 33 bytes and, in version 2, its
 /// mark are whole (`Truncated`), whether a note can have them (`BadNote`), whether what the note holds is whole
-/// (`Truncated`), and whether the note is above the one before (`NotSorted`) and takes no head's place (`NotReduced`, in
-/// version 2 alone); then that nothing follows (`Trailing`). Memory may be found wanting between two of these tests.
+/// (`Truncated`), and whether the note is above the one before (`NotSorted`) and takes no head's place (`NotReduced`,
+/// in version 2 alone); then that nothing follows (`Trailing`). Memory may be found wanting between two of these tests.
 #[derive(Clone, Copy, Debug, PartialEq, Eq, Error)]
 pub enum FileFault {
     /// A byte that is present among the first seven isn't a catalogue file's.
@@ -45,8 +45,8 @@ pub enum FileFault {
     /// The file ends within its first sixteen bytes (place 0), or within the note at this place.
     #[error("truncated at {0}")]
     Truncated(u64),
-    /// No note has the fixed part and the mark at this place: the key is no label, the width can't spell the length, the
-    /// packet would end above [`MAX`](mxf_klv::MAX), or the mark is none.
+    /// No note has the fixed part and the mark at this place: the key is no label, the width can't spell the length,
+    /// the packet would end above [`MAX`](mxf_klv::MAX), or the mark is none.
     #[error("bad note at {0}")]
     BadNote(u64),
     /// The note at this place isn't above the one before it.
@@ -164,7 +164,8 @@ fn put_notes<W: Write>(
     progress: &mut Progress,
     writer: &mut W,
 ) -> Result<(), WriteFault>
-    ensures { Puts W.contents writer.old writer.new progress.old progress.new result (flat_map (note_bytes Two) notes.entry) }
+    ensures { Puts W.contents writer.old writer.new progress.old progress.new result (flat_map
+        (note_bytes Two) notes.entry) }
 {
     'notes: for note in notes {
         put_note(note, progress, writer)?;
@@ -188,8 +189,8 @@ pub fn bytes_are_a_file_or_refused()
         ⊎ ((fault : FileFault) × (fault ≢ faults.OutOfMemory) × IsRefused bytes fault) }
 {}
 
-/// A law: bytes are the file of one content at most, and a content has one file of a version at most. So catalogues that
-/// write equal bytes have equal contents.
+/// A law: bytes are the file of one content at most, and a content has one file of a version at most. So catalogues
+/// that write equal bytes have equal contents.
 pub fn one_file()
     ensures content { (bytes : List ℕ) (a b : List NoteParts) → IsFileOf bytes a → IsFileOf bytes b → a ≡ b }
     ensures bytes { (version : Version) (x y : List ℕ) (notes : List NoteParts)
@@ -198,8 +199,9 @@ pub fn one_file()
         → length a < 2 ^ 64 → length b < 2 ^ 64 → file_bytes a ≡ file_bytes b → a ≡ b }
 {}
 
-/// A law of the two versions of the file: a content has a file of version 2, which is what is written, and one of version
-/// 1 exactly where it has no head. Byte eight tells the version, and in a file of version 1 no note takes a head's place.
+/// A law of the two versions of the file: a content has a file of version 2, which is what is written, and one of
+/// version 1 exactly where it has no head. Byte eight tells the version, and in a file of version 1 no note takes a
+/// head's place.
 pub fn files_of_both_versions()
     ensures two { (notes : List NoteParts) → IsCatalogue notes → AreReduced notes → length notes < 2 ^ 64
         → IsFileOfVersion Two (file_bytes notes) notes }

@@ -29,8 +29,8 @@ impl From<MergeFault> for OutOfMemory {
     }
 }
 
-/// What the merging of two catalogues needs: a list for the notes of each that has disputed ones, and parts and runs for
-/// those of both.
+/// What the merging of two catalogues needs: a list for the notes of each that has disputed ones, and parts and runs
+/// for those of both.
 #[derive(Debug, Drop)]
 pub(super) struct Room {
     pub own: Vec<Note>,

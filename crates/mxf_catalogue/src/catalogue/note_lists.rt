@@ -76,7 +76,8 @@ impl NoteLists {
     pub fn end_by(&self, offset: u64) -> bool
         requires { AreKeptLists self.now.undisputed.items self.now.disputed.items self.now.disputed_spans.items }
         ensures { IsTrue result
-            ↔ ((n : NoteParts) → In n (union_of self.now.undisputed.items self.now.disputed.items) → end_of n ≤ offset) }
+            ↔ ((n : NoteParts) → In n (union_of self.now.undisputed.items self.now.disputed.items)
+            → end_of n ≤ offset) }
     {
         self.end() <= offset
     }
@@ -93,7 +94,8 @@ impl NoteLists {
     pub fn make_room(&mut self, note: &Note) -> Result<Offsets, AllocError>
         requires { AreNoteLists self.old.undisputed.items self.old.disputed.items }
         ensures same { HoldSame self.old self.new }
-        ensures moved { IfOk result (λ o. o ≡ map (λ n. n.offset) (whole_notes (touching note.now self.old.undisputed.items))) }
+        ensures moved { IfOk result (λ o. o ≡ map (λ n. n.offset) (whole_notes
+            (touching note.now self.old.undisputed.items))) }
         ensures room { OnOk result (HaveRoomFor note.now self.new) }
     {
         let moved = touched(&self.undisputed, note);
@@ -108,10 +110,12 @@ impl NoteLists {
     /// Whether a note shares no byte with those of the parts.
     fn are_apart_from(&self, note: &Note) -> bool
         requires { AreKeptLists self.now.undisputed.items self.now.disputed.items self.now.disputed_spans.items }
-        ensures far { IsTrue result → (n : NoteParts) → In n (union_of self.now.undisputed.items self.now.disputed.items)
+        ensures far { IsTrue result → (n : NoteParts) → In n (union_of self.now.undisputed.items
+            self.now.disputed.items)
             → SharesByte note.now n → ⊥ }
         ensures near { result ≡ false
-            → ((n : NoteParts) × In n (union_of self.now.undisputed.items self.now.disputed.items) × SharesByte note.now n) }
+            → ((n : NoteParts) × In n (union_of self.now.undisputed.items self.now.disputed.items)
+            × SharesByte note.now n) }
     {
         touched(&self.undisputed, note).is_empty()
             && !meets(&self.disputed_spans, note.offset(), note.end() - 1)
@@ -205,12 +209,14 @@ impl NoteLists {
     /// Puts notes into the parts, and their spans among the runs, all of which have room. Where the notes stand above
     /// all that is there, each takes a few binary searches.
     pub fn put_all(&mut self, runs: &mut Vec<Run>, notes: MergedNotes)
-        requires whole { AreCatalogueFields self.old.undisputed.items self.old.disputed.items self.old.disputed_spans.items
+        requires whole { AreCatalogueFields self.old.undisputed.items self.old.disputed.items
+            self.old.disputed_spans.items
             runs.old.items }
         requires cover { IsCover runs.old.items }
         requires room { HaveRoom (length notes) self.old }
         requires runs_room { vec_len runs.old + length notes ≤ vec_capacity runs.old }
-        ensures whole { AreCatalogueFields self.new.undisputed.items self.new.disputed.items self.new.disputed_spans.items
+        ensures whole { AreCatalogueFields self.new.undisputed.items self.new.disputed.items
+            self.new.disputed_spans.items
             runs.new.items }
         ensures cover { IsCover runs.new.items }
         ensures content { union_of self.new.undisputed.items self.new.disputed.items
@@ -223,12 +229,14 @@ impl NoteLists {
 
     /// Puts a note, held or new, into the parts, and its span among the runs.
     fn put_any(&mut self, runs: &mut Vec<Run>, note: Note)
-        requires whole { AreCatalogueFields self.old.undisputed.items self.old.disputed.items self.old.disputed_spans.items
+        requires whole { AreCatalogueFields self.old.undisputed.items self.old.disputed.items
+            self.old.disputed_spans.items
             runs.old.items }
         requires cover { IsCover runs.old.items }
         requires room { HaveRoom 1 self.old }
         requires runs_room { vec_len runs.old < vec_capacity runs.old }
-        ensures whole { AreCatalogueFields self.new.undisputed.items self.new.disputed.items self.new.disputed_spans.items
+        ensures whole { AreCatalogueFields self.new.undisputed.items self.new.disputed.items
+            self.new.disputed_spans.items
             runs.new.items }
         ensures cover { IsCover runs.new.items }
         ensures content { union_of self.new.undisputed.items self.new.disputed.items

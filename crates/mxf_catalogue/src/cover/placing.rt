@@ -94,8 +94,8 @@ fn touched(runs: &[Run], run: Run) -> (usize, usize, Run)
     (from, to, span(run, others))
 }
 
-/// Puts a run that begins where all runs of a cover have ended, or above, behind them, or grows the last by it. There is
-/// room for it.
+/// Puts a run that begins where all runs of a cover have ended, or above, behind them, or grows the last by it. There
+/// is room for it.
 fn append_run(runs: &mut Vec<Run>, run: Run)
     requires cover { IsCover runs.old.items }
     requires run { IsRun run }

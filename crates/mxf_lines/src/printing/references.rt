@@ -3,7 +3,8 @@ ghost use Rattle.std.specs.Prelude.{◌≡◌};
 ghost use Rattle.mxf_klv.specs.Written.{Puts};
 ghost use Rattle.mxf_lines.specs.Lines.{lines_where};
 ghost use Rattle.mxf_lines.specs.Printing.{Prints};
-ghost use Rattle.mxf_lines.specs.ReferenceLines.{IsRecordIn, found_lines, identification_in, lines_of_record, named_lines};
+ghost use Rattle.mxf_lines.specs.ReferenceLines.{IsRecordIn, found_lines, identification_in, lines_of_record};
+ghost use Rattle.mxf_lines.specs.ReferenceLines.{named_lines};
 ghost use Rattle.mxf_lines.specs.ReferenceLines.{lines_of_reference, package_in, record_lines, reference_lines};
 
 use super::PrintFault;

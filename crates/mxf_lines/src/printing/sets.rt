@@ -99,8 +99,8 @@ impl<'a> Series for ItemLines<'a> {
     }
 }
 
-/// The labels of a copy, by its primer pack: made once for all of its sets, since sets that follow each other are mostly
-/// of one copy.
+/// The labels of a copy, by its primer pack: made once for all of its sets, since sets that follow each other are
+/// mostly of one copy.
 #[derive(Drop)]
 struct CopyLabels {
     copy: Option<CopyInfo>,

@@ -8,8 +8,8 @@ use mxf_views::Views;
 use std::alloc::Global;
 use std::marker::Model;
 
-/// Catalogues that wait to be merged, each at least twice as long as the one behind it. So each is merged with one of about
-/// its length, and merging n notes of any number of catalogues moves each some log n times.
+/// Catalogues that wait to be merged, each at least twice as long as the one behind it. So each is merged with one of
+/// about its length, and merging n notes of any number of catalogues moves each some log n times.
 #[derive(Debug, Drop)]
 pub(super) struct Levels {
     items: Vec<Catalogue>,

@@ -15,7 +15,8 @@ fn read_once<R: Read>(
     room: &mut [u8],
 ) -> Result<Step, AllocError>
     requires { 0 < length room.old }
-    ensures { Reads (R.remaining from.old) (R.remaining from.new) bytes.old.items bytes.new.items (length room.old) result }
+    ensures { Reads (R.remaining from.old) (R.remaining from.new) bytes.old.items bytes.new.items
+        (length room.old) result }
 {
     match from.read(room) {
         Ok(0) => Ok(Step::Ended),

@@ -23,8 +23,8 @@ pub struct PartitionNumbers {
     pub previous_partition: u64,
     /// The offset of the footer partition; 0 where it isn't known.
     pub footer_partition: u64,
-    /// The bytes from the primer's key to the end of the header metadata with its trailing fill; 0 where the partition has
-    /// no header metadata.
+    /// The bytes from the primer's key to the end of the header metadata with its trailing fill; 0 where the partition
+    /// has no header metadata.
     pub header_byte_count: u64,
     /// The bytes of the index table segments.
     pub index_byte_count: u64,

@@ -40,7 +40,8 @@ impl<'a> Model for PartitionPack<'a> {
 
     ghost view = { λ p. partition_pack_parts p.part p.status p.numbers p.pattern p.containers };
 
-    ghost invariant = { λ p. ArePartitionPackParts (partition_pack_parts p.part p.status p.numbers p.pattern p.containers) };
+    ghost invariant = { λ p. ArePartitionPackParts (partition_pack_parts p.part p.status p.numbers p.pattern
+        p.containers) };
 }
 
 impl<'a> PartitionPack<'a> {

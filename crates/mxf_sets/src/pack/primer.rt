@@ -80,7 +80,8 @@ impl<'a> Primer<'a> {
 
     /// The label that the entries of the tag agree on. None where no entry has the tag, or two have different labels.
     pub fn label(&self, tag: u16) -> Option<[u8; 16]>
-        ensures agreed { MatchOption result ((l : List ℕ) → ¬ IsOnlyLabel tag self.now l) (λ l. IsOnlyLabel tag self.now l) }
+        ensures agreed { MatchOption result ((l : List ℕ) → ¬ IsOnlyLabel tag self.now l)
+            (λ l. IsOnlyLabel tag self.now l) }
         ensures computed { result ≡ label_of tag self.now }
     {
         agreed(self.labels(tag))

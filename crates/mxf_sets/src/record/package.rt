@@ -71,8 +71,8 @@ impl<'a> Model for Package<'a> {
 }
 
 impl<'a> Package<'a> {
-    /// Reads the value of a Material Package or Source Package set. The package identifier has to be there; the descriptor is
-    /// read of either kind.
+    /// Reads the value of a Material Package or Source Package set. The package identifier has to be there; the
+    /// descriptor is read of either kind.
     pub fn read(value: &'a [u8]) -> Result<Package<'a>, FieldFault>
         ensures { result ≡ package_at value.now }
     {

@@ -19,9 +19,9 @@ impl<'a> Segment<'a> {
 
     /// The place of an edit unit in the essence stream, in bytes from the stream's start.
     ///
-    /// Where edit units have a constant size the segment covers the units from its start up to its start and duration, and
-    /// all from its start on where the duration is 0. Elsewhere it covers those from its start up to its start and duration
-    /// that have an entry. None for a unit that it doesn't cover.
+    /// Where edit units have a constant size the segment covers the units from its start up to its start and duration,
+    /// and all from its start on where the duration is 0. Elsewhere it covers those from its start up to its start and
+    /// duration that have an entry. None for a unit that it doesn't cover.
     pub fn offset_of(&self, unit: u64) -> Option<u128>
         ensures { result ≡ stream_offset self.now unit }
     {

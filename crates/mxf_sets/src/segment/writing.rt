@@ -129,7 +129,8 @@ impl<'a> Segment<'a> {
         progress: &mut Progress,
         writer: &mut W,
     ) -> Result<(), WriteFault>
-        ensures { Puts W.contents writer.old writer.new progress.old progress.new result (item_bytes (entry_item self.now)) }
+        ensures { Puts W.contents writer.old writer.new progress.old progress.new result (item_bytes
+            (entry_item self.now)) }
     {
         let len = self.entries.len();
         let size = self.numbers.entry_size();

@@ -55,8 +55,8 @@ fn place_of(stop: Stop) -> Option<u64> {
     }
 }
 
-/// Tells on a terminal of each piece whose packets weren't all noted, where stops are asked for, and what to do about one that
-/// stops at its first byte.
+/// Tells on a terminal of each piece whose packets weren't all noted, where stops are asked for, and what to do about
+/// one that stops at its first byte.
 pub fn tell_stops<R: Files + Eprint + AllocGlobal>(
     rt: &R,
     sources: &[Source<'_>],

@@ -21,7 +21,8 @@ const LONGEST_FRONT: usize = 241;
 /// How often the file is tried to be made, where others make and remove it meanwhile.
 const TRIES: u32 = 16;
 
-/// A new file beside another, which no other program writes while it is open. It is removed unless it took the other's place.
+/// A new file beside another, which no other program writes while it is open. It is removed unless it took the other's
+/// place.
 pub struct PartFile<'a, R: Files<File = File>> {
     rt: &'a R,
     path: PathBuf,
@@ -32,8 +33,8 @@ pub struct PartFile<'a, R: Files<File = File>> {
 impl<'a, R: Files<File = File> + AllocGlobal> PartFile<'a, R> {
     /// Makes the file beside the one at `path`. A private one is its owner's alone.
     ///
-    /// It is made new and locked. One that stands there and that no program has locked was left by a run that was killed,
-    /// and is removed; where a program has it locked, or where files can't be locked, it is held.
+    /// It is made new and locked. One that stands there and that no program has locked was left by a run that was
+    /// killed, and is removed; where a program has it locked, or where files can't be locked, it is held.
     pub fn create(rt: &'a R, path: &PathBuf, is_private: bool) -> Result<PartFile<'a, R>, SaveFault>
         ensures { IfOk result (λ part. IsBeside (path_buf_bytes path.now) (path_buf_bytes part.path)) }
     {
@@ -121,8 +122,8 @@ fn is_at<R: Files<File = File>>(rt: &R, path: &PathBuf, file: &File) -> Result<b
     }
 }
 
-/// Removes the file at the path, unless a program has it locked, and answers whether the path is free or was it meanwhile.
-/// What isn't a regular file, or can't be locked, stays.
+/// Removes the file at the path, unless a program has it locked, and answers whether the path is free or was it
+/// meanwhile. What isn't a regular file, or can't be locked, stays.
 fn remove_left_over<R: Files<File = File>>(rt: &R, path: &PathBuf) -> Result<bool, SaveFault> {
     match fs::symlink_metadata(rt, path) {
         Ok(found) if found.is_file() => {}

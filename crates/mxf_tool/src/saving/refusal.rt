@@ -7,8 +7,8 @@ use std::fs::{self, Metadata};
 use std::io::{self, ErrorKind};
 use std::rt::Files;
 
-/// Whether a catalogue may not be saved at `path`: it is standard output, a regular file that begins with a label, or the file
-/// of a piece among the sources.
+/// Whether a catalogue may not be saved at `path`: it is standard output, a regular file that begins with a label, or
+/// the file of a piece among the sources.
 ///
 /// A file that can't be looked at is an error, since it may be a recording. Where nothing stands, nothing is lost.
 pub fn is_refused<R: Files + AllocGlobal>(

@@ -53,8 +53,8 @@ impl<'a, R: Files<File = File> + AllocGlobal> Reservation<'a, R> {
         }
     }
 
-    /// Saves the file of the catalogue. A regular file, or none, is replaced by it whole and stays so after a loss of power; at
-    /// a fault before that it is as it was. Anything else takes the bytes as they come.
+    /// Saves the file of the catalogue. A regular file, or none, is replaced by it whole and stays so after a loss of
+    /// power; at a fault before that it is as it was. Anything else takes the bytes as they come.
     ///
     /// No file is open any more when it answers, so that a line told afterwards can't go into one.
     pub fn save(self, rt: &R, catalogue: &Catalogue) -> Result<(), SaveFault> {

@@ -86,8 +86,8 @@ pub(crate) fn whole_items(value: &[u8]) -> Option<Items<'_>>
     items(value).ok()
 }
 
-/// The items of a header metadata set (ST 336, local sets), in their order. None where the note is no such set, keeps no
-/// value, or has an item that isn't whole.
+/// The items of a header metadata set (ST 336, local sets), in their order. None where the note is no such set, keeps
+/// no value, or has an item that isn't whole.
 #[tactic(auto, unfolding(crate::specs::SetItems::set_items))]
 pub fn set_items(note: &Note) -> Option<Items<'_>>
     ensures { result ≡ set_items note.now }

@@ -1,7 +1,8 @@
 //! Findings of random index packs.
 ghost use Rattle.std.specs.Prelude.{◌≡◌, ◌++◌, OnOk};
 ghost use Rattle.mxf_catalogue.specs.Disputes.{clear_notes};
-ghost use Rattle.mxf_views.specs.Findings.{ends_above, findings_for, has_other_rip, is_unfit_rip, are_entries_of, is_index_of};
+ghost use Rattle.mxf_views.specs.Findings.{ends_above, findings_for, has_other_rip, is_unfit_rip, are_entries_of};
+ghost use Rattle.mxf_views.specs.Findings.{is_index_of};
 ghost use Rattle.mxf_views.specs.RandomIndex.{rip_in};
 
 use super::Code;
@@ -63,8 +64,8 @@ fn ends_above(end: u64, notes: Notes<'_>) -> bool
     false
 }
 
-/// Whether the note has a random index pack that doesn't fit: another clear note has one too, some whole note ends above
-/// its end, or it can't be read or doesn't list the partitions.
+/// Whether the note has a random index pack that doesn't fit: another clear note has one too, some whole note ends
+/// above its end, or it can't be read or doesn't list the partitions.
 fn is_unfit_rip(views: &Views, note: &Note) -> bool
     ensures { result ≡ is_unfit_rip views.now note.now }
 {

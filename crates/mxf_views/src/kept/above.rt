@@ -1,12 +1,14 @@
 //! What is kept once notes are there that begin where all others end, or above: only what is new is counted.
-ghost use Rattle.std.specs.Prelude.{◌≡◌, ◌≤◌, ◌+◌, ◌-◌, ◌++◌, ℕ, List, IfSome, Some, count_by, filter, length, map, take, vec_len, vec_capacity};
+ghost use Rattle.std.specs.Prelude.{◌≡◌, ◌≤◌, ◌+◌, ◌-◌, ◌++◌, ℕ, List, IfSome, Some, count_by, filter, length, map};
+ghost use Rattle.std.specs.Prelude.{take, vec_len, vec_capacity};
 ghost use Rattle.std.specs.List.{AllWithin};
 ghost use Rattle.mxf_klv.specs.Parts.{NoteParts};
 ghost use Rattle.mxf_klv.specs.Rising.{In};
 ghost use Rattle.mxf_views.specs.declared.copy.CopyInfo.{CopyInfo};
 ghost use Rattle.mxf_views.specs.Copies.{CopiesRise, copies_of};
 ghost use Rattle.mxf_views.specs.Kept.{is_placed, reaches_of, states_metadata};
-ghost use Rattle.mxf_views.specs.KeptAbove.{CountsFit, EndsBy, IsOfNone, IsStarting, IsUnionAt, MeetAt, clear_from, counted_above, counted_on, started};
+ghost use Rattle.mxf_views.specs.KeptAbove.{CountsFit, EndsBy, IsOfNone, IsStarting, IsUnionAt, MeetAt, clear_from};
+ghost use Rattle.mxf_views.specs.KeptAbove.{counted_above, counted_on, started};
 
 use super::sums::{Sums, append_copies};
 use crate::copy::{CopyInfo, copy_there, start_of};
@@ -105,8 +107,8 @@ fn count_above(copies: &mut [CopyInfo], sums: &Sums<'_>, starting: Option<u64>)
     }
 }
 
-/// Follows the arrival of notes from the boundary on, where there is room: from the copies of the notes below it to those
-/// of all notes. The new notes are summed up once for all copies; those that are settled stay.
+/// Follows the arrival of notes from the boundary on, where there is room: from the copies of the notes below it to
+/// those of all notes. The new notes are summed up once for all copies; those that are settled stay.
 pub(super) fn follow_copies_above(copies: &mut Vec<CopyInfo>, settled: usize, sums: &Sums<'_>)
     requires kept { (own : List NoteParts) × IsUnionAt sums.now.boundary sums.now.notes own
         × (copies.old.items ≡ copies_of own) }

@@ -3,7 +3,8 @@ ghost use Rattle.std.specs.Prelude.{◌≡◌, ◌==◌, ◌<◌, ◌≤◌, cou
 ghost use Rattle.mxf_catalogue.specs.Disputes.{clear_notes};
 ghost use Rattle.mxf_views.specs.Copies.{CopiesRise, copies_of};
 ghost use Rattle.mxf_views.specs.KeptAbove.{clear_from};
-ghost use Rattle.mxf_views.specs.Kept.{can_bring_start, copies_followed, is_outside, may_change, renewed, states_metadata, with_copy};
+ghost use Rattle.mxf_views.specs.Kept.{can_bring_start, copies_followed, is_outside, may_change, renewed};
+ghost use Rattle.mxf_views.specs.Kept.{states_metadata, with_copy};
 
 use super::sums::{Sums, append_copies};
 use crate::copy::{CopyInfo, copy_there};

@@ -1,5 +1,6 @@
 //! What clear notes cover and how many Prefaces are among them, summed up from mark to mark for many zones.
-ghost use Rattle.std.specs.Prelude.{◌≡◌, ◌≤◌, ◌<◌, ◌+◌, ◌++◌, ◌∷◌, ◌⊎◌, ◌^◌, if◌then◌else◌, IfSome, List, [], count_by, length, vec_len, vec_capacity};
+ghost use Rattle.std.specs.Prelude.{◌≡◌, ◌≤◌, ◌<◌, ◌+◌, ◌++◌, ◌∷◌, ◌⊎◌, ◌^◌, if◌then◌else◌, IfSome, List, [], count_by};
+ghost use Rattle.std.specs.Prelude.{length, vec_len, vec_capacity};
 ghost use Rattle.std.specs.List.{filter_map};
 ghost use Rattle.std.specs.List.Sorted.{IsNonDecreasingBy};
 ghost use Rattle.mxf_klv.specs.Parts.{NoteParts};
@@ -86,8 +87,8 @@ impl<'a> Sums<'a> {
         self.boundary
     }
 
-    /// What the clear notes that lie wholly in a range cover, and how many Prefaces are among them: a few binary searches,
-    /// and a walk over the notes before the first mark in the range and behind the last.
+    /// What the clear notes that lie wholly in a range cover, and how many Prefaces are among them: a few binary
+    /// searches, and a walk over the notes before the first mark in the range and behind the last.
     pub fn counts(&self, start: u64, bytes: u64) -> Counts
         requires { self.now.boundary ≤ start }
         ensures covered { result.covered ≡ covered_of start bytes (clear_notes self.now.notes) }

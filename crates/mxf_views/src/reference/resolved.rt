@@ -5,7 +5,8 @@ ghost use Rattle.mxf_catalogue.specs.Content.{IsContent};
 ghost use Rattle.std.specs.Option.{option_copied};
 ghost use Rattle.mxf_views.specs.Copies.{is_preface_note, sets_of};
 ghost use Rattle.mxf_views.specs.References.{has_uid};
-ghost use Rattle.mxf_views.specs.Resolved.{ResolvedParts, preface_in, resolved_by, resolved_of, storage_among, storage_in};
+ghost use Rattle.mxf_views.specs.Resolved.{ResolvedParts, preface_in, resolved_by, resolved_of, storage_among};
+ghost use Rattle.mxf_views.specs.Resolved.{storage_in};
 ghost use Rattle.mxf_views.specs.ResolvedView.{IsResolved};
 
 use crate::copy::sets::Sets;
@@ -43,7 +44,14 @@ impl Model for Resolved {
 
     ghost Value = { ResolvedParts };
 
-    ghost view = { λ r. record { partition = r.partition; preface = r.preface; storage = r.storage; identifications = r.identifications; packages = r.packages } };
+    ghost view = { λ r. record {
+      partition = r.partition;
+      preface = r.preface;
+      storage = r.storage;
+      identifications =
+          r.identifications;
+      packages = r.packages;
+    } };
 }
 
 /// The first Preface of the sets.

@@ -13,5 +13,6 @@ returns c =
     let end = c.loop-note-test.false in
     let none = drop_all c.loop-note.note-index notes (omega (arith, end)) in
     let all : c.loop-note.spans ≡ union_of_runs [] (map covered_run notes) =
-    sym (ap (λ (l : List NoteParts). union_of_runs c.loop-note.spans (map covered_run l)) none) ∙ c.loop-note.invariant in
+    sym (ap (λ (l : List NoteParts). union_of_runs c.loop-note.spans (map covered_run l)) none)
+    ∙ c.loop-note.invariant in
     subst (λ (runs : List Run). Covers runs notes) (sym all) (covers_all notes)

@@ -1,5 +1,6 @@
 //! A note in a file: its fixed part, its mark, and what it holds.
-ghost use Rattle.std.specs.Prelude.{◌≡◌, ◌+◌, ◌++◌, ◌∷◌, [], ◌<◌, ◌≤◌, ℕ, List, IfErr, IfNone, IfOk, IfSome, length, true, false};
+ghost use Rattle.std.specs.Prelude.{◌≡◌, ◌+◌, ◌++◌, ◌∷◌, [], ◌<◌, ◌≤◌, ℕ, List, IfErr, IfNone, IfOk, IfSome, length};
+ghost use Rattle.std.specs.Prelude.{true, false};
 ghost use Rattle.mxf_klv.specs.Note.{keeps};
 ghost use Rattle.mxf_klv.specs.Written.{Puts};
 ghost use Rattle.mxf_catalogue.specs.CatalogueFile.{BeginsWithMark, BeginsWithNote, CanBeNoted, IsFixedPart};

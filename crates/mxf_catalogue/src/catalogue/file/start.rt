@@ -2,7 +2,8 @@
 ghost use Rattle.std.specs.Prelude.{◌≡◌, ◌++◌, ◌<◌, ◌^◌, ◌↔◌, IfErr, IfOk, IsTrue, MatchOption};
 ghost use Rattle.mxf_klv.specs.Written.{Puts};
 ghost use Rattle.mxf_catalogue.specs.declared.catalogue.file.start.Version.TheVariants.{Two};
-ghost use Rattle.mxf_catalogue.specs.CatalogueFile.{BeginsAsFile, IsRefused, IsUnknownVersion, start_bytes, version_byte};
+ghost use Rattle.mxf_catalogue.specs.CatalogueFile.{BeginsAsFile, IsRefused, IsUnknownVersion, start_bytes};
+ghost use Rattle.mxf_catalogue.specs.CatalogueFile.{version_byte};
 
 use super::FileFault;
 use super::fixed_part::split_number;

@@ -17,7 +17,8 @@ pub returns-in_default : goal.returns-in_default
 returns-in_default g c =
     let parted = IsPartitionedBy-leb g.T.Keyed.key _ c.args.bound c.requires in
     let point = IsPartitionPoint-from_clause
-    (λ x. nat_le (g.T.Keyed.key x) c.args.bound) _ _ c.partition_point.ensures.partitioned parted (λ a r q k. search rules) in
+    (λ x. nat_le (g.T.Keyed.key x) c.args.bound) _ _ c.partition_point.ensures.partitioned parted
+    (λ a r q k. search rules) in
     record {
       bound = c.partition_point.ensures.bound;
       below = λ k d l h. leb-true _ _ (point.0 k d l h);

@@ -45,8 +45,8 @@ impl<'a> fmt::Display for ValueText<'a> {
     }
 }
 
-/// The line of an item of the set at an offset, in bytes: its tag, the length of its value, the label of the tag, and the
-/// first bytes of its value.
+/// The line of an item of the set at an offset, in bytes: its tag, the length of its value, the label of the tag, and
+/// the first bytes of its value.
 #[derive(Drop)]
 pub struct ItemLine<'a> {
     pub offset: u64,

@@ -9,8 +9,8 @@ use mxf_catalogue::{Catalogue, Notes};
 use mxf_klv::Note;
 use std::marker::Model;
 
-/// A note: its offset in bytes, its kind, the width and value of its length, its key, whether it is a head, and whether it
-/// is disputed.
+/// A note: its offset in bytes, its kind, the width and value of its length, its key, whether it is a head, and whether
+/// it is disputed.
 #[derive(Clone, Copy)]
 pub struct NoteLine<'a> {
     note: &'a Note,

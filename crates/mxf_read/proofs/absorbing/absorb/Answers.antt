@@ -13,7 +13,8 @@ returns-in_err-merge_notes-clause-absorbs c =
     rw c.new-piece.ensures at step.ensures in
     let refused = c.in_err-merge_notes.ensures in
     rw (p.1, p.2, refused.fault)
-    (absorbs_none c.args.views.now step.new.catalogue c.merge_notes.new.views c.args.offset c.args.bytes.now step.result own
+    (absorbs_none c.args.views.now step.new.catalogue c.merge_notes.new.views c.args.offset c.args.bytes.now step.result
+    own
     refused.some refused.err)
 
 pub returns-in_err-merge_notes-clause-history : goal.returns-in_err-merge_notes-clause-history
@@ -26,10 +27,12 @@ returns-clause-absorbs c =
     let step = c.note_packets-absorbed in
     let own : Absorbs [] step.new.catalogue c.args.offset c.args.bytes.now step.result =
     rw c.new-piece.ensures at step.ensures in
-    absorbs_merged c.args.views.now step.new.catalogue c.merge_notes.new.views c.args.offset c.args.bytes.now step.result own
+    absorbs_merged c.args.views.now step.new.catalogue c.merge_notes.new.views c.args.offset c.args.bytes.now
+    step.result own
     c.in_ok-merge_notes.ensures.merged
 
 pub returns-clause-history : goal.returns-clause-history
 returns-clause-history c h =
-    content_with h c.args.views.now c.merge_notes.new.views c.args.offset c.args.bytes.now c.note_packets-absorbed.result
+    content_with h c.args.views.now c.merge_notes.new.views c.args.offset c.args.bytes.now
+    c.note_packets-absorbed.result
     (returns-clause-absorbs c)

@@ -14,4 +14,5 @@ returns-in-Err-OutOfMemory-clause-taken g c = λ o start.
 pub returns-in-Err-ReadFault-clause-taken : goal.returns-in-Err-ReadFault-clause-taken
 returns-in-Err-ReadFault-clause-taken g c = λ o start.
     filled_fault o c.args.limit _ _ c.args.piece.now c.read_all.new.piece _ _ start
-    (rw c.in-Err-ReadFault.field-0-is at c.in-Err-ReadFault.ensures.bytes) c.noted-in-Err-ReadFault.ensures c.at-in-Err-ReadFault.ensures
+    (rw c.in-Err-ReadFault.field-0-is at c.in-Err-ReadFault.ensures.bytes) c.noted-in-Err-ReadFault.ensures
+    c.at-in-Err-ReadFault.ensures

@@ -9,12 +9,16 @@ returns-then-len-gt-GREATEST_SAVED-clause-fault g c =
 pub returns-in-Ok-clause-saved : goal.returns-in-Ok-clause-saved
 returns-in-Ok-clause-saved g c =
     let o = g.R.Read.remaining c.args.from.now in
-    saved_read o c.in_ok-bytes.bytes.items c.deref.result.now c.in-Ok.saved (whole o c.in_ok-bytes.bytes.items c.in_ok-bytes.ensures.bytes (omega arith)) c.deref.ensures.value c.in-Ok.ensures.reads
+    saved_read o c.in_ok-bytes.bytes.items c.deref.result.now c.in-Ok.saved
+    (whole o c.in_ok-bytes.bytes.items c.in_ok-bytes.ensures.bytes
+    (omega arith)) c.deref.ensures.value c.in-Ok.ensures.reads
 
 pub returns : goal.returns
 returns g c =
     let o = g.R.Read.remaining c.args.from.now in
     record {
       saved = tt;
-      fault = saved_refused o c.in_ok-bytes.bytes.items c.deref.result.now c.in-Err.fault c.saved_fault.result (whole o c.in_ok-bytes.bytes.items c.in_ok-bytes.ensures.bytes (omega arith)) c.deref.ensures.value c.in-Err.ensures.reads c.saved_fault.ensures;
+      fault = saved_refused o c.in_ok-bytes.bytes.items c.deref.result.now c.in-Err.fault c.saved_fault.result
+          (whole o c.in_ok-bytes.bytes.items c.in_ok-bytes.ensures.bytes
+          (omega arith)) c.deref.ensures.value c.in-Err.ensures.reads c.saved_fault.ensures;
     }

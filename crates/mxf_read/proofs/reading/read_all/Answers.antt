@@ -37,7 +37,8 @@ returns-in-Ok-Ended-clause-bytes g c =
       inl (inr end),
     )
 
-pub returns-then-interruptions-ge-GREATEST_INTERRUPTIONS-clause-bytes : goal.returns-then-interruptions-ge-GREATEST_INTERRUPTIONS-clause-bytes
+pub returns-then-interruptions-ge-GREATEST_INTERRUPTIONS-clause-bytes :
+    goal.returns-then-interruptions-ge-GREATEST_INTERRUPTIONS-clause-bytes
 returns-then-interruptions-ge-GREATEST_INTERRUPTIONS-clause-bytes g c =
     let (done, counted, consumed, fed, repeats, grows, reads) = c.reads.invariant in
     let (kept, same) = rw c.in-Ok-Interrupted.field-0-is at c.in-Ok-Interrupted.ensures.bytes in

@@ -1,5 +1,4 @@
-use Rattle.mxf_views.proofs.Common.{◌∙◌, ap, subst, sym, list_any, nat_cmp, IsRising, is_placed}
-use Rattle.mxf_views.specs.Kept.{lies_between}
+use Rattle.mxf_views.proofs.Common.{◌∙◌, ap, subst, sym, list_any, nat_cmp, IsRising, is_placed, lies_between}
 use Rattle.mxf_views.proofs.ClearChanges.{offsets_rise}
 use Rattle.mxf_views.proofs.OffsetSearch.{between_offsets}
 use Rattle.mxf_views.specs.declared.kept.offsets.Placed.TheVariants as kinds

@@ -10,4 +10,5 @@ returns-in_err-clear_at c =
 pub returns : goal.returns
 returns c =
     c.partition_at.ensures
-    ∙ there_by_note c.args.catalogue.now c.args.offset (Some c.in_ok-clear_at.field-0.now) c.in_ok-clear_at.ensures.first
+    ∙ there_by_note c.args.catalogue.now c.args.offset (Some c.in_ok-clear_at.field-0.now)
+    c.in_ok-clear_at.ensures.first

@@ -1,5 +1,4 @@
-use Rattle.mxf_views.proofs.Common.{sym, subst}
-use Rattle.mxf_views.specs.WholeFile.{HasCopiesOf}
+use Rattle.mxf_views.proofs.Common.{sym, subst, HasCopiesOf}
 use Rattle.mxf_views.proofs.LaidCopies.{copies-laid}
 use Rattle.mxf_views.proofs.whole_file.whole_files_have_their_copies.Goals as goal
 

@@ -1,5 +1,4 @@
-use Rattle.mxf_views.proofs.Common.{sym, subst}
-use Rattle.mxf_views.specs.WholeFile.{HasIndexOf}
+use Rattle.mxf_views.proofs.Common.{sym, subst, HasIndexOf}
 use Rattle.mxf_views.proofs.LaidIndex.{index-laid}
 use Rattle.mxf_views.proofs.whole_file.whole_files_have_their_index.Goals as goal
 

@@ -1,5 +1,4 @@
-use Rattle.mxf_views.proofs.Common.{subst, sym}
-use Rattle.mxf_views.specs.WholeFile.{HasPartitionsOf}
+use Rattle.mxf_views.proofs.Common.{subst, sym, HasPartitionsOf}
 use Rattle.mxf_views.proofs.LaidPartitions.{partitions-laid}
 use Rattle.mxf_views.proofs.whole_file.whole_files_have_their_partitions.Goals as goal
 

@@ -55,7 +55,8 @@ returns-then-tell-clause-added c =
     let parts = c.self.inside.parts in
     let all = subst IsCatalogue c.self.view_is
     (union_is parts.undisputed.items parts.disputed.items c.self.invariant.kept.parts) in
-    let held = subst (λ (l : List NoteParts). has_note l c.args.note) c.self.view_is (c.tell.ensures.0 c.if-tell.true) in
+    let held = subst (λ (l : List NoteParts). has_note l c.args.note) c.self.view_is
+    (c.tell.ensures.0 c.if-tell.true) in
     let red = subst AreReduced c.self.view_is c.self.invariant.kept.reduced in
     sym (reduced_with-present c.args.note c.args.self.now all.content red held)
 

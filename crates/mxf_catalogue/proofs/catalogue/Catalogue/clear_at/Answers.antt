@@ -50,7 +50,8 @@ none_there cs ds notes some offset p v same none n h =
 pub returns-in_err-note-clause-none : goal.returns-in_err-note-clause-none
 returns-in_err-note-clause-none c =
     let parts = c.self.inside.parts in
-    rw c.from_residual.ensures (none_there parts.undisputed.items parts.disputed.items c.args.self.now c.deref.result.now
+    rw c.from_residual.ensures (none_there parts.undisputed.items parts.disputed.items c.args.self.now
+    c.deref.result.now
     c.args.offset c.self.invariant.kept.parts c.self.view_is c.deref.ensures.value c.in_err-note.ensures.none)
 
 pub returns-in_err-note-clause-first : goal.returns-in_err-note-clause-first
@@ -76,7 +77,8 @@ pub returns-else-is_head-clause-found : goal.returns-else-is_head-clause-found
 returns-else-is_head-clause-found c =
     let parts = c.self.inside.parts in
     let m = c.in_ok-note.note.now in (
-      clear_there parts.undisputed.items parts.disputed.items c.args.self.now m c.self.invariant.kept.parts c.self.view_is
+      clear_there parts.undisputed.items parts.disputed.items c.args.self.now m c.self.invariant.kept.parts
+          c.self.view_is
           (subst (In m) c.deref.ensures.value c.in_ok-note.ensures.found.0)
           (is_whole m.whole (sym c.is_head.ensures ∙ c.if-is_head.false)),
       c.in_ok-note.ensures.found.1,

@@ -18,7 +18,8 @@ returns-clause-notes c =
     c.of.ensures.notes ∙ ap whole_notes c.touched.ensures
     ∙ sym (filter-both (λ n. is_byte_shared c.args.note.now n) (λ n. n.whole) c.deref.result.now)
     ∙ ap (touching c.args.note.now) (ap whole_notes c.deref.ensures.value
-    ∙ clear_part parts.undisputed.items parts.disputed.items c.self.invariant.kept.parts ∙ ap clear_notes c.self.view_is)
+    ∙ clear_part parts.undisputed.items parts.disputed.items c.self.invariant.kept.parts
+    ∙ ap clear_notes c.self.view_is)
 
 pub returns-clause-catalogue : goal.returns-clause-catalogue
 returns-clause-catalogue c =

@@ -17,10 +17,12 @@ returns-then-eq-clause-members c =
     c.eq-then-eq.ensures in
     let same = λ (h : c.eq-then-eq.result ≡ true).
     sym c.self.view_is ∙ (λ i. union_of (first i) (d.0 h i)) ∙ c.other.view_is in
-    let back = same_parts a.undisputed.items a.disputed.items b.undisputed.items b.disputed.items c.self.invariant.kept.parts
+    let back = same_parts a.undisputed.items a.disputed.items b.undisputed.items b.disputed.items
+    c.self.invariant.kept.parts
     c.other.invariant.kept.parts in (
       λ h (m : NoteParts). (subst (λ l. has_note l m) (same h), subst (λ l. has_note l m) (sym (same h))),
-      λ k. d.1 (back (same_members (union_of a.undisputed.items a.disputed.items) (union_of b.undisputed.items b.disputed.items)
+      λ k. d.1 (back (same_members (union_of a.undisputed.items a.disputed.items)
+          (union_of b.undisputed.items b.disputed.items)
           c.self.invariant.kept.reduced c.other.invariant.kept.reduced (λ m. (
             λ h. subst (λ l. has_note l m) (sym c.other.view_is) ((k m).0 (subst (λ l. has_note l m) c.self.view_is h)),
             λ h. subst (λ l. has_note l m) (sym c.self.view_is) ((k m).1 (subst (λ l. has_note l m) c.other.view_is h)),
@@ -45,10 +47,12 @@ returns-else-eq-clause-members c =
     let a = c.self.inside.parts in
     let b = c.other.inside.parts in
     let d = slice_eq-Decides same_note-Decides a.undisputed.items b.undisputed.items c.eq.result c.eq.ensures in
-    let back = same_parts a.undisputed.items a.disputed.items b.undisputed.items b.disputed.items c.self.invariant.kept.parts
+    let back = same_parts a.undisputed.items a.disputed.items b.undisputed.items b.disputed.items
+    c.self.invariant.kept.parts
     c.other.invariant.kept.parts in (
       λ h. let f = c.if-eq.false in cc (h, f),
-      λ k. d.1 (back (same_members (union_of a.undisputed.items a.disputed.items) (union_of b.undisputed.items b.disputed.items)
+      λ k. d.1 (back (same_members (union_of a.undisputed.items a.disputed.items)
+          (union_of b.undisputed.items b.disputed.items)
           c.self.invariant.kept.reduced c.other.invariant.kept.reduced (λ m. (
             λ h. subst (λ l. has_note l m) (sym c.other.view_is) ((k m).0 (subst (λ l. has_note l m) c.self.view_is h)),
             λ h. subst (λ l. has_note l m) (sym c.self.view_is) ((k m).1 (subst (λ l. has_note l m) c.other.view_is h)),

@@ -14,14 +14,16 @@ returns-in_err-note-clause-fault c =
     let p = err_from_is_err_and c.from_residual.result c.from_residual.ensures.1 in
     let i = c.loop-i.invariant in
     rw (p.1, p.2)
-    (note_fault c.args.start.version c.args.bytes.now c.loop-i.rest.now c.args.start.count _ c.loop-i.notes.items c.in_err-note.field-0.0
+    (note_fault c.args.start.version c.args.bytes.now c.loop-i.rest.now c.args.start.count _ c.loop-i.notes.items
+    c.in_err-note.field-0.0
     i.front (omega (arith, i.counted, c.loop-i-test.true)) refl c.in_err-note.ensures.fault)
 
 pub returns-then-not-is_above-clause-fault : goal.returns-then-not-is_above-clause-fault
 returns-then-not-is_above-clause-fault c =
     let i = c.loop-i.invariant in
     let n = c.in_ok-note.note in
-    stops c.args.start.version c.args.bytes.now c.loop-i.rest.now c.args.start.count _ c.loop-i.notes.items _ i.front refl (
+    stops c.args.start.version c.args.bytes.now c.loop-i.rest.now c.args.start.count _ c.loop-i.notes.items _ i.front
+    refl (
       omega (arith, i.counted, c.loop-i-test.true),
       (
         n,
@@ -36,7 +38,8 @@ returns-then-not-is_above-clause-fault c =
 pub returns-then-not-is_empty-clause-fault : goal.returns-then-not-is_empty-clause-fault
 returns-then-not-is_empty-clause-fault c =
     let i = c.loop-i.invariant in
-    stops c.args.start.version c.args.bytes.now c.loop-i.rest.now c.args.start.count _ c.loop-i.notes.items _ i.front refl (
+    stops c.args.start.version c.args.bytes.now c.loop-i.rest.now c.args.start.count _ c.loop-i.notes.items _ i.front
+    refl (
       omega (arith, i.counted, c.loop-i-test.false),
       is_some (length c.loop-i.rest.now) (sym c.if-not-is_empty.true ∙ c.is_empty.ensures),
     )
@@ -45,7 +48,8 @@ pub returns-then-replaces_last-clause-fault : goal.returns-then-replaces_last-cl
 returns-then-replaces_last-clause-fault c =
     let i = c.loop-i.invariant in
     let n = c.in_ok-note.note in
-    stops c.args.start.version c.args.bytes.now c.loop-i.rest.now c.args.start.count _ c.loop-i.notes.items _ i.front refl (
+    stops c.args.start.version c.args.bytes.now c.loop-i.rest.now c.args.start.count _ c.loop-i.notes.items _ i.front
+    refl (
       omega (arith, i.counted, c.loop-i-test.true),
       (
         n,
@@ -71,8 +75,10 @@ loop-i-preserved c =
     (λ front l e t. none (front, e ∙ ap (λ h. front ++ h ∷ []) (sym t))) in
     let items = c.in_ok-push.ensures.items in
     record {
-      front = subst (λ (l : List NoteParts). IsFront c.args.start.version c.args.bytes.now c.args.start.count l c.in_ok-note.after.now) (sym items)
-          (front_next c.args.start.version c.args.bytes.now c.loop-i.rest.now c.in_ok-note.after.now c.args.start.count notes n i.front
+      front = subst (λ (l : List NoteParts). IsFront c.args.start.version c.args.bytes.now c.args.start.count l
+          c.in_ok-note.after.now) (sym items)
+          (front_next c.args.start.version c.args.bytes.now c.loop-i.rest.now c.in_ok-note.after.now c.args.start.count
+          notes n i.front
           (omega (arith, i.counted, c.loop-i-test.true)) c.in_ok-note.ensures.note rises red);
       counted = ap length items ∙ length-append notes (n ∷ []) ∙ ap (λ k. k + 1) i.counted;
     }

@@ -12,7 +12,8 @@ returns-in-Some-clause-below c j d l h =
     let k = length xs - 1 in
     let e = sym c.in-Some.ensures.value in
     let at = get_or_from_slice_get xs k c.in-Some.last.now d e in
-    let up = ends_rise xs c.requires.content c.requires.apart j k d (omega arith) (slice_get_within xs k c.in-Some.last.now e) in
+    let up = ends_rise xs c.requires.content c.requires.apart j k d (omega arith)
+    (slice_get_within xs k c.in-Some.last.now e) in
     omega (arith, up, ap end_of at, c.if-end-offset.true, c.end.ensures)
 
 pub returns-in_default : goal.returns-in_default

@@ -6,7 +6,8 @@ use Rattle.mxf_catalogue.specs.Covers.{with_run}
 use Rattle.mxf_catalogue.specs.Runs.{run}
 use Rattle.mxf_catalogue.proofs.CoverLaws.{last_end, with_run_behind, with_run_first, with_run_grown}
 use Rattle.mxf_catalogue.proofs.cover.placing.append_run.Goals as goal
-use Rattle.mxf_catalogue.proofs.cover.placing.append_run.Goals.{in_default-via-in-Some+else-last-run, in_default-via-in_default}
+use Rattle.mxf_catalogue.proofs.cover.placing.append_run.Goals.{in_default-via-in-Some+else-last-run}
+use Rattle.mxf_catalogue.proofs.cover.placing.append_run.Goals.{in_default-via-in_default}
 
 pub returns-in-Some-clause-items : goal.returns-in-Some-clause-items
 returns-in-Some-clause-items c =
@@ -14,7 +15,8 @@ returns-in-Some-clause-items c =
     let last = c.in-Some.last.now in
     let own = c.index_mut.result.now in
     let count = c.len-count.ensures ∙ sym c.deref.ensures.len ∙ ap length c.deref.ensures.value in
-    let at = subst (λ (l : List Run). slice_get l (length l - 1) ≡ Some last) c.deref.ensures.value (sym c.in-Some.ensures.value) in
+    let at = subst (λ (l : List Run). slice_get l (length l - 1)
+    ≡ Some last) c.deref.ensures.value (sym c.in-Some.ensures.value) in
     let there : own ≡ get_or runs (length runs - 1) own =
     subst (λ (k : ℕ). own ≡ get_or runs (k - 1) own) count c.index_mut.ensures.value in
     let same = there ∙ get_or_from_slice_get runs (length runs - 1) last own at in
@@ -29,12 +31,14 @@ returns-in_default-clause-items c =
     c.push_reserved.ensures.items ∙ elim c.in_default.branch [
       | in_default-via-in-Some+else-last-run w ↦
           let last = w.in-Some.last.now in
-          let at = subst (λ (l : List Run). slice_get l (length l - 1) ≡ Some last) c.deref.ensures.value (sym w.in-Some.ensures.value) in
+          let at = subst (λ (l : List Run). slice_get l (length l - 1)
+          ≡ Some last) c.deref.ensures.value (sym w.in-Some.ensures.value) in
           let within = slice_get_within runs (length runs - 1) last at in
           let low = (last_end runs last c.requires.cover.maximal at c.args.run.start).1 c.requires.above in
           let apart = w.if-last-run.false in
           with_run_behind 0 (length runs - 1) c.args.run last runs c.requires.cover.maximal (omega (arith, within))
           (get_or_from_slice_get runs (length runs - 1) last last at) (omega (arith, low, apart)) c.requires.run.order
       | in_default-via-in_default w ↦
-          with_run_first c.args.run runs (subst (λ (l : List Run). None ≡ slice_get l (length l - 1)) c.deref.ensures.value w.in_default.ensures.value)
+          with_run_first c.args.run runs (subst (λ (l : List Run). None
+          ≡ slice_get l (length l - 1)) c.deref.ensures.value w.in_default.ensures.value)
     ]

@@ -19,10 +19,12 @@ returns-clause-lines g c =
     let label = ap (λ (label : Option (List ℕ)). item_line at label item ∷ item_lines at primer c.next.new.self) told in
     let first = ap (item_lines at primer) (sym c.in-Some-next.ensures.steps) in
     let offset = ap (λ (at : ℕ). item_lines at primer c.in-Some.items) c.offset-offset.ensures.offset in
-    let copy = ap (λ (copy : Option CopyInfo). item_lines c.args.note.now.offset (option_and_then (primer_of views) copy)
+    let copy = ap (λ (copy : Option CopyInfo). item_lines c.args.note.now.offset (option_and_then
+    (primer_of views) copy)
     c.in-Some.items) (c.in_ok-turn_to.ensures.turned ∙ c.copy_with.ensures) in
     let items = ap (λ (items : Option (List ItemParts)). lines_of_items c.args.note.now.offset
     (primer_for views c.args.note.now) items) (sym c.in-Some.is ∙ c.set_items.ensures) in
     subst (Prints (Puts {X = Unit {0}} g.W.Write.contents c.args.writer.now c.print_to.new.writer
-    c.args.printer.now.progress c.print_to.new.printer.progress) c.print_to.result) (label ∙ (first ∙ (offset ∙ (copy ∙ items))))
+    c.args.printer.now.progress c.print_to.new.printer.progress) c.print_to.result) (label ∙ (first ∙ (offset ∙ (copy
+    ∙ items))))
     c.print_to.ensures

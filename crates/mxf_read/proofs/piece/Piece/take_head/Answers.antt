@@ -15,7 +15,8 @@ returns-in_ok-go_on-in-Ok-clause-fed c =
     let empty : p.head.items ≡ [] =
     nil_from p.head.items p.head.len p.head.ok.0 (sym c.is_empty.ensures ∙ c.if-not-is_empty.false) in
     let items : bytes ≡ p.head.items ++ take (length bytes) bytes =
-    sym (take_all (length bytes) bytes (omega arith)) ∙ ap (λ (held : _). held ++ take (length bytes) bytes) (sym empty) in
+    sym (take_all (length bytes) bytes (omega arith)) ∙ ap (λ (held : _). held
+    ++ take (length bytes) bytes) (sym empty) in
     let now : IsHeadNow p.head.items bytes v.key v.ber =
     head_whole p bytes bytes bytes _ (length bytes) _ v c.requires.fed c.requires.goes_on c.requires.head refl items
     c.in-Ok.ensures.head made.key made.length in

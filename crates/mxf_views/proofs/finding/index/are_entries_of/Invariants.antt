@@ -1,5 +1,4 @@
-use Rattle.mxf_views.proofs.Common.{◌≡◌}
-use Rattle.mxf_views.specs.Findings.{are_entries_of}
+use Rattle.mxf_views.proofs.Common.{◌≡◌, are_entries_of}
 use Rattle.mxf_views.proofs.finding.index.are_entries_of.Given as goal
 
 abbrev pub invariant-loop-partition : goal.invariant-loop-partition

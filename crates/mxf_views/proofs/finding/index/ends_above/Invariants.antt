@@ -1,5 +1,4 @@
-use Rattle.mxf_views.proofs.Common.{◌≡◌}
-use Rattle.mxf_views.specs.Findings.{ends_above}
+use Rattle.mxf_views.proofs.Common.{◌≡◌, ends_above}
 use Rattle.mxf_views.proofs.finding.index.ends_above.Given as goal
 
 abbrev pub invariant-loop-note : goal.invariant-loop-note

@@ -1,5 +1,4 @@
-use Rattle.mxf_views.proofs.Common.{◌≡◌, List, [], IsRising, Pair, pair_cmp, place_by}
-use Rattle.mxf_views.specs.Places.{pairs_with}
+use Rattle.mxf_views.proofs.Common.{◌≡◌, List, [], IsRising, Pair, pair_cmp, place_by, pairs_with}
 use Rattle.mxf_views.proofs.index.Segments.place_of.Given as goal
 
 -- the pairs so far, and with those to come

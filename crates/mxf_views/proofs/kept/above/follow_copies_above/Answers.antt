@@ -1,8 +1,7 @@
 use Rattle.mxf_views.proofs.Common.{◌≡◌, ◌<◌, ◌^◌, ◌∙◌, ◌++◌, ◌-◌, List, ap, arith, drop, get_or, length, map, subst}
 use Rattle.mxf_views.proofs.Common.{sym, take, AllWithin, filter_map, length-map, NoteParts, In, clear_notes, CopyInfo}
-use Rattle.mxf_views.proofs.Common.{CopiesRise, copy_by, clear_from, counted_above}
+use Rattle.mxf_views.proofs.Common.{CopiesRise, copy_by, clear_from, counted_above, IsOfNone, IsStarting}
 use Rattle.std.proofs.lemmas.List.{length-drop}
-use Rattle.mxf_views.specs.KeptAbove.{IsOfNone, IsStarting}
 use Rattle.mxf_views.proofs.AboveCopies.{copies_at, fits_at, stays_above}
 use Rattle.mxf_views.proofs.CopyLaws.{copies_rise}
 use Rattle.mxf_klv.proofs.ListSteps.{in_rest, map_rest, rest_taken, rest_written}
@@ -37,13 +36,15 @@ returns-clause-copies c =
     let last = subst (λ (l : List CopyInfo). IsOfNone l (length l - 1) starting) c.deref.ensures.value told.last in
     let can_start = subst (λ (l : List CopyInfo). IsStarting notes b l starting) c.deref.ensures.value
     (subst (λ ns. IsStarting ns b c.deref.result.now starting) c.catalogue-2.ensures
-    (subst (λ o. IsStarting c.catalogue-2.result.now o c.deref.result.now starting) c.boundary.ensures told.starting)) in
+    (subst (λ o. IsStarting c.catalogue-2.result.now o c.deref.result.now starting) c.boundary.ensures told.starting))
+    in
     let whole = c.args.copies.now.ok.0 in
     let few = c.requires.bound in
     let stay : AllWithin (λ d. count d ≡ d) old 0 at =
     λ i d from below. stays_above notes b starting (get_or old i d) (c.requires.ended i d from below)
     (last i d from (omega (arith, below, few, whole))) in
-    let counted = c.count_above.ensures ∙ ap (map count) (rest_taken lent at ∙ ap (drop at) c.deref_mut.ensures.value) in
+    let counted = c.count_above.ensures ∙ ap (map count) (rest_taken lent at
+    ∙ ap (drop at) c.deref_mut.ensures.value) in
     let rest = length-map (drop at old) count in
     let size = length-drop at old in
     c.append_copies.ensures.copies

@@ -1,5 +1,4 @@
-use Rattle.mxf_views.proofs.Common.{◌≡◌, ◌∙◌, ap, subst, sym, max}
-use Rattle.std.specs.Prelude.{min}
+use Rattle.mxf_views.proofs.Common.{◌≡◌, ◌∙◌, ap, subst, sym, max, min}
 use Rattle.mxf_views.proofs.ClearChanges.{HullSoFar, hull_of_all, hull_of_one, hull_with}
 use Rattle.mxf_views.proofs.kept.arrival.hull.Goals as goal
 

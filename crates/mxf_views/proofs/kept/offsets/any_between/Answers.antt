@@ -17,4 +17,5 @@ pub returns-in-None : goal.returns-in-None
 returns-in-None c =
     let at = c.up_to in
     sym (none_between c.args.low c.args.high c.args.offsets.now at.result
-    (ltb-false at.result (length c.args.offsets.now) (sym c.in-None.ensures.lookup.0)) at.ensures.below at.ensures.bound)
+    (ltb-false at.result (length c.args.offsets.now) (sym c.in-None.ensures.lookup.0)) at.ensures.below
+    at.ensures.bound)

@@ -1,5 +1,4 @@
-use Rattle.mxf_views.proofs.Common.{rules}
-use Rattle.std.proofs.lemmas.Fn.{filter_same}
+use Rattle.mxf_views.proofs.Common.{rules, filter_same}
 use Rattle.mxf_views.proofs.kept.offsets.leave.Goals as goal
 
 pub returns-clause-items : goal.returns-clause-items

@@ -1,9 +1,6 @@
 use Rattle.mxf_views.proofs.Common.{sym, ◌∙◌, ap, subst, nat_cmp-IsAntisymmetric, insert, nat_cmp, OnOk, nat_cmp_total}
-use Rattle.mxf_views.proofs.Common.{In, IsRising, with_one}
-use Rattle.std.specs.Prelude.{IfErr}
-use Rattle.mxf_klv.specs.Rising.{IsPlaceOf}
+use Rattle.mxf_views.proofs.Common.{In, IsRising, with_one, IfErr, IsPlaceOf, search_says}
 use Rattle.mxf_klv.proofs.RisingLemmas.{with_one_present}
-use Rattle.mxf_catalogue.proofs.Places.{search_says}
 use Rattle.mxf_views.proofs.kept.offsets.put_offset.Goals as goal
 
 pub returns-in-Ok : goal.returns-in-Ok

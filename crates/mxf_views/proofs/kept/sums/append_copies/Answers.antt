@@ -1,6 +1,7 @@
 use Rattle.mxf_views.proofs.Common.{◌∙◌, ◌++◌, ap, arith, subst, sym, count_by, filter_map, AreApart, clear_notes}
 use Rattle.mxf_views.proofs.Common.{copy_by, states_metadata}
-use Rattle.mxf_views.proofs.SumLaws.{apart_from, apart_rest, next_copy, next_counted, next_passed, no_next_copy}
+use Rattle.mxf_views.proofs.SumLaws.{apart_from, next_copy, next_counted, next_passed, no_next_copy}
+use Rattle.mxf_catalogue.proofs.ApartNotes.{apart_rest}
 use Rattle.mxf_views.proofs.kept.sums.append_copies.Goals as goal
 
 pub loop-note-init : goal.loop-note-init

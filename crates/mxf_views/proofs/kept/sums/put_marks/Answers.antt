@@ -1,9 +1,8 @@
 use Rattle.mxf_views.proofs.Common.{◌≡◌, ◌-◌, ◌+◌, ◌⊎◌, ◌∷◌, ◌++◌, ℕ, [], ap, arith, length, subst, sym}
-use Rattle.mxf_views.proofs.Common.{is_preface_note}
+use Rattle.mxf_views.proofs.Common.{is_preface_note, tally_fits}
 use Rattle.mxf_views.specs.Spans.{size_of}
 use Rattle.mxf_views.proofs.MarkLaws.{AreCounted, counted_next}
 use Rattle.mxf_views.proofs.SpanCounts.{sizes_more}
-use Rattle.mxf_views.proofs.SumLaws.{tally_fits}
 use Rattle.mxf_views.proofs.kept.sums.put_marks.Goals as goal
 
 pub loop-note-preserved : goal.loop-note-preserved
@@ -26,7 +25,8 @@ loop-note-preserved c =
     let m = sizes_more covered n left rest e inv.1 in
     let size : c.end.result - c.offset-offset.result ≡ size_of n = λ i. end i - offset i in
     let put = subst (λ (o : ℕ). (next ≡ marks)
-    ⊎ (next ≡ marks ++ (record { offset = o; covered = covered; prefaces = prefaces }) ∷ [])) offset c.put_mark.ensures in
+    ⊎ (next ≡ marks ++ (record { offset = o; covered = covered; prefaces = prefaces }) ∷ [])) offset c.put_mark.ensures
+    in
     let counted = counted_next all marks covered prefaces n left rest c.requires.apart inv.0 e next put in (
       subst (λ (s : ℕ). AreCounted all next (covered + s) (prefaces + c.tally-prefaces.result) rest) (sym size)
           (subst (λ (t : ℕ). AreCounted all next (covered + size_of n) (prefaces + t) rest) (sym tally) counted),

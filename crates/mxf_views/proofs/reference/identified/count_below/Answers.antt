@@ -1,6 +1,5 @@
-use Rattle.mxf_views.proofs.Common.{rules}
+use Rattle.mxf_views.proofs.Common.{rules, is_below}
 use Rattle.std.proofs.lemmas.List.Sorted.{IsPartitionPoint-from_clause}
-use Rattle.mxf_views.specs.Identified.{is_below}
 use Rattle.mxf_views.proofs.IdentifiedLaws.{less_is_below, parted}
 use Rattle.mxf_views.proofs.reference.identified.count_below.Goals as goal
 

@@ -1,5 +1,4 @@
-use Rattle.mxf_views.proofs.Common.{◌≡◌, ◌∙◌, ◌+◌, Bool, false, true, ap, arith, length, sym, not, ltb-false}
-use Rattle.mxf_views.specs.Identified.{is_of}
+use Rattle.mxf_views.proofs.Common.{◌≡◌, ◌∙◌, ◌+◌, Bool, false, true, ap, arith, length, sym, not, ltb-false, is_of}
 use Rattle.mxf_views.proofs.IdentifiedLaws.{absent_at_end, absent_there, one_there, several_there}
 use Rattle.mxf_views.proofs.reference.identified.find_sorted.Goals.{in_default-get-via-in-Some-get+else-eq}
 use Rattle.mxf_views.proofs.reference.identified.find_sorted.Goals.{in_default-get-via-in_default-get}
@@ -43,7 +42,9 @@ returns-in_default-get c =
     record { bound = at.ensures.bound; below = at.ensures.below; above = at.ensures.above } c.requires first.3.0
     first.3.1 (if_not (is_of uid c.in-Some.first.now) false c.if-ne.ensures) (λ l d.
     elim c.in_default-get.branch [
-      | in_default-get-via-in-Some-get+else-eq w ↦ ap (is_of uid) (sym (w.in-Some-get.ensures.lookup.3.1 d)) ∙ sym w.if-eq.ensures
+      | in_default-get-via-in-Some-get+else-eq w ↦ ap (is_of uid) (sym (w.in-Some-get.ensures.lookup.3.1 d))
+          ∙ sym w.if-eq.ensures
       | in_default-get-via-in_default-get w ↦ absurd (
-          let none = ltb-false (at.result + 1) (length sets) (sym w.in_default-get.ensures.lookup.0) in omega (arith, none, l))
+          let none = ltb-false (at.result + 1) (length sets) (sym w.in_default-get.ensures.lookup.0) in
+          omega (arith, none, l))
     ])

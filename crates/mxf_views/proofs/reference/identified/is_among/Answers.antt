@@ -1,8 +1,5 @@
 use Rattle.mxf_views.proofs.Common.{ℕ, List, Ok, Err, refl, subst, sym, ◌↔◌, OnOk, Result, nat_cmp-IsAntisymmetric}
-use Rattle.mxf_views.proofs.Common.{nat_cmp, nat_cmp_total, In}
-use Rattle.std.specs.Prelude.{IfErr, IsTrue, is_ok}
-use Rattle.mxf_klv.specs.Rising.{IsPlaceOf}
-use Rattle.mxf_catalogue.proofs.Places.{search_says}
+use Rattle.mxf_views.proofs.Common.{nat_cmp, nat_cmp_total, In, IfErr, IsTrue, is_ok, IsPlaceOf, search_says}
 use Rattle.mxf_views.proofs.reference.identified.is_among.Goals as goal
 
 found_in_place : (x : ℕ) (xs : List ℕ) (r : Result ℕ ℕ) → OnOk r (In x xs) × IfErr r (IsPlaceOf nat_cmp x xs)

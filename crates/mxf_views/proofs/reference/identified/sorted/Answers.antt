@@ -1,5 +1,4 @@
-use Rattle.mxf_views.proofs.Common.{rules}
-use Rattle.std.proofs.lemmas.List.Sorted.{answers_always}
+use Rattle.mxf_views.proofs.Common.{rules, answers_always}
 use Rattle.mxf_views.proofs.IdentifiedLaws.{by_uid}
 use Rattle.mxf_views.proofs.reference.identified.sorted.Goals as goal
 

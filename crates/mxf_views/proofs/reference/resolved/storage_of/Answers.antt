@@ -1,5 +1,4 @@
-use Rattle.mxf_views.proofs.Common.{◌≡◌, ◌∙◌, ap, sym, storage_among, none_some, same_Some}
-use Rattle.mxf_views.specs.Resolved.{storage_in}
+use Rattle.mxf_views.proofs.Common.{◌≡◌, ◌∙◌, ap, sym, storage_among, none_some, same_Some, storage_in}
 use Rattle.mxf_views.proofs.OnlyFound.{only_there}
 use Rattle.mxf_views.proofs.reference.resolved.storage_of.Goals as goal
 
@@ -13,5 +12,6 @@ pub returns-in_ok-note_at-in-One : goal.returns-in_ok-note_at-in-One
 returns-in_ok-note_at-in-One c =
     let sets = c.args.sets.now in
     let only = only_there sets.notes sets.partition c.args.uid.now c.in-One.offset c.in-One.ensures in
-    let same : c.in_ok-note_at-in-One.field-0.now ≡ only.note = same_Some _ _ (c.in_ok-note_at-in-One.ensures ∙ only.there) in
+    let same : c.in_ok-note_at-in-One.field-0.now ≡ only.note = same_Some _ _ (c.in_ok-note_at-in-One.ensures
+    ∙ only.there) in
     c.storage_in.ensures ∙ ap storage_in same ∙ ap storage_among (sym only.only)

@@ -1,5 +1,4 @@
-use Rattle.mxf_views.proofs.Common.{◌≡◌, ◌++◌}
-use Rattle.mxf_views.specs.Targets.{refs_of}
+use Rattle.mxf_views.proofs.Common.{◌≡◌, ◌++◌, refs_of}
 use Rattle.mxf_views.proofs.reference.target.refs_of.Given as goal
 
 abbrev pub invariant-loop-uid : goal.invariant-loop-uid

@@ -1,5 +1,5 @@
-use Rattle.mxf_views.proofs.Common.{◌∙◌, ap, sym, true, false, fits}
-use Rattle.mxf_views.specs.declared.reference.target.Target.TheVariants.{Unreadable, Found}
+use Rattle.mxf_views.proofs.Common.{◌∙◌, ap, sym, true, false, fits, Unreadable}
+use Rattle.mxf_views.specs.declared.reference.target.Target.TheVariants.{Found}
 use Rattle.mxf_views.proofs.UnreadableLaws.{judged}
 use Rattle.mxf_views.proofs.reference.target.target_at.Goals as goal
 

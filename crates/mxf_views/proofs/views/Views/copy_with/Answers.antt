@@ -15,4 +15,5 @@ copy_around-requires c =
 pub returns : goal.returns
 returns c =
     let kept = c.deref.ensures.value ∙ ap (λ (k : KeptParts). k.copies) c.self.invariant in
-    c.copy_around.ensures ∙ ap (λ (cs : List CopyInfo). find (is_in_copy c.args.note.now) cs) (kept ∙ ap copies_of c.self.view_is)
+    c.copy_around.ensures ∙ ap (λ (cs : List CopyInfo). find (is_in_copy c.args.note.now) cs) (kept
+    ∙ ap copies_of c.self.view_is)

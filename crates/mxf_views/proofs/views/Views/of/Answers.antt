@@ -1,8 +1,6 @@
-use Rattle.mxf_views.proofs.Common.{◌^◌, ◌<◌, List, length, refl, ◌↔◌, ◌∙◌, ap, inl, inr, subst, head_note, NoteParts}
-use Rattle.mxf_views.proofs.Common.{In, AreReduced, has_note}
-use Rattle.mxf_catalogue.specs.Content.{IsLocated}
+use Rattle.mxf_views.proofs.Common.{List, refl, ◌↔◌, ◌∙◌, ap, inl, inr, head_note, NoteParts}
+use Rattle.mxf_views.proofs.Common.{In, AreReduced, has_note, IsLocated, file_bytes}
 use Rattle.mxf_catalogue.specs.Reduced.{IsKnown}
-use Rattle.mxf_catalogue.specs.CatalogueFile.{file_bytes}
 use Rattle.mxf_catalogue.proofs.FileLaws.{written_file}
 use Rattle.mxf_catalogue.proofs.HeadLaws.{In-located}
 use Rattle.mxf_views.proofs.RunLaws.{IsTheRun-from_set}

@@ -4,6 +4,7 @@ use Rattle.mxf_views.proofs.views.Views.partitions.Goals as goal
 
 pub returns-clause-partitions : goal.returns-clause-partitions
 returns-clause-partitions c =
-    c.of-2.ensures.partitions ∙ ap partitions_among (c.of.ensures.notes ∙ ap (notes_at c.self.inside.catalogue) c.deref.ensures.value)
+    c.of-2.ensures.partitions ∙ ap partitions_among (c.of.ensures.notes
+    ∙ ap (notes_at c.self.inside.catalogue) c.deref.ensures.value)
     ∙ partitions_kept c.self.inside.catalogue _ (ap (λ (k : KeptParts). k.partitions) c.self.invariant)
     ∙ ap partitions_of c.self.view_is

@@ -13,7 +13,8 @@ returns-in_err-put_start g c =
     rw (p.1, p.2)
     (fails_in_first _ _ _ _ _ (file_bytes c.args.self.now) (start_bytes Two c.len.result)
     (flat_map (note_bytes Two) c.args.self.now)
-    (ap (λ (n : ℕ). start_bytes Two n ++ flat_map (note_bytes Two) c.args.self.now) (sym count)) c.in_err-put_start.ensures)
+    (ap (λ (n : ℕ). start_bytes Two n ++ flat_map (note_bytes Two) c.args.self.now)
+    (sym count)) c.in_err-put_start.ensures)
 
 pub returns : goal.returns
 returns g c =

@@ -18,7 +18,8 @@ pub returns : goal.returns
 returns g c =
     let n = c.args.note.now in
     let ahead = c.bytes_ahead.result in
-    WritesPart-second {X = Unit {0}} _ (g.W.Write.contents c.put.new.writer) _ _ _ _ _ _ ahead c.mark_and_held-mark.result.1.now
+    WritesPart-second {X = Unit {0}} _ (g.W.Write.contents c.put.new.writer) _ _ _ _ _ _ ahead
+    c.mark_and_held-mark.result.1.now
     (note_by n c.mark_and_held-mark.result.0 ahead c.mark_and_held-mark.result.1.now c.mark_and_held-mark.ensures.mark
     c.mark_and_held-mark.ensures.held c.bytes_ahead.ensures)
     c.in_ok-put.ensures.written.0 c.in_ok-put.ensures.written.1 c.put-2.ensures.written

@@ -52,7 +52,8 @@ returns-in_err-length-clause-none c =
 pub returns-clause-some : goal.returns-clause-some
 returns-clause-some c =
     let k = c.in_ok-key.ensures.cases in
-    fixed_part_split c.args.bytes.now c.in_ok-offset.rest.now c.in_ok-key.key.now c.in_ok-key.rest.now c.in_ok-width.rest.now
+    fixed_part_split c.args.bytes.now c.in_ok-offset.rest.now c.in_ok-key.key.now c.in_ok-key.rest.now
+    c.in_ok-width.rest.now
     c.in_ok-length.rest.now c.in_ok-offset.offset c.in_ok-width.width.now c.in_ok-length.length
     c.in_ok-offset.ensures.some.0 c.in_ok-offset.ensures.some.1 k.0 k.1 (omega (arith, k.2))
     c.in_ok-width.ensures.cases.0 c.in_ok-length.ensures.some.0 c.in_ok-length.ensures.some.1

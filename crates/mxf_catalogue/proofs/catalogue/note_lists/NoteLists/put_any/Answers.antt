@@ -31,14 +31,16 @@ returns-then-end_by-clause-whole c =
     let ds = c.args.self.now.disputed.items in
     let old = c.args.runs.now.items in
     let new = union_of c.append.new.self.undisputed.items c.append.new.self.disputed.items in
-    let runs = c.put_run.ensures.items ∙ (λ i. with_run (run (c.offset-2.ensures.offset i) (c.covered_end.ensures.covered i)) old) in
+    let runs = c.put_run.ensures.items ∙ (λ i. with_run (run (c.offset-2.ensures.offset i)
+    (c.covered_end.ensures.covered i)) old) in
     let o = c.offset-3.ensures.offset in
     let fresh = above_new n (union_of cs ds) (λ m h.
     let l : end_of m ≤ c.offset-3.result = c.end_by.ensures.0 c.if-end_by.true m h in omega (arith, l, o)) in
     record {
       kept = c.append.ensures.kept;
       covers = subst (λ r. Covers r new) (sym runs)
-          (covers_with n cs ds new old c.requires.whole.kept.reduced fresh c.requires.whole.covers c.append.ensures.content);
+          (covers_with n cs ds new old c.requires.whole.kept.reduced fresh c.requires.whole.covers
+          c.append.ensures.content);
     }
 
 pub put-requires-clause-new : goal.put-requires-clause-new
@@ -61,7 +63,8 @@ returns-clause-whole c =
     let ds = c.args.self.now.disputed.items in
     let old = c.args.runs.now.items in
     let new = union_of c.put.new.self.undisputed.items c.put.new.self.disputed.items in
-    let runs = c.put_run-2.ensures.items ∙ (λ i. with_run (run (c.offset-2.ensures.offset i) (c.covered_end.ensures.covered i)) old) in
+    let runs = c.put_run-2.ensures.items ∙ (λ i. with_run (run (c.offset-2.ensures.offset i)
+    (c.covered_end.ensures.covered i)) old) in
     record {
       kept = c.put.ensures.kept;
       covers = subst (λ r. Covers r new) (sym runs)

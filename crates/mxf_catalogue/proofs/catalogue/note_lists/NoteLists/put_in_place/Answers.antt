@@ -17,7 +17,8 @@ put_over_head-requires-clause-reduced c =
 
 pub put_over_head-requires-clause-new : goal.put_over_head-requires-clause-new
 put_over_head-requires-clause-new c h =
-    c.requires.new (inl ((In-union_of c.args.note c.args.self.now.undisputed.items c.args.self.now.disputed.items).1 (inl h)))
+    c.requires.new (inl ((In-union_of c.args.note c.args.self.now.undisputed.items c.args.self.now.disputed.items).1
+    (inl h)))
 
 pub put_over_head-requires-else-is_in-clause-reduced : goal.put_over_head-requires-else-is_in-clause-reduced
 put_over_head-requires-else-is_in-clause-reduced c =
@@ -39,7 +40,8 @@ put_over_head-requires-else-is_in-clause-head c =
 
 pub put_over_head-requires-else-is_in-clause-new : goal.put_over_head-requires-else-is_in-clause-new
 put_over_head-requires-else-is_in-clause-new c h =
-    c.requires.new (inl ((In-union_of c.args.note c.args.self.now.undisputed.items c.args.self.now.disputed.items).1 (inr h)))
+    c.requires.new (inl ((In-union_of c.args.note c.args.self.now.undisputed.items c.args.self.now.disputed.items).1
+    (inr h)))
 
 pub returns-then-is_in-clause-kept : goal.returns-then-is_in-clause-kept
 returns-then-is_in-clause-kept c =

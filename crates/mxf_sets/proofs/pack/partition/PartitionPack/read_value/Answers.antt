@@ -8,7 +8,8 @@ returns c =
     let k = c.in-Some.ensures.cases in
     let m = c.in-Some-split_first_chunk.ensures.cases in (
       refl,
-      pack_read c.args.value.now c.in-Some.numbers.now c.in-Some.rest.now c.in-Some-split_first_chunk.pattern.now c.in-Some-split_first_chunk.rest.now c.args.part c.args.status c.read-2.result
+      pack_read c.args.value.now c.in-Some.numbers.now c.in-Some.rest.now c.in-Some-split_first_chunk.pattern.now
+          c.in-Some-split_first_chunk.rest.now c.args.part c.args.status c.read-2.result
           c.in-Ok.containers k.0 k.1 m.0 m.1 (ap length m.0
           ∙ omega (arith, length-take 16 c.in-Some.rest.now, m.2)) c.read-2.ensures.numbers c.read-2.ensures.bytes
           c.in-Ok.ensures.0 c.in-Ok.ensures.1,
@@ -16,6 +17,7 @@ returns c =
 
 pub returns-in_default-read : goal.returns-in_default-read
 returns-in_default-read c =
-    let b = bad_batch c.args.value.now c.in-Some.rest.now c.in-Some-split_first_chunk.rest.now c.in_default-read.field-0 c.in-Some.ensures.cases.1 c.in-Some-split_first_chunk.ensures.cases.1
+    let b = bad_batch c.args.value.now c.in-Some.rest.now c.in-Some-split_first_chunk.rest.now c.in_default-read.field-0
+    c.in-Some.ensures.cases.1 c.in-Some-split_first_chunk.ensures.cases.1
     (omega arith) c.in_default-read.ensures in
     ((c.args.part, c.args.status, refl), b.0, b.1)

@@ -1,6 +1,4 @@
-use Rattle.std.proofs.Common.{◌≡◌, ◌++◌, map}
-use Rattle.std.specs.Prelude.{filter}
-use Rattle.mxf_views.specs.Codes.{finding}
+use Rattle.mxf_views.proofs.Common.{◌≡◌, ◌++◌, map, filter, finding}
 use Rattle.mxf_views.specs.Findings.{clear_at, is_note_cause}
 use Rattle.mxf_views.proofs.finding.collected.Collected.add_clear.Given as goal
 

@@ -1,6 +1,4 @@
-use Rattle.std.proofs.Common.{◌≡◌, ◌++◌, drop}
-use Rattle.std.specs.Prelude.{flat_map}
-use Rattle.mxf_views.specs.Findings.{findings_for}
+use Rattle.mxf_views.proofs.Common.{◌≡◌, ◌++◌, drop, flat_map, findings_for}
 use Rattle.mxf_views.proofs.finding.collected.Collected.add_codes.Given as goal
 
 abbrev pub invariant-loop-code : goal.invariant-loop-code

@@ -1,5 +1,4 @@
-use Rattle.mxf_views.proofs.Common.{◌≡◌, ◌++◌, drop, map, filter, F09, finding, findings_for}
-use Rattle.mxf_views.specs.Findings.{is_partial}
+use Rattle.mxf_views.proofs.Common.{◌≡◌, ◌++◌, drop, map, filter, F09, finding, findings_for, is_partial}
 use Rattle.mxf_views.proofs.finding.collected.Collected.add_copies.Given as goal
 
 abbrev pub invariant-loop-copy : goal.invariant-loop-copy

@@ -1,6 +1,4 @@
-use Rattle.std.proofs.Common.{◌≡◌, ◌++◌, map}
-use Rattle.std.specs.Prelude.{filter}
-use Rattle.mxf_views.specs.Codes.{finding}
+use Rattle.mxf_views.proofs.Common.{◌≡◌, ◌++◌, map, filter, finding}
 use Rattle.mxf_views.specs.Findings.{disputed_at, is_dispute_cause}
 use Rattle.mxf_views.proofs.finding.collected.Collected.add_disputed.Given as goal
 

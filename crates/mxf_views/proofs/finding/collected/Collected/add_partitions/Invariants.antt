@@ -1,8 +1,5 @@
-use Rattle.std.proofs.Common.{◌≡◌, ◌++◌, map}
-use Rattle.std.specs.Prelude.{filter}
-use Rattle.mxf_views.specs.Codes.{finding}
+use Rattle.mxf_views.proofs.Common.{◌≡◌, ◌++◌, map, filter, finding, partitions_of}
 use Rattle.mxf_views.specs.Findings.{is_partition_cause, partitions_at}
-use Rattle.mxf_views.specs.Partitions.{partitions_of}
 use Rattle.mxf_views.proofs.finding.collected.Collected.add_partitions.Given as goal
 
 abbrev pub invariant-loop-partition : goal.invariant-loop-partition

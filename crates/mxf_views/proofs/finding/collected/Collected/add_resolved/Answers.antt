@@ -1,8 +1,14 @@
-use Rattle.mxf_views.proofs.Common.{◌≡◌, ◌∙◌, ◌++◌, sym, ap, map, subst, Some, OnOk, F13, finding, lost_at}
-use Rattle.mxf_views.specs.Findings.{lost_beside, lost_by}
-use Rattle.mxf_views.proofs.FindingUnions.{then-offsets}
+use Rattle.mxf_views.proofs.Common.{◌≡◌, ◌∙◌, ◌++◌, ℕ, List, sym, ap, map, subst, Some, OnOk, F13, Finding, finding}
+use Rattle.mxf_views.proofs.Common.{append_assoc, lost_at, lost_beside, lost_by, map-append}
 use Rattle.std.proofs.lemmas.Result.{on_ok_weaker}
 use Rattle.mxf_views.proofs.finding.collected.Collected.add_resolved.Goals as goal
+
+-- two lists of offsets
+both : (fs : List Finding) (xs ys : List ℕ)
+    → (fs ++ map (finding F13) xs) ++ map (finding F13) ys ≡ fs ++ map (finding F13) (xs ++ ys)
+both fs xs ys =
+    append_assoc fs (map (finding F13) xs) (map (finding F13) ys)
+    ∙ ap (λ l. fs ++ l) (sym (map-append (finding F13) xs ys))
 
 pub returns-in-Some : goal.returns-in-Some
 returns-in-Some c =
@@ -20,5 +26,5 @@ returns-in-Some c =
     (on_ok_weaker c.add_behind.result (λ p. p
     ∙ ap (λ fs. fs ++ map (finding F13) beside) first
     ∙ ap (λ xs. (old ++ map (finding F13) held) ++ map (finding F13) xs) (packages ∙ storage)
-    ∙ sym (then-offsets F13 old held (lost_beside preface c.resolved.inside.storage c.resolved.inside.packages)))
+    ∙ both old held (lost_beside preface c.resolved.inside.storage c.resolved.inside.packages))
     c.add_behind.ensures)

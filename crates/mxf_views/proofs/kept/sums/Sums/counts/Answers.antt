@@ -1,5 +1,4 @@
-use Rattle.mxf_views.proofs.Common.{List, subst, sym, Mark, clear_from, AreInRange}
-use Rattle.mxf_views.specs.Sums.{AreMarks, SumsParts}
+use Rattle.mxf_views.proofs.Common.{List, subst, sym, Mark, clear_from, AreInRange, AreMarks, SumsParts}
 use Rattle.mxf_views.proofs.kept.sums.Sums.counts.Goals as goal
 
 pub counts_by-requires-clause-marks : goal.counts_by-requires-clause-marks

@@ -1,6 +1,5 @@
-use Rattle.mxf_views.proofs.Common.{◌≡◌, ◌+◌, ◌-◌, ◌<◌, ◌^◌, ◌≤◌, ◌∙◌, ap, arith, length, subst, sym, AreApart}
-use Rattle.mxf_views.proofs.Common.{clear_notes, covered_of, prefaces_of, clear_from, AreInRange}
-use Rattle.mxf_views.specs.Sums.{SumsParts}
+use Rattle.mxf_views.proofs.Common.{◌≡◌, ◌+◌, ◌-◌, ◌<◌, ◌^◌, ◌≤◌, ◌∙◌, ap, arith, subst, sym}
+use Rattle.mxf_views.proofs.Common.{clear_notes, covered_of, prefaces_of, clear_from, AreInRange, SumsParts}
 use Rattle.mxf_views.proofs.MarkLaws.{covered_by, covered_fits, covered_order, prefaces_by, prefaces_fit}
 use Rattle.mxf_views.proofs.MarkLaws.{prefaces_order}
 use Rattle.mxf_views.proofs.kept.sums.Sums.counts_by.Goals.{After-counts-above}
@@ -41,7 +40,8 @@ covered_bound c =
 prefaces_bound : (c : After-counts-above)
     → prefaces_of c.args.start c.args.bytes (clear_notes c.self.inside.catalogue.now) < 2 ^ 64
 prefaces_bound c =
-    let some = prefaces_fit c.args.start c.args.bytes (clear_notes c.self.inside.catalogue.now) in omega (arith, some, c.laws.ensures.clear_bound)
+    let some = prefaces_fit c.args.start c.args.bytes (clear_notes c.self.inside.catalogue.now) in
+    omega (arith, some, c.laws.ensures.clear_bound)
 
 pub overflow_sub-result : goal.overflow_sub-result
 overflow_sub-result c =

@@ -1,8 +1,8 @@
 use Rattle.mxf_views.proofs.Common.{◌≡◌, ◌∙◌, ap, arith, length, count_by, is_some, part_and_status, clear_notes}
-use Rattle.mxf_views.proofs.Common.{is_segment, is_rip_note, tally}
-use Rattle.mxf_views.proofs.SumLaws.{tally_fits}
-use Rattle.mxf_views.proofs.TallyLaws.{copies_at_most, has_pack, has_segment, next_tally, partitions_at_most}
-use Rattle.mxf_views.proofs.TallyLaws.{segments_at_most, unreadable_at_most}
+use Rattle.mxf_views.proofs.Common.{is_segment, is_rip_note, tally, tally_fits}
+use Rattle.mxf_views.proofs.TallyLaws.{copies_at_most, has_pack, has_segment, partitions_at_most, segments_at_most}
+use Rattle.mxf_views.proofs.TallyLaws.{unreadable_at_most}
+use Rattle.mxf_klv.proofs.NoteFilters.{next_tally}
 use Rattle.mxf_views.proofs.kept.tally.Tally.of.Goals as goal
 
 pub loop-note-preserved : goal.loop-note-preserved

@@ -1,6 +1,5 @@
 use Rattle.mxf_views.proofs.Common.{◌∙◌, ℕ, List, subst, sym, nat_cmp, In, IsRising, sets_of, unreadable_offsets}
-use Rattle.mxf_views.proofs.Common.{same_bool}
-use Rattle.mxf_views.specs.Findings.{is_unreadable}
+use Rattle.mxf_views.proofs.Common.{same_bool, is_unreadable}
 use Rattle.mxf_views.specs.Identified.{CopySetsParts}
 use Rattle.mxf_views.proofs.UnreadableLaws.{unreadable_rise, unreadable_there}
 use Rattle.mxf_views.proofs.reference.identified.CopySets.is_unreadable.Goals as goal
@@ -21,6 +20,7 @@ returns c =
     let at = c.offset.ensures.offset in
     let all = unreadable_offsets (sets_of s.catalogue.now s.partition) in
     same_bool c.is_among.result (is_unreadable n)
-    (λ t. there.0 (subst (λ (o : ℕ). In o all) at (subst (λ (l : List ℕ). In c.offset.result l) offsets (c.is_among.ensures.0 t))))
+    (λ t. there.0 (subst (λ (o : ℕ). In o all) at (subst (λ (l : List ℕ). In c.offset.result l) offsets
+    (c.is_among.ensures.0 t))))
     (λ t. c.is_among.ensures.1 (subst (λ (l : List ℕ). In c.offset.result l) (sym offsets)
     (subst (λ (o : ℕ). In o all) (sym at) (there.1 t))))

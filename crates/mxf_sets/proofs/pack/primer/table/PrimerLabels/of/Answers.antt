@@ -18,7 +18,8 @@ loop-entry-init c =
     let wide = subst (λ (xs : List (List ℕ)). AllByRecursion
     (λ item. length item ≡ c.primer.inside.entries.size) xs) own
     c.items-entry-items.ensures.size in (
-      subst (λ (xs : List (List ℕ)). IsTold c.new-labels.result.entries xs (batch_items c.args.primer.now)) (sym entries)
+      subst (λ (xs : List (List ℕ)). IsTold c.new-labels.result.entries xs (batch_items c.args.primer.now))
+          (sym entries)
           (told_none c.new-labels.result.entries c.args.primer.now c.new-labels.ensures.empty),
       subst (λ (xs : List (List ℕ)). AllByRecursion (λ entry. length entry ≡ 18) xs)
           (sym (c.into_iter-entry-iterator.ensures.into_iter_gives ∙ own))
@@ -39,7 +40,8 @@ loop-entry-preserved c =
     c.in-Some.ensures.steps c.loop-entry.invariant.0 in
     let old = c.loop-entry.labels.entries in
     let new = c.insert.new.self.entries in
-    let at = λ (t : ℕ). λ (label : List ℕ). (Some c.with_label-agreed.result ≡ with_label (lookup (is_at (nat_cmp t)) old) label) in
+    let at = λ (t : ℕ). λ (label : List ℕ). (Some c.with_label-agreed.result
+    ≡ with_label (lookup (is_at (nat_cmp t)) old) label) in
     let updated = λ (t : ℕ). ((tag : ℕ) → lookup (is_at (nat_cmp tag)) new
     ≡ cond (is_at (nat_cmp t) tag) (Some c.with_label-agreed.result) (lookup (is_at (nat_cmp tag)) old)) in
     let agreed = c.with_label-agreed.ensures

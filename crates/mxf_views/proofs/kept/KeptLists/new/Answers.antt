@@ -1,6 +1,6 @@
 use Rattle.mxf_views.proofs.Common.{◌∙◌, ap, sym, reaches_of}
 use Rattle.mxf_views.proofs.KeptLaws.{kept_of_none, same_kept, with_reaches}
-use Rattle.mxf_views.proofs.kept.Kept.new.Goals as goal
+use Rattle.mxf_views.proofs.kept.KeptLists.new.Goals as goal
 
 pub returns : goal.returns
 returns c =

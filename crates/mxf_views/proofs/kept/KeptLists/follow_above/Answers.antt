@@ -5,27 +5,23 @@ use Rattle.mxf_views.proofs.KeptLaws.{same_kept, with_reaches}
 use Rattle.mxf_views.proofs.KeptRoom.{length-kept_copies}
 use Rattle.mxf_views.proofs.ReachLaws.{length-reaches_from, take_reaches}
 use Rattle.mxf_views.specs.declared.kept.offsets.Placed.TheVariants as kinds
-use Rattle.mxf_views.proofs.kept.Kept.follow_above.Goals as goal
+use Rattle.mxf_views.proofs.kept.KeptLists.follow_above.Goals as goal
 
-pub append_offsets-requires-clause-partitions : goal.append_offsets-requires-clause-partitions
-append_offsets-requires-clause-partitions c =
+pub append_offsets-requires : goal.append_offsets-requires
+append_offsets-requires c =
     let k = c.requires.kept in
-    offsets_fit _ _ k.0 k.1 (is_placed kinds.Partition) _ _ _ (ap (λ (p : KeptParts). p.partitions) k.2) c.args.self.now.partitions.ok.0 c.requires.room.partitions
-
-pub append_offsets-requires-clause-segments : goal.append_offsets-requires-clause-segments
-append_offsets-requires-clause-segments c =
-    let k = c.requires.kept in
-    offsets_fit _ _ k.0 k.1 (is_placed kinds.Segment) _ _ _ (ap (λ (p : KeptParts). p.segments) k.2) c.args.self.now.segments.ok.0 c.requires.room.segments
-
-pub append_offsets-requires-clause-random_index_packs : goal.append_offsets-requires-clause-random_index_packs
-append_offsets-requires-clause-random_index_packs c =
-    let k = c.requires.kept in
-    offsets_fit _ _ k.0 k.1 (is_placed kinds.RandomIndexPack) _ _ _ (ap (λ (p : KeptParts). p.rips) k.2) c.args.self.now.random_index_packs.ok.0 c.requires.room.rips
-
-pub append_offsets-requires-clause-unreadable_packs : goal.append_offsets-requires-clause-unreadable_packs
-append_offsets-requires-clause-unreadable_packs c =
-    let k = c.requires.kept in
-    offsets_fit _ _ k.0 k.1 (is_placed kinds.UnreadablePack) _ _ _ (ap (λ (p : KeptParts). p.unreadable) k.2) c.args.self.now.unreadable_packs.ok.0 c.requires.room.unreadable
+    let own = c.args.self.now in
+    let room = c.requires.room in
+    record {
+      partitions = offsets_fit _ _ k.0 k.1 (is_placed kinds.Partition) _ _ _ (ap (λ (p : KeptParts). p.partitions) k.2)
+          own.partitions.ok.0 room.partitions;
+      segments = offsets_fit _ _ k.0 k.1 (is_placed kinds.Segment) _ _ _ (ap (λ (p : KeptParts). p.segments) k.2)
+          own.segments.ok.0 room.segments;
+      random_index_packs = offsets_fit _ _ k.0 k.1 (is_placed kinds.RandomIndexPack) _ _ _
+          (ap (λ (p : KeptParts). p.rips) k.2) own.random_index_packs.ok.0 room.rips;
+      unreadable_packs = offsets_fit _ _ k.0 k.1 (is_placed kinds.UnreadablePack) _ _ _
+          (ap (λ (p : KeptParts). p.unreadable) k.2) own.unreadable_packs.ok.0 room.unreadable;
+    }
 
 pub follow_copies_above-requires-clause-room : goal.follow_copies_above-requires-clause-room
 follow_copies_above-requires-clause-room c =

@@ -1,7 +1,7 @@
 use Rattle.mxf_views.proofs.Common.{◌∙◌, refl}
 use Rattle.mxf_views.proofs.AppendLaws.{appended_all, appended_next, appended_none, next_fits}
 use Rattle.mxf_views.specs.declared.kept.offsets.Placed.TheVariants as kinds
-use Rattle.mxf_views.proofs.kept.Kept.append_offsets.Goals as goal
+use Rattle.mxf_views.proofs.kept.KeptLists.append_offsets.Goals as goal
 
 pub loop-note-init : goal.loop-note-init
 loop-note-init c =

@@ -5,7 +5,7 @@ use Rattle.mxf_views.proofs.CopyLaws.{copies_rise}
 use Rattle.mxf_views.proofs.KeptLaws.{kept_after, same_kept, with_reaches}
 use Rattle.mxf_views.proofs.ReachLaws.{length-copies_followed, length-reaches_from}
 use Rattle.mxf_views.specs.declared.kept.offsets.Placed.TheVariants as kinds
-use Rattle.mxf_views.proofs.kept.Kept.follow.Goals as goal
+use Rattle.mxf_views.proofs.kept.KeptLists.follow.Goals as goal
 
 pub follow-requires-clause-rising : goal.follow-requires-clause-rising
 follow-requires-clause-rising c =
@@ -68,5 +68,6 @@ returns c = λ x notes new is e k.
     ∙ ap (λ t. followed t a.offset a.start a.end old.unreadable_packs.items) c.stands-unreadable_pack.ensures)
     c.follow_copies.ensures
     ∙ kept_after x notes c.args.catalogue.now a.start a.end a.offset a.can_bring_start old.partitions.items
-    old.segments.items old.random_index_packs.items old.unreadable_packs.items old.copies.items is.content (is.reduced, new) is.hull e is.offset
+    old.segments.items old.random_index_packs.items old.unreadable_packs.items old.copies.items is.content
+    (is.reduced, new) is.hull e is.offset
     is.can_bring_start (sym (with_reaches _ _ _ _ _ _ before) ∙ k)
