@@ -13,7 +13,26 @@ pub fn hex_text(alloc: Global, bytes: &[u8]) -> Result<String, OutOfMemory>
     Ok(hex::encode(alloc, bytes)?)
 }
 
-/// Bytes that print as two lower-case hexadecimal digits each.
+/// The bytes of a label that print as two lower-case hexadecimal digits each, all of them at once.
+#[derive(Clone, Copy)]
+pub struct LabelDigits(pub [u8; 16]);
+
+impl fmt::Display for LabelDigits {
+    ghost output = { λ l. Some (hex_of l.0) };
+
+    fn fmt<W: fmt::Write>(&self, f: &mut fmt::Formatter<W>) -> fmt::Result {
+        let mut digits = [0u8; 32];
+        let Ok(()) = hex::encode_to_slice(&self.0, &mut digits) else {
+            return Err(fmt::Error);
+        };
+        let Ok(text) = str::from_utf8(&digits) else {
+            return Err(fmt::Error);
+        };
+        f.write_str(text)
+    }
+}
+
+/// Bytes that print as two lower-case hexadecimal digits each, one by one.
 #[derive(Clone, Copy)]
 pub struct HexDigits<'a>(pub &'a [u8]);
 

@@ -10,7 +10,7 @@ mod record;
 mod reference;
 
 use super::PrintFault;
-use super::hexadecimal::HexDigits;
+use super::hexadecimal::{HexDigits, LabelDigits};
 use super::lines::{Each, Line, Lines, Printer, Series, Then};
 pub use copy::PreferredLine;
 pub use finding::{StopLines, is_end};

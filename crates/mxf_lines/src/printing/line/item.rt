@@ -2,7 +2,7 @@
 ghost use Rattle.std.specs.Prelude.{◌≡◌, Some, take};
 ghost use Rattle.mxf_lines.specs.ItemLines.{item_line, label_text, value_text};
 
-use super::{AllocError, HexDigits, Line, fmt};
+use super::{AllocError, HexDigits, LabelDigits, Line, fmt};
 use mxf_sets::Item;
 
 /// The label of a tag, or none.
@@ -13,8 +13,8 @@ impl fmt::Display for LabelText {
     ghost output = { λ l. Some (label_text l.0) };
 
     fn fmt<W: fmt::Write>(&self, f: &mut fmt::Formatter<W>) -> fmt::Result {
-        match &self.0 {
-            Some(label) => write!(f, "{}", HexDigits(label)),
+        match self.0 {
+            Some(label) => write!(f, "{}", LabelDigits(label)),
             None => f.write_str("-"),
         }
     }

@@ -4,7 +4,7 @@ ghost use Rattle.mxf_klv.specs.Rising.{In};
 ghost use Rattle.mxf_catalogue.specs.Disputes.{is_disputed};
 ghost use Rattle.mxf_lines.specs.Lines.{dispute_mark, head_mark, note_line};
 
-use super::{AllocError, HexDigits, Line, Series};
+use super::{AllocError, LabelDigits, Line, Series};
 use mxf_catalogue::{Catalogue, Notes};
 use mxf_klv::Note;
 use std::marker::Model;
@@ -26,8 +26,7 @@ impl<'a> Line for NoteLine<'a> {
         let kind = self.note.kind();
         let width = self.note.width();
         let length = self.note.length();
-        let label = self.note.key().bytes();
-        let key = HexDigits(&label);
+        let key = LabelDigits(self.note.key().bytes());
         let head = head_mark(self.note.is_head());
         let disputed = dispute_mark(self.disputed);
         writeln!(
