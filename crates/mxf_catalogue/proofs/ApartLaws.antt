@@ -1,6 +1,6 @@
 -- Notes each of which begins at or above the end of the one before.
 use Rattle.std.specs.Prelude.{◌≡◌, ℕ, ◌≤◌, List, [], ◌∷◌, map, ◌↔◌, ◌≢◌}
-use Rattle.std.proofs.Common.{◌∙◌, arith, ap, sym, subst, inl, inr, refl, ◌<◌, ◌+◌}
+use Rattle.std.proofs.Common.{◌∙◌, arith, ap, sym, subst, inl, inr, refl, ◌<◌}
 use Rattle.mxf_klv.specs.Parts.{NoteParts}
 use Rattle.mxf_klv.specs.Note.{end_of}
 use Rattle.mxf_klv.specs.Rising.{In}

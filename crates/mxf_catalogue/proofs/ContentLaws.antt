@@ -1,14 +1,8 @@
 -- Contents as sets of notes.
-use Rattle.std.specs.Prelude.{◌≡◌, ◌↔◌, ◌⊎◌, List, [], ◌∷◌}
-use Rattle.std.specs.Bool.{Decides}
-use Rattle.std.specs.Cmp.{Equal-is}
-use Rattle.std.specs.List.{AllByRecursion}
-use Rattle.std.specs.Ordering.{eq_by_cmp}
-use Rattle.std.specs.declared.cmp.Ordering.TheVariants.{Equal}
-use Rattle.std.proofs.Common.{subst, sym, inl, inr, refl}
-use Rattle.std.proofs.lemmas.Cmp.{tied_itself}
+use Rattle.std.specs.Prelude.{◌≡◌, ◌↔◌, ◌⊎◌, List}
+use Rattle.std.proofs.Common.{subst, sym, inl, inr}
 use Rattle.mxf_klv.specs.Parts.{NoteParts}
-use Rattle.mxf_klv.specs.Note.{IsNote, note_cmp}
+use Rattle.mxf_klv.specs.Note.{IsNote}
 use Rattle.mxf_klv.specs.NoteOrder.{note_total, note_cmp-IsAntisymmetric}
 use Rattle.mxf_klv.specs.Rising.{In, SameMembers, same_from_members, In-with_one, In-union}
 use Rattle.mxf_klv.specs.Rising.{IsRising-with_one, IsRising-union}

@@ -211,7 +211,7 @@ places_in_order r runs a b m l f k n =
 
 -- ---- offsets in runs
 
-lies_at : (runs : List Run) (k : ℕ) (d : Run) (at : ℕ) → k < length runs → IsWithin (get_or runs k d) at
+pub lies_at : (runs : List Run) (k : ℕ) (d : Run) (at : ℕ) → k < length runs → IsWithin (get_or runs k d) at
     → LiesIn runs at
 lies_at [] k d at l h = absurd (omega arith)
 lies_at (r ∷ runs) zero d at l h = (LiesIn-first r runs at).1 (inl h)
@@ -446,3 +446,45 @@ last_end runs r m e bound =
         let up = ends_rise 0 runs m c.0 k s (omega arith) last in
         let there = ap (λ (t : Run). t.end) c.2 in
         let at = ap (λ (t : Run). t.end) (get_or_from_slice_get runs k r s e) in omega (arith, up, there, at)
+
+-- between a run and a later one lies an offset that is in none
+behind : (low : ℕ) (runs : List Run) (i j : ℕ) (d : Run) → AreMaximal low runs → i < j → j < length runs
+    → (get_or runs i d).end < (get_or runs j d).start
+behind low [] i j d m l h = absurd (omega arith)
+behind low (r ∷ runs) i zero d m l h = absurd (omega arith)
+behind low (r ∷ runs) zero (suc j) d m l h =
+    let t = above (r.end + 1) runs j d m.2 (omega arith) in omega (arith, t)
+behind low (r ∷ runs) (suc i) (suc j) d m l h = behind (r.end + 1) runs i j d m.2 (omega arith) (omega arith)
+
+-- the end of a run lies in none
+pub end_in_none : (runs : List Run) (a : ℕ) (d : Run) → AreMaximal 0 runs → a < length runs
+    → LiesIn runs (get_or runs a d).end → ⊥
+end_in_none runs a d m l h =
+    let p = place_of runs d (get_or runs a d).end h in
+    let k : p.0 < length runs = p.1 in
+    let s : (get_or runs p.0 d).start ≤ (get_or runs a d).end = p.2.from in
+    let e : (get_or runs a d).end + 1 ≤ (get_or runs p.0 d).end = p.2.before in
+    elim (nat_lt a p.0) as (λ b. nat_lt a p.0 ≡ b → ⊥) [
+      | true ↦ λ t. let u = behind 0 runs a p.0 d m (ltb-true _ _ t) k in omega (arith, u, s)
+      | false ↦ λ t.
+          let u = ends_rise 0 runs m p.0 a d (ltb-false _ _ t) l in omega (arith, u, e)
+    ] refl
+
+-- where all offsets of a range lie in runs, they lie in the first that ends above its start
+pub is_within_first : (runs : List Run) (a start end : ℕ) (d : Run) → AreMaximal 0 runs → start < end
+    → AllWithin (λ s. s.end ≤ start) runs 0 a → AllWithin (λ s. start < s.end) runs a (length runs)
+    → ((at : ℕ) → start ≤ at → at < end → LiesIn runs at)
+    → (a < length runs) × ((get_or runs a d).start ≤ start) × (end ≤ (get_or runs a d).end)
+is_within_first runs a start end d m o down up h =
+    let f = is_first runs a start start d m down (h start (omega arith) o) (omega arith) in
+    let l : a < length runs = f.0 in
+    let u : start < (get_or runs a d).end = up a d (omega arith) l in (
+      f.0,
+      f.1,
+      elim (nat_lt (get_or runs a d).end end) as (λ b. nat_lt (get_or runs a d).end end ≡ b
+          → end ≤ (get_or runs a d).end) [
+            | true ↦ λ t.
+                absurd (end_in_none runs a d m l (h (get_or runs a d).end (omega arith) (ltb-true _ _ t)))
+            | false ↦ λ t. ltb-false _ _ t
+          ] refl,
+    )

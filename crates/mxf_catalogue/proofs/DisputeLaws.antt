@@ -1,9 +1,8 @@
 -- The tests of disputes say what the relations say.
 use Rattle.std.specs.Prelude.{◌≡◌, ◌≢◌, ◌↔◌, ◌⊎◌, ◌+◌, ◌<◌, ◌≤◌, ℕ, Bool, true, false, not, ◌&&◌, nat_lt, ◌==◌}
-use Rattle.std.specs.Prelude.{List, [], ◌∷◌, cond, filter, find, length, map, max, Some, None, IsTrue, refl}
+use Rattle.std.specs.Prelude.{List, [], ◌∷◌, cond, filter, find, map, max, Some, None, IsTrue, refl}
 use Rattle.std.specs.declared.cmp.Ordering.TheVariants.{Less}
 use Rattle.std.proofs.Common.{sym, ◌∙◌, ap, subst, inl, inr, arith, eqb-true, eq-eqb}
-use Rattle.std.proofs.lemmas.List.{length-map}
 use Rattle.std.proofs.lemmas.Bool.{and_from, and_parts, or_cases, or_left, or_right, ltb-true, lt-ltb}
 use Rattle.mxf_klv.specs.Parts.{NoteParts}
 use Rattle.mxf_klv.specs.Note.{end_of, note_cmp}
@@ -14,7 +13,7 @@ use Rattle.mxf_catalogue.specs.Disputes.{DisputedParts, IsDisputedOf, disputed_p
 use Rattle.mxf_catalogue.specs.Disputes.{undisputed_notes}
 use Rattle.mxf_catalogue.specs.Disputes.{is_same_note, is_byte_shared, is_offset_shared, is_overlapped, is_disputed}
 use Rattle.mxf_klv.proofs.HeadOrder.{same_note-Decides}
-use Rattle.mxf_klv.proofs.Lists.{list_any-In, In-filter, all-filter, length-filter_le, In-map, find-none, find-only}
+use Rattle.mxf_klv.proofs.Lists.{list_any-In, In-filter, all-filter, In-map, find-none, find-only}
 use Rattle.mxf_klv.proofs.Tests.{not_true, not-true-false, same_bool}
 
 -- the test of shared bytes
@@ -209,6 +208,33 @@ clear-alone m n notes c h e =
           let other : m ≢ n = λ p. let u = (same_note-Decides m n).1 p in cc (u, t) in
           absurd (clear-apart m n notes c h other (SharesByte-same_offset m n e))
     ] refl
+
+-- an undisputed note is the only note with its offset
+undisputed-alone : (m n : NoteParts) (notes : List NoteParts) → In m (undisputed_notes notes) → In n notes
+    → m.offset ≡ n.offset → m ≡ n
+undisputed-alone m n notes h k e =
+    let u = (In-undisputed_notes m notes).0 h in
+    elim (is_same_note m n) as (λ b. is_same_note m n ≡ b → m ≡ n) [
+      | true ↦ λ t. (same_note-Decides m n).0 t
+      | false ↦ λ t.
+          let other : n ≢ m = λ p. let v = (same_note-Decides m n).1 (sym p) in cc (v, t) in
+          absurd (u.1 (n, k, other, SharesByte-same_offset n m (sym e)))
+    ] refl
+
+-- an undisputed note with an offset is the first with it among the undisputed notes
+pub undisputed_at-found : (offset : ℕ) (notes : List NoteParts) (n : NoteParts) → In n (undisputed_notes notes)
+    → n.offset ≡ offset → find (λ n. n.offset == offset) (undisputed_notes notes) ≡ Some n
+undisputed_at-found offset notes n h at =
+    find-only (λ (m : NoteParts). m.offset == offset) (undisputed_notes notes) n h
+    (eq-eqb _ _ at) (λ m k t.
+    undisputed-alone m n notes k ((In-undisputed_notes n notes).0 h).0 (eqb-true _ _ t ∙ sym at))
+
+pub undisputed_at-lacked : (offset : ℕ) (notes : List NoteParts)
+    → ((n : NoteParts) → In n (undisputed_notes notes) → n.offset ≢ offset)
+    → find (λ n. n.offset == offset) (undisputed_notes notes) ≡ None
+undisputed_at-lacked offset notes none =
+    find-none (λ (m : NoteParts). m.offset == offset) (undisputed_notes notes)
+    (λ n h t. none n h (eqb-true _ _ t))
 
 -- a clear note with an offset is the first with it among the clear notes
 pub clear_at-found : (offset : ℕ) (notes : List NoteParts) (n : NoteParts) → IsClear n notes → n.offset ≡ offset

@@ -5,7 +5,7 @@ use Rattle.std.proofs.lemmas.List.{take_at, drop_at}
 use Rattle.std.proofs.lemmas.Nat.{be_bytes_8, from_be_bytes-to_be_bytes_8}
 use Rattle.std.proofs.lemmas.Grind.{flat_map-append}
 use Rattle.std.specs.Int.{w64, from_be_bytes}
-use Rattle.std.specs.List.{flat_map, AllByRecursion}
+use Rattle.std.specs.List.{flat_map}
 use Rattle.std.specs.Cmp.{IsTotalOrder}
 use Rattle.std.specs.declared.cmp.Ordering.{Ordering}
 use Rattle.std.specs.declared.cmp.Ordering.TheVariants.{Less}
@@ -22,7 +22,7 @@ use Rattle.mxf_catalogue.specs.CatalogueFile.{fixed_part_of}
 use Rattle.mxf_catalogue.specs.CatalogueFile.{note_bytes, start_bytes, IsFileOfVersion, BeginsWithNote}
 use Rattle.mxf_catalogue.specs.CatalogueFile.{IsCutNote, IsBadNote, IsFront, place_after, CanHave, IsMarkIn}
 use Rattle.mxf_catalogue.specs.CatalogueFile.{BeginsWithParts, CanBeMarked, length_ahead, mark_bytes, mark_of}
-use Rattle.mxf_klv.proofs.Lists.{all_push, all_last, all_front, In-at}
+use Rattle.mxf_klv.proofs.Lists.{all_push, all_last, In-at}
 
 -- ---- parts of a text
 

@@ -1,5 +1,5 @@
 -- What the readers and writers of a file's parts come to.
-use Rattle.std.proofs.Common.{◌≡◌, ℕ, zero, suc, ◌+◌, ◌-◌, ◌^◌, ◌<◌, ◌≤◌, Bool, true, false, cond, List, [], ◌∷◌, ◌++◌}
+use Rattle.std.proofs.Common.{◌≡◌, ℕ, zero, suc, ◌+◌, ◌-◌, ◌^◌, ◌<◌, ◌≤◌, Bool, false, cond, List, [], ◌∷◌, ◌++◌}
 use Rattle.std.proofs.Common.{length, take, drop, get_or, Result, Ok, Option, Some, refl, sym, ap, subst, ◌∙◌, arith}
 use Rattle.std.proofs.Common.{inl, inr, ◌↔◌, append_assoc, append-nil, length-append, take-append-drop}
 use Rattle.std.specs.Prelude.{IsTrue, ◌==◌}
@@ -28,12 +28,12 @@ use Rattle.mxf_catalogue.specs.declared.catalogue.file.FileFault.TheVariants.{Ou
 use Rattle.mxf_catalogue.specs.declared.catalogue.file.fixed_part.FixedPart.{FixedPart}
 use Rattle.mxf_catalogue.specs.Content.{IsContent}
 use Rattle.mxf_catalogue.specs.declared.catalogue.file.start.Version.{Version}
-use Rattle.mxf_catalogue.specs.declared.catalogue.file.start.Version.TheVariants.{One, Two}
+use Rattle.mxf_catalogue.specs.declared.catalogue.file.start.Version.TheVariants.{Two}
 use Rattle.mxf_catalogue.specs.CatalogueFile.{magic, version_byte, number_bytes, CanBeNoted, note_bytes, start_bytes}
-use Rattle.mxf_catalogue.specs.CatalogueFile.{BeginsAsFile, BeginsWithFixedPart, BeginsWithMark, BeginsWithNote}
-use Rattle.mxf_catalogue.specs.CatalogueFile.{BeginsWithParts, CanHave, IsMarkIn, IsRefused, IsFront, StopsAt}
-use Rattle.mxf_catalogue.specs.CatalogueFile.{fixed_bytes, fixed_part_of, mark_bytes, mark_of}
-use Rattle.mxf_catalogue.specs.FileReading.{NoteBehindMark, RefusesBehindMark, RefusesNote}
+use Rattle.mxf_catalogue.specs.CatalogueFile.{BeginsAsFile, BeginsWithFixedPart, BeginsWithMark}
+use Rattle.mxf_catalogue.specs.CatalogueFile.{BeginsWithParts, IsRefused, IsFront, StopsAt}
+use Rattle.mxf_catalogue.specs.CatalogueFile.{fixed_bytes}
+use Rattle.mxf_catalogue.specs.FileReading.{NoteBehindMark, RefusesNote}
 use Rattle.mxf_catalogue.proofs.FileBytes.{front_place, number_in, regrouped, length-number_bytes, rising_push}
 use Rattle.mxf_catalogue.proofs.FileBytes.{rising_last}
 

@@ -1,12 +1,11 @@
 -- Fronts and ends of rising lists.
-use Rattle.std.specs.Prelude.{◌≡◌, ◌↔◌, ◌⊎◌, List, [], ◌∷◌, ◌++◌, take, drop}
-use Rattle.std.specs.List.{AllByRecursion}
+use Rattle.std.specs.Prelude.{◌≡◌, List, [], ◌∷◌, ◌++◌}
 use Rattle.std.specs.Cmp.{IsTotalOrder}
 use Rattle.std.specs.declared.cmp.Ordering.{Ordering}
 use Rattle.std.specs.declared.cmp.Ordering.TheVariants.{Less}
-use Rattle.std.proofs.Common.{ℕ, refl, sym, subst, inl, inr, take-append-drop}
+use Rattle.std.proofs.Common.{sym, subst, inl, inr}
 use Rattle.mxf_klv.specs.Rising.{In, IsRising}
-use Rattle.mxf_klv.proofs.Lists.{all_append, all_front, all_last, In-append, In-end}
+use Rattle.mxf_klv.proofs.Lists.{all_front, all_last, In-end}
 
 module _ {K : Type 0} (R : K → K → Ordering) where
   -- the front of a rising list rises

@@ -9,6 +9,7 @@ ghost use Rattle.mxf_klv.specs.Rising.{In, SameMembers};
 ghost use Rattle.mxf_catalogue.specs.Content.{AreReduced, IsCatalogue, IsContent, IsOfPacket, IsReplaced};
 ghost use Rattle.mxf_catalogue.specs.Content.{has_note, reduced, reduced_union, reduced_with, union_of, with_note};
 ghost use Rattle.mxf_catalogue.specs.Disputes.{AreApart, IsClear, IsDisputed, clear_notes, disputed_notes, lies_in};
+ghost use Rattle.mxf_catalogue.specs.Disputes.{undisputed_notes};
 ghost use Rattle.mxf_catalogue.specs.History.{History, Add, Join, content};
 ghost use Rattle.mxf_catalogue.specs.Moved.{TellsMoved};
 ghost use Rattle.mxf_catalogue.specs.NoteLists.{Covers, touching};
@@ -314,6 +315,15 @@ impl Catalogue {
         ClearNotes::of(&self.parts.undisputed)
     }
 
+    /// The notes that share no byte with another, in their order: the clear notes, and the heads that nothing touches.
+    /// It takes no memory.
+    pub fn undisputed(&self) -> Notes<'_>
+        ensures notes { result ≡ undisputed_notes self.now }
+        ensures bound { length result < 2 ^ 64 }
+    {
+        Notes::of(&self.parts.undisputed, &[])
+    }
+
     /// The clear notes whose packets lie wholly in the range of so many bytes from `start` on, in their order: two
     /// binary searches. The range may go on beyond all offsets.
     pub fn clear_within(&self, start: u64, bytes: u64) -> ClearNotes<'_>
@@ -368,6 +378,14 @@ impl Catalogue {
     {
         let note = at_offset(&self.parts.undisputed, offset)?;
         if note.is_head() { None } else { Some(note) }
+    }
+
+    /// The note with this file offset, in bytes, that shares no byte with another: a clear note, or a head. It is a
+    /// binary search.
+    pub fn undisputed_at(&self, offset: u64) -> Option<&Note>
+        ensures first { option_copied result ≡ find (λ n. n.offset == offset) (undisputed_notes self.now) }
+    {
+        at_offset(&self.parts.undisputed, offset)
     }
 }
 
@@ -437,6 +455,14 @@ impl Semilattice for Catalogue {
             && self.parts.disputed == other.parts.disputed
     }
 }
+
+/// A law of [`Catalogue::undisputed`]: they are those of the notes that share no byte with another, in the order of
+/// notes.
+pub fn undisputed_notes_by_definition()
+    ensures members { (n : NoteParts) (notes : List NoteParts)
+        → In n (undisputed_notes notes) ↔ (In n notes × ¬ IsDisputed n notes) }
+    ensures rising { (notes : List NoteParts) → IsContent notes → IsContent (undisputed_notes notes) }
+{}
 
 /// A law: a content is its set of notes, and [`add`](Catalogue::add) and [`join`](Semilattice::join) are by these sets,
 /// reduced: without the heads whose four fields are those of a note of a whole packet.

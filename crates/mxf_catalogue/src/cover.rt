@@ -14,6 +14,7 @@ use crate::run::Run;
 use crate::semilattice::Semilattice;
 pub use gaps::CoverGaps;
 use mxf_klv::OutOfMemory;
+use placing::has_all;
 pub(crate) use placing::{last_end, meets, put_run};
 pub use runs::CoverRuns;
 use std::alloc::Global;
@@ -70,6 +71,20 @@ impl Cover {
         ensures { IsTrue result ↔ LiesIn self.now offset }
     {
         meets(&self.runs, offset, offset)
+    }
+
+    /// Whether an offset from `start` up to `end`, in bytes, the end excluded, is in the set: a binary search.
+    pub fn meets(&self, start: u64, end: u64) -> bool
+        ensures { IsTrue result ↔ ((at : ℕ) × LiesIn self.now at × (start ≤ at) × (at < end)) }
+    {
+        start < end && meets(&self.runs, start, end - 1)
+    }
+
+    /// Whether all offsets from `start` up to `end`, in bytes, the end excluded, are in the set: a binary search.
+    pub fn has_all(&self, start: u64, end: u64) -> bool
+        ensures { IsTrue result ↔ ((at : ℕ) → start ≤ at → at < end → LiesIn self.now at) }
+    {
+        end <= start || has_all(&self.runs, start, end)
     }
 
     /// The maximal runs, rising.

@@ -6,7 +6,7 @@
 //!   [`histories_leave_what_they_were_handed`], [`one_set_one_content`], [`contents_are_sets`];
 //! - clear and disputed notes are by spans and membership: [`clear_notes_by_definition`],
 //!   [`disputed_notes_by_definition`], [`notes_are_clear_or_disputed`], [`notes_are_disputed_in_two_ways`],
-//!   [`clear_notes_stand_apart`];
+//!   [`clear_notes_stand_apart`], [`undisputed_notes_by_definition`];
 //! - a new note moves exactly the clear notes that it disputes: [`moved_notes_by_definition`];
 //! - covers are their sets of offsets, each as one list of maximal runs: [`covers_are_sets`],
 //!   [`gaps_of_covers_by_definition`], [`one_list_of_maximal_runs`];
@@ -41,7 +41,7 @@ pub use catalogue::{
     Offsets, bytes_are_a_file_or_refused, clear_notes_by_definition, clear_notes_stand_apart,
     contents_are_sets, disputed_notes_by_definition, disputes_by_tests, files_are_read_as_written,
     files_of_both_versions, moved_notes_by_definition, notes_are_clear_or_disputed,
-    notes_are_disputed_in_two_ways, one_file, one_file_reading,
+    notes_are_disputed_in_two_ways, one_file, one_file_reading, undisputed_notes_by_definition,
 };
 pub use cover::{Cover, CoverGaps, CoverRuns, covers_are_sets, gaps_of_covers_by_definition};
 pub use history::{histories_leave_what_they_were_handed, one_set_one_content};

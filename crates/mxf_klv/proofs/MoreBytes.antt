@@ -18,7 +18,7 @@ use Rattle.mxf_klv.specs.PieceReading.{IsOpen, packet_at, packets_in, rest_in, s
 use Rattle.mxf_klv.specs.declared.packet.PacketFault.{PacketFault}
 use Rattle.mxf_klv.specs.declared.packet.PacketFault.TheVariants as faults
 use Rattle.mxf_klv.specs.declared.piece.Stop.{Stop}
-use Rattle.mxf_klv.specs.declared.piece.Stop.TheVariants.{End, NotUl, BadLength, TooFar, Truncated}
+use Rattle.mxf_klv.specs.declared.piece.Stop.TheVariants.{End, NotUl, BadLength, TooFar, Truncated, NoStart}
 use Rattle.mxf_klv.proofs.KeyAndLengthLaws.{head_in, head-size, head-width}
 use Rattle.mxf_klv.proofs.PieceLaws.{none-packet_at, one_piece, packet_at-fault, packet_at-given, packet_at-none}
 use Rattle.mxf_klv.proofs.PieceLaws.{packets_in-none, packets_in-some, rest_in-none, rest_in-some, some_piece}
@@ -265,6 +265,7 @@ few_without_head at r none cut =
       | NotUl place ↦ λ e o. absurd o
       | BadLength place ↦ λ e o. absurd o
       | TooFar place ↦ λ e o. absurd o
+      | NoStart place ↦ λ e o. absurd o
     ] refl cut
 
 -- ---- a stop behind which the piece can't go on
@@ -351,6 +352,7 @@ stays at r x (TooFar place) none e o =
     let (key, l, after, h, far) = is.1 in
     let same : TooFar at ≡ TooFar place = ap (λ (n : ℕ). TooFar n) (sym is.0) in
     stays_by at r x (TooFar at) (e ∙ sym same) (at_far at (r ++ x) key (after ++ x) l (more_head r key l after x h) far)
+stays at r x (NoStart place) none e o = absurd ((one_stop at r (NoStart place) (packet_at-none at r none)).0 e)
 
 -- the same of a whole piece: its packets and its stop
 pub stop_stays : (o : ℕ) (m x : List ℕ) → ¬ IsOpen (stop_in o m)

@@ -19,7 +19,7 @@ use Rattle.mxf_klv.specs.declared.ber.BerFault.TheVariants as lengths
 use Rattle.mxf_klv.specs.declared.packet.PacketFault.{PacketFault}
 use Rattle.mxf_klv.specs.declared.packet.PacketFault.TheVariants as faults
 use Rattle.mxf_klv.specs.declared.piece.Stop.{Stop}
-use Rattle.mxf_klv.specs.declared.piece.Stop.TheVariants.{End, NotUl, BadLength, TooFar, Truncated}
+use Rattle.mxf_klv.specs.declared.piece.Stop.TheVariants.{End, NotUl, BadLength, TooFar, Truncated, NoStart}
 use Rattle.mxf_klv.proofs.LengthLemmas.{one_reading, wide_found}
 use Rattle.mxf_klv.proofs.KeyAndLengthLaws.{head_of, head-begins, head-cut, head-length, head-packet, head-size}
 use Rattle.mxf_klv.proofs.KeyAndLengthLaws.{head_in}
@@ -237,6 +237,7 @@ stop-given offset rest (Truncated place) (at, some, cut, near) =
     (false_from_ne_true _ (λ e. sound_cut rest cut (bad-reads (drop 16 rest) e)))
     (false_from_ne_true _ (λ e. near (far-is offset rest e)))
     ∙ ap (λ (x : ℕ). Truncated x) (sym at)
+stop-given offset rest (NoStart place) is = absurd is
 
 pub one_stop : (offset : ℕ) (rest : List ℕ) (stop : Stop) → BeginsWithNone offset rest
     → (stop_of offset rest ≡ stop) ↔ IsStop offset rest stop

@@ -6,7 +6,7 @@ use Rattle.mxf_klv.specs.KeyAndLength.{BeginsWithKeyAndLength}
 use Rattle.mxf_klv.specs.Note.{greatest_end, note_of}
 use Rattle.mxf_klv.specs.declared.packet.PacketFault.TheVariants as faults
 use Rattle.mxf_klv.specs.declared.piece.Stop.{Stop}
-use Rattle.mxf_klv.specs.declared.piece.Stop.TheVariants.{End, NotUl, BadLength, TooFar, Truncated}
+use Rattle.mxf_klv.specs.declared.piece.Stop.TheVariants.{End, NotUl, BadLength, TooFar, Truncated, NoStart}
 
 -- The first offset after packets that are laid one after another from an offset on.
 abbrev pub end_after : ℕ → List PacketParts → ℕ
@@ -55,7 +55,8 @@ pub record BeginsWithCut (offset : ℕ) (rest : List ℕ) (n : NoteParts) : Type
   pub head : n ≡ head_parts offset key length.width length.value
 
 -- Why no packet is noted at the front of a rest at an offset: no byte is left; what is there doesn't begin as a label;
--- the length is at fault; the packet would end too far on; or else the packet is cut.
+-- the length is at fault; the packet would end too far on; or else the packet is cut. A piece has its start: that there
+-- is none is never its stop.
 abbrev pub IsStop : ℕ → List ℕ → Stop → Type 0
 IsStop offset rest End = rest ≡ []
 IsStop offset rest (NotUl place) = (place ≡ offset) × ReadsPacket rest (Err faults.NotUl)
@@ -64,3 +65,4 @@ IsStop offset rest (BadLength place) =
 IsStop offset rest (TooFar place) = (place ≡ offset) × EndsTooFar offset rest
 IsStop offset rest (Truncated place) =
     (place ≡ offset) × (rest ≢ []) × ReadsPacket rest (Err faults.Short) × ¬ EndsTooFar offset rest
+IsStop offset rest (NoStart place) = ⊥

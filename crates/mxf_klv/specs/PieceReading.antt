@@ -12,7 +12,7 @@ use Rattle.mxf_klv.specs.Packet.{size_of}
 use Rattle.mxf_klv.specs.Note.{greatest_end, note_of}
 use Rattle.mxf_klv.specs.Piece.{notes_from, end_after}
 use Rattle.mxf_klv.specs.declared.piece.Stop.{Stop}
-use Rattle.mxf_klv.specs.declared.piece.Stop.TheVariants.{End, NotUl, BadLength, TooFar, Truncated}
+use Rattle.mxf_klv.specs.declared.piece.Stop.TheVariants.{End, NotUl, BadLength, TooFar, Truncated, NoStart}
 
 -- The length at the front, where a whole one stands there: the law says that `ReadsLength` gives the same.
 abbrev pub length_at : List ℕ → Option LengthParts
@@ -109,6 +109,7 @@ IsOpen (Truncated place) = Unit {0}
 IsOpen (NotUl place) = ⊥
 IsOpen (BadLength place) = ⊥
 IsOpen (TooFar place) = ⊥
+IsOpen (NoStart place) = ⊥
 
 -- The key and the length of the packet at the front, which would end at or below the greatest end.
 pub record IsHeadOf (offset : ℕ) (bytes key : List ℕ) (l : LengthParts) : Type 0 where

@@ -8,7 +8,7 @@ use Rattle.mxf_klv.specs.declared.kinds.Status.{Status}
 use Rattle.mxf_klv.specs.declared.kinds.Status.TheVariants.{OpenIncomplete, ClosedIncomplete, OpenComplete}
 use Rattle.mxf_klv.specs.declared.kinds.Status.TheVariants.{ClosedComplete}
 use Rattle.mxf_klv.specs.declared.piece.Stop.{Stop}
-use Rattle.mxf_klv.specs.declared.piece.Stop.TheVariants.{End, NotUl, BadLength, TooFar, Truncated}
+use Rattle.mxf_klv.specs.declared.piece.Stop.TheVariants.{End, NotUl, BadLength, TooFar, Truncated, NoStart}
 
 -- The word for a kind; a partition pack's has no status.
 abbrev pub kind_name : Kind → List ℕ
@@ -42,3 +42,4 @@ stop_name (NotUl place) = codes "not-ul"
 stop_name (BadLength place) = codes "bad-length"
 stop_name (TooFar place) = codes "too-far"
 stop_name (Truncated place) = codes "truncated"
+stop_name (NoStart place) = codes "no-start"

@@ -35,6 +35,9 @@ pub enum Stop {
     TooFar(u64),
     /// Anything else that is missing.
     Truncated(u64),
+    /// A range has no start: only a range answers it, never a piece. The offset is the first one behind the window that
+    /// was searched.
+    NoStart(u64),
 }
 
 /// The word for the stop, as in `too-far`, without its place.
@@ -51,6 +54,7 @@ impl fmt::Display for Stop {
             Stop::BadLength(_) => "bad-length",
             Stop::TooFar(_) => "too-far",
             Stop::Truncated(_) => "truncated",
+            Stop::NoStart(_) => "no-start",
         })
     }
 }

@@ -16,12 +16,14 @@ use Rattle.mxf_catalogue.proofs.HistoryLaws.{AreReduced-content, In-content}
 use Rattle.mxf_views.specs.Headline.{IsTheRun}
 use Rattle.mxf_views.proofs.RunLaws.{IsTheRun-from_set}
 use Rattle.mxf_read.specs.declared.gathering.part.Part.{Part}
-use Rattle.mxf_read.specs.declared.gathering.part.Part.TheVariants.{Piece, Saved}
+use Rattle.mxf_read.specs.declared.gathering.part.Part.TheVariants.{Piece, Range, Saved}
 use Rattle.mxf_read.specs.declared.gathering.report.PieceReport.{PieceReport}
 use Rattle.mxf_read.specs.declared.gathering.fault.PartFault.{PartFault}
 use Rattle.mxf_read.specs.declared.gathering.fault.PartFault.TheVariants.{OutOfMemory}
 use Rattle.mxf_read.specs.Levels.{Adds, HoldsAll, merged_with}
-use Rattle.mxf_read.specs.Gathering.{AllTell, Gathers, HandedBy, HasFault, IsGatherFault, IsGood, IsLeftBy}
+use Rattle.mxf_read.specs.Ranges.{range_notes}
+use Rattle.mxf_read.specs.Gathering.{AllTell, Gathers, HandedBy, HandsNote, HasFault, IsGatherFault, IsGood, IsLeftBy}
+use Rattle.mxf_read.specs.Gathering.{IsPieceOf}
 use Rattle.mxf_read.proofs.Taking.{slice_get_at}
 use Rattle.mxf_read.specs.Gathering.{TakesPart, Tells, bytes_of, piece_of, reports_in, reports_of}
 use Rattle.mxf_klv.proofs.Lists.{all_push}
@@ -87,6 +89,17 @@ module _ {R : Type 0} (left : R → Option (List ℕ)) where
         ],
       )
 
+  -- a part that is a piece hands the notes of that
+  handed_of : (p : Part R) (offset : ℕ) (bytes : List ℕ) (n : NoteParts) → IsPieceOf left p offset bytes
+      → In n (notes_in offset bytes) ↔ HandsNote left p n
+  handed_of (Piece at from) offset bytes n (o, b) =
+      let same : notes_in offset bytes ≡ notes_in at (piece_of left from) = rw (o, b) refl in
+      (subst (In n) same, subst (In n) (sym same))
+  handed_of (Range at from) offset bytes n (o, b) =
+      let same : notes_in offset bytes ≡ range_notes at (piece_of left from) = rw (o, b) refl in
+      (subst (In n) same, subst (In n) (sym same))
+  handed_of (Saved from) offset bytes n is = absurd is
+
   -- a history that gathers parts is handed what they hand
   hands_handed : (h : History) (parts : List (Part R)) (n : NoteParts) → Gathers left h parts
       → Hands h n ↔ HandedBy left parts n
@@ -109,15 +122,15 @@ module _ {R : Type 0} (left : R → Option (List ℕ)) where
           | inr j ↦ absurd j
         ],
       )
-  hands_handed (Absorb h offset bytes) parts n (ps, from, e, s, g) =
+  hands_handed (Absorb h offset bytes) parts n (ps, piece, e, is, g) =
       let a = hands_handed h ps n g in
-      let both = handed_both ps (Piece offset from ∷ []) n in
-      let same : notes_in offset bytes ≡ notes_in offset (piece_of left from) = ap (notes_in offset) s in
+      let both = handed_both ps (piece ∷ []) n in
+      let same = handed_of piece offset bytes n is in
       subst (λ (rs : List (Part R)). Hands (Absorb h offset bytes) n ↔ HandedBy left rs n) (sym e) (
-        λ i. both.1 (elim i [ inl j ↦ inl (a.0 j) | inr j ↦ inr (inl (subst (In n) same j)) ]),
+        λ i. both.1 (elim i [ inl j ↦ inl (a.0 j) | inr j ↦ inr (inl (same.0 j)) ]),
         λ i. elim (both.0 i) [
           | inl j ↦ inl (a.1 j)
-          | inr j ↦ elim j [ inl k ↦ inr (subst (In n) (sym same) k) | inr k ↦ absurd k ]
+          | inr j ↦ elim j [ inl k ↦ inr (same.1 k) | inr k ↦ absurd k ]
         ],
       )
   hands_handed (Cut h offset bytes noted) parts n g = absurd g
@@ -296,6 +309,7 @@ module _ {R : Type 0} (left : R → Option (List ℕ)) where
   -- any part may want memory
   wants : (p : Part R) → HasFault left OutOfMemory p
   wants (Piece offset from) = tt
+  wants (Range offset from) = tt
   wants (Saved from) = tt
 
   pub gathered_wants : (all rest : List (Part R)) (number : ℕ) (levels : List (List NoteParts))

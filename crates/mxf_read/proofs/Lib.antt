@@ -5,6 +5,8 @@ pub mod Feeding
 pub mod Reports
 pub mod LevelLaws
 pub mod SavedLaws
+pub mod Starts
+pub mod RangeLaws
 pub mod GatheringLaws
 mod ComingLaws
 mod Walks

@@ -3,13 +3,11 @@ use Rattle.std.proofs.Common.{◌≡◌, ◌≢◌, ◌⊎◌, ℕ, zero, suc, �
 use Rattle.std.proofs.Common.{None, Some, true, false, refl, sym, ap, subst, ◌∙◌, arith, inl, inr, append-nil}
 use Rattle.std.specs.Prelude.{slice_get, IsSomeAnd}
 use Rattle.std.specs.List.{AllByRecursion}
-use Rattle.std.proofs.lemmas.Cmp.{ranked}
 use Rattle.std.proofs.lemmas.List.{take_all}
-use Rattle.std.specs.Ordering.{nat_cmp}
-use Rattle.std.specs.declared.cmp.Ordering.TheVariants.{Less, Equal, Greater}
+use Rattle.std.specs.declared.cmp.Ordering.TheVariants.{Less}
 use Rattle.mxf_klv.specs.Parts.{NoteParts, PacketParts, head_parts}
 use Rattle.mxf_klv.specs.Packet.{size_of}
-use Rattle.mxf_klv.specs.Note.{note_cmp, note_of}
+use Rattle.mxf_klv.specs.Note.{note_cmp}
 use Rattle.mxf_klv.specs.Piece.{BeginsWithCut, end_after, notes_from}
 use Rattle.mxf_klv.specs.PieceReading.{IsOpen, head_at, heads_at, is_cut_at, notes_in, packets_in, rest_in}
 use Rattle.mxf_klv.specs.PieceReading.{stop_in, stop_of}

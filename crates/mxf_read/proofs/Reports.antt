@@ -13,7 +13,7 @@ use Rattle.mxf_klv.specs.KeyAndLength.{HasNoKeyAndLength}
 use Rattle.mxf_klv.specs.Piece.{end_after, notes_from}
 use Rattle.mxf_klv.specs.PieceReading.{IsOpen, heads_at, notes_in, packets_in, rest_in, stop_in, stop_of}
 use Rattle.mxf_klv.specs.declared.piece.Stop.{Stop}
-use Rattle.mxf_klv.specs.declared.piece.Stop.TheVariants.{End, NotUl, BadLength, TooFar, Truncated}
+use Rattle.mxf_klv.specs.declared.piece.Stop.TheVariants.{End, NotUl, BadLength, TooFar, Truncated, NoStart}
 use Rattle.mxf_klv.proofs.MoreBytes.{seam, stop_is, stop_stays, notes_from-append}
 use Rattle.mxf_klv.proofs.StopLaws.{at_cut, stops}
 use Rattle.mxf_klv.proofs.CutHeads.{heads_at-cut, heads_at-none}
@@ -80,6 +80,7 @@ open_cut at r none cut some =
       | NotUl place ↦ λ e o. absurd o
       | BadLength place ↦ λ e o. absurd o
       | TooFar place ↦ λ e o. absurd o
+      | NoStart place ↦ λ e o. absurd o
     ] refl cut
 
 pub report_cut_head : (o : ℕ) (m : List ℕ) (p : Piece) (noted len : ℕ) → Fed o m p → noted ≡ length p.notes
@@ -340,6 +341,7 @@ open_or_not (Truncated place) = inl tt
 open_or_not (NotUl place) = inr (λ t. t)
 open_or_not (BadLength place) = inr (λ t. t)
 open_or_not (TooFar place) = inr (λ t. t)
+open_or_not (NoStart place) = inr (λ t. t)
 
 whole_taken : (before after : Option (List ℕ)) (limit : ℕ) (taken : List ℕ) → Takes before after limit taken
     → (length taken ≡ limit) ⊎ IsAtEnd after → IfSome before (λ all. take limit all ≡ taken)

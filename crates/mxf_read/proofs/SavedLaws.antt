@@ -74,7 +74,7 @@ piece_taken left offset from old new notes report reports more h r a m t =
     let s = reported (left from) r t in
     record {
       notes = notes;
-      left_by = (Absorb New offset (piece_of left from), ([], from, refl, refl, refl), k);
+      left_by = (Absorb New offset (piece_of left from), ([], Piece offset from, refl, (refl, refl), refl), k);
       added = a;
       reported = m ∙ ap (λ (x : Report). reports ++ record { offset = offset; report = x } ∷ []) s;
       good = tt;

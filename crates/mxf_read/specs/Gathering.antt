@@ -10,15 +10,16 @@ use Rattle.mxf_catalogue.specs.CatalogueFile.{IsFileOf, IsRefused}
 use Rattle.mxf_catalogue.specs.History.{History, New, Add, Join, Read, Absorb, Cut, Of, content}
 use Rattle.mxf_catalogue.specs.declared.catalogue.file.FileFault.TheVariants as files
 use Rattle.mxf_read.specs.Absorbs.{report_of}
+use Rattle.mxf_read.specs.Ranges.{piece_bytes, piece_offset, range_notes, range_report}
 use Rattle.mxf_read.specs.declared.gathering.part.Part.{Part}
-use Rattle.mxf_read.specs.declared.gathering.part.Part.TheVariants.{Piece, Saved}
+use Rattle.mxf_read.specs.declared.gathering.part.Part.TheVariants.{Piece, Range, Saved}
 use Rattle.mxf_read.specs.declared.gathering.report.PieceReport.{PieceReport}
 use Rattle.mxf_read.specs.declared.gathering.fault.PartFault.{PartFault}
 use Rattle.mxf_read.specs.declared.gathering.fault.PartFault.TheVariants.{ReadFault, TooLong, Catalogue, OutOfMemory}
 use Rattle.mxf_read.specs.declared.gathering.fault.GatherFault.{GatherFault}
 use Rattle.mxf_read.specs.Levels.{Adds}
 
--- The bytes that are read of one piece, at most.
+-- The bytes that are read of one piece or range, at most.
 abbrev pub piece_limit : ℕ
 piece_limit = 1099511627776
 
@@ -49,6 +50,7 @@ module _ {R : Type 0} (left : R → Option (List ℕ)) where
   -- The reader of the part tells its bytes.
   abbrev pub Tells : Part R → Type 0
   Tells (Piece offset from) = IsSome (left from)
+  Tells (Range offset from) = IsSome (left from)
   Tells (Saved from) = IsSome (left from)
 
   -- The readers of all parts do.
@@ -59,14 +61,23 @@ module _ {R : Type 0} (left : R → Option (List ℕ)) where
   abbrev pub bytes_of : R → List ℕ
   bytes_of from = unwrap_or (left from) []
 
-  -- The first of them, which are read of a piece.
+  -- The first of them, which are read of a piece or a range.
   abbrev pub piece_of : R → List ℕ
   piece_of from = take piece_limit (bytes_of from)
 
-  -- The part hands the note: a piece the notes of its packets and its head, a saved catalogue those of the content that
-  -- it is the file of.
+  -- The part is a piece that lies at an offset and has these bytes; or a range with this piece. Without a start that is
+  -- no byte.
+  abbrev pub IsPieceOf : Part R → ℕ → List ℕ → Type 0
+  IsPieceOf (Piece at from) offset bytes = (offset ≡ at) × (bytes ≡ piece_of from)
+  IsPieceOf (Range at from) offset bytes =
+      (offset ≡ piece_offset at (piece_of from)) × (bytes ≡ piece_bytes at (piece_of from))
+  IsPieceOf (Saved from) offset bytes = ⊥
+
+  -- The part hands the note: a piece the notes of its packets and its head, a range those of its piece, a saved
+  -- catalogue those of the content that it is the file of.
   abbrev pub HandsNote : Part R → NoteParts → Type 0
   HandsNote (Piece offset from) n = In n (notes_in offset (piece_of from))
+  HandsNote (Range offset from) n = In n (range_notes offset (piece_of from))
   HandsNote (Saved from) n = (notes : List NoteParts) × IsFileOf (bytes_of from) notes × In n notes
 
   -- One of the parts hands the note.
@@ -74,8 +85,8 @@ module _ {R : Type 0} (left : R → Option (List ℕ)) where
   HandedBy [] n = ⊥
   HandedBy (p ∷ parts) n = HandsNote p n ⊎ HandedBy parts n
 
-  -- The history is handed the parts and nothing else, each of them once and in their order: it absorbs a piece behind
-  -- what it gathered before, reads a saved catalogue, and joins.
+  -- The history is handed the parts and nothing else, each of them once and in their order: it absorbs a piece, or that
+  -- of a range, behind what it gathered before, reads a saved catalogue, and joins.
   abbrev pub Gathers : History → List (Part R) → Type 0
   Gathers New parts = parts ≡ []
   Gathers (Add h n) parts = ⊥
@@ -83,7 +94,7 @@ module _ {R : Type 0} (left : R → Option (List ℕ)) where
       (front : List (Part R)) × (back : List (Part R)) × (parts ≡ front ++ back) × Gathers h front × Gathers k back
   Gathers (Read bytes notes is) parts = (from : R) × (parts ≡ Saved from ∷ []) × (bytes ≡ bytes_of from)
   Gathers (Absorb h offset bytes) parts =
-      (front : List (Part R)) × (from : R) × (parts ≡ front ++ Piece offset from ∷ []) × (bytes ≡ piece_of from)
+      (front : List (Part R)) × (piece : Part R) × (parts ≡ front ++ piece ∷ []) × IsPieceOf piece offset bytes
       × Gathers h front
   Gathers (Cut h offset bytes noted) parts = ⊥
   Gathers (Of h) parts = Gathers h parts
@@ -92,23 +103,27 @@ module _ {R : Type 0} (left : R → Option (List ℕ)) where
   abbrev pub IsLeftBy : List (Part R) → List NoteParts → Type 0
   IsLeftBy parts notes = (h : History) × Gathers h parts × (notes ≡ content h)
 
-  -- What is reported of a part: of a piece its offset, the number of its packets and its stop.
+  -- What is reported of a part: of a piece its offset, the number of its packets and its stop; of a range that of its
+  -- piece, or that it has no start.
   abbrev pub reports_in : Part R → List PieceReport
   reports_in (Piece offset from) = record { offset = offset; report = report_of offset (piece_of from) } ∷ []
+  reports_in (Range offset from) = range_report offset (piece_of from) ∷ []
   reports_in (Saved from) = []
 
-  -- The reports of the pieces, in their order.
+  -- The reports of the pieces and ranges, in their order.
   abbrev pub reports_of : List (Part R) → List PieceReport
   reports_of parts = flat_map reports_in parts
 
   -- A saved part is the file of a content, and not too long.
   abbrev pub IsGood : Part R → Type 0
   IsGood (Piece offset from) = Unit {0}
+  IsGood (Range offset from) = Unit {0}
   IsGood (Saved from) = (notes : List NoteParts) × IsSavedAs (bytes_of from) notes
 
   -- The part has the fault.
   abbrev pub HasFault : PartFault → Part R → Type 0
   HasFault fault (Piece offset from) = IsOfAnyPart fault
+  HasFault fault (Range offset from) = IsOfAnyPart fault
   HasFault fault (Saved from) = IsSavedFault (bytes_of from) fault
 
   -- A part was taken: what it leaves was added to the contents that wait to be merged, and its reports stand behind

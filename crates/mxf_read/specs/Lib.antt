@@ -3,6 +3,7 @@ pub mod Coming
 pub mod Feeding
 pub mod Reads
 pub mod Absorbs
+pub mod Ranges
 pub mod PartReads
 pub mod Levels
 pub mod Gathering

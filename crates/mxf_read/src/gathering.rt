@@ -1,4 +1,4 @@
-//! Gathering the parts of a run: pieces and saved catalogues.
+//! Gathering the parts of a run: pieces, ranges and saved catalogues.
 ghost use Rattle.std.specs.Prelude.{◌≡◌, ◌<◌, ◌≤◌, ℕ, List, [], length, take, IfOk, IfErr, IfSome, OnOk};
 ghost use Rattle.mxf_klv.specs.Parts.{NoteParts};
 ghost use Rattle.mxf_klv.specs.PieceReading.{notes_in};
@@ -6,6 +6,7 @@ ghost use Rattle.mxf_catalogue.specs.Content.{reduced_union};
 ghost use Rattle.mxf_catalogue.specs.CatalogueFile.{IsRefused};
 ghost use Rattle.mxf_views.specs.Headline.{IsTheRun};
 ghost use Rattle.mxf_read.specs.Absorbs.{report_of};
+ghost use Rattle.mxf_read.specs.Ranges.{no_start, range_notes, range_report};
 ghost use Rattle.std.specs.List.{AllByRecursion};
 ghost use Rattle.mxf_read.specs.Gathering.{AllTell, HandedBy, HasFault, IsGatherFault, IsGood, IsLeftBy};
 ghost use Rattle.mxf_read.specs.Gathering.{IsOfAnyPart, IsSavedAs, IsSavedFault, TakesPart, Tells, piece_limit};
@@ -18,12 +19,13 @@ mod reading;
 mod report;
 
 use crate::absorbing::{PieceNotes, notes_from};
+use crate::range::start_of;
 use crate::report::Report;
 use crate::ticks::ReadTicks;
 pub use fault::{GatherFault, PartFault};
 use levels::Levels;
 use mxf_catalogue::{Catalogue, FileFault};
-use mxf_klv::OutOfMemory;
+use mxf_klv::{OutOfMemory, Stop};
 use mxf_views::Views;
 pub use part::Part;
 use reading::read_up_to;
@@ -31,8 +33,11 @@ pub use report::{PieceReport, PieceReports};
 use std::alloc::Global;
 use std::io::Read;
 
-/// The greatest number of bytes that is read of one piece.
+/// The greatest number of bytes that is read of one piece or range.
 const GREATEST_PIECE: u64 = 1_099_511_627_776;
+
+/// The greatest number of bytes of a range that are searched for its start.
+const GREATEST_WINDOW: u64 = 33_554_432;
 
 /// The greatest number of bytes of the file of a catalogue.
 const GREATEST_SAVED: u64 = 1_073_741_824;
@@ -44,21 +49,58 @@ pub struct Gathered {
     pub reports: PieceReports,
 }
 
-/// The notes of the piece that a reader gives, and what is reported of it.
+/// The notes of the piece that a reader gives, of which so many bytes are read at most, and what is reported of it.
 fn read_piece<R: Read>(
     alloc: Global,
     offset: u64,
     from: &mut R,
+    limit: u64,
 ) -> Result<(Catalogue, Report), PartFault>
     ensures report { IfOk result (λ p. IfSome (R.remaining from.old) (λ all.
-        p.1 ≡ report_of offset (take piece_limit all))) }
+        p.1 ≡ report_of offset (take limit all))) }
     ensures notes { IfOk result (λ p. IfSome (R.remaining from.old) (λ all.
-        p.0 ≡ reduced_union [] (notes_in offset (take piece_limit all)))) }
+        p.0 ≡ reduced_union [] (notes_in offset (take limit all)))) }
     ensures fault { IfErr result IsOfAnyPart }
 {
     let mut ticks = ReadTicks::new();
-    let PieceNotes { notes, outcome } = notes_from(alloc, offset, from, GREATEST_PIECE, &mut ticks);
+    let PieceNotes { notes, outcome } = notes_from(alloc, offset, from, limit, &mut ticks);
     Ok((notes, outcome?))
+}
+
+/// The notes of the piece of a range that a reader gives, and what is reported of it. Behind a window without a start
+/// nothing is read.
+fn read_range<R: Read + Drop>(
+    alloc: Global,
+    offset: u64,
+    mut from: R,
+) -> Result<(Catalogue, PieceReport), PartFault>
+    ensures report { IfOk result (λ p. IfSome (R.remaining from) (λ all.
+        p.1 ≡ range_report offset (take piece_limit all))) }
+    ensures notes { IfOk result (λ p. IfSome (R.remaining from) (λ all.
+        p.0 ≡ reduced_union [] (range_notes offset (take piece_limit all)))) }
+    ensures fault { IfErr result IsOfAnyPart }
+{
+    let window = read_up_to(alloc, &mut from, GREATEST_WINDOW)?;
+    let Some(start) = start_of(offset, &window) else {
+        let report = no_start(offset, window.len());
+        return Ok((Catalogue::new(alloc), PieceReport { offset, report }));
+    };
+    let offset = offset + start as u64;
+    let begun: &[u8] = &window[start..];
+    let mut piece = begun.chain(from);
+    let limit = GREATEST_PIECE - start as u64;
+    let (notes, report) = read_piece(alloc, offset, &mut piece, limit)?;
+    Ok((notes, PieceReport { offset, report }))
+}
+
+/// What is reported of a range without a start, whose window has so many bytes.
+fn no_start(offset: u64, size: usize) -> Report
+    ensures { result ≡ no_start offset size }
+{
+    Report {
+        noted: 0,
+        stop: Stop::NoStart(offset.saturating_add(size as u64)),
+    }
 }
 
 /// What the fault of a file is for its part.
@@ -86,7 +128,7 @@ fn read_saved<R: Read>(alloc: Global, from: &mut R) -> Result<Catalogue, PartFau
     }
 }
 
-/// Takes one part: its notes, and the report of a piece.
+/// Takes one part: its notes, and the report of a piece or range.
 fn take_part<R: Read + Drop>(
     alloc: Global,
     levels: &mut Levels,
@@ -99,9 +141,14 @@ fn take_part<R: Read + Drop>(
 {
     match part {
         Part::Piece { offset, mut from } => {
-            let (notes, report) = read_piece(alloc, offset, &mut from)?;
+            let (notes, report) = read_piece(alloc, offset, &mut from, GREATEST_PIECE)?;
             levels.add(notes)?;
             reports.push(PieceReport { offset, report })?;
+        }
+        Part::Range { offset, from } => {
+            let (notes, report) = read_range(alloc, offset, from)?;
+            levels.add(notes)?;
+            reports.push(report)?;
         }
         Part::Saved { mut from } => {
             let saved = read_saved(alloc, &mut from)?;
@@ -111,8 +158,9 @@ fn take_part<R: Read + Drop>(
     Ok(())
 }
 
-/// What all parts hold together. Of each piece 1,099,511,627,776 bytes are read at most; the file of a catalogue has
-/// 1,073,741,824 bytes at most.
+/// What all parts hold together. Of each piece or range 1,099,511,627,776 bytes are read at most; the file of a
+/// catalogue has 1,073,741,824 bytes at most. A range's start is searched for in its first 33,554,432 bytes, which are
+/// held in memory; where there is none the range hands nothing, and nothing more of it is read.
 ///
 /// Whatever the order, the repeats and the joins of the parts, the notes are exactly those that the parts hand: any
 /// calls that were handed the same notes hold the same and write the same bytes. Each view is its function of the

@@ -13,8 +13,9 @@
 //! [`notes_from`] makes a catalogue of the notes of a piece, where no views are wanted; [`absorb_from`] is that, and
 //! moves them into views.
 //!
-//! [`gather`] takes any number of pieces and saved catalogues, from readers: what they hold together is exactly what
-//! they hand, and a fault names the part that it is of.
+//! [`gather`] takes any number of pieces, ranges and saved catalogues, from readers: what they hold together is exactly
+//! what they hand, and a fault names the part that it is of. A range is bytes whose first may lie inside a packet:
+//! [`start_of`] says where its piece begins, and [`each_range_has_one_start`] that this is the one place.
 //!
 //! That memory is there, and that a call succeeds with it, is tested.
 //!
@@ -42,6 +43,7 @@ mod absorbing;
 mod coming;
 mod gathering;
 mod piece;
+mod range;
 mod reading;
 mod report;
 mod ticks;
@@ -52,5 +54,6 @@ pub use absorbing::{
 };
 pub use gathering::{GatherFault, Gathered, Part, PartFault, PieceReport, PieceReports, gather};
 pub use mxf_klv::Stop;
+pub use range::{each_range_has_one_start, start_of};
 pub use report::{AbsorbFault, Report};
 pub use ticks::ReadTicks;

@@ -2,7 +2,7 @@
 use crate::building::is_written_as;
 use mxf_catalogue::FileFault;
 use mxf_klv::Stop;
-use mxf_read::{GatherFault, Gathered, Part, PartFault, PieceReport, Report, gather};
+use mxf_read::{GatherFault, Gathered, Part, PartFault, PieceReport, Report, gather, start_of};
 use mxf_worked::saved_files::{
     M_OF_VERSION_1, catalogue_file, catalogue_file_with_head, packet_of_m,
 };
@@ -59,6 +59,14 @@ fn piece(offset: u64, bytes: &[u8]) -> Part<Slow<'_>> {
     }
 }
 
+/// A range of these bytes.
+fn range(offset: u64, bytes: &[u8]) -> Part<Slow<'_>> {
+    Part::Range {
+        offset,
+        from: reader_of(bytes, 0, End::Ends),
+    }
+}
+
 /// A saved catalogue of these bytes.
 fn saved(bytes: &[u8]) -> Part<Slow<'_>> {
     Part::Saved {
@@ -104,6 +112,42 @@ fn hold_both(alloc: Global, file: &[u8]) -> Result<bool, Fail> {
 fn a_piece_and_a_saved_catalogue_hold_the_notes_of_both(rt: HostRuntime) -> Result<(), Fail> {
     let file = catalogue_file(rt.alloc(), 3)?;
     assert!(rt; hold_both(rt.alloc(), &file)?);
+    Ok(())
+}
+
+/// Whether this was reported of the first part, and the notes of this file are held.
+fn has_reported(
+    alloc: Global,
+    gathered: &Gathered,
+    first: PieceReport,
+    file: &[u8],
+) -> Result<bool, Fail> {
+    let is_first = gathered.reports.as_slice().first() == Some(&first);
+    Ok(is_written_as(alloc, gathered.views.catalogue(), file)? && is_first)
+}
+
+/// Whether M from byte 50 on is reported as the piece at 108, and holds the notes of this file with M's first packet.
+fn range_holds(alloc: Global, file: &[u8]) -> Result<bool, Fail> {
+    let cut = range(50, packet_of_m(50, 264)?);
+    let gathered = gather_two(alloc, [cut, piece(0, packet_of_m(0, 108)?)])?;
+    let report = Report {
+        noted: 2,
+        stop: Stop::End,
+    };
+    let first = PieceReport {
+        offset: 108,
+        report,
+    };
+    has_reported(alloc, &gathered, first, file)
+}
+
+// At byte 64 of M, in its first packet, stands the label of the operational pattern.
+#[test]
+fn a_range_hands_the_notes_from_its_start_on(rt: HostRuntime) -> Result<(), Fail> {
+    let file = catalogue_file(rt.alloc(), 3)?;
+    assert_eq!(rt; start_of(50, packet_of_m(50, 264)?), Some(58));
+    assert_eq!(rt; start_of(u64::MAX, &M), None);
+    assert!(rt; range_holds(rt.alloc(), &file)?);
     Ok(())
 }
 

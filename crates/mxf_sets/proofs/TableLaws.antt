@@ -14,7 +14,7 @@ use Rattle.mxf_sets.specs.Batch.{BatchParts, batch_items}
 use Rattle.mxf_sets.specs.PackReadings.{agreed, label_of, labels_among}
 use Rattle.mxf_sets.specs.PrimerTable.{agreed_in, label_in, with_label, with_labels}
 
-at_equal : (tag other : ℕ) → tag ≡ other → is_at (nat_cmp tag) other ≡ true
+pub at_equal : (tag other : ℕ) → tag ≡ other → is_at (nat_cmp tag) other ≡ true
 at_equal tag other same = ap is_eq (sym (nat_cmp_is tag other Equal same))
 
 abbrev compared : Bool → Bool → Bool
@@ -24,7 +24,7 @@ neither : (below : Bool) → compared below false ≡ false
 neither true = refl
 neither false = refl
 
-at_other : (tag other : ℕ) → (tag == other) ≡ false → is_at (nat_cmp tag) other ≡ false
+pub at_other : (tag other : ℕ) → (tag == other) ≡ false → is_at (nat_cmp tag) other ≡ false
 at_other tag other apart = ap (λ (b : Bool). compared (nat_lt tag other) b) apart ∙ neither (nat_lt tag other)
 
 -- Once two labels differ, no more are agreed on.

@@ -42,6 +42,19 @@ pub(crate) fn meets(runs: &[Run], first: u64, last: u64) -> bool
     }
 }
 
+/// Whether all offsets from `start` up to `end`, which lies above, are in the runs of a cover.
+pub(crate) fn has_all(runs: &[Run], start: u64, end: u64) -> bool
+    requires cover { IsCover runs.now }
+    requires order { start < end }
+    ensures { IsTrue result ↔ ((at : ℕ) → start ≤ at → at < end → LiesIn runs.now at) }
+{
+    let at = ending_by(runs, start);
+    match runs.get(at) {
+        Some(run) => run.start <= start && end <= run.end,
+        None => false,
+    }
+}
+
 /// The number of the runs that end below the offset.
 fn ending_below(runs: &[Run], offset: u64) -> usize
     requires { IsCover runs.now }

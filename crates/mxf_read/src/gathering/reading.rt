@@ -1,5 +1,6 @@
 //! Reading the bytes of a part.
 ghost use Rattle.std.specs.Prelude.{◌≡◌, ◌<◌, ◌≤◌, length, take, IfErr, IfOk, IfSome};
+ghost use Rattle.std.specs.Io.KnownBytes.{Consumes};
 ghost use Rattle.mxf_read.specs.Gathering.{IsOfAnyPart};
 ghost use Rattle.mxf_read.specs.PartReads.{Reads};
 
@@ -36,6 +37,7 @@ pub(super) fn read_up_to<R: Read>(
     limit: u64,
 ) -> Result<Vec<u8>, PartFault>
     ensures bytes { IfOk result (λ v. IfSome (R.remaining from.old) (λ all. v.items ≡ take limit all)) }
+    ensures left { IfOk result (λ v. Consumes (R.remaining from.old) (R.remaining from.new) v.items) }
     ensures bound { IfOk result (λ v. length v.items ≤ limit) }
     ensures fault { IfErr result IsOfAnyPart }
 {

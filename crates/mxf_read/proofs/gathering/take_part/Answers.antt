@@ -1,6 +1,7 @@
 use Rattle.std.proofs.Common.{subst, sym}
 use Rattle.mxf_read.specs.declared.gathering.part.Part.{Part}
 use Rattle.mxf_read.specs.Gathering.{TakesPart, Tells}
+use Rattle.mxf_read.proofs.RangeLaws.{range_taken}
 use Rattle.mxf_read.proofs.SavedLaws.{piece_taken, saved_taken}
 use Rattle.mxf_read.proofs.gathering.take_part.Goals as goal
 
@@ -14,6 +15,17 @@ returns-in_ok-push-in-Piece-clause-taken g c =
     c.in_ok-notes-in-Piece.report c.args.reports.now c.push.new.self
     c.in_ok-notes-in-Piece.ensures.notes c.in_ok-notes-in-Piece.ensures.report c.in_ok-add-in-Piece.ensures
     c.in_ok-push-in-Piece.ensures)
+
+pub returns-in_ok-push-in-Range-clause-taken : goal.returns-in_ok-push-in-Range-clause-taken
+returns-in_ok-push-in-Range-clause-taken g c =
+    let left = g.R.Read.remaining in
+    subst (λ (p : Part _). Tells left p
+    → TakesPart left p c.args.levels.now c.add-in-Range.new.self c.args.reports.now c.push-in-Range.new.self)
+    (sym c.in-Range.is)
+    (range_taken left c.in-Range.offset c.in-Range.from c.args.levels.now c.add-in-Range.new.self
+    c.in_ok-notes-in-Range.notes c.in_ok-notes-in-Range.report c.args.reports.now c.push-in-Range.new.self
+    c.in_ok-notes-in-Range.ensures.notes c.in_ok-notes-in-Range.ensures.report c.in_ok-add-in-Range.ensures
+    c.in_ok-push-in-Range.ensures)
 
 pub returns-in_ok-add-in-Saved-clause-taken : goal.returns-in_ok-add-in-Saved-clause-taken
 returns-in_ok-add-in-Saved-clause-taken g c =

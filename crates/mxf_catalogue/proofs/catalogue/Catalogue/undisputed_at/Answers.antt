@@ -1,0 +1,28 @@
+use Rattle.std.proofs.Common.{◌∙◌, ap, sym, subst, ◌≡◌, ◌≢◌, Some, None}
+use Rattle.std.specs.Prelude.{IfSome, IfNone, find, ◌==◌}
+use Rattle.std.specs.Option.{option_copied}
+use Rattle.mxf_klv.specs.Parts.{NoteParts}
+use Rattle.mxf_klv.specs.Rising.{In}
+use Rattle.mxf_catalogue.specs.Disputes.{undisputed_notes}
+use Rattle.mxf_catalogue.proofs.DisputeLaws.{undisputed_at-found, undisputed_at-lacked}
+use Rattle.mxf_catalogue.proofs.PartLaws.{undisputed_part}
+use Rattle.mxf_catalogue.proofs.catalogue.Catalogue.undisputed_at.Goals as goal
+
+pub returns : goal.returns
+returns c =
+    let parts = c.self.inside.parts in
+    let all = c.args.self.now in
+    let searched : c.deref.result.now ≡ undisputed_notes all =
+    c.deref.ensures.value ∙ undisputed_part parts.undisputed.items parts.disputed.items c.self.invariant.kept.parts
+    ∙ ap undisputed_notes c.self.view_is in record {
+      first = elim c.at_offset.result as (λ r. IfSome r (λ n. In n.now c.deref.result.now × (n.now.offset ≡
+          c.args.offset))
+          → IfNone r ((n : NoteParts) → In n c.deref.result.now → n.offset ≢ c.args.offset)
+          → option_copied r ≡ find (λ n. n.offset == c.args.offset) (undisputed_notes all)) [
+            | Some n ↦ λ found none. sym (undisputed_at-found c.args.offset all n.now (subst (In n.now) searched
+                found.0)
+                found.1)
+            | None ↦ λ found none. sym (undisputed_at-lacked c.args.offset all
+                (λ n h. none n (subst (In n) (sym searched) h)))
+          ] c.at_offset.ensures.found c.at_offset.ensures.none;
+    }
