@@ -15,6 +15,8 @@ mod looked_up;
 #[cfg(test)]
 mod pieces;
 #[cfg(test)]
+mod plans;
+#[cfg(test)]
 mod unions;
 #[cfg(test)]
 mod values;

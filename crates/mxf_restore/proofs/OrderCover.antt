@@ -1,0 +1,206 @@
+-- Each byte of a gap below the edge lies in an order.
+use Rattle.std.proofs.Common.{◌≡◌, ◌⊎◌, ◌+◌, ◌-◌, ◌<◌, ◌≤◌, ◌&&◌, ◌==◌, ℕ, true, false, not, max, nat_lt}
+use Rattle.std.proofs.Common.{List, Option, None, Some, find, is_some, option_and_then, option_map, if◌then◌else◌}
+use Rattle.std.proofs.Common.{refl, ap, inl, inr, arith, lt-ltb, unwrap_or, eqb-true}
+use Rattle.std.proofs.lemmas.Bool.{and_parts, cases_lt}
+use Rattle.std.proofs.lemmas.Option.{same_Some}
+use Rattle.std.specs.Option.{option_map_or}
+use Rattle.mxf_klv.specs.Parts.{NoteParts}
+use Rattle.mxf_klv.specs.Note.{covered_end, end_of}
+use Rattle.mxf_klv.specs.Rising.{In}
+use Rattle.mxf_klv.proofs.Lists.{In-filter_map, found-In}
+use Rattle.mxf_catalogue.specs.Content.{IsContent}
+use Rattle.mxf_catalogue.specs.Disputes.{clear_notes}
+use Rattle.mxf_catalogue.specs.Runs.{IsWithin}
+use Rattle.mxf_catalogue.specs.declared.run.Run.{Run}
+use Rattle.mxf_catalogue.proofs.DisputeLaws.{In-clear_notes}
+use Rattle.mxf_catalogue.proofs.RunBounds.{covers_below_end, covers_first}
+use Rattle.mxf_views.specs.Gaps.{IsGap, gaps_of}
+use Rattle.mxf_views.specs.RandomIndexView.{rip_view_of}
+use Rattle.mxf_views.specs.declared.random_index.RipView.{RipView}
+use Rattle.mxf_views.specs.declared.random_index.RipView.TheVariants.{Absent, Several, Unreadable, One}
+use Rattle.mxf_restore.specs.Held.{IsHeld, edge_of, end_of_file, reaches_past, rip_end_by, top_of}
+use Rattle.mxf_restore.specs.Claims.{claim_at}
+use Rattle.mxf_restore.specs.Pieces.{IsHole, LiesInHole, LiesInPiece, held_end, pieces_of}
+use Rattle.mxf_restore.specs.Plan.{LiesInOrder, end_by, found_orders, is_head_to, needed_of, order_by, order_of, ordered}
+use Rattle.mxf_restore.specs.Plan.{start_of, up_to_bound}
+use Rattle.mxf_restore.specs.declared.claim.Claim.{Claim}
+use Rattle.mxf_restore.specs.declared.piece.Hole.{Hole}
+use Rattle.mxf_restore.specs.declared.piece.Piece.{Piece}
+use Rattle.mxf_restore.specs.declared.plan.Order.{Order}
+use Rattle.mxf_restore.specs.declared.reason.Reason.TheVariants.{Gap}
+use Rattle.mxf_restore.proofs.HeldLaws.{held_end-bound, is_held-says}
+use Rattle.mxf_restore.proofs.HoleLaws.{apart, closed_is, gap_there, held_or_not, last_held, maximal, open_is}
+use Rattle.mxf_restore.proofs.HoleLaws.{run_there}
+use Rattle.mxf_restore.proofs.PieceCover.{are_pieces}
+
+-- ---- the end of the file is held
+
+module _ (notes : List NoteParts) where
+  rip_end_held : (v : RipView) (end : ℕ) → rip_end_by notes v ≡ Some end → end ≤ held_end notes
+  rip_end_held Absent end e = absurd cc
+  rip_end_held Several end e = absurd cc
+  rip_end_held (Unreadable offset) end e = absurd cc
+  rip_end_held (One r) end e =
+      elim (find (λ n. n.offset == r.offset) (clear_notes notes))
+      as (λ o. find (λ n. n.offset == r.offset) (clear_notes notes) ≡ o → option_map end_of o ≡ Some end
+      → end ≤ held_end notes) [
+        | None ↦ λ f g. absurd cc
+        | Some n ↦ λ f g.
+            let k = (found-In (λ n. n.offset == r.offset) (clear_notes notes) n f).0 in
+            let clear = (In-clear_notes n notes).0 k in
+            let whole : covered_end n ≡ end_of n =
+            ap (λ b. if b then end_of n else n.offset + 16 + n.width) clear.whole in
+            let top = (held_end-bound notes (held_end notes)).0 (omega arith) n clear.held in
+            let same = same_Some (end_of n) end g in omega (arith, whole, top, same)
+      ] refl e
+
+  end_held : (end : ℕ) → end_of_file notes ≡ Some end → end ≤ held_end notes
+  unfolding end_of_file
+  end_held end e = elim (rip_end_by notes (rip_view_of notes))
+      as (λ o. rip_end_by notes (rip_view_of notes) ≡ o
+      → option_and_then (λ x. if reaches_past x notes then None else Some x) o ≡ Some end → end ≤ held_end notes) [
+        | None ↦ λ f g. absurd cc
+        | Some x ↦ λ f g. elim (reaches_past x notes)
+            as (λ b. (if b then None else Some x) ≡ Some end → end ≤ held_end notes) [
+              | true ↦ λ h. absurd cc
+              | false ↦ λ h.
+                  let same = same_Some x end h in
+                  let l = rip_end_held (rip_view_of notes) x f in omega (arith, same, l)
+            ] g
+      ] refl e
+
+  -- ---- a byte of a gap below the edge lies in a hole
+
+  -- Where the run of a gap ends at no packet, nothing is held above it.
+  above_all : IsContent notes → (r : Run) (x : ℕ) → In r (gaps_of notes) → IsWithin r x → (IsHeld notes r.end → ⊥)
+      → held_end notes ≤ x
+  above_all content r x k w free = elim (cases_lt x (held_end notes)) [
+    | inr l ↦ l
+    | inl l ↦ absurd (
+        let from : r.start ≤ x = w.from in
+        let before : x + 1 ≤ r.end = w.before in
+        let last = last_held notes (held_end notes - 1) (omega (arith, l)) in
+        elim (cases_lt (held_end notes - 1) r.end) [
+          | inl m ↦ (gap_there notes content r (held_end notes - 1) k
+              (record { from = omega (arith, from, l); before = omega (arith, m, l) })).in_none last.0 last.1 last.2
+          | inr m ↦ (
+              let o : last.0.offset ≤ held_end notes - 1 = last.2.from in
+              let c : held_end notes - 1 + 1 ≤ covered_end last.0 = last.2.before in
+              let d = covers_below_end last.0 in
+              let s = run_there notes content r.end (record {
+                below = (last.0, last.1, omega (arith, m, c, d));
+                in_none = λ n i v. free (n, i, v);
+              }) in
+              let sf : s.0.start ≤ r.end = s.2.from in
+              let sb : r.end + 1 ≤ s.0.end = s.2.before in
+              elim (apart 0 (gaps_of notes) r s.0 (maximal notes content) k s.1) [
+                | inl q ↦ (let f = ap (λ (y : Run). y.end) q in omega (arith, f, sb))
+                | inr e ↦ elim e [ inl j ↦ omega (arith, j, sf) | inr j ↦ omega (arith, j, sb, from, before) ]
+              ])
+        ])
+  ]
+
+  hole_there : IsContent notes → (x : ℕ) → IsGap notes x → x < edge_of notes
+      → (h : Hole) × IsHole notes h × LiesInHole h x
+  hole_there content x g edge =
+      let s = run_there notes content x g in
+      let r = s.0 in
+      let from : r.start ≤ x = s.2.from in
+      let before : x + 1 ≤ r.end = s.2.before in
+      elim (held_or_not notes r.end) [
+        | inl h ↦ (
+          record { start = r.start; end = Some r.end },
+          closed_is notes content r s.1 ((is_held-says notes r.end).1 h),
+          (from, inr (r.end, refl, omega (arith, before))),
+        )
+        | inr free ↦ (
+            let low = above_all content r x s.1 s.2 free in
+            elim (end_of_file notes) as (λ o. end_of_file notes ≡ o → x < unwrap_or o (top_of notes)
+            → (h : Hole) × IsHole notes h × LiesInHole h x) [
+              | None ↦ λ e l. (record { start = held_end notes; end = None }, open_is notes e, (low, inl refl))
+              | Some end ↦ λ e l. (let top = end_held end e in absurd (omega (arith, low, l, top)))
+            ] refl edge)
+      ]
+
+  -- ---- what is ordered of its piece
+
+  start_below : (first : ℕ) → start_of notes first ≤ first
+  start_below first =
+      elim (find (is_head_to first) notes) as (λ o. find (is_head_to first) notes ≡ o
+      → option_map_or (λ n. n.offset) o first ≤ first) [
+        | None ↦ λ e. omega arith
+        | Some n ↦ λ e.
+            let t = (found-In (is_head_to first) notes n e).1 in
+            let end = eqb-true (covered_end n) first (and_parts (not n.whole) (covered_end n == first) t).1 in
+            let some = covers_first n in omega (arith, end, some)
+      ] refl
+
+  module _ (p : Piece) (x : ℕ) (lies : LiesInPiece p x) (edge : x < edge_of notes) where
+    ends : (claim : Option Claim) (e : ℕ) → end_by notes p claim ≡ Some e → x < e
+    ends claim e q = elim p.end as (λ o. ((o ≡ None) ⊎ ((d : ℕ) × (o ≡ Some d) × (x < d)))
+        → (if is_some o then o
+        else (if nat_lt p.first (edge_of notes) && not (option_map_or (λ c. c.is_open) claim false)
+        then Some (edge_of notes) else None)) ≡ Some e → x < e) [
+          | None ↦ λ l q. elim (nat_lt p.first (edge_of notes) && not (option_map_or (λ c. c.is_open) claim false))
+              as (λ b. (if b then Some (edge_of notes) else None) ≡ Some e → x < e) [
+                | true ↦ λ f. let s = same_Some (edge_of notes) e f in omega (arith, s)
+                | false ↦ λ f. absurd cc
+              ] q
+          | Some d ↦ λ l q. elim l [
+            | inl f ↦ absurd (cc (f))
+            | inr f ↦ (let s = same_Some d f.0 f.1 in let t = same_Some d e q in omega (arith, s, t, f.2))
+          ]
+        ] lies.1 q
+
+    some_end : (e : ℕ) × (end_by notes p None ≡ Some e)
+    some_end =
+        let from : p.first ≤ x = lies.0 in
+        let low : nat_lt p.first (edge_of notes) ≡ true = lt-ltb p.first (edge_of notes) (omega (arith, from)) in
+        elim p.end as (λ o. (e : ℕ) × ((if is_some o then o
+        else (if nat_lt p.first (edge_of notes) && true then Some (edge_of notes) else None)) ≡ Some e)) [
+          | None ↦ (edge_of notes, ap (λ b. if b && true then Some (edge_of notes) else None) low)
+          | Some d ↦ (d, refl)
+        ]
+
+    ordered_there : (start : ℕ) (claim : Option Claim) → start ≤ p.first
+        → (o : Order) × (order_by notes p start claim ≡ Some o) × LiesInOrder o x
+    ordered_there start None l =
+        let s = some_end in
+        let m = ends None s.0 s.1 in
+        let from : p.first ≤ x = lies.0 in
+        let reach = max s.0 (up_to_bound (needed_of notes start p.first) p.hole.end) in (
+          record { reason = Gap; start = start; end = Some reach; source = None },
+          ap (λ end. ordered None start (option_map (λ e. max e (up_to_bound (needed_of notes start p.first) p.hole.end))
+          end)) s.1,
+          (omega (arith, l, from), inr (reach, refl, omega (arith, m))),
+        )
+    ordered_there start (Some c) l =
+        let from : p.first ≤ x = lies.0 in
+        let most = λ (e : ℕ). max e (up_to_bound (needed_of notes start p.first) p.hole.end) in (
+          record {
+            reason = c.reason;
+            start = start;
+            end = option_map most (end_by notes p (Some c));
+            source = c.source;
+          },
+          refl,
+          (
+            omega (arith, l, from),
+            elim (end_by notes p (Some c)) as (λ o. end_by notes p (Some c) ≡ o
+                → (option_map most o ≡ None) ⊎ ((e : ℕ) × (option_map most o ≡ Some e) × (x < e))) [
+                  | None ↦ λ e. inl refl
+                  | Some e ↦ λ q. (let m = ends (Some c) e q in inr (most e, refl, omega (arith, m)))
+                ] refl,
+          ),
+        )
+
+  pub ordered_somewhere : IsContent notes → (x : ℕ) → IsGap notes x → x < edge_of notes
+      → (o : Order) × In o (found_orders notes) × LiesInOrder o x
+  unfolding found_orders order_of
+  ordered_somewhere content x g edge =
+      let h = hole_there content x g edge in
+      let p = (are_pieces notes content).cover h.0 x h.1 h.2 in
+      let start = start_of notes p.0.first in
+      let o = ordered_there p.0 x p.3 edge start (claim_at notes start) (start_below p.0.first) in
+      (o.0, (In-filter_map (order_of notes) (pieces_of notes) o.0).1 (p.0, p.1, o.1), o.2)

@@ -1,0 +1,103 @@
+-- Cuts that are left, those inside a hole, and pieces.
+use Rattle.std.proofs.Common.{◌≡◌, ◌<◌, ◌≤◌, ◌∙◌, ◌&&◌, ℕ, zero, suc, Bool, true, false, cond, not}
+use Rattle.std.proofs.Common.{if◌then◌else◌, List, [], ◌∷◌, Option, Some, None, refl, sym, ap, arith, length, get_or}
+use Rattle.std.proofs.Common.{drop, eq-eqb, eqb-true, filter, filter_map, min, subst, take, ◌==◌}
+use Rattle.std.specs.List.{AllWithin, cons_option}
+use Rattle.std.specs.Option.{option_and_then}
+use Rattle.std.specs.FinMap.{nat_cmp-IsAntisymmetric}
+use Rattle.std.specs.List.Retain.{DiffersFromLast, IsFiltered}
+use Rattle.std.specs.List.Sorted.{IsPermutation, IsSorted}
+use Rattle.std.specs.Ordering.{eq_by_cmp, is_eq, nat_cmp}
+use Rattle.std.specs.declared.cmp.Ordering.{Ordering}
+use Rattle.std.specs.declared.cmp.Ordering.TheVariants.{Less, Equal, Greater}
+use Rattle.std.proofs.lemmas.Cmp.{nat_cmp_total, tied_itself}
+use Rattle.mxf_klv.proofs.SortedUnions.{in_order, in_order-rises}
+use Rattle.mxf_klv.proofs.Tests.{not_both, same_bool}
+use Rattle.mxf_klv.specs.Rising.{IsRising, union}
+use Rattle.mxf_klv.specs.Parts.{NoteParts}
+use Rattle.mxf_restore.specs.Held.{is_held, is_in_file}
+use Rattle.mxf_restore.specs.Pieces.{cut_of, free_cut}
+use Rattle.mxf_restore.specs.declared.claim.Claim.{Claim}
+
+-- Those that are left are what is left of each claim.
+abbrev pub free_cuts_among : List NoteParts → List Claim → List ℕ
+free_cuts_among notes claims = filter (λ x. is_in_file notes x && not (is_held notes x)) (filter_map cut_of claims)
+
+pub free_left : (notes : List NoteParts) (claims : List Claim)
+    → free_cuts_among notes claims ≡ filter_map (free_cut notes) claims
+free_left notes [] = refl
+free_left notes (c ∷ claims) =
+    let p = λ (x : ℕ). is_in_file notes x && not (is_held notes x) in
+    elim (cut_of c) as (λ (o : Option ℕ). filter p (cons_option o (filter_map cut_of claims))
+    ≡ cons_option (option_and_then (λ x. if p x then Some x else None) o) (filter_map (free_cut notes) claims)) [
+      | None ↦ free_left notes claims
+      | Some x ↦ elim (p x) as (λ b.
+          cond b (x ∷ filter p (filter_map cut_of claims)) (filter p (filter_map cut_of claims))
+          ≡ cons_option (if b then Some x else None) (filter_map (free_cut notes) claims)) [
+            | true ↦ ap (λ xs. x ∷ xs) (free_left notes claims)
+            | false ↦ free_left notes claims
+          ]
+    ]
+
+drop_nil : {K : Type 0} (n : ℕ) → drop {A = K} n [] ≡ []
+drop_nil zero = refl
+drop_nil (suc n) = refl
+
+none_left : {K : Type 0} (p q : K → Bool) (xs : List K)
+    → ((k : ℕ) (d : K) → k < length xs → q (get_or xs k d) ≡ false) → filter (λ x. p x && q x) xs ≡ []
+none_left p q [] f = refl
+none_left p q (x ∷ xs) f =
+    let rest = none_left p q xs (λ k d l. f (suc k) d (omega arith)) in
+    let fails : (p x && q x) ≡ false = not_both (p x) (q x) (λ e t. let u = f 0 x (omega arith) in cc (t, u)) in
+    ap (λ b. cond b (x ∷ filter (λ y. p y && q y) xs) (filter (λ y. p y && q y) xs)) fails ∙ rest
+
+-- What is left where a list fails one test up to a place and passes it from there on, and passes another up to a place
+-- and fails it from there on.
+pub window : {K : Type 0} (p q : K → Bool) (xs : List K) (a b : ℕ) → b ≤ length xs
+    → AllWithin (λ x. p x ≡ false) xs 0 a → AllWithin (λ x. p x ≡ true) xs a (length xs)
+    → AllWithin (λ x. q x ≡ true) xs 0 b → AllWithin (λ x. q x ≡ false) xs b (length xs)
+    → drop (min a b) (take b xs) ≡ filter (λ x. p x && q x) xs
+window p q [] a zero h pb pa qb qa = drop_nil (min a 0)
+window p q [] a (suc b) h pb pa qb qa = absurd (omega arith)
+window p q (x ∷ xs) a zero h pb pa qb qa =
+    drop_nil (min a 0) ∙ sym (none_left p q (x ∷ xs) (λ k d l. qa k d (omega arith) l))
+window p q (x ∷ xs) zero (suc b) h pb pa qb qa =
+    let e : min 0 (suc b) ≡ 0 = omega arith in
+    let f : min 0 b ≡ 0 = omega arith in
+    let px = pa 0 x (omega arith) (omega arith) in
+    let qx = qb 0 x (omega arith) (omega arith) in
+    let rest = window p q xs zero b (omega arith) (λ k d l m. absurd (omega arith))
+    (λ k d l m. pa (suc k) d (omega arith) (omega arith)) (λ k d l m. qb (suc k) d (omega arith) (omega arith))
+    (λ k d l m. qa (suc k) d (omega arith) (omega arith)) in
+    ap (λ n. drop n (x ∷ take b xs)) e
+    ∙ ap (λ ys. x ∷ ys) (sym (ap (λ n. drop n (take b xs)) f) ∙ rest)
+    ∙ sym (λ i. cond (px i && qx i) (x ∷ filter (λ y. p y && q y) xs) (filter (λ y. p y && q y) xs))
+window p q (x ∷ xs) (suc a) (suc b) h pb pa qb qa =
+    let e : min (suc a) (suc b) ≡ suc (min a b) = omega arith in
+    let px = pb 0 x (omega arith) (omega arith) in
+    let rest = window p q xs a b (omega arith) (λ k d l m. pb (suc k) d (omega arith) (omega arith))
+    (λ k d l m. pa (suc k) d (omega arith) (omega arith)) (λ k d l m. qb (suc k) d (omega arith) (omega arith))
+    (λ k d l m. qa (suc k) d (omega arith) (omega arith)) in
+    ap (λ n. drop n (x ∷ take b xs)) e ∙ rest
+    ∙ sym (λ i. cond (px i && q x) (x ∷ filter (λ y. p y && q y) xs) (filter (λ y. p y && q y) xs))
+
+-- Tests of numbers for being one.
+pub same_test : (x y : ℕ) → (x == y) ≡ eq_by_cmp nat_cmp x y
+same_test x y =
+    same_bool (x == y) (eq_by_cmp nat_cmp x y)
+    (λ t. ap (λ z. is_eq (nat_cmp x z)) (sym (eqb-true x y t)) ∙ ap is_eq (tied_itself nat_cmp_total x))
+    (λ t. eq-eqb x y (nat_cmp-IsAntisymmetric x y (equal (nat_cmp x y) t)))
+  where
+    equal : (o : Ordering) → is_eq o ≡ true → o ≡ Equal
+    equal Less e = cc
+    equal Equal e = refl
+    equal Greater e = cc
+
+-- What is sorted, and then loses what repeats the one before.
+pub cuts_in_order : (xs ys zs : List ℕ) → IsPermutation xs ys → IsSorted nat_cmp ys
+    → IsFiltered (DiffersFromLast (λ x y. x == y)) [] ys zs → (zs ≡ union nat_cmp [] xs) × IsRising nat_cmp zs
+cuts_in_order xs ys zs p s f =
+    let g = subst (λ E. IsFiltered (DiffersFromLast E) [] ys zs) (λ i x y. same_test x y i) f in (
+      in_order nat_cmp nat_cmp_total nat_cmp-IsAntisymmetric xs ys zs p s g,
+      in_order-rises nat_cmp nat_cmp_total nat_cmp-IsAntisymmetric xs ys zs p s g,
+    )

@@ -1,0 +1,135 @@
+-- Orders and doubts in their order.
+use Rattle.std.proofs.Common.{◌≡◌, ◌∙◌, ℕ, Bool, Option, None, Some, List, [], ◌∷◌, get_or, refl, sym, ap, subst}
+use Rattle.std.specs.Cmp.{IsTotalOrder}
+use Rattle.std.specs.Cmp.Lexicographic.{options_total}
+use Rattle.std.specs.FinMap.{IsAntisymmetric, nat_cmp-IsAntisymmetric}
+use Rattle.std.specs.List.Retain.{DiffersFromLast, IsFiltered}
+use Rattle.std.specs.List.Sorted.{IsPermutation, IsSorted}
+use Rattle.std.specs.declared.cmp.Ordering.{Ordering}
+use Rattle.std.specs.declared.cmp.Ordering.TheVariants.{Equal}
+use Rattle.std.proofs.lemmas.Cmp.{nat_cmp_total, on_total, then_total}
+use Rattle.mxf_klv.proofs.SortedUnions.{in_order}
+use Rattle.mxf_klv.proofs.Tests.{ties}
+use Rattle.mxf_klv.specs.Rising.{union}
+use Rattle.std.specs.Ordering.{eq_by_cmp, is_eq, nat_cmp, ordering_then}
+use Rattle.std.specs.Option.{option_cmp}
+use Rattle.mxf_restore.specs.Plan.{doubt_cmp, order_cmp, reason_rank}
+use Rattle.mxf_restore.specs.declared.reason.Reason.{Reason}
+use Rattle.mxf_restore.specs.declared.reason.Reason.TheVariants.{Header, Footer, Metadata, Index, Entry, Previous, Gap}
+use Rattle.mxf_restore.specs.declared.plan.Order.{Order}
+use Rattle.mxf_restore.specs.declared.plan.Doubt.{Doubt}
+use Rattle.mxf_restore.specs.contracts.plan.OrderOrd.TheImpl as order_ord
+use Rattle.mxf_restore.specs.contracts.plan.OrderOrd.TheImpl.Laws as order_laws
+use Rattle.mxf_restore.specs.contracts.plan.OrderPartialEq.TheImpl as order_eq
+use Rattle.mxf_restore.specs.contracts.plan.DoubtOrd.TheImpl as doubt_ord
+use Rattle.mxf_restore.specs.contracts.plan.DoubtOrd.TheImpl.Laws as doubt_laws
+use Rattle.mxf_restore.specs.contracts.plan.DoubtPartialEq.TheImpl as doubt_eq
+use Rattle.mxf_restore.specs.contracts.reason.ReasonOrd.TheImpl as reason_ord
+
+reasons : (a b : Reason) → (reason_ord.ghosts).cmp a b ≡ nat_cmp (reason_rank a) (reason_rank b)
+reasons Header Header = refl
+reasons Header _ = refl
+reasons Footer Footer = refl
+reasons Footer _ = refl
+reasons Metadata Metadata = refl
+reasons Metadata _ = refl
+reasons Index Index = refl
+reasons Index _ = refl
+reasons Entry Entry = refl
+reasons Entry _ = refl
+reasons Previous Previous = refl
+reasons Previous _ = refl
+reasons Gap Gap = refl
+reasons Gap _ = refl
+
+orders : (a b : Order) → (order_ord.ghosts).cmp a b ≡ order_cmp a b
+orders a b =
+    ap (λ r. ordering_then r (ordering_then (nat_cmp a.start b.start)
+    (ordering_then (option_cmp nat_cmp a.end b.end) (option_cmp nat_cmp a.source b.source))))
+    (reasons a.reason b.reason)
+
+doubts : (a b : Doubt) → (doubt_ord.ghosts).cmp a b ≡ doubt_cmp a b
+doubts a b =
+    ap (λ r. ordering_then r (ordering_then (nat_cmp a.place b.place) (option_cmp nat_cmp a.source b.source)))
+    (reasons a.reason b.reason)
+
+-- ---- each is one
+
+ranked : ℕ → Reason
+ranked n =
+    get_or (Header ∷ Footer ∷ Metadata ∷ Index ∷ Entry ∷ Previous ∷ Gap ∷ []) n Header
+
+ranked_back : (r : Reason) → ranked (reason_rank r) ≡ r
+unfolding ranked
+ranked_back Header = refl
+ranked_back Footer = refl
+ranked_back Metadata = refl
+ranked_back Index = refl
+ranked_back Entry = refl
+ranked_back Previous = refl
+ranked_back Gap = refl
+
+one_reason : (a b : Reason) → nat_cmp (reason_rank a) (reason_rank b) ≡ Equal → a ≡ b
+one_reason a b e =
+    sym (ranked_back a) ∙ ap ranked (nat_cmp-IsAntisymmetric (reason_rank a) (reason_rank b) e) ∙ ranked_back b
+
+one_option : (a b : Option ℕ) → option_cmp nat_cmp a b ≡ Equal → a ≡ b
+one_option None None e = refl
+one_option None (Some y) e = absurd cc
+one_option (Some x) None e = absurd cc
+one_option (Some x) (Some y) e = ap (λ (z : ℕ). Some z) (nat_cmp-IsAntisymmetric x y e)
+
+pub one_order : IsAntisymmetric order_cmp
+one_order a b e =
+    let p = ties _ _ e in
+    let q = ties _ _ p.1 in
+    let r = ties _ _ q.1 in
+    let reason = one_reason a.reason b.reason p.0 in
+    let start = nat_cmp-IsAntisymmetric a.start b.start q.0 in
+    let end = one_option a.end b.end r.0 in
+    let source = one_option a.source b.source r.1 in
+    λ i. record { reason = reason i; start = start i; end = end i; source = source i }
+
+pub one_doubt : IsAntisymmetric doubt_cmp
+one_doubt a b e =
+    let p = ties _ _ e in
+    let q = ties _ _ p.1 in
+    let reason = one_reason a.reason b.reason p.0 in
+    let place = nat_cmp-IsAntisymmetric a.place b.place q.0 in
+    let source = one_option a.source b.source q.1 in
+    λ i. record { reason = reason i; place = place i; source = source i }
+
+pub order_total : IsTotalOrder order_cmp
+order_total =
+    then_total (on_total (λ o. reason_rank o.reason) nat_cmp_total)
+    (then_total (on_total (λ o. o.start) nat_cmp_total)
+    (then_total (on_total (λ o. o.end) (options_total nat_cmp_total))
+    (on_total (λ o. o.source) (options_total nat_cmp_total))))
+
+pub doubt_total : IsTotalOrder doubt_cmp
+doubt_total =
+    then_total (on_total (λ d. reason_rank d.reason) nat_cmp_total)
+    (then_total (on_total (λ d. d.place) nat_cmp_total) (on_total (λ d. d.source) (options_total nat_cmp_total)))
+
+-- ---- sorted, without what repeats the one before
+
+module _ {K : Type 0} (R S : K → K → Ordering) (E : K → K → Bool) (same : (x y : K) → R x y ≡ S x y)
+    (alike : (x y : K) → E x y ≡ eq_by_cmp R x y) (total : IsTotalOrder S) (one : IsAntisymmetric S) where
+  sorted_once : (xs ys zs : List K) → IsPermutation xs ys → IsSorted R ys
+      → IsFiltered (DiffersFromLast E) [] ys zs → zs ≡ union S [] xs
+  sorted_once xs ys zs p s f =
+      in_order S total one xs ys zs p (subst (λ C. IsSorted C ys) (λ i x y. same x y i) s)
+      (subst (λ C. IsFiltered (DiffersFromLast C) [] ys zs)
+      (λ i x y. (alike x y ∙ ap is_eq (same x y)) i) f)
+
+pub orders_once : (xs ys zs : List Order) → IsPermutation xs ys → IsSorted (order_ord.ghosts).cmp ys
+    → IsFiltered (DiffersFromLast (order_eq.ghosts).eq) [] ys zs → zs ≡ union order_cmp [] xs
+orders_once =
+    sorted_once (order_ord.ghosts).cmp order_cmp (order_eq.ghosts).eq orders order_laws.matches_eq-law order_total
+    one_order
+
+pub doubts_once : (xs ys zs : List Doubt) → IsPermutation xs ys → IsSorted (doubt_ord.ghosts).cmp ys
+    → IsFiltered (DiffersFromLast (doubt_eq.ghosts).eq) [] ys zs → zs ≡ union doubt_cmp [] xs
+doubts_once =
+    sorted_once (doubt_ord.ghosts).cmp doubt_cmp (doubt_eq.ghosts).eq doubts doubt_laws.matches_eq-law doubt_total
+    one_doubt

@@ -1,0 +1,99 @@
+-- What a plan orders, and what it doubts.
+use Rattle.std.proofs.Common.{◌≡◌, ◌↔◌, ◌∙◌, ◌<◌, ◌==◌, ℕ, true, false, not, cond, List, [], ◌∷◌, Some}
+use Rattle.std.proofs.Common.{filter, filter_map, find, refl, sym, ap, inl, inr, eqb-true, eq-eqb}
+use Rattle.std.proofs.lemmas.Option.{same_Some}
+use Rattle.mxf_klv.specs.Parts.{NoteParts}
+use Rattle.mxf_klv.specs.Rising.{In, IsRising, In-union, IsRising-union}
+use Rattle.mxf_klv.proofs.Lists.{In-filter, In-filter_map}
+use Rattle.mxf_klv.proofs.Tests.{not-true-false, not_true}
+use Rattle.mxf_catalogue.specs.Content.{IsContent}
+use Rattle.mxf_views.specs.Gaps.{IsGap}
+use Rattle.mxf_restore.specs.Held.{edge_of}
+use Rattle.mxf_restore.specs.Claims.{claims_of}
+use Rattle.mxf_restore.specs.Pieces.{pieces_of}
+use Rattle.mxf_restore.specs.Plan.{LiesInOrder, doubt_cmp, doubt_of, first_by_place, found_doubts, found_orders}
+use Rattle.mxf_restore.specs.Plan.{order_cmp, order_of, plan_of}
+use Rattle.mxf_restore.specs.declared.piece.Piece.{Piece}
+use Rattle.mxf_restore.specs.declared.plan.Doubt.{Doubt}
+use Rattle.mxf_restore.specs.declared.plan.Order.{Order}
+use Rattle.mxf_restore.proofs.OrderCover.{ordered_somewhere}
+use Rattle.mxf_restore.proofs.PlanLaws.{doubt_total, one_doubt, one_order, order_total}
+
+-- ---- orders
+
+found_members : (notes : List NoteParts) (o : Order)
+    → In o (found_orders notes) ↔ ((p : Piece) × In p (pieces_of notes) × (order_of notes p ≡ Some o))
+unfolding found_orders
+found_members notes o = In-filter_map (order_of notes) (pieces_of notes) o
+
+in_plan : (notes : List NoteParts) (o : Order) → In o (plan_of notes).orders ↔ In o (found_orders notes)
+unfolding plan_of
+in_plan notes o =
+    let u = In-union order_total one_order o [] (found_orders notes) in
+    (λ k. elim (u.0 k) [ inl n ↦ absurd n | inr n ↦ n ], λ k. u.1 (inr k))
+
+pub order_members : (notes : List NoteParts) (o : Order)
+    → In o (plan_of notes).orders ↔ ((p : Piece) × In p (pieces_of notes) × (order_of notes p ≡ Some o))
+order_members notes o =
+    let a = in_plan notes o in
+    let b = found_members notes o in (λ k. b.0 (a.0 k), λ s. a.1 (b.1 s))
+
+pub orders_rise : (notes : List NoteParts) → IsRising order_cmp (plan_of notes).orders
+unfolding plan_of
+orders_rise notes = IsRising-union order_total one_order [] (found_orders notes) tt
+
+pub gap_ordered : (notes : List NoteParts) (x : ℕ) → IsContent notes → IsGap notes x → x < edge_of notes
+    → (o : Order) × In o (plan_of notes).orders × LiesInOrder o x
+gap_ordered notes x content g edge =
+    let s = ordered_somewhere notes content x g edge in (s.0, (in_plan notes s.0).1 s.1, s.2)
+
+-- ---- doubts
+
+first_members : (d : Doubt) (ds : List Doubt) → In d (first_by_place ds) ↔ (find (λ e. e.place == d.place) ds ≡ Some d)
+first_members d [] = (λ k. absurd k, λ e. absurd cc)
+first_members d (x ∷ ds) =
+    let ih = first_members d ds in
+    let f = In-filter (λ e. not (e.place == x.place)) (first_by_place ds) d in (
+      λ k. elim k [
+        | inl e ↦ (
+            let same : (x.place == d.place) ≡ true = eq-eqb x.place d.place (ap (λ (y : Doubt). y.place) (sym e)) in
+            ap (λ b. cond b (Some x) (find (λ e. e.place == d.place) ds)) same ∙ ap (λ (y : Doubt). Some y) (sym e))
+        | inr j ↦ (
+            let s = f.0 j in
+            let other : (x.place == d.place) ≡ false = unlike x d s.1 in
+            ap (λ b. cond b (Some x) (find (λ e. e.place == d.place) ds)) other ∙ ih.0 s.0)
+      ],
+      elim (x.place == d.place) as (λ b. (x.place == d.place) ≡ b
+          → cond b (Some x) (find (λ e. e.place == d.place) ds) ≡ Some d
+          → In d (x ∷ filter (λ e. not (e.place == x.place)) (first_by_place ds))) [
+            | true ↦ λ t e. inl (sym (same_Some x d e))
+            | false ↦ λ t e. inr (f.1 (
+              ih.1 e,
+              not_true (d.place == x.place) (λ u.
+                  let q = eq-eqb x.place d.place (sym (eqb-true d.place x.place u)) in cc (q, t)),
+            ))
+          ] refl,
+    )
+  where
+    unlike : (x d : Doubt) → not (d.place == x.place) ≡ true → (x.place == d.place) ≡ false
+    unlike x d t = elim (x.place == d.place) as (λ b. (x.place == d.place) ≡ b → (x.place == d.place) ≡ false) [
+      | true ↦ λ e. absurd
+          (not-true-false (d.place == x.place) t (eq-eqb d.place x.place (sym (eqb-true x.place d.place e))))
+      | false ↦ λ e. e
+    ] refl
+
+pub doubt_members : (notes : List NoteParts) (d : Doubt)
+    → In d (plan_of notes).doubts
+    ↔ (find (λ e. e.place == d.place) (filter_map (doubt_of notes) (claims_of notes)) ≡ Some d)
+unfolding plan_of found_doubts
+doubt_members notes d =
+    let all = filter_map (doubt_of notes) (claims_of notes) in
+    let u = In-union doubt_total one_doubt d [] (first_by_place all) in
+    let f = first_members d all in (
+      λ k. f.0 (elim (u.0 k) [ inl n ↦ absurd n | inr n ↦ n ]),
+      λ e. u.1 (inr (f.1 e)),
+    )
+
+pub doubts_rise : (notes : List NoteParts) → IsRising doubt_cmp (plan_of notes).doubts
+unfolding plan_of
+doubts_rise notes = IsRising-union doubt_total one_doubt [] (found_doubts notes) tt

@@ -1,0 +1,8 @@
+use Rattle.mxf_restore.proofs.MarkLaws.{none_more}
+use Rattle.mxf_restore.proofs.map.layers.Layers.first_of.Goals as goal
+
+pub loop-mark-preserved : goal.loop-mark-preserved
+loop-mark-preserved c =
+    none_more c.args.self.now c.args.from c.args.to c.loop-mark.mark-index _ c.args.marks.now c.requires
+    c.loop-mark-test.true c.loop-mark.invariant
+    (λ says. let t = c.says.ensures.1 says in let f = c.if-says.false in cc (t, f))

@@ -1,0 +1,19 @@
+use Rattle.std.proofs.Common.{◌∙◌, ap, find}
+use Rattle.mxf_restore.specs.Claims.{is_claimed}
+use Rattle.mxf_restore.specs.Plan.{needed_of, order_of, start_of}
+use Rattle.mxf_restore.proofs.OrderLaws.{order_is}
+use Rattle.mxf_restore.proofs.order.Evidence.order_of.Goals as goal
+
+pub returns : goal.returns
+returns c =
+    let notes = c.self.inside.holdings.now in
+    let p = c.args.piece in
+    let claims = c.self.invariant.0 in
+    let heads = c.self.invariant.1 in
+    let head = c.around-head.result in
+    c.ordered.ensures
+    ∙ order_is notes p head c.claim_at-claim.result c.end_by-end.result c.needed_end.result
+    (c.around-head.ensures.start ∙ ap (λ ns. start_of ns p.first) heads)
+    (c.around-head.ensures.needed ∙ ap (λ ns. needed_of ns (start_of ns p.first) p.first) heads)
+    (c.claim_at-claim.ensures ∙ ap (find (is_claimed head.offset)) claims) c.end_by-end.ensures c.needed_end.ensures
+    ∙ ap (λ ns. order_of ns p) c.self.view_is

@@ -1,0 +1,10 @@
+pub mod Words
+pub mod Held
+pub mod Claims
+pub mod Fills
+pub mod Pieces
+pub mod Plan
+pub mod Map
+pub mod Layers
+pub mod Steps
+pub mod Heads

@@ -1,0 +1,147 @@
+-- What is held of a file, as a picture of cells (this project's profile).
+use Rattle.std.specs.Prelude.{◌≡◌, ℕ, ◌+◌, ◌-◌, ◌/◌, ◌<◌, ◌≤◌, Bool, false, ◌&&◌, ◌||◌, ◌==◌, not, nat_lt, max, min}
+use Rattle.std.specs.Prelude.{Option, None, Some, List, [], ◌∷◌, count_by, filter, find, length, map}
+use Rattle.std.specs.Option.{option_map_or}
+use Rattle.std.specs.List.{filter_map, range_with_len}
+use Rattle.mxf_klv.specs.declared.kinds.Kind.{Kind}
+use Rattle.mxf_klv.specs.declared.kinds.Kind.TheVariants as kinds
+use Rattle.mxf_klv.specs.Parts.{NoteParts}
+use Rattle.mxf_klv.specs.Note.{IsInSpan}
+use Rattle.mxf_klv.specs.Kind.{kind_of}
+use Rattle.mxf_klv.specs.Rising.{In}
+use Rattle.mxf_sets.specs.declared.pack.part.PackPart.{PackPart}
+use Rattle.mxf_sets.specs.declared.pack.part.PackPart.TheVariants as parts
+use Rattle.mxf_catalogue.specs.Disputes.{IsClear, disputed_notes, undisputed_notes}
+use Rattle.mxf_views.specs.FindingCauses.{IsMetadataKind}
+use Rattle.mxf_views.specs.Partitions.{PartitionParts, partitions_of}
+use Rattle.mxf_restore.specs.Held.{IsDoubtful, IsHeld, edge_of, is_doubtful, is_held, is_in_file}
+use Rattle.mxf_restore.specs.Claims.{claims_of}
+use Rattle.mxf_restore.specs.Pieces.{holes_of}
+use Rattle.mxf_restore.specs.declared.claim.Claim.{Claim}
+use Rattle.mxf_restore.specs.declared.reason.Reason.{Reason}
+use Rattle.mxf_restore.specs.declared.reason.Reason.TheVariants.{Header, Footer, Metadata, Index, Entry, Previous, Gap}
+use Rattle.mxf_restore.specs.declared.map.Mark.{Mark}
+use Rattle.mxf_restore.specs.declared.map.Mark.TheVariants as marks
+
+-- The place that a claim names, where it names one.
+abbrev pub named_by : Claim → Reason → Option ℕ
+named_by c Metadata = None
+named_by c Index = None
+named_by c Header = Some c.from
+named_by c Footer = Some c.from
+named_by c Entry = Some c.from
+named_by c Previous = Some c.from
+named_by c Gap = None
+
+unfoldable pub named_place : Claim → Option ℕ
+named_place c = named_by c c.reason
+
+-- A head that shares no byte with another packet begins there: the rest of its packet isn't held.
+abbrev pub begins_clear_head : List NoteParts → ℕ → Bool
+begins_clear_head notes x =
+    option_map_or (λ n. not n.whole) (find (λ n. n.offset == x) (undisputed_notes notes)) false
+
+-- The place may lie in the file, and what begins there isn't held whole.
+abbrev pub is_missing : List NoteParts → ℕ → Bool
+is_missing notes x =
+    is_in_file notes x && not (is_doubtful notes x) && (begins_clear_head notes x || not (is_held notes x))
+
+-- The places that packs name and that are missing.
+unfoldable pub missing_places : List NoteParts → List ℕ
+missing_places notes = filter (is_missing notes) (filter_map named_place (claims_of notes))
+
+-- The greatest of numbers; 0 where there is none.
+abbrev pub greatest_of : List ℕ → ℕ
+greatest_of [] = 0
+greatest_of (x ∷ xs) = max x (greatest_of xs)
+
+-- The end of the map: how far the file reaches, and beyond each missing place; at least 1.
+unfoldable pub map_end : List NoteParts → ℕ
+map_end notes = max 1 (max (edge_of notes) (greatest_of (map (λ x. x + 1) (missing_places notes))))
+
+-- The bytes of a cell, of so many at most.
+abbrev pub cell_size : ℕ → ℕ → ℕ
+cell_size end cells = (end + (cells - 1)) / cells
+
+-- The offset is one of a cell.
+pub record IsInCell (from to x : ℕ) : Type 0 where
+  pub above : from ≤ x
+  pub below : x < to
+
+-- The number of held bytes below an end.
+abbrev pub held_below : List NoteParts → ℕ → ℕ
+held_below notes end = count_by (is_held notes) (range_with_len 0 end)
+
+-- The number of maximal ranges below an end that aren't held.
+abbrev pub gaps_below : List NoteParts → ℕ → ℕ
+gaps_below notes end = length (filter (λ h. nat_lt h.start end) (holes_of notes))
+
+-- A partition of a part of the file begins in the cell.
+abbrev pub HasPartition : List NoteParts → ℕ → ℕ → PackPart → Type 0
+HasPartition notes from to part =
+    (p : PartitionParts) × In p (partitions_of notes) × (p.pack.part ≡ part) × IsInCell from to p.offset
+
+-- A byte of the cell lies in a clear packet of which this holds.
+abbrev pub HasByteOf : List NoteParts → ℕ → ℕ → (Kind → Type 0) → Type 0
+HasByteOf notes from to P =
+    (n : NoteParts) × IsClear n notes × P (kind_of n.key) × ((x : ℕ) × IsInCell from to x × IsInSpan n x)
+
+-- What a mark says of a cell: an offset is doubtful; a header, footer or body partition begins in it; a clear random
+-- index pack does; a missing place lies in it; nothing is held; not all is held; a byte is one of header metadata, or
+-- of an index table segment; or all is held.
+abbrev pub Says : List NoteParts → ℕ → ℕ → Mark → Type 0
+Says notes from to marks.Doubtful = (x : ℕ) × IsInCell from to x × IsDoubtful notes x
+Says notes from to marks.Header = HasPartition notes from to parts.Header
+Says notes from to marks.Footer = HasPartition notes from to parts.Footer
+Says notes from to marks.Body = HasPartition notes from to parts.Body
+Says notes from to marks.RandomIndex =
+    (n : NoteParts) × IsClear n notes × (kind_of n.key ≡ kinds.Rip) × IsInCell from to n.offset
+Says notes from to marks.Missing = (x : ℕ) × In x (missing_places notes) × IsInCell from to x
+Says notes from to marks.Empty = (x : ℕ) → IsInCell from to x → ¬ IsHeld notes x
+Says notes from to marks.Part = (x : ℕ) × IsInCell from to x × ¬ IsHeld notes x
+Says notes from to marks.Metadata = HasByteOf notes from to IsMetadataKind
+Says notes from to marks.Index = HasByteOf notes from to (λ k. k ≡ kinds.Segment)
+Says notes from to marks.Whole = Unit {0}
+
+abbrev pub rank : Mark → ℕ
+rank marks.Doubtful = 0
+rank marks.Header = 1
+rank marks.Footer = 2
+rank marks.Body = 3
+rank marks.RandomIndex = 4
+rank marks.Missing = 5
+rank marks.Empty = 6
+rank marks.Part = 7
+rank marks.Metadata = 8
+rank marks.Index = 9
+rank marks.Whole = 10
+
+-- The mark of a cell: the first that says something true of it.
+pub record IsMark (notes : List NoteParts) (from to : ℕ) (mark : Mark) : Type 0 where
+  pub says : Says notes from to mark
+  pub first : (other : Mark) → rank other < rank mark → ¬ Says notes from to other
+
+-- The marks of the cells of a size, one after another from an offset up to an end.
+abbrev pub AreMarks : List NoteParts → ℕ → ℕ → ℕ → List Mark → Type 0
+AreMarks notes size end from [] = end ≤ from
+AreMarks notes size end from (m ∷ ms) =
+    (from < end) × IsMark notes from (min (from + size) end) m × AreMarks notes size end (from + size) ms
+
+-- A map: its end, how many bytes below it are held, how many ranges aren't, how many notes are disputed, the size of a
+-- cell, and the marks.
+pub record MapParts : Type 0 where
+  pub end : ℕ
+  pub held : ℕ
+  pub gaps : ℕ
+  pub disputed : ℕ
+  pub cell : ℕ
+  pub marks : List Mark
+
+-- The map of so many cells at most.
+pub record IsMap (notes : List NoteParts) (cells : ℕ) (m : MapParts) : Type 0 where
+  pub end : m.end ≡ map_end notes
+  pub held : m.held ≡ held_below notes m.end
+  pub gaps : m.gaps ≡ gaps_below notes m.end
+  pub disputed : m.disputed ≡ length (disputed_notes notes)
+  pub cell : m.cell ≡ cell_size m.end cells
+  pub marks : AreMarks notes m.cell m.end 0 m.marks

@@ -1,0 +1,91 @@
+//! The places that packs name and that are missing.
+ghost use Rattle.std.specs.Prelude.{◌≡◌, IfOk};
+ghost use Rattle.std.specs.List.{filter_map};
+ghost use Rattle.mxf_klv.specs.Rising.{In, SameMembers};
+ghost use Rattle.mxf_restore.specs.Map.{begins_clear_head, is_missing, missing_places, named_place};
+ghost use Rattle.mxf_restore.specs.Layers.{AreOffsets, missing_place};
+
+use super::offsets::set_of;
+use crate::claim::{Claim, claims};
+use crate::held::Holdings;
+use crate::reason::Reason;
+use mxf_catalogue::Cover;
+use mxf_klv::OutOfMemory;
+use std::alloc::Global;
+
+/// The places that packs name and that are missing. It takes memory.
+pub(super) fn missing(alloc: Global, holdings: &Holdings<'_>) -> Result<Cover, OutOfMemory>
+    ensures { IfOk result (λ c. AreOffsets (λ x. In x (missing_places holdings.now)) c) }
+{
+    let places = missing_places(alloc, holdings)?;
+    set_of(alloc, &places)
+}
+
+/// The places that packs name and that are missing, in bytes, rising.
+fn missing_places(alloc: Global, holdings: &Holdings<'_>) -> Result<Vec<u64>, OutOfMemory>
+    ensures { IfOk result (λ v. SameMembers v.items (missing_places holdings.now)) }
+{
+    let claims = claims(alloc, holdings)?;
+    let mut places = places_of(alloc, holdings, &claims)?;
+    places.sort_unstable();
+    Ok(places)
+}
+
+/// The places of claims that are missing, in the order of the claims.
+fn places_of(
+    alloc: Global,
+    holdings: &Holdings<'_>,
+    claims: &[Claim],
+) -> Result<Vec<u64>, OutOfMemory>
+    ensures { IfOk result (λ v. v.items ≡ filter_map (missing_place holdings.now) claims.now) }
+{
+    let mut places = Vec::new(alloc);
+    for claim in claims {
+        if let Some(place) = missing_place(holdings, claim) {
+            places.push(place)?;
+        }
+    }
+    Ok(places)
+}
+
+/// The place that a claim names, in bytes, where it is missing.
+fn missing_place(holdings: &Holdings<'_>, claim: &Claim) -> Option<u64>
+    ensures { result ≡ missing_place holdings.now claim.now }
+{
+    let place = named_place(claim)?;
+    if is_missing(holdings, place) {
+        Some(place)
+    } else {
+        None
+    }
+}
+
+/// The place that a claim names, in bytes, where it names one.
+#[tactic(auto, unfolding(crate::specs::Map::named_place))]
+fn named_place(claim: &Claim) -> Option<u64>
+    ensures { result ≡ named_place claim.now }
+{
+    match claim.reason {
+        Reason::Metadata | Reason::Index | Reason::Gap => None,
+        Reason::Header | Reason::Footer | Reason::Entry | Reason::Previous => Some(claim.from),
+    }
+}
+
+/// Whether an offset, in bytes, may lie in the file, and what begins there isn't held whole.
+fn is_missing(holdings: &Holdings<'_>, offset: u64) -> bool
+    ensures { result ≡ is_missing holdings.now offset }
+{
+    holdings.is_in_file(offset)
+        && !holdings.is_doubtful(offset)
+        && (begins_clear_head(holdings, offset) || !holdings.is_held(offset))
+}
+
+/// Whether a head that shares no byte with another packet begins at an offset, in bytes.
+fn begins_clear_head(holdings: &Holdings<'_>, offset: u64) -> bool
+    ensures { result ≡ begins_clear_head holdings.now offset }
+{
+    match holdings.views().catalogue().undisputed_at(offset) {
+        Some(note) => note.is_head(),
+        None => false,
+    }
+}

@@ -1,0 +1,161 @@
+//! What to restore next.
+ghost use Rattle.std.specs.Prelude.{◌≡◌, ◌↔◌, ◌<◌, ◌==◌, ℕ, [], List, Some, find, IfOk};
+ghost use Rattle.std.specs.List.{filter_map};
+ghost use Rattle.mxf_klv.specs.Parts.{NoteParts};
+ghost use Rattle.mxf_klv.specs.Rising.{In, IsRising, union};
+ghost use Rattle.mxf_catalogue.specs.Content.{IsContent};
+ghost use Rattle.mxf_views.specs.Gaps.{IsGap};
+ghost use Rattle.mxf_restore.specs.Held.{edge_of};
+ghost use Rattle.mxf_restore.specs.Claims.{claims_of};
+ghost use Rattle.mxf_restore.specs.Pieces.{pieces_of};
+ghost use Rattle.mxf_restore.specs.Plan.{LiesInOrder, doubt_cmp, doubt_of, order_cmp, order_of, plan_of};
+ghost use Rattle.mxf_restore.specs.declared.piece.Piece.{Piece};
+ghost use Rattle.mxf_restore.specs.declared.plan.Doubt.{Doubt};
+ghost use Rattle.mxf_restore.specs.declared.plan.Order.{Order};
+
+use crate::claim::{Claim, claims};
+use crate::doubt::found_doubts;
+use crate::held::Holdings;
+use crate::order::found_orders;
+use crate::reason::Reason;
+use mxf_klv::OutOfMemory;
+use mxf_views::Views;
+use std::alloc::Global;
+use std::marker::Model;
+
+/// Bytes to restore: a packet begins at `start`, as far as what is held says.
+#[derive(Clone, Copy, Debug, PartialEq, Eq, PartialOrd, Ord)]
+pub struct Order {
+    pub reason: Reason,
+    /// The file offset of the first byte.
+    pub start: u64,
+    /// The file offset behind the last byte; none where that isn't known.
+    pub end: Option<u64>,
+    /// The file offset of the pack that says so; none where no pack does.
+    pub source: Option<u64>,
+}
+
+/// A place that matters and is held in two readings.
+#[derive(Clone, Copy, Debug, PartialEq, Eq, PartialOrd, Ord)]
+pub struct Doubt {
+    pub reason: Reason,
+    /// A file offset, in bytes.
+    pub place: u64,
+    /// The file offset of the pack that names it; none where no pack does.
+    pub source: Option<u64>,
+}
+
+/// What to restore next of a file of which parts are held, as far as what is held says (this project's profile).
+///
+/// Whoever restores the bytes of all orders, hands each in as a piece at its start, and asks again, comes to a plan
+/// without orders, where the packs of the file tell the truth.
+#[derive(Debug, Drop)]
+pub struct Plan {
+    orders: Vec<Order>,
+    doubts: Vec<Doubt>,
+    end: Option<u64>,
+}
+
+impl Model for Plan {
+    ghost use Rattle.mxf_restore.specs.Plan.{PlanParts};
+
+    ghost Value = { PlanParts };
+
+    ghost view = { λ p. record { orders = p.orders.items; doubts = p.doubts.items; end = p.end } };
+}
+
+impl Plan {
+    /// What to restore next of the file of the views. It takes memory: n log n of the notes, as its time does.
+    pub fn of(alloc: Global, views: &Views) -> Result<Plan, OutOfMemory>
+        ensures { IfOk result (λ p. p ≡ plan_of views.now) }
+    {
+        let holdings = Holdings::of(alloc, views)?;
+        let claims = claims(alloc, &holdings)?;
+        Plan::by(alloc, &holdings, &claims)
+    }
+
+    /// The plan of what is held and claimed.
+    #[tactic(auto, unfolding(crate::specs::Plan::plan_of))]
+    fn by(alloc: Global, holdings: &Holdings<'_>, claims: &[Claim]) -> Result<Plan, OutOfMemory>
+        requires { claims.now ≡ claims_of holdings.now }
+        ensures { IfOk result (λ p. p ≡ plan_of holdings.now) }
+    {
+        let orders = in_order(found_orders(alloc, holdings, claims)?);
+        let doubts = doubts_in_order(found_doubts(alloc, holdings, claims)?);
+        Ok(Plan {
+            orders,
+            doubts,
+            end: holdings.end(),
+        })
+    }
+
+    /// The orders, what helps most first: by reason, then by start.
+    pub fn orders(&self) -> &[Order]
+        ensures { result.now ≡ self.now.orders }
+    {
+        &self.orders
+    }
+
+    /// Places that matter and are held in two readings, each once, by reason and then by place. Nothing is ordered for
+    /// them: a growing recording rewrites its packs.
+    pub fn doubts(&self) -> &[Doubt]
+        ensures { result.now ≡ self.now.doubts }
+    {
+        &self.doubts
+    }
+
+    /// The end of the file, in bytes, where it is known: that of its random index pack.
+    pub fn end(&self) -> Option<u64>
+        ensures { result ≡ self.now.end }
+    {
+        self.end
+    }
+}
+
+/// The orders in their order.
+fn in_order(mut orders: Vec<Order>) -> Vec<Order>
+    ensures { result.items ≡ union order_cmp [] orders.items }
+{
+    orders.sort_unstable();
+    orders.dedup();
+    orders
+}
+
+/// The doubts in their order.
+fn doubts_in_order(mut doubts: Vec<Doubt>) -> Vec<Doubt>
+    ensures { result.items ≡ union doubt_cmp [] doubts.items }
+{
+    doubts.sort_unstable();
+    doubts.dedup();
+    doubts
+}
+
+/// A law of [`Plan::orders`]: they are what is ordered of the pieces of the file, and rise by reason, start, end and
+/// source.
+pub fn orders_by_definition()
+    ensures members { (notes : List NoteParts) (o : Order)
+        → In o (plan_of notes).orders ↔ ((p : Piece) × In p (pieces_of notes) × (order_of notes p ≡ Some o)) }
+    ensures rising { (notes : List NoteParts) → IsRising order_cmp (plan_of notes).orders }
+{}
+
+/// A law of [`Plan::orders`]: no two of them have one start.
+pub fn starts_are_apart()
+    ensures { (notes : List NoteParts) (o r : Order) → IsContent notes → In o (plan_of notes).orders
+        → In r (plan_of notes).orders → o.start ≡ r.start → o ≡ r }
+{}
+
+/// A law of [`Plan::doubts`]: they are the first doubt of each place, in the order of the claims, and rise by reason,
+/// place and source.
+pub fn doubts_by_definition()
+    ensures members { (notes : List NoteParts) (d : Doubt)
+        → In d (plan_of notes).doubts
+        ↔ (find (λ e. e.place == d.place) (filter_map (doubt_of notes) (claims_of notes)) ≡ Some d) }
+    ensures rising { (notes : List NoteParts) → IsRising doubt_cmp (plan_of notes).doubts }
+{}
+
+/// A law of [`Plan::orders`]: each byte of a gap that lies below the end of the file, or below the greatest end where
+/// that isn't known, lies in an order.
+pub fn gaps_are_ordered()
+    ensures { (notes : List NoteParts) (x : ℕ) → IsContent notes → IsGap notes x → x < edge_of notes
+        → (o : Order) × In o (plan_of notes).orders × LiesInOrder o x }
+{}
