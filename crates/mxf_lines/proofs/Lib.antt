@@ -1,2 +1,3 @@
 pub mod HexadecimalLaws
 pub mod PrintLaws
+pub mod MapLineLaws

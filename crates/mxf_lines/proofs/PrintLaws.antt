@@ -10,11 +10,11 @@ use Rattle.std.specs.List.{concat}
 use Rattle.mxf_klv.proofs.WrittenParts.{WritesPart-after}
 use Rattle.mxf_klv.specs.Written.{WritesPart}
 use Rattle.mxf_lines.specs.Printing.{Prints}
-use Rattle.mxf_lines.specs.declared.printing.fault.PrintFault.{PrintFault}
-use Rattle.mxf_lines.specs.declared.printing.fault.PrintFault.TheVariants.{OutOfMemory, Write}
+use Rattle.mxf_lines.specs.declared.printing.AnswerFault.{AnswerFault}
+use Rattle.mxf_lines.specs.declared.printing.AnswerFault.TheVariants.{OutOfMemory, Write, BadUnit}
 
 -- What a call answers that prints lines after `before` bytes; `after` counts both.
-abbrev pub PrintsPart : {X : Type 0} → Option (List ℕ) → Option (List ℕ) → ℕ → ℕ → Result X PrintFault
+abbrev pub PrintsPart : {X : Type 0} → Option (List ℕ) → Option (List ℕ) → ℕ → ℕ → Result X AnswerFault
     → List (List ℕ) → Type 0
 PrintsPart old new before after r lines = Prints (WritesPart {X = Unit {0}} old new before after) r lines
 
@@ -27,7 +27,7 @@ pub none_printed : (a : Option (List ℕ)) (before : ℕ) → before < 2 ^ 64 �
 none_printed a before h = (Appends-nil a, omega (arith, h))
 
 -- lines that were printed, and what is answered of the lines after them
-pub Prints-after : {X : Type 0} (a b c : Option (List ℕ)) (before mid after : ℕ) (r : Result X PrintFault)
+pub Prints-after : {X : Type 0} (a b c : Option (List ℕ)) (before mid after : ℕ) (r : Result X AnswerFault)
     (done more : List (List ℕ)) → Printed a b before mid done → PrintsPart b c mid after r more
     → PrintsPart a c before after r (done ++ more)
 Prints-after a b c before mid after (Ok x) done more p q =
@@ -46,9 +46,10 @@ Prints-after a b c before mid after (Err OutOfMemory) done more p (k, low, q) =
           (WritesPart-after {X = Unit {0}} a b c before mid after (Ok tt) (concat done) (concat
           (take k more)) p.0 p.1 q),
     )
+Prints-after a b c before mid after (Err BadUnit) done more p q = q
 
 -- a fault among lines is a fault among these and more
-pub Prints-fault : (X Y : Type 0) (a c : Option (List ℕ)) (before after : ℕ) (f : PrintFault)
+pub Prints-fault : (X Y : Type 0) (a c : Option (List ℕ)) (before after : ℕ) (f : AnswerFault)
     (lines more : List (List ℕ)) → PrintsPart {X = X} a c before after (Err f) lines
     → PrintsPart {X = Y} a c before after (Err f) (lines ++ more)
 Prints-fault X Y a c before after (Write fault) lines more ((n, low, told, wrote), count) =
@@ -62,11 +63,12 @@ Prints-fault X Y a c before after OutOfMemory lines more (k, low, wrote) =
     let size = length-append lines more in
     let front = ap concat (sym (take-append-le k lines more (omega (arith, low)))) in
     (k, omega (arith, low, size), subst (WritesPart {X = Unit {0}} a c before after (Ok tt)) front wrote)
+Prints-fault X Y a c before after BadUnit lines more p = p
 
 -- Lines of some items that are printed one after another: whatever is answered of those to come, it is answered of all.
 pub record Leads (a : Option (List ℕ)) (before : ℕ) (all : List (List ℕ)) (b : Option (List ℕ)) (mid : ℕ)
     (left : List (List ℕ)) : Type 0 where
-  pub leads : (c : Option (List ℕ)) (after : ℕ) (r : Result (Unit {0}) PrintFault)
+  pub leads : (c : Option (List ℕ)) (after : ℕ) (r : Result (Unit {0}) AnswerFault)
       → PrintsPart b c mid after r left → PrintsPart a c before after r all
 
 -- none was printed yet
@@ -86,7 +88,7 @@ leads_more {a} {b} {c} {before} {mid} {next} {all} {left} lines rest e led p = r
 
 -- a fault among those of the next item
 pub leads_failed : {a b : Option (List ℕ)} {before mid : ℕ} {all left : List (List ℕ)}
-    (c : Option (List ℕ)) (after : ℕ) (f : PrintFault) (lines rest : List (List ℕ))
+    (c : Option (List ℕ)) (after : ℕ) (f : AnswerFault) (lines rest : List (List ℕ))
     → left ≡ lines ++ rest → Leads a before all b mid left → PrintsPart {X = Unit {0}} b c mid after (Err f) lines
     → PrintsPart {X = Unit {0}} a c before after (Err f) all
 leads_failed {a} {b} {before} {mid} {all} {left} c after f lines rest e led p =

@@ -1,7 +1,7 @@
 -- What a run is answered: its lines and its status (this project's profile).
-use Rattle.std.specs.Prelude.{ℕ, ◌<◌, ◌==◌, ◌&&◌, if◌then◌else◌, Bool, true, false, List, [], ◌∷◌, ◌++◌, length, take}
+use Rattle.std.specs.Prelude.{ℕ, ◌<◌, ◌==◌, ◌&&◌, if◌then◌else◌, Bool, true, false, List, [], ◌∷◌, ◌++◌, length}
 use Rattle.std.specs.Prelude.{Result, Ok, Err, flat_map}
-use Rattle.std.specs.List.{concat, list_all}
+use Rattle.std.specs.List.{list_all}
 use Rattle.mxf_klv.specs.Parts.{NoteParts}
 use Rattle.mxf_klv.specs.declared.piece.Stop.{Stop}
 use Rattle.mxf_klv.specs.declared.piece.Stop.TheVariants.{End}
@@ -12,17 +12,17 @@ use Rattle.mxf_views.specs.Places.{greatest_unit, place_of, segments_of}
 use Rattle.mxf_views.specs.declared.finding.Finding.{Finding}
 use Rattle.mxf_views.specs.declared.index.place.Place.{Place}
 use Rattle.mxf_views.specs.declared.index.place.Place.TheVariants.{At}
+use Rattle.mxf_restore.specs.Plan.{PlanParts, plan_of}
 use Rattle.mxf_read.specs.declared.gathering.report.PieceReport.{PieceReport}
 use Rattle.mxf_lines.specs.declared.printing.Ask.{Ask}
-use Rattle.mxf_lines.specs.declared.printing.Ask.TheVariants.{Show, Check, Locate, Join}
+use Rattle.mxf_lines.specs.declared.printing.Ask.TheVariants.{Show, Check, Locate, Join, Plan}
 use Rattle.mxf_lines.specs.declared.printing.AnswerFault.{AnswerFault}
-use Rattle.mxf_lines.specs.declared.printing.AnswerFault.TheVariants.{OutOfMemory, Write, BadUnit}
-use Rattle.mxf_lines.specs.declared.printing.fault.PrintFault.{PrintFault}
-use Rattle.mxf_lines.specs.declared.printing.fault.PrintFault.TheVariants as prints
+use Rattle.mxf_lines.specs.declared.printing.AnswerFault.TheVariants.{BadUnit}
 use Rattle.mxf_lines.specs.FindingLines.{count_line, finding_line, stop_line}
 use Rattle.mxf_lines.specs.IndexLines.{place_line}
 use Rattle.mxf_lines.specs.Lines.{join_line, piece_line}
-use Rattle.mxf_lines.specs.Printing.{content_lines}
+use Rattle.mxf_lines.specs.PlanLines.{plan_lines}
+use Rattle.mxf_lines.specs.Printing.{Prints, content_lines}
 
 -- A line for each report of a piece: its offset, the number of its packets, and its stop.
 abbrev pub report_lines : List PieceReport → List (List ℕ)
@@ -55,6 +55,7 @@ answer_lines Show reports content = report_lines reports ++ content_lines conten
 answer_lines Check reports content = check_lines reports content
 answer_lines (Locate index unit) reports content = place_line (place_of (segments_of content) index unit) ∷ []
 answer_lines Join reports content = join_lines content
+answer_lines Plan reports content = plan_lines (plan_of content)
 
 -- 0 where all pieces end with a packet and nothing is found, else 1.
 abbrev pub check_status : List PieceReport → List Finding → ℕ
@@ -65,12 +66,17 @@ abbrev pub place_status : Place → ℕ
 place_status (At body_sid offset) = 0
 place_status _ = 1
 
+-- 1 where there is something to restore, else 0.
+abbrev pub plan_status : PlanParts → ℕ
+plan_status p = if length p.orders == 0 then 0 else 1
+
 -- The status of what is asked for.
 abbrev pub answer_status : Ask → List PieceReport → List NoteParts → ℕ
 answer_status Show reports content = 0
 answer_status Check reports content = check_status reports (findings_of content)
 answer_status (Locate index unit) reports content = place_status (place_of (segments_of content) index unit)
 answer_status Join reports content = 0
+answer_status Plan reports content = plan_status (plan_of content)
 
 -- An edit unit above the greatest is asked for.
 abbrev pub IsBadAsk : Ask → Type 0
@@ -78,16 +84,10 @@ IsBadAsk Show = ⊥
 IsBadAsk Check = ⊥
 IsBadAsk (Locate index unit) = greatest_unit < unit
 IsBadAsk Join = ⊥
+IsBadAsk Plan = ⊥
 
--- The fault of an answer whose lines ended early.
-abbrev pub answer_fault : PrintFault → AnswerFault
-answer_fault prints.OutOfMemory = OutOfMemory
-answer_fault (prints.Write fault) = Write fault
-
--- What is answered, where `Wrote` says what a writer took: all bytes of the lines; or the writer failed among them; or
--- memory ran out, after some whole lines and before the last; or the edit unit is a bad one, and nothing was written.
+-- What is answered, where `Wrote` says what a writer took: the edit unit is a bad one, and nothing was written; or what
+-- a call answers that prints the lines.
 abbrev pub Answers : (Result (Unit {0}) WriteFault → List ℕ → Type 0) → Result ℕ AnswerFault → List (List ℕ) → Type 0
-Answers Wrote (Ok status) lines = Wrote (Ok tt) (concat lines)
-Answers Wrote (Err (Write fault)) lines = Wrote (Err fault) (concat lines)
-Answers Wrote (Err OutOfMemory) lines = (k : ℕ) × (k < length lines) × Wrote (Ok tt) (concat (take k lines))
 Answers Wrote (Err BadUnit) lines = Wrote (Ok tt) []
+Answers Wrote answered lines = Prints Wrote answered lines

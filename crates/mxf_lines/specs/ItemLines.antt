@@ -13,7 +13,7 @@ use Rattle.mxf_views.specs.declared.copy.CopyInfo.{CopyInfo}
 use Rattle.mxf_views.specs.SetItems.{set_items}
 use Rattle.mxf_lines.specs.declared.printing.sets.CopyLabels.{CopyLabels}
 use Rattle.mxf_lines.specs.Hexadecimal.{hex_of}
-use Rattle.mxf_lines.specs.Lines.{line_of}
+use Rattle.mxf_lines.specs.Lines.{line_of, lines_where}
 
 -- The label of a tag by a primer pack, none without one.
 abbrev pub label_by : Option BatchParts → ℕ → Option (List ℕ)
@@ -40,14 +40,9 @@ item_line offset label item =
 abbrev pub item_lines : ℕ → Option BatchParts → List ItemParts → List (List ℕ)
 item_lines offset primer items = flat_map (λ item. item_line offset (label_by primer item.tag) item ∷ []) items
 
--- The lines of a note, none where it has no items.
-abbrev pub lines_of_items : ℕ → Option BatchParts → Option (List ItemParts) → List (List ℕ)
-lines_of_items offset primer None = []
-lines_of_items offset primer (Some items) = item_lines offset primer items
-
--- The lines of one of the notes of a content.
+-- The lines of one of the notes of a content, none where it has no items.
 abbrev pub set_lines : List NoteParts → NoteParts → List (List ℕ)
-set_lines content n = lines_of_items n.offset (primer_for content n) (set_items n)
+set_lines content n = lines_where (item_lines n.offset (primer_for content n)) (set_items n)
 
 -- The label of a tag by the table that is kept of a copy while its sets are printed, none without one.
 abbrev pub label_among : Option (List (ℕ × Option (List ℕ))) → ℕ → Option (List ℕ)

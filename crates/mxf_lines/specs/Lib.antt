@@ -1,3 +1,5 @@
+pub mod MapLines
+pub mod PlanLines
 pub mod Answering
 pub mod FindingLines
 pub mod Hexadecimal

@@ -5,7 +5,7 @@ use Rattle.mxf_klv.specs.Kind.{kind_of}
 use Rattle.mxf_klv.specs.Parts.{NoteParts}
 use Rattle.mxf_klv.specs.Words.{kind_name, stop_name}
 use Rattle.mxf_klv.specs.declared.piece.Stop.{Stop}
-use Rattle.mxf_klv.specs.declared.piece.Stop.TheVariants.{End, NotUl, BadLength, TooFar, Truncated}
+use Rattle.mxf_klv.specs.declared.piece.Stop.TheVariants.{End, NotUl, BadLength, TooFar, Truncated, NoStart}
 use Rattle.mxf_catalogue.specs.declared.run.Run.{Run}
 use Rattle.mxf_views.specs.declared.chain.Chain.{Chain}
 use Rattle.mxf_views.specs.declared.copy.CopyInfo.{CopyInfo}
@@ -36,6 +36,7 @@ stop_text (NotUl at) = spaced (stop_name (NotUl at) ∷ decimal at ∷ [])
 stop_text (BadLength at) = spaced (stop_name (BadLength at) ∷ decimal at ∷ [])
 stop_text (TooFar at) = spaced (stop_name (TooFar at) ∷ decimal at ∷ [])
 stop_text (Truncated at) = spaced (stop_name (Truncated at) ∷ decimal at ∷ [])
+stop_text (NoStart at) = spaced (stop_name (NoStart at) ∷ decimal at ∷ [])
 
 -- The line of a piece: its offset, the number of its packets and its stop.
 unfoldable pub piece_line : ℕ → ℕ → Stop → List ℕ

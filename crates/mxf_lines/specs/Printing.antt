@@ -11,8 +11,8 @@ use Rattle.mxf_views.specs.Partitions.{chain_of, partitions_of}
 use Rattle.mxf_views.specs.Places.{segments_of}
 use Rattle.mxf_views.specs.RandomIndexView.{rip_view_of}
 use Rattle.mxf_views.specs.Resolved.{resolved_of}
-use Rattle.mxf_lines.specs.declared.printing.fault.PrintFault.{PrintFault}
-use Rattle.mxf_lines.specs.declared.printing.fault.PrintFault.TheVariants.{OutOfMemory, Write}
+use Rattle.mxf_lines.specs.declared.printing.AnswerFault.{AnswerFault}
+use Rattle.mxf_lines.specs.declared.printing.AnswerFault.TheVariants.{OutOfMemory, Write, BadUnit}
 use Rattle.mxf_lines.specs.Lines.{chain_line, copy_line, gap_line, note_line, preferred_line}
 use Rattle.mxf_lines.specs.IndexLines.{rip_lines, segment_line}
 use Rattle.mxf_lines.specs.ItemLines.{set_lines}
@@ -40,12 +40,13 @@ content_lines content =
     ++ (chain_line (chain_of content) ∷ metadata_lines content)))
 
 -- What a call that prints lines answers, where `Wrote` says what a writer took: all bytes of the lines; or the writer
--- failed among them; or memory ran out, after some whole lines and before the last.
-abbrev pub Prints : {X : Type 0} → (Result (Unit {0}) WriteFault → List ℕ → Type 0) → Result X PrintFault
+-- failed among them; or memory ran out, after some whole lines and before the last. It tests no edit unit.
+abbrev pub Prints : {X : Type 0} → (Result (Unit {0}) WriteFault → List ℕ → Type 0) → Result X AnswerFault
     → List (List ℕ) → Type 0
 Prints Wrote (Ok x) lines = Wrote (Ok tt) (concat lines)
 Prints Wrote (Err (Write fault)) lines = Wrote (Err fault) (concat lines)
 Prints Wrote (Err OutOfMemory) lines = (k : ℕ) × (k < length lines) × Wrote (Ok tt) (concat (take k lines))
+Prints Wrote (Err BadUnit) lines = ⊥
 
 -- What a call answers that gives the next of some items, by how many are left and what their lines are: none where
 -- none is left, else the first, and the others are left.

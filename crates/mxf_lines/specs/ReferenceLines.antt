@@ -18,8 +18,8 @@ use Rattle.mxf_views.specs.declared.reference.target.Target.{Target}
 use Rattle.mxf_views.specs.declared.reference.target.Target.TheVariants.{Missing, Several, WrongKind, Unreadable, Found}
 use Rattle.mxf_lines.specs.declared.printing.line.record.FieldName.{FieldName}
 use Rattle.mxf_lines.specs.declared.printing.line.record.FieldName.TheVariants as names
-use Rattle.mxf_lines.specs.declared.printing.line.reference.Named.{Named}
-use Rattle.mxf_lines.specs.declared.printing.line.reference.Named.TheVariants.{Identification, Package}
+use Rattle.mxf_lines.specs.declared.printing.references.Named.{Named}
+use Rattle.mxf_lines.specs.declared.printing.references.Named.TheVariants.{Identification, Package}
 use Rattle.mxf_lines.specs.declared.printing.references.NamedRecord.{NamedRecord}
 use Rattle.mxf_lines.specs.declared.printing.references.Record.{Record}
 use Rattle.mxf_lines.specs.declared.printing.references.Record.TheVariants as records
@@ -106,18 +106,10 @@ package_lines kind p =
     field_line (codes "kind") (package_word kind) ∷ field_line (codes "package-uid") (hex_of p.package_uid)
     ∷ (field_lines (codes "name") shown_value p.name ++ package_details p)
 
--- The Identification of a note, where it is kept and readable.
-unfoldable pub identification_in : NoteParts → Option IdentificationParts
-identification_in n = read_as identification_at n
-
--- The package of a note, where it is kept and readable.
-unfoldable pub package_in : NoteParts → Option PackageParts
-package_in n = read_as package_at n
-
--- The lines of the record of a note, none where it has no such record.
+-- The lines of the record of a note, none where its value isn't kept, or is no such record.
 abbrev pub record_lines : Named → NoteParts → List (List ℕ)
-record_lines Identification n = lines_where identification_lines (identification_in n)
-record_lines Package n = lines_where (package_lines (kind_of n.key)) (package_in n)
+record_lines Identification n = lines_where identification_lines (read_as identification_at n)
+record_lines Package n = lines_where (package_lines (kind_of n.key)) (read_as package_at n)
 
 -- The lines of the record that was found, which is that of the clear note at its offset.
 abbrev pub found_lines : List NoteParts → Named → Target → List (List ℕ)

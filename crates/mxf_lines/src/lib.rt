@@ -17,4 +17,4 @@
 
 mod printing;
 
-pub use printing::{AnswerFault, Ask, answer, hex_text};
+pub use printing::{AnswerFault, Ask, Grid, answer, hex_text, print_map};

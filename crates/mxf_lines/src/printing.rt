@@ -1,26 +1,28 @@
 //! Printing what a run is asked for.
 ghost use Rattle.std.specs.Prelude.{◌≡◌, ◌↔◌, IfOk, Err};
 ghost use Rattle.mxf_klv.specs.Written.{Writes};
-ghost use Rattle.mxf_lines.specs.Answering.{Answers, IsBadAsk, answer_fault, answer_lines, answer_status, place_status};
+ghost use Rattle.mxf_lines.specs.Answering.{Answers, IsBadAsk, answer_lines, answer_status};
 ghost use Rattle.mxf_lines.specs.declared.printing.AnswerFault.TheVariants as faults;
 
 mod check;
 mod content;
-mod fault;
 mod hexadecimal;
 mod line;
 mod lines;
+mod map;
+mod plan;
 mod references;
 mod sets;
 
 use check::print_checked;
-pub(crate) use fault::PrintFault;
 pub use hexadecimal::hex_text;
 use line::JoinLine;
 use lines::{Lines, Printer};
-use mxf_klv::WriteFault;
+pub use map::{Grid, print_map};
+use mxf_klv::{OutOfMemory, WriteFault};
 use mxf_read::Gathered;
-use mxf_views::{BadUnit, Place};
+use mxf_restore::Plan;
+use mxf_views::Place;
 use std::alloc::Global;
 use std::io::Write;
 use thiserror::Error;
@@ -39,22 +41,11 @@ pub enum AnswerFault {
     BadUnit,
 }
 
-impl From<PrintFault> for AnswerFault {
-    ghost from_gives = { λ fault e. e ≡ answer_fault fault };
+impl From<OutOfMemory> for AnswerFault {
+    ghost from_gives = { λ _ e. e ≡ faults.OutOfMemory };
 
-    fn from(fault: PrintFault) -> AnswerFault {
-        match fault {
-            PrintFault::OutOfMemory => AnswerFault::OutOfMemory,
-            PrintFault::Write(fault) => AnswerFault::Write(fault),
-        }
-    }
-}
-
-impl From<BadUnit> for AnswerFault {
-    ghost from_gives = { λ _ e. e ≡ faults.BadUnit };
-
-    fn from(_fault: BadUnit) -> AnswerFault {
-        AnswerFault::BadUnit
+    fn from(_fault: OutOfMemory) -> AnswerFault {
+        AnswerFault::OutOfMemory
     }
 }
 
@@ -69,10 +60,12 @@ pub enum Ask {
     Locate { index: u32, unit: u64 },
     /// How many notes the parts hold together.
     Join,
+    /// What to restore next.
+    Plan,
 }
 
 /// Prints the lines that are asked for. The answer is 1 where a check finds something, or a piece doesn't end with a
-/// packet, or where an edit unit has no place or more than one; else it is 0.
+/// packet, where an edit unit has no place or more than one, or where there is something to restore; else it is 0.
 ///
 /// The unit is tested first: above 9,223,372,036,854,775,807 it is a `BadUnit`. After want of memory some whole lines
 /// have been written; after a write fault the first bytes, which it counts.
@@ -95,23 +88,21 @@ pub fn answer<W: Write>(
         }
         Ask::Check => Ok(print_checked(&mut printer, writer, gathered)?),
         Ask::Locate { index, unit } => {
-            let place = gathered.views.locate(index, unit)?;
+            let place = gathered
+                .views
+                .locate(index, unit)
+                .map_err(|_| AnswerFault::BadUnit)?;
             place.print_to(&mut printer, writer)?;
-            Ok(place_status(place))
+            Ok(u8::from(!matches!(place, Place::At { .. })))
+        }
+        Ask::Plan => {
+            let plan = Plan::of(alloc, &gathered.views)?;
+            (&plan).print_to(&mut printer, writer)?;
+            Ok(u8::from(!plan.orders().is_empty()))
         }
         Ask::Join => {
             JoinLine(gathered.views.catalogue()).print_to(&mut printer, writer)?;
             Ok(0)
         }
-    }
-}
-
-/// 0 for the one place of an edit unit, else 1.
-fn place_status(place: Place) -> u8
-    ensures { result ≡ place_status place }
-{
-    match place {
-        Place::At { .. } => 0,
-        Place::NotIndexed | Place::Ambiguous { .. } => 1,
     }
 }

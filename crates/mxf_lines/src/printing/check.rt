@@ -1,16 +1,19 @@
-//! What a check finds.
-ghost use Rattle.std.specs.Prelude.{◌≡◌, IfOk};
+//! What a check finds, and its lines.
+ghost use Rattle.std.specs.Prelude.{◌≡◌, IfOk, length, flat_map};
 ghost use Rattle.std.specs.List.{list_all};
 ghost use Rattle.mxf_klv.specs.Written.{Puts};
 ghost use Rattle.mxf_views.specs.Findings.{findings_of};
-ghost use Rattle.mxf_lines.specs.Answering.{check_lines, check_status, is_end};
+ghost use Rattle.mxf_lines.specs.Answering.{check_lines, check_status, finding_lines, is_end, stop_lines};
+ghost use Rattle.mxf_lines.specs.FindingLines.{count_line, finding_line, stop_line};
 ghost use Rattle.mxf_lines.specs.Printing.{Prints};
 
-use super::PrintFault;
-use super::line::{StopLines, is_end};
-use super::lines::{Each, Lines, Printer, Then};
+use super::AnswerFault;
+use super::line::StopText;
+use super::lines::{Each, Line, Lines, Printer, Series, Then};
+use mxf_klv::Stop;
 use mxf_read::{Gathered, PieceReport};
-use mxf_views::Findings;
+use mxf_views::{Finding, Findings};
+use std::alloc::AllocError;
 use std::io::Write;
 
 /// Prints the pieces that don't end with a packet, and what is found wrong or missing; answers 1 where there is any of
@@ -19,7 +22,7 @@ pub fn print_checked<W: Write>(
     printer: &mut Printer,
     writer: &mut W,
     gathered: &Gathered,
-) -> Result<u8, PrintFault>
+) -> Result<u8, AnswerFault>
     ensures lines { Prints (Puts W.contents writer.old writer.new printer.old.progress printer.new.progress) result
         (check_lines gathered.now.reports gathered.now.views) }
     ensures status { IfOk result (λ status.
@@ -28,7 +31,7 @@ pub fn print_checked<W: Write>(
     let reports = gathered.reports.as_slice();
     let findings = gathered.views.findings(printer.alloc())?;
     Then(Each(StopLines(reports)), &findings).print_to(printer, writer)?;
-    Ok(check_status(reports, &findings))
+    Ok(u8::from(!(all_end(reports) && findings.len() == 0)))
 }
 
 /// Whether all pieces end with a packet.
@@ -38,13 +41,74 @@ fn all_end(reports: &[PieceReport]) -> bool
     reports.iter().all(|piece| is_end(piece.report.stop))
 }
 
-/// 0 where all pieces end with a packet and nothing is found, else 1.
-fn check_status(reports: &[PieceReport], findings: &Findings) -> u8
-    ensures { result ≡ check_status reports.now findings.now }
+/// Where a piece begins that doesn't end with a packet, in bytes, and why it ends.
+#[derive(Clone, Copy)]
+struct StopLine(PieceReport);
+
+impl Line for StopLine {
+    ghost text = { λ l. stop_line l.0.offset l.0.report.stop };
+
+    #[tactic(auto, unfolding(crate::specs::FindingLines::stop_line))]
+    fn append_to(&self, line: &mut String) -> Result<(), AllocError> {
+        let PieceReport { offset, report } = self.0;
+        writeln!(line, "stop {offset} {}", StopText(report.stop))
+    }
+}
+
+/// Whether a piece ends with a packet.
+fn is_end(stop: Stop) -> bool
+    ensures { result ≡ is_end stop }
 {
-    if all_end(reports) && findings.len() == 0 {
-        0
-    } else {
-        1
+    matches!(stop, Stop::End)
+}
+
+/// A line for each piece that doesn't end with a packet.
+#[derive(Clone, Copy)]
+struct StopLines<'a>(&'a [PieceReport]);
+
+impl<'a> Series for StopLines<'a> {
+    type Item = Option<StopLine>;
+
+    ghost lines_left = { λ s. flat_map stop_lines s.0.now };
+
+    ghost left = { λ s. length s.0.now };
+
+    fn next_item(&mut self) -> Option<Option<StopLine>> {
+        let (piece, left) = self.0.split_first()?;
+        self.0 = left;
+        Some((!is_end(piece.report.stop)).then_some(StopLine(*piece)))
+    }
+}
+
+/// A finding: its code, its offset in bytes, and what the code says.
+impl Line for Finding {
+    ghost text = { finding_line };
+
+    #[tactic(auto, unfolding(crate::specs::FindingLines::finding_line))]
+    fn append_to(&self, line: &mut String) -> Result<(), AllocError> {
+        let Finding { offset, code } = *self;
+        writeln!(line, "{code} {offset} {}", code.text())
+    }
+}
+
+/// How many findings there are.
+#[derive(Clone, Copy)]
+struct CountLine(usize);
+
+impl Line for CountLine {
+    ghost text = { λ l. count_line l.0 };
+
+    #[tactic(auto, unfolding(crate::specs::FindingLines::count_line))]
+    fn append_to(&self, line: &mut String) -> Result<(), AllocError> {
+        writeln!(line, "findings {}", self.0)
+    }
+}
+
+/// A line for each finding, and then how many there are.
+impl<'a> Lines for &'a Findings {
+    ghost lines = { λ f. finding_lines f.now };
+
+    fn print_to<W: Write>(self, printer: &mut Printer, writer: &mut W) -> Result<(), AnswerFault> {
+        Then(Each(self.as_slice()), CountLine(self.len())).print_to(printer, writer)
     }
 }

@@ -3,7 +3,7 @@ ghost use Rattle.std.specs.Prelude.{◌++◌};
 ghost use Rattle.mxf_lines.specs.Answering.{report_lines};
 ghost use Rattle.mxf_lines.specs.Printing.{content_lines};
 
-use super::PrintFault;
+use super::AnswerFault;
 use super::line::{NoteLines, PartitionLines, PreferredLine};
 use super::lines::{Each, Lines, Printer, Then};
 use super::references::ReferenceLines;
@@ -16,7 +16,7 @@ use std::io::Write;
 impl<'a> Lines for &'a Gathered {
     ghost lines = { λ g. report_lines g.now.reports ++ content_lines g.now.views };
 
-    fn print_to<W: Write>(self, printer: &mut Printer, writer: &mut W) -> Result<(), PrintFault> {
+    fn print_to<W: Write>(self, printer: &mut Printer, writer: &mut W) -> Result<(), AnswerFault> {
         Then(Each(self.reports.as_slice()), &self.views).print_to(printer, writer)
     }
 }
@@ -25,7 +25,7 @@ impl<'a> Lines for &'a Gathered {
 impl<'a> Lines for &'a Views {
     ghost lines = { λ v. content_lines v.now };
 
-    fn print_to<W: Write>(self, printer: &mut Printer, writer: &mut W) -> Result<(), PrintFault> {
+    fn print_to<W: Write>(self, printer: &mut Printer, writer: &mut W) -> Result<(), AnswerFault> {
         // Want of memory here comes before the first line.
         let resolved = self.resolved(printer.alloc())?;
         let catalogue = self.catalogue();

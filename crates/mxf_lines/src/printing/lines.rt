@@ -6,7 +6,7 @@ ghost use Rattle.mxf_lines.specs.Printing.{Gives, Prints};
 mod joined;
 mod printer;
 
-use super::PrintFault;
+use super::AnswerFault;
 pub use joined::{Each, Then};
 pub use printer::{Line, Printer};
 use std::io::Write;
@@ -17,7 +17,7 @@ pub trait Lines {
     ghost lines: { Self → List (List ℕ) };
 
     /// Prints the lines. After want of memory some whole lines have been written, and not all.
-    fn print_to<W: Write>(self, printer: &mut Printer, writer: &mut W) -> Result<(), PrintFault>
+    fn print_to<W: Write>(self, printer: &mut Printer, writer: &mut W) -> Result<(), AnswerFault>
         ensures { Prints (Puts W.contents writer.old writer.new printer.old.progress printer.new.progress) result
             (lines self) };
 }

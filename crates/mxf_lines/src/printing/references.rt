@@ -1,19 +1,21 @@
 //! What the references of the preferred copy lead to.
-ghost use Rattle.std.specs.Prelude.{◌≡◌};
+ghost use Rattle.std.specs.Prelude.{◌≡◌, Some};
 ghost use Rattle.mxf_klv.specs.Written.{Puts};
 ghost use Rattle.mxf_lines.specs.Lines.{lines_where};
 ghost use Rattle.mxf_lines.specs.Printing.{Prints};
-ghost use Rattle.mxf_lines.specs.ReferenceLines.{IsRecordIn, found_lines, identification_in, lines_of_record};
-ghost use Rattle.mxf_lines.specs.ReferenceLines.{named_lines};
-ghost use Rattle.mxf_lines.specs.ReferenceLines.{lines_of_reference, package_in, record_lines, reference_lines};
+ghost use Rattle.mxf_lines.specs.ReferenceLines.{IsRecordIn, found_lines, lines_of_record, lines_of_reference};
+ghost use Rattle.mxf_lines.specs.ReferenceLines.{named_lines, record_lines, reference_line, reference_lines};
+ghost use Rattle.mxf_lines.specs.ReferenceLines.{target_text};
 
-use super::PrintFault;
-use super::line::{Named, PackageLines, ReferenceLine};
-use super::lines::{Lines, Printer, Then};
+use super::AnswerFault;
+use super::line::PackageLines;
+use super::lines::{Line, Lines, Printer, Then};
 use mxf_catalogue::Catalogue;
 use mxf_klv::{Kind, Note};
 use mxf_sets::{Identification, Package};
 use mxf_views::{Ref, Resolved, Target};
+use std::alloc::AllocError;
+use std::fmt;
 use std::io::Write;
 
 /// The lines of the references of the preferred copy, to identifications and then to packages; none without one.
@@ -26,7 +28,7 @@ pub struct ReferenceLines<'a> {
 impl<'a> Lines for ReferenceLines<'a> {
     ghost lines = { λ l. reference_lines l.catalogue.now l.resolved.now };
 
-    fn print_to<W: Write>(self, printer: &mut Printer, writer: &mut W) -> Result<(), PrintFault> {
+    fn print_to<W: Write>(self, printer: &mut Printer, writer: &mut W) -> Result<(), AnswerFault> {
         let catalogue = self.catalogue;
         let Some(resolved) = self.resolved else {
             return Ok(());
@@ -45,6 +47,53 @@ impl<'a> Lines for ReferenceLines<'a> {
     }
 }
 
+/// What a reference names.
+#[derive(Clone, Copy)]
+enum Named {
+    Identification,
+    Package,
+}
+
+/// What a reference leads to, and at which offset in bytes.
+#[derive(Clone, Copy)]
+struct TargetText(Target);
+
+impl fmt::Display for TargetText {
+    ghost output = { λ t. Some (target_text t.0) };
+
+    fn fmt<W: fmt::Write>(&self, f: &mut fmt::Formatter<W>) -> fmt::Result {
+        match self.0 {
+            Target::Missing => f.write_str("missing"),
+            Target::Several => f.write_str("several"),
+            Target::WrongKind(offset) => write!(f, "wrong-kind {offset}"),
+            Target::Unreadable(offset) => write!(f, "unreadable {offset}"),
+            Target::Found(offset) => write!(f, "found {offset}"),
+        }
+    }
+}
+
+/// The line of a reference: what it names, its identifier, and what it leads to.
+#[derive(Clone, Copy)]
+struct ReferenceLine {
+    named: Named,
+    reference: Ref,
+}
+
+impl Line for ReferenceLine {
+    ghost text = { λ l. reference_line l.named l.reference };
+
+    #[tactic(auto, unfolding(crate::specs::ReferenceLines::reference_line))]
+    fn append_to(&self, line: &mut String) -> Result<(), AllocError> {
+        let word = match self.named {
+            Named::Identification => "identification",
+            Named::Package => "package",
+        };
+        let Ref { uid, target } = self.reference;
+        let target = TargetText(target);
+        writeln!(line, "{word} {uid} {target}")
+    }
+}
+
 /// The lines of references that all name identifications, or all packages.
 #[derive(Clone, Copy)]
 struct NamedLines<'a> {
@@ -56,7 +105,7 @@ struct NamedLines<'a> {
 impl<'a> Lines for NamedLines<'a> {
     ghost lines = { λ l. named_lines l.catalogue.now l.named l.references.now };
 
-    fn print_to<W: Write>(self, printer: &mut Printer, writer: &mut W) -> Result<(), PrintFault> {
+    fn print_to<W: Write>(self, printer: &mut Printer, writer: &mut W) -> Result<(), AnswerFault> {
         let mut last = NamedRecord {
             target: Target::Missing,
             found: None,
@@ -78,7 +127,7 @@ impl<'a> NamedLines<'a> {
         writer: &mut W,
         last: &mut NamedRecord<'a>,
         reference: Ref,
-    ) -> Result<(), PrintFault>
+    ) -> Result<(), AnswerFault>
         requires { IsRecordIn self.catalogue.now self.named last.old }
         ensures last { IsRecordIn self.entry.catalogue.now self.entry.named last.new }
         ensures lines { Prints (Puts W.contents writer.old writer.new printer.old.progress printer.new.progress) result
@@ -102,12 +151,12 @@ enum Record<'a> {
 impl<'r, 'a> Lines for &'r Option<Record<'a>> {
     ghost lines = { λ r. lines_where lines_of_record r.now };
 
-    fn print_to<W: Write>(self, printer: &mut Printer, writer: &mut W) -> Result<(), PrintFault> {
+    fn print_to<W: Write>(self, printer: &mut Printer, writer: &mut W) -> Result<(), AnswerFault> {
         match self {
             Some(Record::Identification(record)) => record.print_to(printer, writer),
-            Some(Record::Package(kind, record)) => PackageLines(*kind, record).print_to(
-                printer, writer,
-            ),
+            Some(Record::Package(kind, record)) => {
+                PackageLines(*kind, record).print_to(printer, writer)
+            }
             None => Ok(()),
         }
     }
@@ -145,28 +194,13 @@ fn record_at<'a>(catalogue: &'a Catalogue, named: Named, target: Target) -> Opti
     record_in(named, catalogue.clear_at(offset)?)
 }
 
-/// The record of a note, where it has such a one.
+/// The record of a note, where its value is kept and is such a one.
 fn record_in<'a>(named: Named, note: &'a Note) -> Option<Record<'a>>
     ensures { lines_where lines_of_record result ≡ record_lines named note.now }
 {
+    let value = note.value()?;
     match named {
-        Named::Identification => Some(Record::Identification(identification_in(note)?)),
-        Named::Package => Some(Record::Package(note.kind(), package_in(note)?)),
+        Named::Identification => Some(Record::Identification(Identification::read(value).ok()?)),
+        Named::Package => Some(Record::Package(note.kind(), Package::read(value).ok()?)),
     }
-}
-
-/// The Identification of a note, where its value is kept and readable.
-#[tactic(auto, unfolding(crate::specs::ReferenceLines::identification_in))]
-fn identification_in(note: &Note) -> Option<Identification<'_>>
-    ensures { result ≡ identification_in note.now }
-{
-    Identification::read(note.value()?).ok()
-}
-
-/// The package of a note, where its value is kept and readable.
-#[tactic(auto, unfolding(crate::specs::ReferenceLines::package_in))]
-fn package_in(note: &Note) -> Option<Package<'_>>
-    ensures { result ≡ package_in note.now }
-{
-    Package::read(note.value()?).ok()
 }

@@ -7,7 +7,7 @@ ghost use Rattle.mxf_views.specs.Labels.{primer_of};
 ghost use Rattle.mxf_lines.specs.ItemLines.{AreLabelsIn, item_lines, label_among, label_by_copy, set_lines};
 ghost use Rattle.mxf_lines.specs.Printing.{Prints};
 
-use super::PrintFault;
+use super::AnswerFault;
 use super::line::ItemLine;
 use super::lines::{Each, Lines, Printer, Series, Then};
 use mxf_klv::{Note, OutOfMemory};
@@ -23,7 +23,7 @@ pub struct SetLines<'a>(pub &'a Views);
 impl<'a> Lines for SetLines<'a> {
     ghost lines = { λ l. flat_map (set_lines l.0.now) (clear_notes l.0.now) };
 
-    fn print_to<W: Write>(self, printer: &mut Printer, writer: &mut W) -> Result<(), PrintFault> {
+    fn print_to<W: Write>(self, printer: &mut Printer, writer: &mut W) -> Result<(), AnswerFault> {
         let mut labels = CopyLabels {
             copy: None,
             labels: None,
@@ -42,7 +42,7 @@ fn print_set<W: Write>(
     views: &Views,
     labels: &mut CopyLabels,
     note: &Note,
-) -> Result<(), PrintFault>
+) -> Result<(), AnswerFault>
     requires { AreLabelsIn views.now labels.old }
     ensures labels { AreLabelsIn views.now labels.new }
     ensures lines { Prints (Puts W.contents writer.old writer.new printer.old.progress printer.new.progress) result
@@ -134,10 +134,7 @@ impl CopyLabels {
     fn label(&self, tag: u16) -> Option<[u8; 16]>
         ensures { result ≡ label_among self.now.labels tag }
     {
-        match &self.labels {
-            Some(labels) => labels.label(tag),
-            None => None,
-        }
+        self.labels.as_ref()?.label(tag)
     }
 }
 

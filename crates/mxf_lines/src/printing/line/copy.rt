@@ -1,6 +1,6 @@
 //! The lines of the copies of the header metadata.
-ghost use Rattle.std.specs.Prelude.{◌≡◌, Some};
-ghost use Rattle.mxf_lines.specs.Lines.{copy_line, finished_word, offset_text, preferred_line};
+ghost use Rattle.std.specs.Prelude.{Some};
+ghost use Rattle.mxf_lines.specs.Lines.{copy_line, offset_text, preferred_line};
 
 use super::{AllocError, Line, fmt};
 use mxf_views::CopyInfo;
@@ -20,13 +20,6 @@ impl fmt::Display for OffsetText {
     }
 }
 
-/// Whether a copy is finished.
-fn finished_word(finished: bool) -> &'static str
-    ensures { result.now ≡ finished_word finished }
-{
-    if finished { "finished" } else { "unfinished" }
-}
-
 /// A copy: its partition, its start, the bytes stated and covered, and whether it is finished.
 impl Line for CopyInfo {
     ghost text = { copy_line };
@@ -40,7 +33,11 @@ impl Line for CopyInfo {
             ..
         } = *self;
         let start = OffsetText(self.start);
-        let finished = finished_word(self.finished);
+        let finished = if self.finished {
+            "finished"
+        } else {
+            "unfinished"
+        };
         writeln!(
             line,
             "copy {partition} start {start} bytes {bytes} covered {covered} {finished}"

@@ -3,7 +3,7 @@ ghost use Rattle.std.specs.Prelude.{Some, [], ◌∷◌, length, flat_map};
 ghost use Rattle.mxf_lines.specs.IndexLines.{place_line, rip_entry_line, rip_entry_lines, rip_line, rip_lines};
 ghost use Rattle.mxf_lines.specs.IndexLines.{segment_line, segment_text};
 
-use super::{AllocError, Each, Line, Lines, PrintFault, Printer, Series, Then, Write, fmt};
+use super::{AllocError, AnswerFault, Each, Line, Lines, Printer, Series, Then, Write, fmt};
 use mxf_sets::{RipEntry, SegmentNumbers};
 use mxf_views::{Place, RipView, SegmentAt, Segments, Standing, Standings};
 
@@ -96,7 +96,7 @@ impl<'a> Line for RipLine<'a> {
 impl<'a> Lines for RipView<'a> {
     ghost lines = { λ r. rip_lines r };
 
-    fn print_to<W: Write>(self, printer: &mut Printer, writer: &mut W) -> Result<(), PrintFault> {
+    fn print_to<W: Write>(self, printer: &mut Printer, writer: &mut W) -> Result<(), AnswerFault> {
         match &self {
             RipView::One(rip) => {
                 Then(RipLine(&self), Each(rip.entries())).print_to(printer, writer)

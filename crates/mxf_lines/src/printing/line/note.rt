@@ -2,7 +2,7 @@
 ghost use Rattle.std.specs.Prelude.{◌≡◌, [], ◌∷◌, length, flat_map};
 ghost use Rattle.mxf_klv.specs.Rising.{In};
 ghost use Rattle.mxf_catalogue.specs.Disputes.{is_disputed};
-ghost use Rattle.mxf_lines.specs.Lines.{dispute_mark, head_mark, note_line};
+ghost use Rattle.mxf_lines.specs.Lines.{note_line};
 
 use super::{AllocError, LabelDigits, Line, Series};
 use mxf_catalogue::{Catalogue, Notes};
@@ -27,27 +27,13 @@ impl<'a> Line for NoteLine<'a> {
         let width = self.note.width();
         let length = self.note.length();
         let key = LabelDigits(self.note.key().bytes());
-        let head = head_mark(self.note.is_head());
-        let disputed = dispute_mark(self.disputed);
+        let head = if self.note.is_head() { " head" } else { "" };
+        let disputed = if self.disputed { " disputed" } else { "" };
         writeln!(
             line,
             "note {offset} {kind} {width} {length} {key}{head}{disputed}"
         )
     }
-}
-
-/// What stands behind the key of a head.
-fn head_mark(head: bool) -> &'static str
-    ensures { result.now ≡ head_mark head }
-{
-    if head { " head" } else { "" }
-}
-
-/// What stands behind the key of a disputed note.
-fn dispute_mark(disputed: bool) -> &'static str
-    ensures { result.now ≡ dispute_mark disputed }
-{
-    if disputed { " disputed" } else { "" }
 }
 
 /// The lines of the notes that are left.

@@ -2,12 +2,10 @@
 ghost use Rattle.std.specs.Prelude.{[], ◌∷◌, length, flat_map, ◌≡◌, Some};
 ghost use Rattle.mxf_views.specs.Partitions.{link_of, partitions_of};
 ghost use Rattle.mxf_lines.specs.Lines.{chain_line, gap_line};
-ghost use Rattle.mxf_lines.specs.PartitionLines.{container_line, container_lines, numbers_text, partition_line};
-ghost use Rattle.mxf_lines.specs.PartitionLines.{partition_lines, pattern_text};
+ghost use Rattle.mxf_lines.specs.PartitionLines.{container_line, numbers_text, partition_line, partition_lines};
+ghost use Rattle.mxf_lines.specs.PartitionLines.{pattern_text};
 
-use super::{
-    AllocError, Each, HexDigits, Line, Lines, PrintFault, Printer, Series, Then, Write, fmt,
-};
+use super::{AllocError, Each, HexDigits, Line, Series, Then, fmt};
 use mxf_catalogue::Run;
 use mxf_sets::{BatchItems, PartitionNumbers, pattern_name};
 use mxf_views::{Chain, Gaps, Link, PartitionAt, Partitions, Views};
@@ -90,23 +88,19 @@ impl fmt::Display for PatternText {
     }
 }
 
-/// A partition, and how it names the one before it.
+/// The line of a partition: its offset in bytes, what its pack states, and how it names the one before it.
 #[derive(Drop)]
-pub struct LinkedPartition<'a> {
+pub struct PartitionLine<'a> {
     partition: PartitionAt<'a>,
     link: Link,
 }
 
-/// The line of a partition: its offset in bytes, what its pack states, and how it names the one before it.
-#[derive(Clone, Copy)]
-struct PartitionLine<'r, 'a>(&'r LinkedPartition<'a>);
-
-impl<'r, 'a> Line for PartitionLine<'r, 'a> {
-    ghost text = { λ l. partition_line l.0.now.partition l.0.now.link };
+impl<'a> Line for PartitionLine<'a> {
+    ghost text = { λ l. partition_line l.partition l.link };
 
     #[tactic(auto, unfolding(crate::specs::PartitionLines::partition_line))]
     fn append_to(&self, line: &mut String) -> Result<(), AllocError> {
-        let LinkedPartition { partition, link } = self.0;
+        let PartitionLine { partition, link } = self;
         let offset = partition.offset;
         let pack = &partition.pack;
         let part = pack.part();
@@ -145,17 +139,7 @@ impl<'a> Series for BatchItems<'a> {
     }
 }
 
-/// The line of a partition, and a line for each label of its essence containers.
-impl<'a> Lines for LinkedPartition<'a> {
-    ghost lines = { λ p. partition_line p.partition p.link ∷ container_lines p.partition.pack.containers };
-
-    fn print_to<W: Write>(self, printer: &mut Printer, writer: &mut W) -> Result<(), PrintFault> {
-        let containers = Each(self.partition.pack.containers().items());
-        Then(PartitionLine(&self), containers).print_to(printer, writer)
-    }
-}
-
-/// The lines of the partitions that are left.
+/// The lines of the partitions that are left: of each its own, and one for each label of its essence containers.
 #[derive(Drop)]
 pub struct PartitionLines<'a> {
     pub views: &'a Views,
@@ -163,15 +147,16 @@ pub struct PartitionLines<'a> {
 }
 
 impl<'a> Series for PartitionLines<'a> {
-    type Item = LinkedPartition<'a>;
+    type Item = Then<PartitionLine<'a>, Each<BatchItems<'a>>>;
 
     ghost lines_left = { λ s. flat_map (partition_lines (partitions_of s.views.now)) s.left };
 
     ghost left = { λ s. length s.left };
 
-    fn next_item(&mut self) -> Option<LinkedPartition<'a>> {
+    fn next_item(&mut self) -> Option<Then<PartitionLine<'a>, Each<BatchItems<'a>>>> {
         let partition = self.left.next()?;
         let link = self.views.link_of(&partition);
-        Some(LinkedPartition { partition, link })
+        let containers = Each(partition.pack.containers().items());
+        Some(Then(PartitionLine { partition, link }, containers))
     }
 }

@@ -10,7 +10,7 @@ use mxf_read::PieceReport;
 
 /// A stop as its word, and the offset where it has one.
 #[derive(Clone, Copy)]
-pub(super) struct StopText(pub(super) Stop);
+pub struct StopText(pub Stop);
 
 impl fmt::Display for StopText {
     ghost output = { λ s. Some (stop_text s.0) };
@@ -19,9 +19,11 @@ impl fmt::Display for StopText {
         let stop = self.0;
         match stop {
             Stop::End => write!(f, "{stop}"),
-            Stop::NotUl(at) | Stop::BadLength(at) | Stop::TooFar(at) | Stop::Truncated(at) => {
-                write!(f, "{stop} {at}")
-            }
+            Stop::NotUl(at)
+            | Stop::BadLength(at)
+            | Stop::TooFar(at)
+            | Stop::Truncated(at)
+            | Stop::NoStart(at) => write!(f, "{stop} {at}"),
         }
     }
 }

@@ -6,7 +6,7 @@ ghost use Rattle.mxf_lines.specs.ReferenceLines.{package_details, package_lines,
 ghost use Rattle.mxf_lines.specs.ReferenceLines.{uid_text};
 ghost use Rattle.mxf_lines.specs.ShownText.{shown_value, shown_char, shown_text};
 
-use super::{AllocError, HexDigits, Line, Lines, PrintFault, Printer, Then, Write};
+use super::{AllocError, AnswerFault, HexDigits, Line, Lines, Printer, Then, Write};
 use mxf_klv::{Kind, OutOfMemory};
 use mxf_sets::{Identification, Package, TextFault, Timestamp, text};
 use std::alloc::Global;
@@ -147,7 +147,7 @@ struct Field<V>(FieldName, Option<V>);
 impl<V: Value + Copy> Lines for Field<V> {
     ghost lines = { λ f. field_lines (field_name f.0) V.text f.1 };
 
-    fn print_to<W: Write>(self, printer: &mut Printer, writer: &mut W) -> Result<(), PrintFault> {
+    fn print_to<W: Write>(self, printer: &mut Printer, writer: &mut W) -> Result<(), AnswerFault> {
         let Field(name, value) = self;
         match value {
             Some(value) => FieldLine(name, value).print_to(printer, writer),
@@ -163,7 +163,7 @@ struct TextField<'a>(FieldName, Option<&'a [u8]>);
 impl<'a> Lines for TextField<'a> {
     ghost lines = { λ f. field_lines (field_name f.0) shown_value (option_map (λ v. v.now) f.1) };
 
-    fn print_to<W: Write>(self, printer: &mut Printer, writer: &mut W) -> Result<(), PrintFault> {
+    fn print_to<W: Write>(self, printer: &mut Printer, writer: &mut W) -> Result<(), AnswerFault> {
         let TextField(name, value) = self;
         let Some(value) = value else {
             return Ok(());
@@ -176,7 +176,7 @@ impl<'a> Lines for TextField<'a> {
 impl<'r, 'a> Lines for &'r Identification<'a> {
     ghost lines = { λ i. identification_lines i.now };
 
-    fn print_to<W: Write>(self, printer: &mut Printer, writer: &mut W) -> Result<(), PrintFault> {
+    fn print_to<W: Write>(self, printer: &mut Printer, writer: &mut W) -> Result<(), AnswerFault> {
         let generation = Field(FieldName::Generation, self.this_generation_uid());
         let company = TextField(FieldName::Company, self.company_name());
         let product = TextField(FieldName::Product, self.product_name());
@@ -195,7 +195,7 @@ pub struct PackageLines<'r, 'a>(pub Kind, pub &'r Package<'a>);
 impl<'r, 'a> Lines for PackageLines<'r, 'a> {
     ghost lines = { λ p. package_lines p.0 p.1.now };
 
-    fn print_to<W: Write>(self, printer: &mut Printer, writer: &mut W) -> Result<(), PrintFault> {
+    fn print_to<W: Write>(self, printer: &mut Printer, writer: &mut W) -> Result<(), AnswerFault> {
         let PackageLines(kind, package) = self;
         let kind = FieldLine(FieldName::Kind, kind);
         let uid = FieldLine(FieldName::PackageUid, package.package_uid());
@@ -211,7 +211,7 @@ struct PackageDetails<'r, 'a>(&'r Package<'a>);
 impl<'r, 'a> Lines for PackageDetails<'r, 'a> {
     ghost lines = { λ p. package_details p.0.now };
 
-    fn print_to<W: Write>(self, printer: &mut Printer, writer: &mut W) -> Result<(), PrintFault> {
+    fn print_to<W: Write>(self, printer: &mut Printer, writer: &mut W) -> Result<(), AnswerFault> {
         let created = Field(FieldName::Created, self.0.creation_date());
         let modified = Field(FieldName::Modified, self.0.modified_date());
         let tracks = FieldLine(FieldName::Tracks, self.0.tracks().len());

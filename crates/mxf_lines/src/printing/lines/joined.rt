@@ -3,7 +3,7 @@ ghost use Rattle.std.specs.Prelude.{◌++◌, length, flat_map};
 ghost use Rattle.mxf_lines.specs.Lines.{lines_where};
 
 use super::{Lines, Printer, Series};
-use crate::printing::PrintFault;
+use crate::printing::AnswerFault;
 use std::io::Write;
 
 /// The lines of the first, and then those of the second.
@@ -13,7 +13,7 @@ pub struct Then<A, B>(pub A, pub B);
 impl<A: Lines + Drop, B: Lines + Drop> Lines for Then<A, B> {
     ghost lines = { λ t. A.lines t.0 ++ B.lines t.1 };
 
-    fn print_to<W: Write>(self, printer: &mut Printer, writer: &mut W) -> Result<(), PrintFault> {
+    fn print_to<W: Write>(self, printer: &mut Printer, writer: &mut W) -> Result<(), AnswerFault> {
         let Then(first, second) = self;
         first.print_to(printer, writer)?;
         second.print_to(printer, writer)
@@ -24,7 +24,7 @@ impl<A: Lines + Drop, B: Lines + Drop> Lines for Then<A, B> {
 impl<A: Lines + Drop> Lines for Option<A> {
     ghost lines = { λ o. lines_where A.lines o };
 
-    fn print_to<W: Write>(self, printer: &mut Printer, writer: &mut W) -> Result<(), PrintFault> {
+    fn print_to<W: Write>(self, printer: &mut Printer, writer: &mut W) -> Result<(), AnswerFault> {
         match self {
             Some(lines) => lines.print_to(printer, writer),
             None => Ok(()),
@@ -39,7 +39,7 @@ pub struct Each<S>(pub S);
 impl<S: Series + Drop> Lines for Each<S> {
     ghost lines = { λ e. S.lines_left e.0 };
 
-    fn print_to<W: Write>(self, printer: &mut Printer, writer: &mut W) -> Result<(), PrintFault> {
+    fn print_to<W: Write>(self, printer: &mut Printer, writer: &mut W) -> Result<(), AnswerFault> {
         let Each(mut series) = self;
         while let Some(item) = series.next_item() {
             item.print_to(printer, writer)?;

@@ -4,7 +4,7 @@ ghost use Rattle.mxf_klv.specs.Written.{Puts};
 ghost use Rattle.mxf_lines.specs.Printing.{Prints};
 
 use super::Lines;
-use crate::printing::PrintFault;
+use crate::printing::AnswerFault;
 use mxf_klv::Progress;
 use std::alloc::{AllocError, Global};
 use std::io::Write;
@@ -37,14 +37,16 @@ impl Printer {
     }
 
     /// Prints a line.
-    pub fn print<W: Write, L: Line>(&mut self, writer: &mut W, line: &L) -> Result<(), PrintFault>
+    pub fn print<W: Write, L: Line>(&mut self, writer: &mut W, line: &L) -> Result<(), AnswerFault>
         ensures { Prints (Puts W.contents writer.old writer.new self.old.progress self.new.progress) result
             (L.text line.now ∷ []) }
     {
         self.line.clear();
-        line.append_to(&mut self.line)?;
-        self.progress.put(writer, self.line.as_bytes())?;
-        Ok(())
+        line.append_to(&mut self.line)
+            .map_err(|_| AnswerFault::OutOfMemory)?;
+        self.progress
+            .put(writer, self.line.as_bytes())
+            .map_err(AnswerFault::Write)
     }
 }
 
@@ -61,7 +63,7 @@ pub trait Line {
 impl<L: Line + Drop> Lines for L {
     ghost lines = { λ l. L.text l ∷ [] };
 
-    fn print_to<W: Write>(self, printer: &mut Printer, writer: &mut W) -> Result<(), PrintFault> {
+    fn print_to<W: Write>(self, printer: &mut Printer, writer: &mut W) -> Result<(), AnswerFault> {
         printer.print(writer, &self)
     }
 }

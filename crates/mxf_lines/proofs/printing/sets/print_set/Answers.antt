@@ -2,7 +2,8 @@ use Rattle.std.proofs.Common.{ℕ, List, Option, ◌∷◌, sym, ap, subst, ◌�
 use Rattle.mxf_klv.specs.Written.{Puts}
 use Rattle.mxf_sets.specs.Items.{ItemParts}
 use Rattle.mxf_views.specs.Labels.{primer_for, primer_of}
-use Rattle.mxf_lines.specs.ItemLines.{label_by_copy, item_line, item_lines, lines_of_items}
+use Rattle.mxf_lines.specs.ItemLines.{label_by_copy, item_line, item_lines}
+use Rattle.mxf_lines.specs.Lines.{lines_where}
 use Rattle.mxf_lines.specs.Printing.{Prints}
 use Rattle.mxf_views.specs.declared.copy.CopyInfo.{CopyInfo}
 use Rattle.mxf_lines.proofs.printing.sets.print_set.Goals as goal
@@ -22,8 +23,8 @@ returns-clause-lines g c =
     let copy = ap (λ (copy : Option CopyInfo). item_lines c.args.note.now.offset (option_and_then
     (primer_of views) copy)
     c.in-Some.items) (c.in_ok-turn_to.ensures.turned ∙ c.copy_with.ensures) in
-    let items = ap (λ (items : Option (List ItemParts)). lines_of_items c.args.note.now.offset
-    (primer_for views c.args.note.now) items) (sym c.in-Some.is ∙ c.set_items.ensures) in
+    let items = ap (lines_where (item_lines c.args.note.now.offset (primer_for views c.args.note.now)))
+    (sym c.in-Some.is ∙ c.set_items.ensures) in
     subst (Prints (Puts {X = Unit {0}} g.W.Write.contents c.args.writer.now c.print_to.new.writer
     c.args.printer.now.progress c.print_to.new.printer.progress) c.print_to.result) (label ∙ (first ∙ (offset ∙ (copy
     ∙ items))))

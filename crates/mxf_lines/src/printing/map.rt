@@ -1,0 +1,267 @@
+//! What is held of a file, as a picture, and its lines.
+ghost use Rattle.std.specs.Prelude.{◌≡◌, ◌+◌, ◌-◌, ◌*◌, ◌/◌, ◌^◌, ◌<◌, ◌≤◌, ◌∷◌, ◌++◌, ℕ, Some, codes, decimal, flat_map, length};
+ghost use Rattle.std.specs.Prelude.{IfNone, IfOk, IfSome, string_bytes, ◌⊎◌};
+ghost use Rattle.std.specs.List.{repeat};
+ghost use Rattle.mxf_klv.specs.Written.{Writes};
+ghost use Rattle.mxf_restore.specs.Map.{IsMap, MapParts};
+ghost use Rattle.mxf_lines.specs.MapLines.{map_line, map_lines, mark_text, row_line, row_width, rows_of, share_text};
+ghost use Rattle.mxf_lines.specs.Printing.{Prints};
+
+use super::AnswerFault;
+use super::lines::{Each, Line, Lines, Printer, Series, Then};
+use mxf_restore::{Map, Mark};
+use mxf_views::Views;
+use std::alloc::{AllocError, Global};
+use std::fmt;
+use std::io::Write;
+
+/// The character of a mark.
+fn mark_text(mark: Mark) -> &'static str
+    ensures { result.now ≡ mark_text mark }
+{
+    match mark {
+        Mark::Doubtful => "!",
+        Mark::Header => "H",
+        Mark::Footer => "F",
+        Mark::Body => "B",
+        Mark::RandomIndex => "R",
+        Mark::Missing => "o",
+        Mark::Empty => ".",
+        Mark::Part => "+",
+        Mark::Metadata => "m",
+        Mark::Index => "i",
+        Mark::Whole => "#",
+    }
+}
+
+/// Thousandths, as a hundredth part with a digit behind the point.
+#[derive(Clone, Copy)]
+struct ShareText(u128);
+
+impl fmt::Display for ShareText {
+    ghost output = { λ s. Some (share_text s.0) };
+
+    fn fmt<W: fmt::Write>(&self, f: &mut fmt::Formatter<W>) -> fmt::Result {
+        write!(f, "{}.{}", self.0 / 10, self.0 % 10)
+    }
+}
+
+/// How many cells a picture has at most: so many rows, with so many in each.
+#[derive(Clone, Copy, Debug, PartialEq, Eq)]
+pub struct Grid {
+    columns: u32,
+    rows: u32,
+
+    ghost some_columns: { 1 ≤ columns },
+    ghost some_rows: { 1 ≤ rows },
+}
+
+impl Grid {
+    /// So many cells in a row, and so many rows; None where either is 0.
+    pub fn new(columns: u32, rows: u32) -> Option<Grid>
+        ensures some { IfSome result (λ g. (g.columns ≡ columns) × (g.rows ≡ rows)) }
+        ensures none { IfNone result ((columns ≡ 0) ⊎ (rows ≡ 0)) }
+    {
+        if columns == 0 || rows == 0 {
+            return None;
+        }
+        Some(Grid { columns, rows })
+    }
+}
+
+/// A map in rows of so many cells.
+#[derive(Drop)]
+struct Picture<'a> {
+    map: &'a Map,
+    columns: u32,
+
+    ghost some: { 1 ≤ columns },
+}
+
+impl<'a> Lines for Picture<'a> {
+    ghost lines = { λ p. map_lines p.columns p.map.now };
+
+    fn print_to<W: Write>(self, printer: &mut Printer, writer: &mut W) -> Result<(), AnswerFault> {
+        let Picture { map, columns } = self;
+        let columns = columns as usize;
+        let rows = Rows {
+            left: map.marks(),
+            passed: 0,
+            columns,
+            cell: map.cell(),
+            width: row_width(columns, map.cell(), map.marks().len()),
+        };
+        Then(MapLine(map), Each(rows)).print_to(printer, writer)
+    }
+}
+
+/// Prints what is held of the file of the views, as a picture.
+///
+/// After want of memory some whole lines have been written; after a write fault the first bytes, which it counts.
+pub fn print_map<W: Write>(
+    alloc: Global,
+    views: &Views,
+    grid: Grid,
+    writer: &mut W,
+) -> Result<(), AnswerFault>
+    ensures lines { (m : MapParts) → IsMap views.now (grid.columns * grid.rows) m
+        → Prints (Writes (W.contents writer.old) (W.contents writer.new)) result (map_lines grid.columns m) }
+    ensures some { IfOk result (λ _. (m : MapParts) × IsMap views.now (grid.columns * grid.rows) m) }
+{
+    let map = Map::of(alloc, views, u64::from(grid.columns) * u64::from(grid.rows))?;
+    print_picture(alloc, &map, grid.columns, writer)
+}
+
+/// Prints a map in rows of so many cells.
+fn print_picture<W: Write>(
+    alloc: Global,
+    map: &Map,
+    columns: u32,
+    writer: &mut W,
+) -> Result<(), AnswerFault>
+    requires { 1 ≤ columns }
+    ensures { Prints (Writes (W.contents writer.old) (W.contents writer.new)) result (map_lines columns map.now) }
+{
+    let mut printer = Printer::new(alloc);
+    Picture { map, columns }.print_to(&mut printer, writer)
+}
+
+/// Where the map ends, how many bytes are held and missing, how much that is, how many ranges aren't held, how many
+/// packets are disputed, and the bytes of a cell.
+#[derive(Clone, Copy)]
+struct MapLine<'a>(&'a Map);
+
+impl<'a> Line for MapLine<'a> {
+    ghost text = { λ l. map_line l.0.now };
+
+    #[tactic(auto, unfolding(crate::specs::MapLines::map_line))]
+    fn append_to(&self, line: &mut String) -> Result<(), AllocError> {
+        let map = self.0;
+        let (end, held) = (map.end(), map.held());
+        let missing = end.saturating_sub(held);
+        let share = ShareText(share_of(held, end));
+        write!(
+            line,
+            "map {end} held {held} missing {missing} share {share}"
+        )?;
+        let (gaps, disputed, cell) = (map.gaps(), map.disputed(), map.cell());
+        writeln!(line, " gaps {gaps} disputed {disputed} cell {cell}")
+    }
+}
+
+/// How much of the bytes up to an end is held, in thousandths, rounded down.
+fn share_of(held: u64, end: u64) -> u128
+    requires { 1 ≤ end }
+    ensures { result ≡ 1000 * held / end }
+{
+    1000 * u128::from(held) / u128::from(end)
+}
+
+/// A row of cells: the offset of its first byte, with so many spaces before it, and the characters of the marks.
+#[derive(Clone, Copy)]
+struct RowLine<'a> {
+    spaces: usize,
+    offset: u128,
+    marks: &'a [Mark],
+}
+
+impl<'a> Line for RowLine<'a> {
+    ghost text = { λ l. row_line l.spaces l.offset l.marks.now };
+
+    #[tactic(auto, unfolding(crate::specs::MapLines::row_line))]
+    fn append_to(&self, line: &mut String) -> Result<(), AllocError> {
+        line.push_str("row ")?;
+        append_spaces(line, self.spaces)?;
+        write!(line, "{} ", self.offset)?;
+        append_marks(line, self.marks)?;
+        line.push_str("\n")
+    }
+}
+
+/// Appends so many spaces.
+fn append_spaces(line: &mut String, count: usize) -> Result<(), AllocError>
+    ensures { IfOk result (λ _. string_bytes line.new ≡ string_bytes line.old ++ repeat count (codes " ")) }
+{
+    let mut left = count;
+    while left > 0 {
+        line.push_str(" ")?;
+        left -= 1;
+    }
+    Ok(())
+}
+
+/// Appends the characters of the marks.
+fn append_marks(line: &mut String, marks: &[Mark]) -> Result<(), AllocError>
+    ensures { IfOk result (λ _. string_bytes line.new ≡ string_bytes line.old ++ flat_map mark_text marks.now) }
+{
+    for mark in marks {
+        line.push_str(mark_text(*mark))?;
+    }
+    Ok(())
+}
+
+/// The rows of so many cells that are left, behind cells that were passed. Offsets take a width at least.
+#[derive(Drop)]
+struct Rows<'a> {
+    left: &'a [Mark],
+    passed: usize,
+    columns: usize,
+    cell: u64,
+    width: usize,
+
+    ghost in_range: { passed + length left.now < 2 ^ 64 },
+    ghost some: { 0 < columns },
+}
+
+impl<'a> Series for Rows<'a> {
+    type Item = RowLine<'a>;
+
+    ghost lines_left = { λ s. rows_of s.columns s.cell s.width s.passed s.left.now };
+
+    ghost left = { λ s. length s.left.now };
+
+    fn next_item(&mut self) -> Option<RowLine<'a>> {
+        if self.left.is_empty() {
+            return None;
+        }
+        let offset = offset_of(self.passed, self.cell);
+        let count = self.columns.min(self.left.len());
+        let (marks, left) = self.left.split_at(count);
+        self.left = left;
+        self.passed += count;
+        Some(RowLine {
+            spaces: self.width.saturating_sub(digits_of(offset)),
+            offset,
+            marks,
+        })
+    }
+}
+
+/// The offset behind so many cells, in bytes.
+fn offset_of(passed: usize, cell: u64) -> u128
+    ensures { result ≡ passed * cell }
+{
+    passed as u128 * u128::from(cell)
+}
+
+/// How many digits the number has.
+fn digits_of(number: u128) -> usize
+    ensures { result ≡ length (decimal number) }
+{
+    let mut digits = 1;
+    let mut left = number;
+    while left >= 10 {
+        left /= 10;
+        digits += 1;
+    }
+    digits
+}
+
+/// The digits of the offset of the last row.
+fn row_width(columns: usize, cell: u64, count: usize) -> usize
+    requires { 0 < columns }
+    ensures { result ≡ row_width columns cell count }
+{
+    let last = count.saturating_sub(1);
+    digits_of(offset_of(last - last % columns, cell))
+}
