@@ -1,4 +1,4 @@
-# Completion of mxf_tool for bash: its commands and options, and the two forms of a source with the paths behind them.
+# Completion of mxf_tool for bash: its commands and options, and the forms of a source with the paths behind them.
 # shellcheck shell=bash
 
 # _mxf_tool_paths PREFIX PATH: completes the path, behind the prefix. Readline completes what stands behind the last of
@@ -25,38 +25,39 @@ _mxf_tool() {
     *) word=${words[-1]} before=${words[-2]-} ;;
   esac
   for one in "${words[@]:1}"; do
-    case $one in show | check | locate | join | help) command=$one && break ;; esac
+    case $one in show | check | locate | plan | map | join | help) command=$one && break ;; esac
   done
   [ "$command" != "$word" ] || command=''
   COMPREPLY=()
   case $before in
     --out | --sources) _mxf_tool_paths '' "$word" && return ;;
-    --index | --unit) return ;;
+    --index | --unit | --columns | --rows) return ;;
   esac
   # What stands before the last colon is no part of the word that readline replaces.
   local behind=''
   case $COMP_WORDBREAKS in *:*) ;; *) behind=${word%:*}: ;; esac
   case $word in
-    cat:* | at:*:*)
+    cat:* | at:*:* | range:*:*)
       case $word in
-        at:*) local path=${word#at:*:} ;;
-        *) local path=${word#cat:} ;;
+        cat:*) local path=${word#cat:} ;;
+        *) local path=${word#*:*:} ;;
       esac
       _mxf_tool_paths "${behind:+${word%"$path"}}" "$path"
       return
       ;;
-    at:*) return ;;
+    at:* | range:*) return ;;
   esac
   local options='--help'
   case $command in
     '') options='show check locate join help --help --version' ;;
-    help) options='show check locate join' ;;
-    show | check) options='at: cat: --sources --help' ;;
-    locate) options='at: cat: --index --unit --sources --help' ;;
-    join) options='at: cat: --out --strict --sources --help' ;;
+    help) options='show check locate plan map join' ;;
+    show | check | plan) options='at: range: cat: --sources --help' ;;
+    map) options='at: range: cat: --columns --rows --sources --help' ;;
+    locate) options='at: range: cat: --index --unit --sources --help' ;;
+    join) options='at: range: cat: --out --strict --sources --help' ;;
   esac
   mapfile -t COMPREPLY < <(compgen -W "$options" -- "$word")
-  case ${COMPREPLY[0]-} in at: | cat:) compopt -o nospace 2>/dev/null ;; esac
+  case ${COMPREPLY[0]-} in at: | range: | cat:) compopt -o nospace 2>/dev/null ;; esac
 }
 
 complete -F _mxf_tool mxf_tool

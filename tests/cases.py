@@ -15,10 +15,12 @@ A case is some lines of a text file in tests/cases. A number sign begins a comme
     in each order                      the sources are handed in each order
     at OFFSET: PACKET                  a piece that begins at OFFSET; the packets that follow in it stand indented below
         PACKET
+    range OFFSET: PACKET               a range that begins at OFFSET, where the first PACKET may be the end of one
     packets of FILE: OFFSET OFFSET     the packets of a file of tests/cases/files.txt that stand there, each a piece
     show [WORD ..]                     what `show` prints, or those of its lines that begin with one of the words
         LINE
-    check                              what `check` prints; `locate INDEX UNIT` and `join` stand so too
+    check                              what `check` prints; `locate INDEX UNIT`, `plan`,
+                                       `map COLUMNS ROWS` and `join` stand so too
         LINE
     status N                           the status of the command above, where it isn't 0
 
@@ -40,7 +42,7 @@ import packets
 
 CASES = pathlib.Path(__file__).parent / "cases"
 WORKED = pathlib.Path(__file__).parent / "worked"
-COMMANDS = ("show", "check", "locate", "join")
+COMMANDS = ("show", "check", "locate", "plan", "map", "join")
 
 
 def fits(form, line):
@@ -59,7 +61,8 @@ class Command:
     def __init__(self, words):
         self.name = words[0]
         self.chosen = words[1:] if self.name == "show" else []
-        self.arguments = ["--index", words[1], "--unit", words[2]] if self.name == "locate" else []
+        options = {"locate": ("--index", "--unit"), "map": ("--columns", "--rows")}.get(self.name, ())
+        self.arguments = [text for pair in zip(options, words[1:]) for text in pair]
         self.lines = []
         self.status = 0
 
@@ -71,7 +74,7 @@ class Command:
 
 
 class Case:
-    """The pieces of a case, each an offset and its packets, and its commands."""
+    """The pieces of a case, each an offset, its packets and whether it is a piece or a range, and its commands."""
 
     def __init__(self, name):
         self.name = name
@@ -81,7 +84,7 @@ class Case:
 
     def lay(self, line, files):
         """Adds the packet of this line, or the packets of the file of that name, to the last piece."""
-        offset, laid = self.pieces[-1]
+        offset, laid, _ = self.pieces[-1]
         at = offset + sum(map(packets.size_of, laid))
         laid += files[line] if line in files else [packets.packet(line, at)]
 
@@ -96,12 +99,12 @@ def file_of(lines):
 
 
 def packets_at(packets_of_file, offsets):
-    """The packets of a file that stand at these offsets, each with its offset."""
+    """The packets of a file that stand at these offsets, each a piece."""
     standing, offset = {}, 0
     for packet in packets_of_file:
         standing[offset] = packet
         offset += packets.size_of(packet)
-    return [(offset, [standing[offset]]) for offset in offsets]
+    return [(offset, [standing[offset]], "at") for offset in offsets]
 
 
 def lines_of(path):
@@ -155,10 +158,10 @@ def case_of(name, lines, files):
                 case.commands[-1].lines.append(with_characters(text.removesuffix("$")))
             elif text == "in each order":
                 case.in_each_order = True
-            elif word == "at":
+            elif word in ("at", "range"):
                 takes_packets = True
                 offset, _, packet = rest.partition(": ")
-                case.pieces.append((int(offset), []))
+                case.pieces.append((int(offset), [], word))
                 if packet:
                     case.lay(packet, files)
             elif word == "packets":
@@ -198,8 +201,13 @@ def bytes_of(laid):
     return b"".join(map(packets.bytes_of, laid))
 
 
-def notes_of(offset, laid):
-    """The notes of a piece: of the packets that were laid in it, and of what the bytes behind them begin."""
+def notes_of(offset, laid, sort):
+    """The notes of a piece: of the packets that were laid in it, and of what the bytes behind them begin. Those of a
+    range are read."""
+    if sort == "range":
+        found, heads, _ = notes.read_range(offset, bytes_of(laid))
+        yield from found + heads
+        return
     for number, fields in enumerate(laid):
         if fields[0][0] != "key" or offset + packets.size_of(fields) > notes.GREATEST_END:
             found, heads, _ = notes.read_piece(offset, bytes_of(laid[number:]))
@@ -211,7 +219,7 @@ def notes_of(offset, laid):
 
 
 def catalogue(pieces):
-    """The catalogue file of these pieces, each an offset and packets."""
+    """The catalogue file of these pieces and ranges."""
     return notes.file_of(note for piece in pieces for note in notes_of(*piece))
 
 
@@ -231,10 +239,10 @@ class Run:
     def sources(self, case):
         """The sources of the pieces of a case."""
         named = []
-        for number, (offset, laid) in enumerate(case.pieces):
+        for number, (offset, laid, sort) in enumerate(case.pieces):
             path = f"{self.folder}/{number}"
             pathlib.Path(path).write_bytes(bytes_of(laid))
-            named.append(f"at:{offset}:{path}")
+            named.append(f"{sort}:{offset}:{path}")
         return named
 
     def saved(self, sources):
@@ -311,9 +319,9 @@ def run_all(program, word, files):
 
 def print_bytes(name, files):
     """Prints the fields of a worked file, or of the pieces of the cases of this name, with their offsets."""
-    pieces = [(name, 0, files[name])] if name in files else []
+    pieces = [(name, 0, files[name], "at")] if name in files else []
     pieces += [(case.name, *piece) for case in all_cases(files) for piece in case.pieces if name in case.name]
-    for of, offset, laid in pieces:
+    for of, offset, laid, _ in pieces:
         print(f"# {of}, from {offset}")
         for field, data in (field for packet in laid for field in packet):
             shown = data.hex() if len(data) <= 48 else f"{data[:32].hex()}.. {len(data)} bytes"

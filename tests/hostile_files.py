@@ -1,5 +1,5 @@
 """Hostile files, made from a seed each. A shape is a function that makes the pieces of one: each an offset and bytes; a
-saved catalogue has None for an offset. A shape of many alike takes how many there are, so that it can be made twice as
+saved catalogue has None for an offset, a range a RangeOffset. A shape of many alike takes how many there are, so that it can be made twice as
 large.
 """
 import pathlib
@@ -16,6 +16,10 @@ COUNTS = (0, 1, 2, 3, 2**16, 2**28, 2**32 // 18, 2**31, 2**32 - 2, 2**32 - 1)
 SIZES = (0, 1, 11, 12, 16, 17, 18, 2**31, 2**32 - 1)
 TAGS = ("3C0A", "3B03", "3B06", "1901", "3C09", "3C01", "4401", "4402", "4403", "3F0A", "3F0B", "3F0C", "3F05", "FFFF", "0000")
 SETS = ("preface", "identification", "content-storage", "material-package", "source-package", "raw-set")
+
+
+class RangeOffset(int):
+    """The offset of a range."""
 
 
 def laid(lines):
@@ -253,6 +257,26 @@ def noise(rng):
     return [(rng.choice(STARTS), b"".join(parts))]
 
 
+def labels_that_fail(rng, many=None):
+    """A range of labels at which no piece begins, each for a cause of its own, and at times packets behind them."""
+    many = many or rng.choice((1, 50, 5000))
+    fill, element = packets.digits(packets.KEYS["fill"]), packets.digits("060E2B34 01010101 05060708 090A0B0C")
+    failing = [fill[:4], fill + b"\1\0\0", fill + b"\x80", fill + b"\x88" + b"\x7F" * 8, element + b"\0", element + b"\1\0"]
+    labels = b"".join(rng.choices(failing, k=many))
+    behind = laid(["fill 10", "footer", "essence 100"]) if rng.random() < 0.5 else b""
+    return [(RangeOffset(rng.choice(STARTS)), labels + behind[: rng.randint(0, 2 * len(behind))])]
+
+
+def ranges(rng):
+    """Real files that are cut anywhere, damaged ones too: ranges, and a piece at times."""
+    data = rng.choice(real_files())
+    if rng.random() < 0.5:
+        data = mutated_bytes(rng, data)
+    cuts = sorted(rng.choices(range(len(data) + 1), k=rng.randint(1, 4)))
+    pieces = [(RangeOffset(at), data[at : at + rng.randint(0, len(data))]) for at in cuts]
+    return pieces + [(0, data[: cuts[0]])] * rng.randint(0, 1)
+
+
 def mutated_bytes(rng, data):
     """The bytes with some changed, put in, taken out, or doubled; mostly few, so that most of the file stays."""
     data = bytearray(data)
@@ -292,12 +316,12 @@ def two_readings(rng):
 SHAPES = (
     spelled_lengths, counts, items, packs_that_name, circles, zones, copies, random_indexes, segments_of_a_unit, long_primer,
     long_batches, named_by_all, disputes, many_packets, noise, mutated, mutated, mutated, two_readings, saved_heads, under_one_another,
-    fronts_of_packets,
+    fronts_of_packets, labels_that_fail, ranges,
 )  # fmt: skip
 
 
 def pieces_of(number):
-    """The pieces of the file of this number, each an offset and bytes; a saved catalogue has None for an offset."""
+    """The pieces of the file of this number."""
     rng = random.Random(number)
     return SHAPES[number % len(SHAPES)](rng)
 
@@ -306,5 +330,5 @@ def pieces_of(number):
 MANY = {
     counts: 10000, items: 5000, packs_that_name: 10000, circles: 5000, zones: 5000, copies: 5000,
     random_indexes: 10000, segments_of_a_unit: 10000, long_primer: 32000, long_batches: 2000, named_by_all: 2000, disputes: 20000,
-    many_packets: 40000, saved_heads: 10000, under_one_another: 10000,
+    many_packets: 40000, saved_heads: 10000, under_one_another: 10000, labels_that_fail: 100000,
 }  # fmt: skip

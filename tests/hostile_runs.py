@@ -1,4 +1,6 @@
 """Runs of the program on hostile files, and what each has to print by notes.py."""
+import bisect
+import itertools
 import math
 import os
 import pathlib
@@ -8,15 +10,19 @@ import subprocess
 import time
 
 import notes
-from hostile_files import mutated_bytes, pieces_of
+from hostile_files import RangeOffset, mutated_bytes, pieces_of
 
 MEBIBYTE = 2**20
 
 
 def read_source(offset, data):
-    """The notes of a piece or of a saved catalogue, and what is printed of the piece: how many packets, and its stop."""
+    """The notes of a piece, a range or a saved catalogue, and what is printed of a piece or range: where it begins, how
+    many packets, and its stop."""
     if offset is None:
         return notes.read_file(data)[0], None
+    if isinstance(offset, RangeOffset):
+        found, heads, stop = notes.read_range(offset, data)
+        return found + heads, (offset + (notes.start_of(offset, data) or 0), len(found), stop)
     found, heads, stop = notes.read_piece(offset, data)
     return found + heads, (offset, len(found), stop)
 
@@ -56,7 +62,8 @@ class Run:
         for number, (offset, data) in enumerate(pieces):
             path = self.folder / f"{name}{number}"
             path.write_bytes(data)
-            sources.append(f"cat:{path}" if offset is None else f"at:{offset}:{path}")
+            sort = "range" if isinstance(offset, RangeOffset) else "at"
+            sources.append(f"cat:{path}" if offset is None else f"{sort}:{offset}:{path}")
         return sources
 
     def call(self, statuses, size, *words):
@@ -105,7 +112,12 @@ class Run:
 
 
 def cut_at_packets(rng, offset, data):
-    """A piece, cut at some of its packets; or a saved catalogue, its notes in two."""
+    """A piece, cut at some of its packets; a range as its piece is; or a saved catalogue, its notes in two."""
+    if isinstance(offset, RangeOffset):
+        start = notes.start_of(offset, data)
+        if start is None:
+            return [(offset, data)]
+        offset, data = offset + start, data[start:]
     found, printed = read_source(offset, data)
     if printed is None:
         part = rng.sample(found, rng.randint(0, len(found)))
@@ -147,6 +159,34 @@ def finds(checked, content):
     return touching == wanted and [offset for code, offset in found if code == "F03"] == [str(gap[0]) for gap in notes.gaps(content)]
 
 
+def orders(planned, content):
+    """Whether a plan's last line counts its orders, and these have all bytes of the gaps of these notes below the end."""
+    *lines, last = (line.split(" ") for line in planned)
+    ordered = sorted((int(words[1]), 2**64 if words[2] == "-" else int(words[2])) for words in lines if words[0] == "restore")
+    if last[:1] + last[2:3] != ["planned", "ranges"] or int(last[1]) != len(ordered):
+        return False
+    # Where orders lie over one another, bytes up to the greatest end so far are ordered.
+    ends = itertools.accumulate((end for _, end in ordered), max)
+    ordered = [(start, end) for (start, _), end in zip(ordered, ends)]
+    end = 2**64 if last[8] == "-" else int(last[8])
+    return all(is_within(start, min(stop, end), ordered) for start, stop in notes.gaps(content))
+
+
+def is_within(start, stop, ranges):
+    """Whether the bytes from the start on lie in the ranges, which rise, up to the stop."""
+    at = bisect.bisect_right(ranges, (start, 2**64)) - 1
+    while start < stop and at >= 0 and at < len(ranges) and ranges[at][0] <= start:
+        start, at = max(start, ranges[at][1]), at + 1
+    return start >= stop
+
+
+def pictures(pictured, content):
+    """Whether a map's first line tells how many bytes of these notes are held, and how many notes are disputed."""
+    words = pictured[0].split(" ")
+    held = max((note.end for note in content), default=0) - sum(stop - start for start, stop in notes.gaps(content))
+    return words[0] == "map" and int(words[3]) == held and int(words[11]) == len(notes.disputed(content))
+
+
 def try_pieces(run, rng, pieces):
     """Asks everything of the pieces. The answer is what they hold together."""
     size = sum(len(data) for _, data in pieces)
@@ -177,6 +217,10 @@ def try_pieces(run, rng, pieces):
     place = ["--index", str(rng.choice((0, 1, 2**32 - 1))), "--unit", str(rng.choice((0, 1, 2**63 - 1)))]
     if len(run.call((0, 1), size, "locate", *place, *sources).splitlines()) != 1:
         raise Wrong("a place isn't one line")
+    if not orders(run.call((0, 1), size, "plan", *sources).splitlines(), content):
+        raise Wrong("a plan doesn't order all gaps")
+    if not pictures(run.call((0,), size, "map", *sources).splitlines(), content):
+        raise Wrong("a map doesn't tell what is held")
     try_other_order(run, rng, pieces, wanted)
     return content
 

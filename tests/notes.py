@@ -15,6 +15,10 @@ SETS = "0253....(?!0d010301).{16}"
 KEPT = re.compile(f"060e2b34({PACKS}|{SETS})")
 LONGEST_KEPT = 4_194_304
 GREATEST_END = 2**63 - 1
+# The keys that have a kind and aren't of the groups registry, whose fifth byte is 02: of fills and of essence.
+ELEMENTS = re.compile("060e2b34(010101..0301021001000000|0102....0d010301.{8})")
+# The bytes of a range that are searched for its start.
+LONGEST_WINDOW = 33_554_432
 
 LABEL = bytes.fromhex("060E2B34")
 MAGIC = b"MXFCAT\0"
@@ -95,6 +99,36 @@ def read_piece(offset, data):
         found.append(whole(place, rest[:16], width, data[at + 16 + width : at + end]))
         at += end
     return found, [], "end"
+
+
+def may_begin(offset, window, at):
+    """Whether a piece may begin at a position of a window: a packet of a kind, or of the groups registry, and behind it
+    a label, as far as the window has bytes."""
+    key, rest = window[at : at + 16], window[at + 16 : at + 25]
+    if len(key) < 16 or key[:4] != LABEL or rest[:1] == b"" or rest[0] == 0x80 or rest[0] > 0x88:
+        return False
+    width = 1 if rest[0] < 0x80 else rest[0] - 0x7F
+    if len(rest) < width or not (key[4] == 2 or ELEMENTS.fullmatch(key.hex())):
+        return False
+    end = at + 16 + width + (rest[0] if width == 1 else int.from_bytes(rest[1:width], "big"))
+    return offset + end <= GREATEST_END and LABEL.startswith(window[end : end + 4])
+
+
+def start_of(offset, data):
+    """The first position of a range's window at which a piece may begin, or none."""
+    window = data[:LONGEST_WINDOW]
+    at = window.find(LABEL)
+    while at >= 0 and not may_begin(offset, window, at):
+        at = window.find(LABEL, at + 1)
+    return at if at >= 0 else None
+
+
+def read_range(offset, data):
+    """The same of a range: of its piece."""
+    start = start_of(offset, data)
+    if start is None:
+        return [], [], f"no-start {offset + len(data[:LONGEST_WINDOW])}"
+    return read_piece(offset + start, data[start:])
 
 
 def reduced(notes):

@@ -176,7 +176,8 @@ def packet(line, offset):
     TAG=BYTES is an item of a set or an entry of a primer pack, BODYSID:OFFSET an entry of a random index pack, a bare
     number the length of a fill's or an essence packet's value, all zeros. Of any packet can be stated: `width=` bytes
     of the length field (4), `key=` another key, `status=` of a partition, `value=` its whole value, `cut=` so many
-    bytes off the end of that; and `front=` so many of its first bytes that are there, where the packet itself is cut.
+    bytes off the end of that; and `front=` or `back=` so many of its first or last bytes that are there, where the
+    packet itself is cut.
     """
     name, *words = line.split()
     if name == "hex":
@@ -191,7 +192,7 @@ def packet(line, offset):
     key = bytearray(digits(stated.pop("key", KEYS[name])))
     if "status" in stated:
         key[14] = STATUSES[stated.pop("status")]
-    cut, front = int(stated.pop("cut", "0")), stated.pop("front", None)
+    cut, front, back = int(stated.pop("cut", "0")), stated.pop("front", None), stated.pop("back", None)
     if "value" in stated:
         value = [("value", digits(stated.pop("value")))]
     else:
@@ -201,4 +202,6 @@ def packet(line, offset):
     if cut:
         value = [("value", bytes_of(value)[:-cut])]
     fields = [("key", bytes(key)), ("length", length_field(width, size_of(value)))] + value
-    return fields if front is None else [("front", bytes_of(fields)[: int(front)])]
+    if front is not None:
+        return [("front", bytes_of(fields)[: int(front)])]
+    return fields if back is None else [("back", bytes_of(fields)[-int(back) :])]

@@ -6,8 +6,8 @@ use Rattle.std.specs.Char.{is_ascii_digit}
 use Rattle.std.specs.Str.{all_ascii_digits}
 use Rattle.std.proofs.lemmas.Bool.{and_parts}
 use Rattle.std.proofs.lemmas.Str.Parse.{IsNumeralModel, numerals_by_fold, not_in_digits}
-use Rattle.mxf_tool.specs.Sources.{SourceParts, Piece, Saved, at_scheme, cat_scheme, decimal_from, SplitsSource}
-use Rattle.mxf_tool.specs.Sources.{ReadsSource}
+use Rattle.mxf_tool.specs.Sources.{SourceParts, Piece, Range, Saved, at_scheme, cat_scheme, range_scheme, decimal_from}
+use Rattle.mxf_tool.specs.Sources.{IsPlaced, ReadsPlace, ReadsSource, SplitsSource}
 use Rattle.mxf_tool.specs.declared.source.SourceFault.{SourceFault}
 use Rattle.mxf_tool.specs.declared.source.SourceFault.TheVariants.{NoScheme, BadOffset, NoPath}
 
@@ -50,75 +50,121 @@ same_split rest a b x y m n s t =
     let one = one_split a b x y s.place.digits t.place.digits (sym s.whole ∙ t.whole) in
     (s.place.value ∙ ap (decimal_from 0) one.0 ∙ sym t.place.value, one.1)
 
-abbrev piece : ℕ → List ℕ → Result SourceParts SourceFault
-piece o p = Ok (Piece o p)
+abbrev Read : Type 0
+Read = Result SourceParts SourceFault
 
-abbrev saved : List ℕ → Result SourceParts SourceFault
-saved p = Ok (Saved p)
+-- what follows one beginning is one
+same_tail : (front x y : List ℕ) → front ++ x ≡ front ++ y → x ≡ y
+same_tail [] x y e = e
+same_tail (c ∷ front) x y e = same_tail front x y (heads c c (front ++ x) (front ++ y) e).1
 
-same_rest : (x y : List ℕ) → at_scheme ++ x ≡ at_scheme ++ y → x ≡ y
-same_rest x y e =
-    let after_a = (heads 97 97 (116 ∷ 58 ∷ x) (116 ∷ 58 ∷ y) e).1 in
-    let after_t = (heads 116 116 (58 ∷ x) (58 ∷ y) after_a).1 in
-    (heads 58 58 x y after_t).1
+-- the schemes exclude each other
+at_range : (text r s : List ℕ) → text ≡ at_scheme ++ r → text ≡ range_scheme ++ s → ⊥
+at_range text r s e f =
+    omega (arith, (heads 97 114 (116 ∷ 58 ∷ r) (97 ∷ 110 ∷ 103 ∷ 101 ∷ 58 ∷ s) (sym e ∙ f)).0)
 
-same_path : (x y : List ℕ) → cat_scheme ++ x ≡ cat_scheme ++ y → x ≡ y
-same_path x y e = same_rest_of (heads 99 99 (97 ∷ 116 ∷ 58 ∷ x) (97 ∷ 116 ∷ 58 ∷ y) e).1 where
-  same_rest_of : 97 ∷ 116 ∷ 58 ∷ x ≡ 97 ∷ 116 ∷ 58 ∷ y → x ≡ y
-  same_rest_of f = same_rest x y f
+placed_cat : (text r x : List ℕ) → IsPlaced text r → text ≡ cat_scheme ++ x → ⊥
+placed_cat text r x (inl e) f = omega (arith, (heads 97 99 (116 ∷ 58 ∷ r) (97 ∷ 116 ∷ 58 ∷ x) (sym e ∙ f)).0)
+placed_cat text r x (inr e) f =
+    omega (arith, (heads 114 99 (97 ∷ 110 ∷ 103 ∷ 101 ∷ 58 ∷ r) (97 ∷ 116 ∷ 58 ∷ x) (sym e ∙ f)).0)
 
-other_front : (x y : List ℕ) → at_scheme ++ x ≡ cat_scheme ++ y → ⊥
-other_front x y e = omega (arith, (heads 97 99 (116 ∷ 58 ∷ x) (97 ∷ 116 ∷ 58 ∷ y) e).0)
+same_placed : (text r s : List ℕ) → IsPlaced text r → IsPlaced text s → s ≡ r
+same_placed text r s (inl e) (inl f) = same_tail at_scheme s r (sym f ∙ e)
+same_placed text r s (inl e) (inr f) = absurd (at_range text r s e f)
+same_placed text r s (inr e) (inl f) = absurd (at_range text s r f e)
+same_placed text r s (inr e) (inr f) = same_tail range_scheme s r (sym f ∙ e)
 
-abbrev At : List ℕ → List ℕ → Type 0
-At text rest = text ≡ at_scheme ++ rest
+-- what follows names one place, or has one of the faults
+one_place : (text : List ℕ) (p q : ℕ × List ℕ) → ReadsPlace text (Ok p) → ReadsPlace text (Ok q) → p ≡ q
+one_place text (m, x) (n, y) (p, (a, u)) (q, (b, v)) =
+    let both = same_split text a b x y m n u v in
+    let o : m ≡ n = both.0 in
+    let z : x ≡ y = both.1 in
+    (λ i. (o i, z i))
 
-split_at_rest : (text r s digits path : List ℕ) (o : ℕ) → At text r → At text s → SplitsSource r digits path o
-    → SplitsSource s digits path o
-split_at_rest text r s digits path o e f p =
-    subst (λ (t : List ℕ). SplitsSource t digits path o) (same_rest r s (sym e ∙ f)) p
+place_or_fault : (text : List ℕ) (p : ℕ × List ℕ) (d : SourceFault) → ReadsPlace text (Ok p) → ReadsPlace text (Err d)
+    → ⊥
+place_or_fault text (m, x) NoScheme p q = q
+place_or_fault text (m, x) BadOffset (p, (a, u)) q = q a x m u
+place_or_fault text (m, x) NoPath (p, (a, u)) (b, n, v) =
+    let both = same_split text a b x [] m n u v in
+    let empty : length x ≡ 0 = ap length both.1 in
+    omega arith
+
+-- a fault of the place is one of the text
+pub placed_fault : (text rest : List ℕ) (d : SourceFault) → IsPlaced text rest → ReadsPlace rest (Err d)
+    → ReadsSource text (Err d)
+placed_fault text rest NoScheme at p = absurd p
+placed_fault text rest BadOffset at p = (rest, at, p)
+placed_fault text rest NoPath at p = inr (rest, at, p)
 
 -- a source and a fault exclude each other
+placed_or_fault : (text r : List ℕ) (p : ℕ × List ℕ) (d : SourceFault) → IsPlaced text r → ReadsPlace r (Ok p)
+    → ReadsSource text (Err d) → ⊥
+placed_or_fault text r p NoScheme at u q = (q r).0 at
+placed_or_fault text r p BadOffset at u (s, f, v) =
+    place_or_fault r p BadOffset u (subst (λ (t : List ℕ). ReadsPlace t (Err BadOffset)) (same_placed text r s at f) v)
+placed_or_fault text r p NoPath at u (inl q) = placed_cat text r [] at q
+placed_or_fault text r p NoPath at u (inr (s, f, v)) =
+    place_or_fault r p NoPath u (subst (λ (t : List ℕ). ReadsPlace t (Err NoPath)) (same_placed text r s at f) v)
+
 one_or_fault : (text : List ℕ) (y : SourceParts) (d : SourceFault) → ReadsSource text (Ok y) → ReadsSource text (Err d)
     → ⊥
-one_or_fault text (Piece m x) NoScheme (p, (a, r, e, u)) q = ((q r).0 e)
-one_or_fault text (Piece m x) BadOffset (p, (a, r, e, u)) q = (q.2 a x m (split_at_rest text r q.0 a x m e q.1 u))
-one_or_fault text (Piece m x) NoPath (p, (a, r, e, u)) (inl q) = (other_front r [] (sym e ∙ q))
-one_or_fault text (Piece m x) NoPath (p, (a, r, e, u)) (inr (b, s, n, f, v)) =
-    let both = same_split s a b x [] m n (split_at_rest text r s a x m e f u) v in
-    let empty : length x ≡ 0 = ap length both.1 in omega arith
-one_or_fault text (Saved x) NoScheme p q = ((q x).1 p.0)
-one_or_fault text (Saved x) BadOffset p q = (other_front q.0 x (sym q.1 ∙ p.0))
+one_or_fault text (Piece m x) d (r, e, u) q = placed_or_fault text r (m, x) d (inl e) u q
+one_or_fault text (Range m x) d (r, e, u) q = placed_or_fault text r (m, x) d (inr e) u q
+one_or_fault text (Saved x) NoScheme p q = (q x).1 p.0
+one_or_fault text (Saved x) BadOffset p q = placed_cat text q.0 x q.1 p.0
 one_or_fault text (Saved x) NoPath p (inl q) =
-    let empty : length x ≡ 0 = ap length (same_path x [] (sym p.0 ∙ q)) in
+    let empty : length x ≡ 0 = ap length (same_tail cat_scheme x [] (sym p.0 ∙ q)) in
     let some = p.1 in
     omega arith
-one_or_fault text (Saved x) NoPath p (inr (b, s, n, f, v)) = (other_front s x (sym f ∙ p.0))
+one_or_fault text (Saved x) NoPath p (inr (s, f, v)) = placed_cat text s x f p.0
+
+-- two places behind one scheme
+same_place : (text r s : List ℕ) (p q : ℕ × List ℕ) → IsPlaced text r → IsPlaced text s → ReadsPlace r (Ok p)
+    → ReadsPlace s (Ok q) → p ≡ q
+same_place text r s p q e f u v =
+    one_place r p q u (subst (λ (t : List ℕ). ReadsPlace t (Ok q)) (same_placed text r s e f) v)
+
+abbrev piece : ℕ × List ℕ → Read
+piece (o, p) = Ok (Piece o p)
+
+abbrev range : ℕ × List ℕ → Read
+range (o, p) = Ok (Range o p)
 
 pub one_source : (text : List ℕ) (r s : Result SourceParts SourceFault) → ReadsSource text r → ReadsSource text s
     → r ≡ s
-one_source text (Ok (Piece m x)) (Ok (Piece n y)) (p, (a, r, e, u)) (q, (b, s, f, v)) =
-    let both = same_split s a b x y m n (split_at_rest text r s a x m e f u) v in
-    let o : m ≡ n = both.0 in
-    let z : x ≡ y = both.1 in
-    (λ i. piece (o i) (z i))
-one_source text (Ok (Piece m x)) (Ok (Saved y)) (p, (a, r, e, u)) q = absurd (other_front r y (sym e ∙ q.0))
-one_source text (Ok (Saved x)) (Ok (Piece n y)) p (q, (b, s, f, v)) = absurd (other_front s x (sym f ∙ p.0))
-one_source text (Ok (Saved x)) (Ok (Saved y)) p q = let z : x ≡ y = same_path x y (sym p.0 ∙ q.0) in (λ i. saved (z i))
+one_source text (Ok (Piece m x)) (Ok (Piece n y)) (r, e, u) (s, f, v) =
+    ap piece (same_place text r s (m, x) (n, y) (inl e) (inl f) u v)
+one_source text (Ok (Range m x)) (Ok (Range n y)) (r, e, u) (s, f, v) =
+    ap range (same_place text r s (m, x) (n, y) (inr e) (inr f) u v)
+one_source text (Ok (Piece m x)) (Ok (Range n y)) (r, e, u) (s, f, v) = absurd (at_range text r s e f)
+one_source text (Ok (Range m x)) (Ok (Piece n y)) (r, e, u) (s, f, v) = absurd (at_range text s r f e)
+one_source text (Ok (Piece m x)) (Ok (Saved y)) (r, e, u) q = absurd (placed_cat text r y (inl e) q.0)
+one_source text (Ok (Range m x)) (Ok (Saved y)) (r, e, u) q = absurd (placed_cat text r y (inr e) q.0)
+one_source text (Ok (Saved x)) (Ok (Piece n y)) p (s, f, v) = absurd (placed_cat text s x (inl f) p.0)
+one_source text (Ok (Saved x)) (Ok (Range n y)) p (s, f, v) = absurd (placed_cat text s x (inr f) p.0)
+one_source text (Ok (Saved x)) (Ok (Saved y)) p q =
+    ap (λ (t : List ℕ). Ok (Saved t)) (same_tail cat_scheme x y (sym p.0 ∙ q.0))
 one_source text (Ok y) (Err d) p q = absurd (one_or_fault text y d p q)
 one_source text (Err d) (Ok y) p q = absurd (one_or_fault text y d q p)
 one_source text (Err d) (Err e) p q = ap (λ (f : SourceFault). Err f) (one_fault d e p q) where
+  not_both : (s t : List ℕ) → IsPlaced text s → IsPlaced text t → ReadsPlace s (Err BadOffset)
+      → ReadsPlace t (Err NoPath) → ⊥
+  not_both s t e f u (b, n, v) =
+      u b [] n (subst (λ (l : List ℕ). SplitsSource l b [] n) (same_placed text s t e f) v)
+
   one_fault : (d e : SourceFault) → ReadsSource text (Err d) → ReadsSource text (Err e) → d ≡ e
   one_fault NoScheme NoScheme p q = refl
-  one_fault NoScheme BadOffset p q = absurd ((p q.0).0 q.1)
+  one_fault NoScheme BadOffset p (s, f, v) = absurd ((p s).0 f)
   one_fault NoScheme NoPath p (inl q) = absurd ((p []).1 q)
-  one_fault NoScheme NoPath p (inr (b, s, n, f, v)) = absurd ((p s).0 f)
-  one_fault BadOffset NoScheme p q = absurd ((q p.0).0 p.1)
+  one_fault NoScheme NoPath p (inr (s, f, v)) = absurd ((p s).0 f)
+  one_fault BadOffset NoScheme (s, f, v) q = absurd ((q s).0 f)
   one_fault BadOffset BadOffset p q = refl
-  one_fault BadOffset NoPath p (inl q) = absurd (other_front p.0 [] (sym p.1 ∙ q))
-  one_fault BadOffset NoPath p (inr (b, s, n, f, v)) = absurd (p.2 b [] n (split_at_rest text s p.0 b [] n f p.1 v))
+  one_fault BadOffset NoPath (s, f, v) (inl q) = absurd (placed_cat text s [] f q)
+  one_fault BadOffset NoPath (s, f, v) (inr (t, g, w)) = absurd (not_both s t f g v w)
   one_fault NoPath NoScheme (inl p) q = absurd ((q []).1 p)
-  one_fault NoPath NoScheme (inr (b, s, n, f, v)) q = absurd ((q s).0 f)
-  one_fault NoPath BadOffset (inl p) q = absurd (other_front q.0 [] (sym q.1 ∙ p))
-  one_fault NoPath BadOffset (inr (b, s, n, f, v)) q = absurd (q.2 b [] n (split_at_rest text s q.0 b [] n f q.1 v))
+  one_fault NoPath NoScheme (inr (s, f, v)) q = absurd ((q s).0 f)
+  one_fault NoPath BadOffset (inl p) (s, f, v) = absurd (placed_cat text s [] f p)
+  one_fault NoPath BadOffset (inr (t, g, w)) (s, f, v) = absurd (not_both s t f g v w)
   one_fault NoPath NoPath p q = refl

@@ -10,27 +10,35 @@ use Rattle.mxf_tool.specs.declared.source.Source.TheVariants as sources
 use Rattle.mxf_tool.specs.declared.source.SourceFault.{SourceFault}
 use Rattle.mxf_tool.specs.declared.source.SourceFault.TheVariants.{NoScheme, BadOffset, NoPath}
 
--- A source: a piece of a file from an offset on, or a saved catalogue.
+-- A source: a piece of a file from an offset on, a range, whose first byte may lie inside a packet, or a saved
+-- catalogue.
 pub data SourceParts : Type 0 where
   Piece : ℕ → List ℕ → SourceParts
+  Range : ℕ → List ℕ → SourceParts
   Saved : List ℕ → SourceParts
 
 abbrev pub source_parts : Source → SourceParts
 source_parts (sources.Piece offset path) = Piece offset path.now
+source_parts (sources.Range offset path) = Range offset path.now
 source_parts (sources.Saved path) = Saved path.now
 
 -- The path of the file of a source.
 abbrev pub path_of : SourceParts → List ℕ
 path_of (Piece offset path) = path
+path_of (Range offset path) = path
 path_of (Saved path) = path
 
 -- The part that a source names, by a reader of its file.
 abbrev pub part_of : {R : Type 0} → SourceParts → R → Part R
 part_of (Piece offset path) from = parts.Piece offset from
+part_of (Range offset path) from = parts.Range offset from
 part_of (Saved path) from = parts.Saved from
 
 abbrev pub at_scheme : List ℕ
 at_scheme = codes "at:"
+
+abbrev pub range_scheme : List ℕ
+range_scheme = codes "range:"
 
 abbrev pub cat_scheme : List ℕ
 cat_scheme = codes "cat:"
@@ -51,21 +59,31 @@ pub record IsOffset (text : List ℕ) (offset : ℕ) : Type 0 where
   pub value : offset ≡ decimal_from 0 text
   pub within : offset ≤ greatest_end
 
--- What follows `at:` is an offset, a colon and a path.
+-- What follows `at:` or `range:` is an offset, a colon and a path.
 pub record SplitsSource (rest digits path : List ℕ) (offset : ℕ) : Type 0 where
   pub whole : rest ≡ digits ++ (codes ":" ++ path)
   pub place : IsOffset digits offset
 
--- What a source text names: `at:OFFSET:PATH` a piece, `cat:PATH` a catalogue. Else it begins with no scheme; or after
--- `at:` stands no offset with a colon after it; or the path is empty.
+-- What such a text names: an offset and a path. Else it has no offset with a colon after it, or the path is empty.
+abbrev pub ReadsPlace : List ℕ → Result (ℕ × List ℕ) SourceFault → Type 0
+ReadsPlace text (Ok (offset, path)) = (0 < length path) × ((digits : List ℕ) × SplitsSource text digits path offset)
+ReadsPlace text (Err NoScheme) = ⊥
+ReadsPlace text (Err BadOffset) = (digits path : List ℕ) (offset : ℕ) → SplitsSource text digits path offset → ⊥
+ReadsPlace text (Err NoPath) = (digits : List ℕ) × (offset : ℕ) × SplitsSource text digits [] offset
+
+-- A text begins with the scheme of a piece or of a range, and the rest follows.
+abbrev pub IsPlaced : List ℕ → List ℕ → Type 0
+IsPlaced text rest = (text ≡ at_scheme ++ rest) ⊎ (text ≡ range_scheme ++ rest)
+
+-- What a source text names: `at:OFFSET:PATH` a piece, `range:OFFSET:PATH` a range, `cat:PATH` a catalogue. Else it
+-- begins with no scheme; or after `at:` or `range:` stands no offset with a colon after it; or the path is empty.
 abbrev pub ReadsSource : List ℕ → Result SourceParts SourceFault → Type 0
 ReadsSource text (Ok (Piece offset path)) =
-    (0 < length path) × ((digits rest : List ℕ) × (text ≡ at_scheme ++ rest) × SplitsSource rest digits path offset)
+    (rest : List ℕ) × (text ≡ at_scheme ++ rest) × ReadsPlace rest (Ok (offset, path))
+ReadsSource text (Ok (Range offset path)) =
+    (rest : List ℕ) × (text ≡ range_scheme ++ rest) × ReadsPlace rest (Ok (offset, path))
 ReadsSource text (Ok (Saved path)) = (text ≡ cat_scheme ++ path) × (0 < length path)
-ReadsSource text (Err NoScheme) = (rest : List ℕ) → (text ≡ at_scheme ++ rest → ⊥) × (text ≡ cat_scheme ++ rest → ⊥)
-ReadsSource text (Err BadOffset) =
-    (rest : List ℕ) × (text ≡ at_scheme ++ rest)
-    × ((digits path : List ℕ) (offset : ℕ) → SplitsSource rest digits path offset → ⊥)
+ReadsSource text (Err NoScheme) = (rest : List ℕ) → ¬ IsPlaced text rest × (text ≡ cat_scheme ++ rest → ⊥)
+ReadsSource text (Err BadOffset) = (rest : List ℕ) × IsPlaced text rest × ReadsPlace rest (Err BadOffset)
 ReadsSource text (Err NoPath) =
-    (text ≡ cat_scheme)
-    ⊎ ((digits rest : List ℕ) × (offset : ℕ) × (text ≡ at_scheme ++ rest) × SplitsSource rest digits [] offset)
+    (text ≡ cat_scheme) ⊎ ((rest : List ℕ) × IsPlaced text rest × ReadsPlace rest (Err NoPath))

@@ -1,6 +1,6 @@
 //! The command line.
 use clap::{Arg, ArgAction, ArgMatches, Command, value_parser};
-use mxf_lines::Ask;
+use mxf_lines::{Ask, Grid};
 use std::alloc::{AllocError, Global};
 
 /// What the command line asks for, of the sources that words name and a list behind them.
@@ -16,6 +16,8 @@ pub struct Request<'m, 'a> {
 pub enum Task<'a> {
     /// To print an answer.
     Tell(Ask),
+    /// To print a map.
+    Picture(Grid),
     /// To write the catalogue to the file at `out`. A strict join ends with another status where a piece isn't noted
     /// whole.
     Join { out: &'a str, is_strict: bool },
@@ -23,36 +25,62 @@ pub enum Task<'a> {
 
 /// What the help of the program ends with.
 const HELP: &str = "A source SRC is one of
-  at:OFFSET:PATH  a piece: the bytes of the file PATH, whose first byte lies at byte OFFSET of the recording
-  cat:PATH        a catalogue that join wrote
+  at:OFFSET:PATH     a piece: the bytes of the file PATH, whose first byte lies at byte OFFSET of the recording
+  range:OFFSET:PATH  the same where the first byte may lie inside a packet: it is read from the next one on
+  cat:PATH           a catalogue that join wrote
 
 Example: mxf_tool check at:0:clip.mxf";
 
 /// What the help of `show` ends with.
 const SHOW_HELP: &str = "A source SRC is one of
-  at:OFFSET:PATH  a piece: the bytes of the file PATH, whose first byte lies at byte OFFSET of the recording
-  cat:PATH        a catalogue that join wrote
+  at:OFFSET:PATH     a piece: the bytes of the file PATH, whose first byte lies at byte OFFSET of the recording
+  range:OFFSET:PATH  the same where the first byte may lie inside a packet: it is read from the next one on
+  cat:PATH           a catalogue that join wrote
 
 Example: mxf_tool show at:0:clip.mxf";
 
 /// What the help of `check` ends with.
 const CHECK_HELP: &str = "A source SRC is one of
-  at:OFFSET:PATH  a piece: the bytes of the file PATH, whose first byte lies at byte OFFSET of the recording
-  cat:PATH        a catalogue that join wrote
+  at:OFFSET:PATH     a piece: the bytes of the file PATH, whose first byte lies at byte OFFSET of the recording
+  range:OFFSET:PATH  the same where the first byte may lie inside a packet: it is read from the next one on
+  cat:PATH           a catalogue that join wrote
 
 Example: mxf_tool check at:0:front.bin at:62914560:rest.bin";
 
 /// What the help of `locate` ends with.
 const LOCATE_HELP: &str = "A source SRC is one of
-  at:OFFSET:PATH  a piece: the bytes of the file PATH, whose first byte lies at byte OFFSET of the recording
-  cat:PATH        a catalogue that join wrote
+  at:OFFSET:PATH     a piece: the bytes of the file PATH, whose first byte lies at byte OFFSET of the recording
+  range:OFFSET:PATH  the same where the first byte may lie inside a packet: it is read from the next one on
+  cat:PATH           a catalogue that join wrote
 
 Example: mxf_tool locate --index 1 --unit 250 at:0:clip.mxf";
 
+/// What the help of `plan` ends with.
+const PLAN_HELP: &str = "A source SRC is one of
+  at:OFFSET:PATH     a piece: the bytes of the file PATH, whose first byte lies at byte OFFSET of the recording
+  range:OFFSET:PATH  the same where the first byte may lie inside a packet: it is read from the next one on
+  cat:PATH           a catalogue that join wrote
+
+Example: mxf_tool plan range:62914560:part.bin cat:earlier.cat";
+
+/// What the help of `map` ends with.
+const MAP_HELP: &str = "Each character is a cell of as many bytes, what fits first:
+  !  disputed         H F B R  a header, footer or body partition, or a random index pack begins
+  o  a named place that isn't held   .  nothing is held   +  some of it is held
+  m  all held, header metadata       i  all held, index   #  all held
+
+A source SRC is one of
+  at:OFFSET:PATH     a piece: the bytes of the file PATH, whose first byte lies at byte OFFSET of the recording
+  range:OFFSET:PATH  the same where the first byte may lie inside a packet: it is read from the next one on
+  cat:PATH           a catalogue that join wrote
+
+Example: mxf_tool map --columns 100 cat:clip.cat";
+
 /// What the help of `join` ends with.
 const JOIN_HELP: &str = "A source SRC is one of
-  at:OFFSET:PATH  a piece: the bytes of the file PATH, whose first byte lies at byte OFFSET of the recording
-  cat:PATH        a catalogue that join wrote
+  at:OFFSET:PATH     a piece: the bytes of the file PATH, whose first byte lies at byte OFFSET of the recording
+  range:OFFSET:PATH  the same where the first byte may lie inside a packet: it is read from the next one on
+  cat:PATH           a catalogue that join wrote
 
 Example: mxf_tool join --out clip.cat at:0:front.bin cat:earlier.cat";
 
@@ -60,45 +88,57 @@ Example: mxf_tool join --out clip.cat at:0:front.bin cat:earlier.cat";
 pub fn command<'a>(alloc: Global) -> Result<Command<'a>, AllocError> {
     let show = Command::new(alloc, "show")
         .about("Prints what the sources hold together")
-        .after_help(SHOW_HELP)
-        .arg(sources(alloc)?)?
-        .arg(list(alloc))?;
+        .after_help(SHOW_HELP);
     let check = Command::new(alloc, "check")
         .about("Prints what is wrong or missing in what the sources hold together")
-        .after_help(CHECK_HELP)
-        .arg(sources(alloc)?)?
-        .arg(list(alloc))?;
+        .after_help(CHECK_HELP);
     let locate = Command::new(alloc, "locate")
         .about("Prints where an edit unit begins in its essence stream")
         .after_help(LOCATE_HELP)
         .arg(index(alloc))?
-        .arg(unit(alloc))?
-        .arg(sources(alloc)?)?
-        .arg(list(alloc))?;
-    let join = Command::new(alloc, "join")
-        .about("Writes the catalogue of what the sources hold together to a file")
-        .after_help(JOIN_HELP)
-        .arg(out(alloc))?
-        .arg(strict(alloc))?
-        .arg(sources(alloc)?)?
-        .arg(list(alloc))?;
+        .arg(unit(alloc))?;
+    let plan = Command::new(alloc, "plan")
+        .about("Prints which bytes to restore next, what helps most first")
+        .after_help(PLAN_HELP);
+    let map = Command::new(alloc, "map")
+        .about("Prints what is held of the recording, as a picture")
+        .after_help(MAP_HELP)
+        .arg(columns(alloc))?
+        .arg(rows(alloc))?;
     Command::new(alloc, "mxf_tool")
         .about("Prints and keeps the structure of MXF files, or of parts of them")
         .version("1.0.0")
         .after_help(HELP)
         .subcommand_required(true)
         .arg_required_else_help(true)
-        .subcommand(show)?
-        .subcommand(check)?
-        .subcommand(locate)?
-        .subcommand(join)
+        .subcommand(with_sources(alloc, show)?)?
+        .subcommand(with_sources(alloc, check)?)?
+        .subcommand(with_sources(alloc, locate)?)?
+        .subcommand(with_sources(alloc, plan)?)?
+        .subcommand(with_sources(alloc, map)?)?
+        .subcommand(join(alloc)?)
+}
+
+/// The subcommand that saves.
+fn join<'a>(alloc: Global) -> Result<Command<'a>, AllocError> {
+    let join = Command::new(alloc, "join")
+        .about("Writes the catalogue of what the sources hold together to a file")
+        .after_help(JOIN_HELP)
+        .arg(out(alloc))?
+        .arg(strict(alloc))?;
+    with_sources(alloc, join)
+}
+
+/// The command with its sources.
+fn with_sources<'a>(alloc: Global, command: Command<'a>) -> Result<Command<'a>, AllocError> {
+    command.arg(sources(alloc)?)?.arg(list(alloc))
 }
 
 fn sources<'a>(alloc: Global) -> Result<Arg<'a>, AllocError> {
     Arg::new(alloc, "SRC")
         .num_args(1..)
         .action(ArgAction::Append)
-        .help("A piece at:OFFSET:PATH, or a catalogue cat:PATH")
+        .help("A piece at:OFFSET:PATH, a range range:OFFSET:PATH, or a catalogue cat:PATH")
         .required_unless_present("sources")
 }
 
@@ -139,6 +179,24 @@ fn unit<'a>(alloc: Global) -> Arg<'a> {
         .help("The edit unit, counted from 0")
 }
 
+fn columns<'a>(alloc: Global) -> Arg<'a> {
+    Arg::new(alloc, "columns")
+        .long("columns")
+        .value_name("N")
+        .action(ArgAction::Set)
+        .value_parser(value_parser!(u32).range(1..=1000))
+        .help("How many cells a row has, 1 to 1000; 64 where it isn't given")
+}
+
+fn rows<'a>(alloc: Global) -> Arg<'a> {
+    Arg::new(alloc, "rows")
+        .long("rows")
+        .value_name("N")
+        .action(ArgAction::Set)
+        .value_parser(value_parser!(u32).range(1..=1000))
+        .help("How many rows there are at most, 1 to 1000; 16 where it isn't given")
+}
+
 fn out<'a>(alloc: Global) -> Arg<'a> {
     Arg::new(alloc, "out")
         .long("out")
@@ -169,6 +227,11 @@ fn task_of<'a>(name: &str, inner: &ArgMatches<'a>) -> Option<Task<'a>> {
             index: inner.get_one("index")?,
             unit: inner.get_one("unit")?,
         })),
+        "plan" => Some(Task::Tell(Ask::Plan)),
+        "map" => Some(Task::Picture(Grid::new(
+            inner.get_one("columns").unwrap_or(64),
+            inner.get_one("rows").unwrap_or(16),
+        )?)),
         "join" => Some(Task::Join {
             out: inner.get_str("out")?,
             is_strict: inner.get_flag("strict"),
@@ -180,7 +243,7 @@ fn task_of<'a>(name: &str, inner: &ArgMatches<'a>) -> Option<Task<'a>> {
 /// The option whose number has a sign, and the number. An offset has none either.
 pub fn signed_number<'a>(matches: &ArgMatches<'a>) -> Option<(&'a str, &'a str)> {
     let (_, inner) = matches.subcommand()?;
-    for option in ["index", "unit"] {
+    for option in ["index", "unit", "columns", "rows"] {
         match inner.get_str(option) {
             Some(text) if text.starts_with('+') => return Some((option, text)),
             _ => {}

@@ -12,8 +12,8 @@ use mxf_read::PieceReport;
 pub enum Exit {
     /// All was printed; also help.
     Done,
-    /// All was printed, and a check found something or has a piece that doesn't end with a packet, a strict join has a
-    /// piece with bytes behind its stop, or an edit unit has no place or more than one.
+    /// All was printed, and a check found something or has a piece that doesn't end with a packet, there is something
+    /// to restore, a strict join has a piece with bytes behind its stop, or an edit unit has no place or more than one.
     Found,
     /// The arguments were refused, or one names no source.
     Usage,

@@ -11,6 +11,7 @@ pub fn part_of<R>(source: &Source<'_>, from: R) -> Part<R>
 {
     match *source {
         Source::Piece { offset, .. } => Part::Piece { offset, from },
+        Source::Range { offset, .. } => Part::Range { offset, from },
         Source::Saved { .. } => Part::Saved { from },
     }
 }

@@ -15,9 +15,10 @@ use crate::system_fault::{LastFault, SystemFault};
 use crate::watching::{Screen, Watched};
 use clap::error::ErrorKind;
 use fault::RunFault;
-use mxf_lines::{Ask, answer};
+use mxf_lines::{AnswerFault, Ask, Grid, answer, print_map};
 use mxf_read::{GatherFault, Gathered, Part, gather};
 use sources::{read_list, sources_of, unread};
+use std::alloc::Global;
 use std::fs::{self, File};
 use std::io::{BufWriter, Input, Write};
 use std::rt::{Clock, Env, Files};
@@ -99,7 +100,8 @@ fn perform<R: System>(rt: &R, screen: Screen, request: &Request<'_, '_>) -> Exit
         Err(fault) => return tell(rt, screen, &fault),
     };
     let done = match request.task {
-        Task::Tell(ask) => print_told(rt, screen, ask, &sources),
+        Task::Tell(ask) => print_told(rt, screen, Asked::Answer(ask), &sources),
+        Task::Picture(grid) => print_told(rt, screen, Asked::Picture(grid), &sources),
         Task::Join { out, is_strict } => print_joined(rt, screen, out, is_strict, &sources),
     };
     match done {
@@ -112,11 +114,11 @@ fn perform<R: System>(rt: &R, screen: Screen, request: &Request<'_, '_>) -> Exit
 fn print_told<'a, R: System>(
     rt: &R,
     screen: Screen,
-    ask: Ask,
+    asked: Asked,
     sources: &[Source<'a>],
 ) -> Result<Exit, RunFault<'a>> {
     let gathered = gather_sources(rt, screen, sources)?;
-    let exit = print_answer(rt, ask, &gathered)?;
+    let exit = print_answer(rt, asked, &gathered)?;
     told(rt, screen, sources, &gathered, false, exit)
 }
 
@@ -129,7 +131,7 @@ fn print_joined<'a, R: System>(
     sources: &[Source<'a>],
 ) -> Result<Exit, RunFault<'a>> {
     let gathered = join(rt, screen, out, sources)?;
-    let exit = print_answer(rt, Ask::Join, &gathered)?;
+    let exit = print_answer(rt, Asked::Answer(Ask::Join), &gathered)?;
     let exit = exit.of_join(is_strict, gathered.reports.as_slice());
     told(rt, screen, sources, &gathered, true, exit)
 }
@@ -225,10 +227,33 @@ fn ungathered<'a>(fault: &GatherFault, sources: &[Source<'a>], last: &LastFault)
     RunFault::of_part(path, fault.fault, last.get())
 }
 
+/// What is printed of what the sources hold together.
+#[derive(Clone, Copy)]
+enum Asked {
+    Answer(Ask),
+    Picture(Grid),
+}
+
+/// Prints what is asked, and answers its status.
+fn print_asked<W: Write>(
+    alloc: Global,
+    asked: Asked,
+    gathered: &Gathered,
+    writer: &mut W,
+) -> Result<u8, AnswerFault> {
+    match asked {
+        Asked::Answer(ask) => answer(alloc, &ask, gathered, writer),
+        Asked::Picture(grid) => {
+            print_map(alloc, &gathered.views, grid, writer)?;
+            Ok(0)
+        }
+    }
+}
+
 /// Prints the answer on standard output.
 fn print_answer<'a, R: System>(
     rt: &R,
-    ask: Ask,
+    asked: Asked,
     gathered: &Gathered,
 ) -> Result<Exit, RunFault<'a>> {
     let last = LastFault::new();
@@ -236,7 +261,7 @@ fn print_answer<'a, R: System>(
     let Ok(mut out) = BufWriter::with_capacity(rt.alloc(), BUFFER_BYTES, kept) else {
         return Err(RunFault::OutOfMemory);
     };
-    let answered = answer(rt.alloc(), &ask, gathered, &mut out);
+    let answered = print_asked(rt.alloc(), asked, gathered, &mut out);
     let is_flushed = answered.is_ok() && out.flush().is_ok();
     match Exit::of_answer(answered, is_flushed) {
         Exit::NoMemory => Err(RunFault::OutOfMemory),

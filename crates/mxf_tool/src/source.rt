@@ -2,10 +2,11 @@
 ghost use Rattle.std.specs.Prelude.{◌≡◌, ℕ, List, Result, Ok, Err, IfOk, IfErr, MatchOption};
 ghost use Rattle.std.specs.List.{list_all};
 ghost use Rattle.std.specs.Char.{is_ascii_digit};
-ghost use Rattle.mxf_tool.specs.Sources.{IsOffset, ReadsSource, SourceParts, path_of, source_parts};
+ghost use Rattle.mxf_tool.specs.Sources.{IsOffset, ReadsPlace, ReadsSource, SourceParts, path_of, source_parts};
 ghost use Rattle.mxf_tool.specs.declared.source.SourceFault.{SourceFault};
 
 use mxf_klv::MAX;
+use std::fmt;
 use thiserror::Error;
 
 /// Where notes come from.
@@ -13,6 +14,9 @@ use thiserror::Error;
 pub enum Source<'a> {
     /// The bytes of the file at `path`, which lie from `offset` (bytes) on in the recording.
     Piece { offset: u64, path: &'a str },
+    /// The bytes of the file at `path`, which lie from `offset` (bytes) on in the recording; the first may lie inside a
+    /// packet.
+    Range { offset: u64, path: &'a str },
     /// The catalogue in the file at `path`.
     Saved { path: &'a str },
 }
@@ -23,7 +27,20 @@ impl<'a> Source<'a> {
         ensures { result.now ≡ path_of (source_parts self.now) }
     {
         match *self {
-            Source::Piece { path, .. } | Source::Saved { path } => path,
+            Source::Piece { path, .. } | Source::Range { path, .. } | Source::Saved { path } => {
+                path
+            }
+        }
+    }
+}
+
+/// The text that names the source.
+impl fmt::Display for Source<'_> {
+    fn fmt<W: fmt::Write>(&self, f: &mut fmt::Formatter<W>) -> fmt::Result {
+        match *self {
+            Source::Piece { offset, path } => write!(f, "at:{offset}:{path}"),
+            Source::Range { offset, path } => write!(f, "range:{offset}:{path}"),
+            Source::Saved { path } => write!(f, "cat:{path}"),
         }
     }
 }
@@ -31,10 +48,11 @@ impl<'a> Source<'a> {
 /// Why a text names no source. The causes are tested in this order.
 #[derive(Clone, Copy, Debug, PartialEq, Eq, Error)]
 pub enum SourceFault {
-    /// The text begins neither `at:` nor `cat:`.
+    /// The text begins neither `at:` nor `range:` nor `cat:`.
     #[error("no scheme")]
     NoScheme,
-    /// After `at:` there is no second colon, or before it no digit, another character, or a number above `MAX`.
+    /// After `at:` or `range:` there is no second colon, or before it no digit, another character, or a number above
+    /// `MAX`.
     #[error("bad offset")]
     BadOffset,
     /// The path is empty.
@@ -65,7 +83,25 @@ fn offset_of(digits: &str) -> Option<u64>
     Some(offset)
 }
 
-/// Reads `at:OFFSET:PATH` or `cat:PATH`. PATH is all that follows, and may hold colons.
+/// Reads `OFFSET:PATH`.
+fn parse_place(text: &str) -> Result<(u64, &str), SourceFault>
+    ensures place { IfOk result (λ place. ReadsPlace text.now (Ok (place.0, place.1.now))) }
+    ensures fault { IfErr result (λ fault. ReadsPlace text.now (Err fault)) }
+{
+    let Some((digits, path)) = text.split_once(':') else {
+        return Err(SourceFault::BadOffset);
+    };
+    let Some(offset) = offset_of(digits) else {
+        return Err(SourceFault::BadOffset);
+    };
+    if path.is_empty() {
+        return Err(SourceFault::NoPath);
+    }
+    Ok((offset, path))
+}
+
+/// Reads `at:OFFSET:PATH`, `range:OFFSET:PATH` or `cat:PATH`. PATH is all that follows, and may hold colons.
+#[tactic(auto, using(crate::proofs::SourceLaws::placed_fault))]
 pub fn parse_source(text: &str) -> Result<Source<'_>, SourceFault>
     ensures source { IfOk result (λ source. ReadsSource text.now (Ok (source_parts source))) }
     ensures fault { IfErr result (λ fault. ReadsSource text.now (Err fault)) }
@@ -76,19 +112,19 @@ pub fn parse_source(text: &str) -> Result<Source<'_>, SourceFault>
         }
         return Ok(Source::Saved { path });
     }
+    if let Some(rest) = text.strip_prefix("range:") {
+        return match parse_place(rest) {
+            Ok((offset, path)) => Ok(Source::Range { offset, path }),
+            Err(fault) => Err(fault),
+        };
+    }
     let Some(rest) = text.strip_prefix("at:") else {
         return Err(SourceFault::NoScheme);
     };
-    let Some((digits, path)) = rest.split_once(':') else {
-        return Err(SourceFault::BadOffset);
-    };
-    let Some(offset) = offset_of(digits) else {
-        return Err(SourceFault::BadOffset);
-    };
-    if path.is_empty() {
-        return Err(SourceFault::NoPath);
+    match parse_place(rest) {
+        Ok((offset, path)) => Ok(Source::Piece { offset, path }),
+        Err(fault) => Err(fault),
     }
-    Ok(Source::Piece { offset, path })
 }
 
 /// A law: a text names one source, or has one of the faults.

@@ -44,8 +44,8 @@ pub struct Watched<'a, R: Eprint + Clock, F: Drop> {
 }
 
 impl<'a, R: Files + Eprint + Clock + AllocGlobal> Watched<'a, R, R::File> {
-    /// The file of the source. Its reading is told where standard error is a terminal and the source is a long piece in
-    /// a regular file.
+    /// The file of the source. Its reading is told where standard error is a terminal and the source is a long piece
+    /// or range in a regular file.
     pub fn new(
         rt: &'a R,
         screen: Screen,
@@ -56,7 +56,9 @@ impl<'a, R: Files + Eprint + Clock + AllocGlobal> Watched<'a, R, R::File> {
         ensures { result.from ≡ from }
     {
         let progress = match (screen, source) {
-            (Screen::Terminal, Source::Piece { path, .. }) => progress_of(rt, *path, &from),
+            (Screen::Terminal, Source::Piece { path, .. } | Source::Range { path, .. }) => {
+                progress_of(rt, *path, &from)
+            }
             _ => None,
         };
         Watched {

@@ -21,7 +21,7 @@ impl fmt::Display for Hint<'_, '_> {
             ),
             RunFault::Signed { .. } => f.write_str("write the number without a sign"),
             RunFault::BadSource { .. } => f.write_str(
-                "a source is at:OFFSET:PATH, with OFFSET in decimal digits alone, or cat:PATH",
+                "a source is at:OFFSET:PATH or range:OFFSET:PATH, with OFFSET in decimal digits alone, or cat:PATH",
             ),
             RunFault::NoSource => f.write_str("name a source as a word, or in a line of the list"),
             RunFault::BadLine { .. } => f.write_str("a line of a list is a source in UTF-8"),

@@ -1,4 +1,4 @@
-//! Telling of pieces that end before their bytes do.
+//! Telling of pieces and ranges that end before their bytes do.
 use super::telling::tell_on_screen;
 use crate::beginning::Beginning;
 use crate::source::Source;
@@ -8,55 +8,72 @@ use std::alloc::AllocError;
 use std::fmt;
 use std::rt::Files;
 
-/// That the piece at `offset` (bytes), the file at `path`, stops at a place.
+/// That the packets of a source stop at a place.
 #[derive(Clone, Copy)]
-struct StoppedPiece<'a> {
-    offset: u64,
-    path: &'a str,
+struct StoppedSource<'a> {
+    source: Source<'a>,
     stop: Stop,
     place: u64,
 }
 
-impl fmt::Display for StoppedPiece<'_> {
+impl fmt::Display for StoppedSource<'_> {
     fn fmt<W: fmt::Write>(&self, f: &mut fmt::Formatter<W>) -> fmt::Result {
-        let StoppedPiece {
-            offset,
-            path,
+        let StoppedSource {
+            source,
             stop,
             place,
         } = *self;
-        write!(f, "at:{offset}:{path}: stop {stop} {place}")
+        write!(f, "{source}: stop {stop} {place}")
     }
 }
 
-/// What to do about a piece none of whose bytes are a packet's.
+/// What to do about a piece that doesn't begin at a packet, or a range without a start.
 #[derive(Clone, Copy)]
 struct FrontHint<'a> {
-    path: &'a str,
+    source: Source<'a>,
     is_catalogue: bool,
 }
 
 impl fmt::Display for FrontHint<'_> {
     fn fmt<W: fmt::Write>(&self, f: &mut fmt::Formatter<W>) -> fmt::Result {
-        let FrontHint { path, is_catalogue } = *self;
-        if is_catalogue {
-            write!(f, "hint: {path} looks like a catalogue: name it cat:{path}")
-        } else {
-            write!(f, "hint: {path} doesn't begin at a packet")
+        let path = self.source.path();
+        if self.is_catalogue {
+            return write!(f, "hint: {path} looks like a catalogue: name it cat:{path}");
+        }
+        match self.source {
+            Source::Piece { offset, .. } => write!(
+                f,
+                "hint: {path} doesn't begin at a packet: where it begins inside one, name it range:{offset}:{path}"
+            ),
+            _ => write!(
+                f,
+                "hint: no packet begins in the first 33554432 bytes of {path}"
+            ),
         }
     }
 }
 
-/// The place of a stop before the end of the bytes that are there; `None` where all packets of the piece are noted.
+/// The place of a stop before the end of the bytes that are there; `None` where all packets of the source are noted.
 fn place_of(stop: Stop) -> Option<u64> {
     match stop {
         Stop::End | Stop::Truncated(_) => None,
-        Stop::NotUl(place) | Stop::BadLength(place) | Stop::TooFar(place) => Some(place),
+        Stop::NotUl(place) | Stop::BadLength(place) | Stop::TooFar(place) | Stop::NoStart(place) =>
+            Some(place),
     }
 }
 
-/// Tells on a terminal of each piece whose packets weren't all noted, where stops are asked for, and what to do about
-/// one that stops at its first byte.
+/// Whether none of a source's bytes are a packet's, as far as its stop tells: it stops at its first byte, or has no
+/// start.
+fn is_without_packets(report: &PieceReport) -> bool {
+    match report.report.stop {
+        Stop::NotUl(place) => place == report.offset,
+        Stop::NoStart(_) => true,
+        _ => false,
+    }
+}
+
+/// Tells on a terminal of each piece and range whose packets weren't all noted, where stops are asked for, and what to
+/// do about one that has none.
 pub fn tell_stops<R: Files + Eprint + AllocGlobal>(
     rt: &R,
     sources: &[Source<'_>],
@@ -65,23 +82,22 @@ pub fn tell_stops<R: Files + Eprint + AllocGlobal>(
 ) -> Result<(), AllocError> {
     let mut reports = reports.iter();
     for source in sources {
-        if let Source::Piece { path, .. } = source {
+        if let Source::Piece { .. } | Source::Range { .. } = source {
             if let Some(report) = reports.next() {
-                tell_stop(rt, *path, report, with_stops)?;
+                tell_stop(rt, *source, report, with_stops)?;
             }
         }
     }
     Ok(())
 }
 
-/// Tells of one piece.
+/// Tells of one piece or range.
 fn tell_stop<R: Files + Eprint + AllocGlobal>(
     rt: &R,
-    path: &str,
+    source: Source<'_>,
     report: &PieceReport,
     with_stops: bool,
 ) -> Result<(), AllocError> {
-    let offset = report.offset;
     let stop = report.report.stop;
     let Some(place) = place_of(stop) else {
         return Ok(());
@@ -89,17 +105,23 @@ fn tell_stop<R: Files + Eprint + AllocGlobal>(
     if with_stops {
         tell_on_screen(
             rt,
-            &StoppedPiece {
-                offset,
-                path,
+            &StoppedSource {
+                source,
                 stop,
                 place,
             },
         )?;
     }
-    if stop == Stop::NotUl(offset) {
-        let is_catalogue = matches!(Beginning::of(rt, path), Ok(Some(Beginning::Catalogue)));
-        tell_on_screen(rt, &FrontHint { path, is_catalogue })?;
+    if is_without_packets(report) {
+        let beginning = Beginning::of(rt, source.path());
+        let is_catalogue = matches!(beginning, Ok(Some(Beginning::Catalogue)));
+        tell_on_screen(
+            rt,
+            &FrontHint {
+                source,
+                is_catalogue,
+            },
+        )?;
     }
     Ok(())
 }

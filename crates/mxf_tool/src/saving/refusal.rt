@@ -34,10 +34,10 @@ fn begins_with_label<R: Files + AllocGlobal>(rt: &R, path: &str) -> io::Result<b
     Ok(Beginning::of(rt, path)? == Some(Beginning::Label))
 }
 
-/// Whether the file is that of a piece among the sources, by whatever name.
+/// Whether the file is that of a piece or range among the sources, by whatever name.
 fn is_piece<R: Files>(rt: &R, found: &Metadata, sources: &[Source<'_>]) -> bool {
     for source in sources {
-        if let Source::Piece { path, .. } = source {
+        if let Source::Piece { path, .. } | Source::Range { path, .. } = source {
             if fs::metadata(rt, *path).is_ok_and(|piece| is_same_file(&piece, found)) {
                 return true;
             }
