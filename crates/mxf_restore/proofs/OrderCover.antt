@@ -172,7 +172,7 @@ module _ (notes : List NoteParts) where
         let reach = max s.0 (up_to_bound (needed_of notes start p.first) p.hole.end) in (
           record { reason = Gap; start = start; end = Some reach; source = None },
           ap (λ end. ordered None start (option_map (λ e. max e (up_to_bound (needed_of notes start p.first) p.hole.end))
-          end)) s.1,
+              end)) s.1,
           (omega (arith, l, from), inr (reach, refl, omega (arith, m))),
         )
     ordered_there start (Some c) l =

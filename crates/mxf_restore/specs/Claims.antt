@@ -26,6 +26,12 @@ use Rattle.mxf_restore.specs.declared.stretch.Zone.TheVariants as zones
 use Rattle.mxf_restore.specs.declared.reason.Reason.{Reason}
 use Rattle.mxf_restore.specs.declared.reason.Reason.TheVariants.{Header, Footer, Metadata, Index, Entry, Previous}
 
+-- The reason is that of a stretch, not of a place that a pack names.
+abbrev pub is_of_stretch : Reason → Bool
+is_of_stretch Metadata = true
+is_of_stretch Index = true
+is_of_stretch _ = false
+
 -- A place that a pack names: one offset.
 abbrev pub place_claim : Reason → Option ℕ → ℕ → Claim
 place_claim reason source place =

@@ -1,6 +1,7 @@
 pub mod Words
 pub mod Held
 pub mod Claims
+pub mod Named
 pub mod Fills
 pub mod Pieces
 pub mod Plan

@@ -1,6 +1,6 @@
 -- What is held of a file, as a picture of cells (this project's profile).
 use Rattle.std.specs.Prelude.{◌≡◌, ℕ, ◌+◌, ◌-◌, ◌/◌, ◌<◌, ◌≤◌, Bool, false, ◌&&◌, ◌||◌, ◌==◌, not, nat_lt, max, min}
-use Rattle.std.specs.Prelude.{Option, None, Some, List, [], ◌∷◌, count_by, filter, find, length, map}
+use Rattle.std.specs.Prelude.{if◌then◌else◌, Option, None, Some, List, [], ◌∷◌, count_by, filter, find, length, map}
 use Rattle.std.specs.Option.{option_map_or}
 use Rattle.std.specs.List.{filter_map, range_with_len}
 use Rattle.mxf_klv.specs.declared.kinds.Kind.{Kind}
@@ -15,26 +15,15 @@ use Rattle.mxf_catalogue.specs.Disputes.{IsClear, disputed_notes, undisputed_not
 use Rattle.mxf_views.specs.FindingCauses.{IsMetadataKind}
 use Rattle.mxf_views.specs.Partitions.{PartitionParts, partitions_of}
 use Rattle.mxf_restore.specs.Held.{IsDoubtful, IsHeld, edge_of, is_doubtful, is_held, is_in_file}
-use Rattle.mxf_restore.specs.Claims.{claims_of}
+use Rattle.mxf_restore.specs.Claims.{claims_of, is_of_stretch}
 use Rattle.mxf_restore.specs.Pieces.{holes_of}
 use Rattle.mxf_restore.specs.declared.claim.Claim.{Claim}
-use Rattle.mxf_restore.specs.declared.reason.Reason.{Reason}
-use Rattle.mxf_restore.specs.declared.reason.Reason.TheVariants.{Header, Footer, Metadata, Index, Entry, Previous, Gap}
 use Rattle.mxf_restore.specs.declared.map.Mark.{Mark}
 use Rattle.mxf_restore.specs.declared.map.Mark.TheVariants as marks
 
 -- The place that a claim names, where it names one.
-abbrev pub named_by : Claim → Reason → Option ℕ
-named_by c Metadata = None
-named_by c Index = None
-named_by c Header = Some c.from
-named_by c Footer = Some c.from
-named_by c Entry = Some c.from
-named_by c Previous = Some c.from
-named_by c Gap = None
-
 unfoldable pub named_place : Claim → Option ℕ
-named_place c = named_by c c.reason
+named_place c = if is_of_stretch c.reason then None else Some c.from
 
 -- A head that shares no byte with another packet begins there: the rest of its packet isn't held.
 abbrev pub begins_clear_head : List NoteParts → ℕ → Bool

@@ -11,16 +11,18 @@ use Rattle.mxf_klv.specs.Rising.{In, union}
 use Rattle.mxf_catalogue.specs.declared.run.Run.{Run}
 use Rattle.mxf_views.specs.Gaps.{gaps_of}
 use Rattle.mxf_restore.specs.Held.{IsHeld, end_of_file, is_held, is_in_file}
-use Rattle.mxf_restore.specs.Claims.{claims_of}
+use Rattle.mxf_restore.specs.Claims.{claims_of, is_of_stretch}
 use Rattle.mxf_restore.specs.declared.claim.Claim.{Claim}
 use Rattle.mxf_restore.specs.declared.piece.Hole.{Hole}
 use Rattle.mxf_restore.specs.declared.piece.Piece.{Piece}
-use Rattle.mxf_restore.specs.declared.reason.Reason.{Reason}
-use Rattle.mxf_restore.specs.declared.reason.Reason.TheVariants.{Header, Footer, Metadata, Index, Entry, Previous, Gap}
+
+-- The offset lies between a start and an end, or is no less than the start where there is no end.
+abbrev pub LiesBetween : ℕ → Option ℕ → ℕ → Type 0
+LiesBetween start end x = (start ≤ x) × ((end ≡ None) ⊎ ((e : ℕ) × (end ≡ Some e) × (x < e)))
 
 -- The offset lies in a hole.
 abbrev pub LiesInHole : Hole → ℕ → Type 0
-LiesInHole h x = (h.start ≤ x) × ((h.end ≡ None) ⊎ ((e : ℕ) × (h.end ≡ Some e) × (x < e)))
+LiesInHole h x = LiesBetween h.start h.end x
 
 -- What stands at the end of a hole: something is held there, or the end of the file isn't known.
 abbrev pub IsEndOfHole : List NoteParts → Option ℕ → Type 0
@@ -51,17 +53,8 @@ holes_of notes =
     ++ (if is_some (end_of_file notes) then [] else record { start = held_end notes; end = None } ∷ [])
 
 -- Where a hole may be cut: at a place that a pack names, or at the known end of a stretch.
-abbrev pub cut_by : Claim → Reason → Option ℕ
-cut_by c Metadata = if c.is_open then None else Some c.end
-cut_by c Index = if c.is_open then None else Some c.end
-cut_by c Header = Some c.from
-cut_by c Footer = Some c.from
-cut_by c Entry = Some c.from
-cut_by c Previous = Some c.from
-cut_by c Gap = None
-
 abbrev pub cut_of : Claim → Option ℕ
-cut_of c = cut_by c c.reason
+cut_of c = if is_of_stretch c.reason then (if c.is_open then None else Some c.end) else Some c.from
 
 -- Those that lie in the file and aren't held, rising.
 unfoldable pub cuts_of : List NoteParts → List ℕ
@@ -91,7 +84,7 @@ pieces_of notes = flat_map (pieces_in (cuts_of notes)) (holes_of notes)
 
 -- The offset lies in a piece.
 abbrev pub LiesInPiece : Piece → ℕ → Type 0
-LiesInPiece p x = (p.first ≤ x) × ((p.end ≡ None) ⊎ ((e : ℕ) × (p.end ≡ Some e) × (x < e)))
+LiesInPiece p x = LiesBetween p.first p.end x
 
 -- An offset where holes are cut: one that some claim names, in the file and not held.
 pub record IsCut (notes : List NoteParts) (x : ℕ) : Type 0 where

@@ -1,5 +1,5 @@
 -- What to restore next (this project's profile).
-use Rattle.std.specs.Prelude.{◌≡◌, ℕ, ◌-◌, ◌<◌, ◌≤◌, ◌⊎◌, Bool, false, ◌&&◌, ◌==◌, not, nat_lt, max, min}
+use Rattle.std.specs.Prelude.{ℕ, ◌-◌, Bool, false, ◌&&◌, ◌==◌, not, nat_lt, max, min}
 use Rattle.std.specs.Prelude.{if◌then◌else◌, Option, None, Some, is_some, List, [], ◌∷◌, filter, find}
 use Rattle.std.specs.Option.{option_and_then, option_cmp, option_map, option_map_or}
 use Rattle.std.specs.List.{filter_map}
@@ -9,8 +9,8 @@ use Rattle.mxf_klv.specs.Parts.{NoteParts}
 use Rattle.mxf_klv.specs.Note.{covered_end}
 use Rattle.mxf_klv.specs.Rising.{union}
 use Rattle.mxf_restore.specs.Held.{edge_of, end_of_file, is_doubtful, is_in_file, top_of}
-use Rattle.mxf_restore.specs.Claims.{claim_at, claims_of}
-use Rattle.mxf_restore.specs.Pieces.{pieces_of}
+use Rattle.mxf_restore.specs.Claims.{claim_at, claims_of, is_of_stretch}
+use Rattle.mxf_restore.specs.Pieces.{LiesBetween, pieces_of}
 use Rattle.mxf_restore.specs.declared.reason.Reason.{Reason}
 use Rattle.mxf_restore.specs.declared.reason.Reason.TheVariants.{Header, Footer, Metadata, Index, Entry, Previous, Gap}
 use Rattle.mxf_restore.specs.declared.claim.Claim.{Claim}
@@ -64,17 +64,8 @@ unfoldable pub found_orders : List NoteParts → List Order
 found_orders notes = filter_map (order_of notes) (pieces_of notes)
 
 -- The place that a claim speaks of: one that a pack names, or where an open stretch ends.
-abbrev pub point_by : Claim → Reason → Option ℕ
-point_by c Metadata = if c.is_open then Some (c.end - 1) else None
-point_by c Index = if c.is_open then Some (c.end - 1) else None
-point_by c Header = Some c.from
-point_by c Footer = Some c.from
-point_by c Entry = Some c.from
-point_by c Previous = Some c.from
-point_by c Gap = None
-
 abbrev pub point_of : Claim → Option ℕ
-point_of c = point_by c c.reason
+point_of c = if is_of_stretch c.reason then (if c.is_open then Some (c.end - 1) else None) else Some c.from
 
 -- A doubt: the place is held, but what covers it is disputed.
 unfoldable pub doubt_of : List NoteParts → Claim → Option Doubt
@@ -129,4 +120,4 @@ plan_of notes = record {
 
 -- The offset lies in an order.
 abbrev pub LiesInOrder : Order → ℕ → Type 0
-LiesInOrder o x = (o.start ≤ x) × ((o.end ≡ None) ⊎ ((e : ℕ) × (o.end ≡ Some e) × (x < e)))
+LiesInOrder o x = LiesBetween o.start o.end x

@@ -1,10 +1,15 @@
 //! What packs say of places (ST 377-1, Partition Pack and Random Index Pack).
-ghost use Rattle.std.specs.Prelude.{◌≡◌, ◌++◌, ◌∷◌, [], IfOk, OnOk, None, Some};
+ghost use Rattle.std.specs.Prelude.{◌≡◌, ◌↔◌, ◌++◌, ◌∷◌, [], IfOk, OnOk, List, None, Some};
+ghost use Rattle.mxf_klv.specs.Parts.{NoteParts};
+ghost use Rattle.mxf_klv.specs.Rising.{In};
+ghost use Rattle.mxf_catalogue.specs.Content.{IsContent};
 ghost use Rattle.std.specs.List.{filter_map};
 ghost use Rattle.mxf_views.specs.Partitions.{partitions_of};
 ghost use Rattle.mxf_views.specs.RandomIndexView.{rip_view_of};
 ghost use Rattle.mxf_restore.specs.Claims.{claims_of, entry_claim, entry_claims, footer_claim, place_claim};
 ghost use Rattle.mxf_restore.specs.Claims.{previous_claim, zone_claim, zone_reason};
+ghost use Rattle.mxf_restore.specs.Named.{IsClaim};
+ghost use Rattle.mxf_restore.specs.declared.claim.Claim.{Claim};
 
 use crate::held::Holdings;
 use crate::reason::Reason;
@@ -178,3 +183,9 @@ fn previous_claim(partition: &PartitionAt<'_>) -> Option<Claim>
     }
     Some(place_claim(Reason::Previous, Some(partition.offset), place))
 }
+
+/// A law: the claims are the header partition at 0, the footer and previous partitions that packs name, the zones of
+/// partitions, and the entries of the only random index pack.
+pub fn claims_by_definition()
+    ensures { (notes : List NoteParts) (c : Claim) → IsContent notes → In c (claims_of notes) ↔ IsClaim notes c }
+{}

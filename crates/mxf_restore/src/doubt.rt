@@ -7,7 +7,6 @@ ghost use Rattle.mxf_restore.specs.Plan.{doubt_of, first_by_place, found_doubts,
 use crate::claim::Claim;
 use crate::held::Holdings;
 use crate::plan::Doubt;
-use crate::reason::Reason;
 use mxf_klv::OutOfMemory;
 use std::alloc::Global;
 use std::collections::BTreeSet;
@@ -64,18 +63,13 @@ fn doubt_of(holdings: &Holdings<'_>, claim: &Claim) -> Option<Doubt>
 fn point_of(claim: &Claim) -> Option<u128>
     ensures { result ≡ point_of claim.now }
 {
-    match claim.reason {
-        Reason::Metadata | Reason::Index => {
-            if claim.is_open {
-                Some(claim.end.saturating_sub(1))
-            } else {
-                None
-            }
-        }
-        Reason::Header | Reason::Footer | Reason::Entry | Reason::Previous => Some(u128::from(
-            claim.from,
-        )),
-        Reason::Gap => None,
+    if !claim.reason.is_of_stretch() {
+        return Some(u128::from(claim.from));
+    }
+    if claim.is_open {
+        Some(claim.end.saturating_sub(1))
+    } else {
+        None
     }
 }
 

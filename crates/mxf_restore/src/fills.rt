@@ -1,8 +1,11 @@
 //! Fills that follow one another (ST 377-1, fill items).
-ghost use Rattle.std.specs.Prelude.{◌≡◌, ℕ, IfOk};
+ghost use Rattle.std.specs.Prelude.{◌≡◌, ◌↔◌, ℕ, IfOk, List};
+ghost use Rattle.mxf_klv.specs.Parts.{NoteParts};
+ghost use Rattle.mxf_catalogue.specs.Content.{IsContent};
 ghost use Rattle.mxf_catalogue.specs.Disputes.{undisputed_notes};
 ghost use Rattle.mxf_restore.specs.Claims.{over_fills};
 ghost use Rattle.mxf_restore.specs.Fills.{fill_at, fills_among, over_in};
+ghost use Rattle.mxf_restore.specs.Named.{IsOver};
 
 use mxf_catalogue::Catalogue;
 use mxf_klv::{Kind, Note, OutOfMemory};
@@ -77,3 +80,9 @@ fn fill_at(note: &Note) -> Option<Fill>
         end: note.end(),
     })
 }
+
+/// A law: going over fills from an offset one comes to where they lead that follow one another there, and no fill begins.
+pub fn fills_by_definition()
+    ensures { (notes : List NoteParts) (from to : ℕ) → IsContent notes
+        → (over_fills notes from ≡ to) ↔ IsOver notes from to }
+{}

@@ -1,7 +1,9 @@
 //! Which offsets of a file are held, where the file ends, and how an offset stands.
-ghost use Rattle.std.specs.Prelude.{◌≡◌, ◌↔◌, ◌<◌, ◌≤◌, ℕ, IfOk, IsTrue};
+ghost use Rattle.std.specs.Prelude.{◌≡◌, ◌↔◌, ◌<◌, ◌≤◌, ℕ, IfOk, IsTrue, List, Some};
+ghost use Rattle.mxf_klv.specs.Parts.{NoteParts};
 ghost use Rattle.mxf_restore.specs.Held.{AreDoubtful, edge_of, end_of_file, is_doubtful, is_held, is_in_file};
-ghost use Rattle.mxf_restore.specs.Held.{IsDoubtful, IsHeld, rip_end_by};
+ghost use Rattle.mxf_restore.specs.Held.{IsDoubtful, IsEndOfFile, IsHeld, rip_end_by};
+ghost use Rattle.mxf_restore.specs.Named.{IsInFile, IsUnknown};
 ghost use Rattle.mxf_views.specs.RandomIndexView.{rip_view_of};
 ghost use Rattle.mxf_restore.specs.Claims.{is_unknown, over_fills};
 ghost use Rattle.mxf_restore.specs.Pieces.{held_end};
@@ -173,3 +175,13 @@ fn end_of_file(views: &Views) -> Option<u64>
     }
     Some(end)
 }
+
+/// A law: what is held and what is doubtful, where the file ends, what may lie in it, and of what isn't known what
+/// begins there.
+pub fn held_by_definition()
+    ensures held { (notes : List NoteParts) (x : ℕ) → IsTrue (is_held notes x) ↔ IsHeld notes x }
+    ensures doubtful { (notes : List NoteParts) (x : ℕ) → IsTrue (is_doubtful notes x) ↔ IsDoubtful notes x }
+    ensures ends { (notes : List NoteParts) (end : ℕ) → (end_of_file notes ≡ Some end) ↔ IsEndOfFile notes end }
+    ensures in_file { (notes : List NoteParts) (x : ℕ) → IsTrue (is_in_file notes x) ↔ IsInFile notes x }
+    ensures unknown { (notes : List NoteParts) (x : ℕ) → IsTrue (is_unknown notes x) ↔ IsUnknown notes x }
+{}

@@ -1,6 +1,24 @@
 //! What to restore next of a file of which parts are held: the plan, and the map (this project's profile).
 //!
 //! Both are functions of the content of a catalogue: what packs name and count, and which offsets no packet covers.
+//!
+//! What is proved: [`Plan::of`] and [`Map::of`] answer these functions. Laws (`.._by_definition`) say in the words of
+//! the standards what they are made of: what is held and where the file ends, what packs claim of offsets, the holes and
+//! their pieces, the orders and doubts. Each byte that is missing below the end lies in an order
+//! ([`gaps_are_ordered`]), no two orders begin at one offset ([`starts_are_apart`]), and each cell of a map has one mark
+//! ([`one_mark`]).
+//!
+//! That no order is left in the end, where what was ordered is handed in again and again, is tested.
+//!
+//! What to restore next of what two pieces hold together:
+//!
+//! ```
+//! let gathered = gather(alloc, parts)?;
+//! let plan = Plan::of(alloc, &gathered.views)?;
+//! for order in plan.orders() {
+//!     println!(rt; "{} from {}", order.reason, order.start)?;
+//! }
+//! ```
 #![tactic(auto)]
 
 mod claim;
@@ -16,6 +34,9 @@ mod plan;
 mod reason;
 mod stretch;
 
+pub use claim::claims_by_definition;
+pub use fills::fills_by_definition;
+pub use held::held_by_definition;
 pub use map::{Map, Mark, one_map, one_mark};
 pub use piece::{holes_by_definition, pieces_by_definition};
 pub use plan::{
@@ -23,3 +44,4 @@ pub use plan::{
     starts_are_apart,
 };
 pub use reason::Reason;
+pub use stretch::zones_by_definition;

@@ -16,7 +16,6 @@ ghost use Rattle.mxf_restore.specs.Pieces.{is_inside, pieces_from, pieces_in, pi
 
 use crate::claim::Claim;
 use crate::held::Holdings;
-use crate::reason::Reason;
 use mxf_klv::{OutOfMemory, below, up_to};
 use std::alloc::Global;
 
@@ -113,13 +112,10 @@ fn free_cut(holdings: &Holdings<'_>, claim: &Claim) -> Option<u64>
 fn cut_of(claim: &Claim) -> Option<u128>
     ensures { result ≡ cut_of claim.now }
 {
-    match claim.reason {
-        Reason::Metadata | Reason::Index => { if claim.is_open { None } else { Some(claim.end) } }
-        Reason::Header | Reason::Footer | Reason::Entry | Reason::Previous => Some(u128::from(
-            claim.from,
-        )),
-        Reason::Gap => None,
+    if !claim.reason.is_of_stretch() {
+        return Some(u128::from(claim.from));
     }
+    if claim.is_open { None } else { Some(claim.end) }
 }
 
 /// The pieces of all holes, rising. They take memory.

@@ -48,7 +48,7 @@ pub struct Doubt {
 /// What to restore next of a file of which parts are held, as far as what is held says (this project's profile).
 ///
 /// Whoever restores the bytes of all orders, hands each in as a piece at its start, and asks again, comes to a plan
-/// without orders, where the packs of the file tell the truth.
+/// without orders, where the packs of the file tell the truth. That is tested, not proved.
 #[derive(Debug, Drop)]
 pub struct Plan {
     orders: Vec<Order>,

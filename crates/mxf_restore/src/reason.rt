@@ -1,5 +1,6 @@
 //! Why bytes are to be restored.
 ghost use Rattle.std.specs.Prelude.{◌≡◌};
+ghost use Rattle.mxf_restore.specs.Claims.{is_of_stretch};
 
 use std::fmt;
 
@@ -22,6 +23,15 @@ pub enum Reason {
     Previous,
     /// No pack says what lies there.
     Gap,
+}
+
+impl Reason {
+    /// Whether it is that of a stretch, not of a place that a pack names.
+    pub(crate) fn is_of_stretch(self) -> bool
+        ensures { result ≡ is_of_stretch self }
+    {
+        matches!(self, Reason::Metadata | Reason::Index)
+    }
 }
 
 /// The word for the reason, as in `metadata`.

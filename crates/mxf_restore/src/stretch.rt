@@ -1,9 +1,15 @@
 //! Where the header metadata and the index table segments of a partition lie.
-ghost use Rattle.std.specs.Prelude.{◌≡◌, is_some};
+ghost use Rattle.std.specs.Prelude.{◌≡◌, ◌↔◌, ℕ, is_some, List, Some};
+ghost use Rattle.mxf_klv.specs.Parts.{NoteParts};
+ghost use Rattle.mxf_catalogue.specs.Content.{IsContent};
+ghost use Rattle.mxf_views.specs.Partitions.{PartitionParts};
 ghost use Rattle.mxf_sets.specs.PackReadings.{primer_at};
 ghost use Rattle.mxf_sets.specs.Readable.{read_as};
 ghost use Rattle.mxf_restore.specs.Claims.{begins, begins_index, begins_metadata, behind_metadata, index_of};
 ghost use Rattle.mxf_restore.specs.Claims.{known_end, metadata_of, stretch_from, zone_of};
+ghost use Rattle.mxf_restore.specs.Named.{IsStretch, IsZone};
+ghost use Rattle.mxf_restore.specs.declared.stretch.Stretch.{Stretch};
+ghost use Rattle.mxf_restore.specs.declared.stretch.Zone.{Zone};
 
 use crate::held::Holdings;
 use mxf_klv::{Kind, MAX, Note};
@@ -130,3 +136,12 @@ fn is_primer(note: &Note) -> bool
     };
     Primer::read(value).is_ok()
 }
+
+/// A law: the stretches of so many bytes from an offset on, and those of the zones of partitions, are by the first
+/// packet behind the fills there (ST 377-1, HeaderByteCount and IndexByteCount).
+pub fn zones_by_definition()
+    ensures stretches { (zone : Zone) (notes : List NoteParts) (from count : ℕ) (s : Stretch) → IsContent notes
+        → (stretch_from zone notes from count ≡ Some s) ↔ IsStretch zone notes from count s }
+    ensures zones { (zone : Zone) (notes : List NoteParts) (p : PartitionParts) (s : Stretch) → IsContent notes
+        → (zone_of zone notes p ≡ Some s) ↔ IsZone zone notes p s }
+{}

@@ -8,7 +8,6 @@ ghost use Rattle.mxf_restore.specs.Layers.{AreOffsets, missing_place};
 use super::offsets::set_of;
 use crate::claim::{Claim, claims};
 use crate::held::Holdings;
-use crate::reason::Reason;
 use mxf_catalogue::Cover;
 use mxf_klv::OutOfMemory;
 use std::alloc::Global;
@@ -65,9 +64,10 @@ fn missing_place(holdings: &Holdings<'_>, claim: &Claim) -> Option<u64>
 fn named_place(claim: &Claim) -> Option<u64>
     ensures { result ≡ named_place claim.now }
 {
-    match claim.reason {
-        Reason::Metadata | Reason::Index | Reason::Gap => None,
-        Reason::Header | Reason::Footer | Reason::Entry | Reason::Previous => Some(claim.from),
+    if claim.reason.is_of_stretch() {
+        None
+    } else {
+        Some(claim.from)
     }
 }
 
