@@ -19,6 +19,6 @@ returns c =
     let behind = ap (λ (l : List Mark). length l) back in (
       omega (arith, left, behind, more, s.some),
       first_row s.columns s.cell s.width s.passed s.left.now s.some more
-      ∙ sym (λ i. row_line (spaces i) (offset i) (front i)
-      ∷ rows_of s.columns s.cell s.width (s.passed + count i) (back i)),
+          ∙ sym (λ i. row_line (spaces i) (offset i) (front i)
+          ∷ rows_of s.columns s.cell s.width (s.passed + count i) (back i)),
     )
