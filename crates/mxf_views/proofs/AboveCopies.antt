@@ -2,15 +2,14 @@
 use Rattle.mxf_views.proofs.Common.{◌≡◌, ℕ, ◌+◌, ◌-◌, ◌<◌, ◌≤◌, ◌⊎◌, true, false, cond, List, [], ◌∷◌, ◌++◌, Option}
 use Rattle.mxf_views.proofs.Common.{Some, None, refl, sym, ap, subst, ◌∙◌, inl, inr, arith, get_or, length, eqb-true}
 use Rattle.mxf_views.proofs.Common.{eq-eqb, ◌==◌, find, map, count_by, if◌then◌else◌, cons_option, filter_map}
-use Rattle.mxf_views.proofs.Common.{option_and_then, option_map, ◌^◌, result_ok}
-use Rattle.mxf_views.proofs.Common.{false_from_ne_true, sum_by-append, NoteParts, end_of, kind_of, In, pack_at}
-use Rattle.mxf_views.proofs.Common.{PartitionPackParts, read_as, keeps_value, lies_in, is_in_one, union_of, SharesByte}
-use Rattle.mxf_views.proofs.Common.{clear_notes, In-clear_notes, AreApart-clear_notes, less_by_offset, CopyInfo}
-use Rattle.mxf_views.proofs.Common.{CopiesRise, IsStart, copies_of, copy_from, copy_of, covered_of, has_metadata}
-use Rattle.mxf_views.proofs.Common.{is_preface_note, prefaces_of, start_of, zone_of, copy_by, MeetAt, clear_from}
-use Rattle.mxf_views.proofs.Common.{counted_above, PartitionParts, partition_at, partitions_of, sizes, length-filter_le}
-use Rattle.mxf_views.proofs.Common.{In-at, cases_lt, count_by-le-length, ends_before, or_itself, EndsBy, IsOfNone}
-use Rattle.mxf_views.proofs.Common.{IsStarting, IsUnionAt, range-le, clear_same, SameClear}
+use Rattle.mxf_views.proofs.Common.{option_and_then, ◌^◌, false_from_ne_true, sum_by-append, NoteParts, end_of, In}
+use Rattle.mxf_views.proofs.Common.{lies_in, is_in_one, union_of, clear_notes, In-clear_notes, AreApart-clear_notes}
+use Rattle.mxf_views.proofs.Common.{CopyInfo, CopiesRise, IsStart, copies_of, copy_from, copy_of, covered_of}
+use Rattle.mxf_views.proofs.Common.{has_metadata, is_preface_note, prefaces_of, start_of, zone_of, copy_by, MeetAt}
+use Rattle.mxf_views.proofs.Common.{clear_from, counted_above, PartitionParts, partition_at, partitions_of, sizes}
+use Rattle.mxf_views.proofs.Common.{length-filter_le, In-at, count_by-le-length, or_itself, EndsBy, IsOfNone}
+use Rattle.mxf_views.proofs.Common.{IsStarting, IsUnionAt, range-le, IsContent, IsNote, all-In, ltb-true, IsUnmet}
+use Rattle.mxf_views.proofs.Common.{SameOutside}
 use Rattle.std.specs.Prelude.{slice_get}
 use Rattle.std.proofs.lemmas.Bool.{eqb-false}
 use Rattle.std.proofs.lemmas.List.Elements.{filter_map-append}
@@ -22,13 +21,11 @@ use Rattle.mxf_views.proofs.AboveLaws.{no_bytes, clear_in_both, clear_of_both, n
 use Rattle.mxf_views.proofs.AboveLaws.{zone_from, zone_goes_on, zone_of_both}
 use Rattle.mxf_views.specs.KeptAbove.{CountsFit, counted_on, is_of, with_counts}
 use Rattle.mxf_views.specs.Spans.{size_of}
-use Rattle.mxf_views.proofs.CopyChanges.{start_stays}
+use Rattle.mxf_views.proofs.CopyChanges.{same_apart, start_kept, unmet_stays}
 use Rattle.mxf_views.proofs.SpanCounts.{zone-count}
 use Rattle.mxf_views.proofs.StartLaws.{start_is}
-use Rattle.mxf_views.proofs.StartWalk.{none_there}
 use Rattle.mxf_klv.proofs.RisingBy.{at_most_last, rises_at}
 use Rattle.mxf_views.proofs.Rising.{by_partition}
-use Rattle.mxf_klv.specs.declared.kinds.Kind.TheVariants as kinds
 
 -- The last copy is that of the greatest partition.
 pub last_copy : (cs : List CopyInfo) (last c : CopyInfo) → CopiesRise cs → slice_get cs (length cs - 1) ≡ Some last
@@ -69,26 +66,6 @@ stays_above notes b starting c ends other =
           let none : c.bytes - (b - s) ≡ 0 = omega (arith, l) in rw (eq-eqb (c.bytes - (b - s)) 0 none) refl)
     ] refl
 
--- ---- what can be a start
-
-abbrev the_partition : NoteParts → PartitionPackParts → PartitionParts
-the_partition n pack = record { offset = n.offset; end = end_of n; pack = pack }
-
--- No fill is a partition pack.
-no_fill : (n : NoteParts) (p : PartitionParts) → partition_at n ≡ Some p → kind_of n.key ≡ kinds.Fill → ⊥
-unfolding partition_at
-no_fill n p e fill =
-    let placed = λ (pack : PartitionPackParts). the_partition n pack in
-    let none : option_map placed (read_as (pack_at kinds.Fill) n) ≡ None =
-    elim (keeps_value n) as (λ b. option_map placed (if b then result_ok (pack_at kinds.Fill n.held) else None)
-    ≡ None) [
-      | true ↦ refl
-      | false ↦ refl
-    ] in
-    let is = ap (λ k. option_map placed (read_as (pack_at k) n)) fill in
-    let u : None ≡ Some p = sym none ∙ sym is ∙ e in
-    cc (u)
-
 abbrev the_copy : PartitionParts → ℕ → ℕ → ℕ → CopyInfo
 the_copy p s covered prefaces = record {
   partition = p.offset;
@@ -104,72 +81,29 @@ module _ (b : ℕ) (own other : List NoteParts) (m : MeetAt b own other) where
   abbrev pub all : List NoteParts
   all = union_of own other
 
-  same_below : (end : ℕ) → SameClear end b own all
-  same_below end n l g =
-      let both = clear_in_both b own other m n in (
-        λ c. both.1 (inl c),
-        λ c. elim (both.0 c) [
-          | inl k ↦ k
-          | inr k ↦ (let h : b ≤ n.offset = m.begins n k.held in absurd (omega (arith, h, l)))
-        ],
-      )
+  is_content : IsContent all
+  is_content = union_is_content b own other m
+
+  -- What comes lies from the boundary on.
+  merged_above : SameOutside b 18446744073709551615 own all
+  merged_above = record {
+    gone = λ n c. inl ((clear_in_both b own other m n).1 (inl c));
+    come = λ n c. elim ((clear_in_both b own other m n).0 c) [
+      | inl k ↦ inl k
+      | inr k ↦ (
+          let within = (all-In IsNote other n m.other_is.members k.held).within in
+          inr (m.begins n k.held, omega (arith, within)))
+    ];
+    cut = λ n c. elim ((clear_in_both b own other m n).0 c) [
+      | inl k ↦ inl (m.ends n k.held)
+      | inr k ↦ inr (m.begins n k.held)
+    ];
+  }
 
   own_starts : (end s : ℕ) → IsStart own end s → s < b
   own_starts end s a =
       let e : end_of a.primer ≤ b = m.ends a.primer a.clear.held in
       let t : a.primer.offset ≡ s = a.there in omega (arith, e, t)
-
-  start_kept : (end s : ℕ) → start_of end (clear_notes own) ≡ Some s → start_of end (clear_notes all) ≡ Some s
-  start_kept end s e =
-      let a = (start_is own end s m.own_is.content).0 e in
-      (start_is all end s (union_is_content b own other m)).1
-      (start_stays own all end b s (same_below end) (own_starts end s a) a)
-
-  from_boundary : (end s : ℕ) → end ≤ b → b ≤ s → IsStart all end s → IsStart all b s
-  from_boundary end s low high a = record {
-    primer = a.primer;
-    clear = a.clear;
-    readable = a.readable;
-    there = a.there;
-    after = high;
-    filled = λ o from up.
-        let g = a.filled o (omega (arith, low, from)) up in
-        record {
-          fill = g.fill;
-          clear = g.clear;
-          kind = g.kind;
-          from = elim ((clear_in_both b own other m g.fill).0 g.clear) [
-            | inl k ↦ (
-                let e : end_of g.fill ≤ b = m.ends g.fill k.held in
-                let w : o + 1 ≤ end_of g.fill = g.within.before in absurd (omega (arith, e, w, from)))
-            | inr k ↦ m.begins g.fill k.held
-          ];
-          before = g.before;
-          within = g.within;
-        };
-  }
-
-  not_behind : (p : PartitionParts) → In p (partitions_of own) → (d : CopyInfo) → In d (copies_of own)
-      → p.offset < d.partition → (s : ℕ) → b ≤ s → IsStart all p.end s → ⊥
-  not_behind p h d k l s high a =
-      let x = of_note own p h in
-      let q = of_partition own d k in
-      let y = of_note own q.partition q.there in
-      let cx = (In-clear_notes x.note own).0 x.clear in
-      let cy = (In-clear_notes y.note own).0 y.clear in
-      let at : d.partition ≡ y.note.offset =
-      ap (λ (c : CopyInfo). c.partition) q.copy ∙ copy_there (clear_notes own) q.partition ∙ y.offset in
-      let here : p.offset ≡ x.note.offset = x.offset in
-      let end : p.end ≡ end_of x.note = end-partition_at x.note p x.read in
-      let apart =
-      ends_before own x.note y.note cx cy (less_by_offset x.note y.note (omega (arith, at, here, l))) in
-      let ends : end_of y.note ≤ b = m.ends y.note cy.held in
-      let g = a.filled y.note.offset (omega (arith, end, apart)) (omega (arith, ends, high)) in
-      let from : y.note.offset ≤ y.note.offset = omega arith in
-      let before : y.note.offset + 1 ≤ end_of y.note = omega arith in
-      let shares : SharesByte g.fill y.note = (y.note.offset, g.within, record { from = from; before = before }) in
-      let same = clear_same all g.fill y.note g.clear ((clear_in_both b own other m y.note).1 (inl cy)) shares in
-      no_fill y.note q.partition y.read (ap (λ (n : NoteParts). kind_of n.key) (sym same) ∙ g.kind)
 
   own_end : (p : PartitionParts) → In p (partitions_of own) → p.end ≤ b
   own_end p h =
@@ -177,21 +111,16 @@ module _ (b : ℕ) (own other : List NoteParts) (m : MeetAt b own other) where
       let e : p.end ≡ end_of x.note = end-partition_at x.note p x.read in
       let l : end_of x.note ≤ b = m.ends x.note ((In-clear_notes x.note own).0 x.clear).held in omega (arith, e, l)
 
-  no_start : (p : PartitionParts) → In p (partitions_of own) → start_of p.end (clear_notes own) ≡ None
+  -- A copy without a start, which can't get one.
+  unstarted : (p : PartitionParts) → In p (partitions_of own) → start_of p.end (clear_notes own) ≡ None
       → (start_of b (clear_notes all) ≡ None) ⊎ ((d : CopyInfo) × In d (copies_of own) × (p.offset < d.partition))
-      → start_of p.end (clear_notes all) ≡ None
-  no_start p there none f = none_there all p.end (union_is_content b own other m) (λ s a.
-      elim (cases_lt s b) [
-        | inl t ↦ (
-            let before = start_stays all own p.end b s (λ n l g. let q = same_below p.end n l g in (q.1, q.0)) t a in
-            let u = (start_is own p.end s m.own_is.content).1 before in cc (u, none))
-        | inr high ↦ elim f [
-          | inl g ↦ (
-              let u = (start_is all b s (union_is_content b own other m)).1
-              (from_boundary p.end s (own_end p there) high a) in cc (u, g))
-          | inr d ↦ not_behind p there d.0 d.1 d.2 s high a
-        ]
-      ])
+      → IsUnmet b 18446744073709551615 own all p
+  unstarted p there e (inl none) = IsUnmet.none_begins e (own_end p there) none
+  unstarted p there e (inr d) =
+      let q = of_partition own d.0 d.1 in
+      let at : d.0.partition ≡ q.partition.offset =
+      ap (λ (c : CopyInfo). c.partition) q.copy ∙ copy_there (clear_notes own) q.partition in
+      IsUnmet.shut_off e q.partition q.there (omega (arith, d.2, at)) (own_end q.partition q.there)
 
   -- ---- what is counted
 
@@ -246,7 +175,10 @@ module _ (b : ℕ) (own other : List NoteParts) (m : MeetAt b own other) where
       ≡ counted_above all b starting (copy_from (clear_notes own) p o) (copy_from (clear_notes own) p o).start) [
         | Some s ↦ λ e. (
             let low : s < b = own_starts p.end s ((start_is own p.end s m.own_is.content).0 e) in
-            ap (copy_from (clear_notes all) p) (start_kept p.end s e) ∙ with_start p s (omega (arith, low)))
+            let found = start_kept own all p.end b s m.own_is.content is_content
+            (same_apart b 18446744073709551615 own all merged_above m.own_is.content is_content p.end b
+            (inr (omega arith))) low e in
+            ap (copy_from (clear_notes all) p) found ∙ with_start p s (omega (arith, low)))
         | None ↦ λ e. (
             let c = copy_from (clear_notes own) p None in
             let note = of_note own p there in
@@ -261,10 +193,12 @@ module _ (b : ℕ) (own other : List NoteParts) (m : MeetAt b own other) where
                   let at = copy_there (clear_notes own) p in
                   let k = f (copy_of (clear_notes own) p) (has_copy own p there states)
                   (ap (λ o. is_of o starting) at ∙ t) in
-                  ap (copy_from (clear_notes all) p) (no_start p there e (elim k [
+                  unmet_stays b 18446744073709551615 own all merged_above m.own_is.content is_content p there
+                  (ltb-true 0 p.pack.numbers.header_byte_count states) (unstarted p there e (elim k [
                     | inl g ↦ inl g
                     | inr d ↦ inr (d.0, d.1, subst (λ o. o < d.0.partition) at d.2)
-                  ])))
+                  ]))
+                  ∙ ap (copy_from (clear_notes own) p) e)
             ] refl)
       ] refl
 

@@ -1,18 +1,16 @@
 -- A content and notes that begin where it ends, or above: the clear notes of both are those of the one and then those
 -- of the other.
-use Rattle.mxf_views.proofs.Common.{◌≡◌, ℕ, ◌+◌, ◌-◌, ◌≤◌, ◌⊎◌, Bool, cond, List, [], ◌++◌, sym, ap}
+use Rattle.mxf_views.proofs.Common.{◌≡◌, ℕ, ◌+◌, ◌-◌, ◌≤◌, ◌⊎◌, Bool, cond, List, [], ◌∷◌, ◌++◌, sym, ap, subst}
 use Rattle.mxf_views.proofs.Common.{◌∙◌, inl, inr, arith, leb-true, le-leb, ◌↔◌, nat_le, filter, map}
 use Rattle.mxf_views.proofs.Common.{count_by, and_from, and_parts, NoteParts, IsNote, end_of, In, AreReduced}
 use Rattle.mxf_views.proofs.Common.{IsCatalogue, IsContent, union_of, LiesIn, Run, IsClear, clear_notes}
 use Rattle.mxf_views.proofs.Common.{lies_in, same_content, In-clear_notes, IsContent-clear_notes, zone_of}
 use Rattle.mxf_views.proofs.Common.{offsets_where, MeetAt, clear_from, all-In, In-append}
 use Rattle.mxf_views.proofs.Common.{same_bool, map-append, filter-append, reduced_union, Covers, In-union_of}
-use Rattle.mxf_views.proofs.Common.{IsContent-union_of, filter_none, filter_all, covers_first}
-use Rattle.mxf_catalogue.proofs.HeadLaws.{reduced-same, reduced_union-is}
+use Rattle.mxf_views.proofs.Common.{IsContent-union_of, filter_none, filter_all, covers_first, reduced_with, IsUnionAt}
+use Rattle.mxf_catalogue.proofs.HeadLaws.{reduced-same, reduced_union-is, reduced_union-none}
 use Rattle.mxf_klv.proofs.Lists.{filter_alike}
 use Rattle.mxf_catalogue.proofs.ClearLaws.{clear_in_union, contents_append}
-
--- ---- lists
 
 -- ---- the clear notes
 
@@ -181,3 +179,51 @@ meet_at end own other others c d p q covers_other greatest above = record {
       let first : n.offset ≤ n.offset = omega arith in
       above n.offset ((covers_other n.offset).1 (n, h, record { from = first; before = covers_first n }));
 }
+
+-- One note that begins where a catalogue ends, or above.
+pub meet_one : (end : ℕ) (own : List NoteParts) (x : NoteParts) → IsCatalogue own → AreReduced own → IsNote x
+    → ((bound : ℕ) → end ≤ bound ↔ ((n : NoteParts) → In n own → end_of n ≤ bound)) → end ≤ x.offset
+    → MeetAt end own (x ∷ [])
+meet_one end own x c p is greatest above = record {
+  own_is = c;
+  other_is = record { content = (tt, tt); members = (is, tt) };
+  own_reduced = p;
+  other_reduced = λ n h k. k.2 (alone k.0 k.1 ∙ sym (alone n h));
+  ends = (greatest end).0 (omega arith);
+  begins = λ n h. subst (λ (y : NoteParts). end ≤ y.offset) (sym (alone n h)) above;
+}
+  where
+    alone : (n : NoteParts) → In n (x ∷ []) → n ≡ x
+    alone n (inl e) = e
+    alone n (inr h) = absurd h
+
+pub with_one_above : (b : ℕ) (notes own : List NoteParts) (x : NoteParts) → MeetAt b own (x ∷ [])
+    → notes ≡ reduced_with x own → IsUnionAt b notes own
+with_one_above b notes own x m e =
+    record { other = x ∷ []; meet = m; union = e ∙ union_is_reduced b own (x ∷ []) m }
+
+-- All notes begin where none ends.
+meet_none : (notes : List NoteParts) → IsCatalogue notes → AreReduced notes → MeetAt 0 [] notes
+meet_none notes c r = record {
+  own_is = record { content = tt; members = tt };
+  other_is = c;
+  own_reduced = λ n h k. absurd h;
+  other_reduced = r;
+  ends = λ n h. absurd h;
+  begins = λ n h. omega arith;
+}
+
+pub all_above_none : (notes : List NoteParts) → IsCatalogue notes → AreReduced notes → IsUnionAt 0 notes []
+all_above_none notes c r = record {
+  other = notes;
+  meet = meet_none notes c r;
+  union = sym (reduced_union-none notes c.content r) ∙ union_is_reduced 0 [] notes (meet_none notes c r);
+}
+
+-- From the first offset on there are all clear notes.
+pub all_from_none : (notes : List NoteParts) → IsCatalogue notes → AreReduced notes
+    → clear_from 0 notes ≡ clear_notes notes
+all_from_none notes c r =
+    let meet = meet_none notes c r in
+    ap (clear_from 0) (sym (reduced_union-none notes c.content r) ∙ union_is_reduced 0 [] notes meet)
+    ∙ new_are_clear 0 [] notes meet

@@ -1,11 +1,8 @@
 -- Offsets of notes, put behind others one after another.
 use Rattle.mxf_views.proofs.Common.{◌≡◌, ◌∙◌, ℕ, ◌+◌, ◌++◌, ◌≤◌, Bool, true, false, List, [], ◌∷◌, ap, append-nil}
-use Rattle.mxf_views.proofs.Common.{append_assoc, arith, refl, sym, cond, count_by, filter, map, vec_capacity, vec_len}
-use Rattle.mxf_views.proofs.Common.{Global, Vec, NoteParts, IsCatalogue, is_placed, offsets_where, clear_from}
-use Rattle.mxf_views.proofs.Common.{count_by-cons}
-use Rattle.mxf_views.specs.declared.kept.offsets.Placed.{Placed}
+use Rattle.mxf_views.proofs.Common.{append_assoc, arith, refl, sym, cond, count_by, filter, length, map, vec_capacity}
+use Rattle.mxf_views.proofs.Common.{vec_len, Global, Vec, NoteParts, is_placed, count_by-cons, Placed}
 use Rattle.mxf_views.specs.Kept.{offsets_among}
-use Rattle.mxf_views.proofs.SumLaws.{all_from_none}
 
 -- What is there and what the notes left bring are the offsets before and those of all new notes, and there is room.
 pub record AreAppended (kind : Placed) (before now : Vec ℕ Global) (left new : List NoteParts) : Type 0 where
@@ -13,10 +10,10 @@ pub record AreAppended (kind : Placed) (before now : Vec ℕ Global) (left new :
   pub room : vec_len now + count_by (is_placed kind) left ≤ vec_capacity now
 
 pub appended_none : (kind : Placed) (list : Vec ℕ Global) (left new : List NoteParts) → left ≡ new
-    → vec_len list + count_by (is_placed kind) new ≤ vec_capacity list → AreAppended kind list list left new
+    → length list.items + count_by (is_placed kind) new ≤ vec_capacity list → AreAppended kind list list left new
 appended_none kind list left new e room = record {
   items = ap (λ l. list.items ++ offsets_among (is_placed kind) l) e;
-  room = (let many = ap (count_by (is_placed kind)) e in omega (arith, many, room));
+  room = (let many = ap (count_by (is_placed kind)) e in omega (arith, many, room, list.ok.0));
 }
 
 first_among : (test : NoteParts → Bool) (n : NoteParts) (rest : List NoteParts)
@@ -60,10 +57,3 @@ pub appended_all : (kind : Placed) (before now : Vec ℕ Global) (left new : Lis
     → now.items ≡ before.items ++ offsets_among (is_placed kind) new
 appended_all kind before now left new a e =
     sym (append-nil now.items) ∙ ap (λ l. now.items ++ offsets_among (is_placed kind) l) (sym e) ∙ a.items
-
--- Behind none, those of the clear notes from the first offset on are those of all clear notes.
-pub appended_to_none : (kind : Placed) (notes : List NoteParts) (before now : List ℕ) → IsCatalogue notes → before ≡ []
-    → now ≡ before ++ offsets_among (is_placed kind) (clear_from 0 notes) → now ≡ offsets_where (is_placed kind) notes
-appended_to_none kind notes before now c none is =
-    is ∙ ap (λ l. l ++ offsets_among (is_placed kind) (clear_from 0 notes)) none
-    ∙ ap (offsets_among (is_placed kind)) (all_from_none notes c)

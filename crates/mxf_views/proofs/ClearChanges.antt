@@ -1,23 +1,19 @@
 -- What adding a note changes among the clear notes, and among the offsets where clear notes of a kind stand.
-use Rattle.mxf_views.proofs.Common.{◌≡◌, ℕ, ◌<◌, ◌≤◌, ◌⊎◌, Bool, true, false, List, [], ◌∷◌, Some, None, refl}
-use Rattle.mxf_views.proofs.Common.{sym, ap, subst, ◌∙◌, inl, inr, arith, leb-true, le-leb, eqb-true, eq-eqb, ◌↔◌, ◌||◌}
-use Rattle.mxf_views.proofs.Common.{◌==◌, nat_le, nat_lt, filter, find, map, max, nat_cmp-IsAntisymmetric, nat_cmp}
-use Rattle.mxf_views.proofs.Common.{ltb-true, lt-ltb, nat_cmp_total, NoteParts, end_of}
-use Rattle.mxf_views.proofs.Common.{In, IsRising, with_one, same_from_members, IsContent}
-use Rattle.mxf_views.proofs.Common.{reduced_with, IsClear, SharesByte, clear_notes, In-clear_notes, clear-alone}
-use Rattle.mxf_views.proofs.Common.{AreApart-clear_notes, AreApart-filter, IsHull, followed, is_outside, notes_at}
-use Rattle.mxf_views.proofs.Common.{offsets_where, In-filter, In-map, found-In, none_found, cases_lt, min}
-use Rattle.mxf_views.proofs.Common.{IsRising-with_one, IsContent-reduced_with}
-use Rattle.mxf_views.proofs.Common.{clear_at-found, rising_apart, stands_clear, rising-filter, In-with_new}
-use Rattle.mxf_views.proofs.Common.{IsNew, clear_after}
+use Rattle.mxf_views.proofs.Common.{◌≡◌, ℕ, ◌<◌, ◌≤◌, ◌⊎◌, Bool, true, false, List, [], ◌∷◌, Some, None, refl, sym}
+use Rattle.mxf_views.proofs.Common.{ap, subst, ◌∙◌, inl, inr, arith, leb-true, le-leb, eqb-true, ◌↔◌, ◌||◌, ◌==◌}
+use Rattle.mxf_views.proofs.Common.{nat_le, nat_lt, filter, find, map, max, nat_cmp-IsAntisymmetric, nat_cmp}
+use Rattle.mxf_views.proofs.Common.{ltb-true, lt-ltb, nat_cmp_total, NoteParts, end_of, In, IsRising, with_one}
+use Rattle.mxf_views.proofs.Common.{same_from_members, IsContent, reduced_with, IsClear, SharesByte, clear_notes}
+use Rattle.mxf_views.proofs.Common.{In-clear_notes, clear-alone, AreApart-clear_notes, AreApart-filter, IsHull}
+use Rattle.mxf_views.proofs.Common.{followed, is_outside, notes_at, offsets_where, In-filter, In-map, found-In}
+use Rattle.mxf_views.proofs.Common.{cases_lt, min, IsRising-with_one, IsContent-reduced_with, clear_at-found}
+use Rattle.mxf_views.proofs.Common.{rising_apart, stands_clear, rising-filter, IsNew, clear_after}
 use Rattle.mxf_klv.specs.Rising.{In-with_one}
 use Rattle.mxf_catalogue.proofs.DisputeLaws.{SharesByte-symmetric}
 use Rattle.mxf_catalogue.specs.NoteLists.{touching}
 use Rattle.mxf_catalogue.proofs.PartLaws.{In-touching}
 use Rattle.mxf_views.specs.Kept.{passes}
-use Rattle.mxf_catalogue.proofs.ClearLaws.{ordered, shared_low, shares}
-
--- ---- which notes are clear
+use Rattle.mxf_catalogue.proofs.ClearLaws.{ordered, shared_low, shares, In-with_new}
 
 -- ---- the hull of what comes and goes
 
@@ -61,7 +57,7 @@ outside_by start end n (inr l) =
     ]
 
 -- What the test says of an offset.
-outside_says : (start end offset : ℕ) → is_outside start end offset ≡ true → start ≤ offset → offset < end → ⊥
+pub outside_says : (start end offset : ℕ) → is_outside start end offset ≡ true → start ≤ offset → offset < end → ⊥
 outside_says start end offset e low high =
     elim (nat_lt offset start) as (λ b. nat_lt offset start ≡ b → (b || nat_le end offset) ≡ true → ⊥) [
       | true ↦ λ f g. let l : offset < start = ltb-true offset start f in omega arith
@@ -212,37 +208,24 @@ In-offsets_after test x notes start end new h o =
       ],
     )
 
--- Where the new note is clear and of the kind, its offset joins those outside.
-pub offsets_with : (test : NoteParts → Bool) (x : NoteParts) (notes : List NoteParts) (start end : ℕ)
-    → IsContent notes → IsNew x notes → IsHull x notes start end → IsClear x (reduced_with x notes)
-    → test x ≡ true
-    → with_one nat_cmp x.offset (filter (is_outside start end) (offsets_where test notes))
-    ≡ offsets_where test (reduced_with x notes)
-offsets_with test x notes start end r new h clear kind =
-    let before = filter (is_outside start end) (offsets_where test notes) in
-    let rising = rising-filter nat_cmp (is_outside start end) (offsets_where test notes) (offsets_rise test notes r) in
-    same_from_members nat_cmp_total nat_cmp-IsAntisymmetric (with_one nat_cmp x.offset before)
-    (offsets_where test (reduced_with x notes))
-    (IsRising-with_one nat_cmp_total nat_cmp-IsAntisymmetric x.offset before rising)
-    (offsets_rise test (reduced_with x notes) (IsContent-reduced_with x notes r)) (λ o.
-    let one = In-with_one nat_cmp_total nat_cmp-IsAntisymmetric o x.offset before in
-    let after = In-offsets_after test x notes start end new h o in (
-      λ k. after.1 (elim (one.0 k) [ inl e ↦ inl (clear, kind, e) | inr i ↦ inr i ]),
-      λ k. one.1 (elim (after.0 k) [ inl e ↦ inl e.2 | inr i ↦ inr i ]),
-    ))
-
--- Else those outside are all.
-pub offsets_without : (test : NoteParts → Bool) (x : NoteParts) (notes : List NoteParts) (start end : ℕ)
-    → IsContent notes → IsNew x notes → IsHull x notes start end
-    → (IsClear x (reduced_with x notes) → test x ≡ true → ⊥)
-    → filter (is_outside start end) (offsets_where test notes) ≡ offsets_where test (reduced_with x notes)
-offsets_without test x notes start end r new h none =
-    same_from_members nat_cmp_total nat_cmp-IsAntisymmetric (filter (is_outside start end) (offsets_where test notes))
-    (offsets_where test (reduced_with x notes))
-    (rising-filter nat_cmp (is_outside start end) (offsets_where test notes) (offsets_rise test notes r))
-    (offsets_rise test (reduced_with x notes) (IsContent-reduced_with x notes r)) (λ o.
-    let after = In-offsets_after test x notes start end new h o in
-    (λ i. after.1 (inr i), λ k. elim (after.0 k) [ inl e ↦ absurd (none e.0 e.1) | inr i ↦ i ]))
+-- The new note is clear and of the kind exactly where such a note stands at its offset.
+new_stands : (test : NoteParts → Bool) (x : NoteParts) (notes : List NoteParts) → IsNew x notes
+    → (stands_clear test (reduced_with x notes) x.offset ≡ true) ↔ (IsClear x (reduced_with x notes) × (test x ≡ true))
+new_stands test x notes new =
+    let after = reduced_with x notes in
+    let at = λ (n : NoteParts). n.offset == x.offset in (
+      λ t. elim (find at (clear_notes after)) as (λ o. find at (clear_notes after) ≡ o → passes test o ≡ true
+          → IsClear x after × (test x ≡ true)) [
+            | None ↦ λ e f. absurd cc
+            | Some n ↦ λ e f. (
+                let k = found-In at (clear_notes after) n e in
+                let clear = (In-clear_notes n after).0 k.0 in
+                let held = (In-with_new x x notes new).1 (inl refl) in
+                let same : n ≡ x = clear-alone n x after clear held (eqb-true n.offset x.offset k.1) in
+                subst (λ (y : NoteParts). IsClear y after × (test y ≡ true)) same (clear, f))
+          ] refl t,
+      λ s. ap (passes test) (clear_at-found x.offset after x s.0 refl) ∙ s.1,
+    )
 
 -- So they are what follows an arrival.
 pub offsets_follow : (test : NoteParts → Bool) (x : NoteParts) (notes : List NoteParts) (start end : ℕ)
@@ -250,26 +233,29 @@ pub offsets_follow : (test : NoteParts → Bool) (x : NoteParts) (notes : List N
     → followed (stands_clear test (reduced_with x notes) x.offset) x.offset start end (offsets_where test notes)
     ≡ offsets_where test (reduced_with x notes)
 offsets_follow test x notes start end r new h =
-    let after = reduced_with x notes in
-    let held = (In-with_new x x notes new).1 (inl refl) in
-    let offsets = offsets_where test notes in
-    elim (find (λ n. n.offset == x.offset) (clear_notes after)) as (λ o.
-    find (λ n. n.offset == x.offset) (clear_notes after) ≡ o
-    → followed (passes test o) x.offset start end offsets ≡ offsets_where test after) [
-      | None ↦ λ e. offsets_without test x notes start end r new h (λ clear t.
-          none_found (λ (n : NoteParts). n.offset == x.offset) (clear_notes after) x e
-          ((In-clear_notes x after).1 clear)
-          (eq-eqb x.offset x.offset refl))
-      | Some n ↦ λ e. (
-          let f = found-In (λ (n : NoteParts). n.offset == x.offset) (clear_notes after) n e in
-          let clear = (In-clear_notes n after).0 f.0 in
-          let same : n ≡ x = clear-alone n x after clear held (eqb-true n.offset x.offset f.1) in
-          let own : IsClear x after = subst (λ (y : NoteParts). IsClear y after) same clear in
-          elim (test n) as (λ b. test n ≡ b → followed b x.offset start end offsets ≡ offsets_where test after) [
-            | true ↦ λ t. offsets_with test x notes start end r new h own (ap test (sym same) ∙ t)
-            | false ↦ λ t. offsets_without test x notes start end r new h (λ c u.
-                let v : test n ≡ true = ap test same ∙ u in cc (v, t))
-          ] refl)
+    let all = offsets_where test (reduced_with x notes) in
+    let all_rise = offsets_rise test (reduced_with x notes) (IsContent-reduced_with x notes r) in
+    let left = filter (is_outside start end) (offsets_where test notes) in
+    let rising = rising-filter nat_cmp (is_outside start end) (offsets_where test notes) (offsets_rise test notes r) in
+    let stands = new_stands test x notes new in
+    let among = In-offsets_after test x notes start end new h in
+    elim (stands_clear test (reduced_with x notes) x.offset) as (λ b.
+    stands_clear test (reduced_with x notes) x.offset ≡ b
+    → followed b x.offset start end (offsets_where test notes) ≡ all) [
+      | true ↦ λ e. same_from_members nat_cmp_total nat_cmp-IsAntisymmetric (with_one nat_cmp x.offset left) all
+          (IsRising-with_one nat_cmp_total nat_cmp-IsAntisymmetric x.offset left rising) all_rise (λ o.
+          let one = In-with_one nat_cmp_total nat_cmp-IsAntisymmetric o x.offset left in
+          let s = stands.0 e in (
+            λ k. (among o).1 (elim (one.0 k) [ inl q ↦ inl (s.0, s.1, q) | inr i ↦ inr i ]),
+            λ k. one.1 (elim ((among o).0 k) [ inl q ↦ inl q.2 | inr i ↦ inr i ]),
+          ))
+      | false ↦ λ e. same_from_members nat_cmp_total nat_cmp-IsAntisymmetric left all rising all_rise (λ o. (
+        λ i. (among o).1 (inr i),
+        λ k. elim ((among o).0 k) [
+          | inl q ↦ (let u = stands.1 (q.0, q.1) in absurd cc (u, e))
+          | inr i ↦ i
+        ],
+      ))
     ] refl
 
 -- ---- the notes at their offsets

@@ -9,19 +9,17 @@ pub use Rattle.std.proofs.Common.{rules, set, subst, suc, sym, take, true, vec_c
 pub use Rattle.std.proofs.Common.{◌+◌, ◌-◌, ◌<◌, ◌==◌, ◌^◌, ◌||◌, ◌↔◌, ◌∙◌, ◌∷◌, ◌≡◌, ◌≢◌, ◌≤◌, ◌⊎◌}
 pub use Rattle.mxf_catalogue.proofs.ApartLaws.{apart_rises, begins_above, later_differs, picked_none, picked_one}
 pub use Rattle.mxf_catalogue.proofs.ApartLaws.{picked_several}
-pub use Rattle.mxf_catalogue.proofs.ClearLaws.{In-with_new, IsNew, clear-laid, clear_after, clear_same, no_head}
+pub use Rattle.mxf_catalogue.proofs.ClearLaws.{IsNew, clear-laid, clear_after, clear_same, no_head}
 pub use Rattle.mxf_catalogue.proofs.ContentLaws.{In-union_of, IsContent-union_of, same_content}
 pub use Rattle.mxf_catalogue.proofs.DisputeLaws.{In-clear_notes, IsContent-clear_notes, IsContent-filter}
-pub use Rattle.mxf_catalogue.proofs.DisputeLaws.{SharesByte-same_offset, clear-alone, clear_at-found}
+pub use Rattle.mxf_catalogue.proofs.DisputeLaws.{clear-alone, clear_at-found}
 pub use Rattle.mxf_catalogue.proofs.DisputeLaws.{is_disputed-IsDisputed}
 pub use Rattle.mxf_catalogue.proofs.HeadLaws.{In-reduced_with, IsContent-reduced_with, same_note}
-pub use Rattle.mxf_catalogue.proofs.LaidNotes.{SameClear}
 pub use Rattle.mxf_catalogue.proofs.MovedLaws.{rising_apart}
 pub use Rattle.mxf_catalogue.proofs.PartLaws.{with_whole}
 pub use Rattle.mxf_catalogue.proofs.Places.{search_says}
 pub use Rattle.mxf_catalogue.proofs.RunBounds.{covers_first, has_byte}
-pub use Rattle.mxf_catalogue.proofs.SpanLaws.{AreApart-clear_notes, AreApart-filter, AreApart-lower, ends_before}
-pub use Rattle.mxf_catalogue.proofs.SpanLaws.{less_by_offset}
+pub use Rattle.mxf_catalogue.proofs.SpanLaws.{AreApart-clear_notes, AreApart-filter, AreApart-lower}
 pub use Rattle.mxf_catalogue.specs.CatalogueFile.{file_bytes}
 pub use Rattle.mxf_catalogue.specs.Content.{AreReduced, IsCatalogue, IsContent, IsLocated, has_note, reduced_union}
 pub use Rattle.mxf_catalogue.specs.Content.{reduced_with, union_of}
@@ -71,6 +69,7 @@ pub use Rattle.mxf_sets.specs.Storage.{storage_at}
 pub use Rattle.mxf_sets.specs.declared.pack.part.PackPart.{PackPart}
 pub use Rattle.mxf_sets.specs.declared.pack.part.PackPart.TheVariants.{Body, Footer, Header}
 pub use Rattle.mxf_sets.specs.declared.pack.random_index.RipEntry.{RipEntry}
+pub use Rattle.mxf_views.specs.Changes.{IsUnmet, SameOutside}
 pub use Rattle.mxf_views.specs.Codes.{finding, finding_cmp, finding_cmp-IsAntisymmetric, finding_total}
 pub use Rattle.mxf_views.specs.Copies.{AreSoMany, CopiesRise, CountsZone, IsBest, IsCopy, IsFilled, IsPrefaceIn}
 pub use Rattle.mxf_views.specs.Copies.{IsPreferred, IsPrimerOf, IsSetKind, IsStart, IsStartFound, best_of, better}
@@ -85,12 +84,13 @@ pub use Rattle.mxf_views.specs.Findings.{has_other_rip, is_partial, is_unfit_rip
 pub use Rattle.mxf_views.specs.Findings.{lost_by, offsets_for, reads_value}
 pub use Rattle.mxf_views.specs.Gaps.{AreGaps, gaps_from, gaps_of}
 pub use Rattle.mxf_views.specs.Identified.{is_below, is_of, unreadable_offsets, with_uid}
-pub use Rattle.mxf_views.specs.Kept.{IsHull, IsStartBelow, KeptParts, StartsRise, copies_followed, copy_by, followed}
+pub use Rattle.mxf_views.specs.Kept.{HasRoom, IsHull, IsStartBelow, KeptParts, MeetAt, StartsRise, copies_followed}
+pub use Rattle.mxf_views.specs.Kept.{copy_by, followed, kept_in, nothing_kept}
 pub use Rattle.mxf_views.specs.Kept.{has_some_metadata, is_outside, is_placed, kept_of, lies_between, notes_at}
 pub use Rattle.mxf_views.specs.Kept.{offsets_where, or_itself, reaches_from, reaches_of, renewed, stands_clear}
 pub use Rattle.mxf_views.specs.Kept.{states_metadata, with_copy, with_found}
 unfoldable pub use Rattle.mxf_views.specs.Kept.{can_bring_start}
-pub use Rattle.mxf_views.specs.KeptAbove.{EndsBy, IsOfNone, IsStarting, IsUnionAt, MeetAt, clear_from, counted_above}
+pub use Rattle.mxf_views.specs.KeptAbove.{EndsBy, IsOfNone, IsStarting, IsUnionAt, clear_from, counted_above}
 pub use Rattle.mxf_views.specs.Labels.{is_in_copy, is_in_zone, primer_there}
 unfoldable pub use Rattle.mxf_views.specs.Labels.{primer_for}
 pub use Rattle.mxf_views.specs.Partitions.{AreInOrder, HangTogether, IsGreatestBelow, IsLink, PartitionParts, StandsAt}
@@ -133,6 +133,7 @@ pub use Rattle.mxf_views.specs.declared.finding.Finding.{Finding}
 pub use Rattle.mxf_views.specs.declared.index.place.Pair.{Pair}
 pub use Rattle.mxf_views.specs.declared.index.place.Place.{Place}
 pub use Rattle.mxf_views.specs.declared.index.place.Place.TheVariants.{Ambiguous, At, NotIndexed}
+pub use Rattle.mxf_views.specs.declared.kept.offsets.Placed.{Placed}
 pub use Rattle.mxf_views.specs.declared.kept.sums.Mark.{Mark}
 pub use Rattle.mxf_views.specs.declared.random_index.RipView.TheVariants.{Absent, One}
 pub use Rattle.mxf_views.specs.declared.reference.Found.{Found}

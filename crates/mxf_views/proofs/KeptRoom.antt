@@ -1,13 +1,13 @@
 -- How much room is wanted for what is kept of two contents.
-use Rattle.mxf_views.proofs.Common.{Ok, Err, ◌≡◌, ◌≤◌, ◌+◌, ℕ, Bool, List, sym}
-use Rattle.mxf_views.proofs.Common.{ap, ◌∙◌, arith, length, count_by, filter, length-map, NoteParts}
-use Rattle.mxf_views.proofs.Common.{AreReduced, IsContent}
-use Rattle.mxf_views.proofs.Common.{clear_notes, copies_of, OnOk}
-use Rattle.mxf_views.proofs.Common.{Result, vec_capacity, vec_len, KeptParts, is_placed, offsets_where, states_metadata}
-use Rattle.mxf_views.proofs.Common.{reduced_union}
-use Rattle.mxf_views.proofs.Common.{kept_of}
+use Rattle.mxf_views.proofs.Common.{◌≡◌, ◌≤◌, ◌+◌, ℕ, Bool, List, [], ◌∷◌, not, sym, subst, ap, ◌∙◌, arith, length}
+use Rattle.mxf_views.proofs.Common.{count_by, filter, length-map, NoteParts, AreReduced, IsContent, clear_notes}
+use Rattle.mxf_views.proofs.Common.{copies_of, count_by-le-length, is_disputed, KeptParts, is_placed, offsets_where}
+use Rattle.mxf_views.proofs.Common.{states_metadata, kept_of, length-filter_le, reduced_union, reduced_with, MeetAt}
+use Rattle.mxf_views.proofs.Common.{clear_from, Placed, HasRoom, kept_in, nothing_kept}
+use Rattle.mxf_catalogue.specs.Disputes.{undisputed_notes}
 use Rattle.mxf_views.specs.declared.kept.KeptLists.{KeptLists}
-use Rattle.mxf_views.specs.Kept.{HasRoom, kept_in}
+use Rattle.mxf_views.specs.Kept.{HasRoomForOne}
+use Rattle.mxf_views.proofs.AboveLaws.{new_are_clear, union_is_reduced}
 use Rattle.mxf_views.proofs.CopyUpdates.{length-copies_of}
 use Rattle.mxf_views.proofs.ReachLaws.{length-reaches_from}
 use Rattle.mxf_catalogue.proofs.ClearLaws.{count_in_union, count_is_length}
@@ -22,48 +22,44 @@ pub length-kept_copies : (notes : List NoteParts) → length (copies_of notes)
     ≡ count_by states_metadata (clear_notes notes)
 length-kept_copies notes = length-copies_of notes ∙ sym (count_is_length states_metadata (clear_notes notes))
 
+-- Room for one more of each is room for what is kept of one note from a boundary on.
+pub room_for_one : (b : ℕ) (notes own : List NoteParts) (x : NoteParts) (k : KeptLists) → MeetAt b own (x ∷ [])
+    → notes ≡ reduced_with x own → HasRoomForOne k → HasRoom (kept_in k) (clear_from b notes) k
+room_for_one b notes own x k m e room = record {
+  partitions = omega (arith, one (is_placed kinds.Partition), room.partitions, k.partitions.ok.0);
+  segments = omega (arith, one (is_placed kinds.Segment), room.segments, k.segments.ok.0);
+  rips = omega (arith, one (is_placed kinds.RandomIndexPack), room.rips, k.random_index_packs.ok.0);
+  unreadable = omega (arith, one (is_placed kinds.UnreadablePack), room.unreadable, k.unreadable_packs.ok.0);
+  copies = omega (arith, one states_metadata, room.copies, k.copies.ok.0);
+  reaches = omega (arith, one states_metadata, room.reaches, k.reaches.ok.0);
+}
+  where
+    one : (test : NoteParts → Bool) → count_by test (clear_from b notes) ≤ 1
+    one test =
+        let is = ap (clear_from b) (e ∙ union_is_reduced b own (x ∷ []) m) ∙ new_are_clear b own (x ∷ []) m in
+        let some = count_by-le-length test (clear_from b notes) in
+        let whole = length-filter_le (λ (n : NoteParts). n.whole) (undisputed_notes (x ∷ [])) in
+        let clear = length-filter_le (λ n. not (is_disputed n (x ∷ []))) (x ∷ []) in
+        omega (arith, some, ap length is, whole, clear)
+
 -- Room for those of another besides what is kept is room for the union.
-pub room_for_both : {E : Type 0} (own other : List NoteParts) (old k : KeptLists) (result : Result (Unit {0}) E)
-    → IsContent own → IsContent other → AreReduced own → AreReduced other → kept_in old ≡ kept_of own
-    → OnOk result (vec_len old.partitions + count_by (is_placed kinds.Partition) (clear_notes other)
-    ≤ vec_capacity k.partitions)
-    → OnOk result (vec_len old.segments + count_by (is_placed kinds.Segment) (clear_notes other)
-    ≤ vec_capacity k.segments)
-    → OnOk result (vec_len old.random_index_packs + count_by (is_placed kinds.RandomIndexPack) (clear_notes other)
-    ≤ vec_capacity k.random_index_packs)
-    → OnOk result (vec_len old.unreadable_packs + count_by (is_placed kinds.UnreadablePack) (clear_notes other)
-    ≤ vec_capacity k.unreadable_packs)
-    → OnOk result (vec_len old.copies + count_by states_metadata (clear_notes other) ≤ vec_capacity k.copies)
-    → OnOk result (vec_len old.reaches + count_by states_metadata (clear_notes other) ≤ vec_capacity k.reaches)
-    → OnOk result (HasRoom (reduced_union own other) k)
-room_for_both own other old k (Err e) r s p q keeps a b c u d f = tt
-room_for_both own other old k (Ok done) r s p q keeps a b c u d f =
-    let one = λ (kind : _) (len cap : ℕ) (os : List ℕ) (l : len ≡ length os)
-    (same : os ≡ offsets_where (is_placed kind) own)
-    (room : len + count_by (is_placed kind) (clear_notes other) ≤ cap).
-    let number = l ∙ ap length same ∙ length-offsets_where (is_placed kind) own in
-    let both = count_in_union (is_placed kind) own other r s p q in
-    let fits : count_by (is_placed kind) (clear_notes (reduced_union own other)) ≤ cap = omega
-    (arith, number, both, room) in
-    fits in
+pub room_for_both : (own other : List NoteParts) (k : KeptLists) → IsContent own → IsContent other → AreReduced own
+    → AreReduced other → kept_in k ≡ kept_of own → HasRoom (kept_in k) (clear_notes other) k
+    → HasRoom nothing_kept (clear_notes (reduced_union own other)) k
+room_for_both own other k r s p q keeps room =
+    let there = subst (λ (parts : KeptParts). HasRoom parts (clear_notes other) k) keeps room in
+    let all = λ (kind : Placed). length-offsets_where (is_placed kind) own in
+    let copies = length-kept_copies own in
+    let reaches = length-reaches_from 0 (copies_of own) in
     record {
-      partitions = one kinds.Partition old.partitions.len (vec_capacity k.partitions) old.partitions.items
-          old.partitions.ok.0 (ap (λ (p : KeptParts). p.partitions) keeps) a;
-      segments = one kinds.Segment old.segments.len (vec_capacity k.segments) old.segments.items
-          old.segments.ok.0 (ap (λ (p : KeptParts). p.segments) keeps) b;
-      rips = one kinds.RandomIndexPack old.random_index_packs.len (vec_capacity k.random_index_packs)
-          old.random_index_packs.items old.random_index_packs.ok.0 (ap (λ (p : KeptParts). p.rips) keeps) c;
-      unreadable = one kinds.UnreadablePack old.unreadable_packs.len (vec_capacity k.unreadable_packs)
-          old.unreadable_packs.items old.unreadable_packs.ok.0 (ap (λ (p : KeptParts). p.unreadable) keeps) u;
-      copies =
-          (let number = ap length (ap (λ (p : KeptParts). p.copies) keeps) ∙ length-kept_copies own in
-          let both = count_in_union states_metadata own other r s p q in
-          let fits : count_by states_metadata (clear_notes (reduced_union own other)) ≤ vec_capacity k.copies =
-          omega (arith, number, both, d, old.copies.ok.0) in fits);
-      reaches =
-          (let number = ap length (ap (λ (p : KeptParts). p.reaches) keeps) ∙ length-reaches_from 0 (copies_of own)
-          ∙ length-kept_copies own in
-          let both = count_in_union states_metadata own other r s p q in
-          let fits : count_by states_metadata (clear_notes (reduced_union own other)) ≤ vec_capacity k.reaches =
-          omega (arith, number, both, f, old.reaches.ok.0) in fits);
+      partitions = omega (arith, both (is_placed kinds.Partition), all kinds.Partition, there.partitions);
+      segments = omega (arith, both (is_placed kinds.Segment), all kinds.Segment, there.segments);
+      rips = omega (arith, both (is_placed kinds.RandomIndexPack), all kinds.RandomIndexPack, there.rips);
+      unreadable = omega (arith, both (is_placed kinds.UnreadablePack), all kinds.UnreadablePack, there.unreadable);
+      copies = omega (arith, both states_metadata, copies, there.copies);
+      reaches = omega (arith, both states_metadata, copies, reaches, there.reaches);
     }
+  where
+    both : (test : NoteParts → Bool) → count_by test (clear_notes (reduced_union own other))
+        ≤ count_by test (clear_notes own) + count_by test (clear_notes other)
+    both test = count_in_union test own other r s p q

@@ -7,7 +7,8 @@ use Rattle.mxf_views.proofs.Common.{In-clear_notes, AreApart-clear_notes, First,
 use Rattle.mxf_views.proofs.Common.{pack_of, partition_at, partitions_of, link_of, link_at, list_any-In, found-In}
 use Rattle.mxf_views.proofs.Common.{find-only, In-filter_map, cases_lt, leb-false, Link, Skips, Missing, Wrong}
 use Rattle.mxf_views.proofs.Common.{StandsAt, IsGreatestBelow, IsLink, stands_at, stands_between, apart_rises}
-use Rattle.mxf_views.proofs.Common.{one_by_key, rises-filter_map}
+use Rattle.mxf_views.proofs.Common.{one_by_key, rises-filter_map, keeps_value, none_some, pack_under, part_and_status}
+use Rattle.mxf_views.proofs.Common.{result_ok}
 use Rattle.mxf_views.specs.Partitions.{IsReadablePack, IsPartition, IsLinkAt, previous_of}
 use Rattle.mxf_views.proofs.ReadingLaws.{reads}
 use Rattle.mxf_views.proofs.Rising.{by_offset}
@@ -38,6 +39,20 @@ readable_to n p a =
     let o = a.offset in
     let e = a.end in
     ap (option_map (placed n)) r ∙ (λ i. Some record { offset = sym o i; end = sym e i; pack = p.pack })
+
+-- A note whose kind isn't that of a partition pack is no partition.
+pub no_pack : (n : NoteParts) → part_and_status (kind_of n.key) ≡ None → pack_of n ≡ None
+no_pack n e =
+    elim (keeps_value n) as (λ k.
+    (if k then result_ok (pack_under (part_and_status (kind_of n.key)) n.held) else None) ≡ None) [
+      | false ↦ refl
+      | true ↦ ap (λ o. result_ok (pack_under o n.held)) e
+    ]
+
+pub not_partition : (n : NoteParts) (p : PartitionParts) → part_and_status (kind_of n.key) ≡ None
+    → partition_at n ≡ Some p → ⊥
+unfolding partition_at
+not_partition n p e q = none_some _ p (ap (option_map (placed n)) (no_pack n e)) q
 
 -- The partitions are those of the clear readable partition packs.
 pub partitions_are : (notes : List NoteParts) (p : PartitionParts)

@@ -1,11 +1,12 @@
 -- The primer pack of a set.
 use Rattle.mxf_views.proofs.Common.{◌≡◌, ℕ, ◌+◌, ◌<◌, ◌≤◌, Bool, true, false, cond, List, [], ◌∷◌, Option, Some, None}
-use Rattle.mxf_views.proofs.Common.{refl, sym, ap, subst, ◌∙◌, inl, inr, arith, eqb-true, eq-eqb, leb-true, le-leb, ◌↔◌}
-use Rattle.mxf_views.proofs.Common.{◌==◌, nat_le, find, option_and_then, NoteParts, end_of, In, primer_at, read_as}
-use Rattle.mxf_views.proofs.Common.{IsContent, IsClear, clear_notes, In-clear_notes, CopyInfo, CopiesRise, IsCopy}
-use Rattle.mxf_views.proofs.Common.{IsStart, copies_of, is_in_copy, primer_there, find-only, found-In, none_found}
-use Rattle.mxf_views.proofs.Common.{all-In, and_from, and_parts, BatchParts, SharesByte-same_offset, IsPrimerOf}
-use Rattle.mxf_views.proofs.Common.{IsStartFound, is_in_zone, primer_for, clear_same}
+use Rattle.mxf_views.proofs.Common.{refl, sym, ap, subst, ◌∙◌, inl, inr, arith, eqb-true, eq-eqb, leb-true, le-leb}
+use Rattle.mxf_views.proofs.Common.{◌↔◌, ◌==◌, nat_le, find, option_and_then, NoteParts, end_of, In, primer_at}
+use Rattle.mxf_views.proofs.Common.{read_as, IsContent, IsClear, clear_notes, In-clear_notes, CopyInfo, CopiesRise}
+use Rattle.mxf_views.proofs.Common.{IsCopy, IsStart, copies_of, is_in_copy, primer_there, find-only, found-In}
+use Rattle.mxf_views.proofs.Common.{none_found, all-In, and_from, and_parts, BatchParts, IsPrimerOf, IsStartFound}
+use Rattle.mxf_views.proofs.Common.{is_in_zone, primer_for, clear_same}
+use Rattle.mxf_catalogue.proofs.DisputeLaws.{SharesByte-same_offset}
 use Rattle.mxf_views.specs.Labels.{IsFirstWith, IsInZoneOf, IsPrimerFor, primer_of}
 use Rattle.mxf_views.proofs.CopyLaws.{copies_are, copies_rise, one_named}
 use Rattle.mxf_views.proofs.ReadingLaws.{reads}

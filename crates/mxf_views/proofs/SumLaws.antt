@@ -1,13 +1,13 @@
 -- The clear notes from a boundary on, and the copies of one after another.
-use Rattle.mxf_views.proofs.Common.{◌≡◌, ℕ, ◌+◌, ◌-◌, ◌≤◌, Bool, true, false, List, [], ◌∷◌, ◌++◌, refl, sym, ap}
-use Rattle.mxf_views.proofs.Common.{subst, inl, inr, append_assoc, ◌∙◌, arith, leb-true, le-leb, ◌&&◌, Option, Some}
-use Rattle.mxf_views.proofs.Common.{None, find, count_by, filter, nat_le, if◌then◌else◌, NoteParts, IsNote, end_of, In}
+use Rattle.mxf_views.proofs.Common.{◌≡◌, ℕ, ◌+◌, ◌-◌, ◌≤◌, true, false, List, [], ◌∷◌, ◌++◌, refl, sym, ap}
+use Rattle.mxf_views.proofs.Common.{subst, inl, append_assoc, ◌∙◌, arith, leb-true, le-leb, ◌&&◌, Option, Some}
+use Rattle.mxf_views.proofs.Common.{None, find, count_by, nat_le, if◌then◌else◌, NoteParts, IsNote, end_of, In}
 use Rattle.mxf_views.proofs.Common.{IsCatalogue, AreApart, clear_notes, lies_in, In-clear_notes, option_and_then}
 use Rattle.mxf_views.proofs.Common.{option_map, cons_option, filter_map, is_filled, is_readable_primer, is_start}
 use Rattle.mxf_views.proofs.Common.{start_of, zone_of, CopyInfo, copy_of, has_metadata, copy_by, has_some_metadata}
 use Rattle.mxf_views.proofs.Common.{states_metadata, clear_from, partition_at, count_by-cons, tally, all-In, In-filter}
 use Rattle.mxf_views.proofs.Common.{found-In, and_from, and_parts}
-use Rattle.mxf_klv.proofs.NoteFilters.{count_some, filter_twice}
+use Rattle.mxf_klv.proofs.NoteFilters.{filter_twice}
 
 -- A zone from the boundary on lies in the notes from there on.
 pub zone_above : (b start bytes : ℕ) (notes : List NoteParts) → IsCatalogue notes → b ≤ start
@@ -33,18 +33,6 @@ start_after end notes s e =
           (and_parts (is_readable_primer n && nat_le end n.offset) (is_filled end (n.offset - end) notes) t).0).1 in
           let same : n.offset ≡ s = cc (g) in omega (arith, l, same))
     ] refl e
-
--- From the first offset on there are all clear notes.
-pub all_from_none : (notes : List NoteParts) → IsCatalogue notes → clear_from 0 notes ≡ clear_notes notes
-all_from_none notes c = filter_every (lies_in 0 18446744073709551615) (clear_notes notes) (λ n h.
-    let within = (all-In IsNote notes n c.members ((In-clear_notes n notes).0 h).held).within in
-    and_from (nat_le 0 n.offset) (nat_le (end_of n) (0 + 18446744073709551615)) (le-leb 0 n.offset (omega arith))
-    (le-leb (end_of n) (0 + 18446744073709551615) (omega (arith, within))))
-  where
-    filter_every : (p : NoteParts → Bool) (ns : List NoteParts) → ((n : NoteParts) → In n ns → p n ≡ true)
-        → filter p ns ≡ ns
-    filter_every p [] f = refl
-    filter_every p (n ∷ ns) f = rw (f n (inl refl)) (ap (λ l. n ∷ l) (filter_every p ns (λ m h. f m (inr h))))
 
 -- The notes from the boundary on begin at or above it.
 pub apart_from : (b : ℕ) (notes left : List NoteParts) → left ≡ clear_from b notes → AreApart 0 left → AreApart b left
@@ -98,7 +86,3 @@ pub next_passed : (n : NoteParts) (left rest : List NoteParts) → left ≡ n �
 next_passed n left rest e =
     let all = ap (count_by states_metadata) e in
     let one = count_by-cons states_metadata n rest in omega (arith, all, one)
-
-pub count_from : (test : NoteParts → Bool) (b : ℕ) (notes : List NoteParts)
-    → count_by test (clear_from b notes) ≤ count_by test (clear_notes notes)
-count_from test b notes = count_some test (lies_in b 18446744073709551615) (clear_notes notes)

@@ -4,7 +4,7 @@ use Rattle.mxf_views.proofs.Common.{◌||◌, cond, count_by, is_some, not, opti
 use Rattle.mxf_views.proofs.Common.{part_and_status, read_as, SegmentParts, segment_at, has_some_metadata, is_placed}
 use Rattle.mxf_views.proofs.Common.{states_metadata, PartitionParts, is_no_unreadable_pack, pack_of, partition_at}
 use Rattle.mxf_views.proofs.Common.{SegmentAtParts, is_segment, placed_segment}
-use Rattle.mxf_views.proofs.StartsOrder.{no_pack}
+use Rattle.mxf_views.proofs.PartitionLaws.{no_pack}
 use Rattle.mxf_klv.proofs.Tests.{none_if}
 use Rattle.mxf_klv.proofs.NoteFilters.{count_le}
 use Rattle.mxf_views.specs.declared.kept.offsets.Placed.TheVariants as kinds

@@ -1,7 +1,7 @@
 -- What the views keep of the clear notes, and what an addition changes of it (this project's profile).
 use Rattle.std.specs.Prelude.{◌≡◌, ℕ, ◌+◌, ◌-◌, ◌≤◌, max, min, ◌⊎◌, Bool, ◌&&◌, ◌||◌, ◌==◌, nat_le, nat_lt}
 use Rattle.std.specs.Prelude.{if◌then◌else◌}
-use Rattle.std.specs.Prelude.{◌<◌, count_by, not}
+use Rattle.std.specs.Prelude.{◌<◌, count_by, length, not, IfSome}
 use Rattle.std.specs.Vec.{vec_capacity, vec_len}
 use Rattle.std.specs.Prelude.{Option, None, Some, false, is_some, List, [], ◌∷◌, filter, find, map}
 use Rattle.std.specs.List.{AllByRecursion, filter_map}
@@ -10,10 +10,10 @@ use Rattle.std.specs.Ordering.{nat_cmp}
 use Rattle.mxf_klv.specs.Parts.{NoteParts}
 use Rattle.mxf_klv.specs.Note.{end_of}
 use Rattle.mxf_klv.specs.Kind.{kind_of}
-use Rattle.mxf_klv.specs.Rising.{with_one}
+use Rattle.mxf_klv.specs.Rising.{In, with_one}
 use Rattle.mxf_catalogue.specs.Disputes.{IsClear, SharesByte, clear_notes}
 use Rattle.mxf_views.specs.declared.copy.CopyInfo.{CopyInfo}
-use Rattle.mxf_catalogue.specs.Content.{AreReduced, IsContent}
+use Rattle.mxf_catalogue.specs.Content.{AreReduced, IsCatalogue, IsContent, has_note, reduced_with}
 use Rattle.mxf_views.specs.declared.kept.arrival.Arrival.{Arrival}
 use Rattle.mxf_views.specs.declared.kept.KeptLists.{KeptLists}
 use Rattle.mxf_views.specs.declared.kept.offsets.Placed.{Placed}
@@ -172,6 +172,11 @@ kept_of notes = record {
   reaches = reaches_of (copies_of notes);
 }
 
+-- Nothing: what is kept of no note.
+abbrev pub nothing_kept : KeptParts
+nothing_kept =
+    record { partitions = []; segments = []; rips = []; unreadable = []; copies = []; reaches = [] }
+
 abbrev pub kept_in : KeptLists → KeptParts
 kept_in k = record {
   partitions = k.partitions.items;
@@ -182,14 +187,15 @@ kept_in k = record {
   reaches = k.reaches.items;
 }
 
--- What is kept of a content fits without taking memory.
-pub record HasRoom (notes : List NoteParts) (k : KeptLists) : Type 0 where
-  pub partitions : count_by (is_placed kinds.Partition) (clear_notes notes) ≤ vec_capacity k.partitions
-  pub segments : count_by (is_placed kinds.Segment) (clear_notes notes) ≤ vec_capacity k.segments
-  pub rips : count_by (is_placed kinds.RandomIndexPack) (clear_notes notes) ≤ vec_capacity k.random_index_packs
-  pub unreadable : count_by (is_placed kinds.UnreadablePack) (clear_notes notes) ≤ vec_capacity k.unreadable_packs
-  pub copies : count_by states_metadata (clear_notes notes) ≤ vec_capacity k.copies
-  pub reaches : count_by states_metadata (clear_notes notes) ≤ vec_capacity k.reaches
+-- What is kept of so many clear notes fits beside what there is, without taking memory.
+pub record HasRoom (there : KeptParts) (clear : List NoteParts) (k : KeptLists) : Type 0 where
+  pub partitions : length there.partitions + count_by (is_placed kinds.Partition) clear ≤ vec_capacity k.partitions
+  pub segments : length there.segments + count_by (is_placed kinds.Segment) clear ≤ vec_capacity k.segments
+  pub rips : length there.rips + count_by (is_placed kinds.RandomIndexPack) clear ≤ vec_capacity k.random_index_packs
+  pub unreadable : length there.unreadable + count_by (is_placed kinds.UnreadablePack) clear
+      ≤ vec_capacity k.unreadable_packs
+  pub copies : length there.copies + count_by states_metadata clear ≤ vec_capacity k.copies
+  pub reaches : length there.reaches + count_by states_metadata clear ≤ vec_capacity k.reaches
 
 -- One more of each fits without taking memory.
 pub record HasRoomForOne (k : KeptLists) : Type 0 where
@@ -200,6 +206,15 @@ pub record HasRoomForOne (k : KeptLists) : Type 0 where
   pub copies : vec_len k.copies < vec_capacity k.copies
   pub reaches : vec_len k.reaches < vec_capacity k.reaches
 
+-- Each note of the first ends at or below the boundary, and each of the other begins at or above it.
+pub record MeetAt (boundary : ℕ) (own other : List NoteParts) : Type 0 where
+  pub own_is : IsCatalogue own
+  pub other_is : IsCatalogue other
+  pub own_reduced : AreReduced own
+  pub other_reduced : AreReduced other
+  pub ends : (n : NoteParts) → In n own → end_of n ≤ boundary
+  pub begins : (n : NoteParts) → In n other → boundary ≤ n.offset
+
 -- What has to be known of a note that is added to a content.
 pub record IsArrival (x : NoteParts) (notes : List NoteParts) (a : Arrival) : Type 0 where
   pub content : IsContent notes
@@ -207,3 +222,13 @@ pub record IsArrival (x : NoteParts) (notes : List NoteParts) (a : Arrival) : Ty
   pub hull : IsHull x notes a.start a.end
   pub offset : a.offset ≡ x.offset
   pub can_bring_start : a.can_bring_start ≡ can_bring_start x
+  pub boundary : IfSome a.boundary (λ b. MeetAt b notes (x ∷ []))
+
+-- What is kept is that of notes to which a note has been added since, one that they hadn't.
+pub record HasArrived (a : Arrival) (after : List NoteParts) (k : KeptParts) : Type 0 where
+  pub note : NoteParts
+  pub notes : List NoteParts
+  pub new : has_note notes note → ⊥
+  pub arrival : IsArrival note notes a
+  pub is_after : after ≡ reduced_with note notes
+  pub kept : k ≡ kept_of notes

@@ -3,22 +3,12 @@ use Rattle.std.specs.Prelude.{◌≡◌, ℕ, ◌+◌, ◌-◌, ◌<◌, ◌≤�
 use Rattle.std.specs.Prelude.{Option, None, Some, List, find}
 use Rattle.std.specs.List.{AllWithin}
 use Rattle.mxf_klv.specs.Parts.{NoteParts}
-use Rattle.mxf_klv.specs.Note.{end_of}
 use Rattle.mxf_klv.specs.Rising.{In}
-use Rattle.mxf_catalogue.specs.Content.{AreReduced, IsCatalogue, union_of}
+use Rattle.mxf_catalogue.specs.Content.{union_of}
 use Rattle.mxf_catalogue.specs.Disputes.{clear_notes}
 use Rattle.mxf_views.specs.declared.copy.CopyInfo.{CopyInfo}
 use Rattle.mxf_views.specs.Copies.{copies_of, covered_of, prefaces_of, start_of, zone_of}
-use Rattle.mxf_views.specs.Kept.{or_itself}
-
--- Each note of the first ends at or below the boundary, and each of the other begins at or above it.
-pub record MeetAt (boundary : ℕ) (own other : List NoteParts) : Type 0 where
-  pub own_is : IsCatalogue own
-  pub other_is : IsCatalogue other
-  pub own_reduced : AreReduced own
-  pub other_reduced : AreReduced other
-  pub ends : (n : NoteParts) → In n own → end_of n ≤ boundary
-  pub begins : (n : NoteParts) → In n other → boundary ≤ n.offset
+use Rattle.mxf_views.specs.Kept.{MeetAt, or_itself}
 
 -- The content is the union of two that meet at the boundary.
 pub record IsUnionAt (boundary : ℕ) (notes own : List NoteParts) : Type 0 where

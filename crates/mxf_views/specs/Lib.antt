@@ -28,5 +28,6 @@ pub mod WorkedSegments
 pub mod WorkedBytes
 pub mod Words
 pub mod Kept
+pub mod Changes
 pub mod KeptAbove
 pub mod Sums

@@ -1,14 +1,12 @@
 //! What the views keep of the clear notes: where partitions, index table segments, random index packs and unreadable
 //! partition packs stand, and the copies of the header metadata.
-ghost use Rattle.std.specs.Prelude.{◌≡◌, List, ◌<◌, ◌≤◌, IfOk, OnOk, count_by, ◌++◌, ◌∷◌, ◌+◌, [], ℕ, vec_len};
+ghost use Rattle.std.specs.Prelude.{◌≡◌, List, ◌<◌, ◌≤◌, IfOk, OnOk, count_by, ◌++◌, ◌∷◌, ◌+◌, [], length, vec_len};
 ghost use Rattle.std.specs.Prelude.{vec_capacity};
 ghost use Rattle.mxf_klv.specs.Parts.{NoteParts};
-ghost use Rattle.mxf_klv.specs.Rising.{In};
-ghost use Rattle.mxf_catalogue.specs.Content.{IsCatalogue, IsContent, has_note, reduced_union, reduced_with};
 ghost use Rattle.mxf_catalogue.specs.Disputes.{clear_notes};
-ghost use Rattle.mxf_views.specs.Kept.{is_placed, states_metadata, HasRoom, HasRoomForOne, IsArrival, kept_in, kept_of};
+ghost use Rattle.mxf_views.specs.Kept.{HasArrived, HasRoom, HasRoomForOne, is_placed, kept_in, kept_of, nothing_kept};
 ghost use Rattle.mxf_views.specs.Kept.{offsets_among};
-ghost use Rattle.mxf_views.specs.KeptAbove.{IsUnionAt, MeetAt, clear_from};
+ghost use Rattle.mxf_views.specs.KeptAbove.{IsUnionAt, clear_from};
 ghost use Rattle.mxf_views.specs.declared.kept.offsets.Placed.{Placed};
 
 pub(crate) mod above;
@@ -22,7 +20,7 @@ pub(crate) mod tally;
 use crate::copy::CopyInfo;
 use crate::kept::above::{follow_copies_above, settled};
 use crate::kept::arrival::Arrival;
-use crate::kept::copies::{follow_copies, refill_copies};
+use crate::kept::copies::follow_copies;
 use crate::kept::offsets::{Placed, append, follow, stands};
 use crate::kept::reaches::refill_reaches;
 use crate::kept::sums::{Mark, Sums, mark_count};
@@ -44,6 +42,7 @@ pub(crate) struct KeptLists {
 
 impl KeptLists {
     /// What is kept of no note.
+    #[tactic(auto, using(crate::proofs::KeptLaws::kept_of_none))]
     pub fn new(alloc: Global) -> KeptLists
         ensures { kept_in result ≡ kept_of [] }
     {
@@ -62,7 +61,7 @@ impl KeptLists {
         ensures { IfOk result (λ k. kept_in k ≡ kept_of catalogue.now) }
     {
         let mut kept = KeptLists::new(alloc);
-        kept.reserve(catalogue)?;
+        kept.make_room_for(catalogue)?;
         let room = kept.marks_room(catalogue.len())?;
         kept.refill(catalogue, room);
         Ok(kept)
@@ -81,15 +80,18 @@ impl KeptLists {
         self.reaches.reserve(1)
     }
 
-    /// Makes room for what is kept of two catalogues, of which one is followed.
-    pub fn make_room_for(&mut self, own: &Catalogue, other: &Catalogue) -> Result<(), AllocError>
-        requires { kept_in self.old ≡ kept_of own.now }
+    /// Makes room for what is kept of another catalogue as well.
+    pub fn make_room_for(&mut self, other: &Catalogue) -> Result<(), AllocError>
         ensures kept { kept_in self.new ≡ kept_in self.old }
-        ensures room { OnOk result (HasRoom (reduced_union own.now other.now) self.new) }
+        ensures room { OnOk result (HasRoom (kept_in self.new) (clear_notes other.now) self.new) }
     {
-        own.laws();
-        other.laws();
-        self.reserve(other)
+        let most = Tally::of(other);
+        self.partitions.reserve(most.packs)?;
+        self.segments.reserve(most.segments)?;
+        self.random_index_packs.reserve(most.random_index_packs)?;
+        self.unreadable_packs.reserve(most.packs)?;
+        self.copies.reserve(most.packs)?;
+        self.reaches.reserve(most.packs)
     }
 
     /// Room for marks among so many notes: none where there is no room for a copy.
@@ -104,65 +106,32 @@ impl KeptLists {
         Vec::with_capacity(*self.partitions.allocator(), count)
     }
 
-    /// Makes room for what is kept of another catalogue as well.
-    fn reserve(&mut self, other: &Catalogue) -> Result<(), AllocError>
-        ensures kept { kept_in self.new ≡ kept_in self.old }
-        ensures partitions { OnOk result (vec_len self.old.partitions
-            + count_by (is_placed Placed.Partition) (clear_notes other.now) ≤ vec_capacity self.new.partitions) }
-        ensures segments { OnOk result (vec_len self.old.segments
-            + count_by (is_placed Placed.Segment) (clear_notes other.now) ≤ vec_capacity self.new.segments) }
-        ensures random_index_packs { OnOk result (vec_len self.old.random_index_packs
-            + count_by (is_placed Placed.RandomIndexPack) (clear_notes other.now)
-            ≤ vec_capacity self.new.random_index_packs) }
-        ensures unreadable_packs { OnOk result (vec_len self.old.unreadable_packs
-            + count_by (is_placed Placed.UnreadablePack) (clear_notes other.now)
-            ≤ vec_capacity self.new.unreadable_packs) }
-        ensures copies { OnOk result (vec_len self.old.copies
-            + count_by states_metadata (clear_notes other.now) ≤ vec_capacity self.new.copies) }
-        ensures reaches { OnOk result (vec_len self.old.reaches
-            + count_by states_metadata (clear_notes other.now) ≤ vec_capacity self.new.reaches) }
-    {
-        let most = Tally::of(other);
-        self.partitions.reserve(most.packs)?;
-        self.segments.reserve(most.segments)?;
-        self.random_index_packs.reserve(most.random_index_packs)?;
-        self.unreadable_packs.reserve(most.packs)?;
-        self.copies.reserve(most.packs)?;
-        self.reaches.reserve(most.packs)
-    }
-
-    /// Takes all offsets out.
-    fn clear_offsets(&mut self)
-        ensures partitions { (vec_len self.new.partitions ≡ 0) × (self.new.partitions.items ≡ [])
-            × (vec_capacity self.new.partitions ≡ vec_capacity self.old.partitions) }
-        ensures segments { (vec_len self.new.segments ≡ 0) × (self.new.segments.items ≡ [])
-            × (vec_capacity self.new.segments ≡ vec_capacity self.old.segments) }
-        ensures random_index_packs { (vec_len self.new.random_index_packs ≡ 0)
-            × (self.new.random_index_packs.items ≡ [])
-            × (vec_capacity self.new.random_index_packs ≡ vec_capacity self.old.random_index_packs) }
-        ensures unreadable_packs { (vec_len self.new.unreadable_packs ≡ 0) × (self.new.unreadable_packs.items ≡ [])
-            × (vec_capacity self.new.unreadable_packs ≡ vec_capacity self.old.unreadable_packs) }
-        ensures copies { self.new.copies ≡ self.old.copies }
-        ensures reaches { self.new.reaches ≡ self.old.reaches }
+    /// Takes all out.
+    fn clear(&mut self)
+        ensures none { kept_in self.new ≡ nothing_kept }
+        ensures room { (clear : List NoteParts) → HasRoom nothing_kept clear self.old
+            → HasRoom nothing_kept clear self.new }
     {
         self.partitions.clear();
         self.segments.clear();
         self.random_index_packs.clear();
         self.unreadable_packs.clear();
+        self.copies.clear();
+        self.reaches.clear();
     }
 
     /// Puts the offsets of what is kept of the clear notes from a boundary on behind others, in one pass, where there
     /// is room.
     fn append_offsets(&mut self, catalogue: &Catalogue, boundary: u64)
-        requires partitions { vec_len self.old.partitions
+        requires partitions { length self.old.partitions.items
             + count_by (is_placed Placed.Partition) (clear_from boundary catalogue.now)
             ≤ vec_capacity self.old.partitions }
-        requires segments { vec_len self.old.segments
+        requires segments { length self.old.segments.items
             + count_by (is_placed Placed.Segment) (clear_from boundary catalogue.now) ≤ vec_capacity self.old.segments }
-        requires random_index_packs { vec_len self.old.random_index_packs
+        requires random_index_packs { length self.old.random_index_packs.items
             + count_by (is_placed Placed.RandomIndexPack) (clear_from boundary catalogue.now)
             ≤ vec_capacity self.old.random_index_packs }
-        requires unreadable_packs { vec_len self.old.unreadable_packs
+        requires unreadable_packs { length self.old.unreadable_packs.items
             + count_by (is_placed Placed.UnreadablePack) (clear_from boundary catalogue.now)
             ≤ vec_capacity self.old.unreadable_packs }
         ensures partitions { self.new.partitions.items ≡ self.old.partitions.items
@@ -175,7 +144,6 @@ impl KeptLists {
             ++ offsets_among (is_placed Placed.UnreadablePack) (clear_from boundary catalogue.now) }
         ensures copies { self.new.copies ≡ self.old.copies }
         ensures reaches { self.new.reaches ≡ self.old.reaches }
-        ensures catalogue { IsCatalogue catalogue.now }
     {
         for note in catalogue.clear_within(boundary, u64::MAX) {
             append(&mut self.partitions, Placed::Partition, note);
@@ -187,15 +155,13 @@ impl KeptLists {
 
     /// Puts what is kept of a catalogue in place of what is there, where there is room.
     pub fn refill(&mut self, catalogue: &Catalogue, room: Vec<Mark>)
-        requires room { HasRoom catalogue.now self.old }
+        requires room { HasRoom nothing_kept (clear_notes catalogue.now) self.old }
         requires empty { room.items ≡ [] }
         ensures { kept_in self.new ≡ kept_of catalogue.now }
     {
-        let sums = Sums::of(catalogue, 0, room);
-        refill_copies(&mut self.copies, &sums);
-        refill_reaches(&mut self.reaches, &self.copies, 0);
-        self.clear_offsets();
-        self.append_offsets(catalogue, 0);
+        catalogue.laws();
+        self.clear();
+        self.follow_above(catalogue, 0, room);
     }
 
     /// Follows the arrival of notes that begin at the boundary or above, where there is room: from what is kept of the
@@ -203,7 +169,7 @@ impl KeptLists {
     pub fn follow_above(&mut self, catalogue: &Catalogue, boundary: u64, room: Vec<Mark>)
         requires kept { (own : List NoteParts) × IsUnionAt boundary catalogue.now own
             × (kept_in self.old ≡ kept_of own) }
-        requires room { HasRoom catalogue.now self.old }
+        requires room { HasRoom (kept_in self.old) (clear_from boundary catalogue.now) self.old }
         requires empty { room.items ≡ [] }
         ensures { kept_in self.new ≡ kept_of catalogue.now }
     {
@@ -215,13 +181,26 @@ impl KeptLists {
     }
 
     /// Follows the arrival of a note in a catalogue, where there is room: from what is kept of the notes before to what
-    /// is kept of them with the note.
+    /// is kept of them with the note. It takes no memory.
     pub fn follow(&mut self, catalogue: &Catalogue, arrival: &Arrival)
-        requires kept { (notes : List NoteParts) × IsContent notes × (kept_in self.old ≡ kept_of notes) }
+        requires arrived { HasArrived arrival.now catalogue.now (kept_in self.old) }
         requires room { HasRoomForOne self.old }
-        ensures { (x : NoteParts) (notes : List NoteParts) → ¬ has_note notes x → IsArrival x notes arrival.now
-            → catalogue.now ≡ reduced_with x notes → kept_in self.old ≡ kept_of notes
-            → kept_in self.new ≡ kept_of catalogue.now }
+        ensures { kept_in self.new ≡ kept_of catalogue.now }
+    {
+        match arrival.boundary {
+            Some(boundary) => {
+                let no_marks = Vec::new(*self.partitions.allocator());
+                self.follow_above(catalogue, boundary, no_marks);
+            }
+            None => self.follow_among(catalogue, arrival),
+        }
+    }
+
+    /// The same, wherever the note stands.
+    fn follow_among(&mut self, catalogue: &Catalogue, arrival: &Arrival)
+        requires arrived { HasArrived arrival.now catalogue.now (kept_in self.old) }
+        requires room { HasRoomForOne self.old }
+        ensures { kept_in self.new ≡ kept_of catalogue.now }
     {
         let at = arrival.offset;
         let partition = stands(catalogue, Placed::Partition, at);

@@ -21,7 +21,7 @@ ghost use Rattle.mxf_views.specs.Places.{greatest_unit, place_of, segments_of};
 ghost use Rattle.mxf_views.specs.RandomIndex.{rips_of};
 ghost use Rattle.mxf_views.specs.RandomIndexView.{rip_view_of};
 ghost use Rattle.mxf_views.specs.Findings.{findings_of};
-ghost use Rattle.mxf_views.specs.KeptAbove.{MeetAt};
+ghost use Rattle.mxf_views.specs.Kept.{MeetAt};
 ghost use Rattle.mxf_views.specs.Headline.{IsTheRun};
 ghost use Rattle.mxf_views.specs.SameViews.{SameViews};
 
@@ -164,7 +164,7 @@ impl Views {
         ensures err { OnErr result (self.new ≡ self.old) }
         ensures back { IfErr result (λ f. f.other ≡ other) }
     {
-        let Ok(()) = self.kept.make_room_for(&self.catalogue, &other) else {
+        let Ok(()) = self.kept.make_room_for(&other) else {
             return Err(MergeFault { other });
         };
         let Ok(room) = self.kept.marks_room(other.len()) else {
@@ -181,7 +181,9 @@ impl Views {
         ensures err { OnErr result (self.new ≡ self.old) }
         ensures back { IfErr result (λ f. f.other ≡ other) }
     {
-        let Ok(()) = self.kept.make_room_for(&self.catalogue, &other) else {
+        self.catalogue.laws();
+        other.laws();
+        let Ok(()) = self.kept.make_room_for(&other) else {
             return Err(MergeFault { other });
         };
         let notes = self.catalogue.len().saturating_add(other.len());

@@ -1,19 +1,19 @@
 //! What is kept once notes are there that begin where all others end, or above: only what is new is counted.
-ghost use Rattle.std.specs.Prelude.{◌≡◌, ◌≤◌, ◌+◌, ◌-◌, ◌++◌, ℕ, List, IfSome, Some, count_by, filter, length, map};
-ghost use Rattle.std.specs.Prelude.{take, vec_len, vec_capacity};
+ghost use Rattle.std.specs.Prelude.{◌≡◌, ◌≤◌, ◌+◌, ◌-◌, ◌++◌, ◌∷◌, ℕ, List, [], IfSome, Some, count_by, filter, length};
+ghost use Rattle.std.specs.Prelude.{map, take, vec_len, vec_capacity};
 ghost use Rattle.std.specs.List.{AllWithin};
 ghost use Rattle.mxf_klv.specs.Parts.{NoteParts};
 ghost use Rattle.mxf_klv.specs.Rising.{In};
 ghost use Rattle.mxf_views.specs.declared.copy.CopyInfo.{CopyInfo};
 ghost use Rattle.mxf_views.specs.Copies.{CopiesRise, copies_of};
-ghost use Rattle.mxf_views.specs.Kept.{is_placed, reaches_of, states_metadata};
-ghost use Rattle.mxf_views.specs.KeptAbove.{CountsFit, EndsBy, IsOfNone, IsStarting, IsUnionAt, MeetAt, clear_from};
+ghost use Rattle.mxf_views.specs.Kept.{MeetAt, is_placed, reaches_of, states_metadata};
+ghost use Rattle.mxf_views.specs.KeptAbove.{CountsFit, EndsBy, IsOfNone, IsStarting, IsUnionAt, clear_from};
 ghost use Rattle.mxf_views.specs.KeptAbove.{counted_above, counted_on, started};
 
 use super::sums::{Sums, append_copies};
 use crate::copy::{CopyInfo, copy_there, start_of};
 use mxf_catalogue::Catalogue;
-use mxf_klv::below;
+use mxf_klv::{Note, below};
 
 /// Where the notes of a catalogue end, if those of another begin there or above.
 pub(crate) fn boundary(own: &Catalogue, other: &Catalogue) -> Option<u64>
@@ -25,6 +25,19 @@ pub(crate) fn boundary(own: &Catalogue, other: &Catalogue) -> Option<u64>
     match other.spans().runs().next() {
         Some(first) if first.start < end => None,
         _ => Some(end),
+    }
+}
+
+/// The same, if a note begins there or above.
+pub(super) fn boundary_below(catalogue: &Catalogue, note: &Note) -> Option<u64>
+    ensures { IfSome result (λ b. MeetAt b catalogue.now (note.now ∷ [])) }
+{
+    catalogue.laws();
+    let end = catalogue.end();
+    if end <= note.offset() {
+        Some(end)
+    } else {
+        None
     }
 }
 

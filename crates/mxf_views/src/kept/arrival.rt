@@ -3,6 +3,7 @@ ghost use Rattle.std.specs.Prelude.{◌≡◌, ◌<◌};
 ghost use Rattle.mxf_catalogue.specs.Content.{IsCatalogue};
 ghost use Rattle.mxf_views.specs.Kept.{IsHull, can_bring_start, is_outside, IsArrival};
 
+use super::above::boundary_below;
 use mxf_catalogue::Catalogue;
 use mxf_klv::{Kind, Note};
 
@@ -17,6 +18,8 @@ pub(crate) struct Arrival {
     pub end: u64,
     /// Whether a copy can get a start by it.
     pub can_bring_start: bool,
+    /// Where all other notes end, if it begins there or above.
+    pub boundary: Option<u64>,
 }
 
 impl Arrival {
@@ -31,6 +34,7 @@ impl Arrival {
             start,
             end,
             can_bring_start: can_bring_start(note),
+            boundary: boundary_below(catalogue, note),
         }
     }
 

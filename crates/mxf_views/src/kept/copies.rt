@@ -1,12 +1,14 @@
 //! The copies of the header metadata, kept by their partitions, which rise.
-ghost use Rattle.std.specs.Prelude.{◌≡◌, ◌==◌, ◌<◌, ◌≤◌, count_by, filter, find, map, vec_len, vec_capacity};
+ghost use Rattle.std.specs.Prelude.{◌≡◌, ◌==◌, ◌<◌, ◌≤◌, ℕ, List, filter, find, map, vec_len, vec_capacity};
+ghost use Rattle.mxf_klv.specs.Parts.{NoteParts};
+ghost use Rattle.mxf_klv.specs.Rising.{In};
+ghost use Rattle.mxf_catalogue.specs.Content.{IsContent};
 ghost use Rattle.mxf_catalogue.specs.Disputes.{clear_notes};
-ghost use Rattle.mxf_views.specs.Copies.{CopiesRise, copies_of};
-ghost use Rattle.mxf_views.specs.KeptAbove.{clear_from};
-ghost use Rattle.mxf_views.specs.Kept.{can_bring_start, copies_followed, is_outside, may_change, renewed};
-ghost use Rattle.mxf_views.specs.Kept.{states_metadata, with_copy};
+ghost use Rattle.mxf_views.specs.Changes.{IsUnmet, SameOutside};
+ghost use Rattle.mxf_views.specs.Copies.{CopiesRise, copy_of};
+ghost use Rattle.mxf_views.specs.Kept.{copies_followed, is_outside, may_change, renewed, with_copy};
+ghost use Rattle.mxf_views.specs.Partitions.{PartitionParts, partitions_of};
 
-use super::sums::{Sums, append_copies};
 use crate::copy::{CopyInfo, copy_there};
 use crate::kept::arrival::Arrival;
 use mxf_catalogue::Catalogue;
@@ -106,12 +108,10 @@ pub(super) fn follow_copies(copies: &mut Vec<CopyInfo>, catalogue: &Catalogue, a
     }
 }
 
-/// Puts the copies of a catalogue in place of others, where there is room.
-pub(super) fn refill_copies(copies: &mut Vec<CopyInfo>, sums: &Sums<'_>)
-    requires all { sums.now.boundary ≡ 0 }
-    requires room { count_by states_metadata (clear_notes sums.now.notes) ≤ vec_capacity copies.old }
-    ensures { copies.new.items ≡ copies_of sums.now.notes }
-{
-    copies.clear();
-    append_copies(copies, sums);
-}
+/// A law: a copy that a change in a range doesn't meet stays as it is.
+pub(super) fn unmet_copies_stay()
+    ensures { (start end : ℕ) (before after : List NoteParts) (p : PartitionParts) → IsContent before → IsContent after
+        → SameOutside start end before after → In p (partitions_of before)
+        → 0 < p.pack.numbers.header_byte_count → IsUnmet start end before after p
+        → copy_of (clear_notes after) p ≡ copy_of (clear_notes before) p }
+{}

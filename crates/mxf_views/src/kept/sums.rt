@@ -121,7 +121,6 @@ impl<'a> Sums<'a> {
     fn clear(&self) -> ClearNotes<'a>
         ensures notes { result ≡ clear_from self.now.boundary self.now.notes }
         ensures apart { AreApart 0 result }
-        ensures catalogue { IsCatalogue self.now.notes }
     {
         self.catalogue.clear_within(self.boundary, u64::MAX)
     }
@@ -158,7 +157,6 @@ pub(super) fn append_copies(copies: &mut Vec<CopyInfo>, sums: &Sums<'_>)
         ≤ vec_capacity copies.old }
     ensures copies { copies.new.items ≡ copies.old.items
         ++ filter_map (copy_by (clear_notes sums.now.notes)) (clear_from sums.now.boundary sums.now.notes) }
-    ensures catalogue { IsCatalogue sums.now.notes }
 {
     for note in sums.clear() {
         if let Some(copy) = sums.copy_by(note) {

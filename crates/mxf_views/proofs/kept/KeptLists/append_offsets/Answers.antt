@@ -61,5 +61,4 @@ returns c =
       unreadable_packs = appended_all kinds.UnreadablePack _ _ _ _ inv.unreadable none;
       copies = inv.copies;
       reaches = inv.reaches;
-      catalogue = c.clear_within-note-items.ensures.catalogue;
     }

@@ -1,45 +1,27 @@
 use Rattle.mxf_views.proofs.Common.{◌∙◌, ℕ, Global, List, Vec, ap, arith, length, sym, take, count_by, NoteParts}
 use Rattle.mxf_views.proofs.Common.{CopyInfo, copies_of, clear_from, KeptParts, is_placed, reaches_of, states_metadata}
-use Rattle.mxf_views.proofs.AboveKept.{copies_fit, offsets_at, offsets_fit}
-use Rattle.mxf_views.proofs.KeptLaws.{same_kept, with_reaches}
+use Rattle.mxf_views.proofs.AboveKept.{count_at, offsets_at}
+use Rattle.mxf_views.proofs.KeptLaws.{kept_by}
 use Rattle.mxf_views.proofs.KeptRoom.{length-kept_copies}
 use Rattle.mxf_views.proofs.ReachLaws.{length-reaches_from, take_reaches}
 use Rattle.mxf_views.specs.declared.kept.offsets.Placed.TheVariants as kinds
 use Rattle.mxf_views.proofs.kept.KeptLists.follow_above.Goals as goal
 
-pub append_offsets-requires : goal.append_offsets-requires
-append_offsets-requires c =
-    let k = c.requires.kept in
-    let own = c.args.self.now in
-    let room = c.requires.room in
-    record {
-      partitions = offsets_fit _ _ k.0 k.1 (is_placed kinds.Partition) _ _ _ (ap (λ (p : KeptParts). p.partitions) k.2)
-          own.partitions.ok.0 room.partitions;
-      segments = offsets_fit _ _ k.0 k.1 (is_placed kinds.Segment) _ _ _ (ap (λ (p : KeptParts). p.segments) k.2)
-          own.segments.ok.0 room.segments;
-      random_index_packs = offsets_fit _ _ k.0 k.1 (is_placed kinds.RandomIndexPack) _ _ _
-          (ap (λ (p : KeptParts). p.rips) k.2) own.random_index_packs.ok.0 room.rips;
-      unreadable_packs = offsets_fit _ _ k.0 k.1 (is_placed kinds.UnreadablePack) _ _ _
-          (ap (λ (p : KeptParts). p.unreadable) k.2) own.unreadable_packs.ok.0 room.unreadable;
-    }
-
 pub follow_copies_above-requires-clause-room : goal.follow_copies_above-requires-clause-room
 follow_copies_above-requires-clause-room c =
-    let k = c.requires.kept in
-    let list = c.args.self.now.copies in
     let of = c.of-sums.ensures in
     let count = λ (ns : List NoteParts) (b : ℕ). count_by states_metadata (clear_from b ns) in
     let same = ap (λ ns. count ns c.of-sums.result.boundary) of.notes ∙ ap (count c.args.catalogue.now) of.boundary in
-    let fit = copies_fit c.args.boundary c.args.catalogue.now k.0 k.1 list.items list.len _
-    (ap (λ (p : KeptParts). p.copies) k.2) list.ok.0 c.requires.room.copies in
-    omega (arith, same, fit)
+    omega (arith, same, c.requires.room.copies, c.args.self.now.copies.ok.0)
 
 pub refill_reaches-requires-clause-room : goal.refill_reaches-requires-clause-room
 refill_reaches-requires-clause-room c =
+    let k = c.requires.kept in
     let all = c.follow_copies_above.ensures.copies ∙ ap copies_of c.of-sums.ensures.notes in
     let many = ap length (c.deref-3.ensures.value ∙ all) ∙ length-kept_copies c.args.catalogue.now in
-    let room = c.requires.room.reaches in
-    omega (arith, many, room)
+    let before = ap (λ (p : KeptParts). length p.reaches) k.2 ∙ length-reaches_from 0 (copies_of k.0)
+    ∙ length-kept_copies k.0 in
+    omega (arith, many, count_at _ _ k.0 k.1 states_metadata, before, c.requires.room.reaches)
 
 pub refill_reaches-requires-clause-reaches : goal.refill_reaches-requires-clause-reaches
 refill_reaches-requires-clause-reaches c =
@@ -66,11 +48,7 @@ returns c =
     let k = c.requires.kept in
     let one = λ (kind : _) (os : _) (same : _).
     offsets_at c.args.boundary c.args.catalogue.now k.0 k.1 (is_placed kind) os same in
-    with_reaches _ _ _ _ _ _
-    (ap (λ (v : Vec ℕ Global). v.items) c.append_offsets.ensures.reaches ∙ c.refill_reaches.ensures
-    ∙ ap reaches_of c.deref-3.ensures.value
-    ∙ ap (λ (v : Vec CopyInfo Global). reaches_of v.items) (sym c.append_offsets.ensures.copies))
-    ∙ same_kept _ _ _ _ _ _ _ _ _ _
+    kept_by _ _ _ _ _ _ _
     (c.append_offsets.ensures.partitions
     ∙ one kinds.Partition c.args.self.now.partitions.items (ap (λ (p : KeptParts). p.partitions) k.2))
     (c.append_offsets.ensures.segments
@@ -81,3 +59,6 @@ returns c =
     ∙ one kinds.UnreadablePack c.args.self.now.unreadable_packs.items (ap (λ (p : KeptParts). p.unreadable) k.2))
     (ap (λ (v : Vec CopyInfo Global). v.items) c.append_offsets.ensures.copies ∙ c.follow_copies_above.ensures.copies
     ∙ ap copies_of c.of-sums.ensures.notes)
+    (ap (λ (v : Vec ℕ Global). v.items) c.append_offsets.ensures.reaches ∙ c.refill_reaches.ensures
+    ∙ ap reaches_of c.deref-3.ensures.value
+    ∙ ap (λ (v : Vec CopyInfo Global). reaches_of v.items) (sym c.append_offsets.ensures.copies))

@@ -30,11 +30,15 @@ returns-in_err-change-clause-repeated c = (
       let f = c.if-has.false in absurd (cc (t, f)),
 )
 
-pub invariant_of-self-2 : goal.invariant_of-self-2
-invariant_of-self-2 c =
-    c.follow.ensures c.args.note c.self.inside.catalogue
-    (λ h. let t = c.has.ensures.1 h in let f = c.if-has.false in cc (t, f))
-    c.of-arrival.ensures c.in_ok-change.ensures.added (c.make_room.ensures.kept ∙ c.self.invariant)
+pub follow-requires-clause-arrived : goal.follow-requires-clause-arrived
+follow-requires-clause-arrived c = record {
+  note = c.args.note;
+  notes = c.self.inside.catalogue;
+  new = λ h. let t = c.has.ensures.1 h in let f = c.if-has.false in cc (t, f);
+  arrival = c.of-arrival.ensures;
+  is_after = c.in_ok-change.ensures.added;
+  kept = c.make_room.ensures.kept ∙ c.self.invariant;
+}
 
 pub returns-clause-repeated : goal.returns-clause-repeated
 returns-clause-repeated c =
