@@ -1,9 +1,11 @@
--- The place of an edit unit in its essence stream by an index table segment (ST 377-1, look-up of the stream offset;
--- duration 0 of a segment with entries is this project's profile). Neither start nor duration is negative.
+-- The place of an edit unit in its essence stream by an index table segment, and its entry (ST 377-1, look-up of the
+-- stream offset; duration 0 of a segment with entries is this project's profile). Neither start nor duration is negative.
 use Rattle.std.specs.Prelude.{ℕ, ◌+◌, ◌-◌, ◌*◌, nat_lt, nat_le, ◌==◌, ◌&&◌, ◌||◌, Bool, if◌then◌else◌, drop}
-use Rattle.std.specs.Prelude.{Option, Some, None, unsigned_abs}
+use Rattle.std.specs.Prelude.{Option, Some, None, slice_index, unsigned_abs}
+use Rattle.std.specs.Int.{w8, cast_signed}
 use Rattle.byteorder.specs.Endian.{big_number}
 use Rattle.mxf_sets.specs.Segment.{SegmentParts, entry_count, entry_size, is_constant}
+use Rattle.mxf_sets.specs.declared.segment.offset.IndexEntry.{IndexEntry}
 
 -- The stream offset of an entry: the eight bytes after its first three.
 abbrev pub entry_offset : SegmentParts → ℕ → ℕ
@@ -31,3 +33,19 @@ stream_offset s unit =
     let place = unit - unsigned_abs s.numbers.start in
     let by_entry = if covers_entry s unit then Some (entry_offset s place) else None in
     if is_constant s.numbers then by_size else by_entry
+
+-- The front of an entry (ST 377-1, Index Table Segment): two signed numbers and the flags, of one byte each.
+abbrev pub entry_at : SegmentParts → ℕ → IndexEntry
+entry_at s place =
+    let from = place * entry_size s.numbers in
+    record {
+      temporal_offset = cast_signed w8 (slice_index s.entries from);
+      key_frame_offset = cast_signed w8 (slice_index s.entries (from + 1));
+      flags = slice_index s.entries (from + 2);
+    }
+
+-- The entry of a unit: where units have one size there is none.
+abbrev pub index_entry : SegmentParts → ℕ → Option IndexEntry
+index_entry s unit =
+    if is_constant s.numbers then None
+    else (if covers_entry s unit then Some (entry_at s (unit - unsigned_abs s.numbers.start)) else None)

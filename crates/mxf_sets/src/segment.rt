@@ -17,6 +17,7 @@ use crate::record::read_fields;
 use crate::{FieldFault, Items};
 pub use numbers::SegmentNumbers;
 use numbers::{DURATION, ENTRIES, FIELDS, START};
+pub use offset::IndexEntry;
 use std::marker::Model;
 use thiserror::Error;
 

@@ -1,6 +1,6 @@
 //! Index table segments.
 use crate::building::is_written_as;
-use mxf_sets::{Segment, SegmentFault, SegmentNumbers};
+use mxf_sets::{IndexEntry, Segment, SegmentFault, SegmentNumbers};
 use mxf_worked::builders::set_value;
 use mxf_worked::worked_files::WRITTEN;
 use std::alloc::Global;
@@ -82,6 +82,19 @@ const ENTRIES_OF_27_BYTES: (u16, &[u8]) = (
     ],
 );
 
+/// Two entries of eleven bytes: the offsets 0 and -1 to the unit shown and 0 and -12 to the key frame, the flags C0 and
+/// 33, the stream offsets 0 and 256.
+const ENTRIES_OF_TWO_FRAMES: [u8; 22] = [
+    0, 0, 0xC0, 0, 0, 0, 0, 0, 0, 0, 0, 0xFF, 0xF4, 0x33, 0, 0, 0, 0, 0, 0, 1, 0,
+];
+
+/// The front of the second.
+const SECOND_ENTRY: IndexEntry = IndexEntry {
+    temporal_offset: -1,
+    key_frame_offset: -12,
+    flags: 0x33,
+};
+
 /// Whether units of a segment have these offsets.
 fn has_offsets(segment: &Segment<'_>, offsets: &[(u64, Option<u128>)]) -> bool {
     for (unit, offset) in offsets {
@@ -157,6 +170,21 @@ fn a_segment_of_duration_0_gives_its_entries_no_place(rt: HostRuntime) -> Result
     assert_eq!(rt; segment.entry_count(), 2);
     let offsets = [(4, None), (5, None), (6, None), (7, None)];
     assert!(rt; has_offsets(&segment, &offsets));
+    Ok(())
+}
+
+#[test]
+fn entries_tell_how_their_units_stand_to_others(rt: HostRuntime) -> Result<(), Fail> {
+    let segment = Segment::of(WITH_ENTRIES, &ENTRIES_OF_TWO_FRAMES).ok_or("a segment")?;
+    let first = segment.entry_of(5).ok_or("an entry")?;
+    assert_eq!(rt;
+        (first.temporal_offset, first.key_frame_offset, first.flags),
+        (0, 0, 0xC0)
+    );
+    assert!(rt; segment.entry_of(6) == Some(SECOND_ENTRY));
+    assert!(rt; segment.entry_of(4).is_none() && segment.entry_of(7).is_none());
+    let constant = Segment::of(CONSTANT, &[]).ok_or("a segment")?;
+    assert!(rt; constant.entry_of(10).is_none());
     Ok(())
 }
 
