@@ -8,6 +8,7 @@ ghost use Rattle.mxf_views.specs.Partitions.{partitions_of};
 ghost use Rattle.mxf_views.specs.RandomIndexView.{rip_view_of};
 ghost use Rattle.mxf_restore.specs.Claims.{claims_of, entry_claim, entry_claims, footer_claim, place_claim};
 ghost use Rattle.mxf_restore.specs.Claims.{previous_claim, zone_claim, zone_reason};
+ghost use Rattle.mxf_restore.specs.Map.{named_place};
 ghost use Rattle.mxf_restore.specs.Named.{IsClaim};
 ghost use Rattle.mxf_restore.specs.declared.claim.Claim.{Claim};
 
@@ -22,18 +23,35 @@ use std::alloc::Global;
 /// What a pack claims of offsets: from where up to which end, in bytes. Where the claim is open, nothing is known from
 /// the last byte on.
 #[derive(Clone, Copy, Debug, PartialEq, Eq)]
-pub(crate) struct Claim {
+pub struct Claim {
     pub reason: Reason,
     /// The offset of the pack; none for the header partition, which no pack names.
     pub source: Option<u64>,
+    /// A file offset, in bytes.
     pub from: u64,
+    /// The file offset behind the last byte.
     pub end: u128,
+    /// Whether more may follow behind the end, so that it isn't known.
     pub is_open: bool,
+}
+
+impl Claim {
+    /// The place that it names, in bytes; none where it is that of a stretch.
+    #[tactic(auto, unfolding(crate::specs::Map::named_place))]
+    pub fn named_place(&self) -> Option<u64>
+        ensures { result ≡ named_place self.now }
+    {
+        if self.reason.is_of_stretch() {
+            None
+        } else {
+            Some(self.from)
+        }
+    }
 }
 
 /// The claims of all packs of the views, by reason and then source. It takes memory.
 #[tactic(auto, unfolding(crate::specs::Claims::claims_of))]
-pub(crate) fn claims(alloc: Global, holdings: &Holdings<'_>) -> Result<Vec<Claim>, OutOfMemory>
+pub fn claims(alloc: Global, holdings: &Holdings<'_>) -> Result<Vec<Claim>, OutOfMemory>
     ensures { IfOk result (λ claims. claims.items ≡ claims_of holdings.now) }
 {
     let mut claims = Vec::new(alloc);

@@ -81,7 +81,8 @@ fn fill_at(note: &Note) -> Option<Fill>
     })
 }
 
-/// A law: going over fills from an offset one comes to where they lead that follow one another there, and no fill begins.
+/// A law: going over fills from an offset one comes to where those lead that follow one another there, and where none
+/// begins.
 pub fn fills_by_definition()
     ensures { (notes : List NoteParts) (from to : ℕ) → IsContent notes
         → (over_fills notes from ≡ to) ↔ IsOver notes from to }

@@ -3,6 +3,7 @@ ghost use Rattle.std.specs.Prelude.{◌≡◌, ◌↔◌, ◌<◌, ◌≤◌, �
 ghost use Rattle.mxf_klv.specs.Parts.{NoteParts};
 ghost use Rattle.mxf_restore.specs.Held.{AreDoubtful, edge_of, end_of_file, is_doubtful, is_held, is_in_file};
 ghost use Rattle.mxf_restore.specs.Held.{IsDoubtful, IsEndOfFile, IsHeld, rip_end_by};
+ghost use Rattle.mxf_restore.specs.Map.{begins_clear_head};
 ghost use Rattle.mxf_restore.specs.Named.{IsInFile, IsUnknown};
 ghost use Rattle.mxf_views.specs.RandomIndexView.{rip_view_of};
 ghost use Rattle.mxf_restore.specs.Claims.{is_unknown, over_fills};
@@ -17,7 +18,7 @@ use std::marker::Model;
 
 /// What is held of a file: the offsets that packets cover, those that disputed ones do, and the end of the file.
 #[derive(Debug, Drop)]
-pub(crate) struct Holdings<'a> {
+pub struct Holdings<'a> {
     views: &'a Views,
     doubtful: Cover,
     fills: Fills,
@@ -110,6 +111,17 @@ impl<'a> Holdings<'a> {
         ensures { result ≡ is_unknown self.now offset }
     {
         self.is_in_file(offset) && (self.is_doubtful(offset) || !self.is_held(offset))
+    }
+
+    /// Whether a head that shares no byte with another packet begins at an offset, in bytes: the rest of its packet
+    /// isn't held.
+    pub fn begins_clear_head(&self, offset: u64) -> bool
+        ensures { result ≡ begins_clear_head self.now offset }
+    {
+        match self.views.catalogue().undisputed_at(offset) {
+            Some(note) => note.is_head(),
+            None => false,
+        }
     }
 
     /// The end of the file, in bytes, where it is known.

@@ -34,9 +34,9 @@ mod plan;
 mod reason;
 mod stretch;
 
-pub use claim::claims_by_definition;
+pub use claim::{Claim, claims, claims_by_definition};
 pub use fills::fills_by_definition;
-pub use held::held_by_definition;
+pub use held::{Holdings, held_by_definition};
 pub use map::{Map, Mark, one_map, one_mark};
 pub use piece::{holes_by_definition, pieces_by_definition};
 pub use plan::{
@@ -44,4 +44,4 @@ pub use plan::{
     starts_are_apart,
 };
 pub use reason::Reason;
-pub use stretch::zones_by_definition;
+pub use stretch::{Stretch, Zone, behind_metadata, zone_of, zones_by_definition};

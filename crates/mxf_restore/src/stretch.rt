@@ -18,7 +18,7 @@ use mxf_views::PartitionAt;
 
 /// What a partition counts the bytes of (ST 377-1, HeaderByteCount and IndexByteCount).
 #[derive(Clone, Copy, Debug, PartialEq, Eq)]
-pub(crate) enum Zone {
+pub enum Zone {
     /// The header metadata, from the primer pack on.
     Metadata,
     /// The index table segments.
@@ -28,15 +28,18 @@ pub(crate) enum Zone {
 /// A stretch of the file: from where, up to which end, in bytes. Where it is open, nothing is known from its last byte
 /// on.
 #[derive(Clone, Copy, Debug, PartialEq, Eq)]
-pub(crate) struct Stretch {
+pub struct Stretch {
+    /// A file offset, in bytes.
     pub from: u64,
+    /// The file offset behind the last byte.
     pub end: u128,
+    /// Whether more may follow behind the end, so that it isn't known.
     pub is_open: bool,
 }
 
 impl Stretch {
-    /// The end, where it is known.
-    fn known_end(&self) -> Option<u128>
+    /// The end, in bytes, where it is known.
+    pub fn known_end(&self) -> Option<u128>
         ensures { result ≡ known_end self.now }
     {
         if self.is_open { None } else { Some(self.end) }
@@ -44,11 +47,7 @@ impl Stretch {
 }
 
 /// Where the zone of a partition lies, as far as that is known.
-pub(crate) fn zone_of(
-    holdings: &Holdings<'_>,
-    zone: Zone,
-    partition: &PartitionAt<'_>,
-) -> Option<Stretch>
+pub fn zone_of(holdings: &Holdings<'_>, zone: Zone, partition: &PartitionAt<'_>) -> Option<Stretch>
     ensures { result ≡ zone_of zone holdings.now partition.now }
 {
     match zone {
@@ -69,8 +68,8 @@ fn metadata_of(holdings: &Holdings<'_>, partition: &PartitionAt<'_>) -> Option<S
     stretch_from(holdings, Zone::Metadata, partition.end, count)
 }
 
-/// Where the bytes behind the header metadata of a partition begin, where that is known.
-fn behind_metadata(holdings: &Holdings<'_>, partition: &PartitionAt<'_>) -> Option<u128>
+/// Where the bytes behind the header metadata of a partition begin, in bytes, where that is known.
+pub fn behind_metadata(holdings: &Holdings<'_>, partition: &PartitionAt<'_>) -> Option<u128>
     ensures { result ≡ behind_metadata holdings.now partition.now }
 {
     if partition.pack.numbers().header_byte_count == 0 {

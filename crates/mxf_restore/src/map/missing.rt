@@ -2,7 +2,7 @@
 ghost use Rattle.std.specs.Prelude.{◌≡◌, IfOk};
 ghost use Rattle.std.specs.List.{filter_map};
 ghost use Rattle.mxf_klv.specs.Rising.{In, SameMembers};
-ghost use Rattle.mxf_restore.specs.Map.{begins_clear_head, is_missing, missing_places, named_place};
+ghost use Rattle.mxf_restore.specs.Map.{is_missing, missing_places};
 ghost use Rattle.mxf_restore.specs.Layers.{AreOffsets, missing_place};
 
 use super::offsets::set_of;
@@ -51,23 +51,11 @@ fn places_of(
 fn missing_place(holdings: &Holdings<'_>, claim: &Claim) -> Option<u64>
     ensures { result ≡ missing_place holdings.now claim.now }
 {
-    let place = named_place(claim)?;
+    let place = claim.named_place()?;
     if is_missing(holdings, place) {
         Some(place)
     } else {
         None
-    }
-}
-
-/// The place that a claim names, in bytes, where it names one.
-#[tactic(auto, unfolding(crate::specs::Map::named_place))]
-fn named_place(claim: &Claim) -> Option<u64>
-    ensures { result ≡ named_place claim.now }
-{
-    if claim.reason.is_of_stretch() {
-        None
-    } else {
-        Some(claim.from)
     }
 }
 
@@ -77,15 +65,5 @@ fn is_missing(holdings: &Holdings<'_>, offset: u64) -> bool
 {
     holdings.is_in_file(offset)
         && !holdings.is_doubtful(offset)
-        && (begins_clear_head(holdings, offset) || !holdings.is_held(offset))
-}
-
-/// Whether a head that shares no byte with another packet begins at an offset, in bytes.
-fn begins_clear_head(holdings: &Holdings<'_>, offset: u64) -> bool
-    ensures { result ≡ begins_clear_head holdings.now offset }
-{
-    match holdings.views().catalogue().undisputed_at(offset) {
-        Some(note) => note.is_head(),
-        None => false,
-    }
+        && (holdings.begins_clear_head(offset) || !holdings.is_held(offset))
 }
