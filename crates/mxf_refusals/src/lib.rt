@@ -19,6 +19,8 @@ mod plans;
 #[cfg(test)]
 mod unions;
 #[cfg(test)]
+mod units;
+#[cfg(test)]
 mod values;
 #[cfg(test)]
 mod without;

@@ -95,6 +95,7 @@ fn without_memory_segments_are_looked_at(rt: HostRuntime) -> Result<(), Fail> {
         (2, 5)
     );
     assert_eq!(rt; with_entries.offset_of(6), Some(1500));
+    assert!(rt; constant.entry_of(10).is_none() && with_entries.entry_of(6).is_some());
     Ok(())
 }
 

@@ -1,0 +1,117 @@
+-- Units that are held.
+use Rattle.std.proofs.Common.{◌≡◌, ◌<◌, ◌+◌, ℕ, Bool, true, false, not, List, [], ◌∷◌, Option, None, Some}
+use Rattle.std.proofs.Common.{Result, Ok, Err, refl, sym, ap, subst, is_some, unwrap_or, if◌then◌else◌, ◌==◌, filter, filter_map}
+use Rattle.std.proofs.lemmas.Bool.{and_parts}
+use Rattle.std.specs.Option.{ok_or}
+use Rattle.mxf_klv.specs.Parts.{NoteParts}
+use Rattle.mxf_klv.proofs.Tests.{some_is}
+use Rattle.mxf_views.specs.Places.{SegmentAtParts}
+use Rattle.mxf_units.specs.declared.standing.UnitStanding.{UnitStanding}
+use Rattle.mxf_units.specs.declared.standing.UnitStanding.TheVariants as standings
+use Rattle.mxf_units.specs.declared.essence_zone.EssenceZone.{EssenceZone}
+use Rattle.mxf_units.specs.declared.essence_zone.part.StreamPart.{StreamPart}
+use Rattle.mxf_units.specs.declared.location.Location.{Location}
+use Rattle.mxf_units.specs.declared.stream.StreamPlace.{StreamPlace}
+use Rattle.mxf_units.specs.declared.unit.Extent.{Extent}
+use Rattle.mxf_units.specs.Streams.{is_other_place, only_place, place_in, place_of, segments_for}
+use Rattle.mxf_units.specs.EssenceZones.{begins_up_to, chosen, parts_of, zone_at}
+use Rattle.mxf_units.specs.Units.{are_all_held, asked_end, extent_by, is_told}
+use Rattle.mxf_units.specs.Units.{location_at, location_in, location_of, standing_by, standing_in, unit_of, IsHeldWhole}
+use Rattle.mxf_units.proofs.RangeLaws.{all_held-says}
+
+-- ---- why it isn't known where a unit lies
+
+ok_or-untold : {K : Type 0} (o : Option K) (w v : UnitStanding) → is_told w ≡ false → ok_or o w ≡ Err v
+    → is_told v ≡ false
+ok_or-untold None w v f e = let s : w ≡ v = cc in subst (λ u. is_told u ≡ false) s f
+ok_or-untold (Some x) w v f e = absurd cc
+
+place-untold : (seen : Option StreamPlace) (places : List StreamPlace) (v : UnitStanding)
+    → only_place seen places ≡ Err v → is_told v ≡ false
+place-untold seen [] v e = ok_or-untold seen standings.NotIndexed v refl e
+place-untold seen (p ∷ places) v e =
+    elim (is_other_place seen p) as (λ b. (if b then Err standings.Ambiguous else only_place (Some p) places) ≡ Err v
+    → is_told v ≡ false) [
+      | true ↦ λ f. let s : standings.Ambiguous ≡ v = cc in subst (λ u. is_told u ≡ false) s refl
+      | false ↦ λ f. place-untold (Some p) places v f
+    ] e
+
+zone-untold : (parts : List StreamPart) (v : UnitStanding) → chosen parts ≡ Err v → is_told v ≡ false
+zone-untold [] v e = let s : standings.NoPartition ≡ v = cc in subst (λ u. is_told u ≡ false) s refl
+zone-untold (p ∷ []) v e = ok_or-untold p.zone standings.Unknown v refl e
+zone-untold (p ∷ q ∷ parts) v e =
+    elim (not (p.body_offset == q.body_offset)) as (λ b. (if b then ok_or p.zone standings.Unknown
+    else (if is_some q.zone then Err standings.Several else ok_or p.zone standings.Several)) ≡ Err v
+    → is_told v ≡ false) [
+      | true ↦ λ f. ok_or-untold p.zone standings.Unknown v refl f
+      | false ↦ λ f. elim (is_some q.zone) as (λ b.
+          (if b then Err standings.Several else ok_or p.zone standings.Several) ≡ Err v → is_told v ≡ false) [
+            | true ↦ λ g. let s : standings.Several ≡ v = cc in subst (λ u. is_told u ≡ false) s refl
+            | false ↦ λ g. ok_or-untold p.zone standings.Several v refl g
+          ] f
+    ] e
+
+in-untold : (segments : List SegmentAtParts) (place : StreamPlace) (zone : Result EssenceZone UnitStanding)
+    (v : UnitStanding) → ((w : UnitStanding) → zone ≡ Err w → is_told w ≡ false)
+    → location_in segments place zone ≡ Err v → is_told v ≡ false
+in-untold segments place (Err w) v f e = let s : w ≡ v = cc in subst (λ u. is_told u ≡ false) s (f w refl)
+in-untold segments place (Ok zone) v f e = absurd cc
+
+at-untold : (parts : List StreamPart) (segments : List SegmentAtParts) (place : Result StreamPlace UnitStanding)
+    (v : UnitStanding) → ((w : UnitStanding) → place ≡ Err w → is_told w ≡ false)
+    → location_at parts segments place ≡ Err v → is_told v ≡ false
+at-untold parts segments (Err w) v f e = let s : w ≡ v = cc in subst (λ u. is_told u ≡ false) s (f w refl)
+at-untold parts segments (Ok place) v f e =
+    in-untold segments place (zone_at parts place.body_sid place.offset) v
+    (zone-untold (filter (begins_up_to place.body_sid place.offset) parts)) e
+
+pub location-untold : (notes : List NoteParts) (index_sid unit : ℕ) (v : UnitStanding)
+    → location_of notes index_sid unit ≡ Err v → is_told v ≡ false
+unfolding location_of
+location-untold notes index_sid unit v e =
+    let segments = segments_for notes index_sid in
+    at-untold (parts_of notes) segments (place_of segments unit) v (place-untold None (filter_map (place_in unit) segments)) e
+
+-- ---- held
+
+last_test : (a b c d e : Bool)
+    → (if a then standings.Elsewhere
+    else (if b then standings.Unsure
+    else (if c then standings.Disputed
+    else (if d then standings.Missing else (if e then standings.Held else standings.Part))))) ≡ standings.Held
+    → e ≡ true
+last_test true b c d e h = absurd cc
+last_test false true c d e h = absurd cc
+last_test false false true d e h = absurd cc
+last_test false false false true e h = absurd cc
+last_test false false false false true h = refl
+last_test false false false false false h = absurd cc
+
+held-in : (notes : List NoteParts) (l : Location) → standing_in notes l ≡ standings.Held → IsHeldWhole notes l.extent
+held-in notes l h =
+    let end = asked_end l.extent in
+    let s = and_parts (is_some l.extent.end) (are_all_held notes l.extent.start end) (last_test _ _ _ _ _ h) in
+    let e = some_is l.extent.end s.0 in
+    let at : end ≡ e.0 = ap (λ (o : Option ℕ). unwrap_or o (l.extent.start + 1)) e.1 in
+    record {
+      end = e.0;
+      end_is = e.1;
+      held = λ x from below. (all_held-says notes l.extent.start end).0 s.1 x from (subst (λ n. x < n) (sym at) below);
+    }
+
+held-by : (notes : List NoteParts) (location : Result Location UnitStanding)
+    → ((v : UnitStanding) → location ≡ Err v → is_told v ≡ false) → standing_by notes location ≡ standings.Held
+    → (e : Extent) × (extent_by (standing_by notes location) location ≡ Some e) × IsHeldWhole notes e
+held-by notes (Err v) f h = let t = f v refl in let u = ap is_told h in absurd (cc (t, u))
+held-by notes (Ok l) f h = (
+  l.extent,
+  ap (λ w. if is_told w then Some l.extent else None) h,
+  held-in notes l h,
+)
+
+pub held_units : (notes : List NoteParts) (index_sid unit : ℕ)
+    → (unit_of notes index_sid unit).standing ≡ standings.Held
+    → (e : Extent) × ((unit_of notes index_sid unit).extent ≡ Some e) × IsHeldWhole notes e
+unfolding unit_of
+held_units notes index_sid unit h =
+    held-by notes (location_of notes index_sid unit) (location-untold notes index_sid unit) h

@@ -1,0 +1,12 @@
+pub mod OrderLaws
+pub mod LeastLaws
+pub mod PacketLaws
+pub mod PartLaws
+pub mod RangeLaws
+pub mod HeldUnits
+pub mod StandingRanges
+pub mod StandingPlaces
+pub mod StandingZones
+pub mod StandingLaws
+pub mod NextLaws
+pub mod LimitLaws

@@ -1,0 +1,386 @@
+-- First packets of essence, and where the essence of a partition lies, by tests and by relations.
+use Rattle.std.proofs.Common.{◌≡◌, ◌∙◌, ◌↔◌, ◌<◌, ◌+◌, ◌-◌, ◌==◌, ◌&&◌, ◌||◌, ◌⊎◌, ℕ, Bool, true, false, not}
+use Rattle.std.proofs.Common.{IsTrue, List, Option, None, Some, refl, sym, ap, subst, inl, inr, arith, eq-eqb}
+use Rattle.std.proofs.Common.{eqb-true, filter_map, find, if◌then◌else◌, is_some, lt-ltb, ltb-true, map}
+use Rattle.std.proofs.Common.{option_and_then}
+use Rattle.std.proofs.lemmas.Bool.{and_from, and_parts}
+use Rattle.std.specs.Option.{option_map_or, option_or}
+use Rattle.mxf_klv.specs.declared.kinds.Kind.{Kind}
+use Rattle.mxf_klv.specs.declared.kinds.Kind.TheVariants as kinds
+use Rattle.mxf_klv.specs.Parts.{NoteParts}
+use Rattle.mxf_klv.specs.Note.{end_of}
+use Rattle.mxf_klv.specs.Kind.{kind_of}
+use Rattle.mxf_klv.specs.Rising.{In}
+use Rattle.mxf_klv.proofs.Lists.{In-append, In-filter_map, In-map, find-only, found-In}
+use Rattle.mxf_klv.proofs.Tests.{either}
+use Rattle.mxf_catalogue.specs.Disputes.{undisputed_notes}
+use Rattle.mxf_catalogue.proofs.DisputeLaws.{In-undisputed_notes, undisputed_at-found}
+use Rattle.mxf_views.specs.Partitions.{PartitionParts, partitions_of, previous_of}
+use Rattle.mxf_views.proofs.PartitionSearch.{one_partition}
+use Rattle.mxf_views.specs.Places.{segments_of}
+use Rattle.mxf_views.specs.RandomIndex.{RipAtParts}
+use Rattle.mxf_views.specs.RandomIndexView.{rip_view_of}
+use Rattle.mxf_views.specs.declared.random_index.RipView.{RipView}
+use Rattle.mxf_views.specs.declared.random_index.RipView.TheVariants.{Absent, Several, Unreadable, One}
+use Rattle.mxf_restore.specs.Held.{IsDoubtful, IsHeld, end_of_file, is_doubtful, is_held, is_in_file}
+use Rattle.mxf_restore.specs.Claims.{claims_of, over_fills}
+use Rattle.mxf_restore.specs.Map.{begins_clear_head, named_place}
+use Rattle.mxf_restore.specs.declared.claim.Claim.{Claim}
+use Rattle.mxf_restore.proofs.HeldLaws.{is_doubtful-says, is_held-says}
+use Rattle.mxf_units.specs.EssenceZones.{behind_index, begins_inside, bounds_of, essence_at, first_packet, is_clip_wrapped}
+use Rattle.mxf_units.specs.EssenceZones.{is_essence, is_one, is_open_place, is_sure, limit_of, may_be_essence, names_before}
+use Rattle.mxf_units.specs.EssenceZones.{open_place, rip_place_by, zone_by}
+use Rattle.mxf_units.specs.Limits.{BeginsHead, IsAlone, IsBound, IsClipWrapped, IsEssenceZone, IsFirstPacket, IsLimit}
+use Rattle.mxf_units.specs.Limits.{IsOpenPlace, IsRipPlace, IsSure}
+use Rattle.mxf_units.specs.Streams.{least_above, next_of}
+use Rattle.mxf_units.proofs.LeastLaws.{IsLeast, least-is}
+use Rattle.mxf_units.proofs.NextLaws.{next-is}
+
+-- ---- first packets
+
+alone-says : (notes : List NoteParts) (n : NoteParts) → In n (undisputed_notes notes) ↔ IsAlone notes n
+alone-says notes n =
+    let u = In-undisputed_notes n notes in (
+      λ h. let k = u.0 h in record { held = k.0; undisputed = k.1 },
+      λ a. u.1 (a.held, a.undisputed),
+    )
+
+kind-says : (k : Kind) → may_be_essence k ≡ true → (k ≡ kinds.Essence) ⊎ (k ≡ kinds.Other)
+kind-says kinds.Essence e = inl refl
+kind-says kinds.Other e = inr refl
+kind-says (kinds.Header s) e = absurd cc
+kind-says (kinds.Body s) e = absurd cc
+kind-says (kinds.Footer s) e = absurd cc
+kind-says kinds.Primer e = absurd cc
+kind-says kinds.Segment e = absurd cc
+kind-says kinds.Rip e = absurd cc
+kind-says kinds.Preface e = absurd cc
+kind-says kinds.Identification e = absurd cc
+kind-says kinds.ContentStorage e = absurd cc
+kind-says kinds.MaterialPackage e = absurd cc
+kind-says kinds.SourcePackage e = absurd cc
+kind-says kinds.RawSet e = absurd cc
+kind-says kinds.Fill e = absurd cc
+
+says-kind : (k : Kind) → (k ≡ kinds.Essence) ⊎ (k ≡ kinds.Other) → may_be_essence k ≡ true
+says-kind k (inl e) = ap may_be_essence e
+says-kind k (inr e) = ap may_be_essence e
+
+guarded : {K : Type 0} (b : Bool) (x y : K) → (if b then Some x else None) ≡ Some y → (b ≡ true) × (x ≡ y)
+guarded true x y e = (refl, cc)
+guarded false x y e = absurd cc
+
+essence-says : (notes : List NoteParts) (x : ℕ) (n : NoteParts) → essence_at notes x ≡ Some n
+    → IsAlone notes n × (n.offset ≡ x) × ((kind_of n.key ≡ kinds.Essence) ⊎ (kind_of n.key ≡ kinds.Other))
+essence-says notes x n e =
+    elim (find (λ m. m.offset == x) (undisputed_notes notes)) as (λ (o : Option NoteParts).
+    find (λ m. m.offset == x) (undisputed_notes notes) ≡ o
+    → option_and_then (λ m. if may_be_essence (kind_of m.key) then Some m else None) o ≡ Some n
+    → IsAlone notes n × (n.offset ≡ x) × ((kind_of n.key ≡ kinds.Essence) ⊎ (kind_of n.key ≡ kinds.Other))) [
+      | None ↦ λ f g. absurd cc
+      | Some m ↦ λ f g.
+          let k = found-In (λ (m : NoteParts). m.offset == x) (undisputed_notes notes) m f in
+          let s = guarded (may_be_essence (kind_of m.key)) m n g in
+          subst (λ n. IsAlone notes n × (n.offset ≡ x)
+          × ((kind_of n.key ≡ kinds.Essence) ⊎ (kind_of n.key ≡ kinds.Other))) s.1
+          ((alone-says notes m).0 k.0, eqb-true m.offset x k.1, kind-says (kind_of m.key) s.0)
+    ] refl e
+
+says-essence : (notes : List NoteParts) (x : ℕ) (n : NoteParts) → IsAlone notes n → n.offset ≡ x
+    → (kind_of n.key ≡ kinds.Essence) ⊎ (kind_of n.key ≡ kinds.Other) → essence_at notes x ≡ Some n
+says-essence notes x n a e k =
+    ap (λ (o : Option NoteParts). option_and_then (λ m. if may_be_essence (kind_of m.key) then Some m else None) o)
+    (undisputed_at-found x notes n ((alone-says notes n).1 a) e)
+    ∙ ap (λ b. if b then Some n else None) (says-kind (kind_of n.key) k)
+
+pub first-says : (notes : List NoteParts) (p : PartitionParts) (n : NoteParts)
+    → (first_packet notes p ≡ Some n) ↔ IsFirstPacket notes p n
+unfolding first_packet
+first-says notes p n = (
+  λ e. elim (behind_index notes p) as (λ (o : Option ℕ). behind_index notes p ≡ o
+      → option_and_then (λ x. essence_at notes (over_fills notes x)) o ≡ Some n → IsFirstPacket notes p n) [
+        | None ↦ λ f g. absurd cc
+        | Some x ↦ λ f g.
+            let s = essence-says notes (over_fills notes x) n g in
+            record { from = x; behind = f; begins = s.1; alone = s.0; kind = s.2 }
+      ] refl e,
+  λ i. ap (λ (o : Option ℕ). option_and_then (λ x. essence_at notes (over_fills notes x)) o) i.behind
+      ∙ says-essence notes (over_fills notes i.from) n i.alone i.begins i.kind,
+)
+
+-- ---- where all units lie in one packet
+
+essence_kind : (k : Kind) → is_essence k ≡ true → k ≡ kinds.Essence
+essence_kind kinds.Essence e = refl
+essence_kind kinds.Other e = absurd cc
+essence_kind (kinds.Header s) e = absurd cc
+essence_kind (kinds.Body s) e = absurd cc
+essence_kind (kinds.Footer s) e = absurd cc
+essence_kind kinds.Primer e = absurd cc
+essence_kind kinds.Segment e = absurd cc
+essence_kind kinds.Rip e = absurd cc
+essence_kind kinds.Preface e = absurd cc
+essence_kind kinds.Identification e = absurd cc
+essence_kind kinds.ContentStorage e = absurd cc
+essence_kind kinds.MaterialPackage e = absurd cc
+essence_kind kinds.SourcePackage e = absurd cc
+essence_kind kinds.RawSet e = absurd cc
+essence_kind kinds.Fill e = absurd cc
+
+inside-says : (n : NoteParts) (second : Option ℕ) → begins_inside n second ≡ true
+    → (m : ℕ) × (second ≡ Some m) × (n.offset + m < end_of n)
+inside-says n None e = absurd cc
+inside-says n (Some m) e = let l = ltb-true m (end_of n - n.offset) e in (m, refl, omega (arith, l))
+
+pub clip-says : (notes : List NoteParts) (p : PartitionParts) (n : NoteParts)
+    → IsTrue (is_clip_wrapped notes p n) ↔ IsClipWrapped notes p n
+clip-says notes p n =
+    let body = p.pack.numbers.body_sid in
+    let second = next_of (segments_of notes) body 0 in
+    let first = is_essence (kind_of n.key) && (p.pack.numbers.body_offset == 0) in (
+      λ h.
+          let a = and_parts first (begins_inside n second) h in
+          let b = and_parts (is_essence (kind_of n.key)) (p.pack.numbers.body_offset == 0) a.0 in
+          let s = inside-says n second a.1 in
+          record {
+            kind = essence_kind (kind_of n.key) b.0;
+            begins = eqb-true _ _ b.1;
+            second = s.0;
+            second_is = (next-is (segments_of notes) body 0 (Some s.0)).0 s.1;
+            inside = s.2;
+          },
+      λ c.
+          let e = (next-is (segments_of notes) body 0 (Some c.second)).1 c.second_is in
+          let l = c.inside in
+          and_from first (begins_inside n second)
+          (and_from (is_essence (kind_of n.key)) (p.pack.numbers.body_offset == 0) (ap is_essence c.kind)
+          (eq-eqb _ _ c.begins))
+          (ap (begins_inside n) e ∙ lt-ltb c.second (end_of n - n.offset) (omega (arith, l))),
+    )
+
+-- ---- limits
+
+head-says : (notes : List NoteParts) (x : ℕ) → IsTrue (begins_clear_head notes x) ↔ BeginsHead notes x
+head-says notes x =
+    let found = find (λ n. n.offset == x) (undisputed_notes notes) in (
+      λ h. elim found as (λ (o : Option NoteParts). found ≡ o → option_map_or (λ n. not n.whole) o false ≡ true
+          → BeginsHead notes x) [
+            | None ↦ λ f g. absurd cc
+            | Some n ↦ λ f g.
+                let k = found-In (λ (n : NoteParts). n.offset == x) (undisputed_notes notes) n f in
+                (n, (alone-says notes n).0 k.0, no n.whole g, eqb-true n.offset x k.1)
+          ] refl h,
+      λ b.
+          ap (λ (o : Option NoteParts). option_map_or (λ n. not n.whole) o false)
+          (undisputed_at-found x notes b.0 ((alone-says notes b.0).1 b.1) b.3)
+          ∙ ap not b.2,
+    )
+  where
+    no : (b : Bool) → not b ≡ true → b ≡ false
+    no true e = absurd cc
+    no false e = refl
+
+either-says : (a b : Bool) → (a || b) ≡ true → (a ≡ true) ⊎ (b ≡ true)
+either-says true b e = inl refl
+either-says false b e = inr e
+
+denied : (P : Type 0) (b : Bool) → (IsTrue b ↔ P) → not b ≡ true → ¬ P
+denied P true s e = absurd cc
+denied P false s e = λ p. let t = s.1 p in cc (t)
+
+not_so : (P : Type 0) (b : Bool) → (IsTrue b ↔ P) → ¬ P → not b ≡ true
+not_so P true s n = absurd (n (s.0 refl))
+not_so P false s n = refl
+
+unknown-says : (notes : List NoteParts) (x : ℕ)
+    → IsTrue (is_doubtful notes x || begins_clear_head notes x || not (is_held notes x))
+    ↔ ((IsDoubtful notes x ⊎ BeginsHead notes x) ⊎ ¬ IsHeld notes x)
+unknown-says notes x = (
+  λ h. elim (either-says (is_doubtful notes x || begins_clear_head notes x) (not (is_held notes x)) h) [
+    | inl a ↦ inl (elim (either-says (is_doubtful notes x) (begins_clear_head notes x) a) [
+      | inl b ↦ inl ((is_doubtful-says notes x).0 b)
+      | inr b ↦ inr ((head-says notes x).0 b)
+    ])
+    | inr a ↦ inr (denied (IsHeld notes x) (is_held notes x) (is_held-says notes x) a)
+  ],
+  λ u. either (is_doubtful notes x || begins_clear_head notes x) (not (is_held notes x)) (elim u [
+    | inl a ↦ inl (either (is_doubtful notes x) (begins_clear_head notes x) (elim a [
+      | inl b ↦ inl ((is_doubtful-says notes x).1 b)
+      | inr b ↦ inr ((head-says notes x).1 b)
+    ]))
+    | inr a ↦ inr (not_so (IsHeld notes x) (is_held notes x) (is_held-says notes x) a)
+  ]),
+)
+
+place-says : (notes : List NoteParts) (c : Claim) (x : ℕ) → open_place notes c ≡ Some x
+    → (named_place c ≡ Some x) × IsTrue (is_open_place notes x)
+unfolding open_place
+place-says notes c x e =
+    elim (named_place c) as (λ (o : Option ℕ).
+    option_and_then (λ y. if is_open_place notes y then Some y else None) o ≡ Some x
+    → (o ≡ Some x) × IsTrue (is_open_place notes x)) [
+      | None ↦ λ f. absurd cc
+      | Some y ↦ λ f.
+          let s = guarded (is_open_place notes y) y x f in
+          (ap (λ (n : ℕ). Some n) s.1, subst (λ z. is_open_place notes z ≡ true) s.1 s.0)
+    ] e
+
+says-place : (notes : List NoteParts) (c : Claim) (x : ℕ) → named_place c ≡ Some x → IsTrue (is_open_place notes x)
+    → open_place notes c ≡ Some x
+unfolding open_place
+says-place notes c x e t =
+    ap (λ (o : Option ℕ). option_and_then (λ y. if is_open_place notes y then Some y else None) o) e
+    ∙ ap (λ b. if b then Some x else None) t
+
+open-says : (notes : List NoteParts) (x : ℕ)
+    → In x (filter_map (open_place notes) (claims_of notes)) ↔ IsOpenPlace notes x
+open-says notes x =
+    let m = In-filter_map (open_place notes) (claims_of notes) x in
+    let unknown = is_doubtful notes x || begins_clear_head notes x || not (is_held notes x) in (
+      λ h.
+          let s = m.0 h in
+          let p = place-says notes s.0 x s.2 in
+          let q = and_parts (is_in_file notes x) unknown p.1 in
+          record {
+            by = s.0;
+            claimed = s.1;
+            named = p.0;
+            in_file = q.0;
+            unknown = (unknown-says notes x).0 q.1;
+          },
+      λ o. m.1 (
+        o.by,
+        o.claimed,
+        says-place notes o.by x o.named
+            (and_from (is_in_file notes x) unknown o.in_file ((unknown-says notes x).1 o.unknown)),
+      ),
+    )
+
+bound-says : (notes : List NoteParts) (x : ℕ) → In x (bounds_of notes) ↔ IsBound notes x
+bound-says notes x =
+    let a = In-append x (map (λ p. p.offset) (partitions_of notes)) (filter_map (open_place notes) (claims_of notes)) in
+    let m = In-map (λ (p : PartitionParts). p.offset) (partitions_of notes) x in
+    let o = open-says notes x in (
+      λ h. elim (a.0 h) [
+        | inl k ↦ let s = m.0 k in inl (s.0, s.1, sym s.2)
+        | inr k ↦ inr (o.0 k)
+      ],
+      λ b. a.1 (elim b [
+        | inl s ↦ inl (m.1 (s.0, s.1, sym s.2))
+        | inr k ↦ inr (o.1 k)
+      ]),
+    )
+
+rip-says : (notes : List NoteParts) (x : ℕ) (view : RipView) → rip_view_of notes ≡ view
+    → rip_place_by (end_of_file notes) view ≡ Some x → IsRipPlace notes x
+rip-says notes x Absent e f = absurd cc
+rip-says notes x Several e f = absurd cc
+rip-says notes x (Unreadable offset) e f = absurd cc
+rip-says notes x (One r) e f =
+    let s = guarded (is_some (end_of_file notes)) r.offset x f in
+    record { rip = r; only = e; ended = s.0; offset = s.1 }
+
+says-rip : (notes : List NoteParts) (x : ℕ) → IsRipPlace notes x
+    → rip_place_by (end_of_file notes) (rip_view_of notes) ≡ Some x
+says-rip notes x r =
+    ap (rip_place_by (end_of_file notes)) r.only
+    ∙ ap (λ b. if b then Some r.rip.offset else None) r.ended
+    ∙ ap (λ (n : ℕ). Some n) r.offset
+
+by_least : (notes : List NoteParts) (p : PartitionParts) (least rip : Option ℕ)
+    → IsLeast p.offset (bounds_of notes) least → rip_place_by (end_of_file notes) (rip_view_of notes) ≡ rip
+    → IsLimit notes p (option_or least rip)
+by_least notes p (Some l) rip is e =
+    inl ((bound-says notes l).0 is.0, is.1, λ x b above. is.2 x ((bound-says notes x).1 b) above)
+by_least notes p None (Some l) is e =
+    inr (λ x b. is x ((bound-says notes x).1 b), rip-says notes l (rip_view_of notes) refl e)
+by_least notes p None None is e = (
+  λ x b. is x ((bound-says notes x).1 b),
+  λ x r. let f = sym e ∙ says-rip notes x r in absurd cc,
+)
+
+pub limit-says : (notes : List NoteParts) (p : PartitionParts) → IsLimit notes p (limit_of notes p)
+limit-says notes p =
+    by_least notes p (least_above p.offset (bounds_of notes)) (rip_place_by (end_of_file notes) (rip_view_of notes))
+    (least-is p.offset (bounds_of notes)) refl
+
+one-says : (view : RipView) → is_one view ≡ true → (r : RipAtParts) × (view ≡ One r)
+one-says Absent e = absurd cc
+one-says Several e = absurd cc
+one-says (Unreadable offset) e = absurd cc
+one-says (One r) e = (r, refl)
+
+names-says : (notes : List NoteParts) (x before : ℕ) → IsTrue (names_before notes x before)
+    ↔ ((q : PartitionParts) × In q (partitions_of notes) × (q.offset ≡ x) × (previous_of q ≡ before))
+names-says notes x before =
+    let found = find (λ q. q.offset == x) (partitions_of notes) in (
+      λ h. elim found as (λ (o : Option PartitionParts). found ≡ o
+          → option_map_or (λ q. previous_of q == before) o false ≡ true
+          → (q : PartitionParts) × In q (partitions_of notes) × (q.offset ≡ x) × (previous_of q ≡ before)) [
+            | None ↦ λ f g. absurd cc
+            | Some q ↦ λ f g.
+                let k = found-In (λ (q : PartitionParts). q.offset == x) (partitions_of notes) q f in
+                (q, k.0, eqb-true q.offset x k.1, eqb-true (previous_of q) before g)
+          ] refl h,
+      λ s.
+          let e : found ≡ Some s.0 = find-only (λ (q : PartitionParts). q.offset == x) (partitions_of notes) s.0 s.1
+          (eq-eqb s.0.offset x s.2)
+          (λ q k t. one_partition notes q s.0 k s.1 (eqb-true q.offset x t ∙ sym s.2)) in
+          ap (λ (o : Option PartitionParts). option_map_or (λ q. previous_of q == before) o false) e
+          ∙ eq-eqb (previous_of s.0) before s.3,
+    )
+
+pub sure-says : (notes : List NoteParts) (p : PartitionParts) (limit : Option ℕ)
+    → IsTrue (is_sure notes p limit) ↔ IsSure notes p limit
+sure-says notes p None = (λ h. absurd cc, λ s. let e = s.at_is in absurd cc)
+sure-says notes p (Some x) =
+    let names = names-says notes x p.offset in (
+      λ h. record {
+        at = x;
+        at_is = refl;
+        told = elim (either-says (is_one (rip_view_of notes)) (names_before notes x p.offset) h) [
+          | inl a ↦ inl (one-says (rip_view_of notes) a)
+          | inr a ↦ inr (names.0 a)
+        ];
+      },
+      λ s.
+          let e : x ≡ s.at = let f = s.at_is in cc in
+          either (is_one (rip_view_of notes)) (names_before notes x p.offset) (elim s.told [
+            | inl a ↦ inl (ap is_one a.1)
+            | inr a ↦ inr (names.1 (a.0, a.1, a.2 ∙ sym e, a.3))
+          ]),
+    )
+
+-- ---- where the essence lies
+
+pub zone-by : (notes : List NoteParts) (p : PartitionParts) (n : NoteParts) → IsEssenceZone notes p n (zone_by notes p n)
+zone-by notes p n =
+    let clip = clip-says notes p n in
+    let limit = limit_of notes p in
+    elim (is_clip_wrapped notes p n) as (λ b. is_clip_wrapped notes p n ≡ b → IsEssenceZone notes p n
+    (if b
+    then record { body_offset = 0; origin = n.offset + 16 + n.width; limit = Some (end_of n); is_sure = true }
+    else record {
+      body_offset = p.pack.numbers.body_offset;
+      origin = n.offset;
+      limit = limit;
+      is_sure = is_sure notes p limit;
+    })) [
+      | true ↦ λ e.
+          let c = clip.0 e in
+          record {
+            clip = λ c. refl;
+            body_offset = sym c.begins;
+            origin = λ no. absurd (no c);
+            limit = λ no. absurd (no c);
+            sure = λ no. absurd (no c);
+          }
+      | false ↦ λ e.
+          record {
+            clip = λ c. let t = clip.1 c in absurd (cc (t, e));
+            body_offset = refl;
+            origin = λ no. refl;
+            limit = λ no. limit-says notes p;
+            sure = λ no. sure-says notes p limit;
+          }
+    ] refl

@@ -1,0 +1,44 @@
+-- First packets of essence.
+use Rattle.std.proofs.Common.{◌≡◌, ◌≢◌, ◌∙◌, ◌==◌, ◌&&◌, ◌≤◌, ◌+◌, ℕ, Bool, List, [], ◌∷◌, refl, ap}
+use Rattle.std.proofs.Common.{arith, find, Option, None, Some, ne_eqb, eqb-true, inl, inr, if◌then◌else◌}
+use Rattle.std.proofs.Common.{option_and_then, sym}
+use Rattle.mxf_klv.specs.Parts.{NoteParts}
+use Rattle.mxf_klv.specs.Kind.{kind_of}
+use Rattle.mxf_klv.specs.Note.{IsNote, end_of, greatest_end}
+use Rattle.mxf_klv.specs.Rising.{In}
+use Rattle.mxf_klv.proofs.Lists.{all-In, find-none}
+use Rattle.mxf_catalogue.specs.Content.{IsCatalogue}
+use Rattle.mxf_catalogue.specs.Disputes.{undisputed_notes}
+use Rattle.mxf_catalogue.proofs.DisputeLaws.{In-undisputed_notes}
+use Rattle.mxf_views.specs.Copies.{is_fill}
+use Rattle.mxf_views.specs.Partitions.{PartitionParts}
+use Rattle.mxf_restore.specs.Claims.{over_among, over_fills}
+use Rattle.mxf_units.specs.EssenceZones.{behind_index, essence_at, first_packet, may_be_essence}
+
+over_none : (notes : List NoteParts) (x : ℕ) → ((n : NoteParts) → In n notes → n.offset ≢ x) → over_among notes x ≡ x
+over_none [] x f = refl
+over_none (n ∷ notes) x f =
+    ap (λ b. over_among notes (if b && is_fill (kind_of n.key) then end_of n else x))
+    (ne_eqb n.offset x (f n (inl refl)))
+    ∙ over_none notes x (λ m h. f m (inr h))
+
+-- By the packet that begins there.
+pub essence_is : (notes : List NoteParts) (x : ℕ) (n : NoteParts) (b : Bool)
+    → Some n ≡ find (λ n. n.offset == x) (undisputed_notes notes) → b ≡ may_be_essence (kind_of n.key)
+    → (if b then Some n else None) ≡ essence_at notes x
+essence_is notes x n b e f =
+    ap (λ b. if b then Some n else None) f
+    ∙ ap (λ (o : Option NoteParts). option_and_then (λ n. if may_be_essence (kind_of n.key) then Some n else None) o) e
+
+-- No packet begins at the greatest end or behind it.
+pub far_packet : (notes : List NoteParts) (p : PartitionParts) (x : ℕ) → IsCatalogue notes → greatest_end ≤ x
+    → Some x ≡ behind_index notes p → None ≡ first_packet notes p
+unfolding first_packet
+far_packet notes p x is far behind =
+    let apart : (n : NoteParts) → In n (undisputed_notes notes) → n.offset ≢ x = λ n h e.
+    let note : IsNote n = all-In IsNote notes n is.members ((In-undisputed_notes n notes).0 h).0 in
+    let end : n.offset + 16 + n.width + n.length ≤ greatest_end = note.within in omega (arith, end, far, e) in
+    sym (ap (λ y. essence_at notes y) (over_none (undisputed_notes notes) x apart)
+    ∙ ap (λ (o : Option NoteParts). option_and_then (λ n. if may_be_essence (kind_of n.key) then Some n else None) o)
+    (find-none (λ (n : NoteParts). n.offset == x) (undisputed_notes notes) (λ n h t. apart n h (eqb-true _ _ t))))
+    ∙ ap (λ (o : Option ℕ). option_and_then (λ x. essence_at notes (over_fills notes x)) o) behind

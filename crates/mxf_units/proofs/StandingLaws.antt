@@ -1,0 +1,75 @@
+-- Each standing has its cause.
+use Rattle.std.proofs.Common.{ℕ, Result, Ok, Err, List, inl, inr}
+use Rattle.mxf_klv.specs.Parts.{NoteParts}
+use Rattle.mxf_views.specs.Places.{IsOnlyPair, segments_of}
+use Rattle.mxf_units.specs.declared.standing.UnitStanding.{UnitStanding}
+use Rattle.mxf_units.specs.declared.standing.UnitStanding.TheVariants as standings
+use Rattle.mxf_units.specs.declared.essence_zone.EssenceZone.{EssenceZone}
+use Rattle.mxf_units.specs.declared.stream.StreamPlace.{StreamPlace}
+use Rattle.mxf_units.specs.EssenceZones.{parts_of, zone_at}
+use Rattle.mxf_units.specs.Standings.{IsStanding, IsStandingAt, IsZone}
+use Rattle.mxf_units.specs.Streams.{next_of, place_of, segments_for}
+use Rattle.mxf_units.specs.Units.{extent_in, location_at, location_in, location_of, standing_by, unit_of}
+use Rattle.mxf_units.proofs.StandingPlaces.{IsPlacing, placing}
+use Rattle.mxf_units.proofs.StandingRanges.{standing-says}
+use Rattle.mxf_units.proofs.StandingZones.{zone-says}
+
+by_zone : (notes : List NoteParts) (index_sid : ℕ) (place : StreamPlace) (zone : Result EssenceZone UnitStanding)
+    → IsZone notes place.body_sid place.offset zone
+    → IsStandingAt notes index_sid place.body_sid place.offset
+    (standing_by notes (location_in (segments_for notes index_sid) place zone))
+by_zone notes index_sid place (Err w) z = inl z
+by_zone notes index_sid place (Ok zone) z =
+    inr (
+      zone,
+      z,
+      standing-says notes (record {
+        zone = zone;
+        extent = extent_in zone place.offset
+            (next_of (segments_for notes index_sid) place.body_sid place.offset);
+      }),
+    )
+
+at_place : (notes : List NoteParts) (index_sid unit body_sid offset : ℕ) (w : UnitStanding)
+    → IsOnlyPair (segments_of notes) index_sid unit body_sid offset
+    → IsStandingAt notes index_sid body_sid offset w → IsStanding notes index_sid unit w
+at_place notes index_sid unit body_sid offset standings.NotIndexed o (inl z) = absurd z
+at_place notes index_sid unit body_sid offset standings.NotIndexed o (inr s) = absurd s.2
+at_place notes index_sid unit body_sid offset standings.Ambiguous o (inl z) = absurd z
+at_place notes index_sid unit body_sid offset standings.Ambiguous o (inr s) = absurd s.2
+at_place notes index_sid unit body_sid offset standings.NoPartition o s = (body_sid, offset, o, s)
+at_place notes index_sid unit body_sid offset standings.Several o s = (body_sid, offset, o, s)
+at_place notes index_sid unit body_sid offset standings.Unknown o s = (body_sid, offset, o, s)
+at_place notes index_sid unit body_sid offset standings.Elsewhere o s = (body_sid, offset, o, s)
+at_place notes index_sid unit body_sid offset standings.Unsure o s = (body_sid, offset, o, s)
+at_place notes index_sid unit body_sid offset standings.Disputed o s = (body_sid, offset, o, s)
+at_place notes index_sid unit body_sid offset standings.Missing o s = (body_sid, offset, o, s)
+at_place notes index_sid unit body_sid offset standings.Part o s = (body_sid, offset, o, s)
+at_place notes index_sid unit body_sid offset standings.Held o s = (body_sid, offset, o, s)
+
+by_place : (notes : List NoteParts) (index_sid unit : ℕ) (place : Result StreamPlace UnitStanding)
+    → IsPlacing notes index_sid unit place
+    → IsStanding notes index_sid unit
+    (standing_by notes (location_at (parts_of notes) (segments_for notes index_sid) place))
+by_place notes index_sid unit (Ok p) h =
+    let zone = zone_at (parts_of notes) p.body_sid p.offset in
+    at_place notes index_sid unit p.body_sid p.offset
+    (standing_by notes (location_in (segments_for notes index_sid) p zone)) h
+    (by_zone notes index_sid p zone (zone-says notes p.body_sid p.offset))
+by_place notes index_sid unit (Err standings.NotIndexed) h = h
+by_place notes index_sid unit (Err standings.Ambiguous) h = h
+by_place notes index_sid unit (Err standings.NoPartition) h = absurd h
+by_place notes index_sid unit (Err standings.Several) h = absurd h
+by_place notes index_sid unit (Err standings.Unknown) h = absurd h
+by_place notes index_sid unit (Err standings.Elsewhere) h = absurd h
+by_place notes index_sid unit (Err standings.Unsure) h = absurd h
+by_place notes index_sid unit (Err standings.Disputed) h = absurd h
+by_place notes index_sid unit (Err standings.Missing) h = absurd h
+by_place notes index_sid unit (Err standings.Part) h = absurd h
+by_place notes index_sid unit (Err standings.Held) h = absurd h
+
+pub standings_by_cause : (notes : List NoteParts) (index_sid unit : ℕ)
+    → IsStanding notes index_sid unit (unit_of notes index_sid unit).standing
+unfolding unit_of location_of
+standings_by_cause notes index_sid unit =
+    by_place notes index_sid unit (place_of (segments_for notes index_sid) unit) (placing notes index_sid unit)

@@ -1,0 +1,12 @@
+-- What was seen, with the places that the segments give which are to come.
+use Rattle.std.proofs.Common.{◌≡◌, drop, filter_map}
+use Rattle.std.specs.Option.{ForSome}
+use Rattle.mxf_units.specs.Streams.{IsSmall, only_place, place_in, place_of}
+use Rattle.mxf_units.proofs.segments.place_of.Given as goal
+
+abbrev pub invariant-loop-segment : goal.invariant-loop-segment
+invariant-loop-segment l = record {
+  place : only_place l.seen (filter_map (place_in l.unit) (drop l.segment-index l.segments))
+      ≡ place_of l.segments l.unit;
+  small : ForSome l.seen IsSmall;
+}

@@ -1,0 +1,6 @@
+pub mod Words
+pub mod Streams
+pub mod EssenceZones
+pub mod Units
+pub mod Standings
+pub mod Limits

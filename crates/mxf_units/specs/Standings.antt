@@ -1,0 +1,100 @@
+-- How the bytes of edit units stand, each by its cause (this project's profile).
+use Rattle.std.specs.Prelude.{◌≡◌, ◌≢◌, ℕ, ◌<◌, ◌≤◌, ◌⊎◌, true, false, None, Some, Result, Ok, Err, List}
+use Rattle.std.specs.Prelude.{IsSome}
+use Rattle.mxf_klv.specs.Parts.{NoteParts}
+use Rattle.mxf_klv.specs.Rising.{In}
+use Rattle.mxf_views.specs.Partitions.{PartitionParts, partitions_of}
+use Rattle.mxf_views.specs.Places.{IsGiven, IsOnlyPair, segments_of}
+use Rattle.mxf_views.specs.declared.index.place.Pair.{Pair}
+use Rattle.mxf_restore.specs.Held.{IsDoubtful, IsHeld}
+use Rattle.mxf_units.specs.declared.standing.UnitStanding.{UnitStanding}
+use Rattle.mxf_units.specs.declared.standing.UnitStanding.TheVariants as standings
+use Rattle.mxf_units.specs.declared.essence_zone.EssenceZone.{EssenceZone}
+use Rattle.mxf_units.specs.declared.unit.Extent.{Extent}
+use Rattle.mxf_units.specs.EssenceZones.{zone_of}
+use Rattle.mxf_units.specs.Streams.{next_of, segments_for}
+use Rattle.mxf_units.specs.Units.{asked_end, extent_in}
+
+-- A partition of a stream that begins at an offset or below it.
+pub record BeginsUpTo (notes : List NoteParts) (body_sid offset : ℕ) (p : PartitionParts) : Type 0 where
+  pub partition : In p (partitions_of notes)
+  pub body : p.pack.numbers.body_sid ≡ body_sid
+  pub begins : p.pack.numbers.body_offset ≤ offset
+
+-- One of the last of these: none begins behind it.
+pub record IsLast (notes : List NoteParts) (body_sid offset : ℕ) (p : PartitionParts) : Type 0 where
+  pub begins : BeginsUpTo notes body_sid offset p
+  pub last : (q : PartitionParts) → BeginsUpTo notes body_sid offset q
+      → q.pack.numbers.body_offset ≤ p.pack.numbers.body_offset
+
+-- The essence is that of the only last one whose first packet is known; or there is none at all, or the only last one
+-- has none, or there are more last ones and more than one of them or none has one.
+abbrev pub IsZone : List NoteParts → ℕ → ℕ → Result EssenceZone UnitStanding → Type 0
+IsZone notes body_sid offset (Ok zone) =
+    (p : PartitionParts) × IsLast notes body_sid offset p × (zone_of notes p ≡ Some zone)
+    × ((q : PartitionParts) → IsLast notes body_sid offset q → q ≢ p → zone_of notes q ≡ None)
+IsZone notes body_sid offset (Err standings.NoPartition) =
+    (p : PartitionParts) → ¬ BeginsUpTo notes body_sid offset p
+IsZone notes body_sid offset (Err standings.Unknown) =
+    (p : PartitionParts) × IsLast notes body_sid offset p × (zone_of notes p ≡ None)
+    × ((q : PartitionParts) → IsLast notes body_sid offset q → q ≡ p)
+IsZone notes body_sid offset (Err standings.Several) =
+    (p : PartitionParts) × (q : PartitionParts) × IsLast notes body_sid offset p × IsLast notes body_sid offset q
+    × (p ≢ q) × ((IsSome (zone_of notes p) × IsSome (zone_of notes q))
+    ⊎ ((r : PartitionParts) → IsLast notes body_sid offset r → zone_of notes r ≡ None))
+IsZone notes body_sid offset (Err _) = ⊥
+
+-- The bytes begin or end behind the limit of a zone.
+pub record GoesBehind (zone : EssenceZone) (e : Extent) : Type 0 where
+  pub limit : ℕ
+  pub limit_is : zone.limit ≡ Some limit
+  pub behind : (limit ≤ e.start) ⊎ ((end : ℕ) × (e.end ≡ Some end) × (limit < end))
+
+-- All offsets of a range are held, or some is, or some is doubtful.
+abbrev pub AllHeld : List NoteParts → ℕ → ℕ → Type 0
+AllHeld notes from to = (x : ℕ) → from ≤ x → x < to → IsHeld notes x
+
+abbrev pub AnyHeld : List NoteParts → ℕ → ℕ → Type 0
+AnyHeld notes from to = (x : ℕ) × IsHeld notes x × (from ≤ x) × (x < to)
+
+abbrev pub AnyDoubtful : List NoteParts → ℕ → ℕ → Type 0
+AnyDoubtful notes from to = (x : ℕ) × IsDoubtful notes x × (from ≤ x) × (x < to)
+
+-- The bytes lie in their partition: they don't go behind its limit, and that is sure, or all is held from the origin on
+-- up to where they are asked about.
+pub record LiesInside (notes : List NoteParts) (zone : EssenceZone) (e : Extent) : Type 0 where
+  pub within : ¬ GoesBehind zone e
+  pub sure : (zone.is_sure ≡ true) ⊎ AllHeld notes zone.origin (asked_end e)
+
+-- How bytes stand of which it is known where they are looked for.
+abbrev pub IsStandingIn : List NoteParts → EssenceZone → Extent → UnitStanding → Type 0
+IsStandingIn notes zone e standings.Elsewhere = GoesBehind zone e
+IsStandingIn notes zone e standings.Unsure =
+    (¬ GoesBehind zone e) × (zone.is_sure ≡ false) × (¬ AllHeld notes zone.origin (asked_end e))
+IsStandingIn notes zone e standings.Disputed = LiesInside notes zone e × AnyDoubtful notes e.start (asked_end e)
+IsStandingIn notes zone e standings.Missing =
+    LiesInside notes zone e × (¬ AnyDoubtful notes e.start (asked_end e)) × (¬ AnyHeld notes e.start (asked_end e))
+IsStandingIn notes zone e standings.Part =
+    LiesInside notes zone e × (¬ AnyDoubtful notes e.start (asked_end e)) × AnyHeld notes e.start (asked_end e)
+    × ((e.end ≡ None) ⊎ ¬ AllHeld notes e.start (asked_end e))
+IsStandingIn notes zone e standings.Held =
+    LiesInside notes zone e × (¬ AnyDoubtful notes e.start (asked_end e)) × AnyHeld notes e.start (asked_end e)
+    × IsSome e.end × AllHeld notes e.start (asked_end e)
+IsStandingIn notes zone e _ = ⊥
+
+-- How a unit stands of which the place is known.
+abbrev pub IsStandingAt : List NoteParts → ℕ → ℕ → ℕ → UnitStanding → Type 0
+IsStandingAt notes index_sid body_sid offset standing =
+    IsZone notes body_sid offset (Err standing)
+    ⊎ ((zone : EssenceZone) × IsZone notes body_sid offset (Ok zone)
+    × IsStandingIn notes zone (extent_in zone offset (next_of (segments_for notes index_sid) body_sid offset)) standing)
+
+-- How a unit stands: no segment gives it a place, or two give different ones, or all that give one give this one.
+abbrev pub IsStanding : List NoteParts → ℕ → ℕ → UnitStanding → Type 0
+IsStanding notes index_sid unit standings.NotIndexed = (p : Pair) → ¬ IsGiven (segments_of notes) index_sid unit p
+IsStanding notes index_sid unit standings.Ambiguous =
+    (p : Pair) × (q : Pair) × IsGiven (segments_of notes) index_sid unit p
+    × IsGiven (segments_of notes) index_sid unit q × (p ≢ q)
+IsStanding notes index_sid unit standing =
+    (body_sid : ℕ) × (offset : ℕ) × IsOnlyPair (segments_of notes) index_sid unit body_sid offset
+    × IsStandingAt notes index_sid body_sid offset standing

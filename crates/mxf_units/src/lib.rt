@@ -1,0 +1,53 @@
+//! Where the stored edit units of an index lie in the file, and which of their bytes are held (ST 377-1, Index Table
+//! Segment and Partition Pack; the standings are this project's profile).
+//!
+//! An index table segment says where an edit unit begins in its essence stream, and the BodyOffset of a partition where
+//! in the stream its essence begins. Together they say where a unit lies in the file, as far as segments and packs are
+//! held: a part of a recording can be cut out of the pieces that are there, and what is missing of it is known by its
+//! file offsets.
+//!
+//! | Question | Call | Answer |
+//! |---|---|---|
+//! | Which indexes are there? | [`index_sids`] | the IndexSIDs of the segments, rising |
+//! | Where does a unit lie, and is it held? | [`Units::of`], then [`Units::unit`] | [`EditUnit`]: its [`UnitStanding`],
+//! its [`Extent`], and what its index entry says |
+//!
+//! A unit's bytes reach up to the next place in its stream that a segment of its index gives; those of the last one
+//! reach up to the end of its partition. They are told where no unknown partition can lie before them, and lie in their
+//! partition then. Where all units of a partition lie in one packet, its BodyOffset counts from the first byte of that
+//! packet's value, and else from its key.
+//!
+//! What is proved: each answer is its definition over the notes of the catalogue (`unit_of`, `index_sids_of`). The laws
+//! say more of these: [`standings_by_definition`], that each standing has its cause; [`held_units_are_held`], that of a
+//! unit which stands as held each byte is; [`next_by_definition`], [`first_packets_by_definition`] and
+//! [`limits_by_definition`], what next places, first packets and limits are.
+//!
+//! The units from `from` up to `to` of an index, whose bytes are all held:
+//!
+//! ```
+//! let units = Units::of(rt.alloc(), &views, index_sid)?;
+//! for number in from..to {
+//!     let unit = units.unit(number);
+//!     if unit.standing != UnitStanding::Held {
+//!         println!(rt; "unit {number} is {}", unit.standing)?;
+//!     }
+//! }
+//! ```
+#![tactic(auto)]
+
+mod bounds;
+mod essence_zone;
+mod first_packet;
+mod location;
+mod segments;
+mod standing;
+mod stream;
+mod unit;
+mod units;
+
+pub use essence_zone::limits_by_definition;
+pub use first_packet::first_packets_by_definition;
+pub use segments::next_by_definition;
+pub use standing::UnitStanding;
+pub use unit::{EditUnit, Extent};
+pub use units::{Units, held_units_are_held, index_sids, standings_by_definition};

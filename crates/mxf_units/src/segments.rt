@@ -1,0 +1,241 @@
+//! What the segments of an index say of edit units (ST 377-1, Index Table Segment).
+ghost use Rattle.std.specs.Prelude.{◌≡◌, ◌↔◌, ◌+◌, ◌++◌, ◌<◌, ◌≤◌, ◌^◌, ℕ, IfOk, OnOk, IfSome, List, Option};
+ghost use Rattle.std.specs.List.{AllByRecursion, filter_map, flat_map};
+ghost use Rattle.mxf_klv.specs.Rising.{In};
+ghost use Rattle.mxf_klv.specs.Parts.{NoteParts};
+ghost use Rattle.mxf_views.specs.Places.{SegmentAtParts, segments_of};
+ghost use Rattle.mxf_units.specs.Streams.{IsNextOf, IsSmall, entry_of, in_order, listed_in, next_of, place_in, place_of};
+ghost use Rattle.mxf_units.specs.Streams.{is_other_entry, is_other_place, offset_above, places_above, segments_for};
+ghost use Rattle.mxf_units.specs.Streams.{sized_above};
+
+use crate::standing::UnitStanding;
+use crate::stream::{StreamPlace, first_above, in_order, lesser, offset_in};
+use mxf_klv::OutOfMemory;
+use mxf_sets::IndexEntry;
+use mxf_views::{SegmentAt, Views};
+use std::alloc::Global;
+
+/// All segments, in their order. They take memory.
+pub(crate) fn all_segments<'a>(
+    alloc: Global,
+    views: &'a Views,
+) -> Result<Vec<SegmentAt<'a>>, OutOfMemory>
+    ensures { IfOk result (λ v. v.items ≡ segments_of views.now) }
+{
+    let mut segments = Vec::new(alloc);
+    for segment in views.segments() {
+        segments.push(segment)?;
+    }
+    Ok(segments)
+}
+
+/// The segments of an IndexSID, in their order. They take memory.
+pub(crate) fn segments_for<'a>(
+    alloc: Global,
+    views: &'a Views,
+    index_sid: u32,
+) -> Result<Vec<SegmentAt<'a>>, OutOfMemory>
+    ensures { IfOk result (λ v. v.items ≡ segments_for views.now index_sid) }
+{
+    let mut segments = Vec::new(alloc);
+    for segment in views.segments() {
+        if segment.segment.numbers().index_sid == index_sid {
+            segments.push(segment)?;
+        }
+    }
+    Ok(segments)
+}
+
+/// The place that a segment gives an edit unit, where it covers the unit.
+fn place_in(segment: &SegmentAt<'_>, unit: u64) -> Option<StreamPlace>
+    ensures place { result ≡ place_in unit segment.now }
+    ensures small { IfSome result IsSmall }
+{
+    let offset = segment.segment.offset_of(unit)?;
+    Some(StreamPlace {
+        body_sid: segment.segment.numbers().body_sid,
+        offset,
+    })
+}
+
+/// The place of an edit unit, where the segments that give one agree.
+pub(crate) fn place_of(segments: &[SegmentAt<'_>], unit: u64) -> Result<StreamPlace, UnitStanding>
+    ensures place { result ≡ place_of segments.now unit }
+    ensures small { IfOk result IsSmall }
+{
+    let mut seen = None;
+    for segment in segments {
+        if let Some(place) = place_in(segment, unit) {
+            if is_other_place(seen, place) {
+                return Err(UnitStanding::Ambiguous);
+            }
+            seen = Some(place);
+        }
+    }
+    seen.ok_or(UnitStanding::NotIndexed)
+}
+
+/// Whether another place was seen before.
+fn is_other_place(seen: Option<StreamPlace>, place: StreamPlace) -> bool
+    ensures { result ≡ is_other_place seen place }
+{
+    match seen {
+        Some(other) => !(other.body_sid == place.body_sid && other.offset == place.offset),
+        None => false,
+    }
+}
+
+/// The entry of an edit unit, where the segments that list it agree on its front.
+pub(crate) fn entry_of(segments: &[SegmentAt<'_>], unit: u64) -> Option<IndexEntry>
+    ensures { result ≡ entry_of segments.now unit }
+{
+    let mut seen = None;
+    for segment in segments {
+        if let Some(entry) = segment.segment.entry_of(unit) {
+            if is_other_entry(seen, entry) {
+                return None;
+            }
+            seen = Some(entry);
+        }
+    }
+    seen
+}
+
+/// Whether another entry was seen before.
+fn is_other_entry(seen: Option<IndexEntry>, entry: IndexEntry) -> bool
+    ensures { result ≡ is_other_entry seen entry }
+{
+    match seen {
+        Some(other) => {
+            !(other.temporal_offset == entry.temporal_offset
+                && other.key_frame_offset == entry.key_frame_offset
+                && other.flags == entry.flags)
+        }
+        None => false,
+    }
+}
+
+/// Adds the places of the units that a segment lists.
+#[tactic(auto, unfolding(crate::specs::Streams::listed_in))]
+fn add_listed(places: &mut Vec<StreamPlace>, segment: &SegmentAt<'_>) -> Result<(), OutOfMemory>
+    requires { AllByRecursion IsSmall places.old.items }
+    ensures places { OnOk result (places.new.items ≡ places.old.items ++ listed_in segment.now) }
+    ensures small { OnOk result (AllByRecursion IsSmall places.new.items) }
+{
+    let start = segment.segment.numbers().start.unsigned_abs();
+    let end = start + segment.segment.entry_count() as u64;
+    for unit in start..end {
+        if let Some(place) = place_in(segment, unit) {
+            places.push(place)?;
+        }
+    }
+    Ok(())
+}
+
+/// The places of the units that segments list, in the order of the segments.
+fn listed_in(alloc: Global, segments: &[SegmentAt<'_>]) -> Result<Vec<StreamPlace>, OutOfMemory>
+    ensures places { IfOk result (λ v. v.items ≡ flat_map listed_in segments.now) }
+    ensures small { IfOk result (λ v. AllByRecursion IsSmall v.items) }
+{
+    let mut places = Vec::new(alloc);
+    for segment in segments {
+        add_listed(&mut places, segment)?;
+    }
+    Ok(places)
+}
+
+/// The same in the order of the places, each once. They take memory.
+pub(crate) fn listed_places(
+    alloc: Global,
+    segments: &[SegmentAt<'_>],
+) -> Result<Vec<StreamPlace>, OutOfMemory>
+    ensures places { IfOk result (λ v. v.items ≡ in_order (flat_map listed_in segments.now)) }
+    ensures small { IfOk result (λ v. AllByRecursion IsSmall v.items) }
+{
+    Ok(in_order(listed_in(alloc, segments)?))
+}
+
+/// The first place above an offset, in bytes, that a segment gives of which all units have one size.
+#[tactic(auto, unfolding(crate::specs::Streams::sized_above))]
+fn sized_above(segment: &SegmentAt<'_>, offset: u128) -> Option<StreamPlace>
+    requires { offset < 2 ^ 96 }
+    ensures place { result ≡ sized_above offset segment.now }
+    ensures small { IfSome result (λ p. p.offset + 2 ^ 96 ≤ 2 ^ 128) }
+{
+    let numbers = segment.segment.numbers();
+    if numbers.unit_bytes == 0 {
+        return None;
+    }
+    let start = u128::from(numbers.start.unsigned_abs());
+    let duration = u128::from(numbers.duration.unsigned_abs());
+    let unit_bytes = u128::from(numbers.unit_bytes);
+    let unit = start.max(offset / unit_bytes + 1);
+    if duration > 0 && unit >= start + duration {
+        return None;
+    }
+    Some(StreamPlace {
+        body_sid: numbers.body_sid,
+        offset: unit_bytes * unit,
+    })
+}
+
+/// The places that segments give, in their order, but of those above 0 that one of units of one size gives the first
+/// alone. They take memory.
+pub(crate) fn places_above_0(
+    alloc: Global,
+    segments: &[SegmentAt<'_>],
+) -> Result<Vec<StreamPlace>, OutOfMemory>
+    ensures { IfOk result (λ v. v.items ≡ in_order (places_above 0 segments.now)) }
+{
+    let mut places = listed_in(alloc, segments)?;
+    for segment in segments {
+        if let Some(place) = sized_above(segment, 0) {
+            places.push(place)?;
+        }
+    }
+    Ok(in_order(places))
+}
+
+/// The next place behind another in its stream, in bytes from the start of that.
+pub(crate) fn next_of(
+    segments: &[SegmentAt<'_>],
+    listed: &[StreamPlace],
+    place: StreamPlace,
+) -> Option<u128>
+    requires listed { listed.now ≡ in_order (flat_map listed_in segments.now) }
+    requires small_listed { AllByRecursion IsSmall listed.now }
+    requires small { IsSmall place }
+    ensures next { result ≡ next_of segments.now place.body_sid place.offset }
+    ensures small { IfSome result (λ n. n + 2 ^ 96 ≤ 2 ^ 128) }
+{
+    let mut next = first_above(listed, place.body_sid, place.offset);
+    for segment in segments {
+        if let Some(sized) = sized_above(segment, place.offset) {
+            next = lesser(next, offset_above(sized, place));
+        }
+    }
+    next
+}
+
+/// The offset of a place in the stream of another and above it, in bytes.
+fn offset_above(sized: StreamPlace, place: StreamPlace) -> Option<u128>
+    ensures { result ≡ offset_above place.body_sid place.offset sized }
+{
+    if sized.offset > place.offset {
+        offset_in(sized, place.body_sid)
+    } else {
+        None
+    }
+}
+
+/// A law of [`Units::unit`](crate::Units::unit): where a unit's bytes reach up to is the least place above its own in
+/// the stream that a segment of the index gives some unit.
+pub fn next_by_definition()
+    ensures next { (segments : List SegmentAtParts) (body_sid offset : ℕ) (next : Option ℕ)
+        → (next_of segments body_sid offset ≡ next) ↔ IsNextOf segments body_sid offset next }
+
+    // The segments of an index are those of its IndexSID.
+    ensures index { (notes : List NoteParts) (index_sid : ℕ) (s : SegmentAtParts)
+        → In s (segments_for notes index_sid)
+        ↔ (In s (segments_of notes) × (s.segment.numbers.index_sid ≡ index_sid)) }
+{}

@@ -1,0 +1,30 @@
+//! Edit units.
+use crate::standing::UnitStanding;
+
+/// Where bytes of the file lie.
+#[derive(Clone, Copy, Debug, PartialEq, Eq)]
+pub struct Extent {
+    /// The file offset of the first byte.
+    pub start: u128,
+    /// The file offset behind the last byte; none where that isn't known.
+    pub end: Option<u128>,
+}
+
+/// A stored edit unit: where it lies in the file, which of its bytes are held, and what its index entry says (ST 377-1,
+/// Index Table Segment).
+#[derive(Clone, Copy, Debug, PartialEq, Eq)]
+pub struct EditUnit {
+    /// Units are counted from 0 as they are stored.
+    pub number: u64,
+    pub standing: UnitStanding,
+    /// Where it lies, where that is known: from the standing `Disputed` on.
+    pub extent: Option<Extent>,
+    /// The number of the key frame that its entry names; none where no entry does, where entries disagree, and where
+    /// the number would be negative.
+    pub key: Option<u64>,
+    /// The unit that is shown at this unit's place is stored so many units behind it; none where no entry says so, and
+    /// where entries disagree.
+    pub temporal: Option<i8>,
+    /// The flags of its entry; none where there is no entry, and where entries disagree.
+    pub flags: Option<u8>,
+}

@@ -1,0 +1,170 @@
+//! The edit units of an index.
+ghost use Rattle.std.specs.Prelude.{◌≡◌, ◌↔◌, ◌+◌, ◌<◌, ◌^◌, ℕ, IfOk, List, Some, map};
+ghost use Rattle.mxf_klv.specs.Parts.{NoteParts};
+ghost use Rattle.mxf_units.specs.declared.unit.Extent.{Extent};
+ghost use Rattle.std.specs.List.{flat_map};
+ghost use Rattle.mxf_views.specs.Places.{segments_of};
+ghost use Rattle.mxf_units.specs.Standings.{IsStanding, IsStandingIn};
+ghost use Rattle.mxf_units.specs.declared.location.Location.{Location};
+ghost use Rattle.mxf_units.specs.declared.standing.UnitStanding.{UnitStanding};
+ghost use Rattle.mxf_units.specs.Streams.{in_order, listed_in, segments_for};
+ghost use Rattle.mxf_units.specs.EssenceZones.{parts_of};
+ghost use Rattle.mxf_units.specs.Units.{IsHeldWhole, index_sids_of, key_at, location_of, standing_in, unit_by};
+ghost use Rattle.mxf_units.specs.Units.{unit_of};
+
+use crate::bounds::rising;
+use crate::essence_zone::part::{StreamPart, parts_of};
+use crate::location::{Location, extent_by, location_at, standing_by};
+use crate::segments::{entry_of, listed_places, place_of, segments_for};
+use crate::standing::UnitStanding;
+use crate::stream::StreamPlace;
+use crate::unit::{EditUnit, Extent};
+use mxf_klv::OutOfMemory;
+use mxf_restore::Holdings;
+use mxf_sets::IndexEntry;
+use mxf_views::{SegmentAt, Views};
+use std::alloc::Global;
+use std::marker::Model;
+
+/// The edit units of the index of an IndexSID: where each lies in the file, and which of its bytes are held (ST 377-1,
+/// Index Table Segment; the standings are this project's profile).
+#[derive(Drop)]
+pub struct Units<'a> {
+    holdings: Holdings<'a>,
+    index_sid: u32,
+    segments: Vec<SegmentAt<'a>>,
+    listed: Vec<StreamPlace>,
+    parts: Vec<StreamPart>,
+}
+
+impl<'a> Model for Units<'a> {
+    ghost use Rattle.std.specs.Prelude.{List, ◌≡◌};
+    ghost use Rattle.std.specs.List.{AllByRecursion, flat_map};
+    ghost use Rattle.mxf_units.specs.Streams.{IsSmall, in_order, listed_in, segments_for};
+    ghost use Rattle.mxf_units.specs.EssenceZones.{parts_of};
+    ghost use Rattle.mxf_units.specs.Units.{UnitsParts};
+
+    ghost Value = { UnitsParts };
+
+    ghost view = { λ u. record { notes = u.holdings; index_sid = u.index_sid } };
+
+    ghost invariant = { λ u. (u.segments.items ≡ segments_for u.holdings u.index_sid)
+        × (u.listed.items ≡ in_order (flat_map listed_in u.segments.items))
+        × AllByRecursion IsSmall u.listed.items
+        × (u.parts.items ≡ parts_of u.holdings) };
+}
+
+impl<'a> Units<'a> {
+    /// The units of the index of an IndexSID. It takes memory: n log n of the notes and the index entries, as its time
+    /// does.
+    pub fn of(alloc: Global, views: &'a Views, index_sid: u32) -> Result<Units<'a>, OutOfMemory>
+        ensures { IfOk result (λ u. u ≡ record { notes = views.now; index_sid = index_sid }) }
+    {
+        let holdings = Holdings::of(alloc, views)?;
+        let segments = segments_for(alloc, views, index_sid)?;
+        let listed = listed_places(alloc, &segments)?;
+        let parts = parts_of(alloc, &holdings)?;
+        Ok(Units {
+            holdings,
+            index_sid,
+            segments,
+            listed,
+            parts,
+        })
+    }
+
+    /// Where a unit lies, as far as that is known.
+    fn location_of(&self, unit: u64) -> Result<Location, UnitStanding>
+        ensures location { result ≡ location_of self.now.notes self.now.index_sid unit }
+        ensures small { IfOk result (λ l. l.extent.start + 1 < 2 ^ 128) }
+    {
+        let place = place_of(&self.segments, unit);
+        location_at(&self.segments, &self.listed, &self.parts, place)
+    }
+
+    /// The unit of a number. Units are counted from 0 as they are stored. It takes no memory, and time for each segment
+    /// of the index.
+    #[tactic(auto, unfolding(crate::specs::Units::unit_of))]
+    pub fn unit(&self, unit: u64) -> EditUnit
+        ensures { result ≡ unit_of self.now.notes self.now.index_sid unit }
+    {
+        let location = self.location_of(unit);
+        let standing = standing_by(&self.holdings, location);
+        let entry = entry_of(&self.segments, unit);
+        unit_by(unit, standing, extent_by(standing, location), entry)
+    }
+}
+
+/// A unit, by how its bytes stand and by its entry.
+fn unit_by(
+    number: u64,
+    standing: UnitStanding,
+    extent: Option<Extent>,
+    entry: Option<IndexEntry>,
+) -> EditUnit
+    ensures { result ≡ unit_by number standing extent entry }
+{
+    let key = match entry {
+        Some(entry) => key_at(number, entry),
+        None => None,
+    };
+    EditUnit {
+        number,
+        standing,
+        extent,
+        key,
+        temporal: entry.map(|entry| entry.temporal_offset),
+        flags: entry.map(|entry| entry.flags),
+    }
+}
+
+/// The key frame that an entry names, where that is the number of a unit.
+fn key_at(unit: u64, entry: IndexEntry) -> Option<u64>
+    ensures { result ≡ key_at unit entry }
+{
+    let distance = u64::from(entry.key_frame_offset.unsigned_abs());
+    if entry.key_frame_offset < 0 {
+        unit.checked_sub(distance)
+    } else {
+        unit.checked_add(distance)
+    }
+}
+
+/// The IndexSIDs that index table segments have, each once, rising. They take memory.
+#[tactic(auto, unfolding(crate::specs::Units::index_sids_of))]
+pub fn index_sids(alloc: Global, views: &Views) -> Result<Vec<u32>, OutOfMemory>
+    ensures { IfOk result (λ v. v.items ≡ index_sids_of views.now) }
+{
+    let mut index_sids = index_sids_in(alloc, views)?;
+    index_sids.sort_unstable();
+    index_sids.dedup();
+    Ok(index_sids)
+}
+
+/// The IndexSIDs of all segments, in the order of these.
+fn index_sids_in(alloc: Global, views: &Views) -> Result<Vec<u32>, OutOfMemory>
+    ensures { IfOk result (λ v. v.items ≡ map (λ s. s.segment.numbers.index_sid) (segments_of views.now)) }
+{
+    let mut index_sids = Vec::new(alloc);
+    for segment in views.segments() {
+        index_sids.push(segment.segment.numbers().index_sid)?;
+    }
+    Ok(index_sids)
+}
+
+/// A law of [`Units::unit`]: of a unit that stands as held it is known where it ends, and each of its bytes is held.
+pub fn held_units_are_held()
+    ensures { (notes : List NoteParts) (index_sid unit : ℕ)
+        → (unit_of notes index_sid unit).standing ≡ UnitStanding.Held
+        → (e : Extent) × ((unit_of notes index_sid unit).extent ≡ Some e) × IsHeldWhole notes e }
+{}
+
+/// A law of [`Units::unit`]: each standing has its cause.
+pub fn standings_by_definition()
+    ensures cause { (notes : List NoteParts) (index_sid unit : ℕ)
+        → IsStanding notes index_sid unit (unit_of notes index_sid unit).standing }
+
+    // Of bytes of which it is known where they are looked for no other standing has.
+    ensures exact { (notes : List NoteParts) (l : Location) (standing : UnitStanding)
+        → (standing_in notes l ≡ standing) ↔ IsStandingIn notes l.zone l.extent standing }
+{}
