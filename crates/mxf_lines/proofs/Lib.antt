@@ -1,3 +1,6 @@
 pub mod HexadecimalLaws
+pub mod LineLaws
 pub mod PrintLaws
 pub mod MapLineLaws
+pub mod UnitLineLaws
+pub mod StringLaws

@@ -13,19 +13,24 @@ use Rattle.mxf_views.specs.declared.finding.Finding.{Finding}
 use Rattle.mxf_views.specs.declared.index.place.Place.{Place}
 use Rattle.mxf_views.specs.declared.index.place.Place.TheVariants.{At}
 use Rattle.mxf_restore.specs.Plan.{PlanParts, plan_of}
+use Rattle.mxf_units.specs.declared.unit.EditUnit.{EditUnit}
 use Rattle.mxf_read.specs.declared.gathering.report.PieceReport.{PieceReport}
 use Rattle.mxf_lines.specs.declared.printing.Ask.{Ask}
-use Rattle.mxf_lines.specs.declared.printing.Ask.TheVariants.{Show, Check, Locate, Join, Plan}
+use Rattle.mxf_lines.specs.declared.printing.Ask.TheVariants.{Show, Check, Locate, Join, Plan, Units}
 use Rattle.mxf_lines.specs.declared.printing.AnswerFault.{AnswerFault}
 use Rattle.mxf_lines.specs.declared.printing.AnswerFault.TheVariants.{BadUnit}
 use Rattle.mxf_lines.specs.FindingLines.{count_line, finding_line, stop_line}
 use Rattle.mxf_lines.specs.IndexLines.{place_line}
+use Rattle.mxf_lines.specs.declared.printing.Form.{Form}
+use Rattle.mxf_lines.specs.Forms.{PrintedLine}
 use Rattle.mxf_lines.specs.Lines.{join_line, piece_line}
 use Rattle.mxf_lines.specs.PlanLines.{plan_lines}
 use Rattle.mxf_lines.specs.Printing.{Prints, content_lines}
+use Rattle.mxf_lines.specs.UnitLines.{unit_lines, units_from, units_status}
+use Rattle.mxf_lines.specs.declared.printing.units.UnitRange.{UnitRange}
 
 -- A line for each report of a piece: its offset, the number of its packets, and its stop.
-abbrev pub report_lines : List PieceReport → List (List ℕ)
+abbrev pub report_lines : List PieceReport → List PrintedLine
 report_lines reports = flat_map (λ r. piece_line r.offset r.report.noted r.report.stop ∷ []) reports
 
 -- The piece ends with a packet.
@@ -34,28 +39,34 @@ is_end End = true
 is_end _ = false
 
 -- The line of a piece that doesn't end with a packet, none of another.
-abbrev pub stop_lines : PieceReport → List (List ℕ)
+abbrev pub stop_lines : PieceReport → List PrintedLine
 stop_lines r = if is_end r.report.stop then [] else stop_line r.offset r.report.stop ∷ []
 
 -- The lines of findings, and then how many there are.
-abbrev pub finding_lines : List Finding → List (List ℕ)
+abbrev pub finding_lines : List Finding → List PrintedLine
 finding_lines findings = flat_map (λ f. finding_line f ∷ []) findings ++ count_line (length findings) ∷ []
 
 -- The lines of a check: of the pieces that don't end with a packet, and of the findings of the content.
-abbrev pub check_lines : List PieceReport → List NoteParts → List (List ℕ)
+abbrev pub check_lines : List PieceReport → List NoteParts → List PrintedLine
 check_lines reports content = flat_map stop_lines reports ++ finding_lines (findings_of content)
 
 -- The line of a content that was joined: the number of its notes, and of its disputed ones.
-abbrev pub join_lines : List NoteParts → List (List ℕ)
+abbrev pub join_lines : List NoteParts → List PrintedLine
 join_lines content = join_line (length content) (length (disputed_notes content)) ∷ []
 
+-- The units of a range, by the index of an IndexSID.
+abbrev pub asked_units : ℕ → UnitRange → List NoteParts → List EditUnit
+asked_units index range content =
+    units_from (record { notes = content; index_sid = index }) range.first range.count
+
 -- The lines that are asked for, of pieces with these reports and of a content.
-abbrev pub answer_lines : Ask → List PieceReport → List NoteParts → List (List ℕ)
+abbrev pub answer_lines : Ask → List PieceReport → List NoteParts → List PrintedLine
 answer_lines Show reports content = report_lines reports ++ content_lines content
 answer_lines Check reports content = check_lines reports content
 answer_lines (Locate index unit) reports content = place_line (place_of (segments_of content) index unit) ∷ []
 answer_lines Join reports content = join_lines content
 answer_lines Plan reports content = plan_lines (plan_of content)
+answer_lines (Units index range) reports content = unit_lines range.first (asked_units index range content)
 
 -- 0 where all pieces end with a packet and nothing is found, else 1.
 abbrev pub check_status : List PieceReport → List Finding → ℕ
@@ -77,6 +88,7 @@ answer_status Check reports content = check_status reports (findings_of content)
 answer_status (Locate index unit) reports content = place_status (place_of (segments_of content) index unit)
 answer_status Join reports content = 0
 answer_status Plan reports content = plan_status (plan_of content)
+answer_status (Units index range) reports content = units_status (asked_units index range content)
 
 -- An edit unit above the greatest is asked for.
 abbrev pub IsBadAsk : Ask → Type 0
@@ -85,9 +97,11 @@ IsBadAsk Check = ⊥
 IsBadAsk (Locate index unit) = greatest_unit < unit
 IsBadAsk Join = ⊥
 IsBadAsk Plan = ⊥
+IsBadAsk (Units index range) = ⊥
 
 -- What is answered, where `Wrote` says what a writer took: the edit unit is a bad one, and nothing was written; or what
--- a call answers that prints the lines.
-abbrev pub Answers : (Result (Unit {0}) WriteFault → List ℕ → Type 0) → Result ℕ AnswerFault → List (List ℕ) → Type 0
-Answers Wrote (Err BadUnit) lines = Wrote (Ok tt) []
-Answers Wrote answered lines = Prints Wrote answered lines
+-- a call answers that prints the lines in the form.
+abbrev pub Answers : Form → (Result (Unit {0}) WriteFault → List ℕ → Type 0) → Result ℕ AnswerFault
+    → List PrintedLine → Type 0
+Answers form Wrote (Err BadUnit) lines = Wrote (Ok tt) []
+Answers form Wrote answered lines = Prints form Wrote answered lines

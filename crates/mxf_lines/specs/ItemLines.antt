@@ -1,7 +1,6 @@
 -- The lines of the items of header metadata sets (ST 336, local sets; the lines are this project's profile).
 use Rattle.std.specs.Prelude.{ℕ, ◌≡◌, ◌==◌, if◌then◌else◌, List, [], ◌∷◌}
 use Rattle.std.specs.Prelude.{length, take, codes, Option, None, Some, flat_map, option_and_then}
-use Rattle.std.specs.Prelude.{decimal}
 use Rattle.std.specs.Int.{w16, to_be_bytes}
 use Rattle.mxf_klv.specs.Parts.{NoteParts}
 use Rattle.mxf_sets.specs.Batch.{BatchParts}
@@ -12,8 +11,9 @@ use Rattle.mxf_views.specs.Labels.{primer_for, primer_of}
 use Rattle.mxf_views.specs.declared.copy.CopyInfo.{CopyInfo}
 use Rattle.mxf_views.specs.SetItems.{set_items}
 use Rattle.mxf_lines.specs.declared.printing.sets.CopyLabels.{CopyLabels}
+use Rattle.mxf_lines.specs.Forms.{Absent, Characters, PrintedLine, Value, field, line, number, word}
 use Rattle.mxf_lines.specs.Hexadecimal.{hex_of}
-use Rattle.mxf_lines.specs.Lines.{line_of, lines_where}
+use Rattle.mxf_lines.specs.Lines.{lines_where}
 
 -- The label of a tag by a primer pack, none without one.
 abbrev pub label_by : Option BatchParts → ℕ → Option (List ℕ)
@@ -21,27 +21,28 @@ label_by None tag = None
 label_by (Some entries) tag = label_of tag entries
 
 -- The digits of a label, or a hyphen for none.
-abbrev pub label_text : Option (List ℕ) → List ℕ
-label_text None = codes "-"
-label_text (Some label) = hex_of label
+abbrev pub label_shown : Option (List ℕ) → Value
+label_shown None = Absent (codes "-")
+label_shown (Some label) = Characters (hex_of label)
 
 -- The digits of the first 32 bytes of a value, or a hyphen where it is empty.
-abbrev pub value_text : List ℕ → List ℕ
-value_text value = if length value == 0 then codes "-" else hex_of (take 32 value)
+abbrev pub value_shown : List ℕ → Value
+value_shown value = if length value == 0 then Absent (codes "-") else Characters (hex_of (take 32 value))
 
 -- The line of an item of the set at an offset: its tag, the length of its value, the label that the tag stands for, and
 -- its value.
-unfoldable pub item_line : ℕ → Option (List ℕ) → ItemParts → List ℕ
+unfoldable pub item_line : ℕ → Option (List ℕ) → ItemParts → PrintedLine
 item_line offset label item =
-    line_of (codes "item" ∷ decimal offset ∷ hex_of (to_be_bytes w16 item.tag) ∷ decimal (length item.value)
-    ∷ label_text label ∷ value_text item.value ∷ [])
+    line "item" (number " " "offset" offset ∷ word " " "tag" (hex_of (to_be_bytes w16 item.tag))
+    ∷ number " " "length" (length item.value) ∷ field (codes " ") (codes "label") (label_shown label)
+    ∷ field (codes " ") (codes "value") (value_shown item.value) ∷ [])
 
 -- The lines of the items of the set at an offset, the labels by the primer pack.
-abbrev pub item_lines : ℕ → Option BatchParts → List ItemParts → List (List ℕ)
+abbrev pub item_lines : ℕ → Option BatchParts → List ItemParts → List PrintedLine
 item_lines offset primer items = flat_map (λ item. item_line offset (label_by primer item.tag) item ∷ []) items
 
 -- The lines of one of the notes of a content, none where it has no items.
-abbrev pub set_lines : List NoteParts → NoteParts → List (List ℕ)
+abbrev pub set_lines : List NoteParts → NoteParts → List PrintedLine
 set_lines content n = lines_where (item_lines n.offset (primer_for content n)) (set_items n)
 
 -- The label of a tag by the table that is kept of a copy while its sets are printed, none without one.

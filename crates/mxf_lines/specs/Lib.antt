@@ -2,6 +2,7 @@ pub mod MapLines
 pub mod PlanLines
 pub mod Answering
 pub mod FindingLines
+pub mod Forms
 pub mod Hexadecimal
 pub mod IndexLines
 pub mod ItemLines
@@ -10,3 +11,5 @@ pub mod PartitionLines
 pub mod Printing
 pub mod ReferenceLines
 pub mod ShownText
+pub mod UnitLines
+pub mod Writing

@@ -1,6 +1,5 @@
--- The texts of the lines that are printed (this project's profile). Numbers are decimal.
-use Rattle.std.specs.Prelude.{ℕ, Bool, true, false, List, [], ◌∷◌, ◌++◌}
-use Rattle.std.specs.Prelude.{codes, not, Option, None, Some, decimal, option_map}
+-- The lines that are printed (this project's profile). Numbers are decimal.
+use Rattle.std.specs.Prelude.{ℕ, Bool, true, false, List, [], ◌∷◌, codes, not, Option, None, Some, option_map}
 use Rattle.mxf_klv.specs.Kind.{kind_of}
 use Rattle.mxf_klv.specs.Parts.{NoteParts}
 use Rattle.mxf_klv.specs.Words.{kind_name, stop_name}
@@ -10,84 +9,65 @@ use Rattle.mxf_catalogue.specs.declared.run.Run.{Run}
 use Rattle.mxf_views.specs.declared.chain.Chain.{Chain}
 use Rattle.mxf_views.specs.declared.copy.CopyInfo.{CopyInfo}
 use Rattle.mxf_views.specs.Words.{chain_name}
+use Rattle.mxf_lines.specs.Forms.{Characters, Field, PrintedLine, field, flag, known, line, line_of, number, word}
 use Rattle.mxf_lines.specs.Hexadecimal.{hex_of}
 
 -- The lines of what is there, and none where it isn't.
-abbrev pub lines_where : {X : Type 0} → (X → List (List ℕ)) → Option X → List (List ℕ)
+abbrev pub lines_where : {X : Type 0} → (X → List PrintedLine) → Option X → List PrintedLine
 lines_where lines None = []
 lines_where lines (Some x) = lines x
 
--- These words, with a space between them.
-abbrev pub spaced : List (List ℕ) → List ℕ
-spaced [] = []
-spaced (word ∷ []) = word
-spaced (word ∷ next ∷ words) = word ++ (codes " " ++ spaced (next ∷ words))
+-- The offset of a stop, where it has one.
+abbrev pub stop_place : Stop → List Field
+stop_place End = []
+stop_place (NotUl at) = number " " "at" at ∷ []
+stop_place (BadLength at) = number " " "at" at ∷ []
+stop_place (TooFar at) = number " " "at" at ∷ []
+stop_place (Truncated at) = number " " "at" at ∷ []
+stop_place (NoStart at) = number " " "at" at ∷ []
 
--- The line with these parts: a space stands between them, and a newline at the end.
-abbrev pub line_of : List (List ℕ) → List ℕ
-line_of [] = codes "\n"
-line_of (part ∷ []) = part ++ codes "\n"
-line_of (part ∷ next ∷ parts) = part ++ (codes " " ++ line_of (next ∷ parts))
-
--- The text of a stop: its word, and at which offset.
-abbrev pub stop_text : Stop → List ℕ
-stop_text End = stop_name End
-stop_text (NotUl at) = spaced (stop_name (NotUl at) ∷ decimal at ∷ [])
-stop_text (BadLength at) = spaced (stop_name (BadLength at) ∷ decimal at ∷ [])
-stop_text (TooFar at) = spaced (stop_name (TooFar at) ∷ decimal at ∷ [])
-stop_text (Truncated at) = spaced (stop_name (Truncated at) ∷ decimal at ∷ [])
-stop_text (NoStart at) = spaced (stop_name (NoStart at) ∷ decimal at ∷ [])
+-- A stop: its word, and at which offset.
+abbrev pub stop_fields : List ℕ → Stop → List Field
+stop_fields before stop = field before (codes "stop") (Characters (stop_name stop)) ∷ stop_place stop
 
 -- The line of a piece: its offset, the number of its packets and its stop.
-unfoldable pub piece_line : ℕ → ℕ → Stop → List ℕ
+unfoldable pub piece_line : ℕ → ℕ → Stop → PrintedLine
 piece_line offset count stop =
-    line_of (codes "piece" ∷ decimal offset ∷ codes "noted" ∷ decimal count ∷ codes "stop" ∷ stop_text stop ∷ [])
+    line "piece" (number " " "offset" offset ∷ number " noted " "noted" count ∷ stop_fields (codes " stop ") stop)
 
 -- The line of a join: the number of notes, and how many of them are disputed.
-unfoldable pub join_line : ℕ → ℕ → List ℕ
+unfoldable pub join_line : ℕ → ℕ → PrintedLine
 join_line notes disputed =
-    line_of (codes "joined" ∷ decimal notes ∷ codes "notes" ∷ decimal disputed ∷ codes "disputed" ∷ [])
-
--- What stands after the key of a note, where it is disputed.
-abbrev pub dispute_mark : Bool → List ℕ
-dispute_mark false = []
-dispute_mark true = codes " disputed"
-
--- The word behind the key where the note is a head.
-abbrev pub head_mark : Bool → List ℕ
-head_mark false = []
-head_mark true = codes " head"
+    line_of (codes "joined") (codes "joined") (number " " "notes" notes ∷ number " notes " "disputed" disputed ∷ [])
+    (codes " disputed")
 
 -- The line of a note: its offset, its kind, the width and value of its length, its key, whether it is a head, and
 -- whether it is disputed.
-unfoldable pub note_line : NoteParts → Bool → List ℕ
+unfoldable pub note_line : NoteParts → Bool → PrintedLine
 note_line n disputed =
-    line_of (codes "note" ∷ decimal n.offset ∷ kind_name (kind_of n.key) ∷ decimal n.width ∷ decimal n.length
-    ∷ (hex_of n.key ++ (head_mark (not n.whole) ++ dispute_mark disputed)) ∷ [])
+    line "note" (number " " "offset" n.offset ∷ word " " "kind" (kind_name (kind_of n.key)) ∷ number " " "width" n.width
+    ∷ number " " "length" n.length ∷ word " " "key" (hex_of n.key) ∷ flag " head" "head" (not n.whole)
+    ∷ flag " disputed" "disputed" disputed ∷ [])
 
 -- The line of a gap: where it begins and ends.
-unfoldable pub gap_line : Run → List ℕ
-gap_line gap = line_of (codes "gap" ∷ decimal gap.start ∷ decimal gap.end ∷ [])
+unfoldable pub gap_line : Run → PrintedLine
+gap_line gap = line "gap" (number " " "start" gap.start ∷ number " " "end" gap.end ∷ [])
 
 -- The line of the chain of the partitions.
-unfoldable pub chain_line : Chain → List ℕ
-chain_line chain = line_of (codes "chain" ∷ chain_name chain ∷ [])
-
--- An offset, or the word for none.
-abbrev pub offset_text : Option ℕ → List ℕ
-offset_text None = codes "none"
-offset_text (Some offset) = decimal offset
+unfoldable pub chain_line : Chain → PrintedLine
+chain_line chain = line "chain" (word " " "chain" (chain_name chain) ∷ [])
 
 abbrev pub finished_word : Bool → List ℕ
 finished_word true = codes "finished"
 finished_word false = codes "unfinished"
 
 -- The line of a copy: its partition, its start, the bytes stated and covered, and whether it is finished.
-unfoldable pub copy_line : CopyInfo → List ℕ
+unfoldable pub copy_line : CopyInfo → PrintedLine
 copy_line copy =
-    line_of (codes "copy" ∷ decimal copy.partition ∷ codes "start" ∷ offset_text copy.start ∷ codes "bytes"
-    ∷ decimal copy.bytes ∷ codes "covered" ∷ decimal copy.covered ∷ finished_word copy.finished ∷ [])
+    line "copy" (number " " "partition" copy.partition ∷ known " start " "start" "none" copy.start
+    ∷ number " bytes " "bytes" copy.bytes ∷ number " covered " "covered" copy.covered
+    ∷ word " " "state" (finished_word copy.finished) ∷ [])
 
 -- The line of the preferred copy: its partition.
-unfoldable pub preferred_line : Option CopyInfo → List ℕ
-preferred_line copy = line_of (codes "preferred" ∷ offset_text (option_map (λ c. c.partition) copy) ∷ [])
+unfoldable pub preferred_line : Option CopyInfo → PrintedLine
+preferred_line copy = line "preferred" (known " " "partition" "none" (option_map (λ c. c.partition) copy) ∷ [])

@@ -6,7 +6,7 @@ use Rattle.mxf_restore.specs.Map.{MapParts}
 use Rattle.mxf_restore.specs.declared.map.Mark.{Mark}
 use Rattle.mxf_restore.specs.declared.map.Mark.TheVariants.{Doubtful, Header, Footer, Body, RandomIndex, Missing}
 use Rattle.mxf_restore.specs.declared.map.Mark.TheVariants.{Empty, Part, Metadata, Index, Whole}
-use Rattle.mxf_lines.specs.Lines.{line_of}
+use Rattle.mxf_lines.specs.Forms.{Number, PrintedLine, digits, field, line, number, word}
 
 -- The character of a mark.
 abbrev pub mark_text : Mark → List ℕ
@@ -28,20 +28,21 @@ share_text share = decimal (share / 10) ++ (codes "." ++ decimal (share % 10))
 
 -- The first line: where the map ends, how many bytes are held and missing, how much that is, how many ranges aren't
 -- held, how many packets are disputed, and the bytes of a cell.
-unfoldable pub map_line : MapParts → List ℕ
+unfoldable pub map_line : MapParts → PrintedLine
 map_line m =
-    line_of (codes "map" ∷ decimal m.end ∷ codes "held" ∷ decimal m.held ∷ codes "missing" ∷ decimal (m.end - m.held)
-    ∷ codes "share" ∷ share_text (1000 * m.held / m.end) ∷ codes "gaps" ∷ decimal m.gaps ∷ codes "disputed"
-    ∷ decimal m.disputed ∷ codes "cell" ∷ decimal m.cell ∷ [])
+    line "map" (number " " "end" m.end ∷ number " held " "held" m.held ∷ number " missing " "missing" (m.end - m.held)
+    ∷ digits " share " "share" (share_text (1000 * m.held / m.end)) ∷ number " gaps " "gaps" m.gaps
+    ∷ number " disputed " "disputed" m.disputed ∷ number " cell " "cell" m.cell ∷ [])
 
--- The line of a row of cells: the offset of its first byte, with so many spaces before it, and the characters of the
+-- The line of a row of cells: the offset of its first byte, with so many spaces more before it, and the characters of the
 -- marks.
-unfoldable pub row_line : ℕ → ℕ → List Mark → List ℕ
+unfoldable pub row_line : ℕ → ℕ → List Mark → PrintedLine
 row_line spaces offset marks =
-    line_of (codes "row" ∷ (repeat spaces (codes " ") ++ decimal offset) ∷ flat_map mark_text marks ∷ [])
+    line "row" (field (codes " " ++ repeat spaces (codes " ")) (codes "offset") (Number (decimal offset))
+    ∷ word " " "cells" (flat_map mark_text marks) ∷ [])
 
 -- The lines of rows of so many cells, behind cells that were passed; offsets have a width at least.
-abbrev pub rows_by : ℕ → ℕ → ℕ → ℕ → ℕ → List Mark → List (List ℕ)
+abbrev pub rows_by : ℕ → ℕ → ℕ → ℕ → ℕ → List Mark → List PrintedLine
 rows_by columns cell width zero passed marks = []
 rows_by columns cell width (suc fuel) passed [] = []
 rows_by columns cell width (suc fuel) passed (m ∷ marks) =
@@ -49,7 +50,7 @@ rows_by columns cell width (suc fuel) passed (m ∷ marks) =
     ∷ rows_by columns cell width fuel (passed + columns) (drop columns (m ∷ marks))
 
 -- The same: there are no more rows than cells.
-abbrev pub rows_of : ℕ → ℕ → ℕ → ℕ → List Mark → List (List ℕ)
+abbrev pub rows_of : ℕ → ℕ → ℕ → ℕ → List Mark → List PrintedLine
 rows_of columns cell width passed marks = rows_by columns cell width (length marks) passed marks
 
 -- The digits of the offset of the last row of so many cells.
@@ -57,6 +58,6 @@ abbrev pub row_width : ℕ → ℕ → ℕ → ℕ
 row_width columns cell count = length (decimal ((count - 1 - (count - 1) % columns) * cell))
 
 -- The lines of a map: the first, and one for each row.
-abbrev pub map_lines : ℕ → MapParts → List (List ℕ)
+abbrev pub map_lines : ℕ → MapParts → List PrintedLine
 map_lines columns m =
     map_line m ∷ rows_of columns m.cell (row_width columns m.cell (length m.marks)) 0 m.marks

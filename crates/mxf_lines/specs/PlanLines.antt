@@ -1,39 +1,37 @@
 -- The lines of a plan (this project's profile).
-use Rattle.std.specs.Prelude.{ℕ, ◌-◌, List, [], ◌∷◌, ◌++◌, codes, decimal, Option, None, Some, count_by, flat_map}
+use Rattle.std.specs.Prelude.{ℕ, ◌-◌, List, [], ◌∷◌, ◌++◌, Option, count_by, flat_map}
 use Rattle.std.specs.Prelude.{is_none, length, sum_by}
 use Rattle.std.specs.Option.{option_map_or}
 use Rattle.mxf_restore.specs.Plan.{PlanParts}
 use Rattle.mxf_restore.specs.Words.{reason_name}
 use Rattle.mxf_restore.specs.declared.plan.Doubt.{Doubt}
 use Rattle.mxf_restore.specs.declared.plan.Order.{Order}
-use Rattle.mxf_lines.specs.Lines.{line_of}
-
--- An offset, or a dash where there is none.
-abbrev pub known_text : Option ℕ → List ℕ
-known_text None = codes "-"
-known_text (Some offset) = decimal offset
+use Rattle.mxf_lines.specs.Forms.{PrintedLine, known, line, number, word}
 
 -- The line of an order: where it begins and ends, why, and which pack says so.
-unfoldable pub restore_line : Order → List ℕ
+unfoldable pub restore_line : Order → PrintedLine
 restore_line o =
-    line_of (codes "restore" ∷ decimal o.start ∷ known_text o.end ∷ reason_name o.reason ∷ known_text o.source ∷ [])
+    line "restore" (number " " "start" o.start ∷ known " " "end" "-" o.end ∷ word " " "reason" (reason_name o.reason)
+    ∷ known " " "source" "-" o.source ∷ [])
 
 -- The line of a doubt: its place, why that matters, and which pack says so.
-unfoldable pub doubt_line : Doubt → List ℕ
-doubt_line d = line_of (codes "disputed" ∷ decimal d.place ∷ reason_name d.reason ∷ known_text d.source ∷ [])
+unfoldable pub doubt_line : Doubt → PrintedLine
+doubt_line d =
+    line "disputed" (number " " "offset" d.place ∷ word " " "reason" (reason_name d.reason)
+    ∷ known " " "source" "-" d.source ∷ [])
 
 -- The bytes of an order, as far as they are known.
 abbrev pub ordered_bytes : Order → ℕ
 ordered_bytes o = option_map_or (λ e. e - o.start) o.end 0
 
 -- The last line: how many orders there are, their bytes, how many have no end, and the end of the file.
-unfoldable pub planned_line : ℕ → ℕ → ℕ → Option ℕ → List ℕ
+unfoldable pub planned_line : ℕ → ℕ → ℕ → Option ℕ → PrintedLine
 planned_line count bytes unended end =
-    line_of (codes "planned" ∷ decimal count ∷ codes "ranges" ∷ decimal bytes ∷ codes "bytes" ∷ decimal unended
-    ∷ codes "open" ∷ codes "end" ∷ known_text end ∷ [])
+    line "planned" (number " " "ranges" count ∷ number " ranges " "bytes" bytes ∷ number " bytes " "open" unended
+    ∷ known " open end " "end" "-" end ∷ [])
 
 -- The lines of a plan: of each order, of each doubt, and the last.
-abbrev pub plan_lines : PlanParts → List (List ℕ)
+abbrev pub plan_lines : PlanParts → List PrintedLine
 plan_lines p =
     flat_map (λ o. restore_line o ∷ []) p.orders
     ++ (flat_map (λ d. doubt_line d ∷ []) p.doubts

@@ -1,6 +1,6 @@
 -- The lines of what the references of the preferred copy lead to (this project's profile; the fields are those of
 -- ST 377-1, Identification and Generic Package sets). An identifier is printed as RFC 9562 writes a UUID.
-use Rattle.std.specs.Prelude.{ℕ, ◌≡◌, ◌==◌, List, [], ◌∷◌, ◌++◌, length, find, codes, Option, flat_map, decimal}
+use Rattle.std.specs.Prelude.{ℕ, ◌≡◌, ◌==◌, List, [], ◌∷◌, ◌++◌, length, find, codes, Option, flat_map}
 use Rattle.std.specs.Fmt.{signed_decimal}
 use Rattle.uuid.specs.Text.{hyphenated_text, lower}
 use Rattle.mxf_klv.specs.Kind.{kind_of}
@@ -16,15 +16,16 @@ use Rattle.mxf_views.specs.Resolved.{ResolvedParts}
 use Rattle.mxf_views.specs.declared.reference.target.Ref.{Ref}
 use Rattle.mxf_views.specs.declared.reference.target.Target.{Target}
 use Rattle.mxf_views.specs.declared.reference.target.Target.TheVariants.{Missing, Several, WrongKind, Unreadable, Found}
-use Rattle.mxf_lines.specs.declared.printing.line.record.FieldName.{FieldName}
-use Rattle.mxf_lines.specs.declared.printing.line.record.FieldName.TheVariants as names
+use Rattle.mxf_lines.specs.declared.printing.line.record.Property.{Property}
+use Rattle.mxf_lines.specs.declared.printing.line.record.Property.TheVariants as properties
 use Rattle.mxf_lines.specs.declared.printing.references.Named.{Named}
 use Rattle.mxf_lines.specs.declared.printing.references.Named.TheVariants.{Identification, Package}
 use Rattle.mxf_lines.specs.declared.printing.references.NamedRecord.{NamedRecord}
 use Rattle.mxf_lines.specs.declared.printing.references.Record.{Record}
 use Rattle.mxf_lines.specs.declared.printing.references.Record.TheVariants as records
+use Rattle.mxf_lines.specs.Forms.{Field, PrintedLine, digits, line_of, number, word}
 use Rattle.mxf_lines.specs.Hexadecimal.{hex_of}
-use Rattle.mxf_lines.specs.Lines.{line_of, lines_where, spaced}
+use Rattle.mxf_lines.specs.Lines.{lines_where}
 use Rattle.mxf_lines.specs.ShownText.{shown_value}
 
 -- The word for what a reference names.
@@ -37,105 +38,127 @@ abbrev pub uid_text : List ℕ → List ℕ
 uid_text uid = hyphenated_text lower uid
 
 -- What a reference leads to, and at which offset.
-abbrev pub target_text : Target → List ℕ
-target_text Missing = codes "missing"
-target_text Several = codes "several"
-target_text (WrongKind offset) = codes "wrong-kind " ++ decimal offset
-target_text (Unreadable offset) = codes "unreadable " ++ decimal offset
-target_text (Found offset) = codes "found " ++ decimal offset
+abbrev pub target_fields : Target → List Field
+target_fields Missing = word " " "target" (codes "missing") ∷ []
+target_fields Several = word " " "target" (codes "several") ∷ []
+target_fields (WrongKind offset) = word " " "target" (codes "wrong-kind") ∷ number " " "offset" offset ∷ []
+target_fields (Unreadable offset) = word " " "target" (codes "unreadable") ∷ number " " "offset" offset ∷ []
+target_fields (Found offset) = word " " "target" (codes "found") ∷ number " " "offset" offset ∷ []
 
 -- The line of a reference: what it names, its identifier, and what it leads to.
-unfoldable pub reference_line : Named → Ref → List ℕ
-reference_line named r = line_of (named_word named ∷ uid_text r.uid ∷ target_text r.target ∷ [])
-
--- The seven numbers of a timestamp, of which the year alone may be negative.
-unfoldable pub timestamp_text : Timestamp → List ℕ
-timestamp_text t =
-    spaced (signed_decimal t.year ∷ decimal t.month ∷ decimal t.day ∷ decimal t.hour ∷ decimal t.minute
-    ∷ decimal t.second ∷ decimal t.milliseconds_by_four ∷ [])
+unfoldable pub reference_line : Named → Ref → PrintedLine
+reference_line named r =
+    line_of (named_word named) (named_word named) (word " " "uid" (uid_text r.uid) ∷ target_fields r.target) []
 
 -- The word for a package by the kind of its set, a Material Package or a Source Package.
 abbrev pub package_word : Kind → List ℕ
 package_word MaterialPackage = codes "material"
 package_word _ = codes "source"
 
--- The word for the name of a field.
-abbrev pub field_name : FieldName → List ℕ
-field_name names.Generation = codes "generation"
-field_name names.Company = codes "company"
-field_name names.Product = codes "product"
-field_name names.Version = codes "version"
-field_name names.ProductUid = codes "product-uid"
-field_name names.Kind = codes "kind"
-field_name names.PackageUid = codes "package-uid"
-field_name names.Modified = codes "modified"
-field_name names.Name = codes "name"
-field_name names.Created = codes "created"
-field_name names.Tracks = codes "tracks"
-field_name names.Descriptor = codes "descriptor"
+-- The word for what a record says.
+abbrev pub property_word : Property → List ℕ
+property_word properties.Generation = codes "generation"
+property_word properties.Company = codes "company"
+property_word properties.Product = codes "product"
+property_word properties.Version = codes "version"
+property_word properties.ProductUid = codes "product-uid"
+property_word properties.Kind = codes "kind"
+property_word properties.PackageUid = codes "package-uid"
+property_word properties.Modified = codes "modified"
+property_word properties.Name = codes "name"
+property_word properties.Created = codes "created"
+property_word properties.Tracks = codes "tracks"
+property_word properties.Descriptor = codes "descriptor"
 
--- The line of a field: its word and its value.
-unfoldable pub field_line : List ℕ → List ℕ → List ℕ
-field_line word value = line_of (word ∷ value ∷ [])
+-- What the values of properties are printed as: an identifier, the digits of a longer one, a text, the seven numbers of a
+-- timestamp, of which the year alone may be negative, a number of tracks, and the kind of a package.
+abbrev pub uid_fields : List ℕ → List Field
+uid_fields uid = word " " "uid" (uid_text uid) ∷ []
 
--- The line of a field where it is there, by the text of its value.
-abbrev pub field_lines : {X : Type 0} → List ℕ → (X → List ℕ) → Option X → List (List ℕ)
-field_lines word text value = lines_where (λ x. field_line word (text x) ∷ []) value
+abbrev pub hex_fields : List ℕ → List Field
+hex_fields bytes = word " " "uid" (hex_of bytes) ∷ []
 
--- The lines of an Identification: those of its fields that are there, in this order.
-abbrev pub identification_lines : IdentificationParts → List (List ℕ)
+abbrev pub text_fields : List ℕ → List Field
+text_fields text = word " " "text" text ∷ []
+
+abbrev pub timestamp_fields : Timestamp → List Field
+timestamp_fields t =
+    digits " " "year" (signed_decimal t.year) ∷ number " " "month" t.month ∷ number " " "day" t.day
+    ∷ number " " "hour" t.hour ∷ number " " "minute" t.minute ∷ number " " "second" t.second
+    ∷ number " " "quarter" t.milliseconds_by_four ∷ []
+
+-- The text that the value of an item is.
+abbrev pub shown_fields : List ℕ → List Field
+shown_fields value = text_fields (shown_value value)
+
+abbrev pub tracks_fields : ℕ → List Field
+tracks_fields tracks = number " " "tracks" tracks ∷ []
+
+abbrev pub kind_fields : Kind → List Field
+kind_fields kind = word " " "kind" (package_word kind) ∷ []
+
+-- The line of a value under this word.
+abbrev pub value_line : List ℕ → List Field → PrintedLine
+value_line word fields = line_of word word fields []
+
+-- The line of a value where it is there, by its fields.
+abbrev pub value_lines : {X : Type 0} → List ℕ → (X → List Field) → Option X → List PrintedLine
+value_lines word fields value = lines_where (λ x. value_line word (fields x) ∷ []) value
+
+-- The lines of an Identification: those of its properties that are there, in this order.
+abbrev pub identification_lines : IdentificationParts → List PrintedLine
 identification_lines i =
-    field_lines (codes "generation") uid_text i.this_generation_uid
-    ++ (field_lines (codes "company") shown_value i.company_name
-    ++ (field_lines (codes "product") shown_value i.product_name
-    ++ (field_lines (codes "version") shown_value i.version_string
-    ++ (field_lines (codes "product-uid") hex_of i.product_uid
-    ++ field_lines (codes "modified") timestamp_text i.modification_date))))
+    value_lines (codes "generation") uid_fields i.this_generation_uid
+    ++ (value_lines (codes "company") shown_fields i.company_name
+    ++ (value_lines (codes "product") shown_fields i.product_name
+    ++ (value_lines (codes "version") shown_fields i.version_string
+    ++ (value_lines (codes "product-uid") hex_fields i.product_uid
+    ++ value_lines (codes "modified") timestamp_fields i.modification_date))))
 
 -- The lines of the dates of a package, of how many tracks it has, and of its descriptor: of those that are there.
-abbrev pub package_details : PackageParts → List (List ℕ)
+abbrev pub package_details : PackageParts → List PrintedLine
 package_details p =
-    field_lines (codes "created") timestamp_text p.creation_date
-    ++ (field_lines (codes "modified") timestamp_text p.modified_date
-    ++ (field_line (codes "tracks") (decimal (length p.tracks))
-    ∷ field_lines (codes "descriptor") uid_text p.descriptor))
+    value_lines (codes "created") timestamp_fields p.creation_date
+    ++ (value_lines (codes "modified") timestamp_fields p.modified_date
+    ++ (value_line (codes "tracks") (tracks_fields (length p.tracks))
+    ∷ value_lines (codes "descriptor") uid_fields p.descriptor))
 
 -- The lines of a package whose set has this kind: that, its identifier, its name where it is there, and those above.
-abbrev pub package_lines : Kind → PackageParts → List (List ℕ)
+abbrev pub package_lines : Kind → PackageParts → List PrintedLine
 package_lines kind p =
-    field_line (codes "kind") (package_word kind) ∷ field_line (codes "package-uid") (hex_of p.package_uid)
-    ∷ (field_lines (codes "name") shown_value p.name ++ package_details p)
+    value_line (codes "kind") (kind_fields kind) ∷ value_line (codes "package-uid") (hex_fields p.package_uid)
+    ∷ (value_lines (codes "name") shown_fields p.name ++ package_details p)
 
 -- The lines of the record of a note, none where its value isn't kept, or is no such record.
-abbrev pub record_lines : Named → NoteParts → List (List ℕ)
+abbrev pub record_lines : Named → NoteParts → List PrintedLine
 record_lines Identification n = lines_where identification_lines (read_as identification_at n)
 record_lines Package n = lines_where (package_lines (kind_of n.key)) (read_as package_at n)
 
 -- The lines of the record that was found, which is that of the clear note at its offset.
-abbrev pub found_lines : List NoteParts → Named → Target → List (List ℕ)
+abbrev pub found_lines : List NoteParts → Named → Target → List PrintedLine
 found_lines content named (Found offset) =
     lines_where (record_lines named) (find (λ n. n.offset == offset) (clear_notes content))
 found_lines content named target = []
 
 -- The lines of a reference: its own, and those of what it leads to.
-abbrev pub lines_of_reference : List NoteParts → Named → Ref → List (List ℕ)
+abbrev pub lines_of_reference : List NoteParts → Named → Ref → List PrintedLine
 lines_of_reference content named r = reference_line named r ∷ found_lines content named r.target
 
 -- The lines of references that all name identifications, or all packages.
-abbrev pub named_lines : List NoteParts → Named → List Ref → List (List ℕ)
+abbrev pub named_lines : List NoteParts → Named → List Ref → List PrintedLine
 named_lines content named references = flat_map (lines_of_reference content named) references
 
 -- The lines of the references of a copy: of those to identifications, then of those to packages.
-abbrev pub resolved_lines : List NoteParts → ResolvedParts → List (List ℕ)
+abbrev pub resolved_lines : List NoteParts → ResolvedParts → List PrintedLine
 resolved_lines content r =
     named_lines content Identification r.identifications ++ named_lines content Package r.packages
 
 -- The lines of the references of the preferred copy, none without one.
-abbrev pub reference_lines : List NoteParts → Option ResolvedParts → List (List ℕ)
+abbrev pub reference_lines : List NoteParts → Option ResolvedParts → List PrintedLine
 reference_lines content resolved = lines_where (resolved_lines content) resolved
 
 -- The lines of a record.
-abbrev pub lines_of_record : Record → List (List ℕ)
+abbrev pub lines_of_record : Record → List PrintedLine
 lines_of_record (records.Identification i) = identification_lines i
 lines_of_record (records.Package kind p) = package_lines kind p
 

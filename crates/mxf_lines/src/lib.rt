@@ -1,9 +1,10 @@
 //! The lines in which a run tells what it holds (this project's profile): what is shown, checked, located and joined,
-//! as text for people and scripts.
+//! as text for people and scripts, or as JSON for programs.
 //!
 //! What is proved: [`answer`] writes exactly the lines that are asked for, and nothing else; after a failed write the
 //! first bytes of them, which it counts, and after want of memory some whole lines. Its status tells whether a check
-//! found something, and whether an edit unit has one place.
+//! found something, and whether an edit unit has one place. A line is its name and its fields, of which text and JSON are
+//! two printings, and a reader of JSON takes each text as it is ([`escaped_text_is_given_back`]).
 //!
 //! That memory is there, and that a call succeeds with it, is tested.
 //!
@@ -11,10 +12,13 @@
 //!
 //! ```
 //! let gathered = gather(alloc, parts)?;
-//! let status = answer(alloc, &Ask::Show, &gathered, &mut writer)?;
+//! let status = answer(alloc, &Ask::Show, Form::Text, &gathered, &mut writer)?;
 //! ```
 #![tactic(auto)]
 
 mod printing;
 
-pub use printing::{AnswerFault, Ask, Grid, answer, hex_text, print_map};
+pub use printing::{
+    AnswerFault, Ask, Form, Grid, UnitRange, answer, escaped_text_is_given_back, hex_text,
+    print_map,
+};

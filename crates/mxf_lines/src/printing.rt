@@ -13,6 +13,8 @@ mod map;
 mod plan;
 mod references;
 mod sets;
+mod strings;
+mod units;
 
 use check::print_checked;
 pub use hexadecimal::hex_text;
@@ -22,10 +24,14 @@ pub use map::{Grid, print_map};
 use mxf_klv::{OutOfMemory, WriteFault};
 use mxf_read::Gathered;
 use mxf_restore::Plan;
+use mxf_units::Units;
 use mxf_views::Place;
 use std::alloc::Global;
 use std::io::Write;
+pub use strings::escaped_text_is_given_back;
 use thiserror::Error;
+pub use units::UnitRange;
+use units::print_units;
 
 /// Why an answer wasn't printed whole.
 #[derive(Clone, Copy, Debug, PartialEq, Eq, Error)]
@@ -49,6 +55,15 @@ impl From<OutOfMemory> for AnswerFault {
     }
 }
 
+/// How lines are printed.
+#[derive(Clone, Copy, Debug, PartialEq, Eq)]
+pub enum Form {
+    /// As words, for people and scripts.
+    Text,
+    /// Each as a JSON object (RFC 8259), for programs.
+    Json,
+}
+
 /// What a run is asked for.
 #[derive(Clone, Copy, Debug, PartialEq, Eq)]
 pub enum Ask {
@@ -62,25 +77,29 @@ pub enum Ask {
     Join,
     /// What to restore next.
     Plan,
+    /// Where the edit units of a range lie in the file, by the index of this IndexSID.
+    Units { index: u32, range: UnitRange },
 }
 
-/// Prints the lines that are asked for. The answer is 1 where a check finds something, or a piece doesn't end with a
-/// packet, where an edit unit has no place or more than one, or where there is something to restore; else it is 0.
+/// Prints the lines that are asked for, in a form. The answer is 1 where a check finds something, or a piece doesn't end
+/// with a packet, where an edit unit has no place or more than one, where there is something to restore, or where not
+/// all bytes of the units are held; else it is 0.
 ///
 /// The unit is tested first: above 9,223,372,036,854,775,807 it is a `BadUnit`. After want of memory some whole lines
 /// have been written; after a write fault the first bytes, which it counts.
 pub fn answer<W: Write>(
     alloc: Global,
     ask: &Ask,
+    form: Form,
     gathered: &Gathered,
     writer: &mut W,
 ) -> Result<u8, AnswerFault>
     ensures status { IfOk result (λ status. status ≡ answer_status ask.now gathered.now.reports gathered.now.views) }
     ensures bad_unit { (result ≡ Err faults.BadUnit) ↔ IsBadAsk ask.now }
-    ensures lines { Answers (Writes (W.contents writer.old) (W.contents writer.new)) result
+    ensures lines { Answers form (Writes (W.contents writer.old) (W.contents writer.new)) result
         (answer_lines ask.now gathered.now.reports gathered.now.views) }
 {
-    let mut printer = Printer::new(alloc);
+    let mut printer = Printer::new(alloc, form);
     match *ask {
         Ask::Show => {
             gathered.print_to(&mut printer, writer)?;
@@ -99,6 +118,10 @@ pub fn answer<W: Write>(
             let plan = Plan::of(alloc, &gathered.views)?;
             (&plan).print_to(&mut printer, writer)?;
             Ok(u8::from(!plan.orders().is_empty()))
+        }
+        Ask::Units { index, range } => {
+            let units = Units::of(alloc, &gathered.views, index)?;
+            print_units(&mut printer, writer, &units, range)
         }
         Ask::Join => {
             JoinLine(gathered.views.catalogue()).print_to(&mut printer, writer)?;

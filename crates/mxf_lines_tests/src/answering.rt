@@ -1,6 +1,6 @@
 //! The lines of an answer.
 use mxf_klv::{OutOfMemory, WriteFault};
-use mxf_lines::{AnswerFault, Ask, answer, hex_text};
+use mxf_lines::{AnswerFault, Ask, Form, answer, hex_text};
 use mxf_read::{Gathered, Part, gather};
 use mxf_worked::saved_files::{
     M_OF_VERSION_1, catalogue_file, catalogue_file_with_head, packet_of_m,
@@ -24,6 +24,26 @@ preferred none\n\
 rip 216\n\
 rip-entry 0 0 held\n\
 rip-entry 0 108 held\n";
+
+/// The same as JSON.
+const JSON_OF_M: &str = "{\"line\":\"piece\",\"offset\":0,\"noted\":3,\"stop\":\"end\"}\n\
+{\"line\":\"note\",\"offset\":0,\"kind\":\"header\",\"width\":4,\"length\":88,\
+\"key\":\"060e2b34020501010d01020101020400\",\"head\":false,\"disputed\":false}\n\
+{\"line\":\"note\",\"offset\":108,\"kind\":\"footer\",\"width\":4,\"length\":88,\
+\"key\":\"060e2b34020501010d01020101040400\",\"head\":false,\"disputed\":false}\n\
+{\"line\":\"note\",\"offset\":216,\"kind\":\"rip\",\"width\":4,\"length\":28,\
+\"key\":\"060e2b34020501010d01020101110100\",\"head\":false,\"disputed\":false}\n\
+{\"line\":\"partition\",\"offset\":0,\"part\":\"header\",\"status\":\"closed-complete\",\"major\":1,\
+\"minor\":3,\"kag\":1,\"this\":0,\"previous\":0,\"footer\":108,\"header-bytes\":0,\"index-bytes\":0,\
+\"index-sid\":0,\"body-offset\":0,\"body-sid\":0,\"pattern\":\"OP1a\",\"qualifier\":\"01\",\"link\":\"first\"}\n\
+{\"line\":\"partition\",\"offset\":108,\"part\":\"footer\",\"status\":\"closed-complete\",\"major\":1,\
+\"minor\":3,\"kag\":1,\"this\":108,\"previous\":0,\"footer\":108,\"header-bytes\":0,\"index-bytes\":0,\
+\"index-sid\":0,\"body-offset\":0,\"body-sid\":0,\"pattern\":\"OP1a\",\"qualifier\":\"01\",\"link\":\"held\"}\n\
+{\"line\":\"chain\",\"chain\":\"whole\"}\n\
+{\"line\":\"preferred\",\"partition\":null}\n\
+{\"line\":\"rip\",\"standing\":\"one\",\"offset\":216}\n\
+{\"line\":\"rip-entry\",\"body-sid\":0,\"offset\":0,\"standing\":\"held\"}\n\
+{\"line\":\"rip-entry\",\"body-sid\":0,\"offset\":108,\"standing\":\"held\"}\n";
 
 /// Takes `room` bytes, `chunk` a call at most, and then fails.
 #[derive(Drop)]
@@ -93,7 +113,7 @@ fn each_question_has_its_lines_and_status(rt: HostRuntime) -> Result<(), Fail> {
         (Ask::Join, "joined 3 notes 0 disputed\n", 0),
     ] {
         let mut writer = Narrow::new(alloc, 1000, 1000);
-        let answered = answer(alloc, &ask, &gathered, &mut writer);
+        let answered = answer(alloc, &ask, Form::Text, &gathered, &mut writer);
         assert_eq!(rt; answered, Ok(status), "printing {lines}");
         assert_eq!(rt; writer.taken.as_slice(), lines.as_bytes());
     }
@@ -115,7 +135,7 @@ fn a_piece_and_a_saved_catalogue_are_asked_as_one_file(rt: HostRuntime) -> Resul
         (place, "not indexed\n", 1),
     ] {
         let mut lines = Vec::new(alloc);
-        let answered = answer(alloc, &ask, &gathered, &mut lines);
+        let answered = answer(alloc, &ask, Form::Text, &gathered, &mut lines);
         assert_eq!(rt; answered, Ok(status), "printing {line}");
         assert_eq!(rt; lines.as_slice(), line.as_bytes());
     }
@@ -129,7 +149,7 @@ fn joins_three_notes(alloc: Global, first: &[u8], last: &[u8]) -> Result<bool, F
     parts.push(saved(alloc, last)?)?;
     let gathered = gather(alloc, parts)?;
     let mut writer = Narrow::new(alloc, 1000, 1000);
-    let answered = answer(alloc, &Ask::Join, &gathered, &mut writer);
+    let answered = answer(alloc, &Ask::Join, Form::Text, &gathered, &mut writer);
     let line = b"joined 3 notes 0 disputed\n".as_slice();
     Ok(answered == Ok(0) && writer.taken.as_slice() == line)
 }
@@ -153,6 +173,7 @@ fn a_unit_above_the_greatest_is_refused_and_nothing_printed(rt: HostRuntime) -> 
         let answered = answer(
             alloc,
             &Ask::Locate { index: 1, unit },
+            Form::Text,
             &gathered,
             &mut writer,
         );
@@ -161,26 +182,39 @@ fn a_unit_above_the_greatest_is_refused_and_nothing_printed(rt: HostRuntime) -> 
     Ok(())
 }
 
+/// Whether `show` to a writer that takes so many bytes writes that front of the lines, and counts it where it fails.
+fn writes_a_front(
+    alloc: Global,
+    form: Form,
+    gathered: &Gathered,
+    lines: &[u8],
+    room: usize,
+    chunk: usize,
+) -> bool {
+    let mut writer = Narrow::new(alloc, room, chunk);
+    let answered = answer(alloc, &Ask::Show, form, gathered, &mut writer);
+    let fault = WriteFault {
+        written: room as u64,
+    };
+    let wanted = if room < lines.len() {
+        Err(AnswerFault::Write(fault))
+    } else {
+        Ok(0)
+    };
+    answered == wanted && writer.taken.as_slice() == &lines[..room]
+}
+
 // A writer that fails behind each byte of the lines.
 #[test]
 fn lines_that_fail_have_been_written_up_to_there(rt: HostRuntime) -> Result<(), Fail> {
     let alloc = rt.alloc();
     let gathered = worked(alloc)?;
-    let lines = LINES_OF_M.as_bytes();
-    for room in 0..=lines.len() {
-        for chunk in [1usize, 7, 1000] {
-            let mut writer = Narrow::new(alloc, room, chunk);
-            let answered = answer(alloc, &Ask::Show, &gathered, &mut writer);
-            let fault = WriteFault {
-                written: room as u64,
-            };
-            let wanted = if room < lines.len() {
-                Err(AnswerFault::Write(fault))
-            } else {
-                Ok(0)
-            };
-            assert_eq!(rt; answered, wanted);
-            assert_eq!(rt; writer.taken.as_slice(), &lines[..room]);
+    for (form, lines) in [(Form::Text, LINES_OF_M), (Form::Json, JSON_OF_M)] {
+        let lines = lines.as_bytes();
+        for room in 0..=lines.len() {
+            for chunk in [1usize, 7, 1000] {
+                assert!(rt; writes_a_front(alloc, form, &gathered, lines, room, chunk));
+            }
         }
     }
     Ok(())

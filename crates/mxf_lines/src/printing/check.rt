@@ -8,8 +8,8 @@ ghost use Rattle.mxf_lines.specs.FindingLines.{count_line, finding_line, stop_li
 ghost use Rattle.mxf_lines.specs.Printing.{Prints};
 
 use super::AnswerFault;
-use super::line::StopText;
-use super::lines::{Each, Line, Lines, Printer, Series, Then};
+use super::line::write_stop;
+use super::lines::{Each, FieldWriter, Line, Lines, Printer, Series, Then};
 use mxf_klv::Stop;
 use mxf_read::{Gathered, PieceReport};
 use mxf_views::{Finding, Findings};
@@ -23,8 +23,9 @@ pub fn print_checked<W: Write>(
     writer: &mut W,
     gathered: &Gathered,
 ) -> Result<u8, AnswerFault>
-    ensures lines { Prints (Puts W.contents writer.old writer.new printer.old.progress printer.new.progress) result
-        (check_lines gathered.now.reports gathered.now.views) }
+    ensures lines { Prints printer.old.fields.form
+        (Puts W.contents writer.old writer.new printer.old.progress printer.new.progress)
+        result (check_lines gathered.now.reports gathered.now.views) }
     ensures status { IfOk result (λ status.
         status ≡ check_status gathered.now.reports (findings_of gathered.now.views)) }
 {
@@ -46,12 +47,14 @@ fn all_end(reports: &[PieceReport]) -> bool
 struct StopLine(PieceReport);
 
 impl Line for StopLine {
-    ghost text = { λ l. stop_line l.0.offset l.0.report.stop };
+    ghost line = { λ l. stop_line l.0.offset l.0.report.stop };
 
     #[tactic(auto, unfolding(crate::specs::FindingLines::stop_line))]
-    fn append_to(&self, line: &mut String) -> Result<(), AllocError> {
-        let PieceReport { offset, report } = self.0;
-        writeln!(line, "stop {offset} {}", StopText(report.stop))
+    fn write_fields(&self, fields: &mut FieldWriter) -> Result<(), AllocError> {
+        fields.begin("stop", "stop")?;
+        fields.number(" ", "offset", self.0.offset)?;
+        write_stop(fields, " ", self.0.report.stop)?;
+        fields.end("")
     }
 }
 
@@ -82,12 +85,15 @@ impl<'a> Series for StopLines<'a> {
 
 /// A finding: its code, its offset in bytes, and what the code says.
 impl Line for Finding {
-    ghost text = { finding_line };
+    ghost line = { finding_line };
 
     #[tactic(auto, unfolding(crate::specs::FindingLines::finding_line))]
-    fn append_to(&self, line: &mut String) -> Result<(), AllocError> {
-        let Finding { offset, code } = *self;
-        writeln!(line, "{code} {offset} {}", code.text())
+    fn write_fields(&self, fields: &mut FieldWriter) -> Result<(), AllocError> {
+        fields.begin("finding", "")?;
+        fields.word("", "code", self.code)?;
+        fields.number(" ", "offset", self.offset)?;
+        fields.word(" ", "text", self.code.text())?;
+        fields.end("")
     }
 }
 
@@ -96,11 +102,13 @@ impl Line for Finding {
 struct CountLine(usize);
 
 impl Line for CountLine {
-    ghost text = { λ l. count_line l.0 };
+    ghost line = { λ l. count_line l.0 };
 
     #[tactic(auto, unfolding(crate::specs::FindingLines::count_line))]
-    fn append_to(&self, line: &mut String) -> Result<(), AllocError> {
-        writeln!(line, "findings {}", self.0)
+    fn write_fields(&self, fields: &mut FieldWriter) -> Result<(), AllocError> {
+        fields.begin("findings", "findings")?;
+        fields.number(" ", "findings", self.0)?;
+        fields.end("")
     }
 }
 

@@ -1,4 +1,4 @@
-//! The texts of printed lines.
+//! The printed lines.
 mod copy;
 mod index;
 mod item;
@@ -9,13 +9,12 @@ mod record;
 
 use super::AnswerFault;
 use super::hexadecimal::{HexDigits, LabelDigits};
-use super::lines::{Each, Line, Lines, Printer, Series, Then};
+use super::lines::{Each, FieldWriter, Line, Lines, Printer, Series, Then};
 pub use copy::PreferredLine;
 pub use item::ItemLine;
 pub use note::NoteLines;
 pub use partition::PartitionLines;
-pub use piece::{JoinLine, StopText};
+pub use piece::{JoinLine, write_stop};
 pub use record::PackageLines;
 use std::alloc::AllocError;
-use std::fmt;
 use std::io::Write;

@@ -1,12 +1,15 @@
 //! What is printed as lines.
-ghost use Rattle.std.specs.Prelude.{ℕ, List};
+ghost use Rattle.std.specs.Prelude.{◌≡◌, ℕ, List, OnOk};
 ghost use Rattle.mxf_klv.specs.Written.{Puts};
+ghost use Rattle.mxf_lines.specs.Forms.{PrintedLine};
 ghost use Rattle.mxf_lines.specs.Printing.{Gives, Prints};
 
+mod field_writer;
 mod joined;
 mod printer;
 
 use super::AnswerFault;
+pub use field_writer::FieldWriter;
 pub use joined::{Each, Then};
 pub use printer::{Line, Printer};
 use std::io::Write;
@@ -14,12 +17,14 @@ use std::io::Write;
 /// What is printed as lines.
 pub trait Lines {
     // The lines.
-    ghost lines: { Self → List (List ℕ) };
+    ghost lines: { Self → List PrintedLine };
 
-    /// Prints the lines. After want of memory some whole lines have been written, and not all.
+    /// Prints the lines, in the printer's form. After want of memory some whole lines have been written, and not all.
     fn print_to<W: Write>(self, printer: &mut Printer, writer: &mut W) -> Result<(), AnswerFault>
-        ensures { Prints (Puts W.contents writer.old writer.new printer.old.progress printer.new.progress) result
-            (lines self) };
+        ensures lines { Prints printer.old.fields.form
+            (Puts W.contents writer.old writer.new printer.old.progress printer.new.progress)
+            result (lines self) }
+        ensures form { OnOk result (printer.new.fields.form ≡ printer.old.fields.form) };
 }
 
 /// Items that come one by one, each of which is printed as lines.
@@ -27,7 +32,7 @@ pub trait Series {
     type Item: Lines + Drop;
 
     // The lines of the items that are left.
-    ghost lines_left: { Self → List (List ℕ) };
+    ghost lines_left: { Self → List PrintedLine };
 
     // How many items are left.
     ghost left: { Self → ℕ };

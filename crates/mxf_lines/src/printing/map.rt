@@ -1,14 +1,13 @@
 //! What is held of a file, as a picture, and its lines.
-ghost use Rattle.std.specs.Prelude.{◌≡◌, ◌+◌, ◌-◌, ◌*◌, ◌/◌, ◌^◌, ◌<◌, ◌≤◌, ◌∷◌, ◌++◌, ℕ, Some, codes, decimal, flat_map, length};
-ghost use Rattle.std.specs.Prelude.{IfNone, IfOk, IfSome, string_bytes, ◌⊎◌};
-ghost use Rattle.std.specs.List.{repeat};
+ghost use Rattle.std.specs.Prelude.{◌≡◌, ◌+◌, ◌-◌, ◌*◌, ◌/◌, ◌^◌, ◌<◌, ◌≤◌, ◌∷◌, ℕ, Some, decimal, flat_map, length};
+ghost use Rattle.std.specs.Prelude.{IfNone, IfOk, IfSome, ◌⊎◌};
 ghost use Rattle.mxf_klv.specs.Written.{Writes};
 ghost use Rattle.mxf_restore.specs.Map.{IsMap, MapParts};
 ghost use Rattle.mxf_lines.specs.MapLines.{map_line, map_lines, mark_text, row_line, row_width, rows_of, share_text};
 ghost use Rattle.mxf_lines.specs.Printing.{Prints};
 
-use super::AnswerFault;
-use super::lines::{Each, Line, Lines, Printer, Series, Then};
+use super::lines::{Each, FieldWriter, Line, Lines, Printer, Series, Then};
+use super::{AnswerFault, Form};
 use mxf_restore::{Map, Mark};
 use mxf_views::Views;
 use std::alloc::{AllocError, Global};
@@ -95,21 +94,22 @@ impl<'a> Lines for Picture<'a> {
     }
 }
 
-/// Prints what is held of the file of the views, as a picture.
+/// Prints what is held of the file of the views, as a picture, in a form.
 ///
 /// After want of memory some whole lines have been written; after a write fault the first bytes, which it counts.
 pub fn print_map<W: Write>(
     alloc: Global,
     views: &Views,
     grid: Grid,
+    form: Form,
     writer: &mut W,
 ) -> Result<(), AnswerFault>
     ensures lines { (m : MapParts) → IsMap views.now (grid.columns * grid.rows) m
-        → Prints (Writes (W.contents writer.old) (W.contents writer.new)) result (map_lines grid.columns m) }
+        → Prints form (Writes (W.contents writer.old) (W.contents writer.new)) result (map_lines grid.columns m) }
     ensures some { IfOk result (λ _. (m : MapParts) × IsMap views.now (grid.columns * grid.rows) m) }
 {
     let map = Map::of(alloc, views, u64::from(grid.columns) * u64::from(grid.rows))?;
-    print_picture(alloc, &map, grid.columns, writer)
+    print_picture(alloc, &map, grid.columns, form, writer)
 }
 
 /// Prints a map in rows of so many cells.
@@ -117,12 +117,13 @@ fn print_picture<W: Write>(
     alloc: Global,
     map: &Map,
     columns: u32,
+    form: Form,
     writer: &mut W,
 ) -> Result<(), AnswerFault>
     requires { 1 ≤ columns }
-    ensures { Prints (Writes (W.contents writer.old) (W.contents writer.new)) result (map_lines columns map.now) }
+    ensures { Prints form (Writes (W.contents writer.old) (W.contents writer.new)) result (map_lines columns map.now) }
 {
-    let mut printer = Printer::new(alloc);
+    let mut printer = Printer::new(alloc, form);
     Picture { map, columns }.print_to(&mut printer, writer)
 }
 
@@ -132,20 +133,21 @@ fn print_picture<W: Write>(
 struct MapLine<'a>(&'a Map);
 
 impl<'a> Line for MapLine<'a> {
-    ghost text = { λ l. map_line l.0.now };
+    ghost line = { λ l. map_line l.0.now };
 
     #[tactic(auto, unfolding(crate::specs::MapLines::map_line))]
-    fn append_to(&self, line: &mut String) -> Result<(), AllocError> {
+    fn write_fields(&self, fields: &mut FieldWriter) -> Result<(), AllocError> {
         let map = self.0;
         let (end, held) = (map.end(), map.held());
-        let missing = end.saturating_sub(held);
-        let share = ShareText(share_of(held, end));
-        write!(
-            line,
-            "map {end} held {held} missing {missing} share {share}"
-        )?;
-        let (gaps, disputed, cell) = (map.gaps(), map.disputed(), map.cell());
-        writeln!(line, " gaps {gaps} disputed {disputed} cell {cell}")
+        fields.begin("map", "map")?;
+        fields.number(" ", "end", end)?;
+        fields.number(" held ", "held", held)?;
+        fields.number(" missing ", "missing", end.saturating_sub(held))?;
+        fields.number(" share ", "share", ShareText(share_of(held, end)))?;
+        fields.number(" gaps ", "gaps", map.gaps())?;
+        fields.number(" disputed ", "disputed", map.disputed())?;
+        fields.number(" cell ", "cell", map.cell())?;
+        fields.end("")
     }
 }
 
@@ -166,38 +168,30 @@ struct RowLine<'a> {
 }
 
 impl<'a> Line for RowLine<'a> {
-    ghost text = { λ l. row_line l.spaces l.offset l.marks.now };
+    ghost line = { λ l. row_line l.spaces l.offset l.marks.now };
 
     #[tactic(auto, unfolding(crate::specs::MapLines::row_line))]
-    fn append_to(&self, line: &mut String) -> Result<(), AllocError> {
-        line.push_str("row ")?;
-        append_spaces(line, self.spaces)?;
-        write!(line, "{} ", self.offset)?;
-        append_marks(line, self.marks)?;
-        line.push_str("\n")
+    fn write_fields(&self, fields: &mut FieldWriter) -> Result<(), AllocError> {
+        fields.begin("row", "row")?;
+        fields.number_behind(self.spaces, "offset", self.offset)?;
+        fields.word(" ", "cells", MarksText(self.marks))?;
+        fields.end("")
     }
 }
 
-/// Appends so many spaces.
-fn append_spaces(line: &mut String, count: usize) -> Result<(), AllocError>
-    ensures { IfOk result (λ _. string_bytes line.new ≡ string_bytes line.old ++ repeat count (codes " ")) }
-{
-    let mut left = count;
-    while left > 0 {
-        line.push_str(" ")?;
-        left -= 1;
-    }
-    Ok(())
-}
+/// The characters of marks.
+#[derive(Clone, Copy)]
+struct MarksText<'a>(&'a [Mark]);
 
-/// Appends the characters of the marks.
-fn append_marks(line: &mut String, marks: &[Mark]) -> Result<(), AllocError>
-    ensures { IfOk result (λ _. string_bytes line.new ≡ string_bytes line.old ++ flat_map mark_text marks.now) }
-{
-    for mark in marks {
-        line.push_str(mark_text(*mark))?;
+impl<'a> fmt::Display for MarksText<'a> {
+    ghost output = { λ m. Some (flat_map mark_text m.0.now) };
+
+    fn fmt<W: fmt::Write>(&self, f: &mut fmt::Formatter<W>) -> fmt::Result {
+        'marks: for mark in self.0 {
+            f.write_str(mark_text(*mark))?;
+        }
+        Ok(())
     }
-    Ok(())
 }
 
 /// The rows of so many cells that are left, behind cells that were passed. Offsets take a width at least.

@@ -1,52 +1,39 @@
 //! What to restore next, and its lines.
-ghost use Rattle.std.specs.Prelude.{◌≡◌, Some, count_by, is_none, length, sum_by};
-ghost use Rattle.mxf_lines.specs.PlanLines.{doubt_line, known_text, ordered_bytes, plan_lines, planned_line};
-ghost use Rattle.mxf_lines.specs.PlanLines.{restore_line};
+ghost use Rattle.std.specs.Prelude.{◌≡◌, count_by, is_none, length, sum_by};
+ghost use Rattle.mxf_lines.specs.PlanLines.{doubt_line, ordered_bytes, plan_lines, planned_line, restore_line};
 
 use super::AnswerFault;
-use super::lines::{Each, Line, Lines, Printer, Then};
+use super::lines::{Each, FieldWriter, Line, Lines, Printer, Then};
 use mxf_restore::{Doubt, Order, Plan};
 use std::alloc::AllocError;
-use std::fmt;
 use std::io::Write;
-
-/// An offset in bytes, or a dash where there is none.
-#[derive(Clone, Copy)]
-struct KnownText(Option<u64>);
-
-impl fmt::Display for KnownText {
-    ghost output = { λ o. Some (known_text o.0) };
-
-    fn fmt<W: fmt::Write>(&self, f: &mut fmt::Formatter<W>) -> fmt::Result {
-        match self.0 {
-            Some(offset) => write!(f, "{offset}"),
-            None => f.write_str("-"),
-        }
-    }
-}
 
 /// An order: where it begins and ends, in bytes, why, and the offset of the pack that says so.
 impl Line for Order {
-    ghost text = { restore_line };
+    ghost line = { restore_line };
 
     #[tactic(auto, unfolding(crate::specs::PlanLines::restore_line))]
-    fn append_to(&self, line: &mut String) -> Result<(), AllocError> {
-        let Order { start, reason, .. } = *self;
-        let end = KnownText(self.end);
-        let source = KnownText(self.source);
-        writeln!(line, "restore {start} {end} {reason} {source}")
+    fn write_fields(&self, fields: &mut FieldWriter) -> Result<(), AllocError> {
+        fields.begin("restore", "restore")?;
+        fields.number(" ", "start", self.start)?;
+        fields.known(" ", "end", "-", self.end)?;
+        fields.word(" ", "reason", self.reason)?;
+        fields.known(" ", "source", "-", self.source)?;
+        fields.end("")
     }
 }
 
 /// A doubt: its place, in bytes, why that matters, and the offset of the pack that says so.
 impl Line for Doubt {
-    ghost text = { doubt_line };
+    ghost line = { doubt_line };
 
     #[tactic(auto, unfolding(crate::specs::PlanLines::doubt_line))]
-    fn append_to(&self, line: &mut String) -> Result<(), AllocError> {
-        let Doubt { place, reason, .. } = *self;
-        let source = KnownText(self.source);
-        writeln!(line, "disputed {place} {reason} {source}")
+    fn write_fields(&self, fields: &mut FieldWriter) -> Result<(), AllocError> {
+        fields.begin("disputed", "disputed")?;
+        fields.number(" ", "offset", self.place)?;
+        fields.word(" ", "reason", self.reason)?;
+        fields.known(" ", "source", "-", self.source)?;
+        fields.end("")
     }
 }
 
@@ -55,20 +42,18 @@ impl Line for Doubt {
 struct PlannedLine<'a>(&'a Plan);
 
 impl<'a> Line for PlannedLine<'a> {
-    ghost text = { λ l. planned_line (length l.0.now.orders) (sum_by ordered_bytes l.0.now.orders)
+    ghost line = { λ l. planned_line (length l.0.now.orders) (sum_by ordered_bytes l.0.now.orders)
         (count_by (λ o. is_none o.end) l.0.now.orders) l.0.now.end };
 
     #[tactic(auto, unfolding(crate::specs::PlanLines::planned_line))]
-    fn append_to(&self, line: &mut String) -> Result<(), AllocError> {
+    fn write_fields(&self, fields: &mut FieldWriter) -> Result<(), AllocError> {
         let orders = self.0.orders();
-        let count = orders.len();
-        let bytes = bytes_of(orders);
-        let unended = count_unended(orders);
-        let end = KnownText(self.0.end());
-        writeln!(
-            line,
-            "planned {count} ranges {bytes} bytes {unended} open end {end}"
-        )
+        fields.begin("planned", "planned")?;
+        fields.number(" ", "ranges", orders.len())?;
+        fields.number(" ranges ", "bytes", bytes_of(orders))?;
+        fields.number(" bytes ", "open", count_unended(orders))?;
+        fields.known(" open end ", "end", "-", self.0.end())?;
+        fields.end("")
     }
 }
 

@@ -1,21 +1,21 @@
 //! What the references of the preferred copy lead to.
-ghost use Rattle.std.specs.Prelude.{◌≡◌, Some};
+ghost use Rattle.std.specs.Prelude.{◌≡◌, IfOk, OnOk};
 ghost use Rattle.mxf_klv.specs.Written.{Puts};
 ghost use Rattle.mxf_lines.specs.Lines.{lines_where};
 ghost use Rattle.mxf_lines.specs.Printing.{Prints};
 ghost use Rattle.mxf_lines.specs.ReferenceLines.{IsRecordIn, found_lines, lines_of_record, lines_of_reference};
 ghost use Rattle.mxf_lines.specs.ReferenceLines.{named_lines, record_lines, reference_line, reference_lines};
-ghost use Rattle.mxf_lines.specs.ReferenceLines.{target_text};
+ghost use Rattle.mxf_lines.specs.ReferenceLines.{target_fields};
+ghost use Rattle.mxf_lines.specs.Writing.{with_fields};
 
 use super::AnswerFault;
 use super::line::PackageLines;
-use super::lines::{Line, Lines, Printer, Then};
+use super::lines::{FieldWriter, Line, Lines, Printer, Then};
 use mxf_catalogue::Catalogue;
 use mxf_klv::{Kind, Note};
 use mxf_sets::{Identification, Package};
 use mxf_views::{Ref, Resolved, Target};
 use std::alloc::AllocError;
-use std::fmt;
 use std::io::Write;
 
 /// The lines of the references of the preferred copy, to identifications and then to packages; none without one.
@@ -54,20 +54,24 @@ enum Named {
     Package,
 }
 
-/// What a reference leads to, and at which offset in bytes.
-#[derive(Clone, Copy)]
-struct TargetText(Target);
-
-impl fmt::Display for TargetText {
-    ghost output = { λ t. Some (target_text t.0) };
-
-    fn fmt<W: fmt::Write>(&self, f: &mut fmt::Formatter<W>) -> fmt::Result {
-        match self.0 {
-            Target::Missing => f.write_str("missing"),
-            Target::Several => f.write_str("several"),
-            Target::WrongKind(offset) => write!(f, "wrong-kind {offset}"),
-            Target::Unreadable(offset) => write!(f, "unreadable {offset}"),
-            Target::Found(offset) => write!(f, "found {offset}"),
+/// Writes what a reference leads to, and at which offset in bytes.
+fn write_target(fields: &mut FieldWriter, target: Target) -> Result<(), AllocError>
+    ensures { IfOk result (λ _. fields.new ≡ with_fields (target_fields target) fields.old) }
+{
+    match target {
+        Target::Missing => fields.word(" ", "target", "missing"),
+        Target::Several => fields.word(" ", "target", "several"),
+        Target::WrongKind(offset) => {
+            fields.word(" ", "target", "wrong-kind")?;
+            fields.number(" ", "offset", offset)
+        }
+        Target::Unreadable(offset) => {
+            fields.word(" ", "target", "unreadable")?;
+            fields.number(" ", "offset", offset)
+        }
+        Target::Found(offset) => {
+            fields.word(" ", "target", "found")?;
+            fields.number(" ", "offset", offset)
         }
     }
 }
@@ -80,17 +84,18 @@ struct ReferenceLine {
 }
 
 impl Line for ReferenceLine {
-    ghost text = { λ l. reference_line l.named l.reference };
+    ghost line = { λ l. reference_line l.named l.reference };
 
     #[tactic(auto, unfolding(crate::specs::ReferenceLines::reference_line))]
-    fn append_to(&self, line: &mut String) -> Result<(), AllocError> {
+    fn write_fields(&self, fields: &mut FieldWriter) -> Result<(), AllocError> {
         let word = match self.named {
             Named::Identification => "identification",
             Named::Package => "package",
         };
-        let Ref { uid, target } = self.reference;
-        let target = TargetText(target);
-        writeln!(line, "{word} {uid} {target}")
+        fields.begin(word, word)?;
+        fields.word(" ", "uid", self.reference.uid)?;
+        write_target(fields, self.reference.target)?;
+        fields.end("")
     }
 }
 
@@ -130,8 +135,10 @@ impl<'a> NamedLines<'a> {
     ) -> Result<(), AnswerFault>
         requires { IsRecordIn self.catalogue.now self.named last.old }
         ensures last { IsRecordIn self.entry.catalogue.now self.entry.named last.new }
-        ensures lines { Prints (Puts W.contents writer.old writer.new printer.old.progress printer.new.progress) result
-            (lines_of_reference self.entry.catalogue.now self.entry.named reference) }
+        ensures lines { Prints printer.old.fields.form
+            (Puts W.contents writer.old writer.new printer.old.progress printer.new.progress)
+            result (lines_of_reference self.entry.catalogue.now self.entry.named reference) }
+        ensures form { OnOk result (printer.new.fields.form ≡ printer.old.fields.form) }
     {
         let named = self.named;
         last.turn_to(self.catalogue, named, reference.target);

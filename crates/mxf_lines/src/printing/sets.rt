@@ -45,8 +45,10 @@ fn print_set<W: Write>(
 ) -> Result<(), AnswerFault>
     requires { AreLabelsIn views.now labels.old }
     ensures labels { AreLabelsIn views.now labels.new }
-    ensures lines { Prints (Puts W.contents writer.old writer.new printer.old.progress printer.new.progress) result
-        (set_lines views.now note.now) }
+    ensures lines { Prints printer.old.fields.form
+        (Puts W.contents writer.old writer.new printer.old.progress printer.new.progress)
+        result (set_lines views.now note.now) }
+    ensures form { OnOk result (printer.new.fields.form ≡ printer.old.fields.form) }
 {
     let Some(mut items) = set_items(note) else {
         return Ok(());

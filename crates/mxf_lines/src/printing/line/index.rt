@@ -1,46 +1,41 @@
 //! The lines of index table segments, of places, and of the random index pack.
-ghost use Rattle.std.specs.Prelude.{Some, [], ◌∷◌, length, flat_map};
-ghost use Rattle.mxf_lines.specs.IndexLines.{place_line, rip_entry_line, rip_entry_lines, rip_line, rip_lines};
-ghost use Rattle.mxf_lines.specs.IndexLines.{segment_line, segment_text};
+ghost use Rattle.std.specs.Prelude.{◌≡◌, IfOk, [], ◌∷◌, length, flat_map};
+ghost use Rattle.mxf_lines.specs.IndexLines.{place_line, rip_entry_line, rip_entry_lines, rip_fields, rip_line};
+ghost use Rattle.mxf_lines.specs.IndexLines.{rip_lines, segment_line, stream_fields};
+ghost use Rattle.mxf_lines.specs.Writing.{with_fields};
 
-use super::{AllocError, AnswerFault, Each, Line, Lines, Printer, Series, Then, Write, fmt};
+use super::{
+    AllocError, AnswerFault, Each, FieldWriter, Line, Lines, Printer, Series, Then, Write,
+};
 use mxf_sets::{RipEntry, SegmentNumbers};
 use mxf_views::{Place, RipView, SegmentAt, Segments, Standing, Standings};
 
-/// The numbers of an index table segment that are shown, each after its name.
-#[derive(Clone, Copy)]
-struct SegmentText(SegmentNumbers);
-
-impl fmt::Display for SegmentText {
-    ghost output = { λ n. Some (segment_text n.0) };
-
-    #[tactic(auto, unfolding(crate::specs::IndexLines::segment_text))]
-    fn fmt<W: fmt::Write>(&self, f: &mut fmt::Formatter<W>) -> fmt::Result {
-        let n = self.0;
-        let (numerator, denominator) = n.edit_rate;
-        write!(
-            f,
-            "index-sid {} body-sid {} rate {numerator}/{denominator}",
-            n.index_sid, n.body_sid
-        )?;
-        write!(
-            f,
-            " start {} duration {} unit-bytes {}",
-            n.start, n.duration, n.unit_bytes
-        )
-    }
+/// Writes which index and which essence stream a segment is of, and its edit rate.
+fn write_stream(fields: &mut FieldWriter, n: SegmentNumbers) -> Result<(), AllocError>
+    ensures { IfOk result (λ _. fields.new ≡ with_fields (stream_fields n) fields.old) }
+{
+    let (numerator, denominator) = n.edit_rate;
+    fields.number(" index-sid ", "index-sid", n.index_sid)?;
+    fields.number(" body-sid ", "body-sid", n.body_sid)?;
+    fields.number(" rate ", "rate", numerator)?;
+    fields.number("/", "base", denominator)
 }
 
 /// An index table segment: its offset in bytes, its numbers, and how many entries it has.
 impl<'a> Line for SegmentAt<'a> {
-    ghost text = { segment_line };
+    ghost line = { segment_line };
 
     #[tactic(auto, unfolding(crate::specs::IndexLines::segment_line))]
-    fn append_to(&self, line: &mut String) -> Result<(), AllocError> {
-        let SegmentAt { offset, segment } = self;
-        let numbers = SegmentText(segment.numbers());
-        let entries = segment.entry_count();
-        writeln!(line, "segment {offset} {numbers} entries {entries}")
+    fn write_fields(&self, fields: &mut FieldWriter) -> Result<(), AllocError> {
+        let n = self.segment.numbers();
+        fields.begin("segment", "segment")?;
+        fields.number(" ", "offset", self.offset)?;
+        write_stream(fields, n)?;
+        fields.number(" start ", "start", n.start)?;
+        fields.number(" duration ", "duration", n.duration)?;
+        fields.number(" unit-bytes ", "unit-bytes", n.unit_bytes)?;
+        fields.number(" entries ", "entries", self.segment.entry_count())?;
+        fields.end("")
     }
 }
 
@@ -58,18 +53,32 @@ impl<'a> Series for Segments<'a> {
 
 /// The places of an edit unit: none, the one, or the two least. An offset is in bytes of the essence stream.
 impl Line for Place {
-    ghost text = { place_line };
+    ghost line = { place_line };
 
     #[tactic(auto, unfolding(crate::specs::IndexLines::place_line))]
-    fn append_to(&self, line: &mut String) -> Result<(), AllocError> {
+    fn write_fields(&self, fields: &mut FieldWriter) -> Result<(), AllocError> {
         match *self {
-            Place::NotIndexed => line.push_str("not indexed\n"),
-            Place::At { body_sid, offset } => writeln!(line, "at {body_sid} {offset}"),
-            Place::Ambiguous { first, second } => writeln!(
-                line,
-                "ambiguous {} {} {} {}",
-                first.body_sid, first.offset, second.body_sid, second.offset
-            ),
+            Place::NotIndexed => {
+                fields.begin("place", "not indexed")?;
+                fields.fixed("", "place", "not-indexed")?;
+                fields.end("")
+            }
+            Place::At { body_sid, offset } => {
+                fields.begin("place", "")?;
+                fields.word("", "place", "at")?;
+                fields.number(" ", "body-sid", body_sid)?;
+                fields.number(" ", "offset", offset)?;
+                fields.end("")
+            }
+            Place::Ambiguous { first, second } => {
+                fields.begin("place", "")?;
+                fields.word("", "place", "ambiguous")?;
+                fields.number(" ", "body-sid", first.body_sid)?;
+                fields.number(" ", "offset", first.offset)?;
+                fields.number(" ", "second-body-sid", second.body_sid)?;
+                fields.number(" ", "second-offset", second.offset)?;
+                fields.end("")
+            }
         }
     }
 }
@@ -79,15 +88,30 @@ impl Line for Place {
 struct RipLine<'a>(&'a RipView<'a>);
 
 impl<'a> Line for RipLine<'a> {
-    ghost text = { λ l. rip_line l.0.now };
+    ghost line = { λ l. rip_line l.0.now };
 
     #[tactic(auto, unfolding(crate::specs::IndexLines::rip_line))]
-    fn append_to(&self, line: &mut String) -> Result<(), AllocError> {
-        match self.0 {
-            RipView::Absent => line.push_str("rip none\n"),
-            RipView::Several => line.push_str("rip several\n"),
-            RipView::Unreadable(offset) => writeln!(line, "rip unreadable {offset}"),
-            RipView::One(rip) => writeln!(line, "rip {}", rip.offset()),
+    fn write_fields(&self, fields: &mut FieldWriter) -> Result<(), AllocError> {
+        fields.begin("rip", "rip")?;
+        write_rip(fields, self.0)?;
+        fields.end("")
+    }
+}
+
+/// Writes what is known of the random index pack.
+fn write_rip(fields: &mut FieldWriter, rip: &RipView<'_>) -> Result<(), AllocError>
+    ensures { IfOk result (λ _. fields.new ≡ with_fields (rip_fields rip.now) fields.old) }
+{
+    match rip {
+        RipView::Absent => fields.word(" ", "standing", "none"),
+        RipView::Several => fields.word(" ", "standing", "several"),
+        RipView::Unreadable(offset) => {
+            fields.word(" ", "standing", "unreadable")?;
+            fields.number(" ", "offset", *offset)
+        }
+        RipView::One(rip) => {
+            fields.fixed("", "standing", "one")?;
+            fields.number(" ", "offset", rip.offset())
         }
     }
 }
@@ -108,12 +132,16 @@ impl<'a> Lines for RipView<'a> {
 
 /// An entry of the random index pack, with its offset in bytes, and how it stands to the partitions.
 impl Line for (RipEntry, Standing) {
-    ghost text = { λ e. rip_entry_line e.0 e.1 };
+    ghost line = { λ e. rip_entry_line e.0 e.1 };
 
     #[tactic(auto, unfolding(crate::specs::IndexLines::rip_entry_line))]
-    fn append_to(&self, line: &mut String) -> Result<(), AllocError> {
-        let (RipEntry { body_sid, offset }, standing) = *self;
-        writeln!(line, "rip-entry {body_sid} {offset} {standing}")
+    fn write_fields(&self, fields: &mut FieldWriter) -> Result<(), AllocError> {
+        let (entry, standing) = *self;
+        fields.begin("rip-entry", "rip-entry")?;
+        fields.number(" ", "body-sid", entry.body_sid)?;
+        fields.number(" ", "offset", entry.offset)?;
+        fields.word(" ", "standing", standing)?;
+        fields.end("")
     }
 }
 

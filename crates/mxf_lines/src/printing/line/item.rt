@@ -1,22 +1,20 @@
 //! The line of an item of a header metadata set.
-ghost use Rattle.std.specs.Prelude.{◌≡◌, Some, take};
-ghost use Rattle.mxf_lines.specs.ItemLines.{item_line, label_text, value_text};
+ghost use Rattle.std.specs.Prelude.{◌≡◌, IfOk, codes, take};
+ghost use Rattle.mxf_lines.specs.Forms.{field};
+ghost use Rattle.mxf_lines.specs.ItemLines.{item_line, label_shown, value_shown};
+ghost use Rattle.mxf_lines.specs.Writing.{with_field};
 
-use super::{AllocError, HexDigits, LabelDigits, Line, fmt};
+use super::{AllocError, FieldWriter, HexDigits, LabelDigits, Line};
 use mxf_sets::Item;
 
-/// The label of a tag, or none.
-#[derive(Clone, Copy)]
-struct LabelText(Option<[u8; 16]>);
-
-impl fmt::Display for LabelText {
-    ghost output = { λ l. Some (label_text l.0) };
-
-    fn fmt<W: fmt::Write>(&self, f: &mut fmt::Formatter<W>) -> fmt::Result {
-        match self.0 {
-            Some(label) => write!(f, "{}", LabelDigits(label)),
-            None => f.write_str("-"),
-        }
+/// Writes the label of a tag, or none.
+fn write_label(fields: &mut FieldWriter, label: Option<[u8; 16]>) -> Result<(), AllocError>
+    ensures { IfOk result (λ _. fields.new
+        ≡ with_field (field (codes " ") (codes "label") (label_shown label)) fields.old) }
+{
+    match label {
+        Some(label) => fields.word(" ", "label", LabelDigits(label)),
+        None => fields.absent(" ", "label", "-"),
     }
 }
 
@@ -30,19 +28,15 @@ fn front(value: &[u8]) -> &[u8]
     }
 }
 
-/// The first 32 bytes of a value.
-#[derive(Clone, Copy)]
-struct ValueText<'a>(&'a [u8]);
-
-impl<'a> fmt::Display for ValueText<'a> {
-    ghost output = { λ v. Some (value_text v.0.now) };
-
-    fn fmt<W: fmt::Write>(&self, f: &mut fmt::Formatter<W>) -> fmt::Result {
-        if self.0.is_empty() {
-            return f.write_str("-");
-        }
-        write!(f, "{}", HexDigits(front(self.0)))
+/// Writes the first 32 bytes of a value, or none of an empty one.
+fn write_value(fields: &mut FieldWriter, value: &[u8]) -> Result<(), AllocError>
+    ensures { IfOk result (λ _. fields.new ≡ with_field (field (codes " ") (codes "value") (value_shown value.now))
+        fields.old) }
+{
+    if value.is_empty() {
+        return fields.absent(" ", "value", "-");
     }
+    fields.word(" ", "value", HexDigits(front(value)))
 }
 
 /// The line of an item of the set at an offset, in bytes: its tag, the length of its value, the label of the tag, and
@@ -55,17 +49,18 @@ pub struct ItemLine<'a> {
 }
 
 impl<'a> Line for ItemLine<'a> {
-    ghost text = { λ l. item_line l.offset l.label l.item };
+    ghost line = { λ l. item_line l.offset l.label l.item };
 
     #[tactic(auto, unfolding(crate::specs::ItemLines::item_line))]
-    fn append_to(&self, line: &mut String) -> Result<(), AllocError> {
+    fn write_fields(&self, fields: &mut FieldWriter) -> Result<(), AllocError> {
         let item = &self.item;
-        let offset = self.offset;
         let tag = item.tag.to_be_bytes();
-        let digits = HexDigits(&tag);
-        let length = item.value.len();
-        let label = LabelText(self.label);
-        let value = ValueText(item.value);
-        writeln!(line, "item {offset} {digits} {length} {label} {value}")
+        fields.begin("item", "item")?;
+        fields.number(" ", "offset", self.offset)?;
+        fields.word(" ", "tag", HexDigits(&tag))?;
+        fields.number(" ", "length", item.value.len())?;
+        write_label(fields, self.label)?;
+        write_value(fields, item.value)?;
+        fields.end("")
     }
 }

@@ -4,7 +4,7 @@ ghost use Rattle.mxf_klv.specs.Rising.{In};
 ghost use Rattle.mxf_catalogue.specs.Disputes.{is_disputed};
 ghost use Rattle.mxf_lines.specs.Lines.{note_line};
 
-use super::{AllocError, LabelDigits, Line, Series};
+use super::{AllocError, FieldWriter, LabelDigits, Line, Series};
 use mxf_catalogue::{Catalogue, Notes};
 use mxf_klv::Note;
 use std::marker::Model;
@@ -18,21 +18,20 @@ pub struct NoteLine<'a> {
 }
 
 impl<'a> Line for NoteLine<'a> {
-    ghost text = { λ l. note_line l.note.now l.disputed };
+    ghost line = { λ l. note_line l.note.now l.disputed };
 
     #[tactic(auto, unfolding(crate::specs::Lines::note_line))]
-    fn append_to(&self, line: &mut String) -> Result<(), AllocError> {
-        let offset = self.note.offset();
-        let kind = self.note.kind();
-        let width = self.note.width();
-        let length = self.note.length();
-        let key = LabelDigits(self.note.key().bytes());
-        let head = if self.note.is_head() { " head" } else { "" };
-        let disputed = if self.disputed { " disputed" } else { "" };
-        writeln!(
-            line,
-            "note {offset} {kind} {width} {length} {key}{head}{disputed}"
-        )
+    fn write_fields(&self, fields: &mut FieldWriter) -> Result<(), AllocError> {
+        let note = self.note;
+        fields.begin("note", "note")?;
+        fields.number(" ", "offset", note.offset())?;
+        fields.word(" ", "kind", note.kind())?;
+        fields.number(" ", "width", note.width())?;
+        fields.number(" ", "length", note.length())?;
+        fields.word(" ", "key", LabelDigits(note.key().bytes()))?;
+        fields.flag(" head", "head", note.is_head())?;
+        fields.flag(" disputed", "disputed", self.disputed)?;
+        fields.end("")
     }
 }
 

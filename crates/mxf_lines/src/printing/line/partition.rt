@@ -1,23 +1,26 @@
 //! The lines of gaps, of partitions, and of their chain.
-ghost use Rattle.std.specs.Prelude.{[], ◌∷◌, length, flat_map, ◌≡◌, Some};
+ghost use Rattle.std.specs.Prelude.{[], ◌∷◌, length, flat_map, ◌≡◌, IfOk};
 ghost use Rattle.mxf_views.specs.Partitions.{link_of, partitions_of};
 ghost use Rattle.mxf_lines.specs.Lines.{chain_line, gap_line};
-ghost use Rattle.mxf_lines.specs.PartitionLines.{container_line, numbers_text, partition_line, partition_lines};
-ghost use Rattle.mxf_lines.specs.PartitionLines.{pattern_text};
+ghost use Rattle.mxf_lines.specs.PartitionLines.{container_line, linked_fields, pack_fields, part_fields};
+ghost use Rattle.mxf_lines.specs.PartitionLines.{partition_line, partition_lines, pattern_fields, place_fields};
+ghost use Rattle.mxf_lines.specs.Writing.{with_fields};
 
-use super::{AllocError, Each, HexDigits, Line, Series, Then, fmt};
+use super::{AllocError, Each, FieldWriter, HexDigits, Line, Series, Then};
 use mxf_catalogue::Run;
-use mxf_sets::{BatchItems, PartitionNumbers, pattern_name};
+use mxf_sets::{BatchItems, PartitionNumbers, PartitionPack, pattern_name};
 use mxf_views::{Chain, Gaps, Link, PartitionAt, Partitions, Views};
 
 /// A gap: the offsets where it begins and ends, in bytes.
 impl Line for Run {
-    ghost text = { gap_line };
+    ghost line = { gap_line };
 
     #[tactic(auto, unfolding(crate::specs::Lines::gap_line))]
-    fn append_to(&self, line: &mut String) -> Result<(), AllocError> {
-        let Run { start, end } = *self;
-        writeln!(line, "gap {start} {end}")
+    fn write_fields(&self, fields: &mut FieldWriter) -> Result<(), AllocError> {
+        fields.begin("gap", "gap")?;
+        fields.number(" ", "start", self.start)?;
+        fields.number(" ", "end", self.end)?;
+        fields.end("")
     }
 }
 
@@ -35,56 +38,49 @@ impl<'a> Series for Gaps<'a> {
 
 /// Whether the partitions hang together.
 impl Line for Chain {
-    ghost text = { chain_line };
+    ghost line = { chain_line };
 
     #[tactic(auto, unfolding(crate::specs::Lines::chain_line))]
-    fn append_to(&self, line: &mut String) -> Result<(), AllocError> {
-        writeln!(line, "chain {self}")
+    fn write_fields(&self, fields: &mut FieldWriter) -> Result<(), AllocError> {
+        fields.begin("chain", "chain")?;
+        fields.word(" ", "chain", *self)?;
+        fields.end("")
     }
 }
 
-/// The numbers of a partition pack, each after its name.
-#[derive(Clone, Copy)]
-struct NumbersText(PartitionNumbers);
-
-impl fmt::Display for NumbersText {
-    ghost output = { λ n. Some (numbers_text n.0) };
-
-    #[tactic(auto, unfolding(crate::specs::PartitionLines::numbers_text))]
-    fn fmt<W: fmt::Write>(&self, f: &mut fmt::Formatter<W>) -> fmt::Result {
-        let n = self.0;
-        write!(
-            f,
-            "version {}.{} kag {} this {} previous {} footer {}",
-            n.major_version,
-            n.minor_version,
-            n.kag_size,
-            n.this_partition,
-            n.previous_partition,
-            n.footer_partition
-        )?;
-        write!(
-            f,
-            " header-bytes {} index-bytes {} index-sid {} body-offset {} body-sid {}",
-            n.header_byte_count, n.index_byte_count, n.index_sid, n.body_offset, n.body_sid
-        )
-    }
+/// Writes the version of a partition pack, its KAG size, and where the partitions stand that it names.
+fn write_places(fields: &mut FieldWriter, n: PartitionNumbers) -> Result<(), AllocError>
+    ensures { IfOk result (λ _. fields.new ≡ with_fields (place_fields n) fields.old) }
+{
+    fields.number(" version ", "major", n.major_version)?;
+    fields.number(".", "minor", n.minor_version)?;
+    fields.number(" kag ", "kag", n.kag_size)?;
+    fields.number(" this ", "this", n.this_partition)?;
+    fields.number(" previous ", "previous", n.previous_partition)?;
+    fields.number(" footer ", "footer", n.footer_partition)
 }
 
-/// The label of an operational pattern: its name and qualifier, or its digits where it has no name.
-#[derive(Clone, Copy)]
-struct PatternText([u8; 16]);
+/// Writes what a partition pack says of its header metadata, its index and its essence.
+fn write_parts(fields: &mut FieldWriter, n: PartitionNumbers) -> Result<(), AllocError>
+    ensures { IfOk result (λ _. fields.new ≡ with_fields (part_fields n) fields.old) }
+{
+    fields.number(" header-bytes ", "header-bytes", n.header_byte_count)?;
+    fields.number(" index-bytes ", "index-bytes", n.index_byte_count)?;
+    fields.number(" index-sid ", "index-sid", n.index_sid)?;
+    fields.number(" body-offset ", "body-offset", n.body_offset)?;
+    fields.number(" body-sid ", "body-sid", n.body_sid)
+}
 
-impl fmt::Display for PatternText {
-    ghost output = { λ p. Some (pattern_text p.0) };
-
-    #[tactic(auto, unfolding(crate::specs::PartitionLines::pattern_text))]
-    fn fmt<W: fmt::Write>(&self, f: &mut fmt::Formatter<W>) -> fmt::Result {
-        let label = self.0;
-        match pattern_name(&label) {
-            Some(name) => write!(f, "{name} {}", HexDigits(&[label[14]])),
-            None => write!(f, "{}", HexDigits(&label)),
+/// Writes the label of an operational pattern: its name and qualifier, or its digits where it has no name.
+fn write_pattern(fields: &mut FieldWriter, label: [u8; 16]) -> Result<(), AllocError>
+    ensures { IfOk result (λ _. fields.new ≡ with_fields (pattern_fields label) fields.old) }
+{
+    match pattern_name(&label) {
+        Some(name) => {
+            fields.word(" pattern ", "pattern", name)?;
+            fields.word(" ", "qualifier", HexDigits(&[label[14]]))
         }
+        None => fields.word(" pattern ", "pattern", HexDigits(&label)),
     }
 }
 
@@ -96,22 +92,38 @@ pub struct PartitionLine<'a> {
 }
 
 impl<'a> Line for PartitionLine<'a> {
-    ghost text = { λ l. partition_line l.partition l.link };
+    ghost line = { λ l. partition_line l.partition l.link };
 
     #[tactic(auto, unfolding(crate::specs::PartitionLines::partition_line))]
-    fn append_to(&self, line: &mut String) -> Result<(), AllocError> {
-        let PartitionLine { partition, link } = self;
-        let offset = partition.offset;
-        let pack = &partition.pack;
-        let part = pack.part();
-        let status = pack.status();
-        let numbers = NumbersText(pack.numbers());
-        let pattern = PatternText(pack.pattern());
-        writeln!(
-            line,
-            "partition {offset} {part} {status} {numbers} pattern {pattern} link {link}"
-        )
+    fn write_fields(&self, fields: &mut FieldWriter) -> Result<(), AllocError> {
+        fields.begin("partition", "partition")?;
+        fields.number(" ", "offset", self.partition.offset)?;
+        write_linked(fields, &self.partition.pack, self.link)?;
+        fields.end("")
     }
+}
+
+/// Writes what a partition pack states, and how it names the partition before it.
+fn write_linked(
+    fields: &mut FieldWriter,
+    pack: &PartitionPack<'_>,
+    link: Link,
+) -> Result<(), AllocError>
+    ensures { IfOk result (λ _. fields.new ≡ with_fields (linked_fields pack.now link) fields.old) }
+{
+    write_pack(fields, pack)?;
+    fields.word(" link ", "link", link)
+}
+
+/// Writes what a partition pack states.
+fn write_pack(fields: &mut FieldWriter, pack: &PartitionPack<'_>) -> Result<(), AllocError>
+    ensures { IfOk result (λ _. fields.new ≡ with_fields (pack_fields pack.now) fields.old) }
+{
+    fields.word(" ", "part", pack.part())?;
+    fields.word(" ", "status", pack.status())?;
+    write_places(fields, pack.numbers())?;
+    write_parts(fields, pack.numbers())?;
+    write_pattern(fields, pack.pattern())
 }
 
 /// The line of a label of an essence container.
@@ -119,11 +131,13 @@ impl<'a> Line for PartitionLine<'a> {
 pub struct ContainerLine<'a>(&'a [u8]);
 
 impl<'a> Line for ContainerLine<'a> {
-    ghost text = { λ l. container_line l.0.now };
+    ghost line = { λ l. container_line l.0.now };
 
     #[tactic(auto, unfolding(crate::specs::PartitionLines::container_line))]
-    fn append_to(&self, line: &mut String) -> Result<(), AllocError> {
-        writeln!(line, "container {}", HexDigits(self.0))
+    fn write_fields(&self, fields: &mut FieldWriter) -> Result<(), AllocError> {
+        fields.begin("container", "container")?;
+        fields.word(" ", "label", HexDigits(self.0))?;
+        fields.end("")
     }
 }
 

@@ -1,95 +1,93 @@
-//! The lines of the fields of records.
-ghost use Rattle.std.specs.Prelude.{◌≡◌, ◌++◌, ℕ, List, IfOk, string_bytes, decimal, option_map};
-ghost use Rattle.mxf_lines.specs.Hexadecimal.{hex_of};
-ghost use Rattle.mxf_lines.specs.ReferenceLines.{field_line, field_lines, field_name, identification_lines};
-ghost use Rattle.mxf_lines.specs.ReferenceLines.{package_details, package_lines, package_word, timestamp_text};
-ghost use Rattle.mxf_lines.specs.ReferenceLines.{uid_text};
+//! The lines of what records say.
+ghost use Rattle.std.specs.Prelude.{◌≡◌, List, IfOk, string_bytes, option_map};
+ghost use Rattle.mxf_lines.specs.Forms.{Field};
+ghost use Rattle.mxf_lines.specs.ReferenceLines.{hex_fields, identification_lines, kind_fields, package_details};
+ghost use Rattle.mxf_lines.specs.ReferenceLines.{package_lines, shown_fields, text_fields, timestamp_fields};
+ghost use Rattle.mxf_lines.specs.ReferenceLines.{property_word, tracks_fields, uid_fields, value_line, value_lines};
 ghost use Rattle.mxf_lines.specs.ShownText.{shown_value, shown_char, shown_text};
+ghost use Rattle.mxf_lines.specs.Writing.{with_fields};
 
-use super::{AllocError, AnswerFault, HexDigits, Line, Lines, Printer, Then, Write};
+use super::{AllocError, AnswerFault, FieldWriter, HexDigits, Line, Lines, Printer, Then, Write};
 use mxf_klv::{Kind, OutOfMemory};
 use mxf_sets::{Identification, Package, TextFault, Timestamp, text};
 use std::alloc::Global;
 use uuid::Uuid;
 
-/// What a field may have for its value.
+/// What a record says under a word.
 trait Value {
-    // Its text.
-    ghost text: { Self → List ℕ };
+    // Its fields.
+    ghost fields: { Self → List Field };
 
-    /// Appends the text.
-    fn append_to(&self, line: &mut String) -> Result<(), AllocError>
-        ensures { IfOk result (λ _. string_bytes line.new ≡ string_bytes line.old ++ text self.now) };
+    /// Writes them.
+    fn write_to(&self, to: &mut FieldWriter) -> Result<(), AllocError>
+        ensures { IfOk result (λ _. to.new ≡ with_fields (fields self.now) to.old) };
 }
 
 impl Value for Uuid {
-    ghost text = { uid_text };
+    ghost fields = { uid_fields };
 
-    fn append_to(&self, line: &mut String) -> Result<(), AllocError> {
-        write!(line, "{self}")
+    fn write_to(&self, to: &mut FieldWriter) -> Result<(), AllocError> {
+        to.word(" ", "uid", *self)
     }
 }
 
 /// Seven numbers.
 impl Value for Timestamp {
-    ghost text = { timestamp_text };
+    ghost fields = { timestamp_fields };
 
-    #[tactic(auto, unfolding(crate::specs::ReferenceLines::timestamp_text))]
-    fn append_to(&self, line: &mut String) -> Result<(), AllocError> {
-        write!(
-            line,
-            "{} {} {} {} {} {} {}",
-            self.year,
-            self.month,
-            self.day,
-            self.hour,
-            self.minute,
-            self.second,
-            self.milliseconds_by_four
-        )
+    fn write_to(&self, to: &mut FieldWriter) -> Result<(), AllocError> {
+        to.number(" ", "year", self.year)?;
+        to.number(" ", "month", self.month)?;
+        to.number(" ", "day", self.day)?;
+        to.number(" ", "hour", self.hour)?;
+        to.number(" ", "minute", self.minute)?;
+        to.number(" ", "second", self.second)?;
+        to.number(" ", "quarter", self.milliseconds_by_four)
     }
 }
 
 /// The digits of a label, or of the identifier of a package.
 impl<const N: usize> Value for [u8; N] {
-    ghost text = { hex_of };
+    ghost fields = { hex_fields };
 
-    fn append_to(&self, line: &mut String) -> Result<(), AllocError> {
-        write!(line, "{}", HexDigits(self))
+    fn write_to(&self, to: &mut FieldWriter) -> Result<(), AllocError> {
+        to.word(" ", "uid", HexDigits(self))
     }
 }
 
+/// How many tracks a package has.
 impl Value for usize {
-    ghost text = { decimal };
+    ghost fields = { tracks_fields };
 
-    fn append_to(&self, line: &mut String) -> Result<(), AllocError> {
-        write!(line, "{self}")
+    fn write_to(&self, to: &mut FieldWriter) -> Result<(), AllocError> {
+        to.number(" ", "tracks", *self)
     }
 }
 
 /// The word for a package, by the kind of its set.
 impl Value for Kind {
-    ghost text = { package_word };
+    ghost fields = { kind_fields };
 
-    fn append_to(&self, line: &mut String) -> Result<(), AllocError> {
-        line.push_str(match *self {
+    fn write_to(&self, to: &mut FieldWriter) -> Result<(), AllocError> {
+        let word = match *self {
             Kind::MaterialPackage => "material",
             _ => "source",
-        })
+        };
+        to.word(" ", "kind", word)
     }
 }
 
 impl<'a> Value for &'a str {
-    ghost text = { λ text. text.now };
+    ghost fields = { λ text. text_fields text.now };
 
-    fn append_to(&self, line: &mut String) -> Result<(), AllocError> {
-        line.push_str(*self)
+    fn write_to(&self, to: &mut FieldWriter) -> Result<(), AllocError> {
+        to.word(" ", "text", *self)
     }
 }
 
-/// The name of a field.
+/// What a record says.
 #[derive(Clone, Copy)]
-pub enum FieldName {
+pub enum Property {
     Generation,
     Company,
     Product,
@@ -104,72 +102,72 @@ pub enum FieldName {
     Descriptor,
 }
 
-impl FieldName {
+impl Property {
     fn word(self) -> &'static str
-        ensures { result.now ≡ field_name self }
+        ensures { result.now ≡ property_word self }
     {
         match self {
-            FieldName::Generation => "generation",
-            FieldName::Company => "company",
-            FieldName::Product => "product",
-            FieldName::Version => "version",
-            FieldName::ProductUid => "product-uid",
-            FieldName::Kind => "kind",
-            FieldName::PackageUid => "package-uid",
-            FieldName::Modified => "modified",
-            FieldName::Name => "name",
-            FieldName::Created => "created",
-            FieldName::Tracks => "tracks",
-            FieldName::Descriptor => "descriptor",
+            Property::Generation => "generation",
+            Property::Company => "company",
+            Property::Product => "product",
+            Property::Version => "version",
+            Property::ProductUid => "product-uid",
+            Property::Kind => "kind",
+            Property::PackageUid => "package-uid",
+            Property::Modified => "modified",
+            Property::Name => "name",
+            Property::Created => "created",
+            Property::Tracks => "tracks",
+            Property::Descriptor => "descriptor",
         }
     }
 }
 
-/// A field: its name and its value.
+/// A value under its word.
 #[derive(Clone, Copy)]
-struct FieldLine<V>(FieldName, V);
+struct ValueLine<V>(Property, V);
 
-impl<V: Value> Line for FieldLine<V> {
-    ghost text = { λ l. field_line (field_name l.0) (V.text l.1) };
+impl<V: Value> Line for ValueLine<V> {
+    ghost line = { λ l. value_line (property_word l.0) (V.fields l.1) };
 
-    #[tactic(auto, unfolding(crate::specs::ReferenceLines::field_line))]
-    fn append_to(&self, line: &mut String) -> Result<(), AllocError> {
-        write!(line, "{} ", self.0.word())?;
-        self.1.append_to(line)?;
-        line.push_str("\n")
+    fn write_fields(&self, fields: &mut FieldWriter) -> Result<(), AllocError> {
+        let word = self.0.word();
+        fields.begin(word, word)?;
+        self.1.write_to(fields)?;
+        fields.end("")
     }
 }
 
-/// A field by its name, where it is there.
+/// A value under its word, where it is there.
 #[derive(Clone, Copy)]
-struct Field<V>(FieldName, Option<V>);
+struct ValueLines<V>(Property, Option<V>);
 
-impl<V: Value + Copy> Lines for Field<V> {
-    ghost lines = { λ f. field_lines (field_name f.0) V.text f.1 };
+impl<V: Value + Copy> Lines for ValueLines<V> {
+    ghost lines = { λ l. value_lines (property_word l.0) V.fields l.1 };
 
     fn print_to<W: Write>(self, printer: &mut Printer, writer: &mut W) -> Result<(), AnswerFault> {
-        let Field(name, value) = self;
+        let ValueLines(property, value) = self;
         match value {
-            Some(value) => FieldLine(name, value).print_to(printer, writer),
+            Some(value) => ValueLine(property, value).print_to(printer, writer),
             None => Ok(()),
         }
     }
 }
 
-/// A text by its name, given by the value of its item, where it is there.
+/// A text under its word, given by the value of its item, where it is there.
 #[derive(Clone, Copy)]
-struct TextField<'a>(FieldName, Option<&'a [u8]>);
+struct TextLines<'a>(Property, Option<&'a [u8]>);
 
-impl<'a> Lines for TextField<'a> {
-    ghost lines = { λ f. field_lines (field_name f.0) shown_value (option_map (λ v. v.now) f.1) };
+impl<'a> Lines for TextLines<'a> {
+    ghost lines = { λ l. value_lines (property_word l.0) shown_fields (option_map (λ v. v.now) l.1) };
 
     fn print_to<W: Write>(self, printer: &mut Printer, writer: &mut W) -> Result<(), AnswerFault> {
-        let TextField(name, value) = self;
+        let TextLines(property, value) = self;
         let Some(value) = value else {
             return Ok(());
         };
         let text = shown_value(printer.alloc(), value)?;
-        FieldLine(name, text.as_str()).print_to(printer, writer)
+        ValueLine(property, text.as_str()).print_to(printer, writer)
     }
 }
 
@@ -177,12 +175,12 @@ impl<'r, 'a> Lines for &'r Identification<'a> {
     ghost lines = { λ i. identification_lines i.now };
 
     fn print_to<W: Write>(self, printer: &mut Printer, writer: &mut W) -> Result<(), AnswerFault> {
-        let generation = Field(FieldName::Generation, self.this_generation_uid());
-        let company = TextField(FieldName::Company, self.company_name());
-        let product = TextField(FieldName::Product, self.product_name());
-        let version = TextField(FieldName::Version, self.version_string());
-        let product_uid = Field(FieldName::ProductUid, self.product_uid());
-        let modified = Field(FieldName::Modified, self.modification_date());
+        let generation = ValueLines(Property::Generation, self.this_generation_uid());
+        let company = TextLines(Property::Company, self.company_name());
+        let product = TextLines(Property::Product, self.product_name());
+        let version = TextLines(Property::Version, self.version_string());
+        let product_uid = ValueLines(Property::ProductUid, self.product_uid());
+        let modified = ValueLines(Property::Modified, self.modification_date());
         let software = Then(product, Then(version, Then(product_uid, modified)));
         Then(generation, Then(company, software)).print_to(printer, writer)
     }
@@ -197,9 +195,9 @@ impl<'r, 'a> Lines for PackageLines<'r, 'a> {
 
     fn print_to<W: Write>(self, printer: &mut Printer, writer: &mut W) -> Result<(), AnswerFault> {
         let PackageLines(kind, package) = self;
-        let kind = FieldLine(FieldName::Kind, kind);
-        let uid = FieldLine(FieldName::PackageUid, package.package_uid());
-        let name = TextField(FieldName::Name, package.name());
+        let kind = ValueLine(Property::Kind, kind);
+        let uid = ValueLine(Property::PackageUid, package.package_uid());
+        let name = TextLines(Property::Name, package.name());
         Then(Then(kind, uid), Then(name, PackageDetails(package))).print_to(printer, writer)
     }
 }
@@ -212,10 +210,10 @@ impl<'r, 'a> Lines for PackageDetails<'r, 'a> {
     ghost lines = { λ p. package_details p.0.now };
 
     fn print_to<W: Write>(self, printer: &mut Printer, writer: &mut W) -> Result<(), AnswerFault> {
-        let created = Field(FieldName::Created, self.0.creation_date());
-        let modified = Field(FieldName::Modified, self.0.modified_date());
-        let tracks = FieldLine(FieldName::Tracks, self.0.tracks().len());
-        let descriptor = Field(FieldName::Descriptor, self.0.descriptor());
+        let created = ValueLines(Property::Created, self.0.creation_date());
+        let modified = ValueLines(Property::Modified, self.0.modified_date());
+        let tracks = ValueLine(Property::Tracks, self.0.tracks().len());
+        let descriptor = ValueLines(Property::Descriptor, self.0.descriptor());
         Then(created, Then(modified, Then(tracks, descriptor))).print_to(printer, writer)
     }
 }

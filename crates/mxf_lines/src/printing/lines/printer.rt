@@ -1,33 +1,36 @@
 //! Lines that are written one after another.
-ghost use Rattle.std.specs.Prelude.{◌≡◌, ◌^◌, ◌<◌, ◌++◌, ℕ, List, [], ◌∷◌, IfOk, string_bytes};
+ghost use Rattle.std.specs.Prelude.{◌≡◌, ◌^◌, ◌<◌, [], ◌∷◌, IfOk, OnOk};
 ghost use Rattle.mxf_klv.specs.Written.{Puts};
+ghost use Rattle.mxf_lines.specs.Forms.{PrintedLine, line_in};
 ghost use Rattle.mxf_lines.specs.Printing.{Prints};
+ghost use Rattle.mxf_lines.specs.Writing.{with_line, written};
 
-use super::Lines;
-use crate::printing::AnswerFault;
+use super::{FieldWriter, Lines};
+use crate::printing::{AnswerFault, Form};
 use mxf_klv::Progress;
 use std::alloc::{AllocError, Global};
 use std::io::Write;
 
-/// Lines that are written one after another, each made in the same text.
+/// Lines that are written in a form one after another, each made in the same text.
 #[derive(Drop)]
 pub struct Printer {
     alloc: Global,
     progress: Progress,
-    line: String,
+    fields: FieldWriter,
 
     ghost in_range: { progress.written < 2 ^ 64 },
 }
 
 impl Printer {
     /// No line is written yet.
-    pub fn new(alloc: Global) -> Printer
-        ensures { result.progress.written ≡ 0 }
+    pub fn new(alloc: Global, form: Form) -> Printer
+        ensures written { result.progress.written ≡ 0 }
+        ensures form { result.fields.form ≡ form }
     {
         Printer {
             alloc,
             progress: Progress::new(),
-            line: String::new(alloc),
+            fields: FieldWriter::new(alloc, form),
         }
     }
 
@@ -38,30 +41,37 @@ impl Printer {
 
     /// Prints a line.
     pub fn print<W: Write, L: Line>(&mut self, writer: &mut W, line: &L) -> Result<(), AnswerFault>
-        ensures { Prints (Puts W.contents writer.old writer.new self.old.progress self.new.progress) result
-            (L.text line.now ∷ []) }
+        ensures lines { Prints self.old.fields.form (Puts W.contents writer.old writer.new self.old.progress
+            self.new.progress) result (L.line line.now ∷ []) }
+        ensures form { OnOk result (self.new.fields.form ≡ self.old.fields.form) }
     {
-        self.line.clear();
-        line.append_to(&mut self.line)
-            .map_err(|_| AnswerFault::OutOfMemory)?;
+        write_line(&mut self.fields, line).map_err(|_| AnswerFault::OutOfMemory)?;
         self.progress
-            .put(writer, self.line.as_bytes())
+            .put(writer, self.fields.text().as_bytes())
             .map_err(AnswerFault::Write)
     }
 }
 
+/// Writes a line whole.
+#[tactic(auto, using(crate::proofs::LineLaws::line_written))]
+fn write_line<L: Line>(fields: &mut FieldWriter, line: &L) -> Result<(), AllocError>
+    ensures { IfOk result (λ _. fields.new ≡ written fields.old.form (line_in fields.old.form (L.line line.now))) }
+{
+    line.write_fields(fields)
+}
+
 /// What is printed as one line.
 pub trait Line {
-    // Its text, with the newline.
-    ghost text: { Self → List ℕ };
+    // The line.
+    ghost line: { Self → PrintedLine };
 
-    /// Appends the text.
-    fn append_to(&self, line: &mut String) -> Result<(), AllocError>
-        ensures { IfOk result (λ _. string_bytes line.new ≡ string_bytes line.old ++ text self.now) };
+    /// Writes its fields, from its front to its end.
+    fn write_fields(&self, fields: &mut FieldWriter) -> Result<(), AllocError>
+        ensures { IfOk result (λ _. fields.new ≡ with_line (line self.now) fields.old) };
 }
 
 impl<L: Line + Drop> Lines for L {
-    ghost lines = { λ l. L.text l ∷ [] };
+    ghost lines = { λ l. L.line l ∷ [] };
 
     fn print_to<W: Write>(self, printer: &mut Printer, writer: &mut W) -> Result<(), AnswerFault> {
         printer.print(writer, &self)

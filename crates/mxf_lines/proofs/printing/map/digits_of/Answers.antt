@@ -1,4 +1,4 @@
-use Rattle.std.proofs.Common.{◌∙◌, ◌≡◌, ◌+◌, ◌≤◌, ◌<◌, ◌/◌, ap, arith, decimal, length}
+use Rattle.std.proofs.Common.{ap, arith, length}
 use Rattle.std.proofs.lemmas.Fmt.{decimal_digit, length-decimal-le_wide}
 use Rattle.mxf_lines.proofs.MapLineLaws.{one_digit_more}
 use Rattle.mxf_lines.proofs.printing.map.digits_of.Goals as goal

@@ -9,7 +9,7 @@ use Rattle.mxf_lines.proofs.printing.map.print_map.Goals as goal
 pub returns-clause-lines : goal.returns-clause-lines
 returns-clause-lines g c = λ m is.
     let own = c.in_ok-map.map in
-    subst (λ (k : MapParts). Prints (Writes {X = Unit {0}} (g.W.Write.contents c.args.writer.now)
+    subst (λ (k : MapParts). Prints c.args.form (Writes {X = Unit {0}} (g.W.Write.contents c.args.writer.now)
     (g.W.Write.contents c.print_picture.new.writer)) c.print_picture.result (map_lines c.args.grid.columns k))
     (one_map c.args.views.now (c.args.grid.columns * c.args.grid.rows) own m
     (subst (λ (k : ℕ). IsMap c.args.views.now k own) (λ i. c.from.ensures i * c.from-2.ensures i)

@@ -3,10 +3,10 @@ use Rattle.mxf_klv.specs.Written.{Puts}
 use Rattle.mxf_lines.specs.Printing.{Prints}
 use Rattle.mxf_lines.proofs.printing.content.RefViewsLines.print_to.Goals as goal
 
-pub returns : goal.returns
-returns g c =
-    subst (Prints (Puts {X = Unit {0}} g.W.Write.contents c.args.writer.now c.print_to.new.writer
-    c.args.printer.now.progress c.print_to.new.printer.progress) c.print_to.result)
+pub returns-clause-lines : goal.returns-clause-lines
+returns-clause-lines g c =
+    subst (Prints c.args.printer.now.fields.form (Puts {X = Unit {0}} g.W.Write.contents c.args.writer.now
+    c.print_to.new.writer c.args.printer.now.progress c.print_to.new.printer.progress) c.print_to.result)
     (simp (
       c.of.ensures,
       c.gaps.ensures.gaps,
@@ -18,4 +18,4 @@ returns g c =
       c.in_ok-resolved.ensures,
       c.segments.ensures.segments,
       c.rip.ensures,
-    ) refl) c.print_to.ensures
+    ) refl) c.print_to.ensures.lines

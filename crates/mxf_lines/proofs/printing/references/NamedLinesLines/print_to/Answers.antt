@@ -10,10 +10,10 @@ each-preserved g c =
     let lines = lines_of_reference c.args.self.catalogue.now c.args.self.named in
     let printed = c.in_ok-print_reference.ensures in
     let steps = ap (flat_map lines) c.in-Some.ensures.cases.0 in
-    (leads_more (lines c.in-Some.reference.now) _ steps c.each.invariant.0 printed.lines, printed.last)
+    (leads_more (lines c.in-Some.reference.now) _ steps c.each.invariant.0 printed.lines printed.form, printed.last)
 
-pub returns-in_err-print_reference : goal.returns-in_err-print_reference
-returns-in_err-print_reference g c =
+pub returns-in_err-print_reference-clause-lines : goal.returns-in_err-print_reference-clause-lines
+returns-in_err-print_reference-clause-lines g c =
     let lines = lines_of_reference c.args.self.catalogue.now c.args.self.named in
     let new = c.print_reference.new in
     let steps = ap (flat_map lines) c.in-Some.ensures.cases.0 in
@@ -22,7 +22,7 @@ returns-in_err-print_reference g c =
     c.in_err-print_reference.field-0.0 (lines c.in-Some.reference.now) _ steps c.each.invariant.0
     c.in_err-print_reference.ensures.lines)
 
-pub returns : goal.returns
-returns g c =
+pub returns-clause-lines : goal.returns-clause-lines
+returns-clause-lines g c =
     let lines = flat_map (lines_of_reference c.args.self.catalogue.now c.args.self.named) in
     leads_end (ap lines (nil_from_length _ c.in_default.ensures.cases)) c.each.printer.in_range c.each.invariant.0

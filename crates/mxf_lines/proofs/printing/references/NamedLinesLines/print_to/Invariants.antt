@@ -8,8 +8,9 @@ abbrev pub invariant-each : goal.invariant-each
 invariant-each g l =
     let content = l.fn.self.catalogue.now in
     let lines = flat_map (lines_of_reference content l.fn.self.named) in
-    Leads (g.W.Write.contents l.initial.writer) l.initial.printer.progress.written (lines l.fn.self.references.now)
-    (g.W.Write.contents l.writer) l.printer.progress.written (lines l.left)
+    Leads l.initial.printer.fields.form (g.W.Write.contents l.initial.writer) l.initial.printer.progress.written
+    (lines l.fn.self.references.now) l.printer.fields.form (g.W.Write.contents l.writer) l.printer.progress.written
+    (lines l.left)
     × IsRecordIn content l.fn.self.named l.last
 
 abbrev pub decreases-each : goal.decreases-each

@@ -14,16 +14,17 @@ each-init g c =
 pub each-preserved : goal.each-preserved
 each-preserved g c =
     let steps = ap (flat_map (set_lines c.args.self.0.now)) c.in-Some.ensures.steps in
-    (leads_more _ _ steps c.each.invariant.0 c.in_ok-print_set.ensures.lines, c.in_ok-print_set.ensures.labels)
+    let printed = c.in_ok-print_set.ensures in
+    (leads_more _ _ steps c.each.invariant.0 printed.lines printed.form, printed.labels)
 
-pub returns-in_err-print_set : goal.returns-in_err-print_set
-returns-in_err-print_set g c =
+pub returns-in_err-print_set-clause-lines : goal.returns-in_err-print_set-clause-lines
+returns-in_err-print_set-clause-lines g c =
     let steps = ap (flat_map (set_lines c.args.self.0.now)) c.in-Some.ensures.steps in
     let p = err_from_is_err_and c.from_residual.result c.from_residual.ensures.1 in
     rw (p.1, p.2) (leads_failed (g.W.Write.contents c.print_set.new.writer) c.print_set.new.printer.progress.written
     c.in_err-print_set.field-0.0 _ _ steps c.each.invariant.0 c.in_err-print_set.ensures.lines)
 
-pub returns : goal.returns
-returns g c =
+pub returns-clause-lines : goal.returns-clause-lines
+returns-clause-lines g c =
     let none = ap (flat_map (set_lines c.args.self.0.now)) c.in-None.ensures.steps.0 in
     leads_end none c.each.printer.in_range c.each.invariant.0

@@ -8,7 +8,7 @@ use Rattle.mxf_lines.proofs.printing.sets.SetLinesLines.print_to.Given as goal
 abbrev pub invariant-each : goal.invariant-each
 invariant-each g l =
     let content = l.fn.self.0.now in
-    Leads (g.W.Write.contents l.initial.writer) l.initial.printer.progress.written
-    (flat_map (set_lines content) (clear_notes content)) (g.W.Write.contents l.writer) l.printer.progress.written
-    (flat_map (set_lines content) l.note-iterator)
+    Leads l.initial.printer.fields.form (g.W.Write.contents l.initial.writer) l.initial.printer.progress.written
+    (flat_map (set_lines content) (clear_notes content)) l.printer.fields.form (g.W.Write.contents l.writer)
+    l.printer.progress.written (flat_map (set_lines content) l.note-iterator)
     × AreLabelsIn content l.labels

@@ -1,7 +1,7 @@
 -- The line so far, with the spaces that are to come.
 use Rattle.std.proofs.Common.{◌≡◌, ◌++◌, codes, string_bytes}
 use Rattle.std.specs.List.{repeat}
-use Rattle.mxf_lines.proofs.printing.map.append_spaces.Given as goal
+use Rattle.mxf_lines.proofs.printing.lines.field_writer.append_spaces.Given as goal
 
 abbrev pub invariant-loop-left : goal.invariant-loop-left
 invariant-loop-left l =

@@ -1,0 +1,124 @@
+-- What a printed line is, and its two printings: as text, and as a JSON object (RFC 8259; which lines there are is this
+-- project's profile).
+use Rattle.std.specs.Prelude.{ℕ, ◌==◌, ◌||◌, Bool, true, false, if◌then◌else◌, List, [], ◌∷◌, ◌++◌, codes, decimal}
+use Rattle.std.specs.Prelude.{flat_map, Option, None, Some, option_map}
+use Prim.Native.String.{String}
+use Rattle.mxf_lines.specs.declared.printing.Form.{Form}
+use Rattle.mxf_lines.specs.declared.printing.Form.TheVariants.{Text, Json}
+
+-- The value of a field: a number, by its digits; characters; one that is absent, for which the text has a word; a flag,
+-- whose word stands in the text or doesn't; or a word that the text doesn't show.
+pub data Value : Type 0 where
+  Number : List ℕ → Value
+  Characters : List ℕ → Value
+  Absent : List ℕ → Value
+  Flag : Bool → Value
+  Fixed : List ℕ → Value
+
+-- A field: what stands before it in the text, its name, and its value. Of a flag the first is its word.
+pub record Field : Type 0 where
+  pub before : List ℕ
+  pub name : List ℕ
+  pub value : Value
+
+-- A line: the name of its form, the words before its fields, these, and the words behind them.
+pub record PrintedLine : Type 0 where
+  pub name : List ℕ
+  pub first : List ℕ
+  pub fields : List Field
+  pub last : List ℕ
+
+-- The text of a field.
+abbrev pub field_text : List ℕ → Value → List ℕ
+field_text before (Number digits) = before ++ digits
+field_text before (Characters text) = before ++ text
+field_text before (Absent word) = before ++ word
+field_text before (Flag true) = before
+field_text before (Flag false) = []
+field_text before (Fixed word) = before
+
+-- In a string a quotation mark, 34, and a backslash, 92, have a backslash before them, and nothing else has.
+abbrev pub escaped_character : ℕ → List ℕ
+escaped_character c = if c == 34 || c == 92 then 92 ∷ c ∷ [] else c ∷ []
+
+abbrev pub escaped : List ℕ → List ℕ
+escaped text = flat_map escaped_character text
+
+-- The string of a text.
+abbrev pub quoted : List ℕ → List ℕ
+quoted text = 34 ∷ (escaped text ++ 34 ∷ [])
+
+-- The JSON of a value.
+abbrev pub value_json : Value → List ℕ
+value_json (Number digits) = digits
+value_json (Characters text) = quoted text
+value_json (Absent word) = codes "null"
+value_json (Flag true) = codes "true"
+value_json (Flag false) = codes "false"
+value_json (Fixed word) = quoted word
+
+-- What is printed of a line with this name before its fields, of a field, and behind the fields.
+unfoldable pub front_in : Form → List ℕ → List ℕ → List ℕ
+front_in Text name first = first
+front_in Json name first = codes "{\"line\":\"" ++ (name ++ codes "\"")
+
+unfoldable pub field_in : Form → Field → List ℕ
+field_in Text f = field_text f.before f.value
+field_in Json f = codes ",\"" ++ (f.name ++ (codes "\":" ++ value_json f.value))
+
+unfoldable pub end_in : Form → List ℕ → List ℕ
+end_in Text last = last ++ codes "\n"
+end_in Json last = codes "}\n"
+
+-- A line as it is printed.
+abbrev pub line_in : Form → PrintedLine → List ℕ
+line_in form l = front_in form l.name l.first ++ (flat_map (field_in form) l.fields ++ end_in form l.last)
+
+-- Lines as they are printed, one after another.
+abbrev pub lines_in : Form → List PrintedLine → List ℕ
+lines_in form lines = flat_map (line_in form) lines
+
+-- Fields by what stands before them, their names and their values: a number by its digits, and by itself, characters, a
+-- flag, and a number that may be absent, with the word for that.
+abbrev pub field : List ℕ → List ℕ → Value → Field
+field before name value = record { before = before; name = name; value = value }
+
+abbrev pub digits : String → String → List ℕ → Field
+digits before name text = field (codes before) (codes name) (Number text)
+
+abbrev pub number : String → String → ℕ → Field
+number before name n = digits before name (decimal n)
+
+abbrev pub word : String → String → List ℕ → Field
+word before name text = field (codes before) (codes name) (Characters text)
+
+abbrev pub flag : String → String → Bool → Field
+flag before name stands = field (codes before) (codes name) (Flag stands)
+
+abbrev pub number_or : List ℕ → Option ℕ → Value
+number_or none None = Absent none
+number_or none (Some n) = Number (decimal n)
+
+abbrev pub known : String → String → String → Option ℕ → Field
+known before name none n = field (codes before) (codes name) (number_or (codes none) n)
+
+-- A line by its name, the words before its fields, these, and the words behind them; and one whose name is all its words.
+abbrev pub line_of : List ℕ → List ℕ → List Field → List ℕ → PrintedLine
+line_of name first fields last = record { name = name; first = first; fields = fields; last = last }
+
+abbrev pub line : String → List Field → PrintedLine
+line name fields = line_of (codes name) (codes name) fields []
+
+-- What a reader of JSON takes of the characters behind a quotation mark, up to the next that no backslash stands before,
+-- and what is behind that. `literal` says that a backslash stands before the first of them.
+abbrev pub string_end : Bool → List ℕ → Option (List ℕ × List ℕ)
+string_end literal [] = None
+string_end true (c ∷ rest) = option_map (λ s. (c ∷ s.0, s.1)) (string_end false rest)
+string_end false (c ∷ rest) =
+    if c == 34 then Some ([], rest) else
+    (if c == 92 then string_end true rest else option_map (λ s. (c ∷ s.0, s.1)) (string_end false rest))
+
+-- What a reader of JSON takes for the string that begins here, and what is behind it.
+abbrev pub string_at : List ℕ → Option (List ℕ × List ℕ)
+string_at [] = None
+string_at (c ∷ rest) = if c == 34 then string_end false rest else None

@@ -1,0 +1,82 @@
+-- The lines of edit units (this project's profile; the fields of an entry are those of ST 377-1, Index Table Segment).
+use Rattle.std.specs.Prelude.{ℕ, ℤ, ◌==◌, if◌then◌else◌, min, Bool, true, false, List, [], ◌∷◌, ◌++◌, Option}
+use Rattle.std.specs.Prelude.{None, Some}
+use Rattle.std.specs.Prelude.{codes, count_by, flat_map, length, map}
+use Rattle.std.specs.Fmt.{signed_decimal}
+use Rattle.std.specs.List.{filter_map, range_with_len}
+use Rattle.std.specs.Option.{option_and_then, option_map}
+use Rattle.mxf_units.specs.Units.{UnitsParts, unit_of}
+use Rattle.mxf_units.specs.Words.{unit_standing_name}
+use Rattle.mxf_units.specs.declared.standing.UnitStanding.{UnitStanding}
+use Rattle.mxf_units.specs.declared.standing.UnitStanding.TheVariants as standings
+use Rattle.mxf_units.specs.declared.unit.EditUnit.{EditUnit}
+use Rattle.mxf_units.specs.declared.unit.Extent.{Extent}
+use Rattle.mxf_lines.specs.Forms.{Absent, Characters, Field, Number, PrintedLine, Value, field, known, line, number}
+use Rattle.mxf_lines.specs.Forms.{word}
+use Rattle.mxf_lines.specs.Hexadecimal.{hex_of}
+
+-- The units of an index from one on.
+abbrev pub units_from : UnitsParts → ℕ → ℕ → List EditUnit
+units_from u first count = map (unit_of u.notes u.index_sid) (range_with_len first count)
+
+-- How far away the unit is stored that is shown in the place of this one, or a dash.
+abbrev pub temporal_value : Option ℤ → Value
+temporal_value None = Absent (codes "-")
+temporal_value (Some offset) = Number (signed_decimal offset)
+
+-- The two digits of the flags, or a dash.
+abbrev pub flags_value : Option ℕ → Value
+flags_value None = Absent (codes "-")
+flags_value (Some flags) = Characters (hex_of (flags ∷ []))
+
+-- From where up to where bytes lie.
+abbrev pub extent_fields : Option Extent → List Field
+extent_fields extent =
+    known " " "start" "-" (option_map (λ e. e.start) extent)
+    ∷ known " " "end" "-" (option_and_then (λ e. e.end) extent) ∷ []
+
+-- What the entry of a unit says: its key frame, its place of display, and flags.
+abbrev pub entry_fields : EditUnit → List Field
+entry_fields u =
+    known " key " "key" "-" u.key ∷ field (codes " temporal ") (codes "temporal") (temporal_value u.temporal)
+    ∷ field (codes " flags ") (codes "flags") (flags_value u.flags) ∷ []
+
+-- The line of a unit: its number, how its bytes stand, from where up to where they lie, and what its entry says.
+unfoldable pub unit_line : EditUnit → PrintedLine
+unit_line u =
+    line "unit" (number " " "unit" u.number ∷ word " " "standing" (unit_standing_name u.standing)
+    ∷ (extent_fields u.extent ++ entry_fields u))
+
+-- All bytes of the unit are held.
+abbrev pub is_held : UnitStanding → Bool
+is_held standings.Held = true
+is_held _ = false
+
+-- The least of a number and others.
+abbrev pub least_of : ℕ → List ℕ → ℕ
+least_of x [] = x
+least_of x (y ∷ ys) = least_of (min x y) ys
+
+-- The number of units of which all bytes are held.
+abbrev pub held_count : List EditUnit → ℕ
+held_count units = count_by (λ u. is_held u.standing) units
+
+-- The first unit that some need: theirs, or the least of the key frames that they name.
+abbrev pub needed_from : ℕ → List EditUnit → ℕ
+needed_from first units = least_of first (filter_map (λ u. u.key) units)
+
+-- The last line: how many units there are, how many of them are held, and from which on they need units.
+unfoldable pub units_line : ℕ → ℕ → ℕ → PrintedLine
+units_line units held from =
+    line "units" (number " " "units" units ∷ number " held " "held" held ∷ number " from " "from" from ∷ [])
+
+abbrev pub last_line : ℕ → List EditUnit → PrintedLine
+last_line first units = units_line (length units) (held_count units) (needed_from first units)
+
+-- The lines of units, the first of which has this number.
+abbrev pub unit_lines : ℕ → List EditUnit → List PrintedLine
+unit_lines first units = flat_map (λ u. unit_line u ∷ []) units ++ last_line first units ∷ []
+
+-- 0 where all units are held, else 1.
+abbrev pub units_status : List EditUnit → ℕ
+units_status units = if held_count units == length units then 0 else 1

@@ -1,0 +1,222 @@
+//! The fields of a line, written one after another.
+ghost use Rattle.std.specs.Prelude.{◌≡◌, ◌++◌, IfOk, IfSome, codes, decimal, string_bytes};
+ghost use Rattle.std.specs.Char.{encode_utf8};
+ghost use Rattle.std.specs.List.{repeat};
+ghost use Rattle.mxf_lines.specs.Forms.{Absent, Characters, Fixed, Flag, Number, escaped, field, number_or};
+ghost use Rattle.mxf_lines.specs.Writing.{with_end, with_field, with_front};
+
+use crate::printing::Form;
+use std::alloc::{AllocError, Global};
+use std::fmt;
+use std::marker::Model;
+
+/// Writes lines in a form, each in the same text. Of a field it takes what stands before it in the text, its name, which
+/// JSON has, and its value. After want of memory the line is begun anew.
+#[derive(Drop)]
+pub struct FieldWriter {
+    form: Form,
+    text: String,
+    characters: String,
+}
+
+impl Model for FieldWriter {
+    ghost use Rattle.std.specs.Prelude.{string_bytes};
+    ghost use Rattle.mxf_lines.specs.Writing.{Written};
+
+    ghost Value = { Written };
+
+    ghost view = { λ w. record { form = w.form; text = string_bytes w.text } };
+}
+
+impl FieldWriter {
+    /// Writes in this form.
+    pub fn new(alloc: Global, form: Form) -> FieldWriter
+        ensures { result.form ≡ form }
+    {
+        FieldWriter {
+            form,
+            text: String::new(alloc),
+            characters: String::new(alloc),
+        }
+    }
+
+    /// What is written of the line.
+    pub fn text(&self) -> &str
+        ensures { result.now ≡ self.now.text }
+    {
+        self.text.as_str()
+    }
+
+    /// Begins a line by its name and the words before its fields.
+    #[tactic(auto, unfolding(crate::specs::Forms::front_in, crate::specs::Writing::with_front))]
+    pub fn begin(&mut self, name: &str, first: &str) -> Result<(), AllocError>
+        ensures { IfOk result (λ _. self.new ≡ with_front name.now first.now self.old) }
+    {
+        self.text.clear();
+        match self.form {
+            Form::Text => self.text.push_str(first),
+            Form::Json => write!(self.text, "{{\"line\":\"{name}\""),
+        }
+    }
+
+    /// A number.
+    #[tactic(auto, unfolding(crate::specs::Forms::field_in, crate::specs::Writing::with_field))]
+    pub fn number<T: fmt::Display + Copy>(
+        &mut self,
+        before: &str,
+        name: &str,
+        value: T,
+    ) -> Result<(), AllocError>
+        ensures { IfOk result (λ _. IfSome (T.output value) (λ digits.
+            self.new ≡ with_field (field before.now name.now (Number digits)) self.old)) }
+    {
+        match self.form {
+            Form::Text => write!(self.text, "{before}{value}"),
+            Form::Json => write!(self.text, ",\"{name}\":{value}"),
+        }
+    }
+
+    /// A number, with so many spaces more before it.
+    #[tactic(auto, unfolding(crate::specs::Forms::field_in, crate::specs::Writing::with_field))]
+    pub fn number_behind(
+        &mut self,
+        spaces: usize,
+        name: &str,
+        value: u128,
+    ) -> Result<(), AllocError>
+        ensures { IfOk result (λ _. self.new ≡ with_field (field (codes " " ++ repeat spaces (codes " ")) name.now
+            (Number (decimal value))) self.old) }
+    {
+        match self.form {
+            Form::Text => {
+                self.text.push_str(" ")?;
+                append_spaces(&mut self.text, spaces)?;
+                write!(self.text, "{value}")
+            }
+            Form::Json => write!(self.text, ",\"{name}\":{value}"),
+        }
+    }
+
+    /// A number, or a word where there is none.
+    pub fn known(
+        &mut self,
+        before: &str,
+        name: &str,
+        none: &str,
+        value: Option<u64>,
+    ) -> Result<(), AllocError>
+        ensures { IfOk result (λ _. self.new
+            ≡ with_field (field before.now name.now (number_or none.now value)) self.old) }
+    {
+        match value {
+            Some(value) => self.number(before, name, value),
+            None => self.absent(before, name, none),
+        }
+    }
+
+    /// A word, or other characters.
+    #[tactic(auto, unfolding(crate::specs::Forms::field_in, crate::specs::Writing::with_field))]
+    pub fn word<T: fmt::Display + Copy>(
+        &mut self,
+        before: &str,
+        name: &str,
+        value: T,
+    ) -> Result<(), AllocError>
+        ensures { IfOk result (λ _. IfSome (T.output value) (λ text.
+            self.new ≡ with_field (field before.now name.now (Characters text)) self.old)) }
+    {
+        match self.form {
+            Form::Text => write!(self.text, "{before}{value}"),
+            Form::Json => {
+                self.characters.clear();
+                write!(self.characters, "{value}")?;
+                write!(self.text, ",\"{name}\":\"")?;
+                append_escaped(&mut self.text, &self.characters)?;
+                self.text.push_str("\"")
+            }
+        }
+    }
+
+    /// A value that isn't there, with the word for that.
+    #[tactic(auto, unfolding(crate::specs::Forms::field_in, crate::specs::Writing::with_field))]
+    pub fn absent(&mut self, before: &str, name: &str, word: &str) -> Result<(), AllocError>
+        ensures { IfOk result (λ _. self.new ≡ with_field (field before.now name.now (Absent word.now)) self.old) }
+    {
+        match self.form {
+            Form::Text => write!(self.text, "{before}{word}"),
+            Form::Json => write!(self.text, ",\"{name}\":null"),
+        }
+    }
+
+    /// Whether a word stands in the text.
+    #[tactic(auto, unfolding(crate::specs::Forms::field_in, crate::specs::Writing::with_field))]
+    pub fn flag(&mut self, word: &str, name: &str, stands: bool) -> Result<(), AllocError>
+        ensures { IfOk result (λ _. self.new ≡ with_field (field word.now name.now (Flag stands)) self.old) }
+    {
+        match self.form {
+            Form::Text if stands => self.text.push_str(word),
+            Form::Text => Ok(()),
+            Form::Json => write!(self.text, ",\"{name}\":{stands}"),
+        }
+    }
+
+    /// A word that the text doesn't show.
+    #[tactic(auto, unfolding(crate::specs::Forms::field_in, crate::specs::Writing::with_field))]
+    pub fn fixed(&mut self, before: &str, name: &str, word: &str) -> Result<(), AllocError>
+        ensures { IfOk result (λ _. self.new ≡ with_field (field before.now name.now (Fixed word.now)) self.old) }
+    {
+        match self.form {
+            Form::Text => self.text.push_str(before),
+            Form::Json => {
+                write!(self.text, ",\"{name}\":\"")?;
+                append_escaped(&mut self.text, word)?;
+                self.text.push_str("\"")
+            }
+        }
+    }
+
+    /// Ends the line with the words behind its fields.
+    #[tactic(auto, unfolding(crate::specs::Forms::end_in, crate::specs::Writing::with_end))]
+    pub fn end(&mut self, last: &str) -> Result<(), AllocError>
+        ensures { IfOk result (λ _. self.new ≡ with_end last.now self.old) }
+    {
+        match self.form {
+            Form::Text => writeln!(self.text, "{last}"),
+            Form::Json => self.text.push_str("}\n"),
+        }
+    }
+}
+
+/// Appends so many spaces.
+fn append_spaces(line: &mut String, count: usize) -> Result<(), AllocError>
+    ensures { IfOk result (λ _. string_bytes line.new ≡ string_bytes line.old ++ repeat count (codes " ")) }
+{
+    let mut left = count;
+    while left > 0 {
+        line.push_str(" ")?;
+        left -= 1;
+    }
+    Ok(())
+}
+
+/// Appends a text as it stands in a string.
+fn append_escaped(line: &mut String, text: &str) -> Result<(), AllocError>
+    ensures { IfOk result (λ _. string_bytes line.new ≡ string_bytes line.old ++ escaped text.now) }
+{
+    for c in text.chars() {
+        append_character(line, c)?;
+    }
+    Ok(())
+}
+
+/// Appends a character as it stands in a string: a quotation mark and a backslash have a backslash before them.
+#[tactic(auto, using(crate::proofs::StringLaws::escaped_plain))]
+fn append_character(line: &mut String, c: char) -> Result<(), AllocError>
+    ensures { IfOk result (λ _. string_bytes line.new ≡ string_bytes line.old ++ escaped (encode_utf8 c)) }
+{
+    if c == '"' || c == '\\' {
+        write!(line, "\\{c}")
+    } else {
+        line.push(c)
+    }
+}

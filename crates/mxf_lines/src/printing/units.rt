@@ -1,0 +1,278 @@
+//! Edit units of an index, and their lines.
+ghost use Rattle.std.specs.Prelude.{◌≡◌, ◌+◌, ◌-◌, ◌<◌, ◌≤◌, ◌⊎◌, ◌∷◌, [], IfNone, IfOk, IfSome};
+ghost use Rattle.std.specs.Prelude.{codes, flat_map, length};
+ghost use Rattle.std.specs.Iterator.{YieldsFirst, item_count};
+ghost use Rattle.std.specs.Option.{option_and_then, option_map};
+ghost use Rattle.mxf_klv.specs.Written.{Puts};
+ghost use Rattle.mxf_lines.specs.Printing.{Prints};
+ghost use Rattle.mxf_lines.specs.UnitLines.{entry_fields, extent_fields, flags_value, held_count, is_held, last_line};
+ghost use Rattle.mxf_lines.specs.UnitLines.{needed_from, temporal_value, unit_line, unit_lines, units_from};
+ghost use Rattle.mxf_lines.specs.UnitLines.{units_status};
+ghost use Rattle.mxf_lines.specs.Forms.{field, number_or};
+ghost use Rattle.mxf_lines.specs.Writing.{with_field, with_fields};
+
+use super::AnswerFault;
+use super::hexadecimal::HexDigits;
+use super::lines::{Each, FieldWriter, Line, Lines, Printer, Series, Then};
+use mxf_units::{EditUnit, Extent, UnitStanding, Units};
+use std::alloc::AllocError;
+use std::io::Write;
+use std::marker::Model;
+
+/// The greatest edit unit: segments state theirs as signed numbers of eight bytes.
+const GREATEST_UNIT: u64 = 9_223_372_036_854_775_807;
+
+/// So many units are asked for at once at most.
+const MOST_UNITS: u64 = 1_000_000;
+
+/// So many edit units, one after another as they are stored.
+#[derive(Clone, Copy, Debug, PartialEq, Eq)]
+pub struct UnitRange {
+    first: u64,
+    count: u64,
+
+    ghost some: { 1 ≤ count },
+    ghost few: { count ≤ 1000000 },
+    ghost in_range: { first + count ≤ 9223372036854775808 },
+}
+
+impl UnitRange {
+    /// The units from one up to another, that included. None where the last is above 9,223,372,036,854,775,807 or below
+    /// the first, or where there are more than 1,000,000.
+    pub fn new(first: u64, last: u64) -> Option<UnitRange>
+        ensures some { IfSome result (λ r. (r.first ≡ first) × (r.first + r.count ≡ last + 1)) }
+        ensures none { IfNone result ((9223372036854775807 < last) ⊎ ((last < first) ⊎ (1000000 ≤ last - first))) }
+    {
+        if last > GREATEST_UNIT || last < first || last - first >= MOST_UNITS {
+            return None;
+        }
+        let count = last - first + 1;
+        Some(UnitRange { first, count })
+    }
+}
+
+/// Prints the units of a range, and the last line; answers 0 where all bytes of all of them are held, else 1.
+pub fn print_units<W: Write>(
+    printer: &mut Printer,
+    writer: &mut W,
+    units: &Units<'_>,
+    range: UnitRange,
+) -> Result<u8, AnswerFault>
+    ensures lines { Prints printer.old.fields.form
+        (Puts W.contents writer.old writer.new printer.old.progress printer.new.progress)
+        result (unit_lines range.first (units_from units.now range.first range.count)) }
+    ensures status { IfOk result (λ status. status ≡ units_status (units_from units.now range.first range.count)) }
+{
+    let last = UnitsLine::of(units, range);
+    Then(Each(UnitsLeft::of(units, range)), last).print_to(printer, writer)?;
+    Ok(last.status())
+}
+
+/// A unit: its number, how its bytes stand, from where up to where they lie, in bytes, and what its entry says.
+impl Line for EditUnit {
+    ghost line = { unit_line };
+
+    #[tactic(auto, unfolding(crate::specs::UnitLines::unit_line))]
+    fn write_fields(&self, fields: &mut FieldWriter) -> Result<(), AllocError> {
+        fields.begin("unit", "unit")?;
+        fields.number(" ", "unit", self.number)?;
+        fields.word(" ", "standing", self.standing)?;
+        write_extent(fields, self.extent)?;
+        write_entry(fields, self)?;
+        fields.end("")
+    }
+}
+
+/// Writes from where up to where bytes lie.
+fn write_extent(fields: &mut FieldWriter, extent: Option<Extent>) -> Result<(), AllocError>
+    ensures { IfOk result (λ _. fields.new ≡ with_fields (extent_fields extent) fields.old) }
+{
+    write_place(fields, "start", start_of(extent))?;
+    write_place(fields, "end", end_of(extent))
+}
+
+/// Writes what the entry of a unit says.
+fn write_entry(fields: &mut FieldWriter, unit: &EditUnit) -> Result<(), AllocError>
+    ensures { IfOk result (λ _. fields.new ≡ with_fields (entry_fields unit.now) fields.old) }
+{
+    fields.known(" key ", "key", "-", unit.key)?;
+    write_temporal(fields, unit.temporal)?;
+    write_flags(fields, unit.flags)
+}
+
+/// The file offset where an extent begins, where there is one.
+fn start_of(extent: Option<Extent>) -> Option<u128>
+    ensures { result ≡ option_map (λ e. e.start) extent }
+{
+    Some(extent?.start)
+}
+
+/// The file offset where an extent ends, where that is known.
+fn end_of(extent: Option<Extent>) -> Option<u128>
+    ensures { result ≡ option_and_then (λ e. e.end) extent }
+{
+    extent?.end
+}
+
+/// Writes a file offset.
+fn write_place(fields: &mut FieldWriter, name: &str, place: Option<u128>) -> Result<(), AllocError>
+    ensures { IfOk result (λ _. fields.new
+        ≡ with_field (field (codes " ") name.now (number_or (codes "-") place)) fields.old) }
+{
+    match place {
+        Some(place) => fields.number(" ", name, place),
+        None => fields.absent(" ", name, "-"),
+    }
+}
+
+/// Writes how far away the unit is stored that is shown in the place of one.
+fn write_temporal(fields: &mut FieldWriter, offset: Option<i8>) -> Result<(), AllocError>
+    ensures { IfOk result (λ _. fields.new
+        ≡ with_field (field (codes " temporal ") (codes "temporal") (temporal_value offset)) fields.old) }
+{
+    match offset {
+        Some(offset) => fields.number(" temporal ", "temporal", offset),
+        None => fields.absent(" temporal ", "temporal", "-"),
+    }
+}
+
+/// Writes the two digits of flags.
+fn write_flags(fields: &mut FieldWriter, flags: Option<u8>) -> Result<(), AllocError>
+    ensures { IfOk result (λ _. fields.new
+        ≡ with_field (field (codes " flags ") (codes "flags") (flags_value flags)) fields.old) }
+{
+    match flags {
+        Some(flags) => fields.word(" flags ", "flags", HexDigits(&[flags])),
+        None => fields.absent(" flags ", "flags", "-"),
+    }
+}
+
+/// The last line of the units of a range: how many there are, how many of them are held, and from which on they need
+/// units.
+#[derive(Clone, Copy)]
+struct UnitsLine<'a> {
+    units: &'a Units<'a>,
+    range: UnitRange,
+    held: u64,
+    from: u64,
+
+    ghost held_is: { held ≡ held_count (units_from units.now range.first range.count) },
+    ghost from_is: { from ≡ needed_from range.first (units_from units.now range.first range.count) },
+}
+
+impl<'a> UnitsLine<'a> {
+    /// Goes over the units.
+    #[tactic(auto, using(crate::proofs::UnitLineLaws::units_length))]
+    fn of(units: &'a Units<'a>, range: UnitRange) -> UnitsLine<'a>
+        ensures units { result.units.now ≡ units.now }
+        ensures range { result.range ≡ range }
+    {
+        let mut held: u64 = 0;
+        let mut from = range.first;
+        for unit in UnitsLeft::of(units, range) {
+            if is_held(unit.standing) {
+                held += 1;
+            }
+            if let Some(key) = unit.key {
+                from = from.min(key);
+            }
+        }
+        UnitsLine {
+            units,
+            range,
+            held,
+            from,
+        }
+    }
+
+    /// 0 where all units are held, else 1.
+    #[tactic(auto, using(crate::proofs::UnitLineLaws::units_length))]
+    fn status(&self) -> u8
+        ensures { result ≡ units_status (units_from self.now.units.now self.now.range.first self.now.range.count) }
+    {
+        u8::from(self.held != self.range.count)
+    }
+}
+
+impl<'a> Line for UnitsLine<'a> {
+    ghost line = { λ l. last_line l.range.first (units_from l.units.now l.range.first l.range.count) };
+
+    #[tactic(auto, using(crate::proofs::UnitLineLaws::units_length), unfolding(crate::specs::UnitLines::units_line))]
+    fn write_fields(&self, fields: &mut FieldWriter) -> Result<(), AllocError> {
+        fields.begin("units", "units")?;
+        fields.number(" ", "units", self.range.count)?;
+        fields.number(" held ", "held", self.held)?;
+        fields.number(" from ", "from", self.from)?;
+        fields.end("")
+    }
+}
+
+/// Whether all bytes of a unit are held.
+fn is_held(standing: UnitStanding) -> bool
+    ensures { result ≡ is_held standing }
+{
+    matches!(standing, UnitStanding::Held)
+}
+
+/// The units of a range that are left.
+#[derive(Drop)]
+struct UnitsLeft<'a> {
+    units: &'a Units<'a>,
+    next: u64,
+    left: u64,
+
+    ghost in_range: { next + left ≤ 9223372036854775808 },
+}
+
+impl<'a> Model for UnitsLeft<'a> {
+    ghost use Rattle.std.specs.Prelude.{List};
+    ghost use Rattle.mxf_units.specs.declared.unit.EditUnit.{EditUnit};
+    ghost use Rattle.mxf_lines.specs.UnitLines.{units_from};
+
+    ghost Value = { List EditUnit };
+
+    ghost view = { λ s. units_from s.units.now s.next s.left };
+}
+
+impl<'a> UnitsLeft<'a> {
+    /// All units of the range.
+    fn of(units: &'a Units<'a>, range: UnitRange) -> UnitsLeft<'a>
+        ensures { result ≡ units_from units.now range.first range.count }
+    {
+        UnitsLeft {
+            units,
+            next: range.first,
+            left: range.count,
+        }
+    }
+}
+
+impl<'a> Iterator for UnitsLeft<'a> {
+    type Item = EditUnit;
+
+    ghost next_gives = { YieldsFirst (λ s. s) };
+
+    ghost remaining = { item_count (λ s. s) };
+
+    fn next(&mut self) -> Option<EditUnit> {
+        if self.left == 0 {
+            return None;
+        }
+        let unit = self.units.unit(self.next);
+        self.next += 1;
+        self.left -= 1;
+        Some(unit)
+    }
+}
+
+impl<'a> Series for UnitsLeft<'a> {
+    type Item = EditUnit;
+
+    ghost lines_left = { λ s. flat_map (λ u. unit_line u ∷ []) s };
+
+    ghost left = { λ s. length s };
+
+    fn next_item(&mut self) -> Option<EditUnit> {
+        self.next()
+    }
+}
