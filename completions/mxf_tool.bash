@@ -25,13 +25,13 @@ _mxf_tool() {
     *) word=${words[-1]} before=${words[-2]-} ;;
   esac
   for one in "${words[@]:1}"; do
-    case $one in show | check | locate | plan | map | join | help) command=$one && break ;; esac
+    case $one in show | check | locate | units | plan | map | join | help) command=$one && break ;; esac
   done
   [ "$command" != "$word" ] || command=''
   COMPREPLY=()
   case $before in
     --out | --sources) _mxf_tool_paths '' "$word" && return ;;
-    --index | --unit | --columns | --rows) return ;;
+    --index | --unit | --from | --to | --columns | --rows) return ;;
   esac
   # What stands before the last colon is no part of the word that readline replaces.
   local behind=''
@@ -49,12 +49,13 @@ _mxf_tool() {
   esac
   local options='--help'
   case $command in
-    '') options='show check locate join help --help --version' ;;
-    help) options='show check locate plan map join' ;;
-    show | check | plan) options='at: range: cat: --sources --help' ;;
-    map) options='at: range: cat: --columns --rows --sources --help' ;;
-    locate) options='at: range: cat: --index --unit --sources --help' ;;
-    join) options='at: range: cat: --out --strict --sources --help' ;;
+    '') options='show check locate units plan map join help --help --version' ;;
+    help) options='show check locate units plan map join' ;;
+    show | check | plan) options='at: range: cat: --json --sources --help' ;;
+    map) options='at: range: cat: --columns --rows --json --sources --help' ;;
+    locate) options='at: range: cat: --index --unit --json --sources --help' ;;
+    units) options='at: range: cat: --index --from --to --json --sources --help' ;;
+    join) options='at: range: cat: --out --strict --json --sources --help' ;;
   esac
   mapfile -t COMPREPLY < <(compgen -W "$options" -- "$word")
   case ${COMPREPLY[0]-} in at: | range: | cat:) compopt -o nospace 2>/dev/null ;; esac

@@ -43,6 +43,9 @@ exit_of_fault parts.OutOfMemory = NoMemory
 abbrev pub exit_of_run : RunFault → Exit
 exit_of_run runs.OutOfMemory = NoMemory
 exit_of_run (runs.Signed option text) = Usage
+exit_of_run (runs.BadLastUnit text) = Usage
+exit_of_run runs.NoIndex = Usage
+exit_of_run (runs.SeveralIndexes held) = Usage
 exit_of_run (runs.BadSource word) = Usage
 exit_of_run runs.NoSource = Usage
 exit_of_run (runs.BadLine number path) = Usage

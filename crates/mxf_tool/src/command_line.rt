@@ -1,12 +1,13 @@
 //! The command line.
 use clap::{Arg, ArgAction, ArgMatches, Command, value_parser};
-use mxf_lines::{Ask, Grid};
+use mxf_lines::{Ask, Form, Grid, UnitRange};
 use std::alloc::{AllocError, Global};
 
-/// What the command line asks for, of the sources that words name and a list behind them.
+/// What the command line asks for, and in which form, of the sources that words name and a list behind them.
 #[derive(Clone, Copy, Debug)]
 pub struct Request<'m, 'a> {
     pub task: Task<'a>,
+    pub form: Form,
     pub words: Option<&'m [&'a str]>,
     pub list: Option<&'a str>,
 }
@@ -18,9 +19,17 @@ pub enum Task<'a> {
     Tell(Ask),
     /// To print a map.
     Picture(Grid),
+    /// To print where edit units lie, by the index of an IndexSID, or by the only one that is held.
+    Units {
+        index: Option<u32>,
+        range: UnitRange,
+    },
     /// To write the catalogue to the file at `out`. A strict join ends with another status where a piece isn't noted
     /// whole.
-    Join { out: &'a str, is_strict: bool },
+    Join {
+        out: &'a str,
+        is_strict: bool,
+    },
 }
 
 /// What the help of the program ends with.
@@ -54,6 +63,20 @@ const LOCATE_HELP: &str = "A source SRC is one of
   cat:PATH           a catalogue that join wrote
 
 Example: mxf_tool locate --index 1 --unit 250 at:0:clip.mxf";
+
+/// What the help of `units` ends with.
+const UNITS_HELP: &str = "Each unit is one of
+  held  part  missing  disputed   it lies from START up to END: all, some or none of it is held, or in two readings
+  elsewhere  unsure  unknown      it lies in a partition that isn't held, may do so, or its partition isn't known whole
+  no-partition  several           no partition of its stream is held that begins before it, or more than one does
+  not-indexed  ambiguous          no segment of the index that is held has it, or segments disagree
+
+A source SRC is one of
+  at:OFFSET:PATH     a piece: the bytes of the file PATH, whose first byte lies at byte OFFSET of the recording
+  range:OFFSET:PATH  the same where the first byte may lie inside a packet: it is read from the next one on
+  cat:PATH           a catalogue that join wrote
+
+Example: mxf_tool units --from 250 --to 274 cat:clip.cat";
 
 /// What the help of `plan` ends with.
 const PLAN_HELP: &str = "A source SRC is one of
@@ -97,6 +120,12 @@ pub fn command<'a>(alloc: Global) -> Result<Command<'a>, AllocError> {
         .after_help(LOCATE_HELP)
         .arg(index(alloc))?
         .arg(unit(alloc))?;
+    let units = Command::new(alloc, "units")
+        .about("Prints where edit units lie in the file, and which of them are held")
+        .after_help(UNITS_HELP)
+        .arg(only_index(alloc))?
+        .arg(from(alloc))?
+        .arg(to(alloc))?;
     let plan = Command::new(alloc, "plan")
         .about("Prints which bytes to restore next, what helps most first")
         .after_help(PLAN_HELP);
@@ -114,6 +143,7 @@ pub fn command<'a>(alloc: Global) -> Result<Command<'a>, AllocError> {
         .subcommand(with_sources(alloc, show)?)?
         .subcommand(with_sources(alloc, check)?)?
         .subcommand(with_sources(alloc, locate)?)?
+        .subcommand(with_sources(alloc, units)?)?
         .subcommand(with_sources(alloc, plan)?)?
         .subcommand(with_sources(alloc, map)?)?
         .subcommand(join(alloc)?)
@@ -129,9 +159,12 @@ fn join<'a>(alloc: Global) -> Result<Command<'a>, AllocError> {
     with_sources(alloc, join)
 }
 
-/// The command with its sources.
+/// The command with its sources and the form of its lines.
 fn with_sources<'a>(alloc: Global, command: Command<'a>) -> Result<Command<'a>, AllocError> {
-    command.arg(sources(alloc)?)?.arg(list(alloc))
+    command
+        .arg(sources(alloc)?)?
+        .arg(list(alloc))?
+        .arg(json(alloc))
 }
 
 fn sources<'a>(alloc: Global) -> Result<Arg<'a>, AllocError> {
@@ -148,6 +181,13 @@ fn list<'a>(alloc: Global) -> Arg<'a> {
         .value_name("FILE")
         .action(ArgAction::Set)
         .help("A file with further sources, one a line; - is standard input")
+}
+
+fn json<'a>(alloc: Global) -> Arg<'a> {
+    Arg::new(alloc, "json")
+        .long("json")
+        .action(ArgAction::SetTrue)
+        .help("Prints each line as a JSON object")
 }
 
 fn strict<'a>(alloc: Global) -> Arg<'a> {
@@ -167,6 +207,35 @@ fn index<'a>(alloc: Global) -> Arg<'a> {
         .action(ArgAction::Set)
         .value_parser(value_parser!(u32))
         .help("The IndexSID of the index table")
+}
+
+fn only_index<'a>(alloc: Global) -> Arg<'a> {
+    Arg::new(alloc, "index")
+        .long("index")
+        .value_name("N")
+        .action(ArgAction::Set)
+        .value_parser(value_parser!(u32))
+        .help("The IndexSID of the index table; may be left out where only one is held")
+}
+
+fn from<'a>(alloc: Global) -> Arg<'a> {
+    Arg::new(alloc, "from")
+        .long("from")
+        .value_name("N")
+        .required(true)
+        .action(ArgAction::Set)
+        .value_parser(value_parser!(u64).range(0..=i64::MAX))
+        .help("The first edit unit, counted from 0 as they are stored")
+}
+
+fn to<'a>(alloc: Global) -> Arg<'a> {
+    Arg::new(alloc, "to")
+        .long("to")
+        .value_name("N")
+        .required(true)
+        .action(ArgAction::Set)
+        .value_parser(value_parser!(u64).range(0..=i64::MAX))
+        .help("The last edit unit, at most 999999 behind the first")
 }
 
 fn unit<'a>(alloc: Global) -> Arg<'a> {
@@ -213,9 +282,19 @@ pub fn request_of<'m, 'a>(matches: &'m ArgMatches<'a>) -> Option<Request<'m, 'a>
     let (name, inner) = matches.subcommand()?;
     Some(Request {
         task: task_of(name, inner)?,
+        form: form_of(inner),
         words: inner.get_strs("SRC"),
         list: inner.get_str("sources"),
     })
+}
+
+/// The form in which lines are to be printed.
+fn form_of(inner: &ArgMatches<'_>) -> Form {
+    if inner.get_flag("json") {
+        Form::Json
+    } else {
+        Form::Text
+    }
 }
 
 /// What the matches of the command with this name are to do.
@@ -227,6 +306,10 @@ fn task_of<'a>(name: &str, inner: &ArgMatches<'a>) -> Option<Task<'a>> {
             index: inner.get_one("index")?,
             unit: inner.get_one("unit")?,
         })),
+        "units" => Some(Task::Units {
+            index: inner.get_one("index"),
+            range: range_of(inner)?,
+        }),
         "plan" => Some(Task::Tell(Ask::Plan)),
         "map" => Some(Task::Picture(Grid::new(
             inner.get_one("columns").unwrap_or(64),
@@ -240,10 +323,25 @@ fn task_of<'a>(name: &str, inner: &ArgMatches<'a>) -> Option<Task<'a>> {
     }
 }
 
+/// The units that the matches of `units` name, where the last isn't below the first and there aren't too many.
+fn range_of(inner: &ArgMatches<'_>) -> Option<UnitRange> {
+    UnitRange::new(inner.get_one("from")?, inner.get_one("to")?)
+}
+
+/// The last edit unit, where it is below the first or too far behind it.
+pub fn bad_last_unit<'a>(matches: &ArgMatches<'a>) -> Option<&'a str> {
+    let (_, inner) = matches.subcommand()?;
+    let last = inner.get_str("to")?;
+    match range_of(inner) {
+        Some(_) => None,
+        None => Some(last),
+    }
+}
+
 /// The option whose number has a sign, and the number. An offset has none either.
 pub fn signed_number<'a>(matches: &ArgMatches<'a>) -> Option<(&'a str, &'a str)> {
     let (_, inner) = matches.subcommand()?;
-    for option in ["index", "unit", "columns", "rows"] {
+    for option in ["index", "unit", "from", "to", "columns", "rows"] {
         match inner.get_str(option) {
             Some(text) if text.starts_with('+') => return Some((option, text)),
             _ => {}

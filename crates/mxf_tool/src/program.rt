@@ -6,17 +6,20 @@ mod stops;
 mod telling;
 
 use crate::arguments::unreadable_argument;
-use crate::command_line::{Request, Task, command, request_of, signed_number};
+use crate::command_line::{Request, Task, bad_last_unit, command, request_of, signed_number};
 use crate::exit::Exit;
 use crate::part::part_of;
 use crate::saving::{BUFFER_BYTES, Reservation, SaveFault, WatchedWriter, is_refused};
 use crate::source::Source;
 use crate::system_fault::{LastFault, SystemFault};
 use crate::watching::{Screen, Watched};
+use clap::ArgMatches;
 use clap::error::ErrorKind;
-use fault::RunFault;
-use mxf_lines::{AnswerFault, Ask, Grid, answer, print_map};
+use fault::{IndexSids, RunFault};
+use mxf_lines::{AnswerFault, Ask, Form, Grid, UnitRange, answer, print_map};
 use mxf_read::{GatherFault, Gathered, Part, gather};
+use mxf_units::index_sids;
+use mxf_views::Views;
 use sources::{read_list, sources_of, unread};
 use std::alloc::Global;
 use std::fs::{self, File};
@@ -45,13 +48,22 @@ pub fn run<R: System>(rt: &R, screen: Screen) -> Exit {
         return tell(rt, screen, &RunFault::OutOfMemory);
     };
     match command.try_get_matches_from(arguments.as_slice()) {
-        Ok(matches) => match (signed_number(&matches), request_of(&matches)) {
-            (Some((option, text)), _) => tell(rt, screen, &RunFault::Signed { option, text }),
+        Ok(matches) => match (refused_number(&matches), request_of(&matches)) {
+            (Some(fault), _) => tell(rt, screen, &fault),
             (None, Some(request)) => perform(rt, screen, &request),
             (None, None) => Exit::Usage,
         },
         Err(refusal) => refused(rt, screen, &refusal),
     }
+}
+
+/// Why a number is refused that `clap` takes.
+fn refused_number<'a>(matches: &ArgMatches<'a>) -> Option<RunFault<'a>> {
+    if let Some((option, text)) = signed_number(matches) {
+        return Some(RunFault::Signed { option, text });
+    }
+    let text = bad_last_unit(matches)?;
+    Some(RunFault::BadLastUnit { text })
 }
 
 /// Tells why there are no arguments.
@@ -99,10 +111,12 @@ fn perform<R: System>(rt: &R, screen: Screen, request: &Request<'_, '_>) -> Exit
         Ok(sources) => sources,
         Err(fault) => return tell(rt, screen, &fault),
     };
+    let form = request.form;
     let done = match request.task {
-        Task::Tell(ask) => print_told(rt, screen, Asked::Answer(ask), &sources),
-        Task::Picture(grid) => print_told(rt, screen, Asked::Picture(grid), &sources),
-        Task::Join { out, is_strict } => print_joined(rt, screen, out, is_strict, &sources),
+        Task::Tell(ask) => print_told(rt, screen, Asked::Answer(ask), form, &sources),
+        Task::Picture(grid) => print_told(rt, screen, Asked::Picture(grid), form, &sources),
+        Task::Units { index, range } => print_units(rt, screen, index, range, form, &sources),
+        Task::Join { out, is_strict } => print_joined(rt, screen, out, is_strict, form, &sources),
     };
     match done {
         Ok(exit) => exit,
@@ -115,11 +129,49 @@ fn print_told<'a, R: System>(
     rt: &R,
     screen: Screen,
     asked: Asked,
+    form: Form,
     sources: &[Source<'a>],
 ) -> Result<Exit, RunFault<'a>> {
     let gathered = gather_sources(rt, screen, sources)?;
-    let exit = print_answer(rt, asked, &gathered)?;
+    let exit = print_answer(rt, asked, form, &gathered)?;
     told(rt, screen, sources, &gathered, false, exit)
+}
+
+/// Prints where edit units lie by what the sources hold together.
+fn print_units<'a, R: System>(
+    rt: &R,
+    screen: Screen,
+    index: Option<u32>,
+    range: UnitRange,
+    form: Form,
+    sources: &[Source<'a>],
+) -> Result<Exit, RunFault<'a>> {
+    let gathered = gather_sources(rt, screen, sources)?;
+    let index = match index {
+        Some(index) => index,
+        None => only_index(rt.alloc(), &gathered.views)?,
+    };
+    let exit = print_answer(
+        rt,
+        Asked::Answer(Ask::Units { index, range }),
+        form,
+        &gathered,
+    )?;
+    told(rt, screen, sources, &gathered, false, exit)
+}
+
+/// The IndexSID of the only index that is held.
+fn only_index<'a>(alloc: Global, views: &Views) -> Result<u32, RunFault<'a>> {
+    let Ok(held) = index_sids(alloc, views) else {
+        return Err(RunFault::OutOfMemory);
+    };
+    match held.as_slice() {
+        [] => Err(RunFault::NoIndex),
+        [index] => Ok(*index),
+        _ => Err(RunFault::SeveralIndexes {
+            held: IndexSids(held),
+        }),
+    }
 }
 
 /// Writes the catalogue of what the sources hold together, and prints how many notes it has.
@@ -128,10 +180,11 @@ fn print_joined<'a, R: System>(
     screen: Screen,
     out: &'a str,
     is_strict: bool,
+    form: Form,
     sources: &[Source<'a>],
 ) -> Result<Exit, RunFault<'a>> {
     let gathered = join(rt, screen, out, sources)?;
-    let exit = print_answer(rt, Asked::Answer(Ask::Join), &gathered)?;
+    let exit = print_answer(rt, Asked::Answer(Ask::Join), form, &gathered)?;
     let exit = exit.of_join(is_strict, gathered.reports.as_slice());
     told(rt, screen, sources, &gathered, true, exit)
 }
@@ -234,17 +287,18 @@ enum Asked {
     Picture(Grid),
 }
 
-/// Prints what is asked, and answers its status.
+/// Prints what is asked in a form, and answers its status.
 fn print_asked<W: Write>(
     alloc: Global,
     asked: Asked,
+    form: Form,
     gathered: &Gathered,
     writer: &mut W,
 ) -> Result<u8, AnswerFault> {
     match asked {
-        Asked::Answer(ask) => answer(alloc, &ask, gathered, writer),
+        Asked::Answer(ask) => answer(alloc, &ask, form, gathered, writer),
         Asked::Picture(grid) => {
-            print_map(alloc, &gathered.views, grid, writer)?;
+            print_map(alloc, &gathered.views, grid, form, writer)?;
             Ok(0)
         }
     }
@@ -254,6 +308,7 @@ fn print_asked<W: Write>(
 fn print_answer<'a, R: System>(
     rt: &R,
     asked: Asked,
+    form: Form,
     gathered: &Gathered,
 ) -> Result<Exit, RunFault<'a>> {
     let last = LastFault::new();
@@ -261,7 +316,7 @@ fn print_answer<'a, R: System>(
     let Ok(mut out) = BufWriter::with_capacity(rt.alloc(), BUFFER_BYTES, kept) else {
         return Err(RunFault::OutOfMemory);
     };
-    let answered = print_asked(rt.alloc(), asked, gathered, &mut out);
+    let answered = print_asked(rt.alloc(), asked, form, gathered, &mut out);
     let is_flushed = answered.is_ok() && out.flush().is_ok();
     match Exit::of_answer(answered, is_flushed) {
         Exit::NoMemory => Err(RunFault::OutOfMemory),

@@ -6,6 +6,7 @@ use crate::exit::Exit;
 use crate::saving::SaveFault;
 use crate::system_fault::SystemFault;
 use mxf_read::PartFault;
+use std::fmt;
 use thiserror::Error;
 
 /// Why a run ends without its answer. It prints as the line that tells it.
@@ -18,6 +19,11 @@ pub enum RunFault<'a> {
     #[error("error: invalid value '{text}' for '--{option} <N>': a number has digits alone")]
     Signed {
         option: &'a str,
+        text: &'a str,
+    },
+    /// The last edit unit is below the first, or 1,000,000 or more behind it.
+    #[error("error: invalid value '{text}' for '--to <N>': not 0 to 999999 units behind the first")]
+    BadLastUnit {
         text: &'a str,
     },
     /// A word, or a line of a list, names no source.
@@ -42,6 +48,14 @@ pub enum RunFault<'a> {
     /// The edit unit is above the greatest.
     #[error("bad unit")]
     BadUnit,
+    /// No index is named, and none is held.
+    #[error("no index is held")]
+    NoIndex,
+    /// No index is named, and several are held.
+    #[error("several indexes are held: {held}")]
+    SeveralIndexes {
+        held: IndexSids,
+    },
     /// A source or a list couldn't be opened or read, as the system says.
     #[error("read fault: {path}")]
     Unread {
@@ -67,6 +81,21 @@ pub enum RunFault<'a> {
     },
 }
 
+/// IndexSIDs. They print with a space between them.
+#[derive(Debug, Drop)]
+pub struct IndexSids(pub Vec<u32>);
+
+impl fmt::Display for IndexSids {
+    fn fmt<W: fmt::Write>(&self, f: &mut fmt::Formatter<W>) -> fmt::Result {
+        let mut space = "";
+        for index_sid in self.0.as_slice() {
+            write!(f, "{space}{index_sid}")?;
+            space = " ";
+        }
+        Ok(())
+    }
+}
+
 impl RunFault<'_> {
     /// How the run ends.
     pub fn exit(&self) -> Exit
@@ -75,6 +104,9 @@ impl RunFault<'_> {
         match self {
             RunFault::OutOfMemory => Exit::NoMemory,
             RunFault::Signed { .. }
+            | RunFault::BadLastUnit { .. }
+            | RunFault::NoIndex
+            | RunFault::SeveralIndexes { .. }
             | RunFault::BadSource { .. }
             | RunFault::NoSource
             | RunFault::BadLine { .. }

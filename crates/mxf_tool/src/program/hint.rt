@@ -20,6 +20,13 @@ impl fmt::Display for Hint<'_, '_> {
                 "join fewer sources at once, and then the catalogues of these joins",
             ),
             RunFault::Signed { .. } => f.write_str("write the number without a sign"),
+            RunFault::BadLastUnit { .. } => {
+                f.write_str("ask for 1000000 units at most, and name the first by --from")
+            }
+            RunFault::NoIndex => f.write_str(
+                "no index table segment is held: plan tells what to restore",
+            ),
+            RunFault::SeveralIndexes { .. } => f.write_str("name one of them by --index"),
             RunFault::BadSource { .. } => f.write_str(
                 "a source is at:OFFSET:PATH or range:OFFSET:PATH, with OFFSET in decimal digits alone, or cat:PATH",
             ),
