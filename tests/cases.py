@@ -19,15 +19,18 @@ A case is some lines of a text file in tests/cases. A number sign begins a comme
     packets of FILE: OFFSET OFFSET     the packets of a file of tests/cases/files.txt that stand there, each a piece
     show [WORD ..]                     what `show` prints, or those of its lines that begin with one of the words
         LINE
-    check                              what `check` prints; `locate INDEX UNIT`, `plan`,
+    check                              what `check` prints; `locate INDEX UNIT`, `units FROM TO [INDEX]`, `plan`,
                                        `map COLUMNS ROWS` and `join` stand so too
         LINE
+    json show [WORD ..]                the same with `--json`; a WORD is the name of a line's form. Each command may
+        LINE                           stand so
     status N                           the status of the command above, where it isn't 0
 
 In a LINE `..` stands for any text, `<U+0080>` for that character, and a `$` at its end shows a space there. packets.py
 says how a PACKET is named. Each command is run on the pieces, and then on the catalogue that `join` saves of them: that
-prints the same without the lines of pieces. The catalogue itself has to be the file of the packets that were laid, and
-of the heads of those that are cut, byte by byte (notes.py).
+prints the same without the lines of pieces. What it prints with `--json` gives back its text (json_lines.py). The
+catalogue itself has to be the file of the packets that were laid, and of the heads of those that are cut, byte by byte
+(notes.py).
 """
 import concurrent.futures
 import itertools
@@ -37,17 +40,30 @@ import subprocess
 import sys
 import tempfile
 
+import json_lines
 import notes
 import packets
 
 CASES = pathlib.Path(__file__).parent / "cases"
 WORKED = pathlib.Path(__file__).parent / "worked"
-COMMANDS = ("show", "check", "locate", "plan", "map", "join")
+COMMANDS = ("show", "check", "locate", "units", "plan", "map", "join")
+OPTIONS = {
+    "locate": ("--index", "--unit"),
+    "units": ("--from", "--to", "--index"),
+    "map": ("--columns", "--rows"),
+}
+NAME = re.compile(r'\{"line":"([^"]*)"')
 
 
 def fits(form, line):
     """Whether the line is the form, in which `..` stands for any text."""
     return re.fullmatch(re.escape(form).replace(r"\.\.", ".*"), line) is not None
+
+
+def name_of(line):
+    """The name of a line's form in JSON, or its first word."""
+    named = NAME.match(line)
+    return named[1] if named else line.split(" ")[0]
 
 
 def with_characters(line):
@@ -58,10 +74,11 @@ def with_characters(line):
 class Command:
     """A command, the words that choose among its lines, the lines that are wanted, and its status."""
 
-    def __init__(self, words):
+    def __init__(self, words, is_json):
         self.name = words[0]
+        self.form = ["--json"] if is_json else []
         self.chosen = words[1:] if self.name == "show" else []
-        options = {"locate": ("--index", "--unit"), "map": ("--columns", "--rows")}.get(self.name, ())
+        options = OPTIONS.get(self.name, ())
         self.arguments = [text for pair in zip(options, words[1:]) for text in pair]
         self.lines = []
         self.status = 0
@@ -69,7 +86,7 @@ class Command:
     def accepts(self, printed, lines):
         """Whether these are the lines that are wanted."""
         if self.chosen:
-            printed = [line for line in printed if line.split(" ")[0] in self.chosen]
+            printed = [line for line in printed if name_of(line) in self.chosen]
         return len(printed) == len(lines) and all(map(fits, lines, printed))
 
 
@@ -168,9 +185,10 @@ def case_of(name, lines, files):
                 takes_packets = False
                 file, _, offsets = rest.removeprefix("of ").partition(": ")
                 case.pieces += packets_at(files[file], map(int, offsets.split()))
-            elif word in COMMANDS:
+            elif word in COMMANDS or word == "json":
                 takes_packets = False
-                case.commands.append(Command(text.split()))
+                words = text.removeprefix("json ").split()
+                case.commands.append(Command(words, word == "json"))
             elif word == "status":
                 case.commands[-1].status = int(rest)
             else:
@@ -273,18 +291,32 @@ class Run:
         """The same for a saved catalogue, of which no line of a piece is printed."""
         lines = []
         for command in case.commands:
-            wanted = [line for line in command.lines if line.split(" ")[0] not in ("piece", "stop")]
-            status = int(wanted != ["findings 0"]) if command.name == "check" else command.status
+            wanted = [line for line in command.lines if name_of(line) not in ("piece", "stop")]
+            found = wanted not in (["findings 0"], ['{"line":"findings","findings":0}'])
+            status = int(found) if command.name == "check" else command.status
             lines += self.wrong_at(command, [saved], wanted, status)
         return lines
 
     def wrong_at(self, command, sources, wanted, status):
         arguments = ["--out", f"{self.folder}/joined"] if command.name == "join" else command.arguments
-        printed, said, ended = self.call(command.name, arguments, sources)
+        printed, said, ended = self.call(command.name, command.form + arguments, sources)
         if command.accepts(printed, wanted) and said == "" and ended == status:
-            return []
+            return [] if command.form else self.wrong_in_json(command, arguments, sources, printed, status)
         heads = [f"  {command.name} {' '.join(sources)}: status {ended}, wanted {status}"]
         return heads + [f"  < {line}" for line in wanted] + [f"  > {line}" for line in printed + said.splitlines()]
+
+
+    def wrong_in_json(self, command, arguments, sources, printed, status):
+        """The same of the command with `--json`, whose lines have to give back the text."""
+        objects, said, ended = self.call(command.name, ["--json", *arguments], sources)
+        try:
+            texts, why = list(json_lines.texts_of(command.name, objects)), ""
+        except ValueError as mistake:
+            texts, why = objects, str(mistake)
+        if texts == printed and said == "" and ended == status:
+            return []
+        heads = [f"  {command.name} --json {' '.join(sources)}: status {ended}, wanted {status} {why}"]
+        return heads + [f"  < {line}" for line in printed] + [f"  > {line}" for line in texts + said.splitlines()]
 
 
 def wrong_in_the_cases(files, cases):

@@ -115,8 +115,9 @@ def rip_value(entries, stated, width):
 
 
 def segment_value(stated):
-    """The value of an index table segment. `-` leaves an item out; `entries=` are stream offsets. Behind each stand
-    four bytes 09 for each slice, and eight bytes 08 for each position table."""
+    """The value of an index table segment. `-` leaves an item out; `entries=` are stream offsets. Before each stand
+    three bytes, as `0000C0@120` states them or zeros, behind it four bytes 09 for each slice, and eight bytes 08 for
+    each position table."""
     slices, positions = (int(stated.get(name, "0").replace("-", "0")) for name in ("slices", "positions"))
     after = bytes([9] * 4 * slices + [8] * 8 * positions)
     fields = []
@@ -126,9 +127,9 @@ def segment_value(stated):
             numbers = b"".join(number(part, size) for part in value.split("/"))
             fields += item(tag, numbers)
     if "entries" in stated:
-        offsets = stated.pop("entries").split(",")
-        entries = b"".join(bytes(3) + number(offset, 8) + after for offset in offsets)
-        fields += item("3F0A", number(str(len(offsets)), 4) + number(str(11 + len(after)), 4) + entries)
+        listed = [entry.rpartition("@") for entry in stated.pop("entries").split(",")]
+        entries = b"".join(bytes.fromhex(front or "000000") + number(offset, 8) + after for front, _, offset in listed)
+        fields += item("3F0A", number(str(len(listed)), 4) + number(str(11 + len(after)), 4) + entries)
     return fields
 
 

@@ -1,0 +1,100 @@
+#!/usr/bin/env python3
+"""Gives back the texts of lines that were printed with `--json`, by the table of docs/FORMATS.md.
+
+    tests/json_lines.py COMMAND <LINES    the text of each line that the command printed
+
+Each line has to be the one JSON object of its fields, byte by byte: names, order and types as in the table, no white
+space between members, and a backslash in a string before a quotation mark or a backslash alone. A line that isn't ends
+it with status 1.
+"""
+import json
+import pathlib
+import re
+import sys
+
+FORMATS = pathlib.Path(__file__).resolve().parent.parent / "docs" / "FORMATS.md"
+TYPES = {"number": (int, float), "word": str, "text": str, "hexadecimal": str, "flag": bool}
+
+
+class Form:
+    """A form of a line: its command, its name, its text, and the types of its fields by their names."""
+
+    def __init__(self, command, name, text, fields):
+        self.command = command
+        self.name = name
+        self.text = text
+        self.fields = dict(field.split(":") for field in fields.split(" "))
+
+    def fits(self, line):
+        """Whether the line has these fields in this order, each of its type."""
+        return list(line) == ["line", *self.fields] and line["line"] == self.name and all(
+            is_of(line[name], sort) for name, sort in self.fields.items())
+
+    def text_of(self, line):
+        """The text of a line of this form."""
+        words = []
+        for word in self.text.split(" "):
+            flag = word.startswith("[") and word.strip("[]")
+            if not flag:
+                words.append(re.sub(r"\{([^}]*)\}", lambda name: self.shown(line[name[1]]), word))
+            elif line[flag]:
+                words.append(flag)
+        return " ".join(words)
+
+    def shown(self, value):
+        """The text of a value; one that isn't there has a word."""
+        if value is None:
+            return "none" if self.name in ("copy", "preferred") else "-"
+        return str(value)
+
+
+def is_of(value, sort):
+    """Whether a value is of a type of the table."""
+    if sort.startswith("="):
+        return value == sort[1:]
+    if value is None:
+        return sort.endswith("?")
+    return isinstance(value, TYPES[sort.rstrip("?")]) and isinstance(value, bool) == (sort == "flag")
+
+
+def all_forms():
+    """The forms of the table of docs/FORMATS.md."""
+    for row in re.findall(r"^\| `\w+` \| `[\w-]+` \| .*$", FORMATS.read_text(encoding="utf-8"), re.MULTILINE):
+        yield Form(*re.findall(r"`([^`]*)`", row))
+
+
+FORMS = list(all_forms())
+
+
+def line_of(text):
+    """The object of a line that is printed so and no other way."""
+    line = json.loads(text)
+    if json.dumps(line, separators=(",", ":"), ensure_ascii=False) != text:
+        raise ValueError("it is printed otherwise")
+    return line
+
+
+def text_of(command, text, width):
+    """The text of a line of a command. The offsets of the rows of a map have so many characters."""
+    line = line_of(text)
+    for form in FORMS:
+        if form.command == command and form.fits(line):
+            row = form.name == "row"
+            return f"row {line['offset']:>{width}} {line['cells']}" if row else form.text_of(line)
+    raise ValueError(f"no form fits {text}")
+
+
+def texts_of(command, lines):
+    """The texts of the lines of a command."""
+    width = len(str(line_of(lines[-1]).get("offset", ""))) if lines else 0
+    for text in lines:
+        yield text_of(command, text, width)
+
+
+def main():
+    for text in texts_of(sys.argv[1], sys.stdin.read().split("\n")[:-1]):
+        print(text)
+
+
+if __name__ == "__main__":
+    main()
