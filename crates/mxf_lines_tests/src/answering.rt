@@ -201,7 +201,7 @@ fn writes_a_front(
     } else {
         Ok(0)
     };
-    answered == wanted && writer.taken.as_slice() == &lines[..room]
+    answered == wanted && lines.get(..room) == Some(writer.taken.as_slice())
 }
 
 // A writer that fails behind each byte of the lines.
