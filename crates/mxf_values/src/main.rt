@@ -1,4 +1,5 @@
-//! Prints what the public readers and writers of mxf_klv and mxf_sets answer, a row of a table at a time.
+//! Prints what the public readers and writers of mxf_klv and mxf_sets answer, a row of a table at a time. Rows of
+//! catalogues and views take notes in, for benches/run, and print what is held then.
 //!
 //! A row is a line of standard input: `SUBJECT CALL NUMBERS DIGITS`, as `batch read 16 0000000000000010`. DIGITS are
 //! the bytes that are read, as hexadecimal digits, or `-` for none. NUMBERS are up to four, in the order in which the
@@ -7,12 +8,14 @@
 #![tactic(auto)]
 
 mod batches;
+mod catalogues;
 mod notes;
 mod packets;
 mod packs;
 mod records;
 mod row;
 mod segments;
+mod views;
 mod writing;
 
 use mxf_sets::{pattern_name, text};
@@ -33,6 +36,8 @@ fn tell_row<R: Print + AllocGlobal>(rt: &R, row: &Row<'_>) -> io::Result<()> {
         "rip" => packs::tell_rip(rt, row),
         "record" => records::tell_record(rt, row),
         "segment" => segments::tell_segment(rt, row),
+        "catalogue" => catalogues::tell_catalogue(rt, row),
+        "views" => views::tell_views(rt, row),
         "text" => tell(rt, &text(rt.alloc(), row.bytes)),
         "pattern" => tell_pattern(rt, row),
         _ => Err(bad_row()),
