@@ -1,12 +1,12 @@
 #!/usr/bin/env python3
 """Looks up each link of the documents: the file is there, and has the heading that the link names. Looks up each test
 and case that is named: `crate::module::test`, `cases/TOPIC: NAME` or `end_to_end.d/TOPIC: NAME`; and `crate: NAME`, the
-heading `# NAME` of rows of a program's table, its `stdin` and `stdout`. Where a link is to a source and names a function
-or a type, that is there, and the function has the clauses that stand in parentheses behind the link. Sees that each row
-of a table stands in a table, which an empty line would end, and that the numbers of tests, edits, runs and files that a
+heading `# NAME` of rows in the `stdin` and `stdout` of a program. Where a link is to a source and names a function or a
+type, that is there, and the function has the clauses that stand in parentheses behind the link. Sees that each row of a
+table stands in a table, which an empty line would end, and that the numbers of tests, edits, runs and files that a
 document gives are those of the scripts and crates. Looks up in docs/MODEL.md each definition that a clause of a public
-function of the libraries cites, and compares the table of docs/LAYERS.md with crates.txt. Only failures are printed; the
-last line is 'N passed, M failed'.
+function of the libraries cites, and compares the table of docs/LAYERS.md with crates.txt. Only failures are printed;
+the last line is 'N passed, M failed'.
 """
 import ast
 import itertools

@@ -52,8 +52,8 @@ fn tell_pattern(rt: &impl Print, row: &Row<'_>) -> io::Result<()> {
     }
 }
 
-/// Prints the answer to a line with these digits ahead of it.
-fn tell_front<R: Print + AllocGlobal>(rt: &R, front: &str, bytes: &[u8]) -> io::Result<()> {
+/// Prints the answer to a row, by the words ahead of its digits and the bytes that these spell.
+fn tell_words<R: Print + AllocGlobal>(rt: &R, front: &str, bytes: &[u8]) -> io::Result<()> {
     let mut words = front.split(' ');
     let (Some(subject), Some(call)) = (words.next(), words.next()) else {
         return Err(bad_row());
@@ -80,7 +80,7 @@ fn tell_line<R: Print + AllocGlobal>(rt: &R, line: &str) -> io::Result<()> {
     let Some((front, digits)) = line.rsplit_once(' ') else {
         return Err(bad_row());
     };
-    tell_front(rt, front, &bytes_of(rt.alloc(), digits)?)
+    tell_words(rt, front, &bytes_of(rt.alloc(), digits)?)
 }
 
 fn main(rt: HostRuntime) -> io::Result<()> {

@@ -132,8 +132,8 @@ fn tell_held(rt: &impl Print, views: &Views) -> io::Result<()> {
     )
 }
 
-/// `notes COUNT`, `pieces COUNT`: views of a copy that is filled by notes, or by pieces of ten; the bytes are the key of
-/// these notes, and the partition pack and the primer pack at the front. `copies COUNT`: views of so many partitions
+/// `notes COUNT`, `pieces COUNT`: views of a copy that is filled by notes, or by pieces of ten; the bytes are the key
+/// of these notes, and the partition pack and the primer pack at the front. `copies COUNT`: views of so many partitions
 /// with a copy each; the bytes are those of one.
 pub fn tell_views<R: Print + AllocGlobal>(rt: &R, row: &Row<'_>) -> io::Result<()> {
     let mut views = Views::new(rt.alloc());

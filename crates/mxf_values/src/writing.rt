@@ -52,9 +52,9 @@ fn cut_writes<E: Encode>(alloc: Global, value: &E, bytes: &[u8], chunk: usize) -
         .count()
 }
 
-/// `write ROOM CHUNK INTERRUPTIONS`: the answer, and what the writer took; `cut CHUNK`: how many writers fail behind a
-/// front of the row's bytes. For a batch the size of its items stands ahead of the numbers, for a random index pack the
-/// width of its packet's length.
+/// `write N ROOM CHUNK INTERRUPTIONS`: the answer, and what the writer took. `cut N 0 CHUNK`: how many writers fail
+/// behind a front of the row's bytes. N is the size of a batch's items, the width of the length of a random index
+/// pack, and 0 else.
 pub fn tell_written<R: Print + AllocGlobal, E: Encode>(
     rt: &R,
     value: &E,
