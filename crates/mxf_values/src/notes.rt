@@ -116,6 +116,18 @@ fn tell_of_packet<R: Print + AllocGlobal>(
     }
 }
 
+/// Prints what is told of the head of a packet that is cut.
+fn tell_of_head<R: Print + AllocGlobal>(
+    rt: &R,
+    head: &Option<Note>,
+    row: &Row<'_>,
+) -> io::Result<()> {
+    match head {
+        Some(head) => tell_read(rt, head, row),
+        None => Err(bad_row()),
+    }
+}
+
 /// The note of a packet, or its head where it is cut.
 fn note_or_head(alloc: Global, offset: u64, bytes: &[u8]) -> Option<Note> {
     match read_packet(bytes) {
@@ -143,7 +155,7 @@ fn tell_both<R: Print + AllocGlobal>(rt: &R, row: &Row<'_>) -> io::Result<()> {
 }
 
 /// `front WIDTH LENGTH OFFSET` and `kept WIDTH 0 OFFSET` of a key and what stands behind it: a digest, a value, or
-/// nothing for a head; `cut OFFSET`, `compare`, or what is told of the note of a packet.
+/// nothing for a head; `cut OFFSET`, `compare`, or what is told of the note of a packet or of the head of a cut one.
 pub fn tell_note<R: Print + AllocGlobal>(rt: &R, row: &Row<'_>) -> io::Result<()> {
     match row.call {
         "front" | "kept" => tell_by_key(rt, row),
@@ -151,7 +163,7 @@ pub fn tell_note<R: Print + AllocGlobal>(rt: &R, row: &Row<'_>) -> io::Result<()
         "compare" => tell_both(rt, row),
         _ => match read_packet(row.bytes) {
             Ok((packet, _size)) => tell_of_packet(rt, &packet, row),
-            Err(_) => Err(bad_row()),
+            Err(_) => tell_of_head(rt, &cut_head(row.numbers[0], row.bytes), row),
         },
     }
 }
