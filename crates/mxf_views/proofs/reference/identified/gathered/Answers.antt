@@ -1,5 +1,5 @@
 use Rattle.std.proofs.Common.{append-nil}
-use Rattle.mxf_views.proofs.Common.{◌≡◌, ◌∙◌, ◌++◌, List, NoteParts, sym, ap, filter_map, with_uid}
+use Rattle.mxf_views.proofs.Common.{◌∙◌, ◌++◌, List, NoteParts, sym, ap, filter_map, with_uid}
 use Rattle.mxf_views.proofs.reference.identified.gathered.Goals as goal
 
 pub returns : goal.returns

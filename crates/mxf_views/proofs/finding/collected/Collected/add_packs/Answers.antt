@@ -1,5 +1,5 @@
 use Rattle.std.proofs.Common.{append-nil}
-use Rattle.mxf_views.proofs.Common.{◌≡◌, ◌∙◌, ◌++◌, List, NoteParts, sym, ap, map, F04, finding}
+use Rattle.mxf_views.proofs.Common.{◌∙◌, ◌++◌, List, NoteParts, sym, ap, map, F04, finding}
 use Rattle.mxf_views.proofs.finding.collected.Collected.add_packs.Goals as goal
 
 pub returns : goal.returns
