@@ -1,7 +1,7 @@
 -- Loops over a list that push what a function answers of each item: what they hold so far, with what the function answers
 -- of the items to come, stays the same.
-use Rattle.std.proofs.Common.{◌≡◌, ◌∙◌, ◌<◌, ◌+◌, ◌++◌, ◌∷◌, [], ℕ, List, Option, None, Some, ap, append_assoc, drop}
-use Rattle.std.proofs.Common.{filter_map, flat_map, get_or, length, sym}
+use Rattle.std.proofs.Common.{◌≡◌, ◌∙◌, ◌<◌, ◌+◌, ◌++◌, ◌∷◌, [], ℕ, List, Option, None, Some, ap, append-nil, append_assoc}
+use Rattle.std.proofs.Common.{drop, filter_map, flat_map, get_or, length, sym}
 use Rattle.std.specs.List.{cons_option}
 use Rattle.std.proofs.lemmas.List.{at_drop_more}
 
@@ -32,3 +32,10 @@ appended-step {X} {Y} f xs i d so_far new whole here grown before =
     let rest = flat_map f (drop (i + 1) xs) in
     ap (λ (l : List Y). l ++ rest) grown ∙ append_assoc so_far (f (get_or xs i d)) rest
     ∙ ap (λ (l : List Y). so_far ++ l) (sym (at_drop_more (flat_map f) xs i d here)) ∙ before
+
+-- No items are to come, of which a function of all gave nothing.
+pub nothing_left : {X Y : Type 0} (f : List X → List Y) (rest : List X) (so_far whole : List Y) → f [] ≡ []
+    → rest ≡ [] → so_far ++ f rest ≡ whole → so_far ≡ whole
+nothing_left {X} {Y} f rest so_far whole none ended before =
+    sym (append-nil so_far) ∙ ap (λ (l : List Y). so_far ++ l) (sym none)
+    ∙ sym (ap (λ (l : List X). so_far ++ f l) ended) ∙ before
