@@ -1,6 +1,5 @@
-//! What tests of several crates build.
-use crate::worked_files::ESSENCE_KEY;
-use mxf_klv::{Note, Packet, Ul, read_packet};
+//! What tests build.
+use mxf_klv::{Note, Packet, Ul};
 use std::alloc::Global;
 use std::io::{self, Error, ErrorKind, Write};
 use std::test::Fail;
@@ -22,19 +21,6 @@ pub fn note_at(
     Ok(Note::of(alloc, offset, &packet)?)
 }
 
-/// The note of the packet of a file at this offset.
-pub fn note_of_file(alloc: Global, file: &[u8], offset: usize) -> Result<Note, Fail> {
-    let rest = file.get(offset..).ok_or("past the end")?;
-    let (packet, _) = read_packet(rest)?;
-    Ok(Note::of(alloc, offset as u64, &packet)?)
-}
-
-/// The note of an essence packet with a value of this length, all bytes of its digest 0. Seventeen bytes of key and
-/// length stand before the value.
-pub fn essence(offset: u64, length: u64) -> Result<Note, Fail> {
-    Ok(Note::digested(offset, label(ESSENCE_KEY)?, 1, length, [0; 32]).ok_or("a note")?)
-}
-
 /// These bytes, one part after another.
 pub fn joined(alloc: Global, parts: &[&[u8]]) -> Result<Vec<u8>, Fail> {
     let mut bytes = Vec::new(alloc);
@@ -54,17 +40,6 @@ pub fn set_value(alloc: Global, items: &[(u16, &[u8])]) -> Result<Vec<u8>, Fail>
         bytes.extend_from_slice(value)?;
     }
     Ok(bytes)
-}
-
-/// The packet of this key and value, its length field of four bytes.
-pub fn packet(alloc: Global, key: [u8; 16], value: &[u8]) -> Result<Vec<u8>, Fail> {
-    let len = u16::try_from(value.len()).map_err(|_| "a packet's length")?;
-    joined(alloc, &[&key, &[0x83, 0x00], &len.to_be_bytes(), value])
-}
-
-/// The packet of a local set of these items.
-pub fn set(alloc: Global, key: [u8; 16], items: &[(u16, &[u8])]) -> Result<Vec<u8>, Fail> {
-    packet(alloc, key, &set_value(alloc, items)?)
 }
 
 /// Takes at most `chunk` bytes a call after some interruptions. Once `room` bytes were taken it takes none, or fails
