@@ -11,6 +11,23 @@ pub(crate) fn essence(offset: u64, length: u64) -> Option<Note> {
     Note::digested(offset, Ul::from_bytes(ESSENCE_KEY)?, 1, length, [0; 32])
 }
 
+/// Whether what is asked of new views holds. A test that makes no views of its own has nothing to drop.
+pub(crate) fn in_views<F: FnOnce(Global, &mut Views) -> bool>(alloc: Global, holds: F) -> bool
+    requires { F.IsAlwaysCallable holds }
+{
+    holds(alloc, &mut Views::new(alloc))
+}
+
+/// Whether what is asked of a new catalogue holds.
+pub(crate) fn in_catalogue<F: FnOnce(Global, &mut Catalogue) -> bool>(
+    alloc: Global,
+    holds: F,
+) -> bool
+    requires { F.IsAlwaysCallable holds }
+{
+    holds(alloc, &mut Catalogue::new(alloc))
+}
+
 /// Adds a note, also where one growth is refused. Whether it is added.
 pub(crate) fn add(all: &mut Catalogue, note: Option<Note>) -> bool {
     let Some(note) = note else {

@@ -1,4 +1,5 @@
 //! What is looked up in bytes at hand while every growth is refused.
+use crate::additions::in_views;
 use crate::files::{M, R, SEGMENT, WRITTEN, rip_value};
 use mxf_klv::{Kind, Note, Status, kind, next_head, next_packet, read_ber};
 use mxf_read::absorb;
@@ -142,6 +143,5 @@ fn copy_is_looked_at(alloc: Global, views: &mut Views) -> bool {
 
 #[test]
 fn without_memory_a_copy_is_looked_at(rt: HostRuntime) {
-    let looked_at = copy_is_looked_at(rt.alloc(), &mut Views::new(rt.alloc()));
-    assert!(rt; looked_at);
+    assert!(rt; in_views(rt.alloc(), copy_is_looked_at));
 }

@@ -1,4 +1,5 @@
 //! Pieces, whole and cut: after want of memory the packets that were counted are held, and the rest can be absorbed.
+use crate::additions::in_views;
 use crate::files::M;
 use crate::units::add_piece;
 use mxf_catalogue::Run;
@@ -117,8 +118,7 @@ fn m_is_noted(alloc: Global, views: &mut Views) -> bool {
 
 #[test]
 fn a_piece_at_hand(rt: HostRuntime) {
-    let noted = m_is_noted(rt.alloc(), &mut Views::new(rt.alloc()));
-    assert!(rt; noted);
+    assert!(rt; in_views(rt.alloc(), m_is_noted));
 }
 
 /// Whether M of a reader is noted and held.
@@ -128,8 +128,7 @@ fn m_is_read(alloc: Global, views: &mut Views) -> bool {
 
 #[test]
 fn a_piece_of_a_reader(rt: HostRuntime) {
-    let noted = m_is_read(rt.alloc(), &mut Views::new(rt.alloc()));
-    assert!(rt; noted);
+    assert!(rt; in_views(rt.alloc(), m_is_read));
 }
 
 /// Whether M's first 128 bytes at hand are noted and held: when memory is wanting, no packet is, or that ahead of the
@@ -140,8 +139,7 @@ fn cut_is_noted(alloc: Global, views: &mut Views) -> bool {
 
 #[test]
 fn a_cut_piece_at_hand(rt: HostRuntime) {
-    let noted = cut_is_noted(rt.alloc(), &mut Views::new(rt.alloc()));
-    assert!(rt; noted);
+    assert!(rt; in_views(rt.alloc(), cut_is_noted));
 }
 
 /// Whether those of a reader are.
@@ -151,8 +149,7 @@ fn cut_is_read(alloc: Global, views: &mut Views) -> bool {
 
 #[test]
 fn a_cut_piece_of_a_reader(rt: HostRuntime) {
-    let noted = cut_is_read(rt.alloc(), &mut Views::new(rt.alloc()));
-    assert!(rt; noted);
+    assert!(rt; in_views(rt.alloc(), cut_is_read));
 }
 
 /// Absorbs M. Whether it is held, also where memory was wanting at one of its places, and the rest was absorbed.
@@ -180,6 +177,5 @@ fn goes_over_its_front(alloc: Global, views: &mut Views) -> bool {
 
 #[test]
 fn a_piece_over_its_cut_front(rt: HostRuntime) {
-    let held = goes_over_its_front(rt.alloc(), &mut Views::new(rt.alloc()));
-    assert!(rt; held);
+    assert!(rt; in_views(rt.alloc(), goes_over_its_front));
 }

@@ -1,5 +1,5 @@
 //! What to restore next.
-use crate::additions::{add_to_views, essence};
+use crate::additions::{add_to_views, essence, in_views};
 use mxf_klv::OutOfMemory;
 use mxf_restore::{Doubt, Order, Plan, Reason};
 use mxf_views::Views;
@@ -55,8 +55,6 @@ fn plans_for_two(alloc: Global, views: &mut Views) -> bool {
 #[test]
 fn plans(rt: HostRuntime) {
     let alloc = rt.alloc();
-    let planned = plans_for_one(alloc, &mut Views::new(alloc));
-    assert!(rt; planned);
-    let planned = plans_for_two(alloc, &mut Views::new(alloc));
-    assert!(rt; planned);
+    assert!(rt; in_views(alloc, plans_for_one));
+    assert!(rt; in_views(alloc, plans_for_two));
 }

@@ -1,7 +1,7 @@
 //! Catalogues that are joined, merged and read: what was handed stands, or comes back.
 ghost use Rattle.std.specs.Prelude.{◌<◌, ◌≤◌};
 
-use crate::additions::add;
+use crate::additions::{add, in_catalogue};
 use crate::files::{M, M_OF_VERSION_1};
 use mxf_catalogue::{Catalogue, Cover, FileFault, Semilattice};
 use mxf_klv::{Encode, Note, OutOfMemory, Packet, cut_head, read_packet};
@@ -154,8 +154,7 @@ fn cut_is_saved(alloc: Global, cut: &mut Catalogue) -> bool {
 
 #[test]
 fn a_catalogue_with_a_head_that_is_read(rt: HostRuntime) {
-    let saved = cut_is_saved(rt.alloc(), &mut Catalogue::new(rt.alloc()));
-    assert!(rt; saved);
+    assert!(rt; in_catalogue(rt.alloc(), cut_is_saved));
 }
 
 /// Whether the first packet and those behind it are joined to the whole, and stand.
@@ -291,8 +290,7 @@ fn m_is_saved(alloc: Global, all: &mut Catalogue) -> bool {
 
 #[test]
 fn a_catalogue_that_is_read(rt: HostRuntime) {
-    let saved = m_is_saved(rt.alloc(), &mut Catalogue::new(rt.alloc()));
-    assert!(rt; saved);
+    assert!(rt; in_catalogue(rt.alloc(), m_is_saved));
 }
 
 /// Whether the file of version 1 is read as M's catalogue.
@@ -302,8 +300,7 @@ fn version_1_is_read(alloc: Global, whole: &mut Catalogue) -> bool {
 
 #[test]
 fn a_catalogue_of_version_1_that_is_read(rt: HostRuntime) {
-    let is_read = version_1_is_read(rt.alloc(), &mut Catalogue::new(rt.alloc()));
-    assert!(rt; is_read);
+    assert!(rt; in_catalogue(rt.alloc(), version_1_is_read));
 }
 
 /// Whether a file is refused for this reason, also where one growth is refused.

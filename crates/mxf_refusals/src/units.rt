@@ -1,5 +1,5 @@
 //! Where edit units lie in the file.
-use crate::additions::{add_to_views, essence};
+use crate::additions::{add_to_views, essence, in_views};
 use crate::files::{M, SEGMENT};
 use mxf_klv::OutOfMemory;
 use mxf_read::absorb;
@@ -59,6 +59,5 @@ fn tells_of_units(alloc: Global, views: &mut Views) -> bool {
 
 #[test]
 fn units(rt: HostRuntime) {
-    let told = tells_of_units(rt.alloc(), &mut Views::new(rt.alloc()));
-    assert!(rt; told);
+    assert!(rt; in_views(rt.alloc(), tells_of_units));
 }

@@ -1,5 +1,5 @@
 //! Notes and texts, and what is looked for in views.
-use crate::additions::{add_to_views, essence};
+use crate::additions::{add_to_views, essence, in_views};
 use crate::files::{M, R, header_value};
 use crate::units::add_piece;
 use mxf_klv::{Held, Note, NoteFault, OutOfMemory, Packet, read_packet};
@@ -127,8 +127,7 @@ fn lead_to_the_package(alloc: Global, views: &mut Views) -> bool {
 
 #[test]
 fn what_references_lead_to(rt: HostRuntime) {
-    let lead = lead_to_the_package(rt.alloc(), &mut Views::new(rt.alloc()));
-    assert!(rt; lead);
+    assert!(rt; in_views(rt.alloc(), lead_to_the_package));
 }
 
 /// What is found in the views, also where one growth is refused.
@@ -175,8 +174,6 @@ fn finds_those_of_three(alloc: Global, views: &mut Views) -> bool {
 #[test]
 fn findings(rt: HostRuntime) {
     let alloc = rt.alloc();
-    let found = finds_those_of_the_package(alloc, &mut Views::new(alloc));
-    assert!(rt; found);
-    let found = finds_those_of_three(alloc, &mut Views::new(alloc));
-    assert!(rt; found);
+    assert!(rt; in_views(alloc, finds_those_of_the_package));
+    assert!(rt; in_views(alloc, finds_those_of_three));
 }

@@ -1,5 +1,5 @@
 //! What takes no memory: it answers while every growth is refused.
-use crate::additions::essence;
+use crate::additions::{essence, in_views};
 use crate::files::{M, R, SEGMENT, header_value};
 use crate::written::is_written;
 use mxf_catalogue::{Catalogue, Change, FileFault};
@@ -71,8 +71,7 @@ fn held_note_is_added(alloc: Global, views: &mut Views) -> bool {
 
 #[test]
 fn without_memory_a_held_note_is_added(rt: HostRuntime) {
-    let added = held_note_is_added(rt.alloc(), &mut Views::new(rt.alloc()));
-    assert!(rt; added);
+    assert!(rt; in_views(rt.alloc(), held_note_is_added));
 }
 
 /// Whether M's header is held, and the head of its footer, which claims the bytes up to 216.
@@ -119,8 +118,7 @@ fn head_is_added(alloc: Global, views: &mut Views) -> bool {
 
 #[test]
 fn without_memory_heads_are_made_and_a_held_one_is_added(rt: HostRuntime) {
-    let added = head_is_added(rt.alloc(), &mut Views::new(rt.alloc()));
-    assert!(rt; added);
+    assert!(rt; in_views(rt.alloc(), head_is_added));
 }
 
 /// Whether the head of a held packet is added, where M can be noted.
@@ -136,8 +134,7 @@ fn replaced_head_is_added(alloc: Global, views: &mut Views) -> bool {
 
 #[test]
 fn without_memory_a_head_that_is_replaced_is_added(rt: HostRuntime) {
-    let added = replaced_head_is_added(rt.alloc(), &mut Views::new(rt.alloc()));
-    assert!(rt; added);
+    assert!(rt; in_views(rt.alloc(), replaced_head_is_added));
 }
 
 /// Whether the file of a catalogue has 322 bytes, where there is room for them.
@@ -155,8 +152,7 @@ fn m_has_322_bytes(alloc: Global, views: &mut Views) -> bool {
 
 #[test]
 fn without_memory_a_catalogue_is_written(rt: HostRuntime) {
-    let written = m_has_322_bytes(rt.alloc(), &mut Views::new(rt.alloc()));
-    assert!(rt; written);
+    assert!(rt; in_views(rt.alloc(), m_has_322_bytes));
 }
 
 /// Whether the first packet of M is written, and its partition pack.
@@ -204,8 +200,7 @@ fn units_are_located(alloc: Global, views: &mut Views) -> bool {
 
 #[test]
 fn without_memory_a_unit_is_located(rt: HostRuntime) {
-    let located = units_are_located(rt.alloc(), &mut Views::new(rt.alloc()));
-    assert!(rt; located);
+    assert!(rt; in_views(rt.alloc(), units_are_located));
 }
 
 /// Whether the copy of R is found with a set and its primer pack.
@@ -225,6 +220,5 @@ fn sets_are_found(alloc: Global, views: &mut Views) -> bool {
 
 #[test]
 fn without_memory_sets_are_found(rt: HostRuntime) {
-    let found = sets_are_found(rt.alloc(), &mut Views::new(rt.alloc()));
-    assert!(rt; found);
+    assert!(rt; in_views(rt.alloc(), sets_are_found));
 }

@@ -215,12 +215,19 @@ fn is_left(all: &mut Catalogue, case: &Case) -> bool {
         && all.end() == case.end
 }
 
+/// Whether it is so in each case.
+fn each_is_left(alloc: Global) -> bool {
+    for case in &CASES {
+        if !is_left(&mut Catalogue::new(alloc), case) {
+            return false;
+        }
+    }
+    true
+}
+
 #[test]
 fn an_addition_tells_the_clear_notes_that_it_disputes(rt: HostRuntime) {
-    for case in &CASES {
-        let left = is_left(&mut Catalogue::new(rt.alloc()), case);
-        assert!(rt; left, "up to {}", case.end);
-    }
+    assert!(rt; each_is_left(rt.alloc()));
 }
 
 /// Whether the note is new to views, and moves the clear notes at these offsets.
@@ -243,12 +250,19 @@ fn is_left_in_views(views: &mut Views, case: &Case) -> bool {
     told && disputes(views.catalogue(), case.disputed)
 }
 
+/// Whether it is so in each case.
+fn each_is_left_in_views(alloc: Global) -> bool {
+    for case in &CASES {
+        if !is_left_in_views(&mut Views::new(alloc), case) {
+            return false;
+        }
+    }
+    true
+}
+
 #[test]
 fn an_addition_to_views_tells_the_same(rt: HostRuntime) {
-    for case in &CASES {
-        let left = is_left_in_views(&mut Views::new(rt.alloc()), case);
-        assert!(rt; left, "up to {}", case.end);
-    }
+    assert!(rt; each_is_left_in_views(rt.alloc()));
 }
 
 /// Whether the head from 108 is held and not clear: there are two notes, and they claim the bytes up to 216.

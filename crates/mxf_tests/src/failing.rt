@@ -5,7 +5,6 @@ use mxf_views::Views;
 use std::alloc::Global;
 use std::cell::Cell;
 use std::io::{self, Error, ErrorKind, Read};
-use std::test::Fail;
 
 /// Gives single bytes, and fails once behind so many of them. Then it would go on.
 #[derive(Drop)]
@@ -80,14 +79,21 @@ fn a_failed_read_is_a_fault_and_the_last_read(rt: HostRuntime) {
     }
 }
 
+/// Whether a fault has this text.
+fn has_text(alloc: Global, fault: AbsorbFault, text: &str) -> bool {
+    match fault.to_string(alloc) {
+        Ok(found) => found.as_str() == text,
+        Err(_) => false,
+    }
+}
+
 #[test]
-fn faults_of_a_piece_tell_the_cause_and_the_place(rt: HostRuntime) -> Result<(), Fail> {
+fn faults_of_a_piece_tell_the_cause_and_the_place(rt: HostRuntime) {
     let (noted, at) = (2, 216);
-    let wanting = AbsorbFault::OutOfMemory { noted, at }.to_string(rt.alloc())?;
-    assert_eq!(rt; wanting.as_str(), "out of memory at 216, after 2 packets");
-    let unread = AbsorbFault::ReadFault { noted, at }.to_string(rt.alloc())?;
-    assert_eq!(rt; unread.as_str(), "a read failed at 216, after 2 packets");
-    Ok(())
+    let wanting = AbsorbFault::OutOfMemory { noted, at };
+    assert!(rt; has_text(rt.alloc(), wanting, "out of memory at 216, after 2 packets"));
+    let unread = AbsorbFault::ReadFault { noted, at };
+    assert!(rt; has_text(rt.alloc(), unread, "a read failed at 216, after 2 packets"));
 }
 
 /// Whether a part that can't be read is a fault.

@@ -6,7 +6,6 @@ use mxf_klv::OutOfMemory;
 use mxf_read::absorb;
 use mxf_views::{BadUnit, Chain, Found, Link, Place, RipView, Standing, Views};
 use std::alloc::Global;
-use std::test::Fail;
 use uuid::Uuid;
 
 /// Whether the partitions are a header at 0 and a footer at 108.
@@ -156,10 +155,16 @@ fn refuses_units(views: &Views) -> bool {
         && views.locate(7, 18_446_744_073_709_551_615) == Err(BadUnit)
 }
 
+/// Whether the fault has its text.
+fn has_text(alloc: Global) -> bool {
+    match BadUnit.to_string(alloc) {
+        Ok(found) => found.as_str() == "bad unit",
+        Err(_) => false,
+    }
+}
+
 #[test]
-fn a_unit_above_the_greatest_is_refused(rt: HostRuntime) -> Result<(), Fail> {
+fn a_unit_above_the_greatest_is_refused(rt: HostRuntime) {
     let refused = refuses_units(&Views::new(rt.alloc()));
-    assert!(rt; refused);
-    assert_eq!(rt; BadUnit.to_string(rt.alloc())?.as_str(), "bad unit");
-    Ok(())
+    assert!(rt; refused && has_text(rt.alloc()));
 }
