@@ -29,6 +29,12 @@ def laid(line: str, offset: int = 0) -> bytes:
     return packets.bytes_of(packets.packet(line, offset))
 
 
+def small_head(header_bytes: int) -> bytes:
+    """The packets of a partition pack that states so many bytes of header metadata and of a primer pack without an
+    entry, each with its length in one byte."""
+    return laid(f"header header-bytes={header_bytes} width=1") + laid("primer width=1 value=0000000000000012")
+
+
 def essence_packet(value: bytes) -> bytes:
     """An essence packet with this value, four bytes that spell its length."""
     return ESSENCE_KEY + packets.length_field(4, len(value)) + value

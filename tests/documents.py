@@ -1,11 +1,12 @@
 #!/usr/bin/env python3
 """Looks up each link of the documents: the file is there, and has the heading that the link names. Looks up each test
-and case that is named: `crate::module::test`, `cases/TOPIC: NAME` or `end_to_end.d/TOPIC: NAME`. Where a link is to a
-source and names a function or a type, that is there, and the function has the clauses that stand in parentheses behind
-the link. Sees that each row of a table stands in a table, which an empty line would end, and that the numbers of tests,
-edits, runs and files that a document gives are those of the scripts and crates. Looks up in docs/MODEL.md each
-definition that a clause of a public function of the libraries cites, and compares the table of docs/LAYERS.md with
-crates.txt. Only failures are printed; the last line is 'N passed, M failed'.
+and case that is named: `crate::module::test`, `cases/TOPIC: NAME` or `end_to_end.d/TOPIC: NAME`; and `crate: NAME`, the
+heading `# NAME` of rows in the `stdin` and `stdout` of a program. Where a link is to a source and names a function or a
+type, that is there, and the function has the clauses that stand in parentheses behind the link. Sees that each row of a
+table stands in a table, which an empty line would end, and that the numbers of tests, edits, runs and files that a
+document gives are those of the scripts and crates. Looks up in docs/MODEL.md each definition that a clause of a public
+function of the libraries cites, and compares the table of docs/LAYERS.md with crates.txt. Only failures are printed;
+the last line is 'N passed, M failed'.
 """
 import ast
 import itertools
@@ -20,7 +21,7 @@ LIBRARIES = ("mxf_klv", "mxf_sets", "mxf_catalogue", "mxf_views", "mxf_restore",
 IMPORT = re.compile(r"^ghost use Rattle\.(mxf_\w+)\.specs\.(\w+)\.\{([^}]*)\};", re.MULTILINE)
 # Modules of small files alone, of which docs/MODEL.md names the file.
 EXAMPLES = re.compile(r"Worked\w+|RefusedFiles")
-NAMED = re.compile(r"`(mxf_\w+(?:::\w+)+|(?:cases|end_to_end\.d)/\w+: [^`]+)`")
+NAMED = re.compile(r"`(mxf_\w+(?:::\w+)+|(?:mxf_\w+|(?:cases|end_to_end\.d)/\w+): [^`]+)`")
 
 
 def lines_of(document):
@@ -81,12 +82,15 @@ def verdicts_of_contracts(document):
 
 
 def is_there(name):
-    """Whether a test, a module of tests or a case stands where the name says."""
+    """Whether a test, a module of tests, a case or a heading of rows stands where the name says."""
     topic, _, case = name.partition(": ")
     if topic.startswith("cases/"):
         return re.search(rf"^case {re.escape(case)}(\s+#.*)?$", text_of(TOP / "tests" / f"{topic}.txt"), re.MULTILINE) is not None
     if topic.startswith("end_to_end.d/"):
         return case in text_of(TOP / "tests" / topic)
+    if case:
+        tables = (text_of(TOP / "crates" / topic / file) for file in ("stdin", "stdout"))
+        return all(f"# {case}" in table.splitlines() for table in tables)
     crate, *modules, last = name.split("::")
     module = (TOP / "crates" / crate / "src").joinpath(*modules)
     return (module / f"{last}.rt").exists() or f"fn {last}(" in text_of(module.with_suffix(".rt"))

@@ -20,3 +20,4 @@ pub mod PieceCover
 pub mod OrderCover
 pub mod PlanMembers
 pub mod OrderStarts
+pub mod LoopLaws

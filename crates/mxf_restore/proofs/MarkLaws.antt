@@ -153,6 +153,42 @@ none_more notes from to i d all e within before here other below says =
           (subst (λ (m : Mark). Says notes from to m) (sym at) says)))
     ]
 
+-- Each mark but the last stands at its rank.
+rank_at : (i : ℕ) (d : Mark) → i < 10 → rank (get_or marks_in_order i d) ≡ i
+rank_at zero d h = refl
+rank_at (suc zero) d h = refl
+rank_at (suc (suc zero)) d h = refl
+rank_at (suc (suc (suc zero))) d h = refl
+rank_at (suc (suc (suc (suc zero)))) d h = refl
+rank_at (suc (suc (suc (suc (suc zero))))) d h = refl
+rank_at (suc (suc (suc (suc (suc (suc zero)))))) d h = refl
+rank_at (suc (suc (suc (suc (suc (suc (suc zero))))))) d h = refl
+rank_at (suc (suc (suc (suc (suc (suc (suc (suc zero)))))))) d h = refl
+rank_at (suc (suc (suc (suc (suc (suc (suc (suc (suc zero))))))))) d h = refl
+rank_at (suc (suc (suc (suc (suc (suc (suc (suc (suc (suc i)))))))))) d h = absurd (omega (arith, h))
+
+-- Where none of the marks so far says something true, the next that does is the cell's.
+pub first_found : (notes : List NoteParts) (from to i : ℕ) (d : Mark) (all : List Mark) → all ≡ marks_in_order
+    → i < length all → ((other : Mark) → rank other < i → ¬ Says notes from to other)
+    → Says notes from to (get_or all i d) → IsMark notes from to (get_or all i d)
+first_found notes from to i d all e within before says =
+    let count : length all ≡ 10 = ap length e in
+    let at : rank (get_or all i d) ≡ i =
+    ap (λ (l : List Mark). rank (get_or l i d)) e ∙ rank_at i d (omega (arith, count, within)) in record {
+      says = says;
+      first = λ other below. before other (omega (arith, at, below));
+    }
+
+-- Where none of them does, the last is.
+pub none_found : (notes : List NoteParts) (from to i : ℕ) (all : List Mark) → all ≡ marks_in_order
+    → length all ≤ i → ((other : Mark) → rank other < i → ¬ Says notes from to other)
+    → IsMark notes from to marks.Whole
+none_found notes from to i all e past before =
+    let count : length all ≡ 10 = ap length e in record {
+      says = tt;
+      first = λ other below. before other (omega (arith, count, past, below));
+    }
+
 -- ---- the marks of all cells
 
 -- A cell and those of which the next begins where it ends are cells one after another.

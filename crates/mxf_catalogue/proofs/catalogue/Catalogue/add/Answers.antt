@@ -1,5 +1,5 @@
 use Rattle.std.proofs.Common.{◌≡◌, ◌≤◌, ◌∙◌, [], IfOk, ap, arith, refl, sym, subst, List}
-use Rattle.std.proofs.lemmas.Result.{IfOk-weaker}
+use Rattle.std.proofs.lemmas.Result.{IfOk-weaker, on_ok_weaker}
 use Rattle.mxf_klv.specs.Note.{end_of}
 use Rattle.mxf_klv.specs.Rising.{In}
 use Rattle.mxf_catalogue.specs.Moved.{TellsMoved}
@@ -115,3 +115,18 @@ returns-clause-repeated c = (
       let t = c.tell.ensures.1 (subst (λ (l : List NoteParts). has_note l c.args.note) (sym c.self.view_is) h) in
       let f = c.if-tell.false in absurd (cc (t, f)),
 )
+
+pub returns-then-end_by-clause-history : goal.returns-then-end_by-clause-history
+returns-then-end_by-clause-history c h e =
+    on_ok_weaker c.append.result (λ p. p ∙ ap (reduced_with c.args.note) e) c.append.ensures.added
+
+pub returns-clause-added : goal.returns-clause-added
+returns-clause-added c =
+    let cs = c.self.inside.parts.undisputed.items in
+    let ds = c.self.inside.parts.disputed.items in
+    let items : union_of c.make_room.new.self.undisputed.items c.make_room.new.self.disputed.items ≡ union_of cs ds =
+    λ i. union_of (c.in-Ok.ensures.same.undisputed i) (c.in-Ok.ensures.same.disputed i) in
+    c.put.ensures.content ∙ ap (reduced_with c.args.note) (items ∙ c.self.view_is)
+
+pub returns-clause-history : goal.returns-clause-history
+returns-clause-history c h e = returns-clause-added c ∙ ap (reduced_with c.args.note) e

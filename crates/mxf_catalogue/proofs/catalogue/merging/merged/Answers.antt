@@ -1,10 +1,18 @@
-use Rattle.std.proofs.Common.{◌≡◌, arith, sym, subst}
-use Rattle.std.proofs.lemmas.Grind.{common_steps}
+use Rattle.std.proofs.Common.{◌≡◌, ◌∙◌, ◌++◌, List, ap, append-nil, sym, subst}
+use Rattle.mxf_klv.specs.Parts.{NoteParts}
 use Rattle.mxf_catalogue.specs.Content.{IsContent, union_of}
 use Rattle.mxf_catalogue.proofs.ContentLaws.{IsContent-union_of}
 use Rattle.mxf_catalogue.proofs.catalogue.merging.merged.Goals as goal
 
+all_moved : (c : goal.After-drop-note-iterator-inside-2) → c.loop-note.room.items ≡ union_of c.args.left.items c.args.right.items
+all_moved c =
+    let moved = c.loop-note.room.items in
+    sym (append-nil moved) ∙ sym (ap (λ (l : List NoteParts). moved ++ l) c.in-None.ensures.steps.0)
+    ∙ c.loop-note.invariant.notes
+
+pub returns-clause-notes : goal.returns-clause-notes
+returns-clause-notes c = all_moved c
+
 pub returns-clause-content : goal.returns-clause-content
 returns-clause-content c =
-    let e : c.loop-note.room.items ≡ union_of c.args.left.items c.args.right.items = grind (arith, common_steps) in
-    subst IsContent (sym e) (IsContent-union_of c.args.left.items c.args.right.items c.requires.left)
+    subst IsContent (sym (all_moved c)) (IsContent-union_of c.args.left.items c.args.right.items c.requires.left)

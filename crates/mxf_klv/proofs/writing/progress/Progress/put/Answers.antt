@@ -1,7 +1,12 @@
-use Rattle.std.proofs.Common.{◌≡◌, ℕ, ◌+◌, ◌-◌, ◌≤◌, List, ◌++◌, arith, length, take, drop, sym, ap, ◌∙◌}
-use Rattle.std.proofs.Common.{append_assoc, take-append-drop, length-append, length-take-le}
-use Rattle.std.proofs.lemmas.List.{take_rest}
-use Rattle.std.proofs.KnownBytes.{Appends-trans}
+use Rattle.std.proofs.Common.{◌≡◌, ◌≢◌, ℕ, ◌+◌, ◌-◌, ◌≤◌, ◌<◌, List, [], ◌++◌, Option, arith, length, take, drop}
+use Rattle.std.proofs.Common.{refl, sym, ap, subst, ◌∙◌}
+use Rattle.std.proofs.Common.{append-nil, append_assoc, take-append-drop, length-append, length-take-le}
+use Rattle.std.proofs.lemmas.Bool.{eqb-false, eqb-true}
+use Rattle.std.proofs.lemmas.List.{nil_from_length, take_rest}
+use Rattle.std.proofs.Math.Seq.{take-append_seam}
+use Rattle.std.proofs.KnownBytes.{Appends-kept, Appends-trans}
+use Rattle.std.specs.Io.KnownBytes.{Appends}
+use Rattle.mxf_klv.specs.Written.{counted}
 use Rattle.mxf_klv.proofs.writing.progress.Progress.put.Goals as goal
 
 moves_front : (all done rest : List ℕ) (n : ℕ) → all ≡ done ++ rest → all ≡ (done ++ take n rest) ++ take
@@ -24,4 +29,56 @@ loop-rest-preserved-in-Ok g c =
       Appends-trans _ _ _ _ _ appended c.in-Ok.ensures.bytes,
       omega arith,
       interruptions,
+    )
+
+-- The writer stops behind `done`, with bytes left.
+stops : (old new : Option (List ℕ)) (all done rest : List ℕ) (before written : ℕ) → all ≡ done ++ rest
+    → length rest ≢ 0 → written ≡ counted (before + length done) → Appends old new done
+    → (n : ℕ) × (n < length all) × (written ≡ counted (before + n)) × Appends old new (take n all)
+stops old new all done rest before written split some count appended =
+    let front : take (length done) all ≡ done = ap (take (length done)) split ∙ take-append_seam done rest in (
+      length done,
+      omega (arith, ap length split, length-append done rest),
+      count,
+      subst (Appends old new) (sym front) appended,
+    )
+
+-- A write that takes no byte adds none.
+takes_none : (old mid new : Option (List ℕ)) (done rest : List ℕ) (n : ℕ) → n ≡ 0 → Appends old mid done
+    → Appends mid new (take n rest) → Appends old new done
+takes_none old mid new done rest n zero appended none =
+    subst (Appends old new) (append-nil done)
+    (Appends-trans old mid new done [] appended (subst (λ n. Appends mid new (take n rest)) zero none))
+
+all_done : (all done rest : List ℕ) → all ≡ done ++ rest → length rest ≡ 0 → done ≡ all
+all_done all done rest split none =
+    sym (split ∙ ap (λ (l : List ℕ). done ++ l) (nil_from_length rest none) ∙ append-nil done)
+
+pub returns-in-Ok-eq0-clause-written : goal.returns-in-Ok-eq0-clause-written
+returns-in-Ok-eq0-clause-written g c =
+    let (done, split, appended, count, _) = c.loop-rest.invariant in
+    let rest = c.loop-rest.rest.now in
+    let some = eqb-false (length rest) 0 (sym c.is_empty.ensures ∙ c.loop-rest-test.true) in (
+      stops _ _ _ done rest c.args.self.now.written _ split some count
+          (takes_none _ _ _ done rest c.in-Ok-eq0.field-0 c.in-Ok-eq0.field-0-test appended c.in-Ok-eq0.ensures.bytes),
+      refl,
+    )
+
+pub returns-then-ne-clause-written : goal.returns-then-ne-clause-written
+returns-then-ne-clause-written g c =
+    let (done, split, appended, count, _) = c.loop-rest.invariant in
+    let rest = c.loop-rest.rest.now in
+    let some = eqb-false (length rest) 0 (sym c.is_empty.ensures ∙ c.loop-rest-test.true) in (
+      stops _ _ _ done rest c.args.self.now.written _ split some count
+          (Appends-kept _ _ _ done appended c.in-Err.ensures.bytes),
+      refl,
+    )
+
+pub returns-clause-written : goal.returns-clause-written
+returns-clause-written g c =
+    let (done, split, appended, count, _) = c.loop-rest.invariant in
+    let none = eqb-true (length c.loop-rest.rest.now) 0 (sym c.is_empty.ensures ∙ c.loop-rest-test.false) in
+    let whole = all_done _ done _ split none in (
+      subst (Appends _ _) whole appended,
+      count ∙ ap (λ l. counted (c.args.self.now.written + length l)) whole,
     )
