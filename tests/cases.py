@@ -4,8 +4,8 @@
     tests/cases.py PROGRAM [WORD]    all cases, or those whose name has the WORD; the last line is 'N passed, M failed'
     tests/cases.py --bytes NAME      the bytes of the cases of that name, a field a line, or of a worked file
 
-Before, the worked files are compared with the bytes in tests/worked, and each form of a printed line (forms.txt) has to
-be wanted by a case.
+Before, the worked files are compared with the bytes in tests/worked and with those that stand in crates of tests, and
+each form of a printed line (forms.txt) has to be wanted by a case.
 
 A case is some lines of a text file in tests/cases. A number sign begins a comment.
 
@@ -46,6 +46,7 @@ import packets
 
 CASES = pathlib.Path(__file__).parent / "cases"
 WORKED = pathlib.Path(__file__).parent / "worked"
+CRATES = pathlib.Path(__file__).parent.parent / "crates"
 COMMANDS = ("show", "check", "locate", "units", "plan", "map", "join")
 OPTIONS = {
     "locate": ("--index", "--unit"),
@@ -53,6 +54,9 @@ OPTIONS = {
     "map": ("--columns", "--rows"),
 }
 NAME = re.compile(r'\{"line":"([^"]*)"')
+
+# A worked file in a crate of tests: its name and its bytes, as hexadecimal digits with comments.
+IN_CRATE = re.compile(r"const ([A-Z]): \[u8; \d+\] = \[\n(.*?)^\];", re.MULTILINE | re.DOTALL)
 
 
 def fits(form, line):
@@ -319,8 +323,19 @@ class Run:
         return heads + [f"  < {line}" for line in printed] + [f"  > {line}" for line in texts + said.splitlines()]
 
 
+def worked_in_crates():
+    """The worked files that stand in crates of tests: the file of each, its name and its bytes."""
+    for path in sorted(CRATES.glob("*/src/**/*.rt")):
+        for name, lines in IN_CRATE.findall(path.read_text()):
+            spelled = re.findall(r"0x([0-9A-F]{2})", re.sub("//.*", "", lines))
+            yield path, name, bytes.fromhex("".join(spelled))
+
+
 def wrong_in_the_cases(files, cases):
     """What is wrong with the cases themselves, each as lines: worked files of other bytes, and forms that none wants."""
+    for path, name, data in worked_in_crates():
+        if data != bytes_of(files[name]):
+            yield [f"{path.relative_to(CRATES)}: {name} has other bytes than in files.txt"]
     for path in sorted(WORKED.glob("*.bin")):
         if path.read_bytes() != bytes_of(files[path.stem]):
             yield [f"{path.name} has other bytes than in files.txt"]

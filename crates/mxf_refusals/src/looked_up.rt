@@ -1,5 +1,6 @@
 //! What is looked up in bytes at hand while every growth is refused.
-use crate::files::{R, SEGMENT};
+use crate::additions::in_views;
+use crate::files::{M, R, SEGMENT, WRITTEN, rip_value};
 use mxf_klv::{Kind, Note, Status, kind, next_head, next_packet, read_ber};
 use mxf_read::absorb;
 use mxf_sets::{
@@ -7,120 +8,140 @@ use mxf_sets::{
     instance_uid, items, pattern_name,
 };
 use mxf_views::{Link, Views, set_items};
-use mxf_worked::worked_files::{M, WRITTEN, rip_value};
 use std::alloc::Global;
-use std::test::Fail;
 use uuid::Uuid;
 
-/// The bytes of R from one offset up to another.
-fn part_of_r(from: usize, to: usize) -> Result<&'static [u8], Fail> {
-    Ok(R.get(from..to).ok_or("a part of R")?)
+/// Whether the first packet of M is read, and its head, of which the length is read by itself.
+fn packet_is_read() -> Option<bool> {
+    let (packet, size) = next_packet(0, &M).ok()?;
+    let (key, length) = next_head(0, &M).ok()?;
+    let alike = packet.key() == key && read_ber(&M[16..]).ok()? == length;
+    let sized = (size, packet.width(), packet.value().len()) == (108, 4, 88);
+    let named = kind(&key) == Kind::Header(Status::ClosedComplete) && kind(&key).is_structural();
+    Some(alike && sized && named && (length.width(), length.value()) == (4, 88))
 }
 
 #[test]
-fn without_memory_a_packet_is_looked_at(rt: HostRuntime) -> Result<(), Fail> {
-    let (packet, size) = next_packet(0, &M)?;
-    let (key, length) = next_head(0, &M)?;
-    assert_eq!(rt; (size, packet.width(), packet.value().len()), (108, 4, 88));
-    assert!(rt; packet.key() == key && read_ber(&M[16..])? == length);
-    assert_eq!(rt; (length.width(), length.value()), (4, 88));
-    assert_eq!(rt; kind(&key), Kind::Header(Status::ClosedComplete));
-    assert!(rt; kind(&key).is_structural() && Note::can_be(0, 4, 88));
-    Ok(())
+fn without_memory_a_packet_is_looked_at(rt: HostRuntime) {
+    assert!(rt; packet_is_read() == Some(true) && Note::can_be(0, 4, 88));
+}
+
+/// Whether the header partition pack of M is read.
+fn partition_pack_is_read() -> Option<bool> {
+    let (packet, _) = next_packet(0, &M).ok()?;
+    let pack = PartitionPack::read(&packet.key(), packet.value()).ok()?;
+    let told = pack.part() == PackPart::Header && pack.status() == Status::ClosedComplete;
+    let named = matches!(pattern_name(&pack.pattern()), Some("OP1a"));
+    let placed = pack.numbers().footer_partition == 108 && pack.containers().is_empty();
+    Some(told && named && placed)
 }
 
 #[test]
-fn without_memory_a_partition_pack_is_looked_at(rt: HostRuntime) -> Result<(), Fail> {
-    let (packet, _) = next_packet(0, &M)?;
-    let pack = PartitionPack::read(&packet.key(), packet.value())?;
-    assert!(rt; pack.part() == PackPart::Header && pack.status() == Status::ClosedComplete);
-    assert_eq!(rt; pack.numbers().footer_partition, 108);
-    assert!(rt; matches!(pattern_name(&pack.pattern()), Some("OP1a")));
-    assert!(rt; pack.containers().is_empty());
-    Ok(())
+fn without_memory_a_partition_pack_is_looked_at(rt: HostRuntime) {
+    assert!(rt; partition_pack_is_read() == Some(true));
 }
 
-// The value of the primer pack of R has one entry, the random index pack of M two.
-#[test]
-fn without_memory_a_batch_and_a_random_index_pack_are_looked_at(
-    rt: HostRuntime,
-) -> Result<(), Fail> {
-    let batch = Batch::read(part_of_r(128, 154)?, 18)?;
-    assert_eq!(rt; (batch.len(), batch.item_size()), (1, 18));
-    assert!(rt; batch.items().next().is_some());
-    assert!(rt; batch.get(0).is_some() && batch.get(1).is_none());
-    let rip = Rip::read(4, rip_value())?;
-    assert!(rt; rip.entries().next().is_some());
-    Ok(())
+/// Whether the value of the primer pack of R has one entry.
+fn batch_is_read() -> Option<bool> {
+    let batch = Batch::read(&R[128..154], 18).ok()?;
+    let sized = (batch.len(), batch.item_size()) == (1, 18);
+    Some(
+        sized && batch.items().next().is_some() && batch.get(0).is_some() && batch.get(1).is_none(),
+    )
+}
+
+/// Whether the random index pack of M has an entry.
+fn rip_is_read() -> Option<bool> {
+    let rip = Rip::read(4, rip_value()).ok()?;
+    Some(rip.entries().next().is_some())
 }
 
 #[test]
-fn without_memory_records_are_looked_at(rt: HostRuntime) -> Result<(), Fail> {
-    let preface = Preface::read(part_of_r(174, 214)?)?;
-    let storage = ContentStorage::read(part_of_r(234, 298)?)?;
-    let package = Package::read(part_of_r(318, 374)?)?;
-    assert!(rt; preface.content_storage() == storage.instance_uid());
-    assert_eq!(rt; preface.identifications().len(), 0);
-    assert_eq!(rt; storage.packages().len(), 2);
-    assert!(rt; storage.packages().get(0) == Some(package.instance_uid()));
-    assert_eq!(rt; package.package_uid(), [0; 32]);
-    assert!(rt; package.name().is_none() && package.creation_date().is_none());
-    assert!(rt; package.modified_date().is_none() && package.descriptor().is_none());
-    assert_eq!(rt; package.tracks().len(), 0);
-    Ok(())
+fn without_memory_a_batch_and_a_random_index_pack_are_looked_at(rt: HostRuntime) {
+    assert!(rt; batch_is_read() == Some(true) && rip_is_read() == Some(true));
 }
 
-// The sixteen bytes at 158 are the identifier of the Preface.
-#[test]
-fn without_memory_items_are_looked_up(rt: HostRuntime) -> Result<(), Fail> {
-    let value = part_of_r(174, 214)?;
-    assert!(rt; items(value)?.next().is_some());
-    assert_eq!(rt; items(value)?.only(0x3C0A)?, Some([0x11; 16].as_slice()));
-    assert!(rt; instance_uid(value)? == Uuid::from_bytes([0x11; 16]));
-    let only = Identification::read(part_of_r(174, 194)?)?;
-    assert!(rt; only.instance_uid() == Uuid::from_bytes([0x11; 16]));
-    assert!(rt; only.company_name().is_none() && only.product_name().is_none());
-    assert!(rt; only.version_string().is_none() && only.product_uid().is_none());
-    assert!(rt; only.this_generation_uid().is_none() && only.modification_date().is_none());
-    Ok(())
+/// Whether the Preface of R names the storage, and that the package.
+fn references_are_read() -> Option<bool> {
+    let preface = Preface::read(&R[174..214]).ok()?;
+    let storage = ContentStorage::read(&R[234..298]).ok()?;
+    let package = Package::read(&R[318..374]).ok()?;
+    let stored = preface.content_storage() == storage.instance_uid();
+    let packaged = storage.packages().get(0) == Some(package.instance_uid());
+    let counted = (preface.identifications().len(), storage.packages().len()) == (0, 2);
+    Some(stored && packaged && counted)
+}
+
+/// Whether the package of R has no name, date, descriptor or track.
+fn package_is_read() -> Option<bool> {
+    let package = Package::read(&R[318..374]).ok()?;
+    let undated = package.creation_date().is_none() && package.modified_date().is_none();
+    let unnamed = package.name().is_none() && package.descriptor().is_none();
+    Some(undated && unnamed && package.package_uid() == [0; 32] && package.tracks().len() == 0)
 }
 
 #[test]
-fn without_memory_segments_are_looked_at(rt: HostRuntime) -> Result<(), Fail> {
-    let constant = Segment::read(SEGMENT.get(20..).ok_or("a segment")?)?;
-    assert_eq!(rt; constant.offset_of(10), Some(2_500_000));
-    let with_entries = Segment::read(&WRITTEN)?;
-    assert_eq!(rt;
-        (with_entries.entry_count(), with_entries.numbers().start),
-        (2, 5)
-    );
-    assert_eq!(rt; with_entries.offset_of(6), Some(1500));
-    assert!(rt; constant.entry_of(10).is_none() && with_entries.entry_of(6).is_some());
-    Ok(())
+fn without_memory_records_are_looked_at(rt: HostRuntime) {
+    assert!(rt; references_are_read() == Some(true) && package_is_read() == Some(true));
+}
+
+/// The identifier of the Preface of R.
+const PREFACE_UID: [u8; 16] = [0x11; 16];
+
+/// Whether the Preface of R has items, the first of which is its identifier.
+fn items_are_read() -> Option<bool> {
+    let value = &R[174..214];
+    let first = items(value).ok()?.next().is_some();
+    let only = items(value).ok()?.only(0x3C0A).ok()? == Some(PREFACE_UID.as_slice());
+    Some(first && only && instance_uid(value).ok()? == Uuid::from_bytes(PREFACE_UID))
+}
+
+/// Whether an identification of this item alone has no text, date or other identifier.
+fn identification_is_read() -> Option<bool> {
+    let only = Identification::read(&R[174..194]).ok()?;
+    let unnamed = only.company_name().is_none() && only.product_name().is_none();
+    let unversioned = only.version_string().is_none() && only.product_uid().is_none();
+    let undated = only.this_generation_uid().is_none() && only.modification_date().is_none();
+    let named = only.instance_uid() == Uuid::from_bytes(PREFACE_UID);
+    Some(named && unnamed && unversioned && undated)
+}
+
+#[test]
+fn without_memory_items_are_looked_up(rt: HostRuntime) {
+    assert!(rt; items_are_read() == Some(true) && identification_is_read() == Some(true));
+}
+
+/// Whether units have their offsets in a segment of units of one size, and in one with entries.
+fn segments_are_read() -> Option<bool> {
+    let constant = Segment::read(&SEGMENT[20..]).ok()?;
+    let with_entries = Segment::read(&WRITTEN).ok()?;
+    let placed = constant.offset_of(10) == Some(2_500_000) && constant.entry_of(10).is_none();
+    let counted = (with_entries.entry_count(), with_entries.numbers().start) == (2, 5);
+    let listed = with_entries.offset_of(6) == Some(1500) && with_entries.entry_of(6).is_some();
+    Some(placed && counted && listed)
+}
+
+#[test]
+fn without_memory_segments_are_looked_at(rt: HostRuntime) {
+    assert!(rt; segments_are_read() == Some(true));
 }
 
 /// Whether the copy of R is found with its set and its primer pack.
-fn has_its_copy(views: &Views) -> Result<bool, Fail> {
-    let header = views.partitions().next().ok_or("a partition")?;
-    let set = views.sets(0).next().ok_or("a set")?;
-    let items = set_items(set).ok_or("its items")?.next().is_some();
-    let copy = views.copy_with(set).ok_or("a copy")?;
-    let primer = views.primer_of(&copy).ok_or("a primer pack")?;
-    let labelled = primer.label(0x8001) == Some([0xAA; 16]);
-    Ok(views.link_of(&header) == Link::First && items && copy.partition == 0 && labelled)
+fn has_its_copy(views: &Views) -> Option<bool> {
+    let header = views.partitions().next()?;
+    let set = views.sets(0).next()?;
+    let items = set_items(set)?.next().is_some();
+    let copy = views.copy_with(set)?;
+    let labelled = views.primer_of(&copy)?.label(0x8001) == Some([0xAA; 16]);
+    Some(views.link_of(&header) == Link::First && items && copy.partition == 0 && labelled)
 }
 
 /// Whether it is, where R can be noted.
-fn copy_is_looked_at(alloc: Global, views: &mut Views) -> Result<bool, Fail> {
-    if absorb(alloc, views, 0, &R).is_err() {
-        return Ok(true);
-    }
-    has_its_copy(views)
+fn copy_is_looked_at(alloc: Global, views: &mut Views) -> bool {
+    absorb(alloc, views, 0, &R).is_err() || has_its_copy(views) == Some(true)
 }
 
 #[test]
-fn without_memory_a_copy_is_looked_at(rt: HostRuntime) -> Result<(), Fail> {
-    let looked_at = copy_is_looked_at(rt.alloc(), &mut Views::new(rt.alloc()));
-    assert!(rt; looked_at?);
-    Ok(())
+fn without_memory_a_copy_is_looked_at(rt: HostRuntime) {
+    assert!(rt; in_views(rt.alloc(), copy_is_looked_at));
 }

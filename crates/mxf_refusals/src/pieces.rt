@@ -1,10 +1,11 @@
 //! Pieces, whole and cut: after want of memory the packets that were counted are held, and the rest can be absorbed.
+use crate::additions::in_views;
+use crate::files::M;
+use crate::units::add_piece;
 use mxf_catalogue::Run;
 use mxf_read::{AbsorbFault, ReadTicks, Report, Stop, absorb, absorb_from};
 use mxf_views::{Chain, Views};
-use mxf_worked::worked_files::M;
 use std::alloc::Global;
-use std::test::Fail;
 
 /// What is reported of M.
 const WHOLE: Report = Report {
@@ -54,11 +55,17 @@ fn rest_is_noted(
     piece: &[u8],
     behind: (u64, u64),
     whole: Report,
-) -> Result<bool, Fail> {
+) -> bool {
     let (noted, at) = behind;
-    let rest = piece.get(at as usize..).ok_or("an offset of the piece")?;
-    let report = absorb(alloc, views, at, rest)?;
-    Ok(report.stop == whole.stop && report.noted.checked_add(noted) == Some(whole.noted))
+    let Some(rest) = piece.get(at as usize..) else {
+        return false;
+    };
+    match absorb(alloc, views, at, rest) {
+        Ok(report) => {
+            report.stop == whole.stop && report.noted.checked_add(noted) == Some(whole.noted)
+        }
+        Err(_) => false,
+    }
 }
 
 /// Whether a piece at hand is reported so, also where memory was wanting at one of these places.
@@ -68,15 +75,15 @@ fn is_noted(
     piece: &[u8],
     whole: Report,
     places: &[(u64, u64)],
-) -> Result<bool, Fail> {
+) -> bool {
     match absorb(alloc, views, 0, piece) {
-        Ok(report) => Ok(report == whole),
+        Ok(report) => report == whole,
         Err(AbsorbFault::OutOfMemory { noted, at }) => {
-            let counted = is_counted(views, noted, at, places);
-            Ok(rest_is_noted(alloc, views, piece, (noted, at), whole)? && counted)
+            is_counted(views, noted, at, places)
+                && rest_is_noted(alloc, views, piece, (noted, at), whole)
         }
         // Nothing is read of bytes at hand.
-        Err(AbsorbFault::ReadFault { .. }) => Ok(false),
+        Err(AbsorbFault::ReadFault { .. }) => false,
     }
 }
 
@@ -93,96 +100,82 @@ fn is_read(
     piece: &[u8],
     whole: Report,
     places: &[(u64, u64)],
-) -> Result<bool, Fail> {
+) -> bool {
     match read_into(alloc, views, piece) {
-        Ok(report) => Ok(report == whole),
+        Ok(report) => report == whole,
         Err(AbsorbFault::OutOfMemory { noted, at }) => {
-            let counted = is_counted(views, noted, at, places);
-            Ok(read_into(alloc, views, piece)? == whole && counted)
+            is_counted(views, noted, at, places) && read_into(alloc, views, piece) == Ok(whole)
         }
         // A slice can always be read.
-        Err(AbsorbFault::ReadFault { .. }) => Ok(false),
+        Err(AbsorbFault::ReadFault { .. }) => false,
     }
 }
 
 /// Whether M at hand is noted and held.
-fn m_is_noted(alloc: Global, views: &mut Views) -> Result<bool, Fail> {
-    Ok(is_noted(alloc, views, &M, WHOLE, &PLACES)? && holds_m(views))
+fn m_is_noted(alloc: Global, views: &mut Views) -> bool {
+    is_noted(alloc, views, &M, WHOLE, &PLACES) && holds_m(views)
 }
 
 #[test]
-fn a_piece_at_hand(rt: HostRuntime) -> Result<(), Fail> {
-    let noted = m_is_noted(rt.alloc(), &mut Views::new(rt.alloc()));
-    assert!(rt; noted?);
-    Ok(())
+fn a_piece_at_hand(rt: HostRuntime) {
+    assert!(rt; in_views(rt.alloc(), m_is_noted));
 }
 
 /// Whether M of a reader is noted and held.
-fn m_is_read(alloc: Global, views: &mut Views) -> Result<bool, Fail> {
-    Ok(is_read(alloc, views, &M, WHOLE, &PLACES)? && holds_m(views))
+fn m_is_read(alloc: Global, views: &mut Views) -> bool {
+    is_read(alloc, views, &M, WHOLE, &PLACES) && holds_m(views)
 }
 
 #[test]
-fn a_piece_of_a_reader(rt: HostRuntime) -> Result<(), Fail> {
-    let noted = m_is_read(rt.alloc(), &mut Views::new(rt.alloc()));
-    assert!(rt; noted?);
-    Ok(())
+fn a_piece_of_a_reader(rt: HostRuntime) {
+    assert!(rt; in_views(rt.alloc(), m_is_read));
 }
 
 /// Whether M's first 128 bytes at hand are noted and held: when memory is wanting, no packet is, or that ahead of the
 /// head.
-fn cut_is_noted(alloc: Global, views: &mut Views) -> Result<bool, Fail> {
-    Ok(is_noted(alloc, views, &M[..128], CUT, &PLACES[..2])? && holds_the_cut(views))
+fn cut_is_noted(alloc: Global, views: &mut Views) -> bool {
+    is_noted(alloc, views, &M[..128], CUT, &PLACES[..2]) && holds_the_cut(views)
 }
 
 #[test]
-fn a_cut_piece_at_hand(rt: HostRuntime) -> Result<(), Fail> {
-    let noted = cut_is_noted(rt.alloc(), &mut Views::new(rt.alloc()));
-    assert!(rt; noted?);
-    Ok(())
+fn a_cut_piece_at_hand(rt: HostRuntime) {
+    assert!(rt; in_views(rt.alloc(), cut_is_noted));
 }
 
 /// Whether those of a reader are.
-fn cut_is_read(alloc: Global, views: &mut Views) -> Result<bool, Fail> {
-    Ok(is_read(alloc, views, &M[..128], CUT, &PLACES[..2])? && holds_the_cut(views))
+fn cut_is_read(alloc: Global, views: &mut Views) -> bool {
+    is_read(alloc, views, &M[..128], CUT, &PLACES[..2]) && holds_the_cut(views)
 }
 
 #[test]
-fn a_cut_piece_of_a_reader(rt: HostRuntime) -> Result<(), Fail> {
-    let noted = cut_is_read(rt.alloc(), &mut Views::new(rt.alloc()));
-    assert!(rt; noted?);
-    Ok(())
-}
-
-/// Absorbs M's first 128 bytes, a second time where memory was wanting.
-fn absorb_cut(alloc: Global, views: &mut Views) -> Result<(), AbsorbFault> {
-    if absorb(alloc, views, 0, &M[..128]).is_err() {
-        absorb(alloc, views, 0, &M[..128])?;
-    }
-    Ok(())
+fn a_cut_piece_of_a_reader(rt: HostRuntime) {
+    assert!(rt; in_views(rt.alloc(), cut_is_read));
 }
 
 /// Absorbs M. Whether it is held, also where memory was wanting at one of its places, and the rest was absorbed.
-fn absorbs_m(alloc: Global, views: &mut Views) -> Result<bool, Fail> {
-    if let Err(AbsorbFault::OutOfMemory { noted, at }) = absorb(alloc, views, 0, &M) {
-        let counted = PLACES.contains(&(noted, at));
-        let rest = M.get(at as usize..).ok_or("an offset of M")?;
-        absorb(alloc, views, at, rest)?;
-        return Ok(holds_m(views) && counted);
+fn absorbs_m(alloc: Global, views: &mut Views) -> bool {
+    match absorb(alloc, views, 0, &M) {
+        Ok(_) => holds_m(views),
+        Err(AbsorbFault::OutOfMemory { noted, at }) => {
+            let counted = PLACES.contains(&(noted, at));
+            match M.get(at as usize..) {
+                Some(rest) => {
+                    counted && absorb(alloc, views, at, rest).is_ok() && holds_m(views)
+                }
+                None => false,
+            }
+        }
+        // Nothing is read of bytes at hand.
+        Err(AbsorbFault::ReadFault { .. }) => false,
     }
-    Ok(holds_m(views))
 }
 
 /// Whether M is held over its cut front.
-fn goes_over_its_front(alloc: Global, views: &mut Views) -> Result<bool, Fail> {
-    absorb_cut(alloc, views)?;
-    let cut = holds_the_cut(views);
-    Ok(absorbs_m(alloc, views)? && cut)
+fn goes_over_its_front(alloc: Global, views: &mut Views) -> bool {
+    add_piece(alloc, views, 0, &M[..128]) && holds_the_cut(views) && absorbs_m(alloc, views)
 }
 
 #[test]
-fn a_piece_over_its_cut_front(rt: HostRuntime) -> Result<(), Fail> {
-    let held = goes_over_its_front(rt.alloc(), &mut Views::new(rt.alloc()));
-    assert!(rt; held?);
-    Ok(())
+fn a_piece_over_its_cut_front(rt: HostRuntime) {
+    assert!(rt; in_views(rt.alloc(), goes_over_its_front));
 }

@@ -1,13 +1,11 @@
 //! Notes and texts, and what is looked for in views.
-use crate::files::R;
+use crate::additions::{add_to_views, essence, in_views};
+use crate::files::{M, R, header_value};
+use crate::units::add_piece;
 use mxf_klv::{Held, Note, NoteFault, OutOfMemory, Packet, read_packet};
-use mxf_read::{AbsorbFault, absorb};
 use mxf_sets::{Primer, PrimerLabels, TextFault, text};
 use mxf_views::{Code, Finding, Findings, Resolved, Views};
-use mxf_worked::builders::essence;
-use mxf_worked::worked_files::{M, header_value};
 use std::alloc::Global;
-use std::test::Fail;
 
 /// Whether the note keeps the value of M's header partition pack.
 fn keeps_the_header(note: &Note) -> bool {
@@ -18,121 +16,118 @@ fn keeps_the_header(note: &Note) -> bool {
 }
 
 /// The note of a packet at 0, also where one growth is refused.
-fn note_of(alloc: Global, packet: &Packet<'_>) -> Result<Note, Fail> {
+fn note_of(alloc: Global, packet: &Packet<'_>) -> Result<Note, NoteFault> {
     match Note::of(alloc, 0, packet) {
-        Ok(note) => Ok(note),
-        Err(NoteFault::OutOfMemory) => Ok(Note::of(alloc, 0, packet)?),
-        Err(fault) => Err(Fail::from(fault)),
+        Err(NoteFault::OutOfMemory) => Note::of(alloc, 0, packet),
+        answer => answer,
     }
 }
 
-/// Whether a note is copied, also where one growth is refused.
-fn is_copied(alloc: Global, note: &Note) -> Result<bool, OutOfMemory> {
+/// The copy of a note, also where one growth is refused.
+fn copy_of(alloc: Global, note: &Note) -> Result<Note, OutOfMemory> {
     match note.clone_in(alloc) {
-        Ok(copy) => Ok(copy == *note),
-        Err(OutOfMemory) => Ok(note.clone_in(alloc)? == *note),
+        Ok(copy) => Ok(copy),
+        Err(OutOfMemory) => note.clone_in(alloc),
+    }
+}
+
+/// Whether a note is copied.
+fn is_copied(alloc: Global, note: &Note) -> bool {
+    match copy_of(alloc, note) {
+        Ok(copy) => copy == *note,
+        Err(OutOfMemory) => false,
+    }
+}
+
+/// Whether the note of M's header partition pack keeps its value, and is copied.
+fn is_kept(alloc: Global) -> bool {
+    let Ok((packet, _)) = read_packet(&M) else {
+        return false;
+    };
+    match note_of(alloc, &packet) {
+        Ok(note) => keeps_the_header(&note) && is_copied(alloc, &note),
+        Err(_) => false,
     }
 }
 
 #[test]
-fn the_note_of_a_packet_that_is_kept(rt: HostRuntime) -> Result<(), Fail> {
-    let (packet, _) = read_packet(&M)?;
-    let note = note_of(rt.alloc(), &packet)?;
-    assert!(rt; keeps_the_header(&note) && is_copied(rt.alloc(), &note)?);
-    Ok(())
+fn the_note_of_a_packet_that_is_kept(rt: HostRuntime) {
+    assert!(rt; is_kept(rt.alloc()));
 }
 
-/// Whether units have this text, also where one growth is refused.
-fn have_text(alloc: Global, units: &[u8], wanted: &str) -> Result<bool, Fail> {
+/// The text of units, also where one growth is refused.
+fn text_of(alloc: Global, units: &[u8]) -> Result<String, TextFault> {
     match text(alloc, units) {
-        Ok(found) => Ok(found.as_str() == wanted),
-        Err(TextFault::OutOfMemory) => Ok(text(alloc, units)?.as_str() == wanted),
-        Err(fault) => Err(Fail::from(fault)),
+        Err(TextFault::OutOfMemory) => text(alloc, units),
+        answer => answer,
+    }
+}
+
+/// Whether units have this text.
+fn have_text(alloc: Global, units: &[u8], wanted: &str) -> bool {
+    match text_of(alloc, units) {
+        Ok(found) => found.as_str() == wanted,
+        Err(_) => false,
     }
 }
 
 #[test]
-fn a_text(rt: HostRuntime) -> Result<(), Fail> {
+fn a_text(rt: HostRuntime) {
     let units = [0x00, 0x41, 0x00, 0xE9, 0x00, 0x00, 0x00, 0x58];
-    assert!(rt; have_text(rt.alloc(), &units, "A\u{e9}")?);
-    Ok(())
+    assert!(rt; have_text(rt.alloc(), &units, "A\u{e9}"));
 }
 
 /// Whether the labels of a primer pack have that of the tag 8001, also where one growth is refused.
-fn has_label(alloc: Global, primer: &Primer<'_>) -> Result<bool, OutOfMemory> {
+fn has_label(alloc: Global, primer: &Primer<'_>) -> bool {
     let wanted = Some([0xAA; 16]);
     match PrimerLabels::of(alloc, primer) {
-        Ok(labels) => Ok(labels.label(0x8001) == wanted),
-        Err(OutOfMemory) => Ok(PrimerLabels::of(alloc, primer)?.label(0x8001) == wanted),
+        Ok(labels) => labels.label(0x8001) == wanted,
+        Err(OutOfMemory) => match PrimerLabels::of(alloc, primer) {
+            Ok(labels) => labels.label(0x8001) == wanted,
+            Err(OutOfMemory) => false,
+        },
     }
+}
+
+/// Whether those of the primer pack of R have it.
+fn r_has_label(alloc: Global) -> Option<bool> {
+    let (packet, _) = read_packet(&R[108..]).ok()?;
+    let primer = Primer::read(packet.value()).ok()?;
+    Some(has_label(alloc, &primer))
 }
 
 #[test]
-fn the_labels_of_a_primer_pack(rt: HostRuntime) -> Result<(), Fail> {
-    let (packet, _) = read_packet(R.get(108..).ok_or("a primer pack")?)?;
-    let primer = Primer::read(packet.value())?;
-    assert!(rt; has_label(rt.alloc(), &primer)?);
-    Ok(())
-}
-
-/// Notes a file with a package that is found and one that isn't, again where one growth is refused.
-fn note_package(alloc: Global, views: &mut Views) -> Result<(), AbsorbFault> {
-    if absorb(alloc, views, 0, &R).is_err() {
-        absorb(alloc, views, 0, &R)?;
-    }
-    Ok(())
+fn the_labels_of_a_primer_pack(rt: HostRuntime) {
+    assert!(rt; r_has_label(rt.alloc()) == Some(true));
 }
 
 /// Whether the Preface is that at 154, and names two packages.
-fn is_of_the_package(resolved: Option<Resolved>) -> bool {
-    match resolved {
-        Some(found) => found.preface == 154 && found.packages.as_slice().len() == 2,
-        None => false,
+fn is_of_the_package(resolved: &Resolved) -> bool {
+    resolved.preface == 154 && resolved.packages.as_slice().len() == 2
+}
+
+/// What references lead to, also where one growth is refused.
+fn resolved_in(alloc: Global, views: &Views) -> Result<Option<Resolved>, OutOfMemory> {
+    match views.resolved(alloc) {
+        Ok(resolved) => Ok(resolved),
+        Err(OutOfMemory) => views.resolved(alloc),
     }
 }
 
-/// Whether references lead there, also where one growth is refused.
-fn lead_to_the_package(alloc: Global, views: &mut Views) -> Result<bool, Fail> {
-    note_package(alloc, views)?;
-    match views.resolved(alloc) {
-        Ok(resolved) => Ok(is_of_the_package(resolved)),
-        Err(OutOfMemory) => Ok(is_of_the_package(views.resolved(alloc)?)),
+/// Whether references lead to a package that is found and one that isn't.
+fn lead_to_the_package(alloc: Global, views: &mut Views) -> bool {
+    if !add_piece(alloc, views, 0, &R) {
+        return false;
+    }
+    match resolved_in(alloc, views) {
+        Ok(Some(resolved)) => is_of_the_package(&resolved),
+        Ok(None) | Err(OutOfMemory) => false,
     }
 }
 
 #[test]
-fn what_references_lead_to(rt: HostRuntime) -> Result<(), Fail> {
-    let lead = lead_to_the_package(rt.alloc(), &mut Views::new(rt.alloc()));
-    assert!(rt; lead?);
-    Ok(())
-}
-
-/// Whether a reference isn't found at 214, and the chain isn't whole.
-fn are_of_the_package(findings: &Findings) -> bool {
-    match findings.as_slice() {
-        [first, second] => first.offset == 0 && second.offset == 214,
-        _ => false,
-    }
-}
-
-/// Adds a note, also where one growth is refused.
-fn add(views: &mut Views, note: Note) -> Result<(), Fail> {
-    if let Err(fault) = views.add(note) {
-        views.add(fault.note)?;
-    }
-    Ok(())
-}
-
-/// Whether all three packets are disputed, and the chain isn't whole.
-fn are_of_three(findings: &Findings) -> bool {
-    let wanted = [
-        (0, Code::F02),
-        (0, Code::F14),
-        (90, Code::F02),
-        (200, Code::F02),
-    ]
-    .map(|(offset, code)| Finding { offset, code });
-    findings.as_slice() == wanted.as_slice()
+fn what_references_lead_to(rt: HostRuntime) {
+    assert!(rt; in_views(rt.alloc(), lead_to_the_package));
 }
 
 /// What is found in the views, also where one growth is refused.
@@ -143,26 +138,42 @@ fn found_in(alloc: Global, views: &Views) -> Result<Findings, OutOfMemory> {
     }
 }
 
-/// Whether the findings of the package are found.
-fn finds_those_of_the_package(alloc: Global, views: &mut Views) -> Result<bool, Fail> {
-    note_package(alloc, views)?;
-    Ok(are_of_the_package(&found_in(alloc, views)?))
+/// Whether these are the findings, each by its offset and code.
+fn finds(alloc: Global, views: &Views, wanted: &[Finding]) -> bool {
+    match found_in(alloc, views) {
+        Ok(found) => found.as_slice() == wanted,
+        Err(OutOfMemory) => false,
+    }
 }
 
-/// Whether those of a packet from 0 to 100, one from 200 to 300, and one from 90 to 210 over both are.
-fn finds_those_of_three(alloc: Global, views: &mut Views) -> Result<bool, Fail> {
-    for (offset, length) in [(0, 83), (200, 83), (90, 103)] {
-        add(views, essence(offset, length)?)?;
-    }
-    Ok(are_of_three(&found_in(alloc, views)?))
+fn at(offset: u64, code: Code) -> Finding {
+    Finding { offset, code }
+}
+
+/// Whether the chain isn't whole, and a reference isn't found at 214.
+fn finds_those_of_the_package(alloc: Global, views: &mut Views) -> bool {
+    let wanted = [at(0, Code::F14), at(214, Code::F13)];
+    add_piece(alloc, views, 0, &R) && finds(alloc, views, &wanted)
+}
+
+/// Whether of a packet from 0 to 100, one from 200 to 300, and one from 90 to 210 over both all are disputed, and the
+/// chain isn't whole.
+fn finds_those_of_three(alloc: Global, views: &mut Views) -> bool {
+    let wanted = [
+        at(0, Code::F02),
+        at(0, Code::F14),
+        at(90, Code::F02),
+        at(200, Code::F02),
+    ];
+    add_to_views(views, essence(0, 83))
+        && add_to_views(views, essence(200, 83))
+        && add_to_views(views, essence(90, 103))
+        && finds(alloc, views, &wanted)
 }
 
 #[test]
-fn findings(rt: HostRuntime) -> Result<(), Fail> {
+fn findings(rt: HostRuntime) {
     let alloc = rt.alloc();
-    let found = finds_those_of_the_package(alloc, &mut Views::new(alloc));
-    assert!(rt; found?);
-    let found = finds_those_of_three(alloc, &mut Views::new(alloc));
-    assert!(rt; found?);
-    Ok(())
+    assert!(rt; in_views(alloc, finds_those_of_the_package));
+    assert!(rt; in_views(alloc, finds_those_of_three));
 }

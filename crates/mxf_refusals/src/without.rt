@@ -1,20 +1,18 @@
 //! What takes no memory: it answers while every growth is refused.
-use crate::files::{R, SEGMENT};
+use crate::additions::{essence, in_views};
+use crate::files::{M, R, SEGMENT, header_value};
 use crate::written::is_written;
 use mxf_catalogue::{Catalogue, Change, FileFault};
 use mxf_klv::{Encode, Held, Note, OutOfMemory, cut_head, read_packet};
 use mxf_read::absorb;
 use mxf_sets::PartitionPack;
 use mxf_views::{Chain, Found, Link, Place, RipView, Views};
-use mxf_worked::builders::essence;
-use mxf_worked::worked_files::{M, header_value};
 use std::alloc::Global;
-use std::test::Fail;
 use uuid::Uuid;
 
 /// The note of M's footer, at 108. None where a growth is refused.
 fn footer(alloc: Global) -> Option<Note> {
-    let (packet, _) = read_packet(M.get(108..)?).ok()?;
+    let (packet, _) = read_packet(&M[108..]).ok()?;
     Note::of(alloc, 108, &packet).ok()
 }
 
@@ -39,31 +37,41 @@ fn hangs_together(views: &Views) -> bool {
         && matches!(&views.rip(), RipView::One(rip) if rip.entries().count() == 2)
 }
 
+/// Whether nothing is new about a note.
+fn repeats(views: &mut Views, note: Note) -> bool {
+    match views.add(note) {
+        Ok(change) => change == Change::Repeated,
+        Err(_) => false,
+    }
+}
+
 /// Whether nothing is new about a note of M, and M's notes and partitions are found.
-fn repeats_in(views: &mut Views, note: Note) -> Result<bool, Fail> {
-    let change = views.add(note)?;
-    Ok(change == Change::Repeated && holds_m(views.catalogue()) && hangs_together(views))
+fn repeats_in(views: &mut Views, note: Note) -> bool {
+    repeats(views, note) && holds_m(views.catalogue()) && hangs_together(views)
+}
+
+/// Whether a packet from 100 to 117 touches the first packet and the second, over the ends of which it is.
+fn touches_two(all: &Catalogue) -> bool {
+    match essence(100, 0) {
+        Some(over) => all.clear_touching(&over).count() == 2,
+        None => false,
+    }
 }
 
 /// Whether a held note is added, and what it touches is found, where M can be noted.
-fn held_note_is_added(alloc: Global, views: &mut Views) -> Result<bool, Fail> {
+fn held_note_is_added(alloc: Global, views: &mut Views) -> bool {
     if absorb(alloc, views, 0, &M).is_err() {
-        return Ok(true);
+        return true;
     }
-    let Some(note) = footer(alloc) else {
-        return Ok(true);
-    };
-    let added = repeats_in(views, note)?;
-    // A packet from 100 to 117, over the ends of the first packet and the second.
-    let over = essence(100, 0)?;
-    Ok(views.catalogue().clear_touching(&over).count() == 2 && added)
+    match footer(alloc) {
+        Some(note) => repeats_in(views, note) && touches_two(views.catalogue()),
+        None => true,
+    }
 }
 
 #[test]
-fn without_memory_a_held_note_is_added(rt: HostRuntime) -> Result<(), Fail> {
-    let added = held_note_is_added(rt.alloc(), &mut Views::new(rt.alloc()));
-    assert!(rt; added?);
-    Ok(())
+fn without_memory_a_held_note_is_added(rt: HostRuntime) {
+    assert!(rt; in_views(rt.alloc(), held_note_is_added));
 }
 
 /// Whether M's header is held, and the head of its footer, which claims the bytes up to 216.
@@ -88,38 +96,45 @@ fn are_alike(alloc: Global, made: &Note, head: &Note) -> bool {
     copied && told && matches!(&head.held(), Held::Head)
 }
 
-/// Whether the head of M's footer is made and added, where the bytes up to it can be noted.
-fn head_is_added(alloc: Global, views: &mut Views) -> Result<bool, Fail> {
+/// Whether the head of M's footer is made as cut bytes have it, and is held.
+fn head_is_made(alloc: Global, views: &mut Views, head: &Note) -> bool {
+    let Some(made) = Note::head(108, head.key(), 4, 88) else {
+        return false;
+    };
+    let alike = are_alike(alloc, &made, head) && (head.covered_end(), head.end()) == (128, 216);
+    repeats(views, made) && alike && holds_the_cut(views, head)
+}
+
+/// Whether it is, where the bytes up to it can be noted.
+fn head_is_added(alloc: Global, views: &mut Views) -> bool {
     if absorb(alloc, views, 0, &M[..128]).is_err() {
-        return Ok(true);
+        return true;
     }
-    let head = cut_head(108, &M[108..128]).ok_or("a head")?;
-    let made = Note::head(108, head.key(), 4, 88).ok_or("a head")?;
-    let alike = are_alike(alloc, &made, &head) && (head.covered_end(), head.end()) == (128, 216);
-    let change = views.add(made)?;
-    Ok(change == Change::Repeated && alike && holds_the_cut(views, &head))
+    match cut_head(108, &M[108..128]) {
+        Some(head) => head_is_made(alloc, views, &head),
+        None => false,
+    }
 }
 
 #[test]
-fn without_memory_heads_are_made_and_a_held_one_is_added(rt: HostRuntime) -> Result<(), Fail> {
-    let added = head_is_added(rt.alloc(), &mut Views::new(rt.alloc()));
-    assert!(rt; added?);
-    Ok(())
+fn without_memory_heads_are_made_and_a_held_one_is_added(rt: HostRuntime) {
+    assert!(rt; in_views(rt.alloc(), head_is_added));
 }
 
 /// Whether the head of a held packet is added, where M can be noted.
-fn replaced_head_is_added(alloc: Global, views: &mut Views) -> Result<bool, Fail> {
+fn replaced_head_is_added(alloc: Global, views: &mut Views) -> bool {
     if absorb(alloc, views, 0, &M).is_err() {
-        return Ok(true);
+        return true;
     }
-    repeats_in(views, cut_head(108, &M[108..128]).ok_or("a head")?)
+    match cut_head(108, &M[108..128]) {
+        Some(head) => repeats_in(views, head),
+        None => false,
+    }
 }
 
 #[test]
-fn without_memory_a_head_that_is_replaced_is_added(rt: HostRuntime) -> Result<(), Fail> {
-    let added = replaced_head_is_added(rt.alloc(), &mut Views::new(rt.alloc()));
-    assert!(rt; added?);
-    Ok(())
+fn without_memory_a_head_that_is_replaced_is_added(rt: HostRuntime) {
+    assert!(rt; in_views(rt.alloc(), replaced_head_is_added));
 }
 
 /// Whether the file of a catalogue has 322 bytes, where there is room for them.
@@ -136,19 +151,20 @@ fn m_has_322_bytes(alloc: Global, views: &mut Views) -> bool {
 }
 
 #[test]
-fn without_memory_a_catalogue_is_written(rt: HostRuntime) -> Result<(), Fail> {
-    let written = m_has_322_bytes(rt.alloc(), &mut Views::new(rt.alloc()));
-    assert!(rt; written);
-    Ok(())
+fn without_memory_a_catalogue_is_written(rt: HostRuntime) {
+    assert!(rt; in_views(rt.alloc(), m_has_322_bytes));
+}
+
+/// Whether the first packet of M is written, and its partition pack.
+fn pack_is_written(alloc: Global) -> Option<bool> {
+    let (packet, _) = read_packet(&M).ok()?;
+    let pack = PartitionPack::read(&packet.key(), packet.value()).ok()?;
+    Some(is_written(alloc, &packet, &M[..108]) && is_written(alloc, &pack, header_value()))
 }
 
 #[test]
-fn without_memory_a_packet_and_a_pack_are_written(rt: HostRuntime) -> Result<(), Fail> {
-    let (packet, _) = read_packet(&M)?;
-    assert!(rt; is_written(rt.alloc(), &packet, &M[..108]));
-    let pack = PartitionPack::read(&packet.key(), packet.value())?;
-    assert!(rt; is_written(rt.alloc(), &pack, header_value()));
-    Ok(())
+fn without_memory_a_packet_and_a_pack_are_written(rt: HostRuntime) {
+    assert!(rt; pack_is_written(rt.alloc()) == Some(true));
 }
 
 /// What is ahead of the notes in a file of this version, whose number of notes is eight bytes FF.
@@ -159,12 +175,17 @@ fn start_of_many(version: u8) -> [u8; 16] {
     ]
 }
 
+/// Whether a number of notes alone is refused.
+fn number_is_refused(alloc: Global, version: u8) -> bool {
+    match Catalogue::read(alloc, &start_of_many(version)) {
+        Ok(_) => false,
+        Err(fault) => fault == FileFault::Truncated(16),
+    }
+}
+
 #[test]
 fn without_memory_a_number_of_notes_alone_is_refused(rt: HostRuntime) {
-    for version in [1, 2] {
-        let read = Catalogue::read(rt.alloc(), &start_of_many(version));
-        assert_eq!(rt; read.err(), Some(FileFault::Truncated(16)));
-    }
+    assert!(rt; number_is_refused(rt.alloc(), 1) && number_is_refused(rt.alloc(), 2));
 }
 
 /// Whether units are located, where the segment can be noted.
@@ -178,34 +199,26 @@ fn units_are_located(alloc: Global, views: &mut Views) -> bool {
 }
 
 #[test]
-fn without_memory_a_unit_is_located(rt: HostRuntime) -> Result<(), Fail> {
-    let located = units_are_located(rt.alloc(), &mut Views::new(rt.alloc()));
-    assert!(rt; located);
-    Ok(())
+fn without_memory_a_unit_is_located(rt: HostRuntime) {
+    assert!(rt; in_views(rt.alloc(), units_are_located));
 }
 
 /// Whether the copy of R is found with a set and its primer pack.
-fn has_its_sets(views: &Views) -> Result<bool, Fail> {
-    let preferred = views.preferred().ok_or("a preferred copy")?;
-    let set = views.sets(0).next().ok_or("a set")?;
-    let primer = views.primer_for(set).ok_or("a primer pack")?;
-    let labelled = primer.label(0x8001) == Some([0xAA; 16]);
+fn has_its_sets(views: &Views) -> Option<bool> {
+    let preferred = views.preferred()?;
+    let set = views.sets(0).next()?;
+    let labelled = views.primer_for(set)?.label(0x8001) == Some([0xAA; 16]);
     let found = views.find(0, Uuid::from_bytes([0x33; 16])) == Found::One(298);
     let copied = (preferred.partition, preferred.start) == (0, Some(108));
-    Ok(labelled && found && copied && views.copies().len() == 1)
+    Some(labelled && found && copied && views.copies().len() == 1)
 }
 
 /// Whether it is, where R can be noted.
-fn sets_are_found(alloc: Global, views: &mut Views) -> Result<bool, Fail> {
-    if absorb(alloc, views, 0, &R).is_err() {
-        return Ok(true);
-    }
-    has_its_sets(views)
+fn sets_are_found(alloc: Global, views: &mut Views) -> bool {
+    absorb(alloc, views, 0, &R).is_err() || has_its_sets(views) == Some(true)
 }
 
 #[test]
-fn without_memory_sets_are_found(rt: HostRuntime) -> Result<(), Fail> {
-    let found = sets_are_found(rt.alloc(), &mut Views::new(rt.alloc()));
-    assert!(rt; found?);
-    Ok(())
+fn without_memory_sets_are_found(rt: HostRuntime) {
+    assert!(rt; in_views(rt.alloc(), sets_are_found));
 }
