@@ -88,10 +88,24 @@ impl Map {
         ensures { IfOk result (λ m. IsMap views.now cells m) }
     {
         let layers = Layers::of(alloc, Holdings::of(alloc, views)?)?;
+        Map::of_layers(alloc, views, &layers, cells)
+    }
+
+    /// The same by what may lie in a cell.
+    fn of_layers(
+        alloc: Global,
+        views: &Views,
+        layers: &Layers<'_>,
+        cells: u64,
+    ) -> Result<Map, OutOfMemory>
+        requires cells { 1 ≤ cells }
+        requires layers { layers.now ≡ views.now }
+        ensures { IfOk result (λ m. IsMap views.now cells m) }
+    {
         let end = layers.end();
         let cell = cell_size(end, cells);
         let gaps = gaps_below(alloc, layers.holdings(), end)?;
-        let marks = marks(alloc, &layers, cell, end)?;
+        let marks = marks(alloc, layers, cell, end)?;
         Ok(Map {
             end,
             held: held_bytes(views.catalogue()),

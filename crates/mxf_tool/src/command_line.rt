@@ -1,4 +1,5 @@
 //! The command line.
+use clap::builder::ValueParser;
 use clap::{Arg, ArgAction, ArgMatches, Command, value_parser};
 use mxf_lines::{Ask, Form, Grid, UnitRange};
 use std::alloc::{AllocError, Global};
@@ -109,62 +110,87 @@ Example: mxf_tool join --out clip.cat at:0:front.bin cat:earlier.cat";
 
 /// The program's command with its subcommands.
 pub fn command<'a>(alloc: Global) -> Result<Command<'a>, AllocError> {
-    let show = Command::new(alloc, "show")
-        .about("Prints what the sources hold together")
-        .after_help(SHOW_HELP);
-    let check = Command::new(alloc, "check")
-        .about("Prints what is wrong or missing in what the sources hold together")
-        .after_help(CHECK_HELP);
-    let locate = Command::new(alloc, "locate")
-        .about("Prints where an edit unit begins in its essence stream")
-        .after_help(LOCATE_HELP)
-        .arg(index(alloc))?
-        .arg(unit(alloc))?;
-    let units = Command::new(alloc, "units")
-        .about("Prints where edit units lie in the file, and which of them are held")
-        .after_help(UNITS_HELP)
-        .arg(only_index(alloc))?
-        .arg(from(alloc))?
-        .arg(to(alloc))?;
-    let plan = Command::new(alloc, "plan")
-        .about("Prints which bytes to restore next, what helps most first")
-        .after_help(PLAN_HELP);
-    let map = Command::new(alloc, "map")
-        .about("Prints what is held of the recording, as a picture")
-        .after_help(MAP_HELP)
-        .arg(columns(alloc))?
-        .arg(rows(alloc))?;
-    Command::new(alloc, "mxf_tool")
+    let tool = Command::new(alloc, "mxf_tool")
         .about("Prints and keeps the structure of MXF files, or of parts of them")
         .version("1.0.0")
         .after_help(HELP)
         .subcommand_required(true)
-        .arg_required_else_help(true)
-        .subcommand(with_sources(alloc, show)?)?
-        .subcommand(with_sources(alloc, check)?)?
-        .subcommand(with_sources(alloc, locate)?)?
-        .subcommand(with_sources(alloc, units)?)?
-        .subcommand(with_sources(alloc, plan)?)?
-        .subcommand(with_sources(alloc, map)?)?
-        .subcommand(join(alloc)?)
+        .arg_required_else_help(true);
+    let tool = with(Ok(tool), show(alloc));
+    let tool = with(tool, check(alloc));
+    let tool = with(tool, locate(alloc));
+    let tool = with(tool, units(alloc));
+    let tool = with(tool, plan(alloc));
+    let tool = with(tool, map(alloc));
+    with(tool, join(alloc))
+}
+
+/// The command with a subcommand, where there was memory for both.
+fn with<'a>(
+    command: Result<Command<'a>, AllocError>,
+    subcommand: Result<Command<'a>, AllocError>,
+) -> Result<Command<'a>, AllocError> {
+    command?.subcommand(subcommand?)
+}
+
+/// The subcommand of that name, with what its help says and ends with.
+fn named<'a>(alloc: Global, name: &'a str, about: &'a str, help: &'a str) -> Command<'a> {
+    Command::new(alloc, name).about(about).after_help(help)
+}
+
+fn show<'a>(alloc: Global) -> Result<Command<'a>, AllocError> {
+    let about = "Prints what the sources hold together";
+    with_sources(alloc, named(alloc, "show", about, SHOW_HELP))
+}
+
+fn check<'a>(alloc: Global) -> Result<Command<'a>, AllocError> {
+    let about = "Prints what is wrong or missing in what the sources hold together";
+    with_sources(alloc, named(alloc, "check", about, CHECK_HELP))
+}
+
+fn locate<'a>(alloc: Global) -> Result<Command<'a>, AllocError> {
+    let about = "Prints where an edit unit begins in its essence stream";
+    let locate = named(alloc, "locate", about, LOCATE_HELP);
+    with_sources(alloc, with_args(locate, index(alloc), unit(alloc))?)
+}
+
+fn units<'a>(alloc: Global) -> Result<Command<'a>, AllocError> {
+    let about = "Prints where edit units lie in the file, and which of them are held";
+    let units = named(alloc, "units", about, UNITS_HELP).arg(only_index(alloc))?;
+    with_sources(alloc, with_args(units, from(alloc), to(alloc))?)
+}
+
+fn plan<'a>(alloc: Global) -> Result<Command<'a>, AllocError> {
+    let about = "Prints which bytes to restore next, what helps most first";
+    with_sources(alloc, named(alloc, "plan", about, PLAN_HELP))
+}
+
+fn map<'a>(alloc: Global) -> Result<Command<'a>, AllocError> {
+    let about = "Prints what is held of the recording, as a picture";
+    let map = named(alloc, "map", about, MAP_HELP);
+    with_sources(alloc, with_args(map, columns(alloc), rows(alloc))?)
 }
 
 /// The subcommand that saves.
 fn join<'a>(alloc: Global) -> Result<Command<'a>, AllocError> {
-    let join = Command::new(alloc, "join")
-        .about("Writes the catalogue of what the sources hold together to a file")
-        .after_help(JOIN_HELP)
-        .arg(out(alloc))?
-        .arg(strict(alloc))?;
-    with_sources(alloc, join)
+    let about = "Writes the catalogue of what the sources hold together to a file";
+    let join = named(alloc, "join", about, JOIN_HELP);
+    with_sources(alloc, with_args(join, out(alloc), strict(alloc))?)
 }
 
 /// The command with its sources and the form of its lines.
 fn with_sources<'a>(alloc: Global, command: Command<'a>) -> Result<Command<'a>, AllocError> {
-    command
-        .arg(sources(alloc)?)?
-        .arg(list(alloc))?
-        .arg(json(alloc))
+    let command = command.arg(sources(alloc)?)?;
+    with_args(command, list(alloc), json(alloc))
+}
+
+/// The command with two arguments more.
+fn with_args<'a>(
+    command: Command<'a>,
+    first: Arg<'a>,
+    second: Arg<'a>,
+) -> Result<Command<'a>, AllocError> {
+    command.arg(first)?.arg(second)
 }
 
 fn sources<'a>(alloc: Global) -> Result<Arg<'a>, AllocError> {
@@ -175,106 +201,93 @@ fn sources<'a>(alloc: Global) -> Result<Arg<'a>, AllocError> {
         .required_unless_present("sources")
 }
 
-fn list<'a>(alloc: Global) -> Arg<'a> {
-    Arg::new(alloc, "sources")
-        .long("sources")
-        .value_name("FILE")
+/// The option of that name, with what its help calls its value and says of it.
+fn option<'a>(alloc: Global, name: &'a str, value: &'a str, help: &'a str) -> Arg<'a> {
+    Arg::new(alloc, name)
+        .long(name)
+        .value_name(value)
         .action(ArgAction::Set)
-        .help("A file with further sources, one a line; - is standard input")
+        .help(help)
+}
+
+/// The option of that name whose value is a number.
+fn number<'a>(alloc: Global, name: &'a str, parser: ValueParser<'a>, help: &'a str) -> Arg<'a> {
+    option(alloc, name, "N", help).value_parser(parser)
+}
+
+/// The option of that name that has no value.
+fn flag<'a>(alloc: Global, name: &'a str, help: &'a str) -> Arg<'a> {
+    Arg::new(alloc, name)
+        .long(name)
+        .action(ArgAction::SetTrue)
+        .help(help)
+}
+
+fn list<'a>(alloc: Global) -> Arg<'a> {
+    let help = "A file with further sources, one a line; - is standard input";
+    option(alloc, "sources", "FILE", help)
 }
 
 fn json<'a>(alloc: Global) -> Arg<'a> {
-    Arg::new(alloc, "json")
-        .long("json")
-        .action(ArgAction::SetTrue)
-        .help("Prints each line as a JSON object")
+    flag(alloc, "json", "Prints each line as a JSON object")
 }
 
 fn strict<'a>(alloc: Global) -> Arg<'a> {
-    Arg::new(alloc, "strict")
-        .long("strict")
-        .action(ArgAction::SetTrue)
-        .help(
-            "Ends with status 1 where a piece ends neither with a packet nor with one that is cut",
-        )
+    let help =
+        "Ends with status 1 where a piece ends neither with a packet nor with one that is cut";
+    flag(alloc, "strict", help)
 }
 
 fn index<'a>(alloc: Global) -> Arg<'a> {
-    Arg::new(alloc, "index")
-        .long("index")
-        .value_name("N")
-        .required(true)
-        .action(ArgAction::Set)
-        .value_parser(value_parser!(u32))
-        .help("The IndexSID of the index table")
+    let help = "The IndexSID of the index table";
+    number(alloc, "index", value_parser!(u32), help).required(true)
 }
 
 fn only_index<'a>(alloc: Global) -> Arg<'a> {
-    Arg::new(alloc, "index")
-        .long("index")
-        .value_name("N")
-        .action(ArgAction::Set)
-        .value_parser(value_parser!(u32))
-        .help("The IndexSID of the index table; may be left out where only one is held")
+    let help = "The IndexSID of the index table; may be left out where only one is held";
+    number(alloc, "index", value_parser!(u32), help)
 }
 
 fn from<'a>(alloc: Global) -> Arg<'a> {
-    Arg::new(alloc, "from")
-        .long("from")
-        .value_name("N")
-        .required(true)
-        .action(ArgAction::Set)
-        .value_parser(value_parser!(u64).range(0..=i64::MAX))
-        .help("The first edit unit, counted from 0 as they are stored")
+    edit_unit(
+        alloc,
+        "from",
+        "The first edit unit, counted from 0 as they are stored",
+    )
 }
 
 fn to<'a>(alloc: Global) -> Arg<'a> {
-    Arg::new(alloc, "to")
-        .long("to")
-        .value_name("N")
-        .required(true)
-        .action(ArgAction::Set)
-        .value_parser(value_parser!(u64).range(0..=i64::MAX))
-        .help("The last edit unit, at most 999999 behind the first")
+    edit_unit(
+        alloc,
+        "to",
+        "The last edit unit, at most 999999 behind the first",
+    )
 }
 
 fn unit<'a>(alloc: Global) -> Arg<'a> {
-    Arg::new(alloc, "unit")
-        .long("unit")
-        .value_name("N")
-        .required(true)
-        .action(ArgAction::Set)
-        .value_parser(value_parser!(u64).range(0..=i64::MAX))
-        .help("The edit unit, counted from 0")
+    edit_unit(alloc, "unit", "The edit unit, counted from 0")
+}
+
+/// The option of that name that names an edit unit.
+fn edit_unit<'a>(alloc: Global, name: &'a str, help: &'a str) -> Arg<'a> {
+    let parser = value_parser!(u64).range(0..=i64::MAX);
+    number(alloc, name, parser, help).required(true)
 }
 
 fn columns<'a>(alloc: Global) -> Arg<'a> {
-    Arg::new(alloc, "columns")
-        .long("columns")
-        .value_name("N")
-        .action(ArgAction::Set)
-        .value_parser(value_parser!(u32).range(1..=1000))
-        .help("How many cells a row has, 1 to 1000; 64 where it isn't given")
+    let help = "How many cells a row has, 1 to 1000; 64 where it isn't given";
+    number(alloc, "columns", value_parser!(u32).range(1..=1000), help)
 }
 
 fn rows<'a>(alloc: Global) -> Arg<'a> {
-    Arg::new(alloc, "rows")
-        .long("rows")
-        .value_name("N")
-        .action(ArgAction::Set)
-        .value_parser(value_parser!(u32).range(1..=1000))
-        .help("How many rows there are at most, 1 to 1000; 16 where it isn't given")
+    let help = "How many rows there are at most, 1 to 1000; 16 where it isn't given";
+    number(alloc, "rows", value_parser!(u32).range(1..=1000), help)
 }
 
 fn out<'a>(alloc: Global) -> Arg<'a> {
-    Arg::new(alloc, "out")
-        .long("out")
-        .value_name("PATH")
-        .required(true)
-        .action(ArgAction::Set)
-        .help(
-            "The file to write: replaced whole or, at a fault, left as it was; not standard output, nor a recording",
-        )
+    let help =
+        "The file to write: replaced whole or, at a fault, left as it was; not standard output, nor a recording";
+    option(alloc, "out", "PATH", help).required(true)
 }
 
 /// What the matches ask for, or `None` where they are of another command.

@@ -44,16 +44,28 @@ pub fn run<R: System>(rt: &R, screen: Screen) -> Exit {
         Ok(arguments) => arguments,
         Err(_) => return tell(rt, screen, &RunFault::OutOfMemory),
     };
+    run_on(rt, screen, arguments.as_slice())
+}
+
+/// Runs the program on these arguments.
+fn run_on<R: System>(rt: &R, screen: Screen, arguments: &[String]) -> Exit {
     let Ok(command) = command(rt.alloc()) else {
         return tell(rt, screen, &RunFault::OutOfMemory);
     };
-    match command.try_get_matches_from(arguments.as_slice()) {
-        Ok(matches) => match (refused_number(&matches), request_of(&matches)) {
-            (Some(fault), _) => tell(rt, screen, &fault),
-            (None, Some(request)) => perform(rt, screen, &request),
-            (None, None) => Exit::Usage,
-        },
+    match command.try_get_matches_from(arguments) {
+        Ok(matches) => matched(rt, screen, &matches),
         Err(refusal) => refused(rt, screen, &refusal),
+    }
+}
+
+/// Does what arguments ask for that `clap` took.
+fn matched<R: System>(rt: &R, screen: Screen, matches: &ArgMatches<'_>) -> Exit {
+    if let Some(fault) = refused_number(matches) {
+        return tell(rt, screen, &fault);
+    }
+    match request_of(matches) {
+        Some(request) => perform(rt, screen, &request),
+        None => Exit::Usage,
     }
 }
 
@@ -102,21 +114,34 @@ fn refused<R: System>(rt: &R, screen: Screen, refusal: &clap::Error) -> Exit {
 
 /// Does what is asked for, and tells a fault.
 fn perform<R: System>(rt: &R, screen: Screen, request: &Request<'_, '_>) -> Exit {
-    let list = match read_list(rt, request.list) {
-        Ok(list) => list,
-        Err(fault) => return tell(rt, screen, &fault),
-    };
+    match read_list(rt, request.list) {
+        Ok(list) => perform_with(rt, screen, request, &list),
+        Err(fault) => tell(rt, screen, &fault),
+    }
+}
+
+/// Does what is asked for where the list has these bytes, and tells a fault.
+fn perform_with<R: System>(rt: &R, screen: Screen, request: &Request<'_, '_>, list: &[u8]) -> Exit {
     let path = request.list.unwrap_or("");
-    let sources = match sources_of(rt.alloc(), request.words, path, &list) {
-        Ok(sources) => sources,
-        Err(fault) => return tell(rt, screen, &fault),
-    };
+    match sources_of(rt.alloc(), request.words, path, list) {
+        Ok(sources) => perform_on(rt, screen, request, &sources),
+        Err(fault) => tell(rt, screen, &fault),
+    }
+}
+
+/// Does what is asked for with these sources, and tells a fault.
+fn perform_on<R: System>(
+    rt: &R,
+    screen: Screen,
+    request: &Request<'_, '_>,
+    sources: &[Source<'_>],
+) -> Exit {
     let form = request.form;
     let done = match request.task {
-        Task::Tell(ask) => print_told(rt, screen, Asked::Answer(ask), form, &sources),
-        Task::Picture(grid) => print_told(rt, screen, Asked::Picture(grid), form, &sources),
-        Task::Units { index, range } => print_units(rt, screen, index, range, form, &sources),
-        Task::Join { out, is_strict } => print_joined(rt, screen, out, is_strict, form, &sources),
+        Task::Tell(ask) => print_told(rt, screen, Asked::Answer(ask), form, sources),
+        Task::Picture(grid) => print_told(rt, screen, Asked::Picture(grid), form, sources),
+        Task::Units { index, range } => print_units(rt, screen, index, range, form, sources),
+        Task::Join { out, is_strict } => print_joined(rt, screen, out, is_strict, form, sources),
     };
     match done {
         Ok(exit) => exit,
@@ -133,8 +158,20 @@ fn print_told<'a, R: System>(
     sources: &[Source<'a>],
 ) -> Result<Exit, RunFault<'a>> {
     let gathered = gather_sources(rt, screen, sources)?;
-    let exit = print_answer(rt, asked, form, &gathered)?;
-    told(rt, screen, sources, &gathered, false, exit)
+    print_of(rt, screen, asked, form, sources, &gathered)
+}
+
+/// Prints what is asked of what was gathered of the sources.
+fn print_of<'a, R: System>(
+    rt: &R,
+    screen: Screen,
+    asked: Asked,
+    form: Form,
+    sources: &[Source<'_>],
+    gathered: &Gathered,
+) -> Result<Exit, RunFault<'a>> {
+    let exit = print_answer(rt, asked, form, gathered)?;
+    told(rt, screen, sources, gathered, false, exit)
 }
 
 /// Prints where edit units lie by what the sources hold together.
@@ -147,17 +184,25 @@ fn print_units<'a, R: System>(
     sources: &[Source<'a>],
 ) -> Result<Exit, RunFault<'a>> {
     let gathered = gather_sources(rt, screen, sources)?;
+    print_units_of(rt, screen, index, range, form, sources, &gathered)
+}
+
+/// Prints where edit units lie by what was gathered of the sources.
+fn print_units_of<'a, R: System>(
+    rt: &R,
+    screen: Screen,
+    index: Option<u32>,
+    range: UnitRange,
+    form: Form,
+    sources: &[Source<'_>],
+    gathered: &Gathered,
+) -> Result<Exit, RunFault<'a>> {
     let index = match index {
         Some(index) => index,
         None => only_index(rt.alloc(), &gathered.views)?,
     };
-    let exit = print_answer(
-        rt,
-        Asked::Answer(Ask::Units { index, range }),
-        form,
-        &gathered,
-    )?;
-    told(rt, screen, sources, &gathered, false, exit)
+    let asked = Asked::Answer(Ask::Units { index, range });
+    print_of(rt, screen, asked, form, sources, gathered)
 }
 
 /// The IndexSID of the only index that is held.
@@ -184,9 +229,21 @@ fn print_joined<'a, R: System>(
     sources: &[Source<'a>],
 ) -> Result<Exit, RunFault<'a>> {
     let gathered = join(rt, screen, out, sources)?;
-    let exit = print_answer(rt, Asked::Answer(Ask::Join), form, &gathered)?;
+    print_saved(rt, screen, is_strict, form, sources, &gathered)
+}
+
+/// Prints how many notes the catalogue has that was saved of what was gathered of the sources.
+fn print_saved<'a, R: System>(
+    rt: &R,
+    screen: Screen,
+    is_strict: bool,
+    form: Form,
+    sources: &[Source<'_>],
+    gathered: &Gathered,
+) -> Result<Exit, RunFault<'a>> {
+    let exit = print_answer(rt, Asked::Answer(Ask::Join), form, gathered)?;
     let exit = exit.of_join(is_strict, gathered.reports.as_slice());
-    told(rt, screen, sources, &gathered, true, exit)
+    told(rt, screen, sources, gathered, true, exit)
 }
 
 /// Writes the catalogue of what the sources hold together. Its place is held before the first source is opened.
@@ -201,10 +258,20 @@ fn join<'a, R: System>(
         Ok(true) => return Err(RunFault::BadOutput { path: out }),
         Err(fault) => return Err(unsaved(out, SaveFault::from(fault))),
     }
-    let held = match Reservation::take(rt, out) {
-        Ok(held) => held,
-        Err(fault) => return Err(unsaved(out, fault)),
-    };
+    match Reservation::take(rt, out) {
+        Ok(held) => join_at(rt, screen, out, held, sources),
+        Err(fault) => Err(unsaved(out, fault)),
+    }
+}
+
+/// Writes the catalogue of what the sources hold together to a place that is held.
+fn join_at<'a, 'r, R: System>(
+    rt: &'r R,
+    screen: Screen,
+    out: &'a str,
+    held: Reservation<'r, R>,
+    sources: &[Source<'a>],
+) -> Result<Gathered, RunFault<'a>> {
     let gathered = gather_sources(rt, screen, sources)?;
     match held.save(rt, gathered.views.catalogue()) {
         Ok(()) => Ok(gathered),
