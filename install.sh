@@ -1,8 +1,8 @@
 #!/usr/bin/env bash
 # Installs the program, its man page and its completion for bash: install.sh [--from FOLDER] [PREFIX], by default below
 # /usr/local. With --from they are those of a folder that packaging/release made, whose sums are checked; the kit isn't
-# needed then. Without it the program is proved and built first where it isn't yet. What stands there under these names is
-# replaced.
+# needed then. Without it the program is proved and built first where it isn't yet. What stands there under these names
+# is replaced.
 set -eu
 unset CDPATH
 top=$(cd "$(dirname "${BASH_SOURCE[0]}")" && pwd)
@@ -21,7 +21,10 @@ if [ $# -gt 1 ] || [ -z "$prefix" ] || [ "${prefix#-}" != "$prefix" ]; then
   exit 2
 fi
 if [ -n "$from" ]; then
-  (cd "$from" && sha256sum --check --strict --quiet SHA256SUMS) || { echo "install.sh: $from isn't as it was made" >&2; exit 1; }
+  if ! (cd "$from" && sha256sum --check --strict --quiet SHA256SUMS); then
+    echo "install.sh: $from isn't as it was made" >&2
+    exit 1
+  fi
   program=$from/mxf_tool
   # Where the C library is another one, the program that has its own is taken.
   "$program" --version >/dev/null 2>&1 || program=$from/mxf_tool.static
