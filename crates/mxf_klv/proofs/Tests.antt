@@ -1,7 +1,7 @@
 -- Tests, what is there or not, and orderings.
 use Rattle.std.proofs.Common.{◌≡◌, ◌≢◌, ◌↔◌, ◌⊎◌, ◌&&◌, ◌||◌, ◌==◌, ◌<◌, ◌≤◌, ℕ, Bool, true, false, cond, not, IsTrue}
 use Rattle.std.proofs.Common.{Option, Some, None}
-use Rattle.std.proofs.Common.{is_none, is_some, option_map, refl, sym, ap, subst, inl, inr, arith, eqb-true, eq-eqb}
+use Rattle.std.proofs.Common.{is_none, is_some, option_map, refl, sym, subst, inl, inr, arith, eqb-true, eq-eqb}
 use Rattle.std.proofs.Common.{Ordering, Less, Equal, Greater, is_lt, nat_cmp, nat_lt}
 use Rattle.std.specs.Ordering.{ordering_then}
 use Rattle.std.proofs.lemmas.Bool.{ltb-true, ltb-false, lt-ltb, or_left, or_right}

@@ -1,6 +1,7 @@
--- Loops over a list that push what a function answers of each item: what they hold so far, with what the function answers
--- of the items to come, stays the same.
-use Rattle.std.proofs.Common.{◌≡◌, ◌∙◌, ◌<◌, ◌+◌, ◌++◌, ◌∷◌, [], ℕ, List, Option, None, Some, ap, append-nil, append_assoc}
+-- Loops over a list that push what a function answers of each item: what they hold so far, with what the function
+-- answers of the items to come, stays the same.
+use Rattle.std.proofs.Common.{◌≡◌, ◌∙◌, ◌<◌, ◌+◌, ◌++◌, ◌∷◌, [], ℕ, List, Option, None, Some, ap, append-nil}
+use Rattle.std.proofs.Common.{append_assoc}
 use Rattle.std.proofs.Common.{drop, filter_map, flat_map, get_or, length, sym}
 use Rattle.std.specs.List.{cons_option}
 use Rattle.std.proofs.lemmas.List.{at_drop_more}

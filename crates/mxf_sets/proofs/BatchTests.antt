@@ -4,9 +4,9 @@ use Rattle.byteorder.specs.Numbers.{big_from-take, big_from-lt}
 use Rattle.mxf_klv.specs.Bytes.{AreBytes}
 use Rattle.mxf_klv.proofs.RoundTrips.{AreBytes-take, AreBytes-drop}
 use Rattle.mxf_sets.proofs.Numbers.{number_in_front}
-use Rattle.std.proofs.Common.{◌≡◌, ℕ, ◌+◌, ◌*◌, ◌≤◌, ◌⊎◌, ◌++◌, inl, inr, Bool, true, false, List, length, length-drop}
+use Rattle.std.proofs.Common.{◌≡◌, ℕ, ◌+◌, ◌*◌, ◌≤◌, ◌⊎◌, ◌++◌, inl, inr, true, false, List, length, length-drop}
 use Rattle.std.proofs.Common.{take, drop, refl, ap, ◌∙◌, sym, arith, eq-eqb, eqb-true, le-leb, leb-true}
-use Rattle.std.specs.Prelude.{nat_le, ◌==◌, ◌&&◌, ◌||◌}
+use Rattle.std.specs.Prelude.{nat_le, ◌==◌, ◌||◌}
 use Rattle.byteorder.specs.Endian.{big_number}
 use Rattle.std.specs.Prelude.{Result, Ok, Err, is_ok}
 use Rattle.mxf_sets.specs.declared.batch.BatchFault.{BatchFault}

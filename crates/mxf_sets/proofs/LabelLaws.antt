@@ -1,8 +1,8 @@
 -- The labels of a tag among the items of a batch.
-use Rattle.std.proofs.Common.{◌≡◌, ℕ, zero, suc, ◌+◌, ◌*◌, ◌<◌, ◌↔◌, List, [], ◌∷◌, Bool, true, false, cond, length}
+use Rattle.std.proofs.Common.{◌≡◌, ℕ, zero, suc, ◌+◌, ◌*◌, ◌<◌, ◌↔◌, List, [], ◌∷◌, true, false, cond, length}
 use Rattle.std.proofs.Common.{take, drop, Option, None, Some, refl, sym, ap, subst, ◌∙◌, arith, inl, inr, eq-eqb}
 use Rattle.std.proofs.Common.{eqb-true, zero-mul}
-use Rattle.std.specs.Prelude.{◌==◌, ◌&&◌, filter, map, MatchOption}
+use Rattle.std.specs.Prelude.{◌==◌, filter, map, MatchOption}
 use Rattle.std.specs.List.{AllByRecursion, list_all}
 use Rattle.std.specs.Str.{bytes_eq}
 use Rattle.std.proofs.lemmas.List.{drop-drop, length-drop, length-take}

@@ -1,14 +1,14 @@
 -- The bytes of a segment by the parts that are written.
 use Rattle.std.proofs.Common.{◌≡◌, ℕ, ◌+◌, ◌/◌, ◌<◌, Bool, cond, List, [], ◌∷◌, ◌++◌, length, ◌≤◌, lt-ltb, le-ltb, refl}
-use Rattle.std.proofs.Common.{ap, ◌∙◌, sym, subst, arith, length-append, append-nil, get_or, suc, zero}
+use Rattle.std.proofs.Common.{ap, ◌∙◌, sym, subst, length-append, append-nil}
 use Rattle.std.specs.Int.{w16, w32, w64, cast_unsigned, to_be_bytes}
-use Rattle.std.specs.List.{flat_map, AllByRecursion}
+use Rattle.std.specs.List.{flat_map}
 use Rattle.std.proofs.lemmas.Grind.{flat_map-append}
 use Rattle.byteorder.specs.Endian.{big_bytes}
 use Rattle.mxf_sets.specs.declared.segment.numbers.SegmentNumbers.{SegmentNumbers}
 use Rattle.mxf_sets.specs.declared.segment.numbers.TheConstants.{EDIT_RATE, START, DURATION, UNIT_BYTES, INDEX_SID}
 use Rattle.mxf_sets.specs.declared.segment.numbers.TheConstants.{BODY_SID, SLICES, POSITIONS, ENTRIES}
-use Rattle.mxf_sets.specs.Items.{item, ItemParts, IsItem, item_bytes}
+use Rattle.mxf_sets.specs.Items.{item, item_bytes}
 use Rattle.mxf_sets.specs.Segment.{SegmentParts, entry_count, entry_item, entry_items, entry_size, number_items}
 use Rattle.mxf_sets.specs.Segment.{segment_bytes}
 

@@ -11,7 +11,8 @@ loop-piece-preserved c =
     let here = c.loop-piece-test.true in
     elim c.match-order_of.branch [
       | in-Some+in_ok-push w ↦
-          pushed-step f c.args.pieces.now c.loop-piece.piece-index _ so_far _ _ w.in-Some.order here (sym w.in-Some.ensures)
+          pushed-step f c.args.pieces.now c.loop-piece.piece-index _ so_far _ _ w.in-Some.order here
+          (sym w.in-Some.ensures)
           (ap (λ v. v.items) w.orders-is ∙ w.in_ok-push.ensures.items) c.loop-piece.invariant
       | in_default w ↦
           passed-step f c.args.pieces.now c.loop-piece.piece-index _ so_far _ _ here (sym w.in_default.ensures)

@@ -11,7 +11,8 @@ loop-claim-preserved c =
     let here = c.loop-claim-test.true in
     elim c.match-free_cut.branch [
       | in-Some+in_ok-push w ↦
-          pushed-step f c.args.claims.now c.loop-claim.claim-index _ so_far _ _ w.in-Some.cut here (sym w.in-Some.ensures)
+          pushed-step f c.args.claims.now c.loop-claim.claim-index _ so_far _ _ w.in-Some.cut here
+          (sym w.in-Some.ensures)
           (ap (λ v. v.items) w.cuts-is ∙ w.in_ok-push.ensures.items) c.loop-claim.invariant
       | in_default w ↦
           passed-step f c.args.claims.now c.loop-claim.claim-index _ so_far _ _ here (sym w.in_default.ensures)

@@ -7,5 +7,5 @@ use Rattle.mxf_restore.proofs.piece.holes_below.Goals as goal
 
 pub returns : goal.returns
 returns c =
-    nothing_left (λ (gaps : List Run). map closed_hole (filter (λ gap. is_held c.args.holdings.now gap.end) gaps)) _ _ _ refl
-    c.in-None.ensures.steps.0 c.loop-gap.invariant
+    nothing_left (λ (gaps : List Run). map closed_hole (filter (λ gap. is_held c.args.holdings.now gap.end) gaps)) _ _ _
+    refl c.in-None.ensures.steps.0 c.loop-gap.invariant

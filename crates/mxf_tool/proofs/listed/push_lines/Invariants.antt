@@ -1,5 +1,5 @@
 -- The words so far, and the lines of the rest, are the words before and all lines.
-use Rattle.std.proofs.Common.{◌≡◌, ◌++◌, length, map, ℕ}
+use Rattle.std.proofs.Common.{◌≡◌, ◌++◌, length, map}
 use denote.Text.{Utf8}
 use denote.Shadow.{shadow}
 use Rattle.mxf_tool.specs.Lists.{naming_lines}

@@ -5,5 +5,5 @@ use Rattle.mxf_units.proofs.segments.segments_for.Goals as goal
 
 pub returns : goal.returns
 returns c =
-    nothing_left (λ (l : List SegmentAtParts). filter (λ s. s.segment.numbers.index_sid == c.args.index_sid) l) _ _ _ refl c.in-None.ensures.steps.0
-    c.loop-segment.invariant
+    nothing_left (λ (l : List SegmentAtParts). filter (λ s. s.segment.numbers.index_sid == c.args.index_sid) l) _ _ _
+    refl c.in-None.ensures.steps.0 c.loop-segment.invariant

@@ -5,5 +5,5 @@ use Rattle.mxf_units.proofs.units.index_sids_in.Goals as goal
 
 pub returns : goal.returns
 returns c =
-    nothing_left (λ (l : List SegmentAtParts). map (λ s. s.segment.numbers.index_sid) l) _ _ _ refl c.in-None.ensures.steps.0
-    c.loop-segment.invariant
+    nothing_left (λ (l : List SegmentAtParts). map (λ s. s.segment.numbers.index_sid) l) _ _ _ refl
+    c.in-None.ensures.steps.0 c.loop-segment.invariant

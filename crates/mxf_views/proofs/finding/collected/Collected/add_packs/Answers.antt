@@ -5,5 +5,6 @@ use Rattle.mxf_views.proofs.finding.collected.Collected.add_packs.Goals as goal
 pub returns : goal.returns
 returns c =
     sym (append-nil c.loop-note.self)
-    ∙ sym (ap (λ (l : List NoteParts). c.loop-note.self ++ map (finding F04) (map (λ n. n.offset) l)) c.in-None.ensures.steps.0)
+    ∙ sym (ap (λ (l : List NoteParts). c.loop-note.self ++ map (finding F04) (map (λ n. n.offset) l))
+    c.in-None.ensures.steps.0)
     ∙ c.loop-note.invariant
