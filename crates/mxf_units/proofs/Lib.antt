@@ -10,3 +10,4 @@ pub mod StandingZones
 pub mod StandingLaws
 pub mod NextLaws
 pub mod LimitLaws
+pub mod LastLaws

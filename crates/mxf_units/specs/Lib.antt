@@ -1,5 +1,6 @@
 pub mod Words
 pub mod Streams
+pub mod LastUnits
 pub mod EssenceZones
 pub mod Units
 pub mod Standings

@@ -9,6 +9,7 @@
 //! | Question | Call | Answer |
 //! |---|---|---|
 //! | Which indexes are there? | [`index_sids`] | the IndexSIDs of the segments, rising |
+//! | Up to which unit does one reach? | [`last_unit`] | the last unit to which a segment gives a place, if there is one |
 //! | Where does a unit lie, and is it held? | [`Units::of`], then [`Units::unit`] | [`EditUnit`]: its [`UnitStanding`],
 //! its [`Extent`], and what its index entry says |
 //!
@@ -20,7 +21,8 @@
 //! What is proved: each answer is its definition over the notes of the catalogue (`unit_of`, `index_sids_of`). The laws
 //! say more of these: [`standings_by_definition`], that each standing has its cause; [`held_units_are_held`], that of a
 //! unit which stands as held each byte is; [`next_by_definition`], [`first_packets_by_definition`] and
-//! [`limits_by_definition`], what next places, first packets and limits are.
+//! [`limits_by_definition`], what next places, first packets and limits are; [`one_last_unit`], that an index has one last
+//! unit at most.
 //!
 //! The units from `from` up to `to` of an index, whose bytes are all held:
 //!
@@ -38,6 +40,7 @@
 mod bounds;
 mod essence_zone;
 mod first_packet;
+mod last;
 mod location;
 mod segments;
 mod standing;
@@ -47,6 +50,7 @@ mod units;
 
 pub use essence_zone::limits_by_definition;
 pub use first_packet::first_packets_by_definition;
+pub use last::{last_unit, one_last_unit};
 pub use segments::next_by_definition;
 pub use standing::UnitStanding;
 pub use unit::{EditUnit, Extent};
