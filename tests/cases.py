@@ -20,11 +20,12 @@ A case is some lines of a text file in tests/cases. A number sign begins a comme
     show [WORD ..]                     what `show` prints, or those of its lines that begin with one of the words
         LINE
     check                              what `check` prints; `locate INDEX UNIT`, `units FROM TO [INDEX]`, `plan`,
-                                       `map COLUMNS ROWS` and `join` stand so too
+                                       `map COLUMNS ROWS` and `join` stand so too. A word `-` is left out
         LINE
     json show [WORD ..]                the same with `--json`; a WORD is the name of a line's form. Each command may
         LINE                           stand so
     status N                           the status of the command above, where it isn't 0
+    told LINE                          what it says on standard error, where it says something
 
 In a LINE `..` stands for any text, `<U+0080>` for that character, and a `$` at its end shows a space there. packets.py
 says how a PACKET is named. Each command is run on the pieces, and then on the catalogue that `join` saves of them: that
@@ -76,15 +77,17 @@ def with_characters(line):
 
 
 class Command:
-    """A command, the words that choose among its lines, the lines that are wanted, and its status."""
+    """A command, the words that choose among its lines, the lines that are wanted, what it tells, and its status."""
 
     def __init__(self, words, is_json):
         self.name = words[0]
         self.form = ["--json"] if is_json else []
         self.chosen = words[1:] if self.name == "show" else []
         options = OPTIONS.get(self.name, ())
-        self.arguments = [text for pair in zip(options, words[1:]) for text in pair]
+        given = [pair for pair in zip(options, words[1:]) if pair[1] != "-"]
+        self.arguments = [text for pair in given for text in pair]
         self.lines = []
+        self.told = ""
         self.status = 0
 
     def accepts(self, printed, lines):
@@ -195,6 +198,8 @@ def case_of(name, lines, files):
                 case.commands.append(Command(words, word == "json"))
             elif word == "status":
                 case.commands[-1].status = int(rest)
+            elif word == "told":
+                case.commands[-1].told = rest + "\n"
             else:
                 raise packets.Mistake("no such line")
         except (packets.Mistake, KeyError, IndexError, ValueError) as mistake:
@@ -304,7 +309,7 @@ class Run:
     def wrong_at(self, command, sources, wanted, status):
         arguments = ["--out", f"{self.folder}/joined"] if command.name == "join" else command.arguments
         printed, said, ended = self.call(command.name, command.form + arguments, sources)
-        if command.accepts(printed, wanted) and said == "" and ended == status:
+        if command.accepts(printed, wanted) and said == command.told and ended == status:
             return [] if command.form else self.wrong_in_json(command, arguments, sources, printed, status)
         heads = [f"  {command.name} {' '.join(sources)}: status {ended}, wanted {status}"]
         return heads + [f"  < {line}" for line in wanted] + [f"  > {line}" for line in printed + said.splitlines()]
@@ -317,7 +322,7 @@ class Run:
             texts, why = list(json_lines.texts_of(command.name, objects)), ""
         except ValueError as mistake:
             texts, why = objects, str(mistake)
-        if texts == printed and said == "" and ended == status:
+        if texts == printed and said == command.told and ended == status:
             return []
         heads = [f"  {command.name} --json {' '.join(sources)}: status {ended}, wanted {status} {why}"]
         return heads + [f"  < {line}" for line in printed] + [f"  > {line}" for line in texts + said.splitlines()]

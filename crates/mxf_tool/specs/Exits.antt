@@ -44,6 +44,8 @@ abbrev pub exit_of_run : RunFault → Exit
 exit_of_run runs.OutOfMemory = NoMemory
 exit_of_run (runs.Signed option text) = Usage
 exit_of_run (runs.BadLastUnit text) = Usage
+exit_of_run runs.NoLastUnit = Usage
+exit_of_run runs.TooManyUnits = Usage
 exit_of_run runs.NoIndex = Usage
 exit_of_run (runs.SeveralIndexes held) = Usage
 exit_of_run (runs.BadSource word) = Usage

@@ -1,3 +1,4 @@
+pub mod AskedUnits
 pub mod Beginnings
 pub mod Exits
 pub mod Lists

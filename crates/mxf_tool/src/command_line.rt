@@ -23,7 +23,7 @@ pub enum Task<'a> {
     /// To print where edit units lie, by the index of an IndexSID, or by the only one that is held.
     Units {
         index: Option<u32>,
-        range: UnitRange,
+        units: AskedUnits,
     },
     /// To write the catalogue to the file at `out`. A strict join ends with another status where a piece isn't noted
     /// whole.
@@ -31,6 +31,15 @@ pub enum Task<'a> {
         out: &'a str,
         is_strict: bool,
     },
+}
+
+/// The edit units that words ask for.
+#[derive(Clone, Copy, Debug)]
+pub enum AskedUnits {
+    /// These.
+    Range(UnitRange),
+    /// From this one up to the last of the index.
+    From(u64),
 }
 
 /// What the help of the program ends with.
@@ -76,6 +85,9 @@ A source SRC is one of
   at:OFFSET:PATH     a piece: the bytes of the file PATH, whose first byte lies at byte OFFSET of the recording
   range:OFFSET:PATH  the same where the first byte may lie inside a packet: it is read from the next one on
   cat:PATH           a catalogue that join wrote
+
+Without --from the first is unit 0, without --to the last is that of the index: the last to which a segment that is held
+gives a place. An index of units of one size has none where a segment states the duration 0.
 
 Example: mxf_tool units --from 250 --to 274 cat:clip.cat";
 
@@ -252,7 +264,7 @@ fn from<'a>(alloc: Global) -> Arg<'a> {
     edit_unit(
         alloc,
         "from",
-        "The first edit unit, counted from 0 as they are stored",
+        "The first edit unit, counted from 0 as they are stored; 0 where it isn't given",
     )
 }
 
@@ -260,18 +272,18 @@ fn to<'a>(alloc: Global) -> Arg<'a> {
     edit_unit(
         alloc,
         "to",
-        "The last edit unit, at most 999999 behind the first",
+        "The last edit unit, at most 999999 behind the first; the last of the index where it isn't given",
     )
 }
 
 fn unit<'a>(alloc: Global) -> Arg<'a> {
-    edit_unit(alloc, "unit", "The edit unit, counted from 0")
+    edit_unit(alloc, "unit", "The edit unit, counted from 0").required(true)
 }
 
 /// The option of that name that names an edit unit.
 fn edit_unit<'a>(alloc: Global, name: &'a str, help: &'a str) -> Arg<'a> {
     let parser = value_parser!(u64).range(0..=i64::MAX);
-    number(alloc, name, parser, help).required(true)
+    number(alloc, name, parser, help)
 }
 
 fn columns<'a>(alloc: Global) -> Arg<'a> {
@@ -321,7 +333,7 @@ fn task_of<'a>(name: &str, inner: &ArgMatches<'a>) -> Option<Task<'a>> {
         })),
         "units" => Some(Task::Units {
             index: inner.get_one("index"),
-            range: range_of(inner)?,
+            units: units_of(inner)?,
         }),
         "plan" => Some(Task::Tell(Ask::Plan)),
         "map" => Some(Task::Picture(Grid::new(
@@ -336,16 +348,20 @@ fn task_of<'a>(name: &str, inner: &ArgMatches<'a>) -> Option<Task<'a>> {
     }
 }
 
-/// The units that the matches of `units` name, where the last isn't below the first and there aren't too many.
-fn range_of(inner: &ArgMatches<'_>) -> Option<UnitRange> {
-    UnitRange::new(inner.get_one("from")?, inner.get_one("to")?)
+/// The units that matches ask for. None where they name a last one that is below the first or too far behind it.
+fn units_of(inner: &ArgMatches<'_>) -> Option<AskedUnits> {
+    let first = inner.get_one("from").unwrap_or(0);
+    match inner.get_one("to") {
+        Some(last) => Some(AskedUnits::Range(UnitRange::new(first, last)?)),
+        None => Some(AskedUnits::From(first)),
+    }
 }
 
 /// The last edit unit, where it is below the first or too far behind it.
 pub fn bad_last_unit<'a>(matches: &ArgMatches<'a>) -> Option<&'a str> {
     let (_, inner) = matches.subcommand()?;
     let last = inner.get_str("to")?;
-    match range_of(inner) {
+    match units_of(inner) {
         Some(_) => None,
         None => Some(last),
     }

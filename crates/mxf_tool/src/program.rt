@@ -4,9 +4,12 @@ mod hint;
 mod sources;
 mod stops;
 mod telling;
+mod unit_range;
 
 use crate::arguments::unreadable_argument;
-use crate::command_line::{Request, Task, bad_last_unit, command, request_of, signed_number};
+use crate::command_line::{
+    AskedUnits, Request, Task, bad_last_unit, command, request_of, signed_number,
+};
 use crate::exit::Exit;
 use crate::part::part_of;
 use crate::saving::{BUFFER_BYTES, Reservation, SaveFault, WatchedWriter, is_refused};
@@ -16,7 +19,7 @@ use crate::watching::{Screen, Watched};
 use clap::ArgMatches;
 use clap::error::ErrorKind;
 use fault::{IndexSids, RunFault};
-use mxf_lines::{AnswerFault, Ask, Form, Grid, UnitRange, answer, print_map};
+use mxf_lines::{AnswerFault, Ask, Form, Grid, answer, print_map};
 use mxf_read::{GatherFault, Gathered, Part, gather};
 use mxf_units::index_sids;
 use mxf_views::Views;
@@ -28,6 +31,7 @@ use std::rt::{Clock, Env, Files};
 use std::{env, io};
 use stops::tell_stops;
 use telling::tell;
+use unit_range::range_of;
 
 /// All that a run takes of the system.
 pub trait System: Files<File = File> + Clock + Env + Input + Print + Eprint + AllocGlobal {}
@@ -140,7 +144,7 @@ fn perform_on<R: System>(
     let done = match request.task {
         Task::Tell(ask) => print_told(rt, screen, Asked::Answer(ask), form, sources),
         Task::Picture(grid) => print_told(rt, screen, Asked::Picture(grid), form, sources),
-        Task::Units { index, range } => print_units(rt, screen, index, range, form, sources),
+        Task::Units { index, units } => print_units(rt, screen, index, units, form, sources),
         Task::Join { out, is_strict } => print_joined(rt, screen, out, is_strict, form, sources),
     };
     match done {
@@ -179,12 +183,12 @@ fn print_units<'a, R: System>(
     rt: &R,
     screen: Screen,
     index: Option<u32>,
-    range: UnitRange,
+    units: AskedUnits,
     form: Form,
     sources: &[Source<'a>],
 ) -> Result<Exit, RunFault<'a>> {
     let gathered = gather_sources(rt, screen, sources)?;
-    print_units_of(rt, screen, index, range, form, sources, &gathered)
+    print_units_of(rt, screen, index, units, form, sources, &gathered)
 }
 
 /// Prints where edit units lie by what was gathered of the sources.
@@ -192,7 +196,7 @@ fn print_units_of<'a, R: System>(
     rt: &R,
     screen: Screen,
     index: Option<u32>,
-    range: UnitRange,
+    units: AskedUnits,
     form: Form,
     sources: &[Source<'_>],
     gathered: &Gathered,
@@ -201,6 +205,7 @@ fn print_units_of<'a, R: System>(
         Some(index) => index,
         None => only_index(rt.alloc(), &gathered.views)?,
     };
+    let range = range_of(&gathered.views, index, units)?;
     let asked = Asked::Answer(Ask::Units { index, range });
     print_of(rt, screen, asked, form, sources, gathered)
 }

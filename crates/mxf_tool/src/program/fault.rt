@@ -48,6 +48,12 @@ pub enum RunFault<'a> {
     /// The edit unit is above the greatest.
     #[error("bad unit")]
     BadUnit,
+    /// No last edit unit is named, and the index has none, or it is below the first.
+    #[error("no last unit")]
+    NoLastUnit,
+    /// No last edit unit is named, and that of the index is 1,000,000 or more behind the first.
+    #[error("too many units")]
+    TooManyUnits,
     /// No index is named, and none is held.
     #[error("no index is held")]
     NoIndex,
@@ -105,6 +111,8 @@ impl RunFault<'_> {
             RunFault::OutOfMemory => Exit::NoMemory,
             RunFault::Signed { .. }
             | RunFault::BadLastUnit { .. }
+            | RunFault::NoLastUnit
+            | RunFault::TooManyUnits
             | RunFault::NoIndex
             | RunFault::SeveralIndexes { .. }
             | RunFault::BadSource { .. }
