@@ -2,5 +2,12 @@
 #![tactic(auto)]
 
 mod comparing;
+mod opposing;
+mod renewal;
 
 pub use comparing::contradictions_by_definition;
+pub use opposing::{Opposing, oppositions_by_definition};
+pub use renewal::{
+    DroppedNotes, Renewed, renew, renewals_by_definition, renewals_drop_what_was_read_anew,
+    renewals_have_what_was_read_anew, renewals_join_what_agrees,
+};
