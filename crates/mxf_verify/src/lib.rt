@@ -8,6 +8,6 @@ mod renewal;
 pub use comparing::contradictions_by_definition;
 pub use opposing::{Opposing, oppositions_by_definition};
 pub use renewal::{
-    DroppedNotes, Renewed, renew, renewals_by_definition, renewals_drop_what_was_read_anew,
-    renewals_have_what_was_read_anew, renewals_join_what_agrees,
+    DroppedNote, DroppedNotes, Renewed, renew, renewals_by_definition,
+    renewals_drop_what_was_read_anew, renewals_have_what_was_read_anew, renewals_join_what_agrees,
 };

@@ -13,10 +13,16 @@ use mxf_klv::{Note, OutOfMemory};
 use std::alloc::Global;
 use std::marker::Model;
 
+/// A note of an earlier catalogue that a renewal dropped.
+#[derive(Clone, Copy, Debug)]
+pub struct DroppedNote<'a> {
+    pub note: &'a Note,
+}
+
 /// The notes of an earlier catalogue that a renewal dropped, in their order.
 #[derive(Debug, Drop)]
 pub struct DroppedNotes<'a> {
-    items: Vec<&'a Note>,
+    items: Vec<DroppedNote<'a>>,
 }
 
 impl<'a> Model for DroppedNotes<'a> {
@@ -25,7 +31,7 @@ impl<'a> Model for DroppedNotes<'a> {
 
     ghost Value = { List NoteParts };
 
-    ghost view = { λ d. map (λ n. n.now) d.items.items };
+    ghost view = { λ d. map (λ n. n.note.now) d.items.items };
 }
 
 impl<'a> DroppedNotes<'a> {
@@ -42,7 +48,7 @@ impl<'a> DroppedNotes<'a> {
     fn push(&mut self, note: &'a Note) -> Result<(), OutOfMemory>
         ensures { OnOk result (self.new ≡ self.old ++ note.now ∷ []) }
     {
-        self.items.push(note)?;
+        self.items.push(DroppedNote { note })?;
         Ok(())
     }
 
@@ -54,8 +60,8 @@ impl<'a> DroppedNotes<'a> {
     }
 
     /// The notes.
-    pub fn as_slice(&self) -> &[&'a Note]
-        ensures { map (λ n. n.now) result.now ≡ self.now }
+    pub fn as_slice(&self) -> &[DroppedNote<'a>]
+        ensures { map (λ n. n.note.now) result.now ≡ self.now }
     {
         self.items.as_slice()
     }

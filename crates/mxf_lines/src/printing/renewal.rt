@@ -1,29 +1,25 @@
 //! What a renewal gave, and its lines.
-ghost use Rattle.std.specs.Prelude.{◌≡◌, ◌∷◌, [], flat_map, length, map};
+ghost use Rattle.std.specs.Prelude.{length};
 ghost use Rattle.mxf_catalogue.specs.Disputes.{disputed_notes};
 ghost use Rattle.mxf_klv.specs.Written.{Writes};
 ghost use Rattle.mxf_lines.specs.Printing.{Prints};
 ghost use Rattle.mxf_lines.specs.RenewalLines.{dropped_line, renewal_lines, renewed_line};
 
 use super::hexadecimal::LabelDigits;
-use super::lines::{Each, FieldWriter, Line, Lines, Printer, Series, Then};
+use super::lines::{Each, FieldWriter, Line, Lines, Printer, Then};
 use super::{AnswerFault, Form};
-use mxf_klv::Note;
-use mxf_verify::Renewed;
+use mxf_verify::{DroppedNote, Renewed};
 use std::alloc::{AllocError, Global};
 use std::io::Write;
 
 /// A note that was dropped: its offset in bytes, its kind, the width and value of its length, its key, and whether it is
 /// a head.
-#[derive(Clone, Copy)]
-struct DroppedLine<'a>(&'a Note);
-
-impl<'a> Line for DroppedLine<'a> {
-    ghost line = { λ l. dropped_line l.0.now };
+impl<'a> Line for DroppedNote<'a> {
+    ghost line = { λ d. dropped_line d.note.now };
 
     #[tactic(auto, unfolding(crate::specs::RenewalLines::dropped_line))]
     fn write_fields(&self, fields: &mut FieldWriter) -> Result<(), AllocError> {
-        let note = self.0;
+        let note = self.note;
         fields.begin("dropped", "dropped")?;
         fields.number(" ", "offset", note.offset())?;
         fields.word(" ", "kind", note.kind())?;
@@ -32,26 +28,6 @@ impl<'a> Line for DroppedLine<'a> {
         fields.word(" ", "key", LabelDigits(note.key().bytes()))?;
         fields.flag(" head", "head", note.is_head())?;
         fields.end("")
-    }
-}
-
-/// The lines of the dropped notes that are left.
-#[derive(Drop)]
-struct DroppedLines<'a> {
-    left: &'a [&'a Note],
-}
-
-impl<'a> Series for DroppedLines<'a> {
-    type Item = DroppedLine<'a>;
-
-    ghost lines_left = { λ s. flat_map (λ n. dropped_line n ∷ []) (map (λ n. n.now) s.left.now) };
-
-    ghost left = { λ s. length s.left.now };
-
-    fn next_item(&mut self) -> Option<DroppedLine<'a>> {
-        let (first, left) = self.left.split_first()?;
-        self.left = left;
-        Some(DroppedLine(*first))
     }
 }
 
@@ -74,6 +50,15 @@ impl<'a> Line for RenewedLine<'a> {
     }
 }
 
+/// A line for each note that was dropped, and the last.
+impl<'a> Lines for &'a Renewed<'a> {
+    ghost lines = { λ r. renewal_lines r.now.catalogue r.now.dropped };
+
+    fn print_to<W: Write>(self, printer: &mut Printer, writer: &mut W) -> Result<(), AnswerFault> {
+        Then(Each(self.dropped.as_slice()), RenewedLine(self)).print_to(printer, writer)
+    }
+}
+
 /// Prints what a renewal gave, in a form: a line for each note that was dropped, and the last.
 ///
 /// After want of memory some whole lines have been written; after a write fault the first bytes, which it counts.
@@ -87,8 +72,5 @@ pub fn print_renewed<W: Write>(
         (renewal_lines renewed.now.catalogue renewed.now.dropped) }
 {
     let mut printer = Printer::new(alloc, form);
-    let dropped = DroppedLines {
-        left: renewed.dropped.as_slice(),
-    };
-    Then(Each(dropped), RenewedLine(renewed)).print_to(&mut printer, writer)
+    renewed.print_to(&mut printer, writer)
 }
