@@ -10,6 +10,7 @@ pub mod Lines
 pub mod PartitionLines
 pub mod Printing
 pub mod ReferenceLines
+pub mod RenewalLines
 pub mod ShownText
 pub mod UnitLines
 pub mod Writing

@@ -17,6 +17,8 @@ mod pieces;
 #[cfg(test)]
 mod plans;
 #[cfg(test)]
+mod renewals;
+#[cfg(test)]
 mod unions;
 #[cfg(test)]
 mod units;

@@ -11,6 +11,8 @@ pub struct Request<'m, 'a> {
     pub form: Form,
     pub words: Option<&'m [&'a str]>,
     pub list: Option<&'a str>,
+    /// The words that name the earlier sources of a renewal.
+    pub earlier: Option<&'m [&'a str]>,
 }
 
 /// What is to be done.
@@ -28,6 +30,11 @@ pub enum Task<'a> {
     /// To write the catalogue to the file at `out`. A strict join ends with another status where a piece isn't noted
     /// whole.
     Join {
+        out: &'a str,
+        is_strict: bool,
+    },
+    /// To write the catalogue of earlier sources, renewed by the others, to the file at `out`; strict as a join is.
+    Renew {
         out: &'a str,
         is_strict: bool,
     },
@@ -120,6 +127,18 @@ const JOIN_HELP: &str = "A source SRC is one of
 
 Example: mxf_tool join --out clip.cat at:0:front.bin cat:earlier.cat";
 
+/// What the help of `renew` ends with.
+const RENEW_HELP: &str =
+    "What SRC.. hold is the newer: a packet of --old is dropped that one of SRC.. contradicts, since both hold a byte
+and differ. All others are kept. Each is printed that was dropped.
+
+A source SRC or SOURCE is one of
+  at:OFFSET:PATH     a piece: the bytes of the file PATH, whose first byte lies at byte OFFSET of the recording
+  range:OFFSET:PATH  the same where the first byte may lie inside a packet: it is read from the next one on
+  cat:PATH           a catalogue that join or renew wrote
+
+Example: mxf_tool renew --out new.cat --old cat:clip.cat at:0:clip.mxf";
+
 /// The program's command with its subcommands.
 pub fn command<'a>(alloc: Global) -> Result<Command<'a>, AllocError> {
     let tool = Command::new(alloc, "mxf_tool")
@@ -134,7 +153,8 @@ pub fn command<'a>(alloc: Global) -> Result<Command<'a>, AllocError> {
     let tool = with(tool, units(alloc));
     let tool = with(tool, plan(alloc));
     let tool = with(tool, map(alloc));
-    with(tool, join(alloc))
+    let tool = with(tool, join(alloc));
+    with(tool, renew(alloc))
 }
 
 /// The command with a subcommand, where there was memory for both.
@@ -183,11 +203,18 @@ fn map<'a>(alloc: Global) -> Result<Command<'a>, AllocError> {
     with_sources(alloc, with_args(map, columns(alloc), rows(alloc))?)
 }
 
-/// The subcommand that saves.
+/// The subcommand that saves what is joined.
 fn join<'a>(alloc: Global) -> Result<Command<'a>, AllocError> {
     let about = "Writes the catalogue of what the sources hold together to a file";
     let join = named(alloc, "join", about, JOIN_HELP);
     with_sources(alloc, with_args(join, out(alloc), strict(alloc))?)
+}
+
+/// The subcommand that saves what is renewed.
+fn renew<'a>(alloc: Global) -> Result<Command<'a>, AllocError> {
+    let about = "Writes a catalogue of earlier sources, renewed by newer ones, to a file";
+    let renew = named(alloc, "renew", about, RENEW_HELP).arg(out(alloc))?;
+    with_sources(alloc, with_args(renew, old(alloc), strict(alloc))?)
 }
 
 /// The command with its sources and the form of its lines.
@@ -302,6 +329,13 @@ fn out<'a>(alloc: Global) -> Arg<'a> {
     option(alloc, "out", "PATH", help).required(true)
 }
 
+fn old<'a>(alloc: Global) -> Arg<'a> {
+    let help = "An earlier source, as SRC; it may be given more than once";
+    option(alloc, "old", "SOURCE", help)
+        .action(ArgAction::Append)
+        .required(true)
+}
+
 /// What the matches ask for, or `None` where they are of another command.
 pub fn request_of<'m, 'a>(matches: &'m ArgMatches<'a>) -> Option<Request<'m, 'a>> {
     let (name, inner) = matches.subcommand()?;
@@ -310,6 +344,7 @@ pub fn request_of<'m, 'a>(matches: &'m ArgMatches<'a>) -> Option<Request<'m, 'a>
         form: form_of(inner),
         words: inner.get_strs("SRC"),
         list: inner.get_str("sources"),
+        earlier: inner.get_strs("old"),
     })
 }
 
@@ -341,6 +376,10 @@ fn task_of<'a>(name: &str, inner: &ArgMatches<'a>) -> Option<Task<'a>> {
             inner.get_one("rows").unwrap_or(16),
         )?)),
         "join" => Some(Task::Join {
+            out: inner.get_str("out")?,
+            is_strict: inner.get_flag("strict"),
+        }),
+        "renew" => Some(Task::Renew {
             out: inner.get_str("out")?,
             is_strict: inner.get_flag("strict"),
         }),

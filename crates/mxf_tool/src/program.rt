@@ -1,6 +1,7 @@
 //! The run of the program: its arguments, its files, its lines, and its exit status.
 mod fault;
 mod hint;
+mod renewing;
 mod sources;
 mod stops;
 mod telling;
@@ -19,11 +20,13 @@ use crate::watching::{Screen, Watched};
 use clap::ArgMatches;
 use clap::error::ErrorKind;
 use fault::{IndexSids, RunFault};
-use mxf_lines::{AnswerFault, Ask, Form, Grid, answer, print_map};
-use mxf_read::{GatherFault, Gathered, Part, gather};
+use mxf_lines::{AnswerFault, Ask, Form, Grid, answer, print_map, print_renewed};
+use mxf_read::{GatherFault, Gathered, Part, PieceReport, gather};
 use mxf_units::index_sids;
+use mxf_verify::Renewed;
 use mxf_views::Views;
-use sources::{read_list, sources_of, unread};
+use renewing::{Renewal, print_renewal};
+use sources::{earlier_sources_of, read_list, sources_of, unread};
 use std::alloc::Global;
 use std::fs::{self, File};
 use std::io::{BufWriter, Input, Write};
@@ -126,18 +129,23 @@ fn perform<R: System>(rt: &R, screen: Screen, request: &Request<'_, '_>) -> Exit
 
 /// Does what is asked for where the list has these bytes, and tells a fault.
 fn perform_with<R: System>(rt: &R, screen: Screen, request: &Request<'_, '_>, list: &[u8]) -> Exit {
+    let earlier = match earlier_sources_of(rt.alloc(), request.earlier) {
+        Ok(earlier) => earlier,
+        Err(fault) => return tell(rt, screen, &fault),
+    };
     let path = request.list.unwrap_or("");
     match sources_of(rt.alloc(), request.words, path, list) {
-        Ok(sources) => perform_on(rt, screen, request, &sources),
+        Ok(sources) => perform_on(rt, screen, request, &earlier, &sources),
         Err(fault) => tell(rt, screen, &fault),
     }
 }
 
-/// Does what is asked for with these sources, and tells a fault.
+/// Does what is asked for with these sources, and the earlier ones of a renewal, and tells a fault.
 fn perform_on<R: System>(
     rt: &R,
     screen: Screen,
     request: &Request<'_, '_>,
+    earlier: &[Source<'_>],
     sources: &[Source<'_>],
 ) -> Exit {
     let form = request.form;
@@ -146,6 +154,16 @@ fn perform_on<R: System>(
         Task::Picture(grid) => print_told(rt, screen, Asked::Picture(grid), form, sources),
         Task::Units { index, units } => print_units(rt, screen, index, units, form, sources),
         Task::Join { out, is_strict } => print_joined(rt, screen, out, is_strict, form, sources),
+        Task::Renew { out, is_strict } => {
+            let asked = Renewal {
+                out,
+                is_strict,
+                form,
+                earlier,
+                later: sources,
+            };
+            print_renewal(rt, screen, asked)
+        }
     };
     match done {
         Ok(exit) => exit,
@@ -174,8 +192,15 @@ fn print_of<'a, R: System>(
     sources: &[Source<'_>],
     gathered: &Gathered,
 ) -> Result<Exit, RunFault<'a>> {
-    let exit = print_answer(rt, asked, form, gathered)?;
-    told(rt, screen, sources, gathered, false, exit)
+    let exit = print_answer(rt, Printed::Asked(asked, gathered), form)?;
+    told(
+        rt,
+        screen,
+        sources,
+        gathered.reports.as_slice(),
+        false,
+        exit,
+    )
 }
 
 /// Prints where edit units lie by what the sources hold together.
@@ -246,9 +271,17 @@ fn print_saved<'a, R: System>(
     sources: &[Source<'_>],
     gathered: &Gathered,
 ) -> Result<Exit, RunFault<'a>> {
-    let exit = print_answer(rt, Asked::Answer(Ask::Join), form, gathered)?;
-    let exit = exit.of_join(is_strict, gathered.reports.as_slice());
-    told(rt, screen, sources, gathered, true, exit)
+    let joined = Printed::Asked(Asked::Answer(Ask::Join), gathered);
+    let exit = print_answer(rt, joined, form)?;
+    let reports = gathered.reports.as_slice();
+    told(
+        rt,
+        screen,
+        sources,
+        reports,
+        true,
+        exit.of_join(is_strict, reports),
+    )
 }
 
 /// Writes the catalogue of what the sources hold together. Its place is held before the first source is opened.
@@ -258,14 +291,23 @@ fn join<'a, R: System>(
     out: &'a str,
     sources: &[Source<'a>],
 ) -> Result<Gathered, RunFault<'a>> {
-    match is_refused(rt, out, sources) {
-        Ok(false) => {}
-        Ok(true) => return Err(RunFault::BadOutput { path: out }),
-        Err(fault) => return Err(unsaved(out, SaveFault::from(fault))),
-    }
+    allow_output(rt, out, sources)?;
     match Reservation::take(rt, out) {
         Ok(held) => join_at(rt, screen, out, held, sources),
         Err(fault) => Err(unsaved(out, fault)),
+    }
+}
+
+/// Refuses `out` where no catalogue is saved, with these sources.
+fn allow_output<'a, R: System>(
+    rt: &R,
+    out: &'a str,
+    sources: &[Source<'_>],
+) -> Result<(), RunFault<'a>> {
+    match is_refused(rt, out, sources) {
+        Ok(false) => Ok(()),
+        Ok(true) => Err(RunFault::BadOutput { path: out }),
+        Err(fault) => Err(unsaved(out, SaveFault::from(fault))),
     }
 }
 
@@ -297,13 +339,11 @@ fn told<'a, R: System>(
     rt: &R,
     screen: Screen,
     sources: &[Source<'_>],
-    gathered: &Gathered,
+    reports: &[PieceReport],
     with_stops: bool,
     exit: Exit,
 ) -> Result<Exit, RunFault<'a>> {
-    if screen == Screen::Terminal
-        && tell_stops(rt, sources, gathered.reports.as_slice(), with_stops).is_err()
-    {
+    if screen == Screen::Terminal && tell_stops(rt, sources, reports, with_stops).is_err() {
         return Err(RunFault::OutOfMemory);
     }
     Ok(exit)
@@ -317,9 +357,19 @@ fn gather_sources<'a, R: System>(
 ) -> Result<Gathered, RunFault<'a>> {
     let last = LastFault::new();
     let parts = open_parts(rt, screen, sources, &last)?;
+    gather_parts(rt, parts, sources, &last)
+}
+
+/// What the parts hold together, which were opened of the sources.
+fn gather_parts<'r, 'a, R: System>(
+    rt: &'r R,
+    parts: Vec<Part<Watched<'r, R, R::File>>>,
+    sources: &[Source<'a>],
+    last: &LastFault,
+) -> Result<Gathered, RunFault<'a>> {
     match gather(rt.alloc(), parts) {
         Ok(gathered) => Ok(gathered),
-        Err(fault) => Err(ungathered(&fault, sources, &last)),
+        Err(fault) => Err(ungathered(&fault, sources, last)),
     }
 }
 
@@ -359,6 +409,29 @@ enum Asked {
     Picture(Grid),
 }
 
+/// What is printed on standard output.
+#[derive(Clone, Copy)]
+enum Printed<'g> {
+    Asked(Asked, &'g Gathered),
+    Renewed(&'g Renewed<'g>),
+}
+
+/// Prints lines in a form, and answers their status.
+fn print_lines<W: Write>(
+    alloc: Global,
+    printed: Printed<'_>,
+    form: Form,
+    writer: &mut W,
+) -> Result<u8, AnswerFault> {
+    match printed {
+        Printed::Asked(asked, gathered) => print_asked(alloc, asked, form, gathered, writer),
+        Printed::Renewed(renewed) => {
+            print_renewed(alloc, renewed, form, writer)?;
+            Ok(0)
+        }
+    }
+}
+
 /// Prints what is asked in a form, and answers its status.
 fn print_asked<W: Write>(
     alloc: Global,
@@ -376,19 +449,18 @@ fn print_asked<W: Write>(
     }
 }
 
-/// Prints the answer on standard output.
+/// Prints lines on standard output.
 fn print_answer<'a, R: System>(
     rt: &R,
-    asked: Asked,
+    printed: Printed<'_>,
     form: Form,
-    gathered: &Gathered,
 ) -> Result<Exit, RunFault<'a>> {
     let last = LastFault::new();
     let kept = WatchedWriter::new(io::writer(rt), &last);
     let Ok(mut out) = BufWriter::with_capacity(rt.alloc(), BUFFER_BYTES, kept) else {
         return Err(RunFault::OutOfMemory);
     };
-    let answered = print_asked(rt.alloc(), asked, form, gathered, &mut out);
+    let answered = print_lines(rt.alloc(), printed, form, &mut out);
     let is_flushed = answered.is_ok() && out.flush().is_ok();
     match Exit::of_answer(answered, is_flushed) {
         Exit::NoMemory => Err(RunFault::OutOfMemory),

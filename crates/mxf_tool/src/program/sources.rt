@@ -65,6 +65,17 @@ pub fn sources_of<'a, 'b: 'a>(
     Ok(sources)
 }
 
+/// The earlier sources that the words of a renewal name; none where it is no renewal.
+pub fn earlier_sources_of<'a>(
+    alloc: Global,
+    words: Option<&[&'a str]>,
+) -> Result<Vec<Source<'a>>, RunFault<'a>> {
+    match words {
+        Some(words) => parse_sources(alloc, words),
+        None => Ok(Vec::new(alloc)),
+    }
+}
+
 /// The sources that the words name.
 fn parse_sources<'a>(alloc: Global, words: &[&'a str]) -> Result<Vec<Source<'a>>, RunFault<'a>> {
     let mut sources = Vec::new(alloc);

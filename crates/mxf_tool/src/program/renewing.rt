@@ -1,0 +1,97 @@
+//! Saving what earlier sources hold, renewed by later ones.
+use super::fault::RunFault;
+use super::{Printed, System, allow_output, gather_parts, open_parts, print_answer, told, unsaved};
+use crate::exit::Exit;
+use crate::saving::Reservation;
+use crate::source::Source;
+use crate::system_fault::LastFault;
+use crate::watching::Screen;
+use mxf_catalogue::Catalogue;
+use mxf_lines::Form;
+use mxf_read::Gathered;
+use mxf_verify::renew;
+
+/// What is asked of a renewal: where it is saved, and of which sources.
+#[derive(Clone, Copy)]
+pub struct Renewal<'s, 'a> {
+    pub out: &'a str,
+    pub is_strict: bool,
+    pub form: Form,
+    pub earlier: &'s [Source<'a>],
+    pub later: &'s [Source<'a>],
+}
+
+/// Writes the catalogue of what the earlier sources hold together, renewed by the later ones, and prints what was
+/// dropped. Its place is held before the first source is opened.
+pub fn print_renewal<'a, R: System>(
+    rt: &R,
+    screen: Screen,
+    asked: Renewal<'_, 'a>,
+) -> Result<Exit, RunFault<'a>> {
+    allow_output(rt, asked.out, asked.earlier)?;
+    allow_output(rt, asked.out, asked.later)?;
+    match Reservation::take(rt, asked.out) {
+        Ok(held) => renew_at(rt, screen, asked, held),
+        Err(fault) => Err(unsaved(asked.out, fault)),
+    }
+}
+
+/// Writes the renewed catalogue to a place that is held, and prints what was dropped.
+fn renew_at<'a, 'r, R: System>(
+    rt: &'r R,
+    screen: Screen,
+    asked: Renewal<'_, 'a>,
+    held: Reservation<'r, R>,
+) -> Result<Exit, RunFault<'a>> {
+    let (earlier, later) = gather_both(rt, screen, asked)?;
+    let Gathered { views, reports } = later;
+    let exit = save_renewed(
+        rt,
+        asked,
+        held,
+        earlier.views.catalogue(),
+        views.into_catalogue(),
+    )?;
+    let exit = exit.of_join(asked.is_strict, earlier.reports.as_slice());
+    let exit = exit.of_join(asked.is_strict, reports.as_slice());
+    let exit = told(
+        rt,
+        screen,
+        asked.earlier,
+        earlier.reports.as_slice(),
+        true,
+        exit,
+    )?;
+    told(rt, screen, asked.later, reports.as_slice(), true, exit)
+}
+
+/// What the earlier sources hold together, and what the later ones do. All are opened before the first is read.
+fn gather_both<'a, R: System>(
+    rt: &R,
+    screen: Screen,
+    asked: Renewal<'_, 'a>,
+) -> Result<(Gathered, Gathered), RunFault<'a>> {
+    let last = LastFault::new();
+    let earlier = open_parts(rt, screen, asked.earlier, &last)?;
+    let later = open_parts(rt, screen, asked.later, &last)?;
+    let earlier = gather_parts(rt, earlier, asked.earlier, &last)?;
+    let later = gather_parts(rt, later, asked.later, &last)?;
+    Ok((earlier, later))
+}
+
+/// Renews the earlier catalogue by the later one, writes it to the place that is held, and prints what was dropped.
+fn save_renewed<'a, 'r, R: System>(
+    rt: &'r R,
+    asked: Renewal<'_, 'a>,
+    held: Reservation<'r, R>,
+    earlier: &Catalogue,
+    later: Catalogue,
+) -> Result<Exit, RunFault<'a>> {
+    let Ok(renewed) = renew(rt.alloc(), earlier, later) else {
+        return Err(RunFault::OutOfMemory);
+    };
+    match held.save(rt, &renewed.catalogue) {
+        Ok(()) => print_answer(rt, Printed::Renewed(&renewed), asked.form),
+        Err(fault) => Err(unsaved(asked.out, fault)),
+    }
+}

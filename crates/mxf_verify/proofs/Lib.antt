@@ -1,0 +1,5 @@
+pub mod ComparingLaws
+pub mod OpposingLaws
+pub mod RenewalLaws
+pub mod RenewalSteps
+pub mod TouchCounts

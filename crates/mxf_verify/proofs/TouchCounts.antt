@@ -1,0 +1,296 @@
+-- How many notes of a content hold a byte of a note, by where notes begin and end.
+use Rattle.std.specs.Prelude.{◌≡◌, ◌≢◌, ◌↔◌, ◌+◌, ◌-◌, ◌<◌, ◌≤◌, ℕ, zero, suc, Bool, true, false, not, ◌&&◌}
+use Rattle.std.specs.Prelude.{nat_lt, nat_le, List, [], ◌∷◌, length, map, cond, count_by, IsTrue, refl}
+use Rattle.std.specs.List.{AllByRecursion, AllWithin}
+use Rattle.std.specs.List.Sorted.{IsNonDecreasing}
+use Rattle.std.proofs.Common.{sym, ◌∙◌, ap, subst, inl, inr, arith, get_or}
+use Rattle.std.proofs.lemmas.Bool.{and_from, and_parts, ltb-true, ltb-false, lt-ltb, le-ltb, le-leb, lt-leb, false_from_ne_true}
+use Rattle.std.proofs.lemmas.Cmp.{tied_itself}
+use Rattle.std.proofs.lemmas.List.Sorted.{sum_by-IsPermutation}
+use Rattle.std.specs.declared.cmp.Ordering.TheVariants.{Less}
+use Rattle.std.proofs.lemmas.List.{get_or-map, length-map}
+use mir.Val.{bool_byte}
+use Rattle.mxf_klv.specs.Parts.{NoteParts, head_parts}
+use Rattle.mxf_klv.specs.Note.{IsNote, covered_end, head_note, note_cmp}
+use Rattle.mxf_klv.specs.NoteOrder.{note_total}
+use Rattle.mxf_klv.specs.Rising.{In}
+use Rattle.mxf_catalogue.specs.Content.{IsContent, has_note}
+use Rattle.mxf_catalogue.specs.Disputes.{is_same_note}
+use Rattle.mxf_klv.proofs.Counts.{tally, count_by-cons, count-none, none-count}
+use Rattle.mxf_klv.proofs.HeadOrder.{same_note-Decides}
+use Rattle.mxf_klv.proofs.Lists.{all-In}
+use Rattle.mxf_klv.proofs.Tests.{not_true, not-true-false, same_bool}
+use Rattle.mxf_catalogue.proofs.HeadWords.{own_head}
+use Rattle.mxf_catalogue.proofs.Ranges.{offsets_rise}
+use Rattle.mxf_verify.specs.Comparing.{Contradicts, SharesHeldByte, is_held_byte_shared}
+use Rattle.mxf_verify.specs.Opposing.{AreBounds, IsOpposed}
+use Rattle.mxf_verify.proofs.ComparingLaws.{holds_first, share-by_test}
+
+-- ---- counts
+
+-- where exactly the first so many pass, so many are counted
+pub count-front : (p : ℕ → Bool) (xs : List ℕ) (i : ℕ) → i ≤ length xs → AllWithin (λ x. p x ≡ true) xs 0 i
+    → AllWithin (λ x. p x ≡ false) xs i (length xs) → count_by p xs ≡ i
+count-front p [] i l f g = omega arith
+count-front p (x ∷ xs) zero l f g =
+    let c = count_by-cons p x xs in
+    let first : p x ≡ false = g 0 0 (omega arith) (omega arith) in
+    let z : tally (p x) ≡ 0 = ap tally first in
+    let ih = count-front p xs 0 (omega arith) (λ k d a h. absurd (omega arith))
+    (λ k d a h. g (suc k) d (omega arith) (omega arith)) in
+    omega (arith, c, z, ih)
+count-front p (x ∷ xs) (suc i) l f g =
+    let c = count_by-cons p x xs in
+    let first : p x ≡ true = f 0 0 (omega arith) (omega arith) in
+    let z : tally (p x) ≡ 1 = ap tally first in
+    let ih = count-front p xs i (omega arith) (λ k d a h. f (suc k) d (omega arith) (omega arith))
+    (λ k d a h. g (suc k) d (omega arith) (omega arith)) in
+    omega (arith, c, z, ih)
+
+pub count-map : {K : Type 0} (p : ℕ → Bool) (f : K → ℕ) (xs : List K) → count_by p (map f xs) ≡ count_by (λ x. p (f x)) xs
+count-map p f [] = refl
+count-map p f (x ∷ xs) =
+    let l = count_by-cons p (f x) (map f xs) in
+    let r = count_by-cons (λ y. p (f y)) x xs in
+    let ih = count-map p f xs in
+    omega (arith, l, r, ih)
+
+-- those that pass one test pass another or don't
+pub count-both : {K : Type 0} (p q : K → Bool) (xs : List K)
+    → count_by p xs ≡ count_by (λ x. p x && q x) xs + count_by (λ x. p x && not (q x)) xs
+count-both p q [] = refl
+count-both p q (x ∷ xs) =
+    let l = count_by-cons p x xs in
+    let a = count_by-cons (λ y. p y && q y) x xs in
+    let b = count_by-cons (λ y. p y && not (q y)) x xs in
+    let ih = count-both p q xs in
+    let one : tally (p x) ≡ tally (p x && q x) + tally (p x && not (q x)) =
+    elim (p x) as (λ s. tally s ≡ tally (s && q x) + tally (s && not (q x))) [
+      | true ↦ elim (q x) as (λ t. 1 ≡ tally t + tally (not t)) [ true ↦ refl | false ↦ refl ]
+      | false ↦ refl
+    ] in
+    omega (arith, l, a, b, ih, one)
+
+-- where some are counted, one passes
+pub count-some : {K : Type 0} (p : K → Bool) (xs : List K) → 0 < count_by p xs → (x : K) × In x xs × (p x ≡ true)
+count-some p [] h = absurd (omega arith)
+count-some {K} p (x ∷ xs) h =
+    let c = count_by-cons p x xs in
+    elim (p x) as (λ b. p x ≡ b → (y : K) × In y (x ∷ xs) × (p y ≡ true)) [
+      | true ↦ λ e. (x, inl refl, e)
+      | false ↦ λ e.
+          let z : tally (p x) ≡ 0 = ap tally e in
+          let s = count-some p xs (omega (arith, c, z)) in
+          (s.0, inr s.1, s.2)
+    ] refl
+
+-- tests that answer alike count alike
+pub count-alike : {K : Type 0} (p q : K → Bool) (xs : List K) → ((x : K) → p x ≡ q x) → count_by p xs ≡ count_by q xs
+count-alike p q xs f = λ i. count_by (λ x. f x i) xs
+
+-- ---- notes
+
+tally-with : (a l : Bool) → l ≡ false → tally (a && true) + tally l ≡ tally a
+tally-with true l e = let z : tally l ≡ 0 = ap tally e in omega (arith, z)
+tally-with false l e = let z : tally l ≡ 0 = ap tally e in omega (arith, z)
+
+tally-without : (a l : Bool) → a ≡ true → l ≡ true → tally (a && false) + tally l ≡ tally a
+tally-without true l h e = let z : tally l ≡ 1 = ap tally e in omega (arith, z)
+tally-without false l h e = cc
+
+-- a note begins below the end of another and ends above its start, or ends at or below that
+touching-one : (m n : NoteParts) → tally (is_held_byte_shared m n) + tally (nat_le (covered_end m) n.offset)
+    ≡ tally (nat_lt m.offset (covered_end n))
+touching-one m n =
+    let own : m.offset < covered_end m = holds_first m in
+    let other : n.offset < covered_end n = holds_first n in
+    elim (nat_lt n.offset (covered_end m)) as (λ t. nat_lt n.offset (covered_end m) ≡ t
+    → tally (nat_lt m.offset (covered_end n) && t) + tally (nat_le (covered_end m) n.offset)
+    ≡ tally (nat_lt m.offset (covered_end n))) [
+      | true ↦ λ e. tally-with (nat_lt m.offset (covered_end n)) (nat_le (covered_end m) n.offset)
+          (lt-leb (covered_end m) n.offset (ltb-true n.offset (covered_end m) e))
+      | false ↦ λ e.
+          let below : covered_end m ≤ n.offset = ltb-false n.offset (covered_end m) e in
+          tally-without (nat_lt m.offset (covered_end n)) (nat_le (covered_end m) n.offset)
+          (lt-ltb m.offset (covered_end n) (omega arith)) (le-leb (covered_end m) n.offset below)
+    ] refl
+
+-- those that hold a byte of it are those that begin below its end, but for those that end at or below its start
+touching-count : (n : NoteParts) (notes : List NoteParts)
+    → count_by (λ m. is_held_byte_shared m n) notes + count_by (λ m. nat_le (covered_end m) n.offset) notes
+    ≡ count_by (λ m. nat_lt m.offset (covered_end n)) notes
+touching-count n [] = refl
+touching-count n (m ∷ ms) =
+    let a = count_by-cons (λ m. is_held_byte_shared m n) m ms in
+    let b = count_by-cons (λ m. nat_le (covered_end m) n.offset) m ms in
+    let c = count_by-cons (λ m. nat_lt m.offset (covered_end n)) m ms in
+    let one = touching-one m n in
+    let ih = touching-count n ms in
+    omega (arith, a, b, c, one, ih)
+
+-- a note stands in a content once
+not_behind : (n : NoteParts) (notes : List NoteParts) → AllByRecursion (λ m. note_cmp n m ≡ Less) notes → In n notes → ⊥
+not_behind n notes a h =
+    let l = all-In (λ m. note_cmp n m ≡ Less) notes n a h in
+    let t = tied_itself note_total n in cc (l, t)
+
+once-count : (n : NoteParts) (notes : List NoteParts) → IsContent notes → In n notes
+    → count_by (λ m. is_same_note m n) notes ≡ 1
+once-count n [] r h = absurd h
+once-count n (m ∷ ms) r (inl e) =
+    let c = count_by-cons (λ m. is_same_note m n) m ms in
+    let here : tally (is_same_note m n) ≡ 1 = ap tally ((same_note-Decides m n).1 (sym e)) in
+    let none = count-none (λ m. is_same_note m n) ms (λ x i t.
+    not_behind m ms r.0 (subst (λ y. In y ms) ((same_note-Decides x n).0 t ∙ e) i)) in
+    omega (arith, c, here, none)
+once-count n (m ∷ ms) r (inr k) =
+    let c = count_by-cons (λ m. is_same_note m n) m ms in
+    let here : tally (is_same_note m n) ≡ 0 = ap tally (false_from_ne_true (is_same_note m n) (λ t.
+    not_behind m ms r.0 (subst (λ y. In y ms) (sym ((same_note-Decides m n).0 t)) k))) in
+    let ih = once-count n ms r.1 k in
+    omega (arith, c, here, ih)
+
+pub held-count : (b : Bool) (n : NoteParts) (notes : List NoteParts) → IsContent notes → IsTrue b ↔ In n notes
+    → count_by (λ m. is_same_note m n) notes ≡ tally b
+held-count true n notes r d = once-count n notes r (d.0 refl)
+held-count false n notes r d =
+    count-none (λ m. is_same_note m n) notes (λ m i t.
+    let e = d.1 (subst (λ y. In y notes) ((same_note-Decides m n).0 t) i) in cc (e))
+
+-- ---- what a content opposes
+
+-- a note of a content that hasn't another contradicts it where both hold a byte, unless it is its head
+contradicts-other : (m n : NoteParts) (notes : List NoteParts) → (has_note notes n → ⊥) → In m notes
+    → SharesHeldByte m n → m ≢ head_note n → Contradicts m n
+contradicts-other m n notes lacked i s ne = record {
+  differ = λ e. lacked (inl (subst (λ x. In x notes) e i));
+  share = s;
+  no_head = λ k. ne (sym k.1);
+  no_packet = λ k. lacked (inr (m, i, k.1));
+}
+
+-- what contradicts a note isn't its head
+other-contradicts : (m n : NoteParts) → IsNote n → Contradicts m n → m ≢ head_note n
+other-contradicts m n is c e =
+    elim n.whole as (λ b. n.whole ≡ b → ⊥) [
+      | true ↦ λ w. c.no_head (w, sym e)
+      | false ↦ λ w. c.differ (e ∙ own_head n is w)
+    ] refl
+
+-- the head of a note holds a byte of it
+head-touches : (n : NoteParts) → IsTrue (is_held_byte_shared (head_note n) n)
+head-touches n =
+    (share-by_test (head_note n) n).1 (
+      n.offset,
+      record {
+        from = omega arith;
+        before = let h : n.offset < covered_end (head_note n) = holds_first (head_note n) in
+            omega arith;
+      },
+      record { from = omega arith; before = let h : n.offset < covered_end n = holds_first n in omega arith },
+    )
+
+-- those that hold a byte of it are its head, where that is there, and others
+others-count : (n : NoteParts) (notes : List NoteParts) → count_by (λ m. is_held_byte_shared m n) notes
+    ≡ count_by (λ m. is_same_note m (head_note n)) notes
+    + count_by (λ m. is_held_byte_shared m n && not (is_same_note m (head_note n))) notes
+others-count n notes =
+    let both = count-both (λ m. is_held_byte_shared m n) (λ m. is_same_note m (head_note n)) notes in
+    let alike = count-alike (λ m. is_held_byte_shared m n && is_same_note m (head_note n))
+    (λ m. is_same_note m (head_note n)) notes (λ m.
+    same_bool (is_held_byte_shared m n && is_same_note m (head_note n)) (is_same_note m (head_note n))
+    (λ h. (and_parts (is_held_byte_shared m n) (is_same_note m (head_note n)) h).1)
+    (λ h. and_from (is_held_byte_shared m n) (is_same_note m (head_note n))
+    (subst (λ x. IsTrue (is_held_byte_shared x n)) (sym ((same_note-Decides m (head_note n)).0 h)) (head-touches n)) h)) in
+    omega (arith, both, alike)
+
+pub opposed-by_counts : (n : NoteParts) (notes : List NoteParts) (begun ended heads : ℕ) → IsNote n
+    → (has_note notes n → ⊥)
+    → begun ≡ count_by (λ m. nat_lt m.offset (covered_end n)) notes
+    → ended ≡ count_by (λ m. nat_le (covered_end m) n.offset) notes
+    → heads ≡ count_by (λ m. is_same_note m (head_note n)) notes
+    → IsTrue (nat_lt heads (begun - ended)) ↔ IsOpposed n notes
+opposed-by_counts n notes begun ended heads is lacked b e h =
+    let touching = touching-count n notes in
+    let others = others-count n notes in
+    let p = λ (m : NoteParts). is_held_byte_shared m n && not (is_same_note m (head_note n)) in (
+      λ t.
+          let less : heads < begun - ended = ltb-true heads (begun - ended) t in
+          let s = count-some p notes (omega (arith, touching, others, b, e, h, less)) in
+          let q = and_parts (is_held_byte_shared s.0 n) (not (is_same_note s.0 (head_note n))) s.2 in
+          record {
+            lacked = lacked;
+            contradicted = (
+              s.0,
+              s.1,
+              contradicts-other s.0 n notes lacked s.1 ((share-by_test s.0 n).0 q.0) (λ same.
+                  not-true-false (is_same_note s.0 (head_note n)) q.1 ((same_note-Decides s.0 (head_note n)).1 same)),
+            );
+          },
+      λ o.
+          let m = o.contradicted.0 in
+          let c = o.contradicted.2 in
+          let ne = other-contradicts m n is c in
+          let passes : p m ≡ true = and_from (is_held_byte_shared m n) (not (is_same_note m (head_note n)))
+          ((share-by_test m n).1 c.share) (not_true (is_same_note m (head_note n)) (λ t.
+          ne ((same_note-Decides m (head_note n)).0 t))) in
+          let some : 0 < count_by p notes =
+          elim (nat_lt 0 (count_by p notes)) as (λ v. nat_lt 0 (count_by p notes) ≡ v → 0 < count_by p notes) [
+            | true ↦ λ v. ltb-true 0 (count_by p notes) v
+            | false ↦ λ v.
+                let low : count_by p notes ≤ 0 = ltb-false 0 (count_by p notes) v in
+                absurd (none-count p notes m (omega arith) o.contradicted.1 passes)
+          ] refl in
+          lt-ltb heads (begun - ended) (omega (arith, touching, others, b, e, h, some)),
+    )
+
+-- ---- where notes begin and end, as lists
+
+-- the offsets of a content's notes never fall
+pub starts-rise : (notes : List NoteParts) (starts ends : List ℕ) → AreBounds notes starts ends → IsNonDecreasing starts
+starts-rise notes starts ends a i j d l h =
+    let some : NoteParts = head_parts 0 [] 0 0 in
+    let same : length starts ≡ length notes = ap length a.starts_are ∙ length-map notes (λ n. n.offset) in
+    let left : get_or starts i d ≡ (get_or notes i some).offset =
+    ap (λ xs. get_or xs i d) a.starts_are ∙ get_or-map (λ n. n.offset) notes i some d (omega arith) in
+    let right : get_or starts j d ≡ (get_or notes j some).offset =
+    ap (λ xs. get_or xs j d) a.starts_are ∙ get_or-map (λ n. n.offset) notes j some d (omega arith) in
+    let rise = offsets_rise notes a.catalogue.content i j some l (omega arith) in
+    omega (arith, left, right, rise)
+
+-- so many begin below a bound
+pub begun-count : (notes : List NoteParts) (starts ends lent : List ℕ) (bound begun : ℕ) → AreBounds notes starts ends
+    → lent ≡ starts → begun ≤ length lent → AllWithin (λ x. x < bound) lent 0 begun
+    → AllWithin (λ x. bound ≤ x) lent begun (length lent) → begun ≡ count_by (λ m. nat_lt m.offset bound) notes
+begun-count notes starts ends lent bound begun a e l f g =
+    sym (count-front (λ x. nat_lt x bound) lent begun l (λ k d m n. lt-ltb _ bound (f k d m n)) (λ k d m n.
+    le-ltb _ bound (g k d m n)))
+    ∙ ap (count_by (λ x. nat_lt x bound)) (e ∙ a.starts_are)
+    ∙ count-map (λ x. nat_lt x bound) (λ n. n.offset) notes
+
+-- so many end at or below a bound
+pub ended-count : (notes : List NoteParts) (starts ends lent : List ℕ) (bound ended : ℕ) → AreBounds notes starts ends
+    → lent ≡ ends → ended ≤ length lent → AllWithin (λ x. x ≤ bound) lent 0 ended
+    → AllWithin (λ x. bound < x) lent ended (length lent) → ended ≡ count_by (λ m. nat_le (covered_end m) bound) notes
+ended-count notes starts ends lent bound ended a e l f g =
+    sym (count-front (λ x. nat_le x bound) lent ended l (λ k d m n. le-leb _ bound (f k d m n)) (λ k d m n.
+    lt-leb _ bound (g k d m n)))
+    ∙ ap (count_by (λ x. nat_le x bound)) e
+    ∙ sum_by-IsPermutation (λ x. cond (nat_le x bound) 1 0) (map covered_end notes) ends a.ends_are
+    ∙ count-map (λ x. nat_le x bound) covered_end notes
+
+byte-tally : (b : Bool) → bool_byte b ≡ tally b
+byte-tally true = refl
+byte-tally false = refl
+
+-- a note is counted once where it is held
+pub held-byte : (b : Bool) (m n : NoteParts) (notes : List NoteParts) → IsContent notes → m ≡ n → IsTrue b ↔ In m notes
+    → bool_byte b ≡ count_by (λ x. is_same_note x n) notes
+held-byte b m n notes r e d =
+    byte-tally b ∙ sym (held-count b n notes r (subst (λ x. IsTrue b ↔ In x notes) e d))
+
+-- no more end than begin
+pub ended-begun : (n : NoteParts) (notes : List NoteParts) (begun ended : ℕ)
+    → begun ≡ count_by (λ m. nat_lt m.offset (covered_end n)) notes
+    → ended ≡ count_by (λ m. nat_le (covered_end m) n.offset) notes → ended ≤ begun
+ended-begun n notes begun ended b e = let touching = touching-count n notes in omega (arith, touching, b, e)

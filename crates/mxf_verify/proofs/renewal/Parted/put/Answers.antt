@@ -1,0 +1,47 @@
+use Rattle.std.proofs.Common.{◌≡◌, ◌∙◌, ◌++◌, ap, subst, sym}
+use Rattle.std.specs.Result.{OnOk}
+use Rattle.std.proofs.lemmas.List.{append-nil}
+use Rattle.std.proofs.lemmas.Result.{on_ok_weaker}
+use Rattle.mxf_catalogue.specs.Content.{has_note, reduced_union, reduced_with}
+use Rattle.mxf_verify.specs.Opposing.{IsOpposed}
+use Rattle.mxf_verify.proofs.RenewalSteps.{had-added, lacked-added, not_opposed-dropped, opposed-added, opposed-dropped}
+use Rattle.mxf_verify.proofs.renewal.Parted.put.Goals as goal
+
+pub returns-then-opposes : goal.returns-then-opposes
+returns-then-opposes c =
+    let n = c.args.note.now in
+    let later = c.args.later.now in
+    let o : IsOpposed n later = c.opposes.ensures.0 c.if-opposes.true in
+    record {
+      added = on_ok_weaker c.push.result (λ e. ap (reduced_union c.args.self.now.added) (sym (opposed-added n later o)))
+          c.push.ensures;
+      dropped = subst (λ l. OnOk c.push.result (c.push.new.self ≡ c.args.self.now.dropped ++ l))
+          (sym (opposed-dropped n later o)) c.push.ensures;
+    }
+
+pub returns-then-has : goal.returns-then-has
+returns-then-has c =
+    let n = c.args.note.now in
+    let later = c.args.later.now in
+    let h : has_note later n = c.has.ensures.0 c.if-has.true in
+    let f : IsOpposed n later → ⊥ = λ o. o.lacked h in
+    record {
+      added = ap (reduced_union c.args.self.now.added) (sym (had-added n later h));
+      dropped = sym (ap (λ l. c.args.self.now.dropped ++ l) (not_opposed-dropped n later f)
+          ∙ append-nil c.args.self.now.dropped);
+    }
+
+pub returns : goal.returns
+returns c =
+    let n = c.args.note.now in
+    let later = c.args.later.now in
+    let l : has_note later n → ⊥ = λ h. let t = c.has.ensures.1 h in cc (t, c.if-has.false) in
+    let f : IsOpposed n later → ⊥ = λ o. let t = c.opposes.ensures.1 o in cc (t, c.if-opposes.false) in
+    record {
+      added =
+          c.in_ok-add.ensures.added
+          ∙ ap (λ m. reduced_with m c.args.self.now.added) c.in_ok-clone_in.ensures.equal
+          ∙ ap (reduced_union c.args.self.now.added) (sym (lacked-added n later l f));
+      dropped = sym (ap (λ l. c.args.self.now.dropped ++ l) (not_opposed-dropped n later f)
+          ∙ append-nil c.args.self.now.dropped);
+    }

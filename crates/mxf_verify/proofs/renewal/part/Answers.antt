@@ -1,0 +1,13 @@
+use Rattle.std.proofs.Common.{◌∙◌, ap, sym}
+use Rattle.mxf_catalogue.specs.Content.{reduced_union}
+use Rattle.mxf_verify.specs.Renewing.{added_of}
+use Rattle.mxf_verify.proofs.RenewalLaws.{added-none}
+use Rattle.mxf_verify.proofs.renewal.part.Goals as goal
+
+pub returns-clause-added : goal.returns-clause-added
+returns-clause-added c =
+    let old = c.args.old.now in
+    let new = c.args.new.now in
+    let e = ap (λ l. reduced_union c.loop-note.parted.added (added_of l new)) c.in-None.ensures.steps.0 in
+    sym e ∙ c.loop-note.invariant.added
+    ∙ added-none old new c.notes-note-items.ensures.catalogue.content c.notes-note-items.ensures.reduced

@@ -1,0 +1,3 @@
+pub mod Comparing
+pub mod Opposing
+pub mod Renewing

@@ -1,0 +1,183 @@
+//! An earlier content, renewed by a later reading.
+ghost use Rattle.std.specs.Prelude.{◌≡◌, ◌↔◌, ◌⊎◌, ◌++◌, ◌∷◌, [], IfOk, List, OnOk, length, map};
+ghost use Rattle.mxf_klv.specs.Parts.{NoteParts};
+ghost use Rattle.mxf_klv.specs.Rising.{In};
+ghost use Rattle.mxf_catalogue.specs.Content.{AreReduced, IsContent, IsLocated, has_note, reduced_union};
+ghost use Rattle.mxf_verify.specs.Comparing.{SharesHeldByte};
+ghost use Rattle.mxf_verify.specs.Opposing.{IsContradicted};
+ghost use Rattle.mxf_verify.specs.Renewing.{IsDropped, IsKept, added_of, dropped_of, kept_of, renewed_of};
+
+use crate::opposing::Opposing;
+use mxf_catalogue::Catalogue;
+use mxf_klv::{Note, OutOfMemory};
+use std::alloc::Global;
+use std::marker::Model;
+
+/// A note of an earlier catalogue that a renewal dropped.
+#[derive(Clone, Copy, Debug)]
+pub struct DroppedNote<'a> {
+    pub note: &'a Note,
+}
+
+/// The notes of an earlier catalogue that a renewal dropped, in their order.
+#[derive(Debug, Drop)]
+pub struct DroppedNotes<'a> {
+    items: Vec<DroppedNote<'a>>,
+}
+
+impl<'a> Model for DroppedNotes<'a> {
+    ghost use Rattle.std.specs.Prelude.{List, map};
+    ghost use Rattle.mxf_klv.specs.Parts.{NoteParts};
+
+    ghost Value = { List NoteParts };
+
+    ghost view = { λ d. map (λ n. n.note.now) d.items.items };
+}
+
+impl<'a> DroppedNotes<'a> {
+    /// No note.
+    fn new(alloc: Global) -> DroppedNotes<'a>
+        ensures { result ≡ [] }
+    {
+        DroppedNotes {
+            items: Vec::new(alloc),
+        }
+    }
+
+    /// Puts a note behind the others.
+    fn push(&mut self, note: &'a Note) -> Result<(), OutOfMemory>
+        ensures { OnOk result (self.new ≡ self.old ++ note.now ∷ []) }
+    {
+        self.items.push(DroppedNote { note })?;
+        Ok(())
+    }
+
+    /// The number of notes.
+    pub fn len(&self) -> usize
+        ensures { result ≡ length self.now }
+    {
+        self.items.len()
+    }
+
+    /// The notes.
+    pub fn as_slice(&self) -> &[DroppedNote<'a>]
+        ensures { map (λ n. n.note.now) result.now ≡ self.now }
+    {
+        self.items.as_slice()
+    }
+}
+
+/// What a renewal gives: the renewed catalogue, and the notes of the earlier one that were dropped.
+#[derive(Debug, Drop)]
+pub struct Renewed<'a> {
+    pub catalogue: Catalogue,
+    pub dropped: DroppedNotes<'a>,
+}
+
+/// Renews an earlier catalogue by a later reading, whose bytes are the newer ones: the notes of the earlier one stay that
+/// no note of the later one contradicts. What either held is left as it was read; nothing of the bytes is compared.
+///
+/// The notes that stay are copied, which takes memory. Each note of the earlier catalogue is looked up by binary search.
+pub fn renew<'a>(
+    alloc: Global,
+    old: &'a Catalogue,
+    new: Catalogue,
+) -> Result<Renewed<'a>, OutOfMemory>
+    ensures catalogue { IfOk result (λ r. r.catalogue ≡ renewed_of old.now new) }
+    ensures dropped { IfOk result (λ r. r.dropped ≡ dropped_of old.now new) }
+{
+    new.laws();
+    let Parted { added, dropped } = part(alloc, old, &new)?;
+    let mut catalogue = new;
+    catalogue.merge(added)?;
+    Ok(Renewed { catalogue, dropped })
+}
+
+/// The notes of an earlier catalogue that a later one hasn't: those that it contradicts, and the others.
+#[derive(Drop)]
+struct Parted<'a> {
+    added: Catalogue,
+    dropped: DroppedNotes<'a>,
+}
+
+/// Parts the notes of an earlier catalogue by what a later one says of them.
+fn part<'a>(alloc: Global, old: &'a Catalogue, new: &Catalogue) -> Result<Parted<'a>, OutOfMemory>
+    ensures added { IfOk result (λ p. p.added ≡ added_of old.now new.now) }
+    ensures dropped { IfOk result (λ p. p.dropped ≡ dropped_of old.now new.now) }
+{
+    let opposing = Opposing::of(alloc, new)?;
+    let mut parted = Parted {
+        added: Catalogue::new(alloc),
+        dropped: DroppedNotes::new(alloc),
+    };
+    for note in old.notes() {
+        parted.put(alloc, note, &opposing)?;
+    }
+    Ok(parted)
+}
+
+impl<'a> Parted<'a> {
+    /// Puts a note of the earlier catalogue where it belongs by what the later one says of it.
+    fn put(
+        &mut self,
+        alloc: Global,
+        note: &'a Note,
+        later: &Opposing<'_>,
+    ) -> Result<(), OutOfMemory>
+        ensures added { OnOk result (self.new.added ≡ reduced_union self.old.added (added_of (note.now ∷ []) later.now)) }
+        ensures dropped { OnOk result (self.new.dropped ≡ self.old.dropped ++ dropped_of (note.now ∷ []) later.now) }
+    {
+        if later.opposes(note) {
+            return self.dropped.push(note);
+        }
+        if later.has(note) {
+            return Ok(());
+        }
+        self.added.add(note.clone_in(alloc)?)?;
+        Ok(())
+    }
+}
+
+/// A law of [`renew`]: what is dropped and what is kept is by the relations, and the renewed content has the located
+/// packets of what was read anew and what is kept.
+pub fn renewals_by_definition()
+    ensures dropped { (n : NoteParts) (old new : List NoteParts) → In n (dropped_of old new) ↔ IsDropped old new n }
+    ensures kept { (n : NoteParts) (old new : List NoteParts) → In n (kept_of old new) ↔ IsKept old new n }
+    ensures members { (n : NoteParts) (old new : List NoteParts) → AreReduced new
+        → In n (renewed_of old new) ↔ IsLocated (λ m. In m new ⊎ IsKept old new m) n }
+    ensures dropped_rises { (old new : List NoteParts) → IsContent old → IsContent (dropped_of old new) }
+    ensures renewed_rises { (old new : List NoteParts) → IsContent new → IsContent (renewed_of old new) }
+    ensures reduced { (old new : List NoteParts) → AreReduced new → AreReduced (renewed_of old new) }
+{}
+
+/// A law of [`renew`]: each note that was read anew is had, and nothing stays that it contradicts.
+pub fn renewals_have_what_was_read_anew()
+    ensures had { (n : NoteParts) (old new : List NoteParts) → In n new → has_note (renewed_of old new) n }
+    ensures free { (n : NoteParts) (old new : List NoteParts) → AreReduced new → In n (renewed_of old new)
+        → (has_note new n → ⊥) → IsContradicted n new → ⊥ }
+{}
+
+/// A law of [`renew`]: each earlier note stays or is dropped, and not both. One of whose bytes nothing was read anew
+/// stays.
+pub fn renewals_drop_what_was_read_anew()
+    ensures stays { (n : NoteParts) (old new : List NoteParts) → In n old
+        → ((m : NoteParts) → In m new → SharesHeldByte m n → ⊥) → has_note (renewed_of old new) n }
+    ensures dropped { (n : NoteParts) (old new : List NoteParts) → IsDropped old new n
+        → (m : NoteParts) × In m new × SharesHeldByte m n }
+    ensures one { (n : NoteParts) (old new : List NoteParts) → In n old
+        → has_note (renewed_of old new) n ⊎ IsDropped old new n }
+    ensures not_both { (n : NoteParts) (old new : List NoteParts) → AreReduced old → has_note (renewed_of old new) n
+        → IsDropped old new n → ⊥ }
+{}
+
+/// A law of [`renew`]: where nothing is dropped, the renewed content is the join of both. To renew it by the same reading
+/// changes and drops nothing. An empty content is renewed to what was read, and where nothing was read, nothing changes.
+pub fn renewals_join_what_agrees()
+    ensures joined { (old new : List NoteParts) → IsContent old → AreReduced old → IsContent new → AreReduced new
+        → dropped_of old new ≡ [] → renewed_of old new ≡ reduced_union old new }
+    ensures again { (old new : List NoteParts) → IsContent new → AreReduced new
+        → renewed_of (renewed_of old new) new ≡ renewed_of old new }
+    ensures none_again { (old new : List NoteParts) → AreReduced new → dropped_of (renewed_of old new) new ≡ [] }
+    ensures into_nothing { (new : List NoteParts) → renewed_of [] new ≡ new }
+    ensures by_nothing { (old : List NoteParts) → IsContent old → AreReduced old → renewed_of old [] ≡ old }
+{}
