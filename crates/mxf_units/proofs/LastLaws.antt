@@ -240,9 +240,6 @@ among-more passed s index_sid unit = (
 
 module _ (all before rest : List SegmentAtParts) (s : SegmentAtParts) (index_sid : ℕ) (last : Option ℕ)
     (next : before ≡ s ∷ rest) (was : HasPassed all before index_sid last) where
-  more : List SegmentAtParts
-  more = was.passed ++ s ∷ []
-
   whole-more : (was.passed ++ s ∷ []) ++ rest ≡ all
   whole-more =
       append_assoc was.passed (s ∷ []) rest ∙ ap (λ (l : List SegmentAtParts). was.passed ++ l) (sym next) ∙ was.whole

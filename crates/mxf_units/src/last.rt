@@ -68,7 +68,7 @@ fn placed_count(segment: &Segment<'_>) -> u64
     }
 }
 
-/// A law of [`last_unit`]: an index has one last unit at most, and then not none.
+/// A law of [`last_unit`]: an index that has a last unit has one alone, and isn't one that has none.
 pub fn one_last_unit()
     ensures one { (notes : List NoteParts) (index_sid a b : ℕ) → IsLastUnit notes index_sid a
         → IsLastUnit notes index_sid b → a ≡ b }
