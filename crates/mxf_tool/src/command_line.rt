@@ -44,7 +44,7 @@ pub enum Task<'a> {
 const HELP: &str = "A source SRC is one of
   at:OFFSET:PATH     a piece: the bytes of the file PATH, whose first byte lies at byte OFFSET of the recording
   range:OFFSET:PATH  the same where the first byte may lie inside a packet: it is read from the next one on
-  cat:PATH           a catalogue that join wrote
+  cat:PATH           a catalogue that join or renew wrote
 
 Example: mxf_tool check at:0:clip.mxf";
 
@@ -52,7 +52,7 @@ Example: mxf_tool check at:0:clip.mxf";
 const SHOW_HELP: &str = "A source SRC is one of
   at:OFFSET:PATH     a piece: the bytes of the file PATH, whose first byte lies at byte OFFSET of the recording
   range:OFFSET:PATH  the same where the first byte may lie inside a packet: it is read from the next one on
-  cat:PATH           a catalogue that join wrote
+  cat:PATH           a catalogue that join or renew wrote
 
 Example: mxf_tool show at:0:clip.mxf";
 
@@ -60,7 +60,7 @@ Example: mxf_tool show at:0:clip.mxf";
 const CHECK_HELP: &str = "A source SRC is one of
   at:OFFSET:PATH     a piece: the bytes of the file PATH, whose first byte lies at byte OFFSET of the recording
   range:OFFSET:PATH  the same where the first byte may lie inside a packet: it is read from the next one on
-  cat:PATH           a catalogue that join wrote
+  cat:PATH           a catalogue that join or renew wrote
 
 Example: mxf_tool check at:0:front.bin at:62914560:rest.bin";
 
@@ -68,7 +68,7 @@ Example: mxf_tool check at:0:front.bin at:62914560:rest.bin";
 const LOCATE_HELP: &str = "A source SRC is one of
   at:OFFSET:PATH     a piece: the bytes of the file PATH, whose first byte lies at byte OFFSET of the recording
   range:OFFSET:PATH  the same where the first byte may lie inside a packet: it is read from the next one on
-  cat:PATH           a catalogue that join wrote
+  cat:PATH           a catalogue that join or renew wrote
 
 Example: mxf_tool locate --index 1 --unit 250 at:0:clip.mxf";
 
@@ -82,7 +82,7 @@ const UNITS_HELP: &str = "Each unit is one of
 A source SRC is one of
   at:OFFSET:PATH     a piece: the bytes of the file PATH, whose first byte lies at byte OFFSET of the recording
   range:OFFSET:PATH  the same where the first byte may lie inside a packet: it is read from the next one on
-  cat:PATH           a catalogue that join wrote
+  cat:PATH           a catalogue that join or renew wrote
 
 Example: mxf_tool units --from 250 --to 274 cat:clip.cat";
 
@@ -90,7 +90,7 @@ Example: mxf_tool units --from 250 --to 274 cat:clip.cat";
 const PLAN_HELP: &str = "A source SRC is one of
   at:OFFSET:PATH     a piece: the bytes of the file PATH, whose first byte lies at byte OFFSET of the recording
   range:OFFSET:PATH  the same where the first byte may lie inside a packet: it is read from the next one on
-  cat:PATH           a catalogue that join wrote
+  cat:PATH           a catalogue that join or renew wrote
 
 Example: mxf_tool plan range:62914560:part.bin cat:earlier.cat";
 
@@ -103,7 +103,7 @@ const MAP_HELP: &str = "Each character is a cell of as many bytes, what fits fir
 A source SRC is one of
   at:OFFSET:PATH     a piece: the bytes of the file PATH, whose first byte lies at byte OFFSET of the recording
   range:OFFSET:PATH  the same where the first byte may lie inside a packet: it is read from the next one on
-  cat:PATH           a catalogue that join wrote
+  cat:PATH           a catalogue that join or renew wrote
 
 Example: mxf_tool map --columns 100 cat:clip.cat";
 
@@ -111,7 +111,7 @@ Example: mxf_tool map --columns 100 cat:clip.cat";
 const JOIN_HELP: &str = "A source SRC is one of
   at:OFFSET:PATH     a piece: the bytes of the file PATH, whose first byte lies at byte OFFSET of the recording
   range:OFFSET:PATH  the same where the first byte may lie inside a packet: it is read from the next one on
-  cat:PATH           a catalogue that join wrote
+  cat:PATH           a catalogue that join or renew wrote
 
 Example: mxf_tool join --out clip.cat at:0:front.bin cat:earlier.cat";
 
