@@ -53,7 +53,7 @@ pub enum AskedUnits {
 const HELP: &str = "A source SRC is one of
   at:OFFSET:PATH     a piece: the bytes of the file PATH, whose first byte lies at byte OFFSET of the recording
   range:OFFSET:PATH  the same where the first byte may lie inside a packet: it is read from the next one on
-  cat:PATH           a catalogue that join wrote
+  cat:PATH           a catalogue that join or renew wrote
 
 Example: mxf_tool check at:0:clip.mxf";
 
@@ -61,7 +61,7 @@ Example: mxf_tool check at:0:clip.mxf";
 const SHOW_HELP: &str = "A source SRC is one of
   at:OFFSET:PATH     a piece: the bytes of the file PATH, whose first byte lies at byte OFFSET of the recording
   range:OFFSET:PATH  the same where the first byte may lie inside a packet: it is read from the next one on
-  cat:PATH           a catalogue that join wrote
+  cat:PATH           a catalogue that join or renew wrote
 
 Example: mxf_tool show at:0:clip.mxf";
 
@@ -69,7 +69,7 @@ Example: mxf_tool show at:0:clip.mxf";
 const CHECK_HELP: &str = "A source SRC is one of
   at:OFFSET:PATH     a piece: the bytes of the file PATH, whose first byte lies at byte OFFSET of the recording
   range:OFFSET:PATH  the same where the first byte may lie inside a packet: it is read from the next one on
-  cat:PATH           a catalogue that join wrote
+  cat:PATH           a catalogue that join or renew wrote
 
 Example: mxf_tool check at:0:front.bin at:62914560:rest.bin";
 
@@ -77,7 +77,7 @@ Example: mxf_tool check at:0:front.bin at:62914560:rest.bin";
 const LOCATE_HELP: &str = "A source SRC is one of
   at:OFFSET:PATH     a piece: the bytes of the file PATH, whose first byte lies at byte OFFSET of the recording
   range:OFFSET:PATH  the same where the first byte may lie inside a packet: it is read from the next one on
-  cat:PATH           a catalogue that join wrote
+  cat:PATH           a catalogue that join or renew wrote
 
 Example: mxf_tool locate --index 1 --unit 250 at:0:clip.mxf";
 
@@ -91,7 +91,7 @@ const UNITS_HELP: &str = "Each unit is one of
 A source SRC is one of
   at:OFFSET:PATH     a piece: the bytes of the file PATH, whose first byte lies at byte OFFSET of the recording
   range:OFFSET:PATH  the same where the first byte may lie inside a packet: it is read from the next one on
-  cat:PATH           a catalogue that join wrote
+  cat:PATH           a catalogue that join or renew wrote
 
 Without --from the first is unit 0, without --to the last is that of the index: the last to which a segment that is held
 gives a place. An index of units of one size has none where a segment states the duration 0.
@@ -102,7 +102,7 @@ Example: mxf_tool units --from 250 --to 274 cat:clip.cat";
 const PLAN_HELP: &str = "A source SRC is one of
   at:OFFSET:PATH     a piece: the bytes of the file PATH, whose first byte lies at byte OFFSET of the recording
   range:OFFSET:PATH  the same where the first byte may lie inside a packet: it is read from the next one on
-  cat:PATH           a catalogue that join wrote
+  cat:PATH           a catalogue that join or renew wrote
 
 Example: mxf_tool plan range:62914560:part.bin cat:earlier.cat";
 
@@ -115,7 +115,7 @@ const MAP_HELP: &str = "Each character is a cell of as many bytes, what fits fir
 A source SRC is one of
   at:OFFSET:PATH     a piece: the bytes of the file PATH, whose first byte lies at byte OFFSET of the recording
   range:OFFSET:PATH  the same where the first byte may lie inside a packet: it is read from the next one on
-  cat:PATH           a catalogue that join wrote
+  cat:PATH           a catalogue that join or renew wrote
 
 Example: mxf_tool map --columns 100 cat:clip.cat";
 
@@ -123,7 +123,7 @@ Example: mxf_tool map --columns 100 cat:clip.cat";
 const JOIN_HELP: &str = "A source SRC is one of
   at:OFFSET:PATH     a piece: the bytes of the file PATH, whose first byte lies at byte OFFSET of the recording
   range:OFFSET:PATH  the same where the first byte may lie inside a packet: it is read from the next one on
-  cat:PATH           a catalogue that join wrote
+  cat:PATH           a catalogue that join or renew wrote
 
 Example: mxf_tool join --out clip.cat at:0:front.bin cat:earlier.cat";
 

@@ -13,7 +13,8 @@ pub enum Exit {
     /// All was printed; also help.
     Done,
     /// All was printed, and a check found something or has a piece that doesn't end with a packet, there is something
-    /// to restore, a strict join has a piece with bytes behind its stop, or an edit unit has no place or more than one.
+    /// to restore, a strict join or renewal has a piece with bytes behind its stop, or an edit unit has no place or more
+    /// than one.
     Found,
     /// The arguments were refused, or one names no source.
     Usage,
@@ -43,8 +44,8 @@ impl Exit {
         }
     }
 
-    /// How a join ends that would end so: a strict one finds something where a piece ends otherwise than with a packet
-    /// or one that is cut.
+    /// How a join or a renewal ends that would end so: a strict one finds something where a piece ends otherwise than with
+    /// a packet or one that is cut.
     pub fn of_join(self, is_strict: bool, reports: &[PieceReport]) -> Exit
         ensures { result ≡ exit_of_join self is_strict reports.now }
     {

@@ -141,12 +141,12 @@ fn perform_with<R: System>(rt: &R, screen: Screen, request: &Request<'_, '_>, li
 }
 
 /// Does what is asked for with these sources, and the earlier ones of a renewal, and tells a fault.
-fn perform_on<R: System>(
+fn perform_on<'a, R: System>(
     rt: &R,
     screen: Screen,
-    request: &Request<'_, '_>,
-    earlier: &[Source<'_>],
-    sources: &[Source<'_>],
+    request: &Request<'_, 'a>,
+    earlier: &[Source<'a>],
+    sources: &[Source<'a>],
 ) -> Exit {
     let form = request.form;
     let done = match request.task {
@@ -411,15 +411,15 @@ enum Asked {
 
 /// What is printed on standard output.
 #[derive(Clone, Copy)]
-enum Printed<'g> {
+enum Printed<'g, 'n> {
     Asked(Asked, &'g Gathered),
-    Renewed(&'g Renewed<'g>),
+    Renewed(&'g Renewed<'n>),
 }
 
 /// Prints lines in a form, and answers their status.
 fn print_lines<W: Write>(
     alloc: Global,
-    printed: Printed<'_>,
+    printed: Printed<'_, '_>,
     form: Form,
     writer: &mut W,
 ) -> Result<u8, AnswerFault> {
@@ -452,7 +452,7 @@ fn print_asked<W: Write>(
 /// Prints lines on standard output.
 fn print_answer<'a, R: System>(
     rt: &R,
-    printed: Printed<'_>,
+    printed: Printed<'_, '_>,
     form: Form,
 ) -> Result<Exit, RunFault<'a>> {
     let last = LastFault::new();

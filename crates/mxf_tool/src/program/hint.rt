@@ -82,10 +82,10 @@ fn write_form<W: fmt::Write>(
             f,
             "{path} begins as a catalogue: it was damaged or cut, or a newer program wrote it"
         ),
-        Some(Beginning::Other) => write!(f, "{path} is no catalogue that join wrote"),
+        Some(Beginning::Other) => write!(f, "{path} is no catalogue that join or renew wrote"),
         None => write!(
             f,
-            "{path} is no regular file, and gave no catalogue that join wrote"
+            "{path} is no regular file, and gave no catalogue that join or renew wrote"
         ),
     }
 }
@@ -101,7 +101,7 @@ fn write_unsaved<W: fmt::Write>(
             let part = part.as_str();
             write!(
                 f,
-                "another join holds {part} and writes this catalogue: run this one again when it has ended; where none runs, remove that file"
+                "another run holds {part} and writes this catalogue: run this one again when it has ended; where none runs, remove that file"
             )
         }
         SaveFault::Write(cause) => write_cause(f, path, *cause),

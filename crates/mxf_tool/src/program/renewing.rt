@@ -10,6 +10,7 @@ use mxf_catalogue::Catalogue;
 use mxf_lines::Form;
 use mxf_read::Gathered;
 use mxf_verify::renew;
+use std::alloc::{AllocError, Global};
 
 /// What is asked of a renewal: where it is saved, and of which sources.
 #[derive(Clone, Copy)]
@@ -28,12 +29,21 @@ pub fn print_renewal<'a, R: System>(
     screen: Screen,
     asked: Renewal<'_, 'a>,
 ) -> Result<Exit, RunFault<'a>> {
-    allow_output(rt, asked.out, asked.earlier)?;
-    allow_output(rt, asked.out, asked.later)?;
+    let Ok(all) = all_sources(rt.alloc(), asked) else {
+        return Err(RunFault::OutOfMemory);
+    };
+    allow_output(rt, asked.out, &all)?;
     match Reservation::take(rt, asked.out) {
         Ok(held) => renew_at(rt, screen, asked, held),
         Err(fault) => Err(unsaved(asked.out, fault)),
     }
+}
+
+/// The earlier sources and the later ones.
+fn all_sources<'a>(alloc: Global, asked: Renewal<'_, 'a>) -> Result<Vec<Source<'a>>, AllocError> {
+    let mut all = Vec::from_slice(alloc, asked.earlier)?;
+    all.extend_from_slice(asked.later)?;
+    Ok(all)
 }
 
 /// Writes the renewed catalogue to a place that is held, and prints what was dropped.
