@@ -1,1 +1,4 @@
 pub mod Comparing
+pub mod HoldingOrder
+pub mod Holdings
+pub mod Readings

@@ -1,0 +1,3 @@
+pub mod SourceLaws
+pub mod AllNotesLaws
+pub mod HoldingLaws
