@@ -1,3 +1,4 @@
-pub mod SourceLaws
 pub mod AllNotesLaws
+pub mod ComparingLaws
 pub mod HoldingLaws
+pub mod SourceLaws
