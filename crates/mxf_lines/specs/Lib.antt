@@ -11,5 +11,6 @@ pub mod PartitionLines
 pub mod Printing
 pub mod ReferenceLines
 pub mod ShownText
+pub mod SourceLines
 pub mod UnitLines
 pub mod Writing

@@ -13,6 +13,7 @@ mod map;
 mod plan;
 mod references;
 mod sets;
+mod sources;
 mod strings;
 mod units;
 
@@ -26,6 +27,7 @@ use mxf_read::Gathered;
 use mxf_restore::Plan;
 use mxf_units::Units;
 use mxf_views::Place;
+pub use sources::print_sources;
 use std::alloc::Global;
 use std::io::Write;
 pub use strings::escaped_text_is_given_back;

@@ -17,6 +17,8 @@ mod pieces;
 #[cfg(test)]
 mod plans;
 #[cfg(test)]
+mod readings;
+#[cfg(test)]
 mod unions;
 #[cfg(test)]
 mod units;

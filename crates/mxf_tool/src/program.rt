@@ -1,4 +1,5 @@
 //! The run of the program: its arguments, its files, its lines, and its exit status.
+mod beside;
 mod fault;
 mod hint;
 mod sources;
@@ -13,11 +14,12 @@ use crate::saving::{BUFFER_BYTES, Reservation, SaveFault, WatchedWriter, is_refu
 use crate::source::Source;
 use crate::system_fault::{LastFault, SystemFault};
 use crate::watching::{Screen, Watched};
+use beside::print_beside;
 use clap::ArgMatches;
 use clap::error::ErrorKind;
 use fault::{IndexSids, RunFault};
 use mxf_lines::{AnswerFault, Ask, Form, Grid, UnitRange, answer, print_map};
-use mxf_read::{GatherFault, Gathered, Part, gather};
+use mxf_read::{GatherFault, Gathered, Part, PieceReport, gather};
 use mxf_units::index_sids;
 use mxf_views::Views;
 use sources::{read_list, sources_of, unread};
@@ -141,6 +143,7 @@ fn perform_on<R: System>(
         Task::Tell(ask) => print_told(rt, screen, Asked::Answer(ask), form, sources),
         Task::Picture(grid) => print_told(rt, screen, Asked::Picture(grid), form, sources),
         Task::Units { index, range } => print_units(rt, screen, index, range, form, sources),
+        Task::Sources => print_beside(rt, screen, form, sources),
         Task::Join { out, is_strict } => print_joined(rt, screen, out, is_strict, form, sources),
     };
     match done {
@@ -171,7 +174,7 @@ fn print_of<'a, R: System>(
     gathered: &Gathered,
 ) -> Result<Exit, RunFault<'a>> {
     let exit = print_answer(rt, asked, form, gathered)?;
-    told(rt, screen, sources, gathered, false, exit)
+    told(rt, screen, sources, gathered.reports.as_slice(), false, exit)
 }
 
 /// Prints where edit units lie by what the sources hold together.
@@ -243,7 +246,7 @@ fn print_saved<'a, R: System>(
 ) -> Result<Exit, RunFault<'a>> {
     let exit = print_answer(rt, Asked::Answer(Ask::Join), form, gathered)?;
     let exit = exit.of_join(is_strict, gathered.reports.as_slice());
-    told(rt, screen, sources, gathered, true, exit)
+    told(rt, screen, sources, gathered.reports.as_slice(), true, exit)
 }
 
 /// Writes the catalogue of what the sources hold together. Its place is held before the first source is opened.
@@ -292,13 +295,11 @@ fn told<'a, R: System>(
     rt: &R,
     screen: Screen,
     sources: &[Source<'_>],
-    gathered: &Gathered,
+    reports: &[PieceReport],
     with_stops: bool,
     exit: Exit,
 ) -> Result<Exit, RunFault<'a>> {
-    if screen == Screen::Terminal
-        && tell_stops(rt, sources, gathered.reports.as_slice(), with_stops).is_err()
-    {
+    if screen == Screen::Terminal && tell_stops(rt, sources, reports, with_stops).is_err() {
         return Err(RunFault::OutOfMemory);
     }
     Ok(exit)
@@ -385,6 +386,15 @@ fn print_answer<'a, R: System>(
     };
     let answered = print_asked(rt.alloc(), asked, form, gathered, &mut out);
     let is_flushed = answered.is_ok() && out.flush().is_ok();
+    printed(answered, is_flushed, &last)
+}
+
+/// How a run ends whose answer was printed so, and flushed or not; or its fault.
+fn printed<'a>(
+    answered: Result<u8, AnswerFault>,
+    is_flushed: bool,
+    last: &LastFault,
+) -> Result<Exit, RunFault<'a>> {
     match Exit::of_answer(answered, is_flushed) {
         Exit::NoMemory => Err(RunFault::OutOfMemory),
         Exit::Usage => Err(RunFault::BadUnit),
