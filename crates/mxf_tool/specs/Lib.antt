@@ -1,4 +1,5 @@
 pub mod Beginnings
+pub mod Contents
 pub mod Exits
 pub mod Lists
 pub mod OnScreen

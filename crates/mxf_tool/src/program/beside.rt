@@ -1,6 +1,7 @@
 //! Sources beside each other: which of them holds which note.
 use super::fault::RunFault;
-use super::{System, open_parts, printed, told};
+use super::{System, open_parts, printed, told, ungathered};
+use crate::contents::{Contents, gather_each};
 use crate::exit::Exit;
 use crate::saving::{BUFFER_BYTES, WatchedWriter};
 use crate::shown::text_on_screen;
@@ -9,17 +10,9 @@ use crate::system_fault::LastFault;
 use crate::watching::Screen;
 use mxf_catalogue::Catalogue;
 use mxf_lines::{Form, print_sources};
-use mxf_read::{Gathered, Part, PartFault, PieceReport, gather};
 use mxf_verify::Readings;
 use std::alloc::{AllocError, Global};
-use std::io::{self, BufWriter, Read, Write};
-
-/// What each of some sources holds by itself, and what was noted of each piece.
-#[derive(Drop)]
-struct Contents {
-    contents: Vec<Catalogue>,
-    reports: Vec<PieceReport>,
-}
+use std::io::{self, BufWriter, Write};
 
 /// Prints what each source holds, and which source has which disputed note.
 pub fn print_beside<'a, R: System>(
@@ -54,55 +47,10 @@ fn read_each<'a, R: System>(
 ) -> Result<Contents, RunFault<'a>> {
     let last = LastFault::new();
     let parts = open_parts(rt, screen, sources, &last)?;
-    contents_of(rt.alloc(), parts, sources, &last)
-}
-
-/// What the parts of sources hold, each by itself.
-fn contents_of<'a, F: Read + Drop>(
-    alloc: Global,
-    parts: Vec<Part<F>>,
-    sources: &[Source<'a>],
-    last: &LastFault,
-) -> Result<Contents, RunFault<'a>> {
-    let mut held = Contents {
-        contents: Vec::new(alloc),
-        reports: Vec::new(alloc),
-    };
-    let mut sources = sources.iter();
-    for part in parts {
-        let path = match sources.next() {
-            Some(source) => source.path(),
-            None => "",
-        };
-        let kept = match gather_one(alloc, part) {
-            Ok(gathered) => keep(&mut held, gathered),
-            Err(fault) => return Err(RunFault::of_part(path, fault, last.get())),
-        };
-        if kept.is_err() {
-            return Err(RunFault::OutOfMemory);
-        }
+    match gather_each(rt.alloc(), parts) {
+        Ok(contents) => Ok(contents),
+        Err(fault) => Err(ungathered(&fault, sources, &last)),
     }
-    Ok(held)
-}
-
-/// What one part holds by itself.
-fn gather_one<F: Read + Drop>(alloc: Global, part: Part<F>) -> Result<Gathered, PartFault> {
-    let mut parts = Vec::new(alloc);
-    parts.push(part)?;
-    match gather(alloc, parts) {
-        Ok(gathered) => Ok(gathered),
-        Err(fault) => Err(fault.fault),
-    }
-}
-
-/// Keeps what a part holds behind what those before it do.
-fn keep(held: &mut Contents, gathered: Gathered) -> Result<(), AllocError> {
-    let Gathered { views, reports } = gathered;
-    for report in reports.as_slice() {
-        held.reports.push(*report)?;
-    }
-    held.contents.push(views.into_catalogue())?;
-    Ok(())
 }
 
 /// Prints on standard output which of the sources with these names and contents holds which note.
