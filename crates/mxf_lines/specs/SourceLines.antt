@@ -1,5 +1,5 @@
 -- The lines of several sources beside each other (this project's profile).
-use Rattle.std.specs.Prelude.{ℕ, ◌+◌, ◌==◌, Bool, true, false, if◌then◌else◌, List, [], ◌∷◌, ◌++◌, codes, flat_map, length}
+use Rattle.std.specs.Prelude.{ℕ, ◌+◌, ◌==◌, if◌then◌else◌, List, [], ◌∷◌, ◌++◌, codes, flat_map, length}
 use Rattle.std.specs.Prelude.{not}
 use Rattle.sha2.specs.Sha256.{sha256}
 use Rattle.mxf_klv.specs.Kind.{kind_of}
