@@ -1,5 +1,5 @@
 -- What sources hold, each by itself, one source after another.
-use Rattle.std.proofs.Common.{◌≡◌, ◌∙◌, ◌+◌, ◌++◌, ℕ, Option, List, [], ◌∷◌, ap, append-nil, arith, length, refl, subst, sym}
+use Rattle.std.proofs.Common.{◌≡◌, ◌∙◌, ◌+◌, ◌++◌, ℕ, Option, List, [], ◌∷◌, ap, append-nil, arith, length, subst, sym}
 use Rattle.mxf_klv.specs.Parts.{NoteParts}
 use Rattle.mxf_views.specs.Headline.{IsTheRun}
 use Rattle.mxf_read.specs.declared.gathering.part.Part.{Part}
@@ -38,3 +38,11 @@ module _ {R : Type 0} (left : R → Option (List ℕ)) where
   taken_all all [] number contents a none =
       subst (λ (ps : List (Part R)). AreRuns left ps contents) (sym (a.passed.whole ∙ append-nil a.passed.done)) a.runs
   taken_all all (p ∷ rest) number contents a none = absurd (omega arith)
+
+  -- What is gathered of a list of one part is the run of that.
+  pub one_run : (old parts : List (Part R)) (p : Part R) (views : List NoteParts) → old ≡ [] → parts ≡ old ++ p ∷ []
+      → (AllTell left parts → IsTheRun (HandedBy left parts) views) → Tells left p
+      → IsTheRun (HandedBy left (p ∷ [])) views
+  one_run old parts p views none pushed run t =
+      let only = pushed ∙ ap (λ (l : List (Part R)). l ++ p ∷ []) none in
+      subst (λ (l : List (Part R)). AllTell left l → IsTheRun (HandedBy left l) views) only run (t, tt)

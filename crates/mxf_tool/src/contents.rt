@@ -51,7 +51,16 @@ fn take_alone<R: Read + Drop>(
     ensures { Tells R.remaining part
         → OnOk result (TakesAlone R.remaining part contents.old.contents.items contents.new.contents.items) }
 {
-    let Gathered { views, reports } = gather_one(alloc, part)?;
+    let gathered = gather_one(alloc, part)?;
+    keep(contents, gathered)?;
+    Ok(())
+}
+
+/// Keeps what a part holds behind what those before it do.
+fn keep(contents: &mut Contents, gathered: Gathered) -> Result<(), AllocError>
+    ensures { OnOk result (contents.new.contents.items ≡ contents.old.contents.items ++ gathered.views ∷ []) }
+{
+    let Gathered { views, reports } = gathered;
     push_all(&mut contents.reports, reports.as_slice())?;
     contents.contents.push(views.into_catalogue())?;
     Ok(())

@@ -174,7 +174,14 @@ fn print_of<'a, R: System>(
     gathered: &Gathered,
 ) -> Result<Exit, RunFault<'a>> {
     let exit = print_answer(rt, asked, form, gathered)?;
-    told(rt, screen, sources, gathered.reports.as_slice(), false, exit)
+    told(
+        rt,
+        screen,
+        sources,
+        gathered.reports.as_slice(),
+        false,
+        exit,
+    )
 }
 
 /// Prints where edit units lie by what the sources hold together.
