@@ -141,7 +141,7 @@ def other_order(rng, pieces):
 
 def without_kind(line):
     """The line of a note, with `..` for its kind."""
-    return re.sub(r"^(note \d+) [a-z-]+ ", r"\1 .. ", line)
+    return re.sub(r"^((?:note|disputed) \d+) [a-z-]+ ", r"\1 .. ", line)
 
 
 def is_shown(lines, content):
@@ -221,6 +221,9 @@ def try_pieces(run, rng, pieces):
         raise Wrong("a plan doesn't order all gaps")
     if not pictures(run.call((0,), size, "map", *sources).splitlines(), content):
         raise Wrong("a map doesn't tell what is held")
+    beside = run.call((int(bool(notes.disputed(content))),), size, "sources", *sources).splitlines()
+    if [without_kind(line) for line in beside] != list(notes.source_lines(sources, (found for found, _ in read))):
+        raise Wrong("the sources beside each other aren't those of the packets")
     try_other_order(run, rng, pieces, wanted)
     return content
 

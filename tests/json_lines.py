@@ -45,6 +45,8 @@ class Form:
         """The text of a value; one that isn't there has a word."""
         if value is None:
             return "none" if self.name in ("copy", "preferred") else "-"
+        if isinstance(value, list):
+            return " ".join(map(str, value))
         return str(value)
 
 
@@ -54,6 +56,8 @@ def is_of(value, sort):
         return value == sort[1:]
     if value is None:
         return sort.endswith("?")
+    if sort == "numbers":
+        return isinstance(value, list) and all(is_of(one, "number") for one in value)
     return isinstance(value, TYPES[sort.rstrip("?")]) and isinstance(value, bool) == (sort == "flag")
 
 

@@ -215,6 +215,27 @@ def note_lines(notes):
         yield f"note {note.offset} .. {note.width} {note.length} {note.key.hex()}{marks}"
 
 
+def source_lines(words, contents):
+    """What `sources` prints of sources that these words name and that have these notes, with `..` for the word of a
+    kind."""
+    contents = [reduced(notes) for notes in contents]
+    content = reduced(note for notes in contents for note in notes)
+    marked = {content[at] for at in disputed(content)}
+    sources = {note: [] for note in content}
+    for number, notes in enumerate(contents, 1):
+        for note in notes:
+            sources.setdefault(note, []).append(number)
+    held = set(content)
+    for number, (word, notes) in enumerate(zip(words, contents), 1):
+        alone = sum(note in held and sources[note] == [number] for note in notes)
+        yield f"source {number} notes {len(notes)} alone {alone} disputed {len(marked.intersection(notes))} {word}"
+    for note in sorted(marked):
+        digest = hashlib.sha256(note.held).hexdigest() if is_kept(note.key, note.length) else note.held.hex()
+        parts = f"{note.width} {note.length} {note.key.hex()} {digest if note.is_whole else 'head -'}"
+        yield f"disputed {note.offset} .. {parts} from {' '.join(map(str, sources[note]))}"
+    yield f"sources {len(contents)} notes {len(content)} disputed {len(marked)}"
+
+
 def gaps(notes):
     """The ranges of bytes, below the greatest end, that these sorted notes don't cover, rising."""
     found, reach = [], 0

@@ -7,13 +7,14 @@ use Rattle.mxf_lines.specs.declared.printing.Form.{Form}
 use Rattle.mxf_lines.specs.declared.printing.Form.TheVariants.{Text, Json}
 
 -- The value of a field: a number, by its digits; characters; one that is absent, for which the text has a word; a flag,
--- whose word stands in the text or doesn't; or a word that the text doesn't show.
+-- whose word stands in the text or doesn't; a word that the text doesn't show; or numbers.
 pub data Value : Type 0 where
   Number : List ℕ → Value
   Characters : List ℕ → Value
   Absent : List ℕ → Value
   Flag : Bool → Value
   Fixed : List ℕ → Value
+  Numbers : List ℕ → Value
 
 -- A field: what stands before it in the text, its name, and its value. Of a flag the first is its word.
 pub record Field : Type 0 where
@@ -28,6 +29,15 @@ pub record PrintedLine : Type 0 where
   pub fields : List Field
   pub last : List ℕ
 
+-- The digits of numbers, with a separator between two of them, and where others are behind them.
+abbrev pub separated_behind : List ℕ → List ℕ → List ℕ
+separated_behind separator [] = []
+separated_behind separator (n ∷ numbers) = separator ++ (decimal n ++ separated_behind separator numbers)
+
+abbrev pub separated : List ℕ → List ℕ → List ℕ
+separated separator [] = []
+separated separator (n ∷ numbers) = decimal n ++ separated_behind separator numbers
+
 -- The text of a field.
 abbrev pub field_text : List ℕ → Value → List ℕ
 field_text before (Number digits) = before ++ digits
@@ -36,6 +46,7 @@ field_text before (Absent word) = before ++ word
 field_text before (Flag true) = before
 field_text before (Flag false) = []
 field_text before (Fixed word) = before
+field_text before (Numbers numbers) = before ++ separated (codes " ") numbers
 
 -- In a string a quotation mark, 34, and a backslash, 92, have a backslash before them, and nothing else has.
 abbrev pub escaped_character : ℕ → List ℕ
@@ -56,6 +67,7 @@ value_json (Absent word) = codes "null"
 value_json (Flag true) = codes "true"
 value_json (Flag false) = codes "false"
 value_json (Fixed word) = quoted word
+value_json (Numbers numbers) = codes "[" ++ (separated (codes ",") numbers ++ codes "]")
 
 -- What is printed of a line with this name before its fields, of a field, and behind the fields.
 unfoldable pub front_in : Form → List ℕ → List ℕ → List ℕ
@@ -79,7 +91,7 @@ abbrev pub lines_in : Form → List PrintedLine → List ℕ
 lines_in form lines = flat_map (line_in form) lines
 
 -- Fields by what stands before them, their names and their values: a number by its digits, and by itself, characters, a
--- flag, and a number that may be absent, with the word for that.
+-- flag, numbers, and a number that may be absent, with the word for that.
 abbrev pub field : List ℕ → List ℕ → Value → Field
 field before name value = record { before = before; name = name; value = value }
 
@@ -94,6 +106,9 @@ word before name text = field (codes before) (codes name) (Characters text)
 
 abbrev pub flag : String → String → Bool → Field
 flag before name stands = field (codes before) (codes name) (Flag stands)
+
+abbrev pub numbers : String → String → List ℕ → Field
+numbers before name all = field (codes before) (codes name) (Numbers all)
 
 abbrev pub number_or : List ℕ → Option ℕ → Value
 number_or none None = Absent none

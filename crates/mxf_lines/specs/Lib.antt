@@ -12,5 +12,6 @@ pub mod Printing
 pub mod ReferenceLines
 pub mod RenewalLines
 pub mod ShownText
+pub mod SourceLines
 pub mod UnitLines
 pub mod Writing

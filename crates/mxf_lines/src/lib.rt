@@ -20,5 +20,5 @@ mod printing;
 
 pub use printing::{
     AnswerFault, Ask, Form, Grid, UnitRange, answer, escaped_text_is_given_back, hex_text,
-    print_map, print_renewed,
+    print_map, print_renewed, print_sources,
 };

@@ -14,6 +14,7 @@ mod plan;
 mod references;
 mod renewal;
 mod sets;
+mod sources;
 mod strings;
 mod units;
 
@@ -28,6 +29,7 @@ use mxf_restore::Plan;
 use mxf_units::Units;
 use mxf_views::Place;
 pub use renewal::print_renewed;
+pub use sources::print_sources;
 use std::alloc::Global;
 use std::io::Write;
 pub use strings::escaped_text_is_given_back;

@@ -17,6 +17,7 @@ mod pieces;
 #[cfg(test)]
 mod plans;
 #[cfg(test)]
+mod readings;
 mod renewals;
 #[cfg(test)]
 mod unions;

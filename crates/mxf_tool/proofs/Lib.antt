@@ -1,2 +1,3 @@
+pub mod ContentsLaws
 pub mod ListLaws
 pub mod SourceLaws

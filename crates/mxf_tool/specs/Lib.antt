@@ -1,5 +1,6 @@
 pub mod AskedUnits
 pub mod Beginnings
+pub mod Contents
 pub mod Exits
 pub mod Lists
 pub mod OnScreen

@@ -27,6 +27,8 @@ pub enum Task<'a> {
         index: Option<u32>,
         units: AskedUnits,
     },
+    /// To print which source holds which note.
+    Sources,
     /// To write the catalogue to the file at `out`. A strict join ends with another status where a piece isn't noted
     /// whole.
     Join {
@@ -119,6 +121,19 @@ A source SRC is one of
 
 Example: mxf_tool map --columns 100 cat:clip.cat";
 
+/// What the help of `sources` ends with.
+const SOURCES_HELP: &str = "Lines:
+  source I notes N alone A disputed D SRC  source I has N packets: A of them no other has, D of them are disputed
+  disputed OFFSET KIND WIDTH LENGTH KEY SUM from I I ..  a packet that lies where another does, and who has it
+  sources N notes M disputed D  together, N sources have M packets, and D of them are disputed
+
+A source SRC is one of
+  at:OFFSET:PATH     a piece: the bytes of the file PATH, whose first byte lies at byte OFFSET of the recording
+  range:OFFSET:PATH  the same where the first byte may lie inside a packet: it is read from the next one on
+  cat:PATH           a catalogue that join wrote
+
+Example: mxf_tool sources at:0:copy.mxf cat:clip.cat";
+
 /// What the help of `join` ends with.
 const JOIN_HELP: &str = "A source SRC is one of
   at:OFFSET:PATH     a piece: the bytes of the file PATH, whose first byte lies at byte OFFSET of the recording
@@ -153,6 +168,7 @@ pub fn command<'a>(alloc: Global) -> Result<Command<'a>, AllocError> {
     let tool = with(tool, units(alloc));
     let tool = with(tool, plan(alloc));
     let tool = with(tool, map(alloc));
+    let tool = with(tool, beside(alloc));
     let tool = with(tool, join(alloc));
     with(tool, renew(alloc))
 }
@@ -201,6 +217,12 @@ fn map<'a>(alloc: Global) -> Result<Command<'a>, AllocError> {
     let about = "Prints what is held of the recording, as a picture";
     let map = named(alloc, "map", about, MAP_HELP);
     with_sources(alloc, with_args(map, columns(alloc), rows(alloc))?)
+}
+
+/// The subcommand that looks at sources beside each other.
+fn beside<'a>(alloc: Global) -> Result<Command<'a>, AllocError> {
+    let about = "Prints which source holds which packet, where sources disagree";
+    with_sources(alloc, named(alloc, "sources", about, SOURCES_HELP))
 }
 
 /// The subcommand that saves what is joined.
@@ -375,6 +397,7 @@ fn task_of<'a>(name: &str, inner: &ArgMatches<'a>) -> Option<Task<'a>> {
             inner.get_one("columns").unwrap_or(64),
             inner.get_one("rows").unwrap_or(16),
         )?)),
+        "sources" => Some(Task::Sources),
         "join" => Some(Task::Join {
             out: inner.get_str("out")?,
             is_strict: inner.get_flag("strict"),

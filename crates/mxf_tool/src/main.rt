@@ -4,6 +4,7 @@
 mod arguments;
 mod beginning;
 mod command_line;
+mod contents;
 mod exit;
 mod listed;
 mod part;

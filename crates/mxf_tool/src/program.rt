@@ -1,4 +1,5 @@
 //! The run of the program: its arguments, its files, its lines, and its exit status.
+mod beside;
 mod fault;
 mod hint;
 mod renewing;
@@ -17,6 +18,7 @@ use crate::saving::{BUFFER_BYTES, Reservation, SaveFault, WatchedWriter, is_refu
 use crate::source::Source;
 use crate::system_fault::{LastFault, SystemFault};
 use crate::watching::{Screen, Watched};
+use beside::print_beside;
 use clap::ArgMatches;
 use clap::error::ErrorKind;
 use fault::{IndexSids, RunFault};
@@ -153,6 +155,7 @@ fn perform_on<'a, R: System>(
         Task::Tell(ask) => print_told(rt, screen, Asked::Answer(ask), form, sources),
         Task::Picture(grid) => print_told(rt, screen, Asked::Picture(grid), form, sources),
         Task::Units { index, units } => print_units(rt, screen, index, units, form, sources),
+        Task::Sources => print_beside(rt, screen, form, sources),
         Task::Join { out, is_strict } => print_joined(rt, screen, out, is_strict, form, sources),
         Task::Renew { out, is_strict } => {
             let asked = Renewal {
@@ -462,6 +465,15 @@ fn print_answer<'a, R: System>(
     };
     let answered = print_lines(rt.alloc(), printed, form, &mut out);
     let is_flushed = answered.is_ok() && out.flush().is_ok();
+    printed(answered, is_flushed, &last)
+}
+
+/// How a run ends whose answer was printed so, and flushed or not; or its fault.
+fn printed<'a>(
+    answered: Result<u8, AnswerFault>,
+    is_flushed: bool,
+    last: &LastFault,
+) -> Result<Exit, RunFault<'a>> {
     match Exit::of_answer(answered, is_flushed) {
         Exit::NoMemory => Err(RunFault::OutOfMemory),
         Exit::Usage => Err(RunFault::BadUnit),

@@ -2,7 +2,8 @@
 ghost use Rattle.std.specs.Prelude.{◌≡◌, ◌++◌, IfOk, IfSome, codes, decimal, string_bytes};
 ghost use Rattle.std.specs.Char.{encode_utf8};
 ghost use Rattle.std.specs.List.{repeat};
-ghost use Rattle.mxf_lines.specs.Forms.{Absent, Characters, Fixed, Flag, Number, escaped, field, number_or};
+ghost use Rattle.mxf_lines.specs.Forms.{Absent, Characters, Fixed, Flag, Number, Numbers, escaped, field, number_or};
+ghost use Rattle.mxf_lines.specs.Forms.{separated, separated_behind};
 ghost use Rattle.mxf_lines.specs.Writing.{with_end, with_field, with_front};
 
 use crate::printing::Form;
@@ -175,6 +176,24 @@ impl FieldWriter {
         }
     }
 
+    /// Numbers.
+    #[tactic(auto, unfolding(crate::specs::Forms::field_in, crate::specs::Writing::with_field))]
+    pub fn numbers(&mut self, before: &str, name: &str, values: &[usize]) -> Result<(), AllocError>
+        ensures { IfOk result (λ _. self.new ≡ with_field (field before.now name.now (Numbers values.now)) self.old) }
+    {
+        match self.form {
+            Form::Text => {
+                self.text.push_str(before)?;
+                append_numbers(&mut self.text, " ", values)
+            }
+            Form::Json => {
+                write!(self.text, ",\"{name}\":[")?;
+                append_numbers(&mut self.text, ",", values)?;
+                self.text.push_str("]")
+            }
+        }
+    }
+
     /// Ends the line with the words behind its fields.
     #[tactic(auto, unfolding(crate::specs::Forms::end_in, crate::specs::Writing::with_end))]
     pub fn end(&mut self, last: &str) -> Result<(), AllocError>
@@ -195,6 +214,29 @@ fn append_spaces(line: &mut String, count: usize) -> Result<(), AllocError>
     while left > 0 {
         line.push_str(" ")?;
         left -= 1;
+    }
+    Ok(())
+}
+
+/// Appends numbers, with a separator between two of them.
+fn append_numbers(line: &mut String, separator: &str, values: &[usize]) -> Result<(), AllocError>
+    ensures { IfOk result (λ _. string_bytes line.new
+        ≡ string_bytes line.old ++ separated separator.now values.now) }
+{
+    let Some((first, others)) = values.split_first() else {
+        return Ok(());
+    };
+    write!(line, "{first}")?;
+    append_others(line, separator, others)
+}
+
+/// Appends numbers, with a separator ahead of each.
+fn append_others(line: &mut String, separator: &str, values: &[usize]) -> Result<(), AllocError>
+    ensures { IfOk result (λ _. string_bytes line.new
+        ≡ string_bytes line.old ++ separated_behind separator.now values.now) }
+{
+    for value in values {
+        write!(line, "{separator}{value}")?;
     }
     Ok(())
 }

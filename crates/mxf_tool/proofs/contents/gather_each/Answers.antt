@@ -1,0 +1,31 @@
+use Rattle.std.proofs.Common.{◌≡◌, List, subst, sym}
+use Rattle.std.specs.Vec.Iter.{into_iter_items}
+use Rattle.mxf_klv.specs.Parts.{NoteParts}
+use Rattle.mxf_read.proofs.GatheringLaws.{IsPassed, passed_none, passed_one, told}
+use Rattle.mxf_tool.proofs.ContentsLaws.{AreTaken, taken_none, taken_one}
+use Rattle.mxf_tool.proofs.contents.gather_each.Goals as goal
+
+pub parts-init : goal.parts-init
+parts-init g c =
+    let left = g.R.Read.remaining in
+    let all = c.args.parts.items in
+    let is : into_iter_items c.into_iter-part-iterator.result ≡ all =
+    c.into_iter-part-iterator.ensures.into_iter_gives.0 in
+    record {
+      passed = subst (IsPassed all 0) (sym is) (passed_none all);
+      taken = λ t. subst (λ (l : List _). AreTaken left all 0 l c.new.result.items) (sym is)
+          (subst (λ (held : List (List NoteParts)). AreTaken left all 0 all held) (sym c.new.ensures.items)
+          (taken_none left all));
+    }
+
+pub parts-preserved : goal.parts-preserved
+parts-preserved g c =
+    let left = g.R.Read.remaining in
+    let all = c.args.parts.items in
+    let i = c.parts.invariant in
+    let next = c.in-Some.ensures.steps.0 in
+    record {
+      passed = passed_one all _ _ c.in-Some.part c.parts.number i.passed next;
+      taken = λ t. taken_one left all _ _ c.in-Some.part c.parts.number _ _ (i.taken t) next
+          (c.in_default.ensures (told left all _ _ c.in-Some.part c.parts.number i.passed next t));
+    }

@@ -1,0 +1,87 @@
+//! What sources hold, each by itself.
+ghost use Rattle.std.specs.Prelude.{◌<◌, ◌++◌, ◌≡◌, [], ◌∷◌, length, IfErr, IfOk, OnOk};
+ghost use Rattle.mxf_views.specs.Headline.{IsTheRun};
+ghost use Rattle.mxf_read.specs.Gathering.{AllTell, HandedBy, Tells};
+ghost use Rattle.mxf_tool.specs.Contents.{AreRuns, TakesAlone};
+
+use mxf_catalogue::Catalogue;
+use mxf_read::{GatherFault, Gathered, Part, PartFault, PieceReport, gather};
+use std::alloc::{AllocError, Global};
+use std::io::Read;
+
+/// What each of some parts holds by itself, and what was noted of each piece.
+#[derive(Drop)]
+pub struct Contents {
+    pub contents: Vec<Catalogue>,
+    pub reports: Vec<PieceReport>,
+}
+
+/// What the parts hold, each by itself, in their order. The first part that is at fault ends it.
+pub fn gather_each<R: Read + Drop>(
+    alloc: Global,
+    parts: Vec<Part<R>>,
+) -> Result<Contents, GatherFault>
+    ensures runs { AllTell R.remaining parts.items
+        → IfOk result (λ c. AreRuns R.remaining parts.items c.contents.items) }
+    ensures number { IfErr result (λ f. f.part < length parts.items) }
+{
+    let mut contents = Contents {
+        contents: Vec::new(alloc),
+        reports: Vec::new(alloc),
+    };
+    let mut number: usize = 0;
+    'parts: for part in parts {
+        if let Err(fault) = take_alone(alloc, &mut contents, part) {
+            return Err(GatherFault {
+                part: number,
+                fault,
+            });
+        }
+        number += 1;
+    }
+    Ok(contents)
+}
+
+/// Takes what one part holds by itself behind what those before it do.
+fn take_alone<R: Read + Drop>(
+    alloc: Global,
+    contents: &mut Contents,
+    part: Part<R>,
+) -> Result<(), PartFault>
+    ensures { Tells R.remaining part
+        → OnOk result (TakesAlone R.remaining part contents.old.contents.items contents.new.contents.items) }
+{
+    let gathered = gather_one(alloc, part)?;
+    keep(contents, gathered)?;
+    Ok(())
+}
+
+/// Keeps what a part holds behind what those before it do.
+fn keep(contents: &mut Contents, gathered: Gathered) -> Result<(), AllocError>
+    ensures { OnOk result (contents.new.contents.items ≡ contents.old.contents.items ++ gathered.views ∷ []) }
+{
+    let Gathered { views, reports } = gathered;
+    push_all(&mut contents.reports, reports.as_slice())?;
+    contents.contents.push(views.into_catalogue())?;
+    Ok(())
+}
+
+/// What one part holds by itself.
+fn gather_one<R: Read + Drop>(alloc: Global, part: Part<R>) -> Result<Gathered, PartFault>
+    ensures { Tells R.remaining part → IfOk result (λ g. IsTheRun (HandedBy R.remaining (part ∷ [])) g.views) }
+{
+    let mut parts = Vec::new(alloc);
+    parts.push(part)?;
+    match gather(alloc, parts) {
+        Ok(gathered) => Ok(gathered),
+        Err(fault) => Err(fault.fault),
+    }
+}
+
+/// Puts reports behind others.
+fn push_all(all: &mut Vec<PieceReport>, reports: &[PieceReport]) -> Result<(), AllocError> {
+    for report in reports {
+        all.push(*report)?;
+    }
+    Ok(())
+}

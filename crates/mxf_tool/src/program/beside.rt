@@ -1,0 +1,84 @@
+//! Sources beside each other: which of them holds which note.
+use super::fault::RunFault;
+use super::{System, open_parts, printed, told, ungathered};
+use crate::contents::{Contents, gather_each};
+use crate::exit::Exit;
+use crate::saving::{BUFFER_BYTES, WatchedWriter};
+use crate::shown::text_on_screen;
+use crate::source::Source;
+use crate::system_fault::LastFault;
+use crate::watching::Screen;
+use mxf_catalogue::Catalogue;
+use mxf_lines::{Form, print_sources};
+use mxf_verify::Readings;
+use std::alloc::{AllocError, Global};
+use std::io::{self, BufWriter, Write};
+
+/// Prints what each source holds, and which source has which disputed note.
+pub fn print_beside<'a, R: System>(
+    rt: &R,
+    screen: Screen,
+    form: Form,
+    sources: &[Source<'a>],
+) -> Result<Exit, RunFault<'a>> {
+    let Ok(names) = names_of(rt.alloc(), sources) else {
+        return Err(RunFault::OutOfMemory);
+    };
+    let Contents { contents, reports } = read_each(rt, screen, sources)?;
+    let exit = print_contents(rt, form, &names, &contents)?;
+    told(rt, screen, sources, &reports, false, exit)
+}
+
+/// The words that name the sources, as a terminal shows them.
+fn names_of(alloc: Global, sources: &[Source<'_>]) -> Result<Vec<String>, AllocError> {
+    let mut names = Vec::new(alloc);
+    for source in sources {
+        let name = format!(in alloc; "{source}")?;
+        names.push(text_on_screen(alloc, name.as_str())?)?;
+    }
+    Ok(names)
+}
+
+/// What each source holds by itself. All are opened before the first is read.
+fn read_each<'a, R: System>(
+    rt: &R,
+    screen: Screen,
+    sources: &[Source<'a>],
+) -> Result<Contents, RunFault<'a>> {
+    let last = LastFault::new();
+    let parts = open_parts(rt, screen, sources, &last)?;
+    match gather_each(rt.alloc(), parts) {
+        Ok(contents) => Ok(contents),
+        Err(fault) => Err(ungathered(&fault, sources, &last)),
+    }
+}
+
+/// Prints on standard output which of the sources with these names and contents holds which note.
+fn print_contents<'a, R: System>(
+    rt: &R,
+    form: Form,
+    names: &[String],
+    contents: &[Catalogue],
+) -> Result<Exit, RunFault<'a>> {
+    match Readings::of(rt.alloc(), contents) {
+        Ok(readings) => print_readings(rt, form, names, &readings),
+        Err(_) => Err(RunFault::OutOfMemory),
+    }
+}
+
+/// Prints on standard output which of the sources with these names holds which note.
+fn print_readings<'a, R: System>(
+    rt: &R,
+    form: Form,
+    names: &[String],
+    readings: &Readings<'_>,
+) -> Result<Exit, RunFault<'a>> {
+    let last = LastFault::new();
+    let kept = WatchedWriter::new(io::writer(rt), &last);
+    let Ok(mut out) = BufWriter::with_capacity(rt.alloc(), BUFFER_BYTES, kept) else {
+        return Err(RunFault::OutOfMemory);
+    };
+    let answered = print_sources(rt.alloc(), readings, names, form, &mut out);
+    let is_flushed = answered.is_ok() && out.flush().is_ok();
+    printed(answered, is_flushed, &last)
+}

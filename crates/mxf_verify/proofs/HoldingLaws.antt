@@ -1,0 +1,265 @@
+-- Holdings: what they say of sources, and where those of a note stand.
+use Rattle.std.proofs.Common.{◌≡◌, ◌↔◌, ◌⊎◌, ◌==◌, ◌+◌, ◌≤◌, ◌<◌, ◌∙◌, ◌++◌, ℕ, zero, suc, Bool, true, false, cond, List, []}
+use Rattle.std.proofs.Common.{◌∷◌, IsTrue, refl, sym, ap, subst, inl, inr, arith, get_or, length, nat_cmp, nat_lt, nat_le}
+use Rattle.std.proofs.Common.{Ordering, Less, Equal, Greater, drop, filter, map, take}
+use Rattle.std.specs.List.{AllByRecursion, AllWithin, dedup}
+use Rattle.std.specs.List.Retain.{DiffersFromLast, IsFiltered}
+use Rattle.std.specs.List.Sorted.{IsNonDecreasingBy, IsPartitionedBy, IsPermutation, IsSorted, IsSortedByKey}
+use Rattle.std.specs.Ordering.{eq_by_cmp, is_eq, is_le, is_lt, ordering_index, ordering_reverse, ordering_then}
+use Rattle.std.proofs.lemmas.Bool.{false_from_ne_true, ltb-false, ltb-true}
+use Rattle.std.proofs.lemmas.Cmp.{nat_cmp_total, tied_itself}
+use Rattle.std.proofs.lemmas.List.Sorted.{searchable_from_sorted}
+use Rattle.std.specs.FinSet.{nat_cmp-IsAntisymmetric}
+use Rattle.mxf_klv.specs.Parts.{NoteParts}
+use Rattle.mxf_klv.specs.Note.{note_cmp}
+use Rattle.mxf_klv.specs.NoteOrder.{note_total, note_cmp-IsAntisymmetric}
+use Rattle.mxf_klv.specs.Rising.{In, In-union, IsRising, less_in, same_from_members, union}
+use Rattle.mxf_klv.proofs.Lists.{all-In, all_from_In, In-append, In-at, In-filter, In-map}
+use Rattle.mxf_klv.proofs.SortedUnions.{in_order, in_order-rises}
+use Rattle.mxf_klv.proofs.Tests.{by_places, less_from_lt, ties}
+use Rattle.mxf_catalogue.specs.ReducedLaws.{is_same-Decides, rising-filter}
+use Rattle.mxf_verify.specs.HoldingOrder.{holding_total, holding_cmp-IsAntisymmetric}
+use Rattle.mxf_verify.specs.Holdings.{AreHoldings, HoldingParts, holding, holding_cmp, holdings_from, is_of}
+use Rattle.mxf_verify.specs.Readings.{content_of, sources_of}
+use Rattle.mxf_verify.proofs.SourceLaws.{at_number, sources_rise, sources_say}
+
+-- ---- members
+
+same_holding : (h : HoldingParts) (first : ℕ) → h.source ≡ first → h ≡ holding first h.note
+same_holding h first e = λ i. record { note = h.note; source = e i }
+
+pub from_members : (h : HoldingParts) (first : ℕ) (contents : List (List NoteParts))
+    → In h (holdings_from first contents)
+    ↔ ((i : ℕ) × (h.source ≡ first + i) × In h.note (get_or contents i []))
+from_members h first [] = (λ k. absurd k, λ s. absurd s.2)
+from_members h first (c ∷ contents) =
+    let ih = from_members h (first + 1) contents in
+    let both = In-append h (map (holding first) c) (holdings_from (first + 1) contents) in
+    let here = In-map (holding first) c h in (
+      λ k. elim (both.0 k) [
+        | inl m ↦
+            let s = here.0 m in
+            let e : h.source ≡ first = ap (λ (g : HoldingParts). g.source) s.2 in
+            (zero, omega (arith, e), subst (λ (n : NoteParts). In n c) (sym (ap (λ (g : HoldingParts). g.note) s.2)) s.1)
+        | inr m ↦
+            let s = ih.0 m in
+            let e : h.source ≡ first + 1 + s.0 = s.1 in
+            (suc s.0, omega (arith, e), s.2)
+      ],
+      λ s. both.1 (back ih.1 s.0 s.1 s.2),
+    )
+  where
+    back : (((i : ℕ) × (h.source ≡ first + 1 + i) × In h.note (get_or contents i []))
+        → In h (holdings_from (first + 1) contents)) → (i : ℕ) → h.source ≡ first + i
+        → In h.note (get_or (c ∷ contents) i [])
+        → In h (map (holding first) c) ⊎ In h (holdings_from (first + 1) contents)
+    back others zero e k =
+        inl ((In-map (holding first) c h).1 (h.note, k, same_holding h first (omega (arith, e))))
+    back others (suc i) e k = inr (others (i, omega (arith, e), k))
+
+-- Sorted, and each once, they say which source has which note.
+pub sorted_holdings : (contents : List (List NoteParts)) (xs ys zs : List HoldingParts)
+    → xs ≡ holdings_from 1 contents → IsPermutation xs ys → IsSorted holding_cmp ys
+    → IsFiltered (DiffersFromLast (eq_by_cmp holding_cmp)) [] ys zs → AreHoldings contents zs
+sorted_holdings contents xs ys zs from p s f =
+    let is = in_order holding_cmp holding_total holding_cmp-IsAntisymmetric xs ys zs p s f in
+    record {
+      rising = in_order-rises holding_cmp holding_total holding_cmp-IsAntisymmetric xs ys zs p s f;
+      members = λ h.
+          let u = In-union holding_total holding_cmp-IsAntisymmetric h [] xs in
+          let m = from_members h 1 contents in
+          let a = at_number h.source h.note contents in (
+            λ k. elim (u.0 (subst (In h) is k)) [
+              | inl i ↦ absurd i
+              | inr i ↦ a.0 (m.0 (subst (In h) from i))
+            ],
+            λ k. subst (In h) (sym is) (u.1 (inr (subst (In h) (sym from) (m.1 (a.1 k))))),
+          );
+    }
+
+-- ---- the holdings of a note
+
+-- What passes a test stands from one place up to another.
+passing_part : {K : Type 0} (p : K → Bool) (xs : List K) (a b : ℕ) → a ≤ b → b ≤ length xs
+    → AllWithin (λ y. p y ≡ false) xs 0 a → AllWithin (λ y. p y ≡ true) xs a b
+    → AllWithin (λ y. p y ≡ false) xs b (length xs) → drop a (take b xs) ≡ filter p xs
+passing_part p [] zero zero o l f g h = refl
+passing_part p [] zero (suc b) o l f g h = absurd (omega arith)
+passing_part p [] (suc a) b o l f g h = absurd (omega arith)
+passing_part p (x ∷ xs) zero zero o l f g h = rw (h 0 x (omega arith) (omega arith))
+    (passing_part p xs zero zero (omega arith) (omega arith) (λ k d _ m. absurd (omega arith))
+    (λ k d _ m. absurd (omega arith)) (λ k d _ m. h (suc k) d (omega arith) (omega arith)))
+passing_part p (x ∷ xs) zero (suc b) o l f g h = rw (g 0 x (omega arith) (omega arith))
+    (ap (λ t. x ∷ t) (passing_part p xs zero b (omega arith) (omega arith) (λ k d _ m. absurd (omega arith))
+    (λ k d _ m. g (suc k) d (omega arith) (omega arith)) (λ k d n m. h (suc k) d (omega arith) (omega arith))))
+passing_part p (x ∷ xs) (suc a) zero o l f g h = absurd (omega arith)
+passing_part p (x ∷ xs) (suc a) (suc b) o l f g h = rw (f 0 x (omega arith) (omega arith))
+    (passing_part p xs a b (omega arith) (omega arith) (λ k d _ m. f (suc k) d (omega arith) (omega arith))
+    (λ k d n m. g (suc k) d (omega arith) (omega arith)) (λ k d n m. h (suc k) d (omega arith) (omega arith)))
+
+rising_at : (hs : List HoldingParts) (i j : ℕ) (d : HoldingParts) → IsRising holding_cmp hs → i < j → j < length hs
+    → holding_cmp (get_or hs i d) (get_or hs j d) ≡ Less
+rising_at [] i j d r h l = absurd (omega arith)
+rising_at (x ∷ hs) zero zero d r h l = absurd (omega arith)
+rising_at (x ∷ hs) zero (suc j) d r h l =
+    less_in holding_total x (get_or hs j d) hs r.0 (In-at hs j d (omega arith))
+rising_at (x ∷ hs) (suc i) zero d r h l = absurd (omega arith)
+rising_at (x ∷ hs) (suc i) (suc j) d r h l = rising_at hs i j d r.1 (omega arith) (omega arith)
+
+no_less : (a b : Ordering) → a ≡ Greater → ordering_then a b ≡ Less → ⊥
+no_less Less b e f = cc
+no_less Equal b e f = cc
+no_less Greater b e f = cc (f)
+
+not_back : (g h : HoldingParts) → holding_cmp g h ≡ Less → is_lt (note_cmp h.note g.note) ≡ false
+not_back g h l =
+    elim (note_cmp h.note g.note) as (λ o. note_cmp h.note g.note ≡ o → is_lt o ≡ false) [
+      | Less ↦ λ e. absurd (no_less (note_cmp g.note h.note) (nat_cmp g.source h.source)
+          (note_total.antisymm g.note h.note ∙ ap ordering_reverse e) l)
+      | Equal ↦ λ e. refl
+      | Greater ↦ λ e. refl
+    ] refl
+
+by_note : (hs : List HoldingParts) → IsRising holding_cmp hs
+    → IsSortedByKey (λ (h : HoldingParts). h.note) note_cmp hs
+by_note hs r k d l h =
+    not_back (get_or hs k d) (get_or hs (k + 1) d) (rising_at hs k (k + 1) d r (omega arith) h)
+
+comparisons : (n : NoteParts) (hs : List HoldingParts) → IsRising holding_cmp hs
+    → IsNonDecreasingBy (λ (h : HoldingParts). ordering_index (note_cmp h.note n)) hs
+comparisons n hs r = searchable_from_sorted note_total (λ (h : HoldingParts). h.note) hs n (by_note hs r)
+
+lt_low : (o : Ordering) → is_lt o ≡ true → ordering_index o ≤ 0
+lt_low Less e = omega arith
+lt_low Equal e = absurd cc
+lt_low Greater e = absurd cc
+
+low_lt : (o : Ordering) → ordering_index o ≤ 0 → is_lt o ≡ true
+low_lt Less l = refl
+low_lt Equal l = absurd (omega arith)
+low_lt Greater l = absurd (omega arith)
+
+le_low : (o : Ordering) → is_le o ≡ true → ordering_index o ≤ 1
+le_low Less e = omega arith
+le_low Equal e = omega arith
+le_low Greater e = absurd cc
+
+low_le : (o : Ordering) → ordering_index o ≤ 1 → is_le o ≡ true
+low_le Less l = refl
+low_le Equal l = refl
+low_le Greater l = absurd (omega arith)
+
+pub parted_below : (n : NoteParts) (hs : List HoldingParts) → IsRising holding_cmp hs
+    → IsPartitionedBy (λ (h : HoldingParts). is_lt (note_cmp h.note n)) hs
+parted_below n hs r i j d l h t =
+    let m = comparisons n hs r i j d l h in
+    let z = lt_low (note_cmp (get_or hs j d).note n) t in
+    low_lt (note_cmp (get_or hs i d).note n) (omega (arith, m, z))
+
+pub parted_up_to : (n : NoteParts) (hs : List HoldingParts) → IsRising holding_cmp hs
+    → IsPartitionedBy (λ (h : HoldingParts). is_le (note_cmp h.note n)) hs
+parted_up_to n hs r i j d l h t =
+    let m = comparisons n hs r i j d l h in
+    let z = le_low (note_cmp (get_or hs j d).note n) t in
+    low_le (note_cmp (get_or hs i d).note n) (omega (arith, m, z))
+
+lt_not_eq : (o : Ordering) → is_lt o ≡ true → is_eq o ≡ false
+lt_not_eq Less e = refl
+lt_not_eq Equal e = absurd cc
+lt_not_eq Greater e = refl
+
+le_eq : (o : Ordering) → is_lt o ≡ false → is_le o ≡ true → is_eq o ≡ true
+le_eq Less e f = absurd cc
+le_eq Equal e f = refl
+le_eq Greater e f = absurd cc
+
+not_le : (o : Ordering) → is_le o ≡ false → is_eq o ≡ false
+not_le Less e = refl
+not_le Equal e = absurd cc
+not_le Greater e = refl
+
+lt_le : (o : Ordering) → is_lt o ≡ true → is_le o ≡ false → ⊥
+lt_le Less e f = cc
+lt_le Equal e f = cc
+lt_le Greater e f = cc
+
+module _ (n : NoteParts) (hs : List HoldingParts) (a b : ℕ) (la : a ≤ length hs) (lb : b ≤ length hs)
+    (below : AllWithin (λ h. is_lt (note_cmp h.note n) ≡ true) hs 0 a)
+    (from : AllWithin (λ h. is_lt (note_cmp h.note n) ≡ false) hs a (length hs))
+    (up_to : AllWithin (λ h. is_le (note_cmp h.note n) ≡ true) hs 0 b)
+    (above : AllWithin (λ h. is_le (note_cmp h.note n) ≡ false) hs b (length hs)) where
+  pub run_order : a ≤ b
+  run_order =
+      elim (nat_lt b a) as (λ c. nat_lt b a ≡ c → a ≤ b) [
+        | true ↦ λ e.
+            let l : b < a = ltb-true _ _ e in
+            let d = holding 0 n in
+            absurd (lt_le (note_cmp (get_or hs b d).note n) (below b d (omega arith) l)
+            (above b d (omega arith) (omega arith)))
+        | false ↦ λ e. ltb-false _ _ e
+      ] refl
+
+  pub run_is : drop a (take b hs) ≡ filter (is_of n) hs
+  run_is =
+      passing_part (is_of n) hs a b run_order lb
+      (λ k d l h. lt_not_eq (note_cmp (get_or hs k d).note n) (below k d l h))
+      (λ k d l h. le_eq (note_cmp (get_or hs k d).note n) (from k d l (omega arith)) (up_to k d (omega arith) h))
+      (λ k d l h. not_le (note_cmp (get_or hs k d).note n) (above k d l h))
+
+-- ---- their sources
+
+then_less : (a b : Ordering) → a ≡ Equal → ordering_then a b ≡ Less → b ≡ Less
+then_less Less b e f = absurd cc
+then_less Equal b e f = f
+then_less Greater b e f = absurd cc
+
+of_note : (n : NoteParts) (h : HoldingParts) → IsTrue (is_of n h) → h.note ≡ n
+of_note n h t = (is_same-Decides note_total note_cmp-IsAntisymmetric h.note n).0 t
+
+source_less : (g h : HoldingParts) → g.note ≡ h.note → holding_cmp g h ≡ Less → nat_cmp g.source h.source ≡ Less
+source_less g h e l =
+    then_less (note_cmp g.note h.note) (nat_cmp g.source h.source)
+    (subst (λ (m : NoteParts). note_cmp g.note m ≡ Equal) e (tied_itself note_total g.note)) l
+
+sources_rising : (n : NoteParts) (hs : List HoldingParts) → IsRising holding_cmp hs
+    → ((h : HoldingParts) → In h hs → h.note ≡ n) → IsRising nat_cmp (map (λ (h : HoldingParts). h.source) hs)
+sources_rising n [] r f = tt
+sources_rising n (g ∷ hs) r f = (
+  all_from_In (λ (y : ℕ). nat_cmp g.source y ≡ Less) (map (λ (h : HoldingParts). h.source) hs) (λ y k.
+      let s = (In-map (λ (h : HoldingParts). h.source) hs y).0 k in
+      let less = all-In (λ (h : HoldingParts). holding_cmp g h ≡ Less) hs s.0 r.0 s.1 in
+      subst (λ (z : ℕ). nat_cmp g.source z ≡ Less) (sym s.2)
+      (source_less g s.0 (f g (inl refl) ∙ sym (f s.0 (inr s.1))) less)),
+  sources_rising n hs r.1 (λ h k. f h (inr k)),
+)
+
+pub run_sources : (n : NoteParts) (contents : List (List NoteParts)) (hs : List HoldingParts)
+    → AreHoldings contents hs
+    → map (λ (h : HoldingParts). h.source) (filter (is_of n) hs) ≡ sources_of n contents
+run_sources n contents hs are =
+    let fs = filter (is_of n) hs in
+    let mapped = In-map (λ (h : HoldingParts). h.source) fs in
+    let kept = In-filter (is_of n) hs in
+    same_from_members nat_cmp_total nat_cmp-IsAntisymmetric (map (λ (h : HoldingParts). h.source) fs)
+    (sources_of n contents)
+    (sources_rising n fs (rising-filter holding_cmp (is_of n) hs are.rising)
+    (λ h k. of_note n h ((kept h).0 k).1))
+    (sources_rise n contents)
+    (λ number.
+    let says = sources_say number n contents in (
+      λ k.
+          let s = (mapped number).0 k in
+          let t = (kept s.0).0 s.1 in
+          let held = (are.members s.0).0 t.0 in
+          let of = of_note n s.0 t.1 in
+          says.1 (subst (λ (i : ℕ). In n (content_of i contents)) (sym s.2)
+          (subst (λ (m : NoteParts). In m (content_of s.0.source contents)) of held)),
+      λ k.
+          let h = holding number n in
+          let held = (are.members h).1 (says.0 k) in
+          (mapped number).1 (
+            h,
+            (kept h).1 (held, (is_same-Decides note_total note_cmp-IsAntisymmetric n n).1 refl),
+            refl,
+          ),
+    ))

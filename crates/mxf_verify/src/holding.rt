@@ -1,0 +1,193 @@
+//! Which source holds which note, in the order of notes.
+ghost use Rattle.std.specs.Prelude.{◌≡◌, ◌≤◌, ◌++◌, true, false, drop, filter, length, map, take, IfOk, OnOk};
+ghost use Rattle.std.specs.List.{AllWithin};
+ghost use Rattle.std.specs.Ordering.{is_le, is_lt};
+ghost use Rattle.mxf_klv.specs.Note.{note_cmp};
+ghost use Rattle.mxf_klv.specs.Rising.{IsRising};
+ghost use Rattle.mxf_verify.specs.Holdings.{AreHoldings, holding, holding_cmp, holdings_from, is_of};
+
+use mxf_catalogue::Catalogue;
+use mxf_klv::{Note, OutOfMemory};
+use std::alloc::Global;
+use std::cmp::Ordering;
+use std::marker::Model;
+
+/// A note and a source that has it.
+#[derive(Debug, Drop)]
+pub(crate) struct Holding<'a> {
+    note: &'a Note,
+    /// The number of the source, from 1 on.
+    source: usize,
+}
+
+impl<'a> Model for Holding<'a> {
+    ghost use Rattle.mxf_verify.specs.Holdings.{HoldingParts};
+
+    ghost Value = { HoldingParts };
+
+    ghost view = { λ h. record { note = h.note.now; source = h.source } };
+}
+
+impl<'a> Holding<'a> {
+    /// The number of the source.
+    fn source(&self) -> usize
+        ensures { result ≡ self.now.source }
+    {
+        self.source
+    }
+
+    /// Whether its note stands below another.
+    fn is_below(&self, note: &Note) -> bool
+        ensures { result ≡ is_lt (note_cmp self.now.note note.now) }
+    {
+        self.note.cmp(note) == Ordering::Less
+    }
+
+    /// Whether its note is another, or stands below it.
+    fn is_up_to(&self, note: &Note) -> bool
+        ensures { result ≡ is_le (note_cmp self.now.note note.now) }
+    {
+        self.note.cmp(note) != Ordering::Greater
+    }
+}
+
+impl<'a> PartialEq for Holding<'a> {
+    ghost use Rattle.std.specs.Ordering.{eq_by_cmp};
+    ghost use Rattle.mxf_verify.specs.Holdings.{holding_cmp};
+    ghost use Rattle.mxf_verify.specs.HoldingOrder.{holding_equiv};
+    ghost use Rattle.std.specs.Cmp.{partial_equiv_from_equiv};
+
+    ghost eq = { eq_by_cmp holding_cmp };
+
+    ghost laws = { partial_equiv_from_equiv holding_equiv };
+
+    fn eq(&self, other: &Holding<'a>) -> bool {
+        self.cmp(other) == Ordering::Equal
+    }
+}
+
+impl<'a> Eq for Holding<'a> {
+    ghost use Rattle.mxf_verify.specs.HoldingOrder.{holding_equiv};
+
+    ghost laws = { holding_equiv };
+}
+
+impl<'a> PartialOrd for Holding<'a> {
+    ghost use Rattle.std.specs.Ordering.{as_partial_cmp};
+    ghost use Rattle.std.specs.Cmp.{partial_order_from_agreeing_total};
+    ghost use Rattle.std.specs.Prelude.{refl};
+    ghost use Rattle.mxf_verify.specs.Holdings.{holding_cmp};
+    ghost use Rattle.mxf_verify.specs.HoldingOrder.{holding_total};
+
+    ghost partial_cmp = { as_partial_cmp holding_cmp };
+
+    ghost laws = { partial_order_from_agreeing_total holding_cmp holding_total (λ _ _. refl) (λ _ _. refl) };
+
+    fn partial_cmp(&self, other: &Holding<'a>) -> Option<Ordering> {
+        Some(self.cmp(other))
+    }
+}
+
+impl<'a> Ord for Holding<'a> {
+    ghost use Rattle.mxf_verify.specs.Holdings.{holding_cmp};
+    ghost use Rattle.mxf_verify.specs.HoldingOrder.{holding_total};
+    ghost use Rattle.std.specs.Prelude.{refl};
+
+    ghost cmp = { holding_cmp };
+
+    ghost total = { holding_total };
+
+    ghost matches_partial_cmp = { λ _ _. refl };
+
+    ghost matches_eq = { λ _ _. refl };
+
+    fn cmp(&self, other: &Holding<'a>) -> Ordering {
+        self.note
+            .cmp(other.note)
+            .then(self.source.cmp(&other.source))
+    }
+}
+
+/// Adds the notes of a source.
+fn add_notes<'a>(
+    holdings: &mut Vec<Holding<'a>>,
+    content: &'a Catalogue,
+    source: usize,
+) -> Result<(), OutOfMemory>
+    ensures { OnOk result (holdings.new.items ≡ holdings.old.items ++ map (holding source) content.now) }
+{
+    for note in content.notes() {
+        holdings.push(Holding { note, source })?;
+    }
+    Ok(())
+}
+
+/// The notes of all sources, source after source.
+fn in_turn<'a>(alloc: Global, contents: &'a [Catalogue]) -> Result<Vec<Holding<'a>>, OutOfMemory>
+    ensures { IfOk result (λ v. v.items ≡ holdings_from 1 contents.now) }
+{
+    let mut holdings = Vec::new(alloc);
+    for (at, content) in contents.iter().enumerate() {
+        add_notes(&mut holdings, content, at + 1)?;
+    }
+    Ok(holdings)
+}
+
+/// The notes of all sources, in their order, each with its sources in theirs. No source has a note twice, so none is
+/// dropped as repeated.
+pub(crate) fn holdings<'a>(
+    alloc: Global,
+    contents: &'a [Catalogue],
+) -> Result<Vec<Holding<'a>>, OutOfMemory>
+    ensures { IfOk result (λ v. AreHoldings contents.now v.items) }
+{
+    let mut holdings = in_turn(alloc, contents)?;
+    holdings.sort_unstable();
+    holdings.dedup();
+    Ok(holdings)
+}
+
+/// The number of the source of each.
+pub(crate) fn source_numbers(
+    alloc: Global,
+    holdings: &[Holding<'_>],
+) -> Result<Vec<usize>, OutOfMemory>
+    ensures { IfOk result (λ v. v.items ≡ map (λ h. h.source) holdings.now) }
+{
+    let sources = holdings.iter().map(|holding| holding.source());
+    Ok(sources.collect(alloc)?)
+}
+
+/// From where to where the holdings are of a note: two binary searches.
+pub(crate) fn range(holdings: &[Holding<'_>], note: &Note) -> (usize, usize)
+    requires { IsRising holding_cmp holdings.now }
+    ensures order { result.0 ≤ result.1 }
+    ensures bound { result.1 ≤ length holdings.now }
+    ensures run { drop result.0 (take result.1 holdings.now) ≡ filter (is_of note.now) holdings.now }
+{
+    let from = count_below(holdings, note);
+    let to = count_up_to(holdings, note);
+    (from, to)
+}
+
+/// How many holdings are of notes below another.
+fn count_below(holdings: &[Holding<'_>], note: &Note) -> usize
+    requires { IsRising holding_cmp holdings.now }
+    ensures bound { result ≤ length holdings.now }
+    ensures below { AllWithin (λ h. is_lt (note_cmp h.note note.now) ≡ true) holdings.now 0 result }
+    ensures above { AllWithin (λ h. is_lt (note_cmp h.note note.now) ≡ false) holdings.now result
+        (length holdings.now) }
+{
+    holdings.partition_point(|holding| holding.is_below(note))
+}
+
+/// How many holdings are of another note or of notes below it.
+fn count_up_to(holdings: &[Holding<'_>], note: &Note) -> usize
+    requires { IsRising holding_cmp holdings.now }
+    ensures bound { result ≤ length holdings.now }
+    ensures below { AllWithin (λ h. is_le (note_cmp h.note note.now) ≡ true) holdings.now 0 result }
+    ensures above { AllWithin (λ h. is_le (note_cmp h.note note.now) ≡ false) holdings.now result
+        (length holdings.now) }
+{
+    holdings.partition_point(|holding| holding.is_up_to(note))
+}
