@@ -1,4 +1,13 @@
 //! Readings of a recording beside each other (this project's profile).
+//!
+//! What is proved, and where it is said:
+//! - which notes can't be of one reading, and which notes a catalogue hasn't and contradicts: [`Opposing`],
+//!   [`contradictions_by_definition`], [`oppositions_by_definition`];
+//! - what stays and what is dropped of an earlier catalogue that a later reading renews: [`renew`],
+//!   [`renewals_by_definition`], [`renewals_have_what_was_read_anew`], [`renewals_drop_what_was_read_anew`],
+//!   [`renewals_join_what_agrees`].
+//!
+//! That memory is there, and that a call succeeds with it, is tested.
 #![tactic(auto)]
 
 mod comparing;

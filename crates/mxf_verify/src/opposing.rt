@@ -10,8 +10,8 @@ use mxf_klv::{Note, OutOfMemory, below, up_to};
 use std::alloc::Global;
 use std::marker::Model;
 
-/// A catalogue that is asked which notes it opposes: those that it hasn't, and that one of its notes contradicts. Such a
-/// note and that one can't be of one state of a file.
+/// A catalogue that is asked which notes it opposes: those that it hasn't, and that one of its notes contradicts. Such
+/// a note and that one can't be of one state of a file.
 #[derive(Debug, Drop)]
 pub struct Opposing<'a> {
     catalogue: &'a Catalogue,

@@ -74,10 +74,15 @@ pub struct Renewed<'a> {
     pub dropped: DroppedNotes<'a>,
 }
 
-/// Renews an earlier catalogue by a later reading, whose bytes are the newer ones: the notes of the earlier one stay that
-/// no note of the later one contradicts. What either held is left as it was read; nothing of the bytes is compared.
+/// Renews an earlier catalogue by a later reading, whose bytes are the newer ones: the notes of the earlier one stay
+/// that no note of the later one contradicts.
 ///
-/// The notes that stay are copied, which takes memory. Each note of the earlier catalogue is looked up by binary search.
+/// In one file packets lie one behind another. So of two notes that both hold a byte, and of which neither is the head
+/// of the other, one is of an earlier state of the file, or has a wrong offset. A join keeps both; a renewal knows which
+/// was read later.
+///
+/// The notes that stay are copied, which takes memory. Each note of the earlier catalogue is looked up by binary
+/// search.
 pub fn renew<'a>(
     alloc: Global,
     old: &'a Catalogue,
@@ -170,8 +175,9 @@ pub fn renewals_drop_what_was_read_anew()
         → IsDropped old new n → ⊥ }
 {}
 
-/// A law of [`renew`]: where nothing is dropped, the renewed content is the join of both. To renew it by the same reading
-/// changes and drops nothing. An empty content is renewed to what was read, and where nothing was read, nothing changes.
+/// A law of [`renew`]: where nothing is dropped, the renewed content is the join of both. To renew it by the same
+/// reading changes and drops nothing. An empty content is renewed to what was read, and where nothing was read, nothing
+/// changes.
 pub fn renewals_join_what_agrees()
     ensures joined { (old new : List NoteParts) → IsContent old → AreReduced old → IsContent new → AreReduced new
         → dropped_of old new ≡ [] → renewed_of old new ≡ reduced_union old new }
