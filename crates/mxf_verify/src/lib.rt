@@ -1,6 +1,8 @@
 //! Readings of a recording beside each other (this project's profile).
 //!
 //! What is proved, and where it is said:
+//! - which of several contents holds which note, and what all of them hold: [`Readings`], [`sources_by_definition`],
+//!   [`all_notes_by_definition`];
 //! - which notes can't be of one reading, and which notes a catalogue hasn't and contradicts: [`Opposing`],
 //!   [`contradictions_by_definition`], [`oppositions_by_definition`];
 //! - what stays and what is dropped of an earlier catalogue that a later reading renews: [`renew`],
