@@ -1,8 +1,8 @@
-use Rattle.std.proofs.Common.{◌≡◌, List, subst, sym}
+use Rattle.std.proofs.Common.{◌≡◌, ◌∙◌, List, length, subst, sym}
 use Rattle.std.specs.Vec.Iter.{into_iter_items}
 use Rattle.mxf_klv.specs.Parts.{NoteParts}
 use Rattle.mxf_read.proofs.GatheringLaws.{IsPassed, passed_none, passed_one, told}
-use Rattle.mxf_tool.proofs.ContentsLaws.{AreTaken, taken_none, taken_one}
+use Rattle.mxf_tool.proofs.ContentsLaws.{AreTaken, taken_all, taken_none, taken_one}
 use Rattle.mxf_tool.proofs.contents.gather_each.Goals as goal
 
 pub parts-init : goal.parts-init
@@ -29,3 +29,10 @@ parts-preserved g c =
       taken = λ t. taken_one left all _ _ c.in-Some.part c.parts.number _ _ (i.taken t) next
           (c.in_default.ensures (told left all _ _ c.in-Some.part c.parts.number i.passed next t));
     }
+
+pub returns-clause-runs : goal.returns-clause-runs
+returns-clause-runs g c t =
+    let none : length (into_iter_items c.parts.part-iterator) ≡ 0 =
+    sym c.parts.part-iterator.rest.ok.0 ∙ c.in-None.ensures.steps.0 in
+    taken_all g.R.Read.remaining c.args.parts.items (into_iter_items c.parts.part-iterator) c.parts.number
+    c.parts.contents.contents.items (c.parts.invariant.taken t) none
