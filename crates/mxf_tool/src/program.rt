@@ -22,10 +22,10 @@ use beside::print_beside;
 use clap::ArgMatches;
 use clap::error::ErrorKind;
 use fault::{IndexSids, RunFault};
-use mxf_lines::{AnswerFault, Ask, Form, Grid, answer, print_map, print_renewed};
+use mxf_lines::{AnswerFault, Ask, Form, Grid, answer, print_map, print_renewed, print_sources};
 use mxf_read::{GatherFault, Gathered, Part, PieceReport, gather};
 use mxf_units::index_sids;
-use mxf_verify::Renewed;
+use mxf_verify::{Readings, Renewed};
 use mxf_views::Views;
 use renewing::{Renewal, print_renewal};
 use sources::{earlier_sources_of, read_list, sources_of, unread};
@@ -417,6 +417,8 @@ enum Asked {
 enum Printed<'g, 'n> {
     Asked(Asked, &'g Gathered),
     Renewed(&'g Renewed<'n>),
+    /// What sources hold, each by itself, and the words that name them.
+    Beside(&'g Readings<'n>, &'g [String]),
 }
 
 /// Prints lines in a form, and answers their status.
@@ -432,6 +434,7 @@ fn print_lines<W: Write>(
             print_renewed(alloc, renewed, form, writer)?;
             Ok(0)
         }
+        Printed::Beside(readings, names) => print_sources(alloc, readings, names, form, writer),
     }
 }
 
@@ -465,15 +468,6 @@ fn print_answer<'a, R: System>(
     };
     let answered = print_lines(rt.alloc(), printed, form, &mut out);
     let is_flushed = answered.is_ok() && out.flush().is_ok();
-    printed(answered, is_flushed, &last)
-}
-
-/// How a run ends whose answer was printed so, and flushed or not; or its fault.
-fn printed<'a>(
-    answered: Result<u8, AnswerFault>,
-    is_flushed: bool,
-    last: &LastFault,
-) -> Result<Exit, RunFault<'a>> {
     match Exit::of_answer(answered, is_flushed) {
         Exit::NoMemory => Err(RunFault::OutOfMemory),
         Exit::Usage => Err(RunFault::BadUnit),

@@ -1,18 +1,16 @@
 //! Sources beside each other: which of them holds which note.
 use super::fault::RunFault;
-use super::{System, open_parts, printed, told, ungathered};
+use super::{Printed, System, open_parts, print_answer, told, ungathered};
 use crate::contents::{Contents, gather_each};
 use crate::exit::Exit;
-use crate::saving::{BUFFER_BYTES, WatchedWriter};
 use crate::shown::text_on_screen;
 use crate::source::Source;
 use crate::system_fault::LastFault;
 use crate::watching::Screen;
 use mxf_catalogue::Catalogue;
-use mxf_lines::{Form, print_sources};
+use mxf_lines::Form;
 use mxf_verify::Readings;
 use std::alloc::{AllocError, Global};
-use std::io::{self, BufWriter, Write};
 
 /// Prints what each source holds, and which source has which disputed note.
 pub fn print_beside<'a, R: System>(
@@ -61,24 +59,7 @@ fn print_contents<'a, R: System>(
     contents: &[Catalogue],
 ) -> Result<Exit, RunFault<'a>> {
     match Readings::of(rt.alloc(), contents) {
-        Ok(readings) => print_readings(rt, form, names, &readings),
+        Ok(readings) => print_answer(rt, Printed::Beside(&readings, names), form),
         Err(_) => Err(RunFault::OutOfMemory),
     }
-}
-
-/// Prints on standard output which of the sources with these names holds which note.
-fn print_readings<'a, R: System>(
-    rt: &R,
-    form: Form,
-    names: &[String],
-    readings: &Readings<'_>,
-) -> Result<Exit, RunFault<'a>> {
-    let last = LastFault::new();
-    let kept = WatchedWriter::new(io::writer(rt), &last);
-    let Ok(mut out) = BufWriter::with_capacity(rt.alloc(), BUFFER_BYTES, kept) else {
-        return Err(RunFault::OutOfMemory);
-    };
-    let answered = print_sources(rt.alloc(), readings, names, form, &mut out);
-    let is_flushed = answered.is_ok() && out.flush().is_ok();
-    printed(answered, is_flushed, &last)
 }
