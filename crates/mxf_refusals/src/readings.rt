@@ -58,9 +58,7 @@ fn push_first(alloc: Global, contents: &mut Vec<Catalogue>) -> bool {
 /// The same with one from 90 to 190 too.
 fn push_second(alloc: Global, contents: &mut Vec<Catalogue>) -> bool {
     let mut two = Catalogue::new(alloc);
-    add(&mut two, essence(0, 83))
-        && add(&mut two, essence(90, 83))
-        && contents.push(two).is_ok()
+    add(&mut two, essence(0, 83)) && add(&mut two, essence(90, 83)) && contents.push(two).is_ok()
 }
 
 /// Whether two sources are told beside each other.

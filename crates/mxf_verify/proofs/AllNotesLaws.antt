@@ -1,6 +1,6 @@
 -- The notes of all sources together.
 use Rattle.std.proofs.Common.{◌≡◌, ◌≢◌, ◌↔◌, ◌⊎◌, ◌∙◌, ◌+◌, ◌++◌, ℕ, zero, suc, List, [], ◌∷◌, refl, sym, ap, subst, inl}
-use Rattle.std.proofs.Common.{inr, arith, get_or}
+use Rattle.std.proofs.Common.{inr, get_or}
 use Rattle.std.specs.List.{AllByRecursion}
 use Rattle.mxf_klv.specs.Parts.{NoteParts}
 use Rattle.mxf_klv.specs.Note.{head_note}
@@ -10,7 +10,7 @@ use Rattle.mxf_catalogue.specs.Content.{AreReduced, IsContent, IsLocated, has_no
 use Rattle.mxf_catalogue.specs.Reduced.{IsKnown}
 use Rattle.mxf_catalogue.proofs.HeadLaws.{AreReduced-reduced_union, In-located, IsContent-reduced_union}
 use Rattle.mxf_catalogue.proofs.HeadLaws.{has-reduced_union, one_reduced}
-use Rattle.mxf_verify.specs.Readings.{IsHeld, all_notes, content_of, sources_of}
+use Rattle.mxf_verify.specs.Readings.{IsHeld, all_notes, sources_of}
 use Rattle.mxf_verify.proofs.SourceLaws.{at_number, sources_say}
 
 pub all_content : (contents : List (List NoteParts)) → AllByRecursion IsContent contents

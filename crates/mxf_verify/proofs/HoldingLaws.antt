@@ -1,22 +1,21 @@
 -- Holdings: what they say of sources, and where those of a note stand.
-use Rattle.std.proofs.Common.{◌≡◌, ◌↔◌, ◌⊎◌, ◌==◌, ◌+◌, ◌≤◌, ◌<◌, ◌∙◌, ◌++◌, ℕ, zero, suc, Bool, true, false, cond, List, []}
-use Rattle.std.proofs.Common.{◌∷◌, IsTrue, refl, sym, ap, subst, inl, inr, arith, get_or, length, nat_cmp, nat_lt, nat_le}
+use Rattle.std.proofs.Common.{◌≡◌, ◌↔◌, ◌⊎◌, ◌+◌, ◌≤◌, ◌<◌, ◌∙◌, ℕ, zero, suc, Bool, true, false, List, []}
+use Rattle.std.proofs.Common.{◌∷◌, IsTrue, refl, sym, ap, subst, inl, inr, arith, get_or, length, nat_cmp, nat_lt}
 use Rattle.std.proofs.Common.{Ordering, Less, Equal, Greater, drop, filter, map, take}
-use Rattle.std.specs.List.{AllByRecursion, AllWithin, dedup}
+use Rattle.std.specs.List.{AllWithin}
 use Rattle.std.specs.List.Retain.{DiffersFromLast, IsFiltered}
 use Rattle.std.specs.List.Sorted.{IsNonDecreasingBy, IsPartitionedBy, IsPermutation, IsSorted, IsSortedByKey}
 use Rattle.std.specs.Ordering.{eq_by_cmp, is_eq, is_le, is_lt, ordering_index, ordering_reverse, ordering_then}
-use Rattle.std.proofs.lemmas.Bool.{false_from_ne_true, ltb-false, ltb-true}
+use Rattle.std.proofs.lemmas.Bool.{ltb-false, ltb-true}
 use Rattle.std.proofs.lemmas.Cmp.{nat_cmp_total, tied_itself}
 use Rattle.std.proofs.lemmas.List.Sorted.{searchable_from_sorted}
 use Rattle.std.specs.FinSet.{nat_cmp-IsAntisymmetric}
 use Rattle.mxf_klv.specs.Parts.{NoteParts}
 use Rattle.mxf_klv.specs.Note.{note_cmp}
 use Rattle.mxf_klv.specs.NoteOrder.{note_total, note_cmp-IsAntisymmetric}
-use Rattle.mxf_klv.specs.Rising.{In, In-union, IsRising, less_in, same_from_members, union}
+use Rattle.mxf_klv.specs.Rising.{In, In-union, IsRising, less_in, same_from_members}
 use Rattle.mxf_klv.proofs.Lists.{all-In, all_from_In, In-append, In-at, In-filter, In-map}
 use Rattle.mxf_klv.proofs.SortedUnions.{in_order, in_order-rises}
-use Rattle.mxf_klv.proofs.Tests.{by_places, less_from_lt, ties}
 use Rattle.mxf_catalogue.specs.ReducedLaws.{is_same-Decides, rising-filter}
 use Rattle.mxf_verify.specs.HoldingOrder.{holding_total, holding_cmp-IsAntisymmetric}
 use Rattle.mxf_verify.specs.Holdings.{AreHoldings, HoldingParts, holding, holding_cmp, holdings_from, is_of}

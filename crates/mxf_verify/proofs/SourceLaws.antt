@@ -1,6 +1,6 @@
 -- The sources of a note.
-use Rattle.std.proofs.Common.{◌≡◌, ◌↔◌, ◌==◌, ◌&&◌, ◌+◌, ◌≤◌, ◌<◌, ◌∙◌, ℕ, zero, suc, Bool, true, false, cond, List, []}
-use Rattle.std.proofs.Common.{◌∷◌, IsTrue, refl, sym, ap, subst, inl, inr, arith, get_or, length, nat_cmp, eqb-true, eq-eqb, Less}
+use Rattle.std.proofs.Common.{◌≡◌, ◌↔◌, ◌==◌, ◌+◌, ◌<◌, ◌∙◌, ℕ, zero, suc, true, false, cond, List, []}
+use Rattle.std.proofs.Common.{◌∷◌, IsTrue, refl, sym, subst, inl, inr, arith, get_or, length, nat_cmp, eqb-true, eq-eqb, Less}
 use Rattle.std.proofs.lemmas.Bool.{and_from, and_parts}
 use Rattle.mxf_klv.specs.Parts.{NoteParts}
 use Rattle.mxf_klv.specs.NoteOrder.{note_total, note_cmp-IsAntisymmetric}

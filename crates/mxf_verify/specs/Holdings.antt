@@ -1,5 +1,5 @@
 -- Which source holds which note, as one list (this project's profile).
-use Rattle.std.specs.Prelude.{◌≡◌, ◌↔◌, ℕ, ◌+◌, Bool, List, [], ◌∷◌, ◌++◌, map}
+use Rattle.std.specs.Prelude.{◌↔◌, ℕ, ◌+◌, Bool, List, [], ◌∷◌, ◌++◌, map}
 use Rattle.std.specs.Ordering.{nat_cmp, on, then_cmp}
 use Rattle.std.specs.declared.cmp.Ordering.{Ordering}
 use Rattle.mxf_klv.specs.Parts.{NoteParts}
