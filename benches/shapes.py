@@ -131,6 +131,7 @@ SHAPES = {
     "named": Shape("references to one package of many items", "check", 500, named),
     "causes": Shape("partitions with two findings", "check", 8000, causes),
     "disputed": Shape("disputed notes", "show", 37_500, disputed),
+    "readings": Shape("disputed notes of two sources", "sources", 37_500, disputed),
 }
 
 
