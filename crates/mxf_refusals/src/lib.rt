@@ -18,6 +18,7 @@ mod pieces;
 mod plans;
 #[cfg(test)]
 mod readings;
+#[cfg(test)]
 mod renewals;
 #[cfg(test)]
 mod unions;
