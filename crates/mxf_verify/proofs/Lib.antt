@@ -1,8 +1,16 @@
+pub mod AgreementLaws
 pub mod AllNotesLaws
+pub mod ByteLaws
+pub mod CandidateLaws
+pub mod ComparedLaws
 pub mod ComparingLaws
 pub mod HoldingLaws
 pub mod OpposingLaws
+pub mod ReadingLaws
+pub mod ReferenceLaws
 pub mod RenewalLaws
 pub mod RenewalSteps
+pub mod SaidLaws
 pub mod SourceLaws
+pub mod TakingLaws
 pub mod TouchCounts

@@ -1,6 +1,13 @@
+pub mod Agreeing
+pub mod Candidates
+pub mod Compared
 pub mod Comparing
 pub mod HoldingOrder
 pub mod Holdings
 pub mod Opposing
 pub mod Readings
+pub mod References
 pub mod Renewing
+pub mod SourceReads
+pub mod Taking
+pub mod Verifying

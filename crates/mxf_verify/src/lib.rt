@@ -12,15 +12,22 @@
 //! That memory is there, and that a call succeeds with it, is tested.
 #![tactic(auto)]
 
+mod agreement;
+mod candidate;
+mod compared;
 mod comparing;
+mod comparison;
 mod holding;
 mod opposing;
+mod reading;
 mod readings;
+mod reference;
 mod renewal;
 
 pub use comparing::contradictions_by_definition;
 pub use opposing::{Opposing, oppositions_by_definition};
 pub use readings::{Readings, SourceCounts, all_notes_by_definition, sources_by_definition};
+pub use reference::Reference;
 pub use renewal::{
     DroppedNote, DroppedNotes, Renewed, renew, renewals_by_definition,
     renewals_drop_what_was_read_anew, renewals_have_what_was_read_anew, renewals_join_what_agrees,

@@ -1,0 +1,43 @@
+-- Agreement of bytes with what a note says of them, where they come in parts.
+use Rattle.std.proofs.Common.{◌≡◌, ◌-◌, ℕ, Bool, true, false, not, ◌&&◌, ◌||◌, List, ◌++◌, length, drop}
+use Rattle.std.proofs.Common.{ap, ◌∙◌, refl, arith}
+use Rattle.std.proofs.Math.ListN.{length-append, length-drop}
+use Rattle.mxf_klv.specs.Parts.{NoteParts}
+use Rattle.mxf_klv.specs.Ber.{length_bytes}
+use Rattle.mxf_klv.specs.Note.{IsNote, keeps_value}
+use Rattle.mxf_klv.proofs.LengthLemmas.{spelled_len}
+use Rattle.mxf_klv.proofs.RoundTrips.{length_bytes-spelled}
+use Rattle.mxf_verify.specs.Agreeing.{agrees, agrees_on, agrees_with}
+use Rattle.mxf_verify.specs.Verifying.{front_bytes, front_size}
+use Rattle.mxf_verify.proofs.ByteLaws.{agrees_append, drop_of_append}
+
+-- key and length are as many bytes as the note says
+pub front_length : (n : NoteParts) → IsNote n → length (front_bytes n) ≡ front_size n
+front_length n is =
+    let spelled = spelled_len (length_bytes n.width n.length) n.width n.length (length_bytes-spelled n.width n.length is.width) in
+    omega (arith, length-append n.key (length_bytes n.width n.length), is.label.0)
+
+regrouped : (a b k c d : Bool) → ((a && b) && (k || (c && d))) ≡ ((a && (k || c)) && (b && (k || d)))
+regrouped true true true c d = refl
+regrouped true true false true d = refl
+regrouped true true false false d = refl
+regrouped true false true c d = refl
+regrouped true false false true d = refl
+regrouped true false false false d = refl
+regrouped false b k c d = refl
+
+-- what follows bytes agrees with the note where it agrees with the rest of what is known
+pub agrees_with_append : (n : NoteParts) (before more : List ℕ)
+    → agrees_with n (before ++ more) ≡ (agrees_with n before && agrees_on n (length before) more)
+unfolding agrees_with agrees_on
+agrees_with_append n before more =
+    let size = front_size n in
+    let fronts = agrees_append (front_bytes n) before more in
+    let values = ap (agrees n.held) (drop_of_append size before more)
+    ∙ agrees_append n.held (drop size before) (drop (size - length before) more)
+    ∙ ap (λ k. agrees n.held (drop size before) && agrees (drop k n.held) (drop (size - length before) more))
+    (length-drop size before) in
+    ap (λ b. b && (not (keeps_value n) || agrees n.held (drop size (before ++ more)))) fronts
+    ∙ ap (λ b. (agrees (front_bytes n) before && agrees (drop (length before) (front_bytes n)) more)
+    && (not (keeps_value n) || b)) values
+    ∙ regrouped _ _ (not (keeps_value n)) _ _

@@ -1,0 +1,205 @@
+-- What was compared with the bytes of a source.
+use denote.Bor.{Bor}
+use Rattle.std.proofs.Common.{◌≡◌, ◌↔◌, ◌⊎◌, ◌+◌, ◌-◌, ◌<◌, ◌≤◌, ◌&&◌, ◌||◌, not, ℕ, zero, suc, true, false, IsTrue}
+use Rattle.std.proofs.Common.{List, [], ◌∷◌, ◌++◌, Option, None, Some, IfSome, length, take, drop, map, refl, sym, ap, ◌∙◌, subst, arith, inl, inr, append-nil}
+use Rattle.std.proofs.lemmas.List.{drop-map, length-drop, length-map, length-take, take-map, take_all}
+use Rattle.std.proofs.Math.Seq.{take-append_seam}
+use Rattle.std.specs.List.{AllWithin}
+use Rattle.std.specs.Io.KnownBytes.{Consumes, IsAtEnd}
+use Rattle.mxf_klv.specs.Parts.{NoteParts}
+use Rattle.mxf_klv.specs.Note.{IsNote, covered_end, keeps_value}
+use Rattle.mxf_verify.specs.Agreeing.{agrees, agrees_with}
+use Rattle.mxf_verify.specs.Candidates.{notes_of, offset_of}
+use Rattle.mxf_verify.specs.Compared.{AreSame, ComparesBytes}
+use Rattle.mxf_verify.specs.Taking.{HasTaken, agreeing, has_digest, told}
+use Rattle.mxf_verify.specs.SourceReads.{ReadsSource, HasReadAll}
+use Rattle.mxf_verify.specs.Verifying.{IsAmong, IsSaidBy, front_bytes, front_size, held_in, held_size, is_digested}
+use Rattle.mxf_verify.specs.declared.candidate.Candidate.{Candidate}
+use Rattle.mxf_verify.specs.declared.compared.Compared.{Compared}
+use Rattle.mxf_verify.specs.declared.comparison.Comparison.{Comparison}
+use Rattle.mxf_verify.specs.declared.reading.Reading.{Reading}
+use Rattle.mxf_verify.proofs.ByteLaws.{agrees_none}
+use Rattle.mxf_verify.proofs.CandidateLaws.{and_true, covered_by_size, drop_none, or_true, take_none}
+use Rattle.mxf_verify.proofs.SaidLaws.{said_told}
+use Rattle.mxf_verify.proofs.TakingLaws.{held_length}
+
+-- no byte says anything else
+agrees_with_none : (n : NoteParts) → agrees_with n [] ≡ true
+unfolding agrees_with
+agrees_with_none n =
+    ap (λ b. b && (not (keeps_value n) || agrees n.held (drop (front_size n) []))) (agrees_none (front_bytes n))
+    ∙ ap (λ l. not (keeps_value n) || agrees n.held l) (drop_none {X = ℕ} (front_size n))
+    ∙ ap (λ b. not (keeps_value n) || b) (agrees_none n.held) ∙ or_true (not (keeps_value n))
+
+agreeing_none : (offset : ℕ) (c : Candidate) → c.is_same ≡ true → c ≡ agreeing offset [] c.note
+unfolding agreeing held_in
+agreeing_none offset c same =
+    let n = c.note.now in
+    let none : take (held_size n) (drop (n.offset - offset) []) ≡ [] =
+    ap (take (held_size n)) (drop_none {X = ℕ} (n.offset - offset)) ∙ take_none (held_size n) in
+    ap (λ b. record c { is_same = b }) (same ∙ sym (ap (agrees_with n) none ∙ agrees_with_none n))
+
+-- candidates with which nothing was compared agree with no byte
+pub fresh_agree : (offset : ℕ) (cs : List Candidate) → AllWithin (λ c. c.is_same ≡ true) cs 0 (length cs)
+    → cs ≡ map (agreeing offset []) (notes_of cs)
+fresh_agree offset [] fresh = refl
+fresh_agree offset (c ∷ cs) fresh = λ i. agreeing_none offset c (fresh 0 c (omega arith) (omega arith)) i
+    ∷ fresh_agree offset cs (λ k d l h. fresh (suc k) d (omega arith) (omega arith)) i
+
+-- so many bytes of a note are there where all are
+all_held : (n : NoteParts) (offset : ℕ) (bytes : List ℕ) → IsAmong n offset bytes
+    → length (held_in n offset bytes) ≡ held_size n
+all_held n offset bytes among =
+    omega (arith, held_length n offset bytes among.from, covered_by_size n, among.to)
+
+told_same : (offset : ℕ) (bytes : List ℕ) (r : Bor NoteParts) → IsNote r.now → IsAmong r.now offset bytes
+    → IsTrue (told offset bytes r).is_same ↔ IsSaidBy r.now (held_in r.now offset bytes)
+unfolding told
+told_same offset bytes r is among = said_told r.now (held_in r.now offset bytes) is (all_held r.now offset bytes among)
+
+-- where no digest is known, nothing is left to tell
+agreeing_same : (offset : ℕ) (bytes : List ℕ) (r : Bor NoteParts) → IsNote r.now
+    → (IsTrue (is_digested r.now) → offset + length bytes < covered_end r.now) → IsAmong r.now offset bytes
+    → IsTrue (agreeing offset bytes r).is_same ↔ IsSaidBy r.now (held_in r.now offset bytes)
+unfolding agreeing
+agreeing_same offset bytes r is left among =
+    let n = r.now in
+    let held = held_in n offset bytes in
+    let s = said_told n held is (all_held n offset bytes among) in
+    elim (is_digested n) as (λ b. is_digested n ≡ b → IsTrue (agrees_with n held) ↔ IsSaidBy n held) [
+      | true ↦ λ e. absurd (omega (arith, left e, among.to))
+      | false ↦ λ e.
+          let same : (agrees_with n held && (not (is_digested n) || has_digest n held)) ≡ agrees_with n held =
+          ap (λ b. agrees_with n held && (not b || has_digest n held)) e ∙ and_true (agrees_with n held) in
+          subst (λ b. IsTrue b ↔ IsSaidBy n held) same s
+    ] refl
+
+-- of what was read to its end each candidate says whether its bytes are what its note says
+pub told_are_same : (offset : ℕ) (bytes : List ℕ) (digested : ℕ) (notes : List (Bor NoteParts))
+    → AllWithin (λ r. IsNote r.now) notes 0 (length notes)
+    → AllWithin (λ r. IsTrue (is_digested r.now) → offset + length bytes < covered_end r.now) notes digested (length notes)
+    → AreSame offset bytes (map (told offset bytes) (take digested notes) ++ map (agreeing offset bytes) (drop digested notes))
+unfolding told agreeing
+told_are_same offset bytes zero [] are left k d l h among = absurd (omega arith)
+told_are_same offset bytes (suc digested) [] are left k d l h among = absurd (omega arith)
+told_are_same offset bytes zero (r ∷ notes) are left zero d l h among =
+    agreeing_same offset bytes r (are 0 r (omega arith) (omega arith)) (left 0 r (omega arith) (omega arith)) among
+told_are_same offset bytes zero (r ∷ notes) are left (suc k) d l h among =
+    told_are_same offset bytes zero notes (λ j x m q. are (suc j) x (omega arith) (omega arith))
+    (λ j x m q. left (suc j) x (omega arith) (omega arith)) k d (omega arith) (omega arith) among
+told_are_same offset bytes (suc digested) (r ∷ notes) are left zero d l h among =
+    told_same offset bytes r (are 0 r (omega arith) (omega arith)) among
+told_are_same offset bytes (suc digested) (r ∷ notes) are left (suc k) d l h among =
+    told_are_same offset bytes digested notes (λ j x m q. are (suc j) x (omega arith) (omega arith))
+    (λ j x m q. left (suc j) x (omega arith) (omega arith)) k d (omega arith) (omega arith) among
+
+-- the notes are those that it began with
+notes_told : (offset : ℕ) (bytes : List ℕ) (digested : ℕ) (notes : List (Bor NoteParts))
+    → notes_of (map (told offset bytes) (take digested notes) ++ map (agreeing offset bytes) (drop digested notes)) ≡ notes
+unfolding told agreeing
+notes_told offset bytes zero [] = refl
+notes_told offset bytes (suc digested) [] = refl
+notes_told offset bytes zero (r ∷ notes) = ap (λ l. r ∷ l) (notes_told offset bytes zero notes)
+notes_told offset bytes (suc digested) (r ∷ notes) = ap (λ l. r ∷ l) (notes_told offset bytes digested notes)
+
+pub notes_read : (offset : ℕ) (bytes : List ℕ) (digested : ℕ) (notes : List (Bor NoteParts)) (c : Comparison)
+    → HasReadAll offset bytes digested notes c → notes_of c.candidates.items ≡ notes
+notes_read offset bytes digested notes c h = ap notes_of h.taken.candidates ∙ notes_told offset bytes digested notes
+
+pub read_are_same : (offset : ℕ) (bytes : List ℕ) (digested : ℕ) (notes : List (Bor NoteParts)) (c : Comparison)
+    → AllWithin (λ r. IsNote r.now) notes 0 (length notes) → HasReadAll offset bytes digested notes c
+    → AreSame offset bytes c.candidates.items
+read_are_same offset bytes digested notes c are h =
+    subst (AreSame offset bytes) (sym h.taken.candidates) (told_are_same offset bytes digested notes are h.left)
+
+-- what is so of the note of each candidate is so of each of the notes
+pub notes_within : (P : Bor NoteParts → Type 0) (cs : List Candidate) → AllWithin (λ c. P c.note) cs 0 (length cs)
+    → AllWithin P (notes_of cs) 0 (length (notes_of cs))
+notes_within P [] a k d l h = absurd (omega arith)
+notes_within P (c ∷ cs) a zero d l h = a 0 c (omega arith) (omega arith)
+notes_within P (c ∷ cs) a (suc k) d l h =
+    notes_within P cs (λ j x m q. a (suc j) x (omega arith) (omega arith)) k d (omega arith) (omega arith)
+
+-- nothing came yet
+pub none_taken : (offset : ℕ) (c : Comparison) → AllWithin (λ x. x.is_same ≡ true) c.candidates.items 0 (length c.candidates.items)
+    → AllWithin (λ x. offset ≤ offset_of x) c.candidates.items 0 (length c.candidates.items) → c.at ≡ offset
+    → HasTaken offset [] 0 (notes_of c.candidates.items) c
+none_taken offset c fresh behind at = record {
+  candidates = fresh_agree offset c.candidates.items fresh;
+  at = omega (arith, at);
+  behind = notes_within (λ r. offset ≤ r.now.offset) c.candidates.items behind;
+  ended = λ k d l h q. absurd (omega arith);
+}
+
+-- what came is the front of the source
+pub front_came : (before after : Option (List ℕ)) (more : List ℕ) (limit : ℕ) → Consumes before after more
+    → length more ≤ limit → (length more ≡ limit) ⊎ IsAtEnd after → IfSome before (λ bytes. more ≡ take limit bytes)
+front_came None after more limit c within ended = tt
+front_came (Some bytes) None more limit c within ended = absurd c
+front_came (Some bytes) (Some rest) more limit c within (inl full) =
+    sym (ap (take limit) c ∙ ap (λ k. take k (more ++ rest)) (sym full) ∙ take-append_seam more rest)
+front_came (Some bytes) (Some rest) more limit c within (inr none) =
+    let all : bytes ≡ more = c ∙ ap (λ l. more ++ l) none ∙ append-nil more in
+    sym (ap (take limit) all ∙ take_all limit more within)
+
+-- what is so of all elements from a place on is so of those of a slice from there
+slice_within : {X : Type 0} (P : X → Type 0) (xs : List X) (first count : ℕ) → AllWithin P xs first (length xs)
+    → AllWithin P (take count (drop first xs)) 0 (length (take count (drop first xs)))
+slice_within P [] zero zero a k d l h = absurd (omega arith)
+slice_within P [] zero (suc count) a k d l h = absurd (omega arith)
+slice_within P [] (suc first) zero a k d l h = absurd (omega arith)
+slice_within P [] (suc first) (suc count) a k d l h = absurd (omega arith)
+slice_within P (x ∷ xs) zero zero a k d l h = absurd (omega arith)
+slice_within P (x ∷ xs) zero (suc count) a zero d l h = a 0 d (omega arith) (omega arith)
+slice_within P (x ∷ xs) zero (suc count) a (suc k) d l h =
+    slice_within P xs zero count (λ j y m q. a (suc j) y (omega arith) (omega arith)) k d (omega arith) (omega arith)
+slice_within P (x ∷ xs) (suc first) count a k d l h =
+    slice_within P xs first count (λ j y m q. a (suc j) y (omega arith) (omega arith)) k d l h
+
+within_tail : {X : Type 0} (P : X → Type 0) (xs : List X) (first : ℕ) → AllWithin P xs 0 (length xs)
+    → AllWithin P xs first (length xs)
+within_tail P xs first a k d l h = a k d (omega arith) h
+
+-- what was read of a source by the candidates from a place on
+pub compares_bytes : (all : List Candidate) (offset limit first last : ℕ) (before after : Option (List ℕ))
+    (old new : Reading) (c : Compared)
+    → AllWithin (λ x. x.is_same ≡ true) all 0 (length all) → AllWithin (λ x. IsNote x.note.now) all 0 (length all)
+    → AllWithin (λ x. offset_of x < offset) all 0 first → AllWithin (λ x. offset ≤ offset_of x) all first (length all)
+    → AllWithin (λ x. offset + limit ≤ offset_of x) all last (length all) → first ≤ last → last ≤ length all
+    → old.comparison.candidates.items ≡ take (last - first) (drop first all) → old.comparison.at ≡ offset
+    → ReadsSource before after old new (offset + limit)
+    → c.first ≡ first → c.candidates.items ≡ new.comparison.candidates.items → c.end ≡ new.comparison.at
+    → IfSome before (λ bytes. ComparesBytes all offset (offset + limit) (take limit bytes) c)
+compares_bytes all offset limit first last None after old new c fresh are lower upper behind l m items at r place same end = tt
+compares_bytes all offset limit first last (Some bytes) after old new c fresh are lower upper behind l m items at r place same end =
+    let part = take (last - first) (drop first all) in
+    let is_fresh = subst (λ cs. AllWithin (λ x. x.is_same ≡ true) cs 0 (length cs)) (sym items)
+    (slice_within (λ x. x.is_same ≡ true) all first (last - first) (within_tail (λ x. x.is_same ≡ true) all first fresh)) in
+    let is_ahead = subst (λ cs. AllWithin (λ x. offset ≤ offset_of x) cs 0 (length cs)) (sym items)
+    (slice_within (λ x. offset ≤ offset_of x) all first (last - first) upper) in
+    let are_notes = subst (λ cs. AllWithin (λ (x : Candidate). IsNote x.note.now) cs 0 (length cs)) (sym items)
+    (slice_within (λ x. IsNote x.note.now) all first (last - first) (within_tail (λ x. IsNote x.note.now) all first are)) in
+    let notes = notes_of old.comparison.candidates.items in
+    let (digested, read) = r.taken offset [] notes (none_taken offset old.comparison is_fresh is_ahead at) in
+    let within : length r.more ≤ limit = omega (arith, r.within, r.at, at) in
+    let ended : (length r.more ≡ limit) ⊎ IsAtEnd after = elim r.ended as (λ _. (length r.more ≡ limit) ⊎ IsAtEnd after) [
+      | inl e ↦ inl (omega (arith, e, r.at, at))
+      | inr e ↦ inr e
+    ] in
+    let came = front_came (Some bytes) after r.more limit r.consumed within ended in
+    let named : notes_of c.candidates.items ≡ notes = ap notes_of same ∙ notes_read offset r.more digested notes new.comparison read in
+    let size : length part ≡ last - first = omega (arith, length-take (last - first) (drop first all), length-drop first all) in
+    let count : length c.candidates.items ≡ last - first =
+    sym (length-map c.candidates.items (λ (x : Candidate). x.note)) ∙ ap length named
+    ∙ length-map old.comparison.candidates.items (λ (x : Candidate). x.note) ∙ ap length items ∙ size in record {
+      part = named ∙ ap notes_of items ∙ sym (take-map (λ (x : Candidate). x.note) (last - first) (drop first all))
+          ∙ ap (take (last - first)) (sym (drop-map (λ (x : Candidate). x.note) first all))
+          ∙ ap (λ k. take k (drop first (notes_of all))) (sym count)
+          ∙ ap (λ k. take (length c.candidates.items) (drop k (notes_of all))) (sym place);
+      before = subst (λ k. AllWithin (λ x. offset_of x < offset) all 0 k) (sym place) lower;
+      behind = λ k d p q. behind k d (omega (arith, place, count, p)) q;
+      same = subst (AreSame offset (take limit bytes)) (sym same) (subst (λ b. AreSame offset b new.comparison.candidates.items) came
+          (read_are_same offset r.more digested notes new.comparison
+          (notes_within (λ x. IsNote x.now) old.comparison.candidates.items are_notes) read));
+      at = end ∙ r.at ∙ ap (λ k. k + length r.more) at ∙ ap (λ b. offset + length b) came;
+    }

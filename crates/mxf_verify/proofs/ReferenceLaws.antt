@@ -1,0 +1,144 @@
+-- The notes of a reference that are compared with bytes.
+use Rattle.std.proofs.Common.{◌≡◌, ◌≢◌, ◌↔◌, ◌+◌, ◌<◌, ◌≤◌, ℕ, Less, get_or, ltb, ◌&&◌, not, zero, suc, Bool, true, false, IsTrue, List, [], ◌∷◌, cond, length, map, refl, sym, ap, ◌∙◌, subst, arith}
+use Rattle.std.proofs.lemmas.Bool.{and_from, and_parts, false≢true, ltb-false, ltb-true}
+use Rattle.std.proofs.lemmas.Cmp.{tied_itself}
+use Rattle.std.specs.List.{AllByRecursion, AllWithin}
+use Rattle.std.specs.List.Sorted.{IsNonDecreasingBy}
+use denote.Bor.{Bor}
+use Rattle.mxf_klv.specs.Parts.{NoteParts}
+use Rattle.mxf_klv.specs.Note.{IsNote, covered_end, end_of, keeps_value, note_cmp}
+use Rattle.mxf_klv.specs.NoteOrder.{note_total}
+use Rattle.mxf_klv.specs.Rising.{In, IsRising}
+use Rattle.mxf_klv.proofs.Lists.{all-In, all_from_In, In-at, In-filter, In-map}
+use Rattle.mxf_klv.proofs.Tests.{same_bool}
+use Rattle.mxf_catalogue.specs.Disputes.{IsDisputed, SharesByte, is_disputed}
+use Rattle.mxf_catalogue.specs.ReducedLaws.{rising-filter}
+use Rattle.mxf_catalogue.proofs.DisputeLaws.{is_disputed-IsDisputed}
+use Rattle.mxf_catalogue.proofs.SpanLaws.{offset_le}
+use Rattle.mxf_verify.specs.Readings.{is_held}
+use Rattle.mxf_verify.specs.References.{AreCandidates, is_crowded}
+use Rattle.mxf_verify.specs.Candidates.{offset_of}
+use Rattle.mxf_verify.specs.SourceReads.{AreApart}
+use Rattle.mxf_verify.specs.Verifying.{is_digested}
+use Rattle.mxf_verify.specs.Compared.{fresh}
+use Rattle.mxf_verify.specs.declared.candidate.Candidate.{Candidate}
+use Rattle.mxf_verify.proofs.SourceLaws.{held_says}
+
+-- a note with a digest is crowded where it is one of the disputed notes
+pub crowded_disputed : (n : NoteParts) (notes : List NoteParts) (b : Bool) → is_digested n ≡ true
+    → (IsTrue b ↔ (In n notes × IsDisputed n notes)) → b ≡ is_crowded notes n
+unfolding is_crowded
+crowded_disputed n notes b digested says =
+    let held = held_says n notes in
+    let disputed = is_disputed-IsDisputed n notes in
+    same_bool b (is_held n notes && is_disputed n notes)
+    (λ t. let d = says.0 t in and_from (is_held n notes) (is_disputed n notes) (held.1 d.0) (disputed.1 d.1))
+    (λ t. let p = and_parts (is_held n notes) (is_disputed n notes) t in says.1 (held.0 p.0, disputed.0 p.1))
+    ∙ ap (λ d. d && (is_held n notes && is_disputed n notes)) (sym digested)
+
+-- and no other is
+pub crowded_digested : (n : NoteParts) (notes : List NoteParts) → is_digested n ≡ false → false ≡ is_crowded notes n
+unfolding is_crowded
+crowded_digested n notes e = ap (λ d. d && (is_held n notes && is_disputed n notes)) (sym e)
+
+-- one that isn't crowded, and knows a digest, isn't disputed
+crowded_not : (n : NoteParts) (notes : List NoteParts) → IsTrue (is_digested n) → In n notes
+    → IsTrue (not (is_crowded notes n)) → ¬ IsDisputed n notes
+unfolding is_crowded
+crowded_not n notes digested held free d =
+    let h = (held_says n notes).1 held in
+    let t = (is_disputed-IsDisputed n notes).1 d in
+    let crowded = and_from (is_digested n) (is_held n notes && is_disputed n notes) digested
+    (and_from (is_held n notes) (is_disputed n notes) h t) in
+    false≢true (sym (ap not crowded) ∙ free)
+
+-- it was read whole
+whole_end : (n : NoteParts) → IsTrue (is_digested n) → covered_end n ≡ end_of n
+unfolding is_digested
+whole_end n q =
+    let whole = (and_parts n.whole (not (keeps_value n)) q).0 in
+    ap (λ b. cond b (end_of n) (n.offset + 16 + n.width)) whole
+
+-- fresh candidates have the notes that they are made of, and say nothing yet
+pub fresh_notes : (rs : List (Bor NoteParts)) → map (λ (c : Candidate). c.note.now) (map fresh rs) ≡ map (λ (r : Bor NoteParts). r.now) rs
+fresh_notes [] = refl
+fresh_notes (r ∷ rs) = ap (λ l. r.now ∷ l) (fresh_notes rs)
+
+pub fresh_same : (rs : List (Bor NoteParts)) → AllWithin (λ c. c.is_same ≡ true) (map fresh rs) 0 (length (map fresh rs))
+fresh_same [] k d l h = absurd (omega arith)
+fresh_same (r ∷ rs) zero d l h = refl
+fresh_same (r ∷ rs) (suc k) d l h = fresh_same rs k d (omega arith) (omega arith)
+
+-- what is so of each note of candidates is so of each candidate
+candidates_within : (P : NoteParts → Type 0) (cs : List Candidate) → AllByRecursion P (map (λ (c : Candidate). c.note.now) cs)
+    → AllWithin (λ c. P c.note.now) cs 0 (length cs)
+candidates_within P [] a k d l h = absurd (omega arith)
+candidates_within P (c ∷ cs) a zero d l h = a.0
+candidates_within P (c ∷ cs) a (suc k) d l h = candidates_within P cs a.1 k d (omega arith) (omega arith)
+
+-- of two candidates the first has the lesser note
+less_at : (cs : List Candidate) (i j : ℕ) (d : Candidate) → IsRising note_cmp (map (λ (c : Candidate). c.note.now) cs) → i < j
+    → j < length cs → note_cmp (get_or cs i d).note.now (get_or cs j d).note.now ≡ Less
+less_at [] i j d r l h = absurd (omega arith)
+less_at (c ∷ cs) i zero d r l h = absurd (omega arith)
+less_at (c ∷ cs) zero (suc j) d r l h =
+    candidates_within (λ n. note_cmp c.note.now n ≡ Less) cs r.0 j d (omega arith) (omega arith)
+less_at (c ∷ cs) (suc i) (suc j) d r l h = less_at cs i j d r.1 (omega arith) (omega arith)
+
+pub candidates_rise : (cs : List Candidate) → IsRising note_cmp (map (λ (c : Candidate). c.note.now) cs)
+    → IsNonDecreasingBy offset_of cs
+candidates_rise cs r i j d l h = elim (ltb i j) as (λ b. ltb i j ≡ b → offset_of (get_or cs i d) ≤ offset_of (get_or cs j d)) [
+  | true ↦ λ e. offset_le (get_or cs i d).note.now (get_or cs j d).note.now (less_at cs i j d r (ltb-true _ _ e) h)
+  | false ↦ λ e.
+      let same : i ≡ j = omega (arith, ltb-false i j e, l) in
+      subst (λ k. offset_of (get_or cs i d) ≤ offset_of (get_or cs k d)) same (omega arith)
+] refl
+
+not_below_itself : (n : NoteParts) → ¬ (note_cmp n n ≡ Less)
+not_below_itself n l = let t = tied_itself note_total n in cc (l, t)
+
+-- two notes that share no byte lie behind each other
+apart_from : (n m : NoteParts) → n.offset ≤ m.offset → ¬ SharesByte m n → end_of n ≤ m.offset
+apart_from n m h none = elim (ltb m.offset (end_of n)) as (λ b. ltb m.offset (end_of n) ≡ b → end_of n ≤ m.offset) [
+  | true ↦ λ e.
+      let within = ltb-true _ _ e in
+      absurd (none (
+        m.offset,
+        record { from = omega arith; before = omega arith },
+        record { from = h; before = omega (arith, within) },
+      ))
+  | false ↦ λ e. omega (arith, ltb-false m.offset (end_of n) e)
+] refl
+
+module _ (reference : List NoteParts) (cs : List Candidate) (are : AreCandidates reference cs) where
+  their_notes : IsRising note_cmp (map (λ (c : Candidate). c.note.now) cs)
+  their_notes = subst (IsRising note_cmp) (sym are.free)
+      (rising-filter note_cmp (λ n. not (is_crowded reference n)) reference are.catalogue.content)
+
+  pub reference_rises : IsNonDecreasingBy offset_of cs
+  reference_rises = candidates_rise cs their_notes
+
+  is_one : (n : NoteParts) → In n (map (λ (c : Candidate). c.note.now) cs)
+      → In n reference × IsTrue (not (is_crowded reference n))
+  is_one n h = (In-filter (λ m. not (is_crowded reference m)) reference n).0 (subst (In n) are.free h)
+
+  pub reference_notes : AllWithin (λ c. IsNote c.note.now) cs 0 (length cs)
+  reference_notes = candidates_within IsNote cs (all_from_In IsNote (map (λ (c : Candidate). c.note.now) cs)
+      (λ n h. all-In IsNote reference n are.catalogue.members (is_one n h).0))
+
+  at_place : (i : ℕ) (d : Candidate) → i < length cs
+      → In (get_or cs i d).note.now reference × IsTrue (not (is_crowded reference (get_or cs i d).note.now))
+  at_place i d h = is_one (get_or cs i d).note.now
+      ((In-map (λ (c : Candidate). c.note.now) cs (get_or cs i d).note.now).1 (get_or cs i d, In-at cs i d h, refl))
+
+  pub reference_apart : AreApart cs
+  reference_apart i j d l h q =
+      let n = (get_or cs i d).note.now in
+      let m = (get_or cs j d).note.now in
+      let less = less_at cs i j d their_notes l h in
+      let (held, free) = at_place i d (omega arith) in
+      let (beside, _) = at_place j d h in
+      let others : m ≢ n = λ e. not_below_itself n (subst (λ x. note_cmp n x ≡ Less) e less) in
+      let none : ¬ SharesByte m n = λ s. crowded_not n reference q held free (m, beside, others, s) in
+      let ends = apart_from n m (offset_le n m less) none in
+      omega (arith, ends, whole_end n q)
