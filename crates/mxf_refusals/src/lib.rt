@@ -27,6 +27,8 @@ mod units;
 #[cfg(test)]
 mod values;
 #[cfg(test)]
+mod verifying;
+#[cfg(test)]
 mod without;
 #[cfg(test)]
 mod written;

@@ -29,7 +29,7 @@ fn has_one_index(alloc: Global, views: &Views) -> bool {
 }
 
 /// The units of the index of IndexSID 1, also where one growth is refused.
-fn units_of<'a>(alloc: Global, views: &'a Views) -> Result<Units<'a>, OutOfMemory> {
+pub(crate) fn units_of<'a>(alloc: Global, views: &'a Views) -> Result<Units<'a>, OutOfMemory> {
     match Units::of(alloc, views, 1) {
         Ok(units) => Ok(units),
         Err(OutOfMemory) => Units::of(alloc, views, 1),

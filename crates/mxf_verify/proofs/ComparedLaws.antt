@@ -1,10 +1,11 @@
 -- What was compared with the bytes of a source.
 use denote.Bor.{Bor}
 use Rattle.std.proofs.Common.{◌≡◌, ◌↔◌, ◌⊎◌, ◌+◌, ◌-◌, ◌<◌, ◌≤◌, ◌&&◌, ◌||◌, not, ℕ, zero, suc, true, false, IsTrue}
-use Rattle.std.proofs.Common.{List, [], ◌∷◌, ◌++◌, Option, None, Some, IfSome, length, take, drop, map, refl, sym, ap, ◌∙◌, subst, arith, inl, inr, append-nil}
+use Rattle.std.proofs.Common.{List, [], ◌∷◌, ◌++◌, Option, None, Some, IfSome, length, take, drop, get_or, map, refl, sym, ap, ◌∙◌, subst, arith, inl, inr, append-nil}
 use Rattle.std.proofs.lemmas.List.{drop-map, length-drop, length-map, length-take, take-map, take_all}
 use Rattle.std.proofs.Math.Seq.{take-append_seam}
 use Rattle.std.specs.List.{AllWithin}
+use Rattle.std.specs.List.Sorted.{IsNonDecreasingBy}
 use Rattle.std.specs.Io.KnownBytes.{Consumes, IsAtEnd}
 use Rattle.mxf_klv.specs.Parts.{NoteParts}
 use Rattle.mxf_klv.specs.Note.{IsNote, covered_end, keeps_value}
@@ -12,7 +13,7 @@ use Rattle.mxf_verify.specs.Agreeing.{agrees, agrees_with}
 use Rattle.mxf_verify.specs.Candidates.{notes_of, offset_of}
 use Rattle.mxf_verify.specs.Compared.{AreSame, ComparesBytes}
 use Rattle.mxf_verify.specs.Taking.{HasTaken, agreeing, has_digest, told}
-use Rattle.mxf_verify.specs.SourceReads.{ReadsSource, HasReadAll}
+use Rattle.mxf_verify.specs.SourceReads.{AreApart, ReadsSource, HasReadAll}
 use Rattle.mxf_verify.specs.Verifying.{IsAmong, IsSaidBy, front_bytes, front_size, held_in, held_size, is_digested}
 use Rattle.mxf_verify.specs.declared.candidate.Candidate.{Candidate}
 use Rattle.mxf_verify.specs.declared.compared.Compared.{Compared}
@@ -143,7 +144,7 @@ front_came (Some bytes) (Some rest) more limit c within (inr none) =
     sym (ap (take limit) all ∙ take_all limit more within)
 
 -- what is so of all elements from a place on is so of those of a slice from there
-slice_within : {X : Type 0} (P : X → Type 0) (xs : List X) (first count : ℕ) → AllWithin P xs first (length xs)
+pub slice_within : {X : Type 0} (P : X → Type 0) (xs : List X) (first count : ℕ) → AllWithin P xs first (length xs)
     → AllWithin P (take count (drop first xs)) 0 (length (take count (drop first xs)))
 slice_within P [] zero zero a k d l h = absurd (omega arith)
 slice_within P [] zero (suc count) a k d l h = absurd (omega arith)
@@ -155,6 +156,41 @@ slice_within P (x ∷ xs) zero (suc count) a (suc k) d l h =
     slice_within P xs zero count (λ j y m q. a (suc j) y (omega arith) (omega arith)) k d (omega arith) (omega arith)
 slice_within P (x ∷ xs) (suc first) count a k d l h =
     slice_within P xs first count (λ j y m q. a (suc j) y (omega arith) (omega arith)) k d l h
+
+-- what stands in a slice stands so much further on in the list
+part_place : {X : Type 0} (xs : List X) (first count k j : ℕ) (d : X) → j ≡ first + k
+    → k < length (take count (drop first xs)) → get_or (take count (drop first xs)) k d ≡ get_or xs j d
+part_place [] zero zero k j d e h = absurd (omega arith)
+part_place [] zero (suc count) k j d e h = absurd (omega arith)
+part_place [] (suc first) zero k j d e h = absurd (omega arith)
+part_place [] (suc first) (suc count) k j d e h = absurd (omega arith)
+part_place (x ∷ xs) zero zero k j d e h = absurd (omega arith)
+part_place (x ∷ xs) zero (suc count) zero zero d e h = refl
+part_place (x ∷ xs) zero (suc count) zero (suc j) d e h = absurd (omega arith)
+part_place (x ∷ xs) zero (suc count) (suc k) zero d e h = absurd (omega arith)
+part_place (x ∷ xs) zero (suc count) (suc k) (suc j) d e h = part_place xs zero count k j d (omega arith) (omega arith)
+part_place (x ∷ xs) (suc first) count k zero d e h = absurd (omega arith)
+part_place (x ∷ xs) (suc first) count k (suc j) d e h = part_place xs first count k j d (omega arith) h
+
+part_within : {X : Type 0} (xs : List X) (first count k : ℕ) → k < length (take count (drop first xs))
+    → first + k < length xs
+part_within xs first count k h = omega (arith, length-take count (drop first xs), length-drop first xs)
+
+-- a slice of candidates rises, and stands apart, as all do
+pub part_rises : (cs : List Candidate) (first count : ℕ) → IsNonDecreasingBy offset_of cs
+    → IsNonDecreasingBy offset_of (take count (drop first cs))
+part_rises cs first count r i j d l h =
+    let a = ap offset_of (part_place cs first count i (first + i) d refl (omega arith)) in
+    let b = ap offset_of (part_place cs first count j (first + j) d refl h) in
+    omega (arith, a, b, r (first + i) (first + j) d (omega arith) (part_within cs first count j h))
+
+pub part_apart : (cs : List Candidate) (first count : ℕ) → AreApart cs → AreApart (take count (drop first cs))
+part_apart cs first count r i j d l h q =
+    let a = part_place cs first count i (first + i) d refl (omega arith) in
+    let b = ap offset_of (part_place cs first count j (first + j) d refl h) in
+    let e = ap (λ (x : Candidate). covered_end x.note.now) a in
+    let digested = subst (λ (x : Candidate). IsTrue (is_digested x.note.now)) a q in
+    omega (arith, b, e, r (first + i) (first + j) d (omega arith) (part_within cs first count j h) digested)
 
 within_tail : {X : Type 0} (P : X → Type 0) (xs : List X) (first : ℕ) → AllWithin P xs 0 (length xs)
     → AllWithin P xs first (length xs)
@@ -197,6 +233,7 @@ compares_bytes all offset limit first last (Some bytes) after old new c fresh ar
           ∙ ap (λ k. take k (drop first (notes_of all))) (sym count)
           ∙ ap (λ k. take (length c.candidates.items) (drop k (notes_of all))) (sym place);
       before = subst (λ k. AllWithin (λ x. offset_of x < offset) all 0 k) (sym place) lower;
+      from = subst (λ k. AllWithin (λ x. offset ≤ offset_of x) all k (length all)) (sym place) upper;
       behind = λ k d p q. behind k d (omega (arith, place, count, p)) q;
       same = subst (AreSame offset (take limit bytes)) (sym same) (subst (λ b. AreSame offset b new.comparison.candidates.items) came
           (read_are_same offset r.more digested notes new.comparison

@@ -42,7 +42,7 @@ unfolding is_crowded
 crowded_digested n notes e = ap (λ d. d && (is_held n notes && is_disputed n notes)) (sym e)
 
 -- one that isn't crowded, and knows a digest, isn't disputed
-crowded_not : (n : NoteParts) (notes : List NoteParts) → IsTrue (is_digested n) → In n notes
+pub crowded_not : (n : NoteParts) (notes : List NoteParts) → IsTrue (is_digested n) → In n notes
     → IsTrue (not (is_crowded notes n)) → ¬ IsDisputed n notes
 unfolding is_crowded
 crowded_not n notes digested held free d =
@@ -111,14 +111,14 @@ apart_from n m h none = elim (ltb m.offset (end_of n)) as (λ b. ltb m.offset (e
 ] refl
 
 module _ (reference : List NoteParts) (cs : List Candidate) (are : AreCandidates reference cs) where
-  their_notes : IsRising note_cmp (map (λ (c : Candidate). c.note.now) cs)
+  pub their_notes : IsRising note_cmp (map (λ (c : Candidate). c.note.now) cs)
   their_notes = subst (IsRising note_cmp) (sym are.free)
       (rising-filter note_cmp (λ n. not (is_crowded reference n)) reference are.catalogue.content)
 
   pub reference_rises : IsNonDecreasingBy offset_of cs
   reference_rises = candidates_rise cs their_notes
 
-  is_one : (n : NoteParts) → In n (map (λ (c : Candidate). c.note.now) cs)
+  pub is_one : (n : NoteParts) → In n (map (λ (c : Candidate). c.note.now) cs)
       → In n reference × IsTrue (not (is_crowded reference n))
   is_one n h = (In-filter (λ m. not (is_crowded reference m)) reference n).0 (subst (In n) are.free h)
 

@@ -29,25 +29,25 @@ use Rattle.mxf_verify.proofs.ComparingLaws.{holds_first, share-by_test}
 -- ---- counts
 
 -- where exactly the first so many pass, so many are counted
-pub count-front : (p : ℕ → Bool) (xs : List ℕ) (i : ℕ) → i ≤ length xs → AllWithin (λ x. p x ≡ true) xs 0 i
-    → AllWithin (λ x. p x ≡ false) xs i (length xs) → count_by p xs ≡ i
+pub count-front : {K : Type 0} (p : K → Bool) (xs : List K) (i : ℕ) → i ≤ length xs
+    → AllWithin (λ x. p x ≡ true) xs 0 i → AllWithin (λ x. p x ≡ false) xs i (length xs) → count_by p xs ≡ i
 count-front p [] i l f g = omega arith
 count-front p (x ∷ xs) zero l f g =
     let c = count_by-cons p x xs in
-    let first : p x ≡ false = g 0 0 (omega arith) (omega arith) in
+    let first : p x ≡ false = g 0 x (omega arith) (omega arith) in
     let z : tally (p x) ≡ 0 = ap tally first in
     let ih = count-front p xs 0 (omega arith) (λ k d a h. absurd (omega arith))
     (λ k d a h. g (suc k) d (omega arith) (omega arith)) in
     omega (arith, c, z, ih)
 count-front p (x ∷ xs) (suc i) l f g =
     let c = count_by-cons p x xs in
-    let first : p x ≡ true = f 0 0 (omega arith) (omega arith) in
+    let first : p x ≡ true = f 0 x (omega arith) (omega arith) in
     let z : tally (p x) ≡ 1 = ap tally first in
     let ih = count-front p xs i (omega arith) (λ k d a h. f (suc k) d (omega arith) (omega arith))
     (λ k d a h. g (suc k) d (omega arith) (omega arith)) in
     omega (arith, c, z, ih)
 
-pub count-map : {K : Type 0} (p : ℕ → Bool) (f : K → ℕ) (xs : List K) → count_by p (map f xs) ≡ count_by (λ x. p (f x)) xs
+pub count-map : {K L : Type 0} (p : L → Bool) (f : K → L) (xs : List K) → count_by p (map f xs) ≡ count_by (λ x. p (f x)) xs
 count-map p f [] = refl
 count-map p f (x ∷ xs) =
     let l = count_by-cons p (f x) (map f xs) in
@@ -116,7 +116,7 @@ touching-one m n =
     ] refl
 
 -- those that hold a byte of it are those that begin below its end, but for those that end at or below its start
-touching-count : (n : NoteParts) (notes : List NoteParts)
+pub touching-count : (n : NoteParts) (notes : List NoteParts)
     → count_by (λ m. is_held_byte_shared m n) notes + count_by (λ m. nat_le (covered_end m) n.offset) notes
     ≡ count_by (λ m. nat_lt m.offset (covered_end n)) notes
 touching-count n [] = refl

@@ -22,6 +22,7 @@ AreSame offset bytes candidates =
 pub record ComparesBytes (all : List Candidate) (offset end : ℕ) (bytes : List ℕ) (c : Compared) : Type 0 where
   pub part : notes_of c.candidates.items ≡ take (length c.candidates.items) (drop c.first (notes_of all))
   pub before : AllWithin (λ x. offset_of x < offset) all 0 c.first
+  pub from : AllWithin (λ x. offset ≤ offset_of x) all c.first (length all)
   pub behind : AllWithin (λ x. end ≤ offset_of x) all (c.first + length c.candidates.items) (length all)
   pub same : AreSame offset bytes c.candidates.items
   pub at : c.end ≡ offset + length bytes

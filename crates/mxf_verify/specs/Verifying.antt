@@ -80,10 +80,14 @@ TouchesIn n (Bytes offset bytes) =
     (at : ℕ) × IsCovered n at × (offset ≤ at) × (at < offset + length bytes)
 TouchesIn n (Saved notes) = IsTrue n.whole × In (head_note n) notes
 
--- The offset is one of the source's bytes.
+-- A note holds the byte at the offset.
+abbrev pub IsHeldBy : List NoteParts → ℕ → Type 0
+IsHeldBy notes at = (n : NoteParts) × In n notes × IsCovered n at
+
+-- The offset is one of the source's bytes: of a catalogue, of those that its notes hold.
 abbrev pub IsByteOf : Source → ℕ → Type 0
 IsByteOf (Bytes offset bytes) at = (offset ≤ at) × (at < offset + length bytes)
-IsByteOf (Saved notes) at = (n : NoteParts) × In n notes × IsCovered n at
+IsByteOf (Saved notes) at = IsHeldBy notes at
 
 module _ (reference : List NoteParts) (sources : List Source) where
   -- Some source has the note of the reference.
@@ -108,11 +112,8 @@ module _ (reference : List NoteParts) (sources : List Source) where
   abbrev pub IsDifferingByte : ℕ → Type 0
   IsDifferingByte at = (n : NoteParts) × In n reference × IsDiffering n × IsCovered n at
 
-  abbrev pub IsReferenceByte : ℕ → Type 0
-  IsReferenceByte at = (n : NoteParts) × In n reference × IsCovered n at
-
   abbrev pub IsUnverifiedByte : ℕ → Type 0
-  IsUnverifiedByte at = IsReferenceByte at × ¬ IsVerifiedByte at × ¬ IsDifferingByte at
+  IsUnverifiedByte at = IsHeldBy reference at × ¬ IsVerifiedByte at × ¬ IsDifferingByte at
 
   abbrev pub IsUnknownByte : ℕ → Type 0
-  IsUnknownByte at = ((s : Source) × In s sources × IsByteOf s at) × ¬ IsReferenceByte at
+  IsUnknownByte at = ((s : Source) × In s sources × IsByteOf s at) × ¬ IsHeldBy reference at

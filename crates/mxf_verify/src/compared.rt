@@ -1,46 +1,20 @@
 //! The notes of a reference beside the bytes of a source.
-ghost use Rattle.std.specs.Prelude.{◌≡◌, ◌+◌, ◌-◌, ◌<◌, ◌≤◌, ℕ, IfOk, IfSome, length, map, min, take, true};
+ghost use Rattle.std.specs.Prelude.{◌≡◌, ◌+◌, ◌-◌, ◌<◌, ◌≤◌, ℕ, IfErr, IfOk, IfSome, length, map, min, take, true};
 ghost use Rattle.std.specs.List.{AllWithin};
 ghost use Rattle.std.specs.List.Sorted.{IsNonDecreasingBy};
 ghost use Rattle.mxf_klv.specs.Note.{IsNote, greatest_end};
+ghost use Rattle.mxf_read.specs.Gathering.{IsOfAnyPart};
 ghost use Rattle.mxf_verify.specs.Candidates.{notes_of, offset_of};
 ghost use Rattle.mxf_verify.specs.SourceReads.{AreApart};
 ghost use Rattle.mxf_verify.specs.Compared.{ComparesBytes, fresh};
-ghost use Rattle.mxf_verify.specs.declared.compared.CompareFault.TheVariants as faults;
 
 use crate::candidate::Candidate;
-use crate::reading::{ReadFault, Reading};
+use crate::reading::Reading;
 use mxf_klv::{MAX, Note, OutOfMemory, below};
-use std::alloc::{AllocError, Global};
+use mxf_read::PartFault;
+use sha2::{Digest, Sha256};
+use std::alloc::Global;
 use std::io::Read;
-use thiserror::Error;
-
-/// Why a source wasn't compared.
-#[derive(Clone, Copy, Debug, PartialEq, Eq, Error)]
-pub enum CompareFault {
-    /// A growth was refused.
-    #[error("out of memory")]
-    OutOfMemory,
-    /// A read failed.
-    #[error("the read failed")]
-    ReadFault,
-}
-
-impl From<AllocError> for CompareFault {
-    ghost from_gives = { λ _ e. e ≡ faults.OutOfMemory };
-
-    fn from(_fault: AllocError) -> CompareFault {
-        CompareFault::OutOfMemory
-    }
-}
-
-impl From<ReadFault> for CompareFault {
-    ghost from_gives = { λ _ e. e ≡ faults.ReadFault };
-
-    fn from(_fault: ReadFault) -> CompareFault {
-        CompareFault::ReadFault
-    }
-}
 
 /// Notes that were compared with the bytes of a source: of all candidates those from a place on. And where the bytes end,
 /// as a file offset.
@@ -72,15 +46,17 @@ pub(crate) fn compare_bytes<'a, R: Read>(
     offset: u64,
     from: &mut R,
     limit: u64,
-) -> Result<Compared<'a>, CompareFault>
+) -> Result<Compared<'a>, PartFault>
     requires fresh { AllWithin (λ c. c.is_same ≡ true) all.now 0 (length all.now) }
     requires notes { AllWithin (λ c. IsNote c.note.now) all.now 0 (length all.now) }
     requires rising { IsNonDecreasingBy offset_of all.now }
     requires apart { AreApart all.now }
     requires offset { offset ≤ greatest_end }
-    ensures { IfOk result (λ c. IfSome (R.remaining from.old) (λ bytes.
+    ensures compared { IfOk result (λ c. IfSome (R.remaining from.old) (λ bytes.
         ComparesBytes all.now offset (offset + min limit (greatest_end - offset))
         (take (min limit (greatest_end - offset)) bytes) c)) }
+    ensures within { IfOk result (λ c. c.end ≤ greatest_end) }
+    ensures fault { IfErr result IsOfAnyPart }
 {
     let end = offset + limit.min(MAX - offset);
     let first = below(all, offset);
@@ -88,7 +64,7 @@ pub(crate) fn compare_bytes<'a, R: Read>(
     let candidates = Vec::from_slice(alloc, &all[first..last])?;
     let mut reading = Reading::of(candidates, offset);
     let mut room = [0u8; 65536];
-    reading.read_all(from, end, &mut room)?;
+    reading.read_all(from, end, &Sha256::digest(&[]), &mut room)?;
     let Reading { comparison, .. } = reading;
     Ok(Compared {
         first,

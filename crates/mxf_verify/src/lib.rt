@@ -7,7 +7,13 @@
 //!   [`contradictions_by_definition`], [`oppositions_by_definition`];
 //! - what stays and what is dropped of an earlier catalogue that a later reading renews: [`renew`],
 //!   [`renewals_by_definition`], [`renewals_have_what_was_read_anew`], [`renewals_drop_what_was_read_anew`],
-//!   [`renewals_join_what_agrees`].
+//!   [`renewals_join_what_agrees`];
+//! - what sources have of a reference, bytes that are read by its notes or saved catalogues: which notes are the same, which
+//!   differ, what wasn't compared: [`verify`], [`Verification`], [`one_verification`], [`verifications_tell_what_is_so`],
+//!   [`each_compared_note_is_the_same_or_differs`], [`verifications_are_of_a_set_of_sources`],
+//!   [`a_catalogue_agrees_where_joining_it_changes_nothing`], [`a_whole_reference_is_verified_by_its_packets`];
+//! - how the edit units of an index stand beside sources, and which of them a packet has a byte of: [`VerifiedUnits`],
+//!   [`one_fixity`], [`one_account_of_units`].
 //!
 //! That memory is there, and that a call succeeds with it, is tested.
 #![tactic(auto)]
@@ -17,14 +23,34 @@ mod candidate;
 mod compared;
 mod comparing;
 mod comparison;
+mod finishing;
+mod fixity;
 mod holding;
+mod laws;
+mod note_set;
 mod opposing;
+mod others;
+mod ranges;
 mod reading;
 mod readings;
 mod reference;
 mod renewal;
+mod saved;
+mod seen;
+mod told;
+mod told_bytes;
+mod unit_places;
+mod verification;
+mod verified_units;
+mod verifying;
 
 pub use comparing::contradictions_by_definition;
+pub use fixity::{UnitFixity, one_fixity};
+pub use laws::{
+    a_catalogue_agrees_where_joining_it_changes_nothing,
+    a_whole_reference_is_verified_by_its_packets, each_compared_note_is_the_same_or_differs,
+    one_verification, verifications_are_of_a_set_of_sources, verifications_tell_what_is_so,
+};
 pub use opposing::{Opposing, oppositions_by_definition};
 pub use readings::{Readings, SourceCounts, all_notes_by_definition, sources_by_definition};
 pub use reference::Reference;
@@ -32,3 +58,7 @@ pub use renewal::{
     DroppedNote, DroppedNotes, Renewed, renew, renewals_by_definition,
     renewals_drop_what_was_read_anew, renewals_have_what_was_read_anew, renewals_join_what_agrees,
 };
+pub use unit_places::{UnitSpan, touched_units_by_definition};
+pub use verification::{CutNote, Differing, Verification, VerifiedCounts};
+pub use verified_units::{UnitRun, VerifiedUnits, one_account_of_units};
+pub use verifying::{VerifyFault, verify};

@@ -1,15 +1,19 @@
 //! Reading a source by the notes of a reference.
-ghost use Rattle.std.specs.Prelude.{◌≡◌, ◌+◌, ◌<◌, ◌≤◌, length, OnOk};
+ghost use Rattle.std.specs.Prelude.{◌≡◌, ◌+◌, ◌<◌, ◌≤◌, [], ℕ, length, List, OnOk};
 ghost use Rattle.mxf_klv.specs.Note.{greatest_end};
 ghost use Rattle.std.specs.Str.{bytes_eq};
+ghost use Rattle.sha2.specs.Hashers.{Holds256};
+ghost use Rattle.sha2.specs.Sha256.{sha256};
 ghost use Rattle.std.specs.List.Sorted.{IsNonDecreasingBy};
 ghost use Rattle.mxf_verify.specs.Candidates.{offset_of};
 ghost use Rattle.mxf_verify.specs.Verifying.{is_digested};
 ghost use Rattle.std.specs.Prelude.{IsTrue};
+ghost use Rattle.mxf_read.specs.declared.gathering.fault.PartFault.TheVariants as faults;
 
 use crate::candidate::Candidate;
 use crate::comparison::Comparison;
 use mxf_klv::{Held, Note};
+use mxf_read::PartFault;
 use sha2::{Digest, Sha256};
 use std::io::{ErrorKind, Read};
 use std::mem::replace;
@@ -22,6 +26,14 @@ const GREATEST_INTERRUPTIONS: u32 = 1024;
 #[derive(Clone, Copy, Debug, PartialEq, Eq, Error)]
 #[error("the read failed")]
 pub struct ReadFault;
+
+impl From<ReadFault> for PartFault {
+    ghost from_gives = { λ _ e. e ≡ faults.ReadFault };
+
+    fn from(_fault: ReadFault) -> PartFault {
+        PartFault::ReadFault
+    }
+}
 
 /// What one read came to.
 #[derive(Clone, Copy, Debug, Drop, PartialEq, Eq)]
@@ -116,15 +128,17 @@ impl<'a> Reading<'a> {
     }
 
     /// Reads the value of the candidate at a place, with what stands ahead of it, and compares its digest. Answers whether
-    /// all of it came.
+    /// all of it came. The digest of no byte is at hand, as many packets have no value.
     fn read_value<R: Read>(
         &mut self,
         from: &mut R,
         place: usize,
+        of_nothing: &[u8; 32],
         room: &mut [u8],
         repeats: &mut u32,
     ) -> Result<bool, ReadFault>
         requires room { 0 < length room.old }
+        requires of_nothing { of_nothing.now ≡ sha256 [] }
         requires place { place < vec_len self.old.comparison.candidates }
         requires digested { (d : Candidate)
             → IsTrue (is_digested (slice_index_or self.old.comparison.candidates.items place d).note.now) }
@@ -146,8 +160,8 @@ impl<'a> Reading<'a> {
         self.take_up_to(from, end, room, repeats)?;
         match replace(&mut self.hasher, None) {
             Some(hasher) if self.comparison.at == end => {
-                self.comparison
-                    .say(place, is_digest_of(note, hasher.finalize()));
+                let digest = digest_of(hasher, end - value, of_nothing);
+                self.comparison.say(place, is_digest_of(note, digest));
                 Ok(true)
             }
             _ => Ok(false),
@@ -159,9 +173,11 @@ impl<'a> Reading<'a> {
         &mut self,
         from: &mut R,
         end: u64,
+        of_nothing: &[u8; 32],
         room: &mut [u8],
     ) -> Result<(), ReadFault>
         requires room { 0 < length room.old }
+        requires of_nothing { of_nothing.now ≡ sha256 [] }
         requires begins { self.old.comparison.at ≤ end }
         requires ahead { (i : ℕ) (d : Candidate) → i < length self.old.comparison.candidates.items
             → self.old.comparison.at ≤ (slice_index_or self.old.comparison.candidates.items i d).note.now.offset }
@@ -171,7 +187,7 @@ impl<'a> Reading<'a> {
     {
         let mut repeats = GREATEST_INTERRUPTIONS;
         for place in 0..self.comparison.candidates.len() {
-            if !self.pass(from, place, end, room, &mut repeats)? {
+            if !self.pass(from, place, end, of_nothing, room, &mut repeats)? {
                 return Ok(());
             }
         }
@@ -185,10 +201,12 @@ impl<'a> Reading<'a> {
         from: &mut R,
         place: usize,
         end: u64,
+        of_nothing: &[u8; 32],
         room: &mut [u8],
         repeats: &mut u32,
     ) -> Result<bool, ReadFault>
         requires room { 0 < length room.old }
+        requires of_nothing { of_nothing.now ≡ sha256 [] }
         requires place { place < vec_len self.old.comparison.candidates }
         requires ahead { (d : Candidate)
             → IsTrue (is_digested (slice_index_or self.old.comparison.candidates.items place d).note.now)
@@ -207,7 +225,7 @@ impl<'a> Reading<'a> {
             self.read_rest(from, end, room, repeats)?;
             return Ok(false);
         }
-        self.read_value(from, place, room, repeats)
+        self.read_value(from, place, of_nothing, room, repeats)
     }
 
     /// Reads what is left of a source up to a file offset, or to its end.
@@ -234,6 +252,18 @@ pub(crate) fn is_digested(note: &Note) -> bool
     ensures { result ≡ is_digested note.now }
 {
     !note.is_head() && note.value().is_none()
+}
+
+/// The digest of a value of so many bytes, which the hasher has taken.
+fn digest_of(hasher: Sha256, count: u64, of_nothing: &[u8; 32]) -> [u8; 32]
+    requires { of_nothing.now ≡ sha256 [] }
+    ensures { (m : List ℕ) → Holds256 hasher m → length m ≡ count → result ≡ sha256 m }
+{
+    if count == 0 {
+        *of_nothing
+    } else {
+        hasher.finalize()
+    }
 }
 
 /// Whether the digest is that which the note knows.

@@ -1,16 +1,18 @@
 //! A reference: the notes of a catalogue that sources are compared with.
-ghost use Rattle.std.specs.Prelude.{◌≡◌, ◌+◌, ◌-◌, ◌≤◌, IfOk, IfSome, List, map, min, take};
+ghost use Rattle.std.specs.Prelude.{◌≡◌, ◌+◌, ◌-◌, ◌≤◌, IfErr, IfOk, IfSome, List, map, min, take};
 ghost use Rattle.mxf_klv.specs.Note.{greatest_end};
 ghost use Rattle.mxf_klv.specs.Parts.{NoteParts};
+ghost use Rattle.mxf_read.specs.Gathering.{IsOfAnyPart};
 ghost use Rattle.mxf_verify.specs.Compared.{ComparesBytes};
 ghost use Rattle.mxf_verify.specs.declared.candidate.Candidate.{Candidate};
 ghost use Rattle.mxf_verify.specs.References.{AreCandidates, free_of, is_crowded};
 
 use crate::candidate::Candidate;
-use crate::compared::{CompareFault, Compared, compare_bytes, fresh};
+use crate::compared::{Compared, compare_bytes, fresh};
 use crate::reading::is_digested;
 use mxf_catalogue::Catalogue;
 use mxf_klv::{Note, OutOfMemory};
+use mxf_read::PartFault;
 use std::alloc::Global;
 use std::io::Read;
 use std::marker::Model;
@@ -49,6 +51,13 @@ impl<'a> Reference<'a> {
         })
     }
 
+    /// The catalogue.
+    pub(crate) fn catalogue(&self) -> &'a Catalogue
+        ensures { result.now ≡ self.now }
+    {
+        self.catalogue
+    }
+
     /// Compares the notes with the bytes that a reader gives, so many at most, the first of which lies at a file offset.
     pub(crate) fn compare<R: Read>(
         &self,
@@ -56,11 +65,13 @@ impl<'a> Reference<'a> {
         offset: u64,
         from: &mut R,
         limit: u64,
-    ) -> Result<Compared<'a>, CompareFault>
+    ) -> Result<Compared<'a>, PartFault>
         requires { offset ≤ greatest_end }
-        ensures { IfOk result (λ c. IfSome (R.remaining from.old) (λ bytes. (all : List Candidate) × AreCandidates self.now all
+        ensures compared { IfOk result (λ c. IfSome (R.remaining from.old) (λ bytes. (all : List Candidate) × AreCandidates self.now all
             × ComparesBytes all offset (offset + min limit (greatest_end - offset))
             (take (min limit (greatest_end - offset)) bytes) c)) }
+        ensures within { IfOk result (λ c. c.end ≤ greatest_end) }
+        ensures fault { IfErr result IsOfAnyPart }
     {
         compare_bytes(alloc, &self.candidates, offset, from, limit)
     }

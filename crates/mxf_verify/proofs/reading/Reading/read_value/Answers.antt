@@ -86,8 +86,9 @@ returns-in-Some g c d =
           let note : (get_or read.candidates.items place d).note ≡ r =
           same_note offset ((bytes ++ first.more) ++ second.more) place notes read two.taken d d.note within
           ∙ sym (same_note offset bytes place notes c.args.self.now.comparison h d d.note within) ∙ named in
-          let hashed = c.finalize.ensures second.more
-          (subst (λ hasher. Digests hasher second.more) (sym c.replace.ensures.value ∙ c.in-Some.is) two.digest) in
+          let hashed = c.digest_of-digest.ensures second.more
+          (subst (λ hasher. Digests hasher second.more) (sym c.replace.ensures.value ∙ c.in-Some.is) two.digest)
+          (omega (arith, c.if-self-value.false, first.within, second.at, c.if-self-end.true)) in
           let ahead : offset + length (bytes ++ first.more) ≡ r.now.offset + front_size r.now =
           omega (arith, one.taken.at, c.if-self-value.false, first.within) in
           let same = c.is_digest_of.ensures ∙ ap (λ v. bytes_eq v r.now.held) hashed in

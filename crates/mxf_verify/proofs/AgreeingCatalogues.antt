@@ -1,0 +1,128 @@
+-- A saved catalogue beside a reference, and the join of both.
+use Rattle.std.proofs.Common.{◌≡◌, ◌↔◌, ◌+◌, ◌<◌, ◌≤◌, ◌∙◌, ℕ, true, false, IsTrue, List, cond}
+use Rattle.std.proofs.Common.{refl, sym, ap, subst, inl, inr, arith}
+use Rattle.std.proofs.lemmas.Bool.{false≢true}
+use Rattle.mxf_klv.specs.Note.{IsCovered, covered_end, end_of, head_note}
+use Rattle.mxf_klv.specs.Parts.{NoteParts}
+use Rattle.mxf_klv.specs.Rising.{In}
+use Rattle.mxf_catalogue.specs.Content.{AreReduced, IsCatalogue, has_note, reduced_union}
+use Rattle.mxf_catalogue.proofs.HeadLaws.{AreReduced-reduced_union, IsContent-reduced_union, has-reduced_union, one_reduced}
+use Rattle.mxf_verify.specs.Comparing.{IsHeadOf, SharesHeldByte, is_head_of}
+use Rattle.mxf_verify.specs.Opposing.{is_had}
+use Rattle.mxf_verify.specs.Verifying.{DiffersIn, IsHeldBy}
+use Rattle.mxf_verify.specs.Verifying.{Saved}
+use Rattle.mxf_verify.specs.VerificationLaws.{HasNoEmptyHead}
+use Rattle.mxf_verify.proofs.ComparingLaws.{head-by_test, holds_first}
+use Rattle.mxf_verify.proofs.OpposingLaws.{had-by_test}
+
+-- The reference has each note of the catalogue.
+abbrev HasEach : List NoteParts → List NoteParts → Type 0
+HasEach reference saved = (m : NoteParts) → In m saved → has_note reference m
+
+-- what one has, the whole of it has
+has_head : (reference : List NoteParts) (m n : NoteParts) → has_note reference m → head_note m ≡ n → has_note reference n
+has_head reference m n (inl i) e = inr (m, i, e)
+has_head reference m n (inr s) e = inr (s.0, s.1, ap head_note s.2 ∙ e)
+
+-- joining a catalogue changes nothing exactly where each of its notes is had
+joined_same : (reference saved : List NoteParts) → IsCatalogue reference → AreReduced reference
+    → HasEach reference saved ↔ (reduced_union reference saved ≡ reference)
+joined_same reference saved is red = (
+  λ each. one_reduced (reduced_union reference saved) reference
+      (IsContent-reduced_union reference saved is.content) is.content
+      (AreReduced-reduced_union reference saved red) red
+      (λ n.
+      let u = has-reduced_union n reference saved in (
+        λ h. elim (u.0 h) [
+          | inl k ↦ k
+          | inr k ↦ elim k [ inl i ↦ each n i | inr s ↦ has_head reference s.0 n (each s.0 s.1) s.2 ]
+        ],
+        λ h. u.1 (inl h),
+      )),
+  λ e m i. subst (λ l. has_note l m) e ((has-reduced_union m reference saved).1 (inr (inl i))),
+)
+
+-- what a head holds, its packet holds too
+head_held : (w n : NoteParts) (at : ℕ) → head_note w ≡ n → IsCovered n at → IsCovered w at
+head_held w n at e h =
+    let k : IsCovered (head_note w) at = subst (λ x. IsCovered x at) (sym e) h in
+    let before : at + 1 ≤ w.offset + 16 + w.width = k.before in
+    let more : w.offset + 16 + w.width ≤ covered_end w =
+    elim w.whole as (λ b. w.offset + 16 + w.width ≤ cond b (end_of w) (w.offset + 16 + w.width)) [
+      | true ↦ omega arith
+      | false ↦ omega arith
+    ] in
+    record { from = k.from; before = omega arith }
+
+-- where each note is had, nothing differs and each byte is held
+module _ (reference saved : List NoteParts) where
+  none_differs : HasEach reference saved → (n : NoteParts) → ¬ DiffersIn reference n (Saved saved)
+  none_differs each n d = d.2 (each d.0 d.1)
+
+  all_held : HasEach reference saved → (at : ℕ) → IsHeldBy saved at → IsHeldBy reference at
+  all_held each at h = elim (each h.0 h.1) [
+    | inl i ↦ (h.0, i, h.2)
+    | inr s ↦ (s.0, s.1, head_held s.0 h.0 at s.2 h.2)
+  ]
+
+  module _ (none : (n : NoteParts) → In n reference → ¬ DiffersIn reference n (Saved saved))
+      (held : (at : ℕ) → IsHeldBy saved at → IsHeldBy reference at) (heads : HasNoEmptyHead reference) where
+    -- a note of the reference that shares a byte with one that it hasn't is the head of that
+    head_there : (m n : NoteParts) → In m saved → ¬ has_note reference m → In n reference → SharesHeldByte m n
+        → IsHeadOf n m
+    head_there m n i lacks j shares =
+        elim (is_head_of n m) as (λ b. is_head_of n m ≡ b → IsHeadOf n m) [
+          | true ↦ λ e. (head-by_test n m).0 e
+          | false ↦ λ e. absurd (none n j (
+            m,
+            i,
+            lacks,
+            record {
+              differ = λ same. lacks (inl (subst (λ x. In x reference) (sym same) j));
+              share = shares;
+              no_head = λ h. lacks (inr (n, j, h.1));
+              no_packet = λ h. let t = (head-by_test n m).1 h in false≢true (sym e ∙ t);
+            },
+          ))
+        ] refl
+
+    -- so it has each note
+    each_had : HasEach reference saved
+    each_had m i =
+        elim (is_had m reference) as (λ b. is_had m reference ≡ b → has_note reference m) [
+          | true ↦ λ e. (had-by_test m reference).0 e
+          | false ↦ λ e. absurd (lacked m i (λ h. let t = (had-by_test m reference).1 h in false≢true (sym e ∙ t)))
+        ] refl
+      where
+        lacked : (m : NoteParts) → In m saved → ¬ has_note reference m → ⊥
+        lacked m i lacks =
+            let own = holds_first m in
+            let here : IsCovered m m.offset = record { from = omega arith; before = omega arith } in
+            let first = held m.offset (m, i, here) in
+            let n = first.0 in
+            let head = head_there m n i lacks first.1 (m.offset, here, first.2) in
+            let same : head_note m ≡ n = head.1 in
+            let whole : covered_end m ≡ end_of m = ap (λ b. cond b (end_of m) (m.offset + 16 + m.width)) head.0 in
+            let length : m.length ≡ n.length = ap (λ (x : NoteParts). x.length) same in
+            let no_whole : ¬ IsTrue n.whole = λ t. false≢true (ap (λ (x : NoteParts). x.whole) same ∙ t) in
+            let some : 0 < n.length = heads n first.1 no_whole in
+            let at = m.offset + 16 + m.width in
+            let behind : IsCovered m at = record { from = omega arith; before = omega arith } in
+            let second = held at (m, i, behind) in
+            let other = head_there m second.0 i lacks second.1 (at, behind, second.2) in
+            let below : IsCovered (head_note m) at = subst (λ x. IsCovered x at) (sym other.1) second.2 in
+            let before : at + 1 ≤ m.offset + 16 + m.width = below.before in
+            omega arith
+
+pub agrees_joined : (reference saved : List NoteParts) → IsCatalogue reference → AreReduced reference
+    → HasNoEmptyHead reference
+    → (((n : NoteParts) → In n reference → ¬ DiffersIn reference n (Saved saved))
+    × ((at : ℕ) → IsHeldBy saved at → IsHeldBy reference at))
+    ↔ (reduced_union reference saved ≡ reference)
+agrees_joined reference saved is red heads =
+    let joined = joined_same reference saved is red in (
+      λ h. joined.0 (each_had reference saved h.0 h.1 heads),
+      λ e.
+          let each = joined.1 e in
+          (λ n i. none_differs reference saved each n, all_held reference saved each),
+    )

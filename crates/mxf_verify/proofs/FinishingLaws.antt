@@ -1,0 +1,484 @@
+-- What all sources together say, by what was seen of each.
+use Rattle.std.proofs.Common.{◌≡◌, ◌↔◌, ◌⊎◌, ◌+◌, ◌<◌, ◌≤◌, ◌∙◌, ℕ, List, [], ◌∷◌, ◌++◌, length, map, refl, sym, ap, subst, append_assoc}
+use Rattle.std.proofs.Common.{inl, inr, arith, get_or, take}
+use Rattle.std.proofs.lemmas.List.{take_more}
+use Rattle.std.specs.List.{flat_map}
+use Rattle.mxf_klv.specs.Note.{IsCovered, covered_end, note_cmp}
+use Rattle.mxf_klv.specs.Parts.{NoteParts}
+use Rattle.mxf_klv.specs.Rising.{In, IsRising, SameMembers}
+use denote.Bor.{Bor}
+use Rattle.std.specs.declared.cmp.Ordering.{Ordering}
+use Rattle.std.specs.declared.cmp.Ordering.TheVariants.{Less}
+use Rattle.mxf_klv.proofs.Lists.{all_append, all_front, all-In, In-append, In-end, In-flat_map}
+use Rattle.mxf_catalogue.specs.Content.{IsContent, union_of}
+use Rattle.mxf_catalogue.specs.Runs.{AreMaximal, IsWithin, LiesIn, SameOffsets, run}
+use Rattle.mxf_catalogue.specs.declared.run.Run.{Run}
+use Rattle.mxf_catalogue.proofs.ContentLaws.{In-union_of, IsContent-union_of}
+use Rattle.mxf_verify.specs.Verifying.{IsAmong, IsByteOf, IsCut, IsDiffering, IsDifferingByte, IsHeldBy, IsUnknownByte}
+use Rattle.mxf_verify.specs.Verifying.{IsUnverifiedByte, IsVerified, IsVerifiedByte, Source, TouchesIn}
+use Rattle.mxf_verify.specs.Verifying.{Bytes, Saved}
+use Rattle.mxf_verify.specs.Telling.{AreThose, notes_at}
+use Rattle.mxf_verify.specs.Verifications.{AreDiffering, AreRunsOf, IsCountOf, IsVerification, VerificationParts, parts_of}
+use Rattle.mxf_verify.specs.Seen.{IsHeaded, IsSeen, range_in}
+use Rattle.mxf_catalogue.specs.Covers.{IsCover, LiesIn-with_run, with_run}
+use Rattle.mxf_catalogue.specs.NoteLists.{Covers}
+use Rattle.mxf_verify.specs.Finishing.{AreBytes, IsLeftOut, IsMet, IsWithinOne}
+use Rattle.mxf_verify.specs.declared.finishing.ToldBytes.{ToldBytes}
+use Rattle.mxf_verify.specs.declared.finishing.Uncompared.{Uncompared}
+use Rattle.mxf_verify.specs.declared.seen.Seen.{Seen}
+use Rattle.mxf_verify.specs.declared.verification.CutNote.{CutNote}
+use Rattle.mxf_verify.specs.declared.verification.Differing.{Differing}
+use Rattle.mxf_verify.proofs.SeenLaws.{damaged_says, lies_in_both, notes_of_parts, some_end}
+
+-- The offset is a byte of a source of bytes.
+abbrev IsRead : List Source → ℕ → Type 0
+IsRead sources at =
+    (offset : ℕ) × (bytes : List ℕ) × In (Bytes offset bytes) sources × (offset ≤ at) × (at < offset + length bytes)
+
+-- Some source of bytes has all of the note.
+abbrev IsAmongSome : List Source → NoteParts → Type 0
+IsAmongSome sources n = (offset : ℕ) × (bytes : List ℕ) × In (Bytes offset bytes) sources × IsAmong n offset bytes
+
+in_range : (s : Source) (sources : List Source) (r : Run) (at : ℕ) → In s sources → In r (range_in s) → IsWithin r at
+    → IsRead sources at
+in_range (Bytes offset bytes) sources r at i (inl e) w =
+    let v = subst (λ (q : Run). IsWithin q at) e w in
+    let from : offset ≤ at = v.from in
+    let before : at + 1 ≤ offset + length bytes = v.before in
+    (offset, bytes, i, from, omega arith)
+in_range (Bytes offset bytes) sources r at i (inr z) w = absurd z
+in_range (Saved notes) sources r at i m w = absurd m
+
+-- what lies in the ranges of sources was read
+pub read_says : (sources : List Source) (at : ℕ) → LiesIn (flat_map range_in sources) at ↔ IsRead sources at
+read_says sources at = (
+  λ h.
+      let s = (In-flat_map range_in sources h.0).0 h.1 in
+      in_range s.0 sources h.0 at s.1 s.2 h.2,
+  λ h.
+      let r = run h.0 (h.0 + length h.1) in (
+        r,
+        (In-flat_map range_in sources r).1 (Bytes h.0 h.1, h.2, inl refl),
+        record { from = h.3; before = omega (arith, h.4) },
+      ),
+)
+
+one_range : (s : Source) (sources : List Source) (r : Run) (n : NoteParts) → In s sources → In r (range_in s)
+    → r.start ≤ n.offset → covered_end n ≤ r.end → IsAmongSome sources n
+one_range (Bytes offset bytes) sources r n i (inl e) f t =
+    let from : r.start ≡ offset = ap (λ (q : Run). q.start) e in
+    let to : r.end ≡ offset + length bytes = ap (λ (q : Run). q.end) e in
+    (offset, bytes, i, record { from = omega (arith, f, from); to = omega (arith, t, to) })
+one_range (Bytes offset bytes) sources r n i (inr z) f t = absurd z
+one_range (Saved notes) sources r n i m f t = absurd m
+
+-- one of the ranges has all bytes of a note where some source of bytes has
+pub among_says : (sources : List Source) (n : NoteParts) → IsWithinOne (flat_map range_in sources) n ↔ IsAmongSome sources n
+among_says sources n = (
+  λ h.
+      let s = (In-flat_map range_in sources h.0).0 h.1 in
+      one_range s.0 sources h.0 n s.1 s.2 h.2 h.3,
+  λ h.
+      let r = run h.0 (h.0 + length h.1) in (
+        r,
+        (In-flat_map range_in sources r).1 (Bytes h.0 h.1, h.2, inl refl),
+        h.3.from,
+        h.3.to,
+      ),
+)
+
+touched_by : (s : Source) (sources : List Source) (n : NoteParts) → In s sources → TouchesIn n s
+    → IsMet (flat_map range_in sources) n ⊎ IsHeaded sources n
+touched_by (Bytes offset bytes) sources n i t =
+    let before : t.0 + 1 ≤ covered_end n = t.1.before in
+    inl (t.0, (read_says sources t.0).1 (offset, bytes, i, t.2, t.3), t.1.from, omega arith)
+touched_by (Saved notes) sources n i t = inr (notes, i, t)
+
+-- a note is touched where the ranges meet it, or some catalogue has its head
+pub touched_says : (sources : List Source) (n : NoteParts)
+    → ((s : Source) × In s sources × TouchesIn n s) ↔ (IsMet (flat_map range_in sources) n ⊎ IsHeaded sources n)
+touched_says sources n = (
+  λ h. touched_by h.0 sources n h.1 h.2,
+  λ h. elim h [
+    | inl m ↦
+        let r = (read_says sources m.0).0 m.1 in
+        (Bytes r.0 r.1, r.2, (m.0, record { from = m.2; before = omega (arith, m.3) }, r.3, r.4))
+    | inr m ↦ (Saved m.0, m.1, m.2)
+  ],
+)
+
+-- the same of runs with the same offsets, and of ranges that are the same
+pub met_alike : (a b : List Run) (n : NoteParts) → SameOffsets a b → IsMet a n ↔ IsMet b n
+met_alike a b n same = (
+  λ h. (h.0, (same h.0).0 h.1, h.2, h.3),
+  λ h. (h.0, (same h.0).1 h.1, h.2, h.3),
+)
+
+pub within_alike : (a b : List Run) (n : NoteParts) → SameMembers a b → IsWithinOne a n ↔ IsWithinOne b n
+within_alike a b n same = (
+  λ h. (h.0, (same h.0).0 h.1, h.2, h.3),
+  λ h. (h.0, (same h.0).1 h.1, h.2, h.3),
+)
+
+-- notes of which something is so are those of which the same is so in other words
+pub those_alike : (reference : List NoteParts) (P Q : NoteParts → Type 0) (xs : List NoteParts)
+    → AreThose reference P xs → ((n : NoteParts) → In n reference → P n ↔ Q n) → AreThose reference Q xs
+those_alike reference P Q xs those alike = record {
+  rising = those.rising;
+  members = λ n. (
+    λ h. let m = (those.members n).0 h in (m.0, (alike n m.0).0 m.1),
+    λ h. (those.members n).1 (h.0, (alike n h.0).1 h.1),
+  );
+}
+
+pub runs_alike : (P Q : ℕ → Type 0) (runs : List Run) → AreRunsOf P runs → ((at : ℕ) → P at ↔ Q at) → AreRunsOf Q runs
+runs_alike P Q runs are alike = record {
+  maximal = are.maximal;
+  offsets = λ at. (
+    λ h. (alike at).0 ((are.offsets at).0 h),
+    λ h. (are.offsets at).1 ((alike at).1 h),
+  );
+}
+
+-- a set of notes, put in order
+pub ordered_those : (reference set : List NoteParts) (P : NoteParts → Type 0)
+    → ((n : NoteParts) → In n set ↔ (In n reference × P n)) → AreThose reference P (union_of [] set)
+ordered_those reference set P members = record {
+  rising = IsContent-union_of [] set tt;
+  members = λ n.
+      let u = In-union_of n [] set in (
+        λ h. elim (u.0 h) [ inl z ↦ absurd z | inr k ↦ (members n).0 k ],
+        λ h. u.1 (inr ((members n).1 h)),
+      );
+}
+
+-- bytes of a set of notes
+pub held_alike : (reference set : List NoteParts) (P : NoteParts → Type 0)
+    → ((n : NoteParts) → In n set ↔ (In n reference × P n)) → (at : ℕ)
+    → IsHeldBy set at ↔ ((n : NoteParts) × In n reference × P n × IsCovered n at)
+held_alike reference set P members at = (
+  λ h. let m = (members h.0).0 h.1 in (h.0, m.0, m.1, h.2),
+  λ h. (h.0, (members h.0).1 (h.1, h.2), h.3),
+)
+
+module _ (reference : List NoteParts) (sources : List Source) (seen : Seen) (is : IsSeen reference sources seen) where
+  -- the notes that differ somewhere
+  pub damaged_members : (n : NoteParts) → In n (map (λ (d : Differing). d.note.now) seen.differing.items)
+      ↔ (In n reference × IsDiffering reference sources n)
+  damaged_members n =
+      subst (λ l. In n l ↔ (In n reference × IsDiffering reference sources n)) (notes_of_parts seen.differing.items)
+      (damaged_says reference 1 sources _ n is.differing)
+
+  came_from : (s : Source) (at : ℕ) → In s sources → IsByteOf s at → ¬ IsHeldBy reference at
+      → LiesIn seen.ranges.items at ⊎ LiesIn seen.beside.items at
+  came_from (Bytes offset bytes) at i b free =
+      inl (subst (λ l. LiesIn l at) (sym is.ranges) ((read_says sources at).1 (offset, bytes, i, b.0, b.1)))
+  came_from (Saved notes) at i b free = inr ((is.beside at).1 ((notes, i, b), free))
+
+  -- what came and isn't held is unknown
+  pub unknown_says : (at : ℕ) → (LiesIn (seen.ranges.items ++ seen.beside.items) at × ¬ IsHeldBy reference at)
+      ↔ IsUnknownByte reference sources at
+  unknown_says at = (
+    λ h. elim ((lies_in_both seen.ranges.items seen.beside.items at).0 h.0) [
+      | inl k ↦
+          let r = (read_says sources at).0 (subst (λ l. LiesIn l at) is.ranges k) in
+          ((Bytes r.0 r.1, r.2, (r.3, r.4)), h.1)
+      | inr k ↦ let b = (is.beside at).0 k in ((Saved b.0.0, b.0.1, b.0.2), h.1)
+    ],
+    λ h. ((lies_in_both seen.ranges.items seen.beside.items at).1 (came_from h.0.0 at h.0.1 h.0.2 h.1), h.1),
+  )
+
+  module _ (u : Uncompared)
+      (verified : (n : NoteParts) → In n u.verified ↔ (In n reference × IsVerified reference sources n))
+      (damaged : (n : NoteParts) → In n u.damaged ↔ (In n reference × IsDiffering reference sources n))
+      (headed : (n : NoteParts) → In n u.headed ↔ (In n reference × IsHeaded sources n))
+      (read : SameOffsets u.read seen.ranges.items) (reach : SameMembers u.reach seen.ranges.items) where
+    read_of : SameOffsets u.read (flat_map range_in sources)
+    read_of = subst (SameOffsets u.read) is.ranges read
+
+    reach_of : SameMembers u.reach (flat_map range_in sources)
+    reach_of = subst (SameMembers u.reach) is.ranges reach
+
+    -- a note is left out exactly where it is cut
+    pub left_out_says : (n : NoteParts) → In n reference → IsLeftOut u n ↔ IsCut reference sources n
+    left_out_says n held =
+        let within = within_alike u.reach (flat_map range_in sources) n reach_of in
+        let met = met_alike u.read (flat_map range_in sources) n read_of in
+        let some = among_says sources n in
+        let touched = touched_says sources n in (
+          λ h. record {
+            unverified = λ v. h.unverified ((verified n).1 (held, v));
+            undiffering = λ d. h.undiffering ((damaged n).1 (held, d));
+            apart = λ offset bytes i a. h.apart (within.1 (some.1 (offset, bytes, i, a)));
+            touched = touched.1 (elim h.touched [ inl m ↦ inl (met.0 m) | inr m ↦ inr ((headed n).0 m).1 ]);
+          },
+          λ h. record {
+            unverified = λ v. h.unverified ((verified n).0 v).1;
+            undiffering = λ d. h.undiffering ((damaged n).0 d).1;
+            apart = λ w. let s = some.0 (within.0 w) in h.apart s.0 s.1 s.2 s.3;
+            touched = elim (touched.0 h.touched) [ inl m ↦ inl (met.1 m) | inr m ↦ inr ((headed n).1 (held, m)) ];
+          },
+        )
+
+-- what is told of a reference beside sources, by its parts
+pub count_of : (reference : List NoteParts) (P : NoteParts → Type 0) (notes : List NoteParts) (count : ℕ)
+    → AreThose reference P notes → count ≡ length notes → IsCountOf reference P count
+count_of reference P notes count those e = record { notes = notes; those = those; count_is = e }
+
+-- ---- sets that grow
+
+-- notes that stand behind others in a set are members of it beside these
+pub added_members : (old added new : List NoteParts) → new ≡ old ++ added → (n : NoteParts)
+    → In n new ↔ (In n old ⊎ In n added)
+added_members old added new e n = subst (λ l. In n l ↔ (In n old ⊎ In n added)) (sym e) (In-append n old added)
+
+-- the same where they are put in order then
+pub added_once : (old added all new : List NoteParts) → all ≡ old ++ added → new ≡ union_of [] all → (n : NoteParts)
+    → In n new ↔ (In n old ⊎ In n added)
+added_once old added all new e o n =
+    let u = In-union_of n [] all in
+    let m = added_members old added all e n in (
+      λ h. m.0 (elim (u.0 (subst (In n) o h)) [ inl z ↦ absurd z | inr k ↦ k ]),
+      λ h. subst (In n) (sym o) (u.1 (inr (m.1 h))),
+    )
+
+-- what differs, put in order
+pub damaged_once : (none lent set ordered : List NoteParts) (ds : List Differing) (rs : List (Bor NoteParts)) → none ≡ []
+    → rs ≡ map (λ (d : Differing). d.note) ds → lent ≡ notes_at rs
+    → ((n : NoteParts) → In n set ↔ (In n none ⊎ In n lent)) → ordered ≡ union_of [] set → (n : NoteParts)
+    → In n ordered ↔ In n (map (λ (d : Differing). d.note.now) ds)
+damaged_once none lent set ordered ds rs z names held more o n =
+    let u = In-union_of n [] set in
+    let all : lent ≡ map (λ (d : Differing). d.note.now) ds = held ∙ ap notes_at names ∙ lent_notes ds in (
+      λ h. elim (u.0 (subst (In n) o h)) [
+        | inl k ↦ absurd k
+        | inr k ↦ elim ((more n).0 k) [ inl m ↦ absurd (subst (In n) z m) | inr m ↦ subst (In n) all m ]
+      ],
+      λ h. subst (In n) (sym o) (u.1 (inr ((more n).1 (inr (subst (In n) (sym all) h))))),
+    )
+  where
+    lent_notes : (es : List Differing) → notes_at (map (λ (d : Differing). d.note) es) ≡ map (λ (d : Differing). d.note.now) es
+    lent_notes [] = refl
+    lent_notes (e ∷ es) = ap (λ l. e.note.now ∷ l) (lent_notes es)
+
+-- ---- bytes that are told
+
+-- the bytes of notes, and of one more
+pub bytes_more : (members : List NoteParts) (i : ℕ) (d n : NoteParts) (old new : List Run) (start end : ℕ)
+    → i < length members → n ≡ get_or members i d → start ≡ n.offset → end ≡ covered_end n
+    → new ≡ with_run (run start end) old → ((at : ℕ) → LiesIn old at ↔ IsHeldBy (take i members) at) → (at : ℕ)
+    → LiesIn new at ↔ IsHeldBy (take (i + 1) members) at
+bytes_more members i d n old new start end h is from to put were at =
+    let w = LiesIn-with_run (run start end) old at in
+    let more : take (i + 1) members ≡ take i members ++ n ∷ [] =
+    take_more members i d h ∙ ap (λ x. take i members ++ x ∷ []) (sym is) in
+    let one = some_end (λ x. IsCovered x at) (take i members) n in (
+      λ k. subst (λ l. IsHeldBy l at) (sym more) (one.1 (elim (w.0 (subst (λ l. LiesIn l at) put k)) [
+        | inl r ↦
+            let f : start ≤ at = r.from in
+            let t : at + 1 ≤ end = r.before in inr (record { from = omega (arith, from); before = omega (arith, to) })
+        | inr r ↦ inl ((were at).0 r)
+      ])),
+      λ k. subst (λ l. LiesIn l at) (sym put) (w.1 (elim (one.0 (subst (λ l. IsHeldBy l at) more k)) [
+        | inl r ↦ inr ((were at).1 r)
+        | inr r ↦
+            let f : n.offset ≤ at = r.from in
+            let t : at + 1 ≤ covered_end n = r.before in inl (record { from = omega (arith, from); before = omega (arith, to) })
+      ])),
+    )
+
+-- what is left of some offsets without others, and without further ones
+pub left_of_both : (all some others left rest : List Run) → ((at : ℕ) → LiesIn left at ↔ (LiesIn all at × ¬ LiesIn some at))
+    → ((at : ℕ) → LiesIn rest at ↔ (LiesIn left at × ¬ LiesIn others at)) → (at : ℕ)
+    → LiesIn rest at ↔ (LiesIn all at × ¬ LiesIn some at × ¬ LiesIn others at)
+left_of_both all some others left rest first second at = (
+  λ h. let a = (second at).0 h in let b = (first at).0 a.0 in (b.0, b.1, a.1),
+  λ h. (second at).1 ((first at).1 (h.0, h.1), h.2),
+)
+
+-- the bytes of notes that are the same, that differ, and what is left
+pub bytes_are : (reference verified damaged : List NoteParts) (sources same altered left spans came unknown others : List Run)
+    → ((at : ℕ) → LiesIn same at ↔ IsHeldBy verified at) → ((at : ℕ) → LiesIn altered at ↔ IsHeldBy damaged at)
+    → ((at : ℕ) → LiesIn left at ↔ (LiesIn spans at × ¬ LiesIn same at × ¬ LiesIn altered at)) → Covers spans reference
+    → SameOffsets came sources → Covers others reference
+    → ((at : ℕ) → LiesIn unknown at ↔ (LiesIn came at × ¬ LiesIn others at))
+    → AreMaximal 0 same → AreMaximal 0 altered → AreMaximal 0 left → AreMaximal 0 unknown
+    → AreBytes reference verified damaged sources
+    (record { verified = same; altered = altered; unverified = left; unknown = unknown })
+bytes_are reference verified damaged sources same altered left spans came unknown others s d l held c also u ms md ml mu = record {
+  verified_are = record { maximal = ms; offsets = s };
+  altered_are = record { maximal = md; offsets = d };
+  unverified_are = record {
+    maximal = ml;
+    offsets = λ at. (
+      λ h.
+          let k = (l at).0 h in
+          ((held at).0 k.0, λ v. k.1 ((s at).1 v), λ v. k.2 ((d at).1 v)),
+      λ h. (l at).1 ((held at).1 h.0, λ v. h.1 ((s at).0 v), λ v. h.2 ((d at).0 v)),
+    );
+  };
+  unknown_are = record {
+    maximal = mu;
+    offsets = λ at. (
+      λ h. let k = (u at).0 h in ((c at).0 k.0, λ v. k.1 ((also at).1 v)),
+      λ h. (u at).1 ((c at).1 h.0, λ v. h.1 ((also at).0 v)),
+    );
+  };
+}
+
+-- ---- the notes that weren't compared
+
+all_before : {K : Type 0} (R : K → K → Ordering) (xs : List K) (n x : K) → IsRising R (xs ++ n ∷ []) → In x xs → R x n ≡ Less
+all_before R [] n x r i = absurd i
+all_before R (y ∷ xs) n x r (inl e) = ap (λ z. R z n) e ∙ all-In (λ z. R y z ≡ Less) (xs ++ n ∷ []) n r.0 (last xs n)
+  where
+    last : {K : Type 0} (ys : List K) (m : K) → In m (ys ++ m ∷ [])
+    last [] m = inl refl
+    last (z ∷ ys) m = inr (last ys m)
+all_before R (y ∷ xs) n x r (inr i) = all_before R xs n x r.1 i
+
+rises_end : {K : Type 0} (R : K → K → Ordering) (xs : List K) (n : K) → IsRising R xs → ((x : K) → In x xs → R x n ≡ Less)
+    → IsRising R (xs ++ n ∷ [])
+rises_end R [] n r before = (tt, tt)
+rises_end R (x ∷ xs) n r before = (
+  all_append (λ z. R x z ≡ Less) xs (n ∷ []) r.0 (before x (inl refl), tt),
+  rises_end R xs n r.1 (λ y i. before y (inr i)),
+)
+
+rises_front : {K : Type 0} (R : K → K → Ordering) (xs ys : List K) → IsRising R (xs ++ ys) → IsRising R xs
+rises_front R [] ys r = tt
+rises_front R (x ∷ xs) ys r = (all_front (λ z. R x z ≡ Less) xs ys r.0, rises_front R xs ys r.1)
+
+-- of the notes that were passed those of which this is so
+abbrev pub HasPassed : List NoteParts → (NoteParts → Type 0) → List CutNote → List NoteParts → Type 0
+HasPassed reference P cut left =
+    (taken : List NoteParts) × (taken ++ left ≡ reference) × AreThose taken P (map (λ (c : CutNote). c.note.now) cut)
+
+taken_more : (reference taken left rest : List NoteParts) (n : NoteParts) → taken ++ left ≡ reference → left ≡ n ∷ rest
+    → (taken ++ n ∷ []) ++ rest ≡ reference
+taken_more reference taken left rest n e steps =
+    append_assoc taken (n ∷ []) rest ∙ ap (λ l. taken ++ l) (sym steps) ∙ e
+
+map_end : (cut : List CutNote) (c : CutNote) → map (λ (x : CutNote). x.note.now) (cut ++ c ∷ [])
+    ≡ map (λ (x : CutNote). x.note.now) cut ++ c.note.now ∷ []
+map_end [] c = refl
+map_end (d ∷ cut) c = ap (λ l. d.note.now ∷ l) (map_end cut c)
+
+-- one more of which it is so
+pub cut_put : (reference : List NoteParts) (P : NoteParts → Type 0) (old new : List CutNote) (r : Bor NoteParts)
+    (left rest : List NoteParts) → IsContent reference → HasPassed reference P old left → left ≡ r.now ∷ rest
+    → new ≡ old ++ record { note = r } ∷ [] → P r.now → HasPassed reference P new rest
+cut_put reference P old new r left rest rising (taken, e, those) steps put p =
+    let n = r.now in
+    let more = taken_more reference taken left rest n e steps in
+    let risen : IsContent (taken ++ n ∷ []) = rises_front note_cmp (taken ++ n ∷ []) rest (subst IsContent (sym more) rising) in
+    let names : map (λ (c : CutNote). c.note.now) new ≡ map (λ (c : CutNote). c.note.now) old ++ n ∷ [] =
+    ap (map (λ (c : CutNote). c.note.now)) put ∙ map_end old (record { note = r }) in
+    let were = map (λ (c : CutNote). c.note.now) old in (
+      taken ++ n ∷ [],
+      more,
+      record {
+        rising = subst IsContent (sym names) (rises_end note_cmp were n those.rising
+            (λ x i. all_before note_cmp taken n x risen ((those.members x).0 i).0));
+        members = λ m.
+            let own = In-end m n were (map (λ (c : CutNote). c.note.now) new) names in
+            let all = In-append m taken (n ∷ []) in (
+              λ h. elim (own.0 h) [
+                | inl k ↦ let t = (those.members m).0 k in (all.1 (inl t.0), t.1)
+                | inr same ↦ (all.1 (inr (inl same)), subst P (sym same) p)
+              ],
+              λ (i, q). own.1 (elim (all.0 i) [
+                | inl k ↦ inl ((those.members m).1 (k, q))
+                | inr k ↦ elim k [ inl same ↦ inr same | inr z ↦ absurd z ]
+              ]),
+            );
+      },
+    )
+
+-- one of which it isn't
+pub cut_passed : (reference : List NoteParts) (P : NoteParts → Type 0) (cut : List CutNote) (n : NoteParts)
+    (left rest : List NoteParts) → IsContent reference → HasPassed reference P cut left → left ≡ n ∷ rest → ¬ P n
+    → HasPassed reference P cut rest
+cut_passed reference P cut n left rest rising (taken, e, those) steps lacks = (
+  taken ++ n ∷ [],
+  taken_more reference taken left rest n e steps,
+  record {
+    rising = those.rising;
+    members = λ m.
+        let all = In-append m taken (n ∷ []) in (
+          λ h. let t = (those.members m).0 h in (all.1 (inl t.0), t.1),
+          λ (i, q). elim (all.0 i) [
+            | inl k ↦ (those.members m).1 (k, q)
+            | inr k ↦ elim k [ inl same ↦ absurd (lacks (subst P same q)) | inr z ↦ absurd z ]
+          ],
+        );
+  },
+)
+
+-- ---- all of it
+
+-- what is told of a reference beside sources, by what was seen of these
+pub verification_of : (reference : List NoteParts) (sources : List Source) (seen : Seen) (is : IsSeen reference sources seen)
+    (u : Uncompared) (b : ToldBytes) (v : VerificationParts) → v.all_packets ≡ length reference
+    → u.verified ≡ union_of [] seen.verified → v.packets ≡ length u.verified → IsContent u.damaged
+    → ((n : NoteParts) → In n u.damaged ↔ In n (map (λ (d : Differing). d.note.now) seen.differing.items))
+    → v.damaged ≡ length u.damaged → u.headed ≡ union_of [] seen.headed → SameOffsets u.read seen.ranges.items
+    → SameMembers u.reach seen.ranges.items → v.differing ≡ parts_of seen.differing.items
+    → AreThose reference (IsLeftOut u) v.cut → IsCover v.held → Covers v.held reference
+    → AreBytes reference u.verified u.damaged (seen.ranges.items ++ seen.beside.items) b → v.verified ≡ b.verified
+    → v.altered ≡ b.altered → v.unverified ≡ b.unverified → v.unknown ≡ b.unknown → v.came ≡ seen.came
+    → IsVerification reference sources v
+verification_of reference sources seen is u b v all verified packets rises damaged count headed read reach differing cut
+    cover held bytes same altered unverified unknown came =
+    let verified_those : AreThose reference (IsVerified reference sources) u.verified =
+    subst (AreThose reference (IsVerified reference sources)) (sym verified)
+    (ordered_those reference seen.verified (IsVerified reference sources) is.verified) in
+    let headed_those : AreThose reference (IsHeaded sources) u.headed =
+    subst (AreThose reference (IsHeaded sources)) (sym headed)
+    (ordered_those reference seen.headed (IsHeaded sources) is.headed) in
+    let damaged_says = damaged_members reference sources seen is in
+    let damaged_those : AreThose reference (IsDiffering reference sources) u.damaged = record {
+      rising = rises;
+      members = λ n. (
+        λ h. (damaged_says n).0 ((damaged n).0 h),
+        λ h. (damaged n).1 ((damaged_says n).1 h),
+      );
+    } in
+    let left = left_out_says reference sources seen is u verified_those.members damaged_those.members headed_those.members read reach in
+    record {
+      all_packets = all;
+      packets = count_of reference (IsVerified reference sources) u.verified v.packets verified_those packets;
+      damaged = count_of reference (IsDiffering reference sources) u.damaged v.damaged damaged_those count;
+      differing = subst (AreDiffering reference 1 sources) (sym differing) is.differing;
+      cut = those_alike reference (IsLeftOut u) (IsCut reference sources) v.cut cut left;
+      held = record { maximal = cover.maximal; offsets = held };
+      verified = subst (AreRunsOf (IsVerifiedByte reference sources)) (sym same)
+          (runs_alike (IsHeldBy u.verified) (IsVerifiedByte reference sources) b.verified bytes.verified_are
+          (held_alike reference u.verified (IsVerified reference sources) verified_those.members));
+      altered = subst (AreRunsOf (IsDifferingByte reference sources)) (sym altered)
+          (runs_alike (IsHeldBy u.damaged) (IsDifferingByte reference sources) b.altered bytes.altered_are
+          (held_alike reference u.damaged (IsDiffering reference sources) damaged_those.members));
+      unverified = subst (AreRunsOf (IsUnverifiedByte reference sources)) (sym unverified)
+          (runs_alike _ (IsUnverifiedByte reference sources) b.unverified bytes.unverified_are
+          (unverified_says verified_those damaged_those));
+      unknown = subst (AreRunsOf (IsUnknownByte reference sources)) (sym unknown)
+          (runs_alike _ (IsUnknownByte reference sources) b.unknown bytes.unknown_are (unknown_says reference sources seen is));
+      came = (λ h. is.came.0 (sym came ∙ h), λ h. came ∙ is.came.1 h);
+    }
+  where
+    unverified_says : AreThose reference (IsVerified reference sources) u.verified
+        → AreThose reference (IsDiffering reference sources) u.damaged → (at : ℕ)
+        → (IsHeldBy reference at × ¬ IsHeldBy u.verified at × ¬ IsHeldBy u.damaged at) ↔ IsUnverifiedByte reference sources at
+    unverified_says v_those d_those at =
+        let v_held = held_alike reference u.verified (IsVerified reference sources) v_those.members at in
+        let d_held = held_alike reference u.damaged (IsDiffering reference sources) d_those.members at in (
+          λ h. (h.0, λ k. h.1 (v_held.1 k), λ k. h.2 (d_held.1 k)),
+          λ h. (h.0, λ k. h.1 (v_held.0 k), λ k. h.2 (d_held.0 k)),
+        )
+
+-- the same of the same notes and runs
+pub bytes_same : (reference a b c d : List NoteParts) (x y z w : List Run) (t : ToldBytes) → a ≡ b → c ≡ d → x ≡ z → y ≡ w
+    → AreBytes reference a c (x ++ y) t → AreBytes reference b d (z ++ w) t
+bytes_same reference a b c d x y z w t p q r s h =
+    subst (λ l. AreBytes reference b d (z ++ l) t) s (subst (λ l. AreBytes reference b d (l ++ y) t) r
+    (subst (λ l. AreBytes reference b l (x ++ y) t) q (subst (λ l. AreBytes reference l c (x ++ y) t) p h)))

@@ -1,0 +1,400 @@
+-- What sources said of the notes of a reference, and one source more.
+use Rattle.std.proofs.Common.{◌≡◌, ◌↔◌, ◌⊎◌, ◌+◌, ◌≤◌, ◌∙◌, ℕ, Bool, true, false, ◌||◌, not, nat_lt, IsTrue, List, [], ◌∷◌}
+use Rattle.std.proofs.Common.{◌++◌, length, map, refl, sym, ap, subst, inl, inr, arith, append_assoc}
+use Rattle.std.proofs.lemmas.Bool.{ltb-true, lt-ltb, false≢true}
+use Rattle.std.proofs.lemmas.List.{append-nil}
+use Rattle.std.specs.List.{AllByRecursion, flat_map}
+use denote.Bor.{Bor}
+use Rattle.mxf_klv.specs.Parts.{NoteParts}
+use Rattle.mxf_klv.specs.Rising.{In}
+use Rattle.mxf_klv.proofs.Lists.{all-In, In-append}
+use Rattle.mxf_catalogue.specs.Content.{IsCatalogue}
+use Rattle.mxf_catalogue.specs.Runs.{LiesIn, run}
+use Rattle.mxf_catalogue.specs.declared.run.Run.{Run}
+use Rattle.mxf_verify.specs.Verifying.{DiffersIn, IsByteOf, IsDiffering, IsHeldBy, IsSameIn, IsVerified, Source, TouchesIn}
+use Rattle.mxf_verify.specs.Verifying.{Bytes, Saved}
+use Rattle.mxf_verify.specs.Telling.{AreThose, TellsOf, TellsSaved, notes_at}
+use Rattle.mxf_verify.specs.Verifications.{AreDiffering, DifferingParts, differing_in, parts_of}
+use Rattle.mxf_verify.specs.Seen.{IsBeside, IsHeaded, IsSeen, range_in}
+use Rattle.mxf_verify.specs.declared.saved.SavedTold.{SavedTold}
+use Rattle.mxf_verify.specs.declared.seen.Seen.{Seen}
+use Rattle.mxf_verify.specs.declared.told.Told.{Told}
+use Rattle.mxf_verify.specs.declared.verification.Differing.{Differing}
+use Rattle.mxf_verify.proofs.ComparingLaws.{holds_first}
+
+-- some of the elements with one more behind them is some of them, or that one
+pub some_end : {K : Type 0} (P : K → Type 0) (xs : List K) (x : K)
+    → ((y : K) × In y (xs ++ x ∷ []) × P y) ↔ (((y : K) × In y xs × P y) ⊎ P x)
+some_end P xs x = (
+  λ h. elim ((In-append h.0 xs (x ∷ [])).0 h.1) [
+    | inl k ↦ inl (h.0, k, h.2)
+    | inr k ↦ elim k [ inl e ↦ inr (subst P e h.2) | inr z ↦ absurd z ]
+  ],
+  λ h. elim h [
+    | inl s ↦ (s.0, (In-append s.0 xs (x ∷ [])).1 (inl s.1), s.2)
+    | inr p ↦ (x, (In-append x xs (x ∷ [])).1 (inr (inl refl)), p)
+  ],
+)
+
+-- a catalogue among sources with a further one is one of them, or that one
+pub saved_end : (sources : List Source) (s : Source) (notes : List NoteParts)
+    → In (Saved notes) (sources ++ s ∷ []) ↔ (In (Saved notes) sources ⊎ (Saved notes ≡ s))
+saved_end sources s notes =
+    let both = In-append (Saved notes) sources (s ∷ []) in (
+      λ h. elim (both.0 h) [
+        | inl k ↦ inl k
+        | inr k ↦ elim k [ inl e ↦ inr e | inr z ↦ absurd z ]
+      ],
+      λ h. elim h [ inl k ↦ both.1 (inl k) | inr e ↦ both.1 (inr (inl e)) ],
+    )
+
+no_bytes : (notes : List NoteParts) (offset : ℕ) (bytes : List ℕ) → Saved notes ≡ Bytes offset bytes → ⊥
+no_bytes notes offset bytes e = cc (e)
+
+-- of a source of bytes no head comes, and nothing stands beside the reference
+pub headed_bytes : (sources : List Source) (offset : ℕ) (bytes : List ℕ) (n : NoteParts)
+    → IsHeaded (sources ++ Bytes offset bytes ∷ []) n ↔ IsHeaded sources n
+headed_bytes sources offset bytes n = (
+  λ (notes, k, t). elim ((saved_end sources (Bytes offset bytes) notes).0 k) [
+    | inl h ↦ (notes, h, t)
+    | inr e ↦ absurd (no_bytes notes offset bytes e)
+  ],
+  λ (notes, k, t). (notes, (saved_end sources (Bytes offset bytes) notes).1 (inl k), t),
+)
+
+pub beside_bytes : (reference : List NoteParts) (sources : List Source) (offset : ℕ) (bytes : List ℕ) (at : ℕ)
+    → IsBeside reference (sources ++ Bytes offset bytes ∷ []) at ↔ IsBeside reference sources at
+beside_bytes reference sources offset bytes at = (
+  λ ((notes, k, t), free). (
+    elim ((saved_end sources (Bytes offset bytes) notes).0 k) [
+      | inl h ↦ (notes, h, t)
+      | inr e ↦ absurd (no_bytes notes offset bytes e)
+    ],
+    free,
+  ),
+  λ ((notes, k, t), free). ((notes, (saved_end sources (Bytes offset bytes) notes).1 (inl k), t), free),
+)
+
+same_notes : (a b : List NoteParts) → Saved a ≡ Saved b → a ≡ b
+same_notes a b e = cc (e)
+
+-- of a catalogue they do
+pub headed_saved : (sources : List Source) (saved : List NoteParts) (n : NoteParts)
+    → IsHeaded (sources ++ Saved saved ∷ []) n ↔ (IsHeaded sources n ⊎ TouchesIn n (Saved saved))
+headed_saved sources saved n = (
+  λ (notes, k, t). elim ((saved_end sources (Saved saved) notes).0 k) [
+    | inl h ↦ inl (notes, h, t)
+    | inr e ↦ inr (subst (λ l. TouchesIn n (Saved l)) (same_notes notes saved e) t)
+  ],
+  λ h. elim h [
+    | inl s ↦ (s.0, (saved_end sources (Saved saved) s.0).1 (inl s.1), s.2)
+    | inr t ↦ (saved, (saved_end sources (Saved saved) saved).1 (inr refl), t)
+  ],
+)
+
+pub beside_saved : (reference : List NoteParts) (sources : List Source) (saved : List NoteParts) (at : ℕ)
+    → IsBeside reference (sources ++ Saved saved ∷ []) at
+    ↔ (IsBeside reference sources at ⊎ (IsHeldBy saved at × ¬ IsHeldBy reference at))
+beside_saved reference sources saved at = (
+  λ ((notes, k, t), free). elim ((saved_end sources (Saved saved) notes).0 k) [
+    | inl h ↦ inl ((notes, h, t), free)
+    | inr e ↦ inr (subst (λ l. IsHeldBy l at) (same_notes notes saved e) t, free)
+  ],
+  λ h. elim h [
+    | inl s ↦ ((s.0.0, (saved_end sources (Saved saved) s.0.0).1 (inl s.0.1), s.0.2), s.1)
+    | inr t ↦ ((saved, (saved_end sources (Saved saved) saved).1 (inr refl), t.0), t.1)
+  ],
+)
+
+-- what differs in one source more stands behind what differs in the others
+pub differing_more : (reference : List NoteParts) (first : ℕ) (sources : List Source) (s : Source)
+    (told : List DifferingParts) (notes : List NoteParts) → AreDiffering reference first sources told
+    → AreThose reference (λ n. DiffersIn reference n s) notes
+    → AreDiffering reference first (sources ++ s ∷ []) (told ++ map (differing_in (first + length sources)) notes)
+differing_more reference first [] s told notes d those =
+    let number : first + 0 ≡ first = omega arith in (
+      notes,
+      [],
+      those,
+      refl,
+      ap (λ t. t ++ map (differing_in (first + 0)) notes) d
+          ∙ ap (λ k. map (differing_in k) notes) number
+          ∙ sym (append-nil (map (differing_in first) notes)),
+    )
+differing_more reference first (t ∷ sources) s told notes (ns, rest, those_first, more, e) those =
+    let number : first + length (t ∷ sources) ≡ first + 1 + length sources = omega arith in
+    let behind = map (differing_in (first + 1 + length sources)) notes in (
+      ns,
+      rest ++ behind,
+      those_first,
+      differing_more reference (first + 1) sources s rest notes more those,
+      ap (λ l. l ++ map (differing_in (first + length (t ∷ sources))) notes) e
+          ∙ ap (λ k. (map (differing_in first) ns ++ rest) ++ map (differing_in k) notes) number
+          ∙ append_assoc (map (differing_in first) ns) rest behind,
+    )
+
+map_notes : (source : ℕ) (ns : List NoteParts) → map (λ (d : DifferingParts). d.note) (map (differing_in source) ns) ≡ ns
+map_notes source [] = refl
+map_notes source (n ∷ ns) = ap (λ l. n ∷ l) (map_notes source ns)
+
+map_both : (xs ys : List DifferingParts) → map (λ (d : DifferingParts). d.note) (xs ++ ys)
+    ≡ map (λ (d : DifferingParts). d.note) xs ++ map (λ (d : DifferingParts). d.note) ys
+map_both [] ys = refl
+map_both (x ∷ xs) ys = ap (λ l. x.note ∷ l) (map_both xs ys)
+
+-- the notes that differ somewhere are those that are told
+pub damaged_says : (reference : List NoteParts) (first : ℕ) (sources : List Source) (told : List DifferingParts)
+    (n : NoteParts) → AreDiffering reference first sources told
+    → In n (map (λ (d : DifferingParts). d.note) told) ↔ (In n reference × IsDiffering reference sources n)
+damaged_says reference first [] told n d = (
+  λ h. absurd (subst (λ t. In n (map (λ (p : DifferingParts). p.note) t)) d h),
+  λ h. absurd h.1.1,
+)
+damaged_says reference first (s ∷ sources) told n (ns, rest, those, more, e) =
+    let ih = damaged_says reference (first + 1) sources rest n more in
+    let names = ap (map (λ (p : DifferingParts). p.note)) e ∙ map_both (map (differing_in first) ns) rest
+    ∙ ap (λ l. l ++ map (λ (p : DifferingParts). p.note) rest) (map_notes first ns) in
+    let both = In-append n ns (map (λ (p : DifferingParts). p.note) rest) in (
+      λ h. elim (both.0 (subst (In n) names h)) [
+        | inl k ↦ let m = (those.members n).0 k in (m.0, (s, inl refl, m.1))
+        | inr k ↦ let m = ih.0 k in (m.0, (m.1.0, inr m.1.1, m.1.2))
+      ],
+      λ (held, (t, k, differs)). subst (In n) (sym names) (both.1 (elim k [
+        | inl e ↦ inl ((those.members n).1 (held, subst (λ x. DiffersIn reference n x) e differs))
+        | inr j ↦ inr (ih.1 (held, (t, j, differs)))
+      ])),
+    )
+
+pub notes_of_parts : (ds : List Differing)
+    → map (λ (d : DifferingParts). d.note) (parts_of ds) ≡ map (λ (d : Differing). d.note.now) ds
+notes_of_parts [] = refl
+notes_of_parts (d ∷ ds) = ap (λ l. d.note.now ∷ l) (notes_of_parts ds)
+
+-- the ranges of sources, and those of one more
+pub ranges_more : (sources : List Source) (s : Source)
+    → flat_map range_in (sources ++ s ∷ []) ≡ flat_map range_in sources ++ range_in s
+ranges_more [] s = append-nil (range_in s)
+ranges_more (t ∷ sources) s =
+    ap (λ l. range_in t ++ l) (ranges_more sources s)
+    ∙ sym (append_assoc (range_in t) (flat_map range_in sources) (range_in s))
+
+-- members of a set with those of a list are members of either
+members_more : (reference : List NoteParts) (old added : List NoteParts) (P Q R : NoteParts → Type 0)
+    → ((n : NoteParts) → In n old ↔ (In n reference × P n)) → AreThose reference Q added
+    → ((n : NoteParts) → R n ↔ (P n ⊎ Q n)) → (n : NoteParts)
+    → (In n old ⊎ In n added) ↔ (In n reference × R n)
+members_more reference old added P Q R was those either n = (
+  λ h. elim h [
+    | inl k ↦ let m = (was n).0 k in (m.0, (either n).1 (inl m.1))
+    | inr k ↦ let m = (those.members n).0 k in (m.0, (either n).1 (inr m.1))
+  ],
+  λ h. elim ((either n).0 h.1) [
+    | inl p ↦ inl ((was n).1 (h.0, p))
+    | inr q ↦ inr ((those.members n).1 (h.0, q))
+  ],
+)
+
+-- nothing was seen yet
+pub seen_none : (reference : List NoteParts) (seen : Seen) → IsCatalogue reference → seen.reference ≡ reference
+    → seen.verified ≡ [] → seen.headed ≡ [] → seen.differing.items ≡ [] → seen.ranges.items ≡ []
+    → seen.beside.items ≡ [] → seen.came ≡ false → IsSeen reference [] seen
+seen_none reference seen is same verified headed differing ranges beside came = record {
+  catalogue = is;
+  reference_is = same;
+  verified = λ n. (λ h. absurd (subst (In n) verified h), λ h. absurd h.1.1);
+  headed = λ n. (λ h. absurd (subst (In n) headed h), λ h. absurd h.1.1);
+  differing = ap parts_of differing;
+  ranges = ranges;
+  beside = λ at. (λ h. absurd (subst (In h.0) beside h.1), λ h. absurd h.0.1);
+  came = (λ h. absurd (false≢true (sym came ∙ h)), λ h. absurd h.2);
+}
+
+or_says : (a b : Bool) {P Q : Type 0} → (IsTrue a ↔ P) → (IsTrue b ↔ Q) → IsTrue (a || b) ↔ (P ⊎ Q)
+or_says true b f g = (λ h. inl (f.0 refl), λ h. refl)
+or_says false b f g = (λ h. inr (g.0 h), λ h. elim h [ inl p ↦ absurd (false≢true (f.1 p)) | inr q ↦ g.1 q ])
+
+-- there is a byte between an offset and the end of the bytes from there on where these are some
+some_byte : (offset end : ℕ) (bytes : List ℕ) → end ≡ offset + length bytes
+    → IsTrue (nat_lt offset end) ↔ ((at : ℕ) × IsByteOf (Bytes offset bytes) at)
+some_byte offset end bytes e = (
+  λ h. let l = ltb-true offset end h in (offset, (omega arith, omega arith)),
+  λ (at, (from, to)). lt-ltb offset end (omega arith),
+)
+
+-- a byte of one of sources with one more is one of them, or of that one
+bytes_end : (sources : List Source) (s : Source)
+    → ((at : ℕ) × (t : Source) × In t (sources ++ s ∷ []) × IsByteOf t at)
+    ↔ (((at : ℕ) × (t : Source) × In t sources × IsByteOf t at) ⊎ ((at : ℕ) × IsByteOf s at))
+bytes_end sources s = (
+  λ (at, t, k, b). elim ((some_end (λ x. IsByteOf x at) sources s).0 (t, k, b)) [
+    | inl h ↦ inl (at, h.0, h.1, h.2)
+    | inr h ↦ inr (at, h)
+  ],
+  λ h. elim h [
+    | inl g ↦ let f = (some_end (λ x. IsByteOf x g.0) sources s).1 (inl (g.1, g.2, g.3)) in (g.0, f.0, f.1, f.2)
+    | inr g ↦ let f = (some_end (λ x. IsByteOf x g.0) sources s).1 (inr g.1) in (g.0, f.0, f.1, f.2)
+  ],
+)
+
+-- what lies in runs and others lies in either
+pub lies_in_both : (a b : List Run) (at : ℕ) → LiesIn (a ++ b) at ↔ (LiesIn a at ⊎ LiesIn b at)
+lies_in_both a b at = (
+  λ h. elim ((In-append h.0 a b).0 h.1) [ inl k ↦ inl (h.0, k, h.2) | inr k ↦ inr (h.0, k, h.2) ],
+  λ h. elim h [
+    | inl k ↦ (k.0, (In-append k.0 a b).1 (inl k.1), k.2)
+    | inr k ↦ (k.0, (In-append k.0 a b).1 (inr k.1), k.2)
+  ],
+)
+
+-- what a set has with notes more
+members_of : (old new added : List NoteParts) (lent names : List (Bor NoteParts)) → lent ≡ names → added ≡ notes_at names
+    → ((n : NoteParts) → In n new ↔ (In n old ⊎ In n (notes_at lent))) → (n : NoteParts)
+    → In n new ↔ (In n old ⊎ In n added)
+members_of old new added lent names e a more n =
+    subst (λ l. In n new ↔ (In n old ⊎ In n l)) (ap notes_at e ∙ sym a) (more n)
+
+-- a source of bytes more was seen
+pub seen_bytes : (reference : List NoteParts) (sources : List Source) (old new : Seen) (number offset end : ℕ)
+    (bytes : List ℕ) (told : Told) (same differing : List (Bor NoteParts)) → number ≡ length sources + 1
+    → IsSeen reference sources old → TellsOf old.reference (Bytes offset bytes) told → end ≡ offset + length bytes
+    → same ≡ told.same.items → differing ≡ told.differing.items → new.reference ≡ old.reference
+    → ((n : NoteParts) → In n new.verified ↔ (In n old.verified ⊎ In n (notes_at same))) → new.headed ≡ old.headed
+    → parts_of new.differing.items ≡ parts_of old.differing.items ++ map (differing_in number) (notes_at differing)
+    → new.ranges.items ≡ old.ranges.items ++ run offset end ∷ [] → new.beside.items ≡ old.beside.items
+    → new.came ≡ (old.came || nat_lt offset end) → IsSeen reference (sources ++ Bytes offset bytes ∷ []) new
+seen_bytes reference sources old new number offset end bytes told same differing numbered is tells ends sames others
+    kept verified headed differs ranges beside came =
+    let s = Bytes offset bytes in
+    let tells_reference : TellsOf reference s told = subst (λ r. TellsOf r s told) is.reference_is tells in
+    let at_number : number ≡ 1 + length sources = omega arith in
+    let set = members_of old.verified new.verified (notes_at told.same.items) same told.same.items sames refl verified in
+    record {
+      catalogue = is.catalogue;
+      reference_is = kept ∙ is.reference_is;
+      verified = λ n.
+          let m = members_more reference old.verified (notes_at told.same.items) (IsVerified reference sources)
+          (λ x. IsSameIn reference x s) (IsVerified reference (sources ++ s ∷ [])) is.verified tells_reference.same
+          (λ x. some_end (IsSameIn reference x) sources s) n in
+          (λ h. m.0 ((set n).0 h), λ h. (set n).1 (m.1 h));
+      headed = λ n.
+          let b = headed_bytes sources offset bytes n in (
+            λ h. let k = (is.headed n).0 (subst (In n) headed h) in (k.0, b.1 k.1),
+            λ h. subst (In n) (sym headed) ((is.headed n).1 (h.0, b.0 h.1)),
+          );
+      differing = subst (AreDiffering reference 1 (sources ++ s ∷ []))
+          (sym (differs ∙ ap (λ l. parts_of old.differing.items ++ map (differing_in number) (notes_at l)) others
+          ∙ ap (λ k. parts_of old.differing.items ++ map (differing_in k) (notes_at told.differing.items)) at_number))
+          (differing_more reference 1 sources s (parts_of old.differing.items) (notes_at told.differing.items)
+          is.differing tells_reference.differing);
+      ranges = ranges ∙ ap (λ l. l ++ run offset end ∷ []) is.ranges
+          ∙ ap (λ k. flat_map range_in sources ++ run offset k ∷ []) ends ∙ sym (ranges_more sources s);
+      beside = λ at.
+          let b = beside_bytes reference sources offset bytes at in (
+            λ h. b.1 ((is.beside at).0 (subst (λ l. LiesIn l at) beside h)),
+            λ h. subst (λ l. LiesIn l at) (sym beside) ((is.beside at).1 (b.0 h)),
+          );
+      came =
+          let either = or_says old.came (nat_lt offset end) is.came (some_byte offset end bytes ends) in
+          let all = bytes_end sources s in (
+            λ h. all.1 (either.0 (sym came ∙ h)),
+            λ h. came ∙ either.1 (all.0 h),
+          );
+    }
+
+-- a catalogue that has no note has no byte
+no_byte : (notes : List NoteParts) (b : Bool) → (IsTrue b ↔ (notes ≡ [])) → IsTrue (not b)
+    ↔ ((at : ℕ) × IsByteOf (Saved notes) at)
+no_byte [] b says = (
+  λ h. absurd (false≢true (sym (ap not (says.1 refl)) ∙ h)),
+  λ h. absurd h.1.1,
+)
+no_byte (n ∷ notes) true says = absurd cc_of
+  where
+    cc_of : ⊥
+    cc_of = let e = says.0 refl in cc (e)
+no_byte (n ∷ notes) false says = (
+  λ h. (
+    n.offset,
+    (n, inl refl, record { from = omega arith; before = let l = holds_first n in omega arith }),
+  ),
+  λ h. refl,
+)
+
+-- a catalogue more was seen
+pub seen_saved : (reference : List NoteParts) (sources : List Source) (old new : Seen) (number : ℕ) (is_empty : Bool)
+    (saved : List NoteParts) (told : SavedTold) (same headed differing : List (Bor NoteParts))
+    → number ≡ length sources + 1 → IsSeen reference sources old → TellsSaved old.reference saved told
+    → (IsTrue is_empty ↔ (saved ≡ [])) → same ≡ told.told.same.items → headed ≡ told.headed.items
+    → differing ≡ told.told.differing.items → new.reference ≡ old.reference
+    → ((n : NoteParts) → In n new.verified ↔ (In n old.verified ⊎ In n (notes_at same)))
+    → ((n : NoteParts) → In n new.headed ↔ (In n old.headed ⊎ In n (notes_at headed)))
+    → parts_of new.differing.items ≡ parts_of old.differing.items ++ map (differing_in number) (notes_at differing)
+    → new.ranges.items ≡ old.ranges.items → new.beside.items ≡ old.beside.items ++ told.beside
+    → new.came ≡ (old.came || not is_empty) → IsSeen reference (sources ++ Saved saved ∷ []) new
+seen_saved reference sources old new number is_empty saved told same headed differing numbered is tells empty sames heads
+    others kept verified heading differs ranges beside came =
+    let s = Saved saved in
+    let tells_reference : TellsSaved reference saved told = subst (λ r. TellsSaved r saved told) is.reference_is tells in
+    let at_number : number ≡ 1 + length sources = omega arith in
+    let set = members_of old.verified new.verified (notes_at told.told.same.items) same told.told.same.items sames refl verified in
+    let heads_set = members_of old.headed new.headed (notes_at told.headed.items) headed told.headed.items heads refl heading in
+    record {
+      catalogue = is.catalogue;
+      reference_is = kept ∙ is.reference_is;
+      verified = λ n.
+          let m = members_more reference old.verified (notes_at told.told.same.items) (IsVerified reference sources)
+          (λ x. IsSameIn reference x s) (IsVerified reference (sources ++ s ∷ [])) is.verified tells_reference.told_is.same
+          (λ x. some_end (IsSameIn reference x) sources s) n in
+          (λ h. m.0 ((set n).0 h), λ h. (set n).1 (m.1 h));
+      headed = λ n.
+          let m = members_more reference old.headed (notes_at told.headed.items) (IsHeaded sources) (λ x. TouchesIn x s)
+          (IsHeaded (sources ++ s ∷ [])) is.headed tells_reference.headed (headed_saved sources saved) n in
+          (λ h. m.0 ((heads_set n).0 h), λ h. (heads_set n).1 (m.1 h));
+      differing = subst (AreDiffering reference 1 (sources ++ s ∷ []))
+          (sym (differs ∙ ap (λ l. parts_of old.differing.items ++ map (differing_in number) (notes_at l)) others
+          ∙ ap (λ k. parts_of old.differing.items ++ map (differing_in k) (notes_at told.told.differing.items)) at_number))
+          (differing_more reference 1 sources s (parts_of old.differing.items) (notes_at told.told.differing.items)
+          is.differing tells_reference.told_is.differing);
+      ranges = ranges ∙ is.ranges ∙ sym (append-nil (flat_map range_in sources)) ∙ sym (ranges_more sources s);
+      beside = λ at.
+          let b = beside_saved reference sources saved at in
+          let both = lies_in_both old.beside.items told.beside at in (
+            λ h. b.1 (elim (both.0 (subst (λ l. LiesIn l at) beside h)) [
+              | inl k ↦ inl ((is.beside at).0 k)
+              | inr k ↦ inr ((tells_reference.beside at).0 k)
+            ]),
+            λ h. subst (λ l. LiesIn l at) (sym beside) (both.1 (elim (b.0 h) [
+              | inl k ↦ inl ((is.beside at).1 k)
+              | inr k ↦ inr ((tells_reference.beside at).1 k)
+            ])),
+          );
+      came =
+          let either = or_says old.came (not is_empty) is.came (no_byte saved is_empty empty) in
+          let all = bytes_end sources s in (
+            λ h. all.1 (either.0 (sym came ∙ h)),
+            λ h. came ∙ either.1 (all.0 h),
+          );
+    }
+
+-- what lies in runs and one more ends at or below a bound where these do
+pub within_more : (runs : List Run) (new : List Run) (r : Run) (bound : ℕ) → ((q : Run) → In q runs → q.end ≤ bound)
+    → r.end ≤ bound → new ≡ runs ++ r ∷ [] → (q : Run) → In q new → q.end ≤ bound
+within_more runs new r bound were h e q i = elim ((In-append q runs (r ∷ [])).0 (subst (In q) e i)) [
+  | inl k ↦ were q k
+  | inr k ↦ elim k [
+    | inl same ↦ let ends : q.end ≡ r.end = ap (λ (x : Run). x.end) same in omega arith
+    | inr z ↦ absurd z
+  ]
+]
+
+pub within_both : (runs more new : List Run) (bound : ℕ) → ((q : Run) → In q runs → q.end ≤ bound)
+    → AllByRecursion (λ r. r.end ≤ bound) more → new ≡ runs ++ more → (q : Run) → In q new → q.end ≤ bound
+within_both runs more new bound were all e q i = elim ((In-append q runs more).0 (subst (In q) e i)) [
+  | inl k ↦ were q k
+  | inr k ↦ all-In (λ (r : Run). r.end ≤ bound) more q all k
+]
+
+-- what is put so far is of those that were there, or of those that are put
+pub in_either : {X : Type 0} (new left old more : List X) → new ++ left ≡ old ++ more → (x : X) → In x new
+    → In x old ⊎ In x more
+in_either new left old more e x i = (In-append x old more).0 (subst (In x) e ((In-append x new left).1 (inl i)))

@@ -1,0 +1,230 @@
+-- All packets of a file beside the bytes of one source.
+use Rattle.std.proofs.Common.{◌≡◌, ◌≢◌, ◌↔◌, ◌+◌, ◌<◌, ◌≤◌, ◌∙◌, ℕ, true, false, List, [], ◌∷◌}
+use Rattle.std.proofs.Common.{length, ltb, refl, sym, ap, subst, inl, inr, arith, cond}
+use Rattle.std.proofs.lemmas.Bool.{ltb-false, ltb-true}
+use Rattle.mxf_klv.specs.Bytes.{AreBytes}
+use Rattle.mxf_klv.specs.Note.{IsCovered, IsNote, covered_end, end_of, greatest_end}
+use Rattle.mxf_klv.specs.Parts.{NoteParts}
+use Rattle.mxf_klv.specs.PieceReading.{notes_in, stop_in}
+use Rattle.mxf_klv.specs.Rising.{In}
+use Rattle.mxf_klv.specs.declared.piece.Stop.TheVariants.{End}
+use Rattle.mxf_klv.proofs.Lists.{all-In}
+use Rattle.mxf_catalogue.specs.Disputes.{AreApart, IsClear, clear_notes}
+use Rattle.mxf_catalogue.specs.Runs.{AreMaximal, LiesIn}
+use Rattle.mxf_catalogue.specs.declared.run.Run.{Run}
+use Rattle.mxf_catalogue.proofs.ContentLaws.{same_content}
+use Rattle.mxf_catalogue.proofs.DisputeLaws.{In-clear_notes, IsContent-clear_notes}
+use Rattle.mxf_catalogue.proofs.SpanLaws.{AreApart-clear_notes}
+use Rattle.mxf_verify.specs.VerificationLaws.{IsWholeReference, SaysWhole}
+use Rattle.mxf_verify.specs.Verifications.{AreRunsOf, IsCountOf, IsVerification, VerificationParts}
+use Rattle.mxf_verify.specs.Verifying.{DiffersIn, IsByteOf, IsDiffering, IsHeldBy, IsSameIn, IsVerified, Source}
+use Rattle.mxf_verify.specs.Verifying.{Bytes}
+use Rattle.mxf_verify.proofs.ComparingLaws.{holds_first}
+use Rattle.mxf_verify.proofs.VerificationLaws.{clear_one, held_so}
+use Rattle.mxf_verify.proofs.WholePackets.{AreNotesLaid, laid_end, laid_end_each, laid_end_within, read_all, read_said}
+
+-- a clear note covers what it spans
+whole_covers : (reference : List NoteParts) (n : NoteParts) → IsClear n reference → covered_end n ≡ end_of n
+whole_covers reference n c = ap (λ b. cond b (end_of n) (n.offset + 16 + n.width)) c.whole
+
+-- notes that stand apart without a gap are laid one after another
+laid_from : (at : ℕ) (ns : List NoteParts) → AreApart at ns → ((n : NoteParts) → In n ns → n.whole ≡ true)
+    → ((n : NoteParts) (x : ℕ) → In n ns → at ≤ x → x < end_of n → (m : NoteParts) × In m ns × IsCovered m x)
+    → AreNotesLaid at ns
+laid_from at [] apart whole held = tt
+laid_from at (n ∷ ns) apart whole held = (
+  first,
+  whole n (inl refl),
+  laid_from (end_of n) ns apart.1 (λ m i. whole m (inr i)) later,
+)
+  where
+    above : (low : ℕ) (ms : List NoteParts) (m : NoteParts) → AreApart low ms → In m ms → low ≤ m.offset
+    above low [] m a i = absurd i
+    above low (x ∷ ms) m a (inl e) =
+        let same : m.offset ≡ x.offset = ap (λ (y : NoteParts). y.offset) e in let low_x : low ≤ x.offset = a.0 in omega arith
+    above low (x ∷ ms) m a (inr i) =
+        let high = above (end_of x) ms m a.1 i in let low_x : low ≤ x.offset = a.0 in omega arith
+
+    first : n.offset ≡ at
+    first =
+        let low : at ≤ n.offset = apart.0 in
+        let h = held n at (inl refl) (omega arith) (omega arith) in
+        let begins : h.0.offset ≤ at = h.2.from in
+        elim h.1 [
+          | inl e ↦
+              let same : h.0.offset ≡ n.offset = ap (λ (y : NoteParts). y.offset) e in omega arith
+          | inr i ↦ let high = above (end_of n) ns h.0 apart.1 i in absurd (omega arith)
+        ]
+
+    end_covered : (m : NoteParts) (x : ℕ) → m.whole ≡ true → IsCovered m x → x < end_of m
+    end_covered m x w c =
+        let before : x + 1 ≤ covered_end m = c.before in
+        let whole_end : covered_end m ≡ end_of m = ap (λ b. cond b (end_of m) (m.offset + 16 + m.width)) w in
+        omega arith
+
+    later : (m : NoteParts) (x : ℕ) → In m ns → end_of n ≤ x → x < end_of m → (k : NoteParts) × In k ns × IsCovered k x
+    later m x i from to =
+        let low : at ≤ n.offset = apart.0 in
+        let h = held m x (inr i) (omega arith) to in
+        elim h.1 [
+          | inl e ↦
+              let c : IsCovered n x = subst (λ y. IsCovered y x) e h.2 in
+              let less = end_covered n x (whole n (inl refl)) c in absurd (omega arith)
+          | inr j ↦ (h.0, j, h.2)
+        ]
+
+-- all packets of a file are laid from its first byte on
+reference_laid : (reference : List NoteParts) → IsWholeReference reference → AreNotesLaid 0 reference
+reference_laid reference is =
+    laid_from 0 reference (subst (AreApart 0) all_clear (AreApart-clear_notes reference is.catalogue.content))
+    (λ n i. (is.clear n i).whole)
+    (λ n x i from to. is.no_gap n x i to)
+  where
+    all_clear : clear_notes reference ≡ reference
+    all_clear = same_content (clear_notes reference) reference
+        (IsContent-clear_notes reference is.catalogue.content) is.catalogue.content
+        (λ n. (λ h. ((In-clear_notes n reference).0 h).held, λ i. (In-clear_notes n reference).1 (is.clear n i)))
+
+-- ---- what is said where everything is the same
+
+-- of none there is none
+none_of : (reference : List NoteParts) (P : NoteParts → Type 0) (count : ℕ) → IsCountOf reference P count → count ≡ 0
+    → (n : NoteParts) → In n reference → ¬ P n
+none_of reference P count is e n i p = empty is.notes ((is.those.members n).1 (i, p)) (sym is.count_is ∙ e)
+  where
+    empty : (ns : List NoteParts) → In n ns → length ns ≡ 0 → ⊥
+    empty [] j z = absurd j
+    empty (m ∷ ns) j z = absurd (omega arith)
+
+-- runs of no offset are none
+none_runs : (runs : List Run) → AreMaximal 0 runs → ((at : ℕ) → LiesIn runs at → ⊥) → runs ≡ []
+none_runs [] maximal none = refl
+none_runs (r ∷ runs) maximal none =
+    let order : r.start < r.end = maximal.1 in
+    absurd (none r.start (r, inl refl, record { from = omega arith; before = omega arith }))
+
+no_runs : (P : ℕ → Type 0) (runs : List Run) → AreRunsOf P runs → runs ≡ [] → (at : ℕ) → ¬ P at
+no_runs P runs are e at p =
+    let h : LiesIn [] at = subst (λ l. LiesIn l at) e ((are.offsets at).1 p) in h.1
+
+only_source : (s : Source) (bytes : List ℕ) → In s (Bytes 0 bytes ∷ []) → s ≡ Bytes 0 bytes
+only_source s bytes (inl e) = e
+only_source s bytes (inr z) = absurd z
+
+module _ (reference : List NoteParts) (bytes : List ℕ) (v : VerificationParts) (is : IsWholeReference reference)
+    (told : IsVerification reference (Bytes 0 bytes ∷ []) v) where
+  module _ (says : SaysWhole v) where
+    -- each note is the same there
+    each_same : (n : NoteParts) → In n reference → IsSameIn reference n (Bytes 0 bytes)
+    each_same n i =
+        let own = holds_first n in
+        let here : IsCovered n n.offset = record { from = omega arith; before = omega arith } in
+        elim ((held_so reference (Bytes 0 bytes ∷ []) v told n.offset).0 ((told.held.offsets n.offset).1 (n, i, here))) [
+          | inl k ↦
+              let b = (told.verified.offsets n.offset).0 k in
+              let m = b.0 in
+              let same = clear_one reference m n is.clear b.1 i (n.offset, b.3, here) in
+              let source = only_source b.2.0 bytes b.2.1 in
+              subst (λ x. IsSameIn reference x (Bytes 0 bytes)) same (subst (IsSameIn reference m) source b.2.2)
+          | inr f ↦ elim f [
+            | inl k ↦
+                let b = (told.altered.offsets n.offset).0 k in
+                absurd (none_of reference (IsDiffering reference (Bytes 0 bytes ∷ [])) v.damaged told.damaged says.differs b.0 b.1 b.2)
+            | inr k ↦ let h : LiesIn [] n.offset = subst (λ l. LiesIn l n.offset) says.verified k in absurd h.1
+          ]
+        ]
+
+    -- so the packets of the bytes are those
+    pub read_whole : length bytes ≤ greatest_end → (notes_in 0 bytes ≡ reference) × (stop_in 0 bytes ≡ End)
+    read_whole within =
+        let laid = reference_laid reference is in
+        let low : laid_end 0 reference ≤ length bytes = laid_end_within 0 (length bytes) reference (omega arith) ends in
+        let high : length bytes ≤ laid_end 0 reference = no_more laid in
+        read_said bytes 0 reference laid (λ n i. (all-In IsNote reference n is.catalogue.members i, (each_same n i).1))
+        (omega arith) within
+      where
+        ends : (n : NoteParts) → In n reference → end_of n ≤ length bytes
+        ends n i =
+            let to : covered_end n ≤ 0 + length bytes = (each_same n i).0.among.to in
+            let whole = whole_covers reference n (is.clear n i) in omega arith
+
+        no_more : AreNotesLaid 0 reference → length bytes ≤ laid_end 0 reference
+        no_more laid = elim (ltb (laid_end 0 reference) (length bytes)) as
+            (λ b. ltb (laid_end 0 reference) (length bytes) ≡ b → length bytes ≤ laid_end 0 reference) [
+              | false ↦ λ e. ltb-false (laid_end 0 reference) (length bytes) e
+              | true ↦ λ e.
+                  let at = laid_end 0 reference in
+                  let l = ltb-true at (length bytes) e in
+                  absurd (no_runs _ v.unknown told.unknown says.known at (
+                    (Bytes 0 bytes, inl refl, (omega arith, omega arith)),
+                    λ h.
+                        let to = laid_end_each 0 reference h.0 laid h.1 in
+                        let before : at + 1 ≤ covered_end h.0 = h.2.before in
+                        let whole = whole_covers reference h.0 (is.clear h.0 h.1) in
+                        omega arith,
+                  ))
+            ] refl
+
+  -- ---- and where they are, everything is the same
+  module _ (are : AreBytes bytes) (notes : notes_in 0 bytes ≡ reference) (stop : stop_in 0 bytes ≡ End) where
+    same_there : (n : NoteParts) → In n reference → IsSameIn reference n (Bytes 0 bytes)
+    same_there n i =
+        let said = (read_all bytes are stop).0 n (subst (In n) (sym notes) i) in (
+          record { free = λ crowded. (is.clear n i).undisputed crowded.0; among = said.0 },
+          said.1,
+        )
+
+    none_differs : (n : NoteParts) → In n reference → ¬ IsDiffering reference (Bytes 0 bytes ∷ []) n
+    none_differs n i d =
+        let s = only_source d.0 bytes d.1 in
+        let differs : DiffersIn reference n (Bytes 0 bytes) = subst (DiffersIn reference n) s d.2 in
+        differs.1 (same_there n i).1
+
+    verified_there : (n : NoteParts) → In n reference → IsVerified reference (Bytes 0 bytes ∷ []) n
+    verified_there n i = (Bytes 0 bytes, inl refl, same_there n i)
+
+    first_there : (ns : List NoteParts) → ns ≢ [] → (n : NoteParts) × In n ns
+    first_there [] some = absurd (some refl)
+    first_there (n ∷ ns) some = (n, inl refl)
+
+    pub says_whole : SaysWhole v
+    says_whole = record {
+      some = some_packets;
+      differs = no_packets told.damaged.notes
+          (λ n k. let m = (told.damaged.those.members n).0 k in none_differs n m.0 m.1) told.damaged.count_is;
+      verified = none_runs v.unverified told.unverified.maximal
+          (λ at h. let b = (told.unverified.offsets at).0 h in
+          b.1 (b.0.0, b.0.1, verified_there b.0.0 b.0.1, b.0.2));
+      known = none_runs v.unknown told.unknown.maximal (λ at h. unknown at ((told.unknown.offsets at).0 h));
+    }
+      where
+        no_packets : (ns : List NoteParts) → ((n : NoteParts) → In n ns → ⊥) → v.damaged ≡ length ns → v.damaged ≡ 0
+        no_packets [] none e = e
+        no_packets (n ∷ ns) none e = absurd (none n (inl refl))
+
+        some_in : (ns : List NoteParts) (n : NoteParts) → In n ns → 0 < length ns
+        some_in [] n i = absurd i
+        some_in (m ∷ ns) n i = omega arith
+
+        some_packets : 0 < v.packets
+        some_packets =
+            let one = first_there reference is.some in
+            let count = told.packets.count_is in
+            let some = some_in told.packets.notes one.0
+            ((told.packets.those.members one.0).1 (one.1, verified_there one.0 one.1)) in omega arith
+
+        unknown : (at : ℕ) → ((s : Source) × In s (Bytes 0 bytes ∷ []) × IsByteOf s at) × ¬ IsHeldBy reference at → ⊥
+        unknown at h =
+            let s = only_source h.0.0 bytes h.0.1 in
+            let b : IsByteOf (Bytes 0 bytes) at = subst (λ x. IsByteOf x at) s h.0.2 in
+            let to : at < 0 + length bytes = b.1 in
+            let c = (read_all bytes are stop).1 at (omega arith) in
+            h.1 (c.0, subst (In c.0) notes c.1, c.2)
+
+pub whole_says : (reference : List NoteParts) (bytes : List ℕ) (v : VerificationParts) → IsWholeReference reference
+    → AreBytes bytes → length bytes ≤ greatest_end → IsVerification reference (Bytes 0 bytes ∷ []) v
+    → SaysWhole v ↔ ((notes_in 0 bytes ≡ reference) × (stop_in 0 bytes ≡ End))
+whole_says reference bytes v is are within told = (
+  λ says. read_whole reference bytes v is told says within,
+  λ h. says_whole reference bytes v is told are h.0 h.1,
+)

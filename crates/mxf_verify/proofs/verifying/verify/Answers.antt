@@ -1,0 +1,47 @@
+use Rattle.std.proofs.Common.{◌≡◌, ◌∙◌, List, length, subst, sym}
+use Rattle.std.specs.Vec.Iter.{into_iter_items}
+use Rattle.mxf_read.proofs.GatheringLaws.{IsPassed, passed_none, passed_one, told}
+use Rattle.mxf_verify.proofs.VerifyingLaws.{HasSeen, seen_all, seen_fault, seen_nothing, seen_one}
+use Rattle.mxf_verify.proofs.verifying.verify.Goals as goal
+
+pub parts-init : goal.parts-init
+parts-init g c =
+    let all = c.args.parts.items in
+    let is : into_iter_items c.into_iter-part-iterator.result ≡ all =
+    c.into_iter-part-iterator.ensures.into_iter_gives.0 in
+    record {
+      passed = subst (IsPassed all 0) (sym is) (passed_none all);
+      seen = λ t. subst (λ (l : List _). HasSeen g.R.Read.remaining c.args.reference.now all 0 l c.in_ok-seen.seen) (sym is)
+          (seen_nothing g.R.Read.remaining c.args.reference.now all c.in_ok-seen.seen c.in_ok-seen.ensures);
+    }
+
+pub returns-in-Err-clause-fault : goal.returns-in-Err-clause-fault
+returns-in-Err-clause-fault g c t =
+    let left = g.R.Read.remaining in
+    let all = c.args.parts.items in
+    let i = c.parts.invariant in
+    let next = c.in-Some.ensures.steps.0 in
+    seen_fault left c.args.reference.now all _ _ c.in-Some.part c.parts.number _ c.in-Err.fault (i.seen t) next
+    (c.in-Err.ensures.fault (told left all _ _ c.in-Some.part c.parts.number i.passed next t))
+
+pub parts-preserved : goal.parts-preserved
+parts-preserved g c =
+    let left = g.R.Read.remaining in
+    let all = c.args.parts.items in
+    let i = c.parts.invariant in
+    let next = c.in-Some.ensures.steps.0 in
+    record {
+      passed = passed_one all _ _ c.in-Some.part c.parts.number i.passed next;
+      seen = λ t.
+          let tells = told left all _ _ c.in-Some.part c.parts.number i.passed next t in
+          seen_one left c.args.reference.now all _ _ c.in-Some.part c.parts.number _ _ (i.seen t) next
+          (c.in_default.ensures.taken tells) (c.in_default.ensures.good tells);
+    }
+
+pub returns-clause-verified : goal.returns-clause-verified
+returns-clause-verified g c t =
+    let none : length (into_iter_items c.parts.part-iterator) ≡ 0 =
+    sym c.parts.part-iterator.rest.ok.0 ∙ c.in-None.ensures.steps.0 in
+    let all = seen_all g.R.Read.remaining c.args.reference.now c.args.parts.items (into_iter_items c.parts.part-iterator)
+    c.parts.number _ (c.parts.invariant.seen t) none in
+    (all.0, all.1, c.in_ok-finish.ensures all.0 all.2)

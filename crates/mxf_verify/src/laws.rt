@@ -1,0 +1,78 @@
+//! Laws of what is told of a reference beside sources.
+ghost use Rattle.std.specs.Prelude.{◌≡◌, ◌↔◌, ◌⊎◌, ◌++◌, ◌<◌, ◌≤◌, [], ◌∷◌, ℕ, List, length};
+ghost use Rattle.std.specs.List.{AllByRecursion};
+ghost use Rattle.mxf_klv.specs.Bytes.{AreBytes};
+ghost use Rattle.mxf_klv.specs.Note.{IsCovered, greatest_end};
+ghost use Rattle.mxf_klv.specs.Parts.{NoteParts};
+ghost use Rattle.mxf_klv.specs.PieceReading.{notes_in, stop_in};
+ghost use Rattle.mxf_klv.specs.Rising.{In, SameMembers};
+ghost use Rattle.mxf_klv.specs.declared.piece.Stop.TheVariants as stops;
+ghost use Rattle.mxf_catalogue.specs.Content.{AreReduced, IsCatalogue, reduced_union};
+ghost use Rattle.mxf_catalogue.specs.Runs.{LiesIn};
+ghost use Rattle.mxf_verify.specs.VerificationLaws.{AreAllClear, HasNoEmptyHead, IsWholeReference, SaysSame, SaysWhole};
+ghost use Rattle.mxf_verify.specs.Verifications.{DifferingParts, IsVerification, VerificationParts};
+ghost use Rattle.mxf_verify.specs.Verifying.{DiffersIn, IsAmong, IsCut, IsDiffering, IsHeldBy, IsSameIn, IsUnknownByte};
+ghost use Rattle.mxf_verify.specs.Verifying.{IsUnverifiedByte, IsVerified, Source, Bytes, Saved};
+
+/// A law of [`verify`](crate::verify): of a reference beside sources there is one verification.
+pub fn one_verification()
+    ensures { (reference : List NoteParts) (sources : List Source) (a b : VerificationParts)
+        → IsVerification reference sources a → IsVerification reference sources b → a ≡ b }
+{}
+
+/// A law of [`verify`](crate::verify): what is reported is so. A verified byte is one of a note that some source has as the
+/// reference says. A note that differs is one of the reference, and bytes that were read haven't it. Each byte that the
+/// reference holds is verified, or differs, or neither: then it is neither of the others.
+pub fn verifications_tell_what_is_so()
+    ensures verified { (reference : List NoteParts) (sources : List Source) (v : VerificationParts) (at : ℕ)
+        → IsVerification reference sources v → LiesIn v.verified at
+        → (n : NoteParts) × (s : Source) × In n reference × In s sources × IsSameIn reference n s × IsCovered n at }
+    ensures differs { (reference : List NoteParts) (sources : List Source) (v : VerificationParts) (d : DifferingParts)
+        → IsVerification reference sources v → In d v.differing
+        → In d.note reference × IsDiffering reference sources d.note }
+    ensures other { (reference : List NoteParts) (n : NoteParts) (offset : ℕ) (bytes : List ℕ)
+        → DiffersIn reference n (Bytes offset bytes) → ¬ IsSameIn reference n (Bytes offset bytes) }
+    ensures held { (reference : List NoteParts) (sources : List Source) (v : VerificationParts) (at : ℕ)
+        → IsVerification reference sources v
+        → LiesIn v.held at ↔ (LiesIn v.verified at ⊎ LiesIn v.altered at ⊎ LiesIn v.unverified at) }
+    ensures apart { (reference : List NoteParts) (sources : List Source) (v : VerificationParts) (at : ℕ)
+        → IsVerification reference sources v → LiesIn v.unverified at
+        → ¬ LiesIn v.verified at × ¬ LiesIn v.altered at }
+{}
+
+/// A law of [`verify`](crate::verify): each byte counts. Of a clear reference each note that lies wholly in the bytes of a
+/// source is the same there or differs, and not both; of the others none is either.
+pub fn each_compared_note_is_the_same_or_differs()
+    ensures compared { (reference : List NoteParts) (n : NoteParts) (offset : ℕ) (bytes : List ℕ)
+        → IsCatalogue reference → AreAllClear reference → In n reference → IsAmong n offset bytes
+        ↔ (IsSameIn reference n (Bytes offset bytes) ⊎ DiffersIn reference n (Bytes offset bytes)) }
+    ensures apart { (reference : List NoteParts) (n : NoteParts) (offset : ℕ) (bytes : List ℕ)
+        → IsSameIn reference n (Bytes offset bytes) → DiffersIn reference n (Bytes offset bytes) → ⊥ }
+{}
+
+/// A law of [`verify`](crate::verify): what is said depends on which sources there are, and not on their order or repeats; and
+/// further sources only add to what is the same.
+pub fn verifications_are_of_a_set_of_sources()
+    ensures same { (reference : List NoteParts) (a b : List Source) → SameMembers a b → SaysSame reference a b }
+    ensures more { (reference : List NoteParts) (sources more : List Source) (n : NoteParts)
+        → IsVerified reference sources n → IsVerified reference (sources ++ more) n }
+{}
+
+/// A law of [`verify`](crate::verify): of a saved catalogue nothing differs and nothing is unknown exactly where joining it into
+/// the reference leaves that as it is. No reading makes a head of a packet without a value.
+pub fn a_catalogue_agrees_where_joining_it_changes_nothing()
+    ensures { (reference saved : List NoteParts) → IsCatalogue reference → AreReduced reference
+        → IsCatalogue saved → AreReduced saved → HasNoEmptyHead reference
+        → (((n : NoteParts) → In n reference → ¬ DiffersIn reference n (Saved saved))
+        × ((at : ℕ) → IsHeldBy saved at → IsHeldBy reference at))
+        ↔ (reduced_union reference saved ≡ reference) }
+{}
+
+/// A law of [`verify`](crate::verify): of all packets of a file, from its first byte on, clear and without a gap, everything is the
+/// same in the bytes of one source at 0, and nothing of these is unknown, exactly where their packets are those, and the
+/// source ends with the last.
+pub fn a_whole_reference_is_verified_by_its_packets()
+    ensures { (reference : List NoteParts) (bytes : List ℕ) (v : VerificationParts) → IsWholeReference reference
+        → AreBytes bytes → length bytes ≤ greatest_end → IsVerification reference (Bytes 0 bytes ∷ []) v
+        → SaysWhole v ↔ ((notes_in 0 bytes ≡ reference) × (stop_in 0 bytes ≡ stops.End)) }
+{}
