@@ -25,7 +25,7 @@ _mxf_tool() {
     *) word=${words[-1]} before=${words[-2]-} ;;
   esac
   for one in "${words[@]:1}"; do
-    case $one in show | check | locate | units | plan | map | sources | join | renew | help) command=$one && break ;; esac
+    case $one in show | check | locate | units | plan | map | verify | sources | join | renew | help) command=$one && break ;; esac
   done
   [ "$command" != "$word" ] || command=''
   COMPREPLY=()
@@ -49,12 +49,13 @@ _mxf_tool() {
   esac
   local options='--help'
   case $command in
-    '') options='show check locate units plan map sources join renew help --help --version' ;;
-    help) options='show check locate units plan map sources join renew' ;;
+    '') options='show check locate units plan map verify sources join renew help --help --version' ;;
+    help) options='show check locate units plan map verify sources join renew' ;;
     show | check | plan | sources) options='at: range: cat: --json --sources --help' ;;
     map) options='at: range: cat: --columns --rows --json --sources --help' ;;
     locate) options='at: range: cat: --index --unit --json --sources --help' ;;
     units) options='at: range: cat: --index --from --to --json --sources --help' ;;
+    verify) options='at: range: cat: --against --whole --index --from --to --json --sources --help' ;;
     join) options='at: range: cat: --out --strict --json --sources --help' ;;
     renew) options='at: range: cat: --out --old --strict --json --sources --help' ;;
   esac

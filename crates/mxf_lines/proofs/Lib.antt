@@ -4,3 +4,4 @@ pub mod PrintLaws
 pub mod MapLineLaws
 pub mod UnitLineLaws
 pub mod StringLaws
+pub mod VerifiedStatusLaws

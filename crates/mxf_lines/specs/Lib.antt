@@ -14,4 +14,6 @@ pub mod RenewalLines
 pub mod ShownText
 pub mod SourceLines
 pub mod UnitLines
+pub mod VerificationLines
+pub mod VerifiedStatus
 pub mod Writing

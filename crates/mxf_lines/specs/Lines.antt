@@ -1,5 +1,5 @@
 -- The lines that are printed (this project's profile). Numbers are decimal.
-use Rattle.std.specs.Prelude.{ℕ, Bool, true, false, List, [], ◌∷◌, codes, not, Option, None, Some, option_map}
+use Rattle.std.specs.Prelude.{ℕ, Bool, true, false, List, [], ◌∷◌, ◌++◌, codes, not, Option, None, Some, option_map}
 use Rattle.mxf_klv.specs.Kind.{kind_of}
 use Rattle.mxf_klv.specs.Parts.{NoteParts}
 use Rattle.mxf_klv.specs.Words.{kind_name, stop_name}
@@ -41,13 +41,15 @@ join_line notes disputed =
     line_of (codes "joined") (codes "joined") (number " " "notes" notes ∷ number " notes " "disputed" disputed ∷ [])
     (codes " disputed")
 
--- The line of a note: its offset, its kind, the width and value of its length, its key, whether it is a head, and
--- whether it is disputed.
+-- What a note says: its offset, its kind, the width and value of its length, its key, and whether it is a head.
+abbrev pub note_fields : NoteParts → List Field
+note_fields n =
+    number " " "offset" n.offset ∷ word " " "kind" (kind_name (kind_of n.key)) ∷ number " " "width" n.width
+    ∷ number " " "length" n.length ∷ word " " "key" (hex_of n.key) ∷ flag " head" "head" (not n.whole) ∷ []
+
+-- The line of a note: what it says, and whether it is disputed.
 unfoldable pub note_line : NoteParts → Bool → PrintedLine
-note_line n disputed =
-    line "note" (number " " "offset" n.offset ∷ word " " "kind" (kind_name (kind_of n.key)) ∷ number " " "width" n.width
-    ∷ number " " "length" n.length ∷ word " " "key" (hex_of n.key) ∷ flag " head" "head" (not n.whole)
-    ∷ flag " disputed" "disputed" disputed ∷ [])
+note_line n disputed = line "note" (note_fields n ++ flag " disputed" "disputed" disputed ∷ [])
 
 -- The line of a gap: where it begins and ends.
 unfoldable pub gap_line : Run → PrintedLine

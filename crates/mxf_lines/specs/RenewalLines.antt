@@ -1,19 +1,13 @@
 -- The lines of a renewal (this project's profile).
-use Rattle.std.specs.Prelude.{ℕ, List, [], ◌∷◌, ◌++◌, codes, flat_map, length, not}
-use Rattle.mxf_klv.specs.Kind.{kind_of}
+use Rattle.std.specs.Prelude.{ℕ, List, [], ◌∷◌, ◌++◌, codes, flat_map, length}
 use Rattle.mxf_klv.specs.Parts.{NoteParts}
-use Rattle.mxf_klv.specs.Words.{kind_name}
 use Rattle.mxf_catalogue.specs.Disputes.{disputed_notes}
-use Rattle.mxf_lines.specs.Forms.{PrintedLine, flag, line, line_of, number, word}
-use Rattle.mxf_lines.specs.Hexadecimal.{hex_of}
+use Rattle.mxf_lines.specs.Forms.{PrintedLine, line, line_of, number}
+use Rattle.mxf_lines.specs.Lines.{note_fields}
 
--- The line of a note that was dropped: its offset, its kind, the width and value of its length, its key, and whether it
--- is a head.
+-- The line of a note that was dropped: what it says.
 unfoldable pub dropped_line : NoteParts → PrintedLine
-dropped_line n =
-    line "dropped" (number " " "offset" n.offset ∷ word " " "kind" (kind_name (kind_of n.key))
-    ∷ number " " "width" n.width ∷ number " " "length" n.length ∷ word " " "key" (hex_of n.key)
-    ∷ flag " head" "head" (not n.whole) ∷ [])
+dropped_line n = line "dropped" (note_fields n)
 
 -- The last line: the number of notes, how many of them are disputed, and how many were dropped.
 unfoldable pub renewed_line : ℕ → ℕ → ℕ → PrintedLine

@@ -1,16 +1,14 @@
 -- The lines of several sources beside each other (this project's profile).
 use Rattle.std.specs.Prelude.{ℕ, ◌+◌, ◌==◌, if◌then◌else◌, List, [], ◌∷◌, ◌++◌, codes, flat_map, length}
-use Rattle.std.specs.Prelude.{not}
 use Rattle.sha2.specs.Sha256.{sha256}
-use Rattle.mxf_klv.specs.Kind.{kind_of}
 use Rattle.mxf_klv.specs.Note.{keeps_value}
 use Rattle.mxf_klv.specs.Parts.{NoteParts}
-use Rattle.mxf_klv.specs.Words.{kind_name}
 use Rattle.mxf_catalogue.specs.Disputes.{DisputedParts, disputed_notes}
 use Rattle.mxf_verify.specs.Readings.{all_notes, counts_of, sources_of}
 use Rattle.mxf_verify.specs.declared.readings.SourceCounts.{SourceCounts}
-use Rattle.mxf_lines.specs.Forms.{Absent, Characters, PrintedLine, Value, field, flag, line, number, numbers, word}
+use Rattle.mxf_lines.specs.Forms.{Absent, Characters, PrintedLine, Value, field, line, number, numbers, word}
 use Rattle.mxf_lines.specs.Hexadecimal.{hex_of}
+use Rattle.mxf_lines.specs.Lines.{note_fields}
 
 -- The line of a source: its number, how many notes it has, of how many it is the only source, how many of them are
 -- disputed, and the word that names it.
@@ -28,13 +26,10 @@ digest_of n = if keeps_value n then sha256 n.held else n.held
 abbrev pub digest_value : NoteParts → Value
 digest_value n = if n.whole then Characters (hex_of (digest_of n)) else Absent (codes "-")
 
--- The line of a disputed note: its offset, its kind, the width and value of its length, its key, whether it is a head,
--- the SHA-256 of its value, and the sources that have it.
+-- The line of a disputed note: what it says, the SHA-256 of its value, and the sources that have it.
 unfoldable pub disputed_line : NoteParts → List ℕ → PrintedLine
 disputed_line n sources =
-    line "disputed" (number " " "offset" n.offset ∷ word " " "kind" (kind_name (kind_of n.key))
-    ∷ number " " "width" n.width ∷ number " " "length" n.length ∷ word " " "key" (hex_of n.key)
-    ∷ flag " head" "head" (not n.whole) ∷ field (codes " ") (codes "digest") (digest_value n)
+    line "disputed" (note_fields n ++ field (codes " ") (codes "digest") (digest_value n)
     ∷ numbers " from " "sources" sources ∷ [])
 
 -- The last line: how many sources there are, how many notes they have together, and how many of these are disputed.

@@ -17,6 +17,7 @@ mod sets;
 mod sources;
 mod strings;
 mod units;
+mod verification;
 
 use check::print_checked;
 pub use hexadecimal::hex_text;
@@ -36,6 +37,7 @@ pub use strings::escaped_text_is_given_back;
 use thiserror::Error;
 pub use units::UnitRange;
 use units::print_units;
+pub use verification::{Verified, print_verification, verified_status_by_definition};
 
 /// Why an answer wasn't printed whole.
 #[derive(Clone, Copy, Debug, PartialEq, Eq, Error)]

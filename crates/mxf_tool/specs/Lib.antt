@@ -7,3 +7,4 @@ pub mod OnScreen
 pub mod Progress
 pub mod Saving
 pub mod Sources
+pub mod Verifying

@@ -11,8 +11,8 @@ pub struct Request<'m, 'a> {
     pub form: Form,
     pub words: Option<&'m [&'a str]>,
     pub list: Option<&'a str>,
-    /// The words that name the earlier sources of a renewal.
-    pub earlier: Option<&'m [&'a str]>,
+    /// The words that name the sources that are opened first: the earlier ones of a renewal, or those of a reference.
+    pub before: Option<&'m [&'a str]>,
 }
 
 /// What is to be done.
@@ -29,6 +29,11 @@ pub enum Task<'a> {
     },
     /// To print which source holds which note.
     Sources,
+    /// To print how sources stand to a reference, and whether all is verified that is asked for.
+    Verify {
+        is_whole: bool,
+        units: Option<IndexedUnits>,
+    },
     /// To write the catalogue to the file at `out`. A strict join ends with another status where a piece isn't noted
     /// whole.
     Join {
@@ -49,6 +54,13 @@ pub enum AskedUnits {
     Range(UnitRange),
     /// From this one up to the last of the index.
     From(u64),
+}
+
+/// Edit units of the index of an IndexSID.
+#[derive(Clone, Copy, Debug)]
+pub struct IndexedUnits {
+    pub index: u32,
+    pub units: AskedUnits,
 }
 
 /// What the help of the program ends with.
@@ -134,6 +146,30 @@ A source SRC is one of
 
 Example: mxf_tool sources at:0:copy.mxf cat:clip.cat";
 
+/// What the help of `verify` ends with.
+const VERIFY_HELP: &str =
+    "What the sources of --against hold is the reference. The bytes of at: and range: among SRC.. are read by its packets,
+and those of a catalogue among them are set beside them.
+
+Lines:
+  stop OFFSET STOP  a piece of --against doesn't end with a packet
+  differs I OFFSET KIND WIDTH LENGTH KEY  source I has another packet there; with --index behind it the edit units, or - -
+  cut OFFSET KIND WIDTH LENGTH KEY  no source has all bytes of this packet, so it wasn't compared
+  unknown START END     the reference says nothing of these bytes
+  unverified START END  these bytes of the reference weren't compared
+  units FIRST LAST WORD  verified, differs, part, unverified, or as units says why it isn't known where they lie
+  verified N of M packets B of T bytes differs D cut C unknown U  the sum, with --index behind it the units
+
+Status 0 says that a packet is the same and none differs; with --whole also that all of the reference is there and no other
+byte, or with --index all of these units.
+
+A source SRC or SOURCE is one of
+  at:OFFSET:PATH     a piece: the bytes of the file PATH, whose first byte lies at byte OFFSET of the recording
+  range:OFFSET:PATH  the same where the first byte may lie inside a packet: of --against it is read from the next one on
+  cat:PATH           a catalogue that join or renew wrote
+
+Example: mxf_tool verify --against cat:clip.cat --whole at:0:clip.mxf";
+
 /// What the help of `join` ends with.
 const JOIN_HELP: &str = "A source SRC is one of
   at:OFFSET:PATH     a piece: the bytes of the file PATH, whose first byte lies at byte OFFSET of the recording
@@ -168,6 +204,7 @@ pub fn command<'a>(alloc: Global) -> Result<Command<'a>, AllocError> {
     let tool = with(tool, units(alloc));
     let tool = with(tool, plan(alloc));
     let tool = with(tool, map(alloc));
+    let tool = with(tool, verify(alloc));
     let tool = with(tool, beside(alloc));
     let tool = with(tool, join(alloc));
     with(tool, renew(alloc))
@@ -217,6 +254,18 @@ fn map<'a>(alloc: Global) -> Result<Command<'a>, AllocError> {
     let about = "Prints what is held of the recording, as a picture";
     let map = named(alloc, "map", about, MAP_HELP);
     with_sources(alloc, with_args(map, columns(alloc), rows(alloc))?)
+}
+
+/// The subcommand that compares sources with a reference.
+fn verify<'a>(alloc: Global) -> Result<Command<'a>, AllocError> {
+    let about = "Prints whether the sources are as a reference says, packet by packet";
+    let verify = named(alloc, "verify", about, VERIFY_HELP).arg(whole(alloc))?;
+    let verify = with_args(verify, against(alloc), units_index(alloc))?;
+    let from = from(alloc).requires_arg("index")?;
+    with_sources(
+        alloc,
+        with_args(verify, from, to(alloc).requires_arg("index")?)?,
+    )
 }
 
 /// The subcommand that looks at sources beside each other.
@@ -309,6 +358,11 @@ fn only_index<'a>(alloc: Global) -> Arg<'a> {
     number(alloc, "index", value_parser!(u32), help)
 }
 
+fn units_index<'a>(alloc: Global) -> Arg<'a> {
+    let help = "The IndexSID of the index table whose edit units are told";
+    number(alloc, "index", value_parser!(u32), help)
+}
+
 fn from<'a>(alloc: Global) -> Arg<'a> {
     edit_unit(
         alloc,
@@ -353,9 +407,25 @@ fn out<'a>(alloc: Global) -> Arg<'a> {
 
 fn old<'a>(alloc: Global) -> Arg<'a> {
     let help = "An earlier source, as SRC; it may be given more than once";
-    option(alloc, "old", "SOURCE", help)
+    before(alloc, "old", help)
+}
+
+fn against<'a>(alloc: Global) -> Arg<'a> {
+    let help = "A source of the reference, as SRC; it may be given more than once";
+    before(alloc, "against", help)
+}
+
+/// The option of that name that names a source, which may be given more than once.
+fn before<'a>(alloc: Global, name: &'a str, help: &'a str) -> Arg<'a> {
+    option(alloc, name, "SOURCE", help)
         .action(ArgAction::Append)
         .required(true)
+}
+
+fn whole<'a>(alloc: Global) -> Arg<'a> {
+    let help =
+        "Ends with status 1 where a byte is unverified or unknown; with --index where a unit isn't verified";
+    flag(alloc, "whole", help)
 }
 
 /// What the matches ask for, or `None` where they are of another command.
@@ -366,8 +436,16 @@ pub fn request_of<'m, 'a>(matches: &'m ArgMatches<'a>) -> Option<Request<'m, 'a>
         form: form_of(inner),
         words: inner.get_strs("SRC"),
         list: inner.get_str("sources"),
-        earlier: inner.get_strs("old"),
+        before: words_before(inner),
     })
+}
+
+/// The words that name the sources that are opened before the others.
+fn words_before<'m, 'a>(inner: &'m ArgMatches<'a>) -> Option<&'m [&'a str]> {
+    match inner.get_strs("old") {
+        Some(words) => Some(words),
+        None => inner.get_strs("against"),
+    }
 }
 
 /// The form in which lines are to be printed.
@@ -398,6 +476,10 @@ fn task_of<'a>(name: &str, inner: &ArgMatches<'a>) -> Option<Task<'a>> {
             inner.get_one("rows").unwrap_or(16),
         )?)),
         "sources" => Some(Task::Sources),
+        "verify" => Some(Task::Verify {
+            is_whole: inner.get_flag("whole"),
+            units: indexed_units_of(inner)?,
+        }),
         "join" => Some(Task::Join {
             out: inner.get_str("out")?,
             is_strict: inner.get_flag("strict"),
@@ -417,6 +499,16 @@ fn units_of(inner: &ArgMatches<'_>) -> Option<AskedUnits> {
         Some(last) => Some(AskedUnits::Range(UnitRange::new(first, last)?)),
         None => Some(AskedUnits::From(first)),
     }
+}
+
+/// The units that matches ask for by an index, where they name one. None where they name a last one that is below the
+/// first or too far behind it.
+fn indexed_units_of(inner: &ArgMatches<'_>) -> Option<Option<IndexedUnits>> {
+    let Some(index) = inner.get_one("index") else {
+        return Some(None);
+    };
+    let units = units_of(inner)?;
+    Some(Some(IndexedUnits { index, units }))
 }
 
 /// The last edit unit, where it is below the first or too far behind it.

@@ -13,8 +13,8 @@ pub enum Exit {
     /// All was printed; also help.
     Done,
     /// All was printed, and a check found something or has a piece that doesn't end with a packet, there is something
-    /// to restore, a strict join or renewal has a piece with bytes behind its stop, or an edit unit has no place or more
-    /// than one.
+    /// to restore, a strict join or renewal has a piece with bytes behind its stop, an edit unit has no place or more
+    /// than one, sources dispute a packet, or not all was verified that is asked for.
     Found,
     /// The arguments were refused, or one names no source.
     Usage,

@@ -7,6 +7,7 @@ mod sources;
 mod stops;
 mod telling;
 mod unit_range;
+mod verifying;
 
 use crate::arguments::unreadable_argument;
 use crate::command_line::{
@@ -22,13 +23,16 @@ use beside::print_beside;
 use clap::ArgMatches;
 use clap::error::ErrorKind;
 use fault::{IndexSids, RunFault};
-use mxf_lines::{AnswerFault, Ask, Form, Grid, answer, print_map, print_renewed, print_sources};
+use mxf_lines::{
+    AnswerFault, Ask, Form, Grid, Verified, answer, print_map, print_renewed, print_sources,
+    print_verification,
+};
 use mxf_read::{GatherFault, Gathered, Part, PieceReport, gather};
 use mxf_units::index_sids;
 use mxf_verify::{Readings, Renewed};
 use mxf_views::Views;
 use renewing::{Renewal, print_renewal};
-use sources::{earlier_sources_of, read_list, sources_of, unread};
+use sources::{read_list, sources_before, sources_of, unread};
 use std::alloc::Global;
 use std::fs::{self, File};
 use std::io::{BufWriter, Input, Write};
@@ -37,6 +41,7 @@ use std::{env, io};
 use stops::tell_stops;
 use telling::tell;
 use unit_range::range_of;
+use verifying::{Verifying, print_verified};
 
 /// All that a run takes of the system.
 pub trait System: Files<File = File> + Clock + Env + Input + Print + Eprint + AllocGlobal {}
@@ -131,23 +136,23 @@ fn perform<R: System>(rt: &R, screen: Screen, request: &Request<'_, '_>) -> Exit
 
 /// Does what is asked for where the list has these bytes, and tells a fault.
 fn perform_with<R: System>(rt: &R, screen: Screen, request: &Request<'_, '_>, list: &[u8]) -> Exit {
-    let earlier = match earlier_sources_of(rt.alloc(), request.earlier) {
-        Ok(earlier) => earlier,
+    let before = match sources_before(rt.alloc(), request.before) {
+        Ok(before) => before,
         Err(fault) => return tell(rt, screen, &fault),
     };
     let path = request.list.unwrap_or("");
     match sources_of(rt.alloc(), request.words, path, list) {
-        Ok(sources) => perform_on(rt, screen, request, &earlier, &sources),
+        Ok(sources) => perform_on(rt, screen, request, &before, &sources),
         Err(fault) => tell(rt, screen, &fault),
     }
 }
 
-/// Does what is asked for with these sources, and the earlier ones of a renewal, and tells a fault.
+/// Does what is asked for with these sources, and the earlier ones of a renewal or those of a reference, and tells a fault.
 fn perform_on<'a, R: System>(
     rt: &R,
     screen: Screen,
     request: &Request<'_, 'a>,
-    earlier: &[Source<'a>],
+    before: &[Source<'a>],
     sources: &[Source<'a>],
 ) -> Exit {
     let form = request.form;
@@ -156,13 +161,23 @@ fn perform_on<'a, R: System>(
         Task::Picture(grid) => print_told(rt, screen, Asked::Picture(grid), form, sources),
         Task::Units { index, units } => print_units(rt, screen, index, units, form, sources),
         Task::Sources => print_beside(rt, screen, form, sources),
+        Task::Verify { is_whole, units } => {
+            let asked = Verifying {
+                is_whole,
+                units,
+                form,
+                reference: before,
+                sources,
+            };
+            print_verified(rt, screen, asked)
+        }
         Task::Join { out, is_strict } => print_joined(rt, screen, out, is_strict, form, sources),
         Task::Renew { out, is_strict } => {
             let asked = Renewal {
                 out,
                 is_strict,
                 form,
-                earlier,
+                earlier: before,
                 later: sources,
             };
             print_renewal(rt, screen, asked)
@@ -419,6 +434,8 @@ enum Printed<'g, 'n> {
     Renewed(&'g Renewed<'n>),
     /// What sources hold, each by itself, and the words that name them.
     Beside(&'g Readings<'n>, &'g [String]),
+    /// How sources stand to a reference.
+    Verified(&'g Verified<'g, 'n>),
 }
 
 /// Prints lines in a form, and answers their status.
@@ -435,6 +452,7 @@ fn print_lines<W: Write>(
             Ok(0)
         }
         Printed::Beside(readings, names) => print_sources(alloc, readings, names, form, writer),
+        Printed::Verified(verified) => print_verification(alloc, verified, form, writer),
     }
 }
 

@@ -44,7 +44,7 @@ fn all_end(reports: &[PieceReport]) -> bool
 
 /// Where a piece begins that doesn't end with a packet, in bytes, and why it ends.
 #[derive(Clone, Copy)]
-struct StopLine(PieceReport);
+pub struct StopLine(PieceReport);
 
 impl Line for StopLine {
     ghost line = { λ l. stop_line l.0.offset l.0.report.stop };
@@ -67,7 +67,7 @@ fn is_end(stop: Stop) -> bool
 
 /// A line for each piece that doesn't end with a packet.
 #[derive(Clone, Copy)]
-struct StopLines<'a>(&'a [PieceReport]);
+pub struct StopLines<'a>(pub &'a [PieceReport]);
 
 impl<'a> Series for StopLines<'a> {
     type Item = Option<StopLine>;

@@ -12,7 +12,7 @@ use super::hexadecimal::{HexDigits, LabelDigits};
 use super::lines::{Each, FieldWriter, Line, Lines, Printer, Series, Then};
 pub use copy::PreferredLine;
 pub use item::ItemLine;
-pub use note::NoteLines;
+pub use note::{NoteLines, write_note_fields};
 pub use partition::PartitionLines;
 pub use piece::{JoinLine, write_stop};
 pub use record::PackageLines;

@@ -10,7 +10,7 @@ mod printer;
 
 use super::AnswerFault;
 pub use field_writer::FieldWriter;
-pub use joined::{Each, Then};
+pub use joined::{Each, Then, take_first};
 pub use printer::{Line, Printer};
 use std::io::Write;
 

@@ -5,28 +5,21 @@ ghost use Rattle.mxf_klv.specs.Written.{Writes};
 ghost use Rattle.mxf_lines.specs.Printing.{Prints};
 ghost use Rattle.mxf_lines.specs.RenewalLines.{dropped_line, renewal_lines, renewed_line};
 
-use super::hexadecimal::LabelDigits;
+use super::line::write_note_fields;
 use super::lines::{Each, FieldWriter, Line, Lines, Printer, Then};
 use super::{AnswerFault, Form};
 use mxf_verify::{DroppedNote, Renewed};
 use std::alloc::{AllocError, Global};
 use std::io::Write;
 
-/// A note that was dropped: its offset in bytes, its kind, the width and value of its length, its key, and whether it is
-/// a head.
+/// A note that was dropped: what it says.
 impl<'a> Line for DroppedNote<'a> {
     ghost line = { λ d. dropped_line d.note.now };
 
     #[tactic(auto, unfolding(crate::specs::RenewalLines::dropped_line))]
     fn write_fields(&self, fields: &mut FieldWriter) -> Result<(), AllocError> {
-        let note = self.note;
         fields.begin("dropped", "dropped")?;
-        fields.number(" ", "offset", note.offset())?;
-        fields.word(" ", "kind", note.kind())?;
-        fields.number(" ", "width", note.width())?;
-        fields.number(" ", "length", note.length())?;
-        fields.word(" ", "key", LabelDigits(note.key().bytes()))?;
-        fields.flag(" head", "head", note.is_head())?;
+        write_note_fields(fields, self.note)?;
         fields.end("")
     }
 }

@@ -7,7 +7,8 @@ ghost use Rattle.mxf_lines.specs.SourceLines.{digest_value, disputed_line, dispu
 ghost use Rattle.mxf_lines.specs.SourceLines.{sources_line, sources_lines, sources_status};
 ghost use Rattle.mxf_lines.specs.Writing.{with_field};
 
-use super::hexadecimal::{HexDigits, LabelDigits};
+use super::hexadecimal::HexDigits;
+use super::line::write_note_fields;
 use super::lines::{Each, FieldWriter, Line, Lines, Printer, Series, Then};
 use super::{AnswerFault, Form};
 use mxf_catalogue::DisputedNotes;
@@ -118,8 +119,7 @@ fn write_digest(fields: &mut FieldWriter, note: &Note) -> Result<(), AllocError>
     }
 }
 
-/// A disputed note: its offset in bytes, its kind, the width and value of its length, its key, whether it is a head, the
-/// SHA-256 of its value, and the numbers of the sources that have it.
+/// A disputed note: what it says, the SHA-256 of its value, and the numbers of the sources that have it.
 #[derive(Clone, Copy)]
 struct DisputedLine<'a> {
     note: &'a Note,
@@ -131,15 +131,9 @@ impl<'a> Line for DisputedLine<'a> {
 
     #[tactic(auto, unfolding(crate::specs::SourceLines::disputed_line))]
     fn write_fields(&self, fields: &mut FieldWriter) -> Result<(), AllocError> {
-        let note = self.note;
         fields.begin("disputed", "disputed")?;
-        fields.number(" ", "offset", note.offset())?;
-        fields.word(" ", "kind", note.kind())?;
-        fields.number(" ", "width", note.width())?;
-        fields.number(" ", "length", note.length())?;
-        fields.word(" ", "key", LabelDigits(note.key().bytes()))?;
-        fields.flag(" head", "head", note.is_head())?;
-        write_digest(fields, note)?;
+        write_note_fields(fields, self.note)?;
+        write_digest(fields, self.note)?;
         fields.numbers(" from ", "sources", self.sources)?;
         fields.end("")
     }

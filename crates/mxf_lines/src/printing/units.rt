@@ -49,6 +49,22 @@ impl UnitRange {
         let count = last - first + 1;
         Some(UnitRange { first, count })
     }
+
+    /// The first of them.
+    pub fn first(&self) -> u64
+        ensures { result ≡ self.now.first }
+    {
+        self.first
+    }
+
+    /// The last of them.
+    pub fn last(&self) -> u64
+        ensures last { result + 1 ≡ self.now.first + self.now.count }
+        ensures order { self.now.first ≤ result }
+        ensures bound { result ≤ 9223372036854775807 }
+    {
+        self.first + (self.count - 1)
+    }
 }
 
 /// Prints the units of a range, and the last line; answers 0 where all bytes of all of them are held, else 1.

@@ -65,8 +65,8 @@ pub fn sources_of<'a, 'b: 'a>(
     Ok(sources)
 }
 
-/// The earlier sources that the words of a renewal name; none where it is no renewal.
-pub fn earlier_sources_of<'a>(
+/// The sources that the words of `--old` or `--against` name; none where there are none.
+pub fn sources_before<'a>(
     alloc: Global,
     words: Option<&[&'a str]>,
 ) -> Result<Vec<Source<'a>>, RunFault<'a>> {

@@ -1,16 +1,29 @@
 //! The line of a note.
-ghost use Rattle.std.specs.Prelude.{◌≡◌, [], ◌∷◌, length, flat_map};
+ghost use Rattle.std.specs.Prelude.{◌≡◌, [], ◌∷◌, IfOk, length, flat_map};
 ghost use Rattle.mxf_klv.specs.Rising.{In};
 ghost use Rattle.mxf_catalogue.specs.Disputes.{is_disputed};
-ghost use Rattle.mxf_lines.specs.Lines.{note_line};
+ghost use Rattle.mxf_lines.specs.Lines.{note_fields, note_line};
+ghost use Rattle.mxf_lines.specs.Writing.{with_fields};
 
 use super::{AllocError, FieldWriter, LabelDigits, Line, Series};
 use mxf_catalogue::{Catalogue, Notes};
 use mxf_klv::Note;
 use std::marker::Model;
 
-/// A note: its offset in bytes, its kind, the width and value of its length, its key, whether it is a head, and whether
-/// it is disputed.
+/// Writes what a note says: its offset in bytes, its kind, the width and value of its length, its key, and whether it is a
+/// head.
+pub fn write_note_fields(fields: &mut FieldWriter, note: &Note) -> Result<(), AllocError>
+    ensures { IfOk result (λ _. fields.new ≡ with_fields (note_fields note.now) fields.old) }
+{
+    fields.number(" ", "offset", note.offset())?;
+    fields.word(" ", "kind", note.kind())?;
+    fields.number(" ", "width", note.width())?;
+    fields.number(" ", "length", note.length())?;
+    fields.word(" ", "key", LabelDigits(note.key().bytes()))?;
+    fields.flag(" head", "head", note.is_head())
+}
+
+/// A note: what it says, and whether it is disputed.
 #[derive(Clone, Copy)]
 pub struct NoteLine<'a> {
     note: &'a Note,
@@ -22,14 +35,8 @@ impl<'a> Line for NoteLine<'a> {
 
     #[tactic(auto, unfolding(crate::specs::Lines::note_line))]
     fn write_fields(&self, fields: &mut FieldWriter) -> Result<(), AllocError> {
-        let note = self.note;
         fields.begin("note", "note")?;
-        fields.number(" ", "offset", note.offset())?;
-        fields.word(" ", "kind", note.kind())?;
-        fields.number(" ", "width", note.width())?;
-        fields.number(" ", "length", note.length())?;
-        fields.word(" ", "key", LabelDigits(note.key().bytes()))?;
-        fields.flag(" head", "head", note.is_head())?;
+        write_note_fields(fields, self.note)?;
         fields.flag(" disputed", "disputed", self.disputed)?;
         fields.end("")
     }

@@ -1,5 +1,5 @@
 //! Lines that are made of others.
-ghost use Rattle.std.specs.Prelude.{◌++◌, length, flat_map};
+ghost use Rattle.std.specs.Prelude.{◌≡◌, ◌++◌, [], ◌∷◌, IfNone, IfSome, length, flat_map};
 ghost use Rattle.mxf_lines.specs.Lines.{lines_where};
 
 use super::{Lines, Printer, Series};
@@ -57,8 +57,16 @@ impl<'a, T: Lines + Copy> Series for &'a [T] {
     ghost left = { λ s. length s.now };
 
     fn next_item(&mut self) -> Option<T> {
-        let (first, left) = self.split_first()?;
-        *self = left;
-        Some(*first)
+        take_first(self)
     }
+}
+
+/// The first of the items that are left, which is taken of them.
+pub fn take_first<'a, T: Copy>(items: &mut &'a [T]) -> Option<T>
+    ensures none { IfNone result (items.old.now ≡ []) }
+    ensures some { IfSome result (λ first. items.old.now ≡ first ∷ items.new.now) }
+{
+    let (first, left) = items.split_first()?;
+    *items = left;
+    Some(*first)
 }

@@ -1,0 +1,202 @@
+//! Sources beside a reference: whether they are as it says.
+ghost use Rattle.std.specs.Prelude.{◌≡◌, IfOk};
+ghost use Rattle.mxf_tool.specs.Verifying.{AreAskedBy, AreToldOf, open_of};
+
+use super::fault::RunFault;
+use super::telling::tell_on_screen;
+use super::unit_range::range_of;
+use super::{Printed, System, gather_parts, open_parts, print_answer, told, ungathered};
+use crate::command_line::IndexedUnits;
+use crate::exit::Exit;
+use crate::source::Source;
+use crate::system_fault::LastFault;
+use crate::watching::Screen;
+use mxf_klv::OutOfMemory;
+use mxf_lines::{Form, UnitRange, Verified};
+use mxf_read::{Gathered, Part};
+use mxf_units::Units;
+use mxf_verify::{Verification, VerifiedUnits, VerifyFault, verify};
+use mxf_views::Views;
+use std::alloc::{AllocError, Global};
+use std::fmt;
+use std::io::Read;
+
+/// What is asked of a verification: of which sources the reference is, and which are set beside it.
+#[derive(Clone, Copy)]
+pub struct Verifying<'s, 'a> {
+    pub is_whole: bool,
+    pub units: Option<IndexedUnits>,
+    pub form: Form,
+    pub reference: &'s [Source<'a>],
+    pub sources: &'s [Source<'a>],
+}
+
+/// The edit units of a range, by the index of an IndexSID.
+#[derive(Clone, Copy)]
+struct IndexedRange {
+    index: u32,
+    range: UnitRange,
+}
+
+/// Prints how the sources stand to what those of the reference hold together. All are opened before the first is read,
+/// those of the reference first, and are read in that order.
+pub fn print_verified<'a, R: System>(
+    rt: &R,
+    screen: Screen,
+    asked: Verifying<'_, 'a>,
+) -> Result<Exit, RunFault<'a>> {
+    let last = LastFault::new();
+    let reference = open_parts(rt, screen, asked.reference, &last)?;
+    let parts = open_parts(rt, screen, asked.sources, &last)?;
+    match gather_parts(rt, reference, asked.reference, &last) {
+        Ok(gathered) => verify_by(rt, screen, asked, &gathered, parts, &last),
+        Err(fault) => Err(fault),
+    }
+}
+
+/// Prints how the parts stand, which were opened of the sources, to what was gathered of the reference. The edit units that
+/// are asked for are known before the first part is read.
+fn verify_by<'a, R: System, F: Read + Drop>(
+    rt: &R,
+    screen: Screen,
+    asked: Verifying<'_, 'a>,
+    gathered: &Gathered,
+    parts: Vec<Part<F>>,
+    last: &LastFault,
+) -> Result<Exit, RunFault<'a>> {
+    let range = asked_range(&gathered.views, asked.units)?;
+    match verify(rt.alloc(), gathered.views.catalogue(), parts) {
+        Ok(verification) => print_by(rt, screen, asked, range, gathered, &verification),
+        Err(VerifyFault::OutOfMemory) => Err(RunFault::OutOfMemory),
+        Err(VerifyFault::Part(fault)) => Err(ungathered(&fault, asked.sources, last)),
+    }
+}
+
+/// The edit units that are asked for, where some are.
+fn asked_range<'a>(
+    views: &Views,
+    units: Option<IndexedUnits>,
+) -> Result<Option<IndexedRange>, RunFault<'a>>
+    ensures { AreAskedBy views.now units result }
+{
+    match units {
+        Some(asked) => {
+            let index = asked.index;
+            let range = range_of(views, index, asked.units)?;
+            Ok(Some(IndexedRange { index, range }))
+        }
+        None => Ok(None),
+    }
+}
+
+/// Prints what was verified of the reference, and tells on a terminal what that leaves open.
+fn print_by<'a, R: System>(
+    rt: &R,
+    screen: Screen,
+    asked: Verifying<'_, 'a>,
+    range: Option<IndexedRange>,
+    gathered: &Gathered,
+    verification: &Verification<'_>,
+) -> Result<Exit, RunFault<'a>> {
+    let exit = match range {
+        Some(range) => print_with_units(rt, asked, range, gathered, verification)?,
+        None => print_verification(rt, asked, &*gathered, &*verification, None)?,
+    };
+    if screen == Screen::Terminal && tell_open(rt, asked.is_whole, verification).is_err() {
+        return Err(RunFault::OutOfMemory);
+    }
+    let reports = gathered.reports.as_slice();
+    told(rt, screen, asked.reference, reports, false, exit)
+}
+
+/// Prints what was verified of the reference, with the edit units of a range.
+fn print_with_units<'a, R: System>(
+    rt: &R,
+    asked: Verifying<'_, 'a>,
+    range: IndexedRange,
+    gathered: &Gathered,
+    verification: &Verification<'_>,
+) -> Result<Exit, RunFault<'a>> {
+    match units_beside(rt.alloc(), &gathered.views, range, verification) {
+        Ok(units) => print_verification(rt, asked, gathered, verification, Some(&units)),
+        Err(_) => Err(RunFault::OutOfMemory),
+    }
+}
+
+/// Prints what was verified of the reference, and of its edit units where some are asked for.
+fn print_verification<'v, 'a, R: System>(
+    rt: &R,
+    asked: Verifying<'_, 'a>,
+    gathered: &'v Gathered,
+    verification: &'v Verification<'_>,
+    units: Option<&'v VerifiedUnits>,
+) -> Result<Exit, RunFault<'a>> {
+    let verified = Verified {
+        stops: gathered.reports.as_slice(),
+        verification,
+        units,
+        is_whole: asked.is_whole,
+    };
+    print_answer(rt, Printed::Verified(&verified), asked.form)
+}
+
+/// The edit units of a range of the reference, beside what was verified of it.
+fn units_beside(
+    alloc: Global,
+    views: &Views,
+    range: IndexedRange,
+    verification: &Verification<'_>,
+) -> Result<VerifiedUnits, OutOfMemory>
+    ensures { IfOk result (AreToldOf views.now verification.now range) }
+{
+    let IndexedRange { index, range } = range;
+    let units = Units::of(alloc, views, index)?;
+    VerifiedUnits::of(alloc, verification, &units, range.first(), range.last())
+}
+
+/// What a verification leaves open. It prints as the line that tells it.
+#[derive(Clone, Copy)]
+enum Open {
+    /// No packet is the same, though bytes came.
+    NoneSame,
+    /// Not all of the reference was compared, and that wasn't asked for.
+    NotAll,
+}
+
+impl fmt::Display for Open {
+    fn fmt<W: fmt::Write>(&self, f: &mut fmt::Formatter<W>) -> fmt::Result {
+        f.write_str(match self {
+            Open::NoneSame => {
+                "hint: no packet is as the reference says: is OFFSET right? check range:OFFSET:PATH tells by F05 where a partition pack names another"
+            }
+            Open::NotAll => {
+                "hint: the unverified bytes weren't compared: with --whole the status is 1 as long as there are any"
+            }
+        })
+    }
+}
+
+/// What a verification leaves open, where it does.
+fn open_of(is_whole: bool, verification: &Verification<'_>) -> Option<Open>
+    ensures { result ≡ open_of is_whole verification.now }
+{
+    if verification.counts().packets == 0 && verification.has_come() {
+        Some(Open::NoneSame)
+    } else if !is_whole && verification.unverified().runs().next().is_some() {
+        Some(Open::NotAll)
+    } else {
+        None
+    }
+}
+
+/// Tells on a terminal what a verification leaves open.
+fn tell_open<R: System>(
+    rt: &R,
+    is_whole: bool,
+    verification: &Verification<'_>,
+) -> Result<(), AllocError> {
+    match open_of(is_whole, verification) {
+        Some(open) => tell_on_screen(rt, &open),
+        None => Ok(()),
+    }
+}
