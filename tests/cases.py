@@ -17,11 +17,14 @@ A case is some lines of a text file in tests/cases. A number sign begins a comme
         PACKET
     range OFFSET: PACKET               a range that begins at OFFSET, where the first PACKET may be the end of one
     packets of FILE: OFFSET OFFSET     the packets of a file of tests/cases/files.txt that stand there, each a piece
+    against OFFSET: PACKET             a piece of the reference of `verify`; the packets that follow in it stand as in `at`
     show [WORD ..]                     what `show` prints, or those of its lines that begin with one of the words
         LINE
     check                              what `check` prints; `locate INDEX UNIT`, `units FROM TO [INDEX]`, `plan`,
                                        `map COLUMNS ROWS` and `join` stand so too. A word `-` is left out
         LINE
+    verify [whole] [INDEX FROM TO]     what `verify` prints against the pieces of the reference, with `--whole` where
+        LINE                           that stands there, and with the units of an index
     json show [WORD ..]                the same with `--json`; a WORD is the name of a line's form. Each command may
         LINE                           stand so
     status N                           the status of the command above, where it isn't 0
@@ -29,7 +32,8 @@ A case is some lines of a text file in tests/cases. A number sign begins a comme
 
 In a LINE `..` stands for any text, `<U+0080>` for that character, and a `$` at its end shows a space there. packets.py
 says how a PACKET is named. Each command is run on the pieces, and then on the catalogue that `join` saves of them: that
-prints the same without the lines of pieces. What it prints with `--json` gives back its text (json_lines.py). The
+prints the same without the lines of pieces; `verify` is run against the catalogue that `join` saves of the reference,
+which prints the same without stops. What a command prints with `--json` gives back its text (json_lines.py). The
 catalogue itself has to be the file of the packets that were laid, and of the heads of those that are cut, byte by byte
 (notes.py).
 """
@@ -48,11 +52,12 @@ import packets
 CASES = pathlib.Path(__file__).parent / "cases"
 WORKED = pathlib.Path(__file__).parent / "worked"
 CRATES = pathlib.Path(__file__).parent.parent / "crates"
-COMMANDS = ("show", "check", "locate", "units", "plan", "map", "join")
+COMMANDS = ("show", "check", "locate", "units", "plan", "map", "join", "verify")
 OPTIONS = {
     "locate": ("--index", "--unit"),
     "units": ("--from", "--to", "--index"),
     "map": ("--columns", "--rows"),
+    "verify": ("--index", "--from", "--to"),
 }
 NAME = re.compile(r'\{"line":"([^"]*)"')
 
@@ -84,8 +89,9 @@ class Command:
         self.form = ["--json"] if is_json else []
         self.chosen = words[1:] if self.name == "show" else []
         options = OPTIONS.get(self.name, ())
-        given = [pair for pair in zip(options, words[1:]) if pair[1] != "-"]
-        self.arguments = [text for pair in given for text in pair]
+        flags = ["--whole"] if self.name == "verify" and "whole" in words else []
+        given = [pair for pair in zip(options, words[1 + len(flags) :]) if pair[1] != "-"]
+        self.arguments = flags + [text for pair in given for text in pair]
         self.lines = []
         self.told = ""
         self.status = 0
@@ -98,17 +104,25 @@ class Command:
 
 
 class Case:
-    """The pieces of a case, each an offset, its packets and whether it is a piece or a range, and its commands."""
+    """The pieces of a case, each an offset, its packets and whether it is a piece or a range, those of the reference of
+    `verify`, and its commands."""
 
     def __init__(self, name):
         self.name = name
         self.pieces = []
+        self.reference = []
+        self.last = None
         self.commands = []
         self.in_each_order = False
 
+    def begin(self, offset, sort):
+        """Begins a piece or a range, or a piece of the reference."""
+        self.last = (offset, [], "at" if sort == "against" else sort)
+        (self.reference if sort == "against" else self.pieces).append(self.last)
+
     def lay(self, line, files):
         """Adds the packet of this line, or the packets of the file of that name, to the last piece."""
-        offset, laid, _ = self.pieces[-1]
+        offset, laid, _ = self.last
         at = offset + sum(map(packets.size_of, laid))
         laid += files[line] if line in files else [packets.packet(line, at)]
 
@@ -182,10 +196,10 @@ def case_of(name, lines, files):
                 case.commands[-1].lines.append(with_characters(text.removesuffix("$")))
             elif text == "in each order":
                 case.in_each_order = True
-            elif word in ("at", "range"):
+            elif word in ("at", "range", "against"):
                 takes_packets = True
                 offset, _, packet = rest.partition(": ")
-                case.pieces.append((int(offset), [], word))
+                case.begin(int(offset), word)
                 if packet:
                     case.lay(packet, files)
             elif word == "packets":
@@ -221,6 +235,11 @@ def all_cases(files):
             for row in rows:
                 in_row = [(at, indented, filled(text, row)) for at, indented, text in others]
                 yield case_of(f"{path.stem}: {filled(head.removeprefix('case '), row)}", in_row, files)
+
+
+def commands_of(case):
+    """The commands of a case that have no reference."""
+    return [command for command in case.commands if command.name != "verify"]
 
 
 def bytes_of(laid):
@@ -263,11 +282,11 @@ class Run:
         done = subprocess.run(words, capture_output=True, text=True, check=False)
         return done.stdout.split("\n")[:-1], done.stderr, done.returncode
 
-    def sources(self, case):
-        """The sources of the pieces of a case."""
+    def sources(self, pieces, name=""):
+        """The sources of pieces, whose files have the name and a number."""
         named = []
-        for number, (offset, laid, sort) in enumerate(case.pieces):
-            path = f"{self.folder}/{number}"
+        for number, (offset, laid, sort) in enumerate(pieces):
+            path = f"{self.folder}/{name}{number}"
             pathlib.Path(path).write_bytes(bytes_of(laid))
             named.append(f"{sort}:{offset}:{path}")
         return named
@@ -281,12 +300,12 @@ class Run:
 
     def wrong(self, case):
         """What is wrong with a case, as lines; none where it prints what is wanted."""
-        orders = [self.sources(case)]
+        orders = [self.sources(case.pieces)]
         if case.in_each_order:
             orders = [list(order) for order in itertools.permutations(orders[0])]
-        lines, contents = [], set()
+        lines, contents = self.wrong_beside(case, orders[0]), set()
         for sources in orders:
-            for command in case.commands:
+            for command in commands_of(case):
                 lines += self.wrong_at(command, sources, command.lines, command.status)
             saved, content = self.saved(sources)
             if content not in contents:
@@ -296,10 +315,25 @@ class Run:
             lines.append("  the saved catalogue isn't the file of the packets")
         return lines
 
+    def wrong_beside(self, case, sources):
+        """The same for sources beside the reference, and beside its catalogue where no stop is wanted."""
+        verified = [command for command in case.commands if command.name == "verify"]
+        if not verified:
+            return []
+        pieces, lines = self.sources(case.reference, "reference"), []
+        path = pathlib.Path(f"{self.folder}/reference")
+        self.call("join", ["--out", str(path)], pieces)
+        for command in verified:
+            against = [word for piece in pieces for word in ("--against", piece)]
+            lines += self.wrong_at(command, against + sources, command.lines, command.status)
+            if not any(name_of(line) == "stop" for line in command.lines):
+                lines += self.wrong_at(command, ["--against", f"cat:{path}", *sources], command.lines, command.status)
+        return lines
+
     def wrong_when_saved(self, case, saved):
         """The same for a saved catalogue, of which no line of a piece is printed."""
         lines = []
-        for command in case.commands:
+        for command in commands_of(case):
             wanted = [line for line in command.lines if name_of(line) not in ("piece", "stop")]
             found = wanted not in (["findings 0"], ['{"line":"findings","findings":0}'])
             status = int(found) if command.name == "check" else command.status

@@ -225,6 +225,7 @@ NUMBERS = (
     ("docs/PROMISES.md", r"()(\d+) tests of mxf_refusals", lambda _: tests_of("mxf_refusals")),
     ("docs/PROMISES.md", r"()(\d+) files in tests/all", lambda _: number_in("tests/hostile.py", r'\["(\d+)", "0"\]')),
     ("docs/PROMISES.md", r"()(\d[\d,]*) in tests/long", lambda _: number_in("tests/long", r"\{1:-(\d+)\}")),
+    ("docs/PROMISES.md", r"()(\d+) bytes of each example", lambda _: number_in("tests/hostile.py", r"FLIPPED = (\d+)")),
     ("docs/PROMISES.md", r"()each of (\d+) shapes", lambda _: length_of("tests/hostile_files.py", "MANY")),
     ("CONTRIBUTING.md", r"^\| (mxf_\w+) \|.*\((\d+) tests?\)", tests_of),
     ("CONTRIBUTING.md", r"^\| (mxf_\w+) \|.*\((\d+) edits?\)", edits_of),

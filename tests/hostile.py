@@ -2,14 +2,15 @@
 """Runs the program on hostile files: made from a seed each, so that a failure can be repeated, and cut ones.
 
     tests/hostile.py PROGRAM [COUNT [FIRST]]    the files of the numbers from FIRST (0) on, COUNT of them (200), each front
-                                                of the worked files, and each shape doubled; above 1,000 files it tells how
-                                                far it is; the last line is 'N passed, M failed'
+                                                of the worked files, each shape doubled, and flipped bits; above 1,000 files
+                                                it tells how far it is; the last line is 'N passed, M failed'
     tests/hostile.py --make NUMBER FOLDER       writes the sources of that number into the folder
 
 Of each file the program is asked everything. Each run has to end with a status that fits what was asked, within a bound
 of processor time, n log n in the bytes of its sources, and a bound of memory, linear in them. Want of memory within
-that bound fails, as does anything on standard error. What is noted, why a piece ends, what is disputed or a gap, and
-the saved catalogue are compared with those of notes.py, which goes by ST 336 alone. Cut at packets and within them,
+that bound fails, as does anything on standard error. What is noted, why a piece ends, what is disputed or a gap, how
+pieces with other bytes stand to a reference of some of them, and the saved catalogue are compared with those of notes.py,
+which goes by ST 336 alone. Cut at packets and within them,
 with repeats, a part saved, in another order, the sources leave the same catalogue, and a saved one is shown as they
 are. Whole notes that version 1 of the file saved are shown, and joined with the others. A damaged catalogue of either
 version, or one with parts of both, is shown, or refused with its cause and place, by notes.py too.
@@ -19,9 +20,13 @@ A file of a shape with many alike, and one of twice as many: no question takes m
 A file that is cut at a byte, and what begins with the packet in which that byte lies, leave its catalogue in both
 orders, as pieces and as saved catalogues.
 
+Of a file in which one bit is flipped `verify` tells the packet that has it, by the file's catalogue, and no other: of
+each byte of M and some of the examples, above 1,000 files of each byte of the worked files and the examples.
+
 The shapes are those of hostile_files.py, the runs those of hostile_runs.py.
 """
 import concurrent.futures
+import itertools
 import os
 import random
 import sys
@@ -30,12 +35,16 @@ import time
 
 import notes
 from hostile_files import MANY, SHAPES, TOP, pieces_of
-from hostile_runs import Run, Wrong, finds, is_shown, read_source, try_file, try_number
+from hostile_runs import Run, Wrong, finds, is_shown, read_source, try_file, try_number, without_kind
 
 # The greatest ratio of two times, one of twice as many: n log n at these sizes is below 2.2, a square is 4.
 GREATEST_RATIO = 2.5
 # Seconds of processor time that a busy machine adds to a run: a ratio doesn't count them.
 NOISE = 0.05
+# How many copies of an example are sources of one run, a flipped bit in each, and how many bytes of it are tried so
+# where not all are.
+BESIDE = 64
+FLIPPED = 40
 
 
 def fronts_of(data, step):
@@ -98,6 +107,39 @@ def try_saved_fronts(run, name, step, share):
         try_file(run, data[:length])
 
 
+def flipped(data, at):
+    """These bytes, but for a bit of the one at this place, by a seed."""
+    bit = random.Random(f"bit of byte {at}").randrange(8)
+    return data[:at] + bytes([data[at] ^ 1 << bit]) + data[at + 1 :]
+
+
+def flips_told(content, places):
+    """What `verify` prints of copies of what these notes are of, in each of which a bit is flipped in the byte at one of
+    these places: the packet that has it differs. Every other one is the same, and it is where a copy has no bit of it
+    flipped."""
+    hit = [next(note for note in content if note.offset <= at < note.covered_end) for at in places]
+    yield from (f"differs {number} {notes.shown_note(note)}" for number, note in enumerate(hit, 1))
+    same = [note for note in content if set(hit) != {note}]
+    known, held = (sum(note.covered_end - note.offset for note in some) for some in (same, content))
+    yield f"verified {len(same)} of {len(content)} packets {known} of {held} bytes differs {len(set(hit))} cut 0 unknown 0"
+
+
+def try_flips(run, name, length, places, beside):
+    """Flips a bit in each of these bytes of the front of a file, in a copy of its own, and has so many copies at a time
+    verified by its catalogue."""
+    data = (TOP / name).read_bytes()[:length]
+    content = notes.reduced(read_source(0, data)[0])
+    saved = run.lay("saved", [(None, notes.file_of(content))])
+    for first in range(0, len(places), beside):
+        some = places[first : first + beside]
+        copies = run.lay("flipped", [(0, flipped(data, at)) for at in some])
+        told = run.call((1,), (len(some) + 1) * len(data), "verify", "--against", *saved, *copies).splitlines()
+        run.flips += len(some)
+        for at, line, want in itertools.zip_longest(some, map(without_kind, told), flips_told(content, some)):
+            if line != want:
+                raise Wrong(f"{length} bytes of {name}, flipped in {some if at is None else at}: {line}, and not {want}")
+
+
 def seconds_of(run, sources, size):
     """The processor time of each question about sources of so many bytes."""
     joined = str(run.folder / "joined")
@@ -145,6 +187,16 @@ def parts(count, first):
         name = f"tests/worked/{path.name}"
         yield f"fronts of {path.name}", try_fronts, name, 1, (0, 1)
         yield f"cuts of {path.name}", try_cuts, name, 1 if is_long or path.stem == "M" else 41, (0, 1)
+        length = path.stat().st_size
+        if is_long or path.stem == "M":
+            yield f"flipped bits of {path.name}", try_flips, name, length, range(length), 1
+    # M is cut behind the length of its footer, of which there is a head.
+    yield "flipped bits of a front of M", try_flips, "tests/worked/M.bin", 128, range(128), 1
+    for path in sorted((TOP / "examples").glob("*.mxf")):
+        name, length = f"examples/{path.name}", path.stat().st_size
+        some = range(length) if is_long else random.Random(f"flipped in {path.name}").sample(range(length), FLIPPED)
+        for share in range(shares):
+            yield f"flipped bits of {path.name}", try_flips, name, length, share_of(some, (share, shares)), BESIDE
     for share in range(shares):
         yield "fronts of an example", try_fronts, "examples/op1a_jpeg2000.mxf", step, (share, shares)
         yield "cuts of an example", try_cuts, "examples/op1a_jpeg2000.mxf", step, (share, shares)
@@ -176,9 +228,10 @@ def main():
         if wrong:
             print(f"FAILED: {wrong}")
     failed = sum(wrong is not None for wrong, _ in found)
-    runs, fronts = (sum(figures[which] for _, figures in found) for which in (0, 1))
-    slowest, ratio = (max(figures[which] for _, figures in found) for which in (2, 3))
+    runs, fronts, flips = (sum(figures[which] for _, figures in found) for which in (0, 1, 2))
+    slowest, ratio = (max(figures[which] for _, figures in found) for which in (3, 4))
     print(f"hostile files: {count} from number {first} on, and {fronts} fronts and cuts: {runs} runs; the slowest took {slowest:.0%} of its bound")
+    print(f"flipped bits: {flips}")
     print(f"twice as many took {ratio:.2f} times as long at most")
     print(f"{len(found) - failed} passed, {failed} failed")
     return failed > 0

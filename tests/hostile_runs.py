@@ -49,12 +49,14 @@ class Run:
         self.folder = pathlib.Path(folder)
         self.runs = 0
         self.fronts = 0
+        self.flips = 0
         self.slowest = 0.0
         self.ratio = 0.0
 
     def figures(self):
-        """How many runs there were, of how many fronts and cuts; the greatest share of a bound, and the greatest ratio."""
-        return self.runs, self.fronts, self.slowest, self.ratio
+        """How many runs there were, of how many fronts and cuts and flipped bits; the greatest share of a bound, and the
+        greatest ratio."""
+        return self.runs, self.fronts, self.flips, self.slowest, self.ratio
 
     def lay(self, name, pieces):
         """Lays pieces down, and tells their sources."""
@@ -141,7 +143,7 @@ def other_order(rng, pieces):
 
 def without_kind(line):
     """The line of a note, with `..` for its kind."""
-    return re.sub(r"^((?:note|disputed) \d+) [a-z-]+ ", r"\1 .. ", line)
+    return re.sub(r"^((?:note|disputed|cut|differs \d+) \d+) [a-z-]+ ", r"\1 .. ", line)
 
 
 def is_shown(lines, content):
@@ -238,6 +240,46 @@ def try_other_order(run, rng, pieces, wanted):
         raise Wrong("in another order the catalogue is another")
 
 
+def changed(rng, offset, data):
+    """A piece or range of which a byte is another, or that is cut at either end, or lies elsewhere; or as it is."""
+    change = rng.randrange(8) if offset is not None and data else 7
+    at = rng.randrange(len(data) or 1)
+    if change in (0, 1, 2):
+        return offset, data[:at] + bytes([data[at] ^ (1 << rng.randrange(8))]) + data[at + 1 :]
+    if change == 3:
+        return offset, data[:at]
+    if change == 4:
+        return type(offset)(min(offset + at, notes.GREATEST_END)), data[at:]
+    if change == 5:
+        return type(offset)(max(offset - 1, 0)), data
+    return offset, data
+
+
+def beside(offset, data):
+    """A source beside a reference."""
+    return notes.Saved(notes.read_file(data)[0]) if offset is None else notes.Bytes(offset, data)
+
+
+def try_verified(run, rng, pieces):
+    """Sets pieces, changed at times, beside a reference of some of them."""
+    of = [piece for piece in pieces if rng.random() < 0.8] or pieces[:1]
+    others = [changed(rng, *piece) for piece in pieces]
+    read = [read_source(*piece) for piece in of]
+    reference = notes.reduced(note for found, _ in read for note in found)
+    stops = [(offset, stop) for offset, _, stop in (line for _, line in read if line is not None) if stop != "end"]
+    wanted = [f"stop {offset} {stop}" for offset, stop in stops]
+    wanted += notes.verify_lines(reference, [beside(*piece) for piece in others])
+    is_good = wanted[-1].split(" ")[1] != "0" and not any(line.startswith("differs ") for line in wanted)
+    is_good = is_good and all(stop.startswith("truncated ") for _, stop in stops)
+    is_all = is_good and not any(line.startswith(("unknown ", "unverified ")) for line in wanted)
+    size = sum(len(data) for _, data in of + others)
+    against = [word for source in run.lay("of", of) for word in ("--against", source)]
+    for words, status in (([], is_good), (["--whole"], is_all)):
+        told = run.call((int(not status),), size, "verify", *words, *against, *run.lay("beside", others)).splitlines()
+        if [without_kind(line) for line in told] != wanted:
+            raise Wrong("what is verified isn't what the packets of the reference say")
+
+
 def disordered(rng, content, version=notes.CURRENT):
     """The file of these notes where something is put in, exchanged or stated that may not be there: a mark too, which
     version 1 doesn't have."""
@@ -313,5 +355,6 @@ def try_number(run, number):
     """Tries the file of a number."""
     rng = random.Random(f"asked of {number}")
     content = try_pieces(run, rng, pieces_of(number))
+    try_verified(run, random.Random(f"verified of {number}"), pieces_of(number))
     try_file(run, damaged(rng, content))
     try_older(run, random.Random(f"version 1 of {number}"), content)

@@ -250,3 +250,125 @@ def gaps(notes):
 def gap_lines(notes):
     """What `show` prints of them."""
     return [f"gap {start} {end}" for start, end in gaps(notes)]
+
+
+def ranges_of(ranges):
+    """The maximal ranges of the bytes that lie in some of these, rising."""
+    found = []
+    for start, end in sorted(ranges):
+        if found and start <= found[-1][1]:
+            found[-1] = (found[-1][0], max(end, found[-1][1]))
+        elif start < end:
+            found.append((start, end))
+    return found
+
+
+def without(ranges, others):
+    """The maximal ranges of the bytes of the first that lie in none of the others; both rise."""
+    found = []
+    for start, end in ranges:
+        for first, last in others:
+            if last > start and first < end:
+                found.append((start, first))
+                start = max(start, last)
+        found.append((start, end))
+    return ranges_of(found)
+
+
+def held_by(notes):
+    """The maximal ranges of the bytes that these notes hold."""
+    return ranges_of((note.offset, note.covered_end) for note in notes)
+
+
+def share(notes, note):
+    """Whether one of these holds a byte that the note holds."""
+    return any(other.offset < note.covered_end and note.offset < other.covered_end for other in notes)
+
+
+class Bytes:
+    """Bytes beside a reference, the first of which lies at the offset: those below the greatest end."""
+
+    def __init__(self, offset, data):
+        self.offset = offset
+        self.data = data[: GREATEST_END - offset]
+        self.end = offset + len(self.data)
+        self.ranges = ranges_of([(offset, self.end)])
+
+    def has_all(self, note):
+        """Whether all bytes that a note holds are among them."""
+        return self.offset <= note.offset and note.covered_end <= self.end
+
+    def touches(self, note):
+        """Whether some are."""
+        return self.offset < note.covered_end and note.offset < self.end
+
+    def says(self, note):
+        """Whether they are what a note says."""
+        held = self.data[note.offset - self.offset : note.covered_end - self.offset]
+        spelled = note.length.to_bytes(note.width - 1, "big") if note.width > 1 else bytes([note.length])
+        front = note.key + (bytes([0x7F + note.width]) if note.width > 1 else b"") + spelled
+        return held.startswith(front) and (not note.is_whole or whole(note.offset, note.key, note.width, held[len(front) :]) == note)
+
+    def tell(self, reference, crowded):
+        """The notes of a reference that are the same, and those that differ; crowded ones aren't compared."""
+        compared = [note for note in reference if self.has_all(note) and note not in crowded]
+        same = [note for note in compared if self.says(note)]
+        known = set(same)
+        return known, {note for note in compared if note not in known and not share(same, note)}
+
+
+class Saved:
+    """The notes of a catalogue beside a reference."""
+
+    def __init__(self, notes):
+        self.notes = notes
+        self.ranges = held_by(notes)
+
+    def has_all(self, _):
+        """A catalogue has notes, and no bytes."""
+        return False
+
+    def touches(self, note):
+        """Whether it has the head of a packet that was noted whole."""
+        return note.is_whole and note.head in self.notes
+
+    def tell(self, reference, _):
+        """The notes of a reference that it has, and those that a note of it contradicts which the reference hasn't."""
+        others = [note for note in self.notes if note not in had(reference)]
+        contradicted = {
+            note for note in reference if any(other != note and note not in had([other]) and other not in had([note]) and share([other], note) for other in others)
+        }
+        known = had(self.notes)
+        return {note for note in reference if note in known}, contradicted
+
+
+def had(notes):
+    """What a content has: its notes, and the heads of whole ones."""
+    return {*notes, *(note.head for note in notes if note.is_whole)}
+
+
+def shown_note(note):
+    """What a note says, with `..` for the word of its kind."""
+    return f"{note.offset} .. {note.width} {note.length} {note.key.hex()}{'' if note.is_whole else ' head'}"
+
+
+def verify_lines(reference, sources):
+    """What `verify` prints of sources beside a reference, behind the lines of stops: with `..` for the word of a kind."""
+    crowded = {note for note in (reference[at] for at in disputed(reference)) if note.is_whole and not is_kept(note.key, note.length)}
+    told = [source.tell(reference, crowded) for source in sources]
+    for number, (_, differs) in enumerate(told, 1):
+        yield from (f"differs {number} {shown_note(note)}" for note in sorted(differs))
+    same = set().union(*(same for same, _ in told))
+    differing = set().union(*(differs for _, differs in told))
+    cut = [
+        note for note in reference
+        if note not in same | differing and not any(source.has_all(note) for source in sources) and any(source.touches(note) for source in sources)
+    ]
+    yield from (f"cut {shown_note(note)}" for note in cut)
+    held, verified = held_by(reference), held_by(same)
+    unknown = without(ranges_of(one for source in sources for one in source.ranges), held)
+    yield from (f"unknown {start} {end}" for start, end in unknown)
+    yield from (f"unverified {start} {end}" for start, end in without(without(held, verified), held_by(differing)))
+    known, all_bytes, other = (sum(end - start for start, end in ranges) for ranges in (verified, held, unknown))
+    packets = f"{len(same)} of {len(reference)} packets {known} of {all_bytes} bytes"
+    yield f"verified {packets} differs {len(differing)} cut {len(cut)} unknown {other}"
