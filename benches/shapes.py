@@ -7,12 +7,18 @@ from collections.abc import Callable, Iterable
 from dataclasses import dataclass
 from pathlib import Path
 
-from recordings import essence_packet, laid
+import notes
+
+from recordings import ESSENCE_KEY, essence_packet, laid
 
 # The bytes of a partition pack's packet without essence containers, and those of a set with nothing but its identifier.
 PACK = 20 + 88
 SET = 20 + 4 + 16
 SETS_OF_A_COPY = 28
+# The values of essence packets that are an edit unit each, and the bytes of such a packet.
+VALUE = b"value"
+OTHERS = (b"other", b"third")
+UNIT = 20 + len(VALUE)
 
 
 def pack(number: int, this: int, previous: int, header_bytes: int = 0, body_sid: int = 0) -> bytes:
@@ -110,14 +116,70 @@ def disputed(count: int) -> list[bytes]:
     return [essence_packet(byte) * (count // 2) for byte in (b"a", b"b")]
 
 
+def reading(count: int, number: int) -> list[bytes]:
+    """One of several readings of so many identifications, which differ in all of them."""
+    front = identification(0)[:-16]
+    return [front + (2**64 * number + place).to_bytes(16, "big") for place in range(count)]
+
+
+def noted(parts: Iterable[bytes]) -> list[notes.Note]:
+    """The notes of packets that stand one behind the other from 0 on, each with its length in four bytes."""
+    found, offset = [], 0
+    for part in parts:
+        found.append(notes.whole(offset, part[:16], 4, part[20:]))
+        offset += len(part)
+    return found
+
+
+def beside(count: int) -> list[bytes]:
+    """The first of three readings."""
+    return [b"".join(reading(count // 2, 0))]
+
+
+def contents_beside(count: int) -> list[list[notes.Note]]:
+    """Two of three readings together, the values of which are kept, and the third."""
+    first, second, third = (noted(reading(count // 2, number)) for number in range(3))
+    return [first + second, third]
+
+
+def unit_packets(count: int) -> list[bytes]:
+    """A file of so many edit units, each an essence packet, with their index."""
+    segment = laid(f"segment duration={count} unit-bytes={UNIT}")
+    footer = 2 * PACK + count * UNIT
+    head = [laid(f"header footer={footer}"), laid(f"body footer={footer} body-sid=2", PACK)]
+    states = f"footer previous={PACK} footer={footer} index-bytes={len(segment)} index-sid=1"
+    tail = [laid(states, footer), segment, laid(f"rip 0:0 2:{PACK} 0:{footer}")]
+    return head + [essence_packet(VALUE)] * count + tail
+
+
+def units(count: int) -> list[bytes]:
+    """Such a file."""
+    return [b"".join(unit_packets(count))]
+
+
+def contents_of_units(count: int) -> list[list[notes.Note]]:
+    """What a catalogue has of such a file: of each four units the first as it is, the second with another value, the
+    third in two readings, and the fourth not."""
+    found = []
+    for note in noted(unit_packets(count)):
+        which = (note.offset - 2 * PACK) // UNIT % 4 if note.key == ESSENCE_KEY else 0
+        values = ([VALUE], OTHERS[:1], OTHERS, [])[which]
+        found += [note] if which == 0 else [notes.whole(note.offset, note.key, 4, value) for value in values]
+    return [found]
+
+
 @dataclass(frozen=True)
 class Shape:
-    """What the counts are of, what is asked, the least count, and what makes the pieces, which all begin at 0."""
+    """What the counts are of, what is asked, the least count, and what makes the pieces, which all begin at 0. Of a
+    verification also what makes the contents of saved catalogues, the first of which is the reference and the others
+    are sources behind the pieces, and the options."""
 
     unit: str
     question: str
     least: int
     pieces: Callable[[int], list[bytes]]
+    contents: Callable[[int], list[list[notes.Note]]] = lambda _: []
+    options: tuple[str, ...] = ()
 
 
 SHAPES = {
@@ -132,14 +194,23 @@ SHAPES = {
     "causes": Shape("partitions with two findings", "check", 8000, causes),
     "disputed": Shape("disputed notes", "show", 37_500, disputed),
     "readings": Shape("disputed notes of two sources", "sources", 37_500, disputed),
+    "beside": Shape("disputed notes of a reference", "verify", 37_500, beside, contents_beside),
+    "units": Shape("units in as many ranges", "verify", 37_500, units, contents_of_units, ("--index", "1")),
 }
 
 
 def write_shape(name: str, count: int, folder: Path) -> list[str]:
-    """Writes the pieces of a shape, and answers their sources."""
+    """Writes the pieces and catalogues of a shape, and answers the words that name them behind the question."""
+    shape = SHAPES[name]
     sources = []
-    for number, piece in enumerate(SHAPES[name].pieces(count)):
+    for number, piece in enumerate(shape.pieces(count)):
         path = folder / f"{name}_{number}"
         path.write_bytes(piece)
         sources.append(f"at:0:{path}")
-    return sources
+    catalogues = []
+    for number, content in enumerate(shape.contents(count)):
+        path = folder / f"{name}_{number}.cat"
+        path.write_bytes(notes.file_of(content))
+        catalogues.append(f"cat:{path}")
+    against = [word for reference in catalogues[:1] for word in ("--against", reference)]
+    return [*against, *shape.options, *sources, *catalogues[1:]]
