@@ -1,6 +1,6 @@
 -- What the readers and writers of a file's parts come to.
-use Rattle.std.proofs.Common.{◌≡◌, ℕ, zero, suc, ◌+◌, ◌-◌, ◌^◌, ◌<◌, ◌≤◌, Bool, false, cond, List, [], ◌∷◌, ◌++◌}
-use Rattle.std.proofs.Common.{length, take, drop, get_or, Result, Ok, Option, Some, refl, sym, ap, subst, ◌∙◌, arith}
+use Rattle.std.proofs.Common.{◌≡◌, ℕ, zero, suc, ◌+◌, ◌-◌, ◌^◌, ◌<◌, ◌≤◌, Bool, true, false, cond, List, [], ◌∷◌}
+use Rattle.std.proofs.Common.{◌++◌, length, take, drop, get_or, Result, Ok, Option, Some, refl, sym, ap, subst, ◌∙◌, arith}
 use Rattle.std.proofs.Common.{inl, inr, ◌↔◌, append_assoc, append-nil, length-append, take-append-drop}
 use Rattle.std.specs.Prelude.{IsTrue, ◌==◌}
 use Rattle.std.proofs.lemmas.Bool.{cases_lt}
@@ -28,11 +28,11 @@ use Rattle.mxf_catalogue.specs.declared.catalogue.file.FileFault.TheVariants.{Ou
 use Rattle.mxf_catalogue.specs.declared.catalogue.file.fixed_part.FixedPart.{FixedPart}
 use Rattle.mxf_catalogue.specs.Content.{IsContent}
 use Rattle.mxf_catalogue.specs.declared.catalogue.file.start.Version.{Version}
-use Rattle.mxf_catalogue.specs.declared.catalogue.file.start.Version.TheVariants.{Two}
+use Rattle.mxf_catalogue.specs.declared.catalogue.file.start.Version.TheVariants.{One, Two}
 use Rattle.mxf_catalogue.specs.CatalogueFile.{magic, version_byte, number_bytes, CanBeNoted, note_bytes, start_bytes}
-use Rattle.mxf_catalogue.specs.CatalogueFile.{BeginsAsFile, BeginsWithFixedPart, BeginsWithMark}
+use Rattle.mxf_catalogue.specs.CatalogueFile.{BeginsAsFile, BeginsWithFixedPart, BeginsWithMark, BeginsWithNote}
 use Rattle.mxf_catalogue.specs.CatalogueFile.{BeginsWithParts, IsRefused, IsFront, StopsAt}
-use Rattle.mxf_catalogue.specs.CatalogueFile.{fixed_bytes}
+use Rattle.mxf_catalogue.specs.CatalogueFile.{CanHave, IsMarkIn, fixed_bytes, fixed_part_of, mark_bytes, mark_of}
 use Rattle.mxf_catalogue.specs.FileReading.{NoteBehindMark, RefusesNote}
 use Rattle.mxf_catalogue.proofs.FileBytes.{front_place, number_in, regrouped, length-number_bytes, rising_push}
 use Rattle.mxf_catalogue.proofs.FileBytes.{rising_last}
@@ -116,26 +116,46 @@ above_last notes last n b at r e =
           (subst (λ (m : NoteParts). note_cmp m n ≡ Less) is (rising_last note_cmp notes k last n within h)),
     )
 
-pub digest_noted : (h : FixedPart) (n : NoteParts) (bytes digest more key : List ℕ) → CanBeNoted h
-    → keeps h.key h.length ≡ false → key ≡ h.key → n ≡ note_parts h.offset key h.width h.length digest
-    → digest ≡ take 32 bytes → more ≡ drop 32 bytes → 32 ≤ length bytes → NoteBehindMark h 0 bytes n more
-digest_noted h n bytes digest more key g kept k is d m long =
-    let same : n ≡ note_parts h.offset h.key h.width h.length digest = is
-    ∙ ap (λ (t : List ℕ). note_parts h.offset t h.width h.length digest) k in
-    let len : length digest ≡ 32 = ap length d ∙ omega (arith, length-take 32 bytes) in
+-- the note that holds the first of the bytes behind the mark of a whole packet
+pub noted : (h : FixedPart) (n : NoteParts) (bytes held more key : List ℕ) (count : ℕ) → CanBeNoted h
+    → count ≡ cond (keeps h.key h.length) h.length 32 → key ≡ h.key
+    → n ≡ note_parts h.offset key h.width h.length held
+    → held ≡ take count bytes → more ≡ drop count bytes → count ≤ length bytes → NoteBehindMark h 0 bytes n more
+noted h n bytes held more key count g many k is d m long =
+    let same : n ≡ note_parts h.offset h.key h.width h.length held = is
+    ∙ ap (λ (t : List ℕ). note_parts h.offset t h.width h.length held) k in
+    let len : length held ≡ count = ap length d ∙ omega (arith, length-take count bytes) in
     subst (λ (x : NoteParts). NoteBehindMark h 0 bytes x more) (sym same) (record {
-      note = record {
-        label = g.label;
-        width = g.width;
-        within = g.within;
-        held = len
-            ∙ sym (ap (λ (b : Bool). cond b h.length 32) kept);
-      };
+      note = record { label = g.label; width = g.width; within = g.within; held = len ∙ many };
       fixed = refl;
       marked = refl;
-      held = sym (take-append-drop 32 bytes) ∙ ap (λ (t : List ℕ). t ++ drop 32 bytes) (sym d)
-          ∙ ap (λ (t : List ℕ). digest ++ t) (sym m);
+      held = sym (take-append-drop count bytes) ∙ ap (λ (t : List ℕ). t ++ drop count bytes) (sym d)
+          ∙ ap (λ (t : List ℕ). held ++ t) (sym m);
     })
+
+whole_marked : (whole : Bool) → mark_of whole ≡ 0 → whole ≡ true
+whole_marked true e = refl
+whole_marked false e = absurd cc
+
+can_have_marked : (v : Version) (n : NoteParts) → IsMarkIn v (mark_of n.whole) → CanHave v n
+can_have_marked One n e = whole_marked n.whole e
+can_have_marked Two n e = tt
+
+-- a note that holds what stands behind a fixed part and a mark begins with these
+pub note_begins : (v : Version) (f : FixedPart) (mark : ℕ) (bytes rest behind more : List ℕ) (n : NoteParts)
+    → BeginsWithFixedPart bytes f rest → BeginsWithMark v rest mark behind → NoteBehindMark f mark behind n more
+    → BeginsWithNote v bytes n more
+note_begins v f mark bytes rest behind more n b m h =
+    let marks : List ℕ = mark_bytes v (mark_of n.whole) in
+    record {
+      note = h.note;
+      can_have = can_have_marked v n (subst (IsMarkIn v) (sym h.marked) m.marked);
+      whole = b.whole
+          ∙ (λ i. fixed_bytes (sym h.fixed i) ++ m.whole i)
+          ∙ ap (λ (t : List ℕ). fixed_bytes (fixed_part_of n) ++ t)
+          ((λ i. mark_bytes v (sym h.marked i) ++ h.held i) ∙ sym (append_assoc marks n.held more))
+          ∙ sym (append_assoc (fixed_bytes (fixed_part_of n)) (marks ++ n.held) more);
+    }
 
 -- the fixed part and the mark at the front
 pub parts_begin : (v : Version) (f : FixedPart) (mark : ℕ) (bytes rest behind : List ℕ)

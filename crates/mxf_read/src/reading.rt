@@ -12,7 +12,7 @@ use std::io::{ErrorKind, Read};
 pub(crate) const GREATEST_INTERRUPTIONS: u32 = 1024;
 
 /// What one read came to.
-#[derive(Clone, Copy, Debug, Drop, PartialEq, Eq)]
+#[derive(Clone, Copy, Drop)]
 pub(crate) enum Step {
     /// So many bytes were taken.
     Took(usize),
@@ -23,7 +23,7 @@ pub(crate) enum Step {
 }
 
 /// Why a piece wasn't read to its end.
-#[derive(Clone, Copy, Debug, Drop, PartialEq, Eq)]
+#[derive(Clone, Copy, Drop)]
 pub(crate) enum Cause {
     OutOfMemory,
     ReadFault,

@@ -13,7 +13,7 @@ use std::alloc::Global;
 use std::collections::BTreeMap;
 
 /// Where a fill begins and where it ends, in bytes.
-#[derive(Clone, Copy, Debug, PartialEq, Eq)]
+#[derive(Clone, Copy)]
 struct Fill {
     start: u64,
     end: u64,

@@ -10,7 +10,7 @@ use std::alloc::Global;
 use std::marker::Model;
 
 /// From an offset on, in bytes, up to the next step: the first claim.
-#[derive(Clone, Copy, Debug, PartialEq, Eq)]
+#[derive(Clone, Copy)]
 pub(crate) struct Step {
     pub from: u64,
     pub claim: Option<Claim>,
@@ -26,7 +26,7 @@ impl Keyed for Step {
 }
 
 /// Claims, with the first one of each offset: a binary search.
-#[derive(Debug, Drop)]
+#[derive(Drop)]
 pub(crate) struct FirstClaims<'a> {
     claims: &'a [Claim],
     steps: Vec<Step>,
@@ -122,7 +122,7 @@ fn laid_over(alloc: Global, upper: &[Step], lower: &[Step]) -> Result<Vec<Step>,
 }
 
 /// The steps that are left of two lists of which one lies over the other, and what the two said last.
-#[derive(Debug, Drop)]
+#[derive(Drop)]
 struct Overlay<'a> {
     upper: &'a [Step],
     upper_claim: Option<Claim>,

@@ -11,7 +11,7 @@ use std::collections::BTreeMap;
 use std::marker::Model;
 
 /// The first of the heads of which key and length end at one offset: packets of which nothing more is held.
-#[derive(Clone, Copy, Debug, PartialEq, Eq)]
+#[derive(Clone, Copy)]
 pub(crate) struct Head {
     /// Its file offset, in bytes.
     pub offset: u64,

@@ -20,14 +20,14 @@ use mxf_klv::{OutOfMemory, below, up_to};
 use std::alloc::Global;
 
 /// A maximal range of offsets, in bytes, that aren't held. The last has no end where that of the file isn't known.
-#[derive(Clone, Copy, Debug, PartialEq, Eq)]
+#[derive(Clone, Copy)]
 pub(crate) struct Hole {
     pub start: u64,
     pub end: Option<u64>,
 }
 
 /// A piece of a hole, which is cut at the places that packs name.
-#[derive(Clone, Copy, Debug, PartialEq, Eq)]
+#[derive(Clone, Copy)]
 pub(crate) struct Piece {
     pub first: u64,
     pub end: Option<u64>,

@@ -1,10 +1,10 @@
 -- Bytes are a batch of a size, or one of the faults.
-use Rattle.std.proofs.Common.{◌≡◌, ℕ, ◌+◌, ◌*◌, List, ◌++◌, length, drop, Err, sym, ap, ◌∙◌, arith, inl, inr, zero-mul}
+use Rattle.std.proofs.Common.{◌≡◌, ℕ, suc, ◌+◌, ◌*◌, List, ◌++◌, ◌∷◌, length, take, drop, Err, sym, ap, ◌∙◌, arith, inl, inr, zero-mul}
 use Rattle.byteorder.specs.Endian.{big_number, big_bytes}
 use Rattle.byteorder.specs.Numbers.{big_number-reads_back}
 use Rattle.mxf_sets.specs.declared.batch.BatchFault.{BatchFault}
 use Rattle.mxf_sets.specs.declared.batch.BatchFault.TheVariants as faults
-use Rattle.mxf_sets.specs.Batch.{BatchParts, AreBatchParts, IsBatch, HasItemsOf, ReadsBatch, batch_bytes}
+use Rattle.mxf_sets.specs.Batch.{BatchParts, AreBatchParts, IsBatch, HasItemsOf, ReadsBatch, batch_bytes, sized_items}
 use Rattle.mxf_sets.proofs.Numbers.{same_number}
 
 pub same_parts : (a b : BatchParts) → a.count ≡ b.count → a.size ≡ b.size → a.items ≡ b.items → a ≡ b
@@ -48,3 +48,12 @@ no_fault size bytes b faults.WrongLength is has h =
       | inr same ↦
           h.2 (len ∙ ap (λ (n : ℕ). 8 + n) (ap (λ (n : ℕ). b.count * n) same ∙ ap (λ (n : ℕ). n * size) (sym s.0)))
     ]
+
+next : (n : ℕ) → n + 1 ≡ suc n
+next n = omega arith
+
+-- the first of the items, and those after it
+pub first_item : (count left size : ℕ) (bytes item rest : List ℕ) → count ≡ left + 1 → item ≡ take size bytes
+    → rest ≡ drop size bytes → sized_items count size bytes ≡ item ∷ sized_items left size rest
+first_item count left size bytes item rest e i r =
+    ap (λ (n : ℕ). sized_items n size bytes) (e ∙ next left) ∙ (λ k. sym i k ∷ sized_items left size (sym r k))

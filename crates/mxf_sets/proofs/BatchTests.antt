@@ -4,18 +4,19 @@ use Rattle.byteorder.specs.Numbers.{big_from-take, big_from-lt}
 use Rattle.mxf_klv.specs.Bytes.{AreBytes}
 use Rattle.mxf_klv.proofs.RoundTrips.{AreBytes-take, AreBytes-drop}
 use Rattle.mxf_sets.proofs.Numbers.{number_in_front}
-use Rattle.std.proofs.Common.{◌≡◌, ℕ, ◌+◌, ◌*◌, ◌≤◌, ◌⊎◌, ◌++◌, inl, inr, true, false, List, length, length-drop}
+use Rattle.std.proofs.Common.{◌≡◌, ℕ, ◌+◌, ◌-◌, ◌*◌, ◌≤◌, ◌⊎◌, ◌++◌, inl, inr, true, false, List, length, length-drop}
 use Rattle.std.proofs.Common.{take, drop, refl, ap, ◌∙◌, sym, arith, eq-eqb, eqb-true, le-leb, leb-true}
 use Rattle.std.specs.Prelude.{nat_le, ◌==◌, ◌||◌}
 use Rattle.byteorder.specs.Endian.{big_number}
 use Rattle.std.specs.Prelude.{Result, Ok, Err, is_ok}
 use Rattle.mxf_sets.specs.declared.batch.BatchFault.{BatchFault}
 use Rattle.mxf_sets.specs.declared.batch.BatchFault.TheVariants.{ShortHead, WrongSize, WrongLength}
-use Rattle.mxf_sets.specs.Batch.{BatchParts, IsBatch, HasItemsOf, ReadsBatch}
+use Rattle.mxf_sets.specs.Batch.{BatchParts, IsBatch, HasItemsOf, ReadsBatch, batch_parts}
 use Rattle.mxf_sets.proofs.BatchLaws.{length-batch_bytes, stated}
 use Rattle.mxf_sets.specs.Fields.{is_batch}
 use Rattle.mxf_klv.proofs.Tests.{either, all_three, three_parts}
 use Rattle.std.proofs.lemmas.Bool.{or_cases}
+use Rattle.std.proofs.lemmas.List.{drop-drop, drop-take, take_rest}
 
 -- the test, in words
 pub test_says : (size : ℕ) (v : List ℕ) → is_batch size v ≡ true
@@ -74,40 +75,57 @@ reads_test size bytes (Err WrongSize) (long, some, other) =
 reads_test size bytes (Err WrongLength) (long, which, other) =
     sym (test_fails size bytes (λ t. other (test_says size bytes t).2))
 
+-- the two numbers at the front, and the rest
+whole_batch : (bytes : List ℕ) → AreBytes bytes → 8 ≤ length bytes
+    → bytes ≡ big_bytes 4 (big_number 4 bytes) ++ (big_bytes 4 (big_number 4 (drop 4 bytes)) ++ drop 8 bytes)
+whole_batch bytes h long =
+    let rest = drop 4 bytes in
+    let left = length-drop 4 bytes in
+    number_in_front 4 (big_number 4 bytes) bytes (take 4 bytes) rest refl refl
+    (sym (big_from-take 0 4 4 bytes (omega arith))) (omega arith) (AreBytes-take 4 bytes h)
+    ∙ ap (λ (r : List ℕ). big_bytes 4 (big_number 4 bytes) ++ r)
+    (number_in_front 4 (big_number 4 rest) rest (take 4 rest) (drop 8 bytes) refl (sym (drop-drop 4 4 bytes))
+    (sym (big_from-take 0 4 4 rest (omega arith))) (omega (arith, left))
+    (AreBytes-take 4 rest (AreBytes-drop 4 bytes h)))
+
+-- the second number, read behind the first in the eight bytes that both have
+pub second_number : (bytes head : List ℕ) → head ≡ take 8 bytes
+    → big_number 4 (take (length head - 4) (drop 4 head)) ≡ big_number 4 (drop 4 bytes)
+second_number bytes head e =
+    ap (λ (t : List ℕ). big_number 4 t) (take_rest head 4 ∙ ap (λ (t : List ℕ). drop 4 t) e ∙ drop-take 4 4 bytes)
+    ∙ big_from-take 0 4 4 (drop 4 bytes) (omega arith)
+
+-- bytes that are as many as their numbers say are a batch
+pub counted_batch : (bytes items : List ℕ) (count size : ℕ) → AreBytes bytes → 8 ≤ length bytes
+    → count ≡ big_number 4 bytes → size ≡ big_number 4 (drop 4 bytes) → items ≡ drop 8 bytes
+    → length items ≡ count * size → IsBatch bytes (batch_parts count size items)
+counted_batch bytes items count size h long c s i len =
+    record {
+      parts = record {
+        count = rw c (big_from-lt 0 4 bytes h);
+        size = rw s (big_from-lt 0 4 (drop 4 bytes) (AreBytes-drop 4 bytes h));
+        items = len;
+      };
+      whole = whole_batch bytes h long ∙ (λ k. big_bytes 4 (sym c k) ++ (big_bytes 4 (sym s k) ++ sym i k));
+    }
+
 -- what passes the test is a batch
 pub tested_batch : (size : ℕ) (bytes : List ℕ) → AreBytes bytes → is_batch size bytes ≡ true
     → (b : BatchParts) × IsBatch bytes b × HasItemsOf size b
 tested_batch size bytes h t =
     let s = test_says size bytes t in
-    let long : 8 ≤ length bytes = s.0 in
     let count = big_number 4 bytes in
     let own = big_number 4 (drop 4 bytes) in
-    let rest = drop 4 (drop 4 bytes) in
-    let left = length-drop 4 (drop 4 bytes) in
-    let left2 = length-drop 4 bytes in
+    let left = length-drop 8 bytes in
     let product : count * own ≡ count * size =
     elim s.1 [
       | inl p ↦ ap (λ (n : ℕ). n * own) p ∙ (let z : 0 * own ≡ 0 * size = omega arith in z)
           ∙ ap (λ (n : ℕ). n * size) (sym p)
       | inr q ↦ ap (λ (n : ℕ). count * n) q
     ] in
-    let whole : length bytes ≡ 8 + count * size = s.2 in
-    let first : bytes ≡ big_bytes 4 count ++ drop 4 bytes =
-    number_in_front 4 count bytes (take 4 bytes) (drop 4 bytes) refl refl
-    (sym (big_from-take 0 4 4 bytes (omega arith))) (omega arith) (AreBytes-take 4 bytes h) in
-    let second : drop 4 bytes ≡ big_bytes 4 own ++ rest =
-    number_in_front 4 own (drop 4 bytes) (take 4 (drop 4 bytes)) rest refl refl
-    (sym (big_from-take 0 4 4 (drop 4 bytes) (omega arith))) (omega arith)
-    (AreBytes-take 4 (drop 4 bytes) (AreBytes-drop 4 bytes h)) in (
-      record { count = count; size = own; items = rest },
-      record {
-        parts = record {
-          count = big_from-lt 0 4 bytes h;
-          size = big_from-lt 0 4 (drop 4 bytes) (AreBytes-drop 4 bytes h);
-          items = omega (arith, product);
-        };
-        whole = first ∙ ap (λ (r : List ℕ). big_bytes 4 count ++ r) second;
-      },
+    let whole : length bytes ≡ 8 + count * size = s.2 in (
+      batch_parts count own (drop 8 bytes),
+      counted_batch bytes (drop 8 bytes) count own h s.0 refl refl refl (omega (arith, product)),
       s.1,
     )
 

@@ -35,7 +35,7 @@ pub(crate) use values::{optional_value, required_value};
 const INSTANCE_UID: u16 = 0x3C0A;
 
 /// What the value of a field has to be.
-#[derive(Clone, Copy, Debug, PartialEq, Eq)]
+#[derive(Clone, Copy)]
 pub(crate) enum Shape {
     /// So many bytes.
     Exactly(usize),
@@ -46,7 +46,7 @@ pub(crate) enum Shape {
 }
 
 /// A field of a set.
-#[derive(Clone, Copy, Debug, PartialEq, Eq)]
+#[derive(Clone, Copy)]
 pub(crate) struct Field {
     pub(crate) tag: u16,
     pub(crate) shape: Shape,

@@ -26,7 +26,7 @@ use std::alloc::Global;
 use std::marker::Model;
 
 /// Where the essence of a partition lies, as far as that is known.
-#[derive(Clone, Copy, Debug, PartialEq, Eq, PartialOrd, Ord)]
+#[derive(Clone, Copy, PartialEq, Eq, PartialOrd, Ord)]
 pub(crate) struct EssenceZone {
     /// The offset in its stream that lies at the origin, in bytes.
     pub body_offset: u64,

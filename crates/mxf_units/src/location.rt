@@ -18,7 +18,7 @@ use mxf_restore::Holdings;
 use mxf_views::SegmentAt;
 
 /// Bytes of essence, and the essence zone that they are looked for in.
-#[derive(Clone, Copy, Debug, PartialEq, Eq)]
+#[derive(Clone, Copy)]
 pub(crate) struct Location {
     pub zone: EssenceZone,
     pub extent: Extent,

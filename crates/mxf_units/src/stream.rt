@@ -4,7 +4,7 @@ ghost use Rattle.mxf_klv.specs.Rising.{IsRising};
 ghost use Rattle.mxf_units.specs.Streams.{in_order, least_above, lesser, offset_in, offsets_in, place_cmp};
 
 /// A place in an essence stream.
-#[derive(Clone, Copy, Debug, PartialEq, Eq, PartialOrd, Ord)]
+#[derive(Clone, Copy, PartialEq, Eq, PartialOrd, Ord)]
 pub(crate) struct StreamPlace {
     /// The BodySID of the stream.
     pub body_sid: u32,

@@ -31,7 +31,7 @@ impl From<MergeFault> for OutOfMemory {
 
 /// What the merging of two catalogues needs: a list for the notes of each that has disputed ones, and parts and runs
 /// for those of both.
-#[derive(Debug, Drop)]
+#[derive(Drop)]
 pub(super) struct Room {
     pub own: Vec<Note>,
     pub others: Vec<Note>,
@@ -66,7 +66,7 @@ impl Room {
 }
 
 /// The notes that two contents have left, in their order, each once. They are moved out.
-#[derive(Debug, Drop)]
+#[derive(Drop)]
 pub(super) struct MergedNotes {
     left: VecDeque<Note>,
     right: VecDeque<Note>,

@@ -10,7 +10,7 @@ use std::marker::Model;
 
 /// Catalogues that wait to be merged, each at least twice as long as the one behind it. So each is merged with one of
 /// about its length, and merging n notes of any number of catalogues moves each some log n times.
-#[derive(Debug, Drop)]
+#[derive(Drop)]
 pub(super) struct Levels {
     items: Vec<Catalogue>,
 }

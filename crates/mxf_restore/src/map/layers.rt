@@ -29,7 +29,7 @@ const MARKS: [Mark; 10] = [
 ];
 
 /// What may lie in a cell of a map of what is held, each as a set of offsets.
-#[derive(Debug, Drop)]
+#[derive(Drop)]
 pub(super) struct Layers<'a> {
     holdings: Holdings<'a>,
     headers: Cover,

@@ -13,7 +13,7 @@ use mxf_views::{PartitionAt, Views};
 use std::alloc::Global;
 
 /// A partition, as a part of an essence stream.
-#[derive(Clone, Copy, Debug, PartialEq, Eq, PartialOrd, Ord)]
+#[derive(Clone, Copy, PartialEq, Eq, PartialOrd, Ord)]
 pub(crate) struct StreamPart {
     pub body_sid: u32,
     /// Where it begins in its stream, in bytes.

@@ -8,7 +8,7 @@ use mxf_catalogue::ClearNotes;
 use mxf_klv::{Kind, Note};
 
 /// What the packets of a range cover, in bytes, and how many Prefaces are among them.
-#[derive(Clone, Copy, Debug)]
+#[derive(Clone, Copy)]
 pub(crate) struct Counts {
     pub covered: u64,
     pub prefaces: usize,

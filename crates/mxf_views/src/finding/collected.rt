@@ -9,7 +9,7 @@ use std::alloc::Global;
 use std::marker::Model;
 
 /// The findings of the causes so far, one after another.
-#[derive(Debug, Drop)]
+#[derive(Drop)]
 pub(super) struct Collected {
     items: Vec<Finding>,
 }

@@ -8,7 +8,7 @@ use mxf_catalogue::Catalogue;
 use mxf_klv::{Kind, Note};
 
 /// What has to be known of a new note, once it is in the catalogue.
-#[derive(Clone, Copy, Debug)]
+#[derive(Clone, Copy)]
 pub(crate) struct Arrival {
     /// Where its packet begins.
     pub offset: u64,

@@ -15,7 +15,7 @@ use mxf_catalogue::Catalogue;
 use mxf_klv::{Note, up_to};
 
 /// What the views keep the offsets of.
-#[derive(Clone, Copy, Debug)]
+#[derive(Clone, Copy)]
 pub(crate) enum Placed {
     Partition,
     Segment,

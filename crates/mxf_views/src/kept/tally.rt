@@ -11,7 +11,7 @@ use mxf_catalogue::Catalogue;
 use mxf_klv::Kind;
 
 /// The numbers of the clear notes of the kinds that something can be kept of, readable or not.
-#[derive(Clone, Copy, Debug)]
+#[derive(Clone, Copy)]
 pub(super) struct Tally {
     /// Of partition packs: each is a partition, with a copy at most, or unreadable.
     pub packs: usize,

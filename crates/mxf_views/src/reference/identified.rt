@@ -25,7 +25,7 @@ use std::marker::Model;
 use uuid::Uuid;
 
 /// A set that has a readable instance identifier.
-#[derive(Clone, Copy, Debug)]
+#[derive(Clone, Copy)]
 pub(crate) struct Identified {
     pub uid: Uuid,
     /// Its file offset, in bytes.
@@ -121,7 +121,7 @@ fn find_sorted(sets: &[Identified], uid: &Uuid) -> Found
 }
 
 /// The sets of the copy of a partition, to be found by their identifiers.
-#[derive(Debug, Drop)]
+#[derive(Drop)]
 pub(crate) struct CopySets<'a> {
     catalogue: &'a Catalogue,
     partition: u64,

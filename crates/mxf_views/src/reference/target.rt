@@ -42,7 +42,7 @@ pub struct Ref {
 }
 
 /// What a reference names.
-#[derive(Clone, Copy, Debug, PartialEq, Eq)]
+#[derive(Clone, Copy)]
 pub(crate) enum Wanted {
     Storage,
     Identification,

@@ -5,7 +5,7 @@ ghost use Rattle.mxf_catalogue.specs.CatalogueFile.{BeginsWithFixedPart, fixed_b
 use mxf_klv::Note;
 
 /// What a note of a file says of its packet, ahead of what it holds.
-#[derive(Clone, Copy, Debug, PartialEq, Eq)]
+#[derive(Clone, Copy)]
 pub(super) struct FixedPart {
     pub offset: u64,
     pub key: [u8; 16],

@@ -20,7 +20,7 @@ const ONE: u8 = 1;
 const TWO: u8 = 2;
 
 /// The version of a file.
-#[derive(Clone, Copy, Debug, PartialEq, Eq)]
+#[derive(Clone, Copy)]
 pub(super) enum Version {
     /// Its notes have no marks: it knows no heads.
     One,
@@ -42,7 +42,7 @@ impl Version {
 }
 
 /// What a file tells ahead of its notes: its version, and how many there are.
-#[derive(Clone, Copy, Debug, PartialEq, Eq)]
+#[derive(Clone, Copy)]
 pub(super) struct Start {
     pub version: Version,
     pub count: u64,

@@ -10,7 +10,7 @@ use byteorder::{BigEndian, ByteOrder};
 use std::marker::Model;
 
 /// The labels of the entries of a tag that are left, in the order of the entries.
-#[derive(Debug, Drop)]
+#[derive(Drop)]
 pub(super) struct Labels<'a> {
     tag: u16,
     entries: BatchItems<'a>,

@@ -4,10 +4,19 @@ use Rattle.std.proofs.lemmas.Result.{err_from_is_err_and}
 use Rattle.mxf_klv.specs.Parts.{NoteParts}
 use Rattle.mxf_catalogue.specs.Content.{IsContent}
 use Rattle.mxf_catalogue.specs.CatalogueFile.{IsFront, IsHeadLast}
-use Rattle.mxf_catalogue.proofs.FileBytes.{front_next}
+use Rattle.mxf_catalogue.proofs.FileBytes.{front_next, front_place}
 use Rattle.mxf_catalogue.proofs.HeadLaws.{AreReduced-push}
 use Rattle.mxf_catalogue.proofs.FileParts.{is_some, note_fault, stops}
 use Rattle.mxf_catalogue.proofs.catalogue.file.read_notes.Goals as goal
+
+pub overflow_sub-place : goal.overflow_sub-place
+overflow_sub-place c =
+    let start = c.args.start in
+    omega (
+      arith,
+      front_place start.version c.args.bytes.now c.loop-i.rest.now start.count c.loop-i.notes.items
+          c.loop-i.invariant.front,
+    )
 
 pub returns-in_err-note-clause-fault : goal.returns-in_err-note-clause-fault
 returns-in_err-note-clause-fault c =

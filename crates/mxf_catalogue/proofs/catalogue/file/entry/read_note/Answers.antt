@@ -1,6 +1,9 @@
 use Rattle.std.proofs.Common.{arith, ap, length, refl, inl, length-append}
-use Rattle.mxf_catalogue.specs.CatalogueFile.{fixed_bytes}
+use Rattle.mxf_catalogue.specs.CatalogueFile.{BeginsWithNote, fixed_bytes}
+use Rattle.mxf_catalogue.specs.FileReading.{NoteBehindMark}
+use Rattle.std.proofs.lemmas.Result.{IfOk-weaker}
 use Rattle.mxf_catalogue.proofs.FileBytes.{length-fixed_bytes}
+use Rattle.mxf_catalogue.proofs.FileParts.{note_begins}
 use Rattle.mxf_catalogue.proofs.catalogue.file.entry.read_note.Goals as goal
 
 pub returns-in_default-split_mark-clause-fault : goal.returns-in_default-split_mark-clause-fault
@@ -10,3 +13,13 @@ returns-in_default-split_mark-clause-fault c =
     let fixed = length-fixed_bytes c.in-Some.fixed b.fixed.key in
     let none = c.in_default-split_mark.ensures.none in
     (refl, inl (omega (arith, len, fixed, none, length-append (fixed_bytes c.in-Some.fixed) c.in-Some.behind.now)))
+
+pub returns-clause-note : goal.returns-clause-note
+returns-clause-note c =
+    let v = c.args.version in
+    let fixed = c.in-Some in
+    let mark = c.in-Some-split_mark in
+    IfOk-weaker c.read_held.result (λ s. NoteBehindMark fixed.fixed mark.mark mark.rest.now s.0 s.1.now)
+    (λ s. BeginsWithNote v c.args.bytes.now s.0 s.1.now) (λ s h.
+    note_begins v fixed.fixed mark.mark c.args.bytes.now fixed.behind.now mark.rest.now s.1.now s.0 fixed.ensures.some
+    mark.ensures.some h) c.read_held.ensures.note
