@@ -1,19 +1,24 @@
 -- A saved catalogue beside a reference, and the join of both.
-use Rattle.std.proofs.Common.{◌≡◌, ◌↔◌, ◌+◌, ◌<◌, ◌≤◌, ◌∙◌, ℕ, true, false, IsTrue, List, cond}
+use Rattle.std.proofs.Common.{◌≡◌, ◌↔◌, ◌+◌, ◌<◌, ◌≤◌, ◌∙◌, ℕ, true, false, IsTrue, List, [], ◌∷◌, cond, map}
 use Rattle.std.proofs.Common.{refl, sym, ap, subst, inl, inr, arith}
 use Rattle.std.proofs.lemmas.Bool.{false≢true}
 use Rattle.mxf_klv.specs.Note.{IsCovered, covered_end, end_of, head_note}
 use Rattle.mxf_klv.specs.Parts.{NoteParts}
 use Rattle.mxf_klv.specs.Rising.{In}
+use Rattle.mxf_klv.proofs.Lists.{In-map}
 use Rattle.mxf_catalogue.specs.Content.{AreReduced, IsCatalogue, has_note, reduced_union}
 use Rattle.mxf_catalogue.proofs.HeadLaws.{AreReduced-reduced_union, IsContent-reduced_union, has-reduced_union, one_reduced}
 use Rattle.mxf_verify.specs.Comparing.{IsHeadOf, SharesHeldByte, is_head_of}
 use Rattle.mxf_verify.specs.Opposing.{is_had}
-use Rattle.mxf_verify.specs.Verifying.{DiffersIn, IsHeldBy}
+use Rattle.mxf_verify.specs.Readings.{all_notes}
+use Rattle.mxf_verify.specs.Verifications.{IsVerification, VerificationParts}
+use Rattle.mxf_verify.specs.Verifying.{DiffersIn, IsByteOf, IsDiffering, IsHeldBy, Source}
 use Rattle.mxf_verify.specs.Verifying.{Saved}
 use Rattle.mxf_verify.specs.VerificationLaws.{HasNoEmptyHead}
 use Rattle.mxf_verify.proofs.ComparingLaws.{head-by_test, holds_first}
 use Rattle.mxf_verify.proofs.OpposingLaws.{had-by_test}
+use Rattle.mxf_verify.proofs.VerificationLaws.{lies_or_not}
+use Rattle.mxf_verify.proofs.WholeLaws.{count_none, no_runs, none_of, none_runs}
 
 -- The reference has each note of the catalogue.
 abbrev HasEach : List NoteParts → List NoteParts → Type 0
@@ -114,15 +119,84 @@ module _ (reference saved : List NoteParts) where
             let before : at + 1 ≤ m.offset + 16 + m.width = below.before in
             omega arith
 
-pub agrees_joined : (reference saved : List NoteParts) → IsCatalogue reference → AreReduced reference
-    → HasNoEmptyHead reference
-    → (((n : NoteParts) → In n reference → ¬ DiffersIn reference n (Saved saved))
-    × ((at : ℕ) → IsHeldBy saved at → IsHeldBy reference at))
-    ↔ (reduced_union reference saved ≡ reference)
-agrees_joined reference saved is red heads =
-    let joined = joined_same reference saved is red in (
-      λ h. joined.0 (each_had reference saved h.0 h.1 heads),
-      λ e.
-          let each = joined.1 e in
-          (λ n i. none_differs reference saved each n, all_held reference saved each),
+-- All together have what one of them has.
+had_by_all : (m : NoteParts) (contents : List (List NoteParts)) (c : List NoteParts) → In c contents → has_note c m
+    → has_note (all_notes contents) m
+had_by_all m [] c i h = absurd i
+had_by_all m (d ∷ contents) c (inl e) h =
+    (has-reduced_union m d (all_notes contents)).1 (inl (subst (λ l. has_note l m) e h))
+had_by_all m (d ∷ contents) c (inr i) h =
+    (has-reduced_union m d (all_notes contents)).1 (inr (had_by_all m contents c i h))
+
+had_by_one : (m : NoteParts) (contents : List (List NoteParts)) → has_note (all_notes contents) m
+    → (c : List NoteParts) × In c contents × has_note c m
+had_by_one m [] (inl i) = absurd i
+had_by_one m [] (inr s) = absurd s.1
+had_by_one m (d ∷ contents) h =
+    elim ((has-reduced_union m d (all_notes contents)).0 h) [
+      | inl k ↦ (d, inl refl, k)
+      | inr k ↦ let s = had_by_one m contents k in (s.0, inr s.1, s.2)
+    ]
+
+-- The reference has each note of all catalogues exactly where it has each of each.
+module _ (reference : List NoteParts) (contents : List (List NoteParts)) where
+  each_of_all : HasEach reference (all_notes contents) → (c : List NoteParts) → In c contents → HasEach reference c
+  each_of_all each c i m j =
+      elim (had_by_all m contents c i (inl j)) [
+        | inl k ↦ each m k
+        | inr s ↦ has_head reference s.0 m (each s.0 s.1) s.2
+      ]
+
+  all_of_each : ((c : List NoteParts) → In c contents → HasEach reference c) → HasEach reference (all_notes contents)
+  all_of_each each m i =
+      let s = had_by_one m contents (inl i) in
+      elim s.2 [
+        | inl k ↦ each s.0 s.1 m k
+        | inr h ↦ has_head reference h.0 m (each s.0 s.1 h.0 h.1) h.2
+      ]
+
+module _ (reference : List NoteParts) (contents : List (List NoteParts)) (v : VerificationParts)
+    (told : IsVerification reference (map Saved contents) v) where
+  saved_source : (s : Source) → In s (map Saved contents) → (c : List NoteParts) × In c contents × (s ≡ Saved c)
+  saved_source s i = (In-map Saved contents s).0 i
+
+  source_saved : (c : List NoteParts) → In c contents → In (Saved c) (map Saved contents)
+  source_saved c i = (In-map Saved contents (Saved c)).1 (c, i, refl)
+
+  -- of those that say nothing else each note is had
+  each_told : HasNoEmptyHead reference → v.damaged ≡ 0 → v.unknown ≡ [] → (c : List NoteParts) → In c contents
+      → HasEach reference c
+  each_told heads none known c i =
+      each_had reference c
+      (λ n j d. none_of reference (IsDiffering reference (map Saved contents)) v.damaged told.damaged none n j
+      (Saved c, source_saved c i, d))
+      (λ at h. elim (lies_or_not v.held at) [
+        | inl l ↦ (told.held.offsets at).0 l
+        | inr f ↦ absurd (no_runs _ v.unknown told.unknown known at
+            ((Saved c, source_saved c i, h), λ k. f ((told.held.offsets at).1 k)))
+      ])
+      heads
+
+  -- and where each is had, nothing differs and nothing is unknown
+  told_nothing : ((c : List NoteParts) → In c contents → HasEach reference c) → (v.damaged ≡ 0) × (v.unknown ≡ [])
+  told_nothing each = (
+    count_none reference (IsDiffering reference (map Saved contents)) v.damaged told.damaged
+        (λ n i d.
+        let s = saved_source d.0 d.1 in
+        none_differs reference s.0 (each s.0 s.1) n (subst (DiffersIn reference n) s.2 d.2)),
+    none_runs v.unknown told.unknown.maximal
+        (λ at l.
+        let u = (told.unknown.offsets at).0 l in
+        let s = saved_source u.0.0 u.0.1 in
+        u.1 (all_held reference s.0 (each s.0 s.1) at (subst (λ x. IsByteOf x at) s.2 u.0.2))),
+  )
+
+pub agrees_joined : (reference : List NoteParts) (contents : List (List NoteParts)) (v : VerificationParts)
+    → IsCatalogue reference → AreReduced reference → HasNoEmptyHead reference
+    → IsVerification reference (map Saved contents) v
+    → ((v.damaged ≡ 0) × (v.unknown ≡ [])) ↔ (reduced_union reference (all_notes contents) ≡ reference)
+agrees_joined reference contents v is red heads told =
+    let joined = joined_same reference (all_notes contents) is red in (
+      λ h. joined.0 (all_of_each reference contents (each_told reference contents v told heads h.0 h.1)),
+      λ e. told_nothing reference contents v told (each_of_all reference contents (joined.1 e)),
     )

@@ -20,9 +20,9 @@ use Rattle.mxf_verify.specs.Verifying.{Bytes, Saved}
 use Rattle.mxf_verify.specs.Telling.{AreThose, notes_at}
 use Rattle.mxf_verify.specs.Verifications.{AreDiffering, AreRunsOf, IsCountOf, IsVerification, VerificationParts, parts_of}
 use Rattle.mxf_verify.specs.Seen.{IsHeaded, IsSeen, range_in}
-use Rattle.mxf_catalogue.specs.Covers.{IsCover, LiesIn-with_run, with_run}
+use Rattle.mxf_catalogue.specs.Covers.{LiesIn-with_run, with_run}
 use Rattle.mxf_catalogue.specs.NoteLists.{Covers}
-use Rattle.mxf_verify.specs.Finishing.{AreBytes, IsLeftOut, IsMet, IsWithinOne}
+use Rattle.mxf_verify.specs.Finishing.{AreBytes, IsLeftOut, IsMet, IsToldBy, IsWithinOne}
 use Rattle.mxf_verify.specs.declared.finishing.ToldBytes.{ToldBytes}
 use Rattle.mxf_verify.specs.declared.finishing.Uncompared.{Uncompared}
 use Rattle.mxf_verify.specs.declared.seen.Seen.{Seen}
@@ -419,17 +419,15 @@ cut_passed reference P cut n left rest rising (taken, e, those) steps lacks = (
 
 -- what is told of a reference beside sources, by what was seen of these
 pub verification_of : (reference : List NoteParts) (sources : List Source) (seen : Seen) (is : IsSeen reference sources seen)
-    (u : Uncompared) (b : ToldBytes) (v : VerificationParts) → v.all_packets ≡ length reference
-    → u.verified ≡ union_of [] seen.verified → v.packets ≡ length u.verified → IsContent u.damaged
+    (u : Uncompared) (b : ToldBytes) (cut : List NoteParts) (v : VerificationParts)
+    → IsToldBy reference u b (parts_of seen.differing.items) cut seen.came v
+    → u.verified ≡ union_of [] seen.verified → IsContent u.damaged
     → ((n : NoteParts) → In n u.damaged ↔ In n (map (λ (d : Differing). d.note.now) seen.differing.items))
-    → v.damaged ≡ length u.damaged → u.headed ≡ union_of [] seen.headed → SameOffsets u.read seen.ranges.items
-    → SameMembers u.reach seen.ranges.items → v.differing ≡ parts_of seen.differing.items
-    → AreThose reference (IsLeftOut u) v.cut → IsCover v.held → Covers v.held reference
-    → AreBytes reference u.verified u.damaged (seen.ranges.items ++ seen.beside.items) b → v.verified ≡ b.verified
-    → v.altered ≡ b.altered → v.unverified ≡ b.unverified → v.unknown ≡ b.unknown → v.came ≡ seen.came
+    → u.headed ≡ union_of [] seen.headed → SameOffsets u.read seen.ranges.items
+    → SameMembers u.reach seen.ranges.items → AreThose reference (IsLeftOut u) cut
+    → AreBytes reference u.verified u.damaged (seen.ranges.items ++ seen.beside.items) b
     → IsVerification reference sources v
-verification_of reference sources seen is u b v all verified packets rises damaged count headed read reach differing cut
-    cover held bytes same altered unverified unknown came =
+verification_of reference sources seen is u b cut v told verified rises damaged headed read reach those bytes =
     let verified_those : AreThose reference (IsVerified reference sources) u.verified =
     subst (AreThose reference (IsVerified reference sources)) (sym verified)
     (ordered_those reference seen.verified (IsVerified reference sources) is.verified) in
@@ -446,24 +444,25 @@ verification_of reference sources seen is u b v all verified packets rises damag
     } in
     let left = left_out_says reference sources seen is u verified_those.members damaged_those.members headed_those.members read reach in
     record {
-      all_packets = all;
-      packets = count_of reference (IsVerified reference sources) u.verified v.packets verified_those packets;
-      damaged = count_of reference (IsDiffering reference sources) u.damaged v.damaged damaged_those count;
-      differing = subst (AreDiffering reference 1 sources) (sym differing) is.differing;
-      cut = those_alike reference (IsLeftOut u) (IsCut reference sources) v.cut cut left;
-      held = record { maximal = cover.maximal; offsets = held };
-      verified = subst (AreRunsOf (IsVerifiedByte reference sources)) (sym same)
+      all_packets = told.all_packets;
+      packets = count_of reference (IsVerified reference sources) u.verified v.packets verified_those told.packets;
+      damaged = count_of reference (IsDiffering reference sources) u.damaged v.damaged damaged_those told.damaged;
+      differing = subst (AreDiffering reference 1 sources) (sym told.differing_are) is.differing;
+      cut = subst (AreThose reference (IsCut reference sources)) (sym told.cut_are)
+          (those_alike reference (IsLeftOut u) (IsCut reference sources) cut those left);
+      held = told.held;
+      verified = subst (AreRunsOf (IsVerifiedByte reference sources)) (sym told.verified)
           (runs_alike (IsHeldBy u.verified) (IsVerifiedByte reference sources) b.verified bytes.verified_are
           (held_alike reference u.verified (IsVerified reference sources) verified_those.members));
-      altered = subst (AreRunsOf (IsDifferingByte reference sources)) (sym altered)
+      altered = subst (AreRunsOf (IsDifferingByte reference sources)) (sym told.altered)
           (runs_alike (IsHeldBy u.damaged) (IsDifferingByte reference sources) b.altered bytes.altered_are
           (held_alike reference u.damaged (IsDiffering reference sources) damaged_those.members));
-      unverified = subst (AreRunsOf (IsUnverifiedByte reference sources)) (sym unverified)
+      unverified = subst (AreRunsOf (IsUnverifiedByte reference sources)) (sym told.unverified)
           (runs_alike _ (IsUnverifiedByte reference sources) b.unverified bytes.unverified_are
           (unverified_says verified_those damaged_those));
-      unknown = subst (AreRunsOf (IsUnknownByte reference sources)) (sym unknown)
+      unknown = subst (AreRunsOf (IsUnknownByte reference sources)) (sym told.unknown)
           (runs_alike _ (IsUnknownByte reference sources) b.unknown bytes.unknown_are (unknown_says reference sources seen is));
-      came = (λ h. is.came.0 (sym came ∙ h), λ h. came ∙ is.came.1 h);
+      came = (λ h. is.came.0 (sym told.came_is ∙ h), λ h. told.came_is ∙ is.came.1 h);
     }
   where
     unverified_says : AreThose reference (IsVerified reference sources) u.verified

@@ -1,13 +1,14 @@
 -- Holdings: what they say of sources, and where those of a note stand.
-use Rattle.std.proofs.Common.{◌≡◌, ◌↔◌, ◌⊎◌, ◌+◌, ◌≤◌, ◌<◌, ◌∙◌, ℕ, zero, suc, Bool, true, false, List, []}
-use Rattle.std.proofs.Common.{◌∷◌, IsTrue, refl, sym, ap, subst, inl, inr, arith, get_or, length, nat_cmp, nat_lt}
+use Rattle.std.proofs.Common.{◌≡◌, ◌↔◌, ◌⊎◌, ◌+◌, ◌≤◌, ◌<◌, ◌∙◌, ◌==◌, ◌&&◌, ◌||◌, not, cond, ℕ, zero, suc, Bool, true, false, List, []}
+use Rattle.std.proofs.Common.{◌∷◌, IsTrue, refl, sym, ap, subst, inl, inr, arith, get_or, eqb-true, length, nat_cmp, nat_lt}
 use Rattle.std.proofs.Common.{Ordering, Less, Equal, Greater, drop, filter, map, take}
-use Rattle.std.specs.List.{AllWithin}
+use Rattle.std.specs.List.{AllWithin, list_any}
 use Rattle.std.specs.List.Retain.{DiffersFromLast, IsFiltered}
 use Rattle.std.specs.List.Sorted.{IsNonDecreasingBy, IsPartitionedBy, IsPermutation, IsSorted, IsSortedByKey}
 use Rattle.std.specs.Ordering.{eq_by_cmp, is_eq, is_le, is_lt, ordering_index, ordering_reverse, ordering_then}
 use Rattle.std.proofs.lemmas.Bool.{ltb-false, ltb-true}
 use Rattle.std.proofs.lemmas.Cmp.{nat_cmp_total, tied_itself}
+use Rattle.std.proofs.lemmas.List.{length-map}
 use Rattle.std.proofs.lemmas.List.Sorted.{searchable_from_sorted}
 use Rattle.std.specs.FinSet.{nat_cmp-IsAntisymmetric}
 use Rattle.mxf_klv.specs.Parts.{NoteParts}
@@ -205,6 +206,78 @@ module _ (n : NoteParts) (hs : List HoldingParts) (a b : ℕ) (la : a ≤ length
       (λ k d l h. le_eq (note_cmp (get_or hs k d).note n) (from k d l (omega arith)) (up_to k d (omega arith) h))
       (λ k d l h. not_le (note_cmp (get_or hs k d).note n) (above k d l h))
 
+-- ---- whether there is one
+
+-- One is of the note, or none, or the second is too.
+first_one : (n : NoteParts) (hs : List HoldingParts) → IsRising holding_cmp hs
+    → AllWithin (λ h. is_lt (note_cmp h.note n) ≡ false) hs 0 (length hs)
+    → (list_any (is_of n) (take 1 hs) && not (list_any (is_of n) (take 1 (drop 1 hs)))) ≡ (length (filter (is_of n) hs) == 1)
+first_one n [] r f = refl
+first_one n (x ∷ hs) r f =
+    elim (is_of n x) as (λ b. is_of n x ≡ b
+    → ((b || false) && not (list_any (is_of n) (take 1 hs)))
+    ≡ (length (cond b (x ∷ filter (is_of n) hs) (filter (is_of n) hs)) == 1)) [
+      | true ↦ λ e. second hs r f
+      | false ↦ λ e. sym (ap (λ (l : List HoldingParts). length l == 1) (none_above n x hs r (f 0 x (omega arith) (omega arith)) e))
+    ] refl
+  where
+    -- What stands behind one that is above the note is of no such note.
+    none_above : (n : NoteParts) (y : HoldingParts) (hs : List HoldingParts) → IsRising holding_cmp (y ∷ hs)
+        → is_lt (note_cmp y.note n) ≡ false → is_of n y ≡ false → filter (is_of n) hs ≡ []
+    none_above n y hs r f e =
+        sym (passing_part (is_of n) hs 0 0 (omega arith) (omega arith) (λ k d l h. absurd (omega arith))
+        (λ k d l h. absurd (omega arith))
+        (λ k d l h. high (note_cmp y.note n) (note_cmp (get_or hs k d).note n) f e
+        (comparisons n (y ∷ hs) r 0 (suc k) d (omega arith) (omega arith))))
+      where
+        high : (o p : Ordering) → is_lt o ≡ false → is_eq o ≡ false → ordering_index o ≤ ordering_index p → is_eq p ≡ false
+        high Less p f e l = absurd cc
+        high Equal p f e l = absurd cc
+        high Greater Less f e l = refl
+        high Greater Equal f e l = absurd (omega arith)
+        high Greater Greater f e l = refl
+
+    more : (k : ℕ) → (suc (suc k) == 1) ≡ false
+    more k = elim (suc (suc k) == 1) as (λ b. (suc (suc k) == 1) ≡ b → b ≡ false) [
+      | true ↦ λ e. let two = eqb-true (suc (suc k)) 1 e in absurd (omega (arith, two))
+      | false ↦ λ e. refl
+    ] refl
+
+    second : (hs : List HoldingParts) → IsRising holding_cmp (x ∷ hs)
+        → AllWithin (λ h. is_lt (note_cmp h.note n) ≡ false) (x ∷ hs) 0 (length (x ∷ hs))
+        → not (list_any (is_of n) (take 1 hs)) ≡ (length (x ∷ filter (is_of n) hs) == 1)
+    second [] r f = refl
+    second (y ∷ hs) r f =
+        elim (is_of n y) as (λ b. is_of n y ≡ b → not (b || false)
+        ≡ (length (x ∷ cond b (y ∷ filter (is_of n) hs) (filter (is_of n) hs)) == 1)) [
+          | true ↦ λ e. sym (more (length (filter (is_of n) hs)))
+          | false ↦ λ e. sym (ap (λ (l : List HoldingParts). length (x ∷ l) == 1)
+              (none_above n y hs r.1 (f 1 y (omega arith) (omega arith)) e))
+        ] refl
+
+-- What stands ahead of those of the note makes no difference.
+from_one : (n : NoteParts) (hs : List HoldingParts) (at : ℕ) → IsRising holding_cmp hs → at ≤ length hs
+    → AllWithin (λ h. is_lt (note_cmp h.note n) ≡ true) hs 0 at
+    → AllWithin (λ h. is_lt (note_cmp h.note n) ≡ false) hs at (length hs)
+    → (list_any (is_of n) (take 1 (drop at hs)) && not (list_any (is_of n) (take 1 (drop 1 (drop at hs)))))
+    ≡ (length (filter (is_of n) hs) == 1)
+from_one n hs zero r l below above = first_one n hs r above
+from_one n [] (suc at) r l below above = absurd (omega arith)
+from_one n (x ∷ hs) (suc at) r l below above = rw (lt_not_eq (note_cmp x.note n) (below 0 x (omega arith) (omega arith)))
+    (from_one n hs at r.1 (omega (arith, l)) (λ k d a b. below (suc k) d (omega arith) (omega arith))
+    (λ k d a b. above (suc k) d (omega arith) (omega arith)))
+
+pub one_by : (n : NoteParts) (hs from : List HoldingParts) (at : ℕ) (first second : Bool) → IsRising holding_cmp hs
+    → at ≤ length hs → AllWithin (λ h. is_lt (note_cmp h.note n) ≡ true) hs 0 at
+    → AllWithin (λ h. is_lt (note_cmp h.note n) ≡ false) hs at (length hs) → from ≡ drop at hs
+    → first ≡ list_any (is_of n) (take 1 from) → second ≡ list_any (is_of n) (take 1 (drop 1 from))
+    → (first && not second) ≡ (length (filter (is_of n) hs) == 1)
+one_by n hs from at first second r l below above is p q =
+    ap (λ b. b && not second) p
+    ∙ ap (λ b. list_any (is_of n) (take 1 from) && not b) q
+    ∙ ap (λ xs. list_any (is_of n) (take 1 xs) && not (list_any (is_of n) (take 1 (drop 1 xs)))) is
+    ∙ from_one n hs at r l below above
+
 -- ---- their sources
 
 then_less : (a b : Ordering) → a ≡ Equal → ordering_then a b ≡ Less → b ≡ Less
@@ -262,3 +335,9 @@ run_sources n contents hs are =
             refl,
           ),
     ))
+
+-- As many are of the note as sources have it.
+pub run_length : (n : NoteParts) (contents : List (List NoteParts)) (hs : List HoldingParts)
+    → AreHoldings contents hs → length (filter (is_of n) hs) ≡ length (sources_of n contents)
+run_length n contents hs are =
+    sym (length-map (filter (is_of n) hs) (λ (h : HoldingParts). h.source)) ∙ ap length (run_sources n contents hs are)

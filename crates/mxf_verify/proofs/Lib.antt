@@ -8,6 +8,7 @@ pub mod ComparingLaws
 pub mod FinishingLaws
 pub mod FixityLaws
 pub mod HoldingLaws
+pub mod OneByteLaws
 pub mod OpposingLaws
 pub mod OtherLaws
 pub mod RangeLaws
@@ -27,6 +28,7 @@ pub mod TouchedUnitLaws
 pub mod UnitLaws
 pub mod UnitRunLaws
 pub mod VerificationLaws
+pub mod VerifiedUnitLaws
 pub mod VerifyingLaws
 pub mod WholeLaws
 pub mod WholePackets

@@ -88,7 +88,7 @@ reference_laid reference is =
 -- ---- what is said where everything is the same
 
 -- of none there is none
-none_of : (reference : List NoteParts) (P : NoteParts → Type 0) (count : ℕ) → IsCountOf reference P count → count ≡ 0
+pub none_of : (reference : List NoteParts) (P : NoteParts → Type 0) (count : ℕ) → IsCountOf reference P count → count ≡ 0
     → (n : NoteParts) → In n reference → ¬ P n
 none_of reference P count is e n i p = empty is.notes ((is.those.members n).1 (i, p)) (sym is.count_is ∙ e)
   where
@@ -96,14 +96,23 @@ none_of reference P count is e n i p = empty is.notes ((is.those.members n).1 (i
     empty [] j z = absurd j
     empty (m ∷ ns) j z = absurd (omega arith)
 
+pub count_none : (reference : List NoteParts) (P : NoteParts → Type 0) (count : ℕ) → IsCountOf reference P count
+    → ((n : NoteParts) → In n reference → ¬ P n) → count ≡ 0
+count_none reference P count is none =
+    is.count_is ∙ empty is.notes (λ n k. let m = (is.those.members n).0 k in none n m.0 m.1)
+  where
+    empty : (ns : List NoteParts) → ((n : NoteParts) → In n ns → ⊥) → length ns ≡ 0
+    empty [] none = refl
+    empty (n ∷ ns) none = absurd (none n (inl refl))
+
 -- runs of no offset are none
-none_runs : (runs : List Run) → AreMaximal 0 runs → ((at : ℕ) → LiesIn runs at → ⊥) → runs ≡ []
+pub none_runs : (runs : List Run) → AreMaximal 0 runs → ((at : ℕ) → LiesIn runs at → ⊥) → runs ≡ []
 none_runs [] maximal none = refl
 none_runs (r ∷ runs) maximal none =
     let order : r.start < r.end = maximal.1 in
     absurd (none r.start (r, inl refl, record { from = omega arith; before = omega arith }))
 
-no_runs : (P : ℕ → Type 0) (runs : List Run) → AreRunsOf P runs → runs ≡ [] → (at : ℕ) → ¬ P at
+pub no_runs : (P : ℕ → Type 0) (runs : List Run) → AreRunsOf P runs → runs ≡ [] → (at : ℕ) → ¬ P at
 no_runs P runs are e at p =
     let h : LiesIn [] at = subst (λ l. LiesIn l at) e ((are.offsets at).1 p) in h.1
 
@@ -190,18 +199,13 @@ module _ (reference : List NoteParts) (bytes : List ℕ) (v : VerificationParts)
     pub says_whole : SaysWhole v
     says_whole = record {
       some = some_packets;
-      differs = no_packets told.damaged.notes
-          (λ n k. let m = (told.damaged.those.members n).0 k in none_differs n m.0 m.1) told.damaged.count_is;
+      differs = count_none reference (IsDiffering reference (Bytes 0 bytes ∷ [])) v.damaged told.damaged none_differs;
       verified = none_runs v.unverified told.unverified.maximal
           (λ at h. let b = (told.unverified.offsets at).0 h in
           b.1 (b.0.0, b.0.1, verified_there b.0.0 b.0.1, b.0.2));
       known = none_runs v.unknown told.unknown.maximal (λ at h. unknown at ((told.unknown.offsets at).0 h));
     }
       where
-        no_packets : (ns : List NoteParts) → ((n : NoteParts) → In n ns → ⊥) → v.damaged ≡ length ns → v.damaged ≡ 0
-        no_packets [] none e = e
-        no_packets (n ∷ ns) none e = absurd (none n (inl refl))
-
         some_in : (ns : List NoteParts) (n : NoteParts) → In n ns → 0 < length ns
         some_in [] n i = absurd i
         some_in (m ∷ ns) n i = omega arith

@@ -1,11 +1,11 @@
 -- What all sources together say of the notes of a reference, by what each said (this project's profile).
-use Rattle.std.specs.Prelude.{◌⊎◌, ◌<◌, ◌≤◌, ℕ, List}
+use Rattle.std.specs.Prelude.{◌≡◌, ◌⊎◌, ◌<◌, ◌≤◌, ℕ, Bool, List, length}
 use Rattle.mxf_klv.specs.Note.{covered_end}
 use Rattle.mxf_klv.specs.Parts.{NoteParts}
 use Rattle.mxf_klv.specs.Rising.{In}
 use Rattle.mxf_catalogue.specs.Runs.{LiesIn}
 use Rattle.mxf_catalogue.specs.declared.run.Run.{Run}
-use Rattle.mxf_verify.specs.Verifications.{AreRunsOf}
+use Rattle.mxf_verify.specs.Verifications.{AreRunsOf, DifferingParts, VerificationParts}
 use Rattle.mxf_verify.specs.Verifying.{IsHeldBy}
 use Rattle.mxf_verify.specs.declared.finishing.ToldBytes.{ToldBytes}
 use Rattle.mxf_verify.specs.declared.finishing.Uncompared.{Uncompared}
@@ -32,3 +32,19 @@ pub record AreBytes (reference verified damaged : List NoteParts) (came : List R
   pub altered_are : AreRunsOf (IsHeldBy damaged) b.altered
   pub unverified_are : AreRunsOf (λ at. IsHeldBy reference at × ¬ IsHeldBy verified at × ¬ IsHeldBy damaged at) b.unverified
   pub unknown_are : AreRunsOf (λ at. LiesIn came at × ¬ IsHeldBy reference at) b.unknown
+
+-- What is told is what these say: of the reference, of the notes that are the same or differ and of the bytes; which notes
+-- differ where, which are cut, and whether a byte came.
+pub record IsToldBy (reference : List NoteParts) (u : Uncompared) (b : ToldBytes) (differing : List DifferingParts)
+    (cut : List NoteParts) (came : Bool) (v : VerificationParts) : Type 0 where
+  pub all_packets : v.all_packets ≡ length reference
+  pub packets : v.packets ≡ length u.verified
+  pub damaged : v.damaged ≡ length u.damaged
+  pub differing_are : v.differing ≡ differing
+  pub cut_are : v.cut ≡ cut
+  pub held : AreRunsOf (IsHeldBy reference) v.held
+  pub verified : v.verified ≡ b.verified
+  pub altered : v.altered ≡ b.altered
+  pub unverified : v.unverified ≡ b.unverified
+  pub unknown : v.unknown ≡ b.unknown
+  pub came_is : v.came ≡ came

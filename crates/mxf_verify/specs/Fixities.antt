@@ -28,6 +28,14 @@ abbrev pub LiesWholeIn : List Run → Extent → Type 0
 LiesWholeIn runs e =
     (end : ℕ) × (e.end ≡ Some end) × ((at : ℕ) → e.start ≤ at → at < end → LiesIn runs at)
 
+-- It is known where the unit lies and ends, and this holds of each of its bytes.
+pub record HasEachByte (P : ℕ → Type 0) (unit : EditUnit) : Type 0 where
+  pub extent : Extent
+  pub end : ℕ
+  pub lies : unit.extent ≡ Some extent
+  pub ends : extent.end ≡ Some end
+  pub bytes : (at : ℕ) → extent.start ≤ at → at < end → P at
+
 -- How bytes of an extent stand, where these runs are verified and those differ.
 abbrev pub IsFixityIn : List Run → List Run → Extent → UnitFixity → Type 0
 IsFixityIn verified altered e Differs = Meets altered e

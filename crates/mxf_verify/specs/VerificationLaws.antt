@@ -1,5 +1,5 @@
 -- What is said of references and sources in the laws of verifications (this project's profile).
-use Rattle.std.specs.Prelude.{◌≡◌, ◌≢◌, ◌↔◌, ◌<◌, ℕ, IsTrue, List, []}
+use Rattle.std.specs.Prelude.{◌≡◌, ◌≢◌, ◌↔◌, ◌+◌, ◌<◌, ℕ, IsTrue, List, [], drop, length, take}
 use Rattle.mxf_klv.specs.Note.{end_of}
 use Rattle.mxf_klv.specs.Parts.{NoteParts}
 use Rattle.mxf_klv.specs.Rising.{In}
@@ -11,6 +11,12 @@ use Rattle.mxf_verify.specs.Verifying.{IsCut, IsDiffering, IsHeldBy, IsUnknownBy
 -- Each note of the reference is clear: of a packet that was read whole, and no other shares a byte with it.
 abbrev pub AreAllClear : List NoteParts → Type 0
 AreAllClear reference = (n : NoteParts) → In n reference → IsClear n reference
+
+-- The bytes are as many, and the same but for the one at a place.
+pub record AreOneByteApart (at : ℕ) (a b : List ℕ) : Type 0 where
+  pub as_many : length a ≡ length b
+  pub ahead : take at a ≡ take at b
+  pub behind : drop (at + 1) a ≡ drop (at + 1) b
 
 -- No offset below the end of a note is missing.
 abbrev pub HasNoGap : List NoteParts → Type 0

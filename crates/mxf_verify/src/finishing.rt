@@ -7,9 +7,9 @@ ghost use Rattle.mxf_catalogue.specs.Content.{IsContent};
 ghost use Rattle.mxf_catalogue.specs.Covers.{IsCover};
 ghost use Rattle.mxf_catalogue.specs.Runs.{LiesIn, SameOffsets};
 ghost use Rattle.mxf_klv.specs.Parts.{NoteParts};
-ghost use Rattle.mxf_verify.specs.Finishing.{AreBytes};
+ghost use Rattle.mxf_verify.specs.Finishing.{AreBytes, IsToldBy};
 ghost use Rattle.mxf_verify.specs.Seen.{IsSeen};
-ghost use Rattle.mxf_verify.specs.Verifications.{IsVerification};
+ghost use Rattle.mxf_verify.specs.Verifications.{IsVerification, parts_of};
 ghost use Rattle.mxf_verify.specs.Verifying.{Source};
 
 use crate::note_set::{NoteSet, OrderedNotes};
@@ -43,32 +43,36 @@ pub(crate) fn finish<'a>(
     let bytes = bytes_told(alloc, catalogue, &verified, &damaged, &ranges, &beside)?;
     let uncompared = Uncompared::of(alloc, verified, damaged, headed.into_ordered(), ranges)?;
     let cut = uncompared.cut_of(alloc, catalogue)?;
+    Ok(told(catalogue, bytes, uncompared, cut, differing, came))
+}
+
+/// What these say of a catalogue.
+fn told<'a>(
+    catalogue: &'a Catalogue,
+    bytes: ToldBytes,
+    uncompared: Uncompared<'a>,
+    cut: Vec<CutNote<'a>>,
+    differing: Vec<Differing<'a>>,
+    came: bool,
+) -> Verification<'a>
+    ensures { IsToldBy catalogue.now uncompared.entry bytes (parts_of differing.entry.items)
+        (map (λ c. c.note.now) cut.entry.items) came result }
+{
     let held = catalogue.spans();
     let _ = held.runs();
-    let Uncompared {
-        verified,
-        damaged,
-        ..
-    } = uncompared;
-    let ToldBytes {
-        verified: verified_bytes,
-        altered,
-        unverified,
-        unknown,
-    } = bytes;
-    Ok(Verification {
+    Verification {
         all_packets: catalogue.len(),
-        packets: verified.len(),
-        damaged: damaged.len(),
+        packets: uncompared.verified.len(),
+        damaged: uncompared.damaged.len(),
         differing,
         cut,
         held,
-        verified: verified_bytes,
-        altered,
-        unverified,
-        unknown,
+        verified: bytes.verified,
+        altered: bytes.altered,
+        unverified: bytes.unverified,
+        unknown: bytes.unknown,
         came,
-    })
+    }
 }
 
 /// The notes that differ in some source, each once, in their order. A reference has so many notes.

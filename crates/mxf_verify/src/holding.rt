@@ -1,6 +1,6 @@
 //! Which source holds which note, in the order of notes.
-ghost use Rattle.std.specs.Prelude.{◌≡◌, ◌≤◌, ◌++◌, true, false, drop, filter, length, map, take, IfOk, OnOk};
-ghost use Rattle.std.specs.List.{AllWithin};
+ghost use Rattle.std.specs.Prelude.{◌≡◌, ◌==◌, ◌≤◌, ◌++◌, true, false, drop, filter, length, map, take, IfOk, OnOk};
+ghost use Rattle.std.specs.List.{AllWithin, list_any};
 ghost use Rattle.std.specs.Ordering.{is_le, is_lt};
 ghost use Rattle.mxf_klv.specs.Note.{note_cmp};
 ghost use Rattle.mxf_klv.specs.Rising.{IsRising};
@@ -34,6 +34,13 @@ impl<'a> Holding<'a> {
         ensures { result ≡ self.now.source }
     {
         self.source
+    }
+
+    /// Whether it is of a note.
+    fn is_of(&self, note: &Note) -> bool
+        ensures { result ≡ is_of note.now self.now }
+    {
+        self.note.cmp(note) == Ordering::Equal
     }
 
     /// Whether its note stands below another.
@@ -168,6 +175,26 @@ pub(crate) fn range(holdings: &[Holding<'_>], note: &Note) -> (usize, usize)
     let from = count_below(holdings, note);
     let to = count_up_to(holdings, note);
     (from, to)
+}
+
+/// Whether one source alone has a note: a binary search.
+pub(crate) fn has_one(holdings: &[Holding<'_>], note: &Note) -> bool
+    requires { IsRising holding_cmp holdings.now }
+    ensures { result ≡ (length (filter (is_of note.now) holdings.now) == 1) }
+{
+    let at = count_below(holdings, note);
+    let (_, from) = holdings.split_at(at);
+    is_at(from, 0, note) && !is_at(from, 1, note)
+}
+
+/// Whether the holding at a place is of a note; not where none is there.
+fn is_at(holdings: &[Holding<'_>], at: usize, note: &Note) -> bool
+    ensures { result ≡ list_any (is_of note.now) (take 1 (drop at holdings.now)) }
+{
+    match holdings.get(at) {
+        Some(holding) => holding.is_of(note),
+        None => false,
+    }
 }
 
 /// How many holdings are of notes below another.

@@ -1,6 +1,6 @@
 //! Laws of what is told of a reference beside sources.
-ghost use Rattle.std.specs.Prelude.{◌≡◌, ◌↔◌, ◌⊎◌, ◌++◌, ◌<◌, ◌≤◌, [], ◌∷◌, ℕ, List, length};
-ghost use Rattle.std.specs.List.{AllByRecursion};
+ghost use Rattle.std.specs.Prelude.{◌≡◌, ◌↔◌, ◌⊎◌, ◌+◌, ◌++◌, ◌<◌, ◌≤◌, [], ◌∷◌, ℕ, List, drop, length, map};
+ghost use Rattle.sha2.specs.Sha256.{sha256};
 ghost use Rattle.mxf_klv.specs.Bytes.{AreBytes};
 ghost use Rattle.mxf_klv.specs.Note.{IsCovered, greatest_end};
 ghost use Rattle.mxf_klv.specs.Parts.{NoteParts};
@@ -9,8 +9,10 @@ ghost use Rattle.mxf_klv.specs.Rising.{In, SameMembers};
 ghost use Rattle.mxf_klv.specs.declared.piece.Stop.TheVariants as stops;
 ghost use Rattle.mxf_catalogue.specs.Content.{AreReduced, IsCatalogue, reduced_union};
 ghost use Rattle.mxf_catalogue.specs.Runs.{LiesIn};
-ghost use Rattle.mxf_verify.specs.VerificationLaws.{AreAllClear, HasNoEmptyHead, IsWholeReference, SaysSame, SaysWhole};
+ghost use Rattle.mxf_verify.specs.Readings.{all_notes};
+ghost use Rattle.mxf_verify.specs.VerificationLaws.{AreAllClear, AreOneByteApart, HasNoEmptyHead, IsWholeReference, SaysSame, SaysWhole};
 ghost use Rattle.mxf_verify.specs.Verifications.{DifferingParts, IsVerification, VerificationParts};
+ghost use Rattle.mxf_verify.specs.Verifying.{IsSaidBy, front_size, held_size};
 ghost use Rattle.mxf_verify.specs.Verifying.{DiffersIn, IsAmong, IsCut, IsDiffering, IsHeldBy, IsSameIn, IsUnknownByte};
 ghost use Rattle.mxf_verify.specs.Verifying.{IsUnverifiedByte, IsVerified, Source, Bytes, Saved};
 
@@ -50,6 +52,20 @@ pub fn each_compared_note_is_the_same_or_differs()
         → IsSameIn reference n (Bytes offset bytes) → DiffersIn reference n (Bytes offset bytes) → ⊥ }
 {}
 
+/// A law of [`verify`](crate::verify): of bytes in which no note of a clear reference differs one is changed. Then no note
+/// differs but the one that holds that byte. That one does, or its value was changed to another with the same digest: two
+/// stretches of bytes of which a note says all are one.
+pub fn a_changed_byte_is_of_one_note()
+    ensures alone { (reference : List NoteParts) (n m : NoteParts) (offset at : ℕ) (a b : List ℕ)
+        → IsCatalogue reference → AreAllClear reference → AreOneByteApart at a b
+        → In n reference → IsCovered n (offset + at)
+        → ((x : NoteParts) → In x reference → ¬ DiffersIn reference x (Bytes offset a))
+        → In m reference → DiffersIn reference m (Bytes offset b) → m ≡ n }
+    ensures said { (n : NoteParts) (a b : List ℕ) → IsSaidBy n a → IsSaidBy n b
+        → length a ≡ held_size n → length b ≡ held_size n
+        → (a ≡ b) ⊎ (sha256 (drop (front_size n) a) ≡ sha256 (drop (front_size n) b)) }
+{}
+
 /// A law of [`verify`](crate::verify): what is said depends on which sources there are, and not on their order or repeats; and
 /// further sources only add to what is the same.
 pub fn verifications_are_of_a_set_of_sources()
@@ -58,14 +74,14 @@ pub fn verifications_are_of_a_set_of_sources()
         → IsVerified reference sources n → IsVerified reference (sources ++ more) n }
 {}
 
-/// A law of [`verify`](crate::verify): of a saved catalogue nothing differs and nothing is unknown exactly where joining it into
-/// the reference leaves that as it is. No reading makes a head of a packet without a value.
-pub fn a_catalogue_agrees_where_joining_it_changes_nothing()
-    ensures { (reference saved : List NoteParts) → IsCatalogue reference → AreReduced reference
-        → IsCatalogue saved → AreReduced saved → HasNoEmptyHead reference
-        → (((n : NoteParts) → In n reference → ¬ DiffersIn reference n (Saved saved))
-        × ((at : ℕ) → IsHeldBy saved at → IsHeldBy reference at))
-        ↔ (reduced_union reference saved ≡ reference) }
+/// A law of [`verify`](crate::verify): where all sources are saved catalogues, nothing differs and nothing is unknown exactly
+/// where joining them into the reference leaves that as it is. The reference has no head of a packet without a value: its
+/// packet holds no byte more than it, so none is unknown where a catalogue has that.
+pub fn catalogues_agree_where_joining_them_changes_nothing()
+    ensures { (reference : List NoteParts) (contents : List (List NoteParts)) (v : VerificationParts)
+        → IsCatalogue reference → AreReduced reference → HasNoEmptyHead reference
+        → IsVerification reference (map Saved contents) v
+        → ((v.damaged ≡ 0) × (v.unknown ≡ [])) ↔ (reduced_union reference (all_notes contents) ≡ reference) }
 {}
 
 /// A law of [`verify`](crate::verify): of all packets of a file, from its first byte on, clear and without a gap, everything is the

@@ -10,8 +10,8 @@
 //!   [`renewals_join_what_agrees`];
 //! - what sources have of a reference, bytes that are read by its notes or saved catalogues: which notes are the same, which
 //!   differ, what wasn't compared: [`verify`], [`Verification`], [`one_verification`], [`verifications_tell_what_is_so`],
-//!   [`each_compared_note_is_the_same_or_differs`], [`verifications_are_of_a_set_of_sources`],
-//!   [`a_catalogue_agrees_where_joining_it_changes_nothing`], [`a_whole_reference_is_verified_by_its_packets`];
+//!   [`each_compared_note_is_the_same_or_differs`], [`a_changed_byte_is_of_one_note`], [`verifications_are_of_a_set_of_sources`],
+//!   [`catalogues_agree_where_joining_them_changes_nothing`], [`a_whole_reference_is_verified_by_its_packets`];
 //! - how the edit units of an index stand beside sources, and which of them a packet has a byte of: [`VerifiedUnits`],
 //!   [`one_fixity`], [`one_account_of_units`].
 //!
@@ -47,8 +47,8 @@ mod verifying;
 pub use comparing::contradictions_by_definition;
 pub use fixity::{UnitFixity, one_fixity};
 pub use laws::{
-    a_catalogue_agrees_where_joining_it_changes_nothing,
-    a_whole_reference_is_verified_by_its_packets, each_compared_note_is_the_same_or_differs,
+    a_changed_byte_is_of_one_note, a_whole_reference_is_verified_by_its_packets,
+    catalogues_agree_where_joining_them_changes_nothing, each_compared_note_is_the_same_or_differs,
     one_verification, verifications_are_of_a_set_of_sources, verifications_tell_what_is_so,
 };
 pub use opposing::{Opposing, oppositions_by_definition};
@@ -60,5 +60,7 @@ pub use renewal::{
 };
 pub use unit_places::{UnitSpan, touched_units_by_definition};
 pub use verification::{CutNote, Differing, Verification, VerifiedCounts};
-pub use verified_units::{UnitRun, VerifiedUnits, one_account_of_units};
+pub use verified_units::{
+    UnitRun, VerifiedUnits, one_account_of_units, verified_units_have_verified_bytes,
+};
 pub use verifying::{VerifyFault, verify};

@@ -14,7 +14,7 @@ use std::cmp::Ordering;
 use std::marker::Model;
 
 /// A note of a reference, in a set of them. It compares as the note does.
-#[derive(Debug, Drop)]
+#[derive(Drop)]
 pub(crate) struct Member<'a> {
     note: &'a Note,
 }
@@ -94,7 +94,7 @@ impl<'a> Ord for Member<'a> {
 }
 
 /// Notes of a reference. One may stand in it more than once until they are put in order.
-#[derive(Debug, Drop)]
+#[derive(Drop)]
 pub(crate) struct NoteSet<'a> {
     members: Vec<Member<'a>>,
     /// Where there are more, they are put in order, so that it takes no more memory than twice their number.
@@ -161,7 +161,7 @@ fn put_in_order(members: &mut Vec<Member<'_>>)
 }
 
 /// Notes of a reference, each once, in their order.
-#[derive(Debug, Drop)]
+#[derive(Drop)]
 pub(crate) struct OrderedNotes<'a> {
     members: Vec<Member<'a>>,
 }

@@ -36,7 +36,7 @@ impl From<ReadFault> for PartFault {
 }
 
 /// What one read came to.
-#[derive(Clone, Copy, Debug, Drop, PartialEq, Eq)]
+#[derive(Clone, Copy, Drop)]
 pub(crate) enum Step {
     /// So many bytes came.
     Took(usize),

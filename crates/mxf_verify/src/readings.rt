@@ -9,7 +9,7 @@ ghost use Rattle.mxf_catalogue.specs.Content.{AreReduced, IsContent, IsLocated, 
 ghost use Rattle.mxf_verify.specs.Readings.{IsAlone, IsDisputedThere, IsHeld, all_notes, content_of, counts_of};
 ghost use Rattle.mxf_verify.specs.Readings.{is_alone, is_disputed_there, is_held, sources_of};
 
-use crate::holding::{Holding, holdings, range, source_numbers};
+use crate::holding::{Holding, has_one, holdings, range, source_numbers};
 use mxf_catalogue::{Catalogue, Semilattice};
 use mxf_klv::{Note, OutOfMemory};
 use std::alloc::Global;
@@ -129,11 +129,12 @@ impl<'a> Readings<'a> {
         }
     }
 
-    /// Whether a note that some source has is one of all, and no other source has it.
+    /// Whether a note is one of all, and one source alone has it: a binary search, and of a head two. The note of a whole
+    /// packet that some source has is one of all.
     fn is_alone(&self, note: &Note) -> bool
         ensures { result ≡ is_alone self.now note.now }
     {
-        is_held(&self.all, note) && self.sources_of(note).len() == 1
+        has_one(&self.holdings, note) && (!note.is_head() || is_held(&self.all, note))
     }
 
     /// Whether a note is one of all, and disputed there.

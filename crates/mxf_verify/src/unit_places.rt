@@ -22,7 +22,7 @@ pub struct UnitSpan {
 }
 
 /// Where an edit unit lies.
-#[derive(Clone, Copy, Debug, PartialEq, Eq)]
+#[derive(Clone, Copy)]
 pub(crate) struct UnitPlace {
     pub unit: u64,
     pub extent: Extent,

@@ -3,12 +3,16 @@ ghost use Rattle.std.specs.Prelude.{◌≡◌, ◌↔◌, ◌+◌, ◌++◌, ◌
 ghost use Rattle.std.specs.Prelude.{Option, filter};
 ghost use Rattle.std.specs.List.{cons_option};
 ghost use Rattle.mxf_klv.specs.Parts.{NoteParts};
-ghost use Rattle.mxf_klv.specs.Rising.{SameMembers};
+ghost use Rattle.mxf_klv.specs.Rising.{In, SameMembers};
 ghost use Rattle.mxf_catalogue.specs.Runs.{LiesIn};
 ghost use Rattle.mxf_catalogue.specs.declared.run.Run.{Run};
 ghost use Rattle.mxf_units.specs.Units.{UnitsParts, unit_of};
-ghost use Rattle.mxf_verify.specs.Fixities.{AreUnitRuns, AreUnitsOf, AreVerifiedUnits, IsFixityIn, IsFixityOf};
-ghost use Rattle.mxf_verify.specs.Fixities.{LiesWholeIn, Meets, VerifiedUnitsParts, is_verified, place_of, places_of};
+ghost use Rattle.mxf_verify.specs.Fixities.{AreUnitRuns, AreUnitsOf, AreVerifiedUnits, HasEachByte, IsFixityIn};
+ghost use Rattle.mxf_verify.specs.Fixities.{IsFixityOf, LiesWholeIn, Meets, VerifiedUnitsParts, is_verified, place_of};
+ghost use Rattle.mxf_verify.specs.Fixities.{places_of};
+ghost use Rattle.mxf_verify.specs.Verifications.{IsVerification, VerificationParts};
+ghost use Rattle.mxf_verify.specs.Verifying.{IsVerifiedByte, Source};
+ghost use Rattle.mxf_verify.specs.declared.fixity.UnitFixity.TheVariants.{Verified};
 ghost use Rattle.mxf_verify.specs.Fixities.{units_in};
 ghost use Rattle.mxf_verify.specs.declared.unit_places.UnitPlace.{UnitPlace};
 ghost use Rattle.mxf_verify.specs.declared.unit_places.UnitSpan.{UnitSpan};
@@ -273,4 +277,14 @@ pub fn one_account_of_units()
         → a.runs ≡ b.runs }
     ensures spans { (places others : List UnitPlace) (n : NoteParts) (a b : Option UnitSpan)
         → SameMembers places others → AreUnitsOf places n a → AreUnitsOf others n b → a ≡ b }
+{}
+
+/// A law of [`VerifiedUnits`]: it is known where a verified unit lies and ends, and each byte of it is one of a note that
+/// some source has as the reference says.
+pub fn verified_units_have_verified_bytes()
+    ensures { (reference : List NoteParts) (sources : List Source) (v : VerificationParts) (units : UnitsParts)
+        (from to : ℕ) (told : VerifiedUnitsParts) (r : UnitRun) (unit : ℕ) → IsVerification reference sources v
+        → AreVerifiedUnits v.verified v.altered units from to told → In r told.runs → r.fixity ≡ Verified
+        → r.first ≤ unit → unit ≤ r.last
+        → HasEachByte (IsVerifiedByte reference sources) (unit_of units.notes units.index_sid unit) }
 {}

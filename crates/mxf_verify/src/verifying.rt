@@ -54,7 +54,8 @@ impl From<OutOfMemory> for VerifyFault {
 /// is looked for in them: bytes that no longer look like packets are judged like all others. 1,099,511,627,776 bytes of
 /// each are read at most, and none at or above [`MAX`]. A saved catalogue is its content.
 ///
-/// It takes memory for each note of the reference, one buffer, and of catalogues what [`gather`] takes of each by itself.
+/// It takes memory for each note of the reference, two buffers of 65,536 bytes, and of catalogues what [`gather`] takes of
+/// each by itself.
 /// The first part that is at fault ends it. The parts are dropped in every case.
 pub fn verify<'a, R: Read + Drop>(
     alloc: Global,
