@@ -1,8 +1,11 @@
 -- Where the status of a verification is 0.
-use Rattle.std.proofs.Common.{◌≡◌, ◌≢◌, ◌↔◌, ◌+◌, ◌-◌, ◌<◌, ◌≤◌, ◌∙◌, ◌==◌, ◌&&◌, ℕ, Bool, true, false, not, cond}
+use Rattle.std.proofs.Common.{◌≡◌, ◌≢◌, ◌↔◌, ◌+◌, ◌-◌, ◌<◌, ◌≤◌, ◌∙◌, ◌==◌, ◌&&◌, ℕ, zero, suc, Bool, true, false, not, cond}
 use Rattle.std.proofs.Common.{List, [], ◌∷◌, None, Some, Option, filter, length, inl, inr, refl, sym, ap, subst, arith}
 use Rattle.std.specs.List.{list_all}
+use Rattle.mxf_klv.specs.Bytes.{AreBytes}
+use Rattle.mxf_klv.specs.Note.{greatest_end}
 use Rattle.mxf_klv.specs.Parts.{NoteParts}
+use Rattle.mxf_klv.specs.PieceReading.{notes_in, stop_in}
 use Rattle.mxf_klv.specs.Rising.{In}
 use Rattle.mxf_klv.specs.declared.piece.Stop.{Stop}
 use Rattle.mxf_klv.specs.declared.piece.Stop.TheVariants.{BadLength, End, NoStart, NotUl, TooFar, Truncated}
@@ -13,13 +16,16 @@ use Rattle.mxf_catalogue.specs.declared.run.Run.{Run}
 use Rattle.mxf_read.specs.declared.gathering.report.PieceReport.{PieceReport}
 use Rattle.mxf_units.specs.Units.{UnitsParts}
 use Rattle.mxf_verify.specs.Fixities.{AreUnitRuns, AreVerifiedUnits, VerifiedUnitsParts, is_verified, units_in}
+use Rattle.mxf_verify.specs.VerificationLaws.{IsWholeReference}
 use Rattle.mxf_verify.specs.Verifications.{AreRunsOf, IsCountOf, IsVerification, VerificationParts}
 use Rattle.mxf_verify.specs.Verifying.{IsDiffering, IsUnknownByte, IsUnverifiedByte, IsVerified, Source}
+use Rattle.mxf_verify.specs.Verifying.{Bytes}
+use Rattle.mxf_verify.proofs.WholeLaws.{count_none, no_runs, none_of, none_runs, whole_says}
 use Rattle.mxf_verify.specs.declared.fixity.UnitFixity.{UnitFixity}
 use Rattle.mxf_verify.specs.declared.fixity.UnitFixity.TheVariants.{Differs, Part, Unplaced, Unverified, Verified}
 use Rattle.mxf_verify.specs.declared.verified_units.UnitRun.{UnitRun}
 use Rattle.mxf_lines.specs.VerificationLines.{has_none, is_good, is_noted, verification_status, verified_in}
-use Rattle.mxf_lines.specs.VerifiedStatus.{AreAllVerified, IsAllKnown, IsAsItSays, IsNoted}
+use Rattle.mxf_lines.specs.VerifiedStatus.{AreAllVerified, AreNoted, IsAllKnown, IsAsItSays, IsNoted}
 
 -- ---- tests
 
@@ -64,32 +70,18 @@ noted_of s (inr t) = ap is_noted t.1
 
 -- ---- counts and runs
 
-none_in : (ns : List NoteParts) → ((n : NoteParts) → In n ns → ⊥) → length ns ≡ 0
-none_in [] none = refl
-none_in (n ∷ ns) none = absurd (none n (inl refl))
-
 first_of : (ns : List NoteParts) → length ns ≢ 0 → (n : NoteParts) × In n ns
 first_of [] some = absurd (some refl)
 first_of (n ∷ ns) some = (n, inl refl)
 
-not_none : (ns : List NoteParts) (n : NoteParts) → In n ns → length ns ≢ 0
-not_none [] n i = absurd i
-not_none (m ∷ ns) n i = λ e. absurd (omega (arith, e))
-
 module _ (reference : List NoteParts) (P : NoteParts → Type 0) (count : ℕ) (c : IsCountOf reference P count) where
-  no_count : ((n : NoteParts) → In n reference → ¬ P n) → count ≡ 0
-  no_count none = c.count_is ∙ none_in c.notes (λ n k. let m = (c.those.members n).0 k in none n m.0 m.1)
-
-  counted_none : count ≡ 0 → (n : NoteParts) → In n reference → ¬ P n
-  counted_none e n i p = not_none c.notes n ((c.those.members n).1 (i, p)) (sym c.count_is ∙ e)
-
   some_count : count ≢ 0 → (n : NoteParts) × In n reference × P n
   some_count some =
       let one = first_of c.notes (λ e. some (c.count_is ∙ e)) in
       let m = (c.those.members one.0).0 one.1 in (one.0, m.0, m.1)
 
   counted_some : (n : NoteParts) × In n reference × P n → count ≢ 0
-  counted_some one e = counted_none e one.0 one.1 one.2
+  counted_some one e = none_of reference P count c e one.0 one.1 one.2
 
 none_is : (runs : List Run) → has_none runs ≡ true → runs ≡ []
 none_is [] h = refl
@@ -97,17 +89,10 @@ none_is (r ∷ runs) h = absurd cc
 
 module _ (P : ℕ → Type 0) (runs : List Run) (are : AreRunsOf P runs) where
   no_offset : has_none runs ≡ true → (at : ℕ) → ¬ P at
-  no_offset h at p =
-      let l : LiesIn [] at = subst (λ l. LiesIn l at) (none_is runs h) ((are.offsets at).1 p) in l.1
+  no_offset h = no_runs P runs are (none_is runs h)
 
   no_run : ((at : ℕ) → ¬ P at) → has_none runs ≡ true
-  no_run none = none_there runs are.maximal (λ at h. none at ((are.offsets at).0 h))
-    where
-      none_there : (runs : List Run) → AreMaximal 0 runs → ((at : ℕ) → LiesIn runs at → ⊥) → has_none runs ≡ true
-      none_there [] maximal none = refl
-      none_there (r ∷ runs) maximal none =
-          let order : r.start < r.end = maximal.1 in
-          absurd (none r.start (r, inl refl, record { from = omega arith; before = omega arith }))
+  no_run none = ap has_none (none_runs runs are.maximal (λ at h. none at ((are.offsets at).0 h)))
 
 -- ---- units
 
@@ -165,7 +150,7 @@ module _ (reports : List PieceReport) (reference : List NoteParts) (sources : Li
   says a b c = record {
     noted = λ r i. noted_is r.report.stop (list_all-In (λ r. is_noted r.report.stop) reports r a i);
     same = some_count reference (IsVerified reference sources) v.packets told.packets ((not_equal v.packets 0).0 c);
-    none = counted_none reference (IsDiffering reference sources) v.damaged told.damaged ((equals_itself v.damaged 0).0 b);
+    none = none_of reference (IsDiffering reference sources) v.damaged told.damaged ((equals_itself v.damaged 0).0 b);
   }
 
   module _ (s : IsAsItSays reports reference sources) where
@@ -174,7 +159,7 @@ module _ (reports : List PieceReport) (reference : List NoteParts) (sources : Li
 
     none_damaged : (v.damaged == 0) ≡ true
     none_damaged = (equals_itself v.damaged 0).1
-        (no_count reference (IsDiffering reference sources) v.damaged told.damaged s.none)
+        (count_none reference (IsDiffering reference sources) v.damaged told.damaged s.none)
 
     some_same : not (v.packets == 0) ≡ true
     some_same = (not_equal v.packets 0).1
@@ -217,3 +202,35 @@ module _ (reports : List PieceReport) (reference : List NoteParts) (sources : Li
     λ h. zero_of (is_good reports v (Some units) true) (all_four _ _ _ _ (are_noted h.0) (none_damaged h.0)
         (some_same h.0) ((equals_itself (verified_in units) (units_in units.runs)).1 (all_verified units.runs h.1))),
   )
+
+-- ---- a whole file
+
+some_above : (n : ℕ) → n ≢ 0 → 0 < n
+some_above zero some = absurd (some refl)
+some_above (suc n) some = omega arith
+
+not_zero : (n : ℕ) → 0 < n → n ≢ 0
+not_zero n some e = absurd (omega (arith, some, e))
+
+pub status_by_packets : (reports : List PieceReport) (reference : List NoteParts) (bytes : List ℕ)
+    (v : VerificationParts) → AreNoted reports → IsWholeReference reference → AreBytes bytes
+    → length bytes ≤ greatest_end → IsVerification reference (Bytes 0 bytes ∷ []) v
+    → (verification_status reports v None true ≡ 0) ↔ ((notes_in 0 bytes ≡ reference) × (stop_in 0 bytes ≡ End))
+status_by_packets reports reference bytes v noted whole are within told =
+    let says = whole_says reference bytes v whole are within told in (
+      λ e.
+          let f = four_parts _ _ _ _ (zero_is (is_good reports v None true) e) in
+          let g = two_parts _ _ f.3 in says.0 record {
+            some = some_above v.packets ((not_equal v.packets 0).0 f.2);
+            differs = (equals_itself v.damaged 0).0 f.1;
+            verified = none_is v.unverified g.0;
+            known = none_is v.unknown g.1;
+          },
+      λ h.
+          let s = says.1 h in
+          zero_of (is_good reports v None true) (all_four _ _ _ _
+          (In-list_all (λ r. is_noted r.report.stop) reports (λ r i. noted_of r.report.stop (noted r i)))
+          ((equals_itself v.damaged 0).1 s.differs)
+          ((not_equal v.packets 0).1 (not_zero v.packets s.some))
+          (both _ _ (ap has_none s.verified) (ap has_none s.known))),
+    )

@@ -13,9 +13,13 @@ use Rattle.mxf_verify.specs.declared.verified_units.UnitRun.{UnitRun}
 abbrev pub IsNoted : Stop → Type 0
 IsNoted stop = (stop ≡ End) ⊎ ((at : ℕ) × (stop ≡ Truncated at))
 
+-- All pieces were.
+abbrev pub AreNoted : List PieceReport → Type 0
+AreNoted reports = (r : PieceReport) → In r reports → IsNoted r.report.stop
+
 -- The pieces of a reference were; some note of it is the same in a source, and none differs in one.
 pub record IsAsItSays (reports : List PieceReport) (reference : List NoteParts) (sources : List Source) : Type 0 where
-  pub noted : (r : PieceReport) → In r reports → IsNoted r.report.stop
+  pub noted : AreNoted reports
   pub same : (n : NoteParts) × In n reference × IsVerified reference sources n
   pub none : (n : NoteParts) → In n reference → ¬ IsDiffering reference sources n
 

@@ -1,6 +1,6 @@
 //! Printing what a run is asked for.
 ghost use Rattle.std.specs.Prelude.{◌≡◌, ◌↔◌, IfOk, Err};
-ghost use Rattle.mxf_klv.specs.Written.{Writes};
+ghost use Rattle.mxf_klv.specs.Written.{Puts, Writes};
 ghost use Rattle.mxf_lines.specs.Answering.{Answers, IsBadAsk, answer_lines, answer_status};
 ghost use Rattle.mxf_lines.specs.declared.printing.AnswerFault.TheVariants as faults;
 
@@ -22,7 +22,7 @@ mod verification;
 use check::print_checked;
 pub use hexadecimal::hex_text;
 use line::JoinLine;
-use lines::{Lines, Printer};
+use lines::{Printer, print_with_status};
 pub use map::{Grid, print_map};
 use mxf_klv::{OutOfMemory, WriteFault};
 use mxf_read::Gathered;
@@ -37,7 +37,9 @@ pub use strings::escaped_text_is_given_back;
 use thiserror::Error;
 pub use units::UnitRange;
 use units::print_units;
-pub use verification::{Verified, print_verification, verified_status_by_definition};
+pub use verification::{
+    Verified, print_verification, verified_status_by_definition, whole_status_by_packets,
+};
 
 /// Why an answer wasn't printed whole.
 #[derive(Clone, Copy, Debug, PartialEq, Eq, Error)]
@@ -106,32 +108,44 @@ pub fn answer<W: Write>(
         (answer_lines ask.now gathered.now.reports gathered.now.views) }
 {
     let mut printer = Printer::new(alloc, form);
+    print_asked(&mut printer, writer, ask, gathered)
+}
+
+/// Prints the lines that are asked for, and answers the status.
+fn print_asked<W: Write>(
+    printer: &mut Printer,
+    writer: &mut W,
+    ask: &Ask,
+    gathered: &Gathered,
+) -> Result<u8, AnswerFault>
+    ensures status { IfOk result (λ status. status ≡ answer_status ask.now gathered.now.reports gathered.now.views) }
+    ensures bad_unit { (result ≡ Err faults.BadUnit) ↔ IsBadAsk ask.now }
+    ensures lines { Answers printer.old.fields.form
+        (Puts W.contents writer.old writer.new printer.old.progress printer.new.progress)
+        result (answer_lines ask.now gathered.now.reports gathered.now.views) }
+{
     match *ask {
-        Ask::Show => {
-            gathered.print_to(&mut printer, writer)?;
-            Ok(0)
-        }
-        Ask::Check => Ok(print_checked(&mut printer, writer, gathered)?),
+        Ask::Show => print_with_status(printer, writer, gathered, 0),
+        Ask::Check => print_checked(printer, writer, gathered),
         Ask::Locate { index, unit } => {
-            let place = gathered
-                .views
-                .locate(index, unit)
-                .map_err(|_| AnswerFault::BadUnit)?;
-            place.print_to(&mut printer, writer)?;
-            Ok(u8::from(!matches!(place, Place::At { .. })))
+            let Ok(place) = gathered.views.locate(index, unit) else {
+                return Err(AnswerFault::BadUnit);
+            };
+            let status = u8::from(!matches!(place, Place::At { .. }));
+            print_with_status(printer, writer, place, status)
         }
         Ask::Plan => {
-            let plan = Plan::of(alloc, &gathered.views)?;
-            (&plan).print_to(&mut printer, writer)?;
-            Ok(u8::from(!plan.orders().is_empty()))
+            let plan = Plan::of(printer.alloc(), &gathered.views)?;
+            let status = u8::from(!plan.orders().is_empty());
+            print_with_status(printer, writer, &plan, status)
         }
         Ask::Units { index, range } => {
-            let units = Units::of(alloc, &gathered.views, index)?;
-            print_units(&mut printer, writer, &units, range)
+            let units = Units::of(printer.alloc(), &gathered.views, index)?;
+            print_units(printer, writer, &units, range)
         }
         Ask::Join => {
-            JoinLine(gathered.views.catalogue()).print_to(&mut printer, writer)?;
-            Ok(0)
+            let line = JoinLine(gathered.views.catalogue());
+            print_with_status(printer, writer, line, 0)
         }
     }
 }

@@ -9,7 +9,7 @@ ghost use Rattle.mxf_lines.specs.Printing.{Prints};
 
 use super::AnswerFault;
 use super::line::write_stop;
-use super::lines::{Each, FieldWriter, Line, Lines, Printer, Series, Then};
+use super::lines::{Each, FieldWriter, Line, Lines, Printer, Series, Then, print_with_status};
 use mxf_klv::Stop;
 use mxf_read::{Gathered, PieceReport};
 use mxf_views::{Finding, Findings};
@@ -31,8 +31,9 @@ pub fn print_checked<W: Write>(
 {
     let reports = gathered.reports.as_slice();
     let findings = gathered.views.findings(printer.alloc())?;
-    Then(Each(StopLines(reports)), &findings).print_to(printer, writer)?;
-    Ok(u8::from(!(all_end(reports) && findings.len() == 0)))
+    let status = u8::from(!(all_end(reports) && findings.len() == 0));
+    let lines = Then(Each(StopLines(reports)), &findings);
+    print_with_status(printer, writer, lines, status)
 }
 
 /// Whether all pieces end with a packet.

@@ -1,5 +1,5 @@
 //! What is printed as lines.
-ghost use Rattle.std.specs.Prelude.{◌≡◌, ℕ, List, OnOk};
+ghost use Rattle.std.specs.Prelude.{◌≡◌, ℕ, IfOk, List, OnOk};
 ghost use Rattle.mxf_klv.specs.Written.{Puts};
 ghost use Rattle.mxf_lines.specs.Forms.{PrintedLine};
 ghost use Rattle.mxf_lines.specs.Printing.{Gives, Prints};
@@ -25,6 +25,22 @@ pub trait Lines {
             (Puts W.contents writer.old writer.new printer.old.progress printer.new.progress)
             result (lines self) }
         ensures form { OnOk result (printer.new.fields.form ≡ printer.old.fields.form) };
+}
+
+/// Prints lines, and answers a status that is known before.
+pub fn print_with_status<W: Write, L: Lines + Drop>(
+    printer: &mut Printer,
+    writer: &mut W,
+    lines: L,
+    status: u8,
+) -> Result<u8, AnswerFault>
+    ensures lines { Prints printer.old.fields.form
+        (Puts W.contents writer.old writer.new printer.old.progress printer.new.progress)
+        result (L.lines lines) }
+    ensures status { IfOk result (λ answered. answered ≡ status) }
+{
+    lines.print_to(printer, writer)?;
+    Ok(status)
 }
 
 /// Items that come one by one, each of which is printed as lines.

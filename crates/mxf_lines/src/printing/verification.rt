@@ -1,19 +1,24 @@
 //! A reference beside sources, and its lines.
-ghost use Rattle.std.specs.Prelude.{◌≡◌, ◌↔◌, [], ◌∷◌, ℕ, IfOk, List, None, Option, Some, codes, false, flat_map, length, map, true};
+ghost use Rattle.std.specs.Prelude.{◌≡◌, ◌↔◌, ◌≤◌, [], ◌∷◌, ℕ, IfOk, List, None, Option, Some, codes, false, flat_map, length, map, true};
 ghost use Rattle.std.specs.List.{list_all};
+ghost use Rattle.mxf_klv.specs.Bytes.{AreBytes};
+ghost use Rattle.mxf_klv.specs.Note.{greatest_end};
 ghost use Rattle.mxf_klv.specs.Parts.{NoteParts};
+ghost use Rattle.mxf_klv.specs.PieceReading.{notes_in, stop_in};
 ghost use Rattle.mxf_klv.specs.Written.{Writes};
+ghost use Rattle.mxf_klv.specs.declared.piece.Stop.TheVariants as stops;
 ghost use Rattle.mxf_units.specs.Units.{UnitsParts};
 ghost use Rattle.mxf_verify.specs.Fixities.{AreVerifiedUnits, VerifiedUnitsParts};
+ghost use Rattle.mxf_verify.specs.VerificationLaws.{IsWholeReference};
 ghost use Rattle.mxf_verify.specs.Verifications.{IsVerification, VerificationParts, differing_in};
-ghost use Rattle.mxf_verify.specs.Verifying.{Source};
+ghost use Rattle.mxf_verify.specs.Verifying.{Bytes, Source};
 ghost use Rattle.mxf_lines.specs.Printing.{Prints};
 ghost use Rattle.mxf_lines.specs.VerificationLines.{cut_line, cut_lines, differing_lines, differs_line, has_none};
 ghost use Rattle.mxf_lines.specs.VerificationLines.{is_all_verified, is_noted, lent_units, other_fields, range_line};
 ghost use Rattle.mxf_lines.specs.VerificationLines.{range_lines, runs_of, span_fields, touched_fields};
 ghost use Rattle.mxf_lines.specs.VerificationLines.{unit_count_fields, unit_run_line, verification_lines};
 ghost use Rattle.mxf_lines.specs.VerificationLines.{verification_status, verified_fields, verified_line};
-ghost use Rattle.mxf_lines.specs.VerifiedStatus.{AreAllVerified, IsAllKnown, IsAsItSays};
+ghost use Rattle.mxf_lines.specs.VerifiedStatus.{AreAllVerified, AreNoted, IsAllKnown, IsAsItSays};
 ghost use Rattle.mxf_lines.specs.Writing.{with_fields};
 
 use super::check::StopLines;
@@ -82,6 +87,16 @@ pub fn verified_status_by_definition()
         → IsVerification reference sources v → AreVerifiedUnits v.verified v.altered asked from to units
         → (verification_status reports v (Some units) true ≡ 0)
         ↔ (IsAsItSays reports reference sources × AreAllVerified units.runs) }
+{}
+
+/// A law of [`print_verification`]: of all packets of a file, from its first byte on, clear and without a gap, the answer is
+/// 0 beside the bytes of one source at 0, where all is to be verified, exactly where the source's packets are those and it
+/// ends with the last. The pieces of the reference were noted up to their ends.
+pub fn whole_status_by_packets()
+    ensures { (reports : List PieceReport) (reference : List NoteParts) (bytes : List ℕ) (v : VerificationParts)
+        → AreNoted reports → IsWholeReference reference → AreBytes bytes → length bytes ≤ greatest_end
+        → IsVerification reference (Bytes 0 bytes ∷ []) v → (verification_status reports v None true ≡ 0)
+        ↔ ((notes_in 0 bytes ≡ reference) × (stop_in 0 bytes ≡ stops.End)) }
 {}
 
 /// The lines of a verification, in their order.

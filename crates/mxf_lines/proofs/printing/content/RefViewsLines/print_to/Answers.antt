@@ -1,6 +1,7 @@
-use Rattle.std.proofs.Common.{refl, subst}
+use Rattle.std.proofs.Common.{◌<◌, arith, length, length-append, refl, rules, subst}
+use Rattle.std.proofs.lemmas.Result.{err_from_is_err_and}
 use Rattle.mxf_klv.specs.Written.{Puts}
-use Rattle.mxf_lines.specs.Printing.{Prints}
+use Rattle.mxf_lines.specs.Printing.{Prints, content_lines}
 use Rattle.mxf_lines.proofs.printing.content.RefViewsLines.print_to.Goals as goal
 
 pub returns-clause-lines : goal.returns-clause-lines
@@ -19,3 +20,10 @@ returns-clause-lines g c =
       c.segments.ensures.segments,
       c.rip.ensures,
     ) refl) c.print_to.ensures.lines
+
+pub returns-in_err-resolved-clause-lines : goal.returns-in_err-resolved-clause-lines
+returns-in_err-resolved-clause-lines g c =
+    let lines = content_lines c.args.self.now in
+    let some : 0 < length lines = simp length-append (omega arith) in
+    let p = err_from_is_err_and c.from_residual.result c.from_residual.ensures.1 in
+    rw (p.1, p.2) (0, some, search rules)

@@ -1,0 +1,11 @@
+use Rattle.std.proofs.Common.{◌<◌, arith, length, length-append, rules}
+use Rattle.std.proofs.lemmas.Result.{err_from_is_err_and}
+use Rattle.mxf_lines.specs.Answering.{check_lines}
+use Rattle.mxf_lines.proofs.printing.check.print_checked.Goals as goal
+
+pub returns-in_err-findings-clause-lines : goal.returns-in_err-findings-clause-lines
+returns-in_err-findings-clause-lines g c =
+    let lines = check_lines c.args.gathered.now.reports c.args.gathered.now.views in
+    let some : 0 < length lines = simp length-append (omega arith) in
+    let p = err_from_is_err_and c.from_residual.result c.from_residual.ensures.1 in
+    rw (p.1, p.2) (0, some, search rules)
