@@ -3,6 +3,7 @@ pub mod Beginnings
 pub mod Contents
 pub mod Exits
 pub mod Lists
+pub mod Offsets
 pub mod OnScreen
 pub mod Progress
 pub mod Saving

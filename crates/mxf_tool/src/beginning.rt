@@ -7,7 +7,7 @@ use std::io::{self, Read};
 use std::rt::Files;
 
 /// What the first bytes of a file are.
-#[derive(Clone, Copy, Debug, PartialEq, Eq)]
+#[derive(Clone, Copy)]
 pub enum Beginning {
     /// Those of a label, with which a packet begins (ST 336).
     Label,

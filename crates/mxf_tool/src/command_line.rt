@@ -5,7 +5,7 @@ use mxf_lines::{Ask, Form, Grid, UnitRange};
 use std::alloc::{AllocError, Global};
 
 /// What the command line asks for, and in which form, of the sources that words name and a list behind them.
-#[derive(Clone, Copy, Debug)]
+#[derive(Clone, Copy)]
 pub struct Request<'m, 'a> {
     pub task: Task<'a>,
     pub form: Form,
@@ -16,7 +16,7 @@ pub struct Request<'m, 'a> {
 }
 
 /// What is to be done.
-#[derive(Clone, Copy, Debug)]
+#[derive(Clone, Copy)]
 pub enum Task<'a> {
     /// To print an answer.
     Tell(Ask),
@@ -48,7 +48,7 @@ pub enum Task<'a> {
 }
 
 /// The edit units that words ask for.
-#[derive(Clone, Copy, Debug)]
+#[derive(Clone, Copy)]
 pub enum AskedUnits {
     /// These.
     Range(UnitRange),
@@ -57,7 +57,7 @@ pub enum AskedUnits {
 }
 
 /// Edit units of the index of an IndexSID.
-#[derive(Clone, Copy, Debug)]
+#[derive(Clone, Copy)]
 pub struct IndexedUnits {
     pub index: u32,
     pub units: AskedUnits,

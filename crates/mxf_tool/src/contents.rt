@@ -67,7 +67,7 @@ fn keep(contents: &mut Contents, gathered: Gathered) -> Result<(), AllocError>
 }
 
 /// What one part holds by itself.
-fn gather_one<R: Read + Drop>(alloc: Global, part: Part<R>) -> Result<Gathered, PartFault>
+pub fn gather_one<R: Read + Drop>(alloc: Global, part: Part<R>) -> Result<Gathered, PartFault>
     ensures { Tells R.remaining part → IfOk result (λ g. IsTheRun (HandedBy R.remaining (part ∷ [])) g.views) }
 {
     let mut parts = Vec::new(alloc);

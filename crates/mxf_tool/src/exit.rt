@@ -8,7 +8,7 @@ use mxf_lines::AnswerFault;
 use mxf_read::PieceReport;
 
 /// How a run ended, and with which exit status.
-#[derive(Clone, Copy, Debug, PartialEq, Eq)]
+#[derive(Clone, Copy)]
 pub enum Exit {
     /// All was printed; also help.
     Done,

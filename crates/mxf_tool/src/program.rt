@@ -2,6 +2,7 @@
 mod beside;
 mod fault;
 mod hint;
+mod offsets;
 mod renewing;
 mod sources;
 mod stops;

@@ -7,10 +7,9 @@ ghost use Rattle.mxf_tool.specs.declared.source.SourceFault.{SourceFault};
 
 use mxf_klv::MAX;
 use std::fmt;
-use thiserror::Error;
 
 /// Where notes come from.
-#[derive(Clone, Copy, Debug, PartialEq, Eq)]
+#[derive(Clone, Copy)]
 pub enum Source<'a> {
     /// The bytes of the file at `path`, which lie from `offset` (bytes) on in the recording.
     Piece { offset: u64, path: &'a str },
@@ -46,17 +45,14 @@ impl fmt::Display for Source<'_> {
 }
 
 /// Why a text names no source. The causes are tested in this order.
-#[derive(Clone, Copy, Debug, PartialEq, Eq, Error)]
+#[derive(Clone, Copy)]
 pub enum SourceFault {
     /// The text begins neither `at:` nor `range:` nor `cat:`.
-    #[error("no scheme")]
     NoScheme,
     /// After `at:` or `range:` there is no second colon, or before it no digit, another character, or a number above
     /// `MAX`.
-    #[error("bad offset")]
     BadOffset,
     /// The path is empty.
-    #[error("no path")]
     NoPath,
 }
 

@@ -14,7 +14,7 @@ use std::io::{self, Read};
 use std::rt::{Clock, Files};
 
 /// What standard error is.
-#[derive(Clone, Copy, Debug, PartialEq, Eq)]
+#[derive(Clone, Copy, PartialEq, Eq)]
 pub enum Screen {
     Terminal,
     /// A file, a pipe or a device, to which nothing is told of the reading.

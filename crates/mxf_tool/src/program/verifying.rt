@@ -3,6 +3,7 @@ ghost use Rattle.std.specs.Prelude.{◌≡◌, IfOk};
 ghost use Rattle.mxf_tool.specs.Verifying.{AreAskedBy, AreToldOf, open_of};
 
 use super::fault::RunFault;
+use super::offsets::tell_offsets;
 use super::telling::tell_on_screen;
 use super::unit_range::range_of;
 use super::{Printed, System, gather_parts, open_parts, print_answer, told, ungathered};
@@ -102,7 +103,7 @@ fn print_by<'a, R: System>(
         Some(range) => print_with_units(rt, asked, range, gathered, verification)?,
         None => print_verification(rt, asked, &*gathered, &*verification, None)?,
     };
-    if screen == Screen::Terminal && tell_open(rt, asked.is_whole, verification).is_err() {
+    if screen == Screen::Terminal && tell_open(rt, asked, verification).is_err() {
         return Err(RunFault::OutOfMemory);
     }
     let reports = gathered.reports.as_slice();
@@ -189,14 +190,19 @@ fn open_of(is_whole: bool, verification: &Verification<'_>) -> Option<Open>
     }
 }
 
-/// Tells on a terminal what a verification leaves open.
+/// Tells on a terminal what a verification leaves open: where no packet is the same, also which OFFSET is wrong by its
+/// source.
 fn tell_open<R: System>(
     rt: &R,
-    is_whole: bool,
+    asked: Verifying<'_, '_>,
     verification: &Verification<'_>,
 ) -> Result<(), AllocError> {
-    match open_of(is_whole, verification) {
-        Some(open) => tell_on_screen(rt, &open),
-        None => Ok(()),
+    let Some(open) = open_of(asked.is_whole, verification) else {
+        return Ok(());
+    };
+    tell_on_screen(rt, &open)?;
+    match open {
+        Open::NoneSame => tell_offsets(rt, asked.sources),
+        Open::NotAll => Ok(()),
     }
 }

@@ -13,7 +13,7 @@ use std::rt::Files;
 const GREATEST_LINKS: u32 = 40;
 
 /// What stands where a catalogue is to be saved.
-#[derive(Debug, Drop)]
+#[derive(Drop)]
 pub enum Destination {
     /// A regular file, as it is found, or nothing yet. The path is that of no link.
     File {

@@ -31,7 +31,7 @@ pub fn is_refused<R: Files + AllocGlobal>(
 
 /// Whether the regular file at the path begins with a label.
 fn begins_with_label<R: Files + AllocGlobal>(rt: &R, path: &str) -> io::Result<bool> {
-    Ok(Beginning::of(rt, path)? == Some(Beginning::Label))
+    Ok(matches!(Beginning::of(rt, path)?, Some(Beginning::Label)))
 }
 
 /// Whether the file is that of a piece or range among the sources, by whatever name.
