@@ -19,6 +19,8 @@ SETS_OF_A_COPY = 28
 VALUE = b"value"
 OTHERS = (b"other", b"third")
 UNIT = 20 + len(VALUE)
+# The edit units that a segment lists.
+LISTED = 250
 
 
 def pack(number: int, this: int, previous: int, header_bytes: int = 0, body_sid: int = 0) -> bytes:
@@ -168,6 +170,16 @@ def contents_of_units(count: int) -> list[list[notes.Note]]:
     return [found]
 
 
+def listed(count: int) -> list[bytes]:
+    """So many segments that list 250 edit units each, one behind the other, without the file that they are of."""
+    parts = []
+    for number in range(count):
+        start = LISTED * number
+        offsets = ",".join(str(UNIT * unit) for unit in range(start, start + LISTED))
+        parts.append(laid(f"segment start={start} duration={LISTED} entries={offsets}"))
+    return [b"".join(parts)]
+
+
 @dataclass(frozen=True)
 class Shape:
     """What the counts are of, what is asked, the least count, and what makes the pieces, which all begin at 0. Of a
@@ -195,6 +207,7 @@ SHAPES = {
     "disputed": Shape("disputed notes", "show", 37_500, disputed),
     "readings": Shape("disputed notes of two sources", "sources", 37_500, disputed),
     "beside": Shape("disputed notes of a reference", "verify", 37_500, beside, contents_beside),
+    "listed": Shape("segments of 250 units", "units", 900, listed),
     "units": Shape("units in as many ranges", "verify", 37_500, units, contents_of_units, ("--index", "1")),
 }
 

@@ -34,7 +34,7 @@ import tempfile
 import time
 
 import notes
-from hostile_files import MANY, SHAPES, TOP, pieces_of
+from hostile_files import MANY, SHAPES, TOP, listed_units, pieces_of
 from hostile_runs import Run, Wrong, finds, is_shown, read_source, try_file, try_number, without_kind
 
 # The greatest ratio of two times, one of twice as many: n log n at these sizes is below 2.2, a square is 4.
@@ -140,10 +140,12 @@ def try_flips(run, name, length, places, beside):
                 raise Wrong(f"{length} bytes of {name}, flipped in {some if at is None else at}: {line}, and not {want}")
 
 
-def seconds_of(run, sources, size):
-    """The processor time of each question about sources of so many bytes."""
+def seconds_of(run, shape, sources, size):
+    """The processor time of each question about sources of so many bytes in a shape."""
     joined = str(run.folder / "joined")
     asked = {"show": [], "check": [], "locate": ["--index", "1", "--unit", "0"], "join": ["--out", joined]}
+    if shape is listed_units:
+        asked["units"] = ["--index", "1"]
     return {name: run.call_once((0, 1), size, name, *words, *sources)[1] for name, words in asked.items()}
 
 
@@ -156,7 +158,7 @@ def try_doubled(run, shape, many, seed):
     for wait in (0, 1, 2, 4, 8):
         time.sleep(wait)
         for times, (sources, size) in zip(least, laid):
-            for name, seconds in seconds_of(run, sources, size).items():
+            for name, seconds in seconds_of(run, shape, sources, size).items():
                 times[name] = min(seconds, times.get(name, seconds))
         once, twice = least
         run.ratio = max((twice[name] - NOISE) / once[name] for name in once)

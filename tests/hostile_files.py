@@ -161,6 +161,15 @@ def segments_of_a_unit(rng, many=None):
     return [(0, laid(lines))]
 
 
+def listed_units(rng, many=None):
+    """Index table segments that list 25 units each, one behind the other, at times each twice or the last ones first."""
+    many = many or rng.choice((2, 20, 400))
+    each, step = rng.choice((1, 2)), rng.choice((1, -1))
+    offsets = [",".join(str(100 * unit) for unit in range(25 * n, 25 * n + 25)) for n in range(many // each)]
+    lines = [f"segment start={25 * n} duration=25 entries={listed}" for n, listed in enumerate(offsets)][::step]
+    return [(0, laid(lines * each))]
+
+
 def long_primer(rng, many=None):
     """A primer pack of many entries, some of one tag, and a set of many items: the longest value that is kept, at times."""
     sizes = ((3, 3), (60, 60), (30000, 16000), (1, 60000), (233016, 16000))
@@ -314,9 +323,9 @@ def two_readings(rng):
 
 
 SHAPES = (
-    spelled_lengths, counts, items, packs_that_name, circles, zones, copies, random_indexes, segments_of_a_unit, long_primer,
-    long_batches, named_by_all, disputes, many_packets, noise, mutated, mutated, mutated, two_readings, saved_heads, under_one_another,
-    fronts_of_packets, labels_that_fail, ranges,
+    spelled_lengths, counts, items, packs_that_name, circles, zones, copies, random_indexes, segments_of_a_unit, listed_units,
+    long_primer, long_batches, named_by_all, disputes, many_packets, noise, mutated, mutated, mutated, two_readings, saved_heads,
+    under_one_another, fronts_of_packets, labels_that_fail, ranges,
 )  # fmt: skip
 
 
@@ -329,6 +338,6 @@ def pieces_of(number):
 # more than one value has room for.
 MANY = {
     counts: 10000, items: 5000, packs_that_name: 10000, circles: 5000, zones: 5000, copies: 5000,
-    random_indexes: 10000, segments_of_a_unit: 10000, long_primer: 32000, long_batches: 2000, named_by_all: 2000, disputes: 20000,
+    random_indexes: 10000, segments_of_a_unit: 10000, listed_units: 1000, long_primer: 32000, long_batches: 2000, named_by_all: 2000, disputes: 20000,
     many_packets: 40000, saved_heads: 10000, under_one_another: 10000, labels_that_fail: 100000,
 }  # fmt: skip

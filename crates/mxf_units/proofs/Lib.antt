@@ -1,4 +1,7 @@
 pub mod OrderLaws
+pub mod IntervalLaws
+pub mod NextPlaceLaws
+pub mod WalkLaws
 pub mod LeastLaws
 pub mod PacketLaws
 pub mod PartLaws

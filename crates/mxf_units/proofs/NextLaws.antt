@@ -83,7 +83,7 @@ Reached segments body_sid low x =
 in_place : (s : SegmentAtParts) (unit x : ℕ) → stream_offset s.segment unit ≡ Some x → place_in unit s ≡ Some (in_stream s x)
 in_place s unit x e = ap (λ (o : Option ℕ). option_map (in_stream s) o) e
 
-guarded_true : (b : Bool) (x y : ℕ) → (if b then Some x else None) ≡ Some y → (b ≡ true) × (x ≡ y)
+pub guarded_true : (b : Bool) (x y : ℕ) → (if b then Some x else None) ≡ Some y → (b ≡ true) × (x ≡ y)
 guarded_true true x y e = (refl, cc)
 guarded_true false x y e = absurd cc
 
@@ -115,7 +115,7 @@ listed-reached segments low s unit x h constant e above =
     )
 
 -- The first unit of one size behind an offset.
-first_behind : (bytes low unit : ℕ) → 0 < bytes → low < bytes * unit → low / bytes + 1 ≤ unit
+pub first_behind : (bytes low unit : ℕ) → 0 < bytes → low < bytes * unit → low / bytes + 1 ≤ unit
 first_behind bytes low unit some above =
     elim (cases_lt (low / bytes) unit) [
       | inl l ↦ omega (arith, l)
@@ -125,7 +125,7 @@ first_behind bytes low unit some above =
           absurd (omega (arith, m, d, above))
     ]
 
-begins_behind : (bytes low unit : ℕ) → 0 < bytes → low / bytes + 1 ≤ unit → low < bytes * unit
+pub begins_behind : (bytes low unit : ℕ) → 0 < bytes → low / bytes + 1 ≤ unit → low < bytes * unit
 begins_behind bytes low unit some from =
     let m = mul-le-mul_left bytes from in
     let d : bytes * (low / bytes) + low % bytes ≡ low = omega (arith, some) in
@@ -198,7 +198,7 @@ reached segments body_sid low x p above =
 offset-of : (body_sid : ℕ) (q : StreamPlace) → q.body_sid ≡ body_sid → offset_in body_sid q ≡ Some q.offset
 offset-of body_sid q e = ap (λ b. if b then Some q.offset else None) (eq-eqb q.body_sid body_sid e)
 
-of-offset : (body_sid x : ℕ) (q : StreamPlace) → offset_in body_sid q ≡ Some x
+pub of-offset : (body_sid x : ℕ) (q : StreamPlace) → offset_in body_sid q ≡ Some x
     → (q.body_sid ≡ body_sid) × (q.offset ≡ x)
 of-offset body_sid x q e =
     elim (q.body_sid == body_sid) as (λ b. (q.body_sid == body_sid) ≡ b

@@ -1,7 +1,9 @@
 pub mod Words
 pub mod Streams
 pub mod LastUnits
+pub mod NextPlaces
 pub mod EssenceZones
 pub mod Units
 pub mod Standings
+pub mod Intervals
 pub mod Limits

@@ -38,10 +38,13 @@
 #![tactic(auto)]
 
 mod bounds;
+mod constant_units;
 mod essence_zone;
 mod first_packet;
+mod intervals;
 mod last;
 mod location;
+mod next_places;
 mod segments;
 mod standing;
 mod stream;

@@ -1,21 +1,21 @@
 //! Where bytes of essence lie in the file, and how they stand.
-ghost use Rattle.std.specs.Prelude.{◌≡◌, ◌+◌, ◌<◌, ◌≤◌, ◌^◌, IfOk, IfSome};
-ghost use Rattle.std.specs.List.{AllByRecursion, flat_map};
+ghost use Rattle.std.specs.Prelude.{◌≡◌, ◌+◌, ◌<◌, ◌≤◌, ◌^◌, IfOk, IfSome, List};
 ghost use Rattle.std.specs.Option.{ForSome};
 ghost use Rattle.std.specs.Result.{ForOk};
-ghost use Rattle.mxf_units.specs.Streams.{IsSmall, in_order, listed_in};
+ghost use Rattle.mxf_views.specs.Places.{SegmentAtParts};
+ghost use Rattle.mxf_units.specs.NextPlaces.{AreNextPlaces};
+ghost use Rattle.mxf_units.specs.Streams.{IsSmall};
 ghost use Rattle.mxf_units.specs.EssenceZones.{IsFalling};
 ghost use Rattle.mxf_units.specs.Units.{are_all_held, ends_behind, extent_in, file_offset, is_any_doubtful, is_any_held};
 ghost use Rattle.mxf_units.specs.Units.{extent_by, is_told, location_at, location_in, standing_by, standing_in};
 
 use crate::essence_zone::EssenceZone;
 use crate::essence_zone::part::{StreamPart, zone_at};
-use crate::segments::next_of;
+use crate::next_places::NextPlaces;
 use crate::standing::UnitStanding;
 use crate::stream::StreamPlace;
 use crate::unit::Extent;
 use mxf_restore::Holdings;
-use mxf_views::SegmentAt;
 
 /// Bytes of essence, and the essence zone that they are looked for in.
 #[derive(Clone, Copy)]
@@ -158,21 +158,18 @@ pub(crate) fn extent_by(
 
 /// Where a unit lies, by the essence zone in which its place is to be found.
 fn location_in(
-    segments: &[SegmentAt<'_>],
-    listed: &[StreamPlace],
+    places: &NextPlaces,
     place: StreamPlace,
     zone: Result<EssenceZone, UnitStanding>,
 ) -> Result<Location, UnitStanding>
-    requires listed { listed.now ≡ in_order (flat_map listed_in segments.now) }
-    requires small_listed { AllByRecursion IsSmall listed.now }
     requires small { IsSmall place }
-    ensures location { result ≡ location_in segments.now place zone }
+    ensures location { (segments : List SegmentAtParts) → AreNextPlaces segments places.now
+        → result ≡ location_in segments place zone }
     ensures small { IfOk result (λ l. l.extent.start + 1 < 2 ^ 128) }
 {
     match zone {
         Ok(zone) => {
-            let next = next_of(segments, listed, place);
-            let extent = extent_in(zone, place.offset, next);
+            let extent = extent_in(zone, place.offset, places.behind(place));
             Ok(Location { zone, extent })
         }
         Err(standing) => Err(standing),
@@ -181,22 +178,20 @@ fn location_in(
 
 /// Where a unit lies, by its place.
 pub(crate) fn location_at(
-    segments: &[SegmentAt<'_>],
-    listed: &[StreamPlace],
+    places: &NextPlaces,
     parts: &[StreamPart],
     place: Result<StreamPlace, UnitStanding>,
 ) -> Result<Location, UnitStanding>
-    requires listed { listed.now ≡ in_order (flat_map listed_in segments.now) }
-    requires small_listed { AllByRecursion IsSmall listed.now }
     requires parts { IsFalling parts.now }
     requires small { ForOk place IsSmall }
-    ensures location { result ≡ location_at parts.now segments.now place }
+    ensures location { (segments : List SegmentAtParts) → AreNextPlaces segments places.now
+        → result ≡ location_at parts.now segments place }
     ensures small { IfOk result (λ l. l.extent.start + 1 < 2 ^ 128) }
 {
     match place {
         Ok(place) => {
             let zone = zone_at(parts, place.body_sid, place.offset);
-            location_in(segments, listed, place, zone)
+            location_in(places, place, zone)
         }
         Err(standing) => Err(standing),
     }

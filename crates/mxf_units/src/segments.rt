@@ -5,15 +5,20 @@ ghost use Rattle.mxf_klv.specs.Rising.{In};
 ghost use Rattle.mxf_klv.specs.Parts.{NoteParts};
 ghost use Rattle.mxf_views.specs.Places.{SegmentAtParts, segments_of};
 ghost use Rattle.mxf_units.specs.Streams.{IsNextOf, IsSmall, entry_of, in_order, listed_in, next_of, place_in, place_of};
-ghost use Rattle.mxf_units.specs.Streams.{is_other_entry, is_other_place, offset_above, places_above, segments_for};
+ghost use Rattle.mxf_units.specs.Streams.{is_other_entry, is_other_place, places_above, segments_for};
 ghost use Rattle.mxf_units.specs.Streams.{sized_above};
 
+use crate::constant_units::ConstantUnits;
+use crate::intervals::Interval;
 use crate::standing::UnitStanding;
-use crate::stream::{StreamPlace, first_above, in_order, lesser, offset_in};
+use crate::stream::{StreamPlace, in_order};
 use mxf_klv::OutOfMemory;
 use mxf_sets::IndexEntry;
 use mxf_views::{SegmentAt, Views};
 use std::alloc::Global;
+
+/// More than any edit unit that can be asked for: 2^64.
+const UNITS: u128 = 18_446_744_073_709_551_616;
 
 /// All segments, in their order. They take memory.
 pub(crate) fn all_segments<'a>(
@@ -155,28 +160,37 @@ pub(crate) fn listed_places(
     Ok(in_order(listed_in(alloc, segments)?))
 }
 
-/// The first place above an offset, in bytes, that a segment gives of which all units have one size.
-#[tactic(auto, unfolding(crate::specs::Streams::sized_above))]
-fn sized_above(segment: &SegmentAt<'_>, offset: u128) -> Option<StreamPlace>
-    requires { offset < 2 ^ 96 }
-    ensures place { result ≡ sized_above offset segment.now }
-    ensures small { IfSome result (λ p. p.offset + 2 ^ 96 ≤ 2 ^ 128) }
+/// The edit units that a segment may have.
+impl<'a> Interval for SegmentAt<'a> {
+    ghost use Rattle.mxf_units.specs.NextPlaces.{first_unit, units_end};
+
+    ghost first = { first_unit };
+
+    ghost end = { units_end };
+
+    fn first(&self) -> u128 {
+        u128::from(self.segment.numbers().start.unsigned_abs())
+    }
+
+    fn end(&self) -> u128 {
+        let numbers = self.segment.numbers();
+        let start = u128::from(numbers.start.unsigned_abs());
+        let duration = u128::from(numbers.duration.unsigned_abs());
+        if numbers.unit_bytes == 0 {
+            start + duration.min(self.segment.entry_count() as u128)
+        } else if duration == 0 {
+            UNITS
+        } else {
+            start + duration
+        }
+    }
+}
+
+/// The first place above 0 that a segment gives of which all units have one size.
+fn sized_above(segment: &SegmentAt<'_>) -> Option<StreamPlace>
+    ensures { result ≡ sized_above 0 segment.now }
 {
-    let numbers = segment.segment.numbers();
-    if numbers.unit_bytes == 0 {
-        return None;
-    }
-    let start = u128::from(numbers.start.unsigned_abs());
-    let duration = u128::from(numbers.duration.unsigned_abs());
-    let unit_bytes = u128::from(numbers.unit_bytes);
-    let unit = start.max(offset / unit_bytes + 1);
-    if duration > 0 && unit >= start + duration {
-        return None;
-    }
-    Some(StreamPlace {
-        body_sid: numbers.body_sid,
-        offset: unit_bytes * unit,
-    })
+    ConstantUnits::of(segment)?.place_above(0)
 }
 
 /// The places that segments give, in their order, but of those above 0 that one of units of one size gives the first
@@ -189,43 +203,11 @@ pub(crate) fn places_above_0(
 {
     let mut places = listed_in(alloc, segments)?;
     for segment in segments {
-        if let Some(place) = sized_above(segment, 0) {
+        if let Some(place) = sized_above(segment) {
             places.push(place)?;
         }
     }
     Ok(in_order(places))
-}
-
-/// The next place behind another in its stream, in bytes from the start of that.
-pub(crate) fn next_of(
-    segments: &[SegmentAt<'_>],
-    listed: &[StreamPlace],
-    place: StreamPlace,
-) -> Option<u128>
-    requires listed { listed.now ≡ in_order (flat_map listed_in segments.now) }
-    requires small_listed { AllByRecursion IsSmall listed.now }
-    requires small { IsSmall place }
-    ensures next { result ≡ next_of segments.now place.body_sid place.offset }
-    ensures small { IfSome result (λ n. n + 2 ^ 96 ≤ 2 ^ 128) }
-{
-    let mut next = first_above(listed, place.body_sid, place.offset);
-    for segment in segments {
-        if let Some(sized) = sized_above(segment, place.offset) {
-            next = lesser(next, offset_above(sized, place));
-        }
-    }
-    next
-}
-
-/// The offset of a place in the stream of another and above it, in bytes.
-fn offset_above(sized: StreamPlace, place: StreamPlace) -> Option<u128>
-    ensures { result ≡ offset_above place.body_sid place.offset sized }
-{
-    if sized.offset > place.offset {
-        offset_in(sized, place.body_sid)
-    } else {
-        None
-    }
 }
 
 /// A law of [`Units::unit`](crate::Units::unit): where a unit's bytes reach up to is the least place above its own in

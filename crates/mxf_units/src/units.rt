@@ -2,20 +2,22 @@
 ghost use Rattle.std.specs.Prelude.{◌≡◌, ◌↔◌, ◌+◌, ◌<◌, ◌^◌, ℕ, IfOk, List, Some, map};
 ghost use Rattle.mxf_klv.specs.Parts.{NoteParts};
 ghost use Rattle.mxf_units.specs.declared.unit.Extent.{Extent};
-ghost use Rattle.std.specs.List.{flat_map};
+ghost use Rattle.std.specs.Result.{ForOk};
 ghost use Rattle.mxf_views.specs.Places.{segments_of};
 ghost use Rattle.mxf_units.specs.Standings.{IsStanding, IsStandingIn};
 ghost use Rattle.mxf_units.specs.declared.location.Location.{Location};
 ghost use Rattle.mxf_units.specs.declared.standing.UnitStanding.{UnitStanding};
-ghost use Rattle.mxf_units.specs.Streams.{in_order, listed_in, segments_for};
+ghost use Rattle.mxf_units.specs.Streams.{IsSmall, entry_of, place_of, segments_for};
 ghost use Rattle.mxf_units.specs.EssenceZones.{parts_of};
-ghost use Rattle.mxf_units.specs.Units.{IsHeldWhole, index_sids_of, key_at, location_of, standing_in, unit_by};
+ghost use Rattle.mxf_units.specs.Units.{IsHeldWhole, index_sids_of, key_at, location_at, standing_in, unit_by};
 ghost use Rattle.mxf_units.specs.Units.{unit_of};
 
 use crate::bounds::rising;
 use crate::essence_zone::part::{StreamPart, parts_of};
+use crate::intervals::Intervals;
 use crate::location::{Location, extent_by, location_at, standing_by};
-use crate::segments::{entry_of, listed_places, place_of, segments_for};
+use crate::next_places::NextPlaces;
+use crate::segments::{entry_of, place_of, segments_for};
 use crate::standing::UnitStanding;
 use crate::stream::StreamPlace;
 use crate::unit::{EditUnit, Extent};
@@ -32,15 +34,16 @@ use std::marker::Model;
 pub struct Units<'a> {
     holdings: Holdings<'a>,
     index_sid: u32,
-    segments: Vec<SegmentAt<'a>>,
-    listed: Vec<StreamPlace>,
+    segments: Intervals<SegmentAt<'a>>,
+    places: NextPlaces,
     parts: Vec<StreamPart>,
 }
 
 impl<'a> Model for Units<'a> {
     ghost use Rattle.std.specs.Prelude.{List, ◌≡◌};
-    ghost use Rattle.std.specs.List.{AllByRecursion, flat_map};
-    ghost use Rattle.mxf_units.specs.Streams.{IsSmall, in_order, listed_in, segments_for};
+    ghost use Rattle.std.specs.List.Sorted.{IsPermutation};
+    ghost use Rattle.mxf_units.specs.NextPlaces.{AreNextPlaces};
+    ghost use Rattle.mxf_units.specs.Streams.{segments_for};
     ghost use Rattle.mxf_units.specs.EssenceZones.{parts_of};
     ghost use Rattle.mxf_units.specs.Units.{UnitsParts};
 
@@ -48,9 +51,8 @@ impl<'a> Model for Units<'a> {
 
     ghost view = { λ u. record { notes = u.holdings; index_sid = u.index_sid } };
 
-    ghost invariant = { λ u. (u.segments.items ≡ segments_for u.holdings u.index_sid)
-        × (u.listed.items ≡ in_order (flat_map listed_in u.segments.items))
-        × AllByRecursion IsSmall u.listed.items
+    ghost invariant = { λ u. IsPermutation (segments_for u.holdings u.index_sid) u.segments
+        × AreNextPlaces (segments_for u.holdings u.index_sid) u.places
         × (u.parts.items ≡ parts_of u.holdings) };
 }
 
@@ -62,35 +64,50 @@ impl<'a> Units<'a> {
     {
         let holdings = Holdings::of(alloc, views)?;
         let segments = segments_for(alloc, views, index_sid)?;
-        let listed = listed_places(alloc, &segments)?;
+        let places = NextPlaces::of(alloc, &segments)?;
+        let segments = Intervals::of(alloc, segments)?;
         let parts = parts_of(alloc, &holdings)?;
         Ok(Units {
             holdings,
             index_sid,
             segments,
-            listed,
+            places,
             parts,
         })
     }
 
-    /// Where a unit lies, as far as that is known.
-    fn location_of(&self, unit: u64) -> Result<Location, UnitStanding>
-        ensures location { result ≡ location_of self.now.notes self.now.index_sid unit }
-        ensures small { IfOk result (λ l. l.extent.start + 1 < 2 ^ 128) }
+    /// The segments that may have a unit: those that give it a place and an entry are among them.
+    fn segments_near(&self, unit: u64) -> &[SegmentAt<'a>]
+        ensures place { place_of result.now unit ≡ place_of (segments_for self.now.notes self.now.index_sid) unit }
+        ensures entry { entry_of result.now unit ≡ entry_of (segments_for self.now.notes self.now.index_sid) unit }
     {
-        let place = place_of(&self.segments, unit);
-        location_at(&self.segments, &self.listed, &self.parts, place)
+        let (near, _) = self.segments.around(u128::from(unit));
+        near
     }
 
-    /// The unit of a number. Units are counted from 0 as they are stored. It takes no memory, and time for each segment
-    /// of the index.
-    #[tactic(auto, unfolding(crate::specs::Units::unit_of))]
+    /// Where a unit lies, by its place in its stream, as far as that is known.
+    fn location_of(
+        &self,
+        place: Result<StreamPlace, UnitStanding>,
+    ) -> Result<Location, UnitStanding>
+        requires { ForOk place IsSmall }
+        ensures location { result ≡ location_at (parts_of self.now.notes)
+            (segments_for self.now.notes self.now.index_sid) place }
+        ensures small { IfOk result (λ l. l.extent.start + 1 < 2 ^ 128) }
+    {
+        location_at(&self.places, &self.parts, place)
+    }
+
+    /// The unit of a number. Units are counted from 0 as they are stored. It takes no memory, and some binary searches,
+    /// with a look at each segment of the index that overlaps there.
+    #[tactic(auto, unfolding(crate::specs::Units::unit_of, crate::specs::Units::location_of))]
     pub fn unit(&self, unit: u64) -> EditUnit
         ensures { result ≡ unit_of self.now.notes self.now.index_sid unit }
     {
-        let location = self.location_of(unit);
+        let segments = self.segments_near(unit);
+        let location = self.location_of(place_of(segments, unit));
         let standing = standing_by(&self.holdings, location);
-        let entry = entry_of(&self.segments, unit);
+        let entry = entry_of(segments, unit);
         unit_by(unit, standing, extent_by(standing, location), entry)
     }
 }

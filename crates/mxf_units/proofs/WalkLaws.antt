@@ -1,0 +1,223 @@
+-- The place and the entry that all of some are: whichever way these stand, and by those segments alone that may have them.
+use Rattle.std.proofs.Common.{◌≡◌, ◌≢◌, ◌∙◌, ◌⊎◌, ◌==◌, ◌&&◌, ◌||◌, ◌<◌, ◌≤◌, ◌+◌, ◌-◌, ◌^◌, ℕ, Bool, true, false, not, List, []}
+use Rattle.std.proofs.Common.{◌∷◌, Option, None, Some, Result, Ok, Err, refl, sym, ap, inl, inr, arith, eq-eqb, eqb-true}
+use Rattle.std.proofs.Common.{◌*◌, filter_map, if◌then◌else◌, nat_le, nat_lt, option_map, unsigned_abs, min, ltb-true}
+use Rattle.std.proofs.lemmas.Bool.{and_from, and_parts, false_from_ne_true, leb-true}
+use Rattle.std.specs.Cmp.{signed_Decides}
+use Rattle.std.specs.List.Sorted.{IsPermutation}
+use Rattle.std.specs.Ordering.{int_eq}
+use Rattle.mxf_klv.specs.Rising.{In, SameMembers}
+use Rattle.mxf_sets.specs.Offset.{covers_constant, covers_entry, entry_at, entry_offset, index_entry}
+use Rattle.mxf_sets.specs.Segment.{entry_count, is_constant}
+use Rattle.mxf_sets.specs.declared.segment.offset.IndexEntry.{IndexEntry}
+use Rattle.mxf_views.specs.Places.{SegmentAtParts}
+use Rattle.mxf_units.specs.NextPlaces.{first_unit, units_end}
+use Rattle.mxf_units.specs.Intervals.{IsAround}
+use Rattle.mxf_units.specs.Streams.{entry_of, in_stream, is_same_entry, is_same_place, only_entry}
+use Rattle.mxf_units.specs.Streams.{only_place, place_in, place_of}
+use Rattle.mxf_units.specs.declared.standing.UnitStanding.{UnitStanding}
+use Rattle.mxf_units.specs.declared.standing.UnitStanding.TheVariants as standings
+use Rattle.mxf_units.specs.declared.stream.StreamPlace.{StreamPlace}
+use Rattle.mxf_units.proofs.NextPlaceLaws.{permuted, same-filter_map}
+use Rattle.mxf_units.proofs.IntervalLaws.{near_alone}
+
+-- ---- a walk over some that ends with the first that is another
+
+-- None is there and this is the answer to it, or all are one and this is the answer to that, or two differ.
+abbrev Walked : {K R : Type 0} → R → (K → R) → R → List K → R → Type 0
+Walked {K} none one two xs r =
+    (((x : K) → In x xs → ⊥) × (r ≡ none))
+    ⊎ (((x : K) × In x xs × ((y : K) → In y xs → y ≡ x) × (r ≡ one x))
+    ⊎ ((x : K) × (y : K) × In x xs × In y xs × (x ≢ y) × (r ≡ two)))
+
+module _ {K R : Type 0} (none : R) (one : K → R) (two : R) where
+  other_members : (xs ys : List K) (r : R) → SameMembers xs ys → Walked none one two xs r → Walked none one two ys r
+  other_members xs ys r same (inl s) = inl (λ x h. s.0 x ((same x).1 h), s.1)
+  other_members xs ys r same (inr (inl s)) = inr (inl (s.0, (same s.0).0 s.1, λ y h. s.2 y ((same y).1 h), s.3))
+  other_members xs ys r same (inr (inr s)) = inr (inr (s.0, s.1, (same s.0).0 s.2, (same s.1).0 s.3, s.4, s.5))
+
+  -- It has one answer.
+  one_answer : (xs : List K) (q r : R) → Walked none one two xs q → Walked none one two xs r → q ≡ r
+  one_answer xs q r (inl s) (inl t) = s.1 ∙ sym t.1
+  one_answer xs q r (inl s) (inr (inl t)) = absurd (s.0 t.0 t.1)
+  one_answer xs q r (inl s) (inr (inr t)) = absurd (s.0 t.0 t.2)
+  one_answer xs q r (inr (inl s)) (inl t) = absurd (t.0 s.0 s.1)
+  one_answer xs q r (inr (inl s)) (inr (inl t)) = s.3 ∙ ap one (t.2 s.0 s.1) ∙ sym t.3
+  one_answer xs q r (inr (inl s)) (inr (inr t)) = absurd (t.4 (s.2 t.0 t.2 ∙ sym (s.2 t.1 t.3)))
+  one_answer xs q r (inr (inr s)) (inl t) = absurd (t.0 s.0 s.2)
+  one_answer xs q r (inr (inr s)) (inr (inl t)) = absurd (s.4 (t.2 s.0 s.2 ∙ sym (t.2 s.1 s.3)))
+  one_answer xs q r (inr (inr s)) (inr (inr t)) = s.5 ∙ sym t.5
+
+  -- What repeats the one before says nothing new.
+  repeated : (x y : K) (xs : List K) (r : R) → x ≡ y → Walked none one two (y ∷ xs) r → Walked none one two (x ∷ y ∷ xs) r
+  repeated x y xs r e w =
+      other_members (y ∷ xs) (x ∷ y ∷ xs) r (λ z. (inr, λ h. elim h [ inl f ↦ inl (f ∙ e) | inr k ↦ k ])) w
+
+-- ---- places
+
+same_place : (q p : StreamPlace) → is_same_place q p ≡ true → q ≡ p
+same_place q p e =
+    let s = and_parts (q.body_sid == p.body_sid) (q.offset == p.offset) e in
+    let body = eqb-true q.body_sid p.body_sid s.0 in
+    let offset = eqb-true q.offset p.offset s.1 in λ i. record { body_sid = body i; offset = offset i }
+
+itself_place : (q p : StreamPlace) → q ≡ p → is_same_place q p ≡ true
+itself_place q p e =
+    and_from (q.body_sid == p.body_sid) (q.offset == p.offset) (eq-eqb _ _ (ap (λ (x : StreamPlace). x.body_sid) e))
+    (eq-eqb _ _ (ap (λ (x : StreamPlace). x.offset) e))
+
+abbrev PlacesWalked : List StreamPlace → Result StreamPlace UnitStanding → Type 0
+PlacesWalked =
+    Walked {K = StreamPlace} {R = Result StreamPlace UnitStanding} (Err standings.NotIndexed) (λ p. Ok p)
+    (Err standings.Ambiguous)
+
+walk_on : (q : StreamPlace) (places : List StreamPlace) → PlacesWalked (q ∷ places) (only_place (Some q) places)
+walk_on q [] = inr (inl (q, inl refl, λ y h. elim h [ inl e ↦ e | inr k ↦ absurd k ], refl))
+walk_on q (p ∷ places) =
+    elim (is_same_place q p) as (λ b. is_same_place q p ≡ b
+    → PlacesWalked (q ∷ p ∷ places) (if not b then Err standings.Ambiguous else only_place (Some p) places)) [
+      | true ↦ λ e. repeated (Err standings.NotIndexed) (λ p. Ok p) (Err standings.Ambiguous) q p places
+          (only_place (Some p) places) (same_place q p e) (walk_on p places)
+      | false ↦ λ e. inr (inr (q, p, inl refl, inr (inl refl), λ s. (let t = itself_place q p s in cc (t, e)), refl))
+    ] refl
+
+walk_places : (places : List StreamPlace) → PlacesWalked places (only_place None places)
+walk_places [] = inl (λ x h. h, refl)
+walk_places (p ∷ places) = walk_on p places
+
+pub same-only_place : (xs ys : List StreamPlace) → SameMembers xs ys → only_place None xs ≡ only_place None ys
+same-only_place xs ys same =
+    one_answer (Err standings.NotIndexed) (λ p. Ok p) (Err standings.Ambiguous) ys (only_place None xs)
+    (only_place None ys)
+    (other_members (Err standings.NotIndexed) (λ p. Ok p) (Err standings.Ambiguous) xs ys (only_place None xs) same
+    (walk_places xs))
+    (walk_places ys)
+
+-- ---- entries
+
+same_entry : (d e : IndexEntry) → is_same_entry d e ≡ true → d ≡ e
+same_entry d e h =
+    let s = and_parts (int_eq d.temporal_offset e.temporal_offset && int_eq d.key_frame_offset e.key_frame_offset)
+    (d.flags == e.flags) h in
+    let t = and_parts (int_eq d.temporal_offset e.temporal_offset) (int_eq d.key_frame_offset e.key_frame_offset) s.0 in
+    let temporal = (signed_Decides d.temporal_offset e.temporal_offset).0 t.0 in
+    let key = (signed_Decides d.key_frame_offset e.key_frame_offset).0 t.1 in
+    let flags = eqb-true d.flags e.flags s.1 in
+    λ i. record { temporal_offset = temporal i; key_frame_offset = key i; flags = flags i }
+
+itself_entry : (d e : IndexEntry) → d ≡ e → is_same_entry d e ≡ true
+itself_entry d e h =
+    and_from (int_eq d.temporal_offset e.temporal_offset && int_eq d.key_frame_offset e.key_frame_offset)
+    (d.flags == e.flags)
+    (and_from (int_eq d.temporal_offset e.temporal_offset) (int_eq d.key_frame_offset e.key_frame_offset)
+    ((signed_Decides d.temporal_offset e.temporal_offset).1 (ap (λ (x : IndexEntry). x.temporal_offset) h))
+    ((signed_Decides d.key_frame_offset e.key_frame_offset).1 (ap (λ (x : IndexEntry). x.key_frame_offset) h)))
+    (eq-eqb _ _ (ap (λ (x : IndexEntry). x.flags) h))
+
+abbrev EntriesWalked : List IndexEntry → Option IndexEntry → Type 0
+EntriesWalked = Walked {K = IndexEntry} {R = Option IndexEntry} None (λ e. Some e) None
+
+entries_on : (d : IndexEntry) (entries : List IndexEntry) → EntriesWalked (d ∷ entries) (only_entry (Some d) entries)
+entries_on d [] = inr (inl (d, inl refl, λ y h. elim h [ inl e ↦ e | inr k ↦ absurd k ], refl))
+entries_on d (e ∷ entries) =
+    elim (is_same_entry d e) as (λ b. is_same_entry d e ≡ b
+    → EntriesWalked (d ∷ e ∷ entries) (if not b then None else only_entry (Some e) entries)) [
+      | true ↦ λ h. repeated None (λ x. Some x) None d e entries (only_entry (Some e) entries) (same_entry d e h)
+          (entries_on e entries)
+      | false ↦ λ h. inr (inr (d, e, inl refl, inr (inl refl), λ s. (let t = itself_entry d e s in cc (t, h)), refl))
+    ] refl
+
+walk_entries : (entries : List IndexEntry) → EntriesWalked entries (only_entry None entries)
+walk_entries [] = inl (λ x h. h, refl)
+walk_entries (e ∷ entries) = entries_on e entries
+
+pub same-only_entry : (xs ys : List IndexEntry) → SameMembers xs ys → only_entry None xs ≡ only_entry None ys
+same-only_entry xs ys same =
+    one_answer None (λ x. Some x) None ys (only_entry None xs) (only_entry None ys)
+    (other_members None (λ x. Some x) None xs ys (only_entry None xs) same (walk_entries xs)) (walk_entries ys)
+
+-- ---- segments that don't have a unit
+
+when : (b c : Bool) → (b ≡ true → c ≡ true → ⊥) → (b && c) ≡ false
+when true true f = absurd (f refl refl)
+when true false f = refl
+when false c f = refl
+
+module _ (unit : ℕ) (fits : unit < 2 ^ 64) (s : SegmentAtParts)
+    (outside : (units_end s < unit) ⊎ (unit < first_unit s)) where
+  abbrev start : ℕ
+  start = unsigned_abs s.segment.numbers.start
+
+  abbrev duration : ℕ
+  duration = unsigned_abs s.segment.numbers.duration
+
+  no_entry : is_constant s.segment.numbers ≡ false → covers_entry s.segment unit ≡ false
+  no_entry e = false_from_ne_true (covers_entry s.segment unit) (λ t.
+      let p = and_parts (nat_le start unit && nat_lt unit (start + duration))
+      (nat_lt (unit - start) (entry_count s.segment)) t in
+      let q = and_parts (nat_le start unit) (nat_lt unit (start + duration)) p.0 in
+      let from : start ≤ unit = leb-true start unit q.0 in
+      let below : unit < start + duration = ltb-true unit (start + duration) q.1 in
+      let listed : unit - start < entry_count s.segment = ltb-true (unit - start) (entry_count s.segment) p.1 in
+      elim outside [
+        | inr before ↦ omega (arith, before, from)
+        | inl ended ↦
+            let is : units_end s ≡ start + min duration (entry_count s.segment) =
+            ap (λ b. if b then (if duration == 0 then 2 ^ 64 else start + duration)
+            else start + min duration (entry_count s.segment)) e in
+            omega (arith, ended, is, below, listed, from)
+      ])
+
+  no_constant : is_constant s.segment.numbers ≡ true → covers_constant s.segment unit ≡ false
+  no_constant e = when (nat_le start unit) ((duration == 0) || nat_lt unit (start + duration)) (λ p q.
+      let from : start ≤ unit = leb-true start unit p in
+      elim outside [
+        | inr before ↦ omega (arith, before, from)
+        | inl ended ↦
+            elim (duration == 0) as (λ b. (if is_constant s.segment.numbers then (if b then 2 ^ 64 else start + duration)
+            else start + min duration (entry_count s.segment)) < unit
+            → (b || nat_lt unit (start + duration)) ≡ true → ⊥) [
+              | true ↦ λ l t.
+                  let is = ap (λ b. if b then 2 ^ 64 else start + min duration (entry_count s.segment)) e in
+                  omega (arith, l, is, fits)
+              | false ↦ λ l t.
+                  let is = ap (λ b. if b then start + duration else start + min duration (entry_count s.segment)) e in
+                  let below : unit < start + duration = ltb-true unit (start + duration) t in
+                  omega (arith, l, is, below)
+            ] ended q
+      ])
+
+  pub outside-place : place_in unit s ≡ None
+  outside-place =
+      elim (is_constant s.segment.numbers) as (λ b. is_constant s.segment.numbers ≡ b → option_map (in_stream s)
+      (if b then (if covers_constant s.segment unit then Some (s.segment.numbers.unit_bytes * unit) else None)
+      else (if covers_entry s.segment unit then Some (entry_offset s.segment (unit - start)) else None)) ≡ None) [
+        | true ↦ λ e. ap (λ b. option_map (in_stream s) (if b then Some (s.segment.numbers.unit_bytes * unit) else None)) (no_constant e)
+        | false ↦ λ e. ap (λ b. option_map (in_stream s) (if b then Some (entry_offset s.segment (unit - start)) else None)) (no_entry e)
+      ] refl
+
+  pub outside-entry : index_entry s.segment unit ≡ None
+  outside-entry =
+      elim (is_constant s.segment.numbers) as (λ b. is_constant s.segment.numbers ≡ b → (if b then None
+      else (if covers_entry s.segment unit then Some (entry_at s.segment (unit - start)) else None)) ≡ None) [
+        | true ↦ λ e. refl
+        | false ↦ λ e. ap (λ b. if b then Some (entry_at s.segment (unit - start)) else None) (no_entry e)
+      ] refl
+
+-- So segments in another order, and those of them alone that may have it, place a unit as all do.
+module _ (unit : ℕ) (fits : unit < 2 ^ 64) (segments all near above : List SegmentAtParts)
+    (order : IsPermutation segments all) (around : IsAround first_unit units_end unit all near above) where
+  pub near-place : place_of near unit ≡ place_of segments unit
+  near-place =
+      ap (only_place None) (near_alone first_unit units_end (place_in unit) unit all near above around
+      (λ s l. outside-place unit fits s (inl l)) (λ s l. outside-place unit fits s (inr l)))
+      ∙ same-only_place (filter_map (place_in unit) all) (filter_map (place_in unit) segments)
+      (same-filter_map (place_in unit) all segments (permuted segments all order))
+
+  pub near-entry : entry_of near unit ≡ entry_of segments unit
+  near-entry =
+      let f = λ (s : SegmentAtParts). index_entry s.segment unit in
+      ap (only_entry None) (near_alone first_unit units_end f unit all near above around
+      (λ s l. outside-entry unit fits s (inl l)) (λ s l. outside-entry unit fits s (inr l)))
+      ∙ same-only_entry (filter_map f all) (filter_map f segments)
+      (same-filter_map f all segments (permuted segments all order))

@@ -1,0 +1,25 @@
+use Rattle.std.proofs.Common.{◌≡◌, subst}
+use Rattle.mxf_units.specs.Intervals.{IsAround}
+use Rattle.mxf_units.specs.NextPlaces.{first_unit, units_end}
+use Rattle.mxf_units.specs.Streams.{entry_of, place_of, segments_for}
+use Rattle.mxf_units.specs.Units.{UnitsParts}
+use Rattle.mxf_units.proofs.WalkLaws.{near-entry, near-place}
+use Rattle.mxf_units.proofs.units.Units.segments_near.Goals as goal
+
+around : (c : goal.After-near-1) → IsAround first_unit units_end c.args.unit c.self.inside.segments
+    c.around.result.0.now c.around.result.1.now
+around c =
+    subst (λ n. IsAround first_unit units_end n c.self.inside.segments c.around.result.0.now c.around.result.1.now)
+    c.from.ensures c.around.ensures
+
+pub returns-clause-place : goal.returns-clause-place
+returns-clause-place c =
+    subst (λ (u : UnitsParts). place_of c.around.result.0.now c.args.unit
+    ≡ place_of (segments_for u.notes u.index_sid) c.args.unit) c.self.view_is
+    (near-place c.args.unit c.ranges.unit.fits _ _ _ _ c.self.invariant.0 (around c))
+
+pub returns-clause-entry : goal.returns-clause-entry
+returns-clause-entry c =
+    subst (λ (u : UnitsParts). entry_of c.around.result.0.now c.args.unit
+    ≡ entry_of (segments_for u.notes u.index_sid) c.args.unit) c.self.view_is
+    (near-entry c.args.unit c.ranges.unit.fits _ _ _ _ c.self.invariant.0 (around c))
