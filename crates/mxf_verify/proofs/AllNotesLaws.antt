@@ -1,6 +1,6 @@
 -- The notes of all sources together.
 use Rattle.std.proofs.Common.{◌≡◌, ◌≢◌, ◌↔◌, ◌⊎◌, ◌∙◌, ◌+◌, ◌++◌, ℕ, zero, suc, List, [], ◌∷◌, refl, sym, ap, subst, inl}
-use Rattle.std.proofs.Common.{inr, get_or, ◌==◌, ◌&&◌, ◌||◌, Bool, true, false, arith, eqb-true, length}
+use Rattle.std.proofs.Common.{inr, get_or, true}
 use Rattle.std.proofs.lemmas.Bool.{false≢true}
 use Rattle.std.specs.List.{AllByRecursion}
 use Rattle.mxf_klv.specs.Parts.{NoteParts}
@@ -11,8 +11,8 @@ use Rattle.mxf_catalogue.specs.Content.{AreReduced, IsContent, IsLocated, has_no
 use Rattle.mxf_catalogue.specs.Reduced.{IsKnown}
 use Rattle.mxf_catalogue.proofs.HeadLaws.{AreReduced-reduced_union, In-located, IsContent-reduced_union}
 use Rattle.mxf_catalogue.proofs.HeadLaws.{has-reduced_union, one_reduced}
-use Rattle.mxf_verify.specs.Readings.{IsHeld, all_notes, content_of, is_alone, is_held, sources_of}
-use Rattle.mxf_verify.proofs.SourceLaws.{at_number, held_says, sources_say}
+use Rattle.mxf_verify.specs.Readings.{IsHeld, all_notes, content_of, sources_of}
+use Rattle.mxf_verify.proofs.SourceLaws.{at_number, sources_say}
 
 pub all_content : (contents : List (List NoteParts)) → AllByRecursion IsContent contents
     → IsContent (all_notes contents)
@@ -124,43 +124,13 @@ some_source n contents r h e =
     subst (In held.0) e ((sources_say held.0 n contents).1 held.1)
 
 -- The note of a whole packet that some source has is one of all.
-whole_joined : (number : ℕ) (n : NoteParts) (contents : List (List NoteParts)) → n.whole ≡ true
+pub whole_joined : (number : ℕ) (n : NoteParts) (contents : List (List NoteParts)) → n.whole ≡ true
     → In n (content_of number contents) → In n (all_notes contents)
 whole_joined number n contents whole h =
     elim ((known n contents).1 (inl (number, h))) [
       | inl k ↦ k
       | inr s ↦ absurd (false≢true (ap (λ (m : NoteParts). m.whole) s.2 ∙ whole))
     ]
-
--- So of a note that one source alone has it is asked only of a head whether it is one of all.
-pub alone_by : (n : NoteParts) (contents : List (List NoteParts)) (one whole held : Bool)
-    → one ≡ (length (sources_of n contents) == 1) → whole ≡ n.whole
-    → (whole ≡ false → held ≡ is_held n (all_notes contents)) → (one && (whole || held)) ≡ is_alone contents n
-alone_by n contents one whole held is kind asked =
-    elim one as (λ b. one ≡ b → (b && (whole || held)) ≡ is_alone contents n) [
-      | false ↦ λ e. sym (ap (λ b. is_held n (all_notes contents) && b) (sym is ∙ e) ∙ and-false (is_held n (all_notes contents)))
-      | true ↦ λ e. first (sym is ∙ e) whole kind asked
-          ∙ sym (ap (λ b. is_held n (all_notes contents) && b) (sym is ∙ e) ∙ and-true (is_held n (all_notes contents)))
-    ] refl
-  where
-    and-false : (b : Bool) → (b && false) ≡ false
-    and-false true = refl
-    and-false false = refl
-
-    and-true : (b : Bool) → (b && true) ≡ b
-    and-true true = refl
-    and-true false = refl
-
-    some : (xs : List ℕ) → (length xs == 1) ≡ true → (x : ℕ) × In x xs
-    some [] e = absurd (let none = eqb-true 0 1 e in omega (arith, none))
-    some (x ∷ xs) e = (x, inl refl)
-
-    first : (length (sources_of n contents) == 1) ≡ true → (whole : Bool) → whole ≡ n.whole
-        → (whole ≡ false → held ≡ is_held n (all_notes contents)) → (whole || held) ≡ is_held n (all_notes contents)
-    first e false kind asked = asked refl
-    first e true kind asked =
-        let s = some (sources_of n contents) e in
-        sym ((held_says n (all_notes contents)).1 (whole_joined s.0 n contents (sym kind) ((sources_say s.0 n contents).0 s.1)))
 
 -- What two halves of some contents hold together.
 pub halves_joined : (contents front back others : List (List NoteParts)) (first f b : List NoteParts)

@@ -20,9 +20,9 @@ use Rattle.mxf_verify.specs.declared.compared.Compared.{Compared}
 use Rattle.mxf_verify.specs.declared.comparison.Comparison.{Comparison}
 use Rattle.mxf_verify.specs.declared.reading.Reading.{Reading}
 use Rattle.mxf_verify.proofs.ByteLaws.{agrees_none}
-use Rattle.mxf_verify.proofs.CandidateLaws.{and_true, covered_by_size, drop_none, or_true, take_none}
+use Rattle.mxf_verify.proofs.CandidateLaws.{and_true, drop_none, or_true, take_none}
 use Rattle.mxf_verify.proofs.SaidLaws.{said_told}
-use Rattle.mxf_verify.proofs.TakingLaws.{held_length}
+use Rattle.mxf_verify.proofs.TakingLaws.{all_held}
 
 -- no byte says anything else
 agrees_with_none : (n : NoteParts) → agrees_with n [] ≡ true
@@ -46,12 +46,6 @@ pub fresh_agree : (offset : ℕ) (cs : List Candidate) → AllWithin (λ c. c.is
 fresh_agree offset [] fresh = refl
 fresh_agree offset (c ∷ cs) fresh = λ i. agreeing_none offset c (fresh 0 c (omega arith) (omega arith)) i
     ∷ fresh_agree offset cs (λ k d l h. fresh (suc k) d (omega arith) (omega arith)) i
-
--- so many bytes of a note are there where all are
-all_held : (n : NoteParts) (offset : ℕ) (bytes : List ℕ) → IsAmong n offset bytes
-    → length (held_in n offset bytes) ≡ held_size n
-all_held n offset bytes among =
-    omega (arith, held_length n offset bytes among.from, covered_by_size n, among.to)
 
 told_same : (offset : ℕ) (bytes : List ℕ) (r : Bor NoteParts) → IsNote r.now → IsAmong r.now offset bytes
     → IsTrue (told offset bytes r).is_same ↔ IsSaidBy r.now (held_in r.now offset bytes)

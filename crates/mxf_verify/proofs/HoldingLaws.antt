@@ -1,5 +1,5 @@
 -- Holdings: what they say of sources, and where those of a note stand.
-use Rattle.std.proofs.Common.{◌≡◌, ◌↔◌, ◌⊎◌, ◌+◌, ◌≤◌, ◌<◌, ◌∙◌, ◌==◌, ◌&&◌, ◌||◌, not, cond, ℕ, zero, suc, Bool, true, false, List, []}
+use Rattle.std.proofs.Common.{◌≡◌, ◌↔◌, ◌⊎◌, ◌+◌, ◌-◌, ◌≤◌, ◌<◌, ◌∙◌, ◌==◌, ◌&&◌, ◌||◌, not, cond, ℕ, zero, suc, Bool, true, false, List, []}
 use Rattle.std.proofs.Common.{◌∷◌, IsTrue, refl, sym, ap, subst, inl, inr, arith, get_or, eqb-true, length, nat_cmp, nat_lt}
 use Rattle.std.proofs.Common.{Ordering, Less, Equal, Greater, drop, filter, map, take}
 use Rattle.std.specs.List.{AllWithin, list_any}
@@ -8,7 +8,7 @@ use Rattle.std.specs.List.Sorted.{IsNonDecreasingBy, IsPartitionedBy, IsPermutat
 use Rattle.std.specs.Ordering.{eq_by_cmp, is_eq, is_le, is_lt, ordering_index, ordering_reverse, ordering_then}
 use Rattle.std.proofs.lemmas.Bool.{ltb-false, ltb-true}
 use Rattle.std.proofs.lemmas.Cmp.{nat_cmp_total, tied_itself}
-use Rattle.std.proofs.lemmas.List.{length-map}
+use Rattle.std.proofs.lemmas.List.{get_or_default, length-map}
 use Rattle.std.proofs.lemmas.List.Sorted.{searchable_from_sorted}
 use Rattle.std.specs.FinSet.{nat_cmp-IsAntisymmetric}
 use Rattle.mxf_klv.specs.Parts.{NoteParts}
@@ -19,7 +19,7 @@ use Rattle.mxf_klv.proofs.Lists.{all-In, all_from_In, In-append, In-at, In-filte
 use Rattle.mxf_klv.proofs.SortedUnions.{in_order, in_order-rises}
 use Rattle.mxf_catalogue.specs.ReducedLaws.{is_same-Decides, rising-filter}
 use Rattle.mxf_verify.specs.HoldingOrder.{holding_total, holding_cmp-IsAntisymmetric}
-use Rattle.mxf_verify.specs.Holdings.{AreHoldings, HoldingParts, holding, holding_cmp, holdings_from, is_of}
+use Rattle.mxf_verify.specs.Holdings.{AreHoldings, HoldingParts, holding, holding_cmp, holdings_from, is_of, is_only}
 use Rattle.mxf_verify.specs.Readings.{content_of, sources_of}
 use Rattle.mxf_verify.proofs.SourceLaws.{at_number, sources_rise, sources_say}
 
@@ -208,6 +208,12 @@ module _ (n : NoteParts) (hs : List HoldingParts) (a b : ℕ) (la : a ≤ length
 
 -- ---- whether there is one
 
+not_one : (k : ℕ) → 2 ≤ k → (k == 1) ≡ false
+not_one k l = elim (k == 1) as (λ b. (k == 1) ≡ b → b ≡ false) [
+  | true ↦ λ e. let one = eqb-true k 1 e in absurd (omega (arith, one, l))
+  | false ↦ λ e. refl
+] refl
+
 -- One is of the note, or none, or the second is too.
 first_one : (n : NoteParts) (hs : List HoldingParts) → IsRising holding_cmp hs
     → AllWithin (λ h. is_lt (note_cmp h.note n) ≡ false) hs 0 (length hs)
@@ -237,12 +243,6 @@ first_one n (x ∷ hs) r f =
         high Greater Equal f e l = absurd (omega arith)
         high Greater Greater f e l = refl
 
-    more : (k : ℕ) → (suc (suc k) == 1) ≡ false
-    more k = elim (suc (suc k) == 1) as (λ b. (suc (suc k) == 1) ≡ b → b ≡ false) [
-      | true ↦ λ e. let two = eqb-true (suc (suc k)) 1 e in absurd (omega (arith, two))
-      | false ↦ λ e. refl
-    ] refl
-
     second : (hs : List HoldingParts) → IsRising holding_cmp (x ∷ hs)
         → AllWithin (λ h. is_lt (note_cmp h.note n) ≡ false) (x ∷ hs) 0 (length (x ∷ hs))
         → not (list_any (is_of n) (take 1 hs)) ≡ (length (x ∷ filter (is_of n) hs) == 1)
@@ -250,7 +250,7 @@ first_one n (x ∷ hs) r f =
     second (y ∷ hs) r f =
         elim (is_of n y) as (λ b. is_of n y ≡ b → not (b || false)
         ≡ (length (x ∷ cond b (y ∷ filter (is_of n) hs) (filter (is_of n) hs)) == 1)) [
-          | true ↦ λ e. sym (more (length (filter (is_of n) hs)))
+          | true ↦ λ e. sym (not_one (suc (suc (length (filter (is_of n) hs)))) (omega arith))
           | false ↦ λ e. sym (ap (λ (l : List HoldingParts). length (x ∷ l) == 1)
               (none_above n y hs r.1 (f 1 y (omega arith) (omega arith)) e))
         ] refl
@@ -267,16 +267,108 @@ from_one n (x ∷ hs) (suc at) r l below above = rw (lt_not_eq (note_cmp x.note 
     (from_one n hs at r.1 (omega (arith, l)) (λ k d a b. below (suc k) d (omega arith) (omega arith))
     (λ k d a b. above (suc k) d (omega arith) (omega arith)))
 
-pub one_by : (n : NoteParts) (hs from : List HoldingParts) (at : ℕ) (first second : Bool) → IsRising holding_cmp hs
-    → at ≤ length hs → AllWithin (λ h. is_lt (note_cmp h.note n) ≡ true) hs 0 at
-    → AllWithin (λ h. is_lt (note_cmp h.note n) ≡ false) hs at (length hs) → from ≡ drop at hs
-    → first ≡ list_any (is_of n) (take 1 from) → second ≡ list_any (is_of n) (take 1 (drop 1 from))
-    → (first && not second) ≡ (length (filter (is_of n) hs) == 1)
-one_by n hs from at first second r l below above is p q =
-    ap (λ b. b && not second) p
-    ∙ ap (λ b. list_any (is_of n) (take 1 from) && not b) q
-    ∙ ap (λ xs. list_any (is_of n) (take 1 xs) && not (list_any (is_of n) (take 1 (drop 1 xs)))) is
-    ∙ from_one n hs at r l below above
+-- Whether one is there at a place, and whether one is ahead of it.
+at_place : {K : Type 0} (p : K → Bool) (xs : List K) (k : ℕ) (d : K) → k < length xs
+    → list_any p (take 1 (drop k xs)) ≡ p (get_or xs k d)
+at_place p [] k d l = absurd (omega arith)
+at_place p (x ∷ xs) zero d l = elim (p x) as (λ b. (b || false) ≡ b) [ true ↦ refl | false ↦ refl ]
+at_place p (x ∷ xs) (suc k) d l = at_place p xs k d (omega (arith, l))
+
+ahead : {K : Type 0} (p : K → Bool) (xs : List K) (k : ℕ) (d : K) → k < length xs
+    → list_any p (take 1 (drop k (take (suc k) xs))) ≡ p (get_or xs k d)
+ahead p [] k d l = absurd (omega arith)
+ahead p (x ∷ xs) zero d l = elim (p x) as (λ b. (b || false) ≡ b) [ true ↦ refl | false ↦ refl ]
+ahead p (x ∷ xs) (suc k) d l = ahead p xs k d (omega (arith, l))
+
+-- Two neighbours are two.
+two : {K : Type 0} (p : K → Bool) (xs : List K) (k : ℕ) (d : K) → suc k < length xs → p (get_or xs k d) ≡ true
+    → p (get_or xs (suc k) d) ≡ true → 2 ≤ length (filter p xs)
+two p [] k d l f g = absurd (omega arith)
+two p (x ∷ []) k d l f g = absurd (omega (arith, l))
+two p (x ∷ y ∷ xs) zero d l f g = rw f (rw g (omega arith))
+two p (x ∷ y ∷ xs) (suc k) d l f g =
+    let ih = two p (y ∷ xs) k d (omega (arith, l)) f g in
+    elim (p x) as (λ b. 2 ≤ length (cond b (x ∷ filter p (y ∷ xs)) (filter p (y ∷ xs)))) [
+      | true ↦ omega (arith, ih)
+      | false ↦ ih
+    ]
+
+low_eq : (o : Ordering) → is_eq o ≡ false → ordering_index o ≤ 1 → ordering_index o ≤ 0
+low_eq Less e l = omega arith
+low_eq Equal e l = absurd cc
+low_eq Greater e l = absurd (omega (arith, l))
+
+high_lt : (o : Ordering) → 1 ≤ ordering_index o → is_lt o ≡ false
+high_lt Less l = absurd (omega (arith, l))
+high_lt Equal l = refl
+high_lt Greater l = refl
+
+-- The holding at a place is the only one of its note where neither neighbour is of it.
+module _ (hs : List HoldingParts) (d : HoldingParts) (r : IsRising holding_cmp hs) where
+  index_at : (at j : ℕ) (c : HoldingParts) → j < length hs
+      → ordering_index (note_cmp (get_or hs j c).note (get_or hs at d).note)
+      ≡ ordering_index (note_cmp (get_or hs j d).note (get_or hs at d).note)
+  index_at at j c l =
+      ap (λ (h : HoldingParts). ordering_index (note_cmp h.note (get_or hs at d).note)) (get_or_default hs j c d l)
+
+  own_index : (at : ℕ) → ordering_index (note_cmp (get_or hs at d).note (get_or hs at d).note) ≡ 1
+  own_index at = ap ordering_index (tied_itself note_total (get_or hs at d).note)
+
+  own : (at : ℕ) → is_of (get_or hs at d).note (get_or hs at d) ≡ true
+  own at = (is_same-Decides note_total note_cmp-IsAntisymmetric (get_or hs at d).note (get_or hs at d).note).1 refl
+
+  -- None ahead is of it.
+  first_of : (at : ℕ) (after : Bool) → at < length hs
+      → AllWithin (λ h. is_lt (note_cmp h.note (get_or hs at d).note) ≡ true) hs 0 at
+      → after ≡ list_any (is_of (get_or hs at d).note) (take 1 (drop 1 (drop at hs)))
+      → not after ≡ is_only hs (get_or hs at d)
+  first_of at after l below g =
+      let n = (get_or hs at d).note in
+      let here : list_any (is_of n) (take 1 (drop at hs)) ≡ true = at_place (is_of n) hs at d l ∙ own at in
+      ap not g
+      ∙ ap (λ b. b && not (list_any (is_of n) (take 1 (drop 1 (drop at hs))))) (sym here)
+      ∙ from_one n hs at r (omega (arith, l)) below (λ j c q h.
+      let m = comparisons n hs r at j d q h in
+      let same = index_at at j c h in
+      let one = own_index at in
+      high_lt (note_cmp (get_or hs j c).note n) (omega (arith, m, same, one)))
+
+  -- The one ahead isn't of it.
+  behind_other : (k : ℕ) → suc k < length hs → is_of (get_or hs (suc k) d).note (get_or hs k d) ≡ false
+      → AllWithin (λ h. is_lt (note_cmp h.note (get_or hs (suc k) d).note) ≡ true) hs 0 (suc k)
+  behind_other k l e j c q h =
+      let n = (get_or hs (suc k) d).note in
+      let up = comparisons n hs r j k d (omega (arith, h)) (omega (arith, l)) in
+      let next = comparisons n hs r k (suc k) d (omega arith) l in
+      let same = index_at (suc k) j c (omega (arith, h, l)) in
+      let one = own_index (suc k) in
+      let low = low_eq (note_cmp (get_or hs k d).note n) e (omega (arith, next, one)) in
+      low_lt (note_cmp (get_or hs j c).note n) (omega (arith, up, same, low))
+
+  only_at : (at : ℕ) (before after : Bool) → at < length hs
+      → before ≡ list_any (is_of (get_or hs at d).note) (take 1 (drop (at - 1) (take at hs)))
+      → after ≡ list_any (is_of (get_or hs at d).note) (take 1 (drop 1 (drop at hs)))
+      → (not before && not after) ≡ is_only hs (get_or hs at d)
+  only_at zero before after l e g =
+      ap (λ b. not b && not after) e ∙ first_of zero after l (λ j c q h. absurd (omega (arith, h))) g
+  only_at (suc k) before after l e g =
+      let n = (get_or hs (suc k) d).note in
+      let one : suc k - 1 ≡ k = omega arith in
+      let last : before ≡ is_of n (get_or hs k d) =
+      e ∙ ap (λ j. list_any (is_of n) (take 1 (drop j (take (suc k) hs)))) one ∙ ahead (is_of n) hs k d (omega (arith, l)) in
+      elim before as (λ b. before ≡ b → (not b && not after) ≡ is_only hs (get_or hs (suc k) d)) [
+        | true ↦ λ t. sym (not_one _ (two (is_of n) hs k d l (sym last ∙ t) (own (suc k))))
+        | false ↦ λ t. first_of (suc k) after l (behind_other k l (sym last ∙ t)) g
+      ] refl
+
+  pub only_by : (at : ℕ) (front from : List HoldingParts) (before after : Bool) → at < length hs → front ≡ take at hs
+      → from ≡ drop at hs → before ≡ list_any (is_of (get_or hs at d).note) (take 1 (drop (at - 1) front))
+      → after ≡ list_any (is_of (get_or hs at d).note) (take 1 (drop 1 from))
+      → (not before && not after) ≡ is_only hs (get_or hs at d)
+  only_by at front from before after l is_front is_from e g =
+      let n = (get_or hs at d).note in
+      only_at at before after l (e ∙ ap (λ xs. list_any (is_of n) (take 1 (drop (at - 1) xs))) is_front)
+      (g ∙ ap (λ xs. list_any (is_of n) (take 1 (drop 1 xs))) is_from)
 
 -- ---- their sources
 

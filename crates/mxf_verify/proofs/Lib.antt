@@ -1,6 +1,7 @@
 pub mod AgreeingCatalogues
 pub mod AgreementLaws
 pub mod AllNotesLaws
+pub mod AloneLaws
 pub mod ByteLaws
 pub mod CandidateLaws
 pub mod ComparedLaws

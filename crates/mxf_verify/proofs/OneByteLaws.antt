@@ -1,7 +1,7 @@
 -- One changed byte is of one note.
-use Rattle.std.proofs.Common.{◌≡◌, ◌⊎◌, ◌+◌, ◌-◌, ◌<◌, ◌≤◌, ◌∙◌, ◌++◌, ℕ, true, false, List, drop, length, take, cond}
+use Rattle.std.proofs.Common.{◌≡◌, ◌⊎◌, ◌+◌, ◌-◌, ◌<◌, ◌≤◌, ◌∙◌, ◌++◌, ℕ, true, false, not, IsTrue, List, drop, length, take, cond}
 use Rattle.std.proofs.Common.{inl, inr, refl, sym, ap, subst, arith}
-use Rattle.std.proofs.lemmas.Bool.{cases_lt}
+use Rattle.std.proofs.lemmas.Bool.{and_from, cases_lt, not_from_false}
 use Rattle.std.proofs.lemmas.List.{drop-drop, drop-take, take-append-drop, take-take, take_all}
 use Rattle.sha2.specs.Sha256.{sha256}
 use Rattle.mxf_klv.specs.Note.{IsCovered, covered_end, keeps_value}
@@ -9,7 +9,7 @@ use Rattle.mxf_klv.specs.Parts.{NoteParts}
 use Rattle.mxf_klv.specs.Rising.{In}
 use Rattle.mxf_catalogue.specs.Content.{IsCatalogue}
 use Rattle.mxf_verify.specs.VerificationLaws.{AreAllClear, AreOneByteApart}
-use Rattle.mxf_verify.specs.Verifying.{DiffersIn, IsAmong, IsSaidBy, front_size, held_in, held_size}
+use Rattle.mxf_verify.specs.Verifying.{DiffersIn, IsAmong, IsSaidBy, front_size, held_in, held_size, is_digested}
 use Rattle.mxf_verify.specs.Verifying.{Bytes}
 use Rattle.mxf_verify.proofs.CandidateLaws.{covered_by_size}
 use Rattle.mxf_verify.proofs.VerificationLaws.{clear_one, compared_so}
@@ -68,16 +68,18 @@ changed_alone reference n m offset at a b is clear apart i holds none j differs 
 
 -- What a note says of as many bytes as it holds are one list, or two values with one digest.
 pub said_once : (n : NoteParts) (a b : List ℕ) → IsSaidBy n a → IsSaidBy n b → length a ≡ held_size n
-    → length b ≡ held_size n → (a ≡ b) ⊎ (sha256 (drop (front_size n) a) ≡ sha256 (drop (front_size n) b))
+    → length b ≡ held_size n
+    → (a ≡ b) ⊎ (IsTrue (is_digested n) × (sha256 (drop (front_size n) a) ≡ sha256 (drop (front_size n) b)))
+unfolding is_digested
 said_once n a b s t p q =
     elim n.whole as (λ w. n.whole ≡ w
-    → (a ≡ b) ⊎ (sha256 (drop (front_size n) a) ≡ sha256 (drop (front_size n) b))) [
+    → (a ≡ b) ⊎ (IsTrue (is_digested n) × (sha256 (drop (front_size n) a) ≡ sha256 (drop (front_size n) b)))) [
       | false ↦ λ e.
           let size : held_size n ≡ front_size n = ap (λ w. cond w (front_size n + n.length) (front_size n)) e in
           let all = λ (l : List ℕ) (f : length l ≡ held_size n). sym (take_all (front_size n) l (omega (arith, f, size))) in
           inl (all a p ∙ front ∙ sym (all b q))
       | true ↦ λ e. elim (keeps_value n) as (λ k. keeps_value n ≡ k
-          → (a ≡ b) ⊎ (sha256 (drop (front_size n) a) ≡ sha256 (drop (front_size n) b))) [
+          → (a ≡ b) ⊎ (IsTrue (is_digested n) × (sha256 (drop (front_size n) a) ≡ sha256 (drop (front_size n) b)))) [
             | true ↦ λ k.
                 let whole = λ (l : List ℕ) (u : IsSaidBy n l). ap (λ w. cond w (drop (front_size n) l) (sha256 (drop (front_size n) l))) (sym k) ∙ u.value e in
                 inl (sym (take-append-drop (front_size n) a)
@@ -86,7 +88,7 @@ said_once n a b s t p q =
                 ∙ take-append-drop (front_size n) b)
             | false ↦ λ k.
                 let digest = λ (l : List ℕ) (u : IsSaidBy n l). ap (λ w. cond w (drop (front_size n) l) (sha256 (drop (front_size n) l))) (sym k) ∙ u.value e in
-                inr (digest a s ∙ sym (digest b t))
+                inr (and_from n.whole (not (keeps_value n)) e (not_from_false (keeps_value n) k), digest a s ∙ sym (digest b t))
           ] refl
     ] refl
   where

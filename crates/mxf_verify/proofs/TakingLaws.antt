@@ -10,7 +10,7 @@ use Rattle.std.specs.Str.{bytes_eq}
 use Rattle.sha2.specs.Sha256.{sha256}
 use Rattle.mxf_klv.specs.Parts.{NoteParts}
 use Rattle.mxf_klv.specs.Note.{covered_end}
-use Rattle.mxf_verify.specs.Verifying.{front_size, held_in, held_size, is_digested}
+use Rattle.mxf_verify.specs.Verifying.{IsAmong, front_size, held_in, held_size, is_digested}
 use Rattle.mxf_verify.specs.Agreeing.{agrees_on, agrees_with, part_of}
 use Rattle.mxf_verify.specs.Candidates.{also, compared}
 use Rattle.mxf_verify.specs.Taking.{HasTaken, agreeing, has_digest, told}
@@ -42,6 +42,12 @@ held_length n offset bytes h =
     let d = n.offset - offset in
     let seen : length (drop d bytes) ≡ offset + length bytes - n.offset = omega (arith, length-drop d bytes) in
     omega (arith, length-take (held_size n) (drop d bytes), seen)
+
+-- of a note that lies wholly in them all came
+pub all_held : (n : NoteParts) (offset : ℕ) (bytes : List ℕ) → IsAmong n offset bytes
+    → length (held_in n offset bytes) ≡ held_size n
+all_held n offset bytes among =
+    omega (arith, held_length n offset bytes among.from, covered_by_size n, among.to)
 
 -- what is said of the part by how much came before, or by where it lies
 same_on : (n : NoteParts) (offset : ℕ) (bytes more : List ℕ) → offset ≤ n.offset

@@ -1,7 +1,6 @@
 -- Of a reference beside sources there is one verification, and what that says.
-use Rattle.std.proofs.Common.{◌≡◌, ◌↔◌, ◌⊎◌, ◌+◌, ◌-◌, ◌≤◌, ◌∙◌, ℕ, true, false, ◌&&◌, ◌||◌, not, List, []}
-use Rattle.std.proofs.Common.{◌∷◌, ◌++◌, length, drop, map, cond, ltb, refl, sym, ap, subst, inl, inr, arith}
-use Rattle.std.proofs.lemmas.List.{length-drop, length-take}
+use Rattle.std.proofs.Common.{◌≡◌, ◌↔◌, ◌⊎◌, ◌+◌, ◌≤◌, ◌∙◌, ℕ, true, false, ◌&&◌, ◌||◌, not, List, []}
+use Rattle.std.proofs.Common.{◌∷◌, ◌++◌, length, map, cond, ltb, refl, sym, ap, subst, inl, inr, arith}
 use Rattle.std.proofs.lemmas.Bool.{false≢true, ltb-false, ltb-true}
 use Rattle.mxf_klv.specs.Note.{IsCovered, IsInSpan, IsNote, covered_end, end_of}
 use Rattle.mxf_klv.specs.Parts.{NoteParts}
@@ -24,9 +23,9 @@ use Rattle.mxf_verify.specs.VerificationLaws.{AreAllClear, SaysSame}
 use Rattle.mxf_verify.specs.Verifying.{DiffersIn, IsAmong, IsByteOf, IsCompared, IsCut, IsDiffering, IsDifferingByte, IsHeldBy, IsSaidBy}
 use Rattle.mxf_verify.specs.Verifying.{IsSameIn, IsUnknownByte, IsUnverifiedByte, IsVerified, IsVerifiedByte, Source, TouchesIn, held_in, held_size, is_digested}
 use Rattle.mxf_verify.specs.Verifying.{Bytes}
-use Rattle.mxf_verify.proofs.CandidateLaws.{covered_by_size}
 use Rattle.mxf_verify.proofs.SaidLaws.{said_told}
 use Rattle.mxf_verify.proofs.SeenLaws.{damaged_says}
+use Rattle.mxf_verify.proofs.TakingLaws.{all_held}
 
 -- ---- one verification
 
@@ -158,16 +157,6 @@ module _ (reference : List NoteParts) (sources : List Source) (v : VerificationP
 
 -- ---- each compared note is the same or differs
 
--- of a note that lies wholly in bytes these are as many as it holds
-pub held_length : (n : NoteParts) (offset : ℕ) (bytes : List ℕ) → IsAmong n offset bytes
-    → length (held_in n offset bytes) ≡ held_size n
-unfolding held_in
-held_length n offset bytes among =
-    let from : offset ≤ n.offset = among.from in
-    let to : covered_end n ≤ offset + length bytes = among.to in
-    let size = covered_by_size n in
-    omega (arith, length-take (held_size n) (drop (n.offset - offset) bytes), length-drop (n.offset - offset) bytes)
-
 -- they are as the note says, or aren't
 pub said_or_not : (n : NoteParts) (bytes : List ℕ) → IsNote n → length bytes ≡ held_size n
     → IsSaidBy n bytes ⊎ ¬ IsSaidBy n bytes
@@ -207,7 +196,7 @@ compared_so reference n offset bytes is clear held = (
         among = among;
       } in
       let note = all-In IsNote reference n is.members held in
-      elim (said_or_not n (held_in n offset bytes) note (held_length n offset bytes among)) [
+      elim (said_or_not n (held_in n offset bytes) note (all_held n offset bytes among)) [
         | inl s ↦ inl (compared, s)
         | inr f ↦ inr (
           compared,

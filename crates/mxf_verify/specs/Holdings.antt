@@ -1,12 +1,13 @@
 -- Which source holds which note, as one list (this project's profile).
-use Rattle.std.specs.Prelude.{◌↔◌, ℕ, ◌+◌, Bool, List, [], ◌∷◌, ◌++◌, map}
+use Rattle.std.specs.Prelude.{◌↔◌, ◌==◌, ◌&&◌, ℕ, ◌+◌, Bool, List, [], ◌∷◌, ◌++◌, filter, length, map}
+use Rattle.std.specs.List.Sorted.{IsNonDecreasing, IsPermutation}
 use Rattle.std.specs.Ordering.{nat_cmp, on, then_cmp}
 use Rattle.std.specs.declared.cmp.Ordering.{Ordering}
 use Rattle.mxf_klv.specs.Parts.{NoteParts}
 use Rattle.mxf_klv.specs.Note.{note_cmp}
 use Rattle.mxf_klv.specs.Rising.{In, IsRising}
 use Rattle.mxf_catalogue.specs.Disputes.{is_same_note}
-use Rattle.mxf_verify.specs.Readings.{content_of}
+use Rattle.mxf_verify.specs.Readings.{content_of, is_held}
 
 -- A note and the number of a source that has it.
 pub record HoldingParts : Type 0 where
@@ -33,3 +34,16 @@ holdings_from first (c ∷ contents) = map (holding first) c ++ holdings_from (f
 pub record AreHoldings (contents : List (List NoteParts)) (holdings : List HoldingParts) : Type 0 where
   pub rising : IsRising holding_cmp holdings
   pub members : (h : HoldingParts) → In h holdings ↔ In h.note (content_of h.source contents)
+
+-- It is the only one of its note.
+abbrev pub is_only : List HoldingParts → HoldingParts → Bool
+is_only holdings h = length (filter (is_of h.note) holdings) == 1
+
+-- The source of each that is the only one of its note, where that is one of all.
+abbrev pub sources_alone : List NoteParts → List HoldingParts → List ℕ
+sources_alone all holdings = map (λ h. h.source) (filter (λ h. is_only holdings h && is_held h.note all) holdings)
+
+-- The same sources, in an order in which their numbers don't fall.
+pub record AreAlone (all : List NoteParts) (holdings : List HoldingParts) (sources : List ℕ) : Type 0 where
+  pub members : IsPermutation (sources_alone all holdings) sources
+  pub rising : IsNonDecreasing sources

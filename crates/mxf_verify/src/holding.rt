@@ -1,10 +1,13 @@
 //! Which source holds which note, in the order of notes.
-ghost use Rattle.std.specs.Prelude.{◌≡◌, ◌==◌, ◌≤◌, ◌++◌, true, false, drop, filter, length, map, take, IfOk, OnOk};
+ghost use Rattle.std.specs.Prelude.{◌≡◌, ◌<◌, ◌≤◌, ◌++◌, true, false, drop, filter, length, map, take, IfOk, IsTrue};
+ghost use Rattle.std.specs.Prelude.{OnOk, slice_index_or};
 ghost use Rattle.std.specs.List.{AllWithin, list_any};
 ghost use Rattle.std.specs.Ordering.{is_le, is_lt};
 ghost use Rattle.mxf_klv.specs.Note.{note_cmp};
-ghost use Rattle.mxf_klv.specs.Rising.{IsRising};
-ghost use Rattle.mxf_verify.specs.Holdings.{AreHoldings, holding, holding_cmp, holdings_from, is_of};
+ghost use Rattle.mxf_klv.specs.Rising.{In, IsRising};
+ghost use Rattle.mxf_verify.specs.Holdings.{AreHoldings, HoldingParts, holding, holding_cmp, holdings_from, is_of};
+ghost use Rattle.mxf_verify.specs.Holdings.{is_only};
+ghost use Rattle.mxf_verify.specs.Readings.{is_held};
 
 use mxf_catalogue::Catalogue;
 use mxf_klv::{Note, OutOfMemory};
@@ -30,10 +33,18 @@ impl<'a> Model for Holding<'a> {
 
 impl<'a> Holding<'a> {
     /// The number of the source.
-    fn source(&self) -> usize
+    pub(crate) fn source(&self) -> usize
         ensures { result ≡ self.now.source }
     {
         self.source
+    }
+
+    /// Whether its note is one of all. The note of a whole packet is, so only a head is searched.
+    pub(crate) fn is_one_of(&self, all: &Catalogue) -> bool
+        requires { IsTrue self.now.note.whole → In self.now.note all.now }
+        ensures { result ≡ is_held self.now.note all.now }
+    {
+        !self.note.is_head() || is_held(all, self.note)
     }
 
     /// Whether it is of a note.
@@ -165,6 +176,13 @@ pub(crate) fn source_numbers(
     Ok(sources.collect(alloc)?)
 }
 
+/// Whether the note is one of a catalogue.
+pub(crate) fn is_held(catalogue: &Catalogue, note: &Note) -> bool
+    ensures { result ≡ is_held note.now catalogue.now }
+{
+    catalogue.holds(note)
+}
+
 /// From where to where the holdings are of a note: two binary searches.
 pub(crate) fn range(holdings: &[Holding<'_>], note: &Note) -> (usize, usize)
     requires { IsRising holding_cmp holdings.now }
@@ -177,14 +195,16 @@ pub(crate) fn range(holdings: &[Holding<'_>], note: &Note) -> (usize, usize)
     (from, to)
 }
 
-/// Whether one source alone has a note: a binary search.
-pub(crate) fn has_one(holdings: &[Holding<'_>], note: &Note) -> bool
-    requires { IsRising holding_cmp holdings.now }
-    ensures { result ≡ (length (filter (is_of note.now) holdings.now) == 1) }
+/// Whether the holding at a place is the only one of its note: neither of its neighbours is of it.
+pub(crate) fn is_only(holdings: &[Holding<'_>], at: usize) -> bool
+    requires rising { IsRising holding_cmp holdings.now }
+    requires bound { at < length holdings.now }
+    ensures { (d : HoldingParts) → result ≡ is_only holdings.now (slice_index_or holdings.now at d) }
 {
-    let at = count_below(holdings, note);
-    let (_, from) = holdings.split_at(at);
-    is_at(from, 0, note) && !is_at(from, 1, note)
+    let holding = &holdings[at];
+    let note = holding.note;
+    let (front, from) = holdings.split_at(at);
+    !is_at(front, at.saturating_sub(1), note) && !is_at(from, 1, note)
 }
 
 /// Whether the holding at a place is of a note; not where none is there.

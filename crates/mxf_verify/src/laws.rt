@@ -1,5 +1,5 @@
 //! Laws of what is told of a reference beside sources.
-ghost use Rattle.std.specs.Prelude.{◌≡◌, ◌↔◌, ◌⊎◌, ◌+◌, ◌++◌, ◌<◌, ◌≤◌, [], ◌∷◌, ℕ, List, drop, length, map};
+ghost use Rattle.std.specs.Prelude.{◌≡◌, ◌↔◌, ◌⊎◌, ◌+◌, ◌++◌, ◌<◌, ◌≤◌, [], ◌∷◌, ℕ, IsTrue, List, drop, length, map};
 ghost use Rattle.sha2.specs.Sha256.{sha256};
 ghost use Rattle.mxf_klv.specs.Bytes.{AreBytes};
 ghost use Rattle.mxf_klv.specs.Note.{IsCovered, greatest_end};
@@ -12,7 +12,7 @@ ghost use Rattle.mxf_catalogue.specs.Runs.{LiesIn};
 ghost use Rattle.mxf_verify.specs.Readings.{all_notes};
 ghost use Rattle.mxf_verify.specs.VerificationLaws.{AreAllClear, AreOneByteApart, HasNoEmptyHead, IsWholeReference, SaysSame, SaysWhole};
 ghost use Rattle.mxf_verify.specs.Verifications.{DifferingParts, IsVerification, VerificationParts};
-ghost use Rattle.mxf_verify.specs.Verifying.{IsSaidBy, front_size, held_size};
+ghost use Rattle.mxf_verify.specs.Verifying.{IsSaidBy, front_size, held_size, is_digested};
 ghost use Rattle.mxf_verify.specs.Verifying.{DiffersIn, IsAmong, IsCut, IsDiffering, IsHeldBy, IsSameIn, IsUnknownByte};
 ghost use Rattle.mxf_verify.specs.Verifying.{IsUnverifiedByte, IsVerified, Source, Bytes, Saved};
 
@@ -53,8 +53,9 @@ pub fn each_compared_note_is_the_same_or_differs()
 {}
 
 /// A law of [`verify`](crate::verify): of bytes in which no note of a clear reference differs one is changed. Then no note
-/// differs but the one that holds that byte. That one does, or its value was changed to another with the same digest: two
-/// stretches of bytes of which a note says all are one.
+/// differs but the one that holds that byte. Where that one lies wholly in the bytes, it differs, or its value was changed
+/// to another with the same digest: two stretches of bytes of which a note says all are one, unless it knows a digest
+/// alone.
 pub fn a_changed_byte_is_of_one_note()
     ensures alone { (reference : List NoteParts) (n m : NoteParts) (offset at : ℕ) (a b : List ℕ)
         → IsCatalogue reference → AreAllClear reference → AreOneByteApart at a b
@@ -63,7 +64,7 @@ pub fn a_changed_byte_is_of_one_note()
         → In m reference → DiffersIn reference m (Bytes offset b) → m ≡ n }
     ensures said { (n : NoteParts) (a b : List ℕ) → IsSaidBy n a → IsSaidBy n b
         → length a ≡ held_size n → length b ≡ held_size n
-        → (a ≡ b) ⊎ (sha256 (drop (front_size n) a) ≡ sha256 (drop (front_size n) b)) }
+        → (a ≡ b) ⊎ (IsTrue (is_digested n) × (sha256 (drop (front_size n) a) ≡ sha256 (drop (front_size n) b))) }
 {}
 
 /// A law of [`verify`](crate::verify): what is said depends on which sources there are, and not on their order or repeats; and

@@ -1,15 +1,17 @@
 //! Which source of a recording holds which note.
-ghost use Rattle.std.specs.Prelude.{◌≡◌, ◌≢◌, ◌↔◌, ◌≤◌, ◌++◌, ℕ, [], List, count_by, drop, length, take};
+ghost use Rattle.std.specs.Prelude.{◌≡◌, ◌≢◌, ◌↔◌, ◌≤◌, ◌==◌, ◌++◌, ℕ, [], List, count_by, drop, length, take};
 ghost use Rattle.std.specs.Prelude.{IfNone, IfOk, IfSome, IsTrue};
 ghost use Rattle.std.specs.List.{AllByRecursion};
+ghost use Rattle.std.specs.List.Sorted.{IsNonDecreasing};
 ghost use Rattle.std.specs.Ordering.{nat_cmp};
 ghost use Rattle.mxf_klv.specs.Parts.{NoteParts};
 ghost use Rattle.mxf_klv.specs.Rising.{In, IsRising};
 ghost use Rattle.mxf_catalogue.specs.Content.{AreReduced, IsContent, IsLocated, reduced_union};
+ghost use Rattle.mxf_verify.specs.Holdings.{holding_cmp, sources_alone};
 ghost use Rattle.mxf_verify.specs.Readings.{IsAlone, IsDisputedThere, IsHeld, all_notes, content_of, counts_of};
-ghost use Rattle.mxf_verify.specs.Readings.{is_alone, is_disputed_there, is_held, sources_of};
+ghost use Rattle.mxf_verify.specs.Readings.{is_alone, is_disputed_there, sources_of};
 
-use crate::holding::{Holding, has_one, holdings, range, source_numbers};
+use crate::holding::{Holding, holdings, is_only, range, source_numbers};
 use mxf_catalogue::{Catalogue, Semilattice};
 use mxf_klv::{Note, OutOfMemory};
 use std::alloc::Global;
@@ -38,12 +40,14 @@ pub struct Readings<'a> {
     holdings: Vec<Holding<'a>>,
     /// The number of the source of each of these.
     sources: Vec<usize>,
+    /// The number of a source as often as it is the only one of a note of all, rising.
+    alone: Vec<usize>,
 }
 
 impl<'a> Model for Readings<'a> {
     ghost use Rattle.std.specs.Prelude.{◌≡◌, List, map};
     ghost use Rattle.mxf_klv.specs.Parts.{NoteParts};
-    ghost use Rattle.mxf_verify.specs.Holdings.{AreHoldings};
+    ghost use Rattle.mxf_verify.specs.Holdings.{AreAlone, AreHoldings};
     ghost use Rattle.mxf_verify.specs.Readings.{all_notes};
 
     ghost Value = { List (List NoteParts) };
@@ -51,7 +55,8 @@ impl<'a> Model for Readings<'a> {
     ghost view = { λ r. r.contents.now };
 
     ghost invariant = { λ r. (r.all ≡ all_notes r.contents.now) × AreHoldings r.contents.now r.holdings.items
-        × (r.sources.items ≡ map (λ h. h.source) r.holdings.items) };
+        × (r.sources.items ≡ map (λ h. h.source) r.holdings.items)
+        × AreAlone r.all r.holdings.items r.alone.items };
 }
 
 impl<'a> Readings<'a> {
@@ -62,11 +67,14 @@ impl<'a> Readings<'a> {
         let all = joined(alloc, contents)?;
         let holdings = holdings(alloc, contents)?;
         let sources = source_numbers(alloc, &holdings)?;
+        let mut alone = sources_alone(alloc, &all, &holdings)?;
+        alone.sort_unstable();
         Ok(Readings {
             contents,
             all,
             holdings,
             sources,
+            alone,
         })
     }
 
@@ -99,12 +107,13 @@ impl<'a> Readings<'a> {
         part(&self.sources, from, to)
     }
 
-    /// What the source with a number holds; nothing where there is none. It takes n log n of its notes.
+    /// What the source with a number holds; nothing where there is none. It takes n log n of its notes, for those that
+    /// are disputed.
     pub fn counts(&self, number: usize) -> SourceCounts
         ensures { result ≡ counts_of number self.now }
     {
         match source_at(self.contents, number) {
-            Some(content) => self.counted(content),
+            Some(content) => self.counted(number, content),
             None => SourceCounts {
                 notes: 0,
                 alone: 0,
@@ -113,28 +122,22 @@ impl<'a> Readings<'a> {
         }
     }
 
-    /// What a source with this content holds.
-    fn counted(&self, content: &Catalogue) -> SourceCounts
+    /// What the source with a number and this content holds.
+    fn counted(&self, number: usize, content: &Catalogue) -> SourceCounts
+        requires { content.now ≡ content_of number self.now }
         ensures notes { result.notes ≡ length content.now }
         ensures alone { result.alone ≡ count_by (is_alone self.now) content.now }
         ensures disputed { result.disputed ≡ count_by (is_disputed_there self.now) content.now }
     {
+        content.laws();
         SourceCounts {
             notes: content.len(),
-            alone: content.notes().filter(|note| self.is_alone(note)).count(),
+            alone: count_of(&self.alone, number),
             disputed: content
                 .notes()
                 .filter(|note| self.is_disputed(note))
                 .count(),
         }
-    }
-
-    /// Whether a note is one of all, and one source alone has it: a binary search, and of a head two. The note of a whole
-    /// packet that some source has is one of all.
-    fn is_alone(&self, note: &Note) -> bool
-        ensures { result ≡ is_alone self.now note.now }
-    {
-        has_one(&self.holdings, note) && (!note.is_head() || is_held(&self.all, note))
     }
 
     /// Whether a note is one of all, and disputed there.
@@ -145,11 +148,33 @@ impl<'a> Readings<'a> {
     }
 }
 
-/// Whether the note is one of a catalogue.
-fn is_held(catalogue: &Catalogue, note: &Note) -> bool
-    ensures { result ≡ is_held note.now catalogue.now }
+/// The number of the source of each holding that is the only one of a note of all.
+fn sources_alone(
+    alloc: Global,
+    all: &Catalogue,
+    holdings: &[Holding<'_>],
+) -> Result<Vec<usize>, OutOfMemory>
+    requires rising { IsRising holding_cmp holdings.now }
+    requires whole { AllByRecursion (λ h. IsTrue h.note.whole → In h.note all.now) holdings.now }
+    ensures { IfOk result (λ v. v.items ≡ sources_alone all.now holdings.now) }
 {
-    catalogue.holds(note)
+    let mut sources = Vec::new(alloc);
+    for (at, holding) in holdings.iter().enumerate() {
+        if is_only(holdings, at) && holding.is_one_of(all) {
+            sources.push(holding.source())?;
+        }
+    }
+    Ok(sources)
+}
+
+/// How often a number stands among others, which don't fall: two binary searches.
+fn count_of(numbers: &[usize], number: usize) -> usize
+    requires { IsNonDecreasing numbers.now }
+    ensures { result ≡ count_by (λ k. k == number) numbers.now }
+{
+    let below = numbers.partition_point(|other| *other < number);
+    let up_to = numbers.partition_point(|other| *other <= number);
+    up_to - below
 }
 
 /// The content of the source with a number.

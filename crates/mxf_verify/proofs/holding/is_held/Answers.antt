@@ -1,7 +1,7 @@
 use Rattle.mxf_klv.proofs.Tests.{same_bool}
 use Rattle.mxf_verify.specs.Readings.{is_held}
 use Rattle.mxf_verify.proofs.SourceLaws.{held_says}
-use Rattle.mxf_verify.proofs.readings.is_held.Goals as goal
+use Rattle.mxf_verify.proofs.holding.is_held.Goals as goal
 
 pub returns : goal.returns
 returns c =
