@@ -1,19 +1,19 @@
 //! Edit units of an index, and their lines.
-ghost use Rattle.std.specs.Prelude.{◌≡◌, ◌+◌, ◌-◌, ◌<◌, ◌≤◌, ◌⊎◌, ◌∷◌, [], IfNone, IfOk, IfSome};
-ghost use Rattle.std.specs.Prelude.{codes, flat_map, length};
+ghost use Rattle.std.specs.Prelude.{◌≡◌, ◌==◌, ◌+◌, ◌-◌, ◌<◌, ◌≤◌, ◌⊎◌, ◌∷◌, [], if◌then◌else◌, IfNone, IfOk, IfSome};
+ghost use Rattle.std.specs.Prelude.{codes};
 ghost use Rattle.std.specs.Iterator.{YieldsFirst, item_count};
 ghost use Rattle.std.specs.Option.{option_and_then, option_map};
 ghost use Rattle.mxf_klv.specs.Written.{Puts};
 ghost use Rattle.mxf_lines.specs.Printing.{Prints};
-ghost use Rattle.mxf_lines.specs.UnitLines.{entry_fields, extent_fields, flags_value, held_count, is_held, last_line};
-ghost use Rattle.mxf_lines.specs.UnitLines.{needed_from, temporal_value, unit_line, unit_lines, units_from};
+ghost use Rattle.mxf_lines.specs.UnitLines.{entry_fields, extent_fields, flags_value, held_count, is_held};
+ghost use Rattle.mxf_lines.specs.UnitLines.{needed_from, temporal_value, unit_line, unit_lines, units_from, units_line};
 ghost use Rattle.mxf_lines.specs.UnitLines.{units_status};
 ghost use Rattle.mxf_lines.specs.Forms.{field, number_or};
 ghost use Rattle.mxf_lines.specs.Writing.{with_field, with_fields};
 
 use super::AnswerFault;
 use super::hexadecimal::HexDigits;
-use super::lines::{Each, FieldWriter, Line, Lines, Printer, Series, Then};
+use super::lines::{FieldWriter, Line, Lines, Printer};
 use mxf_units::{EditUnit, Extent, UnitStanding, Units};
 use std::alloc::AllocError;
 use std::io::Write;
@@ -79,8 +79,12 @@ pub fn print_units<W: Write>(
         result (unit_lines range.first (units_from units.now range.first range.count)) }
     ensures status { IfOk result (λ status. status ≡ units_status (units_from units.now range.first range.count)) }
 {
-    let last = UnitsLine::of(units, range);
-    Then(Each(UnitsLeft::of(units, range)), last).print_to(printer, writer)?;
+    let mut last = UnitsLine::of_none(range);
+    for unit in UnitsLeft::of(units, range) {
+        unit.print_to(printer, writer)?;
+        last.add(&unit);
+    }
+    last.print_to(printer, writer)?;
     Ok(last.status())
 }
 
@@ -163,60 +167,56 @@ fn write_flags(fields: &mut FieldWriter, flags: Option<u8>) -> Result<(), AllocE
     }
 }
 
-/// The last line of the units of a range: how many there are, how many of them are held, and from which on they need
-/// units.
+/// The last line of units: how many there are, how many of them are held, and from which on they need units.
 #[derive(Clone, Copy)]
-struct UnitsLine<'a> {
-    units: &'a Units<'a>,
-    range: UnitRange,
+struct UnitsLine {
+    units: u64,
     held: u64,
     from: u64,
-
-    ghost held_is: { held ≡ held_count (units_from units.now range.first range.count) },
-    ghost from_is: { from ≡ needed_from range.first (units_from units.now range.first range.count) },
 }
 
-impl<'a> UnitsLine<'a> {
-    /// Goes over the units.
-    #[tactic(auto, using(crate::proofs::UnitLineLaws::units_length))]
-    fn of(units: &'a Units<'a>, range: UnitRange) -> UnitsLine<'a>
-        ensures units { result.units.now ≡ units.now }
-        ensures range { result.range ≡ range }
+impl UnitsLine {
+    /// That of the units of a range, before any is counted.
+    fn of_none(range: UnitRange) -> UnitsLine
+        ensures { result ≡ record { units = range.count; held = 0; from = range.first } }
     {
-        let mut held: u64 = 0;
-        let mut from = range.first;
-        for unit in UnitsLeft::of(units, range) {
-            if is_held(unit.standing) {
-                held += 1;
-            }
-            if let Some(key) = unit.key {
-                from = from.min(key);
-            }
-        }
         UnitsLine {
-            units,
-            range,
-            held,
-            from,
+            units: range.count,
+            held: 0,
+            from: range.first,
+        }
+    }
+
+    /// Counts a unit.
+    fn add(&mut self, unit: &EditUnit)
+        requires { self.old.held < self.old.units }
+        ensures units { self.new.units ≡ self.old.units }
+        ensures held { self.new.held ≡ held_count (unit.now ∷ []) + self.old.held }
+        ensures from { self.new.from ≡ needed_from self.old.from (unit.now ∷ []) }
+    {
+        if is_held(unit.standing) {
+            self.held += 1;
+        }
+        if let Some(key) = unit.key {
+            self.from = self.from.min(key);
         }
     }
 
     /// 0 where all units are held, else 1.
-    #[tactic(auto, using(crate::proofs::UnitLineLaws::units_length))]
     fn status(&self) -> u8
-        ensures { result ≡ units_status (units_from self.now.units.now self.now.range.first self.now.range.count) }
+        ensures { result ≡ if self.now.held == self.now.units then 0 else 1 }
     {
-        u8::from(self.held != self.range.count)
+        u8::from(self.held != self.units)
     }
 }
 
-impl<'a> Line for UnitsLine<'a> {
-    ghost line = { λ l. last_line l.range.first (units_from l.units.now l.range.first l.range.count) };
+impl Line for UnitsLine {
+    ghost line = { λ l. units_line l.units l.held l.from };
 
-    #[tactic(auto, using(crate::proofs::UnitLineLaws::units_length), unfolding(crate::specs::UnitLines::units_line))]
+    #[tactic(auto, unfolding(crate::specs::UnitLines::units_line))]
     fn write_fields(&self, fields: &mut FieldWriter) -> Result<(), AllocError> {
         fields.begin("units", "units")?;
-        fields.number(" ", "units", self.range.count)?;
+        fields.number(" ", "units", self.units)?;
         fields.number(" held ", "held", self.held)?;
         fields.number(" from ", "from", self.from)?;
         fields.end("")
@@ -278,17 +278,5 @@ impl<'a> Iterator for UnitsLeft<'a> {
         self.next += 1;
         self.left -= 1;
         Some(unit)
-    }
-}
-
-impl<'a> Series for UnitsLeft<'a> {
-    type Item = EditUnit;
-
-    ghost lines_left = { λ s. flat_map (λ u. unit_line u ∷ []) s };
-
-    ghost left = { λ s. length s };
-
-    fn next_item(&mut self) -> Option<EditUnit> {
-        self.next()
     }
 }
