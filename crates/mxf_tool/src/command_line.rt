@@ -63,91 +63,82 @@ pub struct IndexedUnits {
     pub units: AskedUnits,
 }
 
-/// What the help of the program ends with.
-const HELP: &str = "A source SRC is one of
+/// A help with what a source is: behind the text that it begins with, if any, and before the one that it ends with. It says
+/// which words stand for a source, what is read where its first byte may lie inside a packet, and what writes a catalogue.
+macro_rules! source_help {
+    ($end:literal) => {
+        source_help!(; "SRC", "it", "join or renew", $end)
+    };
+    ($begin:literal; $end:literal) => {
+        source_help!($begin; "SRC", "it", "join or renew", $end)
+    };
+    ($($begin:literal)?; $words:literal, $read:literal, $writers:literal, $end:literal) => {
+        concat! {
+            $($begin, "\n\n",)? "A source ", $words, " is one of
   at:OFFSET:PATH     a piece: the bytes of the file PATH, whose first byte lies at byte OFFSET of the recording
-  range:OFFSET:PATH  the same where the first byte may lie inside a packet: it is read from the next one on
-  cat:PATH           a catalogue that join or renew wrote
+  range:OFFSET:PATH  the same where the first byte may lie inside a packet: ", $read, " is read from the next one on
+  cat:PATH           a catalogue that ", $writers, " wrote
 
-Example: mxf_tool check at:0:clip.mxf";
+", $end
+        }
+    };
+}
+
+/// What the help of the program ends with.
+const HELP: &str = source_help!("Example: mxf_tool check at:0:clip.mxf");
 
 /// What the help of `show` ends with.
-const SHOW_HELP: &str = "A source SRC is one of
-  at:OFFSET:PATH     a piece: the bytes of the file PATH, whose first byte lies at byte OFFSET of the recording
-  range:OFFSET:PATH  the same where the first byte may lie inside a packet: it is read from the next one on
-  cat:PATH           a catalogue that join or renew wrote
-
-Example: mxf_tool show at:0:clip.mxf";
+const SHOW_HELP: &str = source_help!("Example: mxf_tool show at:0:clip.mxf");
 
 /// What the help of `check` ends with.
-const CHECK_HELP: &str = "A source SRC is one of
-  at:OFFSET:PATH     a piece: the bytes of the file PATH, whose first byte lies at byte OFFSET of the recording
-  range:OFFSET:PATH  the same where the first byte may lie inside a packet: it is read from the next one on
-  cat:PATH           a catalogue that join or renew wrote
-
-Example: mxf_tool check at:0:front.bin at:62914560:rest.bin";
+const CHECK_HELP: &str = source_help!(
+    "Example: mxf_tool check at:0:front.bin at:62914560:rest.bin"
+);
 
 /// What the help of `locate` ends with.
-const LOCATE_HELP: &str = "A source SRC is one of
-  at:OFFSET:PATH     a piece: the bytes of the file PATH, whose first byte lies at byte OFFSET of the recording
-  range:OFFSET:PATH  the same where the first byte may lie inside a packet: it is read from the next one on
-  cat:PATH           a catalogue that join or renew wrote
-
-Example: mxf_tool locate --index 1 --unit 250 at:0:clip.mxf";
+const LOCATE_HELP: &str = source_help!(
+    "Example: mxf_tool locate --index 1 --unit 250 at:0:clip.mxf"
+);
 
 /// What the help of `units` ends with.
-const UNITS_HELP: &str = "Each unit is one of
+const UNITS_HELP: &str = source_help!(
+    "Each unit is one of
   held  part  missing  disputed   it lies from START up to END: all, some or none of it is held, or in two readings
   elsewhere  unsure  unknown      it lies in a partition that isn't held, may do so, or its partition isn't known whole
   no-partition  several           no partition of its stream is held that begins before it, or more than one does
-  not-indexed  ambiguous          no segment of the index that is held has it, or segments disagree
-
-A source SRC is one of
-  at:OFFSET:PATH     a piece: the bytes of the file PATH, whose first byte lies at byte OFFSET of the recording
-  range:OFFSET:PATH  the same where the first byte may lie inside a packet: it is read from the next one on
-  cat:PATH           a catalogue that join or renew wrote
-
-Without --from the first is unit 0, without --to the last is that of the index: the last to which a segment that is held
+  not-indexed  ambiguous          no segment of the index that is held has it, or segments disagree";
+    "Without --from the first is unit 0, without --to the last is that of the index: the last to which a segment that is held
 gives a place. An index of units of one size has none where a segment states the duration 0.
 
-Example: mxf_tool units --from 250 --to 274 cat:clip.cat";
+Example: mxf_tool units --from 250 --to 274 cat:clip.cat"
+);
 
 /// What the help of `plan` ends with.
-const PLAN_HELP: &str = "A source SRC is one of
-  at:OFFSET:PATH     a piece: the bytes of the file PATH, whose first byte lies at byte OFFSET of the recording
-  range:OFFSET:PATH  the same where the first byte may lie inside a packet: it is read from the next one on
-  cat:PATH           a catalogue that join or renew wrote
-
-Example: mxf_tool plan range:62914560:part.bin cat:earlier.cat";
+const PLAN_HELP: &str = source_help!(
+    "Example: mxf_tool plan range:62914560:part.bin cat:earlier.cat"
+);
 
 /// What the help of `map` ends with.
-const MAP_HELP: &str = "Each character is a cell of as many bytes, what fits first:
+const MAP_HELP: &str = source_help!(
+    "Each character is a cell of as many bytes, what fits first:
   !  disputed         H F B R  a header, footer or body partition, or a random index pack begins
   o  a named place that isn't held   .  nothing is held   +  some of it is held
-  m  all held, header metadata       i  all held, index   #  all held
-
-A source SRC is one of
-  at:OFFSET:PATH     a piece: the bytes of the file PATH, whose first byte lies at byte OFFSET of the recording
-  range:OFFSET:PATH  the same where the first byte may lie inside a packet: it is read from the next one on
-  cat:PATH           a catalogue that join or renew wrote
-
-Example: mxf_tool map --columns 100 cat:clip.cat";
+  m  all held, header metadata       i  all held, index   #  all held";
+    "Example: mxf_tool map --columns 100 cat:clip.cat"
+);
 
 /// What the help of `sources` ends with.
-const SOURCES_HELP: &str = "Lines:
+const SOURCES_HELP: &str = source_help!(
+    "Lines:
   source I notes N alone A disputed D SRC  source I has N packets: A of them no other has, D of them are disputed
   disputed OFFSET KIND WIDTH LENGTH KEY SUM from I I ..  a packet that lies where another does, and who has it
-  sources N notes M disputed D  together, N sources have M packets, and D of them are disputed
-
-A source SRC is one of
-  at:OFFSET:PATH     a piece: the bytes of the file PATH, whose first byte lies at byte OFFSET of the recording
-  range:OFFSET:PATH  the same where the first byte may lie inside a packet: it is read from the next one on
-  cat:PATH           a catalogue that join wrote
-
-Example: mxf_tool sources at:0:copy.mxf cat:clip.cat";
+  sources N notes M disputed D  together, N sources have M packets, and D of them are disputed";
+    "SRC", "it", "join",
+    "Example: mxf_tool sources at:0:copy.mxf cat:clip.cat"
+);
 
 /// What the help of `verify` ends with.
-const VERIFY_HELP: &str =
+const VERIFY_HELP: &str = source_help!(
     "What the sources of --against hold is the reference. The bytes of at: and range: among SRC.. are read by its packets,
 and those of a catalogue among them are set beside them.
 
@@ -161,34 +152,23 @@ Lines:
   verified N of M packets B of T bytes differs D cut C unknown U  the sum, with --index behind it the units
 
 Status 0 says that a packet is the same and none differs; with --whole also that all of the reference is there and no other
-byte, or with --index all of these units.
-
-A source SRC or SOURCE is one of
-  at:OFFSET:PATH     a piece: the bytes of the file PATH, whose first byte lies at byte OFFSET of the recording
-  range:OFFSET:PATH  the same where the first byte may lie inside a packet: of --against it is read from the next one on
-  cat:PATH           a catalogue that join or renew wrote
-
-Example: mxf_tool verify --against cat:clip.cat --whole at:0:clip.mxf";
+byte, or with --index all of these units.";
+    "SRC or SOURCE", "of --against it", "join or renew",
+    "Example: mxf_tool verify --against cat:clip.cat --whole at:0:clip.mxf"
+);
 
 /// What the help of `join` ends with.
-const JOIN_HELP: &str = "A source SRC is one of
-  at:OFFSET:PATH     a piece: the bytes of the file PATH, whose first byte lies at byte OFFSET of the recording
-  range:OFFSET:PATH  the same where the first byte may lie inside a packet: it is read from the next one on
-  cat:PATH           a catalogue that join or renew wrote
-
-Example: mxf_tool join --out clip.cat at:0:front.bin cat:earlier.cat";
+const JOIN_HELP: &str = source_help!(
+    "Example: mxf_tool join --out clip.cat at:0:front.bin cat:earlier.cat"
+);
 
 /// What the help of `renew` ends with.
-const RENEW_HELP: &str =
+const RENEW_HELP: &str = source_help!(
     "What SRC.. hold is the newer: a packet of --old is dropped that one of SRC.. contradicts, since both hold a byte
-and differ. All others are kept. Each is printed that was dropped.
-
-A source SRC or SOURCE is one of
-  at:OFFSET:PATH     a piece: the bytes of the file PATH, whose first byte lies at byte OFFSET of the recording
-  range:OFFSET:PATH  the same where the first byte may lie inside a packet: it is read from the next one on
-  cat:PATH           a catalogue that join or renew wrote
-
-Example: mxf_tool renew --out new.cat --old cat:clip.cat at:0:clip.mxf";
+and differ. All others are kept. Each is printed that was dropped.";
+    "SRC or SOURCE", "it", "join or renew",
+    "Example: mxf_tool renew --out new.cat --old cat:clip.cat at:0:clip.mxf"
+);
 
 /// The program's command with its subcommands.
 pub fn command<'a>(alloc: Global) -> Result<Command<'a>, AllocError> {
