@@ -56,6 +56,10 @@ pub enum AskedUnits {
     From(u64),
 }
 
+/// A last edit unit that is below the first or too far behind it, as it is written.
+#[derive(Clone, Copy)]
+pub struct BadLastUnit<'a>(pub &'a str);
+
 /// Edit units of the index of an IndexSID.
 #[derive(Clone, Copy)]
 pub struct IndexedUnits {
@@ -408,11 +412,15 @@ fn whole<'a>(alloc: Global) -> Arg<'a> {
     flag(alloc, "whole", help)
 }
 
-/// What the matches ask for, or `None` where they are of another command.
-pub fn request_of<'m, 'a>(matches: &'m ArgMatches<'a>) -> Option<Request<'m, 'a>> {
-    let (name, inner) = matches.subcommand()?;
+/// What the matches of the command with this name ask for, with these edit units where it has any, or `None` where there is
+/// no such command.
+pub fn request_of<'m, 'a>(
+    name: &str,
+    inner: &'m ArgMatches<'a>,
+    units: AskedUnits,
+) -> Option<Request<'m, 'a>> {
     Some(Request {
-        task: task_of(name, inner)?,
+        task: task_of(name, inner, units)?,
         form: form_of(inner),
         words: inner.get_strs("SRC"),
         list: inner.get_str("sources"),
@@ -437,8 +445,8 @@ fn form_of(inner: &ArgMatches<'_>) -> Form {
     }
 }
 
-/// What the matches of the command with this name are to do.
-fn task_of<'a>(name: &str, inner: &ArgMatches<'a>) -> Option<Task<'a>> {
+/// What the matches of the command with this name are to do, with these edit units where it has any.
+fn task_of<'a>(name: &str, inner: &ArgMatches<'a>, units: AskedUnits) -> Option<Task<'a>> {
     match name {
         "show" => Some(Task::Tell(Ask::Show)),
         "check" => Some(Task::Tell(Ask::Check)),
@@ -448,7 +456,7 @@ fn task_of<'a>(name: &str, inner: &ArgMatches<'a>) -> Option<Task<'a>> {
         })),
         "units" => Some(Task::Units {
             index: inner.get_one("index"),
-            units: units_of(inner)?,
+            units,
         }),
         "plan" => Some(Task::Tell(Ask::Plan)),
         "map" => Some(Task::Picture(Grid::new(
@@ -458,7 +466,7 @@ fn task_of<'a>(name: &str, inner: &ArgMatches<'a>) -> Option<Task<'a>> {
         "sources" => Some(Task::Sources),
         "verify" => Some(Task::Verify {
             is_whole: inner.get_flag("whole"),
-            units: indexed_units_of(inner)?,
+            units: indexed(inner, units),
         }),
         "join" => Some(Task::Join {
             out: inner.get_str("out")?,
@@ -472,38 +480,26 @@ fn task_of<'a>(name: &str, inner: &ArgMatches<'a>) -> Option<Task<'a>> {
     }
 }
 
-/// The units that matches ask for. None where they name a last one that is below the first or too far behind it.
-fn units_of(inner: &ArgMatches<'_>) -> Option<AskedUnits> {
+/// The units by the index that matches name, where they name one.
+fn indexed(inner: &ArgMatches<'_>, units: AskedUnits) -> Option<IndexedUnits> {
+    let index = inner.get_one("index")?;
+    Some(IndexedUnits { index, units })
+}
+
+/// The edit units that the matches of a command ask for, from unit 0 up to the last of the index where they name none.
+pub fn units_of<'a>(inner: &ArgMatches<'a>) -> Result<AskedUnits, BadLastUnit<'a>> {
     let first = inner.get_one("from").unwrap_or(0);
-    match inner.get_one("to") {
-        Some(last) => Some(AskedUnits::Range(UnitRange::new(first, last)?)),
-        None => Some(AskedUnits::From(first)),
-    }
-}
-
-/// The units that matches ask for by an index, where they name one. None where they name a last one that is below the
-/// first or too far behind it.
-fn indexed_units_of(inner: &ArgMatches<'_>) -> Option<Option<IndexedUnits>> {
-    let Some(index) = inner.get_one("index") else {
-        return Some(None);
+    let (Some(last), Some(text)) = (inner.get_one("to"), inner.get_str("to")) else {
+        return Ok(AskedUnits::From(first));
     };
-    let units = units_of(inner)?;
-    Some(Some(IndexedUnits { index, units }))
-}
-
-/// The last edit unit, where it is below the first or too far behind it.
-pub fn bad_last_unit<'a>(matches: &ArgMatches<'a>) -> Option<&'a str> {
-    let (_, inner) = matches.subcommand()?;
-    let last = inner.get_str("to")?;
-    match units_of(inner) {
-        Some(_) => None,
-        None => Some(last),
+    match UnitRange::new(first, last) {
+        Some(range) => Ok(AskedUnits::Range(range)),
+        None => Err(BadLastUnit(text)),
     }
 }
 
 /// The option whose number has a sign, and the number. An offset has none either.
-pub fn signed_number<'a>(matches: &ArgMatches<'a>) -> Option<(&'a str, &'a str)> {
-    let (_, inner) = matches.subcommand()?;
+pub fn signed_number<'a>(inner: &ArgMatches<'a>) -> Option<(&'a str, &'a str)> {
     for option in ["index", "unit", "from", "to", "columns", "rows"] {
         match inner.get_str(option) {
             Some(text) if text.starts_with('+') => return Some((option, text)),

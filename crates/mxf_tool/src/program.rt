@@ -12,7 +12,7 @@ mod verifying;
 
 use crate::arguments::unreadable_argument;
 use crate::command_line::{
-    AskedUnits, Request, Task, bad_last_unit, command, request_of, signed_number,
+    AskedUnits, BadLastUnit, Request, Task, command, request_of, signed_number, units_of,
 };
 use crate::exit::Exit;
 use crate::part::part_of;
@@ -73,24 +73,22 @@ fn run_on<R: System>(rt: &R, screen: Screen, arguments: &[String]) -> Exit {
     }
 }
 
-/// Does what arguments ask for that `clap` took.
+/// Does what arguments ask for that `clap` took, unless a number is refused that it takes.
 fn matched<R: System>(rt: &R, screen: Screen, matches: &ArgMatches<'_>) -> Exit {
-    if let Some(fault) = refused_number(matches) {
-        return tell(rt, screen, &fault);
+    let Some((name, inner)) = matches.subcommand() else {
+        return Exit::Usage;
+    };
+    if let Some((option, text)) = signed_number(inner) {
+        return tell(rt, screen, &RunFault::Signed { option, text });
     }
-    match request_of(matches) {
+    let units = match units_of(inner) {
+        Ok(units) => units,
+        Err(BadLastUnit(text)) => return tell(rt, screen, &RunFault::BadLastUnit { text }),
+    };
+    match request_of(name, inner, units) {
         Some(request) => perform(rt, screen, &request),
         None => Exit::Usage,
     }
-}
-
-/// Why a number is refused that `clap` takes.
-fn refused_number<'a>(matches: &ArgMatches<'a>) -> Option<RunFault<'a>> {
-    if let Some((option, text)) = signed_number(matches) {
-        return Some(RunFault::Signed { option, text });
-    }
-    let text = bad_last_unit(matches)?;
-    Some(RunFault::BadLastUnit { text })
 }
 
 /// Tells why there are no arguments.
