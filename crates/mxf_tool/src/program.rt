@@ -156,8 +156,8 @@ fn perform_on<'a, R: System>(
 ) -> Exit {
     let form = request.form;
     let done = match request.task {
-        Task::Tell(ask) => print_told(rt, screen, Asked::Answer(ask), form, sources),
-        Task::Picture(grid) => print_told(rt, screen, Asked::Picture(grid), form, sources),
+        Task::Tell(ask) => print_told(rt, screen, ask, form, sources),
+        Task::Picture(grid) => print_picture(rt, screen, grid, form, sources),
         Task::Units { index, units } => print_units(rt, screen, index, units, form, sources),
         Task::Sources => print_beside(rt, screen, form, sources),
         Task::Verify { is_whole, units } => {
@@ -188,36 +188,43 @@ fn perform_on<'a, R: System>(
     }
 }
 
-/// Prints what is asked of what the sources hold together.
+/// Prints the answer that is asked for of what the sources hold together.
 fn print_told<'a, R: System>(
     rt: &R,
     screen: Screen,
-    asked: Asked,
+    ask: Ask,
     form: Form,
     sources: &[Source<'a>],
 ) -> Result<Exit, RunFault<'a>> {
     let gathered = gather_sources(rt, screen, sources)?;
-    print_of(rt, screen, asked, form, sources, &gathered)
+    print_of(rt, screen, ask, form, sources, &gathered)
 }
 
-/// Prints what is asked of what was gathered of the sources.
+/// Prints the answer that is asked for of what was gathered of the sources.
 fn print_of<'a, R: System>(
     rt: &R,
     screen: Screen,
-    asked: Asked,
+    ask: Ask,
     form: Form,
     sources: &[Source<'_>],
     gathered: &Gathered,
 ) -> Result<Exit, RunFault<'a>> {
-    let exit = print_answer(rt, Printed::Asked(asked, gathered), form)?;
-    told(
-        rt,
-        screen,
-        sources,
-        gathered.reports.as_slice(),
-        false,
-        exit,
-    )
+    let exit = print_answer(rt, Printed::Answer(ask, gathered), form)?;
+    let reports = gathered.reports.as_slice();
+    told(rt, screen, sources, reports, false, exit)
+}
+
+/// Prints the map of what the sources hold together.
+fn print_picture<'a, R: System>(
+    rt: &R,
+    screen: Screen,
+    grid: Grid,
+    form: Form,
+    sources: &[Source<'a>],
+) -> Result<Exit, RunFault<'a>> {
+    let Gathered { views, reports } = gather_sources(rt, screen, sources)?;
+    let exit = print_answer(rt, Printed::Picture(grid, &views), form)?;
+    told(rt, screen, sources, reports.as_slice(), false, exit)
 }
 
 /// Prints where edit units lie by what the sources hold together.
@@ -248,8 +255,8 @@ fn print_units_of<'a, R: System>(
         None => only_index(rt.alloc(), &gathered.views)?,
     };
     let range = range_of(&gathered.views, index, units)?;
-    let asked = Asked::Answer(Ask::Units { index, range });
-    print_of(rt, screen, asked, form, sources, gathered)
+    let ask = Ask::Units { index, range };
+    print_of(rt, screen, ask, form, sources, gathered)
 }
 
 /// The IndexSID of the only index that is held.
@@ -288,17 +295,10 @@ fn print_saved<'a, R: System>(
     sources: &[Source<'_>],
     gathered: &Gathered,
 ) -> Result<Exit, RunFault<'a>> {
-    let joined = Printed::Asked(Asked::Answer(Ask::Join), gathered);
-    let exit = print_answer(rt, joined, form)?;
+    let exit = print_answer(rt, Printed::Answer(Ask::Join, gathered), form)?;
     let reports = gathered.reports.as_slice();
-    told(
-        rt,
-        screen,
-        sources,
-        reports,
-        true,
-        exit.of_join(is_strict, reports),
-    )
+    let exit = exit.of_join(is_strict, reports);
+    told(rt, screen, sources, reports, true, exit)
 }
 
 /// Writes the catalogue of what the sources hold together. Its place is held before the first source is opened.
@@ -419,17 +419,11 @@ fn ungathered<'a>(fault: &GatherFault, sources: &[Source<'a>], last: &LastFault)
     RunFault::of_part(path, fault.fault, last.get())
 }
 
-/// What is printed of what the sources hold together.
-#[derive(Clone, Copy)]
-enum Asked {
-    Answer(Ask),
-    Picture(Grid),
-}
-
 /// What is printed on standard output.
 #[derive(Clone, Copy)]
 enum Printed<'g, 'n> {
-    Asked(Asked, &'g Gathered),
+    Answer(Ask, &'g Gathered),
+    Picture(Grid, &'g Views),
     Renewed(&'g Renewed<'n>),
     /// What sources hold, each by itself, and the words that name them.
     Beside(&'g Readings<'n>, &'g [String]),
@@ -445,30 +439,17 @@ fn print_lines<W: Write>(
     writer: &mut W,
 ) -> Result<u8, AnswerFault> {
     match printed {
-        Printed::Asked(asked, gathered) => print_asked(alloc, asked, form, gathered, writer),
+        Printed::Answer(ask, gathered) => answer(alloc, &ask, form, gathered, writer),
+        Printed::Picture(grid, views) => {
+            print_map(alloc, views, grid, form, writer)?;
+            Ok(0)
+        }
         Printed::Renewed(renewed) => {
             print_renewed(alloc, renewed, form, writer)?;
             Ok(0)
         }
         Printed::Beside(readings, names) => print_sources(alloc, readings, names, form, writer),
         Printed::Verified(verified) => print_verification(alloc, verified, form, writer),
-    }
-}
-
-/// Prints what is asked in a form, and answers its status.
-fn print_asked<W: Write>(
-    alloc: Global,
-    asked: Asked,
-    form: Form,
-    gathered: &Gathered,
-    writer: &mut W,
-) -> Result<u8, AnswerFault> {
-    match asked {
-        Asked::Answer(ask) => answer(alloc, &ask, form, gathered, writer),
-        Asked::Picture(grid) => {
-            print_map(alloc, &gathered.views, grid, form, writer)?;
-            Ok(0)
-        }
     }
 }
 
