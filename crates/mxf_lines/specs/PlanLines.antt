@@ -3,7 +3,7 @@ use Rattle.std.specs.Prelude.{ℕ, ◌-◌, List, [], ◌∷◌, ◌++◌, Optio
 use Rattle.std.specs.Prelude.{is_none, length, sum_by}
 use Rattle.std.specs.Option.{option_map_or}
 use Rattle.mxf_restore.specs.Plan.{PlanParts}
-use Rattle.mxf_restore.specs.Words.{reason_name}
+use Rattle.mxf_places.specs.Words.{reason_name}
 use Rattle.mxf_restore.specs.declared.plan.Doubt.{Doubt}
 use Rattle.mxf_restore.specs.declared.plan.Order.{Order}
 use Rattle.mxf_lines.specs.Forms.{PrintedLine, known, line, number, word}

@@ -1,7 +1,8 @@
 //! What to restore next.
 use crate::additions::{add_to_views, essence, in_views};
 use mxf_klv::OutOfMemory;
-use mxf_restore::{Doubt, Order, Plan, Reason};
+use mxf_places::Reason;
+use mxf_restore::{Doubt, Order, Plan};
 use mxf_views::Views;
 use std::alloc::Global;
 

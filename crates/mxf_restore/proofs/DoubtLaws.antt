@@ -5,7 +5,7 @@ use Rattle.std.specs.List.{list_any}
 use Rattle.std.specs.Ordering.{nat_cmp}
 use Rattle.std.specs.BTreeMap.{is_at}
 use Rattle.mxf_klv.proofs.Tests.{same_bool}
-use Rattle.mxf_restore.proofs.PieceLaws.{same_test}
+use Rattle.mxf_places.proofs.NumberLaws.{same_test}
 use Rattle.mxf_restore.specs.Plan.{first_by_place}
 use Rattle.mxf_restore.specs.declared.plan.Doubt.{Doubt}
 

@@ -12,14 +12,14 @@ use Rattle.mxf_sets.specs.declared.pack.part.PackPart.TheVariants as parts
 use Rattle.mxf_catalogue.specs.Disputes.{clear_notes}
 use Rattle.mxf_catalogue.proofs.DisputeLaws.{In-clear_notes}
 use Rattle.mxf_views.specs.Partitions.{PartitionParts, partitions_of}
-use Rattle.mxf_restore.specs.Held.{IsDoubtful, IsHeld, is_doubtful, is_held}
+use Rattle.mxf_places.specs.Held.{IsDoubtful, IsHeld, is_doubtful, is_held}
 use Rattle.mxf_restore.specs.Layers.{IsOfZone, is_of_zone, is_part, is_random_index}
 use Rattle.mxf_restore.specs.Map.{HasByteOf, HasPartition, IsInCell, IsMark, Says, missing_places, rank}
 use Rattle.mxf_restore.specs.declared.map.Mark.{Mark}
 use Rattle.mxf_restore.specs.declared.map.Mark.TheVariants as marks
-use Rattle.mxf_restore.specs.declared.stretch.Zone.{Zone}
-use Rattle.mxf_restore.specs.declared.stretch.Zone.TheVariants as zones
-use Rattle.mxf_restore.proofs.HeldLaws.{is_doubtful-says, is_held-says}
+use Rattle.mxf_places.specs.declared.stretch.Zone.{Zone}
+use Rattle.mxf_places.specs.declared.stretch.Zone.TheVariants as zones
+use Rattle.mxf_places.proofs.HeldLaws.{is_doubtful-says, is_held-says}
 use Rattle.mxf_restore.proofs.LayerLaws.{part_itself, part_says, random_index_says, zone_says, zone_tells}
 use Rattle.mxf_restore.proofs.MarkLaws.{at_rank, ranked}
 

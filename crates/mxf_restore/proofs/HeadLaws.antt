@@ -6,7 +6,7 @@ use Rattle.std.specs.Map.{lookup}
 use Rattle.std.specs.BTreeMap.{is_at}
 use Rattle.mxf_klv.specs.Parts.{NoteParts}
 use Rattle.mxf_klv.specs.Note.{end_of}
-use Rattle.mxf_restore.specs.Held.{top_of}
+use Rattle.mxf_places.specs.Held.{top_of}
 use Rattle.mxf_restore.specs.Heads.{AreHeads, head_of, with_head}
 use Rattle.mxf_restore.specs.Plan.{is_head_to, needed_of}
 use Rattle.mxf_restore.specs.declared.head.Head.{Head}

@@ -14,10 +14,10 @@ use Rattle.mxf_catalogue.specs.declared.run.Run.{Run}
 use Rattle.mxf_catalogue.proofs.RunBounds.{covers_below_end, covers_first, has_byte, starts_above}
 use Rattle.mxf_views.specs.Gaps.{IsGap, gaps_of}
 use Rattle.mxf_views.proofs.GapsLaws.{gaps_are}
-use Rattle.mxf_restore.specs.Held.{IsHeld, end_of_file, is_held}
-use Rattle.mxf_restore.specs.Pieces.{IsHole, closed_hole, held_end, holes_of}
+use Rattle.mxf_places.specs.Held.{IsHeld, end_of_file, held_end, is_held}
+use Rattle.mxf_restore.specs.Pieces.{IsHole, closed_hole, holes_of}
 use Rattle.mxf_restore.specs.declared.piece.Hole.{Hole}
-use Rattle.mxf_restore.proofs.HeldLaws.{held_end-bound, is_held-says}
+use Rattle.mxf_places.proofs.HeldLaws.{held_end-bound, is_held-says}
 
 -- The last hole, which has no end, where the end of the file isn't known.
 abbrev pub open_holes : List NoteParts → List Hole

@@ -30,12 +30,12 @@ use Rattle.mxf_catalogue.proofs.DisputeLaws.{In-clear_notes}
 use Rattle.mxf_views.specs.Copies.{IsSetKind, preface, identification, storage, material_package, source_package, raw_set}
 use Rattle.mxf_views.specs.Partitions.{PartitionParts, partitions_of}
 use Rattle.mxf_views.proofs.PartitionLaws.{partitions_are}
-use Rattle.mxf_restore.specs.declared.claim.Claim.{Claim}
-use Rattle.mxf_restore.specs.declared.stretch.Zone.{Zone}
-use Rattle.mxf_restore.specs.declared.stretch.Zone.TheVariants as zones
-use Rattle.mxf_restore.specs.Claims.{claims_of}
-use Rattle.mxf_restore.specs.Held.{end_of_file, is_doubtful, is_held, is_in_file}
-use Rattle.mxf_restore.specs.Map.{begins_clear_head, is_missing, missing_places, named_place}
+use Rattle.mxf_places.specs.declared.claim.Claim.{Claim}
+use Rattle.mxf_places.specs.declared.stretch.Zone.{Zone}
+use Rattle.mxf_places.specs.declared.stretch.Zone.TheVariants as zones
+use Rattle.mxf_places.specs.Claims.{claims_of, named_place}
+use Rattle.mxf_places.specs.Held.{begins_clear_head, end_of_file, is_doubtful, is_held, is_in_file}
+use Rattle.mxf_restore.specs.Map.{is_missing, missing_places}
 use Rattle.mxf_restore.specs.Layers.{missing_place}
 use Rattle.mxf_restore.specs.Layers.{AreOffsets, BeginsPartition, BeginsRandomIndex, IsOfZone, LiesInZone, is_of_zone}
 use Rattle.mxf_restore.specs.Layers.{is_part, is_random_index, partition_offsets, random_index_offsets, zone_notes}

@@ -1,10 +1,3 @@
-pub mod HeldLaws
-pub mod FillLaws
-pub mod StretchLaws
-pub mod EndLaws
-pub mod OverLaws
-pub mod ZoneLaws
-pub mod ClaimLaws
 pub mod StepLaws
 pub mod PieceLaws
 pub mod HeadLaws
@@ -20,4 +13,3 @@ pub mod PieceCover
 pub mod OrderCover
 pub mod PlanMembers
 pub mod OrderStarts
-pub mod LoopLaws

@@ -11,23 +11,20 @@ use Rattle.mxf_klv.proofs.Lists.{list_any-In}
 use Rattle.mxf_catalogue.specs.NoteLists.{Covers}
 use Rattle.mxf_catalogue.proofs.RunBounds.{covers_below_end, starts_above}
 use Rattle.mxf_views.specs.RandomIndexView.{rip_view_of}
-use Rattle.mxf_restore.specs.Held.{IsHeld, end_of_file, is_held, reaches_past, rip_end_by, top_of}
+use Rattle.mxf_places.specs.Held.{IsHeld, bytes_of, edge_of, end_of_file, is_held, reaches_past, rip_end_by, top_of}
 use Rattle.mxf_restore.specs.Map.{held_below}
-use Rattle.mxf_restore.proofs.HeldLaws.{is_held-says, top_of-bound}
+use Rattle.mxf_places.proofs.HeldLaws.{is_held-says, same_bounds, top_of-bound}
 use Rattle.std.proofs.lemmas.Nat.{div-mul-add, div-add-mod'}
 use Rattle.std.specs.List.{AllByRecursion}
 use Rattle.mxf_klv.specs.Parts.{NoteParts}
-use Rattle.mxf_klv.specs.Note.{greatest_end}
 use Rattle.mxf_klv.specs.Rising.{In}
-use Rattle.mxf_klv.proofs.Lists.{all-In, all_from_In}
-use Rattle.mxf_catalogue.specs.Covers.{IsCover, IsRun}
+use Rattle.mxf_klv.proofs.Lists.{all_from_In}
+use Rattle.mxf_catalogue.specs.Covers.{IsCover}
 use Rattle.mxf_catalogue.specs.Runs.{AreMaximal, LiesIn}
 use Rattle.mxf_catalogue.specs.declared.run.Run.{Run}
 use Rattle.mxf_catalogue.proofs.RunBounds.{has_byte}
-use Rattle.mxf_restore.specs.Held.{edge_of}
-use Rattle.mxf_restore.specs.Layers.{AreOffsets, bytes_of}
+use Rattle.mxf_restore.specs.Layers.{AreOffsets}
 use Rattle.mxf_restore.specs.Map.{greatest_of, map_end, missing_places}
-use Rattle.mxf_restore.proofs.HeldLaws.{same_bounds}
 
 -- ---- the end and the cells
 
@@ -69,25 +66,6 @@ rounded_up e w some cells =
     sym (div-mul-add (q + 1) w r below) ∙ ap (λ (n : ℕ). n / w) all
 
 -- ---- the bytes of runs
-
-pub runs_of_cover : (runs : List Run) → IsCover runs → AllByRecursion IsRun runs
-runs_of_cover runs is =
-    all_from_In IsRun runs (λ r h. record {
-      order = has_byte 0 runs r is.maximal h;
-      within = all-In (λ (s : Run). s.end ≤ greatest_end) runs r is.within h;
-    })
-
-bytes_from : (low high : ℕ) (runs : List Run) → AreMaximal low runs → AllByRecursion (λ r. r.end ≤ high) runs
-    → bytes_of runs ≤ high - low
-bytes_from low high [] m w = omega arith
-bytes_from low high (r ∷ runs) m w =
-    let ih = bytes_from (r.end + 1) high runs m.2 w.1 in
-    let from : low ≤ r.start = m.0 in
-    let some : r.start < r.end = m.1 in
-    let within : r.end ≤ high = w.0 in omega (arith, ih, from, some, within)
-
-pub bytes_within : (runs : List Run) → IsCover runs → bytes_of runs ≤ greatest_end
-bytes_within runs is = bytes_from 0 greatest_end runs is.maximal is.within
 
 lower : (low : ℕ) (runs : List Run) → AreMaximal (low + 1) runs → AreMaximal low runs
 lower low [] m = tt

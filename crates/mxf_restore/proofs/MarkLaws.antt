@@ -8,14 +8,14 @@ use Rattle.mxf_klv.specs.Rising.{In}
 use Rattle.mxf_sets.specs.declared.pack.part.PackPart.{PackPart}
 use Rattle.mxf_catalogue.specs.Runs.{LiesIn}
 use Rattle.mxf_catalogue.specs.declared.run.Run.{Run}
-use Rattle.mxf_restore.specs.Held.{IsHeld, is_held}
+use Rattle.mxf_places.specs.Held.{IsHeld, is_held}
 use Rattle.mxf_restore.specs.Layers.{AreOffsets, BeginsPartition, BeginsRandomIndex, IsOfZone, LiesInZone, marks_in_order}
 use Rattle.mxf_restore.specs.Map.{AreMarks, HasByteOf, HasPartition, IsMark, Says, missing_places, rank}
 use Rattle.mxf_restore.specs.Map.{IsMap, MapParts, cell_size, gaps_below, held_below}
 use Rattle.mxf_restore.specs.declared.map.Mark.{Mark}
 use Rattle.mxf_restore.specs.declared.map.Mark.TheVariants as marks
-use Rattle.mxf_restore.specs.declared.stretch.Zone.{Zone}
-use Rattle.mxf_restore.proofs.HeldLaws.{is_held-says}
+use Rattle.mxf_places.specs.declared.stretch.Zone.{Zone}
+use Rattle.mxf_places.proofs.HeldLaws.{is_held-says}
 
 -- A test of one mark over some notes is one of an equal mark over equal notes.
 pub told : (notes all : List NoteParts) (from to : ℕ) (mark given : Mark) (b : Bool) → notes ≡ all → mark ≡ given

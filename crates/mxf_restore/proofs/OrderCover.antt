@@ -19,17 +19,17 @@ use Rattle.mxf_views.specs.Gaps.{IsGap, gaps_of}
 use Rattle.mxf_views.specs.RandomIndexView.{rip_view_of}
 use Rattle.mxf_views.specs.declared.random_index.RipView.{RipView}
 use Rattle.mxf_views.specs.declared.random_index.RipView.TheVariants.{Absent, Several, Unreadable, One}
-use Rattle.mxf_restore.specs.Held.{IsHeld, edge_of, end_of_file, reaches_past, rip_end_by, top_of}
-use Rattle.mxf_restore.specs.Claims.{claim_at}
-use Rattle.mxf_restore.specs.Pieces.{IsHole, LiesInHole, LiesInPiece, held_end, pieces_of}
+use Rattle.mxf_places.specs.Held.{IsHeld, edge_of, end_of_file, held_end, reaches_past, rip_end_by, top_of}
+use Rattle.mxf_places.specs.Claims.{claim_at}
+use Rattle.mxf_restore.specs.Pieces.{IsHole, LiesInHole, LiesInPiece, pieces_of}
 use Rattle.mxf_restore.specs.Plan.{LiesInOrder, end_by, found_orders, is_head_to, needed_of, order_by, order_of, ordered}
 use Rattle.mxf_restore.specs.Plan.{start_of, up_to_bound}
-use Rattle.mxf_restore.specs.declared.claim.Claim.{Claim}
+use Rattle.mxf_places.specs.declared.claim.Claim.{Claim}
 use Rattle.mxf_restore.specs.declared.piece.Hole.{Hole}
 use Rattle.mxf_restore.specs.declared.piece.Piece.{Piece}
 use Rattle.mxf_restore.specs.declared.plan.Order.{Order}
-use Rattle.mxf_restore.specs.declared.reason.Reason.TheVariants.{Gap}
-use Rattle.mxf_restore.proofs.HeldLaws.{held_end-bound, is_held-says}
+use Rattle.mxf_places.specs.declared.reason.Reason.TheVariants.{Gap}
+use Rattle.mxf_places.proofs.HeldLaws.{held_end-bound, is_held-says}
 use Rattle.mxf_restore.proofs.HoleLaws.{apart, closed_is, gap_there, held_or_not, last_held, maximal, open_is}
 use Rattle.mxf_restore.proofs.HoleLaws.{run_there}
 use Rattle.mxf_restore.proofs.PieceCover.{are_pieces}

@@ -1,9 +1,9 @@
 -- What is ordered of a piece.
 use Rattle.std.proofs.Common.{◌≡◌, ◌∙◌, ℕ, max, Option, option_map, List, ap}
 use Rattle.mxf_klv.specs.Parts.{NoteParts}
-use Rattle.mxf_restore.specs.Claims.{claim_at}
+use Rattle.mxf_places.specs.Claims.{claim_at}
 use Rattle.mxf_restore.specs.Plan.{end_by, needed_of, order_of, ordered, start_of, up_to_bound}
-use Rattle.mxf_restore.specs.declared.claim.Claim.{Claim}
+use Rattle.mxf_places.specs.declared.claim.Claim.{Claim}
 use Rattle.mxf_restore.specs.declared.head.Head.{Head}
 use Rattle.mxf_restore.specs.declared.piece.Piece.{Piece}
 

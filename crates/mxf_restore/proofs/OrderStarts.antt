@@ -10,12 +10,12 @@ use Rattle.mxf_klv.specs.Rising.{In}
 use Rattle.mxf_klv.proofs.Lists.{found-In}
 use Rattle.mxf_catalogue.specs.Content.{IsContent}
 use Rattle.mxf_catalogue.proofs.RunBounds.{covers_first}
-use Rattle.mxf_restore.specs.Held.{IsHeld}
-use Rattle.mxf_restore.specs.Claims.{claim_at}
+use Rattle.mxf_places.specs.Held.{IsHeld}
+use Rattle.mxf_places.specs.Claims.{claim_at}
 use Rattle.mxf_restore.specs.Pieces.{LiesInPiece, pieces_of}
 use Rattle.mxf_restore.specs.Plan.{end_by, is_head_to, needed_of, order_by, order_of, plan_of, start_of, up_to_bound}
-use Rattle.mxf_restore.specs.declared.reason.Reason.TheVariants.{Gap}
-use Rattle.mxf_restore.specs.declared.claim.Claim.{Claim}
+use Rattle.mxf_places.specs.declared.reason.Reason.TheVariants.{Gap}
+use Rattle.mxf_places.specs.declared.claim.Claim.{Claim}
 use Rattle.mxf_restore.specs.declared.piece.Piece.{Piece}
 use Rattle.mxf_restore.specs.declared.plan.Order.{Order}
 use Rattle.mxf_restore.proofs.PieceCover.{are_pieces}

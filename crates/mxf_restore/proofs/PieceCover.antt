@@ -13,13 +13,13 @@ use Rattle.mxf_klv.proofs.Lists.{all-In, In-filter, In-filter_map, In-flat_map}
 use Rattle.mxf_klv.proofs.RisingBy.{IsRisingBy, by_itself, rises-filter}
 use Rattle.mxf_klv.proofs.Tests.{not-true-false, not_true}
 use Rattle.mxf_catalogue.specs.Content.{IsContent}
-use Rattle.mxf_restore.specs.Held.{IsHeld, is_held, is_in_file}
-use Rattle.mxf_restore.specs.Claims.{claims_of}
+use Rattle.mxf_places.specs.Held.{IsHeld, is_held, is_in_file}
+use Rattle.mxf_places.specs.Claims.{claims_of}
 use Rattle.mxf_restore.specs.Pieces.{ArePieces, IsCut, IsEndOfHole, IsHole, LiesInHole, LiesInPiece, cut_of, cuts_of}
 use Rattle.mxf_restore.specs.Pieces.{holes_of, is_inside, pieces_from, pieces_in, pieces_of}
 use Rattle.mxf_restore.specs.declared.piece.Hole.{Hole}
 use Rattle.mxf_restore.specs.declared.piece.Piece.{Piece}
-use Rattle.mxf_restore.proofs.HeldLaws.{is_held-says}
+use Rattle.mxf_places.proofs.HeldLaws.{is_held-says}
 use Rattle.mxf_restore.proofs.HoleLaws.{from_hole, to_hole}
 
 -- The offset lies below the end of a hole or a piece.

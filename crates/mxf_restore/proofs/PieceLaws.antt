@@ -1,23 +1,14 @@
 -- Cuts that are left, those inside a hole, and pieces.
 use Rattle.std.proofs.Common.{◌≡◌, ◌<◌, ◌≤◌, ◌∙◌, ◌&&◌, ℕ, zero, suc, Bool, true, false, cond, not}
 use Rattle.std.proofs.Common.{if◌then◌else◌, List, [], ◌∷◌, Option, Some, None, refl, sym, ap, arith, length, get_or}
-use Rattle.std.proofs.Common.{drop, eq-eqb, eqb-true, filter, filter_map, min, subst, take, ◌==◌}
+use Rattle.std.proofs.Common.{drop, filter, filter_map, min, take}
 use Rattle.std.specs.List.{AllWithin, cons_option}
 use Rattle.std.specs.Option.{option_and_then}
-use Rattle.std.specs.FinMap.{nat_cmp-IsAntisymmetric}
-use Rattle.std.specs.List.Retain.{DiffersFromLast, IsFiltered}
-use Rattle.std.specs.List.Sorted.{IsPermutation, IsSorted}
-use Rattle.std.specs.Ordering.{eq_by_cmp, is_eq, nat_cmp}
-use Rattle.std.specs.declared.cmp.Ordering.{Ordering}
-use Rattle.std.specs.declared.cmp.Ordering.TheVariants.{Less, Equal, Greater}
-use Rattle.std.proofs.lemmas.Cmp.{nat_cmp_total, tied_itself}
-use Rattle.mxf_klv.proofs.SortedUnions.{in_order, in_order-rises}
-use Rattle.mxf_klv.proofs.Tests.{not_both, same_bool}
-use Rattle.mxf_klv.specs.Rising.{IsRising, union}
+use Rattle.mxf_klv.proofs.Tests.{not_both}
 use Rattle.mxf_klv.specs.Parts.{NoteParts}
-use Rattle.mxf_restore.specs.Held.{is_held, is_in_file}
+use Rattle.mxf_places.specs.Held.{is_held, is_in_file}
 use Rattle.mxf_restore.specs.Pieces.{cut_of, free_cut}
-use Rattle.mxf_restore.specs.declared.claim.Claim.{Claim}
+use Rattle.mxf_places.specs.declared.claim.Claim.{Claim}
 
 -- Those that are left are what is left of each claim.
 abbrev pub free_cuts_among : List NoteParts → List Claim → List ℕ
@@ -80,24 +71,3 @@ window p q (x ∷ xs) (suc a) (suc b) h pb pa qb qa =
     (λ k d l m. qa (suc k) d (omega arith) (omega arith)) in
     ap (λ n. drop n (x ∷ take b xs)) e ∙ rest
     ∙ sym (λ i. cond (px i && q x) (x ∷ filter (λ y. p y && q y) xs) (filter (λ y. p y && q y) xs))
-
--- Tests of numbers for being one.
-pub same_test : (x y : ℕ) → (x == y) ≡ eq_by_cmp nat_cmp x y
-same_test x y =
-    same_bool (x == y) (eq_by_cmp nat_cmp x y)
-    (λ t. ap (λ z. is_eq (nat_cmp x z)) (sym (eqb-true x y t)) ∙ ap is_eq (tied_itself nat_cmp_total x))
-    (λ t. eq-eqb x y (nat_cmp-IsAntisymmetric x y (equal (nat_cmp x y) t)))
-  where
-    equal : (o : Ordering) → is_eq o ≡ true → o ≡ Equal
-    equal Less e = cc
-    equal Equal e = refl
-    equal Greater e = cc
-
--- What is sorted, and then loses what repeats the one before.
-pub cuts_in_order : (xs ys zs : List ℕ) → IsPermutation xs ys → IsSorted nat_cmp ys
-    → IsFiltered (DiffersFromLast (λ x y. x == y)) [] ys zs → (zs ≡ union nat_cmp [] xs) × IsRising nat_cmp zs
-cuts_in_order xs ys zs p s f =
-    let g = subst (λ E. IsFiltered (DiffersFromLast E) [] ys zs) (λ i x y. same_test x y i) f in (
-      in_order nat_cmp nat_cmp_total nat_cmp-IsAntisymmetric xs ys zs p s g,
-      in_order-rises nat_cmp nat_cmp_total nat_cmp-IsAntisymmetric xs ys zs p s g,
-    )

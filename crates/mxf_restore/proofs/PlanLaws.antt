@@ -14,8 +14,8 @@ use Rattle.mxf_klv.specs.Rising.{union}
 use Rattle.std.specs.Ordering.{eq_by_cmp, is_eq, nat_cmp, ordering_then}
 use Rattle.std.specs.Option.{option_cmp}
 use Rattle.mxf_restore.specs.Plan.{doubt_cmp, order_cmp, reason_rank}
-use Rattle.mxf_restore.specs.declared.reason.Reason.{Reason}
-use Rattle.mxf_restore.specs.declared.reason.Reason.TheVariants.{Header, Footer, Metadata, Index, Entry, Previous, Gap}
+use Rattle.mxf_places.specs.declared.reason.Reason.{Reason}
+use Rattle.mxf_places.specs.declared.reason.Reason.TheVariants.{Header, Footer, Metadata, Index, Entry, Previous, Gap}
 use Rattle.mxf_restore.specs.declared.plan.Order.{Order}
 use Rattle.mxf_restore.specs.declared.plan.Doubt.{Doubt}
 use Rattle.mxf_restore.specs.contracts.plan.OrderOrd.TheImpl as order_ord
@@ -24,7 +24,7 @@ use Rattle.mxf_restore.specs.contracts.plan.OrderPartialEq.TheImpl as order_eq
 use Rattle.mxf_restore.specs.contracts.plan.DoubtOrd.TheImpl as doubt_ord
 use Rattle.mxf_restore.specs.contracts.plan.DoubtOrd.TheImpl.Laws as doubt_laws
 use Rattle.mxf_restore.specs.contracts.plan.DoubtPartialEq.TheImpl as doubt_eq
-use Rattle.mxf_restore.specs.contracts.reason.ReasonOrd.TheImpl as reason_ord
+use Rattle.mxf_places.specs.contracts.reason.ReasonOrd.TheImpl as reason_ord
 
 reasons : (a b : Reason) → (reason_ord.ghosts).cmp a b ≡ nat_cmp (reason_rank a) (reason_rank b)
 reasons Header Header = refl

@@ -8,8 +8,8 @@ use Rattle.mxf_klv.proofs.Lists.{In-filter, In-filter_map}
 use Rattle.mxf_klv.proofs.Tests.{not-true-false, not_true}
 use Rattle.mxf_catalogue.specs.Content.{IsContent}
 use Rattle.mxf_views.specs.Gaps.{IsGap}
-use Rattle.mxf_restore.specs.Held.{edge_of}
-use Rattle.mxf_restore.specs.Claims.{claims_of}
+use Rattle.mxf_places.specs.Held.{edge_of}
+use Rattle.mxf_places.specs.Claims.{claims_of}
 use Rattle.mxf_restore.specs.Pieces.{pieces_of}
 use Rattle.mxf_restore.specs.Plan.{LiesInOrder, doubt_cmp, doubt_of, first_by_place, found_doubts, found_orders}
 use Rattle.mxf_restore.specs.Plan.{order_cmp, order_of, plan_of}

@@ -6,9 +6,9 @@ use Rattle.std.specs.List.{AllWithin}
 use Rattle.std.specs.List.Sorted.{IsNonDecreasingBy}
 use Rattle.std.proofs.lemmas.Bool.{leb-true, leb-false, le-leb, lt-leb}
 use Rattle.std.proofs.lemmas.List.Folds.{find-append}
-use Rattle.mxf_restore.specs.Claims.{is_claimed}
+use Rattle.mxf_places.specs.Claims.{is_claimed}
 use Rattle.mxf_restore.specs.Steps.{AreSteps, NeverFall, overlay, overlay_with, step, value_from}
-use Rattle.mxf_restore.specs.declared.claim.Claim.{Claim}
+use Rattle.mxf_places.specs.declared.claim.Claim.{Claim}
 use Rattle.mxf_restore.specs.declared.first.Step.{Step}
 
 -- ---- one laid over the other

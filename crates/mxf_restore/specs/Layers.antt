@@ -1,6 +1,6 @@
 -- What may lie in a cell of a map, each as a set of offsets: a cell that meets the set has one of them (this project's
 -- profile).
-use Rattle.std.specs.Prelude.{◌≡◌, ◌↔◌, ℕ, ◌+◌, ◌-◌, Bool, true, false, if◌then◌else◌, Option, None, Some, List, [], ◌∷◌}
+use Rattle.std.specs.Prelude.{◌≡◌, ◌↔◌, ℕ, Bool, true, false, if◌then◌else◌, Option, None, Some, List, [], ◌∷◌}
 use Rattle.std.specs.Prelude.{filter, map}
 use Rattle.std.specs.Option.{option_and_then}
 use Rattle.mxf_klv.specs.declared.kinds.Kind.{Kind}
@@ -16,12 +16,13 @@ use Rattle.mxf_catalogue.specs.Disputes.{IsClear}
 use Rattle.mxf_catalogue.specs.Runs.{LiesIn}
 use Rattle.mxf_views.specs.FindingCauses.{IsMetadataKind}
 use Rattle.mxf_views.specs.Partitions.{PartitionParts, partitions_of}
-use Rattle.mxf_restore.specs.declared.claim.Claim.{Claim}
-use Rattle.mxf_restore.specs.declared.stretch.Zone.{Zone}
-use Rattle.mxf_restore.specs.declared.stretch.Zone.TheVariants as zones
+use Rattle.mxf_places.specs.declared.claim.Claim.{Claim}
+use Rattle.mxf_places.specs.declared.stretch.Zone.{Zone}
+use Rattle.mxf_places.specs.declared.stretch.Zone.TheVariants as zones
 use Rattle.mxf_restore.specs.declared.map.Mark.{Mark}
 use Rattle.mxf_restore.specs.declared.map.Mark.TheVariants as marks
-use Rattle.mxf_restore.specs.Map.{is_missing, missing_places, named_place}
+use Rattle.mxf_restore.specs.Map.{is_missing, missing_places}
+use Rattle.mxf_places.specs.Claims.{named_place}
 
 -- The offsets in the runs are those of which this holds.
 abbrev pub AreOffsets : (ℕ → Type 0) → List Run → Type 0
@@ -102,8 +103,3 @@ abbrev pub marks_in_order : List Mark
 marks_in_order =
     marks.Doubtful ∷ marks.Header ∷ marks.Footer ∷ marks.Body ∷ marks.RandomIndex ∷ marks.Missing ∷ marks.Empty
     ∷ marks.Part ∷ marks.Metadata ∷ marks.Index ∷ []
-
--- How many offsets lie in runs that don't overlap.
-abbrev pub bytes_of : List Run → ℕ
-bytes_of [] = 0
-bytes_of (r ∷ runs) = (r.end - r.start) + bytes_of runs

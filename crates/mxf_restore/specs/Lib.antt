@@ -1,8 +1,3 @@
-pub mod Words
-pub mod Held
-pub mod Claims
-pub mod Named
-pub mod Fills
 pub mod Pieces
 pub mod Plan
 pub mod Map

@@ -1,7 +1,6 @@
 -- What is held of a file, as a picture of cells (this project's profile).
-use Rattle.std.specs.Prelude.{◌≡◌, ℕ, ◌+◌, ◌-◌, ◌/◌, ◌<◌, ◌≤◌, Bool, false, ◌&&◌, ◌||◌, ◌==◌, not, nat_lt, max, min}
-use Rattle.std.specs.Prelude.{if◌then◌else◌, Option, None, Some, List, [], ◌∷◌, count_by, filter, find, length, map}
-use Rattle.std.specs.Option.{option_map_or}
+use Rattle.std.specs.Prelude.{◌≡◌, ℕ, ◌+◌, ◌-◌, ◌/◌, ◌<◌, ◌≤◌, Bool, ◌&&◌, ◌||◌, not, nat_lt, max, min}
+use Rattle.std.specs.Prelude.{List, [], ◌∷◌, count_by, filter, length, map}
 use Rattle.std.specs.List.{filter_map, range_with_len}
 use Rattle.mxf_klv.specs.declared.kinds.Kind.{Kind}
 use Rattle.mxf_klv.specs.declared.kinds.Kind.TheVariants as kinds
@@ -11,24 +10,14 @@ use Rattle.mxf_klv.specs.Kind.{kind_of}
 use Rattle.mxf_klv.specs.Rising.{In}
 use Rattle.mxf_sets.specs.declared.pack.part.PackPart.{PackPart}
 use Rattle.mxf_sets.specs.declared.pack.part.PackPart.TheVariants as parts
-use Rattle.mxf_catalogue.specs.Disputes.{IsClear, disputed_notes, undisputed_notes}
+use Rattle.mxf_catalogue.specs.Disputes.{IsClear, disputed_notes}
 use Rattle.mxf_views.specs.FindingCauses.{IsMetadataKind}
 use Rattle.mxf_views.specs.Partitions.{PartitionParts, partitions_of}
-use Rattle.mxf_restore.specs.Held.{IsDoubtful, IsHeld, edge_of, is_doubtful, is_held, is_in_file}
-use Rattle.mxf_restore.specs.Claims.{claims_of, is_of_stretch}
+use Rattle.mxf_places.specs.Held.{IsDoubtful, IsHeld, begins_clear_head, edge_of, is_doubtful, is_held, is_in_file}
+use Rattle.mxf_places.specs.Claims.{claims_of, named_place}
 use Rattle.mxf_restore.specs.Pieces.{holes_of}
-use Rattle.mxf_restore.specs.declared.claim.Claim.{Claim}
 use Rattle.mxf_restore.specs.declared.map.Mark.{Mark}
 use Rattle.mxf_restore.specs.declared.map.Mark.TheVariants as marks
-
--- The place that a claim names, where it names one.
-unfoldable pub named_place : Claim → Option ℕ
-named_place c = if is_of_stretch c.reason then None else Some c.from
-
--- A head that shares no byte with another packet begins there: the rest of its packet isn't held.
-abbrev pub begins_clear_head : List NoteParts → ℕ → Bool
-begins_clear_head notes x =
-    option_map_or (λ n. not n.whole) (find (λ n. n.offset == x) (undisputed_notes notes)) false
 
 -- The place may lie in the file, and what begins there isn't held whole.
 abbrev pub is_missing : List NoteParts → ℕ → Bool

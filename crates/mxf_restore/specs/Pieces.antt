@@ -1,18 +1,17 @@
 -- Holes of a file, cut into pieces at the places where packets begin, as far as what is held says (this project's
 -- profile).
-use Rattle.std.specs.Prelude.{◌≡◌, ℕ, ◌+◌, ◌<◌, ◌≤◌, ◌⊎◌, Bool, true, IsTrue, ◌&&◌, not, nat_lt, max}
+use Rattle.std.specs.Prelude.{◌≡◌, ℕ, ◌+◌, ◌<◌, ◌≤◌, ◌⊎◌, Bool, true, IsTrue, ◌&&◌, not, nat_lt}
 use Rattle.std.specs.Prelude.{if◌then◌else◌, Option, None, Some, is_some, List, [], ◌∷◌, ◌++◌, filter, flat_map, map}
 use Rattle.std.specs.Option.{option_and_then, option_map_or}
 use Rattle.std.specs.List.{filter_map}
 use Rattle.std.specs.Ordering.{nat_cmp}
 use Rattle.mxf_klv.specs.Parts.{NoteParts}
-use Rattle.mxf_klv.specs.Note.{covered_end}
 use Rattle.mxf_klv.specs.Rising.{In, union}
 use Rattle.mxf_catalogue.specs.declared.run.Run.{Run}
 use Rattle.mxf_views.specs.Gaps.{gaps_of}
-use Rattle.mxf_restore.specs.Held.{IsHeld, end_of_file, is_held, is_in_file}
-use Rattle.mxf_restore.specs.Claims.{claims_of, is_of_stretch}
-use Rattle.mxf_restore.specs.declared.claim.Claim.{Claim}
+use Rattle.mxf_places.specs.Held.{IsHeld, end_of_file, held_end, is_held, is_in_file}
+use Rattle.mxf_places.specs.Claims.{claims_of, is_of_stretch}
+use Rattle.mxf_places.specs.declared.claim.Claim.{Claim}
 use Rattle.mxf_restore.specs.declared.piece.Hole.{Hole}
 use Rattle.mxf_restore.specs.declared.piece.Piece.{Piece}
 
@@ -37,11 +36,6 @@ pub record IsHole (notes : List NoteParts) (h : Hole) : Type 0 where
   pub last : IsEndOfHole notes h.end
 
 -- The same as functions. Laws tie them to the relations.
-
--- The first offset above all that is held.
-abbrev pub held_end : List NoteParts → ℕ
-held_end [] = 0
-held_end (n ∷ notes) = max (covered_end n) (held_end notes)
 
 abbrev pub closed_hole : Run → Hole
 closed_hole gap = record { start = gap.start; end = Some gap.end }

@@ -8,12 +8,12 @@ use Rattle.std.specs.declared.cmp.Ordering.{Ordering}
 use Rattle.mxf_klv.specs.Parts.{NoteParts}
 use Rattle.mxf_klv.specs.Note.{covered_end}
 use Rattle.mxf_klv.specs.Rising.{union}
-use Rattle.mxf_restore.specs.Held.{edge_of, end_of_file, is_doubtful, is_in_file, top_of}
-use Rattle.mxf_restore.specs.Claims.{claim_at, claims_of, is_of_stretch}
+use Rattle.mxf_places.specs.Held.{edge_of, end_of_file, is_doubtful, is_in_file, top_of}
+use Rattle.mxf_places.specs.Claims.{claim_at, claims_of, is_of_stretch}
 use Rattle.mxf_restore.specs.Pieces.{LiesBetween, pieces_of}
-use Rattle.mxf_restore.specs.declared.reason.Reason.{Reason}
-use Rattle.mxf_restore.specs.declared.reason.Reason.TheVariants.{Header, Footer, Metadata, Index, Entry, Previous, Gap}
-use Rattle.mxf_restore.specs.declared.claim.Claim.{Claim}
+use Rattle.mxf_places.specs.declared.reason.Reason.{Reason}
+use Rattle.mxf_places.specs.declared.reason.Reason.TheVariants.{Header, Footer, Metadata, Index, Entry, Previous, Gap}
+use Rattle.mxf_places.specs.declared.claim.Claim.{Claim}
 use Rattle.mxf_restore.specs.declared.piece.Piece.{Piece}
 use Rattle.mxf_restore.specs.declared.plan.Order.{Order}
 use Rattle.mxf_restore.specs.declared.plan.Doubt.{Doubt}

@@ -2,8 +2,8 @@
 use Rattle.std.specs.Prelude.{◌≡◌, ℕ, Bool, true, false, ◌<◌, ◌≤◌, ◌^◌, nat_le, if◌then◌else◌, Option, None}
 use Rattle.std.specs.Prelude.{List, [], ◌∷◌, find, map}
 use Rattle.std.specs.Option.{option_or}
-use Rattle.mxf_restore.specs.Claims.{is_claimed}
-use Rattle.mxf_restore.specs.declared.claim.Claim.{Claim}
+use Rattle.mxf_places.specs.Claims.{is_claimed}
+use Rattle.mxf_places.specs.declared.claim.Claim.{Claim}
 use Rattle.mxf_restore.specs.declared.first.Step.{Step}
 
 -- What holds at an offset: what the last step at or below it says, or what held before all.

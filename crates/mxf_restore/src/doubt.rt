@@ -1,13 +1,12 @@
 //! Places that matter and are held in two readings.
 ghost use Rattle.std.specs.Prelude.{◌≡◌, IfOk};
 ghost use Rattle.std.specs.List.{filter_map};
-ghost use Rattle.mxf_restore.specs.Claims.{claims_of};
+ghost use Rattle.mxf_places.specs.Claims.{claims_of};
 ghost use Rattle.mxf_restore.specs.Plan.{doubt_of, first_by_place, found_doubts, point_of};
 
-use crate::claim::Claim;
-use crate::held::Holdings;
 use crate::plan::Doubt;
 use mxf_klv::OutOfMemory;
+use mxf_places::{Claim, Holdings};
 use std::alloc::Global;
 use std::collections::BTreeSet;
 

@@ -1,11 +1,11 @@
 //! The first claim of each offset.
 ghost use Rattle.std.specs.Prelude.{◌≡◌, ◌∷◌, [], None, find, IfOk};
 ghost use Rattle.std.specs.Iterator.{YieldsFirst, item_count};
-ghost use Rattle.mxf_restore.specs.Claims.{is_claimed};
+ghost use Rattle.mxf_places.specs.Claims.{is_claimed};
 ghost use Rattle.mxf_restore.specs.Steps.{AreSteps, NeverFall, goes_first, overlay, value_from};
 
-use crate::claim::Claim;
 use mxf_klv::{Keyed, OutOfMemory, up_to};
+use mxf_places::Claim;
 use std::alloc::Global;
 use std::marker::Model;
 
@@ -35,7 +35,7 @@ pub(crate) struct FirstClaims<'a> {
 impl<'a> Model for FirstClaims<'a> {
     ghost use Rattle.std.specs.Prelude.{List};
     ghost use Rattle.mxf_restore.specs.Steps.{AreSteps};
-    ghost use Rattle.mxf_restore.specs.declared.claim.Claim.{Claim};
+    ghost use Rattle.mxf_places.specs.declared.claim.Claim.{Claim};
 
     ghost Value = { List Claim };
 

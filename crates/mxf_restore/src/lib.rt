@@ -2,11 +2,12 @@
 //!
 //! Both are functions of the content of a catalogue: what packs name and count, and which offsets no packet covers.
 //!
-//! What is proved: [`Plan::of`] and [`Map::of`] answer these functions. Laws (`.._by_definition`) say in the words of
-//! the standards what they are made of: what is held and where the file ends, what packs claim of offsets, the holes and
-//! their pieces, the orders and doubts. Each byte that is missing below the end lies in an order
-//! ([`gaps_are_ordered`]), no two orders begin at one offset ([`starts_are_apart`]), and each cell of a map has one mark
-//! ([`one_mark`]).
+//! What is held, where the file ends and what packs claim of offsets is asked of mxf_places.
+//!
+//! What is proved: [`Plan::of`] and [`Map::of`] answer these functions. Laws (`.._by_definition`) say what they are made
+//! of, beside those of mxf_places: the holes and their pieces, the orders and doubts. Each byte that is missing below the
+//! end lies in an order ([`gaps_are_ordered`]), no two orders begin at one offset ([`starts_are_apart`]), and each cell
+//! of a map has one mark ([`one_mark`]).
 //!
 //! That no order is left in the end, where what was ordered is handed in again and again, is tested.
 //!
@@ -21,27 +22,17 @@
 //! ```
 #![tactic(auto)]
 
-mod claim;
 mod doubt;
-mod fills;
 mod first;
 mod head;
-mod held;
 mod map;
 mod order;
 mod piece;
 mod plan;
-mod reason;
-mod stretch;
 
-pub use claim::{Claim, claims, claims_by_definition};
-pub use fills::fills_by_definition;
-pub use held::{Holdings, held_by_definition};
 pub use map::{Map, Mark, one_map, one_mark};
 pub use piece::{holes_by_definition, pieces_by_definition};
 pub use plan::{
     Doubt, Order, Plan, doubts_by_definition, gaps_are_ordered, orders_by_definition,
     starts_are_apart,
 };
-pub use reason::Reason;
-pub use stretch::{Stretch, Zone, behind_metadata, zone_of, zones_by_definition};

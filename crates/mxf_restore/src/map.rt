@@ -3,7 +3,7 @@ ghost use Rattle.std.specs.Prelude.{◌≡◌, ◌≤◌, ℕ, IfOk, List, lengt
 ghost use Rattle.mxf_klv.specs.Parts.{NoteParts};
 ghost use Rattle.mxf_catalogue.specs.Covers.{IsCover};
 ghost use Rattle.mxf_catalogue.specs.Disputes.{disputed_notes};
-ghost use Rattle.mxf_restore.specs.Layers.{bytes_of};
+ghost use Rattle.mxf_places.specs.Held.{bytes_of};
 ghost use Rattle.mxf_restore.specs.Map.{AreMarks, IsMap, IsMark, MapParts, cell_size, gaps_below, held_below, map_end};
 ghost use Rattle.mxf_restore.specs.declared.map.Mark.{Mark};
 
@@ -11,11 +11,11 @@ mod layers;
 mod missing;
 mod offsets;
 
-use crate::held::Holdings;
 use crate::piece::holes;
 use layers::Layers;
 use mxf_catalogue::{Catalogue, Cover};
 use mxf_klv::OutOfMemory;
+use mxf_places::Holdings;
 use mxf_views::Views;
 use std::alloc::Global;
 use std::marker::Model;

@@ -2,17 +2,15 @@
 ghost use Rattle.std.specs.Prelude.{◌≡◌, false, max, IfOk};
 ghost use Rattle.std.specs.List.{filter_map};
 ghost use Rattle.std.specs.Option.{option_map, option_map_or};
-ghost use Rattle.mxf_restore.specs.Claims.{claims_of};
+ghost use Rattle.mxf_places.specs.Claims.{claims_of};
 ghost use Rattle.mxf_restore.specs.Plan.{end_by, found_orders, order_of, ordered, up_to_bound};
 
-use crate::claim::Claim;
 use crate::first::FirstClaims;
 use crate::head::Heads;
-use crate::held::Holdings;
 use crate::piece::{Piece, pieces};
 use crate::plan::Order;
-use crate::reason::Reason;
 use mxf_klv::OutOfMemory;
+use mxf_places::{Claim, Holdings, Reason};
 use std::alloc::Global;
 use std::marker::Model;
 
@@ -27,7 +25,7 @@ struct Evidence<'a> {
 impl<'a> Model for Evidence<'a> {
     ghost use Rattle.std.specs.Prelude.{List, ◌≡◌};
     ghost use Rattle.mxf_klv.specs.Parts.{NoteParts};
-    ghost use Rattle.mxf_restore.specs.Claims.{claims_of};
+    ghost use Rattle.mxf_places.specs.Claims.{claims_of};
 
     ghost Value = { List NoteParts };
 

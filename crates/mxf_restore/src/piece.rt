@@ -9,14 +9,13 @@ ghost use Rattle.mxf_klv.specs.Rising.{In, IsRising};
 ghost use Rattle.mxf_catalogue.specs.Content.{IsContent};
 ghost use Rattle.mxf_restore.specs.declared.piece.Hole.{Hole};
 ghost use Rattle.mxf_views.specs.Gaps.{gaps_of};
-ghost use Rattle.mxf_restore.specs.Held.{is_held};
-ghost use Rattle.mxf_restore.specs.Claims.{claims_of};
+ghost use Rattle.mxf_places.specs.Held.{is_held};
+ghost use Rattle.mxf_places.specs.Claims.{claims_of};
 ghost use Rattle.mxf_restore.specs.Pieces.{ArePieces, IsHole, closed_hole, cut_of, cuts_of, free_cut, holes_of};
 ghost use Rattle.mxf_restore.specs.Pieces.{is_inside, pieces_from, pieces_in, pieces_of};
 
-use crate::claim::Claim;
-use crate::held::Holdings;
 use mxf_klv::{OutOfMemory, below, up_to};
+use mxf_places::{Claim, Holdings};
 use std::alloc::Global;
 
 /// A maximal range of offsets, in bytes, that aren't held. The last has no end where that of the file isn't known.

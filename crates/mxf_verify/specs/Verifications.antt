@@ -4,7 +4,7 @@ use Rattle.mxf_klv.specs.Parts.{NoteParts}
 use Rattle.mxf_klv.specs.Rising.{In}
 use Rattle.mxf_catalogue.specs.Runs.{AreMaximal, LiesIn}
 use Rattle.mxf_catalogue.specs.declared.run.Run.{Run}
-use Rattle.mxf_restore.specs.Layers.{bytes_of}
+use Rattle.mxf_places.specs.Held.{bytes_of}
 use Rattle.mxf_verify.specs.Verifying.{DiffersIn, IsByteOf, IsCut, IsDiffering, IsDifferingByte, IsHeldBy}
 use Rattle.mxf_verify.specs.Verifying.{IsUnknownByte, IsUnverifiedByte, IsVerified, IsVerifiedByte, Source}
 use Rattle.mxf_verify.specs.Telling.{AreThose}

@@ -1,6 +1,6 @@
 //! What is told of a reference beside sources.
 ghost use Rattle.std.specs.Prelude.{◌≡◌, length, map};
-ghost use Rattle.mxf_restore.specs.Layers.{bytes_of};
+ghost use Rattle.mxf_places.specs.Held.{bytes_of};
 
 use mxf_catalogue::{Cover, Run};
 use mxf_klv::Note;

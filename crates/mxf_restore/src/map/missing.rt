@@ -6,10 +6,9 @@ ghost use Rattle.mxf_restore.specs.Map.{is_missing, missing_places};
 ghost use Rattle.mxf_restore.specs.Layers.{AreOffsets, missing_place};
 
 use super::offsets::set_of;
-use crate::claim::{Claim, claims};
-use crate::held::Holdings;
 use mxf_catalogue::Cover;
 use mxf_klv::OutOfMemory;
+use mxf_places::{Claim, Holdings, claims};
 use std::alloc::Global;
 
 /// The places that packs name and that are missing. It takes memory.

@@ -8,9 +8,9 @@ ghost use Rattle.mxf_views.specs.Partitions.{partitions_of};
 ghost use Rattle.mxf_restore.specs.Layers.{AreOffsets, BeginsPartition, BeginsRandomIndex, LiesInZone, is_of_zone};
 ghost use Rattle.mxf_restore.specs.Layers.{is_part, partition_offsets, random_index_offsets};
 
-use crate::stretch::Zone;
 use mxf_catalogue::{Catalogue, Cover};
 use mxf_klv::{Kind, OutOfMemory};
+use mxf_places::Zone;
 use mxf_sets::PackPart;
 use mxf_views::Views;
 use std::alloc::Global;

@@ -1,6 +1,6 @@
 use Rattle.std.proofs.Common.{◌∙◌, ap, sym}
 use Rattle.mxf_restore.specs.Plan.{doubt_of}
-use Rattle.mxf_restore.proofs.LoopLaws.{passed-step, pushed-step}
+use Rattle.mxf_places.proofs.LoopLaws.{passed-step, pushed-step}
 use Rattle.mxf_restore.proofs.doubt.doubts_of.Goals as goal
 use Rattle.mxf_restore.proofs.doubt.doubts_of.Goals.{in-Some+in_ok-push, in_default}
 

@@ -2,7 +2,7 @@ use Rattle.std.proofs.Common.{◌≡◌, ◌∙◌, ◌++◌, ◌+◌, ◌<◌, 
 use Rattle.std.proofs.Common.{false, get_or, length, sym, true, Bool}
 use Rattle.mxf_restore.specs.Plan.{first_by_place}
 use Rattle.mxf_restore.specs.declared.plan.Doubt.{Doubt}
-use Rattle.mxf_restore.specs.declared.reason.Reason.TheVariants.{Header}
+use Rattle.mxf_places.specs.declared.reason.Reason.TheVariants.{Header}
 use Rattle.mxf_restore.proofs.DoubtLaws.{none_seen, unseen, unseen_step}
 use Rattle.mxf_restore.proofs.doubt.first_by_place.Goals as goal
 use Rattle.mxf_restore.proofs.doubt.first_by_place.Goals.{then-branch+in_ok-push, else-branch}

@@ -2,7 +2,7 @@
 use Rattle.std.proofs.Common.{◌≡◌, ◌+◌}
 use Rattle.std.specs.List.{AllByRecursion}
 use Rattle.mxf_catalogue.specs.Covers.{IsRun}
-use Rattle.mxf_restore.specs.Layers.{bytes_of}
+use Rattle.mxf_places.specs.Held.{bytes_of}
 use Rattle.mxf_restore.proofs.map.bytes_of.Given as goal
 
 abbrev pub invariant-loop-run : goal.invariant-loop-run

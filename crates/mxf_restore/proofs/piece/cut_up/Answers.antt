@@ -1,7 +1,7 @@
 use Rattle.std.proofs.Common.{◌∙◌, ◌++◌, List, None, ap, get_or, ℕ}
 use Rattle.mxf_restore.specs.Pieces.{pieces_from, pieces_in}
 use Rattle.mxf_restore.specs.declared.piece.Hole.{Hole}
-use Rattle.mxf_restore.proofs.LoopLaws.{appended-step}
+use Rattle.mxf_places.proofs.LoopLaws.{appended-step}
 use Rattle.mxf_restore.proofs.piece.cut_up.Goals as goal
 
 pub loop-hole-preserved : goal.loop-hole-preserved

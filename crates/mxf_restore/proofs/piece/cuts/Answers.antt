@@ -2,14 +2,15 @@ use Rattle.std.proofs.Common.{◌∙◌, [], ap, sym}
 use Rattle.std.specs.Ordering.{nat_cmp}
 use Rattle.mxf_klv.specs.Rising.{union}
 use Rattle.mxf_restore.specs.Pieces.{cuts_of}
-use Rattle.mxf_restore.proofs.PieceLaws.{cuts_in_order, free_cuts_among, free_left}
+use Rattle.mxf_restore.proofs.PieceLaws.{free_cuts_among, free_left}
+use Rattle.mxf_places.proofs.NumberLaws.{once_in_order}
 use Rattle.mxf_restore.proofs.piece.cuts.Goals as goal
 
 pub returns-clause-cuts : goal.returns-clause-cuts
 unfolding cuts_of
 returns-clause-cuts c =
     let notes = c.args.holdings.now in
-    let sorted = cuts_in_order _ _ _ c.sort_unstable.ensures.permutation c.sort_unstable.ensures.sorted
+    let sorted = once_in_order _ _ _ c.sort_unstable.ensures.permutation c.sort_unstable.ensures.sorted
     c.dedup.ensures.filtered in
     sorted.0
     ∙ ap (union nat_cmp []) (c.in_ok-cuts.ensures ∙ sym (free_left notes c.args.claims.now)
@@ -17,4 +18,4 @@ returns-clause-cuts c =
 
 pub returns-clause-rising : goal.returns-clause-rising
 returns-clause-rising c =
-    (cuts_in_order _ _ _ c.sort_unstable.ensures.permutation c.sort_unstable.ensures.sorted c.dedup.ensures.filtered).1
+    (once_in_order _ _ _ c.sort_unstable.ensures.permutation c.sort_unstable.ensures.sorted c.dedup.ensures.filtered).1

@@ -1,6 +1,6 @@
 use Rattle.std.proofs.Common.{◌∙◌, ap, sym}
 use Rattle.mxf_restore.specs.Pieces.{free_cut}
-use Rattle.mxf_restore.proofs.LoopLaws.{passed-step, pushed-step}
+use Rattle.mxf_places.proofs.LoopLaws.{passed-step, pushed-step}
 use Rattle.mxf_restore.proofs.piece.free_cuts.Goals as goal
 use Rattle.mxf_restore.proofs.piece.free_cuts.Goals.{in-Some+in_ok-push, in_default}
 

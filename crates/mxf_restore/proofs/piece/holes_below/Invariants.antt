@@ -1,6 +1,6 @@
 use Rattle.std.proofs.Common.{◌≡◌, ◌++◌, filter, map}
 use Rattle.mxf_views.specs.Gaps.{gaps_of}
-use Rattle.mxf_restore.specs.Held.{is_held}
+use Rattle.mxf_places.specs.Held.{is_held}
 use Rattle.mxf_restore.specs.Pieces.{closed_hole}
 use Rattle.mxf_restore.proofs.piece.holes_below.Given as goal
 

@@ -2,7 +2,7 @@ use Rattle.std.proofs.Common.{◌∙◌, get_or, refl}
 use Rattle.std.proofs.lemmas.List.{drop_all}
 use Rattle.mxf_catalogue.specs.Runs.{run}
 use Rattle.mxf_catalogue.specs.declared.run.Run.{Run}
-use Rattle.mxf_restore.proofs.LoopLaws.{nothing_left}
+use Rattle.mxf_places.proofs.LoopLaws.{nothing_left}
 use Rattle.mxf_verify.specs.Reaching.{greatest_from}
 use Rattle.mxf_verify.proofs.ReachLaws.{greater, greatest-step}
 use Rattle.mxf_verify.proofs.ranges.greatest_ends.Goals as goal

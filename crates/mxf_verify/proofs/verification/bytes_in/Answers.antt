@@ -1,8 +1,8 @@
 use Rattle.std.proofs.Common.{◌∙◌, ap, arith, subst, sym}
 use Rattle.std.specs.List.{AllByRecursion}
 use Rattle.mxf_catalogue.specs.Covers.{IsRun}
-use Rattle.mxf_restore.specs.Layers.{bytes_of}
-use Rattle.mxf_restore.proofs.MapLaws.{bytes_within, runs_of_cover}
+use Rattle.mxf_places.specs.Held.{bytes_of}
+use Rattle.mxf_places.proofs.ByteLaws.{bytes_within, runs_of_cover}
 use Rattle.mxf_verify.proofs.verification.bytes_in.Goals as goal
 
 pub loop-run-init : goal.loop-run-init

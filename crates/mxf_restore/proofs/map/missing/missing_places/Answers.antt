@@ -1,6 +1,6 @@
 use Rattle.std.proofs.Common.{◌∙◌, List, ap, filter_map}
 use Rattle.mxf_restore.specs.Layers.{missing_place}
-use Rattle.mxf_restore.specs.declared.claim.Claim.{Claim}
+use Rattle.mxf_places.specs.declared.claim.Claim.{Claim}
 use Rattle.mxf_restore.proofs.LayerLaws.{missing_members}
 use Rattle.mxf_restore.proofs.map.missing.missing_places.Goals as goal
 

@@ -1,6 +1,6 @@
 use Rattle.std.proofs.Common.{refl}
 use Rattle.mxf_restore.specs.Layers.{partition_offsets}
-use Rattle.mxf_restore.proofs.LoopLaws.{nothing_left}
+use Rattle.mxf_places.proofs.LoopLaws.{nothing_left}
 use Rattle.mxf_restore.proofs.map.offsets.partition_offsets.Goals as goal
 
 pub returns : goal.returns

@@ -1,5 +1,5 @@
 use Rattle.std.proofs.Common.{◌∙◌, ap, find}
-use Rattle.mxf_restore.specs.Claims.{is_claimed}
+use Rattle.mxf_places.specs.Claims.{is_claimed}
 use Rattle.mxf_restore.specs.Plan.{needed_of, order_of, start_of}
 use Rattle.mxf_restore.proofs.OrderLaws.{order_is}
 use Rattle.mxf_restore.proofs.order.Evidence.order_of.Goals as goal

@@ -2,7 +2,7 @@ use Rattle.std.proofs.Common.{◌∙◌, List, subst}
 use Rattle.mxf_klv.specs.Parts.{NoteParts}
 use Rattle.mxf_sets.specs.declared.pack.part.PackPart.TheVariants as parts
 use Rattle.mxf_restore.specs.Layers.{AreOffsets, BeginsPartition, BeginsRandomIndex, LiesInZone}
-use Rattle.mxf_restore.specs.declared.stretch.Zone.TheVariants as zones
+use Rattle.mxf_places.specs.declared.stretch.Zone.TheVariants as zones
 use Rattle.mxf_restore.proofs.map.layers.Layers.of.Goals as goal
 
 pub invariant_of-result : goal.invariant_of-result

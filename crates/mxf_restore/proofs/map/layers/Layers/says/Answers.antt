@@ -1,6 +1,6 @@
 use Rattle.mxf_sets.specs.declared.pack.part.PackPart.TheVariants as parts
 use Rattle.mxf_restore.specs.declared.map.Mark.TheVariants as marks
-use Rattle.mxf_restore.specs.declared.stretch.Zone.TheVariants as zones
+use Rattle.mxf_places.specs.declared.stretch.Zone.TheVariants as zones
 use Rattle.mxf_restore.proofs.MarkLaws.{missing_met, none_held, partition_met, random_index_met, some_lacks, told, zone_met}
 use Rattle.mxf_restore.proofs.map.layers.Layers.says.Goals as goal
 

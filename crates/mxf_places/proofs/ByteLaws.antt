@@ -1,0 +1,29 @@
+-- The bytes of runs.
+use Rattle.std.proofs.Common.{◌≤◌, ◌<◌, ◌+◌, ◌-◌, ℕ, List, [], ◌∷◌, arith}
+use Rattle.std.specs.List.{AllByRecursion}
+use Rattle.mxf_klv.specs.Note.{greatest_end}
+use Rattle.mxf_klv.proofs.Lists.{all-In, all_from_In}
+use Rattle.mxf_catalogue.specs.Covers.{IsCover, IsRun}
+use Rattle.mxf_catalogue.specs.Runs.{AreMaximal}
+use Rattle.mxf_catalogue.specs.declared.run.Run.{Run}
+use Rattle.mxf_catalogue.proofs.RunBounds.{has_byte}
+use Rattle.mxf_places.specs.Held.{bytes_of}
+
+pub runs_of_cover : (runs : List Run) → IsCover runs → AllByRecursion IsRun runs
+runs_of_cover runs is =
+    all_from_In IsRun runs (λ r h. record {
+      order = has_byte 0 runs r is.maximal h;
+      within = all-In (λ (s : Run). s.end ≤ greatest_end) runs r is.within h;
+    })
+
+bytes_from : (low high : ℕ) (runs : List Run) → AreMaximal low runs → AllByRecursion (λ r. r.end ≤ high) runs
+    → bytes_of runs ≤ high - low
+bytes_from low high [] m w = omega arith
+bytes_from low high (r ∷ runs) m w =
+    let ih = bytes_from (r.end + 1) high runs m.2 w.1 in
+    let from : low ≤ r.start = m.0 in
+    let some : r.start < r.end = m.1 in
+    let within : r.end ≤ high = w.0 in omega (arith, ih, from, some, within)
+
+pub bytes_within : (runs : List Run) → IsCover runs → bytes_of runs ≤ greatest_end
+bytes_within runs is = bytes_from 0 greatest_end runs is.maximal is.within

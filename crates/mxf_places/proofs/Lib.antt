@@ -1,0 +1,10 @@
+pub mod HeldLaws
+pub mod FillLaws
+pub mod StretchLaws
+pub mod EndLaws
+pub mod OverLaws
+pub mod ZoneLaws
+pub mod ClaimLaws
+pub mod NumberLaws
+pub mod ByteLaws
+pub mod LoopLaws

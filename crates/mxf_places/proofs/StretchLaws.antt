@@ -1,0 +1,57 @@
+-- Stretches above all offsets.
+use Rattle.std.proofs.Common.{◌≡◌, ◌∙◌, ◌==◌, ◌&&◌, ◌<◌, ◌≤◌, ℕ, true, false, List, [], ◌∷◌, refl, ap, cond, arith}
+use Rattle.std.proofs.Common.{Option, None, Some, nat_lt, ne_eqb, eqb-true, inl, inr, ◌+◌, if◌then◌else◌, le-ltb, not}
+use Rattle.std.proofs.Common.{◌||◌, option_and_then, lt-ltb, ◌≢◌}
+use Rattle.std.specs.Option.{option_map_or}
+use Rattle.mxf_klv.specs.Parts.{NoteParts}
+use Rattle.mxf_klv.specs.Kind.{kind_of}
+use Rattle.mxf_klv.specs.Note.{IsNote, end_of, greatest_end}
+use Rattle.mxf_klv.specs.Rising.{In}
+use Rattle.mxf_klv.proofs.Lists.{all-In, find-none}
+use Rattle.mxf_catalogue.specs.Content.{IsCatalogue}
+use Rattle.mxf_catalogue.specs.Disputes.{undisputed_notes}
+use Rattle.mxf_catalogue.proofs.DisputeLaws.{In-undisputed_notes}
+use Rattle.mxf_views.specs.Partitions.{PartitionParts}
+use Rattle.mxf_places.specs.Claims.{behind_metadata, index_of}
+use Rattle.mxf_places.specs.Claims.{begins, is_unknown, over_among, stretch_at, stretch_from}
+use Rattle.mxf_views.specs.Copies.{is_fill}
+use Rattle.mxf_places.specs.Held.{end_of_file, is_doubtful, is_held}
+use Rattle.mxf_places.specs.declared.stretch.Zone.{Zone}
+use Rattle.mxf_places.specs.declared.stretch.Zone.TheVariants as zones
+
+over_none : (notes : List NoteParts) (x : ℕ) → ((n : NoteParts) → In n notes → n.offset ≢ x) → over_among notes x ≡ x
+over_none [] x f = refl
+over_none (n ∷ notes) x f =
+    ap (λ b. over_among notes (cond (b && is_fill (kind_of n.key)) (end_of n) x)) (ne_eqb n.offset x (f n (inl
+    refl)))
+    ∙ over_none notes x (λ m h. f m (inr h))
+
+-- No stretch begins above all offsets.
+pub far_stretch : (zone : Zone) (notes : List NoteParts) (from count : ℕ) → IsCatalogue notes → greatest_end ≤ from
+    → stretch_from zone notes from count ≡ None
+far_stretch zone notes from count is far =
+    let apart : (n : NoteParts) → In n (undisputed_notes notes) → n.offset ≢ from = λ n h e.
+    let note : IsNote n = all-In IsNote notes n is.members ((In-undisputed_notes n notes).0 h).0 in
+    let end : n.offset + 16 + n.width + n.length ≤ greatest_end = note.within in omega (arith, end, far, e) in
+    ap (λ x. stretch_at zone notes from x count) (over_none (undisputed_notes notes) from apart)
+    ∙ ap (λ (o : Option NoteParts). option_map_or (λ n. if begins zone n then Some (record {
+      from = from;
+      end = from + count;
+      is_open = false;
+    }) else None) o (if is_unknown notes from then Some (record { from = from; end = from + 1; is_open = true }) else
+    None))
+    (find-none (λ (n : NoteParts). n.offset == from) (undisputed_notes notes) (λ n h t. apart n h (eqb-true _ _ t)))
+    ∙ ap (λ b. cond (b && option_map_or (λ e. nat_lt from e) (end_of_file notes) true && (is_doubtful notes from
+    || not (is_held notes from))) (Some (record { from = from; end = from + 1; is_open = true })) None)
+    (le-ltb from greatest_end far)
+
+-- The index table segments of a partition don't begin there.
+pub far_index : (notes : List NoteParts) (p : PartitionParts) (from : ℕ) → IsCatalogue notes
+    → 0 < p.pack.numbers.index_byte_count → behind_metadata notes p ≡ Some from → greatest_end ≤ from
+    → index_of notes p ≡ None
+unfolding index_of
+far_index notes p from is some behind far =
+    let count = p.pack.numbers.index_byte_count in
+    let stretch = λ (f : ℕ). stretch_from zones.Index notes f count in
+    ap (λ b. cond b (option_and_then stretch (behind_metadata notes p)) None) (lt-ltb 0 count some)
+    ∙ ap (λ (o : Option ℕ). option_and_then stretch o) behind ∙ far_stretch zones.Index notes from count is far

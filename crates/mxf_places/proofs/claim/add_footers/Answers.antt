@@ -1,0 +1,9 @@
+use Rattle.std.proofs.Common.{filter_map, refl}
+use Rattle.mxf_places.specs.Claims.{footer_claim}
+use Rattle.mxf_places.proofs.LoopLaws.{nothing_left}
+use Rattle.mxf_places.proofs.claim.add_footers.Goals as goal
+
+pub returns : goal.returns
+returns c =
+    nothing_left (filter_map footer_claim) _ _ _ refl
+    c.in-None.ensures.steps.0 c.loop-partition.invariant

@@ -1,0 +1,5 @@
+pub mod Words
+pub mod Held
+pub mod Claims
+pub mod Named
+pub mod Fills
