@@ -22,11 +22,10 @@ use Rattle.mxf_views.specs.RandomIndex.{RipAtParts}
 use Rattle.mxf_views.specs.RandomIndexView.{rip_view_of}
 use Rattle.mxf_views.specs.declared.random_index.RipView.{RipView}
 use Rattle.mxf_views.specs.declared.random_index.RipView.TheVariants.{Absent, Several, Unreadable, One}
-use Rattle.mxf_restore.specs.Held.{IsDoubtful, IsHeld, end_of_file, is_doubtful, is_held, is_in_file}
-use Rattle.mxf_restore.specs.Claims.{claims_of, over_fills}
-use Rattle.mxf_restore.specs.Map.{begins_clear_head, named_place}
-use Rattle.mxf_restore.specs.declared.claim.Claim.{Claim}
-use Rattle.mxf_restore.proofs.HeldLaws.{is_doubtful-says, is_held-says}
+use Rattle.mxf_places.specs.Held.{IsDoubtful, IsHeld, begins_clear_head, end_of_file, is_doubtful, is_held, is_in_file}
+use Rattle.mxf_places.specs.Claims.{claims_of, named_place, over_fills}
+use Rattle.mxf_places.specs.declared.claim.Claim.{Claim}
+use Rattle.mxf_places.proofs.HeldLaws.{is_doubtful-says, is_held-says}
 use Rattle.mxf_units.specs.EssenceZones.{behind_index, begins_inside, bounds_of, essence_at, first_packet, is_clip_wrapped}
 use Rattle.mxf_units.specs.EssenceZones.{is_essence, is_one, is_open_place, is_sure, limit_of, may_be_essence, names_before}
 use Rattle.mxf_units.specs.EssenceZones.{open_place, rip_place_by, zone_by}

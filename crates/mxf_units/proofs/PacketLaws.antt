@@ -12,7 +12,7 @@ use Rattle.mxf_catalogue.specs.Disputes.{undisputed_notes}
 use Rattle.mxf_catalogue.proofs.DisputeLaws.{In-undisputed_notes}
 use Rattle.mxf_views.specs.Copies.{is_fill}
 use Rattle.mxf_views.specs.Partitions.{PartitionParts}
-use Rattle.mxf_restore.specs.Claims.{over_among, over_fills}
+use Rattle.mxf_places.specs.Claims.{over_among, over_fills}
 use Rattle.mxf_units.specs.EssenceZones.{behind_index, essence_at, first_packet, may_be_essence}
 
 over_none : (notes : List NoteParts) (x : ℕ) → ((n : NoteParts) → In n notes → n.offset ≢ x) → over_among notes x ≡ x

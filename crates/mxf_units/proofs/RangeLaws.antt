@@ -7,9 +7,8 @@ use Rattle.std.specs.List.{cons_option, list_all, list_any, range_with_len}
 use Rattle.mxf_klv.specs.Parts.{NoteParts}
 use Rattle.mxf_klv.specs.Note.{covered_end}
 use Rattle.mxf_klv.proofs.Tests.{either, same_bool}
-use Rattle.mxf_restore.specs.Held.{IsDoubtful, IsHeld, is_doubtful, is_held}
-use Rattle.mxf_restore.specs.Pieces.{held_end}
-use Rattle.mxf_restore.proofs.HeldLaws.{held_end-bound, is_doubtful-says, is_held-says}
+use Rattle.mxf_places.specs.Held.{IsDoubtful, IsHeld, held_end, is_doubtful, is_held}
+use Rattle.mxf_places.proofs.HeldLaws.{held_end-bound, is_doubtful-says, is_held-says}
 use Rattle.mxf_units.specs.Units.{are_all_held, is_any_doubtful, is_any_held}
 
 all-range : (p : ℕ → Bool) (a n : ℕ)

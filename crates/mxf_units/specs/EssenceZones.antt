@@ -20,10 +20,9 @@ use Rattle.mxf_views.specs.Places.{segments_of}
 use Rattle.mxf_views.specs.RandomIndexView.{rip_view_of}
 use Rattle.mxf_views.specs.declared.random_index.RipView.{RipView}
 use Rattle.mxf_views.specs.declared.random_index.RipView.TheVariants.{Absent, Several, Unreadable, One}
-use Rattle.mxf_restore.specs.Held.{end_of_file, is_doubtful, is_held, is_in_file}
-use Rattle.mxf_restore.specs.Claims.{behind_metadata, claims_of, index_of, known_end, over_fills}
-use Rattle.mxf_restore.specs.Map.{begins_clear_head, named_place}
-use Rattle.mxf_restore.specs.declared.claim.Claim.{Claim}
+use Rattle.mxf_places.specs.Held.{begins_clear_head, end_of_file, is_doubtful, is_held, is_in_file}
+use Rattle.mxf_places.specs.Claims.{behind_metadata, claims_of, index_of, known_end, named_place, over_fills}
+use Rattle.mxf_places.specs.declared.claim.Claim.{Claim}
 use Rattle.mxf_units.specs.declared.standing.UnitStanding.{UnitStanding}
 use Rattle.mxf_units.specs.declared.standing.UnitStanding.TheVariants as standings
 use Rattle.mxf_units.specs.declared.essence_zone.EssenceZone.{EssenceZone}

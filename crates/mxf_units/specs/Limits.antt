@@ -12,10 +12,9 @@ use Rattle.mxf_views.specs.Places.{segments_of}
 use Rattle.mxf_views.specs.RandomIndex.{RipAtParts}
 use Rattle.mxf_views.specs.RandomIndexView.{rip_view_of}
 use Rattle.mxf_views.specs.declared.random_index.RipView.TheVariants.{One}
-use Rattle.mxf_restore.specs.Held.{IsDoubtful, IsHeld, end_of_file, is_in_file}
-use Rattle.mxf_restore.specs.Claims.{claims_of, over_fills}
-use Rattle.mxf_restore.specs.Map.{named_place}
-use Rattle.mxf_restore.specs.declared.claim.Claim.{Claim}
+use Rattle.mxf_places.specs.Held.{IsDoubtful, IsHeld, end_of_file, is_in_file}
+use Rattle.mxf_places.specs.Claims.{claims_of, named_place, over_fills}
+use Rattle.mxf_places.specs.declared.claim.Claim.{Claim}
 use Rattle.mxf_units.specs.declared.essence_zone.EssenceZone.{EssenceZone}
 use Rattle.mxf_units.specs.EssenceZones.{behind_index}
 use Rattle.mxf_units.specs.Streams.{IsNext}

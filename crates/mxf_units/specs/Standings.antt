@@ -6,7 +6,7 @@ use Rattle.mxf_klv.specs.Rising.{In}
 use Rattle.mxf_views.specs.Partitions.{PartitionParts, partitions_of}
 use Rattle.mxf_views.specs.Places.{IsGiven, IsOnlyPair, segments_of}
 use Rattle.mxf_views.specs.declared.index.place.Pair.{Pair}
-use Rattle.mxf_restore.specs.Held.{IsDoubtful, IsHeld}
+use Rattle.mxf_places.specs.Held.{IsDoubtful, IsHeld}
 use Rattle.mxf_units.specs.declared.standing.UnitStanding.{UnitStanding}
 use Rattle.mxf_units.specs.declared.standing.UnitStanding.TheVariants as standings
 use Rattle.mxf_units.specs.declared.essence_zone.EssenceZone.{EssenceZone}

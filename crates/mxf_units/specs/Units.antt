@@ -10,7 +10,7 @@ use Rattle.mxf_klv.specs.Parts.{NoteParts}
 use Rattle.mxf_klv.specs.Rising.{union}
 use Rattle.mxf_sets.specs.declared.segment.offset.IndexEntry.{IndexEntry}
 use Rattle.mxf_views.specs.Places.{SegmentAtParts, segments_of}
-use Rattle.mxf_restore.specs.Held.{IsHeld, is_doubtful, is_held}
+use Rattle.mxf_places.specs.Held.{IsHeld, is_doubtful, is_held}
 use Rattle.mxf_units.specs.declared.standing.UnitStanding.{UnitStanding}
 use Rattle.mxf_units.specs.declared.standing.UnitStanding.TheVariants as standings
 use Rattle.mxf_units.specs.declared.essence_zone.EssenceZone.{EssenceZone}

@@ -6,12 +6,12 @@ ghost use Rattle.std.specs.Ordering.{nat_cmp};
 ghost use Rattle.mxf_klv.specs.Rising.{IsRising, union};
 ghost use Rattle.mxf_views.specs.Partitions.{pack_of, partition_at, partitions_of, previous_of};
 ghost use Rattle.mxf_views.specs.RandomIndexView.{rip_view_of};
-ghost use Rattle.mxf_restore.specs.Held.{end_of_file};
+ghost use Rattle.mxf_places.specs.Held.{end_of_file};
 ghost use Rattle.mxf_units.specs.EssenceZones.{bounds_of, is_one, is_open_place, names_before, open_place, rip_place_by};
 ghost use Rattle.mxf_units.specs.Streams.{least_above};
 
 use mxf_klv::{Note, OutOfMemory, up_to};
-use mxf_restore::{Claim, Holdings, claims};
+use mxf_places::{Claim, Holdings, claims};
 use mxf_sets::PartitionPack;
 use mxf_views::{RipView, Views};
 use std::alloc::Global;

@@ -7,7 +7,7 @@ ghost use Rattle.std.specs.Ordering.{nat_cmp};
 ghost use Rattle.mxf_klv.specs.Rising.{union};
 ghost use Rattle.mxf_views.specs.Places.{segments_of};
 ghost use Rattle.mxf_views.specs.RandomIndexView.{rip_view_of};
-ghost use Rattle.mxf_restore.specs.Held.{end_of_file};
+ghost use Rattle.mxf_places.specs.Held.{end_of_file};
 ghost use Rattle.mxf_units.specs.Streams.{in_order, next_of, places_above};
 ghost use Rattle.mxf_units.specs.EssenceZones.{begins_inside, bounds_of, first_packet, is_clip_wrapped, is_one};
 ghost use Rattle.mxf_units.specs.EssenceZones.{is_sure, limit_of};
@@ -20,7 +20,7 @@ use crate::first_packet::first_packet;
 use crate::segments::{all_segments, places_above_0};
 use crate::stream::{StreamPlace, first_above};
 use mxf_klv::{Kind, Note, OutOfMemory};
-use mxf_restore::Holdings;
+use mxf_places::Holdings;
 use mxf_views::PartitionAt;
 use std::alloc::Global;
 use std::marker::Model;
@@ -56,7 +56,7 @@ impl<'a> Model for Evidence<'a> {
     ghost use Rattle.mxf_klv.specs.Rising.{union};
     ghost use Rattle.mxf_views.specs.Places.{segments_of};
     ghost use Rattle.mxf_views.specs.RandomIndexView.{rip_view_of};
-    ghost use Rattle.mxf_restore.specs.Held.{end_of_file};
+    ghost use Rattle.mxf_places.specs.Held.{end_of_file};
     ghost use Rattle.mxf_units.specs.Streams.{in_order, places_above};
     ghost use Rattle.mxf_units.specs.EssenceZones.{bounds_of, is_one, rip_place_by};
 

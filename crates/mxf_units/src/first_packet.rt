@@ -7,7 +7,7 @@ ghost use Rattle.std.specs.Option.{option_copied};
 ghost use Rattle.mxf_units.specs.EssenceZones.{behind_index, essence_at, first_packet, may_be_essence};
 
 use mxf_klv::{Kind, MAX, Note};
-use mxf_restore::{Holdings, Zone, behind_metadata, zone_of};
+use mxf_places::{Holdings, Zone, behind_metadata, zone_of};
 use mxf_views::PartitionAt;
 
 /// Where the bytes behind the header metadata and the index table segments of a partition begin, where that is known.

@@ -15,7 +15,7 @@ use crate::next_places::NextPlaces;
 use crate::standing::UnitStanding;
 use crate::stream::StreamPlace;
 use crate::unit::Extent;
-use mxf_restore::Holdings;
+use mxf_places::Holdings;
 
 /// Bytes of essence, and the essence zone that they are looked for in.
 #[derive(Clone, Copy)]

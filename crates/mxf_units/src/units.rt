@@ -22,7 +22,7 @@ use crate::standing::UnitStanding;
 use crate::stream::StreamPlace;
 use crate::unit::{EditUnit, Extent};
 use mxf_klv::OutOfMemory;
-use mxf_restore::Holdings;
+use mxf_places::Holdings;
 use mxf_sets::IndexEntry;
 use mxf_views::{SegmentAt, Views};
 use std::alloc::Global;

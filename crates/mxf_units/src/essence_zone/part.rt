@@ -8,7 +8,7 @@ ghost use Rattle.mxf_units.specs.EssenceZones.{part_cmp, part_of, parts_of};
 use super::{EssenceZone, Evidence};
 use crate::standing::UnitStanding;
 use mxf_klv::OutOfMemory;
-use mxf_restore::Holdings;
+use mxf_places::Holdings;
 use mxf_views::{PartitionAt, Views};
 use std::alloc::Global;
 

@@ -1,5 +1,5 @@
 use Rattle.std.proofs.Common.{◌∙◌, ap, sym}
-use Rattle.mxf_restore.proofs.LoopLaws.{passed-step, pushed-step}
+use Rattle.mxf_places.proofs.LoopLaws.{passed-step, pushed-step}
 use Rattle.mxf_units.specs.EssenceZones.{open_place}
 use Rattle.mxf_units.proofs.bounds.add_open_places.Goals as goal
 use Rattle.mxf_units.proofs.bounds.add_open_places.Goals.{in-Some+in_ok-push, in_default}

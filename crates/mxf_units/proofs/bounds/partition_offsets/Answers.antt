@@ -1,6 +1,6 @@
 use Rattle.std.proofs.Common.{List, map, refl}
 use Rattle.mxf_views.specs.Partitions.{PartitionParts}
-use Rattle.mxf_restore.proofs.LoopLaws.{nothing_left}
+use Rattle.mxf_places.proofs.LoopLaws.{nothing_left}
 use Rattle.mxf_units.proofs.bounds.partition_offsets.Goals as goal
 
 pub returns : goal.returns

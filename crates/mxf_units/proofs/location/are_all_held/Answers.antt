@@ -1,5 +1,5 @@
 use Rattle.std.proofs.Common.{◌∙◌, ◌<◌, arith, sym}
-use Rattle.mxf_restore.specs.Pieces.{held_end}
+use Rattle.mxf_places.specs.Held.{held_end}
 use Rattle.mxf_units.proofs.RangeLaws.{all-held-empty, all-held-past, all-held-within, lt-leb}
 use Rattle.mxf_units.proofs.location.are_all_held.Goals as goal
 

@@ -1,6 +1,6 @@
 use Rattle.std.proofs.Common.{◌∙◌, ◌≤◌, arith, sym}
 use Rattle.std.proofs.lemmas.Bool.{le-ltb}
-use Rattle.mxf_restore.specs.Pieces.{held_end}
+use Rattle.mxf_places.specs.Held.{held_end}
 use Rattle.mxf_units.proofs.RangeLaws.{any-doubtful-past, any-doubtful-within}
 use Rattle.mxf_units.proofs.location.is_any_doubtful.Goals as goal
 

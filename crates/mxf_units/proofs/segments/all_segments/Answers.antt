@@ -1,6 +1,6 @@
 use Rattle.std.proofs.Common.{List, refl}
 use Rattle.mxf_views.specs.Places.{SegmentAtParts}
-use Rattle.mxf_restore.proofs.LoopLaws.{nothing_left}
+use Rattle.mxf_places.proofs.LoopLaws.{nothing_left}
 use Rattle.mxf_units.proofs.segments.all_segments.Goals as goal
 
 pub returns : goal.returns

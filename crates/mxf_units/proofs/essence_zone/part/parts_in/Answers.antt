@@ -1,6 +1,6 @@
 use Rattle.std.proofs.Common.{map, refl}
 use Rattle.mxf_units.specs.EssenceZones.{part_of}
-use Rattle.mxf_restore.proofs.LoopLaws.{nothing_left}
+use Rattle.mxf_places.proofs.LoopLaws.{nothing_left}
 use Rattle.mxf_units.proofs.essence_zone.part.parts_in.Goals as goal
 
 pub returns : goal.returns
