@@ -80,12 +80,10 @@ fn place_claim(reason: Reason, source: Option<u64>, place: u64) -> Claim
 fn add_footers(claims: &mut Vec<Claim>, views: &Views) -> Result<(), OutOfMemory>
     ensures { OnOk result (claims.new.items ≡ claims.old.items ++ filter_map footer_claim (partitions_of views.now)) }
 {
-    for partition in views.partitions() {
-        if let Some(claim) = footer_claim(&partition) {
-            claims.push(claim)?;
-        }
-    }
-    Ok(())
+    let found = views
+        .partitions()
+        .filter_map(|partition| footer_claim(&partition));
+    Ok(claims.extend(found)?)
 }
 
 /// What a partition pack says of the footer partition above it.
@@ -109,12 +107,11 @@ fn add_zones(
     ensures { OnOk result (claims.new.items
         ≡ claims.old.items ++ filter_map (zone_claim zone holdings.now) (partitions_of holdings.now)) }
 {
-    for partition in holdings.views().partitions() {
-        if let Some(claim) = zone_claim(holdings, zone, &partition) {
-            claims.push(claim)?;
-        }
-    }
-    Ok(())
+    let found = holdings
+        .views()
+        .partitions()
+        .filter_map(|partition| zone_claim(holdings, zone, &partition));
+    Ok(claims.extend(found)?)
 }
 
 /// Where the zone of a partition lies.
@@ -157,12 +154,10 @@ fn add_entries_of(claims: &mut Vec<Claim>, rip: &RipAt<'_>) -> Result<(), OutOfM
     ensures { OnOk result (claims.new.items
         ≡ claims.old.items ++ filter_map (entry_claim rip.now.offset) rip.now.entries) }
 {
-    for entry in rip.entries() {
-        if let Some(claim) = entry_claim(rip.offset(), entry) {
-            claims.push(claim)?;
-        }
-    }
-    Ok(())
+    let found = rip
+        .entries()
+        .filter_map(|entry| entry_claim(rip.offset(), entry));
+    Ok(claims.extend(found)?)
 }
 
 /// What an entry of the random index pack at an offset says. One at 0 says no more than is known.
@@ -181,12 +176,10 @@ fn entry_claim(offset: u64, entry: (RipEntry, Standing)) -> Option<Claim>
 fn add_previous(claims: &mut Vec<Claim>, views: &Views) -> Result<(), OutOfMemory>
     ensures { OnOk result (claims.new.items ≡ claims.old.items ++ filter_map previous_claim (partitions_of views.now)) }
 {
-    for partition in views.partitions() {
-        if let Some(claim) = previous_claim(&partition) {
-            claims.push(claim)?;
-        }
-    }
-    Ok(())
+    let found = views
+        .partitions()
+        .filter_map(|partition| previous_claim(&partition));
+    Ok(claims.extend(found)?)
 }
 
 /// What a partition pack says of the partition before it.

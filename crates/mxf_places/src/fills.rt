@@ -58,13 +58,8 @@ fn over(ends: &BTreeMap<u64, u64>, offset: u64) -> u64
 fn fills_in(alloc: Global, catalogue: &Catalogue) -> Result<Vec<Fill>, OutOfMemory>
     ensures { IfOk result (λ fills. fills.items ≡ fills_among (undisputed_notes catalogue.now)) }
 {
-    let mut fills = Vec::new(alloc);
-    for note in catalogue.undisputed() {
-        if let Some(fill) = fill_at(note) {
-            fills.push(fill)?;
-        }
-    }
-    Ok(fills)
+    let fills = catalogue.undisputed().filter_map(|note| fill_at(note));
+    Ok(fills.collect(alloc)?)
 }
 
 /// The fill that a note is.

@@ -1,9 +1,12 @@
-use Rattle.std.proofs.Common.{filter_map, refl}
+use Rattle.std.proofs.Common.{rules}
+use Rattle.std.proofs.lemmas.Iterator.Adapters.{items_from_extend}
+use Rattle.std.proofs.lemmas.Iterator.Consumers.{YieldsList-from_filter_map, YieldsList-from_first}
 use Rattle.mxf_places.specs.Claims.{entry_claim}
-use Rattle.mxf_places.proofs.LoopLaws.{nothing_left}
 use Rattle.mxf_places.proofs.claim.add_entries_of.Goals as goal
 
 pub returns : goal.returns
 returns c =
-    nothing_left (filter_map (entry_claim c.args.rip.now.offset)) _ _ _ refl
-    c.in-None.ensures.steps.0 c.loop-entry.invariant
+    let h = items_from_extend c.extend.result c.extend.ensures.ran (YieldsList-from_filter_map _
+    (entry_claim c.args.rip.now.offset)
+    (YieldsList-from_first (λ x. x) (λ s. s) c.args.rip.now.entries cc)
+    c.filter_map-found.ensures.closure (λ x r q k. search rules)) in search rules

@@ -1,9 +1,13 @@
-use Rattle.std.proofs.Common.{filter_map, refl}
+use Rattle.std.proofs.Common.{rules}
+use Rattle.std.proofs.lemmas.Iterator.Adapters.{items_from_extend}
+use Rattle.std.proofs.lemmas.Iterator.Consumers.{YieldsList-from_filter_map, YieldsList-from_first}
+use Rattle.mxf_views.specs.Partitions.{partitions_of}
 use Rattle.mxf_places.specs.Claims.{zone_claim}
-use Rattle.mxf_places.proofs.LoopLaws.{nothing_left}
 use Rattle.mxf_places.proofs.claim.add_zones.Goals as goal
 
 pub returns : goal.returns
 returns c =
-    nothing_left (filter_map (zone_claim c.args.zone c.args.holdings.now)) _ _ _ refl
-    c.in-None.ensures.steps.0 c.loop-partition.invariant
+    let h = items_from_extend c.extend.result c.extend.ensures.ran (YieldsList-from_filter_map _
+    (zone_claim c.args.zone c.args.holdings.now)
+    (YieldsList-from_first (λ x. x) (λ s. s) (partitions_of c.args.holdings.now) cc)
+    c.filter_map-found.ensures.closure (λ x r q k. search rules)) in search rules
