@@ -39,11 +39,8 @@ pub(crate) fn rising(mut offsets: Vec<u64>) -> Vec<u64>
 fn partition_offsets(alloc: Global, views: &Views) -> Result<Vec<u64>, OutOfMemory>
     ensures { IfOk result (λ v. v.items ≡ map (λ p. p.offset) (partitions_of views.now)) }
 {
-    let mut offsets = Vec::new(alloc);
-    for partition in views.partitions() {
-        offsets.push(partition.offset)?;
-    }
-    Ok(offsets)
+    let offsets = views.partitions().map(|partition| partition.offset);
+    Ok(offsets.collect(alloc)?)
 }
 
 /// Adds the places that claims name where it isn't known whole what begins there.
@@ -55,12 +52,10 @@ fn add_open_places(
     ensures { OnOk result (bounds.new.items
         ≡ bounds.old.items ++ filter_map (open_place holdings.now) claims.now) }
 {
-    for claim in claims {
-        if let Some(place) = open_place(holdings, claim) {
-            bounds.push(place)?;
-        }
-    }
-    Ok(())
+    let places = claims
+        .iter()
+        .filter_map(|claim| open_place(holdings, claim));
+    Ok(bounds.extend(places)?)
 }
 
 /// The place that a claim names, in bytes, where it isn't known whole what begins there.

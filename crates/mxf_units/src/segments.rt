@@ -27,11 +27,7 @@ pub(crate) fn all_segments<'a>(
 ) -> Result<Vec<SegmentAt<'a>>, OutOfMemory>
     ensures { IfOk result (λ v. v.items ≡ segments_of views.now) }
 {
-    let mut segments = Vec::new(alloc);
-    for segment in views.segments() {
-        segments.push(segment)?;
-    }
-    Ok(segments)
+    Ok(views.segments().collect(alloc)?)
 }
 
 /// The segments of an IndexSID, in their order. They take memory.
@@ -42,13 +38,10 @@ pub(crate) fn segments_for<'a>(
 ) -> Result<Vec<SegmentAt<'a>>, OutOfMemory>
     ensures { IfOk result (λ v. v.items ≡ segments_for views.now index_sid) }
 {
-    let mut segments = Vec::new(alloc);
-    for segment in views.segments() {
-        if segment.segment.numbers().index_sid == index_sid {
-            segments.push(segment)?;
-        }
-    }
-    Ok(segments)
+    let segments = views
+        .segments()
+        .filter(|segment| segment.segment.numbers().index_sid == index_sid);
+    Ok(segments.collect(alloc)?)
 }
 
 /// The place that a segment gives an edit unit, where it covers the unit.

@@ -162,11 +162,10 @@ pub fn index_sids(alloc: Global, views: &Views) -> Result<Vec<u32>, OutOfMemory>
 fn index_sids_in(alloc: Global, views: &Views) -> Result<Vec<u32>, OutOfMemory>
     ensures { IfOk result (λ v. v.items ≡ map (λ s. s.segment.numbers.index_sid) (segments_of views.now)) }
 {
-    let mut index_sids = Vec::new(alloc);
-    for segment in views.segments() {
-        index_sids.push(segment.segment.numbers().index_sid)?;
-    }
-    Ok(index_sids)
+    let index_sids = views
+        .segments()
+        .map(|segment| segment.segment.numbers().index_sid);
+    Ok(index_sids.collect(alloc)?)
 }
 
 /// A law of [`Units::unit`]: of a unit that stands as held it is known where it ends, and each of its bytes is held.

@@ -57,11 +57,10 @@ fn parts_in(
 ) -> Result<Vec<StreamPart>, OutOfMemory>
     ensures { IfOk result (λ v. v.items ≡ map (part_of evidence.now) (partitions_of views.now)) }
 {
-    let mut parts = Vec::new(alloc);
-    for partition in views.partitions() {
-        parts.push(part_of(evidence, &partition))?;
-    }
-    Ok(parts)
+    let parts = views
+        .partitions()
+        .map(|partition| part_of(evidence, &partition));
+    Ok(parts.collect(alloc)?)
 }
 
 /// The parts from the last to the first, by BodySID, then by BodyOffset, those without a first packet behind the others.
