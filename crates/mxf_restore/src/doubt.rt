@@ -32,13 +32,8 @@ fn doubts_of(
 ) -> Result<Vec<Doubt>, OutOfMemory>
     ensures { IfOk result (λ v. v.items ≡ filter_map (doubt_of holdings.now) claims.now) }
 {
-    let mut doubts = Vec::new(alloc);
-    for claim in claims {
-        if let Some(doubt) = doubt_of(holdings, claim) {
-            doubts.push(doubt)?;
-        }
-    }
-    Ok(doubts)
+    let doubts = claims.iter().filter_map(|claim| doubt_of(holdings, claim));
+    Ok(doubts.collect(alloc)?)
 }
 
 /// The doubt of the claim, where what covers its place is disputed.

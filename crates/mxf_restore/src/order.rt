@@ -152,11 +152,6 @@ fn orders_of(
 ) -> Result<Vec<Order>, OutOfMemory>
     ensures { IfOk result (λ v. v.items ≡ filter_map (order_of evidence.now) pieces.now) }
 {
-    let mut orders = Vec::new(alloc);
-    for piece in pieces {
-        if let Some(order) = evidence.order_of(*piece) {
-            orders.push(order)?;
-        }
-    }
-    Ok(orders)
+    let orders = pieces.iter().filter_map(|piece| evidence.order_of(*piece));
+    Ok(orders.collect(alloc)?)
 }

@@ -54,16 +54,14 @@ fn holes_below(alloc: Global, holdings: &Holdings<'_>) -> Result<Vec<Hole>, OutO
     ensures { IfOk result (λ v. v.items
         ≡ map closed_hole (filter (λ gap. is_held holdings.now gap.end) (gaps_of holdings.now))) }
 {
-    let mut holes = Vec::new(alloc);
-    for gap in holdings.views().gaps() {
-        if holdings.is_held(gap.end) {
-            holes.push(Hole {
-                start: gap.start,
-                end: Some(gap.end),
-            })?;
-        }
-    }
-    Ok(holes)
+    let gaps = holdings.views().gaps();
+    let holes = gaps
+        .filter(|gap| holdings.is_held(gap.end))
+        .map(|gap| Hole {
+            start: gap.start,
+            end: Some(gap.end),
+        });
+    Ok(holes.collect(alloc)?)
 }
 
 /// Where holes may be cut: offsets, in bytes, in the file that aren't held, rising. They take memory.
@@ -86,13 +84,8 @@ fn free_cuts(
 ) -> Result<Vec<u64>, OutOfMemory>
     ensures { IfOk result (λ v. v.items ≡ filter_map (free_cut holdings.now) claims.now) }
 {
-    let mut cuts = Vec::new(alloc);
-    for claim in claims {
-        if let Some(cut) = free_cut(holdings, claim) {
-            cuts.push(cut)?;
-        }
-    }
-    Ok(cuts)
+    let cuts = claims.iter().filter_map(|claim| free_cut(holdings, claim));
+    Ok(cuts.collect(alloc)?)
 }
 
 /// Where the claim cuts a hole: an offset in the file, in bytes, that isn't held.

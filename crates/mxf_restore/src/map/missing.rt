@@ -37,13 +37,10 @@ fn places_of(
 ) -> Result<Vec<u64>, OutOfMemory>
     ensures { IfOk result (λ v. v.items ≡ filter_map (missing_place holdings.now) claims.now) }
 {
-    let mut places = Vec::new(alloc);
-    for claim in claims {
-        if let Some(place) = missing_place(holdings, claim) {
-            places.push(place)?;
-        }
-    }
-    Ok(places)
+    let places = claims
+        .iter()
+        .filter_map(|claim| missing_place(holdings, claim));
+    Ok(places.collect(alloc)?)
 }
 
 /// The place that a claim names, in bytes, where it is missing.

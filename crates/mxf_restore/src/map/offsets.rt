@@ -51,13 +51,11 @@ pub(super) fn random_index(alloc: Global, catalogue: &Catalogue) -> Result<Cover
 fn partition_offsets(alloc: Global, views: &Views, part: PackPart) -> Result<Vec<u64>, OutOfMemory>
     ensures { IfOk result (λ v. v.items ≡ partition_offsets part (partitions_of views.now)) }
 {
-    let mut offsets = Vec::new(alloc);
-    for partition in views.partitions() {
-        if is_part(partition.pack.part(), part) {
-            offsets.push(partition.offset)?;
-        }
-    }
-    Ok(offsets)
+    let offsets = views
+        .partitions()
+        .filter(|partition| is_part(partition.pack.part(), part))
+        .map(|partition| partition.offset);
+    Ok(offsets.collect(alloc)?)
 }
 
 /// Whether the parts are one.
@@ -75,13 +73,11 @@ fn is_part(part: PackPart, other: PackPart) -> bool
 fn random_index_offsets(alloc: Global, catalogue: &Catalogue) -> Result<Vec<u64>, OutOfMemory>
     ensures { IfOk result (λ v. v.items ≡ random_index_offsets (clear_notes catalogue.now)) }
 {
-    let mut offsets = Vec::new(alloc);
-    for pack in catalogue.clear() {
-        if pack.kind() == Kind::Rip {
-            offsets.push(pack.offset())?;
-        }
-    }
-    Ok(offsets)
+    let offsets = catalogue
+        .clear()
+        .filter(|pack| pack.kind() == Kind::Rip)
+        .map(|pack| pack.offset());
+    Ok(offsets.collect(alloc)?)
 }
 
 /// The offsets that lie in a clear packet of a zone. It takes memory.
