@@ -1,29 +1,8 @@
--- Loops over a list that push what a function answers of each item: what they hold so far, with what the function
+-- Loops over a list that append what a function answers of each item: what they hold so far, with what the function
 -- answers of the items to come, stays the same.
-use Rattle.std.proofs.Common.{◌≡◌, ◌∙◌, ◌<◌, ◌+◌, ◌++◌, ◌∷◌, [], ℕ, List, Option, None, Some, ap, append-nil}
-use Rattle.std.proofs.Common.{append_assoc}
-use Rattle.std.proofs.Common.{drop, filter_map, flat_map, get_or, length, sym}
-use Rattle.std.specs.List.{cons_option}
+use Rattle.std.proofs.Common.{◌≡◌, ◌∙◌, ◌<◌, ◌+◌, ◌++◌, [], ℕ, List, ap, append-nil, append_assoc}
+use Rattle.std.proofs.Common.{drop, flat_map, get_or, length, sym}
 use Rattle.std.proofs.lemmas.List.{at_drop_more}
-
-module _ {X Y : Type 0} (f : X → Option Y) (xs : List X) (i : ℕ) (d : X) (so_far new whole : List Y) where
-  -- The function answers, and the answer was pushed.
-  pub pushed-step : (y : Y) → i < length xs → f (get_or xs i d) ≡ Some y → new ≡ so_far ++ y ∷ []
-      → so_far ++ filter_map f (drop i xs) ≡ whole → new ++ filter_map f (drop (i + 1) xs) ≡ whole
-  pushed-step y here some grown before =
-      let rest = filter_map f (drop (i + 1) xs) in
-      ap (λ (l : List Y). l ++ rest) grown ∙ append_assoc so_far (y ∷ []) rest
-      ∙ ap (λ (o : Option Y). so_far ++ cons_option o rest) (sym some)
-      ∙ ap (λ (l : List Y). so_far ++ l) (sym (at_drop_more (filter_map f) xs i d here)) ∙ before
-
-  -- It doesn't.
-  pub passed-step : i < length xs → f (get_or xs i d) ≡ None → new ≡ so_far
-      → so_far ++ filter_map f (drop i xs) ≡ whole → new ++ filter_map f (drop (i + 1) xs) ≡ whole
-  passed-step here none same before =
-      let rest = filter_map f (drop (i + 1) xs) in
-      ap (λ (l : List Y). l ++ rest) same
-      ∙ ap (λ (o : Option Y). so_far ++ cons_option o rest) (sym none)
-      ∙ ap (λ (l : List Y). so_far ++ l) (sym (at_drop_more (filter_map f) xs i d here)) ∙ before
 
 -- The function answers a list, which was appended.
 pub appended-step : {X Y : Type 0} (f : X → List Y) (xs : List X) (i : ℕ) (d : X) (so_far new whole : List Y)
