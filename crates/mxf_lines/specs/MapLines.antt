@@ -4,13 +4,13 @@ use Rattle.std.specs.Prelude.{flat_map, take}
 use Rattle.std.specs.List.{repeat}
 use Rattle.mxf_restore.specs.Map.{MapParts}
 use Rattle.mxf_restore.specs.declared.map.Mark.{Mark}
-use Rattle.mxf_restore.specs.declared.map.Mark.TheVariants.{Doubtful, Header, Footer, Body, RandomIndex, Missing}
+use Rattle.mxf_restore.specs.declared.map.Mark.TheVariants.{Disputed, Header, Footer, Body, RandomIndex, Missing}
 use Rattle.mxf_restore.specs.declared.map.Mark.TheVariants.{Empty, Part, Metadata, Index, Whole}
 use Rattle.mxf_lines.specs.Forms.{Number, PrintedLine, digits, field, line, number, word}
 
 -- The character of a mark.
 abbrev pub mark_text : Mark → List ℕ
-mark_text Doubtful = codes "!"
+mark_text Disputed = codes "!"
 mark_text Header = codes "H"
 mark_text Footer = codes "F"
 mark_text Body = codes "B"

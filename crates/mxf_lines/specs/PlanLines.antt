@@ -4,7 +4,7 @@ use Rattle.std.specs.Prelude.{is_none, length, sum_by}
 use Rattle.std.specs.Option.{option_map_or}
 use Rattle.mxf_restore.specs.Plan.{PlanParts}
 use Rattle.mxf_places.specs.Words.{reason_name}
-use Rattle.mxf_restore.specs.declared.plan.Doubt.{Doubt}
+use Rattle.mxf_restore.specs.declared.plan.DisputedPlace.{DisputedPlace}
 use Rattle.mxf_restore.specs.declared.plan.Order.{Order}
 use Rattle.mxf_lines.specs.Forms.{PrintedLine, known, line, number, word}
 
@@ -14,9 +14,9 @@ restore_line o =
     line "restore" (number " " "start" o.start ∷ known " " "end" "-" o.end ∷ word " " "reason" (reason_name o.reason)
     ∷ known " " "source" "-" o.source ∷ [])
 
--- The line of a doubt: its place, why that matters, and which pack says so.
-unfoldable pub doubt_line : Doubt → PrintedLine
-doubt_line d =
+-- The line of a disputed place: its place, why that matters, and which pack says so.
+unfoldable pub disputed_place_line : DisputedPlace → PrintedLine
+disputed_place_line d =
     line "disputed" (number " " "offset" d.place ∷ word " " "reason" (reason_name d.reason)
     ∷ known " " "source" "-" d.source ∷ [])
 
@@ -30,10 +30,10 @@ planned_line count bytes unended end =
     line "planned" (number " " "ranges" count ∷ number " ranges " "bytes" bytes ∷ number " bytes " "open" unended
     ∷ known " open end " "end" "-" end ∷ [])
 
--- The lines of a plan: of each order, of each doubt, and the last.
+-- The lines of a plan: of each order, of each disputed place, and the last.
 abbrev pub plan_lines : PlanParts → List PrintedLine
 plan_lines p =
     flat_map (λ o. restore_line o ∷ []) p.orders
-    ++ (flat_map (λ d. doubt_line d ∷ []) p.doubts
+    ++ (flat_map (λ d. disputed_place_line d ∷ []) p.disputed_places
     ++ planned_line (length p.orders) (sum_by ordered_bytes p.orders) (count_by (λ o. is_none o.end) p.orders) p.end
     ∷ [])

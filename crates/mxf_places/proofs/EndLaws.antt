@@ -17,10 +17,10 @@ use Rattle.mxf_views.specs.RandomIndexView.{rip_view_of}
 use Rattle.mxf_views.specs.declared.random_index.RipView.{RipView}
 use Rattle.mxf_views.specs.declared.random_index.RipView.TheVariants.{Absent, Several, Unreadable, One}
 use Rattle.mxf_places.specs.Claims.{is_unknown}
-use Rattle.mxf_places.specs.Held.{IsEndOfFile, IsHeld, end_of_file, is_doubtful, is_held, is_in_file, reaches_past}
+use Rattle.mxf_places.specs.Held.{IsEndOfFile, IsHeld, end_of_file, is_disputed_at, is_held, is_in_file, reaches_past}
 use Rattle.mxf_places.specs.Held.{rip_end_by}
 use Rattle.mxf_places.specs.Named.{IsInFile, IsUnknown}
-use Rattle.mxf_places.proofs.HeldLaws.{is_doubtful-says, is_held-says}
+use Rattle.mxf_places.proofs.HeldLaws.{is_disputed_at-says, is_held-says}
 
 module _ (notes : List NoteParts) where
   -- No packet covers an offset at or above the end.
@@ -113,18 +113,18 @@ module _ (notes : List NoteParts) where
   pub unknown_says : (x : ℕ) → IsTrue (is_unknown notes x) ↔ IsUnknown notes x
   unknown_says x = (
     λ h.
-        let p = and_parts (is_in_file notes x) (is_doubtful notes x || not (is_held notes x)) h in
+        let p = and_parts (is_in_file notes x) (is_disputed_at notes x || not (is_held notes x)) h in
         record {
           in_file = (in_file_says x).0 p.0;
-          why = elim (or_cases (is_doubtful notes x) (not (is_held notes x)) p.1) [
-            | inl d ↦ inl ((is_doubtful-says notes x).0 d)
+          why = elim (or_cases (is_disputed_at notes x) (not (is_held notes x)) p.1) [
+            | inl d ↦ inl ((is_disputed_at-says notes x).0 d)
             | inr n ↦ inr (λ k. not-true-false (is_held notes x) n ((is_held-says notes x).1 k))
           ];
         },
-    λ k. and_from (is_in_file notes x) (is_doubtful notes x || not (is_held notes x)) ((in_file_says x).1 k.in_file)
+    λ k. and_from (is_in_file notes x) (is_disputed_at notes x || not (is_held notes x)) ((in_file_says x).1 k.in_file)
         (elim k.why [
-          | inl d ↦ or_left (is_doubtful notes x) (not (is_held notes x)) ((is_doubtful-says notes x).1 d)
-          | inr n ↦ or_right (is_doubtful notes x) (not (is_held notes x))
+          | inl d ↦ or_left (is_disputed_at notes x) (not (is_held notes x)) ((is_disputed_at-says notes x).1 d)
+          | inr n ↦ or_right (is_disputed_at notes x) (not (is_held notes x))
               (not_true (is_held notes x) (λ e. n ((is_held-says notes x).0 e)))
         ]),
   )

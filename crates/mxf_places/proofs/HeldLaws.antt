@@ -17,7 +17,7 @@ use Rattle.mxf_catalogue.specs.Runs.{LiesIn}
 use Rattle.mxf_catalogue.specs.declared.run.Run.{Run}
 use Rattle.mxf_catalogue.proofs.DisputeLaws.{is_disputed-IsDisputed, notes-disputed_notes}
 use Rattle.mxf_catalogue.proofs.RunBounds.{covers_first}
-use Rattle.mxf_places.specs.Held.{AreDoubtful, IsDoubtful, IsHeld, covers, is_doubtful, is_held, reaches_past, top_of}
+use Rattle.mxf_places.specs.Held.{AreDisputed, IsDisputedAt, IsHeld, covers, is_disputed_at, is_held, reaches_past, top_of}
 use Rattle.mxf_places.specs.Held.{end_of_file, held_end, rip_end_by}
 
 pub covers-says : (x : ℕ) (n : NoteParts) → IsTrue (covers x n) ↔ IsCovered n x
@@ -49,8 +49,8 @@ In-disputed notes n =
       λ h. subst (In n) (sym (notes-disputed_notes notes)) (f.1 (h.0, d.1 h.1)),
     )
 
-pub is_doubtful-says : (notes : List NoteParts) (x : ℕ) → IsTrue (is_doubtful notes x) ↔ IsDoubtful notes x
-is_doubtful-says notes x =
+pub is_disputed_at-says : (notes : List NoteParts) (x : ℕ) → IsTrue (is_disputed_at notes x) ↔ IsDisputedAt notes x
+is_disputed_at-says notes x =
     let any = list_any-In (λ d. covers x d.note) (disputed_notes notes) in (
       λ h.
           let s = any.0 h in
@@ -137,9 +137,9 @@ reaches_past-is x notes =
     ] refl)
 
 -- The runs of what the disputed notes cover.
-pub doubtful_runs : (notes : List NoteParts)
-    → AreDoubtful notes (union_of_runs [] (map covered_run (map (λ d. d.note) (disputed_notes notes))))
-doubtful_runs notes x =
+pub disputed_runs : (notes : List NoteParts)
+    → AreDisputed notes (union_of_runs [] (map covered_run (map (λ d. d.note) (disputed_notes notes))))
+disputed_runs notes x =
     let all = covers_all (map (λ d. d.note) (disputed_notes notes)) x in (
       λ h. let s = all.0 h in let k = (In-disputed notes s.0).0 s.1 in (s.0, k.0, k.1, s.2),
       λ h. all.1 (h.0, (In-disputed notes h.0).1 (h.1, h.2), h.3),

@@ -15,7 +15,7 @@ use Rattle.mxf_views.specs.Partitions.{PartitionParts}
 use Rattle.mxf_places.specs.Claims.{behind_metadata, index_of}
 use Rattle.mxf_places.specs.Claims.{begins, is_unknown, over_among, stretch_at, stretch_from}
 use Rattle.mxf_views.specs.Copies.{is_fill}
-use Rattle.mxf_places.specs.Held.{end_of_file, is_doubtful, is_held}
+use Rattle.mxf_places.specs.Held.{end_of_file, is_disputed_at, is_held}
 use Rattle.mxf_places.specs.declared.stretch.Zone.{Zone}
 use Rattle.mxf_places.specs.declared.stretch.Zone.TheVariants as zones
 
@@ -41,7 +41,7 @@ far_stretch zone notes from count is far =
     }) else None) o (if is_unknown notes from then Some (record { from = from; end = from + 1; is_open = true }) else
     None))
     (find-none (λ (n : NoteParts). n.offset == from) (undisputed_notes notes) (λ n h t. apart n h (eqb-true _ _ t)))
-    ∙ ap (λ b. cond (b && option_map_or (λ e. nat_lt from e) (end_of_file notes) true && (is_doubtful notes from
+    ∙ ap (λ b. cond (b && option_map_or (λ e. nat_lt from e) (end_of_file notes) true && (is_disputed_at notes from
     || not (is_held notes from))) (Some (record { from = from; end = from + 1; is_open = true })) None)
     (le-ltb from greatest_end far)
 

@@ -18,7 +18,7 @@ use Rattle.mxf_views.specs.RandomIndexView.{rip_view_of}
 use Rattle.mxf_views.specs.declared.random_index.RipView.{RipView}
 use Rattle.mxf_views.specs.declared.random_index.RipView.TheVariants.{Absent, Several, Unreadable, One}
 use Rattle.mxf_views.specs.declared.random_index.Standing.{Standing}
-use Rattle.mxf_places.specs.Held.{is_doubtful, is_held, is_in_file}
+use Rattle.mxf_places.specs.Held.{is_disputed_at, is_held, is_in_file}
 use Rattle.mxf_places.specs.declared.claim.Claim.{Claim}
 use Rattle.mxf_places.specs.declared.stretch.Stretch.{Stretch}
 use Rattle.mxf_places.specs.declared.stretch.Zone.{Zone}
@@ -65,7 +65,7 @@ begins zones.Index n = begins_index n
 
 -- It isn't known what begins there: nothing is held, or what is held is disputed.
 abbrev pub is_unknown : List NoteParts → ℕ → Bool
-is_unknown notes x = is_in_file notes x && (is_doubtful notes x || not (is_held notes x))
+is_unknown notes x = is_in_file notes x && (is_disputed_at notes x || not (is_held notes x))
 
 -- The stretch of so many bytes, counted from the first packet behind fills, which has to be of a kind; where that
 -- packet isn't known, up to its first byte.

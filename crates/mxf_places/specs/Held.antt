@@ -19,8 +19,8 @@ abbrev pub IsHeld : List NoteParts → ℕ → Type 0
 IsHeld notes x = (n : NoteParts) × In n notes × IsCovered n x
 
 -- A disputed note does.
-abbrev pub IsDoubtful : List NoteParts → ℕ → Type 0
-IsDoubtful notes x = (n : NoteParts) × In n notes × IsDisputed n notes × IsCovered n x
+abbrev pub IsDisputedAt : List NoteParts → ℕ → Type 0
+IsDisputedAt notes x = (n : NoteParts) × In n notes × IsDisputed n notes × IsCovered n x
 
 -- The end of the file: that of the only random index pack, where it can be read (ST 377-1: it is the last packet of a
 -- file), and nothing is held at or above it.
@@ -39,12 +39,12 @@ covers x n = nat_le n.offset x && nat_lt x (covered_end n)
 abbrev pub is_held : List NoteParts → ℕ → Bool
 is_held notes x = list_any (covers x) notes
 
-abbrev pub is_doubtful : List NoteParts → ℕ → Bool
-is_doubtful notes x = list_any (λ d. covers x d.note) (disputed_notes notes)
+abbrev pub is_disputed_at : List NoteParts → ℕ → Bool
+is_disputed_at notes x = list_any (λ d. covers x d.note) (disputed_notes notes)
 
--- The offsets in the runs are the doubtful ones.
-abbrev pub AreDoubtful : List NoteParts → List Run → Type 0
-AreDoubtful notes runs = (x : ℕ) → LiesIn runs x ↔ IsDoubtful notes x
+-- The offsets in the runs are the disputed ones.
+abbrev pub AreDisputed : List NoteParts → List Run → Type 0
+AreDisputed notes runs = (x : ℕ) → LiesIn runs x ↔ IsDisputedAt notes x
 
 -- The end of the only random index pack, where it can be read.
 abbrev pub rip_end_by : List NoteParts → RipView → Option ℕ

@@ -16,7 +16,7 @@ use Rattle.mxf_views.specs.Readings.{IsReadable}
 use Rattle.mxf_views.specs.declared.random_index.RipView.TheVariants.{One}
 use Rattle.mxf_views.specs.declared.random_index.Standing.{Standing}
 use Rattle.mxf_places.specs.Claims.{place_claim, stretch_claim}
-use Rattle.mxf_places.specs.Held.{IsDoubtful, IsEndOfFile, IsHeld}
+use Rattle.mxf_places.specs.Held.{IsDisputedAt, IsEndOfFile, IsHeld}
 use Rattle.mxf_places.specs.declared.claim.Claim.{Claim}
 use Rattle.mxf_places.specs.declared.reason.Reason.{Reason}
 use Rattle.mxf_places.specs.declared.reason.Reason.TheVariants.{Header, Footer, Metadata, Index, Entry, Previous, Gap}
@@ -56,7 +56,7 @@ pub record IsInFile (notes : List NoteParts) (x : ℕ) : Type 0 where
 -- It isn't known what begins there.
 pub record IsUnknown (notes : List NoteParts) (x : ℕ) : Type 0 where
   pub in_file : IsInFile notes x
-  pub why : IsDoubtful notes x ⊎ (IsHeld notes x → ⊥)
+  pub why : IsDisputedAt notes x ⊎ (IsHeld notes x → ⊥)
 
 -- A stretch of so many bytes, counted from the first packet behind the fills, which begins the zone.
 pub record IsCounted (zone : Zone) (notes : List NoteParts) (from count : ℕ) (s : Stretch) : Type 0 where

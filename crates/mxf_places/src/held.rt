@@ -1,8 +1,8 @@
 //! Which offsets of a file are held, where the file ends, and how an offset stands.
 ghost use Rattle.std.specs.Prelude.{◌≡◌, ◌↔◌, ◌<◌, ◌≤◌, ℕ, IfOk, IsTrue, List, Some};
 ghost use Rattle.mxf_klv.specs.Parts.{NoteParts};
-ghost use Rattle.mxf_places.specs.Held.{AreDoubtful, begins_clear_head, edge_of, end_of_file, held_end, is_doubtful};
-ghost use Rattle.mxf_places.specs.Held.{IsDoubtful, IsEndOfFile, IsHeld, is_held, is_in_file, rip_end_by};
+ghost use Rattle.mxf_places.specs.Held.{AreDisputed, begins_clear_head, edge_of, end_of_file, held_end, is_disputed_at};
+ghost use Rattle.mxf_places.specs.Held.{IsDisputedAt, IsEndOfFile, IsHeld, is_held, is_in_file, rip_end_by};
 ghost use Rattle.mxf_places.specs.Named.{IsInFile, IsUnknown};
 ghost use Rattle.mxf_views.specs.RandomIndexView.{rip_view_of};
 ghost use Rattle.mxf_places.specs.Claims.{is_unknown, over_fills};
@@ -18,7 +18,7 @@ use std::marker::Model;
 #[derive(Debug, Drop)]
 pub struct Holdings<'a> {
     views: &'a Views,
-    doubtful: Cover,
+    disputed: Cover,
     fills: Fills,
     end: Option<u64>,
 }
@@ -26,7 +26,7 @@ pub struct Holdings<'a> {
 impl<'a> Model for Holdings<'a> {
     ghost use Rattle.std.specs.Prelude.{List, ◌≡◌, ℕ};
     ghost use Rattle.mxf_klv.specs.Parts.{NoteParts};
-    ghost use Rattle.mxf_places.specs.Held.{AreDoubtful, end_of_file};
+    ghost use Rattle.mxf_places.specs.Held.{AreDisputed, end_of_file};
     ghost use Rattle.mxf_places.specs.Claims.{over_fills};
     ghost use Rattle.mxf_places.specs.Fills.{over_in};
 
@@ -34,7 +34,7 @@ impl<'a> Model for Holdings<'a> {
 
     ghost view = { λ h. h.views.now };
 
-    ghost invariant = { λ h. AreDoubtful h.views.now h.doubtful × (h.end ≡ end_of_file h.views.now)
+    ghost invariant = { λ h. AreDisputed h.views.now h.disputed × (h.end ≡ end_of_file h.views.now)
         × ((x : ℕ) → over_in h.fills.ends x ≡ over_fills h.views.now x) };
 }
 
@@ -43,12 +43,12 @@ impl<'a> Holdings<'a> {
     pub fn of(alloc: Global, views: &'a Views) -> Result<Holdings<'a>, OutOfMemory>
         ensures { IfOk result (λ h. h ≡ views.now) }
     {
-        let doubtful = doubtful_in(alloc, views.catalogue())?;
+        let disputed = disputed_in(alloc, views.catalogue())?;
         let fills = Fills::of(alloc, views.catalogue())?;
         let end = end_of_file(views);
         Ok(Holdings {
             views,
-            doubtful,
+            disputed,
             fills,
             end,
         })
@@ -69,10 +69,10 @@ impl<'a> Holdings<'a> {
     }
 
     /// Whether a disputed packet does.
-    pub fn is_doubtful(&self, offset: u64) -> bool
-        ensures { result ≡ is_doubtful self.now offset }
+    pub fn is_disputed_at(&self, offset: u64) -> bool
+        ensures { result ≡ is_disputed_at self.now offset }
     {
-        self.doubtful.has(offset)
+        self.disputed.has(offset)
     }
 
     /// Whether some packet covers an offset from `from` up to `to`, in bytes, the end excluded.
@@ -90,10 +90,10 @@ impl<'a> Holdings<'a> {
     }
 
     /// Whether a disputed packet covers an offset from `from` up to `to`, in bytes, the end excluded.
-    pub fn is_any_doubtful(&self, from: u64, to: u64) -> bool
-        ensures { IsTrue result ↔ ((at : ℕ) × IsDoubtful self.now at × (from ≤ at) × (at < to)) }
+    pub fn is_any_disputed(&self, from: u64, to: u64) -> bool
+        ensures { IsTrue result ↔ ((at : ℕ) × IsDisputedAt self.now at × (from ≤ at) × (at < to)) }
     {
-        self.doubtful.meets(from, to)
+        self.disputed.meets(from, to)
     }
 
     /// Where one comes to from an offset, in bytes, that goes on over the fills that begin there.
@@ -108,7 +108,7 @@ impl<'a> Holdings<'a> {
     pub fn is_unknown(&self, offset: u64) -> bool
         ensures { result ≡ is_unknown self.now offset }
     {
-        self.is_in_file(offset) && (self.is_doubtful(offset) || !self.is_held(offset))
+        self.is_in_file(offset) && (self.is_disputed_at(offset) || !self.is_held(offset))
     }
 
     /// Whether a head that shares no byte with another packet begins at an offset, in bytes: the rest of its packet
@@ -152,14 +152,14 @@ impl<'a> Holdings<'a> {
 }
 
 /// The offsets that disputed packets cover, in bytes.
-fn doubtful_in(alloc: Global, catalogue: &Catalogue) -> Result<Cover, OutOfMemory>
-    ensures { IfOk result (λ c. AreDoubtful catalogue.now c) }
+fn disputed_in(alloc: Global, catalogue: &Catalogue) -> Result<Cover, OutOfMemory>
+    ensures { IfOk result (λ c. AreDisputed catalogue.now c) }
 {
-    let mut doubtful = Cover::new(alloc);
+    let mut cover = Cover::new(alloc);
     for disputed in catalogue.disputed() {
-        doubtful.add(disputed.note.offset(), disputed.note.covered_end())?;
+        cover.add(disputed.note.offset(), disputed.note.covered_end())?;
     }
-    Ok(doubtful)
+    Ok(cover)
 }
 
 /// The end of the only random index pack, in bytes, where it can be read.
@@ -186,11 +186,11 @@ fn end_of_file(views: &Views) -> Option<u64>
     Some(end)
 }
 
-/// A law: what is held and what is doubtful, where the file ends, what may lie in it, and of what isn't known what
+/// A law: what is held and what is disputed, where the file ends, what may lie in it, and of what isn't known what
 /// begins there.
 pub fn held_by_definition()
     ensures held { (notes : List NoteParts) (x : ℕ) → IsTrue (is_held notes x) ↔ IsHeld notes x }
-    ensures doubtful { (notes : List NoteParts) (x : ℕ) → IsTrue (is_doubtful notes x) ↔ IsDoubtful notes x }
+    ensures disputed { (notes : List NoteParts) (x : ℕ) → IsTrue (is_disputed_at notes x) ↔ IsDisputedAt notes x }
     ensures ends { (notes : List NoteParts) (end : ℕ) → (end_of_file notes ≡ Some end) ↔ IsEndOfFile notes end }
     ensures in_file { (notes : List NoteParts) (x : ℕ) → IsTrue (is_in_file notes x) ↔ IsInFile notes x }
     ensures unknown { (notes : List NoteParts) (x : ℕ) → IsTrue (is_unknown notes x) ↔ IsUnknown notes x }

@@ -1,5 +1,5 @@
 //! What is asked of places in a file of which parts are held: which offsets are held and how far the file reaches, and
-//! what packs say of offsets (ST 377-1, Partition Pack and Random Index Pack; reasons, stretches and what is doubtful are
+//! what packs say of offsets (ST 377-1, Partition Pack and Random Index Pack; reasons, stretches and what is disputed are
 //! this project's profile).
 //!
 //! All of it are functions of the content of a catalogue. What to restore next, the map, and where edit units lie are
@@ -8,9 +8,9 @@
 //! | Question | Call | Answer |
 //! |---|---|---|
 //! | Is an offset held, and is what is held there disputed? | [`Holdings::of`], then [`Holdings::is_held`],
-//! [`Holdings::is_doubtful`] | whether some packet covers it, and whether a disputed one does |
+//! [`Holdings::is_disputed_at`] | whether some packet covers it, and whether a disputed one does |
 //! | Is any offset of a range, or are all? | [`Holdings::is_any_held`], [`Holdings::are_all_held`],
-//! [`Holdings::is_any_doubtful`] | the same from a start up to an end |
+//! [`Holdings::is_any_disputed`] | the same from a start up to an end |
 //! | Where does the file end? | [`Holdings::end`], [`Holdings::edge`], [`Holdings::held_end`] | its end where it is
 //! known; how far it reaches as far as that is known; the first offset above all that is held |
 //! | Where does one come to behind fills? | [`Holdings::over_fills`] | an offset |
@@ -21,7 +21,7 @@
 //! | What do packs say of offsets? | [`claims`] | each [`Claim`] with its [`Reason`], by reason and then source |
 //!
 //! What is proved: each call answers its function of the notes of the catalogue. The laws say what these are in the words
-//! of the standards: [`held_by_definition`], what is held and what is doubtful, where the file ends, what may lie in it,
+//! of the standards: [`held_by_definition`], what is held and what is disputed, where the file ends, what may lie in it,
 //! and of what isn't known what begins there; [`fills_by_definition`], where one comes to that goes on over fills;
 //! [`zones_by_definition`], where the stretches lie that a partition counts; and [`claims_by_definition`], what packs
 //! claim of offsets.

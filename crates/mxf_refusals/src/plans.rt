@@ -2,7 +2,7 @@
 use crate::additions::{add_to_views, essence, in_views};
 use mxf_klv::OutOfMemory;
 use mxf_places::Reason;
-use mxf_restore::{Doubt, Order, Plan};
+use mxf_restore::{DisputedPlace, Order, Plan};
 use mxf_views::Views;
 use std::alloc::Global;
 
@@ -23,20 +23,20 @@ fn orders_the_front(alloc: Global, views: &Views) -> bool {
         source: None,
     };
     match plan_of(alloc, views) {
-        Ok(plan) => plan.orders() == [front].as_slice() && plan.doubts().is_empty(),
+        Ok(plan) => plan.orders() == [front].as_slice() && plan.disputed_places().is_empty(),
         Err(OutOfMemory) => false,
     }
 }
 
-/// Whether it is in doubt what begins at 0, and nothing is ordered.
-fn doubts_the_front(alloc: Global, views: &Views) -> bool {
-    let front = Doubt {
+/// Whether it is disputed what begins at 0, and nothing is ordered.
+fn disputes_the_front(alloc: Global, views: &Views) -> bool {
+    let front = DisputedPlace {
         reason: Reason::Header,
         place: 0,
         source: None,
     };
     match plan_of(alloc, views) {
-        Ok(plan) => plan.orders().is_empty() && plan.doubts() == [front].as_slice(),
+        Ok(plan) => plan.orders().is_empty() && plan.disputed_places() == [front].as_slice(),
         Err(OutOfMemory) => false,
     }
 }
@@ -50,7 +50,7 @@ fn plans_for_one(alloc: Global, views: &mut Views) -> bool {
 fn plans_for_two(alloc: Global, views: &mut Views) -> bool {
     add_to_views(views, essence(0, 83))
         && add_to_views(views, essence(90, 83))
-        && doubts_the_front(alloc, views)
+        && disputes_the_front(alloc, views)
 }
 
 #[test]

@@ -12,14 +12,14 @@ use Rattle.mxf_sets.specs.declared.pack.part.PackPart.TheVariants as parts
 use Rattle.mxf_catalogue.specs.Disputes.{clear_notes}
 use Rattle.mxf_catalogue.proofs.DisputeLaws.{In-clear_notes}
 use Rattle.mxf_views.specs.Partitions.{PartitionParts, partitions_of}
-use Rattle.mxf_places.specs.Held.{IsDoubtful, IsHeld, is_doubtful, is_held}
+use Rattle.mxf_places.specs.Held.{IsDisputedAt, IsHeld, is_disputed_at, is_held}
 use Rattle.mxf_restore.specs.Layers.{IsOfZone, is_of_zone, is_part, is_random_index}
 use Rattle.mxf_restore.specs.Map.{HasByteOf, HasPartition, IsInCell, IsMark, Says, missing_places, rank}
 use Rattle.mxf_restore.specs.declared.map.Mark.{Mark}
 use Rattle.mxf_restore.specs.declared.map.Mark.TheVariants as marks
 use Rattle.mxf_places.specs.declared.stretch.Zone.{Zone}
 use Rattle.mxf_places.specs.declared.stretch.Zone.TheVariants as zones
-use Rattle.mxf_places.proofs.HeldLaws.{is_doubtful-says, is_held-says}
+use Rattle.mxf_places.proofs.HeldLaws.{is_disputed_at-says, is_held-says}
 use Rattle.mxf_restore.proofs.LayerLaws.{part_itself, part_says, random_index_says, zone_says, zone_tells}
 use Rattle.mxf_restore.proofs.MarkLaws.{at_rank, ranked}
 
@@ -144,9 +144,9 @@ zone_known notes from to zone =
     ]
 
 known : (notes : List NoteParts) (from to : ℕ) (m : Mark) → Known (Says notes from to m)
-known notes from to marks.Doubtful =
-    any_in_cell (IsDoubtful notes) (λ x. let s = is_doubtful-says notes x in
-    by_test (IsDoubtful notes x) (is_doubtful notes x) s.0 s.1) from to
+known notes from to marks.Disputed =
+    any_in_cell (IsDisputedAt notes) (λ x. let s = is_disputed_at-says notes x in
+    by_test (IsDisputedAt notes x) (is_disputed_at notes x) s.0 s.1) from to
 known notes from to marks.Header = partition_known notes from to parts.Header
 known notes from to marks.Footer = partition_known notes from to parts.Footer
 known notes from to marks.Body = partition_known notes from to parts.Body

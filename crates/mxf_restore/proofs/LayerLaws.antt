@@ -34,7 +34,7 @@ use Rattle.mxf_places.specs.declared.claim.Claim.{Claim}
 use Rattle.mxf_places.specs.declared.stretch.Zone.{Zone}
 use Rattle.mxf_places.specs.declared.stretch.Zone.TheVariants as zones
 use Rattle.mxf_places.specs.Claims.{claims_of, named_place}
-use Rattle.mxf_places.specs.Held.{begins_clear_head, end_of_file, is_doubtful, is_held, is_in_file}
+use Rattle.mxf_places.specs.Held.{begins_clear_head, end_of_file, is_disputed_at, is_held, is_in_file}
 use Rattle.mxf_restore.specs.Map.{is_missing, missing_places}
 use Rattle.mxf_restore.specs.Layers.{missing_place}
 use Rattle.mxf_restore.specs.Layers.{AreOffsets, BeginsPartition, BeginsRandomIndex, IsOfZone, LiesInZone, is_of_zone}
@@ -242,7 +242,7 @@ missing_below : (notes : List NoteParts) (x : ℕ) → In x (missing_places note
 unfolding missing_places
 missing_below notes x h =
     let k = (In-filter (is_missing notes) (filter_map named_place (claims_of notes)) x).0 h in
-    let t = (three_parts (is_in_file notes x) (not (is_doubtful notes x))
+    let t = (three_parts (is_in_file notes x) (not (is_disputed_at notes x))
     (begins_clear_head notes x || not (is_held notes x)) k.1).0 in
     ltb-true x greatest_end (and_parts (nat_lt x greatest_end)
     (option_map_or (λ e. nat_lt x e) (end_of_file notes) true) t).0

@@ -1,7 +1,7 @@
 pub mod StepLaws
 pub mod PieceLaws
 pub mod HeadLaws
-pub mod DoubtLaws
+pub mod DisputedPlaceLaws
 pub mod OrderLaws
 pub mod PlanLaws
 pub mod LayerLaws

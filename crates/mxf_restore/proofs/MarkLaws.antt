@@ -124,7 +124,7 @@ some_lacks notes from to b is = (
 
 -- A mark stands at its rank.
 mark_at : (m d : Mark) → rank m < 10 → get_or marks_in_order (rank m) d ≡ m
-mark_at marks.Doubtful d h = refl
+mark_at marks.Disputed d h = refl
 mark_at marks.Header d h = refl
 mark_at marks.Footer d h = refl
 mark_at marks.Body d h = refl
@@ -215,7 +215,7 @@ abbrev pub at_rank : ℕ → Mark
 at_rank i = get_or marks_in_order i marks.Whole
 
 pub ranked : (m : Mark) → at_rank (rank m) ≡ m
-ranked marks.Doubtful = refl
+ranked marks.Disputed = refl
 ranked marks.Header = refl
 ranked marks.Footer = refl
 ranked marks.Body = refl

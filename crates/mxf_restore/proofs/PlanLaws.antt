@@ -1,4 +1,4 @@
--- Orders and doubts in their order.
+-- Orders and disputed places in their order.
 use Rattle.std.proofs.Common.{◌≡◌, ◌∙◌, ℕ, Bool, Option, None, Some, List, [], ◌∷◌, get_or, refl, sym, ap, subst}
 use Rattle.std.specs.Cmp.{IsTotalOrder}
 use Rattle.std.specs.Cmp.Lexicographic.{options_total}
@@ -13,17 +13,17 @@ use Rattle.mxf_klv.proofs.Tests.{ties}
 use Rattle.mxf_klv.specs.Rising.{union}
 use Rattle.std.specs.Ordering.{eq_by_cmp, is_eq, nat_cmp, ordering_then}
 use Rattle.std.specs.Option.{option_cmp}
-use Rattle.mxf_restore.specs.Plan.{doubt_cmp, order_cmp, reason_rank}
+use Rattle.mxf_restore.specs.Plan.{disputed_place_cmp, order_cmp, reason_rank}
 use Rattle.mxf_places.specs.declared.reason.Reason.{Reason}
 use Rattle.mxf_places.specs.declared.reason.Reason.TheVariants.{Header, Footer, Metadata, Index, Entry, Previous, Gap}
 use Rattle.mxf_restore.specs.declared.plan.Order.{Order}
-use Rattle.mxf_restore.specs.declared.plan.Doubt.{Doubt}
+use Rattle.mxf_restore.specs.declared.plan.DisputedPlace.{DisputedPlace}
 use Rattle.mxf_restore.specs.contracts.plan.OrderOrd.TheImpl as order_ord
 use Rattle.mxf_restore.specs.contracts.plan.OrderOrd.TheImpl.Laws as order_laws
 use Rattle.mxf_restore.specs.contracts.plan.OrderPartialEq.TheImpl as order_eq
-use Rattle.mxf_restore.specs.contracts.plan.DoubtOrd.TheImpl as doubt_ord
-use Rattle.mxf_restore.specs.contracts.plan.DoubtOrd.TheImpl.Laws as doubt_laws
-use Rattle.mxf_restore.specs.contracts.plan.DoubtPartialEq.TheImpl as doubt_eq
+use Rattle.mxf_restore.specs.contracts.plan.DisputedPlaceOrd.TheImpl as disputed_place_ord
+use Rattle.mxf_restore.specs.contracts.plan.DisputedPlaceOrd.TheImpl.Laws as disputed_place_laws
+use Rattle.mxf_restore.specs.contracts.plan.DisputedPlacePartialEq.TheImpl as disputed_place_eq
 use Rattle.mxf_places.specs.contracts.reason.ReasonOrd.TheImpl as reason_ord
 
 reasons : (a b : Reason) → (reason_ord.ghosts).cmp a b ≡ nat_cmp (reason_rank a) (reason_rank b)
@@ -48,8 +48,8 @@ orders a b =
     (ordering_then (option_cmp nat_cmp a.end b.end) (option_cmp nat_cmp a.source b.source))))
     (reasons a.reason b.reason)
 
-doubts : (a b : Doubt) → (doubt_ord.ghosts).cmp a b ≡ doubt_cmp a b
-doubts a b =
+disputed_places : (a b : DisputedPlace) → (disputed_place_ord.ghosts).cmp a b ≡ disputed_place_cmp a b
+disputed_places a b =
     ap (λ r. ordering_then r (ordering_then (nat_cmp a.place b.place) (option_cmp nat_cmp a.source b.source)))
     (reasons a.reason b.reason)
 
@@ -90,8 +90,8 @@ one_order a b e =
     let source = one_option a.source b.source r.1 in
     λ i. record { reason = reason i; start = start i; end = end i; source = source i }
 
-pub one_doubt : IsAntisymmetric doubt_cmp
-one_doubt a b e =
+pub one_disputed_place : IsAntisymmetric disputed_place_cmp
+one_disputed_place a b e =
     let p = ties _ _ e in
     let q = ties _ _ p.1 in
     let reason = one_reason a.reason b.reason p.0 in
@@ -106,8 +106,8 @@ order_total =
     (then_total (on_total (λ o. o.end) (options_total nat_cmp_total))
     (on_total (λ o. o.source) (options_total nat_cmp_total))))
 
-pub doubt_total : IsTotalOrder doubt_cmp
-doubt_total =
+pub disputed_place_total : IsTotalOrder disputed_place_cmp
+disputed_place_total =
     then_total (on_total (λ d. reason_rank d.reason) nat_cmp_total)
     (then_total (on_total (λ d. d.place) nat_cmp_total) (on_total (λ d. d.source) (options_total nat_cmp_total)))
 
@@ -128,8 +128,8 @@ orders_once =
     sorted_once (order_ord.ghosts).cmp order_cmp (order_eq.ghosts).eq orders order_laws.matches_eq-law order_total
     one_order
 
-pub doubts_once : (xs ys zs : List Doubt) → IsPermutation xs ys → IsSorted (doubt_ord.ghosts).cmp ys
-    → IsFiltered (DiffersFromLast (doubt_eq.ghosts).eq) [] ys zs → zs ≡ union doubt_cmp [] xs
-doubts_once =
-    sorted_once (doubt_ord.ghosts).cmp doubt_cmp (doubt_eq.ghosts).eq doubts doubt_laws.matches_eq-law doubt_total
-    one_doubt
+pub disputed_places_once : (xs ys zs : List DisputedPlace) → IsPermutation xs ys → IsSorted (disputed_place_ord.ghosts).cmp ys
+    → IsFiltered (DiffersFromLast (disputed_place_eq.ghosts).eq) [] ys zs → zs ≡ union disputed_place_cmp [] xs
+disputed_places_once =
+    sorted_once (disputed_place_ord.ghosts).cmp disputed_place_cmp (disputed_place_eq.ghosts).eq disputed_places disputed_place_laws.matches_eq-law disputed_place_total
+    one_disputed_place

@@ -1,4 +1,4 @@
--- What a plan orders, and what it doubts.
+-- What a plan orders, and what it disputed places.
 use Rattle.std.proofs.Common.{◌≡◌, ◌↔◌, ◌∙◌, ◌<◌, ◌==◌, ℕ, true, false, not, cond, List, [], ◌∷◌, Some}
 use Rattle.std.proofs.Common.{filter, filter_map, find, refl, sym, ap, inl, inr, eqb-true, eq-eqb}
 use Rattle.std.proofs.lemmas.Option.{same_Some}
@@ -11,13 +11,13 @@ use Rattle.mxf_views.specs.Gaps.{IsGap}
 use Rattle.mxf_places.specs.Held.{edge_of}
 use Rattle.mxf_places.specs.Claims.{claims_of}
 use Rattle.mxf_restore.specs.Pieces.{pieces_of}
-use Rattle.mxf_restore.specs.Plan.{LiesInOrder, doubt_cmp, doubt_of, first_by_place, found_doubts, found_orders}
+use Rattle.mxf_restore.specs.Plan.{LiesInOrder, disputed_place_cmp, disputed_place_of, first_by_place, found_disputed_places, found_orders}
 use Rattle.mxf_restore.specs.Plan.{order_cmp, order_of, plan_of}
 use Rattle.mxf_restore.specs.declared.piece.Piece.{Piece}
-use Rattle.mxf_restore.specs.declared.plan.Doubt.{Doubt}
+use Rattle.mxf_restore.specs.declared.plan.DisputedPlace.{DisputedPlace}
 use Rattle.mxf_restore.specs.declared.plan.Order.{Order}
 use Rattle.mxf_restore.proofs.OrderCover.{ordered_somewhere}
-use Rattle.mxf_restore.proofs.PlanLaws.{doubt_total, one_doubt, one_order, order_total}
+use Rattle.mxf_restore.proofs.PlanLaws.{disputed_place_total, one_disputed_place, one_order, order_total}
 
 -- ---- orders
 
@@ -47,17 +47,17 @@ pub gap_ordered : (notes : List NoteParts) (x : ℕ) → IsContent notes → IsG
 gap_ordered notes x content g edge =
     let s = ordered_somewhere notes content x g edge in (s.0, (in_plan notes s.0).1 s.1, s.2)
 
--- ---- doubts
+-- ---- disputed places
 
-first_members : (d : Doubt) (ds : List Doubt) → In d (first_by_place ds) ↔ (find (λ e. e.place == d.place) ds ≡ Some d)
+first_members : (d : DisputedPlace) (ds : List DisputedPlace) → In d (first_by_place ds) ↔ (find (λ e. e.place == d.place) ds ≡ Some d)
 first_members d [] = (λ k. absurd k, λ e. absurd cc)
 first_members d (x ∷ ds) =
     let ih = first_members d ds in
     let f = In-filter (λ e. not (e.place == x.place)) (first_by_place ds) d in (
       λ k. elim k [
         | inl e ↦ (
-            let same : (x.place == d.place) ≡ true = eq-eqb x.place d.place (ap (λ (y : Doubt). y.place) (sym e)) in
-            ap (λ b. cond b (Some x) (find (λ e. e.place == d.place) ds)) same ∙ ap (λ (y : Doubt). Some y) (sym e))
+            let same : (x.place == d.place) ≡ true = eq-eqb x.place d.place (ap (λ (y : DisputedPlace). y.place) (sym e)) in
+            ap (λ b. cond b (Some x) (find (λ e. e.place == d.place) ds)) same ∙ ap (λ (y : DisputedPlace). Some y) (sym e))
         | inr j ↦ (
             let s = f.0 j in
             let other : (x.place == d.place) ≡ false = unlike x d s.1 in
@@ -75,25 +75,25 @@ first_members d (x ∷ ds) =
           ] refl,
     )
   where
-    unlike : (x d : Doubt) → not (d.place == x.place) ≡ true → (x.place == d.place) ≡ false
+    unlike : (x d : DisputedPlace) → not (d.place == x.place) ≡ true → (x.place == d.place) ≡ false
     unlike x d t = elim (x.place == d.place) as (λ b. (x.place == d.place) ≡ b → (x.place == d.place) ≡ false) [
       | true ↦ λ e. absurd
           (not-true-false (d.place == x.place) t (eq-eqb d.place x.place (sym (eqb-true x.place d.place e))))
       | false ↦ λ e. e
     ] refl
 
-pub doubt_members : (notes : List NoteParts) (d : Doubt)
-    → In d (plan_of notes).doubts
-    ↔ (find (λ e. e.place == d.place) (filter_map (doubt_of notes) (claims_of notes)) ≡ Some d)
-unfolding plan_of found_doubts
-doubt_members notes d =
-    let all = filter_map (doubt_of notes) (claims_of notes) in
-    let u = In-union doubt_total one_doubt d [] (first_by_place all) in
+pub disputed_place_members : (notes : List NoteParts) (d : DisputedPlace)
+    → In d (plan_of notes).disputed_places
+    ↔ (find (λ e. e.place == d.place) (filter_map (disputed_place_of notes) (claims_of notes)) ≡ Some d)
+unfolding plan_of found_disputed_places
+disputed_place_members notes d =
+    let all = filter_map (disputed_place_of notes) (claims_of notes) in
+    let u = In-union disputed_place_total one_disputed_place d [] (first_by_place all) in
     let f = first_members d all in (
       λ k. f.0 (elim (u.0 k) [ inl n ↦ absurd n | inr n ↦ n ]),
       λ e. u.1 (inr (f.1 e)),
     )
 
-pub doubts_rise : (notes : List NoteParts) → IsRising doubt_cmp (plan_of notes).doubts
+pub disputed_places_rise : (notes : List NoteParts) → IsRising disputed_place_cmp (plan_of notes).disputed_places
 unfolding plan_of
-doubts_rise notes = IsRising-union doubt_total one_doubt [] (found_doubts notes) tt
+disputed_places_rise notes = IsRising-union disputed_place_total one_disputed_place [] (found_disputed_places notes) tt

@@ -13,7 +13,7 @@ use Rattle.mxf_sets.specs.declared.pack.part.PackPart.TheVariants as parts
 use Rattle.mxf_catalogue.specs.Disputes.{IsClear, disputed_notes}
 use Rattle.mxf_views.specs.FindingCauses.{IsMetadataKind}
 use Rattle.mxf_views.specs.Partitions.{PartitionParts, partitions_of}
-use Rattle.mxf_places.specs.Held.{IsDoubtful, IsHeld, begins_clear_head, edge_of, is_doubtful, is_held, is_in_file}
+use Rattle.mxf_places.specs.Held.{IsDisputedAt, IsHeld, begins_clear_head, edge_of, is_disputed_at, is_held, is_in_file}
 use Rattle.mxf_places.specs.Claims.{claims_of, named_place}
 use Rattle.mxf_restore.specs.Pieces.{holes_of}
 use Rattle.mxf_restore.specs.declared.map.Mark.{Mark}
@@ -22,7 +22,7 @@ use Rattle.mxf_restore.specs.declared.map.Mark.TheVariants as marks
 -- The place may lie in the file, and what begins there isn't held whole.
 abbrev pub is_missing : List NoteParts → ℕ → Bool
 is_missing notes x =
-    is_in_file notes x && not (is_doubtful notes x) && (begins_clear_head notes x || not (is_held notes x))
+    is_in_file notes x && not (is_disputed_at notes x) && (begins_clear_head notes x || not (is_held notes x))
 
 -- The places that packs name and that are missing.
 unfoldable pub missing_places : List NoteParts → List ℕ
@@ -64,11 +64,11 @@ abbrev pub HasByteOf : List NoteParts → ℕ → ℕ → (Kind → Type 0) → 
 HasByteOf notes from to P =
     (n : NoteParts) × IsClear n notes × P (kind_of n.key) × ((x : ℕ) × IsInCell from to x × IsInSpan n x)
 
--- What a mark says of a cell: an offset is doubtful; a header, footer or body partition begins in it; a clear random
+-- What a mark says of a cell: an offset is disputed; a header, footer or body partition begins in it; a clear random
 -- index pack does; a missing place lies in it; nothing is held; not all is held; a byte is one of header metadata, or
 -- of an index table segment; or all is held.
 abbrev pub Says : List NoteParts → ℕ → ℕ → Mark → Type 0
-Says notes from to marks.Doubtful = (x : ℕ) × IsInCell from to x × IsDoubtful notes x
+Says notes from to marks.Disputed = (x : ℕ) × IsInCell from to x × IsDisputedAt notes x
 Says notes from to marks.Header = HasPartition notes from to parts.Header
 Says notes from to marks.Footer = HasPartition notes from to parts.Footer
 Says notes from to marks.Body = HasPartition notes from to parts.Body
@@ -82,7 +82,7 @@ Says notes from to marks.Index = HasByteOf notes from to (λ k. k ≡ kinds.Segm
 Says notes from to marks.Whole = Unit {0}
 
 abbrev pub rank : Mark → ℕ
-rank marks.Doubtful = 0
+rank marks.Disputed = 0
 rank marks.Header = 1
 rank marks.Footer = 2
 rank marks.Body = 3

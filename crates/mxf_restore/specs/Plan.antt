@@ -8,7 +8,7 @@ use Rattle.std.specs.declared.cmp.Ordering.{Ordering}
 use Rattle.mxf_klv.specs.Parts.{NoteParts}
 use Rattle.mxf_klv.specs.Note.{covered_end}
 use Rattle.mxf_klv.specs.Rising.{union}
-use Rattle.mxf_places.specs.Held.{edge_of, end_of_file, is_doubtful, is_in_file, top_of}
+use Rattle.mxf_places.specs.Held.{edge_of, end_of_file, is_disputed_at, is_in_file, top_of}
 use Rattle.mxf_places.specs.Claims.{claim_at, claims_of, is_of_stretch}
 use Rattle.mxf_restore.specs.Pieces.{LiesBetween, pieces_of}
 use Rattle.mxf_places.specs.declared.reason.Reason.{Reason}
@@ -16,7 +16,7 @@ use Rattle.mxf_places.specs.declared.reason.Reason.TheVariants.{Header, Footer, 
 use Rattle.mxf_places.specs.declared.claim.Claim.{Claim}
 use Rattle.mxf_restore.specs.declared.piece.Piece.{Piece}
 use Rattle.mxf_restore.specs.declared.plan.Order.{Order}
-use Rattle.mxf_restore.specs.declared.plan.Doubt.{Doubt}
+use Rattle.mxf_restore.specs.declared.plan.DisputedPlace.{DisputedPlace}
 
 -- The note is a head whose key and length end at the offset.
 abbrev pub is_head_to : ℕ → NoteParts → Bool
@@ -67,19 +67,19 @@ found_orders notes = filter_map (order_of notes) (pieces_of notes)
 abbrev pub point_of : Claim → Option ℕ
 point_of c = if is_of_stretch c.reason then (if c.is_open then Some (c.end - 1) else None) else Some c.from
 
--- A doubt: the place is held, but what covers it is disputed.
-unfoldable pub doubt_of : List NoteParts → Claim → Option Doubt
-doubt_of notes c =
-    option_and_then (λ x. if is_in_file notes x && is_doubtful notes x
+-- A disputed place: the place is held, but what covers it is disputed.
+unfoldable pub disputed_place_of : List NoteParts → Claim → Option DisputedPlace
+disputed_place_of notes c =
+    option_and_then (λ x. if is_in_file notes x && is_disputed_at notes x
     then Some (record { reason = c.reason; place = x; source = c.source }) else None) (point_of c)
 
 -- Each place once, as it stands first.
-abbrev pub first_by_place : List Doubt → List Doubt
+abbrev pub first_by_place : List DisputedPlace → List DisputedPlace
 first_by_place [] = []
 first_by_place (d ∷ ds) = d ∷ filter (λ e. not (e.place == d.place)) (first_by_place ds)
 
-unfoldable pub found_doubts : List NoteParts → List Doubt
-found_doubts notes = first_by_place (filter_map (doubt_of notes) (claims_of notes))
+unfoldable pub found_disputed_places : List NoteParts → List DisputedPlace
+found_disputed_places notes = first_by_place (filter_map (disputed_place_of notes) (claims_of notes))
 
 -- The place of a reason in the order of what helps most.
 abbrev pub reason_rank : Reason → ℕ
@@ -98,23 +98,23 @@ order_cmp =
     (then_cmp (on (λ o. o.start) nat_cmp)
     (then_cmp (on (λ o. o.end) (option_cmp nat_cmp)) (on (λ o. o.source) (option_cmp nat_cmp))))
 
--- Doubts go by reason, then place, then source.
-abbrev pub doubt_cmp : Doubt → Doubt → Ordering
-doubt_cmp =
+-- Disputed places go by reason, then place, then source.
+abbrev pub disputed_place_cmp : DisputedPlace → DisputedPlace → Ordering
+disputed_place_cmp =
     then_cmp (on (λ d. reason_rank d.reason) nat_cmp)
     (then_cmp (on (λ d. d.place) nat_cmp) (on (λ d. d.source) (option_cmp nat_cmp)))
 
--- What is to be restored, what is in doubt, and the end of the file where it is known.
+-- What is to be restored, what is disputed, and the end of the file where it is known.
 pub record PlanParts : Type 0 where
   pub orders : List Order
-  pub doubts : List Doubt
+  pub disputed_places : List DisputedPlace
   pub end : Option ℕ
 
 -- The plan of a file.
 unfoldable pub plan_of : List NoteParts → PlanParts
 plan_of notes = record {
   orders = union order_cmp [] (found_orders notes);
-  doubts = union doubt_cmp [] (found_doubts notes);
+  disputed_places = union disputed_place_cmp [] (found_disputed_places notes);
   end = end_of_file notes;
 }
 

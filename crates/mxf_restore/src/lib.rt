@@ -5,7 +5,7 @@
 //! What is held, where the file ends and what packs claim of offsets is asked of mxf_places.
 //!
 //! What is proved: [`Plan::of`] and [`Map::of`] answer these functions. Laws (`.._by_definition`) say what they are made
-//! of, beside those of mxf_places: the holes and their pieces, the orders and doubts. Each byte that is missing below the
+//! of, beside those of mxf_places: the holes and their pieces, the orders and disputed places. Each byte that is missing below the
 //! end lies in an order ([`gaps_are_ordered`]), no two orders begin at one offset ([`starts_are_apart`]), and each cell
 //! of a map has one mark ([`one_mark`]).
 //!
@@ -22,7 +22,7 @@
 //! ```
 #![tactic(auto)]
 
-mod doubt;
+mod disputed_place;
 mod first;
 mod head;
 mod map;
@@ -33,6 +33,6 @@ mod plan;
 pub use map::{Map, Mark, one_map, one_mark};
 pub use piece::{holes_by_definition, pieces_by_definition};
 pub use plan::{
-    Doubt, Order, Plan, doubts_by_definition, gaps_are_ordered, orders_by_definition,
-    starts_are_apart,
+    DisputedPlace, Order, Plan, disputed_places_by_definition, gaps_are_ordered,
+    orders_by_definition, starts_are_apart,
 };

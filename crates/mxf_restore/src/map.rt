@@ -24,7 +24,7 @@ use std::marker::Model;
 #[derive(Clone, Copy, Debug, PartialEq, Eq)]
 pub enum Mark {
     /// A byte of it lies in a disputed packet.
-    Doubtful,
+    Disputed,
     /// A header partition begins in it.
     Header,
     /// A footer partition does.

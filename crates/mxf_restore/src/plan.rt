@@ -8,12 +8,12 @@ ghost use Rattle.mxf_views.specs.Gaps.{IsGap};
 ghost use Rattle.mxf_places.specs.Held.{edge_of};
 ghost use Rattle.mxf_places.specs.Claims.{claims_of};
 ghost use Rattle.mxf_restore.specs.Pieces.{pieces_of};
-ghost use Rattle.mxf_restore.specs.Plan.{LiesInOrder, doubt_cmp, doubt_of, order_cmp, order_of, plan_of};
+ghost use Rattle.mxf_restore.specs.Plan.{LiesInOrder, disputed_place_cmp, disputed_place_of, order_cmp, order_of, plan_of};
 ghost use Rattle.mxf_restore.specs.declared.piece.Piece.{Piece};
-ghost use Rattle.mxf_restore.specs.declared.plan.Doubt.{Doubt};
+ghost use Rattle.mxf_restore.specs.declared.plan.DisputedPlace.{DisputedPlace};
 ghost use Rattle.mxf_restore.specs.declared.plan.Order.{Order};
 
-use crate::doubt::found_doubts;
+use crate::disputed_place::found_disputed_places;
 use crate::order::found_orders;
 use mxf_klv::OutOfMemory;
 use mxf_places::{Claim, Holdings, Reason, claims};
@@ -35,7 +35,7 @@ pub struct Order {
 
 /// A place that matters and is held in two readings.
 #[derive(Clone, Copy, Debug, PartialEq, Eq, PartialOrd, Ord)]
-pub struct Doubt {
+pub struct DisputedPlace {
     pub reason: Reason,
     /// A file offset, in bytes.
     pub place: u64,
@@ -50,7 +50,7 @@ pub struct Doubt {
 #[derive(Debug, Drop)]
 pub struct Plan {
     orders: Vec<Order>,
-    doubts: Vec<Doubt>,
+    disputed_places: Vec<DisputedPlace>,
     end: Option<u64>,
 }
 
@@ -59,7 +59,7 @@ impl Model for Plan {
 
     ghost Value = { PlanParts };
 
-    ghost view = { λ p. record { orders = p.orders.items; doubts = p.doubts.items; end = p.end } };
+    ghost view = { λ p. record { orders = p.orders.items; disputed_places = p.disputed_places.items; end = p.end } };
 }
 
 impl Plan {
@@ -79,10 +79,12 @@ impl Plan {
         ensures { IfOk result (λ p. p ≡ plan_of holdings.now) }
     {
         let orders = in_order(found_orders(alloc, holdings, claims)?);
-        let doubts = doubts_in_order(found_doubts(alloc, holdings, claims)?);
+        let disputed_places = disputed_places_in_order(found_disputed_places(
+            alloc, holdings, claims,
+        )?);
         Ok(Plan {
             orders,
-            doubts,
+            disputed_places,
             end: holdings.end(),
         })
     }
@@ -96,10 +98,10 @@ impl Plan {
 
     /// Places that matter and are held in two readings, each once, by reason and then by place. Nothing is ordered for
     /// them: a growing recording rewrites its packs.
-    pub fn doubts(&self) -> &[Doubt]
-        ensures { result.now ≡ self.now.doubts }
+    pub fn disputed_places(&self) -> &[DisputedPlace]
+        ensures { result.now ≡ self.now.disputed_places }
     {
-        &self.doubts
+        &self.disputed_places
     }
 
     /// The end of the file, in bytes, where it is known: that of its random index pack.
@@ -119,13 +121,13 @@ fn in_order(mut orders: Vec<Order>) -> Vec<Order>
     orders
 }
 
-/// The doubts in their order.
-fn doubts_in_order(mut doubts: Vec<Doubt>) -> Vec<Doubt>
-    ensures { result.items ≡ union doubt_cmp [] doubts.items }
+/// The disputed places in their order.
+fn disputed_places_in_order(mut disputed_places: Vec<DisputedPlace>) -> Vec<DisputedPlace>
+    ensures { result.items ≡ union disputed_place_cmp [] disputed_places.items }
 {
-    doubts.sort_unstable();
-    doubts.dedup();
-    doubts
+    disputed_places.sort_unstable();
+    disputed_places.dedup();
+    disputed_places
 }
 
 /// A law of [`Plan::orders`]: they are what is ordered of the pieces of the file, and rise by reason, start, end and
@@ -142,13 +144,13 @@ pub fn starts_are_apart()
         → In r (plan_of notes).orders → o.start ≡ r.start → o ≡ r }
 {}
 
-/// A law of [`Plan::doubts`]: they are the first doubt of each place, in the order of the claims, and rise by reason,
+/// A law of [`Plan::disputed_places`]: they are the first disputed place of each place, in the order of the claims, and rise by reason,
 /// place and source.
-pub fn doubts_by_definition()
-    ensures members { (notes : List NoteParts) (d : Doubt)
-        → In d (plan_of notes).doubts
-        ↔ (find (λ e. e.place == d.place) (filter_map (doubt_of notes) (claims_of notes)) ≡ Some d) }
-    ensures rising { (notes : List NoteParts) → IsRising doubt_cmp (plan_of notes).doubts }
+pub fn disputed_places_by_definition()
+    ensures members { (notes : List NoteParts) (d : DisputedPlace)
+        → In d (plan_of notes).disputed_places
+        ↔ (find (λ e. e.place == d.place) (filter_map (disputed_place_of notes) (claims_of notes)) ≡ Some d) }
+    ensures rising { (notes : List NoteParts) → IsRising disputed_place_cmp (plan_of notes).disputed_places }
 {}
 
 /// A law of [`Plan::orders`]: each byte of a gap that lies below the end of the file, or below the greatest end where

@@ -22,10 +22,10 @@ use Rattle.mxf_views.specs.RandomIndex.{RipAtParts}
 use Rattle.mxf_views.specs.RandomIndexView.{rip_view_of}
 use Rattle.mxf_views.specs.declared.random_index.RipView.{RipView}
 use Rattle.mxf_views.specs.declared.random_index.RipView.TheVariants.{Absent, Several, Unreadable, One}
-use Rattle.mxf_places.specs.Held.{IsDoubtful, IsHeld, begins_clear_head, end_of_file, is_doubtful, is_held, is_in_file}
+use Rattle.mxf_places.specs.Held.{IsDisputedAt, IsHeld, begins_clear_head, end_of_file, is_disputed_at, is_held, is_in_file}
 use Rattle.mxf_places.specs.Claims.{claims_of, named_place, over_fills}
 use Rattle.mxf_places.specs.declared.claim.Claim.{Claim}
-use Rattle.mxf_places.proofs.HeldLaws.{is_doubtful-says, is_held-says}
+use Rattle.mxf_places.proofs.HeldLaws.{is_disputed_at-says, is_held-says}
 use Rattle.mxf_units.specs.EssenceZones.{behind_index, begins_inside, bounds_of, essence_at, first_packet, is_clip_wrapped}
 use Rattle.mxf_units.specs.EssenceZones.{is_essence, is_one, is_open_place, is_sure, limit_of, may_be_essence, names_before}
 use Rattle.mxf_units.specs.EssenceZones.{open_place, rip_place_by, zone_by}
@@ -192,19 +192,19 @@ not_so P true s n = absurd (n (s.0 refl))
 not_so P false s n = refl
 
 unknown-says : (notes : List NoteParts) (x : ℕ)
-    → IsTrue (is_doubtful notes x || begins_clear_head notes x || not (is_held notes x))
-    ↔ ((IsDoubtful notes x ⊎ BeginsHead notes x) ⊎ ¬ IsHeld notes x)
+    → IsTrue (is_disputed_at notes x || begins_clear_head notes x || not (is_held notes x))
+    ↔ ((IsDisputedAt notes x ⊎ BeginsHead notes x) ⊎ ¬ IsHeld notes x)
 unknown-says notes x = (
-  λ h. elim (either-says (is_doubtful notes x || begins_clear_head notes x) (not (is_held notes x)) h) [
-    | inl a ↦ inl (elim (either-says (is_doubtful notes x) (begins_clear_head notes x) a) [
-      | inl b ↦ inl ((is_doubtful-says notes x).0 b)
+  λ h. elim (either-says (is_disputed_at notes x || begins_clear_head notes x) (not (is_held notes x)) h) [
+    | inl a ↦ inl (elim (either-says (is_disputed_at notes x) (begins_clear_head notes x) a) [
+      | inl b ↦ inl ((is_disputed_at-says notes x).0 b)
       | inr b ↦ inr ((head-says notes x).0 b)
     ])
     | inr a ↦ inr (denied (IsHeld notes x) (is_held notes x) (is_held-says notes x) a)
   ],
-  λ u. either (is_doubtful notes x || begins_clear_head notes x) (not (is_held notes x)) (elim u [
-    | inl a ↦ inl (either (is_doubtful notes x) (begins_clear_head notes x) (elim a [
-      | inl b ↦ inl ((is_doubtful-says notes x).1 b)
+  λ u. either (is_disputed_at notes x || begins_clear_head notes x) (not (is_held notes x)) (elim u [
+    | inl a ↦ inl (either (is_disputed_at notes x) (begins_clear_head notes x) (elim a [
+      | inl b ↦ inl ((is_disputed_at-says notes x).1 b)
       | inr b ↦ inr ((head-says notes x).1 b)
     ]))
     | inr a ↦ inr (not_so (IsHeld notes x) (is_held notes x) (is_held-says notes x) a)
@@ -235,7 +235,7 @@ open-says : (notes : List NoteParts) (x : ℕ)
     → In x (filter_map (open_place notes) (claims_of notes)) ↔ IsOpenPlace notes x
 open-says notes x =
     let m = In-filter_map (open_place notes) (claims_of notes) x in
-    let unknown = is_doubtful notes x || begins_clear_head notes x || not (is_held notes x) in (
+    let unknown = is_disputed_at notes x || begins_clear_head notes x || not (is_held notes x) in (
       λ h.
           let s = m.0 h in
           let p = place-says notes s.0 x s.2 in

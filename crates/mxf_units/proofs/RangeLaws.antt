@@ -1,4 +1,4 @@
--- What is held and doubtful of ranges.
+-- What is held and disputed of ranges.
 use Rattle.std.proofs.Common.{◌≡◌, ◌∙◌, ◌↔◌, ◌<◌, ◌≤◌, ◌+◌, ◌-◌, ℕ, zero, suc, Bool, true, false, IsTrue, List, [], ◌∷◌}
 use Rattle.std.proofs.Common.{refl, sym, ap, subst, inl, inr, arith, min, ◌||◌, ◌++◌, append_assoc, filter_map, nat_le, Option, None}
 use Rattle.std.proofs.Common.{Some}
@@ -7,9 +7,9 @@ use Rattle.std.specs.List.{cons_option, list_all, list_any, range_with_len}
 use Rattle.mxf_klv.specs.Parts.{NoteParts}
 use Rattle.mxf_klv.specs.Note.{covered_end}
 use Rattle.mxf_klv.proofs.Tests.{either, same_bool}
-use Rattle.mxf_places.specs.Held.{IsDoubtful, IsHeld, held_end, is_doubtful, is_held}
-use Rattle.mxf_places.proofs.HeldLaws.{held_end-bound, is_doubtful-says, is_held-says}
-use Rattle.mxf_units.specs.Units.{are_all_held, is_any_doubtful, is_any_held}
+use Rattle.mxf_places.specs.Held.{IsDisputedAt, IsHeld, held_end, is_disputed_at, is_held}
+use Rattle.mxf_places.proofs.HeldLaws.{held_end-bound, is_disputed_at-says, is_held-says}
+use Rattle.mxf_units.specs.Units.{are_all_held, is_any_disputed, is_any_held}
 
 all-range : (p : ℕ → Bool) (a n : ℕ)
     → (list_all p (range_with_len a n) ≡ true) ↔ ((x : ℕ) → a ≤ x → x < a + n → p x ≡ true)
@@ -74,18 +74,18 @@ any_held-says notes from to =
           let r = s.3 in any.1 (s.0, (is_held-says notes s.0).1 s.1, l, omega (arith, l, r)),
     )
 
-pub any_doubtful-says : (notes : List NoteParts) (from to : ℕ)
-    → IsTrue (is_any_doubtful notes from to) ↔ ((x : ℕ) × IsDoubtful notes x × (from ≤ x) × (x < to))
-unfolding is_any_doubtful
-any_doubtful-says notes from to =
-    let any = any-range (is_doubtful notes) from (to - from) in (
+pub any_disputed-says : (notes : List NoteParts) (from to : ℕ)
+    → IsTrue (is_any_disputed notes from to) ↔ ((x : ℕ) × IsDisputedAt notes x × (from ≤ x) × (x < to))
+unfolding is_any_disputed
+any_disputed-says notes from to =
+    let any = any-range (is_disputed_at notes) from (to - from) in (
       λ h.
           let s = any.0 h in
           let l = s.2 in
-          let r = s.3 in (s.0, (is_doubtful-says notes s.0).0 s.1, l, omega (arith, l, r)),
+          let r = s.3 in (s.0, (is_disputed_at-says notes s.0).0 s.1, l, omega (arith, l, r)),
       λ s.
           let l = s.2 in
-          let r = s.3 in any.1 (s.0, (is_doubtful-says notes s.0).1 s.1, l, omega (arith, l, r)),
+          let r = s.3 in any.1 (s.0, (is_disputed_at-says notes s.0).1 s.1, l, omega (arith, l, r)),
     )
 
 -- ---- nothing is held from the first offset above all that is
@@ -95,8 +95,8 @@ held-below notes x h =
     let a = (held_end-bound notes (held_end notes)).0 (omega arith) h.0 h.1 in
     let b : x + 1 ≤ covered_end h.0 = h.2.before in omega (arith, a, b)
 
-doubtful-below : (notes : List NoteParts) (x : ℕ) → IsDoubtful notes x → x < held_end notes
-doubtful-below notes x h = held-below notes x (h.0, h.1, h.3)
+disputed-below : (notes : List NoteParts) (x : ℕ) → IsDisputedAt notes x → x < held_end notes
+disputed-below notes x h = held-below notes x (h.0, h.1, h.3)
 
 pub all-held-empty : (notes : List NoteParts) (from to : ℕ) → to ≤ from → are_all_held notes from to ≡ true
 all-held-empty notes from to h = (all_held-says notes from to).1 (λ x l r. absurd (omega (arith, l, r, h)))
@@ -147,24 +147,24 @@ any-held-within notes from to least end b is e says =
     (λ x h. let l = held-below notes x h in omega (arith, l, is)) e in
     same_bool b (is_any_held notes from to) (λ h. s.1 (n.0 (says.0 h))) (λ h. says.1 (n.1 (s.0 h)))
 
-pub any-doubtful-past : (notes : List NoteParts) (from to : ℕ) → held_end notes ≤ from
-    → is_any_doubtful notes from to ≡ false
-any-doubtful-past notes from to far =
-    elim (is_any_doubtful notes from to) as (λ b. is_any_doubtful notes from to ≡ b
-    → is_any_doubtful notes from to ≡ false) [
-      | true ↦ λ e. absurd (none_from from to (held_end notes) (IsDoubtful notes) (doubtful-below notes) far
-          ((any_doubtful-says notes from to).0 e))
+pub any-disputed-past : (notes : List NoteParts) (from to : ℕ) → held_end notes ≤ from
+    → is_any_disputed notes from to ≡ false
+any-disputed-past notes from to far =
+    elim (is_any_disputed notes from to) as (λ b. is_any_disputed notes from to ≡ b
+    → is_any_disputed notes from to ≡ false) [
+      | true ↦ λ e. absurd (none_from from to (held_end notes) (IsDisputedAt notes) (disputed-below notes) far
+          ((any_disputed-says notes from to).0 e))
       | false ↦ λ e. e
     ] refl
 
-pub any-doubtful-within : (notes : List NoteParts) (from to least end : ℕ) (b : Bool) → end ≡ held_end notes
-    → least ≡ min to end → IsTrue b ↔ ((x : ℕ) × IsDoubtful notes x × (from ≤ x) × (x < least))
-    → b ≡ is_any_doubtful notes from to
-any-doubtful-within notes from to least end b is e says =
-    let s = any_doubtful-says notes from to in
-    let n = narrowed from to least end (IsDoubtful notes)
-    (λ x h. let l = doubtful-below notes x h in omega (arith, l, is)) e in
-    same_bool b (is_any_doubtful notes from to) (λ h. s.1 (n.0 (says.0 h))) (λ h. says.1 (n.1 (s.0 h)))
+pub any-disputed-within : (notes : List NoteParts) (from to least end : ℕ) (b : Bool) → end ≡ held_end notes
+    → least ≡ min to end → IsTrue b ↔ ((x : ℕ) × IsDisputedAt notes x × (from ≤ x) × (x < least))
+    → b ≡ is_any_disputed notes from to
+any-disputed-within notes from to least end b is e says =
+    let s = any_disputed-says notes from to in
+    let n = narrowed from to least end (IsDisputedAt notes)
+    (λ x h. let l = disputed-below notes x h in omega (arith, l, is)) e in
+    same_bool b (is_any_disputed notes from to) (λ h. s.1 (n.0 (says.0 h))) (λ h. says.1 (n.1 (s.0 h)))
 
 pub lt-leb : (a b : ℕ) → b < a → nat_le a b ≡ false
 lt-leb a b l =

@@ -11,9 +11,9 @@ use Rattle.mxf_units.specs.declared.standing.UnitStanding.TheVariants as standin
 use Rattle.mxf_units.specs.declared.essence_zone.EssenceZone.{EssenceZone}
 use Rattle.mxf_units.specs.declared.location.Location.{Location}
 use Rattle.mxf_units.specs.declared.unit.Extent.{Extent}
-use Rattle.mxf_units.specs.Units.{are_all_held, asked_end, ends_behind, is_any_doubtful, is_any_held, standing_in}
-use Rattle.mxf_units.specs.Standings.{AllHeld, AnyDoubtful, AnyHeld, GoesBehind, IsStandingIn, LiesInside}
-use Rattle.mxf_units.proofs.RangeLaws.{all_held-says, any_doubtful-says, any_held-says}
+use Rattle.mxf_units.specs.Units.{are_all_held, asked_end, ends_behind, is_any_disputed, is_any_held, standing_in}
+use Rattle.mxf_units.specs.Standings.{AllHeld, AnyDisputed, AnyHeld, GoesBehind, IsStandingIn, LiesInside}
+use Rattle.mxf_units.proofs.RangeLaws.{all_held-says, any_disputed-says, any_held-says}
 
 either-says : (a b : Bool) → (a || b) ≡ true → (a ≡ true) ⊎ (b ≡ true)
 either-says true b e = inl refl
@@ -82,11 +82,11 @@ standing-says notes l =
     let origin_held = all_held-says notes zone.origin end in
     let all = all_held-says notes e.start end in
     let any = any_held-says notes e.start end in
-    let doubt = any_doubtful-says notes e.start end in
+    let disputed_place = any_disputed-says notes e.start end in
     elim (goes zone e) as (λ a. goes zone e ≡ a → IsStandingIn notes zone e
     (if a then standings.Elsewhere
     else (if not zone.is_sure && not (are_all_held notes zone.origin end) then standings.Unsure
-    else (if is_any_doubtful notes e.start end then standings.Disputed
+    else (if is_any_disputed notes e.start end then standings.Disputed
     else (if not (is_any_held notes e.start end) then standings.Missing
     else (if is_some e.end && are_all_held notes e.start end then standings.Held else standings.Part)))))) [
       | true ↦ λ f. goes-says zone e f
@@ -95,7 +95,7 @@ standing-says notes l =
           elim (not zone.is_sure && not (are_all_held notes zone.origin end)) as (λ b.
           (not zone.is_sure && not (are_all_held notes zone.origin end)) ≡ b → IsStandingIn notes zone e
           (if b then standings.Unsure
-          else (if is_any_doubtful notes e.start end then standings.Disputed
+          else (if is_any_disputed notes e.start end then standings.Disputed
           else (if not (is_any_held notes e.start end) then standings.Missing
           else (if is_some e.end && are_all_held notes e.start end then standings.Held else standings.Part))))) [
             | true ↦ λ g.
@@ -112,15 +112,15 @@ standing-says notes l =
                     | inr s ↦ inr (origin_held.0 s)
                   ];
                 } in
-                elim (is_any_doubtful notes e.start end) as (λ c. is_any_doubtful notes e.start end ≡ c
+                elim (is_any_disputed notes e.start end) as (λ c. is_any_disputed notes e.start end ≡ c
                 → IsStandingIn notes zone e
                 (if c then standings.Disputed
                 else (if not (is_any_held notes e.start end) then standings.Missing
                 else (if is_some e.end && are_all_held notes e.start end then standings.Held
                 else standings.Part)))) [
-                  | true ↦ λ h. (inside, doubt.0 h)
+                  | true ↦ λ h. (inside, disputed_place.0 h)
                   | false ↦ λ h.
-                      let clear = denied (AnyDoubtful notes e.start end) (is_any_doubtful notes e.start end) doubt.1 h in
+                      let clear = denied (AnyDisputed notes e.start end) (is_any_disputed notes e.start end) disputed_place.1 h in
                       elim (is_any_held notes e.start end) as (λ d. is_any_held notes e.start end ≡ d
                       → IsStandingIn notes zone e
                       (if not d then standings.Missing
@@ -177,8 +177,8 @@ module _ (notes : List NoteParts) (l : Location) where
   abbrev unsure_test : Bool
   unsure_test = not l.zone.is_sure && not origin_held
 
-  abbrev doubt_test : Bool
-  doubt_test = is_any_doubtful notes l.extent.start end
+  abbrev disputed_place_test : Bool
+  disputed_place_test = is_any_disputed notes l.extent.start end
 
   abbrev any_test : Bool
   any_test = is_any_held notes l.extent.start end
@@ -198,21 +198,21 @@ module _ (notes : List NoteParts) (l : Location) where
         let f = u.1 in cc (t, f))
   ]
 
-  clear_is : ¬ AnyDoubtful notes l.extent.start end → doubt_test ≡ false
-  clear_is n = fails doubt_test (λ e. n ((any_doubtful-says notes l.extent.start end).0 e))
+  clear_is : ¬ AnyDisputed notes l.extent.start end → disputed_place_test ≡ false
+  clear_is n = fails disputed_place_test (λ e. n ((any_disputed-says notes l.extent.start end).0 e))
 
   pub standing-exact : (w : UnitStanding) → IsStandingIn notes l.zone l.extent w → standing_in notes l ≡ w
   standing-exact standings.Elsewhere h =
-      ap (λ a. cascade a unsure_test doubt_test any_test all_test) (says-goes l.zone l.extent h)
+      ap (λ a. cascade a unsure_test disputed_place_test any_test all_test) (says-goes l.zone l.extent h)
   standing-exact standings.Unsure h =
       let a = within_is h.0 in
       let held = fails origin_held (λ e. h.2 ((all_held-says notes l.zone.origin end).0 e)) in
       let sure = h.1 in
-      λ i. cascade (a i) (not (sure i) && not (held i)) doubt_test any_test all_test
+      λ i. cascade (a i) (not (sure i) && not (held i)) disputed_place_test any_test all_test
   standing-exact standings.Disputed h =
       let a = within_is h.0.within in
       let b = inside_is h.0 in
-      let c : doubt_test ≡ true = (any_doubtful-says notes l.extent.start end).1 h.1 in
+      let c : disputed_place_test ≡ true = (any_disputed-says notes l.extent.start end).1 h.1 in
       λ i. cascade (a i) (b i) (c i) any_test all_test
   standing-exact standings.Missing h =
       let a = within_is h.0.within in

@@ -20,7 +20,7 @@ use Rattle.mxf_views.specs.Places.{segments_of}
 use Rattle.mxf_views.specs.RandomIndexView.{rip_view_of}
 use Rattle.mxf_views.specs.declared.random_index.RipView.{RipView}
 use Rattle.mxf_views.specs.declared.random_index.RipView.TheVariants.{Absent, Several, Unreadable, One}
-use Rattle.mxf_places.specs.Held.{begins_clear_head, end_of_file, is_doubtful, is_held, is_in_file}
+use Rattle.mxf_places.specs.Held.{begins_clear_head, end_of_file, is_disputed_at, is_held, is_in_file}
 use Rattle.mxf_places.specs.Claims.{behind_metadata, claims_of, index_of, known_end, named_place, over_fills}
 use Rattle.mxf_places.specs.declared.claim.Claim.{Claim}
 use Rattle.mxf_units.specs.declared.standing.UnitStanding.{UnitStanding}
@@ -69,7 +69,7 @@ is_clip_wrapped notes p n =
 -- A place that a pack names, where it isn't known whole what begins there: it is missing or disputed.
 abbrev pub is_open_place : List NoteParts → ℕ → Bool
 is_open_place notes x =
-    is_in_file notes x && (is_doubtful notes x || begins_clear_head notes x || not (is_held notes x))
+    is_in_file notes x && (is_disputed_at notes x || begins_clear_head notes x || not (is_held notes x))
 
 unfoldable pub open_place : List NoteParts → Claim → Option ℕ
 open_place notes c = option_and_then (λ x. if is_open_place notes x then Some x else None) (named_place c)

@@ -12,7 +12,7 @@ use Rattle.mxf_views.specs.Places.{segments_of}
 use Rattle.mxf_views.specs.RandomIndex.{RipAtParts}
 use Rattle.mxf_views.specs.RandomIndexView.{rip_view_of}
 use Rattle.mxf_views.specs.declared.random_index.RipView.TheVariants.{One}
-use Rattle.mxf_places.specs.Held.{IsDoubtful, IsHeld, end_of_file, is_in_file}
+use Rattle.mxf_places.specs.Held.{IsDisputedAt, IsHeld, end_of_file, is_in_file}
 use Rattle.mxf_places.specs.Claims.{claims_of, named_place, over_fills}
 use Rattle.mxf_places.specs.declared.claim.Claim.{Claim}
 use Rattle.mxf_units.specs.declared.essence_zone.EssenceZone.{EssenceZone}
@@ -51,7 +51,7 @@ pub record IsOpenPlace (notes : List NoteParts) (x : ℕ) : Type 0 where
   pub claimed : In by (claims_of notes)
   pub named : named_place by ≡ Some x
   pub in_file : IsTrue (is_in_file notes x)
-  pub unknown : (IsDoubtful notes x ⊎ BeginsHead notes x) ⊎ ¬ IsHeld notes x
+  pub unknown : (IsDisputedAt notes x ⊎ BeginsHead notes x) ⊎ ¬ IsHeld notes x
 
 -- A partition stands at the place, or one may.
 abbrev pub IsBound : List NoteParts → ℕ → Type 0

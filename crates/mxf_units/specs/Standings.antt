@@ -6,7 +6,7 @@ use Rattle.mxf_klv.specs.Rising.{In}
 use Rattle.mxf_views.specs.Partitions.{PartitionParts, partitions_of}
 use Rattle.mxf_views.specs.Places.{IsGiven, IsOnlyPair, segments_of}
 use Rattle.mxf_views.specs.declared.index.place.Pair.{Pair}
-use Rattle.mxf_places.specs.Held.{IsDoubtful, IsHeld}
+use Rattle.mxf_places.specs.Held.{IsDisputedAt, IsHeld}
 use Rattle.mxf_units.specs.declared.standing.UnitStanding.{UnitStanding}
 use Rattle.mxf_units.specs.declared.standing.UnitStanding.TheVariants as standings
 use Rattle.mxf_units.specs.declared.essence_zone.EssenceZone.{EssenceZone}
@@ -50,15 +50,15 @@ pub record GoesBehind (zone : EssenceZone) (e : Extent) : Type 0 where
   pub limit_is : zone.limit ≡ Some limit
   pub behind : (limit ≤ e.start) ⊎ ((end : ℕ) × (e.end ≡ Some end) × (limit < end))
 
--- All offsets of a range are held, or some is, or some is doubtful.
+-- All offsets of a range are held, or some is, or some is disputed.
 abbrev pub AllHeld : List NoteParts → ℕ → ℕ → Type 0
 AllHeld notes from to = (x : ℕ) → from ≤ x → x < to → IsHeld notes x
 
 abbrev pub AnyHeld : List NoteParts → ℕ → ℕ → Type 0
 AnyHeld notes from to = (x : ℕ) × IsHeld notes x × (from ≤ x) × (x < to)
 
-abbrev pub AnyDoubtful : List NoteParts → ℕ → ℕ → Type 0
-AnyDoubtful notes from to = (x : ℕ) × IsDoubtful notes x × (from ≤ x) × (x < to)
+abbrev pub AnyDisputed : List NoteParts → ℕ → ℕ → Type 0
+AnyDisputed notes from to = (x : ℕ) × IsDisputedAt notes x × (from ≤ x) × (x < to)
 
 -- The bytes lie in their partition: they don't go behind its limit, and that is sure, or all is held from the origin on
 -- up to where they are asked about.
@@ -71,14 +71,14 @@ abbrev pub IsStandingIn : List NoteParts → EssenceZone → Extent → UnitStan
 IsStandingIn notes zone e standings.Elsewhere = GoesBehind zone e
 IsStandingIn notes zone e standings.Unsure =
     (¬ GoesBehind zone e) × (zone.is_sure ≡ false) × (¬ AllHeld notes zone.origin (asked_end e))
-IsStandingIn notes zone e standings.Disputed = LiesInside notes zone e × AnyDoubtful notes e.start (asked_end e)
+IsStandingIn notes zone e standings.Disputed = LiesInside notes zone e × AnyDisputed notes e.start (asked_end e)
 IsStandingIn notes zone e standings.Missing =
-    LiesInside notes zone e × (¬ AnyDoubtful notes e.start (asked_end e)) × (¬ AnyHeld notes e.start (asked_end e))
+    LiesInside notes zone e × (¬ AnyDisputed notes e.start (asked_end e)) × (¬ AnyHeld notes e.start (asked_end e))
 IsStandingIn notes zone e standings.Part =
-    LiesInside notes zone e × (¬ AnyDoubtful notes e.start (asked_end e)) × AnyHeld notes e.start (asked_end e)
+    LiesInside notes zone e × (¬ AnyDisputed notes e.start (asked_end e)) × AnyHeld notes e.start (asked_end e)
     × ((e.end ≡ None) ⊎ ¬ AllHeld notes e.start (asked_end e))
 IsStandingIn notes zone e standings.Held =
-    LiesInside notes zone e × (¬ AnyDoubtful notes e.start (asked_end e)) × AnyHeld notes e.start (asked_end e)
+    LiesInside notes zone e × (¬ AnyDisputed notes e.start (asked_end e)) × AnyHeld notes e.start (asked_end e)
     × IsSome e.end × AllHeld notes e.start (asked_end e)
 IsStandingIn notes zone e _ = ⊥
 

@@ -10,7 +10,7 @@ use Rattle.mxf_klv.specs.Parts.{NoteParts}
 use Rattle.mxf_klv.specs.Rising.{union}
 use Rattle.mxf_sets.specs.declared.segment.offset.IndexEntry.{IndexEntry}
 use Rattle.mxf_views.specs.Places.{SegmentAtParts, segments_of}
-use Rattle.mxf_places.specs.Held.{IsHeld, is_doubtful, is_held}
+use Rattle.mxf_places.specs.Held.{IsHeld, is_disputed_at, is_held}
 use Rattle.mxf_units.specs.declared.standing.UnitStanding.{UnitStanding}
 use Rattle.mxf_units.specs.declared.standing.UnitStanding.TheVariants as standings
 use Rattle.mxf_units.specs.declared.essence_zone.EssenceZone.{EssenceZone}
@@ -65,15 +65,15 @@ unfoldable pub location_of : List NoteParts → ℕ → ℕ → Result Location 
 location_of notes index_sid unit =
     let segments = segments_for notes index_sid in location_at (parts_of notes) segments (place_of segments unit)
 
--- All offsets from one up to another are held, or some is, or some is doubtful.
+-- All offsets from one up to another are held, or some is, or some is disputed.
 unfoldable pub are_all_held : List NoteParts → ℕ → ℕ → Bool
 are_all_held notes from to = list_all (is_held notes) (range_with_len from (to - from))
 
 unfoldable pub is_any_held : List NoteParts → ℕ → ℕ → Bool
 is_any_held notes from to = list_any (is_held notes) (range_with_len from (to - from))
 
-unfoldable pub is_any_doubtful : List NoteParts → ℕ → ℕ → Bool
-is_any_doubtful notes from to = list_any (is_doubtful notes) (range_with_len from (to - from))
+unfoldable pub is_any_disputed : List NoteParts → ℕ → ℕ → Bool
+is_any_disputed notes from to = list_any (is_disputed_at notes) (range_with_len from (to - from))
 
 -- The bytes begin or end behind an end.
 abbrev pub ends_behind : Extent → ℕ → Bool
@@ -88,7 +88,7 @@ abbrev pub standing_up_to : List NoteParts → Location → ℕ → UnitStanding
 standing_up_to notes l end =
     if option_map_or (ends_behind l.extent) l.zone.limit false then standings.Elsewhere
     else (if not l.zone.is_sure && not (are_all_held notes l.zone.origin end) then standings.Unsure
-    else (if is_any_doubtful notes l.extent.start end then standings.Disputed
+    else (if is_any_disputed notes l.extent.start end then standings.Disputed
     else (if not (is_any_held notes l.extent.start end) then standings.Missing
     else (if is_some l.extent.end && are_all_held notes l.extent.start end then standings.Held
     else standings.Part))))

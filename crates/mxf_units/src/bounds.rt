@@ -76,7 +76,7 @@ fn is_open_place(holdings: &Holdings<'_>, offset: u64) -> bool
     ensures { result ≡ is_open_place holdings.now offset }
 {
     holdings.is_in_file(offset)
-        && (holdings.is_doubtful(offset)
+        && (holdings.is_disputed_at(offset)
             || holdings.begins_clear_head(offset)
             || !holdings.is_held(offset))
 }

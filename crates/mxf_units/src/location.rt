@@ -6,7 +6,7 @@ ghost use Rattle.mxf_views.specs.Places.{SegmentAtParts};
 ghost use Rattle.mxf_units.specs.NextPlaces.{AreNextPlaces};
 ghost use Rattle.mxf_units.specs.Streams.{IsSmall};
 ghost use Rattle.mxf_units.specs.EssenceZones.{IsFalling};
-ghost use Rattle.mxf_units.specs.Units.{are_all_held, ends_behind, extent_in, file_offset, is_any_doubtful, is_any_held};
+ghost use Rattle.mxf_units.specs.Units.{are_all_held, ends_behind, extent_in, file_offset, is_any_disputed, is_any_held};
 ghost use Rattle.mxf_units.specs.Units.{extent_by, is_told, location_at, location_in, standing_by, standing_in};
 
 use crate::essence_zone::EssenceZone;
@@ -71,11 +71,11 @@ fn is_any_held(holdings: &Holdings<'_>, from: u128, to: u128) -> bool
 }
 
 /// Whether a disputed packet covers an offset from one up to another, in bytes.
-fn is_any_doubtful(holdings: &Holdings<'_>, from: u128, to: u128) -> bool
-    ensures { result ≡ is_any_doubtful holdings.now from to }
+fn is_any_disputed(holdings: &Holdings<'_>, from: u128, to: u128) -> bool
+    ensures { result ≡ is_any_disputed holdings.now from to }
 {
     let end = u128::from(holdings.held_end());
-    from < end && holdings.is_any_doubtful(from as u64, to.min(end) as u64)
+    from < end && holdings.is_any_disputed(from as u64, to.min(end) as u64)
 }
 
 /// Whether the bytes begin or end behind an end.
@@ -100,7 +100,7 @@ pub(crate) fn standing_in(holdings: &Holdings<'_>, location: Location) -> UnitSt
     if !zone.is_sure && !are_all_held(holdings, u128::from(zone.origin), end) {
         return UnitStanding::Unsure;
     }
-    if is_any_doubtful(holdings, extent.start, end) {
+    if is_any_disputed(holdings, extent.start, end) {
         return UnitStanding::Disputed;
     }
     if !is_any_held(holdings, extent.start, end) {

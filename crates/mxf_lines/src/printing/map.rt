@@ -19,7 +19,7 @@ fn mark_text(mark: Mark) -> &'static str
     ensures { result.now ≡ mark_text mark }
 {
     match mark {
-        Mark::Doubtful => "!",
+        Mark::Disputed => "!",
         Mark::Header => "H",
         Mark::Footer => "F",
         Mark::Body => "B",

@@ -1,10 +1,10 @@
 //! What to restore next, and its lines.
 ghost use Rattle.std.specs.Prelude.{◌≡◌, count_by, is_none, length, sum_by};
-ghost use Rattle.mxf_lines.specs.PlanLines.{doubt_line, ordered_bytes, plan_lines, planned_line, restore_line};
+ghost use Rattle.mxf_lines.specs.PlanLines.{disputed_place_line, ordered_bytes, plan_lines, planned_line, restore_line};
 
 use super::AnswerFault;
 use super::lines::{Each, FieldWriter, Line, Lines, Printer, Then};
-use mxf_restore::{Doubt, Order, Plan};
+use mxf_restore::{DisputedPlace, Order, Plan};
 use std::alloc::AllocError;
 use std::io::Write;
 
@@ -23,11 +23,11 @@ impl Line for Order {
     }
 }
 
-/// A doubt: its place, in bytes, why that matters, and the offset of the pack that says so.
-impl Line for Doubt {
-    ghost line = { doubt_line };
+/// A disputed place: its place, in bytes, why that matters, and the offset of the pack that says so.
+impl Line for DisputedPlace {
+    ghost line = { disputed_place_line };
 
-    #[tactic(auto, unfolding(crate::specs::PlanLines::doubt_line))]
+    #[tactic(auto, unfolding(crate::specs::PlanLines::disputed_place_line))]
     fn write_fields(&self, fields: &mut FieldWriter) -> Result<(), AllocError> {
         fields.begin("disputed", "disputed")?;
         fields.number(" ", "offset", self.place)?;
@@ -85,12 +85,12 @@ fn count_unended(orders: &[Order]) -> usize
     orders.iter().filter(|order| order.end.is_none()).count()
 }
 
-/// A line for each order, for each doubt, and the last.
+/// A line for each order, for each disputed place, and the last.
 impl<'a> Lines for &'a Plan {
     ghost lines = { λ p. plan_lines p.now };
 
     fn print_to<W: Write>(self, printer: &mut Printer, writer: &mut W) -> Result<(), AnswerFault> {
-        let doubts = Then(Each(self.doubts()), PlannedLine(self));
-        Then(Each(self.orders()), doubts).print_to(printer, writer)
+        let disputed_places = Then(Each(self.disputed_places()), PlannedLine(self));
+        Then(Each(self.orders()), disputed_places).print_to(printer, writer)
     }
 }

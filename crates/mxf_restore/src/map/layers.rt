@@ -15,7 +15,7 @@ use std::marker::Model;
 
 /// The marks but the last, the first to be tested first.
 const MARKS: [Mark; 10] = [
-    Mark::Doubtful,
+    Mark::Disputed,
     Mark::Header,
     Mark::Footer,
     Mark::Body,
@@ -118,7 +118,7 @@ impl<'a> Layers<'a> {
         ensures { IsTrue result ↔ Says self.now from to mark }
     {
         match mark {
-            Mark::Doubtful => self.holdings.is_any_doubtful(from, to),
+            Mark::Disputed => self.holdings.is_any_disputed(from, to),
             Mark::Header => self.headers.meets(from, to),
             Mark::Footer => self.footers.meets(from, to),
             Mark::Body => self.bodies.meets(from, to),

@@ -60,6 +60,6 @@ fn is_missing(holdings: &Holdings<'_>, offset: u64) -> bool
     ensures { result ≡ is_missing holdings.now offset }
 {
     holdings.is_in_file(offset)
-        && !holdings.is_doubtful(offset)
+        && !holdings.is_disputed_at(offset)
         && (holdings.begins_clear_head(offset) || !holdings.is_held(offset))
 }

@@ -1,4 +1,4 @@
--- Doubts of which each place stands once.
+-- Disputed places of which each place stands once.
 use Rattle.std.proofs.Common.{◌≡◌, ◌∙◌, ◌&&◌, ◌==◌, ℕ, Bool, true, false, cond, not, filter, List, [], ◌∷◌, refl, sym}
 use Rattle.std.proofs.Common.{ap, eq-eqb, eqb-true}
 use Rattle.std.specs.List.{list_any}
@@ -7,11 +7,11 @@ use Rattle.std.specs.BTreeMap.{is_at}
 use Rattle.mxf_klv.proofs.Tests.{same_bool}
 use Rattle.mxf_places.proofs.NumberLaws.{same_test}
 use Rattle.mxf_restore.specs.Plan.{first_by_place}
-use Rattle.mxf_restore.specs.declared.plan.Doubt.{Doubt}
+use Rattle.mxf_restore.specs.declared.plan.DisputedPlace.{DisputedPlace}
 
 -- Those at places that weren't seen.
-abbrev pub unseen : List ℕ → List Doubt → List Doubt
-unseen seen doubts = filter (λ d. not (list_any (is_at (nat_cmp d.place)) seen)) doubts
+abbrev pub unseen : List ℕ → List DisputedPlace → List DisputedPlace
+unseen seen disputed_places = filter (λ d. not (list_any (is_at (nat_cmp d.place)) seen)) disputed_places
 
 -- Two filters, one after the other.
 filtered : {K : Type 0} (p q r : K → Bool) (xs : List K) → ((x : K) → (q x && p x) ≡ r x)
@@ -41,8 +41,8 @@ not_seen place other was now e =
 abbrev pub was_seen : List ℕ → ℕ → Bool
 was_seen seen x = list_any (is_at (nat_cmp x)) seen
 
--- Once the place of a doubt is seen, those that are left are of others.
-pub unseen_step : (seen new : List ℕ) (d : Doubt) (ds : List Doubt)
+-- Once the place of a disputed place is seen, those that are left are of others.
+pub unseen_step : (seen new : List ℕ) (d : DisputedPlace) (ds : List DisputedPlace)
     → ((x : ℕ) → was_seen new x ≡ cond (is_at (nat_cmp d.place) x) true (was_seen seen x))
     → unseen seen (first_by_place (d ∷ ds))
     ≡ cond (not (was_seen seen d.place)) (d ∷ unseen new (first_by_place ds)) (unseen new (first_by_place ds))
@@ -53,6 +53,6 @@ unseen_step seen new d ds updates =
     ap (λ l. cond (not (was_seen seen d.place)) (d ∷ l) l) rest
 
 -- None was seen.
-pub none_seen : (doubts : List Doubt) → unseen [] doubts ≡ doubts
+pub none_seen : (disputed_places : List DisputedPlace) → unseen [] disputed_places ≡ disputed_places
 none_seen [] = refl
-none_seen (d ∷ doubts) = ap (λ l. d ∷ l) (none_seen doubts)
+none_seen (d ∷ disputed_places) = ap (λ l. d ∷ l) (none_seen disputed_places)

@@ -5,13 +5,13 @@ use Rattle.mxf_klv.specs.Note.{covered_end}
 use Rattle.mxf_klv.specs.Parts.{NoteParts}
 use Rattle.mxf_catalogue.specs.Disputes.{DisputedParts, disputed_notes}
 use Rattle.mxf_catalogue.specs.NoteLists.{covered_run}
-use Rattle.mxf_places.specs.Held.{AreDoubtful}
-use Rattle.mxf_places.proofs.HeldLaws.{doubtful_runs}
-use Rattle.mxf_places.proofs.held.doubtful_in.Goals as goal
+use Rattle.mxf_places.specs.Held.{AreDisputed}
+use Rattle.mxf_places.proofs.HeldLaws.{disputed_runs}
+use Rattle.mxf_places.proofs.held.disputed_in.Goals as goal
 
 pub loop-disputed-init : goal.loop-disputed-init
 loop-disputed-init c =
-    (λ i. union_of_runs (c.new-doubtful.ensures i) (map covered_run (map (λ d. d.note)
+    (λ i. union_of_runs (c.new-cover.ensures i) (map covered_run (map (λ d. d.note)
     ((c.into_iter-disputed-iterator.ensures.into_iter_gives ∙ c.disputed-disputed-items.ensures.notes) i))))
 
 pub loop-disputed-preserved : goal.loop-disputed-preserved
@@ -22,15 +22,15 @@ loop-disputed-preserved c =
     λ i. run ((c.offset.ensures.offset ∙ ap (λ (n : NoteParts). n.offset) v) i)
     ((c.covered_end.ensures.covered ∙ ap covered_end v) i) in
     let left = map covered_run (map (λ d. d.note) c.next.new.self) in
-    (λ i. union_of_runs ((c.in_ok-add.ensures.added ∙ ap (λ r. with_run r c.loop-disputed.doubtful) same) i) left)
-    ∙ sym (ap (λ (l : List DisputedParts). union_of_runs c.loop-disputed.doubtful (map covered_run (map (λ d. d.note)
+    (λ i. union_of_runs ((c.in_ok-add.ensures.added ∙ ap (λ r. with_run r c.loop-disputed.cover) same) i) left)
+    ∙ sym (ap (λ (l : List DisputedParts). union_of_runs c.loop-disputed.cover (map covered_run (map (λ d. d.note)
     l)))
     c.in-Some.ensures.steps) ∙ c.loop-disputed.invariant
 
 pub returns : goal.returns
 returns c =
     let notes = c.args.catalogue.now in
-    let all : c.loop-disputed.doubtful ≡ union_of_runs [] (map covered_run (map (λ d. d.note) (disputed_notes notes))) =
-    sym (ap (λ (l : List DisputedParts). union_of_runs c.loop-disputed.doubtful (map covered_run (map (λ d. d.note) l)))
+    let all : c.loop-disputed.cover ≡ union_of_runs [] (map covered_run (map (λ d. d.note) (disputed_notes notes))) =
+    sym (ap (λ (l : List DisputedParts). union_of_runs c.loop-disputed.cover (map covered_run (map (λ d. d.note) l)))
     c.in-None.ensures.steps.0) ∙ c.loop-disputed.invariant in
-    subst (AreDoubtful notes) (sym all) (doubtful_runs notes)
+    subst (AreDisputed notes) (sym all) (disputed_runs notes)
