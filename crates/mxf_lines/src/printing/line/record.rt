@@ -1,5 +1,5 @@
 //! The lines of what records say.
-ghost use Rattle.std.specs.Prelude.{◌≡◌, List, IfOk, string_bytes, option_map};
+ghost use Rattle.std.specs.Prelude.{◌≡◌, ◌++◌, List, IfOk, codes, string_bytes, option_map};
 ghost use Rattle.mxf_lines.specs.Forms.{Field};
 ghost use Rattle.mxf_lines.specs.ReferenceLines.{hex_fields, identification_lines, kind_fields, package_details};
 ghost use Rattle.mxf_lines.specs.ReferenceLines.{package_lines, shown_fields, text_fields, timestamp_fields};
@@ -177,12 +177,26 @@ impl<'r, 'a> Lines for &'r Identification<'a> {
     fn print_to<W: Write>(self, printer: &mut Printer, writer: &mut W) -> Result<(), AnswerFault> {
         let generation = ValueLines(Property::Generation, self.this_generation_uid());
         let company = TextLines(Property::Company, self.company_name());
-        let product = TextLines(Property::Product, self.product_name());
-        let version = TextLines(Property::Version, self.version_string());
-        let product_uid = ValueLines(Property::ProductUid, self.product_uid());
-        let modified = ValueLines(Property::Modified, self.modification_date());
-        let software = Then(product, Then(version, Then(product_uid, modified)));
-        Then(generation, Then(company, software)).print_to(printer, writer)
+        Then(generation, Then(company, ProductLines(self))).print_to(printer, writer)
+    }
+}
+
+/// The lines of the product that an Identification is of, and of when it was modified.
+#[derive(Clone, Copy)]
+struct ProductLines<'r, 'a>(&'r Identification<'a>);
+
+impl<'r, 'a> Lines for ProductLines<'r, 'a> {
+    ghost lines = { λ p. value_lines (codes "product") shown_fields p.0.now.product_name
+        ++ (value_lines (codes "version") shown_fields p.0.now.version_string
+        ++ (value_lines (codes "product-uid") hex_fields p.0.now.product_uid
+        ++ value_lines (codes "modified") timestamp_fields p.0.now.modification_date)) };
+
+    fn print_to<W: Write>(self, printer: &mut Printer, writer: &mut W) -> Result<(), AnswerFault> {
+        let product = TextLines(Property::Product, self.0.product_name());
+        let version = TextLines(Property::Version, self.0.version_string());
+        let product_uid = ValueLines(Property::ProductUid, self.0.product_uid());
+        let modified = ValueLines(Property::Modified, self.0.modification_date());
+        Then(product, Then(version, Then(product_uid, modified))).print_to(printer, writer)
     }
 }
 

@@ -1,6 +1,14 @@
 use Rattle.mxf_lines.specs.IndexLines.{place_line}
 use Rattle.mxf_lines.proofs.printing.line.index.PlaceLine.write_fields.Goals as goal
 
+pub returns-in_ok-fixed-in-NotIndexed : goal.returns-in_ok-fixed-in-NotIndexed
+unfolding place_line
+returns-in_ok-fixed-in-NotIndexed c =
+    rw c.in-NotIndexed.is (rw (
+      c.in_ok-fixed-in-NotIndexed.ensures,
+      c.in_ok-begin-in-NotIndexed.ensures,
+    ) at c.end.ensures)
+
 pub returns-in_ok-number-in-At-2 : goal.returns-in_ok-number-in-At-2
 unfolding place_line
 returns-in_ok-number-in-At-2 c =
