@@ -69,13 +69,14 @@ pub fn verify<'a, R: Read + Drop>(
     let mut seen = Seen::of(alloc, reference)?;
     let mut number: usize = 0;
     'parts: for part in parts {
-        if let Err(fault) = take_part(alloc, &mut seen, number + 1, part) {
+        let source = number + 1;
+        if let Err(fault) = take_part(alloc, &mut seen, source, part) {
             return Err(VerifyFault::Part(GatherFault {
                 part: number,
                 fault,
             }));
         }
-        number += 1;
+        number = source;
     }
     Ok(finish(alloc, reference, seen)?)
 }

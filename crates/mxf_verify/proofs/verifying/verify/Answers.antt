@@ -1,6 +1,6 @@
-use Rattle.std.proofs.Common.{◌≡◌, ◌∙◌, List, length, subst, sym}
+use Rattle.std.proofs.Common.{◌≡◌, ◌∙◌, ◌<◌, List, arith, length, subst, sym}
 use Rattle.std.specs.Vec.Iter.{into_iter_items}
-use Rattle.mxf_read.proofs.GatheringLaws.{IsPassed, passed_none, passed_one, told}
+use Rattle.mxf_read.proofs.GatheringLaws.{IsPassed, passed_none, passed_one, passed_within, told}
 use Rattle.mxf_verify.proofs.VerifyingLaws.{HasSeen, seen_all, seen_fault, seen_nothing, seen_one}
 use Rattle.mxf_verify.proofs.verifying.verify.Goals as goal
 
@@ -14,6 +14,14 @@ parts-init g c =
       seen = λ t. subst (λ (l : List _). HasSeen g.R.Read.remaining c.args.reference.now all 0 l c.in_ok-seen.seen) (sym is)
           (seen_nothing g.R.Read.remaining c.args.reference.now all c.in_ok-seen.seen c.in_ok-seen.ensures);
     }
+
+pub overflow_add-source : goal.overflow_add-source
+overflow_add-source g c =
+    let all = c.args.parts.items in
+    let within : c.parts.number < length all =
+    passed_within all (into_iter_items c.parts.part-iterator) (into_iter_items c.next.new.self) c.in-Some.part
+    c.parts.number c.parts.invariant.passed c.in-Some.ensures.steps.0 in
+    omega (arith, within, c.args.parts.ok.0, c.args.parts.small)
 
 pub returns-in-Err-clause-fault : goal.returns-in-Err-clause-fault
 returns-in-Err-clause-fault g c t =

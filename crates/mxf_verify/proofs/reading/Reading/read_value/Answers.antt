@@ -17,6 +17,13 @@ use Rattle.mxf_verify.proofs.ReadingLaws.{taken_up_to}
 use Rattle.mxf_verify.proofs.TakingLaws.{as_many, digest_taken, same_note}
 use Rattle.mxf_verify.proofs.reading.Reading.read_value.Goals as goal
 
+pub overflow_add-value : goal.overflow_add-value
+overflow_add-value g c = omega (arith, c.offset.ensures.offset, c.offset.ensures.note.within)
+
+pub overflow_add-value-2 : goal.overflow_add-value-2
+overflow_add-value-2 g c =
+    omega (arith, c.offset.ensures.offset, c.offset.ensures.note.within, c.width.ensures, c.from.ensures)
+
 pub returns-then-self-value : goal.returns-then-self-value
 returns-then-self-value g c d =
     let first = c.in_ok-take_up_to.ensures in
