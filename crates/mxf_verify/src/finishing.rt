@@ -2,7 +2,7 @@
 ghost use Rattle.std.specs.Prelude.{◌≡◌, ◌↔◌, ◌++◌, ◌≤◌, ℕ, IfOk, List, map};
 ghost use Rattle.std.specs.List.{AllByRecursion};
 ghost use Rattle.mxf_klv.specs.Note.{greatest_end};
-ghost use Rattle.mxf_klv.specs.Rising.{In};
+ghost use Rattle.mxf_klv.specs.Rising.{In, SameMembers};
 ghost use Rattle.mxf_catalogue.specs.Content.{IsContent};
 ghost use Rattle.mxf_catalogue.specs.Covers.{IsCover};
 ghost use Rattle.mxf_catalogue.specs.Runs.{LiesIn, SameOffsets};
@@ -39,11 +39,39 @@ pub(crate) fn finish<'a>(
         ..
     } = seen;
     let verified = verified.into_ordered();
-    let damaged = damaged_in(alloc, catalogue.len(), &differing)?;
-    let bytes = bytes_told(alloc, catalogue, &verified, &damaged, &ranges, &beside)?;
-    let uncompared = Uncompared::of(alloc, verified, damaged, headed.into_ordered(), ranges)?;
+    let headed = headed.into_ordered();
+    let (bytes, uncompared) = bytes_and_uncompared(
+        alloc, catalogue, verified, headed, &differing, ranges, &beside,
+    )?;
     let cut = uncompared.cut_of(alloc, catalogue)?;
     Ok(told(catalogue, bytes, uncompared, cut, differing, came))
+}
+
+/// The bytes that are told, and what tells the notes that weren't compared.
+fn bytes_and_uncompared<'a>(
+    alloc: Global,
+    catalogue: &Catalogue,
+    verified: OrderedNotes<'a>,
+    headed: OrderedNotes<'a>,
+    differing: &[Differing<'a>],
+    ranges: Vec<Run>,
+    beside: &[Run],
+) -> Result<(ToldBytes, Uncompared<'a>), OutOfMemory>
+    requires ranges { AllByRecursion (λ r. r.end ≤ greatest_end) ranges.items }
+    requires beside { AllByRecursion (λ r. r.end ≤ greatest_end) beside.now }
+    ensures verified { IfOk result (λ t. t.1.verified ≡ verified.entry) }
+    ensures rising { IfOk result (λ t. IsContent t.1.damaged) }
+    ensures members { IfOk result (λ t. (n : NoteParts)
+        → In n t.1.damaged ↔ In n (map (λ d. d.note.now) differing.now)) }
+    ensures headed { IfOk result (λ t. t.1.headed ≡ headed.entry) }
+    ensures read { IfOk result (λ t. SameOffsets t.1.read ranges.items) }
+    ensures reach { IfOk result (λ t. SameMembers t.1.reach ranges.items) }
+    ensures bytes { IfOk result (λ t. AreBytes catalogue.now t.1.verified t.1.damaged (ranges.items ++ beside.now) t.0) }
+{
+    let damaged = damaged_in(alloc, catalogue.len(), differing)?;
+    let bytes = bytes_told(alloc, catalogue, &verified, &damaged, &ranges, beside)?;
+    let uncompared = Uncompared::of(alloc, verified, damaged, headed, ranges)?;
+    Ok((bytes, uncompared))
 }
 
 /// What these say of a catalogue.
