@@ -1,7 +1,11 @@
 //! Printing what a run is asked for.
 ghost use Rattle.std.specs.Prelude.{◌≡◌, ◌↔◌, IfOk, Err};
 ghost use Rattle.mxf_klv.specs.Written.{Puts, Writes};
-ghost use Rattle.mxf_lines.specs.Answering.{Answers, IsBadAsk, answer_lines, answer_status};
+ghost use Rattle.mxf_restore.specs.Plan.{plan_of};
+ghost use Rattle.mxf_lines.specs.Answering.{Answers, IsBadAsk, answer_lines, answer_status, asked_units, plan_status};
+ghost use Rattle.mxf_lines.specs.PlanLines.{plan_lines};
+ghost use Rattle.mxf_lines.specs.Printing.{Prints};
+ghost use Rattle.mxf_lines.specs.UnitLines.{unit_lines, units_status};
 ghost use Rattle.mxf_lines.specs.declared.printing.AnswerFault.TheVariants as faults;
 
 mod check;
@@ -28,7 +32,7 @@ use mxf_klv::{OutOfMemory, WriteFault};
 use mxf_read::Gathered;
 use mxf_restore::Plan;
 use mxf_units::Units;
-use mxf_views::Place;
+use mxf_views::{Place, Views};
 pub use renewal::print_renewed;
 pub use sources::print_sources;
 use std::alloc::Global;
@@ -134,18 +138,46 @@ fn print_asked<W: Write>(
             let status = u8::from(!matches!(place, Place::At { .. }));
             print_with_status(printer, writer, place, status)
         }
-        Ask::Plan => {
-            let plan = Plan::of(printer.alloc(), &gathered.views)?;
-            let status = u8::from(!plan.orders().is_empty());
-            print_with_status(printer, writer, &plan, status)
-        }
+        Ask::Plan => print_plan(printer, writer, &gathered.views),
         Ask::Units { index, range } => {
-            let units = Units::of(printer.alloc(), &gathered.views, index)?;
-            print_units(printer, writer, &units, range)
+            print_range(printer, writer, &gathered.views, index, range)
         }
         Ask::Join => {
             let line = JoinLine(gathered.views.catalogue());
             print_with_status(printer, writer, line, 0)
         }
     }
+}
+
+/// Prints what to restore next, and answers 1 where there is something, else 0.
+fn print_plan<W: Write>(
+    printer: &mut Printer,
+    writer: &mut W,
+    views: &Views,
+) -> Result<u8, AnswerFault>
+    ensures lines { Prints printer.old.fields.form
+        (Puts W.contents writer.old writer.new printer.old.progress printer.new.progress)
+        result (plan_lines (plan_of views.now)) }
+    ensures status { IfOk result (λ status. status ≡ plan_status (plan_of views.now)) }
+{
+    let plan = Plan::of(printer.alloc(), views)?;
+    let status = u8::from(!plan.orders().is_empty());
+    print_with_status(printer, writer, &plan, status)
+}
+
+/// Prints the units of a range, by the index of an IndexSID.
+fn print_range<W: Write>(
+    printer: &mut Printer,
+    writer: &mut W,
+    views: &Views,
+    index: u32,
+    range: UnitRange,
+) -> Result<u8, AnswerFault>
+    ensures lines { Prints printer.old.fields.form
+        (Puts W.contents writer.old writer.new printer.old.progress printer.new.progress)
+        result (unit_lines range.first (asked_units index range views.now)) }
+    ensures status { IfOk result (λ status. status ≡ units_status (asked_units index range views.now)) }
+{
+    let units = Units::of(printer.alloc(), views, index)?;
+    print_units(printer, writer, &units, range)
 }
