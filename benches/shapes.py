@@ -207,7 +207,7 @@ SHAPES = {
     "disputed": Shape("disputed notes", "show", 37_500, disputed),
     "readings": Shape("disputed notes of two sources", "sources", 37_500, disputed),
     "beside": Shape("disputed notes of a reference", "verify", 37_500, beside, contents_beside),
-    "listed": Shape("segments of 250 units", "units", 900, listed),
+    "listed": Shape("segments of 250 units", "units", 450, listed),
     "units": Shape("units in as many ranges", "verify", 37_500, units, contents_of_units, ("--index", "1")),
 }
 
