@@ -1,6 +1,6 @@
 use Rattle.std.proofs.Common.{◌∙◌, refl}
 use Rattle.std.proofs.lemmas.List.{drop_all}
-use Rattle.mxf_restore.proofs.LoopLaws.{nothing_left}
+use Rattle.mxf_places.proofs.LoopLaws.{nothing_left}
 use Rattle.mxf_verify.specs.Reaching.{greatest_from}
 use Rattle.mxf_verify.specs.Touching.{back_of}
 use Rattle.mxf_verify.proofs.ReachLaws.{greater, greatest-step}
