@@ -171,8 +171,9 @@ def contents_of_units(count: int) -> list[list[notes.Note]]:
 
 
 def listed(count: int) -> list[bytes]:
-    """So many segments that list 250 edit units each, one behind the other, without the file that they are of."""
-    parts = []
+    """So many segments that list 250 edit units each, one behind the other, behind a body partition and the first packet
+    of its essence, so that each unit is looked for in the file."""
+    parts = [pack(0, 0, 0), pack(1, PACK, 0, body_sid=2), essence_packet(VALUE)]
     for number in range(count):
         start = LISTED * number
         offsets = ",".join(str(UNIT * unit) for unit in range(start, start + LISTED))

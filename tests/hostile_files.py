@@ -162,12 +162,13 @@ def segments_of_a_unit(rng, many=None):
 
 
 def listed_units(rng, many=None):
-    """Index table segments that list 25 units each, one behind the other, at times each twice or the last ones first."""
+    """A body partition, the first packet of its essence, and index table segments that list 25 units each, one behind the
+    other, at times each twice or the last ones first."""
     many = many or rng.choice((2, 20, 400))
     each, step = rng.choice((1, 2)), rng.choice((1, -1))
     offsets = [",".join(str(100 * unit) for unit in range(25 * n, 25 * n + 25)) for n in range(many // each)]
     lines = [f"segment start={25 * n} duration=25 entries={listed}" for n, listed in enumerate(offsets)][::step]
-    return [(0, laid(lines * each))]
+    return [(0, laid(["header", "body body-sid=2", "essence 80"] + lines * each))]
 
 
 def long_primer(rng, many=None):
