@@ -386,7 +386,7 @@ at_value offset bytes key after l (Some x) h near whole =
     subst (λ (y : PacketParts × ℕ). Answers offset bytes (ok_or (Some y) (Truncated offset))) (sym whole.1)
     (at_packet offset bytes key after l h near whole.0)
 
--- ---- the exits of `next_head`
+-- ---- the exits of `next_key_and_length`
 
 pub no_head_for : (offset : ℕ) (bytes : List ℕ) (stop : Stop) → Stopped offset bytes stop
     → (IsOpen stop → HasNoKeyAndLength bytes)

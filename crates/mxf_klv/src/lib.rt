@@ -47,7 +47,7 @@ pub use packet::{
 };
 pub use piece::{
     Stop, cut_head, each_piece_has_its_head, each_piece_has_one_stop, each_piece_is_read_one_way,
-    more_bytes_go_on_with_a_piece, next_head, next_packet,
+    more_bytes_go_on_with_a_piece, next_key_and_length, next_packet,
 };
 pub use search::{Keyed, below, up_to};
 pub use writing::{Encode, Progress, WriteFault};

@@ -80,7 +80,7 @@ pub fn next_packet(offset: u64, bytes: &[u8]) -> Result<(Packet<'_>, usize), Sto
 ///
 /// Where they aren't whole and nothing is at fault, the stop is [`Stop::End`] or [`Stop::Truncated`]. Only those of a
 /// packet that ends at or below [`MAX`] are given.
-pub fn next_head(offset: u64, bytes: &[u8]) -> Result<(Ul, Ber), Stop>
+pub fn next_key_and_length(offset: u64, bytes: &[u8]) -> Result<(Ul, Ber), Stop>
     ensures head { IfOk result (λ x. IsHeadOf offset bytes.now x.0 x.1) }
     ensures none { IfErr result (IsNoHead offset bytes.now) }
 {

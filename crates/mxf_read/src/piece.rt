@@ -8,7 +8,7 @@ ghost use Rattle.mxf_catalogue.specs.Content.{reduced_union};
 use crate::coming::ComingValue;
 use crate::report::Report;
 use mxf_catalogue::Catalogue;
-use mxf_klv::{OutOfMemory, Stop, next_head};
+use mxf_klv::{OutOfMemory, Stop, next_key_and_length};
 use sha2::{Digest, Sha256};
 use std::alloc::Global;
 
@@ -162,7 +162,7 @@ impl Piece {
         if !self.head.is_empty() {
             return self.take_more_of_head(bytes);
         }
-        match next_head(self.at, bytes) {
+        match next_key_and_length(self.at, bytes) {
             Ok((key, ber)) => {
                 let value = ComingValue::of(self.alloc, self.at, key, ber)?;
                 self.go_on(value)?;
@@ -186,7 +186,7 @@ impl Piece {
         let known = self.head.len();
         let count = bytes.len().min(GREATEST_HEAD - known);
         self.head.extend_from_slice(&bytes[..count])?;
-        match next_head(self.at, &self.head) {
+        match next_key_and_length(self.at, &self.head) {
             Ok((key, ber)) => {
                 self.head.clear();
                 let value = ComingValue::of(self.alloc, self.at, key, ber)?;

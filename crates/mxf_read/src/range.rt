@@ -6,7 +6,7 @@ ghost use Rattle.mxf_klv.specs.Label.{IsLabel, begins_as_label};
 ghost use Rattle.mxf_read.specs.Ranges.{IsStart, MayBegin, is_start_key, may_begin, start_in};
 
 use memchr::memmem::Finder;
-use mxf_klv::{Kind, Ul, kind, next_head};
+use mxf_klv::{Kind, Ul, kind, next_key_and_length};
 
 /// What each label begins with (ST 336, universal label).
 const LABEL_START: [u8; 4] = [0x06, 0x0E, 0x2B, 0x34];
@@ -56,7 +56,7 @@ fn may_begin_at(offset: u64, window: &[u8], position: usize) -> bool
 fn may_begin(offset: u64, bytes: &[u8]) -> bool
     ensures { result ≡ may_begin offset bytes.now }
 {
-    let Ok((key, ber)) = next_head(offset, bytes) else {
+    let Ok((key, ber)) = next_key_and_length(offset, bytes) else {
         return false;
     };
     let size = 16 + u64::from(ber.width()) + ber.value();

@@ -1,7 +1,7 @@
 //! What is looked up in bytes at hand while every growth is refused.
 use crate::additions::in_views;
 use crate::files::{M, R, SEGMENT, WRITTEN, rip_value};
-use mxf_klv::{Kind, Note, Status, kind, next_head, next_packet, read_ber};
+use mxf_klv::{Kind, Note, Status, kind, next_key_and_length, next_packet, read_ber};
 use mxf_read::absorb;
 use mxf_sets::{
     Batch, ContentStorage, Identification, PackPart, Package, PartitionPack, Preface, Rip, Segment,
@@ -14,7 +14,7 @@ use uuid::Uuid;
 /// Whether the first packet of M is read, and its head, of which the length is read by itself.
 fn packet_is_read() -> Option<bool> {
     let (packet, size) = next_packet(0, &M).ok()?;
-    let (key, length) = next_head(0, &M).ok()?;
+    let (key, length) = next_key_and_length(0, &M).ok()?;
     let alike = packet.key() == key && read_ber(&M[16..]).ok()? == length;
     let sized = (size, packet.width(), packet.value().len()) == (108, 4, 88);
     let named = kind(&key) == Kind::Header(Status::ClosedComplete) && kind(&key).is_structural();
