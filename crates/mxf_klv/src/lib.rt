@@ -34,6 +34,7 @@ mod note;
 mod packet;
 mod piece;
 mod search;
+mod sorting;
 mod writing;
 
 pub use ber::{Ber, BerFault, lengths_are_read_as_written, one_length_at_front, read_ber};
@@ -50,4 +51,5 @@ pub use piece::{
     more_bytes_go_on_with_a_piece, next_key_and_length, next_packet,
 };
 pub use search::{Keyed, below, up_to};
+pub use sorting::sort_once;
 pub use writing::{Encode, Progress, WriteFault};
