@@ -4,6 +4,7 @@ use Rattle.std.specs.Prelude.{◌≢◌, ◌↔◌, ◌⊎◌, ℕ, List, filter
 use Rattle.mxf_klv.specs.Parts.{NoteParts}
 use Rattle.mxf_klv.specs.Note.{IsCovered, IsInSpan, covered_end, end_of}
 use Rattle.mxf_klv.specs.Rising.{In}
+use Rattle.mxf_catalogue.specs.declared.catalogue.note_lists.NoteLists.{NoteLists}
 use Rattle.mxf_catalogue.specs.declared.run.Run.{Run}
 use Rattle.mxf_catalogue.specs.Content.{AreReduced, IsCatalogue, reduced_with, union_of, with_note}
 use Rattle.mxf_catalogue.specs.Covers.{IsCover}
@@ -56,6 +57,19 @@ pub record AreKeptLists (undisputed disputed : List NoteParts) (disputed_spans :
 pub record AreCatalogueFields (undisputed disputed : List NoteParts) (disputed_spans spans : List Run) : Type 0 where
   pub kept : AreKeptLists undisputed disputed disputed_spans
   pub covers : Covers spans (union_of undisputed disputed)
+
+-- The notes that are kept.
+abbrev pub notes_of : NoteLists → List NoteParts
+notes_of kept = union_of kept.undisputed.items kept.disputed.items
+
+abbrev pub AreInParts : NoteLists → Type 0
+AreInParts kept = AreNoteLists kept.undisputed.items kept.disputed.items
+
+abbrev pub AreKept : NoteLists → Type 0
+AreKept kept = AreKeptLists kept.undisputed.items kept.disputed.items kept.disputed_spans.items
+
+abbrev pub AreCatalogueOf : NoteLists → List Run → Type 0
+AreCatalogueOf kept = AreCatalogueFields kept.undisputed.items kept.disputed.items kept.disputed_spans.items
 
 -- Of some notes those that share a byte with the note.
 abbrev pub touching : NoteParts → List NoteParts → List NoteParts

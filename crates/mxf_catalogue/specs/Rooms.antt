@@ -9,25 +9,25 @@ use Rattle.mxf_catalogue.specs.NoteLists.{touching}
 abbrev pub IsRoomFor : {X Z : Type 0} → ℕ → Vec X Z → Type 0
 IsRoomFor count v = (v.items ≡ []) × (vec_len v ≡ 0) × (count ≤ vec_capacity v)
 
--- Empty parts with room for so many notes.
+-- Empty lists with room for so many notes.
 pub record AreRoomFor (count : ℕ) (p : NoteLists) : Type 0 where
   pub undisputed : IsRoomFor count p.undisputed
   pub disputed : IsRoomFor count p.disputed
   pub disputed_spans : IsRoomFor count p.disputed_spans
 
--- NoteLists with room for so many more notes, whatever these move: each note that is there may be disputed then.
+-- Lists with room for so many more notes, whatever these move: each note that is there may be disputed then.
 pub record HaveRoom (count : ℕ) (p : NoteLists) : Type 0 where
   pub undisputed : vec_len p.undisputed + count ≤ vec_capacity p.undisputed
   pub disputed : vec_len p.undisputed + vec_len p.disputed + count ≤ vec_capacity p.disputed
   pub disputed_spans : vec_len p.disputed_spans + count ≤ vec_capacity p.disputed_spans
 
--- NoteLists with room for one note and for those that it moves.
+-- Lists with room for one note and for those that it moves.
 pub record HaveRoomFor (n : NoteParts) (p : NoteLists) : Type 0 where
   pub undisputed : vec_len p.undisputed < vec_capacity p.undisputed
   pub disputed : vec_len p.disputed + length (touching n p.undisputed.items) < vec_capacity p.disputed
   pub disputed_spans : vec_len p.disputed_spans < vec_capacity p.disputed_spans
 
--- The parts hold what they held.
+-- The lists hold what they held.
 pub record HoldSame (old new : NoteLists) : Type 0 where
   pub undisputed : new.undisputed.items ≡ old.undisputed.items
   pub disputed : new.disputed.items ≡ old.disputed.items

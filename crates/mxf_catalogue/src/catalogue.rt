@@ -54,22 +54,20 @@ use std::mem::replace;
 /// compared with a few of them, by binary search.
 #[derive(Debug, Drop)]
 pub struct Catalogue {
-    parts: NoteLists,
+    lists: NoteLists,
     spans: Cover,
 }
 
 impl Model for Catalogue {
     ghost use Rattle.std.specs.Prelude.{List};
     ghost use Rattle.mxf_klv.specs.Parts.{NoteParts};
-    ghost use Rattle.mxf_catalogue.specs.Content.{union_of};
-    ghost use Rattle.mxf_catalogue.specs.NoteLists.{AreCatalogueFields};
+    ghost use Rattle.mxf_catalogue.specs.NoteLists.{AreCatalogueOf, notes_of};
 
     ghost Value = { List NoteParts };
 
-    ghost view = { λ c. union_of c.parts.undisputed.items c.parts.disputed.items };
+    ghost view = { λ c. notes_of c.lists };
 
-    ghost invariant = { λ c. AreCatalogueFields c.parts.undisputed.items c.parts.disputed.items
-        c.parts.disputed_spans.items c.spans };
+    ghost invariant = { λ c. AreCatalogueOf c.lists c.spans };
 }
 
 impl Catalogue {
@@ -78,7 +76,7 @@ impl Catalogue {
         ensures { result ≡ [] }
     {
         Catalogue {
-            parts: NoteLists::new(alloc),
+            lists: NoteLists::new(alloc),
             spans: Cover::new(alloc),
         }
     }
@@ -96,20 +94,20 @@ impl Catalogue {
         ensures err { OnErr result (self.new ≡ self.old) }
         ensures history { (h : History) → self.old ≡ content h → OnOk result (self.new ≡ content (Add h note)) }
     {
-        if self.parts.end_by(note.offset()) {
+        if self.lists.end_by(note.offset()) {
             return self.append(note);
         }
-        if self.parts.tell(&note) {
+        if self.lists.tell(&note) {
             return Ok(Change::Repeated);
         }
-        let Ok(moved) = self.parts.make_room(&note) else {
+        let Ok(moved) = self.lists.make_room(&note) else {
             return Err(AddFault { note });
         };
         // What is held is a note, which ends where a packet may.
         let Ok(()) = self.spans.add(note.offset(), note.covered_end()) else {
             return Err(AddFault { note });
         };
-        self.parts.put(note);
+        self.lists.put(note);
         Ok(Change::Added { moved })
     }
 
@@ -121,8 +119,8 @@ impl Catalogue {
         ensures fault { IfErr result (λ f. f.note ≡ note) }
         ensures err { OnErr result (self.new ≡ self.old) }
     {
-        let alloc = *self.parts.undisputed.allocator();
-        let Ok(()) = self.parts.undisputed.reserve(1) else {
+        let alloc = *self.lists.undisputed.allocator();
+        let Ok(()) = self.lists.undisputed.reserve(1) else {
             return Err(AddFault { note });
         };
         // What is held is a note, which ends where a packet may.
@@ -130,7 +128,7 @@ impl Catalogue {
         let Ok(()) = self.spans.add(note.offset(), end) else {
             return Err(AddFault { note });
         };
-        self.parts.append(note);
+        self.lists.append(note);
         Ok(Change::Added {
             moved: Offsets::none(alloc),
         })
@@ -139,7 +137,7 @@ impl Catalogue {
     /// Moves the notes of another catalogue into this one, which holds the notes of both then. No kept value is copied.
     ///
     /// An empty catalogue takes the other as it is. Notes that stand above all of these are put behind them. Otherwise
-    /// the notes of both are put into new parts, in their order: one pass over both.
+    /// the notes of both are put into new lists, in their order: one pass over both.
     ///
     /// The only fault is want of memory. The other comes back and this catalogue is unchanged: all memory is taken
     /// before a note of either is moved.
@@ -154,14 +152,14 @@ impl Catalogue {
             *self = other;
             return Ok(());
         }
-        if self.parts.stand_below(&other.parts) {
+        if self.lists.stand_below(&other.lists) {
             self.put_all(other)
         } else {
             self.rebuild(other)
         }
     }
 
-    /// Puts the notes of another into the parts of this one. All room is taken before.
+    /// Puts the notes of another into the lists of this one. All room is taken before.
     fn put_all(&mut self, other: Catalogue) -> Result<(), MergeFault>
         ensures merged { OnOk result (self.new ≡ reduced_union self.old other) }
         ensures err { OnErr result (self.new ≡ self.old) }
@@ -172,31 +170,31 @@ impl Catalogue {
         let Ok(()) = spans.runs.reserve(count) else {
             return Err(MergeFault { other });
         };
-        let Ok(()) = self.parts.reserve(count) else {
+        let Ok(()) = self.lists.reserve(count) else {
             return Err(MergeFault { other });
         };
-        let others = other.parts;
+        let others = other.lists;
         let notes = MergedNotes::of(others.undisputed, others.disputed);
-        self.parts.put_all(&mut spans.runs, notes);
+        self.lists.put_all(&mut spans.runs, notes);
         Ok(())
     }
 
-    /// Puts the notes of both into new parts, in one pass over both. All room is taken before.
+    /// Puts the notes of both into new lists, in one pass over both. All room is taken before.
     fn rebuild(&mut self, other: Catalogue) -> Result<(), MergeFault>
         ensures merged { OnOk result (self.new ≡ reduced_union self.old other) }
         ensures err { OnErr result (self.new ≡ self.old) }
         ensures back { IfErr result (λ f. f.other ≡ other) }
     {
-        let alloc = *self.parts.undisputed.allocator();
-        let Ok(room) = Room::of(alloc, &self.parts, &other.parts) else {
+        let alloc = *self.lists.undisputed.allocator();
+        let Ok(room) = Room::of(alloc, &self.lists, &other.lists) else {
             return Err(MergeFault { other });
         };
-        let mut parts = room.parts;
+        let mut lists = room.lists;
         let mut runs = room.runs;
-        let own = replace(&mut self.parts, NoteLists::new(alloc)).into_notes(room.own);
-        let others = other.parts.into_notes(room.others);
-        parts.put_all(&mut runs, MergedNotes::of(own, others));
-        self.parts = parts;
+        let own = replace(&mut self.lists, NoteLists::new(alloc)).into_notes(room.own);
+        let others = other.lists.into_notes(room.others);
+        lists.put_all(&mut runs, MergedNotes::of(own, others));
+        self.lists = lists;
         self.spans = Cover { runs };
         Ok(())
     }
@@ -226,19 +224,19 @@ impl Catalogue {
         ensures { IfOk result (λ c. c ≡ notes.items) }
     {
         let spans = spans_of(alloc, &notes)?;
-        let mut parts = NoteLists::new(alloc);
-        parts.undisputed = notes;
-        Ok(Catalogue { parts, spans })
+        let mut lists = NoteLists::new(alloc);
+        lists.undisputed = notes;
+        Ok(Catalogue { lists, spans })
     }
 
     /// A catalogue of equal notes, in new memory.
     fn copy(&self, alloc: Global) -> Result<Catalogue, OutOfMemory>
         ensures { IfOk result (λ c. c ≡ self.now) }
     {
-        let parts = self.parts.copy(alloc)?;
+        let lists = self.lists.copy(alloc)?;
         let runs = Vec::from_slice(alloc, &self.spans.runs)?;
         Ok(Catalogue {
-            parts,
+            lists,
             spans: Cover { runs },
         })
     }
@@ -255,7 +253,7 @@ impl Catalogue {
     pub fn holds(&self, note: &Note) -> bool
         ensures { IsTrue result ↔ In note.now self.now }
     {
-        self.parts.have(note)
+        self.lists.have(note)
     }
 
     /// Whether the note is held, or is the head of a held one: to add it is `Repeated` then. At most
@@ -263,14 +261,14 @@ impl Catalogue {
     pub fn has(&self, note: &Note) -> bool
         ensures { IsTrue result ↔ has_note self.now note.now }
     {
-        !self.parts.end_by(note.offset()) && self.parts.tell(note)
+        !self.lists.end_by(note.offset()) && self.lists.tell(note)
     }
 
     /// The number of notes.
     pub fn len(&self) -> usize
         ensures { result ≡ length self.now }
     {
-        self.parts.len()
+        self.lists.len()
     }
 
     /// Whether there is no note.
@@ -289,7 +287,7 @@ impl Catalogue {
         // A count of them fits.
         ensures bound { length result < 2 ^ 64 }
     {
-        Notes::of(&self.parts.undisputed, &self.parts.disputed)
+        Notes::of(&self.lists.undisputed, &self.lists.disputed)
     }
 
     /// A law of each catalogue: its notes are a reduced content, its clear notes stand apart, and a count of either
@@ -312,7 +310,7 @@ impl Catalogue {
         ensures apart { AreApart 0 result }
         ensures bound { length result < 2 ^ 64 }
     {
-        ClearNotes::of(&self.parts.undisputed)
+        ClearNotes::of(&self.lists.undisputed)
     }
 
     /// The notes that share no byte with another, in their order: the clear notes, and the heads that nothing touches.
@@ -321,7 +319,7 @@ impl Catalogue {
         ensures notes { result ≡ undisputed_notes self.now }
         ensures bound { length result < 2 ^ 64 }
     {
-        Notes::of(&self.parts.undisputed, &[])
+        Notes::of(&self.lists.undisputed, &[])
     }
 
     /// The clear notes whose packets lie wholly in the range of so many bytes from `start` on, in their order: two
@@ -332,7 +330,7 @@ impl Catalogue {
         ensures catalogue { IsCatalogue self.now }
         ensures bound { length result < 2 ^ 64 }
     {
-        ClearNotes::of(within(&self.parts.undisputed, start, bytes))
+        ClearNotes::of(within(&self.lists.undisputed, start, bytes))
     }
 
     /// The clear notes that share a byte with the note, in their order: two binary searches. Where the catalogue hasn't
@@ -343,7 +341,7 @@ impl Catalogue {
         ensures catalogue { IsCatalogue self.now }
         ensures bound { length result < 2 ^ 64 }
     {
-        ClearNotes::of(touched(&self.parts.undisputed, note))
+        ClearNotes::of(touched(&self.lists.undisputed, note))
     }
 
     /// The disputed notes in their order, each with how it is disputed. It takes no memory.
@@ -351,21 +349,21 @@ impl Catalogue {
         ensures notes { result ≡ disputed_notes self.now }
         ensures bound { length result < 2 ^ 64 }
     {
-        DisputedNotes::of(&self.parts.disputed)
+        DisputedNotes::of(&self.lists.disputed)
     }
 
     /// Whether the note is held and disputed: a binary search.
     pub fn disputes(&self, note: &Note) -> bool
         ensures { IsTrue result ↔ (In note.now self.now × IsDisputed note.now self.now) }
     {
-        is_in(&self.parts.disputed, note)
+        is_in(&self.lists.disputed, note)
     }
 
     /// The greatest end of a note, in bytes, be it claimed by a head; 0 where there is no note.
     pub fn end(&self) -> u64
         ensures { (bound : ℕ) → result ≤ bound ↔ ((n : NoteParts) → In n self.now → end_of n ≤ bound) }
     {
-        self.parts.end()
+        self.lists.end()
     }
 
     /// The clear note with this file offset, in bytes: a binary search.
@@ -376,7 +374,7 @@ impl Catalogue {
         ensures found { IfSome result (λ n. IsClear n.now self.now × (n.now.offset ≡ offset)) }
         ensures none { IfNone result ((n : NoteParts) → IsClear n self.now → n.offset ≢ offset) }
     {
-        let note = at_offset(&self.parts.undisputed, offset)?;
+        let note = at_offset(&self.lists.undisputed, offset)?;
         if note.is_head() { None } else { Some(note) }
     }
 
@@ -385,7 +383,7 @@ impl Catalogue {
     pub fn undisputed_at(&self, offset: u64) -> Option<&Note>
         ensures first { option_copied result ≡ find (λ n. n.offset == offset) (undisputed_notes self.now) }
     {
-        at_offset(&self.parts.undisputed, offset)
+        at_offset(&self.lists.undisputed, offset)
     }
 }
 
@@ -451,8 +449,8 @@ impl Semilattice for Catalogue {
         ensures members { IsTrue result ↔ SameContent has_note self.now other.now }
         ensures list { IsTrue result ↔ (self.now ≡ other.now) }
     {
-        self.parts.undisputed == other.parts.undisputed
-            && self.parts.disputed == other.parts.disputed
+        self.lists.undisputed == other.lists.undisputed
+            && self.lists.disputed == other.lists.disputed
     }
 }
 

@@ -3,7 +3,7 @@ ghost use Rattle.std.specs.Prelude.{◌≡◌, ◌≢◌, ◌+◌, ◌≤◌, �
 ghost use Rattle.std.specs.Prelude.{IfOk, IfSome, MatchOption};
 ghost use Rattle.std.specs.Iterator.{YieldsFirst, item_count};
 ghost use Rattle.mxf_catalogue.specs.Content.{IsContent, union_of};
-ghost use Rattle.mxf_catalogue.specs.NoteLists.{AreNoteLists};
+ghost use Rattle.mxf_catalogue.specs.NoteLists.{AreInParts, notes_of};
 ghost use Rattle.mxf_catalogue.specs.Rooms.{AreRoomFor, IsRoomFor};
 
 use super::Catalogue;
@@ -29,37 +29,34 @@ impl From<MergeFault> for OutOfMemory {
     }
 }
 
-/// What the merging of two catalogues needs: a list for the notes of each that has disputed ones, and parts and runs
+/// What the merging of two catalogues needs: a list for the notes of each that has disputed ones, and lists and runs
 /// for those of both.
 #[derive(Drop)]
 pub(super) struct Room {
     pub own: Vec<Note>,
     pub others: Vec<Note>,
-    pub parts: NoteLists,
+    pub lists: NoteLists,
     pub runs: Vec<Run>,
 }
 
 impl Room {
     /// Room for the notes of both.
     pub fn of(alloc: Global, own: &NoteLists, others: &NoteLists) -> Result<Room, AllocError>
-        requires own_parts { AreNoteLists own.now.undisputed.items own.now.disputed.items }
-        requires other_parts { AreNoteLists others.now.undisputed.items others.now.disputed.items }
+        requires own_lists { AreInParts own.now }
+        requires other_lists { AreInParts others.now }
         ensures own_empty { IfOk result (λ r. r.own.items ≡ []) }
-        ensures own { IfOk result (λ r. own.now.disputed.items ≢ []
-            → length (union_of own.now.undisputed.items own.now.disputed.items) ≤ vec_capacity r.own) }
+        ensures own { IfOk result (λ r. own.now.disputed.items ≢ [] → length (notes_of own.now) ≤ vec_capacity r.own) }
         ensures others_empty { IfOk result (λ r. r.others.items ≡ []) }
         ensures others { IfOk result (λ r. others.now.disputed.items ≢ []
-            → length (union_of others.now.undisputed.items others.now.disputed.items) ≤ vec_capacity r.others) }
-        ensures parts { IfOk result (λ r. AreRoomFor (length (union_of own.now.undisputed.items own.now.disputed.items)
-            + length (union_of others.now.undisputed.items others.now.disputed.items)) r.parts) }
-        ensures runs { IfOk result (λ r. IsRoomFor (length (union_of own.now.undisputed.items own.now.disputed.items)
-            + length (union_of others.now.undisputed.items others.now.disputed.items)) r.runs) }
+            → length (notes_of others.now) ≤ vec_capacity r.others) }
+        ensures lists { IfOk result (λ r. AreRoomFor (length (notes_of own.now) + length (notes_of others.now)) r.lists) }
+        ensures runs { IfOk result (λ r. IsRoomFor (length (notes_of own.now) + length (notes_of others.now)) r.runs) }
     {
         let count = own.len().checked_add(others.len()).ok_or(AllocError)?;
         Ok(Room {
             own: own.list_room(alloc)?,
             others: others.list_room(alloc)?,
-            parts: NoteLists::with_room(alloc, count)?,
+            lists: NoteLists::with_room(alloc, count)?,
             runs: Vec::with_capacity(alloc, count)?,
         })
     }

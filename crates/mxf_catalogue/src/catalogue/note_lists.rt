@@ -4,10 +4,10 @@ ghost use Rattle.std.specs.Prelude.{vec_len, vec_capacity, IsTrue, IfOk, OnOk};
 ghost use Rattle.mxf_klv.specs.Parts.{NoteParts};
 ghost use Rattle.mxf_klv.specs.Rising.{In};
 ghost use Rattle.mxf_klv.specs.Note.{end_of, head_note};
-ghost use Rattle.mxf_catalogue.specs.Content.{AreReduced, IsContent, has_note, reduced_union, reduced_with, union_of};
+ghost use Rattle.mxf_catalogue.specs.Content.{IsContent, has_note, reduced_union, reduced_with};
 ghost use Rattle.mxf_catalogue.specs.Covers.{IsCover};
 ghost use Rattle.mxf_catalogue.specs.Disputes.{SharesByte, whole_notes};
-ghost use Rattle.mxf_catalogue.specs.NoteLists.{AreNoteLists, AreKeptLists, AreCatalogueFields, touching};
+ghost use Rattle.mxf_catalogue.specs.NoteLists.{AreCatalogueOf, AreInParts, AreKept, notes_of, touching};
 ghost use Rattle.mxf_catalogue.specs.Rooms.{AreRoomFor, HaveRoom, HaveRoomFor, HoldSame, TakeRoomOfOne};
 
 use super::change::Offsets;
@@ -41,11 +41,9 @@ impl NoteLists {
         }
     }
 
-    /// Equal parts, in new memory.
+    /// Equal lists, in new memory.
     pub fn copy(&self, alloc: Global) -> Result<NoteLists, OutOfMemory>
-        ensures undisputed { IfOk result (λ p. p.undisputed.items ≡ self.now.undisputed.items) }
-        ensures disputed { IfOk result (λ p. p.disputed.items ≡ self.now.disputed.items) }
-        ensures disputed_spans { IfOk result (λ p. p.disputed_spans.items ≡ self.now.disputed_spans.items) }
+        ensures { IfOk result (HoldSame self.now) }
     {
         Ok(NoteLists {
             undisputed: copies_of(alloc, &self.undisputed)?,
@@ -54,19 +52,18 @@ impl NoteLists {
         })
     }
 
-    /// Whether one of the parts has the note.
+    /// Whether one of the lists has the note.
     pub fn have(&self, note: &Note) -> bool
-        requires { AreNoteLists self.now.undisputed.items self.now.disputed.items }
-        ensures { IsTrue result ↔ In note.now (union_of self.now.undisputed.items self.now.disputed.items) }
+        requires { AreInParts self.now }
+        ensures { IsTrue result ↔ In note.now (notes_of self.now) }
     {
         is_in(&self.undisputed, note) || is_in(&self.disputed, note)
     }
 
     /// The greatest end of a note, in bytes, be it claimed by a head; 0 where there is no note.
     pub fn end(&self) -> u64
-        requires { AreKeptLists self.now.undisputed.items self.now.disputed.items self.now.disputed_spans.items }
-        ensures { (bound : ℕ) → result ≤ bound
-            ↔ ((n : NoteParts) → In n (union_of self.now.undisputed.items self.now.disputed.items) → end_of n ≤ bound) }
+        requires { AreKept self.now }
+        ensures { (bound : ℕ) → result ≤ bound ↔ ((n : NoteParts) → In n (notes_of self.now) → end_of n ≤ bound) }
     {
         let disputed = cover::last_end(&self.disputed_spans);
         last_end(&self.undisputed).max(disputed)
@@ -74,25 +71,23 @@ impl NoteLists {
 
     /// Whether all notes have ended at the offset, in bytes, or below.
     pub fn end_by(&self, offset: u64) -> bool
-        requires { AreKeptLists self.now.undisputed.items self.now.disputed.items self.now.disputed_spans.items }
-        ensures { IsTrue result
-            ↔ ((n : NoteParts) → In n (union_of self.now.undisputed.items self.now.disputed.items)
-            → end_of n ≤ offset) }
+        requires { AreKept self.now }
+        ensures { IsTrue result ↔ ((n : NoteParts) → In n (notes_of self.now) → end_of n ≤ offset) }
     {
         self.end() <= offset
     }
 
-    /// Whether one of the parts has the note, or a note of its packet that was read whole, where it is a head.
+    /// Whether one of the lists has the note, or a note of its packet that was read whole, where it is a head.
     pub fn tell(&self, note: &Note) -> bool
-        requires { AreNoteLists self.now.undisputed.items self.now.disputed.items }
-        ensures { IsTrue result ↔ has_note (union_of self.now.undisputed.items self.now.disputed.items) note.now }
+        requires { AreInParts self.now }
+        ensures { IsTrue result ↔ has_note (notes_of self.now) note.now }
     {
         tell(&self.undisputed, note) || tell(&self.disputed, note)
     }
 
     /// Makes room for a new note and for those that it moves; the answer is the offsets of those that are no heads.
     pub fn make_room(&mut self, note: &Note) -> Result<Offsets, AllocError>
-        requires { AreNoteLists self.old.undisputed.items self.old.disputed.items }
+        requires { AreInParts self.old }
         ensures same { HoldSame self.old self.new }
         ensures moved { IfOk result (λ o. o ≡ map (λ n. n.offset) (whole_notes
             (touching note.now self.old.undisputed.items))) }
@@ -107,15 +102,11 @@ impl NoteLists {
         Ok(moved)
     }
 
-    /// Whether a note shares no byte with those of the parts.
+    /// Whether a note shares no byte with those of the lists.
     fn are_apart_from(&self, note: &Note) -> bool
-        requires { AreKeptLists self.now.undisputed.items self.now.disputed.items self.now.disputed_spans.items }
-        ensures far { IsTrue result → (n : NoteParts) → In n (union_of self.now.undisputed.items
-            self.now.disputed.items)
-            → SharesByte note.now n → ⊥ }
-        ensures near { result ≡ false
-            → ((n : NoteParts) × In n (union_of self.now.undisputed.items self.now.disputed.items)
-            × SharesByte note.now n) }
+        requires { AreKept self.now }
+        ensures far { IsTrue result → (n : NoteParts) → In n (notes_of self.now) → SharesByte note.now n → ⊥ }
+        ensures near { result ≡ false → ((n : NoteParts) × In n (notes_of self.now) × SharesByte note.now n) }
     {
         touched(&self.undisputed, note).is_empty()
             && !meets(&self.disputed_spans, note.offset(), note.end() - 1)
@@ -123,13 +114,11 @@ impl NoteLists {
 
     /// Puts a note that begins where all others have ended, or above, behind them. There is room for it.
     pub fn append(&mut self, note: Note)
-        requires kept { AreKeptLists self.old.undisputed.items self.old.disputed.items self.old.disputed_spans.items }
-        requires above { (n : NoteParts) → In n (union_of self.old.undisputed.items self.old.disputed.items)
-            → end_of n ≤ note.offset }
+        requires kept { AreKept self.old }
+        requires above { (n : NoteParts) → In n (notes_of self.old) → end_of n ≤ note.offset }
         requires room { vec_len self.old.undisputed < vec_capacity self.old.undisputed }
-        ensures kept { AreKeptLists self.new.undisputed.items self.new.disputed.items self.new.disputed_spans.items }
-        ensures content { union_of self.new.undisputed.items self.new.disputed.items
-            ≡ reduced_with note (union_of self.old.undisputed.items self.old.disputed.items) }
+        ensures kept { AreKept self.new }
+        ensures content { notes_of self.new ≡ reduced_with note (notes_of self.old) }
         ensures undisputed_len { vec_len self.new.undisputed ≤ vec_len self.old.undisputed + 1 }
         ensures disputed { self.new.disputed ≡ self.old.disputed }
         ensures disputed_spans { self.new.disputed_spans ≡ self.old.disputed_spans }
@@ -140,14 +129,13 @@ impl NoteLists {
         self.undisputed.push_reserved(note);
     }
 
-    /// Puts a new note into the parts, which have room for it and for what it moves.
+    /// Puts a new note into the lists, which have room for it and for what it moves.
     pub fn put(&mut self, note: Note)
-        requires kept { AreKeptLists self.old.undisputed.items self.old.disputed.items self.old.disputed_spans.items }
-        requires new { has_note (union_of self.old.undisputed.items self.old.disputed.items) note → ⊥ }
+        requires kept { AreKept self.old }
+        requires new { has_note (notes_of self.old) note → ⊥ }
         requires room { HaveRoomFor note self.old }
-        ensures kept { AreKeptLists self.new.undisputed.items self.new.disputed.items self.new.disputed_spans.items }
-        ensures content { union_of self.new.undisputed.items self.new.disputed.items
-            ≡ reduced_with note (union_of self.old.undisputed.items self.old.disputed.items) }
+        ensures kept { AreKept self.new }
+        ensures content { notes_of self.new ≡ reduced_with note (notes_of self.old) }
         ensures room { TakeRoomOfOne self.old self.new }
     {
         // What is held is a note, which ends where a packet may.
@@ -168,12 +156,11 @@ impl NoteLists {
 
     /// Puts a new note in the place of its head. The spans of both are one, so nothing else changes.
     fn put_in_place(&mut self, note: Note)
-        requires kept { AreKeptLists self.old.undisputed.items self.old.disputed.items self.old.disputed_spans.items }
-        requires new { has_note (union_of self.old.undisputed.items self.old.disputed.items) note → ⊥ }
-        requires head { In (head_note note) (union_of self.old.undisputed.items self.old.disputed.items) }
-        ensures kept { AreKeptLists self.new.undisputed.items self.new.disputed.items self.new.disputed_spans.items }
-        ensures content { union_of self.new.undisputed.items self.new.disputed.items
-            ≡ reduced_with note (union_of self.old.undisputed.items self.old.disputed.items) }
+        requires kept { AreKept self.old }
+        requires new { has_note (notes_of self.old) note → ⊥ }
+        requires head { In (head_note note) (notes_of self.old) }
+        ensures kept { AreKept self.new }
+        ensures content { notes_of self.new ≡ reduced_with note (notes_of self.old) }
         ensures room { TakeRoomOfOne self.old self.new }
     {
         // What is held is a note.
@@ -185,7 +172,7 @@ impl NoteLists {
         }
     }
 
-    /// Empty parts with room for so many notes.
+    /// Empty lists with room for so many notes.
     pub fn with_room(alloc: Global, count: usize) -> Result<NoteLists, AllocError>
         ensures { IfOk result (λ p. AreRoomFor count p) }
     {
@@ -206,41 +193,31 @@ impl NoteLists {
         self.disputed_spans.reserve(count)
     }
 
-    /// Puts notes into the parts, and their spans among the runs, all of which have room. Where the notes stand above
+    /// Puts notes into the lists, and their spans among the runs, all of which have room. Where the notes stand above
     /// all that is there, each takes a few binary searches.
     pub fn put_all(&mut self, runs: &mut Vec<Run>, notes: MergedNotes)
-        requires whole { AreCatalogueFields self.old.undisputed.items self.old.disputed.items
-            self.old.disputed_spans.items
-            runs.old.items }
+        requires whole { AreCatalogueOf self.old runs.old.items }
         requires cover { IsCover runs.old.items }
         requires room { HaveRoom (length notes) self.old }
         requires runs_room { vec_len runs.old + length notes ≤ vec_capacity runs.old }
-        ensures whole { AreCatalogueFields self.new.undisputed.items self.new.disputed.items
-            self.new.disputed_spans.items
-            runs.new.items }
+        ensures whole { AreCatalogueOf self.new runs.new.items }
         ensures cover { IsCover runs.new.items }
-        ensures content { union_of self.new.undisputed.items self.new.disputed.items
-            ≡ reduced_union (union_of self.old.undisputed.items self.old.disputed.items) notes }
+        ensures content { notes_of self.new ≡ reduced_union (notes_of self.old) notes }
     {
         for note in notes {
             self.put_any(runs, note);
         }
     }
 
-    /// Puts a note, held or new, into the parts, and its span among the runs.
+    /// Puts a note, held or new, into the lists, and its span among the runs.
     fn put_any(&mut self, runs: &mut Vec<Run>, note: Note)
-        requires whole { AreCatalogueFields self.old.undisputed.items self.old.disputed.items
-            self.old.disputed_spans.items
-            runs.old.items }
+        requires whole { AreCatalogueOf self.old runs.old.items }
         requires cover { IsCover runs.old.items }
         requires room { HaveRoom 1 self.old }
         requires runs_room { vec_len runs.old < vec_capacity runs.old }
-        ensures whole { AreCatalogueFields self.new.undisputed.items self.new.disputed.items
-            self.new.disputed_spans.items
-            runs.new.items }
+        ensures whole { AreCatalogueOf self.new runs.new.items }
         ensures cover { IsCover runs.new.items }
-        ensures content { union_of self.new.undisputed.items self.new.disputed.items
-            ≡ reduced_with note (union_of self.old.undisputed.items self.old.disputed.items) }
+        ensures content { notes_of self.new ≡ reduced_with note (notes_of self.old) }
         ensures room { TakeRoomOfOne self.old self.new }
         ensures runs_len { vec_len runs.new ≤ vec_len runs.old + 1 }
         ensures runs_capacity { vec_capacity runs.new ≡ vec_capacity runs.old }
@@ -263,20 +240,19 @@ impl NoteLists {
         self.put(note);
     }
 
-    /// The number of notes in both parts.
+    /// The number of notes in both lists.
     pub fn len(&self) -> usize
-        requires { AreNoteLists self.now.undisputed.items self.now.disputed.items }
-        ensures { result ≡ length (union_of self.now.undisputed.items self.now.disputed.items) }
+        requires { AreInParts self.now }
+        ensures { result ≡ length (notes_of self.now) }
     {
         self.undisputed.len() + self.disputed.len()
     }
 
     /// An empty list with the room that [`into_notes`](NoteLists::into_notes) asks for: none where nothing is disputed.
     pub fn list_room(&self, alloc: Global) -> Result<Vec<Note>, AllocError>
-        requires { AreNoteLists self.now.undisputed.items self.now.disputed.items }
+        requires { AreInParts self.now }
         ensures empty { IfOk result (λ room. room.items ≡ []) }
-        ensures room { IfOk result (λ room. self.now.disputed.items ≢ []
-            → length (union_of self.now.undisputed.items self.now.disputed.items) ≤ vec_capacity room) }
+        ensures room { IfOk result (λ room. self.now.disputed.items ≢ [] → length (notes_of self.now) ≤ vec_capacity room) }
     {
         if self.disputed.is_empty() {
             return Ok(Vec::new(alloc));
@@ -284,14 +260,13 @@ impl NoteLists {
         Vec::with_capacity(alloc, self.len())
     }
 
-    /// The notes of both parts, in their order. They are moved into an empty list that has room for them, but where
+    /// The notes of both lists, in their order. They are moved into an empty list that has room for them, but where
     /// nothing is disputed.
     pub fn into_notes(self, room: Vec<Note>) -> Vec<Note>
-        requires parts { AreNoteLists self.undisputed.items self.disputed.items }
+        requires lists { AreInParts self }
         requires empty { room.items ≡ [] }
-        requires room { self.disputed.items ≢ []
-            → length (union_of self.undisputed.items self.disputed.items) ≤ vec_capacity room }
-        ensures notes { result.items ≡ union_of self.undisputed.items self.disputed.items }
+        requires room { self.disputed.items ≢ [] → length (notes_of self) ≤ vec_capacity room }
+        ensures notes { result.items ≡ notes_of self }
         ensures content { IsContent result.items }
     {
         if self.disputed.is_empty() {
@@ -300,7 +275,7 @@ impl NoteLists {
         merged(room, self.undisputed, self.disputed)
     }
 
-    /// Whether all notes of other parts stand above those of these.
+    /// Whether all notes of other lists stand above those of these.
     pub fn stand_below(&self, others: &NoteLists) -> bool {
         let Some(first) = others.first() else {
             return true;
@@ -308,7 +283,7 @@ impl NoteLists {
         is_below(self.undisputed.last(), first) && is_below(self.disputed.last(), first)
     }
 
-    /// The first note of both parts.
+    /// The first note of both lists.
     fn first(&self) -> Option<&Note> {
         match (self.undisputed.first(), self.disputed.first()) {
             (Some(undisputed), Some(disputed)) => Some(undisputed.min(disputed)),

@@ -41,9 +41,9 @@ returns-then-end_by-clause-repeated c =
 pub returns-then-end_by-clause-moved : goal.returns-then-end_by-clause-moved
 returns-then-end_by-clause-moved c =
     let n = c.args.note in
-    let parts = c.self.inside.parts in
+    let lists = c.self.inside.lists in
     let o = c.offset.ensures.offset in
-    let none = above_moves_none n parts.undisputed.items parts.disputed.items c.self.invariant.kept.parts
+    let none = above_moves_none n lists.undisputed.items lists.disputed.items c.self.invariant.kept.parts
     c.self.invariant.kept.reduced (λ m h.
     let l : end_of m ≤ c.offset.result = c.end_by.ensures.0 c.if-end_by.true m h in omega (arith, l, o))
     ∙ ap (moved_by n) c.self.view_is in
@@ -52,9 +52,9 @@ returns-then-end_by-clause-moved c =
 
 pub returns-then-tell-clause-added : goal.returns-then-tell-clause-added
 returns-then-tell-clause-added c =
-    let parts = c.self.inside.parts in
+    let lists = c.self.inside.lists in
     let all = subst IsCatalogue c.self.view_is
-    (union_is parts.undisputed.items parts.disputed.items c.self.invariant.kept.parts) in
+    (union_is lists.undisputed.items lists.disputed.items c.self.invariant.kept.parts) in
     let held = subst (λ (l : List NoteParts). has_note l c.args.note) c.self.view_is
     (c.tell.ensures.0 c.if-tell.true) in
     let red = subst AreReduced c.self.view_is c.self.invariant.kept.reduced in
@@ -65,10 +65,10 @@ returns-then-tell-clause-history c h e = returns-then-tell-clause-added c ∙ ap
 
 pub invariant_of-self-2 : goal.invariant_of-self-2
 invariant_of-self-2 c =
-    let parts = c.self.inside.parts in
+    let lists = c.self.inside.lists in
     let old = c.self.inside.spans in
-    let cs = parts.undisputed.items in
-    let ds = parts.disputed.items in
+    let cs = lists.undisputed.items in
+    let ds = lists.disputed.items in
     let new = union_of c.put.new.self.undisputed.items c.put.new.self.disputed.items in
     let items : union_of c.make_room.new.self.undisputed.items c.make_room.new.self.disputed.items ≡ union_of cs ds =
     λ i. union_of (c.in-Ok.ensures.same.undisputed i) (c.in-Ok.ensures.same.disputed i) in
@@ -86,8 +86,8 @@ invariant_of-self-2 c =
 pub returns-clause-moved : goal.returns-clause-moved
 returns-clause-moved c =
     let n = c.args.note in
-    let cs = c.self.inside.parts.undisputed.items in
-    let ds = c.self.inside.parts.disputed.items in
+    let cs = c.self.inside.lists.undisputed.items in
+    let ds = c.self.inside.lists.disputed.items in
     let fresh : has_note (union_of cs ds) n → ⊥ = λ h.
     let t = c.tell.ensures.1 h in
     let f = c.if-tell.false in cc (t, f) in
@@ -122,8 +122,8 @@ returns-then-end_by-clause-history c h e =
 
 pub returns-clause-added : goal.returns-clause-added
 returns-clause-added c =
-    let cs = c.self.inside.parts.undisputed.items in
-    let ds = c.self.inside.parts.disputed.items in
+    let cs = c.self.inside.lists.undisputed.items in
+    let ds = c.self.inside.lists.disputed.items in
     let items : union_of c.make_room.new.self.undisputed.items c.make_room.new.self.disputed.items ≡ union_of cs ds =
     λ i. union_of (c.in-Ok.ensures.same.undisputed i) (c.in-Ok.ensures.same.disputed i) in
     c.put.ensures.content ∙ ap (reduced_with c.args.note) (items ∙ c.self.view_is)

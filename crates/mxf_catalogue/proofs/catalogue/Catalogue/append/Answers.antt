@@ -10,14 +10,14 @@ use Rattle.mxf_catalogue.proofs.catalogue.Catalogue.append.Goals as goal
 
 pub append-requires-clause-above : goal.append-requires-clause-above
 append-requires-clause-above c n h =
-    let same = ap (λ l. union_of l c.self.inside.parts.disputed.items) c.in-Ok.ensures.items ∙ c.self.view_is in
+    let same = ap (λ l. union_of l c.self.inside.lists.disputed.items) c.in-Ok.ensures.items ∙ c.self.view_is in
     c.requires.above n (subst (λ (l : List NoteParts). In n l) same h)
 
 pub invariant_of-self-2 : goal.invariant_of-self-2
 invariant_of-self-2 c =
     let n = c.args.note in
-    let cs = c.self.inside.parts.undisputed.items in
-    let ds = c.self.inside.parts.disputed.items in
+    let cs = c.self.inside.lists.undisputed.items in
+    let ds = c.self.inside.lists.disputed.items in
     let old = c.self.inside.spans in
     let new = union_of c.append.new.self.undisputed.items c.append.new.self.disputed.items in
     let all = c.append.ensures.content ∙ ap (λ l. reduced_with n (union_of l ds)) c.in-Ok.ensures.items in

@@ -8,13 +8,13 @@ use Rattle.mxf_catalogue.proofs.catalogue.Catalogue.clear.Goals as goal
 
 pub returns-clause-notes : goal.returns-clause-notes
 returns-clause-notes c =
-    let parts = c.self.inside.parts in
+    let lists = c.self.inside.lists in
     c.of.ensures.notes ∙ ap whole_notes c.deref.ensures.value
-    ∙ clear_part parts.undisputed.items parts.disputed.items c.self.invariant.kept.parts ∙ ap clear_notes c.self.view_is
+    ∙ clear_part lists.undisputed.items lists.disputed.items c.self.invariant.kept.parts ∙ ap clear_notes c.self.view_is
 
 pub returns-clause-apart : goal.returns-clause-apart
 returns-clause-apart c =
-    let parts = c.self.inside.parts in
+    let lists = c.self.inside.lists in
     let all = subst IsCatalogue c.self.view_is
-    (union_is parts.undisputed.items parts.disputed.items c.self.invariant.kept.parts) in
+    (union_is lists.undisputed.items lists.disputed.items c.self.invariant.kept.parts) in
     subst (AreApart 0) (sym (returns-clause-notes c)) (AreApart-clear_notes c.args.self.now all.content)

@@ -49,23 +49,23 @@ none_there cs ds notes some offset p v same none n h =
 
 pub returns-in_err-note-clause-none : goal.returns-in_err-note-clause-none
 returns-in_err-note-clause-none c =
-    let parts = c.self.inside.parts in
-    rw c.from_residual.ensures (none_there parts.undisputed.items parts.disputed.items c.args.self.now
+    let lists = c.self.inside.lists in
+    rw c.from_residual.ensures (none_there lists.undisputed.items lists.disputed.items c.args.self.now
     c.deref.result.now
     c.args.offset c.self.invariant.kept.parts c.self.view_is c.deref.ensures.value c.in_err-note.ensures.none)
 
 pub returns-in_err-note-clause-first : goal.returns-in_err-note-clause-first
 returns-in_err-note-clause-first c =
-    let parts = c.self.inside.parts in
-    let none = none_there parts.undisputed.items parts.disputed.items c.args.self.now c.deref.result.now c.args.offset
+    let lists = c.self.inside.lists in
+    let none = none_there lists.undisputed.items lists.disputed.items c.args.self.now c.deref.result.now c.args.offset
     c.self.invariant.kept.parts c.self.view_is c.deref.ensures.value c.in_err-note.ensures.none in
     rw c.from_residual.ensures (sym (clear_at-lacked c.args.offset c.args.self.now none))
 
 pub returns-then-is_head-clause-none : goal.returns-then-is_head-clause-none
 returns-then-is_head-clause-none c =
-    let parts = c.self.inside.parts in
+    let lists = c.self.inside.lists in
     let m = c.in_ok-note.note.now in
-    head_alone parts.undisputed.items parts.disputed.items c.args.self.now m c.args.offset c.self.invariant.kept.parts
+    head_alone lists.undisputed.items lists.disputed.items c.args.self.now m c.args.offset c.self.invariant.kept.parts
     c.self.view_is (subst (In m) c.deref.ensures.value c.in_ok-note.ensures.found.0) c.in_ok-note.ensures.found.1
     (sym c.is_head.ensures ∙ c.if-is_head.true)
 
@@ -75,9 +75,9 @@ returns-then-is_head-clause-first c =
 
 pub returns-else-is_head-clause-found : goal.returns-else-is_head-clause-found
 returns-else-is_head-clause-found c =
-    let parts = c.self.inside.parts in
+    let lists = c.self.inside.lists in
     let m = c.in_ok-note.note.now in (
-      clear_there parts.undisputed.items parts.disputed.items c.args.self.now m c.self.invariant.kept.parts
+      clear_there lists.undisputed.items lists.disputed.items c.args.self.now m c.self.invariant.kept.parts
           c.self.view_is
           (subst (In m) c.deref.ensures.value c.in_ok-note.ensures.found.0)
           (is_whole m.whole (sym c.is_head.ensures ∙ c.if-is_head.false)),

@@ -9,23 +9,23 @@ use Rattle.mxf_catalogue.proofs.catalogue.Catalogue.clear_within.Goals as goal
 
 pub within-requires-clause-apart : goal.within-requires-clause-apart
 within-requires-clause-apart c =
-    let parts = c.self.inside.parts in
-    subst StandApart (sym c.deref.ensures.value) (apart_of _ parts.disputed.items c.self.invariant.kept.parts)
+    let lists = c.self.inside.lists in
+    subst StandApart (sym c.deref.ensures.value) (apart_of _ lists.disputed.items c.self.invariant.kept.parts)
 
 pub returns-clause-notes : goal.returns-clause-notes
 returns-clause-notes c =
-    let parts = c.self.inside.parts in
+    let lists = c.self.inside.lists in
     c.of.ensures.notes ∙ ap whole_notes c.within.ensures
     ∙ sym (filter-both (lies_in c.args.start c.args.bytes) (λ n. n.whole) c.deref.result.now)
     ∙ ap (filter (lies_in c.args.start c.args.bytes)) (ap whole_notes c.deref.ensures.value
-    ∙ clear_part parts.undisputed.items parts.disputed.items c.self.invariant.kept.parts
+    ∙ clear_part lists.undisputed.items lists.disputed.items c.self.invariant.kept.parts
     ∙ ap clear_notes c.self.view_is)
 
 pub returns-clause-catalogue : goal.returns-clause-catalogue
 returns-clause-catalogue c =
-    let parts = c.self.inside.parts in
+    let lists = c.self.inside.lists in
     subst IsCatalogue c.self.view_is
-    (union_is parts.undisputed.items parts.disputed.items c.self.invariant.kept.parts)
+    (union_is lists.undisputed.items lists.disputed.items c.self.invariant.kept.parts)
 
 pub returns-clause-apart : goal.returns-clause-apart
 returns-clause-apart c =

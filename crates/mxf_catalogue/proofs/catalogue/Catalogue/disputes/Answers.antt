@@ -8,8 +8,8 @@ use Rattle.mxf_catalogue.proofs.catalogue.Catalogue.disputes.Goals as goal
 pub returns : goal.returns
 returns c =
     let n = c.args.note.now in
-    let parts = c.self.inside.parts in
-    let here = In-disputed_part parts.undisputed.items parts.disputed.items c.self.invariant.kept.parts n in
+    let lists = c.self.inside.lists in
+    let here = In-disputed_part lists.undisputed.items lists.disputed.items c.self.invariant.kept.parts n in
     let told = c.is_in.ensures in
     let there = λ (l : List NoteParts). In n l × IsDisputed n l in (
       λ h. subst there c.self.view_is (here.0 (subst (In n) c.deref.ensures.value (told.0 h))),

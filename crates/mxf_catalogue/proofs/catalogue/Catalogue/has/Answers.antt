@@ -8,7 +8,7 @@ use Rattle.mxf_catalogue.proofs.catalogue.Catalogue.has.Goals as goal
 pub returns-else-not-end_by : goal.returns-else-not-end_by
 returns-else-not-end_by c =
     let n = c.args.note.now in
-    let all = union_of c.self.inside.parts.undisputed.items c.self.inside.parts.disputed.items in
+    let all = union_of c.self.inside.lists.undisputed.items c.self.inside.lists.disputed.items in
     let f = c.if-not-end_by.false in
     let o = c.offset.ensures.offset in (
       λ t. absurd (cc (t)),

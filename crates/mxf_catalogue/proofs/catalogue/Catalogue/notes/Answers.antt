@@ -6,15 +6,15 @@ use Rattle.mxf_catalogue.proofs.catalogue.Catalogue.notes.Goals as goal
 
 pub returns-clause-catalogue : goal.returns-clause-catalogue
 returns-clause-catalogue c =
-    let parts = c.self.inside.parts in
-    subst IsCatalogue c.self.view_is (union_is parts.undisputed.items parts.disputed.items c.self.invariant.kept.parts)
+    let lists = c.self.inside.lists in
+    subst IsCatalogue c.self.view_is (union_is lists.undisputed.items lists.disputed.items c.self.invariant.kept.parts)
 
 pub returns-clause-bound : goal.returns-clause-bound
 returns-clause-bound c =
-    let parts = c.self.inside.parts in
+    let lists = c.self.inside.lists in
     let is = ap length (c.of.ensures ∙ (λ i. union_of (c.deref.ensures.value i) (c.deref-2.ensures.value i))) in
-    let both = length-parts parts.undisputed.items parts.disputed.items c.self.invariant.kept.parts in
-    omega (arith, is, both, parts.undisputed.ok, parts.disputed.ok, parts.undisputed.small, parts.disputed.small)
+    let both = length-parts lists.undisputed.items lists.disputed.items c.self.invariant.kept.parts in
+    omega (arith, is, both, lists.undisputed.ok, lists.disputed.ok, lists.undisputed.small, lists.disputed.small)
 
 pub returns-clause-reduced : goal.returns-clause-reduced
 returns-clause-reduced c = subst AreReduced c.self.view_is c.self.invariant.kept.reduced

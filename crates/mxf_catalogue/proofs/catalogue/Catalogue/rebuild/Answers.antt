@@ -13,17 +13,17 @@ into_notes-own-requires-clause-room c =
 
 pub returns-clause-merged : goal.returns-clause-merged
 returns-clause-merged c =
-    let parts = c.self.inside.parts in
+    let lists = c.self.inside.lists in
     let all = subst IsCatalogue c.self.view_is
-    (union_is parts.undisputed.items parts.disputed.items c.self.invariant.kept.parts) in
-    let none = c.in-Ok.ensures.parts in
+    (union_is lists.undisputed.items lists.disputed.items c.self.invariant.kept.parts) in
+    let none = c.in-Ok.ensures.lists in
     let own = c.into_notes-own.ensures.notes
     ∙ ap (λ (p : NoteLists). union_of p.undisputed.items p.disputed.items) c.replace.ensures.value ∙ c.self.view_is in
     let others = c.into_notes-others.ensures.notes ∙ c.other.view_is in
     let both = c.of-2.ensures.notes ∙ (λ i. union_of (own i) (others i)) in
     let red = subst AreReduced c.self.view_is c.self.invariant.kept.reduced in
-    let parts-2 = c.other.inside.parts in
+    let lists-2 = c.other.inside.lists in
     let more = subst IsCatalogue c.other.view_is
-    (union_is parts-2.undisputed.items parts-2.disputed.items c.other.invariant.kept.parts) in
+    (union_is lists-2.undisputed.items lists-2.disputed.items c.other.invariant.kept.parts) in
     c.put_all.ensures.content ∙ (λ i. reduced_union (union_of (none.undisputed.0 i) (none.disputed.0 i)) (both i))
     ∙ reduced_union-all c.args.self.now c.args.other all.content red more.content

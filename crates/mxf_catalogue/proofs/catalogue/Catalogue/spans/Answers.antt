@@ -9,5 +9,5 @@ returns-clause-spans c = subst (Covers c.self.inside.spans) c.self.view_is c.sel
 
 pub returns-clause-catalogue : goal.returns-clause-catalogue
 returns-clause-catalogue c =
-    let parts = c.self.inside.parts in
-    subst IsCatalogue c.self.view_is (union_is parts.undisputed.items parts.disputed.items c.self.invariant.kept.parts)
+    let lists = c.self.inside.lists in
+    subst IsCatalogue c.self.view_is (union_is lists.undisputed.items lists.disputed.items c.self.invariant.kept.parts)

@@ -5,7 +5,7 @@ use Rattle.mxf_catalogue.proofs.catalogue.Catalogue.undisputed.Goals as goal
 
 pub returns-clause-notes : goal.returns-clause-notes
 returns-clause-notes c =
-    let parts = c.self.inside.parts in
+    let lists = c.self.inside.lists in
     c.of.ensures ∙ c.deref.ensures.value
-    ∙ undisputed_part parts.undisputed.items parts.disputed.items c.self.invariant.kept.parts
+    ∙ undisputed_part lists.undisputed.items lists.disputed.items c.self.invariant.kept.parts
     ∙ ap undisputed_notes c.self.view_is

@@ -10,10 +10,10 @@ use Rattle.mxf_catalogue.proofs.catalogue.Catalogue.undisputed_at.Goals as goal
 
 pub returns : goal.returns
 returns c =
-    let parts = c.self.inside.parts in
+    let lists = c.self.inside.lists in
     let all = c.args.self.now in
     let searched : c.deref.result.now ≡ undisputed_notes all =
-    c.deref.ensures.value ∙ undisputed_part parts.undisputed.items parts.disputed.items c.self.invariant.kept.parts
+    c.deref.ensures.value ∙ undisputed_part lists.undisputed.items lists.disputed.items c.self.invariant.kept.parts
     ∙ ap undisputed_notes c.self.view_is in record {
       first = elim c.at_offset.result as (λ r. IfSome r (λ n. In n.now c.deref.result.now × (n.now.offset ≡
           c.args.offset))

@@ -9,8 +9,8 @@ use Rattle.mxf_catalogue.proofs.catalogue.CatalogueSemilattice.same.Goals as goa
 
 pub returns-then-eq-clause-members : goal.returns-then-eq-clause-members
 returns-then-eq-clause-members c =
-    let a = c.self.inside.parts in
-    let b = c.other.inside.parts in
+    let a = c.self.inside.lists in
+    let b = c.other.inside.lists in
     let first = (slice_eq-Decides same_note-Decides a.undisputed.items b.undisputed.items c.eq.result c.eq.ensures).0
     c.if-eq.true in
     let d = slice_eq-Decides same_note-Decides a.disputed.items b.disputed.items c.eq-then-eq.result
@@ -31,8 +31,8 @@ returns-then-eq-clause-members c =
 
 pub returns-then-eq-clause-list : goal.returns-then-eq-clause-list
 returns-then-eq-clause-list c =
-    let a = c.self.inside.parts in
-    let b = c.other.inside.parts in
+    let a = c.self.inside.lists in
+    let b = c.other.inside.lists in
     let first = (slice_eq-Decides same_note-Decides a.undisputed.items b.undisputed.items c.eq.result c.eq.ensures).0
     c.if-eq.true in
     let d = slice_eq-Decides same_note-Decides a.disputed.items b.disputed.items c.eq-then-eq.result
@@ -44,8 +44,8 @@ returns-then-eq-clause-list c =
 
 pub returns-else-eq-clause-members : goal.returns-else-eq-clause-members
 returns-else-eq-clause-members c =
-    let a = c.self.inside.parts in
-    let b = c.other.inside.parts in
+    let a = c.self.inside.lists in
+    let b = c.other.inside.lists in
     let d = slice_eq-Decides same_note-Decides a.undisputed.items b.undisputed.items c.eq.result c.eq.ensures in
     let back = same_parts a.undisputed.items a.disputed.items b.undisputed.items b.disputed.items
     c.self.invariant.kept.parts

@@ -16,11 +16,11 @@ last_end-requires-clause-apart c =
 
 pub returns : goal.returns
 returns c = λ bound.
-    let parts = c.args.self.now in
+    let lists = c.args.self.now in
     let ends : ℕ → List NoteParts → Type 0 = λ e notes. e ≤ bound ↔ ((n : NoteParts) → In n notes → end_of n ≤ bound) in
     let one = subst (ends c.last_end.result) c.deref-2.ensures.value (c.last_end.ensures bound) in
     let two = subst (λ (runs : List Run). c.last_end-disputed.result ≤ bound
     ↔ ((offset : ℕ) → LiesIn runs offset → offset < bound)) c.deref.ensures.value (c.last_end-disputed.ensures bound) in
-    subst (λ (e : ℕ). ends e (union_of parts.undisputed.items parts.disputed.items)) (sym c.max.ensures)
-    (end_of_parts parts.undisputed.items parts.disputed.items parts.disputed_spans.items
+    subst (λ (e : ℕ). ends e (union_of lists.undisputed.items lists.disputed.items)) (sym c.max.ensures)
+    (end_of_parts lists.undisputed.items lists.disputed.items lists.disputed_spans.items
     c.requires c.last_end.result c.last_end-disputed.result bound one two)

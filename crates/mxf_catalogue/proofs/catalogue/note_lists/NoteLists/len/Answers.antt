@@ -4,6 +4,6 @@ use Rattle.mxf_catalogue.proofs.catalogue.note_lists.NoteLists.len.Goals as goal
 
 pub returns : goal.returns
 returns c =
-    let parts = c.args.self.now in
-    let both = length-parts parts.undisputed.items parts.disputed.items c.requires in
-    omega (arith, both, c.len.ensures, c.len-2.ensures, parts.undisputed.ok.0, parts.disputed.ok.0)
+    let lists = c.args.self.now in
+    let both = length-parts lists.undisputed.items lists.disputed.items c.requires in
+    omega (arith, both, c.len.ensures, c.len-2.ensures, lists.undisputed.ok.0, lists.disputed.ok.0)
