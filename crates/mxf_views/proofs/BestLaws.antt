@@ -2,7 +2,7 @@
 use Rattle.mxf_views.proofs.Common.{◌≡◌, ◌<◌, ◌⊎◌, true, false, List, [], ◌∷◌, ◌++◌, Option, Some, None}
 use Rattle.mxf_views.proofs.Common.{refl, cond, append_assoc, append-nil, subst, ap, ◌∙◌, sym, inl, inr, arith}
 use Rattle.mxf_views.proofs.Common.{eqb-true, eq-eqb, ℕ, ◌↔◌, ◌&&◌, ◌==◌, nat_lt, is_some, ltb-true, ltb-false}
-use Rattle.mxf_views.proofs.Common.{and_from, and_parts, In, CopyInfo, best_of, preferred_of, standing, better}
+use Rattle.mxf_views.proofs.Common.{and_from, and_parts, In, CopyInfo, best_of, preferred_of, rank, better}
 use Rattle.mxf_views.proofs.Common.{is_candidate, is_above, IsBest, IsPreferred, or_cases, or_parts, and_cases}
 use Rattle.mxf_views.proofs.Common.{cases_order}
 use Rattle.mxf_views.specs.Copies.{IsNotAbove, IsCandidate}
@@ -22,33 +22,33 @@ candidate_iff c = (
 )
 
 above_says : (c b : CopyInfo) → is_above c (Some b) ≡ true
-    → (standing b < standing c) ⊎ ((standing b ≡ standing c) × (b.partition < c.partition))
+    → (rank b < rank c) ⊎ ((rank b ≡ rank c) × (b.partition < c.partition))
 above_says c b e =
-    let same = standing b == standing c in
+    let same = rank b == rank c in
     let low = nat_lt b.partition c.partition in
-    elim (or_cases (nat_lt (standing b) (standing c)) (same && low) e) [
-      | inl t ↦ inl (ltb-true (standing b) (standing c) t)
+    elim (or_cases (nat_lt (rank b) (rank c)) (same && low) e) [
+      | inl t ↦ inl (ltb-true (rank b) (rank c) t)
       | inr t ↦ (
           let p = and_parts same low t in
-          inr (eqb-true (standing b) (standing c) p.0, ltb-true b.partition c.partition p.1))
+          inr (eqb-true (rank b) (rank c) p.0, ltb-true b.partition c.partition p.1))
     ]
 
 not_above_says : (c b : CopyInfo) → is_above c (Some b) ≡ false → IsNotAbove c b
 not_above_says c b e =
-    let equal = standing b == standing c in
+    let equal = rank b == rank c in
     let low = nat_lt b.partition c.partition in
-    let o = or_parts (nat_lt (standing b) (standing c)) (equal && low) e in
-    elim (cases_order (standing c) (standing b)) [
+    let o = or_parts (nat_lt (rank b) (rank c)) (equal && low) e in
+    elim (cases_order (rank c) (rank b)) [
       | inl s ↦ elim (and_cases equal low o.1) [
-        | inl u ↦ (let w = eq-eqb (standing b) (standing c) (sym s) in absurd (cc (u, w)))
+        | inl u ↦ (let w = eq-eqb (rank b) (rank c) (sym s) in absurd (cc (u, w)))
         | inr u ↦ inr (s, ltb-false b.partition c.partition u)
       ]
       | inr (inl l) ↦ inl l
-      | inr (inr l) ↦ (let g = ltb-false (standing b) (standing c) o.0 in absurd (omega (arith, g, l)))
+      | inr (inr l) ↦ (let g = ltb-false (rank b) (rank c) o.0 in absurd (omega (arith, g, l)))
     ]
 
-through : (d b c : CopyInfo) → IsNotAbove d b → (standing b < standing c) ⊎
-    ((standing b ≡ standing c) × (b.partition < c.partition)) → IsNotAbove d c
+through : (d b c : CopyInfo) → IsNotAbove d b → (rank b < rank c) ⊎
+    ((rank b ≡ rank c) × (b.partition < c.partition)) → IsNotAbove d c
 through d b c (inl p) (inl q) = inl (omega arith)
 through d b c (inl p) (inr q) = let e = q.0 in inl (omega arith)
 through d b c (inr p) (inl q) = let e = p.0 in inl (omega arith)
@@ -67,7 +67,7 @@ best_takes seen best c p k a = record {
   best = λ d h t. elim ((In-end d c seen (seen ++ c ∷ []) refl).0 h) [
     | inl m ↦ below_new seen best c d p a m t
     | inr e ↦ inr
-        (ap standing e, let f = ap (λ (x : CopyInfo). x.partition) e in omega (arith, f))
+        (ap rank e, let f = ap (λ (x : CopyInfo). x.partition) e in omega (arith, f))
   ];
 }
 

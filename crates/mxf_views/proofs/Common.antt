@@ -75,7 +75,7 @@ pub use Rattle.mxf_views.specs.Copies.{AreSoMany, CopiesRise, CountsZone, IsBest
 pub use Rattle.mxf_views.specs.Copies.{IsPreferred, IsPrimerOf, IsSetKind, IsStart, IsStartFound, best_of, better}
 pub use Rattle.mxf_views.specs.Copies.{copies_among, copy_from, covered_of, has_metadata, is_above, is_candidate}
 pub use Rattle.mxf_views.specs.Copies.{is_fill, is_filled, is_primer, is_set, is_start, preface, prefaces_of}
-pub use Rattle.mxf_views.specs.Copies.{preferred_of, rank, sets_found, sets_from, standing, start_of, zone_of}
+pub use Rattle.mxf_views.specs.Copies.{preferred_of, rank, sets_found, sets_from, start_of, status_rank, zone_of}
 unfoldable pub use Rattle.mxf_views.specs.Copies.{copies_of, copy_of, is_fill_note, is_preface_note, is_readable_primer}
 unfoldable pub use Rattle.mxf_views.specs.Copies.{is_set_note, sets_of}
 pub use Rattle.mxf_views.specs.FindingCauses.{AtClear}

@@ -2,7 +2,7 @@
 use Rattle.mxf_views.proofs.Common.{◌≡◌, ℕ, ◌+◌, ◌<◌, ◌≤◌, true, false, cond, ◌&&◌, nat_lt, List, []}
 use Rattle.mxf_views.proofs.Common.{◌∷◌, Option, Some, None, IfSome, refl, cons_option, option_and_then, option_map}
 use Rattle.mxf_views.proofs.Common.{◌∙◌, ap, arith, size_of, PacketParts}
-use Rattle.mxf_views.proofs.Common.{notes_from, best_of, preferred_of, standing, PartitionParts, partition_read}
+use Rattle.mxf_views.proofs.Common.{notes_from, best_of, preferred_of, rank, PartitionParts, partition_read}
 use Rattle.mxf_views.proofs.Common.{read_pack, CopyInfo, better, is_above, is_candidate, CopyRead}
 use Rattle.mxf_views.proofs.Common.{after_fills, copies_alone, copies_read, copy_read, taken, whole_copy, from_lower}
 use Rattle.std.specs.Prelude.{fold}
@@ -65,7 +65,7 @@ better_same low None c h l =
     ]
 better_same low (Some best) c h l =
     ap (λ t. cond (is_candidate c && t) (Some c) (Some best))
-    (one_above (standing best) (standing c) best.partition c.partition (omega arith))
+    (one_above (rank best) (rank c) best.partition c.partition (omega arith))
 
 -- The better of two is below all that come later.
 best_below : (low : ℕ) (best : Option CopyInfo) (c : CopyInfo) → IfSome best (λ b. b.partition < low)

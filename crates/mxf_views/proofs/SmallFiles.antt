@@ -7,13 +7,13 @@ use Rattle.mxf_views.proofs.Common.{items_of, left_of, entries_of, Footer}
 use Rattle.mxf_views.proofs.Common.{SegmentAtParts, is_rip, place_by_segment, segments_read, partitions_read, read_pack}
 use Rattle.mxf_views.proofs.Common.{read_rip, read_segment, Agree, EndsWithFooter, HasMetadata, IsFooterPack}
 use Rattle.mxf_views.proofs.Common.{IsPartitionPack, IsWellFormed, IsFill, numbers, pack, PartitionParts}
-use Rattle.mxf_views.proofs.Common.{false≢true, or_parts, rank, IsHeaderPack, IsRandomIndexPack}
+use Rattle.mxf_views.proofs.Common.{false≢true, or_parts, status_rank, IsHeaderPack, IsRandomIndexPack}
 use Rattle.mxf_views.proofs.Common.{EndsWithRandomIndex, entry_of, primer, are_packets, is_pack_kind}
 use Rattle.mxf_klv.specs.declared.kinds.Status.TheVariants.{ClosedIncomplete, OpenComplete}
 use Rattle.mxf_views.specs.WorkedFiles.{h_file, n_file, preface, r_file, w_file}
 use Rattle.mxf_sets.proofs.PackKinds.{is_footer_kind, is_header_kind, packs}
 
-pub rank_below_4 : (status : Status) → rank status < 4
+pub rank_below_4 : (status : Status) → status_rank status < 4
 rank_below_4 OpenIncomplete = omega arith
 rank_below_4 OpenComplete = omega arith
 rank_below_4 ClosedIncomplete = omega arith

@@ -181,20 +181,20 @@ pub record IsStart (notes : List NoteParts) (end start : ℕ) : Type 0 where
 abbrev pub is_candidate : CopyInfo → Bool
 is_candidate c = is_some c.start && (c.prefaces == 1)
 
-abbrev pub rank : Status → ℕ
-rank OpenIncomplete = 0
-rank OpenComplete = 1
-rank ClosedIncomplete = 2
-rank ClosedComplete = 3
+abbrev pub status_rank : Status → ℕ
+status_rank OpenIncomplete = 0
+status_rank OpenComplete = 1
+status_rank ClosedIncomplete = 2
+status_rank ClosedComplete = 3
 
 -- How high a copy stands: all finished ones above all others, and then by the status of the partition.
-abbrev pub standing : CopyInfo → ℕ
-standing c = cond c.finished 4 0 + rank c.status
+abbrev pub rank : CopyInfo → ℕ
+rank c = cond c.finished 4 0 + status_rank c.status
 
 -- It stands above the other, or alike in a later partition; each stands above none.
 abbrev pub is_above : CopyInfo → Option CopyInfo → Bool
 is_above c None = true
-is_above c (Some d) = nat_lt (standing d) (standing c) || ((standing d == standing c) && nat_lt d.partition c.partition)
+is_above c (Some d) = nat_lt (rank d) (rank c) || ((rank d == rank c) && nat_lt d.partition c.partition)
 
 -- The copy or the best so far, whichever is preferred.
 abbrev pub better : Option CopyInfo → CopyInfo → Option CopyInfo
@@ -211,7 +211,7 @@ preferred_of copies = best_of None copies
 
 -- It stands below, or alike in a partition at or below.
 abbrev pub IsNotAbove : CopyInfo → CopyInfo → Type 0
-IsNotAbove d c = (standing d < standing c) ⊎ ((standing d ≡ standing c) × (d.partition ≤ c.partition))
+IsNotAbove d c = (rank d < rank c) ⊎ ((rank d ≡ rank c) × (d.partition ≤ c.partition))
 
 -- The copy has a start and exactly one Preface.
 pub record IsCandidate (c : CopyInfo) : Type 0 where

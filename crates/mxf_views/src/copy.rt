@@ -13,7 +13,7 @@ ghost use Rattle.mxf_views.specs.Copies.{CopiesRise, IsBest, IsCopy, IsPreferred
 ghost use Rattle.mxf_views.specs.declared.copy.CopyInfo.{CopyInfo};
 ghost use Rattle.std.specs.Iterator.{YieldsFirst, item_count};
 ghost use Rattle.mxf_catalogue.specs.Disputes.{clear_notes};
-ghost use Rattle.mxf_views.specs.Copies.{preferred_of, is_candidate, is_above, standing, copies_among, copy_from};
+ghost use Rattle.mxf_views.specs.Copies.{preferred_of, is_candidate, is_above, rank, copies_among, copy_from};
 ghost use Rattle.mxf_views.specs.Copies.{copy_of, covered_of, has_metadata, is_readable_primer, start_of, zone_of};
 ghost use Rattle.mxf_views.specs.Copies.{prefaces_of};
 
@@ -201,8 +201,8 @@ impl CopyInfo {
     }
 
     /// How high it stands: finished copies above all others, and then by the status of the partition.
-    fn standing(&self) -> u8
-        ensures { result ≡ standing self.now }
+    fn rank(&self) -> u8
+        ensures { result ≡ rank self.now }
     {
         let status = match self.status {
             Status::OpenIncomplete => 0,
@@ -219,8 +219,8 @@ impl CopyInfo {
     {
         match other {
             Some(other) => {
-                other.standing() < self.standing()
-                    || other.standing() == self.standing() && other.partition < self.partition
+                other.rank() < self.rank()
+                    || other.rank() == self.rank() && other.partition < self.partition
             }
             None => true,
         }

@@ -8,8 +8,8 @@ ghost use Rattle.mxf_sets.specs.Offset.{stream_offset};
 ghost use Rattle.mxf_sets.specs.declared.pack.part.PackPart.TheVariants.{Header};
 ghost use Rattle.mxf_klv.specs.declared.kinds.Kind.{Kind};
 ghost use Rattle.mxf_klv.specs.declared.kinds.Kind.TheVariants as kinds;
-ghost use Rattle.mxf_views.specs.Copies.{IsSetKind, is_candidate, is_fill, is_preface, is_primer, is_set, rank};
-ghost use Rattle.mxf_views.specs.Copies.{standing};
+ghost use Rattle.mxf_views.specs.Copies.{IsSetKind, is_candidate, is_fill, is_preface, is_primer, is_set, status_rank};
+ghost use Rattle.mxf_views.specs.Copies.{rank};
 ghost use Rattle.mxf_views.specs.Places.{is_segment};
 ghost use Rattle.mxf_views.specs.RandomIndex.{is_rip};
 ghost use Rattle.mxf_views.specs.Reading.{chain_read, copies_alone, copies_read, link_read_at, links_read};
@@ -102,9 +102,10 @@ pub fn an_indexed_file_is_read_from_the_front()
 /// primer packs, Prefaces, index table segments and random index packs, and which stream offsets segments give: of
 /// units of one size, of entries, and of entries with slices and position tables.
 pub fn shared_rules_are_these()
-    ensures statuses { (rank OpenIncomplete < rank OpenComplete)
-        × (rank OpenComplete < rank ClosedIncomplete) × (rank ClosedIncomplete < rank ClosedComplete) }
-    ensures finished { (c d : CopyInfo) → c.finished ≡ true → d.finished ≡ false → standing d < standing c }
+    ensures statuses { (status_rank OpenIncomplete < status_rank OpenComplete)
+        × (status_rank OpenComplete < status_rank ClosedIncomplete)
+        × (status_rank ClosedIncomplete < status_rank ClosedComplete) }
+    ensures finished { (c d : CopyInfo) → c.finished ≡ true → d.finished ≡ false → rank d < rank c }
     ensures candidates { (c : CopyInfo) → (is_candidate c ≡ true) ↔ ((is_some c.start ≡ true) × (c.prefaces ≡ 1)) }
     ensures sets { (is_set (kind_of linked_preface.key) ≡ true) × (is_set (kind_of storage.key) ≡ true)
         × (is_set (kind_of material.key) ≡ true) }

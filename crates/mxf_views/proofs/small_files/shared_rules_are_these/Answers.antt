@@ -1,5 +1,5 @@
 use Rattle.mxf_views.proofs.Common.{◌≡◌, ◌+◌, ◌<◌, ◌==◌, cond, is_some, refl, ap, arith, eq-eqb, eqb-true, item_at}
-use Rattle.mxf_views.proofs.Common.{items_of, left_of, standing, read_segment, and_from, and_parts, rank}
+use Rattle.mxf_views.proofs.Common.{items_of, left_of, rank, read_segment, and_from, and_parts, status_rank}
 use Rattle.mxf_views.proofs.KindLaws.{fill_kind, preface_kind, primer_kind, rip_kind, segment_kind, set_kind}
 use Rattle.mxf_views.proofs.SmallFiles.{rank_below_4}
 use Rattle.mxf_views.proofs.small_files.shared_rules_are_these.Goals as goal
@@ -9,9 +9,9 @@ unfolding read_segment item_at items_of left_of
 returns c = record {
   statuses = (omega arith, omega arith, omega arith);
   finished = λ c d f u.
-      let above : standing c ≡ 4 + rank c.status = ap (λ b. cond b 4 0 + rank c.status) f in
-      let below : standing d ≡ 0 + rank d.status = ap (λ b. cond b 4 0 + rank d.status) u in
-      let low : rank d.status < 4 = rank_below_4 d.status in
+      let above : rank c ≡ 4 + status_rank c.status = ap (λ b. cond b 4 0 + status_rank c.status) f in
+      let below : rank d ≡ 0 + status_rank d.status = ap (λ b. cond b 4 0 + status_rank d.status) u in
+      let low : status_rank d.status < 4 = rank_below_4 d.status in
       omega (arith, above, below, low);
   candidates = λ c. (
     (λ h. let p = and_parts (is_some c.start) (c.prefaces == 1) h in (p.0, eqb-true c.prefaces 1 p.1)),
