@@ -4,7 +4,7 @@ ghost use Rattle.mxf_klv.specs.Rising.{union};
 ghost use Rattle.mxf_views.specs.Codes.{finding, finding_cmp};
 
 use super::{Code, Finding, Findings};
-use mxf_klv::OutOfMemory;
+use mxf_klv::{OutOfMemory, sort_once};
 use std::alloc::Global;
 use std::marker::Model;
 
@@ -46,8 +46,7 @@ impl Collected {
     pub fn into_findings(mut self) -> Findings
         ensures { result ≡ union finding_cmp [] self }
     {
-        self.items.sort_unstable();
-        self.items.dedup();
+        sort_once(&mut self.items);
         Findings { items: self.items }
     }
 }
