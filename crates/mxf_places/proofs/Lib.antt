@@ -5,6 +5,5 @@ pub mod EndLaws
 pub mod OverLaws
 pub mod ZoneLaws
 pub mod ClaimLaws
-pub mod NumberLaws
 pub mod ByteLaws
 pub mod LoopLaws

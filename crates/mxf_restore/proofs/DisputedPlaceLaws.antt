@@ -5,7 +5,7 @@ use Rattle.std.specs.List.{list_any}
 use Rattle.std.specs.Ordering.{nat_cmp}
 use Rattle.std.specs.BTreeMap.{is_at}
 use Rattle.mxf_klv.proofs.Tests.{same_bool}
-use Rattle.mxf_places.proofs.NumberLaws.{same_test}
+use Rattle.std.specs.Cmp.{unsigned_ties}
 use Rattle.mxf_restore.specs.Plan.{first_by_place}
 use Rattle.mxf_restore.specs.declared.plan.DisputedPlace.{DisputedPlace}
 
@@ -29,7 +29,7 @@ not_seen : (place other : ℕ) (was now : Bool) → now ≡ cond (is_at (nat_cmp
     → (not (other == place) && not was) ≡ not now
 not_seen place other was now e =
     let same : is_at (nat_cmp place) other ≡ (other == place) =
-    sym (same_test place other) ∙ same_bool (place == other) (other == place)
+    sym (unsigned_ties place other) ∙ same_bool (place == other) (other == place)
     (λ t. eq-eqb other place (sym (eqb-true place other t))) (λ t. eq-eqb place other (sym (eqb-true other place t))) in
     by (other == place) was ∙ ap not (sym (e ∙ ap (λ b. cond b true was) same))
   where

@@ -1,17 +1,13 @@
 -- Orders and disputed places in their order.
-use Rattle.std.proofs.Common.{◌≡◌, ◌∙◌, ℕ, Bool, Option, None, Some, List, [], ◌∷◌, get_or, refl, sym, ap, subst}
+use Rattle.std.proofs.Common.{◌≡◌, ◌∙◌, ℕ, Option, None, Some, [], ◌∷◌, get_or, refl, sym, ap}
 use Rattle.std.specs.Cmp.{IsTotalOrder}
 use Rattle.std.specs.Cmp.Lexicographic.{options_total}
 use Rattle.std.specs.FinMap.{IsAntisymmetric, nat_cmp-IsAntisymmetric}
-use Rattle.std.specs.List.Retain.{DiffersFromLast, IsFiltered}
-use Rattle.std.specs.List.Sorted.{IsPermutation, IsSorted}
 use Rattle.std.specs.declared.cmp.Ordering.{Ordering}
 use Rattle.std.specs.declared.cmp.Ordering.TheVariants.{Equal}
 use Rattle.std.proofs.lemmas.Cmp.{nat_cmp_total, on_total, then_total}
-use Rattle.mxf_klv.proofs.SortedUnions.{in_order}
 use Rattle.mxf_klv.proofs.Tests.{ties}
-use Rattle.mxf_klv.specs.Rising.{union}
-use Rattle.std.specs.Ordering.{eq_by_cmp, is_eq, nat_cmp, ordering_then}
+use Rattle.std.specs.Ordering.{nat_cmp, ordering_then}
 use Rattle.std.specs.Option.{option_cmp}
 use Rattle.mxf_restore.specs.Plan.{disputed_place_cmp, order_cmp, reason_rank}
 use Rattle.mxf_places.specs.declared.reason.Reason.{Reason}
@@ -19,11 +15,7 @@ use Rattle.mxf_places.specs.declared.reason.Reason.TheVariants.{Header, Footer, 
 use Rattle.mxf_restore.specs.declared.plan.Order.{Order}
 use Rattle.mxf_restore.specs.declared.plan.DisputedPlace.{DisputedPlace}
 use Rattle.mxf_restore.specs.contracts.plan.OrderOrd.TheImpl as order_ord
-use Rattle.mxf_restore.specs.contracts.plan.OrderOrd.TheImpl.Laws as order_laws
-use Rattle.mxf_restore.specs.contracts.plan.OrderPartialEq.TheImpl as order_eq
 use Rattle.mxf_restore.specs.contracts.plan.DisputedPlaceOrd.TheImpl as disputed_place_ord
-use Rattle.mxf_restore.specs.contracts.plan.DisputedPlaceOrd.TheImpl.Laws as disputed_place_laws
-use Rattle.mxf_restore.specs.contracts.plan.DisputedPlacePartialEq.TheImpl as disputed_place_eq
 use Rattle.mxf_places.specs.contracts.reason.ReasonOrd.TheImpl as reason_ord
 
 reasons : (a b : Reason) → (reason_ord.ghosts).cmp a b ≡ nat_cmp (reason_rank a) (reason_rank b)
@@ -42,13 +34,13 @@ reasons Previous _ = refl
 reasons Gap Gap = refl
 reasons Gap _ = refl
 
-orders : (a b : Order) → (order_ord.ghosts).cmp a b ≡ order_cmp a b
+pub orders : (a b : Order) → (order_ord.ghosts).cmp a b ≡ order_cmp a b
 orders a b =
     ap (λ r. ordering_then r (ordering_then (nat_cmp a.start b.start)
     (ordering_then (option_cmp nat_cmp a.end b.end) (option_cmp nat_cmp a.source b.source))))
     (reasons a.reason b.reason)
 
-disputed_places : (a b : DisputedPlace) → (disputed_place_ord.ghosts).cmp a b ≡ disputed_place_cmp a b
+pub disputed_places : (a b : DisputedPlace) → (disputed_place_ord.ghosts).cmp a b ≡ disputed_place_cmp a b
 disputed_places a b =
     ap (λ r. ordering_then r (ordering_then (nat_cmp a.place b.place) (option_cmp nat_cmp a.source b.source)))
     (reasons a.reason b.reason)
@@ -110,26 +102,3 @@ pub disputed_place_total : IsTotalOrder disputed_place_cmp
 disputed_place_total =
     then_total (on_total (λ d. reason_rank d.reason) nat_cmp_total)
     (then_total (on_total (λ d. d.place) nat_cmp_total) (on_total (λ d. d.source) (options_total nat_cmp_total)))
-
--- ---- sorted, without what repeats the one before
-
-module _ {K : Type 0} (R S : K → K → Ordering) (E : K → K → Bool) (same : (x y : K) → R x y ≡ S x y)
-    (alike : (x y : K) → E x y ≡ eq_by_cmp R x y) (total : IsTotalOrder S) (one : IsAntisymmetric S) where
-  sorted_once : (xs ys zs : List K) → IsPermutation xs ys → IsSorted R ys
-      → IsFiltered (DiffersFromLast E) [] ys zs → zs ≡ union S [] xs
-  sorted_once xs ys zs p s f =
-      in_order S total one xs ys zs p (subst (λ C. IsSorted C ys) (λ i x y. same x y i) s)
-      (subst (λ C. IsFiltered (DiffersFromLast C) [] ys zs)
-      (λ i x y. (alike x y ∙ ap is_eq (same x y)) i) f)
-
-pub orders_once : (xs ys zs : List Order) → IsPermutation xs ys → IsSorted (order_ord.ghosts).cmp ys
-    → IsFiltered (DiffersFromLast (order_eq.ghosts).eq) [] ys zs → zs ≡ union order_cmp [] xs
-orders_once =
-    sorted_once (order_ord.ghosts).cmp order_cmp (order_eq.ghosts).eq orders order_laws.matches_eq-law order_total
-    one_order
-
-pub disputed_places_once : (xs ys zs : List DisputedPlace) → IsPermutation xs ys → IsSorted (disputed_place_ord.ghosts).cmp ys
-    → IsFiltered (DiffersFromLast (disputed_place_eq.ghosts).eq) [] ys zs → zs ≡ union disputed_place_cmp [] xs
-disputed_places_once =
-    sorted_once (disputed_place_ord.ghosts).cmp disputed_place_cmp (disputed_place_eq.ghosts).eq disputed_places disputed_place_laws.matches_eq-law disputed_place_total
-    one_disputed_place

@@ -14,7 +14,7 @@ ghost use Rattle.mxf_places.specs.Claims.{claims_of};
 ghost use Rattle.mxf_restore.specs.Pieces.{ArePieces, IsHole, closed_hole, cut_of, cuts_of, free_cut, holes_of};
 ghost use Rattle.mxf_restore.specs.Pieces.{is_inside, pieces_from, pieces_in, pieces_of};
 
-use mxf_klv::{OutOfMemory, below, up_to};
+use mxf_klv::{OutOfMemory, below, sort_once, up_to};
 use mxf_places::{Claim, Holdings};
 use std::alloc::Global;
 
@@ -71,8 +71,7 @@ fn cuts(alloc: Global, holdings: &Holdings<'_>, claims: &[Claim]) -> Result<Vec<
     ensures rising { IfOk result (λ v. IsRising nat_cmp v.items) }
 {
     let mut cuts = free_cuts(alloc, holdings, claims)?;
-    cuts.sort_unstable();
-    cuts.dedup();
+    sort_once(&mut cuts);
     Ok(cuts)
 }
 

@@ -15,7 +15,7 @@ ghost use Rattle.mxf_restore.specs.declared.plan.Order.{Order};
 
 use crate::disputed_place::found_disputed_places;
 use crate::order::found_orders;
-use mxf_klv::OutOfMemory;
+use mxf_klv::{OutOfMemory, sort_once};
 use mxf_places::{Claim, Holdings, Reason, claims};
 use mxf_views::Views;
 use std::alloc::Global;
@@ -116,8 +116,7 @@ impl Plan {
 fn in_order(mut orders: Vec<Order>) -> Vec<Order>
     ensures { result.items ≡ union order_cmp [] orders.items }
 {
-    orders.sort_unstable();
-    orders.dedup();
+    sort_once(&mut orders);
     orders
 }
 
@@ -125,8 +124,7 @@ fn in_order(mut orders: Vec<Order>) -> Vec<Order>
 fn disputed_places_in_order(mut disputed_places: Vec<DisputedPlace>) -> Vec<DisputedPlace>
     ensures { result.items ≡ union disputed_place_cmp [] disputed_places.items }
 {
-    disputed_places.sort_unstable();
-    disputed_places.dedup();
+    sort_once(&mut disputed_places);
     disputed_places
 }
 

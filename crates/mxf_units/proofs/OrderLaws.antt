@@ -1,27 +1,18 @@
 -- Places and parts in their order.
-use Rattle.std.proofs.Common.{◌≡◌, ◌∙◌, Bool, true, false, None, Some, List, [], refl, ap, subst}
+use Rattle.std.proofs.Common.{◌≡◌, ◌∙◌, true, false, None, Some, List, [], refl, ap}
 use Rattle.std.specs.Cmp.{IsTotalOrder, bool_cmp_total}
 use Rattle.std.specs.Cmp.Lexicographic.{options_total}
 use Rattle.std.specs.FinMap.{IsAntisymmetric, nat_cmp-IsAntisymmetric}
-use Rattle.std.specs.List.Retain.{DiffersFromLast, IsFiltered}
-use Rattle.std.specs.List.Sorted.{IsPermutation, IsSorted}
 use Rattle.std.specs.declared.cmp.Ordering.{Ordering}
 use Rattle.std.proofs.lemmas.Cmp.{nat_cmp_total, on_total, then_total}
-use Rattle.std.specs.Ordering.{bool_cmp, eq_by_cmp, is_eq}
+use Rattle.std.specs.Ordering.{bool_cmp}
 use Rattle.std.specs.Option.{option_cmp}
-use Rattle.mxf_klv.proofs.SortedUnions.{in_order}
 use Rattle.mxf_klv.proofs.Tests.{ties}
-use Rattle.mxf_klv.specs.Rising.{IsRising, IsRising-union, union}
+use Rattle.mxf_klv.specs.Rising.{IsRising, IsRising-union}
 use Rattle.mxf_units.specs.Streams.{in_order as places_in_order, place_cmp}
 use Rattle.mxf_units.specs.EssenceZones.{part_cmp, zone_cmp}
 use Rattle.mxf_units.specs.declared.essence_zone.part.StreamPart.{StreamPart}
 use Rattle.mxf_units.specs.declared.stream.StreamPlace.{StreamPlace}
-use Rattle.mxf_units.specs.contracts.stream.StreamPlaceOrd.TheImpl as place_ord
-use Rattle.mxf_units.specs.contracts.stream.StreamPlaceOrd.TheImpl.Laws as place_laws
-use Rattle.mxf_units.specs.contracts.stream.StreamPlacePartialEq.TheImpl as place_eq
-use Rattle.mxf_units.specs.contracts.essence_zone.part.StreamPartOrd.TheImpl as part_ord
-use Rattle.mxf_units.specs.contracts.essence_zone.part.StreamPartOrd.TheImpl.Laws as part_laws
-use Rattle.mxf_units.specs.contracts.essence_zone.part.StreamPartPartialEq.TheImpl as part_eq
 
 -- ---- each is one
 
@@ -80,29 +71,6 @@ part_total =
     then_total (on_total (λ p. p.body_sid) nat_cmp_total)
     (then_total (on_total (λ p. p.body_offset) nat_cmp_total)
     (then_total (on_total (λ p. p.zone) (options_total zone_total)) (on_total (λ p. p.partition) nat_cmp_total)))
-
--- ---- sorted, without what repeats the one before
-
-module _ {K : Type 0} (R S : K → K → Ordering) (E : K → K → Bool) (same : (x y : K) → R x y ≡ S x y)
-    (alike : (x y : K) → E x y ≡ eq_by_cmp R x y) (total : IsTotalOrder S) (one : IsAntisymmetric S) where
-  sorted_once : (xs ys zs : List K) → IsPermutation xs ys → IsSorted R ys
-      → IsFiltered (DiffersFromLast E) [] ys zs → zs ≡ union S [] xs
-  sorted_once xs ys zs p s f =
-      in_order S total one xs ys zs p (subst (λ C. IsSorted C ys) (λ i x y. same x y i) s)
-      (subst (λ C. IsFiltered (DiffersFromLast C) [] ys zs)
-      (λ i x y. (alike x y ∙ ap is_eq (same x y)) i) f)
-
-pub places_once : (xs ys zs : List StreamPlace) → IsPermutation xs ys → IsSorted (place_ord.ghosts).cmp ys
-    → IsFiltered (DiffersFromLast (place_eq.ghosts).eq) [] ys zs → zs ≡ union place_cmp [] xs
-places_once =
-    sorted_once (place_ord.ghosts).cmp place_cmp (place_eq.ghosts).eq (λ x y. refl) place_laws.matches_eq-law place_total
-    one_place
-
-pub parts_once : (xs ys zs : List StreamPart) → IsPermutation xs ys → IsSorted (part_ord.ghosts).cmp ys
-    → IsFiltered (DiffersFromLast (part_eq.ghosts).eq) [] ys zs → zs ≡ union part_cmp [] xs
-parts_once =
-    sorted_once (part_ord.ghosts).cmp part_cmp (part_eq.ghosts).eq (λ x y. refl) part_laws.matches_eq-law part_total
-    one_part
 
 -- Places in their order rise.
 pub places-rise : (xs : List StreamPlace) → IsRising place_cmp (places_in_order xs)

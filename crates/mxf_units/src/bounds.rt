@@ -10,7 +10,7 @@ ghost use Rattle.mxf_places.specs.Held.{end_of_file};
 ghost use Rattle.mxf_units.specs.EssenceZones.{bounds_of, is_one, is_open_place, names_before, open_place, rip_place_by};
 ghost use Rattle.mxf_units.specs.Streams.{least_above};
 
-use mxf_klv::{Note, OutOfMemory, up_to};
+use mxf_klv::{Note, OutOfMemory, sort_once, up_to};
 use mxf_places::{Claim, Holdings, claims};
 use mxf_sets::PartitionPack;
 use mxf_views::{RipView, Views};
@@ -30,8 +30,7 @@ pub(crate) fn bounds(alloc: Global, holdings: &Holdings<'_>) -> Result<Vec<u64>,
 pub(crate) fn rising(mut offsets: Vec<u64>) -> Vec<u64>
     ensures { result.items ≡ union nat_cmp [] offsets.items }
 {
-    offsets.sort_unstable();
-    offsets.dedup();
+    sort_once(&mut offsets);
     offsets
 }
 

@@ -3,6 +3,8 @@ ghost use Rattle.std.specs.Prelude.{◌≡◌, ◌&&◌, ◌||◌, ◌==◌, nat
 ghost use Rattle.mxf_klv.specs.Rising.{IsRising};
 ghost use Rattle.mxf_units.specs.Streams.{in_order, least_above, lesser, offset_in, offsets_in, place_cmp};
 
+use mxf_klv::sort_once;
+
 /// A place in an essence stream.
 #[derive(Clone, Copy, PartialEq, Eq, PartialOrd, Ord)]
 pub(crate) struct StreamPlace {
@@ -16,8 +18,7 @@ pub(crate) struct StreamPlace {
 pub(crate) fn in_order(mut places: Vec<StreamPlace>) -> Vec<StreamPlace>
     ensures { result.items ≡ in_order places.items }
 {
-    places.sort_unstable();
-    places.dedup();
+    sort_once(&mut places);
     places
 }
 

@@ -21,7 +21,7 @@ use crate::segments::{entry_of, place_of, segments_for};
 use crate::standing::UnitStanding;
 use crate::stream::StreamPlace;
 use crate::unit::{EditUnit, Extent};
-use mxf_klv::OutOfMemory;
+use mxf_klv::{OutOfMemory, sort_once};
 use mxf_places::Holdings;
 use mxf_sets::IndexEntry;
 use mxf_views::{SegmentAt, Views};
@@ -153,8 +153,7 @@ pub fn index_sids(alloc: Global, views: &Views) -> Result<Vec<u32>, OutOfMemory>
     ensures { IfOk result (λ v. v.items ≡ index_sids_of views.now) }
 {
     let mut index_sids = index_sids_in(alloc, views)?;
-    index_sids.sort_unstable();
-    index_sids.dedup();
+    sort_once(&mut index_sids);
     Ok(index_sids)
 }
 

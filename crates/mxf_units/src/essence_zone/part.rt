@@ -7,7 +7,7 @@ ghost use Rattle.mxf_units.specs.EssenceZones.{part_cmp, part_of, parts_of};
 
 use super::{EssenceZone, Evidence};
 use crate::standing::UnitStanding;
-use mxf_klv::OutOfMemory;
+use mxf_klv::{OutOfMemory, sort_once};
 use mxf_places::Holdings;
 use mxf_views::{PartitionAt, Views};
 use std::alloc::Global;
@@ -67,8 +67,7 @@ fn parts_in(
 fn falling(mut parts: Vec<StreamPart>) -> Vec<StreamPart>
     ensures { result.items ≡ reverse (union part_cmp [] parts.items) }
 {
-    parts.sort_unstable();
-    parts.dedup();
+    sort_once(&mut parts);
     parts.reverse();
     parts
 }

@@ -3,19 +3,12 @@ use Rattle.std.specs.Ordering.{nat_cmp}
 use Rattle.mxf_klv.specs.Rising.{union}
 use Rattle.mxf_restore.specs.Pieces.{cuts_of}
 use Rattle.mxf_restore.proofs.PieceLaws.{free_cuts_among, free_left}
-use Rattle.mxf_places.proofs.NumberLaws.{once_in_order}
 use Rattle.mxf_restore.proofs.piece.cuts.Goals as goal
 
 pub returns-clause-cuts : goal.returns-clause-cuts
 unfolding cuts_of
 returns-clause-cuts c =
     let notes = c.args.holdings.now in
-    let sorted = once_in_order _ _ _ c.sort_unstable.ensures.permutation c.sort_unstable.ensures.sorted
-    c.dedup.ensures.filtered in
-    sorted.0
+    c.sort_once.ensures.members
     ∙ ap (union nat_cmp []) (c.in_ok-cuts.ensures ∙ sym (free_left notes c.args.claims.now)
     ∙ ap (free_cuts_among notes) c.requires)
-
-pub returns-clause-rising : goal.returns-clause-rising
-returns-clause-rising c =
-    (once_in_order _ _ _ c.sort_unstable.ensures.permutation c.sort_unstable.ensures.sorted c.dedup.ensures.filtered).1

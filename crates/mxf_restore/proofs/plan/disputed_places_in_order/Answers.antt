@@ -1,6 +1,7 @@
-use Rattle.mxf_restore.proofs.PlanLaws.{disputed_places_once}
+use Rattle.std.proofs.Common.{◌∙◌, []}
+use Rattle.mxf_klv.specs.Rising.{union}
+use Rattle.mxf_restore.proofs.PlanLaws.{disputed_places}
 use Rattle.mxf_restore.proofs.plan.disputed_places_in_order.Goals as goal
 
 pub returns : goal.returns
-returns c =
-    disputed_places_once _ _ _ c.sort_unstable.ensures.permutation c.sort_unstable.ensures.sorted c.dedup.ensures.filtered
+returns c = c.sort_once.ensures.members ∙ λ i. union (λ x y. disputed_places x y i) [] c.args.disputed_places.items

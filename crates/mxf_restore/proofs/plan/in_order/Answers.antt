@@ -1,6 +1,7 @@
-use Rattle.mxf_restore.proofs.PlanLaws.{orders_once}
+use Rattle.std.proofs.Common.{◌∙◌, []}
+use Rattle.mxf_klv.specs.Rising.{union}
+use Rattle.mxf_restore.proofs.PlanLaws.{orders}
 use Rattle.mxf_restore.proofs.plan.in_order.Goals as goal
 
 pub returns : goal.returns
-returns c =
-    orders_once _ _ _ c.sort_unstable.ensures.permutation c.sort_unstable.ensures.sorted c.dedup.ensures.filtered
+returns c = c.sort_once.ensures.members ∙ λ i. union (λ x y. orders x y i) [] c.args.orders.items
