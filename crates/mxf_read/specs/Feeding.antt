@@ -1,5 +1,5 @@
 -- A piece whose bytes come in parts: what is known after those that came (this project's profile).
-use Rattle.std.specs.Prelude.{◌≡◌, ℕ, ◌<◌, List, [], ◌++◌, Option, None, Some}
+use Rattle.std.specs.Prelude.{◌≡◌, ℕ, ◌<◌, ◌≤◌, List, [], ◌++◌, length, take, Option, None, Some, Result, Ok, Err}
 use Rattle.mxf_klv.specs.KeyAndLength.{HasNoKeyAndLength}
 use Rattle.mxf_klv.specs.Piece.{end_after, notes_from}
 use Rattle.mxf_klv.specs.PieceReading.{IsOpen, packet_at, packets_in, rest_in, stop_of}
@@ -42,3 +42,14 @@ Feeds old new more = (offset : ℕ) (bytes : List ℕ) → Fed offset bytes old 
 abbrev pub Fails : Piece → Piece → List ℕ → Type 0
 Fails old new more = (offset : ℕ) (bytes : List ℕ) → Fed offset bytes old
     → (done : List ℕ) × (left : List ℕ) × (more ≡ done ++ left) × Knows offset (bytes ++ done) new
+
+-- Some bytes were taken from the front of these, so many in all.
+pub record HasTaken (old new : Piece) (bytes : List ℕ) (n : ℕ) : Type 0 where
+  pub some : 0 < n
+  pub room : n ≤ length bytes
+  pub fed : Feeds old new (take n bytes)
+
+-- The same; or memory was wanting, and no further packet was noted.
+abbrev pub TakesFront : {E : Type 0} → Piece → Piece → List ℕ → Result ℕ E → Type 0
+TakesFront old new bytes (Ok n) = HasTaken old new bytes n
+TakesFront old new bytes (Err e) = NotesNone old new

@@ -4,6 +4,5 @@ pub mod Feeding
 pub mod Reads
 pub mod Absorbs
 pub mod Ranges
-pub mod PartReads
 pub mod Levels
 pub mod Gathering

@@ -1,5 +1,5 @@
--- What reads come to, where their bytes are fed to a piece (this project's profile).
-use Rattle.std.specs.Prelude.{◌≡◌, ℕ, ◌<◌, ◌≤◌, ◌⊎◌, true, is_some, List, [], length, Option, None, Result, Ok, Err}
+-- What reads come to (this project's profile).
+use Rattle.std.specs.Prelude.{◌≡◌, ℕ, ◌<◌, ◌≤◌, ◌⊎◌, true, is_some, List, [], length, take, Option, None, Result, Ok, Err}
 use Rattle.std.specs.Io.KnownBytes.{Keeps, Consumes, IsAtEnd}
 use Rattle.mxf_read.specs.Feeding.{Fails, Feeds}
 use Rattle.mxf_read.specs.declared.piece.Piece.{Piece}
@@ -8,16 +8,12 @@ use Rattle.mxf_read.specs.declared.reading.Step.TheVariants.{Took, Ended, Interr
 use Rattle.mxf_read.specs.declared.reading.Cause.{Cause}
 use Rattle.mxf_read.specs.declared.reading.Cause.TheVariants as causes
 
--- One read: bytes were taken and fed, or the reader has ended, or nothing was taken; or memory was wanting among the
--- bytes taken.
-abbrev pub ReadsOnce : {E : Type 0} → Option (List ℕ) → Option (List ℕ) → Piece → Piece → ℕ → Result Step E → Type 0
-ReadsOnce old new p q room (Ok (Took n)) =
-    (taken : List ℕ) × (length taken ≡ n) × (0 < n) × (n ≤ room) × Consumes old new taken × Feeds p q taken
-ReadsOnce old new p q room (Ok Ended) = Consumes old new [] × IsAtEnd new × (q ≡ p)
-ReadsOnce old new p q room (Ok Interrupted) = Keeps old new × (q ≡ p)
-ReadsOnce old new p q room (Ok Failed) = Keeps old new × (q ≡ p)
-ReadsOnce old new p q room (Err e) =
-    (taken : List ℕ) × (length taken ≤ room) × Consumes old new taken × Fails p q taken
+-- One read: bytes were taken and stand at the front of the room, or the reader has ended, or nothing was taken.
+abbrev pub ReadsOnce : Option (List ℕ) → Option (List ℕ) → List ℕ → Step → Type 0
+ReadsOnce old new room (Took n) = (0 < n) × (n ≤ length room) × Consumes old new (take n room)
+ReadsOnce old new room Ended = Consumes old new [] × IsAtEnd new
+ReadsOnce old new room Interrupted = Keeps old new
+ReadsOnce old new room Failed = Keeps old new
 
 -- The bytes taken from a reader, at most so many.
 pub record Takes (old new : Option (List ℕ)) (limit : ℕ) (taken : List ℕ) : Type 0 where

@@ -35,7 +35,7 @@ pub(crate) struct Piece {
 
 impl Piece {
     ghost use Rattle.mxf_read.specs.Coming.{HasCome};
-    ghost use Rattle.mxf_read.specs.Feeding.{Fails, Fed, Feeds, IsFed, Knows, NotesNone};
+    ghost use Rattle.mxf_read.specs.Feeding.{Fails, Fed, Feeds, IsFed, Knows, NotesNone, TakesFront};
     ghost use Rattle.mxf_read.specs.Absorbs.{report_of};
 
     /// No byte of the piece at a file offset.
@@ -136,10 +136,7 @@ impl Piece {
         requires fed { IsFed self.old }
         requires goes_on { self.old.stop ≡ None }
         requires more { 0 < length bytes.now }
-        ensures some { IfOk result (λ n. 0 < n) }
-        ensures room { IfOk result (λ n. n ≤ length bytes.now) }
-        ensures fed { IfOk result (λ n. Feeds self.old self.new (take n bytes.now)) }
-        ensures err { OnErr result (NotesNone self.old self.new) }
+        ensures { TakesFront self.old self.new bytes.now result }
     {
         match self.value.take() {
             Some(value) => self.take_value(value, bytes),
@@ -154,10 +151,7 @@ impl Piece {
         requires goes_on { self.old.stop ≡ None }
         requires head { self.old.value ≡ None }
         requires more { 0 < length bytes.now }
-        ensures some { IfOk result (λ n. 0 < n) }
-        ensures room { IfOk result (λ n. n ≤ length bytes.now) }
-        ensures fed { IfOk result (λ n. Feeds self.old self.new (take n bytes.now)) }
-        ensures err { OnErr result (NotesNone self.old self.new) }
+        ensures { TakesFront self.old self.new bytes.now result }
     {
         if !self.head.is_empty() {
             return self.take_more_of_head(bytes);
@@ -178,10 +172,7 @@ impl Piece {
         requires goes_on { self.old.stop ≡ None }
         requires head { self.old.value ≡ None }
         requires more { 0 < length bytes.now }
-        ensures some { IfOk result (λ n. 0 < n) }
-        ensures room { IfOk result (λ n. n ≤ length bytes.now) }
-        ensures fed { IfOk result (λ n. Feeds self.old self.new (take n bytes.now)) }
-        ensures err { OnErr result (NotesNone self.old self.new) }
+        ensures { TakesFront self.old self.new bytes.now result }
     {
         let known = self.head.len();
         let count = bytes.len().min(GREATEST_HEAD - known);

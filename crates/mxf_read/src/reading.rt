@@ -29,31 +29,28 @@ pub(crate) enum Cause {
     ReadFault,
 }
 
-/// Reads once, as many bytes at most as there is room, and feeds them to the piece, which hasn't stopped. Nothing else
-/// reads.
-fn read_once<R: Read>(
-    piece: &mut Piece,
-    from: &mut R,
-    room: &mut [u8],
-    ticks: &mut ReadTicks,
-) -> Result<Step, OutOfMemory>
-    requires fed { IsFed piece.old }
-    requires goes_on { piece.old.stop ≡ None }
+/// Reads once, as many bytes at most as there is room.
+pub(crate) fn read_step<R: Read>(from: &mut R, room: &mut [u8]) -> Step
+    requires { 0 < length room.old }
+    ensures { ReadsOnce (R.remaining from.old) (R.remaining from.new) room.new result }
+{
+    match from.read(room) {
+        Ok(0) => Step::Ended,
+        Ok(count) => Step::Took(count),
+        Err(fault) if fault.kind() == ErrorKind::Interrupted => Step::Interrupted,
+        Err(_) => Step::Failed,
+    }
+}
+
+/// Reads once for a piece, which hasn't stopped, and counts it. Nothing else reads for a piece.
+fn read_once<R: Read>(_piece: &Piece, from: &mut R, room: &mut [u8], ticks: &mut ReadTicks) -> Step
+    requires goes_on { _piece.now.stop ≡ None }
     requires room { 0 < length room.old }
     ensures one { ticks.new.count ≡ ticks.old.count + 1 }
-    ensures bytes { ReadsOnce (R.remaining from.old) (R.remaining from.new) piece.old piece.new
-        (length room.old) result }
+    ensures bytes { ReadsOnce (R.remaining from.old) (R.remaining from.new) room.new result }
 {
     *ticks = ticks.next();
-    match from.read(room) {
-        Ok(0) => Ok(Step::Ended),
-        Ok(count) => {
-            piece.feed(&room[..count])?;
-            Ok(Step::Took(count))
-        }
-        Err(fault) if fault.kind() == ErrorKind::Interrupted => Ok(Step::Interrupted),
-        Err(_) => Ok(Step::Failed),
-    }
+    read_step(from, room)
 }
 
 /// Feeds the piece with at most `limit` bytes of the reader, until it stops. Interrupted reads are repeated, 1,024
@@ -75,16 +72,13 @@ pub(crate) fn read_all<R: Read>(
     'reads: while left > 0 && !piece.has_stopped() {
         let room = left.min(buffer.len() as u64) as usize;
         match read_once(piece, from, &mut buffer[..room], ticks) {
-            Ok(Step::Took(count)) => left -= count as u64,
-            Ok(Step::Ended) => return Ok(()),
-            Ok(Step::Interrupted) => {
-                if interruptions >= GREATEST_INTERRUPTIONS {
-                    return Err(Cause::ReadFault);
-                }
-                interruptions += 1;
-            }
-            Ok(Step::Failed) => return Err(Cause::ReadFault),
-            Err(OutOfMemory) => return Err(Cause::OutOfMemory),
+            Step::Took(count) => match piece.feed(&buffer[..count]) {
+                Ok(()) => left -= count as u64,
+                Err(OutOfMemory) => return Err(Cause::OutOfMemory),
+            },
+            Step::Ended => return Ok(()),
+            Step::Interrupted if interruptions < GREATEST_INTERRUPTIONS => interruptions += 1,
+            Step::Interrupted | Step::Failed => return Err(Cause::ReadFault),
         }
     }
     Ok(())

@@ -6,8 +6,8 @@ use Rattle.mxf_read.proofs.Feeding.{begun, head_whole}
 use Rattle.mxf_read.proofs.Reports.{nil_from}
 use Rattle.mxf_read.proofs.piece.Piece.take_head.Goals as goal
 
-pub returns-in_ok-go_on-in-Ok-clause-fed : goal.returns-in_ok-go_on-in-Ok-clause-fed
-returns-in_ok-go_on-in-Ok-clause-fed c =
+pub returns-in_ok-go_on-in-Ok : goal.returns-in_ok-go_on-in-Ok
+returns-in_ok-go_on-in-Ok c =
     let p = c.args.self.now in
     let bytes = c.args.bytes.now in
     let v = c.in_ok-value-in-Ok.value in
@@ -25,7 +25,14 @@ returns-in_ok-go_on-in-Ok-clause-fed c =
     let none : length p.head.items ≡ 0 = ap length empty in
     let used : 16 + c.from.result ≡ 16 + v.ber.width - length p.head.items =
     omega (arith, width, c.from.ensures, none) in
-    λ o m fed.
-    c.in_ok-go_on-in-Ok.ensures.fed o m (take (16 + c.from.result) bytes)
-    (record { notes = fed.knows.notes; at = fed.knows.at })
-    (begun o m bytes p v (16 + c.from.result) fed c.requires.goes_on c.requires.head now used made.offset made.none)
+    let below = now.below in
+    let room = now.room in
+    record {
+      some = omega arith;
+      room = omega (arith, room, used);
+      fed = λ o m fed.
+          c.in_ok-go_on-in-Ok.ensures.fed o m (take (16 + c.from.result) bytes)
+          (record { notes = fed.knows.notes; at = fed.knows.at })
+          (begun o m bytes p v (16 + c.from.result) fed c.requires.goes_on c.requires.head now used made.offset
+          made.none);
+    }

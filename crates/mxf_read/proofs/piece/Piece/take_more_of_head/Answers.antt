@@ -25,8 +25,8 @@ overflow_sub-result c =
     ap (λ (l : LengthParts). l.width) made.length ∙ sym c.width.ensures.width in
     omega (arith, below, width, c.from.ensures, c.len-known.ensures, p.head.ok.0)
 
-pub returns-in_ok-go_on-in-Ok-clause-some : goal.returns-in_ok-go_on-in-Ok-clause-some
-returns-in_ok-go_on-in-Ok-clause-some c =
+pub returns-in_ok-go_on-in-Ok : goal.returns-in_ok-go_on-in-Ok
+returns-in_ok-go_on-in-Ok c =
     let p = c.args.self.now in
     let v = c.in_ok-value-in-Ok.value in
     let made = c.in_ok-value-in-Ok.ensures in
@@ -37,72 +37,49 @@ returns-in_ok-go_on-in-Ok-clause-some c =
     c.requires.fed c.requires.goes_on c.requires.head c.deref.ensures.value items c.in-Ok.ensures.head made.key
     made.length in
     let below = now.below in
-    let width : v.ber.width ≡ c.width.result =
-    ap (λ (l : LengthParts). l.width) made.length ∙ sym c.width.ensures.width in
-    omega (arith, below, width, c.from.ensures, c.len-known.ensures, p.head.ok.0)
-
-pub returns-in_ok-go_on-in-Ok-clause-room : goal.returns-in_ok-go_on-in-Ok-clause-room
-returns-in_ok-go_on-in-Ok-clause-room c =
-    let p = c.args.self.now in
-    let v = c.in_ok-value-in-Ok.value in
-    let made = c.in_ok-value-in-Ok.ensures in
-    let items : c.extend_from_slice.new.self.items ≡ p.head.items ++ take c.min-count.result c.args.bytes.now =
-    c.in_ok-extend_from_slice.ensures.items in
-    let now : IsHeadNow p.head.items c.args.bytes.now v.key v.ber =
-    head_whole p c.args.bytes.now c.deref.result.now c.extend_from_slice.new.self.items _ c.min-count.result _ v
-    c.requires.fed c.requires.goes_on c.requires.head c.deref.ensures.value items c.in-Ok.ensures.head made.key
-    made.length in
-    let below = now.below in
-    let width : v.ber.width ≡ c.width.result =
-    ap (λ (l : LengthParts). l.width) made.length ∙ sym c.width.ensures.width in
     let room = now.room in
-    omega (arith, below, room, width, c.from.ensures, c.len-known.ensures, p.head.ok.0)
-
-pub returns-in_ok-go_on-in-Ok-clause-fed : goal.returns-in_ok-go_on-in-Ok-clause-fed
-returns-in_ok-go_on-in-Ok-clause-fed c =
-    let p = c.args.self.now in
-    let v = c.in_ok-value-in-Ok.value in
-    let made = c.in_ok-value-in-Ok.ensures in
-    let items : c.extend_from_slice.new.self.items ≡ p.head.items ++ take c.min-count.result c.args.bytes.now =
-    c.in_ok-extend_from_slice.ensures.items in
-    let now : IsHeadNow p.head.items c.args.bytes.now v.key v.ber =
-    head_whole p c.args.bytes.now c.deref.result.now c.extend_from_slice.new.self.items _ c.min-count.result _ v
-    c.requires.fed c.requires.goes_on c.requires.head c.deref.ensures.value items c.in-Ok.ensures.head made.key
-    made.length in
-    let below = now.below in
     let width : v.ber.width ≡ c.width.result =
     ap (λ (l : LengthParts). l.width) made.length ∙ sym c.width.ensures.width in
     let used = 16 + c.from.result - c.len-known.result in
     let is : used ≡ 16 + v.ber.width - length p.head.items =
     omega (arith, below, width, c.from.ensures, c.len-known.ensures, p.head.ok.0) in
-    λ o m fed.
-    c.in_ok-go_on-in-Ok.ensures.fed o m (take used c.args.bytes.now)
-    (record { notes = fed.knows.notes; at = fed.knows.at })
-    (begun o m c.args.bytes.now p v used fed c.requires.goes_on c.requires.head now is made.offset made.none)
+    record {
+      some = omega (arith, below, width, c.from.ensures, c.len-known.ensures, p.head.ok.0);
+      room = omega (arith, below, room, width, c.from.ensures, c.len-known.ensures, p.head.ok.0);
+      fed = λ o m fed.
+          c.in_ok-go_on-in-Ok.ensures.fed o m (take used c.args.bytes.now)
+          (record { notes = fed.knows.notes; at = fed.knows.at })
+          (begun o m c.args.bytes.now p v used fed c.requires.goes_on c.requires.head now is made.offset made.none);
+    }
 
-pub returns-then-not-may_go_on-clause-fed : goal.returns-then-not-may_go_on-clause-fed
-returns-then-not-may_go_on-clause-fed c =
+pub returns-then-not-may_go_on : goal.returns-then-not-may_go_on
+returns-then-not-may_go_on c =
     let p = c.args.self.now in
     let items : c.extend_from_slice.new.self.items ≡ p.head.items ++ take c.min-count.result c.args.bytes.now =
     c.in_ok-extend_from_slice.ensures.items in
     let lacks = lacks_head p c.deref.result.now c.extend_from_slice.new.self.items _ c.in-Err.stop c.deref.ensures.value
     items c.in-Err.ensures.none in
-    λ o m fed.
-    stopped o m _ p _ c.in-Err.stop fed c.requires.goes_on c.requires.head lacks
-    (λ t. let yes = c.may_go_on.ensures.1 t in absurd (cc (yes, c.if-not-may_go_on.true))) refl refl refl
+    let few = few_held p c.requires.fed c.requires.goes_on c.requires.head in
+    record {
+      some = omega (arith, few, c.len-known.ensures, p.head.ok.0, c.min-count.ensures, c.requires.more);
+      room = omega (arith, c.min-count.ensures);
+      fed = λ o m fed.
+          stopped o m _ p _ c.in-Err.stop fed c.requires.goes_on c.requires.head lacks
+          (λ t. let yes = c.may_go_on.ensures.1 t in absurd (cc (yes, c.if-not-may_go_on.true))) refl refl refl;
+    }
 
-pub returns-else-not-may_go_on-clause-some : goal.returns-else-not-may_go_on-clause-some
-returns-else-not-may_go_on-clause-some c =
-    let few = few_held c.args.self.now c.requires.fed c.requires.goes_on c.requires.head in
-    omega (arith, few, c.len-known.ensures, c.args.self.now.head.ok.0, c.min-count.ensures, c.requires.more)
-
-pub returns-else-not-may_go_on-clause-fed : goal.returns-else-not-may_go_on-clause-fed
-returns-else-not-may_go_on-clause-fed c =
+pub returns-else-not-may_go_on : goal.returns-else-not-may_go_on
+returns-else-not-may_go_on c =
     let p = c.args.self.now in
     let items : c.extend_from_slice.new.self.items ≡ p.head.items ++ take c.min-count.result c.args.bytes.now =
     c.in_ok-extend_from_slice.ensures.items in
     let lacks = lacks_head p c.deref.result.now c.extend_from_slice.new.self.items _ c.in-Err.stop c.deref.ensures.value
     items c.in-Err.ensures.none in
-    λ o m fed.
-    held_more o m _ p _ c.in-Err.stop fed c.requires.goes_on c.requires.head lacks
-    (c.may_go_on.ensures.0 c.if-not-may_go_on.false) refl refl c.requires.goes_on c.requires.head items
+    let few = few_held p c.requires.fed c.requires.goes_on c.requires.head in
+    record {
+      some = omega (arith, few, c.len-known.ensures, p.head.ok.0, c.min-count.ensures, c.requires.more);
+      room = omega (arith, c.min-count.ensures);
+      fed = λ o m fed.
+          held_more o m _ p _ c.in-Err.stop fed c.requires.goes_on c.requires.head lacks
+          (c.may_go_on.ensures.0 c.if-not-may_go_on.false) refl refl c.requires.goes_on c.requires.head items;
+    }
