@@ -3,9 +3,8 @@ use Rattle.std.proofs.Common.{◌≡◌, ◌↔◌, ◌⊎◌, ◌+◌, ◌-◌,
 use Rattle.std.proofs.Common.{◌∷◌, IsTrue, refl, sym, ap, subst, inl, inr, arith, get_or, eqb-true, length, nat_cmp, nat_lt}
 use Rattle.std.proofs.Common.{Ordering, Less, Equal, Greater, drop, filter, map, take}
 use Rattle.std.specs.List.{AllWithin, list_any}
-use Rattle.std.specs.List.Retain.{DiffersFromLast, IsFiltered}
-use Rattle.std.specs.List.Sorted.{IsNonDecreasingBy, IsPartitionedBy, IsPermutation, IsSorted, IsSortedByKey}
-use Rattle.std.specs.Ordering.{eq_by_cmp, is_eq, is_le, is_lt, ordering_index, ordering_reverse, ordering_then}
+use Rattle.std.specs.List.Sorted.{IsNonDecreasingBy, IsPartitionedBy, IsSortedByKey}
+use Rattle.std.specs.Ordering.{is_eq, is_le, is_lt, ordering_index, ordering_reverse, ordering_then}
 use Rattle.std.proofs.lemmas.Bool.{ltb-false, ltb-true}
 use Rattle.std.proofs.lemmas.Cmp.{nat_cmp_total, tied_itself}
 use Rattle.std.proofs.lemmas.List.{get_or_default, length-map}
@@ -14,9 +13,8 @@ use Rattle.std.specs.FinSet.{nat_cmp-IsAntisymmetric}
 use Rattle.mxf_klv.specs.Parts.{NoteParts}
 use Rattle.mxf_klv.specs.Note.{note_cmp}
 use Rattle.mxf_klv.specs.NoteOrder.{note_total, note_cmp-IsAntisymmetric}
-use Rattle.mxf_klv.specs.Rising.{In, In-union, IsRising, less_in, same_from_members}
+use Rattle.mxf_klv.specs.Rising.{In, In-union, IsRising, less_in, same_from_members, union}
 use Rattle.mxf_klv.proofs.Lists.{all-In, all_from_In, In-append, In-at, In-filter, In-map}
-use Rattle.mxf_klv.proofs.SortedUnions.{in_order, in_order-rises}
 use Rattle.mxf_catalogue.specs.ReducedLaws.{is_same-Decides, rising-filter}
 use Rattle.mxf_verify.specs.HoldingOrder.{holding_total, holding_cmp-IsAntisymmetric}
 use Rattle.mxf_verify.specs.Holdings.{AreHoldings, HoldingParts, holding, holding_cmp, holdings_from, is_of, is_only}
@@ -58,13 +56,11 @@ from_members h first (c ∷ contents) =
     back others (suc i) e k = inr (others (i, omega (arith, e), k))
 
 -- Sorted, and each once, they say which source has which note.
-pub sorted_holdings : (contents : List (List NoteParts)) (xs ys zs : List HoldingParts)
-    → xs ≡ holdings_from 1 contents → IsPermutation xs ys → IsSorted holding_cmp ys
-    → IsFiltered (DiffersFromLast (eq_by_cmp holding_cmp)) [] ys zs → AreHoldings contents zs
-sorted_holdings contents xs ys zs from p s f =
-    let is = in_order holding_cmp holding_total holding_cmp-IsAntisymmetric xs ys zs p s f in
+pub sorted_holdings : (contents : List (List NoteParts)) (xs ys : List HoldingParts) → xs ≡ holdings_from 1 contents
+    → ys ≡ union holding_cmp [] xs → IsRising holding_cmp ys → AreHoldings contents ys
+sorted_holdings contents xs ys from is rising =
     record {
-      rising = in_order-rises holding_cmp holding_total holding_cmp-IsAntisymmetric xs ys zs p s f;
+      rising = rising;
       members = λ h.
           let u = In-union holding_total holding_cmp-IsAntisymmetric h [] xs in
           let m = from_members h 1 contents in

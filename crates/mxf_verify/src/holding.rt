@@ -10,7 +10,7 @@ ghost use Rattle.mxf_verify.specs.Holdings.{is_only};
 ghost use Rattle.mxf_verify.specs.Readings.{is_held};
 
 use mxf_catalogue::Catalogue;
-use mxf_klv::{Note, OutOfMemory};
+use mxf_klv::{Note, OutOfMemory, sort_once};
 use std::alloc::Global;
 use std::cmp::Ordering;
 use std::marker::Model;
@@ -160,8 +160,7 @@ pub(crate) fn holdings<'a>(
     ensures { IfOk result (λ v. AreHoldings contents.now v.items) }
 {
     let mut holdings = in_turn(alloc, contents)?;
-    holdings.sort_unstable();
-    holdings.dedup();
+    sort_once(&mut holdings);
     Ok(holdings)
 }
 

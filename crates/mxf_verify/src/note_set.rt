@@ -8,7 +8,7 @@ ghost use Rattle.mxf_verify.specs.Telling.{notes_at};
 ghost use Rattle.mxf_verify.specs.Verifying.{IsHeldBy};
 
 use mxf_catalogue::Cover;
-use mxf_klv::{Note, OutOfMemory};
+use mxf_klv::{Note, OutOfMemory, sort_once};
 use std::alloc::Global;
 use std::cmp::Ordering;
 use std::marker::Model;
@@ -156,8 +156,7 @@ fn push_all<'a>(members: &mut Vec<Member<'a>>, notes: &[&'a Note]) -> Result<(),
 fn put_in_order(members: &mut Vec<Member<'_>>)
     ensures { members.new.items ≡ union_of [] members.old.items }
 {
-    members.sort_unstable();
-    members.dedup();
+    sort_once(members);
 }
 
 /// Notes of a reference, each once, in their order.
