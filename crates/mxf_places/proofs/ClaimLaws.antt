@@ -1,12 +1,12 @@
 -- The claims of packs, by the list and by relations.
 use Rattle.std.proofs.Common.{◌≡◌, ◌≢◌, ◌↔◌, ◌∙◌, ◌==◌, ◌&&◌, ◌++◌, ℕ, true, false, List, Option, Some, None}
-use Rattle.std.proofs.Common.{refl, sym, ap, subst, inl, inr, nat_lt, cond, option_map, lt-ltb, ltb-true, eq-eqb, eqb-true}
+use Rattle.std.proofs.Common.{refl, sym, ap, subst, inl, inr, nat_lt, cond, map, option_map, lt-ltb, ltb-true, eq-eqb, eqb-true}
 use Rattle.std.proofs.lemmas.Bool.{and_from, and_parts}
 use Rattle.std.proofs.lemmas.Option.{same_Some}
 use Rattle.std.specs.List.{filter_map}
 use Rattle.mxf_klv.specs.Parts.{NoteParts}
 use Rattle.mxf_klv.specs.Rising.{In}
-use Rattle.mxf_klv.proofs.Lists.{In-append, In-filter_map}
+use Rattle.mxf_klv.proofs.Lists.{In-append, In-filter_map, In-map}
 use Rattle.mxf_klv.proofs.Tests.{guarded}
 use Rattle.mxf_sets.specs.declared.pack.random_index.RipEntry.{RipEntry}
 use Rattle.mxf_catalogue.specs.Content.{IsContent}
@@ -108,22 +108,23 @@ module _ (notes : List NoteParts) (content : IsContent notes) (c : Claim) where
   entries_tell Several view h = absurd h
   entries_tell (Unreadable offset) view h = absurd h
   entries_tell (One r) view h =
-      let s = (In-filter_map (entry_claim r.offset) r.entries c).0 h in
-      let e = s.0 in
+      let s = (In-filter_map (entry_claim r.offset) (map (λ e. e.0) r.entries) c).0 h in
+      let k = (In-map (λ (e : RipEntry × Standing). e.0) r.entries s.0).0 s.1 in
+      let e = k.0 in
       elim (e.0.offset == 0) as (λ b. (e.0.offset == 0) ≡ b
       → cond b None (Some (place_claim Entry (Some r.offset) e.0.offset)) ≡ Some c → SaysEntry notes c) [
         | true ↦ λ _ u. absurd (cc (u))
         | false ↦ λ t u.
-            (r, view, (e, s.1, (λ z. let q = eq-eqb _ _ z in cc (q, t)), sym (same_Some _ _ u)))
-      ] refl s.2
+            (r, view, (e, k.1, (λ z. let q = eq-eqb _ _ z in cc (q, t)), sym (same_Some _ _ u)))
+      ] refl (ap (entry_claim r.offset) (sym k.2) ∙ s.2)
 
-  entry_some : (offset : ℕ) (e : RipEntry × Standing) → e.0.offset ≢ 0
-      → entry_claim offset e ≡ Some (place_claim Entry (Some offset) e.0.offset)
+  entry_some : (offset : ℕ) (e : RipEntry) → e.offset ≢ 0
+      → entry_claim offset e ≡ Some (place_claim Entry (Some offset) e.offset)
   unfolding entry_claim
   entry_some offset e some =
-      elim (e.0.offset == 0) as (λ b. (e.0.offset == 0) ≡ b
-      → cond b None (Some (place_claim Entry (Some offset) e.0.offset))
-      ≡ Some (place_claim Entry (Some offset) e.0.offset)) [
+      elim (e.offset == 0) as (λ b. (e.offset == 0) ≡ b
+      → cond b None (Some (place_claim Entry (Some offset) e.offset))
+      ≡ Some (place_claim Entry (Some offset) e.offset)) [
         | true ↦ λ t. absurd (some (eqb-true _ _ t))
         | false ↦ λ _. refl
       ] refl
@@ -135,8 +136,11 @@ module _ (notes : List NoteParts) (content : IsContent notes) (c : Claim) where
         let r = k.0 in
         let e = k.2.0 in
         subst (λ (v : RipView). In c (entry_claims v)) (sym k.1)
-        ((In-filter_map (entry_claim r.offset) r.entries c).1
-        (e, k.2.1, entry_some r.offset e k.2.2 ∙ ap (λ (c : Claim). Some c) (sym k.2.3))),
+        ((In-filter_map (entry_claim r.offset) (map (λ e. e.0) r.entries) c).1 (
+          e.0,
+          (In-map (λ (e : RipEntry × Standing). e.0) r.entries e.0).1 (e, k.2.1, refl),
+          entry_some r.offset e.0 k.2.2 ∙ ap (λ (c : Claim). Some c) (sym k.2.3),
+        )),
   )
 
   -- What is said for a reason has that reason.

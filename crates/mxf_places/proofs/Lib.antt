@@ -7,3 +7,4 @@ pub mod ZoneLaws
 pub mod ClaimLaws
 pub mod ByteLaws
 pub mod LoopLaws
+pub mod InNumbers

@@ -1,7 +1,7 @@
 -- What packs say of places: where partitions stand, and where header metadata and index table segments lie (ST 377-1,
 -- Partition Pack and Random Index Pack; reasons and stretches are this project's profile).
 use Rattle.std.specs.Prelude.{ℕ, ◌+◌, Bool, true, false, ◌&&◌, ◌||◌, ◌==◌, not, nat_le, nat_lt}
-use Rattle.std.specs.Prelude.{if◌then◌else◌, Option, None, Some, is_some, List, [], ◌∷◌, ◌++◌, find}
+use Rattle.std.specs.Prelude.{if◌then◌else◌, Option, None, Some, is_some, List, [], ◌∷◌, ◌++◌, find, map}
 use Rattle.std.specs.Option.{option_and_then, option_map, option_map_or}
 use Rattle.std.specs.List.{filter_map}
 use Rattle.mxf_klv.specs.Parts.{NoteParts}
@@ -17,7 +17,6 @@ use Rattle.mxf_views.specs.Places.{is_segment}
 use Rattle.mxf_views.specs.RandomIndexView.{rip_view_of}
 use Rattle.mxf_views.specs.declared.random_index.RipView.{RipView}
 use Rattle.mxf_views.specs.declared.random_index.RipView.TheVariants.{Absent, Several, Unreadable, One}
-use Rattle.mxf_views.specs.declared.random_index.Standing.{Standing}
 use Rattle.mxf_places.specs.Held.{is_disputed_at, is_held, is_in_file}
 use Rattle.mxf_places.specs.declared.claim.Claim.{Claim}
 use Rattle.mxf_places.specs.declared.stretch.Stretch.{Stretch}
@@ -128,15 +127,15 @@ unfoldable pub zone_claim : Zone → List NoteParts → PartitionParts → Optio
 zone_claim zone notes p = option_map (stretch_claim (zone_reason zone) p) (zone_of zone notes p)
 
 -- What the entries of the only random index pack say, where it can be read.
-unfoldable pub entry_claim : ℕ → RipEntry × Standing → Option Claim
+unfoldable pub entry_claim : ℕ → RipEntry → Option Claim
 entry_claim offset entry =
-    if entry.0.offset == 0 then None else Some (place_claim Entry (Some offset) entry.0.offset)
+    if entry.offset == 0 then None else Some (place_claim Entry (Some offset) entry.offset)
 
 abbrev pub entry_claims : RipView → List Claim
 entry_claims Absent = []
 entry_claims Several = []
 entry_claims (Unreadable offset) = []
-entry_claims (One r) = filter_map (entry_claim r.offset) r.entries
+entry_claims (One r) = filter_map (entry_claim r.offset) (map (λ e. e.0) r.entries)
 
 -- All claims, by reason and then source: the header partition stands at 0, whatever packs say.
 unfoldable pub claims_of : List NoteParts → List Claim

@@ -1,5 +1,5 @@
 //! What packs say of places (ST 377-1, Partition Pack and Random Index Pack).
-ghost use Rattle.std.specs.Prelude.{◌≡◌, ◌↔◌, ◌++◌, ◌∷◌, [], IfOk, OnOk, List, None, Some};
+ghost use Rattle.std.specs.Prelude.{◌≡◌, ◌↔◌, ◌++◌, ◌∷◌, [], IfOk, OnOk, List, None, Some, map};
 ghost use Rattle.mxf_klv.specs.Parts.{NoteParts};
 ghost use Rattle.mxf_klv.specs.Rising.{In};
 ghost use Rattle.mxf_catalogue.specs.Content.{IsContent};
@@ -16,7 +16,7 @@ use crate::reason::Reason;
 use crate::stretch::{Zone, zone_of};
 use mxf_klv::OutOfMemory;
 use mxf_sets::RipEntry;
-use mxf_views::{PartitionAt, RipAt, RipView, Standing, Views};
+use mxf_views::{Partition, RipAt, RipView, Views};
 use std::alloc::Global;
 
 /// What a pack claims of offsets: from where up to which end, in bytes. Where the claim is open, nothing is known from
@@ -80,18 +80,17 @@ fn place_claim(reason: Reason, source: Option<u64>, place: u64) -> Claim
 fn add_footers(claims: &mut Vec<Claim>, views: &Views) -> Result<(), OutOfMemory>
     ensures { OnOk result (claims.new.items ≡ claims.old.items ++ filter_map footer_claim (partitions_of views.now)) }
 {
-    let found = views
-        .partitions()
-        .filter_map(|partition| footer_claim(&partition));
+    let partitions = views.partitions_in_numbers().iter();
+    let found = partitions.filter_map(|partition| footer_claim(partition));
     Ok(claims.extend(found)?)
 }
 
 /// What a partition pack says of the footer partition above it.
 #[tactic(auto, unfolding(crate::specs::Claims::footer_claim))]
-fn footer_claim(partition: &PartitionAt<'_>) -> Option<Claim>
+fn footer_claim(partition: &Partition) -> Option<Claim>
     ensures { result ≡ footer_claim partition.now }
 {
-    let place = partition.pack.numbers().footer_partition;
+    let place = partition.numbers.footer_partition;
     if place <= partition.offset {
         return None;
     }
@@ -107,16 +106,14 @@ fn add_zones(
     ensures { OnOk result (claims.new.items
         ≡ claims.old.items ++ filter_map (zone_claim zone holdings.now) (partitions_of holdings.now)) }
 {
-    let found = holdings
-        .views()
-        .partitions()
-        .filter_map(|partition| zone_claim(holdings, zone, &partition));
+    let partitions = holdings.views().partitions_in_numbers().iter();
+    let found = partitions.filter_map(|partition| zone_claim(holdings, zone, partition));
     Ok(claims.extend(found)?)
 }
 
 /// Where the zone of a partition lies.
 #[tactic(auto, unfolding(crate::specs::Claims::zone_claim))]
-fn zone_claim(holdings: &Holdings<'_>, zone: Zone, partition: &PartitionAt<'_>) -> Option<Claim>
+fn zone_claim(holdings: &Holdings<'_>, zone: Zone, partition: &Partition) -> Option<Claim>
     ensures { result ≡ zone_claim zone holdings.now partition.now }
 {
     let stretch = zone_of(holdings, zone, partition)?;
@@ -152,20 +149,20 @@ fn add_entries(claims: &mut Vec<Claim>, views: &Views) -> Result<(), OutOfMemory
 /// Adds what the entries of a random index pack say.
 fn add_entries_of(claims: &mut Vec<Claim>, rip: &RipAt<'_>) -> Result<(), OutOfMemory>
     ensures { OnOk result (claims.new.items
-        ≡ claims.old.items ++ filter_map (entry_claim rip.now.offset) rip.now.entries) }
+        ≡ claims.old.items ++ filter_map (entry_claim rip.now.offset) (map (λ e. e.0) rip.now.entries)) }
 {
     let found = rip
-        .entries()
+        .listed()
         .filter_map(|entry| entry_claim(rip.offset(), entry));
     Ok(claims.extend(found)?)
 }
 
 /// What an entry of the random index pack at an offset says. One at 0 says no more than is known.
 #[tactic(auto, unfolding(crate::specs::Claims::entry_claim))]
-fn entry_claim(offset: u64, entry: (RipEntry, Standing)) -> Option<Claim>
+fn entry_claim(offset: u64, entry: RipEntry) -> Option<Claim>
     ensures { result ≡ entry_claim offset entry }
 {
-    let place = entry.0.offset;
+    let place = entry.offset;
     if place == 0 {
         return None;
     }
@@ -176,18 +173,17 @@ fn entry_claim(offset: u64, entry: (RipEntry, Standing)) -> Option<Claim>
 fn add_previous(claims: &mut Vec<Claim>, views: &Views) -> Result<(), OutOfMemory>
     ensures { OnOk result (claims.new.items ≡ claims.old.items ++ filter_map previous_claim (partitions_of views.now)) }
 {
-    let found = views
-        .partitions()
-        .filter_map(|partition| previous_claim(&partition));
+    let partitions = views.partitions_in_numbers().iter();
+    let found = partitions.filter_map(|partition| previous_claim(partition));
     Ok(claims.extend(found)?)
 }
 
 /// What a partition pack says of the partition before it.
 #[tactic(auto, unfolding(crate::specs::Claims::previous_claim))]
-fn previous_claim(partition: &PartitionAt<'_>) -> Option<Claim>
+fn previous_claim(partition: &Partition) -> Option<Claim>
     ensures { result ≡ previous_claim partition.now }
 {
-    let place = partition.pack.numbers().previous_partition;
+    let place = partition.numbers.previous_partition;
     if place == 0 || partition.offset <= place {
         return None;
     }

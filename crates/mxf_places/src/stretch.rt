@@ -14,7 +14,7 @@ ghost use Rattle.mxf_places.specs.declared.stretch.Zone.{Zone};
 use crate::held::Holdings;
 use mxf_klv::{Kind, MAX, Note};
 use mxf_sets::Primer;
-use mxf_views::PartitionAt;
+use mxf_views::Partition;
 
 /// What a partition counts the bytes of (ST 377-1, HeaderByteCount and IndexByteCount).
 #[derive(Clone, Copy, Debug, PartialEq, Eq)]
@@ -47,7 +47,7 @@ impl Stretch {
 }
 
 /// Where the zone of a partition lies, as far as that is known.
-pub fn zone_of(holdings: &Holdings<'_>, zone: Zone, partition: &PartitionAt<'_>) -> Option<Stretch>
+pub fn zone_of(holdings: &Holdings<'_>, zone: Zone, partition: &Partition) -> Option<Stretch>
     ensures { result ≡ zone_of zone holdings.now partition.now }
 {
     match zone {
@@ -58,10 +58,10 @@ pub fn zone_of(holdings: &Holdings<'_>, zone: Zone, partition: &PartitionAt<'_>)
 
 /// Where the header metadata of a partition lie.
 #[tactic(auto, unfolding(crate::specs::Claims::metadata_of))]
-fn metadata_of(holdings: &Holdings<'_>, partition: &PartitionAt<'_>) -> Option<Stretch>
+fn metadata_of(holdings: &Holdings<'_>, partition: &Partition) -> Option<Stretch>
     ensures { result ≡ metadata_of holdings.now partition.now }
 {
-    let count = partition.pack.numbers().header_byte_count;
+    let count = partition.numbers.header_byte_count;
     if count == 0 {
         return None;
     }
@@ -69,10 +69,10 @@ fn metadata_of(holdings: &Holdings<'_>, partition: &PartitionAt<'_>) -> Option<S
 }
 
 /// Where the bytes behind the header metadata of a partition begin, in bytes, where that is known.
-pub fn behind_metadata(holdings: &Holdings<'_>, partition: &PartitionAt<'_>) -> Option<u128>
+pub fn behind_metadata(holdings: &Holdings<'_>, partition: &Partition) -> Option<u128>
     ensures { result ≡ behind_metadata holdings.now partition.now }
 {
-    if partition.pack.numbers().header_byte_count == 0 {
+    if partition.numbers.header_byte_count == 0 {
         return Some(u128::from(partition.end));
     }
     metadata_of(holdings, partition)?.known_end()
@@ -80,10 +80,10 @@ pub fn behind_metadata(holdings: &Holdings<'_>, partition: &PartitionAt<'_>) -> 
 
 /// Where the index table segments of a partition lie.
 #[tactic(auto, unfolding(crate::specs::Claims::index_of))]
-fn index_of(holdings: &Holdings<'_>, partition: &PartitionAt<'_>) -> Option<Stretch>
+fn index_of(holdings: &Holdings<'_>, partition: &Partition) -> Option<Stretch>
     ensures { result ≡ index_of holdings.now partition.now }
 {
-    let count = partition.pack.numbers().index_byte_count;
+    let count = partition.numbers.index_byte_count;
     if count == 0 {
         return None;
     }

@@ -82,7 +82,7 @@ impl Model for Map {
 impl Map {
     /// The map of the file of the views, of so many cells at most, of which there is one at least.
     ///
-    /// The only fault is want of memory.
+    /// The only fault is out of memory.
     pub fn of(alloc: Global, views: &Views, cells: u64) -> Result<Map, OutOfMemory>
         requires { 1 ≤ cells }
         ensures { IfOk result (λ m. IsMap views.now cells m) }

@@ -14,3 +14,4 @@ pub mod StandingLaws
 pub mod NextLaws
 pub mod LimitLaws
 pub mod LastLaws
+pub mod InNumbers

@@ -4,15 +4,14 @@ ghost use Rattle.std.specs.List.{filter_map};
 ghost use Rattle.std.specs.Option.{option_map};
 ghost use Rattle.std.specs.Ordering.{nat_cmp};
 ghost use Rattle.mxf_klv.specs.Rising.{IsRising, union};
-ghost use Rattle.mxf_views.specs.Partitions.{pack_of, partition_at, partitions_of, previous_of};
+ghost use Rattle.mxf_views.specs.Partitions.{partitions_of, previous_of};
 ghost use Rattle.mxf_views.specs.RandomIndexView.{rip_view_of};
 ghost use Rattle.mxf_places.specs.Held.{end_of_file};
 ghost use Rattle.mxf_units.specs.EssenceZones.{bounds_of, is_one, is_open_place, names_before, open_place, rip_place_by};
 ghost use Rattle.mxf_units.specs.Streams.{least_above};
 
-use mxf_klv::{Note, OutOfMemory, sort_once, up_to};
+use mxf_klv::{OutOfMemory, sort_once, up_to};
 use mxf_places::{Claim, Holdings, claims};
-use mxf_sets::PartitionPack;
 use mxf_views::{RipView, Views};
 use std::alloc::Global;
 
@@ -38,7 +37,8 @@ pub(crate) fn rising(mut offsets: Vec<u64>) -> Vec<u64>
 fn partition_offsets(alloc: Global, views: &Views) -> Result<Vec<u64>, OutOfMemory>
     ensures { IfOk result (λ v. v.items ≡ map (λ p. p.offset) (partitions_of views.now)) }
 {
-    let offsets = views.partitions().map(|partition| partition.offset);
+    let partitions = views.partitions_in_numbers().iter();
+    let offsets = partitions.map(|partition| partition.offset);
     Ok(offsets.collect(alloc)?)
 }
 
@@ -116,25 +116,10 @@ pub(crate) fn names_before(views: &Views, offset: u64, before: u64) -> bool
     }
 }
 
-/// The partition pack of a note, where it is a readable one.
-fn read_pack(note: &Note) -> Option<PartitionPack<'_>>
-    ensures { result ≡ pack_of note.now }
-{
-    PartitionPack::read(&note.key(), note.value()?).ok()
-}
-
-/// What the partition that a note is names as the one before it, where the note is a readable partition pack.
-#[tactic(auto, unfolding(mxf_views::specs::Partitions::partition_at))]
-fn previous_in(note: &Note) -> Option<u64>
-    ensures { result ≡ option_map previous_of (partition_at note.now) }
-{
-    let pack = read_pack(note)?;
-    Some(pack.numbers().previous_partition)
-}
-
 /// What the partition at a file offset names as the one before it.
 fn previous_at(views: &Views, offset: u64) -> Option<u64>
     ensures { result ≡ option_map previous_of (find (λ p. p.offset == offset) (partitions_of views.now)) }
 {
-    previous_in(views.catalogue().clear_at(offset)?)
+    let partition = views.partition_at(offset)?;
+    Some(partition.numbers.previous_partition)
 }

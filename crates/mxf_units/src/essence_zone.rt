@@ -21,7 +21,7 @@ use crate::segments::{all_segments, places_above_0};
 use crate::stream::{StreamPlace, first_above};
 use mxf_klv::{Kind, Note, OutOfMemory};
 use mxf_places::Holdings;
-use mxf_views::PartitionAt;
+use mxf_views::Partition;
 use std::alloc::Global;
 use std::marker::Model;
 
@@ -88,10 +88,10 @@ impl<'a> Evidence<'a> {
     }
 
     /// Whether all units of a partition lie in its first packet.
-    fn is_clip_wrapped(&self, partition: &PartitionAt<'_>, first: &Note) -> bool
+    fn is_clip_wrapped(&self, partition: &Partition, first: &Note) -> bool
         ensures { result ≡ is_clip_wrapped self.now partition.now first.now }
     {
-        let numbers = partition.pack.numbers();
+        let numbers = &partition.numbers;
         first.kind() == Kind::Essence
             && numbers.body_offset == 0
             && begins_inside(first, self.second_place(numbers.body_sid))
@@ -105,14 +105,14 @@ impl<'a> Evidence<'a> {
     }
 
     /// Where a partition ends at the latest, in bytes.
-    fn limit_of(&self, partition: &PartitionAt<'_>) -> Option<u64>
+    fn limit_of(&self, partition: &Partition) -> Option<u64>
         ensures { result ≡ limit_of self.now partition.now }
     {
         bound_above(&self.bounds, partition.offset).or(self.rip_place)
     }
 
     /// Whether no unknown partition lies between a partition and a limit, in bytes.
-    fn is_sure(&self, partition: &PartitionAt<'_>, limit: Option<u64>) -> bool
+    fn is_sure(&self, partition: &Partition, limit: Option<u64>) -> bool
         ensures { result ≡ is_sure self.now partition.now limit }
     {
         match limit {
@@ -124,7 +124,7 @@ impl<'a> Evidence<'a> {
     }
 
     /// Where the essence of a partition lies that begins with a packet.
-    fn zone_by(&self, partition: &PartitionAt<'_>, first: &Note) -> EssenceZone
+    fn zone_by(&self, partition: &Partition, first: &Note) -> EssenceZone
         ensures { result ≡ zone_by self.now partition.now first.now }
     {
         if self.is_clip_wrapped(partition, first) {
@@ -137,7 +137,7 @@ impl<'a> Evidence<'a> {
         }
         let limit = self.limit_of(partition);
         EssenceZone {
-            body_offset: partition.pack.numbers().body_offset,
+            body_offset: partition.numbers.body_offset,
             origin: first.offset(),
             limit,
             is_sure: self.is_sure(partition, limit),
@@ -146,7 +146,7 @@ impl<'a> Evidence<'a> {
 
     /// Where the essence of a partition lies, where its first packet is known.
     #[tactic(auto, unfolding(crate::specs::EssenceZones::zone_of))]
-    pub fn zone_of(&self, partition: &PartitionAt<'_>) -> Option<EssenceZone>
+    pub fn zone_of(&self, partition: &Partition) -> Option<EssenceZone>
         ensures { result ≡ zone_of self.now partition.now }
     {
         let first = first_packet(self.holdings, partition)?;

@@ -8,13 +8,13 @@ ghost use Rattle.mxf_units.specs.EssenceZones.{behind_index, essence_at, first_p
 
 use mxf_klv::{Kind, MAX, Note};
 use mxf_places::{Holdings, Zone, behind_metadata, zone_of};
-use mxf_views::PartitionAt;
+use mxf_views::Partition;
 
 /// Where the bytes behind the header metadata and the index table segments of a partition begin, where that is known.
-fn behind_index(holdings: &Holdings<'_>, partition: &PartitionAt<'_>) -> Option<u128>
+fn behind_index(holdings: &Holdings<'_>, partition: &Partition) -> Option<u128>
     ensures { result ≡ behind_index holdings.now partition.now }
 {
-    if partition.pack.numbers().index_byte_count == 0 {
+    if partition.numbers.index_byte_count == 0 {
         return behind_metadata(holdings, partition);
     }
     zone_of(holdings, Zone::Index, partition)?.known_end()
@@ -42,10 +42,7 @@ fn essence_at<'a>(holdings: &Holdings<'a>, offset: u64) -> Option<&'a Note>
 /// The first packet of the essence of a partition: the one behind its header metadata and its index table segments,
 /// and behind the fills that follow these.
 #[tactic(auto, unfolding(crate::specs::EssenceZones::first_packet))]
-pub(crate) fn first_packet<'a>(
-    holdings: &Holdings<'a>,
-    partition: &PartitionAt<'_>,
-) -> Option<&'a Note>
+pub(crate) fn first_packet<'a>(holdings: &Holdings<'a>, partition: &Partition) -> Option<&'a Note>
     ensures { option_copied result ≡ first_packet holdings.now partition.now }
 {
     let behind = behind_index(holdings, partition)?;

@@ -38,9 +38,10 @@ pub(crate) fn segments_for<'a>(
 ) -> Result<Vec<SegmentAt<'a>>, OutOfMemory>
     ensures { IfOk result (λ v. v.items ≡ segments_for views.now index_sid) }
 {
-    let segments = views
-        .segments()
-        .filter(|segment| segment.segment.numbers().index_sid == index_sid);
+    let kept = views.segments_in_numbers().iter();
+    let segments = kept
+        .filter(|segment| segment.numbers.index_sid == index_sid)
+        .filter_map(|segment| views.segment_at(segment.offset));
     Ok(segments.collect(alloc)?)
 }
 

@@ -161,9 +161,8 @@ pub fn index_sids(alloc: Global, views: &Views) -> Result<Vec<u32>, OutOfMemory>
 fn index_sids_in(alloc: Global, views: &Views) -> Result<Vec<u32>, OutOfMemory>
     ensures { IfOk result (λ v. v.items ≡ map (λ s. s.segment.numbers.index_sid) (segments_of views.now)) }
 {
-    let index_sids = views
-        .segments()
-        .map(|segment| segment.segment.numbers().index_sid);
+    let segments = views.segments_in_numbers().iter();
+    let index_sids = segments.map(|segment| segment.numbers.index_sid);
     Ok(index_sids.collect(alloc)?)
 }
 

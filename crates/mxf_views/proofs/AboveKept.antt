@@ -1,17 +1,48 @@
 -- What is kept of a content, once notes are there that begin where the others end, or above.
-use Rattle.mxf_views.proofs.Common.{◌≡◌, ◌+◌, ◌++◌, ℕ, Bool, List, ap, subst, sym, ◌∙◌, count_by}
-use Rattle.mxf_views.proofs.Common.{filter, map, NoteParts, clear_notes, offsets_where}
-use Rattle.mxf_views.proofs.Common.{clear_from, IsUnionAt}
-use Rattle.mxf_views.proofs.AboveLaws.{count_of_both, offsets_of_both}
+use Rattle.mxf_views.proofs.Common.{◌≡◌, ◌+◌, ◌++◌, ◌<◌, ◌≤◌, ℕ, Bool, List, Option, None, Some, ap, arith, subst, sym}
+use Rattle.mxf_views.proofs.Common.{◌∙◌, count_by, filter_map, refl, NoteParts, clear_notes, end_of}
+use Rattle.mxf_views.proofs.Common.{PartitionParts, clear_from, IsUnionAt, kept_among, kept_partition}
+use Rattle.mxf_views.proofs.Common.{In, In-at, In-filter, In-filter_map, and_parts, get_or, leb-true, length}
+use Rattle.mxf_views.proofs.Common.{lies_in, nat_le, option_map, partition_at}
+use Rattle.mxf_views.specs.Partitions.{in_numbers}
+use Rattle.mxf_views.proofs.CopyUpdates.{end-partition_at}
+use Rattle.mxf_views.proofs.AboveLaws.{count_of_both, taken_of_both}
+
+-- The notes from the boundary on begin at or above it.
+from_boundary : (b : ℕ) (notes : List NoteParts) (n : NoteParts) → In n (clear_from b notes) → b ≤ n.offset
+from_boundary b notes n h =
+    let t = ((In-filter (lies_in b 18446744073709551615) (clear_notes notes) n).0 h).1 in
+    leb-true b n.offset (and_parts (nat_le b n.offset) (nat_le (end_of n) (b + 18446744073709551615)) t).0
+
+end-kept_partition : (n : NoteParts) (p : PartitionParts) → kept_partition n ≡ Some p → p.end ≡ end_of n
+end-kept_partition n p e =
+    elim (partition_at n) as (λ o. partition_at n ≡ o → option_map in_numbers o ≡ Some p → p.end ≡ end_of n) [
+      | None ↦ λ _ u. absurd cc
+      | Some q ↦ λ f u. (
+          let same : in_numbers q ≡ p = cc (u) in
+          ap (λ (x : PartitionParts). x.end) (sym same) ∙ end-partition_at n q f)
+    ] refl e
 
 module _ (b : ℕ) (notes own : List NoteParts) (u : IsUnionAt b notes own) where
-  -- The offsets of the new notes of a kind follow those before.
-  pub offsets_at : (test : NoteParts → Bool) (os : List ℕ) → os ≡ offsets_where test own
-      → os ++ map (λ n. n.offset) (filter test (clear_from b notes)) ≡ offsets_where test notes
-  offsets_at test os same =
-      ap (λ l. l ++ map (λ n. n.offset) (filter test (clear_from b notes))) same
-      ∙ subst (λ (ns : List NoteParts). offsets_where test own ++ map (λ n. n.offset) (filter test (clear_from b ns))
-      ≡ offsets_where test ns) (sym u.union) (offsets_of_both b own u.other u.meet test)
+  -- What is kept of the new notes follows what was kept before.
+  pub kept_above : {A : Type 0} (take : NoteParts → Option A) (xs : List A) → xs ≡ kept_among take own
+      → xs ++ filter_map take (clear_from b notes) ≡ kept_among take notes
+  kept_above take xs same =
+      ap (λ l. l ++ filter_map take (clear_from b notes)) same
+      ∙ subst (λ (ns : List NoteParts). kept_among take own ++ filter_map take (clear_from b ns) ≡ kept_among take ns)
+      (sym u.union) (taken_of_both b own u.other u.meet take)
+
+  -- The packs of the new partitions end above the boundary.
+  pub ends_above_at : (k : ℕ) (d : PartitionParts) → 0 ≤ k
+      → k < length (filter_map kept_partition (clear_from b notes))
+      → b ≤ (get_or (filter_map kept_partition (clear_from b notes)) k d).end
+  ends_above_at k d z l =
+      let new = clear_from b notes in
+      let p = get_or (filter_map kept_partition new) k d in
+      let s = (In-filter_map kept_partition new p).0 (In-at (filter_map kept_partition new) k d l) in
+      let low = from_boundary b notes s.0 s.1 in
+      let end = end-kept_partition s.0 p s.2 in
+      omega (arith, low, end)
 
   pub count_at : (test : NoteParts → Bool)
       → count_by test (clear_notes notes) ≡ count_by test (clear_notes own) + count_by test (clear_from b notes)

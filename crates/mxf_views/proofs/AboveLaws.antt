@@ -1,15 +1,16 @@
 -- A content and notes that begin where it ends, or above: the clear notes of both are those of the one and then those
 -- of the other.
 use Rattle.mxf_views.proofs.Common.{◌≡◌, ℕ, ◌+◌, ◌-◌, ◌≤◌, ◌⊎◌, Bool, cond, List, [], ◌∷◌, ◌++◌, sym, ap, subst}
-use Rattle.mxf_views.proofs.Common.{◌∙◌, inl, inr, arith, leb-true, le-leb, ◌↔◌, nat_le, filter, map}
+use Rattle.mxf_views.proofs.Common.{◌∙◌, inl, inr, arith, leb-true, le-leb, ◌↔◌, nat_le}
 use Rattle.mxf_views.proofs.Common.{count_by, and_from, and_parts, NoteParts, IsNote, end_of, In, AreReduced}
 use Rattle.mxf_views.proofs.Common.{IsCatalogue, IsContent, union_of, LiesIn, Run, IsClear, clear_notes}
 use Rattle.mxf_views.proofs.Common.{lies_in, same_content, In-clear_notes, IsContent-clear_notes, zone_of}
-use Rattle.mxf_views.proofs.Common.{offsets_where, MeetAt, clear_from, all-In, In-append}
-use Rattle.mxf_views.proofs.Common.{same_bool, map-append, filter-append, reduced_union, Covers, In-union_of}
+use Rattle.mxf_views.proofs.Common.{Option, filter_map, kept_among, MeetAt, clear_from, all-In, In-append}
+use Rattle.mxf_views.proofs.Common.{same_bool, filter-append, reduced_union, Covers, In-union_of}
 use Rattle.mxf_views.proofs.Common.{IsContent-union_of, filter_none, filter_all, covers_first, reduced_with, IsUnionAt}
 use Rattle.mxf_catalogue.proofs.HeadLaws.{reduced-same, reduced_union-is, reduced_union-none}
 use Rattle.mxf_klv.proofs.Lists.{filter_alike}
+use Rattle.std.proofs.lemmas.List.Elements.{filter_map-append}
 use Rattle.mxf_catalogue.proofs.ClearLaws.{clear_in_union, contents_append}
 
 -- ---- the clear notes
@@ -141,16 +142,15 @@ module _ (b : ℕ) (own other : List NoteParts) (m : MeetAt b own other) where
       and_from (nat_le start n.offset) (nat_le (end_of n) (start + bytes)) (le-leb start n.offset from)
       (le-leb (end_of n) (start + bytes) (omega (arith, e, l, low)))))
 
-  -- ---- where clear notes of a kind stand
+  -- ---- what is kept
 
-  pub offsets_of_both : (test : NoteParts → Bool)
-      → offsets_where test own ++ map (λ n. n.offset) (filter test (clear_from b (union_of own other)))
-      ≡ offsets_where test (union_of own other)
-  offsets_of_both test =
-      ap (λ l. offsets_where test own ++ map (λ n. n.offset) (filter test l)) new_are_clear
-      ∙ sym (map-append (λ n. n.offset) (filter test (clear_notes own)) (filter test (clear_notes other)))
-      ∙ ap (map (λ n. n.offset)) (sym (filter-append test (clear_notes own) (clear_notes other)))
-      ∙ ap (λ l. map (λ n. n.offset) (filter test l)) (sym clear_of_both)
+  pub taken_of_both : {A : Type 0} (take : NoteParts → Option A)
+      → kept_among take own ++ filter_map take (clear_from b (union_of own other))
+      ≡ kept_among take (union_of own other)
+  taken_of_both take =
+      ap (λ l. kept_among take own ++ filter_map take l) new_are_clear
+      ∙ sym (filter_map-append take (clear_notes own) (clear_notes other))
+      ∙ ap (filter_map take) (sym clear_of_both)
 
   pub count_of_both : (test : NoteParts → Bool)
       → count_by test (clear_notes (union_of own other))

@@ -1,19 +1,18 @@
--- What adding a note changes among the clear notes, and among the offsets where clear notes of a kind stand.
-use Rattle.mxf_views.proofs.Common.{◌≡◌, ℕ, ◌<◌, ◌≤◌, ◌⊎◌, Bool, true, false, List, [], ◌∷◌, Some, None, refl, sym}
-use Rattle.mxf_views.proofs.Common.{ap, subst, ◌∙◌, inl, inr, arith, leb-true, le-leb, eqb-true, ◌↔◌, ◌||◌, ◌==◌}
-use Rattle.mxf_views.proofs.Common.{nat_le, nat_lt, filter, find, map, max, nat_cmp-IsAntisymmetric, nat_cmp}
-use Rattle.mxf_views.proofs.Common.{ltb-true, lt-ltb, nat_cmp_total, NoteParts, end_of, In, IsRising, with_one}
-use Rattle.mxf_views.proofs.Common.{same_from_members, IsContent, reduced_with, IsClear, SharesByte, clear_notes}
-use Rattle.mxf_views.proofs.Common.{In-clear_notes, clear-alone, AreApart-clear_notes, AreApart-filter, IsHull}
-use Rattle.mxf_views.proofs.Common.{followed, is_outside, notes_at, offsets_where, In-filter, In-map, found-In}
-use Rattle.mxf_views.proofs.Common.{cases_lt, min, IsRising-with_one, IsContent-reduced_with, clear_at-found}
-use Rattle.mxf_views.proofs.Common.{rising_apart, stands_clear, rising-filter, IsNew, clear_after}
-use Rattle.mxf_klv.specs.Rising.{In-with_one}
+-- What adding a note changes among the clear notes, and the clear notes at their offsets.
+use Rattle.mxf_views.proofs.Common.{◌≡◌, ℕ, ◌<◌, ◌≤◌, ◌⊎◌, Bool, true, false, List, [], ◌∷◌, refl, sym}
+use Rattle.mxf_views.proofs.Common.{ap, subst, ◌∙◌, inl, inr, arith, leb-true, le-leb, ◌↔◌, ◌||◌}
+use Rattle.mxf_views.proofs.Common.{nat_le, nat_lt, filter, map, max}
+use Rattle.mxf_views.proofs.Common.{ltb-true, lt-ltb, NoteParts, end_of, In}
+use Rattle.mxf_views.proofs.Common.{IsClear, SharesByte, clear_notes}
+use Rattle.mxf_views.proofs.Common.{In-clear_notes, IsHull}
+use Rattle.mxf_views.proofs.Common.{is_outside, notes_at, In-filter}
+use Rattle.mxf_views.proofs.Common.{cases_lt, min, clear_at-found}
 use Rattle.mxf_catalogue.proofs.DisputeLaws.{SharesByte-symmetric}
 use Rattle.mxf_catalogue.specs.NoteLists.{touching}
 use Rattle.mxf_catalogue.proofs.PartLaws.{In-touching}
-use Rattle.mxf_views.specs.Kept.{passes}
-use Rattle.mxf_catalogue.proofs.ClearLaws.{ordered, shared_low, shares, In-with_new}
+use Rattle.mxf_views.proofs.Common.{cond, cons_option, filter_map}
+use Rattle.mxf_views.specs.Kept.{offset_if}
+use Rattle.mxf_catalogue.proofs.ClearLaws.{ordered, shared_low, shares}
 
 -- ---- the hull of what comes and goes
 
@@ -147,6 +146,19 @@ hull_of_all x notes start end h = record {
   high = h.high;
 }
 
+-- ---- the notes at their offsets
+
+pub offsets_are : (test : NoteParts → Bool) (ns : List NoteParts)
+    → filter_map (λ n. offset_if (test n) n) ns ≡ map (λ n. n.offset) (filter test ns)
+offsets_are test [] = refl
+offsets_are test (n ∷ ns) =
+    let ih = offsets_are test ns in
+    elim (test n) as (λ b. cons_option (offset_if b n) (filter_map (λ n. offset_if (test n) n) ns)
+    ≡ map (λ (m : NoteParts). m.offset) (cond b (n ∷ filter test ns) (filter test ns))) [
+      | true ↦ ap (λ l. n.offset ∷ l) ih
+      | false ↦ ih
+    ]
+
 each_found : (notes ns : List NoteParts) → ((n : NoteParts) → In n ns → IsClear n notes)
     → notes_at notes (map (λ n. n.offset) ns) ≡ ns
 each_found notes [] c = refl
@@ -154,115 +166,10 @@ each_found notes (n ∷ ns) c =
     rw (clear_at-found n.offset notes n (c n (inl refl)) refl) (ap (λ l. n ∷ l) (each_found notes ns (λ m h. c m
     (inr h))))
 
--- ---- where clear notes of a kind stand
-
-pub In-offsets : (test : NoteParts → Bool) (notes : List NoteParts) (o : ℕ) → In o (offsets_where test notes)
-    ↔ ((n : NoteParts) × IsClear n notes × (test n ≡ true) × (o ≡ n.offset))
-In-offsets test notes o =
-    let m = In-map (λ (n : NoteParts). n.offset) (filter test (clear_notes notes)) o in
-    let f = λ (n : NoteParts). In-filter test (clear_notes notes) n in
-    let c = λ (n : NoteParts). In-clear_notes n notes in (
-      λ h. let s = m.0 h in let k = (f s.0).0 s.1 in (s.0, (c s.0).0 k.0, k.1, s.2),
-      λ s. m.1 (s.0, (f s.0).1 ((c s.0).1 s.1, s.2), s.3),
-    )
-
-pub offsets_rise : (test : NoteParts → Bool) (notes : List NoteParts) → IsContent notes
-    → IsRising nat_cmp (offsets_where test notes)
-offsets_rise test notes r =
-    rising_apart 0 (filter test (clear_notes notes))
-    (AreApart-filter test 0 (clear_notes notes) (AreApart-clear_notes notes r))
-
--- The offsets after it are that of the new note, where that is clear and of the kind, and those outside.
-In-offsets_after : (test : NoteParts → Bool) (x : NoteParts) (notes : List NoteParts) (start end : ℕ)
-    → IsNew x notes → IsHull x notes start end → (o : ℕ) → In o (offsets_where test (reduced_with x notes))
-    ↔ ((IsClear x (reduced_with x notes) × (test x ≡ true) × (o ≡ x.offset))
-    ⊎ In o (filter (is_outside start end) (offsets_where test notes)))
-In-offsets_after test x notes start end new h o =
-    let kept = In-filter (is_outside start end) (offsets_where test notes) o in
-    let old = In-offsets test notes o in
-    let all = In-offsets test (reduced_with x notes) o in (
-      λ k.
-          let s = all.0 k in
-          elim ((clear_after x notes new s.0).0 s.1) [
-            | inl p ↦ inl (p.1, ap test (sym p.0) ∙ s.2, s.3 ∙ ap (λ (y : NoteParts). y.offset) p.0)
-            | inr q ↦ inr (kept.1 (
-              old.1 (s.0, q.0, s.2, s.3),
-              ap (is_outside start end) s.3 ∙ (outside_iff x s.0 notes start end h q.0).0 q.1,
-            ))
-          ],
-      λ k. elim k [
-        | inl e ↦ all.1 (x, e.0, e.1, e.2)
-        | inr i ↦ (
-            let b = kept.0 i in
-            let s = old.0 b.0 in
-            let out : is_outside start end s.0.offset ≡ true = ap (is_outside start end) (sym s.3) ∙ b.1 in
-            all.1 (
-              s.0,
-              (clear_after x notes new s.0).1 (inr (
-                s.1,
-                (outside_iff x s.0 notes start end h s.1).1 out,
-              )),
-              s.2,
-              s.3,
-            ))
-      ],
-    )
-
--- The new note is clear and of the kind exactly where such a note stands at its offset.
-new_stands : (test : NoteParts → Bool) (x : NoteParts) (notes : List NoteParts) → IsNew x notes
-    → (stands_clear test (reduced_with x notes) x.offset ≡ true) ↔ (IsClear x (reduced_with x notes) × (test x ≡ true))
-new_stands test x notes new =
-    let after = reduced_with x notes in
-    let at = λ (n : NoteParts). n.offset == x.offset in (
-      λ t. elim (find at (clear_notes after)) as (λ o. find at (clear_notes after) ≡ o → passes test o ≡ true
-          → IsClear x after × (test x ≡ true)) [
-            | None ↦ λ e f. absurd cc
-            | Some n ↦ λ e f. (
-                let k = found-In at (clear_notes after) n e in
-                let clear = (In-clear_notes n after).0 k.0 in
-                let held = (In-with_new x x notes new).1 (inl refl) in
-                let same : n ≡ x = clear-alone n x after clear held (eqb-true n.offset x.offset k.1) in
-                subst (λ (y : NoteParts). IsClear y after × (test y ≡ true)) same (clear, f))
-          ] refl t,
-      λ s. ap (passes test) (clear_at-found x.offset after x s.0 refl) ∙ s.1,
-    )
-
--- So they are what follows an arrival.
-pub offsets_follow : (test : NoteParts → Bool) (x : NoteParts) (notes : List NoteParts) (start end : ℕ)
-    → IsContent notes → IsNew x notes → IsHull x notes start end
-    → followed (stands_clear test (reduced_with x notes) x.offset) x.offset start end (offsets_where test notes)
-    ≡ offsets_where test (reduced_with x notes)
-offsets_follow test x notes start end r new h =
-    let all = offsets_where test (reduced_with x notes) in
-    let all_rise = offsets_rise test (reduced_with x notes) (IsContent-reduced_with x notes r) in
-    let left = filter (is_outside start end) (offsets_where test notes) in
-    let rising = rising-filter nat_cmp (is_outside start end) (offsets_where test notes) (offsets_rise test notes r) in
-    let stands = new_stands test x notes new in
-    let among = In-offsets_after test x notes start end new h in
-    elim (stands_clear test (reduced_with x notes) x.offset) as (λ b.
-    stands_clear test (reduced_with x notes) x.offset ≡ b
-    → followed b x.offset start end (offsets_where test notes) ≡ all) [
-      | true ↦ λ e. same_from_members nat_cmp_total nat_cmp-IsAntisymmetric (with_one nat_cmp x.offset left) all
-          (IsRising-with_one nat_cmp_total nat_cmp-IsAntisymmetric x.offset left rising) all_rise (λ o.
-          let one = In-with_one nat_cmp_total nat_cmp-IsAntisymmetric o x.offset left in
-          let s = stands.0 e in (
-            λ k. (among o).1 (elim (one.0 k) [ inl q ↦ inl (s.0, s.1, q) | inr i ↦ inr i ]),
-            λ k. one.1 (elim ((among o).0 k) [ inl q ↦ inl q.2 | inr i ↦ inr i ]),
-          ))
-      | false ↦ λ e. same_from_members nat_cmp_total nat_cmp-IsAntisymmetric left all rising all_rise (λ o. (
-        λ i. (among o).1 (inr i),
-        λ k. elim ((among o).0 k) [
-          | inl q ↦ (let u = stands.1 (q.0, q.1) in absurd cc (u, e))
-          | inr i ↦ i
-        ],
-      ))
-    ] refl
-
--- ---- the notes at their offsets
-
 -- The clear notes of a kind are those at the offsets where such notes stand.
 pub notes_at_offsets : (test : NoteParts → Bool) (notes : List NoteParts)
-    → notes_at notes (offsets_where test notes) ≡ filter test (clear_notes notes)
+    → notes_at notes (filter_map (λ n. offset_if (test n) n) (clear_notes notes)) ≡ filter test (clear_notes notes)
 notes_at_offsets test notes =
-    each_found notes (filter test (clear_notes notes)) (λ n h.
+    ap (notes_at notes) (offsets_are test (clear_notes notes))
+    ∙ each_found notes (filter test (clear_notes notes)) (λ n h.
     (In-clear_notes n notes).0 ((In-filter test (clear_notes notes) n).0 h).0)

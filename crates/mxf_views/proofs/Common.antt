@@ -84,11 +84,11 @@ pub use Rattle.mxf_views.specs.Findings.{has_other_rip, is_partial, is_unfit_rip
 pub use Rattle.mxf_views.specs.Findings.{lost_by, offsets_for, reads_value}
 pub use Rattle.mxf_views.specs.Gaps.{AreGaps, gaps_from, gaps_of}
 pub use Rattle.mxf_views.specs.Identified.{is_below, is_of, unreadable_offsets, with_uid}
-pub use Rattle.mxf_views.specs.Kept.{HasRoom, IsHull, IsStartBelow, KeptParts, MeetAt, StartsRise, copies_followed}
-pub use Rattle.mxf_views.specs.Kept.{copy_by, followed, kept_in, nothing_kept}
-pub use Rattle.mxf_views.specs.Kept.{has_some_metadata, is_outside, is_placed, kept_of, lies_between, notes_at}
-pub use Rattle.mxf_views.specs.Kept.{offsets_where, or_itself, reaches_from, reaches_of, renewed, stands_clear}
-pub use Rattle.mxf_views.specs.Kept.{states_metadata, with_copy, with_found}
+pub use Rattle.mxf_views.specs.Kept.{HasRoom, IsHull, IsStartBelow, KeptParts, MeetAt, RiseBy, StartsRise, copies_followed}
+pub use Rattle.mxf_views.specs.Kept.{copy_by, followed, has_some_metadata, is_kept, is_outside, kept_among, kept_at}
+pub use Rattle.mxf_views.specs.Kept.{kept_in, kept_of, kept_partition, kept_random_index_pack, kept_segment}
+pub use Rattle.mxf_views.specs.Kept.{kept_unreadable_pack, lies_between, notes_at, nothing_kept, or_itself, outside}
+pub use Rattle.mxf_views.specs.Kept.{reaches_from, reaches_of, renewed, states_metadata, with_found, with_keyed}
 unfoldable pub use Rattle.mxf_views.specs.Kept.{can_bring_start}
 pub use Rattle.mxf_views.specs.KeptAbove.{EndsBy, IsOfNone, IsStarting, IsUnionAt, clear_from, counted_above}
 pub use Rattle.mxf_views.specs.Labels.{is_in_copy, is_in_zone, primer_there}
@@ -133,7 +133,6 @@ pub use Rattle.mxf_views.specs.declared.finding.Finding.{Finding}
 pub use Rattle.mxf_views.specs.declared.index.place.Pair.{Pair}
 pub use Rattle.mxf_views.specs.declared.index.place.Place.{Place}
 pub use Rattle.mxf_views.specs.declared.index.place.Place.TheVariants.{Ambiguous, At, NotIndexed}
-pub use Rattle.mxf_views.specs.declared.kept.offsets.Placed.{Placed}
 pub use Rattle.mxf_views.specs.declared.kept.sums.Mark.{Mark}
 pub use Rattle.mxf_views.specs.declared.random_index.RipView.TheVariants.{Absent, One}
 pub use Rattle.mxf_views.specs.declared.reference.Found.{Found}

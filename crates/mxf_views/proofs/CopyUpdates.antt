@@ -1,16 +1,19 @@
 -- The copies of the header metadata once a note was added: those elsewhere are counted anew where they may have
 -- changed.
-use Rattle.mxf_views.proofs.Common.{◌≡◌, ◌≢◌, ℕ, zero, suc, length, ◌-◌, ◌<◌, ◌≤◌, ◌⊎◌, Bool, true, false, cond, List}
+use Rattle.mxf_views.proofs.Common.{◌+◌, count_by, count_by-cons, tally, copies_among, kept_partition, option_map, with_keyed}
+use Rattle.mxf_views.specs.Partitions.{in_numbers}
+use Rattle.mxf_views.proofs.KeyedLists.{In-with_keyed, rises-with_keyed}
+use Rattle.mxf_views.proofs.Common.{◌≡◌, ◌≢◌, ℕ, suc, length, ◌-◌, ◌<◌, ◌≤◌, ◌⊎◌, Bool, true, false, cond, List}
 use Rattle.mxf_views.proofs.Common.{[], ◌∷◌, Option, Some, None, refl, sym, ap, subst, ◌∙◌, inl, inr, arith, eqb-true}
-use Rattle.mxf_views.proofs.Common.{eq-eqb, ◌↔◌, ◌||◌, ◌==◌, nat_lt, find, filter, map, if◌then◌else◌, AllWithin}
-use Rattle.mxf_views.proofs.Common.{cons_option, filter_map, insert, option_and_then, ltb-true, lt-ltb, ltb-false}
-use Rattle.mxf_views.proofs.Common.{false_from_ne_true, and_parts, NoteParts, kind_of, end_of, In, IsContent}
+use Rattle.mxf_views.proofs.Common.{eq-eqb, ◌||◌, ◌==◌, nat_lt, find, filter, map, if◌then◌else◌}
+use Rattle.mxf_views.proofs.Common.{cons_option, filter_map, option_and_then, ltb-true, ltb-false}
+use Rattle.mxf_views.proofs.Common.{and_parts, NoteParts, kind_of, end_of, In, IsContent}
 use Rattle.mxf_views.proofs.Common.{reduced_with, IsClear, clear_notes, In-clear_notes, CopyInfo, CopiesRise}
 use Rattle.mxf_views.proofs.Common.{copies_of, copy_from, copy_of, has_metadata, is_fill, is_fill_note, is_primer}
 use Rattle.mxf_views.proofs.Common.{is_readable_primer, start_of, IsHull, copies_followed, copy_by, has_some_metadata}
-use Rattle.mxf_views.proofs.Common.{states_metadata, is_outside, renewed, with_copy, PartitionParts, partition_at}
-use Rattle.mxf_views.proofs.Common.{partitions_of, In-filter, In-map, find-only, found-In, none_found, all-In}
-use Rattle.mxf_views.proofs.Common.{all_from_In, and_cases, IsContent-reduced_with, can_bring_start, or_itself}
+use Rattle.mxf_views.proofs.Common.{states_metadata, is_outside, renewed, PartitionParts, partition_at}
+use Rattle.mxf_views.proofs.Common.{partitions_of, In-filter, In-map, find-only, found-In, none_found}
+use Rattle.mxf_views.proofs.Common.{and_cases, IsContent-reduced_with, can_bring_start, or_itself}
 use Rattle.mxf_views.proofs.Common.{with_found, rises-map, rises-filter, IsNew, clear_after, IsUnmet, SameOutside}
 use Rattle.mxf_klv.specs.Rising.{SameMembers}
 use Rattle.mxf_views.specs.Kept.{may_change}
@@ -186,63 +189,6 @@ same_copies : (cs ds : List CopyInfo) → CopiesRise cs → CopiesRise ds → Sa
 same_copies cs ds r s =
     same_by_members (λ (c : CopyInfo). c.partition) cs ds ((by_partition cs).0 r) ((by_partition ds).0 s)
 
-In-with_copy : (c x : CopyInfo) (ds : List CopyInfo) → In x (with_copy c ds) ↔ ((x ≡ c) ⊎ In x ds)
-In-with_copy c x [] = (λ h. h, λ h. h)
-In-with_copy c x (d ∷ ds) =
-    let ih = In-with_copy c x ds in
-    elim (nat_lt c.partition d.partition) as (λ b. In x (cond b (c ∷ d ∷ ds) (d ∷ with_copy c ds))
-    ↔ ((x ≡ c) ⊎ In x (d ∷ ds))) [
-      | true ↦ (λ h. h, λ h. h)
-      | false ↦ (
-        λ h. elim h [ inl e ↦ inr (inl e) | inr k ↦ elim (ih.0 k) [ inl e ↦ inl e | inr i ↦ inr (inr i) ] ],
-        λ h. elim h [ inl e ↦ inr (ih.1 (inl e)) | inr k ↦ elim k [ inl e ↦ inl e | inr i ↦ inr (ih.1 (inr i)) ] ],
-      )
-    ]
-
-rise-with_copy : (c : CopyInfo) (ds : List CopyInfo) → CopiesRise ds
-    → ((d : CopyInfo) → In d ds → d.partition ≢ c.partition) → CopiesRise (with_copy c ds)
-rise-with_copy c [] r ne = (tt, tt)
-rise-with_copy c (d ∷ ds) r ne =
-    elim (nat_lt c.partition d.partition) as (λ b. nat_lt c.partition d.partition ≡ b
-    → CopiesRise (cond b (c ∷ d ∷ ds) (d ∷ with_copy c ds))) [
-      | true ↦ λ e. (
-          let l : c.partition < d.partition = ltb-true c.partition d.partition e in (
-            (
-              l,
-              all_from_In (λ (x : CopyInfo). c.partition < x.partition) ds (λ x h.
-                  let a : d.partition < x.partition = all-In (λ (y : CopyInfo). d.partition < y.partition) ds x r.0 h in
-                  omega (arith, a, l)),
-            ),
-            r,
-          ))
-      | false ↦ λ e. (
-          let l : d.partition ≤ c.partition = ltb-false c.partition d.partition e in
-          let n : d.partition ≢ c.partition = ne d (inl refl) in (
-            all_from_In (λ (x : CopyInfo). d.partition < x.partition) (with_copy c ds) (λ x h.
-                elim ((In-with_copy c x ds).0 h) [
-                  | inl q ↦ (
-                      let b : x.partition ≡ c.partition = ap (λ (y : CopyInfo). y.partition) q in omega
-                      (arith, l, n, b))
-                  | inr k ↦ all-In (λ (y : CopyInfo). d.partition < y.partition) ds x r.0 k
-                ]),
-            rise-with_copy c ds r.1 (λ x h. ne x (inr h)),
-          ))
-    ] refl
-
-pub inserted_copy : (c : CopyInfo) (cs : List CopyInfo) (i : ℕ) → i ≤ length cs
-    → AllWithin (λ d. d.partition ≤ c.partition) cs 0 i → AllWithin (λ d. c.partition < d.partition) cs i (length cs)
-    → insert cs i c ≡ with_copy c cs
-inserted_copy c [] zero l f g = refl
-inserted_copy c [] (suc i) l f g = absurd (omega arith)
-inserted_copy c (d ∷ ds) zero l f g =
-    let h : c.partition < d.partition = g 0 c (omega arith) (omega arith) in rw (lt-ltb c.partition d.partition h) refl
-inserted_copy c (d ∷ ds) (suc i) l f g =
-    let h : d.partition ≤ c.partition = f 0 c (omega arith) (omega arith) in
-    let no : nat_lt c.partition d.partition ≡ false = false_from_ne_true (nat_lt c.partition d.partition) (λ t.
-    let u : c.partition < d.partition = ltb-true c.partition d.partition t in omega arith) in
-    rw no (ap (λ l. d ∷ l) (inserted_copy c ds i (omega arith)
-    (λ k e a b. f (suc k) e (omega arith) (omega arith)) (λ k e a b. g (suc k) e (omega arith) (omega arith))))
-
 -- Counting a copy anew leaves it that of its partition.
 renewed_partition : (notes : List NoteParts) (start end : ℕ) (brings : Bool) (c : CopyInfo)
     → (renewed notes start end brings c).partition ≡ c.partition
@@ -332,7 +278,7 @@ module _ (x : NoteParts) (notes : List NoteParts) (start end : ℕ) (r : IsConte
   copies_follow =
       let found = λ (d : CopyInfo). d.partition == x.offset in
       elim (find found (copies_of after)) as (λ o. find found (copies_of after) ≡ o
-      → with_found o (map renew kept) ≡ copies_of after) [
+      → with_found (λ (d : CopyInfo). d.partition) o (map renew kept) ≡ copies_of after) [
         | None ↦ λ e. same_copies (map renew kept) (copies_of after) rises all_rise (λ d. (
           λ k. (kept_is d k).0,
           λ k. elim (is_kept d k) [
@@ -347,9 +293,10 @@ module _ (x : NoteParts) (notes : List NoteParts) (start end : ℕ) (r : IsConte
             let high : end_of x ≤ end = h.high in
             outside_says start end x.offset (ap (is_outside start end) (sym at ∙ sym q) ∙ (kept_is d k).1) h.low
             (omega (arith, high)) in
-            same_copies (with_copy c (map renew kept)) (copies_of after) (rise-with_copy c (map renew kept) rises other)
-            all_rise (λ d.
-            let w = In-with_copy c d (map renew kept) in (
+            let key = λ (d : CopyInfo). d.partition in
+            same_copies (with_keyed key c (map renew kept)) (copies_of after)
+            ((by_partition _).1 (rises-with_keyed key c (map renew kept) ((by_partition _).0 rises) other)) all_rise (λ d.
+            let w = In-with_keyed key c d (map renew kept) in (
               λ k. elim (w.0 k) [
                 | inl q ↦ subst (λ (y : CopyInfo). In y (copies_of after)) (sym q) f.0
                 | inr i ↦ (kept_is d i).0
@@ -382,6 +329,45 @@ copies_each clear (n ∷ ns) =
             | false ↦ ih
           ]
     ]
+
+-- A copy is the same by what its partition states in numbers.
+pub copy_in_numbers : (clear : List NoteParts) (p : PartitionParts) → copy_of clear (in_numbers p) ≡ copy_of clear p
+unfolding copy_of
+copy_in_numbers clear p = refl
+
+-- The same by what is kept of the partitions.
+pub kept_copies : (clear ns : List NoteParts)
+    → copies_among clear (filter_map kept_partition ns) ≡ filter_map (copy_by clear) ns
+unfolding copy_of
+kept_copies clear [] = refl
+kept_copies clear (n ∷ ns) =
+    let ih = kept_copies clear ns in
+    let rest = filter_map kept_partition ns in
+    elim (partition_at n) as (λ o.
+    map (copy_of clear) (filter has_metadata (cons_option (option_map in_numbers o) rest))
+    ≡ cons_option (option_and_then (λ p. if has_metadata p then Some (copy_of clear p) else None) o)
+    (filter_map (copy_by clear) ns)) [
+      | None ↦ ih
+      | Some p ↦ elim (has_metadata p) as (λ b.
+          map (copy_of clear) (cond b (in_numbers p ∷ filter has_metadata rest) (filter has_metadata rest))
+          ≡ cons_option (if b then Some (copy_of clear p) else None) (filter_map (copy_by clear) ns)) [
+            | true ↦ ap (λ l. copy_of clear p ∷ l) ih
+            | false ↦ ih
+          ]
+    ]
+
+pub counted_copies : (ns : List NoteParts)
+    → count_by has_metadata (filter_map kept_partition ns) ≡ count_by states_metadata ns
+counted_copies [] = refl
+counted_copies (n ∷ ns) =
+    let ih = counted_copies ns in
+    elim (partition_at n) as (λ o.
+    count_by has_metadata (cons_option (option_map in_numbers o) (filter_map kept_partition ns))
+    ≡ tally (has_some_metadata o) + count_by states_metadata ns) [
+      | None ↦ omega (arith, ih)
+      | Some p ↦ count_by-cons has_metadata (in_numbers p) (filter_map kept_partition ns)
+          ∙ ap (λ k. tally (has_metadata p) + k) ih
+    ] ∙ sym (count_by-cons states_metadata n ns)
 
 pub copies_by_notes : (notes : List NoteParts)
     → filter_map (copy_by (clear_notes notes)) (clear_notes notes) ≡ copies_of notes

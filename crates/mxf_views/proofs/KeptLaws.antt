@@ -1,51 +1,95 @@
 -- What is kept of a content, and what an addition makes of it.
-use Rattle.mxf_views.proofs.Common.{◌≡◌, ℕ, Bool, List, [], refl, sym, ap, subst, ◌∙◌, NoteParts, clear_notes}
-use Rattle.mxf_views.proofs.Common.{CopyInfo, copies_of, KeptParts, copies_followed, followed, nat_cmp, is_placed}
-use Rattle.mxf_views.proofs.Common.{notes_at, offsets_where, reaches_of, partition_at, partitions_among}
-use Rattle.mxf_views.proofs.Common.{partitions_of, placed_segment, segments_among, segments_of, rips_of, kept_of}
-use Rattle.mxf_views.proofs.Common.{can_bring_start, stands_clear, IsRising, Placed, nothing_kept}
+use Rattle.mxf_views.proofs.Common.{◌≡◌, ℕ, Bool, List, [], ◌∷◌, Option, None, Some, refl, sym, ap, subst, ◌∙◌, true, false}
+use Rattle.mxf_views.proofs.Common.{NoteParts, clear_notes, CopyInfo, copies_of, KeptParts, copies_followed, followed}
+use Rattle.mxf_views.proofs.Common.{kept_among, kept_at, kept_partition, kept_random_index_pack, kept_segment}
+use Rattle.mxf_views.proofs.Common.{kept_unreadable_pack, notes_at, reaches_of, partition_at, partitions_of, not}
+use Rattle.mxf_views.proofs.Common.{placed_segment, segments_of, rips_of, kept_of, can_bring_start, nothing_kept, map}
+use Rattle.mxf_views.proofs.Common.{cons_option, find, ◌==◌, filter_map, In, inl, inr, IsContent, IsNonDecreasingBy, RiseBy}
+use Rattle.mxf_views.proofs.Common.{PartitionParts, SegmentAtParts, option_map, outside, never_falls}
+use Rattle.mxf_views.proofs.Common.{is_no_unreadable_pack, is_outside, is_rip_note, rises-filter}
 use Rattle.mxf_views.specs.declared.kept.arrival.Arrival.{Arrival}
-use Rattle.mxf_views.specs.Kept.{HasArrived}
-use Rattle.mxf_views.proofs.ClearChanges.{notes_at_offsets, offsets_follow, offsets_rise}
-use Rattle.mxf_views.proofs.CopyUpdates.{copies_follow}
-use Rattle.mxf_klv.proofs.Lists.{filter_map_some}
-use Rattle.mxf_views.specs.declared.kept.offsets.Placed.TheVariants as kinds
+use Rattle.mxf_views.specs.Kept.{HasArrived, offset_if, partitions_at, segments_at}
+use Rattle.mxf_views.specs.Partitions.{in_numbers}
+use Rattle.mxf_views.specs.Places.{without_entries}
+use Rattle.mxf_views.proofs.ClearChanges.{notes_at_offsets}
+use Rattle.mxf_views.proofs.CopyUpdates.{copies_follow, partition_found}
+use Rattle.mxf_views.proofs.KeptItems.{kept_follow, kept_found, kept_rise}
+use Rattle.mxf_views.proofs.KeyedLists.{rise_by}
+use Rattle.mxf_views.proofs.PartitionLaws.{offset-partition_at}
+use Rattle.mxf_views.proofs.SegmentLaws.{offset-placed_segment}
 
 -- What is kept of no note.
 pub kept_of_none : nothing_kept ≡ kept_of []
 unfolding copies_of partitions_of
 kept_of_none = refl
 
-pub kept_by : (ps ss rs us hs : List ℕ) (cs : List CopyInfo) (notes : List NoteParts)
-    → ps ≡ offsets_where (is_placed kinds.Partition) notes → ss ≡ offsets_where (is_placed kinds.Segment) notes
-    → rs ≡ offsets_where (is_placed kinds.RandomIndexPack) notes
-    → us ≡ offsets_where (is_placed kinds.UnreadablePack) notes → cs ≡ copies_of notes → hs ≡ reaches_of cs
+pub kept_by : (ps : List PartitionParts) (ss : List SegmentAtParts) (rs us hs : List ℕ) (cs : List CopyInfo)
+    (notes : List NoteParts) → ps ≡ kept_among kept_partition notes → ss ≡ kept_among kept_segment notes
+    → rs ≡ kept_among kept_random_index_pack notes → us ≡ kept_among kept_unreadable_pack notes
+    → cs ≡ copies_of notes → hs ≡ reaches_of cs
     → record { partitions = ps; segments = ss; rips = rs; unreadable = us; copies = cs; reaches = hs }
     ≡ kept_of notes
 kept_by ps ss rs us hs cs notes p s r u c h =
     let reaches : hs ≡ reaches_of (copies_of notes) = h ∙ ap reaches_of c in
     λ i. record { partitions = p i; segments = s i; rips = r i; unreadable = u i; copies = c i; reaches = reaches i }
 
+-- ---- the key of what is kept is the offset of its note
+
+pub offset-kept_partition : (n : NoteParts) (p : PartitionParts) → kept_partition n ≡ Some p → p.offset ≡ n.offset
+offset-kept_partition n p e =
+    elim (partition_at n) as (λ o. partition_at n ≡ o → option_map in_numbers o ≡ Some p → p.offset ≡ n.offset) [
+      | None ↦ λ _ u. absurd cc
+      | Some q ↦ λ f u. (
+          let same : in_numbers q ≡ p = cc (u) in
+          ap (λ (x : PartitionParts). x.offset) (sym same) ∙ offset-partition_at n q f)
+    ] refl e
+
+pub offset-kept_segment : (n : NoteParts) (s : SegmentAtParts) → kept_segment n ≡ Some s → s.offset ≡ n.offset
+offset-kept_segment n s e =
+    elim (placed_segment n) as (λ o. placed_segment n ≡ o → option_map without_entries o ≡ Some s
+    → s.offset ≡ n.offset) [
+      | None ↦ λ _ u. absurd cc
+      | Some q ↦ λ f u. (
+          let same : without_entries q ≡ s = cc (u) in
+          ap (λ (x : SegmentAtParts). x.offset) (sym same) ∙ offset-placed_segment n q f)
+    ] refl e
+
+offset-offset_if : (test : NoteParts → Bool) (n : NoteParts) (o : ℕ) → offset_if (test n) n ≡ Some o
+    → o ≡ n.offset
+offset-offset_if test n o e =
+    elim (test n) as (λ b. offset_if b n ≡ Some o → o ≡ n.offset) [
+      | true ↦ λ u. (let same : n.offset ≡ o = cc (u) in sym same)
+      | false ↦ λ u. absurd cc
+    ] e
+
+pub offset-kept_rip : (n : NoteParts) (o : ℕ) → kept_random_index_pack n ≡ Some o → o ≡ n.offset
+offset-kept_rip = offset-offset_if is_rip_note
+
+pub offset-kept_unreadable : (n : NoteParts) (o : ℕ) → kept_unreadable_pack n ≡ Some o → o ≡ n.offset
+offset-kept_unreadable = offset-offset_if (λ n. not (is_no_unreadable_pack n))
+
 -- Once a note has arrived.
 module _ (a : Arrival) (after : List NoteParts) (before : KeptParts) (k : HasArrived a after before) where
-  pub rising_before : (kind : Placed) (os : List ℕ) → os ≡ offsets_where (is_placed kind) k.notes
-      → IsRising nat_cmp os
-  rising_before kind os same =
-      subst (IsRising nat_cmp) (sym same) (offsets_rise (is_placed kind) k.notes k.arrival.content)
-
-  pub offsets_after : (kind : Placed) (os : List ℕ) (there : Bool) → os ≡ offsets_where (is_placed kind) k.notes
-      → there ≡ stands_clear (is_placed kind) after a.offset
-      → followed there a.offset a.start a.end os ≡ offsets_where (is_placed kind) after
-  offsets_after kind os there same stands =
+  pub list_after : {A : Type 0} (take : NoteParts → Option A) (key : A → ℕ)
+      → ((n : NoteParts) (x : A) → take n ≡ Some x → key x ≡ n.offset) → (xs : List A) (there : Option A)
+      → xs ≡ kept_among take k.notes → there ≡ kept_at take after a.offset
+      → followed key there a.start a.end xs ≡ kept_among take after
+  list_after take key own xs there same at =
       let is = k.arrival in
-      let test = is_placed kind in
-      ap (λ t. followed t a.offset a.start a.end os) stands
-      ∙ ap (λ o. followed (stands_clear test after o) o a.start a.end os) is.offset
-      ∙ ap (followed (stands_clear test after k.note.offset) k.note.offset a.start a.end) same
-      ∙ ap (λ ns. followed (stands_clear test ns k.note.offset) k.note.offset a.start a.end
-      (offsets_where test k.notes)) k.is_after
-      ∙ offsets_follow test k.note k.notes a.start a.end is.content (is.reduced, k.new) is.hull
-      ∙ ap (offsets_where test) (sym k.is_after)
+      ap (λ t. followed key t a.start a.end xs) at
+      ∙ ap (λ o. followed key (kept_at take after o) a.start a.end xs) is.offset
+      ∙ ap (followed key (kept_at take after k.note.offset) a.start a.end) same
+      ∙ ap (λ ns. followed key (kept_at take ns k.note.offset) a.start a.end (kept_among take k.notes)) k.is_after
+      ∙ kept_follow take key own k.note k.notes a.start a.end is.content (is.reduced, k.new) is.hull
+      ∙ ap (kept_among take) (sym k.is_after)
+
+  pub outside_never_falls : {A : Type 0} (take : NoteParts → Option A) (key : A → ℕ)
+      → ((n : NoteParts) (x : A) → take n ≡ Some x → key x ≡ n.offset) → (xs left : List A)
+      → xs ≡ kept_among take k.notes → left ≡ outside key a.start a.end xs → IsNonDecreasingBy key left
+  outside_never_falls take key own xs left same out =
+      subst (IsNonDecreasingBy key) (sym (out ∙ ap (outside key a.start a.end) same))
+      (never_falls key _ (rises-filter key (λ x. is_outside a.start a.end (key x)) (kept_among take k.notes)
+      (kept_rise take key own k.notes k.arrival.content)))
 
   pub copies_after : (cs : List CopyInfo) → cs ≡ copies_of k.notes
       → copies_followed after a.offset a.start a.end a.can_bring_start cs ≡ copies_of after
@@ -59,28 +103,72 @@ module _ (a : Arrival) (after : List NoteParts) (before : KeptParts) (k : HasArr
       ∙ copies_follow k.note k.notes a.start a.end is.content (is.reduced, k.new) is.hull
       ∙ ap copies_of (sym k.is_after)
 
--- The notes at kept offsets are read as the partitions, the segments and the random index packs.
-pub partitions_kept : (notes : List NoteParts) (offsets : List ℕ)
-    → offsets ≡ offsets_where (is_placed kinds.Partition) notes
-    → partitions_among (notes_at notes offsets) ≡ partitions_of notes
-unfolding partitions_of
-partitions_kept notes offsets e =
-    ap (λ o. partitions_among (notes_at notes o)) e
-    ∙ ap partitions_among (notes_at_offsets (is_placed kinds.Partition) notes)
-    ∙ filter_map_some partition_at (clear_notes notes)
+-- ---- what is kept is that of the partitions and of the segments
 
-pub segments_kept : (notes : List NoteParts) (offsets : List ℕ)
-    → offsets ≡ offsets_where (is_placed kinds.Segment) notes
-    → segments_among (notes_at notes offsets) ≡ segments_of notes
+mapped : {A B : Type 0} (f : A → B) (take : NoteParts → Option A) (ns : List NoteParts)
+    → filter_map (λ n. option_map f (take n)) ns ≡ map f (filter_map take ns)
+mapped f take [] = refl
+mapped f take (n ∷ ns) =
+    let ih = mapped f take ns in
+    elim (take n) as (λ o. cons_option (option_map f o) (filter_map (λ n. option_map f (take n)) ns)
+    ≡ map f (cons_option o (filter_map take ns))) [
+      | None ↦ ih
+      | Some x ↦ ap (λ l. f x ∷ l) ih
+    ]
+
+pub partitions_in_numbers : (notes : List NoteParts)
+    → kept_among kept_partition notes ≡ map in_numbers (partitions_of notes)
+unfolding partitions_of
+partitions_in_numbers notes = mapped in_numbers partition_at (clear_notes notes)
+
+pub segments_in_numbers : (notes : List NoteParts)
+    → kept_among kept_segment notes ≡ map without_entries (segments_of notes)
 unfolding segments_of
-segments_kept notes offsets e =
-    ap (λ o. segments_among (notes_at notes o)) e
-    ∙ ap segments_among (notes_at_offsets (is_placed kinds.Segment) notes)
-    ∙ filter_map_some placed_segment (clear_notes notes)
+segments_in_numbers notes = mapped without_entries placed_segment (clear_notes notes)
+
+pub partitions_rise_by : (notes : List NoteParts) → IsContent notes
+    → RiseBy (λ p. p.offset) (kept_among kept_partition notes)
+partitions_rise_by notes r =
+    (rise_by _ _).1 (kept_rise kept_partition (λ p. p.offset) offset-kept_partition notes r)
+
+pub segments_rise_by : (notes : List NoteParts) → IsContent notes → RiseBy (λ s. s.offset) (kept_among kept_segment notes)
+segments_rise_by notes r = (rise_by _ _).1 (kept_rise kept_segment (λ s. s.offset) offset-kept_segment notes r)
+
+-- Each is found where it stands.
+each_at : {A : Type 0} (key : A → ℕ) (f : A → A) → ((x : A) → key (f x) ≡ key x) → (all xs : List A)
+    → ((x : A) → In x xs → find (λ y. key y == key x) all ≡ Some x)
+    → filter_map (λ k. find (λ y. key y == key k) all) (map f xs) ≡ xs
+each_at key f same all [] found = refl
+each_at key f same all (x ∷ xs) found =
+    ap (λ o. cons_option o (filter_map (λ k. find (λ y. key y == key k) all) (map f xs)))
+    (ap (λ o. find (λ y. key y == o) all) (same x) ∙ found x (inl refl))
+    ∙ ap (λ l. x ∷ l) (each_at key f same all xs (λ y h. found y (inr h)))
+
+pub partitions_kept : (notes : List NoteParts) (kept : List PartitionParts)
+    → kept ≡ kept_among kept_partition notes → partitions_at notes kept ≡ partitions_of notes
+partitions_kept notes kept e =
+    ap (partitions_at notes) (e ∙ partitions_in_numbers notes)
+    ∙ each_at (λ (p : PartitionParts). p.offset) in_numbers (λ p. refl) (partitions_of notes) (partitions_of notes)
+    (partition_found notes)
+
+-- Segments of the notes are found by what they state in numbers.
+pub segments_found : (notes : List NoteParts) (ss : List SegmentAtParts)
+    → ((s : SegmentAtParts) → In s ss → In s (segments_of notes)) → segments_at notes (map without_entries ss) ≡ ss
+unfolding segments_of
+segments_found notes ss there =
+    each_at (λ (s : SegmentAtParts). s.offset) without_entries (λ s. refl) (kept_among placed_segment notes) ss
+    (λ s h. kept_found placed_segment (λ s. s.offset) offset-placed_segment notes s (there s h))
+
+pub segments_kept : (notes : List NoteParts) (kept : List SegmentAtParts) → kept ≡ kept_among kept_segment notes
+    → segments_at notes kept ≡ segments_of notes
+unfolding segments_of
+segments_kept notes kept e =
+    ap (segments_at notes) (e ∙ segments_in_numbers notes)
+    ∙ segments_found notes (segments_of notes) (λ s h. h)
 
 pub rips_kept : (notes : List NoteParts) (offsets : List ℕ)
-    → offsets ≡ offsets_where (is_placed kinds.RandomIndexPack) notes
+    → offsets ≡ kept_among kept_random_index_pack notes
     → notes_at notes offsets ≡ rips_of notes
 unfolding rips_of
 rips_kept notes offsets e =
-    ap (notes_at notes) e ∙ notes_at_offsets (is_placed kinds.RandomIndexPack) notes
+    ap (notes_at notes) e ∙ notes_at_offsets is_rip_note notes

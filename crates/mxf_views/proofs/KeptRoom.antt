@@ -1,9 +1,9 @@
 -- How much room is wanted for what is kept of two contents.
 use Rattle.mxf_views.proofs.Common.{◌≡◌, ◌≤◌, ◌+◌, ℕ, Bool, List, [], ◌∷◌, not, sym, subst, ap, ◌∙◌, arith, length}
-use Rattle.mxf_views.proofs.Common.{count_by, filter, length-map, NoteParts, AreReduced, IsContent, clear_notes}
-use Rattle.mxf_views.proofs.Common.{copies_of, count_by-le-length, is_disputed, KeptParts, is_placed, offsets_where}
+use Rattle.mxf_views.proofs.Common.{count_by, NoteParts, AreReduced, IsContent, clear_notes}
+use Rattle.mxf_views.proofs.Common.{copies_of, count_by-le-length, is_disputed, KeptParts}
 use Rattle.mxf_views.proofs.Common.{states_metadata, kept_of, length-filter_le, reduced_union, reduced_with, MeetAt}
-use Rattle.mxf_views.proofs.Common.{clear_from, Placed, HasRoom, kept_in, nothing_kept}
+use Rattle.mxf_views.proofs.Common.{clear_from, HasRoom, kept_in, nothing_kept}
 use Rattle.mxf_catalogue.specs.Disputes.{undisputed_notes}
 use Rattle.mxf_views.specs.declared.kept.KeptLists.{KeptLists}
 use Rattle.mxf_views.specs.Kept.{HasRoomForOne}
@@ -11,12 +11,19 @@ use Rattle.mxf_views.proofs.AboveLaws.{new_are_clear, union_is_reduced}
 use Rattle.mxf_views.proofs.CopyUpdates.{length-copies_of}
 use Rattle.mxf_views.proofs.ReachLaws.{length-reaches_from}
 use Rattle.mxf_catalogue.proofs.ClearLaws.{count_in_union, count_is_length}
-use Rattle.mxf_views.specs.declared.kept.offsets.Placed.TheVariants as kinds
+use Rattle.mxf_views.proofs.Common.{count_by-cons, Option, None, Some, refl, cons_option, filter_map, is_some, tally, is_kept}
+use Rattle.mxf_views.proofs.Common.{kept_partition, kept_random_index_pack, kept_segment, kept_unreadable_pack}
 
-pub length-offsets_where : (test : NoteParts → Bool) (notes : List NoteParts)
-    → length (offsets_where test notes) ≡ count_by test (clear_notes notes)
-length-offsets_where test notes =
-    length-map (filter test (clear_notes notes)) (λ n. n.offset) ∙ sym (count_is_length test (clear_notes notes))
+-- There are as many as notes of which something is kept.
+length-kept : {A : Type 0} (take : NoteParts → Option A) (ns : List NoteParts)
+    → length (filter_map take ns) ≡ count_by (is_kept take) ns
+length-kept take [] = refl
+length-kept take (n ∷ ns) =
+    let ih = length-kept take ns in
+    elim (take n) as (λ o. length (cons_option o (filter_map take ns)) ≡ tally (is_some o) + count_by (is_kept take) ns) [
+      | None ↦ omega (arith, ih)
+      | Some x ↦ omega (arith, ih)
+    ] ∙ sym (count_by-cons (is_kept take) n ns)
 
 pub length-kept_copies : (notes : List NoteParts) → length (copies_of notes)
     ≡ count_by states_metadata (clear_notes notes)
@@ -26,10 +33,10 @@ length-kept_copies notes = length-copies_of notes ∙ sym (count_is_length state
 pub room_for_one : (b : ℕ) (notes own : List NoteParts) (x : NoteParts) (k : KeptLists) → MeetAt b own (x ∷ [])
     → notes ≡ reduced_with x own → HasRoomForOne k → HasRoom (kept_in k) (clear_from b notes) k
 room_for_one b notes own x k m e room = record {
-  partitions = omega (arith, one (is_placed kinds.Partition), room.partitions, k.partitions.ok.0);
-  segments = omega (arith, one (is_placed kinds.Segment), room.segments, k.segments.ok.0);
-  rips = omega (arith, one (is_placed kinds.RandomIndexPack), room.rips, k.random_index_packs.ok.0);
-  unreadable = omega (arith, one (is_placed kinds.UnreadablePack), room.unreadable, k.unreadable_packs.ok.0);
+  partitions = omega (arith, one (is_kept kept_partition), room.partitions, k.partitions.ok.0);
+  segments = omega (arith, one (is_kept kept_segment), room.segments, k.segments.ok.0);
+  rips = omega (arith, one (is_kept kept_random_index_pack), room.rips, k.random_index_packs.ok.0);
+  unreadable = omega (arith, one (is_kept kept_unreadable_pack), room.unreadable, k.unreadable_packs.ok.0);
   copies = omega (arith, one states_metadata, room.copies, k.copies.ok.0);
   reaches = omega (arith, one states_metadata, room.reaches, k.reaches.ok.0);
 }
@@ -48,14 +55,13 @@ pub room_for_both : (own other : List NoteParts) (k : KeptLists) → IsContent o
     → HasRoom nothing_kept (clear_notes (reduced_union own other)) k
 room_for_both own other k r s p q keeps room =
     let there = subst (λ (parts : KeptParts). HasRoom parts (clear_notes other) k) keeps room in
-    let all = λ (kind : Placed). length-offsets_where (is_placed kind) own in
     let copies = length-kept_copies own in
     let reaches = length-reaches_from 0 (copies_of own) in
     record {
-      partitions = omega (arith, both (is_placed kinds.Partition), all kinds.Partition, there.partitions);
-      segments = omega (arith, both (is_placed kinds.Segment), all kinds.Segment, there.segments);
-      rips = omega (arith, both (is_placed kinds.RandomIndexPack), all kinds.RandomIndexPack, there.rips);
-      unreadable = omega (arith, both (is_placed kinds.UnreadablePack), all kinds.UnreadablePack, there.unreadable);
+      partitions = omega (arith, both (is_kept kept_partition), length-kept kept_partition (clear_notes own), there.partitions);
+      segments = omega (arith, both (is_kept kept_segment), length-kept kept_segment (clear_notes own), there.segments);
+      rips = omega (arith, both (is_kept kept_random_index_pack), length-kept kept_random_index_pack (clear_notes own), there.rips);
+      unreadable = omega (arith, both (is_kept kept_unreadable_pack), length-kept kept_unreadable_pack (clear_notes own), there.unreadable);
       copies = omega (arith, both states_metadata, copies, there.copies);
       reaches = omega (arith, both states_metadata, copies, reaches, there.reaches);
     }

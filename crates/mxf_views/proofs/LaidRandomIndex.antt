@@ -52,7 +52,7 @@ not_read p e = rw e refl
 module _ (notes : List NoteParts) (parts : List PartitionParts) (same : partitions_of notes ≡ parts)
     (h : (p : PartitionParts) → In p parts → find (λ q. q.offset == p.offset) parts ≡ Some p) where
   one : (at : ℕ) (o : Option RipParts) → is_some o ≡ true → IfSome o (λ rip. rip.entries ≡ map entry_of parts)
-      → rip_view_by notes at o
+      → rip_view_by (partitions_of notes) at o
       ≡ option_map_or (λ rip. One (record { offset = at; entries = one_by_one rip.entries parts })) o Absent
   one at None s e = cc
   one at (Some rip) s e =
@@ -64,18 +64,18 @@ module _ (notes : List NoteParts) (parts : List PartitionParts) (same : partitio
       λ i. One (record { offset = at; entries = all i })
 
   rips-laid : (at : ℕ) (l : List PacketParts) → AllByRecursion IsReadable l → EndsWithRandomIndex parts l
-      → rip_view_among notes (filter is_rip_note (notes_from at l)) ≡ rip_read parts at l
+      → rip_view_among (partitions_of notes) (filter is_rip_note (notes_from at l)) ≡ rip_read parts at l
   unfolding is_rip_note
   rips-laid at [] r e = refl
   rips-laid at (p ∷ []) r e =
       elim (is_rip (kind_of p.key)) as (λ b. is_rip (kind_of p.key) ≡ b
-      → rip_view_among notes (cond b (note_of at p ∷ []) [])
+      → rip_view_among (partitions_of notes) (cond b (note_of at p ∷ []) [])
       ≡ option_map_or (λ rip. One (record { offset = at; entries = one_by_one rip.entries parts }))
       (read_rip p) Absent) [
         | true ↦ λ k.
             let s : is_some (read_rip p) ≡ true =
             subst (λ kind. is_readable_as kind p ≡ true) ((rip_kind (kind_of p.key)).0 k) r.0 in
-            ap (rip_view_by notes at) (rip-note at p k) ∙ one at (read_rip p) s e
+            ap (rip_view_by (partitions_of notes) at) (rip-note at p k) ∙ one at (read_rip p) s e
         | false ↦ λ k. rw (not_read p k) refl
       ] refl
   rips-laid at (p ∷ q ∷ ps) r e =
@@ -89,6 +89,6 @@ unfolding rips_of
 random_index-laid l w =
     let notes = notes_from 0 l in
     let parts = partitions_read 0 l in
-    ap (λ ns. rip_view_among notes (filter is_rip_note ns)) (clear-laid 0 l)
+    ap (λ ns. rip_view_among (partitions_of notes) (filter is_rip_note ns)) (clear-laid 0 l)
     ∙ rips-laid notes parts (partitions_of-laid 0 l) (λ p k. found 0 parts p (rising-read 0 l) k) 0 l w.readable
     w.random_index

@@ -9,7 +9,6 @@ pub mod ClearChanges
 pub mod Common
 pub mod CopyChanges
 pub mod CopyLaws
-pub mod CopySearch
 pub mod CopyUpdates
 pub mod FileBytes
 pub mod FindingLaws
@@ -21,8 +20,11 @@ pub mod GoodFiles
 pub mod IdentifiedLaws
 pub mod IndexCauses
 pub mod KeptFindings
+pub mod KeptItems
 pub mod KeptLaws
+pub mod KeptNoteLaws
 pub mod KeptRoom
+pub mod KeyedLists
 pub mod KindLaws
 pub mod Laid
 pub mod LaidChain
@@ -31,7 +33,7 @@ pub mod LaidIndex
 pub mod LaidPartitions
 pub mod LaidRandomIndex
 pub mod MarkLaws
-pub mod OffsetSearch
+pub mod NumbersLaws
 pub mod OnlyFound
 pub mod PartitionLaws
 pub mod PartitionSearch

@@ -92,11 +92,11 @@ only_from notes n w = record {
 }
 
 view_is : (notes rips : List NoteParts) → Picks notes rips → AreApart 0 rips
-    → IsRipView notes (rip_view_among notes rips)
+    → IsRipView notes (rip_view_among (partitions_of notes) rips)
 view_is notes [] w a = λ n i. (w n).1 i
 view_is notes (n ∷ []) w a =
     let o = only_from notes n w in
-    elim (rip_in n) as (λ r. rip_in n ≡ r → IsRipView notes (rip_view_by notes n.offset r)) [
+    elim (rip_in n) as (λ r. rip_in n ≡ r → IsRipView notes (rip_view_by (partitions_of notes) n.offset r)) [
       | None ↦ λ e. (n, o, refl, λ rip i. let f = (reads (rip_at n.width) n rip).1 i in cc (e, f))
       | Some rip ↦ λ e. (n, o, (rip, (reads (rip_at n.width) n rip).0 e, refl))
     ] refl
@@ -113,23 +113,23 @@ only_of : (notes rips : List NoteParts) → Picks notes rips → AreApart 0 rips
 only_of notes rips w a n o = picked_one (IsClearRip notes) rips w a n o.held o.only
 
 view_to : (notes rips : List NoteParts) → Picks notes rips → AreApart 0 rips → (v : RipView)
-    → IsRipView notes v → rip_view_among notes rips ≡ v
-view_to notes rips w a Absent i = ap (rip_view_among notes) (picked_none (IsClearRip notes) rips w i)
+    → IsRipView notes v → rip_view_among (partitions_of notes) rips ≡ v
+view_to notes rips w a Absent i = ap (rip_view_among (partitions_of notes)) (picked_none (IsClearRip notes) rips w i)
 view_to notes rips w a Several i =
     let s = picked_several (IsClearRip notes) rips w i.one i.other i.one_held i.other_held i.differ in
-    ap (rip_view_among notes) s.3
+    ap (rip_view_among (partitions_of notes)) s.3
 view_to notes rips w a (Unreadable offset) i =
     let n = i.0 in
     let none : rip_in n ≡ None = elim (rip_in n) as (λ r. rip_in n ≡ r → r ≡ None) [
       | None ↦ λ _. refl
       | Some rip ↦ λ e. absurd (i.3 rip ((reads (rip_at n.width) n rip).0 e))
     ] refl in
-    ap (rip_view_among notes) (only_of notes rips w a n i.1) ∙ ap (rip_view_by notes n.offset) none
+    ap (rip_view_among (partitions_of notes)) (only_of notes rips w a n i.1) ∙ ap (rip_view_by (partitions_of notes) n.offset) none
     ∙ ap (λ (x : ℕ). Unreadable x) i.2
 view_to notes rips w a (One r) i =
     let n = i.0 in
-    ap (rip_view_among notes) (only_of notes rips w a n i.1)
-    ∙ ap (rip_view_by notes n.offset) ((reads (rip_at n.width) n i.2.0).1 i.2.1) ∙ ap (λ (x : RipAtParts). One x) i.2.2
+    ap (rip_view_among (partitions_of notes)) (only_of notes rips w a n i.1)
+    ∙ ap (rip_view_by (partitions_of notes) n.offset) ((reads (rip_at n.width) n i.2.0).1 i.2.1) ∙ ap (λ (x : RipAtParts). One x) i.2.2
 
 -- What is known is by the number of the clear random index packs.
 pub rip_view_iff : (notes : List NoteParts) (v : RipView) → IsContent notes

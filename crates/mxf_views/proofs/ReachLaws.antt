@@ -1,12 +1,13 @@
 -- How far copies reach, and the first of them that has a packet.
-use Rattle.mxf_views.proofs.Common.{◌≡◌, ℕ, zero, suc, ◌+◌, ◌<◌, ◌≤◌, Bool, true, false, List, [], ◌∷◌, ◌++◌, Option}
+use Rattle.mxf_views.proofs.Common.{◌≡◌, ℕ, zero, suc, ◌+◌, ◌<◌, ◌≤◌, Bool, true, false, List, [], ◌∷◌, ◌++◌}
 use Rattle.mxf_views.proofs.Common.{Some, None, refl, sym, ap, subst, arith, drop, get_or, length, take, leb-true}
-use Rattle.mxf_views.proofs.Common.{le-leb, cond, ◌==◌, filter, find, map, max, nat_le, nat_lt, then_some, AllWithin}
+use Rattle.mxf_views.proofs.Common.{le-leb, cond, ◌==◌, filter, find, map, max, nat_le, then_some, AllWithin}
 use Rattle.mxf_views.proofs.Common.{IsNonDecreasing, and_from, false_from_ne_true, and_parts, length-map, NoteParts}
 use Rattle.mxf_views.proofs.Common.{end_of, CopyInfo, copies_of, StartsRise, copies_followed, is_outside, reaches_from}
-use Rattle.mxf_views.proofs.Common.{reaches_of, renewed, with_copy, is_in_copy, find-none, length-filter_le, all-In}
-use Rattle.mxf_views.proofs.Common.{leb-false, IsStartBelow, with_found, EndsBy, is_in_zone}
+use Rattle.mxf_views.proofs.Common.{reaches_of, renewed, is_in_copy, find-none, length-filter_le, all-In}
+use Rattle.mxf_views.proofs.Common.{leb-false, IsStartBelow, EndsBy, is_in_zone}
 use Rattle.mxf_views.specs.Kept.{reach_from, reach_of}
+use Rattle.mxf_views.proofs.KeyedLists.{length-with_found}
 
 pub length-reaches_from : (high : ℕ) (cs : List CopyInfo) → length (reaches_from high cs) ≡ length cs
 length-reaches_from high [] = refl
@@ -137,24 +138,11 @@ ends_by_reach cs limit offset at l m n a k d from below s e =
     omega (arith, reach, high, is, l, m)
 
 -- An arrival brings one copy at most.
-length-with_copy : (c : CopyInfo) (cs : List CopyInfo) → length (with_copy c cs) ≡ suc (length cs)
-length-with_copy c [] = refl
-length-with_copy c (d ∷ cs) =
-    elim (nat_lt c.partition d.partition) as (λ b. length (cond b (c ∷ d ∷ cs) (d ∷ with_copy c cs))
-    ≡ suc (suc (length cs))) [
-      | true ↦ refl
-      | false ↦ ap suc (length-with_copy c cs)
-    ]
-
-length-with_found : (o : Option CopyInfo) (cs : List CopyInfo) → length (with_found o cs) ≤ length cs + 1
-length-with_found None cs = omega arith
-length-with_found (Some c) cs = let l = length-with_copy c cs in omega (arith, l)
-
 pub length-copies_followed : (notes : List NoteParts) (offset start end : ℕ) (brings : Bool) (cs : List CopyInfo)
     → length (copies_followed notes offset start end brings cs) ≤ length cs + 1
 length-copies_followed notes offset start end brings cs =
     let outside = filter (λ (c : CopyInfo). is_outside start end c.partition) cs in
-    let l = length-with_found (find (λ (d : CopyInfo). d.partition == offset) (copies_of notes))
+    let l = length-with_found (λ (d : CopyInfo). d.partition) (find (λ (d : CopyInfo). d.partition == offset) (copies_of notes))
     (map (renewed notes start end brings) outside) in
     let m = length-map outside (renewed notes start end brings) in
     let f = length-filter_le (λ (c : CopyInfo). is_outside start end c.partition) cs in

@@ -72,20 +72,20 @@ module _ (a b : List NoteParts) (e : clear_notes a ≡ clear_notes b) where
   unfolding rips_of
   rips = ap (filter is_rip_note) e
 
-  rip_by : (offset : ℕ) (r : Option RipParts) → rip_view_by a offset r ≡ rip_view_by b offset r
+  rip_by : (offset : ℕ) (r : Option RipParts) → rip_view_by (partitions_of a) offset r ≡ rip_view_by (partitions_of b) offset r
   rip_by offset None = refl
   rip_by offset (Some r) = λ i. One record {
     offset = offset;
     entries = map (λ entry. (entry, standing_of (partitions i) entry)) r.entries;
   }
 
-  rip_among : (notes : List NoteParts) → rip_view_among a notes ≡ rip_view_among b notes
+  rip_among : (notes : List NoteParts) → rip_view_among (partitions_of a) notes ≡ rip_view_among (partitions_of b) notes
   rip_among [] = refl
   rip_among (n ∷ []) = rip_by n.offset (rip_in n)
   rip_among (m ∷ n ∷ notes) = refl
 
   rip : rip_view_of a ≡ rip_view_of b
-  rip = rip_among (rips_of a) ∙ ap (rip_view_among b) rips
+  rip = rip_among (rips_of a) ∙ ap (rip_view_among (partitions_of b)) rips
 
   pub same_views : SameViews a b
   same_views = record {

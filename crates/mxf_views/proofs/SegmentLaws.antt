@@ -5,6 +5,8 @@ use Rattle.mxf_views.proofs.Common.{IsClear, clear_notes, In-clear_notes, AreApa
 use Rattle.mxf_views.proofs.Common.{is_segment, placed_segment, segments_of, In-filter_map, SegmentsRise, apart_rises}
 use Rattle.mxf_views.proofs.Common.{rises-filter_map}
 use Rattle.mxf_views.specs.Places.{IsSegmentAt, segment_in}
+use Rattle.mxf_views.proofs.Common.{◌==◌, find, option_and_then, Option}
+use Rattle.mxf_views.proofs.KeptItems.{kept_there}
 use Rattle.mxf_views.proofs.KindLaws.{segment_kind}
 use Rattle.mxf_views.proofs.Rising.{by_segment}
 use Rattle.mxf_views.proofs.ReadingLaws.{reads}
@@ -51,7 +53,7 @@ segments_are notes s =
       λ i. m.1 (i.note, (In-clear_notes i.note notes).1 i.clear, segment_to notes s i),
     )
 
-offset-placed_segment : (n : NoteParts) (s : SegmentAtParts) → placed_segment n ≡ Some s → s.offset ≡ n.offset
+pub offset-placed_segment : (n : NoteParts) (s : SegmentAtParts) → placed_segment n ≡ Some s → s.offset ≡ n.offset
 unfolding placed_segment
 offset-placed_segment n s e =
     elim (segment_in n) as (λ o. option_map (placed n.offset) o ≡ Some s → s.offset ≡ n.offset) [
@@ -68,3 +70,10 @@ segments_rise notes r =
     let clear = clear_notes notes in
     (by_segment _).1 (rises-filter_map (λ n. n.offset) placed_segment (λ s. s.offset) clear offset-placed_segment
     (apart_rises 0 clear (AreApart-clear_notes notes r)))
+
+-- The segment at an offset is that of the clear note there.
+pub segment_by_note : (notes : List NoteParts) (o : ℕ) (found : Option NoteParts)
+    → found ≡ find (λ n. n.offset == o) (clear_notes notes)
+    → option_and_then placed_segment found ≡ find (λ s. s.offset == o) (segments_of notes)
+unfolding segments_of
+segment_by_note = kept_there placed_segment (λ s. s.offset) offset-placed_segment

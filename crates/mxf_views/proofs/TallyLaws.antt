@@ -1,13 +1,17 @@
 -- How many notes there are at most that something is kept of.
 use Rattle.mxf_views.proofs.Common.{◌≡◌, ◌≤◌, Bool, true, false, List, Option, None, ap, refl}
 use Rattle.mxf_views.proofs.Common.{◌||◌, cond, count_by, is_some, not, option_map, kind_of, end_of, NoteParts}
-use Rattle.mxf_views.proofs.Common.{part_and_status, read_as, SegmentParts, segment_at, has_some_metadata, is_placed}
+use Rattle.mxf_views.proofs.Common.{part_and_status, read_as, SegmentParts, segment_at, has_some_metadata}
 use Rattle.mxf_views.proofs.Common.{states_metadata, PartitionParts, is_no_unreadable_pack, pack_of, partition_at}
 use Rattle.mxf_views.proofs.Common.{SegmentAtParts, is_segment, placed_segment}
 use Rattle.mxf_views.proofs.PartitionLaws.{no_pack}
 use Rattle.mxf_klv.proofs.Tests.{none_if}
 use Rattle.mxf_klv.proofs.NoteFilters.{count_le}
-use Rattle.mxf_views.specs.declared.kept.offsets.Placed.TheVariants as kinds
+use Rattle.mxf_views.proofs.Common.{◌∙◌, sym, is_kept, is_rip_note, kept_partition, kept_random_index_pack, kept_segment}
+use Rattle.mxf_views.proofs.Common.{kept_unreadable_pack}
+use Rattle.mxf_views.specs.Kept.{offset_if}
+use Rattle.mxf_views.specs.Partitions.{in_numbers}
+use Rattle.mxf_views.specs.Places.{without_entries}
 
 -- Packets of the note's kind have a partition pack.
 abbrev pub has_pack : NoteParts → Bool
@@ -19,7 +23,7 @@ has_segment n = is_segment (kind_of n.key)
 pub pack_lacked : (n : NoteParts) → has_pack n ≡ false → pack_of n ≡ None
 pack_lacked n e = no_pack n (none_if (part_and_status (kind_of n.key)) e)
 
-no_partition : (n : NoteParts) → has_pack n ≡ false → partition_at n ≡ None
+pub no_partition : (n : NoteParts) → has_pack n ≡ false → partition_at n ≡ None
 unfolding partition_at
 no_partition n e =
     ap (option_map (λ pack. record { offset = n.offset; end = end_of n; pack = pack })) (pack_lacked n e)
@@ -33,8 +37,8 @@ pack_if by none n t =
       | false ↦ λ e. (let f = ap by (no_partition n e) in absurd (cc (f, none, t)))
     ] refl
 
-pub partitions_at_most : (ns : List NoteParts) → count_by (is_placed kinds.Partition) ns ≤ count_by has_pack ns
-partitions_at_most ns = count_le (is_placed kinds.Partition) has_pack ns (pack_if is_some refl)
+pub partitions_at_most : (ns : List NoteParts) → count_by (is_kept kept_partition) ns ≤ count_by has_pack ns
+partitions_at_most ns = count_le (is_kept kept_partition) has_pack ns (pack_if (λ o. is_some (option_map in_numbers o)) refl)
 
 pub copies_at_most : (ns : List NoteParts) → count_by states_metadata ns ≤ count_by has_pack ns
 copies_at_most ns = count_le states_metadata has_pack ns (pack_if has_some_metadata refl)
@@ -47,21 +51,34 @@ pack_if_unreadable n t =
       | false ↦ λ e. absurd cc
     ] t
 
-pub unreadable_at_most : (ns : List NoteParts) → count_by (is_placed kinds.UnreadablePack) ns ≤ count_by has_pack ns
-unreadable_at_most ns = count_le (is_placed kinds.UnreadablePack) has_pack ns pack_if_unreadable
+unreadable_kept : (n : NoteParts) → is_kept kept_unreadable_pack n ≡ not (is_no_unreadable_pack n)
+unreadable_kept n = elim (not (is_no_unreadable_pack n)) as (λ b. is_some (offset_if b n) ≡ b) [
+  | true ↦ refl
+  | false ↦ refl
+]
 
-no_segment : (n : NoteParts) → has_segment n ≡ false → placed_segment n ≡ None
+pub rips_at_most : (ns : List NoteParts) → count_by (is_kept kept_random_index_pack) ns ≤ count_by is_rip_note ns
+rips_at_most ns =
+    count_le (is_kept kept_random_index_pack) is_rip_note ns (λ n t.
+    sym (elim (is_rip_note n) as (λ b. is_some (offset_if b n) ≡ b) [ true ↦ refl | false ↦ refl ]) ∙ t)
+
+pub unreadable_at_most : (ns : List NoteParts) → count_by (is_kept kept_unreadable_pack) ns ≤ count_by has_pack ns
+unreadable_at_most ns = count_le (is_kept kept_unreadable_pack) has_pack ns
+    (λ n t. pack_if_unreadable n (sym (unreadable_kept n) ∙ t))
+
+pub no_segment : (n : NoteParts) → has_segment n ≡ false → placed_segment n ≡ None
 unfolding placed_segment
 no_segment n e =
     let placed : SegmentParts → SegmentAtParts = λ segment. record { offset = n.offset; segment = segment } in
     ap (λ b. option_map placed (cond b (read_as segment_at n) None)) e
 
-segment_if : (n : NoteParts) → is_some (placed_segment n) ≡ true → has_segment n ≡ true
+segment_if : (n : NoteParts) → is_kept kept_segment n ≡ true → has_segment n ≡ true
 segment_if n t =
     elim (has_segment n) as (λ b. has_segment n ≡ b → b ≡ true) [
       | true ↦ λ e. refl
-      | false ↦ λ e. (let f = ap is_some (no_segment n e) in absurd (cc (f, t)))
+      | false ↦ λ e.
+          (let f = ap (λ o. is_some (option_map without_entries o)) (no_segment n e) in absurd (cc (f, t)))
     ] refl
 
-pub segments_at_most : (ns : List NoteParts) → count_by (is_placed kinds.Segment) ns ≤ count_by has_segment ns
-segments_at_most ns = count_le (is_placed kinds.Segment) has_segment ns segment_if
+pub segments_at_most : (ns : List NoteParts) → count_by (is_kept kept_segment) ns ≤ count_by has_segment ns
+segments_at_most ns = count_le (is_kept kept_segment) has_segment ns segment_if

@@ -1,35 +1,54 @@
 -- What the views keep of the clear notes, and what an addition changes of it (this project's profile).
 use Rattle.std.specs.Prelude.{◌≡◌, ℕ, ◌+◌, ◌-◌, ◌≤◌, max, min, ◌⊎◌, Bool, ◌&&◌, ◌||◌, ◌==◌, nat_le, nat_lt}
 use Rattle.std.specs.Prelude.{if◌then◌else◌}
-use Rattle.std.specs.Prelude.{◌<◌, count_by, length, not, IfSome}
+use Rattle.std.specs.Prelude.{◌<◌, ◌++◌, count_by, length, not, option_map, IfSome, Vec}
+use Rattle.std.specs.Global.{Global}
 use Rattle.std.specs.Vec.{vec_capacity, vec_len}
 use Rattle.std.specs.Prelude.{Option, None, Some, false, is_some, List, [], ◌∷◌, filter, find, map}
-use Rattle.std.specs.List.{AllByRecursion, filter_map}
+use Rattle.std.specs.List.{AllByRecursion, cons_option, filter_map}
 use Rattle.std.specs.Option.{option_and_then}
-use Rattle.std.specs.Ordering.{nat_cmp}
 use Rattle.mxf_klv.specs.Parts.{NoteParts}
 use Rattle.mxf_klv.specs.Note.{end_of}
 use Rattle.mxf_klv.specs.Kind.{kind_of}
-use Rattle.mxf_klv.specs.Rising.{In, with_one}
+use Rattle.mxf_klv.specs.Rising.{In}
 use Rattle.mxf_catalogue.specs.Disputes.{IsClear, SharesByte, clear_notes}
 use Rattle.mxf_views.specs.declared.copy.CopyInfo.{CopyInfo}
 use Rattle.mxf_catalogue.specs.Content.{AreReduced, IsCatalogue, IsContent, has_note, reduced_with}
 use Rattle.mxf_views.specs.declared.kept.arrival.Arrival.{Arrival}
 use Rattle.mxf_views.specs.declared.kept.KeptLists.{KeptLists}
-use Rattle.mxf_views.specs.declared.kept.offsets.Placed.{Placed}
-use Rattle.mxf_views.specs.declared.kept.offsets.Placed.TheVariants as kinds
 use Rattle.mxf_views.specs.Copies.{copies_of, copy_of, has_metadata, is_fill, is_primer}
-use Rattle.mxf_views.specs.Partitions.{PartitionParts, is_no_unreadable_pack, partition_at}
-use Rattle.mxf_views.specs.Places.{placed_segment}
+use Rattle.mxf_views.specs.Partitions.{PartitionParts, in_numbers, is_no_unreadable_pack, partition_at, partitions_of}
+use Rattle.mxf_views.specs.Places.{SegmentAtParts, placed_segment, segments_of, without_entries}
 use Rattle.mxf_views.specs.RandomIndex.{is_rip_note}
 
--- Where the notes stand that pass the test.
-abbrev pub offsets_among : (NoteParts → Bool) → List NoteParts → List ℕ
-offsets_among test notes = map (λ n. n.offset) (filter test notes)
+-- What is kept of a note that is a readable partition pack, or a readable index table segment; and the offset of one
+-- that is a random index pack, or a partition pack that isn't readable.
+abbrev pub kept_partition : NoteParts → Option PartitionParts
+kept_partition n = option_map in_numbers (partition_at n)
 
--- Where the clear notes stand that pass the test.
-abbrev pub offsets_where : (NoteParts → Bool) → List NoteParts → List ℕ
-offsets_where test notes = offsets_among test (clear_notes notes)
+abbrev pub kept_segment : NoteParts → Option SegmentAtParts
+kept_segment n = option_map without_entries (placed_segment n)
+
+abbrev pub offset_if : Bool → NoteParts → Option ℕ
+offset_if so n = if so then Some n.offset else None
+
+abbrev pub kept_random_index_pack : NoteParts → Option ℕ
+kept_random_index_pack n = offset_if (is_rip_note n) n
+
+abbrev pub kept_unreadable_pack : NoteParts → Option ℕ
+kept_unreadable_pack n = offset_if (not (is_no_unreadable_pack n)) n
+
+-- Something is kept of the note.
+abbrev pub is_kept : {A : Type 0} → (NoteParts → Option A) → NoteParts → Bool
+is_kept take n = is_some (take n)
+
+-- What is kept of the clear notes.
+abbrev pub kept_among : {A : Type 0} → (NoteParts → Option A) → List NoteParts → List A
+kept_among take notes = filter_map take (clear_notes notes)
+
+-- What is kept of the clear note at the offset.
+abbrev pub kept_at : {A : Type 0} → (NoteParts → Option A) → List NoteParts → ℕ → Option A
+kept_at take notes offset = option_and_then take (find (λ n. n.offset == offset) (clear_notes notes))
 
 -- The range goes from the least offset of a note and of the clear notes that share a byte with it to their greatest
 -- end.
@@ -39,14 +58,6 @@ pub record IsHull (x : NoteParts) (notes : List NoteParts) (start end : ℕ) : T
   pub greatest : (end ≡ end_of x) ⊎ ((m : NoteParts) × IsClear m notes × SharesByte x m × (end ≡ end_of m))
   pub low : start ≤ x.offset
   pub high : end_of x ≤ end
-
--- The note is a readable partition pack, a readable index table segment, a random index pack or a partition pack that
--- isn't readable.
-abbrev pub is_placed : Placed → NoteParts → Bool
-is_placed kinds.Partition n = is_some (partition_at n)
-is_placed kinds.Segment n = is_some (placed_segment n)
-is_placed kinds.RandomIndexPack n = is_rip_note n
-is_placed kinds.UnreadablePack n = not (is_no_unreadable_pack n)
 
 abbrev pub has_some_metadata : Option PartitionParts → Bool
 has_some_metadata None = false
@@ -64,6 +75,11 @@ copy_by notes n =
 -- The offset lies outside of the range.
 abbrev pub is_outside : ℕ → ℕ → ℕ → Bool
 is_outside start end offset = nat_lt offset start || nat_le end offset
+
+-- The key of each is below those of all later ones.
+abbrev pub RiseBy : {A : Type 0} → (A → ℕ) → List A → Type 0
+RiseBy key [] = Unit {0}
+RiseBy key (x ∷ xs) = AllByRecursion (λ y. key x < key y) xs × RiseBy key xs
 
 -- The offset lies above the lower one and below the upper one.
 abbrev pub lies_between : ℕ → ℕ → ℕ → Bool
@@ -89,20 +105,28 @@ renewed notes start end brings c =
     if may_change start end brings c c.start then or_itself c (find (λ d. d.partition == c.partition) (copies_of notes))
     else c
 
--- The copies with another in its place, by their partitions.
-abbrev pub with_copy : CopyInfo → List CopyInfo → List CopyInfo
-with_copy c [] = c ∷ []
-with_copy c (d ∷ copies) = if nat_lt c.partition d.partition then c ∷ d ∷ copies else d ∷ with_copy c copies
+-- The list with another element in its place, by their keys.
+abbrev pub with_keyed : {A : Type 0} → (A → ℕ) → A → List A → List A
+with_keyed key x [] = x ∷ []
+with_keyed key x (y ∷ ys) = if nat_lt (key x) (key y) then x ∷ y ∷ ys else y ∷ with_keyed key x ys
 
-abbrev pub with_found : Option CopyInfo → List CopyInfo → List CopyInfo
-with_found None copies = copies
-with_found (Some c) copies = with_copy c copies
+abbrev pub with_found : {A : Type 0} → (A → ℕ) → Option A → List A → List A
+with_found key None xs = xs
+with_found key (Some x) xs = with_keyed key x xs
+
+-- The elements whose keys lie outside of the range.
+abbrev pub outside : {A : Type 0} → (A → ℕ) → ℕ → ℕ → List A → List A
+outside key start end xs = filter (λ x. is_outside start end (key x)) xs
+
+-- The elements outside of the range, and another in its place, where there is one.
+abbrev pub followed : {A : Type 0} → (A → ℕ) → Option A → ℕ → ℕ → List A → List A
+followed key there start end xs = with_found key there (outside key start end xs)
 
 -- The copies once a note stands at the offset: those outside of the range counted anew, and that of the offset.
 abbrev pub copies_followed : List NoteParts → ℕ → ℕ → ℕ → Bool → List CopyInfo → List CopyInfo
 copies_followed notes offset start end brings copies =
-    with_found (find (λ d. d.partition == offset) (copies_of notes))
-    (map (renewed notes start end brings) (filter (λ c. is_outside start end c.partition) copies))
+    with_found (λ c. c.partition) (find (λ d. d.partition == offset) (copies_of notes))
+    (map (renewed notes start end brings) (outside (λ c. c.partition) start end copies))
 
 -- Where a zone of so many bytes ends, at most at the greatest file offset; 0 without a start.
 abbrev pub reach_from : ℕ → Option ℕ → ℕ
@@ -133,29 +157,34 @@ abbrev pub StartsRise : List CopyInfo → Type 0
 StartsRise [] = Unit {0}
 StartsRise (c ∷ copies) = AllByRecursion (λ d. IsStartBelow c.start d.start) copies × StartsRise copies
 
-abbrev pub passes : (NoteParts → Bool) → Option NoteParts → Bool
-passes test None = false
-passes test (Some n) = test n
-
--- A clear note stands at the offset, and passes the test.
-abbrev pub stands_clear : (NoteParts → Bool) → List NoteParts → ℕ → Bool
-stands_clear test notes offset = passes test (find (λ n. n.offset == offset) (clear_notes notes))
-
--- The offsets outside of the range, with another where it is one of theirs.
-abbrev pub followed : Bool → ℕ → ℕ → ℕ → List ℕ → List ℕ
-followed there offset start end offsets =
-    if there then with_one nat_cmp offset (filter (is_outside start end) offsets)
-    else filter (is_outside start end) offsets
-
 -- The clear notes at the offsets.
 abbrev pub notes_at : List NoteParts → List ℕ → List NoteParts
 notes_at notes offsets = filter_map (λ o. find (λ n. n.offset == o) (clear_notes notes)) offsets
 
--- What is kept: where partitions, segments, random index packs and unreadable partition packs stand, the copies, and
--- how far these reach.
+-- The partitions that stand where these do, and the segments.
+abbrev pub partitions_at : List NoteParts → List PartitionParts → List PartitionParts
+partitions_at notes kept = filter_map (λ k. find (λ p. p.offset == k.offset) (partitions_of notes)) kept
+
+abbrev pub segments_at : List NoteParts → List SegmentAtParts → List SegmentAtParts
+segments_at notes kept = filter_map (λ k. find (λ s. s.offset == k.offset) (segments_of notes)) kept
+
+-- What there is is what there was, and another element behind it where there is one.
+pub record IsAppended {A : Type 0} (next : Option A) (before now : Vec A Global) : Type 0 where
+  pub items : now.items ≡ before.items ++ cons_option next []
+  pub len : vec_len now ≡ vec_len before + length (cons_option next [])
+  pub capacity : vec_capacity before ≤ vec_capacity now
+
+-- What there is is what there was, without what the arrival moves.
+pub record IsLeft {A : Type 0} (key : A → ℕ) (a : Arrival) (before now : Vec A Global) : Type 0 where
+  pub items : now.items ≡ outside key a.start a.end before.items
+  pub len : vec_len now ≤ vec_len before
+  pub capacity : vec_capacity now ≡ vec_capacity before
+
+-- What is kept: the partitions and the segments by what they state in numbers, where random index packs and unreadable
+-- partition packs stand, the copies, and how far these reach.
 pub record KeptParts : Type 0 where
-  pub partitions : List ℕ
-  pub segments : List ℕ
+  pub partitions : List PartitionParts
+  pub segments : List SegmentAtParts
   pub rips : List ℕ
   pub unreadable : List ℕ
   pub copies : List CopyInfo
@@ -164,10 +193,10 @@ pub record KeptParts : Type 0 where
 -- What is kept of a content.
 abbrev pub kept_of : List NoteParts → KeptParts
 kept_of notes = record {
-  partitions = offsets_where (is_placed kinds.Partition) notes;
-  segments = offsets_where (is_placed kinds.Segment) notes;
-  rips = offsets_where (is_placed kinds.RandomIndexPack) notes;
-  unreadable = offsets_where (is_placed kinds.UnreadablePack) notes;
+  partitions = kept_among kept_partition notes;
+  segments = kept_among kept_segment notes;
+  rips = kept_among kept_random_index_pack notes;
+  unreadable = kept_among kept_unreadable_pack notes;
   copies = copies_of notes;
   reaches = reaches_of (copies_of notes);
 }
@@ -189,10 +218,10 @@ kept_in k = record {
 
 -- What is kept of so many clear notes fits beside what there is, without taking memory.
 pub record HasRoom (there : KeptParts) (clear : List NoteParts) (k : KeptLists) : Type 0 where
-  pub partitions : length there.partitions + count_by (is_placed kinds.Partition) clear ≤ vec_capacity k.partitions
-  pub segments : length there.segments + count_by (is_placed kinds.Segment) clear ≤ vec_capacity k.segments
-  pub rips : length there.rips + count_by (is_placed kinds.RandomIndexPack) clear ≤ vec_capacity k.random_index_packs
-  pub unreadable : length there.unreadable + count_by (is_placed kinds.UnreadablePack) clear
+  pub partitions : length there.partitions + count_by (is_kept kept_partition) clear ≤ vec_capacity k.partitions
+  pub segments : length there.segments + count_by (is_kept kept_segment) clear ≤ vec_capacity k.segments
+  pub rips : length there.rips + count_by (is_kept kept_random_index_pack) clear ≤ vec_capacity k.random_index_packs
+  pub unreadable : length there.unreadable + count_by (is_kept kept_unreadable_pack) clear
       ≤ vec_capacity k.unreadable_packs
   pub copies : length there.copies + count_by states_metadata clear ≤ vec_capacity k.copies
   pub reaches : length there.reaches + count_by states_metadata clear ≤ vec_capacity k.reaches

@@ -28,6 +28,7 @@ pub mod WorkedSegments
 pub mod WorkedBytes
 pub mod Words
 pub mod Kept
+pub mod KeptNotes
 pub mod Changes
 pub mod KeptAbove
 pub mod Sums

@@ -11,7 +11,10 @@ use Rattle.mxf_klv.specs.Kind.{kind_of}
 use Rattle.mxf_klv.specs.Rising.{In}
 use Rattle.mxf_sets.specs.declared.pack.part.PackPart.{PackPart}
 use Rattle.mxf_sets.specs.declared.pack.part.PackPart.TheVariants.{Header, Footer}
-use Rattle.mxf_sets.specs.PartitionPack.{PartitionPackParts, IsPartitionKind}
+use Rattle.mxf_klv.specs.declared.kinds.Status.{Status}
+use Rattle.mxf_sets.specs.declared.pack.numbers.PartitionNumbers.{PartitionNumbers}
+use Rattle.mxf_sets.specs.Batch.{batch_parts}
+use Rattle.mxf_sets.specs.PartitionPack.{PartitionPackParts, IsPartitionKind, partition_pack_parts}
 use Rattle.mxf_catalogue.specs.Disputes.{IsClear, clear_notes}
 use Rattle.mxf_views.specs.declared.chain.Link.{Link}
 use Rattle.mxf_views.specs.declared.chain.Link.TheVariants.{First, Held, Skips, Missing, Wrong}
@@ -38,6 +41,15 @@ partition_at n = option_map (λ pack. record { offset = n.offset; end = end_of n
 abbrev pub partitions_among : List NoteParts → List PartitionParts
 partitions_among notes = filter_map partition_at notes
 
+-- A partition from an offset to an end, of whose pack the part, the status and the numbers are known alone.
+abbrev pub partition_in_numbers : ℕ → ℕ → PackPart → Status → PartitionNumbers → PartitionParts
+partition_in_numbers offset end part status numbers =
+    record { offset = offset; end = end; pack = partition_pack_parts part status numbers [] (batch_parts 0 0 []) }
+
+-- The partition without the operational pattern and the labels of its pack.
+abbrev pub in_numbers : PartitionParts → PartitionParts
+in_numbers p = partition_in_numbers p.offset p.end p.pack.part p.pack.status p.pack.numbers
+
 -- The partitions: the clear readable partition packs.
 unfoldable pub partitions_of : List NoteParts → List PartitionParts
 partitions_of notes = partitions_among (clear_notes notes)
@@ -50,15 +62,19 @@ stands_at offset partitions = list_any (λ p. p.offset == offset) partitions
 abbrev pub stands_between : ℕ → ℕ → List PartitionParts → Bool
 stands_between low high partitions = list_any (λ p. nat_lt low p.offset && nat_lt p.offset high) partitions
 
--- How a partition names the one before it. The first has the number 0; any other names a partition below it, the
--- greatest such (`Held`) or one with another in between (`Skips`), or an offset below it where none stands.
-abbrev pub link_of : List PartitionParts → PartitionParts → Link
-link_of partitions p =
-    let previous = p.pack.numbers.previous_partition in
-    if p.offset == 0 then (if previous == 0 then First else Wrong) else (
-    if nat_le p.offset previous then Wrong else (
+-- How a partition at an offset names the one before it, by the number that it states for that. The first has the
+-- number 0; any other names a partition below it, the greatest such (`Held`) or one with another in between (`Skips`),
+-- or an offset below it where none stands.
+abbrev pub link_by : List PartitionParts → ℕ → ℕ → Link
+link_by partitions offset previous =
+    if offset == 0 then (if previous == 0 then First else Wrong) else (
+    if nat_le offset previous then Wrong else (
     if not (stands_at previous partitions) then Missing else (
-    if stands_between previous p.offset partitions then Skips else Held)))
+    if stands_between previous offset partitions then Skips else Held)))
+
+-- The same of a partition.
+abbrev pub link_of : List PartitionParts → PartitionParts → Link
+link_of partitions p = link_by partitions p.offset p.pack.numbers.previous_partition
 
 -- The link of the partition at the offset, where one stands there.
 abbrev pub link_at : ℕ → List PartitionParts → Option Link

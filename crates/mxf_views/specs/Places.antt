@@ -12,7 +12,7 @@ use Rattle.mxf_klv.specs.Parts.{NoteParts}
 use Rattle.mxf_klv.specs.Note.{keeps_value}
 use Rattle.mxf_klv.specs.Kind.{kind_of}
 use Rattle.mxf_klv.specs.Rising.{In, union}
-use Rattle.mxf_sets.specs.Segment.{SegmentParts, segment_at}
+use Rattle.mxf_sets.specs.Segment.{SegmentParts, segment_at, segment_parts}
 use Rattle.mxf_sets.specs.Offset.{stream_offset}
 use Rattle.mxf_sets.specs.Readable.{read_as}
 use Rattle.mxf_catalogue.specs.Disputes.{IsClear, clear_notes}
@@ -43,6 +43,10 @@ placed_segment n = option_map (λ segment. record { offset = n.offset; segment =
 
 abbrev pub segments_among : List NoteParts → List SegmentAtParts
 segments_among notes = filter_map placed_segment notes
+
+-- The segment without its entries: what it states in numbers, and where it stands.
+abbrev pub without_entries : SegmentAtParts → SegmentAtParts
+without_entries s = record { offset = s.offset; segment = segment_parts s.segment.numbers [] }
 
 -- The segments: the clear readable index table segments.
 unfoldable pub segments_of : List NoteParts → List SegmentAtParts

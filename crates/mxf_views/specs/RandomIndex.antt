@@ -40,9 +40,12 @@ standing_by entry (Some p) = if p.pack.numbers.body_sid == entry.body_sid then H
 abbrev pub standing_of : List PartitionParts → RipEntry → Standing
 standing_of partitions entry = standing_by entry (find (λ p. p.offset == entry.offset) partitions)
 
--- Each entry with its standing.
+-- Each entry with its standing to partitions, and to those of the notes.
+abbrev pub standings_among : List PartitionParts → List RipEntry → List (RipEntry × Standing)
+standings_among partitions entries = map (λ entry. (entry, standing_of partitions entry)) entries
+
 abbrev pub standings : List NoteParts → List RipEntry → List (RipEntry × Standing)
-standings notes entries = map (λ entry. (entry, standing_of (partitions_of notes) entry)) entries
+standings notes entries = standings_among (partitions_of notes) entries
 
 -- A random index pack: where its packet begins, and its entries with their standings.
 pub record RipAtParts : Type 0 where

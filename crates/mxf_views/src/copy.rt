@@ -21,7 +21,7 @@ pub(crate) mod sets;
 pub(crate) mod zone;
 
 use crate::copy::zone::{Counts, covered, is_fill, is_preface, lies_in};
-use crate::partition::{PartitionAt, partition_there};
+use crate::partition::{Partition, partition_there};
 use mxf_catalogue::Catalogue;
 use mxf_klv::{Kind, Note, Status};
 use mxf_sets::Primer;
@@ -105,40 +105,40 @@ pub(crate) fn counts(catalogue: &Catalogue, start: u64, bytes: u64) -> Counts
 }
 
 #[tactic(auto, unfolding(crate::specs::Copies::copy_of))]
-pub(crate) fn copy_of(catalogue: &Catalogue, partition: &PartitionAt<'_>) -> CopyInfo
+pub(crate) fn copy_of(catalogue: &Catalogue, partition: &Partition) -> CopyInfo
     ensures { result ≡ copy_of (clear_notes catalogue.now) partition.now }
 {
     let Some(start) = start_of(catalogue, partition.end) else {
         return without_start(partition);
     };
-    let bytes = partition.pack.numbers().header_byte_count;
+    let bytes = partition.numbers.header_byte_count;
     let counts = counts(catalogue, start, bytes);
     with_start(partition, start, counts)
 }
 
 /// The copy of a partition that has no start.
-pub(crate) fn without_start(partition: &PartitionAt<'_>) -> CopyInfo
+pub(crate) fn without_start(partition: &Partition) -> CopyInfo
     ensures { result ≡ copy_from [] partition.now None }
 {
     CopyInfo {
         partition: partition.offset,
         start: None,
-        bytes: partition.pack.numbers().header_byte_count,
+        bytes: partition.numbers.header_byte_count,
         covered: 0,
         finished: false,
         prefaces: 0,
-        status: partition.pack.status(),
+        status: partition.status,
     }
 }
 
 /// The copy of a partition that has a start, by what is counted in its zone.
-pub(crate) fn with_start(partition: &PartitionAt<'_>, start: u64, counts: Counts) -> CopyInfo
+pub(crate) fn with_start(partition: &Partition, start: u64, counts: Counts) -> CopyInfo
     ensures { (notes : List NoteParts)
         → counts.covered ≡ covered_of start partition.now.pack.numbers.header_byte_count notes
         → counts.prefaces ≡ prefaces_of start partition.now.pack.numbers.header_byte_count notes
         → result ≡ copy_from notes partition.now (Some start) }
 {
-    let bytes = partition.pack.numbers().header_byte_count;
+    let bytes = partition.numbers.header_byte_count;
     let covered = counts.covered;
     CopyInfo {
         partition: partition.offset,
@@ -147,22 +147,22 @@ pub(crate) fn with_start(partition: &PartitionAt<'_>, start: u64, counts: Counts
         covered,
         finished: covered == bytes,
         prefaces: counts.prefaces,
-        status: partition.pack.status(),
+        status: partition.status,
     }
 }
 
 /// Whether the partition states header metadata.
-pub(crate) fn has_metadata(partition: &PartitionAt<'_>) -> bool
+pub(crate) fn has_metadata(partition: &Partition) -> bool
     ensures { result ≡ has_metadata partition.now }
 {
-    partition.pack.numbers().header_byte_count > 0
+    partition.numbers.header_byte_count > 0
 }
 
 /// The copy of the partition at a file offset.
 pub(crate) fn copy_there(catalogue: &Catalogue, partition: u64) -> Option<CopyInfo>
     ensures { result ≡ find (λ c. c.partition == partition) (copies_of catalogue.now) }
 {
-    let partition = partition_there(catalogue, partition)?;
+    let partition = partition_there(catalogue, partition)?.in_numbers();
     if !has_metadata(&partition) {
         return None;
     }

@@ -1,5 +1,5 @@
 //! Index table segments (ST 377-1, Index Table Segment).
-ghost use Rattle.std.specs.Prelude.{◌≡◌, ◌<◌, ◌^◌, ◌↔◌, List, length};
+ghost use Rattle.std.specs.Prelude.{◌≡◌, ◌==◌, ◌<◌, ◌^◌, ◌↔◌, List, find, length};
 ghost use Rattle.mxf_klv.specs.Parts.{NoteParts};
 ghost use Rattle.mxf_klv.specs.Rising.{In};
 ghost use Rattle.mxf_sets.specs.Segment.{segment_at};
@@ -7,14 +7,15 @@ ghost use Rattle.mxf_sets.specs.Readable.{read_as};
 ghost use Rattle.mxf_catalogue.specs.Content.{IsContent};
 ghost use Rattle.std.specs.Iterator.{YieldsFirst, item_count};
 ghost use Rattle.mxf_views.specs.Places.{IsSegmentAt, SegmentAtParts, SegmentsRise, segments_of};
-ghost use Rattle.mxf_views.specs.Places.{place_of, placed_segment, segment_in, segments_among};
+ghost use Rattle.mxf_views.specs.Kept.{kept_among, kept_segment};
+ghost use Rattle.mxf_views.specs.Places.{place_of, placed_segment, segment_in};
 
 pub(crate) mod place;
 
 use crate::index::place::{Place, pair_of};
-use crate::placed::NotesAt;
-use mxf_klv::{Kind, Note};
-use mxf_sets::Segment;
+use mxf_catalogue::Catalogue;
+use mxf_klv::{Keyed, Kind, Note};
+use mxf_sets::{Segment, SegmentNumbers};
 use std::marker::Model;
 
 /// A clear readable index table segment and where it stands (ST 377-1, index tables).
@@ -34,6 +35,34 @@ impl<'a> Model for SegmentAt<'a> {
     ghost Value = { SegmentAtParts };
 
     ghost view = { λ s. record { offset = s.offset; segment = s.segment } };
+}
+
+/// A segment by what it states in numbers: the views keep this of each, read once. Its entries stand in the segment
+/// itself alone ([`SegmentAt`]).
+#[derive(Debug, Drop)]
+pub struct SegmentInNumbers {
+    /// The file offset where the segment's packet begins, in bytes.
+    pub offset: u64,
+    pub numbers: SegmentNumbers,
+}
+
+impl Model for SegmentInNumbers {
+    ghost use Rattle.std.specs.Prelude.{[]};
+    ghost use Rattle.mxf_sets.specs.Segment.{segment_parts};
+    ghost use Rattle.mxf_views.specs.Places.{SegmentAtParts};
+
+    ghost Value = { SegmentAtParts };
+
+    ghost view = { λ s. record { offset = s.offset; segment = segment_parts s.numbers [] } };
+}
+
+/// Segments rise by their offsets.
+impl Keyed for SegmentInNumbers {
+    ghost key = { λ s. s.offset };
+
+    fn key(&self) -> u64 {
+        self.offset
+    }
 }
 
 /// The segment that the value of a note is, where it is kept and is one.
@@ -65,28 +94,50 @@ pub(crate) fn placed_segment(note: &Note) -> Option<SegmentAt<'_>>
     })
 }
 
+/// The same by what it states in numbers.
+pub(crate) fn kept_segment(note: &Note) -> Option<SegmentInNumbers>
+    ensures { result ≡ kept_segment note.now }
+{
+    let SegmentAt { offset, segment } = placed_segment(note)?;
+    Some(SegmentInNumbers {
+        offset,
+        numbers: segment.numbers(),
+    })
+}
+
+/// The segment at a file offset.
+pub(crate) fn segment_there(catalogue: &Catalogue, offset: u64) -> Option<SegmentAt<'_>>
+    ensures { result ≡ find (λ s. s.offset == offset) (segments_of catalogue.now) }
+{
+    placed_segment(catalogue.clear_at(offset)?)
+}
+
 /// The segments that are left, rising.
 #[derive(Debug, Drop)]
 pub struct Segments<'a> {
-    notes: NotesAt<'a>,
+    catalogue: &'a Catalogue,
+    kept: &'a [SegmentInNumbers],
 }
 
 impl<'a> Model for Segments<'a> {
     ghost use Rattle.std.specs.Prelude.{List};
-    ghost use Rattle.mxf_views.specs.Places.{SegmentAtParts, segments_among};
+    ghost use Rattle.mxf_views.specs.Places.{SegmentAtParts};
+    ghost use Rattle.mxf_views.specs.Kept.{segments_at};
 
     ghost Value = { List SegmentAtParts };
 
-    ghost view = { λ s. segments_among s.notes };
+    ghost view = { λ s. segments_at s.catalogue.now s.kept.now };
 }
 
 impl<'a> Segments<'a> {
-    pub(crate) fn of(notes: NotesAt<'a>) -> Segments<'a>
-        requires { length notes < 2 ^ 64 }
-        ensures segments { result ≡ segments_among notes.entry }
+    /// Those of a catalogue, by what is kept of them.
+    pub(crate) fn of(catalogue: &'a Catalogue, kept: &'a [SegmentInNumbers]) -> Segments<'a>
+        requires { kept.now ≡ kept_among kept_segment catalogue.now }
+        ensures segments { result ≡ segments_of catalogue.now }
         ensures bound { length result < 2 ^ 64 }
     {
-        Segments { notes }
+        catalogue.laws();
+        Segments { catalogue, kept }
     }
 
     /// Where those of an IndexSID put an edit unit.
@@ -111,8 +162,9 @@ impl<'a> Iterator for Segments<'a> {
     ghost remaining = { item_count (λ s. s) };
 
     fn next(&mut self) -> Option<SegmentAt<'a>> {
-        while let Some(note) = self.notes.next() {
-            if let Some(segment) = placed_segment(note) {
+        while let Some((first, left)) = self.kept.split_first() {
+            self.kept = left;
+            if let Some(segment) = segment_there(self.catalogue, first.offset) {
                 return Some(segment);
             }
         }

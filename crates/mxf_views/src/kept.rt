@@ -1,38 +1,44 @@
-//! What the views keep of the clear notes: where partitions, index table segments, random index packs and unreadable
-//! partition packs stand, and the copies of the header metadata.
-ghost use Rattle.std.specs.Prelude.{◌≡◌, List, ◌<◌, ◌≤◌, IfOk, OnOk, count_by, ◌++◌, ◌∷◌, ◌+◌, [], length, vec_len};
-ghost use Rattle.std.specs.Prelude.{vec_capacity};
+//! What the views keep of the clear notes: partitions and index table segments by what they state in numbers, where
+//! random index packs and unreadable partition packs stand, and the copies of the header metadata.
+ghost use Rattle.std.specs.Prelude.{◌≡◌, ◌<◌, ◌≤◌, List, IfOk, OnOk, count_by, ◌++◌, ◌+◌, [], length, vec_capacity};
+ghost use Rattle.std.specs.List.{cons_option, filter_map};
+ghost use Rattle.std.specs.List.Sorted.{IsNonDecreasingBy};
 ghost use Rattle.mxf_klv.specs.Parts.{NoteParts};
 ghost use Rattle.mxf_catalogue.specs.Disputes.{clear_notes};
-ghost use Rattle.mxf_views.specs.Kept.{HasArrived, HasRoom, HasRoomForOne, is_placed, kept_in, kept_of, nothing_kept};
-ghost use Rattle.mxf_views.specs.Kept.{offsets_among};
+ghost use Rattle.mxf_views.specs.Kept.{HasArrived, HasRoom, HasRoomForOne, IsAppended, IsLeft, is_kept, kept_in, kept_of};
+ghost use Rattle.mxf_views.specs.Kept.{kept_partition, kept_random_index_pack, kept_segment, kept_unreadable_pack};
+ghost use Rattle.mxf_views.specs.Kept.{nothing_kept, with_found};
 ghost use Rattle.mxf_views.specs.KeptAbove.{IsUnionAt, clear_from};
-ghost use Rattle.mxf_views.specs.declared.kept.offsets.Placed.{Placed};
+ghost use Rattle.mxf_views.specs.KeptNotes.{partition_in, random_index_pack_in, segment_in, unreadable_pack_in};
 
 pub(crate) mod above;
 pub(crate) mod arrival;
 pub(crate) mod copies;
-pub(crate) mod offsets;
+pub(crate) mod keyed;
+pub(crate) mod noted;
 pub(crate) mod reaches;
 pub(crate) mod sums;
 pub(crate) mod tally;
 
 use crate::copy::CopyInfo;
+use crate::index::SegmentInNumbers;
 use crate::kept::above::{follow_copies_above, settled};
 use crate::kept::arrival::Arrival;
 use crate::kept::copies::follow_copies;
-use crate::kept::offsets::{Placed, append, follow, stands};
+use crate::kept::keyed::{leave, push, put};
+use crate::kept::noted::Kept;
 use crate::kept::reaches::refill_reaches;
 use crate::kept::sums::{Mark, Sums, mark_count};
 use crate::kept::tally::Tally;
+use crate::partition::Partition;
 use mxf_catalogue::Catalogue;
 use std::alloc::{AllocError, Global};
 
 /// What the views keep. The file offsets, in bytes, rise; so do the partitions of the copies.
 #[derive(Debug, Drop)]
 pub(crate) struct KeptLists {
-    pub partitions: Vec<u64>,
-    pub segments: Vec<u64>,
+    pub partitions: Vec<Partition>,
+    pub segments: Vec<SegmentInNumbers>,
     pub random_index_packs: Vec<u64>,
     pub unreadable_packs: Vec<u64>,
     pub copies: Vec<CopyInfo>,
@@ -106,6 +112,49 @@ impl KeptLists {
         Vec::with_capacity(*self.partitions.allocator(), count)
     }
 
+    /// Takes the partitions, segments and packs out that an arrival moves.
+    fn leave(&mut self, arrival: &Arrival)
+        ensures partitions { IsLeft (λ p. p.offset) arrival.now self.old.partitions self.new.partitions }
+        ensures segments { IsLeft (λ s. s.offset) arrival.now self.old.segments self.new.segments }
+        ensures random_index_packs { IsLeft (λ o. o) arrival.now self.old.random_index_packs
+            self.new.random_index_packs }
+        ensures unreadable_packs { IsLeft (λ o. o) arrival.now self.old.unreadable_packs self.new.unreadable_packs }
+        ensures copies { self.new.copies ≡ self.old.copies }
+        ensures reaches { self.new.reaches ≡ self.old.reaches }
+    {
+        leave(&mut self.partitions, arrival);
+        leave(&mut self.segments, arrival);
+        leave(&mut self.random_index_packs, arrival);
+        leave(&mut self.unreadable_packs, arrival);
+    }
+
+    /// Puts what is kept of a note in its place, where there is room.
+    fn put(&mut self, kept: Option<Kept>)
+        requires partitions { IsNonDecreasingBy (λ p. p.offset) self.old.partitions.items }
+        requires segments { IsNonDecreasingBy (λ s. s.offset) self.old.segments.items }
+        requires random_index_packs { IsNonDecreasingBy (λ o. o) self.old.random_index_packs.items }
+        requires unreadable_packs { IsNonDecreasingBy (λ o. o) self.old.unreadable_packs.items }
+        requires room { HasRoomForOne self.old }
+        ensures partitions { self.new.partitions.items
+            ≡ with_found (λ p. p.offset) (partition_in kept) self.old.partitions.items }
+        ensures segments { self.new.segments.items
+            ≡ with_found (λ s. s.offset) (segment_in kept) self.old.segments.items }
+        ensures random_index_packs { self.new.random_index_packs.items
+            ≡ with_found (λ o. o) (random_index_pack_in kept) self.old.random_index_packs.items }
+        ensures unreadable_packs { self.new.unreadable_packs.items
+            ≡ with_found (λ o. o) (unreadable_pack_in kept) self.old.unreadable_packs.items }
+        ensures copies { self.new.copies ≡ self.old.copies }
+        ensures reaches { self.new.reaches ≡ self.old.reaches }
+    {
+        match kept {
+            Some(Kept::Partition(partition)) => put(&mut self.partitions, partition),
+            Some(Kept::Segment(segment)) => put(&mut self.segments, segment),
+            Some(Kept::RandomIndexPack(offset)) => put(&mut self.random_index_packs, offset),
+            Some(Kept::UnreadablePack(offset)) => put(&mut self.unreadable_packs, offset),
+            None => (),
+        }
+    }
+
     /// Takes all out.
     fn clear(&mut self)
         ensures none { kept_in self.new ≡ nothing_kept }
@@ -120,36 +169,60 @@ impl KeptLists {
         self.reaches.clear();
     }
 
-    /// Puts the offsets of what is kept of the clear notes from a boundary on behind others, in one pass, where there
-    /// is room.
-    fn append_offsets(&mut self, catalogue: &Catalogue, boundary: u64)
+    /// Puts what is kept of a note behind the rest, where there is room.
+    fn append(&mut self, kept: Option<Kept>)
+        requires partitions { length self.old.partitions.items + length (cons_option (partition_in kept) [])
+            ≤ vec_capacity self.old.partitions }
+        requires segments { length self.old.segments.items + length (cons_option (segment_in kept) [])
+            ≤ vec_capacity self.old.segments }
+        requires random_index_packs { length self.old.random_index_packs.items
+            + length (cons_option (random_index_pack_in kept) []) ≤ vec_capacity self.old.random_index_packs }
+        requires unreadable_packs { length self.old.unreadable_packs.items
+            + length (cons_option (unreadable_pack_in kept) []) ≤ vec_capacity self.old.unreadable_packs }
+        ensures partitions { IsAppended (partition_in kept) self.old.partitions self.new.partitions }
+        ensures segments { IsAppended (segment_in kept) self.old.segments self.new.segments }
+        ensures random_index_packs { IsAppended (random_index_pack_in kept) self.old.random_index_packs
+            self.new.random_index_packs }
+        ensures unreadable_packs { IsAppended (unreadable_pack_in kept) self.old.unreadable_packs
+            self.new.unreadable_packs }
+        ensures copies { self.new.copies ≡ self.old.copies }
+        ensures reaches { self.new.reaches ≡ self.old.reaches }
+    {
+        match kept {
+            Some(Kept::Partition(partition)) => push(&mut self.partitions, partition),
+            Some(Kept::Segment(segment)) => push(&mut self.segments, segment),
+            Some(Kept::RandomIndexPack(offset)) => push(&mut self.random_index_packs, offset),
+            Some(Kept::UnreadablePack(offset)) => push(&mut self.unreadable_packs, offset),
+            None => (),
+        }
+    }
+
+    /// Puts what is kept of the clear notes from a boundary on behind the rest, in one pass, where there is room.
+    fn append_from(&mut self, catalogue: &Catalogue, boundary: u64)
         requires partitions { length self.old.partitions.items
-            + count_by (is_placed Placed.Partition) (clear_from boundary catalogue.now)
+            + count_by (is_kept kept_partition) (clear_from boundary catalogue.now)
             ≤ vec_capacity self.old.partitions }
         requires segments { length self.old.segments.items
-            + count_by (is_placed Placed.Segment) (clear_from boundary catalogue.now) ≤ vec_capacity self.old.segments }
+            + count_by (is_kept kept_segment) (clear_from boundary catalogue.now) ≤ vec_capacity self.old.segments }
         requires random_index_packs { length self.old.random_index_packs.items
-            + count_by (is_placed Placed.RandomIndexPack) (clear_from boundary catalogue.now)
+            + count_by (is_kept kept_random_index_pack) (clear_from boundary catalogue.now)
             ≤ vec_capacity self.old.random_index_packs }
         requires unreadable_packs { length self.old.unreadable_packs.items
-            + count_by (is_placed Placed.UnreadablePack) (clear_from boundary catalogue.now)
+            + count_by (is_kept kept_unreadable_pack) (clear_from boundary catalogue.now)
             ≤ vec_capacity self.old.unreadable_packs }
         ensures partitions { self.new.partitions.items ≡ self.old.partitions.items
-            ++ offsets_among (is_placed Placed.Partition) (clear_from boundary catalogue.now) }
+            ++ filter_map kept_partition (clear_from boundary catalogue.now) }
         ensures segments { self.new.segments.items ≡ self.old.segments.items
-            ++ offsets_among (is_placed Placed.Segment) (clear_from boundary catalogue.now) }
+            ++ filter_map kept_segment (clear_from boundary catalogue.now) }
         ensures random_index_packs { self.new.random_index_packs.items ≡ self.old.random_index_packs.items
-            ++ offsets_among (is_placed Placed.RandomIndexPack) (clear_from boundary catalogue.now) }
+            ++ filter_map kept_random_index_pack (clear_from boundary catalogue.now) }
         ensures unreadable_packs { self.new.unreadable_packs.items ≡ self.old.unreadable_packs.items
-            ++ offsets_among (is_placed Placed.UnreadablePack) (clear_from boundary catalogue.now) }
+            ++ filter_map kept_unreadable_pack (clear_from boundary catalogue.now) }
         ensures copies { self.new.copies ≡ self.old.copies }
         ensures reaches { self.new.reaches ≡ self.old.reaches }
     {
         for note in catalogue.clear_within(boundary, u64::MAX) {
-            append(&mut self.partitions, Placed::Partition, note);
-            append(&mut self.segments, Placed::Segment, note);
-            append(&mut self.random_index_packs, Placed::RandomIndexPack, note);
-            append(&mut self.unreadable_packs, Placed::UnreadablePack, note);
+            self.append(Kept::of(note));
         }
     }
 
@@ -175,9 +248,11 @@ impl KeptLists {
     {
         let sums = Sums::of(catalogue, boundary, room);
         let settled = settled(&self.copies, &self.reaches, boundary);
-        follow_copies_above(&mut self.copies, settled, &sums);
+        let known = self.partitions.len();
+        self.append_from(catalogue, boundary);
+        let new = &self.partitions[known..];
+        follow_copies_above(&mut self.copies, settled, &sums, new);
         refill_reaches(&mut self.reaches, &self.copies, settled);
-        self.append_offsets(catalogue, boundary);
     }
 
     /// Follows the arrival of a note in a catalogue, where there is room: from what is kept of the notes before to what
@@ -202,28 +277,9 @@ impl KeptLists {
         requires room { HasRoomForOne self.old }
         ensures { kept_in self.new ≡ kept_of catalogue.now }
     {
-        let at = arrival.offset;
-        let partition = stands(catalogue, Placed::Partition, at);
-        let segment = stands(catalogue, Placed::Segment, at);
-        let random_index_pack = stands(catalogue, Placed::RandomIndexPack, at);
-        let unreadable_pack = stands(catalogue, Placed::UnreadablePack, at);
-        follow(&mut self.partitions, arrival, partition);
-        follow(&mut self.segments, arrival, segment);
-        follow(&mut self.random_index_packs, arrival, random_index_pack);
-        follow(&mut self.unreadable_packs, arrival, unreadable_pack);
+        self.leave(arrival);
+        self.put(Kept::at(catalogue, arrival.offset));
         follow_copies(&mut self.copies, catalogue, arrival);
         refill_reaches(&mut self.reaches, &self.copies, 0);
     }
-}
-
-/// Puts an element at the end, where there is room.
-fn push<T: Drop>(items: &mut Vec<T>, item: T)
-    requires { vec_len items.old < vec_capacity items.old }
-    ensures items { items.new.items ≡ items.old.items ++ item ∷ [] }
-    ensures len { vec_len items.new ≡ vec_len items.old + 1 }
-    ensures capacity { vec_capacity items.old ≤ vec_capacity items.new }
-{
-    let Ok(()) = items.push(item) else {
-        unreachable!()
-    };
 }

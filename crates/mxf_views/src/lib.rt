@@ -12,6 +12,8 @@
 //! | Question | Call | Answer |
 //! |---|---|---|
 //! | Which partitions are held? | [`Views::partitions`] | [`PartitionAt`]: offset, end and pack |
+//! | What do their packs state in numbers? | [`Views::partitions_in_numbers`] | [`Partition`], read once and kept |
+//! | Which partition stands at an offset? | [`Views::partition_at`] | [`Partition`], or None |
 //! | How does one name the one before it? | [`Views::link`], [`Views::link_of`] | [`Link`] |
 //! | Do they hang together, header to footer? | [`Views::chain`] | [`Chain`] |
 //! | Which bytes are missing, up to the greatest end, claimed ones too? | [`Views::gaps`] | runs from a start up to an
@@ -25,16 +27,19 @@
 //! | Which programs wrote the file, which packages has it? | [`Views::resolved`] | [`Resolved`]: each [`Ref`] with its
 //! [`Target`] |
 //! | Which index table segments are held? | [`Views::segments`] | [`SegmentAt`] |
+//! | What do they state in numbers? | [`Views::segments_in_numbers`] | [`SegmentInNumbers`], read once and kept |
+//! | Which segment stands at an offset? | [`Views::segment_at`] | [`SegmentAt`], or None |
 //! | Where does an edit unit begin? | [`Views::locate`] | [`Place`]: bytes from the start of its essence stream |
 //! | What does the random index pack list? | [`Views::rip`], [`RipAt::entries`] | [`RipView`], each entry with its
 //! [`Standing`] |
+//! | Which entries are these, without standings? | [`RipAt::listed`] | [`RipEntry`](mxf_sets::RipEntry) |
 //! | What is wrong or missing? | [`Views::findings`] | [`Findings`]: each [`Code`] with its offset |
 //!
 //! Each call's clause says that its answer is a function of the notes; a law beside its type (`.._by_definition`) says
 //! what that function is in the words of the standards. [`well_formed_files_are_read_whole`] and the laws beside it say
-//! what the answers are on a whole file. `resolved` and `findings` take memory, and fail for want of it alone; the
-//! other questions take none. The copies, and where partitions, segments and random index packs stand, are kept; all
-//! else is computed when it is asked.
+//! what the answers are on a whole file. `resolved` and `findings` take memory, and fail only where it runs out; the
+//! other questions take none. The copies, what partitions and segments state in numbers, and where random index packs
+//! and unreadable partition packs stand, are kept; all else is computed when it is asked.
 //!
 //! A piece whose first byte lies at `offset` (the whole program is the crate mxf_example):
 //!
@@ -72,8 +77,8 @@ pub use copy::{
 pub use finding::{Code, Finding, Findings, findings_by_definition};
 pub use gap::{Gaps, gaps_by_definition};
 pub use index::place::{BadUnit, Pair, Place, places_by_definition};
-pub use index::{SegmentAt, Segments, segments_by_definition};
-pub use partition::{PartitionAt, Partitions, partitions_by_definition};
+pub use index::{SegmentAt, SegmentInNumbers, Segments, segments_by_definition};
+pub use partition::{Partition, PartitionAt, Partitions, partitions_by_definition};
 pub use random_index::{
     RipAt, RipView, Standing, Standings, rip_views_by_definition, standings_by_definition,
 };

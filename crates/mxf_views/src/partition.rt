@@ -6,13 +6,12 @@ ghost use Rattle.mxf_klv.specs.Rising.{In};
 ghost use Rattle.mxf_catalogue.specs.Content.{IsContent};
 ghost use Rattle.mxf_views.specs.Partitions.{AreInOrder, IsPartition, PartitionParts, partitions_of};
 ghost use Rattle.std.specs.Iterator.{YieldsFirst, item_count};
-ghost use Rattle.mxf_views.specs.Partitions.{pack_of, partition_at, partitions_among, stands_at, is_header, is_footer};
-ghost use Rattle.mxf_views.specs.Partitions.{is_no_unreadable_pack};
+ghost use Rattle.mxf_views.specs.Kept.{kept_among, kept_partition};
+ghost use Rattle.mxf_views.specs.Partitions.{in_numbers, is_footer, is_header, pack_of, partition_at};
 
-use crate::placed::NotesAt;
 use mxf_catalogue::Catalogue;
-use mxf_klv::{Kind, Note};
-use mxf_sets::{PackPart, PartitionPack};
+use mxf_klv::{Keyed, Kind, Note, Status};
+use mxf_sets::{PackPart, PartitionNumbers, PartitionPack};
 use std::marker::Model;
 
 /// A partition: a clear readable partition pack and where it stands (ST 377-1, partition pack).
@@ -36,6 +35,53 @@ impl<'a> Model for PartitionAt<'a> {
     ghost Value = { PartitionParts };
 
     ghost view = { λ p. record { offset = p.offset; end = p.end; pack = p.pack } };
+}
+
+impl<'a> PartitionAt<'a> {
+    /// The partition by what its pack states in numbers.
+    pub(crate) fn in_numbers(&self) -> Partition
+        ensures { result ≡ in_numbers self.now }
+    {
+        Partition {
+            offset: self.offset,
+            end: self.end,
+            part: self.pack.part(),
+            status: self.pack.status(),
+            numbers: self.pack.numbers(),
+        }
+    }
+}
+
+/// A partition by what its pack states in numbers: the views keep this of each, read once. The operational pattern and
+/// the labels of the essence containers stand in the pack itself alone ([`PartitionAt`]).
+#[derive(Debug, Drop)]
+pub struct Partition {
+    /// The file offset where the pack's packet begins, in bytes.
+    pub offset: u64,
+    /// The file offset where it ends, its last byte excluded.
+    pub end: u64,
+    /// The part of the file that the partition is.
+    pub part: PackPart,
+    /// How far the partition is filled in.
+    pub status: Status,
+    pub numbers: PartitionNumbers,
+}
+
+impl Model for Partition {
+    ghost use Rattle.mxf_views.specs.Partitions.{PartitionParts, partition_in_numbers};
+
+    ghost Value = { PartitionParts };
+
+    ghost view = { λ p. partition_in_numbers p.offset p.end p.part p.status p.numbers };
+}
+
+/// Partitions rise by their offsets.
+impl Keyed for Partition {
+    ghost key = { λ p. p.offset };
+
+    fn key(&self) -> u64 {
+        self.offset
+    }
 }
 
 /// Whether packets of the kind have a partition pack.
@@ -71,73 +117,57 @@ pub(crate) fn partition_at(note: &Note) -> Option<PartitionAt<'_>>
 /// The partitions that are left, rising.
 #[derive(Debug, Drop)]
 pub struct Partitions<'a> {
-    notes: NotesAt<'a>,
+    catalogue: &'a Catalogue,
+    kept: &'a [Partition],
 }
 
 impl<'a> Model for Partitions<'a> {
     ghost use Rattle.std.specs.Prelude.{List};
-    ghost use Rattle.mxf_views.specs.Partitions.{PartitionParts, partitions_among};
+    ghost use Rattle.mxf_views.specs.Partitions.{PartitionParts};
+    ghost use Rattle.mxf_views.specs.Kept.{partitions_at};
 
     ghost Value = { List PartitionParts };
 
-    ghost view = { λ s. partitions_among s.notes };
+    ghost view = { λ s. partitions_at s.catalogue.now s.kept.now };
 }
 
 impl<'a> Partitions<'a> {
-    pub(crate) fn of(notes: NotesAt<'a>) -> Partitions<'a>
-        requires { length notes < 2 ^ 64 }
-        ensures partitions { result ≡ partitions_among notes.entry }
+    /// Those of a catalogue, by what is kept of them.
+    pub(crate) fn of(catalogue: &'a Catalogue, kept: &'a [Partition]) -> Partitions<'a>
+        requires { kept.now ≡ kept_among kept_partition catalogue.now }
+        ensures partitions { result ≡ partitions_of catalogue.now }
         ensures bound { length result < 2 ^ 64 }
     {
-        Partitions { notes }
+        catalogue.laws();
+        Partitions { catalogue, kept }
     }
 }
 
-impl<'a> Partitions<'a> {
-    pub(crate) fn count_headers(self) -> usize
-        requires { length self < 2 ^ 64 }
-        ensures { result ≡ count_by (λ p. is_header p.pack.part) self.entry }
-    {
-        let mut count = 0;
-        for partition in self {
-            if partition.pack.part() == PackPart::Header {
-                count += 1;
-            }
-        }
-        count
-    }
-
-    pub(crate) fn count_footers(self) -> usize
-        requires { length self < 2 ^ 64 }
-        ensures { result ≡ count_by (λ p. is_footer p.pack.part) self.entry }
-    {
-        self.filter(|p| p.pack.part() == PackPart::Footer).count()
-    }
+/// How many of the partitions are headers.
+pub(crate) fn header_count(partitions: &[Partition]) -> usize
+    ensures { result ≡ count_by (λ p. is_header p.pack.part) partitions.now }
+{
+    partitions
+        .iter()
+        .filter(|p| p.part == PackPart::Header)
+        .count()
 }
 
-/// The partition at a file offset.
+/// How many of the partitions are footers.
+pub(crate) fn footer_count(partitions: &[Partition]) -> usize
+    ensures { result ≡ count_by (λ p. is_footer p.pack.part) partitions.now }
+{
+    partitions
+        .iter()
+        .filter(|p| p.part == PackPart::Footer)
+        .count()
+}
+
+/// The partition at a file offset, with its pack.
 pub(crate) fn partition_there(catalogue: &Catalogue, offset: u64) -> Option<PartitionAt<'_>>
     ensures { result ≡ find (λ p. p.offset == offset) (partitions_of catalogue.now) }
 {
     partition_at(catalogue.clear_at(offset)?)
-}
-
-/// Whether a partition stands at a file offset.
-pub(crate) fn stands_at(catalogue: &Catalogue, offset: u64) -> bool
-    ensures { result ≡ stands_at offset (partitions_of catalogue.now) }
-{
-    partition_there(catalogue, offset).is_some()
-}
-
-/// Whether the note is no partition pack, or a readable one.
-#[tactic(auto, unfolding(crate::specs::Partitions::is_no_unreadable_pack))]
-pub(crate) fn is_no_unreadable_pack(note: &Note) -> bool
-    ensures { result ≡ is_no_unreadable_pack note.now }
-{
-    match note.kind() {
-        Kind::Header(_) | Kind::Body(_) | Kind::Footer(_) => partition_at(note).is_some(),
-        _ => true,
-    }
 }
 
 impl<'a> Iterator for Partitions<'a> {
@@ -148,8 +178,9 @@ impl<'a> Iterator for Partitions<'a> {
     ghost remaining = { item_count (λ s. s) };
 
     fn next(&mut self) -> Option<PartitionAt<'a>> {
-        while let Some(note) = self.notes.next() {
-            if let Some(partition) = partition_at(note) {
+        while let Some((first, left)) = self.kept.split_first() {
+            self.kept = left;
+            if let Some(partition) = partition_there(self.catalogue, first.offset) {
                 return Some(partition);
             }
         }

@@ -1,5 +1,5 @@
 //! The random index pack, and how its entries stand to the partitions (ST 377-1, Random Index Pack).
-ghost use Rattle.std.specs.Prelude.{◌≡◌, ◌<◌, ◌^◌, ◌↔◌, IfSome, List, length};
+ghost use Rattle.std.specs.Prelude.{◌≡◌, ◌<◌, ◌^◌, ◌↔◌, IfSome, List, length, map};
 ghost use Rattle.mxf_klv.specs.Parts.{NoteParts};
 ghost use Rattle.mxf_sets.specs.declared.pack.random_index.RipEntry.{RipEntry};
 ghost use Rattle.mxf_catalogue.specs.Content.{IsContent};
@@ -7,12 +7,13 @@ ghost use Rattle.std.specs.Iterator.{YieldsFirst, YieldsFirstRef, item_count};
 ghost use Rattle.mxf_views.specs.Partitions.{partitions_of};
 ghost use Rattle.mxf_views.specs.declared.random_index.Standing.{Standing};
 ghost use Rattle.mxf_views.specs.declared.random_index.RipView.{RipView};
+ghost use Rattle.mxf_views.specs.Kept.{RiseBy};
 ghost use Rattle.mxf_views.specs.RandomIndexView.{IsRipView, rip_view_of};
-ghost use Rattle.mxf_views.specs.RandomIndex.{IsStanding, is_rip_note, rip_in, rips_of, standing_of, standings};
+ghost use Rattle.mxf_views.specs.RandomIndex.{IsStanding, is_rip_note, rip_in, standing_of};
 
-use crate::partition::partition_there;
+use crate::kept::keyed::find_by_key;
+use crate::partition::Partition;
 use crate::placed::NotesAt;
-use mxf_catalogue::Catalogue;
 use mxf_klv::{Kind, Note};
 use mxf_sets::{Rip, RipEntries, RipEntry};
 use std::fmt;
@@ -70,18 +71,19 @@ pub enum RipView<'a> {
 pub struct RipAt<'a> {
     offset: u64,
     rip: Rip<'a>,
-    catalogue: &'a Catalogue,
+    partitions: &'a [Partition],
 }
 
 impl<'a> Model for RipAt<'a> {
     ghost use Rattle.std.specs.Prelude.{◌<◌, ◌^◌, length};
-    ghost use Rattle.mxf_views.specs.RandomIndex.{RipAtParts, standings};
+    ghost use Rattle.mxf_views.specs.Kept.{RiseBy};
+    ghost use Rattle.mxf_views.specs.RandomIndex.{RipAtParts, standings_among};
 
     ghost Value = { RipAtParts };
 
-    ghost view = { λ r. record { offset = r.offset; entries = standings r.catalogue.now r.rip.entries } };
+    ghost view = { λ r. record { offset = r.offset; entries = standings_among r.partitions.now r.rip.entries } };
 
-    ghost invariant = { λ r. length r.rip.entries < 2 ^ 64 };
+    ghost invariant = { λ r. (length r.rip.entries < 2 ^ 64) × RiseBy (λ p. p.offset) r.partitions.now };
 }
 
 impl<'a> RipAt<'a> {
@@ -101,8 +103,18 @@ impl<'a> RipAt<'a> {
     {
         Standings {
             entries: self.rip.entries(),
-            catalogue: self.catalogue,
+            partitions: self.partitions,
         }
+    }
+
+    /// The entries in the order of the pack, by themselves.
+    pub fn listed(&self) -> RipEntries<'a>
+        ensures entries { result ≡ map (λ e. e.0) self.now.entries }
+
+        // A count of the result fits.
+        ensures bound { length result < 2 ^ 64 }
+    {
+        self.rip.entries()
     }
 }
 
@@ -110,18 +122,21 @@ impl<'a> RipAt<'a> {
 #[derive(Debug, Drop)]
 pub struct Standings<'a> {
     entries: RipEntries<'a>,
-    catalogue: &'a Catalogue,
+    partitions: &'a [Partition],
 }
 
 impl<'a> Model for Standings<'a> {
     ghost use Rattle.std.specs.Prelude.{List};
     ghost use Rattle.mxf_sets.specs.declared.pack.random_index.RipEntry.{RipEntry};
     ghost use Rattle.mxf_views.specs.declared.random_index.Standing.{Standing};
-    ghost use Rattle.mxf_views.specs.RandomIndex.{standings};
+    ghost use Rattle.mxf_views.specs.Kept.{RiseBy};
+    ghost use Rattle.mxf_views.specs.RandomIndex.{standings_among};
 
     ghost Value = { List (RipEntry × Standing) };
 
-    ghost view = { λ s. standings s.catalogue.now s.entries };
+    ghost view = { λ s. standings_among s.partitions.now s.entries };
+
+    ghost invariant = { λ s. RiseBy (λ p. p.offset) s.partitions.now };
 }
 
 impl<'a> Iterator for Standings<'a> {
@@ -133,16 +148,17 @@ impl<'a> Iterator for Standings<'a> {
 
     fn next(&mut self) -> Option<(RipEntry, Standing)> {
         let entry = self.entries.next()?;
-        Some((entry, standing_in(self.catalogue, &entry)))
+        Some((entry, standing_among(self.partitions, &entry)))
     }
 }
 
-/// How an entry stands to the partitions of a catalogue.
-fn standing_in(catalogue: &Catalogue, entry: &RipEntry) -> Standing
-    ensures { result ≡ standing_of (partitions_of catalogue.now) entry.now }
+/// How an entry stands to partitions.
+fn standing_among(partitions: &[Partition], entry: &RipEntry) -> Standing
+    requires { RiseBy (λ p. p.offset) partitions.now }
+    ensures { result ≡ standing_of partitions.now entry.now }
 {
-    match partition_there(catalogue, entry.offset) {
-        Some(partition) if partition.pack.numbers().body_sid == entry.body_sid => Standing::Held,
+    match find_by_key(partitions, entry.offset) {
+        Some(partition) if partition.numbers.body_sid == entry.body_sid => Standing::Held,
         Some(_) => Standing::Differs,
         None => Standing::Missing,
     }
@@ -165,12 +181,12 @@ pub(crate) fn read_rip(note: &Note) -> Option<Rip<'_>>
 }
 
 impl<'a> RipView<'a> {
-    ghost use Rattle.mxf_views.specs.RandomIndexView.{rip_view_of};
+    ghost use Rattle.mxf_views.specs.RandomIndexView.{rip_view_among};
 
-    /// What is known of the random index pack of a catalogue, by the clear ones.
-    pub(crate) fn of(catalogue: &'a Catalogue, mut rips: NotesAt<'a>) -> RipView<'a>
-        requires { rips ≡ rips_of catalogue.now }
-        ensures { result ≡ rip_view_of catalogue.now }
+    /// What is known of the random index pack, by the clear ones, of a file with these partitions.
+    pub(crate) fn of(mut rips: NotesAt<'a>, partitions: &'a [Partition]) -> RipView<'a>
+        requires { RiseBy (λ p. p.offset) partitions.now }
+        ensures { result ≡ rip_view_among partitions.now rips.entry }
     {
         let Some(note) = rips.next() else {
             return RipView::Absent;
@@ -183,7 +199,7 @@ impl<'a> RipView<'a> {
             Some(rip) => RipView::One(RipAt {
                 offset,
                 rip,
-                catalogue,
+                partitions,
             }),
             None => RipView::Unreadable(offset),
         }

@@ -1,15 +1,16 @@
 //! Views of a catalogue.
-ghost use Rattle.std.specs.Prelude.{◌≡◌, ◌≢◌, ◌↔◌, ◌==◌, ◌||◌, List, filter, not, ◌<◌, ◌^◌, find, length, count_by, []};
+ghost use Rattle.std.specs.Prelude.{◌≡◌, ◌≢◌, ◌↔◌, ◌==◌, ◌||◌, List, filter, map, not, ◌<◌, ◌^◌, find, length, count_by, []};
 ghost use Rattle.std.specs.Prelude.{IfErr, IfOk, OnOk, OnErr};
 ghost use Rattle.std.specs.List.{list_all};
+ghost use Rattle.std.specs.Option.{option_copied, option_map};
 ghost use Rattle.mxf_catalogue.specs.Disputes.{SharesByte, clear_notes};
 ghost use Rattle.mxf_klv.specs.Parts.{NoteParts};
 ghost use Rattle.mxf_klv.specs.Rising.{In};
 ghost use Rattle.mxf_catalogue.specs.Content.{AreReduced, has_note, reduced_union, reduced_with};
 ghost use Rattle.mxf_catalogue.specs.History.{History, Add, Join, Of, content};
 ghost use Rattle.mxf_catalogue.specs.Moved.{TellsMoved};
-ghost use Rattle.mxf_views.specs.Partitions.{partitions_of, link_of, link_at, is_linked, chain_of, is_header};
-ghost use Rattle.mxf_views.specs.Partitions.{is_footer, is_greatest, is_no_unreadable_pack, stands_above};
+ghost use Rattle.mxf_views.specs.Partitions.{partitions_of, link_by, link_of, link_at, is_linked, chain_of, is_header};
+ghost use Rattle.mxf_views.specs.Partitions.{in_numbers, is_footer, is_greatest, is_no_unreadable_pack, stands_above};
 ghost use Rattle.mxf_views.specs.Gaps.{gaps_of};
 ghost use Rattle.mxf_views.specs.Copies.{copies_of, preferred_of, sets_of};
 ghost use Rattle.mxf_views.specs.Labels.{is_in_copy, primer_for, primer_of, primer_there};
@@ -17,28 +18,27 @@ ghost use Rattle.mxf_views.specs.References.{found_in};
 ghost use Rattle.mxf_views.specs.Resolved.{resolved_of};
 ghost use Rattle.std.specs.Prelude.{◌≤◌};
 ghost use Rattle.std.specs.Result.{OkIff};
-ghost use Rattle.mxf_views.specs.Places.{greatest_unit, place_of, segments_of};
+ghost use Rattle.mxf_views.specs.Places.{greatest_unit, place_of, segments_of, without_entries};
 ghost use Rattle.mxf_views.specs.RandomIndex.{rips_of};
 ghost use Rattle.mxf_views.specs.RandomIndexView.{rip_view_of};
 ghost use Rattle.mxf_views.specs.Findings.{findings_of};
-ghost use Rattle.mxf_views.specs.Kept.{MeetAt};
+ghost use Rattle.mxf_views.specs.Kept.{MeetAt, RiseBy};
 ghost use Rattle.mxf_views.specs.Headline.{IsTheRun};
 ghost use Rattle.mxf_views.specs.SameViews.{SameViews};
 
-use crate::chain::{Chain, Link, link_of};
+use crate::chain::{Chain, Link, link_by};
 use crate::copy::sets::{Sets, no_sets, sets_of_copy};
 use crate::copy::{CopyInfo, preferred, read_primer};
 use crate::finding::Findings;
 use crate::gap::Gaps;
-use crate::index::Segments;
 use crate::index::place::{BadUnit, GREATEST_UNIT, Place};
+use crate::index::{SegmentAt, SegmentInNumbers, Segments, segment_there};
 use crate::kept::KeptLists;
 use crate::kept::above::boundary;
 use crate::kept::arrival::Arrival;
-use crate::kept::copies::find_copy;
-use crate::kept::offsets::any_above;
+use crate::kept::keyed::{any_above, find_by_key};
 use crate::kept::reaches::copy_around;
-use crate::partition::{PartitionAt, Partitions, partition_there};
+use crate::partition::{Partition, PartitionAt, Partitions, footer_count, header_count};
 use crate::placed::NotesAt;
 use crate::random_index::RipView;
 use crate::reference::resolved::{Resolved, preface_among, resolved_by};
@@ -74,7 +74,7 @@ impl Model for Views {
     ghost invariant = { λ v. kept_in v.kept ≡ kept_of v.catalogue };
 }
 
-/// A catalogue that makes no views, for want of memory: it comes back.
+/// A catalogue that makes no views, out of memory: it comes back.
 #[derive(Debug, Drop, Error)]
 #[error("out of memory")]
 pub struct ViewFault {
@@ -143,7 +143,7 @@ impl Views {
     /// Moves the notes of a catalogue into that of these views, which are of the notes of both then. No kept value is
     /// copied. Where the other's notes begin where these end, or above, only they are counted.
     ///
-    /// The only fault is want of memory. The other catalogue comes back and these views are unchanged.
+    /// The only fault is out of memory. The other catalogue comes back and these views are unchanged.
     pub fn merge(&mut self, other: Catalogue) -> Result<(), MergeFault>
         ensures merged { OnOk result (self.new ≡ reduced_union self.old other) }
         ensures err { OnErr result (self.new ≡ self.old) }
@@ -218,22 +218,46 @@ impl Views {
         // A count of the result fits.
         ensures bound { length result < 2 ^ 64 }
     {
-        Partitions::of(NotesAt::of(&self.catalogue, &self.kept.partitions))
+        Partitions::of(&self.catalogue, &self.kept.partitions)
+    }
+
+    /// The same by what their packs state in numbers, which is read once and kept.
+    pub fn partitions_in_numbers(&self) -> &[Partition]
+        ensures partitions { result.now ≡ map in_numbers (partitions_of self.now) }
+        ensures rising { RiseBy (λ p. p.offset) result.now }
+    {
+        self.catalogue.laws();
+        &self.kept.partitions
+    }
+
+    /// The partition at a file offset, by what its pack states in numbers. It is a binary search.
+    pub fn partition_at(&self, offset: u64) -> Option<&Partition>
+        ensures { option_copied result ≡ option_map in_numbers (find (λ p. p.offset == offset) (partitions_of self.now)) }
+    {
+        find_by_key(self.partitions_in_numbers(), offset)
     }
 
     /// How the partition at a file offset names the one before it.
     pub fn link(&self, offset: u64) -> Option<Link>
         ensures { result ≡ link_at offset (partitions_of self.now) }
     {
-        let partition = partition_there(&self.catalogue, offset)?;
-        Some(self.link_of(&partition))
+        let partition = self.partition_at(offset)?;
+        Some(self.link_by(offset, partition.numbers.previous_partition))
     }
 
     /// How a partition names the one before it, among the partitions of these views.
     pub fn link_of(&self, partition: &PartitionAt<'_>) -> Link
         ensures { result ≡ link_of (partitions_of self.now) partition.now }
     {
-        link_of(&self.catalogue, &self.kept.partitions, partition)
+        let previous = partition.pack.numbers().previous_partition;
+        self.link_by(partition.offset, previous)
+    }
+
+    /// How a partition at a file offset names the one before it, by the offset that it states for that.
+    pub(crate) fn link_by(&self, offset: u64, previous: u64) -> Link
+        ensures { result ≡ link_by (partitions_of self.now) offset previous }
+    {
+        link_by(self.partitions_in_numbers(), offset, previous)
     }
 
     /// Whether the partitions hang together from the header to the footer.
@@ -255,32 +279,33 @@ impl Views {
     fn has_one_header(&self) -> bool
         ensures { result ≡ (count_by (λ p. is_header p.pack.part) (partitions_of self.now) == 1) }
     {
-        self.partitions().count_headers() == 1
+        header_count(self.partitions_in_numbers()) == 1
     }
 
     fn has_one_footer(&self) -> bool
         ensures { result ≡ (count_by (λ p. is_footer p.pack.part) (partitions_of self.now) == 1) }
     {
-        self.partitions().count_footers() == 1
+        footer_count(self.partitions_in_numbers()) == 1
     }
 
     fn are_linked(&self) -> bool
         ensures { result ≡ list_all (is_linked (partitions_of self.now)) (partitions_of self.now) }
     {
-        for partition in self.partitions() {
-            if !self.is_linked(&partition) {
+        for partition in self.partitions_in_numbers() {
+            if !self.is_linked(partition) {
                 return false;
             }
         }
         true
     }
 
-    fn is_linked(&self, partition: &PartitionAt<'_>) -> bool
+    fn is_linked(&self, partition: &Partition) -> bool
         ensures { result ≡ is_linked (partitions_of self.now) partition.now }
     {
-        match (partition.pack.part(), self.link_of(partition)) {
-            (PackPart::Header, link) => link == Link::First,
-            (_, link) => link == Link::Held,
+        let link = self.link_by(partition.offset, partition.numbers.previous_partition);
+        match partition.part {
+            PackPart::Header => link == Link::First,
+            _ => link == Link::Held,
         }
     }
 
@@ -288,10 +313,8 @@ impl Views {
         ensures { result ≡ list_all (λ p. not (is_footer p.pack.part) || is_greatest (partitions_of self.now) p)
             (partitions_of self.now) }
     {
-        for partition in self.partitions() {
-            if partition.pack.part() == PackPart::Footer
-                && self.any_partition_above(partition.offset)
-            {
+        for partition in self.partitions_in_numbers() {
+            if partition.part == PackPart::Footer && self.any_partition_above(partition.offset) {
                 return false;
             }
         }
@@ -302,8 +325,7 @@ impl Views {
     fn any_partition_above(&self, offset: u64) -> bool
         ensures { result ≡ stands_above offset (partitions_of self.now) }
     {
-        self.catalogue.laws();
-        any_above(&self.kept.partitions, offset)
+        any_above(self.partitions_in_numbers(), offset)
     }
 
     fn has_readable_packs(&self) -> bool
@@ -355,7 +377,7 @@ impl Views {
         ensures { result ≡ find (λ c. c.partition == partition) (copies_of self.now) }
     {
         self.catalogue.laws();
-        find_copy(&self.kept.copies, partition)
+        find_by_key(&self.kept.copies, partition).copied()
     }
 
     /// The preferred copy: of those with a start and exactly one Preface, a finished one before all others, then by the
@@ -430,7 +452,23 @@ impl Views {
         // A count of the result fits.
         ensures bound { length result < 2 ^ 64 }
     {
-        Segments::of(NotesAt::of(&self.catalogue, &self.kept.segments))
+        Segments::of(&self.catalogue, &self.kept.segments)
+    }
+
+    /// The same by what they state in numbers, which is read once and kept.
+    pub fn segments_in_numbers(&self) -> &[SegmentInNumbers]
+        ensures segments { result.now ≡ map without_entries (segments_of self.now) }
+        ensures rising { RiseBy (λ s. s.offset) result.now }
+    {
+        self.catalogue.laws();
+        &self.kept.segments
+    }
+
+    /// The index table segment at a file offset. It is a binary search.
+    pub fn segment_at(&self, offset: u64) -> Option<SegmentAt<'_>>
+        ensures { result ≡ find (λ s. s.offset == offset) (segments_of self.now) }
+    {
+        segment_there(&self.catalogue, offset)
     }
 
     /// Where the index of an IndexSID puts an edit unit, by all segments that cover it.
@@ -449,7 +487,7 @@ impl Views {
     pub fn rip(&self) -> RipView<'_>
         ensures { result ≡ rip_view_of self.now }
     {
-        RipView::of(&self.catalogue, self.random_index_packs())
+        RipView::of(self.random_index_packs(), self.partitions_in_numbers())
     }
 
     /// The clear random index packs, readable or not, rising.

@@ -51,9 +51,9 @@ pub(super) fn random_index(alloc: Global, catalogue: &Catalogue) -> Result<Cover
 fn partition_offsets(alloc: Global, views: &Views, part: PackPart) -> Result<Vec<u64>, OutOfMemory>
     ensures { IfOk result (λ v. v.items ≡ partition_offsets part (partitions_of views.now)) }
 {
-    let offsets = views
-        .partitions()
-        .filter(|partition| is_part(partition.pack.part(), part))
+    let partitions = views.partitions_in_numbers().iter();
+    let offsets = partitions
+        .filter(|partition| is_part(partition.part, part))
         .map(|partition| partition.offset);
     Ok(offsets.collect(alloc)?)
 }

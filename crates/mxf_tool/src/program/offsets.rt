@@ -115,8 +115,8 @@ fn beginning_by(named: u64, partition: &PartitionAt<'_>) -> Option<u64>
 fn begins_at(views: &Views, named: u64, right: u64) -> bool
     ensures { result ≡ list_all (begins_at named right) (partitions_of views.now) }
 {
-    for partition in views.partitions() {
-        let this = partition.pack.numbers().this_partition;
+    for partition in views.partitions_in_numbers() {
+        let this = partition.numbers.this_partition;
         let said = u128::from(named) + u128::from(this);
         if said != u128::from(right) + u128::from(partition.offset) {
             return false;

@@ -9,7 +9,7 @@ use super::{EssenceZone, Evidence};
 use crate::standing::UnitStanding;
 use mxf_klv::{OutOfMemory, sort_once};
 use mxf_places::Holdings;
-use mxf_views::{PartitionAt, Views};
+use mxf_views::{Partition, Views};
 use std::alloc::Global;
 
 /// A partition, as a part of an essence stream.
@@ -25,10 +25,10 @@ pub(crate) struct StreamPart {
 }
 
 /// A partition as a part of its stream.
-fn part_of(evidence: &Evidence<'_>, partition: &PartitionAt<'_>) -> StreamPart
+fn part_of(evidence: &Evidence<'_>, partition: &Partition) -> StreamPart
     ensures { result ≡ part_of evidence.now partition.now }
 {
-    let numbers = partition.pack.numbers();
+    let numbers = &partition.numbers;
     StreamPart {
         body_sid: numbers.body_sid,
         body_offset: numbers.body_offset,
@@ -57,9 +57,8 @@ fn parts_in(
 ) -> Result<Vec<StreamPart>, OutOfMemory>
     ensures { IfOk result (λ v. v.items ≡ map (part_of evidence.now) (partitions_of views.now)) }
 {
-    let parts = views
-        .partitions()
-        .map(|partition| part_of(evidence, &partition));
+    let partitions = views.partitions_in_numbers().iter();
+    let parts = partitions.map(|partition| part_of(evidence, partition));
     Ok(parts.collect(alloc)?)
 }
 

@@ -3,11 +3,12 @@ ghost use Rattle.std.specs.Prelude.{◌≡◌, ◌++◌, OnOk};
 ghost use Rattle.mxf_catalogue.specs.Disputes.{clear_notes};
 ghost use Rattle.mxf_views.specs.Findings.{ends_above, findings_for, has_other_rip, is_unfit_rip, are_entries_of};
 ghost use Rattle.mxf_views.specs.Findings.{is_index_of};
+ghost use Rattle.mxf_views.specs.Partitions.{partitions_of};
 ghost use Rattle.mxf_views.specs.RandomIndex.{rip_in};
 
 use super::Code;
 use super::collected::Collected;
-use crate::partition::Partitions;
+use crate::partition::Partition;
 use crate::random_index::{is_rip, read_rip};
 use crate::views::Views;
 use mxf_catalogue::Notes;
@@ -15,14 +16,14 @@ use mxf_klv::{Note, OutOfMemory};
 use mxf_sets::RipEntries;
 
 /// Whether the entries are the BodySIDs and the offsets of the partitions, one after another.
-fn are_entries_of(mut entries: RipEntries<'_>, partitions: Partitions<'_>) -> bool
-    ensures { result ≡ are_entries_of partitions.entry entries.entry }
+fn are_entries_of(mut entries: RipEntries<'_>, partitions: &[Partition]) -> bool
+    ensures { result ≡ are_entries_of partitions.now entries.entry }
 {
     for partition in partitions {
         let Some(entry) = entries.next() else {
             return false;
         };
-        let body_sid = partition.pack.numbers().body_sid;
+        let body_sid = partition.numbers.body_sid;
         if entry.body_sid != body_sid || entry.offset != partition.offset {
             return false;
         }
@@ -31,11 +32,11 @@ fn are_entries_of(mut entries: RipEntries<'_>, partitions: Partitions<'_>) -> bo
 }
 
 /// Whether the random index pack of a note lists the partitions.
-fn is_index_of(note: &Note, partitions: Partitions<'_>) -> bool
-    ensures { result ≡ is_index_of partitions.entry (rip_in note.now) }
+fn is_index(views: &Views, note: &Note) -> bool
+    ensures { result ≡ is_index_of (partitions_of views.now) (rip_in note.now) }
 {
     match read_rip(note) {
-        Some(rip) => are_entries_of(rip.entries(), partitions),
+        Some(rip) => are_entries_of(rip.entries(), views.partitions_in_numbers()),
         None => false,
     }
 }
@@ -72,7 +73,7 @@ fn is_unfit_rip(views: &Views, note: &Note) -> bool
     is_rip(note)
         && (has_other_rip(views, note)
             || ends_above(note.end(), views.catalogue().notes())
-            || !is_index_of(note, views.partitions()))
+            || !is_index(views, note))
 }
 
 impl Collected {

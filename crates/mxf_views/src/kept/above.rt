@@ -1,17 +1,18 @@
 //! What is kept once notes are there that begin where all others end, or above: only what is new is counted.
 ghost use Rattle.std.specs.Prelude.{◌≡◌, ◌≤◌, ◌+◌, ◌-◌, ◌++◌, ◌∷◌, ℕ, List, [], IfSome, Some, count_by, filter, length};
 ghost use Rattle.std.specs.Prelude.{map, take, vec_len, vec_capacity};
-ghost use Rattle.std.specs.List.{AllWithin};
+ghost use Rattle.std.specs.List.{AllWithin, filter_map};
 ghost use Rattle.mxf_klv.specs.Parts.{NoteParts};
 ghost use Rattle.mxf_klv.specs.Rising.{In};
 ghost use Rattle.mxf_views.specs.declared.copy.CopyInfo.{CopyInfo};
 ghost use Rattle.mxf_views.specs.Copies.{CopiesRise, copies_of};
-ghost use Rattle.mxf_views.specs.Kept.{MeetAt, is_placed, reaches_of, states_metadata};
+ghost use Rattle.mxf_views.specs.Kept.{MeetAt, kept_partition, reaches_of, states_metadata};
 ghost use Rattle.mxf_views.specs.KeptAbove.{CountsFit, EndsBy, IsOfNone, IsStarting, IsUnionAt, clear_from};
 ghost use Rattle.mxf_views.specs.KeptAbove.{counted_above, counted_on, started};
 
 use super::sums::{Sums, append_copies};
 use crate::copy::{CopyInfo, copy_there, start_of};
+use crate::partition::Partition;
 use mxf_catalogue::Catalogue;
 use mxf_klv::{Note, below};
 
@@ -121,10 +122,17 @@ fn count_above(copies: &mut [CopyInfo], sums: &Sums<'_>, starting: Option<u64>)
 }
 
 /// Follows the arrival of notes from the boundary on, where there is room: from the copies of the notes below it to
-/// those of all notes. The new notes are summed up once for all copies; those that are settled stay.
-pub(super) fn follow_copies_above(copies: &mut Vec<CopyInfo>, settled: usize, sums: &Sums<'_>)
+/// those of all notes, by the new partitions. The new notes are summed up once for all copies; those that are settled
+/// stay.
+pub(super) fn follow_copies_above(
+    copies: &mut Vec<CopyInfo>,
+    settled: usize,
+    sums: &Sums<'_>,
+    new: &[Partition],
+)
     requires kept { (own : List NoteParts) × IsUnionAt sums.now.boundary sums.now.notes own
         × (copies.old.items ≡ copies_of own) }
+    requires new { new.now ≡ filter_map kept_partition (clear_from sums.now.boundary sums.now.notes) }
     requires bound { settled ≤ vec_len copies.old - 1 }
     requires ended { AllWithin (EndsBy sums.now.boundary) copies.old.items 0 settled }
     requires room { vec_len copies.old + count_by states_metadata (clear_from sums.now.boundary sums.now.notes)
@@ -136,5 +144,5 @@ pub(super) fn follow_copies_above(copies: &mut Vec<CopyInfo>, settled: usize, su
     sums.catalogue().laws();
     let starting = starting(copies, sums.catalogue(), sums.boundary());
     count_above(&mut copies[settled..], sums, starting);
-    append_copies(copies, sums);
+    append_copies(copies, sums, new);
 }

@@ -1,18 +1,19 @@
 //! The copies of the header metadata, kept by their partitions, which rise.
-ghost use Rattle.std.specs.Prelude.{◌≡◌, ◌==◌, ◌<◌, ◌≤◌, ℕ, List, filter, find, map, vec_len, vec_capacity};
+ghost use Rattle.std.specs.Prelude.{◌≡◌, ◌<◌, ℕ, List, map, vec_len, vec_capacity};
 ghost use Rattle.mxf_klv.specs.Parts.{NoteParts};
 ghost use Rattle.mxf_klv.specs.Rising.{In};
 ghost use Rattle.mxf_catalogue.specs.Content.{IsContent};
 ghost use Rattle.mxf_catalogue.specs.Disputes.{clear_notes};
 ghost use Rattle.mxf_views.specs.Changes.{IsUnmet, SameOutside};
 ghost use Rattle.mxf_views.specs.Copies.{CopiesRise, copy_of};
-ghost use Rattle.mxf_views.specs.Kept.{copies_followed, is_outside, may_change, renewed, with_copy};
+ghost use Rattle.mxf_views.specs.Kept.{copies_followed, may_change, renewed};
 ghost use Rattle.mxf_views.specs.Partitions.{PartitionParts, partitions_of};
 
 use crate::copy::{CopyInfo, copy_there};
 use crate::kept::arrival::Arrival;
+use crate::kept::keyed::{leave, put};
 use mxf_catalogue::Catalogue;
-use mxf_klv::{Keyed, up_to};
+use mxf_klv::Keyed;
 
 /// Whether what comes and goes with an arrival may change the copy.
 fn may_change(copy: &CopyInfo, arrival: &Arrival) -> bool
@@ -60,51 +61,18 @@ impl Keyed for CopyInfo {
     }
 }
 
-/// Puts a copy among others by its partition, where there is room.
-fn put_copy(copies: &mut Vec<CopyInfo>, copy: CopyInfo)
-    requires rising { CopiesRise copies.old.items }
-    requires room { vec_len copies.old < vec_capacity copies.old }
-    ensures { copies.new.items ≡ with_copy copy copies.old.items }
-{
-    let at = up_to(copies, copy.partition);
-    match copies.insert(at, copy) {
-        Ok(()) => (),
-        Err(_) => unreachable!(),
-    }
-}
-
-/// The copy of the partition at a file offset.
-pub(crate) fn find_copy(copies: &[CopyInfo], partition: u64) -> Option<CopyInfo>
-    requires { CopiesRise copies.now }
-    ensures { result ≡ find (λ c. c.partition == partition) copies.now }
-{
-    match copies.binary_search_by_key(&partition, |copy| copy.partition) {
-        Ok(at) => Some(copies[at]),
-        Err(_) => None,
-    }
-}
-
-/// Takes the copies out that an arrival moves.
-fn leave_copies(copies: &mut Vec<CopyInfo>, arrival: &Arrival)
-    ensures items { copies.new.items
-        ≡ filter (λ c. is_outside arrival.now.start arrival.now.end c.partition) copies.old.items }
-    ensures len { vec_len copies.new ≤ vec_len copies.old }
-    ensures capacity { vec_capacity copies.new ≡ vec_capacity copies.old }
-{
-    copies.retain(|copy| arrival.is_outside(copy.partition));
-}
-
-/// The same, counts those anew that may have changed, and puts that of the arrival's partition among them.
+/// Takes the copies out that an arrival moves, counts those anew that may have changed, and puts that of the arrival's
+/// partition among them.
 pub(super) fn follow_copies(copies: &mut Vec<CopyInfo>, catalogue: &Catalogue, arrival: &Arrival)
     requires rising { CopiesRise copies.old.items }
     requires room { vec_len copies.old < vec_capacity copies.old }
     ensures { copies.new.items ≡ copies_followed catalogue.now arrival.now.offset arrival.now.start arrival.now.end
         arrival.now.can_bring_start copies.old.items }
 {
-    leave_copies(copies, arrival);
+    leave(copies, arrival);
     renew(copies, catalogue, arrival);
     if let Some(copy) = copy_there(catalogue, arrival.offset) {
-        put_copy(copies, copy);
+        put(copies, copy);
     }
 }
 

@@ -3,7 +3,7 @@ ghost use Rattle.std.specs.Prelude.{◌≡◌, ◌≤◌, ◌∷◌, find, get_o
 ghost use Rattle.mxf_views.specs.Kept.{StartsRise, reach_of, reaches_of};
 ghost use Rattle.mxf_views.specs.Labels.{is_in_copy};
 
-use super::push;
+use super::keyed::push;
 use crate::copy::CopyInfo;
 use mxf_klv::{Note, below};
 

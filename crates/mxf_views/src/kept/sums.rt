@@ -1,20 +1,19 @@
 //! What clear notes cover and how many Prefaces are among them, summed up from mark to mark for many zones.
 ghost use Rattle.std.specs.Prelude.{◌≡◌, ◌≤◌, ◌<◌, ◌+◌, ◌++◌, ◌∷◌, ◌⊎◌, ◌^◌, if◌then◌else◌, IfSome, List, [], count_by};
 ghost use Rattle.std.specs.Prelude.{length, vec_len, vec_capacity};
-ghost use Rattle.std.specs.List.{filter_map};
+ghost use Rattle.std.specs.List.{AllWithin};
 ghost use Rattle.std.specs.List.Sorted.{IsNonDecreasingBy};
 ghost use Rattle.mxf_klv.specs.Parts.{NoteParts};
 ghost use Rattle.mxf_catalogue.specs.Content.{IsCatalogue};
 ghost use Rattle.mxf_catalogue.specs.Disputes.{AreApart, clear_notes};
-ghost use Rattle.mxf_views.specs.Copies.{copy_of, covered_of, is_preface_note, prefaces_of};
-ghost use Rattle.mxf_views.specs.Kept.{copy_by, states_metadata};
+ghost use Rattle.mxf_views.specs.Copies.{copies_among, copy_of, covered_of, has_metadata, is_preface_note, prefaces_of};
 ghost use Rattle.mxf_views.specs.KeptAbove.{clear_from};
 ghost use Rattle.mxf_views.specs.Sums.{AreInRange, AreMarks};
 
-use super::push;
+use super::keyed::push;
 use crate::copy::zone::{Counts, is_preface};
 use crate::copy::{CopyInfo, counts, has_metadata, start_of, with_start, without_start};
-use crate::partition::{PartitionAt, partition_at};
+use crate::partition::Partition;
 use mxf_catalogue::{Catalogue, ClearNotes};
 use mxf_klv::{Keyed, Note, below, up_to};
 use std::marker::Model;
@@ -117,50 +116,29 @@ impl<'a> Sums<'a> {
         }
     }
 
-    /// The clear notes from the boundary on.
-    fn clear(&self) -> ClearNotes<'a>
-        ensures notes { result ≡ clear_from self.now.boundary self.now.notes }
-        ensures apart { AreApart 0 result }
-    {
-        self.catalogue.clear_within(self.boundary, u64::MAX)
-    }
-
-    /// The copy of the partition that the note is, where it states header metadata.
-    pub fn copy_by(&self, note: &Note) -> Option<CopyInfo>
-        requires { self.now.boundary ≤ note.now.offset }
-        ensures { result ≡ copy_by (clear_notes self.now.notes) note.now }
-    {
-        let partition = partition_at(note)?;
-        if !has_metadata(&partition) {
-            return None;
-        }
-        Some(self.counted_copy(&partition))
-    }
-
     /// The copy of the partition.
     #[tactic(auto, unfolding(crate::specs::Copies::copy_of))]
-    fn counted_copy(&self, partition: &PartitionAt<'_>) -> CopyInfo
+    fn copy_of(&self, partition: &Partition) -> CopyInfo
         requires { self.now.boundary ≤ partition.now.end }
         ensures { result ≡ copy_of (clear_notes self.now.notes) partition.now }
     {
         let Some(start) = start_of(self.catalogue, partition.end) else {
             return without_start(partition);
         };
-        let bytes = partition.pack.numbers().header_byte_count;
+        let bytes = partition.numbers.header_byte_count;
         with_start(partition, start, self.counts(start, bytes))
     }
 }
 
-/// Puts the copies of the partitions among the notes that are summed up behind others, where there is room.
-pub(super) fn append_copies(copies: &mut Vec<CopyInfo>, sums: &Sums<'_>)
-    requires { vec_len copies.old + count_by states_metadata (clear_from sums.now.boundary sums.now.notes)
-        ≤ vec_capacity copies.old }
-    ensures copies { copies.new.items ≡ copies.old.items
-        ++ filter_map (copy_by (clear_notes sums.now.notes)) (clear_from sums.now.boundary sums.now.notes) }
+/// Puts the copies of partitions from the boundary on behind others, where there is room.
+pub(super) fn append_copies(copies: &mut Vec<CopyInfo>, sums: &Sums<'_>, partitions: &[Partition])
+    requires above { AllWithin (λ p. sums.now.boundary ≤ p.end) partitions.now 0 (length partitions.now) }
+    requires room { vec_len copies.old + count_by has_metadata partitions.now ≤ vec_capacity copies.old }
+    ensures { copies.new.items ≡ copies.old.items ++ copies_among (clear_notes sums.now.notes) partitions.now }
 {
-    for note in sums.clear() {
-        if let Some(copy) = sums.copy_by(note) {
-            push(copies, copy);
+    for partition in partitions {
+        if has_metadata(partition) {
+            push(copies, sums.copy_of(partition));
         }
     }
 }

@@ -1,8 +1,8 @@
 //! How much there can be to keep of a catalogue.
 ghost use Rattle.std.specs.Prelude.{◌≡◌, ◌≤◌, if◌then◌else◌, count_by};
 ghost use Rattle.mxf_catalogue.specs.Disputes.{clear_notes};
-ghost use Rattle.mxf_views.specs.declared.kept.offsets.Placed.{Placed};
-ghost use Rattle.mxf_views.specs.Kept.{is_placed, states_metadata};
+ghost use Rattle.mxf_views.specs.Kept.{is_kept, kept_partition, kept_random_index_pack, kept_segment};
+ghost use Rattle.mxf_views.specs.Kept.{kept_unreadable_pack, states_metadata};
 ghost use Rattle.mxf_views.specs.Places.{is_segment};
 
 use crate::partition::is_pack;
@@ -22,11 +22,11 @@ pub(super) struct Tally {
 impl Tally {
     /// Counts them, in one pass and by their kinds alone.
     pub fn of(catalogue: &Catalogue) -> Tally
-        ensures partitions { count_by (is_placed Placed.Partition) (clear_notes catalogue.now) ≤ result.packs }
-        ensures unreadable { count_by (is_placed Placed.UnreadablePack) (clear_notes catalogue.now) ≤ result.packs }
+        ensures partitions { count_by (is_kept kept_partition) (clear_notes catalogue.now) ≤ result.packs }
+        ensures unreadable { count_by (is_kept kept_unreadable_pack) (clear_notes catalogue.now) ≤ result.packs }
         ensures copies { count_by states_metadata (clear_notes catalogue.now) ≤ result.packs }
-        ensures segments { count_by (is_placed Placed.Segment) (clear_notes catalogue.now) ≤ result.segments }
-        ensures random_index_packs { count_by (is_placed Placed.RandomIndexPack) (clear_notes catalogue.now)
+        ensures segments { count_by (is_kept kept_segment) (clear_notes catalogue.now) ≤ result.segments }
+        ensures random_index_packs { count_by (is_kept kept_random_index_pack) (clear_notes catalogue.now)
             ≤ result.random_index_packs }
     {
         let mut packs = 0;

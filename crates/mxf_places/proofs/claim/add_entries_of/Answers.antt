@@ -1,4 +1,4 @@
-use Rattle.std.proofs.Common.{rules}
+use Rattle.std.proofs.Common.{map, rules}
 use Rattle.std.proofs.lemmas.Iterator.Adapters.{items_from_extend}
 use Rattle.std.proofs.lemmas.Iterator.Consumers.{YieldsList-from_filter_map, YieldsList-from_first}
 use Rattle.mxf_places.specs.Claims.{entry_claim}
@@ -8,5 +8,5 @@ pub returns : goal.returns
 returns c =
     let h = items_from_extend c.extend.result c.extend.ensures.ran (YieldsList-from_filter_map _
     (entry_claim c.args.rip.now.offset)
-    (YieldsList-from_first (λ x. x) (λ s. s) c.args.rip.now.entries cc)
+    (YieldsList-from_first (λ x. x) (λ s. s) (map (λ e. e.0) c.args.rip.now.entries) cc)
     c.filter_map-found.ensures.closure (λ x r q k. search rules)) in search rules

@@ -1,12 +1,18 @@
-use Rattle.std.proofs.Common.{rules}
+use Rattle.std.proofs.Common.{◌≡◌, ◌∙◌, ap, rules}
+use Rattle.std.proofs.lemmas.Iterator.{YieldsList-from_slice}
 use Rattle.std.proofs.lemmas.Iterator.Adapters.{items_from_extend}
-use Rattle.std.proofs.lemmas.Iterator.Consumers.{YieldsList-from_filter_map, YieldsList-from_first}
+use Rattle.std.proofs.lemmas.Iterator.Consumers.{YieldsList-from_filter_map}
+use Rattle.std.specs.List.{filter_map}
 use Rattle.mxf_views.specs.Partitions.{partitions_of}
 use Rattle.mxf_places.specs.Claims.{previous_claim}
+use Rattle.mxf_places.proofs.InNumbers.{previous}
 use Rattle.mxf_places.proofs.claim.add_previous.Goals as goal
 
 pub returns : goal.returns
 returns c =
+    let lent = c.partitions_in_numbers.result.now in
+    let same : filter_map previous_claim lent ≡ filter_map previous_claim (partitions_of c.args.views.now) =
+    ap (filter_map previous_claim) c.partitions_in_numbers.ensures.partitions ∙ previous (partitions_of c.args.views.now) in
     let h = items_from_extend c.extend.result c.extend.ensures.ran (YieldsList-from_filter_map _ previous_claim
-    (YieldsList-from_first (λ x. x) (λ s. s) (partitions_of c.args.views.now) cc)
-    c.filter_map-found.ensures.closure (λ x r q k. search rules)) in search rules
+    (YieldsList-from_slice lent cc) c.filter_map-found.ensures.closure (λ x r q k. search rules)) in
+    search (same, rules)

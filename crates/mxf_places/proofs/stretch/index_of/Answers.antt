@@ -1,7 +1,6 @@
 use Rattle.std.proofs.Common.{List, ap, subst, sym, ◌∙◌, ◌<◌, ◌≡◌, arith}
 use Rattle.mxf_klv.specs.Parts.{NoteParts}
 use Rattle.mxf_catalogue.specs.Content.{IsCatalogue}
-use Rattle.mxf_sets.specs.declared.pack.numbers.PartitionNumbers.{PartitionNumbers}
 use Rattle.mxf_views.specs.Partitions.{PartitionParts}
 use Rattle.mxf_places.proofs.StretchLaws.{far_index}
 use Rattle.mxf_places.proofs.stretch.index_of.Goals as goal
@@ -10,9 +9,7 @@ pub returns-then-from : goal.returns-then-from
 returns-then-from c =
     let above : c.from.result < c.in_ok-from.from = c.if-from.true in
     let bound : c.from.result ≡ 9223372036854775807 = c.from.ensures in
-    let count : c.numbers-count.result.index_byte_count ≡ c.args.partition.now.pack.numbers.index_byte_count =
-    ap (λ (n : PartitionNumbers). n.index_byte_count) c.numbers-count.ensures
-    ∙ ap (λ (p : PartitionParts). p.pack.numbers.index_byte_count) c.partition.view_is in
+    let count = ap (λ (p : PartitionParts). p.pack.numbers.index_byte_count) c.partition.view_is in
     sym (far_index c.args.holdings.now c.args.partition.now c.in_ok-from.from
     (subst (λ (notes : List NoteParts). IsCatalogue notes) (c.catalogue.ensures ∙ c.views.ensures)
     c.laws.ensures.catalogue) (omega (arith, count, c.if-count-eq0.false)) (sym c.in_ok-from.ensures) (omega (

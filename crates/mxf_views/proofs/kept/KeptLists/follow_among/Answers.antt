@@ -1,32 +1,42 @@
-use Rattle.mxf_views.proofs.Common.{◌≡◌, ◌∙◌, ap, arith, length, subst, sym, CopiesRise, copies_of}
-use Rattle.mxf_views.proofs.Common.{KeptParts, reaches_of}
+use Rattle.mxf_views.proofs.Common.{◌≡◌, ◌∙◌, ℕ, Global, Vec, ap, arith, length, subst, sym, CopiesRise, CopyInfo}
+use Rattle.mxf_views.proofs.Common.{copies_of, KeptParts, kept_partition, kept_random_index_pack, kept_segment}
+use Rattle.mxf_views.proofs.Common.{kept_unreadable_pack, reaches_of, vec_capacity, with_found}
+use Rattle.mxf_views.specs.KeptNotes.{partition_in, random_index_pack_in, segment_in, unreadable_pack_in}
 use Rattle.mxf_views.proofs.CopyLaws.{copies_rise}
-use Rattle.mxf_views.proofs.KeptLaws.{copies_after, kept_by, offsets_after, rising_before}
+use Rattle.mxf_views.proofs.KeptLaws.{copies_after, kept_by, list_after, offset-kept_partition, offset-kept_segment}
+use Rattle.mxf_views.proofs.KeptLaws.{offset-kept_rip, offset-kept_unreadable, outside_never_falls}
 use Rattle.mxf_views.proofs.ReachLaws.{length-copies_followed, length-reaches_from}
-use Rattle.mxf_views.specs.declared.kept.offsets.Placed.TheVariants as kinds
 use Rattle.mxf_views.proofs.kept.KeptLists.follow_among.Goals as goal
 
-pub follow-requires-clause-rising : goal.follow-requires-clause-rising
-follow-requires-clause-rising c =
-    let k = c.requires.arrived in rising_before _ _ _ k kinds.Partition _ (ap (λ (p : KeptParts). p.partitions) k.kept)
-
-pub follow-requires-2-clause-rising : goal.follow-requires-2-clause-rising
-follow-requires-2-clause-rising c =
-    let k = c.requires.arrived in rising_before _ _ _ k kinds.Segment _ (ap (λ (p : KeptParts). p.segments) k.kept)
-
-pub follow-requires-3-clause-rising : goal.follow-requires-3-clause-rising
-follow-requires-3-clause-rising c =
-    let k = c.requires.arrived in rising_before _ _ _ k kinds.RandomIndexPack _ (ap (λ (p : KeptParts). p.rips) k.kept)
-
-pub follow-requires-4-clause-rising : goal.follow-requires-4-clause-rising
-follow-requires-4-clause-rising c =
+pub put-requires-clause-partitions : goal.put-requires-clause-partitions
+put-requires-clause-partitions c =
     let k = c.requires.arrived in
-    rising_before _ _ _ k kinds.UnreadablePack _ (ap (λ (p : KeptParts). p.unreadable) k.kept)
+    outside_never_falls _ _ _ k kept_partition (λ p. p.offset) offset-kept_partition _ _
+    (ap (λ (p : KeptParts). p.partitions) k.kept) c.leave.ensures.partitions.items
+
+pub put-requires-clause-segments : goal.put-requires-clause-segments
+put-requires-clause-segments c =
+    let k = c.requires.arrived in
+    outside_never_falls _ _ _ k kept_segment (λ s. s.offset) offset-kept_segment _ _
+    (ap (λ (p : KeptParts). p.segments) k.kept) c.leave.ensures.segments.items
+
+pub put-requires-clause-random_index_packs : goal.put-requires-clause-random_index_packs
+put-requires-clause-random_index_packs c =
+    let k = c.requires.arrived in
+    outside_never_falls _ _ _ k kept_random_index_pack (λ o. o) offset-kept_rip _ _
+    (ap (λ (p : KeptParts). p.rips) k.kept) c.leave.ensures.random_index_packs.items
+
+pub put-requires-clause-unreadable_packs : goal.put-requires-clause-unreadable_packs
+put-requires-clause-unreadable_packs c =
+    let k = c.requires.arrived in
+    outside_never_falls _ _ _ k kept_unreadable_pack (λ o. o) offset-kept_unreadable _ _
+    (ap (λ (p : KeptParts). p.unreadable) k.kept) c.leave.ensures.unreadable_packs.items
 
 pub follow_copies-requires-clause-rising : goal.follow_copies-requires-clause-rising
 follow_copies-requires-clause-rising c =
     let k = c.requires.arrived in
-    subst CopiesRise (sym (ap (λ (p : KeptParts). p.copies) k.kept)) (copies_rise k.notes k.arrival.content)
+    let same = ap (λ (v : Vec CopyInfo Global). v.items) (c.put.ensures.copies ∙ c.leave.ensures.copies) in
+    subst CopiesRise (sym (same ∙ ap (λ (p : KeptParts). p.copies) k.kept)) (copies_rise k.notes k.arrival.content)
 
 pub refill_reaches-requires-clause-room : goal.refill_reaches-requires-clause-room
 refill_reaches-requires-clause-room c =
@@ -36,25 +46,37 @@ refill_reaches-requires-clause-room c =
     let copies = ap (λ (p : KeptParts). p.copies) k.kept in
     let reaches = ap (λ (p : KeptParts). p.reaches) k.kept in
     let now = ap length (c.deref.ensures.value ∙ c.follow_copies.ensures) in
-    let one = length-copies_followed c.args.catalogue.now a.offset a.start a.end a.can_bring_start old.copies.items in
+    let there = c.put.new.self.copies.items in
+    let one = length-copies_followed c.args.catalogue.now a.offset a.start a.end a.can_bring_start there in
+    let same = ap (λ (v : Vec CopyInfo Global). length v.items) (c.put.ensures.copies ∙ c.leave.ensures.copies) in
     let many : length old.reaches.items ≡ length old.copies.items =
     ap length reaches ∙ length-reaches_from 0 (copies_of k.notes) ∙ ap length (sym copies) in
     let counted = old.reaches.ok.0 in
+    let capacity = ap (λ (v : Vec ℕ Global). vec_capacity v) (c.put.ensures.reaches ∙ c.leave.ensures.reaches) in
     let room = c.requires.room.reaches in
-    omega (arith, now, one, many, counted, room)
+    omega (arith, now, one, same, many, counted, capacity, room)
 
 pub returns : goal.returns
 returns c =
     let k = c.requires.arrived in
-    let after = λ (kind : _) (os : _) (there : _). offsets_after _ _ _ k kind os there in
+    let at = c.at.ensures in
+    let left = c.leave.ensures in
     kept_by _ _ _ _ _ _ _
-    (c.follow.ensures
-    ∙ after kinds.Partition _ _ (ap (λ (p : KeptParts). p.partitions) k.kept) c.stands-partition.ensures)
-    (c.follow-2.ensures
-    ∙ after kinds.Segment _ _ (ap (λ (p : KeptParts). p.segments) k.kept) c.stands-segment.ensures)
-    (c.follow-3.ensures
-    ∙ after kinds.RandomIndexPack _ _ (ap (λ (p : KeptParts). p.rips) k.kept) c.stands-random_index_pack.ensures)
-    (c.follow-4.ensures
-    ∙ after kinds.UnreadablePack _ _ (ap (λ (p : KeptParts). p.unreadable) k.kept) c.stands-unreadable_pack.ensures)
-    (c.follow_copies.ensures ∙ copies_after _ _ _ k _ (ap (λ (p : KeptParts). p.copies) k.kept))
+    (c.put.ensures.partitions ∙ ap (with_found (λ p. p.offset) (partition_in c.at.result)) left.partitions.items
+    ∙ list_after _ _ _ k kept_partition (λ p. p.offset) offset-kept_partition _ _
+    (ap (λ (p : KeptParts). p.partitions) k.kept) at.partition)
+    (c.put.ensures.segments ∙ ap (with_found (λ s. s.offset) (segment_in c.at.result)) left.segments.items
+    ∙ list_after _ _ _ k kept_segment (λ s. s.offset) offset-kept_segment _ _
+    (ap (λ (p : KeptParts). p.segments) k.kept) at.segment)
+    (c.put.ensures.random_index_packs
+    ∙ ap (with_found (λ o. o) (random_index_pack_in c.at.result)) left.random_index_packs.items
+    ∙ list_after _ _ _ k kept_random_index_pack (λ o. o) offset-kept_rip _ _
+    (ap (λ (p : KeptParts). p.rips) k.kept) at.random_index_pack)
+    (c.put.ensures.unreadable_packs
+    ∙ ap (with_found (λ o. o) (unreadable_pack_in c.at.result)) left.unreadable_packs.items
+    ∙ list_after _ _ _ k kept_unreadable_pack (λ o. o) offset-kept_unreadable _ _
+    (ap (λ (p : KeptParts). p.unreadable) k.kept) at.unreadable_pack)
+    (c.follow_copies.ensures
+    ∙ copies_after _ _ _ k _ (ap (λ (v : Vec CopyInfo Global). v.items) (c.put.ensures.copies ∙ left.copies)
+    ∙ ap (λ (p : KeptParts). p.copies) k.kept))
     (c.refill_reaches.ensures ∙ ap reaches_of c.deref.ensures.value)

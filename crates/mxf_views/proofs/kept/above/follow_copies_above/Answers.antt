@@ -1,8 +1,11 @@
 use Rattle.mxf_views.proofs.Common.{◌≡◌, ◌<◌, ◌^◌, ◌∙◌, ◌++◌, ◌-◌, List, ap, arith, drop, get_or, length, map, subst}
-use Rattle.mxf_views.proofs.Common.{sym, take, AllWithin, filter_map, length-map, NoteParts, In, clear_notes, CopyInfo}
-use Rattle.mxf_views.proofs.Common.{CopiesRise, copy_by, clear_from, counted_above, IsOfNone, IsStarting}
+use Rattle.mxf_views.proofs.Common.{sym, take, AllWithin, length-map, NoteParts, In, clear_notes, CopyInfo}
+use Rattle.mxf_views.proofs.Common.{CopiesRise, clear_from, counted_above, IsOfNone, IsStarting}
 use Rattle.std.proofs.lemmas.List.{length-drop}
+use Rattle.mxf_views.proofs.Common.{◌≤◌, PartitionParts, copies_among, count_by, has_metadata}
 use Rattle.mxf_views.proofs.AboveCopies.{copies_at, fits_at, stays_above}
+use Rattle.mxf_views.proofs.AboveKept.{ends_above_at}
+use Rattle.mxf_views.proofs.CopyUpdates.{counted_copies, kept_copies}
 use Rattle.mxf_views.proofs.CopyLaws.{copies_rise}
 use Rattle.mxf_klv.proofs.ListSteps.{in_rest, map_rest, rest_taken, rest_written}
 use Rattle.mxf_views.proofs.kept.above.follow_copies_above.Goals as goal
@@ -21,6 +24,19 @@ count_above-requires c = λ copy s h e.
     fits_at c.args.sums.now.boundary c.args.sums.now.notes k.0 c.args.copies.now.items copy s k.1 k.2 fits
     (subst (In copy) c.deref_mut.ensures.value there) e
 
+pub append_copies-requires-clause-above : goal.append_copies-requires-clause-above
+append_copies-requires-clause-above c = λ i d z l.
+    let b = c.args.sums.now.boundary in
+    subst (λ (ps : List PartitionParts). i < length ps → b ≤ (get_or ps i d).end) (sym c.requires.new)
+    (ends_above_at b c.args.sums.now.notes c.requires.kept.0 c.requires.kept.1 i d z) l
+
+pub append_copies-requires-clause-room : goal.append_copies-requires-clause-room
+append_copies-requires-clause-room c =
+    let b = c.args.sums.now.boundary in
+    let notes = c.args.sums.now.notes in
+    let many = ap (count_by has_metadata) c.requires.new ∙ counted_copies (clear_from b notes) in
+    omega (arith, many, c.requires.room)
+
 pub returns-clause-copies : goal.returns-clause-copies
 returns-clause-copies c =
     let k = c.requires.kept in
@@ -31,7 +47,7 @@ returns-clause-copies c =
     let lent = c.deref_mut.result.now in
     let starting = c.starting-starting.result in
     let count = λ (d : CopyInfo). counted_above notes b starting d d.start in
-    let new = filter_map (copy_by (clear_notes notes)) (clear_from b notes) in
+    let added = copies_among (clear_notes notes) c.args.new.now in
     let told = c.starting-starting.ensures in
     let last = subst (λ (l : List CopyInfo). IsOfNone l (length l - 1) starting) c.deref.ensures.value told.last in
     let can_start = subst (λ (l : List CopyInfo). IsStarting notes b l starting) c.deref.ensures.value
@@ -47,9 +63,11 @@ returns-clause-copies c =
     ∙ ap (drop at) c.deref_mut.ensures.value) in
     let rest = length-map (drop at old) count in
     let size = length-drop at old in
-    c.append_copies.ensures.copies
-    ∙ ap (λ l. l ++ new)
+    c.append_copies.ensures
+    ∙ ap (λ l. l ++ added)
     (rest_written old lent c.count_above.new.copies at c.args.copies.now.len c.deref_mut.ensures.value whole
     (omega (arith, few, whole)) (ap length counted ∙ rest ∙ size) ∙ ap (λ l. take at old ++ l) counted
     ∙ map_rest count old at stay)
+    ∙ ap (λ l. map count old ++ l) (ap (copies_among (clear_notes notes)) c.requires.new
+    ∙ kept_copies (clear_notes notes) (clear_from b notes))
     ∙ copies_at b notes k.0 starting old k.1 k.2 can_start

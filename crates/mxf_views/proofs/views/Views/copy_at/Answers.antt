@@ -1,8 +1,11 @@
-use Rattle.mxf_views.proofs.Common.{◌∙◌, ap, subst, sym, CopiesRise, KeptParts}
+use Rattle.mxf_views.proofs.Common.{◌∙◌, ap, subst, sym, CopyInfo, KeptParts, RiseBy}
 use Rattle.mxf_views.proofs.CopyLaws.{copies_rise}
+use Rattle.mxf_views.proofs.KeyedLists.{rise_by}
+use Rattle.mxf_views.proofs.Rising.{by_partition}
 use Rattle.mxf_views.proofs.views.Views.copy_at.Goals as goal
 
-pub find_copy-requires : goal.find_copy-requires
-find_copy-requires c =
+pub find_by_key-requires : goal.find_by_key-requires
+find_by_key-requires c =
     let kept = c.deref.ensures.value ∙ ap (λ (k : KeptParts). k.copies) c.self.invariant in
-    subst CopiesRise (sym kept) (copies_rise c.self.inside.catalogue c.laws.ensures.catalogue.content)
+    let rising = copies_rise c.self.inside.catalogue c.laws.ensures.catalogue.content in
+    subst (RiseBy (λ (d : CopyInfo). d.partition)) (sym kept) ((rise_by _ _).1 ((by_partition _).0 rising))

@@ -1,7 +1,7 @@
 use Rattle.mxf_views.proofs.Common.{◌≡◌, ◌∙◌, ap, arith, length, count_by, is_some, part_and_status, clear_notes}
 use Rattle.mxf_views.proofs.Common.{is_segment, is_rip_note, tally, tally_fits}
 use Rattle.mxf_views.proofs.TallyLaws.{copies_at_most, has_pack, has_segment, partitions_at_most, segments_at_most}
-use Rattle.mxf_views.proofs.TallyLaws.{unreadable_at_most}
+use Rattle.mxf_views.proofs.TallyLaws.{rips_at_most, unreadable_at_most}
 use Rattle.mxf_klv.proofs.NoteFilters.{next_tally}
 use Rattle.mxf_views.proofs.kept.tally.Tally.of.Goals as goal
 
@@ -40,5 +40,5 @@ returns c =
       unreadable = omega (arith, unreadable_at_most clear, inv.0, packs);
       copies = omega (arith, copies_at_most clear, inv.0, packs);
       segments = omega (arith, segments_at_most clear, inv.1, segments);
-      random_index_packs = omega (arith, inv.2, rips);
+      random_index_packs = omega (arith, rips_at_most clear, inv.2, rips);
     }
