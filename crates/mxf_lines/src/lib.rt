@@ -2,7 +2,7 @@
 //! as text for people and scripts, or as JSON for programs.
 //!
 //! What is proved: [`answer`] writes exactly the lines that are asked for, and nothing else; after a failed write the
-//! first bytes of them, which it counts, and after want of memory some whole lines. Its status tells whether a check
+//! first bytes of them, which it counts, and out of memory some whole lines. Its status tells whether a check
 //! found something, and whether an edit unit has one place; that of [`print_verification`], whether what is asked for
 //! was verified. A line is its name and its fields, of which text and JSON are two printings, and a reader of JSON
 //! takes each text as it is ([`escaped_text_is_given_back`]).

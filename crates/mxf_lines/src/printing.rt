@@ -97,7 +97,7 @@ pub enum Ask {
 /// with a packet, where an edit unit has no place or more than one, where there is something to restore, or where not
 /// all bytes of the units are held; else it is 0.
 ///
-/// The unit is tested first: above 9,223,372,036,854,775,807 it is a `BadUnit`. After want of memory some whole lines
+/// The unit is tested first: above 9,223,372,036,854,775,807 it is a `BadUnit`. Out of memory, some whole lines
 /// have been written; after a write fault the first bytes, which it counts.
 pub fn answer<W: Write>(
     alloc: Global,

@@ -1,9 +1,10 @@
 //! Bytes as hexadecimal text.
-ghost use Rattle.std.specs.Prelude.{◌≡◌, IfOk, Some, string_bytes};
+ghost use Rattle.std.specs.Prelude.{◌≡◌, ◌++◌, IfOk, Some, string_bytes};
+ghost use Rattle.std.specs.Option.{ForSome};
 ghost use Rattle.mxf_lines.specs.Hexadecimal.{hex_of};
 
 use mxf_klv::OutOfMemory;
-use std::alloc::Global;
+use std::alloc::{AllocError, Global};
 use std::{fmt, str};
 
 /// Two lower-case hexadecimal digits for each byte, in a text of its own.
@@ -13,23 +14,58 @@ pub fn hex_text(alloc: Global, bytes: &[u8]) -> Result<String, OutOfMemory>
     Ok(hex::encode(alloc, bytes)?)
 }
 
-/// The bytes of a label that print as two lower-case hexadecimal digits each, all of them at once.
-#[derive(Clone, Copy)]
-pub struct LabelDigits(pub [u8; 16]);
+/// The digits of the label that was asked for last: neighbours mostly have one label.
+#[derive(Drop)]
+pub struct LabelText {
+    label: Option<[u8; 16]>,
+    digits: String,
 
-impl fmt::Display for LabelDigits {
-    ghost output = { λ l. Some (hex_of l.0) };
+    ghost kept: { ForSome label (λ l. string_bytes digits ≡ hex_of l) },
+}
 
-    fn fmt<W: fmt::Write>(&self, f: &mut fmt::Formatter<W>) -> fmt::Result {
-        let mut digits = [0u8; 32];
-        let Ok(()) = hex::encode_to_slice(&self.0, &mut digits) else {
-            return Err(fmt::Error);
-        };
-        let Ok(text) = str::from_utf8(&digits) else {
-            return Err(fmt::Error);
-        };
-        f.write_str(text)
+impl LabelText {
+    /// No label was asked for yet.
+    pub fn new(alloc: Global) -> LabelText {
+        LabelText {
+            label: None,
+            digits: String::new(alloc),
+        }
     }
+
+    /// Two lower-case hexadecimal digits for each byte of the label.
+    pub fn digits_of(&mut self, label: &[u8; 16]) -> Result<&str, AllocError>
+        ensures { IfOk result (λ digits. digits.now ≡ hex_of label.now) }
+    {
+        if self.label != Some(*label) {
+            self.take(label)?;
+        }
+        Ok(self.digits.as_str())
+    }
+
+    /// Takes another label.
+    fn take(&mut self, label: &[u8; 16]) -> Result<(), AllocError>
+        ensures { IfOk result (λ _. string_bytes self.new.digits ≡ hex_of label.now) }
+    {
+        self.label = None;
+        self.digits.clear();
+        append_digits(&mut self.digits, label)?;
+        self.label = Some(*label);
+        Ok(())
+    }
+}
+
+/// Appends two lower-case hexadecimal digits for each byte of a label.
+fn append_digits(line: &mut String, label: &[u8; 16]) -> Result<(), AllocError>
+    ensures { IfOk result (λ _. string_bytes line.new ≡ string_bytes line.old ++ hex_of label.now) }
+{
+    let mut digits = [0u8; 32];
+    let Ok(()) = hex::encode_to_slice(label, &mut digits) else {
+        return Err(AllocError);
+    };
+    let Ok(text) = str::from_utf8(&digits) else {
+        return Err(AllocError);
+    };
+    line.push_str(text)
 }
 
 /// Bytes that print as two lower-case hexadecimal digits each, one by one.

@@ -8,7 +8,7 @@ mod piece;
 mod record;
 
 use super::AnswerFault;
-use super::hexadecimal::{HexDigits, LabelDigits};
+use super::hexadecimal::HexDigits;
 use super::lines::{Each, FieldWriter, Line, Lines, Printer, Series, Then};
 pub use copy::PreferredLine;
 pub use item::ItemLine;

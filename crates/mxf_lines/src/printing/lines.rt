@@ -19,7 +19,7 @@ pub trait Lines {
     // The lines.
     ghost lines: { Self → List PrintedLine };
 
-    /// Prints the lines, in the printer's form. After want of memory some whole lines have been written, and not all.
+    /// Prints the lines, in the printer's form. Out of memory, some whole lines have been written, and not all.
     fn print_to<W: Write>(self, printer: &mut Printer, writer: &mut W) -> Result<(), AnswerFault>
         ensures lines { Prints printer.old.fields.form
             (Puts W.contents writer.old writer.new printer.old.progress printer.new.progress)

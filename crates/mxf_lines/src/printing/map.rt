@@ -96,7 +96,7 @@ impl<'a> Lines for Picture<'a> {
 
 /// Prints what is held of the file of the views, as a picture, in a form.
 ///
-/// After want of memory some whole lines have been written; after a write fault the first bytes, which it counts.
+/// Out of memory, some whole lines have been written; after a write fault the first bytes, which it counts.
 pub fn print_map<W: Write>(
     alloc: Global,
     views: &Views,
@@ -143,7 +143,7 @@ impl<'a> Line for MapLine<'a> {
         fields.number(" ", "end", end)?;
         fields.number(" held ", "held", held)?;
         fields.number(" missing ", "missing", end.saturating_sub(held))?;
-        fields.number(" share ", "share", ShareText(share_of(held, end)))?;
+        fields.fraction(" share ", "share", ShareText(share_of(held, end)))?;
         fields.number(" gaps ", "gaps", map.gaps())?;
         fields.number(" disputed ", "disputed", map.disputed())?;
         fields.number(" cell ", "cell", map.cell())?;

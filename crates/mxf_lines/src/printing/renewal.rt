@@ -54,7 +54,7 @@ impl<'a> Lines for &'a Renewed<'a> {
 
 /// Prints what a renewal gave, in a form: a line for each note that was dropped, and the last.
 ///
-/// After want of memory some whole lines have been written; after a write fault the first bytes, which it counts.
+/// Out of memory, some whole lines have been written; after a write fault the first bytes, which it counts.
 pub fn print_renewed<W: Write>(
     alloc: Global,
     renewed: &Renewed<'_>,

@@ -21,7 +21,7 @@ use std::io::Write;
 /// Prints in a form what each source holds, and which source has which disputed note, of sources that these words name.
 /// The answer is 1 where a note is disputed, else 0.
 ///
-/// After want of memory some whole lines have been written; after a write fault the first bytes, which it counts.
+/// Out of memory, some whole lines have been written; after a write fault the first bytes, which it counts.
 pub fn print_sources<W: Write>(
     alloc: Global,
     readings: &Readings<'_>,

@@ -53,7 +53,7 @@ pub struct Verified<'v, 'a> {
 /// The answer is 0 where nothing differs, some note is the same, each piece ends with a packet or with one that is cut,
 /// and, where all is to be verified, that was; else it is 1.
 ///
-/// After want of memory some whole lines have been written; after a write fault the first bytes, which it counts.
+/// Out of memory, some whole lines have been written; after a write fault the first bytes, which it counts.
 pub fn print_verification<W: Write>(
     alloc: Global,
     verified: &Verified<'_, '_>,

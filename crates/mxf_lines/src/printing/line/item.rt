@@ -4,7 +4,7 @@ ghost use Rattle.mxf_lines.specs.Forms.{field};
 ghost use Rattle.mxf_lines.specs.ItemLines.{item_line, label_shown, value_shown};
 ghost use Rattle.mxf_lines.specs.Writing.{with_field};
 
-use super::{AllocError, FieldWriter, HexDigits, LabelDigits, Line};
+use super::{AllocError, FieldWriter, HexDigits, Line};
 use mxf_sets::Item;
 
 /// Writes the label of a tag, or none.
@@ -13,7 +13,7 @@ fn write_label(fields: &mut FieldWriter, label: Option<[u8; 16]>) -> Result<(), 
         ≡ with_field (field (codes " ") (codes "label") (label_shown label)) fields.old) }
 {
     match label {
-        Some(label) => fields.word(" ", "label", LabelDigits(label)),
+        Some(label) => fields.label(" ", "label", &label),
         None => fields.absent(" ", "label", "-"),
     }
 }

@@ -5,7 +5,7 @@ ghost use Rattle.mxf_catalogue.specs.Disputes.{is_disputed};
 ghost use Rattle.mxf_lines.specs.Lines.{note_fields, note_line};
 ghost use Rattle.mxf_lines.specs.Writing.{with_fields};
 
-use super::{AllocError, FieldWriter, LabelDigits, Line, Series};
+use super::{AllocError, FieldWriter, Line, Series};
 use mxf_catalogue::{Catalogue, Notes};
 use mxf_klv::Note;
 use std::marker::Model;
@@ -19,7 +19,7 @@ pub fn write_note_fields(fields: &mut FieldWriter, note: &Note) -> Result<(), Al
     fields.word(" ", "kind", note.kind())?;
     fields.number(" ", "width", note.width())?;
     fields.number(" ", "length", note.length())?;
-    fields.word(" ", "key", LabelDigits(note.key().bytes()))?;
+    fields.label(" ", "key", &note.key().bytes())?;
     fields.flag(" head", "head", note.is_head())
 }
 

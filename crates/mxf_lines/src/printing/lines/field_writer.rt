@@ -3,21 +3,25 @@ ghost use Rattle.std.specs.Prelude.{◌≡◌, ◌++◌, IfOk, IfSome, codes, de
 ghost use Rattle.std.specs.Char.{encode_utf8};
 ghost use Rattle.std.specs.List.{repeat};
 ghost use Rattle.mxf_lines.specs.Forms.{Absent, Characters, Fixed, Flag, Number, Numbers, escaped, field, number_or};
-ghost use Rattle.mxf_lines.specs.Forms.{separated, separated_behind};
+ghost use Rattle.mxf_lines.specs.Forms.{quoted, separated, separated_behind};
+ghost use Rattle.mxf_lines.specs.Hexadecimal.{hex_of};
 ghost use Rattle.mxf_lines.specs.Writing.{with_end, with_field, with_front};
 
 use crate::printing::Form;
+use crate::printing::hexadecimal::LabelText;
+use itoa::Integer;
 use std::alloc::{AllocError, Global};
 use std::fmt;
 use std::marker::Model;
 
 /// Writes lines in a form, each in the same text. Of a field it takes what stands before it in the text, its name, which
-/// JSON has, and its value. After want of memory the line is begun anew.
+/// JSON has, and its value. Out of memory, the line is begun anew.
 #[derive(Drop)]
 pub struct FieldWriter {
     form: Form,
     text: String,
     characters: String,
+    label: LabelText,
 }
 
 impl Model for FieldWriter {
@@ -38,6 +42,7 @@ impl FieldWriter {
             form,
             text: String::new(alloc),
             characters: String::new(alloc),
+            label: LabelText::new(alloc),
         }
     }
 
@@ -62,7 +67,25 @@ impl FieldWriter {
 
     /// A number.
     #[tactic(auto, unfolding(crate::specs::Forms::field_in, crate::specs::Writing::with_field))]
-    pub fn number<T: fmt::Display + Copy>(
+    pub fn number<N: Integer>(
+        &mut self,
+        before: &str,
+        name: &str,
+        value: N,
+    ) -> Result<(), AllocError>
+        ensures { IfOk result (λ _. self.new
+            ≡ with_field (field before.now name.now (Number (N.text value))) self.old) }
+    {
+        match self.form {
+            Form::Text => self.text.push_str(before)?,
+            Form::Json => append_name(&mut self.text, name)?,
+        }
+        append_number(&mut self.text, value)
+    }
+
+    /// A number that isn't an integer.
+    #[tactic(auto, unfolding(crate::specs::Forms::field_in, crate::specs::Writing::with_field))]
+    pub fn fraction<T: fmt::Display + Copy>(
         &mut self,
         before: &str,
         name: &str,
@@ -74,6 +97,25 @@ impl FieldWriter {
         match self.form {
             Form::Text => write!(self.text, "{before}{value}"),
             Form::Json => write!(self.text, ",\"{name}\":{value}"),
+        }
+    }
+
+    /// A label, by its digits.
+    #[tactic(auto, unfolding(crate::specs::Forms::field_in, crate::specs::Writing::with_field))]
+    pub fn label(&mut self, before: &str, name: &str, label: &[u8; 16]) -> Result<(), AllocError>
+        ensures { IfOk result (λ _. self.new
+            ≡ with_field (field before.now name.now (Characters (hex_of label.now))) self.old) }
+    {
+        let digits = self.label.digits_of(label)?;
+        match self.form {
+            Form::Text => {
+                self.text.push_str(before)?;
+                self.text.push_str(digits)
+            }
+            Form::Json => {
+                append_name(&mut self.text, name)?;
+                append_quoted(&mut self.text, digits)
+            }
         }
     }
 
@@ -92,10 +134,10 @@ impl FieldWriter {
             Form::Text => {
                 self.text.push_str(" ")?;
                 append_spaces(&mut self.text, spaces)?;
-                write!(self.text, "{value}")
             }
-            Form::Json => write!(self.text, ",\"{name}\":{value}"),
+            Form::Json => append_name(&mut self.text, name)?,
         }
+        append_number(&mut self.text, value)
     }
 
     /// A number, or a word where there is none.
@@ -127,13 +169,15 @@ impl FieldWriter {
             self.new ≡ with_field (field before.now name.now (Characters text)) self.old)) }
     {
         match self.form {
-            Form::Text => write!(self.text, "{before}{value}"),
+            Form::Text => {
+                self.text.push_str(before)?;
+                write!(self.text, "{value}")
+            }
             Form::Json => {
                 self.characters.clear();
                 write!(self.characters, "{value}")?;
-                write!(self.text, ",\"{name}\":\"")?;
-                append_escaped(&mut self.text, &self.characters)?;
-                self.text.push_str("\"")
+                append_name(&mut self.text, name)?;
+                append_quoted(&mut self.text, &self.characters)
             }
         }
     }
@@ -144,8 +188,14 @@ impl FieldWriter {
         ensures { IfOk result (λ _. self.new ≡ with_field (field before.now name.now (Absent word.now)) self.old) }
     {
         match self.form {
-            Form::Text => write!(self.text, "{before}{word}"),
-            Form::Json => write!(self.text, ",\"{name}\":null"),
+            Form::Text => {
+                self.text.push_str(before)?;
+                self.text.push_str(word)
+            }
+            Form::Json => {
+                append_name(&mut self.text, name)?;
+                self.text.push_str("null")
+            }
         }
     }
 
@@ -169,9 +219,8 @@ impl FieldWriter {
         match self.form {
             Form::Text => self.text.push_str(before),
             Form::Json => {
-                write!(self.text, ",\"{name}\":\"")?;
-                append_escaped(&mut self.text, word)?;
-                self.text.push_str("\"")
+                append_name(&mut self.text, name)?;
+                append_quoted(&mut self.text, word)
             }
         }
     }
@@ -187,7 +236,8 @@ impl FieldWriter {
                 append_numbers(&mut self.text, " ", values)
             }
             Form::Json => {
-                write!(self.text, ",\"{name}\":[")?;
+                append_name(&mut self.text, name)?;
+                self.text.push_str("[")?;
                 append_numbers(&mut self.text, ",", values)?;
                 self.text.push_str("]")
             }
@@ -200,10 +250,40 @@ impl FieldWriter {
         ensures { IfOk result (λ _. self.new ≡ with_end last.now self.old) }
     {
         match self.form {
-            Form::Text => writeln!(self.text, "{last}"),
+            Form::Text => {
+                self.text.push_str(last)?;
+                self.text.push('\n')
+            }
             Form::Json => self.text.push_str("}\n"),
         }
     }
+}
+
+/// Appends a number.
+fn append_number<N: Integer>(line: &mut String, value: N) -> Result<(), AllocError>
+    ensures { IfOk result (λ _. string_bytes line.new ≡ string_bytes line.old ++ N.text value) }
+{
+    let mut digits = itoa::Buffer::new();
+    line.push_str(digits.format(value))
+}
+
+/// Appends the name of a field of JSON.
+fn append_name(line: &mut String, name: &str) -> Result<(), AllocError>
+    ensures { IfOk result (λ _. string_bytes line.new
+        ≡ string_bytes line.old ++ (codes ",\"" ++ (name.now ++ codes "\":"))) }
+{
+    line.push_str(",\"")?;
+    line.push_str(name)?;
+    line.push_str("\":")
+}
+
+/// Appends the string of a text.
+fn append_quoted(line: &mut String, text: &str) -> Result<(), AllocError>
+    ensures { IfOk result (λ _. string_bytes line.new ≡ string_bytes line.old ++ quoted text.now) }
+{
+    line.push_str("\"")?;
+    append_escaped(line, text)?;
+    line.push_str("\"")
 }
 
 /// Appends so many spaces.
@@ -226,7 +306,7 @@ fn append_numbers(line: &mut String, separator: &str, values: &[usize]) -> Resul
     let Some((first, others)) = values.split_first() else {
         return Ok(());
     };
-    write!(line, "{first}")?;
+    append_number(line, *first)?;
     append_others(line, separator, others)
 }
 
@@ -236,7 +316,8 @@ fn append_others(line: &mut String, separator: &str, values: &[usize]) -> Result
         ≡ string_bytes line.old ++ separated_behind separator.now values.now) }
 {
     for value in values {
-        write!(line, "{separator}{value}")?;
+        line.push_str(separator)?;
+        append_number(line, *value)?;
     }
     Ok(())
 }

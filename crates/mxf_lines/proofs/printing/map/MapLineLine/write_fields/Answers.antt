@@ -5,10 +5,10 @@ pub returns : goal.returns
 unfolding map_line
 returns c =
     rw (
-      c.in_ok-number-7.ensures,
       c.in_ok-number-6.ensures,
       c.in_ok-number-5.ensures,
       c.in_ok-number-4.ensures,
+      c.in_ok-fraction.ensures,
       c.in_ok-number-3.ensures,
       c.in_ok-number-2.ensures,
       c.in_ok-number.ensures,
