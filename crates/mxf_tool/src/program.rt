@@ -197,20 +197,21 @@ fn print_told<'a, R: System>(
     sources: &[Source<'a>],
 ) -> Result<Exit, RunFault<'a>> {
     let gathered = gather_sources(rt, screen, sources)?;
-    print_of(rt, screen, ask, form, sources, &gathered)
+    let printed = Printed::Answer(ask, &gathered);
+    let reports = gathered.reports.as_slice();
+    print_of(rt, screen, printed, form, sources, reports)
 }
 
-/// Prints the answer that is asked for of what was gathered of the sources.
+/// Prints what was gathered of the sources, which made these reports.
 fn print_of<'a, R: System>(
     rt: &R,
     screen: Screen,
-    ask: Ask,
+    printed: Printed<'_, '_>,
     form: Form,
     sources: &[Source<'_>],
-    gathered: &Gathered,
+    reports: &[PieceReport],
 ) -> Result<Exit, RunFault<'a>> {
-    let exit = print_answer(rt, Printed::Answer(ask, gathered), form)?;
-    let reports = gathered.reports.as_slice();
+    let exit = print_answer(rt, printed, form)?;
     told(rt, screen, sources, reports, false, exit)
 }
 
@@ -222,9 +223,10 @@ fn print_picture<'a, R: System>(
     form: Form,
     sources: &[Source<'a>],
 ) -> Result<Exit, RunFault<'a>> {
-    let Gathered { views, reports } = gather_sources(rt, screen, sources)?;
-    let exit = print_answer(rt, Printed::Picture(grid, &views), form)?;
-    told(rt, screen, sources, reports.as_slice(), false, exit)
+    let gathered = gather_sources(rt, screen, sources)?;
+    let printed = Printed::Picture(grid, &gathered.views);
+    let reports = gathered.reports.as_slice();
+    print_of(rt, screen, printed, form, sources, reports)
 }
 
 /// Prints where edit units lie by what the sources hold together.
@@ -255,8 +257,9 @@ fn print_units_of<'a, R: System>(
         None => only_index(rt.alloc(), &gathered.views)?,
     };
     let range = range_of(&gathered.views, index, units)?;
-    let ask = Ask::Units { index, range };
-    print_of(rt, screen, ask, form, sources, gathered)
+    let printed = Printed::Answer(Ask::Units { index, range }, gathered);
+    let reports = gathered.reports.as_slice();
+    print_of(rt, screen, printed, form, sources, reports)
 }
 
 /// The IndexSID of the only index that is held.

@@ -22,9 +22,23 @@ pub fn print_beside<'a, R: System>(
     let Ok(names) = names_of(rt.alloc(), sources) else {
         return Err(RunFault::OutOfMemory);
     };
-    let Contents { contents, reports } = read_each(rt, screen, sources)?;
-    let exit = print_contents(rt, form, &names, &contents)?;
-    told(rt, screen, sources, &reports, false, exit)
+    match read_each(rt, screen, sources) {
+        Ok(read) => print_read(rt, screen, form, sources, &names, &read),
+        Err(fault) => Err(fault),
+    }
+}
+
+/// Prints what was read of each source with these names.
+fn print_read<'a, R: System>(
+    rt: &R,
+    screen: Screen,
+    form: Form,
+    sources: &[Source<'_>],
+    names: &[String],
+    read: &Contents,
+) -> Result<Exit, RunFault<'a>> {
+    let exit = print_contents(rt, form, names, &read.contents)?;
+    told(rt, screen, sources, &read.reports, false, exit)
 }
 
 /// The words that name the sources, as a terminal shows them.

@@ -8,7 +8,7 @@ use crate::system_fault::LastFault;
 use crate::watching::Screen;
 use mxf_catalogue::Catalogue;
 use mxf_lines::Form;
-use mxf_read::Gathered;
+use mxf_read::{Gathered, PieceReport};
 use mxf_verify::renew;
 use std::alloc::{AllocError, Global};
 
@@ -55,24 +55,27 @@ fn renew_at<'a, 'r, R: System>(
 ) -> Result<Exit, RunFault<'a>> {
     let (earlier, later) = gather_both(rt, screen, asked)?;
     let Gathered { views, reports } = later;
-    let exit = save_renewed(
-        rt,
-        asked,
-        held,
-        earlier.views.catalogue(),
-        views.into_catalogue(),
-    )?;
-    let exit = exit.of_join(asked.is_strict, earlier.reports.as_slice());
-    let exit = exit.of_join(asked.is_strict, reports.as_slice());
-    let exit = told(
-        rt,
-        screen,
-        asked.earlier,
-        earlier.reports.as_slice(),
-        true,
-        exit,
-    )?;
-    told(rt, screen, asked.later, reports.as_slice(), true, exit)
+    let (notes, newer) = (earlier.views.catalogue(), views.into_catalogue());
+    match save_renewed(rt, asked, held, notes, newer) {
+        Ok(exit) => told_both(rt, screen, asked, &earlier, reports.as_slice(), exit),
+        Err(fault) => Err(fault),
+    }
+}
+
+/// Ends a run that saved what was renewed: on a terminal it tells of pieces that weren't noted whole.
+fn told_both<'a, R: System>(
+    rt: &R,
+    screen: Screen,
+    asked: Renewal<'_, 'a>,
+    earlier: &Gathered,
+    later: &[PieceReport],
+    exit: Exit,
+) -> Result<Exit, RunFault<'a>> {
+    let earlier = earlier.reports.as_slice();
+    let exit = exit.of_join(asked.is_strict, earlier);
+    let exit = exit.of_join(asked.is_strict, later);
+    let exit = told(rt, screen, asked.earlier, earlier, true, exit)?;
+    told(rt, screen, asked.later, later, true, exit)
 }
 
 /// What the earlier sources hold together, and what the later ones do. All are opened before the first is read.

@@ -72,20 +72,20 @@ impl<'a, R: Files<File = File> + AllocGlobal> Reservation<'a, R> {
 impl<R: Files<File = File> + AllocGlobal> ReservedFile<'_, R> {
     /// Writes the file beside and puts it in its place. All of it has reached the disk then.
     fn save(self, alloc: Global, catalogue: &Catalogue) -> Result<(), SaveFault> {
-        let ReservedFile {
-            path,
-            before,
-            mut part,
-            folder,
-        } = self;
-        let file = part.file();
-        if let Some(before) = &before {
+        let mut held = self;
+        held.write(alloc, catalogue)
+    }
+
+    /// The same, with the place still held.
+    fn write(&mut self, alloc: Global, catalogue: &Catalogue) -> Result<(), SaveFault> {
+        let file = self.part.file();
+        if let Some(before) = &self.before {
             file.set_permissions(permissions_of(before, &file.metadata()?))?;
         }
         write_whole(alloc, file, catalogue)?;
         file.sync_all()?;
-        part.rename(&path)?;
-        Ok(sync_folder(&folder)?)
+        self.part.rename(&self.path)?;
+        Ok(sync_folder(&self.folder)?)
     }
 }
 
