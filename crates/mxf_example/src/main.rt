@@ -11,25 +11,40 @@
 use anyhow::{Context, Result};
 use mxf_catalogue::Catalogue;
 use mxf_klv::Encode;
-use mxf_read::{Part, gather};
+use mxf_read::{Gathered, Part, PieceReport, Report, gather};
 use mxf_views::Views;
 use std::alloc::Global;
-use std::rt::{Env, Files};
+use std::rt::Files;
 use std::{env, fs};
 
-/// The piece and the saved catalogue that the arguments name, opened.
-fn parts<R: Env + Files + AllocGlobal>(rt: &R) -> Result<Vec<Part<R::File>>> {
-    let words: Vec<String> = env::args(rt)?.collect(rt.alloc())?;
+/// The piece that the words name, opened, with its offset.
+fn piece<R: Files>(rt: &R, words: &[String]) -> Result<Part<R::File>> {
     let offset = words.get(1).context("no offset")?.parse::<u64>()?;
-    let piece = fs::open(rt, words.get(2).context("no piece")?)?;
-    let catalogue = fs::open(rt, words.get(3).context("no catalogue")?)?;
+    let from = fs::open(rt, words.get(2).context("no piece")?)?;
+    Ok(Part::Piece { offset, from })
+}
+
+/// The saved catalogue that the words name, opened.
+fn catalogue<R: Files>(rt: &R, words: &[String]) -> Result<Part<R::File>> {
+    let from = fs::open(rt, words.get(3).context("no catalogue")?)?;
+    Ok(Part::Saved { from })
+}
+
+/// The parts that the words name: the piece, and the saved catalogue.
+fn parts<R: Files + AllocGlobal>(rt: &R, words: &[String]) -> Result<Vec<Part<R::File>>> {
     let mut parts = Vec::new(rt.alloc());
-    parts.push(Part::Piece {
-        offset,
-        from: piece,
-    })?;
-    parts.push(Part::Saved { from: catalogue })?;
+    parts.push(piece(rt, words)?)?;
+    parts.push(catalogue(rt, words)?)?;
     Ok(parts)
+}
+
+/// Prints how many packets each piece has, and why it ends.
+fn print_reports(rt: &impl Print, reports: &[PieceReport]) -> Result<()> {
+    for piece in reports {
+        let Report { noted, stop } = piece.report;
+        println!(rt; "packets: {noted}, then {stop}")?;
+    }
+    Ok(())
 }
 
 /// Prints what the partitions are that are held, and where they begin.
@@ -49,25 +64,35 @@ fn print_gaps(rt: &impl Print, views: &Views) -> Result<()> {
     Ok(())
 }
 
-/// The views of the catalogue, saved and read again.
-fn saved_and_read(alloc: Global, catalogue: &Catalogue) -> Result<Views> {
+/// The bytes of the catalogue, as they are saved.
+fn saved(alloc: Global, catalogue: &Catalogue) -> Result<Vec<u8>> {
     let mut file = Vec::new(alloc);
     catalogue.write_to(&mut file)?;
-    Ok(Views::of(alloc, Catalogue::read(alloc, &file)?)?)
+    Ok(file)
+}
+
+/// The views of a saved catalogue.
+fn views_of(alloc: Global, file: &[u8]) -> Result<Views> {
+    Ok(Views::of(alloc, Catalogue::read(alloc, file)?)?)
+}
+
+/// Prints how many packets were saved.
+fn print_saved(rt: &impl Print, views: &Views) -> Result<()> {
+    println!(rt; "packets saved: {}", views.catalogue().len())?;
+    Ok(())
+}
+
+/// Prints what was gathered, and how many packets are saved of it.
+fn print_gathered<R: Print + AllocGlobal>(rt: &R, gathered: &Gathered) -> Result<()> {
+    print_reports(rt, gathered.reports.as_slice())?;
+    print_partitions(rt, &gathered.views)?;
+    print_gaps(rt, &gathered.views)?;
+    let file = saved(rt.alloc(), gathered.views.catalogue())?;
+    print_saved(rt, &views_of(rt.alloc(), &file)?)
 }
 
 fn main(rt: HostRuntime) -> Result<()> {
-    let gathered = gather(rt.alloc(), parts(&rt)?)?;
-    for piece in gathered.reports.as_slice() {
-        println!(rt;
-            "packets: {}, then {}",
-            piece.report.noted, piece.report.stop
-        )?;
-    }
-    print_partitions(&rt, &gathered.views)?;
-    print_gaps(&rt, &gathered.views)?;
-
-    let saved = saved_and_read(rt.alloc(), gathered.views.catalogue())?;
-    println!(rt; "packets saved: {}", saved.catalogue().len())?;
-    Ok(())
+    let words: Vec<String> = env::args(&rt)?.collect(rt.alloc())?;
+    let gathered = gather(rt.alloc(), parts(&rt, &words)?)?;
+    print_gathered(&rt, &gathered)
 }

@@ -78,8 +78,9 @@ fn holds_two(all: &Catalogue) -> bool {
     all.len() == 2 && all.clear().count() == 2 && all.spans().gaps().count() == 1
 }
 
-/// Whether the note between the two disputes both. Where its addition is refused, both stand, and the note comes back.
-fn disputes(all: &mut Catalogue, note: Note, same: &Note) -> bool {
+/// Adds the note between the two. Whether it disputes both; where its addition is refused, both stand, and the note
+/// comes back.
+fn dispute_both(all: &mut Catalogue, note: Note, same: &Note) -> bool {
     match all.add(note) {
         Ok(change) => disputes_both(&change),
         Err(fault) => {
@@ -92,8 +93,8 @@ fn disputes(all: &mut Catalogue, note: Note, same: &Note) -> bool {
     }
 }
 
-/// Whether nothing is new about a note.
-fn repeats(all: &mut Catalogue, note: Option<Note>) -> bool {
+/// Adds a note that is held. Whether nothing is new about it.
+fn repeat(all: &mut Catalogue, note: Option<Note>) -> bool {
     let Some(note) = note else {
         return false;
     };
@@ -103,25 +104,12 @@ fn repeats(all: &mut Catalogue, note: Option<Note>) -> bool {
     }
 }
 
-/// Whether a note between the two disputes both.
-fn is_disputing(all: &mut Catalogue, note: Option<Note>, same: Option<Note>) -> bool {
-    match (note, same) {
-        (Some(note), Some(same)) => add_two(all) && disputes(all, note, &same),
+/// Adds the two and the head between them. Whether that disputes both.
+fn add_head(all: &mut Catalogue) -> bool {
+    match (head_between(), head_between()) {
+        (Some(head), Some(same)) => add_two(all) && dispute_both(all, head, &same),
         _ => false,
     }
-}
-
-/// Whether the packet between the two is added, and all three are disputed.
-fn is_added(all: &mut Catalogue) -> bool {
-    is_disputing(all, between(), between())
-        && repeats(all, between())
-        && all.disputed().count() == 3
-}
-
-#[test]
-fn an_addition_to_a_catalogue(rt: HostRuntime) {
-    let added = is_added(&mut Catalogue::new(rt.alloc()));
-    assert!(rt; added);
 }
 
 /// Whether the note was new, and moved none.
@@ -132,9 +120,9 @@ fn moves_none(change: &Change) -> bool {
     }
 }
 
-/// Whether the packet takes the place of its head. Where its addition is refused, the head stands, and the packet comes
-/// back.
-fn replaces(all: &mut Catalogue, note: Note, head: &Note, same: &Note) -> bool {
+/// Adds the packet of a head. Whether it moves none; where its addition is refused, the head stands, and the packet
+/// comes back.
+fn replace(all: &mut Catalogue, note: Note, head: &Note, same: &Note) -> bool {
     match all.add(note) {
         Ok(change) => moves_none(&change),
         Err(fault) => {
@@ -147,27 +135,26 @@ fn replaces(all: &mut Catalogue, note: Note, head: &Note, same: &Note) -> bool {
     }
 }
 
-/// Whether the packet between the two takes the place of its head.
-fn is_replaced(all: &mut Catalogue) -> bool {
+/// Adds the packet between the two, the head of which is held.
+fn replace_head(all: &mut Catalogue) -> bool {
     match (between(), head_between(), between()) {
-        (Some(note), Some(head), Some(same)) => replaces(all, note, &head, &same),
+        (Some(note), Some(head), Some(same)) => replace(all, note, &head, &same),
         _ => false,
     }
 }
 
-/// Whether the head and its packet are added, one after the other, and the head not again. The head covers the bytes
-/// from 90 to 107 alone.
-fn both_are_added(all: &mut Catalogue) -> bool {
-    let disputed = is_disputing(all, head_between(), head_between());
-    let lacking = disputed && all.spans().gaps().count() == 1;
-    let replaced = lacking && is_replaced(all);
+/// Adds a head and its packet to the two, one after the other, and both again. Whether all is told and held. The head
+/// covers the bytes from 90 to 107 alone.
+fn add_both(all: &mut Catalogue) -> bool {
+    let lacking = add_head(all) && all.spans().gaps().count() == 1;
+    let replaced = lacking && replace_head(all);
     let counted = all.disputed().count() == 3 && all.spans().gaps().count() == 0;
-    replaced && counted && repeats(all, head_between())
+    replaced && counted && repeat(all, between()) && repeat(all, head_between())
 }
 
 #[test]
-fn an_addition_of_a_head_and_of_its_packet(rt: HostRuntime) {
-    let added = both_are_added(&mut Catalogue::new(rt.alloc()));
+fn additions_to_a_catalogue(rt: HostRuntime) {
+    let added = add_both(&mut Catalogue::new(rt.alloc()));
     assert!(rt; added);
 }
 
@@ -184,9 +171,9 @@ fn views_of(alloc: Global, all: Catalogue) -> Option<Views> {
     }
 }
 
-/// Whether the note between the two disputes both in their views. Where its addition is refused, both stand, and the
-/// note comes back.
-fn disputes_in(views: &mut Views, note: Note, same: &Note) -> bool {
+/// Adds the note between the two to their views. Whether it disputes both; where its addition is refused, both stand,
+/// and the note comes back.
+fn dispute_both_in(views: &mut Views, note: Note, same: &Note) -> bool {
     match views.add(note) {
         Ok(change) => disputes_both(&change),
         Err(fault) => {
@@ -199,44 +186,52 @@ fn disputes_in(views: &mut Views, note: Note, same: &Note) -> bool {
     }
 }
 
-/// Whether nothing is new to views about a note.
-fn repeats_in(views: &mut Views, note: Note) -> bool {
+/// Adds a note that the views hold. Whether nothing is new about it.
+fn repeat_in(views: &mut Views, note: Note) -> bool {
     match views.add(note) {
         Ok(change) => change == Change::Repeated,
         Err(_) => false,
     }
 }
 
-/// Whether the packet between the two is added to their views, once.
-fn is_added_to(views: &mut Views) -> bool {
+/// Adds the packet between the two to their views, twice.
+fn add_between(views: &mut Views) -> bool {
     match (between(), between(), between()) {
         (Some(note), Some(same), Some(again)) => {
-            disputes_in(views, note, &same) && repeats_in(views, again)
+            dispute_both_in(views, note, &same) && repeat_in(views, again)
         }
         _ => false,
     }
 }
 
-/// Whether it is, where the two are added first.
-fn is_added_to_two(alloc: Global, mut all: Catalogue) -> bool {
+/// The same where the two are added first.
+fn add_three(alloc: Global, mut all: Catalogue) -> bool {
     if !add_two(&mut all) {
         return false;
     }
     match views_of(alloc, all) {
-        Some(mut views) => is_added_to(&mut views),
+        Some(mut views) => add_between(&mut views),
         None => false,
     }
 }
 
 #[test]
 fn an_addition_to_views(rt: HostRuntime) {
-    assert!(rt; is_added_to_two(rt.alloc(), Catalogue::new(rt.alloc())));
+    assert!(rt; add_three(rt.alloc(), Catalogue::new(rt.alloc())));
 }
 
-/// Whether five runs are added to a cover. Where one is refused, the cover has those before it.
-fn runs_are_added(cover: &mut Cover) -> bool {
+/// Adds five runs to a cover, and one that touches two of them. Where one is refused, the cover has those before it.
+/// Whether all are added, and the three that touch are one.
+fn add_runs(cover: &mut Cover) -> bool {
     let mut added = true;
-    for (start, end) in [(0u64, 10u64), (20, 30), (40, 50), (60, 70), (80, 90)] {
+    for (start, end) in [
+        (0u64, 10u64),
+        (20, 30),
+        (40, 50),
+        (60, 70),
+        (80, 90),
+        (10, 20),
+    ] {
         let before = cover.runs().count();
         if let Err(OutOfMemory) = cover.add(start, end) {
             added = cover.runs().count() == before && !cover.has(start) && added;
@@ -244,11 +239,12 @@ fn runs_are_added(cover: &mut Cover) -> bool {
         }
         added = cover.has(start) && added;
     }
-    cover.gaps().count() == 4 && added
+    let one = cover.has_all(0, 30) && !cover.has(30);
+    added && one && cover.runs().count() == 4 && cover.gaps().count() == 3
 }
 
 #[test]
-fn an_addition_to_a_cover(rt: HostRuntime) {
-    let added = runs_are_added(&mut Cover::new(rt.alloc()));
+fn additions_to_a_cover(rt: HostRuntime) {
+    let added = add_runs(&mut Cover::new(rt.alloc()));
     assert!(rt; added);
 }

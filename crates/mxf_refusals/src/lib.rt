@@ -1,9 +1,10 @@
-//! Calls that take memory, each of whose growths is refused in turn.
+//! Tests of the libraries, by their public items, of what no run of a program shows. Each call that takes memory has
+//! one.
 //!
-//! tests/refusals runs each test again and again, and refuses it one growth of memory a run. So a test holds whichever
-//! it is: a call answers what it has to, or wants memory; then what it promised stands, and the same call answers. A
-//! test named `without_memory..` is refused all growths from one on: it gives up where it can't prepare, and once it
-//! has, what it calls answers.
+//! Each growth is refused in turn: tests/refusals runs each test again and again, and refuses it one growth of memory a
+//! run. So a test holds whichever it is: a call answers what it has to, or wants memory; then what it promised stands,
+//! and the same call answers. A test named `without_memory..` is refused all growths from one on: it gives up where it
+//! can't prepare, and once it has, what it calls answers.
 #![tactic(auto)]
 
 #[cfg(test)]
@@ -16,6 +17,8 @@ mod looked_up;
 mod pieces;
 #[cfg(test)]
 mod plans;
+#[cfg(test)]
+mod readers;
 #[cfg(test)]
 mod readings;
 #[cfg(test)]

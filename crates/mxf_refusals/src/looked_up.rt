@@ -1,13 +1,11 @@
 //! What is looked up in bytes at hand while every growth is refused.
-use crate::additions::in_views;
 use crate::files::{M, R, SEGMENT, WRITTEN, rip_value};
+use mxf_catalogue::{Catalogue, FileFault};
 use mxf_klv::{Kind, Note, Status, kind, next_key_and_length, next_packet, read_ber};
-use mxf_read::absorb;
 use mxf_sets::{
     Batch, ContentStorage, Identification, PackPart, Package, PartitionPack, Preface, Rip, Segment,
     instance_uid, items, pattern_name,
 };
-use mxf_views::{Link, Views, set_items};
 use std::alloc::Global;
 use uuid::Uuid;
 
@@ -21,11 +19,6 @@ fn packet_is_read() -> Option<bool> {
     Some(alike && sized && named && (length.width(), length.value()) == (4, 88))
 }
 
-#[test]
-fn without_memory_a_packet_is_looked_at(rt: HostRuntime) {
-    assert!(rt; packet_is_read() == Some(true) && Note::can_be(0, 4, 88));
-}
-
 /// Whether the header partition pack of M is read.
 fn partition_pack_is_read() -> Option<bool> {
     let (packet, _) = next_packet(0, &M).ok()?;
@@ -34,11 +27,6 @@ fn partition_pack_is_read() -> Option<bool> {
     let named = matches!(pattern_name(&pack.pattern()), Some("OP1a"));
     let placed = pack.numbers().footer_partition == 108 && pack.containers().is_empty();
     Some(told && named && placed)
-}
-
-#[test]
-fn without_memory_a_partition_pack_is_looked_at(rt: HostRuntime) {
-    assert!(rt; partition_pack_is_read() == Some(true));
 }
 
 /// Whether the value of the primer pack of R has one entry.
@@ -54,11 +42,6 @@ fn batch_is_read() -> Option<bool> {
 fn rip_is_read() -> Option<bool> {
     let rip = Rip::read(4, rip_value()).ok()?;
     Some(rip.entries().next().is_some())
-}
-
-#[test]
-fn without_memory_a_batch_and_a_random_index_pack_are_looked_at(rt: HostRuntime) {
-    assert!(rt; batch_is_read() == Some(true) && rip_is_read() == Some(true));
 }
 
 /// Whether the Preface of R names the storage, and that the package.
@@ -78,11 +61,6 @@ fn package_is_read() -> Option<bool> {
     let undated = package.creation_date().is_none() && package.modified_date().is_none();
     let unnamed = package.name().is_none() && package.descriptor().is_none();
     Some(undated && unnamed && package.package_uid() == [0; 32] && package.tracks().len() == 0)
-}
-
-#[test]
-fn without_memory_records_are_looked_at(rt: HostRuntime) {
-    assert!(rt; references_are_read() == Some(true) && package_is_read() == Some(true));
 }
 
 /// The identifier of the Preface of R.
@@ -106,11 +84,6 @@ fn identification_is_read() -> Option<bool> {
     Some(named && unnamed && unversioned && undated)
 }
 
-#[test]
-fn without_memory_items_are_looked_up(rt: HostRuntime) {
-    assert!(rt; items_are_read() == Some(true) && identification_is_read() == Some(true));
-}
-
 /// Whether units have their offsets in a segment of units of one size, and in one with entries.
 fn segments_are_read() -> Option<bool> {
     let constant = Segment::read(&SEGMENT[20..]).ok()?;
@@ -121,27 +94,32 @@ fn segments_are_read() -> Option<bool> {
     Some(placed && counted && listed)
 }
 
+/// What is ahead of the notes in a file of this version, whose number of notes is eight bytes FF.
+fn start_of_many(version: u8) -> [u8; 16] {
+    [
+        0x4D, 0x58, 0x46, 0x43, 0x41, 0x54, 0x00, version, 0xFF, 0xFF, 0xFF, 0xFF, 0xFF, 0xFF,
+        0xFF, 0xFF,
+    ]
+}
+
+/// Whether a number of notes alone is refused.
+fn number_is_refused(alloc: Global, version: u8) -> bool {
+    match Catalogue::read(alloc, &start_of_many(version)) {
+        Ok(_) => false,
+        Err(fault) => fault == FileFault::Truncated(16),
+    }
+}
+
+/// Whether the packets of M and the records of R are read.
+fn all_are_read() -> Option<bool> {
+    let packs = packet_is_read()? && partition_pack_is_read()? && rip_is_read()?;
+    let records = references_are_read()? && package_is_read()? && identification_is_read()?;
+    Some(packs && records && batch_is_read()? && items_are_read()? && segments_are_read()?)
+}
+
 #[test]
-fn without_memory_segments_are_looked_at(rt: HostRuntime) {
-    assert!(rt; segments_are_read() == Some(true));
-}
-
-/// Whether the copy of R is found with its set and its primer pack.
-fn has_its_copy(views: &Views) -> Option<bool> {
-    let header = views.partitions().next()?;
-    let set = views.sets(0).next()?;
-    let items = set_items(set)?.next().is_some();
-    let copy = views.copy_with(set)?;
-    let labelled = views.primer_of(&copy)?.label(0x8001) == Some([0xAA; 16]);
-    Some(views.link_of(&header) == Link::First && items && copy.partition == 0 && labelled)
-}
-
-/// Whether it is, where R can be noted.
-fn copy_is_looked_at(alloc: Global, views: &mut Views) -> bool {
-    absorb(alloc, views, 0, &R).is_err() || has_its_copy(views) == Some(true)
-}
-
-#[test]
-fn without_memory_a_copy_is_looked_at(rt: HostRuntime) {
-    assert!(rt; in_views(rt.alloc(), copy_is_looked_at));
+fn without_memory_bytes_are_looked_at(rt: HostRuntime) {
+    let alloc = rt.alloc();
+    let refused = number_is_refused(alloc, 1) && number_is_refused(alloc, 2);
+    assert!(rt; refused && all_are_read() == Some(true) && Note::can_be(0, 4, 88));
 }

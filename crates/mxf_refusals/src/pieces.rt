@@ -1,7 +1,6 @@
-//! Pieces, whole and cut: after want of memory the packets that were counted are held, and the rest can be absorbed.
+//! Pieces, whole and cut: out of memory, the packets that were counted are held, and the rest can be absorbed.
 use crate::additions::in_views;
 use crate::files::M;
-use crate::units::add_piece;
 use mxf_catalogue::Run;
 use mxf_read::{AbsorbFault, ReadTicks, Report, Stop, absorb, absorb_from};
 use mxf_views::{Chain, Views};
@@ -48,8 +47,8 @@ fn is_counted(views: &Views, noted: u64, at: u64, places: &[(u64, u64)]) -> bool
     views.catalogue().len() as u64 == noted && places.contains(&(noted, at))
 }
 
-/// Whether the rest of a piece, behind so many packets, is reported as what the report of the whole leaves.
-fn rest_is_noted(
+/// Notes the rest of a piece, behind so many packets. Whether it is reported as what the report of the whole leaves.
+fn note_rest(
     alloc: Global,
     views: &mut Views,
     piece: &[u8],
@@ -68,8 +67,8 @@ fn rest_is_noted(
     }
 }
 
-/// Whether a piece at hand is reported so, also where memory was wanting at one of these places.
-fn is_noted(
+/// Notes a piece at hand. Whether it is reported so, also where memory was wanting at one of these places.
+fn note(
     alloc: Global,
     views: &mut Views,
     piece: &[u8],
@@ -80,7 +79,7 @@ fn is_noted(
         Ok(report) => report == whole,
         Err(AbsorbFault::OutOfMemory { noted, at }) => {
             is_counted(views, noted, at, places)
-                && rest_is_noted(alloc, views, piece, (noted, at), whole)
+                && note_rest(alloc, views, piece, (noted, at), whole)
         }
         // Nothing is read of bytes at hand.
         Err(AbsorbFault::ReadFault { .. }) => false,
@@ -93,8 +92,8 @@ fn read_into(alloc: Global, views: &mut Views, piece: &[u8]) -> Result<Report, A
     absorb_from(alloc, views, 0, &mut from, 1000, &mut ReadTicks::new())
 }
 
-/// Whether the piece of a reader is reported so, also where memory was wanting and it is read again.
-fn is_read(
+/// Notes the piece of a reader. Whether it is reported so, also where memory was wanting and it is read again.
+fn read(
     alloc: Global,
     views: &mut Views,
     piece: &[u8],
@@ -111,49 +110,14 @@ fn is_read(
     }
 }
 
-/// Whether M at hand is noted and held.
-fn m_is_noted(alloc: Global, views: &mut Views) -> bool {
-    is_noted(alloc, views, &M, WHOLE, &PLACES) && holds_m(views)
+/// Notes M at hand. Whether it is held.
+fn note_m(alloc: Global, views: &mut Views) -> bool {
+    note(alloc, views, &M, WHOLE, &PLACES) && holds_m(views)
 }
 
-#[test]
-fn a_piece_at_hand(rt: HostRuntime) {
-    assert!(rt; in_views(rt.alloc(), m_is_noted));
-}
-
-/// Whether M of a reader is noted and held.
-fn m_is_read(alloc: Global, views: &mut Views) -> bool {
-    is_read(alloc, views, &M, WHOLE, &PLACES) && holds_m(views)
-}
-
-#[test]
-fn a_piece_of_a_reader(rt: HostRuntime) {
-    assert!(rt; in_views(rt.alloc(), m_is_read));
-}
-
-/// Whether M's first 128 bytes at hand are noted and held: when memory is wanting, no packet is, or that ahead of the
-/// head.
-fn cut_is_noted(alloc: Global, views: &mut Views) -> bool {
-    is_noted(alloc, views, &M[..128], CUT, &PLACES[..2]) && holds_the_cut(views)
-}
-
-#[test]
-fn a_cut_piece_at_hand(rt: HostRuntime) {
-    assert!(rt; in_views(rt.alloc(), cut_is_noted));
-}
-
-/// Whether those of a reader are.
-fn cut_is_read(alloc: Global, views: &mut Views) -> bool {
-    is_read(alloc, views, &M[..128], CUT, &PLACES[..2]) && holds_the_cut(views)
-}
-
-#[test]
-fn a_cut_piece_of_a_reader(rt: HostRuntime) {
-    assert!(rt; in_views(rt.alloc(), cut_is_read));
-}
-
-/// Absorbs M. Whether it is held, also where memory was wanting at one of its places, and the rest was absorbed.
-fn absorbs_m(alloc: Global, views: &mut Views) -> bool {
+/// Notes M over its front. Whether it is held, also where memory was wanting at one of its places, and the rest was
+/// noted.
+fn note_over_front(alloc: Global, views: &mut Views) -> bool {
     match absorb(alloc, views, 0, &M) {
         Ok(_) => holds_m(views),
         Err(AbsorbFault::OutOfMemory { noted, at }) => {
@@ -170,12 +134,32 @@ fn absorbs_m(alloc: Global, views: &mut Views) -> bool {
     }
 }
 
-/// Whether M is held over its cut front.
-fn goes_over_its_front(alloc: Global, views: &mut Views) -> bool {
-    add_piece(alloc, views, 0, &M[..128]) && holds_the_cut(views) && absorbs_m(alloc, views)
+/// Notes M's first 128 bytes at hand, and then M. Whether they are held: when memory is wanting, no packet is, or that
+/// ahead of the head.
+fn note_front(alloc: Global, views: &mut Views) -> bool {
+    note(alloc, views, &M[..128], CUT, &PLACES[..2])
+        && holds_the_cut(views)
+        && note_over_front(alloc, views)
 }
 
 #[test]
-fn a_piece_over_its_cut_front(rt: HostRuntime) {
-    assert!(rt; in_views(rt.alloc(), goes_over_its_front));
+fn a_piece_at_hand(rt: HostRuntime) {
+    let alloc = rt.alloc();
+    assert!(rt; in_views(alloc, note_m) && in_views(alloc, note_front));
+}
+
+/// Notes M of a reader. Whether it is held.
+fn read_m(alloc: Global, views: &mut Views) -> bool {
+    read(alloc, views, &M, WHOLE, &PLACES) && holds_m(views)
+}
+
+/// The same of M's first 128 bytes.
+fn read_front(alloc: Global, views: &mut Views) -> bool {
+    read(alloc, views, &M[..128], CUT, &PLACES[..2]) && holds_the_cut(views)
+}
+
+#[test]
+fn a_piece_of_a_reader(rt: HostRuntime) {
+    let alloc = rt.alloc();
+    assert!(rt; in_views(alloc, read_m) && in_views(alloc, read_front));
 }

@@ -41,13 +41,13 @@ fn disputes_the_front(alloc: Global, views: &Views) -> bool {
     }
 }
 
-/// Whether the plan of a packet from 200 to 300 is that.
-fn plans_for_one(alloc: Global, views: &mut Views) -> bool {
+/// Adds a packet from 200 to 300. Whether its plan is that.
+fn add_and_order(alloc: Global, views: &mut Views) -> bool {
     add_to_views(views, essence(200, 83)) && orders_the_front(alloc, views)
 }
 
-/// Whether that of a packet from 0 to 100 and one from 90 to 190 is.
-fn plans_for_two(alloc: Global, views: &mut Views) -> bool {
+/// Adds a packet from 0 to 100 and one from 90 to 190. Whether their plan is that.
+fn add_and_dispute(alloc: Global, views: &mut Views) -> bool {
     add_to_views(views, essence(0, 83))
         && add_to_views(views, essence(90, 83))
         && disputes_the_front(alloc, views)
@@ -56,6 +56,6 @@ fn plans_for_two(alloc: Global, views: &mut Views) -> bool {
 #[test]
 fn plans(rt: HostRuntime) {
     let alloc = rt.alloc();
-    assert!(rt; in_views(alloc, plans_for_one));
-    assert!(rt; in_views(alloc, plans_for_two));
+    assert!(rt; in_views(alloc, add_and_order));
+    assert!(rt; in_views(alloc, add_and_dispute));
 }

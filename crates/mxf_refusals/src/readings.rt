@@ -61,8 +61,8 @@ fn push_second(alloc: Global, contents: &mut Vec<Catalogue>) -> bool {
     add(&mut two, essence(0, 83)) && add(&mut two, essence(90, 83)) && contents.push(two).is_ok()
 }
 
-/// Whether two sources are told beside each other.
-fn tells(alloc: Global, contents: &mut Vec<Catalogue>) -> bool {
+/// Pushes two sources. Whether they are told beside each other.
+fn push_both(alloc: Global, contents: &mut Vec<Catalogue>) -> bool {
     (contents.reserve(2).is_ok() || contents.reserve(2).is_ok())
         && push_first(alloc, contents)
         && push_second(alloc, contents)
@@ -72,6 +72,6 @@ fn tells(alloc: Global, contents: &mut Vec<Catalogue>) -> bool {
 #[test]
 fn readings(rt: HostRuntime) {
     let alloc = rt.alloc();
-    let held = tells(alloc, &mut Vec::new(alloc));
+    let held = push_both(alloc, &mut Vec::new(alloc));
     assert!(rt; held);
 }

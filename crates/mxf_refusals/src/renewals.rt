@@ -31,8 +31,8 @@ fn is_renewed(alloc: Global, old: &Catalogue) -> bool {
     }
 }
 
-/// Whether that is so of packets from 0 to 100 and from 200 to 300.
-fn renews_two(alloc: Global, old: &mut Catalogue) -> bool {
+/// Adds packets from 0 to 100 and from 200 to 300. Whether that is so of them.
+fn add_and_renew(alloc: Global, old: &mut Catalogue) -> bool {
     add(old, essence(0, 83)) && add(old, essence(200, 83)) && is_renewed(alloc, old)
 }
 
@@ -55,14 +55,14 @@ fn is_opposing(alloc: Global, all: &Catalogue) -> bool {
     }
 }
 
-/// Whether that is so of a packet from 0 to 100.
-fn opposes_one(alloc: Global, all: &mut Catalogue) -> bool {
+/// Adds a packet from 0 to 100. Whether that is so of it.
+fn add_and_oppose(alloc: Global, all: &mut Catalogue) -> bool {
     add(all, essence(0, 83)) && is_opposing(alloc, all)
 }
 
 #[test]
 fn renewals(rt: HostRuntime) {
     let alloc = rt.alloc();
-    assert!(rt; in_catalogue(alloc, renews_two));
-    assert!(rt; in_catalogue(alloc, opposes_one));
+    assert!(rt; in_catalogue(alloc, add_and_renew));
+    assert!(rt; in_catalogue(alloc, add_and_oppose));
 }

@@ -44,6 +44,11 @@ fn add_cut_m(alloc: Global, all: &mut Catalogue) -> bool {
     add_of_m(alloc, all, &[0]) && add(all, cut_head(108, &M[108..128]))
 }
 
+/// Adds the packet behind them too.
+fn add_around(alloc: Global, all: &mut Catalogue) -> bool {
+    add_cut_m(alloc, all) && add_of_m(alloc, all, &[216])
+}
+
 /// Whether the join is the wanted one, also where one growth is refused.
 fn joins_to(alloc: Global, one: &Catalogue, other: &Catalogue, wanted: &Catalogue) -> bool {
     match Catalogue::join(alloc, one, other) {
@@ -55,8 +60,8 @@ fn joins_to(alloc: Global, one: &Catalogue, other: &Catalogue, wanted: &Catalogu
     }
 }
 
-/// Whether a merge leaves the wanted notes. Where it is refused, those before it are left, and these come back.
-fn merges_to(
+/// Merges. Whether that leaves the wanted notes; where it is refused, those before it are left, and these come back.
+fn merge_to(
     all: &mut Catalogue,
     other: Catalogue,
     before: &Catalogue,
@@ -72,36 +77,36 @@ fn merges_to(
     }
 }
 
-/// Whether a join with the first packet and a head, and a merge into them, leave the whole.
+/// Whether a join with the packets around a head, which stand, and a merge into them, leave the whole.
 fn head_gives_way(
     alloc: Global,
-    cut: &mut Catalogue,
+    around: &mut Catalogue,
     before: &Catalogue,
-    back: &Catalogue,
+    middle: &Catalogue,
     whole: &Catalogue,
 ) -> bool {
-    joins_to(alloc, back, cut, whole)
-        && cut.same(before)
-        && merges_to(cut, of_m(alloc, &[108, 216]), before, back, whole)
+    joins_to(alloc, middle, around, whole)
+        && around.same(before)
+        && merge_to(around, of_m(alloc, &[108]), before, middle, whole)
 }
 
-/// Whether they do, of catalogues that are made here.
+/// Whether they do, of catalogues that are filled here.
 fn union_is_whole(
     alloc: Global,
-    cut: &mut Catalogue,
+    around: &mut Catalogue,
     before: &mut Catalogue,
-    back: &mut Catalogue,
+    middle: &mut Catalogue,
     whole: &mut Catalogue,
 ) -> bool {
-    add_cut_m(alloc, cut)
-        && add_cut_m(alloc, before)
-        && add_of_m(alloc, back, &[108, 216])
+    add_around(alloc, around)
+        && add_around(alloc, before)
+        && add_of_m(alloc, middle, &[108])
         && add_of_m(alloc, whole, &[0, 108, 216])
-        && head_gives_way(alloc, cut, before, back, whole)
+        && head_gives_way(alloc, around, before, middle, whole)
 }
 
 #[test]
-fn a_join_and_a_merge_over_a_head(rt: HostRuntime) {
+fn a_join_and_a_merge_of_catalogues(rt: HostRuntime) {
     let alloc = rt.alloc();
     let whole = union_is_whole(
         alloc,
@@ -137,8 +142,8 @@ fn room(alloc: Global) -> Result<Vec<u8>, AllocError> {
     }
 }
 
-/// Whether the file of a catalogue has so many bytes, and is read back.
-fn is_saved(alloc: Global, all: &Catalogue, size: usize) -> bool {
+/// Saves a catalogue. Whether its file has so many bytes, and is read back.
+fn save(alloc: Global, all: &Catalogue, size: usize) -> bool {
     match room(alloc) {
         Ok(mut file) => {
             all.write_to(&mut file) == Ok(()) && file.len() == size && is_read_as(alloc, &file, all)
@@ -147,69 +152,26 @@ fn is_saved(alloc: Global, all: &Catalogue, size: usize) -> bool {
     }
 }
 
-/// Whether that of M's first packet and a head is.
-fn cut_is_saved(alloc: Global, cut: &mut Catalogue) -> bool {
-    add_cut_m(alloc, cut) && is_saved(alloc, cut, 172)
+/// Saves that of M's first packet and a head, and reads that of version 1 when M's other packets were added.
+fn save_and_read(alloc: Global, all: &mut Catalogue) -> bool {
+    add_cut_m(alloc, all)
+        && save(alloc, all, 172)
+        && add_of_m(alloc, all, &[108, 216])
+        && is_read_as(alloc, &M_OF_VERSION_1, all)
+}
+
+/// Whether a file of version 1 that is cut is refused, also where one growth is refused.
+fn cut_is_refused(alloc: Global) -> bool {
+    match read(alloc, &M_OF_VERSION_1[..318]) {
+        Ok(_) => false,
+        Err(fault) => fault == FileFault::Truncated(258),
+    }
 }
 
 #[test]
-fn a_catalogue_with_a_head_that_is_read(rt: HostRuntime) {
-    assert!(rt; in_catalogue(rt.alloc(), cut_is_saved));
-}
-
-/// Whether the first packet and those behind it are joined to the whole, and stand.
-fn front_and_back_are_joined(
-    alloc: Global,
-    front: &mut Catalogue,
-    back: &mut Catalogue,
-    whole: &mut Catalogue,
-) -> bool {
-    add_of_m(alloc, front, &[0])
-        && add_of_m(alloc, back, &[108, 216])
-        && add_of_m(alloc, whole, &[0, 108, 216])
-        && joins_to(alloc, front, back, whole)
-        && front.len() == 1
-        && back.len() == 2
-}
-
-#[test]
-fn a_join_of_catalogues(rt: HostRuntime) {
+fn catalogues_that_are_read(rt: HostRuntime) {
     let alloc = rt.alloc();
-    let joined = front_and_back_are_joined(
-        alloc,
-        &mut Catalogue::new(alloc),
-        &mut Catalogue::new(alloc),
-        &mut Catalogue::new(alloc),
-    );
-    assert!(rt; joined);
-}
-
-/// Whether the second packet is merged with those around it to the whole.
-fn middle_is_merged(
-    alloc: Global,
-    around: &mut Catalogue,
-    before: &mut Catalogue,
-    middle: &mut Catalogue,
-    whole: &mut Catalogue,
-) -> bool {
-    add_of_m(alloc, around, &[0, 216])
-        && add_of_m(alloc, before, &[0, 216])
-        && add_of_m(alloc, middle, &[108])
-        && add_of_m(alloc, whole, &[0, 108, 216])
-        && merges_to(around, of_m(alloc, &[108]), before, middle, whole)
-}
-
-#[test]
-fn a_merge_of_catalogues(rt: HostRuntime) {
-    let alloc = rt.alloc();
-    let merged = middle_is_merged(
-        alloc,
-        &mut Catalogue::new(alloc),
-        &mut Catalogue::new(alloc),
-        &mut Catalogue::new(alloc),
-        &mut Catalogue::new(alloc),
-    );
-    assert!(rt; merged);
+    assert!(rt; in_catalogue(alloc, save_and_read) && cut_is_refused(alloc));
 }
 
 /// Merges the packets of M at these offsets into views, also where one growth is refused. Whether they are merged.
@@ -236,8 +198,9 @@ fn views_join_to(alloc: Global, front: &Views, back: &Views, whole: &Catalogue) 
     }
 }
 
-/// Whether two notes are merged into the views of one to those of the whole. Where they are refused, all stand.
-fn merges_into_views(front: &mut Views, back: Catalogue, whole: &Catalogue) -> bool {
+/// Merges two notes into the views of one. Whether these are those of the whole then; where they are refused, all
+/// stand.
+fn merge_into_views(front: &mut Views, back: Catalogue, whole: &Catalogue) -> bool {
     match front.merge(back) {
         Ok(()) => front.catalogue().same(whole),
         Err(fault) => {
@@ -247,79 +210,30 @@ fn merges_into_views(front: &mut Views, back: Catalogue, whole: &Catalogue) -> b
     }
 }
 
-/// Whether views of M's first packet and of the two behind it are joined.
-fn views_are_joined(
-    alloc: Global,
-    front: &mut Views,
-    back: &mut Views,
-    whole: &mut Catalogue,
-) -> bool {
+/// Fills views with M's first packet and with the two behind it, and joins them.
+fn join_views(alloc: Global, front: &mut Views, back: &mut Views, whole: &mut Catalogue) -> bool {
     merge_of_m(alloc, front, &[0])
         && merge_of_m(alloc, back, &[108, 216])
         && add_of_m(alloc, whole, &[0, 108, 216])
         && views_join_to(alloc, front, back, whole)
 }
 
-/// Whether they are joined, and then merged.
-fn views_are_united(
-    alloc: Global,
-    front: &mut Views,
-    mut back: Views,
-    whole: &mut Catalogue,
-) -> bool {
-    let joined = views_are_joined(alloc, front, &mut back, whole);
-    joined && merges_into_views(front, back.into_catalogue(), whole)
+/// Joins them, and then merges them.
+fn unite_views(alloc: Global, front: &mut Views, mut back: Views, whole: &mut Catalogue) -> bool {
+    let joined = join_views(alloc, front, &mut back, whole);
+    joined && merge_into_views(front, back.into_catalogue(), whole)
 }
 
 #[test]
-fn a_join_of_views(rt: HostRuntime) {
+fn a_join_and_a_merge_of_views(rt: HostRuntime) {
     let alloc = rt.alloc();
-    let united = views_are_united(
+    let united = unite_views(
         alloc,
         &mut Views::new(alloc),
         Views::new(alloc),
         &mut Catalogue::new(alloc),
     );
     assert!(rt; united);
-}
-
-/// Whether M's catalogue is saved and read back.
-fn m_is_saved(alloc: Global, all: &mut Catalogue) -> bool {
-    add_of_m(alloc, all, &[0, 108, 216]) && is_saved(alloc, all, 322)
-}
-
-#[test]
-fn a_catalogue_that_is_read(rt: HostRuntime) {
-    assert!(rt; in_catalogue(rt.alloc(), m_is_saved));
-}
-
-/// Whether the file of version 1 is read as M's catalogue.
-fn version_1_is_read(alloc: Global, whole: &mut Catalogue) -> bool {
-    add_of_m(alloc, whole, &[0, 108, 216]) && is_read_as(alloc, &M_OF_VERSION_1, whole)
-}
-
-#[test]
-fn a_catalogue_of_version_1_that_is_read(rt: HostRuntime) {
-    assert!(rt; in_catalogue(rt.alloc(), version_1_is_read));
-}
-
-/// Whether a file is refused for this reason, also where one growth is refused.
-fn is_refused(alloc: Global, file: &[u8], wanted: FileFault) -> bool {
-    match read(alloc, file) {
-        Ok(_) => false,
-        Err(fault) => fault == wanted,
-    }
-}
-
-#[test]
-fn a_catalogue_of_version_1_that_is_refused(rt: HostRuntime) {
-    assert!(rt;
-        is_refused(
-            rt.alloc(),
-            &M_OF_VERSION_1[..318],
-            FileFault::Truncated(258)
-        )
-    );
 }
 
 /// Adds a run to a cover, also where one growth is refused. Whether it is added.
@@ -341,8 +255,8 @@ fn join_of_covers(alloc: Global, front: &Cover, back: &Cover) -> Result<Cover, O
     }
 }
 
-/// Whether covers of one run each are joined to one of two runs, and stand.
-fn covers_are_joined(alloc: Global, front: &mut Cover, back: &mut Cover) -> bool {
+/// Joins covers of one run each. Whether the join has two runs, and they stand.
+fn join_covers(alloc: Global, front: &mut Cover, back: &mut Cover) -> bool {
     let added = add_run(front, 0, 30) && add_run(back, 40, 50);
     match join_of_covers(alloc, front, back) {
         Ok(joined) => {
@@ -356,6 +270,6 @@ fn covers_are_joined(alloc: Global, front: &mut Cover, back: &mut Cover) -> bool
 #[test]
 fn a_join_of_covers(rt: HostRuntime) {
     let alloc = rt.alloc();
-    let joined = covers_are_joined(alloc, &mut Cover::new(alloc), &mut Cover::new(alloc));
+    let joined = join_covers(alloc, &mut Cover::new(alloc), &mut Cover::new(alloc));
     assert!(rt; joined);
 }

@@ -47,8 +47,8 @@ fn are_told(alloc: Global, views: &Views) -> bool {
     }
 }
 
-/// Whether the only index of partitions, disputed packets and a segment, and its units, are told.
-fn tells_of_units(alloc: Global, views: &mut Views) -> bool {
+/// Notes partitions, disputed packets and a segment. Whether their only index and its units are told.
+fn note_and_tell(alloc: Global, views: &mut Views) -> bool {
     add_piece(alloc, views, 0, &M)
         && add_piece(alloc, views, 600, &SEGMENT)
         && add_to_views(views, essence(300, 83))
@@ -59,5 +59,5 @@ fn tells_of_units(alloc: Global, views: &mut Views) -> bool {
 
 #[test]
 fn units(rt: HostRuntime) {
-    assert!(rt; in_views(rt.alloc(), tells_of_units));
+    assert!(rt; in_views(rt.alloc(), note_and_tell));
 }

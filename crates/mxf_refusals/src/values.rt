@@ -3,9 +3,12 @@ use crate::additions::{add_to_views, essence, in_views};
 use crate::files::{M, R, header_value};
 use crate::units::add_piece;
 use mxf_klv::{Held, Note, NoteFault, OutOfMemory, Packet, read_packet};
+use mxf_lines::hex_text;
+use mxf_read::AbsorbFault;
 use mxf_sets::{Primer, PrimerLabels, TextFault, text};
-use mxf_views::{Code, Finding, Findings, Resolved, Views};
+use mxf_views::{BadUnit, Code, Finding, Findings, Resolved, Views};
 use std::alloc::Global;
+use std::fmt::Display;
 
 /// Whether the note keeps the value of M's header partition pack.
 fn keeps_the_header(note: &Note) -> bool {
@@ -71,10 +74,41 @@ fn have_text(alloc: Global, units: &[u8], wanted: &str) -> bool {
     }
 }
 
+/// Whether bytes print as two digits each, also where one growth is refused.
+fn are_digits(alloc: Global) -> bool {
+    match hex_text(alloc, &[0x0A, 0xFF]) {
+        Ok(text) => text.as_str() == "0aff",
+        Err(OutOfMemory) => hex_text(alloc, &[0x0A, 0xFF]).is_ok_and(|text| text.as_str()
+            == "0aff"),
+    }
+}
+
+/// Whether a fault has this text, also where one growth is refused.
+fn has_text<T: Display>(alloc: Global, fault: &T, wanted: &str) -> bool {
+    match fault.to_string(alloc) {
+        Ok(text) => text.as_str() == wanted,
+        Err(_) => fault
+            .to_string(alloc)
+            .is_ok_and(|text| text.as_str() == wanted),
+    }
+}
+
+/// Whether the faults of a piece tell the cause and the place, and the fault of a unit has its text.
+fn faults_have_texts(alloc: Global) -> bool {
+    let (noted, at) = (2, 216);
+    let wanting = AbsorbFault::OutOfMemory { noted, at };
+    let unread = AbsorbFault::ReadFault { noted, at };
+    has_text(alloc, &wanting, "out of memory at 216, after 2 packets")
+        && has_text(alloc, &unread, "a read failed at 216, after 2 packets")
+        && has_text(alloc, &BadUnit, "bad unit")
+}
+
 #[test]
-fn a_text(rt: HostRuntime) {
+fn texts(rt: HostRuntime) {
+    let alloc = rt.alloc();
     let units = [0x00, 0x41, 0x00, 0xE9, 0x00, 0x00, 0x00, 0x58];
-    assert!(rt; have_text(rt.alloc(), &units, "A\u{e9}"));
+    let read = have_text(alloc, &units, "A\u{e9}");
+    assert!(rt; read && are_digits(alloc) && faults_have_texts(alloc));
 }
 
 /// Whether the labels of a primer pack have that of the tag 8001, also where one growth is refused.
@@ -115,19 +149,11 @@ fn resolved_in(alloc: Global, views: &Views) -> Result<Option<Resolved>, OutOfMe
 }
 
 /// Whether references lead to a package that is found and one that isn't.
-fn lead_to_the_package(alloc: Global, views: &mut Views) -> bool {
-    if !add_piece(alloc, views, 0, &R) {
-        return false;
-    }
+fn lead_to_the_package(alloc: Global, views: &Views) -> bool {
     match resolved_in(alloc, views) {
         Ok(Some(resolved)) => is_of_the_package(&resolved),
         Ok(None) | Err(OutOfMemory) => false,
     }
-}
-
-#[test]
-fn what_references_lead_to(rt: HostRuntime) {
-    assert!(rt; in_views(rt.alloc(), lead_to_the_package));
 }
 
 /// What is found in the views, also where one growth is refused.
@@ -150,30 +176,25 @@ fn at(offset: u64, code: Code) -> Finding {
     Finding { offset, code }
 }
 
-/// Whether the chain isn't whole, and a reference isn't found at 214.
-fn finds_those_of_the_package(alloc: Global, views: &mut Views) -> bool {
-    let wanted = [at(0, Code::F14), at(214, Code::F13)];
-    add_piece(alloc, views, 0, &R) && finds(alloc, views, &wanted)
-}
-
-/// Whether of a packet from 0 to 100, one from 200 to 300, and one from 90 to 210 over both all are disputed, and the
-/// chain isn't whole.
-fn finds_those_of_three(alloc: Global, views: &mut Views) -> bool {
+/// Notes R, which ends at 374, and adds packets from 400 to 500 and from 450 to 550. Whether references lead to the
+/// package, and what is wrong is found: the chain isn't whole, a reference isn't found, bytes aren't held, and two
+/// packets overlap.
+fn note_and_ask(alloc: Global, views: &mut Views) -> bool {
     let wanted = [
-        at(0, Code::F02),
         at(0, Code::F14),
-        at(90, Code::F02),
-        at(200, Code::F02),
+        at(214, Code::F13),
+        at(374, Code::F03),
+        at(400, Code::F02),
+        at(450, Code::F02),
     ];
-    add_to_views(views, essence(0, 83))
-        && add_to_views(views, essence(200, 83))
-        && add_to_views(views, essence(90, 103))
+    add_piece(alloc, views, 0, &R)
+        && add_to_views(views, essence(400, 83))
+        && add_to_views(views, essence(450, 83))
+        && lead_to_the_package(alloc, views)
         && finds(alloc, views, &wanted)
 }
 
 #[test]
-fn findings(rt: HostRuntime) {
-    let alloc = rt.alloc();
-    assert!(rt; in_views(alloc, finds_those_of_the_package));
-    assert!(rt; in_views(alloc, finds_those_of_three));
+fn references_and_findings(rt: HostRuntime) {
+    assert!(rt; in_views(rt.alloc(), note_and_ask));
 }

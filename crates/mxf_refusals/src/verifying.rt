@@ -75,8 +75,8 @@ fn units_stand(alloc: Global, views: &Views, verification: &Verification<'_>) ->
     }
 }
 
-/// Whether M and a segment are a reference that stands so beside M.
-fn is_verified(alloc: Global, views: &mut Views) -> bool {
+/// Notes M and a segment. Whether they are a reference that stands so beside M.
+fn note_and_verify(alloc: Global, views: &mut Views) -> bool {
     if !add_piece(alloc, views, 0, &M) || !add_piece(alloc, views, 600, &SEGMENT) {
         return false;
     }
@@ -88,5 +88,5 @@ fn is_verified(alloc: Global, views: &mut Views) -> bool {
 
 #[test]
 fn verifications(rt: HostRuntime) {
-    assert!(rt; in_views(rt.alloc(), is_verified));
+    assert!(rt; in_views(rt.alloc(), note_and_verify));
 }

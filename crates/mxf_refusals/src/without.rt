@@ -1,12 +1,10 @@
 //! What takes no memory: it answers while every growth is refused.
 use crate::additions::{essence, in_views};
-use crate::files::{M, R, SEGMENT, header_value};
-use crate::written::is_written;
-use mxf_catalogue::{Catalogue, Change, FileFault};
+use crate::files::{M, R, SEGMENT};
+use mxf_catalogue::{Catalogue, Change};
 use mxf_klv::{Encode, Held, Note, OutOfMemory, cut_head, read_packet};
 use mxf_read::absorb;
-use mxf_sets::PartitionPack;
-use mxf_views::{Chain, Found, Link, Place, RipView, Views};
+use mxf_views::{BadUnit, Chain, Found, Link, Place, RipView, Views, set_items};
 use std::alloc::Global;
 use uuid::Uuid;
 
@@ -37,17 +35,12 @@ fn hangs_together(views: &Views) -> bool {
         && matches!(&views.rip(), RipView::One(rip) if rip.entries().count() == 2)
 }
 
-/// Whether nothing is new about a note.
-fn repeats(views: &mut Views, note: Note) -> bool {
+/// Adds a note. Whether nothing is new about it.
+fn repeat(views: &mut Views, note: Note) -> bool {
     match views.add(note) {
         Ok(change) => change == Change::Repeated,
         Err(_) => false,
     }
-}
-
-/// Whether nothing is new about a note of M, and M's notes and partitions are found.
-fn repeats_in(views: &mut Views, note: Note) -> bool {
-    repeats(views, note) && holds_m(views.catalogue()) && hangs_together(views)
 }
 
 /// Whether a packet from 100 to 117 touches the first packet and the second, over the ends of which it is.
@@ -58,20 +51,42 @@ fn touches_two(all: &Catalogue) -> bool {
     }
 }
 
-/// Whether a held note is added, and what it touches is found, where M can be noted.
-fn held_note_is_added(alloc: Global, views: &mut Views) -> bool {
+/// Whether the file of a catalogue has 322 bytes, where there is room for them.
+fn has_322_bytes(alloc: Global, all: &Catalogue) -> bool {
+    match Vec::with_capacity(alloc, 322) {
+        Ok(mut file) => all.write_to(&mut file) == Ok(()) && file.len() == 322,
+        Err(_) => true,
+    }
+}
+
+/// Adds the note of M's footer and its head, where M is held. Whether nothing is new about either, and M's notes and
+/// partitions are found, and written.
+fn repeat_footer(alloc: Global, views: &mut Views, note: Note) -> bool {
+    let Some(head) = cut_head(108, &M[108..128]) else {
+        return false;
+    };
+    repeat(views, note)
+        && repeat(views, head)
+        && holds_m(views.catalogue())
+        && hangs_together(views)
+        && touches_two(views.catalogue())
+        && has_322_bytes(alloc, views.catalogue())
+}
+
+/// The same, where M can be noted.
+fn note_and_repeat(alloc: Global, views: &mut Views) -> bool {
     if absorb(alloc, views, 0, &M).is_err() {
         return true;
     }
     match footer(alloc) {
-        Some(note) => repeats_in(views, note) && touches_two(views.catalogue()),
+        Some(note) => repeat_footer(alloc, views, note),
         None => true,
     }
 }
 
 #[test]
-fn without_memory_a_held_note_is_added(rt: HostRuntime) {
-    assert!(rt; in_views(rt.alloc(), held_note_is_added));
+fn without_memory_held_notes_are_added_and_written(rt: HostRuntime) {
+    assert!(rt; in_views(rt.alloc(), note_and_repeat));
 }
 
 /// Whether M's header is held, and the head of its footer, which claims the bytes up to 216.
@@ -96,111 +111,40 @@ fn are_alike(alloc: Global, made: &Note, head: &Note) -> bool {
     copied && told && matches!(&head.held(), Held::Head)
 }
 
-/// Whether the head of M's footer is made as cut bytes have it, and is held.
-fn head_is_made(alloc: Global, views: &mut Views, head: &Note) -> bool {
+/// Makes the head of M's footer as cut bytes have it, and adds it. Whether it is held.
+fn make_head(alloc: Global, views: &mut Views, head: &Note) -> bool {
     let Some(made) = Note::head(108, head.key(), 4, 88) else {
         return false;
     };
     let alike = are_alike(alloc, &made, head) && (head.covered_end(), head.end()) == (128, 216);
-    repeats(views, made) && alike && holds_the_cut(views, head)
+    repeat(views, made) && alike && holds_the_cut(views, head)
 }
 
-/// Whether it is, where the bytes up to it can be noted.
-fn head_is_added(alloc: Global, views: &mut Views) -> bool {
+/// The same, where the bytes up to it can be noted.
+fn add_head(alloc: Global, views: &mut Views) -> bool {
     if absorb(alloc, views, 0, &M[..128]).is_err() {
         return true;
     }
     match cut_head(108, &M[108..128]) {
-        Some(head) => head_is_made(alloc, views, &head),
+        Some(head) => make_head(alloc, views, &head),
         None => false,
     }
 }
 
 #[test]
 fn without_memory_heads_are_made_and_a_held_one_is_added(rt: HostRuntime) {
-    assert!(rt; in_views(rt.alloc(), head_is_added));
+    assert!(rt; in_views(rt.alloc(), add_head));
 }
 
-/// Whether the head of a held packet is added, where M can be noted.
-fn replaced_head_is_added(alloc: Global, views: &mut Views) -> bool {
-    if absorb(alloc, views, 0, &M).is_err() {
-        return true;
-    }
-    match cut_head(108, &M[108..128]) {
-        Some(head) => repeats_in(views, head),
-        None => false,
-    }
-}
-
-#[test]
-fn without_memory_a_head_that_is_replaced_is_added(rt: HostRuntime) {
-    assert!(rt; in_views(rt.alloc(), replaced_head_is_added));
-}
-
-/// Whether the file of a catalogue has 322 bytes, where there is room for them.
-fn has_322_bytes(alloc: Global, all: &Catalogue) -> bool {
-    match Vec::with_capacity(alloc, 322) {
-        Ok(mut file) => all.write_to(&mut file) == Ok(()) && file.len() == 322,
-        Err(_) => true,
-    }
-}
-
-/// Whether that of M has, where M can be noted.
-fn m_has_322_bytes(alloc: Global, views: &mut Views) -> bool {
-    absorb(alloc, views, 0, &M).is_err() || has_322_bytes(alloc, views.catalogue())
-}
-
-#[test]
-fn without_memory_a_catalogue_is_written(rt: HostRuntime) {
-    assert!(rt; in_views(rt.alloc(), m_has_322_bytes));
-}
-
-/// Whether the first packet of M is written, and its partition pack.
-fn pack_is_written(alloc: Global) -> Option<bool> {
-    let (packet, _) = read_packet(&M).ok()?;
-    let pack = PartitionPack::read(&packet.key(), packet.value()).ok()?;
-    Some(is_written(alloc, &packet, &M[..108]) && is_written(alloc, &pack, header_value()))
-}
-
-#[test]
-fn without_memory_a_packet_and_a_pack_are_written(rt: HostRuntime) {
-    assert!(rt; pack_is_written(rt.alloc()) == Some(true));
-}
-
-/// What is ahead of the notes in a file of this version, whose number of notes is eight bytes FF.
-fn start_of_many(version: u8) -> [u8; 16] {
-    [
-        0x4D, 0x58, 0x46, 0x43, 0x41, 0x54, 0x00, version, 0xFF, 0xFF, 0xFF, 0xFF, 0xFF, 0xFF,
-        0xFF, 0xFF,
-    ]
-}
-
-/// Whether a number of notes alone is refused.
-fn number_is_refused(alloc: Global, version: u8) -> bool {
-    match Catalogue::read(alloc, &start_of_many(version)) {
-        Ok(_) => false,
-        Err(fault) => fault == FileFault::Truncated(16),
-    }
-}
-
-#[test]
-fn without_memory_a_number_of_notes_alone_is_refused(rt: HostRuntime) {
-    assert!(rt; number_is_refused(rt.alloc(), 1) && number_is_refused(rt.alloc(), 2));
-}
-
-/// Whether units are located, where the segment can be noted.
-fn units_are_located(alloc: Global, views: &mut Views) -> bool {
+/// Whether units of a segment are located.
+fn locates_units(views: &Views) -> bool {
     let place = Place::At {
         body_sid: 2,
         offset: 2_500_000,
     };
-    absorb(alloc, views, 0, &SEGMENT).is_err()
-        || (views.locate(1, 10) == Ok(place) && views.locate(1, 100) == Ok(Place::NotIndexed))
-}
-
-#[test]
-fn without_memory_a_unit_is_located(rt: HostRuntime) {
-    assert!(rt; in_views(rt.alloc(), units_are_located));
+    views.locate(1, 10) == Ok(place)
+        && views.locate(1, 100) == Ok(Place::NotIndexed)
+        && views.locate(1, 9_223_372_036_854_775_808) == Err(BadUnit)
 }
 
 /// Whether the copy of R is found with a set and its primer pack.
@@ -213,12 +157,26 @@ fn has_its_sets(views: &Views) -> Option<bool> {
     Some(labelled && found && copied && views.copies().len() == 1)
 }
 
-/// Whether it is, where R can be noted.
-fn sets_are_found(alloc: Global, views: &mut Views) -> bool {
-    absorb(alloc, views, 0, &R).is_err() || has_its_sets(views) == Some(true)
+/// Whether the copy of a set is found, with its items and its primer pack.
+fn has_its_copy(views: &Views) -> Option<bool> {
+    let header = views.partitions().next()?;
+    let set = views.sets(0).next()?;
+    let items = set_items(set)?.next().is_some();
+    let copy = views.copy_with(set)?;
+    let labelled = views.primer_of(&copy)?.label(0x8001) == Some([0xAA; 16]);
+    Some(views.link_of(&header) == Link::First && items && copy.partition == 0 && labelled)
+}
+
+/// Whether these are found in R and a segment behind it, where both can be noted.
+fn note_and_ask(alloc: Global, views: &mut Views) -> bool {
+    absorb(alloc, views, 0, &R).is_err()
+        || absorb(alloc, views, 374, &SEGMENT).is_err()
+        || (locates_units(views)
+            && has_its_sets(views) == Some(true)
+            && has_its_copy(views) == Some(true))
 }
 
 #[test]
-fn without_memory_sets_are_found(rt: HostRuntime) {
-    assert!(rt; in_views(rt.alloc(), sets_are_found));
+fn without_memory_views_are_asked(rt: HostRuntime) {
+    assert!(rt; in_views(rt.alloc(), note_and_ask));
 }

@@ -1,5 +1,6 @@
-//! Prints what the public readers and writers of mxf_klv and mxf_sets answer, a row of a table at a time. Rows of
-//! catalogues and views take notes in, for benches/run, and print what is held then.
+//! Prints what the public readers and writers of mxf_klv and mxf_sets answer, what additions to a catalogue move, and
+//! how a catalogue is written, a row of a table at a time. Other rows of catalogues, and those of views, take notes in,
+//! for benches/run, and print what is held then.
 //!
 //! A row is a line of standard input: `SUBJECT CALL NUMBERS DIGITS`, as `batch read 16 0000000000000010`. DIGITS are
 //! the bytes that are read, as hexadecimal digits, or `-` for none. NUMBERS are up to four, in the order in which the
@@ -19,7 +20,7 @@ mod views;
 mod writing;
 
 use mxf_sets::{pattern_name, text};
-use row::{Row, bad_row, bytes_of, number_of, tell};
+use row::{Row, bad_row, bytes_of, tell};
 use std::alloc::Global;
 use std::io;
 
@@ -52,26 +53,6 @@ fn tell_pattern(rt: &impl Print, row: &Row<'_>) -> io::Result<()> {
     }
 }
 
-/// Prints the answer to a row, by the words ahead of its digits and the bytes that these spell.
-fn tell_words<R: Print + AllocGlobal>(rt: &R, front: &str, bytes: &[u8]) -> io::Result<()> {
-    let mut words = front.split(' ');
-    let (Some(subject), Some(call)) = (words.next(), words.next()) else {
-        return Err(bad_row());
-    };
-    let row = Row {
-        subject,
-        call,
-        numbers: [
-            number_of(words.next())?,
-            number_of(words.next())?,
-            number_of(words.next())?,
-            number_of(words.next())?,
-        ],
-        bytes,
-    };
-    tell_row(rt, &row)
-}
-
 /// Prints a heading, or the answer to a row.
 fn tell_line<R: Print + AllocGlobal>(rt: &R, line: &str) -> io::Result<()> {
     if line.is_empty() || line.starts_with('#') {
@@ -80,7 +61,7 @@ fn tell_line<R: Print + AllocGlobal>(rt: &R, line: &str) -> io::Result<()> {
     let Some((front, digits)) = line.rsplit_once(' ') else {
         return Err(bad_row());
     };
-    tell_words(rt, front, &bytes_of(rt.alloc(), digits)?)
+    tell_row(rt, &Row::of(front, &bytes_of(rt.alloc(), digits)?)?)
 }
 
 fn main(rt: HostRuntime) -> io::Result<()> {

@@ -137,21 +137,25 @@ fn note_or_head(alloc: Global, offset: u64, bytes: &[u8]) -> Option<Note> {
 }
 
 /// Prints how a note stands to another, and which of the two tells the other.
-fn tell_standing(rt: &impl Print, first: &Note, second: &Note) -> io::Result<()> {
-    let tells = (first.tells(second), second.tells(first));
-    tell(rt, &(first.cmp(second), tells.0, tells.1))
+fn tell_standing(rt: &impl Print, first: &Option<Note>, second: &Option<Note>) -> io::Result<()> {
+    match (first, second) {
+        (Some(first), Some(second)) => {
+            let tells = (first.tells(second), second.tells(first));
+            tell(rt, &(first.cmp(second), tells.0, tells.1))
+        }
+        _ => Err(bad_row()),
+    }
 }
 
 /// `compare OFFSET OFFSET SIZE`: the notes of two packets, the first of which has SIZE bytes.
 fn tell_both<R: Print + AllocGlobal>(rt: &R, row: &Row<'_>) -> io::Result<()> {
     let [first, second, size, _] = row.numbers;
     let (one, other) = row.bytes.split_at(row.bytes.len().min(size as usize));
-    let first = note_or_head(rt.alloc(), first, one);
-    let second = note_or_head(rt.alloc(), second, other);
-    match (&first, &second) {
-        (Some(first), Some(second)) => tell_standing(rt, first, second),
-        _ => Err(bad_row()),
-    }
+    tell_standing(
+        rt,
+        &note_or_head(rt.alloc(), first, one),
+        &note_or_head(rt.alloc(), second, other),
+    )
 }
 
 /// `front WIDTH LENGTH OFFSET` and `kept WIDTH 0 OFFSET` of a key and what stands behind it: a digest, a value, or

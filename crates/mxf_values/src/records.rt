@@ -12,22 +12,21 @@ fn tell_references(rt: &impl Print, references: References<'_>, place: u64) -> i
     Ok(())
 }
 
+/// The references of a record that the call names.
+fn references_of<'a>(row: &Row<'a>) -> Option<References<'a>> {
+    match row.call {
+        "identifications" => Some(Preface::read(row.bytes).ok()?.identifications()),
+        "packages" => Some(ContentStorage::read(row.bytes).ok()?.packages()),
+        "tracks" => Some(Package::read(row.bytes).ok()?.tracks()),
+        _ => None,
+    }
+}
+
 /// `identifications PLACE` of a preface, `packages PLACE` of a storage, `tracks PLACE` of a package.
 fn tell_list(rt: &impl Print, row: &Row<'_>) -> io::Result<()> {
-    match row.call {
-        "identifications" => match Preface::read(row.bytes) {
-            Ok(preface) => tell_references(rt, preface.identifications(), row.numbers[0]),
-            Err(_) => Err(bad_row()),
-        },
-        "packages" => match ContentStorage::read(row.bytes) {
-            Ok(storage) => tell_references(rt, storage.packages(), row.numbers[0]),
-            Err(_) => Err(bad_row()),
-        },
-        "tracks" => match Package::read(row.bytes) {
-            Ok(package) => tell_references(rt, package.tracks(), row.numbers[0]),
-            Err(_) => Err(bad_row()),
-        },
-        _ => Err(bad_row()),
+    match references_of(row) {
+        Some(references) => tell_references(rt, references, row.numbers[0]),
+        None => Err(bad_row()),
     }
 }
 

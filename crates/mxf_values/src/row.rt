@@ -16,6 +16,26 @@ pub struct Row<'a> {
 }
 
 impl<'a> Row<'a> {
+    /// The row of the words ahead of its digits and the bytes that these spell.
+    pub fn of(front: &'a str, bytes: &'a [u8]) -> io::Result<Row<'a>> {
+        let mut words = front.split(' ');
+        let (Some(subject), Some(call)) = (words.next(), words.next()) else {
+            return Err(bad_row());
+        };
+        let numbers = [
+            number_of(words.next())?,
+            number_of(words.next())?,
+            number_of(words.next())?,
+            number_of(words.next())?,
+        ];
+        Ok(Row {
+            subject,
+            call,
+            numbers,
+            bytes,
+        })
+    }
+
     /// The first number, as the width of a length; 255 where it is greater.
     pub fn width(&self) -> u8 {
         self.numbers[0].min(0xFF) as u8
@@ -51,7 +71,7 @@ pub fn bad_row() -> Error {
 }
 
 /// The number that a word spells; 0 where there is no word.
-pub fn number_of(word: Option<&str>) -> io::Result<u64> {
+fn number_of(word: Option<&str>) -> io::Result<u64> {
     match word {
         Some(word) => word.parse().map_err(|_| bad_row()),
         None => Ok(0),

@@ -108,7 +108,7 @@ fn merges_partitions(alloc: Global, views: &mut Views, count: u64, bytes: &[u8])
 }
 
 /// Fills the copy of a partition, by the notes or the pieces of the row.
-fn fills(alloc: Global, views: &mut Views, row: &Row<'_>) -> bool {
+fn fills_copy(alloc: Global, views: &mut Views, row: &Row<'_>) -> bool {
     let (Some((key, head)), [count, ..]) = (row.key_and_rest(), row.numbers) else {
         return false;
     };
@@ -135,14 +135,18 @@ fn tell_held(rt: &impl Print, views: &Views) -> io::Result<()> {
 /// `notes COUNT`, `pieces COUNT`: views of a copy that is filled by notes, or by pieces of ten; the bytes are the key
 /// of these notes, and the partition pack and the primer pack at the front. `copies COUNT`: views of so many partitions
 /// with a copy each; the bytes are those of one.
-pub fn tell_views<R: Print + AllocGlobal>(rt: &R, row: &Row<'_>) -> io::Result<()> {
-    let mut views = Views::new(rt.alloc());
+fn tell_filled<R: Print + AllocGlobal>(rt: &R, views: &mut Views, row: &Row<'_>) -> io::Result<()> {
     let is_filled = match row.call {
-        "copies" => merges_partitions(rt.alloc(), &mut views, row.numbers[0], row.bytes),
-        _ => fills(rt.alloc(), &mut views, row),
+        "copies" => merges_partitions(rt.alloc(), views, row.numbers[0], row.bytes),
+        _ => fills_copy(rt.alloc(), views, row),
     };
     match is_filled {
-        true => tell_held(rt, &views),
+        true => tell_held(rt, views),
         false => Err(bad_row()),
     }
+}
+
+/// Prints the answer to a row of views.
+pub fn tell_views<R: Print + AllocGlobal>(rt: &R, row: &Row<'_>) -> io::Result<()> {
+    tell_filled(rt, &mut Views::new(rt.alloc()), row)
 }
