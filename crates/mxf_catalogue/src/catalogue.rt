@@ -84,7 +84,7 @@ impl Catalogue {
     /// Adds the note, which takes the place of its head where that is held. A held note, and the head of one, is
     /// `Repeated` and takes no memory.
     ///
-    /// The only fault is want of memory. The note comes back and the catalogue is unchanged: all memory is taken before
+    /// The only fault is out of memory. The note comes back and the catalogue is unchanged: all memory is taken before
     /// a note is moved.
     pub fn add(&mut self, note: Note) -> Result<Change, AddFault>
         ensures added { OnOk result (self.new ≡ reduced_with note self.old) }
@@ -139,7 +139,7 @@ impl Catalogue {
     /// An empty catalogue takes the other as it is. Notes that stand above all of these are put behind them. Otherwise
     /// the notes of both are put into new lists, in their order: one pass over both.
     ///
-    /// The only fault is want of memory. The other comes back and this catalogue is unchanged: all memory is taken
+    /// The only fault is out of memory. The other comes back and this catalogue is unchanged: all memory is taken
     /// before a note of either is moved.
     pub fn merge(&mut self, other: Catalogue) -> Result<(), MergeFault>
         ensures merged { OnOk result (self.new ≡ reduced_union self.old other) }

@@ -54,7 +54,7 @@ impl Cover {
     /// Adds the offsets from `start` up to `end`, in bytes, the end excluded. The start lies below the end, and the end
     /// at or below [`MAX`](mxf_klv::MAX).
     ///
-    /// The only fault is want of memory. The cover is unchanged then.
+    /// The only fault is out of memory. The cover is unchanged then.
     pub fn add(&mut self, start: u64, end: u64) -> Result<(), OutOfMemory>
         requires order { start < end }
         requires within { end ≤ greatest_end }

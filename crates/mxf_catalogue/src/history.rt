@@ -13,7 +13,7 @@ ghost use Rattle.mxf_catalogue.specs.History.{History, Add, Hands, HandsSame, co
 
 /// A law: what a history of calls leaves is a reduced content with exactly the located packets that it was handed: the
 /// notes, without the heads that one of these replaces. A note is handed to `add`, in the file that is read, or by a
-/// packet or the head of a piece that is absorbed. An `absorb` or `absorb_from` that failed, for want of memory or by a
+/// packet or the head of a piece that is absorbed. An `absorb` or `absorb_from` that failed, out of memory or by a
 /// failed read, hands the notes of the packets that it counts.
 pub fn histories_leave_what_they_were_handed()
     ensures content { (h : History) → IsContent (content h) }

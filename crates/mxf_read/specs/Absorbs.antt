@@ -25,7 +25,7 @@ abbrev pub GoesOnAt : ℕ → ℕ → List ℕ → ℕ → Type 0
 GoesOnAt count offset bytes place = IsSomeAnd (slice_get (notes_in offset bytes) count) (λ next. next.offset ≡ place)
 
 -- A piece at an offset is absorbed into an old content, which leaves a new one: all its notes are added, those of its
--- packets and the head of the one that its end cuts, and the report is that of the whole piece. Or, for want of memory,
+-- packets and the head of the one that its end cuts, and the report is that of the whole piece. Or, out of memory,
 -- those of its first `noted` packets are added and nothing else, and the packet of the next note, which there is,
 -- begins at `at`.
 abbrev pub Absorbs : List NoteParts → List NoteParts → ℕ → List ℕ → Result Report AbsorbFault → Type 0
@@ -35,7 +35,7 @@ Absorbs old new offset bytes (Err (OutOfMemory noted at)) =
     (new ≡ reduced_union old (first_notes_in noted offset bytes)) × GoesOnAt noted offset bytes at
 Absorbs old new offset bytes (Err (ReadFault noted at)) = ⊥
 
--- The history with the call: it was handed the notes of the piece, or for want of memory those of its first `noted`
+-- The history with the call: it was handed the notes of the piece, or out of memory those of its first `noted`
 -- packets.
 abbrev pub history_with : History → ℕ → List ℕ → Result Report AbsorbFault → History
 history_with h offset bytes (Ok report) = Absorb h offset bytes

@@ -34,7 +34,7 @@ use std::io::Read;
 /// The piece's own catalogue is made first and then moved into the views at once. So pieces may come in any order:
 /// beside its own packets a piece costs one pass over the held notes, and none where it follows all of them.
 ///
-/// The only fault is want of memory. Then the notes of the packets that it counts were added, and nothing else. Where
+/// The only fault is out of memory. Then the notes of the packets that it counts were added, and nothing else. Where
 /// the head alone found no room, all packets are counted, and the fault's place is the head's.
 pub fn absorb(
     alloc: Global,
@@ -123,7 +123,7 @@ pub fn absorb_from<R: Read>(
     outcome
 }
 
-/// Moves the notes of a piece at a file offset into the views. The only fault is want of memory, at the piece's offset,
+/// Moves the notes of a piece at a file offset into the views. The only fault is out of memory, at the piece's offset,
 /// where it has notes; then none was added.
 fn merge_notes(views: &mut Views, offset: u64, notes: Catalogue) -> Result<(), AbsorbFault>
     ensures merged { OnOk result (views.new ≡ reduced_union views.old notes) }
@@ -269,7 +269,7 @@ pub fn going_on_completes_a_piece()
         → content (Absorb (Cut h offset bytes noted) at (drop (at - offset) bytes)) ≡ content (Absorb h offset bytes) }
 {}
 
-/// A law of [`absorb_from`]: where it was refused, for want of memory or by a read that failed, absorbing the piece
+/// A law of [`absorb_from`]: where it was refused, out of memory or by a read that failed, absorbing the piece
 /// from the place that the fault tells leaves what absorbing the whole piece does, whatever bytes follow those that
 /// were taken. The packets of both together are as many, and the stop is the same.
 pub fn going_on_after_a_fault_completes_a_piece()

@@ -28,7 +28,7 @@ impl Model for PrimerLabels {
 }
 
 impl PrimerLabels {
-    /// The labels of a primer pack. It takes memory, and the only fault is want of it.
+    /// The labels of a primer pack. It takes memory, and the only fault is out of memory.
     pub fn of(alloc: Global, primer: &Primer<'_>) -> Result<PrimerLabels, OutOfMemory>
         ensures { IfOk result (λ table. (tag : ℕ) → label_in table tag ≡ label_of tag primer.now) }
     {
