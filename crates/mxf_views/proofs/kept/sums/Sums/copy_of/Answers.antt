@@ -1,6 +1,6 @@
 use Rattle.mxf_views.proofs.Common.{◌∙◌, ap, arith, sym, clear_notes, PartitionParts}
 use Rattle.mxf_views.proofs.SumLaws.{start_after}
-use Rattle.mxf_views.proofs.kept.sums.Sums.counted_copy.Goals as goal
+use Rattle.mxf_views.proofs.kept.sums.Sums.copy_of.Goals as goal
 
 pub counts-requires : goal.counts-requires
 counts-requires c =
