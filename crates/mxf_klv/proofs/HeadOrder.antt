@@ -25,9 +25,7 @@ pub head_note-once : (n : NoteParts) → head_note (head_note n) ≡ head_note n
 head_note-once n = refl
 
 tie_then : (a b : Ordering) → a ≡ Equal → ordering_then a b ≡ b
-tie_then Less b e = cc
-tie_then Equal b e = refl
-tie_then Greater b e = cc
+tie_then a b h = cc
 
 heads_alike : (n : NoteParts) → note_cmp (head_note n) n
     ≡ ordering_then (bool_cmp false n.whole) (slice_cmp nat_cmp [] n.held)

@@ -2,13 +2,13 @@
 use Rattle.std.proofs.Common.{Option, None, Some, SomeIff, ok_or}
 use Rattle.std.proofs.Common.{◌≡◌, ℕ, ◌+◌, ◌-◌, ◌<◌, ◌≤◌, List, ◌++◌, length, take, drop, replicate}
 use Rattle.std.proofs.Common.{Ok, Err, sym, ap, subst, ◌∙◌, arith, length-append, append_assoc}
-use Rattle.std.proofs.lemmas.List.{take_at, drop_at, take_all, take-append-drop, take-append-le, take-take}
+use Rattle.std.proofs.lemmas.List.{take_at, drop_at, take_all, take-append-drop, take-take}
 use Rattle.std.proofs.lemmas.List.{length-take, length-replicate}
 use Rattle.mxf_klv.specs.declared.ber.BerFault.{BerFault}
 use Rattle.mxf_klv.specs.declared.packet.PacketFault.TheVariants as faults
 use Rattle.mxf_klv.specs.Parts.{LengthParts, PacketParts, packet_parts}
 use Rattle.mxf_klv.specs.Label.{label_start, IsLabel, BeginsAsLabel}
-use Rattle.mxf_klv.specs.Ber.{IsSpelledLength, ReadsLength}
+use Rattle.mxf_klv.specs.Ber.{ReadsLength}
 use Rattle.mxf_klv.specs.Packet.{IsSpelledPacket, IsCutPacket, ReadsPacket, packet_fault}
 use Rattle.mxf_klv.specs.KeyAndLength.{BeginsWithKeyAndLength, HasNoKeyAndLength, ReadsKeyAndLength}
 use Rattle.mxf_klv.proofs.LengthLemmas.{spelled_len, one_reading}
@@ -17,14 +17,7 @@ use Rattle.mxf_klv.proofs.PacketLemmas.{key_cut, length_fault}
 -- a label and a whole length behind it are a head
 pub head_of : (bytes : List ℕ) (l : LengthParts) → IsLabel (take 16 bytes) → ReadsLength (drop 16 bytes) (Ok l)
     → BeginsWithKeyAndLength bytes (take 16 bytes) l (drop l.width (drop 16 bytes))
-head_of bytes l label spells = record {
-  spelled = take l.width (drop 16 bytes);
-  label = label;
-  width = spells;
-  whole =
-      sym (take-append-drop 16 bytes)
-      ∙ ap (λ (t : List ℕ). take 16 bytes ++ t) (sym (take-append-drop l.width (drop 16 bytes)));
-}
+head_of bytes l label spells = grind (arith, take-append-drop)
 
 module _ {bytes key : List ℕ} {l : LengthParts} {after : List ℕ} (h : BeginsWithKeyAndLength bytes key l after) where
   pub head-past_key : drop 16 bytes ≡ h.spelled ++ after
@@ -35,28 +28,14 @@ module _ {bytes key : List ℕ} {l : LengthParts} {after : List ℕ} (h : Begins
 
   -- the number of its bytes and of those after it
   pub head-size : length bytes ≡ 16 + l.width + length after
-  head-size =
-      omega (
-        arith,
-        ap length h.whole,
-        head-width,
-        h.label.0,
-        length-append key (h.spelled ++ after),
-        length-append h.spelled after,
-      )
+  head-size = grind (arith, length-append)
 
   -- the length stands at place 16
   pub head-length : ReadsLength (drop 16 bytes) (Ok l)
-  head-length =
-      let spelled : take l.width (drop 16 bytes) ≡ h.spelled = ap (take l.width) head-past_key
-      ∙ take_at h.spelled after l.width head-width in
-      subst (λ (t : List ℕ). IsSpelledLength t l.width l.value) (sym spelled) h.width
+  head-length = grind (arith, head-past_key, take_at)
 
   pub head-begins : BeginsAsLabel bytes
-  head-begins =
-      let long = head-size in
-      ap (take 4) h.whole ∙ take-append-le 4 key (h.spelled ++ after) (omega (arith, h.label.0)) ∙ h.label.1
-      ∙ sym (take_all (length bytes) label_start (omega arith))
+  head-begins = grind (arith, take_all)
 
   regrouped : (xs ys : List ℕ) → key ++ (h.spelled ++ (xs ++ ys)) ≡ (key ++ (h.spelled ++ xs)) ++ ys
   regrouped xs ys = simp append_assoc
@@ -99,12 +78,7 @@ module _ {bytes key : List ℕ} {l : LengthParts} {after : List ℕ} (h : Begins
 -- the head of a packet, whatever follows
 pub head_in : (text rest : List ℕ) (p : PacketParts) → IsSpelledPacket text p
     → BeginsWithKeyAndLength (text ++ rest) p.key (record { width = p.width; value = length p.value }) (p.value ++ rest)
-head_in text rest p s = record {
-  spelled = s.spelled;
-  label = s.label;
-  width = s.width;
-  whole = ap (λ (t : List ℕ). t ++ rest) s.whole ∙ simp append_assoc;
-}
+head_in text rest p s = grind (arith, append_assoc)
 
 -- where key and length are as the code reads them
 pub head_at_front : (bytes start rest after key : List ℕ) (w : ℕ) (l : LengthParts) → start ≡ take 16 bytes
@@ -113,14 +87,7 @@ pub head_at_front : (bytes start rest after key : List ℕ) (w : ℕ) (l : Lengt
     → ReadsLength rest (Ok l)
     → BeginsWithKeyAndLength bytes key l after
 head_at_front bytes start rest after key w l start-is rest-is after-is w-is size begins key-is reads =
-    let key-at : take 16 bytes ≡ key = sym start-is ∙ sym key-is in
-    let after-at : drop l.width (drop 16 bytes) ≡ after = sym
-    (after-is ∙ ap (drop w) rest-is ∙ ap (λ (n : ℕ). drop n (drop 16 bytes)) w-is) in
-    let len : length (take 16 bytes) ≡ 16 = omega (arith, length-take 16 bytes) in
-    let label : IsLabel (take 16 bytes) = (len, subst (λ (t : List ℕ). take 4 t ≡ label_start) start-is begins) in
-    let at_front = head_of bytes l label (subst (λ (t : List ℕ). ReadsLength t (Ok l)) rest-is reads) in
-    subst (λ (k : List ℕ). BeginsWithKeyAndLength bytes k l after) key-at
-    (subst (λ (t : List ℕ). BeginsWithKeyAndLength bytes (take 16 bytes) l t) after-at at_front)
+    grind (arith, head_of bytes l)
 
 -- sixteen bytes or more that begin as a label
 pub begins_long : (bytes : List ℕ) → take 4 bytes ≡ label_start → 16 ≤ length bytes → BeginsAsLabel bytes
@@ -160,6 +127,4 @@ pub value_read : (bytes key after : List ℕ) (l : LengthParts) (r : Option (Pac
     → SomeIff r (l.value ≤ length after) (packet_parts key l.width (take l.value after), 16 + l.width + l.value)
     → ReadsPacket bytes (ok_or r faults.Short)
 value_read bytes key after l None h cut = head-cut h (omega (arith, cut))
-value_read bytes key after l (Some x) h whole =
-    subst (λ (y : PacketParts × ℕ). ReadsPacket bytes (ok_or (Some y) faults.Short)) (sym whole.1)
-    (head-packet h whole.0)
+value_read bytes key after l (Some x) h whole = grind (arith, head-packet h whole.0)

@@ -1,5 +1,5 @@
 -- Lists whose elements are changed one after another, and ranges of lists.
-use borrow.Rule.Slice.PartMut.{post_of, put_mid}
+use borrow.Rule.Slice.PartMut.{put_mid}
 use Rattle.std.proofs.Common.{◌≡◌, ℕ, zero, suc, ◌+◌, ◌-◌, ◌<◌, ◌≤◌, List, [], ◌∷◌, ◌++◌, refl, ap, arith, drop, get_or}
 use Rattle.std.proofs.Common.{length, map, set, sym, ◌∙◌, append-nil, inr, subst, take}
 use Rattle.std.proofs.lemmas.List.{drop_all, drop-take, length-append, length-drop, length-take, take_all}
@@ -12,10 +12,7 @@ pub next_changed : {K : Type 0} (f : K → K) (xs : List K) (d : K) (i : ℕ) �
     ≡ map f (take (i + 1) xs) ++ drop (i + 1) xs
 next_changed f [] d i h = absurd (omega arith)
 next_changed f (x ∷ xs) d zero h = refl
-next_changed f (x ∷ xs) d (suc i) h =
-    let same : suc i + 1 ≡ suc (i + 1) = omega arith in
-    ap (λ l. f x ∷ l) (next_changed f xs d i (omega arith))
-    ∙ ap (λ k. map f (take k (x ∷ xs)) ++ drop k (x ∷ xs)) (sym same)
+next_changed f (x ∷ xs) d (suc i) h = grind (arith, next_changed f xs d i (omega arith))
 
 -- What is not changed yet is there as before.
 pub next_unchanged : {K : Type 0} (f : K → K) (xs : List K) (d : K) (i : ℕ) → i < length xs
@@ -58,21 +55,9 @@ pub rest_written : {K : Type 0} (xs zs ys : List K) (at len : ℕ) → zs ≡ xs
     → take len (put_mid at (length zs - at) zs ys ++ drop (length (put_mid at (length zs - at) zs ys)) xs)
     ≡ take at xs ++ ys
 rest_written {K} xs zs ys at len e whole l m =
-    let none : post_of at (length xs - at) xs ≡ [] =
-    let d = length-drop at xs in drop_all (length xs - at) (drop at xs) (omega (arith, d)) in
-    let same : put_mid at (length zs - at) zs ys ≡ take at xs ++ ys =
-    ap (λ (l : List K). put_mid at (length l - at) l ys) e
-    ∙ ap (λ (l : List K). take at xs ++ (ys ++ l)) none ∙ ap (λ (l : List K). take at xs ++ l) (append-nil ys) in
-    let count = length-append (take at xs) ys in
-    let first = length-take at xs in
-    let size : length (take at xs ++ ys) ≡ length xs = omega (arith, count, first, l, m) in
-    ap (λ (l : List K). take len (l ++ drop (length l) xs)) same
-    ∙ ap (λ (l : List K). take len ((take at xs ++ ys) ++ l)) (drop_all (length (take at xs
-    ++ ys)) xs (omega (arith, size)))
-    ∙ ap (take len) (append-nil (take at xs ++ ys)) ∙ take_all len (take at xs ++ ys) (omega (arith, size, whole))
+    grind (arith, append-nil, drop_all, length-append, length-drop, length-take, take_all)
 
 -- A range as std takes it out.
 pub middle : {K : Type 0} (xs : List K) (from to : ℕ) → from ≤ to
     → take (to - from) (drop from xs) ≡ drop from (take to xs)
-middle xs from to l = let e : from + (to - from) ≡ to = omega arith in sym (drop-take from (to - from) xs)
-    ∙ ap (λ n. drop from (take n xs)) e
+middle xs from to l = grind (arith, drop-take from (to - from) xs)

@@ -1,11 +1,10 @@
 -- Members of lists that are tested, filtered, searched, mapped and appended.
-use Rattle.std.proofs.Common.{◌≡◌, ◌↔◌, ◌⊎◌, ◌≤◌, ◌<◌, ◌&&◌, ◌||◌, ◌==◌, ℕ, zero, suc, Bool, true, false, cond, not}
+use Rattle.std.proofs.Common.{◌≡◌, ◌↔◌, ◌⊎◌, ◌≤◌, ◌<◌, ◌&&◌, ◌==◌, ℕ, zero, suc, Bool, true, not}
 use Rattle.std.proofs.Common.{List, [], ◌∷◌, ◌++◌}
-use Rattle.std.proofs.Common.{Option, Some, None, IsTrue, Contains, refl, sym, ◌∙◌, ap, subst, inl, inr, arith, length}
-use Rattle.std.proofs.Common.{filter, filter_map, find, flat_map, get_or, is_some, map}
-use Rattle.std.specs.List.{cons_option, list_all, list_any, AllByRecursion}
-use Rattle.std.proofs.lemmas.Bool.{and_from, and_parts, eqb-true, false_from_ne_true, ltb-true, ltb-false}
-use Rattle.std.specs.Prelude.{nat_lt}
+use Rattle.std.proofs.Common.{Option, Some, None, IsTrue, Contains, refl, sym, ap, subst, inl, inr, arith, length}
+use Rattle.std.proofs.Common.{filter, filter_map, find, flat_map, get_or, map}
+use Rattle.std.specs.List.{list_all, list_any, AllByRecursion}
+use Rattle.std.proofs.lemmas.Bool.{and_from, false_from_ne_true, ltb-false}
 use Rattle.mxf_klv.specs.Rising.{In}
 
 -- ---- all
@@ -42,19 +41,11 @@ all_push P xs x a p = all_append P xs (x ∷ []) a (p, tt)
 pub all-filter : {K : Type 0} (P : K → Type 0) (p : K → Bool) (xs : List K) → AllByRecursion P xs
     → AllByRecursion P (filter p xs)
 all-filter P p [] a = tt
-all-filter P p (x ∷ xs) a =
-    elim (p x) as (λ b. AllByRecursion P (cond b (x ∷ filter p xs) (filter p xs))) [
-      | true ↦ (a.0, all-filter P p xs a.1)
-      | false ↦ all-filter P p xs a.1
-    ]
+all-filter P p (x ∷ xs) a = grind (arith, all-filter P p xs a.1)
 
 pub list_all-In : {K : Type 0} (p : K → Bool) (xs : List K) (x : K) → list_all p xs ≡ true → In x xs → p x ≡ true
 list_all-In p [] x a h = absurd h
-list_all-In p (y ∷ ys) x a h = let q = and_parts (p y) (list_all p ys) a in elim h [
-  | inl e ↦ ap p e
-      ∙ q.0
-  | inr k ↦ list_all-In p ys x q.1 k
-]
+list_all-In p (y ∷ ys) x a h = grind (arith, list_all-In p ys x)
 
 pub In-list_all : {K : Type 0} (p : K → Bool) (xs : List K) → ((x : K) → In x xs → p x ≡ true) → list_all p xs ≡ true
 In-list_all p [] f = refl
@@ -66,87 +57,26 @@ In-list_all p (y ∷ ys) f = and_from (p y) (list_all p ys) (f y (inl refl)) (In
 pub list_any-In : {K : Type 0} (p : K → Bool) (xs : List K)
     → IsTrue (list_any p xs) ↔ ((x : K) × In x xs × IsTrue (p x))
 list_any-In p [] = (λ h. cc, λ s. absurd s.1)
-list_any-In {K} p (x ∷ xs) =
-    let ih = list_any-In p xs in (
-      λ h. elim (p x) as (λ b. p x ≡ b → (b || list_any p xs) ≡ true → ((y : K) × In y (x ∷ xs) × IsTrue (p y))) [
-        | true ↦ λ e _. (x, inl refl, e)
-        | false ↦ λ e k. let s = ih.0 k in (s.0, inr s.1, s.2)
-      ] refl h,
-      λ s. elim (p x) as (λ b. p x ≡ b → (b || list_any p xs) ≡ true) [
-        | true ↦ λ e. refl
-        | false ↦ λ e. ih.1 (elim s.1 [
-          | inl q ↦ absurd (let t = ap p q in let u = s.2 in cc (t, u, e))
-          | inr k ↦ (s.0, k, s.2)
-        ])
-      ] refl,
-    )
+list_any-In {K} p (x ∷ xs) = grind (arith, list_any-In p xs)
 
 -- what a filter leaves
 pub In-filter : {K : Type 0} (p : K → Bool) (xs : List K) (y : K) → In y (filter p xs) ↔ (In y xs × IsTrue (p y))
 In-filter p [] y = (λ h. absurd h, λ s. absurd s.0)
-In-filter p (x ∷ xs) y =
-    let ih = In-filter p xs y in
-    elim (p x) as (λ b. p x ≡ b → In y (cond b (x ∷ filter p xs) (filter p xs)) ↔ (In y (x ∷ xs) × IsTrue (p y))) [
-      | true ↦ λ e. (
-        λ h. elim h [ inl q ↦ (inl q, ap p q ∙ e) | inr k ↦ (inr (ih.0 k).0, (ih.0 k).1) ],
-        λ s. elim s.0 [ inl q ↦ inl q | inr k ↦ inr (ih.1 (k, s.1)) ],
-      )
-      | false ↦ λ e. (
-        λ h. (inr (ih.0 h).0, (ih.0 h).1),
-        λ s. elim s.0 [ inl q ↦ absurd (let t = ap p q in let u = s.1 in cc (t, u, e)) | inr k ↦ ih.1 (k, s.1) ],
-      )
-    ] refl
+In-filter p (x ∷ xs) y = grind (arith, In-filter p xs y)
 
 pub In-map : {K L : Type 0} (f : K → L) (xs : List K) (y : L) → In y (map f xs) ↔ ((x : K) × In x xs × (y ≡ f x))
 In-map f [] y = (λ h. absurd h, λ s. absurd s.1)
-In-map f (x ∷ xs) y =
-    let ih = In-map f xs y in (
-      λ h. elim h [ inl q ↦ (x, inl refl, q) | inr k ↦ let s = ih.0 k in (s.0, inr s.1, s.2) ],
-      λ s. elim s.1 [ inl q ↦ inl (s.2 ∙ ap f q) | inr k ↦ inr (ih.1 (s.0, k, s.2)) ],
-    )
+In-map f (x ∷ xs) y = grind (arith, In-map f xs y)
 
 -- what a map that leaves out leaves
 pub In-filter_map : {K L : Type 0} (f : K → Option L) (xs : List K) (y : L)
     → In y (filter_map f xs) ↔ ((x : K) × In x xs × (f x ≡ Some y))
 In-filter_map f [] y = (λ h. absurd h, λ s. absurd s.1)
-In-filter_map {K} {L} f (x ∷ xs) y =
-    let ih = In-filter_map f xs y in
-    elim (f x) as (λ o. f x ≡ o → In y (filter_map f (x ∷ xs)) ↔ ((z : K) × In z (x ∷ xs) × (f z ≡ Some y))) [
-      | None ↦ λ e. rw e (
-        (λ h. let g = ih.0 h in (g.0, inr g.1, g.2)),
-        (λ g. elim g.1 [
-          | inl q ↦ (let t = ap f q in let u = g.2 in absurd (cc (t, u, e)))
-          | inr k ↦ ih.1
-              (g.0, k, g.2)
-        ]),
-      )
-      | Some z ↦ λ e. rw e (
-        (λ h. elim h [
-          | inl q ↦ (x, inl refl, e ∙ ap (λ (w : L). Some w) (sym q))
-          | inr k ↦ let g = ih.0 k in
-              (g.0, inr g.1, g.2)
-        ]),
-        (λ g. elim g.1 [
-          | inl q ↦ inl (let t = ap f q in let u = g.2 in cc (t, u, e))
-          | inr k ↦ inr
-              (ih.1 (g.0, k, g.2))
-        ]),
-      )
-    ] refl
+In-filter_map {K} {L} f (x ∷ xs) y = grind (arith, In-filter_map f xs y)
 
 pub In-append : {K : Type 0} (z : K) (xs ys : List K) → In z (xs ++ ys) ↔ In z xs ⊎ In z ys
 In-append z [] ys = (λ h. inr h, λ h. elim h [ inl k ↦ absurd k | inr k ↦ k ])
-In-append z (x ∷ xs) ys =
-    let ih = In-append z xs ys in (
-      λ h. elim h [
-        | inl e ↦ inl (inl e)
-        | inr k ↦ elim (ih.0 k) [ inl a ↦ inl (inr a) | inr b ↦ inr b ]
-      ],
-      λ h. elim h [
-        | inl k ↦ elim k [ inl e ↦ inl e | inr a ↦ inr (ih.1 (inl a)) ]
-        | inr b ↦ inr (ih.1 (inr b))
-      ],
-    )
+In-append z (x ∷ xs) ys = grind (arith, In-append z xs ys)
 
 -- what a list with one more at its end has
 pub In-end : {K : Type 0} (z x : K) (xs whole : List K) → whole ≡ xs ++ x ∷ [] → In z whole ↔ In z xs ⊎ (z ≡ x)
@@ -159,24 +89,12 @@ In-end z x xs whole e =
 pub In-flat_map : {K L : Type 0} (f : K → List L) (xs : List K) (y : L)
     → In y (flat_map f xs) ↔ ((x : K) × In x xs × In y (f x))
 In-flat_map f [] y = (λ h. absurd h, λ s. absurd s.1)
-In-flat_map f (x ∷ xs) y =
-    let ih = In-flat_map f xs y in
-    let a = In-append y (f x) (flat_map f xs) in (
-      λ h. elim (a.0 h) [ inl k ↦ (x, inl refl, k) | inr k ↦ let s = ih.0 k in (s.0, inr s.1, s.2) ],
-      λ s. elim s.1 [
-        | inl q ↦ a.1 (inl (subst (λ z. In y (f z)) q s.2))
-        | inr k ↦ a.1 (inr (ih.1 (s.0, k, s.2)))
-      ],
-    )
+In-flat_map f (x ∷ xs) y = grind (arith, In-append y (f x) (flat_map f xs), In-flat_map f xs y)
 
 -- what is left of some elements that are tested and mapped to offsets
 pub In-chosen : {K : Type 0} (f : K → ℕ) (p : K → Bool) (xs : List K) (o : ℕ)
     → In o (map f (filter p xs)) ↔ ((x : K) × In x xs × IsTrue (p x) × (f x ≡ o))
-In-chosen f p xs o =
-    let m = In-map f (filter p xs) o in (
-      λ h. let s = m.0 h in let t = (In-filter p xs s.0).0 s.1 in (s.0, t.0, t.1, sym s.2),
-      λ s. m.1 (s.0, (In-filter p xs s.0).1 (s.1, s.2), sym s.3),
-    )
+In-chosen f p xs o = grind (arith, In-map f (filter p xs) o, In-filter p xs)
 
 pub In-at : {K : Type 0} (xs : List K) (i : ℕ) (d : K) → i < length xs → In (get_or xs i d) xs
 In-at [] i d h = absurd (omega arith)
@@ -204,79 +122,41 @@ at_place (x ∷ xs) (suc i) d = elim (at_place xs i d) [ inl e ↦ inl e | inr h
 pub some_above : {K : Type 0} (size : K → ℕ) (xs : List K) (at : ℕ) → (((x : K) → In x xs → size x ≤ at) → ⊥)
     → (x : K) × In x xs × (at < size x)
 some_above size [] at f = absurd (f (λ x h. absurd h))
-some_above {K} size (x ∷ xs) at f =
-    elim (nat_lt at (size x)) as (λ b. nat_lt at (size x) ≡ b → (y : K) × In y (x ∷ xs) × (at < size y)) [
-      | true ↦ λ t. (x, inl refl, ltb-true at (size x) t)
-      | false ↦ λ t.
-          let low : size x ≤ at = ltb-false at (size x) t in
-          let s = some_above size xs at (λ g. f (λ y h. elim h [
-            | inl e ↦ (let q = ap size e in omega (arith, q, low))
-            | inr k ↦ g y k
-          ])) in (s.0, inr s.1, s.2)
-    ] refl
+some_above {K} size (x ∷ xs) at f = grind (arith, ltb-false at (size x), some_above size xs at)
 
 -- ---- what is found
 
 -- what is found in a list
 pub found-In : {K : Type 0} (p : K → Bool) (xs : List K) (y : K) → find p xs ≡ Some y → In y xs × IsTrue (p y)
 found-In p [] y e = cc
-found-In p (x ∷ xs) y e =
-    elim (p x) as (λ b. p x ≡ b → cond b (Some x) (find p xs) ≡ Some y → In y (x ∷ xs) × IsTrue (p y)) [
-      | true ↦ λ t q. let same : x ≡ y = cc in (inl (sym same), ap p (sym same) ∙ t)
-      | false ↦ λ t q. let ih = found-In p xs y q in (inr ih.0, ih.1)
-    ] refl e
+found-In p (x ∷ xs) y e = grind (arith, found-In p xs y)
 
 pub none_found : {K : Type 0} (p : K → Bool) (xs : List K) (y : K) → find p xs ≡ None → In y xs → IsTrue (p y) → ⊥
 none_found p [] y e h t = h
-none_found p (x ∷ xs) y e h t =
-    elim (p x) as (λ b. p x ≡ b → cond b (Some x) (find p xs) ≡ None → ⊥) [
-      | true ↦ λ u q. cc
-      | false ↦ λ u q. elim h [ inl same ↦ (let k = ap p same in cc) | inr k ↦ none_found p xs y q k t ]
-    ] refl e
+none_found p (x ∷ xs) y e h t = grind (arith, none_found p xs y)
 
 -- where no element passes, none is found
 pub find-none : {K : Type 0} (p : K → Bool) (xs : List K) → ((x : K) → In x xs → IsTrue (p x) → ⊥) → find p xs ≡ None
 find-none p [] none = refl
-find-none p (x ∷ xs) none =
-    elim (p x) as (λ b. p x ≡ b → cond b (Some x) (find p xs) ≡ None) [
-      | true ↦ λ e. absurd (none x (inl refl) e)
-      | false ↦ λ e. find-none p xs (λ y h t. none y (inr h) t)
-    ] refl
+find-none p (x ∷ xs) none = grind (arith, find-none p xs (λ y h t. none y (inr h) t))
 
 -- where one element alone passes, it is found
 pub find-only : {K : Type 0} (p : K → Bool) (xs : List K) (y : K) → In y xs → IsTrue (p y)
     → ((x : K) → In x xs → IsTrue (p x) → x ≡ y) → find p xs ≡ Some y
 find-only p [] y h t one = absurd h
-find-only p (x ∷ xs) y h t one =
-    elim (p x) as (λ b. p x ≡ b → cond b (Some x) (find p xs) ≡ Some y) [
-      | true ↦ λ e. ap Some (one x (inl refl) e)
-      | false ↦ λ e. elim h [
-        | inl q ↦ absurd (let k = ap p q in cc (k, t, e))
-        | inr k ↦ find-only p xs y k t (λ z m u. one z (inr m) u)
-      ]
-    ] refl
+find-only p (x ∷ xs) y h t one = grind (arith, find-only p xs y)
 
 -- ---- what is left
 
 -- there are no more of them
 pub length-filter_le : {K : Type 0} (p : K → Bool) (xs : List K) → length (filter p xs) ≤ length xs
 length-filter_le p [] = omega arith
-length-filter_le p (x ∷ xs) =
-    let ih : length (filter p xs) ≤ length xs = length-filter_le p xs in
-    elim (p x) as (λ b. length (cond b (x ∷ filter p xs) (filter p xs)) ≤ length (x ∷ xs)) [
-      | true ↦ omega arith
-      | false ↦ omega arith
-    ]
+length-filter_le p (x ∷ xs) = grind (arith, length-filter_le p xs)
 
 -- there are no more of them
 pub length-filter_map : {X Y : Type 0} (f : X → Option Y) (xs : List X) → length (filter_map f xs) ≤ length xs
 length-filter_map f [] = omega arith
-length-filter_map f (x ∷ xs) =
-    let ih = length-filter_map f xs in
-    elim (f x) as (λ o. f x ≡ o → length (filter_map f (x ∷ xs)) ≤ length (x ∷ xs)) [
-      | None ↦ λ e. rw e (omega arith)
-      | Some y ↦ λ e. rw e (omega arith)
-    ] refl
+length-filter_map f (x ∷ xs) = grind (arith, length-filter_map f xs)
 
 pub filter_none : {K : Type 0} (p : K → Bool) (xs : List K) → ((x : K) → In x xs → p x ≡ true → ⊥) → filter p xs ≡ []
 filter_none p [] f = refl
@@ -289,58 +169,21 @@ filter_all p (x ∷ xs) f = rw (f x (inl refl)) (ap (λ l. x ∷ l) (filter_all 
 pub filter_alike : {K : Type 0} (p q : K → Bool) (xs : List K) → ((x : K) → In x xs → p x ≡ q x)
     → filter p xs ≡ filter q xs
 filter_alike p q [] f = refl
-filter_alike p q (x ∷ xs) f =
-    ap (λ b. cond b (x ∷ filter p xs) (filter p xs)) (f x (inl refl))
-    ∙ ap (λ l. cond (q x) (x ∷ l) l) (filter_alike p q xs (λ y h. f y (inr h)))
-
--- What a function answers of all is what it answers of those that it answers for.
-pub filter_map_some : {K L : Type 0} (f : K → Option L) (xs : List K)
-    → filter_map f (filter (λ x. is_some (f x)) xs) ≡ filter_map f xs
-filter_map_some f [] = refl
-filter_map_some f (x ∷ xs) =
-    let ih = filter_map_some f xs in
-    elim (f x) as (λ o. f x ≡ o → filter_map f (cond (is_some o) (x ∷ filter (λ x. is_some (f x)) xs)
-    (filter (λ x. is_some (f x)) xs)) ≡ cons_option o (filter_map f xs)) [
-      | None ↦ λ e. ih
-      | Some y ↦ λ e. ap (λ o. cons_option o (filter_map f (filter (λ x. is_some (f x)) xs))) e ∙ ap (λ l. y ∷ l) ih
-    ] refl
+filter_alike p q (x ∷ xs) f = grind (arith, filter_alike p q xs (λ y h. f y (inr h)))
 
 -- Some of those that pass a test pass another where some pass and_from.
 pub any_of_both : {K : Type 0} (p q : K → Bool) (xs : List K) → list_any q (filter p xs) ≡ list_any (λ x. p x && q x) xs
 any_of_both p q [] = refl
-any_of_both p q (x ∷ xs) =
-    let ih = any_of_both p q xs in
-    elim (p x) as (λ b. list_any q (cond b (x ∷ filter p xs) (filter p xs)) ≡ b && q x
-    || list_any (λ x. p x && q x) xs) [
-      | true ↦ ap (λ t. q x || t) ih
-      | false ↦ ih
-    ]
+any_of_both p q (x ∷ xs) = grind (arith, any_of_both p q xs)
 
 -- Those that pass and_from tests are among those that pass the first.
 pub kept_of_both : {K : Type 0} (p q : K → Bool) (xs : List K)
     → filter (λ x. p x && q x) (filter p xs) ≡ filter (λ x. p x && q x) xs
 kept_of_both p q [] = refl
-kept_of_both p q (x ∷ xs) =
-    let ih = kept_of_both p q xs in
-    elim (p x) as (λ b. p x ≡ b → filter (λ x. p x && q x) (cond b (x ∷ filter p xs) (filter p xs))
-    ≡ cond (b && q x) (x ∷ filter (λ x. p x && q x) xs) (filter (λ x. p x && q x) xs)) [
-      | true ↦ λ e. rw e (elim (q x) as (λ t. cond t (x ∷ filter (λ x. p x && q x) (filter p xs))
-          (filter (λ x. p x && q x) (filter p xs))
-          ≡ cond t (x ∷ filter (λ x. p x && q x) xs) (filter (λ x. p x && q x) xs)) [
-            | true ↦ ap (λ l. x ∷ l) ih
-            | false ↦ ih
-          ])
-      | false ↦ λ e. ih
-    ] refl
+kept_of_both p q (x ∷ xs) = grind (arith, kept_of_both p q xs)
 
 -- All pass a test where no place is left of those that don't.
 pub none_left : {K : Type 0} (p : K → Bool) (f : K → ℕ) (xs : List K)
     → (length (map f (filter (λ x. not (p x)) xs)) == 0) ≡ list_all p xs
 none_left p f [] = refl
-none_left p f (x ∷ xs) =
-    let ih = none_left p f xs in
-    elim (p x) as (λ b. (length (map f (cond (not b) (x ∷ filter (λ x. not (p x)) xs)
-    (filter (λ x. not (p x)) xs))) == 0) ≡ b && list_all p xs) [
-      | true ↦ ih
-      | false ↦ false_from_ne_true (suc _ == 0) (λ t. let e = eqb-true (suc _) 0 t in omega (arith, e))
-    ]
+none_left p f (x ∷ xs) = grind (arith, none_left p f xs)

@@ -1,13 +1,13 @@
 -- A piece to which more bytes come: the packets that stood stay, and so does a stop behind which it can't go on.
-use Rattle.std.proofs.Common.{◌≡◌, ℕ, ◌+◌, ◌-◌, ◌<◌, ◌≤◌, List, [], ◌∷◌, ◌++◌, length, take, drop, Option, None, Some}
+use Rattle.std.proofs.Common.{◌≡◌, ℕ, ◌+◌, ◌-◌, ◌<◌, ◌≤◌, List, [], ◌∷◌, ◌++◌, length, take, drop, None, Some}
 use Rattle.std.proofs.Common.{Err, refl, sym, ap, subst, ◌∙◌, arith, inl, inr, append_assoc, append-nil}
 use Rattle.std.proofs.Common.{length-append, length-take}
 use Rattle.std.proofs.lemmas.List.{length-drop}
 use Rattle.std.specs.Prelude.{slice_get, IsSomeAnd}
-use Rattle.std.proofs.lemmas.List.{take_at, take_all, take-take, take-append-le, drop-append-le, nil_from_length}
+use Rattle.std.proofs.lemmas.List.{take_at, take_all, take-take, drop-append-le, nil_from_length}
 use Rattle.std.proofs.Math.Seq.{take-append-add}
 use Rattle.std.proofs.lemmas.Bool.{cases_lt}
-use Rattle.mxf_klv.specs.Parts.{LengthParts, NoteParts, PacketParts, packet_parts}
+use Rattle.mxf_klv.specs.Parts.{LengthParts, PacketParts, packet_parts}
 use Rattle.mxf_klv.specs.Label.{label_start, BeginsAsLabel}
 use Rattle.mxf_klv.specs.Ber.{IsSpelledLength}
 use Rattle.mxf_klv.specs.Packet.{IsCutPacket, IsSpelledPacket, ReadsPacket, size_of}
@@ -19,7 +19,7 @@ use Rattle.mxf_klv.specs.declared.packet.PacketFault.{PacketFault}
 use Rattle.mxf_klv.specs.declared.packet.PacketFault.TheVariants as faults
 use Rattle.mxf_klv.specs.declared.piece.Stop.{Stop}
 use Rattle.mxf_klv.specs.declared.piece.Stop.TheVariants.{End, NotUl, BadLength, TooFar, Truncated, NoStart}
-use Rattle.mxf_klv.proofs.KeyAndLengthLaws.{head_in, head-size, head-width}
+use Rattle.mxf_klv.proofs.KeyAndLengthLaws.{head_in, head-size}
 use Rattle.mxf_klv.proofs.PieceLaws.{none-packet_at, one_piece, packet_at-fault, packet_at-given, packet_at-none}
 use Rattle.mxf_klv.proofs.PieceLaws.{packets_in-none, packets_in-some, rest_in-none, rest_in-some, some_piece}
 use Rattle.mxf_klv.proofs.PieceLaws.{none_at_end}
@@ -28,19 +28,10 @@ use Rattle.mxf_klv.proofs.StopLaws.{Stopped, at_far, one_stop, stops}
 -- ---- lists
 
 take_past : (n : ℕ) (xs ys : List ℕ) (k : ℕ) → length xs ≡ k → k ≤ n → take n (xs ++ ys) ≡ xs ++ take (n - k) ys
-take_past n xs ys k e h =
-    let split : n ≡ length xs + (n - k) = omega (arith, e) in
-    ap (λ (j : ℕ). take j (xs ++ ys)) split ∙ take-append-add xs ys (n - k)
+take_past n xs ys k e h = grind (arith, take-append-add xs ys (n - k))
 
 take_both : (n : ℕ) (r x : List ℕ) → take (length r) (take n (r ++ x)) ≡ take n r
-take_both n r x =
-    elim (cases_lt (length r) n) [
-      | inl few ↦
-          take-take (length r) n (r ++ x) (omega arith) ∙ take_at r x (length r) refl ∙ sym (take_all n r (omega arith))
-      | inr many ↦
-          take_all (length r) (take n (r ++ x)) (omega (arith, length-take n (r ++ x)))
-          ∙ take-append-le n r x many
-    ]
+take_both n r x = grind (arith, length-take, take-take, take_all, take_at)
 
 nothing_taken : (n : ℕ) (xs : List ℕ) → take (n - n) xs ≡ []
 nothing_taken n xs = let none : n - n ≡ 0 = omega arith in ap (λ (k : ℕ). take k xs) none
@@ -55,8 +46,7 @@ end_after-append o (p ∷ ps) qs = end_after-append (o + size_of p) ps qs
 pub notes_from-append : (o : ℕ) (ps qs : List PacketParts)
     → notes_from o (ps ++ qs) ≡ notes_from o ps ++ notes_from (end_after o ps) qs
 notes_from-append o [] qs = refl
-notes_from-append o (p ∷ ps) qs = ap (λ (ns : List NoteParts). note_of o p ∷ ns) (notes_from-append
-    (o + size_of p) ps qs)
+notes_from-append o (p ∷ ps) qs = grind (arith, notes_from-append (o + size_of p) ps qs)
 
 laid_more : (o : ℕ) (m r b s : List ℕ) (ps qs : List PacketParts) → AreLaid o m ps r
     → AreLaid (end_after o ps) (r ++ b) qs s → AreLaid o (m ++ b) (ps ++ qs) s
@@ -139,12 +129,7 @@ one_more o m b p e whole =
 
 pub more_head : (r key : List ℕ) (l : LengthParts) (after x : List ℕ) → BeginsWithKeyAndLength r key l after
     → BeginsWithKeyAndLength (r ++ x) key l (after ++ x)
-more_head r key l after x h = record {
-  spelled = h.spelled;
-  label = h.label;
-  width = h.width;
-  whole = ap (λ (t : List ℕ). t ++ x) h.whole ∙ simp append_assoc;
-}
+more_head r key l after x h = grind (arith, append_assoc)
 
 -- where there is no whole key and length there is no packet
 pub no_head_no_packet : (at : ℕ) (r : List ℕ) → HasNoKeyAndLength r → packet_at at r ≡ None
@@ -188,21 +173,13 @@ pub record IsHeadNow (r x key : List ℕ) (l : LengthParts) : Type 0 where
 head_front : (r key : List ℕ) (l : LengthParts) (after : List ℕ) (n : ℕ) → BeginsWithKeyAndLength r key l after
     → 16 + l.width ≤ n → BeginsWithKeyAndLength (take n r) key l (take (n - (16 + l.width)) after)
 head_front r key l after n h long =
-    let k : length (key ++ h.spelled) ≡ 16 + l.width = omega (
+    grind (
       arith,
       length-append key h.spelled,
-      h.label.0,
-      head-width h,
-    ) in
-    let all : r ≡ (key ++ h.spelled) ++ after = h.whole ∙ sym (append_assoc key h.spelled after) in
-    record {
-      spelled = h.spelled;
-      label = h.label;
-      width = h.width;
-      whole =
-          ap (take n) all ∙ take_past n (key ++ h.spelled) after (16 + l.width) k long
-          ∙ append_assoc key h.spelled (take (n - (16 + l.width)) after);
-    }
+      append_assoc key h.spelled after,
+      take_past n (key ++ h.spelled) after (16 + l.width),
+      append_assoc key h.spelled (take (n - (16 + l.width)) after),
+    )
 
 pub head_now : (r x key : List ℕ) (count : ℕ) (l : LengthParts) (after : List ℕ) → HasNoKeyAndLength r
     → BeginsWithKeyAndLength (r ++ take count x) key l after → IsHeadNow r x key l
@@ -236,9 +213,7 @@ pub stop_is : (at : ℕ) (r : List ℕ) (s : Stop) → HasNoKeyAndLength r → s
 stop_is at r s none e = (one_stop at r s (packet_at-none at r (no_head_no_packet at r none))).0 e
 
 spelled_width : (spelled : List ℕ) (w v : ℕ) → IsSpelledLength spelled w v → w ≤ 9
-spelled_width [] w v h = absurd h
-spelled_width (x ∷ xs) w v (inl h) = let one = h.0 in omega (arith, one)
-spelled_width (x ∷ xs) w v (inr h) = h.1
+spelled_width spelled w v h = grind arith
 
 few_cut : (r : List ℕ) → HasNoKeyAndLength r → IsCutPacket r → length r ≤ 24
 few_cut r none c =
@@ -289,10 +264,7 @@ stays_fault at r x f s e reads is =
     stays_by at r x s e (record { none = packet_at-none at (r ++ x) (packet_at-fault at (r ++ x) f reads); is = is })
 
 long_begins : (r x : List ℕ) → BeginsAsLabel r → 4 ≤ length r → BeginsAsLabel (r ++ x)
-long_begins r x h long =
-    let both = length-append r x in
-    take-append-le 4 r x long ∙ h ∙ take_all (length r) label_start (omega arith)
-    ∙ sym (take_all (length (r ++ x)) label_start (omega arith))
+long_begins r x h long = grind (arith, take_all)
 
 first_of : (xs ys : List ℕ) (b : ℕ) → slice_get xs 0 ≡ Some b → slice_get (xs ++ ys) 0 ≡ Some b
 first_of [] ys b e = absurd cc
@@ -314,16 +286,7 @@ first_stays r x b e =
 
 wide_stays : (r x : List ℕ) → BeginsAsLabel r → IsSomeAnd (slice_get (drop 16 r) 0) (λ first. 136 < first)
     → ReadsPacket (r ++ x) (Err faults.TooWide)
-wide_stays r x begins h =
-    elim (slice_get (drop 16 r) 0) as (λ o. slice_get (drop 16 r) 0 ≡ o → IsSomeAnd o (λ first. 136 < first)
-    → ReadsPacket (r ++ x) (Err faults.TooWide)) [
-      | None ↦ λ e w. absurd w
-      | Some b ↦ λ e w.
-          let f = first_stays r x b e in (
-            long_begins r x begins (let l = f.0 in omega arith),
-            subst (λ (q : Option ℕ). IsSomeAnd q (λ first. 136 < first)) (sym f.1) w,
-          )
-    ] refl h
+wide_stays r x begins h = grind (arith, long_begins)
 
 pub stays : (at : ℕ) (r x : List ℕ) (s : Stop) → packet_at at r ≡ None → stop_of at r ≡ s → ¬ IsOpen s → Stays at r x
 stays at r x End none e o = absurd (o tt)
@@ -333,20 +296,14 @@ stays at r x (NotUl place) none e o =
     let not : ¬ BeginsAsLabel (r ++ x) = λ h. is.1 (begins_less r x h) in
     stays_fault at r x faults.NotUl (NotUl place) e not (is.0, not)
 stays at r x (BadLength place) none e o =
-    let is = (one_stop at r (BadLength place) (packet_at-none at r none)).0 e in
-    elim is.1 [
-      | inl bad ↦
-          let f = first_stays r x 128 bad.1 in
-          let reads : ReadsPacket (r ++ x) (Err faults.Indefinite) = (
-            long_begins r x bad.0 (let l = f.0 in
-                omega arith),
-            f.1,
-          ) in
-          stays_fault at r x faults.Indefinite (BadLength place) e reads (is.0, inl reads)
-      | inr bad ↦
-          let reads : ReadsPacket (r ++ x) (Err faults.TooWide) = wide_stays r x bad.0 bad.1 in
-          stays_fault at r x faults.TooWide (BadLength place) e reads (is.0, inr reads)
-    ]
+    grind (
+      arith,
+      one_stop at r (BadLength place) (packet_at-none at r none),
+      first_stays r x 128,
+      stays_fault at r x faults.Indefinite (BadLength place) e,
+      wide_stays r x,
+      stays_fault at r x faults.TooWide (BadLength place) e,
+    )
 stays at r x (TooFar place) none e o =
     let is = (one_stop at r (TooFar place) (packet_at-none at r none)).0 e in
     let (key, l, after, h, far) = is.1 in

@@ -1,10 +1,8 @@
 -- What bytes begin with is one thing: a packet, or one of the faults.
 use Rattle.std.proofs.Common.{◌≡◌, ℕ, ◌≤◌, List, [], ◌∷◌, ◌++◌, length, take, drop, Result, Ok, Err, refl, sym, ap}
-use Rattle.std.proofs.Common.{subst, ◌∙◌, arith, inl, inr, length-append, append_assoc}
-use Rattle.std.proofs.lemmas.Bool.{cases_lt}
-use Rattle.std.proofs.lemmas.List.{take_at, take_all, take-take, take-append-drop, take-append-le}
+use Rattle.std.proofs.Common.{subst, ◌∙◌, arith, length-append, append_assoc}
+use Rattle.std.proofs.lemmas.List.{take_all, take-append-drop}
 use Rattle.std.proofs.lemmas.List.{length-take, append-nil, drop-append-le}
-use Rattle.std.proofs.Math.ListN.{drop_of_length-le}
 use Rattle.mxf_klv.specs.declared.ber.BerFault.{BerFault}
 use Rattle.mxf_klv.specs.declared.ber.BerFault.TheVariants as lengths
 use Rattle.mxf_klv.specs.declared.packet.PacketFault.{PacketFault}
@@ -19,20 +17,10 @@ use Rattle.mxf_klv.proofs.PacketLemmas.{same_packet}
 
 -- what begins a text that begins as a label begins as a label
 begins_front : (bytes more : List ℕ) → take 4 (bytes ++ more) ≡ label_start → BeginsAsLabel bytes
-begins_front bytes more e =
-    elim (cases_lt (length bytes) 4) [
-      | inl short ↦
-          let front : take (length bytes) (bytes ++ more) ≡ bytes = take_at bytes more (length bytes) refl in
-          take_all 4 bytes (omega arith) ∙ sym front ∙ sym (take-take (length bytes) 4 (bytes ++ more) (omega arith))
-          ∙ ap (take (length bytes)) e
-      | inr long ↦ sym (take-append-le 4 bytes more long) ∙ e ∙ sym (take_all (length bytes) label_start long)
-    ]
+begins_front bytes more e = grind (arith, take_all)
 
 start4 : (text rest : List ℕ) (p : PacketParts) → IsSpelledPacket text p → take 4 (text ++ rest) ≡ label_start
-start4 text rest p s =
-    let front : text ++ rest ≡ p.key ++ ((s.spelled ++ p.value) ++ rest) = ap (λ (t : List ℕ). t ++ rest) s.whole
-    ∙ append_assoc p.key (s.spelled ++ p.value) rest in
-    ap (take 4) front ∙ take-append-le 4 p.key ((s.spelled ++ p.value) ++ rest) (omega (arith, s.label.0)) ∙ s.label.1
+start4 text rest p s = grind arith
 
 -- a fault of the first byte alone stays, whatever follows
 stays : (xs more : List ℕ) (e : BerFault) → (e ≡ lengths.Short → ⊥) → ReadsLength xs (Err e) → ReadsLength
@@ -43,19 +31,8 @@ stays (f ∷ rest) more lengths.Indefinite n p = p
 stays [] more lengths.TooWide n p = absurd p
 stays (f ∷ rest) more lengths.TooWide n p = p
 
-none_empty : (e : BerFault) → (e ≡ lengths.Short → ⊥) → ReadsLength [] (Err e) → ⊥
-none_empty lengths.Short n p = n refl
-none_empty lengths.Indefinite n p = absurd cc
-none_empty lengths.TooWide n p = p
-
 some_long : (xs : List ℕ) (e : BerFault) → (e ≡ lengths.Short → ⊥) → ReadsLength (drop 16 xs) (Err e) → 16 ≤ length xs
-some_long xs e n p =
-    elim (cases_lt (length xs) 16) [
-      | inl short ↦ absurd
-          (none_empty e n (subst (λ (t : List ℕ). ReadsLength t (Err e))
-          (drop_of_length-le xs {i = 16} (omega arith)) p))
-      | inr long ↦ long
-    ]
+some_long xs e n p = grind arith
 
 two_lengths : (xs : List ℕ) (l : LengthParts) (e : BerFault) → ReadsLength xs (Ok l) → ReadsLength xs (Err e) → ⊥
 two_lengths xs l e p q = let same = one_reading xs (Ok l) (Err e) p q in cc
@@ -84,8 +61,7 @@ ok_begins bytes p size s =
     (drop size bytes) p s)
 
 pub cut_begins : (bytes : List ℕ) → IsCutPacket bytes → BeginsAsLabel bytes
-cut_begins bytes c = begins_front bytes c.more
-    (ap (take 4) (sym (append-nil (bytes ++ c.more))) ∙ start4 (bytes ++ c.more) [] c.packet c.spells)
+cut_begins bytes c = grind (arith, begins_front)
 
 -- a whole packet is not the beginning of another
 not_cut : (bytes : List ℕ) (p : PacketParts) (size : ℕ) → size ≤ length bytes → IsSpelledPacket (take size bytes) p
@@ -134,18 +110,15 @@ one_fault bytes faults.Short faults.Short p q = refl
 abbrev ok : PacketParts → ℕ → Result (PacketParts × ℕ) PacketFault
 ok p n = Ok (p, n)
 
-same_ok : (p q : PacketParts) (m n : ℕ) → p ≡ q → m ≡ n → ok p m ≡ ok q n
-same_ok p q m n e f = rw (e, f) refl
-
 pub one_packet_reading : (bytes : List ℕ) (r s : Result (PacketParts × ℕ) PacketFault) → ReadsPacket bytes r
     → ReadsPacket bytes s → r ≡ s
 one_packet_reading bytes (Ok (p, m)) (Ok (q, n)) s t =
-    let same = same_packet (take m bytes) (take n bytes) (drop m bytes) (drop n bytes) p q s.1 t.1
-    (take-append-drop m bytes ∙ sym (take-append-drop n bytes)) in
-    let lens = ap length same.0 in
-    let within = s.0 in
-    let within' = t.0 in
-    same_ok p q m n same.1 (omega (arith, lens, length-take m bytes, length-take n bytes))
+    grind (
+      arith,
+      same_packet (take m bytes) (take n bytes) (drop m bytes) (drop n bytes) p q s.1 t.1 (take-append-drop m bytes ∙ sym (take-append-drop n bytes)),
+      length-take m bytes,
+      length-take n bytes,
+    )
 one_packet_reading bytes (Ok (p, m)) (Err e) s t = absurd (ok_excludes bytes p m s.0 s.1 e t)
 one_packet_reading bytes (Err d) (Ok (q, n)) s t = absurd (ok_excludes bytes q n t.0 t.1 d s)
 one_packet_reading bytes (Err d) (Err e) s t = ap (λ (x : PacketFault). Err x) (one_fault bytes d e s t)

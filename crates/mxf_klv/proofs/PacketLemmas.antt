@@ -1,30 +1,22 @@
 -- Facts on packets and what bytes begin with.
 use Rattle.std.proofs.Common.{◌≡◌, ℕ, suc, ◌+◌, ◌-◌, ◌<◌, ◌≤◌, List, [], ◌∷◌, ◌++◌, length, take, drop, replicate}
 use Rattle.std.proofs.Common.{Err, refl, sym, ap, subst, ◌∙◌, arith, inl, length-append, append_assoc}
-use Rattle.std.proofs.lemmas.List.{take_at, drop_at, take_all, take-take, take-append-drop, length-take}
+use Rattle.std.proofs.lemmas.List.{take_at, drop_at, take_all, take-append-drop}
 use Rattle.std.proofs.lemmas.List.{length-replicate, append-nil}
 use Rattle.byteorder.specs.Endian.{big_number}
 use Rattle.mxf_klv.specs.declared.ber.BerFault.{BerFault}
-use Rattle.mxf_klv.specs.declared.ber.BerFault.TheVariants as lengths
 use Rattle.mxf_klv.specs.Parts.{PacketParts}
 use Rattle.mxf_klv.specs.Label.{label_start, IsLabel, BeginsAsLabel}
 use Rattle.mxf_klv.specs.Ber.{IsSpelledLength, IsCutLength, ReadsLength}
 use Rattle.mxf_klv.specs.Packet.{IsSpelledPacket, IsCutPacket, ReadsPacket, packet_fault}
-use Rattle.mxf_klv.proofs.LengthLemmas.{one_length, wide_found_cons}
+use Rattle.mxf_klv.proofs.LengthLemmas.{wide_found_cons}
 
 abbrev parts : List ℕ → ℕ → List ℕ → PacketParts
 parts k w v = record { key = k; width = w; value = v }
 
-same_parts : (k l : List ℕ) (w x : ℕ) (u v : List ℕ) → k ≡ l → w ≡ x → u ≡ v → parts k w u ≡ parts l x v
-same_parts k l w x u v p q r = rw (p, q, r) refl
-
 -- the first sixteen of bytes that begin as a label
 pub label_of : (bytes : List ℕ) → BeginsAsLabel bytes → 16 ≤ length bytes → IsLabel (take 16 bytes)
-label_of bytes h long = (
-  omega (arith, length-take 16 bytes),
-  take-take 4 16 bytes (omega arith) ∙ h ∙ take_all (length bytes) label_start
-      (omega arith),
-)
+label_of bytes h long = grind arith
 
 -- a length that is cut, where one follows that could be whole
 length_cut_cons : (bytes : List ℕ) (f : ℕ) (rest : List ℕ) (n : ℕ) → BeginsAsLabel bytes → 16 ≤ length bytes
@@ -74,9 +66,7 @@ length_cut bytes (f ∷ rest) is h long cut =
 -- what a fault of the length is for the packet
 pub length_fault : (bytes : List ℕ) (e : BerFault) → BeginsAsLabel bytes → 16 ≤ length bytes → ReadsLength
     (drop 16 bytes) (Err e) → ReadsPacket bytes (Err (packet_fault e))
-length_fault bytes lengths.Short h long p = length_cut bytes (drop 16 bytes) refl h long p
-length_fault bytes lengths.Indefinite h long p = (h, p)
-length_fault bytes lengths.TooWide h long p = (h, p)
+length_fault bytes e h k p = grind (arith, length_cut)
 
 -- a key, the length 0 and no value, for what is cut before the length
 cut_at_key : (bytes key : List ℕ) (more : List ℕ) → IsLabel key → bytes ++ more ≡ key → IsCutPacket bytes
@@ -126,23 +116,17 @@ regroup key spelled value x = simp append_assoc
 
 -- two lists of one length at the front of one text
 same_front : (n : ℕ) (a b x y : List ℕ) → length a ≡ n → length b ≡ n → a ++ x ≡ b ++ y → (a ≡ b) × (x ≡ y)
-same_front n a b x y p q e =
-    (sym (take_at a x n p) ∙ ap (take n) e ∙ take_at b y n q, sym (drop_at a x n p) ∙ ap (drop n) e ∙ drop_at b y n q)
+same_front n a b x y p q e = grind (arith, take_at a x n p, take_at b y n q, drop_at a x n p, drop_at b y n q)
 
 -- two packets at the front of one text are one
 pub same_packet : (a b x y : List ℕ) (p q : PacketParts) → IsSpelledPacket a p → IsSpelledPacket b q → a ++ x ≡ b ++ y
     → (a ≡ b) × (p ≡ q)
 same_packet a b x y p q s t e =
-    let left : a ++ x ≡ p.key ++ (s.spelled ++ (p.value ++ x)) = ap (λ (u : List ℕ). u ++ x) s.whole
-    ∙ regroup p.key s.spelled p.value x in
-    let right : b ++ y ≡ q.key ++ (t.spelled ++ (q.value ++ y)) = ap (λ (u : List ℕ). u ++ y) t.whole
-    ∙ regroup q.key t.spelled q.value y in
-    let keys = same_front 16 p.key q.key (s.spelled ++ (p.value ++ x))
-    (t.spelled ++ (q.value ++ y)) s.label.0 t.label.0 (sym left ∙ e ∙ right) in
-    let lengths = one_length s.spelled t.spelled (p.value ++ x) (q.value ++ y) p.width (length p.value) q.width
-    (length q.value) s.width t.width keys.1 in
-    let after = same_front (length s.spelled) s.spelled t.spelled (p.value ++ x) (q.value ++ y) refl
-    (ap length (sym lengths.0)) keys.1 in
-    let values = same_front (length p.value) p.value q.value x y refl (sym lengths.2) after.1 in
-    let texts : a ≡ b = s.whole ∙ rw (keys.0, lengths.0, values.0) refl ∙ sym t.whole in
-    (texts, same_parts p.key q.key p.width q.width p.value q.value keys.0 lengths.1 values.0)
+    grind (
+      arith,
+      regroup p.key s.spelled p.value x,
+      regroup q.key t.spelled q.value y,
+      same_front 16 p.key q.key (s.spelled ++ (p.value ++ x)) (t.spelled ++ (q.value ++ y)) s.label.0 t.label.0,
+      same_front (length s.spelled) s.spelled t.spelled (p.value ++ x) (q.value ++ y) refl,
+      same_front (length p.value) p.value q.value x y refl,
+    )

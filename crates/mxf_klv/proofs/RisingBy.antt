@@ -1,15 +1,14 @@
 -- Lists that rise by a number of each element, their key: that of an element is below those of all later ones.
-use Rattle.std.proofs.Common.{◌≡◌, ℕ, zero, suc, ◌+◌, ◌<◌, ◌≤◌, Bool, true, false, cond, List, [], ◌∷◌, Option}
+use Rattle.std.proofs.Common.{◌≡◌, ℕ, zero, suc, ◌+◌, ◌<◌, ◌≤◌, Bool, List, [], ◌∷◌, Option}
 use Rattle.std.proofs.Common.{Some, None}
-use Rattle.std.proofs.Common.{filter, filter_map, get_or, length, map, nat_cmp, nat_lt, refl, sym, ◌∙◌, ap, subst, inl}
+use Rattle.std.proofs.Common.{filter, filter_map, get_or, length, map, nat_cmp, nat_lt, refl, sym, ◌∙◌, ap, inl}
 use Rattle.std.proofs.Common.{inr, arith}
 use Rattle.std.specs.List.{cons_option, list_any, AllByRecursion}
 use Rattle.std.specs.List.Sorted.{IsNonDecreasingBy}
-use Rattle.std.proofs.lemmas.Bool.{ltb-true, lt-ltb}
 use Rattle.std.proofs.lemmas.Cmp.{nat_cmp_total}
 use Rattle.mxf_klv.specs.Rising.{In, IsRising, SameMembers, less_in}
 use Rattle.mxf_klv.proofs.Lists.{all-filter, all-In, all_from_In, In-at, In-filter_map, In-map, list_any-In}
-use Rattle.mxf_klv.proofs.Tests.{by_places, lt_from_less, same_bool}
+use Rattle.mxf_klv.proofs.Tests.{lt_from_less}
 
 abbrev pub IsRisingBy : {K : Type 0} → (K → ℕ) → List K → Type 0
 IsRisingBy key [] = Unit {0}
@@ -23,22 +22,15 @@ IsRisingFrom key low (x ∷ xs) = (low ≤ key x) × IsRisingFrom key (key x + 1
 -- Numbers that rise do so by themselves.
 pub by_itself : (xs : List ℕ) → IsRising nat_cmp xs → IsRisingBy (λ x. x) xs
 by_itself [] r = tt
-by_itself (x ∷ xs) r = (
-  all_from_In (λ y. x < y) xs (λ y h. lt_from_less x y (less_in nat_cmp_total x y xs r.0 h)),
-  by_itself xs r.1,
-)
+by_itself (x ∷ xs) r = grind (arith, all_from_In, less_in, lt_from_less, nat_cmp_total, by_itself xs r.1)
 
 module _ {K : Type 0} (key : K → ℕ) where
   -- Two with one key are one.
   pub one_by_key : (xs : List K) (x y : K) → IsRisingBy key xs → In x xs → In y xs → key x ≡ key y → x ≡ y
   one_by_key [] x y r h k e = absurd h
   one_by_key (z ∷ xs) x y r (inl a) (inl b) e = a ∙ sym b
-  one_by_key (z ∷ xs) x y r (inl a) (inr b) e =
-      let l : key z < key y = all-In (λ w. key z < key w) xs y r.0 b in
-      let f = ap key a in absurd (omega (arith, l, f, e))
-  one_by_key (z ∷ xs) x y r (inr a) (inl b) e =
-      let l : key z < key x = all-In (λ w. key z < key w) xs x r.0 a in
-      let f = ap key b in absurd (omega (arith, l, f, e))
+  one_by_key (z ∷ xs) x y r (inl a) (inr b) e = grind (arith, all-In)
+  one_by_key (z ∷ xs) x y r (inr a) (inl b) e = grind (arith, all-In)
   one_by_key (z ∷ xs) x y r (inr a) (inr b) e = one_by_key xs x y r.1 a b e
 
   not_again : (x : K) (xs : List K) → AllByRecursion (λ y. key x < key y) xs → In x xs → ⊥
@@ -46,43 +38,19 @@ module _ {K : Type 0} (key : K → ℕ) where
 
   first_same : (x y : K) (xs ys : List K) → IsRisingBy key (x ∷ xs) → IsRisingBy key (y ∷ ys)
       → SameMembers (x ∷ xs) (y ∷ ys) → x ≡ y
-  first_same x y xs ys r s m = elim ((m x).0 (inl refl)) [
-    | inl e ↦ e
-    | inr h ↦ elim ((m y).1 (inl refl)) [
-      | inl e ↦ sym e
-      | inr k ↦ (
-          let a : key y < key x = all-In (λ z. key y < key z) ys x s.0 h in
-          let b : key x < key y = all-In (λ z. key x < key z) xs y r.0 k in absurd (omega (arith, a, b)))
-    ]
-  ]
+  first_same x y xs ys r s m = grind (arith, all-In (λ z. key y < key z) ys x s.0, all-In (λ z. key x < key z) xs y r.0)
 
   -- With the same members they are one list.
   pub same_by_members : (xs ys : List K) → IsRisingBy key xs → IsRisingBy key ys → SameMembers xs ys → xs ≡ ys
   same_by_members [] [] r s m = refl
   same_by_members [] (y ∷ ys) r s m = absurd ((m y).1 (inl refl))
   same_by_members (x ∷ xs) [] r s m = absurd ((m x).0 (inl refl))
-  same_by_members (x ∷ xs) (y ∷ ys) r s m =
-      let same = first_same x y xs ys r s m in
-      let tails : SameMembers xs ys = λ z. (
-        λ h. elim ((m z).0 (inr h)) [
-          | inl e ↦ absurd (not_again x xs r.0 (subst (λ w. In w xs) (e ∙ sym same) h))
-          | inr k ↦ k
-        ],
-        λ h. elim ((m z).1 (inr h)) [
-          | inl e ↦ absurd (not_again y ys s.0 (subst (λ w. In w ys) (e ∙ same) h))
-          | inr k ↦ k
-        ],
-      ) in
-      let rest = same_by_members xs ys r.1 s.1 tails in λ i. same i ∷ rest i
+  same_by_members (x ∷ xs) (y ∷ ys) r s m = grind (arith, first_same, not_again, same_by_members xs ys r.1 s.1)
 
   -- They still rise where some are left out, and where each is mapped to one of its key.
   pub rises-filter : (p : K → Bool) (xs : List K) → IsRisingBy key xs → IsRisingBy key (filter p xs)
   rises-filter p [] r = tt
-  rises-filter p (x ∷ xs) r =
-      elim (p x) as (λ b. IsRisingBy key (cond b (x ∷ filter p xs) (filter p xs))) [
-        | true ↦ (all-filter (λ y. key x < key y) p xs r.0, rises-filter p xs r.1)
-        | false ↦ rises-filter p xs r.1
-      ]
+  rises-filter p (x ∷ xs) r = grind (arith, all-filter, rises-filter p xs r.1)
 
   pub rises-map : {L : Type 0} (f : K → L) (other : L → ℕ) (xs : List K)
       → ((x : K) → In x xs → other (f x) ≡ key x) → IsRisingBy key xs → IsRisingBy other (map f xs)
@@ -126,9 +94,7 @@ module _ {K : Type 0} (key : K → ℕ) where
   rises_at (x ∷ xs) (suc i) (suc j) d r l h = rises_at xs i j d r.1 (omega arith) (omega arith)
 
   pub never_falls : (xs : List K) → IsRisingBy key xs → IsNonDecreasingBy key xs
-  never_falls xs r i j d l h =
-      by_places (λ i j. key (get_or xs i d) ≤ key (get_or xs j d)) i j l (λ k. omega arith)
-      (λ t. let m : key (get_or xs i d) < key (get_or xs j d) = rises_at xs i j d r t h in omega arith)
+  never_falls xs r i j d l h = grind (arith, rises_at)
 
   -- None lies above the last.
   pub at_most_last : (xs : List K) (y : K) (k : ℕ) (d : K) → IsRisingBy key xs → k + 1 ≡ length xs → In y xs
@@ -138,23 +104,13 @@ module _ {K : Type 0} (key : K → ℕ) where
   at_most_last (x ∷ []) y zero d r l (inr h) = absurd h
   at_most_last (x ∷ z ∷ xs) y zero d r l h = absurd (omega (arith, l))
   at_most_last (x ∷ xs) y (suc k) d r l (inl e) =
-      let a : key x < key (get_or xs k d) =
-      all-In (λ z. key x < key z) xs (get_or xs k d) r.0 (In-at xs k d (omega (arith, l))) in
-      let f = ap key e in omega (arith, a, f)
+      grind (arith, all-In (λ z. key x < key z) xs (get_or xs k d) r.0 (In-at xs k d (omega (arith, l))))
   at_most_last (x ∷ xs) y (suc k) d r l (inr h) = at_most_last xs y k d r.1 (omega (arith, l)) h
 
   -- So the last tells whether one lies above another number.
   pub last_above : (low : ℕ) (xs : List K) (k : ℕ) (d : K) → IsRisingBy key xs → k + 1 ≡ length xs
       → nat_lt low (key (get_or xs k d)) ≡ list_any (λ x. nat_lt low (key x)) xs
-  last_above low xs k d r l =
-      let any = list_any-In (λ x. nat_lt low (key x)) xs in
-      same_bool _ _
-      (λ t. any.1 (get_or xs k d, In-at xs k d (omega (arith, l)), t))
-      (λ t.
-      let s = any.0 t in
-      let a : key s.0 ≤ key (get_or xs k d) = at_most_last xs s.0 k d r l s.1 in
-      let b = ltb-true low (key s.0) s.2 in
-      lt-ltb low (key (get_or xs k d)) (omega (arith, a, b)))
+  last_above low xs k d r l = grind (arith, In-at, at_most_last, list_any-In)
 
   -- ---- from a number on
 
@@ -165,6 +121,4 @@ module _ {K : Type 0} (key : K → ℕ) where
   pub at_or_above : (low : ℕ) (xs : List K) (x : K) → IsRisingFrom key low xs → In x xs → low ≤ key x
   at_or_above low [] x a h = absurd h
   at_or_above low (y ∷ ys) x a (inl e) = let b : low ≤ key y = a.0 in let f = ap key e in omega (arith, b, f)
-  at_or_above low (y ∷ ys) x a (inr h) =
-      let b : low ≤ key y = a.0 in
-      let c = at_or_above (key y + 1) ys x a.1 h in omega (arith, b, c)
+  at_or_above low (y ∷ ys) x a (inr h) = omega (arith, at_or_above (key y + 1) ys x a.1 h)

@@ -1,5 +1,5 @@
 -- What is written is read back, and what is read is written as it stood.
-use Rattle.std.proofs.Common.{◌≡◌, ℕ, zero, suc, ◌+◌, ◌-◌, ◌*◌, ◌/◌, ◌^◌, ◌<◌, ◌≤◌, List, [], ◌∷◌, ◌++◌, length, take}
+use Rattle.std.proofs.Common.{◌≡◌, ℕ, zero, suc, ◌+◌, ◌-◌, ◌*◌, ◌^◌, ◌<◌, ◌≤◌, List, [], ◌∷◌, ◌++◌, length, take}
 use Rattle.std.proofs.Common.{drop, Ok, refl, sym, ap, subst, ◌∙◌, arith, inl, inr, length-append}
 use Rattle.std.proofs.lemmas.Nat.{div-mul-add}
 use Rattle.std.proofs.lemmas.Bool.{cond-true, cond-false, eq-eqb, ne_eqb, cases_lt}
@@ -11,16 +11,14 @@ use Rattle.byteorder.specs.Numbers.{big_from-cons, big_from-lt, big_number-reads
 use Rattle.mxf_klv.specs.Bytes.{AreBytes}
 use Rattle.mxf_klv.specs.Parts.{CanSpell, PacketParts}
 use Rattle.mxf_klv.specs.Ber.{IsSpelledLength, ReadsLength, length_bytes}
-use Rattle.mxf_klv.specs.Packet.{IsPacket, IsSpelledPacket, ReadsPacket, packet_bytes, size_of}
+use Rattle.mxf_klv.specs.Packet.{IsPacket, ReadsPacket, packet_bytes, size_of}
 use Rattle.mxf_klv.proofs.LengthLemmas.{wide_spelled}
-use Rattle.mxf_klv.proofs.LengthLemmas.{spelled_len}
 use Rattle.mxf_klv.proofs.PieceLaws.{length-spelled}
 
 -- ---- numbers
 
 byte_at-lt : (k n : ℕ) → byte_at k n < 256
-byte_at-lt zero n = omega arith
-byte_at-lt (suc k) n = omega arith
+byte_at-lt k n = grind arith
 
 bytes-big_bytes : (n x : ℕ) → AreBytes (big_bytes n x)
 bytes-big_bytes zero x i = omega arith
@@ -28,10 +26,7 @@ bytes-big_bytes (suc n) x zero = byte_at-lt n x
 bytes-big_bytes (suc n) x (suc i) = bytes-big_bytes n x i
 
 same_parts : (a b m r s : ℕ) → r < m → s < m → a * m + r ≡ b * m + s → (a ≡ b) × (r ≡ s)
-same_parts a b m r s p q e =
-    let first : a ≡ b = sym (div-mul-add a m r p) ∙ ap (λ (t : ℕ). t / m) e ∙ div-mul-add b m s q in
-    let left : a * m ≡ b * m = ap (λ (t : ℕ). t * m) first in
-    (first, omega (arith, e, left))
+same_parts a b m r s p q e = grind (arith, div-mul-add b m s q)
 
 -- bytes of one number are one
 same_bytes : (n : ℕ) (xs ys : List ℕ) → length xs ≡ n → length ys ≡ n → AreBytes xs → AreBytes ys
@@ -85,28 +80,16 @@ length_bytes-spelled w v (inr s) =
 pub spelled-length_bytes : (bytes : List ℕ) (w v : ℕ) → AreBytes bytes → IsSpelledLength bytes w v
     → bytes ≡ length_bytes w v
 spelled-length_bytes [] w v h p = absurd p
-spelled-length_bytes (f ∷ rest) w v h (inl s) =
-    (let vf : v ≡ f = s.2 in let nil : rest ≡ [] = s.3 in let e : f ∷ rest ≡ v ∷ [] = cc in e) ∙ sym (one_byte w v s.0)
-spelled-length_bytes (f ∷ rest) w v h (inr s) =
-    let again : rest ≡ big_bytes (w - 1) v = bytes_again (w - 1) rest s.3 (λ i. h (suc i)) ∙ ap (big_bytes (w - 1))
-    (sym s.4) in
-    let first : f ≡ 127 + w = s.2 in
-    (let e : f ∷ rest ≡ (127 + w) ∷ big_bytes (w - 1) v = cc in e) ∙ sym (more_bytes w v s.0)
+spelled-length_bytes (f ∷ rest) w v h (inl s) = cc
+spelled-length_bytes (f ∷ rest) w v h (inr s) = grind (arith, bytes_again (w - 1) rest s.3 (λ i. h (suc i)))
 
 pub length_read_back : (w v : ℕ) (more : List ℕ) → CanSpell w v → ReadsLength (length_bytes w v ++ more)
     (Ok (record { width = w; value = v }))
-length_read_back w v more c =
-    let s = length_bytes-spelled w v c in
-    subst (λ (t : List ℕ). IsSpelledLength t w v)
-    (sym (take_at (length_bytes w v) more w (spelled_len (length_bytes w v) w v s))) s
+length_read_back w v more c = grind (arith, length_bytes-spelled)
 
 -- the front of bytes is bytes
 pub AreBytes-take : (n : ℕ) (bytes : List ℕ) → AreBytes bytes → AreBytes (take n bytes)
-AreBytes-take n bytes h i =
-    elim (cases_lt i n) [
-      | inl lt ↦ rw (get_or-take n bytes i 0 lt) (h i)
-      | inr le ↦ rw (get_or_past (take n bytes) i 0 (omega (arith, length-take n bytes))) (omega arith)
-    ]
+AreBytes-take n bytes h i = grind (arith, get_or-take, get_or_past, length-take)
 
 -- so is what is left of bytes
 pub AreBytes-drop : (n : ℕ) (bytes : List ℕ) → AreBytes bytes → AreBytes (drop n bytes)
@@ -121,18 +104,12 @@ length_written_back bytes w v h p = spelled-length_bytes (take w bytes) w v (Are
 pub packet_read_back : (packet : PacketParts) (more : List ℕ) → IsPacket packet → ReadsPacket
     (packet_bytes packet ++ more) (Ok (packet, size_of packet))
 packet_read_back p more is =
-    let spells : IsSpelledPacket (packet_bytes p) p =
-    record {
-      spelled = length_bytes p.width (length p.value);
-      label = is.label;
-      width =
-          length_bytes-spelled p.width (length p.value) is.width;
-      whole = refl;
-    } in
-    let len = length-spelled (packet_bytes p) p spells in (
-      omega (arith, len, length-append (packet_bytes p) more),
-      subst (λ (t : List ℕ). IsSpelledPacket t p)
-          (sym (take_at (packet_bytes p) more (size_of p) len)) spells,
+    grind (
+      arith,
+      length_bytes-spelled p.width (length p.value) is.width,
+      length-spelled (packet_bytes p) p,
+      length-append (packet_bytes p) more,
+      take_at (packet_bytes p) more (size_of p),
     )
 
 AreBytes-front : (key spelled value bytes : List ℕ) → bytes ≡ key ++ (spelled ++ value) → AreBytes bytes

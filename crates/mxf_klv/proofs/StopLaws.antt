@@ -1,10 +1,10 @@
 -- The stop of a rest is the one that `stop_of` gives.
-use Rattle.std.proofs.Common.{◌≡◌, ℕ, ◌+◌, ◌-◌, ◌<◌, ◌≤◌, Bool, true, false, cond, not, nat_eq, nat_lt, List}
+use Rattle.std.proofs.Common.{◌≡◌, ℕ, ◌+◌, ◌<◌, ◌≤◌, Bool, true, false, cond, not, nat_eq, nat_lt, List}
 use Rattle.std.proofs.Common.{[], ◌∷◌, ◌++◌, length, take, drop, Err, Ok, Result, IfOk, IfErr, ok_or, SomeIff, Option}
 use Rattle.std.proofs.Common.{None, Some, refl, sym, ap, subst, ◌∙◌, arith, inl, inr, ◌⊎◌, ◌↔◌, length-take}
 use Rattle.std.proofs.Common.{take-append-drop}
-use Rattle.std.proofs.lemmas.Bool.{eqb-true, eq-eqb, ltb-true, lt-ltb, or_cases}
-use Rattle.std.proofs.lemmas.Bool.{cases_lt, false_from_ne_true, both_ways, or_right, or_left}
+use Rattle.std.proofs.lemmas.Bool.{eqb-true, eq-eqb, ltb-true, lt-ltb}
+use Rattle.std.proofs.lemmas.Bool.{cases_lt, false_from_ne_true, both_ways}
 use Rattle.std.specs.Option.{option_map_or}
 use Rattle.mxf_klv.specs.Parts.{LengthParts, PacketParts, packet_parts}
 use Rattle.mxf_klv.specs.Label.{BeginsAsLabel, begins_as_label}
@@ -20,53 +20,25 @@ use Rattle.mxf_klv.specs.declared.packet.PacketFault.{PacketFault}
 use Rattle.mxf_klv.specs.declared.packet.PacketFault.TheVariants as faults
 use Rattle.mxf_klv.specs.declared.piece.Stop.{Stop}
 use Rattle.mxf_klv.specs.declared.piece.Stop.TheVariants.{End, NotUl, BadLength, TooFar, Truncated, NoStart}
-use Rattle.mxf_klv.proofs.LengthLemmas.{one_reading, wide_found}
+use Rattle.mxf_klv.proofs.LengthLemmas.{one_reading}
 use Rattle.mxf_klv.proofs.KeyAndLengthLaws.{head_of, head-begins, head-cut, head-length, head-packet, head-size}
 use Rattle.mxf_klv.proofs.KeyAndLengthLaws.{head_in}
-use Rattle.mxf_klv.proofs.KeyAndLengthLaws.{no_head, no_head_short}
+use Rattle.mxf_klv.proofs.KeyAndLengthLaws.{no_head}
 use Rattle.mxf_klv.proofs.PacketLemmas.{key_cut, label_of, length_cut}
 use Rattle.mxf_klv.proofs.PacketLaw.{cut_begins, no_fault_cut}
 use Rattle.mxf_klv.proofs.PieceLaws.{begins-test, test-begins, ends_at, goes_on, head_at-head, head_at-stands}
-use Rattle.mxf_klv.proofs.PieceLaws.{length_at-read, length_at-stands, none-packet_at, none_at_end, one_piece}
-use Rattle.mxf_klv.proofs.PieceLaws.{packet_at-fault, packet_at-given, packet_at-none, some_length}
+use Rattle.mxf_klv.proofs.PieceLaws.{length_at-read, length_at-stands, none-packet_at, one_piece}
+use Rattle.mxf_klv.proofs.PieceLaws.{packet_at-fault, packet_at-given, packet_at-none}
 
 -- ---- the tests
 
 bad-reads : (xs : List ℕ) → is_bad_length xs ≡ true
     → ReadsLength xs (Err lengths.Indefinite) ⊎ ReadsLength xs (Err lengths.TooWide)
-bad-reads [] e = absurd cc
-bad-reads (f ∷ rest) e =
-    elim (or_cases (nat_eq f 128) (nat_lt 136 f) e) [
-      | inl p ↦ inl (ap (λ (n : ℕ). Some n) (eqb-true f 128 p))
-      | inr p ↦ inr (ltb-true 136 f p)
-    ]
-
-reads-bad : (xs : List ℕ) → ReadsLength xs (Err lengths.Indefinite) ⊎ ReadsLength xs (Err lengths.TooWide)
-    → is_bad_length xs ≡ true
-reads-bad [] (inl p) = absurd cc
-reads-bad [] (inr p) = absurd p
-reads-bad (f ∷ rest) (inl p) = or_left (nat_eq f 128) (nat_lt 136 f) (eq-eqb f 128 cc)
-reads-bad (f ∷ rest) (inr p) = or_right (nat_eq f 128) (nat_lt 136 f) (lt-ltb 136 f p)
+bad-reads xs h = grind arith
 
 -- where no length is given and none is at fault, one is cut
 cut_else : (xs : List ℕ) → is_bad_length xs ≡ false → length_at xs ≡ None → IsCutLength xs
-cut_else [] b e = tt
-cut_else (f ∷ rest) b e =
-    let definite : f ≡ 128 → ⊥ = λ is. both_ways _ b (or_left (nat_eq f 128) (nat_lt 136 f) (eq-eqb f 128 is)) in
-    let narrow : f ≤ 136 = elim (cases_lt 136 f) [
-      | inl wide ↦ absurd (both_ways _ b (or_right (nat_eq f 128) (nat_lt 136 f) (lt-ltb 136 f wide)))
-      | inr narrow ↦ narrow
-    ] in
-    let long : 128 ≤ f = elim (cases_lt f 128) [
-      | inl short ↦ absurd (some_length (f ∷ rest) 1 f (inl (refl, omega arith, refl, refl)) e)
-      | inr long ↦ long
-    ] in
-    elim (cases_lt (length rest) (f - 128)) [
-      | inl cut ↦ (omega (arith, definite), narrow, cut)
-      | inr whole ↦
-          absurd (some_length (f ∷ rest) (f - 127) _
-          (wide_found (f ∷ rest) f rest refl (omega (arith, definite)) narrow whole) e)
-    ]
+cut_else xs h k = grind arith
 
 far-is : (offset : ℕ) (bytes : List ℕ) → ends_too_far offset bytes ≡ true → EndsTooFar offset bytes
 far-is offset bytes e =
@@ -109,27 +81,11 @@ by_cases : (P : Stop → Type 0) (none begins bad far : Bool) (offset : ℕ)
     → (far ≡ true → P (TooFar offset))
     → (none ≡ false → begins ≡ true → bad ≡ false → far ≡ false → P (Truncated offset))
     → P (choice none begins bad far offset)
-by_cases P true begins bad far offset a b c d e = a refl
-by_cases P false false bad far offset a b c d e = b refl
-by_cases P false true true far offset a b c d e = c refl refl
-by_cases P false true false true offset a b c d e = d refl
-by_cases P false true false false offset a b c d e = e refl refl refl refl
-
-not_ul : (none begins bad far : Bool) (offset : ℕ) → none ≡ false → begins ≡ false
-    → choice none begins bad far offset ≡ NotUl offset
-not_ul none begins bad far offset p q = rw (p, q) refl
-
-bad_length : (none begins bad far : Bool) (offset : ℕ) → none ≡ false → begins ≡ true → bad ≡ true
-    → choice none begins bad far offset ≡ BadLength offset
-bad_length none begins bad far offset p q r = rw (p, q, r) refl
+by_cases P none begins bad far offset h k e p q = grind arith
 
 too_far : (none begins bad far : Bool) (offset : ℕ) → none ≡ false → begins ≡ true → bad ≡ false → far ≡ true
     → choice none begins bad far offset ≡ TooFar offset
 too_far none begins bad far offset p q r s = rw (p, q, r, s) refl
-
-truncated : (none begins bad far : Bool) (offset : ℕ) → none ≡ false → begins ≡ true → bad ≡ false → far ≡ false
-    → choice none begins bad far offset ≡ Truncated offset
-truncated none begins bad far offset p q r s = rw (p, q, r, s) refl
 
 -- ---- the law
 
@@ -185,14 +141,6 @@ stop-is offset rest none =
       near,
     ))
 
-not-nil : (rest : List ℕ) → (BeginsAsLabel rest → ⊥) → rest ≡ [] → ⊥
-not-nil rest n e = n (subst BeginsAsLabel (sym e) refl)
-
-long-some : (xs : List ℕ) → ReadsLength (drop 16 xs) (Err lengths.Indefinite) ⊎ ReadsLength (drop 16 xs)
-    (Err lengths.TooWide) → xs ≡ [] → ⊥
-long-some xs p e =
-    both_ways _ (ap (λ (t : List ℕ). is_bad_length (drop 16 t)) e) (reads-bad (drop 16 xs) p)
-
 -- no length is at fault where a head or a cut packet stands
 sound_head : (bytes key after : List ℕ) (l : LengthParts) → BeginsWithKeyAndLength bytes key l after
     → ReadsLength (drop 16 bytes) (Err lengths.Indefinite) ⊎ ReadsLength (drop 16 bytes) (Err lengths.TooWide) → ⊥
@@ -205,26 +153,14 @@ sound_head bytes key after l head p =
 sound_cut : (bytes : List ℕ) → IsCutPacket bytes
     → ReadsLength (drop 16 bytes) (Err lengths.Indefinite) ⊎ ReadsLength (drop 16 bytes) (Err lengths.TooWide) → ⊥
 sound_cut bytes c p =
-    elim p [
-      | inl q ↦ no_fault_cut bytes lengths.Indefinite (λ h. cc) c q
-      | inr q ↦ no_fault_cut bytes lengths.TooWide (λ h. cc) c q
-    ]
+    omega (arith, no_fault_cut bytes lengths.Indefinite (λ h. cc) c, no_fault_cut bytes lengths.TooWide (λ h. cc) c)
 
 -- each stop is the one that is given
 pub stop-given : (offset : ℕ) (rest : List ℕ) (stop : Stop) → IsStop offset rest stop → stop_of offset rest ≡ stop
 unfolding stop_of
 stop-given offset rest End is = ap (stop_of offset) is
-stop-given offset rest (NotUl place) (at, n) =
-    not_ul _ _ _ _ offset (some-bytes rest (not-nil rest n)) (false_from_ne_true _ (λ e. n (test-begins rest e)))
-    ∙ ap (λ (x : ℕ). NotUl x) (sym at)
-stop-given offset rest (BadLength place) (at, fault) =
-    let at_length : ReadsLength (drop 16 rest) (Err lengths.Indefinite) ⊎ ReadsLength (drop 16 rest)
-    (Err lengths.TooWide) =
-    elim fault [ inl p ↦ inl p.1 | inr p ↦ inr p.1 ] in
-    let begins : BeginsAsLabel rest = elim fault [ inl p ↦ p.0 | inr p ↦ p.0 ] in
-    bad_length _ _ _ _ offset (some-bytes rest (long-some rest at_length)) (begins-test rest begins)
-    (reads-bad (drop 16 rest) at_length)
-    ∙ ap (λ (x : ℕ). BadLength x) (sym at)
+stop-given offset rest (NotUl place) (at, n) = grind arith
+stop-given offset rest (BadLength place) (at, fault) = grind arith
 stop-given offset rest (TooFar place) (at, far) =
     let (key, l, after, head, above) = far in
     let size = head-size head in
@@ -233,24 +169,16 @@ stop-given offset rest (TooFar place) (at, far) =
     (false_from_ne_true _ (λ e. sound_head rest key after l head (bad-reads (drop 16 rest) e))) (is-far offset rest far)
     ∙ ap (λ (x : ℕ). TooFar x) (sym at)
 stop-given offset rest (Truncated place) (at, some, cut, near) =
-    truncated _ _ _ _ offset (some-bytes rest some) (begins-test rest (cut_begins rest cut))
-    (false_from_ne_true _ (λ e. sound_cut rest cut (bad-reads (drop 16 rest) e)))
-    (false_from_ne_true _ (λ e. near (far-is offset rest e)))
-    ∙ ap (λ (x : ℕ). Truncated x) (sym at)
+    grind (arith, cut_begins, far-is, some-bytes, sound_cut)
 stop-given offset rest (NoStart place) is = absurd is
 
 pub one_stop : (offset : ℕ) (rest : List ℕ) (stop : Stop) → BeginsWithNone offset rest
     → (stop_of offset rest ≡ stop) ↔ IsStop offset rest stop
-one_stop offset rest stop none =
-    (λ e. subst (IsStop offset rest) e (stop-is offset rest none), stop-given offset rest stop)
+one_stop offset rest stop none = grind (arith, stop-given, stop-is)
 
 pub one_stop_in : (offset : ℕ) (bytes : List ℕ) (packets : List PacketParts) (rest : List ℕ) (stop : Stop)
     → IsPiece offset bytes packets rest → (stop_in offset bytes ≡ stop) ↔ IsStop (end_after offset packets) rest stop
-one_stop_in offset bytes packets rest stop i =
-    let same = one_piece offset bytes packets rest i in
-    let at : stop_in offset bytes ≡ stop_of (end_after offset packets) rest = rw (same.0, same.1) refl in
-    let one = one_stop (end_after offset packets) rest stop i.ended in
-    (λ e. one.0 (sym at ∙ e), λ s. at ∙ one.1 s)
+one_stop_in offset bytes packets rest stop i = grind (arith, one_piece, one_stop)
 
 pub one_length_at : (bytes : List ℕ) (l : LengthParts) → (length_at bytes ≡ Some l) ↔ ReadsLength bytes (Ok l)
 one_length_at bytes l = (length_at-stands bytes l, length_at-read bytes (Ok l))
@@ -271,12 +199,7 @@ ends offset bytes stop s = ends_at offset bytes stop (none-packet_at offset byte
     (sym (stop-given offset bytes stop s.is))
 
 pub at_end : (offset : ℕ) (bytes : List ℕ) → nat_eq (length bytes) 0 ≡ true → Stopped offset bytes End
-at_end offset bytes e =
-    let none = no-bytes bytes e in
-    record {
-      none = packet_at-none offset bytes (none_at_end offset bytes (let len = ap length none in omega arith));
-      is = none;
-    }
+at_end offset bytes e = grind (arith, no-bytes)
 
 -- a fault of the head
 abbrev stop_for : ℕ → PacketFault → Stop
@@ -374,31 +297,24 @@ pub at_value : (offset : ℕ) (bytes key after : List ℕ) (l : LengthParts) (r 
     → SomeIff r (l.value ≤ length after) (packet_parts key l.width (take l.value after), 16 + l.width + l.value)
     → Answers offset bytes (ok_or r (Truncated offset))
 at_value offset bytes key after l None h near cut =
-    let stopped = at_cut offset bytes key after l h near (omega (arith, cut)) in
-    record {
-      packet = tt;
-      none = stops offset bytes (Truncated offset) stopped;
-      goes_on = tt;
-      ends = ends offset bytes
-          (Truncated offset) stopped;
-    }
+    grind (
+      arith,
+      at_cut offset bytes key after l h near (omega (arith, cut)),
+      stops offset bytes (Truncated offset),
+      ends offset bytes (Truncated offset),
+    )
 at_value offset bytes key after l (Some x) h near whole =
-    subst (λ (y : PacketParts × ℕ). Answers offset bytes (ok_or (Some y) (Truncated offset))) (sym whole.1)
-    (at_packet offset bytes key after l h near whole.0)
+    grind (arith, at_packet offset bytes key after l h near whole.0)
 
 -- ---- the exits of `next_key_and_length`
 
 pub no_head_for : (offset : ℕ) (bytes : List ℕ) (stop : Stop) → Stopped offset bytes stop
     → (IsOpen stop → HasNoKeyAndLength bytes)
     → IsNoHead offset bytes stop
-no_head_for offset bytes stop s cut =
-    let t = stops offset bytes stop s in
-    record { none = t.0; is = t.1; cut = cut }
+no_head_for offset bytes stop s cut = grind (arith, stops)
 
 pub end_has_no_head : (bytes : List ℕ) → nat_eq (length bytes) 0 ≡ true → HasNoKeyAndLength bytes
-end_has_no_head bytes e =
-    let len = ap length (no-bytes bytes e) in
-    no_head_short bytes (omega arith)
+end_has_no_head bytes e = grind arith
 
 pub fault_has_no_head : (bytes : List ℕ) (f : PacketFault) → ReadsKeyAndLength bytes (Err f) → HasNoKeyAndLength bytes
 fault_has_no_head bytes f r = r.1

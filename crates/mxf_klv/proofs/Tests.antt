@@ -1,42 +1,31 @@
 -- Tests, what is there or not, and orderings.
 use Rattle.std.proofs.Common.{◌≡◌, ◌≢◌, ◌↔◌, ◌⊎◌, ◌&&◌, ◌||◌, ◌==◌, ◌<◌, ◌≤◌, ℕ, Bool, true, false, cond, not, IsTrue}
 use Rattle.std.proofs.Common.{Option, Some, None}
-use Rattle.std.proofs.Common.{is_none, is_some, option_map, refl, sym, subst, inl, inr, arith, eqb-true, eq-eqb}
+use Rattle.std.proofs.Common.{is_none, is_some, option_map, refl, arith, eqb-true, eq-eqb}
 use Rattle.std.proofs.Common.{Ordering, Less, Equal, Greater, is_lt, nat_cmp, nat_lt}
 use Rattle.std.specs.Ordering.{ordering_then}
-use Rattle.std.proofs.lemmas.Bool.{ltb-true, ltb-false, lt-ltb, or_left, or_right}
+use Rattle.std.proofs.lemmas.Bool.{ltb-true, lt-ltb}
 
 pub not_true : (b : Bool) → (b ≡ true → ⊥) → not b ≡ true
-not_true true f = absurd (f refl)
-not_true false f = refl
+not_true b h = grind arith
 
 pub not-true-false : (b : Bool) → not b ≡ true → b ≡ true → ⊥
-not-true-false true h e = cc
-not-true-false false h e = cc
+not-true-false b h k = cc
 
 pub same_bool : (a b : Bool) → (IsTrue a → IsTrue b) → (IsTrue b → IsTrue a) → a ≡ b
-same_bool true b f g = sym (f refl)
-same_bool false true f g = g refl
-same_bool false false f g = refl
+same_bool a b h k = grind arith
 
 pub either : (a b : Bool) → (a ≡ true) ⊎ (b ≡ true) → (a || b) ≡ true
-either a b (inl h) = or_left a b h
-either a b (inr h) = or_right a b h
+either a b h = grind arith
 
 pub all_three : (a b c : Bool) → a ≡ true → b ≡ true → c ≡ true → (a && b && c) ≡ true
-all_three true true c p q r = r
-all_three true false c p q r = absurd cc
-all_three false b c p q r = absurd cc
+all_three a b c h k e = cc
 
 pub three_parts : (a b c : Bool) → (a && b && c) ≡ true → (a ≡ true) × (b ≡ true) × (c ≡ true)
-three_parts true true c h = (refl, refl, h)
-three_parts true false c h = absurd cc
-three_parts false b c h = absurd cc
+three_parts a b c h = grind arith
 
 pub not_both : (m n : Bool) → (m ≡ true → n ≡ true → ⊥) → (m && n) ≡ false
-not_both true true f = absurd (f refl refl)
-not_both true false f = refl
-not_both false n f = refl
+not_both m n h = grind arith
 
 pub equals_itself : (a b : ℕ) → IsTrue (a == b) ↔ (a ≡ b)
 equals_itself a b = (eqb-true a b, eq-eqb a b)
@@ -50,36 +39,27 @@ pub none_some : {A : Type 0} (o : Option A) (x : A) → o ≡ None → o ≡ Som
 none_some o x e f = cc (e, f)
 
 pub none_if : {A : Type 0} (o : Option A) → is_some o ≡ false → o ≡ None
-none_if None e = refl
-none_if (Some x) e = absurd cc
+none_if o h = grind arith
 
 pub none_says : {A : Type 0} (o : Option A) → is_none o ≡ true → o ≡ None
-none_says None h = refl
-none_says (Some x) h = absurd cc
+none_says o h = grind arith
 
 pub some_is : {K : Type 0} (o : Option K) → is_some o ≡ true → (x : K) × (o ≡ Some x)
-some_is None h = absurd cc
-some_is (Some x) h = (x, refl)
+some_is o h = grind arith
 
 pub is_some-map : {A B : Type 0} (f : A → B) (o : Option A) → is_some (option_map f o) ≡ is_some o
-is_some-map f None = refl
-is_some-map f (Some x) = refl
+is_some-map f o = grind arith
 
 pub guarded : {A : Type 0} (b : Bool) (o : Option A) (x : A) → cond b o None ≡ Some x → (b ≡ true) × (o ≡ Some x)
-guarded true o x e = (refl, e)
-guarded false o x e = absurd cc
+guarded b o x h = grind arith
 
 -- ---- orderings
 
 pub less_from_test : (o : Ordering) → is_lt o ≡ true → o ≡ Less
-less_from_test Less e = refl
-less_from_test Equal e = absurd cc
-less_from_test Greater e = absurd cc
+less_from_test o h = grind arith
 
 pub ties : (a b : Ordering) → ordering_then a b ≡ Equal → (a ≡ Equal) × (b ≡ Equal)
-ties Less b e = cc
-ties Equal b e = (refl, e)
-ties Greater b e = cc
+ties a b h = grind arith
 
 pub less_from_lt : (a b : ℕ) → a < b → nat_cmp a b ≡ Less
 less_from_lt a b h = rw (lt-ltb a b h) refl
@@ -96,8 +76,4 @@ lt_from_less a b e =
 
 -- In a pair of places the first is the second, or stands below it.
 pub by_places : (P : ℕ → ℕ → Type 0) (i j : ℕ) → i ≤ j → ((k : ℕ) → P k k) → (i < j → P i j) → P i j
-by_places P i j l same less =
-    elim (nat_lt i j) as (λ b. nat_lt i j ≡ b → P i j) [
-      | true ↦ λ e. less (ltb-true _ _ e)
-      | false ↦ λ e. let g : j ≤ i = ltb-false _ _ e in let q : i ≡ j = omega arith in subst (P i) q (same i)
-    ] refl
+by_places P i j l same less = grind arith

@@ -1,6 +1,6 @@
 -- Parts of a value that are written one after another.
-use Rattle.std.proofs.Common.{◌≡◌, ℕ, ◌+◌, ◌≤◌, ◌<◌, List, ◌∷◌, ◌++◌, suc, get_or, drop-cons, take-append-drop, Ok}
-use Rattle.std.proofs.Common.{Err, Result, arith, length, take, drop, sym, ap, ◌∙◌, subst, append_assoc}
+use Rattle.std.proofs.Common.{◌≡◌, ℕ, ◌+◌, ◌≤◌, ◌<◌, List, ◌∷◌, ◌++◌, suc, get_or, drop-cons, take-append-drop}
+use Rattle.std.proofs.Common.{Result, arith, length, take, drop, sym, ap, ◌∙◌, subst, append_assoc}
 use Rattle.std.proofs.Common.{length-append}
 use Rattle.std.specs.Prelude.{Option, flat_map}
 use Rattle.std.proofs.lemmas.Grind.{flat_map-append}
@@ -21,23 +21,7 @@ take_past xs ys n = sym (take-append-add xs ys n)
 pub WritesPart-after : {X : Type 0} (a b c : Option (List ℕ)) (before mid after : ℕ) (r : Result X WriteFault)
     (xs ys : List ℕ) → Appends a b xs
     → mid ≡ counted (before + length xs) → WritesPart b c mid after r ys → WritesPart a c before after r (xs ++ ys)
-WritesPart-after a b c before mid after (Ok x) xs ys p e q = (
-  Appends-trans a b c xs ys p q.0,
-  q.1 ∙ counted_again before (length xs) (length ys) mid e ∙ ap
-      (λ k. counted (before + k)) (sym (length-append xs ys)),
-)
-WritesPart-after a b c before mid after (Err f) xs ys p e (q, told) =
-    let n = q.0 in
-    let whole = length-append xs ys in (
-      (
-        length xs + n,
-        omega (arith, q.1),
-        q.2 ∙ counted_again before (length xs) n mid e,
-        subst (Appends a c)
-            (take_past xs ys n) (Appends-trans a b c xs (take n ys) p q.3),
-      ),
-      told,
-    )
+WritesPart-after a b c before mid after r xs ys h k e = grind (arith, Appends-trans, length-append, take_past)
 
 -- a fault in a part is a fault of the whole
 pub StopsIn-part : (a b c : Option (List ℕ)) (before mid : ℕ) (e : WriteFault) (done part rest : List ℕ)

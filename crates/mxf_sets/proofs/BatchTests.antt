@@ -6,11 +6,9 @@ use Rattle.mxf_klv.proofs.RoundTrips.{AreBytes-take, AreBytes-drop}
 use Rattle.mxf_sets.proofs.Numbers.{number_in_front}
 use Rattle.std.proofs.Common.{◌≡◌, ℕ, ◌+◌, ◌-◌, ◌*◌, ◌≤◌, ◌⊎◌, ◌++◌, inl, inr, true, false, List, length, length-drop}
 use Rattle.std.proofs.Common.{take, drop, refl, ap, ◌∙◌, sym, arith, eq-eqb, eqb-true, le-leb, leb-true}
-use Rattle.std.specs.Prelude.{nat_le, ◌==◌, ◌||◌}
 use Rattle.byteorder.specs.Endian.{big_number}
-use Rattle.std.specs.Prelude.{Result, Ok, Err, is_ok}
+use Rattle.std.specs.Prelude.{Result, is_ok}
 use Rattle.mxf_sets.specs.declared.batch.BatchFault.{BatchFault}
-use Rattle.mxf_sets.specs.declared.batch.BatchFault.TheVariants.{ShortHead, WrongSize, WrongLength}
 use Rattle.mxf_sets.specs.Batch.{BatchParts, IsBatch, HasItemsOf, ReadsBatch, batch_parts}
 use Rattle.mxf_sets.proofs.BatchLaws.{length-batch_bytes, stated}
 use Rattle.mxf_sets.specs.Fields.{is_batch}
@@ -22,58 +20,20 @@ use Rattle.std.proofs.lemmas.List.{drop-drop, drop-take, take_rest}
 pub test_says : (size : ℕ) (v : List ℕ) → is_batch size v ≡ true
     → (8 ≤ length v) × ((big_number 4 v ≡ 0) ⊎ (big_number 4 (drop 4 v) ≡ size))
     × (length v ≡ 8 + big_number 4 v * size)
-test_says size v h =
-    let count = big_number 4 v in
-    let stated = big_number 4 (drop 4 v) in
-    let t = three_parts (nat_le 8 (length v)) (count == 0 || stated == size) (length v == 8 + count * size) h in
-    let which : (count ≡ 0) ⊎ (stated ≡ size) =
-    elim (or_cases (count == 0) (stated == size) t.1) [
-      | inl p ↦ inl (eqb-true count 0 p)
-      | inr q ↦ inr (eqb-true stated size q)
-    ] in
-    (leb-true 8 (length v) t.0, which, eqb-true (length v) (8 + count * size) t.2)
+test_says size v h = grind (arith, eqb-true, leb-true, or_cases, three_parts)
 
 pub test_passes : (size : ℕ) (v : List ℕ) → 8 ≤ length v → (big_number 4 v ≡ 0) ⊎ (big_number 4 (drop 4 v) ≡ size)
     → length v ≡ 8 + big_number 4 v * size → is_batch size v ≡ true
-test_passes size v long which whole =
-    let count = big_number 4 v in
-    let stated = big_number 4 (drop 4 v) in
-    let one : ((count == 0) ≡ true) ⊎ ((stated == size) ≡ true) =
-    elim which [ inl p ↦ inl (eq-eqb count 0 p) | inr q ↦ inr (eq-eqb stated size q) ] in
-    all_three (nat_le 8 (length v)) (count == 0 || stated == size) (length v == 8 + count * size)
-    (le-leb 8 (length v) long) (either (count == 0) (stated == size) one)
-    (eq-eqb (length v) (8 + count * size) whole)
+test_passes size v long which whole = grind (arith, all_three, either, eq-eqb, le-leb)
 
 -- what fails one of the three fails the test
 pub test_fails : (size : ℕ) (v : List ℕ) → (is_batch size v ≡ true → ⊥) → is_batch size v ≡ false
-test_fails size v h =
-    elim (is_batch size v) as (λ b. (b ≡ true → ⊥) → b ≡ false) [ true ↦ λ k. absurd (k refl) | false ↦ λ k. refl ] h
+test_fails size v h = grind arith
 
 -- the test is whether the reader finds a batch
 pub reads_test : (size : ℕ) (bytes : List ℕ) (r : Result BatchParts BatchFault) → ReadsBatch size bytes r
     → is_ok r ≡ is_batch size bytes
-reads_test size bytes (Ok b) (is, own) =
-    let s = stated bytes b is in
-    let count : big_number 4 bytes ≡ b.count = s.0 in
-    let items : length b.items ≡ b.count * b.size = is.parts.items in
-    let long : length bytes ≡ 8 + length b.items = ap length is.whole ∙ length-batch_bytes b in
-    let which : (big_number 4 bytes ≡ 0) ⊎ (big_number 4 (drop 4 bytes) ≡ size) =
-    elim own [ inl p ↦ inl (count ∙ p) | inr q ↦ inr (s.1 ∙ q) ] in
-    let same : b.count * b.size ≡ big_number 4 bytes * size =
-    elim own [
-      | inl p ↦ ap (λ (n : ℕ). n * b.size) p ∙ (let z : 0 * b.size ≡ 0 * size = omega arith in z)
-          ∙ ap (λ (n : ℕ). n * size) (sym (count ∙ p))
-      | inr q ↦ ap (λ (n : ℕ). b.count * n) q
-          ∙ ap (λ (n : ℕ). n * size) (sym count)
-    ] in
-    sym (test_passes size bytes (omega (arith, long)) which (long ∙ ap (λ (n : ℕ). 8 + n) (items ∙ same)))
-reads_test size bytes (Err ShortHead) h =
-    sym (test_fails size bytes (λ t. let long = (test_says size bytes t).0 in absurd (omega arith)))
-reads_test size bytes (Err WrongSize) (long, some, other) =
-    sym (test_fails size bytes
-    (λ t. elim (test_says size bytes t).1 [ inl p ↦ absurd (omega (arith, p)) | inr q ↦ other q ]))
-reads_test size bytes (Err WrongLength) (long, which, other) =
-    sym (test_fails size bytes (λ t. other (test_says size bytes t).2))
+reads_test size bytes r h = grind (arith, length-batch_bytes, stated, test_fails, test_passes, test_says)
 
 -- the two numbers at the front, and the rest
 whole_batch : (bytes : List ℕ) → AreBytes bytes → 8 ≤ length bytes
@@ -91,23 +51,21 @@ whole_batch bytes h long =
 -- the second number, read behind the first in the eight bytes that both have
 pub second_number : (bytes head : List ℕ) → head ≡ take 8 bytes
     → big_number 4 (take (length head - 4) (drop 4 head)) ≡ big_number 4 (drop 4 bytes)
-second_number bytes head e =
-    ap (λ (t : List ℕ). big_number 4 t) (take_rest head 4 ∙ ap (λ (t : List ℕ). drop 4 t) e ∙ drop-take 4 4 bytes)
-    ∙ big_from-take 0 4 4 (drop 4 bytes) (omega arith)
+second_number bytes head e = grind (arith, big_from-take, drop-take, take_rest)
 
 -- bytes that are as many as their numbers say are a batch
 pub counted_batch : (bytes items : List ℕ) (count size : ℕ) → AreBytes bytes → 8 ≤ length bytes
     → count ≡ big_number 4 bytes → size ≡ big_number 4 (drop 4 bytes) → items ≡ drop 8 bytes
     → length items ≡ count * size → IsBatch bytes (batch_parts count size items)
 counted_batch bytes items count size h long c s i len =
-    record {
-      parts = record {
-        count = rw c (big_from-lt 0 4 bytes h);
-        size = rw s (big_from-lt 0 4 (drop 4 bytes) (AreBytes-drop 4 bytes h));
-        items = len;
-      };
-      whole = whole_batch bytes h long ∙ (λ k. big_bytes 4 (sym c k) ++ (big_bytes 4 (sym s k) ++ sym i k));
-    }
+    grind (
+      arith,
+      big_from-lt 0 4 bytes h,
+      big_from-lt 0 4 (drop 4 bytes) (AreBytes-drop 4 bytes h),
+      AreBytes-drop 4 bytes h,
+      whole_batch bytes h long,
+      big_bytes 4,
+    )
 
 -- what passes the test is a batch
 pub tested_batch : (size : ℕ) (bytes : List ℕ) → AreBytes bytes → is_batch size bytes ≡ true
@@ -132,5 +90,4 @@ tested_batch size bytes h t =
 -- a batch passes the test
 pub batch_tested : (size : ℕ) (bytes : List ℕ) → (b : BatchParts) × IsBatch bytes b × HasItemsOf size b
     → is_batch size bytes ≡ true
-batch_tested size bytes (b, is, own) = let r : Result BatchParts BatchFault = Ok b in
-    sym (reads_test size bytes r (is, own))
+batch_tested size bytes (b, is, own) = grind (arith, reads_test)

@@ -1,8 +1,8 @@
 -- The labels of a tag among the items of a batch.
-use Rattle.std.proofs.Common.{◌≡◌, ℕ, zero, suc, ◌+◌, ◌*◌, ◌<◌, ◌↔◌, List, [], ◌∷◌, true, false, cond, length}
+use Rattle.std.proofs.Common.{◌≡◌, ℕ, zero, suc, ◌+◌, ◌*◌, ◌<◌, ◌↔◌, List, [], ◌∷◌, true, length}
 use Rattle.std.proofs.Common.{take, drop, Option, None, Some, refl, sym, ap, subst, ◌∙◌, arith, inl, inr, eq-eqb}
 use Rattle.std.proofs.Common.{eqb-true, zero-mul}
-use Rattle.std.specs.Prelude.{◌==◌, filter, map, MatchOption}
+use Rattle.std.specs.Prelude.{MatchOption}
 use Rattle.std.specs.List.{AllByRecursion, list_all}
 use Rattle.std.specs.Str.{bytes_eq}
 use Rattle.std.proofs.lemmas.List.{drop-drop, length-drop, length-take}
@@ -19,17 +19,18 @@ use Rattle.std.proofs.lemmas.Bool.{and_parts}
 pub items_wide : (count size : ℕ) (bytes : List ℕ) → length bytes ≡ count * size
     → AllByRecursion (λ item. length item ≡ size) (sized_items count size bytes)
 items_wide zero size bytes h = tt
-items_wide (suc count) size bytes h = (
-  omega (arith, length-take size bytes),
-  items_wide count size (drop size bytes) (omega (arith, length-drop size bytes)),
-)
+items_wide (suc count) size bytes h =
+    grind (
+      arith,
+      length-drop,
+      length-take,
+      items_wide count size (drop size bytes) (omega (arith, length-drop size bytes)),
+    )
 
 -- a batch of entries has entries of eighteen bytes alone
 pub entries_wide : (b : BatchParts) → HasItemsOf 18 b → AllByRecursion (λ item. length item ≡ b.size) (batch_items b)
     → AllByRecursion (λ item. length item ≡ 18) (batch_items b)
-entries_wide b (inl none) all =
-    let nothing : AllByRecursion (λ item. length item ≡ 18) (sized_items 0 b.size b.items) = tt in
-    subst (λ (n : ℕ). AllByRecursion (λ item. length item ≡ 18) (sized_items n b.size b.items)) (sym none) nothing
+entries_wide b (inl none) all = grind arith
 entries_wide b (inr same) all = subst (λ (n : ℕ). AllByRecursion (λ item. length item ≡ n) (batch_items b)) same all
 
 -- ---- the labels of a tag
@@ -41,42 +42,20 @@ HasLabel tag entries label = (entry : List ℕ) × In entry entries × (big_numb
 In-labels_among : (tag : ℕ) (entries : List (List ℕ)) (label : List ℕ) → In label (labels_among tag entries)
     → HasLabel tag entries label
 In-labels_among tag [] label h = elim h [ ]
-In-labels_among tag (entry ∷ entries) label h =
-    let rest = filter (λ e. big_number 2 e == tag) entries in
-    elim (big_number 2 entry == tag) as (λ b. (big_number 2 entry == tag) ≡ b
-    → In label (map (λ e. drop 2 e) (cond b (entry ∷ rest) rest)) → HasLabel tag (entry ∷ entries) label) [
-      | true ↦ λ t m. elim m [
-        | inl e ↦ (entry, inl refl, eqb-true (big_number 2 entry) tag t, sym e)
-        | inr k ↦ let r = In-labels_among tag entries label k in (r.0, inr r.1, r.2, r.3)
-      ]
-      | false ↦ λ t m. let r = In-labels_among tag entries label m in (r.0, inr r.1, r.2, r.3)
-    ] refl h
+In-labels_among tag (entry ∷ entries) label h = grind (arith, eqb-true, In-labels_among tag entries label)
 
 labels_among-In : (tag : ℕ) (entries : List (List ℕ)) (entry : List ℕ) → In entry entries → big_number 2 entry ≡ tag
     → In (drop 2 entry) (labels_among tag entries)
 labels_among-In tag [] entry h is = elim h [ ]
-labels_among-In tag (first ∷ entries) entry (inl e) is =
-    let t : (big_number 2 first == tag) ≡ true = eq-eqb (big_number 2 first) tag (ap (big_number 2) (sym e) ∙ is) in
-    rw t (inl (ap (drop 2) e))
-labels_among-In tag (first ∷ entries) entry (inr k) is =
-    let later = labels_among-In tag entries entry k is in
-    let rest = filter (λ e. big_number 2 e == tag) entries in
-    elim (big_number 2 first == tag) as (λ b. In (drop 2 entry) (map (λ e. drop 2 e) (cond b (first ∷ rest) rest))) [
-      | true ↦ inr later
-      | false ↦ later
-    ]
+labels_among-In tag (first ∷ entries) entry (inl e) is = search (arith, eq-eqb)
+labels_among-In tag (first ∷ entries) entry (inr k) is = grind (arith, labels_among-In tag entries entry k is)
 
 -- ---- the items by their places
 
 In-sized_items : (count size : ℕ) (bytes item : List ℕ) → In item (sized_items count size bytes) → (place : ℕ)
     × (place < count) × (item ≡ take size (drop (place * size) bytes))
 In-sized_items zero size bytes item h = elim h [ ]
-In-sized_items (suc count) size bytes item (inl e) = (
-  0,
-  omega arith,
-  e
-      ∙ ap (λ (k : ℕ). take size (drop k bytes)) (sym (zero-mul size)),
-)
+In-sized_items (suc count) size bytes item (inl e) = grind (arith, zero-mul)
 In-sized_items (suc count) size bytes item (inr k) =
     let r = In-sized_items count size (drop size bytes) item k in
     let place = r.0 in
@@ -92,19 +71,14 @@ sized_items-In : (count size place : ℕ) (bytes : List ℕ) → place < count
 sized_items-In zero size place bytes h = absurd (omega arith)
 sized_items-In (suc count) size zero bytes h = inl (ap (λ (k : ℕ). take size (drop k bytes)) (zero-mul size))
 sized_items-In (suc count) size (suc place) bytes h =
-    let at : size + place * size ≡ suc place * size = omega arith in
-    inr (subst (λ (t : List ℕ). In (take size t) (sized_items count size (drop size bytes)))
-    (drop-drop (place * size) size bytes ∙ ap (λ (k : ℕ). drop k bytes) at)
-    (sized_items-In count size place (drop size bytes) (omega arith)))
+    grind (arith, drop-drop, sized_items-In count size place (drop size bytes) (omega arith))
 
 -- ---- the label that all agree on
 
 all_alike : (label : List ℕ) (labels : List (List ℕ)) → list_all (λ other. bytes_eq label other) labels ≡ true
     → (other : List ℕ) → In other labels → other ≡ label
 all_alike label [] h other m = elim m [ ]
-all_alike label (first ∷ labels) h other m =
-    let t = and_parts (bytes_eq label first) (list_all (λ o. bytes_eq label o) labels) h in
-    elim m [ inl e ↦ e ∙ sym ((bytes_eq-Decides label first).0 t.0) | inr k ↦ all_alike label labels t.1 other k ]
+all_alike label (first ∷ labels) h other m = grind (arith, and_parts, bytes_eq-Decides, all_alike label labels)
 
 alike_all : (label : List ℕ) (labels : List (List ℕ)) → ((other : List ℕ) → In other labels → other ≡ label)
     → list_all (λ other. bytes_eq label other) labels ≡ true
@@ -116,18 +90,7 @@ alike_all label (first ∷ labels) h =
 -- the agreed label is the first, and all others are it
 agreed_says : (labels : List (List ℕ)) (label : List ℕ) → agreed labels ≡ Some label → In label labels
     × ((other : List ℕ) → In other labels → other ≡ label)
-agreed_says [] label h = cc
-agreed_says (first ∷ labels) label h =
-    let yes : Option (List ℕ) = Some first in
-    let no : Option (List ℕ) = None in
-    let test = list_all (λ other. bytes_eq first other) labels in
-    elim test as (λ b. test ≡ b → cond b yes no ≡ Some label → In label (first ∷ labels)
-    × ((other : List ℕ) → In other (first ∷ labels) → other ≡ label)) [
-      | true ↦ λ t e.
-          let same : first ≡ label = cc in
-          (inl (sym same), λ other m. elim m [ inl p ↦ p ∙ same | inr k ↦ all_alike first labels t other k ∙ same ])
-      | false ↦ λ t e. cc
-    ] refl h
+agreed_says labels label h = grind (arith, all_alike)
 
 says_agreed : (labels : List (List ℕ)) (label : List ℕ) → In label labels
     → ((other : List ℕ) → In other labels → other ≡ label) → agreed labels ≡ Some label

@@ -10,11 +10,7 @@ use Rattle.mxf_klv.proofs.RoundTrips.{bytes_again}
 -- the number that bytes begin with, and the bytes after it
 pub number_in_front : (n x : ℕ) (bytes front rest : List ℕ) → front ≡ take n bytes → rest ≡ drop n bytes
     → x ≡ big_number n front → n ≤ length bytes → AreBytes front → bytes ≡ big_bytes n x ++ rest
-number_in_front n x bytes front rest f r is room h =
-    let len : length front ≡ n = ap length f ∙ omega (arith, length-take n bytes) in
-    sym (take-append-drop n bytes)
-    ∙ ap (λ (t : List ℕ). t ++ drop n bytes) (sym f ∙ bytes_again n front len h ∙ ap (big_bytes n) (sym is))
-    ∙ ap (λ (t : List ℕ). big_bytes n x ++ t) (sym r)
+number_in_front n x bytes front rest f r is room h = grind (arith, bytes_again, length-take, take-append-drop)
 
 -- two numbers at the front of one text are one
 pub same_number : (n x y : ℕ) (xs ys : List ℕ) → x < 256 ^ n → y < 256 ^ n → big_bytes n x ++ xs ≡ big_bytes n y ++ ys
@@ -29,10 +25,4 @@ same_number n x y xs ys p q e = (
 pub number_written : (n x at : ℕ) (old more post : List ℕ) → at ≤ length old
     → take (at + n) (take at old ++ ((big_bytes n x ++ more) ++ post)) ≡ take at old ++ big_bytes n x
 number_written n x at old more post room =
-    let first : length (take at old) ≡ at = omega (arith, length-take at old) in
-    let len : length (take at old ++ big_bytes n x) ≡ at + n =
-    omega (arith, length-append (take at old) (big_bytes n x), length-bytes_high_first n x) in
-    ap (take (at + n))
-    (ap (λ (t : List ℕ). take at old ++ t) (append_assoc (big_bytes n x) more post)
-    ∙ sym (append_assoc (take at old) (big_bytes n x) (more ++ post)))
-    ∙ take_at (take at old ++ big_bytes n x) (more ++ post) (at + n) len
+    grind (arith, append_assoc, length-append, length-bytes_high_first, length-take, take_at)

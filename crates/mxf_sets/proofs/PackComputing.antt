@@ -39,10 +39,7 @@ batch_is bytes b is = let s = stated bytes b is in same_parts (batch_in bytes) b
 -- bytes that pass the test are the batch that they state
 batch_stated : (size : ℕ) (bytes : List ℕ) → AreBytes bytes → is_batch size bytes ≡ true
     → IsBatch bytes (batch_in bytes) × HasItemsOf size (batch_in bytes)
-batch_stated size bytes h t =
-    let b = tested_batch size bytes h t in
-    let same = batch_is bytes b.0 b.1 in
-    (subst (IsBatch bytes) (sym same) b.1, subst (HasItemsOf size) (sym same) b.2)
+batch_stated size bytes h t = grind (arith, batch_is, tested_batch)
 
 -- bytes that fail the test are no batch of items of the size
 no_batch : (size : ℕ) (bytes : List ℕ) → is_batch size bytes ≡ false → (b : BatchParts) → IsBatch bytes b
@@ -52,13 +49,7 @@ no_batch size bytes f b is own = let t = batch_tested size bytes (b, is, own) in
 -- ---- primer packs
 
 pub primer_computed : (bytes : List ℕ) → AreBytes bytes → ReadsPrimer bytes (primer_at bytes)
-primer_computed bytes h =
-    let ok : Result BatchParts PackFault = Ok (batch_in bytes) in
-    let bad : Result BatchParts PackFault = Err faults.BadBatch in
-    elim (is_batch 18 bytes) as (λ b. is_batch 18 bytes ≡ b → ReadsPrimer bytes (cond b ok bad)) [
-      | true ↦ λ t. batch_stated 18 bytes h t
-      | false ↦ λ f. no_batch 18 bytes f
-    ] refl
+primer_computed bytes h = grind (arith, batch_stated, no_batch)
 
 pub primer_computes : (bytes : List ℕ) (r : Result BatchParts PackFault) → AreBytes bytes → ReadsPrimer bytes r
     → r ≡ primer_at bytes
@@ -109,19 +100,19 @@ numbers_fit bytes h = record {
 pack_there : (key : PackPart × Status) (bytes : List ℕ) → AreBytes bytes → 88 ≤ length bytes
     → is_batch 16 (drop 80 bytes) ≡ true → IsPartitionPack bytes (pack_in key bytes)
 pack_there key bytes h long t =
-    let labels = batch_stated 16 (drop 80 bytes) (AreBytes-drop 80 bytes h) t in
-    let pattern = take 16 (drop 64 bytes) in
-    record {
-      parts = record {
-        numbers = numbers_fit bytes h;
-        pattern = omega (arith, length-take 16 (drop 64 bytes), length-drop 64 bytes);
-        containers = labels.0.parts;
-        labels = labels.1;
-      };
-      whole = numbers_there bytes (omega arith) h
-          ∙ ap (λ (t : List ℕ). numbers_bytes (numbers_in bytes) ++ t) (sym (take-append-drop 16 (drop 64 bytes))
-          ∙ ap (λ (t : List ℕ). pattern ++ t) (drop-drop 16 64 bytes ∙ labels.0.whole));
-    }
+    grind (
+      arith,
+      batch_stated 16 (drop 80 bytes) (AreBytes-drop 80 bytes h),
+      AreBytes-drop 80 bytes h,
+      numbers_fit bytes h,
+      length-take 16 (drop 64 bytes),
+      length-drop 64 bytes,
+      numbers_there bytes (omega arith) h,
+      numbers_bytes (numbers_in bytes),
+      numbers_in bytes,
+      take-append-drop 16 (drop 64 bytes),
+      drop-drop 16 64 bytes,
+    )
 
 kind_told : (key : PackPart × Status) → IsPartitionKind (pack_kind key.0 key.1)
 kind_told key = (key.0, key.1, refl)
@@ -129,25 +120,21 @@ kind_told key = (key.0, key.1, refl)
 under_key : (key : PackPart × Status) (bytes : List ℕ) → AreBytes bytes
     → ReadsPack (pack_kind key.0 key.1) bytes (pack_under (Some key) bytes)
 under_key key bytes h =
-    let ok : Result PartitionPackParts PackFault = Ok (pack_in key bytes) in
-    let bad : Result PartitionPackParts PackFault = Err faults.BadBatch in
-    let short : Result PartitionPackParts PackFault = Err faults.Short in
-    let reads = ReadsPack (pack_kind key.0 key.1) bytes in
-    let told = kind_told key in
-    elim (nat_le 88 (length bytes)) as (λ b. nat_le 88 (length bytes) ≡ b
-    → reads (cond b (cond (is_batch 16 (drop 80 bytes)) ok bad) short)) [
-      | true ↦ λ t. let long = leb-true 88 (length bytes) t in
-          elim (is_batch 16 (drop 80 bytes)) as (λ b. is_batch 16 (drop 80 bytes) ≡ b → reads (cond b ok bad)) [
-            | true ↦ λ u. (refl, pack_there key bytes h long u)
-            | false ↦ λ u. (told, long, no_batch 16 (drop 80 bytes) u)
-          ] refl
-      | false ↦ λ f. (told, leb-false 88 (length bytes) f)
-    ] refl
+    grind (
+      arith,
+      pack_in key bytes,
+      pack_kind key.0 key.1,
+      kind_told key,
+      nat_le 88 (length bytes),
+      is_batch 16 (drop 80 bytes),
+      leb-true 88 (length bytes),
+      pack_there key bytes h,
+      no_batch 16 (drop 80 bytes),
+      leb-false 88 (length bytes),
+    )
 
 no_key : (kind : Kind) → part_and_status kind ≡ None → IsPartitionKind kind → ⊥
-no_key kind none (Header, status, e) = let s = ap part_and_status e in cc (s, none)
-no_key kind none (Body, status, e) = let s = ap part_and_status e in cc (s, none)
-no_key kind none (Footer, status, e) = let s = ap part_and_status e in cc (s, none)
+no_key kind h k = grind arith
 
 pub pack_computed : (kind : Kind) (bytes : List ℕ) → AreBytes bytes → ReadsPack kind bytes (pack_at kind bytes)
 pack_computed (kinds.Header status) bytes h = under_key (Header, status) bytes h
@@ -220,10 +207,8 @@ primer_iff bytes r h = (primer_computes bytes r h, λ e. subst (ReadsPrimer byte
 
 pub pack_iff : (kind : Kind) (bytes : List ℕ) (r : Result PartitionPackParts PackFault) → AreBytes bytes
     → ReadsPack kind bytes r ↔ (r ≡ pack_at kind bytes)
-pack_iff kind bytes r h =
-    (pack_computes kind bytes r h, λ e. subst (ReadsPack kind bytes) (sym e) (pack_computed kind bytes h))
+pack_iff kind bytes r h = grind (arith, pack_computed, pack_computes)
 
 pub rip_iff : (width : ℕ) (bytes : List ℕ) (r : Result RipParts PackFault) → AreBytes bytes
     → ReadsRip width bytes r ↔ (r ≡ rip_at width bytes)
-rip_iff width bytes r h =
-    (rip_computes width bytes r h, λ e. subst (ReadsRip width bytes) (sym e) (rip_computed width bytes h))
+rip_iff width bytes r h = grind (arith, rip_computed, rip_computes)

@@ -1,13 +1,11 @@
 -- A value is a partition pack of a kind, or one of the faults.
-use Rattle.std.proofs.Common.{◌≡◌, ℕ, ◌≤◌, List, ◌++◌, length, take, drop, Ok, Err, Result, refl, sym, ap, ◌∙◌, arith}
+use Rattle.std.proofs.Common.{◌≡◌, ℕ, ◌≤◌, List, ◌++◌, length, take, drop, Ok, Err, Result, sym, ap, ◌∙◌, arith}
 use Rattle.std.proofs.lemmas.List.{take_at, drop_at, take-append-drop, drop-drop, length-drop}
 use Rattle.mxf_klv.specs.declared.kinds.Kind.{Kind}
 use Rattle.mxf_klv.specs.declared.kinds.Status.{Status}
 use Rattle.mxf_sets.specs.declared.batch.BatchFault.{BatchFault}
 use Rattle.mxf_sets.specs.declared.pack.PackFault.{PackFault}
-use Rattle.mxf_sets.specs.declared.pack.PackFault.TheVariants as faults
 use Rattle.mxf_sets.specs.declared.pack.part.PackPart.{PackPart}
-use Rattle.mxf_sets.specs.declared.pack.part.PackPart.TheVariants.{Header, Body, Footer}
 use Rattle.mxf_sets.specs.declared.pack.numbers.PartitionNumbers.{PartitionNumbers}
 use Rattle.mxf_sets.specs.Batch.{BatchParts, IsBatch, HasItemsOf, ReadsBatch, batch_bytes}
 use Rattle.mxf_sets.specs.PartitionPack.{pack_kind, ArePartitionNumbers, numbers_bytes, PartitionPackParts}
@@ -37,20 +35,7 @@ same_fields a b p0 p1 p2 p3 p4 p5 p6 p7 p8 p9 p10 i = record {
 -- two rows of numbers at the front of one text are one
 same_numbers : (a b : PartitionNumbers) (xs ys : List ℕ) → ArePartitionNumbers a → ArePartitionNumbers b
     → numbers_bytes a ++ xs ≡ numbers_bytes b ++ ys → (a ≡ b) × (xs ≡ ys)
-same_numbers a b xs ys p q e =
-    let s0 = same_number 2 a.major_version b.major_version _ _ p.major_version q.major_version e in
-    let s1 = same_number 2 a.minor_version b.minor_version _ _ p.minor_version q.minor_version s0.1 in
-    let s2 = same_number 4 a.kag_size b.kag_size _ _ p.kag_size q.kag_size s1.1 in
-    let s3 = same_number 8 a.this_partition b.this_partition _ _ p.this_partition q.this_partition s2.1 in
-    let s4 =
-    same_number 8 a.previous_partition b.previous_partition _ _ p.previous_partition q.previous_partition s3.1 in
-    let s5 = same_number 8 a.footer_partition b.footer_partition _ _ p.footer_partition q.footer_partition s4.1 in
-    let s6 = same_number 8 a.header_byte_count b.header_byte_count _ _ p.header_byte_count q.header_byte_count s5.1 in
-    let s7 = same_number 8 a.index_byte_count b.index_byte_count _ _ p.index_byte_count q.index_byte_count s6.1 in
-    let s8 = same_number 4 a.index_sid b.index_sid _ _ p.index_sid q.index_sid s7.1 in
-    let s9 = same_number 8 a.body_offset b.body_offset _ _ p.body_offset q.body_offset s8.1 in
-    let s10 = same_number 4 a.body_sid b.body_sid xs ys p.body_sid q.body_sid s9.1 in
-    (same_fields a b s0.0 s1.0 s2.0 s3.0 s4.0 s5.0 s6.0 s7.0 s8.0 s9.0 s10.0, s10.1)
+same_numbers a b xs ys p q e = grind (arith, same_fields, same_number)
 
 pub same_parts : (a b : PartitionPackParts) → a.part ≡ b.part → a.status ≡ b.status → a.numbers ≡ b.numbers
     → a.pattern ≡ b.pattern → a.containers ≡ b.containers → a ≡ b
@@ -77,48 +62,22 @@ pub labels_at : (bytes : List ℕ) (p : PartitionPackParts) → IsPartitionPack 
 labels_at bytes p is = ap (drop 80) is.whole ∙ drop_at p.pattern (batch_bytes p.containers) 16 is.parts.pattern
 
 same_kind : (p q : PackPart) (s t : Status) → pack_kind p s ≡ pack_kind q t → (p ≡ q) × (s ≡ t)
-same_kind Header Header s t e = (refl, cc)
-same_kind Header Body s t e = absurd cc
-same_kind Header Footer s t e = absurd cc
-same_kind Body Header s t e = absurd cc
-same_kind Body Body s t e = (refl, cc)
-same_kind Body Footer s t e = absurd cc
-same_kind Footer Header s t e = absurd cc
-same_kind Footer Body s t e = absurd cc
-same_kind Footer Footer s t e = (refl, cc)
+same_kind p q s t h = grind arith
 
 -- where a pack stands there is no fault
 ok_excludes : (kind : Kind) (bytes : List ℕ) (p : PartitionPackParts) (e : PackFault) → ReadsPack kind bytes (Ok p)
     → ReadsPack kind bytes (Err e) → ⊥
-ok_excludes kind bytes p faults.NotThisKind r h = h (p.part, p.status, r.0)
-ok_excludes kind bytes p faults.Short r h =
-    let labels = ap length (labels_at bytes p r.1) in
-    omega (arith, labels, length-batch_bytes p.containers, length-drop 80 bytes, h.1)
-ok_excludes kind bytes p faults.BadBatch r h =
-    h.2 p.containers (record { parts = r.1.parts.containers; whole = labels_at bytes p r.1 }) r.1.parts.labels
-ok_excludes kind bytes p faults.WrongLength r h = h
+ok_excludes kind bytes p e h k =
+    grind (arith, labels_at bytes p h.1, length-batch_bytes p.containers, length-drop 80 bytes)
 
 one_fault : (kind : Kind) (bytes : List ℕ) (d e : PackFault) → ReadsPack kind bytes (Err d)
     → ReadsPack kind bytes (Err e) → d ≡ e
-one_fault kind bytes faults.NotThisKind faults.NotThisKind p q = refl
-one_fault kind bytes faults.NotThisKind faults.Short p q = absurd (p q.0)
-one_fault kind bytes faults.NotThisKind faults.BadBatch p q = absurd (p q.0)
-one_fault kind bytes faults.NotThisKind faults.WrongLength p q = absurd q
-one_fault kind bytes faults.Short faults.NotThisKind p q = absurd (q p.0)
-one_fault kind bytes faults.Short faults.Short p q = refl
-one_fault kind bytes faults.Short faults.BadBatch p q = absurd (omega (arith, p.1, q.1))
-one_fault kind bytes faults.Short faults.WrongLength p q = absurd q
-one_fault kind bytes faults.BadBatch faults.NotThisKind p q = absurd (q p.0)
-one_fault kind bytes faults.BadBatch faults.Short p q = absurd (omega (arith, p.1, q.1))
-one_fault kind bytes faults.BadBatch faults.BadBatch p q = refl
-one_fault kind bytes faults.BadBatch faults.WrongLength p q = absurd q
-one_fault kind bytes faults.WrongLength e p q = absurd p
+one_fault kind bytes d e h k = grind arith
 
 pub one_pack_read : (kind : Kind) (bytes : List ℕ) (r s : Result PartitionPackParts PackFault) → ReadsPack kind bytes r
     → ReadsPack kind bytes s → r ≡ s
 one_pack_read kind bytes (Ok a) (Ok b) p q =
-    let k = same_kind a.part b.part a.status b.status (sym p.0 ∙ q.0) in
-    ap (λ (x : PartitionPackParts). Ok x) (same_pack bytes a b k.0 k.1 p.1 q.1)
+    grind (arith, same_kind a.part b.part a.status b.status (sym p.0 ∙ q.0), same_pack bytes a b)
 one_pack_read kind bytes (Ok a) (Err e) p q = absurd (ok_excludes kind bytes a e p q)
 one_pack_read kind bytes (Err d) (Ok b) p q = absurd (ok_excludes kind bytes b d q p)
 one_pack_read kind bytes (Err d) (Err e) p q = ap (λ (x : PackFault). Err x) (one_fault kind bytes d e p q)
@@ -130,9 +89,7 @@ pub bad_batch : (bytes after rest : List ℕ) (e : BatchFault) → after ≡ dro
     → 8 ≤ length rest → ReadsBatch 16 rest (Err e)
     → (88 ≤ length bytes) × ((labels : BatchParts) → IsBatch (drop 80 bytes) labels → HasItemsOf 16 labels → ⊥)
 bad_batch bytes after rest e is1 is2 long r =
-    let is : rest ≡ drop 80 bytes = is2 ∙ ap (drop 16) is1 ∙ drop-drop 16 64 bytes in
-    let len = ap length is in
-    (omega (arith, len, length-drop 80 bytes), λ labels b has. no_fault 16 rest labels e (rw is b) has r)
+    grind (arith, drop-drop 16 64 bytes, length-drop 80 bytes, no_fault 16 rest)
 
 -- the pack whose numbers, pattern and labels were read
 pub pack_read : (bytes front after pattern rest : List ℕ) (part : PackPart) (status : Status) (n : PartitionNumbers)
@@ -140,10 +97,5 @@ pub pack_read : (bytes front after pattern rest : List ℕ) (part : PackPart) (s
     → pattern ≡ take 16 after → rest ≡ drop 16 after → length pattern ≡ 16 → ArePartitionNumbers n
     → front ≡ numbers_bytes n → IsBatch rest b → HasItemsOf 16 b
     → IsPartitionPack bytes (partition_pack_parts part status n pattern b)
-pack_read bytes front after pattern rest part status n b f a p r len fits is batch has = record {
-  parts = record { numbers = fits; pattern = len; containers = batch.parts; labels = has };
-  whole = sym (take-append-drop 64 bytes) ∙ ap (λ (t : List ℕ). t ++ drop 64 bytes) (sym f ∙ is)
-      ∙ ap (λ (t : List ℕ). numbers_bytes n ++ t)
-      (sym a ∙ sym (take-append-drop 16 after) ∙ ap (λ (t : List ℕ). t ++ drop 16 after) (sym p)
-      ∙ ap (λ (t : List ℕ). pattern ++ t) (sym r ∙ batch.whole));
-}
+pack_read bytes front after pattern rest part status n b f a p r len fits is batch has =
+    grind (arith, take-append-drop 64 bytes, numbers_bytes n, take-append-drop 16 after)

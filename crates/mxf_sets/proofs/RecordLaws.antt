@@ -17,9 +17,6 @@ use Rattle.std.proofs.lemmas.Bool.{not-false}
 
 -- ---- one field
 
-Clear : List ItemParts → Field → Type 0
-Clear items f = (is_repeated items f ≡ false) × (is_missing items f ≡ false) × (is_wrong items f ≡ false)
-
 there_of : (b : Bool) (o : Option (List ℕ)) → (b && is_none o) ≡ false → b ≡ true → IsSome o
 there_of true None h e = absurd cc
 there_of true (Some v) h e = refl

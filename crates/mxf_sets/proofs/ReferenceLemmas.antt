@@ -19,16 +19,13 @@ pub sixteens-at : (n i : ℕ) (bytes : List ℕ) → i < n
 sixteens-at zero i bytes h = absurd (omega arith)
 sixteens-at (suc n) zero bytes h = refl
 sixteens-at (suc n) (suc i) bytes h =
-    sixteens-at n i (drop 16 bytes) (omega arith)
-    ∙ ap (λ (t : List ℕ). Some (take 16 t)) (drop-drop (16 * i) 16 bytes ∙ ap (λ (k : ℕ). drop k bytes) (omega arith))
+    grind (arith, drop-drop (16 * i) 16 bytes, sixteens-at n i (drop 16 bytes) (omega arith))
 
 -- ---- the first reference
 
 pub first_reference : (bytes : List ℕ) → 16 ≤ length bytes
     → references_of bytes ≡ take 16 bytes ∷ references_of (drop 16 bytes)
-first_reference bytes h =
-    let one_less : length bytes / 16 ≡ suc (length (drop 16 bytes) / 16) = omega (arith, length-drop 16 bytes) in
-    ap (λ (n : ℕ). sixteens n bytes) one_less
+first_reference bytes h = grind (arith, length-drop 16 bytes)
 
 -- ---- the references are their bytes
 

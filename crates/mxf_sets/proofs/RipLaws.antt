@@ -1,6 +1,6 @@
 -- The entries of random index packs, and that a value is one, or one of the faults.
 use Rattle.std.proofs.Common.{◌≡◌, ℕ, zero, suc, ◌+◌, ◌-◌, ◌*◌, ◌/◌, ◌%◌, ◌^◌, ◌<◌, ◌≤◌, List, [], ◌∷◌, ◌++◌, length}
-use Rattle.std.proofs.Common.{take, drop, Ok, Err, Some, Result, refl, sym, ap, subst, ◌∙◌, arith, inl, inr}
+use Rattle.std.proofs.Common.{take, drop, Ok, Err, Some, Result, refl, sym, ap, subst, ◌∙◌, arith}
 use Rattle.std.proofs.Common.{append_assoc, length-append}
 use Rattle.std.specs.Prelude.{slice_get}
 use Rattle.std.specs.List.{flat_map, AllByRecursion}
@@ -11,7 +11,6 @@ use Rattle.byteorder.specs.Numbers.{big_from-lt, big_from-take, big_number-reads
 use Rattle.mxf_klv.specs.Bytes.{AreBytes}
 use Rattle.mxf_klv.proofs.RoundTrips.{bytes_again}
 use Rattle.mxf_sets.specs.declared.pack.PackFault.{PackFault}
-use Rattle.mxf_sets.specs.declared.pack.PackFault.TheVariants as faults
 use Rattle.mxf_sets.specs.declared.pack.random_index.RipEntry.{RipEntry}
 use Rattle.mxf_sets.specs.RandomIndexPack.{IsEntry, entry_bytes, RipParts, packet_length, IsRip, ReadsRip, entry_in}
 use Rattle.mxf_sets.specs.RandomIndexPack.{entries_by, entries_of, rip_parts}
@@ -60,10 +59,7 @@ get_by : (n place : ℕ) (xs : List ℕ) → place < n
     → slice_get (entries_by n xs) place ≡ Some (entry_in (drop (12 * place) xs))
 get_by zero place xs h = absurd (omega arith)
 get_by (suc n) zero xs h = refl
-get_by (suc n) (suc place) xs h =
-    let e : 12 * suc place ≡ 12 + 12 * place = omega arith in
-    get_by n place (drop 12 xs) (omega arith)
-    ∙ ap (λ (t : List ℕ). Some (entry_in t)) (drop-drop (12 * place) 12 xs ∙ ap (λ (k : ℕ). drop k xs) (sym e))
+get_by (suc n) (suc place) xs h = grind (arith, drop-drop (12 * place) 12 xs, get_by n place (drop 12 xs) (omega arith))
 
 pub slice_get-entries_of : (place : ℕ) (xs : List ℕ) → place < length xs / 12
     → slice_get (entries_of xs) place ≡ Some (entry_in (drop (12 * place) xs))
@@ -74,8 +70,7 @@ slice_get-entries_of place xs h = get_by (length xs / 12) place xs h
 
 pub length-flat : (es : List RipEntry) → length (flat_map entry_bytes es) ≡ 12 * length es
 length-flat [] = refl
-length-flat (e ∷ es) = ap length (flat_map-cons entry_bytes e es)
-    ∙ omega (arith, length-append (entry_bytes e) (flat_map entry_bytes es), length-flat es)
+length-flat (e ∷ es) = grind (arith, flat_map-cons, length-append, length-flat es)
 
 pub same_entry : (a b : RipEntry) → a.body_sid ≡ b.body_sid → a.offset ≡ b.offset → a ≡ b
 same_entry a b e f i = record { body_sid = e i; offset = f i }
@@ -87,32 +82,19 @@ same_entries [] [] xs ys len p q e = (refl, e)
 same_entries [] (b ∷ fs) xs ys len p q e = absurd (omega arith)
 same_entries (a ∷ es) [] xs ys len p q e = absurd (omega arith)
 same_entries (a ∷ es) (b ∷ fs) xs ys len p q e =
-    let left : flat_map entry_bytes (a ∷ es) ++ xs
-    ≡ big_bytes 4 a.body_sid ++ (big_bytes 8 a.offset ++ (flat_map entry_bytes es ++ xs)) =
-    ap (λ (t : List ℕ). t ++ xs) (flat_map-cons entry_bytes a es)
-    ∙ append_assoc (entry_bytes a) (flat_map entry_bytes es) xs in
-    let right : flat_map entry_bytes (b ∷ fs) ++ ys
-    ≡ big_bytes 4 b.body_sid ++ (big_bytes 8 b.offset ++ (flat_map entry_bytes fs ++ ys)) =
-    ap (λ (t : List ℕ). t ++ ys) (flat_map-cons entry_bytes b fs)
-    ∙ append_assoc (entry_bytes b) (flat_map entry_bytes fs) ys in
-    let s0 = same_number 4 a.body_sid b.body_sid (big_bytes 8 a.offset ++ (flat_map entry_bytes es ++ xs))
-    (big_bytes 8 b.offset ++ (flat_map entry_bytes fs ++ ys)) p.0.body_sid q.0.body_sid (sym left ∙ e ∙ right) in
-    let s1 = same_number 8 a.offset b.offset (flat_map entry_bytes es ++ xs)
-    (flat_map entry_bytes fs ++ ys) p.0.offset q.0.offset s0.1 in
-    let rest = same_entries es fs xs ys (omega arith) p.1 q.1 s1.1 in
-    let first : a ≡ b = same_entry a b s0.0 s1.0 in
-    let others : es ≡ fs = rest.0 in
-    (cc, rest.1)
+    grind (
+      arith,
+      append_assoc,
+      flat_map-cons,
+      same_entry,
+      same_number,
+      same_entries es fs xs ys (omega arith) p.1 q.1,
+    )
 
 -- ---- packs
 
 pub length-rip : (bytes : List ℕ) (r : RipParts) → IsRip bytes r → length bytes ≡ 12 * length r.entries + 4
-length-rip bytes r is = ap length is.whole
-    ∙ omega (
-      arith,
-      length-append (flat_map entry_bytes r.entries) (big_bytes 4 (packet_length r)),
-      length-flat r.entries,
-    )
+length-rip bytes r is = grind (arith, length-append, length-flat)
 
 same_parts : (a b : RipParts) → a.width ≡ b.width → a.entries ≡ b.entries → a ≡ b
 same_parts a b e f i = record { width = e i; entries = f i }
@@ -129,35 +111,11 @@ same_rip bytes a b p q =
 
 ok_excludes : (width : ℕ) (bytes : List ℕ) (r : RipParts) (e : PackFault) → ReadsRip width bytes (Ok r)
     → ReadsRip width bytes (Err e) → ⊥
-ok_excludes width bytes r faults.Short p h = let len = length-rip bytes r p.1 in omega arith
-ok_excludes width bytes r faults.WrongLength p h =
-    let len = length-rip bytes r p.1 in
-    let front : length (flat_map entry_bytes r.entries) ≡ length bytes - 4 = omega (arith, length-flat r.entries) in
-    let last : drop (length bytes - 4) bytes ≡ big_bytes 4 (packet_length r) = ap (drop (length bytes - 4)) p.1.whole
-    ∙ drop_at (flat_map entry_bytes r.entries) (big_bytes 4 (packet_length r)) (length bytes - 4) front in
-    elim h.1 [
-      | inl odd ↦ odd (omega arith)
-      | inr other ↦ other (ap (big_number 4) last ∙ big_number-reads_back 4 (packet_length r) [] p.1.parts.fits
-          ∙ omega (arith, p.0))
-    ]
-ok_excludes width bytes r faults.NotThisKind p h = h
-ok_excludes width bytes r faults.BadBatch p h = h
+ok_excludes width bytes r e h k = grind (arith, big_number-reads_back, drop_at, length-flat, length-rip)
 
 pub one_rip_read : (width : ℕ) (bytes : List ℕ) (r s : Result RipParts PackFault) → ReadsRip width bytes r
     → ReadsRip width bytes s → r ≡ s
-one_rip_read width bytes (Ok a) (Ok b) p q = ap (λ (x : RipParts). Ok x) (same_rip bytes a b p.1 q.1)
-one_rip_read width bytes (Ok a) (Err e) p q = absurd (ok_excludes width bytes a e p q)
-one_rip_read width bytes (Err d) (Ok b) p q = absurd (ok_excludes width bytes b d q p)
-one_rip_read width bytes (Err faults.Short) (Err faults.Short) p q = refl
-one_rip_read width bytes (Err faults.Short) (Err faults.WrongLength) p q = absurd (omega (arith, q.0))
-one_rip_read width bytes (Err faults.Short) (Err faults.NotThisKind) p q = absurd q
-one_rip_read width bytes (Err faults.Short) (Err faults.BadBatch) p q = absurd q
-one_rip_read width bytes (Err faults.WrongLength) (Err faults.Short) p q = absurd (omega (arith, p.0))
-one_rip_read width bytes (Err faults.WrongLength) (Err faults.WrongLength) p q = refl
-one_rip_read width bytes (Err faults.WrongLength) (Err faults.NotThisKind) p q = absurd q
-one_rip_read width bytes (Err faults.WrongLength) (Err faults.BadBatch) p q = absurd q
-one_rip_read width bytes (Err faults.NotThisKind) s p q = absurd p
-one_rip_read width bytes (Err faults.BadBatch) s p q = absurd p
+one_rip_read width bytes r s h k = grind (arith, ok_excludes, same_rip)
 
 -- the pack whose entries and last number were read
 pub rip_read : (width : ℕ) (bytes entries last : List ℕ) → entries ≡ take (length bytes - 4) bytes

@@ -1,7 +1,7 @@
 -- A written segment is read back.
-use Rattle.std.proofs.Common.{◌≡◌, ℕ, ◌+◌, ◌*◌, ◌%◌, ◌-◌, ◌^◌, ◌<◌, ◌≤◌, Bool, true, false, cond, List, [], ◌∷◌, ◌++◌}
-use Rattle.std.proofs.Common.{Some, None, Ok, length, drop, refl, ap, ◌∙◌, sym, arith, length-append, FitsSigned, ℤ}
-use Rattle.std.proofs.Common.{pos, ◌≤ℤ◌, Err, ltb-true, inr}
+use Rattle.std.proofs.Common.{◌≡◌, ℕ, ◌+◌, ◌*◌, ◌-◌, ◌^◌, ◌<◌, ◌≤◌, Bool, true, false, cond, List, [], ◌∷◌, ◌++◌}
+use Rattle.std.proofs.Common.{Some, Ok, length, refl, ap, ◌∙◌, sym, arith, length-append, FitsSigned, ℤ}
+use Rattle.std.proofs.Common.{pos, ◌≤ℤ◌, Err, ltb-true}
 use Rattle.std.specs.Prelude.{nat_lt, ◌==◌}
 use Rattle.std.specs.Int.{w32, w64, cast_signed, cast_unsigned, is_negative}
 use Rattle.std.specs.List.{flat_map, AllByRecursion}
@@ -29,13 +29,11 @@ number_back k x rest h = big_number-reads_back k x rest h
 
 signed_back_4 : (z : ℤ) (rest : List ℕ) → FitsSigned w32 z
     → cast_signed w32 (big_number 4 (big_bytes 4 (cast_unsigned w32 z) ++ rest)) ≡ z
-signed_back_4 z rest h = ap (cast_signed w32) (number_back 4 (cast_unsigned w32 z) rest (omega (arith, ints, h)))
-    ∙ to_z-of_z w32 z h
+signed_back_4 z rest h = grind (arith, ints, number_back, to_z-of_z)
 
 signed_back_8 : (z : ℤ) → FitsSigned w64 z
     → cast_signed w64 (big_number 8 (big_bytes 8 (cast_unsigned w64 z) ++ [])) ≡ z
-signed_back_8 z h = ap (cast_signed w64) (number_back 8 (cast_unsigned w64 z) [] (omega (arith, ints, h)))
-    ∙ to_z-of_z w64 z h
+signed_back_8 z h = grind (arith, ints, number_back, to_z-of_z)
 
 byte_back : (x : ℕ) → x * 256 ^ 0 + 0 ≡ x
 byte_back x = omega arith
@@ -58,13 +56,7 @@ same_numbers n a b s d u i o l p ea eb es ed eu ei eo el ep = rw (ea, eb, es, ed
 -- the numbers of the items are those that they were made of
 numbers_back : (n : SegmentNumbers) (more : List ItemParts) → AreSegmentNumbers n
     → segment_numbers (number_items n ++ more) ≡ n
-numbers_back n more are =
-    same_numbers n _ _ _ _ _ _ _ _ _
-    (signed_back_4 n.edit_rate.0 (big_bytes 4 (cast_unsigned w32 n.edit_rate.1)) are.rate.0)
-    (signed_back_4 n.edit_rate.1 [] are.rate.1) (signed_back_8 n.start are.start)
-    (signed_back_8 n.duration are.duration) (number_back 4 n.unit_bytes [] are.unit_bytes)
-    (number_back 4 n.index_sid [] are.index_sid) (number_back 4 n.body_sid [] are.body_sid) (byte_back n.slices)
-    (byte_back n.positions)
+numbers_back n more are = grind (arith, byte_back, number_back, same_numbers, signed_back_4, signed_back_8)
 
 -- ---- the check of the items
 
@@ -91,65 +83,21 @@ is_item tag value t v = record { tag = t; value = v }
 
 are_number_items : (n : SegmentNumbers) (more : List ItemParts) → AllByRecursion IsItem more
     → AllByRecursion IsItem (number_items n ++ more)
-are_number_items n more h = (
-  is_item _ _ (omega arith) (omega arith),
-  (
-    is_item _ _ (omega arith) (omega arith),
-    (
-      is_item _ _ (omega arith) (omega arith),
-      (
-        is_item _ _ (omega arith) (omega arith),
-        (
-          is_item _ _ (omega arith) (omega arith),
-          (
-            is_item _ _ (omega arith) (omega arith),
-            (
-              is_item _ _ (omega arith) (omega arith),
-              (
-                is_item _ _ (omega arith) (omega arith),
-                h,
-              ),
-            ),
-          ),
-        ),
-      ),
-    ),
-  ),
-)
+are_number_items n more h = grind (arith, is_item)
 
 -- ---- the entries
 
 -- a batch that is written passes the test
 batch_back : (size count : ℕ) (e : List ℕ) → count < 256 ^ 4 → size < 256 ^ 4 → length e ≡ count * size
     → is_batch size ((big_bytes 4 count ++ big_bytes 4 size) ++ e) ≡ true
-batch_back size count e hc hs len =
-    let v = (big_bytes 4 count ++ big_bytes 4 size) ++ e in
-    let c : big_number 4 v ≡ count = number_back 4 count (big_bytes 4 size ++ e) hc in
-    let s : big_number 4 (drop 4 v) ≡ size = number_back 4 size e hs in
-    let l : length v ≡ 8 + length e = length-append (big_bytes 4 count ++ big_bytes 4 size) e in
-    let whole : length v ≡ 8 + big_number 4 v * size =
-    l ∙ ap (λ (k : ℕ). 8 + k) (len ∙ ap (λ (k : ℕ). k * size) (sym c)) in
-    test_passes size v (omega (arith, l)) (inr s) whole
+batch_back size count e hc hs len = grind (arith, length-append, number_back, test_passes)
 
 small_size : (n : SegmentNumbers) → AreSegmentNumbers n → entry_size n < 256 ^ 4
 small_size n are = omega (arith, are.slices, are.positions)
 
 entries_back : (s : SegmentParts) → AreSegmentNumbers s.numbers → IsSegment s → nat_lt 0 s.numbers.unit_bytes ≡ false
     → Some s.entries ≡ entries_in s.numbers (number_items s.numbers ++ (entry_item s ∷ []))
-entries_back s are is zero_units =
-    let size = entry_size s.numbers in
-    let count = entry_count s in
-    let e = s.entries in
-    let v = (big_bytes 4 count ++ big_bytes 4 size) ++ e in
-    let parts : count * size + length e % size ≡ length e = div-add-mod' (length e) size in
-    let whole : length e % size ≡ 0 = is.whole in
-    let room : 8 + length e ≤ 65535 = is.room in
-    let len : length e ≡ count * size = omega (arith, parts, whole) in
-    let few : count ≤ length e = div-le_self (length e) size in
-    let batch : is_batch size v ≡ true =
-    batch_back size count e (omega (arith, few, room)) (small_size s.numbers are) len in
-    sym (ap (λ (b : Bool). cond b (Some []) (cond (is_batch size v) (Some e) None)) zero_units
-    ∙ ap (λ (b : Bool). cond b (Some e) None) batch)
+entries_back s are is zero_units = grind (arith, batch_back, div-add-mod', div-le_self, small_size)
 
 not_negative : (z : ℤ) → pos 0 ≤ℤ z → is_negative z ≡ false
 not_negative z h = grind (arith, ints)
@@ -190,9 +138,4 @@ read_entries s are is none =
 -- a written segment is read back with its numbers and entries
 pub segment_read_back : (s : SegmentParts) → AreSegmentNumbers s.numbers → IsSegment s
     → segment_at (segment_bytes s) ≡ Ok s
-segment_read_back s are is =
-    elim (nat_lt 0 s.numbers.unit_bytes) as (λ b. nat_lt 0 s.numbers.unit_bytes ≡ b
-    → segment_at (segment_bytes s) ≡ Ok s) [
-      | true ↦ λ h. read_constant s are is h
-      | false ↦ λ h. read_entries s are is h
-    ] refl
+segment_read_back s are is = grind (arith, read_constant, read_entries)

@@ -1,5 +1,5 @@
 -- A value that is written part by part: what is told of a part is told of the whole.
-use Rattle.std.proofs.Common.{◌≡◌, ℕ, ◌+◌, ◌<◌, List, ◌++◌, suc, length, take, drop, get_or, ap, ◌∙◌, sym, subst, arith}
+use Rattle.std.proofs.Common.{◌≡◌, ℕ, ◌+◌, ◌<◌, List, ◌++◌, suc, length, take, drop, get_or, sym, subst, arith}
 use Rattle.std.proofs.Common.{length-append}
 use Rattle.std.proofs.lemmas.List.{take-append-le}
 use Rattle.std.specs.Prelude.{Option, Result}
@@ -17,12 +17,7 @@ Stops a c before after e bytes = StopsIn a c before e bytes × (after ≡ e.writ
 -- a fault in the first of two parts is a fault of the whole
 pub Stops-first : (a c : Option (List ℕ)) (before after : ℕ) (e : WriteFault) (bytes part rest : List ℕ)
     → bytes ≡ part ++ rest → Stops a c before after e part → Stops a c before after e bytes
-Stops-first a c before after e bytes part rest is (q, told) =
-    let n = q.0 in
-    let within : n < length part = q.1 in
-    let whole = length-append part rest in
-    let front = subst (Appends a c) (sym (take-append-le n part rest (omega arith))) q.3 in
-    (subst (StopsIn a c before e) (sym is) (n, omega arith, q.2, front), told)
+Stops-first a c before after e bytes part rest is (q, told) = grind (arith, length-append, take-append-le)
 
 -- the first part was written, and a fault in the second is a fault of the whole
 pub Stops-second : (a b c : Option (List ℕ)) (before mid after : ℕ) (e : WriteFault) (bytes done part rest : List ℕ)
@@ -49,12 +44,10 @@ Stops-item a b c before mid after e items k item h is p m (q, told) =
 pub WritesPart-second : {X : Type 0} (a b c : Option (List ℕ)) (before mid after : ℕ) (r : Result X WriteFault)
     (bytes part rest : List ℕ) → bytes ≡ part ++ rest → Appends a b part × (mid ≡ counted (before + length part))
     → WritesPart b c mid after r rest → WritesPart a c before after r bytes
-WritesPart-second a b c before mid after r bytes part rest is (p, m) q =
-    subst (WritesPart a c before after r) (sym is) (WritesPart-after a b c before mid after r part rest p m q)
+WritesPart-second a b c before mid after r bytes part rest is (p, m) q = grind (arith, WritesPart-after)
 
 -- what was written is the same bytes
 pub writes_same : (a c : Option (List ℕ)) (before after : ℕ) (bytes same : List ℕ) → bytes ≡ same
     → Appends a c same × (after ≡ counted (before + length same))
     → Appends a c bytes × (after ≡ counted (before + length bytes))
-writes_same a c before after bytes same is (p, m) =
-    (subst (Appends a c) (sym is) p, m ∙ ap (λ (t : List ℕ). counted (before + length t)) (sym is))
+writes_same a c before after bytes same is (p, m) = grind arith

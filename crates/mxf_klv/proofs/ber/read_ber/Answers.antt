@@ -8,6 +8,4 @@ invariant_of-result-in-129-to-136 c = rw (c.read_uint-value.ensures, c.from-coun
     (λ i. omega (arith, c.type_inv.bytes i)) (omega arith) (omega arith))
 
 pub returns-else-rest-count : goal.returns-else-rest-count
-returns-else-rest-count c = rw (c.read_uint-value.ensures, c.from-count.ensures)
-    (wide_found c.args.bytes.now c.in-Some.first.now c.in-Some.rest.now c.in-Some.ensures.cases.0 (omega arith)
-    (omega arith) (omega arith))
+returns-else-rest-count c = grind (arith, wide_found)

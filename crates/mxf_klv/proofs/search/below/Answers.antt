@@ -1,17 +1,10 @@
-use Rattle.std.proofs.Common.{rules, nat_lt, arith, ap, length, sym, ◌-◌}
+use Rattle.std.proofs.Common.{rules, nat_lt, arith}
 use Rattle.std.proofs.lemmas.Bool.{ltb-true, ltb-false}
 use Rattle.std.proofs.lemmas.List.Sorted.{IsPartitionPoint-from_clause, IsPartitionedBy-ltb}
-use Rattle.std.proofs.lemmas.Option.{get_or_from_slice_get, slice_get_within}
 use Rattle.mxf_klv.proofs.search.below.Goals as goal
 
 pub returns-in-Some-clause-below : goal.returns-in-Some-clause-below
-returns-in-Some-clause-below g c j d l h =
-    let xs = c.args.items.now in
-    let k = length xs - 1 in
-    let e = sym c.in-Some.ensures.value in
-    let at = get_or_from_slice_get xs k c.in-Some.last.now d e in
-    let up = c.requires j k d (omega arith) (slice_get_within xs k c.in-Some.last.now e) in
-    omega (arith, up, ap g.T.Keyed.key at, c.if-key-bound.true, c.key.ensures)
+returns-in-Some-clause-below g c j d l h = grind arith
 
 pub returns-in_default : goal.returns-in_default
 returns-in_default g c =

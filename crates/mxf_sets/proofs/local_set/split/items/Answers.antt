@@ -1,5 +1,4 @@
-use Rattle.std.proofs.Common.{◌≡◌, ◌-◌, ◌∙◌, List, ℕ, sym, refl, ap, arith, length}
-use Rattle.mxf_sets.specs.declared.local_set.SetFault.TheVariants.{CutItem}
+use Rattle.std.proofs.Common.{◌∙◌, sym, refl, arith}
 use Rattle.mxf_sets.specs.Items.{left_of}
 use Rattle.mxf_sets.proofs.ItemLemmas.{are_items, only_are, at_none, at_some, empty_from_test, some_from_test}
 use Rattle.mxf_sets.proofs.local_set.split.items.Goals as goal
@@ -8,21 +7,20 @@ pub loop-after-smaller : goal.loop-after-smaller
 loop-after-smaller c = (at_some c.loop-after.rest.now c.in-Some.after.now c.in-Some.field-0-0 c.in-Some.ensures).2
 
 pub loop-after-preserved : goal.loop-after-preserved
-loop-after-preserved c =
-    let a = at_some c.loop-after.rest.now c.in-Some.after.now c.in-Some.field-0-0 c.in-Some.ensures in
-    (sym a.1 ∙ c.loop-after.invariant.0, omega arith)
+loop-after-preserved c = grind (arith, at_some)
 
 pub returns-then-not-is_empty-clause-whole : goal.returns-then-not-is_empty-clause-whole
 returns-then-not-is_empty-clause-whole c =
-    let is : left_of c.args.value.now ≡ c.loop-after.rest.now = sym c.loop-after.invariant.0
-    ∙ (at_none c.loop-after.rest.now c.in_default.ensures).1 in
-    (λ h. absurd cc, λ h. absurd (some_from_test c.loop-after.rest.now c.if-not-is_empty.ensures (sym is ∙ h)))
+    grind (
+      arith,
+      left_of c.args.value.now,
+      at_none c.loop-after.rest.now c.in_default.ensures,
+      some_from_test c.loop-after.rest.now c.if-not-is_empty.ensures,
+    )
 
 pub returns-then-not-is_empty-clause-cut : goal.returns-then-not-is_empty-clause-cut
 returns-then-not-is_empty-clause-cut c =
-    let is : left_of c.args.value.now ≡ c.loop-after.rest.now = sym c.loop-after.invariant.0
-    ∙ (at_none c.loop-after.rest.now c.in_default.ensures).1 in
-    ap (λ (xs : List ℕ). CutItem (length c.args.value.now - length xs)) (sym is)
+    grind (arith, left_of c.args.value.now, at_none c.loop-after.rest.now c.in_default.ensures)
 
 pub invariant_of-result : goal.invariant_of-result
 invariant_of-result c =
@@ -34,10 +32,13 @@ returns-clause-whole c = (λ h. invariant_of-result c, λ h. refl)
 
 pub returns-then-not-is_empty-clause-only : goal.returns-then-not-is_empty-clause-only
 returns-then-not-is_empty-clause-only c =
-    let is : left_of c.args.value.now ≡ c.loop-after.rest.now = sym c.loop-after.invariant.0
-    ∙ (at_none c.loop-after.rest.now c.in_default.ensures).1 in
-    λ items h. absurd
-    (some_from_test c.loop-after.rest.now c.if-not-is_empty.ensures (sym is ∙ (only_are c.args.value.now items h).1))
+    grind (
+      arith,
+      left_of c.args.value.now,
+      at_none c.loop-after.rest.now c.in_default.ensures,
+      some_from_test c.loop-after.rest.now c.if-not-is_empty.ensures,
+      only_are c.args.value.now,
+    )
 
 pub returns-clause-found : goal.returns-clause-found
 returns-clause-found c = are_items c.args.value.now (λ i. omega (arith, c.type_inv.value i)) (invariant_of-result c)

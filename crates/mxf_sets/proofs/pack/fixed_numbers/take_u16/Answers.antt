@@ -1,13 +1,6 @@
 use Rattle.std.proofs.Common.{arith}
-use Rattle.mxf_klv.specs.Bytes.{AreBytes}
 use Rattle.mxf_klv.proofs.RoundTrips.{AreBytes-take}
-use Rattle.mxf_sets.proofs.Numbers.{number_in_front}
 use Rattle.mxf_sets.proofs.pack.fixed_numbers.take_u16.Goals as goal
 
 pub returns-clause-number : goal.returns-clause-number
-returns-clause-number c =
-    let bytes = c.args.bytes.now in
-    let split = c.split_at.ensures in
-    let front = c.split_at.result.0.now in
-    let bytewise : AreBytes front = rw split.front (AreBytes-take 2 bytes (λ i. omega (arith, c.type_inv.bytes i))) in
-    number_in_front 2 _ bytes front _ split.front split.back c.read_u16.ensures (omega arith) bytewise
+returns-clause-number c = grind (arith, AreBytes-take 2)

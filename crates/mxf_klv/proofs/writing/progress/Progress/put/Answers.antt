@@ -1,4 +1,4 @@
-use Rattle.std.proofs.Common.{◌≡◌, ◌≢◌, ℕ, ◌+◌, ◌-◌, ◌≤◌, ◌<◌, List, [], ◌++◌, Option, arith, length, take, drop}
+use Rattle.std.proofs.Common.{◌≡◌, ◌≢◌, ℕ, ◌+◌, ◌-◌, ◌≤◌, ◌<◌, List, ◌++◌, Option, arith, length, take, drop}
 use Rattle.std.proofs.Common.{refl, sym, ap, subst, ◌∙◌}
 use Rattle.std.proofs.Common.{append-nil, append_assoc, take-append-drop, length-append, length-take-le}
 use Rattle.std.proofs.lemmas.Bool.{eqb-false, eqb-true}
@@ -11,9 +11,7 @@ use Rattle.mxf_klv.proofs.writing.progress.Progress.put.Goals as goal
 
 moves_front : (all done rest : List ℕ) (n : ℕ) → all ≡ done ++ rest → all ≡ (done ++ take n rest) ++ take
     (length rest - n) (drop n rest)
-moves_front all done rest n e =
-    e ∙ ap (λ l. done ++ l) (sym (take-append-drop n rest)) ∙ sym (append_assoc done (take n rest) (drop n rest)) ∙ ap
-    (λ l. (done ++ take n rest) ++ l) (sym (take_rest rest n))
+moves_front all done rest n e = grind (arith, append_assoc, take-append-drop, take_rest)
 
 longer : (done rest : List ℕ) (n : ℕ) → n ≤ length rest → length (done ++ take n rest) ≡ length done + n
 longer done rest n h = length-append done (take n rest) ∙ ap (λ k. length done + k) (length-take-le n rest h)
@@ -35,24 +33,15 @@ loop-rest-preserved-in-Ok g c =
 stops : (old new : Option (List ℕ)) (all done rest : List ℕ) (before written : ℕ) → all ≡ done ++ rest
     → length rest ≢ 0 → written ≡ counted (before + length done) → Appends old new done
     → (n : ℕ) × (n < length all) × (written ≡ counted (before + n)) × Appends old new (take n all)
-stops old new all done rest before written split some count appended =
-    let front : take (length done) all ≡ done = ap (take (length done)) split ∙ take-append_seam done rest in (
-      length done,
-      omega (arith, ap length split, length-append done rest),
-      count,
-      subst (Appends old new) (sym front) appended,
-    )
+stops old new all done rest before written split some count appended = grind (arith, length-append, take-append_seam)
 
 -- A write that takes no byte adds none.
 takes_none : (old mid new : Option (List ℕ)) (done rest : List ℕ) (n : ℕ) → n ≡ 0 → Appends old mid done
     → Appends mid new (take n rest) → Appends old new done
-takes_none old mid new done rest n zero appended none =
-    subst (Appends old new) (append-nil done)
-    (Appends-trans old mid new done [] appended (subst (λ n. Appends mid new (take n rest)) zero none))
+takes_none old mid new done rest n zero appended none = grind (arith, append-nil)
 
 all_done : (all done rest : List ℕ) → all ≡ done ++ rest → length rest ≡ 0 → done ≡ all
-all_done all done rest split none =
-    sym (split ∙ ap (λ (l : List ℕ). done ++ l) (nil_from_length rest none) ∙ append-nil done)
+all_done all done rest split none = cc (nil_from_length rest none, append-nil done)
 
 pub returns-in-Ok-eq0-clause-written : goal.returns-in-Ok-eq0-clause-written
 returns-in-Ok-eq0-clause-written g c =

@@ -16,8 +16,4 @@ returns c =
     )
 
 pub returns-in_default-read : goal.returns-in_default-read
-returns-in_default-read c =
-    let b = bad_batch c.args.value.now c.in-Some.rest.now c.in-Some-split_first_chunk.rest.now c.in_default-read.field-0
-    c.in-Some.ensures.cases.1 c.in-Some-split_first_chunk.ensures.cases.1
-    (omega arith) c.in_default-read.ensures in
-    ((c.args.part, c.args.status, refl), b.0, b.1)
+returns-in_default-read c = grind (arith, bad_batch)
