@@ -3,7 +3,7 @@ use Rattle.std.proofs.Common.{List, [], ap, arith, cond, false, filter, inl, inr
 use Rattle.std.proofs.Common.{refl, subst, suc, sym, true, ℕ, ◌++◌, ◌+◌, ◌↔◌, ◌∷◌, ◌≡◌, ◌≤◌, ◌⊎◌}
 use Rattle.std.proofs.lemmas.Bool.{and_from, and_parts}
 use Rattle.mxf_catalogue.proofs.ApartLaws.{begins_above}
-use Rattle.mxf_catalogue.proofs.SpanLaws.{AreApart-filter, AreApart-lower}
+use Rattle.mxf_catalogue.proofs.SpanLaws.{AreApart-filter}
 use Rattle.mxf_catalogue.specs.Disputes.{AreApart, lies_in}
 use Rattle.mxf_klv.proofs.Lists.{In-append}
 use Rattle.mxf_klv.proofs.NoteFilters.{behind}
@@ -100,13 +100,6 @@ apart_same low (x ∷ xs) (y ∷ ys) a b m =
       behind x n ys xs (once ys c n) (k n).1,
     )) in
     ap (λ (l : ℕ). suc l) rest
-
-pub apart_rest : (b : ℕ) (left rest : List NoteParts) (n : NoteParts) → left ≡ n ∷ rest → AreApart b left
-    → (b ≤ n.offset) × AreApart b rest
-apart_rest b left rest n e a =
-    let all : AreApart b (n ∷ rest) = subst (AreApart b) e a in
-    let low : b ≤ n.offset = all.0 in
-    (low, AreApart-lower b (end_of n) rest (omega (arith, low)) all.1)
 
 pub AreApart-zone : (start len low : ℕ) (notes : List NoteParts) → AreApart low notes
     → AreApart start (filter (lies_in start len) notes)

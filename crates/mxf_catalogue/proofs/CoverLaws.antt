@@ -1,14 +1,13 @@
 -- Runs that touch a run, and offsets in runs, by their places in a cover.
-use Rattle.std.specs.Prelude.{◌≡◌, ℕ, suc, zero, ◌+◌, ◌<◌, ◌≤◌, nat_lt, min, max, true, false, ◌↔◌, ◌⊎◌, cond}
+use Rattle.std.specs.Prelude.{◌≡◌, ℕ, suc, zero, ◌+◌, ◌<◌, ◌≤◌, nat_lt, max, true, false, ◌↔◌, ◌⊎◌}
 use Rattle.std.specs.Prelude.{List, [], ◌∷◌, ◌++◌, length, slice_set, take, drop, refl}
 use Rattle.std.specs.List.{AllByRecursion, AllWithin}
 use Rattle.std.specs.List.Sorted.{IsNonDecreasingBy}
 use Rattle.std.specs.Bool.{Decides}
-use Rattle.std.proofs.Common.{◌==◌, ◌&&◌, eqb-true, eq-eqb, sym, ap, subst, inl, inr, arith, get_or}
+use Rattle.std.proofs.Common.{◌==◌, ◌&&◌, eqb-true, eq-eqb, ap, subst, inl, inr, arith, get_or}
 use Rattle.std.proofs.lemmas.Bool.{ltb-true, ltb-false}
 use Rattle.std.specs.Prelude.{◌-◌, None, Some, slice_get}
 use Rattle.std.proofs.lemmas.Option.{get_or_from_slice_get, slice_get-get_or, slice_get_within}
-use Rattle.mxf_klv.specs.Note.{greatest_end}
 use Rattle.mxf_klv.specs.Rising.{In}
 use Rattle.mxf_catalogue.specs.declared.run.Run.{Run}
 use Rattle.mxf_catalogue.specs.Runs.{AreMaximal, IsWithin, LiesIn, SameOffsets, run}
@@ -35,29 +34,21 @@ ends-with_run : (high : ℕ) (r : Run) (runs : List Run) → r.end ≤ high → 
     → AllByRecursion (λ s. s.end ≤ high) (with_run r runs)
 ends-with_run high r [] l a = (l, tt)
 ends-with_run high r (s ∷ runs) l a =
-    let c : s.end ≤ high = a.0 in
-    with_run_cases r s runs (λ m. AllByRecursion (λ (t : Run). t.end ≤ high) m)
-    (λ e. (l, a))
-    (λ e. (a.0, ends-with_run high r runs l a.1))
-    (λ e f. ends-with_run high (both r s) runs (omega arith) a.1)
+    grind (
+      arith,
+      with_run_cases,
+      ends-with_run high r runs l a.1,
+      ends-with_run high (both r s) runs (omega arith) a.1,
+    )
 
 pub IsCover-with_run : (r : Run) (runs : List Run) → IsRun r → IsCover runs → IsCover (with_run r runs)
-IsCover-with_run r runs is c = record {
-  maximal = AreMaximal-with_run 0 r runs (omega arith) is.order c.maximal;
-  within = ends-with_run greatest_end r runs is.within c.within;
-}
+IsCover-with_run r runs is c = grind (arith, AreMaximal-with_run, ends-with_run)
 
 pub IsCover-union_of_runs : (runs others : List Run) → IsCover runs → IsCover others
     → IsCover (union_of_runs runs others)
 IsCover-union_of_runs runs [] c d = c
 IsCover-union_of_runs runs (s ∷ others) c d =
-    let rest : IsCover others = record {
-      maximal = AreMaximal-lower 0 (s.end + 1) others (omega arith) d.maximal.2;
-      within =
-          d.within.1;
-    } in
-    let one : IsRun s = record { order = d.maximal.1; within = d.within.0 } in
-    IsCover-union_of_runs (with_run s runs) others (IsCover-with_run s runs one c) rest
+    grind (arith, AreMaximal-lower, IsCover-with_run, IsCover-union_of_runs (with_run s runs) others)
 
 -- covers of the same offsets are one list
 pub same_covers : (a b : List Run) → IsCover a → IsCover b → SameOffsets a b → a ≡ b
@@ -70,10 +61,7 @@ above : (low : ℕ) (runs : List Run) (k : ℕ) (d : Run) → AreMaximal low run
     → low ≤ (get_or runs k d).start
 above low [] k d m l = absurd (omega arith)
 above low (r ∷ runs) zero d m l = m.0
-above low (r ∷ runs) (suc k) d m l =
-    let ih = above (r.end + 1) runs k d m.2 (omega arith) in
-    let a : low ≤ r.start = m.0 in
-    let b : r.start < r.end = m.1 in omega (arith, ih)
+above low (r ∷ runs) (suc k) d m l = omega (arith, above (r.end + 1) runs k d m.2 (omega arith))
 
 -- the runs from one place up to another touch the run, those before end below it, those behind start above it
 pub with_run_at : (low : ℕ) (r : Run) (runs : List Run) (a b : ℕ) → AreMaximal low runs → a ≤ length runs
@@ -118,8 +106,7 @@ with_run_at low r (s ∷ ss) zero (suc b) m la lb f g h k n =
 pub starts_rise : (low : ℕ) (runs : List Run) → AreMaximal low runs → IsNonDecreasingBy (λ r. r.start) runs
 starts_rise low [] m i j d l h = absurd (omega arith)
 starts_rise low (r ∷ runs) m zero zero d l h = omega arith
-starts_rise low (r ∷ runs) m zero (suc j) d l h =
-    let t = above (r.end + 1) runs j d m.2 (omega arith) in let u : r.start < r.end = m.1 in omega (arith, t, u)
+starts_rise low (r ∷ runs) m zero (suc j) d l h = omega (arith, above (r.end + 1) runs j d m.2 (omega arith))
 starts_rise low (r ∷ runs) m (suc i) zero d l h = absurd (omega arith)
 starts_rise low (r ∷ runs) m (suc i) (suc j) d l h = starts_rise (r.end + 1) runs m.2 i j d (omega arith) (omega arith)
 
@@ -133,52 +120,31 @@ start_below_end low (r ∷ runs) (suc k) d m l = start_below_end (r.end + 1) run
 pub with_run_first : (r : Run) (runs : List Run) → None ≡ slice_get runs (length runs - 1)
     → runs ++ r ∷ [] ≡ with_run r runs
 with_run_first r [] e = refl
-with_run_first r (x ∷ xs) e =
-    let there = slice_get-get_or (x ∷ xs) (length (x ∷ xs) - 1) x (omega arith) in absurd (cc (e, there))
+with_run_first r (x ∷ xs) e = cc (slice_get-get_or (x ∷ xs) (length (x ∷ xs) - 1) x (omega arith))
 
 -- a run that begins above the end of the last goes behind it
 pub with_run_behind : (low k : ℕ) (r s : Run) (runs : List Run) → AreMaximal low runs → k + 1 ≡ length runs
     → get_or runs k s ≡ s → s.end < r.start → r.start < r.end → runs ++ r ∷ [] ≡ with_run r runs
 with_run_behind low k r s [] m e g t n = absurd (omega arith)
-with_run_behind low zero r s (x ∷ []) m e g t n =
-    let p : x.end ≡ s.end = ap (λ (q : Run). q.end) g in
-    let o : x.start < x.end = m.1 in
-    with_run_cases r x [] (λ l. x ∷ r ∷ [] ≡ l) (λ f. absurd (omega (arith, p, o, t, n))) (λ f. refl)
-    (λ f h. absurd (omega (arith, p, t)))
+with_run_behind low zero r s (x ∷ []) m e g t n = grind (arith, with_run_cases)
 with_run_behind low zero r s (x ∷ y ∷ ys) m e g t n = absurd (omega arith)
 with_run_behind low (suc k) r s (x ∷ xs) m e g t n =
-    let ih = with_run_behind (x.end + 1) k r s xs m.2 (omega arith) g t n in
-    let from : x.end + 1 ≤ s.start =
-    subst (λ (q : Run). x.end + 1 ≤ q.start) g (above (x.end + 1) xs k s m.2 (omega arith)) in
-    let some : s.start < s.end = subst (λ (q : Run). q.start < q.end) g (start_below_end (x.end + 1) xs k s m.2
-    (omega arith)) in
-    let o : x.start < x.end = m.1 in
-    with_run_cases r x xs (λ l. x ∷ (xs ++ r ∷ []) ≡ l) (λ f. absurd (omega (arith, from, some, o, t, n)))
-    (λ f. ap (λ l. x ∷ l) ih) (λ f h. absurd (omega (arith, from, some, t)))
+    grind (
+      arith,
+      above,
+      start_below_end,
+      with_run_cases,
+      with_run_behind (x.end + 1) k r s xs m.2 (omega arith) g t n,
+    )
 
 -- a run that begins at the end of the last makes one run with it
 pub with_run_grown : (low k : ℕ) (r s : Run) (runs : List Run) → AreMaximal low runs → k + 1 ≡ length runs
     → get_or runs k s ≡ s → s.end ≡ r.start → r.start < r.end → slice_set runs k (run s.start r.end) ≡ with_run r runs
 with_run_grown low k r s [] m e g t n = absurd (omega arith)
-with_run_grown low zero r s (x ∷ []) m e g t n =
-    let p : x.end ≡ s.end = ap (λ (q : Run). q.end) g in
-    let q : x.start ≡ s.start = ap (λ (q : Run). q.start) g in
-    let o : x.start < x.end = m.1 in
-    let start : s.start ≡ min r.start x.start = omega (arith, p, q, o, t, n) in
-    let end : r.end ≡ max r.end x.end = omega (arith, p, o, t, n) in
-    with_run_cases r x [] (λ l. run s.start r.end ∷ [] ≡ l) (λ f. absurd (omega (arith, p, o, t, n)))
-    (λ f. absurd (omega (arith, p, t))) (λ f h i. run (start i) (end i) ∷ [])
+with_run_grown low zero r s (x ∷ []) m e g t n = grind (arith, run s.start r.end)
 with_run_grown low zero r s (x ∷ y ∷ ys) m e g t n = absurd (omega arith)
 with_run_grown low (suc k) r s (x ∷ xs) m e g t n =
-    let ih = with_run_grown (x.end + 1) k r s xs m.2 (omega arith) g t n in
-    let from : x.end + 1 ≤ s.start =
-    subst (λ (q : Run). x.end + 1 ≤ q.start) g (above (x.end + 1) xs k s m.2 (omega arith)) in
-    let some : s.start < s.end = subst (λ (q : Run). q.start < q.end) g (start_below_end (x.end + 1) xs k s m.2
-    (omega arith)) in
-    let o : x.start < x.end = m.1 in
-    with_run_cases r x xs (λ l. x ∷ slice_set xs k (run s.start r.end) ≡ l)
-    (λ f. absurd (omega (arith, from, some, o, t, n))) (λ f. ap (λ l. x ∷ l) ih)
-    (λ f h. absurd (omega (arith, from, some, t)))
+    grind (arith, above, start_below_end, with_run_cases, with_run_grown (x.end + 1) k r s xs m.2 (omega arith) g t n)
 
 pub end_within : (high : ℕ) (runs : List Run) (k : ℕ) (d : Run) → AllByRecursion (λ r. r.end ≤ high) runs
     → k < length runs → (get_or runs k d).end ≤ high
@@ -189,9 +155,7 @@ end_within high (r ∷ runs) (suc k) d a l = end_within high runs k d a.1 (omega
 pub ends_rise : (low : ℕ) (runs : List Run) → AreMaximal low runs → IsNonDecreasingBy (λ r. r.end) runs
 ends_rise low [] m i j d l h = absurd (omega arith)
 ends_rise low (r ∷ runs) m zero zero d l h = omega arith
-ends_rise low (r ∷ runs) m zero (suc j) d l h =
-    let t = above (r.end + 1) runs j d m.2 (omega arith) in
-    let u = start_below_end (r.end + 1) runs j d m.2 (omega arith) in omega (arith, t, u)
+ends_rise low (r ∷ runs) m zero (suc j) d l h = grind (arith, above, start_below_end)
 ends_rise low (r ∷ runs) m (suc i) zero d l h = absurd (omega arith)
 ends_rise low (r ∷ runs) m (suc i) (suc j) d l h = ends_rise (r.end + 1) runs m.2 i j d (omega arith) (omega arith)
 
@@ -199,15 +163,7 @@ ends_rise low (r ∷ runs) m (suc i) (suc j) d l h = ends_rise (r.end + 1) runs 
 pub places_in_order : (r : Run) (runs : List Run) (a b : ℕ) → AreMaximal 0 runs → a ≤ length runs
     → AllWithin (λ s. s.end < r.start) runs 0 a → AllWithin (λ s. r.end < s.start) runs b (length runs)
     → r.start < r.end → a ≤ b
-places_in_order r runs a b m l f k n =
-    elim (nat_lt b a) as (λ c. nat_lt b a ≡ c → a ≤ b) [
-      | true ↦ λ e.
-          let h : b < a = ltb-true _ _ e in
-          let p : (get_or runs b r).end < r.start = f b r (omega arith) h in
-          let q : r.end < (get_or runs b r).start = k b r (omega arith) (omega arith) in
-          let t = start_below_end 0 runs b r m (omega arith) in absurd (omega (arith, t))
-      | false ↦ λ e. ltb-false _ _ e
-    ] refl
+places_in_order r runs a b m l f k n = grind (arith, ltb-false, ltb-true, start_below_end)
 
 -- ---- offsets in runs
 
@@ -230,78 +186,37 @@ pub is_met : (runs : List Run) (a first last : ℕ) (r : Run) → AreMaximal 0 r
     → r ≡ get_or runs a r → AllWithin (λ s. first < s.end) runs a (length runs) → r.start ≤ last
     → (at : ℕ) × LiesIn runs at × (first ≤ at) × (at ≤ last)
 is_met runs a first last r m o l e up below =
-    let b : r.start < r.end = subst (λ (s : Run). s.start < s.end) (sym e) (start_below_end 0 runs a r m l) in
-    let u : first < r.end = subst (λ (s : Run). first < s.end) (sym e) (up a r (omega arith) l) in
-    let h : IsWithin r (max r.start first) = record { from = omega arith; before = omega arith } in (
-      max r.start first,
-      lies_at runs a r (max r.start first) l (subst (λ (s : Run). IsWithin s (max r.start first)) e h),
-      omega arith,
-      omega arith,
-    )
+    grind (arith, start_below_end 0 runs a r m l, lies_at runs a r (max r.start first) l)
 
 -- what lies in runs lies in the first that ends above, or behind it
 pub is_first : (runs : List Run) (a first at : ℕ) (d : Run) → AreMaximal 0 runs
     → AllWithin (λ s. s.end ≤ first) runs 0 a → LiesIn runs at → first ≤ at
     → (a < length runs) × ((get_or runs a d).start ≤ at)
-is_first runs a first at d m down h o =
-    let p = place_of runs d at h in
-    let l : p.0 < length runs = p.1 in
-    let s : (get_or runs p.0 d).start ≤ at = p.2.from in
-    let e : at + 1 ≤ (get_or runs p.0 d).end = p.2.before in
-    elim (nat_lt p.0 a) as (λ b. nat_lt p.0 a ≡ b → (a < length runs) × ((get_or runs a d).start ≤ at)) [
-      | true ↦ λ t.
-          let u : (get_or runs p.0 d).end ≤ first = down p.0 d (omega arith) (ltb-true _ _ t) in absurd (omega arith)
-      | false ↦ λ t.
-          let u : a ≤ p.0 = ltb-false _ _ t in
-          let v : (get_or runs a d).start ≤ (get_or runs p.0 d).start = starts_rise 0 runs m a p.0 d u l in
-          (omega arith, omega arith)
-    ] refl
+is_first runs a first at d m down h o = grind (arith, place_of runs d at h, starts_rise 0 runs m a)
 
 -- `==` of runs tells whether they are one
 pub run_eq-Decides : (r s : Run) → Decides ((r.start == s.start) && (r.end == s.end)) (r ≡ s)
-run_eq-Decides r s =
-    elim (r.start == s.start) as (λ b. (r.start == s.start) ≡ b → Decides (b && (r.end == s.end)) (r ≡ s)) [
-      | true ↦ λ e. (
-        λ h. (λ i. record { start = eqb-true _ _ e i; end = eqb-true _ _ h i }),
-        λ p. eq-eqb _ _ (ap (λ (x : Run). x.end) p),
-      )
-      | false ↦ λ e. (λ h. cc, λ p. let t = eq-eqb _ _ (ap (λ (x : Run). x.start) p) in cc (t, e))
-    ] refl
+run_eq-Decides r s = grind (arith, eq-eqb, eqb-true)
 
 -- ---- gaps
 
 -- the gaps of runs that start above an offset where a run ends: none touches it
 maximal_above : (low : ℕ) (runs : List Run) → AreMaximal (low + 1) runs → AreMaximal low (gaps_from low runs)
 maximal_above low [] m = tt
-maximal_above low (r ∷ runs) m =
-    let a : low + 1 ≤ r.start = m.0 in
-    let b : r.start < r.end = m.1 in
-    elim (nat_lt low r.start) as (λ c. nat_lt low r.start ≡ c
-    → AreMaximal low (cond c (run low r.start ∷ gaps_from r.end runs) (gaps_from r.end runs))) [
-      | true ↦ λ e. (
-        omega arith,
-        omega arith,
-        AreMaximal-lower (r.start + 1) r.end (gaps_from r.end runs) (omega arith)
-            (maximal_above r.end runs m.2),
-      )
-      | false ↦ λ e. let f : r.start ≤ low = ltb-false _ _ e in absurd (omega arith)
-    ] refl
+maximal_above low (r ∷ runs) m = grind (arith, AreMaximal-lower, ltb-false, maximal_above r.end runs m.2)
 
 maximal_gaps : (runs : List Run) → AreMaximal 0 runs → AreMaximal 0 (gaps_of_runs runs)
 maximal_gaps [] m = tt
 maximal_gaps (r ∷ runs) m =
-    let b : r.start < r.end = m.1 in
-    elim (nat_lt 0 r.start) as (λ c. nat_lt 0 r.start ≡ c
-    → AreMaximal 0 (cond c (run 0 r.start ∷ gaps_from r.end runs) (gaps_from r.end runs))) [
-      | true ↦ λ e.
-          let f : 0 < r.start = ltb-true _ _ e in (
-            omega arith,
-            omega arith,
-            AreMaximal-lower (r.start + 1) r.end
-                (gaps_from r.end runs) (omega arith) (maximal_above r.end runs m.2),
-          )
-      | false ↦ λ e. AreMaximal-lower 0 r.end (gaps_from r.end runs) (omega arith) (maximal_above r.end runs m.2)
-    ] refl
+    grind (
+      arith,
+      nat_lt 0 r.start,
+      run 0 r.start,
+      gaps_from r.end runs,
+      AreMaximal-lower (r.start + 1) r.end (gaps_from r.end runs) (omega arith) (maximal_above r.end runs m.2),
+      maximal_above r.end runs m.2,
+      AreMaximal-lower 0 r.end (gaps_from r.end runs) (omega arith) (maximal_above r.end runs m.2),
+    )
 
 -- the offset is at or above the first, and lies below the end of some run and in none
 abbrev IsBetweenFrom : ℕ → List Run → ℕ → Type 0
@@ -371,31 +286,16 @@ offsets_of_gaps : (low : ℕ) (runs : List Run) (at : ℕ) → AreMaximal low ru
     → LiesIn (gaps_from low runs) at ↔ IsBetweenFrom low runs at
 offsets_of_gaps low [] at m = (λ h. absurd h.1, λ h. absurd h.1.below.1)
 offsets_of_gaps low (r ∷ runs) at m =
-    let ih = offsets_of_gaps r.end runs at (AreMaximal-lower r.end (r.end + 1) runs (omega arith) m.2) in
-    let one = first_gap low r runs at m in
-    elim (nat_lt low r.start) as (λ c. nat_lt low r.start ≡ c
-    → LiesIn (cond c (run low r.start ∷ gaps_from r.end runs) (gaps_from r.end runs)) at
-    ↔ IsBetweenFrom low (r ∷ runs) at) [
-      | true ↦ λ e.
-          let two = LiesIn-first (run low r.start) (gaps_from r.end runs) at in (
-            λ h. one.1 (elim (two.0 h) [
-              | inl w ↦ (let f : at + 1 ≤ r.start = w.before in inl (w.from, omega arith))
-              | inr k ↦ inr (ih.0 k)
-            ]),
-            λ h. two.1 (elim (one.0 h) [
-              | inl k ↦ (let f : at < r.start = k.1 in inl (record { from = k.0; before = omega arith }))
-              | inr k ↦ inr (ih.1 k)
-            ]),
-          )
-      | false ↦ λ e.
-          let f : r.start ≤ low = ltb-false _ _ e in (
-            λ h. one.1 (inr (ih.0 h)),
-            λ h. elim (one.0 h) [
-              | inl k ↦ (let u : low ≤ at = k.0 in let v : at < r.start = k.1 in absurd (omega arith))
-              | inr k ↦ ih.1 k
-            ],
-          )
-    ] refl
+    grind (
+      arith,
+      AreMaximal-lower r.end (r.end + 1) runs (omega arith) m.2,
+      first_gap low r runs at m,
+      nat_lt low r.start,
+      run low r.start,
+      gaps_from r.end runs,
+      LiesIn-first (run low r.start) (gaps_from r.end runs) at,
+      offsets_of_gaps r.end runs at (AreMaximal-lower r.end (r.end + 1) runs (omega arith) m.2),
+    )
 
 pub gaps_by_definition : (runs : List Run) → IsCover runs → AreGapsOf runs (gaps_of_runs runs)
 gaps_by_definition runs c = record {
@@ -408,13 +308,7 @@ gaps_by_definition runs c = record {
 -- there are no more gaps than runs
 pub length-gaps : (low : ℕ) (runs : List Run) → length (gaps_from low runs) ≤ length runs
 length-gaps low [] = omega arith
-length-gaps low (r ∷ runs) =
-    let ih : length (gaps_from r.end runs) ≤ length runs = length-gaps r.end runs in
-    elim (nat_lt low r.start) as (λ c.
-    length (cond c (run low r.start ∷ gaps_from r.end runs) (gaps_from r.end runs)) ≤ length (r ∷ runs)) [
-      | true ↦ omega arith
-      | false ↦ omega arith
-    ]
+length-gaps low (r ∷ runs) = grind (arith, length-gaps r.end runs)
 
 -- ---- the greatest end
 
@@ -452,23 +346,14 @@ behind : (low : ℕ) (runs : List Run) (i j : ℕ) (d : Run) → AreMaximal low 
     → (get_or runs i d).end < (get_or runs j d).start
 behind low [] i j d m l h = absurd (omega arith)
 behind low (r ∷ runs) i zero d m l h = absurd (omega arith)
-behind low (r ∷ runs) zero (suc j) d m l h =
-    let t = above (r.end + 1) runs j d m.2 (omega arith) in omega (arith, t)
+behind low (r ∷ runs) zero (suc j) d m l h = omega (arith, above (r.end + 1) runs j d m.2 (omega arith))
 behind low (r ∷ runs) (suc i) (suc j) d m l h = behind (r.end + 1) runs i j d m.2 (omega arith) (omega arith)
 
 -- the end of a run lies in none
 pub end_in_none : (runs : List Run) (a : ℕ) (d : Run) → AreMaximal 0 runs → a < length runs
     → LiesIn runs (get_or runs a d).end → ⊥
 end_in_none runs a d m l h =
-    let p = place_of runs d (get_or runs a d).end h in
-    let k : p.0 < length runs = p.1 in
-    let s : (get_or runs p.0 d).start ≤ (get_or runs a d).end = p.2.from in
-    let e : (get_or runs a d).end + 1 ≤ (get_or runs p.0 d).end = p.2.before in
-    elim (nat_lt a p.0) as (λ b. nat_lt a p.0 ≡ b → ⊥) [
-      | true ↦ λ t. let u = behind 0 runs a p.0 d m (ltb-true _ _ t) k in omega (arith, u, s)
-      | false ↦ λ t.
-          let u = ends_rise 0 runs m p.0 a d (ltb-false _ _ t) l in omega (arith, u, e)
-    ] refl
+    grind (arith, place_of runs d (get_or runs a d).end h, nat_lt a, behind 0 runs a, ends_rise 0 runs m)
 
 -- where all offsets of a range lie in runs, they lie in the first that ends above its start
 pub is_within_first : (runs : List Run) (a start end : ℕ) (d : Run) → AreMaximal 0 runs → start < end
@@ -476,15 +361,9 @@ pub is_within_first : (runs : List Run) (a start end : ℕ) (d : Run) → AreMax
     → ((at : ℕ) → start ≤ at → at < end → LiesIn runs at)
     → (a < length runs) × ((get_or runs a d).start ≤ start) × (end ≤ (get_or runs a d).end)
 is_within_first runs a start end d m o down up h =
-    let f = is_first runs a start start d m down (h start (omega arith) o) (omega arith) in
-    let l : a < length runs = f.0 in
-    let u : start < (get_or runs a d).end = up a d (omega arith) l in (
-      f.0,
-      f.1,
-      elim (nat_lt (get_or runs a d).end end) as (λ b. nat_lt (get_or runs a d).end end ≡ b
-          → end ≤ (get_or runs a d).end) [
-            | true ↦ λ t.
-                absurd (end_in_none runs a d m l (h (get_or runs a d).end (omega arith) (ltb-true _ _ t)))
-            | false ↦ λ t. ltb-false _ _ t
-          ] refl,
+    grind (
+      arith,
+      is_first runs a start start d m down (h start (omega arith) o) (omega arith),
+      nat_lt (get_or runs a d).end end,
+      end_in_none runs a d m,
     )

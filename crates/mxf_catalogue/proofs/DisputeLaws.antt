@@ -1,11 +1,10 @@
 -- The tests of disputes say what the relations say.
-use Rattle.std.specs.Prelude.{◌≡◌, ◌≢◌, ◌↔◌, ◌⊎◌, ◌+◌, ◌<◌, ◌≤◌, ℕ, Bool, true, false, not, ◌&&◌, nat_lt, ◌==◌}
-use Rattle.std.specs.Prelude.{List, [], ◌∷◌, cond, filter, find, map, max, Some, None, IsTrue, refl}
-use Rattle.std.specs.declared.cmp.Ordering.TheVariants.{Less}
+use Rattle.std.specs.Prelude.{◌≡◌, ◌≢◌, ◌↔◌, ◌⊎◌, ◌+◌, ◌<◌, ◌≤◌, ℕ, Bool, true, false, not, nat_lt, ◌==◌}
+use Rattle.std.specs.Prelude.{List, [], ◌∷◌, filter, find, map, max, Some, None, IsTrue, refl}
 use Rattle.std.proofs.Common.{sym, ◌∙◌, ap, subst, inl, inr, arith, eqb-true, eq-eqb}
 use Rattle.std.proofs.lemmas.Bool.{and_from, and_parts, or_cases, or_left, or_right, ltb-true, lt-ltb}
 use Rattle.mxf_klv.specs.Parts.{NoteParts}
-use Rattle.mxf_klv.specs.Note.{end_of, note_cmp}
+use Rattle.mxf_klv.specs.Note.{end_of}
 use Rattle.mxf_klv.specs.Rising.{In}
 use Rattle.mxf_catalogue.specs.Content.{IsContent}
 use Rattle.mxf_catalogue.specs.Disputes.{SharesByte, SharesOffset, Overlaps, IsDisputed, IsClear}
@@ -35,11 +34,7 @@ is_byte_shared-SharesByte m n = (
 
 -- spans are never empty: notes at one offset share its byte
 pub SharesByte-same_offset : (m n : NoteParts) → m.offset ≡ n.offset → SharesByte m n
-SharesByte-same_offset m n e = (
-  m.offset,
-  record { from = omega arith; before = omega arith },
-  record { from = omega arith; before = omega arith },
-)
+SharesByte-same_offset m n e = grind arith
 
 pub SharesByte-symmetric : (m n : NoteParts) → SharesByte m n → SharesByte n m
 SharesByte-symmetric m n s = (s.0, s.2, s.1)
@@ -48,31 +43,22 @@ SharesByte-symmetric m n s = (s.0, s.2, s.1)
 pub is_offset_shared-SharesOffset : (n : NoteParts) (notes : List NoteParts)
     → IsTrue (is_offset_shared n notes) ↔ SharesOffset n notes
 is_offset_shared-SharesOffset n notes =
-    let l = list_any-In (λ m. (m.offset == n.offset) && not (is_same_note m n)) notes in (
-      λ h.
-          let s = l.0 h in
-          let p = and_parts (s.0.offset == n.offset) (not (is_same_note s.0 n)) s.2 in
-          let other = λ (e : s.0 ≡ n). not-true-false (is_same_note s.0 n) p.1 ((same_note-Decides s.0 n).1 e) in
-          (s.0, s.1, other, eqb-true _ _ p.0),
-      λ s.
-          let other = not_true (is_same_note s.0 n) (λ e. s.2 ((same_note-Decides s.0 n).0 e)) in
-          l.1 (s.0, s.1, and_from (s.0.offset == n.offset) (not (is_same_note s.0 n)) (eq-eqb _ _ s.3) other),
-    )
+    grind (arith, and_from, and_parts, eq-eqb, eqb-true, list_any-In, not-true-false, not_true, same_note-Decides)
 
 -- the test of overlaps
 pub is_overlapped-Overlaps : (n : NoteParts) (notes : List NoteParts)
     → IsTrue (is_overlapped n notes) ↔ Overlaps n notes
 is_overlapped-Overlaps n notes =
-    let l = list_any-In (λ m. not (m.offset == n.offset) && is_byte_shared m n) notes in (
-      λ h.
-          let s = l.0 h in
-          let p = and_parts (not (s.0.offset == n.offset)) (is_byte_shared s.0 n) s.2 in
-          let apart = λ (e : s.0.offset ≡ n.offset). not-true-false (s.0.offset == n.offset) p.0 (eq-eqb _ _ e) in
-          (s.0, s.1, apart, (is_byte_shared-SharesByte s.0 n).0 p.1),
-      λ s.
-          let apart = not_true (s.0.offset == n.offset) (λ e. s.2 (eqb-true _ _ e)) in
-          let shared = (is_byte_shared-SharesByte s.0 n).1 s.3 in
-          l.1 (s.0, s.1, and_from (not (s.0.offset == n.offset)) (is_byte_shared s.0 n) apart shared),
+    grind (
+      arith,
+      and_from,
+      and_parts,
+      eq-eqb,
+      eqb-true,
+      is_byte_shared-SharesByte,
+      list_any-In,
+      not-true-false,
+      not_true,
     )
 
 -- a note is disputed exactly where another has its offset, or one with a different offset shares a byte with it
@@ -93,51 +79,47 @@ IsDisputed-two_ways n notes = (
 pub is_disputed-IsDisputed : (n : NoteParts) (notes : List NoteParts)
     → IsTrue (is_disputed n notes) ↔ IsDisputed n notes
 is_disputed-IsDisputed n notes =
-    let s = is_offset_shared-SharesOffset n notes in
-    let o = is_overlapped-Overlaps n notes in
-    let two = IsDisputed-two_ways n notes in (
-      λ h. two.1 (elim (or_cases (is_offset_shared n notes) (is_overlapped n notes) h) [
-        | inl p ↦ inl (s.0 p)
-        | inr q ↦ inr (o.0 q)
-      ]),
-      λ d. elim (two.0 d) [
-        | inl p ↦ or_left (is_offset_shared n notes) (is_overlapped n notes) (s.1 p)
-        | inr q ↦ or_right (is_offset_shared n notes) (is_overlapped n notes) (o.1 q)
-      ],
+    grind (
+      arith,
+      IsDisputed-two_ways,
+      is_offset_shared-SharesOffset,
+      is_overlapped-Overlaps,
+      or_cases,
+      or_left,
+      or_right,
     )
 
 -- the undisputed notes are those that no other shares a byte with
 pub In-undisputed_notes : (n : NoteParts) (notes : List NoteParts)
     → In n (undisputed_notes notes) ↔ (In n notes × (IsDisputed n notes → ⊥))
 In-undisputed_notes n notes =
-    let f = In-filter (λ m. not (is_disputed m notes)) notes n in
-    let d = is_disputed-IsDisputed n notes in (
-      λ h. ((f.0 h).0, λ k. not-true-false (is_disputed n notes) (f.0 h).1 (d.1 k)),
-      λ c. f.1 (c.0, not_true (is_disputed n notes) (λ e. c.1 (d.0 e))),
+    grind (
+      arith,
+      In-filter (λ m. not (is_disputed m notes)) notes n,
+      is_disputed-IsDisputed n notes,
+      not-true-false (is_disputed n notes),
+      is_disputed n notes,
+      not_true (is_disputed n notes),
     )
 
 -- the clear notes are those that are clear
 pub In-clear_notes : (n : NoteParts) (notes : List NoteParts) → In n (clear_notes notes) ↔ IsClear n notes
 In-clear_notes n notes =
-    let f = In-filter (λ m. m.whole) (undisputed_notes notes) n in
-    let u = In-undisputed_notes n notes in (
-      λ h. let p = u.0 (f.0 h).0 in record { held = p.0; whole = (f.0 h).1; undisputed = p.1 },
-      λ c. f.1 (u.1 (c.held, c.undisputed), c.whole),
+    grind (
+      arith,
+      In-filter (λ m. m.whole) (undisputed_notes notes) n,
+      undisputed_notes notes,
+      In-undisputed_notes n notes,
     )
 
 -- some of a content's notes are a content
 pub IsContent-filter : (p : NoteParts → Bool) (notes : List NoteParts) → IsContent notes → IsContent (filter p notes)
 IsContent-filter p [] r = tt
-IsContent-filter p (x ∷ xs) r =
-    elim (p x) as (λ b. IsContent (cond b (x ∷ filter p xs) (filter p xs))) [
-      | true ↦ (all-filter (λ y. note_cmp x y ≡ Less) p xs r.0, IsContent-filter p xs r.1)
-      | false ↦ IsContent-filter p xs r.1
-    ]
+IsContent-filter p (x ∷ xs) r = grind (arith, all-filter, IsContent-filter p xs r.1)
 
 -- the clear notes and the disputed notes rise
 pub IsContent-clear_notes : (notes : List NoteParts) → IsContent notes → IsContent (clear_notes notes)
-IsContent-clear_notes notes r =
-    IsContent-filter (λ n. n.whole) (undisputed_notes notes) (IsContent-filter (λ n. not (is_disputed n notes)) notes r)
+IsContent-clear_notes notes r = grind (arith, IsContent-filter)
 
 marks : (f : NoteParts → DisputedParts) → ((n : NoteParts) → (f n).note ≡ n) → (notes : List NoteParts)
     → map (λ d. d.note) (map f notes) ≡ notes
@@ -147,13 +129,11 @@ marks f e (x ∷ xs) = λ i. e x i ∷ marks f e xs i
 -- the disputed notes, without their marks, are a part of the notes in their order
 pub notes-disputed_notes : (notes : List NoteParts)
     → map (λ d. d.note) (disputed_notes notes) ≡ filter (λ n. is_disputed n notes) notes
-notes-disputed_notes notes =
-    marks (λ n. disputed_parts n notes) (λ n. refl) (filter (λ n. is_disputed n notes) notes)
+notes-disputed_notes notes = grind (arith, marks)
 
 pub IsContent-disputed_notes : (notes : List NoteParts) → IsContent notes
     → IsContent (map (λ d. d.note) (disputed_notes notes))
-IsContent-disputed_notes notes r =
-    subst IsContent (sym (notes-disputed_notes notes)) (IsContent-filter (λ n. is_disputed n notes) notes r)
+IsContent-disputed_notes notes r = grind (arith, IsContent-filter, notes-disputed_notes)
 
 -- the disputed notes are those that are disputed, with their marks
 pub In-disputed_notes : (d : DisputedParts) (notes : List NoteParts)
@@ -187,12 +167,7 @@ In-disputed_notes d notes =
 -- a note of a whole packet is clear or disputed
 pub clear_or_disputed : (n : NoteParts) (notes : List NoteParts) → In n notes → IsTrue n.whole
     → IsClear n notes ⊎ IsDisputed n notes
-clear_or_disputed n notes h whole =
-    let d = is_disputed-IsDisputed n notes in
-    elim (is_disputed n notes) as (λ b. is_disputed n notes ≡ b → IsClear n notes ⊎ IsDisputed n notes) [
-      | true ↦ λ e. inr (d.0 e)
-      | false ↦ λ e. inl (record { held = h; whole = whole; undisputed = λ k. let t = d.1 k in cc (t, e) })
-    ] refl
+clear_or_disputed n notes h whole = grind (arith, is_disputed-IsDisputed n notes, is_disputed n notes)
 
 -- a clear note shares no byte with another note
 pub clear-apart : (m n : NoteParts) (notes : List NoteParts) → IsClear m notes → In n notes → m ≢ n → SharesByte m n → ⊥
@@ -202,24 +177,19 @@ clear-apart m n notes c h ne s = c.undisputed (n, h, (λ e. ne (sym e)), SharesB
 pub clear-alone : (m n : NoteParts) (notes : List NoteParts) → IsClear m notes → In n notes → m.offset ≡ n.offset
     → m ≡ n
 clear-alone m n notes c h e =
-    elim (is_same_note m n) as (λ b. is_same_note m n ≡ b → m ≡ n) [
-      | true ↦ λ t. (same_note-Decides m n).0 t
-      | false ↦ λ t.
-          let other : m ≢ n = λ p. let u = (same_note-Decides m n).1 p in cc (u, t) in
-          absurd (clear-apart m n notes c h other (SharesByte-same_offset m n e))
-    ] refl
+    grind (arith, is_same_note m n, same_note-Decides m n, clear-apart m n notes c h, SharesByte-same_offset m n e)
 
 -- an undisputed note is the only note with its offset
 undisputed-alone : (m n : NoteParts) (notes : List NoteParts) → In m (undisputed_notes notes) → In n notes
     → m.offset ≡ n.offset → m ≡ n
 undisputed-alone m n notes h k e =
-    let u = (In-undisputed_notes m notes).0 h in
-    elim (is_same_note m n) as (λ b. is_same_note m n ≡ b → m ≡ n) [
-      | true ↦ λ t. (same_note-Decides m n).0 t
-      | false ↦ λ t.
-          let other : n ≢ m = λ p. let v = (same_note-Decides m n).1 (sym p) in cc (v, t) in
-          absurd (u.1 (n, k, other, SharesByte-same_offset n m (sym e)))
-    ] refl
+    grind (
+      arith,
+      In-undisputed_notes m notes,
+      is_same_note m n,
+      same_note-Decides m n,
+      SharesByte-same_offset n m (sym e),
+    )
 
 -- an undisputed note with an offset is the first with it among the undisputed notes
 pub undisputed_at-found : (offset : ℕ) (notes : List NoteParts) (n : NoteParts) → In n (undisputed_notes notes)
@@ -232,18 +202,12 @@ undisputed_at-found offset notes n h at =
 pub undisputed_at-lacked : (offset : ℕ) (notes : List NoteParts)
     → ((n : NoteParts) → In n (undisputed_notes notes) → n.offset ≢ offset)
     → find (λ n. n.offset == offset) (undisputed_notes notes) ≡ None
-undisputed_at-lacked offset notes none =
-    find-none (λ (m : NoteParts). m.offset == offset) (undisputed_notes notes)
-    (λ n h t. none n h (eqb-true _ _ t))
+undisputed_at-lacked offset notes none = search (arith, eqb-true, find-none)
 
 -- a clear note with an offset is the first with it among the clear notes
 pub clear_at-found : (offset : ℕ) (notes : List NoteParts) (n : NoteParts) → IsClear n notes → n.offset ≡ offset
     → find (λ n. n.offset == offset) (clear_notes notes) ≡ Some n
-clear_at-found offset notes n clear at =
-    find-only (λ (m : NoteParts). m.offset == offset) (clear_notes notes) n ((In-clear_notes n notes).1 clear)
-    (eq-eqb _ _ at) (λ m h t.
-    let k = (In-clear_notes m notes).0 h in
-    clear-alone m n notes k clear.held (eqb-true _ _ t ∙ sym at))
+clear_at-found offset notes n clear at = grind (arith, In-clear_notes, clear-alone, eq-eqb, eqb-true, find-only)
 
 pub clear_at-lacked : (offset : ℕ) (notes : List NoteParts)
     → ((n : NoteParts) → IsClear n notes → n.offset ≢ offset)

@@ -1,6 +1,6 @@
 -- The bytes of a file by their parts.
-use Rattle.std.proofs.Common.{◌≡◌, ℕ, zero, suc, ◌+◌, ◌^◌, ◌<◌, List, [], ◌∷◌, ◌++◌, length, take, drop, get_or, refl}
-use Rattle.std.proofs.Common.{sym, ap, subst, ◌∙◌, arith, inl, inr, append_assoc, length-append, append-nil}
+use Rattle.std.proofs.Common.{◌≡◌, ℕ, zero, suc, ◌+◌, ◌^◌, ◌<◌, List, [], ◌∷◌, ◌++◌, length, get_or, refl}
+use Rattle.std.proofs.Common.{sym, ap, ◌∙◌, arith, inl, inr, append_assoc, length-append, append-nil}
 use Rattle.std.proofs.lemmas.List.{take_at, drop_at}
 use Rattle.std.proofs.lemmas.Nat.{be_bytes_8, from_be_bytes-to_be_bytes_8}
 use Rattle.std.proofs.lemmas.Grind.{flat_map-append}
@@ -10,13 +10,12 @@ use Rattle.std.specs.Cmp.{IsTotalOrder}
 use Rattle.std.specs.declared.cmp.Ordering.{Ordering}
 use Rattle.std.specs.declared.cmp.Ordering.TheVariants.{Less}
 use Rattle.mxf_klv.specs.Parts.{NoteParts}
-use Rattle.mxf_klv.specs.Note.{IsNote, keeps}
-use Rattle.std.specs.Prelude.{◌==◌, ◌≤◌, Bool, true, false, cond}
+use Rattle.mxf_klv.specs.Note.{IsNote}
+use Rattle.std.specs.Prelude.{Bool}
 use Rattle.mxf_klv.specs.Rising.{IsRising, less_in}
 use Rattle.mxf_catalogue.specs.declared.catalogue.file.fixed_part.FixedPart.{FixedPart}
 use Rattle.mxf_catalogue.specs.Content.{AreReduced, IsContent}
 use Rattle.mxf_catalogue.specs.declared.catalogue.file.start.Version.{Version}
-use Rattle.mxf_catalogue.specs.declared.catalogue.file.start.Version.TheVariants.{One, Two}
 use Rattle.mxf_catalogue.specs.CatalogueFile.{number_bytes, IsFixedPart, fixed_bytes, CanBeNoted, held_length}
 use Rattle.mxf_catalogue.specs.CatalogueFile.{fixed_part_of}
 use Rattle.mxf_catalogue.specs.CatalogueFile.{note_bytes, start_bytes, IsFileOfVersion, BeginsWithNote}
@@ -27,10 +26,14 @@ use Rattle.mxf_klv.proofs.Lists.{all_push, all_last, In-at}
 -- ---- parts of a text
 
 pub same_front : (us vs xs ys : List ℕ) → length us ≡ length vs → us ++ xs ≡ vs ++ ys → (us ≡ vs) × (xs ≡ ys)
-same_front us vs xs ys p e = (
-  sym (take_at us xs (length vs) p) ∙ ap (take (length vs)) e ∙ take_at vs ys (length vs) refl,
-  sym (drop_at us xs (length vs) p) ∙ ap (drop (length vs)) e ∙ drop_at vs ys (length vs) refl,
-)
+same_front us vs xs ys p e =
+    grind (
+      arith,
+      take_at us xs (length vs) p,
+      take_at vs ys (length vs) refl,
+      drop_at us xs (length vs) p,
+      drop_at vs ys (length vs) refl,
+    )
 
 pub length-number_bytes : (n : ℕ) → length (number_bytes n) ≡ 8
 unfolding number_bytes
@@ -57,15 +60,10 @@ same_number m n xs ys p q e =
 
 pub regrouped : (h : FixedPart) (xs : List ℕ)
     → fixed_bytes h ++ xs ≡ number_bytes h.offset ++ (h.key ++ (h.width ∷ (number_bytes h.length ++ xs)))
-regrouped h xs =
-    append_assoc (number_bytes h.offset) (h.key ++ (h.width ∷ number_bytes h.length)) xs
-    ∙ ap (λ (t : List ℕ). number_bytes h.offset ++ t) (append_assoc h.key (h.width ∷ number_bytes h.length) xs)
+regrouped h xs = grind (arith, append_assoc)
 
 pub length-fixed_bytes : (h : FixedPart) → length h.key ≡ 16 → length (fixed_bytes h) ≡ 33
-length-fixed_bytes h k =
-    let a = length-append (number_bytes h.offset) (h.key ++ (h.width ∷ number_bytes h.length)) in
-    let b = length-append h.key (h.width ∷ number_bytes h.length) in
-    omega (arith, a, b, length-number_bytes h.offset, length-number_bytes h.length)
+length-fixed_bytes h k = grind (arith, length-append, length-number_bytes)
 
 fixed_parts_from : (g h : FixedPart) → g.offset ≡ h.offset → g.key ≡ h.key → g.width ≡ h.width → g.length ≡ h.length
     → g ≡ h
@@ -74,50 +72,25 @@ fixed_parts_from g h a b c d i = record { offset = a i; key = b i; width = c i; 
 pub same_fixed_part : (g h : FixedPart) (xs ys : List ℕ) → IsFixedPart g → IsFixedPart h
     → fixed_bytes g ++ xs ≡ fixed_bytes h ++ ys
     → (g ≡ h) × (xs ≡ ys)
-same_fixed_part g h xs ys p q e =
-    let a = same_number g.offset h.offset _ _ p.offset q.offset (sym (regrouped g xs) ∙ e ∙ regrouped h ys) in
-    let b = same_front g.key h.key _ _ (p.key ∙ sym q.key) a.1 in
-    let width : g.width ≡ h.width = ap (λ (t : List ℕ). get_or t 0 0) b.1 in
-    let rest : number_bytes g.length ++ xs ≡ number_bytes h.length ++ ys = ap (drop 1) b.1 in
-    let c = same_number g.length h.length xs ys p.length q.length rest in
-    (fixed_parts_from g h a.0 b.0 width c.0, c.1)
+same_fixed_part g h xs ys p q e = grind (arith, fixed_parts_from, regrouped, same_front, same_number)
 
 -- ---- notes
 
 pub fixed_part_fits : (n : NoteParts) → IsNote n → IsFixedPart (fixed_part_of n)
-fixed_part_fits n i =
-    let within = i.within in
-    record {
-      offset = omega arith;
-      key = i.label.0;
-      width = elim
-          i.width [ inl a ↦ omega (arith, a.0) | inr b ↦ omega (arith, b.1) ];
-      length = omega arith;
-    }
+fixed_part_fits n i = omega arith
 
 pub fixed_part_noted : (n : NoteParts) → IsNote n → CanBeNoted (fixed_part_of n)
 fixed_part_noted n i = record { label = i.label; width = i.width; within = i.within }
 
 pub note_marked : (n : NoteParts) → IsNote n → CanBeMarked (fixed_part_of n) (mark_of n.whole)
-note_marked n i = (
-  fixed_part_noted n i,
-  elim n.whole as (λ b. mark_of b ≤ 1) [
-    | true ↦ omega arith
-    | false ↦ omega arith
-  ],
-)
+note_marked n i = grind (arith, fixed_part_noted n i)
 
 length-held : (n : NoteParts) → IsNote n → length n.held ≡ held_length (fixed_part_of n) (mark_of n.whole)
-length-held n i =
-    i.held ∙ elim n.whole as (λ b. cond b (cond (keeps n.key n.length) n.length 32) 0
-    ≡ cond (mark_of b == 0) (cond (keeps n.key n.length) n.length 32) 0) [ true ↦ refl | false ↦ refl ]
+length-held n i = grind arith
 
 -- a mark stands for one thing
 same_whole : (a b : Bool) → mark_of a ≡ mark_of b → a ≡ b
-same_whole true true e = refl
-same_whole true false e = absurd (omega (arith, e))
-same_whole false true e = absurd (omega (arith, e))
-same_whole false false e = refl
+same_whole a b h = grind arith
 
 notes_from : (m n : NoteParts) → fixed_part_of m ≡ fixed_part_of n → m.whole ≡ n.whole → m.held ≡ n.held → m ≡ n
 notes_from m n e w f i = record
@@ -126,43 +99,32 @@ notes_from m n e w f i = record
 laid : (v : Version) (n : NoteParts) (xs : List ℕ)
     → note_bytes v n ++ xs
     ≡ fixed_bytes (fixed_part_of n) ++ (mark_bytes v (mark_of n.whole) ++ (n.held ++ xs))
-laid v n xs =
-    append_assoc (fixed_bytes (fixed_part_of n)) (mark_bytes v (mark_of n.whole) ++ n.held) xs
-    ∙ ap (λ (t : List ℕ). fixed_bytes (fixed_part_of n) ++ t) (append_assoc (mark_bytes v (mark_of n.whole)) n.held xs)
+laid v n xs = grind (arith, append_assoc)
 
 -- the mark of a note that a version can have is one of the version
 pub mark_in : (v : Version) (n : NoteParts) → CanHave v n → IsMarkIn v (mark_of n.whole)
-mark_in One n w = ap mark_of w
-mark_in Two n w = tt
+mark_in v n h = grind arith
 
 -- a mark at the front of one text is one
 same_mark : (v : Version) (a b : ℕ) (xs ys : List ℕ) → IsMarkIn v a → IsMarkIn v b
     → mark_bytes v a ++ xs ≡ mark_bytes v b ++ ys → (a ≡ b) × (xs ≡ ys)
-same_mark One a b xs ys i j e = (i ∙ sym j, e)
-same_mark Two a b xs ys i j e = (ap (λ (t : List ℕ). get_or t 0 0) e, ap (drop 1) e)
+same_mark v a b xs ys h k e = grind arith
 
 -- two fixed parts with their marks at the front of one text are one
 pub same_parts : (v : Version) (g h : FixedPart) (a b : ℕ) (xs ys : List ℕ) → IsFixedPart g → IsFixedPart h
     → IsMarkIn v a → IsMarkIn v b
     → fixed_bytes g ++ (mark_bytes v a ++ xs) ≡ fixed_bytes h ++ (mark_bytes v b ++ ys)
     → (g ≡ h) × (a ≡ b) × (xs ≡ ys)
-same_parts v g h a b xs ys p q i j e =
-    let s = same_fixed_part g h (mark_bytes v a ++ xs) (mark_bytes v b ++ ys) p q e in
-    let m = same_mark v a b xs ys i j s.1 in
-    (s.0, m.0, m.1)
+same_parts v g h a b xs ys p q i j e = grind (arith, same_fixed_part, same_mark)
 
 -- how many bytes a fixed part with its mark has
 pub length-ahead : (v : Version) (f : FixedPart) (mark : ℕ) → length f.key ≡ 16
     → length (fixed_bytes f) + length (mark_bytes v mark) ≡ length_ahead v
-length-ahead One f mark k = omega (arith, length-fixed_bytes f k)
-length-ahead Two f mark k = omega (arith, length-fixed_bytes f k)
+length-ahead v f mark h = grind (arith, length-fixed_bytes)
 
 pub length-parts : (v : Version) (f : FixedPart) (mark : ℕ) (xs : List ℕ) → length f.key ≡ 16
     → length (fixed_bytes f ++ (mark_bytes v mark ++ xs)) ≡ length_ahead v + length xs
-length-parts v f mark xs k =
-    let a = length-append (fixed_bytes f) (mark_bytes v mark ++ xs) in
-    let b = length-append (mark_bytes v mark) xs in
-    omega (arith, a, b, length-ahead v f mark k)
+length-parts v f mark xs k = grind (arith, length-ahead, length-append)
 
 -- two notes at the front of one text are one
 pub same_note : (v : Version) (m n : NoteParts) (xs ys : List ℕ) → IsNote m → IsNote n → CanHave v m → CanHave v n
@@ -179,8 +141,7 @@ same_note v m n xs ys i j c d e =
 -- the same of what begins with them
 pub same_beginning : (v : Version) (m n : NoteParts) (bytes xs ys : List ℕ) → BeginsWithNote v bytes m xs
     → BeginsWithNote v bytes n ys → m ≡ n
-same_beginning v m n bytes xs ys b d =
-    (same_note v m n xs ys b.note d.note b.can_have d.can_have (sym b.whole ∙ d.whole)).0
+same_beginning v m n bytes xs ys b d = grind (arith, same_note)
 
 -- the fixed part and the mark that a note at the front begins with are the note's
 note_mark : (v : Version) (n : NoteParts) (f : FixedPart) (mark : ℕ) (bytes more rest : List ℕ)
@@ -194,9 +155,13 @@ note_mark v n f mark bytes more rest b p =
 pub note_uncut : (v : Version) (n : NoteParts) (bytes more : List ℕ) → BeginsWithNote v bytes n more
     → IsCutNote v bytes → ⊥
 note_uncut v n bytes more b (inl short) =
-    let len = ap length (b.whole ∙ laid v n more) in
-    let parts = length-parts v (fixed_part_of n) (mark_of n.whole) (n.held ++ more) b.note.label.0 in
-    omega (arith, len, parts, short)
+    grind (
+      arith,
+      laid v n more,
+      length-parts v (fixed_part_of n) (mark_of n.whole) (n.held ++ more) b.note.label.0,
+      fixed_part_of n,
+      mark_of n.whole,
+    )
 note_uncut v n bytes more b (inr (f, mark, rest, p, good, short)) =
     let same = note_mark v n f mark bytes more rest b p in
     let len = ap length same.2 in
@@ -209,18 +174,10 @@ note_uncut v n bytes more b (inr (f, mark, rest, p, good, short)) =
 pub note_good : (v : Version) (n : NoteParts) (bytes more : List ℕ) → BeginsWithNote v bytes n more
     → IsBadNote v bytes → ⊥
 note_good v n bytes more b (f, mark, rest, p, bad) =
-    let same = note_mark v n f mark bytes more rest b p in
-    bad (subst (λ k. CanBeMarked k mark) (sym same.0)
-    (subst (λ m. CanBeMarked (fixed_part_of n) m) (sym same.1) (note_marked n b.note)))
+    grind (arith, note_mark v n f mark bytes more rest b p, fixed_part_of n, note_marked n b.note)
 
 pub cut_good : (v : Version) (bytes : List ℕ) → IsCutNote v bytes → IsBadNote v bytes → ⊥
-cut_good v bytes (inl short) (f, mark, rest, p, bad) =
-    let len = ap length p.whole in
-    let parts = length-parts v f mark rest p.fixed.key in
-    omega (arith, len, parts, short)
-cut_good v bytes (inr (g, m, more, b, good, short)) (f, mark, rest, p, bad) =
-    let same = same_parts v f g mark m rest more p.fixed b.fixed p.marked b.marked (sym p.whole ∙ b.whole) in
-    bad (subst (λ k. CanBeMarked k mark) (sym same.0) (subst (λ x. CanBeMarked g x) (sym same.1) good))
+cut_good v bytes h k = grind (arith, length-parts, same_parts)
 
 -- ---- lists that go on
 
@@ -233,9 +190,11 @@ module _ {K : Type 0} {R : K → K → Ordering} (o : IsTotalOrder R) where
   rising_push (y ∷ []) (suc k) d x l r e = absurd (omega arith)
   rising_push (y ∷ z ∷ zs) zero d x l r e = absurd (omega arith)
   rising_push (y ∷ z ∷ zs) (suc k) d x l r e =
-      let below : R y (get_or (z ∷ zs) k d) ≡ Less = less_in o y (get_or (z ∷ zs) k d) (z ∷ zs) r.0
-      (In-at (z ∷ zs) k d (omega arith)) in (
-        all_push (λ w. R y w ≡ Less) (z ∷ zs) x r.0 (o.trans y (get_or (z ∷ zs) k d) x below e),
+      grind (
+        arith,
+        less_in o y (get_or (z ∷ zs) k d) (z ∷ zs) r.0 (In-at (z ∷ zs) k d (omega arith)),
+        In-at (z ∷ zs) k d (omega arith),
+        all_push (λ w. R y w ≡ Less) (z ∷ zs) x r.0,
         rising_push (z ∷ zs) k d x (omega arith) r.1 e,
       )
 
@@ -247,9 +206,7 @@ rising_last R (y ∷ ys) (suc k) d x l r = rising_last R ys k d x (omega arith) 
 
 pub flat_push : {X : Type 0} (f : X → List ℕ) (xs : List X) (x : X) (more : List ℕ)
     → flat_map f (xs ++ x ∷ []) ++ more ≡ flat_map f xs ++ (f x ++ more)
-flat_push f xs x more =
-    ap (λ (t : List ℕ). t ++ more) (flat_map-append f xs (x ∷ [])
-    ∙ ap (λ (t : List ℕ). flat_map f xs ++ t) (append-nil (f x))) ∙ append_assoc (flat_map f xs) (f x) more
+flat_push f xs x more = grind (arith, append-nil, append_assoc, flat_map-append)
 
 -- ---- fronts of files
 
@@ -259,51 +216,27 @@ length-start_bytes v count = omega (arith, length-number_bytes count)
 pub front_begins : (v : Version) (bytes rest : List ℕ) (count : ℕ) → count < 2 ^ 64
     → bytes ≡ start_bytes v count ++ rest
     → IsFront v bytes count [] rest
-front_begins v bytes rest count h e = record {
-  catalogue = record { content = tt; members = tt };
-  reduced = λ x i k. i;
-  can_have = tt;
-  room = omega arith;
-  fits = h;
-  whole = e;
-}
+front_begins v bytes rest count h e = grind arith
 
 pub front_next : (v : Version) (bytes rest more : List ℕ) (count : ℕ) (notes : List NoteParts) (n : NoteParts)
     → IsFront v bytes count notes rest → length notes < count → BeginsWithNote v rest n more
     → IsContent (notes ++ n ∷ []) → AreReduced (notes ++ n ∷ []) → IsFront v bytes count (notes ++ n ∷ []) more
-front_next v bytes rest more count notes n f lt b r p =
-    let len : length (notes ++ n ∷ []) ≡ length notes + 1 = length-append notes (n ∷ []) in
-    record {
-      catalogue = record { content = r; members = all_push IsNote notes n f.catalogue.members b.note };
-      reduced = p;
-      can_have = all_push (CanHave v) notes n f.can_have b.can_have;
-      room = omega arith;
-      fits = f.fits;
-      whole = f.whole
-          ∙ ap (λ (t : List ℕ). start_bytes v count ++ t) (ap (λ (t : List ℕ). flat_map (note_bytes v) notes
-          ++ t) b.whole
-          ∙ sym (flat_push (note_bytes v) notes n more));
-    }
+front_next v bytes rest more count notes n f lt b r p = grind (arith, all_push, flat_push, length-append)
 
 pub front_place : (v : Version) (bytes rest : List ℕ) (count : ℕ) (notes : List NoteParts)
     → IsFront v bytes count notes rest → length bytes ≡ place_after v notes + length rest
 front_place v bytes rest count notes f =
-    let len = ap length f.whole in
-    omega (
+    grind (
       arith,
-      len,
       length-append (start_bytes v count) (flat_map (note_bytes v) notes ++ rest),
+      start_bytes v count,
+      flat_map (note_bytes v) notes,
+      note_bytes v,
       length-append (flat_map (note_bytes v) notes) rest,
       length-start_bytes v count,
     )
 
 pub front_whole : (v : Version) (bytes rest : List ℕ) (count : ℕ) (notes : List NoteParts)
     → IsFront v bytes count notes rest → length notes ≡ count → length rest ≡ 0 → IsFileOfVersion v bytes notes
-front_whole v bytes [] count notes f e l = record {
-  catalogue = f.catalogue;
-  reduced = f.reduced;
-  can_have = f.can_have;
-  fits = rw e f.fits;
-  whole = f.whole ∙ (λ i. start_bytes v (sym e i) ++ append-nil (flat_map (note_bytes v) notes) i);
-}
+front_whole v bytes [] count notes f e l = grind (arith, append-nil)
 front_whole v bytes (b ∷ bs) count notes f e l = absurd (omega arith)

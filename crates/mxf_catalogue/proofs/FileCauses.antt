@@ -1,5 +1,5 @@
 -- Bytes are the file of a content, or there is a cause in them why they are none.
-use Rattle.std.proofs.Common.{◌≡◌, ◌≢◌, ℕ, zero, suc, ◌+◌, ◌-◌, ◌^◌, ◌<◌, ◌≤◌, Bool, true, false, List, [], ◌∷◌, ◌++◌}
+use Rattle.std.proofs.Common.{◌≡◌, ◌≢◌, ℕ, zero, suc, ◌+◌, ◌-◌, ◌^◌, ◌<◌, ◌≤◌, Bool, List, [], ◌∷◌, ◌++◌}
 use Rattle.std.proofs.Common.{length}
 use Rattle.std.proofs.Common.{get_or, take, drop, Option, None, Some, refl, sym, ap, subst, ◌∙◌, arith, inl, inr, ◌⊎◌}
 use Rattle.std.proofs.Common.{append_assoc, length-append, take-append-drop}
@@ -13,10 +13,10 @@ use Rattle.std.specs.List.{AllByRecursion, slice_get}
 use Rattle.std.specs.Prelude.{IsSomeAnd, IfSome, ◌==◌}
 use Rattle.std.specs.Str.{bytes_eq}
 use Rattle.std.specs.declared.cmp.Ordering.{Ordering}
-use Rattle.std.specs.declared.cmp.Ordering.TheVariants.{Less, Equal, Greater}
+use Rattle.std.specs.declared.cmp.Ordering.TheVariants.{Less}
 use Rattle.mxf_klv.specs.Bytes.{AreBytes}
-use Rattle.mxf_klv.specs.Label.{IsLabel, label_start}
-use Rattle.mxf_klv.specs.Note.{greatest_end, head_note, note_cmp}
+use Rattle.mxf_klv.specs.Label.{IsLabel}
+use Rattle.mxf_klv.specs.Note.{head_note, note_cmp}
 use Rattle.mxf_klv.specs.Parts.{CanSpell, NoteParts}
 use Rattle.mxf_klv.specs.Rising.{IsRising}
 use Rattle.mxf_catalogue.specs.declared.catalogue.file.FileFault.{FileFault}
@@ -43,8 +43,7 @@ abbrev Decided : Type 0 → Type 0
 Decided P = P ⊎ (P → ⊥)
 
 by_test : (b : Bool) (P : Type 0) → Decides b P → Decided P
-by_test true P d = inl (d.0 refl)
-by_test false P d = inr (λ p. let e = d.1 p in cc (e))
+by_test b P h = grind arith
 
 equal : (m n : ℕ) → Decided (m ≡ n)
 equal m n = by_test (m == n) (m ≡ n) (Decides-eqb m n)
@@ -53,57 +52,16 @@ at_most : (m n : ℕ) → Decided (m ≤ n)
 at_most m n = elim (cases_lt n m) [ inl above ↦ inr (λ h. omega arith) | inr h ↦ inl h ]
 
 can_spell : (width value : ℕ) → Decided (CanSpell width value)
-can_spell width value =
-    elim (equal width 1) [
-      | inl one ↦ elim (at_most value 127) [
-        | inl low ↦ inl (inl (one, low))
-        | inr high ↦ inr (λ s. elim s [ inl a ↦ high a.1 | inr b ↦ omega (arith, b.0) ])
-      ]
-      | inr more ↦ elim (at_most 2 width) [
-        | inr few ↦ inr (λ s. elim s [ inl a ↦ more a.0 | inr b ↦ few b.0 ])
-        | inl some ↦ elim (at_most width 9) [
-          | inr many ↦ inr (λ s. elim s [ inl a ↦ more a.0 | inr b ↦ many b.1 ])
-          | inl fits ↦ elim (cases_lt value (256 ^ (width - 1))) [
-            | inl low ↦ inl (inr (some, fits, low))
-            | inr high ↦ inr (λ s. elim s [ inl a ↦ more a.0 | inr b ↦ omega (arith, b.2, high) ])
-          ]
-        ]
-      ]
-    ]
+can_spell width value = grind (arith, at_most, cases_lt, equal)
 
 is_label : (key : List ℕ) → Decided (IsLabel key)
-is_label key =
-    elim (equal (length key) 16) [
-      | inr short ↦ inr (λ l. short l.0)
-      | inl long ↦ elim (by_test (bytes_eq (take 4 key) label_start) (take 4 key ≡ label_start)
-          (bytes_eq-Decides (take 4 key) label_start)) [
-            | inl begins ↦ inl (long, begins)
-            | inr never ↦ inr (λ l. never l.1)
-          ]
-    ]
+is_label key = grind (arith, by_test, bytes_eq-Decides, equal)
 
 can_be_noted : (h : FixedPart) → Decided (CanBeNoted h)
-can_be_noted h =
-    elim (is_label h.key) [
-      | inr never ↦ inr (λ c. never c.label)
-      | inl label ↦ elim (can_spell h.width h.length) [
-        | inr never ↦ inr (λ c. never c.width)
-        | inl width ↦ elim (at_most (h.offset + 16 + h.width + h.length) greatest_end) [
-          | inr never ↦ inr (λ c. never c.within)
-          | inl within ↦ inl (record { label = label; width = width; within = within })
-        ]
-      ]
-    ]
+can_be_noted h = grind (arith, at_most, can_spell, is_label)
 
 can_be_marked : (h : FixedPart) (mark : ℕ) → Decided (CanBeMarked h mark)
-can_be_marked h mark =
-    elim (can_be_noted h) [
-      | inr never ↦ inr (λ c. never c.0)
-      | inl noted ↦ elim (at_most mark 1) [
-        | inr never ↦ inr (λ c. never c.1)
-        | inl known ↦ inl (noted, known)
-      ]
-    ]
+can_be_marked h mark = grind (arith, at_most, can_be_noted)
 
 behind_first : (x : NoteParts) (xs front back : List NoteParts) → x ∷ xs ≡ front ++ back → 1 ≤ length front
     → (more : List NoteParts) × (xs ≡ more ++ back)
@@ -132,32 +90,16 @@ is_head_last (x ∷ y ∷ ys) n =
     ]
 
 is_below : (o : Ordering) → Decided (o ≡ Less)
-is_below Less = inl refl
-is_below Equal = inr (λ e. cc)
-is_below Greater = inr (λ e. cc)
+is_below o = grind arith
 
 below_all_of : {K : Type 0} (R : K → K → Ordering) (x : K) (ys : List K)
     → Decided (AllByRecursion (λ y. R x y ≡ Less) ys)
 below_all_of R x [] = inl tt
-below_all_of R x (y ∷ ys) =
-    elim (is_below (R x y)) [
-      | inr never ↦ inr (λ a. never a.0)
-      | inl first ↦ elim (below_all_of R x ys) [
-        | inr never ↦ inr (λ a. never a.1)
-        | inl rest ↦ inl (first, rest)
-      ]
-    ]
+below_all_of R x (y ∷ ys) = grind (arith, is_below, below_all_of R x ys)
 
 is_rising : {K : Type 0} (R : K → K → Ordering) (xs : List K) → Decided (IsRising R xs)
 is_rising R [] = inl tt
-is_rising R (x ∷ xs) =
-    elim (below_all_of R x xs) [
-      | inr never ↦ inr (λ r. never r.0)
-      | inl first ↦ elim (is_rising R xs) [
-        | inr never ↦ inr (λ r. never r.1)
-        | inl rest ↦ inl (first, rest)
-      ]
-    ]
+is_rising R (x ∷ xs) = grind (arith, below_all_of, is_rising R xs)
 
 -- ---- bytes and numbers
 
@@ -227,9 +169,7 @@ record MarkAt (v : Version) (bytes : List ℕ) : Type 0 where
 
 mark_at : (v : Version) (bytes : List ℕ) → length_ahead v ≤ 33 + length bytes → MarkAt v bytes
 mark_at One bytes long = record { mark = 0; rest = bytes; begins = record { marked = refl; whole = refl } }
-mark_at Two bytes long =
-    let first : FirstOf bytes = first_of bytes (omega (arith, long)) in
-    record { mark = first.first; rest = first.others; begins = record { marked = tt; whole = first.whole } }
+mark_at Two bytes long = grind (arith, first_of bytes (omega (arith, long)))
 
 -- a fixed part and a mark in the first bytes
 record PartsAt (v : Version) (bytes : List ℕ) : Type 0 where
@@ -239,8 +179,7 @@ record PartsAt (v : Version) (bytes : List ℕ) : Type 0 where
   pub begins : BeginsWithParts v bytes fixed mark rest
 
 ahead_from : (v : Version) → 33 ≤ length_ahead v
-ahead_from One = omega arith
-ahead_from Two = omega arith
+ahead_from v = grind arith
 
 parts_at : (v : Version) (bytes : List ℕ) → length_ahead v ≤ length bytes → AreBytes bytes → PartsAt v bytes
 parts_at v bytes long h =
@@ -339,13 +278,10 @@ marked_note f mark held = record {
 }
 
 mark_back : (mark : ℕ) → mark ≤ 1 → mark_of (mark == 0) ≡ mark
-mark_back zero l = refl
-mark_back (suc zero) l = refl
-mark_back (suc (suc mark)) l = absurd (omega arith)
+mark_back mark h = grind arith
 
 marked_in : (v : Version) (mark : ℕ) (n : NoteParts) → IsMarkIn v mark → n.whole ≡ (mark == 0) → CanHave v n
-marked_in One mark n z w = w ∙ ap (λ k. k == 0) z
-marked_in Two mark n z w = tt
+marked_in v mark n h k = grind arith
 
 -- that which holds the first of the bytes behind them
 note_there : (v : Version) (f : FixedPart) (mark : ℕ) (rest more : List ℕ) → BeginsWithParts v rest f mark more

@@ -1,5 +1,5 @@
 -- Bytes are the file of one content, or are refused for one fault.
-use Rattle.std.proofs.Common.{◌≡◌, ◌≢◌, ℕ, ◌<◌, ◌≤◌, List, [], ◌∷◌, ◌++◌, length, drop, Result, Ok, Err, Option, None}
+use Rattle.std.proofs.Common.{◌≡◌, ◌≢◌, ℕ, ◌<◌, ◌≤◌, List, [], ◌∷◌, ◌++◌, length, drop, Result, Ok, Err, Option}
 use Rattle.std.proofs.Common.{Some, refl, sym, ap, subst, ◌∙◌, arith, inl, inr, ◌⊎◌, append_assoc, length-append}
 use Rattle.std.proofs.Common.{append-nil}
 use Rattle.std.specs.List.{flat_map, AllByRecursion, slice_get}
@@ -22,7 +22,6 @@ use Rattle.mxf_catalogue.specs.CatalogueFile.{BeginsWithNote}
 use Rattle.mxf_catalogue.specs.CatalogueFile.{CanHave, IsKnownVersion, IsUnknownVersion}
 use Rattle.mxf_catalogue.specs.CatalogueFile.{IsCutNote, IsBadNote, IsUnsortedNote, IsFront, place_after, BeginsAsFile}
 use Rattle.mxf_catalogue.specs.CatalogueFile.{IsFileOfVersion, IsHeadLast, IsRefused, ReadsFile, StopsAt, file_bytes}
-use Rattle.mxf_catalogue.specs.CatalogueFile.{version_bytes}
 use Rattle.mxf_catalogue.proofs.FileBytes.{same_number, same_note, same_beginning, note_uncut, note_good, cut_good}
 use Rattle.mxf_catalogue.proofs.FileBytes.{length-start_bytes}
 use Rattle.mxf_klv.proofs.Lists.{In-append, all-In, all_last}
@@ -77,36 +76,26 @@ same_end v count notes rest (Ok x) (Err (BadNote q)) e f = absurd (omega (arith,
 same_end v count notes rest (Ok x) (Err (NotSorted q)) e f = absurd (omega (arith, e.1, f.1))
 same_end v count notes rest (Ok x) (Err (Trailing q)) e f = absurd (omega (arith, e.2, f.2))
 same_end v count notes rest (Err (Truncated p)) (Ok y) e f = absurd (omega (arith, e.1, f.1))
-same_end v count notes rest (Err (Truncated p)) (Err (Truncated q)) e f = ap (λ (t : ℕ). Err (Truncated t)) (e.0
-    ∙ sym f.0)
+same_end v count notes rest (Err (Truncated p)) (Err (Truncated q)) e f = cc
 same_end v count notes rest (Err (Truncated p)) (Err (BadNote q)) e f = absurd (cut_good v rest e.2 f.2)
-same_end v count notes rest (Err (Truncated p)) (Err (NotSorted q)) e f = let (n, more, d, never) = f.2 in absurd
-    (note_uncut v n rest more d e.2)
+same_end v count notes rest (Err (Truncated p)) (Err (NotSorted q)) e f = search (arith, note_uncut)
 same_end v count notes rest (Err (Truncated p)) (Err (Trailing q)) e f = absurd (omega (arith, e.1, f.1))
 same_end v count notes rest (Err (BadNote p)) (Ok y) e f = absurd (omega (arith, e.1, f.1))
 same_end v count notes rest (Err (BadNote p)) (Err (Truncated q)) e f = absurd (cut_good v rest f.2 e.2)
 same_end v count notes rest (Err (BadNote p)) (Err (BadNote q)) e f = ap (λ (t : ℕ). Err (BadNote t)) (e.0 ∙ sym f.0)
-same_end v count notes rest (Err (BadNote p)) (Err (NotSorted q)) e f = let (n, more, d, never) = f.2 in absurd
-    (note_good v n rest more d e.2)
+same_end v count notes rest (Err (BadNote p)) (Err (NotSorted q)) e f = search (arith, note_good)
 same_end v count notes rest (Err (BadNote p)) (Err (Trailing q)) e f = absurd (omega (arith, e.1, f.1))
 same_end v count notes rest (Err (NotSorted p)) (Ok y) e f = absurd (omega (arith, e.1, f.1))
-same_end v count notes rest (Err (NotSorted p)) (Err (Truncated q)) e f = let (n, more, d, never) = e.2 in absurd
-    (note_uncut v n rest more d f.2)
-same_end v count notes rest (Err (NotSorted p)) (Err (BadNote q)) e f = let (n, more, d, never) = e.2 in absurd
-    (note_good v n rest more d f.2)
-same_end v count notes rest (Err (NotSorted p)) (Err (NotSorted q)) e f = ap (λ (t : ℕ). Err (NotSorted t)) (e.0
-    ∙ sym f.0)
+same_end v count notes rest (Err (NotSorted p)) (Err (Truncated q)) e f = search (arith, note_uncut)
+same_end v count notes rest (Err (NotSorted p)) (Err (BadNote q)) e f = search (arith, note_good)
+same_end v count notes rest (Err (NotSorted p)) (Err (NotSorted q)) e f = cc
 same_end v count notes rest (Err (NotSorted p)) (Err (Trailing q)) e f = absurd (omega (arith, e.1, f.1))
 same_end v count notes rest (Ok x) (Err (NotReduced q)) e f = absurd (omega (arith, e.1, f.1))
 same_end v count notes rest (Err (NotReduced p)) (Ok y) e f = absurd (omega (arith, e.1, f.1))
-same_end v count notes rest (Err (Truncated p)) (Err (NotReduced q)) e f = let (n, more, d, rises, last) = f.2 in absurd
-    (note_uncut v n rest more d e.2)
-same_end v count notes rest (Err (NotReduced p)) (Err (Truncated q)) e f = let (n, more, d, rises, last) = e.2 in absurd
-    (note_uncut v n rest more d f.2)
-same_end v count notes rest (Err (BadNote p)) (Err (NotReduced q)) e f = let (n, more, d, rises, last) = f.2 in absurd
-    (note_good v n rest more d e.2)
-same_end v count notes rest (Err (NotReduced p)) (Err (BadNote q)) e f = let (n, more, d, rises, last) = e.2 in absurd
-    (note_good v n rest more d f.2)
+same_end v count notes rest (Err (Truncated p)) (Err (NotReduced q)) e f = search (arith, note_uncut)
+same_end v count notes rest (Err (NotReduced p)) (Err (Truncated q)) e f = search (arith, note_uncut)
+same_end v count notes rest (Err (BadNote p)) (Err (NotReduced q)) e f = search (arith, note_good)
+same_end v count notes rest (Err (NotReduced p)) (Err (BadNote q)) e f = search (arith, note_good)
 same_end v count notes rest (Err (NotSorted p)) (Err (NotReduced q)) e f =
     let (n, more, d, rises, last) = f.2 in
     let (m, others, g, never) = e.2 in
@@ -117,8 +106,7 @@ same_end v count notes rest (Err (NotReduced p)) (Err (NotSorted q)) e f =
     let (m, others, g, never) = f.2 in
     let same = same_beginning v n m rest more others d g in
     absurd (never (subst (λ (x : NoteParts). IsContent (notes ++ x ∷ [])) same rises))
-same_end v count notes rest (Err (NotReduced p)) (Err (NotReduced q)) e f = ap (λ (t : ℕ). Err (NotReduced t)) (e.0
-    ∙ sym f.0)
+same_end v count notes rest (Err (NotReduced p)) (Err (NotReduced q)) e f = cc
 same_end v count notes rest (Err (NotReduced p)) (Err (Trailing q)) e f = absurd (omega (arith, e.1, f.1))
 same_end v count notes rest (Err (Trailing p)) (Err (NotReduced q)) e f = absurd (omega (arith, e.1, f.1))
 same_end v count notes rest (Err (Trailing p)) (Ok y) e f = absurd (omega (arith, e.2, f.2))
@@ -144,8 +132,7 @@ same_walk : (v : Version) (count : ℕ) (before ns ms : List NoteParts) (x y : L
     → length (before ++ ns) ≤ count → length (before ++ ms) ≤ count
     → flat_map (note_bytes v) ns ++ x ≡ flat_map (note_bytes v) ms ++ y → EndsWith v count (before ++ ns) x r
     → EndsWith v count (before ++ ms) y s → r ≡ s
-same_walk v count before [] [] x y r s a b g h c d i j l m t e f =
-    same_end v count (before ++ []) y r s (subst (λ (z : List ℕ). EndsWith v count (before ++ []) z r) t e) f
+same_walk v count before [] [] x y r s a b g h c d i j l m t e f = grind (arith, same_end)
 same_walk v count before [] (k ∷ ks) x y r s a b g h c d i j l m t e f =
     let at : before ++ [] ≡ before = append-nil before in
     let next : IsContent (before ++ k ∷ []) = rising_front note_cmp (before ++ k ∷ []) ks
@@ -186,10 +173,7 @@ same_walk v count before (n ∷ ns) (k ∷ ks) x y r s a b g h c d i j l m t e f
 
 -- a version has a byte of its own
 one_version : (v w : Version) → version_byte v ≡ version_byte w → v ≡ w
-one_version One One e = refl
-one_version One Two e = absurd (omega (arith, e))
-one_version Two One e = absurd (omega (arith, e))
-one_version Two Two e = refl
+one_version v w h = grind arith
 
 -- a reading that came to the notes, and one that didn't
 record Late (bytes : List ℕ) (r : Result (List NoteParts) FileFault) : Type 0 where
@@ -214,8 +198,7 @@ version_at v count rest = refl
 -- byte eight of a front is that of its version
 version_of_front : (v : Version) (bytes rest : List ℕ) (count : ℕ) (notes : List NoteParts)
     → IsFront v bytes count notes rest → slice_get bytes 7 ≡ Some (version_byte v)
-version_of_front v bytes rest count notes f =
-    ap (λ (t : List ℕ). slice_get t 7) f.whole ∙ version_at v count (flat_map (note_bytes v) notes ++ rest)
+version_of_front v bytes rest count notes f = grind (arith, version_at)
 
 same_late_in : (v : Version) (bytes : List ℕ) (k l : ℕ) (ns ms : List NoteParts) (x y : List ℕ)
     (r s : Result (List NoteParts) FileFault) → IsFront v bytes k ns x → IsFront v bytes l ms y
@@ -231,63 +214,39 @@ same_late_in v bytes k l ns ms x y r s f g e h =
 
 same_late : (bytes : List ℕ) (r s : Result (List NoteParts) FileFault) → Late bytes r → Late bytes s → r ≡ s
 same_late bytes r s p q =
-    let is = version_of_front p.version bytes p.rest p.count p.notes p.front in
-    let other = version_of_front q.version bytes q.rest q.count q.notes q.front in
-    let tell : version_byte p.version ≡ version_byte q.version = cc (is, other) in
-    let same : q.version ≡ p.version = sym (one_version p.version q.version tell) in
-    same_late_in p.version bytes p.count q.count p.notes q.notes p.rest q.rest r s p.front
-    (subst (λ v. IsFront v bytes q.count q.notes q.rest) same q.front) p.ends
-    (subst (λ v. EndsWith v q.count q.notes q.rest s) same q.ends)
+    grind (
+      arith,
+      version_of_front p.version bytes p.rest p.count p.notes p.front,
+      version_of_front q.version bytes q.rest q.count q.notes q.front,
+      version_byte p.version,
+      version_byte q.version,
+      one_version p.version q.version,
+      same_late_in p.version bytes p.count q.count p.notes q.notes p.rest q.rest r s p.front,
+    )
 
 some_and : (o : Option ℕ) (P : ℕ → Type 0) → IsSomeAnd o P → (v : ℕ) × (o ≡ Some v) × P v
-some_and None P h = absurd h
-some_and (Some v) P h = (v, refl, h)
+some_and o P h = grind arith
 
 pub if_some : (o : Option ℕ) (P : ℕ → Type 0) → IfSome o P → (v : ℕ) → o ≡ Some v → P v
-if_some None P h v e = absurd cc
-if_some (Some w) P h v e = let same : w ≡ v = cc in subst P same h
+if_some o P h v k = grind arith
 
 -- a file is a front with nothing behind it
 pub file_front : (v : Version) (bytes : List ℕ) (notes : List NoteParts) → IsFileOfVersion v bytes notes
     → IsFront v bytes (length notes) notes []
-file_front v bytes notes f = record {
-  catalogue = f.catalogue;
-  reduced = f.reduced;
-  can_have = f.can_have;
-  room = omega arith;
-  fits = f.fits;
-  whole = f.whole
-      ∙ ap (λ (t : List ℕ). start_bytes v (length notes) ++ t) (sym (append-nil (flat_map (note_bytes v) notes)));
-}
+file_front v bytes notes f = grind (arith, append-nil)
 
 stopped : (bytes : List ℕ) (place : ℕ) (r : Result (List NoteParts) FileFault)
     (why : Version → ℕ → List NoteParts → List ℕ → Type 0) (s : StopsAt bytes place why)
     → EndsWith s.version s.count s.notes s.rest r → Late bytes r
-stopped bytes place r why s e = record {
-  version = s.version;
-  count = s.count;
-  notes = s.notes;
-  rest = s.rest;
-  front = s.front;
-  ends = e;
-}
+stopped bytes place r why s e = grind arith
 
 -- each reading is one of these
 sorted : (bytes : List ℕ) (r : Result (List NoteParts) FileFault) → r ≢ Err OutOfMemory → ReadsFile bytes r
     → Late bytes r ⊎ Early bytes r
-sorted bytes (Ok notes) m (version, f) = inl (record {
-  version = version;
-  count = length notes;
-  notes = notes;
-  rest = [];
-  front = file_front version bytes notes f;
-  ends = (refl, refl, refl);
-})
+sorted bytes (Ok notes) m (version, f) = grind (arith, file_front version bytes notes f)
 sorted bytes (Err BadMagic) m f = inr (inl (refl, f))
-sorted bytes (Err BadVersion) m f = let v = some_and (slice_get bytes 7) IsUnknownVersion f.1 in inr
-    (inr (inl (refl, f.0, v.0, v.1, v.2)))
-sorted bytes (Err (Truncated p)) m (inl (z, b, v, l)) = inr
-    (inr (inr (ap (λ (t : ℕ). Err (Truncated t)) z, b, if_some (slice_get bytes 7) IsKnownVersion v, l)))
+sorted bytes (Err BadVersion) m f = grind (arith, some_and)
+sorted bytes (Err (Truncated p)) m (inl (z, b, v, l)) = grind (arith, if_some)
 sorted bytes (Err (Truncated p)) m (inr s) = inl (stopped bytes p _ _ s (s.stands, s.why.0, s.why.1))
 sorted bytes (Err (BadNote p)) m s = inl (stopped bytes p _ _ s (s.stands, s.why.0, s.why.1))
 sorted bytes (Err (NotSorted p)) m s = inl (stopped bytes p _ _ s (s.stands, s.why.0, s.why.1))
@@ -299,37 +258,24 @@ pub begins_as_file : (v : Version) (count : ℕ) (rest : List ℕ) → BeginsAsF
 begins_as_file v count rest = refl
 
 late_early : (bytes : List ℕ) (r s : Result (List NoteParts) FileFault) → Late bytes r → Early bytes s → ⊥
-late_early bytes r s p (inl (e, never)) =
-    let f = p.front in never
-    (subst BeginsAsFile (sym f.whole)
-    (begins_as_file p.version p.count (flat_map (note_bytes p.version) p.notes ++ p.rest)))
-late_early bytes r s p (inr (inl (e, b, v, is, other))) =
-    let at = version_of_front p.version bytes p.rest p.count p.notes p.front in
-    let same : v ≡ version_byte p.version = cc (at, is) in other p.version same
-late_early bytes r s p (inr (inr (e, b, v, short))) =
-    let f = p.front in
-    let len = ap length f.whole in
-    omega (
+late_early bytes r s h k =
+    grind (
       arith,
-      len,
-      short,
-      length-append (start_bytes p.version p.count) (flat_map (note_bytes p.version) p.notes ++ p.rest),
-      length-start_bytes p.version p.count,
+      begins_as_file h.version h.count (flat_map (note_bytes h.version) h.notes ++ h.rest),
+      flat_map (note_bytes h.version) h.notes,
+      note_bytes h.version,
+      version_of_front h.version bytes h.rest h.count h.notes h.front,
+      version_byte h.version,
+      length-append (start_bytes h.version h.count) (flat_map (note_bytes h.version) h.notes ++ h.rest),
+      start_bytes h.version h.count,
+      length-start_bytes h.version h.count,
     )
 
 unknown_known : (byte : ℕ) → IsUnknownVersion byte → IsKnownVersion byte → ⊥
 unknown_known byte never (v, is) = never v is
 
 same_early : (bytes : List ℕ) (r s : Result (List NoteParts) FileFault) → Early bytes r → Early bytes s → r ≡ s
-same_early bytes r s (inl a) (inl b) = a.0 ∙ sym b.0
-same_early bytes r s (inl a) (inr (inl b)) = absurd (a.1 b.1)
-same_early bytes r s (inl a) (inr (inr b)) = absurd (a.1 b.1)
-same_early bytes r s (inr (inl a)) (inl b) = absurd (b.1 a.1)
-same_early bytes r s (inr (inl a)) (inr (inl b)) = a.0 ∙ sym b.0
-same_early bytes r s (inr (inl a)) (inr (inr b)) = absurd (unknown_known a.2 a.4 (b.2 a.2 a.3))
-same_early bytes r s (inr (inr a)) (inl b) = absurd (b.1 a.1)
-same_early bytes r s (inr (inr a)) (inr (inl b)) = absurd (unknown_known b.2 b.4 (a.2 b.2 b.3))
-same_early bytes r s (inr (inr a)) (inr (inr b)) = a.0 ∙ sym b.0
+same_early bytes r s h k = grind (arith, unknown_known)
 
 pub one_reading : (bytes : List ℕ) (r s : Result (List NoteParts) FileFault) → r ≢ Err OutOfMemory
     → s ≢ Err OutOfMemory → ReadsFile bytes r → ReadsFile bytes s → r ≡ s
@@ -343,8 +289,7 @@ one_reading bytes r s m n p q =
 
 -- bytes are the file of one content at most
 pub one_content : (bytes : List ℕ) (a b : List NoteParts) → IsFileOf bytes a → IsFileOf bytes b → a ≡ b
-one_content bytes a b p q =
-    let e : Ok a ≡ Ok b = one_reading bytes (Ok a) (Ok b) (λ h. cc) (λ h. cc) p q in cc
+one_content bytes a b p q = cc (one_reading bytes (Ok a) (Ok b) (λ h. cc) (λ h. cc) p q)
 
 -- ---- versions
 
@@ -370,13 +315,7 @@ all_whole (n ∷ ns) h = (h n (inl refl), all_whole ns (λ m i. h m (inr i)))
 -- a content has a file of version 1 exactly where it has no head
 pub file_of_one : (notes : List NoteParts) → IsCatalogue notes → AreReduced notes → length notes < 2 ^ 64
     → ((bytes : List ℕ) × IsFileOfVersion One bytes notes) ↔ ((n : NoteParts) → In n notes → IsTrue n.whole)
-file_of_one notes c r h = (
-  λ f n i. all-In (CanHave One) notes n f.1.can_have i,
-  λ w. (
-    version_bytes One notes,
-    record { catalogue = c; reduced = r; can_have = all_whole notes w; fits = h; whole = refl },
-  ),
-)
+file_of_one notes c r h = grind (arith, all-In, all_whole)
 
 pub version_of_file : (v : Version) (bytes : List ℕ) (notes : List NoteParts) → IsFileOfVersion v bytes notes
     → slice_get bytes 7 ≡ Some (version_byte v)
@@ -388,9 +327,7 @@ one_not_two e = omega (arith, e)
 -- a file whose byte eight is 2 is as it would be written
 pub version_two : (v : Version) (bytes : List ℕ) (notes : List NoteParts) → IsFileOfVersion v bytes notes
     → slice_get bytes 7 ≡ Some 2 → bytes ≡ file_bytes notes
-version_two One bytes notes f e =
-    let at = version_of_file One bytes notes f in absurd (one_not_two (cc (at, e)))
-version_two Two bytes notes f e = f.whole
+version_two v bytes notes h k = grind (arith, one_not_two, version_of_file)
 
 no_head_in_one : (notes : List NoteParts) (n : NoteParts) → AllByRecursion (CanHave One) notes → IsHeadLast notes n → ⊥
 no_head_in_one notes n all (front, e) =
@@ -399,12 +336,8 @@ no_head_in_one notes n all (front, e) =
 no_head_first : (v : Version) (bytes rest : List ℕ) (count : ℕ) (notes : List NoteParts) (n : NoteParts)
     → IsFront v bytes count notes rest → slice_get bytes 7 ≡ Some 1 → IsHeadLast notes n → ⊥
 no_head_first One bytes rest count notes n f e h = no_head_in_one notes n f.can_have h
-no_head_first Two bytes rest count notes n f e h =
-    let at = version_of_front Two bytes rest count notes f in
-    absurd (one_not_two (cc (at, e)))
+no_head_first Two bytes rest count notes n f e h = cc (version_of_front Two bytes rest count notes f)
 
 -- in version 1 no note takes a head's place
 pub reduced_in_one : (bytes : List ℕ) (place : ℕ) → slice_get bytes 7 ≡ Some 1 → IsRefused bytes (NotReduced place) → ⊥
-reduced_in_one bytes place e s =
-    let (n, rest, b, rises, last) = s.why.1 in
-    no_head_first s.version bytes s.rest s.count s.notes n s.front e last
+reduced_in_one bytes place e s = search (arith, no_head_first)

@@ -1,7 +1,7 @@
 -- What the readers and writers of a file's parts come to.
 use Rattle.std.proofs.Common.{◌≡◌, ℕ, zero, suc, ◌+◌, ◌-◌, ◌^◌, ◌<◌, ◌≤◌, Bool, true, false, cond, List, [], ◌∷◌}
-use Rattle.std.proofs.Common.{◌++◌, length, take, drop, get_or, Result, Ok, Option, Some, refl, sym, ap, subst, ◌∙◌, arith}
-use Rattle.std.proofs.Common.{inl, inr, ◌↔◌, append_assoc, append-nil, length-append, take-append-drop}
+use Rattle.std.proofs.Common.{◌++◌, length, take, drop, get_or, Result, Ok, Option, Some, sym, ap, subst, ◌∙◌, arith}
+use Rattle.std.proofs.Common.{◌↔◌, append_assoc, append-nil, length-append, take-append-drop}
 use Rattle.std.specs.Prelude.{IsTrue, ◌==◌}
 use Rattle.std.proofs.lemmas.Bool.{cases_lt}
 use Rattle.std.proofs.lemmas.List.{drop_at, take_all, length-take, get_or-take, get_or-drop, get_or_past}
@@ -12,7 +12,7 @@ use Rattle.std.specs.Int.{w64, from_be_bytes, to_be_bytes}
 use Rattle.std.specs.List.{flat_map, slice_get}
 use Rattle.std.specs.Ordering.{ordering_index}
 use Rattle.std.specs.declared.cmp.Ordering.{Ordering}
-use Rattle.std.specs.declared.cmp.Ordering.TheVariants.{Less, Equal, Greater}
+use Rattle.std.specs.declared.cmp.Ordering.TheVariants.{Less}
 use Rattle.std.specs.Io.KnownBytes.{Appends}
 use Rattle.mxf_klv.specs.Parts.{NoteParts}
 use Rattle.mxf_klv.specs.Note.{keeps, note_cmp}
@@ -22,17 +22,14 @@ use Rattle.mxf_klv.specs.declared.writing.WriteFault.{WriteFault}
 use Rattle.mxf_klv.specs.Written.{StopsIn, WritesPart, counted}
 use Rattle.mxf_klv.proofs.WrittenParts.{StopsIn-part, WritesPart-after}
 use Rattle.mxf_catalogue.specs.declared.catalogue.file.FileFault.{FileFault}
-use Rattle.mxf_catalogue.specs.declared.catalogue.file.FileFault.TheVariants.{BadMagic, BadVersion, Truncated, BadNote}
-use Rattle.mxf_catalogue.specs.declared.catalogue.file.FileFault.TheVariants.{NotSorted, NotReduced, Trailing}
-use Rattle.mxf_catalogue.specs.declared.catalogue.file.FileFault.TheVariants.{OutOfMemory}
 use Rattle.mxf_catalogue.specs.declared.catalogue.file.fixed_part.FixedPart.{FixedPart}
 use Rattle.mxf_catalogue.specs.Content.{IsContent}
 use Rattle.mxf_catalogue.specs.declared.catalogue.file.start.Version.{Version}
-use Rattle.mxf_catalogue.specs.declared.catalogue.file.start.Version.TheVariants.{One, Two}
-use Rattle.mxf_catalogue.specs.CatalogueFile.{magic, version_byte, number_bytes, CanBeNoted, note_bytes, start_bytes}
+use Rattle.mxf_catalogue.specs.declared.catalogue.file.start.Version.TheVariants.{Two}
+use Rattle.mxf_catalogue.specs.CatalogueFile.{version_byte, number_bytes, CanBeNoted, note_bytes, start_bytes}
 use Rattle.mxf_catalogue.specs.CatalogueFile.{BeginsAsFile, BeginsWithFixedPart, BeginsWithMark, BeginsWithNote}
 use Rattle.mxf_catalogue.specs.CatalogueFile.{BeginsWithParts, IsRefused, IsFront, StopsAt}
-use Rattle.mxf_catalogue.specs.CatalogueFile.{CanHave, IsMarkIn, fixed_bytes, fixed_part_of, mark_bytes, mark_of}
+use Rattle.mxf_catalogue.specs.CatalogueFile.{CanHave, IsMarkIn, mark_of}
 use Rattle.mxf_catalogue.specs.FileReading.{NoteBehindMark, RefusesNote}
 use Rattle.mxf_catalogue.proofs.FileBytes.{front_place, number_in, regrouped, length-number_bytes, rising_push}
 use Rattle.mxf_catalogue.proofs.FileBytes.{rising_last}
@@ -41,22 +38,19 @@ use Rattle.mxf_catalogue.proofs.FileBytes.{rising_last}
 
 fits_in_front : (n : ℕ) (bytes : List ℕ) → ((i : ℕ) → get_or bytes i 0 < 256) → (i : ℕ)
     → get_or (take n bytes) i 0 < 256
-fits_in_front n bytes h i =
-    elim (cases_lt i n) [
-      | inl low ↦ subst (λ (k : ℕ). k < 256) (sym (get_or-take n bytes i 0 low)) (h i)
-      | inr high ↦ subst (λ (k : ℕ). k < 256)
-          (sym (get_or_past (take n bytes) i 0 (omega (arith, length-take n bytes)))) (omega arith)
-    ]
+fits_in_front n bytes h i = grind (arith, cases_lt, get_or-take, get_or_past, length-take)
 
 pub number_split : (bytes front rest : List ℕ) (n : ℕ) → front ≡ take 8 bytes → rest ≡ drop 8 bytes → 8 ≤ length bytes
     → ((i : ℕ) → get_or bytes i 0 < 256) → n ≡ from_be_bytes w64 front → bytes ≡ number_bytes n ++ rest
 number_split bytes front rest n f r long h e =
-    let len : length front ≡ 8 = ap length f ∙ omega (arith, length-take 8 bytes) in
-    let fits : (i : ℕ)
-    → get_or front i 0 < 256 = λ i. subst (λ (t : List ℕ). get_or t i 0 < 256) (sym f) (fits_in_front 8 bytes h i)
-    in
-    sym (take-append-drop 8 bytes) ∙ ap (λ (t : List ℕ). t ++ drop 8 bytes) (sym f ∙ number_in front n len fits e)
-    ∙ ap (λ (t : List ℕ). number_bytes n ++ t) (sym r)
+    grind (
+      arith,
+      length-take 8 bytes,
+      fits_in_front 8 bytes h,
+      take-append-drop 8 bytes,
+      number_in front n,
+      number_bytes n,
+    )
 
 pub fixed_part_split : (bytes a key b c d : List ℕ) (offset width len : ℕ) → bytes ≡ number_bytes offset ++ a
     → offset < 2 ^ 64 → key ≡ take 16 a → b ≡ drop 16 a → 16 ≤ length a → b ≡ width ∷ c
@@ -86,21 +80,16 @@ pub at_front_of_rest : (n : ℕ) (bytes rest more : List ℕ) (v : ℕ) → rest
     → slice_get bytes n ≡ Some v
 at_front_of_rest zero [] rest more v r e = let f : length (v ∷ more) ≡ 0 = ap length (sym e ∙ r) in absurd (omega arith)
 at_front_of_rest zero (b ∷ bytes) rest more v r e = ap (λ (t : List ℕ). Some (get_or t 0 0)) (sym r ∙ e)
-at_front_of_rest (suc n) [] rest more v r e = let f : length (v ∷ more) ≡ 0 = ap length (sym e ∙ r) in absurd
-    (omega arith)
+at_front_of_rest (suc n) [] rest more v r e = cc
 at_front_of_rest (suc n) (b ∷ bytes) rest more v r e = at_front_of_rest n bytes rest more v r e
 
 pub start_split : (version : Version) (bytes rest more left : List ℕ) (v count : ℕ) → BeginsAsFile bytes
     → 7 ≤ length bytes → rest ≡ drop 7 bytes → rest ≡ v ∷ more → v ≡ version_byte version
     → more ≡ number_bytes count ++ left → bytes ≡ start_bytes version count ++ left
-start_split version bytes rest more left v count b long r e w m =
-    sym (take-append-drop 7 bytes) ∙ ap (λ (t : List ℕ). t ++ drop 7 bytes) (b ∙ take_all (length bytes) magic long)
-    ∙ ap (λ (t : List ℕ). magic ++ t) (sym r ∙ e ∙ (λ i. w i ∷ m i))
+start_split version bytes rest more left v count b long r e w m = grind (arith, take-append-drop, take_all)
 
 is_less : (o : Ordering) → IsTrue (ordering_index o == 0) ↔ (o ≡ Less)
-is_less Less = (λ h. refl, λ h. refl)
-is_less Equal = (λ h. absurd cc, λ h. absurd cc)
-is_less Greater = (λ h. absurd cc, λ h. absurd cc)
+is_less o = grind arith
 
 pub above_last : (notes : List NoteParts) (last n : NoteParts) (b : Bool)
     → Some last ≡ slice_get notes (length notes - 1) → IsContent notes → b ≡ (ordering_index (note_cmp last n) == 0)
@@ -122,50 +111,30 @@ pub noted : (h : FixedPart) (n : NoteParts) (bytes held more key : List ℕ) (co
     → n ≡ note_parts h.offset key h.width h.length held
     → held ≡ take count bytes → more ≡ drop count bytes → count ≤ length bytes → NoteBehindMark h 0 bytes n more
 noted h n bytes held more key count g many k is d m long =
-    let same : n ≡ note_parts h.offset h.key h.width h.length held = is
-    ∙ ap (λ (t : List ℕ). note_parts h.offset t h.width h.length held) k in
-    let len : length held ≡ count = ap length d ∙ omega (arith, length-take count bytes) in
-    subst (λ (x : NoteParts). NoteBehindMark h 0 bytes x more) (sym same) (record {
-      note = record { label = g.label; width = g.width; within = g.within; held = len ∙ many };
-      fixed = refl;
-      marked = refl;
-      held = sym (take-append-drop count bytes) ∙ ap (λ (t : List ℕ). t ++ drop count bytes) (sym d)
-          ∙ ap (λ (t : List ℕ). held ++ t) (sym m);
-    })
+    grind (
+      arith,
+      note_parts h.offset h.key h.width h.length held,
+      note_parts h.offset,
+      length-take count bytes,
+      take-append-drop count bytes,
+    )
 
 whole_marked : (whole : Bool) → mark_of whole ≡ 0 → whole ≡ true
-whole_marked true e = refl
-whole_marked false e = absurd cc
+whole_marked whole h = grind arith
 
 can_have_marked : (v : Version) (n : NoteParts) → IsMarkIn v (mark_of n.whole) → CanHave v n
-can_have_marked One n e = whole_marked n.whole e
-can_have_marked Two n e = tt
+can_have_marked v n h = grind (arith, whole_marked)
 
 -- a note that holds what stands behind a fixed part and a mark begins with these
 pub note_begins : (v : Version) (f : FixedPart) (mark : ℕ) (bytes rest behind more : List ℕ) (n : NoteParts)
     → BeginsWithFixedPart bytes f rest → BeginsWithMark v rest mark behind → NoteBehindMark f mark behind n more
     → BeginsWithNote v bytes n more
-note_begins v f mark bytes rest behind more n b m h =
-    let marks : List ℕ = mark_bytes v (mark_of n.whole) in
-    record {
-      note = h.note;
-      can_have = can_have_marked v n (subst (IsMarkIn v) (sym h.marked) m.marked);
-      whole = b.whole
-          ∙ (λ i. fixed_bytes (sym h.fixed i) ++ m.whole i)
-          ∙ ap (λ (t : List ℕ). fixed_bytes (fixed_part_of n) ++ t)
-          ((λ i. mark_bytes v (sym h.marked i) ++ h.held i) ∙ sym (append_assoc marks n.held more))
-          ∙ sym (append_assoc (fixed_bytes (fixed_part_of n)) (marks ++ n.held) more);
-    }
+note_begins v f mark bytes rest behind more n b m h = grind (arith, append_assoc, can_have_marked)
 
 -- the fixed part and the mark at the front
 pub parts_begin : (v : Version) (f : FixedPart) (mark : ℕ) (bytes rest behind : List ℕ)
     → BeginsWithFixedPart bytes f rest → BeginsWithMark v rest mark behind → BeginsWithParts v bytes f mark behind
-parts_begin v f mark bytes rest behind b m = record {
-  fixed = b.fixed;
-  marked = m.marked;
-  whole = b.whole
-      ∙ ap (λ (t : List ℕ). fixed_bytes f ++ t) m.whole;
-}
+parts_begin v f mark bytes rest behind b m = grind arith
 
 -- ---- writing
 
@@ -173,32 +142,19 @@ parts_begin v f mark bytes rest behind b m = record {
 pub fails_in_first : (a c : Option (List ℕ)) (before after : ℕ) (e : WriteFault) (bytes part rest : List ℕ)
     → bytes ≡ part ++ rest
     → StopsIn a c before e part × (after ≡ e.written) → StopsIn a c before e bytes × (after ≡ e.written)
-fails_in_first a c before after e bytes part rest is (q, told) =
-    let n = q.0 in
-    let within : n < length part = q.1 in (
-      subst (StopsIn a c before e) (sym is) (
-        n,
-        omega (arith, length-append part rest),
-        q.2,
-        subst (Appends a c) (sym (take-append-le n part rest (omega arith))) q.3,
-      ),
-      told,
-    )
+fails_in_first a c before after e bytes part rest is (q, told) = grind (arith, length-append, take-append-le)
 
 -- the first part was written, and what is told of the second is told of the whole
 pub WritesPart-second : {X : Type 0} (a b c : Option (List ℕ)) (before mid after : ℕ) (r : Result X WriteFault)
     (bytes part rest : List ℕ) → bytes ≡ part ++ rest → Appends a b part
     → mid ≡ counted (before + length part) → WritesPart b c mid after r rest → WritesPart a c before after r bytes
-WritesPart-second a b c before mid after r bytes part rest is p m q =
-    subst (WritesPart a c before after r) (sym is) (WritesPart-after a b c before mid after r part rest p m q)
+WritesPart-second a b c before mid after r bytes part rest is p m q = grind (arith, WritesPart-after)
 
 -- the bytes of notes, of which one stands behind some and before others
 flat_at : (notes done rest : List NoteParts) (n : NoteParts) → done ++ n ∷ rest ≡ notes
     → (flat_map (note_bytes Two) done ++ note_bytes Two n) ++ flat_map (note_bytes Two) rest
     ≡ flat_map (note_bytes Two) notes
-flat_at notes done rest n is =
-    append_assoc (flat_map (note_bytes Two) done) (note_bytes Two n) (flat_map (note_bytes Two) rest)
-    ∙ sym (flat_map-append (note_bytes Two) done (n ∷ rest)) ∙ ap (flat_map (note_bytes Two)) is
+flat_at notes done rest n is = grind (arith, append_assoc, flat_map-append)
 
 -- a fault in a note is a fault of all of them
 pub fails_in_note : (a b c : Option (List ℕ)) (before mid after : ℕ) (e : WriteFault) (notes done rest : List NoteParts)
@@ -206,12 +162,16 @@ pub fails_in_note : (a b c : Option (List ℕ)) (before mid after : ℕ) (e : Wr
     → mid ≡ counted (before + length (flat_map (note_bytes Two) done))
     → StopsIn b c mid e (note_bytes Two n) × (after ≡ e.written)
     → StopsIn a c before e (flat_map (note_bytes Two) notes) × (after ≡ e.written)
-fails_in_note a b c before mid after e notes done rest n is p m (q, told) = (
-  subst (StopsIn a c before e) (flat_at notes done rest n is)
-      (StopsIn-part a b c before mid e (flat_map (note_bytes Two) done) (note_bytes Two n) (flat_map
-      (note_bytes Two) rest) p m q),
-  told,
-)
+fails_in_note a b c before mid after e notes done rest n is p m (q, told) =
+    grind (
+      arith,
+      flat_at notes done rest n is,
+      StopsIn-part a b c before mid e (flat_map (note_bytes Two) done) (note_bytes Two n) (flat_map (note_bytes Two) rest) p m q,
+      flat_map (note_bytes Two) done,
+      note_bytes Two,
+      note_bytes Two n,
+      flat_map (note_bytes Two) rest,
+    )
 
 pub number_is : (n m : ℕ) (bs : List ℕ) → bs ≡ to_be_bytes w64 n → n ≡ m → number_bytes m ≡ bs
 unfolding number_bytes
@@ -235,31 +195,12 @@ note_written a b c before mid after done n p m q r =
 pub stops : (v : Version) (bytes rest : List ℕ) (count place : ℕ) (notes : List NoteParts)
     (why : Version → ℕ → List NoteParts → List ℕ → Type 0) → IsFront v bytes count notes rest
     → place ≡ length bytes - length rest → why v count notes rest → StopsAt bytes place why
-stops v bytes rest count place notes why f at w = record {
-  version = v;
-  count = count;
-  notes = notes;
-  rest = rest;
-  front = f;
-  stands = at
-      ∙ omega (arith, front_place v bytes rest count notes f);
-  why = w;
-}
+stops v bytes rest count place notes why f at w = grind (arith, front_place)
 
 pub note_fault : (v : Version) (bytes rest : List ℕ) (count place : ℕ) (notes : List NoteParts) (fault : FileFault)
     → IsFront v bytes count notes rest → length notes < count → place ≡ length bytes - length rest
     → RefusesNote v place rest fault → IsRefused bytes fault
-note_fault v bytes rest count place notes BadMagic f lt at r = absurd r
-note_fault v bytes rest count place notes BadVersion f lt at r = absurd r
-note_fault v bytes rest count place notes (Truncated p) f lt at r = inr
-    (stops v bytes rest count p notes _ f (r.0 ∙ at) (lt, r.1))
-note_fault v bytes rest count place notes (BadNote p) f lt at r = stops v bytes rest count p notes _ f (r.0
-    ∙ at) (lt, r.1)
-note_fault v bytes rest count place notes (NotSorted p) f lt at r = absurd r
-note_fault v bytes rest count place notes (NotReduced p) f lt at r = absurd r
-note_fault v bytes rest count place notes (Trailing p) f lt at r = absurd r
-note_fault v bytes rest count place notes OutOfMemory f lt at r = tt
+note_fault v bytes rest count place notes fault h k e p = grind (arith, stops)
 
 pub is_some : (n : ℕ) → false ≡ (n == 0) → 0 < n
-is_some zero e = absurd cc
-is_some (suc n) e = omega arith
+is_some n h = grind arith

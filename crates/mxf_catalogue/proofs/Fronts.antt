@@ -16,8 +16,7 @@ module _ {K : Type 0} (R : K → K → Ordering) where
   -- all before the last of a rising list is below it
   pub below_last : (xs : List K) (x z : K) → IsRising R (xs ++ x ∷ []) → In z xs → R z x ≡ Less
   below_last [] x z r h = absurd h
-  below_last (y ∷ ys) x z r (inl e) =
-      subst (λ w. R w x ≡ Less) (sym e) (all_last (λ w. R y w ≡ Less) ys x r.0)
+  below_last (y ∷ ys) x z r (inl e) = cc (all_last (λ w. R y w ≡ Less) ys x r.0)
   below_last (y ∷ ys) x z r (inr h) = below_last ys x z r.1 h
 
 module _ {K : Type 0} {R : K → K → Ordering} (o : IsTotalOrder R) where

@@ -1,5 +1,5 @@
 -- Heads in a list that is searched.
-use Rattle.std.proofs.Common.{◌≡◌, ◌↔◌, ℕ, zero, suc, ◌+◌, ◌<◌, ◌≤◌, List, [], ◌∷◌, ◌++◌, length, take, drop, get_or}
+use Rattle.std.proofs.Common.{◌≡◌, ◌↔◌, ℕ, zero, suc, ◌<◌, ◌≤◌, List, [], ◌∷◌, ◌++◌, length, take, drop, get_or}
 use Rattle.std.proofs.Common.{refl, sym, ap, subst, ◌∙◌, arith, inl, inr, take-append-drop, length-drop}
 use Rattle.std.specs.Prelude.{slice_set}
 use Rattle.std.proofs.lemmas.List.{get_or-drop}
@@ -16,27 +16,15 @@ replaces_at : (xs : List NoteParts) (at : ℕ) (n : NoteParts) → IsContent xs 
     → (z : NoteParts) × (more : List NoteParts) × (drop at xs ≡ z ∷ more) × (head_note z ≡ n)
 replaces_at xs at n r p (inl i) = absurd (p.absent i)
 replaces_at xs at n r p (inr s) =
-    let rises : IsContent (take at xs ++ n ∷ drop at xs) = subst IsContent (sym p.inserted) (IsContent-with_note n xs r)
-    in
-    next_replaces (take at xs) (drop at xs) n s.0 rises (subst (In s.0) (sym (take-append-drop at xs)) s.1) s.2
+    grind (arith, IsContent-with_note n xs r, next_replaces (take at xs) (drop at xs) n s.0, take-append-drop at xs)
 
 pub tells_at : (xs : List NoteParts) (at : ℕ) (n next : NoteParts) → IsContent xs → IsPlace n xs at → at < length xs
     → next ≡ get_or xs at next → (head_note next ≡ n) ↔ has_note xs n
-tells_at xs at n next r p l is = (
-  λ e. inr (next, subst (λ m. In m xs) (sym is) (In-at xs at next l), e),
-  λ h.
-      let s = replaces_at xs at n r p h in
-      let same : s.0 ≡ next = sym (ap (λ l. get_or l 0 next) s.2) ∙ get_or-drop at xs 0 next
-      ∙ ap (λ k. get_or xs k next) (let e : at + 0 ≡ at = omega arith in e) ∙ sym is in
-      subst (λ m. head_note m ≡ n) same s.3,
-)
+tells_at xs at n next r p l is = grind (arith, In-at xs at next, replaces_at xs at n r p, get_or-drop at xs 0 next)
 
 pub none_tells : (xs : List NoteParts) (at : ℕ) (n : NoteParts) → IsContent xs → IsPlace n xs at → length xs ≤ at
     → has_note xs n → ⊥
-none_tells xs at n r p l h =
-    let s = replaces_at xs at n r p h in
-    let len = ap length s.2 in
-    omega (arith, len, length-drop at xs, l)
+none_tells xs at n r p l h = grind (arith, replaces_at xs at n r p h, length-drop at xs)
 
 -- a list around a place
 around : (xs : List NoteParts) (i : ℕ) (d w : NoteParts) → i < length xs

@@ -1,12 +1,12 @@
 -- The notes of packets that are laid one after another.
-use Rattle.std.proofs.Common.{Less, List, [], ap, arith, filter, inl, inr, map, refl, ℕ, ◌++◌, ◌+◌, ◌<◌, ◌↔◌, ◌∷◌, ◌≡◌}
-use Rattle.std.proofs.Common.{◌≤◌, ◌⊎◌}
+use Rattle.std.proofs.Common.{Less, List, [], ap, arith, filter, map, refl, ℕ, ◌++◌, ◌+◌, ◌<◌, ◌↔◌, ◌∷◌, ◌≡◌}
+use Rattle.std.proofs.Common.{◌≤◌}
 use Rattle.std.proofs.lemmas.Bool.{lt-leb}
 use Rattle.std.specs.List.{AllByRecursion}
-use Rattle.mxf_catalogue.proofs.ClearLaws.{IsNew, clear_after, not_disputed}
+use Rattle.mxf_catalogue.proofs.ClearLaws.{not_disputed}
 use Rattle.mxf_catalogue.proofs.SpanLaws.{less_by_offset}
-use Rattle.mxf_catalogue.specs.Content.{IsContent, reduced_with}
-use Rattle.mxf_catalogue.specs.Disputes.{IsClear, SharesByte, disputed_notes, disputed_parts, is_disputed, lies_in}
+use Rattle.mxf_catalogue.specs.Content.{IsContent}
+use Rattle.mxf_catalogue.specs.Disputes.{IsClear, disputed_notes, disputed_parts, is_disputed, lies_in}
 use Rattle.mxf_klv.proofs.Lists.{filter_none}
 use Rattle.mxf_klv.proofs.Tests.{not-true-false}
 use Rattle.mxf_klv.specs.Note.{end_of, note_cmp, note_of}
@@ -36,16 +36,6 @@ no_disputes-laid at l =
 abbrev pub SameClear : ℕ → ℕ → List NoteParts → List NoteParts → Type 0
 SameClear low high before after =
     (n : NoteParts) → n.offset < high → low < end_of n → IsClear n before ↔ IsClear n after
-
--- A new note, and the clear notes that it makes disputed, leave the clear notes elsewhere.
-pub same_clear : (x : NoteParts) (notes : List NoteParts) (low high : ℕ) → IsNew x notes
-    → ((n : NoteParts) → (n ≡ x) ⊎ (IsClear n notes × SharesByte x n) → n.offset < high → low < end_of n → ⊥)
-    → SameClear low high notes (reduced_with x notes)
-same_clear x notes low high new far n l h =
-    let after = clear_after x notes new n in (
-      λ c. after.1 (inr (c, λ s. far n (inr (c, s)) l h)),
-      λ c. elim (after.0 c) [ inl p ↦ absurd (far n (inl p.0) l h) | inr q ↦ q.0 ],
-    )
 
 -- What ends at or below the start of a zone isn't in it.
 pub zone_none_before : (start bytes : ℕ) (ns : List NoteParts) → AllByRecursion (λ n. end_of n ≤ start) ns

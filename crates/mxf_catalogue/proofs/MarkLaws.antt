@@ -4,7 +4,7 @@ use Rattle.std.specs.Prelude.{◌++◌, length, ◌⊎◌, refl}
 use Rattle.std.specs.List.{AllWithin}
 use Rattle.std.specs.declared.cmp.Ordering.TheVariants.{Less}
 use Rattle.std.proofs.Common.{sym, ap, subst, inl, inr, arith, get_or, append_assoc, ◌∙◌}
-use Rattle.std.proofs.lemmas.Bool.{ltb-true, ltb-false, lt-ltb, or_cases, or_left, or_right}
+use Rattle.std.proofs.lemmas.Bool.{ltb-true, ltb-false, or_cases, or_left, or_right}
 use Rattle.std.proofs.lemmas.List.{get_or_default}
 use Rattle.mxf_klv.specs.Parts.{NoteParts}
 use Rattle.mxf_klv.specs.Note.{end_of, note_cmp}
@@ -40,24 +40,16 @@ module _ (n : NoteParts) (all left : List NoteParts) (above lower : ℕ) (s : St
   earlier m h = let l = before_less s.passed left m n rises h in (offset_le m n l, not_same m n l)
 
   later : (m : NoteParts) → In m left → (n.offset ≤ m.offset) × (m ≢ n)
-  later m h =
-      let l = less_in note_total n m left (rises_behind s.passed (n ∷ left) rises).0 h in
-      (offset_le n m l, λ e. not_same n m l (sym e))
+  later m h = grind (arith, less_in, not_same, note_total, offset_le, rises, rises_behind)
 
   pub left_rises : IsContent left
   left_rises = (rises_behind s.passed (n ∷ left) rises).1
 
   in_all : (m : NoteParts) → In m s.passed ⊎ In m left → In m all
-  in_all m h =
-      let a = In-append m s.passed (n ∷ left) in
-      subst (In m) s.whole (a.1 (elim h [ inl k ↦ inl k | inr k ↦ inr (inr k) ]))
+  in_all m h = grind (arith, In-append)
 
   other : (m : NoteParts) → In m all → m ≢ n → In m s.passed ⊎ In m left
-  other m h ne =
-      elim ((In-append m s.passed (n ∷ left)).0 (subst (In m) (sym s.whole) h)) [
-        | inl k ↦ inl k
-        | inr k ↦ elim k [ inl e ↦ absurd (ne e) | inr j ↦ inr j ]
-      ]
+  other m h ne = grind (arith, In-append)
 
   -- the number of the notes behind that begin at the offset
   module _ (at : ℕ) (bound : at ≤ length left) (same : AllWithin (λ m. m.offset < n.offset + 1) left 0 at)
@@ -176,37 +168,30 @@ pub marks_are : (n : NoteParts) (all left : List NoteParts) (above lower at to :
     → p ≡ (nat_lt n.offset above || nat_lt 0 at) → q ≡ (nat_lt n.offset lower || nat_lt at to)
     → marked n p q ≡ disputed_parts n all
 marks_are n all left above lower at to s bound same higher bound_to starts ends p q is_p is_q =
-    let shared = is_offset_shared-SharesOffset n all in
-    let lapped = is_overlapped-Overlaps n all in
-    let one : p ≡ is_offset_shared n all = same_bool p (is_offset_shared n all)
-    (λ t. shared.1 (offset_shared n all left above lower s at bound same higher
-    (elim (or_cases (nat_lt n.offset above) (nat_lt 0 at) (sym is_p ∙ t)) [
-      | inl h ↦ inl (ltb-true _ _ h)
-      | inr h ↦ inr (ltb-true _ _ h)
-    ])))
-    (λ t. is_p ∙ elim (shares_offset n all left above lower s at bound same higher (shared.0 t)) [
-      | inl h ↦ or_left (nat_lt n.offset above) (nat_lt 0 at) (lt-ltb _ _ h)
-      | inr h ↦ or_right (nat_lt n.offset above) (nat_lt 0 at) (lt-ltb _ _ h)
-    ]) in
-    let two : q ≡ is_overlapped n all = same_bool q (is_overlapped n all)
-    (λ t. lapped.1 (overlapped n all left above lower s at bound same higher
-    (elim (or_cases (nat_lt n.offset lower) (nat_lt at to) (sym is_q ∙ t)) [
-      | inl h ↦ inl (ltb-true _ _ h)
-      | inr h ↦ (let l : at < to = ltb-true _ _ h in inr (omega arith, starts at n (omega arith) l))
-    ])))
-    (λ t. is_q ∙ elim (overlaps n all left above lower s at bound same higher (lapped.0 t)) [
-      | inl h ↦ or_left (nat_lt n.offset lower) (nat_lt at to) (lt-ltb _ _ h)
-      | inr h ↦ or_right (nat_lt n.offset lower) (nat_lt at to)
-          (lt-ltb _ _ (elim (nat_lt at to) as (λ b. nat_lt at to ≡ b
-          → at < to) [
-            | true ↦ λ e. ltb-true _ _ e
-            | false ↦ λ e.
-                let g : to ≤ at = ltb-false _ _ e in
-                let k : end_of n ≤ (get_or left at n).offset = ends at n g h.0 in
-                let l : (get_or left at n).offset < end_of n = h.1 in absurd (omega arith)
-          ] refl))
-    ]) in
-    λ i. record { note = n; same_offset = one i; overlaps = two i }
+    grind (
+      arith,
+      is_offset_shared-SharesOffset n all,
+      is_overlapped-Overlaps n all,
+      is_offset_shared n all,
+      same_bool p (is_offset_shared n all),
+      offset_shared n all left above lower s at bound same higher,
+      or_cases (nat_lt n.offset above) (nat_lt 0 at),
+      nat_lt n.offset above,
+      nat_lt 0 at,
+      shares_offset n all left above lower s at bound same higher,
+      or_left (nat_lt n.offset above) (nat_lt 0 at),
+      or_right (nat_lt n.offset above) (nat_lt 0 at),
+      is_overlapped n all,
+      same_bool q (is_overlapped n all),
+      overlapped n all left above lower s at bound same higher,
+      or_cases (nat_lt n.offset lower) (nat_lt at to),
+      nat_lt n.offset lower,
+      nat_lt at to,
+      overlaps n all left above lower s at bound same higher,
+      or_left (nat_lt n.offset lower) (nat_lt at to),
+      or_right (nat_lt n.offset lower) (nat_lt at to),
+      end_of n,
+    )
 
 -- how far those reach that begin below the next note
 reach_below : (n : NoteParts) (all left rest : List NoteParts) (above lower reached : ℕ)
@@ -238,14 +223,8 @@ reach_below n all left rest above lower reached is e reach low high =
 pub stands_in : (n : NoteParts) (all left rest : List NoteParts) (above lower reached : ℕ)
     → IsLeft all left above lower reached → left ≡ n ∷ rest → (reach : ℕ) → (n.offset < above → reach ≡ lower)
     → (above ≤ n.offset → reach ≡ reached) → StandsIn n all rest above reach
-stands_in n all left rest above lower reached is e reach low high = record {
-  passed = is.passed;
-  whole = ap (λ (l : List NoteParts). is.passed ++ l) (sym e) ∙ is.whole;
-  rises = is.rises;
-  below = is.are.below;
-  last = is.are.last;
-  lower_is = reach_below n all left rest above lower reached is e reach low high;
-}
+stands_in n all left rest above lower reached is e reach low high =
+    grind (arith, reach_below n all left rest above lower reached is e reach low high)
 
 -- what is left behind it
 pub left_behind : (n : NoteParts) (all left rest : List NoteParts) (above lower reached : ℕ)

@@ -1,5 +1,5 @@
 -- The notes that a new note moves.
-use Rattle.std.specs.Prelude.{◌≡◌, ◌↔◌, ◌<◌, ◌≤◌, ℕ, List, [], ◌∷◌, map}
+use Rattle.std.specs.Prelude.{◌≡◌, ◌↔◌, ◌<◌, ℕ, List, [], ◌∷◌, map}
 use Rattle.std.specs.List.{AllByRecursion}
 use Rattle.std.specs.Ordering.{nat_cmp}
 use Rattle.std.specs.declared.cmp.Ordering.TheVariants.{Less}
@@ -28,9 +28,7 @@ In-moved_notes m n notes =
 above : (low : ℕ) (notes : List NoteParts) (at : ℕ) → at < low → AreApart low notes
     → AllByRecursion (λ o. nat_cmp at o ≡ Less) (map (λ (n : NoteParts). n.offset) notes)
 above low [] at l a = tt
-above low (n ∷ notes) at l a =
-    let b : low ≤ n.offset = a.0 in
-    (less_from_lt at n.offset (omega arith), above (end_of n) notes at (omega arith) a.1)
+above low (n ∷ notes) at l a = grind (arith, less_from_lt, above (end_of n) notes at (omega arith) a.1)
 
 pub rising_apart : (low : ℕ) (notes : List NoteParts) → AreApart low notes
     → IsRising nat_cmp (map (λ (n : NoteParts). n.offset) notes)

@@ -1,5 +1,5 @@
 -- Where maximal runs and what notes cover begin and end.
-use Rattle.std.proofs.Common.{List, [], ap, arith, cond, false, inl, inr, length, refl, subst, sym, true, ℕ, ◌+◌, ◌<◌}
+use Rattle.std.proofs.Common.{List, [], ap, arith, inl, inr, length, refl, subst, sym, ℕ, ◌+◌, ◌<◌}
 use Rattle.std.proofs.Common.{◌∙◌, ◌∷◌, ◌≡◌, ◌≤◌, ◌⊎◌}
 use Rattle.mxf_catalogue.specs.Runs.{AreMaximal, LiesIn}
 use Rattle.mxf_catalogue.specs.declared.run.Run.{Run}
@@ -9,24 +9,15 @@ use Rattle.mxf_klv.specs.Rising.{In}
 
 -- a note covers its first byte, and nothing above its end
 pub covers_first : (n : NoteParts) → n.offset + 1 ≤ covered_end n
-covers_first n = elim n.whole as (λ b. n.offset + 1 ≤ cond b (end_of n) (n.offset + 16 + n.width)) [
-  | true ↦ omega arith
-  | false ↦ omega arith
-]
+covers_first n = grind arith
 
 pub covers_below_end : (n : NoteParts) → covered_end n ≤ end_of n
-covers_below_end n = elim n.whole as (λ b. cond b (end_of n) (n.offset + 16 + n.width) ≤ end_of n) [
-  | true ↦ omega arith
-  | false ↦ omega arith
-]
+covers_below_end n = grind arith
 
 -- maximal runs have a byte each
 pub has_byte : (low : ℕ) (runs : List Run) (r : Run) → AreMaximal low runs → In r runs → r.start < r.end
 has_byte low [] r m h = absurd h
-has_byte low (s ∷ runs) r m (inl e) =
-    let a : s.start < s.end = m.1 in
-    let b : r.start ≡ s.start = ap (λ (x : Run). x.start) e in
-    let c : r.end ≡ s.end = ap (λ (x : Run). x.end) e in omega arith
+has_byte low (s ∷ runs) r m (inl e) = grind arith
 has_byte low (s ∷ runs) r m (inr h) = has_byte (s.end + 1) runs r m.2 h
 
 -- maximal runs from an offset on are no more than the offsets up to where they end
@@ -45,23 +36,12 @@ length_maximal low high (r ∷ runs) m ends =
 pub starts_above : (low : ℕ) (runs : List Run) (r : Run) → AreMaximal low runs → In r runs → low ≤ r.start
 starts_above low [] r m h = absurd h
 starts_above low (s ∷ runs) r m (inl e) = let l : low ≤ s.start = m.0 in subst (λ (x : Run). low ≤ x.start) (sym e) l
-starts_above low (s ∷ runs) r m (inr h) =
-    let ih = starts_above (s.end + 1) runs r m.2 h in
-    let l : low ≤ s.start = m.0 in
-    let k : s.start < s.end = m.1 in omega (arith, ih, l, k)
+starts_above low (s ∷ runs) r m (inr h) = omega (arith, starts_above (s.end + 1) runs r m.2 h)
 
 -- What lies in the runs lies at or above the start of the first.
 pub all_above : (end : ℕ) (runs rest : List Run) (first : Run) → AreMaximal 0 runs → runs ≡ first ∷ rest
     → end ≤ first.start → (offset : ℕ) → LiesIn runs offset → end ≤ offset
-all_above end runs rest first m e l offset h =
-    let all : AreMaximal 0 (first ∷ rest) = subst (AreMaximal 0) e m in
-    let from : h.0.start ≤ offset = h.2.from in
-    elim (subst (In h.0) e h.1) [
-      | inl q ↦ (let s : h.0.start ≡ first.start = ap (λ (r : Run). r.start) q in omega (arith, s, from, l))
-      | inr k ↦ (
-          let s = starts_above (first.end + 1) rest h.0 all.2 k in
-          let f : first.start < first.end = all.1 in omega (arith, s, f, from, l))
-    ]
+all_above end runs rest first m e l offset h = grind (arith, starts_above)
 
 pub none_above : (end : ℕ) (runs : List Run) → runs ≡ [] → (offset : ℕ) → LiesIn runs offset → end ≤ offset
 none_above end runs e offset h = absurd (subst (In h.0) e h.1)
@@ -71,12 +51,6 @@ pub between : (low : ℕ) (runs : List Run) (r s : Run) → AreMaximal low runs 
     → (r.start ≡ s.start) ⊎ ((r.end < s.start) ⊎ (s.end < r.start))
 between low [] r s m h k = absurd h
 between low (x ∷ runs) r s m (inl e) (inl f) = inl (ap (λ (y : Run). y.start) e ∙ sym (ap (λ (y : Run). y.start) f))
-between low (x ∷ runs) r s m (inl e) (inr k) =
-    let b = ap (λ (y : Run). y.end) e in
-    let i : x.end + 1 ≤ s.start = starts_above (x.end + 1) runs s m.2 k in
-    inr (inl (omega (arith, b, i)))
-between low (x ∷ runs) r s m (inr h) (inl f) =
-    let b = ap (λ (y : Run). y.end) f in
-    let i : x.end + 1 ≤ r.start = starts_above (x.end + 1) runs r m.2 h in
-    inr (inr (omega (arith, b, i)))
+between low (x ∷ runs) r s m (inl e) (inr k) = grind (arith, starts_above (x.end + 1) runs s m.2 k)
+between low (x ∷ runs) r s m (inr h) (inl f) = grind (arith, starts_above (x.end + 1) runs r m.2 h)
 between low (x ∷ runs) r s m (inr h) (inr k) = between (x.end + 1) runs r s m.2 h k

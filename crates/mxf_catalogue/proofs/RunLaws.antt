@@ -1,5 +1,5 @@
 -- A set of offsets has one list of maximal runs.
-use Rattle.std.proofs.Common.{◌≡◌, ℕ, ◌+◌, ◌<◌, ◌≤◌, ◌⊎◌, List, [], ◌∷◌, true, false, refl, sym, subst, inl, inr, arith}
+use Rattle.std.proofs.Common.{◌≡◌, ℕ, ◌+◌, ◌<◌, ◌≤◌, ◌⊎◌, List, [], ◌∷◌, true, false, refl, sym, inl, inr, arith}
 use Rattle.std.specs.Prelude.{nat_lt}
 use Rattle.std.proofs.lemmas.Bool.{ltb-true, ltb-false}
 use Rattle.mxf_catalogue.specs.declared.run.Run.{Run}
@@ -7,8 +7,7 @@ use Rattle.mxf_catalogue.specs.Runs.{AreMaximal, IsWithin, LiesIn, SameOffsets}
 
 -- what lies in runs lies in the first of them or in the others
 first_or_others : (r : Run) (rs : List Run) (at : ℕ) → LiesIn (r ∷ rs) at → IsWithin r at ⊎ LiesIn rs at
-first_or_others r rs at (q, inl e, w) = inl (subst (λ (x : Run). IsWithin x at) e w)
-first_or_others r rs at (q, inr k, w) = inr (q, k, w)
+first_or_others r rs at h = grind arith
 
 in_first : (r : Run) (rs : List Run) (at : ℕ) → IsWithin r at → LiesIn (r ∷ rs) at
 in_first r rs at w = (r, inl refl, w)
@@ -23,13 +22,7 @@ AreMaximal-lower low high (r ∷ runs) l m = let a : high ≤ r.start = m.0 in (
 -- what lies in runs is at or above the offset from which they rise
 pub at_or_above : (low : ℕ) (rs : List Run) (at : ℕ) → AreMaximal low rs → LiesIn rs at → low ≤ at
 at_or_above low [] at m (q, k, w) = elim k [ ]
-at_or_above low (r ∷ rs) at m h =
-    let a : low ≤ r.start = m.0 in
-    let b : r.start < r.end = m.1 in
-    elim (first_or_others r rs at h) [
-      | inl w ↦ (let c : r.start ≤ at = w.from in omega arith)
-      | inr k ↦ (let c = at_or_above (r.end + 1) rs at m.2 k in omega (arith, c))
-    ]
+at_or_above low (r ∷ rs) at m h = grind (arith, first_or_others, at_or_above (r.end + 1) rs at m.2)
 
 -- the start of the first run is the least offset
 least : (low lo : ℕ) (r s : Run) (rs ss : List Run) → AreMaximal low (r ∷ rs) → AreMaximal lo (s ∷ ss)

@@ -1,8 +1,8 @@
 -- The runs of the spans of notes.
-use Rattle.std.specs.Prelude.{◌≡◌, ℕ, ◌+◌, ◌<◌, ◌≤◌, true, false, cond, List, [], ◌∷◌, map, ◌⊎◌, ◌↔◌, refl}
+use Rattle.std.specs.Prelude.{◌≡◌, ℕ, ◌+◌, ◌<◌, ◌≤◌, List, [], ◌∷◌, map, ◌⊎◌, ◌↔◌, refl}
 use Rattle.std.proofs.Common.{subst, inl, inr, arith}
 use Rattle.mxf_klv.specs.Parts.{NoteParts}
-use Rattle.mxf_klv.specs.Note.{IsCovered, IsInSpan, IsNote, covered_end, end_of, greatest_end, head_note}
+use Rattle.mxf_klv.specs.Note.{IsCovered, IsInSpan, IsNote, end_of, greatest_end, head_note}
 use Rattle.mxf_klv.specs.Rising.{In}
 use Rattle.mxf_catalogue.specs.declared.run.Run.{Run}
 use Rattle.mxf_catalogue.specs.Covers.{IsRun, both, spanned, with_run, in_both, LiesIn-with_run}
@@ -21,14 +21,7 @@ in_run n at s = record { from = s.from; before = s.before }
 
 -- what the head of a packet covers, the note of the packet covers
 head_covers : (n : NoteParts) (at : ℕ) → IsCovered (head_note n) at → IsCovered n at
-head_covers n at h =
-    let before : at + 1 ≤ n.offset + 16 + n.width = h.before in
-    let more : n.offset + 16 + n.width ≤ covered_end n =
-    elim n.whole as (λ b. n.offset + 16 + n.width ≤ cond b (end_of n) (n.offset + 16 + n.width)) [
-      | true ↦ omega arith
-      | false ↦ omega arith
-    ] in
-    record { from = h.from; before = omega (arith, before, more) }
+head_covers n at h = grind arith
 
 -- a content with a note covers what it covered, and what the note covers
 pub LiesInNote-reduced_with : (x : NoteParts) (notes : List NoteParts) (at : ℕ) → AreReduced notes

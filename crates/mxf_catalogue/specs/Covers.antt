@@ -1,5 +1,7 @@
 -- Covers: sets of offsets as their maximal runs (this project's profile).
-use Rattle.std.specs.Prelude.{◌≡◌, ℕ, ◌+◌, ◌<◌, ◌≤◌, nat_lt, min, max, cond, true, false, List, [], ◌∷◌, ◌⊎◌, ◌↔◌, refl}
+use Rattle.std.specs.Prelude.{◌≡◌, ℕ, ◌+◌, ◌<◌, ◌≤◌, nat_lt, min, max, cond, Bool, true, false, ◌&&◌, Option, List, []}
+use Rattle.std.specs.Prelude.{◌∷◌, ◌⊎◌, ◌↔◌, refl}
+use Rattle.std.specs.Option.{option_map_or}
 use Rattle.std.specs.List.{AllByRecursion}
 use Rattle.std.proofs.Common.{subst, inl, inr, arith}
 use Rattle.std.proofs.lemmas.Bool.{ltb-true, ltb-false}
@@ -47,6 +49,10 @@ gaps_from low (r ∷ runs) = cond (nat_lt low r.start) (run low r.start ∷ gaps
 
 abbrev pub gaps_of_runs : List Run → List Run
 gaps_of_runs runs = gaps_from 0 runs
+
+-- The run ends above an offset, and begins below another, where there is one.
+abbrev pub is_between : ℕ → Option ℕ → Run → Bool
+is_between from to r = nat_lt from r.end && option_map_or (λ e. nat_lt r.start e) to true
 
 -- The offset lies below the end of some run and in none.
 pub record IsBetween (runs : List Run) (offset : ℕ) : Type 0 where

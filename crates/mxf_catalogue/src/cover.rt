@@ -1,8 +1,9 @@
 //! Covers: sets of file offsets, as their maximal runs (this project's profile).
-ghost use Rattle.std.specs.Prelude.{◌≡◌, ◌↔◌, ◌⊎◌, ◌<◌, ◌≤◌, ◌^◌, ℕ, List, [], length, IsTrue, OnOk, OnErr};
+ghost use Rattle.std.specs.Prelude.{◌≡◌, ◌↔◌, ◌⊎◌, ◌<◌, ◌≤◌, ◌^◌, ℕ, List, [], filter, length, IsTrue, OnOk, OnErr};
 ghost use Rattle.mxf_klv.specs.Note.{greatest_end};
 ghost use Rattle.mxf_catalogue.specs.declared.run.Run.{Run};
-ghost use Rattle.mxf_catalogue.specs.Covers.{IsCover, IsRun, AreGapsOf, gaps_of_runs, union_of_runs, with_run};
+ghost use Rattle.mxf_catalogue.specs.Covers.{IsCover, IsRun, AreGapsOf, gaps_of_runs, is_between, union_of_runs};
+ghost use Rattle.mxf_catalogue.specs.Covers.{with_run};
 ghost use Rattle.mxf_catalogue.specs.Joins.{SameContent};
 ghost use Rattle.mxf_catalogue.specs.Runs.{IsWithin, LiesIn, run};
 
@@ -14,7 +15,7 @@ use crate::run::Run;
 use crate::semilattice::Semilattice;
 pub use gaps::CoverGaps;
 use mxf_klv::OutOfMemory;
-use placing::has_all;
+use placing::{between, has_all};
 pub(crate) use placing::{last_end, meets, put_run};
 pub use runs::CoverRuns;
 use std::alloc::Global;
@@ -96,6 +97,15 @@ impl Cover {
         ensures bound { length result < 2 ^ 64 }
     {
         CoverRuns::of(&self.runs)
+    }
+
+    /// The maximal runs that end above `from`, in bytes, and begin below `to`, where that is given, rising: two binary
+    /// searches.
+    pub fn runs_between(&self, from: u64, to: Option<u64>) -> CoverRuns<'_>
+        ensures runs { result ≡ filter (is_between from to) self.now }
+        ensures bound { length result < 2 ^ 64 }
+    {
+        CoverRuns::of(between(&self.runs, from, to))
     }
 
     /// The greatest end of a run, in bytes; 0 where there is none.

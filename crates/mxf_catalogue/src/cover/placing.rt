@@ -1,8 +1,9 @@
 //! Where offsets and runs stand among the runs of a cover: at its end, or by binary search.
 ghost use Rattle.std.specs.Prelude.{◌≡◌, ◌↔◌, ℕ, ◌+◌, ◌<◌, ◌≤◌, ◌++◌, ◌∷◌, take, drop, length};
-ghost use Rattle.std.specs.Prelude.{vec_len, vec_capacity, IsTrue};
+ghost use Rattle.std.specs.Prelude.{vec_len, vec_capacity, IsTrue, filter, nat_lt, true, false};
 ghost use Rattle.std.specs.List.{AllWithin};
-ghost use Rattle.mxf_catalogue.specs.Covers.{IsCover, IsRun, spanned, with_run};
+ghost use Rattle.std.specs.Option.{option_map_or};
+ghost use Rattle.mxf_catalogue.specs.Covers.{IsCover, IsRun, is_between, spanned, with_run};
 ghost use Rattle.mxf_catalogue.specs.Runs.{LiesIn};
 
 use crate::run::Run;
@@ -76,6 +77,33 @@ fn starting_by(runs: &[Run], offset: u64) -> usize
         Some(last) if last.start <= offset => runs.len(),
         _ => runs.partition_point(|run| run.start <= offset),
     }
+}
+
+/// The number of the runs that begin below the bound; all of them where there is none.
+fn starting_below(runs: &[Run], bound: Option<u64>) -> usize
+    requires { IsCover runs.now }
+    ensures bound { result ≤ length runs.now }
+    ensures below { AllWithin (λ r. option_map_or (λ e. nat_lt r.start e) bound true ≡ true) runs.now 0 result }
+    ensures above { AllWithin (λ r. option_map_or (λ e. nat_lt r.start e) bound true ≡ false) runs.now result
+        (length runs.now) }
+{
+    match bound {
+        Some(0) => 0,
+        Some(bound) => starting_by(runs, bound - 1),
+        None => runs.len(),
+    }
+}
+
+/// The runs of a cover that end above an offset, and begin below another, where there is one.
+pub(super) fn between(runs: &[Run], from: u64, to: Option<u64>) -> &[Run]
+    requires { IsCover runs.now }
+    ensures { result.now ≡ filter (is_between from to) runs.now }
+{
+    let end = starting_below(runs, to);
+    let start = ending_by(runs, from).min(end);
+    let (front, _) = runs.split_at(end);
+    let (_, between) = front.split_at(start);
+    between
 }
 
 /// From the least start of the run and the others to the greatest end.

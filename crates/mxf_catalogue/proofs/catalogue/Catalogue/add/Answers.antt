@@ -117,16 +117,10 @@ returns-clause-repeated c = (
 )
 
 pub returns-then-end_by-clause-history : goal.returns-then-end_by-clause-history
-returns-then-end_by-clause-history c h e =
-    on_ok_weaker c.append.result (λ p. p ∙ ap (reduced_with c.args.note) e) c.append.ensures.added
+returns-then-end_by-clause-history c h e = grind (arith, on_ok_weaker)
 
 pub returns-clause-added : goal.returns-clause-added
-returns-clause-added c =
-    let cs = c.self.inside.lists.undisputed.items in
-    let ds = c.self.inside.lists.disputed.items in
-    let items : union_of c.make_room.new.self.undisputed.items c.make_room.new.self.disputed.items ≡ union_of cs ds =
-    λ i. union_of (c.in-Ok.ensures.same.undisputed i) (c.in-Ok.ensures.same.disputed i) in
-    c.put.ensures.content ∙ ap (reduced_with c.args.note) (items ∙ c.self.view_is)
+returns-clause-added c = grind arith
 
 pub returns-clause-history : goal.returns-clause-history
 returns-clause-history c h e = returns-clause-added c ∙ ap (reduced_with c.args.note) e

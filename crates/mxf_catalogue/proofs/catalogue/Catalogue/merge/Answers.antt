@@ -15,5 +15,4 @@ returns-then-is_empty-clause-merged c =
     ∙ ap (λ l. reduced_union l c.args.other) (sym none)
 
 pub returns-then-is_empty-clause-history : goal.returns-then-is_empty-clause-history
-returns-then-is_empty-clause-history c h k p q =
-    returns-then-is_empty-clause-merged c ∙ (λ i. reduced_union (p i) (q i))
+returns-then-is_empty-clause-history c h k p q = cc (returns-then-is_empty-clause-merged c)

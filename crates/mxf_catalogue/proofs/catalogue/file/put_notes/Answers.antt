@@ -1,22 +1,12 @@
-use Rattle.std.proofs.Common.{◌+◌, ◌++◌, ◌∷◌, ◌∙◌, [], List, ap, append-nil, append_assoc, arith, length, subst, sym}
+use Rattle.std.proofs.Common.{◌++◌, ◌∷◌, ◌∙◌, [], List, ap, append-nil, append_assoc, arith, sym}
 use Rattle.std.proofs.KnownBytes.{Appends-nil}
 use Rattle.std.proofs.lemmas.Result.{err_from_is_err_and}
-use Rattle.std.specs.Io.KnownBytes.{Appends}
-use Rattle.std.specs.List.{flat_map}
 use Rattle.mxf_klv.specs.Parts.{NoteParts}
-use Rattle.mxf_klv.specs.Written.{counted}
-use Rattle.mxf_catalogue.specs.CatalogueFile.{note_bytes}
-use Rattle.mxf_catalogue.specs.declared.catalogue.file.start.Version.TheVariants.{Two}
 use Rattle.mxf_catalogue.proofs.FileParts.{fails_in_note, note_written}
 use Rattle.mxf_catalogue.proofs.catalogue.file.put_notes.Goals as goal
 
 pub notes-init : goal.notes-init
-notes-init g c = (
-  [],
-  c.into_iter-note-iterator.ensures.into_iter_gives,
-  Appends-nil (g.W.Write.contents c.args.writer.now),
-  omega (arith, c.args.progress.now.in_range),
-)
+notes-init g c = grind (arith, Appends-nil)
 
 pub notes-preserved : goal.notes-preserved
 notes-preserved g c =
@@ -35,13 +25,4 @@ returns-in_err-put_note g c =
     (fails_in_note _ _ _ _ _ _ _ _ i.0 c.next.new.self c.in-Some.note.now next i.2 i.3 c.in_err-put_note.ensures)
 
 pub returns : goal.returns
-returns g c =
-    let i = c.notes.invariant in
-    let contents = g.W.Write.contents in
-    let before = c.args.progress.now.written in
-    let all = sym (append-nil i.0) ∙ ap (λ (l : List NoteParts). i.0 ++ l) (sym c.in-None.ensures.steps.0) ∙ i.1 in (
-      subst (λ (l : List NoteParts). Appends (contents c.args.writer.now) (contents c.notes.writer)
-          (flat_map (note_bytes Two) l)) all
-          i.2,
-      i.3 ∙ ap (λ (l : List NoteParts). counted (before + length (flat_map (note_bytes Two) l))) all,
-    )
+returns g c = grind (arith, append-nil)

@@ -10,22 +10,10 @@ use Rattle.mxf_catalogue.proofs.FileParts.{is_some, note_fault, stops}
 use Rattle.mxf_catalogue.proofs.catalogue.file.read_notes.Goals as goal
 
 pub overflow_sub-place : goal.overflow_sub-place
-overflow_sub-place c =
-    let start = c.args.start in
-    omega (
-      arith,
-      front_place start.version c.args.bytes.now c.loop-i.rest.now start.count c.loop-i.notes.items
-          c.loop-i.invariant.front,
-    )
+overflow_sub-place c = search (arith, front_place)
 
 pub returns-in_err-note-clause-fault : goal.returns-in_err-note-clause-fault
-returns-in_err-note-clause-fault c =
-    let p = err_from_is_err_and c.from_residual.result c.from_residual.ensures.1 in
-    let i = c.loop-i.invariant in
-    rw (p.1, p.2)
-    (note_fault c.args.start.version c.args.bytes.now c.loop-i.rest.now c.args.start.count _ c.loop-i.notes.items
-    c.in_err-note.field-0.0
-    i.front (omega (arith, i.counted, c.loop-i-test.true)) refl c.in_err-note.ensures.fault)
+returns-in_err-note-clause-fault c = grind (arith, err_from_is_err_and, note_fault)
 
 pub returns-then-not-is_above-clause-fault : goal.returns-then-not-is_above-clause-fault
 returns-then-not-is_above-clause-fault c =
@@ -45,13 +33,7 @@ returns-then-not-is_above-clause-fault c =
     )
 
 pub returns-then-not-is_empty-clause-fault : goal.returns-then-not-is_empty-clause-fault
-returns-then-not-is_empty-clause-fault c =
-    let i = c.loop-i.invariant in
-    stops c.args.start.version c.args.bytes.now c.loop-i.rest.now c.args.start.count _ c.loop-i.notes.items _ i.front
-    refl (
-      omega (arith, i.counted, c.loop-i-test.false),
-      is_some (length c.loop-i.rest.now) (sym c.if-not-is_empty.true ∙ c.is_empty.ensures),
-    )
+returns-then-not-is_empty-clause-fault c = grind (arith, is_some, stops)
 
 pub returns-then-replaces_last-clause-fault : goal.returns-then-replaces_last-clause-fault
 returns-then-replaces_last-clause-fault c =

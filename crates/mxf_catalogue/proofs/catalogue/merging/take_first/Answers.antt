@@ -1,6 +1,5 @@
-use Rattle.std.proofs.Common.{◌≡◌, ◌∙◌, ◌∷◌, List, arith, ap, refl, subst, sym, Some}
+use Rattle.std.proofs.Common.{◌∙◌, ◌∷◌, arith, ap, refl, sym, Some}
 use Rattle.std.proofs.lemmas.List.{nil_from_length}
-use Rattle.mxf_klv.specs.Parts.{NoteParts}
 use Rattle.mxf_catalogue.specs.Content.{union_of}
 use Rattle.mxf_catalogue.proofs.MergeLaws.{first_and_rest, taken, taken_right, union_of-less, union_of-same}
 use Rattle.mxf_catalogue.proofs.MergeLaws.{union_of-greater}
@@ -15,18 +14,7 @@ returns-in_default-clause-first c =
     c.pop_front.ensures.items (λ h. c.pop_front.ensures.variant.1 (omega (arith, h, r.ok.0))) c.requires.right
 
 pub returns-in_default-front-clause-first : goal.returns-in_default-front-clause-first
-returns-in_default-front-clause-first c =
-    let a = c.in-Some.a.now in
-    let l = c.args.left.now in
-    let r = c.args.right.now in
-    let some_left = c.in-Some.ensures.variant.0 refl in
-    let left = first_and_rest a l.items (omega (arith, some_left, l.ok.0)) c.in-Some.ensures.lookup in
-    let empty = c.in_default-front.ensures.variant in
-    let none = nil_from_length r.items (grind (arith, r.ok.0, empty)) in
-    let pop = c.pop_front-in_default-front in
-    taken _ _ pop.result a (pop.ensures.value a some_left ∙ ap Some (sym c.in-Some.ensures.lookup))
-    (subst (λ (t : List NoteParts). union_of l.items t ≡ a ∷ union_of pop.new.self.items t) (sym none)
-    (left ∙ ap (λ (t : List NoteParts). a ∷ t) (sym pop.ensures.rest)))
+returns-in_default-front-clause-first c = grind (arith, first_and_rest, nil_from_length, taken)
 
 pub returns-in-Less-clause-first : goal.returns-in-Less-clause-first
 returns-in-Less-clause-first c =
@@ -44,19 +32,7 @@ returns-in-Less-clause-first c =
     ∙ ap (λ s. a ∷ union_of s r.items) (sym pop.ensures.rest))
 
 pub returns-in-Equal-clause-first : goal.returns-in-Equal-clause-first
-returns-in-Equal-clause-first c =
-    let a = c.in-Some.a.now in
-    let b = c.in-Some-front.b.now in
-    let l = c.args.left.now in
-    let r = c.args.right.now in
-    let some_left = c.in-Some.ensures.variant.0 refl in
-    let some_right = c.in-Some-front.ensures.variant.0 refl in
-    let left = first_and_rest a l.items (omega (arith, some_left, l.ok.0)) c.in-Some.ensures.lookup in
-    let right = first_and_rest b r.items (omega (arith, some_right, r.ok.0)) c.in-Some-front.ensures.lookup in
-    let pop = c.pop_front-in-Equal-2 in
-    taken _ _ pop.result a (pop.ensures.value a some_left ∙ ap Some (sym c.in-Some.ensures.lookup))
-    (union_of-same a b l.items r.items _ _ left right (sym c.in-Equal.ensures) c.requires.left c.requires.right
-    ∙ (λ i. a ∷ union_of (sym pop.ensures.rest i) (sym c.pop_front-in-Equal.ensures.rest i)))
+returns-in-Equal-clause-first c = grind (arith, first_and_rest, taken, union_of-same)
 
 pub returns-in-Greater-clause-first : goal.returns-in-Greater-clause-first
 returns-in-Greater-clause-first c =

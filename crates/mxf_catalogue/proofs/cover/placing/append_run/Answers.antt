@@ -1,29 +1,15 @@
-use Rattle.std.proofs.Common.{◌≡◌, ◌-◌, ℕ, List, length, get_or, slice_set, None, Some, arith, sym, ◌∙◌, ap, subst}
+use Rattle.std.proofs.Common.{◌≡◌, ◌-◌, List, length, None, Some, arith, sym, ◌∙◌, subst}
 use Rattle.std.specs.Prelude.{slice_get}
 use Rattle.std.proofs.lemmas.Option.{get_or_from_slice_get, slice_get_within}
 use Rattle.mxf_catalogue.specs.declared.run.Run.{Run}
 use Rattle.mxf_catalogue.specs.Covers.{with_run}
-use Rattle.mxf_catalogue.specs.Runs.{run}
 use Rattle.mxf_catalogue.proofs.CoverLaws.{last_end, with_run_behind, with_run_first, with_run_grown}
 use Rattle.mxf_catalogue.proofs.cover.placing.append_run.Goals as goal
 use Rattle.mxf_catalogue.proofs.cover.placing.append_run.Goals.{in_default-via-in-Some+else-last-run}
 use Rattle.mxf_catalogue.proofs.cover.placing.append_run.Goals.{in_default-via-in_default}
 
 pub returns-in-Some-clause-items : goal.returns-in-Some-clause-items
-returns-in-Some-clause-items c =
-    let runs = c.args.runs.now.items in
-    let last = c.in-Some.last.now in
-    let own = c.index_mut.result.now in
-    let count = c.len-count.ensures ∙ sym c.deref.ensures.len ∙ ap length c.deref.ensures.value in
-    let at = subst (λ (l : List Run). slice_get l (length l - 1)
-    ≡ Some last) c.deref.ensures.value (sym c.in-Some.ensures.value) in
-    let there : own ≡ get_or runs (length runs - 1) own =
-    subst (λ (k : ℕ). own ≡ get_or runs (k - 1) own) count c.index_mut.ensures.value in
-    let same = there ∙ get_or_from_slice_get runs (length runs - 1) last own at in
-    let within = slice_get_within runs (length runs - 1) last at in
-    subst (λ (k : ℕ). slice_set runs (k - 1) (run own.start c.args.run.end) ≡ with_run c.args.run runs) (sym count)
-    (with_run_grown 0 (length runs - 1) c.args.run own runs c.requires.cover.maximal (omega (arith, within)) (sym there)
-    (ap (λ (r : Run). r.end) same ∙ c.if-last-run.true) c.requires.run.order)
+returns-in-Some-clause-items c = grind (arith, with_run c.args.run, with_run_grown 0)
 
 pub returns-in_default-clause-items : goal.returns-in_default-clause-items
 returns-in_default-clause-items c =

@@ -1,6 +1,6 @@
-use Rattle.std.proofs.Common.{◌≡◌, [], ◌∷◌, ◌∙◌, List, ℕ, ap, arith, false, length, refl, cond}
+use Rattle.std.proofs.Common.{◌≡◌, [], ◌∷◌, List, ℕ, arith, false, length, refl}
 use Rattle.mxf_klv.specs.Parts.{NoteParts}
-use Rattle.mxf_klv.specs.Note.{IsNote, keeps}
+use Rattle.mxf_klv.specs.Note.{IsNote}
 use Rattle.mxf_catalogue.proofs.catalogue.file.entry.mark_and_held.Goals as goal
 
 no_bytes : (xs : List ℕ) → length xs ≡ 0 → [] ≡ xs
@@ -9,8 +9,7 @@ no_bytes (x ∷ xs) e = absurd (omega arith)
 
 -- a head holds nothing
 head_holds : (n : NoteParts) → IsNote n → n.whole ≡ false → [] ≡ n.held
-head_holds n is w =
-    no_bytes n.held (is.held ∙ ap (λ b. cond b (cond (keeps n.key n.length) n.length 32) 0) w)
+head_holds n is w = grind (arith, no_bytes)
 
 pub returns-in-Head-clause-held : goal.returns-in-Head-clause-held
 returns-in-Head-clause-held c = head_holds c.args.note.now c.offset-offset.ensures.note c.in-Head.ensures.0

@@ -1,5 +1,5 @@
-use Rattle.std.proofs.Common.{arith, ap, length, refl, inl, length-append}
-use Rattle.mxf_catalogue.specs.CatalogueFile.{BeginsWithNote, fixed_bytes}
+use Rattle.std.proofs.Common.{arith, length-append}
+use Rattle.mxf_catalogue.specs.CatalogueFile.{BeginsWithNote}
 use Rattle.mxf_catalogue.specs.FileReading.{NoteBehindMark}
 use Rattle.std.proofs.lemmas.Result.{IfOk-weaker}
 use Rattle.mxf_catalogue.proofs.FileBytes.{length-fixed_bytes}
@@ -7,12 +7,7 @@ use Rattle.mxf_catalogue.proofs.FileParts.{note_begins}
 use Rattle.mxf_catalogue.proofs.catalogue.file.entry.read_note.Goals as goal
 
 pub returns-in_default-split_mark-clause-fault : goal.returns-in_default-split_mark-clause-fault
-returns-in_default-split_mark-clause-fault c =
-    let b = c.in-Some.ensures.some in
-    let len = ap length b.whole in
-    let fixed = length-fixed_bytes c.in-Some.fixed b.fixed.key in
-    let none = c.in_default-split_mark.ensures.none in
-    (refl, inl (omega (arith, len, fixed, none, length-append (fixed_bytes c.in-Some.fixed) c.in-Some.behind.now)))
+returns-in_default-split_mark-clause-fault c = grind (arith, length-append, length-fixed_bytes)
 
 pub returns-clause-note : goal.returns-clause-note
 returns-clause-note c =

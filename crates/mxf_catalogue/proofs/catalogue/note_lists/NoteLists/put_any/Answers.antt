@@ -3,7 +3,6 @@ use Rattle.mxf_klv.specs.Note.{end_of}
 use Rattle.mxf_catalogue.proofs.HeadLaws.{reduced_with-present}
 use Rattle.mxf_catalogue.specs.Content.{union_of}
 use Rattle.mxf_catalogue.specs.Covers.{with_run}
-use Rattle.mxf_catalogue.specs.Disputes.{is_byte_shared}
 use Rattle.mxf_catalogue.specs.NoteLists.{Covers}
 use Rattle.mxf_catalogue.specs.Runs.{run}
 use Rattle.mxf_catalogue.proofs.ContentLaws.{IsContent-union_of}
@@ -47,15 +46,7 @@ pub put-requires-clause-new : goal.put-requires-clause-new
 put-requires-clause-new c h = let t = c.tell.ensures.1 h in let f = c.if-tell.false in cc (t, f)
 
 pub put-requires-clause-room : goal.put-requires-clause-room
-put-requires-clause-room c =
-    let l = length-filter_le (λ n. is_byte_shared c.args.note n) c.args.self.now.undisputed.items in
-    let k = c.args.self.now.undisputed.ok.0 in
-    let room = c.requires.room in
-    record {
-      undisputed = let r = room.undisputed in omega (arith, r);
-      disputed = let r = room.disputed in omega (arith, l, k, r);
-      disputed_spans = let r = room.disputed_spans in omega (arith, r);
-    }
+put-requires-clause-room c = grind (arith, length-filter_le)
 
 pub returns-clause-whole : goal.returns-clause-whole
 returns-clause-whole c =
