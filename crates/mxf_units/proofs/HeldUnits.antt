@@ -11,9 +11,10 @@ use Rattle.mxf_units.specs.declared.standing.UnitStanding.TheVariants as standin
 use Rattle.mxf_units.specs.declared.essence_zone.EssenceZone.{EssenceZone}
 use Rattle.mxf_units.specs.declared.essence_zone.part.StreamPart.{StreamPart}
 use Rattle.mxf_units.specs.declared.location.Location.{Location}
-use Rattle.mxf_units.specs.declared.stream.StreamPlace.{StreamPlace}
+use Rattle.mxf_views.specs.declared.index.place.StreamPlace.{StreamPlace}
 use Rattle.mxf_units.specs.declared.unit.Extent.{Extent}
-use Rattle.mxf_units.specs.Streams.{is_other_place, only_place, place_in, place_of, segments_for}
+use Rattle.mxf_units.specs.Streams.{is_other_place, only_place, place_of, segments_for}
+use Rattle.mxf_views.specs.Places.{place_in}
 use Rattle.mxf_units.specs.EssenceZones.{begins_up_to, chosen, parts_of, zone_at}
 use Rattle.mxf_units.specs.Units.{are_all_held, asked_end, extent_by, is_told}
 use Rattle.mxf_units.specs.Units.{location_at, location_in, location_of, standing_by, standing_in, unit_of, IsHeldWhole}

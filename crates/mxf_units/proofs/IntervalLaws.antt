@@ -55,9 +55,9 @@ module _ {K : Type 0} (end : K → ℕ) where
       ∙ ap (λ (m : ℕ). so_far ++ m ∷ greatest_ends end m rest) greatest
       ∙ ap (λ (l : List ℕ). so_far ++ l) (sym (at_drop_more (greatest_ends end top) xs i d here)) ∙ before
 
-  as_many : (top : ℕ) (xs : List K) → length (greatest_ends end top xs) ≡ length xs
-  as_many top [] = refl
-  as_many top (x ∷ xs) = ap (λ n. suc n) (as_many (max top (end x)) xs)
+  pub length-ends : (top : ℕ) (xs : List K) → length (greatest_ends end top xs) ≡ length xs
+  length-ends top [] = refl
+  length-ends top (x ∷ xs) = ap (λ n. suc n) (length-ends (max top (end x)) xs)
 
   from_top : (top : ℕ) (xs : List K) (i d : ℕ) → i < length xs → top ≤ get_or (greatest_ends end top xs) i d
   from_top top [] i d l = absurd (omega arith)
@@ -65,17 +65,17 @@ module _ {K : Type 0} (end : K → ℕ) where
   from_top top (x ∷ xs) (suc i) d l =
       let ih = from_top (max top (end x)) xs i d (omega (arith, l)) in omega (arith, ih)
 
-  own : (top : ℕ) (xs : List K) (i d : ℕ) (e : K) → i < length xs
+  pub own_end : (top : ℕ) (xs : List K) (i d : ℕ) (e : K) → i < length xs
       → end (get_or xs i e) ≤ get_or (greatest_ends end top xs) i d
-  own top [] i d e l = absurd (omega arith)
-  own top (x ∷ xs) zero d e l = omega arith
-  own top (x ∷ xs) (suc i) d e l = own (max top (end x)) xs i d e (omega (arith, l))
+  own_end top [] i d e l = absurd (omega arith)
+  own_end top (x ∷ xs) zero d e l = omega arith
+  own_end top (x ∷ xs) (suc i) d e l = own_end (max top (end x)) xs i d e (omega (arith, l))
 
   pub ends-rise : (top : ℕ) (xs : List K) → IsNonDecreasing (greatest_ends end top xs)
   ends-rise top [] i j d l h = absurd (omega arith)
   ends-rise top (x ∷ xs) zero zero d l h = omega arith
   ends-rise top (x ∷ xs) zero (suc j) d l h =
-      from_top (max top (end x)) xs j d (let m = as_many (max top (end x)) xs in omega (arith, m, h))
+      from_top (max top (end x)) xs j d (let m = length-ends (max top (end x)) xs in omega (arith, m, h))
   ends-rise top (x ∷ xs) (suc i) zero d l h = absurd (omega arith)
   ends-rise top (x ∷ xs) (suc i) (suc j) d l h =
       ends-rise (max top (end x)) xs i j d (omega (arith, l)) (omega (arith, h))
@@ -94,7 +94,7 @@ module _ {K : Type 0} (first end : K → ℕ) where
         ∙ append_assoc (take k front) (drop k front) (drop begun xs)
         ∙ (λ i. take k front ++ (sym is_near i ++ sym is_above i));
     below = subst_front (all_take (λ x. end x < at) xs k (λ i d h j.
-        let reach = own end 0 xs i 0 d j in
+        let reach = own_end end 0 xs i 0 d j in
         let end_below : get_or ends i 0 < at = below i 0 (omega arith) (omega (arith, h)) in
         let same : get_or ends i 0 ≡ get_or (greatest_ends end 0 xs) i 0 = ap (λ (es : List ℕ). get_or es i 0) is.ends_are in
         omega (arith, reach, end_below, same)));

@@ -159,10 +159,6 @@ pub record HasPassed (all rest : List SegmentAtParts) (index_sid : ℕ) (last : 
   pub ends : (s : SegmentAtParts) → In s passed → s.segment.numbers.index_sid ≡ index_sid → ¬ IsEndless s.segment
   pub found : IsLastOr (IsAmong passed index_sid) last
 
-pub none-passed : (all : List SegmentAtParts) (index_sid : ℕ) → HasPassed all all index_sid None
-none-passed all index_sid =
-    record { passed = []; whole = refl; ends = λ s h. absurd h; found = λ unit l g. absurd g.held }
-
 -- Properties with the same units have the same last one.
 last-same : (P Q : ℕ → Type 0) (last : Option ℕ) → ((unit : ℕ) → P unit ↔ Q unit) → IsLastOr P last → IsLastOr Q last
 last-same P Q None same is = λ unit l q. is unit l ((same unit).1 q)

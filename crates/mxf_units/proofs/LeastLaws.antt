@@ -8,16 +8,18 @@ use Rattle.std.proofs.lemmas.List.Elements.{filter_map-append}
 use Rattle.std.specs.List.{AllByRecursion, AllWithin, cons_option}
 use Rattle.std.specs.List.Sorted.{IsPartitionedBy}
 use Rattle.std.specs.Option.{option_and_then}
-use Rattle.std.specs.Ordering.{nat_cmp, ordering_then}
-use Rattle.std.specs.declared.cmp.Ordering.TheVariants.{Less, Equal, Greater}
+use Rattle.std.specs.Ordering.{nat_cmp}
+use Rattle.std.specs.declared.cmp.Ordering.TheVariants.{Less}
 use Rattle.std.proofs.lemmas.Cmp.{nat_cmp_total}
 use Rattle.std.specs.FinMap.{nat_cmp-IsAntisymmetric}
 use Rattle.mxf_klv.specs.Rising.{In, In-union, IsRising, SameMembers, less_in, union}
 use Rattle.mxf_klv.proofs.Lists.{In-at, In-filter_map, all-In, all_from_In}
 use Rattle.mxf_klv.proofs.Tests.{either, lt_from_less}
-use Rattle.mxf_units.specs.Streams.{IsSmall, in_order, least_above, lesser, offset_above, offset_in, offsets_in, place_cmp}
-use Rattle.mxf_units.proofs.OrderLaws.{one_place, place_total}
-use Rattle.mxf_units.specs.declared.stream.StreamPlace.{StreamPlace}
+use Rattle.mxf_units.specs.Streams.{IsSmall, in_order, least_above, lesser, offset_above, offset_in, offsets_in}
+use Rattle.mxf_views.specs.Places.{place_cmp}
+use Rattle.mxf_views.specs.Places.{IsBelow}
+use Rattle.mxf_views.proofs.PlaceLaws.{below_from, place_cmp-IsAntisymmetric, place_total}
+use Rattle.mxf_views.specs.declared.index.place.StreamPlace.{StreamPlace}
 
 -- What it is: none of the numbers lies above, or this one does and no lesser one.
 abbrev pub IsLeast : ℕ → List ℕ → Option ℕ → Type 0
@@ -103,7 +105,7 @@ least-same low xs ys same =
     (least-members low xs ys (least_above low xs) same (least-is low xs)) (least-is low ys)
 
 -- That of two lists is the lesser one.
-lesser_assoc : (a b c : Option ℕ) → lesser (lesser a b) c ≡ lesser a (lesser b c)
+pub lesser_assoc : (a b c : Option ℕ) → lesser (lesser a b) c ≡ lesser a (lesser b c)
 lesser_assoc None b c = refl
 lesser_assoc (Some x) None c = refl
 lesser_assoc (Some x) (Some y) None = refl
@@ -116,9 +118,6 @@ least-append low [] ys = refl
 least-append low (x ∷ xs) ys =
     ap (lesser (if nat_lt low x then Some x else None)) (least-append low xs ys)
     ∙ sym (lesser_assoc (if nat_lt low x then Some x else None) (least_above low xs) (least_above low ys))
-
-pub lesser-again : (a b c : Option ℕ) → lesser (lesser a b) c ≡ lesser a (lesser b c)
-lesser-again a b c = lesser_assoc a b c
 
 -- ---- of rising numbers
 
@@ -151,19 +150,6 @@ least-first low (x ∷ xs) (suc k) h r below above =
 abbrev pub is_up_to : ℕ → ℕ → StreamPlace → Bool
 is_up_to body_sid offset p =
     nat_lt p.body_sid body_sid || ((p.body_sid == body_sid) && nat_le p.offset offset)
-
--- One place stands before another.
-abbrev Before : StreamPlace → StreamPlace → Type 0
-Before p q = (p.body_sid < q.body_sid) ⊎ ((p.body_sid ≡ q.body_sid) × (p.offset < q.offset))
-
-before : (p q : StreamPlace) → place_cmp p q ≡ Less → Before p q
-before p q e =
-    elim (nat_cmp p.body_sid q.body_sid) as (λ o. nat_cmp p.body_sid q.body_sid ≡ o
-    → ordering_then o (nat_cmp p.offset q.offset) ≡ Less → Before p q) [
-      | Less ↦ λ f g. inl (lt_from_less _ _ f)
-      | Equal ↦ λ f g. inr (nat_cmp-IsAntisymmetric p.body_sid q.body_sid f, lt_from_less _ _ g)
-      | Greater ↦ λ f g. absurd cc
-    ] refl e
 
 up_to-says : (body_sid offset : ℕ) (p : StreamPlace) → is_up_to body_sid offset p ≡ true
     → (p.body_sid < body_sid) ⊎ ((p.body_sid ≡ body_sid) × (p.offset ≤ offset))
@@ -201,7 +187,7 @@ behind-says body_sid offset p e =
       ]
     ]
 
-earlier : (body_sid offset : ℕ) (p q : StreamPlace) → Before p q → is_up_to body_sid offset q ≡ true
+earlier : (body_sid offset : ℕ) (p q : StreamPlace) → IsBelow p q → is_up_to body_sid offset q ≡ true
     → is_up_to body_sid offset p ≡ true
 earlier body_sid offset p q b e =
     says-up_to body_sid offset p (elim b [
@@ -225,12 +211,12 @@ parted body_sid offset [] r i j d l h e = absurd (omega arith)
 parted body_sid offset (x ∷ xs) r zero zero d l h e = e
 parted body_sid offset (x ∷ xs) r zero (suc j) d l h e =
     earlier body_sid offset x (get_or xs j d)
-    (before x (get_or xs j d) (less_in place_total x (get_or xs j d) xs r.0 (In-at xs j d (omega arith)))) e
+    (below_from x (get_or xs j d) (less_in place_total x (get_or xs j d) xs r.0 (In-at xs j d (omega arith)))) e
 parted body_sid offset (x ∷ xs) r (suc i) zero d l h e = absurd (omega arith)
 parted body_sid offset (x ∷ xs) r (suc i) (suc j) d l h e =
     parted body_sid offset xs r.1 i j d (omega arith) (omega arith) e
 
-offset_in-says : (body_sid y : ℕ) (q : StreamPlace) → offset_in body_sid q ≡ Some y
+pub offset_in-says : (body_sid y : ℕ) (q : StreamPlace) → offset_in body_sid q ≡ Some y
     → (q.body_sid ≡ body_sid) × (q.offset ≡ y)
 offset_in-says body_sid y q e =
     elim (q.body_sid == body_sid) as (λ b. (q.body_sid == body_sid) ≡ b
@@ -247,7 +233,7 @@ offsets-after body_sid x xs y all h =
     let t = offset_in-says body_sid y s.0 s.2 in
     let same = t.0 in
     let at = t.1 in
-    elim (before x s.0 (less_in place_total x s.0 xs all s.1)) [
+    elim (below_from x s.0 (less_in place_total x s.0 xs all s.1)) [
       | inl l ↦ (omega (arith, l, same), λ e. absurd (omega (arith, l, same, e)))
       | inr u ↦ let v = u.0 in let l = u.1 in (omega (arith, v, same), λ e. omega (arith, l, at))
     ]
@@ -311,8 +297,8 @@ least-in_order body_sid offset xs =
     let b = In-filter_map (offset_in body_sid) xs y in (
       λ h.
           let s = a.0 h in
-          b.1 (s.0, elim ((In-union place_total one_place s.0 [] xs).0 s.1) [ inl k ↦ absurd k | inr k ↦ k ], s.2),
-      λ h. let s = b.0 h in a.1 (s.0, (In-union place_total one_place s.0 [] xs).1 (inr s.1), s.2),
+          b.1 (s.0, elim ((In-union place_total place_cmp-IsAntisymmetric s.0 [] xs).0 s.1) [ inl k ↦ absurd k | inr k ↦ k ], s.2),
+      λ h. let s = b.0 h in a.1 (s.0, (In-union place_total place_cmp-IsAntisymmetric s.0 [] xs).1 (inr s.1), s.2),
     ))
 
 -- The same of numbers.
@@ -360,7 +346,7 @@ next-step body_sid offset p rest next =
 pub small-in_order : (xs : List StreamPlace) → AllByRecursion IsSmall xs → AllByRecursion IsSmall (in_order xs)
 small-in_order xs a =
     all_from_In IsSmall (in_order xs) (λ p h.
-    all-In IsSmall xs p a (elim ((In-union place_total one_place p [] xs).0 h) [ inl k ↦ absurd k | inr k ↦ k ]))
+    all-In IsSmall xs p a (elim ((In-union place_total place_cmp-IsAntisymmetric p [] xs).0 h) [ inl k ↦ absurd k | inr k ↦ k ]))
 
 pub small-least : (body_sid offset : ℕ) (xs : List StreamPlace) (n : ℕ) → AllByRecursion IsSmall xs
     → least_above offset (offsets_in body_sid xs) ≡ Some n → n < 2 ^ 96

@@ -3,7 +3,7 @@ use Rattle.std.proofs.Common.{◌≡◌, ◌∙◌, ◌↔◌, ◌<◌, ◌+◌,
 use Rattle.std.proofs.Common.{IsTrue, List, Option, None, Some, refl, sym, ap, subst, inl, inr, arith, eq-eqb}
 use Rattle.std.proofs.Common.{eqb-true, filter_map, find, if◌then◌else◌, is_some, lt-ltb, ltb-true, map}
 use Rattle.std.proofs.Common.{option_and_then}
-use Rattle.std.proofs.lemmas.Bool.{and_from, and_parts}
+use Rattle.std.proofs.lemmas.Bool.{and_from, and_parts, or_cases}
 use Rattle.std.specs.Option.{option_map_or, option_or}
 use Rattle.mxf_klv.specs.declared.kinds.Kind.{Kind}
 use Rattle.mxf_klv.specs.declared.kinds.Kind.TheVariants as kinds
@@ -179,10 +179,6 @@ head-says notes x =
     no true e = absurd cc
     no false e = refl
 
-either-says : (a b : Bool) → (a || b) ≡ true → (a ≡ true) ⊎ (b ≡ true)
-either-says true b e = inl refl
-either-says false b e = inr e
-
 denied : (P : Type 0) (b : Bool) → (IsTrue b ↔ P) → not b ≡ true → ¬ P
 denied P true s e = absurd cc
 denied P false s e = λ p. let t = s.1 p in cc (t)
@@ -195,8 +191,8 @@ unknown-says : (notes : List NoteParts) (x : ℕ)
     → IsTrue (is_disputed_at notes x || begins_clear_head notes x || not (is_held notes x))
     ↔ ((IsDisputedAt notes x ⊎ BeginsHead notes x) ⊎ ¬ IsHeld notes x)
 unknown-says notes x = (
-  λ h. elim (either-says (is_disputed_at notes x || begins_clear_head notes x) (not (is_held notes x)) h) [
-    | inl a ↦ inl (elim (either-says (is_disputed_at notes x) (begins_clear_head notes x) a) [
+  λ h. elim (or_cases (is_disputed_at notes x || begins_clear_head notes x) (not (is_held notes x)) h) [
+    | inl a ↦ inl (elim (or_cases (is_disputed_at notes x) (begins_clear_head notes x) a) [
       | inl b ↦ inl ((is_disputed_at-says notes x).0 b)
       | inr b ↦ inr ((head-says notes x).0 b)
     ])
@@ -337,7 +333,7 @@ sure-says notes p (Some x) =
       λ h. record {
         at = x;
         at_is = refl;
-        told = elim (either-says (is_one (rip_view_of notes)) (names_before notes x p.offset) h) [
+        told = elim (or_cases (is_one (rip_view_of notes)) (names_before notes x p.offset) h) [
           | inl a ↦ inl (one-says (rip_view_of notes) a)
           | inr a ↦ inr (names.0 a)
         ];

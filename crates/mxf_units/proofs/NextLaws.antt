@@ -12,10 +12,12 @@ use Rattle.mxf_klv.proofs.Lists.{In-append, In-filter, In-filter_map, In-flat_ma
 use Rattle.mxf_sets.specs.Offset.{covers_constant, covers_entry, entry_offset, stream_offset}
 use Rattle.mxf_sets.specs.Segment.{SegmentParts, entry_count, is_constant}
 use Rattle.mxf_views.specs.Places.{SegmentAtParts, segments_of}
-use Rattle.mxf_units.specs.declared.stream.StreamPlace.{StreamPlace}
-use Rattle.mxf_units.specs.Streams.{IsNextOf, IsStreamPlace, in_stream, listed_in, next_of, offset_in}
-use Rattle.mxf_units.specs.Streams.{offsets_in, place_in, places_above, segments_for, sized_above}
-use Rattle.mxf_units.proofs.LeastLaws.{IsLeast, least-is}
+use Rattle.mxf_views.specs.declared.index.place.StreamPlace.{StreamPlace}
+use Rattle.mxf_units.specs.Streams.{IsNextOf, IsStreamPlace, listed_in, next_of, offset_in}
+use Rattle.mxf_views.specs.Places.{in_stream}
+use Rattle.mxf_units.specs.Streams.{offsets_in, places_above, segments_for, sized_above}
+use Rattle.mxf_views.specs.Places.{place_in}
+use Rattle.mxf_units.proofs.LeastLaws.{IsLeast, least-is, offset_in-says}
 
 -- ---- what segments give
 
@@ -198,15 +200,6 @@ reached segments body_sid low x p above =
 offset-of : (body_sid : ℕ) (q : StreamPlace) → q.body_sid ≡ body_sid → offset_in body_sid q ≡ Some q.offset
 offset-of body_sid q e = ap (λ b. if b then Some q.offset else None) (eq-eqb q.body_sid body_sid e)
 
-pub of-offset : (body_sid x : ℕ) (q : StreamPlace) → offset_in body_sid q ≡ Some x
-    → (q.body_sid ≡ body_sid) × (q.offset ≡ x)
-of-offset body_sid x q e =
-    elim (q.body_sid == body_sid) as (λ b. (q.body_sid == body_sid) ≡ b
-    → (if b then Some q.offset else None) ≡ Some x → (q.body_sid ≡ body_sid) × (q.offset ≡ x)) [
-      | true ↦ λ f g. (eqb-true _ _ f, cc)
-      | false ↦ λ f g. absurd cc
-    ] refl e
-
 told : (segments : List SegmentAtParts) (body_sid low : ℕ) (r : Option ℕ)
     → IsLeast low (offsets_in body_sid (places_above low segments)) r → IsNextOf segments body_sid low r
 told segments body_sid low None is = λ x p.
@@ -220,7 +213,7 @@ told segments body_sid low None is = λ x p.
     ]
 told segments body_sid low (Some next) is =
     let s = (In-filter_map (offset_in body_sid) (places_above low segments) next).0 is.0 in
-    let t = of-offset body_sid next s.0 s.2 in
+    let t = offset_in-says body_sid next s.0 s.2 in
     let g = above-given segments low s.0 s.1 in
     record {
       given = subst (λ b. IsStreamPlace segments b next) t.0

@@ -19,13 +19,15 @@ use Rattle.mxf_views.specs.Places.{SegmentAtParts}
 use Rattle.mxf_units.specs.NextPlaces.{AreNextPlaces, AreSized, constant_units, end_number, first_number, greatest_offset, number_of}
 use Rattle.mxf_units.specs.NextPlaces.{place_above}
 use Rattle.mxf_units.specs.Intervals.{IsAround}
-use Rattle.mxf_units.specs.Streams.{in_order, in_stream, least_above, lesser, listed_in, offset_above, offset_in}
-use Rattle.mxf_units.specs.Streams.{offsets_in, place_in, sized_above}
+use Rattle.mxf_units.specs.Streams.{in_order, least_above, lesser, listed_in, offset_above, offset_in}
+use Rattle.mxf_views.specs.Places.{in_stream}
+use Rattle.mxf_units.specs.Streams.{offsets_in, sized_above}
+use Rattle.mxf_views.specs.Places.{place_in}
 use Rattle.mxf_units.specs.declared.constant_units.ConstantUnits.{ConstantUnits}
-use Rattle.mxf_units.specs.declared.stream.StreamPlace.{StreamPlace}
+use Rattle.mxf_views.specs.declared.index.place.StreamPlace.{StreamPlace}
 use Rattle.mxf_units.proofs.LeastLaws.{IsLeast, least-append, least-in_order, least-is, least-same, next-parts}
-use Rattle.mxf_units.proofs.LeastLaws.{next-step, one_least}
-use Rattle.mxf_units.proofs.NextLaws.{begins_behind, first_behind, of-offset}
+use Rattle.mxf_units.proofs.LeastLaws.{next-step, offset_in-says, one_least}
+use Rattle.mxf_units.proofs.NextLaws.{begins_behind, first_behind}
 
 -- ---- members and their order
 
@@ -175,7 +177,7 @@ module _ (body offset : ℕ) (low : offset < 2 ^ 96) where
   offset-of cs x h =
       let s = (In-filter_map (offset_in body) (filter_map (place_above offset) cs) x).0 h in
       let t = (In-filter_map (place_above offset) cs s.0).0 s.1 in
-      let in_body = of-offset body x s.0 s.2 in
+      let in_body = offset_in-says body x s.0 s.2 in
       let c = t.0 in
       let g = guarded (goes_on c) (record { body_sid = c.body_sid; offset = c.unit_bytes * unit_of c }) s.0 t.2 in (
         c,

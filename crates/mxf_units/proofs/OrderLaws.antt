@@ -1,5 +1,5 @@
 -- Places and parts in their order.
-use Rattle.std.proofs.Common.{◌≡◌, ◌∙◌, true, false, None, Some, List, [], refl, ap}
+use Rattle.std.proofs.Common.{true, false, None, Some, List, [], refl, ap}
 use Rattle.std.specs.Cmp.{IsTotalOrder, bool_cmp_total}
 use Rattle.std.specs.Cmp.Lexicographic.{options_total}
 use Rattle.std.specs.FinMap.{IsAntisymmetric, nat_cmp-IsAntisymmetric}
@@ -9,10 +9,11 @@ use Rattle.std.specs.Ordering.{bool_cmp}
 use Rattle.std.specs.Option.{option_cmp}
 use Rattle.mxf_klv.proofs.Tests.{ties}
 use Rattle.mxf_klv.specs.Rising.{IsRising, IsRising-union}
-use Rattle.mxf_units.specs.Streams.{in_order as places_in_order, place_cmp}
+use Rattle.mxf_units.specs.Streams.{in_order as places_in_order}
+use Rattle.mxf_views.specs.Places.{place_cmp}
+use Rattle.mxf_views.proofs.PlaceLaws.{place_cmp-IsAntisymmetric, place_total}
 use Rattle.mxf_units.specs.EssenceZones.{part_cmp, zone_cmp}
-use Rattle.mxf_units.specs.declared.essence_zone.part.StreamPart.{StreamPart}
-use Rattle.mxf_units.specs.declared.stream.StreamPlace.{StreamPlace}
+use Rattle.mxf_views.specs.declared.index.place.StreamPlace.{StreamPlace}
 
 -- ---- each is one
 
@@ -27,13 +28,6 @@ one_bool false false e = refl
 one_bool false true e = absurd cc
 one_bool true false e = absurd cc
 one_bool true true e = refl
-
-pub one_place : IsAntisymmetric place_cmp
-one_place a b e =
-    let p = ties _ _ e in
-    let body = nat_cmp-IsAntisymmetric a.body_sid b.body_sid p.0 in
-    let offset = nat_cmp-IsAntisymmetric a.offset b.offset p.1 in
-    λ i. record { body_sid = body i; offset = offset i }
 
 one_zone : IsAntisymmetric zone_cmp
 one_zone a b e =
@@ -57,9 +51,6 @@ one_part a b e =
     let partition = nat_cmp-IsAntisymmetric a.partition b.partition r.1 in
     λ i. record { body_sid = body i; body_offset = offset i; zone = zone i; partition = partition i }
 
-pub place_total : IsTotalOrder place_cmp
-place_total = then_total (on_total (λ p. p.body_sid) nat_cmp_total) (on_total (λ p. p.offset) nat_cmp_total)
-
 zone_total : IsTotalOrder zone_cmp
 zone_total =
     then_total (on_total (λ z. z.body_offset) nat_cmp_total)
@@ -74,4 +65,4 @@ part_total =
 
 -- Places in their order rise.
 pub places-rise : (xs : List StreamPlace) → IsRising place_cmp (places_in_order xs)
-places-rise xs = IsRising-union place_total one_place [] xs tt
+places-rise xs = IsRising-union place_total place_cmp-IsAntisymmetric [] xs tt

@@ -3,7 +3,7 @@ use Rattle.std.proofs.Common.{◌≡◌, ◌∙◌, ◌<◌, ◌≤◌, ◌++◌
 use Rattle.std.proofs.Common.{Err, List, [], ◌∷◌, refl, sym, ap, subst, inl, inr, arith}
 use Rattle.std.proofs.Common.{cond, drop, filter, get_or, is_some, length, map, nat_le, nat_lt, reverse, eq-eqb, eqb-true}
 use Rattle.std.proofs.Common.{ltb-true, lt-ltb, if◌then◌else◌}
-use Rattle.std.proofs.lemmas.Bool.{and_from, and_parts, cases_lt, le-leb, leb-true}
+use Rattle.std.proofs.lemmas.Bool.{and_from, and_parts, cases_lt, false_from_ne_true, le-leb, leb-true}
 use Rattle.std.specs.FinMap.{nat_cmp-IsAntisymmetric}
 use Rattle.std.specs.List.{AllByRecursion, AllWithin}
 use Rattle.std.specs.List.Sorted.{IsPartitionedBy}
@@ -158,10 +158,6 @@ not_up_to body_sid offset p b e =
     let at = leb-true p.body_offset offset s.1 in
     elim b [ inl l ↦ omega (arith, l, same) | inr u ↦ let l = u.1 in omega (arith, l, at) ]
 
-failing : (b : Bool) → (b ≡ true → ⊥) → b ≡ false
-failing true f = absurd (f refl)
-failing false f = refl
-
 pub record Settled (body_sid offset : ℕ) (xs : List StreamPart) (k : ℕ) : Type 0 where
   pub left : filter (begins_up_to body_sid offset) xs ≡ filter (begins_up_to body_sid offset) (drop k xs)
   pub falls : IsFalling (drop k xs)
@@ -184,7 +180,7 @@ settled body_sid offset (x ∷ xs) (suc k) h f below above =
     (λ j d l m. above (suc j) d (omega arith) (omega arith)) in
     record {
       left = ap (λ b. cond b (x ∷ filter (begins_up_to body_sid offset) xs) (filter (begins_up_to body_sid offset) xs))
-          (failing (begins_up_to body_sid offset x) (not_up_to body_sid offset x far)) ∙ ih.left;
+          (false_from_ne_true (begins_up_to body_sid offset x) (not_up_to body_sid offset x far)) ∙ ih.left;
       falls = ih.falls;
       head = ih.head;
     }
@@ -220,7 +216,7 @@ second body_sid offset p (q ∷ parts) f same l =
       | inl m ↦
           let none_left = none body_sid offset q parts f.1 (omega (arith, m, same)) in
           let other : (p.body_sid == q.body_sid) ≡ false =
-          failing (p.body_sid == q.body_sid) (λ e. let t = eqb-true p.body_sid q.body_sid e in omega (arith, m, t)) in
+          false_from_ne_true (p.body_sid == q.body_sid) (λ e. let t = eqb-true p.body_sid q.body_sid e in omega (arith, m, t)) in
           ap (λ b. if (b && (p.body_offset == q.body_offset))
           then (if is_some q.zone then Err standings.Several else ok_or p.zone standings.Several)
           else ok_or p.zone standings.Unknown) other
@@ -249,7 +245,7 @@ first : (body_sid offset : ℕ) (parts : List StreamPart) → IsFalling parts �
 first body_sid offset [] f h = refl
 first body_sid offset (p ∷ parts) f (inl l) =
     let other : (p.body_sid == body_sid) ≡ false =
-    failing (p.body_sid == body_sid) (λ e. let t = eqb-true p.body_sid body_sid e in omega (arith, l, t)) in
+    false_from_ne_true (p.body_sid == body_sid) (λ e. let t = eqb-true p.body_sid body_sid e in omega (arith, l, t)) in
     ap (λ b. if b then by_second p parts else Err standings.NoPartition) other
     ∙ ap chosen (sym (none body_sid offset p parts f l))
 first body_sid offset (p ∷ parts) f (inr u) =

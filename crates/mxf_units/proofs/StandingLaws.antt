@@ -1,11 +1,11 @@
 -- Each standing has its cause.
 use Rattle.std.proofs.Common.{ℕ, Result, Ok, Err, List, inl, inr}
 use Rattle.mxf_klv.specs.Parts.{NoteParts}
-use Rattle.mxf_views.specs.Places.{IsOnlyPair, segments_of}
+use Rattle.mxf_views.specs.Places.{IsOnlyPlace, segments_of}
 use Rattle.mxf_units.specs.declared.standing.UnitStanding.{UnitStanding}
 use Rattle.mxf_units.specs.declared.standing.UnitStanding.TheVariants as standings
 use Rattle.mxf_units.specs.declared.essence_zone.EssenceZone.{EssenceZone}
-use Rattle.mxf_units.specs.declared.stream.StreamPlace.{StreamPlace}
+use Rattle.mxf_views.specs.declared.index.place.StreamPlace.{StreamPlace}
 use Rattle.mxf_units.specs.EssenceZones.{parts_of, zone_at}
 use Rattle.mxf_units.specs.Standings.{IsStanding, IsStandingAt, IsZone}
 use Rattle.mxf_units.specs.Streams.{next_of, place_of, segments_for}
@@ -31,7 +31,7 @@ by_zone notes index_sid place (Ok zone) z =
     )
 
 at_place : (notes : List NoteParts) (index_sid unit body_sid offset : ℕ) (w : UnitStanding)
-    → IsOnlyPair (segments_of notes) index_sid unit body_sid offset
+    → IsOnlyPlace (segments_of notes) index_sid unit body_sid offset
     → IsStandingAt notes index_sid body_sid offset w → IsStanding notes index_sid unit w
 at_place notes index_sid unit body_sid offset standings.NotIndexed o (inl z) = absurd z
 at_place notes index_sid unit body_sid offset standings.NotIndexed o (inr s) = absurd s.2

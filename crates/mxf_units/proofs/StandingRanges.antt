@@ -56,10 +56,6 @@ says-goes zone e g =
 denied : (P : Type 0) (b : Bool) → (P → b ≡ true) → b ≡ false → ¬ P
 denied P b f e p = let t = f p in cc (t, e)
 
-not_false : (b : Bool) → not b ≡ true → b ≡ false
-not_false true e = absurd cc
-not_false false e = refl
-
 unsure : (a b : Bool) → (not a && not b) ≡ true → (a ≡ false) × (b ≡ false)
 unsure true b e = absurd cc
 unsure false true e = absurd cc

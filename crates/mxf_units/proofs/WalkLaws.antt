@@ -1,5 +1,5 @@
 -- The place and the entry that all of some are: whichever way these stand, and by those segments alone that may have them.
-use Rattle.std.proofs.Common.{◌≡◌, ◌≢◌, ◌∙◌, ◌⊎◌, ◌==◌, ◌&&◌, ◌||◌, ◌<◌, ◌≤◌, ◌+◌, ◌-◌, ◌^◌, ℕ, Bool, true, false, not, List, []}
+use Rattle.std.proofs.Common.{◌≡◌, ◌≢◌, ◌∙◌, ◌⊎◌, ◌==◌, ◌&&◌, ◌||◌, ◌<◌, ◌≤◌, ◌+◌, ◌-◌, ◌^◌, ℕ, true, false, not, List, []}
 use Rattle.std.proofs.Common.{◌∷◌, Option, None, Some, Result, Ok, Err, refl, sym, ap, inl, inr, arith, eq-eqb, eqb-true}
 use Rattle.std.proofs.Common.{◌*◌, filter_map, if◌then◌else◌, nat_le, nat_lt, option_map, unsigned_abs, min, ltb-true}
 use Rattle.std.proofs.lemmas.Bool.{and_from, and_parts, false_from_ne_true, leb-true}
@@ -7,17 +7,20 @@ use Rattle.std.specs.Cmp.{signed_Decides}
 use Rattle.std.specs.List.Sorted.{IsPermutation}
 use Rattle.std.specs.Ordering.{int_eq}
 use Rattle.mxf_klv.specs.Rising.{In, SameMembers}
+use Rattle.mxf_klv.proofs.Tests.{not_both}
 use Rattle.mxf_sets.specs.Offset.{covers_constant, covers_entry, entry_at, entry_offset, index_entry}
 use Rattle.mxf_sets.specs.Segment.{entry_count, is_constant}
 use Rattle.mxf_sets.specs.declared.segment.offset.IndexEntry.{IndexEntry}
 use Rattle.mxf_views.specs.Places.{SegmentAtParts}
 use Rattle.mxf_units.specs.NextPlaces.{first_unit, units_end}
 use Rattle.mxf_units.specs.Intervals.{IsAround}
-use Rattle.mxf_units.specs.Streams.{entry_of, in_stream, is_same_entry, is_same_place, only_entry}
-use Rattle.mxf_units.specs.Streams.{only_place, place_in, place_of}
+use Rattle.mxf_units.specs.Streams.{entry_of, is_same_entry, is_same_place, only_entry}
+use Rattle.mxf_views.specs.Places.{in_stream}
+use Rattle.mxf_units.specs.Streams.{only_place, place_of}
+use Rattle.mxf_views.specs.Places.{place_in}
 use Rattle.mxf_units.specs.declared.standing.UnitStanding.{UnitStanding}
 use Rattle.mxf_units.specs.declared.standing.UnitStanding.TheVariants as standings
-use Rattle.mxf_units.specs.declared.stream.StreamPlace.{StreamPlace}
+use Rattle.mxf_views.specs.declared.index.place.StreamPlace.{StreamPlace}
 use Rattle.mxf_units.proofs.NextPlaceLaws.{permuted, same-filter_map}
 use Rattle.mxf_units.proofs.IntervalLaws.{near_alone}
 
@@ -66,7 +69,7 @@ itself_place q p e =
     and_from (q.body_sid == p.body_sid) (q.offset == p.offset) (eq-eqb _ _ (ap (λ (x : StreamPlace). x.body_sid) e))
     (eq-eqb _ _ (ap (λ (x : StreamPlace). x.offset) e))
 
-abbrev PlacesWalked : List StreamPlace → Result StreamPlace UnitStanding → Type 0
+abbrev pub PlacesWalked : List StreamPlace → Result StreamPlace UnitStanding → Type 0
 PlacesWalked =
     Walked {K = StreamPlace} {R = Result StreamPlace UnitStanding} (Err standings.NotIndexed) (λ p. Ok p)
     (Err standings.Ambiguous)
@@ -81,7 +84,7 @@ walk_on q (p ∷ places) =
       | false ↦ λ e. inr (inr (q, p, inl refl, inr (inl refl), λ s. (let t = itself_place q p s in cc (t, e)), refl))
     ] refl
 
-walk_places : (places : List StreamPlace) → PlacesWalked places (only_place None places)
+pub walk_places : (places : List StreamPlace) → PlacesWalked places (only_place None places)
 walk_places [] = inl (λ x h. h, refl)
 walk_places (p ∷ places) = walk_on p places
 
@@ -138,11 +141,6 @@ same-only_entry xs ys same =
 
 -- ---- segments that don't have a unit
 
-when : (b c : Bool) → (b ≡ true → c ≡ true → ⊥) → (b && c) ≡ false
-when true true f = absurd (f refl refl)
-when true false f = refl
-when false c f = refl
-
 module _ (unit : ℕ) (fits : unit < 2 ^ 64) (s : SegmentAtParts)
     (outside : (units_end s < unit) ⊎ (unit < first_unit s)) where
   abbrev start : ℕ
@@ -169,7 +167,7 @@ module _ (unit : ℕ) (fits : unit < 2 ^ 64) (s : SegmentAtParts)
       ])
 
   no_constant : is_constant s.segment.numbers ≡ true → covers_constant s.segment unit ≡ false
-  no_constant e = when (nat_le start unit) ((duration == 0) || nat_lt unit (start + duration)) (λ p q.
+  no_constant e = not_both (nat_le start unit) ((duration == 0) || nat_lt unit (start + duration)) (λ p q.
       let from : start ≤ unit = leb-true start unit p in
       elim outside [
         | inr before ↦ omega (arith, before, from)

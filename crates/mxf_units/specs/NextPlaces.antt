@@ -7,7 +7,7 @@ use Rattle.mxf_sets.specs.Segment.{entry_count, is_constant}
 use Rattle.mxf_views.specs.Places.{SegmentAtParts}
 use Rattle.mxf_units.specs.Streams.{least_above, lesser, next_of, offsets_in}
 use Rattle.mxf_units.specs.declared.constant_units.ConstantUnits.{ConstantUnits}
-use Rattle.mxf_units.specs.declared.stream.StreamPlace.{StreamPlace}
+use Rattle.mxf_views.specs.declared.index.place.StreamPlace.{StreamPlace}
 
 -- The units of a segment, where they have one size.
 abbrev pub constant_units : SegmentAtParts → Option ConstantUnits

@@ -4,8 +4,8 @@ use Rattle.std.specs.Prelude.{IsSome}
 use Rattle.mxf_klv.specs.Parts.{NoteParts}
 use Rattle.mxf_klv.specs.Rising.{In}
 use Rattle.mxf_views.specs.Partitions.{PartitionParts, partitions_of}
-use Rattle.mxf_views.specs.Places.{IsGiven, IsOnlyPair, segments_of}
-use Rattle.mxf_views.specs.declared.index.place.Pair.{Pair}
+use Rattle.mxf_views.specs.Places.{IsGiven, IsOnlyPlace, segments_of}
+use Rattle.mxf_views.specs.declared.index.place.StreamPlace.{StreamPlace}
 use Rattle.mxf_places.specs.Held.{IsDisputedAt, IsHeld}
 use Rattle.mxf_units.specs.declared.standing.UnitStanding.{UnitStanding}
 use Rattle.mxf_units.specs.declared.standing.UnitStanding.TheVariants as standings
@@ -91,10 +91,10 @@ IsStandingAt notes index_sid body_sid offset standing =
 
 -- How a unit stands: no segment gives it a place, or two give different ones, or all that give one give this one.
 abbrev pub IsStanding : List NoteParts → ℕ → ℕ → UnitStanding → Type 0
-IsStanding notes index_sid unit standings.NotIndexed = (p : Pair) → ¬ IsGiven (segments_of notes) index_sid unit p
+IsStanding notes index_sid unit standings.NotIndexed = (p : StreamPlace) → ¬ IsGiven (segments_of notes) index_sid unit p
 IsStanding notes index_sid unit standings.Ambiguous =
-    (p : Pair) × (q : Pair) × IsGiven (segments_of notes) index_sid unit p
+    (p : StreamPlace) × (q : StreamPlace) × IsGiven (segments_of notes) index_sid unit p
     × IsGiven (segments_of notes) index_sid unit q × (p ≢ q)
 IsStanding notes index_sid unit standing =
-    (body_sid : ℕ) × (offset : ℕ) × IsOnlyPair (segments_of notes) index_sid unit body_sid offset
+    (body_sid : ℕ) × (offset : ℕ) × IsOnlyPlace (segments_of notes) index_sid unit body_sid offset
     × IsStandingAt notes index_sid body_sid offset standing

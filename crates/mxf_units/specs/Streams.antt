@@ -3,19 +3,18 @@
 use Rattle.std.specs.Prelude.{◌≡◌, ℕ, ◌+◌, ◌/◌, ◌^◌, ◌<◌, ◌≤◌, Bool, false, ◌&&◌, ◌==◌, not, nat_lt, max, min}
 use Rattle.std.specs.Prelude.{if◌then◌else◌}
 use Rattle.std.specs.Prelude.{Option, None, Some, Result, Err, List, [], ◌∷◌, ◌++◌, filter, unsigned_abs}
-use Rattle.std.specs.Option.{ok_or, option_map}
+use Rattle.std.specs.Option.{ok_or}
 use Rattle.std.specs.List.{filter_map, flat_map, range_with_len}
-use Rattle.std.specs.Ordering.{int_eq, nat_cmp, on, then_cmp}
-use Rattle.std.specs.declared.cmp.Ordering.{Ordering}
+use Rattle.std.specs.Ordering.{int_eq}
 use Rattle.mxf_klv.specs.Parts.{NoteParts}
 use Rattle.mxf_klv.specs.Rising.{In, union}
 use Rattle.mxf_sets.specs.Segment.{entry_count, is_constant}
 use Rattle.mxf_sets.specs.Offset.{index_entry, stream_offset}
 use Rattle.mxf_sets.specs.declared.segment.offset.IndexEntry.{IndexEntry}
-use Rattle.mxf_views.specs.Places.{SegmentAtParts, segments_of}
+use Rattle.mxf_views.specs.Places.{SegmentAtParts, place_cmp, place_in, segments_of}
 use Rattle.mxf_units.specs.declared.standing.UnitStanding.{UnitStanding}
 use Rattle.mxf_units.specs.declared.standing.UnitStanding.TheVariants as standings
-use Rattle.mxf_units.specs.declared.stream.StreamPlace.{StreamPlace}
+use Rattle.mxf_views.specs.declared.index.place.StreamPlace.{StreamPlace}
 
 -- A segment of one of these gives some unit this place: an offset in the stream of its BodySID.
 pub record IsStreamPlace (segments : List SegmentAtParts) (body_sid offset : ℕ) : Type 0 where
@@ -41,13 +40,6 @@ IsNextOf segments body_sid offset (Some next) = IsNext segments body_sid offset 
 -- The segments of an IndexSID.
 abbrev pub segments_for : List NoteParts → ℕ → List SegmentAtParts
 segments_for notes index_sid = filter (λ s. s.segment.numbers.index_sid == index_sid) (segments_of notes)
-
-abbrev pub in_stream : SegmentAtParts → ℕ → StreamPlace
-in_stream s offset = record { body_sid = s.segment.numbers.body_sid; offset = offset }
-
--- The place that a segment gives a unit, where it covers the unit.
-abbrev pub place_in : ℕ → SegmentAtParts → Option StreamPlace
-place_in unit s = option_map (in_stream s) (stream_offset s.segment unit)
 
 abbrev pub is_same_place : StreamPlace → StreamPlace → Bool
 is_same_place p q = (p.body_sid == q.body_sid) && (p.offset == q.offset)
@@ -112,10 +104,6 @@ next_of segments body_sid offset = least_above offset (offsets_in body_sid (plac
 -- greatest.
 abbrev pub IsSmall : StreamPlace → Type 0
 IsSmall p = p.offset < 2 ^ 96
-
--- By BodySID, then by offset.
-abbrev pub place_cmp : StreamPlace → StreamPlace → Ordering
-place_cmp = then_cmp (on (λ p. p.body_sid) nat_cmp) (on (λ p. p.offset) nat_cmp)
 
 -- Places, each once, in their order.
 abbrev pub in_order : List StreamPlace → List StreamPlace

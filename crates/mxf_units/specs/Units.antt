@@ -15,7 +15,7 @@ use Rattle.mxf_units.specs.declared.standing.UnitStanding.{UnitStanding}
 use Rattle.mxf_units.specs.declared.standing.UnitStanding.TheVariants as standings
 use Rattle.mxf_units.specs.declared.essence_zone.EssenceZone.{EssenceZone}
 use Rattle.mxf_units.specs.declared.essence_zone.part.StreamPart.{StreamPart}
-use Rattle.mxf_units.specs.declared.stream.StreamPlace.{StreamPlace}
+use Rattle.mxf_views.specs.declared.index.place.StreamPlace.{StreamPlace}
 use Rattle.mxf_units.specs.declared.unit.Extent.{Extent}
 use Rattle.mxf_units.specs.declared.unit.EditUnit.{EditUnit}
 use Rattle.mxf_units.specs.declared.location.Location.{Location}

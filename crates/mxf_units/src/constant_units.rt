@@ -6,9 +6,9 @@ ghost use Rattle.mxf_units.specs.NextPlaces.{AreSized, constant_units, end_numbe
 ghost use Rattle.mxf_units.specs.Streams.{offset_above};
 
 use crate::intervals::Interval;
-use crate::stream::{StreamPlace, offset_in};
+use crate::stream::offset_in;
 use mxf_klv::OutOfMemory;
-use mxf_views::SegmentAt;
+use mxf_views::{SegmentAt, StreamPlace};
 use std::alloc::Global;
 
 /// More than any offset of a stream, in bytes: 2^96.

@@ -18,10 +18,10 @@ pub(crate) mod part;
 use crate::bounds::{bound_above, bounds, has_one_rip, names_before, rip_place};
 use crate::first_packet::first_packet;
 use crate::segments::{all_segments, places_above_0};
-use crate::stream::{StreamPlace, first_above};
+use crate::stream::first_above;
 use mxf_klv::{Kind, Note, OutOfMemory};
 use mxf_places::Holdings;
-use mxf_views::Partition;
+use mxf_views::{Partition, StreamPlace};
 use std::alloc::Global;
 use std::marker::Model;
 

@@ -13,9 +13,9 @@ use crate::essence_zone::EssenceZone;
 use crate::essence_zone::part::{StreamPart, zone_at};
 use crate::next_places::NextPlaces;
 use crate::standing::UnitStanding;
-use crate::stream::StreamPlace;
 use crate::unit::Extent;
 use mxf_places::Holdings;
+use mxf_views::StreamPlace;
 
 /// Bytes of essence, and the essence zone that they are looked for in.
 #[derive(Clone, Copy)]

@@ -9,9 +9,9 @@ ghost use Rattle.mxf_units.specs.Streams.{IsSmall, least_above, lesser, offsets_
 use crate::constant_units::{ConstantUnits, constant_units, number_of};
 use crate::intervals::Intervals;
 use crate::segments::listed_places;
-use crate::stream::{StreamPlace, first_above, lesser};
+use crate::stream::{first_above, lesser};
 use mxf_klv::OutOfMemory;
-use mxf_views::SegmentAt;
+use mxf_views::{SegmentAt, StreamPlace};
 use std::alloc::Global;
 use std::marker::Model;
 
@@ -28,7 +28,8 @@ impl Model for NextPlaces {
     ghost use Rattle.std.specs.List.{AllByRecursion};
     ghost use Rattle.mxf_klv.specs.Rising.{IsRising};
     ghost use Rattle.mxf_units.specs.NextPlaces.{AreSized, NextPlacesParts};
-    ghost use Rattle.mxf_units.specs.Streams.{IsSmall, place_cmp};
+    ghost use Rattle.mxf_units.specs.Streams.{IsSmall};
+    ghost use Rattle.mxf_views.specs.Places.{place_cmp};
 
     ghost Value = { NextPlacesParts };
 

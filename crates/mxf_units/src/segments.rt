@@ -4,17 +4,18 @@ ghost use Rattle.std.specs.List.{AllByRecursion, filter_map, flat_map};
 ghost use Rattle.mxf_klv.specs.Rising.{In};
 ghost use Rattle.mxf_klv.specs.Parts.{NoteParts};
 ghost use Rattle.mxf_views.specs.Places.{SegmentAtParts, segments_of};
-ghost use Rattle.mxf_units.specs.Streams.{IsNextOf, IsSmall, entry_of, in_order, listed_in, next_of, place_in, place_of};
+ghost use Rattle.mxf_units.specs.Streams.{IsNextOf, IsSmall, entry_of, in_order, listed_in, next_of, place_of};
+ghost use Rattle.mxf_views.specs.Places.{place_in};
 ghost use Rattle.mxf_units.specs.Streams.{is_other_entry, is_other_place, places_above, segments_for};
 ghost use Rattle.mxf_units.specs.Streams.{sized_above};
 
 use crate::constant_units::ConstantUnits;
 use crate::intervals::Interval;
 use crate::standing::UnitStanding;
-use crate::stream::{StreamPlace, in_order};
+use crate::stream::in_order;
 use mxf_klv::OutOfMemory;
 use mxf_sets::IndexEntry;
-use mxf_views::{SegmentAt, Views};
+use mxf_views::{SegmentAt, StreamPlace, Views};
 use std::alloc::Global;
 
 /// More than any edit unit that can be asked for: 2^64.

@@ -1,18 +1,11 @@
 //! Places in essence streams (ST 377-1, Index Table Segment).
 ghost use Rattle.std.specs.Prelude.{◌≡◌, ◌&&◌, ◌||◌, ◌==◌, nat_le, nat_lt, [], IfOk, IfSome, ◌<◌, ◌^◌};
 ghost use Rattle.mxf_klv.specs.Rising.{IsRising};
-ghost use Rattle.mxf_units.specs.Streams.{in_order, least_above, lesser, offset_in, offsets_in, place_cmp};
+ghost use Rattle.mxf_views.specs.Places.{place_cmp};
+ghost use Rattle.mxf_units.specs.Streams.{in_order, least_above, lesser, offset_in, offsets_in};
 
 use mxf_klv::sort_once;
-
-/// A place in an essence stream.
-#[derive(Clone, Copy, PartialEq, Eq, PartialOrd, Ord)]
-pub(crate) struct StreamPlace {
-    /// The BodySID of the stream.
-    pub body_sid: u32,
-    /// In bytes from the start of the stream.
-    pub offset: u128,
-}
+use mxf_views::StreamPlace;
 
 /// The places in their order, each once.
 pub(crate) fn in_order(mut places: Vec<StreamPlace>) -> Vec<StreamPlace>

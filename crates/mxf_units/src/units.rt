@@ -19,12 +19,11 @@ use crate::location::{Location, extent_by, location_at, standing_by};
 use crate::next_places::NextPlaces;
 use crate::segments::{entry_of, place_of, segments_for};
 use crate::standing::UnitStanding;
-use crate::stream::StreamPlace;
 use crate::unit::{EditUnit, Extent};
 use mxf_klv::{OutOfMemory, sort_once};
 use mxf_places::Holdings;
 use mxf_sets::IndexEntry;
-use mxf_views::{SegmentAt, Views};
+use mxf_views::{SegmentAt, StreamPlace, Views};
 use std::alloc::Global;
 use std::marker::Model;
 

@@ -15,8 +15,8 @@ use Rattle.std.proofs.lemmas.Bool.{eqb-false}
 use Rattle.std.proofs.lemmas.List.Elements.{filter_map-append}
 use Rattle.std.proofs.lemmas.Option.{get_or_from_slice_get, slice_get_within}
 use Rattle.mxf_views.proofs.CopyLaws.{copy_there}
-use Rattle.mxf_views.proofs.CopyUpdates.{start_is_found, copies_by_notes, end-partition_at, or_of, partition_found}
-use Rattle.mxf_views.proofs.PartitionSearch.{has_copy, copy_found, is_there, of_note, of_partition}
+use Rattle.mxf_views.proofs.CopyUpdates.{start_is_found, copies_by_notes, end-partition_at, or_of}
+use Rattle.mxf_views.proofs.PartitionSearch.{has_copy, copy_found, is_there, of_note, of_partition, partition_found}
 use Rattle.mxf_views.proofs.AboveLaws.{no_bytes, clear_in_both, clear_of_both, new_are_clear, union_is_content}
 use Rattle.mxf_views.proofs.AboveLaws.{zone_from, zone_goes_on, zone_of_both}
 use Rattle.mxf_views.specs.KeptAbove.{CountsFit, counted_on, is_of, with_counts}
@@ -25,7 +25,7 @@ use Rattle.mxf_views.proofs.CopyChanges.{same_apart, start_kept, unmet_stays}
 use Rattle.mxf_views.proofs.SpanCounts.{zone-count}
 use Rattle.mxf_views.proofs.StartLaws.{start_is}
 use Rattle.mxf_klv.proofs.RisingBy.{at_most_last, rises_at}
-use Rattle.mxf_views.proofs.Rising.{by_partition}
+use Rattle.mxf_views.proofs.KeyedLists.{rise_by}
 
 -- The last copy is that of the greatest partition.
 pub last_copy : (cs : List CopyInfo) (last c : CopyInfo) → CopiesRise cs → slice_get cs (length cs - 1) ≡ Some last
@@ -33,7 +33,8 @@ pub last_copy : (cs : List CopyInfo) (last c : CopyInfo) → CopiesRise cs → s
 last_copy cs last c r e h other =
     let k = length cs - 1 in
     let within = slice_get_within cs k last e in
-    let up = at_most_last (λ (x : CopyInfo). x.partition) cs c k c ((by_partition cs).0 r) (omega (arith, within)) h in
+    let up = at_most_last (λ (x : CopyInfo). x.partition) cs c k c
+    ((rise_by (λ (x : CopyInfo). x.partition) cs).0 r) (omega (arith, within)) h in
     let there = ap (λ (x : CopyInfo). x.partition) (get_or_from_slice_get cs k last c e) in
     let unlike = eqb-false last.partition c.partition other in
     omega (arith, up, there, unlike)
@@ -50,7 +51,8 @@ pub others_before : (cs : List CopyInfo) (last : CopyInfo) → CopiesRise cs →
 others_before cs last r e k d from below =
     let at = length cs - 1 in
     let within = slice_get_within cs at last e in
-    let up = rises_at (λ (x : CopyInfo). x.partition) cs k at d ((by_partition cs).0 r) below within in
+    let up = rises_at (λ (x : CopyInfo). x.partition) cs k at d
+    ((rise_by (λ (x : CopyInfo). x.partition) cs).0 r) below within in
     let there = ap (λ (x : CopyInfo). x.partition) (get_or_from_slice_get cs at last d e) in
     false_from_ne_true (last.partition == (get_or cs k d).partition)
     (λ t. let same = eqb-true last.partition (get_or cs k d).partition t in omega (arith, same, up, there))

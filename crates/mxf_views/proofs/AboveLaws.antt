@@ -1,12 +1,11 @@
 -- A content and notes that begin where it ends, or above: the clear notes of both are those of the one and then those
 -- of the other.
-use Rattle.mxf_views.proofs.Common.{◌≡◌, ℕ, ◌+◌, ◌-◌, ◌≤◌, ◌⊎◌, Bool, cond, List, [], ◌∷◌, ◌++◌, sym, ap, subst}
-use Rattle.mxf_views.proofs.Common.{◌∙◌, inl, inr, arith, leb-true, le-leb, ◌↔◌, nat_le}
-use Rattle.mxf_views.proofs.Common.{count_by, and_from, and_parts, NoteParts, IsNote, end_of, In, AreReduced}
-use Rattle.mxf_views.proofs.Common.{IsCatalogue, IsContent, union_of, LiesIn, Run, IsClear, clear_notes}
-use Rattle.mxf_views.proofs.Common.{lies_in, same_content, In-clear_notes, IsContent-clear_notes, zone_of}
-use Rattle.mxf_views.proofs.Common.{Option, filter_map, kept_among, MeetAt, clear_from, all-In, In-append}
-use Rattle.mxf_views.proofs.Common.{same_bool, filter-append, reduced_union, Covers, In-union_of}
+use Rattle.mxf_views.proofs.Common.{◌≡◌, ℕ, ◌+◌, ◌-◌, ◌≤◌, ◌⊎◌, Bool, cond, List, [], ◌∷◌, ◌++◌, sym, ap, subst, ◌∙◌}
+use Rattle.mxf_views.proofs.Common.{inl, inr, arith, leb-true, le-leb, ◌↔◌, nat_le, count_by, and_from, and_parts}
+use Rattle.mxf_views.proofs.Common.{NoteParts, IsNote, end_of, In, AreReduced, IsCatalogue, IsContent, union_of, LiesIn}
+use Rattle.mxf_views.proofs.Common.{Run, IsClear, clear_notes, lies_in, same_content, In-clear_notes}
+use Rattle.mxf_views.proofs.Common.{IsContent-clear_notes, zone_of, Option, filter_map, kept_among, MeetAt, clear_from}
+use Rattle.mxf_views.proofs.Common.{all-In, In-append, same_bool, filter-append, reduced_union, Covers, In-union_of}
 use Rattle.mxf_views.proofs.Common.{IsContent-union_of, filter_none, filter_all, covers_first, reduced_with, IsUnionAt}
 use Rattle.mxf_catalogue.proofs.HeadLaws.{reduced-same, reduced_union-is, reduced_union-none}
 use Rattle.mxf_klv.proofs.Lists.{filter_alike}

@@ -1,10 +1,9 @@
 -- The preferred copy of those seen so far.
-use Rattle.mxf_views.proofs.Common.{◌≡◌, ◌<◌, ◌⊎◌, true, false, List, [], ◌∷◌, ◌++◌, Option, Some, None}
-use Rattle.mxf_views.proofs.Common.{refl, cond, append_assoc, append-nil, subst, ap, ◌∙◌, sym, inl, inr, arith}
-use Rattle.mxf_views.proofs.Common.{eqb-true, eq-eqb, ℕ, ◌↔◌, ◌&&◌, ◌==◌, nat_lt, is_some, ltb-true, ltb-false}
-use Rattle.mxf_views.proofs.Common.{and_from, and_parts, In, CopyInfo, best_of, preferred_of, rank, better}
-use Rattle.mxf_views.proofs.Common.{is_candidate, is_above, IsBest, IsPreferred, or_cases, or_parts, and_cases}
-use Rattle.mxf_views.proofs.Common.{cases_order}
+use Rattle.mxf_views.proofs.Common.{◌≡◌, ◌<◌, ◌⊎◌, true, false, List, [], ◌∷◌, ◌++◌, Option, Some, None, refl, cond}
+use Rattle.mxf_views.proofs.Common.{append_assoc, append-nil, subst, ap, ◌∙◌, sym, inl, inr, arith, eqb-true, eq-eqb, ℕ}
+use Rattle.mxf_views.proofs.Common.{◌↔◌, ◌&&◌, ◌==◌, nat_lt, is_some, ltb-true, ltb-false, and_from, and_parts, In}
+use Rattle.mxf_views.proofs.Common.{CopyInfo, best_of, preferred_of, rank, better, is_candidate, is_above, IsBest}
+use Rattle.mxf_views.proofs.Common.{IsPreferred, or_cases, or_parts, and_cases, cases_order}
 use Rattle.mxf_views.specs.Copies.{IsNotAbove, IsCandidate}
 use Rattle.mxf_klv.proofs.Lists.{In-end}
 

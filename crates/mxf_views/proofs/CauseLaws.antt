@@ -1,5 +1,5 @@
 -- The cause of each code is met at the offsets that are found of it, and at no others.
-use Rattle.mxf_views.proofs.Common.{◌≡◌, ◌≢◌, ℕ, ◌+◌, ◌-◌, ◌<◌, ◌≤◌, ◌⊎◌, Bool, true, false, List, refl, sym}
+use Rattle.mxf_views.proofs.Common.{◌≡◌, ℕ, ◌+◌, ◌-◌, ◌<◌, ◌≤◌, ◌⊎◌, Bool, true, false, List, refl, sym}
 use Rattle.mxf_views.proofs.Common.{ap, ◌∙◌, inl, inr, arith, eqb-true, eq-eqb, ◌↔◌, ◌&&◌, ◌||◌, ◌==◌, nat_lt, not}
 use Rattle.mxf_views.proofs.Common.{is_some, filter, map, ltb-false, ltb-true, or_cases, and_from, and_parts, Status}
 use Rattle.mxf_views.proofs.Common.{NoteParts, end_of, kind_of, In, PartitionPackParts, pack_at, part_and_status}
@@ -11,7 +11,7 @@ use Rattle.mxf_views.proofs.Common.{footer_stands_at, In-chosen, not_equal, has_
 use Rattle.mxf_catalogue.specs.Disputes.{DisputedParts, IsDisputedOf, Overlaps, SharesOffset}
 use Rattle.mxf_catalogue.proofs.DisputeLaws.{In-disputed_notes, IsDisputed-two_ways, is_offset_shared-SharesOffset}
 use Rattle.mxf_catalogue.proofs.DisputeLaws.{is_overlapped-Overlaps}
-use Rattle.mxf_views.specs.Findings.{is_misplaced, is_open, is_open_footer, is_unfit, lacks_footer}
+use Rattle.mxf_views.specs.Findings.{is_open, is_open_footer, is_unfit, lacks_footer}
 use Rattle.mxf_views.specs.FindingCauses.{AtNote, AtPartition, IsGapStart, IsOpen, IsUnlinked, LacksFooter}
 use Rattle.mxf_views.proofs.ChainLaws.{footer_says}
 use Rattle.mxf_views.proofs.GapsLaws.{gaps_are}
@@ -22,12 +22,10 @@ use Rattle.mxf_catalogue.proofs.RunBounds.{between}
 use Rattle.mxf_klv.specs.declared.kinds.Status.TheVariants as statuses
 use Rattle.mxf_views.specs.declared.chain.Link.TheVariants as links
 
--- ---- tests
-
 -- ---- disputes
 
 -- the offsets of the disputed notes that are disputed in one way
-at_disputed : (p : DisputedParts → Bool) (P : NoteParts → Type 0) (notes : List NoteParts) (o : ℕ)
+pub at_disputed : (p : DisputedParts → Bool) (P : NoteParts → Type 0) (notes : List NoteParts) (o : ℕ)
     → ((d : DisputedParts) → IsDisputedOf d notes → (p d ≡ true) ↔ P d.note)
     → ((n : NoteParts) → P n → SharesOffset n notes ⊎ Overlaps n notes)
     → In o (map (λ d. d.note.offset) (filter p (disputed_notes notes))) ↔ AtNote notes o P
@@ -48,17 +46,6 @@ at_disputed p P notes o each two =
           let is = disputed_parts n notes in
           m.1 (is, (In-disputed_notes is notes).1 d, (each is d).1 s.3, s.2),
     )
-
-pub shared_offsets : (notes : List NoteParts) (o : ℕ)
-    → In o (map (λ d. d.note.offset) (filter (λ d. d.same_offset) (disputed_notes notes)))
-    ↔ AtNote notes o (λ n. SharesOffset n notes)
-shared_offsets notes o =
-    at_disputed (λ d. d.same_offset) (λ n. SharesOffset n notes) notes o (λ d is. is.same_offset) (λ n s. inl s)
-
-pub overlaps : (notes : List NoteParts) (o : ℕ)
-    → In o (map (λ d. d.note.offset) (filter (λ d. d.overlaps) (disputed_notes notes)))
-    ↔ AtNote notes o (λ n. Overlaps n notes)
-overlaps notes o = at_disputed (λ d. d.overlaps) (λ n. Overlaps n notes) notes o (λ d is. is.overlaps) (λ n s. inr s)
 
 -- ---- gaps
 
@@ -111,7 +98,7 @@ is_some-partition_at n =
     λ pack. record { offset = n.offset; end = end_of n; pack = pack } in
     is_some-map at (pack_of n)
 
-unreadable_pack : (n : NoteParts) → (not (is_no_unreadable_pack n) ≡ true)
+pub unreadable_pack : (n : NoteParts) → (not (is_no_unreadable_pack n) ≡ true)
     ↔ (IsPartitionKind (kind_of n.key) × ¬ IsReadable (pack_at (kind_of n.key)) n)
 unfolding is_no_unreadable_pack
 unreadable_pack n =
@@ -142,13 +129,6 @@ at_clear p P notes o each =
       λ s. m.1 (s.0, (In-clear_notes s.0 notes).1 s.1, (each s.0 s.1).1 s.3, s.2),
     )
 
-pub unreadable_packs : (notes : List NoteParts) (o : ℕ)
-    → In o (map (λ n. n.offset) (filter (λ n. not (is_no_unreadable_pack n)) (clear_notes notes)))
-    ↔ AtClear notes o (λ n. IsPartitionKind (kind_of n.key) × ¬ IsReadable (pack_at (kind_of n.key)) n)
-unreadable_packs notes o =
-    at_clear (λ n. not (is_no_unreadable_pack n))
-    (λ n. IsPartitionKind (kind_of n.key) × ¬ IsReadable (pack_at (kind_of n.key)) n) notes o (λ n _. unreadable_pack n)
-
 -- ---- partitions
 
 -- the offsets of the partitions that pass a test
@@ -161,7 +141,7 @@ at_partition p P notes o each =
       λ s. m.1 (s.0, s.1, (each s.0).1 s.3, s.2),
     )
 
-unlinked : (ps : List PartitionParts) (p : PartitionParts) → (is_unfit (link_of ps p) ≡ true) ↔ IsUnlinked ps p
+pub unlinked : (ps : List PartitionParts) (p : PartitionParts) → (is_unfit (link_of ps p) ≡ true) ↔ IsUnlinked ps p
 unlinked ps p = (
   λ h. elim (link_of ps p) as (λ l. link_of ps p ≡ l → is_unfit l ≡ true → IsUnlinked ps p) [
     | links.First ↦ λ _ q. absurd cc
@@ -190,7 +170,7 @@ open_says s = (
   λ k. elim k [ inl e ↦ ap is_open e | inr e ↦ ap is_open e ],
 )
 
-open_footer : (p : PartitionParts) → (is_open_footer p ≡ true) ↔ ((p.pack.part ≡ Footer) × IsOpen p.pack.status)
+pub open_footer : (p : PartitionParts) → (is_open_footer p ≡ true) ↔ ((p.pack.part ≡ Footer) × IsOpen p.pack.status)
 open_footer p = (
   λ h.
       let s = and_parts (is_footer p.pack.part) (is_open p.pack.status) h in
@@ -198,7 +178,7 @@ open_footer p = (
   λ s. and_from (is_footer p.pack.part) (is_open p.pack.status) (ap is_footer s.0) ((open_says p.pack.status).1 s.1),
 )
 
-footer_lacks : (ps : List PartitionParts) (p : PartitionParts) → (lacks_footer ps p ≡ true) ↔ LacksFooter ps p
+pub footer_lacks : (ps : List PartitionParts) (p : PartitionParts) → (lacks_footer ps p ≡ true) ↔ LacksFooter ps p
 footer_lacks ps p =
     let at = p.pack.numbers.footer_partition in
     let there = list_any-In (λ (q : PartitionParts). is_footer q.pack.part && q.offset == at) ps in
@@ -221,30 +201,3 @@ footer_lacks ps p =
           let b = and_parts (is_footer s.0.pack.part) (s.0.offset == at) s.2 in
           l.none s.0 s.1 (footer_says s.0.pack.part b.0) (eqb-true s.0.offset at b.1))),
     )
-
-pub misplaced_partitions : (notes : List NoteParts) (o : ℕ)
-    → In o (map (λ p. p.offset) (filter is_misplaced (partitions_of notes)))
-    ↔ AtPartition notes o (λ p. p.pack.numbers.this_partition ≢ p.offset)
-misplaced_partitions notes o =
-    at_partition is_misplaced (λ p. p.pack.numbers.this_partition ≢ p.offset) notes o
-    (λ p. not_equal p.pack.numbers.this_partition p.offset)
-
-pub unlinked_partitions : (notes : List NoteParts) (o : ℕ)
-    → In o (map (λ p. p.offset) (filter (λ p. is_unfit (link_of (partitions_of notes) p)) (partitions_of notes)))
-    ↔ AtPartition notes o (IsUnlinked (partitions_of notes))
-unlinked_partitions notes o =
-    at_partition (λ p. is_unfit (link_of (partitions_of notes) p)) (IsUnlinked (partitions_of notes)) notes o
-    (unlinked (partitions_of notes))
-
-pub open_footers : (notes : List NoteParts) (o : ℕ)
-    → In o (map (λ p. p.offset) (filter is_open_footer (partitions_of notes)))
-    ↔ AtPartition notes o (λ p. (p.pack.part ≡ Footer) × IsOpen p.pack.status)
-open_footers notes o =
-    at_partition is_open_footer (λ p. (p.pack.part ≡ Footer) × IsOpen p.pack.status) notes o open_footer
-
-pub lost_footers : (notes : List NoteParts) (o : ℕ)
-    → In o (map (λ p. p.offset) (filter (lacks_footer (partitions_of notes)) (partitions_of notes)))
-    ↔ AtPartition notes o (LacksFooter (partitions_of notes))
-lost_footers notes o =
-    at_partition (lacks_footer (partitions_of notes)) (LacksFooter (partitions_of notes)) notes o
-    (footer_lacks (partitions_of notes))

@@ -1,15 +1,14 @@
 -- Whether the partitions hang together.
 use Rattle.mxf_views.proofs.Common.{◌≡◌, ◌<◌, ◌≤◌, Bool, true, false, List, [], ◌∷◌, refl, sym, ap, subst, ◌∙◌, inl}
 use Rattle.mxf_views.proofs.Common.{inr, arith, eqb-true, eq-eqb, ◌↔◌, ◌&&◌, ◌||◌, ◌==◌, nat_lt, not, if◌then◌else◌}
-use Rattle.mxf_views.proofs.Common.{is_some, count_by, list_all, ltb-true, and_from, false_from_ne_true}
-use Rattle.mxf_views.proofs.Common.{and_parts, NoteParts, kind_of, In, PackPart, Header, Footer}
-use Rattle.mxf_views.proofs.Common.{part_and_status, IsContent, IsClear, clear_notes, In-clear_notes, First}
-use Rattle.mxf_views.proofs.Common.{Held, Whole, Broken, PartitionParts, AreInOrder, chain_of, is_footer, is_greatest}
-use Rattle.mxf_views.proofs.Common.{is_header, is_linked, is_no_unreadable_pack, link_of, partition_at, partitions_of}
-use Rattle.mxf_views.proofs.Common.{stands_above, count_by-cons, tally, list_any-In, In-filter_map, all-In, In-list_all}
-use Rattle.mxf_views.proofs.Common.{not-true-false, lt-ltb, cases_lt, clear-alone, IsPartitionKind, Link}
-use Rattle.mxf_views.proofs.Common.{StandsAt, IsLink, HangTogether, count-none, list_all-In}
-use Rattle.mxf_views.proofs.Common.{kind_says, kind_tells}
+use Rattle.mxf_views.proofs.Common.{is_some, count_by, list_all, ltb-true, and_from, false_from_ne_true, and_parts}
+use Rattle.mxf_views.proofs.Common.{NoteParts, kind_of, In, PackPart, Header, Footer, part_and_status, IsContent}
+use Rattle.mxf_views.proofs.Common.{IsClear, clear_notes, In-clear_notes, First, Held, Whole, Broken, PartitionParts}
+use Rattle.mxf_views.proofs.Common.{AreInOrder, chain_of, is_footer, is_greatest, is_header, is_linked}
+use Rattle.mxf_views.proofs.Common.{is_no_unreadable_pack, link_of, partition_at, partitions_of, stands_above}
+use Rattle.mxf_views.proofs.Common.{count_by-cons, tally, list_any-In, In-filter_map, all-In, In-list_all}
+use Rattle.mxf_views.proofs.Common.{not-true-false, lt-ltb, cases_lt, clear-alone, IsPartitionKind, Link, StandsAt}
+use Rattle.mxf_views.proofs.Common.{IsLink, HangTogether, count-none, list_all-In, kind_says, kind_tells}
 use Rattle.mxf_views.specs.Partitions.{IsOnly, is_first, is_held, hang_together}
 use Rattle.mxf_views.proofs.PartitionLaws.{link_iff, offset-partition_at, partitions_rise}
 use Rattle.mxf_klv.proofs.Counts.{count-one}

@@ -1,17 +1,11 @@
 -- What adding a note changes among the clear notes, and the clear notes at their offsets.
-use Rattle.mxf_views.proofs.Common.{◌≡◌, ℕ, ◌<◌, ◌≤◌, ◌⊎◌, Bool, true, false, List, [], ◌∷◌, refl, sym}
-use Rattle.mxf_views.proofs.Common.{ap, subst, ◌∙◌, inl, inr, arith, leb-true, le-leb, ◌↔◌, ◌||◌}
-use Rattle.mxf_views.proofs.Common.{nat_le, nat_lt, filter, map, max}
-use Rattle.mxf_views.proofs.Common.{ltb-true, lt-ltb, NoteParts, end_of, In}
-use Rattle.mxf_views.proofs.Common.{IsClear, SharesByte, clear_notes}
-use Rattle.mxf_views.proofs.Common.{In-clear_notes, IsHull}
-use Rattle.mxf_views.proofs.Common.{is_outside, notes_at, In-filter}
-use Rattle.mxf_views.proofs.Common.{cases_lt, min, clear_at-found}
+use Rattle.mxf_views.proofs.Common.{◌≡◌, ℕ, ◌<◌, ◌≤◌, ◌⊎◌, true, false, List, [], ◌∷◌, refl, sym, subst, ◌∙◌, inl, inr}
+use Rattle.mxf_views.proofs.Common.{arith, leb-true, le-leb, ◌↔◌, ◌||◌, nat_le, nat_lt, max, ltb-true, lt-ltb}
+use Rattle.mxf_views.proofs.Common.{NoteParts, end_of, In, IsClear, SharesByte, clear_notes, In-clear_notes, IsHull}
+use Rattle.mxf_views.proofs.Common.{is_outside, cases_lt, min}
 use Rattle.mxf_catalogue.proofs.DisputeLaws.{SharesByte-symmetric}
 use Rattle.mxf_catalogue.specs.NoteLists.{touching}
 use Rattle.mxf_catalogue.proofs.PartLaws.{In-touching}
-use Rattle.mxf_views.proofs.Common.{cond, cons_option, filter_map}
-use Rattle.mxf_views.specs.Kept.{offset_if}
 use Rattle.mxf_catalogue.proofs.ClearLaws.{ordered, shared_low, shares}
 
 -- ---- the hull of what comes and goes
@@ -145,31 +139,3 @@ hull_of_all x notes start end h = record {
   low = h.low;
   high = h.high;
 }
-
--- ---- the notes at their offsets
-
-pub offsets_are : (test : NoteParts → Bool) (ns : List NoteParts)
-    → filter_map (λ n. offset_if (test n) n) ns ≡ map (λ n. n.offset) (filter test ns)
-offsets_are test [] = refl
-offsets_are test (n ∷ ns) =
-    let ih = offsets_are test ns in
-    elim (test n) as (λ b. cons_option (offset_if b n) (filter_map (λ n. offset_if (test n) n) ns)
-    ≡ map (λ (m : NoteParts). m.offset) (cond b (n ∷ filter test ns) (filter test ns))) [
-      | true ↦ ap (λ l. n.offset ∷ l) ih
-      | false ↦ ih
-    ]
-
-each_found : (notes ns : List NoteParts) → ((n : NoteParts) → In n ns → IsClear n notes)
-    → notes_at notes (map (λ n. n.offset) ns) ≡ ns
-each_found notes [] c = refl
-each_found notes (n ∷ ns) c =
-    rw (clear_at-found n.offset notes n (c n (inl refl)) refl) (ap (λ l. n ∷ l) (each_found notes ns (λ m h. c m
-    (inr h))))
-
--- The clear notes of a kind are those at the offsets where such notes stand.
-pub notes_at_offsets : (test : NoteParts → Bool) (notes : List NoteParts)
-    → notes_at notes (filter_map (λ n. offset_if (test n) n) (clear_notes notes)) ≡ filter test (clear_notes notes)
-notes_at_offsets test notes =
-    ap (notes_at notes) (offsets_are test (clear_notes notes))
-    ∙ each_found notes (filter test (clear_notes notes)) (λ n h.
-    (In-clear_notes n notes).0 ((In-filter test (clear_notes notes) n).0 h).0)

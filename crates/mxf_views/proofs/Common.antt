@@ -84,7 +84,8 @@ pub use Rattle.mxf_views.specs.Findings.{has_other_rip, is_partial, is_unfit_rip
 pub use Rattle.mxf_views.specs.Findings.{lost_by, offsets_for, reads_value}
 pub use Rattle.mxf_views.specs.Gaps.{AreGaps, gaps_from, gaps_of}
 pub use Rattle.mxf_views.specs.Identified.{is_below, is_of, unreadable_offsets, with_uid}
-pub use Rattle.mxf_views.specs.Kept.{HasRoom, IsHull, IsStartBelow, KeptParts, MeetAt, RiseBy, StartsRise, copies_followed}
+pub use Rattle.mxf_views.specs.Kept.{HasRoom, IsHull, IsStartBelow, KeptParts, MeetAt, StartsRise, copies_followed}
+pub use Rattle.mxf_views.specs.Rises.{RiseBy}
 pub use Rattle.mxf_views.specs.Kept.{copy_by, followed, has_some_metadata, is_kept, is_outside, kept_among, kept_at}
 pub use Rattle.mxf_views.specs.Kept.{kept_in, kept_of, kept_partition, kept_random_index_pack, kept_segment}
 pub use Rattle.mxf_views.specs.Kept.{kept_unreadable_pack, lies_between, notes_at, nothing_kept, or_itself, outside}
@@ -97,9 +98,9 @@ pub use Rattle.mxf_views.specs.Partitions.{AreInOrder, HangTogether, IsGreatestB
 pub use Rattle.mxf_views.specs.Partitions.{chain_of, is_footer, is_greatest, is_header, is_linked, link_at, link_of}
 pub use Rattle.mxf_views.specs.Partitions.{pack_of, partitions_among, stands_above, stands_at, stands_between}
 unfoldable pub use Rattle.mxf_views.specs.Partitions.{is_no_unreadable_pack, partition_at, partitions_of}
-pub use Rattle.mxf_views.specs.Places.{SegmentAtParts, SegmentsRise, is_segment, pair_cmp, pairs_with, place_by}
+pub use Rattle.mxf_views.specs.Places.{SegmentAtParts, SegmentsRise, is_segment, place_cmp, places_with, place_by}
 pub use Rattle.mxf_views.specs.Places.{place_of, segments_among}
-unfoldable pub use Rattle.mxf_views.specs.Places.{pair_of, placed_segment, segments_of}
+unfoldable pub use Rattle.mxf_views.specs.Places.{given_by, placed_segment, segments_of}
 pub use Rattle.mxf_views.specs.RandomIndex.{is_rip, rip_in, standing_by, standing_of}
 unfoldable pub use Rattle.mxf_views.specs.RandomIndex.{is_rip_note, rips_of}
 pub use Rattle.mxf_views.specs.RandomIndexView.{rip_view_among, rip_view_by, rip_view_of}
@@ -130,7 +131,7 @@ pub use Rattle.mxf_views.specs.declared.copy.CopyInfo.{CopyInfo}
 pub use Rattle.mxf_views.specs.declared.finding.Code.{Code}
 pub use Rattle.mxf_views.specs.declared.finding.Code.TheVariants.{F01, F03, F04, F09, F12, F13}
 pub use Rattle.mxf_views.specs.declared.finding.Finding.{Finding}
-pub use Rattle.mxf_views.specs.declared.index.place.Pair.{Pair}
+pub use Rattle.mxf_views.specs.declared.index.place.StreamPlace.{StreamPlace}
 pub use Rattle.mxf_views.specs.declared.index.place.Place.{Place}
 pub use Rattle.mxf_views.specs.declared.index.place.Place.TheVariants.{Ambiguous, At, NotIndexed}
 pub use Rattle.mxf_views.specs.declared.kept.sums.Mark.{Mark}

@@ -11,7 +11,7 @@ use Rattle.mxf_catalogue.proofs.SpanLaws.{ends_before, less_by_offset}
 use Rattle.mxf_klv.specs.Note.{IsInSpan}
 use Rattle.mxf_views.proofs.PartitionLaws.{not_partition, readable_from}
 use Rattle.mxf_views.proofs.PartitionSearch.{is_there, of_note}
-use Rattle.mxf_views.proofs.PrimerLaws.{one_at}
+use Rattle.mxf_views.proofs.KeptItems.{one_note}
 use Rattle.mxf_views.proofs.StartLaws.{fill_note, primer_note, start_is}
 use Rattle.mxf_views.proofs.StartWalk.{none_there}
 
@@ -90,7 +90,7 @@ start_before notes end q s k l a =
     let up : q.end ≡ end_of n.note = (readable_from n.note q n.read).end in
     elim (cases_order s n.note.offset) [
       | inl u ↦ (
-          let same = one_at notes a.primer n.note a.clear c (a.there ∙ u) in
+          let same = one_note notes a.primer n.note a.clear c (a.there ∙ u) in
           absurd (not_partition a.primer q (ap part_and_status a.readable.1.0) (ap partition_at same ∙ n.read)))
       | inr (inl u) ↦ omega (arith, u, up)
       | inr (inr u) ↦ (

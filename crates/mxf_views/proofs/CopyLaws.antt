@@ -15,7 +15,7 @@ use Rattle.mxf_views.proofs.PartitionLaws.{one_there, partitions_rise}
 use Rattle.mxf_views.proofs.SpanCounts.{zone-count}
 use Rattle.mxf_views.proofs.StartLaws.{one_start, start_is}
 use Rattle.mxf_klv.proofs.Tests.{equals_itself}
-use Rattle.mxf_views.proofs.Rising.{by_offset, by_partition}
+use Rattle.mxf_views.proofs.KeyedLists.{rise_by}
 use Rattle.mxf_catalogue.proofs.ApartNotes.{apart_same}
 use Rattle.mxf_klv.specs.declared.kinds.Kind.TheVariants as kinds
 
@@ -283,6 +283,7 @@ unfolding copies_of
 copies_rise notes h =
     let ps = partitions_of notes in
     let copy = copy_of (clear_notes notes) in
-    (by_partition _).1 (rises-map (λ p. p.offset) copy (λ c. c.partition) (filter has_metadata ps)
-    (λ p k. copy_there (clear_notes notes) p)
-    (rises-filter (λ p. p.offset) has_metadata ps ((by_offset ps).0 (partitions_rise notes h))))
+    let rising = (rise_by (λ (p : PartitionParts). p.offset) ps).0 (partitions_rise notes h) in
+    (rise_by (λ (c : CopyInfo). c.partition) _).1
+    (rises-map (λ p. p.offset) copy (λ c. c.partition) (filter has_metadata ps)
+    (λ p k. copy_there (clear_notes notes) p) (rises-filter (λ p. p.offset) has_metadata ps rising))

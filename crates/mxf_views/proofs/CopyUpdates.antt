@@ -1,30 +1,27 @@
 -- The copies of the header metadata once a note was added: those elsewhere are counted anew where they may have
 -- changed.
-use Rattle.mxf_views.proofs.Common.{◌+◌, count_by, count_by-cons, tally, copies_among, kept_partition, option_map, with_keyed}
+use Rattle.mxf_views.proofs.Common.{◌+◌, count_by, count_by-cons, tally, copies_among, kept_partition, option_map}
+use Rattle.mxf_views.proofs.Common.{SharesByte, kept_at, outside, ◌≡◌, ℕ, suc, length, ◌-◌, ◌<◌, ◌≤◌, ◌⊎◌, Bool, true}
+use Rattle.mxf_views.proofs.Common.{false, cond, List, [], ◌∷◌, Option, Some, None, refl, sym, ap, subst, ◌∙◌, inl, inr}
+use Rattle.mxf_views.proofs.Common.{arith, eqb-true, ◌||◌, ◌==◌, nat_lt, find, filter, map, if◌then◌else◌, cons_option}
+use Rattle.mxf_views.proofs.Common.{filter_map, option_and_then, ltb-true, ltb-false, and_parts, NoteParts, kind_of}
+use Rattle.mxf_views.proofs.Common.{end_of, In, IsContent, reduced_with, IsClear, clear_notes, In-clear_notes, CopyInfo}
+use Rattle.mxf_views.proofs.Common.{CopiesRise, copies_of, copy_from, copy_of, has_metadata, is_fill, is_fill_note}
+use Rattle.mxf_views.proofs.Common.{is_primer, is_readable_primer, start_of, IsHull, copies_followed, copy_by}
+use Rattle.mxf_views.proofs.Common.{has_some_metadata, states_metadata, is_outside, renewed, PartitionParts}
+use Rattle.mxf_views.proofs.Common.{partition_at, partitions_of, found-In, and_cases, IsContent-reduced_with}
+use Rattle.mxf_views.proofs.Common.{can_bring_start, or_itself, with_found, rises-map, rises-filter, IsNew, clear_after}
+use Rattle.mxf_views.proofs.Common.{IsUnmet, SameOutside}
 use Rattle.mxf_views.specs.Partitions.{in_numbers}
-use Rattle.mxf_views.proofs.KeyedLists.{In-with_keyed, rises-with_keyed}
-use Rattle.mxf_views.proofs.Common.{◌≡◌, ◌≢◌, ℕ, suc, length, ◌-◌, ◌<◌, ◌≤◌, ◌⊎◌, Bool, true, false, cond, List}
-use Rattle.mxf_views.proofs.Common.{[], ◌∷◌, Option, Some, None, refl, sym, ap, subst, ◌∙◌, inl, inr, arith, eqb-true}
-use Rattle.mxf_views.proofs.Common.{eq-eqb, ◌||◌, ◌==◌, nat_lt, find, filter, map, if◌then◌else◌}
-use Rattle.mxf_views.proofs.Common.{cons_option, filter_map, option_and_then, ltb-true, ltb-false}
-use Rattle.mxf_views.proofs.Common.{and_parts, NoteParts, kind_of, end_of, In, IsContent}
-use Rattle.mxf_views.proofs.Common.{reduced_with, IsClear, clear_notes, In-clear_notes, CopyInfo, CopiesRise}
-use Rattle.mxf_views.proofs.Common.{copies_of, copy_from, copy_of, has_metadata, is_fill, is_fill_note, is_primer}
-use Rattle.mxf_views.proofs.Common.{is_readable_primer, start_of, IsHull, copies_followed, copy_by, has_some_metadata}
-use Rattle.mxf_views.proofs.Common.{states_metadata, is_outside, renewed, PartitionParts, partition_at}
-use Rattle.mxf_views.proofs.Common.{partitions_of, In-filter, In-map, find-only, found-In, none_found}
-use Rattle.mxf_views.proofs.Common.{and_cases, IsContent-reduced_with, can_bring_start, or_itself}
-use Rattle.mxf_views.proofs.Common.{with_found, rises-map, rises-filter, IsNew, clear_after, IsUnmet, SameOutside}
-use Rattle.mxf_klv.specs.Rising.{SameMembers}
+use Rattle.mxf_views.proofs.KeptItems.{kept_there, renewed_follow}
+use Rattle.mxf_views.proofs.PartitionLaws.{offset-partition_at, readable_from}
 use Rattle.mxf_views.specs.Kept.{may_change}
-use Rattle.mxf_views.proofs.ClearChanges.{lies_outside, outside_iff, outside_says}
+use Rattle.mxf_views.proofs.ClearChanges.{lies_outside}
 use Rattle.mxf_views.proofs.CopyChanges.{unmet_stays}
 use Rattle.mxf_views.specs.Changes.{LiesWithin}
-use Rattle.mxf_views.proofs.CopyLaws.{copies_rise, copy_there}
-use Rattle.mxf_views.proofs.PartitionLaws.{readable_from}
-use Rattle.mxf_views.proofs.PartitionSearch.{copy_found, has_copy, is_there, of_note, of_partition, one_partition}
-use Rattle.mxf_klv.proofs.RisingBy.{one_by_key, same_by_members}
-use Rattle.mxf_views.proofs.Rising.{by_partition}
+use Rattle.mxf_views.proofs.CopyLaws.{copy_there}
+use Rattle.mxf_views.proofs.PartitionSearch.{copy_found, is_there, of_note, partition_found}
+use Rattle.mxf_views.proofs.KeyedLists.{rise_by}
 use Rattle.mxf_catalogue.specs.Disputes.{is_byte_shared}
 use Rattle.mxf_catalogue.proofs.DisputeLaws.{is_byte_shared-SharesByte}
 
@@ -48,12 +45,6 @@ bytes_are_stated notes p =
 
 pub end-partition_at : (n : NoteParts) (p : PartitionParts) → partition_at n ≡ Some p → p.end ≡ end_of n
 end-partition_at n p e = (readable_from n p e).end
-
-pub partition_found : (notes : List NoteParts) (p : PartitionParts) → In p (partitions_of notes)
-    → find (λ q. q.offset == p.offset) (partitions_of notes) ≡ Some p
-partition_found notes p h =
-    find-only (λ (q : PartitionParts). q.offset == p.offset) (partitions_of notes) p h (eq-eqb p.offset p.offset refl)
-    (λ q k t. one_partition notes q p k h (eqb-true q.offset p.offset t))
 
 -- ---- a copy that stays
 
@@ -137,57 +128,32 @@ pub or_of : (c d : CopyInfo) (o : Option CopyInfo) → o ≡ Some d → or_itsel
 or_of c d o e = ap (or_itself c) e
 
 -- What a copy outside becomes is the copy of its partition, which is still there.
-record Becomes (notes after : List NoteParts) (c d : CopyInfo) : Type 0 where
-  pub partition : PartitionParts
-  pub there : In partition (partitions_of notes)
-  pub stays : In partition (partitions_of after)
-  pub states : has_metadata partition ≡ true
-  pub offset : c.partition ≡ partition.offset
-  pub copy : d ≡ copy_of (clear_notes after) partition
-
-becomes : (x : NoteParts) (notes : List NoteParts) (start end : ℕ) (c : CopyInfo) → IsContent notes
-    → IsNew x notes → IsHull x notes start end → In c (copies_of notes) → is_outside start end c.partition ≡ true
-    → Becomes notes (reduced_with x notes) c (renewed (reduced_with x notes) start end (can_bring_start x) c)
-becomes x notes start end c r new h k out =
+becomes : (x : NoteParts) (notes : List NoteParts) (start end : ℕ) (n : NoteParts) (p : PartitionParts)
+    → IsContent notes → IsNew x notes → IsHull x notes start end → IsClear n notes → (SharesByte x n → ⊥)
+    → partition_at n ≡ Some p → has_metadata p ≡ true
+    → copy_of (clear_notes (reduced_with x notes)) p
+    ≡ renewed (reduced_with x notes) start end (can_bring_start x) (copy_of (clear_notes notes) p)
+becomes x notes start end n p r new h clear far read states =
     let after = reduced_with x notes in
     let brings = can_bring_start x in
-    let a = of_partition notes c k in
-    let p = a.partition in
-    let n = of_note notes p a.there in
-    let clear = (In-clear_notes n.note notes).0 n.clear in
-    let outside : is_outside start end n.note.offset ≡ true =
-    ap (is_outside start end) (sym n.offset ∙ sym a.offset) ∙ out in
-    let far = (outside_iff x n.note notes start end h clear).1 outside in
-    let stays : IsClear n.note after = (clear_after x notes new n.note).1 (inr (clear, far)) in
-    let there : In p (partitions_of after) =
-    is_there after n.note p ((In-clear_notes n.note after).1 stays) n.read in
-    let some : 0 < p.pack.numbers.header_byte_count = ltb-true 0 p.pack.numbers.header_byte_count a.states in
-    let found = copy_found after p.offset p (partition_found after p there) a.states in
+    let c = copy_of (clear_notes notes) p in
+    let here = is_there notes n p ((In-clear_notes n notes).1 clear) read in
+    let stays : IsClear n after = (clear_after x notes new n).1 (inr (clear, far)) in
+    let there : In p (partitions_of after) = is_there after n p ((In-clear_notes n after).1 stays) read in
+    let some : 0 < p.pack.numbers.header_byte_count = ltb-true 0 p.pack.numbers.header_byte_count states in
+    let found = copy_found after p.offset p (partition_found after p there) states in
     let again : or_itself c (find (λ d. d.partition == c.partition) (copies_of after)) ≡ copy_of (clear_notes after) p =
-    ap (λ o. or_itself c (find (λ d. d.partition == o) (copies_of after))) a.offset
+    ap (λ o. or_itself c (find (λ d. d.partition == o) (copies_of after))) (copy_there (clear_notes notes) p)
     ∙ or_of c (copy_of (clear_notes after) p) (find (λ d. d.partition == p.offset) (copies_of after)) found in
-    record {
-      partition = p;
-      there = a.there;
-      stays = there;
-      states = a.states;
-      offset = a.offset;
-      copy = elim (may_change start end brings c c.start) as (λ b. may_change start end brings c c.start ≡ b
-          → cond b (or_itself c (find (λ d. d.partition == c.partition) (copies_of after))) c
-          ≡ copy_of (clear_notes after) p) [
-            | true ↦ λ e. again
-            | false ↦ λ e. a.copy ∙ sym (unmet_stays start end notes after (added_in_hull x notes start end new h) r
-                (IsContent-reduced_with x notes r) p a.there some
-                (unmet x notes start end p c new a.there a.copy some e))
-          ] refl;
-    }
+    elim (may_change start end brings c c.start) as (λ b. may_change start end brings c c.start ≡ b
+    → copy_of (clear_notes after) p
+    ≡ cond b (or_itself c (find (λ d. d.partition == c.partition) (copies_of after))) c) [
+      | true ↦ λ e. sym again
+      | false ↦ λ e. unmet_stays start end notes after (added_in_hull x notes start end new h) r
+          (IsContent-reduced_with x notes r) p here some (unmet x notes start end p c new here refl some e)
+    ] refl
 
 -- ---- lists of copies that rise
-
--- Copies that rise are one list where they are the same.
-same_copies : (cs ds : List CopyInfo) → CopiesRise cs → CopiesRise ds → SameMembers cs ds → cs ≡ ds
-same_copies cs ds r s =
-    same_by_members (λ (c : CopyInfo). c.partition) cs ds ((by_partition cs).0 r) ((by_partition ds).0 s)
 
 -- Counting a copy anew leaves it that of its partition.
 renewed_partition : (notes : List NoteParts) (start end : ℕ) (brings : Bool) (c : CopyInfo)
@@ -209,105 +175,8 @@ pub kept_copies_rise : (notes : List NoteParts) (start end : ℕ) (brings : Bool
 kept_copies_rise notes start end brings cs r =
     let key = λ (c : CopyInfo). c.partition in
     let outside = λ (c : CopyInfo). is_outside start end c.partition in
-    (by_partition _).1 (rises-map key (renewed notes start end brings) key (filter outside cs)
-    (λ c h. renewed_partition notes start end brings c) (rises-filter key outside cs ((by_partition cs).0 r)))
-
--- ---- all copies
-
-module _ (x : NoteParts) (notes : List NoteParts) (start end : ℕ) (r : IsContent notes) (new : IsNew x notes)
-    (h : IsHull x notes start end) where
-  abbrev after : List NoteParts
-  after = reduced_with x notes
-
-  abbrev kept : List CopyInfo
-  kept = filter (λ c. is_outside start end c.partition) (copies_of notes)
-
-  abbrev renew : CopyInfo → CopyInfo
-  renew = renewed (reduced_with x notes) start end (can_bring_start x)
-
-  each : (c : CopyInfo) → In c kept → Becomes notes after c (renew c)
-  each c k =
-      let f = (In-filter (λ (c : CopyInfo). is_outside start end c.partition) (copies_of notes) c).0 k in
-      becomes x notes start end c r new h f.0 f.1
-
-  rises : CopiesRise (map renew kept)
-  rises = kept_copies_rise after start end (can_bring_start x) (copies_of notes) (copies_rise notes r)
-
-  all_rise : CopiesRise (copies_of after)
-  all_rise = copies_rise after (IsContent-reduced_with x notes r)
-
-  -- What is kept and renewed are copies outside of the range.
-  kept_is : (d : CopyInfo) → In d (map renew kept)
-      → In d (copies_of after) × (is_outside start end d.partition ≡ true)
-  kept_is d k =
-      let s = (In-map renew kept d).0 k in
-      let f = (In-filter (λ (c : CopyInfo). is_outside start end c.partition) (copies_of notes) s.0).0 s.1 in
-      let b = each s.0 s.1 in
-      let same : d ≡ copy_of (clear_notes after) b.partition = s.2 ∙ b.copy in
-      let at : d.partition ≡ s.0.partition = ap (λ (y : CopyInfo). y.partition) s.2
-      ∙ renewed_partition after start end (can_bring_start x) s.0 in (
-        subst (λ (y : CopyInfo). In y (copies_of after)) (sym same) (has_copy after b.partition b.stays b.states),
-        ap (is_outside start end) at ∙ f.1,
-      )
-
-  -- Each copy is one of these, or that of the new note.
-  is_kept : (d : CopyInfo) → In d (copies_of after) → In d (map renew kept) ⊎ (d.partition ≡ x.offset)
-  is_kept d k =
-      let a = of_partition after d k in
-      let p = a.partition in
-      let n = of_note after p a.there in
-      elim ((clear_after x notes new n.note).0 ((In-clear_notes n.note after).0 n.clear)) [
-        | inl q ↦ inr (a.offset ∙ n.offset ∙ ap (λ (y : NoteParts). y.offset) q.0)
-        | inr q ↦ (
-            let there = is_there notes n.note p ((In-clear_notes n.note notes).1 q.0) n.read in
-            let c = copy_of (clear_notes notes) p in
-            let held = has_copy notes p there a.states in
-            let at : c.partition ≡ p.offset = copy_there (clear_notes notes) p in
-            let out : is_outside start end c.partition ≡ true =
-            ap (is_outside start end) (at ∙ n.offset) ∙ (outside_iff x n.note notes start end h q.0).0 q.1 in
-            let one = (In-filter (λ (c : CopyInfo). is_outside start end c.partition) (copies_of notes) c).1
-            (held, out) in
-            let b = each c one in
-            let same : b.partition ≡ p = one_partition notes b.partition p b.there there (sym b.offset ∙ at) in
-            inl ((In-map renew kept d).1 (c, one, a.copy ∙ ap (copy_of (clear_notes after)) (sym same) ∙ sym b.copy)))
-      ]
-
-  -- So they are what follows an arrival.
-  pub copies_follow : copies_followed (reduced_with x notes) x.offset start end (can_bring_start x) (copies_of notes)
-      ≡ copies_of (reduced_with x notes)
-  copies_follow =
-      let found = λ (d : CopyInfo). d.partition == x.offset in
-      elim (find found (copies_of after)) as (λ o. find found (copies_of after) ≡ o
-      → with_found (λ (d : CopyInfo). d.partition) o (map renew kept) ≡ copies_of after) [
-        | None ↦ λ e. same_copies (map renew kept) (copies_of after) rises all_rise (λ d. (
-          λ k. (kept_is d k).0,
-          λ k. elim (is_kept d k) [
-            | inl i ↦ i
-            | inr at ↦ absurd (none_found found (copies_of after) d e k (eq-eqb d.partition x.offset at))
-          ],
-        ))
-        | Some c ↦ λ e. (
-            let f = found-In found (copies_of after) c e in
-            let at : c.partition ≡ x.offset = eqb-true c.partition x.offset f.1 in
-            let other : (d : CopyInfo) → In d (map renew kept) → d.partition ≢ c.partition = λ d k q.
-            let high : end_of x ≤ end = h.high in
-            outside_says start end x.offset (ap (is_outside start end) (sym at ∙ sym q) ∙ (kept_is d k).1) h.low
-            (omega (arith, high)) in
-            let key = λ (d : CopyInfo). d.partition in
-            same_copies (with_keyed key c (map renew kept)) (copies_of after)
-            ((by_partition _).1 (rises-with_keyed key c (map renew kept) ((by_partition _).0 rises) other)) all_rise (λ d.
-            let w = In-with_keyed key c d (map renew kept) in (
-              λ k. elim (w.0 k) [
-                | inl q ↦ subst (λ (y : CopyInfo). In y (copies_of after)) (sym q) f.0
-                | inr i ↦ (kept_is d i).0
-              ],
-              λ k. w.1 (elim (is_kept d k) [
-                | inl i ↦ inr i
-                | inr there ↦ inl (one_by_key (λ (y : CopyInfo). y.partition) (copies_of after) d c
-                    ((by_partition (copies_of after)).0 all_rise) k f.0 (there ∙ sym at))
-              ]),
-            )))
-      ] refl
+    (rise_by key _).1 (rises-map key (renewed notes start end brings) key (filter outside cs)
+    (λ c h. renewed_partition notes start end brings c) (rises-filter key outside cs ((rise_by key cs).0 r)))
 
 -- ---- copies by the notes
 
@@ -373,6 +242,55 @@ pub copies_by_notes : (notes : List NoteParts)
     → filter_map (copy_by (clear_notes notes)) (clear_notes notes) ≡ copies_of notes
 unfolding copies_of partitions_of
 copies_by_notes notes = copies_each (clear_notes notes) (clear_notes notes)
+
+-- ---- all copies
+
+own_copy : (clear : List NoteParts) (n : NoteParts) (c : CopyInfo) → copy_by clear n ≡ Some c → c.partition ≡ n.offset
+own_copy clear n c e =
+    elim (partition_at n) as (λ o. partition_at n ≡ o
+    → option_and_then (λ p. if has_metadata p then Some (copy_of clear p) else None) o ≡ Some c
+    → c.partition ≡ n.offset) [
+      | None ↦ λ f q. absurd cc
+      | Some p ↦ λ f. elim (has_metadata p) as (λ b. (if b then Some (copy_of clear p) else None) ≡ Some c
+          → c.partition ≡ n.offset) [
+            | false ↦ λ q. absurd cc
+            | true ↦ λ q. (
+                let same : copy_of clear p ≡ c = cc (q) in
+                ap (λ (y : CopyInfo). y.partition) (sym same) ∙ copy_there clear p ∙ offset-partition_at n p f)
+          ]
+    ] refl e
+
+-- They follow an arrival as what is kept of the notes does.
+pub copies_follow : (x : NoteParts) (notes : List NoteParts) (start end : ℕ) → IsContent notes → IsNew x notes
+    → IsHull x notes start end
+    → copies_followed (reduced_with x notes) x.offset start end (can_bring_start x) (copies_of notes)
+    ≡ copies_of (reduced_with x notes)
+copies_follow x notes start end r new h =
+    let after = reduced_with x notes in
+    let key = λ (c : CopyInfo). c.partition in
+    let renew = renewed after start end (can_bring_start x) in
+    let before = copy_by (clear_notes notes) in
+    let now = copy_by (clear_notes after) in
+    let at : find (λ d. d.partition == x.offset) (copies_of after) ≡ kept_at now after x.offset =
+    ap (find (λ d. d.partition == x.offset)) (sym (copies_by_notes after))
+    ∙ sym (kept_there now key (own_copy (clear_notes after)) after x.offset _ refl) in
+    ap (λ o. with_found key o (map renew (outside key start end (copies_of notes)))) at
+    ∙ ap (λ cs. with_found key (kept_at now after x.offset) (map renew (outside key start end cs)))
+    (sym (copies_by_notes notes))
+    ∙ renewed_follow before now renew key (own_copy (clear_notes notes)) (own_copy (clear_notes after))
+    (renewed_partition after start end (can_bring_start x)) x notes start end r new h (λ n clear far.
+    elim (partition_at n) as (λ o. partition_at n ≡ o
+    → option_and_then (λ p. if has_metadata p then Some (copy_of (clear_notes after) p) else None) o
+    ≡ option_map renew (option_and_then (λ p. if has_metadata p then Some (copy_of (clear_notes notes) p) else None) o)) [
+      | None ↦ λ _. refl
+      | Some p ↦ λ read. elim (has_metadata p) as (λ b. has_metadata p ≡ b
+          → (if b then Some (copy_of (clear_notes after) p) else None)
+          ≡ option_map renew (if b then Some (copy_of (clear_notes notes) p) else None)) [
+            | false ↦ λ _. refl
+            | true ↦ λ states. ap Some (becomes x notes start end n p r new h clear far read states)
+          ] refl
+    ] refl)
+    ∙ copies_by_notes after
 
 -- There are as many as partitions that state header metadata.
 length-copies_each : (clear ns : List NoteParts)

@@ -1,7 +1,6 @@
 -- The bytes of a well-formed file are read as its packets.
-use Rattle.mxf_views.proofs.Common.{◌≡◌, ℕ, ◌+◌, ◌≤◌, List, [], ◌∷◌, ◌++◌, take, Ok, refl, AllByRecursion}
-use Rattle.mxf_views.proofs.Common.{subst, arith, greatest_end, IsPacket, size_of, PacketParts, IsWellFormed}
-use Rattle.mxf_views.proofs.Common.{end_after}
+use Rattle.mxf_views.proofs.Common.{◌≡◌, ℕ, ◌+◌, ◌≤◌, List, [], ◌∷◌, ◌++◌, take, Ok, refl, AllByRecursion, subst, arith}
+use Rattle.mxf_views.proofs.Common.{greatest_end, IsPacket, size_of, PacketParts, IsWellFormed, end_after}
 use Rattle.std.proofs.lemmas.List.{take_at}
 use Rattle.mxf_klv.specs.Packet.{IsSpelledPacket, ReadsPacket, packet_bytes}
 use Rattle.mxf_klv.specs.Piece.{AreLaid, IsPiece}

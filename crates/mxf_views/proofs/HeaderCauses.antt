@@ -2,8 +2,8 @@
 use Rattle.mxf_views.proofs.Common.{◌≡◌, ◌≢◌, ℕ, ◌⊎◌, Bool, true, false, List, [], Option, Some, None, refl, sym, ap}
 use Rattle.mxf_views.proofs.Common.{subst, ◌∙◌, inl, inr, eqb-true, eq-eqb, length, ◌↔◌, ◌&&◌, ◌||◌, ◌==◌, not, is_some}
 use Rattle.mxf_views.proofs.Common.{filter, map, if◌then◌else◌, Kind, NoteParts, keeps_value, kind_of, In, primer_at}
-use Rattle.mxf_views.proofs.Common.{items_of, left_of, storage_at, segment_at, IsContent, clear_notes, CopyInfo, IsCopy}
-use Rattle.mxf_views.proofs.Common.{copies_of, is_primer, resolved_of, lost_at, is_segment, AtClear, IsReadable}
+use Rattle.mxf_views.proofs.Common.{items_of, left_of, storage_at, segment_at, IsContent, CopyInfo, IsCopy}
+use Rattle.mxf_views.proofs.Common.{copies_of, is_primer, resolved_of, lost_at, is_segment, IsReadable}
 use Rattle.mxf_views.proofs.Common.{In-append, not-true-false, not_true, either, or_cases, and_from, false_from_ne_true}
 use Rattle.mxf_views.proofs.Common.{and_parts, preface_at, identification_at, package_at, Ref, Target, Unreadable}
 use Rattle.mxf_views.proofs.Common.{is_set, ResolvedParts, is_partial, lost_beside, lost_by, reads_value, In-chosen}
@@ -12,7 +12,6 @@ use Rattle.mxf_views.specs.declared.reference.target.Target.TheVariants.{Found, 
 use Rattle.mxf_views.specs.SetItems.{whole_items}
 use Rattle.mxf_views.specs.Findings.{is_found, is_unreadable_segment, is_unreadable_set, lost_behind, lost_in}
 use Rattle.mxf_views.specs.FindingCauses.{Holds, HoldsLost, IsMetadataKind, IsReadableSet}
-use Rattle.mxf_views.proofs.CauseLaws.{at_clear}
 use Rattle.mxf_views.proofs.CopyLaws.{copies_are}
 use Rattle.mxf_views.proofs.KindLaws.{primer_kind, segment_kind, set_kind}
 use Rattle.mxf_views.proofs.ReadingLaws.{ok_readable}
@@ -73,14 +72,7 @@ set_readable kinds.ContentStorage n h = ok_readable storage_at n
 set_readable kinds.MaterialPackage n h = ok_readable package_at n
 set_readable kinds.SourcePackage n h = ok_readable package_at n
 set_readable kinds.RawSet n h = raw_readable n
-set_readable (kinds.Header s) n h = absurd cc
-set_readable (kinds.Body s) n h = absurd cc
-set_readable (kinds.Footer s) n h = absurd cc
-set_readable kinds.Segment n h = absurd cc
-set_readable kinds.Rip n h = absurd cc
-set_readable kinds.Fill n h = absurd cc
-set_readable kinds.Essence n h = absurd cc
-set_readable kinds.Other n h = absurd cc
+set_readable _ n h = absurd cc
 
 metadata_kind : (k : Kind) → ((is_primer k || is_set k) ≡ true) ↔ IsMetadataKind k
 metadata_kind k = (
@@ -94,7 +86,7 @@ metadata_kind k = (
   ]),
 )
 
-unreadable_set : (n : NoteParts) → (is_unreadable_set n ≡ true)
+pub unreadable_set : (n : NoteParts) → (is_unreadable_set n ≡ true)
     ↔ (IsMetadataKind (kind_of n.key) × ¬ IsReadableSet (kind_of n.key) n)
 unfolding is_unreadable_set
 unreadable_set n =
@@ -109,17 +101,9 @@ unreadable_set n =
           and_from some (not read) t (not_true read (λ r. s.1 ((set_readable kind n t).0 r))),
     )
 
-pub unreadable_sets : (notes : List NoteParts) (o : ℕ)
-    → In o (map (λ n. n.offset) (filter is_unreadable_set (clear_notes notes)))
-    ↔ AtClear notes o (λ n. IsMetadataKind (kind_of n.key) × ¬ IsReadableSet (kind_of n.key) n)
-unreadable_sets notes o =
-    at_clear is_unreadable_set
-    (λ n. IsMetadataKind (kind_of n.key) × ¬ IsReadableSet (kind_of n.key) n) notes o
-    (λ n _. unreadable_set n)
-
 -- ---- index table segments that can't be read
 
-unreadable_segment : (n : NoteParts) → (is_unreadable_segment n ≡ true)
+pub unreadable_segment : (n : NoteParts) → (is_unreadable_segment n ≡ true)
     ↔ ((kind_of n.key ≡ kinds.Segment) × ¬ IsReadable segment_at n)
 unfolding is_unreadable_segment
 unreadable_segment n =
@@ -134,13 +118,6 @@ unreadable_segment n =
       λ s. and_from (is_segment kind) (not read) (ap is_segment s.0) (not_true read (λ t. s.1 (r.0 (sym (same s.0)
           ∙ t)))),
     )
-
-pub unreadable_segments : (notes : List NoteParts) (o : ℕ)
-    → In o (map (λ n. n.offset) (filter is_unreadable_segment (clear_notes notes)))
-    ↔ AtClear notes o (λ n. (kind_of n.key ≡ kinds.Segment) × ¬ IsReadable segment_at n)
-unreadable_segments notes o =
-    at_clear is_unreadable_segment (λ n. (kind_of n.key ≡ kinds.Segment) × ¬ IsReadable segment_at n) notes o
-    (λ n _. unreadable_segment n)
 
 -- ---- references
 
@@ -179,19 +156,7 @@ In-lost_behind preface (Found w) packages o =
         | inr s ↦ m.1 (let t = s.0 in let same : w ≡ o = cc (t) in same, s.1)
       ],
     )
-In-lost_behind preface Missing packages o = (
-  λ h. elim h [ inl q ↦ inl (q, λ found e. cc) | inr k ↦ absurd k ],
-  λ h. elim h [ inl s ↦ inl s.0 | inr s ↦ absurd (let t = s.0 in cc (t)) ],
-)
-In-lost_behind preface Several packages o = (
-  λ h. elim h [ inl q ↦ inl (q, λ found e. cc) | inr k ↦ absurd k ],
-  λ h. elim h [ inl s ↦ inl s.0 | inr s ↦ absurd (let t = s.0 in cc (t)) ],
-)
-In-lost_behind preface (WrongKind w) packages o = (
-  λ h. elim h [ inl q ↦ inl (q, λ found e. cc) | inr k ↦ absurd k ],
-  λ h. elim h [ inl s ↦ inl s.0 | inr s ↦ absurd (let t = s.0 in cc (t)) ],
-)
-In-lost_behind preface (Unreadable w) packages o = (
+In-lost_behind preface _ packages o = (
   λ h. elim h [ inl q ↦ inl (q, λ found e. cc) | inr k ↦ absurd k ],
   λ h. elim h [ inl s ↦ inl s.0 | inr s ↦ absurd (let t = s.0 in cc (t)) ],
 )

@@ -3,17 +3,17 @@ use Rattle.mxf_views.proofs.Common.{◌≡◌, ℕ, Bool, List, [], ◌∷◌, O
 use Rattle.mxf_views.proofs.Common.{NoteParts, clear_notes, CopyInfo, copies_of, KeptParts, copies_followed, followed}
 use Rattle.mxf_views.proofs.Common.{kept_among, kept_at, kept_partition, kept_random_index_pack, kept_segment}
 use Rattle.mxf_views.proofs.Common.{kept_unreadable_pack, notes_at, reaches_of, partition_at, partitions_of, not}
-use Rattle.mxf_views.proofs.Common.{placed_segment, segments_of, rips_of, kept_of, can_bring_start, nothing_kept, map}
+use Rattle.mxf_views.proofs.Common.{placed_segment, segments_of, kept_of, can_bring_start, nothing_kept, map}
 use Rattle.mxf_views.proofs.Common.{cons_option, find, ◌==◌, filter_map, In, inl, inr, IsContent, IsNonDecreasingBy, RiseBy}
 use Rattle.mxf_views.proofs.Common.{PartitionParts, SegmentAtParts, option_map, outside, never_falls}
-use Rattle.mxf_views.proofs.Common.{is_no_unreadable_pack, is_outside, is_rip_note, rises-filter}
+use Rattle.mxf_views.proofs.Common.{is_no_unreadable_pack, is_outside, is_rip_note, rises-filter, cond, filter}
+use Rattle.mxf_views.proofs.Common.{is_kept, is_some, partitions_among, segments_among}
 use Rattle.mxf_views.specs.declared.kept.arrival.Arrival.{Arrival}
-use Rattle.mxf_views.specs.Kept.{HasArrived, offset_if, partitions_at, segments_at}
+use Rattle.mxf_views.specs.Kept.{HasArrived, offset_if}
 use Rattle.mxf_views.specs.Partitions.{in_numbers}
 use Rattle.mxf_views.specs.Places.{without_entries}
-use Rattle.mxf_views.proofs.ClearChanges.{notes_at_offsets}
-use Rattle.mxf_views.proofs.CopyUpdates.{copies_follow, partition_found}
-use Rattle.mxf_views.proofs.KeptItems.{kept_follow, kept_found, kept_rise}
+use Rattle.mxf_views.proofs.CopyUpdates.{copies_follow}
+use Rattle.mxf_views.proofs.KeptItems.{kept_follow, kept_found, kept_if, kept_rise, notes_kept}
 use Rattle.mxf_views.proofs.KeyedLists.{rise_by}
 use Rattle.mxf_views.proofs.PartitionLaws.{offset-partition_at}
 use Rattle.mxf_views.proofs.SegmentLaws.{offset-placed_segment}
@@ -134,41 +134,52 @@ partitions_rise_by notes r =
 pub segments_rise_by : (notes : List NoteParts) → IsContent notes → RiseBy (λ s. s.offset) (kept_among kept_segment notes)
 segments_rise_by notes r = (rise_by _ _).1 (kept_rise kept_segment (λ s. s.offset) offset-kept_segment notes r)
 
--- Each is found where it stands.
-each_at : {A : Type 0} (key : A → ℕ) (f : A → A) → ((x : A) → key (f x) ≡ key x) → (all xs : List A)
-    → ((x : A) → In x xs → find (λ y. key y == key x) all ≡ Some x)
-    → filter_map (λ k. find (λ y. key y == key k) all) (map f xs) ≡ xs
-each_at key f same all [] found = refl
-each_at key f same all (x ∷ xs) found =
-    ap (λ o. cons_option o (filter_map (λ k. find (λ y. key y == key k) all) (map f xs)))
-    (ap (λ o. find (λ y. key y == o) all) (same x) ∙ found x (inl refl))
-    ∙ ap (λ l. x ∷ l) (each_at key f same all xs (λ y h. found y (inr h)))
+-- What is read of the notes that it is kept of is what is read of all clear ones.
+read_again : {A B : Type 0} (f : A → B) (take : NoteParts → Option A) (ns : List NoteParts)
+    → filter_map take (filter (is_kept (λ n. option_map f (take n))) ns) ≡ filter_map take ns
+read_again f take [] = refl
+read_again f take (n ∷ ns) =
+    let left = filter (is_kept (λ n. option_map f (take n))) ns in
+    let ih = read_again f take ns in
+    elim (take n) as (λ o. take n ≡ o → filter_map take (cond (is_some (option_map f o)) (n ∷ left) left)
+    ≡ cons_option o (filter_map take ns)) [
+      | None ↦ λ e. ih
+      | Some x ↦ λ e. ap (λ o. cons_option o (filter_map take left)) e ∙ ap (λ l. x ∷ l) ih
+    ] refl
 
-pub partitions_kept : (notes : List NoteParts) (kept : List PartitionParts)
-    → kept ≡ kept_among kept_partition notes → partitions_at notes kept ≡ partitions_of notes
+pub partitions_kept : (notes : List NoteParts) (kept : List PartitionParts) → kept ≡ kept_among kept_partition notes
+    → partitions_among (notes_at (λ p. p.offset) notes kept) ≡ partitions_of notes
+unfolding partitions_of
 partitions_kept notes kept e =
-    ap (partitions_at notes) (e ∙ partitions_in_numbers notes)
-    ∙ each_at (λ (p : PartitionParts). p.offset) in_numbers (λ p. refl) (partitions_of notes) (partitions_of notes)
-    (partition_found notes)
+    ap (λ l. partitions_among (notes_at (λ p. p.offset) notes l)) e
+    ∙ ap partitions_among (notes_kept kept_partition (λ p. p.offset) offset-kept_partition notes)
+    ∙ read_again in_numbers partition_at (clear_notes notes)
+
+pub segments_kept : (notes : List NoteParts) (kept : List SegmentAtParts) → kept ≡ kept_among kept_segment notes
+    → segments_among (notes_at (λ s. s.offset) notes kept) ≡ segments_of notes
+unfolding segments_of
+segments_kept notes kept e =
+    ap (λ l. segments_among (notes_at (λ s. s.offset) notes l)) e
+    ∙ ap segments_among (notes_kept kept_segment (λ s. s.offset) offset-kept_segment notes)
+    ∙ read_again without_entries placed_segment (clear_notes notes)
 
 -- Segments of the notes are found by what they state in numbers.
 pub segments_found : (notes : List NoteParts) (ss : List SegmentAtParts)
-    → ((s : SegmentAtParts) → In s ss → In s (segments_of notes)) → segments_at notes (map without_entries ss) ≡ ss
+    → ((s : SegmentAtParts) → In s ss → In s (segments_of notes))
+    → filter_map (λ k. find (λ s. s.offset == k.offset) (segments_of notes)) (map without_entries ss) ≡ ss
 unfolding segments_of
-segments_found notes ss there =
-    each_at (λ (s : SegmentAtParts). s.offset) without_entries (λ s. refl) (kept_among placed_segment notes) ss
-    (λ s h. kept_found placed_segment (λ s. s.offset) offset-placed_segment notes s (there s h))
+segments_found notes [] there = refl
+segments_found notes (s ∷ ss) there =
+    let all = segments_of notes in
+    ap (λ o. cons_option o (filter_map (λ k. find (λ s. s.offset == k.offset) all) (map without_entries ss)))
+    (kept_found placed_segment (λ s. s.offset) offset-placed_segment notes s (there s (inl refl)))
+    ∙ ap (λ l. s ∷ l) (segments_found notes ss (λ t h. there t (inr h)))
 
-pub segments_kept : (notes : List NoteParts) (kept : List SegmentAtParts) → kept ≡ kept_among kept_segment notes
-    → segments_at notes kept ≡ segments_of notes
-unfolding segments_of
-segments_kept notes kept e =
-    ap (segments_at notes) (e ∙ segments_in_numbers notes)
-    ∙ segments_found notes (segments_of notes) (λ s h. h)
-
-pub rips_kept : (notes : List NoteParts) (offsets : List ℕ)
-    → offsets ≡ kept_among kept_random_index_pack notes
-    → notes_at notes offsets ≡ rips_of notes
-unfolding rips_of
-rips_kept notes offsets e =
-    ap (notes_at notes) e ∙ notes_at_offsets is_rip_note notes
+-- The clear notes of a kind are those at the offsets where such notes stand.
+pub notes_at_offsets : (test : NoteParts → Bool) (notes : List NoteParts) (offsets : List ℕ)
+    → offsets ≡ kept_among (λ n. offset_if (test n) n) notes
+    → notes_at (λ o. o) notes offsets ≡ filter test (clear_notes notes)
+notes_at_offsets test notes offsets e =
+    ap (notes_at (λ o. o) notes) e
+    ∙ notes_kept (λ n. offset_if (test n) n) (λ o. o) (offset-offset_if test) notes
+    ∙ (λ i. filter (λ n. kept_if test n i) (clear_notes notes))

@@ -116,10 +116,6 @@ module _ {A : Type 0} (key : A → ℕ) where
             omega (arith, a, o, m, at))
       ])
 
-  pub none_above : (low : ℕ) (xs : List A) → length xs ≤ 0 → list_any (λ x. nat_lt low (key x)) xs ≡ false
-  none_above low [] l = refl
-  none_above low (x ∷ xs) l = absurd (omega (arith, l))
-
   -- None lies between where all are at or below the lower one.
   pub none_between : (low high : ℕ) (xs : List A) (i : ℕ) → length xs ≤ i → AllWithin (λ x. key x ≤ low) xs 0 i
       → i ≤ length xs → list_any (λ x. lies_between low high (key x)) xs ≡ false

@@ -2,13 +2,14 @@
 use Rattle.mxf_views.proofs.Common.{◌≡◌, ℕ, ◌+◌, ◌==◌, true, false, List, [], ◌∷◌, cond, filter_map, None, Some, refl}
 use Rattle.mxf_views.proofs.Common.{AllByRecursion, cons_option, option_map, option_map_or, sym, ◌∙◌, ap, inl, inr}
 use Rattle.mxf_views.proofs.Common.{tied_itself, kind_of, note_of, size_of, PacketParts, notes_from, In, with_one}
-use Rattle.mxf_views.proofs.Common.{union, stream_offset, segment_at, SegmentAtParts, is_segment, pair_cmp, place_by}
+use Rattle.mxf_views.proofs.Common.{union, stream_offset, segment_at, SegmentAtParts, is_segment, place_cmp, place_by}
 use Rattle.mxf_views.proofs.Common.{place_of, placed_segment, segments_of, place_by_segment, segments_read}
-use Rattle.mxf_views.proofs.Common.{read_segment, Agree, IsWellFormed, Pair, Place, NotIndexed, At, Ambiguous, pair_of}
+use Rattle.mxf_views.proofs.Common.{read_segment, Agree, IsWellFormed, StreamPlace, Place, NotIndexed, At, Ambiguous, given_by}
 use Rattle.mxf_views.proofs.Common.{HasIndexOf, clear-laid}
+use Rattle.mxf_views.specs.Places.{in_stream, place_in}
 use Rattle.mxf_views.specs.Reading.{place_read, segment_read}
 use Rattle.mxf_views.proofs.Laid.{read_as-note}
-use Rattle.mxf_views.proofs.PlaceLaws.{pair_total, same_pair}
+use Rattle.mxf_views.proofs.PlaceLaws.{place_total, same_place}
 
 -- The segment of a packet's note is that of the packet.
 segment-note : (at : ℕ) (p : PacketParts) → placed_segment (note_of at p) ≡ segment_read at p
@@ -25,8 +26,8 @@ segments_of-laid : (at : ℕ) (l : List PacketParts) → segments_of (notes_from
 unfolding segments_of
 segments_of-laid at l = ap (filter_map placed_segment) (clear-laid at l) ∙ filter_map-laid at l
 
--- The place of a pair, and its numbers.
-abbrev place_at : Pair → Place
+-- Where a unit is put of which one place is given, and its numbers.
+abbrev place_at : StreamPlace → Place
 place_at p = At p.body_sid p.offset
 
 abbrev stream_in : Place → ℕ
@@ -39,57 +40,50 @@ offset_in NotIndexed = 0
 offset_in (At body_sid offset) = offset
 offset_in (Ambiguous p q) = 0
 
-pair_from_place : (p q : Pair) → place_at p ≡ place_at q → p ≡ q
-pair_from_place p q e = same_pair p q (ap stream_in e) (ap offset_in e)
+from_place : (p q : StreamPlace) → place_at p ≡ place_at q → p ≡ q
+from_place p q e = same_place p q (ap stream_in e) (ap offset_in e)
 
-place-pair : (sid unit : ℕ) (s : SegmentAtParts)
-    → place_by_segment sid unit s.segment ≡ option_map place_at (pair_of sid unit s)
-unfolding pair_of
-place-pair sid unit s =
+place-given : (sid unit : ℕ) (s : SegmentAtParts)
+    → place_by_segment sid unit s.segment ≡ option_map place_at (given_by sid unit s)
+unfolding given_by
+place-given sid unit s =
     elim (s.segment.numbers.index_sid == sid) as (λ b.
     cond b (option_map (At s.segment.numbers.body_sid) (stream_offset s.segment unit)) None
-    ≡ option_map place_at (cond b (option_map (λ offset. record {
-      body_sid = s.segment.numbers.body_sid;
-      offset = offset;
-    })
-    (stream_offset s.segment unit)) None)) [
+    ≡ option_map place_at (cond b (place_in unit s) None)) [
       | true ↦ elim (stream_offset s.segment unit) as (λ o. option_map (At s.segment.numbers.body_sid) o
-          ≡ option_map place_at (option_map (λ offset. record {
-            body_sid = s.segment.numbers.body_sid;
-            offset = offset;
-          }) o)) [
+          ≡ option_map place_at (option_map (in_stream s) o)) [
             | None ↦ refl
             | Some offset ↦ refl
           ]
       | false ↦ refl
     ]
 
--- Segments give one pair where they agree.
-one_pair : (segments : List SegmentAtParts) (sid unit : ℕ) (s t : SegmentAtParts) (p q : Pair) → Agree segments
-    → In s segments → In t segments → pair_of sid unit s ≡ Some p → pair_of sid unit t ≡ Some q → p ≡ q
-one_pair segments sid unit s t p q a h k e f =
-    pair_from_place p q (a s t sid unit (place_at p) (place_at q) h k
-    (place-pair sid unit s ∙ ap (option_map place_at) e) (place-pair sid unit t ∙ ap (option_map place_at) f))
+-- Segments give one place where they agree.
+one_given : (segments : List SegmentAtParts) (sid unit : ℕ) (s t : SegmentAtParts) (p q : StreamPlace) → Agree segments
+    → In s segments → In t segments → given_by sid unit s ≡ Some p → given_by sid unit t ≡ Some q → p ≡ q
+one_given segments sid unit s t p q a h k e f =
+    from_place p q (a s t sid unit (place_at p) (place_at q) h k
+    (place-given sid unit s ∙ ap (option_map place_at) e) (place-given sid unit t ∙ ap (option_map place_at) f))
 
 agree_later : (s : SegmentAtParts) (ss : List SegmentAtParts) → Agree (s ∷ ss) → Agree ss
 agree_later s ss a = λ t u sid unit p q h k e f. a t u sid unit p q (inr h) (inr k) e f
 
--- Pairs that are all one are one.
-one_alone : (p : Pair) (xs : List Pair) → AllByRecursion (λ x. x ≡ p) xs → union pair_cmp (p ∷ []) xs ≡ p ∷ []
+-- Places that are all one are one.
+one_alone : (p : StreamPlace) (xs : List StreamPlace) → AllByRecursion (λ x. x ≡ p) xs → union place_cmp (p ∷ []) xs ≡ p ∷ []
 one_alone p [] a = refl
 one_alone p (x ∷ xs) a =
-    let e : with_one pair_cmp x (p ∷ []) ≡ p ∷ [] =
-    ap (λ z. with_one pair_cmp z (p ∷ [])) a.0 ∙ rw (tied_itself pair_total p) refl in
-    ap (λ l. union pair_cmp l xs) e ∙ one_alone p xs a.1
+    let e : with_one place_cmp x (p ∷ []) ≡ p ∷ [] =
+    ap (λ z. with_one place_cmp z (p ∷ [])) a.0 ∙ rw (tied_itself place_total p) refl in
+    ap (λ l. union place_cmp l xs) e ∙ one_alone p xs a.1
 
-all_one : (sid unit : ℕ) (p : Pair) (ss : List SegmentAtParts)
-    → ((t : SegmentAtParts) (q : Pair) → In t ss → pair_of sid unit t ≡ Some q → q ≡ p)
-    → AllByRecursion (λ x. x ≡ p) (filter_map (pair_of sid unit) ss)
+all_one : (sid unit : ℕ) (p : StreamPlace) (ss : List SegmentAtParts)
+    → ((t : SegmentAtParts) (q : StreamPlace) → In t ss → given_by sid unit t ≡ Some q → q ≡ p)
+    → AllByRecursion (λ x. x ≡ p) (filter_map (given_by sid unit) ss)
 all_one sid unit p [] f = tt
 all_one sid unit p (s ∷ ss) f =
     let ih = all_one sid unit p ss (λ t q h e. f t q (inr h) e) in
-    elim (pair_of sid unit s) as (λ o. pair_of sid unit s ≡ o
-    → AllByRecursion (λ x. x ≡ p) (cons_option o (filter_map (pair_of sid unit) ss))) [
+    elim (given_by sid unit s) as (λ o. given_by sid unit s ≡ o
+    → AllByRecursion (λ x. x ≡ p) (cons_option o (filter_map (given_by sid unit) ss))) [
       | None ↦ λ e. ih
       | Some q ↦ λ e. (f s q (inl refl) e, ih)
     ] refl
@@ -98,14 +92,14 @@ all_one sid unit p (s ∷ ss) f =
 place-read : (sid unit : ℕ) (ss : List SegmentAtParts) → Agree ss → place_of ss sid unit ≡ place_read sid unit ss
 place-read sid unit [] a = refl
 place-read sid unit (s ∷ ss) a =
-    (elim (pair_of sid unit s) as (λ o. pair_of sid unit s ≡ o
-    → place_by (union pair_cmp [] (cons_option o (filter_map (pair_of sid unit) ss)))
+    (elim (given_by sid unit s) as (λ o. given_by sid unit s ≡ o
+    → place_by (union place_cmp [] (cons_option o (filter_map (given_by sid unit) ss)))
     ≡ option_map_or (λ place. place) (option_map place_at o) (place_read sid unit ss)) [
       | None ↦ λ e. place-read sid unit ss (agree_later s ss a)
-      | Some p ↦ λ e. ap place_by (one_alone p (filter_map (pair_of sid unit) ss)
-          (all_one sid unit p ss (λ t q h g. one_pair (s ∷ ss) sid unit t s q p a (inr h) (inl refl) g e)))
+      | Some p ↦ λ e. ap place_by (one_alone p (filter_map (given_by sid unit) ss)
+          (all_one sid unit p ss (λ t q h g. one_given (s ∷ ss) sid unit t s q p a (inr h) (inl refl) g e)))
     ] refl)
-    ∙ ap (λ o. option_map_or (λ (place : Place). place) o (place_read sid unit ss)) (sym (place-pair sid unit s))
+    ∙ ap (λ o. option_map_or (λ (place : Place). place) o (place_read sid unit ss)) (sym (place-given sid unit s))
 
 -- The index of a well-formed file.
 pub index-laid : (l : List PacketParts) → IsWellFormed l → HasIndexOf (notes_from 0 l) l

@@ -1,16 +1,14 @@
 -- The partitions of a well-formed file: no dispute and no gap, and the links and the chain of its reading.
-use Rattle.mxf_views.proofs.Common.{◌≡◌, ℕ, ◌+◌, Bool, true, false, cond, max, not, ◌&&◌, ◌||◌, ◌==◌, List, []}
-use Rattle.mxf_views.proofs.Common.{◌∷◌, ◌++◌, count_by, length, None, Some, Option}
-use Rattle.mxf_views.proofs.Common.{is_some, refl, AllByRecursion, cons_option, list_all, option_map, result_ok, sym}
-use Rattle.mxf_views.proofs.Common.{◌∙◌, ap, subst, arith, Kind, Status, kind_of, note_of, end_of, size_of}
-use Rattle.mxf_views.proofs.Common.{PacketParts, NoteParts, notes_from, PackPart, Header, Body, Footer, pack_at}
-use Rattle.mxf_views.proofs.Common.{part_and_status, PartitionPackParts, pack_kind, Whole, Broken}
-use Rattle.mxf_views.proofs.Common.{PartitionParts, is_footer, is_greatest, is_header, is_linked, link_at}
-use Rattle.mxf_views.proofs.Common.{is_no_unreadable_pack, partition_at, partitions_of, partition_read, partitions_read}
-use Rattle.mxf_views.proofs.Common.{read_pack, EndsWithFooter, IsFooterPack, IsPartitionPack, IsWellFormed}
-use Rattle.mxf_views.proofs.Common.{is_readable_as, total_of, le-ltb, keeps}
-use Rattle.mxf_views.proofs.Common.{gaps_from, link_read_at, links_read, IsHeaderPack, HasPartitionsOf}
-use Rattle.mxf_views.proofs.Common.{clear-laid, all-right}
+use Rattle.mxf_views.proofs.Common.{◌≡◌, ℕ, ◌+◌, Bool, true, false, cond, max, not, ◌&&◌, ◌||◌, ◌==◌, List, [], ◌∷◌}
+use Rattle.mxf_views.proofs.Common.{◌++◌, count_by, length, None, Some, Option, is_some, refl, AllByRecursion}
+use Rattle.mxf_views.proofs.Common.{cons_option, list_all, option_map, result_ok, sym, ◌∙◌, ap, subst, arith, Kind}
+use Rattle.mxf_views.proofs.Common.{Status, kind_of, note_of, end_of, size_of, PacketParts, NoteParts, notes_from}
+use Rattle.mxf_views.proofs.Common.{PackPart, Header, Body, Footer, pack_at, part_and_status, PartitionPackParts}
+use Rattle.mxf_views.proofs.Common.{pack_kind, Whole, Broken, PartitionParts, is_footer, is_greatest, is_header}
+use Rattle.mxf_views.proofs.Common.{is_linked, link_at, is_no_unreadable_pack, partition_at, partitions_of}
+use Rattle.mxf_views.proofs.Common.{partition_read, partitions_read, read_pack, EndsWithFooter, IsFooterPack}
+use Rattle.mxf_views.proofs.Common.{IsPartitionPack, IsWellFormed, is_readable_as, total_of, le-ltb, keeps, gaps_from}
+use Rattle.mxf_views.proofs.Common.{link_read_at, links_read, IsHeaderPack, HasPartitionsOf, clear-laid, all-right}
 use Rattle.mxf_views.specs.Reading.{chain_read}
 use Rattle.mxf_views.specs.WellFormed.{BeginsWithHeader, IsReadable}
 use Rattle.mxf_views.proofs.Laid.{partition-note, partitions_of-laid}

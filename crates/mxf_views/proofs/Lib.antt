@@ -45,7 +45,6 @@ pub mod ReachLaws
 pub mod ReadingLaws
 pub mod RefusedLaws
 pub mod ResolvedLaws
-pub mod Rising
 pub mod RisingPartitions
 pub mod RunLaws
 pub mod SameViewsLaws

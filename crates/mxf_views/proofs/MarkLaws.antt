@@ -1,8 +1,7 @@
 -- Marks among notes, and what lies in a range by two of them.
-use Rattle.mxf_views.proofs.Common.{◌≡◌, ◌∙◌, ℕ, ◌+◌, ◌-◌, ◌≤◌, ◌⊎◌, false, cond, List, [], ◌∷◌, ◌++◌}
-use Rattle.mxf_views.proofs.Common.{refl, ap, append_assoc, arith, get_or, inl, inr, length}
-use Rattle.mxf_views.proofs.Common.{subst, sym, count_by, IsNonDecreasingBy}
-use Rattle.mxf_views.proofs.Common.{false_from_ne_true, sum_by-append, sum_by-cons, NoteParts}
+use Rattle.mxf_views.proofs.Common.{◌≡◌, ◌∙◌, ℕ, ◌+◌, ◌-◌, ◌≤◌, ◌⊎◌, false, cond, List, [], ◌∷◌, ◌++◌, refl, ap}
+use Rattle.mxf_views.proofs.Common.{append_assoc, arith, get_or, inl, inr, length, subst, sym, count_by}
+use Rattle.mxf_views.proofs.Common.{IsNonDecreasingBy, false_from_ne_true, sum_by-append, sum_by-cons, NoteParts}
 use Rattle.mxf_views.proofs.Common.{end_of, In, IsCatalogue, AreApart, clear_notes, lies_in, Mark, covered_of}
 use Rattle.mxf_views.proofs.Common.{is_preface_note, prefaces_of, zone_of, clear_from, is_in_one, sizes, AreInRange}
 use Rattle.mxf_views.proofs.Common.{count_by-cons, tally, length-filter_le, In-at, In-append, same_bool}
@@ -126,19 +125,6 @@ pub record AreCounted (all : List NoteParts) (marks : List Mark) (covered prefac
   pub split : all ≡ before ++ left
   pub covered_is : covered ≡ sizes before
   pub prefaces_is : prefaces ≡ count_by is_preface_note before
-
-pub no_marks : (all : List NoteParts) → AreMarks all []
-no_marks all = record { each = λ m h. absurd h; rise = λ i j d l h. absurd (omega arith) }
-
-pub counted_none : (all : List NoteParts) (marks : List Mark) → marks ≡ [] → AreCounted all marks 0 0 all
-counted_none all marks e = subst (λ (l : List Mark). AreCounted all l 0 0 all) (sym e) (record {
-  marks_are = no_marks all;
-  low = λ m h n i. absurd h;
-  before = [];
-  split = refl;
-  covered_is = refl;
-  prefaces_is = refl;
-})
 
 module _ (all : List NoteParts) (marks : List Mark) (covered prefaces : ℕ) (n : NoteParts) (left rest : List NoteParts)
     (a : AreApart 0 all) (k : AreCounted all marks covered prefaces left) (e : left ≡ n ∷ rest) where

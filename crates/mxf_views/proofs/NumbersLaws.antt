@@ -1,17 +1,16 @@
 -- What is said of partitions by their numbers, and of the partitions themselves, by definitions that look at no label.
-use Rattle.mxf_views.proofs.Common.{◌≡◌, ◌∙◌, ℕ, Bool, true, false, cond, List, [], ◌∷◌, Option, None, Some, ap, refl, sym}
-use Rattle.mxf_views.proofs.Common.{◌==◌, ◌&&◌, ◌||◌, filter, find, if◌then◌else◌, list_any, map, nat_le, not, option_map}
-use Rattle.mxf_views.proofs.Common.{NoteParts, One, PartitionParts, RipEntry, RipParts, are_entries_of, footer_stands_at}
-use Rattle.mxf_views.proofs.Common.{is_footer, lies_between, partitions_of, rip_in, rip_view_among, rip_view_by}
-use Rattle.mxf_views.proofs.Common.{standing_of, stands_at, stands_between}
+use Rattle.mxf_views.proofs.Common.{◌≡◌, ◌∙◌, ℕ, Bool, true, false, cond, List, [], ◌∷◌, Option, None, Some, ap, refl}
+use Rattle.mxf_views.proofs.Common.{sym, ◌==◌, ◌&&◌, ◌||◌, filter, find, if◌then◌else◌, list_any, map, nat_le, not}
+use Rattle.mxf_views.proofs.Common.{option_map, NoteParts, One, PartitionParts, RipEntry, RipParts, are_entries_of}
+use Rattle.mxf_views.proofs.Common.{footer_stands_at, is_footer, lies_between, partitions_of, rip_in, rip_view_among}
+use Rattle.mxf_views.proofs.Common.{rip_view_by, standing_of, stands_at, stands_between, ◌+◌, count_by, cons_option}
+use Rattle.mxf_views.proofs.Common.{count_by-cons, eqb-true, filter_map, found-In, link_of, list_all, tally}
 use Rattle.mxf_views.specs.Findings.{is_partition_cause}
 use Rattle.mxf_views.specs.Partitions.{in_numbers, link_by}
 use Rattle.mxf_views.specs.RandomIndex.{standing_by, standings_among}
 use Rattle.mxf_views.specs.declared.chain.Link.TheVariants.{First, Held, Missing, Skips, Wrong}
 use Rattle.mxf_views.specs.declared.finding.Code.{Code}
 use Rattle.mxf_views.specs.declared.finding.Code.TheVariants.{F05, F06, F07, F08}
-use Rattle.mxf_views.proofs.Common.{◌+◌, count_by, cons_option, count_by-cons, eqb-true, filter_map, found-In}
-use Rattle.mxf_views.proofs.Common.{link_of, list_all, tally}
 use Rattle.mxf_views.proofs.PartitionSearch.{footer_found, footer_lacked}
 
 pub any_mapped : {A B : Type 0} (t : B → Bool) (f : A → B) (xs : List A)

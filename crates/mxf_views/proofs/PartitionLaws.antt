@@ -3,15 +3,15 @@ use Rattle.mxf_views.proofs.Common.{◌≡◌, ℕ, ◌<◌, ◌≤◌, Bool, tr
 use Rattle.mxf_views.proofs.Common.{inl, inr, arith, eqb-true, eq-eqb, leb-true, ◌↔◌, ◌&&◌, ◌==◌, nat_le, nat_lt, find}
 use Rattle.mxf_views.proofs.Common.{not, if◌then◌else◌, option_map, ltb-true, lt-ltb, and_from, and_parts, NoteParts}
 use Rattle.mxf_views.proofs.Common.{end_of, kind_of, In, pack_at, PartitionPackParts, IsContent, clear_notes}
-use Rattle.mxf_views.proofs.Common.{In-clear_notes, AreApart-clear_notes, First, Held, PartitionParts, AreInOrder}
-use Rattle.mxf_views.proofs.Common.{pack_of, partition_at, partitions_of, link_of, link_at, list_any-In, found-In}
-use Rattle.mxf_views.proofs.Common.{find-only, In-filter_map, cases_lt, leb-false, Link, Skips, Missing, Wrong}
-use Rattle.mxf_views.proofs.Common.{StandsAt, IsGreatestBelow, IsLink, stands_at, stands_between, apart_rises}
-use Rattle.mxf_views.proofs.Common.{one_by_key, rises-filter_map, keeps_value, none_some, pack_under, part_and_status}
-use Rattle.mxf_views.proofs.Common.{result_ok}
+use Rattle.mxf_views.proofs.Common.{In-clear_notes, First, Held, PartitionParts, AreInOrder, pack_of, partition_at}
+use Rattle.mxf_views.proofs.Common.{partitions_of, link_of, link_at, list_any-In, found-In, find-only, In-filter_map}
+use Rattle.mxf_views.proofs.Common.{cases_lt, leb-false, Link, Skips, Missing, Wrong, StandsAt, IsGreatestBelow, IsLink}
+use Rattle.mxf_views.proofs.Common.{stands_at, stands_between, one_by_key, keeps_value, none_some, pack_under}
+use Rattle.mxf_views.proofs.Common.{part_and_status, result_ok}
 use Rattle.mxf_views.specs.Partitions.{IsReadablePack, IsPartition, IsLinkAt, previous_of}
+use Rattle.mxf_views.proofs.KeptItems.{kept_rise}
 use Rattle.mxf_views.proofs.ReadingLaws.{reads}
-use Rattle.mxf_views.proofs.Rising.{by_offset}
+use Rattle.mxf_views.proofs.KeyedLists.{rise_by}
 
 -- ---- which partitions there are
 
@@ -69,14 +69,13 @@ partitions_are notes p =
 pub partitions_rise : (notes : List NoteParts) → IsContent notes → AreInOrder (partitions_of notes)
 unfolding partitions_of
 partitions_rise notes r =
-    let clear = clear_notes notes in
-    (by_offset _).1 (rises-filter_map (λ n. n.offset) partition_at (λ p. p.offset) clear offset-partition_at
-    (apart_rises 0 clear (AreApart-clear_notes notes r)))
+    (rise_by (λ (p : PartitionParts). p.offset) _).1
+    (kept_rise partition_at (λ p. p.offset) offset-partition_at notes r)
 
 -- At one offset one partition stands at most.
 pub one_there : (ps : List PartitionParts) (p q : PartitionParts) → AreInOrder ps → In p ps → In q ps
     → p.offset ≡ q.offset → p ≡ q
-one_there ps p q r = one_by_key (λ z. z.offset) ps p q ((by_offset ps).0 r)
+one_there ps p q r = one_by_key (λ z. z.offset) ps p q ((rise_by (λ (p : PartitionParts). p.offset) ps).0 r)
 
 -- ---- links
 

@@ -1,11 +1,12 @@
 -- Partitions found by search among the clear notes.
 use Rattle.mxf_views.proofs.Common.{◌≡◌, ℕ, true, false, List, Option, Some, None, refl, sym, ap, ◌∙◌, eqb-true, eq-eqb}
 use Rattle.mxf_views.proofs.Common.{◌&&◌, ◌==◌, find, filter, is_some, option_and_then, and_from, false_from_ne_true}
-use Rattle.mxf_views.proofs.Common.{and_parts, NoteParts, In, clear_notes, In-clear_notes, clear-alone, CopyInfo}
+use Rattle.mxf_views.proofs.Common.{and_parts, NoteParts, In, clear_notes, CopyInfo}
 use Rattle.mxf_views.proofs.Common.{copies_of, copy_of, has_metadata, PartitionParts, is_footer, partition_at}
 use Rattle.mxf_views.proofs.Common.{partitions_of, In-filter, In-map, list_any-In, find-none, find-only, found-In}
 use Rattle.mxf_views.proofs.Common.{none_found, In-filter_map, same_bool, footer_stands_at, stands_at}
 use Rattle.mxf_views.proofs.CopyLaws.{copy_there}
+use Rattle.mxf_views.proofs.KeptItems.{kept_found, kept_there, one_kept}
 use Rattle.mxf_views.proofs.PartitionLaws.{offset-partition_at}
 
 -- A partition is that of a clear note with its offset.
@@ -26,46 +27,22 @@ pub is_there : (notes : List NoteParts) (n : NoteParts) (p : PartitionParts) →
 unfolding partitions_of
 is_there notes n p h e = (In-filter_map partition_at (clear_notes notes) p).1 (n, h, e)
 
-one_note : (notes : List NoteParts) (m n : NoteParts) → In m (clear_notes notes) → In n (clear_notes notes)
-    → m.offset ≡ n.offset → m ≡ n
-one_note notes m n h k e =
-    let c = (In-clear_notes m notes).0 h in
-    let d = (In-clear_notes n notes).0 k in
-    clear-alone m n notes c d.held e
-
 pub one_partition : (notes : List NoteParts) (p q : PartitionParts) → In p (partitions_of notes)
     → In q (partitions_of notes) → p.offset ≡ q.offset → p ≡ q
-one_partition notes p q h k e =
-    let a = of_note notes p h in
-    let b = of_note notes q k in
-    let same : a.note ≡ b.note = one_note notes a.note b.note a.clear b.clear (sym a.offset ∙ e ∙ b.offset) in
-    let some : Some p ≡ Some q = sym a.read ∙ ap partition_at same ∙ b.read in cc some
+unfolding partitions_of
+one_partition = one_kept partition_at (λ p. p.offset) offset-partition_at
+
+pub partition_found : (notes : List NoteParts) (p : PartitionParts) → In p (partitions_of notes)
+    → find (λ q. q.offset == p.offset) (partitions_of notes) ≡ Some p
+unfolding partitions_of
+partition_found = kept_found partition_at (λ p. p.offset) offset-partition_at
 
 -- The partition at an offset is that of the clear note there.
 pub there_by_note : (notes : List NoteParts) (o : ℕ) (found : Option NoteParts)
     → found ≡ find (λ n. n.offset == o) (clear_notes notes)
     → option_and_then partition_at found ≡ find (λ p. p.offset == o) (partitions_of notes)
-there_by_note notes o None e =
-    sym (find-none (λ (p : PartitionParts). p.offset == o) (partitions_of notes) (λ p h t.
-    let a = of_note notes p h in
-    none_found (λ (n : NoteParts). n.offset == o) (clear_notes notes) a.note (sym e) a.clear
-    (eq-eqb a.note.offset o (sym a.offset ∙ eqb-true p.offset o t))))
-there_by_note notes o (Some n) e =
-    let f = found-In (λ (n : NoteParts). n.offset == o) (clear_notes notes) n (sym e) in
-    let at : n.offset ≡ o = eqb-true n.offset o f.1 in
-    elim (partition_at n) as (λ x. partition_at n ≡ x
-    → x ≡ find (λ p. p.offset == o) (partitions_of notes)) [
-      | None ↦ λ u. sym (find-none (λ (p : PartitionParts). p.offset == o) (partitions_of notes) (λ p h t.
-          let a = of_note notes p h in
-          let same : a.note ≡ n = one_note notes a.note n a.clear f.0
-          (sym a.offset ∙ eqb-true p.offset o t ∙ sym at) in
-          let none : Some p ≡ None = sym a.read ∙ ap partition_at same ∙ u in cc none))
-      | Some p ↦ λ u.
-          let there = is_there notes n p f.0 u in
-          let q : p.offset ≡ o = offset-partition_at n p u ∙ at in
-          sym (find-only (λ (p : PartitionParts). p.offset == o) (partitions_of notes) p there (eq-eqb p.offset o q)
-          (λ x h t. one_partition notes x p h there (eqb-true x.offset o t ∙ sym q)))
-    ] refl
+unfolding partitions_of
+there_by_note = kept_there partition_at (λ p. p.offset) offset-partition_at
 
 -- Whether one stands there, and whether it is a footer.
 stands_found : (ps : List PartitionParts) (o : ℕ) (p : PartitionParts)

@@ -1,68 +1,56 @@
--- Pairs in their order, those that segments give, and the places by them.
+-- Places in essence streams, those that segments give, and the place of a unit by them.
 use Rattle.mxf_views.proofs.Common.{◌≡◌, ℕ, ◌⊎◌, true, false, cond, List, [], ◌∷◌, Some, None, refl, sym, ap, subst}
-use Rattle.mxf_views.proofs.Common.{◌∙◌, inl, inr, eqb-true, eq-eqb, ◌↔◌, ◌==◌, nat_lt, ltb-true, option_map}
+use Rattle.mxf_views.proofs.Common.{◌∙◌, inl, inr, eqb-true, eq-eqb, ◌↔◌, ◌==◌, option_map}
 use Rattle.mxf_views.proofs.Common.{filter_map, nat_cmp, nat_cmp-IsAntisymmetric, Ordering, Less, Equal, Greater}
 use Rattle.mxf_views.proofs.Common.{nat_cmp_total, tied_itself, In, IsRising, with_one, In-union, IsRising-union}
-use Rattle.mxf_views.proofs.Common.{less_in, same_from_members, stream_offset, Pair, Place, NotIndexed, At, Ambiguous}
-use Rattle.mxf_views.proofs.Common.{SegmentAtParts, pair_cmp, place_by, place_of, In-filter_map, IsRising-with_one}
-use Rattle.mxf_views.proofs.Common.{pair_of, pairs_with}
+use Rattle.mxf_views.proofs.Common.{less_in, same_from_members, stream_offset, StreamPlace, Place, NotIndexed, At, Ambiguous}
+use Rattle.mxf_views.proofs.Common.{SegmentAtParts, place_cmp, place_by, place_of, In-filter_map, IsRising-with_one}
+use Rattle.mxf_views.proofs.Common.{given_by, places_with}
 use Rattle.std.specs.Ordering.{ordering_then}
 use Rattle.std.specs.Cmp.{IsTotalOrder, nat_cmp_is}
 use Rattle.std.specs.FinSet.{IsAntisymmetric}
 use Rattle.std.proofs.lemmas.Cmp.{on_total, then_total}
-use Rattle.mxf_views.specs.Places.{AreTwoLeast, IsBelow, IsGiven, IsOnlyPair, IsPlace}
-use Rattle.mxf_klv.proofs.Tests.{ties}
+use Rattle.mxf_views.specs.Places.{AreTwoLeast, IsBelow, IsGiven, IsOnlyPlace, IsPlace, in_stream, place_in}
+use Rattle.mxf_klv.proofs.Tests.{lt_from_less, ties}
 
-pub pair_total : IsTotalOrder pair_cmp
-pair_total = then_total (on_total (λ p. p.body_sid) nat_cmp_total) (on_total (λ p. p.offset) nat_cmp_total)
+pub place_total : IsTotalOrder place_cmp
+place_total = then_total (on_total (λ p. p.body_sid) nat_cmp_total) (on_total (λ p. p.offset) nat_cmp_total)
 
-pub same_pair : (a b : Pair) → a.body_sid ≡ b.body_sid → a.offset ≡ b.offset → a ≡ b
-same_pair a b e f i = record { body_sid = e i; offset = f i }
+pub same_place : (a b : StreamPlace) → a.body_sid ≡ b.body_sid → a.offset ≡ b.offset → a ≡ b
+same_place a b e f i = record { body_sid = e i; offset = f i }
 
-pub pair_cmp-IsAntisymmetric : IsAntisymmetric pair_cmp
-pair_cmp-IsAntisymmetric a b e =
+pub place_cmp-IsAntisymmetric : IsAntisymmetric place_cmp
+place_cmp-IsAntisymmetric a b e =
     let p = ties _ _ e in
-    same_pair a b (nat_cmp-IsAntisymmetric _ _ p.0) (nat_cmp-IsAntisymmetric _ _ p.1)
+    same_place a b (nat_cmp-IsAntisymmetric _ _ p.0) (nat_cmp-IsAntisymmetric _ _ p.1)
 
--- A segment that gives a pair adds it.
-pub pairs_more : (pairs : List Pair) (index_sid unit : ℕ) (s : SegmentAtParts) (rest left : List SegmentAtParts)
-    (p : Pair) → left ≡ s ∷ rest → Some p ≡ pair_of index_sid unit s
-    → pairs_with (with_one pair_cmp p pairs) index_sid unit rest ≡ pairs_with pairs index_sid unit left
-pairs_more pairs index_sid unit s rest left p e f =
-    let g : pairs_with pairs index_sid unit left ≡ pairs_with pairs index_sid unit (s ∷ rest) = ap
-    (pairs_with pairs index_sid unit) e in
-    let h : pairs_with (with_one pair_cmp p pairs) index_sid unit rest ≡ pairs_with pairs index_sid unit
+-- A segment that gives a place adds it.
+pub places_more : (places : List StreamPlace) (index_sid unit : ℕ) (s : SegmentAtParts) (rest left : List SegmentAtParts)
+    (p : StreamPlace) → left ≡ s ∷ rest → Some p ≡ given_by index_sid unit s
+    → places_with (with_one place_cmp p places) index_sid unit rest ≡ places_with places index_sid unit left
+places_more places index_sid unit s rest left p e f =
+    let g : places_with places index_sid unit left ≡ places_with places index_sid unit (s ∷ rest) = ap
+    (places_with places index_sid unit) e in
+    let h : places_with (with_one place_cmp p places) index_sid unit rest ≡ places_with places index_sid unit
     (s ∷ rest) = rw (← f) refl in
     h ∙ sym g
 
-pub rises_more : (pairs : List Pair) (p : Pair) → IsRising pair_cmp pairs → IsRising pair_cmp
-    (with_one pair_cmp p pairs)
-rises_more pairs p r = IsRising-with_one pair_total pair_cmp-IsAntisymmetric p pairs r
+pub rises_more : (places : List StreamPlace) (p : StreamPlace) → IsRising place_cmp places → IsRising place_cmp
+    (with_one place_cmp p places)
+rises_more places p r = IsRising-with_one place_total place_cmp-IsAntisymmetric p places r
 
--- ---- the order of pairs
+-- ---- the order of places
 
-below_from : (p q : Pair) → pair_cmp p q ≡ Less → IsBelow p q
+pub below_from : (p q : StreamPlace) → place_cmp p q ≡ Less → IsBelow p q
 below_from p q e =
-    let later = nat_cmp p.offset q.offset in
-    elim (nat_lt p.body_sid q.body_sid) as (λ t. nat_lt p.body_sid q.body_sid ≡ t
-    → ordering_then (cond t Less (cond (p.body_sid == q.body_sid) Equal Greater)) later ≡ Less → IsBelow p q) [
-      | true ↦ λ t _. inl (ltb-true p.body_sid q.body_sid t)
-      | false ↦ λ _. elim (p.body_sid == q.body_sid) as (λ u. (p.body_sid == q.body_sid) ≡ u
-          → ordering_then (cond u Equal Greater) later ≡ Less → IsBelow p q) [
-            | false ↦ λ _ k. absurd cc
-            | true ↦ λ u.
-                elim (nat_lt p.offset q.offset) as (λ t. nat_lt p.offset q.offset ≡ t
-                → cond t Less (cond (p.offset == q.offset) Equal Greater) ≡ Less → IsBelow p q) [
-                  | true ↦ λ t _. inr (eqb-true p.body_sid q.body_sid u, ltb-true p.offset q.offset t)
-                  | false ↦ λ _. elim (p.offset == q.offset) as (λ v. cond v Equal Greater ≡ Less → IsBelow p q) [
-                    | true ↦ λ k. absurd cc
-                    | false ↦ λ k. absurd cc
-                  ]
-                ] refl
-          ] refl
+    elim (nat_cmp p.body_sid q.body_sid) as (λ o. nat_cmp p.body_sid q.body_sid ≡ o
+    → ordering_then o (nat_cmp p.offset q.offset) ≡ Less → IsBelow p q) [
+      | Less ↦ λ f g. inl (lt_from_less _ _ f)
+      | Equal ↦ λ f g. inr (nat_cmp-IsAntisymmetric p.body_sid q.body_sid f, lt_from_less _ _ g)
+      | Greater ↦ λ f g. absurd cc
     ] refl e
 
-less_from : (p q : Pair) → IsBelow p q → pair_cmp p q ≡ Less
+less_from : (p q : StreamPlace) → IsBelow p q → place_cmp p q ≡ Less
 less_from p q (inl l) =
     ap (λ (r : Ordering). ordering_then r (nat_cmp p.offset q.offset)) (sym (nat_cmp_is p.body_sid q.body_sid Less l))
 less_from p q (inr s) =
@@ -70,33 +58,32 @@ less_from p q (inr s) =
     (sym (nat_cmp_is p.body_sid q.body_sid Equal s.0))
     ∙ sym (nat_cmp_is p.offset q.offset Less s.1)
 
-not_itself : (p q : Pair) → pair_cmp p q ≡ Less → p ≡ q → ⊥
+not_itself : (p q : StreamPlace) → place_cmp p q ≡ Less → p ≡ q → ⊥
 not_itself p q e same =
-    let t = tied_itself pair_total q in
-    let u : pair_cmp q q ≡ Less = subst (λ (x : Pair). pair_cmp x q ≡ Less) same e in
+    let t = tied_itself place_total q in
+    let u : place_cmp q q ≡ Less = subst (λ (x : StreamPlace). place_cmp x q ≡ Less) same e in
     cc (t, u)
 
-not_both : (p q : Pair) → pair_cmp p q ≡ Less → pair_cmp q p ≡ Less → ⊥
-not_both p q e f = not_itself p p (pair_total.trans p q p e f) refl
+not_both : (p q : StreamPlace) → place_cmp p q ≡ Less → place_cmp q p ≡ Less → ⊥
+not_both p q e f = not_itself p p (place_total.trans p q p e f) refl
 
--- ---- the pairs that are given
+-- ---- the places that are given
 
-given_from : (segments : List SegmentAtParts) (index_sid unit : ℕ) (s : SegmentAtParts) (p : Pair) → In s segments
-    → pair_of index_sid unit s ≡ Some p → IsGiven segments index_sid unit p
-unfolding pair_of
+given_from : (segments : List SegmentAtParts) (index_sid unit : ℕ) (s : SegmentAtParts) (p : StreamPlace) → In s segments
+    → given_by index_sid unit s ≡ Some p → IsGiven segments index_sid unit p
+unfolding given_by
 given_from segments index_sid unit s p h e =
     let sid = s.segment.numbers.index_sid in
     elim (sid == index_sid) as (λ b. (sid == index_sid) ≡ b
-    → cond b (option_map (λ offset. record { body_sid = s.segment.numbers.body_sid; offset = offset })
-    (stream_offset s.segment unit)) None ≡ Some p → IsGiven segments index_sid unit p) [
+    → cond b (place_in unit s) None ≡ Some p → IsGiven segments index_sid unit p) [
       | false ↦ λ _ q. absurd cc
       | true ↦ λ t q.
           elim (stream_offset s.segment unit) as (λ o. stream_offset s.segment unit ≡ o
-          → option_map (λ offset. record { body_sid = s.segment.numbers.body_sid; offset = offset }) o ≡ Some p
+          → option_map (in_stream s) o ≡ Some p
           → IsGiven segments index_sid unit p) [
             | None ↦ λ _ u. absurd cc
             | Some offset ↦ λ o u.
-                let same : record { body_sid = s.segment.numbers.body_sid; offset = offset } ≡ p = cc (u) in
+                let same : in_stream s offset ≡ p = cc (u) in
                 subst (IsGiven segments index_sid unit) same record {
                   by = s;
                   held = h;
@@ -107,24 +94,24 @@ given_from segments index_sid unit s p h e =
           ] refl q
     ] refl e
 
-given_to : (segments : List SegmentAtParts) (index_sid unit : ℕ) (p : Pair) → (g : IsGiven segments index_sid unit p)
-    → pair_of index_sid unit g.by ≡ Some p
-unfolding pair_of
+given_to : (segments : List SegmentAtParts) (index_sid unit : ℕ) (p : StreamPlace) → (g : IsGiven segments index_sid unit p)
+    → given_by index_sid unit g.by ≡ Some p
+unfolding given_by
 given_to segments index_sid unit p g =
     let t = eq-eqb g.by.segment.numbers.index_sid index_sid g.index in
     let o = g.offset in
     let b = g.body in
     rw t (rw o (λ i. Some record { body_sid = b i; offset = p.offset }))
 
--- the rising list of the pairs that are given
-abbrev Holds : List SegmentAtParts → ℕ → ℕ → List Pair → Type 0
-Holds segments index_sid unit pairs = (p : Pair) → In p pairs ↔ IsGiven segments index_sid unit p
+-- the rising list of the places that are given
+abbrev Holds : List SegmentAtParts → ℕ → ℕ → List StreamPlace → Type 0
+Holds segments index_sid unit places = (p : StreamPlace) → In p places ↔ IsGiven segments index_sid unit p
 
 holds : (segments : List SegmentAtParts) (index_sid unit : ℕ)
-    → Holds segments index_sid unit (pairs_with [] index_sid unit segments)
+    → Holds segments index_sid unit (places_with [] index_sid unit segments)
 holds segments index_sid unit p =
-    let u = In-union pair_total pair_cmp-IsAntisymmetric p [] (filter_map (pair_of index_sid unit) segments) in
-    let f = In-filter_map (pair_of index_sid unit) segments p in (
+    let u = In-union place_total place_cmp-IsAntisymmetric p [] (filter_map (given_by index_sid unit) segments) in
+    let f = In-filter_map (given_by index_sid unit) segments p in (
       λ h. elim (u.0 h) [
         | inl k ↦ absurd k
         | inr k ↦ (let s = f.0 k in given_from segments index_sid unit s.0 p s.1 s.2)
@@ -132,33 +119,33 @@ holds segments index_sid unit p =
       λ g. u.1 (inr (f.1 (g.by, g.held, given_to segments index_sid unit p g))),
     )
 
-pairs_rise : (segments : List SegmentAtParts) (index_sid unit : ℕ)
-    → IsRising pair_cmp (pairs_with [] index_sid unit segments)
-pairs_rise segments index_sid unit =
-    IsRising-union pair_total pair_cmp-IsAntisymmetric [] (filter_map (pair_of index_sid unit) segments) tt
+places_rise : (segments : List SegmentAtParts) (index_sid unit : ℕ)
+    → IsRising place_cmp (places_with [] index_sid unit segments)
+places_rise segments index_sid unit =
+    IsRising-union place_total place_cmp-IsAntisymmetric [] (filter_map (given_by index_sid unit) segments) tt
 
--- The place is by any rising list of exactly these pairs.
-pub place_by_list : (segments : List SegmentAtParts) (index_sid unit : ℕ) (pairs : List Pair) → IsRising pair_cmp pairs
-    → ((p : Pair) → In p pairs ↔ IsGiven segments index_sid unit p)
-    → place_of segments index_sid unit ≡ place_by pairs
-place_by_list segments index_sid unit pairs r h =
+-- The place is by any rising list of exactly these places.
+pub place_by_list : (segments : List SegmentAtParts) (index_sid unit : ℕ) (places : List StreamPlace) → IsRising place_cmp places
+    → ((p : StreamPlace) → In p places ↔ IsGiven segments index_sid unit p)
+    → place_of segments index_sid unit ≡ place_by places
+place_by_list segments index_sid unit places r h =
     let w = holds segments index_sid unit in
-    ap place_by (same_from_members pair_total pair_cmp-IsAntisymmetric (pairs_with [] index_sid unit segments) pairs
-    (pairs_rise segments index_sid unit) r (λ p. (λ k. (h p).1 ((w p).0 k), λ k. (w p).1 ((h p).0 k))))
+    ap place_by (same_from_members place_total place_cmp-IsAntisymmetric (places_with [] index_sid unit segments) places
+    (places_rise segments index_sid unit) r (λ p. (λ k. (h p).1 ((w p).0 k), λ k. (w p).1 ((h p).0 k))))
 
 -- ---- the place by them
 
-place_from : (segments : List SegmentAtParts) (index_sid unit : ℕ) (pairs : List Pair) → IsRising pair_cmp pairs
-    → Holds segments index_sid unit pairs → IsPlace segments index_sid unit (place_by pairs)
+place_from : (segments : List SegmentAtParts) (index_sid unit : ℕ) (places : List StreamPlace) → IsRising place_cmp places
+    → Holds segments index_sid unit places → IsPlace segments index_sid unit (place_by places)
 place_from segments index_sid unit [] r w = λ p g. (w p).1 g
 place_from segments index_sid unit (p ∷ []) r w = record {
   given = (w p).0 (inl refl);
   only = λ q g. elim ((w q).1 g) [
-    | inl e ↦ (ap (λ (x : Pair). x.body_sid) e, ap (λ (x : Pair). x.offset) e)
+    | inl e ↦ (ap (λ (x : StreamPlace). x.body_sid) e, ap (λ (x : StreamPlace). x.offset) e)
     | inr k ↦ absurd k
   ];
 }
-place_from segments index_sid unit (p ∷ q ∷ pairs) r w = record {
+place_from segments index_sid unit (p ∷ q ∷ places) r w = record {
   first = (w p).0 (inl refl);
   second = (w q).0 (inr (inl refl));
   below = below_from p q r.0.0;
@@ -166,25 +153,25 @@ place_from segments index_sid unit (p ∷ q ∷ pairs) r w = record {
     | inl e ↦ inl e
     | inr k ↦ inr (elim k [
       | inl e ↦ inl e
-      | inr m ↦ inr (below_from q x (less_in pair_total q x pairs r.1.0 m))
+      | inr m ↦ inr (below_from q x (less_in place_total q x places r.1.0 m))
     ])
   ];
 }
 
 module _ {segments : List SegmentAtParts} {index_sid unit : ℕ} where
-  at_or_above : (p q r : Pair) → AreTwoLeast segments index_sid unit p q → IsGiven segments index_sid unit r
-      → (p ≡ r) ⊎ (pair_cmp p r ≡ Less)
+  at_or_above : (p q r : StreamPlace) → AreTwoLeast segments index_sid unit p q → IsGiven segments index_sid unit r
+      → (p ≡ r) ⊎ (place_cmp p r ≡ Less)
   at_or_above p q r t g =
       let l = less_from p q t.below in
       elim (t.least r g) [
         | inl e ↦ inl (sym e)
         | inr k ↦ inr (elim k [
-          | inl e ↦ ap (pair_cmp p) e ∙ l
-          | inr b ↦ pair_total.trans p q r l (less_from q r b)
+          | inl e ↦ ap (place_cmp p) e ∙ l
+          | inr b ↦ place_total.trans p q r l (less_from q r b)
         ])
       ]
 
-  one_first : (p q x y : Pair) → AreTwoLeast segments index_sid unit p q → AreTwoLeast segments index_sid unit x y
+  one_first : (p q x y : StreamPlace) → AreTwoLeast segments index_sid unit p q → AreTwoLeast segments index_sid unit x y
       → p ≡ x
   one_first p q x y s t =
       elim (at_or_above p q x s t.first) [
@@ -192,31 +179,31 @@ module _ {segments : List SegmentAtParts} {index_sid unit : ℕ} where
         | inr a ↦ elim (at_or_above x y p t s.first) [ inl e ↦ sym e | inr b ↦ absurd (not_both p x a b) ]
       ]
 
-  second_or_above : (p q r : Pair) → AreTwoLeast segments index_sid unit p q → IsGiven segments index_sid unit r
-      → pair_cmp p r ≡ Less → (q ≡ r) ⊎ (pair_cmp q r ≡ Less)
+  second_or_above : (p q r : StreamPlace) → AreTwoLeast segments index_sid unit p q → IsGiven segments index_sid unit r
+      → place_cmp p r ≡ Less → (q ≡ r) ⊎ (place_cmp q r ≡ Less)
   second_or_above p q r t g a =
       elim (t.least r g) [
         | inl e ↦ absurd (not_itself p r a (sym e))
         | inr k ↦ elim k [ inl e ↦ inl (sym e) | inr b ↦ inr (less_from q r b) ]
       ]
 
-  one_second : (p q x y : Pair) → AreTwoLeast segments index_sid unit p q → AreTwoLeast segments index_sid unit x y
+  one_second : (p q x y : StreamPlace) → AreTwoLeast segments index_sid unit p q → AreTwoLeast segments index_sid unit x y
       → q ≡ y
   one_second p q x y s t =
       let e = one_first p q x y s t in
-      let a : pair_cmp p y ≡ Less = ap (λ (z : Pair). pair_cmp z y) e ∙ less_from x y t.below in
-      let b : pair_cmp x q ≡ Less = ap (λ (z : Pair). pair_cmp z q) (sym e) ∙ less_from p q s.below in
+      let a : place_cmp p y ≡ Less = ap (λ (z : StreamPlace). place_cmp z y) e ∙ less_from x y t.below in
+      let b : place_cmp x q ≡ Less = ap (λ (z : StreamPlace). place_cmp z q) (sym e) ∙ less_from p q s.below in
       elim (second_or_above p q y s t.second a) [
         | inl f ↦ f
         | inr c ↦ elim (second_or_above x y q t s.second b) [ inl f ↦ sym f | inr d ↦ absurd (not_both q y c d) ]
       ]
 
-  only_not_two : (body_sid offset : ℕ) (p q : Pair) → IsOnlyPair segments index_sid unit body_sid offset
+  only_not_two : (body_sid offset : ℕ) (p q : StreamPlace) → IsOnlyPlace segments index_sid unit body_sid offset
       → AreTwoLeast segments index_sid unit p q → ⊥
   only_not_two body_sid offset p q o t =
       let e = o.only p t.first in
       let f = o.only q t.second in
-      not_itself p q (less_from p q t.below) (same_pair p q (e.0 ∙ sym f.0) (e.1 ∙ sym f.1))
+      not_itself p q (less_from p q t.below) (same_place p q (e.0 ∙ sym f.0) (e.1 ∙ sym f.1))
 
 one_place : (segments : List SegmentAtParts) (sid unit : ℕ) (a b : Place) → IsPlace segments sid unit a
     → IsPlace segments sid unit b → a ≡ b
@@ -237,11 +224,11 @@ one_place segments sid unit (Ambiguous p q) (Ambiguous v w) x y =
     let f = one_second p q v w x y in
     λ i. Ambiguous (e i) (f i)
 
--- The place is by the pairs that are given.
+-- The place is by the places that are given.
 pub place_iff : (segments : List SegmentAtParts) (sid unit : ℕ) (place : Place)
     → (place_of segments sid unit ≡ place) ↔ IsPlace segments sid unit place
 place_iff segments sid unit place =
     let own = place_of segments sid unit in
-    let i : IsPlace segments sid unit own = place_from segments sid unit (pairs_with [] sid unit segments)
-    (pairs_rise segments sid unit) (holds segments sid unit) in
+    let i : IsPlace segments sid unit own = place_from segments sid unit (places_with [] sid unit segments)
+    (places_rise segments sid unit) (holds segments sid unit) in
     (λ e. subst (IsPlace segments sid unit) e i, λ j. one_place segments sid unit own place i j)

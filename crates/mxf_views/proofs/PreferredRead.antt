@@ -1,9 +1,8 @@
 -- Of copies that rise by partition, the preferred one is the same by either way of taking the better of two.
-use Rattle.mxf_views.proofs.Common.{◌≡◌, ℕ, ◌+◌, ◌<◌, ◌≤◌, true, false, cond, ◌&&◌, nat_lt, List, []}
-use Rattle.mxf_views.proofs.Common.{◌∷◌, Option, Some, None, IfSome, refl, cons_option, option_and_then, option_map}
-use Rattle.mxf_views.proofs.Common.{◌∙◌, ap, arith, size_of, PacketParts}
-use Rattle.mxf_views.proofs.Common.{notes_from, best_of, preferred_of, rank, PartitionParts, partition_read}
-use Rattle.mxf_views.proofs.Common.{read_pack, CopyInfo, better, is_above, is_candidate, CopyRead}
+use Rattle.mxf_views.proofs.Common.{◌≡◌, ℕ, ◌+◌, ◌<◌, ◌≤◌, true, false, cond, ◌&&◌, nat_lt, List, [], ◌∷◌, Option, Some}
+use Rattle.mxf_views.proofs.Common.{None, IfSome, refl, cons_option, option_and_then, option_map, ◌∙◌, ap, arith}
+use Rattle.mxf_views.proofs.Common.{size_of, PacketParts, notes_from, best_of, preferred_of, rank, PartitionParts}
+use Rattle.mxf_views.proofs.Common.{partition_read, read_pack, CopyInfo, better, is_above, is_candidate, CopyRead}
 use Rattle.mxf_views.proofs.Common.{after_fills, copies_alone, copies_read, copy_read, taken, whole_copy, from_lower}
 use Rattle.std.specs.Prelude.{fold}
 use Rattle.std.proofs.lemmas.Option.{IfSome_then}

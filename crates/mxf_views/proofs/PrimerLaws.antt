@@ -5,8 +5,8 @@ use Rattle.mxf_views.proofs.Common.{◌↔◌, ◌==◌, nat_le, find, option_an
 use Rattle.mxf_views.proofs.Common.{read_as, IsContent, IsClear, clear_notes, In-clear_notes, CopyInfo, CopiesRise}
 use Rattle.mxf_views.proofs.Common.{IsCopy, IsStart, copies_of, is_in_copy, primer_there, find-only, found-In}
 use Rattle.mxf_views.proofs.Common.{none_found, all-In, and_from, and_parts, BatchParts, IsPrimerOf, IsStartFound}
-use Rattle.mxf_views.proofs.Common.{is_in_zone, primer_for, clear_same}
-use Rattle.mxf_catalogue.proofs.DisputeLaws.{SharesByte-same_offset}
+use Rattle.mxf_views.proofs.Common.{is_in_zone, primer_for}
+use Rattle.mxf_views.proofs.KeptItems.{one_note}
 use Rattle.mxf_views.specs.Labels.{IsFirstWith, IsInZoneOf, IsPrimerFor, primer_of}
 use Rattle.mxf_views.proofs.CopyLaws.{copies_are, copies_rise, one_named}
 use Rattle.mxf_views.proofs.ReadingLaws.{reads}
@@ -56,17 +56,13 @@ found_first p (x ∷ copies) c d r e h t =
 
 -- ---- the primer at a start
 
-pub one_at : (notes : List NoteParts) (m n : NoteParts) → IsClear m notes → IsClear n notes → m.offset ≡ n.offset
-    → m ≡ n
-one_at notes m n c d e = clear_same notes m n c d (SharesByte-same_offset m n e)
-
 there_is : (notes : List NoteParts) (n : NoteParts) (primer : BatchParts) → IsClear n notes → IsPrimerOf n primer
     → primer_there notes n.offset ≡ Some primer
 there_is notes n primer c i =
     let clear = clear_notes notes in
     let found = find-only (λ (m : NoteParts). m.offset == n.offset) clear n ((In-clear_notes n notes).1 c)
     (eq-eqb n.offset n.offset refl)
-    (λ m h t. one_at notes m n ((In-clear_notes m notes).0 h) c (eqb-true m.offset n.offset t)) in
+    (λ m h t. one_note notes m n ((In-clear_notes m notes).0 h) c (eqb-true m.offset n.offset t)) in
     ap (option_and_then (read_as primer_at)) found ∙ (reads primer_at n primer).1 i.1
 
 -- the primer of a copy with a start
@@ -129,7 +125,7 @@ one_primer notes n (Some a) (Some b) r x y =
     let starts : Some x.note.offset ≡ Some y.note.offset =
     sym x.there ∙ ap (λ (c : CopyInfo). c.start) copy ∙ y.there in
     let offset : x.note.offset ≡ y.note.offset = cc (starts) in
-    let note = one_at notes x.note y.note x.clear y.clear offset in
+    let note = one_note notes x.note y.note x.clear y.clear offset in
     ap (λ (p : BatchParts). Some p) (same_primer x.note y.note a b note x.read y.read)
 
 -- The primer is that of the first copy that has the packet.

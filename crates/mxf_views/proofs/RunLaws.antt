@@ -1,8 +1,7 @@
 -- A content of exactly what was handed is what the run holds.
-use Rattle.mxf_views.proofs.Common.{◌≡◌, ◌↔◌, List, filter, sym, subst}
-use Rattle.mxf_views.proofs.Common.{ap, PacketParts, NoteParts, notes_from, In, IsContent}
-use Rattle.mxf_views.proofs.Common.{is_disputed, same_content, IsWellFormed, In-filter}
-use Rattle.mxf_views.proofs.Common.{file_bytes, IsLocated, is_disputed-IsDisputed}
+use Rattle.mxf_views.proofs.Common.{◌≡◌, ◌↔◌, List, filter, sym, subst, ap, PacketParts, NoteParts, notes_from, In}
+use Rattle.mxf_views.proofs.Common.{IsContent, is_disputed, same_content, IsWellFormed, In-filter, file_bytes}
+use Rattle.mxf_views.proofs.Common.{IsLocated, is_disputed-IsDisputed}
 use Rattle.mxf_catalogue.specs.CatalogueFile.{IsFileOf}
 use Rattle.mxf_catalogue.specs.History.{content}
 use Rattle.mxf_catalogue.proofs.DisputeLaws.{notes-disputed_notes}

@@ -1,16 +1,14 @@
 -- Views are those of the clear notes, and added notes take clear ones away.
-use Rattle.mxf_views.proofs.Common.{◌≡◌, ℕ, List, [], ◌∷◌, Option, Some, None, refl, ap, ◌∙◌, inl, subst, sym}
-use Rattle.mxf_views.proofs.Common.{◌==◌, filter, find, map, if◌then◌else◌, option_and_then}
-use Rattle.mxf_views.proofs.Common.{option_map, NoteParts, In, primer_at, read_as, AreReduced, has_note}
-use Rattle.mxf_views.proofs.Common.{reduced_with, SharesByte, clear_notes, In-clear_notes, Whole, Broken, CopyInfo}
-use Rattle.mxf_views.proofs.Common.{Wanted, Storage, Identification, Package, chain_of}
-use Rattle.mxf_views.proofs.Common.{link_at, partitions_among}
-use Rattle.mxf_views.proofs.Common.{partitions_of, copies_of, is_preface_note, preferred_of, sets_found, sets_of}
-use Rattle.mxf_views.proofs.Common.{is_in_copy, primer_there, found_among, has_uid, target_among, target_of}
-use Rattle.mxf_views.proofs.Common.{resolved_of, storage_among, RipParts, place_of, segments_among, segments_of}
-use Rattle.mxf_views.proofs.Common.{is_rip_note, rip_in, rips_of, standing_of, rip_view_among, rip_view_by, rip_view_of}
-use Rattle.mxf_views.proofs.Common.{One, PrefaceParts, In-reduced_with, copies_among, primer_for, packages_of}
-use Rattle.mxf_views.proofs.Common.{preface_in, resolved_by, resolved_from}
+use Rattle.mxf_views.proofs.Common.{◌≡◌, ℕ, List, [], ◌∷◌, Option, Some, None, refl, ap, ◌∙◌, inl, subst, sym, ◌==◌}
+use Rattle.mxf_views.proofs.Common.{filter, find, map, if◌then◌else◌, option_and_then, option_map, NoteParts, In}
+use Rattle.mxf_views.proofs.Common.{primer_at, read_as, AreReduced, has_note, reduced_with, SharesByte, clear_notes}
+use Rattle.mxf_views.proofs.Common.{In-clear_notes, Whole, Broken, CopyInfo, Wanted, Storage, Identification, Package}
+use Rattle.mxf_views.proofs.Common.{chain_of, link_at, partitions_among, partitions_of, copies_of, is_preface_note}
+use Rattle.mxf_views.proofs.Common.{preferred_of, sets_found, sets_of, is_in_copy, primer_there, found_among, has_uid}
+use Rattle.mxf_views.proofs.Common.{target_among, target_of, resolved_of, storage_among, RipParts, place_of}
+use Rattle.mxf_views.proofs.Common.{segments_among, segments_of, is_rip_note, rip_in, rips_of, standing_of}
+use Rattle.mxf_views.proofs.Common.{rip_view_among, rip_view_by, rip_view_of, One, PrefaceParts, In-reduced_with}
+use Rattle.mxf_views.proofs.Common.{copies_among, primer_for, packages_of, preface_in, resolved_by, resolved_from}
 use Rattle.mxf_views.specs.SameViews.{SameViews}
 use Rattle.mxf_views.proofs.LaidPartitions.{hang_together_by}
 

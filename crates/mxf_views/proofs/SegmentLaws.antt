@@ -1,14 +1,12 @@
 -- Which segments there are.
 use Rattle.mxf_views.proofs.Common.{◌≡◌, ℕ, true, false, cond, List, Some, None, refl, sym, ap, subst, ◌↔◌, option_map}
 use Rattle.mxf_views.proofs.Common.{NoteParts, keeps_value, kind_of, In, SegmentParts, segment_at, read_as, IsContent}
-use Rattle.mxf_views.proofs.Common.{IsClear, clear_notes, In-clear_notes, AreApart-clear_notes, SegmentAtParts}
-use Rattle.mxf_views.proofs.Common.{is_segment, placed_segment, segments_of, In-filter_map, SegmentsRise, apart_rises}
-use Rattle.mxf_views.proofs.Common.{rises-filter_map}
-use Rattle.mxf_views.specs.Places.{IsSegmentAt, segment_in}
-use Rattle.mxf_views.proofs.Common.{◌==◌, find, option_and_then, Option}
-use Rattle.mxf_views.proofs.KeptItems.{kept_there}
+use Rattle.mxf_views.proofs.Common.{IsClear, clear_notes, In-clear_notes, SegmentAtParts, is_segment, placed_segment}
+use Rattle.mxf_views.proofs.Common.{segments_of, In-filter_map, SegmentsRise, ◌==◌, find, option_and_then, Option}
+use Rattle.mxf_views.specs.Places.{IsSegmentAt, segment_by_kind}
+use Rattle.mxf_views.proofs.KeptItems.{kept_rise, kept_there}
 use Rattle.mxf_views.proofs.KindLaws.{segment_kind}
-use Rattle.mxf_views.proofs.Rising.{by_segment}
+use Rattle.mxf_views.proofs.KeyedLists.{rise_by}
 use Rattle.mxf_views.proofs.ReadingLaws.{reads}
 
 abbrev placed : ℕ → SegmentParts → SegmentAtParts
@@ -56,7 +54,7 @@ segments_are notes s =
 pub offset-placed_segment : (n : NoteParts) (s : SegmentAtParts) → placed_segment n ≡ Some s → s.offset ≡ n.offset
 unfolding placed_segment
 offset-placed_segment n s e =
-    elim (segment_in n) as (λ o. option_map (placed n.offset) o ≡ Some s → s.offset ≡ n.offset) [
+    elim (segment_by_kind n) as (λ o. option_map (placed n.offset) o ≡ Some s → s.offset ≡ n.offset) [
       | None ↦ λ q. absurd cc
       | Some segment ↦ λ q.
           let same : placed n.offset segment ≡ s = cc (q) in
@@ -67,9 +65,8 @@ offset-placed_segment n s e =
 pub segments_rise : (notes : List NoteParts) → IsContent notes → SegmentsRise (segments_of notes)
 unfolding segments_of
 segments_rise notes r =
-    let clear = clear_notes notes in
-    (by_segment _).1 (rises-filter_map (λ n. n.offset) placed_segment (λ s. s.offset) clear offset-placed_segment
-    (apart_rises 0 clear (AreApart-clear_notes notes r)))
+    (rise_by (λ (s : SegmentAtParts). s.offset) _).1
+    (kept_rise placed_segment (λ s. s.offset) offset-placed_segment notes r)
 
 -- The segment at an offset is that of the clear note there.
 pub segment_by_note : (notes : List NoteParts) (o : ℕ) (found : Option NoteParts)

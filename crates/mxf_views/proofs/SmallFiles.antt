@@ -1,13 +1,11 @@
 -- Which of the small files are well-formed.
-use Rattle.mxf_views.proofs.Common.{◌≡◌, ◌<◌, length, Bool, false, List, [], ◌∷◌, ◌++◌, Some, refl}
-use Rattle.mxf_views.proofs.Common.{◌||◌, drop, take, map, IfSome, AllByRecursion, list_any}
-use Rattle.mxf_views.proofs.Common.{sym, ◌∙◌, ap, subst, inl, inr, arith}
-use Rattle.mxf_views.proofs.Common.{Status, OpenIncomplete, ClosedComplete, kind_of, PacketParts, item_at}
-use Rattle.mxf_views.proofs.Common.{items_of, left_of, entries_of, Footer}
-use Rattle.mxf_views.proofs.Common.{SegmentAtParts, is_rip, place_by_segment, segments_read, partitions_read, read_pack}
-use Rattle.mxf_views.proofs.Common.{read_rip, read_segment, Agree, EndsWithFooter, HasMetadata, IsFooterPack}
-use Rattle.mxf_views.proofs.Common.{IsPartitionPack, IsWellFormed, IsFill, numbers, pack, PartitionParts}
-use Rattle.mxf_views.proofs.Common.{false≢true, or_parts, status_rank, IsHeaderPack, IsRandomIndexPack}
+use Rattle.mxf_views.proofs.Common.{◌≡◌, ◌<◌, length, Bool, false, List, [], ◌∷◌, ◌++◌, Some, refl, ◌||◌, drop, take}
+use Rattle.mxf_views.proofs.Common.{map, IfSome, AllByRecursion, list_any, sym, ◌∙◌, ap, subst, inl, inr, arith, Status}
+use Rattle.mxf_views.proofs.Common.{OpenIncomplete, ClosedComplete, kind_of, PacketParts, item_at, items_of, left_of}
+use Rattle.mxf_views.proofs.Common.{entries_of, Footer, SegmentAtParts, is_rip, place_by_segment, segments_read}
+use Rattle.mxf_views.proofs.Common.{partitions_read, read_pack, read_rip, read_segment, Agree, EndsWithFooter}
+use Rattle.mxf_views.proofs.Common.{HasMetadata, IsFooterPack, IsPartitionPack, IsWellFormed, IsFill, numbers, pack}
+use Rattle.mxf_views.proofs.Common.{PartitionParts, false≢true, or_parts, status_rank, IsHeaderPack, IsRandomIndexPack}
 use Rattle.mxf_views.proofs.Common.{EndsWithRandomIndex, entry_of, primer, are_packets, is_pack_kind}
 use Rattle.mxf_klv.specs.declared.kinds.Status.TheVariants.{ClosedIncomplete, OpenComplete}
 use Rattle.mxf_views.specs.WorkedFiles.{h_file, n_file, preface, r_file, w_file}

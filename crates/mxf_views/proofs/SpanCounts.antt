@@ -2,8 +2,7 @@
 use Rattle.mxf_views.proofs.Common.{◌≡◌, ℕ, ◌+◌, ◌-◌, ◌<◌, ◌≤◌, true, false, cond, nat_le, nat_lt, List, [], ◌∷◌}
 use Rattle.mxf_views.proofs.Common.{count_by, filter, refl, range_with_len, sym, ap, subst, arith, leb-true, le-leb}
 use Rattle.mxf_views.proofs.Common.{ltb-true, lt-ltb, false_from_ne_true, and_parts, sum_by-cons, NoteParts, end_of}
-use Rattle.mxf_views.proofs.Common.{AreApart, sizes, is_in_one, lies_in, AreApart-lower, is_in_span}
-use Rattle.mxf_views.proofs.Common.{range-all}
+use Rattle.mxf_views.proofs.Common.{AreApart, sizes, is_in_one, lies_in, AreApart-lower, is_in_span, range-all}
 use Rattle.mxf_views.specs.Spans.{size_of, AllEndBy}
 use Rattle.mxf_klv.proofs.Counts.{range-split, range-none, range-same}
 use Rattle.mxf_catalogue.proofs.ApartNotes.{AreApart-zone}

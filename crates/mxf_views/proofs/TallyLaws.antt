@@ -1,15 +1,14 @@
 -- How many notes there are at most that something is kept of.
-use Rattle.mxf_views.proofs.Common.{◌≡◌, ◌≤◌, Bool, true, false, List, Option, None, ap, refl}
-use Rattle.mxf_views.proofs.Common.{◌||◌, cond, count_by, is_some, not, option_map, kind_of, end_of, NoteParts}
-use Rattle.mxf_views.proofs.Common.{part_and_status, read_as, SegmentParts, segment_at, has_some_metadata}
-use Rattle.mxf_views.proofs.Common.{states_metadata, PartitionParts, is_no_unreadable_pack, pack_of, partition_at}
-use Rattle.mxf_views.proofs.Common.{SegmentAtParts, is_segment, placed_segment}
+use Rattle.mxf_views.proofs.Common.{◌≡◌, ◌≤◌, Bool, true, false, List, Option, None, ap, refl, ◌||◌, cond, count_by}
+use Rattle.mxf_views.proofs.Common.{is_some, not, option_map, kind_of, end_of, NoteParts, part_and_status, read_as}
+use Rattle.mxf_views.proofs.Common.{SegmentParts, segment_at, has_some_metadata, states_metadata, PartitionParts}
+use Rattle.mxf_views.proofs.Common.{is_no_unreadable_pack, pack_of, partition_at, SegmentAtParts, is_segment}
+use Rattle.mxf_views.proofs.Common.{placed_segment, ◌∙◌, sym, is_kept, is_rip_note, kept_partition}
+use Rattle.mxf_views.proofs.Common.{kept_random_index_pack, kept_segment, kept_unreadable_pack}
 use Rattle.mxf_views.proofs.PartitionLaws.{no_pack}
 use Rattle.mxf_klv.proofs.Tests.{none_if}
 use Rattle.mxf_klv.proofs.NoteFilters.{count_le}
-use Rattle.mxf_views.proofs.Common.{◌∙◌, sym, is_kept, is_rip_note, kept_partition, kept_random_index_pack, kept_segment}
-use Rattle.mxf_views.proofs.Common.{kept_unreadable_pack}
-use Rattle.mxf_views.specs.Kept.{offset_if}
+use Rattle.mxf_views.proofs.KeptItems.{kept_if}
 use Rattle.mxf_views.specs.Partitions.{in_numbers}
 use Rattle.mxf_views.specs.Places.{without_entries}
 
@@ -51,20 +50,13 @@ pack_if_unreadable n t =
       | false ↦ λ e. absurd cc
     ] t
 
-unreadable_kept : (n : NoteParts) → is_kept kept_unreadable_pack n ≡ not (is_no_unreadable_pack n)
-unreadable_kept n = elim (not (is_no_unreadable_pack n)) as (λ b. is_some (offset_if b n) ≡ b) [
-  | true ↦ refl
-  | false ↦ refl
-]
-
 pub rips_at_most : (ns : List NoteParts) → count_by (is_kept kept_random_index_pack) ns ≤ count_by is_rip_note ns
 rips_at_most ns =
-    count_le (is_kept kept_random_index_pack) is_rip_note ns (λ n t.
-    sym (elim (is_rip_note n) as (λ b. is_some (offset_if b n) ≡ b) [ true ↦ refl | false ↦ refl ]) ∙ t)
+    count_le (is_kept kept_random_index_pack) is_rip_note ns (λ n t. sym (kept_if is_rip_note n) ∙ t)
 
 pub unreadable_at_most : (ns : List NoteParts) → count_by (is_kept kept_unreadable_pack) ns ≤ count_by has_pack ns
 unreadable_at_most ns = count_le (is_kept kept_unreadable_pack) has_pack ns
-    (λ n t. pack_if_unreadable n (sym (unreadable_kept n) ∙ t))
+    (λ n t. pack_if_unreadable n (sym (kept_if (λ n. not (is_no_unreadable_pack n)) n) ∙ t))
 
 pub no_segment : (n : NoteParts) → has_segment n ≡ false → placed_segment n ≡ None
 unfolding placed_segment

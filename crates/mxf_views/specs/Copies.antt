@@ -4,7 +4,7 @@ use Rattle.std.specs.Prelude.{◌≡◌, ◌↔◌, ℕ, ◌+◌, ◌-◌, ◌<�
 use Rattle.std.specs.Prelude.{Option, Some, None, is_some, List, [], ◌∷◌, length, map, filter, find, count_by}
 use Rattle.std.specs.Prelude.{IsTrue, ◌||◌}
 use Rattle.std.specs.Option.{option_map}
-use Rattle.std.specs.List.{list_all, range_with_len, AllByRecursion}
+use Rattle.std.specs.List.{list_all, range_with_len}
 use Rattle.mxf_klv.specs.declared.kinds.Kind.{Kind}
 use Rattle.mxf_klv.specs.declared.kinds.Kind.TheVariants as kinds
 use Rattle.mxf_klv.specs.declared.kinds.Status.{Status}
@@ -18,6 +18,7 @@ use Rattle.mxf_sets.specs.Batch.{BatchParts}
 use Rattle.mxf_sets.specs.PackReadings.{primer_at}
 use Rattle.mxf_sets.specs.Readable.{read_as}
 use Rattle.mxf_catalogue.specs.Disputes.{AreApart, IsClear, clear_notes, lies_in}
+use Rattle.mxf_views.specs.Rises.{RiseBy}
 use Rattle.mxf_views.specs.declared.copy.CopyInfo.{CopyInfo}
 use Rattle.mxf_views.specs.Partitions.{PartitionParts, partitions_of}
 use Rattle.mxf_views.specs.Readings.{IsReadAs}
@@ -139,8 +140,7 @@ copies_of notes = copies_among (clear_notes notes) (partitions_of notes)
 
 -- Each is that of a partition below those of all later ones.
 abbrev pub CopiesRise : List CopyInfo → Type 0
-CopiesRise [] = Unit {0}
-CopiesRise (c ∷ copies) = AllByRecursion (λ d. c.partition < d.partition) copies × CopiesRise copies
+CopiesRise copies = RiseBy (λ c. c.partition) copies
 
 -- The sets of a copy by its start, none without one.
 abbrev pub sets_from : List NoteParts → ℕ → Option ℕ → List NoteParts

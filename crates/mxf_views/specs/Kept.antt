@@ -1,10 +1,9 @@
 -- What the views keep of the clear notes, and what an addition changes of it (this project's profile).
 use Rattle.std.specs.Prelude.{◌≡◌, ℕ, ◌+◌, ◌-◌, ◌≤◌, max, min, ◌⊎◌, Bool, ◌&&◌, ◌||◌, ◌==◌, nat_le, nat_lt}
-use Rattle.std.specs.Prelude.{if◌then◌else◌}
-use Rattle.std.specs.Prelude.{◌<◌, ◌++◌, count_by, length, not, option_map, IfSome, Vec}
+use Rattle.std.specs.Prelude.{if◌then◌else◌, ◌<◌, ◌++◌, count_by, length, not, option_map, IfSome, Vec, Option, None}
+use Rattle.std.specs.Prelude.{Some, false, is_some, List, [], ◌∷◌, filter, find, map}
 use Rattle.std.specs.Global.{Global}
 use Rattle.std.specs.Vec.{vec_capacity, vec_len}
-use Rattle.std.specs.Prelude.{Option, None, Some, false, is_some, List, [], ◌∷◌, filter, find, map}
 use Rattle.std.specs.List.{AllByRecursion, cons_option, filter_map}
 use Rattle.std.specs.Option.{option_and_then}
 use Rattle.mxf_klv.specs.Parts.{NoteParts}
@@ -17,8 +16,8 @@ use Rattle.mxf_catalogue.specs.Content.{AreReduced, IsCatalogue, IsContent, has_
 use Rattle.mxf_views.specs.declared.kept.arrival.Arrival.{Arrival}
 use Rattle.mxf_views.specs.declared.kept.KeptLists.{KeptLists}
 use Rattle.mxf_views.specs.Copies.{copies_of, copy_of, has_metadata, is_fill, is_primer}
-use Rattle.mxf_views.specs.Partitions.{PartitionParts, in_numbers, is_no_unreadable_pack, partition_at, partitions_of}
-use Rattle.mxf_views.specs.Places.{SegmentAtParts, placed_segment, segments_of, without_entries}
+use Rattle.mxf_views.specs.Partitions.{PartitionParts, in_numbers, is_no_unreadable_pack, partition_at}
+use Rattle.mxf_views.specs.Places.{SegmentAtParts, placed_segment, without_entries}
 use Rattle.mxf_views.specs.RandomIndex.{is_rip_note}
 
 -- What is kept of a note that is a readable partition pack, or a readable index table segment; and the offset of one
@@ -75,11 +74,6 @@ copy_by notes n =
 -- The offset lies outside of the range.
 abbrev pub is_outside : ℕ → ℕ → ℕ → Bool
 is_outside start end offset = nat_lt offset start || nat_le end offset
-
--- The key of each is below those of all later ones.
-abbrev pub RiseBy : {A : Type 0} → (A → ℕ) → List A → Type 0
-RiseBy key [] = Unit {0}
-RiseBy key (x ∷ xs) = AllByRecursion (λ y. key x < key y) xs × RiseBy key xs
 
 -- The offset lies above the lower one and below the upper one.
 abbrev pub lies_between : ℕ → ℕ → ℕ → Bool
@@ -157,16 +151,9 @@ abbrev pub StartsRise : List CopyInfo → Type 0
 StartsRise [] = Unit {0}
 StartsRise (c ∷ copies) = AllByRecursion (λ d. IsStartBelow c.start d.start) copies × StartsRise copies
 
--- The clear notes at the offsets.
-abbrev pub notes_at : List NoteParts → List ℕ → List NoteParts
-notes_at notes offsets = filter_map (λ o. find (λ n. n.offset == o) (clear_notes notes)) offsets
-
--- The partitions that stand where these do, and the segments.
-abbrev pub partitions_at : List NoteParts → List PartitionParts → List PartitionParts
-partitions_at notes kept = filter_map (λ k. find (λ p. p.offset == k.offset) (partitions_of notes)) kept
-
-abbrev pub segments_at : List NoteParts → List SegmentAtParts → List SegmentAtParts
-segments_at notes kept = filter_map (λ k. find (λ s. s.offset == k.offset) (segments_of notes)) kept
+-- The clear notes at the keys of what is kept.
+abbrev pub notes_at : {A : Type 0} → (A → ℕ) → List NoteParts → List A → List NoteParts
+notes_at key notes kept = filter_map (λ x. find (λ n. n.offset == key x) (clear_notes notes)) kept
 
 -- What there is is what there was, and another element behind it where there is one.
 pub record IsAppended {A : Type 0} (next : Option A) (before now : Vec A Global) : Type 0 where

@@ -16,17 +16,18 @@ abbrev pub kept_pack : NoteParts → Option PartitionParts → Kept
 kept_pack n None = UnreadablePack n.offset
 kept_pack n (Some p) = Partition (in_numbers p)
 
-abbrev pub kept_of_kind : Kind → NoteParts → Option Kept
-kept_of_kind (kinds.Header _) n = Some (kept_pack n (partition_at n))
-kept_of_kind (kinds.Body _) n = Some (kept_pack n (partition_at n))
-kept_of_kind (kinds.Footer _) n = Some (kept_pack n (partition_at n))
-kept_of_kind kinds.Segment n = option_map Segment (kept_segment n)
-kept_of_kind kinds.Rip n = Some (RandomIndexPack n.offset)
-kept_of_kind _ n = None
+-- What is kept of a note of a kind, by the partition and the segment that it is.
+abbrev pub kept_by_kind : Kind → NoteParts → Option PartitionParts → Option SegmentAtParts → Option Kept
+kept_by_kind (kinds.Header _) n partition segment = Some (kept_pack n partition)
+kept_by_kind (kinds.Body _) n partition segment = Some (kept_pack n partition)
+kept_by_kind (kinds.Footer _) n partition segment = Some (kept_pack n partition)
+kept_by_kind kinds.Segment n partition segment = option_map Segment segment
+kept_by_kind kinds.Rip n partition segment = Some (RandomIndexPack n.offset)
+kept_by_kind _ n partition segment = None
 
 -- What is kept of the note.
 unfoldable pub kept_note : NoteParts → Option Kept
-kept_note n = kept_of_kind (kind_of n.key) n
+kept_note n = kept_by_kind (kind_of n.key) n (partition_at n) (kept_segment n)
 
 -- The partition, the segment, the offset of a random index pack, or that of an unreadable partition pack.
 abbrev pub partition_in : Option Kept → Option PartitionParts

@@ -7,10 +7,9 @@ use Rattle.mxf_klv.specs.Note.{end_of}
 use Rattle.mxf_sets.specs.Batch.{BatchParts}
 use Rattle.mxf_sets.specs.PackReadings.{primer_at}
 use Rattle.mxf_sets.specs.Readable.{read_as}
-use Rattle.mxf_catalogue.specs.Disputes.{IsClear, clear_notes}
+use Rattle.mxf_catalogue.specs.Disputes.{IsClear, clear_notes, lies_in}
 use Rattle.mxf_views.specs.declared.copy.CopyInfo.{CopyInfo}
 use Rattle.mxf_views.specs.Copies.{IsCopy, IsPrimerOf, copies_of}
-use Rattle.mxf_catalogue.specs.Disputes.{lies_in}
 
 -- The packet lies wholly in the zone that begins there, in none without a start.
 abbrev pub is_in_zone : NoteParts → ℕ → Option ℕ → Bool

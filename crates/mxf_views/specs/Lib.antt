@@ -1,4 +1,5 @@
 pub mod Readings
+pub mod Rises
 pub mod Partitions
 pub mod Gaps
 pub mod Spans

@@ -1,16 +1,15 @@
 -- Partitions, their links and their chain (ST 377-1, Partition Pack; the names of the links are this project's
 -- profile). They are by the clear notes alone.
 use Rattle.std.specs.Prelude.{◌≡◌, ◌≢◌, ℕ, ◌<◌, ◌≤◌, ◌⊎◌, Bool, true, false, not, ◌&&◌, ◌||◌, ◌==◌, nat_le, nat_lt}
-use Rattle.std.specs.Prelude.{if◌then◌else◌}
-use Rattle.std.specs.Prelude.{Option, is_some, List, [], ◌∷◌, find, count_by}
+use Rattle.std.specs.Prelude.{if◌then◌else◌, Option, is_some, List, [], find, count_by}
 use Rattle.std.specs.Option.{option_map}
-use Rattle.std.specs.List.{list_any, list_all, filter_map, AllByRecursion}
+use Rattle.std.specs.List.{list_any, list_all, filter_map}
 use Rattle.mxf_klv.specs.Parts.{NoteParts}
 use Rattle.mxf_klv.specs.Note.{end_of}
 use Rattle.mxf_klv.specs.Kind.{kind_of}
 use Rattle.mxf_klv.specs.Rising.{In}
 use Rattle.mxf_sets.specs.declared.pack.part.PackPart.{PackPart}
-use Rattle.mxf_sets.specs.declared.pack.part.PackPart.TheVariants.{Header, Footer}
+use Rattle.mxf_sets.specs.declared.pack.part.PackPart.TheVariants.{Header, Body, Footer}
 use Rattle.mxf_klv.specs.declared.kinds.Status.{Status}
 use Rattle.mxf_sets.specs.declared.pack.numbers.PartitionNumbers.{PartitionNumbers}
 use Rattle.mxf_sets.specs.Batch.{batch_parts}
@@ -23,6 +22,7 @@ use Rattle.mxf_views.specs.declared.chain.Chain.TheVariants.{Whole, Broken}
 use Rattle.mxf_sets.specs.PackReadings.{pack_at, part_and_status}
 use Rattle.mxf_sets.specs.Readable.{read_as}
 use Rattle.mxf_views.specs.Readings.{IsReadAs}
+use Rattle.mxf_views.specs.Rises.{RiseBy}
 
 -- A partition: where its pack begins and ends, and the pack.
 pub record PartitionParts : Type 0 where
@@ -88,6 +88,12 @@ abbrev pub is_footer : PackPart → Bool
 is_footer Footer = true
 is_footer _ = false
 
+-- It is the part that the first says.
+abbrev pub is_part : PackPart → PackPart → Bool
+is_part Header part = is_header part
+is_part Body part = not (is_header part || is_footer part)
+is_part Footer part = is_footer part
+
 abbrev pub is_first : Link → Bool
 is_first First = true
 is_first _ = false
@@ -140,8 +146,7 @@ IsPartition notes p = (n : NoteParts) × IsClear n notes × IsReadablePack n p
 
 -- Each stands below all later ones.
 abbrev pub AreInOrder : List PartitionParts → Type 0
-AreInOrder [] = Unit {0}
-AreInOrder (p ∷ partitions) = AllByRecursion (λ q. p.offset < q.offset) partitions × AreInOrder partitions
+AreInOrder partitions = RiseBy (λ p. p.offset) partitions
 
 -- One of the partitions stands at the offset.
 abbrev pub StandsAt : List PartitionParts → ℕ → Type 0

@@ -3,7 +3,7 @@
 use Rattle.std.specs.Prelude.{◌≡◌, ℕ, ◌<◌, ◌==◌, ◌⊎◌, Bool, true, false, IsTrue, if◌then◌else◌, Option, Some, None, Ok}
 use Rattle.std.specs.Prelude.{List, [], ◌∷◌}
 use Rattle.std.specs.Option.{option_map}
-use Rattle.std.specs.List.{filter_map, AllByRecursion}
+use Rattle.std.specs.List.{filter_map}
 use Rattle.std.specs.Ordering.{nat_cmp, on, then_cmp}
 use Rattle.std.specs.declared.cmp.Ordering.{Ordering}
 use Rattle.mxf_klv.specs.declared.kinds.Kind.{Kind}
@@ -16,7 +16,8 @@ use Rattle.mxf_sets.specs.Segment.{SegmentParts, segment_at, segment_parts}
 use Rattle.mxf_sets.specs.Offset.{stream_offset}
 use Rattle.mxf_sets.specs.Readable.{read_as}
 use Rattle.mxf_catalogue.specs.Disputes.{IsClear, clear_notes}
-use Rattle.mxf_views.specs.declared.index.place.Pair.{Pair}
+use Rattle.mxf_views.specs.declared.index.place.StreamPlace.{StreamPlace}
+use Rattle.mxf_views.specs.Rises.{RiseBy}
 use Rattle.mxf_views.specs.declared.index.place.Place.{Place}
 use Rattle.mxf_views.specs.declared.index.place.Place.TheVariants.{NotIndexed, At, Ambiguous}
 
@@ -34,12 +35,12 @@ is_segment kinds.Segment = true
 is_segment _ = false
 
 -- The segment of a note, where it is a readable index table segment: its value is kept and is one.
-abbrev pub segment_in : NoteParts → Option SegmentParts
-segment_in n = if is_segment (kind_of n.key) then read_as segment_at n else None
+abbrev pub segment_by_kind : NoteParts → Option SegmentParts
+segment_by_kind n = if is_segment (kind_of n.key) then read_as segment_at n else None
 
 -- The same, with where the note is.
 unfoldable pub placed_segment : NoteParts → Option SegmentAtParts
-placed_segment n = option_map (λ segment. record { offset = n.offset; segment = segment }) (segment_in n)
+placed_segment n = option_map (λ segment. record { offset = n.offset; segment = segment }) (segment_by_kind n)
 
 abbrev pub segments_among : List NoteParts → List SegmentAtParts
 segments_among notes = filter_map placed_segment notes
@@ -52,32 +53,34 @@ without_entries s = record { offset = s.offset; segment = segment_parts s.segmen
 unfoldable pub segments_of : List NoteParts → List SegmentAtParts
 segments_of notes = segments_among (clear_notes notes)
 
--- The place that a segment gives for a unit, where it is one of the IndexSID and covers the unit: an offset in the
--- essence stream of its BodySID.
-unfoldable pub pair_of : ℕ → ℕ → SegmentAtParts → Option Pair
-pair_of index_sid unit s =
-    if s.segment.numbers.index_sid == index_sid
-    then option_map (λ offset. record { body_sid = s.segment.numbers.body_sid; offset = offset })
-    (stream_offset s.segment unit)
-    else None
+abbrev pub in_stream : SegmentAtParts → ℕ → StreamPlace
+in_stream s offset = record { body_sid = s.segment.numbers.body_sid; offset = offset }
+
+-- The place that a segment gives a unit, where it covers the unit: an offset in the essence stream of its BodySID.
+abbrev pub place_in : ℕ → SegmentAtParts → Option StreamPlace
+place_in unit s = option_map (in_stream s) (stream_offset s.segment unit)
+
+-- The same, where the segment is one of the IndexSID.
+unfoldable pub given_by : ℕ → ℕ → SegmentAtParts → Option StreamPlace
+given_by index_sid unit s = if s.segment.numbers.index_sid == index_sid then place_in unit s else None
 
 -- By BodySID, then by offset.
-abbrev pub pair_cmp : Pair → Pair → Ordering
-pair_cmp = then_cmp (on (λ p. p.body_sid) nat_cmp) (on (λ p. p.offset) nat_cmp)
+abbrev pub place_cmp : StreamPlace → StreamPlace → Ordering
+place_cmp = then_cmp (on (λ p. p.body_sid) nat_cmp) (on (λ p. p.offset) nat_cmp)
 
--- Pairs with those that the segments give, as a list that rises.
-abbrev pub pairs_with : List Pair → ℕ → ℕ → List SegmentAtParts → List Pair
-pairs_with pairs index_sid unit segments = union pair_cmp pairs (filter_map (pair_of index_sid unit) segments)
+-- Places with those that the segments give, as a list that rises.
+abbrev pub places_with : List StreamPlace → ℕ → ℕ → List SegmentAtParts → List StreamPlace
+places_with places index_sid unit segments = union place_cmp places (filter_map (given_by index_sid unit) segments)
 
--- None, the only pair, or the two least.
-abbrev pub place_by : List Pair → Place
+-- None, the only one, or the two least.
+abbrev pub place_by : List StreamPlace → Place
 place_by [] = NotIndexed
 place_by (p ∷ []) = At p.body_sid p.offset
-place_by (p ∷ q ∷ pairs) = Ambiguous p q
+place_by (p ∷ q ∷ places) = Ambiguous p q
 
 -- Where the segments of an IndexSID put a unit.
 abbrev pub place_of : List SegmentAtParts → ℕ → ℕ → Place
-place_of segments index_sid unit = place_by (pairs_with [] index_sid unit segments)
+place_of segments index_sid unit = place_by (places_with [] index_sid unit segments)
 
 -- The segment is that of a clear readable index table segment.
 pub record IsSegmentAt (notes : List NoteParts) (s : SegmentAtParts) : Type 0 where
@@ -90,35 +93,34 @@ pub record IsSegmentAt (notes : List NoteParts) (s : SegmentAtParts) : Type 0 wh
 
 -- Each stands below all later ones.
 abbrev pub SegmentsRise : List SegmentAtParts → Type 0
-SegmentsRise [] = Unit {0}
-SegmentsRise (s ∷ segments) = AllByRecursion (λ t. s.offset < t.offset) segments × SegmentsRise segments
+SegmentsRise segments = RiseBy (λ s. s.offset) segments
 
--- One of the segments is of the IndexSID, and gives the pair for the unit.
-pub record IsGiven (segments : List SegmentAtParts) (index_sid unit : ℕ) (p : Pair) : Type 0 where
+-- One of the segments is of the IndexSID, and gives the place for the unit.
+pub record IsGiven (segments : List SegmentAtParts) (index_sid unit : ℕ) (p : StreamPlace) : Type 0 where
   pub by : SegmentAtParts
   pub held : In by segments
   pub index : by.segment.numbers.index_sid ≡ index_sid
   pub body : by.segment.numbers.body_sid ≡ p.body_sid
   pub offset : stream_offset by.segment unit ≡ Some p.offset
 
--- The BodySID is below that of the other pair, or they are equal and the offset is below.
-abbrev pub IsBelow : Pair → Pair → Type 0
+-- The BodySID is below that of the other place, or they are equal and the offset is below.
+abbrev pub IsBelow : StreamPlace → StreamPlace → Type 0
 IsBelow p q = (p.body_sid < q.body_sid) ⊎ ((p.body_sid ≡ q.body_sid) × (p.offset < q.offset))
 
--- The pair of these numbers is given, and no other.
-pub record IsOnlyPair (segments : List SegmentAtParts) (index_sid unit body_sid offset : ℕ) : Type 0 where
+-- The place of these numbers is given, and no other.
+pub record IsOnlyPlace (segments : List SegmentAtParts) (index_sid unit body_sid offset : ℕ) : Type 0 where
   pub given : IsGiven segments index_sid unit record { body_sid = body_sid; offset = offset }
-  pub only : (p : Pair) → IsGiven segments index_sid unit p → (p.body_sid ≡ body_sid) × (p.offset ≡ offset)
+  pub only : (p : StreamPlace) → IsGiven segments index_sid unit p → (p.body_sid ≡ body_sid) × (p.offset ≡ offset)
 
--- Both are given, the first is below the second, and the second is below all other pairs that are given.
-pub record AreTwoLeast (segments : List SegmentAtParts) (index_sid unit : ℕ) (p q : Pair) : Type 0 where
+-- Both are given, the first is below the second, and the second is below all other places that are given.
+pub record AreTwoLeast (segments : List SegmentAtParts) (index_sid unit : ℕ) (p q : StreamPlace) : Type 0 where
   pub first : IsGiven segments index_sid unit p
   pub second : IsGiven segments index_sid unit q
   pub below : IsBelow p q
-  pub least : (r : Pair) → IsGiven segments index_sid unit r → (r ≡ p) ⊎ ((r ≡ q) ⊎ IsBelow q r)
+  pub least : (r : StreamPlace) → IsGiven segments index_sid unit r → (r ≡ p) ⊎ ((r ≡ q) ⊎ IsBelow q r)
 
--- No pair is given for the unit, or one alone, or more.
+-- No place is given for the unit, or one alone, or more.
 abbrev pub IsPlace : List SegmentAtParts → ℕ → ℕ → Place → Type 0
-IsPlace segments index_sid unit NotIndexed = (p : Pair) → ¬ IsGiven segments index_sid unit p
-IsPlace segments index_sid unit (At body_sid offset) = IsOnlyPair segments index_sid unit body_sid offset
+IsPlace segments index_sid unit NotIndexed = (p : StreamPlace) → ¬ IsGiven segments index_sid unit p
+IsPlace segments index_sid unit (At body_sid offset) = IsOnlyPlace segments index_sid unit body_sid offset
 IsPlace segments index_sid unit (Ambiguous p q) = AreTwoLeast segments index_sid unit p q

@@ -3,8 +3,7 @@ use Rattle.std.specs.Prelude.{ℕ, List, [], ◌∷◌, ◌++◌, replicate}
 use Rattle.mxf_klv.specs.Parts.{PacketParts, packet_parts}
 use Rattle.mxf_sets.specs.declared.pack.part.PackPart.TheVariants.{Header, Body, Footer}
 use Rattle.mxf_views.specs.WorkedFiles.{bare_file, constant, entry, essence, essence_key, numbers, pack, preface}
-use Rattle.mxf_views.specs.WorkedFiles.{primer}
-use Rattle.mxf_views.specs.WorkedFiles.{segment, structure_key, two_entries}
+use Rattle.mxf_views.specs.WorkedFiles.{primer, segment, structure_key, two_entries}
 
 -- A packet spells the length of its 128 bytes in one byte, which can say 127 at most.
 abbrev pub narrow_length : List PacketParts

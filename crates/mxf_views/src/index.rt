@@ -8,11 +8,12 @@ ghost use Rattle.mxf_catalogue.specs.Content.{IsContent};
 ghost use Rattle.std.specs.Iterator.{YieldsFirst, item_count};
 ghost use Rattle.mxf_views.specs.Places.{IsSegmentAt, SegmentAtParts, SegmentsRise, segments_of};
 ghost use Rattle.mxf_views.specs.Kept.{kept_among, kept_segment};
-ghost use Rattle.mxf_views.specs.Places.{place_of, placed_segment, segment_in};
+ghost use Rattle.mxf_views.specs.Places.{place_of, placed_segment, segment_by_kind};
 
 pub(crate) mod place;
 
-use crate::index::place::{Place, pair_of};
+use crate::index::place::{Place, given_by};
+use crate::placed::NotesAt;
 use mxf_catalogue::Catalogue;
 use mxf_klv::{Keyed, Kind, Note};
 use mxf_sets::{Segment, SegmentNumbers};
@@ -74,7 +75,7 @@ fn read_value(note: &Note) -> Option<Segment<'_>>
 
 /// The segment of a note, where it is a readable index table segment.
 fn read_segment(note: &Note) -> Option<Segment<'_>>
-    ensures { result ≡ segment_in note.now }
+    ensures { result ≡ segment_by_kind note.now }
 {
     match note.kind() {
         Kind::Segment => read_value(note),
@@ -115,18 +116,16 @@ pub(crate) fn segment_there(catalogue: &Catalogue, offset: u64) -> Option<Segmen
 /// The segments that are left, rising.
 #[derive(Debug, Drop)]
 pub struct Segments<'a> {
-    catalogue: &'a Catalogue,
-    kept: &'a [SegmentInNumbers],
+    notes: NotesAt<'a, SegmentInNumbers>,
 }
 
 impl<'a> Model for Segments<'a> {
     ghost use Rattle.std.specs.Prelude.{List};
-    ghost use Rattle.mxf_views.specs.Places.{SegmentAtParts};
-    ghost use Rattle.mxf_views.specs.Kept.{segments_at};
+    ghost use Rattle.mxf_views.specs.Places.{SegmentAtParts, segments_among};
 
     ghost Value = { List SegmentAtParts };
 
-    ghost view = { λ s. segments_at s.catalogue.now s.kept.now };
+    ghost view = { λ s. segments_among s.notes };
 }
 
 impl<'a> Segments<'a> {
@@ -137,7 +136,8 @@ impl<'a> Segments<'a> {
         ensures bound { length result < 2 ^ 64 }
     {
         catalogue.laws();
-        Segments { catalogue, kept }
+        let notes = NotesAt::of(catalogue, kept);
+        Segments { notes }
     }
 
     /// Where those of an IndexSID put an edit unit.
@@ -146,8 +146,8 @@ impl<'a> Segments<'a> {
     {
         let mut place = Place::NotIndexed;
         for segment in self {
-            if let Some(pair) = pair_of(&segment, index_sid, unit) {
-                place = place.with(pair);
+            if let Some(given) = given_by(&segment, index_sid, unit) {
+                place = place.with(given);
             }
         }
         place
@@ -162,9 +162,8 @@ impl<'a> Iterator for Segments<'a> {
     ghost remaining = { item_count (λ s. s) };
 
     fn next(&mut self) -> Option<SegmentAt<'a>> {
-        while let Some((first, left)) = self.kept.split_first() {
-            self.kept = left;
-            if let Some(segment) = segment_there(self.catalogue, first.offset) {
+        while let Some(note) = self.notes.next() {
+            if let Some(segment) = placed_segment(note) {
                 return Some(segment);
             }
         }

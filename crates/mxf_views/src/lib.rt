@@ -76,7 +76,7 @@ pub use copy::{
 };
 pub use finding::{Code, Finding, Findings, findings_by_definition};
 pub use gap::{Gaps, gaps_by_definition};
-pub use index::place::{BadUnit, Pair, Place, places_by_definition};
+pub use index::place::{BadUnit, Place, StreamPlace, places_by_definition};
 pub use index::{SegmentAt, SegmentInNumbers, Segments, segments_by_definition};
 pub use partition::{Partition, PartitionAt, Partitions, partitions_by_definition};
 pub use random_index::{

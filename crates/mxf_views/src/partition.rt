@@ -7,8 +7,9 @@ ghost use Rattle.mxf_catalogue.specs.Content.{IsContent};
 ghost use Rattle.mxf_views.specs.Partitions.{AreInOrder, IsPartition, PartitionParts, partitions_of};
 ghost use Rattle.std.specs.Iterator.{YieldsFirst, item_count};
 ghost use Rattle.mxf_views.specs.Kept.{kept_among, kept_partition};
-ghost use Rattle.mxf_views.specs.Partitions.{in_numbers, is_footer, is_header, pack_of, partition_at};
+ghost use Rattle.mxf_views.specs.Partitions.{in_numbers, is_part, pack_of, partition_at};
 
+use crate::placed::NotesAt;
 use mxf_catalogue::Catalogue;
 use mxf_klv::{Keyed, Kind, Note, Status};
 use mxf_sets::{PackPart, PartitionNumbers, PartitionPack};
@@ -117,18 +118,16 @@ pub(crate) fn partition_at(note: &Note) -> Option<PartitionAt<'_>>
 /// The partitions that are left, rising.
 #[derive(Debug, Drop)]
 pub struct Partitions<'a> {
-    catalogue: &'a Catalogue,
-    kept: &'a [Partition],
+    notes: NotesAt<'a, Partition>,
 }
 
 impl<'a> Model for Partitions<'a> {
     ghost use Rattle.std.specs.Prelude.{List};
-    ghost use Rattle.mxf_views.specs.Partitions.{PartitionParts};
-    ghost use Rattle.mxf_views.specs.Kept.{partitions_at};
+    ghost use Rattle.mxf_views.specs.Partitions.{PartitionParts, partitions_among};
 
     ghost Value = { List PartitionParts };
 
-    ghost view = { λ s. partitions_at s.catalogue.now s.kept.now };
+    ghost view = { λ s. partitions_among s.notes };
 }
 
 impl<'a> Partitions<'a> {
@@ -139,28 +138,16 @@ impl<'a> Partitions<'a> {
         ensures bound { length result < 2 ^ 64 }
     {
         catalogue.laws();
-        Partitions { catalogue, kept }
+        let notes = NotesAt::of(catalogue, kept);
+        Partitions { notes }
     }
 }
 
-/// How many of the partitions are headers.
-pub(crate) fn header_count(partitions: &[Partition]) -> usize
-    ensures { result ≡ count_by (λ p. is_header p.pack.part) partitions.now }
+/// How many of the partitions are such a part of the file.
+pub(crate) fn part_count(partitions: &[Partition], part: PackPart) -> usize
+    ensures { result ≡ count_by (λ p. is_part part p.pack.part) partitions.now }
 {
-    partitions
-        .iter()
-        .filter(|p| p.part == PackPart::Header)
-        .count()
-}
-
-/// How many of the partitions are footers.
-pub(crate) fn footer_count(partitions: &[Partition]) -> usize
-    ensures { result ≡ count_by (λ p. is_footer p.pack.part) partitions.now }
-{
-    partitions
-        .iter()
-        .filter(|p| p.part == PackPart::Footer)
-        .count()
+    partitions.iter().filter(|p| p.part == part).count()
 }
 
 /// The partition at a file offset, with its pack.
@@ -178,9 +165,8 @@ impl<'a> Iterator for Partitions<'a> {
     ghost remaining = { item_count (λ s. s) };
 
     fn next(&mut self) -> Option<PartitionAt<'a>> {
-        while let Some((first, left)) = self.kept.split_first() {
-            self.kept = left;
-            if let Some(partition) = partition_there(self.catalogue, first.offset) {
+        while let Some(note) = self.notes.next() {
+            if let Some(partition) = partition_at(note) {
                 return Some(partition);
             }
         }

@@ -1,39 +1,38 @@
-//! The clear notes at file offsets.
-ghost use Rattle.std.specs.Prelude.{◌≡◌, ◌<◌, ◌^◌, length};
+//! The clear notes that something is kept of.
+ghost use Rattle.std.specs.Prelude.{◌≡◌};
 ghost use Rattle.std.specs.Iterator.{YieldsFirstRef, item_count};
 ghost use Rattle.mxf_views.specs.Kept.{notes_at};
 
 use mxf_catalogue::Catalogue;
-use mxf_klv::Note;
+use mxf_klv::{Keyed, Note};
 use std::marker::Model;
 
-/// The clear notes that are left, at file offsets of a catalogue.
+/// The clear notes of a catalogue that are left, at the keys of what is kept of them, which are file offsets.
 #[derive(Debug, Drop)]
-pub(crate) struct NotesAt<'a> {
+pub(crate) struct NotesAt<'a, T: Keyed> {
     catalogue: &'a Catalogue,
-    offsets: &'a [u64],
+    kept: &'a [T],
 }
 
-impl<'a> Model for NotesAt<'a> {
+impl<'a, T: Keyed> Model for NotesAt<'a, T> {
     ghost use Rattle.std.specs.Prelude.{List};
     ghost use Rattle.mxf_klv.specs.Parts.{NoteParts};
     ghost use Rattle.mxf_views.specs.Kept.{notes_at};
 
     ghost Value = { List NoteParts };
 
-    ghost view = { λ s. notes_at s.catalogue.now s.offsets.now };
+    ghost view = { λ s. notes_at T.key s.catalogue.now s.kept.now };
 }
 
-impl<'a> NotesAt<'a> {
-    pub fn of(catalogue: &'a Catalogue, offsets: &'a [u64]) -> NotesAt<'a>
-        ensures notes { result ≡ notes_at catalogue.now offsets.now }
-        ensures bound { length result < 2 ^ 64 }
+impl<'a, T: Keyed> NotesAt<'a, T> {
+    pub fn of(catalogue: &'a Catalogue, kept: &'a [T]) -> NotesAt<'a, T>
+        ensures { result ≡ notes_at T.key catalogue.now kept.now }
     {
-        NotesAt { catalogue, offsets }
+        NotesAt { catalogue, kept }
     }
 }
 
-impl<'a> Iterator for NotesAt<'a> {
+impl<'a, T: Keyed> Iterator for NotesAt<'a, T> {
     type Item = &'a Note;
 
     ghost next_gives = { YieldsFirstRef (λ s. s) };
@@ -41,9 +40,9 @@ impl<'a> Iterator for NotesAt<'a> {
     ghost remaining = { item_count (λ s. s) };
 
     fn next(&mut self) -> Option<&'a Note> {
-        while let Some((offset, left)) = self.offsets.split_first() {
-            self.offsets = left;
-            if let Some(note) = self.catalogue.clear_at(*offset) {
+        while let Some((first, left)) = self.kept.split_first() {
+            self.kept = left;
+            if let Some(note) = self.catalogue.clear_at(first.key()) {
                 return Some(note);
             }
         }

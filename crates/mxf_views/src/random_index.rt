@@ -7,7 +7,7 @@ ghost use Rattle.std.specs.Iterator.{YieldsFirst, YieldsFirstRef, item_count};
 ghost use Rattle.mxf_views.specs.Partitions.{partitions_of};
 ghost use Rattle.mxf_views.specs.declared.random_index.Standing.{Standing};
 ghost use Rattle.mxf_views.specs.declared.random_index.RipView.{RipView};
-ghost use Rattle.mxf_views.specs.Kept.{RiseBy};
+ghost use Rattle.mxf_views.specs.Rises.{RiseBy};
 ghost use Rattle.mxf_views.specs.RandomIndexView.{IsRipView, rip_view_of};
 ghost use Rattle.mxf_views.specs.RandomIndex.{IsStanding, is_rip_note, rip_in, standing_of};
 
@@ -76,7 +76,7 @@ pub struct RipAt<'a> {
 
 impl<'a> Model for RipAt<'a> {
     ghost use Rattle.std.specs.Prelude.{◌<◌, ◌^◌, length};
-    ghost use Rattle.mxf_views.specs.Kept.{RiseBy};
+    ghost use Rattle.mxf_views.specs.Rises.{RiseBy};
     ghost use Rattle.mxf_views.specs.RandomIndex.{RipAtParts, standings_among};
 
     ghost Value = { RipAtParts };
@@ -129,7 +129,7 @@ impl<'a> Model for Standings<'a> {
     ghost use Rattle.std.specs.Prelude.{List};
     ghost use Rattle.mxf_sets.specs.declared.pack.random_index.RipEntry.{RipEntry};
     ghost use Rattle.mxf_views.specs.declared.random_index.Standing.{Standing};
-    ghost use Rattle.mxf_views.specs.Kept.{RiseBy};
+    ghost use Rattle.mxf_views.specs.Rises.{RiseBy};
     ghost use Rattle.mxf_views.specs.RandomIndex.{standings_among};
 
     ghost Value = { List (RipEntry × Standing) };
@@ -184,7 +184,7 @@ impl<'a> RipView<'a> {
     ghost use Rattle.mxf_views.specs.RandomIndexView.{rip_view_among};
 
     /// What is known of the random index pack, by the clear ones, of a file with these partitions.
-    pub(crate) fn of(mut rips: NotesAt<'a>, partitions: &'a [Partition]) -> RipView<'a>
+    pub(crate) fn of(mut rips: NotesAt<'a, u64>, partitions: &'a [Partition]) -> RipView<'a>
         requires { RiseBy (λ p. p.offset) partitions.now }
         ensures { result ≡ rip_view_among partitions.now rips.entry }
     {

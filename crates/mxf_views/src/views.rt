@@ -9,7 +9,7 @@ ghost use Rattle.mxf_klv.specs.Rising.{In};
 ghost use Rattle.mxf_catalogue.specs.Content.{AreReduced, has_note, reduced_union, reduced_with};
 ghost use Rattle.mxf_catalogue.specs.History.{History, Add, Join, Of, content};
 ghost use Rattle.mxf_catalogue.specs.Moved.{TellsMoved};
-ghost use Rattle.mxf_views.specs.Partitions.{partitions_of, link_by, link_of, link_at, is_linked, chain_of, is_header};
+ghost use Rattle.mxf_views.specs.Partitions.{partitions_of, link_by, link_of, link_at, is_linked, chain_of, is_part};
 ghost use Rattle.mxf_views.specs.Partitions.{in_numbers, is_footer, is_greatest, is_no_unreadable_pack, stands_above};
 ghost use Rattle.mxf_views.specs.Gaps.{gaps_of};
 ghost use Rattle.mxf_views.specs.Copies.{copies_of, preferred_of, sets_of};
@@ -22,7 +22,8 @@ ghost use Rattle.mxf_views.specs.Places.{greatest_unit, place_of, segments_of, w
 ghost use Rattle.mxf_views.specs.RandomIndex.{rips_of};
 ghost use Rattle.mxf_views.specs.RandomIndexView.{rip_view_of};
 ghost use Rattle.mxf_views.specs.Findings.{findings_of};
-ghost use Rattle.mxf_views.specs.Kept.{MeetAt, RiseBy};
+ghost use Rattle.mxf_views.specs.Kept.{MeetAt};
+ghost use Rattle.mxf_views.specs.Rises.{RiseBy};
 ghost use Rattle.mxf_views.specs.Headline.{IsTheRun};
 ghost use Rattle.mxf_views.specs.SameViews.{SameViews};
 
@@ -38,7 +39,7 @@ use crate::kept::above::boundary;
 use crate::kept::arrival::Arrival;
 use crate::kept::keyed::{any_above, find_by_key};
 use crate::kept::reaches::copy_around;
-use crate::partition::{Partition, PartitionAt, Partitions, footer_count, header_count};
+use crate::partition::{Partition, PartitionAt, Partitions, part_count};
 use crate::placed::NotesAt;
 use crate::random_index::RipView;
 use crate::reference::resolved::{Resolved, preface_among, resolved_by};
@@ -264,8 +265,8 @@ impl Views {
     pub fn chain(&self) -> Chain
         ensures { result ≡ chain_of self.now }
     {
-        if self.has_one_header()
-            && self.has_one_footer()
+        if self.has_one(PackPart::Header)
+            && self.has_one(PackPart::Footer)
             && self.are_linked()
             && self.ends_in_footer()
             && self.has_readable_packs()
@@ -276,16 +277,11 @@ impl Views {
         }
     }
 
-    fn has_one_header(&self) -> bool
-        ensures { result ≡ (count_by (λ p. is_header p.pack.part) (partitions_of self.now) == 1) }
+    /// Whether exactly one of the partitions is such a part of the file.
+    fn has_one(&self, part: PackPart) -> bool
+        ensures { result ≡ (count_by (λ p. is_part part p.pack.part) (partitions_of self.now) == 1) }
     {
-        header_count(self.partitions_in_numbers()) == 1
-    }
-
-    fn has_one_footer(&self) -> bool
-        ensures { result ≡ (count_by (λ p. is_footer p.pack.part) (partitions_of self.now) == 1) }
-    {
-        footer_count(self.partitions_in_numbers()) == 1
+        part_count(self.partitions_in_numbers(), part) == 1
     }
 
     fn are_linked(&self) -> bool
@@ -335,7 +331,7 @@ impl Views {
     }
 
     /// The clear partition packs that aren't readable, rising.
-    pub(crate) fn unreadable_packs(&self) -> NotesAt<'_>
+    pub(crate) fn unreadable_packs(&self) -> NotesAt<'_, u64>
         ensures { result ≡ filter (λ n. not (is_no_unreadable_pack n)) (clear_notes self.now) }
     {
         NotesAt::of(&self.catalogue, &self.kept.unreadable_packs)
@@ -491,7 +487,7 @@ impl Views {
     }
 
     /// The clear random index packs, readable or not, rising.
-    pub(crate) fn random_index_packs(&self) -> NotesAt<'_>
+    pub(crate) fn random_index_packs(&self) -> NotesAt<'_, u64>
         ensures { result ≡ rips_of self.now }
     {
         NotesAt::of(&self.catalogue, &self.kept.random_index_packs)

@@ -54,15 +54,10 @@ fn has_other_rip(views: &Views, note: &Note) -> bool
 }
 
 /// Whether one of the whole notes ends above a file offset.
-fn ends_above(end: u64, notes: Notes<'_>) -> bool
+fn ends_above(end: u64, mut notes: Notes<'_>) -> bool
     ensures { result ≡ ends_above end notes.entry }
 {
-    for note in notes {
-        if !note.is_head() && end < note.end() {
-            return true;
-        }
-    }
-    false
+    notes.any(|note| !note.is_head() && end < note.end())
 }
 
 /// Whether the note has a random index pack that doesn't fit: another clear note has one too, some whole note ends

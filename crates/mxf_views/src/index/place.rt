@@ -2,9 +2,9 @@
 //! segments disagree is this project's profile).
 ghost use Rattle.std.specs.Prelude.{◌≡◌, ◌↔◌, ℕ, List, [], ◌∷◌};
 ghost use Rattle.mxf_klv.specs.Rising.{In, IsRising, with_one};
-ghost use Rattle.mxf_views.specs.declared.index.place.Pair.{Pair};
+ghost use Rattle.mxf_views.specs.declared.index.place.StreamPlace.{StreamPlace};
 ghost use Rattle.mxf_views.specs.declared.index.place.Place.{Place};
-ghost use Rattle.mxf_views.specs.Places.{IsGiven, IsPlace, SegmentAtParts, pair_cmp, pair_of, place_by, place_of};
+ghost use Rattle.mxf_views.specs.Places.{IsGiven, IsPlace, SegmentAtParts, place_cmp, given_by, place_by, place_of};
 
 use crate::index::SegmentAt;
 use std::cmp::Ordering;
@@ -14,8 +14,8 @@ use thiserror::Error;
 pub(crate) const GREATEST_UNIT: u64 = 9_223_372_036_854_775_807;
 
 /// A place in an essence stream.
-#[derive(Clone, Copy, Debug, PartialEq, Eq)]
-pub struct Pair {
+#[derive(Clone, Copy, Debug, PartialEq, Eq, PartialOrd, Ord)]
+pub struct StreamPlace {
     /// The BodySID of the stream.
     pub body_sid: u32,
     /// In bytes from the start of the stream.
@@ -44,9 +44,9 @@ pub enum Place {
     /// Segments give different places.
     Ambiguous {
         /// The least, by BodySID and then by offset.
-        first: Pair,
+        first: StreamPlace,
         /// The least but one.
-        second: Pair,
+        second: StreamPlace,
     },
 }
 
@@ -55,12 +55,12 @@ pub enum Place {
 #[error("bad unit")]
 pub struct BadUnit;
 
-impl Pair {
-    /// The place of two pairs.
-    fn beside(self, other: Pair) -> Place
-        ensures { result ≡ place_by (with_one pair_cmp self (other ∷ [])) }
+impl StreamPlace {
+    /// Where the index puts a unit that both are given for.
+    fn beside(self, other: StreamPlace) -> Place
+        ensures { result ≡ place_by (with_one place_cmp self (other ∷ [])) }
     {
-        match self.order(&other) {
+        match self.cmp(&other) {
             Ordering::Less => Place::Ambiguous {
                 first: self,
                 second: other,
@@ -75,54 +75,46 @@ impl Pair {
             },
         }
     }
-
-    fn order(&self, other: &Pair) -> Ordering
-        ensures { result ≡ pair_cmp self.now other.now }
-    {
-        self.body_sid
-            .cmp(&other.body_sid)
-            .then(self.offset.cmp(&other.offset))
-    }
 }
 
 /// The place that a segment gives for an edit unit, where it is one of the IndexSID and covers the unit.
-#[tactic(auto, unfolding(crate::specs::Places::pair_of))]
-pub(super) fn pair_of(segment: &SegmentAt<'_>, index_sid: u32, unit: u64) -> Option<Pair>
-    ensures { result ≡ pair_of index_sid unit segment.now }
+#[tactic(auto, unfolding(crate::specs::Places::given_by))]
+pub(super) fn given_by(segment: &SegmentAt<'_>, index_sid: u32, unit: u64) -> Option<StreamPlace>
+    ensures { result ≡ given_by index_sid unit segment.now }
 {
     let numbers = segment.segment.numbers();
     if numbers.index_sid != index_sid {
         return None;
     }
     let offset = segment.segment.offset_of(unit)?;
-    Some(Pair {
+    Some(StreamPlace {
         body_sid: numbers.body_sid,
         offset,
     })
 }
 
 impl Place {
-    /// The place with one more pair.
-    pub(super) fn with(self, pair: Pair) -> Place
-        ensures { (pairs : List Pair) → IsRising pair_cmp pairs → self ≡ place_by pairs
-            → result ≡ place_by (with_one pair_cmp pair pairs) }
+    /// The place with one more that is given.
+    pub(super) fn with(self, given: StreamPlace) -> Place
+        ensures { (places : List StreamPlace) → IsRising place_cmp places → self ≡ place_by places
+            → result ≡ place_by (with_one place_cmp given places) }
     {
         match self {
             Place::NotIndexed => Place::At {
-                body_sid: pair.body_sid,
-                offset: pair.offset,
+                body_sid: given.body_sid,
+                offset: given.offset,
             },
-            Place::At { body_sid, offset } => pair.beside(Pair { body_sid, offset }),
-            Place::Ambiguous { first, second } => match pair.order(&first) {
+            Place::At { body_sid, offset } => given.beside(StreamPlace { body_sid, offset }),
+            Place::Ambiguous { first, second } => match given.cmp(&first) {
                 Ordering::Less => Place::Ambiguous {
-                    first: pair,
+                    first: given,
                     second: first,
                 },
                 Ordering::Equal => self,
-                Ordering::Greater => match pair.order(&second) {
+                Ordering::Greater => match given.cmp(&second) {
                     Ordering::Less => Place::Ambiguous {
                         first,
-                        second: pair,
+                        second: given,
                     },
                     _ => self,
                 },
@@ -131,14 +123,14 @@ impl Place {
     }
 }
 
-/// A law of [`Views::locate`](crate::Views::locate): its place is by the set of the pairs that the segments of the
+/// A law of [`Views::locate`](crate::Views::locate): its place is by the set of the places that the segments of the
 /// IndexSID give for the unit, whatever their order and however often they give one.
 pub fn places_by_definition()
     ensures place { (segments : List SegmentAtParts) (index_sid unit : ℕ) (place : Place)
         → (place_of segments index_sid unit ≡ place) ↔ IsPlace segments index_sid unit place }
 
-    // The place is that of the rising list of exactly these pairs.
-    ensures pairs { (segments : List SegmentAtParts) (index_sid unit : ℕ) (pairs : List Pair) → IsRising pair_cmp pairs
-        → ((p : Pair) → In p pairs ↔ IsGiven segments index_sid unit p)
-        → place_of segments index_sid unit ≡ place_by pairs }
+    // It is that of the rising list of exactly these places.
+    ensures places { (segments : List SegmentAtParts) (index_sid unit : ℕ) (places : List StreamPlace)
+        → IsRising place_cmp places → ((p : StreamPlace) → In p places ↔ IsGiven segments index_sid unit p)
+        → place_of segments index_sid unit ≡ place_by places }
 {}

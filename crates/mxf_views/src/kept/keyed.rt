@@ -3,7 +3,8 @@ ghost use Rattle.std.specs.Prelude.{◌≡◌, ◌==◌, ◌<◌, ◌≤◌, ◌
 ghost use Rattle.std.specs.List.{list_any};
 ghost use Rattle.std.specs.List.Sorted.{IsNonDecreasingBy};
 ghost use Rattle.std.specs.Option.{option_copied};
-ghost use Rattle.mxf_views.specs.Kept.{RiseBy, lies_between, outside, with_keyed};
+ghost use Rattle.mxf_views.specs.Kept.{lies_between, outside, with_keyed};
+ghost use Rattle.mxf_views.specs.Rises.{RiseBy};
 
 use crate::kept::arrival::Arrival;
 use mxf_klv::{Keyed, below, up_to};

@@ -52,13 +52,7 @@ fn with_uid(note: &Note) -> Option<Identified>
 fn gathered(alloc: Global, sets: Sets<'_>) -> Result<Vec<Identified>, OutOfMemory>
     ensures { IfOk result (λ v. v.items ≡ filter_map with_uid sets.entry) }
 {
-    let mut items = Vec::new(alloc);
-    for note in sets {
-        if let Some(set) = with_uid(note) {
-            items.push(set)?;
-        }
-    }
-    Ok(items)
+    Ok(sets.filter_map(|note| with_uid(note)).collect(alloc)?)
 }
 
 /// The same, sorted by their identifiers.
@@ -75,13 +69,8 @@ fn sorted(alloc: Global, sets: Sets<'_>) -> Result<Vec<Identified>, OutOfMemory>
 fn unreadable_offsets(alloc: Global, sets: Sets<'_>) -> Result<Vec<u64>, OutOfMemory>
     ensures { IfOk result (λ v. v.items ≡ unreadable_offsets sets.entry) }
 {
-    let mut offsets = Vec::new(alloc);
-    for note in sets {
-        if is_unreadable(note) {
-            offsets.push(note.offset())?;
-        }
-    }
-    Ok(offsets)
+    let unreadable = sets.filter(|note| is_unreadable(note));
+    Ok(unreadable.map(|note| note.offset()).collect(alloc)?)
 }
 
 /// Whether an offset is one of those that rise.

@@ -55,15 +55,10 @@ impl Model for Resolved {
 }
 
 /// The first Preface of the sets.
-pub(crate) fn preface_among(sets: Sets<'_>) -> Option<&Note>
+pub(crate) fn preface_among(mut sets: Sets<'_>) -> Option<&Note>
     ensures { option_copied result ≡ find is_preface_note sets.entry }
 {
-    for note in sets {
-        if is_preface(note) {
-            return Some(note);
-        }
-    }
-    None
+    sets.find(|note| is_preface(note))
 }
 
 #[tactic(auto, unfolding(crate::specs::Resolved::preface_in))]

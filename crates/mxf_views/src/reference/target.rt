@@ -136,11 +136,11 @@ pub(crate) fn refs_of(
 ) -> Result<Refs, OutOfMemory>
     ensures { IfOk result (λ refs. refs ≡ refs_of sets.now.notes sets.now.partition wanted references.entry) }
 {
-    let mut items = Vec::new(alloc);
-    for uid in references {
+    let refs = references.map(|uid| {
         let target = target_of(sets, wanted, &uid);
-        items.push(Ref { uid, target })?;
-    }
+        Ref { uid, target }
+    });
+    let items = refs.collect(alloc)?;
     Ok(Refs { items })
 }
 

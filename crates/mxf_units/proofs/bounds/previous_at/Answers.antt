@@ -1,4 +1,4 @@
-use Rattle.std.proofs.Common.{◌≡◌, ◌∙◌, Option, None, Some, ap, option_map, refl, sym}
+use Rattle.std.proofs.Common.{◌≡◌, ◌∙◌, Option, None, Some, ap, option_map, refl}
 use Rattle.mxf_views.specs.Partitions.{PartitionParts, in_numbers, previous_of}
 use Rattle.mxf_units.proofs.bounds.previous_at.Goals as goal
 

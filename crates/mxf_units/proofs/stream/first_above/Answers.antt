@@ -2,7 +2,7 @@ use Rattle.std.proofs.Common.{rules, ◌∙◌, List, Option, ap, slice_get}
 use Rattle.std.specs.Option.{option_and_then}
 use Rattle.std.proofs.lemmas.List.Sorted.{IsPartitionPoint-from_clause}
 use Rattle.mxf_units.specs.Streams.{offset_in}
-use Rattle.mxf_units.specs.declared.stream.StreamPlace.{StreamPlace}
+use Rattle.mxf_views.specs.declared.index.place.StreamPlace.{StreamPlace}
 use Rattle.mxf_units.proofs.LeastLaws.{first-found, is_up_to, parted}
 use Rattle.mxf_units.proofs.stream.first_above.Goals as goal
 

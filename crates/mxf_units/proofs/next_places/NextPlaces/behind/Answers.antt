@@ -3,8 +3,8 @@ use Rattle.std.specs.List.{AllByRecursion}
 use Rattle.mxf_units.specs.Intervals.{IsAround}
 use Rattle.mxf_units.specs.NextPlaces.{AreSized, NextPlacesParts, end_number, first_number, next_by}
 use Rattle.mxf_units.specs.Streams.{least_above, lesser, offsets_in}
-use Rattle.mxf_units.specs.declared.stream.StreamPlace.{StreamPlace}
-use Rattle.mxf_units.proofs.LeastLaws.{lesser-again, small-least}
+use Rattle.mxf_views.specs.declared.index.place.StreamPlace.{StreamPlace}
+use Rattle.mxf_units.proofs.LeastLaws.{lesser_assoc, small-least}
 use Rattle.mxf_units.proofs.NextPlaceLaws.{all_around, around-least}
 use Rattle.mxf_units.proofs.next_places.NextPlaces.behind.Goals as goal
 
@@ -38,7 +38,7 @@ returns-clause-next c =
     c.around.result.1.now) c.number_of.ensures c.around.ensures in
     c.lesser.ensures
     ∙ (λ i. lesser (c.lesser_above-next.ensures.next i) (c.first_behind.ensures.next i))
-    ∙ lesser-again c.first_above-listed.result _ _
+    ∙ lesser_assoc c.first_above-listed.result _ _
     ∙ (λ i. lesser ((c.first_above-listed.ensures ∙ ap least c.deref.ensures.value) i)
     (around-least body offset c.requires c.self.inside.constant c.around.result.0.now c.around.result.1.now
     c.self.invariant.2 around i))

@@ -1,9 +1,9 @@
-use Rattle.mxf_views.proofs.Common.{◌≡◌, List, [], IsRising, Pair, pair_cmp, place_by, pairs_with}
+use Rattle.mxf_views.proofs.Common.{◌≡◌, List, [], IsRising, StreamPlace, place_cmp, place_by, places_with}
 use Rattle.mxf_views.proofs.index.Segments.place_of.Given as goal
 
--- the pairs so far, and with those to come
+-- the places so far, and with those to come
 abbrev pub invariant-loop-segment : goal.invariant-loop-segment
 invariant-loop-segment l =
-    (pairs : List Pair)
-    × (pairs_with pairs l.index_sid l.unit l.segment-iterator ≡ pairs_with [] l.index_sid l.unit l.fn.self)
-    × IsRising pair_cmp pairs × (l.place ≡ place_by pairs)
+    (places : List StreamPlace)
+    × (places_with places l.index_sid l.unit l.segment-iterator ≡ places_with [] l.index_sid l.unit l.fn.self)
+    × IsRising place_cmp places × (l.place ≡ place_by places)

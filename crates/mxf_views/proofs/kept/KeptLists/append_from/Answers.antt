@@ -2,7 +2,7 @@ use Rattle.mxf_views.proofs.Common.{◌∙◌, ap, refl, kept_partition, kept_ra
 use Rattle.mxf_views.proofs.Common.{kept_unreadable_pack}
 use Rattle.mxf_views.specs.KeptNotes.{partition_in, random_index_pack_in, segment_in, unreadable_pack_in}
 use Rattle.mxf_views.proofs.AppendLaws.{appended_all, appended_next, appended_none, next_fits}
-use Rattle.mxf_views.proofs.KeptNoteLaws.{partition_kept, random_index_pack_kept, segment_kept, unreadable_pack_kept}
+use Rattle.mxf_views.proofs.KeptNoteLaws.{note_kept}
 use Rattle.mxf_views.proofs.kept.KeptLists.append_from.Goals as goal
 
 pub loop-note-init : goal.loop-note-init
@@ -24,13 +24,14 @@ append-requires c =
     let e = c.in-Some.ensures.steps in
     let inv = c.loop-note.invariant in
     let of = c.of.ensures in
+    let is = note_kept n in
     record {
-      partitions = next_fits kept_partition _ _ _ _ _ n _ inv.partitions e (ap partition_in of ∙ partition_kept n);
-      segments = next_fits kept_segment _ _ _ _ _ n _ inv.segments e (ap segment_in of ∙ segment_kept n);
+      partitions = next_fits kept_partition _ _ _ _ _ n _ inv.partitions e (ap partition_in of ∙ is.partition);
+      segments = next_fits kept_segment _ _ _ _ _ n _ inv.segments e (ap segment_in of ∙ is.segment);
       random_index_packs = next_fits kept_random_index_pack _ _ _ _ _ n _ inv.rips e
-          (ap random_index_pack_in of ∙ random_index_pack_kept n);
+          (ap random_index_pack_in of ∙ is.rip);
       unreadable_packs = next_fits kept_unreadable_pack _ _ _ _ _ n _ inv.unreadable e
-          (ap unreadable_pack_in of ∙ unreadable_pack_kept n);
+          (ap unreadable_pack_in of ∙ is.unreadable);
     }
 
 pub loop-note-preserved : goal.loop-note-preserved
@@ -39,16 +40,17 @@ loop-note-preserved c =
     let e = c.in-Some.ensures.steps in
     let inv = c.loop-note.invariant in
     let of = c.of.ensures in
+    let is = note_kept n in
     let put = c.append.ensures in
     record {
-      partitions = appended_next kept_partition _ _ _ _ _ _ n _ inv.partitions e (ap partition_in of ∙ partition_kept n)
+      partitions = appended_next kept_partition _ _ _ _ _ _ n _ inv.partitions e (ap partition_in of ∙ is.partition)
           put.partitions;
-      segments = appended_next kept_segment _ _ _ _ _ _ n _ inv.segments e (ap segment_in of ∙ segment_kept n)
+      segments = appended_next kept_segment _ _ _ _ _ _ n _ inv.segments e (ap segment_in of ∙ is.segment)
           put.segments;
       rips = appended_next kept_random_index_pack _ _ _ _ _ _ n _ inv.rips e
-          (ap random_index_pack_in of ∙ random_index_pack_kept n) put.random_index_packs;
+          (ap random_index_pack_in of ∙ is.rip) put.random_index_packs;
       unreadable = appended_next kept_unreadable_pack _ _ _ _ _ _ n _ inv.unreadable e
-          (ap unreadable_pack_in of ∙ unreadable_pack_kept n) put.unreadable_packs;
+          (ap unreadable_pack_in of ∙ is.unreadable) put.unreadable_packs;
       copies = put.copies ∙ inv.copies;
       reaches = put.reaches ∙ inv.reaches;
     }

@@ -1,5 +1,4 @@
-use Rattle.mxf_views.proofs.Common.{◌∙◌, [], KeptParts, List, NoteParts, clear_from, subst, sym, HasRoom}
-use Rattle.mxf_views.proofs.Common.{nothing_kept}
+use Rattle.mxf_views.proofs.Common.{◌∙◌, [], KeptParts, List, NoteParts, clear_from, subst, sym, HasRoom, nothing_kept}
 use Rattle.mxf_views.proofs.AboveLaws.{all_above_none, all_from_none}
 use Rattle.mxf_views.proofs.KeptLaws.{kept_of_none}
 use Rattle.mxf_views.proofs.kept.KeptLists.refill.Goals as goal

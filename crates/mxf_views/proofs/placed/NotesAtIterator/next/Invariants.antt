@@ -1,8 +1,8 @@
 use Rattle.mxf_views.proofs.Common.{◌≡◌, length, notes_at}
 use Rattle.mxf_views.proofs.placed.NotesAtIterator.next.Given as goal
 
-abbrev pub invariant-loop-offset : goal.invariant-loop-offset
-invariant-loop-offset l = notes_at l.self-inside.catalogue.now l.self-inside.offsets.now ≡ l.fn.self
+abbrev pub invariant-loop-first : goal.invariant-loop-first
+invariant-loop-first g l = notes_at g.T.Keyed.key l.self-inside.catalogue.now l.self-inside.kept.now ≡ l.fn.self
 
-abbrev pub decreases-loop-offset : goal.decreases-loop-offset
-decreases-loop-offset l = length l.self-inside.offsets.now
+abbrev pub decreases-loop-first : goal.decreases-loop-first
+decreases-loop-first g l = length l.self-inside.kept.now
