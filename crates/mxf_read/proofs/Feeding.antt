@@ -11,7 +11,7 @@ use Rattle.mxf_klv.specs.PieceReading.{IsHeadOf, IsNoHead, IsOpen, packet_at, pa
 use Rattle.mxf_klv.specs.declared.piece.Stop.{Stop}
 use Rattle.mxf_klv.specs.declared.piece.Stop.TheVariants.{Truncated}
 use Rattle.mxf_klv.proofs.MoreBytes.{IsHeadNow, few_without_head, head_now}
-use Rattle.mxf_klv.proofs.MoreBytes.{more_head, none_more, one_more, stays, whole_value}
+use Rattle.mxf_klv.proofs.MoreBytes.{none_more, one_more, stays, whole_value}
 use Rattle.mxf_klv.proofs.PieceLaws.{none_at_end, packets_in-none, rest_in-none}
 use Rattle.mxf_klv.proofs.KeyAndLengthLaws.{no_head_short}
 use Rattle.mxf_klv.proofs.StopLaws.{at_cut, stops}
@@ -19,8 +19,8 @@ use Rattle.mxf_catalogue.specs.Content.{reduced_with}
 use Rattle.mxf_catalogue.specs.Disputes.{AreApart}
 use Rattle.mxf_read.proofs.Pieces.{apart_packets}
 use Rattle.mxf_read.proofs.Taking.{with_last}
-use Rattle.mxf_read.specs.Coming.{HasCome, HasTaken, IsSamePacket}
-use Rattle.mxf_read.specs.Feeding.{Fails, Fed, Feeds, IsFed, IsNext, Knows, NotesNone}
+use Rattle.mxf_read.specs.Coming.{HasCome, HasTaken}
+use Rattle.mxf_read.specs.Feeding.{Fails, Fed, Feeds, IsFed, IsNext, Knows}
 use Rattle.mxf_read.specs.declared.coming.ComingValue.{ComingValue}
 use Rattle.mxf_read.specs.declared.piece.Piece.{Piece}
 
@@ -123,19 +123,6 @@ noted o m x p q v n k come none_left note notes at stop value head =
           (open_at_end q.at));
     }
 
--- more of the value has come
-pub come_more : (at : ℕ) (v w : ComingValue) (r x : List ℕ) → HasCome at v r → IsSamePacket v w
-    → ((y : List ℕ) → HasTaken v y → HasTaken w (y ++ x)) → HasCome at w (r ++ x)
-come_more at v w r x come same taken = record {
-  after = come.after ++ x;
-  begins =
-      subst (λ (l : LengthParts). BeginsWithKeyAndLength (r ++ x) w.key l (come.after ++ x)) (sym same.spelled)
-      (subst (λ (key : List ℕ). BeginsWithKeyAndLength (r ++ x) key v.ber (come.after ++ x)) (sym same.key)
-      (more_head r v.key v.ber come.after x come.begins));
-  offset = same.offset ∙ come.offset;
-  taken = taken come.after come.taken;
-}
-
 -- ---- bytes of a head
 
 pub record Holds (o : ℕ) (m : List ℕ) (p : Piece) : Type 0 where
@@ -227,9 +214,6 @@ pub Feeds-trans : (p q s : Piece) (x y : List ℕ) → Feeds p q x → Feeds q s
 Feeds-trans p q s x y f g o m fed =
     subst (λ (t : List ℕ). Fed o t s) (append_assoc m x y) (g o (m ++ x) (f o m fed))
 
-pub IsFed-after : (p q : Piece) (x : List ℕ) → IsFed p → Feeds p q x → IsFed q
-IsFed-after p q x (o, m, fed) f = (o, m ++ x, f o m fed)
-
 -- behind a stop nothing changes, whatever follows
 pub Feeds-stopped : (p : Piece) (x : List ℕ) (stop : Stop) → p.stop ≡ Some stop → Feeds p p x
 Feeds-stopped p x stop e o m fed =
@@ -239,12 +223,6 @@ Feeds-stopped p x stop e o m fed =
     let s = stays p.at r x stop next.0 (sym next.1) next.2 in
     fed_more o m x p p fed.knows refl refl s.none
     (next_stop p.at p.stop p.value p.head.items (r ++ x) stop e s.none (next.1 ∙ sym s.stop) next.2)
-
--- a refused step noted nothing
-pub Fails-after : (p q s : Piece) (done left : List ℕ) → Feeds p q done → NotesNone q s → Fails p s (done ++ left)
-Fails-after p q s done left f none o m fed =
-    let k = (f o m fed).knows in
-    (done, left, refl, record { notes = none.notes ∙ k.notes; at = none.at ∙ k.at })
 
 -- ---- no byte yet
 

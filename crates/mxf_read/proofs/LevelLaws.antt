@@ -26,11 +26,6 @@ pub record IsAdding (merged : List NoteParts) (levels : List (List NoteParts)) (
   pub whole : old ≡ levels ++ back
   pub is : merged ≡ merged_with back notes
 
--- none was merged
-pub adding_none : (notes : List NoteParts) (old : List (List NoteParts)) → old ≡ old ++ []
-    → IsAdding notes old notes old
-adding_none notes old e = record { back = []; whole = e; is = refl }
-
 -- the last that waited was merged
 pub adding_one : (merged next last notes : List NoteParts) (levels rest old : List (List NoteParts))
     → IsAdding merged levels notes old → levels ≡ rest ++ last ∷ [] → next ≡ reduced_union last merged

@@ -6,7 +6,7 @@ use Rattle.std.specs.Prelude.{slice_get}
 use Rattle.std.specs.Option.{option_map, option_map_or}
 use Rattle.std.specs.Str.{bytes_eq}
 use Rattle.std.proofs.lemmas.Bool.{leb-true, le-leb, and_parts, and_from, or_cases, or_left, or_right, both_ways}
-use Rattle.std.proofs.lemmas.Bool.{false_from_ne_true, cases_lt, cases_Bool, cond-true, cond-false}
+use Rattle.std.proofs.lemmas.Bool.{false_from_ne_true, cases_lt, cases_order, cases_Bool, cond-true, cond-false}
 use Rattle.std.proofs.lemmas.Slice.Eq.{bytes_eq-Decides}
 use Rattle.std.proofs.lemmas.List.{take_at, drop_at, drop-drop, take_all, length-drop, length-take, take-append-drop}
 use Rattle.mxf_klv.specs.Parts.{LengthParts, packet_parts}
@@ -259,78 +259,65 @@ may_past : (offset : ℕ) (k : ℕ) → may_begin offset (drop k []) ≡ false
 may_past offset zero = may_nothing offset
 may_past offset (suc k) = may_nothing offset
 
-pub first_is : (offset : ℕ) (window : List ℕ) (k : ℕ) → NoneOf offset window k → MayAt offset window k
-    → start_in offset window ≡ Some k
-unfolding start_in
-first_is offset [] k before e = absurd (both_ways (may_begin (offset + k) (drop k [])) (may_past (offset + k) k) e)
-first_is offset (b ∷ bs) zero before e =
-    let at : offset + 0 ≡ offset = omega arith in
-    cond-true _ _ _ (ap (λ (o : ℕ). may_begin o (b ∷ bs)) (sym at) ∙ e)
-first_is offset (b ∷ bs) (suc k) before e =
-    let at : offset + 0 ≡ offset = omega arith in
-    let here : may_begin offset (b ∷ bs) ≡ false =
-    ap (λ (o : ℕ). may_begin o (b ∷ bs)) (sym at) ∙ before 0 (omega arith) in
-    let later : start_in (offset + 1) bs ≡ Some k = first_is (offset + 1) bs k
-    (λ p l.
-    let moved : offset + 1 + p ≡ offset + suc p = omega arith in
-    ap (λ (o : ℕ). may_begin o (drop p bs)) moved ∙ before (suc p) (omega arith))
-    (let moved : offset + 1 + k ≡ offset + suc k = omega arith in
-    ap (λ (o : ℕ). may_begin o (drop k bs)) moved ∙ e) in
-    cond-false _ _ _ here ∙ ap (option_map (λ p. suc p)) later
-
-pub none_is : (offset : ℕ) (window : List ℕ) → ((p : ℕ) → may_begin (offset + p) (drop p window) ≡ false)
-    → start_in offset window ≡ None
-unfolding start_in
-none_is offset [] none = refl
-none_is offset (b ∷ bs) none =
-    let at : offset + 0 ≡ offset = omega arith in
-    let here : may_begin offset (b ∷ bs) ≡ false = ap (λ (o : ℕ). may_begin o (b ∷ bs)) (sym at) ∙ none 0 in
-    let later : start_in (offset + 1) bs ≡ None = none_is (offset + 1) bs
-    (λ p.
-    let moved : offset + 1 + p ≡ offset + suc p = omega arith in
-    ap (λ (o : ℕ). may_begin o (drop p bs)) moved ∙ none (suc p)) in
-    cond-false _ _ _ here ∙ ap (option_map (λ p. suc p)) later
-
 -- What is given: none, where a piece may begin nowhere; or the first.
 abbrev pub IsGiven : ℕ → List ℕ → Option ℕ → Type 0
 IsGiven offset window None = (p : ℕ) → may_begin (offset + p) (drop p window) ≡ false
 IsGiven offset window (Some k) = NoneOf offset window k × MayAt offset window k
+
+at_front : (offset : ℕ) (window : List ℕ) → may_begin (offset + 0) window ≡ may_begin offset window
+at_front offset window = let same : offset + 0 ≡ offset = omega arith in ap (λ (o : ℕ). may_begin o window) same
+
+behind_front : (offset b p : ℕ) (bs : List ℕ)
+    → may_begin (offset + suc p) (drop (suc p) (b ∷ bs)) ≡ may_begin (offset + 1 + p) (drop p bs)
+behind_front offset b p bs =
+    let moved : offset + suc p ≡ offset + 1 + p = omega arith in ap (λ (o : ℕ). may_begin o (drop p bs)) moved
 
 given_next : (offset : ℕ) (b : ℕ) (bs : List ℕ) (o : Option ℕ) → may_begin offset (b ∷ bs) ≡ false
     → IsGiven (offset + 1) bs o → IsGiven offset (b ∷ bs) (option_map (λ p. suc p) o)
 given_next offset b bs None here none = at
   where
     at : (p : ℕ) → may_begin (offset + p) (drop p (b ∷ bs)) ≡ false
-    at zero = (let same : offset + 0 ≡ offset = omega arith in ap (λ (o : ℕ). may_begin o (b ∷ bs)) same ∙ here)
-    at (suc p) =
-        let moved : offset + suc p ≡ offset + 1 + p = omega arith in
-        ap (λ (o : ℕ). may_begin o (drop p bs)) moved ∙ none p
-given_next offset b bs (Some k) here (before, e) = (
-  at,
-  let moved : offset + suc k ≡ offset + 1 + k = omega arith in
-      ap (λ (o : ℕ). may_begin o (drop k bs)) moved ∙ e,
-)
+    at zero = at_front offset (b ∷ bs) ∙ here
+    at (suc p) = behind_front offset b p bs ∙ none p
+given_next offset b bs (Some k) here (before, e) = (at, behind_front offset b k bs ∙ e)
   where
-    at : (p : ℕ) → p < suc k → may_begin (offset + p) (drop p (b ∷ bs)) ≡ false
-    at zero l = (let same : offset + 0 ≡ offset = omega arith in ap (λ (o : ℕ). may_begin o (b ∷ bs)) same ∙ here)
-    at (suc p) l =
-        let moved : offset + suc p ≡ offset + 1 + p = omega arith in
-        ap (λ (o : ℕ). may_begin o (drop p bs)) moved ∙ before p (omega arith)
+    at : NoneOf offset (b ∷ bs) (suc k)
+    at zero l = at_front offset (b ∷ bs) ∙ here
+    at (suc p) l = behind_front offset b p bs ∙ before p (omega arith)
 
 pub given : (offset : ℕ) (window : List ℕ) → IsGiven offset window (start_in offset window)
 unfolding start_in
 given offset [] = λ p. may_past (offset + p) p
 given offset (b ∷ bs) =
     elim (cases_Bool (may_begin offset (b ∷ bs))) [
-      | inl e ↦ subst (IsGiven offset (b ∷ bs)) (sym (cond-true _ _ _ e)) (
-        λ p l. absurd (omega arith),
-        let same : offset + 0 ≡ offset = omega arith in
-            ap (λ (o : ℕ). may_begin o (b ∷ bs)) same ∙ e,
-      )
+      | inl e ↦ subst (IsGiven offset (b ∷ bs)) (sym (cond-true _ _ _ e))
+          (λ p l. absurd (omega arith), at_front offset (b ∷ bs) ∙ e)
       | inr e ↦
           subst (IsGiven offset (b ∷ bs)) (sym (cond-false _ _ _ e))
           (given_next offset b bs (start_in (offset + 1) bs) e (given (offset + 1) bs))
     ]
+
+pub first_is : (offset : ℕ) (window : List ℕ) (k : ℕ) → NoneOf offset window k → MayAt offset window k
+    → start_in offset window ≡ Some k
+first_is offset window k before e =
+    elim (start_in offset window) as (λ o. IsGiven offset window o → o ≡ Some k) [
+      | None ↦ λ none. absurd (both_ways _ (none k) e)
+      | Some j ↦ λ (low, at). elim (cases_order j k) [
+        | inl same ↦ ap (λ i. Some i) same
+        | inr other ↦ elim other [
+          | inl less ↦ absurd (both_ways _ (before j less) at)
+          | inr more ↦ absurd (both_ways _ (low k more) e)
+        ]
+      ]
+    ] (given offset window)
+
+pub none_is : (offset : ℕ) (window : List ℕ) → ((p : ℕ) → may_begin (offset + p) (drop p window) ≡ false)
+    → start_in offset window ≡ None
+none_is offset window none =
+    elim (start_in offset window) as (λ o. IsGiven offset window o → o ≡ None) [
+      | None ↦ λ _. refl
+      | Some j ↦ λ (low, at). absurd (both_ways _ (none j) at)
+    ] (given offset window)
 
 -- ---- the law
 

@@ -42,9 +42,6 @@ pub record IsPart (old new : List NoteParts) (all : List NoteParts) (noted : ℕ
   pub counted : length done ≡ noted
   pub added : new ≡ reduced_union old done
 
-pub none_yet : (old all : List NoteParts) → IsPart old old all 0 all
-none_yet old all = record { done = []; whole = refl; counted = refl; added = refl }
-
 pub one_more : (old mid new all left rest : List NoteParts) (noted : ℕ) (n : NoteParts) → IsPart old mid all noted left
     → left ≡ n ∷ rest → new ≡ reduced_with n mid → IsPart old new all (noted + 1) rest
 one_more old mid new all left rest noted n p is e = record {

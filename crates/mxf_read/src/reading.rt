@@ -1,4 +1,4 @@
-//! Feeding a piece from a reader.
+//! Reading once, and feeding a piece from a reader.
 ghost use Rattle.std.specs.Prelude.{◌≡◌, ◌+◌, ◌<◌, ◌≤◌, None, length};
 ghost use Rattle.mxf_read.specs.Feeding.{IsFed};
 ghost use Rattle.mxf_read.specs.Reads.{ReadsAll, ReadsOnce};
@@ -8,17 +8,19 @@ use crate::ticks::ReadTicks;
 use mxf_klv::OutOfMemory;
 use std::io::{ErrorKind, Read};
 
-/// How often an interrupted read of one piece, or of one part, is repeated.
-pub(crate) const GREATEST_INTERRUPTIONS: u32 = 1024;
+/// How often an interrupted read of one source is repeated.
+pub const GREATEST_INTERRUPTIONS: u32 = 1024;
 
 /// What one read came to.
-#[derive(Clone, Copy, Drop)]
-pub(crate) enum Step {
-    /// So many bytes were taken.
+#[derive(Clone, Copy, Debug, PartialEq, Eq)]
+pub enum Step {
+    /// So many bytes were taken, at least one. They stand at the front of the room.
     Took(usize),
     /// The reader has ended.
     Ended,
+    /// The read was interrupted and took nothing. It can be repeated.
     Interrupted,
+    /// The read failed and took nothing.
     Failed,
 }
 
@@ -30,7 +32,7 @@ pub(crate) enum Cause {
 }
 
 /// Reads once, as many bytes at most as there is room.
-pub(crate) fn read_step<R: Read>(from: &mut R, room: &mut [u8]) -> Step
+pub fn read_step<R: Read>(from: &mut R, room: &mut [u8]) -> Step
     requires { 0 < length room.old }
     ensures { ReadsOnce (R.remaining from.old) (R.remaining from.new) room.new result }
 {

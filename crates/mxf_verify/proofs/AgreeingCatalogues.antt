@@ -1,5 +1,5 @@
 -- A saved catalogue beside a reference, and the join of both.
-use Rattle.std.proofs.Common.{◌≡◌, ◌↔◌, ◌+◌, ◌<◌, ◌≤◌, ◌∙◌, ℕ, true, false, IsTrue, List, [], ◌∷◌, cond, map}
+use Rattle.std.proofs.Common.{◌≡◌, ◌↔◌, ◌+◌, ◌<◌, ◌≤◌, ◌∙◌, ℕ, false, IsTrue, List, [], ◌∷◌, cond, map}
 use Rattle.std.proofs.Common.{refl, sym, ap, subst, inl, inr, arith}
 use Rattle.std.proofs.lemmas.Bool.{false≢true}
 use Rattle.mxf_klv.specs.Note.{IsCovered, covered_end, end_of, head_note}
@@ -16,18 +16,15 @@ use Rattle.mxf_verify.specs.Verifying.{DiffersIn, IsByteOf, IsDiffering, IsHeldB
 use Rattle.mxf_verify.specs.Verifying.{Saved}
 use Rattle.mxf_verify.specs.VerificationLaws.{HasNoEmptyHead}
 use Rattle.mxf_verify.proofs.ComparingLaws.{head-by_test, holds_first}
-use Rattle.mxf_verify.proofs.OpposingLaws.{had-by_test}
-use Rattle.mxf_verify.proofs.VerificationLaws.{lies_or_not}
+use Rattle.mxf_verify.proofs.CandidateLaws.{covered_by_size, front_within}
+use Rattle.mxf_verify.proofs.KnownLaws.{or_not}
+use Rattle.mxf_verify.proofs.OpposingLaws.{had-by_test, has_head}
+use Rattle.mxf_verify.proofs.RangeLaws.{lies_or_not}
 use Rattle.mxf_verify.proofs.WholeLaws.{count_none, no_runs, none_of, none_runs}
 
 -- The reference has each note of the catalogue.
 abbrev HasEach : List NoteParts → List NoteParts → Type 0
 HasEach reference saved = (m : NoteParts) → In m saved → has_note reference m
-
--- what one has, the whole of it has
-has_head : (reference : List NoteParts) (m n : NoteParts) → has_note reference m → head_note m ≡ n → has_note reference n
-has_head reference m n (inl i) e = inr (m, i, e)
-has_head reference m n (inr s) e = inr (s.0, s.1, ap head_note s.2 ∙ e)
 
 -- joining a catalogue changes nothing exactly where each of its notes is had
 joined_same : (reference saved : List NoteParts) → IsCatalogue reference → AreReduced reference
@@ -40,7 +37,7 @@ joined_same reference saved is red = (
       let u = has-reduced_union n reference saved in (
         λ h. elim (u.0 h) [
           | inl k ↦ k
-          | inr k ↦ elim k [ inl i ↦ each n i | inr s ↦ has_head reference s.0 n (each s.0 s.1) s.2 ]
+          | inr k ↦ elim k [ inl i ↦ each n i | inr s ↦ has_head s.0 n reference (each s.0 s.1) s.2 ]
         ],
         λ h. u.1 (inl h),
       )),
@@ -52,11 +49,8 @@ head_held : (w n : NoteParts) (at : ℕ) → head_note w ≡ n → IsCovered n a
 head_held w n at e h =
     let k : IsCovered (head_note w) at = subst (λ x. IsCovered x at) (sym e) h in
     let before : at + 1 ≤ w.offset + 16 + w.width = k.before in
-    let more : w.offset + 16 + w.width ≤ covered_end w =
-    elim w.whole as (λ b. w.offset + 16 + w.width ≤ cond b (end_of w) (w.offset + 16 + w.width)) [
-      | true ↦ omega arith
-      | false ↦ omega arith
-    ] in
+    let front = front_within w in
+    let size = covered_by_size w in
     record { from = k.from; before = omega arith }
 
 -- where each note is had, nothing differs and each byte is held
@@ -76,9 +70,9 @@ module _ (reference saved : List NoteParts) where
     head_there : (m n : NoteParts) → In m saved → ¬ has_note reference m → In n reference → SharesHeldByte m n
         → IsHeadOf n m
     head_there m n i lacks j shares =
-        elim (is_head_of n m) as (λ b. is_head_of n m ≡ b → IsHeadOf n m) [
-          | true ↦ λ e. (head-by_test n m).0 e
-          | false ↦ λ e. absurd (none n j (
+        elim (or_not (is_head_of n m) (head-by_test n m)) [
+          | inl head ↦ head
+          | inr other ↦ absurd (none n j (
             m,
             i,
             lacks,
@@ -86,18 +80,15 @@ module _ (reference saved : List NoteParts) where
               differ = λ same. lacks (inl (subst (λ x. In x reference) (sym same) j));
               share = shares;
               no_head = λ h. lacks (inr (n, j, h.1));
-              no_packet = λ h. let t = (head-by_test n m).1 h in false≢true (sym e ∙ t);
+              no_packet = other;
             },
           ))
-        ] refl
+        ]
 
     -- so it has each note
     each_had : HasEach reference saved
     each_had m i =
-        elim (is_had m reference) as (λ b. is_had m reference ≡ b → has_note reference m) [
-          | true ↦ λ e. (had-by_test m reference).0 e
-          | false ↦ λ e. absurd (lacked m i (λ h. let t = (had-by_test m reference).1 h in false≢true (sym e ∙ t)))
-        ] refl
+        elim (or_not (is_had m reference) (had-by_test m reference)) [ inl h ↦ h | inr f ↦ absurd (lacked m i f) ]
       where
         lacked : (m : NoteParts) → In m saved → ¬ has_note reference m → ⊥
         lacked m i lacks =
@@ -144,7 +135,7 @@ module _ (reference : List NoteParts) (contents : List (List NoteParts)) where
   each_of_all each c i m j =
       elim (had_by_all m contents c i (inl j)) [
         | inl k ↦ each m k
-        | inr s ↦ has_head reference s.0 m (each s.0 s.1) s.2
+        | inr s ↦ has_head s.0 m reference (each s.0 s.1) s.2
       ]
 
   all_of_each : ((c : List NoteParts) → In c contents → HasEach reference c) → HasEach reference (all_notes contents)
@@ -152,7 +143,7 @@ module _ (reference : List NoteParts) (contents : List (List NoteParts)) where
       let s = had_by_one m contents (inl i) in
       elim s.2 [
         | inl k ↦ each s.0 s.1 m k
-        | inr h ↦ has_head reference h.0 m (each s.0 s.1 h.0 h.1) h.2
+        | inr h ↦ has_head h.0 m reference (each s.0 s.1 h.0 h.1) h.2
       ]
 
 module _ (reference : List NoteParts) (contents : List (List NoteParts)) (v : VerificationParts)

@@ -1,26 +1,26 @@
 -- How often a source is the only one of a note of all.
-use Rattle.std.proofs.Common.{◌≡◌, ◌==◌, ◌&&◌, ◌≤◌, ◌∙◌, ◌+◌, ℕ, Bool, true, false, List, [], ◌∷◌, cond, count_by, filter, length}
+use Rattle.std.proofs.Common.{◌≡◌, ◌==◌, ◌&&◌, ◌∙◌, ◌+◌, ℕ, Bool, true, false, List, [], ◌∷◌, cond, count_by, filter, length}
 use Rattle.std.proofs.Common.{map, not, nat_cmp, nat_le, nat_lt, IsTrue, Ordering, Less, Equal, Greater, refl, sym, ap, subst, arith}
-use Rattle.std.proofs.Common.{eqb-true, eq-eqb, inl, inr}
+use Rattle.std.proofs.Common.{eqb-true, eq-eqb}
 use Rattle.std.specs.List.{AllByRecursion}
 use Rattle.std.specs.Ordering.{ordering_then}
-use Rattle.std.proofs.lemmas.Bool.{and_from, and_parts, leb-true, ltb-false, ltb-true, le-leb, not-true}
+use Rattle.std.proofs.lemmas.Bool.Decides.{nat_tests}
 use Rattle.std.proofs.lemmas.Cmp.{nat_cmp_total, tied_itself}
 use Rattle.std.proofs.lemmas.List.Sorted.{sum_by-IsPermutation}
 use Rattle.mxf_klv.specs.Parts.{NoteParts}
 use Rattle.mxf_klv.specs.Note.{note_cmp}
 use Rattle.mxf_klv.specs.NoteOrder.{note_total, note_cmp-IsAntisymmetric}
-use Rattle.mxf_klv.specs.Rising.{In, IsRising, same_from_members}
+use Rattle.mxf_klv.specs.Rising.{In, same_from_members}
 use Rattle.mxf_klv.proofs.Counts.{tally, count_by-cons}
-use Rattle.mxf_klv.proofs.Lists.{all-In, all_from_In, In-filter, In-map}
-use Rattle.mxf_klv.proofs.Tests.{not_true, same_bool}
+use Rattle.mxf_klv.proofs.Lists.{all_from_In, In-filter, In-map}
 use Rattle.mxf_catalogue.specs.Content.{IsContent}
 use Rattle.mxf_catalogue.specs.ReducedLaws.{rising-filter}
 use Rattle.mxf_verify.specs.Holdings.{AreAlone, AreHoldings, HoldingParts, holding, holding_cmp, is_only, sources_alone}
 use Rattle.mxf_verify.specs.Readings.{all_notes, content_of, is_alone, is_held, sources_of}
 use Rattle.mxf_verify.proofs.AllNotesLaws.{whole_joined}
-use Rattle.mxf_verify.proofs.HoldingLaws.{run_length}
-use Rattle.mxf_verify.proofs.TouchCounts.{count-alike, count-both, count-map}
+use Rattle.mxf_verify.proofs.HoldingLaws.{rises_mapped, run_length}
+use Rattle.mxf_views.proofs.NumbersLaws.{count_mapped}
+use Rattle.mxf_verify.proofs.TouchCounts.{count-alike, count-both}
 
 -- ---- counts
 
@@ -43,21 +43,9 @@ pub equal-count : (xs : List ℕ) (number below up_to : ℕ) → count_by (λ k.
 equal-count xs number below up_to b u =
     let both = count-both (λ k. nat_le k number) (λ k. nat_lt k number) xs in
     let lower = count-alike (λ k. nat_le k number && nat_lt k number) (λ k. nat_lt k number) xs (λ k.
-    same_bool (nat_le k number && nat_lt k number) (nat_lt k number)
-    (λ h. (and_parts (nat_le k number) (nat_lt k number) h).1)
-    (λ h.
-    let l = ltb-true k number h in and_from (nat_le k number) (nat_lt k number) (le-leb k number (omega (arith, l))) h)) in
+    grind (arith, nat_tests)) in
     let same = count-alike (λ k. nat_le k number && not (nat_lt k number)) (λ k. k == number) xs (λ k.
-    same_bool (nat_le k number && not (nat_lt k number)) (k == number)
-    (λ h.
-    let p = and_parts (nat_le k number) (not (nat_lt k number)) h in
-    let l : k ≤ number = leb-true k number p.0 in
-    let m : number ≤ k = ltb-false k number (not-true (nat_lt k number) p.1) in
-    eq-eqb k number (omega (arith, l, m)))
-    (λ h.
-    let e = eqb-true k number h in
-    and_from (nat_le k number) (not (nat_lt k number)) (le-leb k number (omega (arith, e)))
-    (not_true (nat_lt k number) (λ t. let l = ltb-true k number t in omega (arith, l, e))))) in
+    grind (arith, nat_tests)) in
     omega (arith, both, lower, same, b, u)
 
 -- ---- the notes of a source
@@ -72,18 +60,6 @@ note_less g h e l =
     first_less (note_cmp g.note h.note) (nat_cmp g.source h.source)
     (subst (λ (k : ℕ). nat_cmp g.source k ≡ Equal) e (tied_itself nat_cmp_total g.source)) l
 
-notes_rising : (number : ℕ) (hs : List HoldingParts) → IsRising holding_cmp hs
-    → ((h : HoldingParts) → In h hs → h.source ≡ number) → IsRising note_cmp (map (λ (h : HoldingParts). h.note) hs)
-notes_rising number [] r f = tt
-notes_rising number (g ∷ hs) r f = (
-  all_from_In (λ (m : NoteParts). note_cmp g.note m ≡ Less) (map (λ (h : HoldingParts). h.note) hs) (λ m k.
-      let s = (In-map (λ (h : HoldingParts). h.note) hs m).0 k in
-      let less = all-In (λ (h : HoldingParts). holding_cmp g h ≡ Less) hs s.0 r.0 s.1 in
-      subst (λ (x : NoteParts). note_cmp g.note x ≡ Less) (sym s.2)
-      (note_less g s.0 (f g (inl refl) ∙ sym (f s.0 (inr s.1))) less)),
-  notes_rising number hs r.1 (λ h k. f h (inr k)),
-)
-
 -- The holdings of a source are of its notes.
 of_source : (number : ℕ) (contents : List (List NoteParts)) (hs : List HoldingParts) → AreHoldings contents hs
     → IsContent (content_of number contents)
@@ -93,8 +69,8 @@ of_source number contents hs are rise =
     let kept = In-filter (λ (h : HoldingParts). h.source == number) hs in
     same_from_members note_total note_cmp-IsAntisymmetric (map (λ (h : HoldingParts). h.note) fs)
     (content_of number contents)
-    (notes_rising number fs (rising-filter holding_cmp (λ h. h.source == number) hs are.rising)
-    (λ h k. eqb-true h.source number ((kept h).0 k).1))
+    (rises_mapped holding_cmp note_cmp (λ h. h.note) fs (rising-filter holding_cmp (λ h. h.source == number) hs are.rising)
+    (λ g h i k l. note_less g h (eqb-true _ _ ((kept g).0 i).1 ∙ sym (eqb-true _ _ ((kept h).0 k).1)) l))
     rise
     (λ n.
     let mapped = In-map (λ (h : HoldingParts). h.note) fs n in (
@@ -112,10 +88,7 @@ of_source number contents hs are rise =
 -- ---- the only holding of a note of all
 
 and-turned : (a b : Bool) → (a && b) ≡ (b && a)
-and-turned true true = refl
-and-turned true false = refl
-and-turned false true = refl
-and-turned false false = refl
+and-turned a b = grind arith
 
 alone-test : (contents : List (List NoteParts)) (hs : List HoldingParts) (all : List NoteParts)
     → AreHoldings contents hs → all ≡ all_notes contents → (h : HoldingParts)
@@ -134,12 +107,12 @@ alone-count number contents hs all sources are is rise a =
     let t : HoldingParts → Bool = λ h. is_only hs h && is_held h.note all in
     let s : HoldingParts → Bool = λ h. h.source == number in
     sum_by-IsPermutation (λ k. cond (k == number) 1 0) (sources_alone all hs) sources a.members
-    ∙ count-map (λ k. k == number) (λ (h : HoldingParts). h.source) (filter t hs)
+    ∙ count_mapped (λ k. k == number) (λ (h : HoldingParts). h.source) (filter t hs)
     ∙ count-filter s t hs
     ∙ count-alike (λ h. t h && s h) (λ h. s h && is_alone contents h.note) hs (λ h.
     and-turned (t h) (s h) ∙ ap (λ b. s h && b) (alone-test contents hs all are is h))
     ∙ sym (count-filter (λ h. is_alone contents h.note) s hs)
-    ∙ sym (count-map (is_alone contents) (λ (h : HoldingParts). h.note) (filter s hs))
+    ∙ sym (count_mapped (is_alone contents) (λ (h : HoldingParts). h.note) (filter s hs))
     ∙ ap (count_by (is_alone contents)) (of_source number contents hs are rise)
 
 -- The note of a whole packet that some source has is one of all.

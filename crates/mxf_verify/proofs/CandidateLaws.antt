@@ -1,7 +1,8 @@
 -- Candidates that further bytes don't reach.
 use Rattle.std.proofs.Common.{◌≡◌, ◌+◌, ◌-◌, ◌<◌, ◌≤◌, ◌&&◌, ◌||◌, not, ℕ, zero, suc, Bool, true, false, cond, List, [], ◌∷◌}
 use Rattle.std.proofs.Common.{◌++◌, length, take, drop, map, get_or, set, refl, sym, ap, ◌∙◌, arith}
-use Rattle.std.proofs.lemmas.List.{drop_all, get_or-map, length-map, length-set}
+use Rattle.std.proofs.lemmas.Bool.{or_right}
+use Rattle.std.proofs.lemmas.List.{drop_all, get_or-map, length-map, length-set, take_all}
 use Rattle.std.specs.List.{AllWithin}
 use Rattle.std.specs.List.Sorted.{IsNonDecreasingBy}
 use Rattle.mxf_klv.specs.Parts.{NoteParts}
@@ -33,34 +34,22 @@ part_behind n at bytes h =
     let none : held_size n - (at - n.offset) ≡ 0 = omega (arith, size) in
     rw none refl
 
-pub take_none : {X : Type 0} (k : ℕ) → take {A = X} k [] ≡ []
-take_none zero = refl
-take_none (suc k) = refl
-
 -- nor of one that begins where they end, or behind
 pub part_ahead : (n : NoteParts) (at : ℕ) (bytes : List ℕ) → at + length bytes ≤ n.offset → part_of n at bytes ≡ []
 unfolding part_of
 part_ahead n at bytes h =
     ap (take (held_size n - (at - n.offset))) (drop_all (n.offset - at) bytes (omega arith))
-    ∙ take_none (held_size n - (at - n.offset))
-
-pub drop_none : {X : Type 0} (k : ℕ) → drop {A = X} k [] ≡ []
-drop_none zero = refl
-drop_none (suc k) = refl
-
-pub or_true : (b : Bool) → (b || true) ≡ true
-or_true true = refl
-or_true false = refl
+    ∙ take_all (held_size n - (at - n.offset)) [] (omega arith)
 
 -- of no byte nothing else is said
 pub agrees_on_none : (n : NoteParts) (seen : ℕ) → agrees_on n seen [] ≡ true
 unfolding agrees_on
 agrees_on_none n seen =
-    let value = ap (agrees (drop (seen - front_size n) n.held)) (drop_none {X = ℕ} (front_size n - seen))
+    let value = ap (agrees (drop (seen - front_size n) n.held)) (drop_all (front_size n - seen) [] (omega arith))
     ∙ agrees_none (drop (seen - front_size n) n.held) in
     ap (λ b. b && (not (keeps_value n) || agrees (drop (seen - front_size n) n.held) (drop (front_size n - seen) [])))
     (agrees_none (drop seen (front_bytes n)))
-    ∙ ap (λ b. true && (not (keeps_value n) || b)) value ∙ or_true (not (keeps_value n))
+    ∙ ap (λ b. true && (not (keeps_value n) || b)) value ∙ or_right (not (keeps_value n)) true refl
 
 pub and_true : (b : Bool) → (b && true) ≡ b
 and_true true = refl

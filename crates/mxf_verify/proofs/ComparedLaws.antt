@@ -2,7 +2,8 @@
 use denote.Bor.{Bor}
 use Rattle.std.proofs.Common.{◌≡◌, ◌↔◌, ◌⊎◌, ◌+◌, ◌-◌, ◌<◌, ◌≤◌, ◌&&◌, ◌||◌, not, ℕ, zero, suc, true, false, IsTrue}
 use Rattle.std.proofs.Common.{List, [], ◌∷◌, ◌++◌, Option, None, Some, IfSome, length, take, drop, get_or, map, refl, sym, ap, ◌∙◌, subst, arith, inl, inr, append-nil}
-use Rattle.std.proofs.lemmas.List.{drop-map, length-drop, length-map, length-take, take-map, take_all}
+use Rattle.std.proofs.lemmas.Bool.{or_right}
+use Rattle.std.proofs.lemmas.List.{drop_all, drop-map, get_or-drop, get_or-take, length-drop, length-map, length-take, take-map, take_all}
 use Rattle.std.proofs.Math.Seq.{take-append_seam}
 use Rattle.std.specs.List.{AllWithin}
 use Rattle.std.specs.List.Sorted.{IsNonDecreasingBy}
@@ -20,7 +21,7 @@ use Rattle.mxf_verify.specs.declared.compared.Compared.{Compared}
 use Rattle.mxf_verify.specs.declared.comparison.Comparison.{Comparison}
 use Rattle.mxf_verify.specs.declared.reading.Reading.{Reading}
 use Rattle.mxf_verify.proofs.ByteLaws.{agrees_none}
-use Rattle.mxf_verify.proofs.CandidateLaws.{and_true, drop_none, or_true, take_none}
+use Rattle.mxf_verify.proofs.CandidateLaws.{and_true}
 use Rattle.mxf_verify.proofs.SaidLaws.{said_told}
 use Rattle.mxf_verify.proofs.TakingLaws.{all_held}
 
@@ -29,15 +30,15 @@ agrees_with_none : (n : NoteParts) → agrees_with n [] ≡ true
 unfolding agrees_with
 agrees_with_none n =
     ap (λ b. b && (not (keeps_value n) || agrees n.held (drop (front_size n) []))) (agrees_none (front_bytes n))
-    ∙ ap (λ l. not (keeps_value n) || agrees n.held l) (drop_none {X = ℕ} (front_size n))
-    ∙ ap (λ b. not (keeps_value n) || b) (agrees_none n.held) ∙ or_true (not (keeps_value n))
+    ∙ ap (λ l. not (keeps_value n) || agrees n.held l) (drop_all (front_size n) [] (omega arith))
+    ∙ ap (λ b. not (keeps_value n) || b) (agrees_none n.held) ∙ or_right (not (keeps_value n)) true refl
 
 agreeing_none : (offset : ℕ) (c : Candidate) → c.is_same ≡ true → c ≡ agreeing offset [] c.note
 unfolding agreeing held_in
 agreeing_none offset c same =
     let n = c.note.now in
     let none : take (held_size n) (drop (n.offset - offset) []) ≡ [] =
-    ap (take (held_size n)) (drop_none {X = ℕ} (n.offset - offset)) ∙ take_none (held_size n) in
+    ap (take (held_size n)) (drop_all (n.offset - offset) [] (omega arith)) ∙ take_all (held_size n) [] (omega arith) in
     ap (λ b. record c { is_same = b }) (same ∙ sym (ap (agrees_with n) none ∙ agrees_with_none n))
 
 -- candidates with which nothing was compared agree with no byte
@@ -137,58 +138,38 @@ front_came (Some bytes) (Some rest) more limit c within (inr none) =
     let all : bytes ≡ more = c ∙ ap (λ l. more ++ l) none ∙ append-nil more in
     sym (ap (take limit) all ∙ take_all limit more within)
 
--- what is so of all elements from a place on is so of those of a slice from there
-pub slice_within : {X : Type 0} (P : X → Type 0) (xs : List X) (first count : ℕ) → AllWithin P xs first (length xs)
-    → AllWithin P (take count (drop first xs)) 0 (length (take count (drop first xs)))
-slice_within P [] zero zero a k d l h = absurd (omega arith)
-slice_within P [] zero (suc count) a k d l h = absurd (omega arith)
-slice_within P [] (suc first) zero a k d l h = absurd (omega arith)
-slice_within P [] (suc first) (suc count) a k d l h = absurd (omega arith)
-slice_within P (x ∷ xs) zero zero a k d l h = absurd (omega arith)
-slice_within P (x ∷ xs) zero (suc count) a zero d l h = a 0 d (omega arith) (omega arith)
-slice_within P (x ∷ xs) zero (suc count) a (suc k) d l h =
-    slice_within P xs zero count (λ j y m q. a (suc j) y (omega arith) (omega arith)) k d (omega arith) (omega arith)
-slice_within P (x ∷ xs) (suc first) count a k d l h =
-    slice_within P xs first count (λ j y m q. a (suc j) y (omega arith) (omega arith)) k d l h
-
 -- what stands in a slice stands so much further on in the list
-part_place : {X : Type 0} (xs : List X) (first count k j : ℕ) (d : X) → j ≡ first + k
-    → k < length (take count (drop first xs)) → get_or (take count (drop first xs)) k d ≡ get_or xs j d
-part_place [] zero zero k j d e h = absurd (omega arith)
-part_place [] zero (suc count) k j d e h = absurd (omega arith)
-part_place [] (suc first) zero k j d e h = absurd (omega arith)
-part_place [] (suc first) (suc count) k j d e h = absurd (omega arith)
-part_place (x ∷ xs) zero zero k j d e h = absurd (omega arith)
-part_place (x ∷ xs) zero (suc count) zero zero d e h = refl
-part_place (x ∷ xs) zero (suc count) zero (suc j) d e h = absurd (omega arith)
-part_place (x ∷ xs) zero (suc count) (suc k) zero d e h = absurd (omega arith)
-part_place (x ∷ xs) zero (suc count) (suc k) (suc j) d e h = part_place xs zero count k j d (omega arith) (omega arith)
-part_place (x ∷ xs) (suc first) count k zero d e h = absurd (omega arith)
-part_place (x ∷ xs) (suc first) count k (suc j) d e h = part_place xs first count k j d (omega arith) h
+part_place : {X : Type 0} (xs : List X) (first count k : ℕ) (d : X) → k < length (take count (drop first xs))
+    → get_or (take count (drop first xs)) k d ≡ get_or xs (first + k) d
+part_place xs first count k d h =
+    let size = length-take count (drop first xs) in
+    get_or-take count (drop first xs) k d (omega (arith, h, size)) ∙ get_or-drop first xs k d
 
 part_within : {X : Type 0} (xs : List X) (first count k : ℕ) → k < length (take count (drop first xs))
     → first + k < length xs
 part_within xs first count k h = omega (arith, length-take count (drop first xs), length-drop first xs)
 
+-- what is so of all elements from a place on is so of those of a slice from there
+pub slice_within : {X : Type 0} (P : X → Type 0) (xs : List X) (first count : ℕ) → AllWithin P xs first (length xs)
+    → AllWithin P (take count (drop first xs)) 0 (length (take count (drop first xs)))
+slice_within P xs first count a k d l h =
+    subst P (sym (part_place xs first count k d h)) (a (first + k) d (omega arith) (part_within xs first count k h))
+
 -- a slice of candidates rises, and stands apart, as all do
 pub part_rises : (cs : List Candidate) (first count : ℕ) → IsNonDecreasingBy offset_of cs
     → IsNonDecreasingBy offset_of (take count (drop first cs))
 part_rises cs first count r i j d l h =
-    let a = ap offset_of (part_place cs first count i (first + i) d refl (omega arith)) in
-    let b = ap offset_of (part_place cs first count j (first + j) d refl h) in
+    let a = ap offset_of (part_place cs first count i d (omega arith)) in
+    let b = ap offset_of (part_place cs first count j d h) in
     omega (arith, a, b, r (first + i) (first + j) d (omega arith) (part_within cs first count j h))
 
 pub part_apart : (cs : List Candidate) (first count : ℕ) → AreApart cs → AreApart (take count (drop first cs))
 part_apart cs first count r i j d l h q =
-    let a = part_place cs first count i (first + i) d refl (omega arith) in
-    let b = ap offset_of (part_place cs first count j (first + j) d refl h) in
+    let a = part_place cs first count i d (omega arith) in
+    let b = ap offset_of (part_place cs first count j d h) in
     let e = ap (λ (x : Candidate). covered_end x.note.now) a in
     let digested = subst (λ (x : Candidate). IsTrue (is_digested x.note.now)) a q in
     omega (arith, b, e, r (first + i) (first + j) d (omega arith) (part_within cs first count j h) digested)
-
-within_tail : {X : Type 0} (P : X → Type 0) (xs : List X) (first : ℕ) → AllWithin P xs 0 (length xs)
-    → AllWithin P xs first (length xs)
-within_tail P xs first a k d l h = a k d (omega arith) h
 
 -- what was read of a source by the candidates from a place on
 pub compares_bytes : (all : List Candidate) (offset limit first last : ℕ) (before after : Option (List ℕ))
@@ -204,11 +185,11 @@ compares_bytes all offset limit first last None after old new c fresh are lower 
 compares_bytes all offset limit first last (Some bytes) after old new c fresh are lower upper behind l m items at r place same end =
     let part = take (last - first) (drop first all) in
     let is_fresh = subst (λ cs. AllWithin (λ x. x.is_same ≡ true) cs 0 (length cs)) (sym items)
-    (slice_within (λ x. x.is_same ≡ true) all first (last - first) (within_tail (λ x. x.is_same ≡ true) all first fresh)) in
+    (slice_within (λ x. x.is_same ≡ true) all first (last - first) (λ k d l h. fresh k d (omega arith) h)) in
     let is_ahead = subst (λ cs. AllWithin (λ x. offset ≤ offset_of x) cs 0 (length cs)) (sym items)
     (slice_within (λ x. offset ≤ offset_of x) all first (last - first) upper) in
     let are_notes = subst (λ cs. AllWithin (λ (x : Candidate). IsNote x.note.now) cs 0 (length cs)) (sym items)
-    (slice_within (λ x. IsNote x.note.now) all first (last - first) (within_tail (λ x. IsNote x.note.now) all first are)) in
+    (slice_within (λ x. IsNote x.note.now) all first (last - first) (λ k d l h. are k d (omega arith) h)) in
     let notes = notes_of old.comparison.candidates.items in
     let (digested, read) = r.taken offset [] notes (none_taken offset old.comparison is_fresh is_ahead at) in
     let within : length r.more ≤ limit = omega (arith, r.within, r.at, at) in

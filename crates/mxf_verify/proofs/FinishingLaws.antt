@@ -1,7 +1,8 @@
 -- What all sources together say, by what was seen of each.
 use Rattle.std.proofs.Common.{◌≡◌, ◌↔◌, ◌⊎◌, ◌+◌, ◌<◌, ◌≤◌, ◌∙◌, ℕ, List, [], ◌∷◌, ◌++◌, length, map, refl, sym, ap, subst, append_assoc}
 use Rattle.std.proofs.Common.{inl, inr, arith, get_or, take}
-use Rattle.std.proofs.lemmas.List.{take_more}
+use Rattle.std.proofs.lemmas.List.{map-append, take_more}
+use Rattle.std.proofs.lemmas.Simd.{map-map}
 use Rattle.std.specs.List.{flat_map}
 use Rattle.mxf_klv.specs.Note.{IsCovered, covered_end, note_cmp}
 use Rattle.mxf_klv.specs.Parts.{NoteParts}
@@ -9,16 +10,17 @@ use Rattle.mxf_klv.specs.Rising.{In, IsRising, SameMembers}
 use denote.Bor.{Bor}
 use Rattle.std.specs.declared.cmp.Ordering.{Ordering}
 use Rattle.std.specs.declared.cmp.Ordering.TheVariants.{Less}
-use Rattle.mxf_klv.proofs.Lists.{all_append, all_front, all-In, In-append, In-end, In-flat_map}
+use Rattle.mxf_klv.proofs.Lists.{all_append, In-append, In-end, In-flat_map}
 use Rattle.mxf_catalogue.specs.Content.{IsContent, union_of}
 use Rattle.mxf_catalogue.specs.Runs.{AreMaximal, IsWithin, LiesIn, SameOffsets, run}
 use Rattle.mxf_catalogue.specs.declared.run.Run.{Run}
 use Rattle.mxf_catalogue.proofs.ContentLaws.{In-union_of, IsContent-union_of}
+use Rattle.mxf_catalogue.proofs.Fronts.{below_last, rising_front}
 use Rattle.mxf_verify.specs.Verifying.{IsAmong, IsByteOf, IsCut, IsDiffering, IsDifferingByte, IsHeldBy, IsUnknownByte}
 use Rattle.mxf_verify.specs.Verifying.{IsUnverifiedByte, IsVerified, IsVerifiedByte, Source, TouchesIn}
 use Rattle.mxf_verify.specs.Verifying.{Bytes, Saved}
 use Rattle.mxf_verify.specs.Telling.{AreThose, notes_at}
-use Rattle.mxf_verify.specs.Verifications.{AreDiffering, AreRunsOf, IsCountOf, IsVerification, VerificationParts, parts_of}
+use Rattle.mxf_verify.specs.Verifications.{AreDiffering, AreRunsOf, IsCountOf, IsVerification, DifferingParts, VerificationParts, differing_in, parts_of}
 use Rattle.mxf_verify.specs.Seen.{IsHeaded, IsSeen, range_in}
 use Rattle.mxf_catalogue.specs.Covers.{LiesIn-with_run, with_run}
 use Rattle.mxf_catalogue.specs.NoteLists.{Covers}
@@ -28,7 +30,8 @@ use Rattle.mxf_verify.specs.declared.finishing.Uncompared.{Uncompared}
 use Rattle.mxf_verify.specs.declared.seen.Seen.{Seen}
 use Rattle.mxf_verify.specs.declared.verification.CutNote.{CutNote}
 use Rattle.mxf_verify.specs.declared.verification.Differing.{Differing}
-use Rattle.mxf_verify.proofs.SeenLaws.{damaged_says, lies_in_both, notes_of_parts, some_end}
+use Rattle.mxf_verify.proofs.RangeLaws.{some_both, some_end}
+use Rattle.mxf_verify.proofs.SeenLaws.{damaged_says}
 
 -- The offset is a byte of a source of bytes.
 abbrev IsRead : List Source → ℕ → Type 0
@@ -166,7 +169,7 @@ module _ (reference : List NoteParts) (sources : List Source) (seen : Seen) (is 
   pub damaged_members : (n : NoteParts) → In n (map (λ (d : Differing). d.note.now) seen.differing.items)
       ↔ (In n reference × IsDiffering reference sources n)
   damaged_members n =
-      subst (λ l. In n l ↔ (In n reference × IsDiffering reference sources n)) (notes_of_parts seen.differing.items)
+      subst (λ l. In n l ↔ (In n reference × IsDiffering reference sources n)) (map-map (λ (p : DifferingParts). p.note) (λ (d : Differing). differing_in d.source d.note.now) seen.differing.items)
       (damaged_says reference 1 sources _ n is.differing)
 
   came_from : (s : Source) (at : ℕ) → In s sources → IsByteOf s at → ¬ IsHeldBy reference at
@@ -179,13 +182,13 @@ module _ (reference : List NoteParts) (sources : List Source) (seen : Seen) (is 
   pub unknown_says : (at : ℕ) → (LiesIn (seen.ranges.items ++ seen.beside.items) at × ¬ IsHeldBy reference at)
       ↔ IsUnknownByte reference sources at
   unknown_says at = (
-    λ h. elim ((lies_in_both seen.ranges.items seen.beside.items at).0 h.0) [
+    λ h. elim ((some_both (λ r. IsWithin r at) seen.ranges.items seen.beside.items).0 h.0) [
       | inl k ↦
           let r = (read_says sources at).0 (subst (λ l. LiesIn l at) is.ranges k) in
           ((Bytes r.0 r.1, r.2, (r.3, r.4)), h.1)
       | inr k ↦ let b = (is.beside at).0 k in ((Saved b.0.0, b.0.1, b.0.2), h.1)
     ],
-    λ h. ((lies_in_both seen.ranges.items seen.beside.items at).1 (came_from h.0.0 at h.0.1 h.0.2 h.1), h.1),
+    λ h. ((some_both (λ r. IsWithin r at) seen.ranges.items seen.beside.items).1 (came_from h.0.0 at h.0.1 h.0.2 h.1), h.1),
   )
 
   module _ (u : Uncompared)
@@ -249,17 +252,14 @@ pub damaged_once : (none lent set ordered : List NoteParts) (ds : List Differing
     → In n ordered ↔ In n (map (λ (d : Differing). d.note.now) ds)
 damaged_once none lent set ordered ds rs z names held more o n =
     let u = In-union_of n [] set in
-    let all : lent ≡ map (λ (d : Differing). d.note.now) ds = held ∙ ap notes_at names ∙ lent_notes ds in (
+    let all : lent ≡ map (λ (d : Differing). d.note.now) ds = held ∙ ap notes_at names
+    ∙ map-map (λ (r : Bor NoteParts). r.now) (λ (d : Differing). d.note) ds in (
       λ h. elim (u.0 (subst (In n) o h)) [
         | inl k ↦ absurd k
         | inr k ↦ elim ((more n).0 k) [ inl m ↦ absurd (subst (In n) z m) | inr m ↦ subst (In n) all m ]
       ],
       λ h. subst (In n) (sym o) (u.1 (inr ((more n).1 (inr (subst (In n) (sym all) h))))),
     )
-  where
-    lent_notes : (es : List Differing) → notes_at (map (λ (d : Differing). d.note) es) ≡ map (λ (d : Differing). d.note.now) es
-    lent_notes [] = refl
-    lent_notes (e ∷ es) = ap (λ l. e.note.now ∷ l) (lent_notes es)
 
 -- ---- bytes that are told
 
@@ -328,15 +328,6 @@ bytes_are reference verified damaged sources same altered left spans came unknow
 
 -- ---- the notes that weren't compared
 
-all_before : {K : Type 0} (R : K → K → Ordering) (xs : List K) (n x : K) → IsRising R (xs ++ n ∷ []) → In x xs → R x n ≡ Less
-all_before R [] n x r i = absurd i
-all_before R (y ∷ xs) n x r (inl e) = ap (λ z. R z n) e ∙ all-In (λ z. R y z ≡ Less) (xs ++ n ∷ []) n r.0 (last xs n)
-  where
-    last : {K : Type 0} (ys : List K) (m : K) → In m (ys ++ m ∷ [])
-    last [] m = inl refl
-    last (z ∷ ys) m = inr (last ys m)
-all_before R (y ∷ xs) n x r (inr i) = all_before R xs n x r.1 i
-
 rises_end : {K : Type 0} (R : K → K → Ordering) (xs : List K) (n : K) → IsRising R xs → ((x : K) → In x xs → R x n ≡ Less)
     → IsRising R (xs ++ n ∷ [])
 rises_end R [] n r before = (tt, tt)
@@ -344,10 +335,6 @@ rises_end R (x ∷ xs) n r before = (
   all_append (λ z. R x z ≡ Less) xs (n ∷ []) r.0 (before x (inl refl), tt),
   rises_end R xs n r.1 (λ y i. before y (inr i)),
 )
-
-rises_front : {K : Type 0} (R : K → K → Ordering) (xs ys : List K) → IsRising R (xs ++ ys) → IsRising R xs
-rises_front R [] ys r = tt
-rises_front R (x ∷ xs) ys r = (all_front (λ z. R x z ≡ Less) xs ys r.0, rises_front R xs ys r.1)
 
 -- of the notes that were passed those of which this is so
 abbrev pub HasPassed : List NoteParts → (NoteParts → Type 0) → List CutNote → List NoteParts → Type 0
@@ -359,11 +346,6 @@ taken_more : (reference taken left rest : List NoteParts) (n : NoteParts) → ta
 taken_more reference taken left rest n e steps =
     append_assoc taken (n ∷ []) rest ∙ ap (λ l. taken ++ l) (sym steps) ∙ e
 
-map_end : (cut : List CutNote) (c : CutNote) → map (λ (x : CutNote). x.note.now) (cut ++ c ∷ [])
-    ≡ map (λ (x : CutNote). x.note.now) cut ++ c.note.now ∷ []
-map_end [] c = refl
-map_end (d ∷ cut) c = ap (λ l. d.note.now ∷ l) (map_end cut c)
-
 -- one more of which it is so
 pub cut_put : (reference : List NoteParts) (P : NoteParts → Type 0) (old new : List CutNote) (r : Bor NoteParts)
     (left rest : List NoteParts) → IsContent reference → HasPassed reference P old left → left ≡ r.now ∷ rest
@@ -371,15 +353,15 @@ pub cut_put : (reference : List NoteParts) (P : NoteParts → Type 0) (old new :
 cut_put reference P old new r left rest rising (taken, e, those) steps put p =
     let n = r.now in
     let more = taken_more reference taken left rest n e steps in
-    let risen : IsContent (taken ++ n ∷ []) = rises_front note_cmp (taken ++ n ∷ []) rest (subst IsContent (sym more) rising) in
+    let risen : IsContent (taken ++ n ∷ []) = rising_front note_cmp (taken ++ n ∷ []) rest (subst IsContent (sym more) rising) in
     let names : map (λ (c : CutNote). c.note.now) new ≡ map (λ (c : CutNote). c.note.now) old ++ n ∷ [] =
-    ap (map (λ (c : CutNote). c.note.now)) put ∙ map_end old (record { note = r }) in
+    ap (map (λ (c : CutNote). c.note.now)) put ∙ map-append (λ (c : CutNote). c.note.now) old (record { note = r } ∷ []) in
     let were = map (λ (c : CutNote). c.note.now) old in (
       taken ++ n ∷ [],
       more,
       record {
         rising = subst IsContent (sym names) (rises_end note_cmp were n those.rising
-            (λ x i. all_before note_cmp taken n x risen ((those.members x).0 i).0));
+            (λ x i. below_last note_cmp taken n x risen ((those.members x).0 i).0));
         members = λ m.
             let own = In-end m n were (map (λ (c : CutNote). c.note.now) new) names in
             let all = In-append m taken (n ∷ []) in (

@@ -152,15 +152,3 @@ pub whole_below_end : (runs : List Run) (end start to : ℕ) → EndAt runs end 
 whole_below_end runs end start to ends some all =
     let last = below_end runs end (to - 1) ends (all (to - 1) (omega (arith, some)) (omega (arith, some))) in
     omega (arith, last, some)
-
-pub whole_by_end : (runs : List Run) (e : Extent) (end : ℕ) (b : Bool) → e.end ≡ Some end
-    → IsTrue b ↔ ((at : ℕ) → e.start ≤ at → at < end → LiesIn runs at) → IsTrue b ↔ LiesWholeIn runs e
-whole_by_end runs e end b is all = (
-  λ t. (end, is, all.0 t),
-  λ w. all.1 (λ at from below.
-      let u : e.end ≡ Some w.0 = w.1 in
-      let same : end ≡ w.0 = cc (is, u) in w.2 at from (omega (arith, below, same))),
-)
-
-pub not_whole : (runs : List Run) (e : Extent) → e.end ≡ None → LiesWholeIn runs e → ⊥
-not_whole runs e is w = let u = w.1 in absurd (cc (is, u))

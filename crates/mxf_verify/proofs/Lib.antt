@@ -9,6 +9,7 @@ pub mod ComparingLaws
 pub mod FinishingLaws
 pub mod FixityLaws
 pub mod HoldingLaws
+pub mod KnownLaws
 pub mod OneByteLaws
 pub mod OpposingLaws
 pub mod OtherLaws

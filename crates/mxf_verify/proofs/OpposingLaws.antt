@@ -1,6 +1,6 @@
 -- The tests of contents and notes say what the relations say.
 use Rattle.std.specs.Prelude.{◌↔◌, not, ◌||◌, List, IsTrue, refl}
-use Rattle.std.proofs.Common.{sym, subst, inl, inr}
+use Rattle.std.proofs.Common.{◌≡◌, ◌∙◌, ap, sym, subst, inl, inr}
 use Rattle.std.proofs.lemmas.Bool.{and_from, and_parts, or_cases, or_left, or_right}
 use Rattle.mxf_klv.specs.Parts.{NoteParts}
 use Rattle.mxf_klv.specs.Note.{head_note}
@@ -28,6 +28,11 @@ had-by_test n notes =
         | inr s ↦ (s.0, s.1, or_right (is_same_note n s.0) _ ((same_note-Decides (head_note s.0) n).1 s.2))
       ]),
     )
+
+-- what has a note has its head
+pub has_head : (m n : NoteParts) (notes : List NoteParts) → has_note notes m → head_note m ≡ n → has_note notes n
+has_head m n notes (inl i) e = inr (m, i, e)
+has_head m n notes (inr s) e = inr (s.0, s.1, ap head_note s.2 ∙ e)
 
 pub contradicted-by_test : (n : NoteParts) (notes : List NoteParts)
     → IsTrue (is_contradicted n notes) ↔ IsContradicted n notes

@@ -1,24 +1,24 @@
 -- Which notes of a reference the notes of a saved catalogue contradict, by counts.
 use denote.Bor.{Bor}
-use Rattle.std.proofs.Common.{◌≡◌, ◌≢◌, ◌↔◌, ◌⊎◌, ◌+◌, ◌-◌, ◌<◌, ◌≤◌, ◌&&◌, not, ℕ, zero, suc, Bool, true, false, IsTrue, List, [], ◌∷◌}
-use Rattle.std.proofs.Common.{Ordering, Less, Equal, Greater, count_by, filter, get_or, length, map, nat_le, nat_lt, refl, sym, ap, ◌∙◌, subst, arith, inl, inr}
+use Rattle.std.proofs.Common.{◌≡◌, ◌≢◌, ◌↔◌, ◌⊎◌, ◌+◌, ◌-◌, ◌<◌, ◌≤◌, ◌&&◌, not, ℕ, Bool, true, false, IsTrue, List, [], ◌∷◌}
+use Rattle.std.proofs.Common.{Ordering, Less, Equal, Greater, count_by, filter, get_or, length, nat_le, nat_lt, refl, sym, ap, ◌∙◌, subst, arith, inl, inr}
 use Rattle.std.specs.Ordering.{is_eq, is_le, is_lt}
 use Rattle.std.specs.List.{AllWithin, list_any}
 use Rattle.std.specs.List.Sorted.{IsPartitionedBy}
-use Rattle.std.proofs.lemmas.Bool.{and_from, and_parts, ltb-false, ltb-true, lt-ltb}
-use Rattle.std.proofs.lemmas.List.{get_or-map, length-map}
+use Rattle.std.proofs.lemmas.Bool.{and_from, and_parts, ltb-true, lt-ltb}
 use Rattle.mxf_klv.specs.Parts.{NoteParts}
 use Rattle.mxf_klv.specs.Note.{IsNote, covered_end, head_note, note_cmp}
 use Rattle.mxf_klv.specs.NoteOrder.{note_total, note_cmp-IsAntisymmetric}
-use Rattle.mxf_klv.specs.Rising.{In, less_back, less_in}
-use Rattle.mxf_klv.proofs.Counts.{tally, count_by-cons, none-count}
+use Rattle.mxf_klv.specs.Rising.{In, less_back}
+use Rattle.mxf_klv.proofs.Counts.{tally, count_by-cons}
 use Rattle.mxf_klv.proofs.HeadOrder.{head_note-below, head_note-between, same_note-Decides}
-use Rattle.mxf_klv.proofs.Lists.{all-In, all-filter, In-at, In-filter, list_any-In}
+use Rattle.mxf_klv.proofs.Lists.{all-In, all-filter, In-filter, list_any-In}
 use Rattle.mxf_klv.proofs.Tests.{by_places, less_from_test, not_true, not-true-false, same_bool}
 use Rattle.mxf_catalogue.specs.Content.{IsCatalogue, IsContent, has_note}
 use Rattle.mxf_catalogue.specs.Disputes.{is_same_note}
 use Rattle.mxf_catalogue.specs.ReducedLaws.{rising-filter}
 use Rattle.mxf_catalogue.proofs.HeadWords.{own_head}
+use Rattle.mxf_views.proofs.NumbersLaws.{count_mapped}
 use Rattle.mxf_verify.specs.Comparing.{Contradicts, is_held_byte_shared}
 use Rattle.mxf_verify.specs.Opposing.{is_had}
 use Rattle.mxf_verify.specs.Others.{is_headed, is_touched, others_of}
@@ -27,9 +27,10 @@ use Rattle.mxf_verify.specs.Telling.{AreThose, TellsOf, notes_at}
 use Rattle.mxf_verify.specs.Verifying.{DiffersIn, IsSameIn, Saved, TouchesIn}
 use Rattle.mxf_verify.specs.declared.told.Told.{Told}
 use Rattle.mxf_verify.proofs.ComparingLaws.{holds_first, share-by_test}
+use Rattle.mxf_verify.proofs.HoldingLaws.{rising_mapped}
 use Rattle.mxf_verify.proofs.OpposingLaws.{had-by_test}
 use Rattle.mxf_verify.proofs.SourceLaws.{held_says}
-use Rattle.mxf_verify.proofs.TouchCounts.{count-alike, count-both, count-front, count-map, count-some, touching-count}
+use Rattle.mxf_verify.proofs.TouchCounts.{count-alike, count-both, count-front, count-some, some-count, touching-count}
 
 -- ---- heads in the order of notes
 
@@ -61,23 +62,6 @@ le_before x y n l t =
       | Greater ↦ λ e u. absurd cc
     ] refl t
 
--- of two lent notes the first stands below the second
-rising_at : (rs : List (Bor NoteParts)) (i j : ℕ) (d : Bor NoteParts) → IsContent (notes_at rs) → i < j → j < length rs
-    → note_cmp (get_or rs i d).now (get_or rs j d).now ≡ Less
-rising_at rs i j d r l h =
-    let n = length-map rs (λ (x : Bor NoteParts). x.now) in
-    let a = get_or-map (λ (x : Bor NoteParts). x.now) rs i d d.now (omega arith) in
-    let b = get_or-map (λ (x : Bor NoteParts). x.now) rs j d d.now h in
-    ap (λ m. note_cmp m (get_or rs j d).now) (sym a) ∙ ap (note_cmp (get_or (notes_at rs) i d.now)) (sym b)
-    ∙ rising_places (notes_at rs) i j d.now r l (omega (arith, n))
-  where
-    rising_places : (xs : List NoteParts) (i j : ℕ) (d : NoteParts) → IsContent xs → i < j → j < length xs
-        → note_cmp (get_or xs i d) (get_or xs j d) ≡ Less
-    rising_places [] i j d r l h = absurd (omega arith)
-    rising_places (x ∷ xs) i zero d r l h = absurd (omega arith)
-    rising_places (x ∷ xs) zero (suc j) d r l h = less_in note_total x (get_or xs j d) xs r.0 (In-at xs j d (omega arith))
-    rising_places (x ∷ xs) (suc i) (suc j) d r l h = rising_places xs i j d r.1 (omega arith) (omega arith)
-
 -- a test that passes below what passes it parts notes by their heads
 parted_heads : (p : NoteParts → Bool) (rs : List (Bor NoteParts)) → IsContent (notes_at rs)
     → ((x y : NoteParts) → note_cmp x y ≡ Less → p y ≡ true → p x ≡ true)
@@ -85,7 +69,7 @@ parted_heads : (p : NoteParts → Bool) (rs : List (Bor NoteParts)) → IsConten
 parted_heads p rs r before i j d l h t =
     by_places (λ i j. j < length rs → p (head_note (get_or rs j d).now) ≡ true → p (head_note (get_or rs i d).now) ≡ true)
     i j l (λ k m u. u) (λ less m u.
-    elim (heads_rise (get_or rs i d).now (get_or rs j d).now (rising_at rs i j d r less m)) [
+    elim (heads_rise (get_or rs i d).now (get_or rs j d).now (rising_mapped note_total (λ (x : Bor NoteParts). x.now) rs i j d r less m)) [
       | inl e ↦ ap p e ∙ u
       | inr e ↦ before (head_note (get_or rs i d).now) (head_note (get_or rs j d).now) e u
     ]) h t
@@ -103,7 +87,7 @@ pub parted-count : (p : NoteParts → Bool) (rs : List (Bor NoteParts)) (i : ℕ
     → AllWithin (λ (r : Bor NoteParts). p r.now ≡ true) rs 0 i
     → AllWithin (λ (r : Bor NoteParts). p r.now ≡ false) rs i (length rs) → i ≡ count_by p (notes_at rs)
 parted-count p rs i l f g =
-    sym (count-map p (λ (r : Bor NoteParts). r.now) rs ∙ count-front (λ (r : Bor NoteParts). p r.now) rs i l f g)
+    sym (count_mapped p (λ (r : Bor NoteParts). r.now) rs ∙ count-front (λ (r : Bor NoteParts). p r.now) rs i l f g)
 
 -- ---- counts
 
@@ -170,13 +154,7 @@ touched-by_counts n notes begun ended packets b e h =
     any.1 (count-some p notes (omega (arith, touching, others, b, e, h, less))))
     (λ t.
     let s = any.0 t in
-    let some : 0 < count_by p notes =
-    elim (nat_lt 0 (count_by p notes)) as (λ v. nat_lt 0 (count_by p notes) ≡ v → 0 < count_by p notes) [
-      | true ↦ λ v. ltb-true 0 (count_by p notes) v
-      | false ↦ λ v.
-          let low : count_by p notes ≤ 0 = ltb-false 0 (count_by p notes) v in
-          absurd (none-count p notes s.0 (omega arith) s.1 s.2)
-    ] refl in
+    let some = some-count p notes s.0 s.1 s.2 in
     lt-ltb packets (begun - ended) (omega (arith, touching, others, b, e, h, some)))
 
 -- ---- what a saved catalogue says
@@ -288,14 +266,3 @@ pub tells_headed : (reference saved headed : List NoteParts) → IsContent refer
 tells_headed reference saved headed r e =
     subst (AreThose reference (λ n. TouchesIn n (Saved saved))) (sym e)
     (those_passing reference (λ n. TouchesIn n (Saved saved)) (λ n. is_headed n saved) r (λ n h. headed_says n saved))
-
--- where notes begin and end, of notes that are lent
-pub starts_are : (rs : List (Bor NoteParts))
-    → map (λ (r : Bor NoteParts). r.now.offset) rs ≡ map (λ n. n.offset) (notes_at rs)
-starts_are [] = refl
-starts_are (r ∷ rs) = ap (λ l. r.now.offset ∷ l) (starts_are rs)
-
-pub ends_are : (rs : List (Bor NoteParts))
-    → map (λ (r : Bor NoteParts). covered_end r.now) rs ≡ map covered_end (notes_at rs)
-ends_are [] = refl
-ends_are (r ∷ rs) = ap (λ l. covered_end r.now ∷ l) (ends_are rs)

@@ -1,33 +1,22 @@
 -- Sets of offsets that ranges make, and what a cover lacks.
 use Rattle.std.proofs.Common.{◌≡◌, ◌↔◌, ◌⊎◌, ◌<◌, ◌≤◌, ◌+◌, ◌-◌, ℕ, List, [], ◌∷◌, ◌++◌, refl, sym, subst, inl, inr}
-use Rattle.std.proofs.Common.{arith, get_or, length, take}
+use Rattle.std.proofs.Common.{arith, get_or, length, nat_le, nat_lt, take, ◌&&◌}
 use Rattle.std.specs.List.{AllByRecursion}
 use Rattle.std.specs.List.Sorted.{IsPermutation}
-use Rattle.std.proofs.lemmas.Bool.{cases_lt}
+use Rattle.std.proofs.lemmas.Bool.{and_from, and_parts, cases_lt, le-leb, leb-true, lt-ltb, ltb-true}
 use Rattle.std.proofs.lemmas.List.{take_more}
-use Rattle.std.proofs.lemmas.List.Sorted.{Contains-permutation, IsPermutation-sym}
 use Rattle.mxf_klv.specs.Note.{greatest_end}
-use Rattle.mxf_klv.specs.Rising.{In, SameMembers}
-use Rattle.mxf_klv.proofs.Lists.{Contains-from_In, In-append, In-end, In-from_Contains, all-In, all_append, all_from_In, some_above}
-use Rattle.mxf_catalogue.specs.Covers.{IsCover, LiesIn-first, LiesIn-with_run, gaps_of_runs, with_run}
+use Rattle.mxf_klv.specs.Rising.{In}
+use Rattle.mxf_klv.proofs.Lists.{In-append, all-In, all_append, all_from_In, list_any-In, some_above}
+use Rattle.mxf_units.proofs.NextPlaceLaws.{permuted}
+use Rattle.mxf_catalogue.specs.Covers.{IsCover, LiesIn-with_run, gaps_of_runs, with_run}
 use Rattle.mxf_catalogue.specs.Runs.{IsWithin, LiesIn, SameOffsets, run}
 use Rattle.mxf_catalogue.specs.declared.run.Run.{Run}
 use Rattle.mxf_catalogue.proofs.CoverLaws.{gaps_by_definition}
 use Rattle.mxf_catalogue.proofs.RunBounds.{has_byte}
+use Rattle.mxf_verify.proofs.KnownLaws.{or_not}
 
--- ---- members and their order
-
--- A list in another order has the same members.
-pub permuted : {K : Type 0} (xs ys : List K) → IsPermutation xs ys → SameMembers ys xs
-permuted xs ys p x = (
-  λ h. In-from_Contains x xs
-      (Contains-permutation ys xs x (IsPermutation-sym xs ys p) (Contains-from_In x ys h)),
-  λ h. In-from_Contains x ys (Contains-permutation xs ys x p (Contains-from_In x xs h)),
-)
-
-pub all_permuted : {K : Type 0} (P : K → Type 0) (xs ys : List K) → IsPermutation xs ys → AllByRecursion P xs
-    → AllByRecursion P ys
-all_permuted P xs ys p all = all_from_In P ys (λ x h. all-In P xs x all ((permuted xs ys p x).0 h))
+-- ---- another order
 
 -- Lists with the same members have the same offsets.
 pub offsets_permuted : (xs ys runs : List Run) → IsPermutation xs ys → SameOffsets runs ys → SameOffsets runs xs
@@ -38,32 +27,33 @@ offsets_permuted xs ys runs p same at = (
 
 -- ---- a range more
 
--- What lies in ranges and one more behind them lies in them or in that one.
-pub LiesIn-end : (r : Run) (runs whole : List Run) (at : ℕ) → whole ≡ runs ++ r ∷ []
-    → LiesIn whole at ↔ LiesIn runs at ⊎ IsWithin r at
-LiesIn-end r runs whole at e = (
-  λ h. elim ((In-end h.0 r runs whole e).0 h.1) [
-    | inl k ↦ inl (h.0, k, h.2)
-    | inr q ↦ inr (subst (λ (s : Run). IsWithin s at) q h.2)
-  ],
+-- Some of two lists are some of one of them.
+pub some_both : {K : Type 0} (P : K → Type 0) (xs ys : List K)
+    → ((x : K) × In x (xs ++ ys) × P x) ↔ (((x : K) × In x xs × P x) ⊎ ((x : K) × In x ys × P x))
+some_both P xs ys = (
+  λ (x, i, p). elim ((In-append x xs ys).0 i) [ inl k ↦ inl (x, k, p) | inr k ↦ inr (x, k, p) ],
   λ h. elim h [
-    | inl k ↦ (k.0, (In-end k.0 r runs whole e).1 (inl k.1), k.2)
-    | inr w ↦ (r, (In-end r r runs whole e).1 (inr refl), w)
+    | inl (x, k, p) ↦ (x, (In-append x xs ys).1 (inl k), p)
+    | inr (x, k, p) ↦ (x, (In-append x xs ys).1 (inr k), p)
   ],
 )
 
--- What lies in two lists of ranges lies in one of them.
-pub LiesIn-append : (xs ys whole : List Run) (at : ℕ) → whole ≡ xs ++ ys → LiesIn whole at ↔ LiesIn xs at ⊎ LiesIn ys at
-LiesIn-append xs ys whole at e = (
-  λ h. elim ((In-append h.0 xs ys).0 (subst (λ (l : List Run). In h.0 l) e h.1)) [
-    | inl k ↦ inl (h.0, k, h.2)
-    | inr k ↦ inr (h.0, k, h.2)
-  ],
-  λ h. elim h [
-    | inl k ↦ (k.0, subst (λ (l : List Run). In k.0 l) (sym e) ((In-append k.0 xs ys).1 (inl k.1)), k.2)
-    | inr k ↦ (k.0, subst (λ (l : List Run). In k.0 l) (sym e) ((In-append k.0 xs ys).1 (inr k.1)), k.2)
-  ],
-)
+-- Some of a list and one more behind it are some of the list, or that one.
+pub some_end : {K : Type 0} (P : K → Type 0) (xs : List K) (y : K)
+    → ((x : K) × In x (xs ++ y ∷ []) × P x) ↔ (((x : K) × In x xs × P x) ⊎ P y)
+some_end P xs y =
+    let both = some_both P xs (y ∷ []) in (
+      λ h. elim (both.0 h) [
+        | inl s ↦ inl s
+        | inr (x, k, p) ↦ elim k [ inl e ↦ inr (subst P e p) | inr z ↦ absurd z ]
+      ],
+      λ h. both.1 (elim h [ inl s ↦ inl s | inr p ↦ inr (y, inl refl, p) ]),
+    )
+
+-- What lies in the first ranges and the next lies in them or in that one.
+lies_more : (runs : List Run) (i : ℕ) (d : Run) (at : ℕ) → i < length runs
+    → LiesIn (take (i + 1) runs) at ↔ LiesIn (take i runs) at ⊎ IsWithin (get_or runs i d) at
+lies_more runs i d at here = rw (take_more runs i d here) (some_end (λ q. IsWithin q at) (take i runs) (get_or runs i d))
 
 -- A range was added to a cover.
 pub added-step : (runs old new : List Run) (i : ℕ) (d : Run) → i < length runs
@@ -71,7 +61,7 @@ pub added-step : (runs old new : List Run) (i : ℕ) (d : Run) → i < length ru
 added-step runs old new i d here grown same at =
     let r = get_or runs i d in
     let a = LiesIn-with_run r old at in
-    let b = LiesIn-end r (take i runs) (take (i + 1) runs) at (take_more runs i d here) in (
+    let b = lies_more runs i d at here in (
       λ h. b.1 (elim (a.0 (subst (λ (l : List Run). LiesIn l at) grown h)) [
         | inl k ↦ inr k
         | inr k ↦ inl ((same at).0 k)
@@ -88,7 +78,7 @@ pub skipped-step : (runs old new : List Run) (i : ℕ) (d : Run) → i < length 
     → SameOffsets new (take (i + 1) runs)
 skipped-step runs old new i d here none kept same at =
     let r = get_or runs i d in
-    let b = LiesIn-end r (take i runs) (take (i + 1) runs) at (take_more runs i d here) in (
+    let b = lies_more runs i d at here in (
       λ h. b.1 (inl ((same at).0 (subst (λ (l : List Run). LiesIn l at) kept h))),
       λ h. subst (λ (l : List Run). LiesIn l at) (sym kept) (elim (b.0 h) [
         | inl k ↦ (same at).1 k
@@ -102,25 +92,17 @@ skipped-step runs old new i d here none kept same at =
 
 -- It is known whether an offset lies in ranges.
 pub lies_or_not : (runs : List Run) (at : ℕ) → LiesIn runs at ⊎ (LiesIn runs at → ⊥)
-lies_or_not [] at = inr (λ h. h.1)
-lies_or_not (r ∷ runs) at =
-    let first = LiesIn-first r runs at in
-    elim (lies_or_not runs at) [
-      | inl k ↦ inl (first.1 (inr k))
-      | inr none ↦ elim (cases_lt at r.start) [
-        | inl low ↦ inr (λ h. elim (first.0 h) [
-          | inl w ↦ (let from : r.start ≤ at = w.from in absurd (omega (arith, from, low)))
-          | inr k ↦ none k
-        ])
-        | inr from ↦ elim (cases_lt at r.end) [
-          | inl below ↦ inl (first.1 (inl (record { from = from; before = omega (arith, below) })))
-          | inr high ↦ inr (λ h. elim (first.0 h) [
-            | inl w ↦ (let before : at + 1 ≤ r.end = w.before in absurd (omega (arith, before, high)))
-            | inr k ↦ none k
-          ])
-        ]
-      ]
-    ]
+lies_or_not runs at =
+    let any = list_any-In (λ (r : Run). nat_le r.start at && nat_lt at r.end) runs in
+    or_not _ (
+      λ t.
+          let s = any.0 t in
+          let p = and_parts _ _ s.2 in
+          let before = ltb-true _ _ p.1 in
+          (s.0, s.1, record { from = leb-true _ _ p.0; before = omega (arith, before) }),
+      λ (r, i, w). let before = w.before in
+          any.1 (r, i, and_from _ _ (le-leb _ _ w.from) (lt-ltb at r.end (omega (arith, before)))),
+    )
 
 -- What lies in a cover lies below the greatest end.
 pub below_greatest : (runs : List Run) → IsCover runs → (at : ℕ) → LiesIn runs at → at < greatest_end
@@ -157,7 +139,8 @@ module _ (runs : List Run) (is : IsCover runs) where
     pub outside-offsets : (at : ℕ) → LiesIn whole at ↔ ((at < greatest_end) × (LiesIn runs at → ⊥))
     outside-offsets at =
         let gaps = gaps_by_definition runs is in
-        let two = LiesIn-end (run end greatest_end) (gaps_of_runs runs) whole at parts in (
+        let two = subst (λ l. LiesIn l at ↔ LiesIn (gaps_of_runs runs) at ⊎ IsWithin (run end greatest_end) at) (sym parts)
+        (some_end (λ q. IsWithin q at) (gaps_of_runs runs) (run end greatest_end)) in (
           λ h. elim (two.0 h) [
             | inl k ↦ (
                 let between = (gaps.offsets at).0 k in

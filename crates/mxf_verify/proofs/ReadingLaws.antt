@@ -1,5 +1,5 @@
 -- Reads of a source, one after another.
-use Rattle.std.proofs.Common.{◌≡◌, ℕ, List, [], ◌∷◌, ◌++◌, Option, true, false, IsTrue, ◌+◌, ◌<◌, ◌≤◌, ltb, get_or, length, ap, arith, refl, ◌∙◌, subst, sym, append_assoc}
+use Rattle.std.proofs.Common.{◌≡◌, ℕ, List, [], ◌∷◌, ◌++◌, Option, true, false, IsTrue, ◌+◌, ◌<◌, ◌≤◌, get_or, length, ap, arith, ◌∙◌, subst, sym, append_assoc, inl, inr}
 use denote.Bor.{Bor}
 use Rattle.mxf_klv.specs.Parts.{NoteParts}
 use Rattle.mxf_verify.specs.Verifying.{is_digested}
@@ -10,7 +10,7 @@ use Rattle.mxf_klv.specs.Note.{covered_end}
 use Rattle.mxf_verify.specs.Candidates.{notes_of}
 use Rattle.mxf_verify.specs.declared.candidate.Candidate.{Candidate}
 use Rattle.std.specs.List.{AllWithin}
-use Rattle.std.proofs.lemmas.Bool.{ltb-true, ltb-false, true≢false}
+use Rattle.std.proofs.lemmas.Bool.{cases_lt, true≢false}
 use Rattle.std.proofs.lemmas.List.{get_or_default, get_or-map, length-map}
 use Rattle.mxf_verify.specs.declared.comparison.Comparison.{Comparison}
 use Rattle.mxf_verify.specs.SourceReads.{AreApart, Digests, HasRead, IsLike, Reads, TakesUpTo}
@@ -23,14 +23,8 @@ Reads-trans a b c first second f s offset bytes digested notes last h =
     (subst (λ l. HasRead offset l digested notes ((last ++ first) ++ second) c) (append_assoc bytes first second)
     (s offset (bytes ++ first) digested notes (last ++ first) (f offset bytes digested notes last h)))
 
-pub IsLike-self : (a : Reading) → IsLike a a
-IsLike-self a = record { notes = refl; digests = refl }
-
 pub IsLike-trans : (a b c : Reading) → IsLike a b → IsLike b c → IsLike a c
 IsLike-trans a b c f s = record { notes = s.notes ∙ f.notes; digests = s.digests ∙ f.digests }
-
-pub IsLike-same : (a b c : Reading) → IsLike a b → c ≡ b → IsLike a c
-IsLike-same a b c f e = subst (IsLike a) (sym e) f
 
 -- what came up to an offset, where no digest ran
 pub taken_up_to : (before after : Option (List ℕ)) (old new : Reading) (target : ℕ) (t : TakesUpTo before after old new target)
@@ -47,17 +41,15 @@ passed_over offset bytes k notes c e few none h = record {
   candidates = h.candidates ∙ told_over offset bytes k notes e few none;
   at = h.at;
   behind = h.behind;
-  ended = λ j x l m q. elim (ltb j k) as (λ b. ltb j k ≡ b
-      → covered_end (get_or notes j x).now ≤ offset + length bytes) [
-        | true ↦ λ t. h.ended j x l (ltb-true _ _ t) q
-        | false ↦ λ t.
-            let last : j ≡ k = omega (arith, ltb-false j k t, m) in
-            let there : get_or notes j x ≡ get_or notes k e =
-            ap (λ i. get_or notes i x) last ∙ get_or_default notes k x e few in
-            let no : is_digested (get_or notes j x).now ≡ false =
-            ap (λ (r : Bor NoteParts). is_digested r.now) there ∙ none in
-            absurd (true≢false (sym q ∙ no))
-      ] refl;
+  ended = λ j x l m q. elim (cases_lt j k) [
+    | inl low ↦ h.ended j x l low q
+    | inr high ↦ (
+        let last : j ≡ k = omega (arith, high, m) in
+        let there : get_or notes j x ≡ get_or notes k e =
+        ap (λ i. get_or notes i x) last ∙ get_or_default notes k x e few in
+        let no = ap (λ (r : Bor NoteParts). is_digested r.now) there ∙ none in
+        absurd (true≢false (sym q ∙ no)))
+  ];
 }
 
 -- candidates with the same notes have the same note at a place
@@ -81,14 +73,14 @@ pub left_behind : (cs : List Candidate) (place reached : ℕ) (d : Candidate) �
     → IsTrue (is_digested (get_or cs place d).note.now) → reached < covered_end (get_or cs place d).note.now
     → (j : ℕ) → place ≤ j → j < length cs → reached < covered_end (get_or cs j d).note.now
 left_behind cs place reached d apart digested behind j l h =
-    elim (ltb place j) as (λ b. ltb place j ≡ b → reached < covered_end (get_or cs j d).note.now) [
-      | true ↦ λ e.
-          let begins = apart place j d (ltb-true _ _ e) h digested in
-          let size = covered_by_size (get_or cs j d).note.now in omega arith
-      | false ↦ λ e.
-          let same : place ≡ j = omega (arith, ltb-false place j e) in
-          subst (λ i. reached < covered_end (get_or cs i d).note.now) same behind
-    ] refl
+    elim (cases_lt place j) [
+      | inl low ↦ (
+          let begins = apart place j d low h digested in
+          let size = covered_by_size (get_or cs j d).note.now in omega arith)
+      | inr last ↦ (
+          let same : place ≡ j = omega (arith, last, l) in
+          subst (λ i. reached < covered_end (get_or cs i d).note.now) same behind)
+    ]
 
 -- the same of the notes
 pub left_notes : (offset : ℕ) (bytes : List ℕ) (notes : List (Bor NoteParts)) (c : Comparison) (place reached : ℕ)

@@ -1,6 +1,6 @@
 -- The notes of a reference that are compared with bytes.
-use Rattle.std.proofs.Common.{◌≡◌, ◌≢◌, ◌↔◌, ◌+◌, ◌<◌, ◌≤◌, ℕ, Less, get_or, ltb, ◌&&◌, not, zero, suc, Bool, true, false, IsTrue, List, [], ◌∷◌, cond, length, map, refl, sym, ap, ◌∙◌, subst, arith}
-use Rattle.std.proofs.lemmas.Bool.{and_from, and_parts, false≢true, ltb-false, ltb-true}
+use Rattle.std.proofs.Common.{◌≡◌, ◌≢◌, ◌↔◌, ◌+◌, ◌<◌, ◌≤◌, ℕ, Less, get_or, ◌&&◌, not, zero, suc, Bool, true, false, IsTrue, List, [], ◌∷◌, cond, length, map, refl, sym, ap, ◌∙◌, subst, arith, inl, inr}
+use Rattle.std.proofs.lemmas.Bool.{and_from, and_parts, cases_lt, false≢true}
 use Rattle.std.proofs.lemmas.Cmp.{tied_itself}
 use Rattle.std.specs.List.{AllByRecursion, AllWithin}
 use Rattle.std.specs.List.Sorted.{IsNonDecreasingBy}
@@ -22,6 +22,7 @@ use Rattle.mxf_verify.specs.SourceReads.{AreApart}
 use Rattle.mxf_verify.specs.Verifying.{is_digested}
 use Rattle.mxf_verify.specs.Compared.{fresh}
 use Rattle.mxf_verify.specs.declared.candidate.Candidate.{Candidate}
+use Rattle.mxf_verify.proofs.HoldingLaws.{rising_mapped}
 use Rattle.mxf_verify.proofs.SourceLaws.{held_says}
 
 -- a note with a digest is crowded where it is one of the disputed notes
@@ -76,39 +77,29 @@ candidates_within P [] a k d l h = absurd (omega arith)
 candidates_within P (c ∷ cs) a zero d l h = a.0
 candidates_within P (c ∷ cs) a (suc k) d l h = candidates_within P cs a.1 k d (omega arith) (omega arith)
 
--- of two candidates the first has the lesser note
-less_at : (cs : List Candidate) (i j : ℕ) (d : Candidate) → IsRising note_cmp (map (λ (c : Candidate). c.note.now) cs) → i < j
-    → j < length cs → note_cmp (get_or cs i d).note.now (get_or cs j d).note.now ≡ Less
-less_at [] i j d r l h = absurd (omega arith)
-less_at (c ∷ cs) i zero d r l h = absurd (omega arith)
-less_at (c ∷ cs) zero (suc j) d r l h =
-    candidates_within (λ n. note_cmp c.note.now n ≡ Less) cs r.0 j d (omega arith) (omega arith)
-less_at (c ∷ cs) (suc i) (suc j) d r l h = less_at cs i j d r.1 (omega arith) (omega arith)
-
 pub candidates_rise : (cs : List Candidate) → IsRising note_cmp (map (λ (c : Candidate). c.note.now) cs)
     → IsNonDecreasingBy offset_of cs
-candidates_rise cs r i j d l h = elim (ltb i j) as (λ b. ltb i j ≡ b → offset_of (get_or cs i d) ≤ offset_of (get_or cs j d)) [
-  | true ↦ λ e. offset_le (get_or cs i d).note.now (get_or cs j d).note.now (less_at cs i j d r (ltb-true _ _ e) h)
-  | false ↦ λ e.
-      let same : i ≡ j = omega (arith, ltb-false i j e, l) in
-      subst (λ k. offset_of (get_or cs i d) ≤ offset_of (get_or cs k d)) same (omega arith)
-] refl
+candidates_rise cs r i j d l h = elim (cases_lt i j) [
+  | inl less ↦ offset_le (get_or cs i d).note.now (get_or cs j d).note.now
+      (rising_mapped note_total (λ (c : Candidate). c.note.now) cs i j d r less h)
+  | inr last ↦ (
+      let same : i ≡ j = omega (arith, last, l) in
+      subst (λ k. offset_of (get_or cs i d) ≤ offset_of (get_or cs k d)) same (omega arith))
+]
 
 not_below_itself : (n : NoteParts) → ¬ (note_cmp n n ≡ Less)
 not_below_itself n l = let t = tied_itself note_total n in cc (l, t)
 
 -- two notes that share no byte lie behind each other
 apart_from : (n m : NoteParts) → n.offset ≤ m.offset → ¬ SharesByte m n → end_of n ≤ m.offset
-apart_from n m h none = elim (ltb m.offset (end_of n)) as (λ b. ltb m.offset (end_of n) ≡ b → end_of n ≤ m.offset) [
-  | true ↦ λ e.
-      let within = ltb-true _ _ e in
-      absurd (none (
-        m.offset,
-        record { from = omega arith; before = omega arith },
-        record { from = h; before = omega (arith, within) },
-      ))
-  | false ↦ λ e. omega (arith, ltb-false m.offset (end_of n) e)
-] refl
+apart_from n m h none = elim (cases_lt m.offset (end_of n)) [
+  | inl within ↦ absurd (none (
+    m.offset,
+    record { from = omega arith; before = omega arith },
+    record { from = h; before = omega (arith, within) },
+  ))
+  | inr behind ↦ behind
+]
 
 module _ (reference : List NoteParts) (cs : List Candidate) (are : AreCandidates reference cs) where
   pub their_notes : IsRising note_cmp (map (λ (c : Candidate). c.note.now) cs)
@@ -135,7 +126,7 @@ module _ (reference : List NoteParts) (cs : List Candidate) (are : AreCandidates
   reference_apart i j d l h q =
       let n = (get_or cs i d).note.now in
       let m = (get_or cs j d).note.now in
-      let less = less_at cs i j d their_notes l h in
+      let less = rising_mapped note_total (λ (c : Candidate). c.note.now) cs i j d their_notes l h in
       let (held, free) = at_place i d (omega arith) in
       let (beside, _) = at_place j d h in
       let others : m ≢ n = λ e. not_below_itself n (subst (λ x. note_cmp n x ≡ Less) e less) in

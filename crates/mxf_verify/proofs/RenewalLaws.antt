@@ -1,5 +1,5 @@
 -- What a renewed content has, and what is dropped.
-use Rattle.std.specs.Prelude.{◌≡◌, ◌↔◌, ◌⊎◌, true, false, not, ◌&&◌, List, [], refl}
+use Rattle.std.specs.Prelude.{◌≡◌, ◌↔◌, ◌⊎◌, not, ◌&&◌, List, [], refl}
 use Rattle.std.proofs.Common.{sym, ◌∙◌, ap, subst, inl, inr}
 use Rattle.std.proofs.lemmas.Bool.{and_from, and_parts}
 use Rattle.mxf_klv.specs.Parts.{NoteParts}
@@ -7,7 +7,6 @@ use Rattle.mxf_klv.specs.Note.{head_note}
 use Rattle.mxf_klv.specs.Rising.{In}
 use Rattle.mxf_catalogue.specs.Content.{AreReduced, IsContent, IsLocated, has_note, reduced_union}
 use Rattle.mxf_catalogue.specs.Reduced.{IsKnown}
-use Rattle.mxf_klv.proofs.HeadOrder.{head_note-once}
 use Rattle.mxf_klv.proofs.Lists.{In-filter, filter_all, filter_none}
 use Rattle.mxf_klv.proofs.Tests.{not_true, not-true-false}
 use Rattle.mxf_catalogue.proofs.DisputeLaws.{IsContent-filter}
@@ -16,31 +15,16 @@ use Rattle.mxf_catalogue.proofs.HeadLaws.{has-reduced_union, one_reduced, reduce
 use Rattle.mxf_verify.specs.Comparing.{SharesHeldByte}
 use Rattle.mxf_verify.specs.Opposing.{IsContradicted, is_contradicted, is_had, is_opposed}
 use Rattle.mxf_verify.specs.Renewing.{IsDropped, IsKept, added_of, dropped_of, kept_of, renewed_of}
-use Rattle.mxf_verify.proofs.OpposingLaws.{contradicted-by_test, had-by_test, opposed-by_test}
+use Rattle.mxf_verify.proofs.KnownLaws.{or_not}
+use Rattle.mxf_verify.proofs.OpposingLaws.{contradicted-by_test, had-by_test, has_head, opposed-by_test}
 
 -- ---- what is had and what is contradicted
 
 had_or_not : (n : NoteParts) (notes : List NoteParts) → has_note notes n ⊎ (has_note notes n → ⊥)
-had_or_not n notes =
-    let d = had-by_test n notes in
-    elim (is_had n notes) as (λ b. is_had n notes ≡ b → has_note notes n ⊎ (has_note notes n → ⊥)) [
-      | true ↦ λ e. inl (d.0 e)
-      | false ↦ λ e. inr (λ h. let t = d.1 h in cc (t, e))
-    ] refl
+had_or_not n notes = or_not (is_had n notes) (had-by_test n notes)
 
 contradicted_or_not : (n : NoteParts) (notes : List NoteParts) → IsContradicted n notes ⊎ (IsContradicted n notes → ⊥)
-contradicted_or_not n notes =
-    let d = contradicted-by_test n notes in
-    elim (is_contradicted n notes) as (λ b. is_contradicted n notes ≡ b
-    → IsContradicted n notes ⊎ (IsContradicted n notes → ⊥)) [
-      | true ↦ λ e. inl (d.0 e)
-      | false ↦ λ e. inr (λ h. let t = d.1 h in cc (t, e))
-    ] refl
-
--- what has a note has its head
-has_head : (m n : NoteParts) (notes : List NoteParts) → has_note notes m → head_note m ≡ n → has_note notes n
-has_head m n notes (inl i) e = inr (m, i, e)
-has_head m n notes (inr s) e = inr (s.0, s.1, sym (head_note-once s.0) ∙ ap head_note s.2 ∙ e)
+contradicted_or_not n notes = or_not (is_contradicted n notes) (contradicted-by_test n notes)
 
 -- ---- what is dropped and kept
 

@@ -2,14 +2,14 @@
 use Rattle.std.proofs.Common.{◌≡◌, ◌↔◌, ◌⊎◌, ◌+◌, ◌≤◌, ◌∙◌, ℕ, Bool, true, false, ◌||◌, not, nat_lt, IsTrue, List, [], ◌∷◌}
 use Rattle.std.proofs.Common.{◌++◌, length, map, refl, sym, ap, subst, inl, inr, arith, append_assoc}
 use Rattle.std.proofs.lemmas.Bool.{ltb-true, lt-ltb, false≢true}
-use Rattle.std.proofs.lemmas.List.{append-nil}
+use Rattle.std.proofs.lemmas.Bool.Decides.{Decides-or}
+use Rattle.std.proofs.lemmas.List.{append-nil, map-append}
 use Rattle.std.specs.List.{AllByRecursion, flat_map}
 use denote.Bor.{Bor}
 use Rattle.mxf_klv.specs.Parts.{NoteParts}
 use Rattle.mxf_klv.specs.Rising.{In}
 use Rattle.mxf_klv.proofs.Lists.{all-In, In-append}
-use Rattle.mxf_catalogue.specs.Content.{IsCatalogue}
-use Rattle.mxf_catalogue.specs.Runs.{LiesIn, run}
+use Rattle.mxf_catalogue.specs.Runs.{IsWithin, LiesIn, run}
 use Rattle.mxf_catalogue.specs.declared.run.Run.{Run}
 use Rattle.mxf_verify.specs.Verifying.{DiffersIn, IsByteOf, IsDiffering, IsHeldBy, IsSameIn, IsVerified, Source, TouchesIn}
 use Rattle.mxf_verify.specs.Verifying.{Bytes, Saved}
@@ -19,22 +19,8 @@ use Rattle.mxf_verify.specs.Seen.{IsBeside, IsHeaded, IsSeen, range_in}
 use Rattle.mxf_verify.specs.declared.saved.SavedTold.{SavedTold}
 use Rattle.mxf_verify.specs.declared.seen.Seen.{Seen}
 use Rattle.mxf_verify.specs.declared.told.Told.{Told}
-use Rattle.mxf_verify.specs.declared.verification.Differing.{Differing}
 use Rattle.mxf_verify.proofs.ComparingLaws.{holds_first}
-
--- some of the elements with one more behind them is some of them, or that one
-pub some_end : {K : Type 0} (P : K → Type 0) (xs : List K) (x : K)
-    → ((y : K) × In y (xs ++ x ∷ []) × P y) ↔ (((y : K) × In y xs × P y) ⊎ P x)
-some_end P xs x = (
-  λ h. elim ((In-append h.0 xs (x ∷ [])).0 h.1) [
-    | inl k ↦ inl (h.0, k, h.2)
-    | inr k ↦ elim k [ inl e ↦ inr (subst P e h.2) | inr z ↦ absurd z ]
-  ],
-  λ h. elim h [
-    | inl s ↦ (s.0, (In-append s.0 xs (x ∷ [])).1 (inl s.1), s.2)
-    | inr p ↦ (x, (In-append x xs (x ∷ [])).1 (inr (inl refl)), p)
-  ],
-)
+use Rattle.mxf_verify.proofs.RangeLaws.{some_both, some_end}
 
 -- a catalogue among sources with a further one is one of them, or that one
 pub saved_end : (sources : List Source) (s : Source) (notes : List NoteParts)
@@ -137,11 +123,6 @@ map_notes : (source : ℕ) (ns : List NoteParts) → map (λ (d : DifferingParts
 map_notes source [] = refl
 map_notes source (n ∷ ns) = ap (λ l. n ∷ l) (map_notes source ns)
 
-map_both : (xs ys : List DifferingParts) → map (λ (d : DifferingParts). d.note) (xs ++ ys)
-    ≡ map (λ (d : DifferingParts). d.note) xs ++ map (λ (d : DifferingParts). d.note) ys
-map_both [] ys = refl
-map_both (x ∷ xs) ys = ap (λ l. x.note ∷ l) (map_both xs ys)
-
 -- the notes that differ somewhere are those that are told
 pub damaged_says : (reference : List NoteParts) (first : ℕ) (sources : List Source) (told : List DifferingParts)
     (n : NoteParts) → AreDiffering reference first sources told
@@ -152,7 +133,7 @@ damaged_says reference first [] told n d = (
 )
 damaged_says reference first (s ∷ sources) told n (ns, rest, those, more, e) =
     let ih = damaged_says reference (first + 1) sources rest n more in
-    let names = ap (map (λ (p : DifferingParts). p.note)) e ∙ map_both (map (differing_in first) ns) rest
+    let names = ap (map (λ (p : DifferingParts). p.note)) e ∙ map-append (λ (p : DifferingParts). p.note) (map (differing_in first) ns) rest
     ∙ ap (λ l. l ++ map (λ (p : DifferingParts). p.note) rest) (map_notes first ns) in
     let both = In-append n ns (map (λ (p : DifferingParts). p.note) rest) in (
       λ h. elim (both.0 (subst (In n) names h)) [
@@ -164,11 +145,6 @@ damaged_says reference first (s ∷ sources) told n (ns, rest, those, more, e) =
         | inr j ↦ inr (ih.1 (held, (t, j, differs)))
       ])),
     )
-
-pub notes_of_parts : (ds : List Differing)
-    → map (λ (d : DifferingParts). d.note) (parts_of ds) ≡ map (λ (d : Differing). d.note.now) ds
-notes_of_parts [] = refl
-notes_of_parts (d ∷ ds) = ap (λ l. d.note.now ∷ l) (notes_of_parts ds)
 
 -- the ranges of sources, and those of one more
 pub ranges_more : (sources : List Source) (s : Source)
@@ -194,25 +170,6 @@ members_more reference old added P Q R was those either n = (
   ],
 )
 
--- nothing was seen yet
-pub seen_none : (reference : List NoteParts) (seen : Seen) → IsCatalogue reference → seen.reference ≡ reference
-    → seen.verified ≡ [] → seen.headed ≡ [] → seen.differing.items ≡ [] → seen.ranges.items ≡ []
-    → seen.beside.items ≡ [] → seen.came ≡ false → IsSeen reference [] seen
-seen_none reference seen is same verified headed differing ranges beside came = record {
-  catalogue = is;
-  reference_is = same;
-  verified = λ n. (λ h. absurd (subst (In n) verified h), λ h. absurd h.1.1);
-  headed = λ n. (λ h. absurd (subst (In n) headed h), λ h. absurd h.1.1);
-  differing = ap parts_of differing;
-  ranges = ranges;
-  beside = λ at. (λ h. absurd (subst (In h.0) beside h.1), λ h. absurd h.0.1);
-  came = (λ h. absurd (false≢true (sym came ∙ h)), λ h. absurd h.2);
-}
-
-or_says : (a b : Bool) {P Q : Type 0} → (IsTrue a ↔ P) → (IsTrue b ↔ Q) → IsTrue (a || b) ↔ (P ⊎ Q)
-or_says true b f g = (λ h. inl (f.0 refl), λ h. refl)
-or_says false b f g = (λ h. inr (g.0 h), λ h. elim h [ inl p ↦ absurd (false≢true (f.1 p)) | inr q ↦ g.1 q ])
-
 -- there is a byte between an offset and the end of the bytes from there on where these are some
 some_byte : (offset end : ℕ) (bytes : List ℕ) → end ≡ offset + length bytes
     → IsTrue (nat_lt offset end) ↔ ((at : ℕ) × IsByteOf (Bytes offset bytes) at)
@@ -233,16 +190,6 @@ bytes_end sources s = (
   λ h. elim h [
     | inl g ↦ let f = (some_end (λ x. IsByteOf x g.0) sources s).1 (inl (g.1, g.2, g.3)) in (g.0, f.0, f.1, f.2)
     | inr g ↦ let f = (some_end (λ x. IsByteOf x g.0) sources s).1 (inr g.1) in (g.0, f.0, f.1, f.2)
-  ],
-)
-
--- what lies in runs and others lies in either
-pub lies_in_both : (a b : List Run) (at : ℕ) → LiesIn (a ++ b) at ↔ (LiesIn a at ⊎ LiesIn b at)
-lies_in_both a b at = (
-  λ h. elim ((In-append h.0 a b).0 h.1) [ inl k ↦ inl (h.0, k, h.2) | inr k ↦ inr (h.0, k, h.2) ],
-  λ h. elim h [
-    | inl k ↦ (k.0, (In-append k.0 a b).1 (inl k.1), k.2)
-    | inr k ↦ (k.0, (In-append k.0 a b).1 (inr k.1), k.2)
   ],
 )
 
@@ -294,7 +241,7 @@ seen_bytes reference sources old new number offset end bytes told same differing
             λ h. subst (λ l. LiesIn l at) (sym beside) ((is.beside at).1 (b.0 h)),
           );
       came =
-          let either = or_says old.came (nat_lt offset end) is.came (some_byte offset end bytes ends) in
+          let either = Decides-or old.came (nat_lt offset end) is.came (some_byte offset end bytes ends) in
           let all = bytes_end sources s in (
             λ h. all.1 (either.0 (sym came ∙ h)),
             λ h. came ∙ either.1 (all.0 h),
@@ -358,7 +305,7 @@ seen_saved reference sources old new number is_empty saved told same headed diff
       ranges = ranges ∙ is.ranges ∙ sym (append-nil (flat_map range_in sources)) ∙ sym (ranges_more sources s);
       beside = λ at.
           let b = beside_saved reference sources saved at in
-          let both = lies_in_both old.beside.items told.beside at in (
+          let both = some_both (λ r. IsWithin r at) old.beside.items told.beside in (
             λ h. b.1 (elim (both.0 (subst (λ l. LiesIn l at) beside h)) [
               | inl k ↦ inl ((is.beside at).0 k)
               | inr k ↦ inr ((tells_reference.beside at).0 k)
@@ -369,7 +316,7 @@ seen_saved reference sources old new number is_empty saved told same headed diff
             ])),
           );
       came =
-          let either = or_says old.came (not is_empty) is.came (no_byte saved is_empty empty) in
+          let either = Decides-or old.came (not is_empty) is.came (no_byte saved is_empty empty) in
           let all = bytes_end sources s in (
             λ h. all.1 (either.0 (sym came ∙ h)),
             λ h. came ∙ either.1 (all.0 h),

@@ -1,10 +1,10 @@
 -- Candidates after further bytes.
 use denote.Bor.{Bor}
 use Rattle.std.proofs.Common.{◌≡◌, ◌+◌, ◌-◌, ◌<◌, ◌≤◌, ◌&&◌, ◌||◌, not, ℕ, zero, suc, Bool, true, false, IsTrue, List, [], ◌∷◌}
-use Rattle.std.proofs.Common.{◌++◌, length, take, drop, map, ltb, get_or, set, refl, sym, ap, ◌∙◌, subst, append-nil, min, arith}
+use Rattle.std.proofs.Common.{◌++◌, length, take, drop, map, get_or, set, refl, sym, ap, ◌∙◌, subst, append-nil, min, arith, inl, inr}
+use Rattle.std.proofs.lemmas.Bool.{cases_lt}
 use Rattle.std.proofs.lemmas.List.{drop-drop, drop-take, get_or_default, length-append, length-drop, length-map, length-take, take_all}
 use Rattle.std.proofs.Math.Seq.{drop-append_seam}
-use Rattle.std.proofs.lemmas.Bool.{ltb-true, ltb-false}
 use Rattle.std.specs.List.{AllWithin}
 use Rattle.std.specs.Str.{bytes_eq}
 use Rattle.sha2.specs.Sha256.{sha256}
@@ -58,19 +58,16 @@ same_on n offset bytes more h =
     let part = part_of n at more in
     let seen = held_length n offset bytes h in
     let size = covered_by_size n in
-    elim (ltb (held_size n) (at - n.offset)) as (λ b. ltb (held_size n) (at - n.offset) ≡ b
-    → agrees_on n (length (held_in n offset bytes)) part ≡ agrees_on n (at - n.offset) part) [
-      | true ↦ λ e.
-          let past : held_size n < at - n.offset = ltb-true _ _ e in
+    elim (cases_lt (held_size n) (at - n.offset)) [
+      | inl past ↦ (
           let none : part ≡ [] = part_behind n at more (omega (arith, size, past)) in
           ap (agrees_on n (length (held_in n offset bytes))) none
           ∙ agrees_on_none n (length (held_in n offset bytes))
-          ∙ sym (ap (agrees_on n (at - n.offset)) none ∙ agrees_on_none n (at - n.offset))
-      | false ↦ λ e.
-          let within : at - n.offset ≤ held_size n = ltb-false _ _ e in
+          ∙ sym (ap (agrees_on n (at - n.offset)) none ∙ agrees_on_none n (at - n.offset)))
+      | inr within ↦ (
           let same : length (held_in n offset bytes) ≡ at - n.offset = omega (arith, seen, within) in
-          ap (λ k. agrees_on n k part) same
-    ] refl
+          ap (λ k. agrees_on n k part) same)
+    ]
 
 pub agreed_append : (n : NoteParts) (offset : ℕ) (bytes more : List ℕ) → offset ≤ n.offset
     → agrees_with n (held_in n offset (bytes ++ more))
@@ -256,15 +253,15 @@ digest_taken offset bytes value k notes old new is_same d h few digested front e
           (subst (λ (r : Bor NoteParts). is_same ≡ has_digest r.now (held_in r.now offset whole)) note told_same);
       at = at ∙ h.at;
       behind = h.behind;
-      ended = λ j x l m q. elim (ltb j k) as (λ b. ltb j k ≡ b → covered_end (get_or notes j x).now ≤ offset + length whole) [
-        | true ↦ λ e. h.ended j x l (ltb-true _ _ e) q
-        | false ↦ λ e.
-            let last : j ≡ k = omega (arith, ltb-false j k e, m) in
+      ended = λ j x l m q. elim (cases_lt j k) [
+        | inl low ↦ h.ended j x l low q
+        | inr high ↦ (
+            let last : j ≡ k = omega (arith, high, m) in
             let there : get_or notes k d.note ≡ get_or notes j x =
             get_or_default notes k d.note x within ∙ ap (λ i. get_or notes i x) (sym last) in
             let ends = ap (λ (r : Bor NoteParts). covered_end r.now) (note ∙ there) in
-            omega (arith, ends, end, h.at)
-      ] refl;
+            omega (arith, ends, end, h.at))
+      ];
     }
 
 -- one that knows no digest has told all

@@ -1,20 +1,22 @@
 -- What the bytes of a source say of the notes of a reference.
 use denote.Bor.{Bor}
-use Rattle.std.proofs.Common.{◌≡◌, ◌↔◌, ◌+◌, ◌<◌, ◌≤◌, ◌&&◌, not, ℕ, zero, suc, Bool, true, false, IsTrue, cond, List, [], ◌∷◌}
-use Rattle.std.proofs.Common.{Ordering, Less, filter, length, map, max, min, take, drop, nat_le, nat_lt, refl, sym, ap, ◌∙◌, subst, arith, inl, inr}
-use Rattle.std.proofs.lemmas.Bool.{and_from, and_parts, le-leb, leb-true, lt-ltb, ltb-true}
-use Rattle.std.proofs.lemmas.List.{drop-map, take-map}
-use Rattle.std.specs.List.{AllByRecursion, AllWithin}
+use Rattle.std.proofs.Common.{◌≡◌, ◌↔◌, ◌+◌, ◌-◌, ◌<◌, ◌≤◌, ◌&&◌, not, ℕ, Bool, true, false, IsTrue, cond, List, [], ◌∷◌, ◌++◌}
+use Rattle.std.proofs.Common.{Ordering, Less, filter, get_or, length, map, max, min, take, drop, nat_le, nat_lt, refl, sym, ap, ◌∙◌, subst, arith, inl, inr}
+use Rattle.std.proofs.lemmas.Bool.{and_from, and_parts, cases_lt, le-leb, leb-true, lt-ltb, ltb-true}
+use Rattle.std.proofs.lemmas.List.{drop-map, get_or-drop, get_or-take, length-drop, length-take, take-append-drop, take-map}
+use Rattle.std.proofs.lemmas.Simd.{map-map}
+use Rattle.std.specs.List.{AllWithin}
 use Rattle.mxf_klv.specs.Parts.{NoteParts}
 use Rattle.mxf_klv.specs.Note.{covered_end, note_cmp}
 use Rattle.mxf_klv.specs.Rising.{In, IsRising}
-use Rattle.mxf_klv.proofs.Lists.{In-filter, In-map, list_any-In}
+use Rattle.mxf_klv.proofs.Lists.{all-In, all_from_In, Contains-from_In, In-append, In-filter, In-from_Contains, In-map, list_any-In}
 use Rattle.mxf_klv.proofs.Tests.{not_true, not-true-false, same_bool}
 use Rattle.mxf_catalogue.specs.Content.{IsContent}
 use Rattle.mxf_catalogue.specs.NoteLists.{Covers}
 use Rattle.mxf_catalogue.specs.Runs.{LiesIn}
 use Rattle.mxf_catalogue.specs.declared.run.Run.{Run}
 use Rattle.mxf_catalogue.proofs.DisputeLaws.{is_disputed-IsDisputed}
+use Rattle.mxf_catalogue.proofs.Fronts.{rising_front}
 use Rattle.mxf_verify.specs.Candidates.{notes_of, offset_of}
 use Rattle.mxf_verify.specs.Compared.{ComparesBytes}
 use Rattle.mxf_verify.specs.Comparing.{SharesHeldByte}
@@ -35,72 +37,61 @@ use Rattle.mxf_verify.proofs.ReferenceLaws.{crowded_not, is_one, their_notes}
 
 -- what is so of all elements is so of a member
 pub within-In : {X : Type 0} (P : X → Type 0) (xs : List X) (x : X) → AllWithin P xs 0 (length xs) → In x xs → P x
-within-In P [] x a h = absurd h
-within-In P (y ∷ ys) x a (inl e) = subst P (sym e) (a 0 y (omega arith) (omega arith))
-within-In P (y ∷ ys) x a (inr h) = within-In P ys x (λ k d l m. a (suc k) d (omega arith) (omega arith)) h
+within-In P xs x a h =
+    let (j, there, is) = Contains-from_In x xs h in subst P is (a j x (omega arith) there)
 
 -- a member of a part is one of the list
 In-part : {X : Type 0} (x : X) (xs : List X) (first count : ℕ) → In x (take count (drop first xs)) → In x xs
-In-part x [] zero zero h = h
-In-part x [] zero (suc count) h = h
-In-part x [] (suc first) zero h = h
-In-part x [] (suc first) (suc count) h = h
-In-part x (y ∷ ys) zero zero h = absurd h
-In-part x (y ∷ ys) zero (suc count) (inl e) = inl e
-In-part x (y ∷ ys) zero (suc count) (inr h) = inr (In-part x ys zero count h)
-In-part x (y ∷ ys) (suc first) count h = inr (In-part x ys first count h)
+In-part x xs first count h =
+    subst (In x) (take-append-drop first xs) ((In-append x (take first xs) (drop first xs)).1 (inr
+    (subst (In x) (take-append-drop count (drop first xs))
+    ((In-append x (take count (drop first xs)) (drop count (drop first xs))).1 (inl h)))))
 
 -- a member that is neither one of those before a part nor one of those behind it is one of the part
 part-In : {X : Type 0} (P Q : X → Type 0) (x : X) (xs : List X) (first count : ℕ) → AllWithin P xs 0 first
     → AllWithin Q xs (first + count) (length xs) → ¬ P x → ¬ Q x → In x xs → In x (take count (drop first xs))
-part-In P Q x [] first count a b p q h = absurd h
-part-In P Q x (y ∷ ys) zero zero a b p q (inl e) = absurd (q (subst Q (sym e) (b 0 y (omega arith) (omega arith))))
-part-In P Q x (y ∷ ys) zero zero a b p q (inr h) =
-    absurd (q (within-In Q ys x (λ k d l m. b (suc k) d (omega arith) (omega arith)) h))
-part-In P Q x (y ∷ ys) zero (suc count) a b p q (inl e) = inl e
-part-In P Q x (y ∷ ys) zero (suc count) a b p q (inr h) =
-    inr (part-In P Q x ys zero count (λ k d l m. absurd (omega arith))
-    (λ k d l m. b (suc k) d (omega arith) (omega arith)) p q h)
-part-In P Q x (y ∷ ys) (suc first) count a b p q (inl e) =
-    absurd (p (subst P (sym e) (a 0 y (omega arith) (omega arith))))
-part-In P Q x (y ∷ ys) (suc first) count a b p q (inr h) =
-    part-In P Q x ys first count (λ k d l m. a (suc k) d (omega arith) (omega arith))
-    (λ k d l m. b (suc k) d (omega arith) (omega arith)) p q h
+part-In P Q x xs first count before behind p q h =
+    let (j, there, is) = Contains-from_In x xs h in
+    let from : first ≤ j = elim (cases_lt j first) [
+      | inl low ↦ absurd (p (subst P is (before j x (omega arith) low)))
+      | inr high ↦ high
+    ] in
+    let low : j < first + count = elim (cases_lt j (first + count)) [
+      | inl low ↦ low
+      | inr high ↦ absurd (q (subst Q is (behind j x high there)))
+    ] in
+    let place : first + (j - first) ≡ j = omega (arith, from) in
+    In-from_Contains x (take count (drop first xs)) (
+      j - first,
+      simp (length-take, length-drop) (omega (arith, from, low, there)),
+      get_or-take count (drop first xs) (j - first) x (omega (arith, from, low))
+          ∙ get_or-drop first xs (j - first) x ∙ ap (λ k. get_or xs k x) place ∙ is,
+    )
 
 -- what rises rises in a part
-all-take : {X : Type 0} (P : X → Type 0) (xs : List X) (count : ℕ) → AllByRecursion P xs → AllByRecursion P (take count xs)
-all-take P [] zero a = tt
-all-take P [] (suc count) a = tt
-all-take P (x ∷ xs) zero a = tt
-all-take P (x ∷ xs) (suc count) a = (a.0, all-take P xs count a.1)
+rising-back : {X : Type 0} (R : X → X → Ordering) (xs ys : List X) → IsRising R (xs ++ ys) → IsRising R ys
+rising-back R [] ys r = r
+rising-back R (x ∷ xs) ys r = rising-back R xs ys r.1
 
 rising-part : {X : Type 0} (R : X → X → Ordering) (xs : List X) (first count : ℕ) → IsRising R xs
     → IsRising R (take count (drop first xs))
-rising-part R [] zero zero r = tt
-rising-part R [] zero (suc count) r = tt
-rising-part R [] (suc first) zero r = tt
-rising-part R [] (suc first) (suc count) r = tt
-rising-part R (x ∷ xs) zero zero r = tt
-rising-part R (x ∷ xs) zero (suc count) r =
-    (all-take (λ y. R x y ≡ Less) xs count r.0, rising-part R xs zero count r.1)
-rising-part R (x ∷ xs) (suc first) count r = rising-part R xs first count r.1
+rising-part R xs first count r =
+    rising_front R (take count (drop first xs)) (drop count (drop first xs))
+    (subst (IsRising R) (sym (take-append-drop count (drop first xs)))
+    (rising-back R (take first xs) (drop first xs) (subst (IsRising R) (sym (take-append-drop first xs)) r)))
 
 -- and where some are left out
-all-chosen : {X Y : Type 0} (P : Y → Type 0) (f : X → Y) (p : X → Bool) (xs : List X) → AllByRecursion P (map f xs)
-    → AllByRecursion P (map f (filter p xs))
-all-chosen P f p [] a = tt
-all-chosen P f p (x ∷ xs) a =
-    elim (p x) as (λ b. AllByRecursion P (map f (cond b (x ∷ filter p xs) (filter p xs)))) [
-      | true ↦ (a.0, all-chosen P f p xs a.1)
-      | false ↦ all-chosen P f p xs a.1
-    ]
-
 rising-chosen : {X Y : Type 0} (R : Y → Y → Ordering) (f : X → Y) (p : X → Bool) (xs : List X) → IsRising R (map f xs)
     → IsRising R (map f (filter p xs))
 rising-chosen R f p [] r = tt
 rising-chosen R f p (x ∷ xs) r =
     elim (p x) as (λ b. IsRising R (map f (cond b (x ∷ filter p xs) (filter p xs)))) [
-      | true ↦ (all-chosen (λ y. R (f x) y ≡ Less) f p xs r.0, rising-chosen R f p xs r.1)
+      | true ↦ (
+        all_from_In (λ y. R (f x) y ≡ Less) (map f (filter p xs)) (λ y h.
+            let (z, i, e) = (In-map f (filter p xs) y).0 h in
+            all-In (λ y. R (f x) y ≡ Less) (map f xs) y r.0 ((In-map f xs y).1 (z, ((In-filter p xs z).0 i).0, e))),
+        rising-chosen R f p xs r.1,
+      )
       | false ↦ rising-chosen R f p xs r.1
     ]
 
@@ -111,8 +102,7 @@ abbrev noted : List Candidate → List NoteParts
 noted cs = map (λ (x : Candidate). x.note.now) cs
 
 pub notes_noted : (cs : List Candidate) → notes_at (notes_of cs) ≡ map (λ (x : Candidate). x.note.now) cs
-notes_noted [] = refl
-notes_noted (x ∷ cs) = ap (λ l. x.note.now ∷ l) (notes_noted cs)
+notes_noted cs = map-map (λ (r : Bor NoteParts). r.now) (λ (x : Candidate). x.note) cs
 
 -- those of a part are a part of those of all
 part_noted : (all cs : List Candidate) (first count : ℕ) → notes_of cs ≡ take count (drop first (notes_of all))

@@ -4,7 +4,8 @@ use Rattle.std.specs.Prelude.{nat_lt, nat_le, List, [], ◌∷◌, length, map, 
 use Rattle.std.specs.List.{AllByRecursion, AllWithin}
 use Rattle.std.specs.List.Sorted.{IsNonDecreasing}
 use Rattle.std.proofs.Common.{sym, ◌∙◌, ap, subst, inl, inr, arith, get_or}
-use Rattle.std.proofs.lemmas.Bool.{and_from, and_parts, ltb-true, ltb-false, lt-ltb, le-ltb, le-leb, lt-leb, false_from_ne_true}
+use Rattle.std.proofs.lemmas.Bool.{and_from, and_parts, cases_lt, ltb-true, lt-ltb, le-ltb, le-leb, lt-leb, false_from_ne_true}
+use Rattle.std.proofs.lemmas.Bool.Decides.{nat_tests}
 use Rattle.std.proofs.lemmas.Cmp.{tied_itself}
 use Rattle.std.proofs.lemmas.List.Sorted.{sum_by-IsPermutation}
 use Rattle.std.specs.declared.cmp.Ordering.TheVariants.{Less}
@@ -22,6 +23,7 @@ use Rattle.mxf_klv.proofs.Lists.{all-In}
 use Rattle.mxf_klv.proofs.Tests.{not_true, not-true-false, same_bool}
 use Rattle.mxf_catalogue.proofs.HeadWords.{own_head}
 use Rattle.mxf_catalogue.proofs.Ranges.{offsets_rise}
+use Rattle.mxf_views.proofs.NumbersLaws.{count_mapped}
 use Rattle.mxf_verify.specs.Comparing.{Contradicts, SharesHeldByte, is_held_byte_shared}
 use Rattle.mxf_verify.specs.Opposing.{AreBounds, IsOpposed}
 use Rattle.mxf_verify.proofs.ComparingLaws.{holds_first, share-by_test}
@@ -47,13 +49,8 @@ count-front p (x ∷ xs) (suc i) l f g =
     (λ k d a h. g (suc k) d (omega arith) (omega arith)) in
     omega (arith, c, z, ih)
 
-pub count-map : {K L : Type 0} (p : L → Bool) (f : K → L) (xs : List K) → count_by p (map f xs) ≡ count_by (λ x. p (f x)) xs
-count-map p f [] = refl
-count-map p f (x ∷ xs) =
-    let l = count_by-cons p (f x) (map f xs) in
-    let r = count_by-cons (λ y. p (f y)) x xs in
-    let ih = count-map p f xs in
-    omega (arith, l, r, ih)
+both_tallies : (a b : Bool) → tally a ≡ tally (a && b) + tally (a && not b)
+both_tallies a b = grind arith
 
 -- those that pass one test pass another or don't
 pub count-both : {K : Type 0} (p q : K → Bool) (xs : List K)
@@ -64,11 +61,7 @@ count-both p q (x ∷ xs) =
     let a = count_by-cons (λ y. p y && q y) x xs in
     let b = count_by-cons (λ y. p y && not (q y)) x xs in
     let ih = count-both p q xs in
-    let one : tally (p x) ≡ tally (p x && q x) + tally (p x && not (q x)) =
-    elim (p x) as (λ s. tally s ≡ tally (s && q x) + tally (s && not (q x))) [
-      | true ↦ elim (q x) as (λ t. 1 ≡ tally t + tally (not t)) [ true ↦ refl | false ↦ refl ]
-      | false ↦ refl
-    ] in
+    let one = both_tallies (p x) (q x) in
     omega (arith, l, a, b, ih, one)
 
 -- where some are counted, one passes
@@ -84,36 +77,27 @@ count-some {K} p (x ∷ xs) h =
           (s.0, inr s.1, s.2)
     ] refl
 
+-- and the other way around
+pub some-count : {K : Type 0} (p : K → Bool) (xs : List K) (x : K) → In x xs → p x ≡ true → 0 < count_by p xs
+some-count p xs x i t = elim (cases_lt 0 (count_by p xs)) [
+  | inl some ↦ some
+  | inr none ↦ absurd (none-count p xs x (omega (arith, none)) i t)
+]
+
 -- tests that answer alike count alike
 pub count-alike : {K : Type 0} (p q : K → Bool) (xs : List K) → ((x : K) → p x ≡ q x) → count_by p xs ≡ count_by q xs
 count-alike p q xs f = λ i. count_by (λ x. f x i) xs
 
 -- ---- notes
 
-tally-with : (a l : Bool) → l ≡ false → tally (a && true) + tally l ≡ tally a
-tally-with true l e = let z : tally l ≡ 0 = ap tally e in omega (arith, z)
-tally-with false l e = let z : tally l ≡ 0 = ap tally e in omega (arith, z)
-
-tally-without : (a l : Bool) → a ≡ true → l ≡ true → tally (a && false) + tally l ≡ tally a
-tally-without true l h e = let z : tally l ≡ 1 = ap tally e in omega (arith, z)
-tally-without false l h e = cc
+touching-tally : (a b c d : ℕ) → a < b → c < d
+    → tally (nat_lt a d && nat_lt c b) + tally (nat_le b c) ≡ tally (nat_lt a d)
+touching-tally a b c d first second = grind (arith, nat_tests)
 
 -- a note begins below the end of another and ends above its start, or ends at or below that
 touching-one : (m n : NoteParts) → tally (is_held_byte_shared m n) + tally (nat_le (covered_end m) n.offset)
     ≡ tally (nat_lt m.offset (covered_end n))
-touching-one m n =
-    let own : m.offset < covered_end m = holds_first m in
-    let other : n.offset < covered_end n = holds_first n in
-    elim (nat_lt n.offset (covered_end m)) as (λ t. nat_lt n.offset (covered_end m) ≡ t
-    → tally (nat_lt m.offset (covered_end n) && t) + tally (nat_le (covered_end m) n.offset)
-    ≡ tally (nat_lt m.offset (covered_end n))) [
-      | true ↦ λ e. tally-with (nat_lt m.offset (covered_end n)) (nat_le (covered_end m) n.offset)
-          (lt-leb (covered_end m) n.offset (ltb-true n.offset (covered_end m) e))
-      | false ↦ λ e.
-          let below : covered_end m ≤ n.offset = ltb-false n.offset (covered_end m) e in
-          tally-without (nat_lt m.offset (covered_end n)) (nat_le (covered_end m) n.offset)
-          (lt-ltb m.offset (covered_end n) (omega arith)) (le-leb (covered_end m) n.offset below)
-    ] refl
+touching-one m n = touching-tally m.offset (covered_end m) n.offset (covered_end n) (holds_first m) (holds_first n)
 
 -- those that hold a byte of it are those that begin below its end, but for those that end at or below its start
 pub touching-count : (n : NoteParts) (notes : List NoteParts)
@@ -234,13 +218,7 @@ opposed-by_counts n notes begun ended heads is lacked b e h =
           let passes : p m ≡ true = and_from (is_held_byte_shared m n) (not (is_same_note m (head_note n)))
           ((share-by_test m n).1 c.share) (not_true (is_same_note m (head_note n)) (λ t.
           ne ((same_note-Decides m (head_note n)).0 t))) in
-          let some : 0 < count_by p notes =
-          elim (nat_lt 0 (count_by p notes)) as (λ v. nat_lt 0 (count_by p notes) ≡ v → 0 < count_by p notes) [
-            | true ↦ λ v. ltb-true 0 (count_by p notes) v
-            | false ↦ λ v.
-                let low : count_by p notes ≤ 0 = ltb-false 0 (count_by p notes) v in
-                absurd (none-count p notes m (omega arith) o.contradicted.1 passes)
-          ] refl in
+          let some = some-count p notes m o.contradicted.1 passes in
           lt-ltb heads (begun - ended) (omega (arith, touching, others, b, e, h, some)),
     )
 
@@ -266,7 +244,7 @@ begun-count notes starts ends lent bound begun a e l f g =
     sym (count-front (λ x. nat_lt x bound) lent begun l (λ k d m n. lt-ltb _ bound (f k d m n)) (λ k d m n.
     le-ltb _ bound (g k d m n)))
     ∙ ap (count_by (λ x. nat_lt x bound)) (e ∙ a.starts_are)
-    ∙ count-map (λ x. nat_lt x bound) (λ n. n.offset) notes
+    ∙ count_mapped (λ x. nat_lt x bound) (λ n. n.offset) notes
 
 -- so many end at or below a bound
 pub ended-count : (notes : List NoteParts) (starts ends lent : List ℕ) (bound ended : ℕ) → AreBounds notes starts ends
@@ -277,7 +255,7 @@ ended-count notes starts ends lent bound ended a e l f g =
     lt-leb _ bound (g k d m n)))
     ∙ ap (count_by (λ x. nat_le x bound)) e
     ∙ sum_by-IsPermutation (λ x. cond (nat_le x bound) 1 0) (map covered_end notes) ends a.ends_are
-    ∙ count-map (λ x. nat_le x bound) covered_end notes
+    ∙ count_mapped (λ x. nat_le x bound) covered_end notes
 
 byte-tally : (b : Bool) → bool_byte b ≡ tally b
 byte-tally true = refl

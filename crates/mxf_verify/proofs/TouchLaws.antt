@@ -1,7 +1,7 @@
 -- The first and the last of places that a note holds a byte of, by the two orders of places.
-use Rattle.std.proofs.Common.{◌≡◌, ◌⊎◌, ◌∙◌, ◌<◌, ◌≤◌, ◌+◌, ◌-◌, ℕ, zero, suc, Bool, true, false, List, [], ◌∷◌}
+use Rattle.std.proofs.Common.{◌≡◌, ◌⊎◌, ◌∙◌, ◌<◌, ◌≤◌, ◌+◌, ◌-◌, ℕ, Bool, true, false, List}
 use Rattle.std.proofs.Common.{Option, None, Some, refl, sym, ap, subst, inl, inr, arith, get_or, length, max, nat_lt, reverse}
-use Rattle.std.proofs.Common.{if◌then◌else◌, take}
+use Rattle.std.proofs.Common.{if◌then◌else◌}
 use Rattle.std.specs.Cmp.{IsTotalOrder}
 use Rattle.std.specs.List.{AllWithin}
 use Rattle.std.specs.List.Sorted.{IsNonDecreasing, IsPermutation, IsSortedByKey}
@@ -16,15 +16,16 @@ use Rattle.mxf_klv.specs.Note.{covered_end, greatest_end}
 use Rattle.mxf_klv.specs.Parts.{NoteParts}
 use Rattle.mxf_klv.specs.Rising.{In, SameMembers}
 use Rattle.mxf_klv.proofs.Lists.{Contains-from_In, In-at}
+use Rattle.mxf_units.specs.Intervals.{greatest_ends}
 use Rattle.mxf_units.specs.Units.{asked_end}
+use Rattle.mxf_units.proofs.IntervalLaws.{ends-rise, length-ends, own_end}
+use Rattle.mxf_units.proofs.NextPlaceLaws.{permuted}
 use Rattle.mxf_verify.specs.Fixities.{AreUnitsOf, IsTouched}
-use Rattle.mxf_verify.specs.Reaching.{greatest_from}
 use Rattle.mxf_verify.specs.Touching.{AreInOrder, AreSearched, BeginsBy, EndsBy, IsFirstAbove, back_of, cut_end}
 use Rattle.mxf_verify.specs.Touching.{greatest_number, reach_of}
 use Rattle.mxf_verify.specs.declared.unit_places.UnitPlace.{UnitPlace}
 use Rattle.mxf_verify.proofs.FixityLaws.{cut_below, cut_same}
-use Rattle.mxf_verify.proofs.RangeLaws.{permuted}
-use Rattle.mxf_verify.proofs.ReachLaws.{front_place, length-greatest, reached}
+use Rattle.mxf_verify.proofs.ReachLaws.{first_reached}
 
 -- ---- sorted by pairs of numbers
 
@@ -87,26 +88,7 @@ members_back xs ys zs p e =
     let a = permuted xs ys p x in
     let b = permuted ys (reverse ys) (IsPermutation-reverse ys) x in (λ h. a.0 (b.0 h), λ h. b.1 (a.1 h)))
 
--- ---- the greatest number so far
-
-greatest-least : {K : Type 0} (key : K → ℕ) (top : ℕ) (xs : List K) (j d : ℕ) → j < length xs
-    → top ≤ get_or (greatest_from key top xs) j d
-greatest-least key top xs j d l = (reached key top xs j d top l).1 (inl (omega arith))
-
-pub greatest-rises : {K : Type 0} (key : K → ℕ) (top : ℕ) (xs : List K) → IsNonDecreasing (greatest_from key top xs)
-greatest-rises key top [] i j d l h = absurd (omega arith)
-greatest-rises key top (x ∷ xs) zero zero d l h = omega arith
-greatest-rises key top (x ∷ xs) zero (suc j) d l h =
-    let many = length-greatest key (max top (key x)) xs in
-    greatest-least key (max top (key x)) xs j d (omega (arith, h, many))
-greatest-rises key top (x ∷ xs) (suc i) zero d l h = absurd (omega arith)
-greatest-rises key top (x ∷ xs) (suc i) (suc j) d l h =
-    greatest-rises key (max top (key x)) xs i j d (omega arith) (omega arith)
-
-In-front_at : {K : Type 0} (xs : List K) (j : ℕ) (z : K) → j < length xs → In (get_or xs j z) (take (suc j) xs)
-In-front_at [] j z l = absurd (omega arith)
-In-front_at (x ∷ xs) zero z l = inl refl
-In-front_at (x ∷ xs) (suc j) z l = inr (In-front_at xs j z (omega arith))
+-- ---- the first above a bound
 
 -- One of the places that a bound is looked for by: the first with a number above it.
 pub record IsFoundBy (key : UnitPlace → ℕ) (places : List UnitPlace) (bound : ℕ) (p : UnitPlace) : Type 0 where
@@ -118,64 +100,38 @@ pub record IsFoundBy (key : UnitPlace → ℕ) (places : List UnitPlace) (bound 
       → (j : ℕ) × (place ≤ j) × (j < length places) × (get_or places j x ≡ x)
 
 module _ (key : UnitPlace → ℕ) (places : List UnitPlace) (bound : ℕ) where
-  -- Where no number up to a place lies above the bound, the place has none that does.
-  low_at : (j : ℕ) (z : UnitPlace) → j < length places → get_or (greatest_from key 0 places) j 0 ≤ bound
-      → key (get_or places j z) ≤ bound
-  low_at j z l low =
-      let says = reached key 0 places j 0 (key (get_or places j z)) l in
-      let at = says.1 (inr (get_or places j z, In-front_at places j z l, omega arith)) in omega (arith, at, low)
-
-  found : (numbers : List ℕ) (p : UnitPlace) → numbers ≡ greatest_from key 0 places
+  found : (numbers : List ℕ) (p : UnitPlace) → numbers ≡ greatest_ends key 0 places
       → IsFirstAbove places numbers bound (Some p) → IsFoundBy key places bound p
-  found numbers p e f =
-      let k = f.0 in
-      let within = f.1 in
-      let low : AllWithin (λ n. n ≤ bound) (greatest_from key 0 places) 0 k =
-      subst (λ (l : List ℕ). AllWithin (λ n. n ≤ bound) l 0 k) e f.3 in
-      let high : bound < get_or (greatest_from key 0 places) k 0 =
-      subst (λ (l : List ℕ). bound < get_or l k 0) e f.4 in
-      let says = (reached key 0 places k 0 (suc bound) within).0 (omega (arith, high)) in record {
+  found numbers p e (k, within, is, below, above) =
+      let low : AllWithin (λ n. n ≤ bound) (greatest_ends key 0 places) 0 k =
+      subst (λ (l : List ℕ). AllWithin (λ n. n ≤ bound) l 0 k) e below in
+      let high : bound < get_or (greatest_ends key 0 places) k 0 =
+      subst (λ (l : List ℕ). bound < get_or l k 0) e above in record {
         place = k;
         within = within;
-        is = f.2;
-        above = elim says [
-          | inl none ↦ absurd (omega (arith, none))
-          | inr s ↦ (
-              let at = front_place places (suc k) s.0 s.1 in
-              let early : at.0 < suc k = at.1 in
-              let more : suc bound ≤ key s.0 = s.2 in
-              elim (cases_lt at.0 k) [
-                | inl before ↦ (
-                    let none = low_at at.0 s.0 at.2 (low at.0 0 (omega arith) before) in
-                    let same = ap key at.3 in absurd (omega (arith, none, same, more)))
-                | inr late ↦ (
-                    let same : at.0 ≡ k = omega (arith, early, late) in
-                    let one : get_or places k p ≡ s.0 =
-                    get_or_default places k p s.0 within
-                    ∙ subst (λ (n : ℕ). get_or places n s.0 ≡ s.0) same at.3 in
-                    let equal : key p ≡ key s.0 = ap key (f.2 ∙ one) in omega (arith, equal, more))
-              ])
-        ];
+        is = is;
+        above = subst (λ (q : UnitPlace). bound < key q) (sym is)
+            (first_reached key 0 places k 0 bound p (omega arith) within low high);
         behind = λ x h more.
-            let c = Contains-from_In x places h in
-            elim (cases_lt c.0 k) [
+            let (j, there, at) = Contains-from_In x places h in
+            elim (cases_lt j k) [
               | inl before ↦ (
-                  let none = low_at c.0 x c.1 (low c.0 0 (omega arith) before) in
-                  let same = ap key c.2 in absurd (omega (arith, none, same, more)))
-              | inr late ↦ (c.0, late, c.1, c.2)
+                  let none = low j 0 (omega arith) before in
+                  let own = own_end key 0 places j 0 x there in
+                  let same = ap key at in absurd (omega (arith, none, own, same, more)))
+              | inr late ↦ (j, late, there, at)
             ];
       }
 
-  none_found : (numbers : List ℕ) → numbers ≡ greatest_from key 0 places → IsFirstAbove places numbers bound None
+  none_found : (numbers : List ℕ) → numbers ≡ greatest_ends key 0 places → IsFirstAbove places numbers bound None
       → (x : UnitPlace) → In x places → key x ≤ bound
   none_found numbers e f x h =
-      let c = Contains-from_In x places h in
-      let many : length numbers ≡ length places = ap (λ (l : List ℕ). length l) e ∙ length-greatest key 0 places in
-      let within : c.0 < length places = c.1 in
-      let low : get_or (greatest_from key 0 places) c.0 0 ≤ bound =
-      subst (λ (l : List ℕ). get_or l c.0 0 ≤ bound) e (f c.0 0 (omega arith) (omega (arith, within, many))) in
-      let none = low_at c.0 x within low in
-      let same = ap key c.2 in omega (arith, none, same)
+      let (j, there, at) = Contains-from_In x places h in
+      let many = ap (λ (l : List ℕ). length l) e in
+      let count = length-ends key 0 places in
+      let low = subst (λ (l : List ℕ). get_or l j 0 ≤ bound) e (f j 0 (omega arith) (omega (arith, there, many, count))) in
+      let own = own_end key 0 places j 0 x there in
+      let same = ap key at in omega (arith, low, own, same)
 
 -- What is found comes before each that has a number above the bound.
 in_order : (R : UnitPlace → UnitPlace → Type 0) (key : UnitPlace → ℕ) (places : List UnitPlace) (bound : ℕ)
@@ -316,12 +272,12 @@ same_above ps qs ms ns a b o e f g h =
     (subst (λ (l : List ℕ). IsFirstAbove ps l b o) f (subst (λ (k : ℕ). IsFirstAbove ps ms k o) g h))
 
 pub numbers_rise : (key : UnitPlace → ℕ) (places : List UnitPlace) (numbers given : List ℕ) → given ≡ numbers
-    → numbers ≡ greatest_from key 0 places → IsNonDecreasing given
+    → numbers ≡ greatest_ends key 0 places → IsNonDecreasing given
 numbers_rise key places numbers given e f =
-    subst (λ (l : List ℕ). IsNonDecreasing l) (sym (e ∙ f)) (greatest-rises key 0 places)
+    subst (λ (l : List ℕ). IsNonDecreasing l) (sym (e ∙ f)) (ends-rise key 0 places)
 
 pub as_many : (key : UnitPlace → ℕ) (places those : List UnitPlace) (numbers given : List ℕ) → those ≡ places
-    → given ≡ numbers → numbers ≡ greatest_from key 0 places → length those ≡ length given
+    → given ≡ numbers → numbers ≡ greatest_ends key 0 places → length those ≡ length given
 as_many key places those numbers given d e f =
-    ap (λ (l : List UnitPlace). length l) d ∙ sym (length-greatest key 0 places)
+    ap (λ (l : List UnitPlace). length l) d ∙ sym (length-ends key 0 places)
     ∙ sym (ap (λ (l : List ℕ). length l) (e ∙ f))

@@ -153,13 +153,6 @@ module _ (p : UnitRun → Bool) where
       let rest = filter p (drop (i + 1) runs) in
       at_drop_more (λ l. units_in (filter p l)) runs i d here ∙ ap (λ b. units_in (cond b (r ∷ rest) rest)) t
 
-  pub chosen-less : (runs : List UnitRun) (i : ℕ) (d : UnitRun) → i < length runs → p (get_or runs i d) ≡ false
-      → units_in (filter p (drop i runs)) ≡ units_in (filter p (drop (i + 1) runs))
-  chosen-less runs i d here t =
-      let r = get_or runs i d in
-      let rest = filter p (drop (i + 1) runs) in
-      at_drop_more (λ l. units_in (filter p l)) runs i d here ∙ ap (λ b. units_in (cond b (r ∷ rest) rest)) t
-
 -- ---- places
 
 one_then : {K : Type 0} (o : Option K) (rest : List K) → cons_option o [] ++ rest ≡ cons_option o rest

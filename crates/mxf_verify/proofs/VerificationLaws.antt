@@ -1,18 +1,18 @@
 -- Of a reference beside sources there is one verification, and what that says.
-use Rattle.std.proofs.Common.{◌≡◌, ◌↔◌, ◌⊎◌, ◌+◌, ◌≤◌, ◌∙◌, ℕ, true, false, ◌&&◌, ◌||◌, not, List, []}
-use Rattle.std.proofs.Common.{◌∷◌, ◌++◌, length, map, cond, ltb, refl, sym, ap, subst, inl, inr, arith}
-use Rattle.std.proofs.lemmas.Bool.{false≢true, ltb-false, ltb-true}
-use Rattle.mxf_klv.specs.Note.{IsCovered, IsInSpan, IsNote, covered_end, end_of}
+use Rattle.std.proofs.Common.{◌≡◌, ◌↔◌, ◌⊎◌, ◌+◌, ◌∙◌, ℕ, ◌&&◌, ◌||◌, not, List, []}
+use Rattle.std.proofs.Common.{◌∷◌, ◌++◌, length, map, refl, sym, ap, subst, inl, inr, arith}
+use Rattle.mxf_klv.specs.Note.{IsCovered, IsInSpan, IsNote}
 use Rattle.mxf_klv.specs.Parts.{NoteParts}
 use Rattle.mxf_klv.specs.Rising.{In, SameMembers}
-use Rattle.mxf_klv.proofs.Lists.{all-In, In-append}
+use Rattle.mxf_klv.proofs.Lists.{all-In, In-append, In-map}
 use Rattle.mxf_klv.proofs.Tests.{same_bool}
 use Rattle.mxf_catalogue.specs.Content.{IsCatalogue}
 use Rattle.mxf_catalogue.specs.Disputes.{SharesByte}
-use Rattle.mxf_catalogue.specs.Runs.{IsWithin, LiesIn}
+use Rattle.mxf_catalogue.specs.Runs.{LiesIn}
 use Rattle.mxf_catalogue.specs.declared.run.Run.{Run}
 use Rattle.mxf_catalogue.proofs.ClearLaws.{clear_same}
 use Rattle.mxf_catalogue.proofs.ContentLaws.{same_content}
+use Rattle.mxf_catalogue.proofs.RunBounds.{covers_below_end}
 use Rattle.mxf_catalogue.proofs.RunLaws.{same_runs}
 use Rattle.mxf_verify.specs.Comparing.{SharesHeldByte}
 use Rattle.mxf_verify.specs.Taking.{has_digest}
@@ -23,6 +23,8 @@ use Rattle.mxf_verify.specs.VerificationLaws.{AreAllClear, SaysSame}
 use Rattle.mxf_verify.specs.Verifying.{DiffersIn, IsAmong, IsByteOf, IsCompared, IsCut, IsDiffering, IsDifferingByte, IsHeldBy, IsSaidBy}
 use Rattle.mxf_verify.specs.Verifying.{IsSameIn, IsUnknownByte, IsUnverifiedByte, IsVerified, IsVerifiedByte, Source, TouchesIn, held_in, held_size, is_digested}
 use Rattle.mxf_verify.specs.Verifying.{Bytes}
+use Rattle.mxf_verify.proofs.KnownLaws.{or_not}
+use Rattle.mxf_verify.proofs.RangeLaws.{lies_or_not}
 use Rattle.mxf_verify.proofs.SaidLaws.{said_told}
 use Rattle.mxf_verify.proofs.SeenLaws.{damaged_says}
 use Rattle.mxf_verify.proofs.TakingLaws.{all_held}
@@ -86,31 +88,6 @@ one_verification reference sources a b s t =
 
 -- ---- what is told is so
 
--- an offset lies in runs, or doesn't
-within_or_not : (r : Run) (at : ℕ) → IsWithin r at ⊎ ¬ IsWithin r at
-within_or_not r at = elim (ltb at r.start) as (λ b. ltb at r.start ≡ b → IsWithin r at ⊎ ¬ IsWithin r at) [
-  | true ↦ λ e. inr (λ w. let from : r.start ≤ at = w.from in let l = ltb-true at r.start e in absurd (omega arith))
-  | false ↦ λ e. elim (ltb at r.end) as (λ b. ltb at r.end ≡ b → IsWithin r at ⊎ ¬ IsWithin r at) [
-    | true ↦ λ f.
-        let l = ltb-true at r.end f in inl (record { from = ltb-false at r.start e; before = omega arith })
-    | false ↦ λ f. inr (λ w.
-        let before : at + 1 ≤ r.end = w.before in let l = ltb-false at r.end f in absurd (omega arith))
-  ] refl
-] refl
-
-pub lies_or_not : (runs : List Run) (at : ℕ) → LiesIn runs at ⊎ ¬ LiesIn runs at
-lies_or_not [] at = inr (λ h. h.1)
-lies_or_not (r ∷ runs) at = elim (within_or_not r at) [
-  | inl w ↦ inl (r, inl refl, w)
-  | inr f ↦ elim (lies_or_not runs at) [
-    | inl h ↦ inl (h.0, inr h.1, h.2)
-    | inr g ↦ inr (λ h. elim h.1 [
-      | inl e ↦ f (subst (λ (q : Run). IsWithin q at) e h.2)
-      | inr k ↦ g (h.0, k, h.2)
-    ])
-  ]
-]
-
 module _ (reference : List NoteParts) (sources : List Source) (v : VerificationParts)
     (is : IsVerification reference sources v) where
   pub verified_so : (at : ℕ) → LiesIn v.verified at → (n : NoteParts) × (s : Source) × In n reference × In s sources
@@ -121,12 +98,8 @@ module _ (reference : List NoteParts) (sources : List Source) (v : VerificationP
 
   pub differs_so : (d : DifferingParts) → In d v.differing → In d.note reference × IsDiffering reference sources d.note
   differs_so d h =
-      (damaged_says reference 1 sources v.differing d.note is.differing).0 (In-note d v.differing h)
-    where
-      In-note : (e : DifferingParts) (ds : List DifferingParts) → In e ds → In e.note (map (λ (x : DifferingParts). x.note) ds)
-      In-note e [] k = absurd k
-      In-note e (x ∷ ds) (inl same) = inl (ap (λ (y : DifferingParts). y.note) same)
-      In-note e (x ∷ ds) (inr k) = inr (In-note e ds k)
+      (damaged_says reference 1 sources v.differing d.note is.differing).0
+      ((In-map (λ (x : DifferingParts). x.note) v.differing d.note).1 (d, h, refl))
 
   pub held_so : (at : ℕ) → LiesIn v.held at ↔ (LiesIn v.verified at ⊎ LiesIn v.altered at ⊎ LiesIn v.unverified at)
   held_so at = (
@@ -161,22 +134,13 @@ module _ (reference : List NoteParts) (sources : List Source) (v : VerificationP
 pub said_or_not : (n : NoteParts) (bytes : List ℕ) → IsNote n → length bytes ≡ held_size n
     → IsSaidBy n bytes ⊎ ¬ IsSaidBy n bytes
 said_or_not n bytes is size =
-    let told = said_told n bytes is size in
-    let test = agrees_with n bytes && (not (is_digested n) || has_digest n bytes) in
-    elim test as (λ b. test ≡ b → IsSaidBy n bytes ⊎ ¬ IsSaidBy n bytes) [
-      | true ↦ λ e. inl (told.0 e)
-      | false ↦ λ e. inr (λ s. false≢true (sym e ∙ told.1 s))
-    ] refl
+    or_not (agrees_with n bytes && (not (is_digested n) || has_digest n bytes)) (said_told n bytes is size)
 
 -- a byte that a note holds lies in its span
 pub in_span : (n : NoteParts) (at : ℕ) → IsCovered n at → IsInSpan n at
 in_span n at h =
-    let before : at + 1 ≤ covered_end n = h.before in
-    let more : covered_end n ≤ end_of n = elim n.whole as (λ b. cond b (end_of n) (n.offset + 16 + n.width) ≤ end_of n) [
-      | true ↦ omega arith
-      | false ↦ omega arith
-    ] in
-    record { from = h.from; before = omega arith }
+    let before = h.before in
+    let below = covers_below_end n in record { from = h.from; before = omega (arith, before, below) }
 
 pub shares_span : (m n : NoteParts) → SharesHeldByte m n → SharesByte m n
 shares_span m n s = (s.0, in_span m s.0 s.1, in_span n s.0 s.2)

@@ -1,14 +1,14 @@
 -- All packets of a file beside the bytes of one source.
-use Rattle.std.proofs.Common.{◌≡◌, ◌≢◌, ◌↔◌, ◌+◌, ◌<◌, ◌≤◌, ◌∙◌, ℕ, true, false, List, [], ◌∷◌}
-use Rattle.std.proofs.Common.{length, ltb, refl, sym, ap, subst, inl, inr, arith, cond}
-use Rattle.std.proofs.lemmas.Bool.{ltb-false, ltb-true}
+use Rattle.std.proofs.Common.{◌≡◌, ◌≢◌, ◌↔◌, ◌+◌, ◌<◌, ◌≤◌, ◌∙◌, ℕ, true, List, [], ◌∷◌}
+use Rattle.std.proofs.Common.{length, refl, sym, ap, subst, inl, inr, arith, cond}
+use Rattle.std.proofs.lemmas.Bool.{cases_lt}
 use Rattle.mxf_klv.specs.Bytes.{AreBytes}
 use Rattle.mxf_klv.specs.Note.{IsCovered, IsNote, covered_end, end_of, greatest_end}
 use Rattle.mxf_klv.specs.Parts.{NoteParts}
 use Rattle.mxf_klv.specs.PieceReading.{notes_in, stop_in}
 use Rattle.mxf_klv.specs.Rising.{In}
 use Rattle.mxf_klv.specs.declared.piece.Stop.TheVariants.{End}
-use Rattle.mxf_klv.proofs.Lists.{all-In}
+use Rattle.mxf_klv.proofs.Lists.{all-In, Contains-from_In}
 use Rattle.mxf_catalogue.specs.Disputes.{AreApart, IsClear, clear_notes}
 use Rattle.mxf_catalogue.specs.Runs.{AreMaximal, LiesIn}
 use Rattle.mxf_catalogue.specs.declared.run.Run.{Run}
@@ -90,11 +90,9 @@ reference_laid reference is =
 -- of none there is none
 pub none_of : (reference : List NoteParts) (P : NoteParts → Type 0) (count : ℕ) → IsCountOf reference P count → count ≡ 0
     → (n : NoteParts) → In n reference → ¬ P n
-none_of reference P count is e n i p = empty is.notes ((is.those.members n).1 (i, p)) (sym is.count_is ∙ e)
-  where
-    empty : (ns : List NoteParts) → In n ns → length ns ≡ 0 → ⊥
-    empty [] j z = absurd j
-    empty (m ∷ ns) j z = absurd (omega arith)
+none_of reference P count is e n i p =
+    let (j, there, same) = Contains-from_In n is.notes ((is.those.members n).1 (i, p)) in
+    let counted = is.count_is in omega (arith, there, counted, e)
 
 pub count_none : (reference : List NoteParts) (P : NoteParts → Type 0) (count : ℕ) → IsCountOf reference P count
     → ((n : NoteParts) → In n reference → ¬ P n) → count ≡ 0
@@ -158,21 +156,19 @@ module _ (reference : List NoteParts) (bytes : List ℕ) (v : VerificationParts)
             let whole = whole_covers reference n (is.clear n i) in omega arith
 
         no_more : AreNotesLaid 0 reference → length bytes ≤ laid_end 0 reference
-        no_more laid = elim (ltb (laid_end 0 reference) (length bytes)) as
-            (λ b. ltb (laid_end 0 reference) (length bytes) ≡ b → length bytes ≤ laid_end 0 reference) [
-              | false ↦ λ e. ltb-false (laid_end 0 reference) (length bytes) e
-              | true ↦ λ e.
-                  let at = laid_end 0 reference in
-                  let l = ltb-true at (length bytes) e in
-                  absurd (no_runs _ v.unknown told.unknown says.known at (
-                    (Bytes 0 bytes, inl refl, (omega arith, omega arith)),
-                    λ h.
-                        let to = laid_end_each 0 reference h.0 laid h.1 in
-                        let before : at + 1 ≤ covered_end h.0 = h.2.before in
-                        let whole = whole_covers reference h.0 (is.clear h.0 h.1) in
-                        omega arith,
-                  ))
-            ] refl
+        no_more laid = elim (cases_lt (laid_end 0 reference) (length bytes)) [
+          | inr all ↦ all
+          | inl more ↦ (
+              let at = laid_end 0 reference in
+              absurd (no_runs _ v.unknown told.unknown says.known at (
+                (Bytes 0 bytes, inl refl, (omega arith, omega arith)),
+                λ h.
+                    let to = laid_end_each 0 reference h.0 laid h.1 in
+                    let before : at + 1 ≤ covered_end h.0 = h.2.before in
+                    let whole = whole_covers reference h.0 (is.clear h.0 h.1) in
+                    omega arith,
+              )))
+        ]
 
   -- ---- and where they are, everything is the same
   module _ (are : AreBytes bytes) (notes : notes_in 0 bytes ≡ reference) (stop : stop_in 0 bytes ≡ End) where
@@ -206,16 +202,13 @@ module _ (reference : List NoteParts) (bytes : List ℕ) (v : VerificationParts)
       known = none_runs v.unknown told.unknown.maximal (λ at h. unknown at ((told.unknown.offsets at).0 h));
     }
       where
-        some_in : (ns : List NoteParts) (n : NoteParts) → In n ns → 0 < length ns
-        some_in [] n i = absurd i
-        some_in (m ∷ ns) n i = omega arith
-
         some_packets : 0 < v.packets
         some_packets =
             let one = first_there reference is.some in
             let count = told.packets.count_is in
-            let some = some_in told.packets.notes one.0
-            ((told.packets.those.members one.0).1 (one.1, verified_there one.0 one.1)) in omega arith
+            let some = Contains-from_In one.0 told.packets.notes
+            ((told.packets.those.members one.0).1 (one.1, verified_there one.0 one.1)) in
+            let there = some.1 in omega arith
 
         unknown : (at : ℕ) → ((s : Source) × In s (Bytes 0 bytes ∷ []) × IsByteOf s at) × ¬ IsHeldBy reference at → ⊥
         unknown at h =

@@ -1,7 +1,7 @@
 -- The packets of bytes, and the notes of a reference that says what they are.
-use Rattle.std.proofs.Common.{◌≡◌, ◌+◌, ◌-◌, ◌<◌, ◌≤◌, ◌∙◌, ℕ, true, false, ◌&&◌, List, [], ◌∷◌, ◌++◌}
-use Rattle.std.proofs.Common.{Some, length, take, drop, cond, ltb, refl, sym, ap, subst, inl, inr, arith, append_assoc}
-use Rattle.std.proofs.lemmas.Bool.{ltb-false, ltb-true}
+use Rattle.std.proofs.Common.{◌≡◌, ◌+◌, ◌-◌, ◌<◌, ◌≤◌, ◌∙◌, ℕ, true, ◌&&◌, List, [], ◌∷◌, ◌++◌}
+use Rattle.std.proofs.Common.{Some, length, take, drop, cond, refl, sym, ap, subst, inl, inr, arith, append_assoc}
+use Rattle.std.proofs.lemmas.Bool.{cases_lt}
 use Rattle.std.proofs.Math.ListN.{length-append, length-drop}
 use Rattle.std.proofs.lemmas.List.{append-nil, drop_all, drop-drop, drop_at, length-take, take-append-drop, take_at}
 use Rattle.sha2.specs.Sha256.{sha256}
@@ -22,10 +22,6 @@ use Rattle.mxf_verify.specs.Verifying.{IsAmong, IsSaidBy, IsValueOf, front_size,
 
 -- ---- what a note says of bytes is a packet
 
--- the packet that bytes are which a note says
-said_packet : NoteParts → List ℕ → PacketParts
-said_packet n bytes = packet_parts n.key n.width (drop (front_size n) bytes)
-
 -- notes with equal parts are one
 one_note : (a b : NoteParts) → a.offset ≡ b.offset → a.key ≡ b.key → a.width ≡ b.width → a.length ≡ b.length
     → a.whole ≡ b.whole → a.held ≡ b.held → a ≡ b
@@ -42,9 +38,6 @@ module _ (n : NoteParts) (bytes : List ℕ) (is : IsNote n) (whole : n.whole ≡
   value_length : length value ≡ n.length
   unfolding value
   value_length = omega (arith, length-drop (front_size n) bytes, whole_size, size)
-
-  packet : PacketParts
-  packet = packet_parts n.key n.width value
 
   pub said_is_spelled : IsSpelledPacket bytes (packet_parts n.key n.width (drop (front_size n) bytes))
   unfolding value
@@ -214,19 +207,15 @@ laid_covers : (all : List ℕ) (at : ℕ) (ps : List PacketParts) → AreLaid at
 laid_covers all at [] laid x from to =
     let none : length (drop at all) ≡ 0 = ap length laid in absurd (omega (arith, none, length-drop at all))
 laid_covers all at (p ∷ ps) (front, after, s, is, within, laid) x from to =
-    elim (ltb x (at + size_of p)) as (λ b. ltb x (at + size_of p) ≡ b
-    → (n : NoteParts) × In n (notes_from at (p ∷ ps)) × IsCovered n x) [
-      | true ↦ λ e.
-          let l = ltb-true x (at + size_of p) e in
-          (note_of at p, inl refl, record { from = from; before = omega arith })
-      | false ↦ λ e.
+    elim (cases_lt x (at + size_of p)) [
+      | inl l ↦ (note_of at p, inl refl, record { from = from; before = omega arith })
+      | inr past ↦ (
           let left : after ≡ drop (at + size_of p) all = sym
           (sym (drop-drop (size_of p) at all) ∙ ap (drop (size_of p)) is
           ∙ drop_at front after (size_of p) (length-spelled front p s)) in
-          let h = laid_covers all (at + size_of p) ps (subst (λ l. AreLaid (at + size_of p) l ps []) left laid) x
-          (ltb-false x (at + size_of p) e) to in
-          (h.0, inr h.1, h.2)
-    ] refl
+          let h = laid_covers all (at + size_of p) ps (subst (λ l. AreLaid (at + size_of p) l ps []) left laid) x past to in
+          (h.0, inr h.1, h.2))
+    ]
 
 -- where a piece ends with its last packet, its notes are those of its packets, and these are all its bytes
 pub read_all : (bytes : List ℕ) → AreBytes bytes → stop_in 0 bytes ≡ End

@@ -1,8 +1,8 @@
 -- What reads of a source come to (this project's profile).
-use Rattle.std.specs.Prelude.{◌≡◌, ◌+◌, ◌<◌, ◌≤◌, ◌⊎◌, ℕ, List, [], ◌++◌, length, slice_index_or, is_some, IsTrue, Bool, true, false, Option, None, Some}
+use Rattle.std.specs.Prelude.{◌≡◌, ◌+◌, ◌<◌, ◌≤◌, ◌⊎◌, ℕ, List, ◌++◌, length, slice_index_or, is_some, IsTrue, Bool, true, false, Option, None, Some}
 use Rattle.std.specs.Prelude.{if◌then◌else◌}
 use Rattle.std.specs.List.{AllWithin}
-use Rattle.std.specs.Io.KnownBytes.{Consumes, IsAtEnd, Keeps}
+use Rattle.std.specs.Io.KnownBytes.{Consumes, IsAtEnd}
 use denote.Bor.{Bor}
 use Rattle.sha2.specs.Hashers.{Holds256}
 use Rattle.sha2.specs.declared.Sha256.{Sha256}
@@ -14,8 +14,6 @@ use Rattle.mxf_verify.specs.Taking.{HasTaken}
 use Rattle.mxf_verify.specs.declared.candidate.Candidate.{Candidate}
 use Rattle.mxf_verify.specs.declared.comparison.Comparison.{Comparison}
 use Rattle.mxf_verify.specs.declared.reading.Reading.{Reading}
-use Rattle.mxf_verify.specs.declared.reading.Step.{Step}
-use Rattle.mxf_verify.specs.declared.reading.Step.TheVariants.{Took, Ended, Interrupted, Failed}
 
 -- A hasher, where there is one, has taken these bytes.
 abbrev pub Digests : Option Sha256 → List ℕ → Type 0
@@ -38,15 +36,6 @@ Reads old new more =
 pub record IsLike (old new : Reading) : Type 0 where
   pub notes : notes_of new.comparison.candidates.items ≡ notes_of old.comparison.candidates.items
   pub digests : is_some new.hasher ≡ is_some old.hasher
-
--- One read: further bytes came, or the source has ended, or nothing was read.
-abbrev pub ReadsOnce : Option (List ℕ) → Option (List ℕ) → Reading → Reading → ℕ → Step → Type 0
-ReadsOnce before after old new room (Took n) =
-    (more : List ℕ) × (length more ≡ n) × (0 < n) × (n ≤ room) × Consumes before after more × Reads old new more
-    × IsLike old new × (new.comparison.at ≡ old.comparison.at + n)
-ReadsOnce before after old new room Ended = Consumes before after [] × IsAtEnd after × (new ≡ old)
-ReadsOnce before after old new room Interrupted = Keeps before after × (new ≡ old)
-ReadsOnce before after old new room Failed = Keeps before after × (new ≡ old)
 
 -- Many reads: bytes came up to an offset, or the source has ended.
 pub record TakesUpTo (before after : Option (List ℕ)) (old new : Reading) (target : ℕ) : Type 0 where

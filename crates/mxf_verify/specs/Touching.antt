@@ -4,7 +4,7 @@ use Rattle.std.specs.Prelude.{Option, None, Some, List, length, slice_index, sli
 use Rattle.std.specs.List.{AllWithin}
 use Rattle.mxf_klv.specs.Rising.{SameMembers}
 use Rattle.mxf_units.specs.declared.unit.Extent.{Extent}
-use Rattle.mxf_verify.specs.Reaching.{greatest_from}
+use Rattle.mxf_units.specs.Intervals.{greatest_ends}
 use Rattle.mxf_verify.specs.declared.unit_places.UnitPlace.{UnitPlace}
 
 -- The greatest number of 128 bits: no packet reaches as far.
@@ -40,9 +40,9 @@ AreInOrder R places =
 pub record AreSearched (firsts : List UnitPlace) (reaches : List ℕ) (lasts : List UnitPlace) (backs : List ℕ)
     : Type 0 where
   pub begin : AreInOrder BeginsBy firsts
-  pub reaches_are : reaches ≡ greatest_from reach_of 0 firsts
+  pub reaches_are : reaches ≡ greatest_ends reach_of 0 firsts
   pub end : AreInOrder EndsBy lasts
-  pub backs_are : backs ≡ greatest_from back_of 0 lasts
+  pub backs_are : backs ≡ greatest_ends back_of 0 lasts
   pub same : SameMembers lasts firsts
 
 -- The first of places beside which a number above a bound stands, where there is one.

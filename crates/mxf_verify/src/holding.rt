@@ -1,12 +1,11 @@
 //! Which source holds which note, in the order of notes.
 ghost use Rattle.std.specs.Prelude.{◌≡◌, ◌<◌, ◌≤◌, ◌++◌, true, false, drop, filter, length, map, take, IfOk, IsTrue};
 ghost use Rattle.std.specs.Prelude.{OnOk, slice_index_or};
-ghost use Rattle.std.specs.List.{AllWithin, list_any};
-ghost use Rattle.std.specs.Ordering.{is_le, is_lt};
-ghost use Rattle.mxf_klv.specs.Note.{note_cmp};
+ghost use Rattle.std.specs.List.{AllWithin};
+ghost use Rattle.std.specs.Ordering.{ordering_index};
 ghost use Rattle.mxf_klv.specs.Rising.{In, IsRising};
 ghost use Rattle.mxf_verify.specs.Holdings.{AreHoldings, HoldingParts, holding, holding_cmp, holdings_from, is_of};
-ghost use Rattle.mxf_verify.specs.Holdings.{is_only};
+ghost use Rattle.mxf_verify.specs.Holdings.{is_only, side};
 ghost use Rattle.mxf_verify.specs.Readings.{is_held};
 
 use mxf_catalogue::Catalogue;
@@ -52,20 +51,6 @@ impl<'a> Holding<'a> {
         ensures { result ≡ is_of note.now self.now }
     {
         self.note.cmp(note) == Ordering::Equal
-    }
-
-    /// Whether its note stands below another.
-    fn is_below(&self, note: &Note) -> bool
-        ensures { result ≡ is_lt (note_cmp self.now.note note.now) }
-    {
-        self.note.cmp(note) == Ordering::Less
-    }
-
-    /// Whether its note is another, or stands below it.
-    fn is_up_to(&self, note: &Note) -> bool
-        ensures { result ≡ is_le (note_cmp self.now.note note.now) }
-    {
-        self.note.cmp(note) != Ordering::Greater
     }
 }
 
@@ -189,8 +174,8 @@ pub(crate) fn range(holdings: &[Holding<'_>], note: &Note) -> (usize, usize)
     ensures bound { result.1 ≤ length holdings.now }
     ensures run { drop result.0 (take result.1 holdings.now) ≡ filter (is_of note.now) holdings.now }
 {
-    let from = count_below(holdings, note);
-    let to = count_up_to(holdings, note);
+    let from = count_below(holdings, note, Ordering::Equal);
+    let to = count_below(holdings, note, Ordering::Greater);
     (from, to)
 }
 
@@ -202,38 +187,18 @@ pub(crate) fn is_only(holdings: &[Holding<'_>], at: usize) -> bool
 {
     let holding = &holdings[at];
     let note = holding.note;
-    let (front, from) = holdings.split_at(at);
-    !is_at(front, at.saturating_sub(1), note) && !is_at(from, 1, note)
-}
-
-/// Whether the holding at a place is of a note; not where none is there.
-fn is_at(holdings: &[Holding<'_>], at: usize, note: &Note) -> bool
-    ensures { result ≡ list_any (is_of note.now) (take 1 (drop at holdings.now)) }
-{
-    match holdings.get(at) {
-        Some(holding) => holding.is_of(note),
-        None => false,
+    if at > 0 && holdings[at - 1].is_of(note) {
+        return false;
     }
+    at + 1 == holdings.len() || !holdings[at + 1].is_of(note)
 }
 
-/// How many holdings are of notes below another.
-fn count_below(holdings: &[Holding<'_>], note: &Note) -> usize
+/// How many holdings stand below a side of a note: below it for `Equal`, below it or on it for `Greater`.
+fn count_below(holdings: &[Holding<'_>], note: &Note, bound: Ordering) -> usize
     requires { IsRising holding_cmp holdings.now }
-    ensures bound { result ≤ length holdings.now }
-    ensures below { AllWithin (λ h. is_lt (note_cmp h.note note.now) ≡ true) holdings.now 0 result }
-    ensures above { AllWithin (λ h. is_lt (note_cmp h.note note.now) ≡ false) holdings.now result
-        (length holdings.now) }
+    ensures most { result ≤ length holdings.now }
+    ensures below { AllWithin (λ h. side note.now h < ordering_index bound) holdings.now 0 result }
+    ensures above { AllWithin (λ h. ordering_index bound ≤ side note.now h) holdings.now result (length holdings.now) }
 {
-    holdings.partition_point(|holding| holding.is_below(note))
-}
-
-/// How many holdings are of another note or of notes below it.
-fn count_up_to(holdings: &[Holding<'_>], note: &Note) -> usize
-    requires { IsRising holding_cmp holdings.now }
-    ensures bound { result ≤ length holdings.now }
-    ensures below { AllWithin (λ h. is_le (note_cmp h.note note.now) ≡ true) holdings.now 0 result }
-    ensures above { AllWithin (λ h. is_le (note_cmp h.note note.now) ≡ false) holdings.now result
-        (length holdings.now) }
-{
-    holdings.partition_point(|holding| holding.is_up_to(note))
+    holdings.partition_point(|holding| holding.note.cmp(note) < bound)
 }

@@ -6,7 +6,8 @@ ghost use Rattle.mxf_klv.specs.Note.{greatest_end};
 ghost use Rattle.mxf_klv.specs.Rising.{In, SameMembers};
 ghost use Rattle.mxf_catalogue.specs.Runs.{LiesIn, SameOffsets};
 ghost use Rattle.mxf_catalogue.specs.declared.run.Run.{Run};
-ghost use Rattle.mxf_verify.specs.Reaching.{HasOne, greatest_from};
+ghost use Rattle.mxf_units.specs.Intervals.{greatest_ends};
+ghost use Rattle.mxf_verify.specs.Reaching.{HasOne};
 
 use mxf_catalogue::{Cover, Run};
 use mxf_klv::{MAX, OutOfMemory};
@@ -118,7 +119,7 @@ impl Reach {
 
 /// The greatest end of each range and those before it, in bytes.
 fn greatest_ends(alloc: Global, runs: &[Run]) -> Result<Vec<u64>, OutOfMemory>
-    ensures { IfOk result (λ v. v.items ≡ greatest_from (λ r. r.end) 0 runs.now) }
+    ensures { IfOk result (λ v. v.items ≡ greatest_ends (λ r. r.end) 0 runs.now) }
 {
     let mut ends = Vec::new(alloc);
     let mut greatest = 0;
@@ -143,7 +144,7 @@ fn begun_by(runs: &[Run], offset: u64) -> usize
 /// those does that begin by then.
 fn has_one(runs: &[Run], ends: &[u64], start: u64, end: u64) -> bool
     requires rising { IsNonDecreasingBy (λ r. r.start) runs.now }
-    requires ends { ends.now ≡ greatest_from (λ r. r.end) 0 runs.now }
+    requires ends { ends.now ≡ greatest_ends (λ r. r.end) 0 runs.now }
     ensures { IsTrue result ↔ HasOne runs.now start end }
 {
     let begun = begun_by(runs, start);

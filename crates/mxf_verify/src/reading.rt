@@ -13,14 +13,11 @@ ghost use Rattle.mxf_read.specs.declared.gathering.fault.PartFault.TheVariants a
 use crate::candidate::Candidate;
 use crate::comparison::Comparison;
 use mxf_klv::{Held, Note};
-use mxf_read::PartFault;
+use mxf_read::{GREATEST_INTERRUPTIONS, PartFault, Step, read_step};
 use sha2::{Digest, Sha256};
-use std::io::{ErrorKind, Read};
+use std::io::Read;
 use std::mem::replace;
 use thiserror::Error;
-
-/// How often an interrupted read of one source is repeated.
-const GREATEST_INTERRUPTIONS: u32 = 1024;
 
 /// A source couldn't be read.
 #[derive(Clone, Copy, Debug, PartialEq, Eq, Error)]
@@ -35,17 +32,6 @@ impl From<ReadFault> for PartFault {
     }
 }
 
-/// What one read came to.
-#[derive(Clone, Copy, Drop)]
-pub(crate) enum Step {
-    /// So many bytes came.
-    Took(usize),
-    /// The source has ended.
-    Ended,
-    Interrupted,
-    Failed,
-}
-
 /// Notes that are compared with the bytes of a source, and the digest of a value among these, where one runs.
 #[derive(Drop)]
 pub(crate) struct Reading<'a> {
@@ -54,7 +40,7 @@ pub(crate) struct Reading<'a> {
 }
 
 impl<'a> Reading<'a> {
-    ghost use Rattle.mxf_verify.specs.SourceReads.{AreApart, IsLike, PassesNote, Reads, ReadsRest, ReadsSource, ReadsOnce, ReadsValue, TakesUpTo};
+    ghost use Rattle.mxf_verify.specs.SourceReads.{AreApart, IsLike, PassesNote, Reads, ReadsRest, ReadsSource, ReadsValue, TakesUpTo};
     ghost use Rattle.mxf_verify.specs.declared.candidate.Candidate.{Candidate};
     ghost use Rattle.std.specs.Prelude.{IfOk, IsTrue, slice_index_or, vec_len, ℕ};
 
@@ -84,23 +70,6 @@ impl<'a> Reading<'a> {
         }
     }
 
-    /// Reads once, as many bytes at most as there is room.
-    fn read_once<R: Read>(&mut self, from: &mut R, room: &mut [u8]) -> Step
-        requires room { 0 < length room.old }
-        requires fits { self.old.comparison.at + length room.old ≤ greatest_end }
-        ensures { ReadsOnce (R.remaining from.old) (R.remaining from.new) self.old self.new (length room.old) result }
-    {
-        match from.read(room) {
-            Ok(0) => Step::Ended,
-            Ok(count) => {
-                self.take(&room[..count]);
-                Step::Took(count)
-            }
-            Err(fault) if fault.kind() == ErrorKind::Interrupted => Step::Interrupted,
-            Err(_) => Step::Failed,
-        }
-    }
-
     /// Takes the bytes of a reader up to a file offset, or to its end. An interrupted read is repeated, so many times as
     /// are left at most.
     fn take_up_to<R: Read>(
@@ -116,9 +85,9 @@ impl<'a> Reading<'a> {
         ensures { OnOk result (TakesUpTo (R.remaining from.old) (R.remaining from.new) self.old self.new target) }
     {
         'reads: while self.comparison.at < target {
-            let count = (target - self.comparison.at).min(room.len() as u64) as usize;
-            match self.read_once(from, &mut room[..count]) {
-                Step::Took(_) => {}
+            let most = (target - self.comparison.at).min(room.len() as u64) as usize;
+            match read_step(from, &mut room[..most]) {
+                Step::Took(count) => self.take(&room[..count]),
                 Step::Ended => return Ok(()),
                 Step::Interrupted if *repeats > 0 => *repeats -= 1,
                 Step::Interrupted | Step::Failed => return Err(ReadFault),

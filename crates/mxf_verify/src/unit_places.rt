@@ -5,7 +5,7 @@ ghost use Rattle.std.specs.List.Sorted.{IsNonDecreasing};
 ghost use Rattle.mxf_klv.specs.Parts.{NoteParts};
 ghost use Rattle.mxf_klv.specs.Rising.{SameMembers};
 ghost use Rattle.mxf_verify.specs.Fixities.{AreUnitsOf};
-ghost use Rattle.mxf_verify.specs.Reaching.{greatest_from};
+ghost use Rattle.mxf_units.specs.Intervals.{greatest_ends};
 ghost use Rattle.mxf_verify.specs.TouchedUnits.{units_touched};
 ghost use Rattle.mxf_verify.specs.Touching.{AreInOrder, BeginsBy, EndsBy, IsFirstAbove, back_of, cut_end, reach_of};
 
@@ -124,7 +124,7 @@ fn by_end(mut places: Vec<UnitPlace>) -> Vec<UnitPlace>
 
 /// How far each place and those ahead of it reach.
 fn reaches(alloc: Global, places: &[UnitPlace]) -> Result<Vec<u128>, OutOfMemory>
-    ensures { IfOk result (λ v. v.items ≡ greatest_from reach_of 0 places.now) }
+    ensures { IfOk result (λ v. v.items ≡ greatest_ends reach_of 0 places.now) }
 {
     let mut reaches = Vec::new(alloc);
     let mut greatest = 0;
@@ -137,7 +137,7 @@ fn reaches(alloc: Global, places: &[UnitPlace]) -> Result<Vec<u128>, OutOfMemory
 
 /// How soon each place or one ahead of it begins: the sooner, the greater the number.
 fn backs(alloc: Global, places: &[UnitPlace]) -> Result<Vec<u128>, OutOfMemory>
-    ensures { IfOk result (λ v. v.items ≡ greatest_from back_of 0 places.now) }
+    ensures { IfOk result (λ v. v.items ≡ greatest_ends back_of 0 places.now) }
 {
     let mut backs = Vec::new(alloc);
     let mut greatest = 0;

@@ -1,4 +1,4 @@
-use Rattle.std.proofs.Common.{[], ◌≡◌, ◌∙◌, length, sym, subst, List, arith}
+use Rattle.std.proofs.Common.{[], ◌≡◌, ◌∙◌, sym, subst, List, arith}
 use Rattle.std.specs.Vec.Iter.{into_iter_items}
 use Rattle.mxf_read.proofs.GatheringLaws.{IsPassed, IsGathered, passed_none, gathered_none, passed_one, gathered_one}
 use Rattle.mxf_read.proofs.GatheringLaws.{nothing_left, passed_all, passed_within}
@@ -41,59 +41,43 @@ parts-preserved g c =
 
 pub returns-then-number-eq0-clause-run : goal.returns-then-number-eq0-clause-run
 returns-then-number-eq0-clause-run g c t =
-    let none : length (into_iter_items c.parts.part-iterator) ≡ 0 =
-    sym c.parts.part-iterator.rest.ok.0 ∙ c.in-None.ensures.steps.0 in
     gathered_nothing g.R.Read.remaining c.args.parts.items (into_iter_items c.parts.part-iterator) c.parts.number _
-    c.parts.invariant.passed none c.if-number-eq0.true c.new.ensures
+    c.parts.invariant.passed (sym c.parts.part-iterator.rest.ok.0 ∙ c.in-None.ensures.steps.0) c.if-number-eq0.true c.new.ensures
 
 pub returns-then-number-eq0-clause-history : goal.returns-then-number-eq0-clause-history
 returns-then-number-eq0-clause-history g c t =
-    let none : length (into_iter_items c.parts.part-iterator) ≡ 0 =
-    sym c.parts.part-iterator.rest.ok.0 ∙ c.in-None.ensures.steps.0 in
     nothing_left g.R.Read.remaining c.args.parts.items (into_iter_items c.parts.part-iterator) c.parts.number _
-    c.parts.invariant.passed none c.if-number-eq0.true c.new.ensures
+    c.parts.invariant.passed (sym c.parts.part-iterator.rest.ok.0 ∙ c.in-None.ensures.steps.0) c.if-number-eq0.true c.new.ensures
 
 pub returns-in-Ok-clause-history : goal.returns-in-Ok-clause-history
 returns-in-Ok-clause-history g c t =
-    let none : length (into_iter_items c.parts.part-iterator) ≡ 0 =
-    sym c.parts.part-iterator.rest.ok.0 ∙ c.in-None.ensures.steps.0 in
     gathered_left g.R.Read.remaining c.args.parts.items (into_iter_items c.parts.part-iterator) c.parts.number _ _ _
-    (c.parts.invariant.gathered t) none c.in-Ok.ensures
+    (c.parts.invariant.gathered t) (sym c.parts.part-iterator.rest.ok.0 ∙ c.in-None.ensures.steps.0) c.in-Ok.ensures
 
 pub returns-in-Ok-clause-run : goal.returns-in-Ok-clause-run
 returns-in-Ok-clause-run g c t =
-    let none : length (into_iter_items c.parts.part-iterator) ≡ 0 =
-    sym c.parts.part-iterator.rest.ok.0 ∙ c.in-None.ensures.steps.0 in
     gathered_run g.R.Read.remaining c.args.parts.items (into_iter_items c.parts.part-iterator) c.parts.number _ _ _
-    (c.parts.invariant.gathered t) none c.in-Ok.ensures
+    (c.parts.invariant.gathered t) (sym c.parts.part-iterator.rest.ok.0 ∙ c.in-None.ensures.steps.0) c.in-Ok.ensures
 
 pub returns-in-Err-into_views-clause-fault : goal.returns-in-Err-into_views-clause-fault
 returns-in-Err-into_views-clause-fault g c t =
-    let none : length (into_iter_items c.parts.part-iterator) ≡ 0 =
-    sym c.parts.part-iterator.rest.ok.0 ∙ c.in-None.ensures.steps.0 in
     gathered_wants g.R.Read.remaining c.args.parts.items (into_iter_items c.parts.part-iterator) c.parts.number _ _
-    (c.parts.invariant.gathered t) none (omega arith)
+    (c.parts.invariant.gathered t) (sym c.parts.part-iterator.rest.ok.0 ∙ c.in-None.ensures.steps.0) (omega arith)
 
 pub returns-then-number-eq0-clause-good : goal.returns-then-number-eq0-clause-good
 returns-then-number-eq0-clause-good g c t =
-    let none : length (into_iter_items c.parts.part-iterator) ≡ 0 =
-    sym c.parts.part-iterator.rest.ok.0 ∙ c.in-None.ensures.steps.0 in
     gathered_good g.R.Read.remaining c.args.parts.items (into_iter_items c.parts.part-iterator) c.parts.number _ _
-    (c.parts.invariant.gathered t) none
+    (c.parts.invariant.gathered t) (sym c.parts.part-iterator.rest.ok.0 ∙ c.in-None.ensures.steps.0)
 
 pub returns-in-Ok-clause-good : goal.returns-in-Ok-clause-good
 returns-in-Ok-clause-good g c t =
-    let none : length (into_iter_items c.parts.part-iterator) ≡ 0 =
-    sym c.parts.part-iterator.rest.ok.0 ∙ c.in-None.ensures.steps.0 in
     gathered_good g.R.Read.remaining c.args.parts.items (into_iter_items c.parts.part-iterator) c.parts.number _ _
-    (c.parts.invariant.gathered t) none
+    (c.parts.invariant.gathered t) (sym c.parts.part-iterator.rest.ok.0 ∙ c.in-None.ensures.steps.0)
 
 pub returns-in-Ok-clause-reports : goal.returns-in-Ok-clause-reports
 returns-in-Ok-clause-reports g c t =
-    let none : length (into_iter_items c.parts.part-iterator) ≡ 0 =
-    sym c.parts.part-iterator.rest.ok.0 ∙ c.in-None.ensures.steps.0 in
     gathered_reports g.R.Read.remaining c.args.parts.items (into_iter_items c.parts.part-iterator) c.parts.number _ _
-    (c.parts.invariant.gathered t) none
+    (c.parts.invariant.gathered t) (sym c.parts.part-iterator.rest.ok.0 ∙ c.in-None.ensures.steps.0)
 
 pub returns-in-Err-clause-number : goal.returns-in-Err-clause-number
 returns-in-Err-clause-number g c =
@@ -102,15 +86,11 @@ returns-in-Err-clause-number g c =
 
 pub returns-then-number-eq0-clause-reports : goal.returns-then-number-eq0-clause-reports
 returns-then-number-eq0-clause-reports g c t =
-    let none : length (into_iter_items c.parts.part-iterator) ≡ 0 =
-    sym c.parts.part-iterator.rest.ok.0 ∙ c.in-None.ensures.steps.0 in
     gathered_reports g.R.Read.remaining c.args.parts.items (into_iter_items c.parts.part-iterator) c.parts.number _ _
-    (c.parts.invariant.gathered t) none
+    (c.parts.invariant.gathered t) (sym c.parts.part-iterator.rest.ok.0 ∙ c.in-None.ensures.steps.0)
 
 pub returns-in-Err-into_views-clause-number : goal.returns-in-Err-into_views-clause-number
 returns-in-Err-into_views-clause-number g c =
-    let none : length (into_iter_items c.parts.part-iterator) ≡ 0 =
-    sym c.parts.part-iterator.rest.ok.0 ∙ c.in-None.ensures.steps.0 in
     let all = passed_all c.args.parts.items (into_iter_items c.parts.part-iterator) c.parts.number
-    c.parts.invariant.passed none in
+    c.parts.invariant.passed (sym c.parts.part-iterator.rest.ok.0 ∙ c.in-None.ensures.steps.0) in
     omega (arith, all, c.if-number-eq0.false)

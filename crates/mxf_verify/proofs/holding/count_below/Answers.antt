@@ -1,14 +1,18 @@
-use Rattle.std.proofs.Common.{rules}
-use Rattle.std.specs.Ordering.{is_lt}
+use Rattle.std.proofs.Common.{rules, nat_lt}
+use Rattle.std.specs.Ordering.{ordering_index}
+use Rattle.std.proofs.lemmas.Bool.{ltb-false, ltb-true}
 use Rattle.std.proofs.lemmas.List.Sorted.{IsPartitionPoint-from_clause}
-use Rattle.mxf_klv.specs.Note.{note_cmp}
-use Rattle.mxf_verify.specs.Holdings.{HoldingParts}
+use Rattle.mxf_verify.specs.Holdings.{side}
 use Rattle.mxf_verify.proofs.HoldingLaws.{parted_below}
 use Rattle.mxf_verify.proofs.holding.count_below.Goals as goal
 
 pub returns : goal.returns
 returns c =
     let n = c.args.note.now in
-    let point = IsPartitionPoint-from_clause (λ (h : HoldingParts). is_lt (note_cmp h.note n)) _ _
-    c.partition_point.ensures.partitioned (parted_below n _ c.requires) (λ a r q k. search rules) in
-    record { bound = c.partition_point.ensures.bound; below = point.0; above = point.1 }
+    let bound = ordering_index c.args.bound in
+    let point = IsPartitionPoint-from_clause (λ h. nat_lt (side n h) bound) _ _ c.partition_point.ensures.partitioned
+    (parted_below n _ bound c.requires) (λ a r q k. search rules) in record {
+      most = c.partition_point.ensures.bound;
+      below = λ k d l h. ltb-true _ _ (point.0 k d l h);
+      above = λ k d l h. ltb-false _ _ (point.1 k d l h);
+    }

@@ -4,7 +4,8 @@ use Rattle.std.proofs.lemmas.Result.{IfOk-weaker}
 use Rattle.mxf_klv.specs.Note.{greatest_end}
 use Rattle.mxf_catalogue.specs.Runs.{SameOffsets}
 use Rattle.mxf_catalogue.specs.declared.run.Run.{Run}
-use Rattle.mxf_verify.proofs.RangeLaws.{all_permuted, offsets_permuted}
+use Rattle.mxf_units.proofs.NextPlaceLaws.{all_permuted}
+use Rattle.mxf_verify.proofs.RangeLaws.{offsets_permuted}
 use Rattle.mxf_verify.proofs.ranges.cover_of.Goals as goal
 
 pub cover_of_each-requires : goal.cover_of_each-requires

@@ -2,7 +2,8 @@ use Rattle.std.proofs.Common.{◌≡◌, ◌↔◌, ◌<◌, ◌≤◌, ◌-◌,
 use Rattle.std.proofs.lemmas.Bool.{le-leb, leb-true}
 use Rattle.mxf_catalogue.specs.declared.run.Run.{Run}
 use Rattle.mxf_verify.specs.Reaching.{HasOne}
-use Rattle.mxf_verify.proofs.ReachLaws.{length-greatest, none_reaches, one_reaches}
+use Rattle.mxf_units.proofs.IntervalLaws.{length-ends}
+use Rattle.mxf_verify.proofs.ReachLaws.{none_reaches, one_reaches}
 use Rattle.mxf_verify.proofs.ranges.has_one.Goals as goal
 
 pub returns-then-begun-eq0 : goal.returns-then-begun-eq0
@@ -15,7 +16,7 @@ returns-then-begun-eq0 c = (
 pub bounds-ends-begun : goal.bounds-ends-begun
 bounds-ends-begun c =
     let many : length c.args.ends.now ≡ length c.args.runs.now =
-    ap (λ (l : List ℕ). length l) c.requires.ends ∙ length-greatest (λ (r : Run). r.end) 0 c.args.runs.now in
+    ap (λ (l : List ℕ). length l) c.requires.ends ∙ length-ends (λ (r : Run). r.end) 0 c.args.runs.now in
     omega (arith, many, c.begun_by-begun.ensures.bound, c.if-begun-eq0.false)
 
 pub returns : goal.returns

@@ -1,10 +1,10 @@
 -- The numbers so far, with those of the places to come.
 use Rattle.std.proofs.Common.{◌≡◌, ◌++◌, drop}
-use Rattle.mxf_verify.specs.Reaching.{greatest_from}
+use Rattle.mxf_units.specs.Intervals.{greatest_ends}
 use Rattle.mxf_verify.specs.Touching.{reach_of}
 use Rattle.mxf_verify.proofs.unit_places.reaches.Given as goal
 
 abbrev pub invariant-loop-place : goal.invariant-loop-place
 invariant-loop-place l =
-    l.reaches.items ++ greatest_from reach_of l.greatest (drop l.place-index l.places)
-    ≡ greatest_from reach_of 0 l.places
+    l.reaches.items ++ greatest_ends reach_of l.greatest (drop l.place-index l.places)
+    ≡ greatest_ends reach_of 0 l.places

@@ -1,17 +1,19 @@
-use Rattle.std.proofs.Common.{◌∙◌, IsPermutation, ap, map, subst}
+use Rattle.std.proofs.Common.{◌∙◌, IsPermutation, ap, map, subst, sym}
+use Rattle.std.proofs.lemmas.Simd.{map-map}
 use denote.Bor.{Bor}
 use Rattle.std.proofs.lemmas.List.Sorted.{IsNonDecreasingBy-from_sort}
 use Rattle.mxf_klv.specs.Parts.{NoteParts}
 use Rattle.mxf_klv.specs.Note.{covered_end}
-use Rattle.mxf_verify.proofs.OtherLaws.{ends_are, starts_are}
 use Rattle.mxf_verify.proofs.others.Others.bounded.Goals as goal
 
 pub invariant_of-result : goal.invariant_of-result
 invariant_of-result c = record {
   catalogue = c.requires;
-  starts_are = c.in_ok-starts.ensures ∙ ap (map (λ (r : Bor NoteParts). r.now.offset)) c.deref.ensures.value ∙ starts_are _;
+  starts_are = c.in_ok-starts.ensures ∙ ap (map (λ (r : Bor NoteParts). r.now.offset)) c.deref.ensures.value
+      ∙ sym (map-map (λ (n : NoteParts). n.offset) (λ (r : Bor NoteParts). r.now) _);
   ends_are = subst (λ xs. IsPermutation xs c.sort_unstable.new.self.items)
-      (c.in_ok-ends.ensures ∙ ap (map (λ (r : Bor NoteParts). covered_end r.now)) c.deref-2.ensures.value ∙ ends_are _)
+      (c.in_ok-ends.ensures ∙ ap (map (λ (r : Bor NoteParts). covered_end r.now)) c.deref-2.ensures.value
+      ∙ sym (map-map covered_end (λ (r : Bor NoteParts). r.now) _))
       c.sort_unstable.ensures.permutation;
   ends_rise = IsNonDecreasingBy-from_sort (λ x. x) _ c.sort_unstable.ensures.sorted;
 }

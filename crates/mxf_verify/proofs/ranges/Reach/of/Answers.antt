@@ -1,15 +1,15 @@
 use Rattle.std.proofs.Common.{◌∙◌, List, ap, rules}
 use Rattle.std.proofs.lemmas.List.Sorted.{IsNonDecreasingBy-from_sort, answers_always}
 use Rattle.mxf_catalogue.specs.declared.run.Run.{Run}
-use Rattle.mxf_verify.specs.Reaching.{greatest_from}
-use Rattle.mxf_verify.proofs.RangeLaws.{permuted}
+use Rattle.mxf_units.specs.Intervals.{greatest_ends}
+use Rattle.mxf_units.proofs.NextPlaceLaws.{permuted}
 use Rattle.mxf_verify.proofs.ranges.Reach.of.Goals as goal
 
 pub invariant_of-result : goal.invariant_of-result
 invariant_of-result c = record {
   rising = IsNonDecreasingBy-from_sort (λ (r : Run). r.start) _ (c.sort_unstable_by_key.ensures.sorted
       (λ (r : Run). r.start) (answers_always _ _ _ (λ f a r g h. search rules)));
-  ends_are = c.in_ok-ends.ensures ∙ ap (λ (l : List Run). greatest_from (λ r. r.end) 0 l) c.deref.ensures.value;
+  ends_are = c.in_ok-ends.ensures ∙ ap (λ (l : List Run). greatest_ends (λ r. r.end) 0 l) c.deref.ensures.value;
 }
 
 pub returns : goal.returns

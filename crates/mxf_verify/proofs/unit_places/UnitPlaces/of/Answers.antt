@@ -1,6 +1,6 @@
 use Rattle.std.proofs.Common.{◌≡◌, ◌∙◌, List, ap, subst}
 use Rattle.mxf_klv.specs.Rising.{SameMembers}
-use Rattle.mxf_verify.specs.Reaching.{greatest_from}
+use Rattle.mxf_units.specs.Intervals.{greatest_ends}
 use Rattle.mxf_verify.specs.Touching.{back_of, reach_of}
 use Rattle.mxf_verify.specs.declared.unit_places.UnitPlace.{UnitPlace}
 use Rattle.mxf_verify.proofs.unit_places.UnitPlaces.of.Goals as goal
@@ -11,10 +11,10 @@ invariant_of-result c =
     c.in_ok-from_slice.ensures.items ∙ c.deref.ensures.value in record {
       begin = c.by_start-firsts.ensures.order;
       reaches_are = c.in_ok-reaches.ensures
-          ∙ ap (λ (l : List UnitPlace). greatest_from reach_of 0 l) c.deref-2.ensures.value;
+          ∙ ap (λ (l : List UnitPlace). greatest_ends reach_of 0 l) c.deref-2.ensures.value;
       end = c.by_end-lasts.ensures.order;
       backs_are = c.in_ok-backs.ensures
-          ∙ ap (λ (l : List UnitPlace). greatest_from back_of 0 l) c.deref-3.ensures.value;
+          ∙ ap (λ (l : List UnitPlace). greatest_ends back_of 0 l) c.deref-3.ensures.value;
       same = subst (λ (l : List UnitPlace). SameMembers c.by_end-lasts.result.items l) copied
           c.by_end-lasts.ensures.members;
     }
