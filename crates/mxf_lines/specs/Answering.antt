@@ -12,6 +12,7 @@ use Rattle.mxf_views.specs.Places.{greatest_unit, place_of, segments_of}
 use Rattle.mxf_views.specs.declared.finding.Finding.{Finding}
 use Rattle.mxf_views.specs.declared.index.place.Place.{Place}
 use Rattle.mxf_views.specs.declared.index.place.Place.TheVariants.{At}
+use Rattle.mxf_places.specs.AtHand.{nothing_at_hand}
 use Rattle.mxf_restore.specs.Plan.{PlanParts, plan_of}
 use Rattle.mxf_units.specs.declared.unit.EditUnit.{EditUnit}
 use Rattle.mxf_read.specs.declared.gathering.report.PieceReport.{PieceReport}
@@ -65,7 +66,7 @@ answer_lines Show reports content = report_lines reports ++ content_lines conten
 answer_lines Check reports content = check_lines reports content
 answer_lines (Locate index unit) reports content = place_line (place_of (segments_of content) index unit) ∷ []
 answer_lines Join reports content = join_lines content
-answer_lines Plan reports content = plan_lines (plan_of content)
+answer_lines Plan reports content = plan_lines (plan_of nothing_at_hand content)
 answer_lines (Units index range) reports content = unit_lines range.first (asked_units index range content)
 
 -- 0 where all pieces end with a packet and nothing is found, else 1.
@@ -87,7 +88,7 @@ answer_status Show reports content = 0
 answer_status Check reports content = check_status reports (findings_of content)
 answer_status (Locate index unit) reports content = place_status (place_of (segments_of content) index unit)
 answer_status Join reports content = 0
-answer_status Plan reports content = plan_status (plan_of content)
+answer_status Plan reports content = plan_status (plan_of nothing_at_hand content)
 answer_status (Units index range) reports content = units_status (asked_units index range content)
 
 -- An edit unit above the greatest is asked for.

@@ -5,7 +5,7 @@ use Rattle.std.specs.List.{repeat}
 use Rattle.mxf_restore.specs.Map.{MapParts}
 use Rattle.mxf_restore.specs.declared.map.Mark.{Mark}
 use Rattle.mxf_restore.specs.declared.map.Mark.TheVariants.{Disputed, Header, Footer, Body, RandomIndex, Missing}
-use Rattle.mxf_restore.specs.declared.map.Mark.TheVariants.{Empty, Part, Metadata, Index, Whole}
+use Rattle.mxf_restore.specs.declared.map.Mark.TheVariants.{Hand, Empty, Part, Metadata, Index, Whole}
 use Rattle.mxf_lines.specs.Forms.{Number, PrintedLine, digits, field, line, number, word}
 
 -- The character of a mark.
@@ -16,6 +16,7 @@ mark_text Footer = codes "F"
 mark_text Body = codes "B"
 mark_text RandomIndex = codes "R"
 mark_text Missing = codes "o"
+mark_text Hand = codes "~"
 mark_text Empty = codes "."
 mark_text Part = codes "+"
 mark_text Metadata = codes "m"

@@ -1,6 +1,7 @@
 //! Printing what a run is asked for.
 ghost use Rattle.std.specs.Prelude.{◌≡◌, ◌↔◌, IfOk, Err};
 ghost use Rattle.mxf_klv.specs.Written.{Puts, Writes};
+ghost use Rattle.mxf_places.specs.AtHand.{nothing_at_hand};
 ghost use Rattle.mxf_restore.specs.Plan.{plan_of};
 ghost use Rattle.mxf_lines.specs.Answering.{Answers, IsBadAsk, answer_lines, answer_status, asked_units, plan_status};
 ghost use Rattle.mxf_lines.specs.PlanLines.{plan_lines};
@@ -29,6 +30,7 @@ use line::JoinLine;
 use lines::{Printer, print_with_status};
 pub use map::{Grid, print_map};
 use mxf_klv::{OutOfMemory, WriteFault};
+use mxf_places::AtHand;
 use mxf_read::Gathered;
 use mxf_restore::Plan;
 use mxf_units::Units;
@@ -157,10 +159,11 @@ fn print_plan<W: Write>(
 ) -> Result<u8, AnswerFault>
     ensures lines { Prints printer.old.fields.form
         (Puts W.contents writer.old writer.new printer.old.progress printer.new.progress)
-        result (plan_lines (plan_of views.now)) }
-    ensures status { IfOk result (λ status. status ≡ plan_status (plan_of views.now)) }
+        result (plan_lines (plan_of nothing_at_hand views.now)) }
+    ensures status { IfOk result (λ status. status ≡ plan_status (plan_of nothing_at_hand views.now)) }
 {
-    let plan = Plan::of(printer.alloc(), views)?;
+    let at_hand = AtHand::nothing(printer.alloc());
+    let plan = Plan::of(printer.alloc(), views, &at_hand)?;
     let status = u8::from(!plan.orders().is_empty());
     print_with_status(printer, writer, &plan, status)
 }

@@ -8,3 +8,4 @@ pub mod ClaimLaws
 pub mod ByteLaws
 pub mod LoopLaws
 pub mod InNumbers
+pub mod AtHandLaws

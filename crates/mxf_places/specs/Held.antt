@@ -1,6 +1,6 @@
 -- Which offsets of a file are held, where the file ends, and how an offset stands (this project's profile).
 use Rattle.std.specs.Prelude.{◌≡◌, ◌↔◌, ℕ, ◌≤◌, ◌+◌, ◌-◌, Bool, true, false, ◌&&◌, ◌==◌, not, nat_le, nat_lt, max}
-use Rattle.std.specs.Prelude.{if◌then◌else◌, Option, None, Some, unwrap_or, List, [], ◌∷◌, find}
+use Rattle.std.specs.Prelude.{if◌then◌else◌, Option, None, Some, List, [], ◌∷◌, find}
 use Rattle.std.specs.Option.{option_and_then, option_map, option_map_or}
 use Rattle.std.specs.List.{list_any}
 use Rattle.mxf_klv.specs.Parts.{NoteParts}
@@ -76,10 +76,6 @@ top_of (n ∷ notes) = max (end_of n) (top_of notes)
 abbrev pub begins_clear_head : List NoteParts → ℕ → Bool
 begins_clear_head notes x =
     option_map_or (λ n. not n.whole) (find (λ n. n.offset == x) (undisputed_notes notes)) false
-
--- How far the file reaches as far as it is known: to its end, or to the greatest end of a note.
-abbrev pub edge_of : List NoteParts → ℕ
-edge_of notes = unwrap_or (end_of_file notes) (top_of notes)
 
 -- The offset may lie in the file.
 abbrev pub is_in_file : List NoteParts → ℕ → Bool

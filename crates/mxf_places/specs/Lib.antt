@@ -3,3 +3,4 @@ pub mod Held
 pub mod Claims
 pub mod Named
 pub mod Fills
+pub mod AtHand

@@ -1,12 +1,14 @@
 //! Which offsets of a file are held, where the file ends, and how an offset stands.
 ghost use Rattle.std.specs.Prelude.{◌≡◌, ◌↔◌, ◌<◌, ◌≤◌, ℕ, IfOk, IsTrue, List, Some};
 ghost use Rattle.mxf_klv.specs.Parts.{NoteParts};
-ghost use Rattle.mxf_places.specs.Held.{AreDisputed, begins_clear_head, edge_of, end_of_file, held_end, is_disputed_at};
-ghost use Rattle.mxf_places.specs.Held.{IsDisputedAt, IsEndOfFile, IsHeld, is_held, is_in_file, rip_end_by};
+ghost use Rattle.mxf_places.specs.Held.{AreDisputed, begins_clear_head, end_of_file, held_end, is_disputed_at};
+ghost use Rattle.mxf_places.specs.Held.{IsDisputedAt, IsEndOfFile, IsHeld, is_held, is_in_file, rip_end_by, top_of};
+ghost use Rattle.mxf_places.specs.AtHand.{edge_of};
 ghost use Rattle.mxf_places.specs.Named.{IsInFile, IsUnknown};
 ghost use Rattle.mxf_views.specs.RandomIndexView.{rip_view_of};
 ghost use Rattle.mxf_places.specs.Claims.{is_unknown, over_fills};
 
+use crate::at_hand::AtHand;
 use crate::fills::Fills;
 use mxf_catalogue::{Catalogue, Cover};
 use mxf_klv::{MAX, OutOfMemory};
@@ -129,11 +131,20 @@ impl<'a> Holdings<'a> {
         self.end
     }
 
-    /// How far the file reaches, in bytes, as far as it is known.
-    pub fn edge(&self) -> u64
-        ensures { result ≡ edge_of self.now }
+    /// The greatest end of a packet, in bytes, be it claimed by a head; 0 where there is none.
+    pub fn greatest_end(&self) -> u64
+        ensures { result ≡ top_of self.now }
     {
-        self.end.unwrap_or(self.views.catalogue().end())
+        self.views.catalogue().end()
+    }
+
+    /// How far the file reaches, in bytes, as far as it is known: to its end, or to the greatest end of a packet or of
+    /// what sources give.
+    pub fn edge(&self, at_hand: &AtHand) -> u64
+        ensures { result ≡ edge_of at_hand.now self.now }
+    {
+        let known = self.greatest_end().max(at_hand.given().end());
+        self.end.unwrap_or(known)
     }
 
     /// The first offset above all that is held, in bytes.

@@ -13,6 +13,8 @@
 //! [`Holdings::is_any_disputed`] | the same from a start up to an end |
 //! | Where does the file end? | [`Holdings::end`], [`Holdings::edge`], [`Holdings::held_end`] | its end where it is
 //! known; how far it reaches as far as that is known; the first offset above all that is held |
+//! | Which bytes are at hand beside that? | [`AtHand`], [`AtHand::lacking`] | which offsets sources give, and at which
+//! they don't differ; the ranges that aren't |
 //! | Where does one come to behind fills? | [`Holdings::over_fills`] | an offset |
 //! | Is it known what begins at an offset? | [`Holdings::is_unknown`], [`Holdings::begins_clear_head`] | whether it
 //! isn't; whether a head does of which the rest isn't held |
@@ -22,7 +24,8 @@
 //!
 //! What is proved: each call answers its function of the notes of the catalogue. The laws say what these are in the words
 //! of the standards: [`held_by_definition`], what is held and what is disputed, where the file ends, what may lie in it,
-//! and of what isn't known what begins there; [`fills_by_definition`], where one comes to that goes on over fills;
+//! and of what isn't known what begins there; [`lacking_by_definition`], which ranges a set of offsets lacks;
+//! [`fills_by_definition`], where one comes to that goes on over fills;
 //! [`zones_by_definition`], where the stretches lie that a partition counts; and [`claims_by_definition`], what packs
 //! claim of offsets.
 //!
@@ -40,12 +43,14 @@
 //! ```
 #![tactic(auto)]
 
+mod at_hand;
 mod claim;
 mod fills;
 mod held;
 mod reason;
 mod stretch;
 
+pub use at_hand::{AtHand, KEY_AND_LENGTH, OffsetRange, lacking_by_definition, up_to_bound};
 pub use claim::{Claim, claims, claims_by_definition};
 pub use fills::fills_by_definition;
 pub use held::{Holdings, held_by_definition};

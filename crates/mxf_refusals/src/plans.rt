@@ -1,16 +1,17 @@
 //! What to restore next.
 use crate::additions::{add_to_views, essence, in_views};
 use mxf_klv::OutOfMemory;
-use mxf_places::Reason;
+use mxf_places::{AtHand, Reason};
 use mxf_restore::{DisputedPlace, Order, Plan};
 use mxf_views::Views;
 use std::alloc::Global;
 
 /// The plan of the views, also where one growth is refused.
 fn plan_of(alloc: Global, views: &Views) -> Result<Plan, OutOfMemory> {
-    match Plan::of(alloc, views) {
+    let at_hand = AtHand::nothing(alloc);
+    match Plan::of(alloc, views, &at_hand) {
         Ok(plan) => Ok(plan),
-        Err(OutOfMemory) => Plan::of(alloc, views),
+        Err(OutOfMemory) => Plan::of(alloc, views, &at_hand),
     }
 }
 
@@ -21,6 +22,8 @@ fn orders_the_front(alloc: Global, views: &Views) -> bool {
         start: 0,
         end: Some(200),
         source: None,
+        inside: false,
+        again: false,
     };
     match plan_of(alloc, views) {
         Ok(plan) => plan.orders() == [front].as_slice() && plan.disputed_places().is_empty(),

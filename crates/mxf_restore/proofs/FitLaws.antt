@@ -12,13 +12,16 @@ use Rattle.mxf_sets.specs.declared.pack.part.PackPart.TheVariants as parts
 use Rattle.mxf_catalogue.specs.Disputes.{clear_notes}
 use Rattle.mxf_catalogue.proofs.DisputeLaws.{In-clear_notes}
 use Rattle.mxf_views.specs.Partitions.{PartitionParts, partitions_of}
+use Rattle.mxf_catalogue.specs.Runs.{LiesIn}
+use Rattle.mxf_places.specs.AtHand.{KnownParts, has_offset}
 use Rattle.mxf_places.specs.Held.{IsDisputedAt, IsHeld, is_disputed_at, is_held}
 use Rattle.mxf_restore.specs.Layers.{IsOfZone, is_of_zone, is_part, is_random_index}
-use Rattle.mxf_restore.specs.Map.{HasByteOf, HasPartition, IsInCell, IsMark, Says, missing_places, rank}
+use Rattle.mxf_restore.specs.Map.{HasByteOf, HasOffset, HasPartition, IsInCell, IsMark, NoneHeld, Says, missing_places, rank}
 use Rattle.mxf_restore.specs.declared.map.Mark.{Mark}
 use Rattle.mxf_restore.specs.declared.map.Mark.TheVariants as marks
 use Rattle.mxf_places.specs.declared.stretch.Zone.{Zone}
 use Rattle.mxf_places.specs.declared.stretch.Zone.TheVariants as zones
+use Rattle.mxf_places.proofs.AtHandLaws.{has_offset-says}
 use Rattle.mxf_places.proofs.HeldLaws.{is_disputed_at-says, is_held-says}
 use Rattle.mxf_restore.proofs.LayerLaws.{part_itself, part_says, random_index_says, zone_says, zone_tells}
 use Rattle.mxf_restore.proofs.MarkLaws.{at_rank, ranked}
@@ -120,15 +123,15 @@ partition_known notes from to part =
       | inr n ↦ inr (λ s. n (s.0, s.1, (s.2, s.3)))
     ]
 
-random_index_known : (notes : List NoteParts) (from to : ℕ) → Known (Says notes from to marks.RandomIndex)
-random_index_known notes from to =
+random_index_known : (file : KnownParts) (from to : ℕ) → Known (Says file from to marks.RandomIndex)
+random_index_known file from to =
     let P = λ (n : NoteParts). (kind_of n.key ≡ kinds.Rip) × IsInCell from to n.offset in
     elim (any_in P (λ n. both (kind_of n.key ≡ kinds.Rip) (IsInCell from to n.offset)
     (let s = random_index_says (kind_of n.key) in
     by_test (kind_of n.key ≡ kinds.Rip) (is_random_index (kind_of n.key)) s.0 s.1)
-    (in_cell from to n.offset)) (clear_notes notes)) [
-      | inl s ↦ inl (s.0, (In-clear_notes s.0 notes).0 s.1, s.2.0, s.2.1)
-      | inr m ↦ inr (λ s. m (s.0, (In-clear_notes s.0 notes).1 s.1, (s.2, s.3)))
+    (in_cell from to n.offset)) (clear_notes file.notes)) [
+      | inl s ↦ inl (s.0, (In-clear_notes s.0 file.notes).0 s.1, s.2.0, s.2.1)
+      | inr m ↦ inr (λ s. m (s.0, (In-clear_notes s.0 file.notes).1 s.1, (s.2, s.3)))
     ]
 
 zone_known : (notes : List NoteParts) (from to : ℕ) (zone : Zone) → Known (HasByteOf notes from to (IsOfZone zone))
@@ -143,25 +146,32 @@ zone_known notes from to zone =
       | inr m ↦ inr (λ s. m (s.0, (In-clear_notes s.0 notes).1 s.1, (s.2, s.3)))
     ]
 
-known : (notes : List NoteParts) (from to : ℕ) (m : Mark) → Known (Says notes from to m)
-known notes from to marks.Disputed =
-    any_in_cell (IsDisputedAt notes) (λ x. let s = is_disputed_at-says notes x in
-    by_test (IsDisputedAt notes x) (is_disputed_at notes x) s.0 s.1) from to
-known notes from to marks.Header = partition_known notes from to parts.Header
-known notes from to marks.Footer = partition_known notes from to parts.Footer
-known notes from to marks.Body = partition_known notes from to parts.Body
-known notes from to marks.RandomIndex = random_index_known notes from to
-known notes from to marks.Missing = any_in (IsInCell from to) (in_cell from to) (missing_places notes)
-known notes from to marks.Empty =
+none_known : (notes : List NoteParts) (from to : ℕ) → Known (NoneHeld notes from to)
+none_known notes from to =
     elim (any_in_cell (IsHeld notes) (held notes) from to) [
       | inl s ↦ inr (λ f. f s.0 s.1 s.2)
       | inr n ↦ inl (λ x cell h. n (x, cell, h))
     ]
-known notes from to marks.Part =
-    any_in_cell (λ x. ¬ IsHeld notes x) (λ x. denied (IsHeld notes x) (held notes x)) from to
-known notes from to marks.Metadata = zone_known notes from to zones.Metadata
-known notes from to marks.Index = zone_known notes from to zones.Index
-known notes from to marks.Whole = inl tt
+
+known : (file : KnownParts) (from to : ℕ) (m : Mark) → Known (Says file from to m)
+known file from to marks.Disputed =
+    any_in_cell (IsDisputedAt file.notes) (λ x. let s = is_disputed_at-says file.notes x in
+    by_test (IsDisputedAt file.notes x) (is_disputed_at file.notes x) s.0 s.1) from to
+known file from to marks.Header = partition_known file.notes from to parts.Header
+known file from to marks.Footer = partition_known file.notes from to parts.Footer
+known file from to marks.Body = partition_known file.notes from to parts.Body
+known file from to marks.RandomIndex = random_index_known file from to
+known file from to marks.Missing = any_in (IsInCell from to) (in_cell from to) (missing_places file.notes)
+known file from to marks.Hand =
+    both (NoneHeld file.notes from to) (HasOffset file.at.hand from to) (none_known file.notes from to)
+    (any_in_cell (LiesIn file.at.hand) (λ x. let s = has_offset-says file.at.hand x in
+    by_test (LiesIn file.at.hand x) (has_offset file.at.hand x) s.0 s.1) from to)
+known file from to marks.Empty = none_known file.notes from to
+known file from to marks.Part =
+    any_in_cell (λ x. ¬ IsHeld file.notes x) (λ x. denied (IsHeld file.notes x) (held file.notes x)) from to
+known file from to marks.Metadata = zone_known file.notes from to zones.Metadata
+known file from to marks.Index = zone_known file.notes from to zones.Index
+known file from to marks.Whole = inl tt
 
 -- The mark at a number has no greater rank.
 rank_at : (i : ℕ) → rank (at_rank i) ≤ i
@@ -175,16 +185,17 @@ rank_at (suc (suc (suc (suc (suc (suc zero)))))) = omega arith
 rank_at (suc (suc (suc (suc (suc (suc (suc zero))))))) = omega arith
 rank_at (suc (suc (suc (suc (suc (suc (suc (suc zero)))))))) = omega arith
 rank_at (suc (suc (suc (suc (suc (suc (suc (suc (suc zero))))))))) = omega arith
-rank_at (suc (suc (suc (suc (suc (suc (suc (suc (suc (suc i)))))))))) = omega arith
+rank_at (suc (suc (suc (suc (suc (suc (suc (suc (suc (suc zero)))))))))) = omega arith
+rank_at (suc (suc (suc (suc (suc (suc (suc (suc (suc (suc (suc i))))))))))) = omega arith
 
 -- The first mark that says something true, or none below a rank.
-first_below : (notes : List NoteParts) (from to i : ℕ)
-    → ((m : Mark) × IsMark notes from to m) ⊎ ((other : Mark) → rank other < i → ¬ Says notes from to other)
-first_below notes from to zero = inr (λ other l says. absurd (omega (arith, l)))
-first_below notes from to (suc i) =
-    elim (first_below notes from to i) [
+first_below : (file : KnownParts) (from to i : ℕ)
+    → ((m : Mark) × IsMark file from to m) ⊎ ((other : Mark) → rank other < i → ¬ Says file from to other)
+first_below file from to zero = inr (λ other l says. absurd (omega (arith, l)))
+first_below file from to (suc i) =
+    elim (first_below file from to i) [
       | inl s ↦ inl s
-      | inr none ↦ elim (known notes from to (at_rank i)) [
+      | inr none ↦ elim (known file from to (at_rank i)) [
         | inl says ↦ elim (cases_lt (rank (at_rank i)) i) [
           | inl l ↦ absurd (none (at_rank i) l says)
           | inr g ↦ inl (
@@ -196,15 +207,15 @@ first_below notes from to (suc i) =
           | inl below ↦ none other below says
           | inr above ↦
               let same : rank other ≡ i = omega (arith, l, above) in
-              not_here (subst (λ (m : Mark). Says notes from to m) (sym (ap at_rank (sym same) ∙ ranked other)) says)
+              not_here (subst (λ (m : Mark). Says file from to m) (sym (ap at_rank (sym same) ∙ ranked other)) says)
         ])
       ]
     ]
 
 -- For each cell a mark fits.
-pub some_mark : (notes : List NoteParts) (from to : ℕ) → (m : Mark) × IsMark notes from to m
-some_mark notes from to =
-    elim (first_below notes from to 11) [
+pub some_mark : (file : KnownParts) (from to : ℕ) → (m : Mark) × IsMark file from to m
+some_mark file from to =
+    elim (first_below file from to 12) [
       | inl s ↦ s
       | inr none ↦ absurd (none marks.Whole (omega arith) tt)
     ]

@@ -15,15 +15,15 @@ use Rattle.mxf_catalogue.proofs.RunBounds.{covers_below_end, covers_first, has_b
 use Rattle.mxf_views.specs.Gaps.{IsGap, gaps_of}
 use Rattle.mxf_views.proofs.GapsLaws.{gaps_are}
 use Rattle.mxf_places.specs.Held.{IsHeld, end_of_file, held_end, is_held}
-use Rattle.mxf_restore.specs.Pieces.{IsHole, closed_hole, holes_of}
-use Rattle.mxf_restore.specs.declared.piece.Hole.{Hole}
+use Rattle.mxf_restore.specs.Sections.{IsHole, closed_hole, holes_of}
+use Rattle.mxf_places.specs.declared.at_hand.OffsetRange.{OffsetRange}
 use Rattle.mxf_places.proofs.HeldLaws.{held_end-bound, is_held-says}
 
 -- The last hole, which has no end, where the end of the file isn't known.
-abbrev pub open_holes : List NoteParts → List Hole
+abbrev pub open_holes : List NoteParts → List OffsetRange
 open_holes notes = if is_some (end_of_file notes) then [] else record { start = held_end notes; end = None } ∷ []
 
-abbrev pub closed_holes : List NoteParts → List Hole
+abbrev pub closed_holes : List NoteParts → List OffsetRange
 closed_holes notes = map closed_hole (filter (λ gap. is_held notes gap.end) (gaps_of notes))
 
 -- Of two runs one lies below the other, or they are one.
@@ -129,7 +129,7 @@ module _ (notes : List NoteParts) where
           last = (is_held-says notes r.end).0 t;
         }
 
-    pub to_hole : (h : Hole) → In h (holes_of notes) → IsHole notes h
+    pub to_hole : (h : OffsetRange) → In h (holes_of notes) → IsHole notes h
     unfolding holes_of
     to_hole h k = elim ((In-append h (closed_holes notes) (open_holes notes)).0 k) [
       | inl a ↦ (
@@ -225,7 +225,7 @@ module _ (notes : List NoteParts) where
         (inl ((In-map closed_hole (filter (λ gap. is_held notes gap.end) (gaps_of notes)) _).1
         (r, kept, λ i. record { start = a i; end = Some (b i) })))
 
-    pub from_hole : (h : Hole) → IsHole notes h → In h (holes_of notes)
+    pub from_hole : (h : OffsetRange) → IsHole notes h → In h (holes_of notes)
     from_hole h is =
         elim h.end as (λ o. IsHole notes (record { start = h.start; end = o })
         → In (record { start = h.start; end = o }) (holes_of notes)) [
@@ -233,5 +233,5 @@ module _ (notes : List NoteParts) where
           | Some e ↦ from_closed h.start e
         ] is
 
-    pub holes_are : (h : Hole) → In h (holes_of notes) ↔ IsHole notes h
+    pub holes_are : (h : OffsetRange) → In h (holes_of notes) ↔ IsHole notes h
     holes_are h = (to_hole h, from_hole h)

@@ -1,5 +1,5 @@
 pub mod StepLaws
-pub mod PieceLaws
+pub mod SectionLaws
 pub mod HeadLaws
 pub mod DisputedPlaceLaws
 pub mod OrderLaws
@@ -9,7 +9,7 @@ pub mod MapLaws
 pub mod MarkLaws
 pub mod FitLaws
 pub mod HoleLaws
-pub mod PieceCover
+pub mod SectionCover
 pub mod OrderCover
 pub mod PlanMembers
 pub mod OrderStarts

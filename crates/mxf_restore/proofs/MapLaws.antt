@@ -11,7 +11,8 @@ use Rattle.mxf_klv.proofs.Lists.{list_any-In}
 use Rattle.mxf_catalogue.specs.NoteLists.{Covers}
 use Rattle.mxf_catalogue.proofs.RunBounds.{covers_below_end, starts_above}
 use Rattle.mxf_views.specs.RandomIndexView.{rip_view_of}
-use Rattle.mxf_places.specs.Held.{IsHeld, bytes_of, edge_of, end_of_file, is_held, reaches_past, rip_end_by, top_of}
+use Rattle.mxf_places.specs.Held.{IsHeld, bytes_of, end_of_file, is_held, reaches_past, rip_end_by, top_of}
+use Rattle.mxf_places.specs.AtHand.{KnownParts, edge_of, runs_end}
 use Rattle.mxf_restore.specs.Map.{held_below}
 use Rattle.mxf_places.proofs.HeldLaws.{is_held-says, same_bounds, top_of-bound}
 use Rattle.std.proofs.lemmas.Nat.{div-mul-add, div-add-mod'}
@@ -40,13 +41,13 @@ greatest-bound (y ∷ xs) bound =
       λ f. let a = f y (inl refl) in let b = ih.1 (λ x k. f x (inr k)) in omega (arith, a, b),
     )
 
-pub end_is : (notes : List NoteParts) (runs : List Run) (reached : ℕ)
-    → AreOffsets (λ x. In x (missing_places notes)) runs
+pub end_is : (known : KnownParts) (runs : List Run) (reached : ℕ)
+    → AreOffsets (λ x. In x (missing_places known.notes)) runs
     → ((bound : ℕ) → reached ≤ bound ↔ ((offset : ℕ) → LiesIn runs offset → offset < bound))
-    → max (max (edge_of notes) reached) 1 ≡ map_end notes
+    → max (max (edge_of known.at known.notes) reached) 1 ≡ map_end known
 unfolding map_end
-end_is notes runs reached are is =
-    let xs = missing_places notes in
+end_is known runs reached are is =
+    let xs = missing_places known.notes in
     let same : reached ≡ greatest_of (map (λ x. x + 1) xs) =
     same_bounds reached (greatest_of (map (λ x. x + 1) xs)) (λ bound. (x : ℕ) → In x xs → x < bound)
     (λ bound. (
@@ -130,13 +131,13 @@ top_above notes x h =
     let before : x + 1 ≤ covered_end h.0 = h.2.before in
     let most = covers_below_end h.0 in omega (arith, top, before, most)
 
-edge_by : (notes : List NoteParts) (o : Option ℕ) (x : ℕ) → IsHeld notes x
-    → x < unwrap_or (option_and_then (λ e. if reaches_past e notes then None else Some e) o) (top_of notes)
-edge_by notes None x h = top_above notes x h
-edge_by notes (Some e) x h =
+edge_by : (notes : List NoteParts) (given : ℕ) (o : Option ℕ) (x : ℕ) → IsHeld notes x
+    → x < unwrap_or (option_and_then (λ e. if reaches_past e notes then None else Some e) o) (max (top_of notes) given)
+edge_by notes given None x h = let top = top_above notes x h in omega (arith, top)
+edge_by notes given (Some e) x h =
     elim (reaches_past e notes) as (λ b. reaches_past e notes ≡ b
-    → x < unwrap_or (if b then None else Some e) (top_of notes)) [
-      | true ↦ λ t. top_above notes x h
+    → x < unwrap_or (if b then None else Some e) (max (top_of notes) given)) [
+      | true ↦ λ t. let top = top_above notes x h in omega (arith, top)
       | false ↦ λ t. elim (cases_lt e (covered_end h.0)) [
         | inl l ↦ absurd (let u = (list_any-In (λ n. nat_lt e (covered_end n)) notes).1
             (h.0, h.1, lt-ltb e (covered_end h.0) l) in cc (t, u))
@@ -144,19 +145,21 @@ edge_by notes (Some e) x h =
       ]
     ] refl
 
-held_below_end : (notes : List NoteParts) (x : ℕ) → IsHeld notes x → x < map_end notes
+held_below_end : (known : KnownParts) (x : ℕ) → IsHeld known.notes x → x < map_end known
 unfolding map_end end_of_file
-held_below_end notes x h =
-    let edge : x < edge_of notes = edge_by notes (rip_end_by notes (rip_view_of notes)) x h in omega (arith, edge)
+held_below_end known x h =
+    let notes = known.notes in
+    let edge : x < edge_of known.at notes =
+    edge_by notes (runs_end known.at.given) (rip_end_by notes (rip_view_of notes)) x h in omega (arith, edge)
 
-pub held_is : (notes : List NoteParts) (runs : List Run) → Covers runs notes → IsCover runs
-    → bytes_of runs ≡ held_below notes (map_end notes)
-held_is notes runs covers is =
-    runs_count (is_held notes) 0 (map_end notes) runs is.maximal
-    (all_from_In (λ (r : Run). r.end ≤ 0 + map_end notes) runs (λ r h.
+pub held_is : (known : KnownParts) (runs : List Run) → Covers runs known.notes → IsCover runs
+    → bytes_of runs ≡ held_below known.notes (map_end known)
+held_is known runs covers is =
+    runs_count (is_held known.notes) 0 (map_end known) runs is.maximal
+    (all_from_In (λ (r : Run). r.end ≤ 0 + map_end known) runs (λ r h.
     let some : r.start < r.end = has_byte 0 runs r is.maximal h in
     let last = (covers (r.end - 1)).0 (r, h, record { from = omega (arith, some); before = omega (arith, some) }) in
-    let below = held_below_end notes (r.end - 1) last in omega (arith, below, some))) (λ x l h. (
-      λ t. (covers x).1 ((is_held-says notes x).0 t),
-      λ k. (is_held-says notes x).1 ((covers x).0 k),
+    let below = held_below_end known (r.end - 1) last in omega (arith, below, some))) (λ x l h. (
+      λ t. (covers x).1 ((is_held-says known.notes x).0 t),
+      λ k. (is_held-says known.notes x).1 ((covers x).0 k),
     ))

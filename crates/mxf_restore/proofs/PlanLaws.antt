@@ -1,13 +1,12 @@
 -- Orders and disputed places in their order.
-use Rattle.std.proofs.Common.{◌≡◌, ◌∙◌, ℕ, Option, None, Some, [], ◌∷◌, get_or, refl, sym, ap}
+use Rattle.std.proofs.Common.{◌≡◌, ◌∙◌, ℕ, Bool, true, false, Option, None, Some, [], ◌∷◌, get_or, refl, sym, ap}
 use Rattle.std.specs.Cmp.{IsTotalOrder}
 use Rattle.std.specs.Cmp.Lexicographic.{options_total}
 use Rattle.std.specs.FinMap.{IsAntisymmetric, nat_cmp-IsAntisymmetric}
-use Rattle.std.specs.declared.cmp.Ordering.{Ordering}
-use Rattle.std.specs.declared.cmp.Ordering.TheVariants.{Equal}
+use Rattle.std.specs.declared.cmp.Ordering.TheVariants.{Equal, Less}
 use Rattle.std.proofs.lemmas.Cmp.{nat_cmp_total, on_total, then_total}
 use Rattle.mxf_klv.proofs.Tests.{ties}
-use Rattle.std.specs.Ordering.{nat_cmp, ordering_then}
+use Rattle.std.specs.Ordering.{bool_cmp, nat_cmp, ordering_reverse, ordering_then}
 use Rattle.std.specs.Option.{option_cmp}
 use Rattle.mxf_restore.specs.Plan.{disputed_place_cmp, order_cmp, reason_rank}
 use Rattle.mxf_places.specs.declared.reason.Reason.{Reason}
@@ -37,7 +36,8 @@ reasons Gap _ = refl
 pub orders : (a b : Order) → (order_ord.ghosts).cmp a b ≡ order_cmp a b
 orders a b =
     ap (λ r. ordering_then r (ordering_then (nat_cmp a.start b.start)
-    (ordering_then (option_cmp nat_cmp a.end b.end) (option_cmp nat_cmp a.source b.source))))
+    (ordering_then (option_cmp nat_cmp a.end b.end) (ordering_then (option_cmp nat_cmp a.source b.source)
+    (ordering_then (bool_cmp a.inside b.inside) (bool_cmp a.again b.again))))))
     (reasons a.reason b.reason)
 
 pub disputed_places : (a b : DisputedPlace) → (disputed_place_ord.ghosts).cmp a b ≡ disputed_place_cmp a b
@@ -71,6 +71,12 @@ one_option None (Some y) e = absurd cc
 one_option (Some x) None e = absurd cc
 one_option (Some x) (Some y) e = ap (λ (z : ℕ). Some z) (nat_cmp-IsAntisymmetric x y e)
 
+one_bool : (a b : Bool) → bool_cmp a b ≡ Equal → a ≡ b
+one_bool true true e = refl
+one_bool false false e = refl
+one_bool true false e = absurd cc
+one_bool false true e = absurd cc
+
 pub one_order : IsAntisymmetric order_cmp
 one_order a b e =
     let p = ties _ _ e in
@@ -79,8 +85,19 @@ one_order a b e =
     let reason = one_reason a.reason b.reason p.0 in
     let start = nat_cmp-IsAntisymmetric a.start b.start q.0 in
     let end = one_option a.end b.end r.0 in
-    let source = one_option a.source b.source r.1 in
-    λ i. record { reason = reason i; start = start i; end = end i; source = source i }
+    let t = ties _ _ r.1 in
+    let u = ties _ _ t.1 in
+    let source = one_option a.source b.source t.0 in
+    let inside = one_bool a.inside b.inside u.0 in
+    let again = one_bool a.again b.again u.1 in
+    λ i. record {
+      reason = reason i;
+      start = start i;
+      end = end i;
+      source = source i;
+      inside = inside i;
+      again = again i;
+    }
 
 pub one_disputed_place : IsAntisymmetric disputed_place_cmp
 one_disputed_place a b e =
@@ -91,12 +108,33 @@ one_disputed_place a b e =
     let source = one_option a.source b.source q.1 in
     λ i. record { reason = reason i; place = place i; source = source i }
 
+bool_total : IsTotalOrder bool_cmp
+bool_total = record { antisymm = flip; trans = trans; congr = alike } where
+  flip : (x y : Bool) → bool_cmp x y ≡ ordering_reverse (bool_cmp y x)
+  flip true true = refl
+  flip true false = refl
+  flip false true = refl
+  flip false false = refl
+
+  trans : (x y z : Bool) → bool_cmp x y ≡ Less → bool_cmp y z ≡ Less → bool_cmp x z ≡ Less
+  trans false true z d e = absurd (elim z as (λ w. bool_cmp true w ≡ Less → ⊥) [ true ↦ λ f. cc | false ↦ λ f. cc ] e)
+  trans false false z d e = absurd cc
+  trans true true z d e = absurd cc
+  trans true false z d e = absurd cc
+
+  alike : (x y z : Bool) → bool_cmp x y ≡ Equal → bool_cmp x z ≡ bool_cmp y z
+  alike true true z e = refl
+  alike false false z e = refl
+  alike true false z e = absurd cc
+  alike false true z e = absurd cc
+
 pub order_total : IsTotalOrder order_cmp
 order_total =
     then_total (on_total (λ o. reason_rank o.reason) nat_cmp_total)
     (then_total (on_total (λ o. o.start) nat_cmp_total)
     (then_total (on_total (λ o. o.end) (options_total nat_cmp_total))
-    (on_total (λ o. o.source) (options_total nat_cmp_total))))
+    (then_total (on_total (λ o. o.source) (options_total nat_cmp_total))
+    (then_total (on_total (λ o. o.inside) bool_total) (on_total (λ o. o.again) bool_total)))))
 
 pub disputed_place_total : IsTotalOrder disputed_place_cmp
 disputed_place_total =

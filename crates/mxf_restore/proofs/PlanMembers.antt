@@ -1,19 +1,22 @@
 -- What a plan orders, and what it disputed places.
-use Rattle.std.proofs.Common.{◌≡◌, ◌↔◌, ◌∙◌, ◌<◌, ◌==◌, ℕ, true, false, not, cond, List, [], ◌∷◌, Some}
+use Rattle.std.proofs.Common.{◌≡◌, ◌↔◌, ◌⊎◌, ◌∙◌, ◌<◌, ◌==◌, ℕ, true, false, not, cond, List, [], ◌∷◌, Some}
 use Rattle.std.proofs.Common.{filter, filter_map, find, refl, sym, ap, inl, inr, eqb-true, eq-eqb}
+use Rattle.std.proofs.lemmas.Bool.{false≢true}
 use Rattle.std.proofs.lemmas.Option.{same_Some}
 use Rattle.mxf_klv.specs.Parts.{NoteParts}
 use Rattle.mxf_klv.specs.Rising.{In, IsRising, In-union, IsRising-union}
-use Rattle.mxf_klv.proofs.Lists.{In-filter, In-filter_map}
+use Rattle.mxf_klv.proofs.Lists.{In-filter, In-flat_map}
 use Rattle.mxf_klv.proofs.Tests.{not-true-false, not_true}
 use Rattle.mxf_catalogue.specs.Content.{IsContent}
 use Rattle.mxf_views.specs.Gaps.{IsGap}
-use Rattle.mxf_places.specs.Held.{edge_of}
+use Rattle.mxf_catalogue.specs.Runs.{LiesIn}
+use Rattle.mxf_places.specs.AtHand.{AtHandParts, edge_of, has_offset}
+use Rattle.mxf_places.proofs.AtHandLaws.{has_offset-says}
 use Rattle.mxf_places.specs.Claims.{claims_of}
-use Rattle.mxf_restore.specs.Pieces.{pieces_of}
+use Rattle.mxf_restore.specs.Sections.{sections_of}
 use Rattle.mxf_restore.specs.Plan.{LiesInOrder, disputed_place_cmp, disputed_place_of, first_by_place, found_disputed_places, found_orders}
-use Rattle.mxf_restore.specs.Plan.{order_cmp, order_of, plan_of}
-use Rattle.mxf_restore.specs.declared.piece.Piece.{Piece}
+use Rattle.mxf_restore.specs.Plan.{order_cmp, orders_of, plan_of}
+use Rattle.mxf_restore.specs.declared.section.Section.{Section}
 use Rattle.mxf_restore.specs.declared.plan.DisputedPlace.{DisputedPlace}
 use Rattle.mxf_restore.specs.declared.plan.Order.{Order}
 use Rattle.mxf_restore.proofs.OrderCover.{ordered_somewhere}
@@ -21,31 +24,38 @@ use Rattle.mxf_restore.proofs.PlanLaws.{disputed_place_total, one_disputed_place
 
 -- ---- orders
 
-found_members : (notes : List NoteParts) (o : Order)
-    → In o (found_orders notes) ↔ ((p : Piece) × In p (pieces_of notes) × (order_of notes p ≡ Some o))
-unfolding found_orders
-found_members notes o = In-filter_map (order_of notes) (pieces_of notes) o
+module _ (at : AtHandParts) (notes : List NoteParts) where
+  in_plan : (o : Order) → In o (plan_of at notes).orders ↔ In o (found_orders at notes)
+  unfolding plan_of
+  in_plan o =
+      let u = In-union order_total one_order o [] (found_orders at notes) in
+      (λ k. elim (u.0 k) [ inl n ↦ absurd n | inr n ↦ n ], λ k. u.1 (inr k))
 
-in_plan : (notes : List NoteParts) (o : Order) → In o (plan_of notes).orders ↔ In o (found_orders notes)
-unfolding plan_of
-in_plan notes o =
-    let u = In-union order_total one_order o [] (found_orders notes) in
-    (λ k. elim (u.0 k) [ inl n ↦ absurd n | inr n ↦ n ], λ k. u.1 (inr k))
+  found_members : (o : Order)
+      → In o (found_orders at notes) ↔ ((p : Section) × In p (sections_of notes) × In o (orders_of at notes p))
+  unfolding found_orders
+  found_members o = In-flat_map (orders_of at notes) (sections_of notes) o
 
-pub order_members : (notes : List NoteParts) (o : Order)
-    → In o (plan_of notes).orders ↔ ((p : Piece) × In p (pieces_of notes) × (order_of notes p ≡ Some o))
-order_members notes o =
-    let a = in_plan notes o in
-    let b = found_members notes o in (λ k. b.0 (a.0 k), λ s. a.1 (b.1 s))
+  pub order_members : (o : Order)
+      → In o (plan_of at notes).orders ↔ ((p : Section) × In p (sections_of notes) × In o (orders_of at notes p))
+  order_members o =
+      let a = in_plan o in
+      let b = found_members o in (λ k. b.0 (a.0 k), λ s. a.1 (b.1 s))
 
-pub orders_rise : (notes : List NoteParts) → IsRising order_cmp (plan_of notes).orders
-unfolding plan_of
-orders_rise notes = IsRising-union order_total one_order [] (found_orders notes) tt
+  pub orders_rise : IsRising order_cmp (plan_of at notes).orders
+  unfolding plan_of
+  orders_rise = IsRising-union order_total one_order [] (found_orders at notes) tt
 
-pub gap_ordered : (notes : List NoteParts) (x : ℕ) → IsContent notes → IsGap notes x → x < edge_of notes
-    → (o : Order) × In o (plan_of notes).orders × LiesInOrder o x
-gap_ordered notes x content g edge =
-    let s = ordered_somewhere notes content x g edge in (s.0, (in_plan notes s.0).1 s.1, s.2)
+  pub gap_ordered : (x : ℕ) → IsContent notes → IsGap notes x → x < edge_of at notes
+      → LiesIn at.hand x ⊎ ((o : Order) × In o (plan_of at notes).orders × LiesInOrder o x)
+  gap_ordered x content g edge =
+      elim (has_offset at.hand x) as (λ b. has_offset at.hand x ≡ b
+      → LiesIn at.hand x ⊎ ((o : Order) × In o (plan_of at notes).orders × LiesInOrder o x)) [
+        | true ↦ λ e. inl ((has_offset-says at.hand x).0 e)
+        | false ↦ λ e.
+            let free = λ (k : LiesIn at.hand x). false≢true (sym e ∙ (has_offset-says at.hand x).1 k) in
+            let s = ordered_somewhere notes at content x g edge free in inr (s.0, (in_plan s.0).1 s.1, s.2)
+      ] refl
 
 -- ---- disputed places
 
@@ -82,11 +92,11 @@ first_members d (x ∷ ds) =
       | false ↦ λ e. e
     ] refl
 
-pub disputed_place_members : (notes : List NoteParts) (d : DisputedPlace)
-    → In d (plan_of notes).disputed_places
+pub disputed_place_members : (at : AtHandParts) (notes : List NoteParts) (d : DisputedPlace)
+    → In d (plan_of at notes).disputed_places
     ↔ (find (λ e. e.place == d.place) (filter_map (disputed_place_of notes) (claims_of notes)) ≡ Some d)
 unfolding plan_of found_disputed_places
-disputed_place_members notes d =
+disputed_place_members at notes d =
     let all = filter_map (disputed_place_of notes) (claims_of notes) in
     let u = In-union disputed_place_total one_disputed_place d [] (first_by_place all) in
     let f = first_members d all in (
@@ -94,6 +104,7 @@ disputed_place_members notes d =
       λ e. u.1 (inr (f.1 e)),
     )
 
-pub disputed_places_rise : (notes : List NoteParts) → IsRising disputed_place_cmp (plan_of notes).disputed_places
+pub disputed_places_rise : (at : AtHandParts) (notes : List NoteParts)
+    → IsRising disputed_place_cmp (plan_of at notes).disputed_places
 unfolding plan_of
-disputed_places_rise notes = IsRising-union disputed_place_total one_disputed_place [] (found_disputed_places notes) tt
+disputed_places_rise at notes = IsRising-union disputed_place_total one_disputed_place [] (found_disputed_places notes) tt

@@ -101,5 +101,5 @@ missing_place notes c = option_and_then (λ x. if is_missing notes x then Some x
 -- The marks but the last, by rank.
 abbrev pub marks_in_order : List Mark
 marks_in_order =
-    marks.Disputed ∷ marks.Header ∷ marks.Footer ∷ marks.Body ∷ marks.RandomIndex ∷ marks.Missing ∷ marks.Empty
-    ∷ marks.Part ∷ marks.Metadata ∷ marks.Index ∷ []
+    marks.Disputed ∷ marks.Header ∷ marks.Footer ∷ marks.Body ∷ marks.RandomIndex ∷ marks.Missing ∷ marks.Hand
+    ∷ marks.Empty ∷ marks.Part ∷ marks.Metadata ∷ marks.Index ∷ []

@@ -1,4 +1,4 @@
-pub mod Pieces
+pub mod Sections
 pub mod Plan
 pub mod Map
 pub mod Layers

@@ -13,9 +13,12 @@ use Rattle.mxf_sets.specs.declared.pack.part.PackPart.TheVariants as parts
 use Rattle.mxf_catalogue.specs.Disputes.{IsClear, disputed_notes}
 use Rattle.mxf_views.specs.FindingCauses.{IsMetadataKind}
 use Rattle.mxf_views.specs.Partitions.{PartitionParts, partitions_of}
-use Rattle.mxf_places.specs.Held.{IsDisputedAt, IsHeld, begins_clear_head, edge_of, is_disputed_at, is_held, is_in_file}
+use Rattle.mxf_places.specs.Held.{IsDisputedAt, IsHeld, begins_clear_head, is_disputed_at, is_held, is_in_file}
+use Rattle.mxf_places.specs.AtHand.{KnownParts, edge_of}
+use Rattle.mxf_catalogue.specs.declared.run.Run.{Run}
+use Rattle.mxf_catalogue.specs.Runs.{LiesIn}
 use Rattle.mxf_places.specs.Claims.{claims_of, named_place}
-use Rattle.mxf_restore.specs.Pieces.{holes_of}
+use Rattle.mxf_restore.specs.Sections.{holes_of}
 use Rattle.mxf_restore.specs.declared.map.Mark.{Mark}
 use Rattle.mxf_restore.specs.declared.map.Mark.TheVariants as marks
 
@@ -34,8 +37,9 @@ greatest_of [] = 0
 greatest_of (x ∷ xs) = max x (greatest_of xs)
 
 -- The end of the map: how far the file reaches, and beyond each missing place; at least 1.
-unfoldable pub map_end : List NoteParts → ℕ
-map_end notes = max 1 (max (edge_of notes) (greatest_of (map (λ x. x + 1) (missing_places notes))))
+unfoldable pub map_end : KnownParts → ℕ
+map_end known =
+    max 1 (max (edge_of known.at known.notes) (greatest_of (map (λ x. x + 1) (missing_places known.notes))))
 
 -- The bytes of a cell, of so many at most.
 abbrev pub cell_size : ℕ → ℕ → ℕ
@@ -64,22 +68,31 @@ abbrev pub HasByteOf : List NoteParts → ℕ → ℕ → (Kind → Type 0) → 
 HasByteOf notes from to P =
     (n : NoteParts) × IsClear n notes × P (kind_of n.key) × ((x : ℕ) × IsInCell from to x × IsInSpan n x)
 
+-- No byte of the cell is held.
+abbrev pub NoneHeld : List NoteParts → ℕ → ℕ → Type 0
+NoneHeld notes from to = (x : ℕ) → IsInCell from to x → ¬ IsHeld notes x
+
+-- An offset of the runs lies in the cell.
+abbrev pub HasOffset : List Run → ℕ → ℕ → Type 0
+HasOffset runs from to = (x : ℕ) × IsInCell from to x × LiesIn runs x
+
 -- What a mark says of a cell: an offset is disputed; a header, footer or body partition begins in it; a clear random
--- index pack does; a missing place lies in it; nothing is held; not all is held; a byte is one of header metadata, or
--- of an index table segment; or all is held.
-abbrev pub Says : List NoteParts → ℕ → ℕ → Mark → Type 0
-Says notes from to marks.Disputed = (x : ℕ) × IsInCell from to x × IsDisputedAt notes x
-Says notes from to marks.Header = HasPartition notes from to parts.Header
-Says notes from to marks.Footer = HasPartition notes from to parts.Footer
-Says notes from to marks.Body = HasPartition notes from to parts.Body
-Says notes from to marks.RandomIndex =
-    (n : NoteParts) × IsClear n notes × (kind_of n.key ≡ kinds.Rip) × IsInCell from to n.offset
-Says notes from to marks.Missing = (x : ℕ) × In x (missing_places notes) × IsInCell from to x
-Says notes from to marks.Empty = (x : ℕ) → IsInCell from to x → ¬ IsHeld notes x
-Says notes from to marks.Part = (x : ℕ) × IsInCell from to x × ¬ IsHeld notes x
-Says notes from to marks.Metadata = HasByteOf notes from to IsMetadataKind
-Says notes from to marks.Index = HasByteOf notes from to (λ k. k ≡ kinds.Segment)
-Says notes from to marks.Whole = Unit {0}
+-- index pack does; a missing place lies in it; nothing is held, and an offset is at hand; nothing is held; not all is
+-- held; a byte is one of header metadata, or of an index table segment; or all is held.
+abbrev pub Says : KnownParts → ℕ → ℕ → Mark → Type 0
+Says known from to marks.Disputed = (x : ℕ) × IsInCell from to x × IsDisputedAt known.notes x
+Says known from to marks.Header = HasPartition known.notes from to parts.Header
+Says known from to marks.Footer = HasPartition known.notes from to parts.Footer
+Says known from to marks.Body = HasPartition known.notes from to parts.Body
+Says known from to marks.RandomIndex =
+    (n : NoteParts) × IsClear n known.notes × (kind_of n.key ≡ kinds.Rip) × IsInCell from to n.offset
+Says known from to marks.Missing = (x : ℕ) × In x (missing_places known.notes) × IsInCell from to x
+Says known from to marks.Hand = NoneHeld known.notes from to × HasOffset known.at.hand from to
+Says known from to marks.Empty = NoneHeld known.notes from to
+Says known from to marks.Part = (x : ℕ) × IsInCell from to x × ¬ IsHeld known.notes x
+Says known from to marks.Metadata = HasByteOf known.notes from to IsMetadataKind
+Says known from to marks.Index = HasByteOf known.notes from to (λ k. k ≡ kinds.Segment)
+Says known from to marks.Whole = Unit {0}
 
 abbrev pub rank : Mark → ℕ
 rank marks.Disputed = 0
@@ -88,22 +101,23 @@ rank marks.Footer = 2
 rank marks.Body = 3
 rank marks.RandomIndex = 4
 rank marks.Missing = 5
-rank marks.Empty = 6
-rank marks.Part = 7
-rank marks.Metadata = 8
-rank marks.Index = 9
-rank marks.Whole = 10
+rank marks.Hand = 6
+rank marks.Empty = 7
+rank marks.Part = 8
+rank marks.Metadata = 9
+rank marks.Index = 10
+rank marks.Whole = 11
 
 -- The mark of a cell: the first that says something true of it.
-pub record IsMark (notes : List NoteParts) (from to : ℕ) (mark : Mark) : Type 0 where
-  pub says : Says notes from to mark
-  pub first : (other : Mark) → rank other < rank mark → ¬ Says notes from to other
+pub record IsMark (known : KnownParts) (from to : ℕ) (mark : Mark) : Type 0 where
+  pub says : Says known from to mark
+  pub first : (other : Mark) → rank other < rank mark → ¬ Says known from to other
 
 -- The marks of the cells of a size, one after another from an offset up to an end.
-abbrev pub AreMarks : List NoteParts → ℕ → ℕ → ℕ → List Mark → Type 0
-AreMarks notes size end from [] = end ≤ from
-AreMarks notes size end from (m ∷ ms) =
-    (from < end) × IsMark notes from (min (from + size) end) m × AreMarks notes size end (from + size) ms
+abbrev pub AreMarks : KnownParts → ℕ → ℕ → ℕ → List Mark → Type 0
+AreMarks known size end from [] = end ≤ from
+AreMarks known size end from (m ∷ ms) =
+    (from < end) × IsMark known from (min (from + size) end) m × AreMarks known size end (from + size) ms
 
 -- A map: its end, how many bytes below it are held, how many ranges aren't, how many notes are disputed, the size of a
 -- cell, and the marks.
@@ -116,10 +130,10 @@ pub record MapParts : Type 0 where
   pub marks : List Mark
 
 -- The map of so many cells at most.
-pub record IsMap (notes : List NoteParts) (cells : ℕ) (m : MapParts) : Type 0 where
-  pub end : m.end ≡ map_end notes
-  pub held : m.held ≡ held_below notes m.end
-  pub gaps : m.gaps ≡ gaps_below notes m.end
-  pub disputed : m.disputed ≡ length (disputed_notes notes)
+pub record IsMap (known : KnownParts) (cells : ℕ) (m : MapParts) : Type 0 where
+  pub end : m.end ≡ map_end known
+  pub held : m.held ≡ held_below known.notes m.end
+  pub gaps : m.gaps ≡ gaps_below known.notes m.end
+  pub disputed : m.disputed ≡ length (disputed_notes known.notes)
   pub cell : m.cell ≡ cell_size m.end cells
-  pub marks : AreMarks notes m.cell m.end 0 m.marks
+  pub marks : AreMarks known m.cell m.end 0 m.marks

@@ -1,20 +1,22 @@
 -- What to restore next (this project's profile).
-use Rattle.std.specs.Prelude.{ℕ, ◌-◌, Bool, false, ◌&&◌, ◌==◌, not, nat_lt, max, min}
-use Rattle.std.specs.Prelude.{if◌then◌else◌, Option, None, Some, is_some, List, [], ◌∷◌, filter, find}
+use Rattle.std.specs.Prelude.{ℕ, ◌+◌, ◌-◌, Bool, true, false, ◌&&◌, ◌||◌, ◌==◌, not, nat_le, nat_lt, max}
+use Rattle.std.specs.Prelude.{if◌then◌else◌, Option, None, Some, is_some, List, [], ◌∷◌, filter, find, flat_map, map}
 use Rattle.std.specs.Option.{option_and_then, option_cmp, option_map, option_map_or}
 use Rattle.std.specs.List.{filter_map}
-use Rattle.std.specs.Ordering.{nat_cmp, on, then_cmp}
+use Rattle.std.specs.Ordering.{bool_cmp, nat_cmp, on, then_cmp}
 use Rattle.std.specs.declared.cmp.Ordering.{Ordering}
 use Rattle.mxf_klv.specs.Parts.{NoteParts}
 use Rattle.mxf_klv.specs.Note.{covered_end}
 use Rattle.mxf_klv.specs.Rising.{union}
-use Rattle.mxf_places.specs.Held.{edge_of, end_of_file, is_disputed_at, is_in_file, top_of}
+use Rattle.mxf_places.specs.AtHand.{AtHandParts, LiesBetween, edge_of, has_offset, has_offsets, lacking, up_to_bound}
+use Rattle.mxf_places.specs.declared.at_hand.OffsetRange.{OffsetRange}
+use Rattle.mxf_places.specs.Held.{end_of_file, is_disputed_at, is_in_file, top_of}
 use Rattle.mxf_places.specs.Claims.{claim_at, claims_of, is_of_stretch}
-use Rattle.mxf_restore.specs.Pieces.{LiesBetween, pieces_of}
+use Rattle.mxf_restore.specs.Sections.{sections_of}
 use Rattle.mxf_places.specs.declared.reason.Reason.{Reason}
 use Rattle.mxf_places.specs.declared.reason.Reason.TheVariants.{Header, Footer, Metadata, Index, Entry, Previous, Gap}
 use Rattle.mxf_places.specs.declared.claim.Claim.{Claim}
-use Rattle.mxf_restore.specs.declared.piece.Piece.{Piece}
+use Rattle.mxf_restore.specs.declared.section.Section.{Section}
 use Rattle.mxf_restore.specs.declared.plan.Order.{Order}
 use Rattle.mxf_restore.specs.declared.plan.DisputedPlace.{DisputedPlace}
 
@@ -22,7 +24,7 @@ use Rattle.mxf_restore.specs.declared.plan.DisputedPlace.{DisputedPlace}
 abbrev pub is_head_to : ℕ → NoteParts → Bool
 is_head_to x n = not n.whole && (covered_end n == x)
 
--- Where a packet begins of which a piece with this first byte is the rest: at the first head that ends there, or else
+-- Where a packet begins of which a section with this first byte is the rest: at the first head that ends there, or else
 -- at the byte itself.
 abbrev pub start_of : List NoteParts → ℕ → ℕ
 start_of notes first = option_map_or (λ n. n.offset) (find (is_head_to first) notes) first
@@ -31,37 +33,90 @@ start_of notes first = option_map_or (λ n. n.offset) (find (is_head_to first) n
 abbrev pub needed_of : List NoteParts → ℕ → ℕ → ℕ
 needed_of notes start first = top_of (filter (λ n. is_head_to first n && (n.offset == start)) notes)
 
--- An offset, but no more than a bound.
-abbrev pub up_to_bound : ℕ → Option ℕ → ℕ
-up_to_bound x None = x
-up_to_bound x (Some bound) = min x bound
-
--- Where a piece ends: one without an end does where the file does as far as that is known, unless its claim is open.
-abbrev pub end_by : List NoteParts → Piece → Option Claim → Option ℕ
-end_by notes p claim =
+-- Where a section ends: one without an end does where the file does as far as that is known, unless its claim is open,
+-- or fewer bytes are given behind it than the key and length of a packet can have.
+abbrev pub end_by : AtHandParts → List NoteParts → Section → Option Claim → Option ℕ
+end_by at notes p claim =
     if is_some p.end then p.end
-    else (if nat_lt p.first (edge_of notes) && not (option_map_or (λ c. c.is_open) claim false)
-    then Some (edge_of notes) else None)
+    else (if (nat_lt p.first (top_of notes) || nat_le (p.first + 25) (edge_of at notes))
+    && not (option_map_or (λ c. c.is_open) claim false) then Some (edge_of at notes) else None)
 
--- The order from a start up to an end, for what a claim says. Nothing says that a byte lies in a piece without an end
--- that no pack claims.
-abbrev pub ordered : Option Claim → ℕ → Option ℕ → Option Order
-ordered None start end =
-    option_map (λ e. record { reason = Gap; start = start; end = Some e; source = None }) end
-ordered (Some c) start end = Some (record { reason = c.reason; start = start; end = end; source = c.source })
+-- What is asked for from a start up to an end, for what a claim says, be it at hand or not. Nothing says that a byte
+-- lies in a section without an end that no pack claims.
+abbrev pub asked : Option Claim → ℕ → Option ℕ → Option Order
+asked None start end = option_map (λ e. record {
+  reason = Gap;
+  start = start;
+  end = Some e;
+  source = None;
+  inside = false;
+  again = false;
+}) end
+asked (Some c) start end = Some (record {
+  reason = c.reason;
+  start = start;
+  end = end;
+  source = c.source;
+  inside = false;
+  again = false;
+})
 
--- What is ordered of a piece: a head's packet is needed whole, as far as the hole goes.
-abbrev pub order_by : List NoteParts → Piece → ℕ → Option Claim → Option Order
-order_by notes p start claim =
-    ordered claim start
-    (option_map (λ e. max e (up_to_bound (needed_of notes start p.first) p.hole.end)) (end_by notes p claim))
+-- What is asked for of a section: a head's packet is needed whole, as far as the hole goes.
+abbrev pub asked_by : AtHandParts → List NoteParts → Section → ℕ → Option Claim → Option Order
+asked_by at notes p start claim =
+    asked claim start
+    (option_map (λ e. max e (up_to_bound (needed_of notes start p.first) p.hole.end)) (end_by at notes p claim))
 
-unfoldable pub order_of : List NoteParts → Piece → Option Order
-order_of notes p = let start = start_of notes p.first in order_by notes p start (claim_at notes start)
+abbrev pub asked_of : AtHandParts → List NoteParts → Section → Option Order
+asked_of at notes p = let start = start_of notes p.first in asked_by at notes p start (claim_at notes start)
 
--- The orders of all pieces, in their order.
-unfoldable pub found_orders : List NoteParts → List Order
-found_orders notes = filter_map (order_of notes) (pieces_of notes)
+-- The first of some ranges begins at a start.
+abbrev pub begun_at : ℕ → List OffsetRange → List OffsetRange
+begun_at start [] = []
+begun_at start (r ∷ ranges) = record { start = start; end = r.end } ∷ ranges
+
+-- A packet is ordered from its first byte on: no head has that byte, so that what is at hand there was read and
+-- doesn't do; or a head has key and length, and nothing of the rest that would follow.
+abbrev pub is_whole_needed : AtHandParts → Section → ℕ → Bool
+is_whole_needed at p start = (start == p.first) || not (has_offset at.hand p.first)
+
+-- The parts of what is asked for of a section that aren't at hand, up to where the next section begins; all of it where
+-- nothing would be left: it is at hand, and a hole still.
+abbrev pub parts_among : AtHandParts → Section → Order → List OffsetRange → List OffsetRange
+parts_among at p o [] = record { start = o.start; end = o.end } ∷ []
+parts_among at p o ranges =
+    filter (λ r. option_map_or (λ e. nat_lt r.start e) p.end true)
+    (if is_whole_needed at p o.start then begun_at o.start ranges else ranges)
+
+unfoldable pub parts_of : AtHandParts → Section → Order → List OffsetRange
+parts_of at p o = parts_among at p o (lacking at.hand p.first o.end)
+
+-- The bytes were handed in and don't do: all of them are given; or, where the end isn't known, all that key and length
+-- of a packet can have are at hand.
+abbrev pub is_again : AtHandParts → OffsetRange → Bool
+is_again at r = option_map_or (λ e. has_offsets at.given r.start e) r.end (has_offsets at.hand r.start (r.start + 25))
+
+-- The order of a part.
+abbrev pub part_order : AtHandParts → Order → OffsetRange → Order
+part_order at o r = record {
+  reason = o.reason;
+  start = r.start;
+  end = r.end;
+  source = o.source;
+  inside = not (r.start == o.start);
+  again = is_again at r;
+}
+
+abbrev pub orders_by : AtHandParts → Section → Option Order → List Order
+orders_by at p None = []
+orders_by at p (Some o) = map (part_order at o) (parts_of at p o)
+
+unfoldable pub orders_of : AtHandParts → List NoteParts → Section → List Order
+orders_of at notes p = orders_by at p (asked_of at notes p)
+
+-- The orders of all sections, in their order.
+unfoldable pub found_orders : AtHandParts → List NoteParts → List Order
+found_orders at notes = flat_map (orders_of at notes) (sections_of notes)
 
 -- The place that a claim speaks of: one that a pack names, or where an open stretch ends.
 abbrev pub point_of : Claim → Option ℕ
@@ -91,12 +146,14 @@ reason_rank Entry = 4
 reason_rank Previous = 5
 reason_rank Gap = 6
 
--- Orders go by reason, then start, then end, none before any, then source.
+-- Orders go by reason, then start, then end, none before any, then source, then by what is said of them.
 abbrev pub order_cmp : Order → Order → Ordering
 order_cmp =
     then_cmp (on (λ o. reason_rank o.reason) nat_cmp)
     (then_cmp (on (λ o. o.start) nat_cmp)
-    (then_cmp (on (λ o. o.end) (option_cmp nat_cmp)) (on (λ o. o.source) (option_cmp nat_cmp))))
+    (then_cmp (on (λ o. o.end) (option_cmp nat_cmp))
+    (then_cmp (on (λ o. o.source) (option_cmp nat_cmp))
+    (then_cmp (on (λ o. o.inside) bool_cmp) (on (λ o. o.again) bool_cmp)))))
 
 -- Disputed places go by reason, then place, then source.
 abbrev pub disputed_place_cmp : DisputedPlace → DisputedPlace → Ordering
@@ -111,9 +168,9 @@ pub record PlanParts : Type 0 where
   pub end : Option ℕ
 
 -- The plan of a file.
-unfoldable pub plan_of : List NoteParts → PlanParts
-plan_of notes = record {
-  orders = union order_cmp [] (found_orders notes);
+unfoldable pub plan_of : AtHandParts → List NoteParts → PlanParts
+plan_of at notes = record {
+  orders = union order_cmp [] (found_orders at notes);
   disputed_places = union disputed_place_cmp [] (found_disputed_places notes);
   end = end_of_file notes;
 }

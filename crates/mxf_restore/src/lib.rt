@@ -1,13 +1,15 @@
 //! What to restore next of a file of which parts are held: the plan, and the map (this project's profile).
 //!
-//! Both are functions of the content of a catalogue: what packs name and count, and which offsets no packet covers.
+//! Both are functions of the content of a catalogue, what packs name and count, and which offsets no packet covers; and of
+//! the bytes at hand: what is there in sources, and in no noted packet, isn't ordered, and has a mark of its own.
 //!
 //! What is held, where the file ends and what packs claim of offsets is asked of mxf_places.
 //!
 //! What is proved: [`Plan::of`] and [`Map::of`] answer these functions. Laws (`.._by_definition`) say what they are made
-//! of, beside those of mxf_places: the holes and their pieces, the orders and disputed places. Each byte that is missing below the
-//! end lies in an order ([`gaps_are_ordered`]), no two orders begin at one offset ([`starts_are_apart`]), and each cell
-//! of a map has one mark ([`one_mark`]).
+//! of, beside those of mxf_places: the holes and their sections, the orders and disputed places. Each
+//! byte that is missing below the end is at hand or lies in an order ([`gaps_are_ordered`]), no two orders begin at one
+//! offset ([`starts_are_apart`]), where nothing is at hand all is ordered that is asked for
+//! ([`orders_where_nothing_is_at_hand`]), and each cell of a map has one mark ([`one_mark`]).
 //!
 //! That no order is left in the end, where what was ordered is handed in again and again, is tested.
 //!
@@ -15,7 +17,7 @@
 //!
 //! ```
 //! let gathered = gather(alloc, parts)?;
-//! let plan = Plan::of(alloc, &gathered.views)?;
+//! let plan = Plan::of(alloc, &gathered.views, &AtHand::nothing(alloc))?;
 //! for order in plan.orders() {
 //!     println!(rt; "{} from {}", order.reason, order.start)?;
 //! }
@@ -27,12 +29,12 @@ mod first;
 mod head;
 mod map;
 mod order;
-mod piece;
 mod plan;
+mod section;
 
 pub use map::{Map, Mark, one_map, one_mark};
-pub use piece::{holes_by_definition, pieces_by_definition};
 pub use plan::{
     DisputedPlace, Order, Plan, disputed_places_by_definition, gaps_are_ordered,
-    orders_by_definition, starts_are_apart,
+    orders_by_definition, orders_where_nothing_is_at_hand, starts_are_apart,
 };
+pub use section::{holes_by_definition, sections_by_definition};

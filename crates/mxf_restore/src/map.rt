@@ -3,19 +3,21 @@ ghost use Rattle.std.specs.Prelude.{◌≡◌, ◌≤◌, ℕ, IfOk, List, lengt
 ghost use Rattle.mxf_klv.specs.Parts.{NoteParts};
 ghost use Rattle.mxf_catalogue.specs.Covers.{IsCover};
 ghost use Rattle.mxf_catalogue.specs.Disputes.{disputed_notes};
+ghost use Rattle.mxf_places.specs.AtHand.{KnownParts};
 ghost use Rattle.mxf_places.specs.Held.{bytes_of};
-ghost use Rattle.mxf_restore.specs.Map.{AreMarks, IsMap, IsMark, MapParts, cell_size, gaps_below, held_below, map_end};
+ghost use Rattle.mxf_restore.specs.Map.{AreMarks, IsMap, IsMark, MapParts, cell_size, gaps_below, held_below};
+ghost use Rattle.mxf_restore.specs.Map.{map_end};
 ghost use Rattle.mxf_restore.specs.declared.map.Mark.{Mark};
 
 mod layers;
 mod missing;
 mod offsets;
 
-use crate::piece::holes;
+use crate::section::holes;
 use layers::Layers;
 use mxf_catalogue::{Catalogue, Cover};
 use mxf_klv::OutOfMemory;
-use mxf_places::Holdings;
+use mxf_places::{AtHand, Holdings};
 use mxf_views::Views;
 use std::alloc::Global;
 use std::marker::Model;
@@ -35,6 +37,8 @@ pub enum Mark {
     RandomIndex,
     /// A place that a pack names and that isn't held lies in it.
     Missing,
+    /// None of it is held, and a byte of it is at hand.
+    Hand,
     /// None of it is held.
     Empty,
     /// Some of it is held.
@@ -47,7 +51,7 @@ pub enum Mark {
     Whole,
 }
 
-/// What is held of a file, as a picture of cells (this project's profile).
+/// What is held of a file, and what is at hand beside it, as a picture of cells (this project's profile).
 ///
 /// The map goes as far as the file is known to, and beyond each place that a pack names and that is missing. It is cut
 /// into cells of one size, the last of which may be shorter.
@@ -80,37 +84,38 @@ impl Model for Map {
 }
 
 impl Map {
-    /// The map of the file of the views, of so many cells at most, of which there is one at least.
+    /// The map of the file of the views, where some of its bytes are at hand beside what is held, of so many cells at
+    /// most, of which there is one at least.
     ///
     /// The only fault is out of memory.
-    pub fn of(alloc: Global, views: &Views, cells: u64) -> Result<Map, OutOfMemory>
+    pub fn of(
+        alloc: Global,
+        views: &Views,
+        at_hand: &AtHand,
+        cells: u64,
+    ) -> Result<Map, OutOfMemory>
         requires { 1 ≤ cells }
-        ensures { IfOk result (λ m. IsMap views.now cells m) }
+        ensures { IfOk result (λ m. IsMap (record { notes = views.now; at = at_hand.now }) cells m) }
     {
-        let layers = Layers::of(alloc, Holdings::of(alloc, views)?)?;
-        Map::of_layers(alloc, views, &layers, cells)
+        let layers = Layers::of(alloc, Holdings::of(alloc, views)?, at_hand)?;
+        Map::of_layers(alloc, &layers, cells)
     }
 
     /// The same by what may lie in a cell.
-    fn of_layers(
-        alloc: Global,
-        views: &Views,
-        layers: &Layers<'_>,
-        cells: u64,
-    ) -> Result<Map, OutOfMemory>
-        requires cells { 1 ≤ cells }
-        requires layers { layers.now ≡ views.now }
-        ensures { IfOk result (λ m. IsMap views.now cells m) }
+    fn of_layers(alloc: Global, layers: &Layers<'_>, cells: u64) -> Result<Map, OutOfMemory>
+        requires { 1 ≤ cells }
+        ensures { IfOk result (λ m. IsMap layers.now cells m) }
     {
+        let holdings = layers.holdings();
         let end = layers.end();
         let cell = cell_size(end, cells);
-        let gaps = gaps_below(alloc, layers.holdings(), end)?;
+        let gaps = gaps_below(alloc, holdings, end)?;
         let marks = marks(alloc, layers, cell, end)?;
         Ok(Map {
             end,
-            held: held_bytes(views.catalogue()),
+            held: held_bytes(layers),
             gaps,
-            disputed: disputed(views.catalogue()),
+            disputed: disputed(holdings.views().catalogue()),
             cell,
             marks,
         })
@@ -187,10 +192,10 @@ fn marks(alloc: Global, layers: &Layers<'_>, size: u64, end: u64) -> Result<Vec<
 }
 
 /// How many bytes are held: all of them lie below the end of the map.
-fn held_bytes(catalogue: &Catalogue) -> u64
-    ensures { result ≡ held_below catalogue.now (map_end catalogue.now) }
+fn held_bytes(layers: &Layers<'_>) -> u64
+    ensures { result ≡ held_below layers.now.notes (map_end layers.now) }
 {
-    bytes_of(catalogue.spans())
+    bytes_of(layers.holdings().views().catalogue().spans())
 }
 
 /// How many offsets lie in the set.
@@ -222,13 +227,13 @@ fn gaps_below(alloc: Global, holdings: &Holdings<'_>, end: u64) -> Result<u64, O
 
 /// A law of [`Map::marks`]: for each cell exactly one mark fits.
 pub fn one_mark()
-    ensures some { (notes : List NoteParts) (from to : ℕ) → (m : Mark) × IsMark notes from to m }
-    ensures one { (notes : List NoteParts) (from to : ℕ) (a b : Mark)
-        → IsMark notes from to a → IsMark notes from to b → a ≡ b }
+    ensures some { (known : KnownParts) (from to : ℕ) → (m : Mark) × IsMark known from to m }
+    ensures one { (known : KnownParts) (from to : ℕ) (a b : Mark)
+        → IsMark known from to a → IsMark known from to b → a ≡ b }
 {}
 
 /// A law of [`Map::of`]: of a content two maps of as many cells are one.
 pub fn one_map()
-    ensures { (notes : List NoteParts) (cells : ℕ) (m n : MapParts)
-        → IsMap notes cells m → IsMap notes cells n → m ≡ n }
+    ensures { (known : KnownParts) (cells : ℕ) (m n : MapParts)
+        → IsMap known cells m → IsMap known cells n → m ≡ n }
 {}

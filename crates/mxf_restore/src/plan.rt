@@ -1,27 +1,30 @@
 //! What to restore next.
-ghost use Rattle.std.specs.Prelude.{◌≡◌, ◌↔◌, ◌<◌, ◌==◌, ℕ, [], List, Some, find, IfOk};
+ghost use Rattle.std.specs.Prelude.{◌≡◌, ◌↔◌, ◌⊎◌, ◌<◌, ◌==◌, ℕ, [], List, Some, find, IfOk};
 ghost use Rattle.std.specs.List.{filter_map};
 ghost use Rattle.mxf_klv.specs.Parts.{NoteParts};
 ghost use Rattle.mxf_klv.specs.Rising.{In, IsRising, union};
 ghost use Rattle.mxf_catalogue.specs.Content.{IsContent};
+ghost use Rattle.mxf_catalogue.specs.Covers.{IsCover};
+ghost use Rattle.mxf_catalogue.specs.Runs.{LiesIn};
 ghost use Rattle.mxf_views.specs.Gaps.{IsGap};
-ghost use Rattle.mxf_places.specs.Held.{edge_of};
+ghost use Rattle.mxf_places.specs.AtHand.{AtHandParts, edge_of, nothing_at_hand};
 ghost use Rattle.mxf_places.specs.Claims.{claims_of};
-ghost use Rattle.mxf_restore.specs.Pieces.{pieces_of};
-ghost use Rattle.mxf_restore.specs.Plan.{LiesInOrder, disputed_place_cmp, disputed_place_of, order_cmp, order_of, plan_of};
-ghost use Rattle.mxf_restore.specs.declared.piece.Piece.{Piece};
+ghost use Rattle.mxf_restore.specs.Sections.{sections_of};
+ghost use Rattle.std.specs.Option.{option_to_list};
+ghost use Rattle.mxf_restore.specs.Plan.{LiesInOrder, asked_of, disputed_place_cmp, disputed_place_of, order_cmp, orders_of, plan_of};
+ghost use Rattle.mxf_restore.specs.declared.section.Section.{Section};
 ghost use Rattle.mxf_restore.specs.declared.plan.DisputedPlace.{DisputedPlace};
 ghost use Rattle.mxf_restore.specs.declared.plan.Order.{Order};
 
 use crate::disputed_place::found_disputed_places;
 use crate::order::found_orders;
 use mxf_klv::{OutOfMemory, sort_once};
-use mxf_places::{Claim, Holdings, Reason, claims};
+use mxf_places::{AtHand, Claim, Holdings, Reason, claims};
 use mxf_views::Views;
 use std::alloc::Global;
 use std::marker::Model;
 
-/// Bytes to restore: a packet begins at `start`, as far as what is held says.
+/// Bytes to restore: a packet begins at `start`, as far as what is held says, unless they lie inside of one.
 #[derive(Clone, Copy, Debug, PartialEq, Eq, PartialOrd, Ord)]
 pub struct Order {
     pub reason: Reason,
@@ -31,6 +34,10 @@ pub struct Order {
     pub end: Option<u64>,
     /// The file offset of the pack that says so; none where no pack does.
     pub source: Option<u64>,
+    /// No packet begins at `start`: the bytes before it are at hand.
+    pub inside: bool,
+    /// The bytes were handed in already, and don't do.
+    pub again: bool,
 }
 
 /// A place that matters and is held in two readings.
@@ -63,22 +70,28 @@ impl Model for Plan {
 }
 
 impl Plan {
-    /// What to restore next of the file of the views. It takes memory: n log n of the notes, as its time does.
-    pub fn of(alloc: Global, views: &Views) -> Result<Plan, OutOfMemory>
-        ensures { IfOk result (λ p. p ≡ plan_of views.now) }
+    /// What to restore next of the file of the views, where some of its bytes are at hand beside what is held. It takes
+    /// memory: n log n of the notes and of the runs at hand, as its time does.
+    pub fn of(alloc: Global, views: &Views, at_hand: &AtHand) -> Result<Plan, OutOfMemory>
+        ensures { IfOk result (λ p. p ≡ plan_of at_hand.now views.now) }
     {
         let holdings = Holdings::of(alloc, views)?;
         let claims = claims(alloc, &holdings)?;
-        Plan::by(alloc, &holdings, &claims)
+        Plan::by(alloc, &holdings, at_hand, &claims)
     }
 
-    /// The plan of what is held and claimed.
+    /// The plan of what is held, at hand and claimed.
     #[tactic(auto, unfolding(crate::specs::Plan::plan_of))]
-    fn by(alloc: Global, holdings: &Holdings<'_>, claims: &[Claim]) -> Result<Plan, OutOfMemory>
+    fn by(
+        alloc: Global,
+        holdings: &Holdings<'_>,
+        at_hand: &AtHand,
+        claims: &[Claim],
+    ) -> Result<Plan, OutOfMemory>
         requires { claims.now ≡ claims_of holdings.now }
-        ensures { IfOk result (λ p. p ≡ plan_of holdings.now) }
+        ensures { IfOk result (λ p. p ≡ plan_of at_hand.now holdings.now) }
     {
-        let orders = in_order(found_orders(alloc, holdings, claims)?);
+        let orders = in_order(found_orders(alloc, holdings, at_hand, claims)?);
         let disputed_places = disputed_places_in_order(found_disputed_places(
             alloc, holdings, claims,
         )?);
@@ -128,32 +141,41 @@ fn disputed_places_in_order(mut disputed_places: Vec<DisputedPlace>) -> Vec<Disp
     disputed_places
 }
 
-/// A law of [`Plan::orders`]: they are what is ordered of the pieces of the file, and rise by reason, start, end and
+/// A law of [`Plan::orders`]: they are what is ordered of the sections of the file, and rise by reason, start, end and
 /// source.
 pub fn orders_by_definition()
-    ensures members { (notes : List NoteParts) (o : Order)
-        → In o (plan_of notes).orders ↔ ((p : Piece) × In p (pieces_of notes) × (order_of notes p ≡ Some o)) }
-    ensures rising { (notes : List NoteParts) → IsRising order_cmp (plan_of notes).orders }
+    ensures members { (at : AtHandParts) (notes : List NoteParts) (o : Order)
+        → In o (plan_of at notes).orders
+        ↔ ((p : Section) × In p (sections_of notes) × In o (orders_of at notes p)) }
+    ensures rising { (at : AtHandParts) (notes : List NoteParts) → IsRising order_cmp (plan_of at notes).orders }
 {}
 
 /// A law of [`Plan::orders`]: no two of them have one start.
 pub fn starts_are_apart()
-    ensures { (notes : List NoteParts) (o r : Order) → IsContent notes → In o (plan_of notes).orders
-        → In r (plan_of notes).orders → o.start ≡ r.start → o ≡ r }
+    ensures { (at : AtHandParts) (notes : List NoteParts) (o r : Order) → IsContent notes → IsCover at.hand
+        → In o (plan_of at notes).orders → In r (plan_of at notes).orders → o.start ≡ r.start → o ≡ r }
 {}
 
-/// A law of [`Plan::disputed_places`]: they are the first disputed place of each place, in the order of the claims, and rise by reason,
-/// place and source.
+/// A law of [`Plan::disputed_places`]: they are the first disputed place of each place, in the order of the claims, and
+/// rise by reason, place and source.
 pub fn disputed_places_by_definition()
-    ensures members { (notes : List NoteParts) (d : DisputedPlace)
-        → In d (plan_of notes).disputed_places
+    ensures members { (at : AtHandParts) (notes : List NoteParts) (d : DisputedPlace)
+        → In d (plan_of at notes).disputed_places
         ↔ (find (λ e. e.place == d.place) (filter_map (disputed_place_of notes) (claims_of notes)) ≡ Some d) }
-    ensures rising { (notes : List NoteParts) → IsRising disputed_place_cmp (plan_of notes).disputed_places }
+    ensures rising { (at : AtHandParts) (notes : List NoteParts)
+        → IsRising disputed_place_cmp (plan_of at notes).disputed_places }
 {}
 
 /// A law of [`Plan::orders`]: each byte of a gap that lies below the end of the file, or below the greatest end where
-/// that isn't known, lies in an order.
+/// that isn't known, is at hand or lies in an order.
 pub fn gaps_are_ordered()
-    ensures { (notes : List NoteParts) (x : ℕ) → IsContent notes → IsGap notes x → x < edge_of notes
-        → (o : Order) × In o (plan_of notes).orders × LiesInOrder o x }
+    ensures { (at : AtHandParts) (notes : List NoteParts) (x : ℕ) → IsContent notes → IsGap notes x
+        → x < edge_of at notes
+        → LiesIn at.hand x ⊎ ((o : Order) × In o (plan_of at notes).orders × LiesInOrder o x) }
+{}
+
+/// A law of [`Plan::orders`]: where no byte is at hand, each is all that is asked for of its section.
+pub fn orders_where_nothing_is_at_hand()
+    ensures { (notes : List NoteParts) (p : Section) → IsContent notes → In p (sections_of notes)
+        → orders_of nothing_at_hand notes p ≡ option_to_list (asked_of nothing_at_hand notes p) }
 {}

@@ -2,12 +2,14 @@
 ghost use Rattle.std.specs.Prelude.{◌≡◌, ◌+◌, ◌-◌, ◌*◌, ◌/◌, ◌^◌, ◌<◌, ◌≤◌, ◌∷◌, ℕ, Some, decimal, flat_map, length};
 ghost use Rattle.std.specs.Prelude.{IfNone, IfOk, IfSome, ◌⊎◌};
 ghost use Rattle.mxf_klv.specs.Written.{Writes};
+ghost use Rattle.mxf_places.specs.AtHand.{without_hand};
 ghost use Rattle.mxf_restore.specs.Map.{IsMap, MapParts};
 ghost use Rattle.mxf_lines.specs.MapLines.{map_line, map_lines, mark_text, row_line, row_width, rows_of, share_text};
 ghost use Rattle.mxf_lines.specs.Printing.{Prints};
 
 use super::lines::{Each, FieldWriter, Line, Lines, Printer, Series, Then};
 use super::{AnswerFault, Form};
+use mxf_places::AtHand;
 use mxf_restore::{Map, Mark};
 use mxf_views::Views;
 use std::alloc::{AllocError, Global};
@@ -25,6 +27,7 @@ fn mark_text(mark: Mark) -> &'static str
         Mark::Body => "B",
         Mark::RandomIndex => "R",
         Mark::Missing => "o",
+        Mark::Hand => "~",
         Mark::Empty => ".",
         Mark::Part => "+",
         Mark::Metadata => "m",
@@ -104,11 +107,12 @@ pub fn print_map<W: Write>(
     form: Form,
     writer: &mut W,
 ) -> Result<(), AnswerFault>
-    ensures lines { (m : MapParts) → IsMap views.now (grid.columns * grid.rows) m
+    ensures lines { (m : MapParts) → IsMap (without_hand views.now) (grid.columns * grid.rows) m
         → Prints form (Writes (W.contents writer.old) (W.contents writer.new)) result (map_lines grid.columns m) }
-    ensures some { IfOk result (λ _. (m : MapParts) × IsMap views.now (grid.columns * grid.rows) m) }
+    ensures some { IfOk result (λ _. (m : MapParts) × IsMap (without_hand views.now) (grid.columns * grid.rows) m) }
 {
-    let map = Map::of(alloc, views, u64::from(grid.columns) * u64::from(grid.rows))?;
+    let cells = u64::from(grid.columns) * u64::from(grid.rows);
+    let map = Map::of(alloc, views, &AtHand::nothing(alloc), cells)?;
     print_picture(alloc, &map, grid.columns, form, writer)
 }
 

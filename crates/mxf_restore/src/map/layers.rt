@@ -8,19 +8,20 @@ use super::missing::missing;
 use super::offsets::{partitions, random_index, zone};
 use mxf_catalogue::Cover;
 use mxf_klv::OutOfMemory;
-use mxf_places::{Holdings, Zone};
+use mxf_places::{AtHand, Holdings, Zone};
 use mxf_sets::PackPart;
 use std::alloc::Global;
 use std::marker::Model;
 
 /// The marks but the last, the first to be tested first.
-const MARKS: [Mark; 10] = [
+const MARKS: [Mark; 11] = [
     Mark::Disputed,
     Mark::Header,
     Mark::Footer,
     Mark::Body,
     Mark::RandomIndex,
     Mark::Missing,
+    Mark::Hand,
     Mark::Empty,
     Mark::Part,
     Mark::Metadata,
@@ -31,6 +32,7 @@ const MARKS: [Mark; 10] = [
 #[derive(Drop)]
 pub(super) struct Layers<'a> {
     holdings: Holdings<'a>,
+    at_hand: &'a AtHand,
     headers: Cover,
     footers: Cover,
     bodies: Cover,
@@ -41,22 +43,25 @@ pub(super) struct Layers<'a> {
 }
 
 impl<'a> Model for Layers<'a> {
-    ghost use Rattle.std.specs.Prelude.{List};
-    ghost use Rattle.mxf_klv.specs.Parts.{NoteParts};
+    ghost use Rattle.mxf_places.specs.AtHand.{KnownParts};
     ghost use Rattle.mxf_restore.specs.Layers.{AreLayers};
 
-    ghost Value = { List NoteParts };
+    ghost Value = { KnownParts };
 
-    ghost view = { λ l. l.holdings };
+    ghost view = { λ l. record { notes = l.holdings; at = l.at_hand.now } };
 
     ghost invariant = { λ l. AreLayers l.holdings l.headers l.footers l.bodies l.random_index l.missing l.metadata
         l.index };
 }
 
 impl<'a> Layers<'a> {
-    /// What may lie in a cell of a map of what is held. It takes memory.
-    pub fn of(alloc: Global, holdings: Holdings<'a>) -> Result<Layers<'a>, OutOfMemory>
-        ensures { IfOk result (λ l. l ≡ holdings.entry) }
+    /// What may lie in a cell of a map of what is held and at hand. It takes memory.
+    pub fn of(
+        alloc: Global,
+        holdings: Holdings<'a>,
+        at_hand: &'a AtHand,
+    ) -> Result<Layers<'a>, OutOfMemory>
+        ensures { IfOk result (λ l. l ≡ record { notes = holdings.entry; at = at_hand.now }) }
     {
         let views = holdings.views();
         let headers = partitions(alloc, views, PackPart::Header)?;
@@ -68,6 +73,7 @@ impl<'a> Layers<'a> {
         let index = zone(alloc, views.catalogue(), Zone::Index)?;
         Ok(Layers {
             holdings,
+            at_hand,
             headers,
             footers,
             bodies,
@@ -80,7 +86,7 @@ impl<'a> Layers<'a> {
 
     /// What is held.
     pub fn holdings(&self) -> &Holdings<'a>
-        ensures { result.now ≡ self.now }
+        ensures { result.now ≡ self.now.notes }
     {
         &self.holdings
     }
@@ -90,7 +96,10 @@ impl<'a> Layers<'a> {
         ensures end { result ≡ map_end self.now }
         ensures some { 1 ≤ result }
     {
-        self.holdings.edge().max(self.missing.end()).max(1)
+        self.holdings
+            .edge(self.at_hand)
+            .max(self.missing.end())
+            .max(1)
     }
 
     /// The mark of the cell from `from` up to `to`, in bytes, the end excluded: a few binary searches.
@@ -124,6 +133,9 @@ impl<'a> Layers<'a> {
             Mark::Body => self.bodies.meets(from, to),
             Mark::RandomIndex => self.random_index.meets(from, to),
             Mark::Missing => self.missing.meets(from, to),
+            Mark::Hand => {
+                !self.holdings.is_any_held(from, to) && self.at_hand.hand().meets(from, to)
+            }
             Mark::Empty => !self.holdings.is_any_held(from, to),
             Mark::Part => !self.holdings.are_all_held(from, to),
             Mark::Metadata => self.metadata.meets(from, to),

@@ -1,14 +1,17 @@
-use Rattle.std.proofs.Common.{ap, ◌∙◌, ◌≤◌, unwrap_or}
-use Rattle.mxf_klv.specs.Parts.{NoteParts}
-use Rattle.mxf_klv.specs.Rising.{In}
-use Rattle.mxf_klv.specs.Note.{end_of}
-use Rattle.mxf_places.specs.Held.{edge_of, top_of}
-use Rattle.mxf_places.proofs.HeldLaws.{same_bounds, top_of-bound}
+use Rattle.std.proofs.Common.{◌∙◌, ◌<◌, ℕ, ap, max, subst, sym, unwrap_or}
+use Rattle.mxf_catalogue.specs.Covers.{IsCover}
+use Rattle.mxf_catalogue.specs.Runs.{LiesIn}
+use Rattle.mxf_places.specs.AtHand.{runs_end}
+use Rattle.mxf_places.specs.Held.{end_of_file, top_of}
+use Rattle.mxf_places.proofs.AtHandLaws.{runs_end-bound}
+use Rattle.mxf_places.proofs.HeldLaws.{same_bounds}
 use Rattle.mxf_places.proofs.held.Holdings.edge.Goals as goal
 
 pub returns : goal.returns
 returns c =
-    let notes = c.catalogue.result.now in
-    let top = same_bounds c.end.result (top_of notes) (λ bound. (n : NoteParts) → In n notes → end_of n ≤ bound)
-    c.end.ensures (top_of-bound notes) ∙ ap top_of c.catalogue.ensures in
-    c.unwrap_or.ensures ∙ (λ i. unwrap_or (c.self.invariant.1 i) (top i)) ∙ ap edge_of c.self.view_is
+    let runs = c.given.result.now in
+    let cover = subst IsCover (sym c.given.ensures.given) c.given.ensures.cover in
+    let end = same_bounds c.end.result (runs_end runs) (λ bound. (x : ℕ) → LiesIn runs x → x < bound) c.end.ensures
+    (runs_end-bound 0 runs cover.maximal) ∙ ap runs_end c.given.ensures.given in
+    let known = c.max-known.ensures ∙ λ i. max (c.greatest_end.ensures i) (end i) in
+    c.unwrap_or.ensures ∙ λ i. unwrap_or ((c.self.invariant.1 ∙ ap end_of_file c.self.view_is) i) (known i)

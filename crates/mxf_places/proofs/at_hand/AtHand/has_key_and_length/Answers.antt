@@ -1,0 +1,31 @@
+use Rattle.std.proofs.Common.{◌∙◌, ◌+◌, ◌≤◌, ap, arith, sym}
+use Rattle.std.proofs.lemmas.Bool.{false_from_ne_true}
+use Rattle.mxf_klv.specs.Note.{greatest_end}
+use Rattle.mxf_klv.proofs.Lists.{all-In}
+use Rattle.mxf_klv.proofs.Tests.{same_bool}
+use Rattle.mxf_catalogue.specs.declared.run.Run.{Run}
+use Rattle.mxf_places.specs.AtHand.{AtHandParts, has_offsets}
+use Rattle.mxf_places.proofs.AtHandLaws.{has_offsets-says}
+use Rattle.mxf_places.proofs.at_hand.AtHand.has_key_and_length.Goals as goal
+
+pub returns-in-Some : goal.returns-in-Some
+returns-in-Some c =
+    let runs = c.self.inside.hand in
+    let start = c.args.start in
+    let end = c.in-Some.ensures.1 in
+    let says = has_offsets-says runs start c.in-Some.end c.self.invariant.1 in
+    same_bool c.has_all.result (has_offsets runs start c.in-Some.end) (λ t. says.1 (c.has_all.ensures.0 t))
+    (λ t. c.has_all.ensures.1 (says.0 t)) ∙ ap (has_offsets runs start) end
+    ∙ ap (λ (a : AtHandParts). has_offsets a.hand start (start + 25)) c.self.view_is
+
+pub returns-in-None : goal.returns-in-None
+returns-in-None c =
+    let runs = c.self.inside.hand in
+    let start = c.args.start in
+    let says = has_offsets-says runs start (start + 25) c.self.invariant.1 in
+    sym (false_from_ne_true (has_offsets runs start (start + 25)) (λ t.
+    let at = says.0 t start (omega arith) (omega arith) in
+    let within : at.0.end ≤ greatest_end =
+    all-In (λ (r : Run). r.end ≤ greatest_end) runs at.0 c.self.invariant.1.within at.1 in
+    let before : start + 1 ≤ at.0.end = at.2.before in c.in-None.ensures (omega (arith, within, before))))
+    ∙ ap (λ (a : AtHandParts). has_offsets a.hand start (start + 25)) c.self.view_is

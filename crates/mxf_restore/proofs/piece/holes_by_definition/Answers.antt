@@ -1,5 +1,0 @@
-use Rattle.mxf_restore.proofs.HoleLaws.{holes_are}
-use Rattle.mxf_restore.proofs.piece.holes_by_definition.Goals as goal
-
-pub returns : goal.returns
-returns c notes h content = holes_are notes content h
