@@ -36,19 +36,10 @@ one_split : (a b x y : List ℕ) → all_ascii_digits a ≡ true → all_ascii_d
 one_split [] [] x y h k e = (refl, (heads 58 58 x y e).1)
 one_split [] (d ∷ ds) x y h k e = absurd (not_digit d ds ((heads 58 d x (ds ++ 58 ∷ y) e).0) k)
 one_split (c ∷ cs) [] x y h k e = absurd (not_digit c cs (sym ((heads c 58 (cs ++ 58 ∷ x) y e).0)) h)
-one_split (c ∷ cs) (d ∷ ds) x y h k e =
-    let p = heads c d (cs ++ 58 ∷ x) (ds ++ 58 ∷ y) e in
-    let first : c ≡ d = p.0 in
-    let digits = (and_parts (is_ascii_digit c) (all_ascii_digits cs) h).1 in
-    let others = (and_parts (is_ascii_digit d) (all_ascii_digits ds) k).1 in
-    let again = one_split cs ds x y digits others p.1 in
-    let left : cs ≡ ds = again.0 in
-    (cc, again.1)
+one_split (c ∷ cs) (d ∷ ds) x y h k e = grind (arith, and_parts, heads, one_split cs ds x y)
 
 same_split : (rest a b x y : List ℕ) (m n : ℕ) → SplitsSource rest a x m → SplitsSource rest b y n → (m ≡ n) × (x ≡ y)
-same_split rest a b x y m n s t =
-    let one = one_split a b x y s.place.digits t.place.digits (sym s.whole ∙ t.whole) in
-    (s.place.value ∙ ap (decimal_from 0) one.0 ∙ sym t.place.value, one.1)
+same_split rest a b x y m n s t = grind (arith, one_split)
 
 abbrev Read : Type 0
 Read = Result SourceParts SourceFault
@@ -60,27 +51,17 @@ same_tail (c ∷ front) x y e = same_tail front x y (heads c c (front ++ x) (fro
 
 -- the schemes exclude each other
 at_range : (text r s : List ℕ) → text ≡ at_scheme ++ r → text ≡ range_scheme ++ s → ⊥
-at_range text r s e f =
-    omega (arith, (heads 97 114 (116 ∷ 58 ∷ r) (97 ∷ 110 ∷ 103 ∷ 101 ∷ 58 ∷ s) (sym e ∙ f)).0)
+at_range text r s e f = omega (arith, heads 97 114 (116 ∷ 58 ∷ r) (97 ∷ 110 ∷ 103 ∷ 101 ∷ 58 ∷ s) (sym e ∙ f))
 
 placed_cat : (text r x : List ℕ) → IsPlaced text r → text ≡ cat_scheme ++ x → ⊥
-placed_cat text r x (inl e) f = omega (arith, (heads 97 99 (116 ∷ 58 ∷ r) (97 ∷ 116 ∷ 58 ∷ x) (sym e ∙ f)).0)
-placed_cat text r x (inr e) f =
-    omega (arith, (heads 114 99 (97 ∷ 110 ∷ 103 ∷ 101 ∷ 58 ∷ r) (97 ∷ 116 ∷ 58 ∷ x) (sym e ∙ f)).0)
+placed_cat text r x h k = grind (arith, heads)
 
 same_placed : (text r s : List ℕ) → IsPlaced text r → IsPlaced text s → s ≡ r
-same_placed text r s (inl e) (inl f) = same_tail at_scheme s r (sym f ∙ e)
-same_placed text r s (inl e) (inr f) = absurd (at_range text r s e f)
-same_placed text r s (inr e) (inl f) = absurd (at_range text s r f e)
-same_placed text r s (inr e) (inr f) = same_tail range_scheme s r (sym f ∙ e)
+same_placed text r s h k = grind (arith, at_range, same_tail)
 
 -- what follows names one place, or has one of the faults
 one_place : (text : List ℕ) (p q : ℕ × List ℕ) → ReadsPlace text (Ok p) → ReadsPlace text (Ok q) → p ≡ q
-one_place text (m, x) (n, y) (p, (a, u)) (q, (b, v)) =
-    let both = same_split text a b x y m n u v in
-    let o : m ≡ n = both.0 in
-    let z : x ≡ y = both.1 in
-    (λ i. (o i, z i))
+one_place text (m, x) (n, y) (p, (a, u)) (q, (b, v)) = grind (arith, same_split text a b x y m n u v)
 
 place_or_fault : (text : List ℕ) (p : ℕ × List ℕ) (d : SourceFault) → ReadsPlace text (Ok p) → ReadsPlace text (Err d)
     → ⊥
@@ -94,9 +75,7 @@ place_or_fault text (m, x) NoPath (p, (a, u)) (b, n, v) =
 -- a fault of the place is one of the text
 pub placed_fault : (text rest : List ℕ) (d : SourceFault) → IsPlaced text rest → ReadsPlace rest (Err d)
     → ReadsSource text (Err d)
-placed_fault text rest NoScheme at p = absurd p
-placed_fault text rest BadOffset at p = (rest, at, p)
-placed_fault text rest NoPath at p = inr (rest, at, p)
+placed_fault text rest d h k = grind arith
 
 -- a source and a fault exclude each other
 placed_or_fault : (text r : List ℕ) (p : ℕ × List ℕ) (d : SourceFault) → IsPlaced text r → ReadsPlace r (Ok p)
@@ -114,10 +93,7 @@ one_or_fault text (Piece m x) d (r, e, u) q = placed_or_fault text r (m, x) d (i
 one_or_fault text (Range m x) d (r, e, u) q = placed_or_fault text r (m, x) d (inr e) u q
 one_or_fault text (Saved x) NoScheme p q = (q x).1 p.0
 one_or_fault text (Saved x) BadOffset p q = placed_cat text q.0 x q.1 p.0
-one_or_fault text (Saved x) NoPath p (inl q) =
-    let empty : length x ≡ 0 = ap length (same_tail cat_scheme x [] (sym p.0 ∙ q)) in
-    let some = p.1 in
-    omega arith
+one_or_fault text (Saved x) NoPath p (inl q) = grind (arith, same_tail)
 one_or_fault text (Saved x) NoPath p (inr (s, f, v)) = placed_cat text s x f p.0
 
 -- two places behind one scheme

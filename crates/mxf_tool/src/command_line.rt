@@ -18,33 +18,44 @@ pub struct Request<'m, 'a> {
 /// What is to be done.
 #[derive(Clone, Copy)]
 pub enum Task<'a> {
-    /// To print an answer.
-    Tell(Ask),
-    /// To print a map.
-    Picture(Grid),
-    /// To print where edit units lie, by the index of an IndexSID, or by the only one that is held.
+    /// To print what the sources hold together.
+    Tell(Told),
+    /// To print which source holds which note.
+    Sources,
+    /// To print how sources stand to a reference.
+    Verify(Verifying),
+    /// To save what the sources hold together.
+    Join(Saving<'a>),
+    /// To save what earlier sources hold together, renewed by the others.
+    Renew(Saving<'a>),
+}
+
+/// What is printed of what the sources hold together.
+#[derive(Clone, Copy)]
+pub enum Told {
+    /// An answer.
+    Answer(Ask),
+    /// A map.
+    Map(Grid),
+    /// Where edit units lie, by the index of an IndexSID, or by the only one that is held.
     Units {
         index: Option<u32>,
         units: AskedUnits,
     },
-    /// To print which source holds which note.
-    Sources,
-    /// To print how sources stand to a reference, and whether all is verified that is asked for.
-    Verify {
-        is_whole: bool,
-        units: Option<IndexedUnits>,
-    },
-    /// To write the catalogue to the file at `out`. A strict join ends with another status where a piece isn't noted
-    /// whole.
-    Join {
-        out: &'a str,
-        is_strict: bool,
-    },
-    /// To write the catalogue of earlier sources, renewed by the others, to the file at `out`; strict as a join is.
-    Renew {
-        out: &'a str,
-        is_strict: bool,
-    },
+}
+
+/// What is asked of a verification: whether all of the reference is to be verified, and which edit units are told.
+#[derive(Clone, Copy)]
+pub struct Verifying {
+    pub is_whole: bool,
+    pub units: Option<IndexedUnits>,
+}
+
+/// Where a catalogue is saved. A strict join or renewal ends with another status where a piece isn't noted whole.
+#[derive(Clone, Copy)]
+pub struct Saving<'a> {
+    pub out: &'a str,
+    pub is_strict: bool,
 }
 
 /// The edit units that words ask for.
@@ -448,36 +459,45 @@ fn form_of(inner: &ArgMatches<'_>) -> Form {
 /// What the matches of the command with this name are to do, with these edit units where it has any.
 fn task_of<'a>(name: &str, inner: &ArgMatches<'a>, units: AskedUnits) -> Option<Task<'a>> {
     match name {
-        "show" => Some(Task::Tell(Ask::Show)),
-        "check" => Some(Task::Tell(Ask::Check)),
-        "locate" => Some(Task::Tell(Ask::Locate {
+        "sources" => Some(Task::Sources),
+        "verify" => Some(Task::Verify(Verifying {
+            is_whole: inner.get_flag("whole"),
+            units: indexed(inner, units),
+        })),
+        "join" => Some(Task::Join(saving_of(inner)?)),
+        "renew" => Some(Task::Renew(saving_of(inner)?)),
+        _ => Some(Task::Tell(told_of(name, inner, units)?)),
+    }
+}
+
+/// What the matches of the command with this name are to tell, with these edit units where it has any.
+fn told_of(name: &str, inner: &ArgMatches<'_>, units: AskedUnits) -> Option<Told> {
+    match name {
+        "show" => Some(Told::Answer(Ask::Show)),
+        "check" => Some(Told::Answer(Ask::Check)),
+        "locate" => Some(Told::Answer(Ask::Locate {
             index: inner.get_one("index")?,
             unit: inner.get_one("unit")?,
         })),
-        "units" => Some(Task::Units {
+        "units" => Some(Told::Units {
             index: inner.get_one("index"),
             units,
         }),
-        "plan" => Some(Task::Tell(Ask::Plan)),
-        "map" => Some(Task::Picture(Grid::new(
+        "plan" => Some(Told::Answer(Ask::Plan)),
+        "map" => Some(Told::Map(Grid::new(
             inner.get_one("columns").unwrap_or(64),
             inner.get_one("rows").unwrap_or(16),
         )?)),
-        "sources" => Some(Task::Sources),
-        "verify" => Some(Task::Verify {
-            is_whole: inner.get_flag("whole"),
-            units: indexed(inner, units),
-        }),
-        "join" => Some(Task::Join {
-            out: inner.get_str("out")?,
-            is_strict: inner.get_flag("strict"),
-        }),
-        "renew" => Some(Task::Renew {
-            out: inner.get_str("out")?,
-            is_strict: inner.get_flag("strict"),
-        }),
         _ => None,
     }
+}
+
+/// Where the matches of a command save a catalogue.
+fn saving_of<'a>(inner: &ArgMatches<'a>) -> Option<Saving<'a>> {
+    Some(Saving {
+        out: inner.get_str("out")?,
+        is_strict: inner.get_flag("strict"),
+    })
 }
 
 /// The units by the index that matches name, where they name one.

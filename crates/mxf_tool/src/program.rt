@@ -12,7 +12,8 @@ mod verifying;
 
 use crate::arguments::unreadable_argument;
 use crate::command_line::{
-    AskedUnits, BadLastUnit, Request, Task, command, request_of, signed_number, units_of,
+    AskedUnits, BadLastUnit, Request, Saving, Task, Told, command, request_of, signed_number,
+    units_of,
 };
 use crate::exit::Exit;
 use crate::part::part_of;
@@ -32,7 +33,7 @@ use mxf_read::{GatherFault, Gathered, Part, PieceReport, gather};
 use mxf_units::index_sids;
 use mxf_verify::{Readings, Renewed};
 use mxf_views::Views;
-use renewing::{Renewal, print_renewal};
+use renewing::print_renewal;
 use sources::{read_list, sources_before, sources_of, unread};
 use std::alloc::Global;
 use std::fs::{self, File};
@@ -42,12 +43,22 @@ use std::{env, io};
 use stops::tell_stops;
 use telling::tell;
 use unit_range::range_of;
-use verifying::{Verifying, print_verified};
+use verifying::print_verified;
 
 /// All that a run takes of the system.
 pub trait System: Files<File = File> + Clock + Env + Input + Print + Eprint + AllocGlobal {}
 
 impl<R: Files<File = File> + Clock + Env + Input + Print + Eprint + AllocGlobal> System for R {}
+
+/// What each task is done with.
+#[derive(Clone, Copy)]
+pub struct Inputs<'s, 'a> {
+    pub screen: Screen,
+    pub form: Form,
+    /// The sources that are opened first: the earlier ones of a renewal, or those of a reference.
+    pub before: &'s [Source<'a>],
+    pub sources: &'s [Source<'a>],
+}
 
 /// Runs the program on the arguments that it was started with.
 pub fn run<R: System>(rt: &R, screen: Screen) -> Exit {
@@ -140,126 +151,80 @@ fn perform_with<R: System>(rt: &R, screen: Screen, request: &Request<'_, '_>, li
         Err(fault) => return tell(rt, screen, &fault),
     };
     let path = request.list.unwrap_or("");
-    match sources_of(rt.alloc(), request.words, path, list) {
-        Ok(sources) => perform_on(rt, screen, request, &before, &sources),
-        Err(fault) => tell(rt, screen, &fault),
-    }
-}
-
-/// Does what is asked for with these sources, and the earlier ones of a renewal or those of a reference, and tells a fault.
-fn perform_on<'a, R: System>(
-    rt: &R,
-    screen: Screen,
-    request: &Request<'_, 'a>,
-    before: &[Source<'a>],
-    sources: &[Source<'a>],
-) -> Exit {
-    let form = request.form;
-    let done = match request.task {
-        Task::Tell(ask) => print_told(rt, screen, ask, form, sources),
-        Task::Picture(grid) => print_picture(rt, screen, grid, form, sources),
-        Task::Units { index, units } => print_units(rt, screen, index, units, form, sources),
-        Task::Sources => print_beside(rt, screen, form, sources),
-        Task::Verify { is_whole, units } => {
-            let asked = Verifying {
-                is_whole,
-                units,
-                form,
-                reference: before,
-                sources,
-            };
-            print_verified(rt, screen, asked)
-        }
-        Task::Join { out, is_strict } => print_joined(rt, screen, out, is_strict, form, sources),
-        Task::Renew { out, is_strict } => {
-            let asked = Renewal {
-                out,
-                is_strict,
-                form,
-                earlier: before,
-                later: sources,
-            };
-            print_renewal(rt, screen, asked)
-        }
+    let sources = match sources_of(rt.alloc(), request.words, path, list) {
+        Ok(sources) => sources,
+        Err(fault) => return tell(rt, screen, &fault),
     };
-    match done {
+    let inputs = Inputs {
+        screen,
+        form: request.form,
+        before: &before,
+        sources: &sources,
+    };
+    match perform_on(rt, inputs, request.task) {
         Ok(exit) => exit,
         Err(fault) => tell(rt, screen, &fault),
     }
 }
 
-/// Prints the answer that is asked for of what the sources hold together.
+/// Does what is asked for.
+fn perform_on<'a, R: System>(
+    rt: &R,
+    inputs: Inputs<'_, 'a>,
+    task: Task<'a>,
+) -> Result<Exit, RunFault<'a>> {
+    match task {
+        Task::Tell(told) => print_told(rt, inputs, told),
+        Task::Sources => print_beside(rt, inputs),
+        Task::Verify(asked) => print_verified(rt, inputs, asked),
+        Task::Join(saving) => print_joined(rt, inputs, saving),
+        Task::Renew(saving) => print_renewal(rt, inputs, saving),
+    }
+}
+
+/// Prints what is asked for of what the sources hold together.
 fn print_told<'a, R: System>(
     rt: &R,
-    screen: Screen,
-    ask: Ask,
-    form: Form,
-    sources: &[Source<'a>],
+    inputs: Inputs<'_, 'a>,
+    asked: Told,
 ) -> Result<Exit, RunFault<'a>> {
-    let gathered = gather_sources(rt, screen, sources)?;
-    let printed = Printed::Answer(ask, &gathered);
-    let reports = gathered.reports.as_slice();
-    print_of(rt, screen, printed, form, sources, reports)
+    let gathered = gather_sources(rt, inputs)?;
+    print_gathered(rt, inputs, asked, &gathered)
 }
 
-/// Prints what was gathered of the sources, which made these reports.
-fn print_of<'a, R: System>(
+/// Prints what is asked for of what was gathered of the sources.
+fn print_gathered<'a, R: System>(
     rt: &R,
-    screen: Screen,
-    printed: Printed<'_, '_>,
-    form: Form,
-    sources: &[Source<'_>],
-    reports: &[PieceReport],
-) -> Result<Exit, RunFault<'a>> {
-    let exit = print_answer(rt, printed, form)?;
-    told(rt, screen, sources, reports, false, exit)
-}
-
-/// Prints the map of what the sources hold together.
-fn print_picture<'a, R: System>(
-    rt: &R,
-    screen: Screen,
-    grid: Grid,
-    form: Form,
-    sources: &[Source<'a>],
-) -> Result<Exit, RunFault<'a>> {
-    let gathered = gather_sources(rt, screen, sources)?;
-    let printed = Printed::Picture(grid, &gathered.views);
-    let reports = gathered.reports.as_slice();
-    print_of(rt, screen, printed, form, sources, reports)
-}
-
-/// Prints where edit units lie by what the sources hold together.
-fn print_units<'a, R: System>(
-    rt: &R,
-    screen: Screen,
-    index: Option<u32>,
-    units: AskedUnits,
-    form: Form,
-    sources: &[Source<'a>],
-) -> Result<Exit, RunFault<'a>> {
-    let gathered = gather_sources(rt, screen, sources)?;
-    print_units_of(rt, screen, index, units, form, sources, &gathered)
-}
-
-/// Prints where edit units lie by what was gathered of the sources.
-fn print_units_of<'a, R: System>(
-    rt: &R,
-    screen: Screen,
-    index: Option<u32>,
-    units: AskedUnits,
-    form: Form,
-    sources: &[Source<'_>],
+    inputs: Inputs<'_, 'a>,
+    asked: Told,
     gathered: &Gathered,
 ) -> Result<Exit, RunFault<'a>> {
+    let printed = match asked {
+        Told::Answer(ask) => Printed::Answer(ask, gathered),
+        Told::Map(grid) => Printed::Map(grid, &gathered.views),
+        Told::Units { index, units } => {
+            let ask = ask_of_units(rt.alloc(), &gathered.views, index, units)?;
+            Printed::Answer(ask, gathered)
+        }
+    };
+    let exit = print_answer(rt, printed, inputs.form)?;
+    let reports = gathered.reports.as_slice();
+    told(rt, inputs.screen, inputs.sources, reports, false, exit)
+}
+
+/// What asks where edit units lie, by the index of an IndexSID, or by the only one that is held.
+fn ask_of_units<'a>(
+    alloc: Global,
+    views: &Views,
+    index: Option<u32>,
+    units: AskedUnits,
+) -> Result<Ask, RunFault<'a>> {
     let index = match index {
         Some(index) => index,
-        None => only_index(rt.alloc(), &gathered.views)?,
+        None => only_index(alloc, views)?,
     };
-    let range = range_of(&gathered.views, index, units)?;
-    let printed = Printed::Answer(Ask::Units { index, range }, gathered);
-    let reports = gathered.reports.as_slice();
-    print_of(rt, screen, printed, form, sources, reports)
+    let range = range_of(views, index, units)?;
+    Ok(Ask::Units { index, range })
 }
 
 /// The IndexSID of the only index that is held.
@@ -279,41 +244,35 @@ fn only_index<'a>(alloc: Global, views: &Views) -> Result<u32, RunFault<'a>> {
 /// Writes the catalogue of what the sources hold together, and prints how many notes it has.
 fn print_joined<'a, R: System>(
     rt: &R,
-    screen: Screen,
-    out: &'a str,
-    is_strict: bool,
-    form: Form,
-    sources: &[Source<'a>],
+    inputs: Inputs<'_, 'a>,
+    saving: Saving<'a>,
 ) -> Result<Exit, RunFault<'a>> {
-    let gathered = join(rt, screen, out, sources)?;
-    print_saved(rt, screen, is_strict, form, sources, &gathered)
+    let gathered = join(rt, inputs, saving.out)?;
+    print_saved(rt, inputs, saving.is_strict, &gathered)
 }
 
 /// Prints how many notes the catalogue has that was saved of what was gathered of the sources.
 fn print_saved<'a, R: System>(
     rt: &R,
-    screen: Screen,
+    inputs: Inputs<'_, 'a>,
     is_strict: bool,
-    form: Form,
-    sources: &[Source<'_>],
     gathered: &Gathered,
 ) -> Result<Exit, RunFault<'a>> {
-    let exit = print_answer(rt, Printed::Answer(Ask::Join, gathered), form)?;
+    let exit = print_answer(rt, Printed::Answer(Ask::Join, gathered), inputs.form)?;
     let reports = gathered.reports.as_slice();
     let exit = exit.of_join(is_strict, reports);
-    told(rt, screen, sources, reports, true, exit)
+    told(rt, inputs.screen, inputs.sources, reports, true, exit)
 }
 
 /// Writes the catalogue of what the sources hold together. Its place is held before the first source is opened.
 fn join<'a, R: System>(
     rt: &R,
-    screen: Screen,
+    inputs: Inputs<'_, 'a>,
     out: &'a str,
-    sources: &[Source<'a>],
 ) -> Result<Gathered, RunFault<'a>> {
-    allow_output(rt, out, sources)?;
+    allow_output(rt, out, inputs.sources)?;
     match Reservation::take(rt, out) {
-        Ok(held) => join_at(rt, screen, out, held, sources),
+        Ok(held) => join_at(rt, inputs, out, held),
         Err(fault) => Err(unsaved(out, fault)),
     }
 }
@@ -334,12 +293,11 @@ fn allow_output<'a, R: System>(
 /// Writes the catalogue of what the sources hold together to a place that is held.
 fn join_at<'a, 'r, R: System>(
     rt: &'r R,
-    screen: Screen,
+    inputs: Inputs<'_, 'a>,
     out: &'a str,
     held: Reservation<'r, R>,
-    sources: &[Source<'a>],
 ) -> Result<Gathered, RunFault<'a>> {
-    let gathered = gather_sources(rt, screen, sources)?;
+    let gathered = gather_sources(rt, inputs)?;
     match held.save(rt, gathered.views.catalogue()) {
         Ok(()) => Ok(gathered),
         Err(fault) => Err(unsaved(out, fault)),
@@ -370,14 +328,10 @@ fn told<'a, R: System>(
 }
 
 /// What the sources hold together. All are opened before the first is read.
-fn gather_sources<'a, R: System>(
-    rt: &R,
-    screen: Screen,
-    sources: &[Source<'a>],
-) -> Result<Gathered, RunFault<'a>> {
+fn gather_sources<'a, R: System>(rt: &R, inputs: Inputs<'_, 'a>) -> Result<Gathered, RunFault<'a>> {
     let last = LastFault::new();
-    let parts = open_parts(rt, screen, sources, &last)?;
-    gather_parts(rt, parts, sources, &last)
+    let parts = open_parts(rt, inputs.screen, inputs.sources, &last)?;
+    gather_parts(rt, parts, inputs.sources, &last)
 }
 
 /// What the parts hold together, which were opened of the sources.
@@ -426,7 +380,7 @@ fn ungathered<'a>(fault: &GatherFault, sources: &[Source<'a>], last: &LastFault)
 #[derive(Clone, Copy)]
 enum Printed<'g, 'n> {
     Answer(Ask, &'g Gathered),
-    Picture(Grid, &'g Views),
+    Map(Grid, &'g Views),
     Renewed(&'g Renewed<'n>),
     /// What sources hold, each by itself, and the words that name them.
     Beside(&'g Readings<'n>, &'g [String]),
@@ -443,7 +397,7 @@ fn print_lines<W: Write>(
 ) -> Result<u8, AnswerFault> {
     match printed {
         Printed::Answer(ask, gathered) => answer(alloc, &ask, form, gathered, writer),
-        Printed::Picture(grid, views) => {
+        Printed::Map(grid, views) => {
             print_map(alloc, views, grid, form, writer)?;
             Ok(0)
         }

@@ -1,5 +1,5 @@
 //! Bytes as hexadecimal text.
-ghost use Rattle.std.specs.Prelude.{◌≡◌, ◌++◌, IfOk, Some, string_bytes};
+ghost use Rattle.std.specs.Prelude.{◌≡◌, ◌*◌, IfOk, Some, length, string_bytes};
 ghost use Rattle.std.specs.Option.{ForSome};
 ghost use Rattle.mxf_lines.specs.Hexadecimal.{hex_of};
 
@@ -48,24 +48,24 @@ impl LabelText {
     {
         self.label = None;
         self.digits.clear();
-        append_digits(&mut self.digits, label)?;
+        self.digits.push_str(digits_in(&mut [0u8; 32], label))?;
         self.label = Some(*label);
         Ok(())
     }
 }
 
-/// Appends two lower-case hexadecimal digits for each byte of a label.
-fn append_digits(line: &mut String, label: &[u8; 16]) -> Result<(), AllocError>
-    ensures { IfOk result (λ _. string_bytes line.new ≡ string_bytes line.old ++ hex_of label.now) }
+/// Two lower-case hexadecimal digits for each byte, written into a place that has room for just these.
+fn digits_in<'p>(place: &'p mut [u8], bytes: &[u8]) -> &'p str
+    requires { length place.now ≡ 2 * length bytes.now }
+    ensures { result.now ≡ hex_of bytes.now }
 {
-    let mut digits = [0u8; 32];
-    let Ok(()) = hex::encode_to_slice(label, &mut digits) else {
-        return Err(AllocError);
+    let Ok(()) = hex::encode_to_slice(bytes, place) else {
+        unreachable!();
     };
-    let Ok(text) = str::from_utf8(&digits) else {
-        return Err(AllocError);
-    };
-    line.push_str(text)
+    match str::from_utf8(place) {
+        Ok(text) => text,
+        Err(_) => unreachable!(),
+    }
 }
 
 /// Bytes that print as two lower-case hexadecimal digits each, one by one.
@@ -78,13 +78,7 @@ impl<'a> fmt::Display for HexDigits<'a> {
     fn fmt<W: fmt::Write>(&self, f: &mut fmt::Formatter<W>) -> fmt::Result {
         let mut digits = [0u8; 2];
         'bytes: for byte in self.0 {
-            let Ok(()) = hex::encode_to_slice(&[*byte], &mut digits) else {
-                return Err(fmt::Error);
-            };
-            let Ok(text) = str::from_utf8(&digits) else {
-                return Err(fmt::Error);
-            };
-            f.write_str(text)?;
+            f.write_str(digits_in(&mut digits, &[*byte]))?;
         }
         Ok(())
     }

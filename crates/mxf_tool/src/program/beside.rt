@@ -1,29 +1,23 @@
 //! Sources beside each other: which of them holds which note.
 use super::fault::RunFault;
-use super::{Printed, System, open_parts, print_answer, told, ungathered};
+use super::{Inputs, Printed, System, open_parts, print_answer, told, ungathered};
 use crate::contents::{Contents, gather_each};
 use crate::exit::Exit;
 use crate::shown::text_on_screen;
 use crate::source::Source;
 use crate::system_fault::LastFault;
-use crate::watching::Screen;
 use mxf_catalogue::Catalogue;
 use mxf_lines::Form;
 use mxf_verify::Readings;
 use std::alloc::{AllocError, Global};
 
 /// Prints what each source holds, and which source has which disputed note.
-pub fn print_beside<'a, R: System>(
-    rt: &R,
-    screen: Screen,
-    form: Form,
-    sources: &[Source<'a>],
-) -> Result<Exit, RunFault<'a>> {
-    let Ok(names) = names_of(rt.alloc(), sources) else {
+pub fn print_beside<'a, R: System>(rt: &R, inputs: Inputs<'_, 'a>) -> Result<Exit, RunFault<'a>> {
+    let Ok(names) = names_of(rt.alloc(), inputs.sources) else {
         return Err(RunFault::OutOfMemory);
     };
-    match read_each(rt, screen, sources) {
-        Ok(read) => print_read(rt, screen, form, sources, &names, &read),
+    match read_each(rt, inputs) {
+        Ok(read) => print_read(rt, inputs, &names, &read),
         Err(fault) => Err(fault),
     }
 }
@@ -31,14 +25,19 @@ pub fn print_beside<'a, R: System>(
 /// Prints what was read of each source with these names.
 fn print_read<'a, R: System>(
     rt: &R,
-    screen: Screen,
-    form: Form,
-    sources: &[Source<'_>],
+    inputs: Inputs<'_, 'a>,
     names: &[String],
     read: &Contents,
 ) -> Result<Exit, RunFault<'a>> {
-    let exit = print_contents(rt, form, names, &read.contents)?;
-    told(rt, screen, sources, &read.reports, false, exit)
+    let exit = print_contents(rt, inputs.form, names, &read.contents)?;
+    told(
+        rt,
+        inputs.screen,
+        inputs.sources,
+        &read.reports,
+        false,
+        exit,
+    )
 }
 
 /// The words that name the sources, as a terminal shows them.
@@ -52,16 +51,12 @@ fn names_of(alloc: Global, sources: &[Source<'_>]) -> Result<Vec<String>, AllocE
 }
 
 /// What each source holds by itself. All are opened before the first is read.
-fn read_each<'a, R: System>(
-    rt: &R,
-    screen: Screen,
-    sources: &[Source<'a>],
-) -> Result<Contents, RunFault<'a>> {
+fn read_each<'a, R: System>(rt: &R, inputs: Inputs<'_, 'a>) -> Result<Contents, RunFault<'a>> {
     let last = LastFault::new();
-    let parts = open_parts(rt, screen, sources, &last)?;
+    let parts = open_parts(rt, inputs.screen, inputs.sources, &last)?;
     match gather_each(rt.alloc(), parts) {
         Ok(contents) => Ok(contents),
-        Err(fault) => Err(ungathered(&fault, sources, &last)),
+        Err(fault) => Err(ungathered(&fault, inputs.sources, &last)),
     }
 }
 

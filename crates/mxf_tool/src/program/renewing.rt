@@ -1,63 +1,62 @@
 //! Saving what earlier sources hold, renewed by later ones.
 use super::fault::RunFault;
-use super::{Printed, System, allow_output, gather_parts, open_parts, print_answer, told, unsaved};
+use super::{
+    Inputs, Printed, System, allow_output, gather_parts, open_parts, print_answer, told, unsaved,
+};
+use crate::command_line::Saving;
 use crate::exit::Exit;
 use crate::saving::Reservation;
 use crate::source::Source;
 use crate::system_fault::LastFault;
-use crate::watching::Screen;
 use mxf_catalogue::Catalogue;
 use mxf_lines::Form;
 use mxf_read::{Gathered, PieceReport};
 use mxf_verify::renew;
 use std::alloc::{AllocError, Global};
 
-/// What is asked of a renewal: where it is saved, and of which sources.
-#[derive(Clone, Copy)]
-pub struct Renewal<'s, 'a> {
-    pub out: &'a str,
-    pub is_strict: bool,
-    pub form: Form,
-    pub earlier: &'s [Source<'a>],
-    pub later: &'s [Source<'a>],
-}
-
 /// Writes the catalogue of what the earlier sources hold together, renewed by the later ones, and prints what was
 /// dropped. Its place is held before the first source is opened.
 pub fn print_renewal<'a, R: System>(
     rt: &R,
-    screen: Screen,
-    asked: Renewal<'_, 'a>,
+    inputs: Inputs<'_, 'a>,
+    saving: Saving<'a>,
 ) -> Result<Exit, RunFault<'a>> {
-    let Ok(all) = all_sources(rt.alloc(), asked) else {
+    let Ok(all) = all_sources(rt.alloc(), inputs) else {
         return Err(RunFault::OutOfMemory);
     };
-    allow_output(rt, asked.out, &all)?;
-    match Reservation::take(rt, asked.out) {
-        Ok(held) => renew_at(rt, screen, asked, held),
-        Err(fault) => Err(unsaved(asked.out, fault)),
+    allow_output(rt, saving.out, &all)?;
+    match Reservation::take(rt, saving.out) {
+        Ok(held) => renew_at(rt, inputs, saving, held),
+        Err(fault) => Err(unsaved(saving.out, fault)),
     }
 }
 
 /// The earlier sources and the later ones.
-fn all_sources<'a>(alloc: Global, asked: Renewal<'_, 'a>) -> Result<Vec<Source<'a>>, AllocError> {
-    let mut all = Vec::from_slice(alloc, asked.earlier)?;
-    all.extend_from_slice(asked.later)?;
+fn all_sources<'a>(alloc: Global, inputs: Inputs<'_, 'a>) -> Result<Vec<Source<'a>>, AllocError> {
+    let mut all = Vec::from_slice(alloc, inputs.before)?;
+    all.extend_from_slice(inputs.sources)?;
     Ok(all)
 }
 
 /// Writes the renewed catalogue to a place that is held, and prints what was dropped.
 fn renew_at<'a, 'r, R: System>(
     rt: &'r R,
-    screen: Screen,
-    asked: Renewal<'_, 'a>,
+    inputs: Inputs<'_, 'a>,
+    saving: Saving<'a>,
     held: Reservation<'r, R>,
 ) -> Result<Exit, RunFault<'a>> {
-    let (earlier, later) = gather_both(rt, screen, asked)?;
+    let (earlier, later) = gather_both(rt, inputs)?;
     let Gathered { views, reports } = later;
     let (notes, newer) = (earlier.views.catalogue(), views.into_catalogue());
-    match save_renewed(rt, asked, held, notes, newer) {
-        Ok(exit) => told_both(rt, screen, asked, &earlier, reports.as_slice(), exit),
+    match save_renewed(rt, inputs.form, saving.out, held, notes, newer) {
+        Ok(exit) => told_both(
+            rt,
+            inputs,
+            saving.is_strict,
+            &earlier,
+            reports.as_slice(),
+            exit,
+        ),
         Err(fault) => Err(fault),
     }
 }
@@ -65,37 +64,37 @@ fn renew_at<'a, 'r, R: System>(
 /// Ends a run that saved what was renewed: on a terminal it tells of pieces that weren't noted whole.
 fn told_both<'a, R: System>(
     rt: &R,
-    screen: Screen,
-    asked: Renewal<'_, 'a>,
+    inputs: Inputs<'_, 'a>,
+    is_strict: bool,
     earlier: &Gathered,
     later: &[PieceReport],
     exit: Exit,
 ) -> Result<Exit, RunFault<'a>> {
     let earlier = earlier.reports.as_slice();
-    let exit = exit.of_join(asked.is_strict, earlier);
-    let exit = exit.of_join(asked.is_strict, later);
-    let exit = told(rt, screen, asked.earlier, earlier, true, exit)?;
-    told(rt, screen, asked.later, later, true, exit)
+    let exit = exit.of_join(is_strict, earlier);
+    let exit = exit.of_join(is_strict, later);
+    let exit = told(rt, inputs.screen, inputs.before, earlier, true, exit)?;
+    told(rt, inputs.screen, inputs.sources, later, true, exit)
 }
 
 /// What the earlier sources hold together, and what the later ones do. All are opened before the first is read.
 fn gather_both<'a, R: System>(
     rt: &R,
-    screen: Screen,
-    asked: Renewal<'_, 'a>,
+    inputs: Inputs<'_, 'a>,
 ) -> Result<(Gathered, Gathered), RunFault<'a>> {
     let last = LastFault::new();
-    let earlier = open_parts(rt, screen, asked.earlier, &last)?;
-    let later = open_parts(rt, screen, asked.later, &last)?;
-    let earlier = gather_parts(rt, earlier, asked.earlier, &last)?;
-    let later = gather_parts(rt, later, asked.later, &last)?;
+    let earlier = open_parts(rt, inputs.screen, inputs.before, &last)?;
+    let later = open_parts(rt, inputs.screen, inputs.sources, &last)?;
+    let earlier = gather_parts(rt, earlier, inputs.before, &last)?;
+    let later = gather_parts(rt, later, inputs.sources, &last)?;
     Ok((earlier, later))
 }
 
 /// Renews the earlier catalogue by the later one, writes it to the place that is held, and prints what was dropped.
 fn save_renewed<'a, 'r, R: System>(
     rt: &'r R,
-    asked: Renewal<'_, 'a>,
+    form: Form,
+    out: &'a str,
     held: Reservation<'r, R>,
     earlier: &Catalogue,
     later: Catalogue,
@@ -104,7 +103,7 @@ fn save_renewed<'a, 'r, R: System>(
         return Err(RunFault::OutOfMemory);
     };
     match held.save(rt, &renewed.catalogue) {
-        Ok(()) => print_answer(rt, Printed::Renewed(&renewed), asked.form),
-        Err(fault) => Err(unsaved(asked.out, fault)),
+        Ok(()) => print_answer(rt, Printed::Renewed(&renewed), form),
+        Err(fault) => Err(unsaved(out, fault)),
     }
 }

@@ -6,10 +6,9 @@ use super::fault::RunFault;
 use super::offsets::tell_offsets;
 use super::telling::tell_on_screen;
 use super::unit_range::range_of;
-use super::{Printed, System, gather_parts, open_parts, print_answer, told, ungathered};
-use crate::command_line::IndexedUnits;
+use super::{Inputs, Printed, System, gather_parts, open_parts, print_answer, told, ungathered};
+use crate::command_line::{IndexedUnits, Verifying};
 use crate::exit::Exit;
-use crate::source::Source;
 use crate::system_fault::LastFault;
 use crate::watching::Screen;
 use mxf_klv::OutOfMemory;
@@ -22,16 +21,6 @@ use std::alloc::{AllocError, Global};
 use std::fmt;
 use std::io::Read;
 
-/// What is asked of a verification: of which sources the reference is, and which are set beside it.
-#[derive(Clone, Copy)]
-pub struct Verifying<'s, 'a> {
-    pub is_whole: bool,
-    pub units: Option<IndexedUnits>,
-    pub form: Form,
-    pub reference: &'s [Source<'a>],
-    pub sources: &'s [Source<'a>],
-}
-
 /// The edit units of a range, by the index of an IndexSID.
 #[derive(Clone, Copy)]
 struct IndexedRange {
@@ -43,14 +32,14 @@ struct IndexedRange {
 /// those of the reference first, and are read in that order.
 pub fn print_verified<'a, R: System>(
     rt: &R,
-    screen: Screen,
-    asked: Verifying<'_, 'a>,
+    inputs: Inputs<'_, 'a>,
+    asked: Verifying,
 ) -> Result<Exit, RunFault<'a>> {
     let last = LastFault::new();
-    let reference = open_parts(rt, screen, asked.reference, &last)?;
-    let parts = open_parts(rt, screen, asked.sources, &last)?;
-    match gather_parts(rt, reference, asked.reference, &last) {
-        Ok(gathered) => verify_by(rt, screen, asked, &gathered, parts, &last),
+    let reference = open_parts(rt, inputs.screen, inputs.before, &last)?;
+    let parts = open_parts(rt, inputs.screen, inputs.sources, &last)?;
+    match gather_parts(rt, reference, inputs.before, &last) {
+        Ok(gathered) => verify_by(rt, inputs, asked, &gathered, parts, &last),
         Err(fault) => Err(fault),
     }
 }
@@ -59,17 +48,17 @@ pub fn print_verified<'a, R: System>(
 /// are asked for are known before the first part is read.
 fn verify_by<'a, R: System, F: Read + Drop>(
     rt: &R,
-    screen: Screen,
-    asked: Verifying<'_, 'a>,
+    inputs: Inputs<'_, 'a>,
+    asked: Verifying,
     gathered: &Gathered,
     parts: Vec<Part<F>>,
     last: &LastFault,
 ) -> Result<Exit, RunFault<'a>> {
     let range = asked_range(&gathered.views, asked.units)?;
     match verify(rt.alloc(), gathered.views.catalogue(), parts) {
-        Ok(verification) => print_by(rt, screen, asked, range, gathered, &verification),
+        Ok(verification) => print_by(rt, inputs, asked.is_whole, range, gathered, &verification),
         Err(VerifyFault::OutOfMemory) => Err(RunFault::OutOfMemory),
-        Err(VerifyFault::Part(fault)) => Err(ungathered(&fault, asked.sources, last)),
+        Err(VerifyFault::Part(fault)) => Err(ungathered(&fault, inputs.sources, last)),
     }
 }
 
@@ -93,33 +82,34 @@ fn asked_range<'a>(
 /// Prints what was verified of the reference, and tells on a terminal what that leaves open.
 fn print_by<'a, R: System>(
     rt: &R,
-    screen: Screen,
-    asked: Verifying<'_, 'a>,
+    inputs: Inputs<'_, 'a>,
+    is_whole: bool,
     range: Option<IndexedRange>,
     gathered: &Gathered,
     verification: &Verification<'_>,
 ) -> Result<Exit, RunFault<'a>> {
     let exit = match range {
-        Some(range) => print_with_units(rt, asked, range, gathered, verification)?,
-        None => print_verification(rt, asked, &*gathered, &*verification, None)?,
+        Some(range) => print_with_units(rt, inputs.form, is_whole, range, gathered, verification)?,
+        None => print_verification(rt, inputs.form, is_whole, &*gathered, &*verification, None)?,
     };
-    if screen == Screen::Terminal && tell_open(rt, asked, verification).is_err() {
+    if inputs.screen == Screen::Terminal && tell_open(rt, inputs, is_whole, verification).is_err() {
         return Err(RunFault::OutOfMemory);
     }
     let reports = gathered.reports.as_slice();
-    told(rt, screen, asked.reference, reports, false, exit)
+    told(rt, inputs.screen, inputs.before, reports, false, exit)
 }
 
 /// Prints what was verified of the reference, with the edit units of a range.
 fn print_with_units<'a, R: System>(
     rt: &R,
-    asked: Verifying<'_, 'a>,
+    form: Form,
+    is_whole: bool,
     range: IndexedRange,
     gathered: &Gathered,
     verification: &Verification<'_>,
 ) -> Result<Exit, RunFault<'a>> {
     match units_beside(rt.alloc(), &gathered.views, range, verification) {
-        Ok(units) => print_verification(rt, asked, gathered, verification, Some(&units)),
+        Ok(units) => print_verification(rt, form, is_whole, gathered, verification, Some(&units)),
         Err(_) => Err(RunFault::OutOfMemory),
     }
 }
@@ -127,7 +117,8 @@ fn print_with_units<'a, R: System>(
 /// Prints what was verified of the reference, and of its edit units where some are asked for.
 fn print_verification<'v, 'a, R: System>(
     rt: &R,
-    asked: Verifying<'_, 'a>,
+    form: Form,
+    is_whole: bool,
     gathered: &'v Gathered,
     verification: &'v Verification<'_>,
     units: Option<&'v VerifiedUnits>,
@@ -136,9 +127,9 @@ fn print_verification<'v, 'a, R: System>(
         stops: gathered.reports.as_slice(),
         verification,
         units,
-        is_whole: asked.is_whole,
+        is_whole,
     };
-    print_answer(rt, Printed::Verified(&verified), asked.form)
+    print_answer(rt, Printed::Verified(&verified), form)
 }
 
 /// The edit units of a range of the reference, beside what was verified of it.
@@ -194,15 +185,16 @@ fn open_of(is_whole: bool, verification: &Verification<'_>) -> Option<Open>
 /// source.
 fn tell_open<R: System>(
     rt: &R,
-    asked: Verifying<'_, '_>,
+    inputs: Inputs<'_, '_>,
+    is_whole: bool,
     verification: &Verification<'_>,
 ) -> Result<(), AllocError> {
-    let Some(open) = open_of(asked.is_whole, verification) else {
+    let Some(open) = open_of(is_whole, verification) else {
         return Ok(());
     };
     tell_on_screen(rt, &open)?;
     match open {
-        Open::NoneSame => tell_offsets(rt, asked.sources),
+        Open::NoneSame => tell_offsets(rt, inputs.sources),
         Open::NotAll => Ok(()),
     }
 }
