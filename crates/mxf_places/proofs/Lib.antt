@@ -6,6 +6,7 @@ pub mod OverLaws
 pub mod ZoneLaws
 pub mod ClaimLaws
 pub mod ByteLaws
+pub mod CountLaws
 pub mod LoopLaws
 pub mod InNumbers
 pub mod AtHandLaws

@@ -1,7 +1,7 @@
 -- What sources give of a file beside the packets that are noted of it (this project's profile).
-use Rattle.std.specs.Prelude.{◌≡◌, ℕ, ◌+◌, ◌<◌, ◌≤◌, ◌⊎◌, Bool, true, false, ◌&&◌, nat_le, nat_lt, max, min, if◌then◌else◌}
-use Rattle.std.specs.Prelude.{Option, None, Some, unwrap_or, List, [], ◌∷◌, ◌++◌}
-use Rattle.std.specs.List.{list_any}
+use Rattle.std.specs.Prelude.{◌≡◌, ℕ, ◌+◌, ◌<◌, ◌≤◌, ◌⊎◌, Bool, true, false, ◌&&◌, not, nat_le, nat_lt, max, min, if◌then◌else◌}
+use Rattle.std.specs.Prelude.{Option, None, Some, unwrap_or, List, [], ◌∷◌, ◌++◌, count_by}
+use Rattle.std.specs.List.{list_any, range_with_len}
 use Rattle.std.specs.Option.{option_map_or}
 use Rattle.mxf_klv.specs.Parts.{NoteParts}
 use Rattle.mxf_catalogue.specs.declared.run.Run.{Run}
@@ -63,6 +63,10 @@ lacking (r ∷ runs) start end =
 -- The offset lies in one of the runs.
 abbrev pub has_offset : List Run → ℕ → Bool
 has_offset runs x = list_any (λ r. nat_le r.start x && nat_lt x r.end) runs
+
+-- The number of offsets below an end that lie in one of some runs and in none of others.
+abbrev pub outside_below : List Run → List Run → ℕ → ℕ
+outside_below hand runs end = count_by (λ x. has_offset hand x && not (has_offset runs x)) (range_with_len 0 end)
 
 abbrev pub is_none : List OffsetRange → Bool
 is_none [] = true

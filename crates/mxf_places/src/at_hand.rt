@@ -1,11 +1,13 @@
 //! What sources give of a file beside the packets that are noted of it.
-ghost use Rattle.std.specs.Prelude.{◌≡◌, ◌↔◌, ◌+◌, ◌++◌, ◌<◌, ◌≤◌, ℕ, IfOk, IsTrue, List, OnOk, Option};
+ghost use Rattle.std.specs.Prelude.{◌≡◌, ◌↔◌, ◌+◌, ◌-◌, ◌++◌, ◌<◌, ◌≤◌, ◌&&◌, ℕ, IfOk, IsTrue, List, OnOk, Option};
+ghost use Rattle.std.specs.Prelude.{count_by};
+ghost use Rattle.std.specs.List.{range_with_len};
 ghost use Rattle.mxf_klv.specs.Rising.{In};
 ghost use Rattle.mxf_catalogue.specs.declared.run.Run.{Run};
 ghost use Rattle.mxf_catalogue.specs.Covers.{IsCover};
 ghost use Rattle.mxf_catalogue.specs.Runs.{LiesIn};
 ghost use Rattle.mxf_places.specs.AtHand.{IsLacking, LiesBetween, LiesInRange, has_offset, has_offsets, lacking};
-ghost use Rattle.mxf_places.specs.AtHand.{nothing_at_hand, some_range, up_to_bound};
+ghost use Rattle.mxf_places.specs.AtHand.{nothing_at_hand, outside_below, some_range, up_to_bound};
 ghost use Rattle.mxf_places.specs.declared.at_hand.OffsetRange.{OffsetRange};
 
 use mxf_catalogue::Cover;
@@ -105,6 +107,38 @@ impl AtHand {
     {
         ranges_lacking(alloc, &self.hand, start, end)
     }
+
+    /// How many offsets below `end`, in bytes, are at hand and not in the cover: two binary searches for each run of it,
+    /// and the runs of both.
+    pub fn count_outside(&self, cover: &Cover, end: u64) -> u64
+        ensures { result ≡ outside_below self.now.hand cover.now end }
+    {
+        count_within(&self.hand, 0, end) - count_shared(&self.hand, cover, end)
+    }
+}
+
+/// How many offsets below an end, in bytes, lie in both covers.
+fn count_shared(hand: &Cover, cover: &Cover, end: u64) -> u64
+    requires { IsCover hand.now }
+    ensures { result ≡ count_by (λ x. has_offset cover.now x && has_offset hand.now x) (range_with_len 0 end) }
+{
+    let mut count = 0;
+    for run in cover.runs() {
+        count += count_within(hand, run.start, run.end.min(end));
+    }
+    count
+}
+
+/// How many offsets from a start up to an end, in bytes, lie in a cover.
+fn count_within(cover: &Cover, start: u64, end: u64) -> u64
+    requires { IsCover cover.now }
+    ensures { result ≡ count_by (has_offset cover.now) (range_with_len start (end - start)) }
+{
+    let mut count = 0;
+    for run in cover.runs_between(start, Some(end)) {
+        count += run.end.min(end).saturating_sub(run.start.max(start));
+    }
+    count
 }
 
 /// The maximal ranges of offsets from a start up to an end, in bytes, that a cover lacks.

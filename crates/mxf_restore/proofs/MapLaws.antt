@@ -1,19 +1,21 @@
 -- The end of a map, its cells, and the bytes that are held.
 use Rattle.std.proofs.Common.{◌≡◌, ◌↔◌, ◌∙◌, ◌<◌, ◌≤◌, ◌+◌, ◌-◌, ◌*◌, ◌/◌, ◌%◌, ℕ, Bool, true, false}
 use Rattle.std.proofs.Common.{List, [], ◌∷◌, refl, sym, ap, subst, inl, inr, arith, map, max}
-use Rattle.std.proofs.Common.{Option, Some, None, count_by, if◌then◌else◌, nat_lt, unwrap_or}
+use Rattle.std.proofs.Common.{Option, Some, None, count_by, if◌then◌else◌, nat_lt, not, ◌&&◌, unwrap_or}
 use Rattle.std.proofs.lemmas.Bool.{cases_lt, false_from_ne_true, lt-ltb}
 use Rattle.std.specs.List.{range_with_len}
 use Rattle.std.specs.Option.{option_and_then}
 use Rattle.mxf_klv.specs.Note.{covered_end}
-use Rattle.mxf_klv.proofs.Counts.{range-all, range-none, range-split}
+use Rattle.mxf_klv.proofs.Counts.{range-all, range-none, range-same, range-split}
 use Rattle.mxf_klv.proofs.Lists.{list_any-In}
 use Rattle.mxf_catalogue.specs.NoteLists.{Covers}
 use Rattle.mxf_catalogue.proofs.RunBounds.{covers_below_end, starts_above}
 use Rattle.mxf_views.specs.RandomIndexView.{rip_view_of}
 use Rattle.mxf_places.specs.Held.{IsHeld, bytes_of, end_of_file, is_held, reaches_past, rip_end_by, top_of}
-use Rattle.mxf_places.specs.AtHand.{KnownParts, edge_of, runs_end}
-use Rattle.mxf_restore.specs.Map.{held_below}
+use Rattle.mxf_places.specs.AtHand.{KnownParts, edge_of, has_offset, outside_below, runs_end}
+use Rattle.mxf_restore.specs.Map.{hand_below, held_below}
+use Rattle.mxf_klv.proofs.Tests.{same_bool}
+use Rattle.mxf_places.proofs.AtHandLaws.{has_offset-says}
 use Rattle.mxf_places.proofs.HeldLaws.{is_held-says, same_bounds, top_of-bound}
 use Rattle.std.proofs.lemmas.Nat.{div-mul-add, div-add-mod'}
 use Rattle.std.specs.List.{AllByRecursion}
@@ -163,3 +165,12 @@ held_is known runs covers is =
       λ t. (covers x).1 ((is_held-says known.notes x).0 t),
       λ k. (is_held-says known.notes x).1 ((covers x).0 k),
     ))
+
+pub hand_is : (known : KnownParts) (runs : List Run) → Covers runs known.notes → (end : ℕ)
+    → outside_below known.at.hand runs end ≡ hand_below known end
+hand_is known runs covers end =
+    range-same (λ x. has_offset known.at.hand x && not (has_offset runs x))
+    (λ x. has_offset known.at.hand x && not (is_held known.notes x)) 0 end (λ x l h.
+    ap (λ b. has_offset known.at.hand x && not b) (same_bool (has_offset runs x) (is_held known.notes x)
+    (λ t. (is_held-says known.notes x).1 ((covers x).0 ((has_offset-says runs x).0 t)))
+    (λ t. (has_offset-says runs x).1 ((covers x).1 ((is_held-says known.notes x).0 t)))))

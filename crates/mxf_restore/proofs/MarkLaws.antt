@@ -12,7 +12,7 @@ use Rattle.mxf_places.specs.AtHand.{KnownParts}
 use Rattle.mxf_places.specs.Held.{IsHeld, is_held}
 use Rattle.mxf_restore.specs.Layers.{AreOffsets, BeginsPartition, BeginsRandomIndex, IsOfZone, LiesInZone, marks_in_order}
 use Rattle.mxf_restore.specs.Map.{AreMarks, HasByteOf, HasPartition, IsMark, Says, missing_places, rank}
-use Rattle.mxf_restore.specs.Map.{IsMap, MapParts, cell_size, gaps_below, held_below}
+use Rattle.mxf_restore.specs.Map.{IsMap, MapParts, cell_size, gaps_below, hand_below, held_below}
 use Rattle.mxf_restore.specs.declared.map.Mark.{Mark}
 use Rattle.mxf_restore.specs.declared.map.Mark.TheVariants as marks
 use Rattle.mxf_places.specs.declared.stretch.Zone.{Zone}
@@ -275,6 +275,7 @@ one_map known cells m n x y =
     let end : m.end ≡ n.end = x.end ∙ sym y.end in
     let cell : m.cell ≡ n.cell = x.cell ∙ ap (λ e. cell_size e cells) end ∙ sym y.cell in
     let held : m.held ≡ n.held = x.held ∙ ap (held_below known.notes) end ∙ sym y.held in
+    let hand : m.hand ≡ n.hand = x.hand ∙ ap (hand_below known) end ∙ sym y.hand in
     let gaps : m.gaps ≡ n.gaps = x.gaps ∙ ap (gaps_below known.notes) end ∙ sym y.gaps in
     let disputed : m.disputed ≡ n.disputed = x.disputed ∙ sym y.disputed in
     let list : m.marks ≡ n.marks =
@@ -284,6 +285,7 @@ one_map known cells m n x y =
     λ i. record {
       end = end i;
       held = held i;
+      hand = hand i;
       gaps = gaps i;
       disputed = disputed i;
       cell = cell i;

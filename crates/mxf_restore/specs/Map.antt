@@ -14,7 +14,7 @@ use Rattle.mxf_catalogue.specs.Disputes.{IsClear, disputed_notes}
 use Rattle.mxf_views.specs.FindingCauses.{IsMetadataKind}
 use Rattle.mxf_views.specs.Partitions.{PartitionParts, partitions_of}
 use Rattle.mxf_places.specs.Held.{IsDisputedAt, IsHeld, begins_clear_head, is_disputed_at, is_held, is_in_file}
-use Rattle.mxf_places.specs.AtHand.{KnownParts, edge_of}
+use Rattle.mxf_places.specs.AtHand.{KnownParts, edge_of, has_offset}
 use Rattle.mxf_catalogue.specs.declared.run.Run.{Run}
 use Rattle.mxf_catalogue.specs.Runs.{LiesIn}
 use Rattle.mxf_places.specs.Claims.{claims_of, named_place}
@@ -53,6 +53,11 @@ pub record IsInCell (from to x : ℕ) : Type 0 where
 -- The number of held bytes below an end.
 abbrev pub held_below : List NoteParts → ℕ → ℕ
 held_below notes end = count_by (is_held notes) (range_with_len 0 end)
+
+-- The number of bytes below an end that are at hand and not held.
+abbrev pub hand_below : KnownParts → ℕ → ℕ
+hand_below known end =
+    count_by (λ x. has_offset known.at.hand x && not (is_held known.notes x)) (range_with_len 0 end)
 
 -- The number of maximal ranges below an end that aren't held.
 abbrev pub gaps_below : List NoteParts → ℕ → ℕ
@@ -119,11 +124,12 @@ AreMarks known size end from [] = end ≤ from
 AreMarks known size end from (m ∷ ms) =
     (from < end) × IsMark known from (min (from + size) end) m × AreMarks known size end (from + size) ms
 
--- A map: its end, how many bytes below it are held, how many ranges aren't, how many notes are disputed, the size of a
--- cell, and the marks.
+-- A map: its end, how many bytes below it are held, how many others are at hand, how many ranges aren't held, how many
+-- notes are disputed, the size of a cell, and the marks.
 pub record MapParts : Type 0 where
   pub end : ℕ
   pub held : ℕ
+  pub hand : ℕ
   pub gaps : ℕ
   pub disputed : ℕ
   pub cell : ℕ
@@ -133,6 +139,7 @@ pub record MapParts : Type 0 where
 pub record IsMap (known : KnownParts) (cells : ℕ) (m : MapParts) : Type 0 where
   pub end : m.end ≡ map_end known
   pub held : m.held ≡ held_below known.notes m.end
+  pub hand : m.hand ≡ hand_below known m.end
   pub gaps : m.gaps ≡ gaps_below known.notes m.end
   pub disputed : m.disputed ≡ length (disputed_notes known.notes)
   pub cell : m.cell ≡ cell_size m.end cells

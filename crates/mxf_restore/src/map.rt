@@ -5,8 +5,8 @@ ghost use Rattle.mxf_catalogue.specs.Covers.{IsCover};
 ghost use Rattle.mxf_catalogue.specs.Disputes.{disputed_notes};
 ghost use Rattle.mxf_places.specs.AtHand.{KnownParts};
 ghost use Rattle.mxf_places.specs.Held.{bytes_of};
-ghost use Rattle.mxf_restore.specs.Map.{AreMarks, IsMap, IsMark, MapParts, cell_size, gaps_below, held_below};
-ghost use Rattle.mxf_restore.specs.Map.{map_end};
+ghost use Rattle.mxf_restore.specs.Map.{AreMarks, IsMap, IsMark, MapParts, cell_size, gaps_below, hand_below};
+ghost use Rattle.mxf_restore.specs.Map.{held_below, map_end};
 ghost use Rattle.mxf_restore.specs.declared.map.Mark.{Mark};
 
 mod layers;
@@ -59,6 +59,7 @@ pub enum Mark {
 pub struct Map {
     end: u64,
     held: u64,
+    hand: u64,
     gaps: u64,
     disputed: u64,
     cell: u64,
@@ -74,6 +75,7 @@ impl Model for Map {
     ghost view = { λ m. record {
       end = m.end;
       held = m.held;
+      hand = m.hand;
       gaps = m.gaps;
       disputed = m.disputed;
       cell = m.cell;
@@ -114,6 +116,7 @@ impl Map {
         Ok(Map {
             end,
             held: held_bytes(layers),
+            hand: hand_bytes(layers, end),
             gaps,
             disputed: disputed(holdings.views().catalogue()),
             cell,
@@ -134,6 +137,13 @@ impl Map {
         ensures { result ≡ self.now.held }
     {
         self.held
+    }
+
+    /// How many bytes below the end are at hand and not held.
+    pub fn hand(&self) -> u64
+        ensures { result ≡ self.now.hand }
+    {
+        self.hand
     }
 
     /// How many maximal ranges below the end aren't held.
@@ -196,6 +206,14 @@ fn held_bytes(layers: &Layers<'_>) -> u64
     ensures { result ≡ held_below layers.now.notes (map_end layers.now) }
 {
     bytes_of(layers.holdings().views().catalogue().spans())
+}
+
+/// How many bytes below the end, in bytes, are at hand and not held.
+fn hand_bytes(layers: &Layers<'_>, end: u64) -> u64
+    ensures { result ≡ hand_below layers.now end }
+{
+    let held = layers.holdings().views().catalogue().spans();
+    layers.at_hand().count_outside(held, end)
 }
 
 /// How many offsets lie in the set.

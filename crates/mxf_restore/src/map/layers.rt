@@ -91,6 +91,13 @@ impl<'a> Layers<'a> {
         &self.holdings
     }
 
+    /// What is at hand.
+    pub fn at_hand(&self) -> &'a AtHand
+        ensures { result.now ≡ self.now.at }
+    {
+        self.at_hand
+    }
+
     /// How far the map goes, in bytes: as far as the file is known to, and beyond each missing place.
     pub fn end(&self) -> u64
         ensures end { result ≡ map_end self.now }

@@ -10,6 +10,7 @@ returns c =
     let end = c.end-end.ensures.end in record {
       end = end;
       held = c.held_bytes.ensures ∙ ap (held_below known.notes) (sym end);
+      hand = c.hand_bytes.ensures;
       gaps = c.in_ok-gaps.ensures
           ∙ ap (λ (l : List NoteParts). gaps_below l c.end-end.result) c.holdings-holdings.ensures;
       disputed = c.disputed.ensures
