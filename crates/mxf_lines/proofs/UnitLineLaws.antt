@@ -15,7 +15,7 @@ use Rattle.mxf_lines.specs.declared.printing.Form.{Form}
 use Rattle.mxf_lines.proofs.PrintLaws.{Leads, PrintsPart}
 
 pub units_length : (u : UnitsParts) (first count : ℕ) → length (units_from u first count) ≡ count
-units_length u first count = length-map-range_with_len (unit_of u.notes u.index_sid) first count
+units_length u first count = length-map-range_with_len (unit_of u.known u.index_sid) first count
 
 -- One unit more.
 pub held-step : (u : EditUnit) (us : List EditUnit) → held_count (u ∷ us) ≡ held_count (u ∷ []) + held_count us

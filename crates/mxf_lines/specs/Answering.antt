@@ -12,7 +12,7 @@ use Rattle.mxf_views.specs.Places.{greatest_unit, place_of, segments_of}
 use Rattle.mxf_views.specs.declared.finding.Finding.{Finding}
 use Rattle.mxf_views.specs.declared.index.place.Place.{Place}
 use Rattle.mxf_views.specs.declared.index.place.Place.TheVariants.{At}
-use Rattle.mxf_places.specs.AtHand.{nothing_at_hand}
+use Rattle.mxf_places.specs.AtHand.{nothing_at_hand, without_hand}
 use Rattle.mxf_restore.specs.Plan.{PlanParts, plan_of}
 use Rattle.mxf_units.specs.declared.unit.EditUnit.{EditUnit}
 use Rattle.mxf_read.specs.declared.gathering.report.PieceReport.{PieceReport}
@@ -58,7 +58,7 @@ join_lines content = join_line (length content) (length (disputed_notes content)
 -- The units of a range, by the index of an IndexSID.
 abbrev pub asked_units : ℕ → UnitRange → List NoteParts → List EditUnit
 asked_units index range content =
-    units_from (record { notes = content; index_sid = index }) range.first range.count
+    units_from (record { known = without_hand content; index_sid = index }) range.first range.count
 
 -- The lines that are asked for, of pieces with these reports and of a content.
 abbrev pub answer_lines : Ask → List PieceReport → List NoteParts → List PrintedLine

@@ -17,7 +17,7 @@ use Rattle.mxf_lines.specs.Hexadecimal.{hex_of}
 
 -- The units of an index from one on.
 abbrev pub units_from : UnitsParts → ℕ → ℕ → List EditUnit
-units_from u first count = map (unit_of u.notes u.index_sid) (range_with_len first count)
+units_from u first count = map (unit_of u.known u.index_sid) (range_with_len first count)
 
 -- How far away the unit is stored that is shown in the place of this one, or a dash.
 abbrev pub temporal_value : Option ℤ → Value

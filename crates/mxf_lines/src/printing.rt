@@ -181,6 +181,7 @@ fn print_range<W: Write>(
         result (unit_lines range.first (asked_units index range views.now)) }
     ensures status { IfOk result (λ status. status ≡ units_status (asked_units index range views.now)) }
 {
-    let units = Units::of(printer.alloc(), views, index)?;
+    let at_hand = AtHand::nothing(printer.alloc());
+    let units = Units::of(printer.alloc(), views, &at_hand, index)?;
     print_units(printer, writer, &units, range)
 }

@@ -2,6 +2,7 @@
 use crate::additions::{add_to_views, essence, in_views};
 use crate::files::{M, SEGMENT};
 use mxf_klv::OutOfMemory;
+use mxf_places::AtHand;
 use mxf_read::absorb;
 use mxf_units::{UnitStanding, Units, index_sids};
 use mxf_views::Views;
@@ -29,16 +30,21 @@ fn has_one_index(alloc: Global, views: &Views) -> bool {
 }
 
 /// The units of the index of IndexSID 1, also where one growth is refused.
-pub(crate) fn units_of<'a>(alloc: Global, views: &'a Views) -> Result<Units<'a>, OutOfMemory> {
-    match Units::of(alloc, views, 1) {
+pub(crate) fn units_of<'a>(
+    alloc: Global,
+    views: &'a Views,
+    at_hand: &'a AtHand,
+) -> Result<Units<'a>, OutOfMemory> {
+    match Units::of(alloc, views, at_hand, 1) {
         Ok(units) => Ok(units),
-        Err(OutOfMemory) => Units::of(alloc, views, 1),
+        Err(OutOfMemory) => Units::of(alloc, views, at_hand, 1),
     }
 }
 
 /// Whether of a hundred units the last has a place, in a stream of which no partition is held.
 fn are_told(alloc: Global, views: &Views) -> bool {
-    match units_of(alloc, views) {
+    let at_hand = AtHand::nothing(alloc);
+    match units_of(alloc, views, &at_hand) {
         Ok(units) => {
             units.unit(99).standing == UnitStanding::NoPartition
                 && units.unit(100).standing == UnitStanding::NotIndexed

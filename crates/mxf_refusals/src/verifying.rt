@@ -4,6 +4,7 @@ use crate::files::{M, SEGMENT};
 use crate::units::{add_piece, units_of};
 use mxf_catalogue::Catalogue;
 use mxf_klv::OutOfMemory;
+use mxf_places::AtHand;
 use mxf_read::Part;
 use mxf_units::{UnitStanding, Units};
 use mxf_verify::{UnitFixity, UnitRun, Verification, VerifiedUnits, VerifyFault, verify};
@@ -66,7 +67,8 @@ fn none_has_a_place(units: &VerifiedUnits) -> bool {
 
 /// Whether that is so of the units of a reference.
 fn units_stand(alloc: Global, views: &Views, verification: &Verification<'_>) -> bool {
-    match units_of(alloc, views) {
+    let at_hand = AtHand::nothing(alloc);
+    match units_of(alloc, views, &at_hand) {
         Ok(units) => match ten_units(alloc, verification, &units) {
             Ok(ten) => none_has_a_place(&ten),
             Err(OutOfMemory) => false,

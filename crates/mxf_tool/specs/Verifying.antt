@@ -1,6 +1,7 @@
 -- What is asked of a verification, and what it leaves open (this project's profile).
 use Rattle.std.specs.Prelude.{◌≡◌, ◌==◌, ◌&&◌, not, if◌then◌else◌, ◌+◌, ℕ, Bool, List, Option, None, Some, Result, Ok, Err}
 use Rattle.mxf_klv.specs.Parts.{NoteParts}
+use Rattle.mxf_places.specs.AtHand.{without_hand}
 use Rattle.mxf_verify.specs.Fixities.{AreVerifiedUnits, VerifiedUnitsParts}
 use Rattle.mxf_verify.specs.Verifications.{VerificationParts}
 use Rattle.mxf_lines.specs.VerificationLines.{has_none}
@@ -23,7 +24,7 @@ AreAskedBy notes (Some asked) (Err fault) = AreAsked notes asked.index asked.uni
 abbrev pub AreToldOf : List NoteParts → VerificationParts → IndexedRange → VerifiedUnitsParts → Type 0
 AreToldOf notes v asked told =
     (last : ℕ) × (last + 1 ≡ asked.range.first + asked.range.count)
-    × AreVerifiedUnits v.verified v.altered (record { notes = notes; index_sid = asked.index }) asked.range.first last
+    × AreVerifiedUnits v.verified v.altered (record { known = without_hand notes; index_sid = asked.index }) asked.range.first last
     told
 
 -- What is told on a terminal: that no packet is the same, though bytes came; or that not all of the reference was

@@ -1,9 +1,10 @@
 -- Units that are held.
-use Rattle.std.proofs.Common.{◌≡◌, ◌<◌, ◌+◌, ℕ, Bool, true, false, not, List, [], ◌∷◌, Option, None, Some}
+use Rattle.std.proofs.Common.{◌≡◌, ◌∙◌, ◌<◌, ◌+◌, ℕ, Bool, true, false, not, List, [], ◌∷◌, Option, None, Some}
 use Rattle.std.proofs.Common.{Result, Ok, Err, refl, sym, ap, subst, is_some, unwrap_or, if◌then◌else◌, ◌==◌, filter, filter_map}
 use Rattle.std.proofs.lemmas.Bool.{and_parts}
 use Rattle.std.specs.Option.{ok_or}
 use Rattle.mxf_klv.specs.Parts.{NoteParts}
+use Rattle.mxf_places.specs.AtHand.{KnownParts}
 use Rattle.mxf_klv.proofs.Tests.{some_is}
 use Rattle.mxf_views.specs.Places.{SegmentAtParts}
 use Rattle.mxf_units.specs.declared.standing.UnitStanding.{UnitStanding}
@@ -16,9 +17,9 @@ use Rattle.mxf_units.specs.declared.unit.Extent.{Extent}
 use Rattle.mxf_units.specs.Streams.{is_other_place, only_place, place_of, segments_for}
 use Rattle.mxf_views.specs.Places.{place_in}
 use Rattle.mxf_units.specs.EssenceZones.{begins_up_to, chosen, parts_of, zone_at}
-use Rattle.mxf_units.specs.Units.{are_all_held, asked_end, extent_by, is_told}
+use Rattle.mxf_units.specs.Units.{IsKnownWhole, are_all_held, are_all_known, asked_end, extent_by, is_told}
 use Rattle.mxf_units.specs.Units.{location_at, location_in, location_of, standing_by, standing_in, unit_of, IsHeldWhole}
-use Rattle.mxf_units.proofs.RangeLaws.{all_held-says}
+use Rattle.mxf_units.proofs.RangeLaws.{all_held-says, all_known-says}
 
 -- ---- why it isn't known where a unit lies
 
@@ -73,46 +74,77 @@ location-untold notes index_sid unit v e =
     let segments = segments_for notes index_sid in
     at-untold (parts_of notes) segments (place_of segments unit) v (place-untold None (filter_map (place_in unit) segments)) e
 
--- ---- held
+-- ---- held, or held or at hand
 
-last_test : (a b c d e : Bool)
+last_tests : (a b c d e f : Bool) (w : UnitStanding)
     → (if a then standings.Elsewhere
     else (if b then standings.Unsure
     else (if c then standings.Disputed
-    else (if d then standings.Missing else (if e then standings.Held else standings.Part))))) ≡ standings.Held
-    → e ≡ true
-last_test true b c d e h = absurd cc
-last_test false true c d e h = absurd cc
-last_test false false true d e h = absurd cc
-last_test false false false true e h = absurd cc
-last_test false false false false true h = refl
-last_test false false false false false h = absurd cc
+    else (if d then standings.Missing
+    else (if e then standings.Held else (if f then standings.Hand else standings.Part)))))) ≡ w
+    → ((w ≡ standings.Held) → e ≡ true) × ((w ≡ standings.Hand) → f ≡ true)
+last_tests true b c d e f w h = (λ g. absurd (cc (h, g)), λ g. absurd (cc (h, g)))
+last_tests false true c d e f w h = (λ g. absurd (cc (h, g)), λ g. absurd (cc (h, g)))
+last_tests false false true d e f w h = (λ g. absurd (cc (h, g)), λ g. absurd (cc (h, g)))
+last_tests false false false true e f w h = (λ g. absurd (cc (h, g)), λ g. absurd (cc (h, g)))
+last_tests false false false false true f w h = (λ g. refl, λ g. absurd (cc (h, g)))
+last_tests false false false false false true w h = (λ g. absurd (cc (h, g)), λ g. refl)
+last_tests false false false false false false w h = (λ g. absurd (cc (h, g)), λ g. absurd (cc (h, g)))
 
-held-in : (notes : List NoteParts) (l : Location) → standing_in notes l ≡ standings.Held → IsHeldWhole notes l.extent
-held-in notes l h =
+asked_is : (e : Extent) (end : ℕ) → e.end ≡ Some end → asked_end e ≡ end
+asked_is e end some = ap (λ (o : Option ℕ). unwrap_or o (e.start + 1)) some
+
+held-in : (known : KnownParts) (l : Location) → standing_in known l ≡ standings.Held
+    → IsHeldWhole known.notes l.extent
+held-in known l h =
     let end = asked_end l.extent in
-    let s = and_parts (is_some l.extent.end) (are_all_held notes l.extent.start end) (last_test _ _ _ _ _ h) in
+    let s = and_parts (is_some l.extent.end) (are_all_held known.notes l.extent.start end)
+    ((last_tests _ _ _ _ _ _ _ h).0 refl) in
     let e = some_is l.extent.end s.0 in
-    let at : end ≡ e.0 = ap (λ (o : Option ℕ). unwrap_or o (l.extent.start + 1)) e.1 in
     record {
       end = e.0;
       end_is = e.1;
-      held = λ x from below. (all_held-says notes l.extent.start end).0 s.1 x from (subst (λ n. x < n) (sym at) below);
+      held = λ x from below. (all_held-says known.notes l.extent.start end).0 s.1 x from
+          (subst (λ n. x < n) (sym (asked_is l.extent e.0 e.1)) below);
     }
 
-held-by : (notes : List NoteParts) (location : Result Location UnitStanding)
-    → ((v : UnitStanding) → location ≡ Err v → is_told v ≡ false) → standing_by notes location ≡ standings.Held
-    → (e : Extent) × (extent_by (standing_by notes location) location ≡ Some e) × IsHeldWhole notes e
-held-by notes (Err v) f h = let t = f v refl in let u = ap is_told h in absurd (cc (t, u))
-held-by notes (Ok l) f h = (
+known-in : (known : KnownParts) (l : Location) → standing_in known l ≡ standings.Hand → IsKnownWhole known l.extent
+known-in known l h =
+    let end = asked_end l.extent in
+    let s = and_parts (is_some l.extent.end) (are_all_known known l.extent.start end)
+    ((last_tests _ _ _ _ _ _ _ h).1 refl) in
+    let e = some_is l.extent.end s.0 in
+    record {
+      end = e.0;
+      end_is = e.1;
+      each = λ x from below. (all_known-says known l.extent.start end).0 s.1 x from
+          (subst (λ n. x < n) (sym (asked_is l.extent e.0 e.1)) below);
+    }
+
+-- What a standing says of the bytes, of a unit that has it.
+told-by : (known : KnownParts) (w : UnitStanding) (P : Extent → Type 0) → is_told w ≡ true
+    → ((l : Location) → standing_in known l ≡ w → P l.extent) → (location : Result Location UnitStanding)
+    → ((v : UnitStanding) → location ≡ Err v → is_told v ≡ false) → standing_by known location ≡ w
+    → (e : Extent) × (extent_by (standing_by known location) location ≡ Some e) × P e
+told-by known w P told f (Err v) g h = let t = g v refl in let u = ap is_told h in absurd (cc (t, u, told))
+told-by known w P told f (Ok l) g h = (
   l.extent,
-  ap (λ w. if is_told w then Some l.extent else None) h,
-  held-in notes l h,
+  ap (λ v. if is_told v then Some l.extent else None) h ∙ ap (λ b. if b then Some l.extent else None) told,
+  f l h,
 )
 
-pub held_units : (notes : List NoteParts) (index_sid unit : ℕ)
-    → (unit_of notes index_sid unit).standing ≡ standings.Held
-    → (e : Extent) × ((unit_of notes index_sid unit).extent ≡ Some e) × IsHeldWhole notes e
+pub held_units : (known : KnownParts) (index_sid unit : ℕ)
+    → (unit_of known index_sid unit).standing ≡ standings.Held
+    → (e : Extent) × ((unit_of known index_sid unit).extent ≡ Some e) × IsHeldWhole known.notes e
 unfolding unit_of
-held_units notes index_sid unit h =
-    held-by notes (location_of notes index_sid unit) (location-untold notes index_sid unit) h
+held_units known index_sid unit h =
+    told-by known standings.Held (IsHeldWhole known.notes) refl (held-in known) (location_of known.notes index_sid unit)
+    (location-untold known.notes index_sid unit) h
+
+pub known_units : (known : KnownParts) (index_sid unit : ℕ)
+    → (unit_of known index_sid unit).standing ≡ standings.Hand
+    → (e : Extent) × ((unit_of known index_sid unit).extent ≡ Some e) × IsKnownWhole known e
+unfolding unit_of
+known_units known index_sid unit h =
+    told-by known standings.Hand (IsKnownWhole known) refl (known-in known) (location_of known.notes index_sid unit)
+    (location-untold known.notes index_sid unit) h

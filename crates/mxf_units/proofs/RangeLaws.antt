@@ -1,15 +1,21 @@
 -- What is held and disputed of ranges.
-use Rattle.std.proofs.Common.{◌≡◌, ◌∙◌, ◌↔◌, ◌<◌, ◌≤◌, ◌+◌, ◌-◌, ℕ, zero, suc, Bool, true, false, IsTrue, List, [], ◌∷◌}
+use Rattle.std.proofs.Common.{◌≡◌, ◌∙◌, ◌↔◌, ◌⊎◌, ◌<◌, ◌≤◌, ◌+◌, ◌-◌, ℕ, zero, suc, Bool, true, false, IsTrue, List, [], ◌∷◌}
 use Rattle.std.proofs.Common.{refl, sym, ap, subst, inl, inr, arith, min, ◌||◌, ◌++◌, append_assoc, filter_map, nat_le, Option, None}
 use Rattle.std.proofs.Common.{Some}
-use Rattle.std.proofs.lemmas.Bool.{and_from, and_parts, cases_lt, leb-true}
+use Rattle.std.proofs.lemmas.Bool.{and_from, and_parts, cases_lt, false_from_ne_true, leb-true}
 use Rattle.std.specs.List.{cons_option, list_all, list_any, range_with_len}
 use Rattle.mxf_klv.specs.Parts.{NoteParts}
 use Rattle.mxf_klv.specs.Note.{covered_end}
 use Rattle.mxf_klv.proofs.Tests.{either, same_bool}
 use Rattle.mxf_places.specs.Held.{IsDisputedAt, IsHeld, held_end, is_disputed_at, is_held}
+use Rattle.mxf_places.specs.AtHand.{KnownParts, has_offset}
+use Rattle.mxf_places.proofs.AtHandLaws.{has_offset-says}
 use Rattle.mxf_places.proofs.HeldLaws.{held_end-bound, is_disputed_at-says, is_held-says}
-use Rattle.mxf_units.specs.Units.{are_all_held, is_any_disputed, is_any_held}
+use Rattle.mxf_units.specs.Units.{IsKnown, are_all_held, are_all_known, is_any_disputed, is_any_known, is_known}
+
+pub either-says : (a b : Bool) → (a || b) ≡ true → (a ≡ true) ⊎ (b ≡ true)
+either-says true b e = inl refl
+either-says false b e = inr e
 
 all-range : (p : ℕ → Bool) (a n : ℕ)
     → (list_all p (range_with_len a n) ≡ true) ↔ ((x : ℕ) → a ≤ x → x < a + n → p x ≡ true)
@@ -51,120 +57,103 @@ any-range p a (suc n) =
           ],
     )
 
-pub all_held-says : (notes : List NoteParts) (from to : ℕ)
-    → IsTrue (are_all_held notes from to) ↔ ((x : ℕ) → from ≤ x → x < to → IsHeld notes x)
-unfolding are_all_held
-all_held-says notes from to =
-    let all = all-range (is_held notes) from (to - from) in (
-      λ h x l r. (is_held-says notes x).0 (all.0 h x l (omega (arith, l, r))),
-      λ f. all.1 (λ x l r. (is_held-says notes x).1 (f x l (omega (arith, l, r)))),
+pub all-says : (p : ℕ → Bool) (P : ℕ → Type 0) → ((x : ℕ) → IsTrue (p x) ↔ P x) → (from to : ℕ)
+    → IsTrue (list_all p (range_with_len from (to - from))) ↔ ((x : ℕ) → from ≤ x → x < to → P x)
+all-says p P says from to =
+    let all = all-range p from (to - from) in (
+      λ h x l r. (says x).0 (all.0 h x l (omega (arith, l, r))),
+      λ f. all.1 (λ x l r. (says x).1 (f x l (omega (arith, l, r)))),
     )
 
-pub any_held-says : (notes : List NoteParts) (from to : ℕ)
-    → IsTrue (is_any_held notes from to) ↔ ((x : ℕ) × IsHeld notes x × (from ≤ x) × (x < to))
-unfolding is_any_held
-any_held-says notes from to =
-    let any = any-range (is_held notes) from (to - from) in (
+pub any-says : (p : ℕ → Bool) (P : ℕ → Type 0) → ((x : ℕ) → IsTrue (p x) ↔ P x) → (from to : ℕ)
+    → IsTrue (list_any p (range_with_len from (to - from))) ↔ ((x : ℕ) × P x × (from ≤ x) × (x < to))
+any-says p P says from to =
+    let any = any-range p from (to - from) in (
       λ h.
           let s = any.0 h in
           let l = s.2 in
-          let r = s.3 in (s.0, (is_held-says notes s.0).0 s.1, l, omega (arith, l, r)),
+          let r = s.3 in (s.0, (says s.0).0 s.1, l, omega (arith, l, r)),
       λ s.
           let l = s.2 in
-          let r = s.3 in any.1 (s.0, (is_held-says notes s.0).1 s.1, l, omega (arith, l, r)),
+          let r = s.3 in any.1 (s.0, (says s.0).1 s.1, l, omega (arith, l, r)),
     )
+
+pub all_held-says : (notes : List NoteParts) (from to : ℕ)
+    → IsTrue (are_all_held notes from to) ↔ ((x : ℕ) → from ≤ x → x < to → IsHeld notes x)
+unfolding are_all_held
+all_held-says notes from to = all-says (is_held notes) (IsHeld notes) (is_held-says notes) from to
 
 pub any_disputed-says : (notes : List NoteParts) (from to : ℕ)
     → IsTrue (is_any_disputed notes from to) ↔ ((x : ℕ) × IsDisputedAt notes x × (from ≤ x) × (x < to))
 unfolding is_any_disputed
 any_disputed-says notes from to =
-    let any = any-range (is_disputed_at notes) from (to - from) in (
-      λ h.
-          let s = any.0 h in
-          let l = s.2 in
-          let r = s.3 in (s.0, (is_disputed_at-says notes s.0).0 s.1, l, omega (arith, l, r)),
-      λ s.
-          let l = s.2 in
-          let r = s.3 in any.1 (s.0, (is_disputed_at-says notes s.0).1 s.1, l, omega (arith, l, r)),
+    any-says (is_disputed_at notes) (IsDisputedAt notes) (is_disputed_at-says notes) from to
+
+is_known-says : (known : KnownParts) (x : ℕ) → IsTrue (is_known known x) ↔ IsKnown known x
+is_known-says known x =
+    let held = is_held-says known.notes x in
+    let hand = has_offset-says known.at.hand x in (
+      λ h. elim (either-says (is_held known.notes x) (has_offset known.at.hand x) h) [
+        | inl a ↦ inl (held.0 a)
+        | inr b ↦ inr (hand.0 b)
+      ],
+      λ k. either (is_held known.notes x) (has_offset known.at.hand x) (elim k [
+        | inl a ↦ inl (held.1 a)
+        | inr b ↦ inr (hand.1 b)
+      ]),
     )
 
--- ---- nothing is held from the first offset above all that is
+pub all_known-says : (known : KnownParts) (from to : ℕ)
+    → IsTrue (are_all_known known from to) ↔ ((x : ℕ) → from ≤ x → x < to → IsKnown known x)
+unfolding are_all_known
+all_known-says known from to = all-says (is_known known) (IsKnown known) (is_known-says known) from to
 
-held-below : (notes : List NoteParts) (x : ℕ) → IsHeld notes x → x < held_end notes
+pub any_known-says : (known : KnownParts) (from to : ℕ)
+    → IsTrue (is_any_known known from to) ↔ ((x : ℕ) × IsKnown known x × (from ≤ x) × (x < to))
+unfolding is_any_known
+any_known-says known from to = any-says (is_known known) (IsKnown known) (is_known-says known) from to
+
+-- ---- offsets that all lie below an end
+
+pub held-below : (notes : List NoteParts) (x : ℕ) → IsHeld notes x → x < held_end notes
 held-below notes x h =
     let a = (held_end-bound notes (held_end notes)).0 (omega arith) h.0 h.1 in
     let b : x + 1 ≤ covered_end h.0 = h.2.before in omega (arith, a, b)
 
-disputed-below : (notes : List NoteParts) (x : ℕ) → IsDisputedAt notes x → x < held_end notes
+pub disputed-below : (notes : List NoteParts) (x : ℕ) → IsDisputedAt notes x → x < held_end notes
 disputed-below notes x h = held-below notes x (h.0, h.1, h.3)
 
-pub all-held-empty : (notes : List NoteParts) (from to : ℕ) → to ≤ from → are_all_held notes from to ≡ true
-all-held-empty notes from to h = (all_held-says notes from to).1 (λ x l r. absurd (omega (arith, l, r, h)))
+module _ (P : ℕ → Type 0) (from to : ℕ) where
+  abbrev pub All : Type 0
+  All = (x : ℕ) → from ≤ x → x < to → P x
 
-pub all-held-within : (notes : List NoteParts) (from to : ℕ) (b : Bool)
-    → IsTrue b ↔ ((x : ℕ) → from ≤ x → x < to → IsHeld notes x) → b ≡ are_all_held notes from to
-all-held-within notes from to b says =
-    let s = all_held-says notes from to in
-    same_bool b (are_all_held notes from to) (λ h. s.1 (says.0 h)) (λ h. says.1 (s.0 h))
+  abbrev pub Any : ℕ → Type 0
+  Any end = (x : ℕ) × P x × (from ≤ x) × (x < end)
 
-pub all-held-past : (notes : List NoteParts) (from to : ℕ) → from < to → held_end notes < to
-    → are_all_held notes from to ≡ false
-all-held-past notes from to some past =
-    elim (are_all_held notes from to) as (λ b. are_all_held notes from to ≡ b → are_all_held notes from to ≡ false) [
-      | true ↦ λ e.
-          let l = held-below notes (to - 1) ((all_held-says notes from to).0 e (to - 1) (omega (arith, some))
-          (omega (arith, some))) in absurd (omega (arith, l, past, some))
-      | false ↦ λ e. e
-    ] refl
+  pub all-empty : (t : Bool) → IsTrue t ↔ All → to ≤ from → t ≡ true
+  all-empty t says h = says.1 (λ x l r. absurd (omega (arith, l, r, h)))
 
-none_from : (from to end : ℕ) (P : ℕ → Type 0) → ((x : ℕ) → P x → x < end) → end ≤ from
-    → ((x : ℕ) × P x × (from ≤ x) × (x < to)) → ⊥
-none_from from to end P below far s =
-    let a = below s.0 s.1 in let b = s.2 in omega (arith, a, b, far)
+  pub all-past : (t : Bool) (end : ℕ) → IsTrue t ↔ All → ((x : ℕ) → P x → x < end) → from < to → end < to
+      → t ≡ false
+  all-past t end says below some past = false_from_ne_true t (λ e.
+      let l = below (to - 1) (says.0 e (to - 1) (omega (arith, some)) (omega (arith, some))) in
+      omega (arith, l, past, some))
 
-narrowed : (from to least end : ℕ) (P : ℕ → Type 0) → ((x : ℕ) → P x → x < end) → (least ≡ min to end)
-    → ((x : ℕ) × P x × (from ≤ x) × (x < least)) ↔ ((x : ℕ) × P x × (from ≤ x) × (x < to))
-narrowed from to least end P below e = (
-  λ s. let a = s.3 in (s.0, s.1, s.2, omega (arith, a, e)),
-  λ s. let a = s.3 in let b = below s.0 s.1 in (s.0, s.1, s.2, omega (arith, a, b, e)),
-)
+  pub any-past : (t : Bool) (end : ℕ) → IsTrue t ↔ Any to → ((x : ℕ) → P x → x < end) → end ≤ from → t ≡ false
+  any-past t end says below far = false_from_ne_true t (λ e.
+      let s = says.0 e in
+      let a = below s.0 s.1 in
+      let b = s.2 in omega (arith, a, b, far))
 
-pub any-held-past : (notes : List NoteParts) (from to : ℕ) → held_end notes ≤ from
-    → is_any_held notes from to ≡ false
-any-held-past notes from to far =
-    elim (is_any_held notes from to) as (λ b. is_any_held notes from to ≡ b → is_any_held notes from to ≡ false) [
-      | true ↦ λ e. absurd (none_from from to (held_end notes) (IsHeld notes) (held-below notes) far
-          ((any_held-says notes from to).0 e))
-      | false ↦ λ e. e
-    ] refl
-
-pub any-held-within : (notes : List NoteParts) (from to least end : ℕ) (b : Bool) → end ≡ held_end notes
-    → least ≡ min to end → IsTrue b ↔ ((x : ℕ) × IsHeld notes x × (from ≤ x) × (x < least))
-    → b ≡ is_any_held notes from to
-any-held-within notes from to least end b is e says =
-    let s = any_held-says notes from to in
-    let n = narrowed from to least end (IsHeld notes)
-    (λ x h. let l = held-below notes x h in omega (arith, l, is)) e in
-    same_bool b (is_any_held notes from to) (λ h. s.1 (n.0 (says.0 h))) (λ h. says.1 (n.1 (s.0 h)))
-
-pub any-disputed-past : (notes : List NoteParts) (from to : ℕ) → held_end notes ≤ from
-    → is_any_disputed notes from to ≡ false
-any-disputed-past notes from to far =
-    elim (is_any_disputed notes from to) as (λ b. is_any_disputed notes from to ≡ b
-    → is_any_disputed notes from to ≡ false) [
-      | true ↦ λ e. absurd (none_from from to (held_end notes) (IsDisputedAt notes) (disputed-below notes) far
-          ((any_disputed-says notes from to).0 e))
-      | false ↦ λ e. e
-    ] refl
-
-pub any-disputed-within : (notes : List NoteParts) (from to least end : ℕ) (b : Bool) → end ≡ held_end notes
-    → least ≡ min to end → IsTrue b ↔ ((x : ℕ) × IsDisputedAt notes x × (from ≤ x) × (x < least))
-    → b ≡ is_any_disputed notes from to
-any-disputed-within notes from to least end b is e says =
-    let s = any_disputed-says notes from to in
-    let n = narrowed from to least end (IsDisputedAt notes)
-    (λ x h. let l = disputed-below notes x h in omega (arith, l, is)) e in
-    same_bool b (is_any_disputed notes from to) (λ h. s.1 (n.0 (says.0 h))) (λ h. says.1 (n.1 (s.0 h)))
+  pub any-within : (b t : Bool) (least end : ℕ) → IsTrue t ↔ Any to → ((x : ℕ) → P x → x < end) → least ≡ min to end
+      → IsTrue b ↔ Any least → b ≡ t
+  any-within b t least end says below e near =
+      same_bool b t (λ h.
+      let s = near.0 h in
+      let a = s.3 in says.1 (s.0, s.1, s.2, omega (arith, a, e))) (λ h.
+      let s = says.0 h in
+      let a = s.3 in
+      let c = below s.0 s.1 in near.1 (s.0, s.1, s.2, omega (arith, a, c, e)))
 
 pub lt-leb : (a b : ℕ) → b < a → nat_le a b ≡ false
 lt-leb a b l =

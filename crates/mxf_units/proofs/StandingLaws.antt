@@ -1,6 +1,6 @@
 -- Each standing has its cause.
 use Rattle.std.proofs.Common.{ℕ, Result, Ok, Err, List, inl, inr}
-use Rattle.mxf_klv.specs.Parts.{NoteParts}
+use Rattle.mxf_places.specs.AtHand.{KnownParts}
 use Rattle.mxf_views.specs.Places.{IsOnlyPlace, segments_of}
 use Rattle.mxf_units.specs.declared.standing.UnitStanding.{UnitStanding}
 use Rattle.mxf_units.specs.declared.standing.UnitStanding.TheVariants as standings
@@ -14,62 +14,64 @@ use Rattle.mxf_units.proofs.StandingPlaces.{IsPlacing, placing}
 use Rattle.mxf_units.proofs.StandingRanges.{standing-says}
 use Rattle.mxf_units.proofs.StandingZones.{zone-says}
 
-by_zone : (notes : List NoteParts) (index_sid : ℕ) (place : StreamPlace) (zone : Result EssenceZone UnitStanding)
-    → IsZone notes place.body_sid place.offset zone
-    → IsStandingAt notes index_sid place.body_sid place.offset
-    (standing_by notes (location_in (segments_for notes index_sid) place zone))
-by_zone notes index_sid place (Err w) z = inl z
-by_zone notes index_sid place (Ok zone) z =
+by_zone : (known : KnownParts) (index_sid : ℕ) (place : StreamPlace) (zone : Result EssenceZone UnitStanding)
+    → IsZone known.notes place.body_sid place.offset zone
+    → IsStandingAt known index_sid place.body_sid place.offset
+    (standing_by known (location_in (segments_for known.notes index_sid) place zone))
+by_zone known index_sid place (Err w) z = inl z
+by_zone known index_sid place (Ok zone) z =
     inr (
       zone,
       z,
-      standing-says notes (record {
+      standing-says known (record {
         zone = zone;
         extent = extent_in zone place.offset
-            (next_of (segments_for notes index_sid) place.body_sid place.offset);
+            (next_of (segments_for known.notes index_sid) place.body_sid place.offset);
       }),
     )
 
-at_place : (notes : List NoteParts) (index_sid unit body_sid offset : ℕ) (w : UnitStanding)
-    → IsOnlyPlace (segments_of notes) index_sid unit body_sid offset
-    → IsStandingAt notes index_sid body_sid offset w → IsStanding notes index_sid unit w
-at_place notes index_sid unit body_sid offset standings.NotIndexed o (inl z) = absurd z
-at_place notes index_sid unit body_sid offset standings.NotIndexed o (inr s) = absurd s.2
-at_place notes index_sid unit body_sid offset standings.Ambiguous o (inl z) = absurd z
-at_place notes index_sid unit body_sid offset standings.Ambiguous o (inr s) = absurd s.2
-at_place notes index_sid unit body_sid offset standings.NoPartition o s = (body_sid, offset, o, s)
-at_place notes index_sid unit body_sid offset standings.Several o s = (body_sid, offset, o, s)
-at_place notes index_sid unit body_sid offset standings.Unknown o s = (body_sid, offset, o, s)
-at_place notes index_sid unit body_sid offset standings.Elsewhere o s = (body_sid, offset, o, s)
-at_place notes index_sid unit body_sid offset standings.Unsure o s = (body_sid, offset, o, s)
-at_place notes index_sid unit body_sid offset standings.Disputed o s = (body_sid, offset, o, s)
-at_place notes index_sid unit body_sid offset standings.Missing o s = (body_sid, offset, o, s)
-at_place notes index_sid unit body_sid offset standings.Part o s = (body_sid, offset, o, s)
-at_place notes index_sid unit body_sid offset standings.Held o s = (body_sid, offset, o, s)
+at_place : (known : KnownParts) (index_sid unit body_sid offset : ℕ) (w : UnitStanding)
+    → IsOnlyPlace (segments_of known.notes) index_sid unit body_sid offset
+    → IsStandingAt known index_sid body_sid offset w → IsStanding known index_sid unit w
+at_place known index_sid unit body_sid offset standings.NotIndexed o (inl z) = absurd z
+at_place known index_sid unit body_sid offset standings.NotIndexed o (inr s) = absurd s.2
+at_place known index_sid unit body_sid offset standings.Ambiguous o (inl z) = absurd z
+at_place known index_sid unit body_sid offset standings.Ambiguous o (inr s) = absurd s.2
+at_place known index_sid unit body_sid offset standings.NoPartition o s = (body_sid, offset, o, s)
+at_place known index_sid unit body_sid offset standings.Several o s = (body_sid, offset, o, s)
+at_place known index_sid unit body_sid offset standings.Unknown o s = (body_sid, offset, o, s)
+at_place known index_sid unit body_sid offset standings.Elsewhere o s = (body_sid, offset, o, s)
+at_place known index_sid unit body_sid offset standings.Unsure o s = (body_sid, offset, o, s)
+at_place known index_sid unit body_sid offset standings.Disputed o s = (body_sid, offset, o, s)
+at_place known index_sid unit body_sid offset standings.Missing o s = (body_sid, offset, o, s)
+at_place known index_sid unit body_sid offset standings.Part o s = (body_sid, offset, o, s)
+at_place known index_sid unit body_sid offset standings.Held o s = (body_sid, offset, o, s)
+at_place known index_sid unit body_sid offset standings.Hand o s = (body_sid, offset, o, s)
 
-by_place : (notes : List NoteParts) (index_sid unit : ℕ) (place : Result StreamPlace UnitStanding)
-    → IsPlacing notes index_sid unit place
-    → IsStanding notes index_sid unit
-    (standing_by notes (location_at (parts_of notes) (segments_for notes index_sid) place))
-by_place notes index_sid unit (Ok p) h =
-    let zone = zone_at (parts_of notes) p.body_sid p.offset in
-    at_place notes index_sid unit p.body_sid p.offset
-    (standing_by notes (location_in (segments_for notes index_sid) p zone)) h
-    (by_zone notes index_sid p zone (zone-says notes p.body_sid p.offset))
-by_place notes index_sid unit (Err standings.NotIndexed) h = h
-by_place notes index_sid unit (Err standings.Ambiguous) h = h
-by_place notes index_sid unit (Err standings.NoPartition) h = absurd h
-by_place notes index_sid unit (Err standings.Several) h = absurd h
-by_place notes index_sid unit (Err standings.Unknown) h = absurd h
-by_place notes index_sid unit (Err standings.Elsewhere) h = absurd h
-by_place notes index_sid unit (Err standings.Unsure) h = absurd h
-by_place notes index_sid unit (Err standings.Disputed) h = absurd h
-by_place notes index_sid unit (Err standings.Missing) h = absurd h
-by_place notes index_sid unit (Err standings.Part) h = absurd h
-by_place notes index_sid unit (Err standings.Held) h = absurd h
+by_place : (known : KnownParts) (index_sid unit : ℕ) (place : Result StreamPlace UnitStanding)
+    → IsPlacing known.notes index_sid unit place
+    → IsStanding known index_sid unit
+    (standing_by known (location_at (parts_of known.notes) (segments_for known.notes index_sid) place))
+by_place known index_sid unit (Ok p) h =
+    let zone = zone_at (parts_of known.notes) p.body_sid p.offset in
+    at_place known index_sid unit p.body_sid p.offset
+    (standing_by known (location_in (segments_for known.notes index_sid) p zone)) h
+    (by_zone known index_sid p zone (zone-says known.notes p.body_sid p.offset))
+by_place known index_sid unit (Err standings.NotIndexed) h = h
+by_place known index_sid unit (Err standings.Ambiguous) h = h
+by_place known index_sid unit (Err standings.NoPartition) h = absurd h
+by_place known index_sid unit (Err standings.Several) h = absurd h
+by_place known index_sid unit (Err standings.Unknown) h = absurd h
+by_place known index_sid unit (Err standings.Elsewhere) h = absurd h
+by_place known index_sid unit (Err standings.Unsure) h = absurd h
+by_place known index_sid unit (Err standings.Disputed) h = absurd h
+by_place known index_sid unit (Err standings.Missing) h = absurd h
+by_place known index_sid unit (Err standings.Part) h = absurd h
+by_place known index_sid unit (Err standings.Held) h = absurd h
+by_place known index_sid unit (Err standings.Hand) h = absurd h
 
-pub standings_by_cause : (notes : List NoteParts) (index_sid unit : ℕ)
-    → IsStanding notes index_sid unit (unit_of notes index_sid unit).standing
+pub standings_by_cause : (known : KnownParts) (index_sid unit : ℕ)
+    → IsStanding known index_sid unit (unit_of known index_sid unit).standing
 unfolding unit_of location_of
-standings_by_cause notes index_sid unit =
-    by_place notes index_sid unit (place_of (segments_for notes index_sid) unit) (placing notes index_sid unit)
+standings_by_cause known index_sid unit =
+    by_place known index_sid unit (place_of (segments_for known.notes index_sid) unit) (placing known.notes index_sid unit)

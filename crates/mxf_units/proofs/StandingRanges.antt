@@ -1,23 +1,20 @@
 -- How bytes stand, by the tests and by the causes.
 use Rattle.std.proofs.Common.{◌≡◌, ◌∙◌, ◌<◌, ◌≤◌, ◌&&◌, ◌||◌, ◌⊎◌, ℕ, Bool, true, false, not, List, Option, None, Some}
-use Rattle.std.proofs.Common.{refl, ap, inl, inr, is_some, nat_le, nat_lt, if◌then◌else◌}
-use Rattle.std.proofs.lemmas.Bool.{and_from, and_parts, le-leb, leb-true}
+use Rattle.std.proofs.Common.{refl, ap, inl, inr, is_some, IsSome, nat_le, nat_lt, if◌then◌else◌}
+use Rattle.std.proofs.lemmas.Bool.{and_from, and_parts, false_from_ne_true, le-leb, leb-true}
 use Rattle.std.proofs.Common.{ltb-true, lt-ltb}
 use Rattle.std.specs.Option.{option_map_or}
-use Rattle.mxf_klv.specs.Parts.{NoteParts}
+use Rattle.mxf_places.specs.AtHand.{KnownParts}
 use Rattle.mxf_klv.proofs.Tests.{either}
 use Rattle.mxf_units.specs.declared.standing.UnitStanding.{UnitStanding}
 use Rattle.mxf_units.specs.declared.standing.UnitStanding.TheVariants as standings
 use Rattle.mxf_units.specs.declared.essence_zone.EssenceZone.{EssenceZone}
 use Rattle.mxf_units.specs.declared.location.Location.{Location}
 use Rattle.mxf_units.specs.declared.unit.Extent.{Extent}
-use Rattle.mxf_units.specs.Units.{are_all_held, asked_end, ends_behind, is_any_disputed, is_any_held, standing_in}
-use Rattle.mxf_units.specs.Standings.{AllHeld, AnyDisputed, AnyHeld, GoesBehind, IsStandingIn, LiesInside}
-use Rattle.mxf_units.proofs.RangeLaws.{all_held-says, any_disputed-says, any_held-says}
-
-either-says : (a b : Bool) → (a || b) ≡ true → (a ≡ true) ⊎ (b ≡ true)
-either-says true b e = inl refl
-either-says false b e = inr e
+use Rattle.mxf_units.specs.Units.{are_all_held, are_all_known, asked_end, ends_behind, is_any_disputed, is_any_known}
+use Rattle.mxf_units.specs.Units.{standing_in}
+use Rattle.mxf_units.specs.Standings.{AllHeld, AllKnown, AnyDisputed, AnyKnown, GoesBehind, IsStandingIn, LiesInside}
+use Rattle.mxf_units.proofs.RangeLaws.{all_held-says, all_known-says, any_disputed-says, any_known-says, either-says}
 
 abbrev goes : EssenceZone → Extent → Bool
 goes zone e = option_map_or (ends_behind e) zone.limit false
@@ -70,173 +67,191 @@ part : (o : Option ℕ) (b : Bool) → (is_some o && b) ≡ false → (o ≡ Non
 part None b e = inl refl
 part (Some x) b e = inr e
 
-pub standing-says : (notes : List NoteParts) (l : Location) → IsStandingIn notes l.zone l.extent (standing_in notes l)
-standing-says notes l =
-    let zone = l.zone in
-    let e = l.extent in
-    let end = asked_end e in
-    let origin_held = all_held-says notes zone.origin end in
-    let all = all_held-says notes e.start end in
-    let any = any_held-says notes e.start end in
-    let disputed_place = any_disputed-says notes e.start end in
-    elim (goes zone e) as (λ a. goes zone e ≡ a → IsStandingIn notes zone e
-    (if a then standings.Elsewhere
-    else (if not zone.is_sure && not (are_all_held notes zone.origin end) then standings.Unsure
-    else (if is_any_disputed notes e.start end then standings.Disputed
-    else (if not (is_any_held notes e.start end) then standings.Missing
-    else (if is_some e.end && are_all_held notes e.start end then standings.Held else standings.Part)))))) [
-      | true ↦ λ f. goes-says zone e f
-      | false ↦ λ f.
-          let within : ¬ GoesBehind zone e = denied (GoesBehind zone e) (goes zone e) (says-goes zone e) f in
-          elim (not zone.is_sure && not (are_all_held notes zone.origin end)) as (λ b.
-          (not zone.is_sure && not (are_all_held notes zone.origin end)) ≡ b → IsStandingIn notes zone e
-          (if b then standings.Unsure
-          else (if is_any_disputed notes e.start end then standings.Disputed
-          else (if not (is_any_held notes e.start end) then standings.Missing
-          else (if is_some e.end && are_all_held notes e.start end then standings.Held else standings.Part))))) [
-            | true ↦ λ g.
-                let u = unsure zone.is_sure (are_all_held notes zone.origin end) g in (
-                  within,
-                  u.0,
-                  denied (AllHeld notes zone.origin end) (are_all_held notes zone.origin end) origin_held.1 u.1,
-                )
-            | false ↦ λ g.
-                let inside : LiesInside notes zone e = record {
-                  within = within;
-                  sure = elim (sure zone.is_sure (are_all_held notes zone.origin end) g) [
-                    | inl s ↦ inl s
-                    | inr s ↦ inr (origin_held.0 s)
-                  ];
-                } in
-                elim (is_any_disputed notes e.start end) as (λ c. is_any_disputed notes e.start end ≡ c
-                → IsStandingIn notes zone e
-                (if c then standings.Disputed
-                else (if not (is_any_held notes e.start end) then standings.Missing
-                else (if is_some e.end && are_all_held notes e.start end then standings.Held
-                else standings.Part)))) [
-                  | true ↦ λ h. (inside, disputed_place.0 h)
-                  | false ↦ λ h.
-                      let clear = denied (AnyDisputed notes e.start end) (is_any_disputed notes e.start end) disputed_place.1 h in
-                      elim (is_any_held notes e.start end) as (λ d. is_any_held notes e.start end ≡ d
-                      → IsStandingIn notes zone e
-                      (if not d then standings.Missing
-                      else (if is_some e.end && are_all_held notes e.start end then standings.Held
-                      else standings.Part))) [
-                        | false ↦ λ j. (
-                          inside,
-                          clear,
-                          denied (AnyHeld notes e.start end) (is_any_held notes e.start end) any.1 j,
-                        )
-                        | true ↦ λ j.
-                            elim (is_some e.end && are_all_held notes e.start end) as (λ k.
-                            (is_some e.end && are_all_held notes e.start end) ≡ k → IsStandingIn notes zone e
-                            (if k then standings.Held else standings.Part)) [
-                              | true ↦ λ m.
-                                  let s = and_parts (is_some e.end) (are_all_held notes e.start end) m in
-                                  (inside, clear, any.0 j, s.0, all.0 s.1)
-                              | false ↦ λ m. (
-                                inside,
-                                clear,
-                                any.0 j,
-                                elim (part e.end (are_all_held notes e.start end) m) [
-                                  | inl n ↦ inl n
-                                  | inr n ↦
-                                      inr (denied (AllHeld notes e.start end) (are_all_held notes e.start end) all.1 n)
-                                ],
-                              )
-                            ] refl
-                      ] refl
-                ] refl
-          ] refl
-    ] refl
+module _ (known : KnownParts) (l : Location) where
+  abbrev zone : EssenceZone
+  zone = l.zone
 
--- ---- and back
+  abbrev e : Extent
+  e = l.extent
 
-abbrev cascade : Bool → Bool → Bool → Bool → Bool → UnitStanding
-cascade a b c d k =
-    if a then standings.Elsewhere
-    else (if b then standings.Unsure
-    else (if c then standings.Disputed
-    else (if not d then standings.Missing else (if k then standings.Held else standings.Part))))
-
-fails : (b : Bool) → (b ≡ true → ⊥) → b ≡ false
-fails true f = absurd (f refl)
-fails false f = refl
-
-module _ (notes : List NoteParts) (l : Location) where
   abbrev end : ℕ
   end = asked_end l.extent
 
   abbrev origin_held : Bool
-  origin_held = are_all_held notes l.zone.origin end
+  origin_held = are_all_held known.notes zone.origin end
 
   abbrev unsure_test : Bool
-  unsure_test = not l.zone.is_sure && not origin_held
+  unsure_test = not zone.is_sure && not origin_held
 
-  abbrev disputed_place_test : Bool
-  disputed_place_test = is_any_disputed notes l.extent.start end
+  abbrev disputed_test : Bool
+  disputed_test = is_any_disputed known.notes e.start end
 
   abbrev any_test : Bool
-  any_test = is_any_held notes l.extent.start end
+  any_test = is_any_known known e.start end
 
-  abbrev all_test : Bool
-  all_test = is_some l.extent.end && are_all_held notes l.extent.start end
+  abbrev held_test : Bool
+  held_test = is_some e.end && are_all_held known.notes e.start end
 
-  within_is : ¬ GoesBehind l.zone l.extent → goes l.zone l.extent ≡ false
-  within_is n = fails (goes l.zone l.extent) (λ e. n (goes-says l.zone l.extent e))
+  abbrev hand_test : Bool
+  hand_test = is_some e.end && are_all_known known e.start end
 
-  inside_is : LiesInside notes l.zone l.extent → unsure_test ≡ false
+  abbrev cascade : Bool → Bool → Bool → Bool → Bool → Bool → UnitStanding
+  cascade a b c d k m =
+      if a then standings.Elsewhere
+      else (if b then standings.Unsure
+      else (if c then standings.Disputed
+      else (if not d then standings.Missing
+      else (if k then standings.Held else (if m then standings.Hand else standings.Part)))))
+
+  -- ---- what holds where a test passes or fails
+
+  inside : goes zone e ≡ false → unsure_test ≡ false → LiesInside known.notes zone e
+  inside f g = record {
+    within = denied (GoesBehind zone e) (goes zone e) (says-goes zone e) f;
+    sure = elim (sure zone.is_sure origin_held g) [
+      | inl s ↦ inl s
+      | inr s ↦ inr ((all_held-says known.notes zone.origin end).0 s)
+    ];
+  }
+
+  clear : disputed_test ≡ false → ¬ AnyDisputed known.notes e.start end
+  clear h = denied (AnyDisputed known.notes e.start end) disputed_test (any_disputed-says known.notes e.start end).1 h
+
+  not_held : is_some e.end ≡ true → held_test ≡ false → ¬ AllHeld known.notes e.start end
+  not_held some k all =
+      let t = and_from (is_some e.end) (are_all_held known.notes e.start end) some
+      ((all_held-says known.notes e.start end).1 all) in cc (t, k)
+
+  by_tests : (a b c d k m : Bool) → goes zone e ≡ a → unsure_test ≡ b → disputed_test ≡ c → any_test ≡ d
+      → held_test ≡ k → hand_test ≡ m → IsStandingIn known zone e (cascade a b c d k m)
+  by_tests true b c d k m f g h j n o = goes-says zone e f
+  by_tests false true c d k m f g h j n o =
+      let u = unsure zone.is_sure origin_held g in (
+        denied (GoesBehind zone e) (goes zone e) (says-goes zone e) f,
+        u.0,
+        denied (AllHeld known.notes zone.origin end) origin_held (all_held-says known.notes zone.origin end).1 u.1,
+      )
+  by_tests false false true d k m f g h j n o = (inside f g, (any_disputed-says known.notes e.start end).0 h)
+  by_tests false false false false k m f g h j n o = (
+    inside f g,
+    clear h,
+    denied (AnyKnown known e.start end) any_test (any_known-says known e.start end).1 j,
+  )
+  by_tests false false false true true m f g h j n o =
+      let s = and_parts (is_some e.end) (are_all_held known.notes e.start end) n in (
+        inside f g,
+        clear h,
+        (any_known-says known e.start end).0 j,
+        s.0,
+        (all_held-says known.notes e.start end).0 s.1,
+      )
+  by_tests false false false true false true f g h j n o =
+      let s = and_parts (is_some e.end) (are_all_known known e.start end) o in (
+        inside f g,
+        clear h,
+        (any_known-says known e.start end).0 j,
+        s.0,
+        (all_known-says known e.start end).0 s.1,
+        not_held s.0 n,
+      )
+  by_tests false false false true false false f g h j n o = (
+    inside f g,
+    clear h,
+    (any_known-says known e.start end).0 j,
+    elim (part e.end (are_all_known known e.start end) o) [
+      | inl none ↦ inl none
+      | inr some ↦ inr (denied (AllKnown known e.start end) (are_all_known known e.start end)
+          (all_known-says known e.start end).1 some)
+    ],
+  )
+
+  pub standing-says : IsStandingIn known zone e (standing_in known l)
+  standing-says =
+      by_tests (goes zone e) unsure_test disputed_test any_test held_test hand_test refl refl refl refl refl refl
+
+  -- ---- and back
+
+  within_is : ¬ GoesBehind zone e → goes zone e ≡ false
+  within_is n = false_from_ne_true (goes zone e) (λ t. n (goes-says zone e t))
+
+  inside_is : LiesInside known.notes zone e → unsure_test ≡ false
   inside_is i = elim i.sure [
     | inl s ↦ ap (λ b. not b && not origin_held) s
-    | inr a ↦ fails unsure_test (λ e.
-        let u = unsure l.zone.is_sure origin_held e in
-        let t = (all_held-says notes l.zone.origin end).1 a in
-        let f = u.1 in cc (t, f))
+    | inr a ↦ false_from_ne_true unsure_test (λ t.
+        let u = unsure zone.is_sure origin_held t in
+        let h = (all_held-says known.notes zone.origin end).1 a in
+        let f = u.1 in cc (h, f))
   ]
 
-  clear_is : ¬ AnyDisputed notes l.extent.start end → disputed_place_test ≡ false
-  clear_is n = fails disputed_place_test (λ e. n ((any_disputed-says notes l.extent.start end).0 e))
+  clear_is : ¬ AnyDisputed known.notes e.start end → disputed_test ≡ false
+  clear_is n = false_from_ne_true disputed_test (λ t. n ((any_disputed-says known.notes e.start end).0 t))
 
-  pub standing-exact : (w : UnitStanding) → IsStandingIn notes l.zone l.extent w → standing_in notes l ≡ w
+  none_of : (o : Option ℕ) (b : Bool) → ((o ≡ None) ⊎ (b ≡ true → ⊥)) → (is_some o && b) ≡ false
+  none_of o b (inl n) = ap (λ x. is_some x && b) n
+  none_of o b (inr f) = false_from_ne_true (is_some o && b) (λ t. f (and_parts (is_some o) b t).1)
+
+  all_held : IsSome e.end → AllHeld known.notes e.start end → held_test ≡ true
+  all_held some all =
+      and_from (is_some e.end) (are_all_held known.notes e.start end) some
+      ((all_held-says known.notes e.start end).1 all)
+
+  not_all_held : ¬ AllHeld known.notes e.start end → held_test ≡ false
+  not_all_held n = none_of e.end (are_all_held known.notes e.start end) (inr (λ t.
+      n ((all_held-says known.notes e.start end).0 t)))
+
+  -- Where not all is known, not all is held.
+  held_known : AllHeld known.notes e.start end → AllKnown known e.start end
+  held_known all x low high = inl (all x low high)
+
+  pub standing-exact : (w : UnitStanding) → IsStandingIn known zone e w → standing_in known l ≡ w
   standing-exact standings.Elsewhere h =
-      ap (λ a. cascade a unsure_test disputed_place_test any_test all_test) (says-goes l.zone l.extent h)
+      ap (λ a. cascade a unsure_test disputed_test any_test held_test hand_test) (says-goes zone e h)
   standing-exact standings.Unsure h =
       let a = within_is h.0 in
-      let held = fails origin_held (λ e. h.2 ((all_held-says notes l.zone.origin end).0 e)) in
+      let held = false_from_ne_true origin_held (λ t. h.2 ((all_held-says known.notes zone.origin end).0 t)) in
       let sure = h.1 in
-      λ i. cascade (a i) (not (sure i) && not (held i)) disputed_place_test any_test all_test
+      λ i. cascade (a i) (not (sure i) && not (held i)) disputed_test any_test held_test hand_test
   standing-exact standings.Disputed h =
       let a = within_is h.0.within in
       let b = inside_is h.0 in
-      let c : disputed_place_test ≡ true = (any_disputed-says notes l.extent.start end).1 h.1 in
-      λ i. cascade (a i) (b i) (c i) any_test all_test
+      let c : disputed_test ≡ true = (any_disputed-says known.notes e.start end).1 h.1 in
+      λ i. cascade (a i) (b i) (c i) any_test held_test hand_test
   standing-exact standings.Missing h =
       let a = within_is h.0.within in
       let b = inside_is h.0 in
       let c = clear_is h.1 in
-      let d = fails any_test (λ e. h.2 ((any_held-says notes l.extent.start end).0 e)) in
-      λ i. cascade (a i) (b i) (c i) (d i) all_test
+      let d = false_from_ne_true any_test (λ t. h.2 ((any_known-says known e.start end).0 t)) in
+      λ i. cascade (a i) (b i) (c i) (d i) held_test hand_test
   standing-exact standings.Part h =
       let a = within_is h.0.within in
       let b = inside_is h.0 in
       let c = clear_is h.1 in
-      let d : any_test ≡ true = (any_held-says notes l.extent.start end).1 h.2 in
-      let k = fails all_test (λ e.
-      let s = and_parts (is_some l.extent.end) (are_all_held notes l.extent.start end) e in
-      elim h.3 [
-        | inl n ↦ let t = s.0 in let f = ap is_some n in cc (t, f)
-        | inr n ↦ n ((all_held-says notes l.extent.start end).0 s.1)
-      ]) in
-      λ i. cascade (a i) (b i) (c i) (d i) (k i)
+      let d : any_test ≡ true = (any_known-says known e.start end).1 h.2 in
+      let unknown : (e.end ≡ None) ⊎ (are_all_known known e.start end ≡ true → ⊥) = elim h.3 [
+        | inl n ↦ inl n
+        | inr n ↦ inr (λ t. n ((all_known-says known e.start end).0 t))
+      ] in
+      let m = none_of e.end (are_all_known known e.start end) unknown in
+      let k : held_test ≡ false = elim h.3 [
+        | inl n ↦ none_of e.end (are_all_held known.notes e.start end) (inl n)
+        | inr n ↦ not_all_held (λ all. n (held_known all))
+      ] in
+      λ i. cascade (a i) (b i) (c i) (d i) (k i) (m i)
   standing-exact standings.Held h =
       let a = within_is h.0.within in
       let b = inside_is h.0 in
       let c = clear_is h.1 in
-      let d : any_test ≡ true = (any_held-says notes l.extent.start end).1 h.2 in
-      let k : all_test ≡ true =
-      and_from (is_some l.extent.end) (are_all_held notes l.extent.start end) h.3
-      ((all_held-says notes l.extent.start end).1 h.4) in
-      λ i. cascade (a i) (b i) (c i) (d i) (k i)
+      let d : any_test ≡ true = (any_known-says known e.start end).1 h.2 in
+      let k = all_held h.3 h.4 in λ i. cascade (a i) (b i) (c i) (d i) (k i) hand_test
+  standing-exact standings.Hand h =
+      let a = within_is h.0.within in
+      let b = inside_is h.0 in
+      let c = clear_is h.1 in
+      let d : any_test ≡ true = (any_known-says known e.start end).1 h.2 in
+      let k = not_all_held h.5 in
+      let m : hand_test ≡ true =
+      and_from (is_some e.end) (are_all_known known e.start end) h.3 ((all_known-says known e.start end).1 h.4) in
+      λ i. cascade (a i) (b i) (c i) (d i) (k i) (m i)
   standing-exact standings.NotIndexed h = absurd h
   standing-exact standings.Ambiguous h = absurd h
   standing-exact standings.NoPartition h = absurd h

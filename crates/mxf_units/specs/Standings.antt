@@ -6,6 +6,7 @@ use Rattle.mxf_klv.specs.Rising.{In}
 use Rattle.mxf_views.specs.Partitions.{PartitionParts, partitions_of}
 use Rattle.mxf_views.specs.Places.{IsGiven, IsOnlyPlace, segments_of}
 use Rattle.mxf_views.specs.declared.index.place.StreamPlace.{StreamPlace}
+use Rattle.mxf_places.specs.AtHand.{KnownParts}
 use Rattle.mxf_places.specs.Held.{IsDisputedAt, IsHeld}
 use Rattle.mxf_units.specs.declared.standing.UnitStanding.{UnitStanding}
 use Rattle.mxf_units.specs.declared.standing.UnitStanding.TheVariants as standings
@@ -13,7 +14,7 @@ use Rattle.mxf_units.specs.declared.essence_zone.EssenceZone.{EssenceZone}
 use Rattle.mxf_units.specs.declared.unit.Extent.{Extent}
 use Rattle.mxf_units.specs.EssenceZones.{zone_of}
 use Rattle.mxf_units.specs.Streams.{next_of, segments_for}
-use Rattle.mxf_units.specs.Units.{asked_end, extent_in}
+use Rattle.mxf_units.specs.Units.{IsKnown, asked_end, extent_in}
 
 -- A partition of a stream that begins at an offset or below it.
 pub record BeginsUpTo (notes : List NoteParts) (body_sid offset : ℕ) (p : PartitionParts) : Type 0 where
@@ -50,12 +51,15 @@ pub record GoesBehind (zone : EssenceZone) (e : Extent) : Type 0 where
   pub limit_is : zone.limit ≡ Some limit
   pub behind : (limit ≤ e.start) ⊎ ((end : ℕ) × (e.end ≡ Some end) × (limit < end))
 
--- All offsets of a range are held, or some is, or some is disputed.
+-- All offsets of a range are held, or are held or at hand, or some is either, or some is disputed.
 abbrev pub AllHeld : List NoteParts → ℕ → ℕ → Type 0
 AllHeld notes from to = (x : ℕ) → from ≤ x → x < to → IsHeld notes x
 
-abbrev pub AnyHeld : List NoteParts → ℕ → ℕ → Type 0
-AnyHeld notes from to = (x : ℕ) × IsHeld notes x × (from ≤ x) × (x < to)
+abbrev pub AllKnown : KnownParts → ℕ → ℕ → Type 0
+AllKnown known from to = (x : ℕ) → from ≤ x → x < to → IsKnown known x
+
+abbrev pub AnyKnown : KnownParts → ℕ → ℕ → Type 0
+AnyKnown known from to = (x : ℕ) × IsKnown known x × (from ≤ x) × (x < to)
 
 abbrev pub AnyDisputed : List NoteParts → ℕ → ℕ → Type 0
 AnyDisputed notes from to = (x : ℕ) × IsDisputedAt notes x × (from ≤ x) × (x < to)
@@ -67,34 +71,41 @@ pub record LiesInside (notes : List NoteParts) (zone : EssenceZone) (e : Extent)
   pub sure : (zone.is_sure ≡ true) ⊎ AllHeld notes zone.origin (asked_end e)
 
 -- How bytes stand of which it is known where they are looked for.
-abbrev pub IsStandingIn : List NoteParts → EssenceZone → Extent → UnitStanding → Type 0
-IsStandingIn notes zone e standings.Elsewhere = GoesBehind zone e
-IsStandingIn notes zone e standings.Unsure =
-    (¬ GoesBehind zone e) × (zone.is_sure ≡ false) × (¬ AllHeld notes zone.origin (asked_end e))
-IsStandingIn notes zone e standings.Disputed = LiesInside notes zone e × AnyDisputed notes e.start (asked_end e)
-IsStandingIn notes zone e standings.Missing =
-    LiesInside notes zone e × (¬ AnyDisputed notes e.start (asked_end e)) × (¬ AnyHeld notes e.start (asked_end e))
-IsStandingIn notes zone e standings.Part =
-    LiesInside notes zone e × (¬ AnyDisputed notes e.start (asked_end e)) × AnyHeld notes e.start (asked_end e)
-    × ((e.end ≡ None) ⊎ ¬ AllHeld notes e.start (asked_end e))
-IsStandingIn notes zone e standings.Held =
-    LiesInside notes zone e × (¬ AnyDisputed notes e.start (asked_end e)) × AnyHeld notes e.start (asked_end e)
-    × IsSome e.end × AllHeld notes e.start (asked_end e)
-IsStandingIn notes zone e _ = ⊥
+abbrev pub IsStandingIn : KnownParts → EssenceZone → Extent → UnitStanding → Type 0
+IsStandingIn known zone e standings.Elsewhere = GoesBehind zone e
+IsStandingIn known zone e standings.Unsure =
+    (¬ GoesBehind zone e) × (zone.is_sure ≡ false) × (¬ AllHeld known.notes zone.origin (asked_end e))
+IsStandingIn known zone e standings.Disputed =
+    LiesInside known.notes zone e × AnyDisputed known.notes e.start (asked_end e)
+IsStandingIn known zone e standings.Missing =
+    LiesInside known.notes zone e × (¬ AnyDisputed known.notes e.start (asked_end e))
+    × (¬ AnyKnown known e.start (asked_end e))
+IsStandingIn known zone e standings.Part =
+    LiesInside known.notes zone e × (¬ AnyDisputed known.notes e.start (asked_end e))
+    × AnyKnown known e.start (asked_end e) × ((e.end ≡ None) ⊎ ¬ AllKnown known e.start (asked_end e))
+IsStandingIn known zone e standings.Held =
+    LiesInside known.notes zone e × (¬ AnyDisputed known.notes e.start (asked_end e))
+    × AnyKnown known e.start (asked_end e) × IsSome e.end × AllHeld known.notes e.start (asked_end e)
+IsStandingIn known zone e standings.Hand =
+    LiesInside known.notes zone e × (¬ AnyDisputed known.notes e.start (asked_end e))
+    × AnyKnown known e.start (asked_end e) × IsSome e.end × AllKnown known e.start (asked_end e)
+    × (¬ AllHeld known.notes e.start (asked_end e))
+IsStandingIn known zone e _ = ⊥
 
 -- How a unit stands of which the place is known.
-abbrev pub IsStandingAt : List NoteParts → ℕ → ℕ → ℕ → UnitStanding → Type 0
-IsStandingAt notes index_sid body_sid offset standing =
-    IsZone notes body_sid offset (Err standing)
-    ⊎ ((zone : EssenceZone) × IsZone notes body_sid offset (Ok zone)
-    × IsStandingIn notes zone (extent_in zone offset (next_of (segments_for notes index_sid) body_sid offset)) standing)
+abbrev pub IsStandingAt : KnownParts → ℕ → ℕ → ℕ → UnitStanding → Type 0
+IsStandingAt known index_sid body_sid offset standing =
+    IsZone known.notes body_sid offset (Err standing)
+    ⊎ ((zone : EssenceZone) × IsZone known.notes body_sid offset (Ok zone)
+    × IsStandingIn known zone (extent_in zone offset (next_of (segments_for known.notes index_sid) body_sid offset))
+    standing)
 
 -- How a unit stands: no segment gives it a place, or two give different ones, or all that give one give this one.
-abbrev pub IsStanding : List NoteParts → ℕ → ℕ → UnitStanding → Type 0
-IsStanding notes index_sid unit standings.NotIndexed = (p : StreamPlace) → ¬ IsGiven (segments_of notes) index_sid unit p
-IsStanding notes index_sid unit standings.Ambiguous =
-    (p : StreamPlace) × (q : StreamPlace) × IsGiven (segments_of notes) index_sid unit p
-    × IsGiven (segments_of notes) index_sid unit q × (p ≢ q)
-IsStanding notes index_sid unit standing =
-    (body_sid : ℕ) × (offset : ℕ) × IsOnlyPlace (segments_of notes) index_sid unit body_sid offset
-    × IsStandingAt notes index_sid body_sid offset standing
+abbrev pub IsStanding : KnownParts → ℕ → ℕ → UnitStanding → Type 0
+IsStanding known index_sid unit standings.NotIndexed = (p : StreamPlace) → ¬ IsGiven (segments_of known.notes) index_sid unit p
+IsStanding known index_sid unit standings.Ambiguous =
+    (p : StreamPlace) × (q : StreamPlace) × IsGiven (segments_of known.notes) index_sid unit p
+    × IsGiven (segments_of known.notes) index_sid unit q × (p ≢ q)
+IsStanding known index_sid unit standing =
+    (body_sid : ℕ) × (offset : ℕ) × IsOnlyPlace (segments_of known.notes) index_sid unit body_sid offset
+    × IsStandingAt known index_sid body_sid offset standing

@@ -18,16 +18,18 @@
 //! partition then. Where all units of a partition lie in one packet, its BodyOffset counts from the first byte of that
 //! packet's value, and else from its key.
 //!
-//! What is proved: each answer is its definition over the notes of the catalogue (`unit_of`, `index_sids_of`). The laws
-//! say more of these: [`standings_by_definition`], that each standing has its cause; [`held_units_are_held`], that of a
-//! unit which stands as held each byte is; [`next_by_definition`], [`first_packets_by_definition`] and
+//! What is proved: each answer is its definition over the notes of the catalogue and what is at hand beside them
+//! (`unit_of`, `index_sids_of`). The laws say more of these: [`standings_by_definition`], that each standing has its
+//! cause; [`held_units_are_held`], that of a unit which stands as held each byte is, and [`units_at_hand_are_known`], that
+//! of one which stands as at hand each is held or at hand; [`next_by_definition`], [`first_packets_by_definition`] and
 //! [`limits_by_definition`], what next places, first packets and limits are; [`one_last_unit`], that an index has one last
 //! unit at most.
 //!
 //! The units from `from` up to `to` of an index, whose bytes are all held:
 //!
 //! ```
-//! let units = Units::of(rt.alloc(), &views, index_sid)?;
+//! let at_hand = AtHand::nothing(rt.alloc());
+//! let units = Units::of(rt.alloc(), &views, &at_hand, index_sid)?;
 //! for number in from..to {
 //!     let unit = units.unit(number);
 //!     if unit.standing != UnitStanding::Held {
@@ -57,4 +59,6 @@ pub use last::{last_unit, one_last_unit};
 pub use segments::next_by_definition;
 pub use standing::UnitStanding;
 pub use unit::{EditUnit, Extent};
-pub use units::{Units, held_units_are_held, index_sids, standings_by_definition};
+pub use units::{
+    Units, held_units_are_held, index_sids, standings_by_definition, units_at_hand_are_known,
+};

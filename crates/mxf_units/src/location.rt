@@ -3,10 +3,12 @@ ghost use Rattle.std.specs.Prelude.{◌≡◌, ◌+◌, ◌<◌, ◌≤◌, ◌^
 ghost use Rattle.std.specs.Option.{ForSome};
 ghost use Rattle.std.specs.Result.{ForOk};
 ghost use Rattle.mxf_views.specs.Places.{SegmentAtParts};
+ghost use Rattle.mxf_places.specs.AtHand.{KnownParts};
 ghost use Rattle.mxf_units.specs.NextPlaces.{AreNextPlaces};
 ghost use Rattle.mxf_units.specs.Streams.{IsSmall};
 ghost use Rattle.mxf_units.specs.EssenceZones.{IsFalling};
-ghost use Rattle.mxf_units.specs.Units.{are_all_held, ends_behind, extent_in, file_offset, is_any_disputed, is_any_held};
+ghost use Rattle.mxf_units.specs.Units.{AreKnown, are_all_held, are_all_known, ends_behind, extent_in, file_offset};
+ghost use Rattle.mxf_units.specs.Units.{is_any_disputed, is_any_known};
 ghost use Rattle.mxf_units.specs.Units.{extent_by, is_told, location_at, location_in, standing_by, standing_in};
 
 use crate::essence_zone::EssenceZone;
@@ -14,6 +16,7 @@ use crate::essence_zone::part::{StreamPart, zone_at};
 use crate::next_places::NextPlaces;
 use crate::standing::UnitStanding;
 use crate::unit::Extent;
+use mxf_catalogue::Cover;
 use mxf_places::Holdings;
 use mxf_views::StreamPlace;
 
@@ -62,12 +65,22 @@ fn are_all_held(holdings: &Holdings<'_>, from: u128, to: u128) -> bool
     to <= end && holdings.are_all_held(from as u64, to as u64)
 }
 
-/// Whether an offset from one up to another, in bytes, is held.
-fn is_any_held(holdings: &Holdings<'_>, from: u128, to: u128) -> bool
-    ensures { result ≡ is_any_held holdings.now from to }
+/// Whether all offsets from one up to another, in bytes, are in the set: held or at hand.
+fn are_all_known(set: &Cover, from: u128, to: u128) -> bool
+    ensures { (known : KnownParts) → AreKnown known set.now → result ≡ are_all_known known from to }
 {
-    let end = u128::from(holdings.held_end());
-    from < end && holdings.is_any_held(from as u64, to.min(end) as u64)
+    if from >= to {
+        return true;
+    }
+    to <= u128::from(set.end()) && set.has_all(from as u64, to as u64)
+}
+
+/// Whether an offset from one up to another, in bytes, is in the set.
+fn is_any_known(set: &Cover, from: u128, to: u128) -> bool
+    ensures { (known : KnownParts) → AreKnown known set.now → result ≡ is_any_known known from to }
+{
+    let end = u128::from(set.end());
+    from < end && set.meets(from as u64, to.min(end) as u64)
 }
 
 /// Whether a disputed packet covers an offset from one up to another, in bytes.
@@ -86,10 +99,11 @@ fn ends_behind(extent: Extent, end: u64) -> bool
     end <= extent.start || extent.end.is_some_and(|e| end < e)
 }
 
-/// How the bytes stand.
-pub(crate) fn standing_in(holdings: &Holdings<'_>, location: Location) -> UnitStanding
+/// How the bytes stand, by what is held, and by the set of what is held or at hand.
+pub(crate) fn standing_in(holdings: &Holdings<'_>, set: &Cover, location: Location) -> UnitStanding
     requires { location.extent.start + 1 < 2 ^ 128 }
-    ensures { result ≡ standing_in holdings.now location }
+    ensures { (known : KnownParts) → holdings.now ≡ known.notes → AreKnown known set.now
+        → result ≡ standing_in known location }
 {
     let zone = location.zone;
     let extent = location.extent;
@@ -103,11 +117,14 @@ pub(crate) fn standing_in(holdings: &Holdings<'_>, location: Location) -> UnitSt
     if is_any_disputed(holdings, extent.start, end) {
         return UnitStanding::Disputed;
     }
-    if !is_any_held(holdings, extent.start, end) {
+    if !is_any_known(set, extent.start, end) {
         return UnitStanding::Missing;
     }
     if extent.end.is_some() && are_all_held(holdings, extent.start, end) {
-        UnitStanding::Held
+        return UnitStanding::Held;
+    }
+    if extent.end.is_some() && are_all_known(set, extent.start, end) {
+        UnitStanding::Hand
     } else {
         UnitStanding::Part
     }
@@ -116,13 +133,15 @@ pub(crate) fn standing_in(holdings: &Holdings<'_>, location: Location) -> UnitSt
 /// How bytes stand, where it is known where they lie, or why it isn't.
 pub(crate) fn standing_by(
     holdings: &Holdings<'_>,
+    set: &Cover,
     location: Result<Location, UnitStanding>,
 ) -> UnitStanding
     requires { ForOk location (λ l. l.extent.start + 1 < 2 ^ 128) }
-    ensures { result ≡ standing_by holdings.now location }
+    ensures { (known : KnownParts) → holdings.now ≡ known.notes → AreKnown known set.now
+        → result ≡ standing_by known location }
 {
     match location {
-        Ok(location) => standing_in(holdings, location),
+        Ok(location) => standing_in(holdings, set, location),
         Err(standing) => standing,
     }
 }
@@ -133,7 +152,11 @@ fn is_told(standing: UnitStanding) -> bool
 {
     matches!(
         standing,
-        UnitStanding::Disputed | UnitStanding::Missing | UnitStanding::Part | UnitStanding::Held
+        UnitStanding::Disputed
+            | UnitStanding::Missing
+            | UnitStanding::Part
+            | UnitStanding::Held
+            | UnitStanding::Hand
     )
 }
 

@@ -24,12 +24,14 @@ pub enum UnitStanding {
     Unsure,
     /// A packet that shares bytes with a different one covers some of its bytes.
     Disputed,
-    /// None of its bytes is held.
+    /// None of its bytes is held or at hand.
     Missing,
-    /// Some of its bytes are held, or it isn't known where it ends.
+    /// Some of its bytes are held or at hand, or it isn't known where it ends.
     Part,
     /// All of its bytes are held.
     Held,
+    /// All of its bytes are held or at hand, and not all are held: they can be cut out of the sources.
+    Hand,
 }
 
 /// The word for the standing, as in `not-indexed`.
@@ -52,6 +54,7 @@ impl fmt::Display for UnitStanding {
             UnitStanding::Missing => "missing",
             UnitStanding::Part => "part",
             UnitStanding::Held => "held",
+            UnitStanding::Hand => "hand",
         })
     }
 }

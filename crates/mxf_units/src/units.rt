@@ -4,12 +4,13 @@ ghost use Rattle.mxf_klv.specs.Parts.{NoteParts};
 ghost use Rattle.mxf_units.specs.declared.unit.Extent.{Extent};
 ghost use Rattle.std.specs.Result.{ForOk};
 ghost use Rattle.mxf_views.specs.Places.{segments_of};
+ghost use Rattle.mxf_places.specs.AtHand.{KnownParts};
 ghost use Rattle.mxf_units.specs.Standings.{IsStanding, IsStandingIn};
 ghost use Rattle.mxf_units.specs.declared.location.Location.{Location};
 ghost use Rattle.mxf_units.specs.declared.standing.UnitStanding.{UnitStanding};
 ghost use Rattle.mxf_units.specs.Streams.{IsSmall, entry_of, place_of, segments_for};
 ghost use Rattle.mxf_units.specs.EssenceZones.{parts_of};
-ghost use Rattle.mxf_units.specs.Units.{IsHeldWhole, index_sids_of, key_at, location_at, standing_in, unit_by};
+ghost use Rattle.mxf_units.specs.Units.{AreKnown, IsHeldWhole, IsKnownWhole, index_sids_of, key_at, location_at, standing_in, unit_by};
 ghost use Rattle.mxf_units.specs.Units.{unit_of};
 
 use crate::bounds::rising;
@@ -20,8 +21,9 @@ use crate::next_places::NextPlaces;
 use crate::segments::{entry_of, place_of, segments_for};
 use crate::standing::UnitStanding;
 use crate::unit::{EditUnit, Extent};
+use mxf_catalogue::{Cover, Semilattice};
 use mxf_klv::{OutOfMemory, sort_once};
-use mxf_places::Holdings;
+use mxf_places::{AtHand, Holdings};
 use mxf_sets::IndexEntry;
 use mxf_views::{SegmentAt, StreamPlace, Views};
 use std::alloc::Global;
@@ -32,6 +34,9 @@ use std::marker::Model;
 #[derive(Drop)]
 pub struct Units<'a> {
     holdings: Holdings<'a>,
+    at_hand: &'a AtHand,
+    /// The offsets that are held or at hand.
+    known: Cover,
     index_sid: u32,
     segments: Intervals<SegmentAt<'a>>,
     places: NextPlaces,
@@ -44,30 +49,43 @@ impl<'a> Model for Units<'a> {
     ghost use Rattle.mxf_units.specs.NextPlaces.{AreNextPlaces};
     ghost use Rattle.mxf_units.specs.Streams.{segments_for};
     ghost use Rattle.mxf_units.specs.EssenceZones.{parts_of};
-    ghost use Rattle.mxf_units.specs.Units.{UnitsParts};
+    ghost use Rattle.mxf_units.specs.Units.{AreKnown, UnitsParts};
 
     ghost Value = { UnitsParts };
 
-    ghost view = { λ u. record { notes = u.holdings; index_sid = u.index_sid } };
+    ghost view = { λ u. record {
+      known = record { notes = u.holdings; at = u.at_hand.now };
+      index_sid = u.index_sid;
+    } };
 
     ghost invariant = { λ u. IsPermutation (segments_for u.holdings u.index_sid) u.segments
         × AreNextPlaces (segments_for u.holdings u.index_sid) u.places
-        × (u.parts.items ≡ parts_of u.holdings) };
+        × (u.parts.items ≡ parts_of u.holdings)
+        × AreKnown (record { notes = u.holdings; at = u.at_hand.now }) u.known };
 }
 
 impl<'a> Units<'a> {
-    /// The units of the index of an IndexSID. It takes memory: n log n of the notes and the index entries, as its time
-    /// does.
-    pub fn of(alloc: Global, views: &'a Views, index_sid: u32) -> Result<Units<'a>, OutOfMemory>
-        ensures { IfOk result (λ u. u ≡ record { notes = views.now; index_sid = index_sid }) }
+    /// The units of the index of an IndexSID, where some bytes of the file are at hand beside what is held. It takes
+    /// memory: n log n of the notes and the index entries, as its time does.
+    pub fn of(
+        alloc: Global,
+        views: &'a Views,
+        at_hand: &'a AtHand,
+        index_sid: u32,
+    ) -> Result<Units<'a>, OutOfMemory>
+        ensures { IfOk result (λ u. u
+            ≡ record { known = record { notes = views.now; at = at_hand.now }; index_sid = index_sid }) }
     {
         let holdings = Holdings::of(alloc, views)?;
+        let known = known_of(alloc, &holdings, at_hand)?;
         let segments = segments_for(alloc, views, index_sid)?;
         let places = NextPlaces::of(alloc, &segments)?;
         let segments = Intervals::of(alloc, segments)?;
         let parts = parts_of(alloc, &holdings)?;
         Ok(Units {
             holdings,
+            at_hand,
+            known,
             index_sid,
             segments,
             places,
@@ -77,8 +95,8 @@ impl<'a> Units<'a> {
 
     /// The segments that may have a unit: those that give it a place and an entry are among them.
     fn segments_near(&self, unit: u64) -> &[SegmentAt<'a>]
-        ensures place { place_of result.now unit ≡ place_of (segments_for self.now.notes self.now.index_sid) unit }
-        ensures entry { entry_of result.now unit ≡ entry_of (segments_for self.now.notes self.now.index_sid) unit }
+        ensures place { place_of result.now unit ≡ place_of (segments_for self.now.known.notes self.now.index_sid) unit }
+        ensures entry { entry_of result.now unit ≡ entry_of (segments_for self.now.known.notes self.now.index_sid) unit }
     {
         let (near, _) = self.segments.around(u128::from(unit));
         near
@@ -90,8 +108,8 @@ impl<'a> Units<'a> {
         place: Result<StreamPlace, UnitStanding>,
     ) -> Result<Location, UnitStanding>
         requires { ForOk place IsSmall }
-        ensures location { result ≡ location_at (parts_of self.now.notes)
-            (segments_for self.now.notes self.now.index_sid) place }
+        ensures location { result ≡ location_at (parts_of self.now.known.notes)
+            (segments_for self.now.known.notes self.now.index_sid) place }
         ensures small { IfOk result (λ l. l.extent.start + 1 < 2 ^ 128) }
     {
         location_at(&self.places, &self.parts, place)
@@ -101,14 +119,22 @@ impl<'a> Units<'a> {
     /// with a look at each segment of the index that overlaps there.
     #[tactic(auto, unfolding(crate::specs::Units::unit_of, crate::specs::Units::location_of))]
     pub fn unit(&self, unit: u64) -> EditUnit
-        ensures { result ≡ unit_of self.now.notes self.now.index_sid unit }
+        ensures { result ≡ unit_of self.now.known self.now.index_sid unit }
     {
         let segments = self.segments_near(unit);
         let location = self.location_of(place_of(segments, unit));
-        let standing = standing_by(&self.holdings, location);
+        let standing = standing_by(&self.holdings, &self.known, location);
         let entry = entry_of(segments, unit);
         unit_by(unit, standing, extent_by(standing, location), entry)
     }
+}
+
+/// The offsets that are held or at hand. They take memory.
+fn known_of(alloc: Global, holdings: &Holdings<'_>, at_hand: &AtHand) -> Result<Cover, OutOfMemory>
+    ensures { IfOk result (λ c. AreKnown (record { notes = holdings.now; at = at_hand.now }) c) }
+{
+    let held = holdings.views().catalogue().spans();
+    Cover::join(alloc, held, at_hand.hand())
 }
 
 /// A unit, by how its bytes stand and by its entry.
@@ -167,17 +193,25 @@ fn index_sids_in(alloc: Global, views: &Views) -> Result<Vec<u32>, OutOfMemory>
 
 /// A law of [`Units::unit`]: of a unit that stands as held it is known where it ends, and each of its bytes is held.
 pub fn held_units_are_held()
-    ensures { (notes : List NoteParts) (index_sid unit : ℕ)
-        → (unit_of notes index_sid unit).standing ≡ UnitStanding.Held
-        → (e : Extent) × ((unit_of notes index_sid unit).extent ≡ Some e) × IsHeldWhole notes e }
+    ensures { (known : KnownParts) (index_sid unit : ℕ)
+        → (unit_of known index_sid unit).standing ≡ UnitStanding.Held
+        → (e : Extent) × ((unit_of known index_sid unit).extent ≡ Some e) × IsHeldWhole known.notes e }
+{}
+
+/// A law of [`Units::unit`]: of a unit that stands as at hand it is known where it ends, and each of its bytes is held or
+/// at hand.
+pub fn units_at_hand_are_known()
+    ensures { (known : KnownParts) (index_sid unit : ℕ)
+        → (unit_of known index_sid unit).standing ≡ UnitStanding.Hand
+        → (e : Extent) × ((unit_of known index_sid unit).extent ≡ Some e) × IsKnownWhole known e }
 {}
 
 /// A law of [`Units::unit`]: each standing has its cause.
 pub fn standings_by_definition()
-    ensures cause { (notes : List NoteParts) (index_sid unit : ℕ)
-        → IsStanding notes index_sid unit (unit_of notes index_sid unit).standing }
+    ensures cause { (known : KnownParts) (index_sid unit : ℕ)
+        → IsStanding known index_sid unit (unit_of known index_sid unit).standing }
 
     // Of bytes of which it is known where they are looked for no other standing has.
-    ensures exact { (notes : List NoteParts) (l : Location) (standing : UnitStanding)
-        → (standing_in notes l ≡ standing) ↔ IsStandingIn notes l.zone l.extent standing }
+    ensures exact { (known : KnownParts) (l : Location) (standing : UnitStanding)
+        → (standing_in known l ≡ standing) ↔ IsStandingIn known l.zone l.extent standing }
 {}

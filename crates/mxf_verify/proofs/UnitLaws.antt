@@ -67,9 +67,9 @@ pub one_list_of_runs : (verified altered : List Run) (units : UnitsParts) (from 
     → AreVerifiedUnits verified altered units from to a → AreVerifiedUnits verified altered units from to b
     → a.runs ≡ b.runs
 one_list_of_runs verified altered units from to a b h k =
-    one_list (λ unit fixity. IsFixityOf verified altered (unit_of units.notes units.index_sid unit) fixity)
+    one_list (λ unit fixity. IsFixityOf verified altered (unit_of units.known units.index_sid unit) fixity)
     (λ unit f g p q.
-    let u = unit_of units.notes units.index_sid unit in one_standing verified altered u.standing u.extent f g p q)
+    let u = unit_of units.known units.index_sid unit in one_standing verified altered u.standing u.extent f g p q)
     from to a.runs b.runs h.runs k.runs
 
 -- ---- spans

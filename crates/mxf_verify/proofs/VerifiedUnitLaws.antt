@@ -41,9 +41,9 @@ pub verified_bytes : (reference : List NoteParts) (sources : List Source) (v : V
     (from to : ℕ) (told : VerifiedUnitsParts) → IsVerification reference sources v
     → AreVerifiedUnits v.verified v.altered units from to told → (r : UnitRun) (unit : ℕ) → In r told.runs
     → r.fixity ≡ Verified → r.first ≤ unit → unit ≤ r.last
-    → HasEachByte (IsVerifiedByte reference sources) (unit_of units.notes units.index_sid unit)
+    → HasEachByte (IsVerifiedByte reference sources) (unit_of units.known units.index_sid unit)
 verified_bytes reference sources v units from to told is are r unit i e low high =
-    lies_verified v.verified v.altered (IsVerifiedByte reference sources) (unit_of units.notes units.index_sid unit)
+    lies_verified v.verified v.altered (IsVerifiedByte reference sources) (unit_of units.known units.index_sid unit)
     (λ at. (is.verified.offsets at).0)
-    (subst (IsFixityOf v.verified v.altered (unit_of units.notes units.index_sid unit)) e
+    (subst (IsFixityOf v.verified v.altered (unit_of units.known units.index_sid unit)) e
     (in_run _ from to told.runs are.runs r i unit low high))

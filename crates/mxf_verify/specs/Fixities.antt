@@ -8,6 +8,7 @@ use Rattle.mxf_klv.specs.Parts.{NoteParts}
 use Rattle.mxf_klv.specs.Rising.{In, SameMembers}
 use Rattle.mxf_catalogue.specs.Runs.{LiesIn}
 use Rattle.mxf_catalogue.specs.declared.run.Run.{Run}
+use Rattle.mxf_places.specs.AtHand.{KnownParts}
 use Rattle.mxf_units.specs.Units.{UnitsParts, asked_end, unit_of}
 use Rattle.mxf_units.specs.Words.{unit_standing_name}
 use Rattle.mxf_units.specs.declared.standing.UnitStanding.{UnitStanding}
@@ -86,9 +87,9 @@ abbrev pub place_of : EditUnit → Option UnitPlace
 place_of unit = option_map (λ e. record { unit = unit.number; extent = e }) unit.extent
 
 -- The places of the units from one up to another that have one, in the order of the units.
-abbrev pub places_of : List NoteParts → ℕ → ℕ → ℕ → List UnitPlace
-places_of notes index_sid from to =
-    filter_map (λ unit. place_of (unit_of notes index_sid unit)) (range_with_len from (to + 1 - from))
+abbrev pub places_of : KnownParts → ℕ → ℕ → ℕ → List UnitPlace
+places_of known index_sid from to =
+    filter_map (λ unit. place_of (unit_of known index_sid unit)) (range_with_len from (to + 1 - from))
 
 -- The place shares a byte with those that a note holds; one whose end isn't known is its first byte.
 abbrev pub IsTouched : NoteParts → UnitPlace → Type 0
@@ -126,6 +127,6 @@ pub record VerifiedUnitsParts : Type 0 where
 -- That of the units from one up to another of an index, where these runs are verified and those differ.
 pub record AreVerifiedUnits (verified altered : List Run) (units : UnitsParts) (from to : ℕ) (v : VerifiedUnitsParts)
     : Type 0 where
-  pub runs : AreUnitRuns (λ unit fixity. IsFixityOf verified altered (unit_of units.notes units.index_sid unit) fixity)
+  pub runs : AreUnitRuns (λ unit fixity. IsFixityOf verified altered (unit_of units.known units.index_sid unit) fixity)
       from to v.runs
-  pub places : SameMembers v.places (places_of units.notes units.index_sid from to)
+  pub places : SameMembers v.places (places_of units.known units.index_sid from to)

@@ -117,9 +117,9 @@ fn gathered(
     requires order { from ≤ to }
     requires bound { to + 1 < 2 ^ 64 }
     ensures runs { IfOk result (λ v. AreUnitRuns
-        (λ unit fixity. IsFixityOf verified.now altered.now (unit_of units.now.notes units.now.index_sid unit) fixity)
+        (λ unit fixity. IsFixityOf verified.now altered.now (unit_of units.now.known units.now.index_sid unit) fixity)
         from to v.0.items) }
-    ensures places { IfOk result (λ v. v.1.items ≡ places_of units.now.notes units.now.index_sid from to) }
+    ensures places { IfOk result (λ v. v.1.items ≡ places_of units.now.known units.now.index_sid from to) }
 {
     let mut runs = Vec::new(alloc);
     let mut places = Vec::new(alloc);
@@ -286,5 +286,5 @@ pub fn verified_units_have_verified_bytes()
         (from to : ℕ) (told : VerifiedUnitsParts) (r : UnitRun) (unit : ℕ) → IsVerification reference sources v
         → AreVerifiedUnits v.verified v.altered units from to told → In r told.runs → r.fixity ≡ Verified
         → r.first ≤ unit → unit ≤ r.last
-        → HasEachByte (IsVerifiedByte reference sources) (unit_of units.notes units.index_sid unit) }
+        → HasEachByte (IsVerifiedByte reference sources) (unit_of units.known units.index_sid unit) }
 {}

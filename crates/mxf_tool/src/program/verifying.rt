@@ -13,6 +13,7 @@ use crate::system_fault::LastFault;
 use crate::watching::Screen;
 use mxf_klv::OutOfMemory;
 use mxf_lines::{Form, UnitRange, Verified};
+use mxf_places::AtHand;
 use mxf_read::{Gathered, Part};
 use mxf_units::Units;
 use mxf_verify::{Verification, VerifiedUnits, VerifyFault, verify};
@@ -142,7 +143,8 @@ fn units_beside(
     ensures { IfOk result (AreToldOf views.now verification.now range) }
 {
     let IndexedRange { index, range } = range;
-    let units = Units::of(alloc, views, index)?;
+    let at_hand = AtHand::nothing(alloc);
+    let units = Units::of(alloc, views, &at_hand, index)?;
     VerifiedUnits::of(alloc, verification, &units, range.first(), range.last())
 }
 

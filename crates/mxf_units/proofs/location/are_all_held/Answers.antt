@@ -1,18 +1,27 @@
 use Rattle.std.proofs.Common.{◌∙◌, ◌<◌, arith, sym}
-use Rattle.mxf_places.specs.Held.{held_end}
-use Rattle.mxf_units.proofs.RangeLaws.{all-held-empty, all-held-past, all-held-within, lt-leb}
+use Rattle.mxf_klv.proofs.Tests.{same_bool}
+use Rattle.mxf_places.specs.Held.{IsHeld, held_end}
+use Rattle.mxf_units.specs.Units.{are_all_held}
+use Rattle.mxf_units.proofs.RangeLaws.{all-empty, all-past, all_held-says, held-below, lt-leb}
 use Rattle.mxf_units.proofs.location.are_all_held.Goals as goal
 
 pub returns-then-from-to : goal.returns-then-from-to
-returns-then-from-to c = sym (all-held-empty c.args.holdings.now c.args.from c.args.to c.if-from-to.true)
+returns-then-from-to c =
+    let notes = c.args.holdings.now in
+    sym (all-empty (IsHeld notes) c.args.from c.args.to _ (all_held-says notes c.args.from c.args.to)
+    c.if-from-to.true)
 
 pub returns-then-to-end : goal.returns-then-to-end
 returns-then-to-end c =
-    all-held-within c.args.holdings.now c.args.from c.args.to c.are_all_held.result c.are_all_held.ensures
+    let says = all_held-says c.args.holdings.now c.args.from c.args.to in
+    same_bool c.are_all_held.result _ (λ h. says.1 (c.are_all_held.ensures.0 h))
+    (λ h. c.are_all_held.ensures.1 (says.0 h))
 
 pub returns-else-to-end : goal.returns-else-to-end
 returns-else-to-end c =
-    let past : held_end c.args.holdings.now < c.args.to =
+    let notes = c.args.holdings.now in
+    let past : held_end notes < c.args.to =
     omega (arith, c.if-to-end.false, c.from-end.ensures, c.held_end.ensures) in
     lt-leb c.args.to c.from-end.result (omega (arith, c.if-to-end.false))
-    ∙ sym (all-held-past c.args.holdings.now c.args.from c.args.to (omega (arith, c.if-from-to.false)) past)
+    ∙ sym (all-past (IsHeld notes) c.args.from c.args.to (are_all_held notes c.args.from c.args.to) (held_end notes)
+    (all_held-says notes c.args.from c.args.to) (held-below notes) (omega (arith, c.if-from-to.false)) past)

@@ -7,8 +7,8 @@ use Rattle.mxf_units.proofs.units.standings_by_definition.Goals as goal
 pub returns : goal.returns
 returns c = record {
   cause = standings_by_cause;
-  exact = λ notes l standing. (
-    λ e. subst (IsStandingIn notes l.zone l.extent) e (standing-says notes l),
-    standing-exact notes l standing,
+  exact = λ known l standing. (
+    λ e. subst (IsStandingIn known l.zone l.extent) e (standing-says known l),
+    standing-exact known l standing,
   );
 }

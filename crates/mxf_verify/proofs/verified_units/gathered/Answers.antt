@@ -12,7 +12,7 @@ use Rattle.mxf_verify.proofs.verified_units.gathered.Goals as goal
 
 -- A unit stands so beside these runs.
 abbrev Stands : List Run → List Run → UnitsParts → ℕ → UnitFixity → Type 0
-Stands verified altered u unit fixity = IsFixityOf verified altered (unit_of u.notes u.index_sid unit) fixity
+Stands verified altered u unit fixity = IsFixityOf verified altered (unit_of u.known u.index_sid unit) fixity
 
 pub loop-number-init : goal.loop-number-init
 loop-number-init c =
@@ -28,8 +28,8 @@ loop-number-init c =
       subst (λ (l : List UnitRun). AreUnitsSoFar P from c.args.to (from + 1) l
           (record { first = from; last = from; fixity = fixity })) (sym c.new-runs.ensures.items)
           (units-first P from c.args.to fixity here),
-      places-step (λ (unit : ℕ). place_of (unit_of u.notes u.index_sid unit)) from c.args.to []
-          c.add_place.new.places.items (places_of u.notes u.index_sid from c.args.to) c.requires.order pushed refl,
+      places-step (λ (unit : ℕ). place_of (unit_of u.known u.index_sid unit)) from c.args.to []
+          c.add_place.new.places.items (places_of u.known u.index_sid from c.args.to) c.requires.order pushed refl,
     )
 
 pub loop-number-preserved : goal.loop-number-preserved
@@ -46,9 +46,9 @@ loop-number-preserved c =
       units-step (Stands c.args.verified.now c.args.altered.now u) c.args.from c.args.to next fixity
           c.loop-number.runs.items c.with_unit.new.runs.items c.loop-number.last c.in_ok-last.last within here so.0
           c.in_ok-last.ensures,
-      places-step (λ (unit : ℕ). place_of (unit_of u.notes u.index_sid unit)) next c.args.to
+      places-step (λ (unit : ℕ). place_of (unit_of u.known u.index_sid unit)) next c.args.to
           c.loop-number.places.items c.add_place-in-loop-number.new.places.items
-          (places_of u.notes u.index_sid c.args.from c.args.to) within pushed so.1,
+          (places_of u.known u.index_sid c.args.from c.args.to) within pushed so.1,
     )
 
 pub returns-clause-runs : goal.returns-clause-runs

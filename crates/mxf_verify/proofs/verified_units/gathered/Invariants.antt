@@ -9,7 +9,7 @@ use Rattle.mxf_verify.proofs.verified_units.gathered.Given as goal
 abbrev pub invariant-loop-number : goal.invariant-loop-number
 invariant-loop-number l =
     AreUnitsSoFar
-    (λ unit fixity. IsFixityOf l.verified l.altered (unit_of l.units.notes l.units.index_sid unit) fixity)
+    (λ unit fixity. IsFixityOf l.verified l.altered (unit_of l.units.known l.units.index_sid unit) fixity)
     l.from l.to l.number l.runs.items l.last
-    × (l.places.items ++ filter_map (λ unit. place_of (unit_of l.units.notes l.units.index_sid unit))
-    (range_with_len l.number (l.to + 1 - l.number)) ≡ places_of l.units.notes l.units.index_sid l.from l.to)
+    × (l.places.items ++ filter_map (λ unit. place_of (unit_of l.units.known l.units.index_sid unit))
+    (range_with_len l.number (l.to + 1 - l.number)) ≡ places_of l.units.known l.units.index_sid l.from l.to)

@@ -13,14 +13,14 @@ invariant_of-result c =
     let u = c.args.units.now in
     units-counted
     (λ (unit : ℕ) (fixity : UnitFixity). IsFixityOf c.verified-verified.result.now c.altered.result.now
-    (unit_of u.notes u.index_sid unit) fixity) c.args.from c.args.to c.in_ok-runs.runs.items c.requires.order
+    (unit_of u.known u.index_sid unit) fixity) c.args.from c.args.to c.in_ok-runs.runs.items c.requires.order
     c.requires.bound c.in_ok-runs.ensures.runs
 
 pub returns : goal.returns
 returns c =
     let u = c.args.units.now in
     let runs = λ (verified altered : List Run). AreUnitRuns
-    (λ unit fixity. IsFixityOf verified altered (unit_of u.notes u.index_sid unit) fixity) c.args.from c.args.to
+    (λ unit fixity. IsFixityOf verified altered (unit_of u.known u.index_sid unit) fixity) c.args.from c.args.to
     c.in_ok-runs.runs.items in
     record {
       runs = subst (λ (l : List Run). runs l c.args.verification.now.altered) c.verified-verified.ensures
