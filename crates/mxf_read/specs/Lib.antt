@@ -6,3 +6,6 @@ pub mod Absorbs
 pub mod Ranges
 pub mod Levels
 pub mod Gathering
+pub mod Given
+pub mod Places
+pub mod Noting

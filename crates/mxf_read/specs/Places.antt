@@ -1,0 +1,48 @@
+-- Which source a byte is read of, where several give it (this project's profile).
+use Rattle.std.specs.Prelude.{◌≡◌, ◌↔◌, ◌⊎◌, ◌<◌, ◌≤◌, ℕ, ◌+◌, List, [], ◌∷◌, slice_get, Some}
+use Rattle.mxf_klv.specs.Rising.{In}
+use Rattle.mxf_catalogue.specs.declared.run.Run.{Run}
+use Rattle.mxf_catalogue.specs.Covers.{IsCover}
+use Rattle.mxf_catalogue.specs.Runs.{LiesIn}
+use Rattle.mxf_read.specs.declared.given.Extent.{Extent}
+use Rattle.mxf_read.specs.declared.given.Place.{Place}
+
+-- What contracts see of extents that were placed: the extents, and the offsets that one of them has, as maximal runs.
+pub record GivenParts : Type 0 where
+  pub extents : List Extent
+  pub given : List Run
+
+-- The offset lies in the extent.
+pub record LiesInExtent (e : Extent) (x : ℕ) : Type 0 where
+  pub from : e.offset ≤ x
+  pub before : x < e.offset + e.size
+
+-- The offset lies in the place.
+pub record LiesInPlace (p : Place) (x : ℕ) : Type 0 where
+  pub from : p.start ≤ x
+  pub before : x < p.end
+
+-- The place has an offset, and its source has all of them.
+pub record IsPlaceOf (extents : List Extent) (p : Place) : Type 0 where
+  pub extent : Extent
+  pub is : slice_get extents p.source ≡ Some extent
+  pub some : p.start < p.end
+  pub from : extent.offset ≤ p.start
+  pub before : p.end ≤ extent.offset + extent.size
+
+-- Each place begins at or above the end of the one before.
+abbrev pub AreApart : ℕ → List Place → Type 0
+AreApart low [] = Unit {0}
+AreApart low (p ∷ places) = (low ≤ p.start) × AreApart p.end places
+
+-- The places of extents: each offset of an extent lies in one of them, and in one alone. Where the place is of another
+-- source, the offset lies in an overlap of its own source.
+pub record ArePlaces (extents : List Extent) (places overlaps : List Place) (given : List Run) : Type 0 where
+  pub within : (p : Place) → In p places → IsPlaceOf extents p
+  pub apart : AreApart 0 places
+  pub cover : IsCover given
+  pub given : (x : ℕ) → LiesIn given x ↔ ((p : Place) × In p places × LiesInPlace p x)
+  pub all : (e : Extent) (x : ℕ) → In e extents → LiesInExtent e x → LiesIn given x
+  pub shared : (p : Place) → In p overlaps → IsPlaceOf extents p
+  pub overlaps : (number : ℕ) (e : Extent) (x : ℕ) → slice_get extents number ≡ Some e → LiesInExtent e x
+      → (p : Place) × (p.source ≡ number) × LiesInPlace p x × (In p places ⊎ In p overlaps)
