@@ -37,12 +37,12 @@ AreApart low (p ∷ places) = (low ≤ p.start) × AreApart p.end places
 
 -- The places of extents: each offset of an extent lies in one of them, and in one alone. Where the place is of another
 -- source, the offset lies in an overlap of its own source.
-pub record ArePlaces (extents : List Extent) (places overlaps : List Place) (given : List Run) : Type 0 where
+pub record ArePlaces (extents : List Extent) (places overlapping : List Place) (runs : List Run) : Type 0 where
   pub within : (p : Place) → In p places → IsPlaceOf extents p
   pub apart : AreApart 0 places
-  pub cover : IsCover given
-  pub given : (x : ℕ) → LiesIn given x ↔ ((p : Place) × In p places × LiesInPlace p x)
-  pub all : (e : Extent) (x : ℕ) → In e extents → LiesInExtent e x → LiesIn given x
-  pub shared : (p : Place) → In p overlaps → IsPlaceOf extents p
+  pub cover : IsCover runs
+  pub given : (x : ℕ) → LiesIn runs x ↔ ((p : Place) × In p places × LiesInPlace p x)
+  pub all : (e : Extent) (x : ℕ) → In e extents → LiesInExtent e x → LiesIn runs x
+  pub shared : (p : Place) → In p overlapping → IsPlaceOf extents p
   pub overlaps : (number : ℕ) (e : Extent) (x : ℕ) → slice_get extents number ≡ Some e → LiesInExtent e x
-      → (p : Place) × (p.source ≡ number) × LiesInPlace p x × (In p places ⊎ In p overlaps)
+      → (p : Place) × (p.source ≡ number) × LiesInPlace p x × (In p places ⊎ In p overlapping)
