@@ -8,5 +8,6 @@ pub mod SavedLaws
 pub mod Starts
 pub mod RangeLaws
 pub mod GatheringLaws
+pub mod PlaceLaws
 mod ComingLaws
 mod Walks

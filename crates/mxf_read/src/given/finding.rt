@@ -34,7 +34,9 @@ fn place_in(places: &[Place], offset: u64) -> Option<Place>
     ensures some { IfSome result (λ p. In p places.now × LiesInPlace p offset) }
     ensures none { IfNone result ((p : Place) → In p places.now → ¬ LiesInPlace p offset) }
 {
-    let passed = up_to(places, offset);
-    let place = places.get(passed)?;
-    (place.start <= offset).then_some(*place)
+    let place = places.get(up_to(places, offset))?;
+    if offset < place.start {
+        return None;
+    }
+    Some(*place)
 }
