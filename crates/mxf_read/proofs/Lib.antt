@@ -9,5 +9,6 @@ pub mod Starts
 pub mod RangeLaws
 pub mod GatheringLaws
 pub mod PlaceLaws
+pub mod PlacingLaws
 mod ComingLaws
 mod Walks
