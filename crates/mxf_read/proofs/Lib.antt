@@ -8,5 +8,7 @@ pub mod SavedLaws
 pub mod Starts
 pub mod RangeLaws
 pub mod GatheringLaws
+pub mod PlaceLaws
+pub mod PlacingLaws
 mod ComingLaws
 mod Walks

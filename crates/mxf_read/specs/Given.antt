@@ -73,9 +73,9 @@ HaveExtents (s ∷ sources) (e ∷ extents) =
     (s.offset ≡ e.offset) × (length s.bytes ≡ e.size) × HaveExtents sources extents
 
 -- What is told of sources is this, and they have these extents.
-pub record AreTold (told : Option (List SourceParts)) (extents : List Extent) (sources : List SourceParts) : Type 0 where
+pub record AreTold (told : Option (List SourceParts)) (own : List Extent) (sources : List SourceParts) : Type 0 where
   pub is : told ≡ Some sources
-  pub extents : HaveExtents sources extents
+  pub extents : HaveExtents sources own
 
 -- The bytes stand behind so many others in the source with this number.
 abbrev pub StandAt : List SourceParts → ℕ → ℕ → List ℕ → Type 0

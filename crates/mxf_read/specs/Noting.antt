@@ -3,7 +3,6 @@ use Rattle.std.specs.Prelude.{◌≡◌, ℕ, List, [], ◌∷◌, Option, None,
 use Rattle.mxf_klv.specs.Parts.{NoteParts}
 use Rattle.mxf_klv.specs.Piece.{end_after, notes_from}
 use Rattle.mxf_klv.specs.PieceReading.{heads_at, packets_in, rest_in}
-use Rattle.mxf_catalogue.specs.Content.{reduced_union}
 
 -- The notes of the packets of a piece.
 abbrev pub packet_notes : ℕ → List ℕ → List NoteParts
@@ -19,6 +18,6 @@ option_list None = []
 option_list (Some x) = x ∷ []
 
 -- What is noted of a piece, its whole packets and its head, apart from each other.
-pub record IsReading (offset : ℕ) (bytes : List ℕ) (notes : List NoteParts) (head : Option NoteParts) : Type 0 where
-  pub notes : notes ≡ reduced_union [] (packet_notes offset bytes)
-  pub head : option_list head ≡ cut_heads offset bytes
+pub record IsReading (offset : ℕ) (bytes : List ℕ) (noted : List NoteParts) (cut : Option NoteParts) : Type 0 where
+  pub notes : noted ≡ packet_notes offset bytes
+  pub head : option_list cut ≡ cut_heads offset bytes

@@ -1,34 +1,22 @@
 //! What sources give of a file, and reading it again at file offsets.
-ghost use Rattle.std.specs.Prelude.{◌≡◌, ◌-◌, ◌+◌, ◌<◌, ◌≤◌, ℕ, List, Option, None, length, min};
+ghost use Rattle.std.specs.Prelude.{◌≡◌, ◌-◌, ◌+◌, ◌≤◌, min};
 ghost use Rattle.mxf_klv.specs.Note.{greatest_end};
 ghost use Rattle.mxf_read.specs.Gathering.{piece_limit};
-ghost use Rattle.mxf_read.specs.Given.{ReadsAt, SourceParts};
 
 mod comparing;
+mod finding;
 mod noting;
 mod placing;
+mod sources;
 
 use crate::gathering::GREATEST_PIECE;
-use crate::reading::Step;
 use mxf_catalogue::Cover;
 use mxf_klv::{MAX, OutOfMemory};
 pub use noting::Reading;
+pub use sources::Sources;
 use std::alloc::{AllocError, AllocFailed};
 use std::marker::Model;
 use thiserror::Error;
-
-/// Sources whose bytes can be read again, at any position. They have numbers, from 0 on.
-pub trait Sources {
-    // What they give, where they tell it.
-    ghost told: { Self → Option (List SourceParts) } = { λ _. None };
-
-    /// Reads once of the source with this number, behind its first `position` bytes, as many bytes at most as there is
-    /// room.
-    fn read_at(&mut self, source: usize, position: u64, room: &mut [u8]) -> Step
-        requires { 0 < length room.old }
-        ensures told { told self.new ≡ told self.old }
-        ensures bytes { ReadsAt (told self.old) source position room.new result };
-}
 
 /// Where the bytes of a source lie in the file: so many from a file offset on. They end at or below
 /// [`MAX`](mxf_klv::MAX).
