@@ -8,6 +8,7 @@ mod finding;
 mod noting;
 mod placing;
 mod sources;
+mod stepping;
 
 use crate::gathering::GREATEST_PIECE;
 use mxf_catalogue::Cover;
