@@ -116,3 +116,54 @@ pub found_place : (own : List Extent) (x : ℕ) (r : Option Place) (p : Place) �
     → IfSome r (λ q. IsPlaceOf own q × LiesInPlace q x) → IsPlaceOf own p × LiesInPlace p x
 found_place own x r p e found =
     subst (λ (o : Option Place). IfSome o (λ q. IsPlaceOf own q × LiesInPlace q x)) e found
+
+-- ---- one read after another
+
+range_more : (byte : ℕ → ℕ) (from m n : ℕ)
+    → map byte (range_with_len from m) ++ map byte (range_with_len (from + m) n) ≡ map byte (range_with_len from (m + n))
+range_more byte from zero n =
+    let here : from + 0 ≡ from = omega arith in
+    let all : n ≡ 0 + n = omega arith in
+    ap (λ (k : ℕ). map byte (range_with_len k n)) here ∙ ap (λ (k : ℕ). map byte (range_with_len from k)) all
+range_more byte from (suc m) n =
+    let here : from + suc m ≡ from + 1 + m = omega arith in
+    let all : suc (m + n) ≡ suc m + n = omega arith in
+    ap (λ (k : ℕ). map byte (range_with_len from (suc m)) ++ map byte (range_with_len k n)) here
+    ∙ ap (λ (t : List ℕ). byte from ∷ t) (range_more byte (from + 1) m n)
+    ∙ ap (λ (k : ℕ). map byte (range_with_len from k)) all
+
+-- the bytes behind others
+pub between_more : (byte : ℕ → ℕ) (from at to : ℕ) → from ≤ at → at ≤ to
+    → bytes_between byte from at ++ bytes_between byte at to ≡ bytes_between byte from to
+between_more byte from at to h k =
+    let here : at ≡ from + (at - from) = omega arith in
+    let all : at - from + (to - at) ≡ to - from = omega arith in
+    ap (λ (j : ℕ). bytes_between byte from at ++ map byte (range_with_len j (to - at))) here
+    ∙ range_more byte from (at - from) (to - at) ∙ ap (λ (j : ℕ). map byte (range_with_len from j)) all
+
+pub between_none : (byte : ℕ → ℕ) (at : ℕ) → [] ≡ bytes_between byte at at
+between_none byte at =
+    let none : 0 ≡ at - at = omega arith in
+    ap (λ (k : ℕ). map byte (range_with_len at k)) none
+
+-- What a read gives at an offset, so many bytes, for all that is told.
+abbrev pub ReadHere : Option (List SourceParts) → List Extent → ℕ → ℕ → List ℕ → Type 0
+ReadHere told own at n part =
+    (given : List SourceParts) (byte : ℕ → ℕ) → AreTold told own given → AreBytesOf given byte at (at + n)
+    → part ≡ bytes_between byte at (at + n)
+
+-- What reads up to an offset gave, of the bytes up to an end.
+abbrev pub ReadSoFar : Option (List SourceParts) → List Extent → ℕ → ℕ → ℕ → List ℕ → Type 0
+ReadSoFar told own from to at done =
+    (given : List SourceParts) (byte : ℕ → ℕ) → AreTold told own given → AreBytesOf given byte from to
+    → done ≡ bytes_between byte from at
+
+-- they go on with one more
+pub so_far_more : (told before : Option (List SourceParts)) (own : List Extent) (from to at n : ℕ)
+    (done part : List ℕ) → told ≡ before → from ≤ at → at + n ≤ to → ReadSoFar before own from to at done
+    → ReadHere told own at n part → ReadSoFar before own from to (at + n) (done ++ part)
+so_far_more told before own from to at n done part same h k so_far here given byte are of =
+    let told_are : AreTold told own given = record { is = same ∙ are.is; extents = are.extents } in
+    let first = so_far given byte are of in
+    let last = here given byte told_are (λ x b l m. of x b (omega arith) (omega arith)) in
+    (λ i. first i ++ last i) ∙ between_more byte from at (at + n) h (omega arith)
