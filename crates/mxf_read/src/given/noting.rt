@@ -93,8 +93,9 @@ impl Given {
             → IfOk result (λ n. n ≡ note_of head.now.offset (packet_parts head.now.key head.now.width
             (bytes_between byte (covered_end head.now) (end_of head.now)))) }
     {
+        let offset = head.offset();
         let ber = Ber::new(head.width(), head.length()).unwrap();
-        let mut value = ComingValue::of(alloc, head.offset(), head.key(), ber)?;
+        let mut value = ComingValue::of(alloc, offset, head.key(), ber)?;
         self.take_from(sources, &mut value, head.covered_end())?;
         Ok(value.into_note(Sha256::digest(&[])))
     }
