@@ -5,6 +5,7 @@ use Rattle.std.specs.List.{list_any, range_with_len}
 use Rattle.std.specs.Option.{option_map_or}
 use Rattle.mxf_klv.specs.Parts.{NoteParts}
 use Rattle.mxf_catalogue.specs.declared.run.Run.{Run}
+use Rattle.mxf_catalogue.specs.Covers.{IsCover}
 use Rattle.mxf_catalogue.specs.Runs.{LiesIn}
 use Rattle.mxf_places.specs.Held.{end_of_file, top_of}
 use Rattle.mxf_places.specs.declared.at_hand.OffsetRange.{OffsetRange}
@@ -14,6 +15,12 @@ use Rattle.mxf_places.specs.declared.at_hand.OffsetRange.{OffsetRange}
 pub record AtHandParts : Type 0 where
   pub given : List Run
   pub hand : List Run
+
+-- Both are maximal runs, and what is at hand is given.
+pub record AreAtHand (at : AtHandParts) : Type 0 where
+  pub given : IsCover at.given
+  pub hand : IsCover at.hand
+  pub within : (x : ℕ) → LiesIn at.hand x → LiesIn at.given x
 
 -- What is known of a file: the notes of what is held, and what is at hand.
 pub record KnownParts : Type 0 where

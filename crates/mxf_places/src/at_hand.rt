@@ -34,14 +34,13 @@ pub struct AtHand {
 }
 
 impl Model for AtHand {
-    ghost use Rattle.mxf_catalogue.specs.Covers.{IsCover};
-    ghost use Rattle.mxf_places.specs.AtHand.{AtHandParts};
+    ghost use Rattle.mxf_places.specs.AtHand.{AreAtHand, AtHandParts};
 
     ghost Value = { AtHandParts };
 
     ghost view = { λ a. record { given = a.given; hand = a.hand } };
 
-    ghost invariant = { λ a. IsCover a.given × IsCover a.hand };
+    ghost invariant = { λ a. AreAtHand (record { given = a.given; hand = a.hand }) };
 }
 
 impl AtHand {
@@ -53,6 +52,15 @@ impl AtHand {
             given: Cover::new(alloc),
             hand: Cover::new(alloc),
         }
+    }
+
+    /// The offsets that sources give, and those of them at which none differs from another.
+    pub fn of(given: Cover, hand: Cover) -> AtHand
+        requires { (x : ℕ) → LiesIn hand x → LiesIn given x }
+        ensures given { result.given ≡ given }
+        ensures hand { result.hand ≡ hand }
+    {
+        AtHand { given, hand }
     }
 
     /// The offsets that some source gives.
@@ -67,6 +75,7 @@ impl AtHand {
     pub fn hand(&self) -> &Cover
         ensures hand { result.now ≡ self.now.hand }
         ensures cover { IsCover self.now.hand }
+        ensures within { (x : ℕ) → LiesIn self.now.hand x → LiesIn self.now.given x }
     {
         &self.hand
     }

@@ -11,5 +11,6 @@ pub mod ReadBytes
 pub mod Tellings
 pub mod GatheringLaws
 pub mod PlaceLaws
+pub mod PlacingLaws
 mod ComingLaws
 mod Walks

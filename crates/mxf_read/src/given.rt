@@ -117,3 +117,12 @@ impl Model for Given {
 
     ghost invariant = { λ g. ArePlaces g.extents.items g.places.items g.overlaps.items g.given };
 }
+
+impl Given {
+    /// The offsets that sources give.
+    pub fn into_given(self) -> Cover
+        ensures { result ≡ self.given }
+    {
+        self.given
+    }
+}

@@ -37,4 +37,4 @@ pub use plan::{
     DisputedPlace, Order, Plan, disputed_places_by_definition, gaps_are_ordered,
     orders_by_definition, orders_where_nothing_is_at_hand, starts_are_apart,
 };
-pub use section::{holes_by_definition, sections_by_definition};
+pub use section::{Section, holes_by_definition, sections, sections_by_definition};

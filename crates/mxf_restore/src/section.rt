@@ -19,9 +19,12 @@ use mxf_places::{Claim, Holdings, OffsetRange};
 use std::alloc::Global;
 
 /// A section of a hole, which is cut at the places that packs name.
-#[derive(Clone, Copy)]
-pub(crate) struct Section {
+#[derive(Clone, Copy, Debug, PartialEq, Eq)]
+pub struct Section {
+    /// The file offset of its first byte.
     pub first: u64,
+    /// Where it ends, in bytes: at the next cut or where the hole does; a section without an end has all from its first
+    /// byte on.
     pub end: Option<u64>,
     pub hole: OffsetRange,
 }
@@ -104,7 +107,7 @@ fn cut_of(claim: &Claim) -> Option<u128>
 
 /// The sections of all holes, rising. They take memory.
 #[tactic(auto, unfolding(crate::specs::Sections::sections_of))]
-pub(crate) fn sections(
+pub fn sections(
     alloc: Global,
     holdings: &Holdings<'_>,
     claims: &[Claim],

@@ -13,7 +13,7 @@ returns-in-Some c =
     let runs = c.self.inside.hand in
     let start = c.args.start in
     let end = c.in-Some.ensures.1 in
-    let says = has_offsets-says runs start c.in-Some.end c.self.invariant.1 in
+    let says = has_offsets-says runs start c.in-Some.end c.self.invariant.hand in
     same_bool c.has_all.result (has_offsets runs start c.in-Some.end) (λ t. says.1 (c.has_all.ensures.0 t))
     (λ t. c.has_all.ensures.1 (says.0 t)) ∙ ap (has_offsets runs start) end
     ∙ ap (λ (a : AtHandParts). has_offsets a.hand start (start + 25)) c.self.view_is
@@ -22,10 +22,10 @@ pub returns-in-None : goal.returns-in-None
 returns-in-None c =
     let runs = c.self.inside.hand in
     let start = c.args.start in
-    let says = has_offsets-says runs start (start + 25) c.self.invariant.1 in
+    let says = has_offsets-says runs start (start + 25) c.self.invariant.hand in
     sym (false_from_ne_true (has_offsets runs start (start + 25)) (λ t.
     let at = says.0 t start (omega arith) (omega arith) in
     let within : at.0.end ≤ greatest_end =
-    all-In (λ (r : Run). r.end ≤ greatest_end) runs at.0 c.self.invariant.1.within at.1 in
+    all-In (λ (r : Run). r.end ≤ greatest_end) runs at.0 c.self.invariant.hand.within at.1 in
     let before : start + 1 ≤ at.0.end = at.2.before in c.in-None.ensures (omega (arith, within, before))))
     ∙ ap (λ (a : AtHandParts). has_offsets a.hand start (start + 25)) c.self.view_is

@@ -1,0 +1,5 @@
+pub mod Hand
+pub mod Heads
+pub mod Sections
+pub mod Rounds
+pub mod Finding

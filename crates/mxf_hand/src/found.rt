@@ -1,0 +1,117 @@
+//! What is put together in a round, section after section.
+ghost use Rattle.std.specs.Prelude.{◌≡◌, ◌↔◌, ◌⊎◌, ◌++◌, ◌∷◌, [], ℕ, List, Option, IfOk, OnOk, filter, map};
+ghost use Rattle.mxf_klv.specs.Parts.{NoteParts};
+ghost use Rattle.mxf_catalogue.specs.Content.{reduced_union};
+ghost use Rattle.mxf_catalogue.specs.Runs.{LiesIn};
+ghost use Rattle.mxf_read.specs.Noting.{option_list};
+ghost use Rattle.mxf_hand.specs.Finding.{Finds, Grows, IsStart, read_notes};
+ghost use Rattle.mxf_hand.specs.Rounds.{is_taken};
+ghost use Rattle.mxf_hand.specs.declared.found.CutHead.{CutHead};
+
+use crate::section::ends_within;
+use mxf_catalogue::{Catalogue, Cover};
+use mxf_klv::{Note, OutOfMemory};
+use mxf_read::Reading;
+use std::alloc::Global;
+
+/// A head that was read, and the end of the hole in which it was, in bytes.
+#[derive(Debug, Drop)]
+pub(crate) struct CutHead {
+    pub note: Note,
+    pub hole_end: Option<u64>,
+}
+
+/// What was found of some sections.
+#[derive(Debug, Drop)]
+pub(crate) struct Found {
+    /// The packets that were read.
+    pub packets: Catalogue,
+    /// Those that were made of heads.
+    pub made: Catalogue,
+    /// The heads that were read.
+    pub heads: Vec<CutHead>,
+    /// Where the packets and heads begin that were read.
+    pub starts: Cover,
+}
+
+impl Found {
+    /// Nothing.
+    pub fn new(alloc: Global) -> Found
+        ensures { Finds result [] [] [] }
+    {
+        Found {
+            packets: Catalogue::new(alloc),
+            made: Catalogue::new(alloc),
+            heads: Vec::new(alloc),
+            starts: Cover::new(alloc),
+        }
+    }
+
+    /// Adds what was read of a section of a hole, which ends there where it has an end.
+    pub fn add_reading(
+        &mut self,
+        reading: Reading,
+        hole_end: Option<u64>,
+    ) -> Result<(), OutOfMemory>
+        ensures { OnOk result (Grows self.old self.new reading.notes []
+            (map (λ n. record { note = n; hole_end = hole_end }) (option_list reading.head))) }
+    {
+        let Reading { notes, head } = reading;
+        add_starts(&mut self.starts, &notes)?;
+        if let Some(note) = head {
+            self.starts.add(note.offset(), note.offset() + 1)?;
+            self.heads.push(CutHead { note, hole_end })?;
+        }
+        match self.packets.merge(notes) {
+            Ok(()) => Ok(()),
+            Err(_) => Err(OutOfMemory),
+        }
+    }
+
+    /// Adds a packet that was made of a head.
+    pub fn add_made(&mut self, note: Note) -> Result<(), OutOfMemory>
+        ensures { OnOk result (Grows self.old self.new [] (note ∷ []) []) }
+    {
+        self.made.add(note)?;
+        Ok(())
+    }
+
+    /// The packets that were read; and the packets that were made, with the heads that are taken.
+    pub fn into_taken(self) -> Result<(Catalogue, Catalogue), OutOfMemory>
+        ensures { (packets made : List NoteParts) (heads : List CutHead) → Finds self packets made heads
+            → IfOk result (λ taken. (taken.0 ≡ reduced_union [] packets)
+            × (taken.1 ≡ reduced_union [] (made ++ map (λ head. head.note)
+            (filter (is_taken (read_notes packets heads)) heads)))) }
+    {
+        let Found {
+            packets,
+            mut made,
+            heads,
+            starts,
+        } = self;
+        for head in heads {
+            if is_taken(&starts, &head) {
+                made.add(head.note)?;
+            }
+        }
+        Ok((packets, made))
+    }
+}
+
+/// Adds where the notes begin.
+fn add_starts(starts: &mut Cover, notes: &Catalogue) -> Result<(), OutOfMemory>
+    ensures { OnOk result ((x : ℕ) → LiesIn starts.new x ↔ LiesIn starts.old x ⊎ IsStart notes.now x) }
+{
+    for note in notes.notes() {
+        starts.add(note.offset(), note.offset() + 1)?;
+    }
+    Ok(())
+}
+
+/// Whether a head is taken: it ends in its hole, and nothing that was read begins behind its offset and below its end.
+fn is_taken(starts: &Cover, head: &CutHead) -> bool
+    ensures { (read : List NoteParts) → ((x : ℕ) → LiesIn starts.now x ↔ IsStart read x)
+        → result ≡ is_taken read head.now }
+{
+    ends_within(head.hole_end, &head.note) && !starts.meets(head.note.offset() + 1, head.note.end())
+}

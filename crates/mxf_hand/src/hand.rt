@@ -1,0 +1,124 @@
+//! The bytes at hand, and readings of them.
+ghost use Rattle.std.specs.Prelude.{◌≡◌, ◌≤◌, ◌<◌, ℕ, List, Option, IfOk, IsTrue, false};
+ghost use Rattle.mxf_klv.specs.Note.{covered_end, end_of};
+ghost use Rattle.mxf_catalogue.specs.Runs.{LiesIn};
+ghost use Rattle.mxf_read.specs.Given.{AreAtHand, AreTold, SourceParts};
+ghost use Rattle.mxf_read.specs.Noting.{IsReading};
+ghost use Rattle.mxf_hand.specs.Hand.{AreToldIn, HandBytes, is_value_at_hand, packet_of, read_bytes, run_end};
+ghost use Rattle.mxf_hand.specs.Heads.{fits};
+
+use crate::head::{key_and_length, stand_at};
+use mxf_catalogue::Cover;
+use mxf_klv::Note;
+use mxf_places::{AtHand, up_to_bound};
+use mxf_read::{Given, Reading, SourceFault, Sources};
+use std::alloc::Global;
+
+/// The extents of sources, and which of their offsets are at hand.
+#[derive(Debug, Drop)]
+pub(crate) struct Hand {
+    pub given: Given,
+    pub runs: Cover,
+
+    ghost within: { (x : ℕ) → LiesIn runs x → LiesIn given.given x },
+}
+
+impl Hand {
+    /// Compares the sources where they overlap.
+    pub fn of<S: Sources>(alloc: Global, given: Given, sources: &mut S) -> Result<Hand, SourceFault>
+        ensures told { S.told sources.new ≡ S.told sources.old }
+        ensures given { IfOk result (λ hand. hand.given ≡ given) }
+        ensures runs { (told : List SourceParts) → AreTold (S.told sources.old) given.extents told
+            → IfOk result (λ hand. AreAtHand told hand.runs) }
+    {
+        let runs = given.hand(alloc, sources)?;
+        Ok(Hand { given, runs })
+    }
+
+    /// The offsets that are given, and those at hand.
+    pub fn into_at_hand(self) -> AtHand
+        ensures given { result.given ≡ self.given.given }
+        ensures hand { result.hand ≡ self.runs }
+    {
+        let Hand { given, runs } = self;
+        AtHand::of(given.into_given(), runs)
+    }
+
+    /// The end, in bytes, of the maximal run at hand in which the offset lies.
+    pub fn run_end(&self, offset: u64) -> Option<u64>
+        ensures { result ≡ run_end self.now.runs offset }
+    {
+        let run = self.runs.runs_between(offset, None).next()?;
+        if run.start <= offset {
+            Some(run.end)
+        } else {
+            None
+        }
+    }
+
+    /// Reads the bytes at hand from an offset on, up to an end where there is one, both in bytes.
+    pub fn read<S: Sources>(
+        &self,
+        alloc: Global,
+        sources: &mut S,
+        from: u64,
+        end: Option<u64>,
+    ) -> Result<Reading, SourceFault>
+        ensures told { S.told sources.new ≡ S.told sources.old }
+        ensures reading { (h : HandBytes) → AreToldIn (S.told sources.old) self.now.given.extents self.now.runs h
+            → IfOk result (λ r. IsReading from (read_bytes h end from) r.notes r.head) }
+    {
+        let to = match self.run_end(from) {
+            Some(run_end) => up_to_bound(run_end, end),
+            None => from,
+        };
+        self.given.reading(alloc, sources, from, to)
+    }
+
+    /// Whether no byte at hand of a head's key and length is another than the head says.
+    #[tactic(auto, unfolding(crate::specs::Heads::fits))]
+    pub fn fits<S: Sources>(
+        &self,
+        alloc: Global,
+        sources: &mut S,
+        head: &Note,
+    ) -> Result<bool, SourceFault>
+        ensures told { S.told sources.new ≡ S.told sources.old }
+        ensures fits { (h : HandBytes) → AreToldIn (S.told sources.old) self.now.given.extents self.now.runs h
+            → IfOk result (λ it. it ≡ fits h head.now) }
+    {
+        let spelled = key_and_length(alloc, head)?;
+        let (start, end) = (head.offset(), head.covered_end());
+        for run in self.runs.runs_between(start, Some(end)) {
+            let from = run.start.max(start);
+            let bytes = self.given.bytes(alloc, sources, from, run.end.min(end))?;
+            if !stand_at(&bytes, (from - start) as usize, &spelled) {
+                return Ok(false);
+            }
+        }
+        Ok(true)
+    }
+
+    /// Whether the value of a head's packet has a byte, and all of them are at hand.
+    pub fn has_value(&self, head: &Note) -> bool
+        ensures { (h : HandBytes) → h.runs ≡ self.now.runs → result ≡ is_value_at_hand h head.now }
+    {
+        head.length() > 0 && self.runs.has_all(head.covered_end(), head.end())
+    }
+
+    /// The note of a head's packet, whose value is at hand.
+    pub fn packet_of<S: Sources>(
+        &self,
+        alloc: Global,
+        sources: &mut S,
+        head: &Note,
+    ) -> Result<Note, SourceFault>
+        requires head { head.now.whole ≡ false }
+        requires value { (x : ℕ) → covered_end head.now ≤ x → x < end_of head.now → LiesIn self.now.runs x }
+        ensures told { S.told sources.new ≡ S.told sources.old }
+        ensures note { (h : HandBytes) → AreToldIn (S.told sources.old) self.now.given.extents self.now.runs h
+            → IfOk result (λ n. n ≡ packet_of h head.now) }
+    {
+        self.given.packet_of(alloc, sources, head)
+    }
+}

@@ -1,0 +1,109 @@
+//! Heads by their offsets, and the bytes of their key and length.
+ghost use Rattle.std.specs.Prelude.{◌≡◌, ◌≢◌, ◌+◌, ◌-◌, ◌<◌, ◌≤◌, ℕ, List, IfOk, IsTrue, drop, filter, get_or, length};
+ghost use Rattle.std.specs.Prelude.{map, not, nat_le, nat_lt, ◌&&◌, true, false};
+ghost use Rattle.std.specs.List.Sorted.{IsNonDecreasingBy};
+ghost use Rattle.mxf_klv.specs.Parts.{NoteParts};
+ghost use Rattle.mxf_restore.specs.Plan.{is_head_to, start_of};
+ghost use Rattle.mxf_hand.specs.Heads.{key_and_length};
+
+use mxf_catalogue::Catalogue;
+use mxf_klv::{Ber, Encode, Keyed, Note, OutOfMemory, below};
+use std::alloc::Global;
+use std::marker::Model;
+
+/// The bytes that key and length of a packet can have at most (ST 336: a key of 16 bytes, a length of 9).
+const KEY_AND_LENGTH: u64 = 25;
+
+/// A head: a packet of which key and length alone are held.
+#[derive(Clone, Copy)]
+pub(crate) struct HeadNote<'a>(pub &'a Note);
+
+/// Heads rise by their offsets.
+impl<'a> Keyed for HeadNote<'a> {
+    ghost key = { λ h. h.0.now.offset };
+
+    fn key(&self) -> u64 {
+        self.0.offset()
+    }
+}
+
+/// The heads of a catalogue.
+#[derive(Drop)]
+pub(crate) struct Heads<'a> {
+    catalogue: &'a Catalogue,
+    heads: Vec<HeadNote<'a>>,
+}
+
+impl<'a> Model for Heads<'a> {
+    ghost use Rattle.std.specs.Prelude.{List};
+    ghost use Rattle.mxf_klv.specs.Parts.{NoteParts};
+    ghost use Rattle.mxf_hand.specs.Heads.{AreHeads};
+
+    ghost Value = { List NoteParts };
+
+    ghost view = { λ h. h.catalogue.now };
+
+    ghost invariant = { λ h. AreHeads h.catalogue.now h.heads.items };
+}
+
+impl<'a> Heads<'a> {
+    /// The heads of the catalogue. They take memory.
+    pub fn of(alloc: Global, catalogue: &'a Catalogue) -> Result<Heads<'a>, OutOfMemory>
+        ensures { IfOk result (λ h. h ≡ catalogue.now) }
+    {
+        let heads = catalogue.notes().filter(|note| note.is_head());
+        let heads = heads.map(HeadNote).collect(alloc)?;
+        Ok(Heads { catalogue, heads })
+    }
+
+    /// The heads whose key and length end at an offset, in bytes, in the order of notes. They take memory; the time is
+    /// that of two binary searches and of the heads that begin up to 25 bytes before it.
+    pub fn ending_at(&self, alloc: Global, end: u64) -> Result<Vec<HeadNote<'a>>, OutOfMemory>
+        ensures { IfOk result (λ v. map (λ h. h.0.now) v.items ≡ filter (is_head_to end) self.now) }
+    {
+        let near = between(&self.heads, end.saturating_sub(KEY_AND_LENGTH), end);
+        let heads = near.iter().filter(|head| head.0.covered_end() == end);
+        Ok(heads.copied().collect(alloc)?)
+    }
+}
+
+/// The heads that begin at or above an offset and below another, in bytes.
+fn between<'b, 'a>(heads: &'b [HeadNote<'a>], from: u64, to: u64) -> &'b [HeadNote<'a>]
+    requires { IsNonDecreasingBy (λ h. h.0.now.offset) heads.now }
+    ensures { result.now ≡ filter (λ h. nat_le from h.0.now.offset && nat_lt h.0.now.offset to) heads.now }
+{
+    let end = below(heads, to);
+    let start = below(heads, from).min(end);
+    let (front, _) = heads.split_at(end);
+    let (_, between) = front.split_at(start);
+    between
+}
+
+/// The bytes of key and length of a packet. They take memory.
+pub(crate) fn key_and_length(alloc: Global, head: &Note) -> Result<Vec<u8>, OutOfMemory>
+    ensures { IfOk result (λ v. v.items ≡ key_and_length head.now) }
+{
+    let _offset = head.offset();
+    let mut bytes = Vec::from_slice(alloc, &head.key().bytes())?;
+    let length = Ber::new(head.width(), head.length()).unwrap();
+    match length.write_to(&mut bytes) {
+        Ok(()) => Ok(bytes),
+        Err(_) => Err(OutOfMemory),
+    }
+}
+
+/// Whether these bytes stand behind so many of some others.
+pub(crate) fn stand_at(bytes: &[u8], from: usize, others: &[u8]) -> bool
+    requires { from + length bytes.now ≤ length others.now }
+    ensures agree { result ≡ true
+        → (i : ℕ) → i < length bytes.now → get_or others.now (from + i) 0 ≡ get_or bytes.now i 0 }
+    ensures differ { result ≡ false
+        → (i : ℕ) × (i < length bytes.now) × (get_or others.now (from + i) 0 ≢ get_or bytes.now i 0) }
+{
+    for (i, byte) in bytes.iter().enumerate() {
+        if others[from + i] != *byte {
+            return false;
+        }
+    }
+    true
+}

@@ -1,0 +1,123 @@
+//! Putting packets together, round after round.
+ghost use Rattle.std.specs.Prelude.{◌≡◌, ◌⊎◌, ℕ, List, Option, IfOk, OnOk, [], ◌++◌};
+ghost use Rattle.mxf_klv.specs.Parts.{NoteParts};
+ghost use Rattle.mxf_catalogue.specs.Runs.{LiesIn};
+ghost use Rattle.mxf_read.specs.Given.{AreTold, SourceParts};
+ghost use Rattle.mxf_hand.specs.Finding.{Finds};
+ghost use Rattle.mxf_hand.specs.Hand.{AreOf, AreToldIn, HandBytes};
+ghost use Rattle.mxf_hand.specs.Rounds.{made_in, packets_in, put_together, read_heads_in, round};
+ghost use Rattle.mxf_restore.specs.Sections.{sections_of};
+
+use crate::found::Found;
+use crate::hand::Hand;
+use crate::head::Heads;
+use crate::section::add_section;
+use mxf_catalogue::Catalogue;
+use mxf_klv::OutOfMemory;
+use mxf_places::{AtHand, Holdings, claims};
+use mxf_read::{Given, SourceFault, Sources};
+use mxf_restore::{Section, sections};
+use mxf_views::Views;
+use std::alloc::Global;
+
+/// The greatest number of rounds.
+const GREATEST_ROUNDS: u32 = 64;
+
+/// What a run holds after packets were put together, and which bytes are at hand.
+#[derive(Debug, Drop)]
+pub struct PutTogether {
+    pub views: Views,
+    pub at_hand: AtHand,
+}
+
+/// The sections of the holes of what is held. They take memory.
+fn sections_in(alloc: Global, views: &Views) -> Result<Vec<Section>, SourceFault>
+    ensures { IfOk result (λ v. v.items ≡ sections_of views.now) }
+{
+    let holdings = Holdings::of(alloc, views)?;
+    let claims = claims(alloc, &holdings)?;
+    Ok(sections(alloc, &holdings, &claims)?)
+}
+
+/// What is found of the sections of the holes of what is held.
+fn found_in<S: Sources>(
+    alloc: Global,
+    hand: &Hand,
+    sources: &mut S,
+    views: &Views,
+) -> Result<Found, SourceFault>
+    ensures told { S.told sources.new ≡ S.told sources.old }
+    ensures found { (h : HandBytes) → AreToldIn (S.told sources.old) hand.now.given.extents hand.now.runs h
+        → IfOk result (λ found. Finds found (packets_in h views.now (sections_of views.now))
+        (made_in h views.now (sections_of views.now)) (read_heads_in h views.now (sections_of views.now))) }
+{
+    let sections = sections_in(alloc, views)?;
+    let heads = Heads::of(alloc, views.catalogue())?;
+    let mut found = Found::new(alloc);
+    for section in &sections {
+        add_section(alloc, hand, sources, &heads, *section, &mut found)?;
+    }
+    Ok(found)
+}
+
+/// One round: what is put together is added to what is held. It answers whether something was added.
+#[tactic(auto, unfolding(crate::specs::Rounds::round))]
+fn round<S: Sources>(
+    alloc: Global,
+    hand: &Hand,
+    sources: &mut S,
+    views: &mut Views,
+) -> Result<bool, SourceFault>
+    ensures told { S.told sources.new ≡ S.told sources.old }
+    ensures round { (h : HandBytes) → AreToldIn (S.told sources.old) hand.now.given.extents hand.now.runs h
+        → OnOk result (views.new ≡ round h views.old) }
+    ensures none { IfOk result (λ is_more. (is_more ≡ true) ⊎ (views.new ≡ views.old)) }
+{
+    let found = found_in(alloc, hand, sources, views)?;
+    let (packets, made) = found.into_taken()?;
+    let is_more_read = add_new(views, packets)?;
+    let is_more_made = add_new(views, made)?;
+    Ok(is_more_read || is_more_made)
+}
+
+/// Adds notes to what is held, and answers whether one of them is new.
+fn add_new(views: &mut Views, notes: Catalogue) -> Result<bool, OutOfMemory>
+    ensures added { OnOk result (views.new ≡ reduced_union views.old notes) }
+    ensures none { IfOk result (λ is_new. (is_new ≡ true) ⊎ (views.new ≡ views.old)) }
+{
+    if notes.notes().all(|note| views.catalogue().has(note)) {
+        return Ok(false);
+    }
+    match views.merge(notes) {
+        Ok(()) => Ok(true),
+        Err(_) => Err(OutOfMemory),
+    }
+}
+
+/// Puts together packets of bytes at hand: what lies over the border of two sources, and what is held as a head alone.
+///
+/// What would be ordered of what is held, and is at hand, is read as if it had been restored, in up to 64 rounds. What is
+/// held stays, and what is added lies where nothing was held, or is the packet of a head. The only faults are want of
+/// memory and a read that failed.
+pub fn put_together<S: Sources>(
+    alloc: Global,
+    views: Views,
+    given: Given,
+    sources: &mut S,
+) -> Result<PutTogether, SourceFault>
+    ensures views { (told : List SourceParts) (h : HandBytes) → AreTold (S.told sources.old) given.extents told
+        → AreOf told h → IfOk result (λ p. p.views ≡ put_together h views) }
+    ensures hand { (told : List SourceParts) (h : HandBytes) → AreTold (S.told sources.old) given.extents told
+        → AreOf told h → IfOk result (λ p. p.at_hand.hand ≡ h.runs) }
+    ensures given { IfOk result (λ p. p.at_hand.given ≡ given.given) }
+{
+    let hand = Hand::of(alloc, given, sources)?;
+    let mut views = views;
+    for _ in 0..GREATEST_ROUNDS {
+        if !round(alloc, &hand, sources, &mut views)? {
+            break;
+        }
+    }
+    let at_hand = hand.into_at_hand();
+    Ok(PutTogether { views, at_hand })
+}
