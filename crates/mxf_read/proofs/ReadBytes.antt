@@ -1,15 +1,25 @@
 -- Bytes that stand in a source are those that it gives.
 use Rattle.std.proofs.Common.{◌≡◌, ◌+◌, ◌-◌, ◌<◌, ◌≤◌, ◌++◌, ℕ, zero, suc, List, [], ◌∷◌, Option, Some, refl, sym, ap}
-use Rattle.std.proofs.Common.{◌∙◌, subst, arith, inl, inr, length, drop, get_or, take, map, length-take}
-use Rattle.std.specs.Prelude.{slice_get, IfOk, IfSome, Result, Ok, Err}
+use Rattle.std.proofs.Common.{◌∙◌, subst, arith, inl, inr, length, drop, get_or, take, map, length-append, length-take}
+use Rattle.std.specs.Prelude.{slice_get, IfOk, IfSome, Result, Ok, Err, Bool, false, if◌then◌else◌}
+use Rattle.std.specs.Option.{SomeIff}
 use Rattle.std.specs.List.{range_with_len}
 use Rattle.std.proofs.lemmas.List.{drop-drop, take-append-le}
+use Rattle.std.proofs.lemmas.List.FromFn.{length-map-range_with_len}
 use Rattle.std.proofs.lemmas.Option.{slice_get_read, slice_get_within}
+use Rattle.mxf_klv.specs.Parts.{CanSpell, LengthParts, NoteParts, packet_parts}
+use Rattle.mxf_klv.specs.Note.{IsNote, covered_end, end_of, note_of}
+use Rattle.mxf_klv.specs.PieceReading.{heads_at, rest_in}
 use Rattle.mxf_klv.specs.Rising.{In}
+use Rattle.mxf_read.specs.Coming.{HasTaken, IsSamePacket}
+use Rattle.mxf_read.specs.Feeding.{Tells, begun_heads}
 use Rattle.mxf_read.specs.Given.{AreBytesOf, AreTold, Gives, HaveExtents, ReadsAt, SourceParts, StandAt, bytes_between}
+use Rattle.mxf_read.specs.Noting.{IsReading, option_list}
 use Rattle.mxf_read.specs.Places.{IsPlaceOf, LiesInPlace}
+use Rattle.mxf_read.specs.declared.coming.ComingValue.{ComingValue}
 use Rattle.mxf_read.specs.declared.given.Extent.{Extent}
 use Rattle.mxf_read.specs.declared.given.Place.{Place}
+use Rattle.mxf_read.specs.declared.piece.Piece.{Piece}
 use Rattle.mxf_read.specs.declared.reading.Step.TheVariants.{Took}
 
 -- ---- a source by its number
@@ -60,8 +70,8 @@ read_bytes sources s byte (b ∷ bytes) more at i h e are =
     λ j. sym same j ∷ rest j
 
 -- so many offsets from one on
-pub between_len : (byte : ℕ → ℕ) (at n : ℕ) → map byte (range_with_len at n) ≡ bytes_between byte at (at + n)
-between_len byte at n =
+between_here : (byte : ℕ → ℕ) (at n : ℕ) → map byte (range_with_len at n) ≡ bytes_between byte at (at + n)
+between_here byte at n =
     ap (λ (k : ℕ). map byte (range_with_len at k)) (let same : n ≡ at + n - at = omega arith in same)
 
 -- what was read of a source at an offset of its extent is what the sources give
@@ -79,7 +89,7 @@ are_read told extents sources byte number at n e bytes are is from len stands of
     ap (λ (k : ℕ). drop (at - k) s.bytes) place ∙ split in
     let all = read_bytes sources s byte bytes more at (got sources number s there) (omega arith) here
     (λ x b l m. of x b l (omega arith)) in
-    all ∙ ap (λ (k : ℕ). map byte (range_with_len at k)) len ∙ between_len byte at n
+    all ∙ ap (λ (k : ℕ). map byte (range_with_len at k)) len ∙ between_here byte at n
 
 -- the same where it stands at the front of more room
 read_front : (told : Option (List SourceParts)) (extents : List Extent) (number at n : ℕ) (e : Extent)
@@ -116,3 +126,126 @@ pub found_place : (own : List Extent) (x : ℕ) (r : Option Place) (p : Place) �
     → IfSome r (λ q. IsPlaceOf own q × LiesInPlace q x) → IsPlaceOf own p × LiesInPlace p x
 found_place own x r p e found =
     subst (λ (o : Option Place). IfSome o (λ q. IsPlaceOf own q × LiesInPlace q x)) e found
+
+-- ---- one read after another
+
+range_more : (byte : ℕ → ℕ) (from m n : ℕ)
+    → map byte (range_with_len from m) ++ map byte (range_with_len (from + m) n) ≡ map byte (range_with_len from (m + n))
+range_more byte from zero n =
+    let here : from + 0 ≡ from = omega arith in
+    let all : n ≡ 0 + n = omega arith in
+    ap (λ (k : ℕ). map byte (range_with_len k n)) here ∙ ap (λ (k : ℕ). map byte (range_with_len from k)) all
+range_more byte from (suc m) n =
+    let here : from + suc m ≡ from + 1 + m = omega arith in
+    let all : suc (m + n) ≡ suc m + n = omega arith in
+    ap (λ (k : ℕ). map byte (range_with_len from (suc m)) ++ map byte (range_with_len k n)) here
+    ∙ ap (λ (t : List ℕ). byte from ∷ t) (range_more byte (from + 1) m n)
+    ∙ ap (λ (k : ℕ). map byte (range_with_len from k)) all
+
+-- the bytes behind others
+pub between_more : (byte : ℕ → ℕ) (from at to : ℕ) → from ≤ at → at ≤ to
+    → bytes_between byte from at ++ bytes_between byte at to ≡ bytes_between byte from to
+between_more byte from at to h k =
+    let here : at ≡ from + (at - from) = omega arith in
+    let all : at - from + (to - at) ≡ to - from = omega arith in
+    ap (λ (j : ℕ). bytes_between byte from at ++ map byte (range_with_len j (to - at))) here
+    ∙ range_more byte from (at - from) (to - at) ∙ ap (λ (j : ℕ). map byte (range_with_len from j)) all
+
+pub between_none : (byte : ℕ → ℕ) (at : ℕ) → [] ≡ bytes_between byte at at
+between_none byte at =
+    let none : 0 ≡ at - at = omega arith in
+    ap (λ (k : ℕ). map byte (range_with_len at k)) none
+
+-- as many as there are offsets
+pub between_len : (byte : ℕ → ℕ) (from to : ℕ) → length (bytes_between byte from to) ≡ to - from
+between_len byte from to = length-map-range_with_len byte from (to - from)
+
+-- the others follow what was read
+pub so_far_all : (byte : ℕ → ℕ) (from at to : ℕ) (done : List ℕ) → from ≤ at → at ≤ to
+    → done ≡ bytes_between byte from at → done ++ bytes_between byte at to ≡ bytes_between byte from to
+so_far_all byte from at to done h k is =
+    ap (λ (t : List ℕ). t ++ bytes_between byte at to) is ∙ between_more byte from at to h k
+
+-- What a read gives at an offset, so many bytes, for all that is told.
+abbrev pub ReadHere : Option (List SourceParts) → List Extent → ℕ → ℕ → List ℕ → Type 0
+ReadHere told own at n part =
+    (given : List SourceParts) (byte : ℕ → ℕ) → AreTold told own given → AreBytesOf given byte at (at + n)
+    → part ≡ bytes_between byte at (at + n)
+
+-- What reads up to an offset gave, of the bytes up to an end.
+abbrev pub ReadSoFar : Option (List SourceParts) → List Extent → ℕ → ℕ → ℕ → List ℕ → Type 0
+ReadSoFar told own from to at done =
+    (given : List SourceParts) (byte : ℕ → ℕ) → AreTold told own given → AreBytesOf given byte from to
+    → done ≡ bytes_between byte from at
+
+-- they go on with one more
+pub so_far_more : (told before : Option (List SourceParts)) (own : List Extent) (from to at n : ℕ)
+    (done part : List ℕ) → told ≡ before → from ≤ at → at + n ≤ to → ReadSoFar before own from to at done
+    → ReadHere told own at n part → ReadSoFar before own from to (at + n) (done ++ part)
+so_far_more told before own from to at n done part same h k so_far here given byte are of =
+    let told_are : AreTold told own given = record { is = same ∙ are.is; extents = are.extents } in
+    let first = so_far given byte are of in
+    let last = here given byte told_are (λ x b l m. of x b (omega arith) (omega arith)) in
+    (λ i. first i ++ last i) ∙ between_more byte from at (at + n) h (omega arith)
+
+-- ---- what the reads are fed to
+
+-- so many bytes at the front of the room
+pub front_len : (n : ℕ) (room : List ℕ) → n ≤ length room → length (take n room) ≡ n
+front_len n room h = omega (arith, length-take n room)
+
+-- of a value so many bytes less are to come
+pub left_less : (v w : ComingValue) (done part : List ℕ) (n : ℕ) → IsSamePacket v w → HasTaken v done
+    → HasTaken w (done ++ part) → length part ≡ n → w.left + n ≡ v.left
+left_less v w done part n same before after len =
+    let total = ap (λ (l : LengthParts). l.value) same.spelled in
+    let a = before.counted in
+    let b = after.counted in
+    omega (arith, length-append done part)
+
+pub same_packet : (u v w : ComingValue) → IsSamePacket u v → IsSamePacket v w → IsSamePacket u w
+same_packet u v w a b = record {
+  offset = b.offset ∙ a.offset;
+  key = b.key ∙ a.key;
+  spelled = b.spelled ∙ a.spelled;
+}
+
+-- a head covers key and length
+pub covered_head : (n : NoteParts) → n.whole ≡ false → covered_end n ≡ n.offset + 16 + n.width
+covered_head n e = ap (λ (b : Bool). if b then end_of n else n.offset + 16 + n.width) e
+
+-- its length is a spelled one
+pub head_length : (w l : ℕ) (r : Option LengthParts) (b : LengthParts) → r ≡ Some b
+    → SomeIff r (CanSpell w l) (record { width = w; value = l }) → (b.width ≡ w) × (b.value ≡ l)
+head_length w l r b e some =
+    let is : SomeIff (Some b) (CanSpell w l) (record { width = w; value = l }) =
+    subst (λ (o : Option LengthParts). SomeIff o (CanSpell w l) (record { width = w; value = l })) e some in
+    (ap (λ (x : LengthParts). x.width) is.1, ap (λ (x : LengthParts). x.value) is.1)
+
+-- the note of the packet of a head
+pub taken_note : (head n : NoteParts) (v : ComingValue) (m : List ℕ) → v.offset ≡ head.offset → v.key ≡ head.key
+    → v.ber.width ≡ head.width → n ≡ note_of v.offset (packet_parts v.key v.ber.width m)
+    → n ≡ note_of head.offset (packet_parts head.key head.width m)
+taken_note head n v m at key width is =
+    is ∙ ap (λ (o : ℕ). note_of o (packet_parts v.key v.ber.width m)) at
+    ∙ ap (λ (k : List ℕ). note_of head.offset (packet_parts k v.ber.width m)) key
+    ∙ ap (λ (w : ℕ). note_of head.offset (packet_parts head.key w m)) width
+
+-- so many offsets from one on are those up to an end, where that doesn't lie below
+pub between_size : (byte : ℕ → ℕ) (from to n : ℕ) → n ≡ to - from
+    → bytes_between byte from (from + n) ≡ bytes_between byte from to
+between_size byte from to n e =
+    let same : from + n - from ≡ to - from = omega arith in
+    ap (λ (k : ℕ). map byte (range_with_len from k)) same
+
+-- what a piece tells of the bytes is their reading
+pub reading_told : (o : ℕ) (m : List ℕ) (p : Piece) (notes : List NoteParts) (head : Option NoteParts) → Tells o m p
+    → notes ≡ p.notes → option_list head ≡ begun_heads p.stop p.value → IsReading o m notes head
+reading_told o m p notes head tells e f = record {
+  notes = e ∙ tells.knows.notes;
+  head = f ∙ tells.head ∙ ap (λ (at : ℕ). heads_at at (rest_in o m)) tells.knows.at;
+}
+
+pub can_spell : (n : NoteParts) (w l : ℕ) → IsNote n → w ≡ n.width → l ≡ n.length → CanSpell w l
+can_spell n w l note e f =
+    subst (λ (x : ℕ). CanSpell x l) (sym e) (subst (CanSpell n.width) (sym f) note.width)

@@ -1,8 +1,10 @@
 -- A piece whose bytes come in parts: what is known after those that came (this project's profile).
-use Rattle.std.specs.Prelude.{◌≡◌, ℕ, ◌<◌, ◌≤◌, List, [], ◌++◌, length, take, Option, None, Some, Result, Ok, Err}
+use Rattle.std.specs.Prelude.{◌≡◌, ℕ, ◌<◌, ◌≤◌, List, [], ◌∷◌, ◌++◌, length, take, Option, None, Some, Result, Ok}
+use Rattle.std.specs.Prelude.{Err, Bool, false, nat_lt}
+use Rattle.mxf_klv.specs.Parts.{NoteParts, head_parts}
 use Rattle.mxf_klv.specs.KeyAndLength.{HasNoKeyAndLength}
 use Rattle.mxf_klv.specs.Piece.{end_after, notes_from}
-use Rattle.mxf_klv.specs.PieceReading.{IsOpen, packet_at, packets_in, rest_in, stop_of}
+use Rattle.mxf_klv.specs.PieceReading.{IsOpen, heads_at, packet_at, packets_in, rest_in, stop_of}
 use Rattle.mxf_klv.specs.declared.piece.Stop.{Stop}
 use Rattle.mxf_read.specs.Coming.{HasCome}
 use Rattle.mxf_read.specs.declared.coming.ComingValue.{ComingValue}
@@ -53,3 +55,19 @@ pub record HasTaken (old new : Piece) (bytes : List ℕ) (n : ℕ) : Type 0 wher
 abbrev pub TakesFront : {E : Type 0} → Piece → Piece → List ℕ → Result ℕ E → Type 0
 TakesFront old new bytes (Ok n) = HasTaken old new bytes n
 TakesFront old new bytes (Err e) = NotesNone old new
+
+-- The value that has begun, where there is one, has more bytes to come than so many.
+abbrev pub waits_for_more : Option ComingValue → ℕ → Bool
+waits_for_more None left = false
+waits_for_more (Some v) left = nat_lt left v.left
+
+-- The head of the packet whose value has begun, where the piece hasn't stopped.
+abbrev pub begun_heads : Option Stop → Option ComingValue → List NoteParts
+begun_heads (Some stop) value = []
+begun_heads None None = []
+begun_heads None (Some v) = head_parts v.offset v.key v.ber.width v.ber.value ∷ []
+
+-- The notes are those of the packets of these bytes, and the head is that of the packet that their end cuts.
+pub record Tells (offset : ℕ) (bytes : List ℕ) (p : Piece) : Type 0 where
+  pub knows : Knows offset bytes p
+  pub head : begun_heads p.stop p.value ≡ heads_at p.at (rest_in offset bytes)

@@ -9,3 +9,4 @@ pub mod Gathering
 pub mod Given
 pub mod Places
 pub mod Noting
+pub mod InMemory

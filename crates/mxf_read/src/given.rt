@@ -5,6 +5,7 @@ ghost use Rattle.mxf_read.specs.Gathering.{piece_limit};
 
 mod comparing;
 mod finding;
+mod in_memory;
 mod noting;
 mod placing;
 mod sources;
@@ -13,6 +14,7 @@ mod stepping;
 use crate::gathering::GREATEST_PIECE;
 use mxf_catalogue::Cover;
 use mxf_klv::{MAX, OutOfMemory};
+pub use in_memory::{BytesAt, InMemory};
 pub use noting::Reading;
 pub use sources::Sources;
 use std::alloc::{AllocError, AllocFailed};

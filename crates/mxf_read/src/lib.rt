@@ -55,7 +55,7 @@ pub use absorbing::{
     going_on_completes_a_piece, notes_from, packets_of_a_piece_stand_apart,
 };
 pub use gathering::{GatherFault, Gathered, Part, PartFault, PieceReport, PieceReports, gather};
-pub use given::{Extent, Given, Reading, SourceFault, Sources};
+pub use given::{BytesAt, Extent, Given, InMemory, Reading, SourceFault, Sources};
 pub use mxf_klv::Stop;
 pub use range::{each_range_has_one_start, start_of};
 pub use reading::{GREATEST_INTERRUPTIONS, Step, read_step};

@@ -1,6 +1,6 @@
 //! A piece whose bytes come in parts.
 ghost use Rattle.std.specs.Prelude.{◌≡◌, ◌≤◌, ◌<◌, ◌++◌, ◌↔◌, [], List, ℕ, None, length, take, IfOk, IsTrue, OnOk};
-ghost use Rattle.std.specs.Prelude.{OnErr, is_some};
+ghost use Rattle.std.specs.Prelude.{OnErr, false, is_some};
 ghost use Rattle.sha2.specs.Sha256.{sha256};
 ghost use Rattle.mxf_klv.specs.PieceReading.{IsOpen, heads_at, rest_in};
 ghost use Rattle.mxf_catalogue.specs.Content.{reduced_union};
@@ -8,7 +8,7 @@ ghost use Rattle.mxf_catalogue.specs.Content.{reduced_union};
 use crate::coming::ComingValue;
 use crate::report::Report;
 use mxf_catalogue::Catalogue;
-use mxf_klv::{OutOfMemory, Stop, next_key_and_length};
+use mxf_klv::{Note, OutOfMemory, Stop, next_key_and_length};
 use sha2::{Digest, Sha256};
 use std::alloc::Global;
 
@@ -35,7 +35,9 @@ pub(crate) struct Piece {
 
 impl Piece {
     ghost use Rattle.mxf_read.specs.Coming.{HasCome};
-    ghost use Rattle.mxf_read.specs.Feeding.{Fails, Fed, Feeds, IsFed, Knows, NotesNone, TakesFront};
+    ghost use Rattle.mxf_read.specs.Feeding.{Fails, Fed, Feeds, IsFed, Knows, NotesNone, TakesFront, Tells, begun_heads};
+    ghost use Rattle.mxf_read.specs.Feeding.{waits_for_more};
+    ghost use Rattle.mxf_read.specs.Noting.{option_list};
     ghost use Rattle.mxf_read.specs.Absorbs.{report_of};
 
     /// No byte of the piece at a file offset.
@@ -58,6 +60,25 @@ impl Piece {
         ensures { result ≡ is_some self.now.stop }
     {
         self.stop.is_some()
+    }
+
+    /// Whether the value that has begun has more than `left` bytes to come.
+    pub(crate) fn is_cut(&self, left: u64) -> bool
+        ensures { result ≡ waits_for_more self.now.value left }
+    {
+        match &self.value {
+            Some(value) => left < value.left(),
+            None => false,
+        }
+    }
+
+    /// Whether any of the last `left` bytes is wanted: none is behind a stop, nor inside a value that they don't end.
+    pub(crate) fn wants(&self, left: u64) -> bool
+        ensures more { IsTrue result → 0 < left }
+        ensures enough { result ≡ false → (o : ℕ) (m x : List ℕ) → length x ≡ left → Fed o m self.now
+            → Tells o (m ++ x) self.now }
+    {
+        left > 0 && !self.has_stopped() && !self.is_cut(left)
     }
 
     /// What is noted of the piece, where no more bytes come.
@@ -93,6 +114,17 @@ impl Piece {
             self.notes.add(value.head())?;
         }
         Ok(())
+    }
+
+    /// The head of the next packet, where its value has begun and the piece hasn't stopped.
+    pub(crate) fn cut_head(&self) -> Option<Note>
+        ensures { option_list result ≡ begun_heads self.now.stop self.now.value }
+    {
+        if self.has_stopped() {
+            return None;
+        }
+        let value = self.value.as_ref()?;
+        Some(value.head())
     }
 
     /// The number of notes.
