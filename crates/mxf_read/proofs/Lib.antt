@@ -10,5 +10,6 @@ pub mod RangeLaws
 pub mod ReadBytes
 pub mod GatheringLaws
 pub mod PlaceLaws
+pub mod PlacingLaws
 mod ComingLaws
 mod Walks

@@ -1,9 +1,11 @@
 -- Which source a byte is read of, where several give it (this project's profile).
-use Rattle.std.specs.Prelude.{◌≡◌, ◌↔◌, ◌⊎◌, ◌<◌, ◌≤◌, ℕ, ◌+◌, List, [], ◌∷◌, slice_get, Some}
+use Rattle.std.specs.Prelude.{◌≡◌, ◌↔◌, ◌⊎◌, ◌<◌, ◌≤◌, ℕ, ◌+◌, List, [], ◌∷◌, ◌++◌, slice_get, Some}
+use Rattle.std.specs.Prelude.{if◌then◌else◌, map, max, min, nat_lt}
+use Rattle.std.specs.List.Sorted.{IsNonDecreasingBy, IsPermutation}
 use Rattle.mxf_klv.specs.Rising.{In}
 use Rattle.mxf_catalogue.specs.declared.run.Run.{Run}
 use Rattle.mxf_catalogue.specs.Covers.{IsCover}
-use Rattle.mxf_catalogue.specs.Runs.{LiesIn}
+use Rattle.mxf_catalogue.specs.Runs.{LiesIn, run}
 use Rattle.mxf_read.specs.declared.given.Extent.{Extent}
 use Rattle.mxf_read.specs.declared.given.Place.{Place}
 
@@ -46,3 +48,37 @@ pub record ArePlaces (extents : List Extent) (places overlapping : List Place) (
   pub shared : (p : Place) → In p overlapping → IsPlaceOf extents p
   pub overlaps : (number : ℕ) (e : Extent) (x : ℕ) → slice_get extents number ≡ Some e → LiesInExtent e x
       → (p : Place) × (p.source ≡ number) × LiesInPlace p x × (In p places ⊎ In p overlapping)
+
+-- The same as functions of the extents.
+
+-- From a start up to an end, where that has an offset.
+abbrev pub some_place : ℕ → ℕ → ℕ → List Place
+some_place start end source =
+    if nat_lt start end then record { start = start; end = end; source = source } ∷ [] else []
+
+-- All offsets of each extent, from the source with a number on.
+abbrev pub spans_from : ℕ → List Extent → List Place
+spans_from number [] = []
+spans_from number (e ∷ extents) =
+    some_place e.offset (e.offset + e.size) number ++ spans_from (number + 1) extents
+
+-- Those of all extents, by their starts.
+pub record AreSpans (extents : List Extent) (spans : List Place) : Type 0 where
+  pub all : IsPermutation (spans_from 0 extents) spans
+  pub rise : IsNonDecreasingBy (λ p. p.start) spans
+
+-- Of each span what lies above an offset, and above all spans before it.
+abbrev pub places_above : ℕ → List Place → List Place
+places_above reached [] = []
+places_above reached (p ∷ spans) =
+    some_place (max reached p.start) p.end p.source ++ places_above (max reached p.end) spans
+
+-- Of each span what lies below an offset, or below the end of a span before it.
+abbrev pub overlaps_below : ℕ → List Place → List Place
+overlaps_below reached [] = []
+overlaps_below reached (p ∷ spans) =
+    some_place p.start (min reached p.end) p.source ++ overlaps_below (max reached p.end) spans
+
+-- The offsets of the place.
+abbrev pub run_of : Place → Run
+run_of p = run p.start p.end
