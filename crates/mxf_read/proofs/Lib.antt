@@ -11,5 +11,6 @@ pub mod ReadBytes
 pub mod GatheringLaws
 pub mod PlaceLaws
 pub mod PlacingLaws
+pub mod DifferingLaws
 mod ComingLaws
 mod Walks

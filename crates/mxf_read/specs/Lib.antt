@@ -8,4 +8,5 @@ pub mod Levels
 pub mod Gathering
 pub mod Given
 pub mod Places
+pub mod Differing
 pub mod Noting
