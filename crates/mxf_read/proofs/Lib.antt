@@ -12,5 +12,6 @@ pub mod Tellings
 pub mod GatheringLaws
 pub mod PlaceLaws
 pub mod PlacingLaws
+pub mod DifferingLaws
 mod ComingLaws
 mod Walks

@@ -258,7 +258,7 @@ covered low r (s ∷ spans) P rise f q x (inr h) l =
 
 -- ---- the cover of places
 
-IsCover-all : (runs others : List Run) → IsCover runs → ((r : Run) → In r others → IsRun r)
+pub IsCover-all : (runs others : List Run) → IsCover runs → ((r : Run) → In r others → IsRun r)
     → IsCover (union_of_runs runs others)
 IsCover-all runs [] c f = c
 IsCover-all runs (s ∷ others) c f =

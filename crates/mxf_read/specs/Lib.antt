@@ -8,5 +8,6 @@ pub mod Levels
 pub mod Gathering
 pub mod Given
 pub mod Places
+pub mod Differing
 pub mod Noting
 pub mod InMemory

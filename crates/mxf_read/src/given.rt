@@ -4,6 +4,7 @@ ghost use Rattle.mxf_klv.specs.Note.{greatest_end};
 ghost use Rattle.mxf_read.specs.Gathering.{piece_limit};
 
 mod comparing;
+mod differing;
 mod finding;
 mod in_memory;
 mod noting;
