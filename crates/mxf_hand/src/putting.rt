@@ -119,7 +119,7 @@ fn rounds<S: Sources>(
         → IfOk result (λ views. views ≡ put_together h held) }
 {
     let mut views = held;
-    for _round in 0..GREATEST_ROUNDS {
+    for number in 0..GREATEST_ROUNDS {
         if !round(alloc, hand, sources, &mut views)? {
             return Ok(views);
         }
