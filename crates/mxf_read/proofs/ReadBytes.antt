@@ -188,6 +188,11 @@ so_far_more told before own from to at n done part same h k so_far here given by
     let last = here given byte told_are (λ x b l m. of x b (omega arith) (omega arith)) in
     (λ i. first i ++ last i) ∙ between_more byte from at (at + n) h (omega arith)
 
+-- what was added is the front of the room
+pub grown : (new old room rest : List ℕ) (n : ℕ) → new ≡ old ++ take n (room ++ rest) → n ≤ length room
+    → new ≡ old ++ take n room
+grown new old room rest n e h = e ∙ ap (λ (t : List ℕ). old ++ t) (take-append-le n room rest h)
+
 -- ---- what the reads are fed to
 
 -- so many bytes at the front of the room

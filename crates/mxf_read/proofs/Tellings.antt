@@ -4,16 +4,16 @@ use Rattle.std.proofs.Common.{◌∙◌, arith, append-nil, length-append}
 use Rattle.std.specs.Prelude.{is_some}
 use Rattle.std.proofs.lemmas.Bool.{ltb-true}
 use Rattle.std.proofs.lemmas.List.{nil_from_length}
-use Rattle.mxf_klv.specs.Parts.{NoteParts, head_parts}
+use Rattle.mxf_klv.specs.Parts.{head_parts}
 use Rattle.mxf_klv.specs.KeyAndLength.{BeginsWithKeyAndLength}
 use Rattle.mxf_klv.specs.Piece.{end_after, notes_from}
-use Rattle.mxf_klv.specs.PieceReading.{heads_at, packet_at, packets_in, rest_in}
+use Rattle.mxf_klv.specs.PieceReading.{heads_at, packet_at, rest_in}
 use Rattle.mxf_klv.specs.declared.piece.Stop.{Stop}
 use Rattle.mxf_klv.specs.declared.piece.Stop.TheVariants.{Truncated}
 use Rattle.mxf_klv.proofs.CutHeads.{heads_at-cut}
 use Rattle.mxf_klv.proofs.MoreBytes.{more_head, none_more}
 use Rattle.mxf_klv.proofs.StopLaws.{at_cut, stops}
-use Rattle.mxf_read.specs.Feeding.{Fed, Knows, Tells, begun_heads, waits_for_more}
+use Rattle.mxf_read.specs.Feeding.{Fed, Tells, begun_heads, waits_for_more}
 use Rattle.mxf_read.specs.declared.coming.ComingValue.{ComingValue}
 use Rattle.mxf_read.specs.declared.piece.Piece.{Piece}
 use Rattle.mxf_read.proofs.Feeding.{Feeds-where_stopped, awaits}

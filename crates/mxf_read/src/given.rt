@@ -13,9 +13,9 @@ mod sources;
 mod stepping;
 
 use crate::gathering::GREATEST_PIECE;
+pub use in_memory::{BytesAt, InMemory};
 use mxf_catalogue::Cover;
 use mxf_klv::{MAX, OutOfMemory};
-pub use in_memory::{BytesAt, InMemory};
 pub use noting::Reading;
 pub use sources::Sources;
 use std::alloc::{AllocError, AllocFailed};

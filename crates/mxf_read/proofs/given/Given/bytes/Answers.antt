@@ -1,7 +1,5 @@
-use Rattle.std.proofs.Common.{◌≡◌, ◌+◌, ◌-◌, ◌≤◌, ◌++◌, ◌∙◌, ℕ, List, take, ap, arith, length-take}
-use Rattle.std.proofs.lemmas.List.{take-append-le}
-use Rattle.mxf_read.specs.Given.{AreBytesOf, AreTold, SourceParts, bytes_between}
-use Rattle.mxf_read.proofs.ReadBytes.{ReadSoFar, so_far_more}
+use Rattle.std.proofs.Common.{◌≡◌, ◌+◌, ◌≤◌, ◌++◌, ◌∙◌, take, arith, length-take}
+use Rattle.mxf_read.proofs.ReadBytes.{ReadSoFar, grown, so_far_more}
 use Rattle.mxf_read.proofs.given.Given.bytes.Goals as goal
 
 pub reads-preserved : goal.reads-preserved
@@ -13,7 +11,7 @@ reads-preserved g c =
     let size = length-take c.min-room.result c.reads.buffer in
     let end : c.reads.at + n ≤ c.args.to = omega (arith, within, size, c.read_step_at.auto.room) in
     let items : c.extend_from_slice.new.self.items ≡ c.reads.bytes.items ++ take n room =
-    c.in_ok-extend_from_slice.ensures.items ∙ ap (λ (t : List ℕ). c.reads.bytes.items ++ t) (take-append-le n room _ within)
+    grown c.extend_from_slice.new.self.items c.reads.bytes.items room _ n c.in_ok-extend_from_slice.ensures.items within
     in
     let now : ReadSoFar (g.S.Sources.told c.args.sources.now) c.args.self.now.extents c.args.from c.args.to
     (c.reads.at + n) (c.reads.bytes.items ++ take n room) =

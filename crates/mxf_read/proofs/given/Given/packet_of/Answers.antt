@@ -1,4 +1,4 @@
-use Rattle.std.proofs.Common.{◌≡◌, ◌+◌, ◌∙◌, ℕ, List, ap, arith, subst}
+use Rattle.std.proofs.Common.{◌≡◌, ◌+◌, ◌∙◌, ℕ, ap, arith, subst}
 use Rattle.mxf_klv.specs.Note.{covered_end, end_of}
 use Rattle.mxf_klv.specs.Parts.{LengthParts}
 use Rattle.mxf_read.specs.Coming.{HasTaken}

@@ -1,4 +1,4 @@
-use Rattle.std.proofs.Common.{ℕ, ◌-◌, ◌≡◌, ◌≤◌, ap, arith, subst}
+use Rattle.std.proofs.Common.{ℕ, ◌-◌, ◌≤◌, ap, arith, subst}
 use Rattle.std.specs.Prelude.{IfOk}
 use Rattle.mxf_read.specs.Given.{ReadsAt}
 use Rattle.mxf_read.specs.Places.{GivenParts}

@@ -1,4 +1,4 @@
-use Rattle.std.proofs.Common.{◌≡◌, ◌+◌, ◌-◌, ℕ, List, arith, subst}
+use Rattle.std.proofs.Common.{◌≡◌, ◌-◌, ℕ, List, arith, subst}
 use Rattle.mxf_read.specs.Feeding.{Tells}
 use Rattle.mxf_read.specs.Given.{bytes_between}
 use Rattle.mxf_read.proofs.ReadBytes.{between_size, reading_told}

@@ -1,4 +1,4 @@
-use Rattle.std.proofs.Common.{◌≡◌, ◌+◌, ◌≤◌, ◌++◌, ◌∙◌, ℕ, List, take, arith, subst, length-take}
+use Rattle.std.proofs.Common.{◌≡◌, ◌+◌, ◌≤◌, ◌++◌, ◌∙◌, ℕ, List, take, arith, subst}
 use Rattle.std.proofs.lemmas.List.{take-append-le}
 use Rattle.mxf_read.specs.Coming.{HasTaken}
 use Rattle.mxf_read.proofs.ReadBytes.{front_len, left_less, same_packet, so_far_more}
