@@ -9,4 +9,5 @@ pub mod Gathering
 pub mod Given
 pub mod Places
 pub mod Differing
+pub mod Outside
 pub mod Noting

@@ -7,6 +7,7 @@ mod comparing;
 mod differing;
 mod finding;
 mod noting;
+mod outside;
 mod placing;
 mod sources;
 mod stepping;
