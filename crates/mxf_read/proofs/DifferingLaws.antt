@@ -207,7 +207,7 @@ module _ (sources : List SourceParts) (p q : ℕ) where
   In-source (t ∷ ss) zero s is = inl (sym (same_Some t s is))
   In-source (t ∷ ss) (suc k) s is = inr (In-source ss k s is)
 
-  given_as : (number x byte : ℕ) → GivesAt sources number x byte → IsGivenAs sources x byte
+  pub given_as : (number x byte : ℕ) → GivesAt sources number x byte → IsGivenAs sources x byte
   given_as number x byte g = (g.0, In-source sources number g.0 g.1, g.2)
 
   -- A source gives one byte at an offset.

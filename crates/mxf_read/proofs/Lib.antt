@@ -13,5 +13,7 @@ pub mod GatheringLaws
 pub mod PlaceLaws
 pub mod PlacingLaws
 pub mod DifferingLaws
+pub mod ComparingLaws
+pub mod OutsideLaws
 mod ComingLaws
 mod Walks

@@ -94,6 +94,13 @@ pub record IsOverlap (extents : List Extent) (places : List Place) (overlap : Pl
   pub is : IsPlaceOf extents overlap
   pub met : (x : ℕ) → LiesInPlace overlap x → (p : Place) × In p places × LiesInPlace p x
 
+-- What is noted of offsets of two sources beside what was noted: where these differ.
+pub record IsPartCompared (sources : List SourceParts) (number other_number from to : ℕ) (old new : List Difference)
+    : Type 0 where
+  pub sound : AllByRecursion (IsDifferenceOf sources) old → AllByRecursion (IsDifferenceOf sources) new
+  pub kept : (x : ℕ) → LiesInOne old x → LiesInOne new x
+  pub found : (x : ℕ) → from ≤ x → x < to → DifferAt sources number other_number x → LiesInOne new x
+
 -- What is noted of an overlap beside what was noted: where its source differs from that of the place.
 pub record IsCompared (sources : List SourceParts) (places : List Place) (overlap : Place) (old new : List Difference)
     : Type 0 where

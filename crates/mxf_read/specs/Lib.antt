@@ -9,5 +9,6 @@ pub mod Gathering
 pub mod Given
 pub mod Places
 pub mod Differing
+pub mod Outside
 pub mod Noting
 pub mod InMemory

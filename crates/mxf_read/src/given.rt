@@ -8,6 +8,7 @@ mod differing;
 mod finding;
 mod in_memory;
 mod noting;
+mod outside;
 mod placing;
 mod sources;
 mod stepping;
