@@ -2,9 +2,9 @@
 use Rattle.std.proofs.Common.{◌≡◌, ◌∙◌, ◌≤◌, ◌<◌, ◌+◌, ◌-◌, ◌&&◌, ◌||◌, ◌==◌, ◌⊎◌, ℕ, zero, suc, Bool, true, false, List}
 use Rattle.std.proofs.Common.{[], ◌∷◌, Option, None, Some, ap, arith, cond, filter, find, get_or, inl, inr, map, nat_le}
 use Rattle.std.proofs.Common.{nat_lt, not, refl, subst, sym}
-use Rattle.std.proofs.lemmas.Bool.{leb-true, ltb-true, ltb-false}
+use Rattle.std.proofs.lemmas.Bool.{le-leb, leb-true, lt-leb, ltb-true, ltb-false}
 use Rattle.std.specs.List.{list_all, range_with_len}
-use Rattle.std.specs.Option.{option_and_then}
+use Rattle.std.specs.Option.{option_and_then, option_map_or}
 use Rattle.mxf_klv.specs.Parts.{NoteParts}
 use Rattle.mxf_klv.specs.Rising.{In}
 use Rattle.mxf_klv.proofs.Lists.{In-list_all, found-In, list_all-In}
@@ -12,9 +12,9 @@ use Rattle.mxf_klv.proofs.Tests.{equals_itself}
 use Rattle.mxf_catalogue.specs.declared.run.Run.{Run}
 use Rattle.mxf_catalogue.specs.Covers.{is_between}
 use Rattle.mxf_catalogue.specs.Runs.{LiesIn}
-use Rattle.mxf_places.specs.AtHand.{has_offset}
+use Rattle.mxf_places.specs.AtHand.{has_offset, up_to_bound}
 use Rattle.mxf_places.proofs.AtHandLaws.{has_offset-says}
-use Rattle.mxf_hand.specs.Hand.{HandBytes, run_end}
+use Rattle.mxf_hand.specs.Hand.{HandBytes, read_to, run_end}
 use Rattle.mxf_hand.specs.Heads.{fits, key_and_length}
 
 -- The first run that ends above an offset is the first of those that lie behind it.
@@ -40,6 +40,23 @@ none_above (s ∷ runs) x e =
       | false ↦ λ h. none_above runs x h
     ] e
 
+-- What the end of a run is where runs lie behind an offset, and where none does.
+pub run_end-none : (runs : List Run) (x : ℕ) → filter (is_between x None) runs ≡ [] → run_end runs x ≡ None
+run_end-none runs x e =
+    ap (option_and_then (λ (r : Run). cond (nat_le r.start x) (Some r.end) None)) (none_above runs x e)
+
+pub run_end-some : (runs left : List Run) (x : ℕ) (r : Run) → filter (is_between x None) runs ≡ r ∷ left
+    → r.start ≤ x → run_end runs x ≡ Some r.end
+run_end-some runs left x r e low =
+    ap (option_and_then (λ (s : Run). cond (nat_le s.start x) (Some s.end) None)) (first_above runs left x r e)
+    ∙ ap (λ (b : Bool). cond b (Some r.end) None) (le-leb r.start x low)
+
+pub run_end-above : (runs left : List Run) (x : ℕ) (r : Run) → filter (is_between x None) runs ≡ r ∷ left
+    → x < r.start → run_end runs x ≡ None
+run_end-above runs left x r e high =
+    ap (option_and_then (λ (s : Run). cond (nat_le s.start x) (Some s.end) None)) (first_above runs left x r e)
+    ∙ ap (λ (b : Bool). cond b (Some r.end) None) (lt-leb r.start x high)
+
 -- Where an offset is at hand, all behind it are up to the end of its run.
 pub run_lies : (runs : List Run) (x e y : ℕ) → run_end runs x ≡ Some e → x ≤ y → y < e → LiesIn runs y
 run_lies runs x e y h from before =
@@ -58,19 +75,40 @@ run_lies runs x e y h from before =
           ] refl k
     ] refl h
 
+bounded : (x : ℕ) (bound : Option ℕ) → up_to_bound x bound ≤ x
+bounded x None = omega arith
+bounded x (Some b) = omega arith
+
+-- All offsets that are read are at hand.
+pub read_lies : (runs : List Run) (end : Option ℕ) (from x : ℕ) → from ≤ x → x < read_to runs end from → LiesIn runs x
+read_lies runs end from x low high =
+    elim (run_end runs from) as (λ o. run_end runs from ≡ o
+    → x < option_map_or (λ e. up_to_bound e end) o from → LiesIn runs x) [
+      | None ↦ λ e k. absurd (omega arith)
+      | Some last ↦ λ e k. run_lies runs from last x e low (let b = bounded last end in omega (arith, b))
+    ] refl high
+
+one_more : (a : ℕ) → suc a ≡ a + 1
+one_more a = omega arith
+
 -- A number of a range.
 pub in_range : (a n x : ℕ) → a ≤ x → x < a + n → In x (range_with_len a n)
 in_range a zero x from before = absurd (omega arith)
 in_range a (suc n) x from before =
-    elim (nat_lt a x) as (λ b. nat_lt a x ≡ b → In x (a ∷ range_with_len (suc a) n)) [
-      | true ↦ λ e. inr (in_range (suc a) n x (let h : a < x = ltb-true _ _ e in omega arith) (omega arith))
+    elim (nat_lt a x) as (λ b. nat_lt a x ≡ b → In x (a ∷ range_with_len (a + 1) n)) [
+      | true ↦ λ e.
+          let h : a < x = ltb-true _ _ e in
+          inr (subst (λ (k : ℕ). In x (range_with_len k n)) (one_more a) (in_range (suc a) n x (omega arith)
+          (omega arith)))
       | false ↦ λ e. inl (let h : x ≤ a = ltb-false _ _ e in omega arith)
     ] refl
 
 pub range_in : (a n x : ℕ) → In x (range_with_len a n) → (a ≤ x) × (x < a + n)
 range_in a zero x i = absurd i
 range_in a (suc n) x (inl e) = (omega arith, omega arith)
-range_in a (suc n) x (inr i) = let h = range_in (suc a) n x i in (omega arith, omega arith)
+range_in a (suc n) x (inr i) =
+    let h = range_in (suc a) n x (subst (λ (k : ℕ). In x (range_with_len k n)) (sym (one_more a)) i) in
+    (omega arith, omega arith)
 
 -- The test whether a head fits, and what it says of each offset of its key and length.
 pub fits_at : (h : HandBytes) (n : NoteParts) → fits h n ≡ true → (x : ℕ) → n.offset ≤ x

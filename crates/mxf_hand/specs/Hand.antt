@@ -1,6 +1,6 @@
 -- The bytes at hand, and readings of them (this project's profile).
 use Rattle.std.specs.Prelude.{◌≡◌, ◌<◌, ◌≤◌, ◌&&◌, ℕ, Bool, if◌then◌else◌, nat_le, nat_lt, List, [], Option, None, Some}
-use Rattle.std.specs.Prelude.{find}
+use Rattle.std.specs.Prelude.{find, not}
 use Rattle.std.specs.Option.{option_and_then, option_map_or}
 use Rattle.mxf_klv.specs.Parts.{NoteParts, packet_parts}
 use Rattle.mxf_klv.specs.Note.{covered_end, end_of, note_of}
@@ -44,10 +44,14 @@ abbrev pub run_end : List Run → ℕ → Option ℕ
 run_end runs x =
     option_and_then (λ r. if nat_le r.start x then Some r.end else None) (find (λ r. nat_lt x r.end) runs)
 
--- The bytes of a reading from an offset on, as far as they are at hand, and up to an end where there is one; none where
+-- Where a reading ends that begins at an offset: with the run at hand, or before that at an end; at its beginning where
 -- the offset isn't at hand.
+abbrev pub read_to : List Run → Option ℕ → ℕ → ℕ
+read_to runs end from = option_map_or (λ e. up_to_bound e end) (run_end runs from) from
+
+-- The bytes of a reading from an offset on, up to an end where there is one.
 abbrev pub read_bytes : HandBytes → Option ℕ → ℕ → List ℕ
-read_bytes h end from = option_map_or (λ e. bytes_between h.byte from (up_to_bound e end)) (run_end h.runs from) []
+read_bytes h end from = bytes_between h.byte from (read_to h.runs end from)
 
 -- The notes of the whole packets of a reading.
 abbrev pub read_packets : HandBytes → Option ℕ → ℕ → List NoteParts
@@ -57,9 +61,9 @@ read_packets h end from = packet_notes from (read_bytes h end from)
 abbrev pub read_heads : HandBytes → Option ℕ → ℕ → List NoteParts
 read_heads h end from = cut_heads from (read_bytes h end from)
 
--- The value of a head's packet has a byte, and all of them are at hand.
+-- The note is a head, the value of its packet has a byte, and all of them are at hand.
 abbrev pub is_value_at_hand : HandBytes → NoteParts → Bool
-is_value_at_hand h n = nat_lt 0 n.length && has_offsets h.runs (covered_end n) (end_of n)
+is_value_at_hand h n = not n.whole && (nat_lt 0 n.length && has_offsets h.runs (covered_end n) (end_of n))
 
 -- The note of a head's packet, with the bytes at hand as its value.
 abbrev pub packet_of : HandBytes → NoteParts → NoteParts

@@ -57,14 +57,33 @@ impl Found {
             (map (λ n. record { note = n; hole_end = hole_end }) (option_list reading.head))) }
     {
         let Reading { notes, head } = reading;
+        self.add_packets(notes)?;
+        self.add_head(head, hole_end)
+    }
+
+    /// Adds packets that were read.
+    fn add_packets(&mut self, notes: Catalogue) -> Result<(), OutOfMemory>
+        ensures { OnOk result (Grows self.old self.new notes [] []) }
+    {
         add_starts(&mut self.starts, &notes)?;
-        if let Some(note) = head {
-            self.starts.add(note.offset(), note.offset() + 1)?;
-            self.heads.push(CutHead { note, hole_end })?;
-        }
         match self.packets.merge(notes) {
             Ok(()) => Ok(()),
             Err(_) => Err(OutOfMemory),
+        }
+    }
+
+    /// Adds the head that was read, where there is one.
+    fn add_head(&mut self, head: Option<Note>, hole_end: Option<u64>) -> Result<(), OutOfMemory>
+        ensures { OnOk result (Grows self.old self.new [] []
+            (map (λ n. record { note = n; hole_end = hole_end }) (option_list head))) }
+    {
+        match head {
+            Some(note) => {
+                self.starts.add(note.offset(), note.offset() + 1)?;
+                self.heads.push(CutHead { note, hole_end })?;
+                Ok(())
+            }
+            None => Ok(()),
         }
     }
 

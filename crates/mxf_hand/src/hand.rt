@@ -1,10 +1,10 @@
 //! The bytes at hand, and readings of them.
-ghost use Rattle.std.specs.Prelude.{◌≡◌, ◌≤◌, ◌<◌, ℕ, List, Option, IfOk, IsTrue, false};
+ghost use Rattle.std.specs.Prelude.{◌≡◌, ◌≤◌, ◌<◌, ℕ, List, Option, IfOk, true, false};
 ghost use Rattle.mxf_klv.specs.Note.{covered_end, end_of};
 ghost use Rattle.mxf_catalogue.specs.Runs.{LiesIn};
 ghost use Rattle.mxf_read.specs.Given.{AreAtHand, AreTold, SourceParts};
 ghost use Rattle.mxf_read.specs.Noting.{IsReading};
-ghost use Rattle.mxf_hand.specs.Hand.{AreToldIn, HandBytes, is_value_at_hand, packet_of, read_bytes, run_end};
+ghost use Rattle.mxf_hand.specs.Hand.{AreToldIn, HandBytes, is_value_at_hand, packet_of, read_bytes, read_to, run_end};
 ghost use Rattle.mxf_hand.specs.Heads.{fits};
 
 use crate::head::{key_and_length, stand_at};
@@ -68,6 +68,16 @@ impl Hand {
         }
     }
 
+    /// Where a reading from an offset on ends: with the run at hand, or before that at an end. All are in bytes.
+    fn read_to(&self, from: u64, end: Option<u64>) -> u64
+        ensures { result ≡ read_to self.now.runs end from }
+    {
+        match self.run_end(from) {
+            Some(run_end) => up_to_bound(run_end, end),
+            None => from,
+        }
+    }
+
     /// Reads the bytes at hand from an offset on, up to an end where there is one, both in bytes.
     pub fn read<S: Sources>(
         &self,
@@ -80,10 +90,7 @@ impl Hand {
         ensures reading { (h : HandBytes) → AreToldIn (S.told sources.old) self.now.given.extents self.now.runs h
             → IfOk result (λ r. IsReading from (read_bytes h end from) r.notes r.head) }
     {
-        let to = match self.run_end(from) {
-            Some(run_end) => up_to_bound(run_end, end),
-            None => from,
-        };
+        let to = self.read_to(from, end);
         self.given.reading(alloc, sources, from, to)
     }
 
@@ -111,11 +118,14 @@ impl Hand {
         Ok(true)
     }
 
-    /// Whether the value of a head's packet has a byte, and all of them are at hand.
+    /// Whether the note is a head, the value of its packet has a byte, and all of them are at hand.
     pub fn has_value(&self, head: &Note) -> bool
-        ensures { (h : HandBytes) → h.runs ≡ self.now.runs → result ≡ is_value_at_hand h head.now }
+        ensures test { (h : HandBytes) → h.runs ≡ self.now.runs → result ≡ is_value_at_hand h head.now }
+        ensures head { result ≡ true → head.now.whole ≡ false }
+        ensures value { result ≡ true → (x : ℕ) → covered_end head.now ≤ x → x < end_of head.now
+            → LiesIn self.now.runs x }
     {
-        head.length() > 0 && self.runs.has_all(head.covered_end(), head.end())
+        head.is_head() && head.length() > 0 && self.runs.has_all(head.covered_end(), head.end())
     }
 
     /// The note of a head's packet, whose value is at hand.

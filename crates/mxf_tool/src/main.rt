@@ -9,6 +9,7 @@ mod exit;
 mod listed;
 mod part;
 mod program;
+mod reopened;
 mod saving;
 mod shown;
 mod source;

@@ -17,6 +17,7 @@ use crate::command_line::{
 };
 use crate::exit::Exit;
 use crate::part::part_of;
+use crate::reopened::{Reopened, extent_of};
 use crate::saving::{BUFFER_BYTES, Reservation, SaveFault, WatchedWriter, is_refused};
 use crate::source::Source;
 use crate::system_fault::{LastFault, SystemFault};
@@ -25,11 +26,15 @@ use beside::print_beside;
 use clap::ArgMatches;
 use clap::error::ErrorKind;
 use fault::{IndexSids, RunFault};
+use mxf_hand::{PutTogether, put_together};
 use mxf_lines::{
     AnswerFault, Ask, Form, Grid, Verified, answer, print_map, print_renewed, print_sources,
     print_verification,
 };
-use mxf_read::{GatherFault, Gathered, Part, PieceReport, gather};
+use mxf_places::AtHand;
+use mxf_read::{
+    Extent, GatherFault, Gathered, Given, Part, PartFault, PieceReport, SourceFault, gather,
+};
 use mxf_units::index_sids;
 use mxf_verify::{Readings, Renewed};
 use mxf_views::Views;
@@ -37,7 +42,7 @@ use renewing::print_renewal;
 use sources::{read_list, sources_before, sources_of, unread};
 use std::alloc::Global;
 use std::fs::{self, File};
-use std::io::{BufWriter, Input, Write};
+use std::io::{BufWriter, Input, Read, Write};
 use std::rt::{Clock, Env, Files};
 use std::{env, io};
 use stops::tell_stops;
@@ -188,27 +193,27 @@ fn print_told<'a, R: System>(
     inputs: Inputs<'_, 'a>,
     asked: Told,
 ) -> Result<Exit, RunFault<'a>> {
-    let gathered = gather_sources(rt, inputs)?;
-    print_gathered(rt, inputs, asked, &gathered)
+    let held = hold_sources(rt, inputs)?;
+    print_held(rt, inputs, asked, &held)
 }
 
-/// Prints what is asked for of what was gathered of the sources.
-fn print_gathered<'a, R: System>(
+/// Prints what is asked for of what is held of the sources.
+fn print_held<'a, R: System>(
     rt: &R,
     inputs: Inputs<'_, 'a>,
     asked: Told,
-    gathered: &Gathered,
+    held: &Held,
 ) -> Result<Exit, RunFault<'a>> {
     let printed = match asked {
-        Told::Answer(ask) => Printed::Answer(ask, gathered),
-        Told::Map(grid) => Printed::Map(grid, &gathered.views),
+        Told::Answer(ask) => Printed::Answer(ask, held),
+        Told::Map(grid) => Printed::Map(grid, held),
         Told::Units { index, units } => {
-            let ask = ask_of_units(rt.alloc(), &gathered.views, index, units)?;
-            Printed::Answer(ask, gathered)
+            let ask = ask_of_units(rt.alloc(), &held.gathered.views, index, units)?;
+            Printed::Answer(ask, held)
         }
     };
     let exit = print_answer(rt, printed, inputs.form)?;
-    let reports = gathered.reports.as_slice();
+    let reports = held.gathered.reports.as_slice();
     told(rt, inputs.screen, inputs.sources, reports, false, exit)
 }
 
@@ -247,32 +252,28 @@ fn print_joined<'a, R: System>(
     inputs: Inputs<'_, 'a>,
     saving: Saving<'a>,
 ) -> Result<Exit, RunFault<'a>> {
-    let gathered = join(rt, inputs, saving.out)?;
-    print_saved(rt, inputs, saving.is_strict, &gathered)
+    let held = join(rt, inputs, saving.out)?;
+    print_saved(rt, inputs, saving.is_strict, &held)
 }
 
-/// Prints how many notes the catalogue has that was saved of what was gathered of the sources.
+/// Prints how many notes the catalogue has that was saved of what is held of the sources.
 fn print_saved<'a, R: System>(
     rt: &R,
     inputs: Inputs<'_, 'a>,
     is_strict: bool,
-    gathered: &Gathered,
+    held: &Held,
 ) -> Result<Exit, RunFault<'a>> {
-    let exit = print_answer(rt, Printed::Answer(Ask::Join, gathered), inputs.form)?;
-    let reports = gathered.reports.as_slice();
+    let exit = print_answer(rt, Printed::Answer(Ask::Join, held), inputs.form)?;
+    let reports = held.gathered.reports.as_slice();
     let exit = exit.of_join(is_strict, reports);
     told(rt, inputs.screen, inputs.sources, reports, true, exit)
 }
 
 /// Writes the catalogue of what the sources hold together. Its place is held before the first source is opened.
-fn join<'a, R: System>(
-    rt: &R,
-    inputs: Inputs<'_, 'a>,
-    out: &'a str,
-) -> Result<Gathered, RunFault<'a>> {
+fn join<'a, R: System>(rt: &R, inputs: Inputs<'_, 'a>, out: &'a str) -> Result<Held, RunFault<'a>> {
     allow_output(rt, out, inputs.sources)?;
     match Reservation::take(rt, out) {
-        Ok(held) => join_at(rt, inputs, out, held),
+        Ok(place) => join_at(rt, inputs, out, place),
         Err(fault) => Err(unsaved(out, fault)),
     }
 }
@@ -295,11 +296,11 @@ fn join_at<'a, 'r, R: System>(
     rt: &'r R,
     inputs: Inputs<'_, 'a>,
     out: &'a str,
-    held: Reservation<'r, R>,
-) -> Result<Gathered, RunFault<'a>> {
-    let gathered = gather_sources(rt, inputs)?;
-    match held.save(rt, gathered.views.catalogue()) {
-        Ok(()) => Ok(gathered),
+    place: Reservation<'r, R>,
+) -> Result<Held, RunFault<'a>> {
+    let held = hold_sources(rt, inputs)?;
+    match place.save(rt, held.gathered.views.catalogue()) {
+        Ok(()) => Ok(held),
         Err(fault) => Err(unsaved(out, fault)),
     }
 }
@@ -327,44 +328,123 @@ fn told<'a, R: System>(
     Ok(exit)
 }
 
-/// What the sources hold together. All are opened before the first is read.
-fn gather_sources<'a, R: System>(rt: &R, inputs: Inputs<'_, 'a>) -> Result<Gathered, RunFault<'a>> {
-    let last = LastFault::new();
-    let parts = open_parts(rt, inputs.screen, inputs.sources, &last)?;
-    gather_parts(rt, parts, inputs.sources, &last)
+/// What sources hold together, and which of their bytes are at hand.
+#[derive(Drop)]
+pub struct Held {
+    pub gathered: Gathered,
+    pub at_hand: AtHand,
 }
 
-/// What the parts hold together, which were opened of the sources.
-fn gather_parts<'r, 'a, R: System>(
+/// Sources that are open, and where their bytes lie in the recording.
+#[derive(Drop)]
+pub struct Opened<F> {
+    pub parts: Vec<Part<F>>,
+    pub extents: Vec<Extent>,
+}
+
+/// What the sources hold together. All are opened before the first is read.
+fn hold_sources<'a, R: System>(rt: &R, inputs: Inputs<'_, 'a>) -> Result<Held, RunFault<'a>> {
+    let last = LastFault::new();
+    let opened = open_sources(rt, inputs.screen, inputs.sources, &last)?;
+    hold_opened(rt, opened, inputs.sources, &last)
+}
+
+/// What sources hold together that were opened. Where one of them is a range, packets are put together of bytes at hand.
+fn hold_opened<'r, 'a, R: System, F: Read + Drop>(
     rt: &'r R,
-    parts: Vec<Part<Watched<'r, R, R::File>>>,
+    opened: Opened<F>,
     sources: &[Source<'a>],
-    last: &LastFault,
-) -> Result<Gathered, RunFault<'a>> {
+    last: &'r LastFault,
+) -> Result<Held, RunFault<'a>> {
+    let Opened { parts, extents } = opened;
     match gather(rt.alloc(), parts) {
-        Ok(gathered) => Ok(gathered),
+        Ok(gathered) => complete(rt, gathered, extents, sources, last),
         Err(fault) => Err(ungathered(&fault, sources, last)),
     }
 }
 
+/// Puts packets together of bytes at hand, where one of the sources is a range.
+fn complete<'r, 'a, R: System>(
+    rt: &'r R,
+    gathered: Gathered,
+    extents: Vec<Extent>,
+    sources: &[Source<'a>],
+    last: &'r LastFault,
+) -> Result<Held, RunFault<'a>> {
+    if !sources.iter().any(|source| source.is_range()) {
+        return Ok(Held {
+            gathered,
+            at_hand: AtHand::nothing(rt.alloc()),
+        });
+    }
+    let Gathered { views, reports } = gathered;
+    match put_views_together(rt, views, extents, sources, last) {
+        Ok(PutTogether { views, at_hand }) => Ok(Held {
+            gathered: Gathered { views, reports },
+            at_hand,
+        }),
+        Err(fault) => Err(unread_again(fault, sources, last)),
+    }
+}
+
+/// Puts packets together of bytes at hand: the files of the sources are opened once more where their bytes are asked for.
+fn put_views_together<R: System>(
+    rt: &R,
+    views: Views,
+    extents: Vec<Extent>,
+    sources: &[Source<'_>],
+    last: &LastFault,
+) -> Result<PutTogether, SourceFault> {
+    let given = Given::of(rt.alloc(), extents)?;
+    let mut reopened = Reopened::new(rt, sources, last);
+    put_together(rt.alloc(), views, given, &mut reopened)
+}
+
+/// Why bytes of the sources weren't read again.
+fn unread_again<'a>(fault: SourceFault, sources: &[Source<'a>], last: &LastFault) -> RunFault<'a> {
+    match fault {
+        SourceFault::OutOfMemory => RunFault::OutOfMemory,
+        SourceFault::ReadFault { source_number } => {
+            let fault = GatherFault {
+                part: source_number,
+                fault: PartFault::ReadFault,
+            };
+            ungathered(&fault, sources, last)
+        }
+    }
+}
+
 /// The sources, opened in their order.
-fn open_parts<'r, 'a, R: System>(
+fn open_sources<'r, 'a, R: System>(
     rt: &'r R,
     screen: Screen,
     sources: &[Source<'a>],
     last: &'r LastFault,
-) -> Result<Vec<Part<Watched<'r, R, R::File>>>, RunFault<'a>> {
-    let mut parts = Vec::new(rt.alloc());
+) -> Result<Opened<Watched<'r, R, R::File>>, RunFault<'a>> {
+    let mut opened = Opened {
+        parts: Vec::new(rt.alloc()),
+        extents: Vec::new(rt.alloc()),
+    };
     for source in sources {
-        let part = match fs::open(rt, source.path()) {
-            Ok(from) => part_of(source, Watched::new(rt, screen, source, from, last)),
+        let file = match fs::open(rt, source.path()) {
+            Ok(file) => file,
             Err(fault) => return Err(unread(source.path(), &fault)),
         };
-        if parts.push(part).is_err() {
+        let extent = extent_of(source, size_of(&file));
+        let part = part_of(source, Watched::new(rt, screen, source, file, last));
+        if opened.parts.push(part).is_err() || opened.extents.push(extent).is_err() {
             return Err(RunFault::OutOfMemory);
         }
     }
-    Ok(parts)
+    Ok(opened)
+}
+
+/// The number of bytes of a regular file; 0 of what is none.
+fn size_of(file: &File) -> u64 {
+    match file.metadata() {
+        Ok(found) if found.is_file() => found.len(),
+        _ => 0,
+    }
 }
 
 /// Which source is at fault, and why.
@@ -379,8 +459,8 @@ fn ungathered<'a>(fault: &GatherFault, sources: &[Source<'a>], last: &LastFault)
 /// What is printed on standard output.
 #[derive(Clone, Copy)]
 enum Printed<'g, 'n> {
-    Answer(Ask, &'g Gathered),
-    Map(Grid, &'g Views),
+    Answer(Ask, &'g Held),
+    Map(Grid, &'g Held),
     Renewed(&'g Renewed<'n>),
     /// What sources hold, each by itself, and the words that name them.
     Beside(&'g Readings<'n>, &'g [String]),
@@ -396,9 +476,12 @@ fn print_lines<W: Write>(
     writer: &mut W,
 ) -> Result<u8, AnswerFault> {
     match printed {
-        Printed::Answer(ask, gathered) => answer(alloc, &ask, form, gathered, writer),
-        Printed::Map(grid, views) => {
-            print_map(alloc, views, grid, form, writer)?;
+        Printed::Answer(ask, held) => {
+            answer(alloc, &ask, form, &held.gathered, &held.at_hand, writer)
+        }
+        Printed::Map(grid, held) => {
+            let Held { gathered, at_hand } = held;
+            print_map(alloc, &gathered.views, at_hand, grid, form, writer)?;
             Ok(0)
         }
         Printed::Renewed(renewed) => {

@@ -48,12 +48,7 @@ impl<'r, 's, R: Files<File = File>> Reopened<'r, 's, R> {
     }
 
     /// Reads once of the file of a source, behind so many of its bytes.
-    fn read_behind(
-        &mut self,
-        source: usize,
-        position: u64,
-        room: &mut [u8],
-    ) -> io::Result<usize> {
+    fn read_behind(&mut self, source: usize, position: u64, room: &mut [u8]) -> io::Result<usize> {
         let mut file = self.take_file(source)?;
         file.seek(SeekFrom::Start(position))?;
         let count = file.read(room)?;

@@ -33,6 +33,13 @@ impl<'a> Source<'a> {
     }
 }
 
+impl Source<'_> {
+    /// Whether it is a range: the bytes of its run may lie anywhere in packets.
+    pub fn is_range(&self) -> bool {
+        matches!(self, Source::Range { .. })
+    }
+}
+
 /// The text that names the source.
 impl fmt::Display for Source<'_> {
     fn fmt<W: fmt::Write>(&self, f: &mut fmt::Formatter<W>) -> fmt::Result {

@@ -1,6 +1,6 @@
 //! Sources beside each other: which of them holds which note.
 use super::fault::RunFault;
-use super::{Inputs, Printed, System, open_parts, print_answer, told, ungathered};
+use super::{Inputs, Printed, System, open_sources, print_answer, told, ungathered};
 use crate::contents::{Contents, gather_each};
 use crate::exit::Exit;
 use crate::shown::text_on_screen;
@@ -53,8 +53,8 @@ fn names_of(alloc: Global, sources: &[Source<'_>]) -> Result<Vec<String>, AllocE
 /// What each source holds by itself. All are opened before the first is read.
 fn read_each<'a, R: System>(rt: &R, inputs: Inputs<'_, 'a>) -> Result<Contents, RunFault<'a>> {
     let last = LastFault::new();
-    let parts = open_parts(rt, inputs.screen, inputs.sources, &last)?;
-    match gather_each(rt.alloc(), parts) {
+    let opened = open_sources(rt, inputs.screen, inputs.sources, &last)?;
+    match gather_each(rt.alloc(), opened.parts) {
         Ok(contents) => Ok(contents),
         Err(fault) => Err(ungathered(&fault, inputs.sources, &last)),
     }

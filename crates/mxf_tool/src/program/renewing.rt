@@ -1,7 +1,8 @@
 //! Saving what earlier sources hold, renewed by later ones.
 use super::fault::RunFault;
 use super::{
-    Inputs, Printed, System, allow_output, gather_parts, open_parts, print_answer, told, unsaved,
+    Held, Inputs, Printed, System, allow_output, hold_opened, open_sources, print_answer, told,
+    unsaved,
 };
 use crate::command_line::Saving;
 use crate::exit::Exit;
@@ -26,7 +27,7 @@ pub fn print_renewal<'a, R: System>(
     };
     allow_output(rt, saving.out, &all)?;
     match Reservation::take(rt, saving.out) {
-        Ok(held) => renew_at(rt, inputs, saving, held),
+        Ok(place) => renew_at(rt, inputs, saving, place),
         Err(fault) => Err(unsaved(saving.out, fault)),
     }
 }
@@ -43,12 +44,12 @@ fn renew_at<'a, 'r, R: System>(
     rt: &'r R,
     inputs: Inputs<'_, 'a>,
     saving: Saving<'a>,
-    held: Reservation<'r, R>,
+    place: Reservation<'r, R>,
 ) -> Result<Exit, RunFault<'a>> {
-    let (earlier, later) = gather_both(rt, inputs)?;
+    let (earlier, later) = hold_both(rt, inputs)?;
     let Gathered { views, reports } = later;
     let (notes, newer) = (earlier.views.catalogue(), views.into_catalogue());
-    match save_renewed(rt, inputs.form, saving.out, held, notes, newer) {
+    match save_renewed(rt, inputs.form, saving.out, place, notes, newer) {
         Ok(exit) => told_both(
             rt,
             inputs,
@@ -78,15 +79,21 @@ fn told_both<'a, R: System>(
 }
 
 /// What the earlier sources hold together, and what the later ones do. All are opened before the first is read.
-fn gather_both<'a, R: System>(
+fn hold_both<'a, R: System>(
     rt: &R,
     inputs: Inputs<'_, 'a>,
 ) -> Result<(Gathered, Gathered), RunFault<'a>> {
     let last = LastFault::new();
-    let earlier = open_parts(rt, inputs.screen, inputs.before, &last)?;
-    let later = open_parts(rt, inputs.screen, inputs.sources, &last)?;
-    let earlier = gather_parts(rt, earlier, inputs.before, &last)?;
-    let later = gather_parts(rt, later, inputs.sources, &last)?;
+    let earlier = open_sources(rt, inputs.screen, inputs.before, &last)?;
+    let later = open_sources(rt, inputs.screen, inputs.sources, &last)?;
+    let Held {
+        gathered: earlier,
+        ..
+    } = hold_opened(rt, earlier, inputs.before, &last)?;
+    let Held {
+        gathered: later,
+        ..
+    } = hold_opened(rt, later, inputs.sources, &last)?;
     Ok((earlier, later))
 }
 
@@ -95,14 +102,14 @@ fn save_renewed<'a, 'r, R: System>(
     rt: &'r R,
     form: Form,
     out: &'a str,
-    held: Reservation<'r, R>,
+    place: Reservation<'r, R>,
     earlier: &Catalogue,
     later: Catalogue,
 ) -> Result<Exit, RunFault<'a>> {
     let Ok(renewed) = renew(rt.alloc(), earlier, later) else {
         return Err(RunFault::OutOfMemory);
     };
-    match held.save(rt, &renewed.catalogue) {
+    match place.save(rt, &renewed.catalogue) {
         Ok(()) => print_answer(rt, Printed::Renewed(&renewed), form),
         Err(fault) => Err(unsaved(out, fault)),
     }

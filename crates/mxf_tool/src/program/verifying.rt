@@ -6,7 +6,9 @@ use super::fault::RunFault;
 use super::offsets::tell_offsets;
 use super::telling::tell_on_screen;
 use super::unit_range::range_of;
-use super::{Inputs, Printed, System, gather_parts, open_parts, print_answer, told, ungathered};
+use super::{
+    Held, Inputs, Printed, System, hold_opened, open_sources, print_answer, told, ungathered,
+};
 use crate::command_line::{IndexedUnits, Verifying};
 use crate::exit::Exit;
 use crate::system_fault::LastFault;
@@ -37,10 +39,10 @@ pub fn print_verified<'a, R: System>(
     asked: Verifying,
 ) -> Result<Exit, RunFault<'a>> {
     let last = LastFault::new();
-    let reference = open_parts(rt, inputs.screen, inputs.before, &last)?;
-    let parts = open_parts(rt, inputs.screen, inputs.sources, &last)?;
-    match gather_parts(rt, reference, inputs.before, &last) {
-        Ok(gathered) => verify_by(rt, inputs, asked, &gathered, parts, &last),
+    let reference = open_sources(rt, inputs.screen, inputs.before, &last)?;
+    let opened = open_sources(rt, inputs.screen, inputs.sources, &last)?;
+    match hold_opened(rt, reference, inputs.before, &last) {
+        Ok(Held { gathered, .. }) => verify_by(rt, inputs, asked, &gathered, opened.parts, &last),
         Err(fault) => Err(fault),
     }
 }

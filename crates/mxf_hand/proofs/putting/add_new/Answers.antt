@@ -1,3 +1,5 @@
+use Rattle.std.proofs.Common.{◌∙◌, sym}
+use Rattle.mxf_hand.proofs.RoundLaws.{nothing_new}
 use Rattle.mxf_hand.proofs.putting.add_new.Goals as goal
 
 pub returns-then-has_all-clause-added : goal.returns-then-has_all-clause-added

@@ -14,8 +14,8 @@ invariant-loop-section g l =
     → AreToldIn (g.S.Sources.told l.initial.sources) l.hand.given.extents l.hand.runs h
     → (packets : List NoteParts) × (made : List NoteParts) × (heads : List CutHead)
     × Finds l.found packets made heads
-    × (packets ++ packets_in h l.views (drop l.section-index l.sections.items)
-    ≡ packets_in h l.views l.sections.items)
-    × (made ++ made_in h l.views (drop l.section-index l.sections.items) ≡ made_in h l.views l.sections.items)
-    × (heads ++ read_heads_in h l.views (drop l.section-index l.sections.items)
-    ≡ read_heads_in h l.views l.sections.items))
+    × (packets ++ packets_in h l.views (drop l.section-index l.section-items)
+    ≡ packets_in h l.views l.section-items)
+    × (made ++ made_in h l.views (drop l.section-index l.section-items) ≡ made_in h l.views l.section-items)
+    × (heads ++ read_heads_in h l.views (drop l.section-index l.section-items)
+    ≡ read_heads_in h l.views l.section-items))

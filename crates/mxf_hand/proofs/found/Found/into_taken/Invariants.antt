@@ -1,6 +1,6 @@
 -- What was made so far, with the heads that are to come.
 use Rattle.std.proofs.Common.{◌≡◌, ◌↔◌, ℕ, List, filter, map}
-use Rattle.std.specs.Vec.{into_iter_items}
+use Rattle.std.specs.Vec.Iter.{into_iter_items}
 use Rattle.mxf_klv.specs.Parts.{NoteParts}
 use Rattle.mxf_catalogue.specs.Content.{reduced_union}
 use Rattle.mxf_catalogue.specs.Runs.{LiesIn}
