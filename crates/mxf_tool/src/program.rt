@@ -29,6 +29,7 @@ use mxf_lines::{
     AnswerFault, Ask, Form, Grid, Verified, answer, print_map, print_renewed, print_sources,
     print_verification,
 };
+use mxf_places::AtHand;
 use mxf_read::{GatherFault, Gathered, Part, PieceReport, gather};
 use mxf_units::index_sids;
 use mxf_verify::{Readings, Renewed};
@@ -189,22 +190,24 @@ fn print_told<'a, R: System>(
     asked: Told,
 ) -> Result<Exit, RunFault<'a>> {
     let gathered = gather_sources(rt, inputs)?;
-    print_gathered(rt, inputs, asked, &gathered)
+    let at_hand = AtHand::nothing(rt.alloc());
+    print_gathered(rt, inputs, asked, &gathered, &at_hand)
 }
 
-/// Prints what is asked for of what was gathered of the sources.
+/// Prints what is asked for of what was gathered of the sources, and of what is at hand.
 fn print_gathered<'a, R: System>(
     rt: &R,
     inputs: Inputs<'_, 'a>,
     asked: Told,
     gathered: &Gathered,
+    at_hand: &AtHand,
 ) -> Result<Exit, RunFault<'a>> {
     let printed = match asked {
-        Told::Answer(ask) => Printed::Answer(ask, gathered),
-        Told::Map(grid) => Printed::Map(grid, &gathered.views),
+        Told::Answer(ask) => Printed::Answer(ask, gathered, at_hand),
+        Told::Map(grid) => Printed::Map(grid, &gathered.views, at_hand),
         Told::Units { index, units } => {
             let ask = ask_of_units(rt.alloc(), &gathered.views, index, units)?;
-            Printed::Answer(ask, gathered)
+            Printed::Answer(ask, gathered, at_hand)
         }
     };
     let exit = print_answer(rt, printed, inputs.form)?;
@@ -258,7 +261,9 @@ fn print_saved<'a, R: System>(
     is_strict: bool,
     gathered: &Gathered,
 ) -> Result<Exit, RunFault<'a>> {
-    let exit = print_answer(rt, Printed::Answer(Ask::Join, gathered), inputs.form)?;
+    let at_hand = AtHand::nothing(rt.alloc());
+    let printed = Printed::Answer(Ask::Join, gathered, &at_hand);
+    let exit = print_answer(rt, printed, inputs.form)?;
     let reports = gathered.reports.as_slice();
     let exit = exit.of_join(is_strict, reports);
     told(rt, inputs.screen, inputs.sources, reports, true, exit)
@@ -379,8 +384,10 @@ fn ungathered<'a>(fault: &GatherFault, sources: &[Source<'a>], last: &LastFault)
 /// What is printed on standard output.
 #[derive(Clone, Copy)]
 enum Printed<'g, 'n> {
-    Answer(Ask, &'g Gathered),
-    Map(Grid, &'g Views),
+    /// What is asked for, of what was gathered and of what is at hand.
+    Answer(Ask, &'g Gathered, &'g AtHand),
+    /// What is held, and what is at hand.
+    Map(Grid, &'g Views, &'g AtHand),
     Renewed(&'g Renewed<'n>),
     /// What sources hold, each by itself, and the words that name them.
     Beside(&'g Readings<'n>, &'g [String]),
@@ -396,9 +403,11 @@ fn print_lines<W: Write>(
     writer: &mut W,
 ) -> Result<u8, AnswerFault> {
     match printed {
-        Printed::Answer(ask, gathered) => answer(alloc, &ask, form, gathered, writer),
-        Printed::Map(grid, views) => {
-            print_map(alloc, views, grid, form, writer)?;
+        Printed::Answer(ask, gathered, at_hand) => {
+            answer(alloc, &ask, form, gathered, at_hand, writer)
+        }
+        Printed::Map(grid, views, at_hand) => {
+            print_map(alloc, views, at_hand, grid, form, writer)?;
             Ok(0)
         }
         Printed::Renewed(renewed) => {
