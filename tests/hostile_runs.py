@@ -186,7 +186,7 @@ def pictures(pictured, content):
     """Whether a map's first line tells how many bytes of these notes are held, and how many notes are disputed."""
     words = pictured[0].split(" ")
     held = max((note.end for note in content), default=0) - sum(stop - start for start, stop in notes.gaps(content))
-    return words[0] == "map" and int(words[3]) == held and int(words[11]) == len(notes.disputed(content))
+    return words[0] == "map" and int(words[3]) == held and int(words[13]) == len(notes.disputed(content))
 
 
 def try_pieces(run, rng, pieces):

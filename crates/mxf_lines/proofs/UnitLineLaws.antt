@@ -1,14 +1,16 @@
 -- Units one after another.
-use Rattle.std.proofs.Common.{◌≡◌, ◌∙◌, ◌==◌, ◌+◌, ◌++◌, ◌≤◌, ℕ, true, false, List, [], ◌∷◌, Option, None, Some, Result, Err}
+use Rattle.std.proofs.Common.{◌≡◌, ◌∙◌, ◌==◌, ◌+◌, ◌++◌, ◌≤◌, ℕ, List, [], ◌∷◌, Option, None, Some, Result, Err}
 use Rattle.std.proofs.Common.{ap, arith, filter_map, flat_map, if◌then◌else◌, length, refl, subst, sym}
 use Rattle.std.proofs.lemmas.List.FromFn.{length-map-range_with_len}
 use Rattle.mxf_units.specs.Units.{UnitsParts, unit_of}
 use Rattle.std.specs.List.{cons_option}
 use Rattle.mxf_klv.proofs.Counts.{count_by-cons, tally}
+use Rattle.mxf_units.specs.declared.standing.UnitStanding.{UnitStanding}
+use Rattle.mxf_units.specs.declared.standing.UnitStanding.TheVariants as standings
 use Rattle.mxf_units.specs.declared.unit.EditUnit.{EditUnit}
 use Rattle.mxf_lines.specs.Forms.{PrintedLine}
-use Rattle.mxf_lines.specs.UnitLines.{held_count, is_held, last_line, least_of, needed_from, unit_line, unit_lines, units_from}
-use Rattle.mxf_lines.specs.UnitLines.{units_line, units_status}
+use Rattle.mxf_lines.specs.UnitLines.{hand_count, held_count, is_hand, is_held, last_line, least_of, needed_from, unit_line}
+use Rattle.mxf_lines.specs.UnitLines.{unit_lines, units_from, units_line, units_status}
 use Rattle.mxf_lines.specs.declared.printing.AnswerFault.{AnswerFault}
 use Rattle.mxf_lines.specs.declared.printing.AnswerFault.TheVariants.{OutOfMemory, Write, BadUnit}
 use Rattle.mxf_lines.specs.declared.printing.Form.{Form}
@@ -24,6 +26,12 @@ held-step u us =
     let one = count_by-cons (λ (v : EditUnit). is_held v.standing) u [] in
     omega (arith, all, one)
 
+pub hand-step : (u : EditUnit) (us : List EditUnit) → hand_count (u ∷ us) ≡ hand_count (u ∷ []) + hand_count us
+hand-step u us =
+    let all = count_by-cons (λ (v : EditUnit). is_hand v.standing) u us in
+    let one = count_by-cons (λ (v : EditUnit). is_hand v.standing) u [] in
+    omega (arith, all, one)
+
 pub from-step : (first : ℕ) (u : EditUnit) (us : List EditUnit)
     → needed_from first (u ∷ us) ≡ needed_from (needed_from first (u ∷ [])) us
 from-step first u us = by u.key
@@ -33,32 +41,40 @@ from-step first u us = by u.key
     by None = refl
     by (Some key) = refl
 
-pub held-most : (u : EditUnit) → held_count (u ∷ []) ≤ 1
-held-most u =
-    let one = count_by-cons (λ (v : EditUnit). is_held v.standing) u [] in
-    elim (is_held u.standing) as (λ b. held_count (u ∷ []) ≡ tally b + 0 → held_count (u ∷ []) ≤ 1) [
-      | true ↦ λ e. omega (arith, e)
-      | false ↦ λ e. omega (arith, e)
-    ] one
+-- No unit is counted as both.
+one_count : (s : UnitStanding) → tally (is_held s) + tally (is_hand s) ≤ 1
+one_count standings.Held = omega arith
+one_count standings.Hand = omega arith
+one_count _ = omega arith
+
+pub most-one : (u : EditUnit) → held_count (u ∷ []) + hand_count (u ∷ []) ≤ 1
+most-one u =
+    let held = count_by-cons (λ (v : EditUnit). is_held v.standing) u [] in
+    let hand = count_by-cons (λ (v : EditUnit). is_hand v.standing) u [] in
+    omega (arith, held, hand, one_count u.standing)
 
 -- ---- no unit is left
 
-module _ (first : ℕ) (all left : List EditUnit) (units held from : ℕ) (none : left ≡ []) (as_many : units ≡ length all)
-    (counted : held + held_count left ≡ held_count all) (needed : needed_from from left ≡ needed_from first all) where
-  pub all_held : held ≡ held_count all
+module _ (first : ℕ) (all left : List EditUnit) (units held hand from : ℕ) (none : left ≡ [])
+    (as_many : units ≡ length all) (counted : held + held_count left ≡ held_count all)
+    (others : hand + hand_count left ≡ hand_count all) (needed : needed_from from left ≡ needed_from first all) where
+  all_held : held ≡ held_count all
   all_held = let z : held_count left ≡ 0 = ap held_count none in omega (arith, z, counted)
 
-  pub all_counted : (if held == units then 0 else 1) ≡ units_status all
-  all_counted i = if all_held i == as_many i then 0 else 1
+  all_hand : hand ≡ hand_count all
+  all_hand = let z : hand_count left ≡ 0 = ap hand_count none in omega (arith, z, others)
 
-  line_is : units_line units held from ≡ last_line first all
-  line_is i = units_line (as_many i) (all_held i) ((sym (ap (needed_from from) none) ∙ needed) i)
+  pub all_counted : (if held + hand == units then 0 else 1) ≡ units_status all
+  all_counted i = if all_held i + all_hand i == as_many i then 0 else 1
+
+  line_is : units_line units held hand from ≡ last_line first all
+  line_is i = units_line (as_many i) (all_held i) (all_hand i) ((sym (ap (needed_from from) none) ∙ needed) i)
 
   -- What is answered of the last line is answered of all.
   pub answered : {f g : Form} {a b : Option (List ℕ)} {before mid : ℕ}
       → Leads f a before (unit_lines first all) g b mid (flat_map (λ u. unit_line u ∷ []) left ++ last_line first all ∷ [])
       → (c : Option (List ℕ)) (after : ℕ) (r : Result (Unit {0}) AnswerFault)
-      → PrintsPart g b c mid after r (units_line units held from ∷ [])
+      → PrintsPart g b c mid after r (units_line units held hand from ∷ [])
       → PrintsPart f a c before after r (unit_lines first all)
   answered {f} {g} {a} {b} {before} {mid} led c after r printed =
       led.leads c after r (subst (PrintsPart g b c mid after r) (sym (ap (λ (us : List EditUnit).

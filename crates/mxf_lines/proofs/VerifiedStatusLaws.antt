@@ -1,6 +1,6 @@
 -- Where the status of a verification is 0.
 use Rattle.std.proofs.Common.{◌≡◌, ◌≢◌, ◌↔◌, ◌+◌, ◌-◌, ◌<◌, ◌≤◌, ◌∙◌, ◌==◌, ◌&&◌, ℕ, zero, suc, Bool, true, false, not, cond}
-use Rattle.std.proofs.Common.{List, [], ◌∷◌, None, Some, Option, filter, length, inl, inr, refl, sym, ap, subst, arith}
+use Rattle.std.proofs.Common.{List, [], ◌∷◌, None, Some, Option, filter, length, inl, inr, refl, ap, arith}
 use Rattle.std.specs.List.{list_all}
 use Rattle.mxf_klv.specs.Bytes.{AreBytes}
 use Rattle.mxf_klv.specs.Note.{greatest_end}
@@ -11,7 +11,6 @@ use Rattle.mxf_klv.specs.declared.piece.Stop.{Stop}
 use Rattle.mxf_klv.specs.declared.piece.Stop.TheVariants.{BadLength, End, NoStart, NotUl, TooFar, Truncated}
 use Rattle.mxf_klv.proofs.Lists.{In-list_all, list_all-In}
 use Rattle.mxf_klv.proofs.Tests.{equals_itself, not_equal}
-use Rattle.mxf_catalogue.specs.Runs.{AreMaximal, LiesIn}
 use Rattle.mxf_catalogue.specs.declared.run.Run.{Run}
 use Rattle.mxf_read.specs.declared.gathering.report.PieceReport.{PieceReport}
 use Rattle.mxf_units.specs.Units.{UnitsParts}

@@ -12,7 +12,7 @@ use Rattle.mxf_views.specs.Places.{greatest_unit, place_of, segments_of}
 use Rattle.mxf_views.specs.declared.finding.Finding.{Finding}
 use Rattle.mxf_views.specs.declared.index.place.Place.{Place}
 use Rattle.mxf_views.specs.declared.index.place.Place.TheVariants.{At}
-use Rattle.mxf_places.specs.AtHand.{nothing_at_hand, without_hand}
+use Rattle.mxf_places.specs.AtHand.{AtHandParts}
 use Rattle.mxf_restore.specs.Plan.{PlanParts, plan_of}
 use Rattle.mxf_units.specs.declared.unit.EditUnit.{EditUnit}
 use Rattle.mxf_read.specs.declared.gathering.report.PieceReport.{PieceReport}
@@ -56,18 +56,18 @@ abbrev pub join_lines : List NoteParts → List PrintedLine
 join_lines content = join_line (length content) (length (disputed_notes content)) ∷ []
 
 -- The units of a range, by the index of an IndexSID.
-abbrev pub asked_units : ℕ → UnitRange → List NoteParts → List EditUnit
-asked_units index range content =
-    units_from (record { known = without_hand content; index_sid = index }) range.first range.count
+abbrev pub asked_units : ℕ → UnitRange → AtHandParts → List NoteParts → List EditUnit
+asked_units index range at content =
+    units_from (record { known = record { notes = content; at = at }; index_sid = index }) range.first range.count
 
--- The lines that are asked for, of pieces with these reports and of a content.
-abbrev pub answer_lines : Ask → List PieceReport → List NoteParts → List PrintedLine
-answer_lines Show reports content = report_lines reports ++ content_lines content
-answer_lines Check reports content = check_lines reports content
-answer_lines (Locate index unit) reports content = place_line (place_of (segments_of content) index unit) ∷ []
-answer_lines Join reports content = join_lines content
-answer_lines Plan reports content = plan_lines (plan_of nothing_at_hand content)
-answer_lines (Units index range) reports content = unit_lines range.first (asked_units index range content)
+-- The lines that are asked for, of pieces with these reports, of what is at hand, and of a content.
+abbrev pub answer_lines : Ask → List PieceReport → AtHandParts → List NoteParts → List PrintedLine
+answer_lines Show reports at content = report_lines reports ++ content_lines content
+answer_lines Check reports at content = check_lines reports content
+answer_lines (Locate index unit) reports at content = place_line (place_of (segments_of content) index unit) ∷ []
+answer_lines Join reports at content = join_lines content
+answer_lines Plan reports at content = plan_lines (plan_of at content)
+answer_lines (Units index range) reports at content = unit_lines range.first (asked_units index range at content)
 
 -- 0 where all pieces end with a packet and nothing is found, else 1.
 abbrev pub check_status : List PieceReport → List Finding → ℕ
@@ -83,13 +83,13 @@ abbrev pub plan_status : PlanParts → ℕ
 plan_status p = if length p.orders == 0 then 0 else 1
 
 -- The status of what is asked for.
-abbrev pub answer_status : Ask → List PieceReport → List NoteParts → ℕ
-answer_status Show reports content = 0
-answer_status Check reports content = check_status reports (findings_of content)
-answer_status (Locate index unit) reports content = place_status (place_of (segments_of content) index unit)
-answer_status Join reports content = 0
-answer_status Plan reports content = plan_status (plan_of nothing_at_hand content)
-answer_status (Units index range) reports content = units_status (asked_units index range content)
+abbrev pub answer_status : Ask → List PieceReport → AtHandParts → List NoteParts → ℕ
+answer_status Show reports at content = 0
+answer_status Check reports at content = check_status reports (findings_of content)
+answer_status (Locate index unit) reports at content = place_status (place_of (segments_of content) index unit)
+answer_status Join reports at content = 0
+answer_status Plan reports at content = plan_status (plan_of at content)
+answer_status (Units index range) reports at content = units_status (asked_units index range at content)
 
 -- An edit unit above the greatest is asked for.
 abbrev pub IsBadAsk : Ask → Type 0

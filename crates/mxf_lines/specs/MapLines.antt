@@ -23,16 +23,17 @@ mark_text Metadata = codes "m"
 mark_text Index = codes "i"
 mark_text Whole = codes "#"
 
--- How much of the bytes is held, in thousandths, rounded down: the last digit behind a point.
+-- How much of the bytes it is, in thousandths, rounded down: the last digit behind a point.
 abbrev pub share_text : ℕ → List ℕ
 share_text share = decimal (share / 10) ++ (codes "." ++ decimal (share % 10))
 
--- The first line: where the map ends, how many bytes are held and missing, how much that is, how many ranges aren't
--- held, how many packets are disputed, and the bytes of a cell.
+-- The first line: where the map ends, how many bytes are held, how many others are at hand, how many are neither, how
+-- much is either, how many ranges aren't held, how many packets are disputed, and the bytes of a cell.
 unfoldable pub map_line : MapParts → PrintedLine
 map_line m =
-    line "map" (number " " "end" m.end ∷ number " held " "held" m.held ∷ number " missing " "missing" (m.end - m.held)
-    ∷ digits " share " "share" (share_text (1000 * m.held / m.end)) ∷ number " gaps " "gaps" m.gaps
+    line "map" (number " " "end" m.end ∷ number " held " "held" m.held ∷ number " hand " "hand" m.hand
+    ∷ number " missing " "missing" (m.end - m.held - m.hand)
+    ∷ digits " share " "share" (share_text (1000 * (m.held + m.hand) / m.end)) ∷ number " gaps " "gaps" m.gaps
     ∷ number " disputed " "disputed" m.disputed ∷ number " cell " "cell" m.cell ∷ [])
 
 -- The line of a row of cells: the offset of its first byte, with so many spaces more before it, and the characters of the

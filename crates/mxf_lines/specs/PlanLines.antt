@@ -6,13 +6,14 @@ use Rattle.mxf_restore.specs.Plan.{PlanParts}
 use Rattle.mxf_places.specs.Words.{reason_name}
 use Rattle.mxf_restore.specs.declared.plan.DisputedPlace.{DisputedPlace}
 use Rattle.mxf_restore.specs.declared.plan.Order.{Order}
-use Rattle.mxf_lines.specs.Forms.{PrintedLine, known, line, number, word}
+use Rattle.mxf_lines.specs.Forms.{PrintedLine, flag, known, line, number, word}
 
--- The line of an order: where it begins and ends, why, and which pack says so.
+-- The line of an order: where it begins and ends, why, which pack says so, whether it begins within a packet, and
+-- whether its bytes were handed in and don't do.
 unfoldable pub restore_line : Order → PrintedLine
 restore_line o =
     line "restore" (number " " "start" o.start ∷ known " " "end" "-" o.end ∷ word " " "reason" (reason_name o.reason)
-    ∷ known " " "source" "-" o.source ∷ [])
+    ∷ known " " "source" "-" o.source ∷ flag " inside" "inside" o.inside ∷ flag " again" "again" o.again ∷ [])
 
 -- The line of a disputed place: its place, why that matters, and which pack says so.
 unfoldable pub disputed_place_line : DisputedPlace → PrintedLine

@@ -1,5 +1,5 @@
 -- The lines of edit units (this project's profile; the fields of an entry are those of ST 377-1, Index Table Segment).
-use Rattle.std.specs.Prelude.{ℕ, ℤ, ◌==◌, if◌then◌else◌, min, Bool, true, false, List, [], ◌∷◌, ◌++◌, Option}
+use Rattle.std.specs.Prelude.{ℕ, ℤ, ◌+◌, ◌==◌, if◌then◌else◌, min, Bool, true, false, List, [], ◌∷◌, ◌++◌, Option}
 use Rattle.std.specs.Prelude.{None, Some}
 use Rattle.std.specs.Prelude.{codes, count_by, flat_map, length, map}
 use Rattle.std.specs.Fmt.{signed_decimal}
@@ -52,6 +52,11 @@ abbrev pub is_held : UnitStanding → Bool
 is_held standings.Held = true
 is_held _ = false
 
+-- All bytes of the unit are held or at hand, and not all are held.
+abbrev pub is_hand : UnitStanding → Bool
+is_hand standings.Hand = true
+is_hand _ = false
+
 -- The least of a number and others.
 abbrev pub least_of : ℕ → List ℕ → ℕ
 least_of x [] = x
@@ -61,22 +66,28 @@ least_of x (y ∷ ys) = least_of (min x y) ys
 abbrev pub held_count : List EditUnit → ℕ
 held_count units = count_by (λ u. is_held u.standing) units
 
+-- The number of the others of which all bytes are held or at hand.
+abbrev pub hand_count : List EditUnit → ℕ
+hand_count units = count_by (λ u. is_hand u.standing) units
+
 -- The first unit that some need: theirs, or the least of the key frames that they name.
 abbrev pub needed_from : ℕ → List EditUnit → ℕ
 needed_from first units = least_of first (filter_map (λ u. u.key) units)
 
--- The last line: how many units there are, how many of them are held, and from which on they need units.
-unfoldable pub units_line : ℕ → ℕ → ℕ → PrintedLine
-units_line units held from =
-    line "units" (number " " "units" units ∷ number " held " "held" held ∷ number " from " "from" from ∷ [])
+-- The last line: how many units there are, how many of them are held, how many others are at hand, and from which on
+-- they need units.
+unfoldable pub units_line : ℕ → ℕ → ℕ → ℕ → PrintedLine
+units_line units held hand from =
+    line "units" (number " " "units" units ∷ number " held " "held" held ∷ number " hand " "hand" hand
+    ∷ number " from " "from" from ∷ [])
 
 abbrev pub last_line : ℕ → List EditUnit → PrintedLine
-last_line first units = units_line (length units) (held_count units) (needed_from first units)
+last_line first units = units_line (length units) (held_count units) (hand_count units) (needed_from first units)
 
 -- The lines of units, the first of which has this number.
 abbrev pub unit_lines : ℕ → List EditUnit → List PrintedLine
 unit_lines first units = flat_map (λ u. unit_line u ∷ []) units ++ last_line first units ∷ []
 
--- 0 where all units are held, else 1.
+-- 0 where each unit is held or at hand, else 1.
 abbrev pub units_status : List EditUnit → ℕ
-units_status units = if held_count units == length units then 0 else 1
+units_status units = if held_count units + hand_count units == length units then 0 else 1

@@ -13,7 +13,8 @@
 //!
 //! ```
 //! let gathered = gather(alloc, parts)?;
-//! let status = answer(alloc, &Ask::Show, Form::Text, &gathered, &mut writer)?;
+//! let at_hand = AtHand::nothing(alloc);
+//! let status = answer(alloc, &Ask::Show, Form::Text, &gathered, &at_hand, &mut writer)?;
 //! ```
 #![tactic(auto)]
 

@@ -1,7 +1,6 @@
 //! Printing what a run is asked for.
 ghost use Rattle.std.specs.Prelude.{◌≡◌, ◌↔◌, IfOk, Err};
 ghost use Rattle.mxf_klv.specs.Written.{Puts, Writes};
-ghost use Rattle.mxf_places.specs.AtHand.{nothing_at_hand};
 ghost use Rattle.mxf_restore.specs.Plan.{plan_of};
 ghost use Rattle.mxf_lines.specs.Answering.{Answers, IsBadAsk, answer_lines, answer_status, asked_units, plan_status};
 ghost use Rattle.mxf_lines.specs.PlanLines.{plan_lines};
@@ -97,7 +96,7 @@ pub enum Ask {
 
 /// Prints the lines that are asked for, in a form. The answer is 1 where a check finds something, or a piece doesn't end
 /// with a packet, where an edit unit has no place or more than one, where there is something to restore, or where not
-/// all bytes of the units are held; else it is 0.
+/// all bytes of the units are held or at hand; else it is 0. Only a plan and units depend on what is at hand.
 ///
 /// The unit is tested first: above 9,223,372,036,854,775,807 it is a `BadUnit`. Out of memory, some whole lines
 /// have been written; after a write fault the first bytes, which it counts.
@@ -106,15 +105,17 @@ pub fn answer<W: Write>(
     ask: &Ask,
     form: Form,
     gathered: &Gathered,
+    at_hand: &AtHand,
     writer: &mut W,
 ) -> Result<u8, AnswerFault>
-    ensures status { IfOk result (λ status. status ≡ answer_status ask.now gathered.now.reports gathered.now.views) }
+    ensures status { IfOk result (λ status. status
+        ≡ answer_status ask.now gathered.now.reports at_hand.now gathered.now.views) }
     ensures bad_unit { (result ≡ Err faults.BadUnit) ↔ IsBadAsk ask.now }
     ensures lines { Answers form (Writes (W.contents writer.old) (W.contents writer.new)) result
-        (answer_lines ask.now gathered.now.reports gathered.now.views) }
+        (answer_lines ask.now gathered.now.reports at_hand.now gathered.now.views) }
 {
     let mut printer = Printer::new(alloc, form);
-    print_asked(&mut printer, writer, ask, gathered)
+    print_asked(&mut printer, writer, ask, gathered, at_hand)
 }
 
 /// Prints the lines that are asked for, and answers the status.
@@ -123,12 +124,14 @@ fn print_asked<W: Write>(
     writer: &mut W,
     ask: &Ask,
     gathered: &Gathered,
+    at_hand: &AtHand,
 ) -> Result<u8, AnswerFault>
-    ensures status { IfOk result (λ status. status ≡ answer_status ask.now gathered.now.reports gathered.now.views) }
+    ensures status { IfOk result (λ status. status
+        ≡ answer_status ask.now gathered.now.reports at_hand.now gathered.now.views) }
     ensures bad_unit { (result ≡ Err faults.BadUnit) ↔ IsBadAsk ask.now }
     ensures lines { Answers printer.old.fields.form
         (Puts W.contents writer.old writer.new printer.old.progress printer.new.progress)
-        result (answer_lines ask.now gathered.now.reports gathered.now.views) }
+        result (answer_lines ask.now gathered.now.reports at_hand.now gathered.now.views) }
 {
     match *ask {
         Ask::Show => print_with_status(printer, writer, gathered, 0),
@@ -140,9 +143,9 @@ fn print_asked<W: Write>(
             let status = u8::from(!matches!(place, Place::At { .. }));
             print_with_status(printer, writer, place, status)
         }
-        Ask::Plan => print_plan(printer, writer, &gathered.views),
+        Ask::Plan => print_plan(printer, writer, &gathered.views, at_hand),
         Ask::Units { index, range } => {
-            print_range(printer, writer, &gathered.views, index, range)
+            print_range(printer, writer, &gathered.views, at_hand, index, range)
         }
         Ask::Join => {
             let line = JoinLine(gathered.views.catalogue());
@@ -156,14 +159,14 @@ fn print_plan<W: Write>(
     printer: &mut Printer,
     writer: &mut W,
     views: &Views,
+    at_hand: &AtHand,
 ) -> Result<u8, AnswerFault>
     ensures lines { Prints printer.old.fields.form
         (Puts W.contents writer.old writer.new printer.old.progress printer.new.progress)
-        result (plan_lines (plan_of nothing_at_hand views.now)) }
-    ensures status { IfOk result (λ status. status ≡ plan_status (plan_of nothing_at_hand views.now)) }
+        result (plan_lines (plan_of at_hand.now views.now)) }
+    ensures status { IfOk result (λ status. status ≡ plan_status (plan_of at_hand.now views.now)) }
 {
-    let at_hand = AtHand::nothing(printer.alloc());
-    let plan = Plan::of(printer.alloc(), views, &at_hand)?;
+    let plan = Plan::of(printer.alloc(), views, at_hand)?;
     let status = u8::from(!plan.orders().is_empty());
     print_with_status(printer, writer, &plan, status)
 }
@@ -173,15 +176,15 @@ fn print_range<W: Write>(
     printer: &mut Printer,
     writer: &mut W,
     views: &Views,
+    at_hand: &AtHand,
     index: u32,
     range: UnitRange,
 ) -> Result<u8, AnswerFault>
     ensures lines { Prints printer.old.fields.form
         (Puts W.contents writer.old writer.new printer.old.progress printer.new.progress)
-        result (unit_lines range.first (asked_units index range views.now)) }
-    ensures status { IfOk result (λ status. status ≡ units_status (asked_units index range views.now)) }
+        result (unit_lines range.first (asked_units index range at_hand.now views.now)) }
+    ensures status { IfOk result (λ status. status ≡ units_status (asked_units index range at_hand.now views.now)) }
 {
-    let at_hand = AtHand::nothing(printer.alloc());
-    let units = Units::of(printer.alloc(), views, &at_hand, index)?;
+    let units = Units::of(printer.alloc(), views, at_hand, index)?;
     print_units(printer, writer, &units, range)
 }

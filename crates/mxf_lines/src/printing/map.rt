@@ -2,7 +2,6 @@
 ghost use Rattle.std.specs.Prelude.{◌≡◌, ◌+◌, ◌-◌, ◌*◌, ◌/◌, ◌^◌, ◌<◌, ◌≤◌, ◌∷◌, ℕ, Some, decimal, flat_map, length};
 ghost use Rattle.std.specs.Prelude.{IfNone, IfOk, IfSome, ◌⊎◌};
 ghost use Rattle.mxf_klv.specs.Written.{Writes};
-ghost use Rattle.mxf_places.specs.AtHand.{without_hand};
 ghost use Rattle.mxf_restore.specs.Map.{IsMap, MapParts};
 ghost use Rattle.mxf_lines.specs.MapLines.{map_line, map_lines, mark_text, row_line, row_width, rows_of, share_text};
 ghost use Rattle.mxf_lines.specs.Printing.{Prints};
@@ -97,22 +96,25 @@ impl<'a> Lines for Picture<'a> {
     }
 }
 
-/// Prints what is held of the file of the views, as a picture, in a form.
+/// Prints what is held of the file of the views, and what is at hand beside that, as a picture, in a form.
 ///
 /// Out of memory, some whole lines have been written; after a write fault the first bytes, which it counts.
 pub fn print_map<W: Write>(
     alloc: Global,
     views: &Views,
+    at_hand: &AtHand,
     grid: Grid,
     form: Form,
     writer: &mut W,
 ) -> Result<(), AnswerFault>
-    ensures lines { (m : MapParts) → IsMap (without_hand views.now) (grid.columns * grid.rows) m
+    ensures lines { (m : MapParts)
+        → IsMap (record { notes = views.now; at = at_hand.now }) (grid.columns * grid.rows) m
         → Prints form (Writes (W.contents writer.old) (W.contents writer.new)) result (map_lines grid.columns m) }
-    ensures some { IfOk result (λ _. (m : MapParts) × IsMap (without_hand views.now) (grid.columns * grid.rows) m) }
+    ensures some { IfOk result (λ _. (m : MapParts)
+        × IsMap (record { notes = views.now; at = at_hand.now }) (grid.columns * grid.rows) m) }
 {
     let cells = u64::from(grid.columns) * u64::from(grid.rows);
-    let map = Map::of(alloc, views, &AtHand::nothing(alloc), cells)?;
+    let map = Map::of(alloc, views, at_hand, cells)?;
     print_picture(alloc, &map, grid.columns, form, writer)
 }
 
@@ -131,8 +133,8 @@ fn print_picture<W: Write>(
     Picture { map, columns }.print_to(&mut printer, writer)
 }
 
-/// Where the map ends, how many bytes are held and missing, how much that is, how many ranges aren't held, how many
-/// packets are disputed, and the bytes of a cell.
+/// Where the map ends, how many bytes are held, how many others are at hand, how many are neither, how much is either,
+/// how many ranges aren't held, how many packets are disputed, and the bytes of a cell.
 #[derive(Clone, Copy)]
 struct MapLine<'a>(&'a Map);
 
@@ -142,12 +144,14 @@ impl<'a> Line for MapLine<'a> {
     #[tactic(auto, unfolding(crate::specs::MapLines::map_line))]
     fn write_fields(&self, fields: &mut FieldWriter) -> Result<(), AllocError> {
         let map = self.0;
-        let (end, held) = (map.end(), map.held());
+        let (end, held, hand) = (map.end(), map.held(), map.hand());
+        let missing = end.saturating_sub(held).saturating_sub(hand);
         fields.begin("map", "map")?;
         fields.number(" ", "end", end)?;
         fields.number(" held ", "held", held)?;
-        fields.number(" missing ", "missing", end.saturating_sub(held))?;
-        fields.fraction(" share ", "share", ShareText(share_of(held, end)))?;
+        fields.number(" hand ", "hand", hand)?;
+        fields.number(" missing ", "missing", missing)?;
+        fields.fraction(" share ", "share", ShareText(share_of(held, hand, end)))?;
         fields.number(" gaps ", "gaps", map.gaps())?;
         fields.number(" disputed ", "disputed", map.disputed())?;
         fields.number(" cell ", "cell", map.cell())?;
@@ -155,12 +159,12 @@ impl<'a> Line for MapLine<'a> {
     }
 }
 
-/// How much of the bytes up to an end is held, in thousandths, rounded down.
-fn share_of(held: u64, end: u64) -> u128
+/// How much of the bytes up to an end is held or at hand, in thousandths, rounded down.
+fn share_of(held: u64, hand: u64, end: u64) -> u128
     requires { 1 ≤ end }
-    ensures { result ≡ 1000 * held / end }
+    ensures { result ≡ 1000 * (held + hand) / end }
 {
-    1000 * u128::from(held) / u128::from(end)
+    1000 * (u128::from(held) + u128::from(hand)) / u128::from(end)
 }
 
 /// A row of cells: the offset of its first byte, with so many spaces before it, and the characters of the marks.

@@ -8,7 +8,8 @@ use mxf_restore::{DisputedPlace, Order, Plan};
 use std::alloc::AllocError;
 use std::io::Write;
 
-/// An order: where it begins and ends, in bytes, why, and the offset of the pack that says so.
+/// An order: where it begins and ends, in bytes, why, the offset of the pack that says so, whether it begins within a
+/// packet, and whether its bytes were handed in and don't do.
 impl Line for Order {
     ghost line = { restore_line };
 
@@ -19,6 +20,8 @@ impl Line for Order {
         fields.known(" ", "end", "-", self.end)?;
         fields.word(" ", "reason", self.reason)?;
         fields.known(" ", "source", "-", self.source)?;
+        fields.flag(" inside", "inside", self.inside)?;
+        fields.flag(" again", "again", self.again)?;
         fields.end("")
     }
 }

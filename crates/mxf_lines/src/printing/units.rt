@@ -5,9 +5,9 @@ ghost use Rattle.std.specs.Iterator.{YieldsFirst, item_count};
 ghost use Rattle.std.specs.Option.{option_and_then, option_map};
 ghost use Rattle.mxf_klv.specs.Written.{Puts};
 ghost use Rattle.mxf_lines.specs.Printing.{Prints};
-ghost use Rattle.mxf_lines.specs.UnitLines.{entry_fields, extent_fields, flags_value, held_count, is_held};
+ghost use Rattle.mxf_lines.specs.UnitLines.{entry_fields, extent_fields, flags_value, hand_count, held_count, is_hand};
 ghost use Rattle.mxf_lines.specs.UnitLines.{needed_from, temporal_value, unit_line, unit_lines, units_from, units_line};
-ghost use Rattle.mxf_lines.specs.UnitLines.{units_status};
+ghost use Rattle.mxf_lines.specs.UnitLines.{is_held, units_status};
 ghost use Rattle.mxf_lines.specs.Forms.{field, number_or};
 ghost use Rattle.mxf_lines.specs.Writing.{with_field, with_fields};
 
@@ -67,7 +67,7 @@ impl UnitRange {
     }
 }
 
-/// Prints the units of a range, and the last line; answers 0 where all bytes of all of them are held, else 1.
+/// Prints the units of a range, and the last line; answers 0 where all bytes of each are held or at hand, else 1.
 pub fn print_units<W: Write>(
     printer: &mut Printer,
     writer: &mut W,
@@ -167,57 +167,66 @@ fn write_flags(fields: &mut FieldWriter, flags: Option<u8>) -> Result<(), AllocE
     }
 }
 
-/// The last line of units: how many there are, how many of them are held, and from which on they need units.
+/// The last line of units: how many there are, how many of them are held, how many others are at hand, and from which
+/// on they need units.
 #[derive(Clone, Copy)]
 struct UnitsLine {
     units: u64,
     held: u64,
+    hand: u64,
     from: u64,
 }
 
 impl UnitsLine {
     /// That of the units of a range, before any is counted.
     fn of_none(range: UnitRange) -> UnitsLine
-        ensures { result ≡ record { units = range.count; held = 0; from = range.first } }
+        ensures { result ≡ record { units = range.count; held = 0; hand = 0; from = range.first } }
     {
         UnitsLine {
             units: range.count,
             held: 0,
+            hand: 0,
             from: range.first,
         }
     }
 
     /// Counts a unit.
     fn add(&mut self, unit: &EditUnit)
-        requires { self.old.held < self.old.units }
+        requires { self.old.held + self.old.hand < self.old.units }
         ensures units { self.new.units ≡ self.old.units }
         ensures held { self.new.held ≡ held_count (unit.now ∷ []) + self.old.held }
+        ensures hand { self.new.hand ≡ hand_count (unit.now ∷ []) + self.old.hand }
         ensures from { self.new.from ≡ needed_from self.old.from (unit.now ∷ []) }
     {
         if is_held(unit.standing) {
             self.held += 1;
+        }
+        if is_hand(unit.standing) {
+            self.hand += 1;
         }
         if let Some(key) = unit.key {
             self.from = self.from.min(key);
         }
     }
 
-    /// 0 where all units are held, else 1.
+    /// 0 where each unit is held or at hand, else 1.
     fn status(&self) -> u8
-        ensures { result ≡ if self.now.held == self.now.units then 0 else 1 }
+        requires { self.now.held + self.now.hand ≤ self.now.units }
+        ensures { result ≡ if self.now.held + self.now.hand == self.now.units then 0 else 1 }
     {
-        u8::from(self.held != self.units)
+        u8::from(self.held + self.hand != self.units)
     }
 }
 
 impl Line for UnitsLine {
-    ghost line = { λ l. units_line l.units l.held l.from };
+    ghost line = { λ l. units_line l.units l.held l.hand l.from };
 
     #[tactic(auto, unfolding(crate::specs::UnitLines::units_line))]
     fn write_fields(&self, fields: &mut FieldWriter) -> Result<(), AllocError> {
         fields.begin("units", "units")?;
         fields.number(" ", "units", self.units)?;
         fields.number(" held ", "held", self.held)?;
+        fields.number(" hand ", "hand", self.hand)?;
         fields.number(" from ", "from", self.from)?;
         fields.end("")
     }
@@ -228,6 +237,13 @@ fn is_held(standing: UnitStanding) -> bool
     ensures { result ≡ is_held standing }
 {
     matches!(standing, UnitStanding::Held)
+}
+
+/// Whether all bytes of a unit are held or at hand, and not all are held.
+fn is_hand(standing: UnitStanding) -> bool
+    ensures { result ≡ is_hand standing }
+{
+    matches!(standing, UnitStanding::Hand)
 }
 
 /// The units of a range that are left.

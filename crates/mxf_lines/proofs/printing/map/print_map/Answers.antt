@@ -1,6 +1,6 @@
 use Rattle.std.proofs.Common.{◌*◌, ℕ, subst}
 use Rattle.mxf_klv.specs.Written.{Writes}
-use Rattle.mxf_places.specs.AtHand.{AtHandParts, without_hand}
+use Rattle.mxf_places.specs.AtHand.{KnownParts}
 use Rattle.mxf_restore.specs.Map.{IsMap, MapParts}
 use Rattle.mxf_restore.proofs.MarkLaws.{one_map}
 use Rattle.mxf_lines.specs.MapLines.{map_lines}
@@ -10,10 +10,9 @@ use Rattle.mxf_lines.proofs.printing.map.print_map.Goals as goal
 pub returns-clause-lines : goal.returns-clause-lines
 returns-clause-lines g c = λ m is.
     let own = c.in_ok-map.map in
+    let known : KnownParts = record { notes = c.args.views.now; at = c.args.at_hand.now } in
     subst (λ (k : MapParts). Prints c.args.form (Writes {X = Unit {0}} (g.W.Write.contents c.args.writer.now)
     (g.W.Write.contents c.print_picture.new.writer)) c.print_picture.result (map_lines c.args.grid.columns k))
-    (one_map (without_hand c.args.views.now) (c.args.grid.columns * c.args.grid.rows) own m
-    (subst (λ (at : AtHandParts). IsMap (record { notes = c.args.views.now; at = at })
-    (c.args.grid.columns * c.args.grid.rows) own) c.nothing.ensures
-    (subst (λ (k : ℕ). IsMap (record { notes = c.args.views.now; at = c.nothing.result }) k own)
-    (λ i. c.from.ensures i * c.from-2.ensures i) c.in_ok-map.ensures)) is) c.print_picture.ensures
+    (one_map known (c.args.grid.columns * c.args.grid.rows) own m
+    (subst (λ (k : ℕ). IsMap known k own) (λ i. c.from.ensures i * c.from-2.ensures i) c.in_ok-map.ensures) is)
+    c.print_picture.ensures
