@@ -497,3 +497,10 @@ bytes_ended ds at n bytes others e =
     no_others : (xs : List ℕ) → with_bytes ds at xs [] ≡ ds
     no_others [] = refl
     no_others (x ∷ xs) = refl
+
+-- Of bytes beside themselves nothing is noted.
+pub bytes_alike : (ds : List Difference) (at : ℕ) (bytes : List ℕ) → with_bytes ds at bytes bytes ≡ ds
+bytes_alike ds at [] = refl
+bytes_alike ds at (a ∷ bytes) =
+    ap (λ c. with_bytes (if c then ds else with_near ds (difference at at)) (at + 1) bytes bytes) (eq-eqb a a refl)
+    ∙ bytes_alike ds (at + 1) bytes
