@@ -2,23 +2,23 @@
 -- differ.
 use Rattle.std.proofs.Common.{◌≡◌, ◌≢◌, ◌∙◌, ◌==◌, ◌↔◌, ◌⊎◌, ◌<◌, ◌≤◌, ◌+◌, ◌-◌, ℕ, zero, suc, List, [], ◌∷◌, ◌++◌}
 use Rattle.std.proofs.Common.{Option, Some, None, true, false, drop, get_or, length, map, take}
-use Rattle.std.proofs.Common.{refl, sym, ap, subst, inl, inr, append_assoc, arith, eqb-true, length-append, length-take}
+use Rattle.std.proofs.Common.{refl, sym, ap, subst, inl, inr, append_assoc, arith, eqb-true, length-take}
 use Rattle.std.proofs.lemmas.Bool.{cases_lt, false≢true}
 use Rattle.std.proofs.Common.{eq-eqb}
-use Rattle.std.proofs.lemmas.List.{drop-drop, take-append-le, take_more}
+use Rattle.std.proofs.lemmas.List.{drop-drop, take_more}
 use Rattle.std.proofs.lemmas.Option.{same_Some, slice_get-get_or, slice_get_within}
 use Rattle.std.specs.Prelude.{slice_get, Err, IfSome, Ok, OnOk, Result}
 use Rattle.std.specs.List.{AllByRecursion}
 use Rattle.mxf_klv.specs.Rising.{In}
-use Rattle.mxf_klv.proofs.Lists.{In-append, In-at}
+use Rattle.mxf_klv.proofs.Lists.{In-append}
 use Rattle.mxf_catalogue.specs.declared.run.Run.{Run}
 use Rattle.mxf_catalogue.specs.Covers.{IsCover, union_of_runs}
 use Rattle.mxf_catalogue.specs.Runs.{LiesIn}
-use Rattle.mxf_read.specs.Given.{AreAtHand, AreTold, Differ, Gives, HaveExtents, IsAtHand, IsDiffering, IsGiven}
+use Rattle.mxf_read.specs.Given.{AreAtHand, AreTold, Differ, HaveExtents, IsGiven}
 use Rattle.mxf_read.specs.Given.{IsGivenAs, SourceParts, StandAt}
 use Rattle.mxf_read.specs.Differing.{AreCompared, AreJoined, DifferAt, GivesAll, GivesAt, IsCompared, IsDifferenceOf}
 use Rattle.mxf_read.specs.Differing.{IsOverlap, IsPartCompared, LiesInOne, run_of_difference, with_bytes}
-use Rattle.mxf_read.specs.Places.{AreApart, ArePlaces, IsPlaceOf, LiesInExtent, LiesInPlace, place}
+use Rattle.mxf_read.specs.Places.{AreApart, ArePlaces, LiesInExtent, LiesInPlace, place}
 use Rattle.mxf_read.specs.declared.given.Extent.{Extent}
 use Rattle.mxf_read.specs.declared.given.Place.{Place}
 use Rattle.mxf_read.specs.declared.given.differing.Difference.{Difference}

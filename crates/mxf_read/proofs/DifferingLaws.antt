@@ -1,7 +1,7 @@
 -- Differences as they are noted: what becomes of them where one more is noted, and that those which are joined by their
 -- first offsets are where sources differ.
-use Rattle.std.proofs.Common.{◌≡◌, ◌≢◌, ◌∙◌, ◌==◌, ◌&&◌, ◌↔◌, ◌⊎◌, ◌<◌, ◌≤◌, ◌+◌, ◌-◌, ℕ, zero, suc, List, [], ◌∷◌, ◌++◌}
-use Rattle.std.proofs.Common.{Bool, None, Some, true, false, if◌then◌else◌, get_or, length, map, max, nat_le, nat_lt}
+use Rattle.std.proofs.Common.{◌≡◌, ◌≢◌, ◌∙◌, ◌==◌, ◌↔◌, ◌⊎◌, ◌<◌, ◌≤◌, ◌+◌, ◌-◌, ℕ, zero, suc, List, [], ◌∷◌, ◌++◌}
+use Rattle.std.proofs.Common.{None, Some, true, false, if◌then◌else◌, get_or, length, map, max, nat_le, nat_lt}
 use Rattle.std.proofs.Common.{refl, sym, ap, subst, inl, inr, arith, eq-eqb, eqb-true, leb-true, le-leb, lt-ltb, ltb-true}
 use Rattle.std.specs.Prelude.{drop, min, Err, Ok, OnErr, OnOk, Result}
 use Rattle.std.proofs.lemmas.List.{at_drop_all}
@@ -13,12 +13,11 @@ use Rattle.std.specs.Prelude.{slice_get, slice_set}
 use Rattle.std.specs.List.{AllByRecursion}
 use Rattle.std.specs.List.Sorted.{IsNonDecreasingBy, IsPermutation}
 use Rattle.mxf_klv.specs.Rising.{In}
-use Rattle.mxf_klv.specs.Note.{greatest_end}
-use Rattle.mxf_klv.proofs.Lists.{Contains-from_In, In-append, In-from_Contains, In-map, all-In, all_from_In}
+use Rattle.mxf_klv.proofs.Lists.{Contains-from_In, In-from_Contains, In-map, all-In, all_from_In}
 use Rattle.mxf_catalogue.specs.declared.run.Run.{Run}
 use Rattle.mxf_catalogue.specs.Covers.{IsCover, union_of_runs, union_of_runs-IsUnion}
 use Rattle.mxf_catalogue.specs.Runs.{LiesIn}
-use Rattle.mxf_read.specs.Given.{Differ, Gives, IsDiffering, IsGivenAs, SourceParts}
+use Rattle.mxf_read.specs.Given.{Differ, IsDiffering, IsGivenAs, SourceParts}
 use Rattle.mxf_read.specs.Differing.{AreJoined, DifferAt, GivesAll, GivesAt, IsDifference, IsDifferenceOf, LiesInDifference}
 use Rattle.mxf_read.specs.Differing.{LiesInOne, difference, is_near, run_of_difference, with_all, with_bytes, with_near}
 use Rattle.mxf_read.specs.declared.given.differing.Difference.{Difference}
@@ -497,3 +496,10 @@ bytes_ended ds at n bytes others e =
     no_others : (xs : List ℕ) → with_bytes ds at xs [] ≡ ds
     no_others [] = refl
     no_others (x ∷ xs) = refl
+
+-- Of bytes beside themselves nothing is noted.
+pub bytes_alike : (ds : List Difference) (at : ℕ) (bytes : List ℕ) → with_bytes ds at bytes bytes ≡ ds
+bytes_alike ds at [] = refl
+bytes_alike ds at (a ∷ bytes) =
+    ap (λ c. with_bytes (if c then ds else with_near ds (difference at at)) (at + 1) bytes bytes) (eq-eqb a a refl)
+    ∙ bytes_alike ds (at + 1) bytes

@@ -1,15 +1,13 @@
 -- The places and overlaps of extents: what they are of spans that rise by their starts.
 use Rattle.std.proofs.Common.{◌≡◌, ◌∙◌, ◌↔◌, ◌⊎◌, ◌<◌, ◌≤◌, ◌+◌, ℕ, zero, suc, List, [], ◌∷◌, ◌++◌, Some, true, false}
-use Rattle.std.proofs.Common.{if◌then◌else◌, get_or, length, map, max, min, nat_lt}
+use Rattle.std.proofs.Common.{if◌then◌else◌, length, map, max, min, nat_lt}
 use Rattle.std.proofs.Common.{refl, sym, ap, subst, inl, inr, arith, lt-ltb, ltb-true}
 use Rattle.std.proofs.lemmas.Bool.{cases_lt}
 use Rattle.std.proofs.lemmas.List.Sorted.{Contains-permutation, IsPermutation-sym}
 use Rattle.std.proofs.lemmas.Option.{same_Some}
 use Rattle.std.specs.Prelude.{slice_get}
-use Rattle.std.specs.List.{AllByRecursion}
-use Rattle.std.specs.List.Sorted.{IsNonDecreasingBy, IsPermutation}
+use Rattle.std.specs.List.Sorted.{IsNonDecreasingBy}
 use Rattle.mxf_klv.specs.Rising.{In}
-use Rattle.mxf_klv.specs.Note.{greatest_end}
 use Rattle.mxf_klv.proofs.Lists.{Contains-from_In, In-append, In-from_Contains, In-map}
 use Rattle.mxf_catalogue.specs.declared.run.Run.{Run}
 use Rattle.mxf_catalogue.specs.Covers.{IsCover, IsRun, union_of_runs, union_of_runs-IsUnion, with_run}

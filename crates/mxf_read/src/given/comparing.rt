@@ -16,9 +16,8 @@ use mxf_catalogue::Cover;
 use std::alloc::Global;
 
 impl Given {
-    /// The offsets at hand: those that sources give and around which they don't differ. Each byte that several sources
-    /// give is read once of each of them, and once more of the first for each other; no other byte is read. They take
-    /// memory.
+    /// The offsets at hand: those that sources give and around which they don't differ. Where several sources give a
+    /// byte, that of the first is read beside that of each other; no other byte is read. They take memory.
     pub fn hand<S: Sources>(&self, alloc: Global, sources: &mut S) -> Result<Cover, SourceFault>
         ensures told { S.told sources.new ≡ S.told sources.old }
         ensures hand { (given : List SourceParts) → AreTold (S.told sources.old) self.now.extents given

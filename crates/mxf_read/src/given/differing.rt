@@ -64,6 +64,10 @@ impl Differing {
         requires { start + length bytes.now ≤ greatest_end }
         ensures { OnOk result (self.new ≡ with_bytes self.old start bytes.now others.now) }
     {
+        // Most are alike, and this is quick.
+        if bytes == others {
+            return Ok(());
+        }
         let mut at = start;
         for (byte, other) in bytes.iter().zip(others) {
             if byte != other {

@@ -1,4 +1,3 @@
-use Rattle.std.proofs.Common.{sym}
 use Rattle.mxf_read.proofs.PlacingLaws.{given_by_extents}
 use Rattle.mxf_read.proofs.given.Given.given.Goals as goal
 

@@ -1,6 +1,6 @@
 use Rattle.std.proofs.Common.{◌∙◌, [], List, ap, map, subst, sym}
 use Rattle.mxf_catalogue.specs.declared.run.Run.{Run}
-use Rattle.mxf_catalogue.specs.Covers.{IsRun, union_of_runs}
+use Rattle.mxf_catalogue.specs.Covers.{union_of_runs}
 use Rattle.mxf_klv.specs.Rising.{In}
 use Rattle.mxf_read.specs.Places.{ArePlaces, AreSpans, overlaps_below, places_above, run_of}
 use Rattle.mxf_read.specs.declared.given.Extent.{Extent}

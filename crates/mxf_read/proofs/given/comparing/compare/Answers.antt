@@ -1,4 +1,4 @@
-use Rattle.std.proofs.Common.{◌≡◌, ◌∙◌, ◌<◌, ◌≤◌, ◌+◌, List, ℕ, Option, arith, length, length-take, subst, sym, take}
+use Rattle.std.proofs.Common.{◌≡◌, ◌∙◌, ◌+◌, List, ℕ, Option, arith, length, length-take, subst, sym, take}
 use Rattle.mxf_read.specs.Differing.{IsCompared, IsPartCompared}
 use Rattle.mxf_read.specs.Given.{AreTold, SourceParts}
 use Rattle.mxf_read.specs.Places.{place}

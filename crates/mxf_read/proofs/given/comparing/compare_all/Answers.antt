@@ -1,4 +1,4 @@
-use Rattle.std.proofs.Common.{◌∙◌, List, Option, get_or, subst, sym}
+use Rattle.std.proofs.Common.{◌∙◌, List, Option, subst, sym}
 use Rattle.mxf_klv.proofs.Lists.{In-at}
 use Rattle.mxf_read.specs.Given.{AreTold, SourceParts}
 use Rattle.mxf_read.specs.Places.{place}

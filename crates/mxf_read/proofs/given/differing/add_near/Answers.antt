@@ -1,7 +1,7 @@
 use Rattle.std.proofs.Common.{◌≡◌, ◌-◌, List, None, Some, arith, ap, get_or, length, subst, sym, ◌∙◌}
 use Rattle.std.specs.Prelude.{slice_get, slice_set}
 use Rattle.std.proofs.lemmas.Option.{get_or_from_slice_get, slice_get_within}
-use Rattle.mxf_read.specs.Differing.{difference, with_near}
+use Rattle.mxf_read.specs.Differing.{difference}
 use Rattle.mxf_read.specs.declared.given.differing.Difference.{Difference}
 use Rattle.mxf_read.proofs.DifferingLaws.{with_near_behind, with_near_first, with_near_grown}
 use Rattle.mxf_read.proofs.given.differing.add_near.Goals as goal

@@ -1,4 +1,4 @@
-use Rattle.std.proofs.Common.{◌≡◌, ◌∙◌, ◌↔◌, [], List, ap, inr, subst, sym}
+use Rattle.std.proofs.Common.{◌∙◌, ◌↔◌, [], List, ap, subst, sym}
 use Rattle.std.specs.List.{AllByRecursion}
 use Rattle.mxf_catalogue.specs.declared.run.Run.{Run}
 use Rattle.mxf_catalogue.specs.Covers.{IsCover, IsRun}

@@ -1,4 +1,4 @@
-use Rattle.std.proofs.Common.{◌≡◌, ◌∙◌, [], List, ap, map, subst, sym}
+use Rattle.std.proofs.Common.{◌∙◌, List, map, subst, sym}
 use Rattle.std.proofs.lemmas.List.{at_drop_all}
 use Rattle.mxf_catalogue.specs.Covers.{IsCover, union_of_runs}
 use Rattle.mxf_read.specs.Differing.{run_of_difference}

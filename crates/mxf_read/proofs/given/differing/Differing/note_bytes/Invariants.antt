@@ -6,6 +6,6 @@ use Rattle.mxf_read.proofs.given.differing.Differing.note_bytes.Given as goal
 abbrev pub invariant-loop-byte : goal.invariant-loop-byte
 invariant-loop-byte l = record {
   at : l.at ≡ l.start + length l.yielded;
-  all : with_bytes l.self l.at (drop (length l.yielded) l.bytes) (drop (length l.yielded) l.others)
-      ≡ with_bytes l.fn.self l.start l.bytes l.others;
+  all : with_bytes l.self l.at (drop (length l.yielded) l.fn.bytes) (drop (length l.yielded) l.fn.others)
+      ≡ with_bytes l.fn.self l.start l.fn.bytes l.fn.others;
 }
