@@ -22,9 +22,9 @@ IsStart notes x = (n : NoteParts) × In n notes × (n.offset ≡ x)
 
 -- These packets and heads were read, and these packets were made.
 pub record Finds (f : Found) (packets made : List NoteParts) (heads : List CutHead) : Type 0 where
-  pub packets : f.packets ≡ reduced_union [] packets
-  pub made : f.made ≡ reduced_union [] made
-  pub heads : f.heads.items ≡ heads
+  pub read : f.packets ≡ reduced_union [] packets
+  pub put : f.made ≡ reduced_union [] made
+  pub cut : f.heads.items ≡ heads
   pub starts : (x : ℕ) → LiesIn f.starts x ↔ IsStart (read_notes packets heads) x
 
 -- What was found grows by these.

@@ -8,6 +8,7 @@ use Rattle.mxf_catalogue.specs.declared.run.Run.{Run}
 use Rattle.mxf_catalogue.specs.Runs.{LiesIn}
 use Rattle.mxf_read.specs.declared.given.Extent.{Extent}
 use Rattle.mxf_read.specs.Given.{AreAtHand, AreTold, IsGivenAs, SourceParts, bytes_between}
+use Rattle.mxf_read.specs.Places.{GivenParts}
 use Rattle.mxf_read.specs.Noting.{cut_heads, packet_notes}
 use Rattle.mxf_places.specs.AtHand.{has_offsets, up_to_bound}
 
@@ -20,6 +21,11 @@ pub record HandBytes : Type 0 where
 abbrev pub AreBytesAt : List SourceParts → List Run → (ℕ → ℕ) → Type 0
 AreBytesAt sources runs byte = (x b : ℕ) → LiesIn runs x → IsGivenAs sources x b → byte x ≡ b
 
+-- What contracts see of extents that were compared: the extents with what they give, and the offsets at hand.
+pub record HandParts : Type 0 where
+  pub given : GivenParts
+  pub runs : List Run
+
 -- They are the bytes at hand of sources.
 pub record AreOf (sources : List SourceParts) (h : HandBytes) : Type 0 where
   pub offsets : AreAtHand sources h.runs
@@ -29,8 +35,8 @@ pub record AreOf (sources : List SourceParts) (h : HandBytes) : Type 0 where
 pub record AreToldIn (told : Option (List SourceParts)) (extents : List Extent) (runs : List Run) (h : HandBytes)
     : Type 0 where
   pub sources : List SourceParts
-  pub told : AreTold told extents sources
-  pub runs : h.runs ≡ runs
+  pub are_told : AreTold told extents sources
+  pub lie : h.runs ≡ runs
   pub bytes : AreBytesAt sources runs h.byte
 
 -- The end of the run that has the offset: the first that ends above it, where it begins at or below it.
@@ -41,7 +47,7 @@ run_end runs x =
 -- The bytes of a reading from an offset on, as far as they are at hand, and up to an end where there is one; none where
 -- the offset isn't at hand.
 abbrev pub read_bytes : HandBytes → Option ℕ → ℕ → List ℕ
-read_bytes h end from = option_map_or (λ e. bytes_between h.byte from (up_to_bound e end)) [] (run_end h.runs from)
+read_bytes h end from = option_map_or (λ e. bytes_between h.byte from (up_to_bound e end)) (run_end h.runs from) []
 
 -- The notes of the whole packets of a reading.
 abbrev pub read_packets : HandBytes → Option ℕ → ℕ → List NoteParts

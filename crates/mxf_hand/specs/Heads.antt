@@ -32,6 +32,6 @@ fitting h notes first =
 
 -- A table has the heads of notes, in their order.
 pub record AreHeads (notes : List NoteParts) (heads : List HeadNote) : Type 0 where
-  pub notes : map (λ h. h.0.now) heads ≡ filter (λ n. not n.whole) notes
+  pub listed : map (λ h. h.0.now) heads ≡ filter (λ n. not n.whole) notes
   pub rising : IsNonDecreasingBy (λ h. h.0.now.offset) heads
   pub members : AllByRecursion IsNote notes

@@ -54,7 +54,7 @@ unfoldable pub round : HandBytes → List NoteParts → List NoteParts
 round h notes = reduced_union notes (taken_in h notes (sections_of notes))
 
 -- The content after so many rounds.
-abbrev pub rounds : ℕ → HandBytes → List NoteParts → List NoteParts
+unfoldable pub rounds : ℕ → HandBytes → List NoteParts → List NoteParts
 rounds zero h notes = notes
 rounds (suc count) h notes = rounds count h (round h notes)
 

@@ -21,15 +21,15 @@ from_of h notes p = read_from (start_of notes p.first) (fitting h notes p.first)
 
 -- The notes of the whole packets that are read of a section.
 abbrev pub packets_of : HandBytes → List NoteParts → Section → List NoteParts
-packets_of h notes p = option_map_or (read_packets h p.end) [] (from_of h notes p)
+packets_of h notes p = option_map_or (read_packets h p.end) (from_of h notes p) []
 
 -- The head of the packet that is cut where its reading ends.
 abbrev pub heads_of : HandBytes → List NoteParts → Section → List NoteParts
-heads_of h notes p = option_map_or (read_heads h p.end) [] (from_of h notes p)
+heads_of h notes p = option_map_or (read_heads h p.end) (from_of h notes p) []
 
 -- The end of a packet lies in a hole.
 abbrev pub ends_within : Option ℕ → NoteParts → Bool
-ends_within end n = option_map_or (λ e. nat_le (end_of n) e) true end
+ends_within end n = option_map_or (λ e. nat_le (end_of n) e) end true
 
 -- The packet of the one head that fits, where its value is at hand and lies in the hole.
 abbrev pub made_by : HandBytes → Option ℕ → List NoteParts → List NoteParts

@@ -13,14 +13,26 @@ use mxf_klv::Note;
 use mxf_places::{AtHand, up_to_bound};
 use mxf_read::{Given, Reading, SourceFault, Sources};
 use std::alloc::Global;
+use std::marker::Model;
 
 /// The extents of sources, and which of their offsets are at hand.
 #[derive(Debug, Drop)]
 pub(crate) struct Hand {
-    pub given: Given,
-    pub runs: Cover,
+    given: Given,
+    runs: Cover,
+}
 
-    ghost within: { (x : ℕ) → LiesIn runs x → LiesIn given.given x },
+impl Model for Hand {
+    ghost use Rattle.mxf_catalogue.specs.Covers.{IsCover};
+    ghost use Rattle.mxf_catalogue.specs.Runs.{LiesIn};
+    ghost use Rattle.mxf_hand.specs.Hand.{HandParts};
+    ghost use Rattle.std.specs.Prelude.{ℕ};
+
+    ghost Value = { HandParts };
+
+    ghost view = { λ h. record { given = h.given; runs = h.runs } };
+
+    ghost invariant = { λ h. IsCover h.runs × ((x : ℕ) → LiesIn h.runs x → LiesIn h.given.given x) };
 }
 
 impl Hand {

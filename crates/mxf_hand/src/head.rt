@@ -52,7 +52,7 @@ impl<'a> Heads<'a> {
         ensures { IfOk result (λ h. h ≡ catalogue.now) }
     {
         let heads = catalogue.notes().filter(|note| note.is_head());
-        let heads = heads.map(HeadNote).collect(alloc)?;
+        let heads = heads.map(|note| HeadNote(note)).collect(alloc)?;
         Ok(Heads { catalogue, heads })
     }
 
@@ -94,12 +94,14 @@ pub(crate) fn key_and_length(alloc: Global, head: &Note) -> Result<Vec<u8>, OutO
 
 /// Whether these bytes stand behind so many of some others.
 pub(crate) fn stand_at(bytes: &[u8], from: usize, others: &[u8]) -> bool
-    requires { from + length bytes.now ≤ length others.now }
     ensures agree { result ≡ true
         → (i : ℕ) → i < length bytes.now → get_or others.now (from + i) 0 ≡ get_or bytes.now i 0 }
-    ensures differ { result ≡ false
+    ensures differ { result ≡ false → from + length bytes.now ≤ length others.now
         → (i : ℕ) × (i < length bytes.now) × (get_or others.now (from + i) 0 ≢ get_or bytes.now i 0) }
 {
+    if from > others.len() || bytes.len() > others.len() - from {
+        return false;
+    }
     for (i, byte) in bytes.iter().enumerate() {
         if others[from + i] != *byte {
             return false;

@@ -1,7 +1,8 @@
 //! Putting packets together, round after round.
-ghost use Rattle.std.specs.Prelude.{◌≡◌, ◌⊎◌, ℕ, List, Option, IfOk, OnOk, [], ◌++◌};
+ghost use Rattle.std.specs.Prelude.{◌≡◌, ◌⊎◌, ℕ, List, IfOk, OnOk, true};
 ghost use Rattle.mxf_klv.specs.Parts.{NoteParts};
-ghost use Rattle.mxf_catalogue.specs.Runs.{LiesIn};
+ghost use Rattle.mxf_klv.specs.Rising.{In};
+ghost use Rattle.mxf_catalogue.specs.Content.{has_note, reduced_union};
 ghost use Rattle.mxf_read.specs.Given.{AreTold, SourceParts};
 ghost use Rattle.mxf_hand.specs.Finding.{Finds};
 ghost use Rattle.mxf_hand.specs.Hand.{AreOf, AreToldIn, HandBytes};
@@ -85,13 +86,45 @@ fn add_new(views: &mut Views, notes: Catalogue) -> Result<bool, OutOfMemory>
     ensures added { OnOk result (views.new ≡ reduced_union views.old notes) }
     ensures none { IfOk result (λ is_new. (is_new ≡ true) ⊎ (views.new ≡ views.old)) }
 {
-    if notes.notes().all(|note| views.catalogue().has(note)) {
+    if has_all(views.catalogue(), &notes) {
         return Ok(false);
     }
     match views.merge(notes) {
         Ok(()) => Ok(true),
         Err(_) => Err(OutOfMemory),
     }
+}
+
+/// Whether a catalogue has all of these notes, or packets in the places of their heads.
+fn has_all(catalogue: &Catalogue, notes: &Catalogue) -> bool
+    ensures { result ≡ true → (n : NoteParts) → In n notes.now → has_note catalogue.now n }
+{
+    for note in notes.notes() {
+        if !catalogue.has(note) {
+            return false;
+        }
+    }
+    true
+}
+
+/// What is held after so many rounds at most.
+fn rounds<S: Sources>(
+    alloc: Global,
+    hand: &Hand,
+    sources: &mut S,
+    held: Views,
+) -> Result<Views, SourceFault>
+    ensures told { S.told sources.new ≡ S.told sources.old }
+    ensures rounds { (h : HandBytes) → AreToldIn (S.told sources.old) hand.now.given.extents hand.now.runs h
+        → IfOk result (λ views. views ≡ put_together h held) }
+{
+    let mut views = held;
+    for number in 0..GREATEST_ROUNDS {
+        if !round(alloc, hand, sources, &mut views)? {
+            return Ok(views);
+        }
+    }
+    Ok(views)
 }
 
 /// Puts together packets of bytes at hand: what lies over the border of two sources, and what is held as a head alone.
@@ -112,12 +145,7 @@ pub fn put_together<S: Sources>(
     ensures given { IfOk result (λ p. p.at_hand.given ≡ given.given) }
 {
     let hand = Hand::of(alloc, given, sources)?;
-    let mut views = views;
-    for _ in 0..GREATEST_ROUNDS {
-        if !round(alloc, &hand, sources, &mut views)? {
-            break;
-        }
-    }
+    let views = rounds(alloc, &hand, sources, views)?;
     let at_hand = hand.into_at_hand();
     Ok(PutTogether { views, at_hand })
 }

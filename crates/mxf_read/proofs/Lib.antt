@@ -12,5 +12,8 @@ pub mod Tellings
 pub mod GatheringLaws
 pub mod PlaceLaws
 pub mod PlacingLaws
+pub mod DifferingLaws
+pub mod ComparingLaws
+pub mod OutsideLaws
 mod ComingLaws
 mod Walks

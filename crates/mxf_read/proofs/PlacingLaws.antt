@@ -16,14 +16,11 @@ use Rattle.mxf_catalogue.specs.Covers.{IsCover, IsRun, union_of_runs, union_of_r
 use Rattle.mxf_catalogue.specs.Runs.{LiesIn}
 use Rattle.mxf_catalogue.proofs.CoverLaws.{IsCover-with_run}
 use Rattle.mxf_read.specs.Places.{AreApart, ArePlaces, AreSpans, GivenParts, IsPlaceOf, LiesInExtent, LiesInPlace, overlaps_below}
-use Rattle.mxf_read.specs.Places.{places_above, run_of, some_place, spans_from}
+use Rattle.mxf_read.specs.Places.{place, places_above, run_of, some_place, spans_from}
 use Rattle.mxf_read.specs.declared.given.Extent.{Extent}
 use Rattle.mxf_read.specs.declared.given.Place.{Place}
 
 -- ---- one place, where it has an offset
-
-abbrev place : ℕ → ℕ → ℕ → Place
-place start end source = record { start = start; end = end; source = source }
 
 some_is : (s e n : ℕ) (p : Place) → In p (some_place s e n) → (p ≡ place s e n) × (s < e)
 some_is s e n p h =
@@ -258,7 +255,7 @@ covered low r (s ∷ spans) P rise f q x (inr h) l =
 
 -- ---- the cover of places
 
-IsCover-all : (runs others : List Run) → IsCover runs → ((r : Run) → In r others → IsRun r)
+pub IsCover-all : (runs others : List Run) → IsCover runs → ((r : Run) → In r others → IsRun r)
     → IsCover (union_of_runs runs others)
 IsCover-all runs [] c f = c
 IsCover-all runs (s ∷ others) c f =

@@ -31,7 +31,7 @@ got (y ∷ xs) zero x e = let same : y ≡ x = cc in inl (sym same)
 got (y ∷ xs) (suc i) x e = inr (got xs i x e)
 
 -- the source and the extent with one number lie at one offset
-same_offset : (sources : List SourceParts) (extents : List Extent) (i : ℕ) (s : SourceParts) (e : Extent)
+pub same_offset : (sources : List SourceParts) (extents : List Extent) (i : ℕ) (s : SourceParts) (e : Extent)
     → HaveExtents sources extents → slice_get sources i ≡ Some s → slice_get extents i ≡ Some e → s.offset ≡ e.offset
 same_offset [] [] i s e h p q = absurd cc
 same_offset [] (f ∷ extents) i s e h p q = absurd h
@@ -44,13 +44,13 @@ same_offset (t ∷ sources) (f ∷ extents) (suc i) s e h p q = same_offset sour
 
 -- ---- the bytes
 
-first_there : (xs bytes more : List ℕ) (n b : ℕ) → drop n xs ≡ (b ∷ bytes) ++ more → slice_get xs n ≡ Some b
+pub first_there : (xs bytes more : List ℕ) (n b : ℕ) → drop n xs ≡ (b ∷ bytes) ++ more → slice_get xs n ≡ Some b
 first_there [] bytes more zero b e = absurd cc
 first_there [] bytes more (suc n) b e = absurd cc
 first_there (x ∷ xs) bytes more zero b e = let same : x ≡ b = cc in ap (λ (y : ℕ). Some y) same
 first_there (x ∷ xs) bytes more (suc n) b e = first_there xs bytes more n b e
 
-rest_there : (xs bytes more : List ℕ) (n b : ℕ) → drop n xs ≡ (b ∷ bytes) ++ more → drop (n + 1) xs ≡ bytes ++ more
+pub rest_there : (xs bytes more : List ℕ) (n b : ℕ) → drop n xs ≡ (b ∷ bytes) ++ more → drop (n + 1) xs ≡ bytes ++ more
 rest_there xs bytes more n b e =
     sym (drop-drop 1 n xs) ∙ ap (drop 1) e
 

@@ -8,5 +8,7 @@ pub mod Levels
 pub mod Gathering
 pub mod Given
 pub mod Places
+pub mod Differing
+pub mod Outside
 pub mod Noting
 pub mod InMemory

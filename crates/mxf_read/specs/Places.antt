@@ -51,10 +51,12 @@ pub record ArePlaces (extents : List Extent) (places overlapping : List Place) (
 
 -- The same as functions of the extents.
 
+abbrev pub place : ℕ → ℕ → ℕ → Place
+place start end source = record { start = start; end = end; source = source }
+
 -- From a start up to an end, where that has an offset.
 abbrev pub some_place : ℕ → ℕ → ℕ → List Place
-some_place start end source =
-    if nat_lt start end then record { start = start; end = end; source = source } ∷ [] else []
+some_place start end source = if nat_lt start end then place start end source ∷ [] else []
 
 -- All offsets of each extent, from the source with a number on.
 abbrev pub spans_from : ℕ → List Extent → List Place

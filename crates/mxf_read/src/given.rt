@@ -4,9 +4,11 @@ ghost use Rattle.mxf_klv.specs.Note.{greatest_end};
 ghost use Rattle.mxf_read.specs.Gathering.{piece_limit};
 
 mod comparing;
+mod differing;
 mod finding;
 mod in_memory;
 mod noting;
+mod outside;
 mod placing;
 mod sources;
 mod stepping;

@@ -28,7 +28,7 @@ impl Given {
 }
 
 /// The one of the places that has the offset.
-fn place_in(places: &[Place], offset: u64) -> Option<Place>
+pub(super) fn place_in(places: &[Place], offset: u64) -> Option<Place>
     requires apart { AreApart 0 places.now }
     requires some { (p : Place) → In p places.now → p.start < p.end }
     ensures some { IfSome result (λ p. In p places.now × LiesInPlace p offset) }

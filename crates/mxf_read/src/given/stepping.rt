@@ -38,7 +38,7 @@ impl Given {
 }
 
 /// Reads once of a source behind its first `position` bytes. An interrupted read is repeated, 1,024 times at most.
-fn read_source<S: Sources>(
+pub(super) fn read_source<S: Sources>(
     sources: &mut S,
     source_number: usize,
     position: u64,

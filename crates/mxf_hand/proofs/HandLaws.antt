@@ -1,0 +1,101 @@
+-- Runs of bytes at hand.
+use Rattle.std.proofs.Common.{◌≡◌, ◌∙◌, ◌≤◌, ◌<◌, ◌+◌, ◌-◌, ◌&&◌, ◌||◌, ◌==◌, ◌⊎◌, ℕ, zero, suc, Bool, true, false, List}
+use Rattle.std.proofs.Common.{[], ◌∷◌, Option, None, Some, ap, arith, cond, filter, find, get_or, inl, inr, map, nat_le}
+use Rattle.std.proofs.Common.{nat_lt, not, refl, subst, sym}
+use Rattle.std.proofs.lemmas.Bool.{leb-true, ltb-true, ltb-false}
+use Rattle.std.specs.List.{list_all, range_with_len}
+use Rattle.std.specs.Option.{option_and_then}
+use Rattle.mxf_klv.specs.Parts.{NoteParts}
+use Rattle.mxf_klv.specs.Rising.{In}
+use Rattle.mxf_klv.proofs.Lists.{In-list_all, found-In, list_all-In}
+use Rattle.mxf_klv.proofs.Tests.{equals_itself}
+use Rattle.mxf_catalogue.specs.declared.run.Run.{Run}
+use Rattle.mxf_catalogue.specs.Covers.{is_between}
+use Rattle.mxf_catalogue.specs.Runs.{LiesIn}
+use Rattle.mxf_places.specs.AtHand.{has_offset}
+use Rattle.mxf_places.proofs.AtHandLaws.{has_offset-says}
+use Rattle.mxf_hand.specs.Hand.{HandBytes, run_end}
+use Rattle.mxf_hand.specs.Heads.{fits, key_and_length}
+
+-- The first run that ends above an offset is the first of those that lie behind it.
+pub first_above : (runs left : List Run) (x : ℕ) (r : Run) → filter (is_between x None) runs ≡ r ∷ left
+    → find (λ s. nat_lt x s.end) runs ≡ Some r
+first_above [] left x r e = absurd cc
+first_above (s ∷ runs) left x r e =
+    elim (nat_lt x s.end) as (λ b. cond (b && true) (s ∷ filter (is_between x None) runs)
+    (filter (is_between x None) runs) ≡ r ∷ left
+    → cond b (Some s) (find (λ s. nat_lt x s.end) runs) ≡ Some r) [
+      | true ↦ λ h. cc (h)
+      | false ↦ λ h. first_above runs left x r h
+    ] e
+
+pub none_above : (runs : List Run) (x : ℕ) → filter (is_between x None) runs ≡ []
+    → find (λ s. nat_lt x s.end) runs ≡ None
+none_above [] x e = refl
+none_above (s ∷ runs) x e =
+    elim (nat_lt x s.end) as (λ b. cond (b && true) (s ∷ filter (is_between x None) runs)
+    (filter (is_between x None) runs) ≡ []
+    → cond b (Some s) (find (λ s. nat_lt x s.end) runs) ≡ None) [
+      | true ↦ λ h. absurd cc
+      | false ↦ λ h. none_above runs x h
+    ] e
+
+-- Where an offset is at hand, all behind it are up to the end of its run.
+pub run_lies : (runs : List Run) (x e y : ℕ) → run_end runs x ≡ Some e → x ≤ y → y < e → LiesIn runs y
+run_lies runs x e y h from before =
+    let p = λ (s : Run). nat_lt x s.end in
+    let f = λ (s : Run). cond (nat_le s.start x) (Some s.end) None in
+    elim (find p runs) as (λ o. find p runs ≡ o → option_and_then f o ≡ Some e → LiesIn runs y) [
+      | None ↦ λ is k. absurd cc
+      | Some r ↦ λ is k.
+          let i = (found-In p runs r is).0 in
+          elim (nat_le r.start x) as (λ b. nat_le r.start x ≡ b → cond b (Some r.end) None ≡ Some e
+          → LiesIn runs y) [
+            | true ↦ λ le s.
+                let low : r.start ≤ x = leb-true _ _ le in
+                let high : r.end ≡ e = cc (s) in (r, i, record { from = omega arith; before = omega arith })
+            | false ↦ λ le s. absurd cc
+          ] refl k
+    ] refl h
+
+-- A number of a range.
+pub in_range : (a n x : ℕ) → a ≤ x → x < a + n → In x (range_with_len a n)
+in_range a zero x from before = absurd (omega arith)
+in_range a (suc n) x from before =
+    elim (nat_lt a x) as (λ b. nat_lt a x ≡ b → In x (a ∷ range_with_len (suc a) n)) [
+      | true ↦ λ e. inr (in_range (suc a) n x (let h : a < x = ltb-true _ _ e in omega arith) (omega arith))
+      | false ↦ λ e. inl (let h : x ≤ a = ltb-false _ _ e in omega arith)
+    ] refl
+
+pub range_in : (a n x : ℕ) → In x (range_with_len a n) → (a ≤ x) × (x < a + n)
+range_in a zero x i = absurd i
+range_in a (suc n) x (inl e) = (omega arith, omega arith)
+range_in a (suc n) x (inr i) = let h = range_in (suc a) n x i in (omega arith, omega arith)
+
+-- The test whether a head fits, and what it says of each offset of its key and length.
+pub fits_at : (h : HandBytes) (n : NoteParts) → fits h n ≡ true → (x : ℕ) → n.offset ≤ x
+    → x < n.offset + (16 + n.width)
+    → LiesIn h.runs x → h.byte x ≡ get_or (key_and_length n) (x - n.offset) 0
+unfolding fits
+fits_at h n all x from before lies =
+    let says = list_all-In (λ x. not (has_offset h.runs x) || (h.byte x == get_or (key_and_length n) (x - n.offset) 0))
+    (range_with_len n.offset (16 + n.width)) x all (in_range n.offset (16 + n.width) x from before) in
+    let has = (has_offset-says h.runs x).1 lies in
+    let same : (h.byte x == get_or (key_and_length n) (x - n.offset) 0) ≡ true =
+    subst (λ (b : Bool). (not b || (h.byte x == get_or (key_and_length n) (x - n.offset) 0)) ≡ true) has says in
+    (equals_itself (h.byte x) (get_or (key_and_length n) (x - n.offset) 0)).0 same
+
+pub at_fits : (h : HandBytes) (n : NoteParts) → ((x : ℕ) → n.offset ≤ x → x < n.offset + (16 + n.width)
+    → LiesIn h.runs x → h.byte x ≡ get_or (key_and_length n) (x - n.offset) 0) → fits h n ≡ true
+unfolding fits
+at_fits h n all =
+    In-list_all (λ x. not (has_offset h.runs x) || (h.byte x == get_or (key_and_length n) (x - n.offset) 0))
+    (range_with_len n.offset (16 + n.width))
+    (λ x i.
+    let bounds = range_in n.offset (16 + n.width) x i in
+    elim (has_offset h.runs x) as (λ b. has_offset h.runs x ≡ b
+    → (not b || (h.byte x == get_or (key_and_length n) (x - n.offset) 0)) ≡ true) [
+      | true ↦ λ e. (equals_itself (h.byte x) (get_or (key_and_length n) (x - n.offset) 0)).1
+          (all x bounds.0 bounds.1 ((has_offset-says h.runs x).0 e))
+      | false ↦ λ e. refl
+    ] refl)

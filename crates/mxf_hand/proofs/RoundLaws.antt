@@ -1,0 +1,58 @@
+-- Rounds, and contents to which notes are added in two steps.
+use Rattle.std.proofs.Common.{◌≡◌, ◌∙◌, ℕ, zero, suc, ◌-◌, ◌<◌, List, [], ◌∷◌, ◌++◌, ap, arith, inl, inr, refl, sym}
+use Rattle.mxf_klv.specs.Parts.{NoteParts}
+use Rattle.mxf_klv.specs.Rising.{In}
+use Rattle.mxf_catalogue.specs.Content.{AreReduced, IsContent, has_note, reduced_union, reduced_with}
+use Rattle.mxf_catalogue.proofs.HeadLaws.{AreReduced-reduced_union, IsContent-reduced_union, has-reduced_union}
+use Rattle.mxf_catalogue.proofs.HeadLaws.{one_reduced, reduced_with-present}
+use Rattle.mxf_hand.specs.Hand.{HandBytes}
+use Rattle.mxf_hand.specs.Rounds.{put_together, round, rounds}
+
+-- What a catalogue of some notes has, added to a content, adds these notes.
+pub added_at_once : (a b : List NoteParts) → IsContent a → AreReduced a
+    → reduced_union a (reduced_union [] b) ≡ reduced_union a b
+added_at_once a b r p =
+    one_reduced (reduced_union a (reduced_union [] b)) (reduced_union a b)
+    (IsContent-reduced_union a (reduced_union [] b) r) (IsContent-reduced_union a b r)
+    (AreReduced-reduced_union a (reduced_union [] b) p) (AreReduced-reduced_union a b p)
+    (λ n.
+    let both = has-reduced_union n a (reduced_union [] b) in
+    let one = has-reduced_union n [] b in
+    let plain = has-reduced_union n a b in (
+      λ h. plain.1 (elim (both.0 h) [
+        | inl k ↦ inl k
+        | inr k ↦ elim (one.0 k) [ inl none ↦ elim none [ inl i ↦ absurd i | inr s ↦ absurd s.1 ] | inr m ↦ inr m ]
+      ]),
+      λ h. both.1 (elim (plain.0 h) [ inl k ↦ inl k | inr k ↦ inr (one.1 (inr k)) ]),
+    ))
+
+-- Notes that a content has add nothing.
+pub nothing_new : (a b : List NoteParts) → IsContent a → AreReduced a → ((n : NoteParts) → In n b → has_note a n)
+    → reduced_union a b ≡ a
+nothing_new a [] r p all = refl
+nothing_new a (n ∷ b) r p all =
+    ap (λ (c : List NoteParts). reduced_union c b) (reduced_with-present n a r p (all n (inl refl)))
+    ∙ nothing_new a b r p (λ m i. all m (inr i))
+
+-- A round more.
+pub round_more : (h : HandBytes) (notes : List NoteParts) (count left : ℕ) → count ≡ suc left
+    → rounds count h notes ≡ rounds left h (round h notes)
+unfolding rounds
+round_more h notes count left e = ap (λ (k : ℕ). rounds k h notes) e
+
+-- No round.
+pub no_round : (h : HandBytes) (notes : List NoteParts) (count : ℕ) → count ≡ 0 → rounds count h notes ≡ notes
+unfolding rounds
+no_round h notes count e = ap (λ (k : ℕ). rounds k h notes) e
+
+-- Behind a round that changes nothing none does.
+pub rounds_end : (h : HandBytes) (notes : List NoteParts) (count : ℕ) → round h notes ≡ notes
+    → rounds count h notes ≡ notes
+unfolding rounds
+rounds_end h notes zero e = refl
+rounds_end h notes (suc count) e = ap (rounds count h) e ∙ rounds_end h notes count e
+
+-- What is put together is what 64 rounds leave.
+pub all_rounds : (h : HandBytes) (notes : List NoteParts) → put_together h notes ≡ rounds 64 h notes
+unfolding put_together
+all_rounds h notes = refl

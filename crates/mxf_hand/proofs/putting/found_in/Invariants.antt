@@ -1,0 +1,21 @@
+-- What is found so far, with what the sections that are to come give.
+use Rattle.std.proofs.Common.{◌≡◌, ◌++◌, List, drop}
+use Rattle.mxf_klv.specs.Parts.{NoteParts}
+use Rattle.mxf_hand.specs.Finding.{Finds}
+use Rattle.mxf_hand.specs.Hand.{AreToldIn, HandBytes}
+use Rattle.mxf_hand.specs.Rounds.{made_in, packets_in, read_heads_in}
+use Rattle.mxf_hand.specs.declared.found.CutHead.{CutHead}
+use Rattle.mxf_hand.proofs.putting.found_in.Given as goal
+
+abbrev pub invariant-loop-section : goal.invariant-loop-section
+invariant-loop-section g l =
+    (g.S.Sources.told l.sources ≡ g.S.Sources.told l.initial.sources)
+    × ((h : HandBytes)
+    → AreToldIn (g.S.Sources.told l.initial.sources) l.hand.given.extents l.hand.runs h
+    → (packets : List NoteParts) × (made : List NoteParts) × (heads : List CutHead)
+    × Finds l.found packets made heads
+    × (packets ++ packets_in h l.views (drop l.section-index l.sections.items)
+    ≡ packets_in h l.views l.sections.items)
+    × (made ++ made_in h l.views (drop l.section-index l.sections.items) ≡ made_in h l.views l.sections.items)
+    × (heads ++ read_heads_in h l.views (drop l.section-index l.sections.items)
+    ≡ read_heads_in h l.views l.sections.items))
