@@ -8,6 +8,7 @@ pub mod SavedLaws
 pub mod Starts
 pub mod RangeLaws
 pub mod ReadBytes
+pub mod NotingLaws
 pub mod Tellings
 pub mod GatheringLaws
 pub mod PlaceLaws

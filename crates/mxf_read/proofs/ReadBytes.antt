@@ -1,25 +1,16 @@
 -- Bytes that stand in a source are those that it gives.
 use Rattle.std.proofs.Common.{◌≡◌, ◌+◌, ◌-◌, ◌<◌, ◌≤◌, ◌++◌, ℕ, zero, suc, List, [], ◌∷◌, Option, Some, refl, sym, ap}
-use Rattle.std.proofs.Common.{◌∙◌, subst, arith, inl, inr, length, drop, get_or, take, map, length-append, length-take}
-use Rattle.std.specs.Prelude.{slice_get, IfOk, IfSome, Result, Ok, Err, Bool, false, if◌then◌else◌}
-use Rattle.std.specs.Option.{SomeIff}
+use Rattle.std.proofs.Common.{◌∙◌, subst, arith, inl, inr, length, drop, get_or, take, map, length-take}
+use Rattle.std.specs.Prelude.{slice_get, IfOk, IfSome, Result, Ok, Err}
 use Rattle.std.specs.List.{range_with_len}
 use Rattle.std.proofs.lemmas.List.{drop-drop, take-append-le}
 use Rattle.std.proofs.lemmas.List.FromFn.{length-map-range_with_len}
 use Rattle.std.proofs.lemmas.Option.{slice_get_read, slice_get_within}
-use Rattle.mxf_klv.specs.Parts.{CanSpell, LengthParts, NoteParts, packet_parts}
-use Rattle.mxf_klv.specs.Note.{IsNote, covered_end, end_of, note_of}
-use Rattle.mxf_klv.specs.PieceReading.{heads_at, rest_in}
 use Rattle.mxf_klv.specs.Rising.{In}
-use Rattle.mxf_read.specs.Coming.{HasTaken, IsSamePacket}
-use Rattle.mxf_read.specs.Feeding.{Tells, begun_heads}
 use Rattle.mxf_read.specs.Given.{AreBytesOf, AreTold, Gives, HaveExtents, ReadsAt, SourceParts, StandAt, bytes_between}
-use Rattle.mxf_read.specs.Noting.{IsReading, option_list}
 use Rattle.mxf_read.specs.Places.{IsPlaceOf, LiesInPlace}
-use Rattle.mxf_read.specs.declared.coming.ComingValue.{ComingValue}
 use Rattle.mxf_read.specs.declared.given.Extent.{Extent}
 use Rattle.mxf_read.specs.declared.given.Place.{Place}
-use Rattle.mxf_read.specs.declared.piece.Piece.{Piece}
 use Rattle.mxf_read.specs.declared.reading.Step.TheVariants.{Took}
 
 -- ---- a source by its number
@@ -44,6 +35,7 @@ same_offset (t ∷ sources) (f ∷ extents) (suc i) s e h p q = same_offset sour
 
 -- ---- the bytes
 
+-- the first of bytes that stand behind so many, and the others
 pub first_there : (xs bytes more : List ℕ) (n b : ℕ) → drop n xs ≡ (b ∷ bytes) ++ more → slice_get xs n ≡ Some b
 first_there [] bytes more zero b e = absurd cc
 first_there [] bytes more (suc n) b e = absurd cc
@@ -51,8 +43,7 @@ first_there (x ∷ xs) bytes more zero b e = let same : x ≡ b = cc in ap (λ (
 first_there (x ∷ xs) bytes more (suc n) b e = first_there xs bytes more n b e
 
 pub rest_there : (xs bytes more : List ℕ) (n b : ℕ) → drop n xs ≡ (b ∷ bytes) ++ more → drop (n + 1) xs ≡ bytes ++ more
-rest_there xs bytes more n b e =
-    sym (drop-drop 1 n xs) ∙ ap (drop 1) e
+rest_there xs bytes more n b e = sym (drop-drop 1 n xs) ∙ ap (drop 1) e
 
 -- bytes that stand in a source from an offset on
 read_bytes : (sources : List SourceParts) (s : SourceParts) (byte : ℕ → ℕ) (bytes more : List ℕ) (at : ℕ)
@@ -102,6 +93,7 @@ read_front told extents number at n e front rest is from (some, within, stands) 
     ∙ are_read told extents sources byte number at n e (take n front) are is from
     (omega (arith, length-take n front)) stands of
 
+-- the same of what a read came to
 pub ok_read : {E : Type 0} (told : Option (List SourceParts)) (extents : List Extent) (number at : ℕ) (e : Extent)
     (front rest : List ℕ) (r : Result ℕ E) → slice_get extents number ≡ Some e → e.offset ≤ at
     → IfOk r (λ n. ReadsAt told number (at - e.offset) front (Took n))
@@ -122,6 +114,7 @@ extent_there own items p e same there is =
     let one : there.extent ≡ e = cc in
     (read, subst (λ (x : Extent). x.offset ≤ p.start) one there.from)
 
+-- the place that was found
 pub found_place : (own : List Extent) (x : ℕ) (r : Option Place) (p : Place) → r ≡ Some p
     → IfSome r (λ q. IsPlaceOf own q × LiesInPlace q x) → IsPlaceOf own p × LiesInPlace p x
 found_place own x r p e found =
@@ -129,6 +122,7 @@ found_place own x r p e found =
 
 -- ---- one read after another
 
+-- so many offsets, and so many others behind them
 range_more : (byte : ℕ → ℕ) (from m n : ℕ)
     → map byte (range_with_len from m) ++ map byte (range_with_len (from + m) n) ≡ map byte (range_with_len from (m + n))
 range_more byte from zero n =
@@ -151,14 +145,16 @@ between_more byte from at to h k =
     ap (λ (j : ℕ). bytes_between byte from at ++ map byte (range_with_len j (to - at))) here
     ∙ range_more byte from (at - from) (to - at) ∙ ap (λ (j : ℕ). map byte (range_with_len from j)) all
 
-pub between_none : (byte : ℕ → ℕ) (at : ℕ) → [] ≡ bytes_between byte at at
-between_none byte at =
-    let none : 0 ≡ at - at = omega arith in
-    ap (λ (k : ℕ). map byte (range_with_len at k)) none
-
 -- as many as there are offsets
 pub between_len : (byte : ℕ → ℕ) (from to : ℕ) → length (bytes_between byte from to) ≡ to - from
 between_len byte from to = length-map-range_with_len byte from (to - from)
+
+-- so many offsets from one on are those up to an end, where that doesn't lie below
+pub between_size : (byte : ℕ → ℕ) (from to n : ℕ) → n ≡ to - from
+    → bytes_between byte from (from + n) ≡ bytes_between byte from to
+between_size byte from to n e =
+    let same : from + n - from ≡ to - from = omega arith in
+    ap (λ (k : ℕ). map byte (range_with_len from k)) same
 
 -- the others follow what was read
 pub so_far_all : (byte : ℕ → ℕ) (from at to : ℕ) (done : List ℕ) → from ≤ at → at ≤ to
@@ -188,69 +184,11 @@ so_far_more told before own from to at n done part same h k so_far here given by
     let last = here given byte told_are (λ x b l m. of x b (omega arith) (omega arith)) in
     (λ i. first i ++ last i) ∙ between_more byte from at (at + n) h (omega arith)
 
--- what was added is the front of the room
-pub grown : (new old room rest : List ℕ) (n : ℕ) → new ≡ old ++ take n (room ++ rest) → n ≤ length room
-    → new ≡ old ++ take n room
-grown new old room rest n e h = e ∙ ap (λ (t : List ℕ). old ++ t) (take-append-le n room rest h)
-
--- ---- what the reads are fed to
-
 -- so many bytes at the front of the room
 pub front_len : (n : ℕ) (room : List ℕ) → n ≤ length room → length (take n room) ≡ n
 front_len n room h = omega (arith, length-take n room)
 
--- of a value so many bytes less are to come
-pub left_less : (v w : ComingValue) (done part : List ℕ) (n : ℕ) → IsSamePacket v w → HasTaken v done
-    → HasTaken w (done ++ part) → length part ≡ n → w.left + n ≡ v.left
-left_less v w done part n same before after len =
-    let total = ap (λ (l : LengthParts). l.value) same.spelled in
-    let a = before.counted in
-    let b = after.counted in
-    omega (arith, length-append done part)
-
-pub same_packet : (u v w : ComingValue) → IsSamePacket u v → IsSamePacket v w → IsSamePacket u w
-same_packet u v w a b = record {
-  offset = b.offset ∙ a.offset;
-  key = b.key ∙ a.key;
-  spelled = b.spelled ∙ a.spelled;
-}
-
--- a head covers key and length
-pub covered_head : (n : NoteParts) → n.whole ≡ false → covered_end n ≡ n.offset + 16 + n.width
-covered_head n e = ap (λ (b : Bool). if b then end_of n else n.offset + 16 + n.width) e
-
--- its length is a spelled one
-pub head_length : (w l : ℕ) (r : Option LengthParts) (b : LengthParts) → r ≡ Some b
-    → SomeIff r (CanSpell w l) (record { width = w; value = l }) → (b.width ≡ w) × (b.value ≡ l)
-head_length w l r b e some =
-    let is : SomeIff (Some b) (CanSpell w l) (record { width = w; value = l }) =
-    subst (λ (o : Option LengthParts). SomeIff o (CanSpell w l) (record { width = w; value = l })) e some in
-    (ap (λ (x : LengthParts). x.width) is.1, ap (λ (x : LengthParts). x.value) is.1)
-
--- the note of the packet of a head
-pub taken_note : (head n : NoteParts) (v : ComingValue) (m : List ℕ) → v.offset ≡ head.offset → v.key ≡ head.key
-    → v.ber.width ≡ head.width → n ≡ note_of v.offset (packet_parts v.key v.ber.width m)
-    → n ≡ note_of head.offset (packet_parts head.key head.width m)
-taken_note head n v m at key width is =
-    is ∙ ap (λ (o : ℕ). note_of o (packet_parts v.key v.ber.width m)) at
-    ∙ ap (λ (k : List ℕ). note_of head.offset (packet_parts k v.ber.width m)) key
-    ∙ ap (λ (w : ℕ). note_of head.offset (packet_parts head.key w m)) width
-
--- so many offsets from one on are those up to an end, where that doesn't lie below
-pub between_size : (byte : ℕ → ℕ) (from to n : ℕ) → n ≡ to - from
-    → bytes_between byte from (from + n) ≡ bytes_between byte from to
-between_size byte from to n e =
-    let same : from + n - from ≡ to - from = omega arith in
-    ap (λ (k : ℕ). map byte (range_with_len from k)) same
-
--- what a piece tells of the bytes is their reading
-pub reading_told : (o : ℕ) (m : List ℕ) (p : Piece) (notes : List NoteParts) (head : Option NoteParts) → Tells o m p
-    → notes ≡ p.notes → option_list head ≡ begun_heads p.stop p.value → IsReading o m notes head
-reading_told o m p notes head tells e f = record {
-  notes = e ∙ tells.knows.notes;
-  head = f ∙ tells.head ∙ ap (λ (at : ℕ). heads_at at (rest_in o m)) tells.knows.at;
-}
-
-pub can_spell : (n : NoteParts) (w l : ℕ) → IsNote n → w ≡ n.width → l ≡ n.length → CanSpell w l
-can_spell n w l note e f =
-    subst (λ (x : ℕ). CanSpell x l) (sym e) (subst (CanSpell n.width) (sym f) note.width)
+-- what was added is the front of the room
+pub grown : (new old room rest : List ℕ) (n : ℕ) → new ≡ old ++ take n (room ++ rest) → n ≤ length room
+    → new ≡ old ++ take n room
+grown new old room rest n e h = e ∙ ap (λ (t : List ℕ). old ++ t) (take-append-le n room rest h)

@@ -4,7 +4,7 @@ use Rattle.mxf_klv.specs.Parts.{LengthParts}
 use Rattle.mxf_read.specs.Coming.{HasTaken}
 use Rattle.mxf_read.specs.Given.{bytes_between}
 use Rattle.mxf_read.proofs.ComingLaws.{some_where}
-use Rattle.mxf_read.proofs.ReadBytes.{can_spell, covered_head, head_length, taken_note}
+use Rattle.mxf_read.proofs.NotingLaws.{can_spell, covered_head, head_length, taken_note}
 use Rattle.mxf_read.proofs.given.Given.packet_of.Goals as goal
 
 pub unwrap-ber-requires : goal.unwrap-ber-requires

@@ -1,7 +1,8 @@
 use Rattle.std.proofs.Common.{◌≡◌, ◌-◌, ℕ, List, arith, subst}
 use Rattle.mxf_read.specs.Feeding.{Tells}
 use Rattle.mxf_read.specs.Given.{bytes_between}
-use Rattle.mxf_read.proofs.ReadBytes.{between_size, reading_told}
+use Rattle.mxf_read.proofs.NotingLaws.{reading_told}
+use Rattle.mxf_read.proofs.ReadBytes.{between_size}
 use Rattle.mxf_read.proofs.given.Given.reading.Goals as goal
 
 pub returns-clause-notes : goal.returns-clause-notes

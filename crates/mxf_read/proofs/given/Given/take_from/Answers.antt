@@ -1,7 +1,8 @@
 use Rattle.std.proofs.Common.{◌≡◌, ◌+◌, ◌≤◌, ◌++◌, ◌∙◌, ℕ, List, take, arith, subst}
 use Rattle.std.proofs.lemmas.List.{take-append-le}
 use Rattle.mxf_read.specs.Coming.{HasTaken}
-use Rattle.mxf_read.proofs.ReadBytes.{front_len, left_less, same_packet, so_far_more}
+use Rattle.mxf_read.proofs.NotingLaws.{left_less, same_packet}
+use Rattle.mxf_read.proofs.ReadBytes.{front_len, so_far_more}
 use Rattle.mxf_read.proofs.given.Given.take_from.Goals as goal
 
 pub reads-preserved : goal.reads-preserved
