@@ -1,3 +1,5 @@
 pub mod RoundLaws
 pub mod FindingLaws
 pub mod HandLaws
+pub mod HeadNoteLaws
+pub mod FitLaws

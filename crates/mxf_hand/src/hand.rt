@@ -107,7 +107,8 @@ impl Hand {
             → IfOk result (λ it. it ≡ fits h head.now) }
     {
         let spelled = key_and_length(alloc, head)?;
-        let (start, end) = (head.offset(), head.covered_end());
+        let start = head.offset();
+        let end = start + 16 + u64::from(head.width());
         for run in self.runs.runs_between(start, Some(end)) {
             let from = run.start.max(start);
             let bytes = self.given.bytes(alloc, sources, from, run.end.min(end))?;

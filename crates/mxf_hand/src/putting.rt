@@ -86,7 +86,9 @@ fn add_new(views: &mut Views, notes: Catalogue) -> Result<bool, OutOfMemory>
     ensures added { OnOk result (views.new ≡ reduced_union views.old notes) }
     ensures none { IfOk result (λ is_new. (is_new ≡ true) ⊎ (views.new ≡ views.old)) }
 {
-    if has_all(views.catalogue(), &notes) {
+    let held = views.catalogue();
+    held.laws();
+    if has_all(held, &notes) {
         return Ok(false);
     }
     match views.merge(notes) {

@@ -1,14 +1,32 @@
-use Rattle.std.proofs.Common.{◌≡◌, ◌∙◌, ◌<◌, ◌≤◌, ◌+◌, ◌&&◌, ℕ, Bool, List, ap, arith, not, nat_lt, sym, true}
+use Rattle.std.proofs.Common.{◌≡◌, ◌∙◌, ◌<◌, ◌≤◌, ◌+◌, ◌&&◌, Bool, ap, arith, not, nat_lt, refl, sym, true}
 use Rattle.std.proofs.lemmas.Bool.{lt-ltb, ltb-true}
-use Rattle.std.specs.List.{list_any}
-use Rattle.mxf_klv.specs.Parts.{NoteParts}
 use Rattle.mxf_klv.specs.Note.{end_of}
-use Rattle.mxf_klv.specs.Rising.{In}
-use Rattle.mxf_klv.proofs.Lists.{In-list_any, list_any-In}
+use Rattle.mxf_klv.specs.Parts.{NoteParts}
+use Rattle.mxf_klv.proofs.Lists.{list_any-In}
 use Rattle.mxf_klv.proofs.Tests.{same_bool}
-use Rattle.mxf_hand.specs.Rounds.{is_crossed, is_taken}
-use Rattle.mxf_hand.specs.Sections.{ends_within}
+use Rattle.mxf_hand.specs.Rounds.{is_crossed}
+use Rattle.mxf_hand.proofs.HeadNoteLaws.{both_true, two_parts}
 use Rattle.mxf_hand.proofs.found.is_taken.Goals as goal
 
 pub returns-then-ends_within : goal.returns-then-ends_within
-returns-then-ends_within c = ?
+returns-then-ends_within c = λ read starts.
+    let n = c.args.head.now.note in
+    let test = λ (m : NoteParts). nat_lt n.offset m.offset && nat_lt m.offset (end_of n) in
+    let ends = sym c.ends_within.ensures ∙ c.if-ends_within.true in
+    let from = c.offset.ensures.offset in
+    let to = c.end.ensures in
+    let same : c.meets.result ≡ is_crossed read n = same_bool c.meets.result (is_crossed read n)
+    (λ t.
+    let (at, lies, low, high) = c.meets.ensures.0 t in
+    let (m, i, e) = (starts at).0 lies in
+    (list_any-In test read).1
+    (m, i, both_true _ _ (lt-ltb _ _ (omega (arith, low, e, from))) (lt-ltb _ _ (omega (arith, high, e, to)))))
+    (λ t.
+    let (m, i, e) = (list_any-In test read).0 t in
+    let parts = two_parts _ _ e in
+    let low : n.offset < m.offset = ltb-true _ _ parts.0 in
+    let high : m.offset < end_of n = ltb-true _ _ parts.1 in
+    c.meets.ensures.1
+    (m.offset, (starts m.offset).1 (m, i, refl), omega (arith, low, from), omega (arith, high, to)))
+    in
+    ap not same ∙ sym (ap (λ (b : Bool). b && not (is_crossed read n)) ends)

@@ -1,0 +1,147 @@
+-- Heads and where their key and length end.
+use Rattle.std.proofs.Common.{◌≡◌, ◌∙◌, ◌≤◌, ◌<◌, ◌+◌, ◌-◌, ◌&&◌, ◌==◌, ◌⊎◌, ℕ, Bool, true, false, List, [], ◌∷◌, Option}
+use Rattle.std.proofs.Common.{None, Some, ap, arith, cond, filter, find, inl, inr, map, nat_le, nat_lt, not, refl, subst, sym}
+use Rattle.std.proofs.lemmas.Bool.{le-leb, lt-ltb}
+use Rattle.std.specs.Prelude.{slice_get}
+use Rattle.std.specs.Option.{option_map_or}
+use Rattle.mxf_klv.specs.Parts.{NoteParts}
+use Rattle.mxf_klv.specs.Note.{IsNote, covered_end}
+use Rattle.mxf_klv.specs.Rising.{In}
+use Rattle.mxf_klv.proofs.Lists.{In-filter, In-map, all-In, filter_alike, kept_of_both}
+use Rattle.mxf_klv.proofs.Tests.{equals_itself}
+use Rattle.mxf_restore.specs.Plan.{is_head_to, start_of}
+use Rattle.mxf_hand.specs.Heads.{AreHeads, heads_to}
+use Rattle.mxf_hand.specs.declared.head.HeadNote.{HeadNote}
+
+-- The first that passes a test is the first of those that do.
+pub first_kept : {K : Type 0} (p : K → Bool) (xs ys : List K) (y : K) → filter p xs ≡ y ∷ ys → find p xs ≡ Some y
+first_kept p [] ys y e = absurd cc
+first_kept {K} p (x ∷ xs) ys y e =
+    elim (p x) as (λ b. cond b (x ∷ filter p xs) (filter p xs) ≡ y ∷ ys → cond b (Some x) (find p xs) ≡ Some y) [
+      | true ↦ λ h. cc (h)
+      | false ↦ λ h. first_kept p xs ys y h
+    ] e
+
+pub none_kept : {K : Type 0} (p : K → Bool) (xs : List K) → filter p xs ≡ [] → find p xs ≡ None
+none_kept p [] e = refl
+none_kept {K} p (x ∷ xs) e =
+    elim (p x) as (λ b. cond b (x ∷ filter p xs) (filter p xs) ≡ [] → cond b (Some x) (find p xs) ≡ None) [
+      | true ↦ λ h. absurd cc
+      | false ↦ λ h. none_kept p xs h
+    ] e
+
+-- What passes a test of what a function gives.
+pub kept_mapped : {K L : Type 0} (f : K → L) (q : L → Bool) (xs : List K)
+    → map f (filter (λ x. q (f x)) xs) ≡ filter q (map f xs)
+kept_mapped f q [] = refl
+kept_mapped {K} {L} f q (x ∷ xs) =
+    elim (q (f x)) as (λ b. map f (cond b (x ∷ filter (λ x. q (f x)) xs) (filter (λ x. q (f x)) xs))
+    ≡ cond b (f x ∷ filter q (map f xs)) (filter q (map f xs))) [
+      | true ↦ ap (λ (l : List L). f x ∷ l) (kept_mapped f q xs)
+      | false ↦ kept_mapped f q xs
+    ]
+
+-- Where a packet begins: at the first of the heads.
+pub start_first : (heads : List HeadNote) (h : HeadNote) (end : ℕ) (notes : List NoteParts)
+    → slice_get heads 0 ≡ Some h → map (λ x. x.0.now) heads ≡ heads_to end notes
+    → h.0.now.offset ≡ start_of notes end
+start_first [] h end notes e f = absurd cc
+start_first (x ∷ heads) h end notes e f =
+    let is : x ≡ h = cc in
+    let found : find (is_head_to end) notes ≡ Some x.0.now =
+    first_kept (is_head_to end) notes (map (λ x. x.0.now) heads) x.0.now (sym f) in
+    ap (λ (y : HeadNote). y.0.now.offset) (sym is)
+    ∙ sym (ap (λ (o : Option NoteParts). option_map_or (λ n. n.offset) o end) found)
+
+pub start_none : (heads : List HeadNote) (end : ℕ) (notes : List NoteParts) → slice_get heads 0 ≡ None
+    → map (λ x. x.0.now) heads ≡ heads_to end notes → end ≡ start_of notes end
+start_none [] end notes e f =
+    sym (ap (λ (o : Option NoteParts). option_map_or (λ n. n.offset) o end)
+    (none_kept (is_head_to end) notes (sym f)))
+start_none (x ∷ heads) end notes e f = absurd cc
+
+-- The key and length of a head begin up to 25 bytes before they end.
+near : (n : NoteParts) (end : ℕ) → IsNote n → n.whole ≡ false → covered_end n ≡ end
+    → (end - 25 ≤ n.offset) × (n.offset < end)
+near n end is head e =
+    let covered : n.offset + 16 + n.width ≡ end =
+    sym (ap (λ (b : Bool). cond b (n.offset + 16 + n.width + n.length) (n.offset + 16 + n.width)) head) ∙ e in
+    elim is.width [
+      | inl w ↦ let one = w.0 in (omega (arith, covered, one), omega (arith, covered, one))
+      | inr w ↦
+          let least = w.0 in
+          let most = w.1 in (omega (arith, covered, least, most), omega (arith, covered, least, most))
+    ]
+
+not_whole : (b : Bool) → not b ≡ true → b ≡ false
+not_whole true e = absurd cc
+not_whole false e = refl
+
+pub both_true : (a b : Bool) → a ≡ true → b ≡ true → (a && b) ≡ true
+both_true true b e f = f
+both_true false b e f = absurd cc
+
+pub two_parts : (a b : Bool) → (a && b) ≡ true → (a ≡ true) × (b ≡ true)
+two_parts true b e = (refl, e)
+two_parts false b e = absurd cc
+
+-- What passes a test passes one that follows from it.
+both : {K : Type 0} (p q : K → Bool) (xs : List K) → ((x : K) → In x xs → q x ≡ true → p x ≡ true)
+    → filter q (filter p xs) ≡ filter q xs
+both p q [] f = refl
+both {K} p q (x ∷ xs) f =
+    let rest = both p q xs (λ y i. f y (inr i)) in
+    let here = f x (inl refl) in
+    elim (p x) as (λ b. (q x ≡ true → b ≡ true)
+    → filter q (cond b (x ∷ filter p xs) (filter p xs)) ≡ filter q (x ∷ xs)) [
+      | true ↦ λ h. elim (q x) as (λ c. cond c (x ∷ filter q (filter p xs)) (filter q (filter p xs))
+          ≡ cond c (x ∷ filter q xs) (filter q xs)) [
+            | true ↦ ap (λ (l : List K). x ∷ l) rest
+            | false ↦ rest
+          ]
+      | false ↦ λ h. elim (q x) as (λ c. (c ≡ true → false ≡ true)
+          → filter q (filter p xs) ≡ cond c (x ∷ filter q xs) (filter q xs)) [
+            | true ↦ λ k. absurd (let e : false ≡ true = k refl in cc (e))
+            | false ↦ λ k. rest
+          ] h
+    ] here
+
+-- The test of a head that ends at an offset, in two steps.
+tested : (notes : List NoteParts) (end : ℕ)
+    → filter (λ n. covered_end n == end) (filter (λ n. not n.whole) notes) ≡ filter (is_head_to end) notes
+tested [] end = refl
+tested (n ∷ notes) end =
+    let rest = tested notes end in
+    elim n.whole as (λ w. filter (λ n. covered_end n == end) (cond (not w) (n ∷ filter (λ n. not n.whole) notes)
+    (filter (λ n. not n.whole) notes))
+    ≡ cond (not w && (covered_end n == end)) (n ∷ filter (is_head_to end) notes) (filter (is_head_to end) notes)) [
+      | true ↦ rest
+      | false ↦ elim (covered_end n == end) as (λ b. cond b (n ∷ filter (λ n. covered_end n == end)
+          (filter (λ n. not n.whole) notes)) (filter (λ n. covered_end n == end) (filter (λ n. not n.whole) notes))
+          ≡ cond b (n ∷ filter (is_head_to end) notes) (filter (is_head_to end) notes)) [
+            | true ↦ ap (λ (l : List NoteParts). n ∷ l) rest
+            | false ↦ rest
+          ]
+    ]
+
+-- The heads that end at an offset are among those that begin near it.
+pub ending : (notes : List NoteParts) (heads : List HeadNote) (end : ℕ) → AreHeads notes heads
+    → map (λ h. h.0.now) (filter (λ h. covered_end h.0.now == end)
+    (filter (λ h. nat_le (end - 25) h.0.now.offset && nat_lt h.0.now.offset end) heads))
+    ≡ heads_to end notes
+ending notes heads end are =
+    let note = λ (h : HeadNote). h.0.now in
+    let ends = λ (n : NoteParts). covered_end n == end in
+    let lies = λ (h : HeadNote). nat_le (end - 25) h.0.now.offset && nat_lt h.0.now.offset end in
+    let all : filter (λ h. ends (note h)) (filter lies heads) ≡ filter (λ h. ends (note h)) heads =
+    both lies (λ h. ends (note h)) heads
+    (λ h i e.
+    let there = (In-map note heads (note h)).1 (h, i, refl) in
+    let kept = (In-filter (λ n. not n.whole) notes (note h)).0
+    (subst (λ (l : List NoteParts). In (note h) l) are.listed there) in
+    let head : (note h).whole ≡ false = not_whole (note h).whole kept.1 in
+    let bounds = near (note h) end (all-In IsNote notes (note h) are.members kept.0) head
+    ((equals_itself (covered_end (note h)) end).0 e) in
+    both_true _ _ (le-leb _ _ bounds.0) (lt-ltb _ _ bounds.1))
+    in
+    ap (map note) all ∙ kept_mapped note ends heads ∙ ap (filter ends) are.listed ∙ tested notes end
