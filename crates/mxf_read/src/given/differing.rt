@@ -13,11 +13,11 @@ use mxf_klv::OutOfMemory;
 use std::alloc::Global;
 use std::marker::Model;
 
-/// How far from an offset at which sources differ another is that doesn't belong to it.
+/// Two offsets at which sources differ belong to one difference where they lie less than this apart.
 const NEAR: u64 = 512;
 
-/// Offsets, in bytes, from a first to a last, at both of which sources differ, and between which they do within less
-/// than 512 bytes.
+/// Offsets, in bytes, from a first to a last. Sources differ at both, and from each offset between at which they differ
+/// it is less than 512 to the next.
 #[derive(Clone, Copy, Debug, PartialEq, Eq)]
 pub(crate) struct Difference {
     pub first: u64,

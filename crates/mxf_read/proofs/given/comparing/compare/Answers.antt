@@ -10,7 +10,9 @@ place_in-requires-clause-some g c = λ p h. (c.requires.overlap.within p h).some
 
 pub unreachable-requires : goal.unreachable-requires
 unreachable-requires g c =
-    let met = c.requires.overlap.met c.parts.at (record { from = c.parts.invariant.from; before = c.parts-test.true }) in
+    let below = c.parts-test.true in
+    let met = c.requires.overlap.met c.parts.at
+    (record { from = c.parts.invariant.from; before = omega (arith, below) }) in
     c.in_default.ensures.none met.0 met.1 met.2
 
 pub compare_part-requires-clause-one : goal.compare_part-requires-clause-one
