@@ -10,7 +10,14 @@ use Rattle.mxf_catalogue.specs.Covers.{LiesIn-with_run, with_run}
 use Rattle.mxf_catalogue.specs.Runs.{LiesIn, run}
 use Rattle.mxf_catalogue.specs.declared.run.Run.{Run}
 use Rattle.mxf_read.proofs.Taking.{union_append}
-use Rattle.mxf_hand.specs.Finding.{Finds, Grows, IsStart, read_notes}
+use Rattle.std.proofs.Common.{◌<◌, drop, get_or, length}
+use Rattle.std.proofs.lemmas.List.{drop_all}
+use Rattle.mxf_places.proofs.LoopLaws.{appended-step, nothing_left}
+use Rattle.mxf_restore.specs.declared.section.Section.{Section}
+use Rattle.mxf_hand.specs.Finding.{Finds, Grows, GrowsBySection, IsStart, read_notes}
+use Rattle.mxf_hand.specs.Hand.{HandBytes}
+use Rattle.mxf_hand.specs.Rounds.{made_in, packets_in, read_heads_in, read_heads_of}
+use Rattle.mxf_hand.specs.Sections.{made_of, packets_of}
 use Rattle.mxf_hand.specs.declared.found.CutHead.{CutHead}
 use Rattle.mxf_hand.specs.declared.found.Found.{Found}
 
@@ -184,3 +191,42 @@ same_growth old new p q m n h k ep em eh g packets made heads found =
     same_found new (packets ++ p) (packets ++ q) (made ++ m) (made ++ n) (heads ++ h) (heads ++ k)
     (ap (λ (l : List NoteParts). packets ++ l) ep) (ap (λ (l : List NoteParts). made ++ l) em)
     (ap (λ (l : List CutHead). heads ++ l) eh) (g packets made heads found)
+
+-- One section more was added, of those from one on.
+pub next_found : (h : HandBytes) (notes : List NoteParts) (sections : List Section) (i : ℕ) (d : Section)
+    (old new : Found) (packets made : List NoteParts) (heads : List CutHead) → i < length sections
+    → GrowsBySection h notes (get_or sections i d) old new → Finds old packets made heads
+    → packets ++ packets_in h notes (drop i sections) ≡ packets_in h notes sections
+    → made ++ made_in h notes (drop i sections) ≡ made_in h notes sections
+    → heads ++ read_heads_in h notes (drop i sections) ≡ read_heads_in h notes sections
+    → (p : List NoteParts) × (m : List NoteParts) × (k : List CutHead) × Finds new p m k
+    × (p ++ packets_in h notes (drop (i + 1) sections) ≡ packets_in h notes sections)
+    × (m ++ made_in h notes (drop (i + 1) sections) ≡ made_in h notes sections)
+    × (k ++ read_heads_in h notes (drop (i + 1) sections) ≡ read_heads_in h notes sections)
+next_found h notes sections i d old new packets made heads here grown found ep em eh =
+    let s = get_or sections i d in (
+      packets ++ packets_of h notes s,
+      made ++ made_of h notes s,
+      heads ++ read_heads_of h notes s,
+      grown packets made heads found,
+      appended-step (packets_of h notes) sections i d packets (packets ++ packets_of h notes s)
+          (packets_in h notes sections) here refl ep,
+      appended-step (made_of h notes) sections i d made (made ++ made_of h notes s) (made_in h notes sections) here
+          refl em,
+      appended-step (read_heads_of h notes) sections i d heads (heads ++ read_heads_of h notes s)
+          (read_heads_in h notes sections) here refl eh,
+    )
+
+-- All sections were.
+pub all_found : (h : HandBytes) (notes : List NoteParts) (sections : List Section) (i : ℕ) (f : Found)
+    (packets made : List NoteParts) (heads : List CutHead) → length sections ≤ i → Finds f packets made heads
+    → packets ++ packets_in h notes (drop i sections) ≡ packets_in h notes sections
+    → made ++ made_in h notes (drop i sections) ≡ made_in h notes sections
+    → heads ++ read_heads_in h notes (drop i sections) ≡ read_heads_in h notes sections
+    → Finds f (packets_in h notes sections) (made_in h notes sections) (read_heads_in h notes sections)
+all_found h notes sections i f packets made heads ended found ep em eh =
+    let none = drop_all i sections ended in
+    same_found f packets (packets_in h notes sections) made (made_in h notes sections) heads
+    (read_heads_in h notes sections) (nothing_left (packets_in h notes) (drop i sections) packets _ refl none ep)
+    (nothing_left (made_in h notes) (drop i sections) made _ refl none em)
+    (nothing_left (read_heads_in h notes) (drop i sections) heads _ refl none eh) found

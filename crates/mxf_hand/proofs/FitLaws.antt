@@ -1,9 +1,9 @@
 -- Bytes at hand of a head's key and length, run after run.
-use Rattle.std.proofs.Common.{◌≡◌, ◌∙◌, ◌≤◌, ◌<◌, ◌+◌, ◌-◌, ◌&&◌, ◌⊎◌, ℕ, zero, suc, Bool, true, List, [], ◌∷◌, ◌++◌, Some}
-use Rattle.std.proofs.Common.{ap, arith, filter, get_or, inl, inr, length, length-append, nat_lt, refl, subst, sym}
-use Rattle.std.proofs.lemmas.Bool.{lt-ltb}
+use Rattle.std.proofs.Common.{◌≡◌, ◌≢◌, false, ◌∙◌, ◌≤◌, ◌<◌, ◌+◌, ◌-◌, ℕ, List, [], ◌∷◌, Some}
+use Rattle.std.proofs.Common.{ap, arith, filter, get_or, inl, inr, length, length-append, nat_lt, subst, sym}
+use Rattle.std.proofs.lemmas.Bool.{false_from_ne_true, lt-ltb, ltb-true}
 use Rattle.std.proofs.lemmas.List.FromFn.{get_or-map-range_with_len, length-map-range_with_len}
-use Rattle.mxf_klv.specs.Parts.{CanSpell, NoteParts}
+use Rattle.mxf_klv.specs.Parts.{NoteParts}
 use Rattle.mxf_klv.specs.Note.{IsNote}
 use Rattle.mxf_klv.specs.Ber.{IsSpelledLength, length_bytes}
 use Rattle.mxf_klv.specs.Rising.{In}
@@ -13,8 +13,10 @@ use Rattle.mxf_catalogue.specs.declared.run.Run.{Run}
 use Rattle.mxf_catalogue.specs.Covers.{is_between}
 use Rattle.mxf_catalogue.specs.Runs.{LiesIn}
 use Rattle.mxf_read.specs.Given.{bytes_between}
-use Rattle.mxf_hand.specs.Heads.{key_and_length}
-use Rattle.mxf_hand.proofs.HeadNoteLaws.{both_true}
+use Rattle.mxf_hand.specs.Hand.{HandBytes}
+use Rattle.mxf_hand.specs.Heads.{fits, key_and_length}
+use Rattle.mxf_hand.proofs.HandLaws.{fits_at}
+use Rattle.mxf_hand.proofs.HeadNoteLaws.{both_true, two_parts}
 
 -- As many bytes spell a length as it says.
 spelled_length : (bytes : List ℕ) (w v : ℕ) → IsSpelledLength bytes w v → length bytes ≡ w
@@ -37,9 +39,10 @@ length-key_and_length n is =
 
 -- The runs that lie between two offsets have the offsets of all runs between these.
 pub between_part : (runs items : List Run) (start end : ℕ) → items ≡ filter (is_between start (Some end)) runs
-    → (r : Run) → In r items → In r runs
+    → (r : Run) → In r items → In r runs × (r.start < end)
 between_part runs items start end e r i =
-    ((In-filter (is_between start (Some end)) runs r).0 (subst (λ (l : List Run). In r l) e i)).0
+    let kept = (In-filter (is_between start (Some end)) runs r).0 (subst (λ (l : List Run). In r l) e i) in
+    (kept.0, ltb-true r.start end (two_parts (nat_lt start r.end) (nat_lt r.start end) kept.1).1)
 
 pub between_lies : (runs items : List Run) (start end : ℕ) → items ≡ filter (is_between start (Some end)) runs
     → (x : ℕ) → start ≤ x → x < end → LiesIn runs x → LiesIn items x
@@ -49,7 +52,7 @@ between_lies runs items start end e x low high lies =
     let before : x + 1 ≤ r.end = lies.2.before in (
       r,
       subst (λ (l : List Run). In r l) (sym e) ((In-filter (is_between start (Some end)) runs r).1
-          (lies.1, both_true _ _ (lt-ltb start r.end (omega arith)) (lt-ltb r.start end (omega arith)))),
+          (lies.1, both_true (nat_lt start r.end) (nat_lt r.start end) (lt-ltb start r.end (omega arith)) (lt-ltb r.start end (omega arith)))),
       lies.2,
     )
 
@@ -75,3 +78,34 @@ stands byte bytes others start from to x e above agree low high =
     let here = agree (x - from) (omega (arith, count)) in
     let at : (from - start) + (x - from) ≡ x - start = omega arith in
     sym (read_byte byte bytes from to x e low high) ∙ sym here ∙ ap (λ (k : ℕ). get_or others k 0) at
+
+room : (count size from to start width : ℕ) → start ≤ from → from < start + 16 + width → to ≤ start + 16 + width
+    → count ≡ to - from
+    → size ≡ 16 + width → (from - start) + count ≤ size
+room count size from to start width above inside within e f = omega (arith, above, inside, within, e, f)
+
+-- Where a byte of a run doesn't stand in the key and length of a head, the head doesn't fit.
+pub unfit : (h : HandBytes) (n : NoteParts) (bytes others : List ℕ) (start from to : ℕ) → others ≡ key_and_length n
+    → IsNote n → start ≡ n.offset → start ≤ from → from < start + 16 + n.width → to ≤ start + 16 + n.width
+    → bytes ≡ bytes_between h.byte from to
+    → ((x : ℕ) → from ≤ x → x < to → LiesIn h.runs x)
+    → ((from - start) + length bytes ≤ length others
+    → (i : ℕ) × (i < length bytes) × (get_or others ((from - start) + i) 0 ≢ get_or bytes i 0))
+    → fits h n ≡ false
+unfit h n bytes others start from to eo is es above inside within eb lies differ =
+    false_from_ne_true (fits h n) (λ yes.
+    let count = read_count h.byte bytes from to eb in
+    let size : length others ≡ 16 + n.width = ap length eo ∙ length-key_and_length n is in
+    let d = differ (room (length bytes) (length others) from to start n.width above inside within count size) in
+    let i = d.0 in
+    let few : i < to - from = subst (λ (k : ℕ). i < k) count d.1 in
+    let x = from + i in
+    let low : from ≤ x = omega arith in
+    let high : x < to = omega (arith, few) in
+    let at : h.byte x ≡ get_or (key_and_length n) (x - n.offset) 0 =
+    fits_at h n yes x (omega (arith, es, above)) (omega (arith, es, high, within)) (lies x low high) in
+    let place : x - n.offset ≡ (from - start) + i = omega (arith, es, above) in
+    let index : x - from ≡ i = omega arith in
+    d.2 (ap (λ (l : List ℕ). get_or l ((from - start) + i) 0) eo
+    ∙ ap (λ (k : ℕ). get_or (key_and_length n) k 0) (sym place) ∙ sym at
+    ∙ sym (read_byte h.byte bytes from to x eb low high) ∙ ap (λ (k : ℕ). get_or bytes k 0) index))

@@ -1,9 +1,9 @@
 -- Runs of bytes at hand.
-use Rattle.std.proofs.Common.{◌≡◌, ◌∙◌, ◌≤◌, ◌<◌, ◌+◌, ◌-◌, ◌&&◌, ◌||◌, ◌==◌, ◌⊎◌, ℕ, zero, suc, Bool, true, false, List}
-use Rattle.std.proofs.Common.{[], ◌∷◌, Option, None, Some, ap, arith, cond, filter, find, get_or, inl, inr, map, nat_le}
+use Rattle.std.proofs.Common.{◌≡◌, ◌∙◌, ◌≤◌, ◌<◌, ◌+◌, ◌-◌, ◌&&◌, ◌||◌, ◌==◌, ℕ, zero, suc, Bool, true, false, List}
+use Rattle.std.proofs.Common.{[], ◌∷◌, Option, None, Some, ap, arith, cond, filter, find, get_or, inl, inr, nat_le}
 use Rattle.std.proofs.Common.{nat_lt, not, refl, subst, sym}
 use Rattle.std.proofs.lemmas.Bool.{le-leb, leb-true, lt-leb, ltb-true, ltb-false}
-use Rattle.std.specs.List.{list_all, range_with_len}
+use Rattle.std.specs.List.{range_with_len}
 use Rattle.std.specs.Option.{option_and_then, option_map_or}
 use Rattle.mxf_klv.specs.Parts.{NoteParts}
 use Rattle.mxf_klv.specs.Rising.{In}
@@ -14,7 +14,11 @@ use Rattle.mxf_catalogue.specs.Covers.{is_between}
 use Rattle.mxf_catalogue.specs.Runs.{LiesIn}
 use Rattle.mxf_places.specs.AtHand.{has_offset, up_to_bound}
 use Rattle.mxf_places.proofs.AtHandLaws.{has_offset-says}
-use Rattle.mxf_hand.specs.Hand.{HandBytes, read_to, run_end}
+use Rattle.mxf_catalogue.proofs.CoverLaws.{same_covers}
+use Rattle.mxf_read.specs.Given.{AreAtHand, AreTold, SourceParts}
+use Rattle.mxf_read.specs.Places.{GivenParts}
+use Rattle.mxf_read.specs.declared.given.Extent.{Extent}
+use Rattle.mxf_hand.specs.Hand.{AreOf, AreToldIn, HandBytes, HandParts, read_to, run_end}
 use Rattle.mxf_hand.specs.Heads.{fits, key_and_length}
 
 -- The first run that ends above an offset is the first of those that lie behind it.
@@ -137,3 +141,29 @@ at_fits h n all =
           (all x bounds.0 bounds.1 ((has_offset-says h.runs x).0 e))
       | false ↦ λ e. refl
     ] refl)
+
+-- What was told before and is told still.
+pub told_after : {old new : Option (List SourceParts)} {extents : List Extent} {runs : List Run} {h : HandBytes}
+    → new ≡ old → AreToldIn old extents runs h → AreToldIn new extents runs h
+told_after {extents = extents} {runs = runs} {h = h} e t =
+    subst (λ (o : Option (List SourceParts)). AreToldIn o extents runs h) (sym e) t
+
+-- There is one list of the runs at hand.
+pub one_hand : (given : List SourceParts) (runs : List Run) (h : HandBytes) → AreAtHand given runs → AreOf given h
+    → runs ≡ h.runs
+one_hand given runs h a is =
+    same_covers runs h.runs a.cover is.offsets.cover (λ x. (
+      λ k. (is.offsets.offsets x).1 ((a.offsets x).0 k),
+      λ k. (a.offsets x).1 ((is.offsets.offsets x).0 k),
+    ))
+
+-- The bytes at hand of sources are told in the runs that were found.
+pub are_told : {told : Option (List SourceParts)} (given : List SourceParts) (h : HandBytes)
+    {hand : HandParts} {parts : GivenParts} → AreTold told parts.extents given → AreOf given h → hand.given ≡ parts
+    → AreAtHand given hand.runs → AreToldIn told hand.given.extents hand.runs h
+are_told {told = told} given h {hand = hand} {parts = parts} t is e a = record {
+  sources = given;
+  are_told = subst (λ (p : GivenParts). AreTold told p.extents given) (sym e) t;
+  lie = sym (one_hand given hand.runs h a is);
+  bytes = λ x b lies gives. is.bytes x b (subst (λ (l : List Run). LiesIn l x) (one_hand given hand.runs h a is) lies) gives;
+}

@@ -1,5 +1,5 @@
 -- Heads and where their key and length end.
-use Rattle.std.proofs.Common.{◌≡◌, ◌∙◌, ◌≤◌, ◌<◌, ◌+◌, ◌-◌, ◌&&◌, ◌==◌, ◌⊎◌, ℕ, Bool, true, false, List, [], ◌∷◌, Option}
+use Rattle.std.proofs.Common.{◌≡◌, ◌∙◌, ◌≤◌, ◌<◌, ◌+◌, ◌-◌, ◌&&◌, ◌==◌, ℕ, Bool, true, false, List, [], ◌∷◌, Option}
 use Rattle.std.proofs.Common.{None, Some, ap, arith, cond, filter, find, inl, inr, map, nat_le, nat_lt, not, refl, subst, sym}
 use Rattle.std.proofs.lemmas.Bool.{le-leb, lt-ltb}
 use Rattle.std.specs.Prelude.{slice_get}
@@ -7,9 +7,17 @@ use Rattle.std.specs.Option.{option_map_or}
 use Rattle.mxf_klv.specs.Parts.{NoteParts}
 use Rattle.mxf_klv.specs.Note.{IsNote, covered_end}
 use Rattle.mxf_klv.specs.Rising.{In}
-use Rattle.mxf_klv.proofs.Lists.{In-filter, In-map, all-In, filter_alike, kept_of_both}
+use Rattle.mxf_klv.proofs.Lists.{In-filter, In-map, all-In}
 use Rattle.mxf_klv.proofs.Tests.{equals_itself}
 use Rattle.mxf_restore.specs.Plan.{is_head_to, start_of}
+use Rattle.std.proofs.Common.{◌++◌, append-nil, append_assoc, drop, get_or, length}
+use Rattle.std.proofs.lemmas.List.{length-map}
+use Rattle.std.proofs.lemmas.List.{at_drop_all, at_drop_more}
+use Rattle.std.proofs.Math.ListN.{get_or-map}
+use Rattle.std.specs.List.Sorted.{IsNonDecreasingBy}
+use Rattle.mxf_catalogue.specs.Content.{IsCatalogue}
+use Rattle.mxf_catalogue.proofs.DisputeLaws.{IsContent-filter}
+use Rattle.mxf_catalogue.proofs.Ranges.{offsets_rise}
 use Rattle.mxf_hand.specs.Heads.{AreHeads, heads_to}
 use Rattle.mxf_hand.specs.declared.head.HeadNote.{HeadNote}
 
@@ -124,6 +132,23 @@ tested (n ∷ notes) end =
           ]
     ]
 
+-- The heads of a catalogue, as a table.
+pub heads_are : (notes : List NoteParts) (heads : List HeadNote) → IsCatalogue notes
+    → map (λ h. h.0.now) heads ≡ filter (λ n. not n.whole) notes → AreHeads notes heads
+heads_are notes heads is e =
+    let note = λ (h : HeadNote). h.0.now in
+    let rises : IsNonDecreasingBy (λ n. n.offset) (map note heads) =
+    subst (IsNonDecreasingBy (λ n. n.offset)) (sym e)
+    (offsets_rise (filter (λ n. not n.whole) notes) (IsContent-filter (λ n. not n.whole) notes is.content)) in
+    record {
+      listed = e;
+      rising = λ i j d le lt.
+          let r = rises i j (note d) le (let k = length-map heads note in omega (arith, lt, k)) in
+          let a = ap (λ (n : NoteParts). n.offset) (get_or-map note heads i d) in
+          let b = ap (λ (n : NoteParts). n.offset) (get_or-map note heads j d) in omega (arith, r, a, b);
+      members = is.members;
+    }
+
 -- The heads that end at an offset are among those that begin near it.
 pub ending : (notes : List NoteParts) (heads : List HeadNote) (end : ℕ) → AreHeads notes heads
     → map (λ h. h.0.now) (filter (λ h. covered_end h.0.now == end)
@@ -145,3 +170,26 @@ ending notes heads end are =
     both_true _ _ (le-leb _ _ bounds.0) (lt-ltb _ _ bounds.1))
     in
     ap (map note) all ∙ kept_mapped note ends heads ∙ ap (filter ends) are.listed ∙ tested notes end
+
+-- A loop that keeps what passes a test: one element more.
+pub kept_more : {K L : Type 0} (f : K → L) (q : L → Bool) (xs : List K) (i : ℕ) (d : K) (old new whole : List L)
+    → i < length xs → new ≡ old ++ filter q (f (get_or xs i d) ∷ []) → old ++ filter q (map f (drop i xs)) ≡ whole
+    → new ++ filter q (map f (drop (i + 1) xs)) ≡ whole
+kept_more {K} {L} f q xs i d old new whole here grown before =
+    let x = get_or xs i d in
+    let rest = filter q (map f (drop (i + 1) xs)) in
+    let one : filter q (f x ∷ []) ++ rest ≡ filter q (f x ∷ map f (drop (i + 1) xs)) =
+    elim (q (f x)) as (λ b. cond b (f x ∷ []) [] ++ rest ≡ cond b (f x ∷ rest) rest) [
+      | true ↦ refl
+      | false ↦ refl
+    ] in
+    ap (λ (l : List L). l ++ rest) grown ∙ append_assoc old (filter q (f x ∷ [])) rest
+    ∙ ap (λ (l : List L). old ++ l) one
+    ∙ ap (λ (l : List L). old ++ l) (sym (at_drop_more (λ (l : List K). filter q (map f l)) xs i d here)) ∙ before
+
+-- None is left.
+pub kept_all : {K L : Type 0} (f : K → L) (q : L → Bool) (xs : List K) (i : ℕ) (all whole : List L) → length xs ≤ i
+    → all ++ filter q (map f (drop i xs)) ≡ whole → all ≡ whole
+kept_all {K} {L} f q xs i all whole ended before =
+    sym (append-nil all)
+    ∙ ap (λ (l : List L). all ++ l) (sym (at_drop_all (λ (l : List K). filter q (map f l)) xs i ended)) ∙ before

@@ -1,12 +1,14 @@
 -- Rounds, and contents to which notes are added in two steps.
-use Rattle.std.proofs.Common.{◌≡◌, ◌∙◌, ℕ, zero, suc, ◌-◌, ◌<◌, List, [], ◌∷◌, ◌++◌, ap, arith, inl, inr, refl, sym}
+use Rattle.std.proofs.Common.{◌≡◌, ◌∙◌, ℕ, zero, suc, List, [], ◌∷◌, ◌++◌, ap, inl, inr, refl, sym}
 use Rattle.mxf_klv.specs.Parts.{NoteParts}
 use Rattle.mxf_klv.specs.Rising.{In}
-use Rattle.mxf_catalogue.specs.Content.{AreReduced, IsContent, has_note, reduced_union, reduced_with}
+use Rattle.mxf_catalogue.specs.Content.{AreReduced, IsContent, has_note, reduced_union}
 use Rattle.mxf_catalogue.proofs.HeadLaws.{AreReduced-reduced_union, IsContent-reduced_union, has-reduced_union}
 use Rattle.mxf_catalogue.proofs.HeadLaws.{one_reduced, reduced_with-present}
 use Rattle.mxf_hand.specs.Hand.{HandBytes}
-use Rattle.mxf_hand.specs.Rounds.{put_together, round, rounds}
+use Rattle.mxf_restore.specs.Sections.{sections_of}
+use Rattle.mxf_read.proofs.Taking.{union_append}
+use Rattle.mxf_hand.specs.Rounds.{heads_taken, made_in, packets_in, put_together, round, rounds}
 
 -- What a catalogue of some notes has, added to a content, adds these notes.
 pub added_at_once : (a b : List NoteParts) → IsContent a → AreReduced a
@@ -56,3 +58,21 @@ rounds_end h notes (suc count) e = ap (rounds count h) e ∙ rounds_end h notes 
 pub all_rounds : (h : HandBytes) (notes : List NoteParts) → put_together h notes ≡ rounds 64 h notes
 unfolding put_together
 all_rounds h notes = refl
+
+-- A round in the two steps of the code: the packets that were read, and then those that were made and the heads.
+pub round_is : (h : HandBytes) (old mid new packets made : List NoteParts)
+    → packets ≡ reduced_union [] (packets_in h old (sections_of old))
+    → made ≡ reduced_union [] (made_in h old (sections_of old) ++ heads_taken h old (sections_of old))
+    → mid ≡ reduced_union old packets → new ≡ reduced_union mid made → IsContent old → AreReduced old
+    → new ≡ round h old
+unfolding round
+round_is h old mid new packets made ep em first second r p =
+    let read = packets_in h old (sections_of old) in
+    let rest = made_in h old (sections_of old) ++ heads_taken h old (sections_of old) in
+    let one : mid ≡ reduced_union old read =
+    first ∙ ap (reduced_union old) ep ∙ added_at_once old read r p in
+    second ∙ ap (λ (l : List NoteParts). reduced_union l made) one
+    ∙ ap (reduced_union (reduced_union old read)) em
+    ∙ added_at_once (reduced_union old read) rest (IsContent-reduced_union old read r)
+    (AreReduced-reduced_union old read p)
+    ∙ sym (union_append old read rest)

@@ -1,10 +1,9 @@
 -- What is found of some sections, and what one more adds (this project's profile).
-use Rattle.std.specs.Prelude.{◌≡◌, ◌↔◌, ℕ, List, [], ◌∷◌, ◌++◌, map, Option}
+use Rattle.std.specs.Prelude.{◌≡◌, ◌↔◌, ℕ, List, [], ◌++◌, map}
 use Rattle.mxf_klv.specs.Parts.{NoteParts}
 use Rattle.mxf_klv.specs.Rising.{In}
 use Rattle.mxf_catalogue.specs.Content.{reduced_union}
 use Rattle.mxf_catalogue.specs.Runs.{LiesIn}
-use Rattle.mxf_read.specs.Noting.{option_list}
 use Rattle.mxf_restore.specs.declared.section.Section.{Section}
 use Rattle.mxf_hand.specs.Hand.{HandBytes}
 use Rattle.mxf_hand.specs.Rounds.{read_heads_of}

@@ -1,5 +1,5 @@
 -- Rounds: what is put together of a content and the bytes at hand, again and again (this project's profile).
-use Rattle.std.specs.Prelude.{ℕ, zero, suc, ◌&&◌, not, nat_lt, Bool, List, [], ◌∷◌, ◌++◌, Option, filter, flat_map, map}
+use Rattle.std.specs.Prelude.{ℕ, zero, suc, ◌&&◌, not, nat_lt, Bool, List, ◌++◌, filter, flat_map, map}
 use Rattle.std.specs.List.{list_any}
 use Rattle.mxf_klv.specs.Parts.{NoteParts}
 use Rattle.mxf_klv.specs.Note.{end_of}

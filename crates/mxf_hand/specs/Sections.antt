@@ -1,5 +1,5 @@
 -- What is put together of a section of a hole (this project's profile).
-use Rattle.std.specs.Prelude.{◌≡◌, ℕ, ◌&&◌, nat_le, Bool, true, if◌then◌else◌, List, [], ◌∷◌, map, Option, None, Some}
+use Rattle.std.specs.Prelude.{ℕ, ◌&&◌, nat_le, Bool, true, if◌then◌else◌, List, [], ◌∷◌, Option, None, Some}
 use Rattle.std.specs.Option.{option_map_or}
 use Rattle.mxf_klv.specs.Parts.{NoteParts}
 use Rattle.mxf_klv.specs.Note.{end_of}
@@ -31,11 +31,19 @@ heads_of h notes p = option_map_or (read_heads h p.end) (from_of h notes p) []
 abbrev pub ends_within : Option ℕ → NoteParts → Bool
 ends_within end n = option_map_or (λ e. nat_le (end_of n) e) end true
 
--- The packet of the one head that fits, where its value is at hand and lies in the hole.
+-- The only one of notes, where there is one alone.
+abbrev pub only : List NoteParts → Option NoteParts
+only [] = None
+only (n ∷ []) = Some n
+only (n ∷ m ∷ heads) = None
+
+-- The packet of a head, where its value is at hand and lies in the hole.
+abbrev pub made_of_head : HandBytes → Option ℕ → NoteParts → List NoteParts
+made_of_head h end n = if is_value_at_hand h n && ends_within end n then packet_of h n ∷ [] else []
+
+-- The same of the one head that fits.
 abbrev pub made_by : HandBytes → Option ℕ → List NoteParts → List NoteParts
-made_by h end [] = []
-made_by h end (n ∷ []) = if is_value_at_hand h n && ends_within end n then packet_of h n ∷ [] else []
-made_by h end (n ∷ m ∷ heads) = []
+made_by h end heads = option_map_or (made_of_head h end) (only heads) []
 
 -- The same of a section.
 abbrev pub made_of : HandBytes → List NoteParts → Section → List NoteParts

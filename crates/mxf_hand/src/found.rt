@@ -58,7 +58,8 @@ impl Found {
     {
         let Reading { notes, head } = reading;
         self.add_packets(notes)?;
-        self.add_head(head, hole_end)
+        self.add_head(head, hole_end)?;
+        Ok(())
     }
 
     /// Adds packets that were read.
@@ -66,10 +67,10 @@ impl Found {
         ensures { OnOk result (Grows self.old self.new notes [] []) }
     {
         add_starts(&mut self.starts, &notes)?;
-        match self.packets.merge(notes) {
-            Ok(()) => Ok(()),
-            Err(_) => Err(OutOfMemory),
-        }
+        let Ok(()) = self.packets.merge(notes) else {
+            return Err(OutOfMemory);
+        };
+        Ok(())
     }
 
     /// Adds the head that was read, where there is one.
@@ -108,13 +109,32 @@ impl Found {
             heads,
             starts,
         } = self;
-        for head in heads {
-            if is_taken(&starts, &head) {
-                made.add(head.note)?;
-            }
-        }
+        add_taken(&mut made, heads, &starts)?;
         Ok((packets, made))
     }
+}
+
+/// Adds those of the heads that are taken.
+fn add_taken(made: &mut Catalogue, heads: Vec<CutHead>, starts: &Cover) -> Result<(), OutOfMemory>
+    ensures { (read : List NoteParts) → ((x : ℕ) → LiesIn starts.now x ↔ IsStart read x)
+        → OnOk result (made.new ≡ reduced_union made.old (map (λ head. head.note) (filter (is_taken read) heads.items))) }
+{
+    for head in heads {
+        add_if_taken(made, head, starts)?;
+    }
+    Ok(())
+}
+
+/// Adds a head, where it is taken.
+fn add_if_taken(made: &mut Catalogue, head: CutHead, starts: &Cover) -> Result<(), OutOfMemory>
+    ensures { (read : List NoteParts) → ((x : ℕ) → LiesIn starts.now x ↔ IsStart read x)
+        → OnOk result (made.new ≡ reduced_union made.old (map (λ c. c.note) (filter (is_taken read) (head ∷ [])))) }
+{
+    if !is_taken(starts, &head) {
+        return Ok(());
+    }
+    made.add(head.note)?;
+    Ok(())
 }
 
 /// Adds where the notes begin.

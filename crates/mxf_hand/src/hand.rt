@@ -126,7 +126,13 @@ impl Hand {
         ensures value { result ≡ true → (x : ℕ) → covered_end head.now ≤ x → x < end_of head.now
             → LiesIn self.now.runs x }
     {
-        head.is_head() && head.length() > 0 && self.runs.has_all(head.covered_end(), head.end())
+        if !head.is_head() {
+            return false;
+        }
+        if head.length() == 0 {
+            return false;
+        }
+        self.runs.has_all(head.covered_end(), head.end())
     }
 
     /// The note of a head's packet, whose value is at hand.

@@ -1,10 +1,9 @@
 //! Heads by their offsets, and the bytes of their key and length.
-ghost use Rattle.std.specs.Prelude.{◌≡◌, ◌≢◌, ◌+◌, ◌-◌, ◌<◌, ◌≤◌, ℕ, List, IfOk, IsTrue, drop, filter, get_or, length};
+ghost use Rattle.std.specs.Prelude.{◌≡◌, ◌≢◌, ◌+◌, ◌==◌, ◌<◌, ◌≤◌, ◌++◌, ◌∷◌, [], ℕ, IfOk, OnOk, filter, get_or, length};
 ghost use Rattle.std.specs.Prelude.{map, not, nat_le, nat_lt, ◌&&◌, true, false};
 ghost use Rattle.std.specs.List.Sorted.{IsNonDecreasingBy};
-ghost use Rattle.mxf_klv.specs.Parts.{NoteParts};
-ghost use Rattle.mxf_restore.specs.Plan.{is_head_to, start_of};
-ghost use Rattle.mxf_hand.specs.Heads.{key_and_length};
+ghost use Rattle.mxf_klv.specs.Note.{covered_end};
+ghost use Rattle.mxf_hand.specs.Heads.{heads_to, key_and_length};
 
 use mxf_catalogue::Catalogue;
 use mxf_klv::{Ber, Encode, Keyed, Note, OutOfMemory, below};
@@ -51,20 +50,65 @@ impl<'a> Heads<'a> {
     pub fn of(alloc: Global, catalogue: &'a Catalogue) -> Result<Heads<'a>, OutOfMemory>
         ensures { IfOk result (λ h. h ≡ catalogue.now) }
     {
-        let heads = catalogue.notes().filter(|note| note.is_head());
-        let heads = heads.map(|note| HeadNote(note)).collect(alloc)?;
+        let mut heads = Vec::new(alloc);
+        for note in catalogue.notes() {
+            push_head(&mut heads, note)?;
+        }
         Ok(Heads { catalogue, heads })
     }
 
     /// The heads whose key and length end at an offset, in bytes, in the order of notes. They take memory; the time is
     /// that of two binary searches and of the heads that begin up to 25 bytes before it.
     pub fn ending_at(&self, alloc: Global, end: u64) -> Result<Vec<HeadNote<'a>>, OutOfMemory>
-        ensures { IfOk result (λ v. map (λ h. h.0.now) v.items ≡ filter (is_head_to end) self.now) }
+        ensures { IfOk result (λ v. map (λ h. h.0.now) v.items ≡ heads_to end self.now) }
     {
         let near = between(&self.heads, end.saturating_sub(KEY_AND_LENGTH), end);
-        let heads = near.iter().filter(|head| head.0.covered_end() == end);
-        Ok(heads.copied().collect(alloc)?)
+        heads_ending(alloc, near, end)
     }
+}
+
+/// Adds the note, where it is a head.
+fn push_head<'a>(heads: &mut Vec<HeadNote<'a>>, note: &'a Note) -> Result<(), OutOfMemory>
+    ensures { OnOk result (map (λ h. h.0.now) heads.new.items
+        ≡ map (λ h. h.0.now) heads.old.items ++ filter (λ n. not n.whole) (note.now ∷ [])) }
+{
+    if !note.is_head() {
+        return Ok(());
+    }
+    heads.push(HeadNote(note))?;
+    Ok(())
+}
+
+/// Those of some heads whose key and length end at an offset, in bytes.
+fn heads_ending<'a>(
+    alloc: Global,
+    heads: &[HeadNote<'a>],
+    end: u64,
+) -> Result<Vec<HeadNote<'a>>, OutOfMemory>
+    ensures { IfOk result (λ v. map (λ h. h.0.now) v.items
+        ≡ filter (λ n. covered_end n == end) (map (λ h. h.0.now) heads.now)) }
+{
+    let mut ending = Vec::new(alloc);
+    for head in heads {
+        push_ending(&mut ending, *head, end)?;
+    }
+    Ok(ending)
+}
+
+/// Adds the head, where its key and length end at an offset, in bytes.
+fn push_ending<'a>(
+    ending: &mut Vec<HeadNote<'a>>,
+    head: HeadNote<'a>,
+    end: u64,
+) -> Result<(), OutOfMemory>
+    ensures { OnOk result (map (λ h. h.0.now) ending.new.items
+        ≡ map (λ h. h.0.now) ending.old.items ++ filter (λ n. covered_end n == end) (head.entry.0.now ∷ [])) }
+{
+    if head.0.covered_end() != end {
+        return Ok(());
+    }
+    ending.push(head)?;
+    Ok(())
 }
 
 /// The heads that begin at or above an offset and below another, in bytes.

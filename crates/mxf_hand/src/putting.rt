@@ -74,6 +74,7 @@ fn round<S: Sources>(
         → OnOk result (views.new ≡ round h views.old) }
     ensures none { IfOk result (λ is_more. (is_more ≡ true) ⊎ (views.new ≡ views.old)) }
 {
+    views.catalogue().laws();
     let found = found_in(alloc, hand, sources, views)?;
     let (packets, made) = found.into_taken()?;
     let is_more_read = add_new(views, packets)?;

@@ -1,11 +1,12 @@
 //! What is put together of a section of a hole.
-ghost use Rattle.std.specs.Prelude.{◌≡◌, [], ℕ, List, Option, IfOk, OnOk, map};
+ghost use Rattle.std.specs.Prelude.{◌≡◌, ◌==◌, ◌&&◌, ◌++◌, ◌∷◌, [], List, IfOk, OnOk, filter, map};
 ghost use Rattle.mxf_klv.specs.Parts.{NoteParts};
 ghost use Rattle.mxf_restore.specs.Plan.{start_of};
 ghost use Rattle.mxf_hand.specs.Hand.{AreToldIn, HandBytes};
-ghost use Rattle.mxf_hand.specs.Heads.{fitting, heads_to};
+ghost use Rattle.mxf_hand.specs.Heads.{fits, fitting, heads_to};
 ghost use Rattle.mxf_hand.specs.Finding.{Grows, GrowsBySection};
-ghost use Rattle.mxf_hand.specs.Sections.{ends_within, made_by, read_from};
+ghost use Rattle.std.specs.Option.{option_map};
+ghost use Rattle.mxf_hand.specs.Sections.{ends_within, made_by, only, read_from};
 
 use crate::found::Found;
 use crate::hand::Hand;
@@ -45,11 +46,30 @@ fn fitting<'a, S: Sources>(
     let start = start_by(heads, end);
     let mut fitting = Vec::new(alloc);
     for head in heads {
-        if head.0.offset() == start && hand.fits(alloc, sources, head.0)? {
-            fitting.push(*head)?;
-        }
+        push_fitting(alloc, hand, sources, &mut fitting, *head, start)?;
     }
     Ok(fitting)
+}
+
+/// Adds the head, where it begins at a start, in bytes, and fits.
+fn push_fitting<'a, S: Sources>(
+    alloc: Global,
+    hand: &Hand,
+    sources: &mut S,
+    fitting: &mut Vec<HeadNote<'a>>,
+    head: HeadNote<'a>,
+    start: u64,
+) -> Result<(), SourceFault>
+    ensures told { S.told sources.new ≡ S.told sources.old }
+    ensures pushed { (h : HandBytes) → AreToldIn (S.told sources.old) hand.now.given.extents hand.now.runs h
+        → OnOk result (map (λ x. x.0.now) fitting.new.items ≡ map (λ x. x.0.now) fitting.old.items
+        ++ filter (λ n. (n.offset == start) && fits h n) (head.entry.0.now ∷ [])) }
+{
+    if head.0.offset() != start || !hand.fits(alloc, sources, head.0)? {
+        return Ok(());
+    }
+    fitting.push(head)?;
+    Ok(())
 }
 
 /// Whether a packet ends in a hole, which ends there where it has an end, in bytes.
@@ -73,12 +93,25 @@ fn add_made<S: Sources>(
     ensures added { (h : HandBytes) → AreToldIn (S.told sources.old) hand.now.given.extents hand.now.runs h
         → OnOk result (Grows found.old found.new [] (made_by h hole_end (map (λ x. x.0.now) fitting.now)) []) }
 {
-    if let [head] = fitting {
-        if hand.has_value(head.0) && ends_within(hole_end, head.0) {
-            found.add_made(hand.packet_of(alloc, sources, head.0)?)?;
-        }
+    let Some(head) = only(fitting) else {
+        return Ok(());
+    };
+    if !hand.has_value(head.0) || !ends_within(hole_end, head.0) {
+        return Ok(());
     }
+    let packet = hand.packet_of(alloc, sources, head.0)?;
+    found.add_made(packet)?;
     Ok(())
+}
+
+/// The only one of heads, where there is one alone.
+fn only<'a>(heads: &[HeadNote<'a>]) -> Option<HeadNote<'a>>
+    ensures { option_map (λ x. x.0.now) result ≡ only (map (λ x. x.0.now) heads.now) }
+{
+    match heads {
+        [head] => Some(*head),
+        _ => None,
+    }
 }
 
 /// Adds what is put together of a section.
@@ -97,11 +130,14 @@ pub(crate) fn add_section<S: Sources>(
     let ending = heads.ending_at(alloc, section.first)?;
     let fitting = fitting(alloc, hand, sources, &ending, section.first)?;
     add_made(alloc, hand, sources, &fitting, section.hole.end, found)?;
-    let Some(from) = read_from(start_by(&ending, section.first), &fitting) else {
-        return Ok(());
+    let start = start_by(&ending, section.first);
+    let from = match read_from(start, &fitting) {
+        Some(from) => from,
+        None => return Ok(()),
     };
     let reading = hand.read(alloc, sources, from, section.end)?;
-    Ok(found.add_reading(reading, section.hole.end)?)
+    found.add_reading(reading, section.hole.end)?;
+    Ok(())
 }
 
 /// Where a section is read from, in bytes: from its start where no head there fits, from the end of the packet of the one

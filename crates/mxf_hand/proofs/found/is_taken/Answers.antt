@@ -1,4 +1,4 @@
-use Rattle.std.proofs.Common.{◌≡◌, ◌∙◌, ◌<◌, ◌≤◌, ◌+◌, ◌&&◌, Bool, ap, arith, not, nat_lt, refl, sym, true}
+use Rattle.std.proofs.Common.{◌≡◌, ◌∙◌, ◌<◌, ◌&&◌, Bool, ap, arith, not, nat_lt, refl, sym}
 use Rattle.std.proofs.lemmas.Bool.{lt-ltb, ltb-true}
 use Rattle.mxf_klv.specs.Note.{end_of}
 use Rattle.mxf_klv.specs.Parts.{NoteParts}
@@ -20,12 +20,12 @@ returns-then-ends_within c = λ read starts.
     let (at, lies, low, high) = c.meets.ensures.0 t in
     let (m, i, e) = (starts at).0 lies in
     (list_any-In test read).1
-    (m, i, both_true _ _ (lt-ltb _ _ (omega (arith, low, e, from))) (lt-ltb _ _ (omega (arith, high, e, to)))))
+    (m, i, both_true (nat_lt n.offset m.offset) (nat_lt m.offset (end_of n)) (lt-ltb n.offset m.offset (omega (arith, low, e, from))) (lt-ltb m.offset (end_of n) (omega (arith, high, e, to)))))
     (λ t.
     let (m, i, e) = (list_any-In test read).0 t in
-    let parts = two_parts _ _ e in
-    let low : n.offset < m.offset = ltb-true _ _ parts.0 in
-    let high : m.offset < end_of n = ltb-true _ _ parts.1 in
+    let parts = two_parts (nat_lt n.offset m.offset) (nat_lt m.offset (end_of n)) e in
+    let low : n.offset < m.offset = ltb-true n.offset m.offset parts.0 in
+    let high : m.offset < end_of n = ltb-true m.offset (end_of n) parts.1 in
     c.meets.ensures.1
     (m.offset, (starts m.offset).1 (m, i, refl), omega (arith, low, from), omega (arith, high, to)))
     in

@@ -1,7 +1,32 @@
+use Rattle.std.proofs.Common.{None, get_or, ◌∙◌, List, subst}
+use Rattle.mxf_klv.specs.Parts.{NoteParts}
+use Rattle.mxf_restore.specs.declared.section.Section.{Section}
+use Rattle.mxf_hand.specs.Finding.{Finds, GrowsBySection}
+use Rattle.mxf_hand.specs.Rounds.{made_in, packets_in, read_heads_in}
+use Rattle.mxf_hand.proofs.FindingLaws.{all_found, next_found}
+use Rattle.mxf_hand.proofs.HandLaws.{told_after}
 use Rattle.mxf_hand.proofs.putting.found_in.Goals as goal
 
 pub loop-section-preserved : goal.loop-section-preserved
-loop-section-preserved g c = ?
+loop-section-preserved g c = (
+  c.in_ok-add_section.ensures.told ∙ c.loop-section.invariant.0,
+  λ h t.
+      let (packets, made, heads, found, p, m, k) = c.loop-section.invariant.1 h t in
+      let none : Section = record { first = 0; end = None; hole = record { start = 0; end = None } } in
+      let items = c.deref-section-items.result.now in
+      let index = c.loop-section.section-index in
+      let grown = subst (λ (l : List NoteParts). GrowsBySection h l (get_or items index none) c.loop-section.found
+      c.add_section.new.found) (c.in_ok-heads.ensures ∙ c.catalogue.ensures)
+      (c.in_ok-add_section.ensures.added h (told_after c.loop-section.invariant.0 t)) in
+      next_found h c.args.views.now items index none c.loop-section.found c.add_section.new.found packets made heads
+      c.loop-section-test.true grown found p m k,
+)
 
 pub returns-clause-found : goal.returns-clause-found
-returns-clause-found g c = ?
+returns-clause-found g c = λ h t.
+    let (packets, made, heads, found, p, m, k) = c.loop-section.invariant.1 h t in
+    let views = c.args.views.now in
+    let all = all_found h views c.deref-section-items.result.now c.loop-section.section-index c.loop-section.found
+    packets made heads c.loop-section-test.false found p m k in
+    subst (λ (l : List Section). Finds c.loop-section.found (packets_in h views l) (made_in h views l)
+    (read_heads_in h views l)) (c.deref-section-items.ensures.value ∙ c.in_ok-sections.ensures) all

@@ -1,17 +1,14 @@
 -- The heads that fit so far, with those that are to come.
-use Rattle.std.proofs.Common.{◌≡◌, ◌++◌, ◌&&◌, ◌==◌, List, drop, filter, map}
-use Rattle.mxf_klv.specs.Parts.{NoteParts}
-use Rattle.mxf_restore.specs.Plan.{start_of}
+use Rattle.std.proofs.Common.{◌≡◌, ◌++◌, ◌&&◌, ◌==◌, drop, filter, map}
 use Rattle.mxf_hand.specs.Hand.{AreToldIn, HandBytes}
-use Rattle.mxf_hand.specs.Heads.{fits, fitting, heads_to}
+use Rattle.mxf_hand.specs.Heads.{fits}
 use Rattle.mxf_hand.proofs.section.fitting.Given as goal
 
 abbrev pub invariant-loop-head : goal.invariant-loop-head
 invariant-loop-head g l =
     (g.S.Sources.told l.sources ≡ g.S.Sources.told l.initial.sources)
-    × ((notes : List NoteParts) (h : HandBytes)
+    × ((h : HandBytes)
     → AreToldIn (g.S.Sources.told l.initial.sources) l.hand.given.extents l.hand.runs h
-    → map (λ x. x.0.now) l.heads ≡ heads_to l.end notes
-    → map (λ x. x.0.now) l.fitting.items ++ filter (λ n. (n.offset == start_of notes l.end) && fits h n)
+    → map (λ x. x.0.now) l.fitting.items ++ filter (λ n. (n.offset == l.start) && fits h n)
     (map (λ x. x.0.now) (drop l.head-index l.heads))
-    ≡ fitting h notes l.end)
+    ≡ filter (λ n. (n.offset == l.start) && fits h n) (map (λ x. x.0.now) l.heads))

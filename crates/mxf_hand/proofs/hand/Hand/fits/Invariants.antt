@@ -1,5 +1,5 @@
 -- The bytes at hand so far are what the head says.
-use Rattle.std.proofs.Common.{◌≡◌, ◌≤◌, ◌<◌, ◌-◌, ◌⊎◌, ℕ, List, get_or}
+use Rattle.std.proofs.Common.{◌≡◌, ◌≤◌, ◌<◌, ◌-◌, ◌⊎◌, ℕ, get_or}
 use Rattle.mxf_klv.specs.Rising.{In}
 use Rattle.mxf_catalogue.specs.declared.run.Run.{Run}
 use Rattle.mxf_catalogue.specs.Runs.{LiesIn}
@@ -9,7 +9,7 @@ use Rattle.mxf_hand.proofs.hand.Hand.fits.Given as goal
 abbrev pub invariant-loop-run : goal.invariant-loop-run
 invariant-loop-run g l =
     (g.S.Sources.told l.sources ≡ g.S.Sources.told l.initial.sources)
-    × ((r : Run) → In r l.run-iterator → In r l.self.runs)
+    × ((r : Run) → In r l.run-iterator → In r l.self.runs × (r.start < l.end))
     × ((h : HandBytes)
     → AreToldIn (g.S.Sources.told l.initial.sources) l.self.given.extents l.self.runs h
     → (x : ℕ) → l.start ≤ x → x < l.end → LiesIn l.self.runs x
