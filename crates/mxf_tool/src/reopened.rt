@@ -1,4 +1,6 @@
 //! Sources that are read again: their files are opened once more, by their paths.
+ghost use Rattle.std.specs.Prelude.{◌≤◌, IfOk, length};
+
 use crate::source::Source;
 use crate::system_fault::LastFault;
 use mxf_klv::MAX;
@@ -48,7 +50,9 @@ impl<'r, 's, R: Files<File = File>> Reopened<'r, 's, R> {
     }
 
     /// Reads once of the file of a source, behind so many of its bytes.
-    fn read_behind(&mut self, source: usize, position: u64, room: &mut [u8]) -> io::Result<usize> {
+    fn read_behind(&mut self, source: usize, position: u64, room: &mut [u8]) -> io::Result<usize>
+        ensures { IfOk result (λ count. count ≤ length room.new) }
+    {
         let mut file = self.take_file(source)?;
         file.seek(SeekFrom::Start(position))?;
         let count = file.read(room)?;
