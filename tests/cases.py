@@ -18,6 +18,9 @@ A case is some lines of a text file in tests/cases. A number sign begins a comme
     range OFFSET: PACKET               a range that begins at OFFSET, where the first PACKET may be the end of one
     packets of FILE: OFFSET OFFSET     the packets of a file of tests/cases/files.txt that stand there, each a piece
     against OFFSET: PACKET             a piece of the reference of `verify`; the packets that follow in it stand as in `at`
+    together OFFSET: PACKET            packets that are put together of bytes at hand, as in `at`: the catalogue has them
+    at hand                            bytes are at hand that no packet has, so `plan`, `map` and `units` say more of the
+                                       sources than of the catalogue, and are asked of the sources alone
     show [WORD ..]                     what `show` prints, or those of its lines that begin with one of the words
         LINE
     check                              what `check` prints; `locate INDEX UNIT`, `units FROM TO [INDEX]`, `plan`,
@@ -59,6 +62,8 @@ OPTIONS = {
     "map": ("--columns", "--rows"),
     "verify": ("--index", "--from", "--to"),
 }
+# What is told of bytes at hand too, which a saved catalogue hasn't.
+OF_BYTES = ("plan", "map", "units")
 NAME = re.compile(r'\{"line":"([^"]*)"')
 
 # A worked file in a crate of tests: its name and its bytes, as hexadecimal digits with comments.
@@ -105,20 +110,22 @@ class Command:
 
 class Case:
     """The pieces of a case, each an offset, its packets and whether it is a piece or a range, those of the reference of
-    `verify`, and its commands."""
+    `verify`, those that are put together, and its commands."""
 
     def __init__(self, name):
         self.name = name
         self.pieces = []
         self.reference = []
+        self.together = []
         self.last = None
         self.commands = []
         self.in_each_order = False
+        self.at_hand = False
 
     def begin(self, offset, sort):
-        """Begins a piece or a range, or a piece of the reference."""
-        self.last = (offset, [], "at" if sort == "against" else sort)
-        (self.reference if sort == "against" else self.pieces).append(self.last)
+        """Begins a piece or a range, a piece of the reference, or what is put together."""
+        self.last = (offset, [], "range" if sort == "range" else "at")
+        {"against": self.reference, "together": self.together}.get(sort, self.pieces).append(self.last)
 
     def lay(self, line, files):
         """Adds the packet of this line, or the packets of the file of that name, to the last piece."""
@@ -196,7 +203,9 @@ def case_of(name, lines, files):
                 case.commands[-1].lines.append(with_characters(text.removesuffix("$")))
             elif text == "in each order":
                 case.in_each_order = True
-            elif word in ("at", "range", "against"):
+            elif text == "at hand":
+                case.at_hand = True
+            elif word in ("at", "range", "against", "together"):
                 takes_packets = True
                 offset, _, packet = rest.partition(": ")
                 case.begin(int(offset), word)
@@ -311,7 +320,7 @@ class Run:
             if content not in contents:
                 lines += self.wrong_when_saved(case, saved)
             contents.add(content)
-        if contents != {catalogue(case.pieces)}:
+        if contents != {catalogue(case.pieces + case.together)}:
             lines.append("  the saved catalogue isn't the file of the packets")
         return lines
 
@@ -334,6 +343,8 @@ class Run:
         """The same for a saved catalogue, of which no line of a piece is printed."""
         lines = []
         for command in commands_of(case):
+            if case.at_hand and command.name in OF_BYTES:
+                continue
             wanted = [line for line in command.lines if name_of(line) not in ("piece", "stop")]
             found = wanted not in (["findings 0"], ['{"line":"findings","findings":0}'])
             status = int(found) if command.name == "check" else command.status
