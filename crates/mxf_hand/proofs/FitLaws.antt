@@ -1,12 +1,13 @@
 -- Bytes at hand of a head's key and length, run after run.
-use Rattle.std.proofs.Common.{◌≡◌, ◌≢◌, false, ◌∙◌, ◌≤◌, ◌<◌, ◌+◌, ◌-◌, ℕ, List, [], ◌∷◌, Some}
-use Rattle.std.proofs.Common.{ap, arith, filter, get_or, inl, inr, length, length-append, nat_lt, subst, sym}
+use Rattle.std.proofs.Common.{◌≡◌, ◌≢◌, false, ◌∙◌, ◌≤◌, ◌<◌, ◌+◌, ◌-◌, ℕ, List, Some}
+use Rattle.std.proofs.Common.{ap, arith, filter, get_or, length, length-append, nat_lt, subst, sym}
 use Rattle.std.proofs.lemmas.Bool.{false_from_ne_true, lt-ltb, ltb-true}
 use Rattle.std.proofs.lemmas.List.FromFn.{get_or-map-range_with_len, length-map-range_with_len}
 use Rattle.mxf_klv.specs.Parts.{NoteParts}
 use Rattle.mxf_klv.specs.Note.{IsNote}
-use Rattle.mxf_klv.specs.Ber.{IsSpelledLength, length_bytes}
+use Rattle.mxf_klv.specs.Ber.{length_bytes}
 use Rattle.mxf_klv.specs.Rising.{In}
+use Rattle.mxf_klv.proofs.LengthLemmas.{spelled_len}
 use Rattle.mxf_klv.proofs.Lists.{In-filter}
 use Rattle.mxf_klv.proofs.RoundTrips.{length_bytes-spelled}
 use Rattle.mxf_catalogue.specs.declared.run.Run.{Run}
@@ -18,22 +19,12 @@ use Rattle.mxf_hand.specs.Heads.{fits, key_and_length}
 use Rattle.mxf_hand.proofs.HandLaws.{fits_at}
 use Rattle.mxf_hand.proofs.HeadNoteLaws.{both_true, two_parts}
 
--- As many bytes spell a length as it says.
-spelled_length : (bytes : List ℕ) (w v : ℕ) → IsSpelledLength bytes w v → length bytes ≡ w
-spelled_length [] w v is = absurd is
-spelled_length (b ∷ bytes) w v (inl is) =
-    let one = is.0 in
-    let none = ap length is.3 in omega (arith, one, none)
-spelled_length (b ∷ bytes) w v (inr is) =
-    let least = is.0 in
-    let rest = is.3 in omega (arith, least, rest)
-
 -- Key and length of a note have 16 bytes and its width.
 pub length-key_and_length : (n : NoteParts) → IsNote n → length (key_and_length n) ≡ 16 + n.width
 length-key_and_length n is =
     length-append n.key (length_bytes n.width n.length)
     ∙ (let key : length n.key ≡ 16 = is.label.0 in
-    let rest = spelled_length (length_bytes n.width n.length) n.width n.length
+    let rest = spelled_len (length_bytes n.width n.length) n.width n.length
     (length_bytes-spelled n.width n.length is.width) in
     omega (arith, key, rest))
 

@@ -3,3 +3,5 @@ pub mod FindingLaws
 pub mod HandLaws
 pub mod HeadNoteLaws
 pub mod FitLaws
+pub mod SameBytes
+pub mod HistoryLaws

@@ -1,11 +1,34 @@
-//! Putting together packets of bytes at hand: those that lie over the border of two sources, and those whose head alone
-//! is noted (this project's profile).
+//! Putting together packets of bytes at hand: those that lie over the border of two sources, and those of which the head
+//! alone is noted (this project's profile).
+//!
+//! A range that ends inside a packet notes its head, and the range that goes on behind it notes nothing of it. Where the
+//! bytes of both are there, [`put_together`] reads what would be ordered as if it had been restored: a section of a hole
+//! from where a packet begins, and the value of a head. It goes on in rounds, since what is put together names further
+//! places.
+//!
+//! What is proved: the answer is its function of the content and of the bytes at hand, whichever source they are read of.
+//! Laws: the order of sources doesn't matter ([`one_content_of_sources`]), what is held stays ([`what_is_held_stays`]),
+//! what was saved changes nothing beside the same sources ([`saved_beside_its_sources`]), and what is said of histories of
+//! calls is said of it ([`put_together_is_a_history`]).
+//!
+//! What two ranges hold together with what is put together of their bytes:
+//!
+//! ```
+//! let gathered = gather(alloc, parts)?;
+//! let given = Given::of(alloc, extents)?;
+//! let whole = put_together(alloc, gathered.views, given, &mut sources)?;
+//! let plan = Plan::of(alloc, &whole.views, &whole.at_hand)?;
+//! ```
 #![tactic(auto)]
 
 mod found;
 mod hand;
 mod head;
+mod laws;
 mod putting;
 mod section;
 
+pub use laws::{
+    one_content_of_sources, put_together_is_a_history, saved_beside_its_sources, what_is_held_stays,
+};
 pub use putting::{PutTogether, put_together};

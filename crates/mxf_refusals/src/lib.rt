@@ -10,6 +10,8 @@
 #[cfg(test)]
 mod additions;
 #[cfg(test)]
+mod at_hand;
+#[cfg(test)]
 mod files;
 #[cfg(test)]
 mod looked_up;

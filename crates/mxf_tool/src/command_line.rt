@@ -118,7 +118,8 @@ const LOCATE_HELP: &str = source_help!(
 /// What the help of `units` ends with.
 const UNITS_HELP: &str = source_help!(
     "Each unit is one of
-  held  part  missing  disputed   it lies from START up to END: all, some or none of it is held, or in two readings
+  held  hand                      it lies from START up to END: all of it is held, or the rest is at hand, in a range
+  part  missing  disputed         the same: some or none of it is held or at hand, or it is held in two readings
   elsewhere  unsure  unknown      it lies in a partition that isn't held, may do so, or its partition isn't known whole
   no-partition  several           no partition of its stream is held that begins before it, or more than one does
   not-indexed  ambiguous          no segment of the index that is held has it, or segments disagree";
@@ -130,14 +131,18 @@ Example: mxf_tool units --from 250 --to 274 cat:clip.cat"
 
 /// What the help of `plan` ends with.
 const PLAN_HELP: &str = source_help!(
-    "Example: mxf_tool plan range:62914560:part.bin cat:earlier.cat"
+    "Hand in what is restored at START as at:START:PATH, where the order says inside as range:START:PATH. One that says again
+was handed in already: its bytes are damaged, or two sources differ there.
+
+Example: mxf_tool plan range:62914560:part.bin cat:earlier.cat"
 );
 
 /// What the help of `map` ends with.
 const MAP_HELP: &str = source_help!(
     "Each character is a cell of as many bytes, what fits first:
   !  disputed         H F B R  a header, footer or body partition, or a random index pack begins
-  o  a named place that isn't held   .  nothing is held   +  some of it is held
+  o  a named place that isn't held   ~  nothing is held, some of it is at hand in a range
+  .  nothing is held or at hand      +  some of it is held
   m  all held, header metadata       i  all held, index   #  all held";
     "Example: mxf_tool map --columns 100 cat:clip.cat"
 );

@@ -1,0 +1,39 @@
+//! Laws of what is put together.
+ghost use Rattle.std.specs.Prelude.{◌≡◌, List};
+ghost use Rattle.mxf_klv.specs.Parts.{NoteParts};
+ghost use Rattle.mxf_klv.specs.Rising.{SameMembers};
+ghost use Rattle.mxf_catalogue.specs.Content.{AreReduced, IsContent, has_note, reduced_union};
+ghost use Rattle.mxf_catalogue.specs.History.{Hands, History, content};
+ghost use Rattle.mxf_read.specs.Given.{SourceParts};
+ghost use Rattle.mxf_hand.specs.Hand.{AreOf, HandBytes};
+ghost use Rattle.mxf_hand.specs.Rounds.{put_together, round};
+
+/// A law of [`put_together`](crate::put_together): it is a function of the content and of the set of sources. The order
+/// and the repeats of sources don't matter, nor does it which of those that give a byte is read.
+pub fn one_content_of_sources()
+    ensures order { (some others : List SourceParts) (h : HandBytes) → SameMembers some others → AreOf some h
+        → AreOf others h }
+    ensures one { (sources : List SourceParts) (h k : HandBytes) (notes : List NoteParts) → AreOf sources h
+        → AreOf sources k → put_together h notes ≡ put_together k notes }
+{}
+
+/// A law of [`put_together`](crate::put_together): all that is held stays, a head unless its packet takes its place.
+pub fn what_is_held_stays()
+    ensures { (h : HandBytes) (notes : List NoteParts) (n : NoteParts) → has_note notes n
+        → has_note (put_together h notes) n }
+{}
+
+/// A law of [`put_together`](crate::put_together): where no round more changes anything, what was put together, saved and
+/// handed in beside the same sources, changes nothing either.
+pub fn saved_beside_its_sources()
+    ensures { (h : HandBytes) (notes : List NoteParts) → IsContent notes → AreReduced notes
+        → round h (put_together h notes) ≡ put_together h notes
+        → put_together h (reduced_union notes (put_together h notes)) ≡ put_together h notes }
+{}
+
+/// A law of [`put_together`](crate::put_together): it leaves what some history of calls leaves that was handed all that was
+/// handed before, so what is said of histories is said of it.
+pub fn put_together_is_a_history()
+    ensures { (h : HandBytes) (before : History) → (after : History)
+        × (content after ≡ put_together h (content before)) × ((n : NoteParts) → Hands before n → Hands after n) }
+{}

@@ -1,0 +1,57 @@
+//! Packets put together of bytes at hand.
+use crate::files::M;
+use mxf_hand::put_together;
+use mxf_read::{AbsorbFault, BytesAt, Extent, Given, InMemory, SourceFault, absorb};
+use mxf_views::{Chain, Views};
+use std::alloc::Global;
+
+/// Where M is cut in two: in the value of its footer partition.
+const CUT: usize = 128;
+
+/// The views of M's parts: the footer partition is held as a head.
+fn views_of_parts(alloc: Global) -> Result<Views, AbsorbFault> {
+    let mut views = Views::new(alloc);
+    absorb(alloc, &mut views, 0, &M[..CUT])?;
+    absorb(alloc, &mut views, CUT as u64, &M[CUT..])?;
+    Ok(views)
+}
+
+/// Puts M's parts together. Whether M is held whole, and the byte at the cut is at hand.
+fn put_parts_together(alloc: Global, views: Views) -> Result<bool, SourceFault> {
+    let parts = [(0, &M[..CUT]), (CUT as u64, &M[CUT..])];
+    let mut sources = Vec::new(alloc);
+    let mut extents = Vec::new(alloc);
+    for (offset, bytes) in parts {
+        sources.push(BytesAt { offset, bytes })?;
+        extents.push(Extent::new(offset, bytes.len() as u64))?;
+    }
+    let given = Given::of(alloc, extents)?;
+    let whole = put_together(alloc, views, given, &mut InMemory { sources })?;
+    Ok(
+        whole.views.catalogue().len() == 3
+            && whole.views.chain() == Chain::Whole
+            && whole.at_hand.has(CUT as u64),
+    )
+}
+
+/// Whether M's parts are put together, also where one growth is refused.
+fn are_put_together(alloc: Global) -> bool {
+    for _ in 0..2 {
+        let Ok(views) = views_of_parts(alloc) else {
+            continue;
+        };
+        match put_parts_together(alloc, views) {
+            Ok(whole) => return whole,
+            Err(SourceFault::OutOfMemory) => continue,
+            // Bytes in memory can always be read.
+            Err(SourceFault::ReadFault { .. }) => return false,
+        }
+    }
+    false
+}
+
+#[test]
+fn parts_put_together(rt: HostRuntime) {
+    let held = are_put_together(rt.alloc());
+    assert!(rt; held);
+}
