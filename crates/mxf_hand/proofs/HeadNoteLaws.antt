@@ -81,7 +81,7 @@ near n end is head e =
           let most = w.1 in (omega (arith, covered, least, most), omega (arith, covered, least, most))
     ]
 
-not_whole : (b : Bool) → not b ≡ true → b ≡ false
+pub not_whole : (b : Bool) → not b ≡ true → b ≡ false
 not_whole true e = absurd cc
 not_whole false e = refl
 

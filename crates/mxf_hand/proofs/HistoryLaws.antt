@@ -1,8 +1,7 @@
 -- What was put together, as what calls leave.
-use Rattle.std.proofs.Common.{◌≡◌, ◌∙◌, ◌⊎◌, ℕ, zero, suc, List, [], ◌∷◌, ap, inl, inr, refl, sym}
+use Rattle.std.proofs.Common.{◌≡◌, ◌∙◌, ℕ, zero, suc, List, [], ◌∷◌, ap, inl, inr, refl, sym}
 use Rattle.mxf_klv.specs.Parts.{NoteParts}
-use Rattle.mxf_klv.specs.Rising.{In}
-use Rattle.mxf_catalogue.specs.Content.{AreReduced, IsContent, has_note, reduced_union, reduced_with}
+use Rattle.mxf_catalogue.specs.Content.{AreReduced, IsContent, has_note, reduced_union}
 use Rattle.mxf_catalogue.specs.History.{Add, Hands, History, content}
 use Rattle.mxf_catalogue.proofs.HeadLaws.{AreReduced-reduced_union, IsContent-reduced_union, has-reduced_union, one_reduced}
 use Rattle.mxf_restore.specs.Sections.{sections_of}
@@ -33,11 +32,11 @@ unfolding put_together
 all_keep h notes n has = rounds_keep 64 h notes n has
 
 -- A content stays a reduced one.
-round_content : (h : HandBytes) (notes : List NoteParts) → IsContent notes → IsContent (round h notes)
+pub round_content : (h : HandBytes) (notes : List NoteParts) → IsContent notes → IsContent (round h notes)
 unfolding round
 round_content h notes r = IsContent-reduced_union notes (taken_in h notes (sections_of notes)) r
 
-round_reduced : (h : HandBytes) (notes : List NoteParts) → AreReduced notes → AreReduced (round h notes)
+pub round_reduced : (h : HandBytes) (notes : List NoteParts) → AreReduced notes → AreReduced (round h notes)
 unfolding round
 round_reduced h notes p = AreReduced-reduced_union notes (taken_in h notes (sections_of notes)) p
 

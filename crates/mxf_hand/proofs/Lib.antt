@@ -5,3 +5,4 @@ pub mod HeadNoteLaws
 pub mod FitLaws
 pub mod SameBytes
 pub mod HistoryLaws
+pub mod ClearLaws

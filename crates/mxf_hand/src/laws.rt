@@ -3,6 +3,7 @@ ghost use Rattle.std.specs.Prelude.{◌≡◌, List};
 ghost use Rattle.mxf_klv.specs.Parts.{NoteParts};
 ghost use Rattle.mxf_klv.specs.Rising.{SameMembers};
 ghost use Rattle.mxf_catalogue.specs.Content.{AreReduced, IsContent, has_note, reduced_union};
+ghost use Rattle.mxf_catalogue.specs.Disputes.{IsClear};
 ghost use Rattle.mxf_catalogue.specs.History.{Hands, History, content};
 ghost use Rattle.mxf_read.specs.Given.{SourceParts};
 ghost use Rattle.mxf_hand.specs.Hand.{AreOf, HandBytes};
@@ -21,6 +22,13 @@ pub fn one_content_of_sources()
 pub fn what_is_held_stays()
     ensures { (h : HandBytes) (notes : List NoteParts) (n : NoteParts) → has_note notes n
         → has_note (put_together h notes) n }
+{}
+
+/// A law of [`put_together`](crate::put_together): what is clear stays clear, so no partition, set, segment or pack goes
+/// out of a view.
+pub fn what_is_clear_stays_clear()
+    ensures { (h : HandBytes) (notes : List NoteParts) (n : NoteParts) → IsContent notes → AreReduced notes
+        → IsClear n notes → IsClear n (put_together h notes) }
 {}
 
 /// A law of [`put_together`](crate::put_together): where no round more changes anything, what was put together, saved and
