@@ -9,11 +9,12 @@
 Of each file the program is asked everything. Each run has to end with a status that fits what was asked, within a bound
 of processor time, n log n in the bytes of its sources, and a bound of memory, linear in them. Want of memory within
 that bound fails, as does anything on standard error. What is noted, why a piece ends, what is disputed or a gap, how
-pieces with other bytes stand to a reference of some of them, and the saved catalogue are compared with those of notes.py,
-which goes by ST 336 alone. Cut at packets and within them,
-with repeats, a part saved, in another order, the sources leave the same catalogue, and a saved one is shown as they
-are. Whole notes that version 1 of the file saved are shown, and joined with the others. A damaged catalogue of either
-version, or one with parts of both, is shown, or refused with its cause and place, by notes.py too.
+pieces with other bytes stand to a reference of some of them, and the saved catalogue are compared with those of
+notes.py, which goes by ST 336 alone, and what is put together and ordered of ranges with those of at_hand.py. Cut at
+packets and within them, with repeats, a part saved, in another order, the sources leave the same catalogue, and a saved
+one is shown as they are; ranges do in another order, with repeats, and with what was saved of them. Whole notes that
+version 1 of the file saved are shown, and joined with the others. A damaged catalogue of either version, or one with
+parts of both, is shown, or refused with its cause and place, by notes.py too.
 
 A file of a shape with many alike, and one of twice as many: no question takes more than two and a half times as long.
 
@@ -34,7 +35,7 @@ import tempfile
 import time
 
 import notes
-from hostile_files import MANY, SHAPES, TOP, listed_units, pieces_of
+from hostile_files import MANY, SHAPES, TOP, differing_ranges, heads_over_bytes, listed_units, pieces_of
 from hostile_runs import Run, Wrong, finds, is_shown, read_source, try_file, try_number, without_kind
 
 # The greatest ratio of two times, one of twice as many: n log n at these sizes is below 2.2, a square is 4.
@@ -146,6 +147,8 @@ def seconds_of(run, shape, sources, size):
     asked = {"show": [], "check": [], "locate": ["--index", "1", "--unit", "0"], "join": ["--out", joined]}
     if shape is listed_units:
         asked["units"] = ["--index", "1"]
+    if shape in (differing_ranges, heads_over_bytes):
+        asked.update(plan=[], map=[])
     return {name: run.call_once((0, 1), size, name, *words, *sources)[1] for name, words in asked.items()}
 
 

@@ -30,6 +30,11 @@ def laid(lines):
     return bytes(data)
 
 
+def laid_at(line, offset):
+    """The bytes of the packet of this line, which stands at an offset."""
+    return packets.bytes_of(packets.packet(line, offset))
+
+
 def batch(count, size, items=b""):
     """A batch that states this count and size, whatever its items, as digits."""
     return (count.to_bytes(4, "big") + size.to_bytes(4, "big") + items).hex()
@@ -287,6 +292,49 @@ def ranges(rng):
     return pieces + [(0, data[: cuts[0]])] * rng.randint(0, 1)
 
 
+def differing_ranges(rng, many=None):
+    """Ranges over one another that differ at many places, near one another or not, behind a damaged label; at times many
+    ranges."""
+    places, step = many or rng.choice((1, 40, 600)), rng.choice((1, 60, 511, 512, 513, 700))
+    data = bytearray(laid(["header footer=628"] + ["essence 480"] * (places * step // 500 + 2)))
+    data[108] = 0
+    copies = 1 if many else rng.choice((1, 2, 100))
+    pieces = [(RangeOffset(0), bytes(data))]
+    for number in range(copies):
+        for at in range(200 + number, min(200 + places * step, len(data)), step):
+            data[at] ^= 1 + at % 255
+        start = rng.choice((0, 60, 108, 628))
+        pieces.append((RangeOffset(start), bytes(data[start:])))
+    return pieces
+
+
+def heads_over_bytes(rng, many=None):
+    """Saved heads that claim all bytes up to the greatest end, or few, and ranges that have their keys and lengths, damaged
+    ones too."""
+    many, step, claims_all = many or rng.choice((3, 300)), rng.choice((25, 26, 60, 700)), rng.random() < 0.5
+    key, heads, data = some_key(rng), [], b""
+    for number in range(many):
+        length = notes.GREATEST_END - 25 - step * number if claims_all else rng.choice((0, 1, step - 25, step, many * step))
+        heads.append(notes.head(step * number, key, 9, length))
+        data += (key + packets.length_field(9, length)).ljust(step, b"\0")
+    if rng.random() < 0.5:
+        data = mutated_bytes(rng, data)
+    cuts = sorted(rng.choices(range(len(data)), k=rng.randint(0, 3)))
+    ranges = [(RangeOffset(start), data[start:end]) for start, end in zip([0, *cuts], [*cuts, len(data)])]
+    return [(None, notes.file_of(heads)), *ranges]
+
+
+def named_one_by_one(rng, many=None):
+    """A range of partition packs that each name the one behind, with zeros between, so that a round finds one; and a random
+    index pack that names places where none stands."""
+    many, step = many or rng.choice((3, 63, 64, 65, 300)), rng.choice((110, 200))
+    packs = [laid_at(f"{'body' if n else 'header'} footer={step * (n + 1)}", step * n).ljust(step, b"\0") for n in range(70)]
+    end = 70 * step + 2 * many
+    entries = " ".join(f"1:{70 * step + 2 * number}" for number in range(many))
+    rip = laid_at(f"rip {entries}", end)
+    return [(RangeOffset(0), b"".join(packs).ljust(end, b"\0") + rip)]
+
+
 def mutated_bytes(rng, data):
     """The bytes with some changed, put in, taken out, or doubled; mostly few, so that most of the file stays."""
     data = bytearray(data)
@@ -326,7 +374,7 @@ def two_readings(rng):
 SHAPES = (
     spelled_lengths, counts, items, packs_that_name, circles, zones, copies, random_indexes, segments_of_a_unit, listed_units,
     long_primer, long_batches, named_by_all, disputes, many_packets, noise, mutated, mutated, mutated, two_readings, saved_heads,
-    under_one_another, fronts_of_packets, labels_that_fail, ranges,
+    under_one_another, fronts_of_packets, labels_that_fail, ranges, ranges, differing_ranges, heads_over_bytes, named_one_by_one,
 )  # fmt: skip
 
 
@@ -341,4 +389,5 @@ MANY = {
     counts: 10000, items: 5000, packs_that_name: 10000, circles: 5000, zones: 5000, copies: 5000,
     random_indexes: 10000, segments_of_a_unit: 10000, listed_units: 1000, long_primer: 32000, long_batches: 2000, named_by_all: 2000, disputes: 20000,
     many_packets: 40000, saved_heads: 10000, under_one_another: 10000, labels_that_fail: 100000,
+    differing_ranges: 10000, heads_over_bytes: 10000, named_one_by_one: 1000,
 }  # fmt: skip

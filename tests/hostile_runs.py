@@ -1,4 +1,4 @@
-"""Runs of the program on hostile files, and what each has to print by notes.py."""
+"""Runs of the program on hostile files, and what each has to print by notes.py and at_hand.py."""
 import bisect
 import itertools
 import math
@@ -9,6 +9,7 @@ import re
 import subprocess
 import time
 
+import at_hand
 import notes
 from hostile_files import RangeOffset, mutated_bytes, pieces_of
 
@@ -25,6 +26,15 @@ def read_source(offset, data):
         return found + heads, (offset + (notes.start_of(offset, data) or 0), len(found), stop)
     found, heads, stop = notes.read_piece(offset, data)
     return found + heads, (offset, len(found), stop)
+
+
+def held_of(pieces):
+    """What pieces, ranges and saved catalogues hold together, what is at hand of them, and how many rounds of putting packets
+    together changed something: only where one of them is a range are bytes at hand."""
+    content = notes.reduced(note for piece in pieces for note in read_source(*piece)[0])
+    is_in_ranges = any(isinstance(offset, RangeOffset) for offset, _ in pieces)
+    hand = at_hand.AtHand([piece for piece in pieces if piece[0] is not None] if is_in_ranges else [])
+    return *(at_hand.put_together(content, hand) if is_in_ranges else (content, 0)), hand
 
 
 def seconds_for(size):
@@ -161,8 +171,11 @@ def finds(checked, content):
     return touching == wanted and [offset for code, offset in found if code == "F03"] == [str(gap[0]) for gap in notes.gaps(content)]
 
 
-def orders(planned, content):
-    """Whether a plan's last line counts its orders, and these have all bytes of the gaps of these notes below the end."""
+def orders(planned, content, hand):
+    """Whether a plan's last line counts its orders, and these have all bytes of the gaps of these notes below the end that
+    aren't at hand. Where bytes are at hand, they are the orders of at_hand.py."""
+    if hand.runs and [line for line in planned if line.startswith("restore ")] != at_hand.orders(content, hand):
+        return False
     *lines, last = (line.split(" ") for line in planned)
     ordered = sorted((int(words[1]), 2**64 if words[2] == "-" else int(words[2])) for words in lines if words[0] == "restore")
     if last[:1] + last[2:3] != ["planned", "ranges"] or int(last[1]) != len(ordered):
@@ -171,7 +184,8 @@ def orders(planned, content):
     ends = itertools.accumulate((end for _, end in ordered), max)
     ordered = [(start, end) for (start, _), end in zip(ordered, ends)]
     end = 2**64 if last[8] == "-" else int(last[8])
-    return all(is_within(start, min(stop, end), ordered) for start, stop in notes.gaps(content))
+    lacking = (part for gap in notes.gaps(content) for part in hand.hand.lacking(*gap))
+    return all(is_within(start, min(stop, end), ordered) for start, stop in lacking)
 
 
 def is_within(start, stop, ranges):
@@ -182,11 +196,15 @@ def is_within(start, stop, ranges):
     return start >= stop
 
 
-def pictures(pictured, content):
-    """Whether a map's first line tells how many bytes of these notes are held, and how many notes are disputed."""
+def pictures(pictured, content, hand):
+    """Whether a map's first line tells how many bytes of these notes are held, how many others are at hand below its end,
+    and how many notes are disputed."""
     words = pictured[0].split(" ")
     held = max((note.end for note in content), default=0) - sum(stop - start for start, stop in notes.gaps(content))
-    return words[0] == "map" and int(words[3]) == held and int(words[13]) == len(notes.disputed(content))
+    free = at_hand.Ranges((note.offset, note.covered_end) for note in content).lacking(0, int(words[1]))
+    lost = [part for gap in free for part in hand.hand.lacking(*gap)]
+    beside = sum(stop - start for start, stop in free) - sum(stop - start for start, stop in lost)
+    return words[0] == "map" and (int(words[3]), int(words[5]), int(words[13])) == (held, beside, len(notes.disputed(content)))
 
 
 def try_pieces(run, rng, pieces):
@@ -195,7 +213,7 @@ def try_pieces(run, rng, pieces):
     sources = run.lay("piece", pieces)
     read = [read_source(*piece) for piece in pieces]
     printed = [line for _, line in read if line is not None]
-    content = notes.reduced(note for found, _ in read for note in found)
+    content, rounds, hand = held_of(pieces)
     wanted = notes.file_of(content)
     joined = f"joined {len(content)} notes {len(notes.disputed(content))} disputed\n"
     if run.joined(size, sources) != (wanted, joined):
@@ -219,14 +237,17 @@ def try_pieces(run, rng, pieces):
     place = ["--index", str(rng.choice((0, 1, 2**32 - 1))), "--unit", str(rng.choice((0, 1, 2**63 - 1)))]
     if len(run.call((0, 1), size, "locate", *place, *sources).splitlines()) != 1:
         raise Wrong("a place isn't one line")
-    if not orders(run.call((0, 1), size, "plan", *sources).splitlines(), content):
+    if not orders(run.call((0, 1), size, "plan", *sources).splitlines(), content, hand):
         raise Wrong("a plan doesn't order all gaps")
-    if not pictures(run.call((0,), size, "map", *sources).splitlines(), content):
+    if not pictures(run.call((0,), size, "map", *sources).splitlines(), content, hand):
         raise Wrong("a map doesn't tell what is held")
     beside = run.call((int(bool(notes.disputed(content))),), size, "sources", *sources).splitlines()
     if [without_kind(line) for line in beside] != list(notes.source_lines(sources, (found for found, _ in read))):
         raise Wrong("the sources beside each other aren't those of the packets")
-    try_other_order(run, rng, pieces, wanted)
+    if hand.runs:
+        try_again(run, rng, pieces, wanted, rounds < at_hand.ROUNDS)
+    else:
+        try_other_order(run, rng, pieces, wanted)
     return content
 
 
@@ -238,6 +259,21 @@ def try_other_order(run, rng, pieces, wanted):
         others[0] = run.saved("part", size, others[:1])
     if run.joined(size, others or ["at:0:/dev/null"])[0] != wanted:
         raise Wrong("in another order the catalogue is another")
+
+
+def try_again(run, rng, pieces, wanted, is_closed):
+    """Joins ranges in another order, some of them twice, and where that is closed with what was saved of them: the
+    catalogue has to be the one that is wanted."""
+    sources = run.lay("again", pieces)
+    sources += rng.sample(sources, rng.randint(0, len(sources)))
+    if is_closed and rng.random() < 0.5:
+        saved = run.folder / "closed"
+        saved.write_bytes(wanted)
+        sources.append(f"cat:{saved}")
+    rng.shuffle(sources)
+    size = 2 * sum(len(data) for _, data in pieces) + len(wanted)
+    if run.joined(size, sources)[0] != wanted:
+        raise Wrong("ranges in another order, with what was saved of them, leave another catalogue")
 
 
 def changed(rng, offset, data):
@@ -265,7 +301,7 @@ def try_verified(run, rng, pieces):
     of = [piece for piece in pieces if rng.random() < 0.8] or pieces[:1]
     others = [changed(rng, *piece) for piece in pieces]
     read = [read_source(*piece) for piece in of]
-    reference = notes.reduced(note for found, _ in read for note in found)
+    reference, _, _ = held_of(of)
     stops = [(offset, stop) for offset, _, stop in (line for _, line in read if line is not None) if stop != "end"]
     wanted = [f"stop {offset} {stop}" for offset, stop in stops]
     wanted += notes.verify_lines(reference, [beside(*piece) for piece in others])
