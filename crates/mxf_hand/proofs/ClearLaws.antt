@@ -39,7 +39,7 @@ use Rattle.mxf_hand.proofs.HeadNoteLaws.{not_whole}
 use Rattle.mxf_hand.proofs.HistoryLaws.{round_content, round_reduced}
 
 -- The head of a packet that is cut in a hole.
-abbrev cut_head : NoteParts → Option ℕ → CutHead
+abbrev pub cut_head : NoteParts → Option ℕ → CutHead
 cut_head n end = record { note = n; hole_end = end }
 
 -- ---- readings

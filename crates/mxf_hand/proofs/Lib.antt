@@ -6,3 +6,4 @@ pub mod FitLaws
 pub mod SameBytes
 pub mod HistoryLaws
 pub mod ClearLaws
+pub mod FileLaws

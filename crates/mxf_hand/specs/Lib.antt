@@ -3,3 +3,4 @@ pub mod Heads
 pub mod Sections
 pub mod Rounds
 pub mod Finding
+pub mod File

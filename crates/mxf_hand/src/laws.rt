@@ -1,13 +1,14 @@
 //! Laws of what is put together.
-ghost use Rattle.std.specs.Prelude.{◌≡◌, List};
-ghost use Rattle.mxf_klv.specs.Parts.{NoteParts};
+ghost use Rattle.std.specs.Prelude.{◌≡◌, ℕ, List};
+ghost use Rattle.mxf_klv.specs.Parts.{NoteParts, PacketParts};
 ghost use Rattle.mxf_klv.specs.Rising.{SameMembers};
 ghost use Rattle.mxf_catalogue.specs.Content.{AreReduced, IsContent, has_note, reduced_union};
 ghost use Rattle.mxf_catalogue.specs.Disputes.{IsClear};
 ghost use Rattle.mxf_catalogue.specs.History.{Hands, History, content};
 ghost use Rattle.mxf_read.specs.Given.{SourceParts};
+ghost use Rattle.mxf_hand.specs.File.{AreBytesOfFile, AreOfFile, BeginAtPackets};
 ghost use Rattle.mxf_hand.specs.Hand.{AreOf, HandBytes};
-ghost use Rattle.mxf_hand.specs.Rounds.{put_together, round};
+ghost use Rattle.mxf_hand.specs.Rounds.{put_together, round, rounds};
 
 /// A law of [`put_together`](crate::put_together): it is a function of the content and of the set of sources. The order
 /// and the repeats of sources don't matter, nor does it which of those that give a byte is read.
@@ -29,6 +30,14 @@ pub fn what_is_held_stays()
 pub fn what_is_clear_stays_clear()
     ensures { (h : HandBytes) (notes : List NoteParts) (n : NoteParts) → IsContent notes → AreReduced notes
         → IsClear n notes → IsClear n (put_together h notes) }
+{}
+
+/// A law of [`put_together`](crate::put_together): where what is held and the bytes at hand are a file's, and what packs
+/// say of places is right in each round, what is put together is of that file.
+pub fn only_packets_of_the_file()
+    ensures { (packets : List PacketParts) (h : HandBytes) (notes : List NoteParts) → AreBytesOfFile packets h
+        → AreOfFile packets notes → ((count : ℕ) → BeginAtPackets packets (rounds count h notes))
+        → AreOfFile packets (put_together h notes) }
 {}
 
 /// A law of [`put_together`](crate::put_together): where no round more changes anything, what was put together, saved and

@@ -1,0 +1,36 @@
+-- A file of packets, of which notes and bytes are known (this project's profile).
+use Rattle.std.specs.Prelude.{◌≡◌, ℕ, List, [], ◌++◌, slice_get, Some}
+use Rattle.mxf_klv.specs.Parts.{NoteParts, PacketParts}
+use Rattle.mxf_klv.specs.Piece.{AreLaid, end_after, notes_from}
+use Rattle.mxf_klv.specs.Rising.{In}
+use Rattle.mxf_catalogue.specs.Content.{has_note}
+use Rattle.mxf_catalogue.specs.Covers.{IsCover}
+use Rattle.mxf_catalogue.specs.Runs.{LiesIn}
+use Rattle.mxf_restore.specs.Plan.{start_of}
+use Rattle.mxf_restore.specs.Sections.{sections_of}
+use Rattle.mxf_restore.specs.declared.section.Section.{Section}
+use Rattle.mxf_hand.specs.Hand.{HandBytes}
+
+-- The bytes of the file are these packets, one after another, and the bytes at hand are the file's.
+pub record AreBytesOfFile (packets : List PacketParts) (h : HandBytes) : Type 0 where
+  pub bytes : List ℕ
+  pub laid : AreLaid 0 bytes packets []
+  pub cover : IsCover h.runs
+  pub alike : (x : ℕ) → LiesIn h.runs x → slice_get bytes x ≡ Some (h.byte x)
+
+-- The note is that of a packet of the file, or its head.
+abbrev pub IsOfFile : List PacketParts → NoteParts → Type 0
+IsOfFile packets n = has_note (notes_from 0 packets) n
+
+-- All notes are.
+abbrev pub AreOfFile : List PacketParts → List NoteParts → Type 0
+AreOfFile packets notes = (n : NoteParts) → In n notes → IsOfFile packets n
+
+-- A packet of the file begins at the offset, or the file ends there.
+abbrev pub IsBoundary : List PacketParts → ℕ → Type 0
+IsBoundary packets x =
+    (front : List PacketParts) × (back : List PacketParts) × (packets ≡ front ++ back) × (end_after 0 front ≡ x)
+
+-- Each section of the holes begins where a packet of the file does: what packs say of places is right.
+abbrev pub BeginAtPackets : List PacketParts → List NoteParts → Type 0
+BeginAtPackets packets notes = (p : Section) → In p (sections_of notes) → IsBoundary packets (start_of notes p.first)
