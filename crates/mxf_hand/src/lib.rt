@@ -7,9 +7,10 @@
 //! places.
 //!
 //! What is proved: the answer is its function of the content and of the bytes at hand, whichever source they are read of.
-//! Laws: the order of sources doesn't matter ([`one_content_of_sources`]), what is held stays ([`what_is_held_stays`]),
-//! what is clear stays clear ([`what_is_clear_stays_clear`]), of a file's bytes only packets of that file are made
-//! ([`only_packets_of_the_file`]), what was saved changes nothing beside the same sources ([`saved_beside_its_sources`]), and what is said of histories of
+//! Laws: the order of sources doesn't matter ([`one_content_of_sources`]), what is held stays ([`what_is_held_stays`]), and
+//! what is clear stays clear ([`what_is_clear_stays_clear`]). Where what packs say of places is right in each round, of a
+//! file's bytes only packets of that file are made ([`only_packets_of_the_file`]). Where no round more changes anything,
+//! what was saved changes nothing beside the same sources ([`saved_beside_its_sources`]). What is said of histories of
 //! calls is said of it ([`put_together_is_a_history`]).
 //!
 //! What two ranges hold together with what is put together of their bytes:
