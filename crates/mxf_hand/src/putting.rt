@@ -141,6 +141,7 @@ pub fn put_together<S: Sources>(
     given: Given,
     sources: &mut S,
 ) -> Result<PutTogether, SourceFault>
+    ensures told { S.told sources.new ≡ S.told sources.old }
     ensures views { (told : List SourceParts) (h : HandBytes) → AreTold (S.told sources.old) given.extents told
         → AreOf told h → IfOk result (λ p. p.views ≡ put_together h views) }
     ensures hand { (told : List SourceParts) (h : HandBytes) → AreTold (S.told sources.old) given.extents told
