@@ -8,9 +8,10 @@ use Rattle.mxf_klv.proofs.Counts.{count_by-cons, tally}
 use Rattle.mxf_units.specs.declared.standing.UnitStanding.{UnitStanding}
 use Rattle.mxf_units.specs.declared.standing.UnitStanding.TheVariants as standings
 use Rattle.mxf_units.specs.declared.unit.EditUnit.{EditUnit}
+use Rattle.mxf_units.specs.Ranges.{least_of, needed_from, units_from}
 use Rattle.mxf_lines.specs.Forms.{PrintedLine}
-use Rattle.mxf_lines.specs.UnitLines.{hand_count, held_count, is_hand, is_held, last_line, least_of, needed_from, unit_line}
-use Rattle.mxf_lines.specs.UnitLines.{unit_lines, units_from, units_line, units_status}
+use Rattle.mxf_lines.specs.UnitLines.{hand_count, held_count, is_hand, is_held, last_line, unit_line}
+use Rattle.mxf_lines.specs.UnitLines.{unit_lines, units_line, units_status}
 use Rattle.mxf_lines.specs.declared.printing.AnswerFault.{AnswerFault}
 use Rattle.mxf_lines.specs.declared.printing.AnswerFault.TheVariants.{OutOfMemory, Write, BadUnit}
 use Rattle.mxf_lines.specs.declared.printing.Form.{Form}

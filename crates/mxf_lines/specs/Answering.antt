@@ -16,6 +16,7 @@ use Rattle.mxf_places.specs.AtHand.{AtHandParts}
 use Rattle.mxf_restore.specs.Plan.{PlanParts, plan_of}
 use Rattle.mxf_units.specs.declared.unit.EditUnit.{EditUnit}
 use Rattle.mxf_read.specs.declared.gathering.report.PieceReport.{PieceReport}
+use Rattle.mxf_units.specs.Ranges.{units_from}
 use Rattle.mxf_lines.specs.declared.printing.Ask.{Ask}
 use Rattle.mxf_lines.specs.declared.printing.Ask.TheVariants.{Show, Check, Locate, Join, Plan, Units}
 use Rattle.mxf_lines.specs.declared.printing.AnswerFault.{AnswerFault}
@@ -27,8 +28,8 @@ use Rattle.mxf_lines.specs.Forms.{PrintedLine}
 use Rattle.mxf_lines.specs.Lines.{join_line, piece_line}
 use Rattle.mxf_lines.specs.PlanLines.{plan_lines}
 use Rattle.mxf_lines.specs.Printing.{Prints, content_lines}
-use Rattle.mxf_lines.specs.UnitLines.{unit_lines, units_from, units_status}
-use Rattle.mxf_lines.specs.declared.printing.units.UnitRange.{UnitRange}
+use Rattle.mxf_lines.specs.UnitLines.{unit_lines, units_status}
+use Rattle.mxf_units.specs.declared.range.UnitRange.{UnitRange}
 
 -- A line for each report of a piece: its offset, the number of its packets, and its stop.
 abbrev pub report_lines : List PieceReport → List PrintedLine

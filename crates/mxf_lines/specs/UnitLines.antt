@@ -5,7 +5,7 @@ use Rattle.std.specs.Prelude.{codes, count_by, flat_map, length, map}
 use Rattle.std.specs.Fmt.{signed_decimal}
 use Rattle.std.specs.List.{filter_map, range_with_len}
 use Rattle.std.specs.Option.{option_and_then, option_map}
-use Rattle.mxf_units.specs.Units.{UnitsParts, unit_of}
+use Rattle.mxf_units.specs.Ranges.{needed_from}
 use Rattle.mxf_units.specs.Words.{unit_standing_name}
 use Rattle.mxf_units.specs.declared.standing.UnitStanding.{UnitStanding}
 use Rattle.mxf_units.specs.declared.standing.UnitStanding.TheVariants as standings
@@ -14,10 +14,6 @@ use Rattle.mxf_units.specs.declared.unit.Extent.{Extent}
 use Rattle.mxf_lines.specs.Forms.{Absent, Characters, Field, Number, PrintedLine, Value, field, known, line, number}
 use Rattle.mxf_lines.specs.Forms.{word}
 use Rattle.mxf_lines.specs.Hexadecimal.{hex_of}
-
--- The units of an index from one on.
-abbrev pub units_from : UnitsParts → ℕ → ℕ → List EditUnit
-units_from u first count = map (unit_of u.known u.index_sid) (range_with_len first count)
 
 -- How far away the unit is stored that is shown in the place of this one, or a dash.
 abbrev pub temporal_value : Option ℤ → Value
@@ -57,11 +53,6 @@ abbrev pub is_hand : UnitStanding → Bool
 is_hand standings.Hand = true
 is_hand _ = false
 
--- The least of a number and others.
-abbrev pub least_of : ℕ → List ℕ → ℕ
-least_of x [] = x
-least_of x (y ∷ ys) = least_of (min x y) ys
-
 -- The number of units of which all bytes are held.
 abbrev pub held_count : List EditUnit → ℕ
 held_count units = count_by (λ u. is_held u.standing) units
@@ -69,10 +60,6 @@ held_count units = count_by (λ u. is_held u.standing) units
 -- The number of the others of which all bytes are held or at hand.
 abbrev pub hand_count : List EditUnit → ℕ
 hand_count units = count_by (λ u. is_hand u.standing) units
-
--- The first unit that some need: theirs, or the least of the key frames that they name.
-abbrev pub needed_from : ℕ → List EditUnit → ℕ
-needed_from first units = least_of first (filter_map (λ u. u.key) units)
 
 -- The last line: how many units there are, how many of them are held, how many others are at hand, and from which on
 -- they need units.

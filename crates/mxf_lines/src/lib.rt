@@ -21,7 +21,7 @@
 mod printing;
 
 pub use printing::{
-    AnswerFault, Ask, Form, Grid, UnitRange, Verified, answer, escaped_text_is_given_back,
+    AnswerFault, Ask, Form, Grid, Verified, answer, escaped_text_is_given_back,
     hex_text, print_map, print_renewed, print_sources, print_verification,
     verified_status_by_definition, whole_status_by_packets,
 };

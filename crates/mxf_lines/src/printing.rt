@@ -32,7 +32,7 @@ use mxf_klv::{OutOfMemory, WriteFault};
 use mxf_places::AtHand;
 use mxf_read::Gathered;
 use mxf_restore::Plan;
-use mxf_units::Units;
+use mxf_units::{UnitRange, Units};
 use mxf_views::{Place, Views};
 pub use renewal::print_renewed;
 pub use sources::print_sources;
@@ -40,7 +40,6 @@ use std::alloc::Global;
 use std::io::Write;
 pub use strings::escaped_text_is_given_back;
 use thiserror::Error;
-pub use units::UnitRange;
 use units::print_units;
 pub use verification::{
     Verified, print_verification, verified_status_by_definition, whole_status_by_packets,

@@ -2,7 +2,7 @@
 use Rattle.std.specs.Prelude.{◌≡◌, ℕ, ◌+◌, ◌<◌, ◌≤◌, List, Result, Ok, Err}
 use Rattle.mxf_klv.specs.Parts.{NoteParts}
 use Rattle.mxf_units.specs.LastUnits.{IsLastUnit}
-use Rattle.mxf_lines.specs.declared.printing.units.UnitRange.{UnitRange}
+use Rattle.mxf_units.specs.declared.range.UnitRange.{UnitRange}
 use Rattle.mxf_tool.specs.declared.command_line.AskedUnits.{AskedUnits}
 use Rattle.mxf_tool.specs.declared.command_line.AskedUnits.TheVariants as asked
 use Rattle.mxf_tool.specs.declared.program.fault.RunFault.{RunFault}

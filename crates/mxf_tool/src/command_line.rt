@@ -1,7 +1,8 @@
 //! The command line.
 use clap::builder::ValueParser;
 use clap::{Arg, ArgAction, ArgMatches, Command, value_parser};
-use mxf_lines::{Ask, Form, Grid, UnitRange};
+use mxf_lines::{Ask, Form, Grid};
+use mxf_units::UnitRange;
 use std::alloc::{AllocError, Global};
 
 /// What the command line asks for, and in which form, of the sources that words name and a list behind them.

@@ -26,8 +26,8 @@ use std::alloc::Global;
 use std::marker::Model;
 
 /// Where the essence of a partition lies, as far as that is known.
-#[derive(Clone, Copy, PartialEq, Eq, PartialOrd, Ord)]
-pub(crate) struct EssenceZone {
+#[derive(Clone, Copy, Debug, PartialEq, Eq, PartialOrd, Ord)]
+pub struct EssenceZone {
     /// The offset in its stream that lies at the origin, in bytes.
     pub body_offset: u64,
     /// The file offset of the origin, in bytes.

@@ -10,8 +10,9 @@ use mxf_klv::{Kind, MAX, Note};
 use mxf_places::{Holdings, Zone, behind_metadata, zone_of};
 use mxf_views::Partition;
 
-/// Where the bytes behind the header metadata and the index table segments of a partition begin, where that is known.
-fn behind_index(holdings: &Holdings<'_>, partition: &Partition) -> Option<u128>
+/// Where the bytes behind the header metadata and the index table segments of a partition begin, in bytes, where that is
+/// known.
+pub fn behind_index(holdings: &Holdings<'_>, partition: &Partition) -> Option<u128>
     ensures { result ≡ behind_index holdings.now partition.now }
 {
     if partition.numbers.index_byte_count == 0 {

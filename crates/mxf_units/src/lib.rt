@@ -10,8 +10,12 @@
 //! |---|---|---|
 //! | Which indexes are there? | [`index_sids`] | the IndexSIDs of the segments, rising |
 //! | Up to which unit does one reach? | [`last_unit`] | the last unit to which a segment gives a place, if there is one |
+//! | Which units are asked for, and which key frames before them? | [`UnitRange`], [`UnitsLeft`] | the units, one after
+//! another |
 //! | Where does a unit lie, and is it held? | [`Units::of`], then [`Units::unit`] | [`EditUnit`]: its [`UnitStanding`],
 //! its [`Extent`], and what its index entry says |
+//! | Where is it looked for? | [`Units::place`], [`Units::location`], [`Units::parts`] | its place in its stream; the
+//! [`EssenceZone`] in which that is to be found; the partitions as parts of their streams |
 //!
 //! A unit's bytes reach up to the next place in its stream that a segment of its index gives; those of the last one
 //! reach up to the end of its partition. They are told where no unknown partition can lie before them, and lie in their
@@ -47,15 +51,19 @@ mod intervals;
 mod last;
 mod location;
 mod next_places;
+mod range;
 mod segments;
 mod standing;
 mod stream;
 mod unit;
 mod units;
 
-pub use essence_zone::limits_by_definition;
-pub use first_packet::first_packets_by_definition;
+pub use essence_zone::part::StreamPart;
+pub use essence_zone::{EssenceZone, limits_by_definition};
+pub use first_packet::{behind_index, first_packets_by_definition};
 pub use last::{last_unit, one_last_unit};
+pub use location::Location;
+pub use range::{UnitRange, UnitsLeft};
 pub use segments::next_by_definition;
 pub use standing::UnitStanding;
 pub use unit::{EditUnit, Extent};

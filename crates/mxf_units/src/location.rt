@@ -21,8 +21,8 @@ use mxf_places::Holdings;
 use mxf_views::StreamPlace;
 
 /// Bytes of essence, and the essence zone that they are looked for in.
-#[derive(Clone, Copy)]
-pub(crate) struct Location {
+#[derive(Clone, Copy, Debug, PartialEq, Eq)]
+pub struct Location {
     pub zone: EssenceZone,
     pub extent: Extent,
 }

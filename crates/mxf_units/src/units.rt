@@ -10,7 +10,8 @@ ghost use Rattle.mxf_units.specs.declared.location.Location.{Location};
 ghost use Rattle.mxf_units.specs.declared.standing.UnitStanding.{UnitStanding};
 ghost use Rattle.mxf_units.specs.Streams.{IsSmall, entry_of, place_of, segments_for};
 ghost use Rattle.mxf_units.specs.EssenceZones.{parts_of};
-ghost use Rattle.mxf_units.specs.Units.{AreKnown, IsHeldWhole, IsKnownWhole, index_sids_of, key_at, location_at, standing_in, unit_by};
+ghost use Rattle.mxf_units.specs.Units.{AreKnown, IsHeldWhole, IsKnownWhole, index_sids_of, key_at, location_at, location_of};
+ghost use Rattle.mxf_units.specs.Units.{standing_in, unit_by};
 ghost use Rattle.mxf_units.specs.Units.{unit_of};
 
 use crate::bounds::rising;
@@ -91,6 +92,59 @@ impl<'a> Units<'a> {
             places,
             parts,
         })
+    }
+
+    /// What is held of the file.
+    pub fn holdings(&self) -> &Holdings<'a>
+        ensures { result.now ≡ self.now.known.notes }
+    {
+        &self.holdings
+    }
+
+    /// What is at hand beside that.
+    pub fn at_hand(&self) -> &'a AtHand
+        ensures { result.now ≡ self.now.known.at }
+    {
+        self.at_hand
+    }
+
+    /// The offsets that are held or at hand.
+    pub fn known(&self) -> &Cover
+        ensures { AreKnown self.now.known result.now }
+    {
+        &self.known
+    }
+
+    /// The IndexSID.
+    pub fn index_sid(&self) -> u32
+        ensures { result ≡ self.now.index_sid }
+    {
+        self.index_sid
+    }
+
+    /// The partitions as parts of their streams, from the last to the first: by BodySID, then by BodyOffset, then those
+    /// with a first packet before the others.
+    pub fn parts(&self) -> &[StreamPart]
+        ensures { result.now ≡ parts_of self.now.known.notes }
+    {
+        &self.parts
+    }
+
+    /// The place of a unit in its stream, where the segments that give one agree, or how it stands without. It takes no
+    /// memory.
+    pub fn place(&self, unit: u64) -> Result<StreamPlace, UnitStanding>
+        ensures { result ≡ place_of (segments_for self.now.known.notes self.now.index_sid) unit }
+    {
+        place_of(self.segments_near(unit), unit)
+    }
+
+    /// Where a unit lies and the essence zone that it is looked for in, as far as that is known, or how it stands where it
+    /// isn't. It takes no memory.
+    #[tactic(auto, unfolding(crate::specs::Units::location_of))]
+    pub fn location(&self, unit: u64) -> Result<Location, UnitStanding>
+        ensures { result ≡ location_of self.now.known.notes self.now.index_sid unit }
+    {
+        self.location_of(place_of(self.segments_near(unit), unit))
     }
 
     /// The segments that may have a unit: those that give it a place and an entry are among them.

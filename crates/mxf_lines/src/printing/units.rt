@@ -1,12 +1,12 @@
 //! Edit units of an index, and their lines.
 ghost use Rattle.std.specs.Prelude.{◌≡◌, ◌==◌, ◌+◌, ◌-◌, ◌<◌, ◌≤◌, ◌⊎◌, ◌∷◌, [], if◌then◌else◌, IfNone, IfOk, IfSome};
 ghost use Rattle.std.specs.Prelude.{codes};
-ghost use Rattle.std.specs.Iterator.{YieldsFirst, item_count};
 ghost use Rattle.std.specs.Option.{option_and_then, option_map};
 ghost use Rattle.mxf_klv.specs.Written.{Puts};
+ghost use Rattle.mxf_units.specs.Ranges.{needed_from, units_from};
 ghost use Rattle.mxf_lines.specs.Printing.{Prints};
 ghost use Rattle.mxf_lines.specs.UnitLines.{entry_fields, extent_fields, flags_value, hand_count, held_count, is_hand};
-ghost use Rattle.mxf_lines.specs.UnitLines.{needed_from, temporal_value, unit_line, unit_lines, units_from, units_line};
+ghost use Rattle.mxf_lines.specs.UnitLines.{temporal_value, unit_line, unit_lines, units_line};
 ghost use Rattle.mxf_lines.specs.UnitLines.{is_held, units_status};
 ghost use Rattle.mxf_lines.specs.Forms.{field, number_or};
 ghost use Rattle.mxf_lines.specs.Writing.{with_field, with_fields};
@@ -14,58 +14,9 @@ ghost use Rattle.mxf_lines.specs.Writing.{with_field, with_fields};
 use super::AnswerFault;
 use super::hexadecimal::HexDigits;
 use super::lines::{FieldWriter, Line, Lines, Printer};
-use mxf_units::{EditUnit, Extent, UnitStanding, Units};
+use mxf_units::{EditUnit, Extent, UnitRange, UnitStanding, Units, UnitsLeft};
 use std::alloc::AllocError;
 use std::io::Write;
-use std::marker::Model;
-
-/// The greatest edit unit: segments state theirs as signed numbers of eight bytes.
-const GREATEST_UNIT: u64 = 9_223_372_036_854_775_807;
-
-/// So many units are asked for at once at most.
-const MOST_UNITS: u64 = 1_000_000;
-
-/// So many edit units, one after another as they are stored.
-#[derive(Clone, Copy, Debug, PartialEq, Eq)]
-pub struct UnitRange {
-    first: u64,
-    count: u64,
-
-    ghost some: { 1 ≤ count },
-    ghost few: { count ≤ 1000000 },
-    ghost in_range: { first + count ≤ 9223372036854775808 },
-}
-
-impl UnitRange {
-    /// The units from one up to another, that included. None where the last is above 9,223,372,036,854,775,807 or below
-    /// the first, or where there are more than 1,000,000.
-    pub fn new(first: u64, last: u64) -> Option<UnitRange>
-        ensures some { IfSome result (λ r. (r.first ≡ first) × (r.first + r.count ≡ last + 1)) }
-        ensures none { IfNone result ((9223372036854775807 < last) ⊎ ((last < first) ⊎ (1000000 ≤ last - first))) }
-    {
-        if last > GREATEST_UNIT || last < first || last - first >= MOST_UNITS {
-            return None;
-        }
-        let count = last - first + 1;
-        Some(UnitRange { first, count })
-    }
-
-    /// The first of them.
-    pub fn first(&self) -> u64
-        ensures { result ≡ self.now.first }
-    {
-        self.first
-    }
-
-    /// The last of them.
-    pub fn last(&self) -> u64
-        ensures last { result + 1 ≡ self.now.first + self.now.count }
-        ensures order { self.now.first ≤ result }
-        ensures bound { result ≤ 9223372036854775807 }
-    {
-        self.first + (self.count - 1)
-    }
-}
 
 /// Prints the units of a range, and the last line; answers 0 where all bytes of each are held or at hand, else 1.
 pub fn print_units<W: Write>(
@@ -183,10 +134,10 @@ impl UnitsLine {
         ensures { result ≡ record { units = range.count; held = 0; hand = 0; from = range.first } }
     {
         UnitsLine {
-            units: range.count,
+            units: range.count(),
             held: 0,
             hand: 0,
-            from: range.first,
+            from: range.first(),
         }
     }
 
@@ -244,55 +195,4 @@ fn is_hand(standing: UnitStanding) -> bool
     ensures { result ≡ is_hand standing }
 {
     matches!(standing, UnitStanding::Hand)
-}
-
-/// The units of a range that are left.
-#[derive(Drop)]
-struct UnitsLeft<'a> {
-    units: &'a Units<'a>,
-    next: u64,
-    left: u64,
-
-    ghost in_range: { next + left ≤ 9223372036854775808 },
-}
-
-impl<'a> Model for UnitsLeft<'a> {
-    ghost use Rattle.std.specs.Prelude.{List};
-    ghost use Rattle.mxf_units.specs.declared.unit.EditUnit.{EditUnit};
-    ghost use Rattle.mxf_lines.specs.UnitLines.{units_from};
-
-    ghost Value = { List EditUnit };
-
-    ghost view = { λ s. units_from s.units.now s.next s.left };
-}
-
-impl<'a> UnitsLeft<'a> {
-    /// All units of the range.
-    fn of(units: &'a Units<'a>, range: UnitRange) -> UnitsLeft<'a>
-        ensures { result ≡ units_from units.now range.first range.count }
-    {
-        UnitsLeft {
-            units,
-            next: range.first,
-            left: range.count,
-        }
-    }
-}
-
-impl<'a> Iterator for UnitsLeft<'a> {
-    type Item = EditUnit;
-
-    ghost next_gives = { YieldsFirst (λ s. s) };
-
-    ghost remaining = { item_count (λ s. s) };
-
-    fn next(&mut self) -> Option<EditUnit> {
-        if self.left == 0 {
-            return None;
-        }
-        let unit = self.units.unit(self.next);
-        self.next += 1;
-        self.left -= 1;
-        Some(unit)
-    }
 }

@@ -3,8 +3,7 @@ ghost use Rattle.mxf_tool.specs.AskedUnits.{AreAsked, AreUpToLast};
 
 use super::fault::RunFault;
 use crate::command_line::AskedUnits;
-use mxf_lines::UnitRange;
-use mxf_units::last_unit;
+use mxf_units::{UnitRange, last_unit};
 use mxf_views::Views;
 
 /// The edit units that words ask for, of the index of an IndexSID.

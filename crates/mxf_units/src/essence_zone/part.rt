@@ -13,8 +13,8 @@ use mxf_views::{Partition, Views};
 use std::alloc::Global;
 
 /// A partition, as a part of an essence stream.
-#[derive(Clone, Copy, PartialEq, Eq, PartialOrd, Ord)]
-pub(crate) struct StreamPart {
+#[derive(Clone, Copy, Debug, PartialEq, Eq, PartialOrd, Ord)]
+pub struct StreamPart {
     pub body_sid: u32,
     /// Where it begins in its stream, in bytes.
     pub body_offset: u64,

@@ -1,7 +1,8 @@
 use Rattle.std.proofs.Common.{◌≡◌, ◌∙◌, ◌++◌, ℕ, List, [], ◌∷◌, ap, arith, flat_map, length, sym, Err, Ok}
 use Rattle.std.proofs.lemmas.Result.{err_from_is_err_and}
 use Rattle.mxf_units.specs.declared.unit.EditUnit.{EditUnit}
-use Rattle.mxf_lines.specs.UnitLines.{hand_count, held_count, last_line, needed_from, unit_line, unit_lines, units_from}
+use Rattle.mxf_units.specs.Ranges.{needed_from, units_from}
+use Rattle.mxf_lines.specs.UnitLines.{hand_count, held_count, last_line, unit_line, unit_lines}
 use Rattle.mxf_lines.specs.declared.printing.units.UnitsLine.{UnitsLine}
 use Rattle.mxf_lines.proofs.PrintLaws.{leads_failed, leads_first, leads_more}
 use Rattle.mxf_lines.proofs.UnitLineLaws.{all_counted, answered, as_fault, from-step, hand-step, held-step, most-one, units_length}

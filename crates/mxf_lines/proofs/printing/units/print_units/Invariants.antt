@@ -1,6 +1,7 @@
 -- What is answered of the lines to come is answered of all; what is counted so far, with the units to come.
 use Rattle.std.proofs.Common.{◌≡◌, ◌+◌, ◌++◌, ◌≤◌, [], ◌∷◌, flat_map, length}
-use Rattle.mxf_lines.specs.UnitLines.{hand_count, held_count, last_line, needed_from, unit_line, unit_lines, units_from}
+use Rattle.mxf_units.specs.Ranges.{needed_from, units_from}
+use Rattle.mxf_lines.specs.UnitLines.{hand_count, held_count, last_line, unit_line, unit_lines}
 use Rattle.mxf_lines.proofs.PrintLaws.{Leads}
 use Rattle.mxf_lines.proofs.printing.units.print_units.Given as goal
 

@@ -1,0 +1,11 @@
+pub mod Named
+pub mod Wanted
+pub mod Streams
+pub mod Near
+pub mod Between
+pub mod Ways
+pub mod Questions
+pub mod Asks
+pub mod Helping
+pub mod Fronts
+pub mod Orders

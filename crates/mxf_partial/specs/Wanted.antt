@@ -1,0 +1,76 @@
+-- The edit units that are wanted of an index, and the bytes that are wanted of them (this project's profile; key frames
+-- are those that entries name, ST 377-1, Index Table Segment).
+use Rattle.std.specs.Prelude.{◌≡◌, ℕ, ◌<◌, Bool, true, false, Option, None, Some, List, Ok}
+use Rattle.std.specs.List.{list_all}
+use Rattle.std.specs.Option.{option_or}
+use Rattle.mxf_klv.specs.Parts.{NoteParts}
+use Rattle.mxf_klv.specs.Note.{greatest_end}
+use Rattle.mxf_klv.specs.Rising.{In}
+use Rattle.mxf_places.specs.AtHand.{AtHandParts, LiesBetween}
+use Rattle.mxf_partial.specs.Named.{IsNamed}
+use Rattle.mxf_units.specs.Ranges.{units_with_keys}
+use Rattle.mxf_units.specs.Units.{UnitsParts, location_of}
+use Rattle.mxf_units.specs.declared.location.Location.{Location}
+use Rattle.mxf_units.specs.declared.standing.UnitStanding.{UnitStanding}
+use Rattle.mxf_units.specs.declared.standing.UnitStanding.TheVariants as standings
+use Rattle.mxf_units.specs.declared.unit.EditUnit.{EditUnit}
+use Rattle.mxf_units.specs.declared.unit.Extent.{Extent}
+
+-- Of an index the units from one on, so many.
+pub record WantedParts : Type 0 where
+  pub units : UnitsParts
+  pub first : ℕ
+  pub count : ℕ
+
+abbrev pub notes_of : WantedParts → List NoteParts
+notes_of w = w.units.known.notes
+
+abbrev pub hand_of : WantedParts → AtHandParts
+hand_of w = w.units.known.at
+
+-- The wanted units: those that are asked for, and those before them from the least key frame on that they name.
+abbrev pub wanted_units : WantedParts → List EditUnit
+wanted_units w = units_with_keys w.units w.first w.count
+
+-- A segment of the index gives a unit a place that stands so.
+abbrev pub is_indexed : UnitStanding → Bool
+is_indexed standings.NotIndexed = false
+is_indexed _ = true
+
+-- One gives each wanted unit a place.
+abbrev pub are_indexed : WantedParts → Bool
+are_indexed w = list_all (λ u. is_indexed u.standing) (wanted_units w)
+
+-- Up to where the bytes of a unit may reach: to the next place of its stream, or else to the limit of its essence zone.
+abbrev pub reach_of : Location → Option ℕ
+reach_of l = option_or l.extent.end l.zone.limit
+
+-- A pack names the limit of the essence zone, and what begins there isn't held whole.
+abbrev pub HasNamedLimit : List NoteParts → Location → Type 0
+HasNamedLimit notes l = (x : ℕ) × (l.zone.limit ≡ Some x) × IsNamed notes x
+
+-- What is wanted of a unit by where it is looked for: its bytes, where it is missing or there in part; where an unknown
+-- partition may lie before it, all from the origin of its essence zone on, unless a pack names what limits that.
+abbrev pub WantsAt : List NoteParts → Location → UnitStanding → ℕ → Type 0
+WantsAt notes l standings.Missing x = LiesBetween l.extent.start (reach_of l) x
+WantsAt notes l standings.Part x = LiesBetween l.extent.start (reach_of l) x
+WantsAt notes l standings.Unsure x = (¬ HasNamedLimit notes l) × LiesBetween l.zone.origin (reach_of l) x
+WantsAt notes l _ x = ⊥
+
+-- The bytes that are wanted of a unit.
+abbrev pub WantsByte : UnitsParts → EditUnit → ℕ → Type 0
+WantsByte u unit x =
+    (l : Location) × (location_of u.known.notes u.index_sid unit.number ≡ Ok l)
+    × WantsAt u.known.notes l unit.standing x
+
+-- The offset is one of an extent, where there is one.
+abbrev pub HasByte : Option Extent → ℕ → Type 0
+HasByte None x = ⊥
+HasByte (Some e) x = LiesBetween e.start e.end x
+
+-- A byte that is wanted of some wanted unit, as far as files reach.
+pub record IsWantedByte (w : WantedParts) (x : ℕ) : Type 0 where
+  pub unit : EditUnit
+  pub wanted : In unit (wanted_units w)
+  pub wants : WantsByte w.units unit x
+  pub within : x < greatest_end

@@ -1,0 +1,7 @@
+//! What to restore so that some edit units of a recording can be cut out and decoded: a partial restore (this project's
+//! profile).
+#![tactic(auto)]
+
+mod finding;
+mod plan;
+mod wanted;
