@@ -1,5 +1,6 @@
 pub mod Sections
 pub mod Plan
+pub mod Fronts
 pub mod Map
 pub mod Layers
 pub mod Steps
