@@ -14,3 +14,4 @@ pub mod OrderCover
 pub mod PlanMembers
 pub mod OrderStarts
 pub mod FrontLaws
+pub mod NamedPlaceLaws
