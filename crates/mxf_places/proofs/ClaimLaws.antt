@@ -21,6 +21,7 @@ use Rattle.mxf_places.specs.Named.{IsClaim, IsClaimFor, NamesFooter, NamesPrevio
 use Rattle.mxf_places.specs.declared.claim.Claim.{Claim}
 use Rattle.mxf_places.specs.declared.reason.Reason.{Reason}
 use Rattle.mxf_places.specs.declared.reason.Reason.TheVariants.{Header, Footer, Metadata, Index, Entry, Previous, Gap}
+use Rattle.mxf_places.specs.declared.reason.Reason.TheVariants as reasons
 use Rattle.mxf_places.specs.declared.stretch.Stretch.{Stretch}
 use Rattle.mxf_places.specs.declared.stretch.Zone.{Zone}
 use Rattle.mxf_places.specs.declared.stretch.Zone.TheVariants as zones
@@ -192,5 +193,7 @@ module _ (notes : List NoteParts) (content : IsContent notes) (c : Claim) where
           | Previous ↦ λ k.
               inr (footers.1 (inr (metadata.1 (inr (index.1 (inr (entries.1 (inr (previous_says.1 k)))))))))
           | Gap ↦ λ k. absurd k
+          | reasons.Front ↦ λ k. absurd k
+          | reasons.Unit ↦ λ k. absurd k
         ] k,
       )

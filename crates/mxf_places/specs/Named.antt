@@ -20,6 +20,7 @@ use Rattle.mxf_places.specs.Held.{IsDisputedAt, IsEndOfFile, IsHeld}
 use Rattle.mxf_places.specs.declared.claim.Claim.{Claim}
 use Rattle.mxf_places.specs.declared.reason.Reason.{Reason}
 use Rattle.mxf_places.specs.declared.reason.Reason.TheVariants.{Header, Footer, Metadata, Index, Entry, Previous, Gap}
+use Rattle.mxf_places.specs.declared.reason.Reason.TheVariants as reasons
 use Rattle.mxf_places.specs.declared.stretch.Stretch.{Stretch}
 use Rattle.mxf_places.specs.declared.stretch.Zone.{Zone}
 use Rattle.mxf_places.specs.declared.stretch.Zone.TheVariants as zones
@@ -133,6 +134,8 @@ IsClaimFor Index notes c = SaysZone notes Index zones.Index c
 IsClaimFor Entry notes c = SaysEntry notes c
 IsClaimFor Previous notes c = SaysPlace notes Previous NamesPrevious c
 IsClaimFor Gap notes c = ⊥
+IsClaimFor reasons.Front notes c = ⊥
+IsClaimFor reasons.Unit notes c = ⊥
 
 abbrev pub IsClaim : List NoteParts → Claim → Type 0
 IsClaim notes c = IsClaimFor c.reason notes c

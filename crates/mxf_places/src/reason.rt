@@ -23,6 +23,10 @@ pub enum Reason {
     Previous,
     /// No pack says what lies there.
     Gap,
+    /// The front of bytes in which a partition may be found that edit units ask for.
+    Front,
+    /// The bytes of edit units.
+    Unit,
 }
 
 impl Reason {
@@ -50,6 +54,8 @@ impl fmt::Display for Reason {
             Reason::Entry => "entry",
             Reason::Previous => "previous",
             Reason::Gap => "gap",
+            Reason::Front => "front",
+            Reason::Unit => "unit",
         })
     }
 }

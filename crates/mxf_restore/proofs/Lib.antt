@@ -13,3 +13,5 @@ pub mod SectionCover
 pub mod OrderCover
 pub mod PlanMembers
 pub mod OrderStarts
+pub mod FrontLaws
+pub mod NamedPlaceLaws

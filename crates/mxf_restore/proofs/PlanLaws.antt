@@ -11,45 +11,50 @@ use Rattle.std.specs.Option.{option_cmp}
 use Rattle.mxf_restore.specs.Plan.{disputed_place_cmp, order_cmp, reason_rank}
 use Rattle.mxf_places.specs.declared.reason.Reason.{Reason}
 use Rattle.mxf_places.specs.declared.reason.Reason.TheVariants.{Header, Footer, Metadata, Index, Entry, Previous, Gap}
+use Rattle.mxf_places.specs.declared.reason.Reason.TheVariants as reasons
 use Rattle.mxf_restore.specs.declared.plan.Order.{Order}
 use Rattle.mxf_restore.specs.declared.plan.DisputedPlace.{DisputedPlace}
 use Rattle.mxf_restore.specs.contracts.plan.OrderOrd.TheImpl as order_ord
 use Rattle.mxf_restore.specs.contracts.plan.DisputedPlaceOrd.TheImpl as disputed_place_ord
 use Rattle.mxf_places.specs.contracts.reason.ReasonOrd.TheImpl as reason_ord
 
-reasons : (a b : Reason) → (reason_ord.ghosts).cmp a b ≡ nat_cmp (reason_rank a) (reason_rank b)
-reasons Header Header = refl
-reasons Header _ = refl
-reasons Footer Footer = refl
-reasons Footer _ = refl
-reasons Metadata Metadata = refl
-reasons Metadata _ = refl
-reasons Index Index = refl
-reasons Index _ = refl
-reasons Entry Entry = refl
-reasons Entry _ = refl
-reasons Previous Previous = refl
-reasons Previous _ = refl
-reasons Gap Gap = refl
-reasons Gap _ = refl
+same_ranks : (a b : Reason) → (reason_ord.ghosts).cmp a b ≡ nat_cmp (reason_rank a) (reason_rank b)
+same_ranks Header Header = refl
+same_ranks Header _ = refl
+same_ranks Footer Footer = refl
+same_ranks Footer _ = refl
+same_ranks Metadata Metadata = refl
+same_ranks Metadata _ = refl
+same_ranks Index Index = refl
+same_ranks Index _ = refl
+same_ranks Entry Entry = refl
+same_ranks Entry _ = refl
+same_ranks Previous Previous = refl
+same_ranks Previous _ = refl
+same_ranks Gap Gap = refl
+same_ranks Gap _ = refl
+same_ranks reasons.Front reasons.Front = refl
+same_ranks reasons.Front _ = refl
+same_ranks reasons.Unit reasons.Unit = refl
+same_ranks reasons.Unit _ = refl
 
 pub orders : (a b : Order) → (order_ord.ghosts).cmp a b ≡ order_cmp a b
 orders a b =
     ap (λ r. ordering_then r (ordering_then (nat_cmp a.start b.start)
     (ordering_then (option_cmp nat_cmp a.end b.end) (ordering_then (option_cmp nat_cmp a.source b.source)
     (ordering_then (bool_cmp a.inside b.inside) (bool_cmp a.again b.again))))))
-    (reasons a.reason b.reason)
+    (same_ranks a.reason b.reason)
 
 pub disputed_places : (a b : DisputedPlace) → (disputed_place_ord.ghosts).cmp a b ≡ disputed_place_cmp a b
 disputed_places a b =
     ap (λ r. ordering_then r (ordering_then (nat_cmp a.place b.place) (option_cmp nat_cmp a.source b.source)))
-    (reasons a.reason b.reason)
+    (same_ranks a.reason b.reason)
 
 -- ---- each is one
 
 ranked : ℕ → Reason
 ranked n =
-    get_or (Header ∷ Footer ∷ Metadata ∷ Index ∷ Entry ∷ Previous ∷ Gap ∷ []) n Header
+    get_or (Header ∷ Footer ∷ Metadata ∷ Index ∷ Entry ∷ Previous ∷ Gap ∷ reasons.Front ∷ reasons.Unit ∷ []) n Header
 
 ranked_back : (r : Reason) → ranked (reason_rank r) ≡ r
 unfolding ranked
@@ -60,6 +65,8 @@ ranked_back Index = refl
 ranked_back Entry = refl
 ranked_back Previous = refl
 ranked_back Gap = refl
+ranked_back reasons.Front = refl
+ranked_back reasons.Unit = refl
 
 one_reason : (a b : Reason) → nat_cmp (reason_rank a) (reason_rank b) ≡ Equal → a ≡ b
 one_reason a b e =

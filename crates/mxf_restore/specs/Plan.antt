@@ -15,6 +15,7 @@ use Rattle.mxf_places.specs.Claims.{claim_at, claims_of, is_of_stretch}
 use Rattle.mxf_restore.specs.Sections.{sections_of}
 use Rattle.mxf_places.specs.declared.reason.Reason.{Reason}
 use Rattle.mxf_places.specs.declared.reason.Reason.TheVariants.{Header, Footer, Metadata, Index, Entry, Previous, Gap}
+use Rattle.mxf_places.specs.declared.reason.Reason.TheVariants as reasons
 use Rattle.mxf_places.specs.declared.claim.Claim.{Claim}
 use Rattle.mxf_restore.specs.declared.section.Section.{Section}
 use Rattle.mxf_restore.specs.declared.plan.Order.{Order}
@@ -145,6 +146,8 @@ reason_rank Index = 3
 reason_rank Entry = 4
 reason_rank Previous = 5
 reason_rank Gap = 6
+reason_rank reasons.Front = 7
+reason_rank reasons.Unit = 8
 
 -- Orders go by reason, then start, then end, none before any, then source, then by what is said of them.
 abbrev pub order_cmp : Order → Order → Ordering

@@ -3,11 +3,13 @@
 //! Both are functions of the content of a catalogue, what packs name and count, and which offsets no packet covers; and of
 //! the bytes at hand: what is there in sources, and in no noted packet, isn't ordered, and has a mark of its own.
 //!
-//! What is held, where the file ends and what packs claim of offsets is asked of mxf_places.
+//! What is held, where the file ends and what packs claim of offsets is asked of mxf_places. Whoever needs only some of
+//! the bytes asks what is ordered of a single section, or of its front, where a partition may begin ([`SectionOrders`]);
+//! and which places packs name that are missing ([`named_places`]).
 //!
-//! What is proved: [`Plan::of`] and [`Map::of`] answer these functions. Laws (`.._by_definition`) say what they are made
-//! of, beside those of mxf_places: the holes and their sections, the orders and disputed places. Each
-//! byte that is missing below the end is at hand or lies in an order ([`gaps_are_ordered`]), no two orders begin at one
+//! What is proved: [`Plan::of`] and [`Map::of`] answer these functions, and so do [`SectionOrders`] and
+//! [`named_places`]. Laws (`.._by_definition`) say what they are made of, beside those of mxf_places: the holes and their
+//! sections, the orders and disputed places, and the front of a section. Each byte that is missing below the end is at hand or lies in an order ([`gaps_are_ordered`]), no two orders begin at one
 //! offset ([`starts_are_apart`]), where nothing is at hand all is ordered that is asked for
 //! ([`orders_where_nothing_is_at_hand`]), and each cell of a map has one mark ([`one_mark`]).
 //!
@@ -28,11 +30,14 @@ mod disputed_place;
 mod first;
 mod head;
 mod map;
+mod named;
 mod order;
 mod plan;
 mod section;
 
 pub use map::{Map, Mark, one_map, one_mark};
+pub use named::{NamedPlace, named_places};
+pub use order::{SectionOrders, fronts_by_definition};
 pub use plan::{
     DisputedPlace, Order, Plan, disputed_places_by_definition, gaps_are_ordered,
     orders_by_definition, orders_where_nothing_is_at_hand, starts_are_apart,

@@ -15,6 +15,7 @@ mod offsets;
 
 use crate::section::holes;
 use layers::Layers;
+pub(crate) use missing::is_missing;
 use mxf_catalogue::{Catalogue, Cover};
 use mxf_klv::OutOfMemory;
 use mxf_places::{AtHand, Holdings};

@@ -1,30 +1,39 @@
 //! What is ordered of each section of a hole.
-ghost use Rattle.std.specs.Prelude.{◌≡◌, ◌++◌, Some, false, true, filter, flat_map, map, max, nat_lt, IfOk, OnOk};
+ghost use Rattle.std.specs.Prelude.{◌≡◌, ◌↔◌, ◌++◌, List, Some, false, true, filter, flat_map, map, max, nat_lt};
+ghost use Rattle.std.specs.Prelude.{IfOk, OnOk};
 ghost use Rattle.std.specs.Option.{option_map, option_map_or};
-ghost use Rattle.mxf_places.specs.AtHand.{has_offset, has_offsets, up_to_bound};
-ghost use Rattle.mxf_places.specs.Claims.{claims_of};
+ghost use Rattle.mxf_places.specs.AtHand.{AtHandParts, has_offset, has_offsets, up_to_bound};
+ghost use Rattle.mxf_places.specs.Claims.{claim_at, claims_of};
+ghost use Rattle.mxf_catalogue.specs.Covers.{IsCover};
+ghost use Rattle.mxf_klv.specs.Parts.{NoteParts};
+ghost use Rattle.mxf_restore.specs.Fronts.{IsFront, front_by, front_of, front_range, looked_for};
 ghost use Rattle.mxf_restore.specs.Plan.{asked, asked_of, begun_at, end_by, found_orders, is_again, is_whole_needed};
-ghost use Rattle.mxf_restore.specs.Plan.{orders_by, orders_of, part_order, parts_of};
+ghost use Rattle.mxf_restore.specs.Plan.{orders_by, orders_of, part_order, parts_of, start_of};
+ghost use Rattle.mxf_restore.specs.declared.section.Section.{Section};
+ghost use Rattle.mxf_restore.specs.declared.plan.Order.{Order};
 
 use crate::first::FirstClaims;
 use crate::head::Heads;
 use crate::plan::Order;
 use crate::section::{Section, sections};
-use mxf_klv::OutOfMemory;
+use mxf_klv::{MAX, OutOfMemory};
 use mxf_places::{AtHand, Claim, Holdings, KEY_AND_LENGTH, OffsetRange, Reason, up_to_bound};
 use std::alloc::Global;
 use std::marker::Model;
 
-/// What tells the orders of sections: what is held and at hand, the first claims, and the heads.
+/// How many bytes a front has at most.
+const FRONT_BYTES: u64 = 65_536;
+
+/// What is ordered of each section of a file, by what is held, at hand and claimed.
 #[derive(Drop)]
-struct Evidence<'a> {
+pub struct SectionOrders<'a> {
     holdings: &'a Holdings<'a>,
     at_hand: &'a AtHand,
     claims: FirstClaims<'a>,
     heads: Heads<'a>,
 }
 
-impl<'a> Model for Evidence<'a> {
+impl<'a> Model for SectionOrders<'a> {
     ghost use Rattle.std.specs.Prelude.{◌≡◌};
     ghost use Rattle.mxf_places.specs.Claims.{claims_of};
     ghost use Rattle.mxf_places.specs.AtHand.{KnownParts};
@@ -36,22 +45,75 @@ impl<'a> Model for Evidence<'a> {
     ghost invariant = { λ e. (e.claims ≡ claims_of e.holdings.now) × (e.heads ≡ e.holdings.now) };
 }
 
-impl<'a> Evidence<'a> {
-    fn of(
+impl<'a> SectionOrders<'a> {
+    /// By what is held and at hand, and by the claims of all packs. It takes memory: n log n of the notes and the
+    /// claims, as its time does.
+    pub fn of(
         alloc: Global,
         holdings: &'a Holdings<'a>,
         at_hand: &'a AtHand,
         claims: &'a [Claim],
-    ) -> Result<Evidence<'a>, OutOfMemory>
+    ) -> Result<SectionOrders<'a>, OutOfMemory>
         requires { claims.now ≡ claims_of holdings.now }
         ensures { IfOk result (λ e. e ≡ record { notes = holdings.now; at = at_hand.now }) }
     {
-        Ok(Evidence {
+        Ok(SectionOrders {
             holdings,
             at_hand,
             claims: FirstClaims::of(alloc, claims)?,
             heads: Heads::of(alloc, holdings.views().catalogue())?,
         })
+    }
+
+    /// Where a packet begins of which the section is the rest, a file offset in bytes: at the first head of which key
+    /// and length end at the section's first byte, or else at that byte.
+    pub fn start_of(&self, section: Section) -> u64
+        ensures { result ≡ start_of self.now.notes section.first }
+    {
+        self.heads.around(section.first).offset
+    }
+
+    /// The first claim of the offset at which that packet begins.
+    pub fn claim_of(&self, section: Section) -> Option<Claim>
+        ensures { result ≡ claim_at self.now.notes (start_of self.now.notes section.first) }
+    {
+        self.claims.claim_at(self.start_of(section))
+    }
+
+    /// What is ordered of the section. It takes memory.
+    pub fn orders_of(&self, alloc: Global, section: Section) -> Result<Vec<Order>, OutOfMemory>
+        ensures { IfOk result (λ v. v.items ≡ orders_of self.now.at self.now.notes section) }
+    {
+        let mut orders = Vec::new(alloc);
+        self.add_orders(alloc, &mut orders, section)?;
+        Ok(orders)
+    }
+
+    /// The front of the section: the order of no more than the first 65,536 bytes of the first part of what is looked
+    /// for, which is what is asked for of the section, or all from where its packet begins on where nothing is. None
+    /// where it has no part. It takes memory.
+    #[tactic(auto, unfolding(crate::specs::Fronts::front_of))]
+    pub fn front_of(&self, alloc: Global, section: Section) -> Result<Option<Order>, OutOfMemory>
+        ensures { IfOk result (λ o. o ≡ front_of self.now.at self.now.notes section) }
+    {
+        front_by(alloc, self.at_hand, section, self.looked_for(section))
+    }
+
+    /// What is asked for of a section; all from where its packet begins on where nothing is.
+    fn looked_for(&self, section: Section) -> Order
+        ensures { result ≡ looked_for self.now.at self.now.notes section }
+    {
+        match self.asked_of(section) {
+            Some(asked) => asked,
+            None => Order {
+                reason: Reason::Gap,
+                start: self.start_of(section),
+                end: None,
+                source: None,
+                inside: false,
+                again: false,
+            },
+        }
     }
 
     /// What is asked for of a section, be it at hand or not.
@@ -198,6 +260,35 @@ fn parts_of(
     Ok(parts)
 }
 
+/// The order of the front of what is looked for of a section.
+fn front_by(
+    alloc: Global,
+    at_hand: &AtHand,
+    section: Section,
+    asked: Order,
+) -> Result<Option<Order>, OutOfMemory>
+    ensures { IfOk result (λ o. o ≡ front_by at_hand.now section asked) }
+{
+    let parts = parts_of(alloc, at_hand, section, asked)?;
+    let Some(first) = parts.first() else {
+        return Ok(None);
+    };
+    Ok(Some(part_order(at_hand, asked, front_range(*first))))
+}
+
+/// The first bytes of a range: as many as a front has at most, and none at or above the greatest end of a packet where
+/// the range has no end.
+fn front_range(range: OffsetRange) -> OffsetRange
+    ensures { result ≡ front_range range }
+{
+    let bound = range.end.unwrap_or(MAX);
+    let end = range.start.saturating_add(FRONT_BYTES).min(bound);
+    OffsetRange {
+        start: range.start,
+        end: Some(end),
+    }
+}
+
 /// Lets the first of the ranges begin at a start, in bytes.
 fn begin_at(ranges: &mut Vec<OffsetRange>, start: u64)
     ensures { ranges.new.items ≡ begun_at start ranges.old.items }
@@ -259,22 +350,29 @@ pub(crate) fn found_orders(
     ensures { IfOk result (λ v. v.items ≡ found_orders at_hand.now holdings.now) }
 {
     let sections = sections(alloc, holdings, claims)?;
-    let evidence = Evidence::of(alloc, holdings, at_hand, claims)?;
-    orders_in(alloc, &evidence, &sections)
+    let section_orders = SectionOrders::of(alloc, holdings, at_hand, claims)?;
+    orders_in(alloc, &section_orders, &sections)
 }
 
 /// The orders of the sections, in the order of these.
 fn orders_in(
     alloc: Global,
-    evidence: &Evidence<'_>,
+    section_orders: &SectionOrders<'_>,
     sections: &[Section],
 ) -> Result<Vec<Order>, OutOfMemory>
     ensures { IfOk result (λ v. v.items
-        ≡ flat_map (orders_of evidence.now.at evidence.now.notes) sections.now) }
+        ≡ flat_map (orders_of section_orders.now.at section_orders.now.notes) sections.now) }
 {
     let mut orders = Vec::new(alloc);
     for section in sections {
-        evidence.add_orders(alloc, &mut orders, *section)?;
+        section_orders.add_orders(alloc, &mut orders, *section)?;
     }
     Ok(orders)
 }
+
+/// A law of [`SectionOrders::front_of`]: the front is the order of the first bytes of the first part of what is looked
+/// for of the section.
+pub fn fronts_by_definition()
+    ensures { (at : AtHandParts) (notes : List NoteParts) (p : Section) (o : Order) → IsCover at.given
+        → (front_of at notes p ≡ Some o) ↔ IsFront at notes p o }
+{}

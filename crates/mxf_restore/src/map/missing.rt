@@ -56,7 +56,7 @@ fn missing_place(holdings: &Holdings<'_>, claim: &Claim) -> Option<u64>
 }
 
 /// Whether an offset, in bytes, may lie in the file, and what begins there isn't held whole.
-fn is_missing(holdings: &Holdings<'_>, offset: u64) -> bool
+pub(crate) fn is_missing(holdings: &Holdings<'_>, offset: u64) -> bool
     ensures { result ≡ is_missing holdings.now offset }
 {
     holdings.is_in_file(offset)

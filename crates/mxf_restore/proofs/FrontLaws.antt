@@ -1,0 +1,119 @@
+-- The front of what is looked for of a section.
+use Rattle.std.proofs.Common.{◌≡◌, ◌↔◌, ◌⊎◌, ◌∙◌, ◌<◌, ◌≤◌, ◌+◌, ◌==◌, ℕ, not, min, IsTrue}
+use Rattle.std.proofs.Common.{Option, None, Some, option_map, unwrap_or, List, [], ◌∷◌, refl, sym, ap, subst, inl, inr}
+use Rattle.std.specs.List.{slice_get}
+use Rattle.std.proofs.lemmas.Option.{same_Some}
+use Rattle.mxf_klv.specs.Parts.{NoteParts}
+use Rattle.mxf_klv.specs.Note.{greatest_end}
+use Rattle.mxf_klv.proofs.Tests.{not_equal, same_bool}
+use Rattle.mxf_catalogue.specs.Covers.{IsCover}
+use Rattle.mxf_catalogue.specs.Runs.{LiesIn}
+use Rattle.mxf_places.specs.AtHand.{AtHandParts, LiesBetween, has_offsets}
+use Rattle.mxf_places.specs.declared.at_hand.OffsetRange.{OffsetRange}
+use Rattle.mxf_places.proofs.AtHandLaws.{has_offsets-says}
+use Rattle.mxf_restore.specs.Fronts.{IsFront, IsLookedFor, all_from, front_by, front_of, front_range, looked_for}
+use Rattle.mxf_restore.specs.Plan.{asked_of, part_order, parts_of, start_of}
+use Rattle.mxf_restore.specs.declared.section.Section.{Section}
+use Rattle.mxf_restore.specs.declared.plan.Order.{Order}
+
+mapped : {A B : Type 0} (f : A → B) (o : Option A) (y : B) → option_map f o ≡ Some y
+    → (x : A) × (o ≡ Some x) × (f x ≡ y)
+mapped f None y e = absurd cc
+mapped f (Some x) y e = (x, refl, same_Some (f x) y e)
+
+first_is : (xs : List OffsetRange) (r : OffsetRange) → slice_get xs 0 ≡ Some r
+    → (later : List OffsetRange) × (xs ≡ r ∷ later)
+first_is [] r e = absurd cc
+first_is (x ∷ xs) r e = (xs, ap (λ (y : OffsetRange). y ∷ xs) (same_Some x r e))
+
+-- The end of the first bytes of a range.
+abbrev end_of_front : OffsetRange → ℕ
+end_of_front r = min (r.start + 65536) (unwrap_or r.end greatest_end)
+
+module _ (at : AtHandParts) (notes : List NoteParts) (p : Section) where
+  looked : (o : Order) → (looked_for at notes p ≡ o) ↔ IsLookedFor at notes p o
+  looked o =
+      let all = all_from (start_of notes p.first) in
+      elim (asked_of at notes p) as (λ a. (unwrap_or a all ≡ o) ↔ ((a ≡ Some o) ⊎ ((a ≡ None) × (o ≡ all)))) [
+        | None ↦ (λ e. inr (refl, sym e), λ h. elim h [ inl e ↦ absurd cc | inr k ↦ sym k.1 ])
+        | Some a ↦ (
+          λ e. inl (ap (λ (y : Order). Some y) e),
+          λ h. elim h [ inl e ↦ same_Some a o e | inr k ↦ absurd (let e = k.0 in cc) ],
+        )
+      ]
+
+  -- All offsets from one up to another are given.
+  given_says : (from to : ℕ) → IsCover at.given
+      → IsTrue (has_offsets at.given from to) ↔ ((x : ℕ) → LiesBetween from (Some to) x → LiesIn at.given x)
+  given_says from to cover =
+      let says = has_offsets-says at.given from to cover in (
+        λ h x b. says.0 h x b.0 (below x b.1),
+        λ h. says.1 (λ x l m. h x (l, inr (to, refl, m))),
+      )
+    where
+      below : (x : ℕ) → ((Some to ≡ None) ⊎ ((e : ℕ) × (Some to ≡ Some e) × (x < e))) → x < to
+      below x (inl e) = absurd cc
+      below x (inr k) = subst (λ e. x < e) (sym (same_Some to k.0 k.1)) k.2
+
+  front_says : (a : Order) (r : OffsetRange) (later : List OffsetRange) → IsCover at.given → IsLookedFor at notes p a
+      → parts_of at p a ≡ r ∷ later → IsFront at notes p (part_order at a (front_range r))
+  front_says a r later cover is_asked first = record {
+    asked = a;
+    is_asked = is_asked;
+    part = r;
+    later = later;
+    first = first;
+    reason = refl;
+    source = refl;
+    start = refl;
+    end = refl;
+    inside = not_equal r.start a.start;
+    again = given_says r.start (end_of_front r) cover;
+  }
+
+  front_is : IsCover at.given → (o : Order) (f : IsFront at notes p o) → part_order at f.asked (front_range f.part) ≡ o
+  front_is cover o f =
+      let a = f.asked in
+      let r = f.part in
+      let end = end_of_front r in
+      let compared = not_equal r.start a.start in
+      let given = given_says r.start end cover in
+      let inside : not (r.start == a.start) ≡ o.inside =
+      same_bool (not (r.start == a.start)) o.inside (λ t. f.inside.1 (λ e. compared.0 t (sym f.start ∙ e)))
+      (λ t. compared.1 (λ e. f.inside.0 t (f.start ∙ e))) in
+      let again : has_offsets at.given r.start end ≡ o.again =
+      same_bool (has_offsets at.given r.start end) o.again
+      (λ t. f.again.1 (λ x l. given.0 t x (moved f.start f.end x l)))
+      (λ t. given.1 (λ x l. f.again.0 t x (moved (sym f.start) (sym f.end) x l))) in
+      λ i. record {
+        reason = sym f.reason i;
+        start = sym f.start i;
+        end = sym f.end i;
+        source = sym f.source i;
+        inside = inside i;
+        again = again i;
+      }
+    where
+      moved : {from to : ℕ} {end reach : Option ℕ} → from ≡ to → end ≡ reach → (x : ℕ) → LiesBetween from end x
+          → LiesBetween to reach x
+      moved same alike x l = (
+        subst (λ s. s ≤ x) same l.0,
+        subst (λ e. (e ≡ None) ⊎ ((y : ℕ) × (e ≡ Some y) × (x < y))) alike l.1,
+      )
+
+  pub front_law : (o : Order) → IsCover at.given → (front_of at notes p ≡ Some o) ↔ IsFront at notes p o
+  unfolding front_of
+  front_law o cover =
+      let a = looked_for at notes p in (
+        λ e.
+            let m = mapped (λ (r : OffsetRange). part_order at a (front_range r)) (slice_get (parts_of at p a) 0) o e in
+            let l = first_is (parts_of at p a) m.0 m.1 in
+            subst (IsFront at notes p) m.2 (front_says a m.0 l.0 cover ((looked a).0 refl) l.1),
+        λ f.
+            let same : a ≡ f.asked = (looked f.asked).1 f.is_asked in
+            let first : slice_get (parts_of at p f.asked) 0 ≡ Some f.part =
+            ap (λ (xs : List OffsetRange). slice_get xs 0) f.first in
+            ap (front_by at p) same
+            ∙ ap (option_map (λ (r : OffsetRange). part_order at f.asked (front_range r))) first
+            ∙ ap (λ (y : Order). Some y) (front_is cover o f),
+      )
