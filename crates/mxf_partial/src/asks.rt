@@ -32,11 +32,23 @@ pub(crate) fn asked_places(
     ensures rising { IfOk result (λ v. IsRising named_cmp v.items) }
 {
     let mut asked = Vec::new(alloc);
-    add_partitions(alloc, &mut asked, units, named, &partitions_asked(alloc, units, range)?)?;
+    add_partitions(
+        alloc,
+        &mut asked,
+        units,
+        named,
+        &partitions_asked(alloc, units, range)?,
+    )?;
     add_ways(alloc, &mut asked, units, &ways_asked(alloc, units, range)?)?;
     add_limits(&mut asked, named, &limits_asked(alloc, units, range)?)?;
     if is_index_sought {
-        add_chosen(alloc, &mut asked, units, named, &numbers_unindexed(alloc, units, range)?)?;
+        add_chosen(
+            alloc,
+            &mut asked,
+            units,
+            named,
+            &numbers_unindexed(alloc, units, range)?,
+        )?;
     }
     sort_once(&mut asked);
     Ok(asked)

@@ -3,5 +3,6 @@
 #![tactic(auto)]
 
 mod finding;
-mod plan;
+mod named;
+mod questions;
 mod wanted;

@@ -44,11 +44,7 @@ fn wanted_of(units: &Units<'_>, named: &[NamedPlace], unit: &EditUnit) -> Option
 }
 
 /// The bytes that are wanted of a unit by where it is looked for.
-fn wanted_at(
-    named: &[NamedPlace],
-    location: Location,
-    standing: UnitStanding,
-) -> Option<Extent>
+fn wanted_at(named: &[NamedPlace], location: Location, standing: UnitStanding) -> Option<Extent>
     ensures { (notes : List NoteParts) → AreNamed notes named.now
         → (x : ℕ) → HasByte result x ↔ WantsAt notes location standing x }
 {
@@ -81,10 +77,7 @@ pub(crate) fn is_limit_named(named: &[NamedPlace], location: Location) -> bool
 fn reach_of(location: Location) -> Option<u128>
     ensures { result ≡ reach_of location }
 {
-    location
-        .extent
-        .end
-        .or(location.zone.limit.map(u128::from))
+    location.extent.end.or(location.zone.limit.map(u128::from))
 }
 
 /// Adds the bytes, as far as files reach.

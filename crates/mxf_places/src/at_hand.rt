@@ -150,8 +150,9 @@ fn count_within(cover: &Cover, start: u64, end: u64) -> u64
     count
 }
 
-/// The maximal ranges of offsets from a start up to an end, in bytes, that a cover lacks.
-fn ranges_lacking(
+/// The maximal ranges of offsets from a start up to an end, in bytes, that a cover lacks, rising; without an end as far as
+/// offsets go. They take memory; the time is that of two binary searches and of the runs between the two.
+pub fn ranges_lacking(
     alloc: Global,
     cover: &Cover,
     start: u64,

@@ -50,7 +50,9 @@ mod held;
 mod reason;
 mod stretch;
 
-pub use at_hand::{AtHand, KEY_AND_LENGTH, OffsetRange, lacking_by_definition, up_to_bound};
+pub use at_hand::{
+    AtHand, KEY_AND_LENGTH, OffsetRange, lacking_by_definition, ranges_lacking, up_to_bound,
+};
 pub use claim::{Claim, claims, claims_by_definition};
 pub use fills::fills_by_definition;
 pub use held::{Holdings, held_by_definition};

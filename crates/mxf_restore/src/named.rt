@@ -11,7 +11,7 @@ ghost use Rattle.mxf_restore.specs.NamedPlaces.{place_cmp};
 ghost use Rattle.mxf_restore.specs.declared.named.NamedPlace.{NamedPlace};
 
 use crate::map::is_missing;
-use mxf_klv::OutOfMemory;
+use mxf_klv::{Keyed, OutOfMemory};
 use mxf_places::{Claim, Holdings, Reason};
 use std::alloc::Global;
 use std::collections::BTreeMap;
@@ -23,6 +23,15 @@ pub struct NamedPlace {
     pub place: u64,
     /// The file offset of the pack that names it first, by reason and then source.
     pub source: Option<u64>,
+}
+
+/// Named places rise by where they lie.
+impl Keyed for NamedPlace {
+    ghost key = { λ n. n.place };
+
+    fn key(&self) -> u64 {
+        self.place
+    }
 }
 
 /// The places that packs name and that are missing, rising, each once; that of the header partition, which no pack

@@ -329,7 +329,7 @@ fn part_order(at_hand: &AtHand, asked: Order, part: OffsetRange) -> Order
 
 /// Whether the bytes were handed in and don't do: all of them are given; or, where their end isn't known, as many are at
 /// hand as key and length of a packet can have.
-fn is_again(at_hand: &AtHand, part: OffsetRange) -> bool
+pub fn is_again(at_hand: &AtHand, part: OffsetRange) -> bool
     ensures { result ≡ is_again at_hand.now part }
 {
     match part.end {
