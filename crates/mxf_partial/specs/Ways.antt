@@ -1,6 +1,6 @@
 -- Where the way from a partition pack to its essence goes on over what isn't held (ST 377-1, Partition Pack; this
 -- project's profile).
-use Rattle.std.specs.Prelude.{◌≡◌, ℕ, ◌-◌, Bool, ◌&&◌, not, if◌then◌else◌, Option, None, Some, List}
+use Rattle.std.specs.Prelude.{◌≡◌, ℕ, ◌≤◌, ◌-◌, Bool, ◌&&◌, not, if◌then◌else◌, Option, None, Some, List}
 use Rattle.std.specs.Option.{option_and_then, option_map, option_or}
 use Rattle.mxf_klv.specs.Parts.{NoteParts}
 use Rattle.mxf_klv.specs.Rising.{In}
@@ -10,7 +10,7 @@ use Rattle.mxf_places.specs.Claims.{index_of, metadata_of, over_fills}
 use Rattle.mxf_places.specs.declared.stretch.Stretch.{Stretch}
 use Rattle.mxf_units.specs.EssenceZones.{behind_index}
 use Rattle.mxf_units.specs.declared.essence_zone.part.StreamPart.{StreamPart}
-use Rattle.mxf_partial.specs.Streams.{IsPart, IsPartAt}
+use Rattle.mxf_partial.specs.Streams.{IsPart}
 
 -- Where a stretch ends of which isn't known what begins there.
 abbrev pub open_end : Stretch → Option ℕ
@@ -29,14 +29,13 @@ is_free notes x = is_in_file notes x && not (is_held notes x)
 unfoldable pub way_of : List NoteParts → PartitionParts → Option ℕ
 way_of notes p = option_and_then (λ x. if is_free notes x then Some x else None) (end_of_way notes p)
 
--- A partition without a first packet of essence, of those of a stream that begin where the last one does at or below an
--- offset, from which the way leads to the place.
+-- A partition without a first packet of essence from which the way leads to the place: of those of a stream that begin at or
+-- below an offset of it none begins behind it.
 pub record LeadsTo (notes : List NoteParts) (body_sid offset : ℕ) (part : StreamPart) (x : ℕ) : Type 0 where
   pub is_part : IsPart notes body_sid part
   pub unknown : part.zone ≡ None
-  pub last : StreamPart
-  pub last_is : IsPartAt notes body_sid offset last
-  pub begins : part.body_offset ≡ last.body_offset
+  pub begins : part.body_offset ≤ offset
+  pub last : (q : StreamPart) → IsPart notes body_sid q → q.body_offset ≤ offset → q.body_offset ≤ part.body_offset
   pub partition : PartitionParts
   pub held : In partition (partitions_of notes)
   pub offset_is : partition.offset ≡ part.partition
