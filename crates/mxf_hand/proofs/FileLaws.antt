@@ -1,10 +1,12 @@
 -- Of a file's bytes only packets of the file are put together.
 use Rattle.std.proofs.Common.{◌≡◌, ◌∙◌, ◌≤◌, ◌<◌, ◌+◌, ◌-◌, ◌&&◌, ◌++◌, ℕ, zero, suc, true, false, not}
 use Rattle.std.proofs.Common.{List, [], ◌∷◌, ◌==◌, Option, None, Some, ap, arith, cond, drop, filter, inl, inr, length}
-use Rattle.std.proofs.Common.{append_assoc, length-append, map, nat_lt, refl, subst, sym, take, take-append-drop}
+use Rattle.std.proofs.Common.{append_assoc, get_or, length-append, map, nat_lt, refl, subst, sym, take, take-append-drop}
 use Rattle.std.proofs.Math.Seq.{take-append_seam}
-use Rattle.std.proofs.lemmas.Bool.{and_parts}
-use Rattle.std.proofs.lemmas.Option.{same_Some}
+use Rattle.std.proofs.lemmas.Bool.{and_parts, cases_lt}
+use Rattle.std.proofs.lemmas.List.{get_or-append_right, get_or_append_left, get_or_past}
+use Rattle.std.proofs.lemmas.List.FromFn.{length-map-range_with_len}
+use Rattle.std.proofs.lemmas.Option.{same_Some, slice_get-get_or}
 use Rattle.std.specs.Prelude.{slice_get}
 use Rattle.std.specs.List.{range_with_len}
 use Rattle.std.specs.Option.{option_map_or}
@@ -20,6 +22,7 @@ use Rattle.mxf_klv.proofs.LengthLemmas.{spelled_len}
 use Rattle.mxf_klv.proofs.Lists.{In-append, In-filter, In-flat_map, In-map}
 use Rattle.mxf_klv.proofs.MoreBytes.{notes_from-append, seam}
 use Rattle.mxf_klv.proofs.PieceLaws.{head_at-head, length-spelled, one_piece, some_piece}
+use Rattle.mxf_klv.proofs.RoundTrips.{spelled-length_bytes}
 use Rattle.mxf_catalogue.specs.Content.{has_note}
 use Rattle.mxf_catalogue.specs.Covers.{IsCover}
 use Rattle.mxf_catalogue.specs.Runs.{LiesIn}
@@ -30,7 +33,7 @@ use Rattle.mxf_places.proofs.AtHandLaws.{has_offsets-says}
 use Rattle.mxf_restore.specs.Plan.{is_head_to, start_of}
 use Rattle.mxf_restore.specs.Sections.{sections_of}
 use Rattle.mxf_restore.specs.declared.section.Section.{Section}
-use Rattle.mxf_hand.specs.File.{AreBytesOfFile, AreOfFile, BeginAtPackets, IsBoundary, IsOfFile}
+use Rattle.mxf_hand.specs.File.{AreBytesOfFile, AreOfFile, BeginAtPackets, IsAllAtHand, IsBoundary, IsOfFile}
 use Rattle.mxf_hand.specs.Hand.{HandBytes, is_value_at_hand, packet_of, read_bytes, read_heads, read_packets, read_to}
 use Rattle.mxf_hand.specs.Heads.{fits, fitting, heads_to}
 use Rattle.mxf_hand.specs.Rounds.{heads_taken, is_taken, made_in, packets_in, put_together, read_heads_in, read_heads_of}
@@ -38,13 +41,14 @@ use Rattle.mxf_hand.specs.Rounds.{read_in, round, rounds, taken_in}
 use Rattle.mxf_hand.specs.Sections.{ends_within, from_of, heads_of, made_by, made_of, packets_of, read_from}
 use Rattle.mxf_hand.specs.declared.found.CutHead.{CutHead}
 use Rattle.mxf_hand.proofs.ClearLaws.{cut_head}
-use Rattle.mxf_hand.proofs.HandLaws.{read_lies}
+use Rattle.mxf_hand.proofs.HandLaws.{at_fits, read_lies}
 use Rattle.mxf_hand.proofs.HeadNoteLaws.{not_whole, two_parts}
+use Rattle.mxf_hand.proofs.PacketPlaces.{behind_place, ends_below, first_below, front_of, laid_size}
 
 -- ---- bytes of a list, from an offset on
 
 -- Behind a front the numbers go on.
-behind_front : (xs ys : List ℕ) (i k : ℕ) → k ≡ length xs + i → slice_get (xs ++ ys) k ≡ slice_get ys i
+pub behind_front : (xs ys : List ℕ) (i k : ℕ) → k ≡ length xs + i → slice_get (xs ++ ys) k ≡ slice_get ys i
 behind_front [] ys i k e = ap (slice_get ys) (let is : k ≡ i = omega (arith, e) in is)
 behind_front (x ∷ xs) ys i zero e = absurd (omega (arith, e))
 behind_front (x ∷ xs) ys i (suc k) e = behind_front xs ys i k (omega (arith, e))
@@ -72,7 +76,7 @@ pub record LaidBehind (o : ℕ) (bytes : List ℕ) (front back : List PacketPart
   pub reached : o + length before ≡ end_after o front
   pub laid : AreLaid (end_after o front) behind back []
 
-laid_behind : (o : ℕ) (bytes : List ℕ) (front back : List PacketParts) → AreLaid o bytes (front ++ back) []
+pub laid_behind : (o : ℕ) (bytes : List ℕ) (front back : List PacketParts) → AreLaid o bytes (front ++ back) []
     → LaidBehind o bytes front back
 laid_behind o bytes [] back laid = record {
   before = [];
@@ -101,7 +105,7 @@ pub record StandsIn (o : ℕ) (l : List PacketParts) (n : NoteParts) : Type 0 wh
   pub parts : l ≡ front ++ packet ∷ back
   pub is : n ≡ note_of (end_after o front) packet
 
-stands_in : (o : ℕ) (l : List PacketParts) (n : NoteParts) → In n (notes_from o l) → StandsIn o l n
+pub stands_in : (o : ℕ) (l : List PacketParts) (n : NoteParts) → In n (notes_from o l) → StandsIn o l n
 stands_in o [] n i = absurd i
 stands_in o (p ∷ l) n (inl e) = record { front = []; packet = p; back = l; parts = refl; is = e }
 stands_in o (p ∷ l) n (inr i) =
@@ -164,6 +168,28 @@ module _ (q : ℕ) (read more behind : List ℕ) (back : List PacketParts) (join
       (sym (whole_is.1 ∙ ap (rest_in q) joined ∙ (seam q read more).rest))
       (some_piece at (rest_in q read ++ more)).laid
 
+  -- What ends at or below its end it has whole.
+  read_whole : (m : NoteParts) → In m (notes_from q back) → end_of m ≤ q + length read → In m (packet_notes q read)
+  read_whole m i reached =
+      elim ((In-append m (notes_from q packets) (notes_from at others)).0 (subst (In m) notes_are i)) [
+        | inl k ↦ k
+        | inr k ↦ absurd (not_among others refl k)
+      ]
+    where
+      not_among : (l : List PacketParts) → others ≡ l → In m (notes_from at l) → ⊥
+      not_among [] is k = k
+      not_among (p ∷ l) is k =
+          let there = subst (λ l. AreLaid at (rest_in q read ++ more) l []) is others_laid in
+          let (front, after, spelled, joined, within, laid) = there in
+          let piece = some_piece q read in
+          let size = length-spelled front p spelled in
+          let total = laid_size q read packets (rest_in q read) piece.laid in
+          let below = first_below at p l m k in
+          let few : length front ≤ length (rest_in q read) = omega (arith, size, total, below, reached) in
+          let ahead = front_of (rest_in q read) more front after joined few in
+          let above = piece.ended front (drop (length front) (rest_in q read)) p spelled ahead in
+          omega (arith, above, within)
+
   -- The head that it ends with is that of one of them.
   read_head : (n : NoteParts) → In n (cut_heads q read) → (m : NoteParts) × In m (notes_from q back) × (head_note m ≡ n)
   read_head n i =
@@ -216,17 +242,17 @@ module _ (q : ℕ) (read more behind : List ℕ) (back : List PacketParts) (join
 
 -- ---- a file, and bytes of it
 
-end_more : (o : ℕ) (front : List PacketParts) (p : PacketParts)
+pub end_more : (o : ℕ) (front : List PacketParts) (p : PacketParts)
     → end_after o (front ++ p ∷ []) ≡ end_after o front + size_of p
 end_more o [] p = refl
 end_more o (k ∷ front) p = end_more (o + size_of k) front p
 
 module _ (l : List PacketParts) (bytes : List ℕ) (h : HandBytes) (laid : AreLaid 0 bytes l []) (cover : IsCover h.runs)
     (is_file : (x : ℕ) → LiesIn h.runs x → slice_get bytes x ≡ Some (h.byte x)) where
-  laid_from : (front back : List PacketParts) → l ≡ front ++ back → LaidBehind 0 bytes front back
+  pub laid_from : (front back : List PacketParts) → l ≡ front ++ back → LaidBehind 0 bytes front back
   laid_from front back e = laid_behind 0 bytes front back (subst (λ l. AreLaid 0 bytes l []) e laid)
 
-  reads_front : (front back : List PacketParts) (e : l ≡ front ++ back) (end : Option ℕ) (q : ℕ) → end_after 0 front ≡ q
+  pub reads_front : (front back : List PacketParts) (e : l ≡ front ++ back) (end : Option ℕ) (q : ℕ) → end_after 0 front ≡ q
       → (laid_from front back e).behind
       ≡ read_bytes h end q ++ drop (read_to h.runs end q - q) (laid_from front back e).behind
   reads_front front back e end q at =
@@ -263,6 +289,70 @@ module _ (l : List PacketParts) (bytes : List ℕ) (h : HandBytes) (laid : AreLa
       (reads_front front back e end q at) behind n i in
       inr (j.0, among_file front back j.0 e (subst (λ q. In j.0 (notes_from q back)) (sym at) j.1), j.2)
 
+  -- A reading has all packets that end at or below its end.
+  pub packet_read : (end : Option ℕ) (q : ℕ) (m : NoteParts) → IsBoundary l q → In m (notes_from 0 l) → q ≤ m.offset
+      → end_of m ≤ read_to h.runs end q → In m (read_packets h end q)
+  packet_read end q m (front, back, e, at) i from reached =
+      let b = laid_from front back e in
+      let behind = subst (λ q. AreLaid q b.behind back []) at b.laid in
+      let size = length-map-range_with_len h.byte q (read_to h.runs end q - q) in
+      read_whole q (read_bytes h end q) (drop (read_to h.runs end q - q) b.behind) b.behind back
+      (reads_front front back e end q at) behind m (behind_place l q front back m e at i from)
+      (omega (arith, size, from, reached))
+
+  -- Where the file's bytes are at hand, the head of each of its packets fits.
+  pub head_fits : IsAllAtHand l h → (m : NoteParts) → In m (notes_from 0 l) → fits h (head_note m) ≡ true
+  head_fits all m i =
+      let s = stands_in 0 l m i in
+      let ends = ends_below 0 l m i in
+      let end : end_of m ≡ end_of (note_of (end_after 0 s.front) s.packet) = ap end_of s.is in
+      subst (λ n. fits h (head_note n) ≡ true) (sym s.is)
+      (fits_there (end_after 0 s.front) s.packet s.front s.back refl s.parts (omega (arith, ends, end)))
+    where
+      fits_there : (q : ℕ) (p : PacketParts) (front back : List PacketParts) → end_after 0 front ≡ q
+          → l ≡ front ++ p ∷ back → q + 16 + p.width + length p.value ≤ end_after 0 l
+          → fits h (head_note (note_of q p)) ≡ true
+      fits_there q p front back at e ends =
+          let b = laid_from front (p ∷ back) e in
+          let (f, after, spelled, joined, within, rest) = b.laid in
+          let head = p.key ++ spelled.spelled in
+          let behind = p.value ++ after in
+          let whole : bytes ≡ b.before ++ (head ++ behind) =
+          b.joined ∙ ap (λ (t : List ℕ). b.before ++ t) (joined ∙ ap (λ (t : List ℕ). t ++ after) spelled.whole
+          ∙ append_assoc p.key (spelled.spelled ++ p.value) after
+          ∙ ap (λ (t : List ℕ). p.key ++ t) (append_assoc spelled.spelled p.value after)
+          ∙ sym (append_assoc p.key spelled.spelled (p.value ++ after))) in
+          let key : length p.key ≡ 16 = spelled.label.0 in
+          let width = spelled_len spelled.spelled p.width (length p.value) spelled.width in
+          let both = length-append p.key spelled.spelled in
+          let reached = b.reached in
+          let size : length b.before ≡ q = omega (arith, reached, at) in
+          let there : (i : ℕ) → i < 16 + p.width → h.byte (q + i) ≡ get_or head i 0 =
+          λ i less. same_Some (h.byte (q + i)) (get_or head i 0)
+          (sym (is_file (q + i) (all (q + i) (omega (arith, less, ends))).0)
+          ∙ ap (λ (t : List ℕ). slice_get t (q + i)) whole
+          ∙ behind_front b.before (head ++ behind) i (q + i) (omega (arith, size))
+          ∙ slice_get-get_or (head ++ behind) i 0
+          (let more = length-append head behind in omega (arith, more, both, key, width, less))
+          ∙ ap (λ (k : ℕ). Some k) (get_or_append_left head behind 0 i (omega (arith, both, key, width, less)))) in
+          let small : (i : ℕ) → get_or spelled.spelled i 0 < 256 =
+          λ i. elim (cases_lt i p.width) [
+            | inl less ↦
+                let byte = there (16 + i) (omega (arith, less)) in
+                let part = get_or-append_right p.key spelled.spelled 16 (16 + i) 0 key (omega arith) in
+                let index : 16 + i - 16 ≡ i = omega arith in
+                let is : get_or spelled.spelled i 0 ≡ h.byte (q + (16 + i)) =
+                ap (λ (k : ℕ). get_or spelled.spelled k 0) (sym index) ∙ sym part ∙ sym byte in
+                let low = (all (q + (16 + i)) (omega (arith, less, ends))).1 in omega (arith, is, low)
+            | inr more ↦
+                let past = get_or_past spelled.spelled i 0 (omega (arith, width, more)) in omega (arith, past)
+          ] in
+          let same = spelled-length_bytes spelled.spelled p.width (length p.value) small spelled.width in
+          at_fits h (head_note (note_of q p)) (λ x from before lies.
+          let place : x ≡ q + (x - q) = omega (arith, from) in
+          ap h.byte place ∙ there (x - q) (omega (arith, from, before))
+          ∙ ap (λ (t : List ℕ). get_or (p.key ++ t) (x - q) 0) same)
+
   -- Behind a packet of the file the next begins.
   ends_at_boundary : (m : NoteParts) → In m (notes_from 0 l) → IsBoundary l (end_of m)
   ends_at_boundary m i =
@@ -276,7 +366,7 @@ module _ (l : List PacketParts) (bytes : List ℕ) (h : HandBytes) (laid : AreLa
       )
 
   -- The packet of a head of the file is the file's.
-  made_of_file : (a : NoteParts) → IsOfFile l a → a.whole ≡ false
+  pub made_of_file : (a : NoteParts) → IsOfFile l a → a.whole ≡ false
       → ((x : ℕ) → covered_end a ≤ x → x < end_of a → LiesIn h.runs x) → In (packet_of h a) (notes_from 0 l)
   made_of_file a (inl i) head lies =
       let s = stands_in 0 l a i in
@@ -331,7 +421,7 @@ module _ (l : List PacketParts) (bytes : List ℕ) (h : HandBytes) (laid : AreLa
         (j.0, not_whole m.whole (and_parts (not m.whole) (covered_end m == first) j.1).0)
 
     -- Behind the packet of a note the next begins.
-    behind_note : (m : NoteParts) → IsOfFile l m → IsBoundary l (end_of m)
+    pub behind_note : (m : NoteParts) → IsOfFile l m → IsBoundary l (end_of m)
     behind_note m (inl i) = ends_at_boundary m i
     behind_note m (inr (k, i, e)) =
         let end : end_of (head_note k) ≡ end_of m = ap end_of e in
@@ -416,11 +506,11 @@ module _ (l : List PacketParts) (bytes : List ℕ) (h : HandBytes) (laid : AreLa
     head_too n y (inl i) e = inr (y, i, e)
     head_too n y (inr (k, i, f)) e = inr (k, i, ap head_note f ∙ e)
 
-    has_of_file : (some : List NoteParts) (n : NoteParts) → AreOfFile l some → has_note some n → IsOfFile l n
+    pub has_of_file : (some : List NoteParts) (n : NoteParts) → AreOfFile l some → has_note some n → IsOfFile l n
     has_of_file some n all (inl i) = all n i
     has_of_file some n all (inr (y, i, e)) = head_too n y (all y i) e
 
-    round_of_file : AreOfFile l (round h notes)
+    pub round_of_file : AreOfFile l (round h notes)
     unfolding round
     round_of_file n i =
         let taken = taken_in h notes (sections_of notes) in

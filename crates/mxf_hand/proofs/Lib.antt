@@ -6,4 +6,8 @@ pub mod FitLaws
 pub mod SameBytes
 pub mod HistoryLaws
 pub mod ClearLaws
+pub mod PacketPlaces
 pub mod FileLaws
+pub mod FileHoles
+pub mod NoMoreLaws
+pub mod WholeFileLaws

@@ -1,5 +1,5 @@
 -- A file of packets, of which notes and bytes are known (this project's profile).
-use Rattle.std.specs.Prelude.{◌≡◌, ℕ, List, [], ◌++◌, slice_get, Some}
+use Rattle.std.specs.Prelude.{◌≡◌, ℕ, ◌<◌, List, [], ◌++◌, slice_get, Some, false}
 use Rattle.mxf_klv.specs.Parts.{NoteParts, PacketParts}
 use Rattle.mxf_klv.specs.Piece.{AreLaid, end_after, notes_from}
 use Rattle.mxf_klv.specs.Rising.{In}
@@ -34,3 +34,11 @@ IsBoundary packets x =
 -- Each section of the holes begins where a packet of the file does: what packs say of places is right.
 abbrev pub BeginAtPackets : List PacketParts → List NoteParts → Type 0
 BeginAtPackets packets notes = (p : Section) → In p (sections_of notes) → IsBoundary packets (start_of notes p.first)
+
+-- Each byte of the file is at hand, a number below 256.
+abbrev pub IsAllAtHand : List PacketParts → HandBytes → Type 0
+IsAllAtHand packets h = (x : ℕ) → x < end_after 0 packets → LiesIn h.runs x × (h.byte x < 256)
+
+-- No head of the notes is that of a packet without a value.
+abbrev pub HeadsHaveValues : List NoteParts → Type 0
+HeadsHaveValues notes = (n : NoteParts) → In n notes → n.whole ≡ false → 0 < n.length

@@ -1,12 +1,14 @@
 //! Laws of what is put together.
 ghost use Rattle.std.specs.Prelude.{◌≡◌, ℕ, List};
 ghost use Rattle.mxf_klv.specs.Parts.{NoteParts, PacketParts};
+ghost use Rattle.mxf_klv.specs.Piece.{notes_from};
 ghost use Rattle.mxf_klv.specs.Rising.{SameMembers};
 ghost use Rattle.mxf_catalogue.specs.Content.{AreReduced, IsContent, has_note, reduced_union};
 ghost use Rattle.mxf_catalogue.specs.Disputes.{IsClear};
 ghost use Rattle.mxf_catalogue.specs.History.{Hands, History, content};
+ghost use Rattle.mxf_views.specs.WellFormed.{IsWellFormed};
 ghost use Rattle.mxf_read.specs.Given.{SourceParts};
-ghost use Rattle.mxf_hand.specs.File.{AreBytesOfFile, AreOfFile, BeginAtPackets};
+ghost use Rattle.mxf_hand.specs.File.{AreBytesOfFile, AreOfFile, BeginAtPackets, HeadsHaveValues, IsAllAtHand};
 ghost use Rattle.mxf_hand.specs.Hand.{AreOf, HandBytes};
 ghost use Rattle.mxf_hand.specs.Rounds.{put_together, round, rounds};
 
@@ -38,6 +40,16 @@ pub fn only_packets_of_the_file()
     ensures { (packets : List PacketParts) (h : HandBytes) (notes : List NoteParts) → AreBytesOfFile packets h
         → AreOfFile packets notes → ((count : ℕ) → BeginAtPackets packets (rounds count h notes))
         → AreOfFile packets (put_together h notes) }
+{}
+
+/// A law of [`put_together`](crate::put_together): where what is held and the bytes at hand are a well-formed file's,
+/// each of its bytes is at hand, and what packs say of places is right, the whole file is put together: what is held
+/// then are the notes of all its packets. Heads that are held are of packets with a value: no reading notes others.
+pub fn the_whole_file_is_put_together()
+    ensures { (packets : List PacketParts) (h : HandBytes) (notes : List NoteParts) → IsWellFormed packets
+        → AreBytesOfFile packets h → IsAllAtHand packets h → IsContent notes → AreReduced notes
+        → AreOfFile packets notes → HeadsHaveValues notes → BeginAtPackets packets notes
+        → put_together h notes ≡ notes_from 0 packets }
 {}
 
 /// A law of [`put_together`](crate::put_together): where no round more changes anything, what was put together, saved and

@@ -9,7 +9,8 @@
 //! What is proved: the answer is its function of the content and of the bytes at hand, whichever source they are read of.
 //! Laws: the order of sources doesn't matter ([`one_content_of_sources`]), what is held stays ([`what_is_held_stays`]), and
 //! what is clear stays clear ([`what_is_clear_stays_clear`]). Where what packs say of places is right in each round, of a
-//! file's bytes only packets of that file are made ([`only_packets_of_the_file`]). Where no round more changes anything,
+//! file's bytes only packets of that file are made ([`only_packets_of_the_file`]), and where all bytes of a well-formed
+//! file are at hand, all of its packets are ([`the_whole_file_is_put_together`]). Where no round more changes anything,
 //! what was saved changes nothing beside the same sources ([`saved_beside_its_sources`]). What is said of histories of
 //! calls is said of it ([`put_together_is_a_history`]).
 //!
@@ -32,6 +33,7 @@ mod section;
 
 pub use laws::{
     one_content_of_sources, only_packets_of_the_file, put_together_is_a_history,
-    saved_beside_its_sources, what_is_clear_stays_clear, what_is_held_stays,
+    saved_beside_its_sources, the_whole_file_is_put_together, what_is_clear_stays_clear,
+    what_is_held_stays,
 };
 pub use putting::{PutTogether, put_together};

@@ -106,7 +106,7 @@ module _ (notes : List NoteParts) where
         ])
   ]
 
-  hole_there : (at : AtHandParts) → IsContent notes → (x : ℕ) → IsGap notes x → x < edge_of at notes
+  pub hole_there : (at : AtHandParts) → IsContent notes → (x : ℕ) → IsGap notes x → x < edge_of at notes
       → (h : OffsetRange) × IsHole notes h × LiesInRange h x
   hole_there at content x g edge =
       let s = run_there notes content x g in

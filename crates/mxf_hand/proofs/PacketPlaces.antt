@@ -1,0 +1,141 @@
+-- Where the packets of a file lie, and what notes of the file that share a byte are.
+use Rattle.std.proofs.Common.{◌≡◌, ◌∙◌, ◌⊎◌, ◌≤◌, ◌<◌, ◌+◌, ◌++◌, ℕ, List, [], ◌∷◌, ap, arith, drop, inl, inr, length}
+use Rattle.std.proofs.Common.{false, length-append, refl, subst, sym, take, take-append-drop, true}
+use Rattle.std.proofs.lemmas.Bool.{cases_lt}
+use Rattle.std.proofs.lemmas.List.{take-append-le, take_at}
+use Rattle.mxf_klv.specs.Parts.{NoteParts, PacketParts}
+use Rattle.mxf_klv.specs.Note.{end_of, head_note, note_of}
+use Rattle.mxf_klv.specs.Packet.{size_of}
+use Rattle.mxf_klv.specs.Piece.{AreLaid, end_after, notes_from}
+use Rattle.mxf_klv.specs.Rising.{In}
+use Rattle.mxf_klv.proofs.Lists.{In-append}
+use Rattle.mxf_klv.proofs.MoreBytes.{notes_from-append}
+use Rattle.mxf_klv.proofs.PieceLaws.{length-spelled}
+use Rattle.mxf_catalogue.proofs.ClearLaws.{after, apart, is_whole}
+use Rattle.mxf_places.specs.Held.{IsHeld}
+use Rattle.mxf_hand.specs.File.{IsBoundary, IsOfFile}
+
+-- ---- bytes
+
+-- Where a list goes on behind its front, the front is the beginning of any part that is long enough.
+pub front_of : (r more front after : List ℕ) → r ++ more ≡ front ++ after → length front ≤ length r
+    → r ≡ front ++ drop (length front) r
+front_of r more front after e few =
+    let n = length front in
+    let cut : take n r ≡ front = sym (take-append-le n r more few) ∙ ap (take n) e ∙ take_at front after n refl in
+    sym (take-append-drop n r) ∙ ap (λ (t : List ℕ). t ++ drop n r) cut
+
+-- Packets that are laid have all bytes but the rest.
+pub laid_size : (o : ℕ) (bytes : List ℕ) (ps : List PacketParts) (rest : List ℕ) → AreLaid o bytes ps rest
+    → o + length bytes ≡ end_after o ps + length rest
+laid_size o bytes [] rest e = let same = ap length e in omega (arith, same)
+laid_size o bytes (p ∷ ps) rest (front, after, spelled, joined, within, laid) =
+    let ih = laid_size (o + size_of p) after ps rest laid in
+    let size = length-spelled front p spelled in
+    let whole = ap length joined in
+    let both = length-append front after in omega (arith, ih, size, whole, both)
+
+-- ---- places
+
+pub end_above : (o : ℕ) (l : List PacketParts) → o ≤ end_after o l
+end_above o [] = omega arith
+end_above o (p ∷ l) = let more = end_above (o + size_of p) l in omega (arith, more)
+
+-- Each packet ends at or below the end of all.
+pub ends_below : (o : ℕ) (l : List PacketParts) (m : NoteParts) → In m (notes_from o l) → end_of m ≤ end_after o l
+ends_below o [] m i = absurd i
+ends_below o (p ∷ l) m (inl e) =
+    let end : end_of m ≡ end_of (note_of o p) = ap end_of e in
+    let more = end_above (o + size_of p) l in omega (arith, end, more)
+ends_below o (p ∷ l) m (inr i) = ends_below (o + size_of p) l m i
+
+-- The first of them ends at or below the end of each.
+pub first_below : (o : ℕ) (p : PacketParts) (l : List PacketParts) (m : NoteParts) → In m (notes_from o (p ∷ l))
+    → o + size_of p ≤ end_of m
+first_below o p l m (inl e) = let end : end_of m ≡ end_of (note_of o p) = ap end_of e in omega (arith, end)
+first_below o p l m (inr i) = let from = after (o + size_of p) l m i in omega (arith, from)
+
+-- All bytes of the packets are held.
+pub held_all : (o : ℕ) (l : List PacketParts) (x : ℕ) → o ≤ x → x < end_after o l → IsHeld (notes_from o l) x
+held_all o [] x low high = absurd (omega (arith, low, high))
+held_all o (p ∷ l) x low high =
+    elim (cases_lt x (o + size_of p)) [
+      | inl less ↦ (note_of o p, inl refl, record { from = low; before = omega (arith, less) })
+      | inr more ↦ let h = held_all (o + size_of p) l x more high in (h.0, inr h.1, h.2)
+    ]
+
+module _ (l : List PacketParts) where
+  -- Before or behind a place where packets begin.
+  pub sides : (y : ℕ) (front back : List PacketParts) (m : NoteParts) → l ≡ front ++ back → end_after 0 front ≡ y
+      → In m (notes_from 0 l) → In m (notes_from 0 front) ⊎ In m (notes_from y back)
+  sides y front back m e at i =
+      let there = subst (λ l. In m (notes_from 0 l)) e i in
+      let parts = subst (In m) (notes_from-append 0 front back) there in
+      elim ((In-append m (notes_from 0 front) (notes_from (end_after 0 front) back)).0 parts) [
+        | inl k ↦ inl k
+        | inr k ↦ inr (subst (λ y. In m (notes_from y back)) at k)
+      ]
+
+  -- No packet begins inside another.
+  pub not_cut : (y : ℕ) (m : NoteParts) → IsBoundary l y → In m (notes_from 0 l) → m.offset < y → end_of m ≤ y
+  not_cut y m (front, back, e, at) i less =
+      elim (sides y front back m e at i) [
+        | inl k ↦ let ends = ends_below 0 front m k in omega (arith, ends, at)
+        | inr k ↦ let from = after y back m k in absurd (omega (arith, from, less))
+      ]
+
+  -- What begins at or above a place where packets begin stands behind it.
+  pub behind_place : (y : ℕ) (front back : List PacketParts) (m : NoteParts) → l ≡ front ++ back
+      → end_after 0 front ≡ y → In m (notes_from 0 l) → y ≤ m.offset → In m (notes_from y back)
+  behind_place y front back m e at i from =
+      elim (sides y front back m e at i) [
+        | inl k ↦ let ends = ends_below 0 front m k in absurd (omega (arith, ends, at, from))
+        | inr k ↦ k
+      ]
+
+-- ---- notes of a file
+
+-- The packet of a note.
+pub record HasPacket (l : List PacketParts) (n : NoteParts) : Type 0 where
+  pub packet : NoteParts
+  pub there : In packet (notes_from 0 l)
+  pub which : (n ≡ packet) ⊎ (n ≡ head_note packet)
+  pub offset : n.offset ≡ packet.offset
+  pub end : end_of n ≡ end_of packet
+
+module _ (l : List PacketParts) where
+  pub has_packet : (n : NoteParts) → IsOfFile l n → HasPacket l n
+  has_packet n (inl i) = record { packet = n; there = i; which = inl refl; offset = refl; end = refl }
+  has_packet n (inr (m, i, e)) = record {
+    packet = m;
+    there = i;
+    which = inr (sym e);
+    offset = ap (λ (k : NoteParts). k.offset) (sym e);
+    end = ap end_of (sym e);
+  }
+
+  -- What shares a byte with a packet is its note or its head.
+  pub is_or_head : (m n : NoteParts) (x : ℕ) → In m (notes_from 0 l) → IsOfFile l n → m.offset ≤ x → x < end_of m
+      → n.offset ≤ x → x < end_of n → (n ≡ m) ⊎ (n ≡ head_note m)
+  is_or_head m n x i of a b c d =
+      let k = has_packet n of in
+      let o = k.offset in
+      let e = k.end in
+      let low : k.packet.offset ≤ x = omega (arith, o, c) in
+      let high : x + 1 ≤ end_of k.packet = omega (arith, e, d) in
+      let one : k.packet ≡ m =
+      apart 0 l k.packet m k.there i
+      (x, record { from = low; before = high }, record { from = a; before = omega (arith, b) }) in
+      subst (λ m. (n ≡ m) ⊎ (n ≡ head_note m)) one k.which
+
+  -- A head is that of a packet.
+  pub is_head : (n : NoteParts) → IsOfFile l n → n.whole ≡ false → (m : NoteParts) × In m (notes_from 0 l)
+      × (n ≡ head_note m)
+  is_head n (inl i) head = absurd (let whole = is_whole 0 l n i in cc (whole, head))
+  is_head n (inr (m, i, e)) head = (m, i, sym e)
+
+  -- A note of a packet that was read whole is the packet's.
+  pub is_packet : (n : NoteParts) → IsOfFile l n → n.whole ≡ true → In n (notes_from 0 l)
+  is_packet n (inl i) whole = i
+  is_packet n (inr (m, i, e)) whole =
+      absurd (let head : false ≡ n.whole = ap (λ (k : NoteParts). k.whole) e in cc (whole, head))
