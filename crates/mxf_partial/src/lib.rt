@@ -6,3 +6,4 @@ mod finding;
 mod named;
 mod questions;
 mod wanted;
+mod ways;

@@ -1,14 +1,15 @@
 //! Where the way from partition packs to their essence goes on over what isn't held (ST 377-1, Partition Pack).
-ghost use Rattle.std.specs.Prelude.{◌≡◌, ◌↔◌, ◌⊎◌, [], None, Some, find, IfOk, IfSome, OnOk};
+ghost use Rattle.std.specs.Prelude.{◌≡◌, ◌↔◌, ◌⊎◌, ◌++◌, [], None, Some, if◌then◌else◌, IfOk, OnOk};
 ghost use Rattle.std.specs.List.{filter_map};
-ghost use Rattle.std.specs.Option.{option_and_then, option_map, option_to_list};
-ghost use Rattle.mxf_klv.specs.Rising.{In, union};
+ghost use Rattle.mxf_klv.specs.Rising.{In, IsRising, union};
 ghost use Rattle.mxf_restore.specs.declared.named.NamedPlace.{NamedPlace};
-ghost use Rattle.mxf_units.specs.EssenceZones.{IsFalling, begins_up_to, parts_of};
+ghost use Rattle.mxf_units.specs.EssenceZones.{IsFalling};
 ghost use Rattle.mxf_units.specs.declared.essence_zone.part.StreamPart.{StreamPart};
 ghost use Rattle.mxf_views.specs.declared.index.place.StreamPlace.{StreamPlace};
-ghost use Rattle.mxf_partial.specs.Beginnings.{beginning_cmp, beginning_of};
-ghost use Rattle.mxf_partial.specs.Ways.{LeadsTo, end_of_way, open_end, way_of};
+ghost use Rattle.mxf_partial.specs.Beginnings.{beginning_at, beginning_cmp, beginning_of, way_from};
+ghost use Rattle.mxf_places.specs.Claims.{over_fills};
+ghost use Rattle.mxf_partial.specs.Ways.{LeadsTo, end_of_way, is_free, open_end, way_of};
+ghost use Rattle.std.specs.Option.{option_and_then};
 
 use mxf_klv::{MAX, OutOfMemory, sort_once};
 use mxf_places::{Holdings, Stretch, Zone, zone_of};
@@ -51,7 +52,9 @@ fn beginnings(
     ensures members { IfOk result (λ v. v.items ≡ union beginning_cmp [] (filter_map (beginning_at parts.now) places.now)) }
     ensures rising { IfOk result (λ v. IsRising beginning_cmp v.items) }
 {
-    let found = places.iter().filter_map(|place| beginning_at(parts, *place));
+    let found = places
+        .iter()
+        .filter_map(|place| beginning_at(parts, *place));
     Ok(in_order(found.collect(alloc)?))
 }
 
@@ -131,9 +134,58 @@ fn way_from(
 fn way_of(holdings: &Holdings<'_>, partition: &Partition) -> Option<u64>
     ensures { result ≡ way_of holdings.now partition.now }
 {
-    let place = end_of_way(holdings, partition)?;
+    free_place(holdings, end_of_way(holdings, partition)?)
+}
+
+/// The place, in bytes, where nothing is held there and the file may reach that far.
+fn free_place(holdings: &Holdings<'_>, place: u128) -> Option<u64>
+    ensures { result ≡ if is_free holdings.now place then Some place else None }
+{
+    if place >= u128::from(MAX) {
+        return None;
+    }
+    let place = place as u64;
     if holdings.is_in_file(place) && !holdings.is_held(place) {
         Some(place)
+    } else {
+        None
+    }
+}
+
+/// Where the way ends, in bytes, that leads from a partition pack over its header metadata, its index table segments and
+/// fills.
+fn end_of_way(holdings: &Holdings<'_>, partition: &Partition) -> Option<u128>
+    ensures { result ≡ end_of_way holdings.now partition.now }
+{
+    match behind_index(holdings, partition) {
+        Some(behind) => Some(over_fills(holdings, behind)),
+        None => open_end(zone_of(holdings, Zone::Metadata, partition)).or(open_end(zone_of(
+            holdings,
+            Zone::Index,
+            partition,
+        ))),
+    }
+}
+
+/// Where one comes to from an offset, in bytes, that goes on over the fills that begin there.
+fn over_fills(holdings: &Holdings<'_>, offset: u128) -> u128
+    ensures { result ≡ over_fills holdings.now offset }
+{
+    if offset >= u128::from(MAX) {
+        // No packet begins there.
+        holdings.views().catalogue().laws();
+        return offset;
+    }
+    u128::from(holdings.over_fills(offset as u64))
+}
+
+/// Where a stretch ends, in bytes, of which isn't known what begins there.
+fn open_end(stretch: Option<Stretch>) -> Option<u128>
+    ensures { result ≡ option_and_then open_end stretch }
+{
+    let stretch = stretch?;
+    if stretch.is_open {
+        Some(stretch.end.saturating_sub(1))
     } else {
         None
     }
