@@ -23,6 +23,7 @@
 //! ```
 #![tactic(auto)]
 
+mod barren;
 mod found;
 mod hand;
 mod head;
