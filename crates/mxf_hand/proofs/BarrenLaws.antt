@@ -17,15 +17,16 @@ use Rattle.mxf_hand.specs.Hand.{HandBytes, read_bytes}
 abbrev pub asked_cmp : ℕ × Option ℕ → ℕ × Option ℕ → Ordering
 asked_cmp a b = ordering_then (nat_cmp a.0 b.0) (option_cmp nat_cmp a.1 b.1)
 
-exact_options : (a b : Option ℕ) → option_cmp nat_cmp a b ≡ Equal → a ≡ b
-exact_options None None e = refl
-exact_options None (Some y) e = absurd cc
-exact_options (Some x) None e = absurd cc
-exact_options (Some x) (Some y) e = ap Some (exact_unsigned x y e)
+-- Options are told apart where their values are.
+exact_options : {A : Type 0} (P : A → A → Ordering) → CmpEqualImpliesEq P → CmpEqualImpliesEq (option_cmp P)
+exact_options P exact None None e = refl
+exact_options P exact None (Some y) e = absurd cc
+exact_options P exact (Some x) None e = absurd cc
+exact_options P exact (Some x) (Some y) e = ap (λ z. Some z) (exact x y e)
 
 -- It tells all apart.
-exact : CmpEqualImpliesEq asked_cmp
-exact = exact_pairs nat_cmp (option_cmp nat_cmp) exact_unsigned exact_options
+one_reading : CmpEqualImpliesEq asked_cmp
+one_reading = exact_pairs nat_cmp (option_cmp nat_cmp) exact_unsigned (exact_options nat_cmp exact_unsigned)
 
 -- What a table has is barren.
 pub found_barren : (h : HandBytes) (entries : List ((ℕ × Option ℕ) × Option NoteParts)) (from : ℕ) (end : Option ℕ)
@@ -38,7 +39,7 @@ found_barren h (e ∷ entries) from end all =
     (IsReading from (read_bytes h end from) [])) [
       | Less ↦ λ _. found_barren h entries from end all.1
       | Equal ↦ λ same. subst (λ (k : ℕ × Option ℕ). IsReading k.0 (read_bytes h k.1 k.0) [] e.1)
-          (sym (exact (from, end) e.0 same)) all.0
+          (sym (one_reading (from, end) e.0 same)) all.0
       | Greater ↦ λ _. found_barren h entries from end all.1
     ] refl
 
@@ -52,6 +53,6 @@ kept_barren h (e ∷ entries) key head all is =
     → AreAllBarren h (match_ordering o ((key, head) ∷ e ∷ entries) ((e.0, head) ∷ entries)
     (e ∷ insert_entry asked_cmp entries key head))) [
       | Less ↦ λ _. (is, all)
-      | Equal ↦ λ same. (subst (λ (k : ℕ × Option ℕ). IsBarren h (k, head)) (exact key e.0 same) is, all.1)
+      | Equal ↦ λ same. (subst (λ (k : ℕ × Option ℕ). IsBarren h (k, head)) (one_reading key e.0 same) is, all.1)
       | Greater ↦ λ _. (all.0, kept_barren h entries key head all.1 is)
     ] refl
