@@ -19,6 +19,7 @@ use Rattle.mxf_catalogue.specs.Disputes.{IsClear, SharesByte}
 use Rattle.mxf_catalogue.proofs.ClearLaws.{after, held_whole}
 use Rattle.mxf_catalogue.proofs.HeadLaws.{AreReduced-reduced_union, has-reduced_union, same_note}
 use Rattle.mxf_catalogue.proofs.PartLaws.{with_whole}
+use Rattle.mxf_catalogue.proofs.RunBounds.{covers_below_end}
 use Rattle.mxf_read.specs.Given.{bytes_between}
 use Rattle.mxf_read.specs.Noting.{cut_heads, packet_notes}
 use Rattle.mxf_read.proofs.Pieces.{head_begins, heads_few}
@@ -108,13 +109,6 @@ hole_below : (end : Option ℕ) (m : NoteParts) (x : ℕ) → ends_within end m 
 hole_below None m x w high = inl refl
 hole_below (Some e) m x w high = inr (e, refl, let le : end_of m ≤ e = leb-true _ _ w in omega (arith, le, high))
 
-covered_le : (m : NoteParts) → covered_end m ≤ end_of m
-covered_le m =
-    elim m.whole as (λ b. cond b (end_of m) (m.offset + 16 + m.width) ≤ end_of m) [
-      | true ↦ omega arith
-      | false ↦ omega arith
-    ]
-
 -- ---- a clear note, and notes that share no byte with it
 
 -- What is added of notes that share no byte with a clear one leaves it clear.
@@ -184,7 +178,7 @@ module _ (notes : List NoteParts) (content : IsContent notes) (n : NoteParts) (c
             let k = found-In (is_head_to p.first) notes m e in
             let t = and_parts (not m.whole) (covered_end m == p.first) k.1 in
             let end = eqb-true (covered_end m) p.first t.1 in
-            let le = covered_le m in
+            let le = covers_below_end m in
             (m, k.0, not_whole m.whole t.0, record { from = from; before = omega (arith, end, le, high) })
       ] refl low
 
@@ -203,7 +197,7 @@ module _ (notes : List NoteParts) (content : IsContent notes) (n : NoteParts) (c
   from_by first q [] all e = inl (sym (same_Some (start_of notes first) q e))
   from_by first q (m ∷ []) all e =
       inr (let end = all m (inl refl) in
-      let le = covered_le m in
+      let le = covers_below_end m in
       let is = same_Some (end_of m) q e in omega (arith, end, le, is))
   from_by first q (m ∷ k ∷ heads) all e = absurd cc
 
@@ -267,7 +261,7 @@ module _ (notes : List NoteParts) (content : IsContent notes) (n : NoteParts) (c
       let size = read_count h.byte value (covered_end a) (end_of a) refl in
       let covers : covered_end a ≡ a.offset + 16 + a.width =
       ap (λ b. cond b (end_of a) (a.offset + 16 + a.width)) head in
-      let le = covered_le a in
+      let le = covers_below_end a in
       let low : m.offset ≤ s.0 = s.1.from in
       let high : s.0 + 1 ≤ end_of m = s.1.before in (
         s.0,

@@ -24,6 +24,7 @@
 //! ```
 #![tactic(auto)]
 
+mod barren;
 mod found;
 mod hand;
 mod head;

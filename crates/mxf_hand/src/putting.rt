@@ -4,11 +4,13 @@ ghost use Rattle.mxf_klv.specs.Parts.{NoteParts};
 ghost use Rattle.mxf_klv.specs.Rising.{In};
 ghost use Rattle.mxf_catalogue.specs.Content.{has_note, reduced_union};
 ghost use Rattle.mxf_read.specs.Given.{AreTold, SourceParts};
+ghost use Rattle.mxf_hand.specs.Barren.{AreBarren};
 ghost use Rattle.mxf_hand.specs.Finding.{Finds};
 ghost use Rattle.mxf_hand.specs.Hand.{AreOf, AreToldIn, HandBytes};
 ghost use Rattle.mxf_hand.specs.Rounds.{made_in, packets_in, put_together, read_heads_in, round};
 ghost use Rattle.mxf_restore.specs.Sections.{sections_of};
 
+use crate::barren::BarrenReadings;
 use crate::found::Found;
 use crate::hand::Hand;
 use crate::head::Heads;
@@ -45,37 +47,46 @@ fn found_in<S: Sources>(
     alloc: Global,
     hand: &Hand,
     sources: &mut S,
+    barren: &mut BarrenReadings,
     views: &Views,
 ) -> Result<Found, SourceFault>
     ensures told { S.told sources.new ≡ S.told sources.old }
     ensures found { (h : HandBytes) → AreToldIn (S.told sources.old) hand.now.given.extents hand.now.runs h
+        → AreBarren h barren.old
         → IfOk result (λ found. Finds found (packets_in h views.now (sections_of views.now))
         (made_in h views.now (sections_of views.now)) (read_heads_in h views.now (sections_of views.now))) }
+    ensures barren { (h : HandBytes) → AreToldIn (S.told sources.old) hand.now.given.extents hand.now.runs h
+        → AreBarren h barren.old → OnOk result (AreBarren h barren.new) }
 {
     let sections = sections_in(alloc, views)?;
     let heads = Heads::of(alloc, views.catalogue())?;
     let mut found = Found::new(alloc);
     for section in &sections {
-        add_section(alloc, hand, sources, &heads, *section, &mut found)?;
+        add_section(alloc, hand, sources, barren, &heads, *section, &mut found)?;
     }
     Ok(found)
 }
 
-/// One round: what is put together is added to what is held. It answers whether something was added.
+/// One round: what is put together is added to what is held. It answers whether something was added. A reading that
+/// found no packet in the round before isn't repeated.
 #[tactic(auto, unfolding(crate::specs::Rounds::round))]
 fn round<S: Sources>(
     alloc: Global,
     hand: &Hand,
     sources: &mut S,
+    barren: &mut BarrenReadings,
     views: &mut Views,
 ) -> Result<bool, SourceFault>
     ensures told { S.told sources.new ≡ S.told sources.old }
     ensures round { (h : HandBytes) → AreToldIn (S.told sources.old) hand.now.given.extents hand.now.runs h
-        → OnOk result (views.new ≡ round h views.old) }
+        → AreBarren h barren.old → OnOk result (views.new ≡ round h views.old) }
     ensures none { IfOk result (λ is_more. (is_more ≡ true) ⊎ (views.new ≡ views.old)) }
+    ensures barren { (h : HandBytes) → AreToldIn (S.told sources.old) hand.now.given.extents hand.now.runs h
+        → AreBarren h barren.old → OnOk result (AreBarren h barren.new) }
 {
     views.catalogue().laws();
-    let found = found_in(alloc, hand, sources, views)?;
+    barren.begin_round(alloc);
+    let found = found_in(alloc, hand, sources, barren, views)?;
     let (packets, made) = found.into_taken()?;
     let is_more_read = add_new(views, packets)?;
     let is_more_made = add_new(views, made)?;
@@ -122,8 +133,9 @@ fn rounds<S: Sources>(
         → IfOk result (λ views. views ≡ put_together h held) }
 {
     let mut views = held;
+    let mut barren = BarrenReadings::new(alloc);
     for number in 0..GREATEST_ROUNDS {
-        if !round(alloc, hand, sources, &mut views)? {
+        if !round(alloc, hand, sources, &mut barren, &mut views)? {
             return Ok(views);
         }
     }
@@ -133,8 +145,8 @@ fn rounds<S: Sources>(
 /// Puts together packets of bytes at hand: what lies over the border of two sources, and what is held as a head alone.
 ///
 /// What would be ordered of what is held, and is at hand, is read as if it had been restored, in up to 64 rounds. What is
-/// held stays, and what is added lies where nothing was held, or is the packet of a head. The only faults are want of
-/// memory and a read that failed.
+/// held stays, and what is added lies where nothing was held, or is the packet of a head. A reading that
+/// found no packet isn't repeated in the next round. The only faults are want of memory and a read that failed.
 pub fn put_together<S: Sources>(
     alloc: Global,
     views: Views,

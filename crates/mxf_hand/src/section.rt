@@ -2,12 +2,14 @@
 ghost use Rattle.std.specs.Prelude.{◌≡◌, ◌==◌, ◌&&◌, ◌++◌, ◌∷◌, [], List, IfOk, OnOk, filter, map};
 ghost use Rattle.mxf_klv.specs.Parts.{NoteParts};
 ghost use Rattle.mxf_restore.specs.Plan.{start_of};
+ghost use Rattle.mxf_hand.specs.Barren.{AreBarren};
 ghost use Rattle.mxf_hand.specs.Hand.{AreToldIn, HandBytes};
 ghost use Rattle.mxf_hand.specs.Heads.{fits, fitting, heads_to};
 ghost use Rattle.mxf_hand.specs.Finding.{Grows, GrowsBySection};
 ghost use Rattle.std.specs.Option.{option_map};
 ghost use Rattle.mxf_hand.specs.Sections.{ends_within, made_by, only, read_from};
 
+use crate::barren::BarrenReadings;
 use crate::found::Found;
 use crate::hand::Hand;
 use crate::head::{HeadNote, Heads};
@@ -114,18 +116,21 @@ fn only<'a>(heads: &[HeadNote<'a>]) -> Option<HeadNote<'a>>
     }
 }
 
-/// Adds what is put together of a section.
+/// Adds what is put together of a section. A reading that found no packet in the round before isn't repeated.
 pub(crate) fn add_section<S: Sources>(
     alloc: Global,
     hand: &Hand,
     sources: &mut S,
+    barren: &mut BarrenReadings,
     heads: &Heads<'_>,
     section: Section,
     found: &mut Found,
 ) -> Result<(), SourceFault>
     ensures told { S.told sources.new ≡ S.told sources.old }
     ensures added { (h : HandBytes) → AreToldIn (S.told sources.old) hand.now.given.extents hand.now.runs h
-        → OnOk result (GrowsBySection h heads.now section found.old found.new) }
+        → AreBarren h barren.old → OnOk result (GrowsBySection h heads.now section found.old found.new) }
+    ensures barren { (h : HandBytes) → AreToldIn (S.told sources.old) hand.now.given.extents hand.now.runs h
+        → AreBarren h barren.old → OnOk result (AreBarren h barren.new) }
 {
     let ending = heads.ending_at(alloc, section.first)?;
     let fitting = fitting(alloc, hand, sources, &ending, section.first)?;
@@ -135,7 +140,7 @@ pub(crate) fn add_section<S: Sources>(
         Some(from) => from,
         None => return Ok(()),
     };
-    let reading = hand.read(alloc, sources, from, section.end)?;
+    let reading = barren.read(alloc, hand, sources, from, section.end)?;
     found.add_reading(reading, section.hole.end)?;
     Ok(())
 }

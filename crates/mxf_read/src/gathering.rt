@@ -68,11 +68,12 @@ fn read_piece<R: Read>(
 }
 
 /// The notes of the piece of a range that a reader gives, and what is reported of it. Behind a window without a start
-/// nothing is read.
+/// nothing is read. The window's bytes fill the buffer, which keeps its room for the next range.
 fn read_range<R: Read + Drop>(
     alloc: Global,
     offset: u64,
     mut from: R,
+    window: &mut Vec<u8>,
 ) -> Result<(Catalogue, PieceReport), PartFault>
     ensures report { IfOk result (λ p. IfSome (R.remaining from) (λ all.
         p.1 ≡ range_report offset (take piece_limit all))) }
@@ -80,8 +81,8 @@ fn read_range<R: Read + Drop>(
         p.0 ≡ reduced_union [] (range_notes offset (take piece_limit all)))) }
     ensures fault { IfErr result IsOfAnyPart }
 {
-    let window = read_up_to(alloc, &mut from, GREATEST_WINDOW)?;
-    let Some(start) = start_of(offset, &window) else {
+    read_up_to(&mut from, GREATEST_WINDOW, window)?;
+    let Some(start) = start_of(offset, window) else {
         let report = no_start(offset, window.len());
         return Ok((Catalogue::new(alloc), PieceReport { offset, report }));
     };
@@ -118,7 +119,8 @@ fn read_saved<R: Read>(alloc: Global, from: &mut R) -> Result<Catalogue, PartFau
     ensures saved { IfOk result (λ notes. IfSome (R.remaining from.old) (λ all. IsSavedAs all notes)) }
     ensures fault { IfErr result (λ f. IfSome (R.remaining from.old) (λ all. IsSavedFault all f)) }
 {
-    let bytes = read_up_to(alloc, from, GREATEST_SAVED + 1)?;
+    let mut bytes = Vec::new(alloc);
+    read_up_to(from, GREATEST_SAVED + 1, &mut bytes)?;
     if bytes.len() as u64 > GREATEST_SAVED {
         return Err(PartFault::TooLong);
     }
@@ -128,11 +130,12 @@ fn read_saved<R: Read>(alloc: Global, from: &mut R) -> Result<Catalogue, PartFau
     }
 }
 
-/// Takes one part: its notes, and the report of a piece or range.
+/// Takes one part: its notes, and the report of a piece or range. The window of a range fills the buffer.
 fn take_part<R: Read + Drop>(
     alloc: Global,
     levels: &mut Levels,
     reports: &mut PieceReports,
+    window: &mut Vec<u8>,
     part: Part<R>,
 ) -> Result<(), PartFault>
     ensures taken { Tells R.remaining part
@@ -146,7 +149,7 @@ fn take_part<R: Read + Drop>(
             reports.push(PieceReport { offset, report })?;
         }
         Part::Range { offset, from } => {
-            let (notes, report) = read_range(alloc, offset, from)?;
+            let (notes, report) = read_range(alloc, offset, from, window)?;
             levels.add(notes)?;
             reports.push(report)?;
         }
@@ -160,7 +163,8 @@ fn take_part<R: Read + Drop>(
 
 /// What all parts hold together. Of each piece or range 1,099,511,627,776 bytes are read at most; the file of a
 /// catalogue has 1,073,741,824 bytes at most. A range's start is searched for in its first 33,554,432 bytes, which are
-/// held in memory; where there is none the range hands nothing, and nothing more of it is read.
+/// held in memory that is kept from range to range; where there is none the range hands nothing, and nothing more of it
+/// is read.
 ///
 /// Whatever the order, the repeats and the joins of the parts, the notes are exactly those that the parts hand: any
 /// calls that were handed the same notes hold the same and write the same bytes. Each view is its function of the
@@ -184,9 +188,10 @@ pub fn gather<R: Read + Drop>(alloc: Global, parts: Vec<Part<R>>) -> Result<Gath
 {
     let mut levels = Levels::new(alloc);
     let mut reports = PieceReports::new(alloc);
+    let mut window = Vec::new(alloc);
     let mut number: usize = 0;
     'parts: for part in parts {
-        if let Err(fault) = take_part(alloc, &mut levels, &mut reports, part) {
+        if let Err(fault) = take_part(alloc, &mut levels, &mut reports, &mut window, part) {
             return Err(GatherFault {
                 part: number,
                 fault,
@@ -194,6 +199,7 @@ pub fn gather<R: Read + Drop>(alloc: Global, parts: Vec<Part<R>>) -> Result<Gath
         }
         number += 1;
     }
+    drop(window);
     if number == 0 {
         return Ok(Gathered {
             views: Views::new(alloc),

@@ -1,5 +1,6 @@
 -- The rounds that are to come lead to what is put together.
 use Rattle.std.proofs.Common.{◌≡◌, ◌-◌}
+use Rattle.mxf_hand.specs.Barren.{AreBarren}
 use Rattle.mxf_hand.specs.Hand.{AreToldIn, HandBytes}
 use Rattle.mxf_hand.specs.Rounds.{put_together, rounds}
 use Rattle.mxf_hand.proofs.putting.rounds.Given as goal
@@ -9,4 +10,4 @@ invariant-loop-number g l =
     (g.S.Sources.told l.sources ≡ g.S.Sources.told l.initial.sources)
     × ((h : HandBytes)
     → AreToldIn (g.S.Sources.told l.initial.sources) l.hand.given.extents l.hand.runs h
-    → rounds (64 - l.number) h l.views ≡ put_together h l.initial.views)
+    → AreBarren h l.barren × (rounds (64 - l.number) h l.views ≡ put_together h l.initial.views))

@@ -14,7 +14,7 @@ use Rattle.mxf_hand.proofs.HandLaws.{told_after}
 use Rattle.mxf_hand.proofs.section.add_section.Goals as goal
 
 pub returns-in-None-clause-added : goal.returns-in-None-clause-added
-returns-in-None-clause-added g c = λ h t.
+returns-in-None-clause-added g c = λ h t b.
     let p = c.args.section in
     let notes = c.args.heads.now in
     let note = λ (x : HeadNote). x.0.now in
@@ -34,7 +34,7 @@ returns-in-None-clause-added g c = λ h t.
     (c.in_ok-add_made.ensures.added h (told_after c.in_ok-fitting.ensures.told t))
 
 pub returns-clause-added : goal.returns-clause-added
-returns-clause-added g c = λ h t.
+returns-clause-added g c = λ h t b.
     let p = c.args.section in
     let notes = c.args.heads.now in
     let note = λ (x : HeadNote). x.0.now in
@@ -48,7 +48,7 @@ returns-clause-added g c = λ h t.
     let some : Some c.in-Some.from ≡ from_of h notes p = sym c.in-Some.is ∙ from in
     let made = made_by h p.hole.end (map note c.deref-2.result.now) in
     let told = c.in_ok-fitting.ensures.told in
-    let is = c.in_ok-reading.ensures.reading h (told_after (c.in_ok-add_made.ensures.told ∙ told) t) in
+    let is = c.in_ok-reading.ensures.reading h (told_after (c.in_ok-add_made.ensures.told ∙ told) t) b in
     let read = c.in_ok-reading.reading.notes in
     let more = map cut (option_list c.in_ok-reading.reading.head) in
     same_growth c.args.found.now c.add_reading.new.self read (packets_of h notes p) (made ++ []) (made_of h notes p) more
@@ -58,3 +58,7 @@ returns-clause-added g c = λ h t.
     (ap (map cut) is.head ∙ ap (λ (o : Option ℕ). map cut (option_map_or (read_heads h p.end) o [])) some)
     (grow_twice c.args.found.now c.add_made.new.found c.add_reading.new.self [] read made [] [] more
     (c.in_ok-add_made.ensures.added h (told_after told t)) c.in_ok-add_reading.ensures)
+
+pub returns-clause-barren : goal.returns-clause-barren
+returns-clause-barren g c = λ h t b.
+    c.in_ok-reading.ensures.barren h (told_after (c.in_ok-add_made.ensures.told ∙ c.in_ok-fitting.ensures.told) t) b

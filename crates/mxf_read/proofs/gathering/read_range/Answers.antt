@@ -8,27 +8,27 @@ use Rattle.mxf_read.proofs.gathering.read_range.Goals as goal
 
 pub returns-in_default-clause-report : goal.returns-in_default-clause-report
 returns-in_default-clause-report g c =
-    let window = c.in_ok-window.window.items in
+    let window = c.read_up_to.new.bytes.items in
     let none : start_in c.args.offset window ≡ None =
     ap (start_in c.args.offset) (sym c.deref.ensures.value) ∙ sym c.start_of.ensures.start ∙ c.in_default.is in
     nothing_told (g.R.Read.remaining c.args.from) c.args.offset window c.no_start-report.result
-    c.in_ok-window.ensures.bytes none (c.no_start-report.ensures ∙ ap (no_start c.args.offset) (c.len.ensures
+    c.in_ok-read_up_to.ensures.bytes none (c.no_start-report.ensures ∙ ap (no_start c.args.offset) (c.len.ensures
     ∙ sym c.deref.ensures.len ∙ ap length c.deref.ensures.value))
 
 pub returns-in_default-clause-notes : goal.returns-in_default-clause-notes
 returns-in_default-clause-notes g c =
-    let window = c.in_ok-window.window.items in
+    let window = c.read_up_to.new.bytes.items in
     let none : start_in c.args.offset window ≡ None =
     ap (start_in c.args.offset) (sym c.deref.ensures.value) ∙ sym c.start_of.ensures.start ∙ c.in_default.is in
     subst (λ (notes : List NoteParts). IfSome (g.R.Read.remaining c.args.from) (λ all.
     notes ≡ reduced_union [] (range_notes c.args.offset (take piece_limit all)))) (sym c.new.ensures)
-    (nothing_noted (g.R.Read.remaining c.args.from) c.args.offset window c.in_ok-window.ensures.bytes none)
+    (nothing_noted (g.R.Read.remaining c.args.from) c.args.offset window c.in_ok-read_up_to.ensures.bytes none)
 
 pub returns-clause-report : goal.returns-clause-report
 returns-clause-report g c =
     let found = found (g.R.Read.remaining c.args.from) (g.R.Read.remaining c.read_up_to.new.from) _ c.args.offset
-    c.in-Some.start c.in_ok-window.window.items c.deref.result.now c.deref-2.result.now c.in_ok-window.ensures.bytes
-    c.in_ok-window.ensures.left c.in_ok-window.ensures.bound c.deref.ensures.value
+    c.in-Some.start c.read_up_to.new.bytes.items c.deref.result.now c.deref-2.result.now c.in_ok-read_up_to.ensures.bytes
+    c.in_ok-read_up_to.ensures.left c.in_ok-read_up_to.ensures.bound c.deref.ensures.value
     (sym c.start_of.ensures.start ∙ c.in-Some.is) c.in-Some.ensures.within.0 c.deref-2.ensures.value
     c.chain-piece.ensures.bytes in
     piece_told _ _ _ c.args.offset c.in-Some.start _ _ c.in_ok-notes.report found c.in_ok-notes.ensures.report
@@ -36,8 +36,8 @@ returns-clause-report g c =
 pub returns-clause-notes : goal.returns-clause-notes
 returns-clause-notes g c =
     let found = found (g.R.Read.remaining c.args.from) (g.R.Read.remaining c.read_up_to.new.from) _ c.args.offset
-    c.in-Some.start c.in_ok-window.window.items c.deref.result.now c.deref-2.result.now c.in_ok-window.ensures.bytes
-    c.in_ok-window.ensures.left c.in_ok-window.ensures.bound c.deref.ensures.value
+    c.in-Some.start c.read_up_to.new.bytes.items c.deref.result.now c.deref-2.result.now c.in_ok-read_up_to.ensures.bytes
+    c.in_ok-read_up_to.ensures.left c.in_ok-read_up_to.ensures.bound c.deref.ensures.value
     (sym c.start_of.ensures.start ∙ c.in-Some.is) c.in-Some.ensures.within.0 c.deref-2.ensures.value
     c.chain-piece.ensures.bytes in
     piece_noted _ _ _ c.args.offset c.in-Some.start _ _ c.in_ok-notes.notes found c.in_ok-notes.ensures.notes

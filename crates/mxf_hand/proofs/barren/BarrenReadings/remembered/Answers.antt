@@ -1,0 +1,17 @@
+use Rattle.std.proofs.Common.{List, [], Option, IfSome, subst, sym}
+use Rattle.mxf_klv.specs.Parts.{NoteParts}
+use Rattle.mxf_read.specs.Noting.{IsReading}
+use Rattle.mxf_hand.specs.Hand.{read_bytes}
+use Rattle.mxf_hand.proofs.BarrenLaws.{found_barren}
+use Rattle.mxf_hand.proofs.barren.BarrenReadings.remembered.Goals as goal
+
+pub returns : goal.returns
+returns c = λ h b.
+    let from = c.args.from in
+    let end = c.args.end in
+    let bytes = read_bytes h end from in
+    let found : IsReading from bytes [] c.in-Some.head.now =
+    subst (λ (o : Option (Option NoteParts)). IfSome o (IsReading from bytes [])) (sym c.in-Some.ensures.value)
+    (found_barren h c.args.self.now.before.entries from end b.before) in
+    subst (λ (notes : List NoteParts). IsReading from bytes notes c.in_ok-head.head) (sym c.new-notes.ensures)
+    (subst (IsReading from bytes []) (sym c.in_ok-head.ensures) found)
