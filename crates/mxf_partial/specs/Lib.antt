@@ -4,7 +4,6 @@ pub mod Streams
 pub mod Near
 pub mod Between
 pub mod Ways
-pub mod Beginnings
 pub mod Questions
 pub mod Asks
 pub mod Helping

@@ -6,4 +6,3 @@ mod finding;
 mod named;
 mod questions;
 mod wanted;
-mod ways;
