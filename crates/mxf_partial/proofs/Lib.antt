@@ -1,1 +1,3 @@
 pub mod WantedLaws
+pub mod FrontLaws
+pub mod UnitPlanLaws

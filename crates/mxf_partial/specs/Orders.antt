@@ -1,8 +1,7 @@
 -- What to restore so that edit units can be cut out of the file (this project's profile).
 use Rattle.std.specs.Prelude.{◌≡◌, ◌↔◌, ℕ, ◌<◌, ◌⊎◌, Bool, true, false, ◌&&◌, nat_lt, if◌then◌else◌, Option, None, Some}
 use Rattle.std.specs.Prelude.{List, [], flat_map}
-use Rattle.std.specs.Option.{option_and_then, option_cmp, option_map_or}
-use Rattle.std.specs.Ordering.{nat_cmp, on, then_cmp}
+use Rattle.std.specs.Option.{option_and_then, option_map_or}
 use Rattle.mxf_klv.specs.Parts.{NoteParts}
 use Rattle.mxf_klv.specs.Note.{greatest_end}
 use Rattle.mxf_klv.specs.Rising.{In, IsRising}
@@ -39,9 +38,8 @@ abbrev pub IsAsked : WantedParts → ℕ → Option ℕ → Type 0
 IsAsked w x source = IsAskedByUnit w x source ⊎ ((helping_orders w ≡ []) × IsAskedByIndex w x source)
 
 -- All places that are asked for, each with the packs by which it is known.
-pub record AreAsked (w : WantedParts) (asked : List NamedPlace) : Type 0 where
-  pub rising : IsRising (then_cmp (on (λ n. n.place) nat_cmp) (on (λ n. n.source) (option_cmp nat_cmp))) asked
-  pub members : (n : NamedPlace) → In n asked ↔ IsAsked w n.place n.source
+abbrev pub AreAsked : WantedParts → List NamedPlace → Type 0
+AreAsked w asked = (n : NamedPlace) → In n asked ↔ IsAsked w n.place n.source
 
 -- The front of a section in which one of them lies.
 pub record IsFrontOrder (w : WantedParts) (o : Order) : Type 0 where

@@ -2,7 +2,14 @@
 //! profile).
 #![tactic(auto)]
 
+mod asks;
+mod between;
 mod finding;
 mod named;
+mod near;
+mod plan;
 mod questions;
 mod wanted;
+mod ways;
+
+pub use plan::UnitPlan;

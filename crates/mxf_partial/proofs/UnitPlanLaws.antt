@@ -1,0 +1,262 @@
+-- The orders of a plan for edit units.
+use Rattle.std.proofs.Common.{◌≡◌, ◌↔◌, ◌⊎◌, ◌∙◌, ◌++◌, ◌<◌, ◌≤◌, ◌+◌, ℕ, Bool, true, false, List, [], ◌∷◌, Option, None, Some, ap}
+use Rattle.std.proofs.Common.{arith, filter_map, find, flat_map, inl, inr, is_some, map, refl, subst, sym, Result, Ok, Err, if◌then◌else◌}
+use Rattle.std.proofs.Common.{◌==◌}
+use Rattle.std.proofs.lemmas.Bool.{eq-eqb, eqb-true}
+use Rattle.std.proofs.lemmas.Option.{same_Some}
+use Rattle.std.specs.Result.{result_ok}
+use Rattle.std.specs.Option.{option_map_or}
+use Rattle.mxf_klv.specs.Parts.{NoteParts}
+use Rattle.mxf_klv.specs.Note.{greatest_end}
+use Rattle.mxf_klv.specs.Rising.{In, In-union, IsRising, same_from_members, union}
+use Rattle.mxf_klv.proofs.Lists.{In-append, In-filter_map, In-flat_map, In-map, find-none, found-In, none_found}
+use Rattle.mxf_catalogue.specs.Covers.{IsCover}
+use Rattle.mxf_catalogue.specs.Runs.{LiesIn}
+use Rattle.mxf_catalogue.specs.declared.run.Run.{Run}
+use Rattle.mxf_catalogue.proofs.CoverLaws.{same_covers}
+use Rattle.mxf_places.specs.AtHand.{AtHandParts, lacking}
+use Rattle.mxf_places.specs.declared.at_hand.OffsetRange.{OffsetRange}
+use Rattle.mxf_restore.specs.Plan.{order_cmp}
+use Rattle.mxf_restore.specs.Sections.{sections_of}
+use Rattle.mxf_restore.specs.declared.named.NamedPlace.{NamedPlace}
+use Rattle.mxf_restore.specs.declared.plan.Order.{Order}
+use Rattle.mxf_restore.specs.declared.section.Section.{Section}
+use Rattle.mxf_restore.proofs.PlanLaws.{one_order, order_total}
+use Rattle.mxf_units.specs.Units.{UnitsParts, location_of}
+use Rattle.mxf_units.specs.declared.location.Location.{Location}
+use Rattle.mxf_units.specs.declared.standing.UnitStanding.{UnitStanding}
+use Rattle.mxf_units.specs.declared.standing.UnitStanding.TheVariants as standings
+use Rattle.mxf_units.specs.declared.unit.EditUnit.{EditUnit}
+use Rattle.mxf_partial.specs.Fronts.{IsFrontOf, front_order}
+use Rattle.mxf_partial.specs.Named.{AreNamed, IsNamed, is_named, named_at}
+use Rattle.mxf_partial.specs.Orders.{AreAsked, AreOffsetsOf, IsFindingOrder, IsFrontOrder, IsThere, IsThereBy, IsUnitOrder}
+use Rattle.mxf_partial.specs.Orders.{IsUnitPlan, UnitPlanParts, helping_orders, is_described, unit_order}
+use Rattle.mxf_partial.specs.Wanted.{HasByte, HasByteOf, HasNamedLimit, IsWantedByte, WantedParts, WantsAt, WantsByte}
+use Rattle.mxf_partial.specs.Wanted.{hand_of, is_limit_named, notes_of, wanted_at, wanted_by, wanted_of, wanted_units}
+use Rattle.mxf_partial.proofs.FrontLaws.{by_members, front_is}
+
+-- ---- what finds partitions and index table segments
+
+abbrev pub fronts_in : WantedParts → List NamedPlace → List Order
+fronts_in w asked =
+    filter_map (front_order (is_described w) (hand_of w) (notes_of w) asked) (sections_of (notes_of w))
+
+fronts_are : (w : WantedParts) (asked : List NamedPlace) (o : Order) → AreAsked w asked
+    → In o (fronts_in w asked) ↔ IsFrontOrder w o
+fronts_are w asked o are =
+    let f = front_order (is_described w) (hand_of w) (notes_of w) asked in
+    let members = In-filter_map f (sections_of (notes_of w)) o in (
+      λ i.
+          let s = members.0 i in
+          record {
+            asked = asked;
+            are_asked = are;
+            section = s.0;
+            among = s.1;
+            front = (front_is (is_described w) (hand_of w) (notes_of w) asked s.0 o).0 s.2;
+          },
+      λ h. members.1 (
+        h.section,
+        h.among,
+        (front_is (is_described w) (hand_of w) (notes_of w) asked h.section o).1
+            (by_members (is_described w) (hand_of w) (notes_of w) h.asked asked h.section o
+            (λ n. (λ i. (are n).1 ((h.are_asked n).0 i), λ i. (h.are_asked n).1 ((are n).0 i))) h.front),
+      ),
+    )
+
+pub finding_are : (w : WantedParts) (asked : List NamedPlace) (orders : List Order) → AreAsked w asked
+    → orders ≡ helping_orders w ++ fronts_in w asked → (o : Order) → In o orders ↔ IsFindingOrder w o
+finding_are w asked orders are is o =
+    let parts = In-append o (helping_orders w) (fronts_in w asked) in
+    let fronts = fronts_are w asked o are in (
+      λ i. elim (parts.0 (subst (In o) is i)) [ inl k ↦ inl k | inr k ↦ inr (fronts.0 k) ],
+      λ h. subst (In o) (sym is) (parts.1 (elim h [ inl k ↦ inl k | inr k ↦ inr (fronts.1 k) ])),
+    )
+
+-- ---- what is there
+
+pub there_is : (w : WantedParts) (orders : List Order) (runs : List Run)
+    → ((o : Order) → In o orders ↔ IsFindingOrder w o) → AreOffsetsOf (IsThereBy w.units.known orders) runs
+    → AreOffsetsOf (IsThere w) runs
+there_is w orders runs finding are = record {
+  cover = are.cover;
+  offsets = λ x.
+      let so = are.offsets x in (
+        λ h.
+            let s = so.0 h in
+            (elim s.0 [ inl k ↦ inl k | inr k ↦ inr (k.0, (finding k.0).0 k.1, k.2) ], s.1),
+        λ h. so.1 (elim h.0 [ inl k ↦ inl k | inr k ↦ inr (k.0, (finding k.0).1 k.1, k.2) ], h.1),
+      );
+}
+
+-- ---- what is wanted
+
+named_says : (notes : List NoteParts) (named : List NamedPlace) (x : ℕ) → AreNamed notes named
+    → (is_named named x ≡ true) ↔ IsNamed notes x
+named_says notes named x are = (to (named_at named x) refl, back (named_at named x) refl)
+  where
+    to : (o : Option NamedPlace) → named_at named x ≡ o → is_some o ≡ true → IsNamed notes x
+    to None is t = absurd cc
+    to (Some n) is t =
+        let f = found-In (λ (n : NamedPlace). n.place == x) named n is in
+        let at : n.place ≡ x = eqb-true n.place x (let t : (n.place == x) ≡ true = grind (arith, f.1) in t) in
+        (n.source, subst (λ (k : ℕ). Rattle.mxf_restore.specs.NamedPlaces.IsNamedPlace notes (record { place = k; source = n.source })) at ((are.members n).0 f.0))
+
+    back : (o : Option NamedPlace) → named_at named x ≡ o → IsNamed notes x → is_some o ≡ true
+    back None is s =
+        absurd (none_found (λ (n : NamedPlace). n.place == x) named (record { place = x; source = s.0 }) is
+        ((are.members (record { place = x; source = s.0 })).1 s.1)
+        (let t : (x == x) ≡ true = eq-eqb x x refl in grind (arith, t)))
+    back (Some n) is s = refl
+
+-- Where packs name the limit.
+limit_says : (notes : List NoteParts) (named : List NamedPlace) (l : Location) → AreNamed notes named
+    → (is_limit_named named l ≡ true) ↔ HasNamedLimit notes l
+limit_says notes named l are = (to l.zone.limit refl, back l.zone.limit refl)
+  where
+    to : (o : Option ℕ) → l.zone.limit ≡ o → option_map_or (is_named named) o false ≡ true → HasNamedLimit notes l
+    to None is t = absurd cc
+    to (Some x) is t = (x, is, (named_says notes named x are).0 t)
+
+    back : (o : Option ℕ) → l.zone.limit ≡ o → HasNamedLimit notes l → option_map_or (is_named named) o false ≡ true
+    back None is s = absurd (let e = s.1 in cc (is, e))
+    back (Some x) is s =
+        let at : x ≡ s.0 = same_Some x s.0 (sym is ∙ s.1) in
+        (named_says notes named x are).1 (subst (IsNamed notes) (sym at) s.2)
+
+wanted_at_says : (notes : List NoteParts) (named : List NamedPlace) (l : Location) (standing : UnitStanding) (x : ℕ)
+    → AreNamed notes named → HasByte (wanted_at named standing l) x ↔ WantsAt notes l standing x
+wanted_at_says notes named l standings.Missing x are = (λ h. h, λ h. h)
+wanted_at_says notes named l standings.Part x are = (λ h. h, λ h. h)
+wanted_at_says notes named l standings.Unsure x are =
+    by_limit (is_limit_named named l) refl
+  where
+    by_limit : (b : Bool) → is_limit_named named l ≡ b
+        → HasByte (if b then None else Some (record {
+          start = l.zone.origin;
+          end = Rattle.mxf_partial.specs.Wanted.reach_of l;
+        })) x ↔ WantsAt notes l standings.Unsure x
+    by_limit true t = (λ h. absurd h, λ w. absurd (w.0 ((limit_says notes named l are).0 t)))
+    by_limit false t = (
+      λ h. (λ s. let u = (limit_says notes named l are).1 s in cc (t, u), h),
+      λ w. w.1,
+    )
+wanted_at_says notes named l standings.NotIndexed x are = (λ h. absurd h, λ h. absurd h)
+wanted_at_says notes named l standings.Ambiguous x are = (λ h. absurd h, λ h. absurd h)
+wanted_at_says notes named l standings.NoPartition x are = (λ h. absurd h, λ h. absurd h)
+wanted_at_says notes named l standings.Several x are = (λ h. absurd h, λ h. absurd h)
+wanted_at_says notes named l standings.Unknown x are = (λ h. absurd h, λ h. absurd h)
+wanted_at_says notes named l standings.Elsewhere x are = (λ h. absurd h, λ h. absurd h)
+wanted_at_says notes named l standings.Disputed x are = (λ h. absurd h, λ h. absurd h)
+wanted_at_says notes named l standings.Held x are = (λ h. absurd h, λ h. absurd h)
+wanted_at_says notes named l standings.Hand x are = (λ h. absurd h, λ h. absurd h)
+
+wanted_of_says : (named : List NamedPlace) (u : UnitsParts) (unit : EditUnit) (x : ℕ) → AreNamed u.known.notes named
+    → HasByte (wanted_of named u unit) x ↔ WantsByte u unit x
+wanted_of_says named u unit x are = by_location (location_of u.known.notes u.index_sid unit.number) refl
+  where
+    by_location : (r : Result Location UnitStanding) → location_of u.known.notes u.index_sid unit.number ≡ r
+        → HasByte (wanted_by named unit.standing r) x ↔ WantsByte u unit x
+    by_location (Err other) is = (λ h. absurd h, λ w. absurd (let e = w.1 in cc (is, e)))
+    by_location (Ok l) is =
+        let at = wanted_at_says u.known.notes named l unit.standing x are in (
+          λ h. (l, is, at.0 h),
+          λ w.
+              let same : l ≡ w.0 = same_Some l w.0 (ap result_ok (sym is ∙ w.1)) in
+              at.1 (subst (λ (k : Location). WantsAt u.known.notes k unit.standing x) (sym same) w.2),
+        )
+
+pub wanted_is : (w : WantedParts) (named : List NamedPlace) (runs : List Run) → AreNamed (notes_of w) named
+    → IsCover runs → ((x : ℕ) → LiesIn runs x ↔ HasByteOf named w.units (wanted_units w) x)
+    → AreOffsetsOf (IsWantedByte w) runs
+wanted_is w named runs are cover offsets = record {
+  cover = cover;
+  offsets = λ x. (
+    λ h.
+        let s = (offsets x).0 h in (
+          record {
+            unit = s.0.0;
+            wanted = s.0.1;
+            wants = (wanted_of_says named w.units s.0.0 x are).0 s.0.2;
+            within = s.1;
+          },
+          s.1,
+        ),
+    λ h. (offsets x).1 ((h.0.unit, h.0.wanted, (wanted_of_says named w.units h.0.unit x are).1 h.0.wants), h.1),
+  );
+}
+
+-- ---- the orders of bytes of units
+
+abbrev pub units_in : AtHandParts → List Run → List Run → List Order
+units_in at there wanted =
+    flat_map (λ (r : Run). map (unit_order at) (lacking there r.start (Some r.end))) wanted
+
+one_cover : (P : ℕ → Type 0) (a b : List Run) → AreOffsetsOf P a → AreOffsetsOf P b → a ≡ b
+one_cover P a b of_a of_b =
+    same_covers a b of_a.cover of_b.cover (λ x. (
+      λ h. (of_b.offsets x).1 ((of_a.offsets x).0 h),
+      λ h. (of_a.offsets x).1 ((of_b.offsets x).0 h),
+    ))
+
+pub units_are : (w : WantedParts) (there wanted : List Run) (o : Order) → AreOffsetsOf (IsThere w) there
+    → AreOffsetsOf (IsWantedByte w) wanted → In o (units_in (hand_of w) there wanted) ↔ IsUnitOrder w o
+units_are w there wanted o are_there are_wanted = (
+  λ i.
+      let s = (In-flat_map (λ (r : Run). map (unit_order (hand_of w)) (lacking there r.start (Some r.end))) wanted o).0 i in
+      let r = (In-map (unit_order (hand_of w)) (lacking there s.0.start (Some s.0.end)) o).0 s.2 in
+      record {
+        wanted = wanted;
+        wanted_are = are_wanted;
+        there = there;
+        there_are = are_there;
+        run = s.0;
+        among = s.1;
+        range = r.0;
+        lacks = r.1;
+        is = r.2;
+      },
+  λ h.
+      let same = one_cover (IsWantedByte w) h.wanted wanted h.wanted_are are_wanted in
+      let also = one_cover (IsThere w) h.there there h.there_are are_there in
+      (In-flat_map (λ (r : Run). map (unit_order (hand_of w)) (lacking there r.start (Some r.end))) wanted o).1 (
+        h.run,
+        subst (In h.run) same h.among,
+        (In-map (unit_order (hand_of w)) (lacking there h.run.start (Some h.run.end)) o).1 (
+          h.range,
+          subst (λ (runs : List Run). In h.range (lacking runs h.run.start (Some h.run.end))) also h.lacks,
+          h.is,
+        ),
+      ),
+)
+
+-- ---- the plan
+
+pub plan_is : (w : WantedParts) (finding orders : List Order) (there wanted : List Run)
+    → ((o : Order) → In o finding ↔ IsFindingOrder w o) → AreOffsetsOf (IsThere w) there
+    → AreOffsetsOf (IsWantedByte w) wanted
+    → orders ≡ union order_cmp [] (finding ++ units_in (hand_of w) there wanted)
+    → (o : Order) → In o orders ↔ (IsFindingOrder w o ⊎ IsUnitOrder w o)
+plan_is w finding orders there wanted are_finding are_there are_wanted is o =
+    let units = units_are w there wanted o are_there are_wanted in
+    let all = In-union order_total one_order o [] (finding ++ units_in (hand_of w) there wanted) in
+    let parts = In-append o finding (units_in (hand_of w) there wanted) in (
+      λ i. elim (all.0 (subst (In o) is i)) [
+        | inl none ↦ absurd none
+        | inr k ↦ elim (parts.0 k) [ inl m ↦ inl ((are_finding o).0 m) | inr m ↦ inr (units.0 m) ]
+      ],
+      λ h. subst (In o) (sym is) (all.1 (inr (parts.1 (elim h [
+        | inl k ↦ inl ((are_finding o).1 k)
+        | inr k ↦ inr (units.1 k)
+      ])))),
+    )
+
+-- Two plans of one are one.
+pub one_plan : (w : WantedParts) (p q : UnitPlanParts) → IsUnitPlan w p → IsUnitPlan w q → p ≡ q
+one_plan w p q a b =
+    let orders = same_from_members order_total one_order p.orders q.orders a.rising b.rising (λ o. (
+      λ i. (b.members o).1 ((a.members o).0 i),
+      λ i. (a.members o).1 ((b.members o).0 i),
+    )) in
+    let end = a.end ∙ sym b.end in
+    λ i. record { orders = orders i; end = end i }

@@ -1,0 +1,232 @@
+//! What to restore so that edit units can be cut out of the file.
+ghost use Rattle.std.specs.Prelude.{◌≡◌, ◌↔◌, ◌⊎◌, ◌++◌, ◌<◌, ℕ, [], Some, false, flat_map, map, IfOk, OnOk};
+ghost use Rattle.std.specs.Option.{option_map_or};
+ghost use Rattle.mxf_klv.specs.Rising.{In, IsRising, union};
+ghost use Rattle.mxf_klv.specs.Note.{greatest_end};
+ghost use Rattle.mxf_catalogue.specs.Covers.{IsCover};
+ghost use Rattle.mxf_catalogue.specs.Runs.{LiesIn};
+ghost use Rattle.mxf_places.specs.AtHand.{lacking};
+ghost use Rattle.mxf_places.specs.Claims.{claims_of};
+ghost use Rattle.mxf_views.specs.Copies.{copies_of, preferred_of};
+ghost use Rattle.mxf_restore.specs.Plan.{LiesInOrder, order_cmp};
+ghost use Rattle.mxf_restore.specs.declared.plan.Order.{Order};
+ghost use Rattle.mxf_partial.specs.Named.{AreNamed};
+ghost use Rattle.mxf_partial.specs.Orders.{AreOffsetsOf, IsFindingOrder, IsThereBy, IsUnitPlan, is_described, known_end};
+ghost use Rattle.mxf_partial.specs.Orders.{unit_order};
+ghost use Rattle.mxf_partial.specs.Wanted.{are_indexed, is_indexed};
+
+use crate::asks::asked_places;
+use crate::finding::{add_fronts, helping_orders};
+use crate::wanted::wanted_bytes;
+use mxf_catalogue::{Cover, Semilattice};
+use mxf_klv::{MAX, OutOfMemory, sort_once};
+use mxf_places::{AtHand, Claim, OffsetRange, Reason, claims, ranges_lacking};
+use mxf_restore::{NamedPlace, Order, SectionOrders, is_again, named_places, sections};
+use mxf_units::{UnitRange, UnitStanding, Units, UnitsLeft};
+use mxf_views::Views;
+use std::alloc::Global;
+use std::marker::Model;
+
+/// What to restore so that some edit units of an index can be cut out of the file and decoded, as far as what is held says
+/// (this project's profile).
+///
+/// Whoever restores the bytes of all orders, hands them in beside the rest, and asks again, comes to a plan without
+/// orders, where the packs of the file tell the truth. That is tested, not proved.
+#[derive(Debug, Drop)]
+pub struct UnitPlan {
+    orders: Vec<Order>,
+    end: Option<u64>,
+}
+
+impl Model for UnitPlan {
+    ghost use Rattle.mxf_partial.specs.Orders.{UnitPlanParts};
+
+    ghost Value = { UnitPlanParts };
+
+    ghost view = { λ p. record { orders = p.orders.items; end = p.end } };
+}
+
+impl UnitPlan {
+    /// What to restore for the units of a range, and for the key frames that they name. It takes memory: n log n of the
+    /// notes, the runs at hand, the index entries and the units, as its time does.
+    pub fn of(alloc: Global, units: &Units<'_>, range: UnitRange) -> Result<UnitPlan, OutOfMemory>
+        ensures { IfOk result (λ p. IsUnitPlan
+            (record { units = units.now; first = range.first; count = range.count }) p) }
+    {
+        let claims = claims(alloc, units.holdings())?;
+        let named = named_places(alloc, units.holdings(), &claims)?;
+        let mut orders = finding_orders(alloc, units, range, &claims, &named)?;
+        let there = there(alloc, units, &orders)?;
+        let wanted = wanted_bytes(alloc, units, range, &named)?;
+        add_unit_orders(alloc, &mut orders, units.at_hand(), &wanted, &there)?;
+        Ok(UnitPlan {
+            orders: in_order(orders),
+            end: units.holdings().end(),
+        })
+    }
+
+    /// The orders: what finds partitions and index table segments first, and then the bytes of units; by reason, then by
+    /// start.
+    pub fn orders(&self) -> &[Order]
+        ensures { result.now ≡ self.now.orders }
+    {
+        &self.orders
+    }
+
+    /// The end of the file, in bytes, where it is known: that of its random index pack.
+    pub fn end(&self) -> Option<u64>
+        ensures { result ≡ self.now.end }
+    {
+        self.end
+    }
+}
+
+/// Whether the header metadata need not be restored: the preferred copy is finished, and each wanted unit is indexed.
+fn is_described(units: &Units<'_>, range: UnitRange) -> bool
+    ensures { result ≡ is_described (record { units = units.now; first = range.first; count = range.count }) }
+{
+    has_finished_copy(units.holdings().views()) && are_indexed(units, range)
+}
+
+/// Whether the preferred copy is finished.
+fn has_finished_copy(views: &Views) -> bool
+    ensures { result ≡ option_map_or (λ c. c.finished) (preferred_of (copies_of views.now)) false }
+{
+    match views.preferred() {
+        Some(copy) => copy.finished,
+        None => false,
+    }
+}
+
+/// Whether each wanted unit is indexed.
+fn are_indexed(units: &Units<'_>, range: UnitRange) -> bool
+    ensures { result ≡ are_indexed (record { units = units.now; first = range.first; count = range.count }) }
+{
+    for unit in UnitsLeft::with_keys(units, range) {
+        if !is_indexed(unit.standing) {
+            return false;
+        }
+    }
+    true
+}
+
+/// Whether a segment of the index gives a unit a place that stands so.
+fn is_indexed(standing: UnitStanding) -> bool
+    ensures { result ≡ is_indexed standing }
+{
+    !matches!(standing, UnitStanding::NotIndexed)
+}
+
+/// What is restored to find partitions and index table segments. It takes memory.
+fn finding_orders(
+    alloc: Global,
+    units: &Units<'_>,
+    range: UnitRange,
+    claims: &[Claim],
+    named: &[NamedPlace],
+) -> Result<Vec<Order>, OutOfMemory>
+    requires claims { claims.now ≡ claims_of units.now.known.notes }
+    requires named { AreNamed units.now.known.notes named.now }
+    ensures { IfOk result (λ v. (o : Order) → In o v.items ↔ IsFindingOrder
+        (record { units = units.now; first = range.first; count = range.count }) o) }
+{
+    let is_described = is_described(units, range);
+    let sections = sections(alloc, units.holdings(), claims)?;
+    let pieces = SectionOrders::of(alloc, units.holdings(), units.at_hand(), claims)?;
+    let mut orders = helping_orders(alloc, &pieces, &sections, is_described)?;
+    let is_index_sought = orders.is_empty();
+    let asked = asked_places(alloc, units, range, named, is_index_sought)?;
+    add_fronts(alloc, &mut orders, &pieces, &sections, is_described, &asked)?;
+    Ok(orders)
+}
+
+/// The offsets that are held, at hand or ordered. They take memory.
+fn there(alloc: Global, units: &Units<'_>, orders: &[Order]) -> Result<Cover, OutOfMemory>
+    ensures { IfOk result (λ c. AreOffsetsOf (IsThereBy units.now.known orders.now) c) }
+{
+    let mut ordered = Cover::new(alloc);
+    for order in orders {
+        add_order(&mut ordered, order)?;
+    }
+    Cover::join(alloc, units.known(), &ordered)
+}
+
+/// Adds the offsets of an order, as far as files reach.
+fn add_order(cover: &mut Cover, order: &Order) -> Result<(), OutOfMemory>
+    ensures { OnOk result ((x : ℕ) → LiesIn cover.new x
+        ↔ (LiesIn cover.old x ⊎ (LiesInOrder order.now x × (x < greatest_end)))) }
+{
+    let end = order.end.unwrap_or(MAX).min(MAX);
+    if order.start < end {
+        cover.add(order.start, end)?;
+    }
+    Ok(())
+}
+
+/// Adds the orders of what is wanted and isn't there.
+fn add_unit_orders(
+    alloc: Global,
+    orders: &mut Vec<Order>,
+    at_hand: &AtHand,
+    wanted: &Cover,
+    there: &Cover,
+) -> Result<(), OutOfMemory>
+    requires { IsCover there.now }
+    ensures { OnOk result (orders.new.items ≡ orders.old.items
+        ++ flat_map (λ r. map (unit_order at_hand.now) (lacking there.now r.start (Some r.end))) wanted.now) }
+{
+    for run in wanted.runs() {
+        let lacking = ranges_lacking(alloc, there, run.start, Some(run.end))?;
+        add_ranges(orders, at_hand, &lacking)?;
+    }
+    Ok(())
+}
+
+/// Adds the orders of ranges of bytes of units.
+fn add_ranges(
+    orders: &mut Vec<Order>,
+    at_hand: &AtHand,
+    ranges: &[OffsetRange],
+) -> Result<(), OutOfMemory>
+    ensures { OnOk result (orders.new.items ≡ orders.old.items ++ map (unit_order at_hand.now) ranges.now) }
+{
+    let found = ranges.iter().map(|range| unit_order(at_hand, *range));
+    Ok(orders.extend(found)?)
+}
+
+/// The order of a range of bytes of units.
+fn unit_order(at_hand: &AtHand, range: OffsetRange) -> Order
+    ensures { result ≡ unit_order at_hand.now range }
+{
+    let end = known_end(range.end);
+    Order {
+        reason: Reason::Unit,
+        start: range.start,
+        end,
+        source: None,
+        inside: true,
+        again: is_again(
+            at_hand,
+            OffsetRange {
+                start: range.start,
+                end,
+            },
+        ),
+    }
+}
+
+/// The end, in bytes, where it lies below where files end at the latest.
+fn known_end(end: Option<u64>) -> Option<u64>
+    ensures { result ≡ known_end end }
+{
+    let end = end?;
+    if end < MAX { Some(end) } else { None }
+}
+
+/// The orders in their order.
+fn in_order(mut orders: Vec<Order>) -> Vec<Order>
+    ensures { result.items ≡ union order_cmp [] orders.items }
+{
+    sort_once(&mut orders);
+    orders
+}
