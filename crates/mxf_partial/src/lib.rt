@@ -2,6 +2,7 @@
 //! profile).
 #![tactic(auto)]
 
+mod between;
 mod finding;
 mod named;
 mod questions;

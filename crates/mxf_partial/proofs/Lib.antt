@@ -1,0 +1,2 @@
+pub mod ChosenLaws
+pub mod StartLaws
