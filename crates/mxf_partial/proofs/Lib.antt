@@ -1,3 +1,5 @@
 pub mod WantedLaws
 pub mod FrontLaws
 pub mod UnitPlanLaws
+pub mod StartLaws
+pub mod ChosenLaws

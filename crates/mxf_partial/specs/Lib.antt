@@ -3,6 +3,7 @@ pub mod Wanted
 pub mod Streams
 pub mod Near
 pub mod Between
+pub mod SegmentStarts
 pub mod Ways
 pub mod Questions
 pub mod Asks
