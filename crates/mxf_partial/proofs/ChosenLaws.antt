@@ -28,7 +28,7 @@ offset_of n = n.place
 
 -- ---- lists that rise
 
-keys_rise : (ns : List NamedPlace) → IsRising place_cmp ns → IsRisingBy offset_of ns
+pub keys_rise : (ns : List NamedPlace) → IsRising place_cmp ns → IsRisingBy offset_of ns
 keys_rise [] r = tt
 keys_rise (n ∷ ns) r = (
   all_from_In (λ m. n.place < m.place) ns
@@ -36,7 +36,7 @@ keys_rise (n ∷ ns) r = (
   keys_rise ns r.1,
 )
 
-numbers_rise : (xs : List ℕ) → IsRisingBy (λ x. x) xs → IsRising nat_cmp xs
+pub numbers_rise : (xs : List ℕ) → IsRisingBy (λ x. x) xs → IsRising nat_cmp xs
 numbers_rise [] r = tt
 numbers_rise (x ∷ xs) r = (
   all_from_In (λ y. nat_cmp x y ≡ _) xs (λ y h. less_from_lt x y (all-In (λ y. x < y) xs y r.0 h)),

@@ -1,5 +1,6 @@
 pub mod WantedLaws
 pub mod FrontLaws
-pub mod UnitPlanLaws
 pub mod StartLaws
 pub mod ChosenLaws
+pub mod UnitPlanLaws
+pub mod AskLaws

@@ -1,6 +1,6 @@
 -- The orders of a plan for edit units.
 use Rattle.std.proofs.Common.{◌≡◌, ◌↔◌, ◌⊎◌, ◌∙◌, ◌++◌, ◌<◌, ◌≤◌, ◌+◌, ℕ, Bool, true, false, List, [], ◌∷◌, Option, None, Some, ap}
-use Rattle.std.proofs.Common.{arith, filter_map, find, flat_map, inl, inr, is_some, map, refl, subst, sym, Result, Ok, Err, if◌then◌else◌}
+use Rattle.std.proofs.Common.{arith, filter_map, find, flat_map, inl, inr, is_some, map, refl, subst, sym, Result, Ok, Err, if◌then◌else◌, IfOk, drop, get_or, length, suc}
 use Rattle.std.proofs.Common.{◌==◌}
 use Rattle.std.proofs.lemmas.Bool.{eq-eqb, eqb-true}
 use Rattle.std.proofs.lemmas.Option.{same_Some}
@@ -9,27 +9,32 @@ use Rattle.std.specs.Option.{option_map_or}
 use Rattle.mxf_klv.specs.Parts.{NoteParts}
 use Rattle.mxf_klv.specs.Note.{greatest_end}
 use Rattle.mxf_klv.specs.Rising.{In, In-union, IsRising, same_from_members, union}
-use Rattle.mxf_klv.proofs.Lists.{In-append, In-filter_map, In-flat_map, In-map, find-none, found-In, none_found}
-use Rattle.mxf_catalogue.specs.Covers.{IsCover}
+use Rattle.mxf_klv.proofs.Lists.{In-append, In-filter_map, In-flat_map, In-map, all-In, found-In, none_found}
+use Rattle.std.proofs.lemmas.List.{drop_all}
+use Rattle.std.proofs.Math.Seq.{drop-cons}
+use Rattle.mxf_catalogue.specs.Covers.{IsCover, union_of_runs, union_of_runs-IsUnion}
+use Rattle.mxf_catalogue.specs.declared.cover.Cover.{Cover}
 use Rattle.mxf_catalogue.specs.Runs.{LiesIn}
 use Rattle.mxf_catalogue.specs.declared.run.Run.{Run}
 use Rattle.mxf_catalogue.proofs.CoverLaws.{same_covers}
-use Rattle.mxf_places.specs.AtHand.{AtHandParts, lacking}
+use Rattle.mxf_places.specs.AtHand.{AtHandParts, KnownParts, lacking}
 use Rattle.mxf_places.specs.declared.at_hand.OffsetRange.{OffsetRange}
-use Rattle.mxf_restore.specs.Plan.{order_cmp}
+use Rattle.mxf_restore.specs.Plan.{LiesInOrder, order_cmp}
 use Rattle.mxf_restore.specs.Sections.{sections_of}
 use Rattle.mxf_restore.specs.declared.named.NamedPlace.{NamedPlace}
 use Rattle.mxf_restore.specs.declared.plan.Order.{Order}
 use Rattle.mxf_restore.specs.declared.section.Section.{Section}
 use Rattle.mxf_restore.proofs.PlanLaws.{one_order, order_total}
-use Rattle.mxf_units.specs.Units.{UnitsParts, location_of}
+use Rattle.mxf_units.specs.Units.{AreKnown, IsKnown, UnitsParts, location_of}
 use Rattle.mxf_units.specs.declared.location.Location.{Location}
 use Rattle.mxf_units.specs.declared.standing.UnitStanding.{UnitStanding}
 use Rattle.mxf_units.specs.declared.standing.UnitStanding.TheVariants as standings
 use Rattle.mxf_units.specs.declared.unit.EditUnit.{EditUnit}
+use Rattle.mxf_partial.specs.Asks.{IsAskedByIndex, IsAskedByUnit}
 use Rattle.mxf_partial.specs.Fronts.{IsFrontOf, front_order}
+use Rattle.mxf_partial.specs.Helping.{helping_of}
 use Rattle.mxf_partial.specs.Named.{AreNamed, IsNamed, is_named, named_at}
-use Rattle.mxf_partial.specs.Orders.{AreAsked, AreOffsetsOf, IsFindingOrder, IsFrontOrder, IsThere, IsThereBy, IsUnitOrder}
+use Rattle.mxf_partial.specs.Orders.{AreAsked, AreOffsetsOf, IsFindingOrder, IsFrontOrder, IsOrdered, IsThere, IsUnitOrder}
 use Rattle.mxf_partial.specs.Orders.{IsUnitPlan, UnitPlanParts, helping_orders, is_described, unit_order}
 use Rattle.mxf_partial.specs.Wanted.{HasByte, HasByteOf, HasNamedLimit, IsWantedByte, WantedParts, WantsAt, WantsByte}
 use Rattle.mxf_partial.specs.Wanted.{hand_of, is_limit_named, notes_of, wanted_at, wanted_by, wanted_of, wanted_units}
@@ -75,19 +80,85 @@ finding_are w asked orders are is o =
 
 -- ---- what is there
 
+-- What lies in a cover lies below where files end at the latest.
+below_end : (runs : List Run) (x : ℕ) → IsCover runs → LiesIn runs x → x < greatest_end
+below_end runs x cover h =
+    let within = all-In (λ (r : Run). r.end ≤ greatest_end) runs h.0 cover.within h.1 in
+    let before = h.2.before in omega (arith, within, before)
+
 pub there_is : (w : WantedParts) (orders : List Order) (runs : List Run)
-    → ((o : Order) → In o orders ↔ IsFindingOrder w o) → AreOffsetsOf (IsThereBy w.units.known orders) runs
-    → AreOffsetsOf (IsThere w) runs
-there_is w orders runs finding are = record {
-  cover = are.cover;
+    → ((o : Order) → In o orders ↔ IsFindingOrder w o) → IsCover runs
+    → ((x : ℕ) → LiesIn runs x ↔ (IsKnown w.units.known x ⊎ IsOrdered orders x)) → AreOffsetsOf (IsThere w) runs
+there_is w orders runs finding cover are = record {
+  cover = cover;
   offsets = λ x.
-      let so = are.offsets x in (
-        λ h.
-            let s = so.0 h in
-            (elim s.0 [ inl k ↦ inl k | inr k ↦ inr (k.0, (finding k.0).0 k.1, k.2) ], s.1),
-        λ h. so.1 (elim h.0 [ inl k ↦ inl k | inr k ↦ inr (k.0, (finding k.0).1 k.1, k.2) ], h.1),
+      let so = are x in (
+        λ h. (
+          elim (so.0 h) [ inl k ↦ inl k | inr k ↦ inr (k.0.0, (finding k.0.0).0 k.0.1, k.0.2) ],
+          below_end runs x cover h,
+        ),
+        λ h. so.1 (elim h.0 [
+          | inl k ↦ inl k
+          | inr k ↦ inr ((k.0, (finding k.0).1 k.1, k.2), h.1)
+        ]),
       );
 }
+
+pub joined : {E : Type 0} (known : KnownParts) (orders : List Order) (held ordered : List Run) (result : Result Cover E)
+    → AreKnown known held → ((x : ℕ) → LiesIn ordered x ↔ IsOrdered orders x)
+    → IfOk result (λ c. c ≡ union_of_runs held ordered)
+    → IfOk result (λ c. (x : ℕ) → LiesIn c x ↔ (IsKnown known x ⊎ IsOrdered orders x))
+joined known orders held ordered (Ok c) are so is = λ x.
+    let both = union_of_runs-IsUnion held ordered x in (
+      λ h. elim (both.0 (subst (λ (runs : List Run). LiesIn runs x) is h)) [
+        | inl k ↦ inl ((are x).0 k)
+        | inr k ↦ inr ((so x).0 k)
+      ],
+      λ h. subst (λ (runs : List Run). LiesIn runs x) (sym is) (both.1 (elim h [
+        | inl k ↦ inl ((are x).1 k)
+        | inr k ↦ inr ((so x).1 k)
+      ])),
+    )
+joined known orders held ordered (Err e) are so is = tt
+
+-- One order more.
+pub one_order_more : (orders : List Order) (i : ℕ) (d : Order) (old new : List Run) (x : ℕ) → i < length orders
+    → LiesIn new x ↔ (LiesIn old x ⊎ (LiesInOrder (get_or orders i d) x × (x < greatest_end)))
+    → (LiesIn old x ⊎ IsOrdered (drop i orders) x) ↔ IsOrdered orders x
+    → (LiesIn new x ⊎ IsOrdered (drop (i + 1) orders) x) ↔ IsOrdered orders x
+one_order_more orders i d old new x less more so =
+    let next : suc i ≡ i + 1 = omega arith in
+    let e = drop-cons orders i d less ∙ ap (λ k. get_or orders i d ∷ drop k orders) next in (
+      λ h. so.0 (elim h [
+        | inl k ↦ elim (more.0 k) [
+          | inl m ↦ inl m
+          | inr m ↦ inr (subst (λ l. IsOrdered l x) (sym e) ((get_or orders i d, inl refl, m.0), m.1))
+        ]
+        | inr k ↦ inr (subst (λ l. IsOrdered l x) (sym e) ((k.0.0, inr k.0.1, k.0.2), k.1))
+      ]),
+      λ h. elim (so.1 h) [
+        | inl k ↦ inl (more.1 (inl k))
+        | inr k ↦ first_or_later (subst (λ l. IsOrdered l x) e k)
+      ],
+    )
+  where
+    first_or_later : IsOrdered (get_or orders i d ∷ drop (i + 1) orders) x
+        → LiesIn new x ⊎ IsOrdered (drop (i + 1) orders) x
+    first_or_later k = elim k.0.1 [
+      | inl f ↦ inl (more.1 (inr (subst (λ (o : Order). LiesInOrder o x) f k.0.2, k.1)))
+      | inr f ↦ inr ((k.0.0, f, k.0.2), k.1)
+    ]
+
+-- No order is left.
+pub no_order_more : (orders : List Order) (i : ℕ) (runs : List Run) (x : ℕ) → length orders ≤ i
+    → (LiesIn runs x ⊎ IsOrdered (drop i orders) x) ↔ IsOrdered orders x → LiesIn runs x ↔ IsOrdered orders x
+no_order_more orders i runs x far so = (
+  λ h. so.0 (inl h),
+  λ h. elim (so.1 h) [
+    | inl k ↦ k
+    | inr k ↦ absurd (subst (λ l. IsOrdered l x) (drop_all i orders far) k).0.1
+  ],
+)
 
 -- ---- what is wanted
 
@@ -260,3 +331,25 @@ one_plan w p q a b =
     )) in
     let end = a.end ∙ sym b.end in
     λ i. record { orders = orders i; end = end i }
+
+-- ---- what finds things, step by step
+
+pub found : (w : WantedParts) (described sought : Bool) (pieces : KnownParts) (sections others : List Section)
+    (orders items : List Order) (asked : List NamedPlace) → described ≡ is_described w → pieces ≡ w.units.known
+    → sections ≡ sections_of (notes_of w) → others ≡ sections_of (notes_of w)
+    → orders ≡ flat_map (helping_of described pieces.at pieces.notes) sections → ((sought ≡ true) ↔ (orders ≡ []))
+    → ((n : NamedPlace) → In n asked ↔ (IsAskedByUnit w n.place n.source
+    ⊎ ((sought ≡ true) × IsAskedByIndex w n.place n.source)))
+    → items ≡ orders ++ filter_map (front_order described pieces.at pieces.notes asked) others
+    → (o : Order) → In o items ↔ IsFindingOrder w o
+found w described sought pieces sections others orders items asked d k s t helping empty are is =
+    let same : orders ≡ helping_orders w =
+    helping ∙ (λ i. flat_map (helping_of (d i) (k i).at (k i).notes) (s i)) in
+    let none = λ (e : sought ≡ true). sym same ∙ empty.0 e in
+    let some = λ (e : helping_orders w ≡ []). empty.1 (same ∙ e) in
+    finding_are w asked items
+    (λ n. (
+      λ i. elim ((are n).0 i) [ inl u ↦ inl u | inr v ↦ inr (none v.0, v.1) ],
+      λ h. (are n).1 (elim h [ inl u ↦ inl u | inr v ↦ inr (some v.0, v.1) ]),
+    ))
+    (is ∙ (λ i. same i ++ filter_map (front_order (d i) (k i).at (k i).notes asked) (t i)))

@@ -1,9 +1,8 @@
 -- The places that packs name and that are missing, as a list (this project's profile).
 use Rattle.std.specs.Prelude.{◌↔◌, ℕ, ◌==◌, Bool, Option, List, find, is_some}
 use Rattle.mxf_klv.specs.Parts.{NoteParts}
-use Rattle.mxf_klv.specs.Rising.{In}
-use Rattle.mxf_views.specs.Rises.{RiseBy}
-use Rattle.mxf_restore.specs.NamedPlaces.{IsNamedPlace}
+use Rattle.mxf_klv.specs.Rising.{In, IsRising}
+use Rattle.mxf_restore.specs.NamedPlaces.{IsNamedPlace, place_cmp}
 use Rattle.mxf_restore.specs.declared.named.NamedPlace.{NamedPlace}
 
 -- A pack names the place, and what begins there isn't held whole; of those that name it this one is the first.
@@ -16,7 +15,7 @@ IsNamed notes x = (source : Option ℕ) × IsNamedBy notes x source
 
 -- All of these places, rising.
 pub record AreNamed (notes : List NoteParts) (named : List NamedPlace) : Type 0 where
-  pub rising : RiseBy (λ n. n.place) named
+  pub rising : IsRising place_cmp named
   pub members : (n : NamedPlace) → In n named ↔ IsNamedPlace notes n
 
 -- The one of some that lies at an offset.

@@ -9,7 +9,7 @@ use Rattle.mxf_catalogue.specs.Covers.{IsCover}
 use Rattle.mxf_catalogue.specs.Runs.{LiesIn}
 use Rattle.mxf_catalogue.specs.declared.run.Run.{Run}
 use Rattle.mxf_views.specs.Copies.{copies_of, preferred_of}
-use Rattle.mxf_places.specs.AtHand.{AtHandParts, KnownParts, lacking}
+use Rattle.mxf_places.specs.AtHand.{AtHandParts, lacking}
 use Rattle.mxf_places.specs.Held.{end_of_file}
 use Rattle.mxf_places.specs.declared.at_hand.OffsetRange.{OffsetRange}
 use Rattle.mxf_places.specs.declared.reason.Reason.TheVariants as reasons
@@ -57,9 +57,9 @@ IsFindingOrder w o = In o (helping_orders w) ⊎ IsFrontOrder w o
 abbrev pub IsThere : WantedParts → ℕ → Type 0
 IsThere w x = IsKnown w.units.known x ⊎ ((o : Order) × IsFindingOrder w o × LiesInOrder o x)
 
--- The same by a list of orders.
-abbrev pub IsThereBy : KnownParts → List Order → ℕ → Type 0
-IsThereBy known orders x = IsKnown known x ⊎ ((o : Order) × In o orders × LiesInOrder o x)
+-- The byte is ordered, as far as files reach.
+abbrev pub IsOrdered : List Order → ℕ → Type 0
+IsOrdered orders x = ((o : Order) × In o orders × LiesInOrder o x) × (x < greatest_end)
 
 -- The runs have the offsets of which this holds, as far as files reach.
 pub record AreOffsetsOf (P : ℕ → Type 0) (runs : List Run) : Type 0 where

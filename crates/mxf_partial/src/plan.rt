@@ -1,5 +1,5 @@
 //! What to restore so that edit units can be cut out of the file.
-ghost use Rattle.std.specs.Prelude.{◌≡◌, ◌↔◌, ◌⊎◌, ◌++◌, ◌<◌, ℕ, [], Some, false, flat_map, map, IfOk, OnOk};
+ghost use Rattle.std.specs.Prelude.{◌≡◌, ◌↔◌, ◌⊎◌, ◌++◌, ◌<◌, ℕ, [], Some, false, true, flat_map, map, IfOk, OnOk};
 ghost use Rattle.std.specs.Option.{option_map_or};
 ghost use Rattle.mxf_klv.specs.Rising.{In, IsRising, union};
 ghost use Rattle.mxf_klv.specs.Note.{greatest_end};
@@ -10,8 +10,9 @@ ghost use Rattle.mxf_places.specs.Claims.{claims_of};
 ghost use Rattle.mxf_views.specs.Copies.{copies_of, preferred_of};
 ghost use Rattle.mxf_restore.specs.Plan.{LiesInOrder, order_cmp};
 ghost use Rattle.mxf_restore.specs.declared.plan.Order.{Order};
+ghost use Rattle.mxf_units.specs.Units.{IsKnown};
 ghost use Rattle.mxf_partial.specs.Named.{AreNamed};
-ghost use Rattle.mxf_partial.specs.Orders.{AreOffsetsOf, IsFindingOrder, IsThereBy, IsUnitPlan, is_described, known_end};
+ghost use Rattle.mxf_partial.specs.Orders.{IsFindingOrder, IsOrdered, IsUnitPlan, is_described, known_end};
 ghost use Rattle.mxf_partial.specs.Orders.{unit_order};
 ghost use Rattle.mxf_partial.specs.Wanted.{are_indexed, is_indexed};
 
@@ -134,21 +135,39 @@ fn finding_orders(
     let sections = sections(alloc, units.holdings(), claims)?;
     let pieces = SectionOrders::of(alloc, units.holdings(), units.at_hand(), claims)?;
     let mut orders = helping_orders(alloc, &pieces, &sections, is_described)?;
-    let is_index_sought = orders.is_empty();
+    let is_index_sought = is_none(&orders);
     let asked = asked_places(alloc, units, range, named, is_index_sought)?;
     add_fronts(alloc, &mut orders, &pieces, &sections, is_described, &asked)?;
     Ok(orders)
 }
 
+/// Whether there is no order.
+fn is_none(orders: &[Order]) -> bool
+    ensures { (result ≡ true) ↔ (orders.now ≡ []) }
+{
+    match orders {
+        [] => true,
+        _ => false,
+    }
+}
+
 /// The offsets that are held, at hand or ordered. They take memory.
 fn there(alloc: Global, units: &Units<'_>, orders: &[Order]) -> Result<Cover, OutOfMemory>
-    ensures { IfOk result (λ c. AreOffsetsOf (IsThereBy units.now.known orders.now) c) }
+    ensures { IfOk result (λ c. (x : ℕ) → LiesIn c x ↔ (IsKnown units.now.known x ⊎ IsOrdered orders.now x)) }
+{
+    let ordered = ordered(alloc, orders)?;
+    Cover::join(alloc, units.known(), &ordered)
+}
+
+/// The offsets of orders, as far as files reach. They take memory.
+fn ordered(alloc: Global, orders: &[Order]) -> Result<Cover, OutOfMemory>
+    ensures { IfOk result (λ c. (x : ℕ) → LiesIn c x ↔ IsOrdered orders.now x) }
 {
     let mut ordered = Cover::new(alloc);
     for order in orders {
         add_order(&mut ordered, order)?;
     }
-    Cover::join(alloc, units.known(), &ordered)
+    Ok(ordered)
 }
 
 /// Adds the offsets of an order, as far as files reach.
@@ -225,7 +244,8 @@ fn known_end(end: Option<u64>) -> Option<u64>
 
 /// The orders in their order.
 fn in_order(mut orders: Vec<Order>) -> Vec<Order>
-    ensures { result.items ≡ union order_cmp [] orders.items }
+    ensures members { result.items ≡ union order_cmp [] orders.items }
+    ensures rising { IsRising order_cmp result.items }
 {
     sort_once(&mut orders);
     orders
