@@ -1,6 +1,6 @@
 -- The orders of a plan for edit units.
 use Rattle.std.proofs.Common.{◌≡◌, ◌↔◌, ◌⊎◌, ◌∙◌, ◌++◌, ◌<◌, ◌≤◌, ◌+◌, ℕ, Bool, true, false, List, [], ◌∷◌, Option, None, Some, ap}
-use Rattle.std.proofs.Common.{arith, filter_map, find, flat_map, inl, inr, is_some, map, refl, subst, sym, Result, Ok, Err, if◌then◌else◌, IfOk, drop, get_or, length, suc}
+use Rattle.std.proofs.Common.{nat_lt, unwrap_or, arith, filter_map, find, flat_map, inl, inr, is_some, map, refl, subst, sym, Result, Ok, Err, if◌then◌else◌, IfOk, drop, get_or, length, suc}
 use Rattle.std.proofs.Common.{◌==◌}
 use Rattle.std.proofs.lemmas.Bool.{eq-eqb, eqb-true}
 use Rattle.std.proofs.lemmas.Option.{same_Some}
@@ -17,9 +17,18 @@ use Rattle.mxf_catalogue.specs.declared.cover.Cover.{Cover}
 use Rattle.mxf_catalogue.specs.Runs.{LiesIn}
 use Rattle.mxf_catalogue.specs.declared.run.Run.{Run}
 use Rattle.mxf_catalogue.proofs.CoverLaws.{same_covers}
-use Rattle.mxf_places.specs.AtHand.{AtHandParts, KnownParts, lacking}
+use Rattle.mxf_places.specs.AtHand.{AtHandParts, KnownParts, LiesInRange, has_offset, lacking}
 use Rattle.mxf_places.specs.declared.at_hand.OffsetRange.{OffsetRange}
-use Rattle.mxf_restore.specs.Plan.{LiesInOrder, order_cmp}
+use Rattle.mxf_places.proofs.AtHandLaws.{has_offset-says, lacked_there, members as lacking_members}
+use Rattle.std.specs.Option.{option_map, option_to_list}
+use Rattle.std.specs.Prelude.{slice_get}
+use Rattle.std.proofs.lemmas.Bool.{ltb-false}
+use Rattle.mxf_places.specs.Claims.{claim_at}
+use Rattle.mxf_places.specs.declared.claim.Claim.{Claim}
+use Rattle.mxf_places.specs.declared.reason.Reason.{Reason}
+use Rattle.mxf_places.specs.declared.reason.Reason.TheVariants as reasons
+use Rattle.mxf_restore.specs.Fronts.{all_from, front_of, front_range, looked_for}
+use Rattle.mxf_restore.specs.Plan.{LiesInOrder, asked_by, asked_of, order_cmp, orders_by, orders_of, part_order, parts_of, start_of}
 use Rattle.mxf_restore.specs.Sections.{sections_of}
 use Rattle.mxf_restore.specs.declared.named.NamedPlace.{NamedPlace}
 use Rattle.mxf_restore.specs.declared.plan.Order.{Order}
@@ -32,10 +41,10 @@ use Rattle.mxf_units.specs.declared.standing.UnitStanding.TheVariants as standin
 use Rattle.mxf_units.specs.declared.unit.EditUnit.{EditUnit}
 use Rattle.mxf_partial.specs.Asks.{IsAskedByIndex, IsAskedByUnit}
 use Rattle.mxf_partial.specs.Fronts.{IsFrontOf, front_order}
-use Rattle.mxf_partial.specs.Helping.{helping_of}
+use Rattle.mxf_partial.specs.Helping.{helping_by, helping_for, helping_of}
 use Rattle.mxf_partial.specs.Named.{AreNamed, IsNamed, is_named, named_at}
 use Rattle.mxf_partial.specs.Orders.{AreAsked, AreOffsetsOf, IsFindingOrder, IsFrontOrder, IsOrdered, IsThere, IsUnitOrder}
-use Rattle.mxf_partial.specs.Orders.{IsUnitPlan, UnitPlanParts, helping_orders, is_described, unit_order}
+use Rattle.mxf_partial.specs.Orders.{IsUnitPlan, UnitPlanParts, helping_orders, is_described, known_end, unit_order}
 use Rattle.mxf_partial.specs.Wanted.{HasByte, HasByteOf, HasNamedLimit, IsWantedByte, WantedParts, WantsAt, WantsByte}
 use Rattle.mxf_partial.specs.Wanted.{hand_of, is_limit_named, notes_of, wanted_at, wanted_by, wanted_of, wanted_units}
 use Rattle.mxf_partial.proofs.FrontLaws.{by_members, front_is}
@@ -270,46 +279,29 @@ one_cover P a b of_a of_b =
       λ h. (of_a.offsets x).1 ((of_b.offsets x).0 h),
     ))
 
-pub units_are : (w : WantedParts) (there wanted : List Run) (o : Order) → AreOffsetsOf (IsThere w) there
-    → AreOffsetsOf (IsWantedByte w) wanted → In o (units_in (hand_of w) there wanted) ↔ IsUnitOrder w o
-units_are w there wanted o are_there are_wanted = (
+pub units_are : (at : AtHandParts) (there wanted : List Run) (o : Order)
+    → In o (units_in at there wanted) ↔ IsUnitOrder at there wanted o
+units_are at there wanted o = (
   λ i.
-      let s = (In-flat_map (λ (r : Run). map (unit_order (hand_of w)) (lacking there r.start (Some r.end))) wanted o).0 i in
-      let r = (In-map (unit_order (hand_of w)) (lacking there s.0.start (Some s.0.end)) o).0 s.2 in
-      record {
-        wanted = wanted;
-        wanted_are = are_wanted;
-        there = there;
-        there_are = are_there;
-        run = s.0;
-        among = s.1;
-        range = r.0;
-        lacks = r.1;
-        is = r.2;
-      },
+      let s = (In-flat_map (λ (r : Run). map (unit_order at) (lacking there r.start (Some r.end))) wanted o).0 i in
+      let r = (In-map (unit_order at) (lacking there s.0.start (Some s.0.end)) o).0 s.2 in
+      record { run = s.0; among = s.1; range = r.0; lacks = r.1; is = r.2 },
   λ h.
-      let same = one_cover (IsWantedByte w) h.wanted wanted h.wanted_are are_wanted in
-      let also = one_cover (IsThere w) h.there there h.there_are are_there in
-      (In-flat_map (λ (r : Run). map (unit_order (hand_of w)) (lacking there r.start (Some r.end))) wanted o).1 (
+      (In-flat_map (λ (r : Run). map (unit_order at) (lacking there r.start (Some r.end))) wanted o).1 (
         h.run,
-        subst (In h.run) same h.among,
-        (In-map (unit_order (hand_of w)) (lacking there h.run.start (Some h.run.end)) o).1 (
-          h.range,
-          subst (λ (runs : List Run). In h.range (lacking runs h.run.start (Some h.run.end))) also h.lacks,
-          h.is,
-        ),
+        h.among,
+        (In-map (unit_order at) (lacking there h.run.start (Some h.run.end)) o).1 (h.range, h.lacks, h.is),
       ),
 )
 
 -- ---- the plan
 
 pub plan_is : (w : WantedParts) (finding orders : List Order) (there wanted : List Run)
-    → ((o : Order) → In o finding ↔ IsFindingOrder w o) → AreOffsetsOf (IsThere w) there
-    → AreOffsetsOf (IsWantedByte w) wanted
+    → ((o : Order) → In o finding ↔ IsFindingOrder w o)
     → orders ≡ union order_cmp [] (finding ++ units_in (hand_of w) there wanted)
-    → (o : Order) → In o orders ↔ (IsFindingOrder w o ⊎ IsUnitOrder w o)
-plan_is w finding orders there wanted are_finding are_there are_wanted is o =
-    let units = units_are w there wanted o are_there are_wanted in
+    → (o : Order) → In o orders ↔ (IsFindingOrder w o ⊎ IsUnitOrder (hand_of w) there wanted o)
+plan_is w finding orders there wanted are_finding is o =
+    let units = units_are (hand_of w) there wanted o in
     let all = In-union order_total one_order o [] (finding ++ units_in (hand_of w) there wanted) in
     let parts = In-append o finding (units_in (hand_of w) there wanted) in (
       λ i. elim (all.0 (subst (In o) is i)) [
@@ -322,15 +314,206 @@ plan_is w finding orders there wanted are_finding are_there are_wanted is o =
       ])))),
     )
 
+-- What is ordered by some covers is ordered by the same ones.
+by_covers : (w : WantedParts) (there others wanted more : List Run) (o : Order) → there ≡ others → wanted ≡ more
+    → IsFindingOrder w o ⊎ IsUnitOrder (hand_of w) there wanted o
+    → IsFindingOrder w o ⊎ IsUnitOrder (hand_of w) others more o
+by_covers w there others wanted more o same alike (inl k) = inl k
+by_covers w there others wanted more o same alike (inr u) =
+    inr (subst (λ l. IsUnitOrder (hand_of w) l more o) same (subst (λ l. IsUnitOrder (hand_of w) there l o) alike u))
+
 -- Two plans of one are one.
 pub one_plan : (w : WantedParts) (p q : UnitPlanParts) → IsUnitPlan w p → IsUnitPlan w q → p ≡ q
 one_plan w p q a b =
+    let wanted = one_cover (IsWantedByte w) a.wanted b.wanted a.wanted_are b.wanted_are in
+    let there = one_cover (IsThere w) a.there b.there a.there_are b.there_are in
     let orders = same_from_members order_total one_order p.orders q.orders a.rising b.rising (λ o. (
-      λ i. (b.members o).1 ((a.members o).0 i),
-      λ i. (a.members o).1 ((b.members o).0 i),
+      λ i. (b.members o).1 (by_covers w a.there b.there a.wanted b.wanted o there wanted ((a.members o).0 i)),
+      λ i. (a.members o).1 (by_covers w b.there a.there b.wanted a.wanted o (sym there) (sym wanted) ((b.members o).0 i)),
     )) in
     let end = a.end ∙ sym b.end in
     λ i. record { orders = orders i; end = end i }
+
+-- ---- what a plan says of bytes
+
+-- Each wanted byte is held, at hand or ordered.
+pub wanted_there : (w : WantedParts) (p : UnitPlanParts) (x : ℕ) → IsUnitPlan w p → IsWantedByte w x
+    → IsKnown w.units.known x ⊎ ((o : Order) × In o p.orders × LiesInOrder o x)
+wanted_there w p x plan wanted = by_there (has_offset plan.there x) refl
+  where
+    run_of : LiesIn plan.wanted x
+    run_of = (plan.wanted_are.offsets x).1 (wanted, wanted.within)
+
+    in_order : (r : OffsetRange) → LiesInRange r x → LiesInOrder (unit_order (hand_of w) r) x
+    in_order r l = (l.0, by_end r.end (elim l.1 [ inl n ↦ inl n | inr s ↦ inr (s.0, s.1, s.2) ]))
+      where
+        by_bound : (b : Bool) (e : ℕ) → x < e
+            → ((if b then Some e else None) ≡ None) ⊎ ((y : ℕ) × ((if b then Some e else None) ≡ Some y) × (x < y))
+        by_bound true e l = inr (e, refl, l)
+        by_bound false e l = inl refl
+
+        by_end : (end : Option ℕ) → ((end ≡ None) ⊎ ((y : ℕ) × (end ≡ Some y) × (x < y)))
+            → (known_end end ≡ None) ⊎ ((y : ℕ) × (known_end end ≡ Some y) × (x < y))
+        by_end None h = inl refl
+        by_end (Some e) h = elim h [
+          | inl n ↦ absurd cc
+          | inr s ↦
+              let same = same_Some e s.0 s.1 in
+              let less = s.2 in by_bound (nat_lt e greatest_end) e (omega (arith, same, less))
+        ]
+
+    by_there : (b : Bool) → has_offset plan.there x ≡ b
+        → IsKnown w.units.known x ⊎ ((o : Order) × In o p.orders × LiesInOrder o x)
+    by_there true t =
+        let lies = (has_offset-says plan.there x).0 t in
+        elim ((plan.there_are.offsets x).0 lies).0 [
+          | inl k ↦ inl k
+          | inr k ↦ inr (k.0, (plan.members k.0).1 (inl k.1), k.2)
+        ]
+    by_there false t =
+        let run = run_of in
+        let from = run.2.from in
+        let before = run.2.before in
+        let lack = lacked_there plan.there run.0.start (Some run.0.end) x
+        (omega (arith, from), inr (run.0.end, refl, omega (arith, before)))
+        (λ l. let u = (has_offset-says plan.there x).1 l in cc (t, u)) in
+        inr (
+          unit_order (hand_of w) lack.0,
+          (plan.members (unit_order (hand_of w) lack.0)).1 (inr (record {
+            run = run.0;
+            among = run.1;
+            range = lack.0;
+            lacks = lack.1;
+            is = refl;
+          })),
+          in_order lack.0 lack.2,
+        )
+
+-- What finds things isn't ordered as bytes of units.
+
+reason_of_part : (at : AtHandParts) (o : Order) (r : OffsetRange) → (part_order at o r).reason ≡ o.reason
+reason_of_part at o r = refl
+
+reason_of_asked : (at : AtHandParts) (notes : List NoteParts) (p : Section) (c : Claim) (o : Order)
+    → claim_at notes (start_of notes p.first) ≡ Some c → asked_of at notes p ≡ Some o → o.reason ≡ c.reason
+reason_of_asked at notes p c o is e =
+    let by = ap (λ claim. asked_by at notes p (start_of notes p.first) claim) is in
+    ap (λ (o : Order). o.reason) (sym (same_Some _ o (sym by ∙ e)))
+
+reason_of_orders : (at : AtHandParts) (notes : List NoteParts) (p : Section) (c : Claim) (o : Order)
+    → claim_at notes (start_of notes p.first) ≡ Some c → In o (orders_of at notes p) → o.reason ≡ c.reason
+unfolding orders_of
+reason_of_orders at notes p c o is i = by (asked_of at notes p) refl i
+  where
+    by : (asked : Option Order) → asked_of at notes p ≡ asked → In o (orders_by at p asked) → o.reason ≡ c.reason
+    by None e i = absurd i
+    by (Some a) e i =
+        let s = (In-map (part_order at a) (parts_of at p a) o).0 i in
+        ap (λ (o : Order). o.reason) s.2 ∙ reason_of_asked at notes p c a is e
+
+reason_of_front : (at : AtHandParts) (notes : List NoteParts) (p : Section) (c : Claim) (o : Order)
+    → claim_at notes (start_of notes p.first) ≡ Some c → front_of at notes p ≡ Some o
+    → (o.reason ≡ c.reason) ⊎ (o.reason ≡ reasons.Gap)
+unfolding front_of
+reason_of_front at notes p c o is e =
+    by (asked_of at notes p) refl (slice_get (parts_of at p (looked_for at notes p)) 0) e
+  where
+    by_part : (looked : Order) (part : Option OffsetRange)
+        → option_map (λ r. part_order at looked (front_range r)) part ≡ Some o → o.reason ≡ looked.reason
+    by_part looked None e = absurd cc
+    by_part looked (Some r) e = ap (λ (o : Order). o.reason) (sym (same_Some _ o e))
+
+    by : (asked : Option Order) → asked_of at notes p ≡ asked → (part : Option OffsetRange)
+        → option_map (λ r. part_order at (looked_for at notes p) (front_range r)) part ≡ Some o
+        → (o.reason ≡ c.reason) ⊎ (o.reason ≡ reasons.Gap)
+    by None f part e =
+        inr (by_part (looked_for at notes p) part e
+        ∙ ap (λ (a : Option Order). (unwrap_or a (all_from (start_of notes p.first))).reason) f)
+    by (Some a) f part e =
+        inl (by_part (looked_for at notes p) part e
+        ∙ ap (λ (a : Option Order). (unwrap_or a (all_from (start_of notes p.first))).reason) f
+        ∙ reason_of_asked at notes p c a is f)
+
+helping_reason : (described : Bool) (at : AtHandParts) (notes : List NoteParts) (p : Section) (o : Order)
+    → In o (helping_of described at notes p) → ¬ (o.reason ≡ reasons.Unit)
+helping_reason described at notes p o i reason = by_claim (claim_at notes (start_of notes p.first)) refl i
+  where
+    not_front : (c : Claim) → claim_at notes (start_of notes p.first) ≡ Some c → ¬ (c.reason ≡ reasons.Unit)
+        → In o (option_to_list (front_of at notes p)) → ⊥
+    not_front c is other i = by (front_of at notes p) refl i
+      where
+        by : (f : Option Order) → front_of at notes p ≡ f → In o (option_to_list f) → ⊥
+        by None e i = i
+        by (Some f) e (inl same) =
+            elim (reason_of_front at notes p c f is e) [
+              | inl k ↦ other (sym k ∙ sym (ap (λ (o : Order). o.reason) same) ∙ reason)
+              | inr k ↦
+                  let gap : reasons.Gap ≡ reasons.Unit = sym k ∙ sym (ap (λ (o : Order). o.reason) same) ∙ reason in
+                  absurd cc
+            ]
+        by (Some f) e (inr none) = none
+
+    by_open : (c : Claim) (b d : Bool) → claim_at notes (start_of notes p.first) ≡ Some c
+        → ¬ (c.reason ≡ reasons.Unit)
+        → In o (if d then [] else (if b then option_to_list (front_of at notes p) else orders_of at notes p)) → ⊥
+    by_open c b true is other i = i
+    by_open c true false is other i = not_front c is other i
+    by_open c false false is other i = other (sym (reason_of_orders at notes p c o is i) ∙ reason)
+
+    by_reason : (c : Claim) (r : Reason) → claim_at notes (start_of notes p.first) ≡ Some c → c.reason ≡ r
+        → In o (helping_for described at notes p c r) → ⊥
+    by_reason c reasons.Header is e i = not_front c is (λ u. let k = sym e ∙ u in absurd cc) i
+    by_reason c reasons.Footer is e i =
+        let k : reasons.Footer ≡ reasons.Unit = sym e ∙ sym (reason_of_orders at notes p c o is i) ∙ reason in absurd cc
+    by_reason c reasons.Metadata is e i = by_open c c.is_open described is (λ u. let k = sym e ∙ u in absurd cc) i
+    by_reason c reasons.Index is e i =
+        let k : reasons.Index ≡ reasons.Unit = sym e ∙ sym (reason_of_orders at notes p c o is i) ∙ reason in absurd cc
+    by_reason c reasons.Entry is e i = i
+    by_reason c reasons.Previous is e i = i
+    by_reason c reasons.Gap is e i = i
+    by_reason c reasons.Front is e i = i
+    by_reason c reasons.Unit is e i = i
+
+    by_claim : (claim : Option Claim) → claim_at notes (start_of notes p.first) ≡ claim
+        → In o (helping_by described at notes p claim) → ⊥
+    by_claim None is i = i
+    by_claim (Some c) is i = by_reason c c.reason is refl i
+
+not_of_units : (w : WantedParts) (o : Order) → IsFindingOrder w o → o.reason ≡ reasons.Unit → ⊥
+not_of_units w o (inl i) reason =
+    let s = (In-flat_map (helping_of (is_described w) (hand_of w) (notes_of w)) (sections_of (notes_of w)) o).0 i in
+    helping_reason (is_described w) (hand_of w) (notes_of w) s.0 o s.2 reason
+not_of_units w o (inr f) reason =
+    let k : reasons.Front ≡ reasons.Unit = sym (ap (λ (o : Order). o.reason) f.front.is) ∙ reason in absurd cc
+
+-- An order of bytes of units has none that is held or at hand.
+pub units_lack : (w : WantedParts) (p : UnitPlanParts) (o : Order) (x : ℕ) → IsUnitPlan w p → In o p.orders
+    → o.reason ≡ reasons.Unit → LiesInOrder o x → x < greatest_end → ¬ IsKnown w.units.known x
+units_lack w p o x plan i reason lies less known =
+    elim ((plan.members o).0 i) [
+      | inl k ↦ not_of_units w o k reason
+      | inr u ↦
+          let lacks = (lacking_members plan.there u.run.start (Some u.run.end) u.range plan.there_are.cover).0 u.lacks in
+          let at = subst (λ (o : Order). LiesInOrder o x) u.is lies in
+          lacks.none x (at.0, in_range u.range.end at.1) ((plan.there_are.offsets x).1 (inl known, less))
+    ]
+  where
+    by_bound : (b : Bool) (e : ℕ) → nat_lt e greatest_end ≡ b
+        → (((if b then Some e else None) ≡ None) ⊎ ((y : ℕ) × ((if b then Some e else None) ≡ Some y) × (x < y))) → x < e
+    by_bound true e t (inl none) = absurd cc
+    by_bound true e t (inr s) = let same = same_Some e s.0 s.1 in let l = s.2 in omega (arith, same, l)
+    by_bound false e t h = let far = ltb-false e greatest_end t in omega (arith, far, less)
+
+    in_range : (end : Option ℕ) → ((known_end end ≡ None) ⊎ ((y : ℕ) × (known_end end ≡ Some y) × (x < y)))
+        → (end ≡ None) ⊎ ((y : ℕ) × (end ≡ Some y) × (x < y))
+    in_range None h = inl refl
+    in_range (Some e) h = inr (e, refl, by_bound (nat_lt e greatest_end) e refl h)
+
+-- Where nothing is ordered each wanted byte is held or at hand.
+pub none_left : (w : WantedParts) (p : UnitPlanParts) (x : ℕ) → IsUnitPlan w p → p.orders ≡ [] → IsWantedByte w x
+    → IsKnown w.units.known x
+none_left w p x plan none wanted =
+    elim (wanted_there w p x plan wanted) [ inl k ↦ k | inr k ↦ absurd (subst (In k.0) none k.1) ]
 
 -- ---- what finds things, step by step
 

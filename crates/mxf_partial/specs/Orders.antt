@@ -81,25 +81,25 @@ unit_order at r = record {
   again = is_again at (record { start = r.start; end = known_end r.end });
 }
 
--- A maximal range of bytes that are wanted and not there.
-pub record IsUnitOrder (w : WantedParts) (o : Order) : Type 0 where
-  pub wanted : List Run
-  pub wanted_are : AreOffsetsOf (IsWantedByte w) wanted
-  pub there : List Run
-  pub there_are : AreOffsetsOf (IsThere w) there
+-- The order of a maximal range of bytes that are wanted and not there.
+pub record IsUnitOrder (at : AtHandParts) (there wanted : List Run) (o : Order) : Type 0 where
   pub run : Run
   pub among : In run wanted
   pub range : OffsetRange
   pub lacks : In range (lacking there run.start (Some run.end))
-  pub is : o ≡ unit_order (hand_of w) range
+  pub is : o ≡ unit_order at range
 
 -- What is to be restored for the units, and the end of the file where it is known.
 pub record UnitPlanParts : Type 0 where
   pub orders : List Order
   pub end : Option ℕ
 
--- The plan for the units: what finds them, and what is wanted of them.
+-- The plan for the units: what finds them, and what is wanted of them and isn't there.
 pub record IsUnitPlan (w : WantedParts) (p : UnitPlanParts) : Type 0 where
+  pub wanted : List Run
+  pub wanted_are : AreOffsetsOf (IsWantedByte w) wanted
+  pub there : List Run
+  pub there_are : AreOffsetsOf (IsThere w) there
   pub rising : IsRising order_cmp p.orders
-  pub members : (o : Order) → In o p.orders ↔ (IsFindingOrder w o ⊎ IsUnitOrder w o)
+  pub members : (o : Order) → In o p.orders ↔ (IsFindingOrder w o ⊎ IsUnitOrder (hand_of w) there wanted o)
   pub end : p.end ≡ end_of_file (notes_of w)

@@ -12,4 +12,4 @@ mod questions;
 mod wanted;
 mod ways;
 
-pub use plan::UnitPlan;
+pub use plan::{UnitPlan, one_unit_plan, orders_of_units_are_missing, wanted_bytes_are_there};

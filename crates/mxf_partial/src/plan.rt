@@ -12,9 +12,10 @@ ghost use Rattle.mxf_restore.specs.Plan.{LiesInOrder, order_cmp};
 ghost use Rattle.mxf_restore.specs.declared.plan.Order.{Order};
 ghost use Rattle.mxf_units.specs.Units.{IsKnown};
 ghost use Rattle.mxf_partial.specs.Named.{AreNamed};
-ghost use Rattle.mxf_partial.specs.Orders.{IsFindingOrder, IsOrdered, IsUnitPlan, is_described, known_end};
+ghost use Rattle.mxf_places.specs.declared.reason.Reason.{Reason};
+ghost use Rattle.mxf_partial.specs.Orders.{IsFindingOrder, IsOrdered, IsUnitPlan, UnitPlanParts, is_described, known_end};
 ghost use Rattle.mxf_partial.specs.Orders.{unit_order};
-ghost use Rattle.mxf_partial.specs.Wanted.{are_indexed, is_indexed};
+ghost use Rattle.mxf_partial.specs.Wanted.{IsWantedByte, WantedParts, are_indexed, is_indexed};
 
 use crate::asks::asked_places;
 use crate::finding::{add_fronts, helping_orders};
@@ -250,3 +251,23 @@ fn in_order(mut orders: Vec<Order>) -> Vec<Order>
     sort_once(&mut orders);
     orders
 }
+
+/// A law of [`UnitPlan::of`]: there is one plan for some units alone.
+pub fn one_unit_plan()
+    ensures { (w : WantedParts) (p q : UnitPlanParts) → IsUnitPlan w p → IsUnitPlan w q → p ≡ q }
+{}
+
+/// A law of [`UnitPlan::orders`]: each byte that is wanted of a unit is held, at hand or ordered; so where nothing is
+/// ordered all of them are held or at hand.
+pub fn wanted_bytes_are_there()
+    ensures ordered { (w : WantedParts) (p : UnitPlanParts) (x : ℕ) → IsUnitPlan w p → IsWantedByte w x
+        → IsKnown w.units.known x ⊎ ((o : Order) × In o p.orders × LiesInOrder o x) }
+    ensures none { (w : WantedParts) (p : UnitPlanParts) (x : ℕ) → IsUnitPlan w p → p.orders ≡ [] → IsWantedByte w x
+        → IsKnown w.units.known x }
+{}
+
+/// A law of [`UnitPlan::orders`]: an order of bytes of units has none that is held or at hand.
+pub fn orders_of_units_are_missing()
+    ensures { (w : WantedParts) (p : UnitPlanParts) (o : Order) (x : ℕ) → IsUnitPlan w p → In o p.orders
+        → o.reason ≡ Reason.Unit → LiesInOrder o x → x < greatest_end → ¬ IsKnown w.units.known x }
+{}

@@ -1,4 +1,7 @@
-use Rattle.std.proofs.Common.{◌≡◌, ◌↔◌, ◌∙◌, [], List, subst, true}
+use Rattle.std.proofs.Common.{◌≡◌, ◌↔◌, ◌⊎◌, ◌∙◌, [], List, subst, sym, true}
+use Rattle.mxf_klv.specs.Rising.{In}
+use Rattle.mxf_restore.specs.declared.named.NamedPlace.{NamedPlace}
+use Rattle.mxf_partial.specs.Asks.{IsAskedByIndex, IsAskedByUnit}
 use Rattle.mxf_restore.specs.declared.plan.Order.{Order}
 use Rattle.mxf_partial.proofs.UnitPlanLaws.{found}
 use Rattle.mxf_places.specs.AtHand.{KnownParts}
@@ -21,4 +24,7 @@ returns c =
     c.is_described-is_described.ensures known (c.deref.ensures.value ∙ sections) (c.deref-3.ensures.value ∙ sections)
     c.in_ok-orders.ensures
     (subst (λ (l : List Order). (c.is_none-is_index_sought.result ≡ true) ↔ (l ≡ [])) c.deref-2.ensures.value
-    c.is_none-is_index_sought.ensures) (λ n. c.in_ok-asked.ensures.members n) c.in_ok-add_fronts.ensures
+    c.is_none-is_index_sought.ensures) (λ n.
+    subst (λ (l : List NamedPlace). In n l ↔ (IsAskedByUnit w n.place n.source
+    ⊎ ((c.is_none-is_index_sought.result ≡ true) × IsAskedByIndex w n.place n.source))) (sym c.deref-4.ensures.value)
+    (c.in_ok-asked.ensures.members n)) c.in_ok-add_fronts.ensures

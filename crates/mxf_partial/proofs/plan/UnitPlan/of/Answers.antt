@@ -59,8 +59,12 @@ returns c =
     ∙ (λ i. c.in_ok-orders.orders.items ++ units_in (c.at_hand.ensures i) c.in_ok-there.there c.in_ok-wanted.wanted) in
     let is = c.in_order.ensures.members ∙ ap (union order_cmp []) added in
     record {
+      wanted = c.in_ok-wanted.wanted;
+      wanted_are = wanted;
+      there = c.in_ok-there.there;
+      there_are = there;
       rising = c.in_order.ensures.rising;
       members = plan_is w c.in_ok-orders.orders.items c.in_order.result.items c.in_ok-there.there c.in_ok-wanted.wanted
-          finding there wanted is;
+          finding is;
       end = c.end.ensures ∙ ap end_of_file c.holdings-3.ensures;
     }
