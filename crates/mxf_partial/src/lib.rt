@@ -2,7 +2,6 @@
 //! profile).
 #![tactic(auto)]
 
-mod finding;
-mod named;
-mod questions;
-mod wanted;
+mod greatest;
+mod in_streams;
+mod streams;

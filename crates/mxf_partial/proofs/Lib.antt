@@ -1,0 +1,3 @@
+pub mod InStreamLaws
+pub mod GreatestLaws
+pub mod StreamLaws
