@@ -4,3 +4,6 @@ pub mod StartLaws
 pub mod ChosenLaws
 pub mod UnitPlanLaws
 pub mod AskLaws
+pub mod InStreamLaws
+pub mod GreatestLaws
+pub mod StreamLaws

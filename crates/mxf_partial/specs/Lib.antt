@@ -1,6 +1,9 @@
 pub mod Named
 pub mod Wanted
 pub mod Streams
+pub mod InStreams
+pub mod Greatest
+pub mod StreamTable
 pub mod Near
 pub mod Between
 pub mod SegmentStarts

@@ -5,10 +5,13 @@
 mod asks;
 mod between;
 mod finding;
+mod greatest;
+mod in_streams;
 mod named;
 mod near;
 mod plan;
 mod questions;
+mod streams;
 mod wanted;
 mod ways;
 
