@@ -1,8 +1,9 @@
 //! Between which file offsets an offset of a stream can lie.
-ghost use Rattle.std.specs.Prelude.{◌≡◌, ◌+◌, ◌-◌, ◌≤◌, IfOk, map};
+ghost use Rattle.std.specs.Prelude.{◌≡◌, ◌+◌, ◌-◌, ◌≤◌, IfOk, MatchOption, map};
 ghost use Rattle.mxf_units.specs.Units.{UnitsParts};
 ghost use Rattle.mxf_partial.specs.StreamTable.{AreStarts, AreStreams, IsRipOffset, PartsDiffer, start_of};
-ghost use Rattle.mxf_partial.specs.Streams.{IsGreatestOffset, IsHigh, IsLow};
+ghost use Rattle.mxf_units.specs.declared.essence_zone.part.StreamPart.{StreamPart};
+ghost use Rattle.mxf_partial.specs.Streams.{HasNoPartBehind, IsGreatestOffset, IsHigh, IsLow, IsPartBehind};
 
 use crate::greatest::{GreatestPlace, greatest_places};
 use crate::in_streams::{Bound, InStream, first_from, last_below};
@@ -88,6 +89,20 @@ impl Streams {
                 Some(less(start.partition, distance))
             }
             None => Some(less(self.rip?, self.greatest_from(place) - place.offset)),
+        }
+    }
+
+    /// Where the first part of a stream begins that begins behind a place of it, in bytes of the stream: a binary search.
+    pub fn beginning_behind(&self, place: StreamPlace) -> Option<u64>
+        ensures { (u : UnitsParts) → AreStreams u self.now
+            → MatchOption result (HasNoPartBehind u.known.notes place.body_sid place.offset)
+            (λ next. (q : StreamPart) × IsPartBehind u.known.notes place.body_sid place.offset q
+            × (q.body_offset ≡ next)) }
+    {
+        let stream = u64::from(place.body_sid);
+        match first_from(&self.starts, stream, behind(place.offset)) {
+            Some(start) => Some(start.body_offset),
+            None => None,
         }
     }
 
