@@ -4,4 +4,6 @@
 
 mod greatest;
 mod in_streams;
+mod near;
+mod place_streams;
 mod streams;
