@@ -2,7 +2,8 @@
 use Rattle.std.proofs.Common.{◌≡◌, ◌∙◌, ◌<◌, ◌≤◌, ◌+◌, ◌⊎◌, ◌++◌, ◌||◌, ◌↔◌, ℕ, Bool, true, false, List, [], ◌∷◌}
 use Rattle.std.proofs.Common.{Option, None, Some, refl, sym, ap, subst, inl, inr, arith, get_or, length, max, slice_get}
 use Rattle.std.proofs.lemmas.Bool.{cases_lt}
-use Rattle.std.proofs.lemmas.Option.{get_or_from_slice_get, slice_get-get_or, slice_get_cases, slice_get_read, slice_get_within}
+use Rattle.std.proofs.lemmas.Option.{get_or_from_slice_get, slice_get-get_or, slice_get_cases, slice_get_read}
+use Rattle.std.proofs.lemmas.Option.{slice_get_within}
 use Rattle.mxf_klv.specs.Rising.{In}
 use Rattle.mxf_klv.proofs.Lists.{In-at, In-end, Contains-from_In}
 use Rattle.mxf_catalogue.specs.Covers.{LiesIn-with_run, with_run}
@@ -164,7 +165,11 @@ added_both items b from end old mid new any own all first second same =
     }
   where
     parts : (any || own) ≡ true → (any ≡ true) ⊎ (own ≡ true)
-    parts e = elim any as (λ a. (a || own) ≡ true → (a ≡ true) ⊎ (own ≡ true)) [ true ↦ λ f. inl refl | false ↦ λ f. inr f ] e
+    parts e = elim any as (λ a. (a || own) ≡ true → (a ≡ true) ⊎ (own ≡ true)) [
+      | true ↦ λ f. inl refl
+      | false ↦ λ
+          f. inr f
+    ] e
 
     left : any ≡ true → (any || own) ≡ true
     left e = ap (λ a. a || own) e
@@ -230,7 +235,8 @@ found_none items positions old n = (
 )
 
 -- All positions have been looked at.
-pub found_all : (items : List PlaceOf) (positions : List Run) (count : ℕ) (old new : List NamedPlace) → length items ≤ count
+pub found_all : (items : List PlaceOf) (positions : List Run) (count : ℕ) (old new : List NamedPlace) → length
+    items ≤ count
     → ((n : NamedPlace) → In n new ↔ (In n old ⊎ IsFoundBefore items positions count n)) → (n : NamedPlace)
     → In n new ↔ (In n old ⊎ ((k : ℕ) × (p : PlaceOf) × (slice_get items k ≡ Some p) × LiesIn positions k
     × (n ≡ named_of p)))

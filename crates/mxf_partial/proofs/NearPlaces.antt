@@ -1,5 +1,6 @@
 -- What is asked for of a place of a stream is found by the tables.
-use Rattle.std.proofs.Common.{◌≡◌, ◌∙◌, ◌<◌, ◌≤◌, ◌+◌, ◌⊎◌, ◌++◌, ◌↔◌, ℕ, Bool, true, false, List, [], ◌∷◌, Option, None, Some}
+use Rattle.std.proofs.Common.{◌≡◌, ◌∙◌, ◌<◌, ◌≤◌, ◌+◌, ◌⊎◌, ◌++◌, ◌↔◌, ℕ, Bool, true, false, List, [], ◌∷◌, Option}
+use Rattle.std.proofs.Common.{None, Some}
 use Rattle.std.proofs.Common.{refl, sym, ap, subst, inl, inr, arith, get_or, length, map, slice_get}
 use Rattle.std.proofs.lemmas.Bool.{cases_lt}
 use Rattle.std.specs.List.{AllByRecursion}
@@ -90,7 +91,8 @@ module _ (u : UnitsParts) (named : List NamedPlace) (near : Near) (nm : AreNamed
       elim h.0 [
         | inl k ↦
             let n : NamedPlace = record { place = y; source = k.0 } in
-            placed_at n b ((In-append n named (map partition_place (partitions_of notes))).1 (inl ((nm.members n).1 k.1)))
+            placed_at n b ((In-append n named (map partition_place (partitions_of notes))).1 (inl ((nm.members n).1
+            k.1)))
             h.1
         | inr k ↦
             let n = partition_place k.0 in
@@ -225,7 +227,18 @@ module _ (u : UnitsParts) (named : List NamedPlace) (near : Near) (nm : AreNamed
           ↔ (Asks items (record { positions = old; all = every }) x ⊎ MayLieAt u b s x)
       asks_all empty x there = (
         λ h. inr (inr (inr (
-          λ y m. let p = named_to y b m in true_not_false own (more.some.1 (p.0, p.1, (p.3, (omega arith, inl refl)))) empty,
+          λ y m. let p = named_to y b m in true_not_false own (more.some.1 (
+            p.0,
+            p.1,
+            (
+              p.3,
+              (
+                omega arith,
+                inl
+                    refl,
+              ),
+            ),
+          )) empty,
           there,
         ))),
         λ h. inl refl,
@@ -314,7 +327,8 @@ module _ (u : UnitsParts) (named : List NamedPlace) (near : Near) (nm : AreNamed
   pub all_asked : (places : List StreamPlace) (count : ℕ) (asked : Asked) (old new : List NamedPlace)
       → length places ≤ count → AsksFor places count asked
       → ((n : NamedPlace) → In n new ↔ (In n old ⊎ IsAdded asked n)) → (n : NamedPlace)
-      → In n new ↔ (In n old ⊎ (In n named × ((p : StreamPlace) × In p places × MayLieAt u p.body_sid p.offset n.place)))
+      → In n new ↔ (In n old ⊎ (In n named × ((p : StreamPlace) × In p places × MayLieAt u p.body_sid p.offset
+      n.place)))
   all_asked places count asked old new end asks added n = (
     λ h. elim ((added n).0 h) [
       | inl o ↦ inl o
@@ -327,8 +341,13 @@ module _ (u : UnitsParts) (named : List NamedPlace) (near : Near) (nm : AreNamed
       | inr f ↦
           let c = Contains-from_In f.1.0 places f.1.1 in
           let l : c.0 < length places = c.1 in
-          let a = (asks n.place (is_named n f.0)).1
-          (c.0, f.1.0, omega (arith, l, end), slice_get_read places (length places) c.0 f.1.0 refl c.1 (sym c.2), f.1.2) in
+          let a = (asks n.place (is_named n f.0)).1 (
+            c.0,
+            f.1.0,
+            omega (arith, l, end),
+            slice_get_read places (length places) c.0 f.1.0 refl c.1 (sym c.2),
+            f.1.2,
+          ) in
           inr (is_added asked asked.all n refl f.0 a)
     ]),
   )

@@ -49,7 +49,8 @@ module _ (notes : List NoteParts) (listed : List ListedStream) (are : AreListed 
     λ h. tt,
   )
 
-  pub contradicted : (first last : ListedStream) → (IsInOrder at start of listed → IsFirstFrom at start of listed x 0 first)
+  pub contradicted : (first last : ListedStream) → (IsInOrder at start of listed → IsFirstFrom at start of listed x
+      0 first)
       → (IsInOrder at start of listed → IsLastBelow at start of listed x 1 last)
       → (first.body_sid ≡ last.body_sid → ⊥) → IsOfNoStream notes x
   contradicted first last f l other = λ b h.
@@ -115,7 +116,8 @@ in_sorted items sorted e is =
       λ h. subst (λ (l : List ListedStream). In e l) (sym is) (m.1 (inr h)),
     )
 
-pub listed_one : (notes : List NoteParts) (r : RipAtParts) (items sorted : List ListedStream) → rip_view_of notes ≡ One r
+pub listed_one : (notes : List NoteParts) (r : RipAtParts) (items sorted : List ListedStream) → rip_view_of notes ≡
+    One r
     → items ≡ map entry_of (map (λ e. e.0) r.entries) → sorted ≡ union listed_cmp [] items → IsRising listed_cmp sorted
     → AreListed notes sorted
 listed_one notes r items sorted one each is rises =
@@ -268,7 +270,8 @@ placed_all notes places count items sorted end was is rises =
       each = λ n b h streams.
           let c = Contains-from_In n places h in
           let l : c.0 < length places = c.1 in
-          let s = was.each c.0 n b (omega (arith, l, end)) (slice_get_read places (length places) c.0 n refl c.1 (sym c.2))
+          let s = was.each c.0 n b (omega (arith, l, end)) (slice_get_read places (length places) c.0 n refl c.1
+          (sym c.2))
           streams in
           (s.0, subst (λ (l : List PlaceOf). In s.0 l) (sym is) ((members s.0).1 (inr s.1)), s.2);
     }

@@ -1,5 +1,6 @@
 -- The places at which partitions of streams may stand, as tables that are searched (this project's profile).
-use Rattle.std.specs.Prelude.{◌≡◌, ◌↔◌, ◌⊎◌, ℕ, ◌+◌, ◌≤◌, Bool, true, IsTrue, Option, None, Some, List, ◌++◌, map, slice_get}
+use Rattle.std.specs.Prelude.{◌≡◌, ◌↔◌, ◌⊎◌, ℕ, ◌+◌, ◌≤◌, Bool, true, IsTrue, Option, None, Some, List, ◌++◌, map}
+use Rattle.std.specs.Prelude.{slice_get}
 use Rattle.mxf_klv.specs.Parts.{NoteParts}
 use Rattle.mxf_klv.specs.Rising.{In}
 use Rattle.mxf_sets.specs.declared.pack.random_index.RipEntry.{RipEntry}
@@ -72,7 +73,8 @@ pub record IsFrom (places : List PlaceOf) (body_sid low from : ℕ) : Type 0 whe
   pub greatest : (p : PlaceOf) → In p places → Serves p.body_sid body_sid → p.place ≤ low → p.place ≤ from
 
 -- The places with a property have been added to those that are asked for, by where they stand in the table.
-pub record HasAddedThose (items : List PlaceOf) (Q : PlaceOf → Type 0) (positions more : List Run) (any : Bool) : Type 0 where
+pub record HasAddedThose (items : List PlaceOf) (Q : PlaceOf → Type 0) (positions more : List Run) (any : Bool) :
+    Type 0 where
   pub added : (k : ℕ) (p : PlaceOf) → slice_get items k ≡ Some p → LiesIn more k ↔ (LiesIn positions k ⊎ Q p)
   pub some : IsTrue any ↔ ((p : PlaceOf) × In p items × Q p)
 

@@ -1,5 +1,6 @@
 //! Named places at which the partition of a stream may stand that has an offset of it.
-ghost use Rattle.std.specs.Prelude.{◌≡◌, ◌↔◌, ◌+◌, ◌⊎◌, ◌<◌, ◌≤◌, ◌^◌, ℕ, true, false, IfOk, List, OnOk, Some, length, slice_get};
+ghost use Rattle.std.specs.Prelude.{◌≡◌, ◌↔◌, ◌+◌, ◌⊎◌, ◌<◌, ◌≤◌, ◌^◌, ℕ, true, false, IfOk, List, OnOk, Some};
+ghost use Rattle.std.specs.Prelude.{length, slice_get};
 ghost use Rattle.mxf_klv.specs.Note.{greatest_end};
 ghost use Rattle.mxf_klv.specs.Rising.{In};
 ghost use Rattle.mxf_catalogue.specs.Runs.{LiesIn};
@@ -23,8 +24,8 @@ use mxf_units::Units;
 use mxf_views::StreamPlace;
 use std::alloc::Global;
 
-/// Adds the named places at which partitions may stand that have one of these places of streams. It takes memory, and some
-/// binary searches for each place.
+/// Adds the named places at which partitions may stand that have one of these places of streams. It takes memory, and
+/// some binary searches for each place.
 pub(crate) fn add_partitions(
     alloc: Global,
     asked: &mut Vec<NamedPlace>,

@@ -1,5 +1,5 @@
 //! Places at which partitions may stand, each with the streams that it may be of (ST 377-1, Random Index Pack).
-ghost use Rattle.std.specs.Prelude.{◌≡◌, ◌++◌, ◌≤◌, ◌^◌, IfOk, MatchOption, List, [], map};
+ghost use Rattle.std.specs.Prelude.{◌≡◌, ◌++◌, ◌≤◌, ◌^◌, IfOk, MatchOption, List, map};
 ghost use Rattle.mxf_klv.specs.Parts.{NoteParts};
 ghost use Rattle.mxf_views.specs.Partitions.{partitions_of};
 ghost use Rattle.mxf_partial.specs.NearTable.{AreListed, AreOfStreams, IsOfNoStream, IsOfStreams, named_of};

@@ -23,7 +23,11 @@ returns c = λ n.
       ],
       λ h. subst (λ (l : List NamedPlace). In n l) (sym a.0) (e.1 (elim h [
         | inl o ↦ inl o
-        | inr f ↦ elim f [ inl k ↦ inr k.1 | inr g ↦ absurd (true_not_false c.args.found.now.all c.if-not-found.false g.0) ]
+        | inr f ↦ elim f [
+          | inl k ↦ inr k.1
+          | inr g ↦ absurd (true_not_false c.args.found.now.all
+              c.if-not-found.false g.0)
+        ]
       ])),
     )
 

@@ -1,6 +1,7 @@
 use Rattle.mxf_partial.proofs.PlaceLaws.{agreed, contradicted, never_alone, unlisted}
 use Rattle.mxf_partial.proofs.place_streams.stream_of.Goals as goal
-use Rattle.mxf_partial.proofs.place_streams.stream_of.Goals.{in_default-last_below-via-in-Some-last_below+else-first-last, in_default-last_below-via-in_default-last_below}
+use Rattle.mxf_partial.proofs.place_streams.stream_of.Goals.{in_default-last_below-via-in-Some-last_below+else-first-last}
+use Rattle.mxf_partial.proofs.place_streams.stream_of.Goals.{in_default-last_below-via-in_default-last_below}
 
 pub returns-in_default : goal.returns-in_default
 returns-in_default c = λ notes are. unlisted notes c.args.listed.now are c.args.place c.in_default.ensures
