@@ -1,6 +1,7 @@
 -- The greatest offsets of streams that segments give: of one segment, and of those that a loop has passed.
 use Rattle.std.proofs.Common.{◌≡◌, ◌∙◌, ◌≢◌, ◌<◌, ◌≤◌, ◌+◌, ◌-◌, ◌*◌, ◌==◌, ◌⊎◌, ℕ, Bool, true, false, List, [], ◌∷◌}
-use Rattle.std.proofs.Common.{Option, None, Some, MatchOption, pos, refl, sym, ap, subst, inl, inr, arith, eq-eqb, eqb-true}
+use Rattle.std.proofs.Common.{Option, None, Some, MatchOption, pos, refl, sym, ap, subst, inl, inr, arith, eq-eqb}
+use Rattle.std.proofs.Common.{eqb-true}
 use Rattle.std.proofs.Common.{if◌then◌else◌, negsuc, suc, zero, ℤ, max, mul-le-mul_left, unsigned_abs, lt-ltb}
 use Rattle.std.proofs.lemmas.Bool.{cases_lt}
 use Rattle.std.specs.Cmp.{IsTotalOrder}
@@ -68,7 +69,12 @@ module _ (s : SegmentParts) (listed : s.numbers.unit_bytes ≡ 0) where
   reached_none start same =
       record {
         given = λ g e. absurd cc;
-        others = λ unit offset l e. let h = listed_unit unit offset e in let a = h.0 in absurd (omega (arith, a, l, same));
+        others = λ unit offset l e. let h = listed_unit unit offset e in let a = h.0 in absurd (omega (
+          arith,
+          a,
+          l,
+          same,
+        ));
       }
 
   pub reached_all : (end : ℕ) (greatest : Option ℕ) → end ≡ unsigned_abs s.numbers.start + entry_count s

@@ -1,6 +1,8 @@
 -- Elements of streams in their order: what their places say.
-use Rattle.std.proofs.Common.{◌≡◌, ◌∙◌, ◌<◌, ◌≤◌, ◌-◌, ◌⊎◌, ◌&&◌, ◌||◌, ◌==◌, ℕ, zero, suc, Bool, true, false, List, [], ◌∷◌}
-use Rattle.std.proofs.Common.{Some, refl, sym, ap, subst, inl, inr, arith, eq-eqb, eqb-true, get_or, length, lt-ltb, ltb-true}
+use Rattle.std.proofs.Common.{◌≡◌, ◌∙◌, ◌<◌, ◌≤◌, ◌-◌, ◌⊎◌, ◌&&◌, ◌||◌, ◌==◌, ℕ, zero, suc, Bool, true, false, List}
+use Rattle.std.proofs.Common.{[], ◌∷◌}
+use Rattle.std.proofs.Common.{Some, refl, sym, ap, subst, inl, inr, arith, eq-eqb, eqb-true, get_or, length, lt-ltb}
+use Rattle.std.proofs.Common.{ltb-true}
 use Rattle.std.proofs.Common.{nat_lt, slice_get}
 use Rattle.std.proofs.lemmas.Bool.{and_from, and_parts, cases_lt}
 use Rattle.std.proofs.lemmas.Option.{get_or_from_slice_get, slice_get_within}
@@ -89,7 +91,8 @@ module _ {T : Type 0} (stream offset tie : T → ℕ) where
             let same : i ≡ j = omega (arith, l, m) in inl (sym e ∙ ap (λ k. get_or xs k d) same ∙ f)
       ]
 
-  module _ (xs : List T) (s t k : ℕ) (r : IsInOrder stream offset tie xs) (p : ArePartedAt stream offset tie xs s t k) where
+  module _ (xs : List T) (s t k : ℕ) (r : IsInOrder stream offset tie xs) (p : ArePartedAt stream offset tie xs s t
+      k) where
     -- An element of the stream below the offset stands before the place, and one from it on doesn't.
     before : (y : T) (j : ℕ) → j < length xs → get_or xs j y ≡ y → stream y ≡ s → offset y < t → j < k
     before y j h e same l =
@@ -116,14 +119,16 @@ module _ {T : Type 0} (stream offset tie : T → ℕ) where
         record {
           among = subst (λ z. In z xs) e (In-at xs (k - 1) x l);
           same = same;
-          below = elim (subst (λ z. IsBelow (stream z) (offset z) s t) e (p.below (k - 1) x (omega arith) (omega arith))) [
-            | inl m ↦ absurd (omega (arith, m, same))
-            | inr q ↦ q.1
-          ];
+          below = elim (subst (λ z. IsBelow (stream z) (offset z) s t) e (p.below (k - 1) x (omega arith) (omega
+              arith))) [
+                | inl m ↦ absurd (omega (arith, m, same))
+                | inr q ↦ q.1
+              ];
           last = λ y h f m.
               let c = Contains-from_In y xs h in
               let j = before y c.0 c.1 c.2 f m in
-              elim (at_places xs c.0 (k - 1) y x y r (omega (arith, j)) l c.2 (get_or_from_slice_get xs (k - 1) x y at)) [
+              elim (at_places xs c.0 (k - 1) y x y r (omega (arith, j)) l c.2 (get_or_from_slice_get xs (k - 1) x y
+              at)) [
                 | inl g ↦ goes_to_itself x y g
                 | inr q ↦ elim q [ inl n ↦ absurd (omega (arith, n, same, f)) | inr g ↦ g.1 ]
               ];
@@ -205,7 +210,8 @@ module _ {T : Type 0} (stream offset tie : T → ℕ) where
               let j = behind y c.0 c.2 f m in
               let high : s < stream x =
               elim (cases_lt (stream x) s) [
-                | inl n ↦ absurd (subst (λ z. ¬ IsBelow (stream z) (offset z) s t) e (p.above k x (omega arith) l) (inl n))
+                | inl n ↦ absurd (subst (λ z. ¬ IsBelow (stream z) (offset z) s t) e (p.above k x (omega arith) l)
+                    (inl n))
                 | inr n ↦ elim (cases_lt s (stream x)) [
                   | inl n2 ↦ n2
                   | inr n2 ↦ absurd (other (omega (arith, n, n2)))

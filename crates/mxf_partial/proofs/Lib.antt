@@ -7,3 +7,7 @@ pub mod AskLaws
 pub mod InStreamLaws
 pub mod GreatestLaws
 pub mod StreamLaws
+pub mod PlaceLaws
+pub mod NearLaws
+pub mod StreamOne
+pub mod NearPlaces

@@ -40,7 +40,8 @@ at s = s.body_offset
 abbrev tie : PartStart → ℕ
 tie s = s.partition
 
-module _ (notes : List NoteParts) (starts : List PartStart) (are : AreStarts notes starts) (b s t : ℕ) (up : t ≡ s + 1) where
+module _ (notes : List NoteParts) (starts : List PartStart) (are : AreStarts notes starts) (b s t : ℕ) (up : t ≡ s
+    + 1) where
   start_there : (q : StreamPart) → IsPart notes b q → In (start_of q) starts
   start_there q h = (are.members (start_of q)).1 (q, h.part, refl)
 
@@ -245,7 +246,8 @@ pub parts_differ : (notes : List NoteParts) → IsContent notes → PartsDiffer 
 parts_differ notes content = λ p q h k same.
     let m = part_there notes p h in
     let n = part_there notes q k in
-    let one = one_by_key (λ (x : PartitionParts). x.offset) (partitions_of notes) m.0 n.0 (partitions_rise notes content)
+    let one = one_by_key (λ (x : PartitionParts). x.offset) (partitions_of notes) m.0 n.0 (partitions_rise notes
+    content)
     m.1 n.1
     (ap (λ (x : StreamPart). x.partition) (sym m.2) ∙ same ∙ ap (λ (x : StreamPart). x.partition) n.2) in
     m.2 ∙ ap (part_of notes) one ∙ sym n.2

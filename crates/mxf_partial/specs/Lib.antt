@@ -5,6 +5,7 @@ pub mod InStreams
 pub mod Greatest
 pub mod StreamTable
 pub mod Near
+pub mod NearTable
 pub mod Between
 pub mod SegmentStarts
 pub mod Ways

@@ -1,5 +1,5 @@
 //! The greatest offsets of streams that segments of an index give which end (ST 377-1, Index Table Segment).
-ghost use Rattle.std.specs.Prelude.{◌≡◌, IfOk, MatchOption, OnOk, ℕ, ◌<◌};
+ghost use Rattle.std.specs.Prelude.{◌≡◌, IfOk, MatchOption, OnOk};
 ghost use Rattle.mxf_units.specs.LastUnits.{IsEndless};
 ghost use Rattle.mxf_partial.specs.Greatest.{AreGreatest, GivesNone, HasAdded, IsGreatestOf, greater};
 

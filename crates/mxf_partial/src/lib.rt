@@ -9,6 +9,7 @@ mod greatest;
 mod in_streams;
 mod named;
 mod near;
+mod place_streams;
 mod plan;
 mod questions;
 mod streams;

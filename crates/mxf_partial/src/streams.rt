@@ -1,5 +1,5 @@
 //! Between which file offsets an offset of a stream can lie.
-ghost use Rattle.std.specs.Prelude.{◌≡◌, ◌+◌, ◌-◌, ◌≤◌, IfOk, MatchOption, map};
+ghost use Rattle.std.specs.Prelude.{◌≡◌, ◌+◌, ◌-◌, ◌<◌, ◌≤◌, ◌^◌, IfOk, map, MatchOption};
 ghost use Rattle.mxf_units.specs.Units.{UnitsParts};
 ghost use Rattle.mxf_partial.specs.StreamTable.{AreStarts, AreStreams, IsRipOffset, PartsDiffer, start_of};
 ghost use Rattle.mxf_units.specs.declared.essence_zone.part.StreamPart.{StreamPart};
@@ -65,15 +65,16 @@ impl Streams {
 
     /// The file offset below which a place of a stream can't lie, in bytes: a binary search.
     pub fn low(&self, place: StreamPlace) -> Bound
-        ensures { (u : UnitsParts) → AreStreams u self.now
+        ensures low { (u : UnitsParts) → AreStreams u self.now
             → IsLow u.known.notes place.body_sid place.offset (result.from + result.more) }
+        ensures small { result.from < 2 ^ 64 }
     {
         let stream = u64::from(place.body_sid);
         match last_below(&self.starts, stream, behind(place.offset)) {
-            Some(start) => Bound {
-                from: u128::from(start.origin),
-                more: place.offset.saturating_sub(u128::from(start.body_offset)),
-            },
+            Some(start) => {
+                let distance = place.offset.saturating_sub(u128::from(start.body_offset));
+                reach(start.origin, distance)
+            }
             None => Bound { from: 0, more: 0 },
         }
     }
@@ -127,6 +128,17 @@ fn behind(offset: u128) -> Bound
     Bound {
         from: offset,
         more: 1,
+    }
+}
+
+/// A file offset and a distance above it, in bytes, together.
+fn reach(offset: u64, distance: u128) -> Bound
+    ensures sum { result.from + result.more ≡ offset + distance }
+    ensures small { result.from < 2 ^ 64 }
+{
+    Bound {
+        from: u128::from(offset),
+        more: distance,
     }
 }
 
