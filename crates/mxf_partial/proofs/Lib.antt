@@ -11,3 +11,4 @@ pub mod PlaceLaws
 pub mod NearLaws
 pub mod StreamOne
 pub mod NearPlaces
+pub mod WayLaws

@@ -1,16 +1,15 @@
 //! Where the way from partition packs to their essence goes on over what isn't held (ST 377-1, Partition Pack).
-ghost use Rattle.std.specs.Prelude.{◌≡◌, ◌↔◌, ◌⊎◌, None, Some, if◌then◌else◌, IfOk, IsTrue, OnOk};
+ghost use Rattle.std.specs.Prelude.{◌≡◌, ◌↔◌, ◌⊎◌, None, Some, if◌then◌else◌, true, IfOk, OnOk};
 ghost use Rattle.std.specs.Option.{option_and_then};
 ghost use Rattle.mxf_klv.specs.Rising.{In};
 ghost use Rattle.mxf_places.specs.Claims.{over_fills};
 ghost use Rattle.mxf_restore.specs.declared.named.NamedPlace.{NamedPlace};
 ghost use Rattle.mxf_units.specs.Units.{UnitsParts};
-ghost use Rattle.mxf_units.specs.EssenceZones.{parts_of};
 ghost use Rattle.mxf_units.specs.declared.essence_zone.part.StreamPart.{StreamPart};
 ghost use Rattle.mxf_views.specs.declared.index.place.StreamPlace.{StreamPlace};
 ghost use Rattle.mxf_partial.specs.StreamTable.{AreStreams};
 ghost use Rattle.mxf_partial.specs.InStreams.{IsInOrder};
-ghost use Rattle.mxf_partial.specs.Ways.{BeginsLast, LeadsTo, end_of_way, is_free, open_end, way_of};
+ghost use Rattle.mxf_partial.specs.Ways.{HasPlace, HasWay, LeadsTo, end_of_way, is_free, open_end, way_from, way_of};
 
 use crate::in_streams::{Bound, InStream, first_from};
 use crate::streams::Streams;
@@ -49,12 +48,49 @@ pub(crate) fn add_ways(
         ⊎ ((p : StreamPlace) × (part : StreamPart) × In p places.now
         × LeadsTo units.now.known.notes p.body_sid p.offset part n.place × (n.source ≡ Some part.partition)))) }
 {
+    units.holdings().views().catalogue().laws();
     let streams = Streams::of(alloc, units)?;
     let places = in_order(alloc, places)?;
-    for part in units.parts() {
-        if let Some(place) = way_from(units.holdings(), &streams, &places, part) {
-            asked.push(place)?;
-        }
+    add_ways_of(asked, units.holdings(), &streams, &places, units.parts())
+}
+
+/// Adds where the ways go on from those of some parts in which one of the places lies.
+fn add_ways_of(
+    asked: &mut Vec<NamedPlace>,
+    holdings: &Holdings<'_>,
+    streams: &Streams,
+    places: &[StreamPlace],
+    parts: &[StreamPart],
+) -> Result<(), OutOfMemory>
+    ensures { (u : UnitsParts) → AreStreams u streams.now
+        → IsInOrder (λ p. p.body_sid) (λ p. p.offset) (λ p. 0) places.now
+        → OnOk result ((n : NamedPlace) → In n asked.new.items ↔ (In n asked.old.items
+        ⊎ HasWay u.known.notes holdings.now places.now parts.now n)) }
+{
+    for part in parts {
+        add_way(asked, holdings, streams, places, part)?;
+    }
+    Ok(())
+}
+
+/// Adds where the way goes on from a part, where one of the places lies in it.
+fn add_way(
+    asked: &mut Vec<NamedPlace>,
+    holdings: &Holdings<'_>,
+    streams: &Streams,
+    places: &[StreamPlace],
+    part: &StreamPart,
+) -> Result<(), OutOfMemory>
+    ensures { (u : UnitsParts) → AreStreams u streams.now
+        → IsInOrder (λ p. p.body_sid) (λ p. p.offset) (λ p. 0) places.now
+        → OnOk result ((n : NamedPlace) → In n asked.new.items ↔ (In n asked.old.items
+        ⊎ (HasPlace u.known.notes places.now part.now × (way_from holdings.now part.now ≡ Some n)))) }
+{
+    if !has_place(streams, places, part) {
+        return Ok(());
+    }
+    if let Some(place) = way_from(holdings, part) {
+        asked.push(place)?;
     }
     Ok(())
 }
@@ -69,19 +105,11 @@ fn in_order(alloc: Global, places: &[StreamPlace]) -> Result<Vec<StreamPlace>, O
     Ok(places)
 }
 
-/// Where the way goes on from a part, where one of the places lies in it and no first packet of it is known.
-fn way_from(
-    holdings: &Holdings<'_>,
-    streams: &Streams,
-    places: &[StreamPlace],
-    part: &StreamPart,
-) -> Option<NamedPlace>
-    ensures { (u : UnitsParts) → AreStreams u streams.now → holdings.now ≡ u.known.notes
-        → IsInOrder (λ p. p.body_sid) (λ p. p.offset) (λ p. 0) places.now → In part.now (parts_of u.known.notes)
-        → (n : NamedPlace) → (result ≡ Some n) ↔ ((p : StreamPlace) × In p places.now
-        × LeadsTo u.known.notes p.body_sid p.offset part.now n.place × (n.source ≡ Some part.now.partition)) }
+/// Where the way goes on from a part of which no first packet is known.
+fn way_from(holdings: &Holdings<'_>, part: &StreamPart) -> Option<NamedPlace>
+    ensures { result ≡ way_from holdings.now part.now }
 {
-    if part.zone.is_some() || !has_place(streams, places, part) {
+    if part.zone.is_some() {
         return None;
     }
     let partition = holdings.views().partition_at(part.partition)?;
@@ -95,8 +123,7 @@ fn way_from(
 fn has_place(streams: &Streams, places: &[StreamPlace], part: &StreamPart) -> bool
     ensures { (u : UnitsParts) → AreStreams u streams.now
         → IsInOrder (λ p. p.body_sid) (λ p. p.offset) (λ p. 0) places.now
-        → IsTrue result ↔ ((p : StreamPlace) × In p places.now
-        × BeginsLast u.known.notes p.body_sid p.offset part.now) }
+        → (result ≡ true) ↔ HasPlace u.known.notes places.now part.now }
 {
     let offset = u128::from(part.body_offset);
     let from = Bound {
