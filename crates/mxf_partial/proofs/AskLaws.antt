@@ -1,6 +1,6 @@
 -- What units ask for, as lists and by definition.
-use Rattle.std.proofs.Common.{◌≡◌, ◌↔◌, ◌⊎◌, ◌∙◌, ◌++◌, ◌+◌, ◌<◌, ◌==◌, ℕ, List, [], ◌∷◌, Option, None, Some, ap, arith, find, inl, inr}
-use Rattle.std.proofs.Common.{Err, Ok, Result, true, ◌≤◌, filter_map, map, refl, subst, sym, zero, suc, nat_cmp}
+use Rattle.std.proofs.Common.{◌≡◌, ◌↔◌, ◌⊎◌, ◌∙◌, ◌++◌, ◌+◌, ◌<◌, ◌==◌, ℕ, List, [], ◌∷◌, Option, None, Some, ap, arith, inl, inr}
+use Rattle.std.proofs.Common.{Err, Ok, Result, true, filter_map, map, refl, subst, sym, zero, suc, nat_cmp}
 use Rattle.std.proofs.lemmas.Bool.{eq-eqb, eqb-true}
 use Rattle.std.proofs.lemmas.Option.{same_Some}
 use Rattle.std.specs.List.{range_with_len}

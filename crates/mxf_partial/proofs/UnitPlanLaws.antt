@@ -1,6 +1,6 @@
 -- The orders of a plan for edit units.
 use Rattle.std.proofs.Common.{◌≡◌, ◌↔◌, ◌⊎◌, ◌∙◌, ◌++◌, ◌<◌, ◌≤◌, ◌+◌, ℕ, Bool, true, false, List, [], ◌∷◌, Option, None, Some, ap}
-use Rattle.std.proofs.Common.{nat_lt, unwrap_or, arith, filter_map, find, flat_map, inl, inr, is_some, map, refl, subst, sym, Result, Ok, Err, if◌then◌else◌, IfOk, drop, get_or, length, suc}
+use Rattle.std.proofs.Common.{nat_lt, unwrap_or, arith, filter_map, flat_map, inl, inr, is_some, map, refl, subst, sym, Result, Ok, Err, if◌then◌else◌, IfOk, drop, get_or, length, suc}
 use Rattle.std.proofs.Common.{◌==◌}
 use Rattle.std.proofs.lemmas.Bool.{eq-eqb, eqb-true}
 use Rattle.std.proofs.lemmas.Option.{same_Some}
@@ -8,7 +8,7 @@ use Rattle.std.specs.Result.{result_ok}
 use Rattle.std.specs.Option.{option_map_or}
 use Rattle.mxf_klv.specs.Parts.{NoteParts}
 use Rattle.mxf_klv.specs.Note.{greatest_end}
-use Rattle.mxf_klv.specs.Rising.{In, In-union, IsRising, same_from_members, union}
+use Rattle.mxf_klv.specs.Rising.{In, In-union, same_from_members, union}
 use Rattle.mxf_klv.proofs.Lists.{In-append, In-filter_map, In-flat_map, In-map, all-In, found-In, none_found}
 use Rattle.std.proofs.lemmas.List.{drop_all}
 use Rattle.std.proofs.Math.Seq.{drop-cons}
@@ -40,7 +40,7 @@ use Rattle.mxf_units.specs.declared.standing.UnitStanding.{UnitStanding}
 use Rattle.mxf_units.specs.declared.standing.UnitStanding.TheVariants as standings
 use Rattle.mxf_units.specs.declared.unit.EditUnit.{EditUnit}
 use Rattle.mxf_partial.specs.Asks.{IsAskedByIndex, IsAskedByUnit}
-use Rattle.mxf_partial.specs.Fronts.{IsFrontOf, front_order}
+use Rattle.mxf_partial.specs.Fronts.{front_order}
 use Rattle.mxf_partial.specs.Helping.{helping_by, helping_for, helping_of}
 use Rattle.mxf_partial.specs.Named.{AreNamed, IsNamed, is_named, named_at}
 use Rattle.mxf_partial.specs.Orders.{AreAsked, AreOffsetsOf, IsFindingOrder, IsFrontOrder, IsOrdered, IsThere, IsUnitOrder}

@@ -1,5 +1,5 @@
 -- The ways from partitions of streams, by where these begin.
-use Rattle.std.proofs.Common.{◌≡◌, ◌↔◌, ◌⊎◌, ◌∙◌, ◌+◌, ◌<◌, ◌≤◌, ◌==◌, ℕ, Bool, true, false, List, [], ◌∷◌, Option, None, Some, ap, arith}
+use Rattle.std.proofs.Common.{◌≡◌, ◌↔◌, ◌⊎◌, ◌∙◌, ◌+◌, ◌<◌, ◌≤◌, ◌==◌, ℕ, true, false, List, [], ◌∷◌, Option, None, Some, ap, arith}
 use Rattle.std.proofs.Common.{drop, find, get_or, if◌then◌else◌, inl, inr, is_some, length, nat_cmp, nat_lt, refl, suc, subst, sym}
 use Rattle.std.proofs.lemmas.Bool.{eq-eqb, eqb-true, lt-ltb, ltb-false, ltb-true}
 use Rattle.std.proofs.lemmas.Option.{same_Some}
@@ -32,7 +32,7 @@ use Rattle.mxf_units.specs.EssenceZones.{parts_of}
 use Rattle.mxf_units.specs.declared.essence_zone.part.StreamPart.{StreamPart}
 use Rattle.mxf_partial.specs.InStreams.{HasNoneFrom, IsFirstFrom, IsInOrder, Precedes}
 use Rattle.mxf_partial.specs.Streams.{HasNoPartBehind, IsPart, IsPartBehind}
-use Rattle.mxf_partial.specs.Ways.{BeginsLast, HasPlace, HasWay, LeadsTo, way_from, way_of}
+use Rattle.mxf_partial.specs.Ways.{HasPlace, HasWay, LeadsTo, way_from, way_of}
 use Rattle.mxf_partial.proofs.InStreamLaws.{in_order_from, then_less}
 
 abbrev of : StreamPlace → ℕ

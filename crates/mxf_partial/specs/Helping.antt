@@ -1,5 +1,5 @@
 -- What is restored first of a section: what tells more of where units lie (this project's profile).
-use Rattle.std.specs.Prelude.{ℕ, Bool, if◌then◌else◌, Option, None, Some, List, []}
+use Rattle.std.specs.Prelude.{Bool, if◌then◌else◌, Option, None, Some, List, []}
 use Rattle.std.specs.Option.{option_to_list}
 use Rattle.mxf_klv.specs.Parts.{NoteParts}
 use Rattle.mxf_places.specs.AtHand.{AtHandParts}

@@ -1,4 +1,4 @@
-use Rattle.std.proofs.Common.{◌≡◌, ◌↔◌, ◌⊎◌, ◌∙◌, Bool, List, ap, inl, inr, nat_cmp, refl, subst, sym, true}
+use Rattle.std.proofs.Common.{◌≡◌, ◌↔◌, ◌⊎◌, ◌∙◌, Bool, List, ap, inl, inr, nat_cmp, subst, sym, true}
 use Rattle.std.proofs.Common.{false}
 use Rattle.mxf_klv.specs.Rising.{In, IsRising}
 use Rattle.mxf_restore.specs.declared.named.NamedPlace.{NamedPlace}

@@ -1,4 +1,4 @@
-use Rattle.std.proofs.Common.{◌∙◌, min, unwrap_or}
+use Rattle.std.proofs.Common.{◌∙◌, min}
 use Rattle.mxf_klv.specs.Note.{greatest_end}
 use Rattle.mxf_partial.proofs.WantedLaws.{added}
 use Rattle.mxf_partial.proofs.plan.add_order.Goals as goal

@@ -4,7 +4,6 @@ use Rattle.mxf_restore.specs.declared.named.NamedPlace.{NamedPlace}
 use Rattle.mxf_partial.specs.Asks.{IsAskedByIndex, IsAskedByUnit}
 use Rattle.mxf_restore.specs.declared.plan.Order.{Order}
 use Rattle.mxf_partial.proofs.UnitPlanLaws.{found}
-use Rattle.mxf_places.specs.AtHand.{KnownParts}
 use Rattle.mxf_partial.specs.Wanted.{WantedParts}
 use Rattle.mxf_restore.specs.Sections.{sections_of}
 use Rattle.std.proofs.Common.{ap}

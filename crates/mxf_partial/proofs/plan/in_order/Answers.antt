@@ -1,7 +1,5 @@
 use Rattle.std.proofs.Common.{◌∙◌, [], subst, sym}
 use Rattle.mxf_klv.specs.Rising.{IsRising, union}
-use Rattle.mxf_restore.specs.Plan.{order_cmp}
-use Rattle.mxf_restore.specs.declared.plan.Order.{Order}
 use Rattle.mxf_restore.proofs.PlanLaws.{one_order, orders}
 use Rattle.mxf_partial.proofs.plan.in_order.Goals as goal
 

@@ -1,5 +1,3 @@
-use Rattle.std.proofs.Common.{inl, inr, subst}
-use Rattle.mxf_klv.specs.Rising.{In}
 use Rattle.mxf_partial.proofs.UnitPlanLaws.{none_left, wanted_there}
 use Rattle.mxf_partial.proofs.plan.wanted_bytes_are_there.Goals as goal
 

@@ -1,4 +1,4 @@
-use Rattle.std.proofs.Common.{◌≡◌, ◌↔◌, ◌∙◌, ◌+◌, arith, inl, inr, nat_lt, refl, subst, sym, true}
+use Rattle.std.proofs.Common.{◌≡◌, ◌↔◌, ◌+◌, arith, nat_lt, refl, subst, sym, true}
 use Rattle.mxf_units.specs.declared.essence_zone.part.StreamPart.{StreamPart}
 use Rattle.mxf_views.specs.declared.index.place.StreamPlace.{StreamPlace}
 use Rattle.mxf_partial.specs.InStreams.{HasNoneFrom, IsFirstFrom}

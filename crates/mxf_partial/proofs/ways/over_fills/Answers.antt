@@ -1,7 +1,5 @@
-use Rattle.std.proofs.Common.{◌∙◌, List, arith, subst, sym}
+use Rattle.std.proofs.Common.{◌∙◌, List, arith, subst}
 use Rattle.mxf_klv.specs.Parts.{NoteParts}
-use Rattle.mxf_klv.specs.Note.{IsNote, greatest_end}
-use Rattle.mxf_klv.proofs.Lists.{all-In}
 use Rattle.mxf_catalogue.specs.Content.{IsCatalogue}
 use Rattle.mxf_partial.proofs.WayLaws.{far_from_fills}
 use Rattle.mxf_partial.proofs.ways.over_fills.Goals as goal

@@ -1,4 +1,4 @@
-use Rattle.std.proofs.Common.{◌+◌, ap, sym, refl}
+use Rattle.std.proofs.Common.{◌+◌, ap, sym}
 use Rattle.mxf_partial.specs.InStreams.{HasNoneFrom, IsFirstFrom}
 use Rattle.mxf_partial.specs.declared.streams.PartStart.{PartStart}
 use Rattle.mxf_partial.proofs.StreamLaws.{no_part_behind, part_behind, searched}
