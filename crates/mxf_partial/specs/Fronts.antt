@@ -37,8 +37,8 @@ front_by source o = record {
   again = o.again;
 }
 
--- The front of a section of which nothing is restored first, where a place is asked for in it, or in the packet of which
--- it is the rest.
+-- The front of a section of which nothing is restored first, where a place is asked for in it, or in the packet of
+-- which it is the rest.
 pub record IsFrontOf (described : Bool) (at : AtHandParts) (notes : List NoteParts) (asked : List NamedPlace)
     (p : Section) (o : Order) : Type 0 where
   pub none_first : helping_of described at notes p ≡ []

@@ -31,14 +31,15 @@ is_free notes x = is_in_file notes x && not (is_held notes x)
 unfoldable pub way_of : List NoteParts → PartitionParts → Option ℕ
 way_of notes p = option_and_then (λ x. if is_free notes x then Some x else None) (end_of_way notes p)
 
--- The part begins at or below an offset of its stream, and no other of the stream begins behind it and at or below that.
+-- The part begins at or below an offset of its stream, and no other of the stream begins behind it and at or below
+-- that.
 pub record BeginsLast (notes : List NoteParts) (body_sid offset : ℕ) (part : StreamPart) : Type 0 where
   pub body : part.body_sid ≡ body_sid
   pub begins : part.body_offset ≤ offset
   pub last : (q : StreamPart) → IsPart notes body_sid q → q.body_offset ≤ offset → q.body_offset ≤ part.body_offset
 
--- A part without a first packet of essence, that begins last at or below an offset of its stream, and from the partition of
--- which the way leads to the place.
+-- A part without a first packet of essence, that begins last at or below an offset of its stream, and from the
+-- partition of which the way leads to the place.
 pub record LeadsTo (notes : List NoteParts) (body_sid offset : ℕ) (part : StreamPart) (x : ℕ) : Type 0 where
   pub among : In part (parts_of notes)
   pub begins : BeginsLast notes body_sid offset part

@@ -3,15 +3,16 @@
 //!
 //! The order that comes most often is not the whole file but some edit units of it. Where their bytes lie is known once
 //! the index that places them and the partitions of their stream are held. [`UnitPlan`] orders what tells more of that
-//! first: footer partitions and index table segments whole, and the fronts of sections in which partitions may stand. Then
-//! it orders the bytes of the units that are known, less what is held or at hand.
+//! first: footer partitions and index table segments whole, and the fronts of sections in which partitions may stand.
+//! Then it orders the bytes of the units that are known, less what is held or at hand.
 //!
-//! What is proved: [`UnitPlan::of`] answers the one plan for some units ([`one_unit_plan`]). Each byte that is wanted of a
-//! unit is held, at hand or ordered, so where nothing is ordered all of them are there ([`wanted_bytes_are_there`]); and an
-//! order of bytes of units has none that is held or at hand ([`orders_of_units_are_missing`]).
+//! What is proved: [`UnitPlan::of`] answers the one plan for some units ([`one_unit_plan`]). Each byte that is wanted
+//! of a unit is held, at hand or ordered, so where nothing is ordered all of them are there
+//! ([`wanted_bytes_are_there`]); and an order of bytes of units has none that is held or at hand
+//! ([`orders_of_units_are_missing`]).
 //!
-//! That units without an index, or behind packs that nothing names, are found isn't promised. That no order is left in the
-//! end, where what was ordered is handed in again and again, is tested.
+//! That units without an index, or behind packs that nothing names, are found isn't promised. That no order is left in
+//! the end, where what was ordered is handed in again and again, is tested.
 //!
 //! What to restore for the units from `from` up to `to`, that included:
 //!

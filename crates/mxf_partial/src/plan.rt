@@ -13,8 +13,8 @@ ghost use Rattle.mxf_restore.specs.declared.plan.Order.{Order};
 ghost use Rattle.mxf_units.specs.Units.{IsKnown};
 ghost use Rattle.mxf_partial.specs.Named.{AreNamed};
 ghost use Rattle.mxf_places.specs.declared.reason.Reason.{Reason};
-ghost use Rattle.mxf_partial.specs.Orders.{IsFindingOrder, IsOrdered, IsUnitPlan, UnitPlanParts, is_described, known_end};
-ghost use Rattle.mxf_partial.specs.Orders.{unit_order};
+ghost use Rattle.mxf_partial.specs.Orders.{IsFindingOrder, IsOrdered, IsUnitPlan, UnitPlanParts, is_described};
+ghost use Rattle.mxf_partial.specs.Orders.{known_end, unit_order};
 ghost use Rattle.mxf_partial.specs.Wanted.{IsWantedByte, WantedParts, are_indexed, is_indexed};
 
 use crate::asks::asked_places;
@@ -29,8 +29,8 @@ use mxf_views::Views;
 use std::alloc::Global;
 use std::marker::Model;
 
-/// What to restore so that some edit units of an index can be cut out of the file and decoded, as far as what is held says
-/// (this project's profile).
+/// What to restore so that some edit units of an index can be cut out of the file and decoded, as far as what is held
+/// says (this project's profile).
 ///
 /// Whoever restores the bytes of all orders, hands them in beside the rest, and asks again, comes to a plan without
 /// orders, where the packs of the file tell the truth. That is tested, not proved.
@@ -67,8 +67,8 @@ impl UnitPlan {
         })
     }
 
-    /// The orders: what finds partitions and index table segments first, and then the bytes of units; by reason, then by
-    /// start.
+    /// The orders: what finds partitions and index table segments first, and then the bytes of units; by reason, then
+    /// by start.
     pub fn orders(&self) -> &[Order]
         ensures { result.now ≡ self.now.orders }
     {

@@ -93,7 +93,8 @@ impl Streams {
         }
     }
 
-    /// Where the first part of a stream begins that begins behind a place of it, in bytes of the stream: a binary search.
+    /// Where the first part of a stream begins that begins behind a place of it, in bytes of the stream: a binary
+    /// search.
     pub fn beginning_behind(&self, place: StreamPlace) -> Option<u64>
         ensures { (u : UnitsParts) → AreStreams u self.now
             → MatchOption result (HasNoPartBehind u.known.notes place.body_sid place.offset)

@@ -36,8 +36,8 @@ impl InStream for StreamPlace {
     }
 }
 
-/// Adds where the ways go on from the partitions of these places of streams of which no first packet is known, each with
-/// its partition.
+/// Adds where the ways go on from the partitions of these places of streams of which no first packet is known, each
+/// with its partition.
 pub(crate) fn add_ways(
     alloc: Global,
     asked: &mut Vec<NamedPlace>,
@@ -165,8 +165,8 @@ fn free_place(holdings: &Holdings<'_>, place: u128) -> Option<u64>
     }
 }
 
-/// Where the way ends, in bytes, that leads from a partition pack over its header metadata, its index table segments and
-/// fills.
+/// Where the way ends, in bytes, that leads from a partition pack over its header metadata, its index table segments
+/// and fills.
 fn end_of_way(holdings: &Holdings<'_>, partition: &Partition) -> Option<u128>
     ensures { result ≡ end_of_way holdings.now partition.now }
 {
