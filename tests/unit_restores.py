@@ -8,7 +8,8 @@ from the file and handed in, until it orders nothing.
 Files are the examples with an index, and made ones: partitions of one stream, with the index in the footer, in each body
 partition, of units of one size, or with none, and at times with a wrong BodyOffset. In the end all units are held or at
 hand, and with their key frames all their bytes were handed in; of a file without an index, or with a wrong BodyOffset,
-the restore ends. No byte is restored twice, and no unit's but of those that are wanted.
+the restore ends. No byte is restored twice, and where the index lies in one place no more is restored for units than the
+partitions of the wanted ones have up to the last of these.
 
 From the first and the last 65,536 bytes of a recording on, what is restored has as many bytes as the wanted units at
 most, and 65,536 for each front.
@@ -43,17 +44,19 @@ def part_of(rng, size):
 
 @dataclasses.dataclass
 class Recording:
-    """A file: its bytes, the IndexSID, where each unit begins and ends, and the least unit that each needs. `is_found`
-    is whether all that is asked for can be found."""
+    """A file: its bytes, the IndexSID, where each unit begins and ends and where the essence of its partition does, and
+    the least unit that each needs. `is_found` is whether all that is asked for can be found, `in_parts` whether the index
+    lies in many parts: the last unit of one has no end before the next is there."""
 
     data: bytes
     index_sid: int
     units: list
     needs: list
     is_found: bool = True
+    in_parts: bool = False
 
     def wanted(self, first, last):
-        """The ranges of the units of a range, and of those that they need."""
+        """The units of a range, and those that they need."""
         return self.units[min(self.needs[first : last + 1]) : last + 1]
 
 
@@ -82,12 +85,13 @@ def made(rng, kind):
     for line in lines:
         data += packets.bytes_of(packets.packet(line, len(data)))
     needs = [unit - unit % pictures for unit in range(len(units))]
-    return Recording(bytes(data), 1, units, needs, kind not in ("none", "wrong"))
+    return Recording(bytes(data), 1, units, needs, kind not in ("none", "wrong"), kind == "body")
 
 
 def laid_out(rng, kind, counts, sizes, pictures, footer):
     """The packets of a recording, where its footer stands at an offset, and where its units begin and end."""
-    lines = [f"header footer={footer} header-bytes=98", "primer", "fill 20"]
+    metadata = ["primer", "fill 20"]
+    lines = [f"header footer={footer} header-bytes={sized(metadata)}", *metadata]
     units, partitions, at, stream, segments = [], [(0, 0)], sized(lines), 0, []
     for number, count in enumerate(counts):
         first = len(units)
@@ -98,10 +102,10 @@ def laid_out(rng, kind, counts, sizes, pictures, footer):
         begins = stream + (7 if kind == "wrong" and number == len(counts) // 2 else 0)
         lines += [f"body previous={partitions[-1][1]} footer={footer} body-offset={begins} body-sid=2 {stated}", *index]
         partitions.append((2, at))
-        at += sized(lines[-1 - len(index) :])
+        at = origin = at + sized(lines[-1 - len(index) :])
         for size in sizes[first : first + count]:
             lines.append(f"essence {size - 20}")
-            units.append((at, at + size))
+            units.append((at, at + size, origin))
             at, stream = at + size, stream + size
         segments.append(segment)
     if kind == "constant":
@@ -113,16 +117,16 @@ def laid_out(rng, kind, counts, sizes, pictures, footer):
     return [*lines, f"rip {listed}"], units
 
 
-def example(program, name, index_sid):
-    """A recording of examples/, its units as the whole file tells them."""
+def example(program, name, last):
+    """A recording of examples/, its units up to the last one as the whole file tells them."""
     data = (TOP / "examples" / name).read_bytes()
     with tempfile.TemporaryDirectory() as folder:
         restore = Restore(program, folder, data)
         restore.hand_in("at", 0, len(data))
-        told = restore.call("units", "--json", "--index", str(index_sid), "--from", "0", *restore.sources)
+        told = restore.call("units", "--json", "--index", "2", "--from", "0", "--to", str(last), *restore.sources)
     told = [unit for unit in map(json.loads, told.splitlines()) if unit["line"] == "unit"]
     needs = [min(unit["key"] if unit["key"] is not None else unit["unit"], unit["unit"]) for unit in told]
-    return Recording(data, index_sid, [(unit["start"], unit["end"]) for unit in told], needs)
+    return Recording(data, 2, [(unit["start"], unit["end"], told[0]["start"]) for unit in told], needs)
 
 
 class UnitRestore(Restore):
@@ -138,8 +142,10 @@ class UnitRestore(Restore):
         asked = ["--index", str(self.recording.index_sid), "--from", str(self.first), "--to", str(self.last)]
         *lines, self.told = map(json.loads, self.call("plan", "--json", *asked, *self.sources).splitlines())
         orders = [line for line in lines if line["line"] == "restore"]
+        # An order without an end is answered by all that is lost there, and counts for itself.
         for order in orders:
-            self.restored.setdefault(order["reason"], []).append(self.end_of(order) - order["start"])
+            reason = order["reason"] if order["end"] is not None else "open"
+            self.restored.setdefault(reason, []).append(self.end_of(order) - order["start"])
         return orders
 
     def judge(self):
@@ -150,13 +156,15 @@ class UnitRestore(Restore):
         if any(size > FRONT for size in self.restored.get("front", [])):
             raise Wrong("a front is too long")
         wanted = self.recording.wanted(self.first, self.last)
-        if sum(self.restored.get("unit", [])) > sum(end - start for start, end in wanted):
+        # Where an unknown partition may lie before a unit, all of its partition's essence up to there is restored.
+        most = sum(max(end for _, end, of in wanted if of == origin) - origin for origin in {unit[2] for unit in wanted})
+        if not self.recording.in_parts and sum(self.restored.get("unit", [])) > most:
             raise Wrong("more is restored for units than they have")
         if not self.recording.is_found:
             return
         if self.told["held"] + self.told["hand"] != self.told["units"]:
             raise Wrong(f"not all units are there: {self.told}")
-        lost = [(start, end) for start, end in wanted if not self.given.issuperset(range(start, end))]
+        lost = [(start, end) for start, end, _ in wanted if not self.given.issuperset(range(start, end))]
         if lost:
             raise Wrong(f"bytes of wanted units are lost: {lost}")
 
@@ -177,9 +185,9 @@ def try_number(program, number):
     rng = random.Random(f"units {number}")
     kind = rng.choice(("footer", "body", "constant", "none", "wrong", "long GOP", "OP-Atom"))
     if kind == "long GOP":
-        recording = example(program, "op1a_mpeg2_long_gop.mxf", 2)
+        recording = example(program, "op1a_mpeg2_long_gop.mxf", 3)
     elif kind == "OP-Atom":
-        recording = example(program, "opatom_pcm.mxf", 2)
+        recording = example(program, "opatom_pcm.mxf", 9599)
     else:
         recording = made(rng, kind)
     first, last = sorted(rng.randrange(len(recording.units)) for _ in range(2))
@@ -192,12 +200,12 @@ def try_number(program, number):
 
 def try_counted(program, kind):
     """Counts what is restored of a minute in the middle of a recording, from its first and its last bytes on."""
-    recording = example(program, "op1a_mpeg2_long_gop.mxf", 2) if kind == "long GOP" else made(random.Random(kind), kind)
+    recording = example(program, "op1a_mpeg2_long_gop.mxf", 3) if kind == "long GOP" else made(random.Random(kind), kind)
     size, count = len(recording.data), len(recording.units)
     first, last = count // 3, 2 * count // 3
     ends = [(0, min(FRONT, size // 8)), (size - min(FRONT, size // 8), size)]
     restore = played(program, recording, first, last, ends)
-    units = sum(end - start for start, end in recording.wanted(first, last))
+    units = sum(end - start for start, end, _ in recording.wanted(first, last))
     fronts = len(restore.restored.get("front", []))
     total = sum(sum(sizes) for sizes in restore.restored.values())
     if total > units + FRONT * fronts:
