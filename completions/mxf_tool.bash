@@ -51,10 +51,10 @@ _mxf_tool() {
   case $command in
     '') options='show check locate units plan map verify sources join renew help --help --version' ;;
     help) options='show check locate units plan map verify sources join renew' ;;
-    show | check | plan | sources) options='at: range: cat: --json --sources --help' ;;
+    show | check | sources) options='at: range: cat: --json --sources --help' ;;
     map) options='at: range: cat: --columns --rows --json --sources --help' ;;
     locate) options='at: range: cat: --index --unit --json --sources --help' ;;
-    units) options='at: range: cat: --index --from --to --json --sources --help' ;;
+    units | plan) options='at: range: cat: --index --from --to --json --sources --help' ;;
     verify) options='at: range: cat: --against --whole --index --from --to --json --sources --help' ;;
     join) options='at: range: cat: --out --strict --json --sources --help' ;;
     renew) options='at: range: cat: --out --old --strict --json --sources --help' ;;

@@ -23,8 +23,9 @@ A case is some lines of a text file in tests/cases. A number sign begins a comme
                                        sources than of the catalogue, and are asked of the sources alone
     show [WORD ..]                     what `show` prints, or those of its lines that begin with one of the words
         LINE
-    check                              what `check` prints; `locate INDEX UNIT`, `units FROM TO [INDEX]`, `plan`,
-                                       `map COLUMNS ROWS` and `join` stand so too. A word `-` is left out
+    check                              what `check` prints; `locate INDEX UNIT`, `units FROM TO [INDEX]`,
+                                       `plan [INDEX FROM TO]`, `map COLUMNS ROWS` and `join` stand so too. A word `-`
+                                       is left out
         LINE
     verify [whole] [INDEX FROM TO]     what `verify` prints against the pieces of the reference, with `--whole` where
         LINE                           that stands there, and with the units of an index
@@ -59,6 +60,7 @@ COMMANDS = ("show", "check", "locate", "units", "plan", "map", "join", "verify")
 OPTIONS = {
     "locate": ("--index", "--unit"),
     "units": ("--from", "--to", "--index"),
+    "plan": ("--index", "--from", "--to"),
     "map": ("--columns", "--rows"),
     "verify": ("--index", "--from", "--to"),
 }

@@ -18,7 +18,7 @@ TOP = pathlib.Path(__file__).resolve().parent.parent
 LINK = re.compile(r"\[[^\]]*\]\(([^)\s]+)\)")
 CONTRACT = re.compile(r"\[`([\w:]+)`\]\(([^)\s]+\.rt)\)(?: \(((?:`\w+`,? ?)+))?")
 LIBRARIES = (
-    "mxf_klv", "mxf_sets", "mxf_catalogue", "mxf_views", "mxf_places", "mxf_restore", "mxf_units",
+    "mxf_klv", "mxf_sets", "mxf_catalogue", "mxf_views", "mxf_places", "mxf_restore", "mxf_units", "mxf_partial",
     "mxf_read", "mxf_verify", "mxf_hand", "mxf_lines",
 )
 IMPORT = re.compile(r"^ghost use Rattle\.(mxf_\w+)\.specs\.(\w+)\.\{([^}]*)\};", re.MULTILINE)

@@ -14,6 +14,7 @@ pub mod RenewalLines
 pub mod ShownText
 pub mod SourceLines
 pub mod UnitLines
+pub mod UnitPlanLines
 pub mod VerificationLines
 pub mod VerifiedStatus
 pub mod Writing

@@ -20,6 +20,7 @@ mod renewal;
 mod sets;
 mod sources;
 mod strings;
+mod unit_plan;
 mod units;
 mod verification;
 
@@ -40,6 +41,7 @@ use std::alloc::Global;
 use std::io::Write;
 pub use strings::escaped_text_is_given_back;
 use thiserror::Error;
+pub use unit_plan::print_unit_plan;
 use units::print_units;
 pub use verification::{
     Verified, print_verification, verified_status_by_definition, whole_status_by_packets,

@@ -28,6 +28,8 @@ mod renewals;
 #[cfg(test)]
 mod unions;
 #[cfg(test)]
+mod unit_plans;
+#[cfg(test)]
 mod units;
 #[cfg(test)]
 mod values;

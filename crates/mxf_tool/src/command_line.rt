@@ -43,6 +43,8 @@ pub enum Told {
         index: Option<u32>,
         units: AskedUnits,
     },
+    /// What to restore for edit units.
+    UnitPlan(IndexedUnits),
 }
 
 /// What is asked of a verification: whether all of the reference is to be verified, and which edit units are told.
@@ -132,8 +134,13 @@ Example: mxf_tool units --from 250 --to 274 cat:clip.cat"
 
 /// What the help of `plan` ends with.
 const PLAN_HELP: &str = source_help!(
+    "With --index only what edit units of that index need is ordered: their bytes, those of their key frames, and what tells
+where they lie. Without --from the first is unit 0, without --to the last is that of the index. The last line tells how
+many of them are held or at hand, as units does.";
     "Hand in what is restored at START as at:START:PATH, where the order says inside as range:START:PATH. One that says again
-was handed in already: its bytes are damaged, or two sources differ there.
+was handed in already: its bytes are damaged, or two sources differ there. Then ask again, until nothing is ordered.
+
+Status 0 says that nothing is ordered, with --index also that all bytes of each unit are held or at hand.
 
 Example: mxf_tool plan range:62914560:part.bin cat:earlier.cat"
 );
@@ -248,7 +255,8 @@ fn units<'a>(alloc: Global) -> Result<Command<'a>, AllocError> {
 
 fn plan<'a>(alloc: Global) -> Result<Command<'a>, AllocError> {
     let about = "Prints which bytes to restore next, what helps most first";
-    with_sources(alloc, named(alloc, "plan", about, PLAN_HELP))
+    let plan = named(alloc, "plan", about, PLAN_HELP).arg(wanted_index(alloc))?;
+    with_sources(alloc, with_units(alloc, plan)?)
 }
 
 fn map<'a>(alloc: Global) -> Result<Command<'a>, AllocError> {
@@ -262,11 +270,13 @@ fn verify<'a>(alloc: Global) -> Result<Command<'a>, AllocError> {
     let about = "Prints whether the sources are as a reference says, packet by packet";
     let verify = named(alloc, "verify", about, VERIFY_HELP).arg(whole(alloc))?;
     let verify = with_args(verify, against(alloc), units_index(alloc))?;
+    with_sources(alloc, with_units(alloc, verify)?)
+}
+
+/// The command with the first and the last edit unit of the index that it names.
+fn with_units<'a>(alloc: Global, command: Command<'a>) -> Result<Command<'a>, AllocError> {
     let from = from(alloc).requires_arg("index")?;
-    with_sources(
-        alloc,
-        with_args(verify, from, to(alloc).requires_arg("index")?)?,
-    )
+    with_args(command, from, to(alloc).requires_arg("index")?)
 }
 
 /// The subcommand that looks at sources beside each other.
@@ -361,6 +371,12 @@ fn only_index<'a>(alloc: Global) -> Arg<'a> {
 
 fn units_index<'a>(alloc: Global) -> Arg<'a> {
     let help = "The IndexSID of the index table whose edit units are told";
+    number(alloc, "index", value_parser!(u32), help)
+}
+
+fn wanted_index<'a>(alloc: Global) -> Arg<'a> {
+    let help =
+        "The IndexSID of the index table whose edit units are to be restored, and nothing else";
     number(alloc, "index", value_parser!(u32), help)
 }
 
@@ -489,12 +505,20 @@ fn told_of(name: &str, inner: &ArgMatches<'_>, units: AskedUnits) -> Option<Told
             index: inner.get_one("index"),
             units,
         }),
-        "plan" => Some(Told::Answer(Ask::Plan)),
+        "plan" => Some(planned_of(inner, units)),
         "map" => Some(Told::Map(Grid::new(
             inner.get_one("columns").unwrap_or(64),
             inner.get_one("rows").unwrap_or(16),
         )?)),
         _ => None,
+    }
+}
+
+/// What the matches of a command plan: these edit units where they name an index, else all.
+fn planned_of(inner: &ArgMatches<'_>, units: AskedUnits) -> Told {
+    match indexed(inner, units) {
+        Some(units) => Told::UnitPlan(units),
+        None => Told::Answer(Ask::Plan),
     }
 }
 

@@ -29,13 +29,13 @@ use fault::{IndexSids, RunFault};
 use mxf_hand::{PutTogether, put_together};
 use mxf_lines::{
     AnswerFault, Ask, Form, Grid, Verified, answer, print_map, print_renewed, print_sources,
-    print_verification,
+    print_unit_plan, print_verification,
 };
 use mxf_places::AtHand;
 use mxf_read::{
     Extent, GatherFault, Gathered, Given, Part, PartFault, PieceReport, SourceFault, gather,
 };
-use mxf_units::index_sids;
+use mxf_units::{UnitRange, index_sids};
 use mxf_verify::{Readings, Renewed};
 use mxf_views::Views;
 use renewing::print_renewal;
@@ -210,6 +210,11 @@ fn print_held<'a, R: System>(
         Told::Units { index, units } => {
             let ask = ask_of_units(rt.alloc(), &held.gathered.views, index, units)?;
             Printed::Answer(ask, held)
+        }
+        Told::UnitPlan(asked) => {
+            let index = asked.index;
+            let range = range_of(&held.gathered.views, index, asked.units)?;
+            Printed::UnitPlan { index, range, held }
         }
     };
     let exit = print_answer(rt, printed, inputs.form)?;
@@ -461,6 +466,12 @@ fn ungathered<'a>(fault: &GatherFault, sources: &[Source<'a>], last: &LastFault)
 enum Printed<'g, 'n> {
     Answer(Ask, &'g Held),
     Map(Grid, &'g Held),
+    /// What to restore for edit units, by the index of an IndexSID.
+    UnitPlan {
+        index: u32,
+        range: UnitRange,
+        held: &'g Held,
+    },
     Renewed(&'g Renewed<'n>),
     /// What sources hold, each by itself, and the words that name them.
     Beside(&'g Readings<'n>, &'g [String]),
@@ -483,6 +494,10 @@ fn print_lines<W: Write>(
             let Held { gathered, at_hand } = held;
             print_map(alloc, &gathered.views, at_hand, grid, form, writer)?;
             Ok(0)
+        }
+        Printed::UnitPlan { index, range, held } => {
+            let Held { gathered, at_hand } = held;
+            print_unit_plan(alloc, &gathered.views, at_hand, index, range, form, writer)
         }
         Printed::Renewed(renewed) => {
             print_renewed(alloc, renewed, form, writer)?;

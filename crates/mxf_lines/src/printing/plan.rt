@@ -42,20 +42,22 @@ impl Line for DisputedPlace {
 
 /// How many orders there are, their bytes, how many have no end, and the end of the file.
 #[derive(Clone, Copy)]
-struct PlannedLine<'a>(&'a Plan);
+pub struct PlannedLine<'a> {
+    pub orders: &'a [Order],
+    pub end: Option<u64>,
+}
 
 impl<'a> Line for PlannedLine<'a> {
-    ghost line = { λ l. planned_line (length l.0.now.orders) (sum_by ordered_bytes l.0.now.orders)
-        (count_by (λ o. is_none o.end) l.0.now.orders) l.0.now.end };
+    ghost line = { λ l. planned_line (length l.orders.now) (sum_by ordered_bytes l.orders.now)
+        (count_by (λ o. is_none o.end) l.orders.now) l.end };
 
     #[tactic(auto, unfolding(crate::specs::PlanLines::planned_line))]
     fn write_fields(&self, fields: &mut FieldWriter) -> Result<(), AllocError> {
-        let orders = self.0.orders();
         fields.begin("planned", "planned")?;
-        fields.number(" ", "ranges", orders.len())?;
-        fields.number(" ranges ", "bytes", bytes_of(orders))?;
-        fields.number(" bytes ", "open", count_unended(orders))?;
-        fields.known(" open end ", "end", "-", self.0.end())?;
+        fields.number(" ", "ranges", self.orders.len())?;
+        fields.number(" ranges ", "bytes", bytes_of(self.orders))?;
+        fields.number(" bytes ", "open", count_unended(self.orders))?;
+        fields.known(" open end ", "end", "-", self.end)?;
         fields.end("")
     }
 }
@@ -93,7 +95,10 @@ impl<'a> Lines for &'a Plan {
     ghost lines = { λ p. plan_lines p.now };
 
     fn print_to<W: Write>(self, printer: &mut Printer, writer: &mut W) -> Result<(), AnswerFault> {
-        let disputed_places = Then(Each(self.disputed_places()), PlannedLine(self));
-        Then(Each(self.orders()), disputed_places).print_to(printer, writer)
+        let orders = self.orders();
+        let end = self.end();
+        let last = PlannedLine { orders, end };
+        let disputed_places = Then(Each(self.disputed_places()), last);
+        Then(Each(orders), disputed_places).print_to(printer, writer)
     }
 }

@@ -121,7 +121,7 @@ fn write_flags(fields: &mut FieldWriter, flags: Option<u8>) -> Result<(), AllocE
 /// The last line of units: how many there are, how many of them are held, how many others are at hand, and from which
 /// on they need units.
 #[derive(Clone, Copy)]
-struct UnitsLine {
+pub struct UnitsLine {
     units: u64,
     held: u64,
     hand: u64,
@@ -129,6 +129,21 @@ struct UnitsLine {
 }
 
 impl UnitsLine {
+    /// That of the units of a range.
+    pub fn of(units: &Units<'_>, range: UnitRange) -> UnitsLine
+        ensures units { result.units ≡ range.count }
+        ensures held { result.held ≡ held_count (units_from units.now range.first range.count) }
+        ensures hand { result.hand ≡ hand_count (units_from units.now range.first range.count) }
+        ensures from { result.from ≡ needed_from range.first (units_from units.now range.first range.count) }
+        ensures bound { result.held + result.hand ≤ result.units }
+    {
+        let mut last = UnitsLine::of_none(range);
+        for unit in UnitsLeft::of(units, range) {
+            last.add(&unit);
+        }
+        last
+    }
+
     /// That of the units of a range, before any is counted.
     fn of_none(range: UnitRange) -> UnitsLine
         ensures { result ≡ record { units = range.count; held = 0; hand = 0; from = range.first } }
@@ -161,7 +176,7 @@ impl UnitsLine {
     }
 
     /// 0 where each unit is held or at hand, else 1.
-    fn status(&self) -> u8
+    pub fn status(&self) -> u8
         requires { self.now.held + self.now.hand ≤ self.now.units }
         ensures { result ≡ if self.now.held + self.now.hand == self.now.units then 0 else 1 }
     {

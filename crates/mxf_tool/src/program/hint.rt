@@ -26,9 +26,9 @@ impl fmt::Display for Hint<'_, '_> {
             RunFault::NoLastUnit => f.write_str(
                 "the index that is held ends with no unit, or before the first: name the last by --to",
             ),
-            RunFault::TooManyUnits => f.write_str(
-                "1000000 units are printed at most: name the last by --to",
-            ),
+            RunFault::TooManyUnits => {
+                f.write_str("ask for 1000000 units at most, and name the last by --to")
+            }
             RunFault::NoIndex => f.write_str(
                 "no index table segment is held: plan tells what to restore",
             ),

@@ -1,0 +1,64 @@
+//! What to restore for edit units.
+use crate::additions::in_views;
+use crate::files::{M, SEGMENT};
+use crate::units::{add_piece, units_of};
+use mxf_klv::OutOfMemory;
+use mxf_partial::UnitPlan;
+use mxf_places::{AtHand, Reason};
+use mxf_restore::Order;
+use mxf_units::{UnitRange, Units};
+use mxf_views::Views;
+use std::alloc::Global;
+
+/// What to restore for units, also where one growth is refused.
+fn unit_plan_of(
+    alloc: Global,
+    units: &Units<'_>,
+    range: UnitRange,
+) -> Result<UnitPlan, OutOfMemory> {
+    match UnitPlan::of(alloc, units, range) {
+        Ok(plan) => Ok(plan),
+        Err(OutOfMemory) => UnitPlan::of(alloc, units, range),
+    }
+}
+
+/// Whether for the first ten units the footer is ordered, and nothing else.
+fn is_footer_ordered(alloc: Global, units: &Units<'_>) -> bool {
+    let footer = Order {
+        reason: Reason::Footer,
+        start: 108,
+        end: Some(600),
+        source: Some(0),
+        inside: false,
+        again: false,
+    };
+    let Some(range) = UnitRange::new(0, 9) else {
+        return false;
+    };
+    match unit_plan_of(alloc, units, range) {
+        Ok(plan) => plan.orders() == [footer].as_slice() && plan.end().is_none(),
+        Err(OutOfMemory) => false,
+    }
+}
+
+/// Whether it is ordered by what is held.
+fn orders_the_footer(alloc: Global, views: &Views) -> bool {
+    let at_hand = AtHand::nothing(alloc);
+    match units_of(alloc, views, &at_hand) {
+        Ok(units) => is_footer_ordered(alloc, &units),
+        Err(OutOfMemory) => false,
+    }
+}
+
+/// Notes the header of M, which names a footer at 108, and a segment at 600. Whether the footer is ordered.
+fn note_and_order(alloc: Global, views: &mut Views) -> bool {
+    let (header, _) = M.split_at(108);
+    add_piece(alloc, views, 0, header)
+        && add_piece(alloc, views, 600, &SEGMENT)
+        && orders_the_footer(alloc, views)
+}
+
+#[test]
+fn unit_plans(rt: HostRuntime) {
+    assert!(rt; in_views(rt.alloc(), note_and_order));
+}
