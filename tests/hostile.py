@@ -35,7 +35,7 @@ import tempfile
 import time
 
 import notes
-from hostile_files import MANY, SHAPES, TOP, differing_ranges, heads_over_bytes, listed_units, pieces_of
+from hostile_files import MANY, SHAPES, TOP, differing_ranges, heads_over_bytes, listed_units, named_partitions, pieces_of
 from hostile_runs import Run, Wrong, finds, is_shown, read_source, try_file, try_number, without_kind
 
 # The greatest ratio of two times, one of twice as many: n log n at these sizes is below 2.2, a square is 4.
@@ -145,8 +145,8 @@ def seconds_of(run, shape, sources, size):
     """The processor time of each question about sources of so many bytes in a shape."""
     joined = str(run.folder / "joined")
     asked = {"show": [], "check": [], "locate": ["--index", "1", "--unit", "0"], "join": ["--out", joined]}
-    if shape is listed_units:
-        asked["units"] = ["--index", "1"]
+    if shape in (listed_units, named_partitions):
+        asked.update(units=["--index", "1"], plan=["--index", "1"])
     if shape in (differing_ranges, heads_over_bytes):
         asked.update(plan=[], map=[])
     return {name: run.call_once((0, 1), size, name, *words, *sources)[1] for name, words in asked.items()}

@@ -176,6 +176,26 @@ def listed_units(rng, many=None):
     return [(0, laid(["header", "body body-sid=2", "essence 80"] + lines * each))]
 
 
+def named_partitions(rng, many=None):
+    """The catalogue of a file of many body partitions with a unit each, of which some and their essence are lost. The
+    random index pack names them all, or there is none; the index lies in the footer, or some of it is lost."""
+    many = many or rng.choice((2, 40, 1000))
+    lines = ["header"]
+    for number in range(many):
+        lines += [f"body previous={208 * number - 100 if number else 0} body-offset={100 * number} body-sid=2", "essence 80"]
+    footer = 108 + 208 * many
+    lines.append(f"footer previous={footer - 208} footer={footer}")
+    lines += [f"segment start={n} duration=25 entries={','.join(str(100 * unit) for unit in range(n, n + 25))}" for n in range(0, many, 25)]
+    listed = " ".join(f"{rng.choice((2, 2, 2, 3))}:{108 + 208 * number}" for number in range(many))
+    if rng.random() < 0.7:
+        lines.append(f"rip 0:0 {listed} 0:{footer}")
+    found = notes.read_piece(0, laid(lines))[0]
+    share, of_index = rng.choice((0.1, 0.5, 1)), rng.choice((0, 0, 0.2))
+    lost = {108 + 208 * number for number in range(many) if rng.random() < share}
+    lost |= {note.offset for note in found if note.offset > footer and rng.random() < of_index}
+    return [(None, notes.file_of([note for note in found if not {note.offset, note.offset - 108} & lost]))]
+
+
 def long_primer(rng, many=None):
     """A primer pack of many entries, some of one tag, and a set of many items: the longest value that is kept, at times."""
     sizes = ((3, 3), (60, 60), (30000, 16000), (1, 60000), (233016, 16000))
@@ -373,7 +393,7 @@ def two_readings(rng):
 
 SHAPES = (
     spelled_lengths, counts, items, packs_that_name, circles, zones, copies, random_indexes, segments_of_a_unit, listed_units,
-    long_primer, long_batches, named_by_all, disputes, many_packets, noise, mutated, mutated, mutated, two_readings, saved_heads,
+    named_partitions, long_primer, long_batches, named_by_all, disputes, many_packets, noise, mutated, mutated, mutated, two_readings, saved_heads,
     under_one_another, fronts_of_packets, labels_that_fail, ranges, ranges, differing_ranges, heads_over_bytes, named_one_by_one,
 )  # fmt: skip
 
@@ -387,7 +407,7 @@ def pieces_of(number):
 # more than one value has room for.
 MANY = {
     counts: 10000, items: 5000, packs_that_name: 10000, circles: 5000, zones: 5000, copies: 5000,
-    random_indexes: 10000, segments_of_a_unit: 10000, listed_units: 1000, long_primer: 32000, long_batches: 2000, named_by_all: 2000, disputes: 20000,
+    random_indexes: 10000, segments_of_a_unit: 10000, listed_units: 1000, named_partitions: 2000, long_primer: 32000, long_batches: 2000, named_by_all: 2000, disputes: 20000,
     many_packets: 40000, saved_heads: 10000, under_one_another: 10000, labels_that_fail: 100000,
     differing_ranges: 10000, heads_over_bytes: 10000, named_one_by_one: 1000,
 }  # fmt: skip

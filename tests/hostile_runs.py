@@ -188,6 +188,15 @@ def orders(planned, content, hand):
     return all(is_within(start, min(stop, end), ordered) for start, stop in lacking)
 
 
+def orders_of_units(planned, content, hand):
+    """Whether a plan for units tells of these last, and no byte of a range that it orders of them is held by these notes, or
+    at hand."""
+    *lines, _, last = [line.split(" ") for line in planned]
+    there = at_hand.Ranges(notes.held_by(content) + hand.hand.ranges)
+    ordered = [(int(words[1]), None if words[2] == "-" else int(words[2])) for words in lines if words[3] == "unit"]
+    return last[0] == "units" and all(there.lacking(*order) == [order] for order in ordered)
+
+
 def is_within(start, stop, ranges):
     """Whether the bytes from the start on lie in the ranges, which rise, up to the stop."""
     at = bisect.bisect_right(ranges, (start, 2**64)) - 1
@@ -239,6 +248,9 @@ def try_pieces(run, rng, pieces):
         raise Wrong("a place isn't one line")
     if not orders(run.call((0, 1), size, "plan", *sources).splitlines(), content, hand):
         raise Wrong("a plan doesn't order all gaps")
+    units = ["--index", str(rng.choice((1, 2))), "--from", "0", "--to", str(rng.choice((0, 30)))]
+    if not orders_of_units(run.call((0, 1), size, "plan", *units, *sources).splitlines(), content, hand):
+        raise Wrong("a plan for units orders bytes of them that are there")
     if not pictures(run.call((0,), size, "map", *sources).splitlines(), content, hand):
         raise Wrong("a map doesn't tell what is held")
     beside = run.call((int(bool(notes.disputed(content))),), size, "sources", *sources).splitlines()

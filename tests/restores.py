@@ -73,9 +73,9 @@ class Restore:
         self.call("join", "--out", str(path), *sources)
         return path.read_bytes()
 
-    def play(self):
+    def play(self, most_rounds=MOST_ROUNDS):
         """Restores what is ordered until nothing is."""
-        for _ in range(MOST_ROUNDS):
+        for _ in range(most_rounds):
             orders = self.orders()
             if not orders:
                 return

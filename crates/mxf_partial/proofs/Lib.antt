@@ -1,0 +1,14 @@
+pub mod WantedLaws
+pub mod FrontLaws
+pub mod StartLaws
+pub mod ChosenLaws
+pub mod UnitPlanLaws
+pub mod AskLaws
+pub mod InStreamLaws
+pub mod GreatestLaws
+pub mod StreamLaws
+pub mod PlaceLaws
+pub mod NearLaws
+pub mod StreamOne
+pub mod NearPlaces
+pub mod WayLaws

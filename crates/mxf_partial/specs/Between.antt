@@ -7,7 +7,6 @@ use Rattle.mxf_views.specs.Places.{SegmentAtParts}
 use Rattle.mxf_partial.specs.Named.{IsNamed}
 use Rattle.mxf_units.specs.Streams.{segments_for}
 use Rattle.mxf_units.specs.Units.{UnitsParts}
-use Rattle.mxf_units.specs.declared.standing.UnitStanding.{UnitStanding}
 use Rattle.mxf_units.specs.declared.standing.UnitStanding.TheVariants as standings
 use Rattle.mxf_units.specs.declared.unit.EditUnit.{EditUnit}
 use Rattle.mxf_partial.specs.Wanted.{WantedParts, notes_of, wanted_units}

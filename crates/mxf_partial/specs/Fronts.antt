@@ -1,5 +1,6 @@
 -- The fronts that are restored of sections in which places are asked for (this project's profile).
-use Rattle.std.specs.Prelude.{◌≡◌, ℕ, ◌≤◌, Bool, Option, None, Some, List, []}
+use Rattle.std.specs.Prelude.{◌≡◌, ℕ, ◌≤◌, ◌&&◌, nat_le, nat_lt, min, Bool, true, Option, None, Some, List, [], ◌∷◌, filter}
+use Rattle.std.specs.Option.{option_and_then, option_map, option_map_or}
 use Rattle.mxf_klv.specs.Parts.{NoteParts}
 use Rattle.mxf_klv.specs.Rising.{In}
 use Rattle.mxf_places.specs.AtHand.{AtHandParts, LiesBetween}
@@ -36,8 +37,8 @@ front_by source o = record {
   again = o.again;
 }
 
--- The front of a section of which nothing is restored first, where a place is asked for in it, or in the packet of which
--- it is the rest.
+-- The front of a section of which nothing is restored first, where a place is asked for in it, or in the packet of
+-- which it is the rest.
 pub record IsFrontOf (described : Bool) (at : AtHandParts) (notes : List NoteParts) (asked : List NamedPlace)
     (p : Section) (o : Order) : Type 0 where
   pub none_first : helping_of described at notes p ≡ []
@@ -46,3 +47,31 @@ pub record IsFrontOf (described : Bool) (at : AtHandParts) (notes : List NotePar
   pub front : Order
   pub front_is : front_of at notes p ≡ Some front
   pub is : o ≡ front_by source front
+
+-- The same as functions. Lemmas tie them to the relations.
+
+-- The source that goes first of one, where there is one, and another.
+abbrev pub earlier : Option (Option ℕ) → Option ℕ → Option ℕ
+earlier None source = source
+earlier (Some None) source = None
+earlier (Some (Some x)) None = None
+earlier (Some (Some x)) (Some y) = Some (min x y)
+
+abbrev pub first_of : Option (Option ℕ) → List NamedPlace → Option (Option ℕ)
+first_of first [] = first
+first_of first (n ∷ places) = first_of (Some (earlier first n.source)) places
+
+abbrev pub lies_between : ℕ → Option ℕ → NamedPlace → Bool
+lies_between from end n = nat_le from n.place && option_map_or (λ e. nat_lt n.place e) end true
+
+abbrev pub first_source : List NamedPlace → ℕ → Option ℕ → Option (Option ℕ)
+first_source asked from end = first_of None (filter (lies_between from end) asked)
+
+abbrev pub if_none : List Order → Option Order → Option Order
+if_none [] front = front
+if_none (o ∷ orders) front = None
+
+abbrev pub front_order : Bool → AtHandParts → List NoteParts → List NamedPlace → Section → Option Order
+front_order described at notes asked p =
+    if_none (helping_of described at notes p) (option_and_then (λ source. option_map (front_by source) (front_of at notes p))
+    (first_source asked (start_of notes p.first) p.end))

@@ -1,10 +1,14 @@
 pub mod Named
 pub mod Wanted
 pub mod Streams
+pub mod InStreams
+pub mod Greatest
+pub mod StreamTable
 pub mod Near
+pub mod NearTable
 pub mod Between
+pub mod SegmentStarts
 pub mod Ways
-pub mod Beginnings
 pub mod Questions
 pub mod Asks
 pub mod Helping

@@ -1,5 +1,5 @@
 -- The places that packs name and that are missing, as a list (this project's profile).
-use Rattle.std.specs.Prelude.{◌↔◌, ℕ, Option, List}
+use Rattle.std.specs.Prelude.{◌↔◌, ℕ, ◌==◌, Bool, Option, List, find, is_some}
 use Rattle.mxf_klv.specs.Parts.{NoteParts}
 use Rattle.mxf_klv.specs.Rising.{In, IsRising}
 use Rattle.mxf_restore.specs.NamedPlaces.{IsNamedPlace, place_cmp}
@@ -17,3 +17,10 @@ IsNamed notes x = (source : Option ℕ) × IsNamedBy notes x source
 pub record AreNamed (notes : List NoteParts) (named : List NamedPlace) : Type 0 where
   pub rising : IsRising place_cmp named
   pub members : (n : NamedPlace) → In n named ↔ IsNamedPlace notes n
+
+-- The one of some that lies at an offset.
+abbrev pub named_at : List NamedPlace → ℕ → Option NamedPlace
+named_at named x = find (λ n. n.place == x) named
+
+abbrev pub is_named : List NamedPlace → ℕ → Bool
+is_named named x = is_some (named_at named x)

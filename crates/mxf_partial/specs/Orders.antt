@@ -1,16 +1,14 @@
 -- What to restore so that edit units can be cut out of the file (this project's profile).
 use Rattle.std.specs.Prelude.{◌≡◌, ◌↔◌, ℕ, ◌<◌, ◌⊎◌, Bool, true, false, ◌&&◌, nat_lt, if◌then◌else◌, Option, None, Some}
 use Rattle.std.specs.Prelude.{List, [], flat_map}
-use Rattle.std.specs.Option.{option_and_then, option_cmp, option_map_or}
-use Rattle.std.specs.Ordering.{nat_cmp, on, then_cmp}
-use Rattle.mxf_klv.specs.Parts.{NoteParts}
+use Rattle.std.specs.Option.{option_and_then, option_map_or}
 use Rattle.mxf_klv.specs.Note.{greatest_end}
 use Rattle.mxf_klv.specs.Rising.{In, IsRising}
 use Rattle.mxf_catalogue.specs.Covers.{IsCover}
 use Rattle.mxf_catalogue.specs.Runs.{LiesIn}
 use Rattle.mxf_catalogue.specs.declared.run.Run.{Run}
 use Rattle.mxf_views.specs.Copies.{copies_of, preferred_of}
-use Rattle.mxf_places.specs.AtHand.{AtHandParts, KnownParts, lacking}
+use Rattle.mxf_places.specs.AtHand.{AtHandParts, lacking}
 use Rattle.mxf_places.specs.Held.{end_of_file}
 use Rattle.mxf_places.specs.declared.at_hand.OffsetRange.{OffsetRange}
 use Rattle.mxf_places.specs.declared.reason.Reason.TheVariants as reasons
@@ -39,9 +37,8 @@ abbrev pub IsAsked : WantedParts → ℕ → Option ℕ → Type 0
 IsAsked w x source = IsAskedByUnit w x source ⊎ ((helping_orders w ≡ []) × IsAskedByIndex w x source)
 
 -- All places that are asked for, each with the packs by which it is known.
-pub record AreAsked (w : WantedParts) (asked : List NamedPlace) : Type 0 where
-  pub rising : IsRising (then_cmp (on (λ n. n.place) nat_cmp) (on (λ n. n.source) (option_cmp nat_cmp))) asked
-  pub members : (n : NamedPlace) → In n asked ↔ IsAsked w n.place n.source
+abbrev pub AreAsked : WantedParts → List NamedPlace → Type 0
+AreAsked w asked = (n : NamedPlace) → In n asked ↔ IsAsked w n.place n.source
 
 -- The front of a section in which one of them lies.
 pub record IsFrontOrder (w : WantedParts) (o : Order) : Type 0 where
@@ -59,9 +56,9 @@ IsFindingOrder w o = In o (helping_orders w) ⊎ IsFrontOrder w o
 abbrev pub IsThere : WantedParts → ℕ → Type 0
 IsThere w x = IsKnown w.units.known x ⊎ ((o : Order) × IsFindingOrder w o × LiesInOrder o x)
 
--- The same by a list of orders.
-abbrev pub IsThereBy : KnownParts → List Order → ℕ → Type 0
-IsThereBy known orders x = IsKnown known x ⊎ ((o : Order) × In o orders × LiesInOrder o x)
+-- The byte is ordered, as far as files reach.
+abbrev pub IsOrdered : List Order → ℕ → Type 0
+IsOrdered orders x = ((o : Order) × In o orders × LiesInOrder o x) × (x < greatest_end)
 
 -- The runs have the offsets of which this holds, as far as files reach.
 pub record AreOffsetsOf (P : ℕ → Type 0) (runs : List Run) : Type 0 where
@@ -83,25 +80,25 @@ unit_order at r = record {
   again = is_again at (record { start = r.start; end = known_end r.end });
 }
 
--- A maximal range of bytes that are wanted and not there.
-pub record IsUnitOrder (w : WantedParts) (o : Order) : Type 0 where
-  pub wanted : List Run
-  pub wanted_are : AreOffsetsOf (IsWantedByte w) wanted
-  pub there : List Run
-  pub there_are : AreOffsetsOf (IsThere w) there
+-- The order of a maximal range of bytes that are wanted and not there.
+pub record IsUnitOrder (at : AtHandParts) (there wanted : List Run) (o : Order) : Type 0 where
   pub run : Run
   pub among : In run wanted
   pub range : OffsetRange
   pub lacks : In range (lacking there run.start (Some run.end))
-  pub is : o ≡ unit_order (hand_of w) range
+  pub is : o ≡ unit_order at range
 
 -- What is to be restored for the units, and the end of the file where it is known.
 pub record UnitPlanParts : Type 0 where
   pub orders : List Order
   pub end : Option ℕ
 
--- The plan for the units: what finds them, and what is wanted of them.
+-- The plan for the units: what finds them, and what is wanted of them and isn't there.
 pub record IsUnitPlan (w : WantedParts) (p : UnitPlanParts) : Type 0 where
+  pub wanted : List Run
+  pub wanted_are : AreOffsetsOf (IsWantedByte w) wanted
+  pub there : List Run
+  pub there_are : AreOffsetsOf (IsThere w) there
   pub rising : IsRising order_cmp p.orders
-  pub members : (o : Order) → In o p.orders ↔ (IsFindingOrder w o ⊎ IsUnitOrder w o)
+  pub members : (o : Order) → In o p.orders ↔ (IsFindingOrder w o ⊎ IsUnitOrder (hand_of w) there wanted o)
   pub end : p.end ≡ end_of_file (notes_of w)

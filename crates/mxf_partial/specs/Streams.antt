@@ -69,8 +69,9 @@ pub record IsGreatestOffset (u : UnitsParts) (body_sid offset greatest : ℕ) : 
   pub above : offset ≤ greatest
   pub greatest_is : (x : ℕ) → IsEndingPlace u body_sid x → x ≤ greatest
 
--- The file offset below which an offset of a stream lies: the partition behind it stands as far above it as its BodyOffset
--- says at least, and the random index pack as far as what the index gives goes on. None where nothing says so.
+-- The file offset below which an offset of a stream lies: the partition behind it stands as far above it as its
+-- BodyOffset says at least, and the random index pack as far as what the index gives goes on. None where nothing says
+-- so.
 abbrev pub IsHigh : UnitsParts → ℕ → ℕ → Option ℕ → Type 0
 IsHigh u body_sid offset (Some high) =
     ((q : StreamPart) × IsPartBehind u.known.notes body_sid offset q

@@ -1,13 +1,14 @@
 -- The edit units that are wanted of an index, and the bytes that are wanted of them (this project's profile; key frames
 -- are those that entries name, ST 377-1, Index Table Segment).
-use Rattle.std.specs.Prelude.{◌≡◌, ℕ, ◌<◌, Bool, true, false, Option, None, Some, List, Ok}
+use Rattle.std.specs.Prelude.{◌≡◌, ℕ, ◌<◌, Bool, true, false, if◌then◌else◌, Option, None, Some, List, Result, Ok, Err}
 use Rattle.std.specs.List.{list_all}
-use Rattle.std.specs.Option.{option_or}
+use Rattle.std.specs.Option.{option_map_or, option_or}
 use Rattle.mxf_klv.specs.Parts.{NoteParts}
 use Rattle.mxf_klv.specs.Note.{greatest_end}
 use Rattle.mxf_klv.specs.Rising.{In}
 use Rattle.mxf_places.specs.AtHand.{AtHandParts, LiesBetween}
-use Rattle.mxf_partial.specs.Named.{IsNamed}
+use Rattle.mxf_restore.specs.declared.named.NamedPlace.{NamedPlace}
+use Rattle.mxf_partial.specs.Named.{IsNamed, is_named}
 use Rattle.mxf_units.specs.Ranges.{units_with_keys}
 use Rattle.mxf_units.specs.Units.{UnitsParts, location_of}
 use Rattle.mxf_units.specs.declared.location.Location.{Location}
@@ -74,3 +75,28 @@ pub record IsWantedByte (w : WantedParts) (x : ℕ) : Type 0 where
   pub wanted : In unit (wanted_units w)
   pub wants : WantsByte w.units unit x
   pub within : x < greatest_end
+
+-- The same as functions. Lemmas tie them to the relations.
+
+abbrev pub is_limit_named : List NamedPlace → Location → Bool
+is_limit_named named l = option_map_or (is_named named) l.zone.limit false
+
+abbrev pub wanted_at : List NamedPlace → UnitStanding → Location → Option Extent
+wanted_at named standings.Missing l = Some (record { start = l.extent.start; end = reach_of l })
+wanted_at named standings.Part l = Some (record { start = l.extent.start; end = reach_of l })
+wanted_at named standings.Unsure l =
+    if is_limit_named named l then None else Some (record { start = l.zone.origin; end = reach_of l })
+wanted_at named _ l = None
+
+abbrev pub wanted_by : List NamedPlace → UnitStanding → Result Location UnitStanding → Option Extent
+wanted_by named standing (Err other) = None
+wanted_by named standing (Ok l) = wanted_at named standing l
+
+-- The bytes that are wanted of a unit, where some are.
+abbrev pub wanted_of : List NamedPlace → UnitsParts → EditUnit → Option Extent
+wanted_of named u unit = wanted_by named unit.standing (location_of u.known.notes u.index_sid unit.number)
+
+-- An offset of these lies below the end of files.
+abbrev pub HasByteOf : List NamedPlace → UnitsParts → List EditUnit → ℕ → Type 0
+HasByteOf named u units x =
+    ((unit : EditUnit) × In unit units × HasByte (wanted_of named u unit) x) × (x < greatest_end)

@@ -1,22 +1,25 @@
 //! The places that wanted units ask for, each with the pack by which it is known.
-ghost use Rattle.std.specs.Prelude.{◌≡◌, ◌↔◌, ◌⊎◌, true, IfOk, OnOk};
+ghost use Rattle.std.specs.Prelude.{◌≡◌, ◌↔◌, ◌⊎◌, ◌++◌, true, IfOk, OnOk};
+ghost use Rattle.std.specs.List.{filter_map};
+ghost use Rattle.std.specs.List.Sorted.{IsNonDecreasingBy};
 ghost use Rattle.mxf_klv.specs.Rising.{In};
 ghost use Rattle.mxf_restore.specs.declared.named.NamedPlace.{NamedPlace};
+ghost use Rattle.mxf_views.specs.Rises.{RiseBy};
 ghost use Rattle.mxf_partial.specs.Asks.{IsAskedByIndex, IsAskedByUnit};
-ghost use Rattle.mxf_partial.specs.Named.{AreNamed};
-ghost use Rattle.mxf_partial.specs.Questions.{limit_asked, partition_asked, way_asked};
+ghost use Rattle.mxf_partial.specs.Named.{AreNamed, named_at};
 
 use crate::between::add_chosen;
+use crate::named::named_at;
 use crate::near::add_partitions;
 use crate::questions::{limits_asked, numbers_unindexed, partitions_asked, ways_asked};
 use crate::ways::add_ways;
-use mxf_klv::{OutOfMemory, sort_once};
+use mxf_klv::OutOfMemory;
 use mxf_restore::NamedPlace;
 use mxf_units::{UnitRange, Units};
 use std::alloc::Global;
 
-/// The places that are asked for, rising by place and then source; those where the index may go on only where that is
-/// looked for. They take memory.
+/// The places that are asked for, rising; those where the index may go on only where that is looked for. They take
+/// memory.
 pub(crate) fn asked_places(
     alloc: Global,
     units: &Units<'_>,
@@ -29,28 +32,34 @@ pub(crate) fn asked_places(
         ↔ (IsAskedByUnit (record { units = units.now; first = range.first; count = range.count }) n.place n.source
         ⊎ ((is_index_sought ≡ true)
         × IsAskedByIndex (record { units = units.now; first = range.first; count = range.count }) n.place n.source))) }
-    ensures rising { IfOk result (λ v. IsRising named_cmp v.items) }
+    ensures rising { IfOk result (λ v. IsNonDecreasingBy (λ n. n.place) v.items) }
+{
+    let mut asked = asked_by_units(alloc, units, range, named)?;
+    if is_index_sought {
+        let numbers = numbers_unindexed(alloc, units, range)?;
+        add_chosen(alloc, &mut asked, units, named, &numbers)?;
+    }
+    Ok(in_order(asked))
+}
+
+/// The places that units ask for. They take memory.
+fn asked_by_units(
+    alloc: Global,
+    units: &Units<'_>,
+    range: UnitRange,
+    named: &[NamedPlace],
+) -> Result<Vec<NamedPlace>, OutOfMemory>
+    requires { AreNamed units.now.known.notes named.now }
+    ensures { IfOk result (λ v. (n : NamedPlace) → In n v.items
+        ↔ IsAskedByUnit (record { units = units.now; first = range.first; count = range.count }) n.place n.source) }
 {
     let mut asked = Vec::new(alloc);
-    add_partitions(
-        alloc,
-        &mut asked,
-        units,
-        named,
-        &partitions_asked(alloc, units, range)?,
-    )?;
-    add_ways(alloc, &mut asked, units, &ways_asked(alloc, units, range)?)?;
-    add_limits(&mut asked, named, &limits_asked(alloc, units, range)?)?;
-    if is_index_sought {
-        add_chosen(
-            alloc,
-            &mut asked,
-            units,
-            named,
-            &numbers_unindexed(alloc, units, range)?,
-        )?;
-    }
-    sort_once(&mut asked);
+    let partitions = partitions_asked(alloc, units, range)?;
+    add_partitions(alloc, &mut asked, units, named, &partitions)?;
+    let ways = ways_asked(alloc, units, range)?;
+    add_ways(alloc, &mut asked, units, &ways)?;
+    let limits = limits_asked(alloc, units, range)?;
+    add_limits(&mut asked, named, &limits)?;
     Ok(asked)
 }
 
@@ -60,13 +69,22 @@ fn add_limits(
     named: &[NamedPlace],
     limits: &[u64],
 ) -> Result<(), OutOfMemory>
-    ensures { OnOk result ((n : NamedPlace) → In n asked.new.items
-        ↔ (In n asked.old.items ⊎ (In n named.now × In n.place limits.now))) }
+    requires { RiseBy (λ n. n.place) named.now }
+    ensures { OnOk result (asked.new.items ≡ asked.old.items ++ filter_map (named_at named.now) limits.now) }
 {
     for limit in limits {
         if let Some(place) = named_at(named, *limit) {
-            asked.push(place)?;
+            asked.push(*place)?;
         }
     }
     Ok(())
+}
+
+/// The places in their order.
+fn in_order(mut asked: Vec<NamedPlace>) -> Vec<NamedPlace>
+    ensures members { (n : NamedPlace) → In n result.items ↔ In n asked.items }
+    ensures rising { IsNonDecreasingBy (λ n. n.place) result.items }
+{
+    asked.sort_unstable_by_key(|named| named.place);
+    asked
 }

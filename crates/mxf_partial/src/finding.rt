@@ -1,14 +1,10 @@
 //! What is restored to find partitions and index table segments.
-ghost use Rattle.std.specs.Prelude.{◌≡◌, ◌↔◌, ◌⊎◌, Some, flat_map, IfOk, IfSome, MatchOption, OnOk};
+ghost use Rattle.std.specs.Prelude.{◌≡◌, ◌≤◌, ◌++◌, true, false, filter, flat_map, length, nat_lt, IfOk, OnOk};
+ghost use Rattle.std.specs.List.{AllWithin, filter_map};
 ghost use Rattle.std.specs.List.Sorted.{IsNonDecreasingBy};
-ghost use Rattle.std.specs.Option.{option_to_list};
-ghost use Rattle.mxf_klv.specs.Rising.{In};
-ghost use Rattle.mxf_places.specs.AtHand.{LiesBetween};
+ghost use Rattle.std.specs.Option.{option_map_or, option_to_list};
 ghost use Rattle.mxf_restore.specs.Fronts.{front_of};
-ghost use Rattle.mxf_restore.specs.declared.named.NamedPlace.{NamedPlace};
-ghost use Rattle.mxf_restore.specs.declared.plan.Order.{Order};
-ghost use Rattle.mxf_restore.specs.declared.section.Section.{Section};
-ghost use Rattle.mxf_partial.specs.Fronts.{GoesFirst, IsFirstSource, IsFrontOf, front_by};
+ghost use Rattle.mxf_partial.specs.Fronts.{earlier, first_source, front_by, front_order, lies_between};
 ghost use Rattle.mxf_partial.specs.Helping.{helping_of};
 
 use mxf_klv::{OutOfMemory, below};
@@ -65,10 +61,26 @@ pub(crate) fn helping_orders(
 {
     let mut orders = Vec::new(alloc);
     for section in sections {
-        let helping = helping_of(alloc, pieces, *section, is_described)?;
-        orders.extend(helping.into_iter())?;
+        add_helping(alloc, &mut orders, pieces, *section, is_described)?;
     }
     Ok(orders)
+}
+
+/// Adds what is restored first of a section.
+fn add_helping(
+    alloc: Global,
+    orders: &mut Vec<Order>,
+    pieces: &SectionOrders<'_>,
+    section: Section,
+    is_described: bool,
+) -> Result<(), OutOfMemory>
+    ensures { OnOk result (orders.new.items
+        ≡ orders.old.items ++ helping_of is_described pieces.now.at pieces.now.notes section) }
+{
+    for order in helping_of(alloc, pieces, section, is_described)? {
+        orders.push(order)?;
+    }
+    Ok(())
 }
 
 /// Adds the fronts of the sections of which nothing is restored first, and in which places lie that are asked for.
@@ -81,8 +93,8 @@ pub(crate) fn add_fronts(
     asked: &[NamedPlace],
 ) -> Result<(), OutOfMemory>
     requires { IsNonDecreasingBy (λ n. n.place) asked.now }
-    ensures { OnOk result ((o : Order) → In o orders.new.items ↔ (In o orders.old.items
-        ⊎ ((p : Section) × In p sections.now × IsFrontOf is_described pieces.now.at pieces.now.notes asked.now p o))) }
+    ensures { OnOk result (orders.new.items ≡ orders.old.items
+        ++ filter_map (front_order is_described pieces.now.at pieces.now.notes asked.now) sections.now) }
 {
     for section in sections {
         if let Some(front) = front_order(alloc, pieces, *section, is_described, asked)? {
@@ -92,7 +104,7 @@ pub(crate) fn add_fronts(
     Ok(())
 }
 
-/// The front of a section of which nothing is restored first, where a place is asked for in it.
+/// The front of a section of which nothing is restored first, where a place is asked for in it. It takes memory.
 fn front_order(
     alloc: Global,
     pieces: &SectionOrders<'_>,
@@ -101,8 +113,8 @@ fn front_order(
     asked: &[NamedPlace],
 ) -> Result<Option<Order>, OutOfMemory>
     requires { IsNonDecreasingBy (λ n. n.place) asked.now }
-    ensures { IfOk result (λ front. (o : Order) → (front ≡ Some o)
-        ↔ IsFrontOf is_described pieces.now.at pieces.now.notes asked.now section o) }
+    ensures { IfOk result (λ front. front
+        ≡ front_order is_described pieces.now.at pieces.now.notes asked.now section) }
 {
     let helping = helping_of(alloc, pieces, section, is_described)?;
     if !helping.is_empty() {
@@ -132,39 +144,49 @@ fn front_by(front: Order, source: Option<u64>) -> Order
 /// place lies there. Two binary searches, and a look at each of these.
 fn first_source(asked: &[NamedPlace], from: u64, end: Option<u64>) -> Option<Option<u64>>
     requires { IsNonDecreasingBy (λ n. n.place) asked.now }
-    ensures { MatchOption result ((n : NamedPlace) → In n asked.now → ¬ LiesBetween from end n.place)
-        (IsFirstSource asked.now from end) }
+    ensures { result ≡ first_source asked.now from end }
 {
+    let places = between(asked, from, end);
     let mut first = None;
-    for place in between(asked, from, end) {
+    for place in places {
         first = Some(earlier(first, place.source));
     }
     first
 }
 
-/// The source that goes first of one and another, where there is one.
+/// The source that goes first of one, where there is one, and another.
 fn earlier(first: Option<Option<u64>>, source: Option<u64>) -> Option<u64>
-    ensures one { (result ≡ source) ⊎ (first ≡ Some result) }
-    ensures before { GoesFirst result source }
-    ensures first { IfSome first (GoesFirst result) }
+    ensures { result ≡ earlier first source }
 {
-    match first {
-        Some(first) => first.min(source),
-        None => source,
+    match (first, source) {
+        (None, source) => source,
+        (Some(Some(first)), Some(source)) => Some(first.min(source)),
+        _ => None,
     }
 }
 
 /// The places from an offset on, in bytes, up to an end where there is one.
 fn between(asked: &[NamedPlace], from: u64, end: Option<u64>) -> &[NamedPlace]
     requires { IsNonDecreasingBy (λ n. n.place) asked.now }
-    ensures { (n : NamedPlace) → In n result.now ↔ (In n asked.now × LiesBetween from end n.place) }
+    ensures { result.now ≡ filter (lies_between from end) asked.now }
 {
-    let to = match end {
-        Some(end) => below(asked, end),
-        None => asked.len(),
-    };
+    let to = count_below(asked, end);
     let start = below(asked, from).min(to);
     let (front, _) = asked.split_at(to);
     let (_, between) = front.split_at(start);
     between
+}
+
+/// The number of the places below an end, in bytes; all of them where there is none.
+fn count_below(asked: &[NamedPlace], end: Option<u64>) -> usize
+    requires { IsNonDecreasingBy (λ n. n.place) asked.now }
+    ensures bound { result ≤ length asked.now }
+    ensures below { AllWithin (λ n. option_map_or (λ e. nat_lt n.place e) end true ≡ true) asked.now 0 result }
+    ensures above { AllWithin (λ n. option_map_or (λ e. nat_lt n.place e) end true ≡ false) asked.now result
+        (length asked.now) }
+{
+    match end {
+        Some(end) => below(asked, end),
+        None => asked.len(),
+    }
 }

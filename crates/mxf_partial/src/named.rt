@@ -1,15 +1,29 @@
 //! The places that packs name and that are missing.
-ghost use Rattle.std.specs.Prelude.{◌↔◌, IsTrue, List, MatchOption, ◌≡◌};
-ghost use Rattle.mxf_klv.specs.Parts.{NoteParts};
-ghost use Rattle.mxf_partial.specs.Named.{AreNamed, IsNamed, IsNamedBy};
+ghost use Rattle.std.specs.Prelude.{◌≡◌};
+ghost use Rattle.std.specs.Option.{option_copied};
+ghost use Rattle.mxf_views.specs.Rises.{RiseBy};
+ghost use Rattle.mxf_partial.specs.Named.{is_named, named_at};
 
+use mxf_klv::below;
 use mxf_restore::NamedPlace;
 
-/// Whether one of the named places lies at an offset, in bytes: a binary search.
-pub(crate) fn is_named(named: &[NamedPlace], place: u64) -> bool
-    ensures { (notes : List NoteParts) → AreNamed notes named.now → IsTrue result ↔ IsNamed notes place }
+/// The one of the places, which rise, that lies at an offset, in bytes: a binary search.
+pub(crate) fn named_at(named: &[NamedPlace], place: u64) -> Option<&NamedPlace>
+    requires { RiseBy (λ n. n.place) named.now }
+    ensures { option_copied result ≡ named_at named.now place }
 {
-    named
-        .binary_search_by_key(&place, |named| named.place)
-        .is_ok()
+    let found = named.get(below(named, place))?;
+    if found.place == place {
+        Some(found)
+    } else {
+        None
+    }
+}
+
+/// Whether one of the places, which rise, lies at an offset, in bytes.
+pub(crate) fn is_named(named: &[NamedPlace], place: u64) -> bool
+    requires { RiseBy (λ n. n.place) named.now }
+    ensures { result ≡ is_named named.now place }
+{
+    named_at(named, place).is_some()
 }

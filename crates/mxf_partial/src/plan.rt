@@ -1,18 +1,21 @@
 //! What to restore so that edit units can be cut out of the file.
-ghost use Rattle.std.specs.Prelude.{◌≡◌, ◌↔◌, ◌⊎◌, ◌++◌, ◌<◌, [], Some, flat_map, map, IfOk, OnOk, List};
+ghost use Rattle.std.specs.Prelude.{◌≡◌, ◌↔◌, ◌⊎◌, ◌++◌, ◌<◌, ℕ, [], Some, false, true, flat_map, map, IfOk, OnOk};
 ghost use Rattle.std.specs.Option.{option_map_or};
 ghost use Rattle.mxf_klv.specs.Rising.{In, IsRising, union};
 ghost use Rattle.mxf_klv.specs.Note.{greatest_end};
+ghost use Rattle.mxf_catalogue.specs.Covers.{IsCover};
 ghost use Rattle.mxf_catalogue.specs.Runs.{LiesIn};
 ghost use Rattle.mxf_places.specs.AtHand.{lacking};
 ghost use Rattle.mxf_places.specs.Claims.{claims_of};
 ghost use Rattle.mxf_views.specs.Copies.{copies_of, preferred_of};
 ghost use Rattle.mxf_restore.specs.Plan.{LiesInOrder, order_cmp};
 ghost use Rattle.mxf_restore.specs.declared.plan.Order.{Order};
+ghost use Rattle.mxf_units.specs.Units.{IsKnown};
 ghost use Rattle.mxf_partial.specs.Named.{AreNamed};
-ghost use Rattle.mxf_partial.specs.Orders.{AreOffsetsOf, IsFindingOrder, IsThereBy, IsUnitPlan, is_described, known_end};
-ghost use Rattle.mxf_partial.specs.Orders.{unit_order};
-ghost use Rattle.mxf_partial.specs.Wanted.{are_indexed, is_indexed};
+ghost use Rattle.mxf_places.specs.declared.reason.Reason.{Reason};
+ghost use Rattle.mxf_partial.specs.Orders.{IsFindingOrder, IsOrdered, IsUnitPlan, UnitPlanParts, is_described};
+ghost use Rattle.mxf_partial.specs.Orders.{known_end, unit_order};
+ghost use Rattle.mxf_partial.specs.Wanted.{IsWantedByte, WantedParts, are_indexed, is_indexed};
 
 use crate::asks::asked_places;
 use crate::finding::{add_fronts, helping_orders};
@@ -26,8 +29,8 @@ use mxf_views::Views;
 use std::alloc::Global;
 use std::marker::Model;
 
-/// What to restore so that some edit units of an index can be cut out of the file and decoded, as far as what is held says
-/// (this project's profile).
+/// What to restore so that some edit units of an index can be cut out of the file and decoded, as far as what is held
+/// says (this project's profile).
 ///
 /// Whoever restores the bytes of all orders, hands them in beside the rest, and asks again, comes to a plan without
 /// orders, where the packs of the file tell the truth. That is tested, not proved.
@@ -64,8 +67,8 @@ impl UnitPlan {
         })
     }
 
-    /// The orders: what finds partitions and index table segments first, and then the bytes of units; by reason, then by
-    /// start.
+    /// The orders: what finds partitions and index table segments first, and then the bytes of units; by reason, then
+    /// by start.
     pub fn orders(&self) -> &[Order]
         ensures { result.now ≡ self.now.orders }
     {
@@ -101,7 +104,12 @@ fn has_finished_copy(views: &Views) -> bool
 fn are_indexed(units: &Units<'_>, range: UnitRange) -> bool
     ensures { result ≡ are_indexed (record { units = units.now; first = range.first; count = range.count }) }
 {
-    UnitsLeft::with_keys(units, range).all(|unit| is_indexed(unit.standing))
+    for unit in UnitsLeft::with_keys(units, range) {
+        if !is_indexed(unit.standing) {
+            return false;
+        }
+    }
+    true
 }
 
 /// Whether a segment of the index gives a unit a place that stands so.
@@ -128,20 +136,39 @@ fn finding_orders(
     let sections = sections(alloc, units.holdings(), claims)?;
     let pieces = SectionOrders::of(alloc, units.holdings(), units.at_hand(), claims)?;
     let mut orders = helping_orders(alloc, &pieces, &sections, is_described)?;
-    let asked = asked_places(alloc, units, range, named, orders.is_empty())?;
+    let is_index_sought = is_none(&orders);
+    let asked = asked_places(alloc, units, range, named, is_index_sought)?;
     add_fronts(alloc, &mut orders, &pieces, &sections, is_described, &asked)?;
     Ok(orders)
 }
 
+/// Whether there is no order.
+fn is_none(orders: &[Order]) -> bool
+    ensures { (result ≡ true) ↔ (orders.now ≡ []) }
+{
+    match orders {
+        [] => true,
+        _ => false,
+    }
+}
+
 /// The offsets that are held, at hand or ordered. They take memory.
 fn there(alloc: Global, units: &Units<'_>, orders: &[Order]) -> Result<Cover, OutOfMemory>
-    ensures { IfOk result (λ c. AreOffsetsOf (IsThereBy units.now.known orders.now) c) }
+    ensures { IfOk result (λ c. (x : ℕ) → LiesIn c x ↔ (IsKnown units.now.known x ⊎ IsOrdered orders.now x)) }
+{
+    let ordered = ordered(alloc, orders)?;
+    Cover::join(alloc, units.known(), &ordered)
+}
+
+/// The offsets of orders, as far as files reach. They take memory.
+fn ordered(alloc: Global, orders: &[Order]) -> Result<Cover, OutOfMemory>
+    ensures { IfOk result (λ c. (x : ℕ) → LiesIn c x ↔ IsOrdered orders.now x) }
 {
     let mut ordered = Cover::new(alloc);
     for order in orders {
         add_order(&mut ordered, order)?;
     }
-    Cover::join(alloc, units.known(), &ordered)
+    Ok(ordered)
 }
 
 /// Adds the offsets of an order, as far as files reach.
@@ -164,6 +191,7 @@ fn add_unit_orders(
     wanted: &Cover,
     there: &Cover,
 ) -> Result<(), OutOfMemory>
+    requires { IsCover there.now }
     ensures { OnOk result (orders.new.items ≡ orders.old.items
         ++ flat_map (λ r. map (unit_order at_hand.now) (lacking there.now r.start (Some r.end))) wanted.now) }
 {
@@ -217,8 +245,29 @@ fn known_end(end: Option<u64>) -> Option<u64>
 
 /// The orders in their order.
 fn in_order(mut orders: Vec<Order>) -> Vec<Order>
-    ensures { result.items ≡ union order_cmp [] orders.items }
+    ensures members { result.items ≡ union order_cmp [] orders.items }
+    ensures rising { IsRising order_cmp result.items }
 {
     sort_once(&mut orders);
     orders
 }
+
+/// A law of [`UnitPlan::of`]: there is one plan for some units alone.
+pub fn one_unit_plan()
+    ensures { (w : WantedParts) (p q : UnitPlanParts) → IsUnitPlan w p → IsUnitPlan w q → p ≡ q }
+{}
+
+/// A law of [`UnitPlan::orders`]: each byte that is wanted of a unit is held, at hand or ordered; so where nothing is
+/// ordered all of them are held or at hand.
+pub fn wanted_bytes_are_there()
+    ensures ordered { (w : WantedParts) (p : UnitPlanParts) (x : ℕ) → IsUnitPlan w p → IsWantedByte w x
+        → IsKnown w.units.known x ⊎ ((o : Order) × In o p.orders × LiesInOrder o x) }
+    ensures none { (w : WantedParts) (p : UnitPlanParts) (x : ℕ) → IsUnitPlan w p → p.orders ≡ [] → IsWantedByte w x
+        → IsKnown w.units.known x }
+{}
+
+/// A law of [`UnitPlan::orders`]: an order of bytes of units has none that is held or at hand.
+pub fn orders_of_units_are_missing()
+    ensures { (w : WantedParts) (p : UnitPlanParts) (o : Order) (x : ℕ) → IsUnitPlan w p → In o p.orders
+        → o.reason ≡ Reason.Unit → LiesInOrder o x → x < greatest_end → ¬ IsKnown w.units.known x }
+{}

@@ -1,11 +1,10 @@
 //! The bytes that are wanted of edit units.
-ghost use Rattle.std.specs.Prelude.{◌≡◌, ◌↔◌, ◌⊎◌, ◌<◌, ℕ, IfOk, IsTrue, OnOk, List};
+ghost use Rattle.std.specs.Prelude.{◌≡◌, ◌↔◌, ◌⊎◌, ◌<◌, ℕ, IfOk, OnOk};
 ghost use Rattle.mxf_klv.specs.Note.{greatest_end};
-ghost use Rattle.mxf_klv.specs.Parts.{NoteParts};
 ghost use Rattle.mxf_catalogue.specs.Runs.{LiesIn};
-ghost use Rattle.mxf_partial.specs.Named.{AreNamed};
-ghost use Rattle.mxf_partial.specs.Orders.{AreOffsetsOf};
-ghost use Rattle.mxf_partial.specs.Wanted.{HasByte, HasNamedLimit, IsWantedByte, WantsAt, WantsByte, reach_of};
+ghost use Rattle.mxf_views.specs.Rises.{RiseBy};
+ghost use Rattle.mxf_units.specs.Ranges.{units_with_keys};
+ghost use Rattle.mxf_partial.specs.Wanted.{HasByte, HasByteOf, is_limit_named, reach_of, wanted_at, wanted_of};
 
 use crate::named::is_named;
 use mxf_catalogue::Cover;
@@ -21,51 +20,50 @@ pub(crate) fn wanted_bytes(
     range: UnitRange,
     named: &[NamedPlace],
 ) -> Result<Cover, OutOfMemory>
-    requires { AreNamed units.now.known.notes named.now }
-    ensures { IfOk result (λ c. AreOffsetsOf
-        (IsWantedByte (record { units = units.now; first = range.first; count = range.count })) c) }
+    requires { RiseBy (λ n. n.place) named.now }
+    ensures { IfOk result (λ c. (x : ℕ) → LiesIn c x ↔ HasByteOf named.now units.now
+        (units_with_keys units.now range.first range.count) x) }
 {
     let mut wanted = Cover::new(alloc);
     for unit in UnitsLeft::with_keys(units, range) {
-        add_extent(&mut wanted, wanted_of(units, named, &unit))?;
+        add_extent(&mut wanted, wanted_of(named, units, &unit))?;
     }
     Ok(wanted)
 }
 
 /// The bytes that are wanted of a unit, where some are.
-fn wanted_of(units: &Units<'_>, named: &[NamedPlace], unit: &EditUnit) -> Option<Extent>
-    requires { AreNamed units.now.known.notes named.now }
-    ensures { (x : ℕ) → HasByte result x ↔ WantsByte units.now unit.now x }
+fn wanted_of(named: &[NamedPlace], units: &Units<'_>, unit: &EditUnit) -> Option<Extent>
+    requires { RiseBy (λ n. n.place) named.now }
+    ensures { result ≡ wanted_of named.now units.now unit.now }
 {
     match units.location(unit.number) {
-        Ok(location) => wanted_at(named, location, unit.standing),
+        Ok(location) => wanted_at(named, unit.standing, location),
         Err(_) => None,
     }
 }
 
 /// The bytes that are wanted of a unit by where it is looked for.
-fn wanted_at(named: &[NamedPlace], location: Location, standing: UnitStanding) -> Option<Extent>
-    ensures { (notes : List NoteParts) → AreNamed notes named.now
-        → (x : ℕ) → HasByte result x ↔ WantsAt notes location standing x }
+fn wanted_at(named: &[NamedPlace], standing: UnitStanding, location: Location) -> Option<Extent>
+    requires { RiseBy (λ n. n.place) named.now }
+    ensures { result ≡ wanted_at named.now standing location }
 {
-    let end = reach_of(location);
-    match standing {
-        UnitStanding::Missing | UnitStanding::Part => Some(Extent {
-            start: location.extent.start,
-            end,
-        }),
-        UnitStanding::Unsure if !is_limit_named(named, location) => Some(Extent {
-            start: u128::from(location.zone.origin),
-            end,
-        }),
-        _ => None,
-    }
+    let start = match standing {
+        UnitStanding::Missing | UnitStanding::Part => location.extent.start,
+        UnitStanding::Unsure if !is_limit_named(named, location) => {
+            u128::from(location.zone.origin)
+        }
+        _ => return None,
+    };
+    Some(Extent {
+        start,
+        end: reach_of(location),
+    })
 }
 
 /// Whether a pack names the limit of the essence zone, and what begins there isn't held whole.
-pub(crate) fn is_limit_named(named: &[NamedPlace], location: Location) -> bool
-    ensures { (notes : List NoteParts) → AreNamed notes named.now
-        → IsTrue result ↔ HasNamedLimit notes location }
+fn is_limit_named(named: &[NamedPlace], location: Location) -> bool
+    requires { RiseBy (λ n. n.place) named.now }
+    ensures { result ≡ is_limit_named named.now location }
 {
     match location.zone.limit {
         Some(limit) => is_named(named, limit),
@@ -73,7 +71,8 @@ pub(crate) fn is_limit_named(named: &[NamedPlace], location: Location) -> bool
     }
 }
 
-/// Up to where the bytes of a unit may reach: to the next place of its stream, or else to the limit of its essence zone.
+/// Up to where the bytes of a unit may reach: to the next place of its stream, or else to the limit of its essence
+/// zone.
 fn reach_of(location: Location) -> Option<u128>
     ensures { result ≡ reach_of location }
 {

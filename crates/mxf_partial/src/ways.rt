@@ -1,16 +1,18 @@
 //! Where the way from partition packs to their essence goes on over what isn't held (ST 377-1, Partition Pack).
-ghost use Rattle.std.specs.Prelude.{◌≡◌, ◌↔◌, ◌⊎◌, ◌++◌, [], None, Some, if◌then◌else◌, IfOk, OnOk};
-ghost use Rattle.std.specs.List.{filter_map};
-ghost use Rattle.mxf_klv.specs.Rising.{In, IsRising, union};
+ghost use Rattle.std.specs.Prelude.{◌≡◌, ◌↔◌, ◌⊎◌, None, Some, if◌then◌else◌, true, IfOk, OnOk};
+ghost use Rattle.std.specs.Option.{option_and_then};
+ghost use Rattle.mxf_klv.specs.Rising.{In};
+ghost use Rattle.mxf_places.specs.Claims.{over_fills};
 ghost use Rattle.mxf_restore.specs.declared.named.NamedPlace.{NamedPlace};
-ghost use Rattle.mxf_units.specs.EssenceZones.{IsFalling};
+ghost use Rattle.mxf_units.specs.Units.{UnitsParts};
 ghost use Rattle.mxf_units.specs.declared.essence_zone.part.StreamPart.{StreamPart};
 ghost use Rattle.mxf_views.specs.declared.index.place.StreamPlace.{StreamPlace};
-ghost use Rattle.mxf_partial.specs.Beginnings.{beginning_at, beginning_cmp, beginning_of, way_from};
-ghost use Rattle.mxf_places.specs.Claims.{over_fills};
-ghost use Rattle.mxf_partial.specs.Ways.{LeadsTo, end_of_way, is_free, open_end, way_of};
-ghost use Rattle.std.specs.Option.{option_and_then};
+ghost use Rattle.mxf_partial.specs.StreamTable.{AreStreams};
+ghost use Rattle.mxf_partial.specs.InStreams.{IsInOrder};
+ghost use Rattle.mxf_partial.specs.Ways.{HasPlace, HasWay, LeadsTo, end_of_way, is_free, open_end, way_from, way_of};
 
+use crate::in_streams::{Bound, InStream, first_from};
+use crate::streams::Streams;
 use mxf_klv::{MAX, OutOfMemory, sort_once};
 use mxf_places::{Holdings, Stretch, Zone, zone_of};
 use mxf_restore::NamedPlace;
@@ -18,16 +20,24 @@ use mxf_units::{StreamPart, Units, behind_index};
 use mxf_views::{Partition, StreamPlace};
 use std::alloc::Global;
 
-/// Where partitions begin in their streams.
-#[derive(Clone, Copy, Debug, PartialEq, Eq, PartialOrd, Ord)]
-struct Beginning {
-    body_sid: u32,
-    /// In bytes.
-    body_offset: u64,
+impl InStream for StreamPlace {
+    ghost stream = { λ p. p.body_sid };
+
+    ghost offset = { λ p. p.offset };
+
+    ghost tie = { λ p. 0 };
+
+    fn stream(&self) -> u64 {
+        u64::from(self.body_sid)
+    }
+
+    fn offset(&self) -> u128 {
+        self.offset
+    }
 }
 
-/// Adds where the ways go on from the partitions of these places of streams of which no first packet is known, each with
-/// its partition.
+/// Adds where the ways go on from the partitions of these places of streams of which no first packet is known, each
+/// with its partition.
 pub(crate) fn add_ways(
     alloc: Global,
     asked: &mut Vec<NamedPlace>,
@@ -38,88 +48,68 @@ pub(crate) fn add_ways(
         ⊎ ((p : StreamPlace) × (part : StreamPart) × In p places.now
         × LeadsTo units.now.known.notes p.body_sid p.offset part n.place × (n.source ≡ Some part.partition)))) }
 {
-    let beginnings = beginnings(alloc, units.parts(), places)?;
-    add_ways_of(asked, units.holdings(), units.parts(), &beginnings)
+    units.holdings().views().catalogue().laws();
+    let streams = Streams::of(alloc, units)?;
+    let places = in_order(alloc, places)?;
+    add_ways_of(asked, units.holdings(), &streams, &places, units.parts())
 }
 
-/// Where the last partitions begin that begin at or below these places of streams, rising, each once. They take memory.
-fn beginnings(
-    alloc: Global,
-    parts: &[StreamPart],
-    places: &[StreamPlace],
-) -> Result<Vec<Beginning>, OutOfMemory>
-    requires { IsFalling parts.now }
-    ensures members { IfOk result (λ v. v.items ≡ union beginning_cmp [] (filter_map (beginning_at parts.now) places.now)) }
-    ensures rising { IfOk result (λ v. IsRising beginning_cmp v.items) }
-{
-    let found = places
-        .iter()
-        .filter_map(|place| beginning_at(parts, *place));
-    Ok(in_order(found.collect(alloc)?))
-}
-
-/// The beginnings in their order, each once.
-fn in_order(mut beginnings: Vec<Beginning>) -> Vec<Beginning>
-    ensures members { result.items ≡ union beginning_cmp [] beginnings.items }
-    ensures rising { IsRising beginning_cmp result.items }
-{
-    sort_once(&mut beginnings);
-    beginnings
-}
-
-/// Where the last partition begins that begins at or below a place of its stream: a binary search.
-fn beginning_at(parts: &[StreamPart], place: StreamPlace) -> Option<Beginning>
-    requires { IsFalling parts.now }
-    ensures { result ≡ beginning_at parts.now place }
-{
-    let passed = parts.partition_point(|part| {
-        part.body_sid > place.body_sid
-            || (part.body_sid == place.body_sid && u128::from(part.body_offset) > place.offset)
-    });
-    let (_, rest) = parts.split_at(passed);
-    match rest.first() {
-        Some(part) if part.body_sid == place.body_sid => Some(beginning_of(part)),
-        _ => None,
-    }
-}
-
-/// Where the partition begins in its stream.
-fn beginning_of(part: &StreamPart) -> Beginning
-    ensures { result ≡ beginning_of part.now }
-{
-    Beginning {
-        body_sid: part.body_sid,
-        body_offset: part.body_offset,
-    }
-}
-
-/// Adds where the ways go on from those of the parts that begin there, and of which no first packet is known.
+/// Adds where the ways go on from those of some parts in which one of the places lies.
 fn add_ways_of(
     asked: &mut Vec<NamedPlace>,
     holdings: &Holdings<'_>,
+    streams: &Streams,
+    places: &[StreamPlace],
     parts: &[StreamPart],
-    beginnings: &[Beginning],
 ) -> Result<(), OutOfMemory>
-    requires { IsRising beginning_cmp beginnings.now }
-    ensures { OnOk result (asked.new.items
-        ≡ asked.old.items ++ filter_map (way_from holdings.now beginnings.now) parts.now) }
+    ensures { (u : UnitsParts) → AreStreams u streams.now
+        → IsInOrder (λ p. p.body_sid) (λ p. p.offset) (λ p. 0) places.now
+        → OnOk result ((n : NamedPlace) → In n asked.new.items ↔ (In n asked.old.items
+        ⊎ HasWay u.known.notes holdings.now places.now parts.now n)) }
 {
-    let found = parts
-        .iter()
-        .filter_map(|part| way_from(holdings, beginnings, part));
-    Ok(asked.extend(found)?)
+    for part in parts {
+        add_way(asked, holdings, streams, places, part)?;
+    }
+    Ok(())
 }
 
-/// Where the way goes on from a part that begins there, and of which no first packet is known.
-fn way_from(
+/// Adds where the way goes on from a part, where one of the places lies in it.
+fn add_way(
+    asked: &mut Vec<NamedPlace>,
     holdings: &Holdings<'_>,
-    beginnings: &[Beginning],
+    streams: &Streams,
+    places: &[StreamPlace],
     part: &StreamPart,
-) -> Option<NamedPlace>
-    requires { IsRising beginning_cmp beginnings.now }
-    ensures { result ≡ way_from holdings.now beginnings.now part.now }
+) -> Result<(), OutOfMemory>
+    ensures { (u : UnitsParts) → AreStreams u streams.now
+        → IsInOrder (λ p. p.body_sid) (λ p. p.offset) (λ p. 0) places.now
+        → OnOk result ((n : NamedPlace) → In n asked.new.items ↔ (In n asked.old.items
+        ⊎ (HasPlace u.known.notes places.now part.now × (way_from holdings.now part.now ≡ Some n)))) }
 {
-    if part.zone.is_some() || beginnings.binary_search(&beginning_of(part)).is_err() {
+    if !has_place(streams, places, part) {
+        return Ok(());
+    }
+    if let Some(place) = way_from(holdings, part) {
+        asked.push(place)?;
+    }
+    Ok(())
+}
+
+/// The places in the order of streams. They take memory.
+fn in_order(alloc: Global, places: &[StreamPlace]) -> Result<Vec<StreamPlace>, OutOfMemory>
+    ensures members { IfOk result (λ v. (p : StreamPlace) → In p v.items ↔ In p places.now) }
+    ensures order { IfOk result (λ v. IsInOrder (λ p. p.body_sid) (λ p. p.offset) (λ p. 0) v.items) }
+{
+    let mut places = Vec::from_slice(alloc, places)?;
+    sort_once(&mut places);
+    Ok(places)
+}
+
+/// Where the way goes on from a part of which no first packet is known.
+fn way_from(holdings: &Holdings<'_>, part: &StreamPart) -> Option<NamedPlace>
+    ensures { result ≡ way_from holdings.now part.now }
+{
+    if part.zone.is_some() {
         return None;
     }
     let partition = holdings.views().partition_at(part.partition)?;
@@ -129,6 +119,29 @@ fn way_from(
     })
 }
 
+/// Whether one of the places lies at or above where a part begins, and none of its stream begins between the two.
+fn has_place(streams: &Streams, places: &[StreamPlace], part: &StreamPart) -> bool
+    ensures { (u : UnitsParts) → AreStreams u streams.now
+        → IsInOrder (λ p. p.body_sid) (λ p. p.offset) (λ p. 0) places.now
+        → (result ≡ true) ↔ HasPlace u.known.notes places.now part.now }
+{
+    let offset = u128::from(part.body_offset);
+    let from = Bound {
+        from: offset,
+        more: 0,
+    };
+    let Some(place) = first_from(places, u64::from(part.body_sid), from) else {
+        return false;
+    };
+    let beginning = StreamPlace {
+        body_sid: part.body_sid,
+        offset,
+    };
+    match streams.beginning_behind(beginning) {
+        Some(next) => place.offset < u128::from(next),
+        None => true,
+    }
+}
 /// Where the way from a partition pack to its essence goes on, in bytes, over what isn't held.
 #[tactic(auto, unfolding(crate::specs::Ways::way_of))]
 fn way_of(holdings: &Holdings<'_>, partition: &Partition) -> Option<u64>
@@ -152,8 +165,8 @@ fn free_place(holdings: &Holdings<'_>, place: u128) -> Option<u64>
     }
 }
 
-/// Where the way ends, in bytes, that leads from a partition pack over its header metadata, its index table segments and
-/// fills.
+/// Where the way ends, in bytes, that leads from a partition pack over its header metadata, its index table segments
+/// and fills.
 fn end_of_way(holdings: &Holdings<'_>, partition: &Partition) -> Option<u128>
     ensures { result ≡ end_of_way holdings.now partition.now }
 {

@@ -1,0 +1,357 @@
+-- What units ask for, as lists and by definition.
+use Rattle.std.proofs.Common.{◌≡◌, ◌↔◌, ◌⊎◌, ◌∙◌, ◌++◌, ◌+◌, ◌<◌, ◌==◌, ℕ, List, [], ◌∷◌, Option, None, Some, ap, arith, inl, inr}
+use Rattle.std.proofs.Common.{Err, Ok, Result, true, filter_map, map, refl, subst, sym, zero, suc, nat_cmp}
+use Rattle.std.proofs.lemmas.Bool.{eq-eqb, eqb-true}
+use Rattle.std.proofs.lemmas.Option.{same_Some}
+use Rattle.std.specs.List.{range_with_len}
+use Rattle.std.specs.Option.{option_and_then}
+use Rattle.std.specs.Result.{result_ok}
+use Rattle.std.specs.List.{cons_option}
+use Rattle.std.proofs.Common.{◌-◌}
+use Rattle.mxf_klv.specs.Rising.{In, IsRising}
+use Rattle.mxf_klv.proofs.Lists.{In-append, In-filter_map, all_from_In, find-only, found-In}
+use Rattle.mxf_restore.specs.declared.named.NamedPlace.{NamedPlace}
+use Rattle.mxf_units.specs.Streams.{place_of, segments_for}
+use Rattle.mxf_units.specs.Ranges.{needed_from, units_from}
+use Rattle.mxf_units.specs.Units.{UnitsParts, location_of, unit_of}
+use Rattle.mxf_units.specs.declared.essence_zone.part.StreamPart.{StreamPart}
+use Rattle.mxf_units.specs.declared.location.Location.{Location}
+use Rattle.mxf_units.specs.declared.standing.UnitStanding.{UnitStanding}
+use Rattle.mxf_units.specs.declared.standing.UnitStanding.TheVariants as standings
+use Rattle.mxf_units.specs.declared.unit.EditUnit.{EditUnit}
+use Rattle.mxf_views.specs.declared.index.place.StreamPlace.{StreamPlace}
+use Rattle.mxf_partial.specs.Between.{IsOneOf16, LiesBetweenSegments, MayIndex, MayIndexOneOf}
+use Rattle.mxf_partial.specs.Asks.{IsAskedByIndex, IsAskedByUnit, NeedsLimit, NeedsPartition, NeedsWay}
+use Rattle.mxf_partial.specs.Named.{AreNamed, IsNamedBy, named_at}
+use Rattle.mxf_partial.specs.Near.{MayLieAt}
+use Rattle.mxf_partial.specs.Questions.{limit_asked, number_unindexed, partition_asked, way_asked}
+use Rattle.mxf_partial.specs.Wanted.{WantedParts, notes_of, wanted_units}
+use Rattle.mxf_partial.specs.Ways.{LeadsTo}
+use Rattle.mxf_partial.proofs.ChosenLaws.{keys_rise, numbers_rise}
+use Rattle.mxf_klv.proofs.RisingBy.{IsRisingBy, IsRisingFrom, at_or_above, from_lower, one_by_key}
+
+from_ok : {T E : Type 0} (r : Result T E) (x : T) → result_ok r ≡ Some x → r ≡ Ok x
+from_ok (Ok y) x e = ap Ok (same_Some y x e)
+from_ok (Err f) x e = absurd cc
+
+-- ---- which units need a partition
+
+partition_says : (u : UnitsParts) (unit : EditUnit) (p : StreamPlace) → partition_asked u unit ≡ Some p
+    → ((unit.standing ≡ standings.NoPartition) ⊎ (unit.standing ≡ standings.Elsewhere))
+    × (place_of (segments_for u.known.notes u.index_sid) unit.number ≡ Ok p)
+partition_says u unit p e = by unit.standing refl e
+  where
+    by : (s : UnitStanding) → unit.standing ≡ s
+        → Rattle.mxf_partial.specs.Questions.partition_asked_as s u unit ≡ Some p
+        → ((unit.standing ≡ standings.NoPartition) ⊎ (unit.standing ≡ standings.Elsewhere))
+        × (place_of (segments_for u.known.notes u.index_sid) unit.number ≡ Ok p)
+    by standings.NoPartition is f = (inl is, from_ok _ p f)
+    by standings.Elsewhere is f = (inr is, from_ok _ p f)
+    by standings.NotIndexed is f = absurd cc
+    by standings.Ambiguous is f = absurd cc
+    by standings.Several is f = absurd cc
+    by standings.Unknown is f = absurd cc
+    by standings.Unsure is f = absurd cc
+    by standings.Disputed is f = absurd cc
+    by standings.Missing is f = absurd cc
+    by standings.Part is f = absurd cc
+    by standings.Held is f = absurd cc
+    by standings.Hand is f = absurd cc
+
+says_partition : (u : UnitsParts) (unit : EditUnit) (p : StreamPlace)
+    → ((unit.standing ≡ standings.NoPartition) ⊎ (unit.standing ≡ standings.Elsewhere))
+    → place_of (segments_for u.known.notes u.index_sid) unit.number ≡ Ok p → partition_asked u unit ≡ Some p
+says_partition u unit p (inl s) e =
+    ap (λ t. Rattle.mxf_partial.specs.Questions.partition_asked_as t u unit) s ∙ ap result_ok e
+says_partition u unit p (inr s) e =
+    ap (λ t. Rattle.mxf_partial.specs.Questions.partition_asked_as t u unit) s ∙ ap result_ok e
+
+pub partitions_are : (w : WantedParts) (p : StreamPlace)
+    → In p (filter_map (partition_asked w.units) (wanted_units w)) ↔ NeedsPartition w p
+partitions_are w p =
+    let members = In-filter_map (partition_asked w.units) (wanted_units w) p in (
+      λ i.
+          let s = members.0 i in
+          let so = partition_says w.units s.0 p s.2 in
+          record { unit = s.0; wanted = s.1; standing = so.0; place = so.1 },
+      λ n. members.1 (n.unit, n.wanted, says_partition w.units n.unit p n.standing n.place),
+    )
+
+-- ---- which need a way
+
+way_says : (u : UnitsParts) (unit : EditUnit) (p : StreamPlace) → way_asked u unit ≡ Some p
+    → ((unit.standing ≡ standings.Several) ⊎ (unit.standing ≡ standings.Unknown))
+    × (place_of (segments_for u.known.notes u.index_sid) unit.number ≡ Ok p)
+way_says u unit p e = by unit.standing refl e
+  where
+    by : (s : UnitStanding) → unit.standing ≡ s → Rattle.mxf_partial.specs.Questions.way_asked_as s u unit ≡ Some p
+        → ((unit.standing ≡ standings.Several) ⊎ (unit.standing ≡ standings.Unknown))
+        × (place_of (segments_for u.known.notes u.index_sid) unit.number ≡ Ok p)
+    by standings.Several is f = (inl is, from_ok _ p f)
+    by standings.Unknown is f = (inr is, from_ok _ p f)
+    by standings.NotIndexed is f = absurd cc
+    by standings.Ambiguous is f = absurd cc
+    by standings.NoPartition is f = absurd cc
+    by standings.Elsewhere is f = absurd cc
+    by standings.Unsure is f = absurd cc
+    by standings.Disputed is f = absurd cc
+    by standings.Missing is f = absurd cc
+    by standings.Part is f = absurd cc
+    by standings.Held is f = absurd cc
+    by standings.Hand is f = absurd cc
+
+says_way : (u : UnitsParts) (unit : EditUnit) (p : StreamPlace)
+    → ((unit.standing ≡ standings.Several) ⊎ (unit.standing ≡ standings.Unknown))
+    → place_of (segments_for u.known.notes u.index_sid) unit.number ≡ Ok p → way_asked u unit ≡ Some p
+says_way u unit p (inl s) e =
+    ap (λ t. Rattle.mxf_partial.specs.Questions.way_asked_as t u unit) s ∙ ap result_ok e
+says_way u unit p (inr s) e =
+    ap (λ t. Rattle.mxf_partial.specs.Questions.way_asked_as t u unit) s ∙ ap result_ok e
+
+pub ways_are : (w : WantedParts) (p : StreamPlace)
+    → In p (filter_map (way_asked w.units) (wanted_units w)) ↔ NeedsWay w p
+ways_are w p =
+    let members = In-filter_map (way_asked w.units) (wanted_units w) p in (
+      λ i.
+          let s = members.0 i in
+          let so = way_says w.units s.0 p s.2 in
+          record { unit = s.0; wanted = s.1; standing = so.0; place = so.1 },
+      λ n. members.1 (n.unit, n.wanted, says_way w.units n.unit p n.standing n.place),
+    )
+
+-- ---- which need what limits them
+
+limit_by : (r : Result Location UnitStanding) (x : ℕ) → option_and_then (λ (l : Location). l.zone.limit) (result_ok r) ≡ Some x
+    → (l : Location) × (r ≡ Ok l) × (l.zone.limit ≡ Some x)
+limit_by (Ok l) x e = (l, refl, e)
+limit_by (Err s) x e = absurd cc
+
+limit_says : (w : WantedParts) (unit : EditUnit) (x : ℕ) → In unit (wanted_units w) → limit_asked w.units unit ≡ Some x
+    → NeedsLimit w x
+limit_says w unit x i e = by unit.standing refl e
+  where
+    by : (s : UnitStanding) → unit.standing ≡ s
+        → Rattle.mxf_partial.specs.Questions.limit_asked_as s w.units unit ≡ Some x → NeedsLimit w x
+    by standings.Unsure is f =
+        let l = limit_by (location_of (notes_of w) w.units.index_sid unit.number) x f in
+        record { unit = unit; wanted = i; standing = is; location = l.0; location_is = l.1; limit_is = l.2 }
+    by standings.NoPartition is f = absurd cc
+    by standings.Elsewhere is f = absurd cc
+    by standings.NotIndexed is f = absurd cc
+    by standings.Ambiguous is f = absurd cc
+    by standings.Several is f = absurd cc
+    by standings.Unknown is f = absurd cc
+    by standings.Disputed is f = absurd cc
+    by standings.Missing is f = absurd cc
+    by standings.Part is f = absurd cc
+    by standings.Held is f = absurd cc
+    by standings.Hand is f = absurd cc
+
+pub limits_are : (w : WantedParts) (x : ℕ)
+    → In x (filter_map (limit_asked w.units) (wanted_units w)) ↔ NeedsLimit w x
+limits_are w x =
+    let members = In-filter_map (limit_asked w.units) (wanted_units w) x in (
+      λ i. let s = members.0 i in limit_says w s.0 x s.1 s.2,
+      λ n. members.1 (
+        n.unit,
+        n.wanted,
+        ap (λ t. Rattle.mxf_partial.specs.Questions.limit_asked_as t w.units n.unit) n.standing
+            ∙ ap (λ r. option_and_then (λ (l : Location). l.zone.limit) (result_ok r)) n.location_is
+            ∙ n.limit_is,
+      ),
+    )
+
+-- The named ones among limits.
+pub named_limits : (w : WantedParts) (named : List NamedPlace) (limits : List ℕ) (n : NamedPlace)
+    → AreNamed (notes_of w) named → limits ≡ filter_map (limit_asked w.units) (wanted_units w)
+    → In n (filter_map (named_at named) limits) ↔ (NeedsLimit w n.place × IsNamedBy (notes_of w) n.place n.source)
+named_limits w named limits n are is =
+    let members = In-filter_map (named_at named) limits n in (
+      λ i.
+          let s = members.0 i in
+          let f = found-In (λ (m : NamedPlace). m.place == s.0) named n s.2 in
+          let at : n.place ≡ s.0 =
+          eqb-true n.place s.0 (let t : (n.place == s.0) ≡ true = grind (arith, f.1) in t) in (
+            (limits_are w n.place).0 (subst (λ x. In x (filter_map (limit_asked w.units) (wanted_units w))) (sym at)
+                (subst (In s.0) is s.1)),
+            (are.members n).0 f.0,
+          ),
+      λ h.
+          let i = (are.members n).1 h.1 in
+          members.1 (
+            n.place,
+            subst (In n.place) (sym is) ((limits_are w n.place).1 h.0),
+            find-only (λ (m : NamedPlace). m.place == n.place) named n i
+                (let t : (n.place == n.place) ≡ true = eq-eqb n.place n.place refl in grind (arith, t))
+                (λ m k t.
+                one_by_key (λ (m : NamedPlace). m.place) named m n (keys_rise named are.rising) k i
+                (eqb-true m.place n.place (let u : (m.place == n.place) ≡ true = grind (arith, t) in u))),
+          ),
+    )
+
+-- All that units ask for.
+pub asked_are : (w : WantedParts) (named before_ways before_limits asked : List NamedPlace) (limits : List ℕ)
+    (partitions ways : List StreamPlace) (none : List NamedPlace) (n : NamedPlace) → AreNamed (notes_of w) named → none ≡ []
+    → partitions ≡ filter_map (partition_asked w.units) (wanted_units w)
+    → ways ≡ filter_map (way_asked w.units) (wanted_units w)
+    → limits ≡ filter_map (limit_asked w.units) (wanted_units w)
+    → In n before_ways ↔ (In n none ⊎ (In n named × ((p : StreamPlace) × In p partitions
+    × MayLieAt w.units p.body_sid p.offset n.place)))
+    → In n before_limits ↔ (In n before_ways ⊎ ((p : StreamPlace) × (part : StreamPart) × In p ways
+    × LeadsTo (notes_of w) p.body_sid p.offset part n.place × (n.source ≡ Some part.partition)))
+    → asked ≡ before_limits ++ filter_map (named_at named) limits
+    → In n asked ↔ IsAskedByUnit w n.place n.source
+asked_are w named before_ways before_limits asked limits partitions ways none n are empty p_is w_is l_is first second third =
+    let by_limit = named_limits w named limits n are l_is in
+    let parts = In-append n before_limits (filter_map (named_at named) limits) in (
+      λ i. elim (parts.0 (subst (In n) third i)) [
+        | inl k ↦ elim (second.0 k) [
+          | inl m ↦ elim (first.0 m) [
+            | inl i ↦ absurd (subst (In n) empty i)
+            | inr s ↦ inl (
+              (
+                s.1.0,
+                (partitions_are w s.1.0).0 (subst (In s.1.0) p_is s.1.1),
+                s.1.2,
+              ),
+              (are.members n).0 s.0,
+            )
+          ]
+          | inr s ↦ inr (inl (s.0, s.1, (ways_are w s.0).0 (subst (In s.0) w_is s.2), s.3, s.4))
+        ]
+        | inr k ↦ inr (inr (by_limit.0 k))
+      ],
+      λ h. subst (In n) (sym third) (parts.1 (elim h [
+        | inl s ↦ inl (second.1 (inl (first.1 (inr (
+          (are.members n).1 s.1,
+          (s.0.0, subst (In s.0.0) (sym p_is) ((partitions_are w s.0.0).1 s.0.1), s.0.2),
+        )))))
+        | inr k ↦ elim k [
+          | inl s ↦ inl (second.1 (inr (s.0, s.1, subst (In s.0) (sym w_is) ((ways_are w s.0).1 s.2), s.3, s.4)))
+          | inr s ↦ inr (by_limit.1 s)
+        ]
+      ])),
+    )
+
+-- ---- where the index may go on
+
+-- The numbers of units that no segment places, as the units come.
+rising_from : (f : ℕ → EditUnit) → ((n : ℕ) → (f n).number ≡ n) → (first count : ℕ)
+    → IsRisingFrom (λ x. x) first (filter_map number_unindexed (map f (range_with_len first count)))
+rising_from f is first zero = tt
+rising_from f is first (suc count) =
+    one_more (number_unindexed (f first)) refl (rising_from f is (first + 1) count)
+  where
+    number_is : (s : UnitStanding) (x : ℕ)
+        → Rattle.mxf_partial.specs.Questions.number_unindexed_as s (f first) ≡ Some x → x ≡ first
+    number_is standings.NotIndexed x e = sym (same_Some _ _ e) ∙ is first
+    number_is standings.Ambiguous x e = absurd cc
+    number_is standings.NoPartition x e = absurd cc
+    number_is standings.Elsewhere x e = absurd cc
+    number_is standings.Several x e = absurd cc
+    number_is standings.Unknown x e = absurd cc
+    number_is standings.Unsure x e = absurd cc
+    number_is standings.Disputed x e = absurd cc
+    number_is standings.Missing x e = absurd cc
+    number_is standings.Part x e = absurd cc
+    number_is standings.Held x e = absurd cc
+    number_is standings.Hand x e = absurd cc
+
+    one_more : (o : Option ℕ) → number_unindexed (f first) ≡ o
+        → IsRisingFrom (λ x. x) (first + 1) (filter_map number_unindexed (map f (range_with_len (first + 1) count)))
+        → IsRisingFrom (λ x. x) first
+        (cons_option o (filter_map number_unindexed (map f (range_with_len (first + 1) count))))
+    one_more None e rest = from_lower (λ x. x) first (first + 1) _ (omega arith) rest
+    one_more (Some x) e rest =
+        let at = number_is (f first).standing x e in (
+          omega (arith, at),
+          subst (λ k. IsRisingFrom (λ x. x) (k + 1)
+              (filter_map number_unindexed (map f (range_with_len (first + 1) count)))) (sym at) rest,
+        )
+
+rising_by : (low : ℕ) (xs : List ℕ) → IsRisingFrom (λ x. x) low xs → IsRisingBy (λ x. x) xs
+rising_by low [] r = tt
+rising_by low (x ∷ xs) r = (
+  all_from_In (λ y. x < y) xs (λ y i. let l = at_or_above (λ x. x) (x + 1) xs y r.1 i in omega (arith, l)),
+  rising_by (x + 1) xs r.1,
+)
+
+number_of : (u : UnitsParts) (n : ℕ) → (unit_of u.known u.index_sid n).number ≡ n
+unfolding unit_of
+number_of u n = refl
+
+pub numbers_are_rising : (w : WantedParts) → IsRising nat_cmp (filter_map number_unindexed (wanted_units w))
+numbers_are_rising w =
+    let from = needed_from w.first (units_from w.units w.first w.count) in
+    numbers_rise _ (rising_by from _ (rising_from (unit_of w.units.known w.units.index_sid) (number_of w.units) from
+    (w.first - from + w.count)))
+
+numbers_say : (w : WantedParts) (numbers : List ℕ) (x : ℕ) → numbers ≡ filter_map number_unindexed (wanted_units w)
+    → MayIndexOneOf w.units numbers x ↔ MayIndex w x
+numbers_say w numbers x is = (
+  λ m.
+      let s = (In-filter_map number_unindexed (wanted_units w) m.number).0 (subst (In m.number) is m.among) in
+      let so = unindexed_says s.0 m.number s.2 in
+      record {
+        named = m.named;
+        unit = s.0;
+        wanted = s.1;
+        standing = so.0;
+        between = subst (λ n. LiesBetweenSegments (segments_for (notes_of w) w.units.index_sid) n x) (sym so.1) m.between;
+      },
+  λ m. record {
+    named = m.named;
+    number = m.unit.number;
+    among = subst (In m.unit.number) (sym is) ((In-filter_map number_unindexed (wanted_units w) m.unit.number).1 (
+      m.unit,
+      m.wanted,
+      ap (λ s. Rattle.mxf_partial.specs.Questions.number_unindexed_as s m.unit) m.standing,
+    ));
+    between = m.between;
+  },
+)
+  where
+    unindexed_says : (unit : EditUnit) (n : ℕ) → number_unindexed unit ≡ Some n
+        → (unit.standing ≡ standings.NotIndexed) × (unit.number ≡ n)
+    unindexed_says unit n e = by unit.standing refl e
+      where
+        by : (s : UnitStanding) → unit.standing ≡ s
+            → Rattle.mxf_partial.specs.Questions.number_unindexed_as s unit ≡ Some n
+            → (unit.standing ≡ standings.NotIndexed) × (unit.number ≡ n)
+        by standings.NotIndexed is f = (is, same_Some _ _ f)
+        by standings.Ambiguous is f = absurd cc
+        by standings.NoPartition is f = absurd cc
+        by standings.Elsewhere is f = absurd cc
+        by standings.Several is f = absurd cc
+        by standings.Unknown is f = absurd cc
+        by standings.Unsure is f = absurd cc
+        by standings.Disputed is f = absurd cc
+        by standings.Missing is f = absurd cc
+        by standings.Part is f = absurd cc
+        by standings.Held is f = absurd cc
+        by standings.Hand is f = absurd cc
+
+chosen_alike : (P Q : ℕ → Type 0) (x : ℕ) → ((y : ℕ) → P y ↔ Q y) → IsOneOf16 P x → IsOneOf16 Q x
+chosen_alike P Q x same c = record {
+  places = c.places;
+  rising = c.rising;
+  members = λ y. (λ i. (same y).0 ((c.members y).0 i), λ q. (c.members y).1 ((same y).1 q));
+  chosen = c.chosen;
+}
+
+-- What is asked for by units, and where the index may go on.
+pub both_are : (w : WantedParts) (named before asked : List NamedPlace) (numbers : List ℕ) (n : NamedPlace)
+    → AreNamed (notes_of w) named → numbers ≡ filter_map number_unindexed (wanted_units w)
+    → In n before ↔ IsAskedByUnit w n.place n.source
+    → In n asked ↔ (In n before ⊎ (In n named × IsOneOf16 (MayIndexOneOf w.units numbers) n.place))
+    → In n asked ↔ (IsAskedByUnit w n.place n.source ⊎ IsAskedByIndex w n.place n.source)
+both_are w named before asked numbers n are is first second =
+    let to = chosen_alike (MayIndexOneOf w.units numbers) (MayIndex w) n.place (λ y. numbers_say w numbers y is) in
+    let back = chosen_alike (MayIndex w) (MayIndexOneOf w.units numbers) n.place
+    (λ y. let s = numbers_say w numbers y is in (s.1, s.0)) in (
+      λ i. elim (second.0 i) [
+        | inl k ↦ inl (first.0 k)
+        | inr k ↦ inr (to k.1, (are.members n).0 k.0)
+      ],
+      λ h. second.1 (elim h [ inl k ↦ inl (first.1 k) | inr k ↦ inr ((are.members n).1 k.1, back k.0) ]),
+    )

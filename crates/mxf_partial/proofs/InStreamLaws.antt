@@ -1,0 +1,245 @@
+-- Elements of streams in their order: what their places say.
+use Rattle.std.proofs.Common.{◌≡◌, ◌∙◌, ◌<◌, ◌≤◌, ◌-◌, ◌⊎◌, ◌&&◌, ◌||◌, ◌==◌, ℕ, zero, suc, Bool, true, false, List}
+use Rattle.std.proofs.Common.{[], ◌∷◌}
+use Rattle.std.proofs.Common.{Some, refl, sym, ap, subst, inl, inr, arith, eq-eqb, eqb-true, get_or, length, lt-ltb}
+use Rattle.std.proofs.Common.{ltb-true}
+use Rattle.std.proofs.Common.{nat_lt, slice_get}
+use Rattle.std.proofs.lemmas.Bool.{and_from, and_parts, cases_lt}
+use Rattle.std.proofs.lemmas.Option.{get_or_from_slice_get, slice_get_within}
+use Rattle.std.specs.List.Sorted.{IsPartitionPoint, IsPartitionedBy}
+use Rattle.std.specs.List.{AllByRecursion}
+use Rattle.std.specs.Ordering.{ordering_then}
+use Rattle.std.specs.declared.cmp.Ordering.{Ordering}
+use Rattle.std.specs.declared.cmp.Ordering.TheVariants.{Less, Equal, Greater}
+use Rattle.mxf_klv.specs.Rising.{In, IsRising}
+use Rattle.mxf_klv.proofs.Lists.{all-In, In-at, Contains-from_In}
+use Rattle.mxf_klv.proofs.Tests.{either}
+use Rattle.mxf_partial.specs.InStreams.{ArePartedAt, GoesTo, HasNoneBelow, HasNoneFrom, IsBelow, IsFirstFrom, IsInOrder}
+use Rattle.mxf_partial.specs.InStreams.{IsLastBelow, Precedes, is_below}
+
+-- ---- the test
+
+pub says_below : (a x s t : ℕ) → IsBelow a x s t → is_below a x s t ≡ true
+says_below a x s t (inl l) = either _ _ (inl (lt-ltb _ _ l))
+says_below a x s t (inr p) =
+    either _ _ (inr (and_from (a == s) (nat_lt x t) (eq-eqb _ _ p.0) (lt-ltb _ _ p.1)))
+
+pub below_says : (a x s t : ℕ) → is_below a x s t ≡ true → IsBelow a x s t
+below_says a x s t e =
+    elim (nat_lt a s) as (λ b. nat_lt a s ≡ b → (b || ((a == s) && nat_lt x t)) ≡ true → IsBelow a x s t) [
+      | true ↦ λ f g. inl (ltb-true _ _ f)
+      | false ↦ λ f g. let p = and_parts (a == s) (nat_lt x t) g in inr (eqb-true _ _ p.0, ltb-true _ _ p.1)
+    ] refl e
+
+module _ {T : Type 0} (stream offset tie : T → ℕ) where
+  abbrev test : ℕ → ℕ → T → Bool
+  test s t x = is_below (stream x) (offset x) s t
+
+  earlier : (s t : ℕ) (x y : T) → Precedes stream offset tie x y → IsBelow (stream y) (offset y) s t
+      → IsBelow (stream x) (offset x) s t
+  earlier s t x y (inl l) (inl m) = inl (omega (arith, l, m))
+  earlier s t x y (inl l) (inr p) = let e = p.0 in inl (omega (arith, l, e))
+  earlier s t x y (inr p) (inl m) = let e = p.0 in inl (omega (arith, e, m))
+  earlier s t x y (inr p) (inr q) =
+      inr (
+        p.0 ∙ q.0,
+        elim p.1 [
+          | inl l ↦ let m = q.1 in omega (arith, l, m)
+          | inr r ↦ let e = r.0 in let m = q.1 in omega (arith, e, m)
+        ],
+      )
+
+  pub in_order_at : (xs : List T) (i j : ℕ) (d : T) → IsInOrder stream offset tie xs → i < j → j < length xs
+      → Precedes stream offset tie (get_or xs i d) (get_or xs j d)
+  in_order_at [] i j d r l h = absurd (omega arith)
+  in_order_at (x ∷ xs) zero zero d r l h = absurd (omega arith)
+  in_order_at (x ∷ xs) zero (suc j) d r l h =
+      all-In (Precedes stream offset tie x) xs (get_or xs j d) r.0 (In-at xs j d (omega arith))
+  in_order_at (x ∷ xs) (suc i) zero d r l h = absurd (omega arith)
+  in_order_at (x ∷ xs) (suc i) (suc j) d r l h = in_order_at xs i j d r.1 (omega arith) (omega arith)
+
+  pub parted : (s t : ℕ) (xs : List T) → IsInOrder stream offset tie xs → IsPartitionedBy (test s t) xs
+  parted s t xs r i j d l h e =
+      elim (cases_lt i j) [
+        | inl m ↦ says_below _ _ s t (earlier s t (get_or xs i d) (get_or xs j d) (in_order_at xs i j d r m h)
+            (below_says _ _ s t e))
+        | inr m ↦
+            let same : i ≡ j = omega (arith, l, m) in subst (λ k. test s t (get_or xs k d) ≡ true) (sym same) e
+      ]
+
+  pub parted_at : (s t : ℕ) (xs : List T) (k : ℕ)
+      → IsPartitionPoint (λ x. test s t x ≡ true) (λ x. test s t x ≡ false) xs k
+      → ArePartedAt stream offset tie xs s t k
+  parted_at s t xs k point =
+      record {
+        below = λ j d l h. below_says _ _ s t (point.0 j d l h);
+        above = λ j d l h b. let e = says_below _ _ s t b in let f = point.1 j d l h in cc (e, f);
+      }
+
+  goes_to_itself : (x y : T) → y ≡ x → GoesTo stream offset tie y x
+  goes_to_itself x y e = inr (ap offset e, let f = ap tie e in omega (arith, f))
+
+  -- Of two places of the list the element at the first goes to that at the second.
+  at_places : (xs : List T) (i j : ℕ) (x y d : T) → IsInOrder stream offset tie xs → i ≤ j → j < length xs
+      → get_or xs i d ≡ x → get_or xs j d ≡ y → (x ≡ y) ⊎ Precedes stream offset tie x y
+  at_places xs i j x y d r l h e f =
+      elim (cases_lt i j) [
+        | inl m ↦
+            inr (subst (λ u. Precedes stream offset tie u y) e
+            (subst (λ v. Precedes stream offset tie (get_or xs i d) v) f (in_order_at xs i j d r m h)))
+        | inr m ↦
+            let same : i ≡ j = omega (arith, l, m) in inl (sym e ∙ ap (λ k. get_or xs k d) same ∙ f)
+      ]
+
+  module _ (xs : List T) (s t k : ℕ) (r : IsInOrder stream offset tie xs) (p : ArePartedAt stream offset tie xs s t
+      k) where
+    -- An element of the stream below the offset stands before the place, and one from it on doesn't.
+    before : (y : T) (j : ℕ) → j < length xs → get_or xs j y ≡ y → stream y ≡ s → offset y < t → j < k
+    before y j h e same l =
+        elim (cases_lt j k) [
+          | inl m ↦ m
+          | inr m ↦ absurd (subst (λ z. ¬ IsBelow (stream z) (offset z) s t) e (p.above j y m h) (inr (same, l)))
+        ]
+
+    behind : (y : T) (j : ℕ) → get_or xs j y ≡ y → stream y ≡ s → t ≤ offset y → k ≤ j
+    behind y j e same l =
+        elim (cases_lt j k) [
+          | inl m ↦ absurd (elim (subst (λ z. IsBelow (stream z) (offset z) s t) e (p.below j y (omega arith) m)) [
+            | inl n ↦ omega (arith, n, same)
+            | inr q ↦ let n = q.1 in omega (arith, n, l)
+          ])
+          | inr m ↦ m
+        ]
+
+    pub last_found : (x : T) → 0 < k → slice_get xs (k - 1) ≡ Some x → stream x ≡ s
+        → IsLastBelow stream offset tie xs s t x
+    last_found x some at same =
+        let l = slice_get_within xs (k - 1) x at in
+        let e = get_or_from_slice_get xs (k - 1) x x at in
+        record {
+          among = subst (λ z. In z xs) e (In-at xs (k - 1) x l);
+          same = same;
+          below = elim (subst (λ z. IsBelow (stream z) (offset z) s t) e (p.below (k - 1) x (omega arith) (omega
+              arith))) [
+                | inl m ↦ absurd (omega (arith, m, same))
+                | inr q ↦ q.1
+              ];
+          last = λ y h f m.
+              let c = Contains-from_In y xs h in
+              let j = before y c.0 c.1 c.2 f m in
+              elim (at_places xs c.0 (k - 1) y x y r (omega (arith, j)) l c.2 (get_or_from_slice_get xs (k - 1) x y
+              at)) [
+                | inl g ↦ goes_to_itself x y g
+                | inr q ↦ elim q [ inl n ↦ absurd (omega (arith, n, same, f)) | inr g ↦ g.1 ]
+              ];
+        }
+
+    pub none_before : k ≡ 0 → HasNoneBelow stream offset tie xs s t
+    none_before none = λ y h f.
+        elim (cases_lt (offset y) t) [
+          | inl m ↦
+              let c = Contains-from_In y xs h in
+              let j = before y c.0 c.1 c.2 f m in absurd (omega (arith, j, none))
+          | inr m ↦ m
+        ]
+
+    pub other_before : (x : T) → 0 < k → slice_get xs (k - 1) ≡ Some x → (stream x ≡ s → ⊥)
+        → HasNoneBelow stream offset tie xs s t
+    other_before x some at other = λ y h f.
+        let l = slice_get_within xs (k - 1) x at in
+        let e = get_or_from_slice_get xs (k - 1) x x at in
+        elim (cases_lt (offset y) t) [
+          | inl m ↦
+              let c = Contains-from_In y xs h in
+              let j = before y c.0 c.1 c.2 f m in
+              let low : stream x < s =
+              elim (subst (λ z. IsBelow (stream z) (offset z) s t) e (p.below (k - 1) x (omega arith) (omega arith))) [
+                | inl n ↦ n
+                | inr q ↦ absurd (other q.0)
+              ] in
+              absurd (elim (at_places xs c.0 (k - 1) y x y r (omega (arith, j)) l c.2
+              (get_or_from_slice_get xs (k - 1) x y at)) [
+                | inl g ↦ other (ap stream (sym g) ∙ f)
+                | inr q ↦ elim q [
+                  | inl n ↦ omega (arith, n, low, f)
+                  | inr g ↦ let n = g.0 in omega (arith, n, low, f)
+                ]
+              ])
+          | inr m ↦ m
+        ]
+
+    pub first_found : (x : T) → slice_get xs k ≡ Some x → stream x ≡ s → IsFirstFrom stream offset tie xs s t x
+    first_found x at same =
+        let l = slice_get_within xs k x at in
+        let e = get_or_from_slice_get xs k x x at in
+        record {
+          among = subst (λ z. In z xs) e (In-at xs k x l);
+          same = same;
+          above = elim (cases_lt (offset x) t) [
+            | inl m ↦ absurd (subst (λ z. ¬ IsBelow (stream z) (offset z) s t) e (p.above k x (omega arith) l)
+                (inr (same, m)))
+            | inr m ↦ m
+          ];
+          first = λ y h f m.
+              let c = Contains-from_In y xs h in
+              let j = behind y c.0 c.2 f m in
+              elim (at_places xs k c.0 x y y r j c.1 (get_or_from_slice_get xs k x y at) c.2) [
+                | inl g ↦ goes_to_itself y x g
+                | inr q ↦ elim q [ inl n ↦ absurd (omega (arith, n, same, f)) | inr g ↦ g.1 ]
+              ];
+        }
+
+    pub none_behind : length xs ≤ k → HasNoneFrom stream offset tie xs s t
+    none_behind none = λ y h f.
+        elim (cases_lt (offset y) t) [
+          | inl m ↦ m
+          | inr m ↦
+              let c = Contains-from_In y xs h in
+              let l : c.0 < length xs = c.1 in
+              let j = behind y c.0 c.2 f m in absurd (omega (arith, j, l, none))
+        ]
+
+    pub other_behind : (x : T) → slice_get xs k ≡ Some x → (stream x ≡ s → ⊥) → HasNoneFrom stream offset tie xs s t
+    other_behind x at other = λ y h f.
+        let l = slice_get_within xs k x at in
+        let e = get_or_from_slice_get xs k x x at in
+        elim (cases_lt (offset y) t) [
+          | inl m ↦ m
+          | inr m ↦
+              let c = Contains-from_In y xs h in
+              let j = behind y c.0 c.2 f m in
+              let high : s < stream x =
+              elim (cases_lt (stream x) s) [
+                | inl n ↦ absurd (subst (λ z. ¬ IsBelow (stream z) (offset z) s t) e (p.above k x (omega arith) l)
+                    (inl n))
+                | inr n ↦ elim (cases_lt s (stream x)) [
+                  | inl n2 ↦ n2
+                  | inr n2 ↦ absurd (other (omega (arith, n, n2)))
+                ]
+              ] in
+              absurd (elim (at_places xs k c.0 x y y r j c.1 (get_or_from_slice_get xs k x y at) c.2) [
+                | inl g ↦ other (ap stream g ∙ f)
+                | inr q ↦ elim q [
+                  | inl n ↦ omega (arith, n, high, f)
+                  | inr g ↦ let n = g.0 in omega (arith, n, high, f)
+                ]
+              ])
+        ]
+
+-- ---- orders
+
+pub then_less : (a b : Ordering) → ordering_then a b ≡ Less → (a ≡ Less) ⊎ ((a ≡ Equal) × (b ≡ Less))
+then_less Less b e = inl refl
+then_less Equal b e = inr (refl, e)
+then_less Greater b e = absurd cc
+
+-- A list that rises in an order that goes by stream and offset is in order.
+pub in_order_from : {T : Type 0} (stream offset tie : T → ℕ) (R : T → T → Ordering)
+    → ((x y : T) → R x y ≡ Less → Precedes stream offset tie x y) → (xs : List T) → IsRising R xs
+    → IsInOrder stream offset tie xs
+in_order_from stream offset tie R goes [] r = tt
+in_order_from {T} stream offset tie R goes (x ∷ xs) r = (each xs r.0, in_order_from stream offset tie R goes xs r.1)
+  where
+    each : (ys : List T) → AllByRecursion (λ y. R x y ≡ Less) ys → AllByRecursion (Precedes stream offset tie x) ys
+    each [] a = tt
+    each (y ∷ ys) a = (goes x y a.0, each ys a.1)

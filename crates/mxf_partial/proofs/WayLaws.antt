@@ -1,0 +1,284 @@
+-- The ways from partitions of streams, by where these begin.
+use Rattle.std.proofs.Common.{◌≡◌, ◌↔◌, ◌⊎◌, ◌∙◌, ◌+◌, ◌<◌, ◌≤◌, ◌==◌, ℕ, true, false, List, [], ◌∷◌, Option, None, Some, ap, arith}
+use Rattle.std.proofs.Common.{drop, find, get_or, if◌then◌else◌, inl, inr, is_some, length, nat_cmp, nat_lt, refl, suc, subst, sym}
+use Rattle.std.proofs.lemmas.Bool.{eq-eqb, eqb-true, lt-ltb, ltb-false, ltb-true}
+use Rattle.std.proofs.lemmas.Option.{same_Some}
+use Rattle.std.specs.Option.{option_and_then, option_map}
+use Rattle.std.proofs.Common.{◌≢◌, ◌&&◌, ne_eqb}
+use Rattle.mxf_klv.specs.Kind.{kind_of}
+use Rattle.mxf_klv.specs.Note.{IsNote, end_of, greatest_end}
+use Rattle.mxf_catalogue.specs.Content.{IsCatalogue}
+use Rattle.mxf_catalogue.specs.Disputes.{undisputed_notes}
+use Rattle.mxf_catalogue.proofs.DisputeLaws.{In-undisputed_notes}
+use Rattle.mxf_views.specs.Copies.{is_fill}
+use Rattle.mxf_places.specs.Claims.{over_among, over_fills}
+use Rattle.mxf_klv.specs.Parts.{NoteParts}
+use Rattle.mxf_klv.specs.Rising.{In, IsRising}
+use Rattle.mxf_klv.proofs.Lists.{all-In, find-only, found-In}
+use Rattle.mxf_klv.proofs.Tests.{lt_from_less}
+use Rattle.mxf_catalogue.specs.Content.{IsContent}
+use Rattle.mxf_views.proofs.PartitionLaws.{one_there, partitions_rise}
+use Rattle.mxf_views.specs.Places.{place_cmp}
+use Rattle.mxf_places.specs.Claims.{index_of, metadata_of}
+use Rattle.mxf_units.specs.declared.essence_zone.EssenceZone.{EssenceZone}
+use Rattle.std.proofs.lemmas.List.{drop_all}
+use Rattle.std.proofs.Math.Seq.{drop-cons}
+use Rattle.std.specs.declared.cmp.Ordering.TheVariants.{Less}
+use Rattle.std.specs.FinMap.{nat_cmp-IsAntisymmetric}
+use Rattle.mxf_views.specs.Partitions.{PartitionParts, in_numbers, partitions_of}
+use Rattle.mxf_views.specs.declared.index.place.StreamPlace.{StreamPlace}
+use Rattle.mxf_restore.specs.declared.named.NamedPlace.{NamedPlace}
+use Rattle.mxf_units.specs.EssenceZones.{parts_of}
+use Rattle.mxf_units.specs.declared.essence_zone.part.StreamPart.{StreamPart}
+use Rattle.mxf_partial.specs.InStreams.{HasNoneFrom, IsFirstFrom, IsInOrder, Precedes}
+use Rattle.mxf_partial.specs.Streams.{HasNoPartBehind, IsPart, IsPartBehind}
+use Rattle.mxf_partial.specs.Ways.{HasPlace, HasWay, LeadsTo, way_from, way_of}
+use Rattle.mxf_partial.proofs.InStreamLaws.{in_order_from, then_less}
+
+abbrev of : StreamPlace → ℕ
+of p = p.body_sid
+
+abbrev at : StreamPlace → ℕ
+at p = p.offset
+
+abbrev tie : StreamPlace → ℕ
+tie p = 0
+
+module _ (notes : List NoteParts) (places : List StreamPlace) (part : StreamPart) (from : ℕ)
+    (is_from : from ≡ part.body_offset) where
+  -- No place lies at or above where the part begins.
+  pub no_place : HasNoneFrom of at tie places part.body_sid from → ¬ HasPlace notes places part
+  no_place none h =
+      let l = none h.0 h.1 (sym h.2.body) in
+      let begins = h.2.begins in omega (arith, l, begins, is_from)
+
+  -- One does, and no part begins behind.
+  pub last_place : (p : StreamPlace) → IsFirstFrom of at tie places part.body_sid from p
+      → HasNoPartBehind notes part.body_sid part.body_offset → HasPlace notes places part
+  last_place p is none =
+      let above = is.above in (
+        p,
+        is.among,
+        record {
+          body = sym is.same;
+          begins = omega (arith, above, is_from);
+          last = λ q k l. none q (subst (λ b. IsPart notes b q) is.same k);
+        },
+      )
+
+  -- One does, and the first part behind begins there.
+  pub by_next : (p : StreamPlace) (next : ℕ) → IsFirstFrom of at tie places part.body_sid from p
+      → ((q : StreamPart) × IsPartBehind notes part.body_sid part.body_offset q × (q.body_offset ≡ next))
+      → (nat_lt p.offset next ≡ true) ↔ HasPlace notes places part
+  by_next p next is (q, behind, e) = (
+    λ t.
+        let less = ltb-true p.offset next t in
+        let above = is.above in (
+          p,
+          is.among,
+          record {
+            body = sym is.same;
+            begins = omega (arith, above, is_from);
+            last = λ r k l. by_order r (subst (λ b. IsPart notes b r) is.same k) l less;
+          },
+        ),
+    λ h.
+        let above = h.2.begins in
+        let far = behind.behind in
+        let here : p.offset ≤ h.0.offset = elim (is.first h.0 h.1 (sym h.2.body) (omega (arith, above, is_from))) [
+          | inl l ↦ omega (arith, l)
+          | inr s ↦ let same = s.0 in omega (arith, same)
+        ] in
+        lt-ltb p.offset next (before_next h here far),
+  )
+    where
+      by_order : (r : StreamPart) → IsPart notes part.body_sid r → r.body_offset ≤ p.offset → p.offset < next
+          → r.body_offset ≤ part.body_offset
+      by_order r k l less =
+          elim (nat_lt part.body_offset r.body_offset) as (λ b. nat_lt part.body_offset r.body_offset ≡ b
+          → r.body_offset ≤ part.body_offset) [
+            | true ↦ λ t.
+                let up = ltb-true part.body_offset r.body_offset t in
+                elim (behind.first r k up) [
+                  | inl m ↦ omega (arith, m, l, less, e)
+                  | inr s ↦ let same = s.0 in omega (arith, same, l, less, e)
+                ]
+            | false ↦ λ t. ltb-false part.body_offset r.body_offset t
+          ] refl
+
+      before_next : (h : HasPlace notes places part) → p.offset ≤ h.0.offset → part.body_offset < q.body_offset
+          → p.offset < next
+      before_next h here far =
+          elim (nat_lt p.offset next) as (λ b. nat_lt p.offset next ≡ b → p.offset < next) [
+            | true ↦ λ t. ltb-true p.offset next t
+            | false ↦ λ t.
+                let over = ltb-false p.offset next t in
+                let last = h.2.last q (subst (λ b. IsPart notes b q) h.2.body behind.part) (omega (arith, over, here, e)) in
+                omega (arith, last, far)
+          ] refl
+
+-- ---- the way from the partition of a part
+
+in_numbers_alike : (notes : List NoteParts) (p : PartitionParts) → way_of notes (in_numbers p) ≡ way_of notes p
+unfolding way_of metadata_of index_of
+in_numbers_alike notes p = refl
+
+way_says : (notes : List NoteParts) (part : StreamPart) (n : NamedPlace) → way_from notes part ≡ Some n
+    → (p : PartitionParts) × In p (partitions_of notes) × (p.offset ≡ part.partition) × (way_of notes p ≡ Some n.place)
+    × (part.zone ≡ None) × (n.source ≡ Some part.partition)
+way_says notes part n e = by_zone part.zone refl e
+  where
+    by_place : (p : PartitionParts) → find (λ q. q.offset == part.partition) (partitions_of notes) ≡ Some p
+        → part.zone ≡ None → (o : Option ℕ) → way_of notes (in_numbers p) ≡ o
+        → option_map (λ x. record { place = x; source = Some part.partition }) o ≡ Some n
+        → (p : PartitionParts) × In p (partitions_of notes) × (p.offset ≡ part.partition)
+        × (way_of notes p ≡ Some n.place) × (part.zone ≡ None) × (n.source ≡ Some part.partition)
+    by_place p is none None w f = absurd cc
+    by_place p is none (Some x) w f =
+        let found = found-In (λ (q : PartitionParts). q.offset == part.partition) (partitions_of notes) p is in
+        let same = same_Some _ n f in (
+          p,
+          found.0,
+          eqb-true p.offset part.partition (let t : (p.offset == part.partition) ≡ true = grind (arith, found.1) in t),
+          sym (in_numbers_alike notes p) ∙ w ∙ ap (λ (m : NamedPlace). Some m.place) same,
+          none,
+          sym (ap (λ (m : NamedPlace). m.source) same),
+        )
+
+    by_partition : (o : Option PartitionParts) → find (λ q. q.offset == part.partition) (partitions_of notes) ≡ o
+        → part.zone ≡ None
+        → option_map (λ x. record { place = x; source = Some part.partition })
+        (option_and_then (way_of notes) (option_map in_numbers o)) ≡ Some n
+        → (p : PartitionParts) × In p (partitions_of notes) × (p.offset ≡ part.partition)
+        × (way_of notes p ≡ Some n.place) × (part.zone ≡ None) × (n.source ≡ Some part.partition)
+    by_partition None is none f = absurd cc
+    by_partition (Some p) is none f = by_place p is none (way_of notes (in_numbers p)) refl f
+
+    by_zone : (z : Option EssenceZone) → part.zone ≡ z
+        → (if is_some z then None else option_map (λ x. record { place = x; source = Some part.partition })
+        (option_and_then (way_of notes) (option_map in_numbers (find (λ q. q.offset == part.partition)
+        (partitions_of notes))))) ≡ Some n
+        → (p : PartitionParts) × In p (partitions_of notes) × (p.offset ≡ part.partition)
+        × (way_of notes p ≡ Some n.place) × (part.zone ≡ None) × (n.source ≡ Some part.partition)
+    by_zone None none f = by_partition (find (λ q. q.offset == part.partition) (partitions_of notes)) refl none f
+    by_zone (Some z) some f = absurd cc
+
+says_way : (notes : List NoteParts) (part : StreamPart) (p : PartitionParts) (n : NamedPlace) → IsContent notes
+    → In p (partitions_of notes) → p.offset ≡ part.partition → way_of notes p ≡ Some n.place → part.zone ≡ None
+    → n.source ≡ Some part.partition → way_from notes part ≡ Some n
+says_way notes part p n content i at w none source =
+    let found = find-only (λ (q : PartitionParts). q.offset == part.partition) (partitions_of notes) p i
+    (let t : (p.offset == part.partition) ≡ true = eq-eqb p.offset part.partition at in grind (arith, t))
+    (λ q k t.
+    one_there (partitions_of notes) q p (partitions_rise notes content) k i
+    (eqb-true q.offset part.partition (let u : (q.offset == part.partition) ≡ true = grind (arith, t) in u) ∙ sym at)) in
+    ap (λ z. if is_some z then None else option_map (λ x. record { place = x; source = Some part.partition })
+    (option_and_then (way_of notes) (option_map in_numbers (find (λ q. q.offset == part.partition)
+    (partitions_of notes))))) none
+    ∙ ap (λ o. option_map (λ x. record { place = x; source = Some part.partition })
+    (option_and_then (way_of notes) (option_map in_numbers o))) found
+    ∙ ap (option_map (λ x. record { place = x; source = Some part.partition })) (in_numbers_alike notes p ∙ w)
+    ∙ (λ i. Some (record { place = n.place; source = sym source i }))
+
+pub ways_are : (notes : List NoteParts) (places others : List StreamPlace) (n : NamedPlace) → IsContent notes
+    → ((p : StreamPlace) → In p others ↔ In p places)
+    → HasWay notes notes others (parts_of notes) n
+    ↔ ((p : StreamPlace) × (part : StreamPart) × In p places × LeadsTo notes p.body_sid p.offset part n.place
+    × (n.source ≡ Some part.partition))
+ways_are notes places others n content same = (
+  λ h.
+      let w = way_says notes h.0 n h.3 in (
+        h.2.0,
+        h.0,
+        (same h.2.0).0 h.2.1,
+        record {
+          among = h.1;
+          begins = h.2.2;
+          unknown = w.4;
+          partition = w.0;
+          held = w.1;
+          offset_is = w.2;
+          way = w.3;
+        },
+        w.5,
+      ),
+  λ s. (
+    s.1,
+    s.3.among,
+    (s.0, (same s.0).1 s.2, s.3.begins),
+    says_way notes s.1 s.3.partition n content s.3.held s.3.offset_is s.3.way s.3.unknown s.4,
+  ),
+)
+
+-- ---- one part after another
+
+-- One part more.
+pub one_part_more : (notes held : List NoteParts) (places : List StreamPlace) (parts : List StreamPart) (i : ℕ)
+    (d : StreamPart) (old mid new : List NamedPlace) (n : NamedPlace) → i < length parts
+    → In n new ↔ (In n mid ⊎ (HasPlace notes places (get_or parts i d) × (way_from held (get_or parts i d) ≡ Some n)))
+    → (In n mid ⊎ HasWay notes held places (drop i parts) n) ↔ (In n old ⊎ HasWay notes held places parts n)
+    → (In n new ⊎ HasWay notes held places (drop (i + 1) parts) n) ↔ (In n old ⊎ HasWay notes held places parts n)
+one_part_more notes held places parts i d old mid new n less more so =
+    let next : suc i ≡ i + 1 = omega arith in
+    let e = drop-cons parts i d less ∙ ap (λ k. get_or parts i d ∷ drop k parts) next in (
+      λ h. so.0 (elim h [
+        | inl k ↦ elim (more.0 k) [
+          | inl m ↦ inl m
+          | inr m ↦ inr (subst (λ l. HasWay notes held places l n) (sym e) (get_or parts i d, inl refl, m.0, m.1))
+        ]
+        | inr k ↦ inr (subst (λ l. HasWay notes held places l n) (sym e) (k.0, inr k.1, k.2, k.3))
+      ]),
+      λ h. elim (so.1 h) [
+        | inl k ↦ inl (more.1 (inl k))
+        | inr k ↦ first_or_later (subst (λ l. HasWay notes held places l n) e k)
+      ],
+    )
+  where
+    first_or_later : HasWay notes held places (get_or parts i d ∷ drop (i + 1) parts) n
+        → In n new ⊎ HasWay notes held places (drop (i + 1) parts) n
+    first_or_later k = elim k.1 [
+      | inl f ↦ inl (more.1 (inr (
+        subst (HasPlace notes places) f k.2,
+        subst (λ p. way_from held p ≡ Some n) f k.3,
+      )))
+      | inr f ↦ inr (k.0, f, k.2, k.3)
+    ]
+
+-- No part is left.
+pub no_part_more : (notes held : List NoteParts) (places : List StreamPlace) (parts : List StreamPart) (i : ℕ)
+    (old new : List NamedPlace) (n : NamedPlace) → length parts ≤ i
+    → (In n new ⊎ HasWay notes held places (drop i parts) n) ↔ (In n old ⊎ HasWay notes held places parts n)
+    → In n new ↔ (In n old ⊎ HasWay notes held places parts n)
+no_part_more notes held places parts i old new n far so = (
+  λ h. so.0 (inl h),
+  λ h. elim (so.1 h) [
+    | inl k ↦ k
+    | inr k ↦ absurd (subst (λ l. HasWay notes held places l n) (drop_all i parts far) k).1
+  ],
+)
+
+-- ---- places in the order of streams
+
+pub in_order_is : (ps : List StreamPlace) → IsRising place_cmp ps → IsInOrder of at tie ps
+in_order_is ps r = in_order_from of at tie place_cmp precedes ps r
+  where
+    precedes : (p q : StreamPlace) → place_cmp p q ≡ Less → Precedes of at tie p q
+    precedes p q e = elim (then_less (nat_cmp p.body_sid q.body_sid) (nat_cmp p.offset q.offset) e) [
+      | inl l ↦ inl (lt_from_less p.body_sid q.body_sid l)
+      | inr s ↦ inr (nat_cmp-IsAntisymmetric p.body_sid q.body_sid s.0, inl (lt_from_less p.offset q.offset s.1))
+    ]
+
+-- ---- fills
+
+over_none : (notes : List NoteParts) (x : ℕ) → ((n : NoteParts) → In n notes → n.offset ≢ x) → over_among notes x ≡ x
+over_none [] x f = refl
+over_none (n ∷ notes) x f =
+    ap (λ b. over_among notes (if b && is_fill (kind_of n.key) then end_of n else x)) (ne_eqb n.offset x (f n (inl refl)))
+    ∙ over_none notes x (λ m h. f m (inr h))
+
+-- No packet begins where files end at the latest, or above.
+pub far_from_fills : (notes : List NoteParts) (x : ℕ) → IsCatalogue notes → greatest_end ≤ x → x ≡ over_fills notes x
+far_from_fills notes x is far =
+    sym (over_none (undisputed_notes notes) x (λ n h e.
+    let note : IsNote n = all-In IsNote notes n is.members ((In-undisputed_notes n notes).0 h).0 in
+    let end : n.offset + 16 + n.width + n.length ≤ greatest_end = note.within in omega (arith, end, far, e)))

@@ -1,0 +1,21 @@
+use Rattle.std.proofs.Common.{◌≡◌, ◌↔◌, ◌∙◌, List, ap, filter, subst, sym}
+use Rattle.std.proofs.lemmas.Result.{on_ok_weaker}
+use Rattle.mxf_klv.specs.Rising.{In}
+use Rattle.mxf_restore.specs.declared.named.NamedPlace.{NamedPlace}
+use Rattle.mxf_partial.specs.Between.{IsOneOf16, MayIndexOneOf}
+use Rattle.mxf_partial.specs.SegmentStarts.{IsEvenly16, is_between_any, starts_for}
+use Rattle.mxf_partial.specs.declared.between.SegmentStart.{SegmentStart}
+use Rattle.mxf_partial.proofs.ChosenLaws.{chosen_says, or_same}
+use Rattle.mxf_partial.proofs.between.add_chosen.Goals as goal
+
+pub returns : goal.returns
+returns c =
+    let named = c.args.named.now in
+    let numbers = c.args.numbers.now in
+    let kept = λ (starts : List SegmentStart). filter (λ n. is_between_any starts numbers n.place) named in
+    let same : c.deref.result.now ≡ kept (starts_for c.args.units.now) =
+    c.deref.ensures.value ∙ c.in_ok-places.ensures ∙ ap kept c.in_ok-starts.ensures in
+    on_ok_weaker c.add_evenly.result (λ m n. or_same (m n)
+    (subst (λ (l : List NamedPlace). IsEvenly16 l n
+    ↔ (In n named × IsOneOf16 (MayIndexOneOf c.args.units.now numbers) n.place)) (sym same)
+    (chosen_says c.args.units.now numbers named c.requires.named n))) c.add_evenly.ensures

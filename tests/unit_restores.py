@@ -1,0 +1,225 @@
+#!/usr/bin/env python3
+"""Plays restores of edit units to their end: of a file some beginning is handed in, and what `plan --index` orders is cut
+from the file and handed in, until it orders nothing.
+
+    tests/unit_restores.py PROGRAM [COUNT [FIRST]]    restores of the numbers from FIRST (0) on, COUNT of them (40); the
+                                                      last line is 'N passed, M failed'
+
+Files are the examples with an index, and made ones: partitions of one stream, with the index in the footer, in each body
+partition, of units of one size, or with none, and at times with a wrong BodyOffset. In the end all units are held or at
+hand, and with their key frames all their bytes were handed in; of a file without an index, or with a wrong BodyOffset,
+the restore ends. No byte is restored twice, and no unit's but of those that are wanted.
+
+From the first and the last 65,536 bytes of a recording on, what is restored has as many bytes as the wanted units at
+most, and 65,536 for each front.
+"""
+import dataclasses
+import json
+import random
+import sys
+import tempfile
+
+import packets
+from restores import TOP, Restore, Wrong
+
+FRONT = 65536
+# More rounds than any of these restores takes.
+MOST_ROUNDS = 16
+# What begins a restore: of the file's bytes, the ranges that are handed in.
+BEGINNINGS = {
+    "nothing": lambda _, size: [(0, 0)],
+    "the front": lambda rng, size: [(0, min(size, rng.choice((200, 1000, FRONT))))],
+    "the end": lambda rng, size: [(max(size - rng.choice((100, 1000, FRONT)), 0), size)],
+    "both": lambda rng, size: [(0, min(size, rng.choice((200, FRONT)))), (max(size - rng.choice((200, FRONT)), 0), size)],
+    "parts": lambda rng, size: [(0, 150), *sorted(part_of(rng, size) for _ in range(3)), (size - 50, size)],
+}
+
+
+def part_of(rng, size):
+    """Some range of a file."""
+    start = rng.randrange(size)
+    return start, min(size, start + rng.choice((30, 1000, size // 5)))
+
+
+@dataclasses.dataclass
+class Recording:
+    """A file: its bytes, the IndexSID, where each unit begins and ends, and the least unit that each needs. `is_found`
+    is whether all that is asked for can be found."""
+
+    data: bytes
+    index_sid: int
+    units: list
+    needs: list
+    is_found: bool = True
+
+    def wanted(self, first, last):
+        """The ranges of the units of a range, and of those that they need."""
+        return self.units[min(self.needs[first : last + 1]) : last + 1]
+
+
+def sized(lines):
+    """How many bytes the packets of these lines have."""
+    return sum(packets.size_of(packets.packet(line, 0)) for line in lines)
+
+
+def segment_of(first, offsets, pictures):
+    """The index table segment of units from one on: their stream offsets, behind their key frames."""
+    entries = ",".join(f"00{-((first + n) % pictures) % 256:02X}00@{offset}" for n, offset in enumerate(offsets))
+    return f"segment start={first} duration={len(offsets)} entries={entries}"
+
+
+def made(rng, kind):
+    """A recording of some body partitions, with the index of this kind: `footer`, `body`, `constant`, `none`, or with a
+    `wrong` BodyOffset."""
+    pictures = 1 if kind == "constant" else rng.choice((1, 3, 12))
+    one_size = rng.randrange(50, 40000)
+    counts = [rng.randint(1, 9) for _ in range(rng.randint(1, 7))]
+    sizes = [one_size if kind == "constant" else rng.randrange(50, 40000) for _ in range(sum(counts))]
+    lines, units = laid_out(rng, kind, counts, sizes, pictures, 0)
+    footer = sized(lines[: next(n for n, line in enumerate(lines) if line.startswith("footer"))])
+    lines, units = laid_out(rng, kind, counts, sizes, pictures, footer)
+    data = bytearray()
+    for line in lines:
+        data += packets.bytes_of(packets.packet(line, len(data)))
+    needs = [unit - unit % pictures for unit in range(len(units))]
+    return Recording(bytes(data), 1, units, needs, kind not in ("none", "wrong"))
+
+
+def laid_out(rng, kind, counts, sizes, pictures, footer):
+    """The packets of a recording, where its footer stands at an offset, and where its units begin and end."""
+    lines = [f"header footer={footer} header-bytes=98", "primer", "fill 20"]
+    units, partitions, at, stream, segments = [], [(0, 0)], sized(lines), 0, []
+    for number, count in enumerate(counts):
+        first = len(units)
+        offsets = [stream + sum(sizes[first : first + n]) for n in range(count)]
+        segment = segment_of(first, offsets, pictures)
+        index = [segment] if kind == "body" else []
+        stated = f"index-bytes={sized(index)} index-sid=1" if index else ""
+        begins = stream + (7 if kind == "wrong" and number == len(counts) // 2 else 0)
+        lines += [f"body previous={partitions[-1][1]} footer={footer} body-offset={begins} body-sid=2 {stated}", *index]
+        partitions.append((2, at))
+        at += sized(lines[-1 - len(index) :])
+        for size in sizes[first : first + count]:
+            lines.append(f"essence {size - 20}")
+            units.append((at, at + size))
+            at, stream = at + size, stream + size
+        segments.append(segment)
+    if kind == "constant":
+        segments = [f"segment unit-bytes={sizes[0]} duration={len(units)}"]
+    index = [] if kind in ("body", "none") else segments
+    stated = f"index-bytes={sized(index)} index-sid=1" if index else ""
+    lines += [f"footer previous={partitions[-1][1]} footer={footer} {stated}", *index]
+    listed = " ".join(f"{body_sid}:{offset}" for body_sid, offset in [*partitions, (0, footer)])
+    return [*lines, f"rip {listed}"], units
+
+
+def example(program, name, index_sid):
+    """A recording of examples/, its units as the whole file tells them."""
+    data = (TOP / "examples" / name).read_bytes()
+    with tempfile.TemporaryDirectory() as folder:
+        restore = Restore(program, folder, data)
+        restore.hand_in("at", 0, len(data))
+        told = restore.call("units", "--json", "--index", str(index_sid), "--from", "0", *restore.sources)
+    told = [unit for unit in map(json.loads, told.splitlines()) if unit["line"] == "unit"]
+    needs = [min(unit["key"] if unit["key"] is not None else unit["unit"], unit["unit"]) for unit in told]
+    return Recording(data, index_sid, [(unit["start"], unit["end"]) for unit in told], needs)
+
+
+class UnitRestore(Restore):
+    """A restore of some edit units of a recording."""
+
+    def __init__(self, program, folder, recording, first, last):
+        super().__init__(program, folder, recording.data)
+        self.recording, self.first, self.last = recording, first, last
+        self.told, self.restored = {}, {}
+
+    def orders(self):
+        """What is to be restored next."""
+        asked = ["--index", str(self.recording.index_sid), "--from", str(self.first), "--to", str(self.last)]
+        *lines, self.told = map(json.loads, self.call("plan", "--json", *asked, *self.sources).splitlines())
+        orders = [line for line in lines if line["line"] == "restore"]
+        for order in orders:
+            self.restored.setdefault(order["reason"], []).append(self.end_of(order) - order["start"])
+        return orders
+
+    def judge(self):
+        """Judges what was restored when nothing is ordered any more."""
+        twice = next((at for at, times in self.times.items() if times > 1), None)
+        if twice is not None:
+            raise Wrong(f"byte {twice} was restored twice")
+        if any(size > FRONT for size in self.restored.get("front", [])):
+            raise Wrong("a front is too long")
+        wanted = self.recording.wanted(self.first, self.last)
+        if sum(self.restored.get("unit", [])) > sum(end - start for start, end in wanted):
+            raise Wrong("more is restored for units than they have")
+        if not self.recording.is_found:
+            return
+        if self.told["held"] + self.told["hand"] != self.told["units"]:
+            raise Wrong(f"not all units are there: {self.told}")
+        lost = [(start, end) for start, end in wanted if not self.given.issuperset(range(start, end))]
+        if lost:
+            raise Wrong(f"bytes of wanted units are lost: {lost}")
+
+
+def played(program, recording, first, last, ranges):
+    """The restore of some units from these ranges on."""
+    with tempfile.TemporaryDirectory() as folder:
+        restore = UnitRestore(program, folder, recording, first, last)
+        for start, end in ranges:
+            restore.hand_in("range", start, end)
+        restore.play(MOST_ROUNDS)
+        restore.judge()
+    return restore
+
+
+def try_number(program, number):
+    """Plays the restore of a number."""
+    rng = random.Random(f"units {number}")
+    kind = rng.choice(("footer", "body", "constant", "none", "wrong", "long GOP", "OP-Atom"))
+    if kind == "long GOP":
+        recording = example(program, "op1a_mpeg2_long_gop.mxf", 2)
+    elif kind == "OP-Atom":
+        recording = example(program, "opatom_pcm.mxf", 2)
+    else:
+        recording = made(rng, kind)
+    first, last = sorted(rng.randrange(len(recording.units)) for _ in range(2))
+    beginning = rng.choice(list(BEGINNINGS))
+    try:
+        played(program, recording, first, last, BEGINNINGS[beginning](rng, len(recording.data)))
+    except Wrong as wrong:
+        raise Wrong(f"{kind}, units {first} to {last}, from {beginning}: {wrong}") from wrong
+
+
+def try_counted(program, kind):
+    """Counts what is restored of a minute in the middle of a recording, from its first and its last bytes on."""
+    recording = example(program, "op1a_mpeg2_long_gop.mxf", 2) if kind == "long GOP" else made(random.Random(kind), kind)
+    size, count = len(recording.data), len(recording.units)
+    first, last = count // 3, 2 * count // 3
+    ends = [(0, min(FRONT, size // 8)), (size - min(FRONT, size // 8), size)]
+    restore = played(program, recording, first, last, ends)
+    units = sum(end - start for start, end in recording.wanted(first, last))
+    fronts = len(restore.restored.get("front", []))
+    total = sum(sum(sizes) for sizes in restore.restored.values())
+    if total > units + FRONT * fronts:
+        raise Wrong(f"{kind}: {total} bytes are restored for {units} of units, and {fronts} fronts: {restore.restored}")
+
+
+def main():
+    if not 2 <= len(sys.argv) <= 4:
+        sys.exit(__doc__)
+    count, begin = (int(word) for word in (sys.argv + ["40", "0"][len(sys.argv) - 2 :])[2:4])
+    tries = [(try_counted, kind) for kind in ("long GOP", "footer", "body", "constant")]
+    tries += [(try_number, number) for number in range(begin, begin + count)]
+    failed = 0
+    for what, of in tries:
+        try:
+            what(sys.argv[1], of)
+        except Wrong as wrong:
+            failed += 1
+            print(f"FAILED: restore {of}: {wrong}")
+    print(f"{len(tries) - failed} passed, {failed} failed")
+    return failed > 0
+
+
+if __name__ == "__main__":
+    sys.exit(main())
