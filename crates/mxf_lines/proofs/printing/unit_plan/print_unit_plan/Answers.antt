@@ -2,7 +2,7 @@ use Rattle.std.proofs.Common.{◌≡◌, ◌<◌, ℕ, IfOk, arith, length, leng
 use Rattle.std.proofs.lemmas.Result.{err_from_is_err_and}
 use Rattle.mxf_klv.specs.Written.{Writes}
 use Rattle.mxf_units.specs.Units.{UnitsParts}
-use Rattle.mxf_partial.proofs.UnitPlanLaws.{one_unit_plan}
+use Rattle.mxf_partial.proofs.UnitPlanLaws.{one_plan}
 use Rattle.mxf_partial.specs.Orders.{IsUnitPlan, UnitPlanParts}
 use Rattle.mxf_lines.specs.Printing.{Prints}
 use Rattle.mxf_lines.specs.UnitPlanLines.{asked_of, unit_plan_lines, unit_plan_status, wanted_of}
@@ -33,7 +33,7 @@ returns-clause-lines g c = λ p is.
     c.in_ok-units.ensures c.print_planned.ensures.lines in
     subst (λ (k : UnitPlanParts). Prints c.args.form (Writes {X = Unit {0}} (g.W.Write.contents c.args.writer.now)
     (g.W.Write.contents c.print_planned.new.writer)) c.print_planned.result (unit_plan_lines w k))
-    (one_unit_plan w own p plan is) printed
+    (one_plan w own p plan is) printed
 
 pub returns-clause-status : goal.returns-clause-status
 returns-clause-status g c = λ p is.
@@ -44,4 +44,4 @@ returns-clause-status g c = λ p is.
     let status = subst (λ (u : UnitsParts). IfOk c.print_planned.result (λ (s : ℕ). s ≡ unit_plan_status (wanted_of u range) own))
     c.in_ok-units.ensures c.print_planned.ensures.status in
     subst (λ (k : UnitPlanParts). IfOk c.print_planned.result (λ (s : ℕ). s ≡ unit_plan_status w k))
-    (one_unit_plan w own p plan is) status
+    (one_plan w own p plan is) status
