@@ -180,6 +180,7 @@ def named_partitions(rng, many=None):
     """The catalogue of a file of many body partitions with a unit each, of which some and their essence are lost. The
     random index pack names them all, or there is none; the index lies in the footer, or some of it is lost."""
     many = many or rng.choice((2, 40, 1000))
+    is_listed, share, of_index = rng.random() < 0.7, rng.choice((0.1, 0.5, 1)), rng.choice((0, 0, 0.2))
     lines = ["header"]
     for number in range(many):
         lines += [f"body previous={208 * number - 100 if number else 0} body-offset={100 * number} body-sid=2", "essence 80"]
@@ -187,10 +188,9 @@ def named_partitions(rng, many=None):
     lines.append(f"footer previous={footer - 208} footer={footer}")
     lines += [f"segment start={n} duration=25 entries={','.join(str(100 * unit) for unit in range(n, n + 25))}" for n in range(0, many, 25)]
     listed = " ".join(f"{rng.choice((2, 2, 2, 3))}:{108 + 208 * number}" for number in range(many))
-    if rng.random() < 0.7:
+    if is_listed:
         lines.append(f"rip 0:0 {listed} 0:{footer}")
     found = notes.read_piece(0, laid(lines))[0]
-    share, of_index = rng.choice((0.1, 0.5, 1)), rng.choice((0, 0, 0.2))
     lost = {108 + 208 * number for number in range(many) if rng.random() < share}
     lost |= {note.offset for note in found if note.offset > footer and rng.random() < of_index}
     return [(None, notes.file_of([note for note in found if not {note.offset, note.offset - 108} & lost]))]
