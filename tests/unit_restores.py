@@ -11,10 +11,12 @@ hand, and with their key frames all their bytes were handed in; of a file withou
 the restore ends. No byte is restored twice, and where the index lies in one place no more is restored for units than the
 partitions of the wanted ones have up to the last of these.
 
-From the first and the last 65,536 bytes of a recording on, what is restored has as many bytes as the wanted units at
-most, and 65,536 for each front.
+From the first and the last bytes of a recording on, an eighth of it or 65,536, what is restored has as many bytes as the
+wanted units at most, and 65,536 for each front. A made file is larger than that bound; the long GOP example is smaller,
+and of it the bound says little.
 """
 import dataclasses
+import itertools
 import json
 import random
 import sys
@@ -24,6 +26,8 @@ import packets
 from restores import TOP, Restore, Wrong
 
 FRONT = 65536
+# The least size of a made file of which is counted what is restored.
+LARGE = 400000
 # More rounds than any of these restores takes.
 MOST_ROUNDS = 16
 # What begins a restore: of the file's bytes, the ranges that are handed in.
@@ -142,10 +146,8 @@ class UnitRestore(Restore):
         asked = ["--index", str(self.recording.index_sid), "--from", str(self.first), "--to", str(self.last)]
         *lines, self.told = map(json.loads, self.call("plan", "--json", *asked, *self.sources).splitlines())
         orders = [line for line in lines if line["line"] == "restore"]
-        # An order without an end is answered by all that is lost there, and counts for itself.
         for order in orders:
-            reason = order["reason"] if order["end"] is not None else "open"
-            self.restored.setdefault(reason, []).append(self.end_of(order) - order["start"])
+            self.restored.setdefault(order["reason"], []).append(self.end_of(order) - order["start"])
         return orders
 
     def judge(self):
@@ -198,9 +200,15 @@ def try_number(program, number):
         raise Wrong(f"{kind}, units {first} to {last}, from {beginning}: {wrong}") from wrong
 
 
+def large(kind):
+    """The first made recording of a kind that is large."""
+    numbered = (made(random.Random(f"{kind} {number}"), kind) for number in itertools.count())
+    return next(recording for recording in numbered if len(recording.data) >= LARGE)
+
+
 def try_counted(program, kind):
     """Counts what is restored of a minute in the middle of a recording, from its first and its last bytes on."""
-    recording = example(program, "op1a_mpeg2_long_gop.mxf", 3) if kind == "long GOP" else made(random.Random(kind), kind)
+    recording = example(program, "op1a_mpeg2_long_gop.mxf", 3) if kind == "long GOP" else large(kind)
     size, count = len(recording.data), len(recording.units)
     first, last = count // 3, 2 * count // 3
     ends = [(0, min(FRONT, size // 8)), (size - min(FRONT, size // 8), size)]
@@ -208,6 +216,8 @@ def try_counted(program, kind):
     units = sum(end - start for start, end, _ in recording.wanted(first, last))
     fronts = len(restore.restored.get("front", []))
     total = sum(sum(sizes) for sizes in restore.restored.values())
+    if kind != "long GOP" and units + FRONT * fronts >= size:
+        raise Wrong(f"{kind}: the bound says nothing of a file of {size} bytes")
     if total > units + FRONT * fronts:
         raise Wrong(f"{kind}: {total} bytes are restored for {units} of units, and {fronts} fronts: {restore.restored}")
 
