@@ -4,10 +4,12 @@ use Rattle.std.specs.Prelude.{Option, None, Some, unwrap_or, List, [], ◌∷◌
 use Rattle.std.specs.List.{list_any, range_with_len}
 use Rattle.std.specs.Option.{option_map_or}
 use Rattle.mxf_klv.specs.Parts.{NoteParts}
+use Rattle.mxf_klv.specs.Note.{end_of}
+use Rattle.mxf_klv.specs.Rising.{In}
 use Rattle.mxf_catalogue.specs.declared.run.Run.{Run}
 use Rattle.mxf_catalogue.specs.Covers.{IsCover}
 use Rattle.mxf_catalogue.specs.Runs.{LiesIn}
-use Rattle.mxf_places.specs.Held.{end_of_file, top_of}
+use Rattle.mxf_places.specs.Held.{IsEndOfFile, end_of_file, top_of}
 use Rattle.mxf_places.specs.declared.at_hand.OffsetRange.{OffsetRange}
 
 -- The offsets of which some source gives the byte, and those of them at which none differs from another, as maximal
@@ -49,7 +51,19 @@ pub record IsLacking (runs : List Run) (start : ℕ) (end : Option ℕ) (r : Off
   pub first : (r.start ≡ start) ⊎ ((x : ℕ) × (x + 1 ≡ r.start) × LiesIn runs x)
   pub last : (r.end ≡ end) ⊎ ((x : ℕ) × (r.end ≡ Some x) × LiesIn runs x)
 
--- The same as functions. Laws tie them to the relation.
+-- The least offset to which all ends of notes reach at most, be they claimed by heads, and below which all given offsets
+-- lie.
+pub record IsTop (at : AtHandParts) (notes : List NoteParts) (top : ℕ) : Type 0 where
+  pub ends : (n : NoteParts) → In n notes → end_of n ≤ top
+  pub above : (x : ℕ) → LiesIn at.given x → x < top
+  pub least : (y : ℕ) → ((n : NoteParts) → In n notes → end_of n ≤ y) → ((x : ℕ) → LiesIn at.given x → x < y) → top ≤ y
+
+-- How far the file reaches as far as it is known: to its end, or to the top where that isn't known.
+abbrev pub IsEdge : AtHandParts → List NoteParts → ℕ → Type 0
+IsEdge at notes edge =
+    IsEndOfFile notes edge ⊎ (((end : ℕ) → IsEndOfFile notes end → ⊥) × IsTop at notes edge)
+
+-- The same as functions. Laws tie them to the relations.
 
 -- An offset, but no more than a bound.
 abbrev pub up_to_bound : ℕ → Option ℕ → ℕ

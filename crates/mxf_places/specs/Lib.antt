@@ -2,5 +2,6 @@ pub mod Words
 pub mod Held
 pub mod Claims
 pub mod Named
+pub mod FirstClaims
 pub mod Fills
 pub mod AtHand

@@ -99,6 +99,14 @@ abbrev pub IsZone : Zone → List NoteParts → PartitionParts → Stretch → T
 IsZone zones.Metadata notes p s = AreMetadata notes p s
 IsZone zones.Index notes p s = AreSegments notes p s
 
+-- The claim is that of a stretch.
+abbrev pub IsOfStretch : Claim → Type 0
+IsOfStretch c = (c.reason ≡ Metadata) ⊎ (c.reason ≡ Index)
+
+-- The claim names the place.
+abbrev pub Names : Claim → ℕ → Type 0
+Names c x = (IsOfStretch c → ⊥) × (c.from ≡ x)
+
 -- A partition pack says it, with its offset as the source.
 abbrev pub SaysPlace : List NoteParts → Reason → (PartitionParts → ℕ → Type 0) → Claim → Type 0
 SaysPlace notes reason Names c =

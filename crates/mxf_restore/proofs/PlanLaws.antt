@@ -8,7 +8,8 @@ use Rattle.std.proofs.lemmas.Cmp.{nat_cmp_total, on_total, then_total}
 use Rattle.mxf_klv.proofs.Tests.{ties}
 use Rattle.std.specs.Ordering.{bool_cmp, nat_cmp, ordering_reverse, ordering_then}
 use Rattle.std.specs.Option.{option_cmp}
-use Rattle.mxf_restore.specs.Plan.{disputed_place_cmp, order_cmp, reason_rank}
+use Rattle.mxf_restore.specs.Plan.{disputed_place_cmp, order_cmp}
+use Rattle.mxf_places.specs.FirstClaims.{reason_rank}
 use Rattle.mxf_places.specs.declared.reason.Reason.{Reason}
 use Rattle.mxf_places.specs.declared.reason.Reason.TheVariants.{Header, Footer, Metadata, Index, Entry, Previous, Gap}
 use Rattle.mxf_places.specs.declared.reason.Reason.TheVariants as reasons

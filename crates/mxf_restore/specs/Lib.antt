@@ -1,5 +1,6 @@
 pub mod Sections
 pub mod Plan
+pub mod Orders
 pub mod Fronts
 pub mod NamedPlaces
 pub mod Map

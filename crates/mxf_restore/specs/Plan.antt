@@ -13,9 +13,8 @@ use Rattle.mxf_places.specs.declared.at_hand.OffsetRange.{OffsetRange}
 use Rattle.mxf_places.specs.Held.{end_of_file, is_disputed_at, is_in_file, top_of}
 use Rattle.mxf_places.specs.Claims.{claim_at, claims_of, is_of_stretch}
 use Rattle.mxf_restore.specs.Sections.{sections_of}
-use Rattle.mxf_places.specs.declared.reason.Reason.{Reason}
-use Rattle.mxf_places.specs.declared.reason.Reason.TheVariants.{Header, Footer, Metadata, Index, Entry, Previous, Gap}
-use Rattle.mxf_places.specs.declared.reason.Reason.TheVariants as reasons
+use Rattle.mxf_places.specs.declared.reason.Reason.TheVariants.{Gap}
+use Rattle.mxf_places.specs.FirstClaims.{reason_rank}
 use Rattle.mxf_places.specs.declared.claim.Claim.{Claim}
 use Rattle.mxf_restore.specs.declared.section.Section.{Section}
 use Rattle.mxf_restore.specs.declared.plan.Order.{Order}
@@ -136,18 +135,6 @@ first_by_place (d ∷ ds) = d ∷ filter (λ e. not (e.place == d.place)) (first
 
 unfoldable pub found_disputed_places : List NoteParts → List DisputedPlace
 found_disputed_places notes = first_by_place (filter_map (disputed_place_of notes) (claims_of notes))
-
--- The place of a reason in the order of what helps most.
-abbrev pub reason_rank : Reason → ℕ
-reason_rank Header = 0
-reason_rank Footer = 1
-reason_rank Metadata = 2
-reason_rank Index = 3
-reason_rank Entry = 4
-reason_rank Previous = 5
-reason_rank Gap = 6
-reason_rank reasons.Front = 7
-reason_rank reasons.Unit = 8
 
 -- Orders go by reason, then start, then end, none before any, then source, then by what is said of them.
 abbrev pub order_cmp : Order → Order → Ordering

@@ -8,3 +8,5 @@ pub mod Ranges
 pub mod Standings
 pub mod Intervals
 pub mod Limits
+pub mod Entries
+pub mod Extents

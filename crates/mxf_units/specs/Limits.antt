@@ -14,7 +14,9 @@ use Rattle.mxf_views.specs.RandomIndexView.{rip_view_of}
 use Rattle.mxf_views.specs.declared.random_index.RipView.TheVariants.{One}
 use Rattle.mxf_places.specs.Held.{IsDisputedAt, IsHeld, end_of_file, is_in_file}
 use Rattle.mxf_places.specs.Claims.{claims_of, named_place, over_fills}
+use Rattle.mxf_places.specs.Named.{AreSegments, IsBehindMetadata}
 use Rattle.mxf_places.specs.declared.claim.Claim.{Claim}
+use Rattle.mxf_places.specs.declared.stretch.Stretch.{Stretch}
 use Rattle.mxf_units.specs.declared.essence_zone.EssenceZone.{EssenceZone}
 use Rattle.mxf_units.specs.EssenceZones.{behind_index}
 use Rattle.mxf_units.specs.Streams.{IsNext}
@@ -23,6 +25,12 @@ use Rattle.mxf_units.specs.Streams.{IsNext}
 pub record IsAlone (notes : List NoteParts) (n : NoteParts) : Type 0 where
   pub held : In n notes
   pub undisputed : ¬ IsDisputed n notes
+
+-- Where the bytes behind the header metadata and the index table segments of a partition begin.
+abbrev pub IsBehindIndex : List NoteParts → PartitionParts → ℕ → Type 0
+IsBehindIndex notes p x =
+    ((p.pack.numbers.index_byte_count ≡ 0) × IsBehindMetadata notes p x)
+    ⊎ ((s : Stretch) × AreSegments notes p s × (s.is_open ≡ false) × (x ≡ s.end))
 
 -- The packet stands behind the header metadata and the index table segments of a partition and the fills there; it is
 -- essence, or of a kind that isn't known.
