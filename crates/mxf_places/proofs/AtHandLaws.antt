@@ -10,7 +10,7 @@ use Rattle.mxf_klv.specs.Rising.{In}
 use Rattle.mxf_klv.proofs.Lists.{In-append, list_any-In}
 use Rattle.mxf_catalogue.specs.declared.run.Run.{Run}
 use Rattle.mxf_catalogue.specs.Covers.{IsCover, is_between}
-use Rattle.mxf_catalogue.specs.Runs.{AreMaximal, IsWithin, LiesIn}
+use Rattle.mxf_catalogue.specs.Runs.{AreMaximal, LiesIn}
 use Rattle.mxf_places.specs.AtHand.{IsLacking, LiesBetween, LiesInRange, has_offset, has_offsets, is_none, lacking}
 use Rattle.mxf_places.specs.AtHand.{runs_end, some_range, up_to_bound}
 use Rattle.mxf_places.specs.declared.at_hand.OffsetRange.{OffsetRange}

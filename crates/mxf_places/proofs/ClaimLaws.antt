@@ -130,7 +130,7 @@ module _ (notes : List NoteParts) (content : IsContent notes) (c : Claim) where
         | false ↦ λ _. refl
       ] refl
 
-  entries_say : In c (entry_claims (rip_view_of notes)) ↔ SaysEntry notes c
+  pub entries_say : In c (entry_claims (rip_view_of notes)) ↔ SaysEntry notes c
   entries_say = (
     λ h. entries_tell (rip_view_of notes) refl h,
     λ k.

@@ -1,5 +1,5 @@
 -- What the definitions of places say of partitions by their numbers is what they say of the partitions.
-use Rattle.std.proofs.Common.{◌≡◌, List, map, refl}
+use Rattle.std.proofs.Common.{◌≡◌, List, map}
 use Rattle.std.specs.List.{filter_map}
 use Rattle.mxf_klv.specs.Parts.{NoteParts}
 use Rattle.mxf_views.specs.Partitions.{PartitionParts, in_numbers}

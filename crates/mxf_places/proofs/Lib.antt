@@ -10,3 +10,5 @@ pub mod CountLaws
 pub mod LoopLaws
 pub mod InNumbers
 pub mod AtHandLaws
+pub mod FirstLaws
+pub mod EdgeLaws

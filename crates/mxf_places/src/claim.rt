@@ -1,14 +1,16 @@
 //! What packs say of places (ST 377-1, Partition Pack and Random Index Pack).
-ghost use Rattle.std.specs.Prelude.{◌≡◌, ◌↔◌, ◌++◌, ◌∷◌, [], IfOk, OnOk, List, None, Some, map};
+ghost use Rattle.std.specs.Prelude.{◌≡◌, ◌↔◌, ◌++◌, ◌∷◌, ◌<◌, ℕ, [], IfOk, OnOk, List, None, Some, map};
 ghost use Rattle.mxf_klv.specs.Parts.{NoteParts};
 ghost use Rattle.mxf_klv.specs.Rising.{In};
 ghost use Rattle.mxf_catalogue.specs.Content.{IsContent};
 ghost use Rattle.std.specs.List.{filter_map};
 ghost use Rattle.mxf_views.specs.Partitions.{partitions_of};
 ghost use Rattle.mxf_views.specs.RandomIndexView.{rip_view_of};
-ghost use Rattle.mxf_places.specs.Claims.{claims_of, entry_claim, entry_claims, footer_claim, named_place};
+ghost use Rattle.mxf_places.specs.FirstClaims.{AreInOrder, IsFirstClaim, SpeaksOf, reason_rank};
+ghost use Rattle.mxf_places.specs.declared.reason.Reason.{Reason};
+ghost use Rattle.mxf_places.specs.Claims.{claim_at, claims_of, entry_claim, entry_claims, footer_claim, named_place};
 ghost use Rattle.mxf_places.specs.Claims.{place_claim, previous_claim, zone_claim, zone_reason};
-ghost use Rattle.mxf_places.specs.Named.{IsClaim};
+ghost use Rattle.mxf_places.specs.Named.{IsClaim, Names};
 ghost use Rattle.mxf_places.specs.declared.claim.Claim.{Claim};
 
 use crate::held::Holdings;
@@ -194,4 +196,18 @@ fn previous_claim(partition: &Partition) -> Option<Claim>
 /// partitions, and the entries of the only random index pack.
 pub fn claims_by_definition()
     ensures { (notes : List NoteParts) (c : Claim) → IsContent notes → In c (claims_of notes) ↔ IsClaim notes c }
+{}
+
+/// A law: the claims stand in the order of their reasons, what helps most first, and then of their sources. The first
+/// claim of an offset is the one of those that speak of it that goes first.
+pub fn claims_in_order()
+    ensures rising { (notes : List NoteParts) → IsContent notes → AreInOrder (claims_of notes) }
+    ensures first { (notes : List NoteParts) (x : ℕ) (c : Claim) → IsContent notes
+        → (claim_at notes x ≡ Some c) ↔ IsFirstClaim notes x c }
+    ensures none { (notes : List NoteParts) (x : ℕ) → IsContent notes
+        → (claim_at notes x ≡ None) ↔ ((c : Claim) → IsClaim notes c → ¬ SpeaksOf c x) }
+
+    // What no pack says goes after all claims.
+    ensures gap { (notes : List NoteParts) (c : Claim) → IsClaim notes c → reason_rank c.reason < reason_rank Reason.Gap }
+    ensures names { (c : Claim) (x : ℕ) → (named_place c ≡ Some x) ↔ Names c x }
 {}

@@ -3,7 +3,8 @@ ghost use Rattle.std.specs.Prelude.{◌≡◌, ◌↔◌, ◌<◌, ◌≤◌, �
 ghost use Rattle.mxf_klv.specs.Parts.{NoteParts};
 ghost use Rattle.mxf_places.specs.Held.{AreDisputed, begins_clear_head, end_of_file, held_end, is_disputed_at};
 ghost use Rattle.mxf_places.specs.Held.{IsDisputedAt, IsEndOfFile, IsHeld, is_held, is_in_file, rip_end_by, top_of};
-ghost use Rattle.mxf_places.specs.AtHand.{edge_of};
+ghost use Rattle.mxf_catalogue.specs.Covers.{IsCover};
+ghost use Rattle.mxf_places.specs.AtHand.{AtHandParts, IsEdge, edge_of};
 ghost use Rattle.mxf_places.specs.Named.{IsInFile, IsUnknown};
 ghost use Rattle.mxf_views.specs.RandomIndexView.{rip_view_of};
 ghost use Rattle.mxf_places.specs.Claims.{is_unknown, over_fills};
@@ -205,4 +206,11 @@ pub fn held_by_definition()
     ensures ends { (notes : List NoteParts) (end : ℕ) → (end_of_file notes ≡ Some end) ↔ IsEndOfFile notes end }
     ensures in_file { (notes : List NoteParts) (x : ℕ) → IsTrue (is_in_file notes x) ↔ IsInFile notes x }
     ensures unknown { (notes : List NoteParts) (x : ℕ) → IsTrue (is_unknown notes x) ↔ IsUnknown notes x }
+{}
+
+/// A law of [`Holdings::edge`]: the file reaches to its end, or where that isn't known to the least offset to which all
+/// ends of notes reach at most, and below which all given offsets lie.
+pub fn edges_by_definition()
+    ensures { (at : AtHandParts) (notes : List NoteParts) (edge : ℕ) → IsCover at.given
+        → (edge_of at notes ≡ edge) ↔ IsEdge at notes edge }
 {}

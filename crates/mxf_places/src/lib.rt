@@ -24,10 +24,10 @@
 //!
 //! What is proved: each call answers its function of the notes of the catalogue. The laws say what these are in the words
 //! of the standards: [`held_by_definition`], what is held and what is disputed, where the file ends, what may lie in it,
-//! and of what isn't known what begins there; [`lacking_by_definition`], which ranges a set of offsets lacks;
+//! and of what isn't known what begins there; [`edges_by_definition`], how far it reaches; [`lacking_by_definition`], which ranges a set of offsets lacks;
 //! [`fills_by_definition`], where one comes to that goes on over fills;
-//! [`zones_by_definition`], where the stretches lie that a partition counts; and [`claims_by_definition`], what packs
-//! claim of offsets.
+//! [`zones_by_definition`], where the stretches lie that a partition counts; [`claims_by_definition`], what packs
+//! claim of offsets; and [`claims_in_order`], in which order, and which claim of an offset goes first.
 //!
 //! The places that packs name and of which nothing is held:
 //!
@@ -53,8 +53,8 @@ mod stretch;
 pub use at_hand::{
     AtHand, KEY_AND_LENGTH, OffsetRange, lacking_by_definition, ranges_lacking, up_to_bound,
 };
-pub use claim::{Claim, claims, claims_by_definition};
+pub use claim::{Claim, claims, claims_by_definition, claims_in_order};
 pub use fills::fills_by_definition;
-pub use held::{Holdings, held_by_definition};
+pub use held::{Holdings, edges_by_definition, held_by_definition};
 pub use reason::Reason;
 pub use stretch::{Stretch, Zone, behind_metadata, zone_of, zones_by_definition};

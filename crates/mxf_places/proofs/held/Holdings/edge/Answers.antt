@@ -2,7 +2,7 @@ use Rattle.std.proofs.Common.{◌∙◌, ◌<◌, ℕ, ap, max, subst, sym, unwr
 use Rattle.mxf_catalogue.specs.Covers.{IsCover}
 use Rattle.mxf_catalogue.specs.Runs.{LiesIn}
 use Rattle.mxf_places.specs.AtHand.{runs_end}
-use Rattle.mxf_places.specs.Held.{end_of_file, top_of}
+use Rattle.mxf_places.specs.Held.{end_of_file}
 use Rattle.mxf_places.proofs.AtHandLaws.{runs_end-bound}
 use Rattle.mxf_places.proofs.HeldLaws.{same_bounds}
 use Rattle.mxf_places.proofs.held.Holdings.edge.Goals as goal
