@@ -23,11 +23,12 @@ use Rattle.mxf_places.specs.Claims.{claim_at, claims_of, entry_claims, footer_cl
 use Rattle.mxf_places.specs.Claims.{named_place, place_claim, previous_claim, stretch_claim, zone_claim, zone_of}
 use Rattle.mxf_places.specs.Claims.{zone_reason}
 use Rattle.mxf_places.specs.FirstClaims.{AreInOrder, GoesUpTo, IsFirstClaim, IsSourceUpTo, SpeaksOf, reason_rank}
-use Rattle.mxf_places.specs.Named.{IsClaim, IsClaimFor, IsOfStretch, Names, SaysEntry, SaysPlace, SaysZone}
+use Rattle.mxf_places.specs.Named.{IsClaim, IsClaimFor, IsOfStretch, IsStretch, Names, SaysEntry, SaysPlace, SaysZone}
 use Rattle.mxf_places.specs.declared.claim.Claim.{Claim}
 use Rattle.mxf_places.specs.declared.reason.Reason.{Reason}
 use Rattle.mxf_places.specs.declared.reason.Reason.TheVariants.{Header, Footer, Metadata, Index, Entry, Previous, Gap}
 use Rattle.mxf_places.specs.declared.reason.Reason.TheVariants as reasons
+use Rattle.mxf_places.specs.declared.stretch.Stretch.{Stretch}
 use Rattle.mxf_places.specs.declared.stretch.Zone.{Zone}
 use Rattle.mxf_places.specs.declared.stretch.Zone.TheVariants as zones
 use Rattle.mxf_places.proofs.ClaimLaws.{claims_say, entries_say}
@@ -49,7 +50,7 @@ source_itself : (s : Option ℕ) → IsSourceUpTo s s
 source_itself None = tt
 source_itself (Some x) = omega arith
 
-up_itself : (c : Claim) → GoesUpTo c c
+pub up_itself : (c : Claim) → GoesUpTo c c
 up_itself c = inr (refl, source_itself c.source)
 
 one_source : (s t : Option ℕ) → IsSourceUpTo s t → IsSourceUpTo t s → s ≡ t
@@ -326,6 +327,32 @@ ranked_before notes c is = elim c.reason as (λ r. IsClaimFor r notes c → reas
   | reasons.Front ↦ λ k. absurd k
   | reasons.Unit ↦ λ k. absurd k
 ] is
+
+-- A claim has a byte.
+module _ (notes : List NoteParts) where
+  stretch_some : (zone : Zone) (from count : ℕ) (s : Stretch) → 0 < count → IsStretch zone notes from count s → 0 < s.end
+  stretch_some zone from count s some (inl k) = let e = ap (λ (s : Stretch). s.end) k.is in omega (arith, some, e)
+  stretch_some zone from count s some (inr k) = let e = ap (λ (s : Stretch). s.end) k.is in omega (arith, e)
+
+  some_for : (r : Reason) (c : Claim) → IsClaimFor r notes c → 0 < c.end
+  some_for Header c k = let e = ap (λ (c : Claim). c.end) k in omega (arith, e)
+  some_for Footer c k = let e = ap (λ (c : Claim). c.end) k.2.2 in omega (arith, e)
+  some_for Metadata c k =
+      let z = k.2.1 in
+      let l = stretch_some zones.Metadata _ _ k.2.0 z.0 z.1 in
+      let e = ap (λ (c : Claim). c.end) k.2.2 in omega (arith, l, e)
+  some_for Index c k =
+      let z = k.2.1 in
+      let l = stretch_some zones.Index _ _ k.2.0 z.0 z.1.2 in
+      let e = ap (λ (c : Claim). c.end) k.2.2 in omega (arith, l, e)
+  some_for Entry c k = let e = ap (λ (c : Claim). c.end) k.2.3 in omega (arith, e)
+  some_for Previous c k = let e = ap (λ (c : Claim). c.end) k.2.2 in omega (arith, e)
+  some_for Gap c k = absurd k
+  some_for reasons.Front c k = absurd k
+  some_for reasons.Unit c k = absurd k
+
+  pub claim_some : (c : Claim) → IsClaim notes c → 0 < c.end
+  claim_some c k = some_for c.reason c k
 
 -- ---- the place that a claim names
 

@@ -15,3 +15,5 @@ pub mod PlanMembers
 pub mod OrderStarts
 pub mod FrontLaws
 pub mod NamedPlaceLaws
+pub mod DisputedPlaceMembers
+pub mod MissingLaws

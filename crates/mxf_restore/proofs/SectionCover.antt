@@ -1,5 +1,5 @@
 -- The sections of holes cover them, and share no byte.
-use Rattle.std.proofs.Common.{◌≡◌, ◌↔◌, ◌⊎◌, ◌∙◌, ◌-◌, ◌<◌, ◌≤◌, ◌&&◌, ℕ, true, IsTrue, not, nat_lt}
+use Rattle.std.proofs.Common.{◌≡◌, ◌↔◌, ◌⊎◌, ◌∙◌, ◌-◌, ◌<◌, ◌≤◌, ◌&&◌, ℕ, true, false, IsTrue, not, nat_lt, if◌then◌else◌}
 use Rattle.std.proofs.Common.{List, [], ◌∷◌, Option, None, Some, filter, filter_map}
 use Rattle.std.proofs.Common.{refl, sym, ap, subst, inl, inr, arith, ltb-true, lt-ltb}
 use Rattle.std.proofs.lemmas.Bool.{and_from, and_parts, cases_lt}
@@ -14,12 +14,15 @@ use Rattle.mxf_klv.proofs.RisingBy.{IsRisingBy, by_itself, rises-filter}
 use Rattle.mxf_klv.proofs.Tests.{not-true-false, not_true}
 use Rattle.mxf_catalogue.specs.Content.{IsContent}
 use Rattle.mxf_places.specs.Held.{IsHeld, is_held, is_in_file}
-use Rattle.mxf_places.specs.Claims.{claims_of}
+use Rattle.mxf_places.specs.Claims.{claims_of, is_of_stretch}
+use Rattle.mxf_places.specs.declared.claim.Claim.{Claim}
 use Rattle.mxf_places.specs.AtHand.{LiesInRange}
-use Rattle.mxf_restore.specs.Sections.{AreSections, IsCut, IsEndOfHole, IsHole, LiesInSection, cut_of, cuts_of}
+use Rattle.mxf_restore.specs.Sections.{AreSections, CutsAt, IsCut, IsEndOfHole, IsHole, LiesInSection, cut_of, cuts_of}
 use Rattle.mxf_restore.specs.Sections.{holes_of, is_inside, sections_from, sections_in, sections_of}
 use Rattle.mxf_places.specs.declared.at_hand.OffsetRange.{OffsetRange}
 use Rattle.mxf_restore.specs.declared.section.Section.{Section}
+use Rattle.mxf_places.proofs.EndLaws.{in_file_says}
+use Rattle.mxf_places.proofs.FirstLaws.{is_of_stretch-says}
 use Rattle.mxf_places.proofs.HeldLaws.{is_held-says}
 use Rattle.mxf_restore.proofs.HoleLaws.{from_hole, to_hole}
 
@@ -205,6 +208,39 @@ one_hole notes h k x a b u v =
           ]
         ]
 
+-- Where a claim cuts.
+cuts_say : (c : Claim) (x : ℕ) → (cut_of c ≡ Some x) ↔ CutsAt c x
+cuts_say c x =
+    let says = is_of_stretch-says c in
+    elim (is_of_stretch c.reason) as (λ b. is_of_stretch c.reason ≡ b
+    → ((if b then (if c.is_open then None else Some c.end) else Some c.from) ≡ Some x) ↔ CutsAt c x) [
+      | true ↦ λ t.
+          elim c.is_open as (λ o. c.is_open ≡ o
+          → ((if o then None else Some c.end) ≡ Some x) ↔ CutsAt c x) [
+            | true ↦ λ opened. (
+              λ e. absurd (cc (e)),
+              λ k. elim k [
+                | inl n ↦ absurd (n.0 (says.0 t))
+                | inr s ↦ (let closed = s.1 in absurd (cc (opened, closed)))
+              ],
+            )
+            | false ↦ λ closed. (
+              λ e. inr (says.0 t, closed, same_Some _ _ e),
+              λ k. elim k [
+                | inl n ↦ absurd (n.0 (says.0 t))
+                | inr s ↦ ap (λ (z : ℕ). Some z) s.2
+              ],
+            )
+          ] refl
+      | false ↦ λ f. (
+        λ e. inl (λ s. let t = says.1 s in absurd (cc (t, f)), same_Some _ _ e),
+        λ k. elim k [
+          | inl n ↦ ap (λ (z : ℕ). Some z) n.1
+          | inr s ↦ (let t = says.1 s.0 in absurd (cc (t, f)))
+        ],
+      )
+    ] refl
+
 module _ (notes : List NoteParts) (content : IsContent notes) where
   rising : IsRisingBy (λ x. x) (cuts_of notes)
   unfolding cuts_of
@@ -224,14 +260,15 @@ module _ (notes : List NoteParts) (content : IsContent notes) where
         λ k.
             let j = f.0 (elim (u.0 k) [ inl n ↦ absurd n | inr n ↦ n ]) in
             let b = and_parts (is_in_file notes x) (not (is_held notes x)) j.1 in
+            let c = m.0 j.0 in
             record {
-              claim = m.0 j.0;
-              in_file = b.0;
+              claim = (c.0, c.1, (cuts_say c.0 x).0 c.2);
+              in_file = (in_file_says notes x).0 b.0;
               free = λ h. not-true-false (is_held notes x) b.1 (says.1 h);
             },
         λ c. u.1 (inr (f.1 (
-          m.1 c.claim,
-          and_from (is_in_file notes x) (not (is_held notes x)) c.in_file
+          m.1 (c.claim.0, c.claim.1, (cuts_say c.claim.0 x).1 c.claim.2),
+          and_from (is_in_file notes x) (not (is_held notes x)) ((in_file_says notes x).1 c.in_file)
               (not_true (is_held notes x) (λ t. c.free (says.0 t))),
         ))),
       )

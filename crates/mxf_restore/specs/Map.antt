@@ -1,5 +1,5 @@
 -- What is held of a file, as a picture of cells (this project's profile).
-use Rattle.std.specs.Prelude.{◌≡◌, ℕ, ◌+◌, ◌-◌, ◌/◌, ◌<◌, ◌≤◌, Bool, ◌&&◌, ◌||◌, not, nat_lt, max, min}
+use Rattle.std.specs.Prelude.{◌≡◌, ◌⊎◌, ℕ, ◌+◌, ◌-◌, ◌/◌, ◌<◌, ◌≤◌, Bool, false, ◌&&◌, ◌||◌, not, nat_lt, max, min}
 use Rattle.std.specs.Prelude.{List, [], ◌∷◌, count_by, filter, length, map}
 use Rattle.std.specs.List.{filter_map, range_with_len}
 use Rattle.mxf_klv.specs.declared.kinds.Kind.{Kind}
@@ -18,11 +18,29 @@ use Rattle.mxf_places.specs.AtHand.{KnownParts, edge_of, has_offset}
 use Rattle.mxf_catalogue.specs.declared.run.Run.{Run}
 use Rattle.mxf_catalogue.specs.Runs.{LiesIn}
 use Rattle.mxf_places.specs.Claims.{claims_of, named_place}
+use Rattle.mxf_places.specs.Named.{IsInFile, Names, StandsAlone}
+use Rattle.mxf_places.specs.declared.claim.Claim.{Claim}
 use Rattle.mxf_restore.specs.Sections.{holes_of}
 use Rattle.mxf_restore.specs.declared.map.Mark.{Mark}
 use Rattle.mxf_restore.specs.declared.map.Mark.TheVariants as marks
 
--- The place may lie in the file, and what begins there isn't held whole.
+-- A head that shares no byte with another packet begins there.
+abbrev pub BeginsHead : List NoteParts → ℕ → Type 0
+BeginsHead notes x = (n : NoteParts) × StandsAlone notes n x × (n.whole ≡ false)
+
+-- The place may lie in the file, no disputed packet covers it, and what begins there isn't held whole: only the head of a
+-- packet is, or nothing.
+pub record IsMissing (notes : List NoteParts) (x : ℕ) : Type 0 where
+  pub in_file : IsInFile notes x
+  pub undisputed : ¬ IsDisputedAt notes x
+  pub lacks : BeginsHead notes x ⊎ ¬ IsHeld notes x
+
+-- A pack names the place, and it is missing.
+abbrev pub IsMissingPlace : List NoteParts → ℕ → Type 0
+IsMissingPlace notes x = (c : Claim) × In c (claims_of notes) × Names c x × IsMissing notes x
+
+-- The same as functions. A law ties them to the relations.
+
 abbrev pub is_missing : List NoteParts → ℕ → Bool
 is_missing notes x =
     is_in_file notes x && not (is_disputed_at notes x) && (begins_clear_head notes x || not (is_held notes x))

@@ -1,6 +1,6 @@
 -- Holes of a file, cut into sections at the places where packets begin, as far as what is held says (this project's
 -- profile).
-use Rattle.std.specs.Prelude.{◌≡◌, ℕ, ◌+◌, ◌⊎◌, Bool, true, IsTrue, ◌&&◌, not, nat_lt}
+use Rattle.std.specs.Prelude.{◌≡◌, ℕ, ◌+◌, ◌⊎◌, Bool, true, false, ◌&&◌, not, nat_lt}
 use Rattle.std.specs.Prelude.{if◌then◌else◌, Option, None, Some, is_some, List, [], ◌∷◌, ◌++◌, filter, flat_map, map}
 use Rattle.std.specs.Option.{option_and_then, option_map_or}
 use Rattle.std.specs.List.{filter_map}
@@ -12,6 +12,7 @@ use Rattle.mxf_views.specs.Gaps.{gaps_of}
 use Rattle.mxf_places.specs.Held.{IsHeld, end_of_file, held_end, is_held, is_in_file}
 use Rattle.mxf_places.specs.AtHand.{LiesBetween, LiesInRange}
 use Rattle.mxf_places.specs.Claims.{claims_of, is_of_stretch}
+use Rattle.mxf_places.specs.Named.{IsInFile, IsOfStretch, Names}
 use Rattle.mxf_places.specs.declared.claim.Claim.{Claim}
 use Rattle.mxf_places.specs.declared.at_hand.OffsetRange.{OffsetRange}
 use Rattle.mxf_restore.specs.declared.section.Section.{Section}
@@ -73,10 +74,14 @@ sections_of notes = flat_map (sections_in (cuts_of notes)) (holes_of notes)
 abbrev pub LiesInSection : Section → ℕ → Type 0
 LiesInSection p x = LiesBetween p.first p.end x
 
--- An offset where holes are cut: one that some claim names, in the file and not held.
+-- Where a claim cuts a hole: at the place that it names, or at the known end of its stretch.
+abbrev pub CutsAt : Claim → ℕ → Type 0
+CutsAt c x = Names c x ⊎ (IsOfStretch c × (c.is_open ≡ false) × (c.end ≡ x))
+
+-- An offset where holes are cut: one at which some claim does, in the file and not held.
 pub record IsCut (notes : List NoteParts) (x : ℕ) : Type 0 where
-  pub claim : (c : Claim) × In c (claims_of notes) × (cut_of c ≡ Some x)
-  pub in_file : IsTrue (is_in_file notes x)
+  pub claim : (c : Claim) × In c (claims_of notes) × CutsAt c x
+  pub in_file : IsInFile notes x
   pub free : ¬ IsHeld notes x
 
 -- The sections of a file: each lies in its hole, begins at the first byte of that or at a cut, and has a byte; each

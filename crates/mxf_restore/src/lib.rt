@@ -35,7 +35,7 @@ mod order;
 mod plan;
 mod section;
 
-pub use map::{Map, Mark, one_map, one_mark};
+pub use map::{Map, Mark, missing_places_by_definition, one_map, one_mark};
 pub use named::{NamedPlace, named_places};
 pub use order::{SectionOrders, fronts_by_definition, is_again};
 pub use plan::{

@@ -1,12 +1,13 @@
 //! What is held of a file, as a picture of cells.
-ghost use Rattle.std.specs.Prelude.{◌≡◌, ◌≤◌, ℕ, IfOk, List, length};
+ghost use Rattle.std.specs.Prelude.{◌≡◌, ◌↔◌, ◌≤◌, ℕ, IfOk, IsTrue, List, length};
+ghost use Rattle.mxf_klv.specs.Rising.{In};
 ghost use Rattle.mxf_klv.specs.Parts.{NoteParts};
 ghost use Rattle.mxf_catalogue.specs.Covers.{IsCover};
 ghost use Rattle.mxf_catalogue.specs.Disputes.{disputed_notes};
 ghost use Rattle.mxf_places.specs.AtHand.{KnownParts};
 ghost use Rattle.mxf_places.specs.Held.{bytes_of};
 ghost use Rattle.mxf_restore.specs.Map.{AreMarks, IsMap, IsMark, MapParts, cell_size, gaps_below, hand_below};
-ghost use Rattle.mxf_restore.specs.Map.{held_below, map_end};
+ghost use Rattle.mxf_restore.specs.Map.{IsMissing, IsMissingPlace, held_below, is_missing, map_end, missing_places};
 ghost use Rattle.mxf_restore.specs.declared.map.Mark.{Mark};
 
 mod layers;
@@ -255,4 +256,11 @@ pub fn one_mark()
 pub fn one_map()
     ensures { (known : KnownParts) (cells : ℕ) (m n : MapParts)
         → IsMap known cells m → IsMap known cells n → m ≡ n }
+{}
+
+/// A law of [`Map::marks`] and of [`named_places`](crate::named_places): a missing place is one that a pack names and that
+/// may lie in the file, that no disputed packet covers, and where not all is held that begins there.
+pub fn missing_places_by_definition()
+    ensures test { (notes : List NoteParts) (x : ℕ) → IsTrue (is_missing notes x) ↔ IsMissing notes x }
+    ensures places { (notes : List NoteParts) (x : ℕ) → In x (missing_places notes) ↔ IsMissingPlace notes x }
 {}

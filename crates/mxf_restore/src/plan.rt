@@ -11,6 +11,7 @@ ghost use Rattle.mxf_places.specs.AtHand.{AtHandParts, edge_of, nothing_at_hand}
 ghost use Rattle.mxf_places.specs.Claims.{claims_of};
 ghost use Rattle.mxf_restore.specs.Sections.{sections_of};
 ghost use Rattle.std.specs.Option.{option_to_list};
+ghost use Rattle.mxf_restore.specs.DisputedPlaces.{IsDisputedPlace};
 ghost use Rattle.mxf_restore.specs.Plan.{LiesInOrder, asked_of, disputed_place_cmp, disputed_place_of, order_cmp, orders_of, plan_of};
 ghost use Rattle.mxf_restore.specs.declared.section.Section.{Section};
 ghost use Rattle.mxf_restore.specs.declared.plan.DisputedPlace.{DisputedPlace};
@@ -156,9 +157,12 @@ pub fn starts_are_apart()
         → In o (plan_of at notes).orders → In r (plan_of at notes).orders → o.start ≡ r.start → o ≡ r }
 {}
 
-/// A law of [`Plan::disputed_places`]: they are the first disputed place of each place, in the order of the claims, and
-/// rise by reason, place and source.
+/// A law of [`Plan::disputed_places`]: they are the places in the file that some claim speaks of and that a disputed
+/// packet covers, each with the reason and source of the claim that goes first: the first of its place, in the order of
+/// the claims. They rise by reason, place and source.
 pub fn disputed_places_by_definition()
+    ensures places { (at : AtHandParts) (notes : List NoteParts) (d : DisputedPlace) → IsContent notes
+        → In d (plan_of at notes).disputed_places ↔ IsDisputedPlace notes d }
     ensures members { (at : AtHandParts) (notes : List NoteParts) (d : DisputedPlace)
         → In d (plan_of at notes).disputed_places
         ↔ (find (λ e. e.place == d.place) (filter_map (disputed_place_of notes) (claims_of notes)) ≡ Some d) }
