@@ -43,7 +43,8 @@ use Rattle.mxf_hand.specs.declared.found.CutHead.{CutHead}
 use Rattle.mxf_hand.proofs.ClearLaws.{cut_head}
 use Rattle.mxf_hand.proofs.HandLaws.{at_fits, read_lies}
 use Rattle.mxf_hand.proofs.HeadNoteLaws.{not_whole, two_parts}
-use Rattle.mxf_hand.proofs.PacketPlaces.{behind_place, ends_below, first_below, front_of, laid_size}
+use Rattle.mxf_hand.proofs.PacketPlaces.{behind_place, first_below, front_of, laid_size}
+use Rattle.mxf_places.proofs.LaidPlaces.{ends_below}
 
 -- ---- bytes of a list, from an offset on
 

@@ -30,7 +30,8 @@ use Rattle.mxf_hand.specs.Sections.{from_of, made_by, made_of, packets_of, read_
 use Rattle.mxf_hand.specs.declared.found.CutHead.{CutHead}
 use Rattle.mxf_hand.proofs.HandLaws.{read_lies}
 use Rattle.mxf_hand.proofs.HeadNoteLaws.{not_whole}
-use Rattle.mxf_hand.proofs.PacketPlaces.{held_all, laid_size}
+use Rattle.mxf_hand.proofs.PacketPlaces.{laid_size}
+use Rattle.mxf_places.proofs.LaidPlaces.{held_all}
 
 -- Where none of some gives anything, all together don't.
 all_none : {K L : Type 0} (f : K → List L) (xs : List K) → ((x : K) → In x xs → f x ≡ []) → flat_map f xs ≡ []

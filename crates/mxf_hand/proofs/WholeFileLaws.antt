@@ -46,7 +46,8 @@ use Rattle.mxf_hand.proofs.FileLaws.{stands_in}
 use Rattle.mxf_hand.proofs.HeadNoteLaws.{both_true, not_whole}
 use Rattle.mxf_hand.proofs.HistoryLaws.{round_content, round_reduced}
 use Rattle.mxf_hand.proofs.NoMoreLaws.{no_more}
-use Rattle.mxf_hand.proofs.PacketPlaces.{ends_below, has_packet, is_head, is_or_head, not_cut}
+use Rattle.mxf_hand.proofs.PacketPlaces.{has_packet, is_head, is_or_head, not_cut}
+use Rattle.mxf_places.proofs.LaidPlaces.{ends_below}
 use Rattle.mxf_hand.proofs.RoundLaws.{all_rounds, round_more, rounds_end}
 
 -- ---- ranges

@@ -23,7 +23,8 @@ use Rattle.mxf_places.specs.Claims.{claim_at, claims_of, entry_claims, footer_cl
 use Rattle.mxf_places.specs.Claims.{named_place, place_claim, previous_claim, stretch_claim, zone_claim, zone_of}
 use Rattle.mxf_places.specs.Claims.{zone_reason}
 use Rattle.mxf_places.specs.FirstClaims.{AreInOrder, GoesUpTo, IsFirstClaim, IsSourceUpTo, SpeaksOf, reason_rank}
-use Rattle.mxf_places.specs.Named.{IsClaim, IsClaimFor, IsOfStretch, IsStretch, Names, SaysEntry, SaysPlace, SaysZone}
+use Rattle.mxf_klv.specs.Note.{end_of}
+use Rattle.mxf_places.specs.Named.{Follow, IsClaim, IsClaimFor, IsOfStretch, IsStretch, Names, SaysEntry, SaysPlace, SaysZone}
 use Rattle.mxf_places.specs.declared.claim.Claim.{Claim}
 use Rattle.mxf_places.specs.declared.reason.Reason.{Reason}
 use Rattle.mxf_places.specs.declared.reason.Reason.TheVariants.{Header, Footer, Metadata, Index, Entry, Previous, Gap}
@@ -330,28 +331,46 @@ ranked_before notes c is = elim c.reason as (λ r. IsClaimFor r notes c → reas
 
 -- A claim has a byte.
 module _ (notes : List NoteParts) where
-  stretch_some : (zone : Zone) (from count : ℕ) (s : Stretch) → 0 < count → IsStretch zone notes from count s → 0 < s.end
-  stretch_some zone from count s some (inl k) = let e = ap (λ (s : Stretch). s.end) k.is in omega (arith, some, e)
-  stretch_some zone from count s some (inr k) = let e = ap (λ (s : Stretch). s.end) k.is in omega (arith, e)
+  on_from : (fills : List NoteParts) (from to : ℕ) → Follow fills from to → from ≤ to
+  on_from [] from to e = omega (arith, e)
+  on_from (n ∷ fills) from to f = let at = f.0 in let on = on_from fills (end_of n) to f.1 in omega (arith, at, on)
 
-  some_for : (r : Reason) (c : Claim) → IsClaimFor r notes c → 0 < c.end
-  some_for Header c k = let e = ap (λ (c : Claim). c.end) k in omega (arith, e)
-  some_for Footer c k = let e = ap (λ (c : Claim). c.end) k.2.2 in omega (arith, e)
+  stretch_some : (zone : Zone) (from count : ℕ) (s : Stretch) → 0 < count → IsStretch zone notes from count s
+      → s.from < s.end
+  stretch_some zone from count s some (inl k) =
+      let on = on_from k.over.fills from k.first.offset k.over.follow in
+      let start = ap (λ (s : Stretch). s.from) k.is in
+      let end = ap (λ (s : Stretch). s.end) k.is in omega (arith, some, on, start, end)
+  stretch_some zone from count s some (inr k) =
+      let on = on_from k.over.fills from k.at k.over.follow in
+      let start = ap (λ (s : Stretch). s.from) k.is in
+      let end = ap (λ (s : Stretch). s.end) k.is in omega (arith, on, start, end)
+
+  place_some : (r : Reason) (source : Option ℕ) (x : ℕ) (c : Claim) → c ≡ place_claim r source x → c.from < c.end
+  place_some r source x c e =
+      let from = ap (λ (c : Claim). c.from) e in let end = ap (λ (c : Claim). c.end) e in omega (arith, from, end)
+
+  zone_some : (r : Reason) (p : PartitionParts) (s : Stretch) (c : Claim) → s.from < s.end → c ≡ stretch_claim r p s
+      → c.from < c.end
+  zone_some r p s c l e =
+      let from = ap (λ (c : Claim). c.from) e in let end = ap (λ (c : Claim). c.end) e in omega (arith, l, from, end)
+
+  some_for : (r : Reason) (c : Claim) → IsClaimFor r notes c → c.from < c.end
+  some_for Header c k = place_some Header None 0 c k
+  some_for Footer c k = place_some Footer _ _ c k.2.2
   some_for Metadata c k =
       let z = k.2.1 in
-      let l = stretch_some zones.Metadata _ _ k.2.0 z.0 z.1 in
-      let e = ap (λ (c : Claim). c.end) k.2.2 in omega (arith, l, e)
+      zone_some Metadata k.0 k.2.0 c (stretch_some zones.Metadata _ _ k.2.0 z.0 z.1) k.2.2
   some_for Index c k =
       let z = k.2.1 in
-      let l = stretch_some zones.Index _ _ k.2.0 z.0 z.1.2 in
-      let e = ap (λ (c : Claim). c.end) k.2.2 in omega (arith, l, e)
-  some_for Entry c k = let e = ap (λ (c : Claim). c.end) k.2.3 in omega (arith, e)
-  some_for Previous c k = let e = ap (λ (c : Claim). c.end) k.2.2 in omega (arith, e)
+      zone_some Index k.0 k.2.0 c (stretch_some zones.Index _ _ k.2.0 z.0 z.1.2) k.2.2
+  some_for Entry c k = place_some Entry _ _ c k.2.3
+  some_for Previous c k = place_some Previous _ _ c k.2.2
   some_for Gap c k = absurd k
   some_for reasons.Front c k = absurd k
   some_for reasons.Unit c k = absurd k
 
-  pub claim_some : (c : Claim) → IsClaim notes c → 0 < c.end
+  pub claim_some : (c : Claim) → IsClaim notes c → c.from < c.end
   claim_some c k = some_for c.reason c k
 
 -- ---- the place that a claim names

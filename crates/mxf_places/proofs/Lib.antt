@@ -12,3 +12,4 @@ pub mod InNumbers
 pub mod AtHandLaws
 pub mod FirstLaws
 pub mod EdgeLaws
+pub mod LaidPlaces

@@ -17,3 +17,4 @@ pub mod FrontLaws
 pub mod NamedPlaceLaws
 pub mod DisputedPlaceMembers
 pub mod MissingLaws
+pub mod WholeFileOrders

@@ -1,6 +1,7 @@
 pub mod Sections
 pub mod Plan
 pub mod Orders
+pub mod WholeFiles
 pub mod DisputedPlaces
 pub mod Fronts
 pub mod NamedPlaces

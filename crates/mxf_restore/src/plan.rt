@@ -1,7 +1,11 @@
 //! What to restore next.
 ghost use Rattle.std.specs.Prelude.{◌≡◌, ◌↔◌, ◌⊎◌, ◌<◌, ◌==◌, ℕ, [], List, Some, find, IfOk};
 ghost use Rattle.std.specs.List.{filter_map};
-ghost use Rattle.mxf_klv.specs.Parts.{NoteParts};
+ghost use Rattle.mxf_klv.specs.Parts.{NoteParts, PacketParts};
+ghost use Rattle.mxf_klv.specs.Piece.{end_after, notes_from};
+ghost use Rattle.mxf_views.specs.WellFormed.{IsWellFormed};
+ghost use Rattle.mxf_restore.specs.Orders.{IsOrder};
+ghost use Rattle.mxf_restore.specs.WholeFiles.{EndsInRandomIndex, NothingIsBeyond};
 ghost use Rattle.mxf_klv.specs.Rising.{In, IsRising, union};
 ghost use Rattle.mxf_catalogue.specs.Content.{IsContent};
 ghost use Rattle.mxf_catalogue.specs.Covers.{IsCover};
@@ -182,4 +186,12 @@ pub fn gaps_are_ordered()
 pub fn orders_where_nothing_is_at_hand()
     ensures { (notes : List NoteParts) (p : Section) → IsContent notes → In p (sections_of notes)
         → orders_of nothing_at_hand notes p ≡ option_to_list (asked_of nothing_at_hand notes p) }
+{}
+
+/// A law of [`Plan::orders`]: of the notes of a well-formed file nothing is ordered, whatever is at hand, where its last
+/// packet is a random index pack; or where no pack speaks of an offset at or above its end, and none is given.
+pub fn whole_files_have_no_order()
+    ensures { (l : List PacketParts) (at : AtHandParts) (p : Section) (o : Order) → IsWellFormed l
+        → EndsInRandomIndex l ⊎ NothingIsBeyond at (notes_from 0 l) (end_after 0 l)
+        → In p (sections_of (notes_from 0 l)) → IsOrder at (notes_from 0 l) p o → ⊥ }
 {}

@@ -1,0 +1,30 @@
+-- Which offsets the packets of a file hold.
+use Rattle.std.proofs.Common.{◌≡◌, ◌≤◌, ◌<◌, ◌+◌, ℕ, List, [], ◌∷◌, ap, arith, inl, inr, refl}
+use Rattle.std.proofs.lemmas.Bool.{cases_lt}
+use Rattle.mxf_klv.specs.Parts.{NoteParts, PacketParts}
+use Rattle.mxf_klv.specs.Note.{end_of, note_of}
+use Rattle.mxf_klv.specs.Packet.{size_of}
+use Rattle.mxf_klv.specs.Piece.{end_after, notes_from}
+use Rattle.mxf_klv.specs.Rising.{In}
+use Rattle.mxf_places.specs.Held.{IsHeld}
+
+pub end_above : (o : ℕ) (l : List PacketParts) → o ≤ end_after o l
+end_above o [] = omega arith
+end_above o (p ∷ l) = let more = end_above (o + size_of p) l in omega (arith, more)
+
+-- Each packet ends at or below the end of all.
+pub ends_below : (o : ℕ) (l : List PacketParts) (m : NoteParts) → In m (notes_from o l) → end_of m ≤ end_after o l
+ends_below o [] m i = absurd i
+ends_below o (p ∷ l) m (inl e) =
+    let end : end_of m ≡ end_of (note_of o p) = ap end_of e in
+    let more = end_above (o + size_of p) l in omega (arith, end, more)
+ends_below o (p ∷ l) m (inr i) = ends_below (o + size_of p) l m i
+
+-- All bytes of the packets are held.
+pub held_all : (o : ℕ) (l : List PacketParts) (x : ℕ) → o ≤ x → x < end_after o l → IsHeld (notes_from o l) x
+held_all o [] x low high = absurd (omega (arith, low, high))
+held_all o (p ∷ l) x low high =
+    elim (cases_lt x (o + size_of p)) [
+      | inl less ↦ (note_of o p, inl refl, record { from = low; before = omega (arith, less) })
+      | inr more ↦ let h = held_all (o + size_of p) l x more high in (h.0, inr h.1, h.2)
+    ]
