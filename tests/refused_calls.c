@@ -1,5 +1,5 @@
 // Refuses calls of the program that this library is loaded ahead of. REFUSED_CALL says which: growth (of memory), read,
-// write, open, lock, permissions, sync or rename. Refused is the one whose number, counted from 1, is in REFUSED_AT, or
+// write, open, look (at a file), lock, permissions, sync or rename. Refused is the one whose number, counted from 1, is in REFUSED_AT, or
 // that one and all later ones where it is in REFUSED_FROM; the first ones, as interrupted, up to the number in
 // INTERRUPTED. Of byte-read and byte-written the byte of that number and all later ones can't be moved, standard error
 // aside. Where REFUSED_LOG names a descriptor, a byte is written to it for each. ONE_BYTE has each read and write move
@@ -11,6 +11,7 @@
 #include <stdlib.h>
 #include <string.h>
 #include <sys/file.h>
+#include <sys/stat.h>
 #include <sys/syscall.h>
 #include <unistd.h>
 
@@ -75,6 +76,10 @@ int open(const char *path, int flags, ...) {
   int mode = flags & O_CREAT ? va_arg(rest, int) : 0;
   va_end(rest);
   return is_refused("open", EMFILE) ? -1 : (int)syscall(SYS_openat, AT_FDCWD, path, flags, mode);
+}
+
+int statx(int folder, const char *path, int flags, unsigned mask, struct statx *found) {
+  return is_refused("look", EIO) ? -1 : (int)syscall(SYS_statx, folder, path, flags, mask, found);
 }
 
 int fsync(int file) { return is_refused("sync", EIO) ? -1 : (int)syscall(SYS_fsync, file); }

@@ -60,7 +60,7 @@ fn write_cause<W: fmt::Write>(
     match cause {
         Some(TOO_MANY_FILES) => write!(
             f,
-            "{path}: {TOO_MANY_FILES}: all sources are open at once; join them in groups, a file each, and then these files; or raise the limit by ulimit -n"
+            "{path}: {TOO_MANY_FILES}: all sources are open at once, those of a list too; join them in groups, a file each, and then these files; or raise the limit by ulimit -n"
         ),
         Some(cause) => write!(f, "{path}: {cause}"),
         None => write!(f, "{path}: the system gives no cause"),

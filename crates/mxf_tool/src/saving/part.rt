@@ -5,6 +5,7 @@ ghost use Rattle.mxf_tool.specs.Saving.{IsBeside, part_name};
 
 use super::SaveFault;
 use super::same_file::is_same_file;
+use mxf_read::GREATEST_INTERRUPTIONS;
 use std::alloc::{AllocError, Global};
 use std::fs::{self, File, OpenOptions, TryLockError};
 use std::io::{self, ErrorKind};
@@ -42,8 +43,8 @@ impl<'a, R: Files<File = File> + AllocGlobal> PartFile<'a, R> {
         let options = options(is_private);
         for _ in 0..TRIES {
             match options.open(rt, &beside) {
-                Ok(file) => {
-                    if is_locked(rt, &beside, &file)? {
+                Ok(file) => match is_locked(rt, &beside, &file) {
+                    Ok(true) => {
                         return Ok(PartFile {
                             rt,
                             path: beside,
@@ -51,7 +52,13 @@ impl<'a, R: Files<File = File> + AllocGlobal> PartFile<'a, R> {
                             is_renamed: false,
                         });
                     }
-                }
+                    Ok(false) => {}
+                    Err(fault) => {
+                        // It was made here, and is empty.
+                        let _ = fs::remove_file(rt, &beside);
+                        return Err(fault);
+                    }
+                },
                 Err(fault) if fault.kind() == ErrorKind::AlreadyExists => {
                     if !remove_left_over(rt, &beside)? {
                         return Err(SaveFault::Reserved(beside));
@@ -68,11 +75,17 @@ impl<'a, R: Files<File = File> + AllocGlobal> PartFile<'a, R> {
         &self.file
     }
 
-    /// Puts the file in the place of the one at `path`.
+    /// Puts the file in the place of the one at `path`. Where that is interrupted it is tried again, 1,024 times at most.
     pub fn rename(&mut self, path: &PathBuf) -> io::Result<()> {
-        fs::rename(self.rt, &self.path, path)?;
-        self.is_renamed = true;
-        Ok(())
+        let mut renamed = fs::rename(self.rt, &self.path, path);
+        for _ in 0..GREATEST_INTERRUPTIONS {
+            if !is_interrupted(&renamed) {
+                break;
+            }
+            renamed = fs::rename(self.rt, &self.path, path);
+        }
+        self.is_renamed = renamed.is_ok();
+        renamed
     }
 }
 
@@ -87,6 +100,14 @@ impl<R: Files<File = File>> Drop for PartFile<'_, R> {
         if !is_renamed {
             let _ = fs::remove_file(rt, &path);
         }
+    }
+}
+
+/// Whether a call was interrupted.
+fn is_interrupted(answered: &io::Result<()>) -> bool {
+    match answered {
+        Ok(()) => false,
+        Err(fault) => fault.kind() == ErrorKind::Interrupted,
     }
 }
 
