@@ -133,7 +133,7 @@ module _ (notes : List NoteParts) (content : IsContent notes) where
           | false ↦ λ closed u. inr (m, (metadata_says m).0 f, closed, sym (same_Some _ _ u))
         ] refl e
 
-    behind_says : (x : ℕ) → (behind_metadata notes p ≡ Some x) ↔ IsBehindMetadata notes p x
+    pub behind_says : (x : ℕ) → (behind_metadata notes p ≡ Some x) ↔ IsBehindMetadata notes p x
     behind_says x =
         let count = p.pack.numbers.header_byte_count in
         let behind = option_and_then known_end (metadata_of notes p) in (

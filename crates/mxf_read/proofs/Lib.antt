@@ -7,6 +7,7 @@ pub mod LevelLaws
 pub mod SavedLaws
 pub mod Starts
 pub mod RangeLaws
+pub mod WindowLaws
 pub mod ReadBytes
 pub mod NotingLaws
 pub mod Tellings

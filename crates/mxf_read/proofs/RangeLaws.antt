@@ -17,8 +17,9 @@ use Rattle.mxf_read.specs.declared.gathering.report.PieceReport.{PieceReport}
 use Rattle.mxf_read.specs.Absorbs.{report_of}
 use Rattle.mxf_read.specs.Levels.{Adds}
 use Rattle.mxf_read.specs.Gathering.{TakesPart, Tells, piece_limit, piece_of}
-use Rattle.mxf_read.specs.Ranges.{no_start, piece_bytes, piece_offset, range_notes, range_report, start_in}
+use Rattle.mxf_read.specs.Ranges.{LeavesTheRest, no_start, piece_bytes, piece_offset, range_notes, range_report, start_in}
 use Rattle.mxf_read.specs.Ranges.{window_limit, window_of}
+use Rattle.mxf_read.proofs.Starts.{no_start_is}
 
 abbrev reported : ℕ → Report → PieceReport
 reported offset report = record { offset = offset; report = report }
@@ -60,7 +61,21 @@ nothing_told (Some all) offset window told w s is =
     (option_map_or (λ p. report_of (offset + p) (drop p bytes)) o (no_start offset (length (window_of bytes))))) none in
     ap (reported offset) (is ∙ ap (no_start offset) (sym size)) ∙ sym given
 
+-- of a range without a start no more than its window is read
+pub left_unread : (old new : Option (List ℕ)) (offset : ℕ) (window : List ℕ)
+    → IfSome old (λ all. window ≡ take window_limit all) → Consumes old new window → LeavesTheRest offset old new
+left_unread None new offset window w c = tt
+left_unread (Some all) new offset window w c = λ none. subst (Consumes (Some all) new) w c
+
 -- ---- with a start
+
+pub start_left : (old new : Option (List ℕ)) (offset start : ℕ) (window : List ℕ)
+    → IfSome old (λ all. window ≡ take window_limit all) → start_in offset window ≡ Some start
+    → LeavesTheRest offset old new
+start_left None new offset start window w is = tt
+start_left (Some all) new offset start window w is = λ none.
+    let lacking : start_in offset (window_of all) ≡ None = (no_start_is offset (window_of all)).1 none in
+    absurd cc
 
 -- what is read of the piece
 piece_read : (all window rest begun : List ℕ) (start : ℕ) → all ≡ window ++ rest → start < length window

@@ -1,8 +1,9 @@
 -- Where the piece of a range begins: bytes whose first may lie inside a packet (this project's profile).
 use Rattle.std.specs.Prelude.{◌≡◌, ◌≢◌, ◌<◌, ◌≤◌, ◌+◌, ◌⊎◌, ℕ, suc, nat_le, Bool, true, false, not, ◌&&◌, ◌||◌, min}
 use Rattle.std.specs.Prelude.{◌^◌, ◌-◌, if◌then◌else◌, List, [], ◌∷◌, length as len, take, drop, slice_get, Option}
-use Rattle.std.specs.Prelude.{None, Some}
+use Rattle.std.specs.Prelude.{None, Some, IfSome}
 use Rattle.std.specs.Option.{option_map, option_map_or}
+use Rattle.std.specs.Io.KnownBytes.{Consumes}
 use Rattle.std.specs.Str.{bytes_eq}
 use Rattle.mxf_klv.specs.Parts.{LengthParts, NoteParts}
 use Rattle.mxf_klv.specs.Label.{BeginsAsLabel, begins_as_label}
@@ -37,6 +38,13 @@ pub record MayBegin (offset : ℕ) (window : List ℕ) (position : ℕ) : Type 0
   pub within : offset + position + (16 + length.width + length.value) ≤ greatest_end
   pub next : BeginsAsLabel (drop length.value after)
 
+-- Of each packet by which a piece may begin before a position of a window, the four bytes after it lie among the first
+-- so many of the window.
+abbrev pub ShowsNextBefore : ℕ → ℕ → List ℕ → ℕ → Type 0
+ShowsNextBefore start offset window size =
+    (position : ℕ) → position < start → (may : MayBegin offset window position)
+    → position + (16 + may.length.width + may.length.value) + 4 ≤ size
+
 -- The least position of a window at which a piece may begin.
 pub record IsStart (offset : ℕ) (window : List ℕ) (start : ℕ) : Type 0 where
   pub may : MayBegin offset window start
@@ -66,6 +74,15 @@ start_in offset (byte ∷ bytes) =
 -- The window of a range's bytes.
 abbrev pub window_of : List ℕ → List ℕ
 window_of bytes = take window_limit bytes
+
+-- A piece may begin at no position of a window.
+abbrev pub HasNoStart : ℕ → List ℕ → Type 0
+HasNoStart offset window = (position : ℕ) → ¬ MayBegin offset window position
+
+-- What a reader had left is the bytes of a range, and what it has left now follows on their window if that has no
+-- start: nothing more was read.
+abbrev pub LeavesTheRest : ℕ → Option (List ℕ) → Option (List ℕ) → Type 0
+LeavesTheRest offset old new = IfSome old (λ all. HasNoStart offset (window_of all) → Consumes old new (window_of all))
 
 -- Where the piece of a range begins that has these bytes, the first of them at an offset; without a start, where the
 -- range does.

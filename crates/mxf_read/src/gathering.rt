@@ -6,7 +6,8 @@ ghost use Rattle.mxf_catalogue.specs.Content.{reduced_union};
 ghost use Rattle.mxf_catalogue.specs.CatalogueFile.{IsRefused};
 ghost use Rattle.mxf_views.specs.Headline.{IsTheRun};
 ghost use Rattle.mxf_read.specs.Absorbs.{report_of};
-ghost use Rattle.mxf_read.specs.Ranges.{no_start, range_notes, range_report};
+ghost use Rattle.mxf_read.specs.Ranges.{LeavesTheRest, no_start, range_notes, range_report};
+ghost use Rattle.mxf_read.specs.Reads.{Takes};
 ghost use Rattle.std.specs.List.{AllByRecursion};
 ghost use Rattle.mxf_read.specs.Gathering.{AllTell, HandedBy, HasFault, IsGatherFault, IsGood, IsLeftBy};
 ghost use Rattle.mxf_read.specs.Gathering.{IsOfAnyPart, IsSavedAs, IsSavedFault, TakesPart, Tells, piece_limit};
@@ -60,6 +61,7 @@ fn read_piece<R: Read>(
         p.1 ≡ report_of offset (take limit all))) }
     ensures notes { IfOk result (λ p. IfSome (R.remaining from.old) (λ all.
         p.0 ≡ reduced_union [] (notes_in offset (take limit all)))) }
+    ensures left { (taken : List ℕ) × Takes (R.remaining from.old) (R.remaining from.new) limit taken }
     ensures fault { IfErr result IsOfAnyPart }
 {
     let mut ticks = ReadTicks::new();
@@ -69,19 +71,20 @@ fn read_piece<R: Read>(
 
 /// The notes of the piece of a range that a reader gives, and what is reported of it. Behind a window without a start
 /// nothing is read. The window's bytes fill the buffer, which keeps its room for the next range.
-fn read_range<R: Read + Drop>(
+fn read_range<R: Read>(
     alloc: Global,
     offset: u64,
-    mut from: R,
+    from: &mut R,
     window: &mut Vec<u8>,
 ) -> Result<(Catalogue, PieceReport), PartFault>
-    ensures report { IfOk result (λ p. IfSome (R.remaining from) (λ all.
+    ensures report { IfOk result (λ p. IfSome (R.remaining from.old) (λ all.
         p.1 ≡ range_report offset (take piece_limit all))) }
-    ensures notes { IfOk result (λ p. IfSome (R.remaining from) (λ all.
+    ensures notes { IfOk result (λ p. IfSome (R.remaining from.old) (λ all.
         p.0 ≡ reduced_union [] (range_notes offset (take piece_limit all)))) }
+    ensures left { OnOk result (LeavesTheRest offset (R.remaining from.old) (R.remaining from.new)) }
     ensures fault { IfErr result IsOfAnyPart }
 {
-    read_up_to(&mut from, GREATEST_WINDOW, window)?;
+    read_up_to(from, GREATEST_WINDOW, window)?;
     let Some(start) = start_of(offset, window) else {
         let report = no_start(offset, window.len());
         return Ok((Catalogue::new(alloc), PieceReport { offset, report }));
@@ -148,8 +151,8 @@ fn take_part<R: Read + Drop>(
             levels.add(notes)?;
             reports.push(PieceReport { offset, report })?;
         }
-        Part::Range { offset, from } => {
-            let (notes, report) = read_range(alloc, offset, from, window)?;
+        Part::Range { offset, mut from } => {
+            let (notes, report) = read_range(alloc, offset, &mut from, window)?;
             levels.add(notes)?;
             reports.push(report)?;
         }

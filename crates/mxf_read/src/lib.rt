@@ -15,8 +15,9 @@
 //!
 //! [`gather`] takes any number of pieces, ranges and saved catalogues, from readers: what they hold together is exactly
 //! what they hand, and a fault names the part that it is of. A range is bytes whose first may lie inside a packet:
-//! [`start_of`] says where its piece begins, and [`each_range_has_one_start`] that this is the one place. Each read, also
-//! of who reads otherwise, is a [`read_step`].
+//! [`start_of`] says where its piece begins, and [`each_range_has_one_start`] that this is the one place. It is searched
+//! for in the first 33,554,432 bytes, and [`each_start_in_the_window_is_found`] says that none is missed there. Each
+//! read, also of who reads otherwise, is a [`read_step`].
 //!
 //! That memory is there, and that a call succeeds with it, is tested.
 //!
@@ -57,7 +58,7 @@ pub use absorbing::{
 pub use gathering::{GatherFault, Gathered, Part, PartFault, PieceReport, PieceReports, gather};
 pub use given::{BytesAt, Extent, Given, InMemory, Reading, SourceFault, Sources};
 pub use mxf_klv::Stop;
-pub use range::{each_range_has_one_start, start_of};
+pub use range::{each_range_has_one_start, each_start_in_the_window_is_found, start_of};
 pub use reading::{GREATEST_INTERRUPTIONS, Step, read_step};
 pub use report::{AbsorbFault, Report};
 pub use ticks::ReadTicks;

@@ -1,9 +1,10 @@
 //! The start of a range: bytes whose first may lie inside a packet (this project's profile).
-ghost use Rattle.std.specs.Prelude.{◌≡◌, ◌↔◌, ◌+◌, ◌≤◌, ◌<◌, IfSome, ℕ, List, None, Some, length, drop};
+ghost use Rattle.std.specs.Prelude.{◌≡◌, ◌↔◌, ◌+◌, ◌≤◌, ◌<◌, [], IfSome, ℕ, List, None, Some, length, drop, take};
 ghost use Rattle.mxf_klv.specs.Kind.{kind_of};
 ghost use Rattle.mxf_klv.specs.Note.{greatest_end};
 ghost use Rattle.mxf_klv.specs.Label.{IsLabel, begins_as_label};
-ghost use Rattle.mxf_read.specs.Ranges.{IsStart, MayBegin, is_start_key, may_begin, start_in};
+ghost use Rattle.mxf_read.specs.Ranges.{HasNoStart, IsStart, MayBegin, ShowsNextBefore, is_start_key, may_begin};
+ghost use Rattle.mxf_read.specs.Ranges.{piece_bytes, piece_offset, start_in};
 
 use memchr::memmem::Finder;
 use mxf_klv::{Kind, Ul, kind, next_key_and_length};
@@ -95,4 +96,19 @@ pub fn each_range_has_one_start()
         → (start_in offset window ≡ Some start) ↔ IsStart offset window start }
     ensures none { (offset : ℕ) (window : List ℕ)
         → (start_in offset window ≡ None) ↔ ((position : ℕ) → ¬ MayBegin offset window position) }
+{}
+
+/// A law: the piece of a range begins at the start of its first 33,554,432 bytes, whatever bytes follow them, and has no
+/// byte if those have no start. So a start is found if a piece may begin by all bytes of the range at a position whose
+/// next 25 bytes lie among them: it is that position or an earlier one. The first position by all bytes is the start
+/// itself, unless an earlier packet reaches so far that the window's end cuts the label after it.
+pub fn each_start_in_the_window_is_found()
+    ensures begins { (offset : ℕ) (bytes : List ℕ) (start : ℕ) → IsStart offset (take 33554432 bytes) start
+        → (piece_offset offset bytes ≡ offset + start) × (piece_bytes offset bytes ≡ drop start bytes) }
+    ensures none { (offset : ℕ) (bytes : List ℕ) → HasNoStart offset (take 33554432 bytes)
+        → piece_bytes offset bytes ≡ [] }
+    ensures found { (offset : ℕ) (bytes : List ℕ) (position : ℕ) → MayBegin offset bytes position
+        → position + 25 ≤ 33554432 → (start : ℕ) × (start ≤ position) × IsStart offset (take 33554432 bytes) start }
+    ensures first { (offset : ℕ) (bytes : List ℕ) (start : ℕ) → IsStart offset bytes start → start + 25 ≤ 33554432
+        → ShowsNextBefore start offset (take 33554432 bytes) 33554432 → piece_offset offset bytes ≡ offset + start }
 {}

@@ -13,5 +13,9 @@ pub mod StandingZones
 pub mod StandingLaws
 pub mod NextLaws
 pub mod LimitLaws
+pub mod EntryLaws
+pub mod SidLaws
+pub mod ExtentLaws
+pub mod OneStanding
 pub mod LastLaws
 pub mod InNumbers

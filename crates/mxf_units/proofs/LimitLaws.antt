@@ -2,8 +2,8 @@
 use Rattle.std.proofs.Common.{◌≡◌, ◌∙◌, ◌↔◌, ◌<◌, ◌+◌, ◌-◌, ◌==◌, ◌&&◌, ◌||◌, ◌⊎◌, ℕ, Bool, true, false, not}
 use Rattle.std.proofs.Common.{IsTrue, List, Option, None, Some, refl, sym, ap, subst, inl, inr, arith, eq-eqb}
 use Rattle.std.proofs.Common.{eqb-true, filter_map, find, if◌then◌else◌, is_some, lt-ltb, ltb-true, map}
-use Rattle.std.proofs.Common.{option_and_then}
-use Rattle.std.proofs.lemmas.Bool.{and_from, and_parts, or_cases}
+use Rattle.std.proofs.Common.{nat_lt, option_and_then}
+use Rattle.std.proofs.lemmas.Bool.{and_from, and_parts, ltb-false, or_cases}
 use Rattle.std.specs.Option.{option_map_or, option_or}
 use Rattle.mxf_klv.specs.declared.kinds.Kind.{Kind}
 use Rattle.mxf_klv.specs.declared.kinds.Kind.TheVariants as kinds
@@ -13,6 +13,7 @@ use Rattle.mxf_klv.specs.Kind.{kind_of}
 use Rattle.mxf_klv.specs.Rising.{In}
 use Rattle.mxf_klv.proofs.Lists.{In-append, In-filter_map, In-map, find-only, found-In}
 use Rattle.mxf_klv.proofs.Tests.{either}
+use Rattle.mxf_catalogue.specs.Content.{IsContent}
 use Rattle.mxf_catalogue.specs.Disputes.{undisputed_notes}
 use Rattle.mxf_catalogue.proofs.DisputeLaws.{In-undisputed_notes, undisputed_at-found}
 use Rattle.mxf_views.specs.Partitions.{PartitionParts, partitions_of, previous_of}
@@ -23,14 +24,20 @@ use Rattle.mxf_views.specs.RandomIndexView.{rip_view_of}
 use Rattle.mxf_views.specs.declared.random_index.RipView.{RipView}
 use Rattle.mxf_views.specs.declared.random_index.RipView.TheVariants.{Absent, Several, Unreadable, One}
 use Rattle.mxf_places.specs.Held.{IsDisputedAt, IsHeld, begins_clear_head, end_of_file, is_disputed_at, is_held, is_in_file}
-use Rattle.mxf_places.specs.Claims.{claims_of, named_place, over_fills}
+use Rattle.mxf_places.specs.Claims.{behind_metadata, claims_of, index_of, known_end, named_place, over_fills}
+use Rattle.mxf_places.specs.Named.{AreSegments}
 use Rattle.mxf_places.specs.declared.claim.Claim.{Claim}
+use Rattle.mxf_places.specs.declared.stretch.Stretch.{Stretch}
+use Rattle.mxf_places.specs.declared.stretch.Zone.TheVariants as zones
 use Rattle.mxf_places.proofs.HeldLaws.{is_disputed_at-says, is_held-says}
+use Rattle.mxf_places.proofs.OverLaws.{over_says}
+use Rattle.mxf_places.proofs.ZoneLaws.{behind_says, zone_says}
 use Rattle.mxf_units.specs.EssenceZones.{behind_index, begins_inside, bounds_of, essence_at, first_packet, is_clip_wrapped}
 use Rattle.mxf_units.specs.EssenceZones.{is_essence, is_one, is_open_place, is_sure, limit_of, may_be_essence, names_before}
 use Rattle.mxf_units.specs.EssenceZones.{open_place, rip_place_by, zone_by}
-use Rattle.mxf_units.specs.Limits.{BeginsHead, IsAlone, IsBound, IsClipWrapped, IsEssenceZone, IsFirstPacket, IsLimit}
-use Rattle.mxf_units.specs.Limits.{IsOpenPlace, IsRipPlace, IsSure}
+use Rattle.mxf_units.specs.Limits.{BeginsHead, IsAlone, IsBehindIndex, IsBound, IsClipWrapped, IsEssenceZone}
+use Rattle.mxf_units.specs.Limits.{IsFirstPacket, IsLimit, IsOpenPlace, IsRipPlace, IsSure}
+use Rattle.mxf_units.specs.declared.essence_zone.EssenceZone.{EssenceZone}
 use Rattle.mxf_units.specs.Streams.{least_above, next_of}
 use Rattle.mxf_units.proofs.LeastLaws.{IsLeast, least-is}
 use Rattle.mxf_units.proofs.NextLaws.{next-is}
@@ -92,20 +99,61 @@ says-essence notes x n a e k =
     (undisputed_at-found x notes n ((alone-says notes n).1 a) e)
     ∙ ap (λ b. if b then Some n else None) (says-kind (kind_of n.key) k)
 
-pub first-says : (notes : List NoteParts) (p : PartitionParts) (n : NoteParts)
-    → (first_packet notes p ≡ Some n) ↔ IsFirstPacket notes p n
-unfolding first_packet
-first-says notes p n = (
-  λ e. elim (behind_index notes p) as (λ (o : Option ℕ). behind_index notes p ≡ o
-      → option_and_then (λ x. essence_at notes (over_fills notes x)) o ≡ Some n → IsFirstPacket notes p n) [
-        | None ↦ λ f g. absurd cc
-        | Some x ↦ λ f g.
-            let s = essence-says notes (over_fills notes x) n g in
-            record { from = x; behind = f; begins = s.1; alone = s.0; kind = s.2 }
-      ] refl e,
-  λ i. ap (λ (o : Option ℕ). option_and_then (λ x. essence_at notes (over_fills notes x)) o) i.behind
-      ∙ says-essence notes (over_fills notes i.from) n i.alone i.begins i.kind,
-)
+-- ---- behind the header metadata and the index table segments
+
+module _ (notes : List NoteParts) (content : IsContent notes) (p : PartitionParts) where
+  -- The end of the segments, which aren't open.
+  index-end : (x : ℕ) (o : Option Stretch) → index_of notes p ≡ o → option_and_then known_end o ≡ Some x
+      → (s : Stretch) × AreSegments notes p s × (s.is_open ≡ false) × (x ≡ s.end)
+  index-end x None f e = absurd cc
+  index-end x (Some s) f e =
+      elim s.is_open as (λ b. s.is_open ≡ b → (if b then None else Some s.end) ≡ Some x
+      → (s : Stretch) × AreSegments notes p s × (s.is_open ≡ false) × (x ≡ s.end)) [
+        | true ↦ λ _ g. absurd cc
+        | false ↦ λ closed g. (s, (zone_says notes content p zones.Index s).0 f, closed, cc)
+      ] refl e
+
+  behind-says : (x : ℕ) → (behind_index notes p ≡ Some x) ↔ IsBehindIndex notes p x
+  behind-says x =
+      let count = p.pack.numbers.index_byte_count in
+      let end = option_and_then known_end (index_of notes p) in
+      let before = behind_metadata notes p in (
+        λ e. elim (nat_lt 0 count) as (λ b. nat_lt 0 count ≡ b → (if b then end else before) ≡ Some x
+            → IsBehindIndex notes p x) [
+              | true ↦ λ _ f. inr (index-end x (index_of notes p) refl f)
+              | false ↦ λ t f.
+                  let low = ltb-false 0 count t in inl (omega (arith, low), (behind_says notes content p x).0 f)
+            ] refl e,
+        λ k. elim k [
+          | inl z ↦ ap (λ n. if nat_lt 0 n then end else before) z.0 ∙ (behind_says notes content p x).1 z.1
+          | inr s ↦ ap (λ b. if b then end else before) (lt-ltb 0 count s.1.0)
+              ∙ ap (λ (o : Option Stretch). option_and_then known_end o)
+              ((zone_says notes content p zones.Index s.0).1 s.1)
+              ∙ ap (λ b. if b then None else Some s.0.end) s.2 ∙ ap (λ (y : ℕ). Some y) (sym s.3)
+        ],
+      )
+
+  pub first-says : (n : NoteParts) → (first_packet notes p ≡ Some n) ↔ IsFirstPacket notes p n
+  unfolding first_packet
+  first-says n = (
+    λ e. elim (behind_index notes p) as (λ (o : Option ℕ). behind_index notes p ≡ o
+        → option_and_then (λ x. essence_at notes (over_fills notes x)) o ≡ Some n → IsFirstPacket notes p n) [
+          | None ↦ λ f g. absurd cc
+          | Some x ↦ λ f g.
+              let s = essence-says notes (over_fills notes x) n g in
+              record {
+                from = x;
+                behind = (behind-says x).0 f;
+                begins = (over_says notes content x n.offset).0 (sym s.1);
+                alone = s.0;
+                kind = s.2;
+              }
+        ] refl e,
+    λ i. ap (λ (o : Option ℕ). option_and_then (λ x. essence_at notes (over_fills notes x)) o)
+        ((behind-says i.from).1 i.behind)
+        ∙ says-essence notes (over_fills notes i.from) n i.alone
+        (sym ((over_says notes content i.from n.offset).1 i.begins)) i.kind,
+  )
 
 -- ---- where all units lie in one packet
 
@@ -378,4 +426,50 @@ zone-by notes p n =
             limit = λ no. limit-says notes p;
             sure = λ no. sure-says notes p limit;
           }
+    ] refl
+
+-- ---- it lies at one place
+
+one-rip : (notes : List NoteParts) (x y : ℕ) → IsRipPlace notes x → IsRipPlace notes y → x ≡ y
+one-rip notes x y a b =
+    let e : One a.rip ≡ One b.rip = sym a.only ∙ b.only in
+    let same : a.rip ≡ b.rip = cc (e) in sym a.offset ∙ ap (λ (r : RipAtParts). r.offset) same ∙ b.offset
+
+one-limit : (notes : List NoteParts) (p : PartitionParts) (y z : Option ℕ) → IsLimit notes p y → IsLimit notes p z
+    → y ≡ z
+one-limit notes p None None a b = refl
+one-limit notes p None (Some z) a (inl b) = let l = a.0 z b.0 in let m = b.1 in absurd (omega (arith, l, m))
+one-limit notes p None (Some z) a (inr b) = absurd (a.1 z b.1)
+one-limit notes p (Some y) None (inl a) b = let l = b.0 y a.0 in let m = a.1 in absurd (omega (arith, l, m))
+one-limit notes p (Some y) None (inr a) b = absurd (b.1 y a.1)
+one-limit notes p (Some y) (Some z) (inl a) (inl b) =
+    let l = a.2 z b.0 b.1 in
+    let m = b.2 y a.0 a.1 in
+    let e : y ≡ z = omega (arith, l, m) in ap (λ (n : ℕ). Some n) e
+one-limit notes p (Some y) (Some z) (inl a) (inr b) =
+    let l = b.0 y a.0 in let m = a.1 in absurd (omega (arith, l, m))
+one-limit notes p (Some y) (Some z) (inr a) (inl b) =
+    let l = a.0 z b.0 in let m = b.1 in absurd (omega (arith, l, m))
+one-limit notes p (Some y) (Some z) (inr a) (inr b) = ap (λ (n : ℕ). Some n) (one-rip notes y z a.1 b.1)
+
+same_test : (P : Type 0) (a b : Bool) → (IsTrue a ↔ P) → (IsTrue b ↔ P) → a ≡ b
+same_test P true true s t = refl
+same_test P true false s t = let e = t.1 (s.0 refl) in absurd (cc (e))
+same_test P false true s t = let e = s.1 (t.0 refl) in absurd (cc (e))
+same_test P false false s t = refl
+
+pub one-zone : (notes : List NoteParts) (p : PartitionParts) (n : NoteParts) (y z : EssenceZone)
+    → IsEssenceZone notes p n y → IsEssenceZone notes p n z → y ≡ z
+one-zone notes p n y z a b =
+    let clip = clip-says notes p n in
+    elim (is_clip_wrapped notes p n) as (λ t. is_clip_wrapped notes p n ≡ t → y ≡ z) [
+      | true ↦ λ e. a.clip (clip.0 e) ∙ sym (b.clip (clip.0 e))
+      | false ↦ λ e.
+          let no : ¬ IsClipWrapped notes p n = λ c. let t = clip.1 c in cc (t, e) in
+          let body = a.body_offset ∙ sym b.body_offset in
+          let origin = a.origin no ∙ sym (b.origin no) in
+          let limit = one-limit notes p y.limit z.limit (a.limit no) (b.limit no) in
+          let sure = same_test (IsSure notes p z.limit) y.is_sure z.is_sure
+          (subst (λ (l : Option ℕ). IsTrue y.is_sure ↔ IsSure notes p l) limit (a.sure no)) (b.sure no) in
+          λ i. record { body_offset = body i; origin = origin i; limit = limit i; is_sure = sure i }
     ] refl

@@ -1,5 +1,5 @@
 -- Each standing has its cause.
-use Rattle.std.proofs.Common.{ℕ, Result, Ok, Err, List, inl, inr}
+use Rattle.std.proofs.Common.{ℕ, Result, Ok, Err, inl, inr}
 use Rattle.mxf_places.specs.AtHand.{KnownParts}
 use Rattle.mxf_views.specs.Places.{IsOnlyPlace, segments_of}
 use Rattle.mxf_units.specs.declared.standing.UnitStanding.{UnitStanding}

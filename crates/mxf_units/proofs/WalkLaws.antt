@@ -117,7 +117,7 @@ itself_entry d e h =
     ((signed_Decides d.key_frame_offset e.key_frame_offset).1 (ap (λ (x : IndexEntry). x.key_frame_offset) h)))
     (eq-eqb _ _ (ap (λ (x : IndexEntry). x.flags) h))
 
-abbrev EntriesWalked : List IndexEntry → Option IndexEntry → Type 0
+abbrev pub EntriesWalked : List IndexEntry → Option IndexEntry → Type 0
 EntriesWalked = Walked {K = IndexEntry} {R = Option IndexEntry} None (λ e. Some e) None
 
 entries_on : (d : IndexEntry) (entries : List IndexEntry) → EntriesWalked (d ∷ entries) (only_entry (Some d) entries)
@@ -130,7 +130,7 @@ entries_on d (e ∷ entries) =
       | false ↦ λ h. inr (inr (d, e, inl refl, inr (inl refl), λ s. (let t = itself_entry d e s in cc (t, h)), refl))
     ] refl
 
-walk_entries : (entries : List IndexEntry) → EntriesWalked entries (only_entry None entries)
+pub walk_entries : (entries : List IndexEntry) → EntriesWalked entries (only_entry None entries)
 walk_entries [] = inl (λ x h. h, refl)
 walk_entries (e ∷ entries) = entries_on e entries
 

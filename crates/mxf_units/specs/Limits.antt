@@ -13,12 +13,11 @@ use Rattle.mxf_views.specs.RandomIndex.{RipAtParts}
 use Rattle.mxf_views.specs.RandomIndexView.{rip_view_of}
 use Rattle.mxf_views.specs.declared.random_index.RipView.TheVariants.{One}
 use Rattle.mxf_places.specs.Held.{IsDisputedAt, IsHeld, end_of_file, is_in_file}
-use Rattle.mxf_places.specs.Claims.{claims_of, named_place, over_fills}
-use Rattle.mxf_places.specs.Named.{AreSegments, IsBehindMetadata}
+use Rattle.mxf_places.specs.Claims.{claims_of, named_place}
+use Rattle.mxf_places.specs.Named.{AreSegments, IsBehindMetadata, IsOver}
 use Rattle.mxf_places.specs.declared.claim.Claim.{Claim}
 use Rattle.mxf_places.specs.declared.stretch.Stretch.{Stretch}
 use Rattle.mxf_units.specs.declared.essence_zone.EssenceZone.{EssenceZone}
-use Rattle.mxf_units.specs.EssenceZones.{behind_index}
 use Rattle.mxf_units.specs.Streams.{IsNext}
 
 -- The note, whole or head, is one that shares no byte with another.
@@ -36,8 +35,8 @@ IsBehindIndex notes p x =
 -- essence, or of a kind that isn't known.
 pub record IsFirstPacket (notes : List NoteParts) (p : PartitionParts) (n : NoteParts) : Type 0 where
   pub from : ℕ
-  pub behind : behind_index notes p ≡ Some from
-  pub begins : n.offset ≡ over_fills notes from
+  pub behind : IsBehindIndex notes p from
+  pub begins : IsOver notes from n.offset
   pub alone : IsAlone notes n
   pub kind : (kind_of n.key ≡ kinds.Essence) ⊎ (kind_of n.key ≡ kinds.Other)
 

@@ -11,6 +11,7 @@ ghost use Rattle.mxf_places.specs.Held.{end_of_file};
 ghost use Rattle.mxf_units.specs.Streams.{in_order, next_of, places_above};
 ghost use Rattle.mxf_units.specs.EssenceZones.{begins_inside, bounds_of, first_packet, is_clip_wrapped, is_one};
 ghost use Rattle.mxf_units.specs.EssenceZones.{is_sure, limit_of};
+ghost use Rattle.mxf_units.specs.declared.essence_zone.EssenceZone.{EssenceZone};
 ghost use Rattle.mxf_units.specs.EssenceZones.{rip_place_by, zone_by, zone_of};
 
 pub(crate) mod part;
@@ -173,4 +174,8 @@ pub fn limits_by_definition()
         → first_packet notes p ≡ Some n → zone_of notes p ≡ Some (zone_by notes p n) }
     ensures unknown { (notes : List NoteParts) (p : PartitionParts)
         → first_packet notes p ≡ None → zone_of notes p ≡ None }
+
+    // By one first packet it lies at one place.
+    ensures one { (notes : List NoteParts) (p : PartitionParts) (n : NoteParts) (y z : EssenceZone)
+        → IsEssenceZone notes p n y → IsEssenceZone notes p n z → y ≡ z }
 {}

@@ -1,6 +1,7 @@
 //! The first packet of the essence of a partition (ST 377-1, Partition Pack).
 ghost use Rattle.std.specs.Prelude.{◌≡◌, ◌↔◌, List, Some};
 ghost use Rattle.mxf_klv.specs.Parts.{NoteParts};
+ghost use Rattle.mxf_catalogue.specs.Content.{IsContent};
 ghost use Rattle.mxf_views.specs.Partitions.{PartitionParts};
 ghost use Rattle.mxf_units.specs.Limits.{IsFirstPacket};
 ghost use Rattle.std.specs.Option.{option_copied};
@@ -59,6 +60,6 @@ pub(crate) fn first_packet<'a>(holdings: &Holdings<'a>, partition: &Partition) -
 /// header metadata and its index table segments, and behind the fills there, that may be essence and shares no byte
 /// with another.
 pub fn first_packets_by_definition()
-    ensures { (notes : List NoteParts) (p : PartitionParts) (n : NoteParts)
+    ensures { (notes : List NoteParts) (p : PartitionParts) (n : NoteParts) → IsContent notes
         → (first_packet notes p ≡ Some n) ↔ IsFirstPacket notes p n }
 {}

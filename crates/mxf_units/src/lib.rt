@@ -24,10 +24,12 @@
 //!
 //! What is proved: each answer is its definition over the notes of the catalogue and what is at hand beside them
 //! (`unit_of`, `index_sids_of`). The laws say more of these: [`standings_by_definition`], that each standing has its
-//! cause; [`held_units_are_held`], that of a unit which stands as held each byte is, and [`units_at_hand_are_known`], that
-//! of one which stands as at hand each is held or at hand; [`next_by_definition`], [`first_packets_by_definition`] and
-//! [`limits_by_definition`], what next places, first packets and limits are; [`one_last_unit`], that an index has one last
-//! unit at most.
+//! cause, and a unit one standing; [`extents_by_definition`], where the bytes of a unit lie, and of which units that is
+//! told; [`entries_by_definition`], what its entry says; [`held_units_are_held`], that of a unit which stands as held
+//! each byte is, and [`units_at_hand_are_known`], that of one which stands as at hand each is held or at hand;
+//! [`next_by_definition`], [`first_packets_by_definition`] and [`limits_by_definition`], what next places, first
+//! packets and limits are; [`index_sids_by_definition`], which indexes there are; [`one_last_unit`], that an index has
+//! one last unit at most.
 //!
 //! The units from `from` up to `to` of an index, whose bytes are all held:
 //!
@@ -68,5 +70,6 @@ pub use segments::next_by_definition;
 pub use standing::UnitStanding;
 pub use unit::{EditUnit, Extent};
 pub use units::{
-    Units, held_units_are_held, index_sids, standings_by_definition, units_at_hand_are_known,
+    Units, entries_by_definition, extents_by_definition, held_units_are_held, index_sids,
+    index_sids_by_definition, standings_by_definition, units_at_hand_are_known,
 };

@@ -1,10 +1,15 @@
 //! The edit units of an index.
-ghost use Rattle.std.specs.Prelude.{◌≡◌, ◌↔◌, ◌+◌, ◌<◌, ◌^◌, ℕ, IfOk, List, Some, map};
+ghost use Rattle.std.specs.Prelude.{◌≡◌, ◌↔◌, ◌+◌, ◌<◌, ◌^◌, ℕ, IfOk, IsSome, List, None, Some, map};
+ghost use Rattle.std.specs.Ordering.{nat_cmp};
 ghost use Rattle.mxf_klv.specs.Parts.{NoteParts};
+ghost use Rattle.mxf_klv.specs.Rising.{In, IsRising};
+ghost use Rattle.mxf_sets.specs.declared.segment.offset.IndexEntry.{IndexEntry};
 ghost use Rattle.mxf_units.specs.declared.unit.Extent.{Extent};
 ghost use Rattle.std.specs.Result.{ForOk};
-ghost use Rattle.mxf_views.specs.Places.{segments_of};
+ghost use Rattle.mxf_views.specs.Places.{SegmentAtParts, segments_of};
 ghost use Rattle.mxf_places.specs.AtHand.{KnownParts};
+ghost use Rattle.mxf_units.specs.Entries.{IsEntryOf, IsKeyFrame};
+ghost use Rattle.mxf_units.specs.Extents.{IsExtentOf, IsTold};
 ghost use Rattle.mxf_units.specs.Standings.{IsStanding, IsStandingIn};
 ghost use Rattle.mxf_units.specs.declared.location.Location.{Location};
 ghost use Rattle.mxf_units.specs.declared.standing.UnitStanding.{UnitStanding};
@@ -245,6 +250,14 @@ fn index_sids_in(alloc: Global, views: &Views) -> Result<Vec<u32>, OutOfMemory>
     Ok(index_sids.collect(alloc)?)
 }
 
+/// A law of [`index_sids`]: they are the IndexSIDs that segments have, and they rise.
+pub fn index_sids_by_definition()
+    ensures members { (notes : List NoteParts) (sid : ℕ)
+        → In sid (index_sids_of notes)
+        ↔ ((s : SegmentAtParts) × In s (segments_of notes) × (s.segment.numbers.index_sid ≡ sid)) }
+    ensures rising { (notes : List NoteParts) → IsRising nat_cmp (index_sids_of notes) }
+{}
+
 /// A law of [`Units::unit`]: of a unit that stands as held it is known where it ends, and each of its bytes is held.
 pub fn held_units_are_held()
     ensures { (known : KnownParts) (index_sid unit : ℕ)
@@ -268,4 +281,31 @@ pub fn standings_by_definition()
     // Of bytes of which it is known where they are looked for no other standing has.
     ensures exact { (known : KnownParts) (l : Location) (standing : UnitStanding)
         → (standing_in known l ≡ standing) ↔ IsStandingIn known l.zone l.extent standing }
+
+    // A unit has one standing.
+    ensures one { (known : KnownParts) (index_sid unit : ℕ) (a b : UnitStanding)
+        → IsStanding known index_sid unit a → IsStanding known index_sid unit b → a ≡ b }
+{}
+
+/// A law of [`Units::unit`]: what a unit says beside its place is what its entry says. The entry is the one on which
+/// all segments of the index agree that list the unit. Without one it says nothing.
+pub fn entries_by_definition()
+    ensures some { (known : KnownParts) (index_sid unit : ℕ) (e : IndexEntry) → unit < 2 ^ 64
+        → IsEntryOf known.notes index_sid unit e
+        → ((unit_of known index_sid unit).temporal ≡ Some e.temporal_offset)
+        × ((unit_of known index_sid unit).flags ≡ Some e.flags)
+        × IsKeyFrame unit e.key_frame_offset (unit_of known index_sid unit).key }
+    ensures none { (known : KnownParts) (index_sid unit : ℕ)
+        → ((e : IndexEntry) → ¬ IsEntryOf known.notes index_sid unit e)
+        → ((unit_of known index_sid unit).temporal ≡ None) × ((unit_of known index_sid unit).flags ≡ None)
+        × ((unit_of known index_sid unit).key ≡ None) }
+{}
+
+/// A law of [`Units::unit`]: if it is told where a unit lies, its bytes lie where its only place says, by the one essence
+/// zone there. It is told of the units that stand as disputed, missing, part, held or at hand, and of no other.
+pub fn extents_by_definition()
+    ensures extent { (known : KnownParts) (index_sid unit : ℕ) (e : Extent)
+        → (unit_of known index_sid unit).extent ≡ Some e → IsExtentOf known.notes index_sid unit e }
+    ensures told { (known : KnownParts) (index_sid unit : ℕ)
+        → IsSome (unit_of known index_sid unit).extent ↔ IsTold (unit_of known index_sid unit).standing }
 {}

@@ -1,5 +1,6 @@
 use Rattle.std.proofs.Common.{subst}
 use Rattle.mxf_units.specs.Standings.{IsStandingIn}
+use Rattle.mxf_units.proofs.OneStanding.{one-standing}
 use Rattle.mxf_units.proofs.StandingLaws.{standings_by_cause}
 use Rattle.mxf_units.proofs.StandingRanges.{standing-exact, standing-says}
 use Rattle.mxf_units.proofs.units.standings_by_definition.Goals as goal
@@ -11,4 +12,5 @@ returns c = record {
     λ e. subst (IsStandingIn known l.zone l.extent) e (standing-says known l),
     standing-exact known l standing,
   );
+  one = one-standing;
 }

@@ -1,0 +1,5 @@
+use Rattle.mxf_units.proofs.SidLaws.{sids-of, sids-rise}
+use Rattle.mxf_units.proofs.units.index_sids_by_definition.Goals as goal
+
+pub returns : goal.returns
+returns c = record { members = sids-of; rising = sids-rise }
