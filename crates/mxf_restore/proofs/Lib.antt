@@ -15,3 +15,7 @@ pub mod PlanMembers
 pub mod OrderStarts
 pub mod FrontLaws
 pub mod NamedPlaceLaws
+pub mod AwaitedLaws
+pub mod StartLaws
+pub mod AskedLaws
+pub mod PartLaws

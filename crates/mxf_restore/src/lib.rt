@@ -37,7 +37,7 @@ mod section;
 
 pub use map::{Map, Mark, one_map, one_mark};
 pub use named::{NamedPlace, named_places};
-pub use order::{SectionOrders, fronts_by_definition, is_again};
+pub use order::{SectionOrders, asked_by_definition, fronts_by_definition, is_again};
 pub use plan::{
     DisputedPlace, Order, Plan, disputed_places_by_definition, gaps_are_ordered,
     orders_by_definition, orders_where_nothing_is_at_hand, starts_are_apart,

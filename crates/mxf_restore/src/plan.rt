@@ -11,6 +11,7 @@ ghost use Rattle.mxf_places.specs.AtHand.{AtHandParts, edge_of, nothing_at_hand}
 ghost use Rattle.mxf_places.specs.Claims.{claims_of};
 ghost use Rattle.mxf_restore.specs.Sections.{sections_of};
 ghost use Rattle.std.specs.Option.{option_to_list};
+ghost use Rattle.mxf_restore.specs.Orders.{IsOrder};
 ghost use Rattle.mxf_restore.specs.Plan.{LiesInOrder, asked_of, disputed_place_cmp, disputed_place_of, order_cmp, orders_of, plan_of};
 ghost use Rattle.mxf_restore.specs.declared.section.Section.{Section};
 ghost use Rattle.mxf_restore.specs.declared.plan.DisputedPlace.{DisputedPlace};
@@ -142,11 +143,17 @@ fn disputed_places_in_order(mut disputed_places: Vec<DisputedPlace>) -> Vec<Disp
 }
 
 /// A law of [`Plan::orders`]: they are what is ordered of the sections of the file, and rise by reason, start, end and
-/// source.
+/// source. The orders of a section are the parts of what is asked for of it that aren't at hand, or all of it where
+/// nothing of it lacks.
 pub fn orders_by_definition()
     ensures members { (at : AtHandParts) (notes : List NoteParts) (o : Order)
         → In o (plan_of at notes).orders
         ↔ ((p : Section) × In p (sections_of notes) × In o (orders_of at notes p)) }
+    ensures sections { (at : AtHandParts) (notes : List NoteParts) (p : Section) (o : Order) → IsContent notes
+        → IsCover at.given → IsCover at.hand → In o (orders_of at notes p) ↔ IsOrder at notes p o }
+    ensures orders { (at : AtHandParts) (notes : List NoteParts) (o : Order) → IsContent notes → IsCover at.given
+        → IsCover at.hand → In o (plan_of at notes).orders
+        ↔ ((p : Section) × In p (sections_of notes) × IsOrder at notes p o) }
     ensures rising { (at : AtHandParts) (notes : List NoteParts) → IsRising order_cmp (plan_of at notes).orders }
 {}
 
