@@ -6,15 +6,19 @@ use Rattle.std.proofs.lemmas.Option.{same_Some}
 use Rattle.mxf_klv.specs.Parts.{NoteParts}
 use Rattle.mxf_klv.specs.Note.{greatest_end}
 use Rattle.mxf_klv.proofs.Tests.{not_equal, same_bool}
+use Rattle.mxf_catalogue.specs.Content.{IsContent}
 use Rattle.mxf_catalogue.specs.Covers.{IsCover}
 use Rattle.mxf_catalogue.specs.Runs.{LiesIn}
 use Rattle.mxf_places.specs.AtHand.{AtHandParts, LiesBetween, has_offsets}
 use Rattle.mxf_places.specs.declared.at_hand.OffsetRange.{OffsetRange}
 use Rattle.mxf_places.proofs.AtHandLaws.{has_offsets-says}
 use Rattle.mxf_restore.specs.Fronts.{IsFront, IsLookedFor, all_from, front_by, front_of, front_range, looked_for}
+use Rattle.mxf_restore.specs.Orders.{IsAsked}
 use Rattle.mxf_restore.specs.Plan.{asked_of, part_order, parts_of, start_of}
 use Rattle.mxf_restore.specs.declared.section.Section.{Section}
 use Rattle.mxf_restore.specs.declared.plan.Order.{Order}
+use Rattle.mxf_restore.proofs.AskedLaws.{asked_law}
+use Rattle.mxf_restore.proofs.StartLaws.{start_is, start_says}
 
 mapped : {A B : Type 0} (f : A → B) (o : Option A) (y : B) → option_map f o ≡ Some y
     → (x : A) × (o ≡ Some x) × (f x ≡ y)
@@ -31,16 +35,28 @@ abbrev end_of_front : OffsetRange → ℕ
 end_of_front r = min (r.start + 65536) (unwrap_or r.end greatest_end)
 
 module _ (at : AtHandParts) (notes : List NoteParts) (p : Section) where
-  looked : (o : Order) → (looked_for at notes p ≡ o) ↔ IsLookedFor at notes p o
-  looked o =
+  looked : IsContent notes → IsCover at.given → (o : Order) → (looked_for at notes p ≡ o) ↔ IsLookedFor at notes p o
+  looked content cover o =
       let all = all_from (start_of notes p.first) in
-      elim (asked_of at notes p) as (λ a. (unwrap_or a all ≡ o) ↔ ((a ≡ Some o) ⊎ ((a ≡ None) × (o ≡ all)))) [
-        | None ↦ (λ e. inr (refl, sym e), λ h. elim h [ inl e ↦ absurd cc | inr k ↦ sym k.1 ])
-        | Some a ↦ (
-          λ e. inl (ap (λ (y : Order). Some y) e),
-          λ h. elim h [ inl e ↦ same_Some a o e | inr k ↦ absurd (let e = k.0 in cc) ],
+      elim (asked_of at notes p) as (λ a. asked_of at notes p ≡ a → (unwrap_or a all ≡ o) ↔ IsLookedFor at notes p o) [
+        | None ↦ λ f. (
+          λ e. inr (
+            λ a k. let g = (asked_law at notes content cover p a).1 k in cc (f, g),
+            (start_of notes p.first, start_is notes content p.first, sym e),
+          ),
+          λ h. elim h [
+            | inl k ↦ absurd (let g = (asked_law at notes content cover p o).1 k in cc (f, g))
+            | inr k ↦ ap all_from ((start_says notes content p.first k.1.0).1 k.1.1) ∙ sym k.1.2
+          ],
         )
-      ]
+        | Some a ↦ λ f. (
+          λ e. inl (subst (IsAsked at notes p) e ((asked_law at notes content cover p a).0 f)),
+          λ h. elim h [
+            | inl k ↦ same_Some a o (sym f ∙ (asked_law at notes content cover p o).1 k)
+            | inr k ↦ absurd (k.0 a ((asked_law at notes content cover p a).0 f))
+          ],
+        )
+      ] refl
 
   -- All offsets from one up to another are given.
   given_says : (from to : ℕ) → IsCover at.given
@@ -101,16 +117,16 @@ module _ (at : AtHandParts) (notes : List NoteParts) (p : Section) where
         subst (λ e. (e ≡ None) ⊎ ((y : ℕ) × (e ≡ Some y) × (x < y))) alike l.1,
       )
 
-  pub front_law : (o : Order) → IsCover at.given → (front_of at notes p ≡ Some o) ↔ IsFront at notes p o
+  pub front_law : (o : Order) → IsContent notes → IsCover at.given → (front_of at notes p ≡ Some o) ↔ IsFront at notes p o
   unfolding front_of
-  front_law o cover =
+  front_law o content cover =
       let a = looked_for at notes p in (
         λ e.
             let m = mapped (λ (r : OffsetRange). part_order at a (front_range r)) (slice_get (parts_of at p a) 0) o e in
             let l = first_is (parts_of at p a) m.0 m.1 in
-            subst (IsFront at notes p) m.2 (front_says a m.0 l.0 cover ((looked a).0 refl) l.1),
+            subst (IsFront at notes p) m.2 (front_says a m.0 l.0 cover ((looked content cover a).0 refl) l.1),
         λ f.
-            let same : a ≡ f.asked = (looked f.asked).1 f.is_asked in
+            let same : a ≡ f.asked = (looked content cover f.asked).1 f.is_asked in
             let first : slice_get (parts_of at p f.asked) 0 ≡ Some f.part =
             ap (λ (xs : List OffsetRange). slice_get xs 0) f.first in
             ap (front_by at p) same

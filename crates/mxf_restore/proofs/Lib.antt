@@ -19,3 +19,4 @@ pub mod AwaitedLaws
 pub mod StartLaws
 pub mod AskedLaws
 pub mod PartLaws
+pub mod MissingLaws

@@ -375,8 +375,8 @@ fn orders_in(
 /// A law of [`SectionOrders::front_of`]: the front is the order of the first bytes of the first part of what is looked
 /// for of the section.
 pub fn fronts_by_definition()
-    ensures { (at : AtHandParts) (notes : List NoteParts) (p : Section) (o : Order) → IsCover at.given
-        → (front_of at notes p ≡ Some o) ↔ IsFront at notes p o }
+    ensures { (at : AtHandParts) (notes : List NoteParts) (p : Section) (o : Order) → IsContent notes
+        → IsCover at.given → (front_of at notes p ≡ Some o) ↔ IsFront at notes p o }
 {}
 
 /// A law of [`SectionOrders`]: what is asked for of a section begins where its packet does, for the reason and source of

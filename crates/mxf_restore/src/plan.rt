@@ -1,7 +1,8 @@
 //! What to restore next.
-ghost use Rattle.std.specs.Prelude.{◌≡◌, ◌↔◌, ◌⊎◌, ◌<◌, ◌==◌, ℕ, [], List, Some, find, IfOk};
+ghost use Rattle.std.specs.Prelude.{◌≡◌, ◌↔◌, ◌⊎◌, ◌<◌, ◌==◌, ℕ, [], List, Some, false, find, IfOk};
 ghost use Rattle.std.specs.List.{filter_map};
 ghost use Rattle.mxf_klv.specs.Parts.{NoteParts};
+ghost use Rattle.mxf_klv.specs.Note.{covered_end};
 ghost use Rattle.mxf_klv.specs.Rising.{In, IsRising, union};
 ghost use Rattle.mxf_catalogue.specs.Content.{IsContent};
 ghost use Rattle.mxf_catalogue.specs.Covers.{IsCover};
@@ -9,6 +10,7 @@ ghost use Rattle.mxf_catalogue.specs.Runs.{LiesIn};
 ghost use Rattle.mxf_views.specs.Gaps.{IsGap};
 ghost use Rattle.mxf_places.specs.AtHand.{AtHandParts, edge_of, nothing_at_hand};
 ghost use Rattle.mxf_places.specs.Claims.{claims_of};
+ghost use Rattle.mxf_places.specs.Held.{IsHeld};
 ghost use Rattle.mxf_restore.specs.Sections.{sections_of};
 ghost use Rattle.std.specs.Option.{option_to_list};
 ghost use Rattle.mxf_restore.specs.Orders.{IsOrder};
@@ -185,4 +187,11 @@ pub fn gaps_are_ordered()
 pub fn orders_where_nothing_is_at_hand()
     ensures { (notes : List NoteParts) (p : Section) → IsContent notes → In p (sections_of notes)
         → orders_of nothing_at_hand notes p ≡ option_to_list (asked_of nothing_at_hand notes p) }
+{}
+
+/// A law of [`Plan::orders`]: of an order no byte is held, but for the key and the length of a head at its start.
+pub fn orders_are_missing()
+    ensures { (at : AtHandParts) (notes : List NoteParts) (o : Order) (x : ℕ) → IsContent notes
+        → In o (plan_of at notes).orders → LiesInOrder o x → IsHeld notes x
+        → (n : NoteParts) × In n notes × (n.whole ≡ false) × (n.offset ≡ o.start) × (x < covered_end n) }
 {}
