@@ -81,7 +81,7 @@ module _ (at : AtHandParts) (cover : IsCover at.hand) (p : Section) (o : Order) 
         | false ↦ filter_rise before_next o.start (g ∷ ranges) (rise_from o.start p.first (g ∷ ranges) low r)
       ]
 
-  parts_rise : Rise o.start (parts_of at p o)
+  pub parts_rise : Rise o.start (parts_of at p o)
   unfolding parts_of
   parts_rise =
       among_rise (lacking at.hand p.first o.end) (lacking_rise 0 at.hand cover.maximal p.first o.end)

@@ -173,7 +173,7 @@ module _ (at : AtHandParts) where
     )
     among_say (g ∷ ranges) rise says r = some_say g ranges rise says r
 
-    parts_say : IsCover at.hand → (r : OffsetRange) → In r (parts_of at p o) ↔ IsPart at p o r.start r.end
+    pub parts_say : IsCover at.hand → (r : OffsetRange) → In r (parts_of at p o) ↔ IsPart at p o r.start r.end
     unfolding parts_of
     parts_say cover r =
         among_say (lacking at.hand p.first o.end) (lacking_rise 0 at.hand cover.maximal p.first o.end)

@@ -1,5 +1,5 @@
 -- The front of what is looked for of a section, where edit units ask for a partition there (this project's profile).
-use Rattle.std.specs.Prelude.{◌≡◌, ◌↔◌, ◌≢◌, ℕ, ◌+◌, ◌⊎◌, false, IsTrue, min, Option, None, Some, unwrap_or, List, ◌∷◌}
+use Rattle.std.specs.Prelude.{◌≡◌, ◌↔◌, ◌≢◌, ℕ, ◌+◌, ◌≤◌, ◌⊎◌, false, IsTrue, min, Option, None, Some, unwrap_or, List, ◌∷◌}
 use Rattle.std.specs.Option.{option_map}
 use Rattle.std.specs.List.{slice_get}
 use Rattle.mxf_klv.specs.Parts.{NoteParts}
@@ -8,7 +8,7 @@ use Rattle.mxf_catalogue.specs.Runs.{LiesIn}
 use Rattle.mxf_places.specs.AtHand.{AtHandParts}
 use Rattle.mxf_places.specs.declared.at_hand.OffsetRange.{OffsetRange}
 use Rattle.mxf_places.specs.declared.reason.Reason.TheVariants.{Gap}
-use Rattle.mxf_restore.specs.Orders.{IsAsked, IsStartOf}
+use Rattle.mxf_restore.specs.Orders.{IsAsked, IsPart, IsStartOf}
 use Rattle.mxf_restore.specs.Plan.{LiesInOrder, asked_of, part_order, parts_of, start_of}
 use Rattle.mxf_restore.specs.declared.section.Section.{Section}
 use Rattle.mxf_restore.specs.declared.plan.Order.{Order}
@@ -32,8 +32,8 @@ pub record IsFront (at : AtHandParts) (notes : List NoteParts) (p : Section) (o 
   pub asked : Order
   pub is_asked : IsLookedFor at notes p asked
   pub part : OffsetRange
-  pub later : List OffsetRange
-  pub first : parts_of at p asked ≡ part ∷ later
+  pub is_part : IsPart at p asked part.start part.end
+  pub first : (start : ℕ) (end : Option ℕ) → IsPart at p asked start end → part.start ≤ start
   pub reason : o.reason ≡ asked.reason
   pub source : o.source ≡ asked.source
   pub start : o.start ≡ part.start

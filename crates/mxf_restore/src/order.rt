@@ -376,7 +376,7 @@ fn orders_in(
 /// for of the section.
 pub fn fronts_by_definition()
     ensures { (at : AtHandParts) (notes : List NoteParts) (p : Section) (o : Order) → IsContent notes
-        → IsCover at.given → (front_of at notes p ≡ Some o) ↔ IsFront at notes p o }
+        → IsCover at.given → IsCover at.hand → (front_of at notes p ≡ Some o) ↔ IsFront at notes p o }
 {}
 
 /// A law of [`SectionOrders`]: what is asked for of a section begins where its packet does, for the reason and source of
