@@ -1,6 +1,6 @@
 -- Disputed places, by the list and by what they are.
-use Rattle.std.proofs.Common.{◌≡◌, ◌↔◌, ◌∙◌, ◌⊎◌, ◌&&◌, ◌==◌, ◌-◌, ◌+◌, ℕ, true, false, IsTrue, List, [], ◌∷◌, Option, Some}
-use Rattle.std.proofs.Common.{None, refl, sym, ap, subst, inl, inr, arith, cond, filter_map, find, if◌then◌else◌, eq-eqb}
+use Rattle.std.proofs.Common.{◌≡◌, ◌↔◌, ◌∙◌, ◌&&◌, ◌==◌, ◌-◌, ◌+◌, ℕ, true, false, IsTrue, List, [], ◌∷◌, Option, Some}
+use Rattle.std.proofs.Common.{None, refl, sym, ap, subst, inl, inr, arith, filter_map, find, if◌then◌else◌, eq-eqb}
 use Rattle.std.proofs.Common.{eqb-true, option_and_then, Bool}
 use Rattle.std.specs.List.{cons_option}
 use Rattle.std.proofs.lemmas.Bool.{and_from, and_parts}
@@ -14,9 +14,8 @@ use Rattle.mxf_places.specs.AtHand.{AtHandParts}
 use Rattle.mxf_places.specs.Claims.{claims_of, is_of_stretch}
 use Rattle.mxf_places.specs.FirstClaims.{AreInOrder, GoesUpTo}
 use Rattle.mxf_places.specs.Held.{IsDisputedAt, is_disputed_at, is_in_file}
-use Rattle.mxf_places.specs.Named.{IsClaim, IsClaimFor, IsInFile, IsOfStretch}
+use Rattle.mxf_places.specs.Named.{IsClaim, IsInFile}
 use Rattle.mxf_places.specs.declared.claim.Claim.{Claim}
-use Rattle.mxf_places.specs.declared.reason.Reason.TheVariants.{Metadata, Index}
 use Rattle.mxf_places.proofs.ClaimLaws.{claims_say}
 use Rattle.mxf_places.proofs.EndLaws.{in_file_says}
 use Rattle.mxf_places.proofs.FirstLaws.{claim_some, claims_in_order, is_of_stretch-says, same_claimed, up_itself}

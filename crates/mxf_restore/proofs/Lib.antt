@@ -16,5 +16,9 @@ pub mod OrderStarts
 pub mod FrontLaws
 pub mod NamedPlaceLaws
 pub mod DisputedPlaceMembers
-pub mod MissingLaws
+pub mod MissingPlaceLaws
 pub mod WholeFileOrders
+pub mod StartLaws
+pub mod AskedLaws
+pub mod PartLaws
+pub mod MissingLaws

@@ -1,79 +1,192 @@
--- Missing places, by the test and by what they are.
-use Rattle.std.proofs.Common.{◌≡◌, ◌↔◌, ◌∙◌, ◌⊎◌, ◌&&◌, ◌||◌, ◌==◌, ℕ, Bool, true, false, IsTrue, List, Option, Some, None}
-use Rattle.std.proofs.Common.{refl, sym, ap, inl, inr, not, filter_map, find, eqb-true}
-use Rattle.std.proofs.lemmas.Bool.{and_from, and_parts, or_cases, or_left, or_right}
+-- Of an order no byte is held, but for the key and length of the head at its start.
+use Rattle.std.proofs.Common.{◌≡◌, ◌⊎◌, ◌∙◌, ◌<◌, ◌≤◌, ◌-◌, ℕ, Bool, true, false, nat_lt, max, min}
+use Rattle.std.proofs.Common.{List, [], ◌∷◌, Option, None, Some, filter, if◌then◌else◌, is_some, option_map}
+use Rattle.std.proofs.Common.{refl, sym, ap, subst, inl, inr, arith, ltb-true}
+use Rattle.std.proofs.lemmas.Bool.{cases_lt}
+use Rattle.std.proofs.lemmas.Option.{same_Some}
 use Rattle.std.specs.Option.{option_map_or}
 use Rattle.mxf_klv.specs.Parts.{NoteParts}
+use Rattle.mxf_klv.specs.Note.{covered_end}
 use Rattle.mxf_klv.specs.Rising.{In}
-use Rattle.mxf_klv.proofs.Lists.{In-filter, In-filter_map, found-In}
-use Rattle.mxf_klv.proofs.Tests.{not-true-false, not_true}
-use Rattle.mxf_catalogue.specs.Disputes.{undisputed_notes}
-use Rattle.mxf_catalogue.proofs.DisputeLaws.{undisputed_at-found}
-use Rattle.mxf_places.specs.Claims.{claims_of, named_place}
-use Rattle.mxf_places.specs.Held.{IsHeld, begins_clear_head, is_disputed_at, is_held, is_in_file}
-use Rattle.mxf_places.proofs.EndLaws.{in_file_says}
-use Rattle.mxf_places.proofs.FirstLaws.{names_say}
-use Rattle.mxf_places.proofs.HeldLaws.{is_disputed_at-says, is_held-says}
-use Rattle.mxf_places.proofs.OverLaws.{alone, among, moved}
-use Rattle.mxf_restore.specs.Map.{BeginsHead, IsMissing, IsMissingPlace, is_missing, missing_places}
+use Rattle.mxf_klv.proofs.Lists.{In-append, In-filter}
+use Rattle.mxf_catalogue.specs.Content.{IsContent}
+use Rattle.mxf_catalogue.specs.declared.run.Run.{Run}
+use Rattle.mxf_places.specs.AtHand.{AtHandParts, LiesBetween, LiesInRange, lacking, some_range, up_to_bound}
+use Rattle.mxf_places.specs.Claims.{claim_at}
+use Rattle.mxf_places.specs.Held.{IsHeld}
+use Rattle.mxf_places.specs.declared.at_hand.OffsetRange.{OffsetRange}
+use Rattle.mxf_places.specs.declared.claim.Claim.{Claim}
+use Rattle.mxf_restore.specs.Plan.{LiesInOrder, asked, asked_of, begun_at, end_by, is_whole_needed, needed_of}
+use Rattle.mxf_restore.specs.Plan.{parts_among, parts_of, plan_of, start_of}
+use Rattle.mxf_restore.specs.Sections.{sections_of}
+use Rattle.mxf_restore.specs.declared.section.Section.{Section}
+use Rattle.mxf_restore.specs.declared.plan.Order.{Order}
+use Rattle.mxf_restore.proofs.OrderStarts.{is_part, whole_start}
+use Rattle.mxf_restore.proofs.PlanMembers.{order_members}
+use Rattle.mxf_restore.proofs.SectionCover.{are_sections}
+use Rattle.mxf_restore.proofs.StartLaws.{start_is}
 
-module _ (notes : List NoteParts) (x : ℕ) where
-  head_says : IsTrue (begins_clear_head notes x) ↔ BeginsHead notes x
-  head_says =
-      let found = find (λ n. n.offset == x) (undisputed_notes notes) in (
-        λ h. elim found as (λ (o : Option NoteParts). found ≡ o → option_map_or (λ n. not n.whole) o false ≡ true
-            → BeginsHead notes x) [
-              | None ↦ λ f g. absurd (cc (g))
-              | Some n ↦ λ f g.
-                  let k = found-In (λ (n : NoteParts). n.offset == x) (undisputed_notes notes) n f in
-                  (n, moved notes n n.offset x (alone notes n k.0) (eqb-true n.offset x k.1), no n.whole g)
-            ] refl h,
-        λ b.
-            ap (λ (o : Option NoteParts). option_map_or (λ n. not n.whole) o false)
-            (undisputed_at-found x notes b.0 (among notes b.0 x b.1) b.1.offset) ∙ ap not b.2,
+-- The offset lies below an end.
+abbrev Below : Option ℕ → ℕ → Type 0
+Below end x = (end ≡ None) ⊎ ((e : ℕ) × (end ≡ Some e) × (x < e))
+
+lower : (end : Option ℕ) (x y : ℕ) → x ≤ y → Below end y → Below end x
+lower end x y l (inl e) = inl e
+lower end x y l (inr s) = let less = s.2 in inr (s.0, s.1, omega (arith, less, l))
+
+below_some : (x e : ℕ) → Below (Some e) x → x < e
+below_some x e (inl q) = absurd (cc (q))
+below_some x e (inr s) = let q = same_Some e s.0 s.1 in let less = s.2 in omega (arith, q, less)
+
+-- ---- the parts of what is asked for lie in it
+
+-- The range has an offset, and its offsets lie between a start and an end.
+pub record IsWithin (start : ℕ) (end : Option ℕ) (g : OffsetRange) : Type 0 where
+  pub some : Below g.end g.start
+  pub between : (x : ℕ) → LiesInRange g x → LiesBetween start end x
+
+some_within : (start : ℕ) (end : Option ℕ) (g : OffsetRange) → In g (some_range start end) → IsWithin start end g
+some_within start None g (inl e) =
+    subst (IsWithin start None) (sym e) (record { some = inl refl; between = λ x l. l })
+some_within start None g (inr k) = absurd k
+some_within start (Some d) g k =
+    elim (nat_lt start d) as (λ b. nat_lt start d ≡ b
+    → In g (if b then record { start = start; end = Some d } ∷ [] else []) → IsWithin start (Some d) g) [
+      | true ↦ λ t h. elim h [
+        | inl e ↦ subst (IsWithin start (Some d)) (sym e)
+            (record { some = inr (d, refl, ltb-true start d t); between = λ x l. l })
+        | inr n ↦ absurd n
+      ]
+      | false ↦ λ t h. absurd h
+    ] refl k
+
+bounded : (start at x : ℕ) (end : Option ℕ) → LiesBetween start (Some (up_to_bound at end)) x → LiesBetween start end x
+bounded start at x None l = (l.0, inl refl)
+bounded start at x (Some e) l =
+    let less = below_some x (min at e) l.1 in (l.0, inr (e, refl, omega (arith, less)))
+
+lacked_within : (runs : List Run) (start : ℕ) (end : Option ℕ) (g : OffsetRange) → In g (lacking runs start end)
+    → IsWithin start end g
+lacked_within [] start end g k = some_within start end g k
+lacked_within (r ∷ runs) start end g k =
+    elim ((In-append g (some_range start (Some (up_to_bound r.start end))) (lacking runs (max start r.end) end)).0 k) [
+      | inl h ↦ (
+          let w = some_within start (Some (up_to_bound r.start end)) g h in
+          record { some = w.some; between = λ x l. bounded start r.start x end (w.between x l) })
+      | inr h ↦ (
+          let w = lacked_within runs (max start r.end) end g h in record {
+            some = w.some;
+            between = λ x l. let b = w.between x l in let from = b.0 in (omega (arith, from), b.1);
+          })
+    ]
+
+module _ (at : AtHandParts) (p : Section) (o : Order) where
+  -- A part begins where what is asked for does, or no lower than the section; and ends no higher than what is asked for.
+  pub record IsInAsked (r : OffsetRange) : Type 0 where
+    pub starts : (r.start ≡ o.start) ⊎ (p.first ≤ r.start)
+    pub ends : (x : ℕ) → LiesInRange r x → p.first ≤ x → Below o.end x
+
+  lacked_in : (g : OffsetRange) → IsWithin p.first o.end g → IsInAsked g
+  lacked_in g w = record {
+    starts = inr (w.between g.start (omega arith, w.some)).0;
+    ends = λ x l from. (w.between x l).1;
+  }
+
+  begun_in : (g : OffsetRange) → IsWithin p.first o.end g → IsInAsked (record { start = o.start; end = g.end })
+  begun_in g w = record {
+    starts = inl refl;
+    ends = λ x l from. elim (cases_lt x g.start) [
+      | inl below ↦ lower o.end x g.start (omega (arith, below)) (w.between g.start (omega arith, w.some)).1
+      | inr above ↦ (w.between x (above, l.1)).1
+    ];
+  }
+
+  among_in : (ranges : List OffsetRange) → ((g : OffsetRange) → In g ranges → IsWithin p.first o.end g)
+      → (r : OffsetRange) → In r (parts_among at p o ranges) → IsInAsked r
+  among_in [] within r (inl e) = subst IsInAsked (sym e) (record { starts = inl refl; ends = λ x l from. l.1 })
+  among_in [] within r (inr k) = absurd k
+  among_in (g ∷ ranges) within r k =
+      let before : OffsetRange → Bool = λ q. option_map_or (λ e. nat_lt q.start e) p.end true in
+      elim (is_whole_needed at p o.start) as (λ b.
+      In r (filter before (if b then begun_at o.start (g ∷ ranges) else g ∷ ranges)) → IsInAsked r) [
+        | true ↦ λ h. elim ((In-filter before (begun_at o.start (g ∷ ranges)) r).0 h).0 [
+          | inl e ↦ subst IsInAsked (sym e) (begun_in g (within g (inl refl)))
+          | inr j ↦ lacked_in r (within r (inr j))
+        ]
+        | false ↦ λ h. lacked_in r (within r ((In-filter before (g ∷ ranges) r).0 h).0)
+      ] k
+
+  parts_in : (r : OffsetRange) → In r (parts_of at p o) → IsInAsked r
+  unfolding parts_of
+  parts_in r k = among_in (lacking at.hand p.first o.end) (lacked_within at.hand p.first o.end) r k
+
+-- ---- what is asked for ends in the hole
+
+asked_end : (claim : Option Claim) (start : ℕ) (end : Option ℕ) (o : Order) → asked claim start end ≡ Some o
+    → o.end ≡ end
+asked_end None start None o e = absurd cc
+asked_end None start (Some x) o e = sym (ap (λ (r : Order). r.end) (same_Some _ o e))
+asked_end (Some c) start end o e = sym (ap (λ (r : Order). r.end) (same_Some _ o e))
+
+module _ (at : AtHandParts) (notes : List NoteParts) (content : IsContent notes) where
+  in_hole : (p : Section) → In p (sections_of notes) → (a : Order) → asked_of at notes p ≡ Some a → (x : ℕ)
+      → p.first ≤ x → Below a.end x → LiesInRange p.hole x
+  in_hole p k a e x from below =
+      let are = are_sections notes content in
+      let first = (are.within p p.first k (are.some p k)).0 in
+      let start = start_of notes p.first in
+      let claim = claim_at notes start in
+      let most : ℕ → ℕ = λ d. max d (up_to_bound (needed_of notes start p.first) p.hole.end) in
+      let ends : a.end ≡ option_map most (end_by at notes p claim) = asked_end claim start _ a e in (
+        omega (arith, first, from),
+        elim p.hole.end as (λ h. p.hole.end ≡ h → Below h x) [
+          | None ↦ λ f. inl refl
+          | Some h ↦ λ f. elim p.end as (λ o. p.end ≡ o → Below (Some h) x) [
+            | None ↦ λ g.
+                let high = elim_below p h f (are.within p (max p.first h) k (omega arith, inl g)).1 in
+                absurd (omega (arith, high))
+            | Some d ↦ λ g.
+                let some = below_of p.end d g p.first (are.some p k).1 in
+                let high = elim_below p h f (are.within p (d - 1) k (omega (arith, some), inr (d, g, omega (arith, some)))).1 in
+                let reach : end_by at notes p claim ≡ Some d =
+                ap (λ o. if is_some o then o else end_by at notes (record { first = p.first; end = None; hole = p.hole }) claim) g in
+                let l = below_of a.end (max d (up_to_bound (needed_of notes start p.first) (Some h)))
+                (ends ∙ ap (option_map most) reach
+                ∙ ap (λ b. Some (max d (up_to_bound (needed_of notes start p.first) b))) f) x below in
+                inr (h, refl, omega (arith, l, high, some))
+          ] refl
+        ] refl,
       )
     where
-      no : (b : Bool) → not b ≡ true → b ≡ false
-      no true e = absurd (cc (e))
-      no false e = refl
+      below_of : (end : Option ℕ) (d : ℕ) → end ≡ Some d → (y : ℕ) → Below end y → y < d
+      below_of end d e y b = below_some y d (subst (λ o. Below o y) e b)
 
-  lacks : IsTrue (begins_clear_head notes x || not (is_held notes x)) → BeginsHead notes x ⊎ ¬ IsHeld notes x
-  lacks h = elim (or_cases (begins_clear_head notes x) (not (is_held notes x)) h) [
-    | inl b ↦ inl (head_says.0 b)
-    | inr n ↦ inr (λ k. not-true-false (is_held notes x) n ((is_held-says notes x).1 k))
-  ]
+      elim_below : (p : Section) (h : ℕ) → p.hole.end ≡ Some h → {y : ℕ} → Below p.hole.end y → y < h
+      elim_below p h f {y} b = below_of p.hole.end h f y b
 
-  lacking : BeginsHead notes x ⊎ ¬ IsHeld notes x → IsTrue (begins_clear_head notes x || not (is_held notes x))
-  lacking (inl b) = or_left (begins_clear_head notes x) (not (is_held notes x)) (head_says.1 b)
-  lacking (inr n) =
-      or_right (begins_clear_head notes x) (not (is_held notes x))
-      (not_true (is_held notes x) (λ t. n ((is_held-says notes x).0 t)))
-
-  pub missing_says : IsTrue (is_missing notes x) ↔ IsMissing notes x
-  missing_says =
-      let rest = begins_clear_head notes x || not (is_held notes x) in
-      let clear = not (is_disputed_at notes x) in (
-        λ h.
-            let p = and_parts (is_in_file notes x && clear) rest h in
-            let q = and_parts (is_in_file notes x) clear p.0 in
-            record {
-              in_file = (in_file_says notes x).0 q.0;
-              undisputed = λ d. not-true-false (is_disputed_at notes x) q.1 ((is_disputed_at-says notes x).1 d);
-              lacks = lacks p.1;
-            },
-        λ m. and_from (is_in_file notes x && clear) rest
-            (and_from (is_in_file notes x) clear ((in_file_says notes x).1 m.in_file)
-            (not_true (is_disputed_at notes x) (λ t. m.undisputed ((is_disputed_at-says notes x).0 t))))
-            (lacking m.lacks),
-      )
-
-  pub missing_places_say : In x (missing_places notes) ↔ IsMissingPlace notes x
-  unfolding missing_places
-  missing_places_say =
-      let f = In-filter (is_missing notes) (filter_map named_place (claims_of notes)) x in
-      let m = In-filter_map named_place (claims_of notes) x in (
-        λ h.
-            let k = f.0 h in
-            let c = m.0 k.0 in (c.0, c.1, (names_say c.0 x).0 c.2, missing_says.0 k.1),
-        λ p. f.1 (m.1 (p.0, p.1, (names_say p.0 x).1 p.2), missing_says.1 p.3),
-      )
+  pub none_held : (o : Order) (x : ℕ) → In o (plan_of at notes).orders → LiesInOrder o x → IsHeld notes x
+      → (n : NoteParts) × In n notes × (n.whole ≡ false) × (n.offset ≡ o.start) × (x < covered_end n)
+  none_held o x k lies held =
+      let s = (order_members at notes o).0 k in
+      let p = s.0 in
+      let part = is_part at notes p o s.2 in
+      let start = whole_start at notes p o part in
+      let inside = parts_in at p part.whole part.part part.part_in in
+      let lies : LiesInRange part.part x = subst (λ (r : Order). LiesInOrder r x) (sym part.is) lies in
+      let begins : part.part.start ≡ o.start = ap (λ (r : Order). r.start) part.is in
+      let low = lies.0 in
+      elim (cases_lt x p.first) [
+        | inl before ↦ elim inside.starts [
+          | inl e ↦ elim (start_is notes content p.first) [
+            | inl h ↦ (
+                let offset = h.1.begins in
+                let end = h.1.ends in
+                (h.0, h.1.held, h.1.head, offset ∙ sym start ∙ sym e ∙ begins, omega (arith, end, before)))
+            | inr h ↦ (let same = h.0 in absurd (omega (arith, same, start, e, low, before)))
+          ]
+          | inr above ↦ absurd (omega (arith, above, low, before))
+        ]
+        | inr from ↦ absurd (
+            ((are_sections notes content).holes p s.1).none_held x
+            (in_hole p s.1 part.whole part.asked_is x from (inside.ends x lies from)) held)
+      ]

@@ -81,7 +81,7 @@ module _ (at : AtHandParts) (cover : IsCover at.hand) (p : Section) (o : Order) 
         | false ↦ filter_rise before_next o.start (g ∷ ranges) (rise_from o.start p.first (g ∷ ranges) low r)
       ]
 
-  parts_rise : Rise o.start (parts_of at p o)
+  pub parts_rise : Rise o.start (parts_of at p o)
   unfolding parts_of
   parts_rise =
       among_rise (lacking at.hand p.first o.end) (lacking_rise 0 at.hand cover.maximal p.first o.end)
@@ -142,7 +142,7 @@ module _ (at : AtHandParts) (notes : List NoteParts) where
     pub part_in : In part (parts_of at p whole)
     pub is : part_order at whole part ≡ o
 
-  is_part : (p : Section) (o : Order) → In o (orders_of at notes p) → IsPart p o
+  pub is_part : (p : Section) (o : Order) → In o (orders_of at notes p) → IsPart p o
   unfolding orders_of
   is_part p o k = elim (asked_of at notes p) as (λ a. asked_of at notes p ≡ a → In o (orders_by at p a) → IsPart p o) [
     | None ↦ λ e h. absurd h
@@ -151,7 +151,7 @@ module _ (at : AtHandParts) (notes : List NoteParts) where
         record { whole = w; asked_is = e; part = s.0; part_in = s.1; is = sym s.2 }
   ] refl k
 
-  whole_start : (p : Section) (o : Order) → (s : IsPart p o) → s.whole.start ≡ start_of notes p.first
+  pub whole_start : (p : Section) (o : Order) → (s : IsPart p o) → s.whole.start ≡ start_of notes p.first
   whole_start p o s = asked_start (claim_at notes (start_of notes p.first)) (start_of notes p.first) _ s.whole s.asked_is
 
   -- Where a section begins: at a head whose key and length end at its first byte, or there.

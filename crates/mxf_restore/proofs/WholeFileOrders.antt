@@ -1,6 +1,6 @@
 -- Nothing is ordered of a whole file.
-use Rattle.std.proofs.Common.{◌≡◌, ◌∙◌, ◌⊎◌, ◌<◌, ◌≤◌, ◌+◌, ◌-◌, ◌==◌, ℕ, true, false, cond, List, [], ◌∷◌, Option, Some, None}
-use Rattle.std.proofs.Common.{refl, sym, ap, subst, inl, inr, arith, is_some, find, IsSome}
+use Rattle.std.proofs.Common.{◌≡◌, ◌∙◌, ◌⊎◌, ◌<◌, ◌≤◌, ◌+◌, ◌-◌, ℕ, true, false, cond, List, [], ◌∷◌, Option, Some, None}
+use Rattle.std.proofs.Common.{refl, sym, ap, subst, inl, inr, arith, is_some, IsSome}
 use Rattle.std.proofs.lemmas.Bool.{cases_lt}
 use Rattle.std.proofs.lemmas.Option.{same_Some}
 use Rattle.std.specs.List.{AllByRecursion}
@@ -11,42 +11,36 @@ use Rattle.mxf_klv.specs.Packet.{size_of}
 use Rattle.mxf_klv.specs.Parts.{NoteParts, PacketParts}
 use Rattle.mxf_klv.specs.Piece.{end_after, notes_from}
 use Rattle.mxf_klv.specs.Rising.{In}
-use Rattle.mxf_klv.proofs.Tests.{not-true-false}
 use Rattle.mxf_sets.specs.RandomIndexPack.{RipParts}
 use Rattle.mxf_catalogue.specs.Content.{IsContent}
 use Rattle.mxf_catalogue.specs.Covers.{IsCover}
-use Rattle.mxf_catalogue.specs.Disputes.{IsClear, clear_notes}
-use Rattle.mxf_catalogue.specs.Runs.{LiesIn}
 use Rattle.mxf_catalogue.proofs.ClearLaws.{clear-laid, is_whole}
 use Rattle.mxf_catalogue.proofs.DisputeLaws.{In-clear_notes}
 use Rattle.mxf_catalogue.proofs.LaidNotes.{IsContent-laid}
 use Rattle.mxf_views.specs.Partitions.{PartitionParts}
 use Rattle.mxf_views.specs.RandomIndex.{RipAtParts, is_rip}
-use Rattle.mxf_views.specs.RandomIndexView.{rip_view_of}
 use Rattle.mxf_views.specs.Reading.{one_by_one, partitions_read, rip_read}
 use Rattle.mxf_views.specs.Records.{read_rip}
-use Rattle.mxf_views.specs.WellFormed.{EndsWithRandomIndex, IsHeaderPack, IsRandomIndexPack, IsReadable, IsWellFormed}
+use Rattle.mxf_views.specs.WellFormed.{EndsWithRandomIndex, IsRandomIndexPack, IsReadable, IsWellFormed}
 use Rattle.mxf_views.specs.WellFormed.{BeginsWithHeader, is_readable_as}
-use Rattle.mxf_views.specs.declared.random_index.RipView.{RipView}
 use Rattle.mxf_views.specs.declared.random_index.RipView.TheVariants.{Absent, One}
 use Rattle.mxf_views.proofs.KindLaws.{rip_kind}
 use Rattle.mxf_views.proofs.LaidRandomIndex.{random_index-laid}
-use Rattle.mxf_places.specs.AtHand.{AtHandParts, LiesBetween, LiesInRange}
-use Rattle.mxf_places.specs.FirstClaims.{SpeaksOf}
+use Rattle.mxf_places.specs.AtHand.{AtHandParts, LiesBetween}
 use Rattle.mxf_places.specs.Held.{IsEndOfFile, IsHeld, end_of_file}
-use Rattle.mxf_places.specs.Named.{IsClaim}
 use Rattle.mxf_places.specs.declared.at_hand.OffsetRange.{OffsetRange}
-use Rattle.mxf_places.specs.declared.claim.Claim.{Claim}
 use Rattle.mxf_places.proofs.ClaimLaws.{claims_say}
 use Rattle.mxf_places.proofs.EndLaws.{end_says}
 use Rattle.mxf_places.proofs.FirstLaws.{claim_some}
 use Rattle.mxf_places.proofs.LaidPlaces.{end_above, ends_below, held_all}
-use Rattle.mxf_restore.specs.Orders.{IsAsked, IsAskedEnd, IsHeadTo, IsOrder, IsSaid, IsSectionEnd, ReachesUpTo}
-use Rattle.mxf_restore.specs.Sections.{AreSections, CutsAt, IsCut, IsEndOfHole, IsHole, LiesInSection, sections_of}
+use Rattle.mxf_restore.specs.Orders.{IsAskedEnd, IsHeadTo, IsOrder, ReachesUpTo}
+use Rattle.mxf_restore.specs.Sections.{AreSections, IsEndOfHole, IsHole, LiesInSection, sections_of}
 use Rattle.mxf_restore.specs.WholeFiles.{EndsInRandomIndex, NothingIsBeyond}
 use Rattle.mxf_restore.specs.declared.plan.Order.{Order}
 use Rattle.mxf_restore.specs.declared.section.Section.{Section}
+use Rattle.mxf_restore.proofs.PartLaws.{plan_orders_say}
 use Rattle.mxf_restore.proofs.SectionCover.{are_sections}
+use Rattle.mxf_restore.specs.Plan.{plan_of}
 
 -- ---- the random index pack at the end
 
@@ -164,7 +158,7 @@ module _ (l : List PacketParts) (well : IsWellFormed l) where
           let held = subst (IsEndOfHole notes) same is.last in
           absurd (none_beyond e (let above = ends_above e same in omega (arith, above, high)) held)
 
-  pub none_known_end : EndsInRandomIndex l → (p : Section) → In p (sections_of notes) → ⊥
+  none_known_end : EndsInRandomIndex l → (p : Section) → In p (sections_of notes) → ⊥
   none_known_end last p k =
       let is = (are_sections notes (IsContent-laid 0 l)).holes p k in
       let opened = (hole_is p.hole is).1 in
@@ -253,7 +247,7 @@ module _ (l : List PacketParts) (well : IsWellFormed l) where
       | inr reaches ↦ reaches_none p start is.section_end k reaches.1
     ]
 
-    pub none_ordered : (p : Section) (o : Order) → In p (sections_of notes) → IsOrder at notes p o → ⊥
+    none_ordered : (p : Section) (o : Order) → In p (sections_of notes) → IsOrder at notes p o → ⊥
     none_ordered p o k is =
         let a = is.is_asked in
         let start : is.asked.start ≡ p.first = elim a.start [
@@ -267,3 +261,16 @@ module _ (l : List PacketParts) (well : IsWellFormed l) where
               let speaks = said.1.speaks.1 in omega (arith, start, first, bound, speaks)
           | inr gap ↦ asks_nothing p is.asked.start is.asked.end k (a.some gap.1) a.end
         ]
+
+-- No order is left of a whole file.
+pub no_orders : (l : List PacketParts) (at : AtHandParts) → IsWellFormed l → IsCover at.given → IsCover at.hand
+    → EndsInRandomIndex l ⊎ NothingIsBeyond at (notes_from 0 l) (end_after 0 l)
+    → (plan_of at (notes_from 0 l)).orders ≡ []
+no_orders l at well given hand beyond =
+    let content = IsContent-laid 0 l in
+    no_members (plan_of at (notes_from 0 l)).orders (λ o k.
+    let s = (plan_orders_say at (notes_from 0 l) content given hand o).0 k in
+    elim beyond [
+      | inl last ↦ none_known_end l well last s.0 s.1
+      | inr none ↦ none_ordered l well at none s.0 o s.1 s.2
+    ])

@@ -1,5 +1,5 @@
 -- The front of what is looked for of a section, where edit units ask for a partition there (this project's profile).
-use Rattle.std.specs.Prelude.{◌≡◌, ◌↔◌, ◌≢◌, ℕ, ◌+◌, ◌⊎◌, false, IsTrue, min, Option, None, Some, unwrap_or, List, ◌∷◌}
+use Rattle.std.specs.Prelude.{◌≡◌, ◌↔◌, ◌≢◌, ℕ, ◌+◌, ◌≤◌, ◌⊎◌, false, IsTrue, min, Option, None, Some, unwrap_or, List}
 use Rattle.std.specs.Option.{option_map}
 use Rattle.std.specs.List.{slice_get}
 use Rattle.mxf_klv.specs.Parts.{NoteParts}
@@ -8,6 +8,7 @@ use Rattle.mxf_catalogue.specs.Runs.{LiesIn}
 use Rattle.mxf_places.specs.AtHand.{AtHandParts}
 use Rattle.mxf_places.specs.declared.at_hand.OffsetRange.{OffsetRange}
 use Rattle.mxf_places.specs.declared.reason.Reason.TheVariants.{Gap}
+use Rattle.mxf_restore.specs.Orders.{IsAsked, IsPart, IsStartOf}
 use Rattle.mxf_restore.specs.Plan.{LiesInOrder, asked_of, part_order, parts_of, start_of}
 use Rattle.mxf_restore.specs.declared.section.Section.{Section}
 use Rattle.mxf_restore.specs.declared.plan.Order.{Order}
@@ -16,11 +17,12 @@ use Rattle.mxf_restore.specs.declared.plan.Order.{Order}
 abbrev pub all_from : ℕ → Order
 all_from start = record { reason = Gap; start = start; end = None; source = None; inside = false; again = false }
 
--- What is looked for of a section is what is asked for, or all from its start on where nothing is asked for.
+-- What is looked for of a section is what is asked for, or all from its start on if nothing is asked for.
 abbrev pub IsLookedFor : AtHandParts → List NoteParts → Section → Order → Type 0
 IsLookedFor at notes p o =
-    (asked_of at notes p ≡ Some o)
-    ⊎ ((asked_of at notes p ≡ None) × (o ≡ all_from (start_of notes p.first)))
+    IsAsked at notes p o
+    ⊎ (((asked : Order) → IsAsked at notes p asked → ⊥)
+    × ((start : ℕ) × IsStartOf notes p.first start × (o ≡ all_from start)))
 
 -- The front of a section begins where the first part of what is looked for does, for its reason and source, and ends
 -- 65,536 bytes behind that or where the part does, whichever is less; a part without an end goes up to the greatest end
@@ -30,8 +32,8 @@ pub record IsFront (at : AtHandParts) (notes : List NoteParts) (p : Section) (o 
   pub asked : Order
   pub is_asked : IsLookedFor at notes p asked
   pub part : OffsetRange
-  pub later : List OffsetRange
-  pub first : parts_of at p asked ≡ part ∷ later
+  pub is_part : IsPart at p asked part.start part.end
+  pub first : (start : ℕ) (end : Option ℕ) → IsPart at p asked start end → part.start ≤ start
   pub reason : o.reason ≡ asked.reason
   pub source : o.source ≡ asked.source
   pub start : o.start ≡ part.start

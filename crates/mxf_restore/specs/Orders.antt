@@ -4,7 +4,7 @@ use Rattle.mxf_klv.specs.Parts.{NoteParts}
 use Rattle.mxf_klv.specs.Note.{covered_end, end_of}
 use Rattle.mxf_klv.specs.Rising.{In}
 use Rattle.mxf_catalogue.specs.Runs.{LiesIn}
-use Rattle.mxf_places.specs.AtHand.{AtHandParts, IsEdge, IsLacking, LiesBetween, up_to_bound}
+use Rattle.mxf_places.specs.AtHand.{AtHandParts, IsEdge, IsLacking, up_to_bound}
 use Rattle.mxf_places.specs.declared.at_hand.OffsetRange.{OffsetRange}
 use Rattle.mxf_places.specs.FirstClaims.{IsFirstClaim, SpeaksOf}
 use Rattle.mxf_places.specs.Named.{IsClaim}

@@ -4,9 +4,11 @@ ghost use Rattle.std.specs.Prelude.{IfOk, OnOk};
 ghost use Rattle.std.specs.Option.{option_map, option_map_or};
 ghost use Rattle.mxf_places.specs.AtHand.{AtHandParts, has_offset, has_offsets, up_to_bound};
 ghost use Rattle.mxf_places.specs.Claims.{claim_at, claims_of};
+ghost use Rattle.mxf_catalogue.specs.Content.{IsContent};
 ghost use Rattle.mxf_catalogue.specs.Covers.{IsCover};
 ghost use Rattle.mxf_klv.specs.Parts.{NoteParts};
 ghost use Rattle.mxf_restore.specs.Fronts.{IsFront, front_by, front_of, front_range, looked_for};
+ghost use Rattle.mxf_restore.specs.Orders.{IsAsked};
 ghost use Rattle.mxf_restore.specs.Plan.{asked, asked_of, begun_at, end_by, found_orders, is_again, is_whole_needed};
 ghost use Rattle.mxf_restore.specs.Plan.{orders_by, orders_of, part_order, parts_of, start_of};
 ghost use Rattle.mxf_restore.specs.declared.section.Section.{Section};
@@ -373,6 +375,13 @@ fn orders_in(
 /// A law of [`SectionOrders::front_of`]: the front is the order of the first bytes of the first part of what is looked
 /// for of the section.
 pub fn fronts_by_definition()
-    ensures { (at : AtHandParts) (notes : List NoteParts) (p : Section) (o : Order) → IsCover at.given
-        → (front_of at notes p ≡ Some o) ↔ IsFront at notes p o }
+    ensures { (at : AtHandParts) (notes : List NoteParts) (p : Section) (o : Order) → IsContent notes
+        → IsCover at.given → IsCover at.hand → (front_of at notes p ≡ Some o) ↔ IsFront at notes p o }
+{}
+
+/// A law of [`SectionOrders`]: what is asked for of a section begins where its packet does, for the reason and source of
+/// the first claim there, and ends where the section does or, above that, where the packets of its heads do in the hole.
+pub fn asked_by_definition()
+    ensures { (at : AtHandParts) (notes : List NoteParts) (p : Section) (o : Order) → IsContent notes
+        → IsCover at.given → (asked_of at notes p ≡ Some o) ↔ IsAsked at notes p o }
 {}

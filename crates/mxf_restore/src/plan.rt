@@ -1,10 +1,10 @@
 //! What to restore next.
-ghost use Rattle.std.specs.Prelude.{◌≡◌, ◌↔◌, ◌⊎◌, ◌<◌, ◌==◌, ℕ, [], List, Some, find, IfOk};
+ghost use Rattle.std.specs.Prelude.{◌≡◌, ◌↔◌, ◌⊎◌, ◌<◌, ◌==◌, ℕ, [], List, Some, false, find, IfOk};
 ghost use Rattle.std.specs.List.{filter_map};
 ghost use Rattle.mxf_klv.specs.Parts.{NoteParts, PacketParts};
+ghost use Rattle.mxf_klv.specs.Note.{covered_end};
 ghost use Rattle.mxf_klv.specs.Piece.{end_after, notes_from};
 ghost use Rattle.mxf_views.specs.WellFormed.{IsWellFormed};
-ghost use Rattle.mxf_restore.specs.Orders.{IsOrder};
 ghost use Rattle.mxf_restore.specs.WholeFiles.{EndsInRandomIndex, NothingIsBeyond};
 ghost use Rattle.mxf_klv.specs.Rising.{In, IsRising, union};
 ghost use Rattle.mxf_catalogue.specs.Content.{IsContent};
@@ -13,9 +13,11 @@ ghost use Rattle.mxf_catalogue.specs.Runs.{LiesIn};
 ghost use Rattle.mxf_views.specs.Gaps.{IsGap};
 ghost use Rattle.mxf_places.specs.AtHand.{AtHandParts, edge_of, nothing_at_hand};
 ghost use Rattle.mxf_places.specs.Claims.{claims_of};
+ghost use Rattle.mxf_places.specs.Held.{IsHeld};
 ghost use Rattle.mxf_restore.specs.Sections.{sections_of};
 ghost use Rattle.std.specs.Option.{option_to_list};
 ghost use Rattle.mxf_restore.specs.DisputedPlaces.{IsDisputedPlace};
+ghost use Rattle.mxf_restore.specs.Orders.{IsOrder};
 ghost use Rattle.mxf_restore.specs.Plan.{LiesInOrder, asked_of, disputed_place_cmp, disputed_place_of, order_cmp, orders_of, plan_of};
 ghost use Rattle.mxf_restore.specs.declared.section.Section.{Section};
 ghost use Rattle.mxf_restore.specs.declared.plan.DisputedPlace.{DisputedPlace};
@@ -147,11 +149,17 @@ fn disputed_places_in_order(mut disputed_places: Vec<DisputedPlace>) -> Vec<Disp
 }
 
 /// A law of [`Plan::orders`]: they are what is ordered of the sections of the file, and rise by reason, start, end and
-/// source.
+/// source. The orders of a section are the parts of what is asked for of it that aren't at hand, or all of it where
+/// nothing of it lacks.
 pub fn orders_by_definition()
     ensures members { (at : AtHandParts) (notes : List NoteParts) (o : Order)
         → In o (plan_of at notes).orders
         ↔ ((p : Section) × In p (sections_of notes) × In o (orders_of at notes p)) }
+    ensures sections { (at : AtHandParts) (notes : List NoteParts) (p : Section) (o : Order) → IsContent notes
+        → IsCover at.given → IsCover at.hand → In o (orders_of at notes p) ↔ IsOrder at notes p o }
+    ensures orders { (at : AtHandParts) (notes : List NoteParts) (o : Order) → IsContent notes → IsCover at.given
+        → IsCover at.hand → In o (plan_of at notes).orders
+        ↔ ((p : Section) × In p (sections_of notes) × IsOrder at notes p o) }
     ensures rising { (at : AtHandParts) (notes : List NoteParts) → IsRising order_cmp (plan_of at notes).orders }
 {}
 
@@ -188,10 +196,17 @@ pub fn orders_where_nothing_is_at_hand()
         → orders_of nothing_at_hand notes p ≡ option_to_list (asked_of nothing_at_hand notes p) }
 {}
 
-/// A law of [`Plan::orders`]: of the notes of a well-formed file nothing is ordered, whatever is at hand, where its last
-/// packet is a random index pack; or where no pack speaks of an offset at or above its end, and none is given.
+/// A law of [`Plan::orders`]: of an order no byte is held, but for the key and the length of a head at its start.
+pub fn orders_are_missing()
+    ensures { (at : AtHandParts) (notes : List NoteParts) (o : Order) (x : ℕ) → IsContent notes
+        → In o (plan_of at notes).orders → LiesInOrder o x → IsHeld notes x
+        → (n : NoteParts) × In n notes × (n.whole ≡ false) × (n.offset ≡ o.start) × (x < covered_end n) }
+{}
+
+/// A law of [`Plan::orders`]: of the notes of a well-formed file nothing is ordered if its last packet is a random index
+/// pack, whatever is at hand; or if no pack speaks of an offset at or above its end, and no such offset is given.
 pub fn whole_files_have_no_order()
-    ensures { (l : List PacketParts) (at : AtHandParts) (p : Section) (o : Order) → IsWellFormed l
+    ensures { (l : List PacketParts) (at : AtHandParts) → IsWellFormed l → IsCover at.given → IsCover at.hand
         → EndsInRandomIndex l ⊎ NothingIsBeyond at (notes_from 0 l) (end_after 0 l)
-        → In p (sections_of (notes_from 0 l)) → IsOrder at (notes_from 0 l) p o → ⊥ }
+        → (plan_of at (notes_from 0 l)).orders ≡ [] }
 {}

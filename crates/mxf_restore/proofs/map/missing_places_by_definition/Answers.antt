@@ -1,4 +1,4 @@
-use Rattle.mxf_restore.proofs.MissingLaws.{missing_places_say, missing_says}
+use Rattle.mxf_restore.proofs.MissingPlaceLaws.{missing_places_say, missing_says}
 use Rattle.mxf_restore.proofs.map.missing_places_by_definition.Goals as goal
 
 pub returns : goal.returns

@@ -1,0 +1,316 @@
+-- What is asked for of a section, by the function and by the relation.
+use Rattle.std.proofs.Common.{◌≡◌, ◌↔◌, ◌⊎◌, ◌∙◌, ◌&&◌, ◌||◌, ◌==◌, ◌<◌, ◌≤◌, ◌+◌, ℕ, Bool, true, false, not, max, IsTrue}
+use Rattle.std.proofs.Common.{List, [], ◌∷◌, Option, None, Some, is_some, option_map, filter, if◌then◌else◌, nat_le, nat_lt}
+use Rattle.std.proofs.Common.{refl, sym, ap, subst, inl, inr, arith, leb-true, le-leb, lt-ltb, ltb-true}
+use Rattle.std.proofs.lemmas.Bool.{and_from, and_parts, cases_Bool, cases_lt, or_cases, or_left, or_right}
+use Rattle.std.proofs.lemmas.Option.{same_Some}
+use Rattle.std.specs.Option.{option_map_or}
+use Rattle.mxf_klv.specs.Parts.{NoteParts}
+use Rattle.mxf_klv.specs.Note.{end_of}
+use Rattle.mxf_klv.specs.Rising.{In}
+use Rattle.mxf_klv.proofs.Tests.{not-true-false, not_true, some_is}
+use Rattle.mxf_catalogue.specs.Content.{IsContent}
+use Rattle.mxf_catalogue.specs.Covers.{IsCover}
+use Rattle.mxf_places.specs.AtHand.{AtHandParts, edge_of, up_to_bound}
+use Rattle.mxf_places.specs.Claims.{claim_at}
+use Rattle.mxf_places.specs.Named.{IsClaim, IsClaimFor}
+use Rattle.mxf_places.specs.Held.{top_of}
+use Rattle.mxf_places.specs.declared.claim.Claim.{Claim}
+use Rattle.mxf_places.specs.declared.reason.Reason.{Reason}
+use Rattle.mxf_places.specs.declared.reason.Reason.TheVariants.{Gap}
+use Rattle.mxf_places.proofs.HeldLaws.{top_of-bound}
+use Rattle.mxf_restore.specs.Orders.{IsAsked, IsAskedEnd, IsHeadTo, IsOpenAt, IsSectionEnd, ReachesUpTo}
+use Rattle.mxf_restore.specs.Plan.{asked_by, asked_of, end_by, is_head_to, needed_of, start_of}
+use Rattle.mxf_restore.specs.declared.section.Section.{Section}
+use Rattle.mxf_restore.specs.declared.plan.Order.{Order}
+use Rattle.mxf_places.proofs.EdgeLaws.{edge_says}
+use Rattle.mxf_places.proofs.FirstLaws.{first_says, none_speaks}
+use Rattle.mxf_restore.proofs.StartLaws.{heads_say, start_is, start_says}
+
+some_from : {A B : Type 0} (f : A → B) (d : Option A) (b : B) → option_map f d ≡ Some b
+    → (a : A) × (d ≡ Some a) × (f a ≡ b)
+some_from f None b e = absurd cc
+some_from f (Some a) b e = (a, refl, same_Some (f a) b e)
+
+none_from : {A B : Type 0} (f : A → B) (d : Option A) → option_map f d ≡ None → d ≡ None
+none_from f None e = refl
+none_from f (Some a) e = absurd cc
+
+-- ---- the greatest end of notes
+
+-- Some note ends above an offset exactly where the greatest end lies above it.
+above_top : (notes : List NoteParts) (x : ℕ)
+    → IsTrue (nat_lt x (top_of notes)) ↔ ((n : NoteParts) × In n notes × (x < end_of n))
+above_top [] x = (λ t. absurd (let l = ltb-true x 0 t in omega (arith, l)), λ s. absurd s.1)
+above_top (m ∷ notes) x =
+    let ih = above_top notes x in (
+      λ t.
+          let l = ltb-true x (top_of (m ∷ notes)) t in
+          elim (cases_lt x (end_of m)) [
+            | inl k ↦ (m, inl refl, k)
+            | inr k ↦ let s = ih.0 (lt-ltb x (top_of notes) (omega (arith, l, k))) in (s.0, inr s.1, s.2)
+          ],
+      λ s.
+          let top = (top_of-bound (m ∷ notes) (top_of (m ∷ notes))).0 (omega arith) s.0 s.1 in
+          let l = s.2 in
+          lt-ltb x (top_of (m ∷ notes)) (omega (arith, top, l)),
+    )
+
+-- The greatest end is that of a note, or 0 where there is none.
+top_there : (notes : List NoteParts)
+    → (top_of notes ≡ 0) ⊎ ((n : NoteParts) × In n notes × (end_of n ≡ top_of notes))
+top_there [] = inl refl
+top_there (m ∷ notes) = elim (cases_lt (end_of m) (top_of notes)) [
+  | inl l ↦ elim (top_there notes) [
+    | inl e ↦ absurd (omega (arith, l, e))
+    | inr s ↦ (let e = s.2 in inr (s.0, inr s.1, omega (arith, e, l)))
+  ]
+  | inr l ↦ inr (m, inl refl, omega (arith, l))
+]
+
+bound_rises : (a b : ℕ) (bound : Option ℕ) → a ≤ b → up_to_bound a bound ≤ up_to_bound b bound
+bound_rises a b None l = l
+bound_rises a b (Some x) l = omega (arith, l)
+
+bound_low : (a : ℕ) (bound : Option ℕ) → up_to_bound a bound ≤ a
+bound_low a None = omega arith
+bound_low a (Some x) = omega arith
+
+module _ (at : AtHandParts) (notes : List NoteParts) (content : IsContent notes) where
+  -- ---- claims
+
+  open_says : (x : ℕ) (claim : Option Claim) → claim_at notes x ≡ claim
+      → IsTrue (option_map_or (λ c. c.is_open) claim false) ↔ IsOpenAt notes x
+  open_says x None e = (
+    λ t. absurd cc,
+    λ o. let f = (first_says notes x o.0 content).1 o.1 in absurd (cc (e, f)),
+  )
+  open_says x (Some c) e = (
+    λ t. (c, (first_says notes x c content).0 e, t),
+    λ o.
+        let f = (first_says notes x o.0 content).1 o.1 in
+        ap (λ (d : Claim). d.is_open) (same_Some c o.0 (sym e ∙ f)) ∙ o.2,
+  )
+
+  -- Nothing is claimed to be a gap.
+  never_gap : (c : Claim) → IsClaim notes c → c.reason ≡ Gap → ⊥
+  never_gap c k e = subst (λ (r : Reason). IsClaimFor r notes c) e k
+
+  -- ---- ends
+
+  module _ (cover : IsCover at.given) (p : Section) (start : ℕ) (claim : Option Claim)
+      (claimed : claim_at notes start ≡ claim) where
+    edge : ℕ
+    edge = edge_of at notes
+
+    abbrev is_open : Bool
+    is_open = option_map_or (λ c. c.is_open) claim false
+
+    abbrev reaches : Bool
+    reaches = (nat_lt p.first (top_of notes) || nat_le (p.first + 25) (edge_of at notes)) && not is_open
+
+    reaches_says : (x : ℕ) → ((reaches ≡ true) × (edge_of at notes ≡ x)) ↔ ReachesUpTo at notes p.first start x
+    reaches_says x =
+        let is = edge_says at notes x cover in
+        let opens = open_says start claim claimed in
+        let far = nat_lt p.first (top_of notes) || nat_le (p.first + 25) (edge_of at notes) in (
+          λ h.
+              let t = and_parts far (not is_open) h.0 in
+              let same = h.1 in record {
+                is_edge = is.0 h.1;
+                far = elim (or_cases (nat_lt p.first (top_of notes)) (nat_le (p.first + 25) (edge_of at notes)) t.0) [
+                  | inl u ↦ inl ((above_top notes p.first).0 u)
+                  | inr u ↦ (let l = leb-true (p.first + 25) (edge_of at notes) u in inr (omega (arith, l, same)))
+                ];
+                closed = λ o. not-true-false is_open t.1 (opens.1 o);
+              },
+          λ r.
+              let same = is.1 r.is_edge in (
+                and_from far (not is_open) (elim r.far [
+                  | inl s ↦ or_left (nat_lt p.first (top_of notes)) (nat_le (p.first + 25) (edge_of at notes))
+                      ((above_top notes p.first).1 s)
+                  | inr l ↦ or_right (nat_lt p.first (top_of notes)) (nat_le (p.first + 25) (edge_of at notes))
+                      (le-leb (p.first + 25) (edge_of at notes) (omega (arith, l, same)))
+                ]) (not_true is_open (λ t. r.closed (opens.0 t))),
+                same,
+              ),
+        )
+
+    section_end_says : (end : Option ℕ) → (end_by at notes p claim ≡ end) ↔ IsSectionEnd at notes p start end
+    section_end_says (Some x) = (
+      λ e. elim p.end as (λ o. p.end ≡ o → (if is_some o then o else (if reaches then Some (edge_of at notes) else None))
+          ≡ Some x → IsSectionEnd at notes p start (Some x)) [
+            | Some d ↦ λ f g. inl (f ∙ g)
+            | None ↦ λ f g. elim (cases_Bool reaches) [
+              | inl t ↦ (
+                  let h = ap (λ b. if b then Some (edge_of at notes) else None) (sym t) ∙ g in
+                  inr (f, (reaches_says x).0 (t, same_Some (edge_of at notes) x h)))
+              | inr t ↦ absurd (
+                  let h = ap (λ b. if b then Some (edge_of at notes) else None) (sym t) ∙ g in cc (h))
+            ]
+          ] refl e,
+      λ h. elim h [
+        | inl e ↦ ap (λ o. if is_some o then o else (if reaches then Some (edge_of at notes) else None)) e
+        | inr k ↦ (
+            let r = (reaches_says x).1 k.1 in
+            ap (λ o. if is_some o then o else (if reaches then Some (edge_of at notes) else None)) k.0
+            ∙ ap (λ b. if b then Some (edge_of at notes) else None) r.0
+            ∙ ap (λ (y : ℕ). Some y) r.1)
+      ],
+    )
+    section_end_says None = (
+      λ e. elim p.end as (λ o. p.end ≡ o → (if is_some o then o else (if reaches then Some (edge_of at notes) else None))
+          ≡ None → IsSectionEnd at notes p start None) [
+            | Some d ↦ λ f g. absurd cc
+            | None ↦ λ f g. (
+              f,
+              λ x r.
+                  let t = ((reaches_says x).1 r).0 in
+                  let h = ap (λ b. if b then Some (edge_of at notes) else None) (sym t) ∙ g in cc (h),
+            )
+          ] refl e,
+      λ h.
+          ap (λ o. if is_some o then o else (if reaches then Some (edge_of at notes) else None)) h.0
+          ∙ elim (cases_Bool reaches) [
+            | inl t ↦ absurd (h.1 (edge_of at notes) ((reaches_says (edge_of at notes)).0 (t, refl)))
+            | inr t ↦ ap (λ b. if b then Some (edge_of at notes) else None) t
+          ],
+    )
+
+    abbrev needed : ℕ
+    needed = needed_of notes start p.first
+
+    abbrev most : ℕ → ℕ
+    most e = max e (up_to_bound (needed_of notes start p.first) p.hole.end)
+
+    -- Each packet of the heads ends where the greatest end does at most, and one does there, or none is needed.
+    needed_bound : (n : NoteParts) → IsHeadTo notes start p.first n
+        → up_to_bound (end_of n) p.hole.end ≤ up_to_bound needed p.hole.end
+    needed_bound n h =
+        let heads = filter (λ m. is_head_to p.first m && (m.offset == start)) notes in
+        let k = (heads_say notes start p.first n).1 h in
+        bound_rises (end_of n) needed p.hole.end ((top_of-bound heads needed).0 (omega arith) n k)
+
+    needed_there : (up_to_bound needed p.hole.end ≡ 0) ⊎ ((n : NoteParts) × IsHeadTo notes start p.first n
+        × (up_to_bound (end_of n) p.hole.end ≡ up_to_bound needed p.hole.end))
+    needed_there =
+        let heads = filter (λ m. is_head_to p.first m && (m.offset == start)) notes in
+        elim (top_there heads) [
+          | inl e ↦ (let low = bound_low needed p.hole.end in inl (omega (arith, low, e)))
+          | inr s ↦ inr (s.0, (heads_say notes start p.first s.0).0 s.1, ap (λ x. up_to_bound x p.hole.end) s.2)
+        ]
+
+    asked_end_says : (end : Option ℕ)
+        → (option_map most (end_by at notes p claim) ≡ end) ↔ IsAskedEnd at notes p start end
+    asked_end_says None = (
+      λ e. (section_end_says None).0 (none_from most (end_by at notes p claim) e),
+      λ h. ap (option_map most) ((section_end_says None).1 h),
+    )
+    asked_end_says (Some x) = (
+      λ e.
+          let s = some_from most (end_by at notes p claim) x e in
+          let reach = s.2 in record {
+            section_end = s.0;
+            is_section_end = (section_end_says (Some s.0)).0 s.1;
+            section = omega (arith, reach);
+            packets = λ n h. let low = needed_bound n h in omega (arith, low, reach);
+            reached = elim (cases_lt s.0 (up_to_bound needed p.hole.end)) [
+              | inl l ↦ elim needed_there [
+                | inl z ↦ absurd (omega (arith, z, l))
+                | inr t ↦ (let same = t.2 in inr (t.0, t.1, omega (arith, same, l, reach)))
+              ]
+              | inr l ↦ inl (omega (arith, l, reach))
+            ];
+          },
+      λ r.
+          let e = (section_end_says (Some r.section_end)).1 r.is_section_end in
+          let section = r.section in
+          let low : up_to_bound needed p.hole.end ≤ x = elim needed_there [
+            | inl z ↦ omega (arith, z)
+            | inr t ↦ (let h = r.packets t.0 t.1 in let same = t.2 in omega (arith, h, same))
+          ] in
+          let high : x ≤ most r.section_end = elim r.reached [
+            | inl same ↦ omega (arith, same)
+            | inr t ↦ (let h = needed_bound t.0 t.1 in let same = t.2 in omega (arith, h, same))
+          ] in
+          ap (option_map most) e ∙ ap (λ (y : ℕ). Some y) (omega (arith, section, low, high)),
+    )
+
+  -- ---- what is asked for
+
+  pub asked_law : IsCover at.given → (p : Section) (o : Order) → (asked_of at notes p ≡ Some o) ↔ IsAsked at notes p o
+  asked_law cover p o = (
+    λ e. by (claim_at notes (start_of notes p.first)) refl e,
+    λ a.
+        let start = (start_says notes content p.first o.start).1 a.start in
+        ap (λ s. asked_by at notes p s (claim_at notes s)) start ∙ back a,
+  ) where
+    most : ℕ → ℕ → ℕ
+    most start e = max e (up_to_bound (needed_of notes start p.first) p.hole.end)
+
+    -- A gap up to an end.
+    gap : ℕ → ℕ → Order
+    gap start e = record {
+      reason = Gap;
+      start = start;
+      end = Some e;
+      source = None;
+      inside = false;
+      again = false;
+    }
+
+    by : (claim : Option Claim) → claim_at notes (start_of notes p.first) ≡ claim
+        → asked_by at notes p (start_of notes p.first) claim ≡ Some o → IsAsked at notes p o
+    by None f e =
+        let start = start_of notes p.first in
+        let s = some_from (gap start) (option_map (most start) (end_by at notes p None)) o e in
+        subst (IsAsked at notes p) s.2 (record {
+          start = start_is notes content p.first;
+          said = inr ((none_speaks notes start content).0 f, refl, refl);
+          end = (asked_end_says cover p start None f (Some s.0)).0 s.1;
+          some = λ g. refl;
+          from_start = refl;
+          new = refl;
+        })
+    by (Some c) f e =
+        let start = start_of notes p.first in
+        let first = (first_says notes start c content).0 f in
+        subst (IsAsked at notes p) (same_Some _ o e) (record {
+          start = start_is notes content p.first;
+          said = inl (c, first, refl, refl);
+          end = (asked_end_says cover p start (Some c) f (option_map (most start) (end_by at notes p (Some c)))).0 refl;
+          some = λ g. absurd (never_gap c first.claim g);
+          from_start = refl;
+          new = refl;
+        })
+
+    back : IsAsked at notes p o → asked_by at notes p o.start (claim_at notes o.start) ≡ Some o
+    back a = elim a.said [
+      | inl k ↦ (
+          let c = k.0 in
+          let f = (first_says notes o.start c content).1 k.1 in
+          let end = (asked_end_says cover p o.start (Some c) f o.end).1 a.end in
+          ap (asked_by at notes p o.start) f
+          ∙ (λ i. Some (record {
+            reason = sym k.2 i;
+            start = o.start;
+            end = end i;
+            source = sym k.3 i;
+            inside = sym a.from_start i;
+            again = sym a.new i;
+          })))
+      | inr k ↦ (
+          let f = (none_speaks notes o.start content).1 k.0 in
+          let end = (asked_end_says cover p o.start None f o.end).1 a.end in
+          let s = some_is o.end (a.some k.1) in
+          ap (asked_by at notes p o.start) f
+          ∙ ap (option_map (gap o.start)) (end ∙ s.1)
+          ∙ (λ i. Some (record {
+            reason = sym k.1 i;
+            start = o.start;
+            end = sym s.1 i;
+            source = sym k.2 i;
+            inside = sym a.from_start i;
+            again = sym a.new i;
+          })))
+    ]
