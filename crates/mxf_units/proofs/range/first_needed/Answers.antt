@@ -1,7 +1,7 @@
-use Rattle.std.proofs.Common.{◌≡◌, ◌∙◌, ◌≤◌, ℕ, List, [], ◌∷◌, Option, None, Some, ap, arith, filter_map, refl, sym}
+use Rattle.std.proofs.Common.{◌≡◌, ◌∙◌, ℕ, List, ◌∷◌, Option, None, Some, ap, arith, filter_map, refl, sym}
 use Rattle.std.specs.List.{cons_option}
 use Rattle.std.specs.Option.{option_to_list}
-use Rattle.mxf_units.specs.Ranges.{least_of, needed_from, units_from}
+use Rattle.mxf_units.specs.Ranges.{least_of, needed_from}
 use Rattle.mxf_units.specs.declared.unit.EditUnit.{EditUnit}
 use Rattle.mxf_units.proofs.range.first_needed.Goals as goal
 

@@ -1,7 +1,7 @@
 use Rattle.std.proofs.Common.{◌∙◌, ap, refl}
 use Rattle.mxf_places.specs.AtHand.{KnownParts}
 use Rattle.mxf_units.specs.EssenceZones.{parts_of}
-use Rattle.mxf_units.specs.Streams.{entry_of, place_of, segments_for}
+use Rattle.mxf_units.specs.Streams.{segments_for}
 use Rattle.mxf_units.specs.Units.{UnitsParts, extent_by, location_at, standing_by, location_of, unit_by, unit_of}
 use Rattle.mxf_units.proofs.units.Units.unit.Goals as goal
 
