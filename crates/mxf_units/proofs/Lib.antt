@@ -19,3 +19,4 @@ pub mod ExtentLaws
 pub mod OneStanding
 pub mod LastLaws
 pub mod InNumbers
+pub mod WholeFileUnits

@@ -72,4 +72,5 @@ pub use unit::{EditUnit, Extent};
 pub use units::{
     Units, entries_by_definition, extents_by_definition, held_units_are_held, index_sids,
     index_sids_by_definition, standings_by_definition, units_at_hand_are_known,
+    units_of_whole_files_are_held,
 };

@@ -1,13 +1,14 @@
 //! The edit units of an index.
-ghost use Rattle.std.specs.Prelude.{◌≡◌, ◌↔◌, ◌+◌, ◌<◌, ◌^◌, ℕ, IfOk, IsSome, List, None, Some, map};
+ghost use Rattle.std.specs.Prelude.{◌≡◌, ◌↔◌, ◌+◌, ◌<◌, ◌≤◌, ◌^◌, ℕ, IfOk, IsSome, List, None, Some, map};
 ghost use Rattle.std.specs.Ordering.{nat_cmp};
-ghost use Rattle.mxf_klv.specs.Parts.{NoteParts};
+ghost use Rattle.mxf_klv.specs.Parts.{NoteParts, PacketParts};
+ghost use Rattle.mxf_klv.specs.Piece.{end_after, notes_from};
 ghost use Rattle.mxf_klv.specs.Rising.{In, IsRising};
 ghost use Rattle.mxf_sets.specs.declared.segment.offset.IndexEntry.{IndexEntry};
 ghost use Rattle.mxf_units.specs.declared.unit.Extent.{Extent};
 ghost use Rattle.std.specs.Result.{ForOk};
 ghost use Rattle.mxf_views.specs.Places.{SegmentAtParts, segments_of};
-ghost use Rattle.mxf_places.specs.AtHand.{KnownParts};
+ghost use Rattle.mxf_places.specs.AtHand.{AtHandParts, KnownParts};
 ghost use Rattle.mxf_units.specs.Entries.{IsEntryOf, IsKeyFrame};
 ghost use Rattle.mxf_units.specs.Extents.{IsExtentOf, IsTold};
 ghost use Rattle.mxf_units.specs.Standings.{IsStanding, IsStandingIn};
@@ -308,4 +309,12 @@ pub fn extents_by_definition()
         → (unit_of known index_sid unit).extent ≡ Some e → IsExtentOf known.notes index_sid unit e }
     ensures told { (known : KnownParts) (index_sid unit : ℕ)
         → IsSome (unit_of known index_sid unit).extent ↔ IsTold (unit_of known index_sid unit).standing }
+{}
+
+/// A law of [`Units::unit`]: of a file whose packets are all held, from 0 on one after another, each unit that has a place
+/// in the file, and ends before the file does, stands as held, whatever else is at hand.
+pub fn units_of_whole_files_are_held()
+    ensures { (l : List PacketParts) (at : AtHandParts) (index_sid unit : ℕ) (e : Extent) (end : ℕ)
+        → IsExtentOf (notes_from 0 l) index_sid unit e → e.end ≡ Some end → end ≤ end_after 0 l
+        → (unit_of (record { notes = notes_from 0 l; at = at }) index_sid unit).standing ≡ UnitStanding.Held }
 {}
