@@ -1,5 +1,5 @@
 -- Of an order no byte is held, but for the key and length of the head at its start.
-use Rattle.std.proofs.Common.{◌≡◌, ◌⊎◌, ◌∙◌, ◌<◌, ◌≤◌, ◌+◌, ◌-◌, ◌++◌, ℕ, Bool, true, false, nat_lt, max, min}
+use Rattle.std.proofs.Common.{◌≡◌, ◌⊎◌, ◌∙◌, ◌<◌, ◌≤◌, ◌-◌, ℕ, Bool, true, false, nat_lt, max, min}
 use Rattle.std.proofs.Common.{List, [], ◌∷◌, Option, None, Some, filter, if◌then◌else◌, is_some, option_map}
 use Rattle.std.proofs.Common.{refl, sym, ap, subst, inl, inr, arith, ltb-true}
 use Rattle.std.proofs.lemmas.Bool.{cases_lt}
@@ -11,17 +11,17 @@ use Rattle.mxf_klv.specs.Rising.{In}
 use Rattle.mxf_klv.proofs.Lists.{In-append, In-filter}
 use Rattle.mxf_catalogue.specs.Content.{IsContent}
 use Rattle.mxf_catalogue.specs.declared.run.Run.{Run}
-use Rattle.mxf_places.specs.AtHand.{AtHandParts, LiesBetween, LiesInRange, edge_of, lacking, some_range, up_to_bound}
+use Rattle.mxf_places.specs.AtHand.{AtHandParts, LiesBetween, LiesInRange, lacking, some_range, up_to_bound}
 use Rattle.mxf_places.specs.Claims.{claim_at}
 use Rattle.mxf_places.specs.Held.{IsHeld}
 use Rattle.mxf_places.specs.declared.at_hand.OffsetRange.{OffsetRange}
 use Rattle.mxf_places.specs.declared.claim.Claim.{Claim}
 use Rattle.mxf_restore.specs.Plan.{LiesInOrder, asked, asked_of, begun_at, end_by, is_whole_needed, needed_of}
 use Rattle.mxf_restore.specs.Plan.{parts_among, parts_of, plan_of, start_of}
-use Rattle.mxf_restore.specs.Sections.{LiesInSection, sections_of}
+use Rattle.mxf_restore.specs.Sections.{sections_of}
 use Rattle.mxf_restore.specs.declared.section.Section.{Section}
 use Rattle.mxf_restore.specs.declared.plan.Order.{Order}
-use Rattle.mxf_restore.proofs.OrderStarts.{IsPart, is_part, whole_start}
+use Rattle.mxf_restore.proofs.OrderStarts.{is_part, whole_start}
 use Rattle.mxf_restore.proofs.PlanMembers.{order_members}
 use Rattle.mxf_restore.proofs.SectionCover.{are_sections}
 use Rattle.mxf_restore.proofs.StartLaws.{start_is}
@@ -81,7 +81,7 @@ lacked_within (r ∷ runs) start end g k =
     ]
 
 module _ (at : AtHandParts) (p : Section) (o : Order) where
-  -- A part begins where what is asked for does, or no lower than the section; and ends no higher than what is asked for.
+  -- A part begins where what is asked for does, or no lower than the section. It ends no higher than what is asked for.
   pub record IsInAsked (r : OffsetRange) : Type 0 where
     pub starts : (r.start ≡ o.start) ⊎ (p.first ≤ r.start)
     pub ends : (x : ℕ) → LiesInRange r x → p.first ≤ x → Below o.end x
@@ -147,9 +147,11 @@ module _ (at : AtHandParts) (notes : List NoteParts) (content : IsContent notes)
                 absurd (omega (arith, high))
             | Some d ↦ λ g.
                 let some = below_of p.end d g p.first (are.some p k).1 in
-                let high = elim_below p h f (are.within p (d - 1) k (omega (arith, some), inr (d, g, omega (arith, some)))).1 in
+                let last = are.within p (d - 1) k (omega (arith, some), inr (d, g, omega (arith, some))) in
+                let high = elim_below p h f last.1 in
                 let reach : end_by at notes p claim ≡ Some d =
-                ap (λ o. if is_some o then o else end_by at notes (record { first = p.first; end = None; hole = p.hole }) claim) g in
+                ap (λ o. if is_some o then o
+                else end_by at notes (record { first = p.first; end = None; hole = p.hole }) claim) g in
                 let l = below_of a.end (max d (up_to_bound (needed_of notes start p.first) (Some h)))
                 (ends ∙ ap (option_map most) reach
                 ∙ ap (λ b. Some (max d (up_to_bound (needed_of notes start p.first) b))) f) x below in

@@ -1,6 +1,6 @@
 -- What is ordered of a section, by the function and by the relation.
-use Rattle.std.proofs.Common.{◌≡◌, ◌↔◌, ◌⊎◌, ◌∙◌, ◌≢◌, ◌==◌, ◌<◌, ◌≤◌, ◌+◌, ℕ, Bool, true, false, not, nat_lt, IsTrue}
-use Rattle.std.proofs.Common.{List, [], ◌∷◌, Option, None, Some, map, filter, if◌then◌else◌}
+use Rattle.std.proofs.Common.{◌≡◌, ◌↔◌, ◌∙◌, ◌==◌, ◌<◌, ◌+◌, ℕ, Bool, true, false, not, nat_lt, IsTrue}
+use Rattle.std.proofs.Common.{List, [], ◌∷◌, Option, None, Some, filter, if◌then◌else◌}
 use Rattle.std.proofs.Common.{refl, sym, ap, subst, inl, inr, arith, eqb-true, eq-eqb, lt-ltb, ltb-true}
 use Rattle.std.proofs.lemmas.Bool.{or_cases, or_left, or_right}
 use Rattle.std.proofs.lemmas.Option.{same_Some}
@@ -11,8 +11,7 @@ use Rattle.mxf_klv.proofs.Lists.{In-filter, In-map}
 use Rattle.mxf_klv.proofs.Tests.{not-true-false, not_equal, not_true, same_bool}
 use Rattle.mxf_catalogue.specs.Content.{IsContent}
 use Rattle.mxf_catalogue.specs.Covers.{IsCover}
-use Rattle.mxf_catalogue.specs.Runs.{LiesIn}
-use Rattle.mxf_places.specs.AtHand.{AtHandParts, has_offset, has_offsets, lacking}
+use Rattle.mxf_places.specs.AtHand.{AtHandParts, has_offset, lacking}
 use Rattle.mxf_places.specs.declared.at_hand.OffsetRange.{OffsetRange}
 use Rattle.mxf_places.proofs.AtHandLaws.{Rise, has_offset-says, has_offsets-says, lacking_rise, members, rise_above}
 use Rattle.mxf_restore.specs.Orders.{IsFirstLacking, IsLackingIn, IsOrder, IsPart, IsWholeNeeded, WasHandedIn}
@@ -202,7 +201,8 @@ module _ (at : AtHandParts) where
           let compared = not_equal o.start a.start in
           let handed = again_says given hand o.start o.end in
           let inside : not (o.start == a.start) ≡ o.inside =
-          same_bool (not (o.start == a.start)) o.inside (λ t. f.inside.1 (compared.0 t)) (λ t. compared.1 (f.inside.0 t))
+          same_bool (not (o.start == a.start)) o.inside (λ t. f.inside.1 (compared.0 t))
+          (λ t. compared.1 (f.inside.0 t))
           in
           let again : is_again at (record { start = o.start; end = o.end }) ≡ o.again =
           same_bool (is_again at (record { start = o.start; end = o.end })) o.again (λ t. f.again.1 (handed.0 t))
@@ -219,12 +219,13 @@ module _ (at : AtHandParts) where
       pub orders_say : (p : Section) (o : Order) → In o (orders_of at notes p) ↔ IsOrder at notes p o
       unfolding orders_of
       orders_say p o = (
-        λ k. elim (asked_of at notes p) as (λ a. asked_of at notes p ≡ a → In o (orders_by at p a) → IsOrder at notes p o) [
-          | None ↦ λ e h. absurd h
-          | Some a ↦ λ e h.
-              let s = (In-map (part_order at a) (parts_of at p a) o).0 h in
-              subst (IsOrder at notes p) (sym s.2) (part_says p a s.0 e s.1)
-        ] refl k,
+        λ k. elim (asked_of at notes p) as (λ a. asked_of at notes p ≡ a → In o (orders_by at p a)
+            → IsOrder at notes p o) [
+              | None ↦ λ e h. absurd h
+              | Some a ↦ λ e h.
+                  let s = (In-map (part_order at a) (parts_of at p a) o).0 h in
+                  subst (IsOrder at notes p) (sym s.2) (part_says p a s.0 e s.1)
+            ] refl k,
         λ f.
             let a = f.asked in
             let r : OffsetRange = record { start = o.start; end = o.end } in

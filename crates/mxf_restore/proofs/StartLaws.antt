@@ -1,6 +1,6 @@
 -- Where the packet begins of which a section is the rest, by the function and by the relation.
 use Rattle.std.proofs.Common.{◌≡◌, ◌↔◌, ◌∙◌, ◌&&◌, ◌==◌, ◌≤◌, ℕ, Bool, true, false, not, cond, find, filter, IsTrue}
-use Rattle.std.proofs.Common.{List, [], ◌∷◌, Option, None, Some, refl, sym, ap, subst, inl, inr, arith, eqb-true}
+use Rattle.std.proofs.Common.{List, [], ◌∷◌, None, Some, refl, sym, ap, subst, inl, inr, arith, eqb-true}
 use Rattle.std.proofs.Common.{eq-eqb}
 use Rattle.std.proofs.lemmas.Bool.{and_from, and_parts, cases_Bool}
 use Rattle.std.proofs.lemmas.Option.{same_Some}
@@ -10,7 +10,7 @@ use Rattle.mxf_klv.specs.Parts.{NoteParts}
 use Rattle.mxf_klv.specs.Note.{covered_end, note_cmp}
 use Rattle.mxf_klv.specs.Rising.{In}
 use Rattle.mxf_klv.proofs.Lists.{In-filter, all-In, found-In, none_found}
-use Rattle.mxf_klv.proofs.Tests.{not-true-false, not_true}
+use Rattle.mxf_klv.proofs.Tests.{not-true-false}
 use Rattle.mxf_catalogue.specs.Content.{IsContent}
 use Rattle.mxf_catalogue.proofs.SpanLaws.{offset_le}
 use Rattle.mxf_restore.specs.Orders.{IsHeadTo, IsStartOf}
@@ -79,7 +79,8 @@ module _ (notes : List NoteParts) where
               n,
               record { held = k.0; head = s.0; begins = refl; ends = s.1 },
               λ x m h.
-                  let l = least (is_head_to first) notes content n m e h.held ((head_says first m).1 (h.head, h.ends)) in
+                  let is = (head_says first m).1 (h.head, h.ends) in
+                  let l = least (is_head_to first) notes content n m e h.held is in
                   let b = h.begins in omega (arith, l, b),
             )
       ] refl

@@ -1,5 +1,5 @@
 -- The front of what is looked for of a section, where edit units ask for a partition there (this project's profile).
-use Rattle.std.specs.Prelude.{◌≡◌, ◌↔◌, ◌≢◌, ℕ, ◌+◌, ◌≤◌, ◌⊎◌, false, IsTrue, min, Option, None, Some, unwrap_or, List, ◌∷◌}
+use Rattle.std.specs.Prelude.{◌≡◌, ◌↔◌, ◌≢◌, ℕ, ◌+◌, ◌≤◌, ◌⊎◌, false, IsTrue, min, Option, None, Some, unwrap_or, List}
 use Rattle.std.specs.Option.{option_map}
 use Rattle.std.specs.List.{slice_get}
 use Rattle.mxf_klv.specs.Parts.{NoteParts}
