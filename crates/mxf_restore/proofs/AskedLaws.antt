@@ -1,6 +1,7 @@
 -- What is asked for of a section, by the function and by the relation.
-use Rattle.std.proofs.Common.{◌≡◌, ◌↔◌, ◌⊎◌, ◌∙◌, ◌&&◌, ◌||◌, ◌==◌, ◌<◌, ◌≤◌, ◌+◌, ℕ, Bool, true, false, not, max, IsTrue}
-use Rattle.std.proofs.Common.{List, [], ◌∷◌, Option, None, Some, is_some, option_map, filter, if◌then◌else◌, nat_le, nat_lt}
+use Rattle.std.proofs.Common.{◌≡◌, ◌↔◌, ◌⊎◌, ◌∙◌, ◌&&◌, ◌||◌, ◌==◌, ◌<◌, ◌≤◌, ◌+◌, ℕ, Bool, true, false, not, max}
+use Rattle.std.proofs.Common.{List, [], ◌∷◌, Option, None, Some, is_some, option_map, filter, if◌then◌else◌, nat_le}
+use Rattle.std.proofs.Common.{nat_lt, IsTrue}
 use Rattle.std.proofs.Common.{refl, sym, ap, subst, inl, inr, arith, leb-true, le-leb, lt-ltb, ltb-true}
 use Rattle.std.proofs.lemmas.Bool.{and_from, and_parts, cases_Bool, cases_lt, or_cases, or_left, or_right}
 use Rattle.std.proofs.lemmas.Option.{same_Some}
@@ -138,8 +139,9 @@ module _ (at : AtHandParts) (notes : List NoteParts) (content : IsContent notes)
 
     section_end_says : (end : Option ℕ) → (end_by at notes p claim ≡ end) ↔ IsSectionEnd at notes p start end
     section_end_says (Some x) = (
-      λ e. elim p.end as (λ o. p.end ≡ o → (if is_some o then o else (if reaches then Some (edge_of at notes) else None))
-          ≡ Some x → IsSectionEnd at notes p start (Some x)) [
+      λ e. elim p.end as (λ o. p.end ≡ o
+          → (if is_some o then o else (if reaches then Some (edge_of at notes) else None)) ≡ Some x
+          → IsSectionEnd at notes p start (Some x)) [
             | Some d ↦ λ f g. inl (f ∙ g)
             | None ↦ λ f g. elim (cases_Bool reaches) [
               | inl t ↦ (
@@ -159,8 +161,9 @@ module _ (at : AtHandParts) (notes : List NoteParts) (content : IsContent notes)
       ],
     )
     section_end_says None = (
-      λ e. elim p.end as (λ o. p.end ≡ o → (if is_some o then o else (if reaches then Some (edge_of at notes) else None))
-          ≡ None → IsSectionEnd at notes p start None) [
+      λ e. elim p.end as (λ o. p.end ≡ o
+          → (if is_some o then o else (if reaches then Some (edge_of at notes) else None)) ≡ None
+          → IsSectionEnd at notes p start None) [
             | Some d ↦ λ f g. absurd cc
             | None ↦ λ f g. (
               f,

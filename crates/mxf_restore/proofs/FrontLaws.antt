@@ -1,7 +1,7 @@
 -- The front of what is looked for of a section.
 use Rattle.std.proofs.Common.{◌≡◌, ◌↔◌, ◌⊎◌, ◌∙◌, ◌<◌, ◌≤◌, ◌+◌, ◌==◌, ℕ, not, min, IsTrue}
-use Rattle.std.proofs.Common.{arith}
-use Rattle.std.proofs.Common.{Option, None, Some, option_map, unwrap_or, List, [], ◌∷◌, refl, sym, ap, subst, inl, inr}
+use Rattle.std.proofs.Common.{Option, None, Some, option_map, unwrap_or, List, [], ◌∷◌, arith, refl, sym, ap, subst}
+use Rattle.std.proofs.Common.{inl, inr}
 use Rattle.std.specs.List.{slice_get}
 use Rattle.std.proofs.lemmas.Option.{same_Some}
 use Rattle.mxf_klv.specs.Parts.{NoteParts}
@@ -165,7 +165,8 @@ module _ (at : AtHandParts) (notes : List NoteParts) (p : Section) where
         subst (λ e. (e ≡ None) ⊎ ((y : ℕ) × (e ≡ Some y) × (x < y))) alike l.1,
       )
 
-  pub front_law : (o : Order) → IsContent notes → IsCover at.given → IsCover at.hand → (front_of at notes p ≡ Some o) ↔ IsFront at notes p o
+  pub front_law : (o : Order) → IsContent notes → IsCover at.given → IsCover at.hand
+      → (front_of at notes p ≡ Some o) ↔ IsFront at notes p o
   unfolding front_of
   front_law o content cover hand =
       let a = looked_for at notes p in (

@@ -81,7 +81,7 @@ lacked_within (r ∷ runs) start end g k =
     ]
 
 module _ (at : AtHandParts) (p : Section) (o : Order) where
-  -- A part begins where what is asked for does, or no lower than the section; and ends no higher than what is asked for.
+  -- A part begins where what is asked for does, or no lower than the section. It ends no higher than what is asked for.
   pub record IsInAsked (r : OffsetRange) : Type 0 where
     pub starts : (r.start ≡ o.start) ⊎ (p.first ≤ r.start)
     pub ends : (x : ℕ) → LiesInRange r x → p.first ≤ x → Below o.end x
@@ -147,9 +147,11 @@ module _ (at : AtHandParts) (notes : List NoteParts) (content : IsContent notes)
                 absurd (omega (arith, high))
             | Some d ↦ λ g.
                 let some = below_of p.end d g p.first (are.some p k).1 in
-                let high = elim_below p h f (are.within p (d - 1) k (omega (arith, some), inr (d, g, omega (arith, some)))).1 in
+                let last = are.within p (d - 1) k (omega (arith, some), inr (d, g, omega (arith, some))) in
+                let high = elim_below p h f last.1 in
                 let reach : end_by at notes p claim ≡ Some d =
-                ap (λ o. if is_some o then o else end_by at notes (record { first = p.first; end = None; hole = p.hole }) claim) g in
+                ap (λ o. if is_some o then o
+                else end_by at notes (record { first = p.first; end = None; hole = p.hole }) claim) g in
                 let l = below_of a.end (max d (up_to_bound (needed_of notes start p.first) (Some h)))
                 (ends ∙ ap (option_map most) reach
                 ∙ ap (λ b. Some (max d (up_to_bound (needed_of notes start p.first) b))) f) x below in

@@ -201,7 +201,8 @@ module _ (at : AtHandParts) where
           let compared = not_equal o.start a.start in
           let handed = again_says given hand o.start o.end in
           let inside : not (o.start == a.start) ≡ o.inside =
-          same_bool (not (o.start == a.start)) o.inside (λ t. f.inside.1 (compared.0 t)) (λ t. compared.1 (f.inside.0 t))
+          same_bool (not (o.start == a.start)) o.inside (λ t. f.inside.1 (compared.0 t))
+          (λ t. compared.1 (f.inside.0 t))
           in
           let again : is_again at (record { start = o.start; end = o.end }) ≡ o.again =
           same_bool (is_again at (record { start = o.start; end = o.end })) o.again (λ t. f.again.1 (handed.0 t))
@@ -218,12 +219,13 @@ module _ (at : AtHandParts) where
       pub orders_say : (p : Section) (o : Order) → In o (orders_of at notes p) ↔ IsOrder at notes p o
       unfolding orders_of
       orders_say p o = (
-        λ k. elim (asked_of at notes p) as (λ a. asked_of at notes p ≡ a → In o (orders_by at p a) → IsOrder at notes p o) [
-          | None ↦ λ e h. absurd h
-          | Some a ↦ λ e h.
-              let s = (In-map (part_order at a) (parts_of at p a) o).0 h in
-              subst (IsOrder at notes p) (sym s.2) (part_says p a s.0 e s.1)
-        ] refl k,
+        λ k. elim (asked_of at notes p) as (λ a. asked_of at notes p ≡ a → In o (orders_by at p a)
+            → IsOrder at notes p o) [
+              | None ↦ λ e h. absurd h
+              | Some a ↦ λ e h.
+                  let s = (In-map (part_order at a) (parts_of at p a) o).0 h in
+                  subst (IsOrder at notes p) (sym s.2) (part_says p a s.0 e s.1)
+            ] refl k,
         λ f.
             let a = f.asked in
             let r : OffsetRange = record { start = o.start; end = o.end } in

@@ -79,7 +79,8 @@ module _ (notes : List NoteParts) where
               n,
               record { held = k.0; head = s.0; begins = refl; ends = s.1 },
               λ x m h.
-                  let l = least (is_head_to first) notes content n m e h.held ((head_says first m).1 (h.head, h.ends)) in
+                  let is = (head_says first m).1 (h.head, h.ends) in
+                  let l = least (is_head_to first) notes content n m e h.held is in
                   let b = h.begins in omega (arith, l, b),
             )
       ] refl

@@ -1,5 +1,6 @@
 -- What is ordered of a section, sentence by sentence (this project's profile).
-use Rattle.std.specs.Prelude.{◌≡◌, ◌↔◌, ◌≢◌, ℕ, ◌+◌, ◌<◌, ◌≤◌, ◌⊎◌, true, false, IsTrue, IsSome, Option, None, Some, List}
+use Rattle.std.specs.Prelude.{◌≡◌, ◌↔◌, ◌≢◌, ℕ, ◌+◌, ◌<◌, ◌≤◌, ◌⊎◌, true, false, IsTrue, IsSome, Option, None}
+use Rattle.std.specs.Prelude.{Some, List}
 use Rattle.mxf_klv.specs.Parts.{NoteParts}
 use Rattle.mxf_klv.specs.Note.{covered_end, end_of}
 use Rattle.mxf_klv.specs.Rising.{In}
@@ -47,8 +48,8 @@ pub record ReachesUpTo (at : AtHandParts) (notes : List NoteParts) (first start 
   pub far : ((n : NoteParts) × In n notes × (first < end_of n)) ⊎ (first + 25 ≤ edge)
   pub closed : IsOpenAt notes start → ⊥
 
--- Where a section ends: at its own end, or where it has none at the edge that it reaches up to; none where it reaches up
--- to none.
+-- Where a section ends: at its own end, or if it has none at the edge that it reaches up to. It ends nowhere if it
+-- reaches up to none.
 abbrev pub IsSectionEnd : AtHandParts → List NoteParts → Section → ℕ → Option ℕ → Type 0
 IsSectionEnd at notes p start (Some end) =
     (p.end ≡ Some end) ⊎ ((p.end ≡ None) × ReachesUpTo at notes p.first start end)
@@ -93,8 +94,8 @@ abbrev pub IsFirstLacking : AtHandParts → Section → Order → OffsetRange �
 IsFirstLacking at p o r =
     IsLackingIn at p o r × ((q : OffsetRange) → IsLackingIn at p o q → r.start ≤ q.start)
 
--- A part of what is asked for of a section: all of it where nothing of it lacks; else a range that lacks and begins before
--- the section ends, the first one from the start of the packet on where that is needed whole.
+-- A part of what is asked for of a section. It is all of that if nothing of it lacks. Else it is a range that lacks and
+-- begins before the section ends. The first of them goes from the start of the packet on if that is needed whole.
 abbrev pub IsPart : AtHandParts → Section → Order → ℕ → Option ℕ → Type 0
 IsPart at p o start end =
     (((r : OffsetRange) → IsLackingIn at p o r → ⊥) × (start ≡ o.start) × (end ≡ o.end))
@@ -103,8 +104,8 @@ IsPart at p o start end =
     ⊎ (((IsFirstLacking at p o r × IsWholeNeeded at p o.start) → ⊥) × (start ≡ r.start)))
     × ((bound : ℕ) → p.end ≡ Some bound → start < bound))
 
--- The bytes were handed in and don't do: all of them are given; or, where the end isn't known, as many are at hand as key
--- and length of a packet can have.
+-- The bytes were handed in and don't do: all of them are given. If the end isn't known, as many are at hand as key and
+-- length of a packet can have.
 abbrev pub WasHandedIn : AtHandParts → ℕ → Option ℕ → Type 0
 WasHandedIn at start (Some end) = (x : ℕ) → start ≤ x → x < end → LiesIn at.given x
 WasHandedIn at start None = (x : ℕ) → start ≤ x → x < start + 25 → LiesIn at.hand x

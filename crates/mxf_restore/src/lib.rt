@@ -8,12 +8,13 @@
 //! and which places packs name that are missing ([`named_places`]).
 //!
 //! What is proved: [`Plan::of`] and [`Map::of`] answer these functions, and so do [`SectionOrders`] and
-//! [`named_places`]. Laws (`.._by_definition`) say what they are made of, beside those of mxf_places: the holes and their
-//! sections, what is asked for of a section ([`asked_by_definition`]) and what is ordered ([`orders_by_definition`]), the
-//! disputed places, and the front of a section. Each byte that is missing below the end is at hand or lies in an order
-//! ([`gaps_are_ordered`]), of an order no byte is held but for key and length of a head at its start
-//! ([`orders_are_missing`]), no two orders begin at one offset ([`starts_are_apart`]), where nothing is at hand all is
-//! ordered that is asked for ([`orders_where_nothing_is_at_hand`]), and each cell of a map has one mark ([`one_mark`]).
+//! [`named_places`]. Laws (`.._by_definition`) say what they are made of, beside those of mxf_places: the holes and
+//! their sections, what is asked for of a section ([`asked_by_definition`]) and what is ordered
+//! ([`orders_by_definition`]), the disputed places, and the front of a section. Each byte that is missing below the end
+//! is at hand or lies in an order ([`gaps_are_ordered`]), of an order no byte is held but for key and length of a head
+//! at its start ([`orders_are_missing`]), no two orders begin at one offset ([`starts_are_apart`]), where nothing is at
+//! hand all is ordered that is asked for ([`orders_where_nothing_is_at_hand`]), and each cell of a map has one mark
+//! ([`one_mark`]).
 //!
 //! That no order is left in the end, where what was ordered is handed in again and again, is tested.
 //!

@@ -379,8 +379,9 @@ pub fn fronts_by_definition()
         → IsCover at.given → IsCover at.hand → (front_of at notes p ≡ Some o) ↔ IsFront at notes p o }
 {}
 
-/// A law of [`SectionOrders`]: what is asked for of a section begins where its packet does, for the reason and source of
-/// the first claim there, and ends where the section does or, above that, where the packets of its heads do in the hole.
+/// A law of [`SectionOrders`]: what is asked for of a section begins where its packet does, for the reason and source
+/// of the first claim there. It ends where the section does, or above that where the packets of its heads do, but no
+/// higher than the hole.
 pub fn asked_by_definition()
     ensures { (at : AtHandParts) (notes : List NoteParts) (p : Section) (o : Order) → IsContent notes
         → IsCover at.given → (asked_of at notes p ≡ Some o) ↔ IsAsked at notes p o }
