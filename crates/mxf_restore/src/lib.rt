@@ -10,11 +10,11 @@
 //! What is proved: [`Plan::of`] and [`Map::of`] answer these functions, and so do [`SectionOrders`] and
 //! [`named_places`]. Laws (`.._by_definition`) say what they are made of, beside those of mxf_places: the holes and
 //! their sections, what is asked for of a section ([`asked_by_definition`]) and what is ordered
-//! ([`orders_by_definition`]), the disputed places, and the front of a section. Each byte that is missing below the end
-//! is at hand or lies in an order ([`gaps_are_ordered`]), of an order no byte is held but for key and length of a head
-//! at its start ([`orders_are_missing`]), no two orders begin at one offset ([`starts_are_apart`]), where nothing is at
-//! hand all is ordered that is asked for ([`orders_where_nothing_is_at_hand`]), and each cell of a map has one mark
-//! ([`one_mark`]).
+//! ([`orders_by_definition`]), the disputed and the missing places, and the front of a section. Each byte that is missing
+//! below the end is at hand or lies in an order ([`gaps_are_ordered`]), of an order no byte is held but for key and length
+//! of a head at its start ([`orders_are_missing`]), no two orders begin at one offset ([`starts_are_apart`]), where
+//! nothing is at hand all is ordered that is asked for ([`orders_where_nothing_is_at_hand`]), of a whole file nothing is
+//! ordered ([`whole_files_have_no_order`]), and each cell of a map has one mark ([`one_mark`]).
 //!
 //! That no order is left in the end, where what was ordered is handed in again and again, is tested.
 //!
@@ -44,5 +44,6 @@ pub use order::{SectionOrders, asked_by_definition, fronts_by_definition, is_aga
 pub use plan::{
     DisputedPlace, Order, Plan, disputed_places_by_definition, gaps_are_ordered,
     orders_are_missing, orders_by_definition, orders_where_nothing_is_at_hand, starts_are_apart,
+    whole_files_have_no_order,
 };
 pub use section::{Section, holes_by_definition, sections, sections_by_definition};

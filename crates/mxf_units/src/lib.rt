@@ -27,9 +27,9 @@
 //! cause, and a unit one standing; [`extents_by_definition`], where the bytes of a unit lie, and of which units that is
 //! told; [`entries_by_definition`], what its entry says; [`held_units_are_held`], that of a unit which stands as held
 //! each byte is, and [`units_at_hand_are_known`], that of one which stands as at hand each is held or at hand;
-//! [`next_by_definition`], [`first_packets_by_definition`] and [`limits_by_definition`], what next places, first
-//! packets and limits are; [`index_sids_by_definition`], which indexes there are; [`one_last_unit`], that an index has
-//! one last unit at most.
+//! [`units_of_whole_files_are_held`], that the units of a file that is held whole stand as held; [`next_by_definition`],
+//! [`first_packets_by_definition`] and [`limits_by_definition`], what next places, first packets and limits are;
+//! [`index_sids_by_definition`], which indexes there are; [`one_last_unit`], that an index has one last unit at most.
 //!
 //! The units from `from` up to `to` of an index, whose bytes are all held:
 //!
