@@ -1,9 +1,12 @@
 //! The run of the program: its arguments, its files, its lines, and its exit status.
 mod beside;
 mod fault;
+mod front;
 mod hint;
 mod offsets;
+mod refusal;
 mod renewing;
+mod sized;
 mod sources;
 mod stops;
 mod telling;
@@ -38,6 +41,8 @@ use mxf_read::{
 use mxf_units::{UnitRange, index_sids};
 use mxf_verify::{Readings, Renewed};
 use mxf_views::Views;
+use offsets::tell_contradicted;
+use refusal::RefusalHint;
 use renewing::print_renewal;
 use sources::{read_list, sources_before, sources_of, unread};
 use std::alloc::Global;
@@ -46,7 +51,7 @@ use std::io::{BufWriter, Input, Read, Write};
 use std::rt::{Clock, Env, Files};
 use std::{env, io};
 use stops::tell_stops;
-use telling::tell;
+use telling::{tell, tell_on_screen};
 use unit_range::range_of;
 use verifying::print_verified;
 
@@ -85,7 +90,7 @@ fn run_on<R: System>(rt: &R, screen: Screen, arguments: &[String]) -> Exit {
     };
     match command.try_get_matches_from(arguments) {
         Ok(matches) => matched(rt, screen, &matches),
-        Err(refusal) => refused(rt, screen, &refusal),
+        Err(refusal) => refused(rt, screen, arguments, &refusal),
     }
 }
 
@@ -121,13 +126,13 @@ fn unread_arguments<R: System>(rt: &R, screen: Screen, fault: &io::Error) -> Exi
 }
 
 /// Prints what `clap` says of arguments that it refused, or its help.
-fn refused<R: System>(rt: &R, screen: Screen, refusal: &clap::Error) -> Exit {
+fn refused<R: System>(rt: &R, screen: Screen, arguments: &[String], refusal: &clap::Error) -> Exit {
     if refusal.kind() == ErrorKind::OutOfMemory {
         return tell(rt, screen, &RunFault::OutOfMemory);
     }
     let printed = refusal.print(rt);
     if refusal.use_stderr() {
-        return Exit::Usage;
+        return refused_with(rt, screen, arguments);
     }
     match printed {
         Ok(()) => Exit::Done,
@@ -139,6 +144,18 @@ fn refused<R: System>(rt: &R, screen: Screen, refusal: &clap::Error) -> Exit {
             },
         ),
     }
+}
+
+/// Ends a run whose arguments were refused: on a terminal it tells what one may have been meant for.
+fn refused_with<R: System>(rt: &R, screen: Screen, arguments: &[String]) -> Exit {
+    if screen == Screen::Terminal {
+        if let Some(hint) = RefusalHint::of(arguments) {
+            if tell_on_screen(rt, &hint).is_err() {
+                return Exit::NoMemory;
+            }
+        }
+    }
+    Exit::Usage
 }
 
 /// Does what is asked for, and tells a fault.
@@ -218,8 +235,7 @@ fn print_held<'a, R: System>(
         }
     };
     let exit = print_answer(rt, printed, inputs.form)?;
-    let reports = held.gathered.reports.as_slice();
-    told(rt, inputs.screen, inputs.sources, reports, false, exit)
+    told_held(rt, inputs, held, false, exit)
 }
 
 /// What asks where edit units lie, by the index of an IndexSID, or by the only one that is held.
@@ -269,9 +285,25 @@ fn print_saved<'a, R: System>(
     held: &Held,
 ) -> Result<Exit, RunFault<'a>> {
     let exit = print_answer(rt, Printed::Answer(Ask::Join, held), inputs.form)?;
-    let reports = held.gathered.reports.as_slice();
-    let exit = exit.of_join(is_strict, reports);
-    told(rt, inputs.screen, inputs.sources, reports, true, exit)
+    let exit = exit.of_join(is_strict, held.gathered.reports.as_slice());
+    told_held(rt, inputs, held, true, exit)
+}
+
+/// Ends a run of which this is held: on a terminal it tells of pieces that weren't noted whole, and of those whose
+/// partition packs say that they begin elsewhere.
+fn told_held<'a, R: System>(
+    rt: &R,
+    inputs: Inputs<'_, 'a>,
+    held: &Held,
+    with_stops: bool,
+    exit: Exit,
+) -> Result<Exit, RunFault<'a>> {
+    let Gathered { views, reports } = &held.gathered;
+    if inputs.screen == Screen::Terminal && tell_contradicted(rt, inputs.sources, views).is_err() {
+        return Err(RunFault::OutOfMemory);
+    }
+    let reports = reports.as_slice();
+    told(rt, inputs.screen, inputs.sources, reports, with_stops, exit)
 }
 
 /// Writes the catalogue of what the sources hold together. Its place is held before the first source is opened.

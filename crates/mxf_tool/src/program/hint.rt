@@ -1,11 +1,13 @@
 //! What to do about a fault, told in a second line where standard error is a terminal.
 use super::fault::RunFault;
+use super::sized::SizedWord;
 use crate::beginning::Beginning;
 use crate::saving::SaveFault;
 use crate::system_fault::{SystemFault, TOO_MANY_FILES};
 use std::fmt;
 
-/// What to do about a fault. Of a file that is refused as a catalogue it is known what it begins with.
+/// What to do about a fault. Of a file that is refused as a catalogue, or of a word that names no source and a file, it is
+/// known what it begins with.
 #[derive(Clone, Copy)]
 pub struct Hint<'f, 'a> {
     pub fault: &'f RunFault<'a>,
@@ -33,9 +35,7 @@ impl fmt::Display for Hint<'_, '_> {
                 "no index table segment is held: plan tells what to restore",
             ),
             RunFault::SeveralIndexes { .. } => f.write_str("name one of them by --index"),
-            RunFault::BadSource { .. } => f.write_str(
-                "a source is at:OFFSET:PATH or range:OFFSET:PATH, with OFFSET in decimal digits alone, or cat:PATH",
-            ),
+            RunFault::BadSource { word } => write_source(f, *word, self.beginning),
             RunFault::NoSource => f.write_str("name a source as a word, or in a line of the list"),
             RunFault::BadLine { .. } => f.write_str("a line of a list is a source in UTF-8"),
             RunFault::BadOutput { path } => write!(
@@ -48,6 +48,28 @@ impl fmt::Display for Hint<'_, '_> {
             RunFault::Unwritten { cause } => write_cause(f, "standard output", *cause),
             RunFault::Unsaved { path, fault } => write_unsaved(f, *path, fault),
         }
+    }
+}
+
+/// Writes what the word may have been meant for, which names no source.
+fn write_source<W: fmt::Write>(
+    f: &mut fmt::Formatter<W>,
+    word: &str,
+    beginning: Option<Beginning>,
+) -> fmt::Result {
+    match (beginning, SizedWord::of(word)) {
+        (Some(Beginning::Label), _) => write!(
+            f,
+            "{word} begins with a packet: name it at:0:{word}"
+        ),
+        (Some(Beginning::Catalogue), _) => write!(
+            f,
+            "{word} looks like a catalogue: name it cat:{word}"
+        ),
+        (_, Some(sized)) => write!(f, "OFFSET is a number of bytes: name it {sized}"),
+        _ => f.write_str(
+            "a source is at:OFFSET:PATH or range:OFFSET:PATH, with OFFSET in decimal digits alone, or cat:PATH",
+        ),
     }
 }
 

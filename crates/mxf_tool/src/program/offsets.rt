@@ -56,6 +56,18 @@ pub fn tell_offsets<R: Files + Eprint + AllocGlobal>(
     Ok(())
 }
 
+/// The same, if some partition pack of what is held says that it stands elsewhere.
+pub fn tell_contradicted<R: Files + Eprint + AllocGlobal>(
+    rt: &R,
+    sources: &[Source<'_>],
+    views: &Views,
+) -> Result<(), AllocError> {
+    if begins_at(views, 0, 0) {
+        return Ok(());
+    }
+    tell_offsets(rt, sources)
+}
+
 /// Where a piece or range begins by its partition packs, if elsewhere.
 fn wrong_offset<'a, R: Files + AllocGlobal>(
     rt: &R,

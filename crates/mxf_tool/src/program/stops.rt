@@ -1,6 +1,6 @@
 //! Telling of pieces and ranges that end before their bytes do.
+use super::front::Front;
 use super::telling::tell_on_screen;
-use crate::beginning::Beginning;
 use crate::source::Source;
 use mxf_klv::Stop;
 use mxf_read::PieceReport;
@@ -31,17 +31,29 @@ impl fmt::Display for StoppedSource<'_> {
 #[derive(Clone, Copy)]
 struct FrontHint<'a> {
     source: Source<'a>,
-    is_catalogue: bool,
+    front: Front,
 }
 
 impl fmt::Display for FrontHint<'_> {
     fn fmt<W: fmt::Write>(&self, f: &mut fmt::Formatter<W>) -> fmt::Result {
         let path = self.source.path();
-        if self.is_catalogue {
-            return write!(f, "hint: {path} looks like a catalogue: name it cat:{path}");
-        }
-        match self.source {
-            Source::Piece { offset, .. } => write!(
+        match (self.front, self.source) {
+            (Front::Catalogue, _) => write!(
+                f,
+                "hint: {path} looks like a catalogue: name it cat:{path}"
+            ),
+            (Front::RunIn(bytes), Source::Piece { offset: 0, .. }) => {
+                let first = bytes.saturating_add(1);
+                write!(
+                    f,
+                    "hint: {path} has {bytes} bytes before its first packet: name it at:0:<(tail -c +{first} {path})"
+                )
+            }
+            (Front::Nothing, Source::Piece { offset: 0, .. }) => write!(
+                f,
+                "hint: no packet begins in the first 33554432 bytes of {path}: it is no MXF file, or begins inside a longer packet"
+            ),
+            (Front::RunIn(_) | Front::Midst, Source::Piece { offset, .. }) => write!(
                 f,
                 "hint: {path} doesn't begin at a packet: where it begins inside one, name it range:{offset}:{path}"
             ),
@@ -113,15 +125,8 @@ fn tell_stop<R: Files + Eprint + AllocGlobal>(
         )?;
     }
     if is_without_packets(report) {
-        let beginning = Beginning::of(rt, source.path());
-        let is_catalogue = matches!(beginning, Ok(Some(Beginning::Catalogue)));
-        tell_on_screen(
-            rt,
-            &FrontHint {
-                source,
-                is_catalogue,
-            },
-        )?;
+        let front = Front::of(rt, source.path());
+        tell_on_screen(rt, &FrontHint { source, front })?;
     }
     Ok(())
 }

@@ -1,0 +1,53 @@
+//! What to do about arguments that `clap` refused, told on a terminal.
+use std::fmt;
+
+/// What an argument may have been meant for that was refused.
+#[derive(Clone, Copy)]
+pub enum RefusalHint<'a> {
+    /// `-o`, which other programs have.
+    Out,
+    /// A timecode, for the number of an edit unit.
+    Timecode(&'a str),
+}
+
+impl<'a> RefusalHint<'a> {
+    /// What the first argument that tells may have been meant for.
+    pub fn of(arguments: &'a [String]) -> Option<RefusalHint<'a>> {
+        arguments
+            .iter()
+            .find_map(|argument| RefusalHint::of_one(argument))
+    }
+
+    /// The same of one argument.
+    fn of_one(argument: &'a str) -> Option<RefusalHint<'a>> {
+        if argument == "-o" {
+            return Some(RefusalHint::Out);
+        }
+        let value = match argument.split_once('=') {
+            Some((_, value)) => value,
+            None => argument,
+        };
+        if is_timecode(value) {
+            return Some(RefusalHint::Timecode(value));
+        }
+        None
+    }
+}
+
+impl fmt::Display for RefusalHint<'_> {
+    fn fmt<W: fmt::Write>(&self, f: &mut fmt::Formatter<W>) -> fmt::Result {
+        match self {
+            RefusalHint::Out => f.write_str("hint: name the file to write by --out"),
+            RefusalHint::Timecode(text) => write!(
+                f,
+                "hint: edit units are counted from 0: {text} is as many as there are frames from the recording's first timecode up to it"
+            ),
+        }
+    }
+}
+
+/// Whether the text is a timecode, as `10:00:00:00` or `10:00:00;00`.
+fn is_timecode(text: &str) -> bool {
+    let is_of_one = text.bytes().all(|byte| byte.is_ascii_digit() || byte == b':' || byte == b';');
+    is_of_one && text.bytes().filter(|byte| !byte.is_ascii_digit()).count() == 3
+}
