@@ -5,3 +5,4 @@ pub mod MapLineLaws
 pub mod UnitLineLaws
 pub mod StringLaws
 pub mod VerifiedStatusLaws
+pub mod OneRun

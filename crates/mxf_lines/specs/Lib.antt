@@ -1,4 +1,5 @@
 pub mod MapLines
+pub mod OneRun
 pub mod PlanLines
 pub mod Answering
 pub mod FindingLines

@@ -6,7 +6,7 @@
 //! found something, and whether an edit unit has one place; that of [`print_verification`], whether what is asked for
 //! was verified; that of [`print_unit_plan`], whether edit units need anything more. A line is its name and its fields,
 //! of which text and JSON are two printings, and a reader of JSON takes each text as it is
-//! ([`escaped_text_is_given_back`]).
+//! ([`escaped_text_is_given_back`]). Two runs that were handed the same print the same ([`one_run_one_print`]).
 //!
 //! That memory is there, and that a call succeeds with it, is tested.
 //!
@@ -19,8 +19,10 @@
 //! ```
 #![tactic(auto)]
 
+mod one_run;
 mod printing;
 
+pub use one_run::one_run_one_print;
 pub use printing::{
     AnswerFault, Ask, Form, Grid, Verified, answer, escaped_text_is_given_back, hex_text,
     print_map, print_renewed, print_sources, print_unit_plan, print_verification,

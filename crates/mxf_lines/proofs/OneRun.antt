@@ -1,0 +1,145 @@
+-- Runs that were handed the same hold one content, and print the same of it.
+use Rattle.std.proofs.Common.{◌≡◌, ℕ, Bool, List, [], ◌∷◌, ◌++◌, Option, None, Some, sym, ap, subst, ◌∙◌}
+use Rattle.std.specs.Prelude.{codes, filter, flat_map}
+use Rattle.mxf_klv.specs.Parts.{NoteParts}
+use Rattle.mxf_klv.specs.Rising.{In, SameMembers}
+use Rattle.mxf_catalogue.specs.CatalogueFile.{file_bytes}
+use Rattle.mxf_catalogue.specs.Content.{IsLocated}
+use Rattle.mxf_catalogue.specs.History.{HandsSame, Read}
+use Rattle.mxf_views.specs.Headline.{IsTheRun}
+use Rattle.mxf_restore.proofs.MarkLaws.{one_map}
+use Rattle.mxf_partial.specs.Orders.{UnitPlanParts}
+use Rattle.mxf_partial.proofs.UnitPlanLaws.{one_plan}
+use Rattle.mxf_verify.specs.Fixities.{VerifiedUnitsParts, is_verified, units_in}
+use Rattle.mxf_verify.specs.TouchedUnits.{units_touched}
+use Rattle.mxf_verify.specs.Verifications.{DifferingParts, VerificationParts, counts_of}
+use Rattle.mxf_verify.specs.declared.verification.VerifiedCounts.{VerifiedCounts}
+use Rattle.mxf_verify.specs.declared.verified_units.UnitRun.{UnitRun}
+use Rattle.mxf_verify.specs.declared.unit_places.UnitSpan.{UnitSpan}
+use Rattle.mxf_verify.proofs.TouchedUnitLaws.{touched_are}
+use Rattle.mxf_verify.proofs.UnitLaws.{one_list_of_runs, one_span}
+use Rattle.mxf_verify.proofs.VerificationLaws.{one_verification}
+use Rattle.mxf_read.specs.declared.gathering.report.PieceReport.{PieceReport}
+use Rattle.mxf_lines.specs.Answering.{stop_lines}
+use Rattle.mxf_lines.specs.Forms.{line, lines_in, number}
+use Rattle.mxf_lines.specs.Lines.{note_fields}
+use Rattle.mxf_lines.specs.OneRun.{Answer, AreTold, AskedUnits, IsPrinted, Map, PrintSame, Printed, Question, Renewal}
+use Rattle.mxf_lines.specs.OneRun.{Sources, UnitPlan, Verification}
+use Rattle.mxf_lines.specs.MapLines.{map_lines}
+use Rattle.mxf_lines.specs.UnitPlanLines.{asked_of, unit_plan_lines, unit_plan_status}
+use Rattle.mxf_lines.specs.VerificationLines.{cut_lines, differs_line, other_fields, range_lines}
+use Rattle.mxf_lines.specs.VerificationLines.{span_fields, unit_run_line, verification_lines, verification_status}
+use Rattle.mxf_lines.specs.VerificationLines.{verified_fields, verified_line}
+
+-- ---- one content
+
+-- the notes of a run, as a set, have the located packets of another that was handed the same
+located_there : (P Q : NoteParts → Type 0) (m : List NoteParts) → IsTheRun P m → HandsSame P Q
+    → HandsSame (λ n. In n m) Q
+located_there P Q m run same n = (
+  λ l. (same n).0 ((run.members n).0 l.0),
+  λ l.
+      let here : IsLocated P n = (same n).1 l in (
+        (run.members n).1 here,
+        λ y i ne told. here.1 y ((run.members y).0 i).0 ne told,
+      ),
+)
+
+pub one_content : (P Q : NoteParts → Type 0) (m n : List NoteParts) → IsTheRun P m → IsTheRun Q n → HandsSame P Q
+    → m ≡ n
+one_content P Q m n run other same =
+    other.one (Read (file_bytes m) m run.file) (located_there P Q m run same)
+
+-- ---- one print
+
+-- the units that a note touches, in whatever order places are known
+touched_same : (a b : VerifiedUnitsParts) → SameMembers a.places b.places → (n : NoteParts)
+    → units_touched a.places n ≡ units_touched b.places n
+touched_same a b same n =
+    one_span a.places b.places same n (units_touched a.places n) (units_touched b.places n) (touched_are a.places n)
+    (touched_are b.places n)
+
+differs_same : (a b : VerifiedUnitsParts) → SameMembers a.places b.places → (d : DifferingParts)
+    → differs_line (Some a) d.source d.note ≡ differs_line (Some b) d.source d.note
+unfolding differs_line
+differs_same a b same d =
+    ap (λ (span : Option UnitSpan).
+    line "differs" (number " " "source" d.source ∷ (note_fields d.note ++ span_fields span)))
+    (touched_same a b same d.note)
+
+counted_same : (c : VerifiedCounts) (a b : VerifiedUnitsParts) → a.runs ≡ b.runs
+    → verified_line c (Some a) ≡ verified_line c (Some b)
+unfolding verified_line
+counted_same c a b runs =
+    ap (λ (r : List UnitRun). line "verified" (verified_fields c ++ (other_fields c
+    ++ (number " units " "units" (units_in (filter (λ u. is_verified u.fixity) r))
+    ∷ number " of " "all-units" (units_in r) ∷ [])))) runs
+
+verified_same : (reports : List PieceReport) (v : VerificationParts) (a b : VerifiedUnitsParts) → a.runs ≡ b.runs
+    → SameMembers a.places b.places → verification_lines reports v (Some a) ≡ verification_lines reports v (Some b)
+verified_same reports v a b runs places = λ i.
+    flat_map stop_lines reports
+    ++ (flat_map (λ d. differs_same a b places d i ∷ []) v.differing
+    ++ (cut_lines v.cut
+    ++ (range_lines (codes "unknown") v.unknown
+    ++ (range_lines (codes "unverified") v.unverified
+    ++ (flat_map (λ r. unit_run_line r ∷ []) (runs i) ++ counted_same (counts_of v) a b runs i ∷ [])))))
+
+-- what is told of a verification with units, or without them
+told_lines : (asked : Option AskedUnits) (content : List NoteParts) (v : VerificationParts)
+    (a b : Option VerifiedUnitsParts) → AreTold asked content v a → AreTold asked content v b
+    → (reports : List PieceReport) → verification_lines reports v a ≡ verification_lines reports v b
+told_lines None content v a b e f reports = ap (verification_lines reports v) (e ∙ sym f)
+told_lines (Some asked) content v None b e f reports = absurd e
+told_lines (Some asked) content v (Some a) None e f reports = absurd f
+told_lines (Some asked) content v (Some a) (Some b) e f reports =
+    verified_same reports v a b (one_list_of_runs _ _ _ _ _ a b e f) (λ p. (
+      λ i. (f.places p).1 ((e.places p).0 i),
+      λ i. (e.places p).1 ((f.places p).0 i),
+    ))
+
+told_status : (asked : Option AskedUnits) (content : List NoteParts) (v : VerificationParts)
+    (a b : Option VerifiedUnitsParts) → AreTold asked content v a → AreTold asked content v b
+    → (reports : List PieceReport) (is_whole : Bool)
+    → verification_status reports v a is_whole ≡ verification_status reports v b is_whole
+told_status None content v a b e f reports is_whole =
+    ap (λ (told : Option VerifiedUnitsParts). verification_status reports v told is_whole) (e ∙ sym f)
+told_status (Some asked) content v None b e f reports is_whole = absurd e
+told_status (Some asked) content v (Some a) None e f reports is_whole = absurd f
+told_status (Some asked) content v (Some a) (Some b) e f reports is_whole =
+    ap (λ (runs : List UnitRun).
+    verification_status reports v (Some (record { runs = runs; places = a.places })) is_whole)
+    (one_list_of_runs _ _ _ _ _ a b e f)
+
+-- of one content one print is made
+printed_once : (question : Question) (m : List NoteParts) (a b : Printed) → IsPrinted question m a
+    → IsPrinted question m b → (a.lines ≡ b.lines) × (a.status ≡ b.status)
+printed_once (Answer ask reports at) m a b p q = (p.0 ∙ sym q.0, p.1 ∙ sym q.1)
+printed_once (Map columns rows at) m a b (x, is, l, s) (y, also, k, t) =
+    let same : x ≡ y = one_map _ _ x y is also in (l ∙ ap (map_lines columns) same ∙ sym k, s ∙ sym t)
+printed_once (UnitPlan index range at) m a b (x, is, l, s) (y, also, k, t) =
+    let same : x ≡ y = one_plan _ x y is also in (
+      l ∙ ap (unit_plan_lines (asked_of index range at m)) same ∙ sym k,
+      s ∙ ap (λ (p : UnitPlanParts). Some (unit_plan_status (asked_of index range at m) p)) same ∙ sym t,
+    )
+printed_once (Verification sources reports asked is_whole) m a b (v, x, is, told, l, s) (w, y, also, tell, k, t) =
+    let same : v ≡ w = one_verification m sources v w is also in
+    let here : AreTold asked m w x = subst (λ (z : VerificationParts). AreTold asked m z x) same told in (
+      l ∙ ap (λ (z : VerificationParts). verification_lines reports z x) same
+          ∙ told_lines asked m w x y here tell reports ∙ sym k,
+      s ∙ ap (λ (z : VerificationParts). Some (verification_status reports z x is_whole)) same
+          ∙ ap (λ (n : ℕ). Some n) (told_status asked m w x y here tell reports is_whole) ∙ sym t,
+    )
+printed_once (Sources before after names) m a b p q = (p.0 ∙ sym q.0, p.1 ∙ sym q.1)
+printed_once (Renewal new) m a b p q = (p.0 ∙ sym q.0, p.1 ∙ sym q.1)
+
+pub one_print : (m n : List NoteParts) → m ≡ n → PrintSame m n
+one_print m n same =
+    subst (PrintSame m) same (record {
+      bytes = λ question form a b p q. ap (lines_in form) (printed_once question m a b p q).0;
+      status = λ question a b p q. (printed_once question m a b p q).1;
+    })
+
+pub one_run_one_print : (P Q : NoteParts → Type 0) (m n : List NoteParts) → IsTheRun P m → IsTheRun Q n
+    → HandsSame P Q → PrintSame m n
+one_run_one_print P Q m n run other same = one_print m n (one_content P Q m n run other same)

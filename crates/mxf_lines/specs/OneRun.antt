@@ -1,0 +1,87 @@
+-- What a content answers to each question for which lines are printed, and contents that print the same (this project's
+-- profile).
+use Rattle.std.specs.Prelude.{ℕ, ◌≡◌, ◌*◌, Bool, List, ◌∷◌, ◌++◌, Option, None, Some}
+use Rattle.mxf_klv.specs.Parts.{NoteParts}
+use Rattle.mxf_places.specs.AtHand.{AtHandParts}
+use Rattle.mxf_read.specs.declared.gathering.report.PieceReport.{PieceReport}
+use Rattle.mxf_restore.specs.Map.{IsMap, MapParts}
+use Rattle.mxf_units.specs.declared.range.UnitRange.{UnitRange}
+use Rattle.mxf_partial.specs.Orders.{IsUnitPlan, UnitPlanParts}
+use Rattle.mxf_verify.specs.Fixities.{AreVerifiedUnits, VerifiedUnitsParts}
+use Rattle.mxf_verify.specs.Renewing.{dropped_of, renewed_of}
+use Rattle.mxf_verify.specs.Verifications.{IsVerification, VerificationParts}
+use Rattle.mxf_verify.specs.Verifying.{Source}
+use Rattle.mxf_lines.specs.declared.printing.Ask.{Ask}
+use Rattle.mxf_lines.specs.declared.printing.Form.{Form}
+use Rattle.mxf_lines.specs.Answering.{answer_lines, answer_status}
+use Rattle.mxf_lines.specs.Forms.{PrintedLine, lines_in}
+use Rattle.mxf_lines.specs.MapLines.{map_lines}
+use Rattle.mxf_lines.specs.RenewalLines.{renewal_lines}
+use Rattle.mxf_lines.specs.SourceLines.{sources_lines, sources_status}
+use Rattle.mxf_lines.specs.UnitPlanLines.{asked_of, unit_plan_lines, unit_plan_status}
+use Rattle.mxf_lines.specs.VerificationLines.{verification_lines, verification_status}
+
+-- Edit units of a reference: those from one up to another of an index, by what is at hand beside the reference.
+pub record AskedUnits : Type 0 where
+  pub index_sid : ℕ
+  pub from : ℕ
+  pub to : ℕ
+  pub at : AtHandParts
+
+-- A question that is asked of a content, with all else that it is asked of.
+pub data Question : Type 0 where
+  -- What a run is asked for, of pieces with these reports and of what is at hand.
+  Answer : Ask → List PieceReport → AtHandParts → Question
+  -- A map in so many columns and rows.
+  Map : ℕ → ℕ → AtHandParts → Question
+  -- What is to be restored for the units of a range, by the index of an IndexSID.
+  UnitPlan : ℕ → UnitRange → AtHandParts → Question
+  -- What sources verify of the content: all of it or some of its units, and whether all is to be verified.
+  Verification : List Source → List PieceReport → Option AskedUnits → Bool → Question
+  -- How the content stands beside those of the sources before it and after it, which have names.
+  Sources : List (List NoteParts) → List (List NoteParts) → List (List ℕ) → Question
+  -- What the content becomes if this one was read anew.
+  Renewal : List NoteParts → Question
+
+-- Lines, and a status if the call answers one.
+pub record Printed : Type 0 where
+  pub lines : List PrintedLine
+  pub status : Option ℕ
+
+-- What is told of the units that are asked for, by the verification of a reference with this content.
+abbrev pub AreTold : Option AskedUnits → List NoteParts → VerificationParts → Option VerifiedUnitsParts → Type 0
+AreTold None content v told = told ≡ None
+AreTold (Some asked) content v None = ⊥
+AreTold (Some asked) content v (Some units) =
+    AreVerifiedUnits v.verified v.altered
+    (record { known = record { notes = content; at = asked.at }; index_sid = asked.index_sid }) asked.from asked.to units
+
+-- This is printed of the content for the question.
+abbrev pub IsPrinted : Question → List NoteParts → Printed → Type 0
+IsPrinted (Answer ask reports at) content printed =
+    (printed.lines ≡ answer_lines ask reports at content)
+    × (printed.status ≡ Some (answer_status ask reports at content))
+IsPrinted (Map columns rows at) content printed =
+    (m : MapParts) × IsMap (record { notes = content; at = at }) (columns * rows) m
+    × (printed.lines ≡ map_lines columns m) × (printed.status ≡ None)
+IsPrinted (UnitPlan index range at) content printed =
+    (p : UnitPlanParts) × IsUnitPlan (asked_of index range at content) p
+    × (printed.lines ≡ unit_plan_lines (asked_of index range at content) p)
+    × (printed.status ≡ Some (unit_plan_status (asked_of index range at content) p))
+IsPrinted (Verification sources reports asked is_whole) content printed =
+    (v : VerificationParts) × (told : Option VerifiedUnitsParts) × IsVerification content sources v
+    × AreTold asked content v told × (printed.lines ≡ verification_lines reports v told)
+    × (printed.status ≡ Some (verification_status reports v told is_whole))
+IsPrinted (Sources before after names) content printed =
+    (printed.lines ≡ sources_lines (before ++ content ∷ after) names)
+    × (printed.status ≡ Some (sources_status (before ++ content ∷ after)))
+IsPrinted (Renewal new) content printed =
+    (printed.lines ≡ renewal_lines (renewed_of content new) (dropped_of content new)) × (printed.status ≡ None)
+
+-- Whatever the question, what is printed of the one content has in each form the bytes of what is printed of the other,
+-- and its status.
+pub record PrintSame (m n : List NoteParts) : Type 0 where
+  pub bytes : (question : Question) (form : Form) (a b : Printed) → IsPrinted question m a → IsPrinted question n b
+      → lines_in form a.lines ≡ lines_in form b.lines
+  pub status : (question : Question) (a b : Printed) → IsPrinted question m a → IsPrinted question n b
+      → a.status ≡ b.status
