@@ -13,6 +13,7 @@ use Rattle.mxf_klv.proofs.MoreBytes.{notes_from-append}
 use Rattle.mxf_klv.proofs.PieceLaws.{length-spelled}
 use Rattle.mxf_catalogue.proofs.ClearLaws.{after, apart, is_whole}
 use Rattle.mxf_places.specs.Held.{IsHeld}
+use Rattle.mxf_places.proofs.LaidPlaces.{ends_below}
 use Rattle.mxf_hand.specs.File.{IsBoundary, IsOfFile}
 
 -- ---- bytes
