@@ -1,6 +1,9 @@
 //! Readers: how many reads they are asked for, and what one that fails leaves.
 use crate::files::M;
-use mxf_read::{AbsorbFault, ReadTicks, Report, Stop, absorb_from};
+use mxf_read::{
+    AbsorbFault, GatherFault, Part, PartFault, PieceReport, ReadTicks, Report, Stop, absorb_from,
+    gather,
+};
 use mxf_views::Views;
 use std::alloc::Global;
 use std::io::{self, Error, ErrorKind, Read};
@@ -144,4 +147,69 @@ fn nothing_is_read_behind_a_limit_a_stop_or_a_fault(rt: HostRuntime) {
     assert!(rt;
         end_at_their_limits(alloc) && ends_at_its_stop(alloc) && end_at_their_faults(alloc)
     );
+}
+
+/// Gives so many zero bytes, and then fails.
+#[derive(Drop)]
+struct FailsAfterZeros {
+    left: usize,
+}
+
+impl Read for FailsAfterZeros {
+    fn read(&mut self, buf: &mut [u8]) -> io::Result<usize> {
+        if self.left == 0 {
+            return Err(Error::from(ErrorKind::Other));
+        }
+        let count = buf.len().min(self.left);
+        buf[..count].fill(0);
+        self.left -= count;
+        Ok(count)
+    }
+}
+
+/// The bytes of a range that are searched for its start.
+const WINDOW: usize = 33_554_432;
+
+/// What is reported of a range at 0 whose window has no start.
+const WITHOUT_A_START: PieceReport = PieceReport {
+    offset: 0,
+    report: Report {
+        noted: 0,
+        stop: Stop::NoStart(33_554_432),
+    },
+};
+
+/// Whether a range of so many zero bytes, after which the reader fails, is read without a fault, and told to have no
+/// start. It is None if memory was wanting.
+fn has_no_start(alloc: Global, zeros: usize) -> Option<bool> {
+    let mut parts = Vec::new(alloc);
+    let range = Part::Range {
+        offset: 0,
+        from: FailsAfterZeros { left: zeros },
+    };
+    parts.push(range).ok()?;
+    match gather(alloc, parts) {
+        Ok(gathered) => Some(gathered.reports.as_slice() == [WITHOUT_A_START].as_slice()),
+        Err(
+            GatherFault {
+                fault: PartFault::OutOfMemory,
+                ..
+            },
+        ) => None,
+        Err(_) => Some(false),
+    }
+}
+
+/// The same, also where one growth is refused.
+fn is_without_a_start(alloc: Global, zeros: usize) -> bool {
+    match has_no_start(alloc, zeros) {
+        Some(is) => is,
+        None => has_no_start(alloc, zeros) == Some(true),
+    }
+}
+
+#[test]
+fn nothing_is_read_after_a_window_without_a_start(rt: HostRuntime) {
+    let alloc = rt.alloc();
+    assert!(rt; is_without_a_start(alloc, WINDOW) && !is_without_a_start(alloc, WINDOW - 1));
 }
