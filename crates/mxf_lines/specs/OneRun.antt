@@ -54,7 +54,8 @@ AreTold None content v told = told ≡ None
 AreTold (Some asked) content v None = ⊥
 AreTold (Some asked) content v (Some units) =
     AreVerifiedUnits v.verified v.altered
-    (record { known = record { notes = content; at = asked.at }; index_sid = asked.index_sid }) asked.from asked.to units
+    (record { known = record { notes = content; at = asked.at }; index_sid = asked.index_sid }) asked.from asked.to
+    units
 
 -- This is printed of the content for the question.
 abbrev pub IsPrinted : Question → List NoteParts → Printed → Type 0

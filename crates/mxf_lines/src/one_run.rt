@@ -9,9 +9,9 @@ ghost use Rattle.mxf_lines.specs.OneRun.{PrintSame};
 
 use std::io::Read;
 
-/// A law of [`answer`](crate::answer) and of all other calls that print of a content: two runs that were handed the same
-/// located packets hold one content, whatever pieces, ranges and saved catalogues these came in and whatever was joined
-/// first. So for each question what is printed has in each form the same bytes, and the same status.
+/// A law of [`answer`](crate::answer) and of all other calls that print of a content: two runs that were handed the
+/// same located packets hold one content, whatever pieces, ranges and saved catalogues these came in and whatever was
+/// joined first. So for each question what is printed has in each form the same bytes, and the same status.
 ///
 /// It is said of what [`gather`](mxf_read::gather) gathers from readers of any sort, and of any other calls.
 pub fn one_run_one_print<R: Read, S: Read>()

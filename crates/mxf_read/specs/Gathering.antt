@@ -1,6 +1,6 @@
 -- What the parts of a run hold together, and what is at fault in one (this project's profile). A reader is known by the
 -- bytes that it has left, where it tells them.
-use Rattle.std.specs.Prelude.{◌≡◌, ◌≢◌, ℕ, ◌<◌, ◌≤◌, ◌⊎◌, List, [], ◌∷◌, ◌++◌, length, take, slice_get}
+use Rattle.std.specs.Prelude.{◌≡◌, ◌≢◌, ℕ, ◌+◌, ◌<◌, ◌≤◌, ◌⊎◌, List, [], ◌∷◌, ◌++◌, length, take, slice_get}
 use Rattle.std.specs.Prelude.{IsSome, unwrap_or, Option, Some}
 use Rattle.std.specs.List.{AllByRecursion, flat_map}
 use Rattle.mxf_klv.specs.Parts.{NoteParts}
@@ -10,7 +10,8 @@ use Rattle.mxf_catalogue.specs.CatalogueFile.{IsFileOf, IsRefused}
 use Rattle.mxf_catalogue.specs.History.{History, New, Add, Join, Read, Absorb, Cut, Of, content}
 use Rattle.mxf_catalogue.specs.declared.catalogue.file.FileFault.TheVariants as files
 use Rattle.mxf_read.specs.Absorbs.{report_of}
-use Rattle.mxf_read.specs.Ranges.{piece_bytes, piece_offset, range_notes, range_report}
+use Rattle.mxf_read.specs.Ranges.{LeavesTheRest, piece_bytes, piece_offset, range_notes, range_report}
+use Rattle.mxf_read.specs.Reads.{Takes}
 use Rattle.mxf_read.specs.declared.gathering.part.Part.{Part}
 use Rattle.mxf_read.specs.declared.gathering.part.Part.TheVariants.{Piece, Range, Saved}
 use Rattle.mxf_read.specs.declared.gathering.report.PieceReport.{PieceReport}
@@ -84,6 +85,14 @@ module _ {R : Type 0} (left : R → Option (List ℕ)) where
   abbrev pub HandedBy : List (Part R) → NoteParts → Type 0
   HandedBy [] n = ⊥
   HandedBy (p ∷ parts) n = HandsNote p n ⊎ HandedBy parts n
+
+  -- What was read of a part's reader: of a piece no more than its limit, of a range without a start no byte after its
+  -- window, and of a saved catalogue one byte more than its limit at most.
+  abbrev pub LeavesOfPart : Part R → Part R → Type 0
+  LeavesOfPart (Piece offset from) (Piece at to) = (taken : List ℕ) × Takes (left from) (left to) piece_limit taken
+  LeavesOfPart (Range offset from) (Range at to) = LeavesTheRest offset (left from) (left to)
+  LeavesOfPart (Saved from) (Saved to) = (taken : List ℕ) × Takes (left from) (left to) (saved_limit + 1) taken
+  LeavesOfPart part other = ⊥
 
   -- The history is handed the parts and nothing else, each of them once and in their order: it absorbs a piece, or that
   -- of a range, behind what it gathered before, reads a saved catalogue, and joins.

@@ -1,5 +1,5 @@
 //! Gathering the parts of a run: pieces, ranges and saved catalogues.
-ghost use Rattle.std.specs.Prelude.{◌≡◌, ◌<◌, ◌≤◌, ℕ, List, [], length, take, IfOk, IfErr, IfSome, OnOk};
+ghost use Rattle.std.specs.Prelude.{◌≡◌, ◌+◌, ◌<◌, ◌≤◌, ℕ, List, [], length, take, IfOk, IfErr, IfSome, OnOk};
 ghost use Rattle.mxf_klv.specs.Parts.{NoteParts};
 ghost use Rattle.mxf_klv.specs.PieceReading.{notes_in};
 ghost use Rattle.mxf_catalogue.specs.Content.{reduced_union};
@@ -10,8 +10,8 @@ ghost use Rattle.mxf_read.specs.Ranges.{LeavesTheRest, no_start, range_notes, ra
 ghost use Rattle.mxf_read.specs.Reads.{Takes};
 ghost use Rattle.std.specs.List.{AllByRecursion};
 ghost use Rattle.mxf_read.specs.Gathering.{AllTell, HandedBy, HasFault, IsGatherFault, IsGood, IsLeftBy};
-ghost use Rattle.mxf_read.specs.Gathering.{IsOfAnyPart, IsSavedAs, IsSavedFault, TakesPart, Tells, piece_limit};
-ghost use Rattle.mxf_read.specs.Gathering.{reports_of, saved_limit};
+ghost use Rattle.mxf_read.specs.Gathering.{IsOfAnyPart, IsSavedAs, IsSavedFault, LeavesOfPart, TakesPart, Tells};
+ghost use Rattle.mxf_read.specs.Gathering.{piece_limit, reports_of, saved_limit};
 
 mod fault;
 mod levels;
@@ -119,6 +119,8 @@ fn saved_fault(fault: FileFault) -> PartFault
 
 /// The catalogue of the file that a reader gives.
 fn read_saved<R: Read>(alloc: Global, from: &mut R) -> Result<Catalogue, PartFault>
+    ensures left { OnOk result ((taken : List ℕ)
+        × Takes (R.remaining from.old) (R.remaining from.new) (saved_limit + 1) taken) }
     ensures saved { IfOk result (λ notes. IfSome (R.remaining from.old) (λ all. IsSavedAs all notes)) }
     ensures fault { IfErr result (λ f. IfSome (R.remaining from.old) (λ all. IsSavedFault all f)) }
 {
@@ -139,25 +141,29 @@ fn take_part<R: Read + Drop>(
     levels: &mut Levels,
     reports: &mut PieceReports,
     window: &mut Vec<u8>,
-    part: Part<R>,
+    part: &mut Part<R>,
 ) -> Result<(), PartFault>
-    ensures taken { Tells R.remaining part
-        → OnOk result (TakesPart R.remaining part levels.old levels.new reports.old reports.new) }
-    ensures fault { Tells R.remaining part → IfErr result (λ f. HasFault R.remaining f part) }
+    ensures taken { Tells R.remaining part.old
+        → OnOk result (TakesPart R.remaining part.old levels.old levels.new reports.old reports.new) }
+    ensures left { OnOk result (LeavesOfPart R.remaining part.old part.new) }
+    ensures fault { Tells R.remaining part.old → IfErr result (λ f. HasFault R.remaining f part.old) }
 {
     match part {
-        Part::Piece { offset, mut from } => {
-            let (notes, report) = read_piece(alloc, offset, &mut from, GREATEST_PIECE)?;
+        Part::Piece { offset, from } => {
+            let (notes, report) = read_piece(alloc, *offset, from, GREATEST_PIECE)?;
             levels.add(notes)?;
-            reports.push(PieceReport { offset, report })?;
+            reports.push(PieceReport {
+                offset: *offset,
+                report,
+            })?;
         }
-        Part::Range { offset, mut from } => {
-            let (notes, report) = read_range(alloc, offset, &mut from, window)?;
+        Part::Range { offset, from } => {
+            let (notes, report) = read_range(alloc, *offset, from, window)?;
             levels.add(notes)?;
             reports.push(report)?;
         }
-        Part::Saved { mut from } => {
-            let saved = read_saved(alloc, &mut from)?;
+        Part::Saved { from } => {
+            let saved = read_saved(alloc, from)?;
             levels.add(saved)?;
         }
     }
@@ -193,8 +199,10 @@ pub fn gather<R: Read + Drop>(alloc: Global, parts: Vec<Part<R>>) -> Result<Gath
     let mut reports = PieceReports::new(alloc);
     let mut window = Vec::new(alloc);
     let mut number: usize = 0;
-    'parts: for part in parts {
-        if let Err(fault) = take_part(alloc, &mut levels, &mut reports, &mut window, part) {
+    'parts: for mut part in parts {
+        let taken = take_part(alloc, &mut levels, &mut reports, &mut window, &mut part);
+        drop(part);
+        if let Err(fault) = taken {
             return Err(GatherFault {
                 part: number,
                 fault,

@@ -15,7 +15,7 @@
 //!
 //! [`gather`] takes any number of pieces, ranges and saved catalogues, from readers: what they hold together is exactly
 //! what they hand, and a fault names the part that it is of. A range is bytes whose first may lie inside a packet:
-//! [`start_of`] says where its piece begins, and [`each_range_has_one_start`] that this is the one place. It is searched
+//! [`start_of`] says where its piece begins, and [`each_range_has_one_start`] that this is the one place. It is looked
 //! for in the first 33,554,432 bytes, and [`each_start_in_the_window_is_found`] says that none is missed there. Each
 //! read, also of who reads otherwise, is a [`read_step`].
 //!

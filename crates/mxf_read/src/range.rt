@@ -98,7 +98,7 @@ pub fn each_range_has_one_start()
         → (start_in offset window ≡ None) ↔ ((position : ℕ) → ¬ MayBegin offset window position) }
 {}
 
-/// A law: the piece of a range begins at the start of its first 33,554,432 bytes, whatever bytes follow them, and has no
+/// A law: the piece of a range begins at the start of its first 33,554,432 bytes, whatever bytes follow them. It has no
 /// byte if those have no start. So a start is found if a piece may begin by all bytes of the range at a position whose
 /// next 25 bytes lie among them: it is that position or an earlier one. The first position by all bytes is the start
 /// itself, unless an earlier packet reaches so far that the window's end cuts the label after it.

@@ -17,6 +17,7 @@ pub returns : goal.returns
 returns g c =
     let o = g.R.Read.remaining c.args.from.now in
     record {
+      left = tt;
       saved = tt;
       fault = saved_refused o c.read_up_to.new.bytes.items c.deref.result.now c.in-Err.fault c.saved_fault.result
           (whole o c.read_up_to.new.bytes.items c.in_ok-read_up_to.ensures.bytes
