@@ -3,9 +3,9 @@
 
     tests/json_lines.py COMMAND <LINES    the text of each line that the command printed
 
-Each line has to be the one JSON object of its fields, byte by byte: names, order and types as in the table, no white
-space between members, and a backslash in a string before a quotation mark or a backslash alone. A line that isn't ends
-it with status 1.
+Each line has to be the one JSON object of its fields, and of what JSON alone has behind them, byte by byte: names, order
+and types as in the table, no white space between members, and a backslash in a string before a quotation mark or a
+backslash alone. A line that isn't ends it with status 1. The text is given back by the fields alone.
 """
 import json
 import pathlib
@@ -17,21 +17,24 @@ TYPES = {"number": (int, float), "word": str, "text": str, "hexadecimal": str, "
 
 
 class Form:
-    """A form of a line: its command, its name, its text, and the types of its fields by their names."""
+    """A form of a line: its command, its name, its text, and by their names the types of its fields and of the members
+    that JSON alone has."""
 
-    def __init__(self, command, name, text, fields):
+    def __init__(self, command, name, text, fields, alone=""):
         self.command = command
         self.name = name
         self.text = text
-        self.fields = dict(field.split(":") for field in fields.split(" "))
+        self.fields = types_of(fields)
+        self.members = {**self.fields, **types_of(alone)}
 
     def fits(self, line):
-        """Whether the line has these fields in this order, each of its type."""
-        return list(line) == ["line", *self.fields] and line["line"] == self.name and all(
-            is_of(line[name], sort) for name, sort in self.fields.items())
+        """Whether the line has these fields and members in this order, each of its type."""
+        return list(line) == ["line", *self.members] and line["line"] == self.name and all(
+            is_of(line[name], sort) for name, sort in self.members.items())
 
-    def text_of(self, line):
-        """The text of a line of this form."""
+    def text_of(self, members):
+        """The text of a line of this form, by its fields."""
+        line = {name: members[name] for name in self.fields}
         words = []
         for word in self.text.split(" "):
             flag = word.startswith("[") and word.strip("[]")
@@ -48,6 +51,11 @@ class Form:
         if isinstance(value, list):
             return " ".join(map(str, value))
         return str(value)
+
+
+def types_of(column):
+    """The types by their names, of a column of the table."""
+    return dict(member.split(":") for member in column.split())
 
 
 def is_of(value, sort):

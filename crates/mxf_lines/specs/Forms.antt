@@ -7,7 +7,7 @@ use Rattle.mxf_lines.specs.declared.printing.Form.{Form}
 use Rattle.mxf_lines.specs.declared.printing.Form.TheVariants.{Text, Json}
 
 -- The value of a field: a number, by its digits; characters; one that is absent, for which the text has a word; a flag,
--- whose word stands in the text or doesn't; a word that the text doesn't show; or numbers.
+-- whose word stands in the text or doesn't; a word that the text doesn't show; numbers; or a value that JSON alone has.
 pub data Value : Type 0 where
   Number : List ℕ → Value
   Characters : List ℕ → Value
@@ -15,6 +15,7 @@ pub data Value : Type 0 where
   Flag : Bool → Value
   Fixed : List ℕ → Value
   Numbers : List ℕ → Value
+  JsonOnly : Value → Value
 
 -- A field: what stands before it in the text, its name, and its value. Of a flag the first is its word.
 pub record Field : Type 0 where
@@ -47,6 +48,7 @@ field_text before (Flag true) = before
 field_text before (Flag false) = []
 field_text before (Fixed word) = before
 field_text before (Numbers numbers) = before ++ separated (codes " ") numbers
+field_text before (JsonOnly value) = []
 
 -- In a string a quotation mark, 34, and a backslash, 92, have a backslash before them, and nothing else has.
 abbrev pub escaped_character : ℕ → List ℕ
@@ -68,6 +70,7 @@ value_json (Flag true) = codes "true"
 value_json (Flag false) = codes "false"
 value_json (Fixed word) = quoted word
 value_json (Numbers numbers) = codes "[" ++ (separated (codes ",") numbers ++ codes "]")
+value_json (JsonOnly value) = value_json value
 
 -- What is printed of a line with this name before its fields, of a field, and behind the fields.
 unfoldable pub front_in : Form → List ℕ → List ℕ → List ℕ
@@ -116,6 +119,16 @@ number_or none (Some n) = Number (decimal n)
 
 abbrev pub known : String → String → String → Option ℕ → Field
 known before name none n = field (codes before) (codes name) (number_or (codes none) n)
+
+-- Fields that JSON alone has, by their names: of any value, a number, characters, and a number that may be absent.
+abbrev pub member : List ℕ → Value → Field
+member name value = field [] name (JsonOnly value)
+
+abbrev pub number_member : String → ℕ → Field
+number_member name n = member (codes name) (Number (decimal n))
+
+abbrev pub known_member : String → Option ℕ → Field
+known_member name n = member (codes name) (number_or [] n)
 
 -- A line by its name, the words before its fields, these, and the words behind them; and one whose name is all its words.
 abbrev pub line_of : List ℕ → List ℕ → List Field → List ℕ → PrintedLine

@@ -12,7 +12,7 @@ use Rattle.mxf_views.specs.declared.random_index.RipView.{RipView}
 use Rattle.mxf_views.specs.declared.random_index.RipView.TheVariants.{Absent, Several, Unreadable, One}
 use Rattle.mxf_views.specs.declared.random_index.Standing.{Standing}
 use Rattle.mxf_sets.specs.declared.pack.random_index.RipEntry.{RipEntry}
-use Rattle.mxf_lines.specs.Forms.{Field, Fixed, PrintedLine, digits, field, line, line_of, number, word}
+use Rattle.mxf_lines.specs.Forms.{Field, Fixed, PrintedLine, digits, field, line, line_of, number, number_member, word}
 
 -- Which index and which essence stream a segment is of, and its edit rate.
 abbrev pub stream_fields : SegmentNumbers → List Field
@@ -54,21 +54,22 @@ rip_fields (One r) = field [] (codes "standing") (Fixed (codes "one")) ∷ numbe
 unfoldable pub rip_line : RipView → PrintedLine
 rip_line view = line "rip" (rip_fields view)
 
--- The line of an entry: its BodySID, its offset, and how it stands to the partitions.
-unfoldable pub rip_entry_line : RipEntry → Standing → PrintedLine
-rip_entry_line entry standing =
+-- The line of an entry: its BodySID, its offset, how it stands to the partitions, and in JSON the offset of the random
+-- index pack that has it.
+unfoldable pub rip_entry_line : ℕ → RipEntry → Standing → PrintedLine
+rip_entry_line rip entry standing =
     line "rip-entry" (number " " "body-sid" entry.body_sid ∷ number " " "offset" entry.offset
-    ∷ word " " "standing" (standing_name standing) ∷ [])
+    ∷ word " " "standing" (standing_name standing) ∷ number_member "rip" rip ∷ [])
 
--- A line for each entry.
-abbrev pub rip_entry_lines : List (RipEntry × Standing) → List PrintedLine
-rip_entry_lines entries = flat_map (λ e. rip_entry_line e.0 e.1 ∷ []) entries
+-- A line for each entry of the random index pack at an offset.
+abbrev pub rip_entry_lines : ℕ → List (RipEntry × Standing) → List PrintedLine
+rip_entry_lines rip entries = flat_map (λ e. rip_entry_line rip e.0 e.1 ∷ []) entries
 
--- The entries of the random index pack, where there is one that can be read.
-abbrev pub entries_in : RipView → List (RipEntry × Standing)
-entries_in (One r) = r.entries
-entries_in _ = []
+-- The lines of the entries of the random index pack, none without one that can be read.
+abbrev pub entry_lines_in : RipView → List PrintedLine
+entry_lines_in (One r) = rip_entry_lines r.offset r.entries
+entry_lines_in _ = []
 
 -- The lines of the random index pack: its own, and one for each entry.
 abbrev pub rip_lines : RipView → List PrintedLine
-rip_lines view = rip_line view ∷ rip_entry_lines (entries_in view)
+rip_lines view = rip_line view ∷ entry_lines_in view

@@ -1,6 +1,7 @@
 -- The lines that are printed (this project's profile). Numbers are decimal.
-use Rattle.std.specs.Prelude.{ℕ, Bool, true, false, List, [], ◌∷◌, ◌++◌, codes, not, Option, None, Some, option_map}
+use Rattle.std.specs.Prelude.{ℕ, ◌-◌, Bool, true, false, List, [], ◌∷◌, ◌++◌, codes, not, Option, None, Some, option_map}
 use Rattle.mxf_klv.specs.Kind.{kind_of}
+use Rattle.mxf_klv.specs.Note.{end_of}
 use Rattle.mxf_klv.specs.Parts.{NoteParts}
 use Rattle.mxf_klv.specs.Words.{kind_name, stop_name}
 use Rattle.mxf_klv.specs.declared.piece.Stop.{Stop}
@@ -9,7 +10,8 @@ use Rattle.mxf_catalogue.specs.declared.run.Run.{Run}
 use Rattle.mxf_views.specs.declared.chain.Chain.{Chain}
 use Rattle.mxf_views.specs.declared.copy.CopyInfo.{CopyInfo}
 use Rattle.mxf_views.specs.Words.{chain_name}
-use Rattle.mxf_lines.specs.Forms.{Characters, Field, PrintedLine, field, flag, known, line, line_of, number, word}
+use Rattle.mxf_lines.specs.Forms.{Characters, Field, PrintedLine, field, flag, known, line, line_of, number}
+use Rattle.mxf_lines.specs.Forms.{number_member, word}
 use Rattle.mxf_lines.specs.Hexadecimal.{hex_of}
 
 -- The lines of what is there, and none where it isn't.
@@ -47,13 +49,16 @@ note_fields n =
     number " " "offset" n.offset ∷ word " " "kind" (kind_name (kind_of n.key)) ∷ number " " "width" n.width
     ∷ number " " "length" n.length ∷ word " " "key" (hex_of n.key) ∷ flag " head" "head" (not n.whole) ∷ []
 
--- The line of a note: what it says, and whether it is disputed.
+-- The line of a note: what it says, whether it is disputed, and in JSON the offset after its last byte.
 unfoldable pub note_line : NoteParts → Bool → PrintedLine
-note_line n disputed = line "note" (note_fields n ++ flag " disputed" "disputed" disputed ∷ [])
+note_line n disputed =
+    line "note" (note_fields n ++ flag " disputed" "disputed" disputed ∷ number_member "end" (end_of n) ∷ [])
 
--- The line of a gap: where it begins and ends.
+-- The line of a gap: where it begins and ends, and in JSON how many bytes it has.
 unfoldable pub gap_line : Run → PrintedLine
-gap_line gap = line "gap" (number " " "start" gap.start ∷ number " " "end" gap.end ∷ [])
+gap_line gap =
+    line "gap" (number " " "start" gap.start ∷ number " " "end" gap.end
+    ∷ number_member "length" (gap.end - gap.start) ∷ [])
 
 -- The line of the chain of the partitions.
 unfoldable pub chain_line : Chain → PrintedLine

@@ -2,14 +2,14 @@
 use Rattle.std.specs.Prelude.{ℕ, List, [], ◌∷◌, ◌++◌, slice_index, Option, None, Some, flat_map}
 use Rattle.mxf_klv.specs.Words.{status_name}
 use Rattle.mxf_sets.specs.declared.pack.numbers.PartitionNumbers.{PartitionNumbers}
-use Rattle.mxf_sets.specs.Batch.{BatchParts, batch_items}
+use Rattle.mxf_sets.specs.Batch.{batch_items}
 use Rattle.mxf_sets.specs.PartitionPack.{PartitionPackParts}
 use Rattle.mxf_sets.specs.Pattern.{pattern_name}
 use Rattle.mxf_sets.specs.Words.{part_name}
 use Rattle.mxf_views.specs.declared.chain.Link.{Link}
 use Rattle.mxf_views.specs.Partitions.{PartitionParts, link_of}
 use Rattle.mxf_views.specs.Words.{link_name}
-use Rattle.mxf_lines.specs.Forms.{Field, PrintedLine, line, number, word}
+use Rattle.mxf_lines.specs.Forms.{Field, PrintedLine, line, number, number_member, word}
 use Rattle.mxf_lines.specs.Hexadecimal.{hex_of}
 
 -- The numbers of a partition pack in their order: its version, its KAG size, and where the partitions stand that it
@@ -51,14 +51,16 @@ unfoldable pub partition_line : PartitionParts → Link → PrintedLine
 partition_line p link =
     line "partition" (number " " "offset" p.offset ∷ linked_fields p.pack link)
 
--- The line of a label of an essence container.
-unfoldable pub container_line : List ℕ → PrintedLine
-container_line label = line "container" (word " " "label" (hex_of label) ∷ [])
+-- The line of a label of an essence container: the label, and in JSON the offset of the partition that names it.
+unfoldable pub container_line : ℕ → List ℕ → PrintedLine
+container_line partition label =
+    line "container" (word " " "label" (hex_of label) ∷ number_member "partition" partition ∷ [])
 
--- A line for each label of the essence containers.
-abbrev pub container_lines : BatchParts → List PrintedLine
-container_lines containers = flat_map (λ label. container_line label ∷ []) (batch_items containers)
+-- A line for each label of the essence containers of the partition at an offset.
+abbrev pub container_lines : ℕ → List (List ℕ) → List PrintedLine
+container_lines partition labels = flat_map (λ label. container_line partition label ∷ []) labels
 
 -- The lines of one of the partitions: its own, with its link among them, and those of its essence containers.
 abbrev pub partition_lines : List PartitionParts → PartitionParts → List PrintedLine
-partition_lines partitions p = partition_line p (link_of partitions p) ∷ container_lines p.pack.containers
+partition_lines partitions p =
+    partition_line p (link_of partitions p) ∷ container_lines p.offset (batch_items p.pack.containers)

@@ -1,19 +1,24 @@
 -- The lines of a plan (this project's profile).
 use Rattle.std.specs.Prelude.{ℕ, ◌-◌, List, [], ◌∷◌, ◌++◌, Option, count_by, flat_map}
 use Rattle.std.specs.Prelude.{is_none, length, sum_by}
-use Rattle.std.specs.Option.{option_map_or}
+use Rattle.std.specs.Option.{option_map, option_map_or}
 use Rattle.mxf_restore.specs.Plan.{PlanParts}
 use Rattle.mxf_places.specs.Words.{reason_name}
 use Rattle.mxf_restore.specs.declared.plan.DisputedPlace.{DisputedPlace}
 use Rattle.mxf_restore.specs.declared.plan.Order.{Order}
-use Rattle.mxf_lines.specs.Forms.{PrintedLine, flag, known, line, number, word}
+use Rattle.mxf_lines.specs.Forms.{PrintedLine, flag, known, known_member, line, number, word}
 
--- The line of an order: where it begins and ends, why, which pack says so, whether it begins within a packet, and
--- whether its bytes were handed in and don't do.
+-- How many bytes an order has, where its end is known.
+abbrev pub order_length : Order → Option ℕ
+order_length o = option_map (λ e. e - o.start) o.end
+
+-- The line of an order: where it begins and ends, why, which pack says so, whether it begins within a packet, whether its
+-- bytes were handed in and don't do, and in JSON how many they are.
 unfoldable pub restore_line : Order → PrintedLine
 restore_line o =
     line "restore" (number " " "start" o.start ∷ known " " "end" "-" o.end ∷ word " " "reason" (reason_name o.reason)
-    ∷ known " " "source" "-" o.source ∷ flag " inside" "inside" o.inside ∷ flag " again" "again" o.again ∷ [])
+    ∷ known " " "source" "-" o.source ∷ flag " inside" "inside" o.inside ∷ flag " again" "again" o.again
+    ∷ known_member "length" (order_length o) ∷ [])
 
 -- The line of a disputed place: its place, why that matters, and which pack says so.
 unfoldable pub disputed_place_line : DisputedPlace → PrintedLine

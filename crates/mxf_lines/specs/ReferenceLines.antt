@@ -1,6 +1,7 @@
 -- The lines of what the references of the preferred copy lead to (this project's profile; the fields are those of
 -- ST 377-1, Identification and Generic Package sets). An identifier is printed as RFC 9562 writes a UUID.
-use Rattle.std.specs.Prelude.{ℕ, ◌≡◌, ◌==◌, List, [], ◌∷◌, ◌++◌, length, find, codes, Option, flat_map}
+use Rattle.std.specs.Prelude.{ℕ, ◌≡◌, ◌==◌, List, [], ◌∷◌, ◌++◌, length, find, codes, Option, None, flat_map}
+use Rattle.std.specs.Prelude.{option_and_then, option_map}
 use Rattle.std.specs.Fmt.{signed_decimal}
 use Rattle.uuid.specs.Text.{hyphenated_text, lower}
 use Rattle.mxf_klv.specs.Kind.{kind_of}
@@ -18,12 +19,13 @@ use Rattle.mxf_views.specs.declared.reference.target.Target.{Target}
 use Rattle.mxf_views.specs.declared.reference.target.Target.TheVariants.{Missing, Several, WrongKind, Unreadable, Found}
 use Rattle.mxf_lines.specs.declared.printing.line.record.Property.{Property}
 use Rattle.mxf_lines.specs.declared.printing.line.record.Property.TheVariants as properties
-use Rattle.mxf_lines.specs.declared.printing.references.Named.{Named}
-use Rattle.mxf_lines.specs.declared.printing.references.Named.TheVariants.{Identification, Package}
+use Rattle.mxf_lines.specs.declared.printing.line.record.Named.{Named}
+use Rattle.mxf_lines.specs.declared.printing.line.record.Named.TheVariants.{Identification, Package}
+use Rattle.mxf_lines.specs.declared.printing.line.record.Owner.{Owner}
 use Rattle.mxf_lines.specs.declared.printing.references.NamedRecord.{NamedRecord}
 use Rattle.mxf_lines.specs.declared.printing.references.Record.{Record}
 use Rattle.mxf_lines.specs.declared.printing.references.Record.TheVariants as records
-use Rattle.mxf_lines.specs.Forms.{Field, PrintedLine, digits, line_of, number, word}
+use Rattle.mxf_lines.specs.Forms.{Characters, Field, PrintedLine, digits, line_of, member, number, word}
 use Rattle.mxf_lines.specs.Hexadecimal.{hex_of}
 use Rattle.mxf_lines.specs.Lines.{lines_where}
 use Rattle.mxf_lines.specs.ShownText.{shown_value}
@@ -97,52 +99,66 @@ tracks_fields tracks = number " " "tracks" tracks ∷ []
 abbrev pub kind_fields : Kind → List Field
 kind_fields kind = word " " "kind" (package_word kind) ∷ []
 
--- The line of a value under this word.
-abbrev pub value_line : List ℕ → List Field → PrintedLine
-value_line word fields = line_of word word fields []
+-- The member of JSON that names the set that a record is of: what a reference names, and its identifier.
+abbrev pub owner_member : Owner → Field
+owner_member o = member (named_word o.named) (Characters (uid_text o.uid))
+
+-- The line of a value under this word, and in JSON the set of the record that says it.
+abbrev pub value_line : Owner → List ℕ → List Field → PrintedLine
+value_line o word fields = line_of word word (fields ++ owner_member o ∷ []) []
 
 -- The line of a value where it is there, by its fields.
-abbrev pub value_lines : {X : Type 0} → List ℕ → (X → List Field) → Option X → List PrintedLine
-value_lines word fields value = lines_where (λ x. value_line word (fields x) ∷ []) value
+abbrev pub value_lines : {X : Type 0} → Owner → List ℕ → (X → List Field) → Option X → List PrintedLine
+value_lines o word fields value = lines_where (λ x. value_line o word (fields x) ∷ []) value
 
 -- The lines of an Identification: those of its properties that are there, in this order.
-abbrev pub identification_lines : IdentificationParts → List PrintedLine
-identification_lines i =
-    value_lines (codes "generation") uid_fields i.this_generation_uid
-    ++ (value_lines (codes "company") shown_fields i.company_name
-    ++ (value_lines (codes "product") shown_fields i.product_name
-    ++ (value_lines (codes "version") shown_fields i.version_string
-    ++ (value_lines (codes "product-uid") hex_fields i.product_uid
-    ++ value_lines (codes "modified") timestamp_fields i.modification_date))))
+abbrev pub identification_lines : Owner → IdentificationParts → List PrintedLine
+identification_lines o i =
+    value_lines o (codes "generation") uid_fields i.this_generation_uid
+    ++ (value_lines o (codes "company") shown_fields i.company_name
+    ++ (value_lines o (codes "product") shown_fields i.product_name
+    ++ (value_lines o (codes "version") shown_fields i.version_string
+    ++ (value_lines o (codes "product-uid") hex_fields i.product_uid
+    ++ value_lines o (codes "modified") timestamp_fields i.modification_date))))
 
 -- The lines of the dates of a package, of how many tracks it has, and of its descriptor: of those that are there.
-abbrev pub package_details : PackageParts → List PrintedLine
-package_details p =
-    value_lines (codes "created") timestamp_fields p.creation_date
-    ++ (value_lines (codes "modified") timestamp_fields p.modified_date
-    ++ (value_line (codes "tracks") (tracks_fields (length p.tracks))
-    ∷ value_lines (codes "descriptor") uid_fields p.descriptor))
+abbrev pub package_details : Owner → PackageParts → List PrintedLine
+package_details o p =
+    value_lines o (codes "created") timestamp_fields p.creation_date
+    ++ (value_lines o (codes "modified") timestamp_fields p.modified_date
+    ++ (value_line o (codes "tracks") (tracks_fields (length p.tracks))
+    ∷ value_lines o (codes "descriptor") uid_fields p.descriptor))
 
 -- The lines of a package whose set has this kind: that, its identifier, its name where it is there, and those above.
-abbrev pub package_lines : Kind → PackageParts → List PrintedLine
-package_lines kind p =
-    value_line (codes "kind") (kind_fields kind) ∷ value_line (codes "package-uid") (hex_fields p.package_uid)
-    ∷ (value_lines (codes "name") shown_fields p.name ++ package_details p)
+abbrev pub package_lines : Owner → Kind → PackageParts → List PrintedLine
+package_lines o kind p =
+    value_line o (codes "kind") (kind_fields kind) ∷ value_line o (codes "package-uid") (hex_fields p.package_uid)
+    ∷ (value_lines o (codes "name") shown_fields p.name ++ package_details o p)
 
--- The lines of the record of a note, none where its value isn't kept, or is no such record.
-abbrev pub record_lines : Named → NoteParts → List PrintedLine
-record_lines Identification n = lines_where identification_lines (read_as identification_at n)
-record_lines Package n = lines_where (package_lines (kind_of n.key)) (read_as package_at n)
+-- The lines of the record of a set.
+abbrev pub lines_of_record : Owner → Record → List PrintedLine
+lines_of_record o (records.Identification i) = identification_lines o i
+lines_of_record o (records.Package kind p) = package_lines o kind p
 
--- The lines of the record that was found, which is that of the clear note at its offset.
-abbrev pub found_lines : List NoteParts → Named → Target → List PrintedLine
-found_lines content named (Found offset) =
-    lines_where (record_lines named) (find (λ n. n.offset == offset) (clear_notes content))
-found_lines content named target = []
+-- The record of a note, none where its value isn't kept, or is no such record.
+abbrev pub record_of : Named → NoteParts → Option Record
+record_of Identification n = option_map records.Identification (read_as identification_at n)
+record_of Package n = option_map (records.Package (kind_of n.key)) (read_as package_at n)
 
--- The lines of a reference: its own, and those of what it leads to.
+-- The record that was found: that of the clear note at its offset.
+abbrev pub found_record : List NoteParts → Named → Target → Option Record
+found_record content named (Found offset) =
+    option_and_then (record_of named) (find (λ n. n.offset == offset) (clear_notes content))
+found_record content named target = None
+
+-- The set that a reference names.
+abbrev pub owner_of : Named → Ref → Owner
+owner_of named r = record { named = named; uid = r.uid }
+
+-- The lines of a reference: its own, and those of the record that it leads to.
 abbrev pub lines_of_reference : List NoteParts → Named → Ref → List PrintedLine
-lines_of_reference content named r = reference_line named r ∷ found_lines content named r.target
+lines_of_reference content named r =
+    reference_line named r ∷ lines_where (lines_of_record (owner_of named r)) (found_record content named r.target)
 
 -- The lines of references that all name identifications, or all packages.
 abbrev pub named_lines : List NoteParts → Named → List Ref → List PrintedLine
@@ -157,11 +173,6 @@ resolved_lines content r =
 abbrev pub reference_lines : List NoteParts → Option ResolvedParts → List PrintedLine
 reference_lines content resolved = lines_where (resolved_lines content) resolved
 
--- The lines of a record.
-abbrev pub lines_of_record : Record → List PrintedLine
-lines_of_record (records.Identification i) = identification_lines i
-lines_of_record (records.Package kind p) = package_lines kind p
-
 -- What is kept while references in a row name one set is the record that was found at its target.
 abbrev pub IsRecordIn : List NoteParts → Named → NamedRecord → Type 0
-IsRecordIn content named kept = lines_where lines_of_record kept.found ≡ found_lines content named kept.target
+IsRecordIn content named kept = kept.found ≡ found_record content named kept.target

@@ -1,5 +1,5 @@
 -- The lines of edit units (this project's profile; the fields of an entry are those of ST 377-1, Index Table Segment).
-use Rattle.std.specs.Prelude.{ℕ, ℤ, ◌+◌, ◌==◌, if◌then◌else◌, Bool, true, false, List, [], ◌∷◌, ◌++◌, Option}
+use Rattle.std.specs.Prelude.{ℕ, ℤ, ◌+◌, ◌-◌, ◌==◌, if◌then◌else◌, Bool, true, false, List, [], ◌∷◌, ◌++◌, Option}
 use Rattle.std.specs.Prelude.{None, Some}
 use Rattle.std.specs.Prelude.{codes, count_by, flat_map, length}
 use Rattle.std.specs.Fmt.{signed_decimal}
@@ -10,8 +10,8 @@ use Rattle.mxf_units.specs.declared.standing.UnitStanding.{UnitStanding}
 use Rattle.mxf_units.specs.declared.standing.UnitStanding.TheVariants as standings
 use Rattle.mxf_units.specs.declared.unit.EditUnit.{EditUnit}
 use Rattle.mxf_units.specs.declared.unit.Extent.{Extent}
-use Rattle.mxf_lines.specs.Forms.{Absent, Characters, Field, Number, PrintedLine, Value, field, known, line, number}
-use Rattle.mxf_lines.specs.Forms.{word}
+use Rattle.mxf_lines.specs.Forms.{Absent, Characters, Field, Number, PrintedLine, Value, field, known, known_member}
+use Rattle.mxf_lines.specs.Forms.{line, number, word}
 use Rattle.mxf_lines.specs.Hexadecimal.{hex_of}
 
 -- How far away the unit is stored that is shown in the place of this one, or a dash.
@@ -36,11 +36,16 @@ entry_fields u =
     known " key " "key" "-" u.key ∷ field (codes " temporal ") (codes "temporal") (temporal_value u.temporal)
     ∷ field (codes " flags ") (codes "flags") (flags_value u.flags) ∷ []
 
--- The line of a unit: its number, how its bytes stand, from where up to where they lie, and what its entry says.
+-- How many bytes an extent has, where its end is known.
+abbrev pub extent_length : Option Extent → Option ℕ
+extent_length extent = option_and_then (λ e. option_map (λ end. end - e.start) e.end) extent
+
+-- The line of a unit: its number, how its bytes stand, from where up to where they lie, what its entry says, and in JSON
+-- how many bytes it has.
 unfoldable pub unit_line : EditUnit → PrintedLine
 unit_line u =
     line "unit" (number " " "unit" u.number ∷ word " " "standing" (unit_standing_name u.standing)
-    ∷ (extent_fields u.extent ++ entry_fields u))
+    ∷ (extent_fields u.extent ++ (entry_fields u ++ known_member "length" (extent_length u.extent) ∷ [])))
 
 -- All bytes of the unit are held.
 abbrev pub is_held : UnitStanding → Bool

@@ -15,6 +15,6 @@ pub use item::ItemLine;
 pub use note::{NoteLines, write_note_fields};
 pub use partition::PartitionLines;
 pub use piece::{JoinLine, write_stop};
-pub use record::PackageLines;
+pub use record::{IdentificationLines, Named, Owner, PackageLines};
 use std::alloc::AllocError;
 use std::io::Write;

@@ -1,6 +1,7 @@
 //! What to restore next, and its lines.
 ghost use Rattle.std.specs.Prelude.{◌≡◌, count_by, is_none, length, sum_by};
-ghost use Rattle.mxf_lines.specs.PlanLines.{disputed_place_line, ordered_bytes, plan_lines, planned_line, restore_line};
+ghost use Rattle.mxf_lines.specs.PlanLines.{disputed_place_line, order_length, ordered_bytes, plan_lines, planned_line};
+ghost use Rattle.mxf_lines.specs.PlanLines.{restore_line};
 
 use super::AnswerFault;
 use super::lines::{Each, FieldWriter, Line, Lines, Printer, Then};
@@ -9,7 +10,7 @@ use std::alloc::AllocError;
 use std::io::Write;
 
 /// An order: where it begins and ends, in bytes, why, the offset of the pack that says so, whether it begins within a
-/// packet, and whether its bytes were handed in and don't do.
+/// packet, whether its bytes were handed in and don't do, and how many they are.
 impl Line for Order {
     ghost line = { restore_line };
 
@@ -22,8 +23,16 @@ impl Line for Order {
         fields.known(" ", "source", "-", self.source)?;
         fields.flag(" inside", "inside", self.inside)?;
         fields.flag(" again", "again", self.again)?;
+        fields.known_member("length", length_of(self))?;
         fields.end("")
     }
+}
+
+/// How many bytes an order has, where its end is known.
+fn length_of(order: &Order) -> Option<u128>
+    ensures { result ≡ order_length order.now }
+{
+    Some(u128::from(order.end?.saturating_sub(order.start)))
 }
 
 /// A disputed place: its place, in bytes, why that matters, and the offset of the pack that says so.

@@ -3,13 +3,13 @@ ghost use Rattle.std.specs.Prelude.{◌≡◌, IfOk, OnOk};
 ghost use Rattle.mxf_klv.specs.Written.{Puts};
 ghost use Rattle.mxf_lines.specs.Lines.{lines_where};
 ghost use Rattle.mxf_lines.specs.Printing.{Prints};
-ghost use Rattle.mxf_lines.specs.ReferenceLines.{IsRecordIn, found_lines, lines_of_record, lines_of_reference};
-ghost use Rattle.mxf_lines.specs.ReferenceLines.{named_lines, record_lines, reference_line, reference_lines};
+ghost use Rattle.mxf_lines.specs.ReferenceLines.{IsRecordIn, found_record, lines_of_record, lines_of_reference};
+ghost use Rattle.mxf_lines.specs.ReferenceLines.{named_lines, owner_of, record_of, reference_line, reference_lines};
 ghost use Rattle.mxf_lines.specs.ReferenceLines.{target_fields};
 ghost use Rattle.mxf_lines.specs.Writing.{with_fields};
 
 use super::AnswerFault;
-use super::line::PackageLines;
+use super::line::{IdentificationLines, Named, Owner, PackageLines};
 use super::lines::{FieldWriter, Line, Lines, Printer, Then};
 use mxf_catalogue::Catalogue;
 use mxf_klv::{Kind, Note};
@@ -47,13 +47,6 @@ impl<'a> Lines for ReferenceLines<'a> {
     }
 }
 
-/// What a reference names.
-#[derive(Clone, Copy)]
-enum Named {
-    Identification,
-    Package,
-}
-
 /// Writes what a reference leads to, and at which offset in bytes.
 fn write_target(fields: &mut FieldWriter, target: Target) -> Result<(), AllocError>
     ensures { IfOk result (λ _. fields.new ≡ with_fields (target_fields target) fields.old) }
@@ -88,10 +81,7 @@ impl Line for ReferenceLine {
 
     #[tactic(auto, unfolding(crate::specs::ReferenceLines::reference_line))]
     fn write_fields(&self, fields: &mut FieldWriter) -> Result<(), AllocError> {
-        let word = match self.named {
-            Named::Identification => "identification",
-            Named::Package => "package",
-        };
+        let word = self.named.word();
         fields.begin(word, word)?;
         fields.word(" ", "uid", self.reference.uid)?;
         write_target(fields, self.reference.target)?;
@@ -142,7 +132,18 @@ impl<'a> NamedLines<'a> {
     {
         let named = self.named;
         last.turn_to(self.catalogue, named, reference.target);
-        Then(ReferenceLine { named, reference }, &last.found).print_to(printer, writer)
+        let record = RecordLines(owner_of(named, &reference), &last.found);
+        Then(ReferenceLine { named, reference }, record).print_to(printer, writer)
+    }
+}
+
+/// The set that a reference names.
+fn owner_of(named: Named, reference: &Ref) -> Owner
+    ensures { result ≡ owner_of named reference.now }
+{
+    Owner {
+        named,
+        uid: *reference.uid.as_bytes(),
     }
 }
 
@@ -154,15 +155,21 @@ enum Record<'a> {
     Package(Kind, Package<'a>),
 }
 
-/// The lines of a record that was found, none where there is none.
-impl<'r, 'a> Lines for &'r Option<Record<'a>> {
-    ghost lines = { λ r. lines_where lines_of_record r.now };
+/// The lines of the record of a set that was found, none where there is none.
+#[derive(Clone, Copy)]
+struct RecordLines<'r, 'a>(Owner, &'r Option<Record<'a>>);
+
+impl<'r, 'a> Lines for RecordLines<'r, 'a> {
+    ghost lines = { λ l. lines_where (lines_of_record l.0) l.1.now };
 
     fn print_to<W: Write>(self, printer: &mut Printer, writer: &mut W) -> Result<(), AnswerFault> {
-        match self {
-            Some(Record::Identification(record)) => record.print_to(printer, writer),
+        let RecordLines(owner, record) = self;
+        match record {
+            Some(Record::Identification(record)) => {
+                IdentificationLines(owner, record).print_to(printer, writer)
+            }
             Some(Record::Package(kind, record)) => {
-                PackageLines(*kind, record).print_to(printer, writer)
+                PackageLines(owner, *kind, record).print_to(printer, writer)
             }
             None => Ok(()),
         }
@@ -193,7 +200,7 @@ impl<'a> NamedRecord<'a> {
 
 /// The record that was found: that of the clear note at its offset.
 fn record_at<'a>(catalogue: &'a Catalogue, named: Named, target: Target) -> Option<Record<'a>>
-    ensures { lines_where lines_of_record result ≡ found_lines catalogue.now named target }
+    ensures { result ≡ found_record catalogue.now named target }
 {
     let Target::Found(offset) = target else {
         return None;
@@ -203,7 +210,7 @@ fn record_at<'a>(catalogue: &'a Catalogue, named: Named, target: Target) -> Opti
 
 /// The record of a note, where its value is kept and is such a one.
 fn record_in<'a>(named: Named, note: &'a Note) -> Option<Record<'a>>
-    ensures { lines_where lines_of_record result ≡ record_lines named note.now }
+    ensures { result ≡ record_of named note.now }
 {
     let value = note.value()?;
     match named {

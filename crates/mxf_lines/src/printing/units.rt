@@ -5,9 +5,9 @@ ghost use Rattle.std.specs.Option.{option_and_then, option_map};
 ghost use Rattle.mxf_klv.specs.Written.{Puts};
 ghost use Rattle.mxf_units.specs.Ranges.{needed_from, units_from};
 ghost use Rattle.mxf_lines.specs.Printing.{Prints};
-ghost use Rattle.mxf_lines.specs.UnitLines.{entry_fields, extent_fields, flags_value, hand_count, held_count, is_hand};
+ghost use Rattle.mxf_lines.specs.UnitLines.{entry_fields, extent_fields, extent_length, flags_value, hand_count};
 ghost use Rattle.mxf_lines.specs.UnitLines.{temporal_value, unit_line, unit_lines, units_line};
-ghost use Rattle.mxf_lines.specs.UnitLines.{is_held, units_status};
+ghost use Rattle.mxf_lines.specs.UnitLines.{held_count, is_hand, is_held, units_status};
 ghost use Rattle.mxf_lines.specs.Forms.{field, number_or};
 ghost use Rattle.mxf_lines.specs.Writing.{with_field, with_fields};
 
@@ -39,7 +39,8 @@ pub fn print_units<W: Write>(
     Ok(last.status())
 }
 
-/// A unit: its number, how its bytes stand, from where up to where they lie, in bytes, and what its entry says.
+/// A unit: its number, how its bytes stand, from where up to where they lie, in bytes, what its entry says, and how many
+/// bytes it has.
 impl Line for EditUnit {
     ghost line = { unit_line };
 
@@ -50,6 +51,7 @@ impl Line for EditUnit {
         fields.word(" ", "standing", self.standing)?;
         write_extent(fields, self.extent)?;
         write_entry(fields, self)?;
+        fields.known_member("length", length_of(self.extent))?;
         fields.end("")
     }
 }
@@ -83,6 +85,14 @@ fn end_of(extent: Option<Extent>) -> Option<u128>
     ensures { result ≡ option_and_then (λ e. e.end) extent }
 {
     extent?.end
+}
+
+/// How many bytes an extent has, where its end is known.
+fn length_of(extent: Option<Extent>) -> Option<u128>
+    ensures { result ≡ extent_length extent }
+{
+    let extent = extent?;
+    Some(extent.end?.saturating_sub(extent.start))
 }
 
 /// Writes a file offset.

@@ -123,36 +123,59 @@ impl<'a> Lines for RipView<'a> {
     fn print_to<W: Write>(self, printer: &mut Printer, writer: &mut W) -> Result<(), AnswerFault> {
         match &self {
             RipView::One(rip) => {
-                Then(RipLine(&self), Each(rip.entries())).print_to(printer, writer)
+                let entries = RipEntryLines {
+                    rip: rip.offset(),
+                    left: rip.entries(),
+                };
+                Then(RipLine(&self), Each(entries)).print_to(printer, writer)
             }
             _ => RipLine(&self).print_to(printer, writer),
         }
     }
 }
 
-/// An entry of the random index pack, with its offset in bytes, and how it stands to the partitions.
-impl Line for (RipEntry, Standing) {
-    ghost line = { λ e. rip_entry_line e.0 e.1 };
+/// An entry of the random index pack at an offset, with its own offset in bytes, and how it stands to the partitions.
+#[derive(Clone, Copy)]
+pub struct RipEntryLine {
+    rip: u64,
+    entry: RipEntry,
+    standing: Standing,
+}
+
+impl Line for RipEntryLine {
+    ghost line = { λ l. rip_entry_line l.rip l.entry l.standing };
 
     #[tactic(auto, unfolding(crate::specs::IndexLines::rip_entry_line))]
     fn write_fields(&self, fields: &mut FieldWriter) -> Result<(), AllocError> {
-        let (entry, standing) = *self;
         fields.begin("rip-entry", "rip-entry")?;
-        fields.number(" ", "body-sid", entry.body_sid)?;
-        fields.number(" ", "offset", entry.offset)?;
-        fields.word(" ", "standing", standing)?;
+        fields.number(" ", "body-sid", self.entry.body_sid)?;
+        fields.number(" ", "offset", self.entry.offset)?;
+        fields.word(" ", "standing", self.standing)?;
+        fields.number_member("rip", self.rip)?;
         fields.end("")
     }
 }
 
-impl<'a> Series for Standings<'a> {
-    type Item = (RipEntry, Standing);
+/// The lines of the entries that are left, of the random index pack at an offset.
+#[derive(Drop)]
+pub struct RipEntryLines<'a> {
+    rip: u64,
+    left: Standings<'a>,
+}
 
-    ghost lines_left = { λ s. rip_entry_lines s };
+impl<'a> Series for RipEntryLines<'a> {
+    type Item = RipEntryLine;
 
-    ghost left = { λ s. length s };
+    ghost lines_left = { λ s. rip_entry_lines s.rip s.left };
 
-    fn next_item(&mut self) -> Option<(RipEntry, Standing)> {
-        self.next()
+    ghost left = { λ s. length s.left };
+
+    fn next_item(&mut self) -> Option<RipEntryLine> {
+        let (entry, standing) = self.left.next()?;
+        Some(RipEntryLine {
+            rip: self.rip,
+            entry,
+            standing,
+        })
     }
 }

@@ -23,7 +23,7 @@ pub fn write_note_fields(fields: &mut FieldWriter, note: &Note) -> Result<(), Al
     fields.flag(" head", "head", note.is_head())
 }
 
-/// A note: what it says, and whether it is disputed.
+/// A note: what it says, whether it is disputed, and the offset after its last byte.
 #[derive(Clone, Copy)]
 pub struct NoteLine<'a> {
     note: &'a Note,
@@ -38,6 +38,7 @@ impl<'a> Line for NoteLine<'a> {
         fields.begin("note", "note")?;
         write_note_fields(fields, self.note)?;
         fields.flag(" disputed", "disputed", self.disputed)?;
+        fields.number_member("end", self.note.end())?;
         fields.end("")
     }
 }

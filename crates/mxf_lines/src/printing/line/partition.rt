@@ -2,8 +2,8 @@
 ghost use Rattle.std.specs.Prelude.{[], ◌∷◌, length, flat_map, ◌≡◌, IfOk};
 ghost use Rattle.mxf_views.specs.Partitions.{link_of, partitions_of};
 ghost use Rattle.mxf_lines.specs.Lines.{chain_line, gap_line};
-ghost use Rattle.mxf_lines.specs.PartitionLines.{container_line, linked_fields, pack_fields, part_fields};
-ghost use Rattle.mxf_lines.specs.PartitionLines.{partition_line, partition_lines, pattern_fields, place_fields};
+ghost use Rattle.mxf_lines.specs.PartitionLines.{container_line, container_lines, linked_fields, pack_fields};
+ghost use Rattle.mxf_lines.specs.PartitionLines.{part_fields, partition_line, partition_lines, pattern_fields, place_fields};
 ghost use Rattle.mxf_lines.specs.Writing.{with_fields};
 
 use super::{AllocError, Each, FieldWriter, HexDigits, Line, Series, Then};
@@ -11,7 +11,7 @@ use mxf_catalogue::Run;
 use mxf_sets::{BatchItems, PartitionNumbers, PartitionPack, pattern_name};
 use mxf_views::{Chain, Gaps, Link, PartitionAt, Partitions, Views};
 
-/// A gap: the offsets where it begins and ends, in bytes.
+/// A gap: the offsets where it begins and ends, and how many bytes it has.
 impl Line for Run {
     ghost line = { gap_line };
 
@@ -20,6 +20,7 @@ impl Line for Run {
         fields.begin("gap", "gap")?;
         fields.number(" ", "start", self.start)?;
         fields.number(" ", "end", self.end)?;
+        fields.number_member("length", self.end.saturating_sub(self.start))?;
         fields.end("")
     }
 }
@@ -126,30 +127,43 @@ fn write_pack(fields: &mut FieldWriter, pack: &PartitionPack<'_>) -> Result<(), 
     write_pattern(fields, pack.pattern())
 }
 
-/// The line of a label of an essence container.
+/// The line of a label of an essence container, with the offset of its partition.
 #[derive(Clone, Copy)]
-pub struct ContainerLine<'a>(&'a [u8]);
+pub struct ContainerLine<'a> {
+    partition: u64,
+    label: &'a [u8],
+}
 
 impl<'a> Line for ContainerLine<'a> {
-    ghost line = { λ l. container_line l.0.now };
+    ghost line = { λ l. container_line l.partition l.label.now };
 
     #[tactic(auto, unfolding(crate::specs::PartitionLines::container_line))]
     fn write_fields(&self, fields: &mut FieldWriter) -> Result<(), AllocError> {
         fields.begin("container", "container")?;
-        fields.word(" ", "label", HexDigits(self.0))?;
+        fields.word(" ", "label", HexDigits(self.label))?;
+        fields.number_member("partition", self.partition)?;
         fields.end("")
     }
 }
 
-impl<'a> Series for BatchItems<'a> {
+/// The lines of the labels that are left, of the essence containers of the partition at an offset.
+#[derive(Drop)]
+pub struct ContainerLines<'a> {
+    partition: u64,
+    left: BatchItems<'a>,
+}
+
+impl<'a> Series for ContainerLines<'a> {
     type Item = ContainerLine<'a>;
 
-    ghost lines_left = { λ s. flat_map (λ label. container_line label ∷ []) s };
+    ghost lines_left = { λ s. container_lines s.partition s.left };
 
-    ghost left = { λ s. length s };
+    ghost left = { λ s. length s.left };
 
     fn next_item(&mut self) -> Option<ContainerLine<'a>> {
-        Some(ContainerLine(self.next()?))
+        let label = self.left.next()?;
+        let partition = self.partition;
+        Some(ContainerLine { partition, label })
     }
 }
 
@@ -161,16 +175,19 @@ pub struct PartitionLines<'a> {
 }
 
 impl<'a> Series for PartitionLines<'a> {
-    type Item = Then<PartitionLine<'a>, Each<BatchItems<'a>>>;
+    type Item = Then<PartitionLine<'a>, Each<ContainerLines<'a>>>;
 
     ghost lines_left = { λ s. flat_map (partition_lines (partitions_of s.views.now)) s.left };
 
     ghost left = { λ s. length s.left };
 
-    fn next_item(&mut self) -> Option<Then<PartitionLine<'a>, Each<BatchItems<'a>>>> {
+    fn next_item(&mut self) -> Option<Then<PartitionLine<'a>, Each<ContainerLines<'a>>>> {
         let partition = self.left.next()?;
         let link = self.views.link_of(&partition);
-        let containers = Each(partition.pack.containers().items());
-        Some(Then(PartitionLine { partition, link }, containers))
+        let containers = ContainerLines {
+            partition: partition.offset,
+            left: partition.pack.containers().items(),
+        };
+        Some(Then(PartitionLine { partition, link }, Each(containers)))
     }
 }

@@ -1,8 +1,9 @@
 //! The lines of what records say.
-ghost use Rattle.std.specs.Prelude.{◌≡◌, ◌++◌, List, IfOk, codes, string_bytes, option_map};
+ghost use Rattle.std.specs.Prelude.{◌≡◌, [], ◌∷◌, ◌++◌, List, IfOk, codes, string_bytes, option_map};
 ghost use Rattle.mxf_lines.specs.Forms.{Field};
-ghost use Rattle.mxf_lines.specs.ReferenceLines.{hex_fields, identification_lines, kind_fields, package_details};
-ghost use Rattle.mxf_lines.specs.ReferenceLines.{package_lines, shown_fields, text_fields, timestamp_fields};
+ghost use Rattle.mxf_lines.specs.ReferenceLines.{hex_fields, identification_lines, kind_fields, named_word};
+ghost use Rattle.mxf_lines.specs.ReferenceLines.{owner_member, package_details, package_lines, shown_fields};
+ghost use Rattle.mxf_lines.specs.ReferenceLines.{text_fields, timestamp_fields};
 ghost use Rattle.mxf_lines.specs.ReferenceLines.{property_word, tracks_fields, uid_fields, value_line, value_lines};
 ghost use Rattle.mxf_lines.specs.ShownText.{shown_value, shown_char, shown_text};
 ghost use Rattle.mxf_lines.specs.Writing.{with_fields};
@@ -123,32 +124,70 @@ impl Property {
     }
 }
 
-/// A value under its word.
+/// What a reference names.
 #[derive(Clone, Copy)]
-struct ValueLine<V>(Property, V);
+pub enum Named {
+    Identification,
+    Package,
+}
+
+impl Named {
+    /// The word for it.
+    pub fn word(self) -> &'static str
+        ensures { result.now ≡ named_word self }
+    {
+        match self {
+            Named::Identification => "identification",
+            Named::Package => "package",
+        }
+    }
+}
+
+/// The set that a record is of: what a reference names, and its identifier.
+#[derive(Clone, Copy)]
+pub struct Owner {
+    pub named: Named,
+    pub uid: [u8; 16],
+}
+
+/// A value under its word, and the set of the record that says it.
+#[derive(Clone, Copy)]
+struct ValueLine<V>(Owner, Property, V);
 
 impl<V: Value> Line for ValueLine<V> {
-    ghost line = { λ l. value_line (property_word l.0) (V.fields l.1) };
+    ghost line = { λ l. value_line l.0 (property_word l.1) (V.fields l.2) };
 
     fn write_fields(&self, fields: &mut FieldWriter) -> Result<(), AllocError> {
-        let word = self.0.word();
+        let word = self.1.word();
         fields.begin(word, word)?;
-        self.1.write_to(fields)?;
+        write_owned(fields, &self.2, self.0)?;
         fields.end("")
     }
 }
 
+/// Writes a value, and the set of the record that says it.
+fn write_owned<V: Value>(
+    fields: &mut FieldWriter,
+    value: &V,
+    owner: Owner,
+) -> Result<(), AllocError>
+    ensures { IfOk result (λ _. fields.new ≡ with_fields (V.fields value.now ++ owner_member owner ∷ []) fields.old) }
+{
+    value.write_to(fields)?;
+    fields.word_member(owner.named.word(), Uuid::from_bytes(owner.uid))
+}
+
 /// A value under its word, where it is there.
 #[derive(Clone, Copy)]
-struct ValueLines<V>(Property, Option<V>);
+struct ValueLines<V>(Owner, Property, Option<V>);
 
 impl<V: Value + Copy> Lines for ValueLines<V> {
-    ghost lines = { λ l. value_lines (property_word l.0) V.fields l.1 };
+    ghost lines = { λ l. value_lines l.0 (property_word l.1) V.fields l.2 };
 
     fn print_to<W: Write>(self, printer: &mut Printer, writer: &mut W) -> Result<(), AnswerFault> {
-        let ValueLines(property, value) = self;
+        let ValueLines(owner, property, value) = self;
         match value {
-            Some(value) => ValueLine(property, value).print_to(printer, writer),
+            Some(value) => ValueLine(owner, property, value).print_to(printer, writer),
             None => Ok(()),
         }
     }
@@ -156,78 +195,87 @@ impl<V: Value + Copy> Lines for ValueLines<V> {
 
 /// A text under its word, given by the value of its item, where it is there.
 #[derive(Clone, Copy)]
-struct TextLines<'a>(Property, Option<&'a [u8]>);
+struct TextLines<'a>(Owner, Property, Option<&'a [u8]>);
 
 impl<'a> Lines for TextLines<'a> {
-    ghost lines = { λ l. value_lines (property_word l.0) shown_fields (option_map (λ v. v.now) l.1) };
+    ghost lines = { λ l. value_lines l.0 (property_word l.1) shown_fields (option_map (λ v. v.now) l.2) };
 
     fn print_to<W: Write>(self, printer: &mut Printer, writer: &mut W) -> Result<(), AnswerFault> {
-        let TextLines(property, value) = self;
+        let TextLines(owner, property, value) = self;
         let Some(value) = value else {
             return Ok(());
         };
         let text = shown_value(printer.alloc(), value)?;
-        ValueLine(property, text.as_str()).print_to(printer, writer)
+        ValueLine(owner, property, text.as_str()).print_to(printer, writer)
     }
 }
 
-impl<'r, 'a> Lines for &'r Identification<'a> {
-    ghost lines = { λ i. identification_lines i.now };
+/// The lines of an Identification.
+#[derive(Clone, Copy)]
+pub struct IdentificationLines<'r, 'a>(pub Owner, pub &'r Identification<'a>);
+
+impl<'r, 'a> Lines for IdentificationLines<'r, 'a> {
+    ghost lines = { λ i. identification_lines i.0 i.1.now };
 
     fn print_to<W: Write>(self, printer: &mut Printer, writer: &mut W) -> Result<(), AnswerFault> {
-        let generation = ValueLines(Property::Generation, self.this_generation_uid());
-        let company = TextLines(Property::Company, self.company_name());
-        Then(generation, Then(company, ProductLines(self))).print_to(printer, writer)
+        let IdentificationLines(owner, record) = self;
+        let generation = ValueLines(owner, Property::Generation, record.this_generation_uid());
+        let company = TextLines(owner, Property::Company, record.company_name());
+        let product = ProductLines(owner, record);
+        Then(generation, Then(company, product)).print_to(printer, writer)
     }
 }
 
 /// The lines of the product that an Identification is of, and of when it was modified.
 #[derive(Clone, Copy)]
-struct ProductLines<'r, 'a>(&'r Identification<'a>);
+struct ProductLines<'r, 'a>(Owner, &'r Identification<'a>);
 
 impl<'r, 'a> Lines for ProductLines<'r, 'a> {
-    ghost lines = { λ p. value_lines (codes "product") shown_fields p.0.now.product_name
-        ++ (value_lines (codes "version") shown_fields p.0.now.version_string
-        ++ (value_lines (codes "product-uid") hex_fields p.0.now.product_uid
-        ++ value_lines (codes "modified") timestamp_fields p.0.now.modification_date)) };
+    ghost lines = { λ p. value_lines p.0 (codes "product") shown_fields p.1.now.product_name
+        ++ (value_lines p.0 (codes "version") shown_fields p.1.now.version_string
+        ++ (value_lines p.0 (codes "product-uid") hex_fields p.1.now.product_uid
+        ++ value_lines p.0 (codes "modified") timestamp_fields p.1.now.modification_date)) };
 
     fn print_to<W: Write>(self, printer: &mut Printer, writer: &mut W) -> Result<(), AnswerFault> {
-        let product = TextLines(Property::Product, self.0.product_name());
-        let version = TextLines(Property::Version, self.0.version_string());
-        let product_uid = ValueLines(Property::ProductUid, self.0.product_uid());
-        let modified = ValueLines(Property::Modified, self.0.modification_date());
+        let ProductLines(owner, record) = self;
+        let product = TextLines(owner, Property::Product, record.product_name());
+        let version = TextLines(owner, Property::Version, record.version_string());
+        let product_uid = ValueLines(owner, Property::ProductUid, record.product_uid());
+        let modified = ValueLines(owner, Property::Modified, record.modification_date());
         Then(product, Then(version, Then(product_uid, modified))).print_to(printer, writer)
     }
 }
 
 /// The lines of a package, whose set has this kind.
 #[derive(Clone, Copy)]
-pub struct PackageLines<'r, 'a>(pub Kind, pub &'r Package<'a>);
+pub struct PackageLines<'r, 'a>(pub Owner, pub Kind, pub &'r Package<'a>);
 
 impl<'r, 'a> Lines for PackageLines<'r, 'a> {
-    ghost lines = { λ p. package_lines p.0 p.1.now };
+    ghost lines = { λ p. package_lines p.0 p.1 p.2.now };
 
     fn print_to<W: Write>(self, printer: &mut Printer, writer: &mut W) -> Result<(), AnswerFault> {
-        let PackageLines(kind, package) = self;
-        let kind = ValueLine(Property::Kind, kind);
-        let uid = ValueLine(Property::PackageUid, package.package_uid());
-        let name = TextLines(Property::Name, package.name());
-        Then(Then(kind, uid), Then(name, PackageDetails(package))).print_to(printer, writer)
+        let PackageLines(owner, kind, package) = self;
+        let kind = ValueLine(owner, Property::Kind, kind);
+        let uid = ValueLine(owner, Property::PackageUid, package.package_uid());
+        let name = TextLines(owner, Property::Name, package.name());
+        let details = PackageDetails(owner, package);
+        Then(Then(kind, uid), Then(name, details)).print_to(printer, writer)
     }
 }
 
 /// The dates of a package, how many tracks it has, and its descriptor.
 #[derive(Clone, Copy)]
-struct PackageDetails<'r, 'a>(&'r Package<'a>);
+struct PackageDetails<'r, 'a>(Owner, &'r Package<'a>);
 
 impl<'r, 'a> Lines for PackageDetails<'r, 'a> {
-    ghost lines = { λ p. package_details p.0.now };
+    ghost lines = { λ p. package_details p.0 p.1.now };
 
     fn print_to<W: Write>(self, printer: &mut Printer, writer: &mut W) -> Result<(), AnswerFault> {
-        let created = ValueLines(Property::Created, self.0.creation_date());
-        let modified = ValueLines(Property::Modified, self.0.modified_date());
-        let tracks = ValueLine(Property::Tracks, self.0.tracks().len());
-        let descriptor = ValueLines(Property::Descriptor, self.0.descriptor());
+        let PackageDetails(owner, package) = self;
+        let created = ValueLines(owner, Property::Created, package.creation_date());
+        let modified = ValueLines(owner, Property::Modified, package.modified_date());
+        let tracks = ValueLine(owner, Property::Tracks, package.tracks().len());
+        let descriptor = ValueLines(owner, Property::Descriptor, package.descriptor());
         Then(created, Then(modified, Then(tracks, descriptor))).print_to(printer, writer)
     }
 }

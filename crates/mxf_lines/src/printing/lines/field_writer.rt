@@ -1,9 +1,9 @@
 //! The fields of a line, written one after another.
-ghost use Rattle.std.specs.Prelude.{◌≡◌, ◌++◌, IfOk, IfSome, codes, decimal, string_bytes};
+ghost use Rattle.std.specs.Prelude.{◌≡◌, [], ◌++◌, IfOk, IfSome, codes, decimal, string_bytes};
 ghost use Rattle.std.specs.Char.{encode_utf8};
 ghost use Rattle.std.specs.List.{repeat};
-ghost use Rattle.mxf_lines.specs.Forms.{Absent, Characters, Fixed, Flag, Number, Numbers, escaped, field, number_or};
-ghost use Rattle.mxf_lines.specs.Forms.{quoted, separated, separated_behind};
+ghost use Rattle.mxf_lines.specs.Forms.{Absent, Characters, Fixed, Flag, Number, Numbers, escaped, field, member};
+ghost use Rattle.mxf_lines.specs.Forms.{number_or, quoted, separated, separated_behind};
 ghost use Rattle.mxf_lines.specs.Hexadecimal.{hex_of};
 ghost use Rattle.mxf_lines.specs.Writing.{with_end, with_field, with_front};
 
@@ -241,6 +241,45 @@ impl FieldWriter {
                 append_numbers(&mut self.text, ",", values)?;
                 self.text.push_str("]")
             }
+        }
+    }
+
+    /// A number that JSON alone has.
+    #[tactic(auto, unfolding(crate::specs::Forms::field_in, crate::specs::Writing::with_field))]
+    pub fn number_member<N: Integer>(&mut self, name: &str, value: N) -> Result<(), AllocError>
+        ensures { IfOk result (λ _. self.new ≡ with_field (member name.now (Number (N.text value))) self.old) }
+    {
+        match self.form {
+            Form::Text => Ok(()),
+            Form::Json => self.number("", name, value),
+        }
+    }
+
+    /// A number that JSON alone has, or null.
+    #[tactic(auto, unfolding(crate::specs::Forms::field_in, crate::specs::Writing::with_field))]
+    pub fn known_member(&mut self, name: &str, value: Option<u128>) -> Result<(), AllocError>
+        ensures { IfOk result (λ _. self.new ≡ with_field (member name.now (number_or [] value)) self.old) }
+    {
+        match (self.form, value) {
+            (Form::Text, _) => Ok(()),
+            (Form::Json, Some(value)) => self.number("", name, value),
+            (Form::Json, None) => self.absent("", name, ""),
+        }
+    }
+
+    /// A word, or other characters, that JSON alone has.
+    #[tactic(auto, unfolding(crate::specs::Forms::field_in, crate::specs::Writing::with_field))]
+    pub fn word_member<T: fmt::Display + Copy>(
+        &mut self,
+        name: &str,
+        value: T,
+    ) -> Result<(), AllocError>
+        ensures { IfOk result (λ _. IfSome (T.output value) (λ text.
+            self.new ≡ with_field (member name.now (Characters text)) self.old)) }
+    {
+        match self.form {
+            Form::Text => Ok(()),
+            Form::Json => self.word("", name, value),
         }
     }
 
