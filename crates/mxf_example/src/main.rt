@@ -1,17 +1,20 @@
 //! An example of the crates: gathers a piece of a recording and a saved catalogue, asks for the partitions and gaps of
-//! what they hold together, and saves what is known.
+//! what they hold together, what to restore next and whether an edit unit is held, and saves what is known.
 //!
 //! `mxf_example OFFSET PIECE CATALOGUE`: the first byte of the file PIECE lies at byte OFFSET of the recording, and
 //! CATALOGUE is the file of a catalogue.
 //!
-//! [`mxf_read`] is the entrance for pieces and saved catalogues, [`mxf_views`] for questions, [`mxf_catalogue`] for
-//! what is saved and joined.
+//! [`mxf_read`] is the entrance for pieces and saved catalogues, [`mxf_views`] for questions, [`mxf_restore`] and
+//! [`mxf_units`] for what to restore and for edit units, [`mxf_catalogue`] for what is saved and joined.
 #![tactic(auto)]
 
 use anyhow::{Context, Result};
 use mxf_catalogue::Catalogue;
 use mxf_klv::Encode;
+use mxf_places::AtHand;
 use mxf_read::{Gathered, Part, PieceReport, Report, gather};
+use mxf_restore::Plan;
+use mxf_units::Units;
 use mxf_views::Views;
 use std::alloc::Global;
 use std::rt::Files;
@@ -64,6 +67,23 @@ fn print_gaps(rt: &impl Print, views: &Views) -> Result<()> {
     Ok(())
 }
 
+/// Prints what to restore next, what helps most first.
+fn print_plan<R: Print + AllocGlobal>(rt: &R, views: &Views) -> Result<()> {
+    let plan = Plan::of(rt.alloc(), views, &AtHand::nothing(rt.alloc()))?;
+    for order in plan.orders() {
+        println!(rt; "restore from {}: {}", order.start, order.reason)?;
+    }
+    Ok(())
+}
+
+/// Prints how the first edit unit stands by the index of IndexSID 1.
+fn print_first_unit<R: Print + AllocGlobal>(rt: &R, views: &Views) -> Result<()> {
+    let at_hand = AtHand::nothing(rt.alloc());
+    let units = Units::of(rt.alloc(), views, &at_hand, 1)?;
+    println!(rt; "unit 0: {}", units.unit(0).standing)?;
+    Ok(())
+}
+
 /// The bytes of the catalogue, as they are saved.
 fn saved(alloc: Global, catalogue: &Catalogue) -> Result<Vec<u8>> {
     let mut file = Vec::new(alloc);
@@ -87,6 +107,8 @@ fn print_gathered<R: Print + AllocGlobal>(rt: &R, gathered: &Gathered) -> Result
     print_reports(rt, gathered.reports.as_slice())?;
     print_partitions(rt, &gathered.views)?;
     print_gaps(rt, &gathered.views)?;
+    print_plan(rt, &gathered.views)?;
+    print_first_unit(rt, &gathered.views)?;
     let file = saved(rt.alloc(), gathered.views.catalogue())?;
     print_saved(rt, &views_of(rt.alloc(), &file)?)
 }
