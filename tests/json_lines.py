@@ -3,9 +3,9 @@
 
     tests/json_lines.py COMMAND <LINES    the text of each line that the command printed
 
-Each line has to be the one JSON object of its fields, and of what JSON alone has behind them, byte by byte: names, order
-and types as in the table, no white space between members, and a backslash in a string before a quotation mark or a
-backslash alone. A line that isn't ends it with status 1. The text is given back by the fields alone.
+Each line has to be the one JSON object of its fields, and after them of the members that JSON alone has, byte by byte:
+names, order and types as in the table, no white space between members, and a backslash in a string before a quotation
+mark or a backslash alone. A line that isn't ends it with status 1. The text is given back by the fields alone.
 """
 import json
 import pathlib

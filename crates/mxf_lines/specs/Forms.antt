@@ -120,7 +120,7 @@ number_or none (Some n) = Number (decimal n)
 abbrev pub known : String → String → String → Option ℕ → Field
 known before name none n = field (codes before) (codes name) (number_or (codes none) n)
 
--- Fields that JSON alone has, by their names: of any value, a number, characters, and a number that may be absent.
+-- Fields that JSON alone has, by their names: of any value, a number, and a number that may be absent.
 abbrev pub member : List ℕ → Value → Field
 member name value = field [] name (JsonOnly value)
 

@@ -8,7 +8,7 @@ use Rattle.mxf_restore.specs.declared.plan.DisputedPlace.{DisputedPlace}
 use Rattle.mxf_restore.specs.declared.plan.Order.{Order}
 use Rattle.mxf_lines.specs.Forms.{PrintedLine, flag, known, known_member, line, number, word}
 
--- How many bytes an order has, where its end is known.
+-- How many bytes an order has, if its end is known.
 abbrev pub order_length : Order → Option ℕ
 order_length o = option_map (λ e. e - o.start) o.end
 

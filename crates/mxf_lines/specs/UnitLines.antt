@@ -36,7 +36,7 @@ entry_fields u =
     known " key " "key" "-" u.key ∷ field (codes " temporal ") (codes "temporal") (temporal_value u.temporal)
     ∷ field (codes " flags ") (codes "flags") (flags_value u.flags) ∷ []
 
--- How many bytes an extent has, where its end is known.
+-- How many bytes an extent has, if its end is known.
 abbrev pub extent_length : Option Extent → Option ℕ
 extent_length extent = option_and_then (λ e. option_map (λ end. end - e.start) e.end) extent
 

@@ -28,7 +28,7 @@ impl Line for Order {
     }
 }
 
-/// How many bytes an order has, where its end is known.
+/// How many bytes an order has, if its end is known.
 fn length_of(order: &Order) -> Option<u128>
     ensures { result ≡ order_length order.now }
 {

@@ -155,7 +155,7 @@ enum Record<'a> {
     Package(Kind, Package<'a>),
 }
 
-/// The lines of the record of a set that was found, none where there is none.
+/// The lines of the record of a set, none without one.
 #[derive(Clone, Copy)]
 struct RecordLines<'r, 'a>(Owner, &'r Option<Record<'a>>);
 

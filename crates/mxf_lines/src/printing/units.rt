@@ -87,7 +87,7 @@ fn end_of(extent: Option<Extent>) -> Option<u128>
     extent?.end
 }
 
-/// How many bytes an extent has, where its end is known.
+/// How many bytes an extent has, if its end is known.
 fn length_of(extent: Option<Extent>) -> Option<u128>
     ensures { result ≡ extent_length extent }
 {
