@@ -4,6 +4,7 @@
     tests/report_page.py TOOL PAGE WORDS..    a page of one recording: WORDS name its sources, and --against a reference
     tests/report_page.py --form PAGE          the form of a page alone: its tags are balanced, and it loads nothing
     tests/report_page.py --text PAGE          the text of a page that is seen, a word a line
+    tests/report_page.py --rows PAGE          the rows of its first table, a line each
     tests/report_page.py --words              the words of the report are those of docs/GUIDE.md and docs/FORMATS.md
 
 Each difference is a line. Nothing is printed of a page that is right.
@@ -24,6 +25,7 @@ EMPTY = {"meta", "br", "hr", "img", "input", "link", "base", "source", "track", 
 LOADING = {"script", "iframe", "object", "embed", "link", "img", "base", "form", "audio", "video", "image", "use", "foreignobject"}
 ALLOWED_ADDRESS = re.compile(r"\./[^:]*")
 UNSEEN = {"style", "title", "head", "defs"}
+INLINE = {"bdi", "code", "strong", "span", "a"}
 CUT = 200
 
 
@@ -48,7 +50,7 @@ class Page(html.parser.HTMLParser):
         self.tables = []
         self.titles = collections.defaultdict(list)
         self.text = collections.defaultdict(str)
-        self.seen = []
+        self.seen = ""
         self.cell = None
         self.feed(text)
         self.close()
@@ -66,6 +68,7 @@ class Page(html.parser.HTMLParser):
             self.faults.append(f"<{tag}>")
         if tag not in EMPTY:
             self.open.append(tag)
+        self.seen += "" if tag in INLINE else " "
         if tag in ("h2", "h3", "section", "table", "tr", "td", "th"):
             self.begin(tag, dict(attrs))
 
@@ -86,6 +89,7 @@ class Page(html.parser.HTMLParser):
             self.faults.append(f"</{tag}> ends {self.open[-1:]}")
             return
         self.open.pop()
+        self.seen += "" if tag in INLINE else " "
         if tag == "td":
             self.tables[-1].rows[-1].append(self.cell)
         elif tag == "th":
@@ -97,11 +101,11 @@ class Page(html.parser.HTMLParser):
         if "svg" in self.open and self.open[-1] == "title":
             self.titles[section].append(data)
         elif not UNSEEN.intersection(self.open):
-            self.seen += data.split()
+            self.seen += data
             self.text[section] += data
-        if self.open and {"td", "th"}.intersection(self.open):
+        if {"td", "th"}.intersection(self.open) and "title" not in self.open:
             self.cell += data
-        elif self.open and self.open[-1] == "caption":
+        elif "caption" in self.open:
             self.tables[-1].caption += data
 
     def table(self, caption, section=None):
@@ -344,8 +348,10 @@ def main():
         lines = differences_of_words()
     elif sys.argv[1] == "--form":
         lines = page_of(sys.argv[2]).faults
+    elif sys.argv[1] == "--rows":
+        lines = ("|".join(cell.strip() for cell in row) for row in page_of(sys.argv[2]).tables[0].rows)
     elif sys.argv[1] == "--text":
-        lines = page_of(sys.argv[2]).seen
+        lines = page_of(sys.argv[2]).seen.split()
     else:
         lines = differences_of_page(sys.argv[1], sys.argv[2], sys.argv[3:])
     for line in lines:
