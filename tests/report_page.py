@@ -22,7 +22,9 @@ import sys
 
 TOP = pathlib.Path(__file__).resolve().parent.parent
 EMPTY = {"meta", "br", "hr", "img", "input", "link", "base", "source", "track", "wbr", "area", "col", "embed"}
-LOADING = {"script", "iframe", "object", "embed", "link", "img", "base", "form", "audio", "video", "image", "use", "foreignobject"}
+LOADING = {
+    "script", "iframe", "object", "embed", "link", "img", "base", "form", "audio", "video", "image", "use", "foreignobject",
+}  # fmt: skip
 ALLOWED_ADDRESS = re.compile(r"\./[^:]*")
 UNSEEN = {"style", "title", "head", "defs"}
 INLINE = {"bdi", "code", "strong", "span", "a"}
@@ -138,8 +140,8 @@ class Told:
     def lines(self, command, *options, name=None):
         """The lines of a command, or those of one name."""
         words = [self.tool, command, *options, "--json", *self.words]
-        printed = subprocess.run(words, stdout=subprocess.PIPE, stderr=subprocess.DEVNULL, check=False).stdout.decode("utf-8").splitlines()
-        lines = [json.loads(text) for text in printed]
+        run = subprocess.run(words, stdout=subprocess.PIPE, stderr=subprocess.DEVNULL, check=False)
+        lines = [json.loads(text) for text in run.stdout.decode("utf-8").splitlines()]
         return [line for line in lines if name in (None, line["line"])]
 
 
@@ -197,8 +199,8 @@ def differences_of_recording(page, told):
     want = list(stretches_of(told))
     if rows != want[: len(rows)] or len(rows) < min(len(want), CUT):
         yield f"what lies where is {rows}, not {want}"
-    fields = ("offset", "part", "status", "previous", "link", "footer", "header-bytes", "index-bytes", "body-sid", "index-sid", "pattern")
-    partitions = [cells(line, *fields) for line in told.lines("show", name="partition")]
+    fields = "offset part status previous link footer header-bytes index-bytes body-sid index-sid pattern"
+    partitions = [cells(line, *fields.split()) for line in told.lines("show", name="partition")]
     yield from differences_of_rows(page, "What their packs state", partitions, "partitions")
     entries = [cells(line, "offset", "body-sid", "standing") for line in told.lines("show", name="rip-entry")]
     yield from differences_of_rows(page, "What the random index pack lists", entries, "partitions")
@@ -232,8 +234,10 @@ def differences_of_orders(page, told):
     kept = [[*row[:3], *row[4:]] for row in table]
     if kept != want[:CUT]:
         yield f"the orders are {kept}, not {want}"
-    readings = [[*cells(line, "offset"), line["kind"] + ", head" * line["head"], *cells(line, "length", "key", "digest"), ", ".join(map(str, line["sources"]))]
-                for line in told.lines("sources", name="disputed")]
+    readings = []
+    for line in told.lines("sources", name="disputed"):
+        named = {**line, "kind": line["kind"] + ", head" * line["head"], "sources": ", ".join(map(str, line["sources"]))}
+        readings.append(cells(named, "offset", "kind", "length", "key", "digest", "sources"))
     yield from differences_of_rows(page, "Readings", readings, "disputes")
     sources = [cells(line, "source", "word", "notes", "alone", "disputed") for line in told.lines("sources", name="source")]
     yield from differences_of_rows(page, "What each has", sources, "sources")
@@ -243,7 +247,8 @@ def runs_of(units):
     """The runs of units that stand by one word: of each the first unit, the last, the word, and the bytes."""
     for _, run in itertools.groupby(units, lambda unit: unit["standing"]):
         run = list(run)
-        yield [*cells(run[0], "unit"), *cells(run[-1], "unit"), run[0]["standing"], *cells(run[0], "start"), *cells(run[-1], "end")]
+        begin, end = cells(run[0], "unit", "standing", "start"), cells(run[-1], "unit", "end")
+        yield [begin[0], end[0], *begin[1:], end[1]]
 
 
 def differences_of_units(page, told, span):
@@ -276,7 +281,8 @@ def differences_of_reference(page, told, against):
             yield f"it isn't told that {number}s are verified"
     differs = [cells(line, "offset", "kind", "length", "key", "source") for line in lines if line["line"] == "differs"]
     yield from differences_of_rows(page, "Packets that differ", differs, "reference")
-    unverified = [[*cells(line, "start", "end"), str(line["end"] - line["start"])] for line in lines if line["line"] == "unverified"]
+    ranges = [line for line in lines if line["line"] == "unverified"]
+    unverified = [[*cells(line, "start", "end"), str(line["end"] - line["start"])] for line in ranges]
     yield from differences_of_rows(page, "Bytes of the reference that weren't verified", unverified, "reference")
 
 
