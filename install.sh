@@ -1,8 +1,8 @@
 #!/usr/bin/env bash
-# Installs the program, its man page and its completion for bash: install.sh [--from FOLDER] [PREFIX], by default below
-# /usr/local. With --from they are those of a folder that packaging/release made, whose sums are checked; the kit isn't
-# needed then. Without it the program is proved and built first where it isn't yet. What stands there under these names
-# is replaced.
+# Installs the program and mxf_report, their man pages and their completions for bash: install.sh [--from FOLDER] [PREFIX],
+# by default below /usr/local. With --from they are those of a folder that packaging/release made, whose sums are checked;
+# the kit isn't needed then. Without it the program is proved and built first where it isn't yet. What stands there under
+# these names is replaced.
 set -eu
 unset CDPATH
 top=$(cd "$(dirname "${BASH_SOURCE[0]}")" && pwd)
@@ -13,8 +13,9 @@ if [ "${1-}" = --from ] && [ $# -gt 1 ]; then
 fi
 prefix=${1:-/usr/local}
 program=${MXF_TOOL:-$top/crates/mxf_tool/out/mxf_tool}
-page=$top/docs/mxf_tool.1
-completion=$top/completions/mxf_tool.bash
+report=$top/report/mxf_report
+pages=$top/docs
+completions=$top/completions
 
 if [ $# -gt 1 ] || [ -z "$prefix" ] || [ "${prefix#-}" != "$prefix" ]; then
   echo "usage: install.sh [--from FOLDER] [PREFIX]" >&2
@@ -28,12 +29,16 @@ if [ -n "$from" ]; then
   program=$from/mxf_tool
   # Where the C library is another one, the program that has its own is taken.
   "$program" --version >/dev/null 2>&1 || program=$from/mxf_tool.static
-  page=$from/mxf_tool.1
-  completion=$from/mxf_tool.bash
+  report=$from/mxf_report
+  pages=$from
+  completions=$from
 elif [ -z "${MXF_TOOL-}" ]; then
   "$top/mxf_tool" --version >/dev/null
 fi
-install -D -m 755 "$program" "$prefix/bin/mxf_tool"
-install -D -m 644 "$page" "$prefix/share/man/man1/mxf_tool.1"
-install -D -m 644 "$completion" "$prefix/share/bash-completion/completions/mxf_tool"
-printf '%s\n' "$prefix/bin/mxf_tool" "$prefix/share/man/man1/mxf_tool.1" "$prefix/share/bash-completion/completions/mxf_tool"
+put() { install -D -m "$1" "$2" "$prefix/$3" && printf '%s\n' "$prefix/$3"; }
+put 755 "$program" bin/mxf_tool
+put 755 "$report" bin/mxf_report
+for name in mxf_tool mxf_report; do
+  put 644 "$pages/$name.1" "share/man/man1/$name.1"
+  put 644 "$completions/$name.bash" "share/bash-completion/completions/$name"
+done

@@ -1,0 +1,368 @@
+#!/usr/bin/env python3
+"""Reads a page of report/mxf_report and compares it with what the program prints.
+
+    tests/report_page.py TOOL PAGE WORDS..    a page of one recording: WORDS name its sources, and --against a reference
+    tests/report_page.py --form PAGE          the form of a page alone: its tags are balanced, and it loads nothing
+    tests/report_page.py --text PAGE          the text of a page that is seen, a word a line
+    tests/report_page.py --rows PAGE          the rows of its first table, a line each
+    tests/report_page.py --words              the words of the report are those of docs/GUIDE.md and docs/FORMATS.md
+
+Each difference is a line. Nothing is printed of a page that is right.
+"""
+import collections
+import html.parser
+import importlib.machinery
+import importlib.util
+import itertools
+import json
+import pathlib
+import re
+import subprocess
+import sys
+
+TOP = pathlib.Path(__file__).resolve().parent.parent
+EMPTY = {"meta", "br", "hr", "img", "input", "link", "base", "source", "track", "wbr", "area", "col", "embed"}
+LOADING = {
+    "script", "iframe", "object", "embed", "link", "img", "base", "form", "audio", "video", "image", "use", "foreignobject",
+}  # fmt: skip
+ALLOWED_ADDRESS = re.compile(r"\./[^:]*")
+UNSEEN = {"style", "title", "head", "defs"}
+INLINE = {"bdi", "code", "strong", "span", "a"}
+CUT = 200
+
+
+class Table:
+    """A table of a page: its section, its caption, its heads and its rows."""
+
+    def __init__(self, section):
+        self.section = section
+        self.caption = ""
+        self.heads = []
+        self.rows = []
+
+
+class Page(html.parser.HTMLParser):
+    """What a page has: its tables, the words that are seen, what is told on hovering, and what is wrong with its form."""
+
+    def __init__(self, text):
+        super().__init__(convert_charrefs=True)
+        self.open = []
+        self.faults = []
+        self.sections = []
+        self.tables = []
+        self.titles = collections.defaultdict(list)
+        self.text = collections.defaultdict(str)
+        self.seen = ""
+        self.cell = None
+        self.feed(text)
+        self.close()
+        self.faults += [f"<{tag}> isn't closed" for tag in self.open]
+
+    def handle_starttag(self, tag, attrs):
+        """Takes a tag, and sees that it loads nothing."""
+        for name, value in attrs:
+            address = name in ("href", "src", "xlink:href", "action", "data") and not ALLOWED_ADDRESS.fullmatch(value or "")
+            if address or name.startswith("on") or name == "style":
+                self.faults.append(f"<{tag} {name}={value!r}>")
+            if "url(" in (value or "") and not re.fullmatch(r"url\(#[\w-]+\)", value):
+                self.faults.append(f"<{tag} {name}={value!r}>")
+        if tag in LOADING:
+            self.faults.append(f"<{tag}>")
+        if tag not in EMPTY:
+            self.open.append(tag)
+        self.seen += "" if tag in INLINE else " "
+        if tag in ("h2", "h3", "section", "table", "tr", "td", "th"):
+            self.begin(tag, dict(attrs))
+
+    def begin(self, tag, attributes):
+        """Begins a part."""
+        if tag == "section":
+            self.sections.append(attributes.get("id"))
+        elif tag == "table":
+            self.tables.append(Table(self.sections[-1]))
+        elif tag == "tr" and "tbody" in self.open:
+            self.tables[-1].rows.append([])
+        elif tag in ("td", "th"):
+            self.cell = ""
+
+    def handle_endtag(self, tag):
+        """Takes the end of a tag, which has to be the one that is open."""
+        if not self.open or self.open[-1] != tag:
+            self.faults.append(f"</{tag}> ends {self.open[-1:]}")
+            return
+        self.open.pop()
+        self.seen += "" if tag in INLINE else " "
+        if tag == "td":
+            self.tables[-1].rows[-1].append(self.cell)
+        elif tag == "th":
+            self.tables[-1].heads.append(self.cell)
+
+    def handle_data(self, data):
+        """Takes a text."""
+        section = self.sections[-1] if self.sections else "top"
+        if "svg" in self.open and self.open[-1] == "title":
+            self.titles[section].append(data)
+        elif not UNSEEN.intersection(self.open):
+            self.seen += data
+            self.text[section] += data
+        if {"td", "th"}.intersection(self.open) and "title" not in self.open:
+            self.cell += data
+        elif "caption" in self.open:
+            self.tables[-1].caption += data
+
+    def table(self, caption, section=None):
+        """The rows of the table of this caption; none if it isn't there."""
+        found = [table for table in self.tables if table.caption == caption and section in (None, table.section)]
+        return found[0].rows if found else []
+
+
+def page_of(path):
+    """The page of a file."""
+    return Page(pathlib.Path(path).read_bytes().decode("utf-8"))
+
+
+def report():
+    """The report program, as a module."""
+    loader = importlib.machinery.SourceFileLoader("mxf_report", str(TOP / "report" / "mxf_report"))
+    module = importlib.util.module_from_spec(importlib.util.spec_from_loader("mxf_report", loader))
+    sys.dont_write_bytecode = True
+    loader.exec_module(module)
+    return module
+
+
+class Told:
+    """What the program prints of the sources."""
+
+    def __init__(self, tool, words):
+        self.tool = tool
+        self.words = words
+
+    def lines(self, command, *options, name=None):
+        """The lines of a command, or those of one name."""
+        words = [self.tool, command, *options, "--json", *self.words]
+        run = subprocess.run(words, stdout=subprocess.PIPE, stderr=subprocess.DEVNULL, check=False)
+        lines = [json.loads(text) for text in run.stdout.decode("utf-8").splitlines()]
+        return [line for line in lines if name in (None, line["line"])]
+
+
+def cells(line, *names):
+    """The cells of a line: what isn't there is a hyphen."""
+    return ["-" if line.get(name) is None else str(line[name]) for name in names]
+
+
+def differences_of_rows(page, caption, want, section=None):
+    """How the rows of a table differ from those that are wanted, of which a page has the first."""
+    rows = page.table(caption, section)
+    for number, (row, wanted) in enumerate(itertools.zip_longest(rows, want[:CUT])):
+        if row != wanted:
+            yield f"{caption}: row {number} is {row}, not {wanted}"
+            return
+    left = len(want) - CUT
+    if left > 0 and f"{left:,} more: mxf_tool " not in page.text[section]:
+        yield f"{caption}: it doesn't say that {left} rows are left out"
+
+
+def differences_of_bar(page, told):
+    """How the bar differs from the map: its runs, one after another, have its characters."""
+    module = report()
+    head, *rows = told.lines("map", "--columns", "1000", "--rows", "1")
+    marks = "".join(row["cells"] for row in rows)
+    words = {said: mark for mark, (_, said) in module.MARKS.items()}
+    bar, place = "", 0
+    for title in page.titles["recording"]:
+        begin, last, said = re.fullmatch(r"Bytes (\d+) to (\d+): ([^(]*?)(?: \(.*\))?", title).groups()
+        count = -(-(int(last) + 1 - place) // head["cell"])
+        if int(begin) != place:
+            yield f"the bar goes on at {begin}, not at {place}"
+        bar, place = bar + words[said] * count, int(last) + 1
+    if bar != marks or place != head["end"]:
+        yield f"the bar is {bar} up to {place}, not {marks} up to {head['end']}"
+    if f"{head['held']:,} of {head['end']:,} byte" not in page.text["top"] and head["held"] + head["hand"]:
+        yield f"the verdict doesn't say that {head['held']} of {head['end']} bytes are held"
+
+
+def stretches_of(told):
+    """Bytes that are held and bytes that aren't, in turn."""
+    place = 0
+    end = told.lines("map")[0]["end"]
+    for gap in [*told.lines("show", name="gap"), {"start": end, "end": end}]:
+        if place < gap["start"]:
+            yield [str(place), str(gap["start"]), str(gap["start"] - place), "held"]
+        if gap["start"] < gap["end"]:
+            yield [str(gap["start"]), str(gap["end"]), str(gap["end"] - gap["start"]), "not held"]
+        place = gap["end"]
+
+
+def differences_of_recording(page, told):
+    """How the table of what lies where, and of partitions, differ."""
+    rows = [row[:4] for row in page.table("What lies where")]
+    want = list(stretches_of(told))
+    if rows != want[: len(rows)] or len(rows) < min(len(want), CUT):
+        yield f"what lies where is {rows}, not {want}"
+    fields = "offset part status previous link footer header-bytes index-bytes body-sid index-sid pattern"
+    partitions = [cells(line, *fields.split()) for line in told.lines("show", name="partition")]
+    yield from differences_of_rows(page, "What their packs state", partitions, "partitions")
+    entries = [cells(line, "offset", "body-sid", "standing") for line in told.lines("show", name="rip-entry")]
+    yield from differences_of_rows(page, "What the random index pack lists", entries, "partitions")
+    drawn = [title for title in page.titles["partitions"] if re.match(r"[HBF] at ", title)]
+    if len(drawn) != min(len(partitions), report().NODES):
+        yield f"{len(drawn)} partitions are drawn, of {len(partitions)}"
+
+
+def differences_of_findings(page, told):
+    """How the findings differ: of each code how often it is found, where, and what to do."""
+    advice = {code: re.sub(r"\[([^\]]*)\]\([^)]*\)", r"\1", cell).replace("`", "") for code, (_, cell) in guide().items()}
+    found = collections.defaultdict(list)
+    for line in told.lines("check", name="finding"):
+        found[line["code"], line["text"]].append(str(line["offset"]))
+    want = []
+    for (code, text), offsets in sorted(found.items()):
+        left = len(offsets) - 24
+        more = f" and {left:,} more: mxf_tool check has them all" if left > 0 else ""
+        want.append([code, text, str(len(offsets)), ", ".join(offsets[:24]) + more, advice[code]])
+    yield from differences_of_rows(page, "By code", want, "findings")
+
+
+def differences_of_orders(page, told):
+    """How the orders and the disputes differ."""
+    want = []
+    for line in told.lines("plan", name="restore"):
+        length = None if line["end"] is None else line["end"] - line["start"]
+        form = f"{'range' if line['inside'] else 'at'}:{line['start']}:FILE"
+        want.append([*cells({**line, "length": length}, "start", "end", "length"), *cells(line, "source"), form])
+    table = page.table("Orders")
+    kept = [[*row[:3], *row[4:]] for row in table]
+    if kept != want[:CUT]:
+        yield f"the orders are {kept}, not {want}"
+    readings = []
+    for line in told.lines("sources", name="disputed"):
+        named = {**line, "kind": line["kind"] + ", head" * line["head"], "sources": ", ".join(map(str, line["sources"]))}
+        readings.append(cells(named, "offset", "kind", "length", "key", "digest", "sources"))
+    yield from differences_of_rows(page, "Readings", readings, "disputes")
+    sources = [cells(line, "source", "word", "notes", "alone", "disputed") for line in told.lines("sources", name="source")]
+    yield from differences_of_rows(page, "What each has", sources, "sources")
+
+
+def runs_of(units):
+    """The runs of units that stand by one word: of each the first unit, the last, the word, and the bytes."""
+    for _, run in itertools.groupby(units, lambda unit: unit["standing"]):
+        run = list(run)
+        begin, end = cells(run[0], "unit", "standing", "start"), cells(run[-1], "unit", "end")
+        yield [begin[0], end[0], *begin[1:], end[1]]
+
+
+def differences_of_units(page, told, span):
+    """How edit units differ: the runs of a table, and the sums of a strip."""
+    indexes = sorted({line["index-sid"] for line in told.lines("show", name="segment")})
+    for index in indexes:
+        units = told.lines("units", "--index", str(index), *span, name="unit")
+        tables = [table for table in page.tables if table.caption == "Runs of units" and len(table.heads) == 5]
+        want = list(runs_of(units))
+        if len(indexes) == 1 and units and tables[0].rows != want[:CUT]:
+            yield f"the runs of units are {tables[0].rows}, not {want}"
+        for word, count in collections.Counter(unit["standing"] for unit in units).items():
+            if f"{count:,} {word}" not in page.text["units"]:
+                yield f"it isn't told that {count} units are {word}"
+    drawn = [re.match(r"Units (\d+) to (\d+): (.*)", title).groups() for title in page.titles["units"]]
+    for first, last, counts in drawn:
+        numbers = [int(number.replace(",", "")) for number in re.findall(r"([\d,]+) [a-z]", counts)]
+        if sum(numbers) != int(last) - int(first) + 1:
+            yield f"of the units {first} to {last} {counts} are told"
+
+
+def differences_of_reference(page, told, against):
+    """How what is told beside a reference differs."""
+    if not against:
+        return
+    lines = told.lines("verify", *against)
+    last = lines[-1]
+    for number in (f"{last['packets']:,} of {last['all-packets']:,} packet", f"{last['bytes']:,} of {last['all-bytes']:,} byte"):
+        if number not in page.text["reference"]:
+            yield f"it isn't told that {number}s are verified"
+    differs = [cells(line, "offset", "kind", "length", "key", "source") for line in lines if line["line"] == "differs"]
+    yield from differences_of_rows(page, "Packets that differ", differs, "reference")
+    ranges = [line for line in lines if line["line"] == "unverified"]
+    unverified = [[*cells(line, "start", "end"), str(line["end"] - line["start"])] for line in ranges]
+    yield from differences_of_rows(page, "Bytes of the reference that weren't verified", unverified, "reference")
+
+
+def taken_from(words, names):
+    """The options of these names with their values, and the other words."""
+    taken, others = [], []
+    words = iter(words)
+    for word in words:
+        if word in names:
+            taken += [word, next(words)]
+        else:
+            others.append(word)
+    return taken, others
+
+
+def differences_of_page(tool, path, words):
+    """How the page of a recording differs from what the program prints."""
+    page = page_of(path)
+    yield from page.faults
+    against, words = taken_from(words, ("--against",))
+    span, words = taken_from(words, ("--from", "--to"))
+    told = Told(tool, words)
+    yield from differences_of_bar(page, told)
+    yield from differences_of_recording(page, told)
+    yield from differences_of_findings(page, told)
+    yield from differences_of_orders(page, told)
+    yield from differences_of_units(page, told, span)
+    yield from differences_of_reference(page, told, against)
+    if pathlib.Path(path).stat().st_size > 2_000_000:
+        yield "the page has more than 2,000,000 bytes"
+
+
+def guide():
+    """The findings of docs/GUIDE.md: the text of each, and what to do."""
+    text = (TOP / "docs" / "GUIDE.md").read_text(encoding="utf-8")
+    rows = re.findall(r"^\| (F\d\d) \| (.*?) \| .*? \| (.*) \|$", text, re.MULTILINE)
+    return {code: (name, advice) for code, name, advice in rows}
+
+
+def first_words(heading, text):
+    """The first cells of the table that stands below a heading line of docs/FORMATS.md."""
+    table = text.split(f"\n| {heading} |", 1)[1].split("\n\n", 1)[0]
+    for row in table.splitlines()[2:]:
+        yield from re.findall(r"`([^`]+)`", row.split(" | ")[0])
+
+
+def differences_of_words():
+    """How the words of the report differ from those of the documents."""
+    module = report()
+    text = (TOP / "docs" / "FORMATS.md").read_text(encoding="utf-8")
+    stops = [stop.split(" ")[0] for stop in first_words("STOP", text)]
+    standings = {*first_words("STANDING, the first that fits", text), *first_words("WORD, the first that fits", text)}
+    pairs = (
+        ("findings", module.FINDINGS, guide()),
+        ("characters of a map", set(module.MARKS), set(first_words("Character", text))),
+        ("reasons", set(module.REASONS), set(first_words("REASON", text))),
+        ("stops", set(module.STOPS), set(stops)),
+        ("standings", set(module.STANDINGS), standings),
+        ("kinds of fill", {fill for fill, *_ in (*module.MARKS.values(), *module.STANDINGS.values())} - set(module.FILLS), set()),
+    )
+    for name, have, want in pairs:
+        if have != want:
+            yield f"the {name} of the report are {have}, not {want}"
+
+
+def main():
+    """Prints the differences."""
+    if sys.argv[1] == "--words":
+        lines = differences_of_words()
+    elif sys.argv[1] == "--form":
+        lines = page_of(sys.argv[2]).faults
+    elif sys.argv[1] == "--rows":
+        lines = ("|".join(cell.strip() for cell in row) for row in page_of(sys.argv[2]).tables[0].rows)
+    elif sys.argv[1] == "--text":
+        lines = page_of(sys.argv[2]).seen.split()
+    else:
+        lines = differences_of_page(sys.argv[1], sys.argv[2], sys.argv[3:])
+    for line in lines:
+        print(line)
+
+
+if __name__ == "__main__":
+    main()
