@@ -177,7 +177,8 @@ def differences_of_bar(page, told):
         bar, place = bar + words[said] * count, int(last) + 1
     if bar != marks or place != head["end"]:
         yield f"the bar is {bar} up to {place}, not {marks} up to {head['end']}"
-    held = f"{head['held']:,} of {head['end']:,} byte" if told.lines("show", name="note") else "no packet of a recording"
+    there = head["hand"] or told.lines("show", name="note")
+    held = f"{head['held']:,} of {head['end']:,} byte" if there else "no packet of a recording"
     if held not in page.text["top"]:
         yield f"the verdict doesn't say: {held}"
 
