@@ -177,28 +177,35 @@ def differences_of_bar(page, told):
         bar, place = bar + words[said] * count, int(last) + 1
     if bar != marks or place != head["end"]:
         yield f"the bar is {bar} up to {place}, not {marks} up to {head['end']}"
-    if f"{head['held']:,} of {head['end']:,} byte" not in page.text["top"] and head["held"] + head["hand"]:
-        yield f"the verdict doesn't say that {head['held']} of {head['end']} bytes are held"
+    there = head["hand"] or told.lines("show", name="note")
+    held = f"{head['held']:,} of {head['end']:,} byte" if there else "no packet of a recording"
+    if held not in page.text["top"]:
+        yield f"the verdict doesn't say: {held}"
 
 
-def stretches_of(told):
-    """Bytes that are held and bytes that aren't, in turn."""
-    place = 0
-    end = told.lines("map")[0]["end"]
-    for gap in [*told.lines("show", name="gap"), {"start": end, "end": end}]:
-        if place < gap["start"]:
-            yield [str(place), str(gap["start"]), str(gap["start"] - place), "held"]
-        if gap["start"] < gap["end"]:
-            yield [str(gap["start"]), str(gap["end"]), str(gap["end"] - gap["start"]), "not held"]
-        place = gap["end"]
+def differences_of_stretches(page, told):
+    """How the table of what lies where differs: its rows follow one another up to the end of the map and say `held` and
+    `not held` in turn; the gaps of `show` aren't held, and as many bytes are as of the map."""
+    rows = page.table("What lies where")
+    numbers = told.lines("map")[0]
+    not_held = [(int(row[0]), int(row[1])) for row in rows if row[3] == "not held"]
+    gaps = [(gap["start"], gap["end"]) for gap in told.lines("show", name="gap")]
+    for row, after in zip(rows, [*rows[1:], None]):
+        if after and (row[1] != after[0] or row[3] == after[3]) or int(row[2]) != int(row[1]) - int(row[0]) or row[2] == "0":
+            yield f"after what lies where {row} stands {after}"
+    for start, end in gaps[: CUT // 2 - 1]:
+        if not any(first <= start and end <= after for first, after in not_held):
+            yield f"the gap from {start} to {end} isn't told"
+    if len(rows) == CUT:
+        return
+    held = sum(int(row[2]) for row in rows if row[3] == "held")
+    if (held, len(not_held), int(rows[-1][1])) != (numbers["held"], numbers["gaps"], numbers["end"]):
+        yield f"what lies where has {held} bytes that are held and {len(not_held)} gaps, not those of {numbers}"
 
 
 def differences_of_recording(page, told):
     """How the table of what lies where, and of partitions, differ."""
-    rows = [row[:4] for row in page.table("What lies where")]
-    want = list(stretches_of(told))
-    if rows != want[: len(rows)] or len(rows) < min(len(want), CUT):
-        yield f"what lies where is {rows}, not {want}"
+    yield from differences_of_stretches(page, told)
     fields = "offset part status previous link footer header-bytes index-bytes body-sid index-sid pattern"
     partitions = [cells(line, *fields.split()) for line in told.lines("show", name="partition")]
     yield from differences_of_rows(page, "What their packs state", partitions, "partitions")
