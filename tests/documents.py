@@ -2,11 +2,11 @@
 """Looks up each link of the documents: the file is there, and has the heading that the link names. Looks up each test
 and case that is named: `crate::module::test`, `cases/TOPIC: NAME` or `end_to_end.d/TOPIC: NAME`; and `crate: NAME`, the
 heading `# NAME` of rows in the `stdin` and `stdout` of a program. Where a link is to a source and names a function or a
-type, that is there, and the function has the clauses that stand in parentheses behind the link. Sees that each row of a
-table stands in a table, which an empty line would end, and that the numbers of tests, edits, runs and files that a
-document gives are those of the scripts and crates. Looks up in docs/MODEL.md each definition that a clause of a public
-function of the libraries cites, and compares the table of docs/LAYERS.md with crates.txt. Only failures are printed;
-the last line is 'N passed, M failed'.
+type, that is there, and the function has the clauses that stand in parentheses behind the link. Sees that each line of a
+block that names a file of crates/ stands in it. Sees that each row of a table stands in a table, which an empty line
+would end, and that the numbers of tests, edits, runs and files that a document gives are those of the scripts and
+crates. Looks up in docs/MODEL.md each definition that a clause of a public function of the libraries cites, and compares
+the table of docs/LAYERS.md with crates.txt. Only failures are printed; the last line is 'N passed, M failed'.
 """
 import ast
 import itertools
@@ -24,6 +24,7 @@ LIBRARIES = (
 IMPORT = re.compile(r"^ghost use Rattle\.(mxf_\w+)\.specs\.(\w+)\.\{([^}]*)\};", re.MULTILINE)
 # Modules of small files alone, of which docs/MODEL.md names the file.
 EXAMPLES = re.compile(r"Worked\w+|RefusedFiles")
+QUOTED = re.compile(r"```\w+ (crates/\S+)")
 NAMED = re.compile(r"`(mxf_\w+(?:::\w+)+|(?:mxf_\w+|(?:cases|end_to_end\.d)/\w+): [^`]+)`")
 
 
@@ -116,6 +117,17 @@ def verdicts_of_tables(document):
             is_table = len(rows) > 1 and re.fullmatch(r"\|[-| ]+\|", rows[1])
             yield number - len(rows), rows[0], None if is_table else "rows without a header"
             rows = []
+
+
+def verdicts_of_quotes(document):
+    """For each line of a block that names a file: its number, the line, and that the file hasn't it, or None."""
+    file = None
+    for number, line in enumerate(document.read_text(encoding="utf-8").splitlines(), 1):
+        if line.startswith("```"):
+            quoted = QUOTED.fullmatch(line)
+            file = quoted and quoted[1]
+        elif file:
+            yield number, line, None if line in text_of(TOP / file).splitlines() else f"no such line of {file}"
 
 
 def exported_by(crate):
@@ -242,13 +254,14 @@ def verdicts_of_numbers(document):
 
 
 VERDICTS = (
-    verdicts_of_links, verdicts_of_contracts, verdicts_of_names, verdicts_of_tables, verdicts_of_definitions,
-    verdicts_of_layers, verdicts_of_numbers,
+    verdicts_of_links, verdicts_of_contracts, verdicts_of_names, verdicts_of_tables, verdicts_of_quotes,
+    verdicts_of_definitions, verdicts_of_layers, verdicts_of_numbers,
 )  # fmt: skip
 
 
 def main():
-    documents = [TOP / name for name in ("README.md", "CONTRIBUTING.md", "CHANGELOG.md", "examples/README.md")]
+    names = ("README.md", "SECURITY.md", "CONTRIBUTING.md", "CHANGELOG.md", "examples/README.md")
+    documents = [TOP / name for name in names]
     documents += sorted((TOP / "docs").glob("*.md"))
     passed = failed = 0
     for document in documents:
