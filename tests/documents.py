@@ -5,8 +5,9 @@ heading `# NAME` of rows in the `stdin` and `stdout` of a program. Where a link 
 type, that is there, and the function has the clauses that stand in parentheses behind the link. Sees that each row of a
 table stands in a table, which an empty line would end, and that the numbers of tests, edits, runs and files that a
 document gives are those of the scripts and crates. Looks up in docs/MODEL.md each definition that a clause of a public
-function of the libraries cites, and compares the table of docs/LAYERS.md with crates.txt. Compares each page of docs/api
-with what tests/api_pages.py makes of the sources. Only failures are printed; the last line is 'N passed, M failed'.
+function of the libraries cites, and compares the table of docs/LAYERS.md with crates.txt. Compares each page of
+docs/api with what tests/api_pages.py makes of the sources. Only failures are printed; the last line is 'N passed, M
+failed'.
 """
 import ast
 import itertools
@@ -249,7 +250,8 @@ def verdicts_of_api(document):
     """For each page of docs/api: that it isn't what the script makes of the sources, or None. README.md links all."""
     if document.parent == api_pages.PAGES:
         made = api_pages.pages().get(document.name)
-        yield 1, "tests/api_pages.py", None if text_of(document) == made else "it isn't what this makes of the sources"
+        fault = None if text_of(document) == made else "tests/api_pages.py makes it otherwise of today's sources"
+        yield 1, "the page", fault
 
 
 VERDICTS = (
