@@ -28,8 +28,8 @@ These pages are for those who build on the libraries. Each page has what one lib
 traits and constants, and apart from them its laws. `tests/api_pages.py` writes the pages from the sources.
 `tests/documents.py` fails if a page differs from what the script makes of the sources today.
 
-A page begins with the comment of its crate. Of each item and method it has the first sentence of the comment, and of a
-law all of it. The rest of a comment stands in the source to which the page links.
+A page begins with the comment of its crate. Of a law it has the whole comment, of all else the first sentence. The rest
+stands in the source to which the page links.
 
 A clause (`ensures`) says what a function answers and what it leaves. A condition (`requires`) says what its caller has
 to see to. The pages name them, and the sources have their statements. A law takes nothing and answers nothing: its
@@ -77,19 +77,15 @@ def head_of(line, lines):
 
 
 def take(item, line, lines):
-    """Reads an item, from its first line on."""
-    item.head = head_of(line, lines)
-    last = item.head
-    while not last.endswith(("{", "{}", ";", ",")):
+    """Reads an item, from its first line on: its clauses up to its body, or up to its end, then its body."""
+    item.head = last = head_of(line, lines)
+    while not last.endswith(("{", "{}", ";", ",")) or last.startswith(" ") and not last.endswith(("};", "},")):
         last = next(lines)
         item.clauses.append(last)
-        if last.startswith(" ") and not last.endswith(("};", "},")):
-            last = ""
-    if last.endswith("{"):
-        for line in lines:
-            if line.startswith("}"):
-                break
-            item.body.append(line)
+    for line in lines if last.endswith("{") else ():
+        if line.startswith("}"):
+            break
+        item.body.append(line)
     item.head = re.sub(r" ?(\{|\{\}|;|,)$", "", item.head)
     return item
 
@@ -117,9 +113,12 @@ def source(file):
 def passed_on(file):
     """What a source passes on of other modules: each module as a list of names, and the name of the item."""
     for item in source(file):
-        found = PASSED_ON.match(item.head + " ".join(item.body))
-        for name in re.findall(r"\w+", found[2]) if found else ():
-            yield found[1].split("::"), name
+        if item.head.startswith("pub use "):
+            found = PASSED_ON.match(item.head + " ".join(item.body))
+            if found is None:
+                raise LookupError(f"{file}: this script doesn't know the form of {item.head}")
+            for name in re.findall(r"\w+", found[2]):
+                yield found[1].split("::"), name
 
 
 def find(folder, module, name):
@@ -138,7 +137,8 @@ def find(folder, module, name):
 @functools.cache
 def exported(crate):
     """What a library passes on, by name: the item, or the name of the library from which it has it."""
-    folder, items = TOP / "crates" / crate / "src", {}
+    folder = TOP / "crates" / crate / "src"
+    items = {there[2]: item for item in source(folder / "lib.rt") if (there := DECLARED.match(item.head))}
     for module, name in passed_on(folder / "lib.rt"):
         items[name] = module[0] if module[0].startswith("mxf_") else find(folder, module, name)
         if items[name] is None:
@@ -218,6 +218,7 @@ def linked(text, crate, owner=None):
     """A text of the sources with its links to items as links to the pages; what isn't passed on has none."""
 
     def link(found):
+        """The link to the first name of the path that a library passes on: the one that is named, this one, another."""
         path = re.findall(r"\w+", found[2] or found[1])
         path = [owner if word == "Self" else word for word in path]
         named = [word for word in path if word in libraries()]
@@ -393,6 +394,7 @@ def pages():
 
 
 def main():
+    """Writes the pages, and removes those of libraries that are no more."""
     PAGES.mkdir(exist_ok=True)
     for old in PAGES.glob("*.md"):
         if old.name not in pages():
