@@ -6,13 +6,16 @@ type, that is there, and the function has the clauses that stand in parentheses 
 block that names a file of crates/ stands in it. Sees that each row of a table stands in a table, which an empty line
 would end, and that the numbers of tests, edits, runs and files that a document gives are those of the scripts and
 crates. Looks up in docs/MODEL.md each definition that a clause of a public function of the libraries cites, and compares
-the table of docs/LAYERS.md with crates.txt. Only failures are printed; the last line is 'N passed, M failed'.
+the table of docs/LAYERS.md with crates.txt. Compares each page of docs/api with what tests/api_pages.py makes of the
+sources. Only failures are printed; the last line is 'N passed, M failed'.
 """
 import ast
 import itertools
 import pathlib
 import re
 import sys
+
+import api_pages
 
 TOP = pathlib.Path(__file__).resolve().parent.parent
 LINK = re.compile(r"\[[^\]]*\]\(([^)\s]+)\)")
@@ -38,9 +41,11 @@ def lines_of(document):
 
 
 def anchors_of(document):
-    """The anchors of its headings, as GitHub makes them."""
+    """The anchors of its headings, as GitHub makes them: from the second of a name on they have a number."""
     headings = (line.lstrip("#") for line in lines_of(document) if re.match(r"#+ ", line))
-    return {re.sub(r"[^\w\- ]", "", heading.strip().lower()).replace(" ", "-") for heading in headings}
+    names = [re.sub(r"[^\w\- ]", "", heading.strip().lower()).replace(" ", "-") for heading in headings]
+    counts = (names[:place].count(name) for place, name in enumerate(names))
+    return {f"{name}-{count}" if count else name for name, count in zip(names, counts)}
 
 
 def fault_of_link(document, target):
@@ -253,16 +258,24 @@ def verdicts_of_numbers(document):
                 yield number, found[0][-80:], None if int(found[2].replace(",", "")) == there else f"it's {there}"
 
 
+def verdicts_of_api(document):
+    """For each page of docs/api: that it isn't what the script makes of the sources, or None. README.md links all."""
+    if document.parent == api_pages.PAGES:
+        made = api_pages.pages().get(document.name)
+        fault = None if text_of(document) == made else "tests/api_pages.py makes it otherwise of today's sources"
+        yield 1, "the page", fault
+
+
 VERDICTS = (
     verdicts_of_links, verdicts_of_contracts, verdicts_of_names, verdicts_of_tables, verdicts_of_quotes,
-    verdicts_of_definitions, verdicts_of_layers, verdicts_of_numbers,
+    verdicts_of_definitions, verdicts_of_layers, verdicts_of_numbers, verdicts_of_api,
 )  # fmt: skip
 
 
 def main():
     names = ("README.md", "SECURITY.md", "CONTRIBUTING.md", "CHANGELOG.md", "examples/README.md")
     documents = [TOP / name for name in names]
-    documents += sorted((TOP / "docs").glob("*.md"))
+    documents += sorted((TOP / "docs").glob("*.md")) + sorted(api_pages.PAGES.glob("*.md"))
     passed = failed = 0
     for document in documents:
         for number, what, fault in itertools.chain.from_iterable(kind(document) for kind in VERDICTS):
