@@ -463,11 +463,11 @@ fn open_sources<'r, 'a, R: System>(
         extents: Vec::new(rt.alloc()),
     };
     for source in sources {
-        let file = match fs::open(rt, source.path()) {
-            Ok(file) => file,
+        let (file, size) = match open_sized(rt, source.path()) {
+            Ok(opened) => opened,
             Err(fault) => return Err(unread(source.path(), &fault)),
         };
-        let extent = extent_of(source, size_of(&file));
+        let extent = extent_of(source, size);
         let part = part_of(source, Watched::new(rt, screen, source, file, last));
         if opened.parts.push(part).is_err() || opened.extents.push(extent).is_err() {
             return Err(RunFault::OutOfMemory);
@@ -476,12 +476,12 @@ fn open_sources<'r, 'a, R: System>(
     Ok(opened)
 }
 
-/// The number of bytes of a regular file; 0 of what is none.
-fn size_of(file: &File) -> u64 {
-    match file.metadata() {
-        Ok(found) if found.is_file() => found.len(),
-        _ => 0,
-    }
+/// The file at the path, opened, and the number of its bytes; 0 of what is no regular file.
+fn open_sized<R: System>(rt: &R, path: &str) -> io::Result<(File, u64)> {
+    let file = fs::open(rt, path)?;
+    let found = file.metadata()?;
+    let size = if found.is_file() { found.len() } else { 0 };
+    Ok((file, size))
 }
 
 /// Which source is at fault, and why.
