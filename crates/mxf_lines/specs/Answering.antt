@@ -31,9 +31,9 @@ use Rattle.mxf_lines.specs.Printing.{Prints, content_lines}
 use Rattle.mxf_lines.specs.UnitLines.{unit_lines, units_status}
 use Rattle.mxf_units.specs.declared.range.UnitRange.{UnitRange}
 
--- A line for each report of a piece: its offset, the number of its packets, and its stop.
+-- A line for each report of a piece.
 abbrev pub report_lines : List PieceReport → List PrintedLine
-report_lines reports = flat_map (λ r. piece_line r.offset r.report.noted r.report.stop ∷ []) reports
+report_lines reports = flat_map (λ r. piece_line r ∷ []) reports
 
 -- The piece ends with a packet.
 abbrev pub is_end : Stop → Bool
@@ -42,7 +42,7 @@ is_end _ = false
 
 -- The line of a piece that doesn't end with a packet, none of another.
 abbrev pub stop_lines : PieceReport → List PrintedLine
-stop_lines r = if is_end r.report.stop then [] else stop_line r.offset r.report.stop ∷ []
+stop_lines r = if is_end r.report.stop then [] else stop_line r ∷ []
 
 -- The lines of findings, and then how many there are.
 abbrev pub finding_lines : List Finding → List PrintedLine

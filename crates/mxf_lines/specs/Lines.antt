@@ -1,5 +1,6 @@
 -- The lines that are printed (this project's profile). Numbers are decimal.
-use Rattle.std.specs.Prelude.{ℕ, ◌-◌, Bool, true, false, List, [], ◌∷◌, ◌++◌, codes, not, Option, None, Some, option_map}
+use Rattle.std.specs.Prelude.{ℕ, ◌+◌, ◌-◌, Bool, true, false, List, [], ◌∷◌, ◌++◌, codes, not, Option, None, Some}
+use Rattle.std.specs.Prelude.{option_map}
 use Rattle.mxf_klv.specs.Kind.{kind_of}
 use Rattle.mxf_klv.specs.Note.{end_of}
 use Rattle.mxf_klv.specs.Parts.{NoteParts}
@@ -7,6 +8,7 @@ use Rattle.mxf_klv.specs.Words.{kind_name, stop_name}
 use Rattle.mxf_klv.specs.declared.piece.Stop.{Stop}
 use Rattle.mxf_klv.specs.declared.piece.Stop.TheVariants.{End, NotUl, BadLength, TooFar, Truncated, NoStart}
 use Rattle.mxf_catalogue.specs.declared.run.Run.{Run}
+use Rattle.mxf_read.specs.declared.gathering.report.PieceReport.{PieceReport}
 use Rattle.mxf_views.specs.declared.chain.Chain.{Chain}
 use Rattle.mxf_views.specs.declared.copy.CopyInfo.{CopyInfo}
 use Rattle.mxf_views.specs.Words.{chain_name}
@@ -32,10 +34,11 @@ stop_place (NoStart at) = number " " "at" at ∷ []
 abbrev pub stop_fields : List ℕ → Stop → List Field
 stop_fields before stop = field before (codes "stop") (Characters (stop_name stop)) ∷ stop_place stop
 
--- The line of a piece: its offset, the number of its packets and its stop.
-unfoldable pub piece_line : ℕ → ℕ → Stop → PrintedLine
-piece_line offset count stop =
-    line "piece" (number " " "offset" offset ∷ number " noted " "noted" count ∷ stop_fields (codes " stop ") stop)
+-- The line of a piece: its offset, the number of its packets, its stop and, in JSON, the number of its source, from 1.
+unfoldable pub piece_line : PieceReport → PrintedLine
+piece_line r =
+    line "piece" (number " " "offset" r.offset ∷ number " noted " "noted" r.report.noted
+    ∷ (stop_fields (codes " stop ") r.report.stop ++ number_member "source" (r.part + 1) ∷ []))
 
 -- The line of a join: the number of notes, and how many of them are disputed.
 unfoldable pub join_line : ℕ → ℕ → PrintedLine

@@ -2,7 +2,8 @@
 -- first offsets are where sources differ.
 use Rattle.std.proofs.Common.{◌≡◌, ◌≢◌, ◌∙◌, ◌==◌, ◌↔◌, ◌⊎◌, ◌<◌, ◌≤◌, ◌+◌, ◌-◌, ℕ, zero, suc, List, [], ◌∷◌, ◌++◌}
 use Rattle.std.proofs.Common.{None, Some, true, false, if◌then◌else◌, get_or, length, map, max, nat_le, nat_lt}
-use Rattle.std.proofs.Common.{refl, sym, ap, subst, inl, inr, arith, eq-eqb, eqb-true, leb-true, le-leb, lt-ltb, ltb-true}
+use Rattle.std.proofs.Common.{refl, sym, ap, subst, inl, inr, arith, eq-eqb, eqb-true, leb-true, le-leb, lt-ltb}
+use Rattle.std.proofs.Common.{ltb-true}
 use Rattle.std.specs.Prelude.{drop, min, Err, Ok, OnErr, OnOk, Result}
 use Rattle.std.proofs.lemmas.List.{at_drop_all}
 use Rattle.mxf_klv.specs.declared.memory.OutOfMemory.{OutOfMemory}
@@ -18,7 +19,8 @@ use Rattle.mxf_catalogue.specs.declared.run.Run.{Run}
 use Rattle.mxf_catalogue.specs.Covers.{IsCover, union_of_runs, union_of_runs-IsUnion}
 use Rattle.mxf_catalogue.specs.Runs.{LiesIn}
 use Rattle.mxf_read.specs.Given.{Differ, IsDiffering, IsGivenAs, SourceParts}
-use Rattle.mxf_read.specs.Differing.{AreJoined, DifferAt, GivesAll, GivesAt, IsDifference, IsDifferenceOf, LiesInDifference}
+use Rattle.mxf_read.specs.Differing.{AreJoined, DifferAt, GivesAll, GivesAt, IsDifference, IsDifferenceOf}
+use Rattle.mxf_read.specs.Differing.{LiesInDifference}
 use Rattle.mxf_read.specs.Differing.{LiesInOne, difference, is_near, run_of_difference, with_all, with_bytes, with_near}
 use Rattle.mxf_read.specs.declared.given.differing.Difference.{Difference}
 use Rattle.mxf_read.proofs.PlacingLaws.{IsCover-all}
@@ -93,14 +95,16 @@ all_with_near P join (d ∷ e ∷ ds) next all one = (all.0, all_with_near P joi
 all_with_all : (P : Difference → Type 0)
     → ((d next : Difference) → P d → P next → d.first ≤ next.first → next.first < d.last + 512
     → P (difference d.first (max d.last next.last)))
-    → (ds others : List Difference) → AllByRecursion P ds → AllByRecursion P others → AllByRecursion P (with_all ds others)
+    → (ds others : List Difference) → AllByRecursion P ds → AllByRecursion P others
+    → AllByRecursion P (with_all ds others)
 all_with_all P join ds [] all more = all
 all_with_all P join ds (next ∷ others) all more =
     all_with_all P join (with_near ds next) others (all_with_near P join ds next all more.0) more.1
 
 -- ---- they lie below the greatest end
 
-pub differences_with_near : (ds : List Difference) (next : Difference) → AllByRecursion IsDifference ds → IsDifference next
+pub differences_with_near : (ds : List Difference) (next : Difference) → AllByRecursion IsDifference ds
+    → IsDifference next
     → AllByRecursion IsDifference (with_near ds next)
 differences_with_near =
     all_with_near IsDifference (λ d next one other from near.
@@ -348,7 +352,8 @@ far_with_all low ds (next ∷ others) far below rise some =
     let under = below_more low next.first ds rise.0 below in
     far_with_all next.first (with_near ds next) others
     (far_with_near 0 ds next far (omega arith) some.0 under)
-    (all_with_near (λ d. d.first ≤ next.first) (λ d e one other from near. one) ds next under (omega arith)) rise.1 some.1
+    (all_with_near (λ d. d.first ≤ next.first) (λ d e one other from near. one) ds next under (omega arith))
+    rise.1 some.1
 
 far_above : (low : ℕ) (ds : List Difference) (x : ℕ) → AreFar low ds → LiesInOne ds x → low ≤ x
 far_above low [] x far l = absurd l.1
@@ -399,7 +404,8 @@ joined_are sources noted all j sound found x = (
   In-noted : (d : Difference) → In d j.sorted → In d noted
   In-noted d h =
       In-from_Contains d noted
-      (Contains-permutation j.sorted noted d (IsPermutation-sym noted j.sorted j.members) (Contains-from_In d j.sorted h))
+      (Contains-permutation j.sorted noted d (IsPermutation-sym noted j.sorted j.members)
+      (Contains-from_In d j.sorted h))
 
   In-sorted : (d : Difference) → In d noted → In d j.sorted
   In-sorted d h =
@@ -407,7 +413,8 @@ joined_are sources noted all j sound found x = (
 
   sound_sorted : AllByRecursion (IsDifferenceOf sources) j.sorted
   sound_sorted =
-      all_from_In (IsDifferenceOf sources) j.sorted (λ d h. all-In (IsDifferenceOf sources) noted d sound (In-noted d h))
+      all_from_In (IsDifferenceOf sources) j.sorted
+      (λ d h. all-In (IsDifferenceOf sources) noted d sound (In-noted d h))
 
   sound_all : AllByRecursion (IsDifferenceOf sources) all
   sound_all =

@@ -25,7 +25,7 @@ use Rattle.mxf_read.specs.Ranges.{range_notes}
 use Rattle.mxf_read.specs.Gathering.{AllTell, Gathers, HandedBy, HandsNote, HasFault, IsGatherFault, IsGood, IsLeftBy}
 use Rattle.mxf_read.specs.Gathering.{IsPieceOf}
 use Rattle.mxf_read.proofs.Taking.{slice_get_at}
-use Rattle.mxf_read.specs.Gathering.{TakesPart, Tells, bytes_of, piece_of, reports_in, reports_of}
+use Rattle.mxf_read.specs.Gathering.{TakesPart, Tells, bytes_of, piece_of, reports_from, reports_in, reports_of}
 use Rattle.mxf_klv.proofs.Lists.{all_push}
 
 all_at : {K : Type 0} (P : K → Type 0) (xs ys : List K) (x : K) → AllByRecursion P (xs ++ x ∷ ys) → P x
@@ -212,12 +212,14 @@ module _ {R : Type 0} (left : R → Option (List ℕ)) where
       ))
       (_, written_file views c reduced fits (file_bytes views) refl)
 
-  reports_push : (ps : List (Part R)) (p : Part R)
-      → reports_of left (ps ++ p ∷ []) ≡ reports_of left ps ++ reports_in left p
-  reports_push [] p = append-nil (reports_in left p)
-  reports_push (q ∷ ps) p =
-      ap (λ (t : List PieceReport). reports_in left q ++ t) (reports_push ps p)
-      ∙ sym (append_assoc (reports_in left q) (reports_of left ps) (reports_in left p))
+  pub reports_push : (number : ℕ) (ps : List (Part R)) (p : Part R) (last : ℕ) → last ≡ number + length ps
+      → reports_from left number (ps ++ p ∷ []) ≡ reports_from left number ps ++ reports_in left last p
+  reports_push number [] p last is =
+      append-nil (reports_in left number p) ∙ ap (λ (n : ℕ). reports_in left n p) (omega (arith, is))
+  reports_push number (q ∷ ps) p last is =
+      ap (λ (t : List PieceReport). reports_in left number q ++ t)
+      (reports_push (number + 1) ps p last (omega (arith, is)))
+      ∙ sym (append_assoc (reports_in left number q) (reports_from left (number + 1) ps) (reports_in left last p))
 
   -- What was passed is gathered.
   pub record IsGathered (all : List (Part R)) (number : ℕ) (rest : List (Part R)) (levels : List (List NoteParts))
@@ -232,12 +234,12 @@ module _ {R : Type 0} (left : R → Option (List ℕ)) where
 
   pub gathered_one : (all rest more : List (Part R)) (p : Part R) (number : ℕ) (levels new : List (List NoteParts))
       (reports added : List PieceReport) → IsGathered all number rest levels reports → rest ≡ p ∷ more
-      → TakesPart left p levels new reports added → IsGathered all (number + 1) more new added
+      → TakesPart left number p levels new reports added → IsGathered all (number + 1) more new added
   gathered_one all rest more p number levels new reports added g is t = record {
     passed = passed_one all rest more p number g.passed is;
     waits = waits_added levels new t.notes g.passed.done (p ∷ []) g.waits t.added t.left_by;
-    reported = t.reported ∙ ap (λ (l : List PieceReport). l ++ reports_in left p) g.reported
-        ∙ sym (reports_push g.passed.done p);
+    reported = t.reported ∙ ap (λ (l : List PieceReport). l ++ reports_in left number p) g.reported
+        ∙ sym (reports_push 0 g.passed.done p number (omega (arith, g.passed.counted)));
     good = all_push (IsGood left) g.passed.done p g.good t.good;
   }
 

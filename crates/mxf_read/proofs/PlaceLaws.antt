@@ -18,7 +18,8 @@ HaveOffsets ps = (p : Place) → In p ps → p.start < p.end
 -- each place lies at or above the end before it
 pub from_low : (low : ℕ) (ps : List Place) (p : Place) → AreApart low ps → HaveOffsets ps → In p ps → low ≤ p.start
 from_low low [] p a some h = absurd h
-from_low low (q ∷ ps) p a some (inl e) = let b : low ≤ q.start = a.0 in let f = ap (λ (r : Place). r.start) e in omega arith
+from_low low (q ∷ ps) p a some (inl e) =
+    let b : low ≤ q.start = a.0 in let f = ap (λ (r : Place). r.start) e in omega arith
 from_low low (q ∷ ps) p a some (inr h) =
     let b : low ≤ q.start = a.0 in
     let s = some q (inl refl) in

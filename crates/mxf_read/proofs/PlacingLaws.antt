@@ -13,7 +13,8 @@ use Rattle.mxf_catalogue.specs.declared.run.Run.{Run}
 use Rattle.mxf_catalogue.specs.Covers.{IsCover, IsRun, union_of_runs, union_of_runs-IsUnion, with_run}
 use Rattle.mxf_catalogue.specs.Runs.{LiesIn}
 use Rattle.mxf_catalogue.proofs.CoverLaws.{IsCover-with_run}
-use Rattle.mxf_read.specs.Places.{AreApart, ArePlaces, AreSpans, GivenParts, IsPlaceOf, LiesInExtent, LiesInPlace, overlaps_below}
+use Rattle.mxf_read.specs.Places.{AreApart, ArePlaces, AreSpans, GivenParts, IsPlaceOf, LiesInExtent, LiesInPlace}
+use Rattle.mxf_read.specs.Places.{overlaps_below}
 use Rattle.mxf_read.specs.Places.{place, places_above, run_of, some_place, spans_from}
 use Rattle.mxf_read.specs.declared.given.Extent.{Extent}
 use Rattle.mxf_read.specs.declared.given.Place.{Place}
@@ -22,7 +23,8 @@ use Rattle.mxf_read.specs.declared.given.Place.{Place}
 
 some_is : (s e n : ℕ) (p : Place) → In p (some_place s e n) → (p ≡ place s e n) × (s < e)
 some_is s e n p h =
-    elim (nat_lt s e) as (λ b. nat_lt s e ≡ b → In p (if b then place s e n ∷ [] else []) → (p ≡ place s e n) × (s < e)) [
+    elim (nat_lt s e) as (λ b. nat_lt s e ≡ b → In p (if b then place s e n ∷ [] else [])
+    → (p ≡ place s e n) × (s < e)) [
       | true ↦ λ q k. elim k [ inl same ↦ (same, ltb-true s e q) | inr none ↦ absurd none ]
       | false ↦ λ q k. absurd k
     ] refl h
@@ -181,7 +183,8 @@ each r (s ∷ spans) q x (inr h) l =
       elim ih.3 [
         | inl k ↦ inl ((In-append ih.0 (some_place (max r s.start) s.end s.source) (places_above (max r s.end) spans)).1
             (inr k))
-        | inr k ↦ inr ((In-append ih.0 (some_place s.start (min r s.end) s.source) (overlaps_below (max r s.end) spans)).1
+        | inr k ↦ inr ((In-append ih.0 (some_place s.start (min r s.end) s.source)
+            (overlaps_below (max r s.end) spans)).1
             (inr k))
       ],
     )
@@ -230,7 +233,8 @@ covered low r (s ∷ spans) P rise f q x (inl e) l =
           record { from = omega (arith, above, from); before = before },
         )
 covered low r (s ∷ spans) P rise f q x (inr h) l =
-    let ih = covered s.start (max r s.end) spans (λ y. P y ⊎ ((p : Place) × In p (places_above r (s ∷ spans)) × LiesInPlace p y))
+    let ih = covered s.start (max r s.end) spans (λ y. P y ⊎ ((p : Place) × In p (places_above r (s ∷ spans))
+    × LiesInPlace p y))
     rise.1 (λ y from below. elim (cases_lt y r) [
       | inl less ↦ (let least = rise.0 in inl (f y (omega (arith, least, from)) less))
       | inr above ↦ (

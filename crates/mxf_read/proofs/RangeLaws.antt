@@ -17,12 +17,12 @@ use Rattle.mxf_read.specs.declared.gathering.report.PieceReport.{PieceReport}
 use Rattle.mxf_read.specs.Absorbs.{report_of}
 use Rattle.mxf_read.specs.Levels.{Adds}
 use Rattle.mxf_read.specs.Gathering.{TakesPart, Tells, piece_limit, piece_of}
-use Rattle.mxf_read.specs.Ranges.{LeavesTheRest, no_start, piece_bytes, piece_offset, range_notes, range_report, start_in}
-use Rattle.mxf_read.specs.Ranges.{window_limit, window_of}
+use Rattle.mxf_read.specs.Ranges.{LeavesTheRest, no_start, piece_bytes, piece_offset, range_notes, range_report}
+use Rattle.mxf_read.specs.Ranges.{start_in, window_limit, window_of}
 use Rattle.mxf_read.proofs.Starts.{no_start_is}
 
-abbrev reported : ℕ → Report → PieceReport
-reported offset report = record { offset = offset; report = report }
+abbrev reported : ℕ → ℕ → Report → PieceReport
+reported part offset report = record { part = part; offset = offset; report = report }
 
 -- the window of the bytes that are read is that of all
 same_window : (all window : List ℕ) → window ≡ take window_limit all → window_of (take piece_limit all) ≡ window
@@ -46,20 +46,20 @@ nothing_noted (Some all) offset window w s =
     none ∙ no_notes offset in
     sym (ap (reduced_union []) same)
 
-pub nothing_told : (old : Option (List ℕ)) (offset : ℕ) (window : List ℕ) (told : Report)
+pub nothing_told : (old : Option (List ℕ)) (part offset : ℕ) (window : List ℕ) (told : Report)
     → IfSome old (λ all. window ≡ take window_limit all) → start_in offset window ≡ None
     → told ≡ no_start offset (length window)
-    → IfSome old (λ all. reported offset told ≡ range_report offset (take piece_limit all))
-nothing_told None offset window told w s is = tt
-nothing_told (Some all) offset window told w s is =
+    → IfSome old (λ all. reported part offset told ≡ range_report part offset (take piece_limit all))
+nothing_told None part offset window told w s is = tt
+nothing_told (Some all) part offset window told w s is =
     let bytes = take piece_limit all in
     let same = same_window all window w in
     let none : start_in offset (window_of bytes) ≡ None = ap (start_in offset) same ∙ s in
     let size : length (window_of bytes) ≡ length window = ap length same in
-    let given : range_report offset bytes ≡ reported offset (no_start offset (length (window_of bytes))) =
-    ap (λ (o : Option ℕ). reported (option_map_or (λ p. offset + p) o offset)
+    let given : range_report part offset bytes ≡ reported part offset (no_start offset (length (window_of bytes))) =
+    ap (λ (o : Option ℕ). reported part (option_map_or (λ p. offset + p) o offset)
     (option_map_or (λ p. report_of (offset + p) (drop p bytes)) o (no_start offset (length (window_of bytes))))) none in
-    ap (reported offset) (is ∙ ap (no_start offset) (sym size)) ∙ sym given
+    ap (reported part offset) (is ∙ ap (no_start offset) (sym size)) ∙ sym given
 
 -- of a range without a start no more than its window is read
 pub left_unread : (old new : Option (List ℕ)) (offset : ℕ) (window : List ℕ)
@@ -143,26 +143,26 @@ piece_noted old new chained offset start window begun notes f h =
     k.0 ∙ ap (reduced_union []) (sym (ap (λ (o : Option ℕ).
     notes_in (option_map_or (λ p. offset + p) o offset) (option_map_or (λ p. drop p bytes) o [])) k.1)))
 
-pub piece_told : (old new chained : Option (List ℕ)) (offset start : ℕ) (window begun : List ℕ) (told : Report)
+pub piece_told : (old new chained : Option (List ℕ)) (part offset start : ℕ) (window begun : List ℕ) (told : Report)
     → Found old new chained offset start window begun
     → IfSome chained (λ all. told ≡ report_of (offset + start) (take (piece_limit - start) all))
-    → IfSome old (λ all. reported (offset + start) told ≡ range_report offset (take piece_limit all))
-piece_told old new chained offset start window begun told f h =
+    → IfSome old (λ all. reported part (offset + start) told ≡ range_report part offset (take piece_limit all))
+piece_told old new chained part offset start window begun told f h =
     IfSome_then old (of_range old new chained offset start window begun f
     (λ t. told ≡ report_of (offset + start) t) h) (λ all k.
     let bytes = take piece_limit all in
-    ap (reported (offset + start)) k.0 ∙ sym (ap (λ (o : Option ℕ).
-    reported (option_map_or (λ p. offset + p) o offset)
+    ap (reported part (offset + start)) k.0 ∙ sym (ap (λ (o : Option ℕ).
+    reported part (option_map_or (λ p. offset + p) o offset)
     (option_map_or (λ p. report_of (offset + p) (drop p bytes)) o (no_start offset (length (window_of bytes))))) k.1))
 
 -- a range was taken
-pub range_taken : {R : Type 0} (left : R → Option (List ℕ)) (offset : ℕ) (from : R) (old new : List (List NoteParts))
-    (notes : List NoteParts) (report : PieceReport) (reports more : List PieceReport)
+pub range_taken : {R : Type 0} (left : R → Option (List ℕ)) (part offset : ℕ) (from : R)
+    (old new : List (List NoteParts)) (notes : List NoteParts) (report : PieceReport) (reports more : List PieceReport)
     → IfSome (left from) (λ all. notes ≡ reduced_union [] (range_notes offset (take piece_limit all)))
-    → IfSome (left from) (λ all. report ≡ range_report offset (take piece_limit all))
+    → IfSome (left from) (λ all. report ≡ range_report part offset (take piece_limit all))
     → Adds old notes new → more ≡ reports ++ report ∷ []
-    → Tells left (Range offset from) → TakesPart left (Range offset from) old new reports more
-range_taken left offset from old new notes report reports more h r a m t =
+    → Tells left (Range offset from) → TakesPart left part (Range offset from) old new reports more
+range_taken left part offset from old new notes report reports more h r a m t =
     let k = known (left from) h t in
     let s = told (left from) r t in
     let bytes = piece_of left from in
@@ -184,7 +184,7 @@ range_taken left offset from old new notes report reports more h r a m t =
     known None h t = absurd cc
     known (Some all) h t = h
 
-    told : (o : Option (List ℕ)) → IfSome o (λ all. report ≡ range_report offset (take piece_limit all))
-        → IsSome o → report ≡ range_report offset (take piece_limit (unwrap_or o []))
+    told : (o : Option (List ℕ)) → IfSome o (λ all. report ≡ range_report part offset (take piece_limit all))
+        → IsSome o → report ≡ range_report part offset (take piece_limit (unwrap_or o []))
     told None h t = absurd cc
     told (Some all) h t = h

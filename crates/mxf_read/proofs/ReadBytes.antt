@@ -124,7 +124,8 @@ found_place own x r p e found =
 
 -- so many offsets, and so many others behind them
 range_more : (byte : ℕ → ℕ) (from m n : ℕ)
-    → map byte (range_with_len from m) ++ map byte (range_with_len (from + m) n) ≡ map byte (range_with_len from (m + n))
+    → map byte (range_with_len from m) ++ map byte (range_with_len (from + m) n)
+    ≡ map byte (range_with_len from (m + n))
 range_more byte from zero n =
     let here : from + 0 ≡ from = omega arith in
     let all : n ≡ 0 + n = omega arith in

@@ -46,9 +46,9 @@ saved_refused (Some all) v bytes fault told h e f says =
 
 -- a saved part was taken
 pub saved_taken : {R : Type 0} (left : R → Option (List ℕ)) (from : R) (old new : List (List NoteParts))
-    (notes : List NoteParts) (reports : List PieceReport) → IfSome (left from) (λ all. IsSavedAs all notes)
-    → Adds old notes new → Tells left (Saved from) → TakesPart left (Saved from) old new reports reports
-saved_taken left from old new notes reports h a t =
+    (number : ℕ) (notes : List NoteParts) (reports : List PieceReport) → IfSome (left from) (λ all. IsSavedAs all notes)
+    → Adds old notes new → Tells left (Saved from) → TakesPart left number (Saved from) old new reports reports
+saved_taken left from old new number notes reports h a t =
     let k = known (left from) h t in
     record {
       notes = notes;
@@ -63,20 +63,20 @@ saved_taken left from old new notes reports h a t =
     known (Some all) h t = h
 
 -- a piece was taken
-pub piece_taken : {R : Type 0} (left : R → Option (List ℕ)) (offset : ℕ) (from : R) (old new : List (List NoteParts))
-    (notes : List NoteParts) (report : Report) (reports more : List PieceReport)
+pub piece_taken : {R : Type 0} (left : R → Option (List ℕ)) (part offset : ℕ) (from : R)
+    (old new : List (List NoteParts)) (notes : List NoteParts) (report : Report) (reports more : List PieceReport)
     → IfSome (left from) (λ all. notes ≡ reduced_union [] (notes_in offset (take piece_limit all)))
     → IfSome (left from) (λ all. report ≡ report_of offset (take piece_limit all))
-    → Adds old notes new → more ≡ reports ++ record { offset = offset; report = report } ∷ []
-    → Tells left (Piece offset from) → TakesPart left (Piece offset from) old new reports more
-piece_taken left offset from old new notes report reports more h r a m t =
+    → Adds old notes new → more ≡ reports ++ record { part = part; offset = offset; report = report } ∷ []
+    → Tells left (Piece offset from) → TakesPart left part (Piece offset from) old new reports more
+piece_taken left part offset from old new notes report reports more h r a m t =
     let k = known (left from) h t in
     let s = reported (left from) r t in
     record {
       notes = notes;
       left_by = (Absorb New offset (piece_of left from), ([], Piece offset from, refl, (refl, refl), refl), k);
       added = a;
-      reported = m ∙ ap (λ (x : Report). reports ++ record { offset = offset; report = x } ∷ []) s;
+      reported = m ∙ ap (λ (x : Report). reports ++ record { part = part; offset = offset; report = x } ∷ []) s;
       good = tt;
     }
   where

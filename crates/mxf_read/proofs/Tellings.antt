@@ -1,4 +1,4 @@
--- What a piece tells where no more of its bytes are read: the notes of its packets, and the head of the one that is cut.
+-- What a piece tells after its last byte was read: the notes of its packets, and the head of the one that is cut.
 use Rattle.std.proofs.Common.{◌≡◌, ◌<◌, ℕ, List, [], ◌∷◌, ◌++◌, length, Option, None, Some, true, refl, sym, ap, subst}
 use Rattle.std.proofs.Common.{◌∙◌, arith, append-nil, length-append}
 use Rattle.std.specs.Prelude.{is_some}

@@ -110,7 +110,8 @@ pub record IsCompared (sources : List SourceParts) (places : List Place) (overla
       → DifferAt sources p.source overlap.source x → LiesInOne new x
 
 -- What is noted of overlaps.
-pub record AreCompared (sources : List SourceParts) (places overlaps : List Place) (noted : List Difference) : Type 0 where
+pub record AreCompared (sources : List SourceParts) (places overlaps : List Place) (noted : List Difference)
+    : Type 0 where
   pub sound : AllByRecursion (IsDifferenceOf sources) noted
   pub found : (q : Place) (x : ℕ) (p : Place) → In q overlaps → LiesInPlace q x → In p places → LiesInPlace p x
       → DifferAt sources p.source q.source x → LiesInOne noted x

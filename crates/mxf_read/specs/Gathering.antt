@@ -2,7 +2,7 @@
 -- bytes that it has left, where it tells them.
 use Rattle.std.specs.Prelude.{◌≡◌, ◌≢◌, ℕ, ◌+◌, ◌<◌, ◌≤◌, ◌⊎◌, List, [], ◌∷◌, ◌++◌, length, take, slice_get}
 use Rattle.std.specs.Prelude.{IsSome, unwrap_or, Option, Some}
-use Rattle.std.specs.List.{AllByRecursion, flat_map}
+use Rattle.std.specs.List.{AllByRecursion}
 use Rattle.mxf_klv.specs.Parts.{NoteParts}
 use Rattle.mxf_klv.specs.Rising.{In}
 use Rattle.mxf_klv.specs.PieceReading.{notes_in}
@@ -112,16 +112,22 @@ module _ {R : Type 0} (left : R → Option (List ℕ)) where
   abbrev pub IsLeftBy : List (Part R) → List NoteParts → Type 0
   IsLeftBy parts notes = (h : History) × Gathers h parts × (notes ≡ content h)
 
-  -- What is reported of a part: of a piece its offset, the number of its packets and its stop; of a range that of its
-  -- piece, or that it has no start.
-  abbrev pub reports_in : Part R → List PieceReport
-  reports_in (Piece offset from) = record { offset = offset; report = report_of offset (piece_of from) } ∷ []
-  reports_in (Range offset from) = range_report offset (piece_of from) ∷ []
-  reports_in (Saved from) = []
+  -- What is reported of the part with a number: of a piece its offset, the number of its packets and its stop; of a
+  -- range that of its piece, or that it has no start.
+  abbrev pub reports_in : ℕ → Part R → List PieceReport
+  reports_in part (Piece offset from) =
+      record { part = part; offset = offset; report = report_of offset (piece_of from) } ∷ []
+  reports_in part (Range offset from) = range_report part offset (piece_of from) ∷ []
+  reports_in part (Saved from) = []
 
-  -- The reports of the pieces and ranges, in their order.
+  -- The reports of pieces and ranges, in their order, where the parts are numbered from a number on.
+  abbrev pub reports_from : ℕ → List (Part R) → List PieceReport
+  reports_from number [] = []
+  reports_from number (p ∷ parts) = reports_in number p ++ reports_from (number + 1) parts
+
+  -- The same, from 0 on.
   abbrev pub reports_of : List (Part R) → List PieceReport
-  reports_of parts = flat_map reports_in parts
+  reports_of parts = reports_from 0 parts
 
   -- A saved part is the file of a content, and not too long.
   abbrev pub IsGood : Part R → Type 0
@@ -135,13 +141,14 @@ module _ {R : Type 0} (left : R → Option (List ℕ)) where
   HasFault fault (Range offset from) = IsOfAnyPart fault
   HasFault fault (Saved from) = IsSavedFault (bytes_of from) fault
 
-  -- A part was taken: what it leaves was added to the contents that wait to be merged, and its reports stand behind
-  -- those before.
-  pub record TakesPart (p : Part R) (old new : List (List NoteParts)) (before after : List PieceReport) : Type 0 where
+  -- The part with a number was taken: what it leaves was added to the contents that wait to be merged, and its reports
+  -- stand after those before.
+  pub record TakesPart (number : ℕ) (p : Part R) (old new : List (List NoteParts)) (before after : List PieceReport)
+      : Type 0 where
     pub notes : List NoteParts
     pub left_by : IsLeftBy (p ∷ []) notes
     pub added : Adds old notes new
-    pub reported : after ≡ before ++ reports_in p
+    pub reported : after ≡ before ++ reports_in number p
     pub good : IsGood p
 
   -- The fault is one of the part with its number, and each saved part before it is good.

@@ -102,9 +102,11 @@ range_notes offset bytes = notes_in (piece_offset offset bytes) (piece_bytes off
 abbrev pub no_start : ℕ → ℕ → Report
 no_start offset size = record { noted = 0; stop = NoStart (min (offset + size) (2 ^ 64 - 1)) }
 
--- What is reported of a range: what is of its piece, where that begins; or that it has no start.
-abbrev pub range_report : ℕ → List ℕ → PieceReport
-range_report offset bytes = record {
+-- What is reported of a range that is the part with a number: what is of its piece, where that begins; or that it has
+-- no start.
+abbrev pub range_report : ℕ → ℕ → List ℕ → PieceReport
+range_report part offset bytes = record {
+  part = part;
   offset = piece_offset offset bytes;
   report =
       option_map_or (λ p. report_of (offset + p) (drop p bytes)) (start_in offset (window_of bytes))

@@ -69,16 +69,17 @@ fn read_piece<R: Read>(
     Ok((notes, outcome?))
 }
 
-/// The notes of the piece of a range that a reader gives, and what is reported of it. Behind a window without a start
-/// nothing is read. The window's bytes fill the buffer, which keeps its room for the next range.
+/// The notes of the piece of a range that a reader gives, and what is reported of it as the part with a number. After a
+/// window without a start nothing is read. The window's bytes fill the buffer, which keeps its room for the next range.
 fn read_range<R: Read>(
     alloc: Global,
+    part: usize,
     offset: u64,
     from: &mut R,
     window: &mut Vec<u8>,
 ) -> Result<(Catalogue, PieceReport), PartFault>
     ensures report { IfOk result (λ p. IfSome (R.remaining from.old) (λ all.
-        p.1 ≡ range_report offset (take piece_limit all))) }
+        p.1 ≡ range_report part offset (take piece_limit all))) }
     ensures notes { IfOk result (λ p. IfSome (R.remaining from.old) (λ all.
         p.0 ≡ reduced_union [] (range_notes offset (take piece_limit all)))) }
     ensures left { OnOk result (LeavesTheRest offset (R.remaining from.old) (R.remaining from.new)) }
@@ -87,14 +88,28 @@ fn read_range<R: Read>(
     read_up_to(from, GREATEST_WINDOW, window)?;
     let Some(start) = start_of(offset, window) else {
         let report = no_start(offset, window.len());
-        return Ok((Catalogue::new(alloc), PieceReport { offset, report }));
+        return Ok((
+            Catalogue::new(alloc),
+            PieceReport {
+                part,
+                offset,
+                report,
+            },
+        ));
     };
     let offset = offset + start as u64;
     let begun: &[u8] = &window[start..];
     let mut piece = begun.chain(from);
     let limit = GREATEST_PIECE - start as u64;
     let (notes, report) = read_piece(alloc, offset, &mut piece, limit)?;
-    Ok((notes, PieceReport { offset, report }))
+    Ok((
+        notes,
+        PieceReport {
+            part,
+            offset,
+            report,
+        },
+    ))
 }
 
 /// What is reported of a range without a start, whose window has so many bytes.
@@ -135,16 +150,17 @@ fn read_saved<R: Read>(alloc: Global, from: &mut R) -> Result<Catalogue, PartFau
     }
 }
 
-/// Takes one part: its notes, and the report of a piece or range. The window of a range fills the buffer.
+/// Takes the part with a number: its notes, and the report of a piece or range. The window of a range fills the buffer.
 fn take_part<R: Read + Drop>(
     alloc: Global,
     levels: &mut Levels,
     reports: &mut PieceReports,
     window: &mut Vec<u8>,
+    number: usize,
     part: &mut Part<R>,
 ) -> Result<(), PartFault>
     ensures taken { Tells R.remaining part.old
-        → OnOk result (TakesPart R.remaining part.old levels.old levels.new reports.old reports.new) }
+        → OnOk result (TakesPart R.remaining number part.old levels.old levels.new reports.old reports.new) }
     ensures left { OnOk result (LeavesOfPart R.remaining part.old part.new) }
     ensures fault { Tells R.remaining part.old → IfErr result (λ f. HasFault R.remaining f part.old) }
 {
@@ -153,12 +169,13 @@ fn take_part<R: Read + Drop>(
             let (notes, report) = read_piece(alloc, *offset, from, GREATEST_PIECE)?;
             levels.add(notes)?;
             reports.push(PieceReport {
+                part: number,
                 offset: *offset,
                 report,
             })?;
         }
         Part::Range { offset, from } => {
-            let (notes, report) = read_range(alloc, *offset, from, window)?;
+            let (notes, report) = read_range(alloc, number, *offset, from, window)?;
             levels.add(notes)?;
             reports.push(report)?;
         }
@@ -200,7 +217,14 @@ pub fn gather<R: Read + Drop>(alloc: Global, parts: Vec<Part<R>>) -> Result<Gath
     let mut window = Vec::new(alloc);
     let mut number: usize = 0;
     'parts: for mut part in parts {
-        let taken = take_part(alloc, &mut levels, &mut reports, &mut window, &mut part);
+        let taken = take_part(
+            alloc,
+            &mut levels,
+            &mut reports,
+            &mut window,
+            number,
+            &mut part,
+        );
         drop(part);
         if let Err(fault) = taken {
             return Err(GatherFault {

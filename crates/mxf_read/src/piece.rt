@@ -35,7 +35,8 @@ pub(crate) struct Piece {
 
 impl Piece {
     ghost use Rattle.mxf_read.specs.Coming.{HasCome};
-    ghost use Rattle.mxf_read.specs.Feeding.{Fails, Fed, Feeds, IsFed, Knows, NotesNone, TakesFront, Tells, begun_heads};
+    ghost use Rattle.mxf_read.specs.Feeding.{Fails, Fed, Feeds, IsFed, Knows, NotesNone, TakesFront, Tells};
+    ghost use Rattle.mxf_read.specs.Feeding.{begun_heads};
     ghost use Rattle.mxf_read.specs.Feeding.{waits_for_more};
     ghost use Rattle.mxf_read.specs.Noting.{option_list};
     ghost use Rattle.mxf_read.specs.Absorbs.{report_of};

@@ -172,6 +172,7 @@ const WINDOW: usize = 33_554_432;
 
 /// What is reported of a range at 0 whose window has no start.
 const WITHOUT_A_START: PieceReport = PieceReport {
+    part: 0,
     offset: 0,
     report: Report {
         noted: 0,

@@ -202,7 +202,7 @@ and differ. All others are kept. Each is printed that was dropped.";
 pub fn command<'a>(alloc: Global) -> Result<Command<'a>, AllocError> {
     let tool = Command::new(alloc, "mxf_tool")
         .about("Prints and keeps the structure of MXF files, or of parts of them")
-        .version("1.0.0")
+        .version("1.1.0")
         .after_help(HELP)
         .subcommand_required(true)
         .arg_required_else_help(true);

@@ -1,8 +1,8 @@
 //! What sources hold, each by itself.
-ghost use Rattle.std.specs.Prelude.{◌<◌, ◌++◌, ◌≡◌, [], ◌∷◌, length, IfErr, IfOk, OnOk};
+ghost use Rattle.std.specs.Prelude.{◌<◌, ◌++◌, ◌≡◌, [], ◌∷◌, length, map, IfErr, IfOk, OnOk};
 ghost use Rattle.mxf_views.specs.Headline.{IsTheRun};
-ghost use Rattle.mxf_read.specs.Gathering.{AllTell, HandedBy, Tells};
-ghost use Rattle.mxf_tool.specs.Contents.{AreRuns, TakesAlone};
+ghost use Rattle.mxf_read.specs.Gathering.{AllTell, HandedBy, Tells, reports_in, reports_of};
+ghost use Rattle.mxf_tool.specs.Contents.{AreRuns, TakesAlone, numbered};
 
 use mxf_catalogue::Catalogue;
 use mxf_read::{GatherFault, Gathered, Part, PartFault, PieceReport, gather};
@@ -23,6 +23,8 @@ pub fn gather_each<R: Read + Drop>(
 ) -> Result<Contents, GatherFault>
     ensures runs { AllTell R.remaining parts.items
         → IfOk result (λ c. AreRuns R.remaining parts.items c.contents.items) }
+    ensures reports { AllTell R.remaining parts.items
+        → IfOk result (λ c. c.reports.items ≡ reports_of R.remaining parts.items) }
     ensures number { IfErr result (λ f. f.part < length parts.items) }
 {
     let mut contents = Contents {
@@ -31,7 +33,7 @@ pub fn gather_each<R: Read + Drop>(
     };
     let mut number: usize = 0;
     'parts: for part in parts {
-        if let Err(fault) = take_alone(alloc, &mut contents, part) {
+        if let Err(fault) = take_alone(alloc, &mut contents, number, part) {
             return Err(GatherFault {
                 part: number,
                 fault,
@@ -42,33 +44,40 @@ pub fn gather_each<R: Read + Drop>(
     Ok(contents)
 }
 
-/// Takes what one part holds by itself behind what those before it do.
+/// Takes what the part with a number holds by itself after what those before it do.
 fn take_alone<R: Read + Drop>(
     alloc: Global,
     contents: &mut Contents,
+    number: usize,
     part: Part<R>,
 ) -> Result<(), PartFault>
     ensures { Tells R.remaining part
-        → OnOk result (TakesAlone R.remaining part contents.old.contents.items contents.new.contents.items) }
+        → OnOk result (TakesAlone R.remaining number part contents.old.contents.items contents.new.contents.items
+        contents.old.reports.items contents.new.reports.items) }
 {
     let gathered = gather_one(alloc, part)?;
-    keep(contents, gathered)?;
+    keep(contents, number, gathered)?;
     Ok(())
 }
 
-/// Keeps what a part holds behind what those before it do.
-fn keep(contents: &mut Contents, gathered: Gathered) -> Result<(), AllocError>
-    ensures { OnOk result (contents.new.contents.items ≡ contents.old.contents.items ++ gathered.views ∷ []) }
+/// Keeps what the part with a number holds after what those before it do.
+fn keep(contents: &mut Contents, number: usize, gathered: Gathered) -> Result<(), AllocError>
+    ensures contents { OnOk result
+        (contents.new.contents.items ≡ contents.old.contents.items ++ gathered.views ∷ []) }
+    ensures reports { OnOk result
+        (contents.new.reports.items ≡ contents.old.reports.items ++ map (numbered number) gathered.reports) }
 {
     let Gathered { views, reports } = gathered;
-    push_all(&mut contents.reports, reports.as_slice())?;
+    push_all(&mut contents.reports, number, reports.as_slice())?;
     contents.contents.push(views.into_catalogue())?;
     Ok(())
 }
 
-/// What one part holds by itself.
+/// What one part holds by itself, and what is reported of it as the part with the number 0.
 pub fn gather_one<R: Read + Drop>(alloc: Global, part: Part<R>) -> Result<Gathered, PartFault>
-    ensures { Tells R.remaining part → IfOk result (λ g. IsTheRun (HandedBy R.remaining (part ∷ [])) g.views) }
+    ensures run { Tells R.remaining part
+        → IfOk result (λ g. IsTheRun (HandedBy R.remaining (part ∷ [])) g.views) }
+    ensures reports { Tells R.remaining part → IfOk result (λ g. g.reports ≡ reports_in R.remaining 0 part) }
 {
     let mut parts = Vec::new(alloc);
     parts.push(part)?;
@@ -78,10 +87,18 @@ pub fn gather_one<R: Read + Drop>(alloc: Global, part: Part<R>) -> Result<Gather
     }
 }
 
-/// Puts reports behind others.
-fn push_all(all: &mut Vec<PieceReport>, reports: &[PieceReport]) -> Result<(), AllocError> {
-    for report in reports {
-        all.push(*report)?;
-    }
-    Ok(())
+/// Puts reports after others, as those of the part with a number.
+fn push_all(
+    all: &mut Vec<PieceReport>,
+    number: usize,
+    reports: &[PieceReport],
+) -> Result<(), AllocError>
+    ensures { OnOk result (all.new.items ≡ all.old.items ++ map (numbered number) reports.now) }
+{
+    all.extend(
+        reports.iter().map(|report| PieceReport {
+            part: number,
+            ..*report
+        }),
+    )
 }

@@ -8,7 +8,7 @@ ghost use Rattle.mxf_lines.specs.FindingLines.{count_line, finding_line, stop_li
 ghost use Rattle.mxf_lines.specs.Printing.{Prints};
 
 use super::AnswerFault;
-use super::line::write_stop;
+use super::line::{source_of, write_stop};
 use super::lines::{Each, FieldWriter, Line, Lines, Printer, Series, Then, print_with_status};
 use mxf_klv::Stop;
 use mxf_read::{Gathered, PieceReport};
@@ -43,18 +43,19 @@ fn all_end(reports: &[PieceReport]) -> bool
     reports.iter().all(|piece| is_end(piece.report.stop))
 }
 
-/// Where a piece begins that doesn't end with a packet, in bytes, and why it ends.
+/// Where a piece begins that doesn't end with a packet, in bytes, why it ends, and of which source it is.
 #[derive(Clone, Copy)]
 pub struct StopLine(PieceReport);
 
 impl Line for StopLine {
-    ghost line = { λ l. stop_line l.0.offset l.0.report.stop };
+    ghost line = { λ l. stop_line l.0 };
 
     #[tactic(auto, unfolding(crate::specs::FindingLines::stop_line))]
     fn write_fields(&self, fields: &mut FieldWriter) -> Result<(), AllocError> {
         fields.begin("stop", "stop")?;
         fields.number(" ", "offset", self.0.offset)?;
         write_stop(fields, " ", self.0.report.stop)?;
+        fields.number_member("source", source_of(&self.0))?;
         fields.end("")
     }
 }

@@ -14,7 +14,7 @@ pub use copy::PreferredLine;
 pub use item::ItemLine;
 pub use note::{NoteLines, write_note_fields};
 pub use partition::PartitionLines;
-pub use piece::{JoinLine, write_stop};
+pub use piece::{JoinLine, source_of, write_stop};
 pub use record::{IdentificationLines, Named, Owner, PackageLines};
 use std::alloc::AllocError;
 use std::io::Write;

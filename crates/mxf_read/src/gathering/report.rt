@@ -6,9 +6,12 @@ use mxf_klv::OutOfMemory;
 use std::alloc::Global;
 use std::marker::Model;
 
-/// What was noted of the piece at an offset, in bytes.
+/// What was noted of a piece.
 #[derive(Clone, Copy, Debug, PartialEq, Eq)]
 pub struct PieceReport {
+    /// The number of the part whose piece it is, among those of a run, counted from 0.
+    pub part: usize,
+    /// The file offset of the piece's first byte.
     pub offset: u64,
     pub report: Report,
 }

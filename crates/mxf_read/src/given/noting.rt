@@ -24,8 +24,8 @@ pub struct Reading {
 }
 
 impl Given {
-    /// Notes the packets of the bytes from file offset `from` up to `to`, all of which sources give, by the path of every
-    /// piece. They take memory.
+    /// Notes the packets of the bytes from file offset `from` up to `to`, all of which sources give, by the path of
+    /// every piece. They take memory.
     ///
     /// At most 65,536 bytes are read at a time. Where key and length of a packet have come that goes on behind `to`, no
     /// more is read, nor behind a place where the piece stops.

@@ -9,8 +9,8 @@ use mxf_catalogue::{Cover, Run};
 use mxf_klv::OutOfMemory;
 use std::alloc::Global;
 
-/// The offsets of a cover that aren't in another. They take memory; the time is that of the runs of the first, each with
-/// two binary searches, and of the runs of the other.
+/// The offsets of a cover that aren't in another. They take memory; the time is that of the runs of the first, each
+/// with two binary searches, and of the runs of the other.
 pub(super) fn outside(alloc: Global, cover: &Cover, holes: &Cover) -> Result<Cover, OutOfMemory>
     requires { IsCover holes.now }
     ensures offsets { IfOk result (λ c. (x : ℕ) → LiesIn c x ↔ (LiesIn cover.now x × ¬ LiesIn holes.now x)) }

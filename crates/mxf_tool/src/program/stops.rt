@@ -92,12 +92,9 @@ pub fn tell_stops<R: Files + Eprint + AllocGlobal>(
     reports: &[PieceReport],
     with_stops: bool,
 ) -> Result<(), AllocError> {
-    let mut reports = reports.iter();
-    for source in sources {
-        if let Source::Piece { .. } | Source::Range { .. } = source {
-            if let Some(report) = reports.next() {
-                tell_stop(rt, *source, report, with_stops)?;
-            }
+    for report in reports {
+        if let Some(source) = sources.get(report.part) {
+            tell_stop(rt, *source, report, with_stops)?;
         }
     }
     Ok(())

@@ -24,9 +24,16 @@ pub fn write_stop(fields: &mut FieldWriter, before: &str, stop: Stop) -> Result<
     }
 }
 
-/// A piece: its offset in bytes, the number of its whole packets, and why they end.
+/// The number of the source whose piece was reported, counted from 1.
+pub fn source_of(report: &PieceReport) -> u128
+    ensures { result ≡ report.now.part + 1 }
+{
+    report.part as u128 + 1
+}
+
+/// A piece: its offset in bytes, the number of its whole packets, why they end, and of which source it is.
 impl Line for PieceReport {
-    ghost line = { λ r. piece_line r.offset r.report.noted r.report.stop };
+    ghost line = { piece_line };
 
     #[tactic(auto, unfolding(crate::specs::Lines::piece_line))]
     fn write_fields(&self, fields: &mut FieldWriter) -> Result<(), AllocError> {
@@ -34,6 +41,7 @@ impl Line for PieceReport {
         fields.number(" ", "offset", self.offset)?;
         fields.number(" noted ", "noted", self.report.noted)?;
         write_stop(fields, " stop ", self.report.stop)?;
+        fields.number_member("source", source_of(self))?;
         fields.end("")
     }
 }

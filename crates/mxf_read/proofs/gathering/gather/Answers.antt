@@ -42,12 +42,14 @@ parts-preserved g c =
 pub returns-then-number-eq0-clause-run : goal.returns-then-number-eq0-clause-run
 returns-then-number-eq0-clause-run g c t =
     gathered_nothing g.R.Read.remaining c.args.parts.items (into_iter_items c.parts.part-iterator) c.parts.number _
-    c.parts.invariant.passed (sym c.parts.part-iterator.rest.ok.0 ∙ c.in-None.ensures.steps.0) c.if-number-eq0.true c.new.ensures
+    c.parts.invariant.passed (sym c.parts.part-iterator.rest.ok.0 ∙ c.in-None.ensures.steps.0) c.if-number-eq0.true
+    c.new.ensures
 
 pub returns-then-number-eq0-clause-history : goal.returns-then-number-eq0-clause-history
 returns-then-number-eq0-clause-history g c t =
     nothing_left g.R.Read.remaining c.args.parts.items (into_iter_items c.parts.part-iterator) c.parts.number _
-    c.parts.invariant.passed (sym c.parts.part-iterator.rest.ok.0 ∙ c.in-None.ensures.steps.0) c.if-number-eq0.true c.new.ensures
+    c.parts.invariant.passed (sym c.parts.part-iterator.rest.ok.0 ∙ c.in-None.ensures.steps.0) c.if-number-eq0.true
+    c.new.ensures
 
 pub returns-in-Ok-clause-history : goal.returns-in-Ok-clause-history
 returns-in-Ok-clause-history g c t =

@@ -3,7 +3,8 @@ use Rattle.mxf_klv.specs.Parts.{NoteParts}
 use Rattle.mxf_catalogue.specs.Content.{reduced_union}
 use Rattle.mxf_read.specs.Gathering.{piece_limit}
 use Rattle.mxf_read.specs.Ranges.{no_start, range_notes, start_in}
-use Rattle.mxf_read.proofs.RangeLaws.{found, left_unread, nothing_noted, nothing_told, piece_noted, piece_told, start_left}
+use Rattle.mxf_read.proofs.RangeLaws.{found, left_unread, nothing_noted, nothing_told, piece_noted, piece_told}
+use Rattle.mxf_read.proofs.RangeLaws.{start_left}
 use Rattle.mxf_read.proofs.gathering.read_range.Goals as goal
 
 pub returns-in_default-clause-report : goal.returns-in_default-clause-report
@@ -11,7 +12,7 @@ returns-in_default-clause-report g c =
     let window = c.read_up_to.new.bytes.items in
     let none : start_in c.args.offset window ≡ None =
     ap (start_in c.args.offset) (sym c.deref.ensures.value) ∙ sym c.start_of.ensures.start ∙ c.in_default.is in
-    nothing_told (g.R.Read.remaining c.args.from.now) c.args.offset window c.no_start-report.result
+    nothing_told (g.R.Read.remaining c.args.from.now) c.args.part c.args.offset window c.no_start-report.result
     c.in_ok-read_up_to.ensures.bytes none (c.no_start-report.ensures ∙ ap (no_start c.args.offset) (c.len.ensures
     ∙ sym c.deref.ensures.len ∙ ap length c.deref.ensures.value))
 
@@ -32,17 +33,20 @@ returns-in_default-clause-left g c =
 pub returns-clause-report : goal.returns-clause-report
 returns-clause-report g c =
     let found = found (g.R.Read.remaining c.args.from.now) (g.R.Read.remaining c.read_up_to.new.from) _ c.args.offset
-    c.in-Some.start c.read_up_to.new.bytes.items c.deref.result.now c.deref-2.result.now c.in_ok-read_up_to.ensures.bytes
-    c.in_ok-read_up_to.ensures.left c.in_ok-read_up_to.ensures.bound c.deref.ensures.value
+    c.in-Some.start c.read_up_to.new.bytes.items c.deref.result.now c.deref-2.result.now
+    c.in_ok-read_up_to.ensures.bytes c.in_ok-read_up_to.ensures.left c.in_ok-read_up_to.ensures.bound
+    c.deref.ensures.value
     (sym c.start_of.ensures.start ∙ c.in-Some.is) c.in-Some.ensures.within.0 c.deref-2.ensures.value
     c.chain-piece.ensures.bytes in
-    piece_told _ _ _ c.args.offset c.in-Some.start _ _ c.in_ok-notes.report found c.in_ok-notes.ensures.report
+    piece_told _ _ _ c.args.part c.args.offset c.in-Some.start _ _ c.in_ok-notes.report found
+    c.in_ok-notes.ensures.report
 
 pub returns-clause-notes : goal.returns-clause-notes
 returns-clause-notes g c =
     let found = found (g.R.Read.remaining c.args.from.now) (g.R.Read.remaining c.read_up_to.new.from) _ c.args.offset
-    c.in-Some.start c.read_up_to.new.bytes.items c.deref.result.now c.deref-2.result.now c.in_ok-read_up_to.ensures.bytes
-    c.in_ok-read_up_to.ensures.left c.in_ok-read_up_to.ensures.bound c.deref.ensures.value
+    c.in-Some.start c.read_up_to.new.bytes.items c.deref.result.now c.deref-2.result.now
+    c.in_ok-read_up_to.ensures.bytes c.in_ok-read_up_to.ensures.left c.in_ok-read_up_to.ensures.bound
+    c.deref.ensures.value
     (sym c.start_of.ensures.start ∙ c.in-Some.is) c.in-Some.ensures.within.0 c.deref-2.ensures.value
     c.chain-piece.ensures.bytes in
     piece_noted _ _ _ c.args.offset c.in-Some.start _ _ c.in_ok-notes.notes found c.in_ok-notes.ensures.notes

@@ -4,7 +4,8 @@ use Rattle.mxf_read.proofs.gathering.read_saved.Goals as goal
 
 pub returns-then-len-gt-GREATEST_SAVED-clause-fault : goal.returns-then-len-gt-GREATEST_SAVED-clause-fault
 returns-then-len-gt-GREATEST_SAVED-clause-fault g c =
-    too_long (g.R.Read.remaining c.args.from.now) c.read_up_to.new.bytes.items c.in_ok-read_up_to.ensures.bytes (omega arith)
+    too_long (g.R.Read.remaining c.args.from.now) c.read_up_to.new.bytes.items c.in_ok-read_up_to.ensures.bytes
+    (omega arith)
 
 pub returns-in-Ok-clause-saved : goal.returns-in-Ok-clause-saved
 returns-in-Ok-clause-saved g c =

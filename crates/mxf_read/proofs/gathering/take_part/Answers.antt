@@ -9,9 +9,10 @@ pub returns-in_ok-push-in-Piece-clause-taken : goal.returns-in_ok-push-in-Piece-
 returns-in_ok-push-in-Piece-clause-taken g c =
     let left = g.R.Read.remaining in
     subst (λ (p : Part _). Tells left p
-    → TakesPart left p c.args.levels.now c.add.new.self c.args.reports.now c.push.new.self)
+    → TakesPart left c.args.number p c.args.levels.now c.add.new.self c.args.reports.now c.push.new.self)
     (sym c.in-Piece.is)
-    (piece_taken left c.in-Piece.offset c.in-Piece.from c.args.levels.now c.add.new.self c.in_ok-notes-in-Piece.notes
+    (piece_taken left c.args.number c.in-Piece.offset c.in-Piece.from c.args.levels.now c.add.new.self
+    c.in_ok-notes-in-Piece.notes
     c.in_ok-notes-in-Piece.report c.args.reports.now c.push.new.self
     c.in_ok-notes-in-Piece.ensures.notes c.in_ok-notes-in-Piece.ensures.report c.in_ok-add-in-Piece.ensures
     c.in_ok-push-in-Piece.ensures)
@@ -20,9 +21,10 @@ pub returns-in_ok-push-in-Range-clause-taken : goal.returns-in_ok-push-in-Range-
 returns-in_ok-push-in-Range-clause-taken g c =
     let left = g.R.Read.remaining in
     subst (λ (p : Part _). Tells left p
-    → TakesPart left p c.args.levels.now c.add-in-Range.new.self c.args.reports.now c.push-in-Range.new.self)
+    → TakesPart left c.args.number p c.args.levels.now c.add-in-Range.new.self c.args.reports.now
+    c.push-in-Range.new.self)
     (sym c.in-Range.is)
-    (range_taken left c.in-Range.offset c.in-Range.from c.args.levels.now c.add-in-Range.new.self
+    (range_taken left c.args.number c.in-Range.offset c.in-Range.from c.args.levels.now c.add-in-Range.new.self
     c.in_ok-notes-in-Range.notes c.in_ok-notes-in-Range.report c.args.reports.now c.push-in-Range.new.self
     c.in_ok-notes-in-Range.ensures.notes c.in_ok-notes-in-Range.ensures.report c.in_ok-add-in-Range.ensures
     c.in_ok-push-in-Range.ensures)
@@ -32,6 +34,7 @@ returns-in_ok-add-in-Saved-clause-taken g c =
     let left = g.R.Read.remaining in
     let reports = c.args.reports.now in
     subst (λ (p : Part _). Tells left p
-    → TakesPart left p c.args.levels.now c.add-in-Saved.new.self reports reports) (sym c.in-Saved.is)
-    (saved_taken left c.in-Saved.from c.args.levels.now c.add-in-Saved.new.self c.in_ok-saved-in-Saved.saved reports
+    → TakesPart left c.args.number p c.args.levels.now c.add-in-Saved.new.self reports reports) (sym c.in-Saved.is)
+    (saved_taken left c.in-Saved.from c.args.levels.now c.add-in-Saved.new.self c.args.number
+    c.in_ok-saved-in-Saved.saved reports
     c.in_ok-saved-in-Saved.ensures.saved c.in_ok-add-in-Saved.ensures)

@@ -10,7 +10,8 @@ returns-in-Err-clause-bytes g c =
     let (done, counted, consumed, fed, repeats, grows, reads) = c.reads.invariant in
     let (some, within, more) = c.in-Took.ensures.bytes in
     let taken = take c.in-Took.count c.read_once.new.room in
-    let fails = subst (Fails c.reads.piece c.feed.new.self) (take-append-le c.in-Took.count c.read_once.new.room _ within)
+    let fails = subst (Fails c.reads.piece c.feed.new.self) (take-append-le c.in-Took.count c.read_once.new.room _
+    within)
     c.in-Err.ensures.err in
     let count = length-take c.in-Took.count c.read_once.new.room in
     let room = length-take c.min-room.result c.reads.buffer in (
@@ -27,7 +28,8 @@ reads-preserved-in-Took-1 g c =
     let (done, counted, consumed, fed, repeats, grows, reads) = c.reads.invariant in
     let (some, within, more) = c.in-Took.ensures.bytes in
     let taken = take c.in-Took.count c.read_once.new.room in
-    let feeds = subst (Feeds c.reads.piece c.feed.new.self) (take-append-le c.in-Took.count c.read_once.new.room _ within)
+    let feeds = subst (Feeds c.reads.piece c.feed.new.self) (take-append-le c.in-Took.count c.read_once.new.room _
+    within)
     c.in-Ok.ensures.fed in
     let count = length-take c.in-Took.count c.read_once.new.room in
     let room = length-take c.min-room.result c.reads.buffer in

@@ -1,8 +1,9 @@
-use Rattle.std.proofs.Common.{◌≡◌, ◌∙◌, List, length, subst, sym}
+use Rattle.std.proofs.Common.{◌≡◌, ◌∙◌, List, [], length, subst, sym}
 use Rattle.std.specs.Vec.Iter.{into_iter_items}
 use Rattle.mxf_klv.specs.Parts.{NoteParts}
+use Rattle.mxf_read.specs.declared.gathering.report.PieceReport.{PieceReport}
 use Rattle.mxf_read.proofs.GatheringLaws.{IsPassed, passed_none, passed_one, told}
-use Rattle.mxf_tool.proofs.ContentsLaws.{AreTaken, taken_all, taken_none, taken_one}
+use Rattle.mxf_tool.proofs.ContentsLaws.{AreTaken, reported_all, taken_all, taken_none, taken_one}
 use Rattle.mxf_tool.proofs.contents.gather_each.Goals as goal
 
 pub parts-init : goal.parts-init
@@ -13,9 +14,11 @@ parts-init g c =
     c.into_iter-part-iterator.ensures.into_iter_gives.0 in
     record {
       passed = subst (IsPassed all 0) (sym is) (passed_none all);
-      taken = λ t. subst (λ (l : List _). AreTaken left all 0 l c.new.result.items) (sym is)
-          (subst (λ (held : List (List NoteParts)). AreTaken left all 0 all held) (sym c.new.ensures.items)
-          (taken_none left all));
+      taken = λ t. subst (λ (l : List _). AreTaken left all 0 l c.new.result.items c.new-2.result.items) (sym is)
+          (subst (λ (held : List (List NoteParts)). AreTaken left all 0 all held c.new-2.result.items)
+          (sym c.new.ensures.items)
+          (subst (λ (held : List PieceReport). AreTaken left all 0 all [] held) (sym c.new-2.ensures.items)
+          (taken_none left all)));
     }
 
 pub parts-preserved : goal.parts-preserved
@@ -26,7 +29,7 @@ parts-preserved g c =
     let next = c.in-Some.ensures.steps.0 in
     record {
       passed = passed_one all _ _ c.in-Some.part c.parts.number i.passed next;
-      taken = λ t. taken_one left all _ _ c.in-Some.part c.parts.number _ _ (i.taken t) next
+      taken = λ t. taken_one left all _ _ c.in-Some.part c.parts.number _ _ _ _ (i.taken t) next
           (c.in_default.ensures (told left all _ _ c.in-Some.part c.parts.number i.passed next t));
     }
 
@@ -35,4 +38,11 @@ returns-clause-runs g c t =
     let none : length (into_iter_items c.parts.part-iterator) ≡ 0 =
     sym c.parts.part-iterator.rest.ok.0 ∙ c.in-None.ensures.steps.0 in
     taken_all g.R.Read.remaining c.args.parts.items (into_iter_items c.parts.part-iterator) c.parts.number
-    c.parts.contents.contents.items (c.parts.invariant.taken t) none
+    c.parts.contents.contents.items c.parts.contents.reports.items (c.parts.invariant.taken t) none
+
+pub returns-clause-reports : goal.returns-clause-reports
+returns-clause-reports g c t =
+    let none : length (into_iter_items c.parts.part-iterator) ≡ 0 =
+    sym c.parts.part-iterator.rest.ok.0 ∙ c.in-None.ensures.steps.0 in
+    reported_all g.R.Read.remaining c.args.parts.items (into_iter_items c.parts.part-iterator) c.parts.number
+    c.parts.contents.contents.items c.parts.contents.reports.items (c.parts.invariant.taken t) none

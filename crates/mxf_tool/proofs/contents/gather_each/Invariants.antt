@@ -10,5 +10,5 @@ invariant-parts g l = record {
   passed : IsPassed l.fn.parts.items l.number (into_iter_items l.part-iterator);
   taken : AllTell g.R.Read.remaining l.fn.parts.items
       → AreTaken g.R.Read.remaining l.fn.parts.items l.number (into_iter_items l.part-iterator)
-      l.contents.contents.items;
+      l.contents.contents.items l.contents.reports.items;
 }

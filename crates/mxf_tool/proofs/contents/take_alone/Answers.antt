@@ -1,8 +1,11 @@
+use Rattle.mxf_tool.proofs.ContentsLaws.{numbered_reports}
 use Rattle.mxf_tool.proofs.contents.take_alone.Goals as goal
 
 pub returns : goal.returns
 returns g c t = record {
   content = c.in_ok-gathered.gathered.views;
-  run = c.in_ok-gathered.ensures t;
-  added = c.in_ok-keep.ensures;
+  run = c.in_ok-gathered.ensures.run t;
+  added = c.in_ok-keep.ensures.contents;
+  reported = numbered_reports g.R.Read.remaining c.args.number c.args.part _ _ _ (c.in_ok-gathered.ensures.reports t)
+      c.in_ok-keep.ensures.reports;
 }

@@ -10,7 +10,8 @@ use Rattle.mxf_read.proofs.given.Given.packet_of.Goals as goal
 pub unwrap-ber-requires : goal.unwrap-ber-requires
 unwrap-ber-requires g c =
     some_where c.new.result _ _ c.new.ensures
-    (can_spell c.args.head.now c.width.result c.length.result c.offset-offset.ensures.note c.width.ensures c.length.ensures)
+    (can_spell c.args.head.now c.width.result c.length.result c.offset-offset.ensures.note c.width.ensures
+    c.length.ensures)
 
 pub returns-clause-note : goal.returns-clause-note
 returns-clause-note g c = λ given byte are of.

@@ -1,4 +1,5 @@
-use Rattle.std.proofs.Common.{◌∙◌, ◌+◌, ◌-◌, ◌++◌, List, ℕ, Option, arith, inr, length, length-append, length-take, refl, subst}
+use Rattle.std.proofs.Common.{◌∙◌, ◌+◌, ◌-◌, ◌++◌, List, ℕ, Option, arith, inr, length, length-append, length-take}
+use Rattle.std.proofs.Common.{refl, subst}
 use Rattle.std.proofs.Common.{sym, take}
 use Rattle.std.proofs.lemmas.List.{take-append-le}
 use Rattle.std.specs.Prelude.{IfSome}
@@ -22,9 +23,11 @@ reads-preserved g c =
     let both = length-append (take filled room) (new ++ rest) in
     let more = length-append new rest in
     let told = c.reads.invariant.told in
-    let there = subst (λ (t : Option (List SourceParts)). IfSome t (λ given. StandAt given number from (take count new)))
+    let there = subst (λ (t : Option (List SourceParts)). IfSome t
+    (λ given. StandAt given number from (take count new)))
     told stands in
-    let here = subst (λ (l : List ℕ). IfSome (g.S.Sources.told c.args.sources.now) (λ given. StandAt given number from l))
+    let here = subst (λ (l : List ℕ). IfSome (g.S.Sources.told c.args.sources.now)
+    (λ given. StandAt given number from l))
     (sym (take-append-le count new rest within)) there in record {
       within = omega (arith, front, both, more, held, within);
       told = c.in_ok-filled.ensures.told ∙ told;

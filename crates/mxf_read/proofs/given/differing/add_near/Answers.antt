@@ -5,7 +5,8 @@ use Rattle.mxf_read.specs.Differing.{difference}
 use Rattle.mxf_read.specs.declared.given.differing.Difference.{Difference}
 use Rattle.mxf_read.proofs.DifferingLaws.{with_near_behind, with_near_first, with_near_grown}
 use Rattle.mxf_read.proofs.given.differing.add_near.Goals as goal
-use Rattle.mxf_read.proofs.given.differing.add_near.Goals.{in_default-via-in-Some+else-is_near, in_default-via-in_default}
+use Rattle.mxf_read.proofs.given.differing.add_near.Goals.{in_default-via-in-Some+else-is_near}
+use Rattle.mxf_read.proofs.given.differing.add_near.Goals.{in_default-via-in_default}
 
 pub returns-in-Some-clause-added : goal.returns-in-Some-clause-added
 returns-in-Some-clause-added c =

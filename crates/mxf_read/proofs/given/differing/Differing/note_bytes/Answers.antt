@@ -10,7 +10,8 @@ pub returns : goal.returns
 returns c =
     let bytes = c.args.bytes.now in
     let others = c.args.others.now in
-    let all = zip_end bytes others c.loop-byte.yielded c.into_iter-byte-iterator.result c.loop-byte.byte-iterator c.next.new.self c.next.result (cc) (cc) c.loop-byte.yielded_by c.in-None.is
+    let all = zip_end bytes others c.loop-byte.yielded c.into_iter-byte-iterator.result c.loop-byte.byte-iterator
+    c.next.new.self c.next.result (cc) (cc) c.loop-byte.yielded_by c.in-None.is
     c.next.ensures.steps in
     sym (bytes_ended c.loop-byte.self c.loop-byte.at (length c.loop-byte.yielded) bytes others all)
     ∙ c.loop-byte.invariant.all
