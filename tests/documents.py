@@ -318,21 +318,12 @@ def formats_statuses():
 
 def formats_commands_of_1():
     """The commands that can end with status 1, by docs/FORMATS.md."""
-    means = next(row[1] for row in rows_below("Status") if row[0] == "1")
-    return {word: True for word in re.findall(r"`(\w+)(?: --strict)?`(?::| and)", means)}
+    return dict.fromkeys(words_below(r"Command \| Status 1"), True)
 
 
 def man_commands_of_1():
     """The commands that can end with status 1, by the man page."""
     return {word: True for word in re.findall(r"^(\w+)(?: --strict)?[:,]", man_statuses().get("1", ""), re.MULTILINE)}
-
-
-def guide_commands_of_1():
-    """The commands that can end with status 1, by the table of the guide."""
-    rows = [line.split("|")[1:-1] for line in lines_of(TOP / GUIDE) if re.match(r"\| (Status|1) \|", line)]
-    header, cells = rows if len(rows) == 2 else ((), ())
-    told = (name for name, cell in zip(header, cells) if cell.strip())
-    return {word: True for cell in told for word in re.findall(r"`(\w+)`", cell)}
 
 
 def formats_faults():
@@ -426,7 +417,6 @@ def retold():
         ("status", formats_statuses(), MAN, dict.fromkeys(man_statuses(), True)),
         ("status", formats_statuses(), exits, all_of(r"Exit::\w+ => (\d)", text_of(TOP / exits))),
         ("command of status 1", formats_commands_of_1(), MAN, man_commands_of_1()),
-        ("command of status 1", formats_commands_of_1(), GUIDE, guide_commands_of_1()),
         ("status of", formats_faults(), MAN, man_faults()),
         ("status of", formats_faults_named(GUIDE), GUIDE, faults_with_status(GUIDE)),
         ("word of", formats_words(), MAN, man_words()),
