@@ -7,8 +7,9 @@ block that names a file of crates/ stands in it. Sees that each row of a table s
 would end, and that the numbers of tests, edits, runs and files that a document gives are those of the scripts and
 crates. Looks up in docs/MODEL.md each definition that a clause of a public function of the libraries cites, and compares
 the table of docs/LAYERS.md with crates.txt. Compares each page of docs/api with what tests/api_pages.py makes of the
-sources, and what docs/FORMATS.md owns (exit statuses, stops, forms of a source, findings, words of lines) with README.md,
-docs/GUIDE.md, the man page and the sources that say it too. Only failures are printed; the last line is 'N passed, M failed'.
+sources, and what docs/FORMATS.md owns (exit statuses, stops, forms of a source, findings, words of lines) with what
+README.md, docs/GUIDE.md, the man page and the sources say of it. Only failures are printed; the last line is 'N passed, M
+failed'.
 """
 import ast
 import itertools
@@ -272,8 +273,11 @@ MAN = "docs/mxf_tool.1"
 GUIDE = "docs/GUIDE.md"
 README = "README.md"
 SOURCE_FORM = r"[a-z]+:(?:OFFSET:)?PATH"
-# Tables of docs/FORMATS.md of which the man page has each word of the first column.
-WORDS_OF_THE_MAN_PAGE = ("STOP", "STANDING", "REASON", "LINK", "TARGET", "WORD", "Character")
+# Tables of docs/FORMATS.md of which the man page has each word of the first column, in bold, in one of these sections.
+WORDS_OF_THE_MAN_PAGE = {
+    "STOP": ("show",), "LINK": ("show",), "TARGET": ("show",), "STANDING": ("units",), "REASON": ("plan",),
+    "Character": ("map",), "WORD": ("verify", "units"),
+}  # fmt: skip
 
 
 def rows_below(header):
@@ -329,8 +333,8 @@ def man_commands_of_1():
 def formats_faults():
     """The status of each line of a fault, by docs/FORMATS.md, without the place or the path in it. Those of refused
     arguments aren't retold, nor those that `clap` keeps from being seen."""
-    rows = [row for row in rows_below("Line") if len(row) == 3 and row[2].isdigit() and "refuses it first" not in row[1]]
-    lines = ((re.match(r"`(?!error:|clap)([a-z ]+:?)", row[0]), row[2]) for row in rows)
+    rows = (row for row in rows_below("Line") if row[-1].isdigit() and "refuses it first" not in row[1])
+    lines = ((re.match(r"`(?!error:|clap)([a-z ]+:?)", row[0]), row[-1]) for row in rows)
     return {line[1].strip(): status for line, status in lines if line}
 
 
@@ -352,21 +356,22 @@ def formats_faults_named(document):
     return {fault: known.get(fault, set()) for fault in faults_with_status(document)}
 
 
-def has_word(text, word):
-    """Whether a word stands in a text, by itself."""
-    return re.search(rf"(?<![\w-]){re.escape(word)}(?![\w-])", text) is not None
-
-
 def formats_words():
     """The words of the tables of docs/FORMATS.md that the man page has too."""
     return {f"{header}: {word}": True for header in WORDS_OF_THE_MAN_PAGE for word in words_below(header)}
 
 
+def bold_in(section):
+    """The words in bold of a section of the man page on lines that are printed, without what stands with them."""
+    text = text_of(TOP / MAN).split(f"\n.SS {section}\n")[-1].split("\n.S")[0].replace("\\-", "-")
+    return set(re.findall(r"^\.B[RI]? ([^\s\\]+)", text, re.MULTILINE)) | set(re.findall(r"\\fB([^\s\\]+)", text))
+
+
 def man_words():
     """Those of them that the man page has, and what it has beside them as a stop."""
-    text = plain_man_page()
-    there = {name: True for name in formats_words() if has_word(text, name.split(": ")[1])}
-    return there | {f"STOP: {word}": True for word in re.findall(r"([a-z-]+) AT\b(?! )", text)}
+    bold = {header: set().union(*map(bold_in, sections)) for header, sections in WORDS_OF_THE_MAN_PAGE.items()}
+    there = {f"{header}: {word}": True for header in bold for word in words_below(header) & bold[header]}
+    return there | {f"STOP: {word}": True for word in re.findall(r"([a-z-]+) AT\b(?! )", plain_man_page())}
 
 
 def formats_stops():
@@ -411,7 +416,8 @@ def pairs_of(pattern, text):
 def retold():
     """What docs/FORMATS.md owns and something else retells: its name, what docs/FORMATS.md has, where it is retold, and
     what stands there."""
-    stops, codes, exits = "crates/mxf_klv/src/piece.rt", "crates/mxf_views/src/finding.rt", "crates/mxf_tool/src/exit.rt"
+    stops, codes = "crates/mxf_klv/src/piece.rt", "crates/mxf_views/src/finding.rt"
+    exits = "crates/mxf_tool/src/exit.rt"
     guide, man = text_of(TOP / GUIDE), plain_man_page()
     return (
         ("status", formats_statuses(), MAN, dict.fromkeys(man_statuses(), True)),
@@ -432,8 +438,8 @@ def retold():
 
 
 def verdicts_of_facts(document):
-    """For each fact of docs/FORMATS.md that is retold: that something else says it otherwise, or None. A kind of fact that
-    isn't found at all is a failure too."""
+    """For each fact of docs/FORMATS.md that is retold: that something else says it otherwise, or None. A kind of fact
+    that isn't found at all is a failure too."""
     if document != FORMATS:
         return
     for name, owned, file, there in retold():
