@@ -279,6 +279,14 @@ WORDS_OF_THE_MAN_PAGE = {
     "Character": ("map",), "WORD": ("verify", "units"),
 }  # fmt: skip
 
+# Tables of docs/FORMATS.md whose first column has the words of a type: its source and its name.
+PRINTED = {
+    "STOP": ("crates/mxf_klv/src/piece.rt", "Stop"),
+    "LINK": ("crates/mxf_views/src/chain.rt", "Link"),
+    "STANDING": ("crates/mxf_units/src/standing.rt", "UnitStanding"),
+    "REASON": ("crates/mxf_places/src/reason.rt", "Reason"),
+}
+
 
 def rows_below(header):
     """The rows of the table of docs/FORMATS.md whose header begins with a word, each a list of its cells."""
@@ -413,11 +421,15 @@ def pairs_of(pattern, text):
     return dict(re.findall(pattern, text, re.MULTILINE))
 
 
+def printed_by(source, name):
+    """A source, and the words that it prints for the values of a type."""
+    return source, all_of(rf'\b{name}::\w+.* => "([a-z-]+)"', text_of(TOP / source))
+
+
 def retold():
     """What docs/FORMATS.md owns and something else retells: its name, what docs/FORMATS.md has, where it is retold, and
     what stands there."""
-    stops, codes = "crates/mxf_klv/src/piece.rt", "crates/mxf_views/src/finding.rt"
-    exits = "crates/mxf_tool/src/exit.rt"
+    codes, exits = "crates/mxf_views/src/finding.rt", "crates/mxf_tool/src/exit.rt"
     guide, man = text_of(TOP / GUIDE), plain_man_page()
     return (
         ("status", formats_statuses(), MAN, dict.fromkeys(man_statuses(), True)),
@@ -427,7 +439,7 @@ def retold():
         ("status of", formats_faults_named(GUIDE), GUIDE, faults_with_status(GUIDE)),
         ("word of", formats_words(), MAN, man_words()),
         ("stop", formats_stops(), GUIDE, stops_in(GUIDE)),
-        ("stop", formats_stops(), stops, all_of(r'Stop::\w+.* => "([a-z-]+)"', text_of(TOP / stops))),
+        *(("word of " + table, dict.fromkeys(words_below(table), True), *printed_by(*by)) for table, by in PRINTED.items()),
         ("form of a source", formats_forms(), README, forms_in(text_of(TOP / README))),
         ("form of a source", formats_forms(), GUIDE, forms_in(guide)),
         ("form of a source", formats_forms(), MAN, forms_in(man)),
