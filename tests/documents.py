@@ -8,7 +8,8 @@ would end, and that the numbers of tests, edits, runs and files that a document 
 crates. Looks up in docs/MODEL.md each definition that a clause of a public function of the libraries cites, and compares
 the table of docs/LAYERS.md with crates.txt. Compares each page of docs/api with what tests/api_pages.py makes of the
 sources, and what docs/FORMATS.md owns (exit statuses, stops, forms of a source, findings, words of lines) with what
-README.md, docs/GUIDE.md, the man page and the sources say of it. Only failures are printed; the last line is 'N passed, M
+README.md, docs/GUIDE.md, the man page and the sources say of it. Looks up the names of code of docs/MODEL.md and
+docs/DECISIONS.md in the sources. Only failures are printed; the last line is 'N passed, M
 failed'.
 """
 import ast
@@ -268,6 +269,29 @@ def verdicts_of_api(document):
         yield 1, "the page", fault
 
 
+# A name of code in a document: in small letters with a `_`, or with a capital letter within. A crate that isn't used has one.
+NAME_OF_CODE = re.compile(r"\b(?!serde_json\b)(?:[a-z]+_\w+|[A-Z]+[a-z]\w*[A-Z]\w*)\b")
+
+
+def words_of_sources():
+    """The words of all sources, definitions and scripts."""
+    files = [file for part in ("src", "specs", "proofs") for file in (TOP / "crates").glob(f"*/{part}/**/*.*t")]
+    files += [file for folder in ("tests", "report") for file in (TOP / folder).rglob("*") if file.suffix in ("", ".py")]
+    return set().union(*(re.findall(r"\w+", text_of(file)) for file in files if file.is_file()))
+
+
+def verdicts_of_code(document):
+    """For each name of code of docs/MODEL.md and docs/DECISIONS.md: its line, the name, and that no source has it, or
+    None."""
+    if document.name not in ("MODEL.md", "DECISIONS.md"):
+        return
+    known = words_of_sources()
+    for number, line in enumerate(lines_of(document), 1):
+        for quoted in re.findall(r"`([^`]+)`", line):
+            for name in NAME_OF_CODE.findall(quoted):
+                yield number, name, None if name in known else "no source has this name"
+
+
 FORMATS = TOP / "docs/FORMATS.md"
 MAN = "docs/mxf_tool.1"
 GUIDE = "docs/GUIDE.md"
@@ -471,7 +495,8 @@ def fault_of_fact(file, owned, there):
 
 VERDICTS = (
     verdicts_of_links, verdicts_of_contracts, verdicts_of_names, verdicts_of_tables, verdicts_of_quotes,
-    verdicts_of_definitions, verdicts_of_layers, verdicts_of_numbers, verdicts_of_api, verdicts_of_facts,
+    verdicts_of_definitions, verdicts_of_layers, verdicts_of_numbers, verdicts_of_api, verdicts_of_code,
+    verdicts_of_facts,
 )  # fmt: skip
 
 
