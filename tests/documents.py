@@ -9,8 +9,7 @@ crates. Looks up in docs/MODEL.md each definition that a clause of a public func
 the table of docs/LAYERS.md with crates.txt. Compares each page of docs/api with what tests/api_pages.py makes of the
 sources, and what docs/FORMATS.md owns (exit statuses, stops, forms of a source, findings, words of lines) with what
 README.md, docs/GUIDE.md, the man page and the sources say of it. Looks up the names of code of docs/MODEL.md and
-docs/DECISIONS.md in the sources. Only failures are printed; the last line is 'N passed, M
-failed'.
+docs/DECISIONS.md in the sources. Only failures are printed; the last line is 'N passed, M failed'.
 """
 import ast
 import itertools
