@@ -7,7 +7,9 @@ block that names a file of crates/ stands in it. Sees that each row of a table s
 would end, and that the numbers of tests, edits, runs and files that a document gives are those of the scripts and
 crates. Looks up in docs/MODEL.md each definition that a clause of a public function of the libraries cites, and compares
 the table of docs/LAYERS.md with crates.txt. Compares each page of docs/api with what tests/api_pages.py makes of the
-sources. Only failures are printed; the last line is 'N passed, M failed'.
+sources, and what docs/FORMATS.md owns (exit statuses, stops, forms of a source, findings, words of lines) with what
+README.md, docs/GUIDE.md, the man page and the sources say of it. Looks up the names of code of docs/MODEL.md and
+docs/DECISIONS.md in the sources. Only failures are printed; the last line is 'N passed, M failed'.
 """
 import ast
 import itertools
@@ -266,9 +268,234 @@ def verdicts_of_api(document):
         yield 1, "the page", fault
 
 
+# A name of code in a document: in small letters with a `_`, or with a capital letter within. A crate that isn't used has one.
+NAME_OF_CODE = re.compile(r"\b(?!serde_json\b)(?:[a-z]+_\w+|[A-Z]+[a-z]\w*[A-Z]\w*)\b")
+
+
+def words_of_sources():
+    """The words of all sources, definitions and scripts."""
+    files = [file for part in ("src", "specs", "proofs") for file in (TOP / "crates").glob(f"*/{part}/**/*.*t")]
+    files += [file for folder in ("tests", "report") for file in (TOP / folder).rglob("*") if file.suffix in ("", ".py")]
+    return set().union(*(re.findall(r"\w+", text_of(file)) for file in files if file.is_file()))
+
+
+def verdicts_of_code(document):
+    """For each name of code of docs/MODEL.md and docs/DECISIONS.md: its line, the name, and that no source has it, or
+    None."""
+    if document.name not in ("MODEL.md", "DECISIONS.md"):
+        return
+    known = words_of_sources()
+    for number, line in enumerate(lines_of(document), 1):
+        for quoted in re.findall(r"`([^`]+)`", line):
+            for name in NAME_OF_CODE.findall(quoted):
+                yield number, name, None if name in known else "no source has this name"
+
+
+FORMATS = TOP / "docs/FORMATS.md"
+MAN = "docs/mxf_tool.1"
+GUIDE = "docs/GUIDE.md"
+README = "README.md"
+SOURCE_FORM = r"[a-z]+:(?:OFFSET:)?PATH"
+# Tables of docs/FORMATS.md of which the man page has each word of the first column, in bold, in one of these sections.
+WORDS_OF_THE_MAN_PAGE = {
+    "STOP": ("show",), "LINK": ("show",), "TARGET": ("show",), "STANDING": ("units",), "REASON": ("plan",),
+    "Character": ("map",), "WORD": ("verify", "units"),
+}  # fmt: skip
+
+# Tables of docs/FORMATS.md whose first column has the words of a type: its source and its name.
+PRINTED = {
+    "STOP": ("crates/mxf_klv/src/piece.rt", "Stop"),
+    "LINK": ("crates/mxf_views/src/chain.rt", "Link"),
+    "STANDING": ("crates/mxf_units/src/standing.rt", "UnitStanding"),
+    "REASON": ("crates/mxf_places/src/reason.rt", "Reason"),
+}
+
+
+def rows_below(header):
+    """The rows of the table of docs/FORMATS.md whose header begins with a word, each a list of its cells."""
+    rows, in_table = [], False
+    for line in lines_of(FORMATS):
+        in_table = line.startswith("|") and (in_table or re.match(rf"\| {header}\b", line) is not None)
+        if in_table:
+            rows.append([cell.strip() for cell in re.split(r"(?<!\\)\|", line)[1:-1]])
+    return rows[2:]
+
+
+def words_below(header):
+    """The words of the first column of a table of docs/FORMATS.md, each without what stands with it."""
+    return {word.split()[0] for row in rows_below(header) for word in re.findall(r"`([^`]+)`", row[0])}
+
+
+def plain_man_page():
+    """The text of the man page without its marks, but for those that begin an item or a section."""
+    lines = []
+    for line in text_of(TOP / MAN).splitlines():
+        macro, _, rest = line.partition(" ")
+        words = [quoted or word for quoted, word in re.findall(r'"([^"]*)"|(\S+)', rest)]
+        if macro in (".BI", ".BR", ".RB", ".IR", ".RI"):
+            line = "".join(words)
+        elif macro in (".B", ".I"):
+            line = " ".join(words)
+        lines.append(re.sub(r"\\f.|\\\|", "", line).replace("\\~", " ").replace("\\-", "-"))
+    return "\n".join(lines)
+
+
+def man_statuses():
+    """What the man page says of each exit status."""
+    section = plain_man_page().split(".SH EXIT STATUS\n")[-1].split("\n.SH ")[0].split("\n.PP\n")[0]
+    return dict(item.split("\n", 1) for item in section.removeprefix(".TP\n").split("\n.TP\n"))
+
+
+def formats_statuses():
+    """The exit statuses that docs/FORMATS.md has."""
+    return {row[0]: True for row in rows_below("Status")}
+
+
+def formats_commands_of_1():
+    """The commands that can end with status 1, by docs/FORMATS.md."""
+    return dict.fromkeys(words_below(r"Command \| Status 1"), True)
+
+
+def man_commands_of_1():
+    """The commands that can end with status 1, by the man page."""
+    return {word: True for word in re.findall(r"^(\w+)(?: --strict)?[:,]", man_statuses().get("1", ""), re.MULTILINE)}
+
+
+def formats_faults():
+    """The status of each line of a fault, by docs/FORMATS.md, without the place or the path in it. Those of refused
+    arguments aren't retold, nor those that `clap` keeps from being seen."""
+    rows = (row for row in rows_below("Line") if row[-1].isdigit() and "refuses it first" not in row[1])
+    lines = ((re.match(r"`(?!error:|clap)([a-z ]+:?)", row[0]), row[-1]) for row in rows)
+    return {line[1].strip(): status for line, status in lines if line}
+
+
+def man_faults():
+    """The statuses at which the man page names each line of a fault that docs/FORMATS.md has."""
+    told = {fault: [status for status, text in man_statuses().items() if fault in text] for fault in formats_faults()}
+    return {fault: ", ".join(statuses) for fault, statuses in told.items()}
+
+
+def faults_with_status(document):
+    """The lines of faults of which a document says the status beside them: of each all that it says."""
+    pairs = re.findall(r"`([a-z ]+)`, (?:with )?status (\d)", text_of(TOP / document))
+    return {fault: {status for name, status in pairs if name == fault} for fault, _ in pairs}
+
+
+def formats_faults_named(document):
+    """Of these lines of faults the status, by docs/FORMATS.md."""
+    known = {fault.rstrip(":"): {status} for fault, status in formats_faults().items()}
+    return {fault: known.get(fault, set()) for fault in faults_with_status(document)}
+
+
+def formats_words():
+    """The words of the tables of docs/FORMATS.md that the man page has too."""
+    return {f"{header}: {word}": True for header in WORDS_OF_THE_MAN_PAGE for word in words_below(header)}
+
+
+def bold_in(section):
+    """The words in bold of a section of the man page on lines that are printed, without what stands with them."""
+    text = text_of(TOP / MAN).split(f"\n.SS {section}\n")[-1].split("\n.S")[0].replace("\\-", "-")
+    return set(re.findall(r"^\.B[RI]? ([^\s\\]+)", text, re.MULTILINE)) | set(re.findall(r"\\fB([^\s\\]+)", text))
+
+
+def man_words():
+    """Those of them that the man page has, and what it has beside them as a stop."""
+    bold = {header: set().union(*map(bold_in, sections)) for header, sections in WORDS_OF_THE_MAN_PAGE.items()}
+    there = {f"{header}: {word}": True for header in bold for word in words_below(header) & bold[header]}
+    return there | {f"STOP: {word}": True for word in re.findall(r"([a-z-]+) AT\b(?! )", plain_man_page())}
+
+
+def formats_stops():
+    """The words for a stop, by docs/FORMATS.md."""
+    return {word: True for word in words_below("STOP")}
+
+
+def stops_in(document):
+    """The stops that a document says, by themselves or in a printed line."""
+    text = text_of(TOP / document)
+    spelled = [word for word in formats_stops() if re.search(rf"`{word}\b[ A-Z]*`", text)]
+    printed = re.findall(r"\bstop ([a-z][a-z-]*)(?: \d+)?$", text, re.MULTILINE)
+    return dict.fromkeys(spelled + printed + re.findall(r"`([a-z-]+) AT`", text), True)
+
+
+def formats_forms():
+    """The forms of a source, by docs/FORMATS.md."""
+    named = re.search(r"^A source SRC is .*", text_of(FORMATS), re.MULTILINE)
+    return {form: True for form in re.findall(rf"`({SOURCE_FORM})`", named[0] if named else "")}
+
+
+def forms_in(text):
+    """The forms of a source that a text says."""
+    return {form: True for form in re.findall(rf"(?<!\w){SOURCE_FORM}\b", text)}
+
+
+def formats_findings():
+    """The text of each finding, by docs/FORMATS.md."""
+    return {re.sub(r"\W.*", "", row[0].lstrip("[")): row[-1] for row in rows_below("CODE")}
+
+
+def all_of(pattern, text):
+    """What a pattern finds in a text."""
+    return dict.fromkeys(re.findall(pattern, text, re.MULTILINE), True)
+
+
+def pairs_of(pattern, text):
+    """What the two groups of a pattern find in a text, the first by the second's name."""
+    return dict(re.findall(pattern, text, re.MULTILINE))
+
+
+def printed_by(source, name):
+    """A source, and the words that it prints for the values of a type."""
+    return source, all_of(rf'\b{name}::\w+.* => "([a-z-]+)"', text_of(TOP / source))
+
+
+def retold():
+    """What docs/FORMATS.md owns and something else retells: its name, what docs/FORMATS.md has, where it is retold, and
+    what stands there."""
+    codes, exits = "crates/mxf_views/src/finding.rt", "crates/mxf_tool/src/exit.rt"
+    guide, man = text_of(TOP / GUIDE), plain_man_page()
+    return (
+        ("status", formats_statuses(), MAN, dict.fromkeys(man_statuses(), True)),
+        ("status", formats_statuses(), exits, all_of(r"Exit::\w+ => (\d)", text_of(TOP / exits))),
+        ("command of status 1", formats_commands_of_1(), MAN, man_commands_of_1()),
+        ("status of", formats_faults(), MAN, man_faults()),
+        ("status of", formats_faults_named(GUIDE), GUIDE, faults_with_status(GUIDE)),
+        ("word of", formats_words(), MAN, man_words()),
+        ("stop", formats_stops(), GUIDE, stops_in(GUIDE)),
+        *(("word of " + table, dict.fromkeys(words_below(table), True), *printed_by(*by)) for table, by in PRINTED.items()),
+        ("form of a source", formats_forms(), README, forms_in(text_of(TOP / README))),
+        ("form of a source", formats_forms(), GUIDE, forms_in(guide)),
+        ("form of a source", formats_forms(), MAN, forms_in(man)),
+        ("text of", formats_findings(), GUIDE, pairs_of(r"^\| (F\d+) \| ([^|]+?) \|", guide)),
+        ("text of", formats_findings(), MAN, pairs_of(r"^(F\d+)\n(.+)$", man)),
+        ("text of", formats_findings(), codes, pairs_of(r'Code::(F\d+) => "(.*)"', text_of(TOP / codes))),
+    )
+
+
+def verdicts_of_facts(document):
+    """For each fact of docs/FORMATS.md that is retold: that something else says it otherwise, or None. A kind of fact
+    that isn't found at all is a failure too."""
+    if document != FORMATS:
+        return
+    for name, owned, file, there in retold():
+        yield 1, f"{name}, in {file}", None if owned and there else "nothing is found to compare"
+        for key in sorted(owned.keys() | there.keys()):
+            yield 1, f"{name} {key}", fault_of_fact(file, owned.get(key), there.get(key))
+
+
+def fault_of_fact(file, owned, there):
+    """How what stands in a file differs from what docs/FORMATS.md has, or None."""
+    if owned == there:
+        return None
+    if owned is None or there is None:
+        return f"{file} lacks it" if owned else f"{file} alone has it"
+    return f"{file} says {there}, and this {owned}"
+
+
 VERDICTS = (
     verdicts_of_links, verdicts_of_contracts, verdicts_of_names, verdicts_of_tables, verdicts_of_quotes,
-    verdicts_of_definitions, verdicts_of_layers, verdicts_of_numbers, verdicts_of_api,
+    verdicts_of_definitions, verdicts_of_layers, verdicts_of_numbers, verdicts_of_api, verdicts_of_code,
+    verdicts_of_facts,
 )  # fmt: skip
 
 
