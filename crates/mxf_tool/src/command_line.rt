@@ -54,7 +54,7 @@ pub struct Verifying {
     pub units: Option<IndexedUnits>,
 }
 
-/// Where a catalogue is saved. A strict join or renewal ends with another status where a piece isn't noted whole.
+/// Where a catalogue is saved. A strict join or renewal ends with another status if a piece isn't noted whole.
 #[derive(Clone, Copy)]
 pub struct Saving<'a> {
     pub out: &'a str,
@@ -81,8 +81,8 @@ pub struct IndexedUnits {
     pub units: AskedUnits,
 }
 
-/// A help with what a source is: behind the text that it begins with, if any, and before the one that it ends with. It says
-/// which words stand for a source, what is read where its first byte may lie inside a packet, and what writes a catalogue.
+/// A help with what a source is, after the text that it begins with, if any, and before the one that it ends with. It says
+/// which words stand for a source, what is read if its first byte lies inside a packet, and what writes a catalogue.
 macro_rules! source_help {
     ($end:literal) => {
         source_help!(; "SRC", "it", "join or renew", $end)
@@ -94,7 +94,7 @@ macro_rules! source_help {
         concat! {
             $($begin, "\n\n",)? "A source ", $words, " is one of
   at:OFFSET:PATH     a piece: the bytes of the file PATH, whose first byte lies at byte OFFSET of the recording
-  range:OFFSET:PATH  the same where the first byte may lie inside a packet: ", $read, " is read from the next one on
+  range:OFFSET:PATH  the same, but the first byte may lie inside a packet: ", $read, " is read from the next one on
   cat:PATH           a catalogue that ", $writers, " wrote
 
 ", $end
@@ -123,22 +123,24 @@ const UNITS_HELP: &str = source_help!(
     "Each unit is one of
   held  hand                      it lies from START up to END: all of it is held, or the rest is at hand, in a range
   part  missing  disputed         the same: some or none of it is held or at hand, or it is held in two readings
-  elsewhere  unsure  unknown      it lies in a partition that isn't held, may do so, or its partition isn't known whole
+  elsewhere                       it would end after its partition
+  unsure                          a partition that isn't known may lie before it
+  unknown                         the first packet of essence of its partition isn't known
   no-partition  several           no partition of its stream is held that begins before it, or more than one does
   not-indexed  ambiguous          no segment of the index that is held has it, or segments disagree";
     "Without --from the first is unit 0, without --to the last is that of the index: the last to which a segment that is held
-gives a place. An index of units of one size has none where a segment states the duration 0.
+gives a place. An index of units of one size has none if a segment states the duration 0.
 
 Example: mxf_tool units --from 250 --to 274 cat:clip.cat"
 );
 
 /// What the help of `plan` ends with.
 const PLAN_HELP: &str = source_help!(
-    "With --index only what edit units of that index need is ordered: their bytes, those of their key frames, and what tells
-where they lie. Without --from the first is unit 0, without --to the last is that of the index. The last line tells how
+    "With --index only what edit units of that index need is ordered: their bytes, those of their key frames, and what says
+where they lie. Without --from the first is unit 0, without --to the last is that of the index. The last line says how
 many of them are held or at hand, as units does.";
-    "Hand in what is restored at START as at:START:PATH, where the order says inside as range:START:PATH. One that says again
-was handed in already: its bytes are damaged, or two sources differ there. Then ask again, until nothing is ordered.
+    "Hand in what is restored at START as at:START:PATH, or, if the order says inside, as range:START:PATH. One that says
+again was handed in already: its bytes are damaged, or two sources differ there. Then ask again, until nothing is ordered.
 
 Status 0 says that nothing is ordered, with --index also that all bytes of each unit are held or at hand.
 
@@ -172,15 +174,15 @@ and those of a catalogue among them are set beside them.
 
 Lines:
   stop OFFSET STOP  a piece of --against doesn't end with a packet
-  differs I OFFSET KIND WIDTH LENGTH KEY  source I has another packet there; with --index behind it the edit units, or - -
+  differs I OFFSET KIND WIDTH LENGTH KEY  source I has another packet there; with --index then the edit units, or - -
   cut OFFSET KIND WIDTH LENGTH KEY  no source has all bytes of this packet, so it wasn't compared
   unknown START END     the reference says nothing of these bytes
   unverified START END  these bytes of the reference weren't compared
   units FIRST LAST WORD  verified, differs, part, unverified, or as units says why it isn't known where they lie
-  verified N of M packets B of T bytes differs D cut C unknown U  the sum, with --index behind it the units
+  verified N of M packets B of T bytes differs D cut C unknown U  the sum, with --index then the units
 
-Status 0 says that a packet is the same and none differs; with --whole also that all of the reference is there and no other
-byte, or with --index all of these units.";
+Status 0 says that a packet is the same, none differs, and each piece of --against ends with a packet or with one that is
+cut; with --whole also that all of the reference is there and no other byte, or with --index all of these units.";
     "SRC or SOURCE", "of --against it", "join or renew",
     "Example: mxf_tool verify --against cat:clip.cat --whole at:0:clip.mxf"
 );

@@ -12,9 +12,10 @@ use mxf_read::PieceReport;
 pub enum Exit {
     /// All was printed; also help.
     Done,
-    /// All was printed, and a check found something or has a piece that doesn't end with a packet, there is something
-    /// to restore, a strict join or renewal has a piece with bytes behind its stop, an edit unit has no place or more
-    /// than one, sources dispute a packet, or not all was verified that is asked for.
+    /// All was printed, and something was found: a finding, or a piece that doesn't end with a packet; something to
+    /// restore; a strict join or renewal with bytes after a stop; an edit unit without a place or with several, or one
+    /// that is neither held whole nor at hand; a disputed note; a packet that differs, or not all verified that is
+    /// asked for.
     Found,
     /// The arguments were refused, or one names no source.
     Usage,
@@ -22,7 +23,7 @@ pub enum Exit {
     Unread,
     /// The file of a catalogue was refused or is too long.
     Refused,
-    /// Want of memory.
+    /// Out of memory.
     NoMemory,
     /// A write failed, or the file to write couldn't be made.
     Unwritten,
@@ -79,7 +80,7 @@ fn are_noted(reports: &[PieceReport]) -> bool
     reports.iter().all(|piece| is_noted(piece.report.stop))
 }
 
-/// Whether a piece that stops so has no packet behind the stop that isn't noted.
+/// Whether a piece that stops so has no packet after the stop that isn't noted.
 fn is_noted(stop: Stop) -> bool
     ensures { result ≡ is_noted stop }
 {

@@ -26,7 +26,7 @@ impl<'a> Lines for &'a Views {
     ghost lines = { λ v. content_lines v.now };
 
     fn print_to<W: Write>(self, printer: &mut Printer, writer: &mut W) -> Result<(), AnswerFault> {
-        // Want of memory here comes before the first line.
+        // Out of memory comes here before the first line.
         let resolved = self.resolved(printer.alloc())?;
         let catalogue = self.catalogue();
         let references = ReferenceLines {

@@ -17,7 +17,7 @@ pub enum PartFault {
     /// The file of a catalogue has more than 1,073,741,824 bytes.
     #[error("too long")]
     TooLong,
-    /// The bytes aren't the file of a catalogue. Want of memory isn't told so.
+    /// The bytes aren't the file of a catalogue. It never has the cause `OutOfMemory`.
     #[error("{0}")]
     Catalogue(FileFault),
     /// A growth was refused.

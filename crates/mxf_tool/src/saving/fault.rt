@@ -7,7 +7,7 @@ use std::path::PathBuf;
 /// Why a catalogue wasn't saved.
 #[derive(Debug, Drop)]
 pub enum SaveFault {
-    /// Want of memory.
+    /// Out of memory.
     OutOfMemory,
     /// Another join holds this file, which takes the place of the one before.
     Reserved(PathBuf),
