@@ -6,8 +6,9 @@ type, that is there, and the function has the clauses that stand in parentheses 
 block that names a file of crates/ stands in it. Sees that each row of a table stands in a table, which an empty line
 would end, and that the numbers of tests, edits, runs and files that a document gives are those of the scripts and
 crates. Looks up in docs/MODEL.md each definition that a clause of a public function of the libraries cites, and compares
-the table of docs/LAYERS.md with crates.txt. Compares each page of docs/api with what tests/api_pages.py makes of the
-sources. Only failures are printed; the last line is 'N passed, M failed'.
+the table of docs/LAYERS.md with crates.txt, and its tables of files with the files of the crates. Compares each page of
+docs/api with what tests/api_pages.py makes of the sources. Only failures are printed; the last line is 'N passed, M
+failed'.
 """
 import ast
 import itertools
@@ -209,6 +210,50 @@ def verdicts_of_layers(document):
     yield 1, "the table of crates", None if told == set(known) else f"crates.txt differs in {sorted(told ^ set(known))}"
 
 
+def sources_of(crate):
+    """The files of a crate's sources, by their paths below `src` without the ending: all but `lib` and `main`."""
+    folder = TOP / "crates" / crate / "src"
+    files = (file.relative_to(folder).with_suffix("").as_posix() for file in folder.rglob("*.rt"))
+    return {file for file in files if file not in ("lib", "main")}
+
+
+def file_named(name, before, files):
+    """The file that a name of a cell stands for, or None. The name may leave out the folder of the name before it, the
+    front of that folder, or, after a colon, the name before it."""
+    folders = [before, *map(str, pathlib.PurePosixPath(before).parents)] if before else [""]
+    paths = (str(pathlib.PurePosixPath(folder) / name) for folder in folders)
+    return next((path for path in paths if path in files), None)
+
+
+def rows_of_files(document):
+    """The rows of the tables that say which file has what: the crate, the line, and the names of its first cell."""
+    crate = None
+    for number, line in enumerate(lines_of(document), 1):
+        heading = re.match(r"(mxf_\w+), in \[src/\]\(\.\./crates/\1/src\)", line)
+        crate = heading[1] if heading else None if line and not line.startswith("|") else crate
+        names = re.findall(r"`([^`]+)`", line.split(" | ")[0])
+        if crate and names and line.startswith("|"):
+            yield crate, number, names
+
+
+def verdicts_of_files(document):
+    """For each name of a file in the tables of docs/LAYERS.md: its line, the name, and that no file has it or that it
+    stands there twice, or None. Then for each library and mxf_tool: the files that its table lacks, or None."""
+    if document.name != "LAYERS.md":
+        return
+    files, seen = {crate: sources_of(crate) for crate in (*LIBRARIES, "mxf_tool")}, set()
+    for crate, number, names in rows_of_files(document):
+        before = ""
+        for name in names:
+            before = file_named(name, before, files.get(crate, ())) or name
+            fault = "twice" if (crate, before) in seen else None if before in files.get(crate, ()) else "no such file"
+            seen.add((crate, before))
+            yield number, f"{name} of {crate}", fault
+    for crate, known in files.items():
+        lacking = sorted(file for file in known if (crate, file) not in seen)
+        yield 1, f"the table of {crate}", f"no row names {', '.join(lacking)}" if lacking else None
+
+
 def length_of(script, name):
     """How many entries the list or table of this name has in a Python script."""
     for node in ast.parse(text_of(TOP / script)).body:
@@ -267,6 +312,7 @@ def verdicts_of_api(document):
 
 
 VERDICTS = (
+    verdicts_of_files,
     verdicts_of_links, verdicts_of_contracts, verdicts_of_names, verdicts_of_tables, verdicts_of_quotes,
     verdicts_of_definitions, verdicts_of_layers, verdicts_of_numbers, verdicts_of_api,
 )  # fmt: skip
