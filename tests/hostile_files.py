@@ -216,16 +216,25 @@ def long_batches(rng, many=None):
     return [(0, laid([f"header header-bytes={size}", "primer"] + lines))]
 
 
-def named_by_all(rng, many=None):
-    """References that all name one package of many items, which may be read and may not."""
-    many = many or rng.choice((3, 100, 500))
-    refs = batch(many, 16, bytes.fromhex(uid(3)) * many)
-    value = item("3C0A", uid(3)) + item("4401", "00" * rng.choice((32, 32, 32, 31)))
-    value += "".join(item(f"{0x8000 + n % 0x4000:04x}", "") for n in range(60 * many))
+def package_of_items(rng, number, many):
+    """A package of many items, which may be read and may not."""
+    value = item("3C0A", uid(number)) + item("4401", "00" * rng.choice((32, 32, 32, 31)))
+    value += "".join(item(f"{0x8000 + n % 0x4000:04x}", "") for n in range(many))
+    return f"{rng.choice(('source', 'material'))}-package value={value}"
+
+
+def named_by_turns(rng, many, numbers=(3, 4)):
+    """References that name packages of many items by turns."""
+    refs = batch(many, 16, bytes.fromhex("".join(uid(numbers[n % len(numbers)]) for n in range(many))))
     lines = [f"preface 3C0A={uid(1)} 3B03={uid(2)} 3B06={batch(0, 16)}", f"content-storage 3C0A={uid(2)} 1901={refs}"]
-    lines += [f"{rng.choice(('source', 'material'))}-package value={value}"]
+    lines += [package_of_items(rng, number, 60 * many) for number in numbers]
     size = len(laid(["primer"] + lines))
     return [(0, laid([f"header header-bytes={size}", "primer"] + lines))]
+
+
+def named_by_all(rng, many=None):
+    """References that all name one package of many items."""
+    return named_by_turns(rng, many or rng.choice((3, 100, 500)), (3,))
 
 
 def disputes(rng, many=None):
@@ -407,7 +416,7 @@ def pieces_of(number):
 # more than one value has room for.
 MANY = {
     counts: 10000, items: 5000, packs_that_name: 10000, circles: 5000, zones: 5000, copies: 5000,
-    random_indexes: 10000, segments_of_a_unit: 10000, listed_units: 1000, named_partitions: 20000, long_primer: 32000, long_batches: 2000, named_by_all: 2000, disputes: 20000,
-    many_packets: 40000, saved_heads: 10000, under_one_another: 10000, labels_that_fail: 100000,
+    random_indexes: 10000, segments_of_a_unit: 10000, listed_units: 1000, named_partitions: 20000, long_primer: 32000, long_batches: 2000, named_by_all: 2000, named_by_turns: 1000,
+    disputes: 20000, many_packets: 40000, saved_heads: 10000, under_one_another: 10000, labels_that_fail: 100000,
     differing_ranges: 10000, heads_over_bytes: 10000, named_one_by_one: 2000,
 }  # fmt: skip

@@ -6,3 +6,4 @@ pub mod UnitLineLaws
 pub mod StringLaws
 pub mod VerifiedStatusLaws
 pub mod OneRun
+pub mod RecordLaws

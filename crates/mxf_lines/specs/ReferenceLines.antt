@@ -1,8 +1,10 @@
 -- The lines of what the references of the preferred copy lead to (this project's profile; the fields are those of
 -- ST 377-1, Identification and Generic Package sets). An identifier is printed as RFC 9562 writes a UUID.
-use Rattle.std.specs.Prelude.{ℕ, ◌≡◌, ◌==◌, List, [], ◌∷◌, ◌++◌, length, find, codes, Option, None, flat_map}
+use Rattle.std.specs.Prelude.{ℕ, ◌≡◌, ◌==◌, List, [], ◌∷◌, ◌++◌, length, find, codes, Option, None, Some, flat_map}
 use Rattle.std.specs.Prelude.{option_and_then, option_map}
+use Rattle.std.specs.BTreeMap.{BTreeMap, get}
 use Rattle.std.specs.Fmt.{signed_decimal}
+use Rattle.std.specs.Ordering.{nat_cmp}
 use Rattle.uuid.specs.Text.{hyphenated_text, lower}
 use Rattle.mxf_klv.specs.Kind.{kind_of}
 use Rattle.mxf_klv.specs.Parts.{NoteParts}
@@ -22,7 +24,6 @@ use Rattle.mxf_lines.specs.declared.printing.line.record.Property.TheVariants as
 use Rattle.mxf_lines.specs.declared.printing.line.record.Named.{Named}
 use Rattle.mxf_lines.specs.declared.printing.line.record.Named.TheVariants.{Identification, Package}
 use Rattle.mxf_lines.specs.declared.printing.line.record.Owner.{Owner}
-use Rattle.mxf_lines.specs.declared.printing.references.NamedRecord.{NamedRecord}
 use Rattle.mxf_lines.specs.declared.printing.references.Record.{Record}
 use Rattle.mxf_lines.specs.declared.printing.references.Record.TheVariants as records
 use Rattle.mxf_lines.specs.Forms.{Characters, Field, PrintedLine, digits, line_of, member, number, word}
@@ -173,6 +174,7 @@ resolved_lines content r =
 abbrev pub reference_lines : List NoteParts → Option ResolvedParts → List PrintedLine
 reference_lines content resolved = lines_where (resolved_lines content) resolved
 
--- What is kept while references in a row name one set is the record that was found at its target.
-abbrev pub IsRecordIn : List NoteParts → Named → NamedRecord → Type 0
-IsRecordIn content named kept = kept.found ≡ found_record content named kept.target
+-- What is kept by the offsets of sets is the record that was found at each.
+abbrev pub AreRecordsIn : List NoteParts → Named → BTreeMap ℕ (Option Record) → Type 0
+AreRecordsIn content named kept =
+    (at : ℕ) (found : Option Record) → get nat_cmp kept at ≡ Some found → found ≡ found_record content named (Found at)

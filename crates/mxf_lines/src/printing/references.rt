@@ -1,21 +1,24 @@
 //! What the references of the preferred copy lead to.
-ghost use Rattle.std.specs.Prelude.{◌≡◌, IfOk, OnOk};
+ghost use Rattle.std.specs.Prelude.{◌≡◌, List, IfOk, IfSome, OnOk};
+ghost use Rattle.mxf_klv.specs.Parts.{NoteParts};
 ghost use Rattle.mxf_klv.specs.Written.{Puts};
 ghost use Rattle.mxf_lines.specs.Lines.{lines_where};
 ghost use Rattle.mxf_lines.specs.Printing.{Prints};
-ghost use Rattle.mxf_lines.specs.ReferenceLines.{IsRecordIn, found_record, lines_of_record, lines_of_reference};
+ghost use Rattle.mxf_lines.specs.ReferenceLines.{AreRecordsIn, found_record, lines_of_record, lines_of_reference};
 ghost use Rattle.mxf_lines.specs.ReferenceLines.{named_lines, owner_of, record_of, reference_line, reference_lines};
 ghost use Rattle.mxf_lines.specs.ReferenceLines.{target_fields};
 ghost use Rattle.mxf_lines.specs.Writing.{with_fields};
+ghost use Rattle.mxf_lines.specs.declared.printing.line.record.Named.{Named};
 
 use super::AnswerFault;
 use super::line::{IdentificationLines, Named, Owner, PackageLines};
 use super::lines::{FieldWriter, Line, Lines, Printer, Then};
 use mxf_catalogue::Catalogue;
-use mxf_klv::{Kind, Note};
+use mxf_klv::{Kind, Note, OutOfMemory};
 use mxf_sets::{Identification, Package};
 use mxf_views::{Ref, Resolved, Target};
-use std::alloc::AllocError;
+use std::alloc::{AllocError, Global};
+use std::collections::BTreeMap;
 use std::io::Write;
 
 /// The lines of the references of the preferred copy, to identifications and then to packages; none without one.
@@ -101,13 +104,10 @@ impl<'a> Lines for NamedLines<'a> {
     ghost lines = { λ l. named_lines l.catalogue.now l.named l.references.now };
 
     fn print_to<W: Write>(self, printer: &mut Printer, writer: &mut W) -> Result<(), AnswerFault> {
-        let mut last = NamedRecord {
-            target: Target::Missing,
-            found: None,
-        };
+        let records = records_of(printer.alloc(), self.catalogue, self.named, self.references)?;
         let mut left = self.references;
         'each: while let Some((reference, others)) = left.split_first() {
-            self.print_reference(printer, writer, &mut last, *reference)?;
+            self.print_reference(printer, writer, &records, *reference)?;
             left = others;
         }
         Ok(())
@@ -115,25 +115,29 @@ impl<'a> Lines for NamedLines<'a> {
 }
 
 impl<'a> NamedLines<'a> {
-    /// Prints the line of a reference, and the lines of what it leads to.
+    /// Prints the line of a reference, and the lines of what it leads to: of its record among those that were read, or of
+    /// the one that is read now.
     fn print_reference<W: Write>(
         self,
         printer: &mut Printer,
         writer: &mut W,
-        last: &mut NamedRecord<'a>,
+        records: &BTreeMap<u64, Option<Record<'a>>>,
         reference: Ref,
     ) -> Result<(), AnswerFault>
-        requires { IsRecordIn self.catalogue.now self.named last.old }
-        ensures last { IsRecordIn self.entry.catalogue.now self.entry.named last.new }
+        requires { AreRecordsIn self.catalogue.now self.named records.now }
         ensures lines { Prints printer.old.fields.form
             (Puts W.contents writer.old writer.new printer.old.progress printer.new.progress)
             result (lines_of_reference self.entry.catalogue.now self.entry.named reference) }
         ensures form { OnOk result (printer.new.fields.form ≡ printer.old.fields.form) }
     {
         let named = self.named;
-        last.turn_to(self.catalogue, named, reference.target);
-        let record = RecordLines(owner_of(named, &reference), &last.found);
-        Then(ReferenceLine { named, reference }, record).print_to(printer, writer)
+        let line = ReferenceLine { named, reference };
+        let owner = owner_of(named, &reference);
+        if let Some(found) = record_among(records, reference.target) {
+            return Then(line, RecordLines(owner, found)).print_to(printer, writer);
+        }
+        let found = record_at(self.catalogue, named, reference.target);
+        Then(line, RecordLines(owner, &found)).print_to(printer, writer)
     }
 }
 
@@ -176,25 +180,52 @@ impl<'r, 'a> Lines for RecordLines<'r, 'a> {
     }
 }
 
-/// What the last reference led to, with its record: read once for references in a row that name one set, however long
-/// that is.
-#[derive(Drop)]
-struct NamedRecord<'a> {
-    target: Target,
-    found: Option<Record<'a>>,
+/// The records of the sets that references lead to, by their offsets. Each is read once, however often and in whatever
+/// order they are named.
+fn records_of<'a>(
+    alloc: Global,
+    catalogue: &'a Catalogue,
+    named: Named,
+    references: &[Ref],
+) -> Result<BTreeMap<u64, Option<Record<'a>>>, OutOfMemory>
+    ensures { IfOk result (AreRecordsIn catalogue.now named) }
+{
+    let mut records = BTreeMap::new(alloc);
+    for reference in references {
+        add_record(&mut records, catalogue, named, reference.target)?;
+    }
+    Ok(records)
 }
 
-impl<'a> NamedRecord<'a> {
-    /// Puts the record of another target in its place.
-    fn turn_to(&mut self, catalogue: &'a Catalogue, named: Named, target: Target)
-        requires { IsRecordIn catalogue.now named self.old }
-        ensures turned { self.new.target ≡ target }
-        ensures found { IsRecordIn catalogue.now named self.new }
-    {
-        if self.target != target {
-            let found = record_at(catalogue, named, target);
-            *self = NamedRecord { target, found };
+/// Adds the record of a set that was found, unless it is there.
+fn add_record<'a>(
+    records: &mut BTreeMap<u64, Option<Record<'a>>>,
+    catalogue: &'a Catalogue,
+    named: Named,
+    target: Target,
+) -> Result<(), OutOfMemory>
+    ensures { AreRecordsIn catalogue.now named records.old
+        → OnOk result (AreRecordsIn catalogue.now named records.new) }
+{
+    if let Target::Found(offset) = target {
+        if !records.contains_key(&offset) {
+            records.insert(offset, record_at(catalogue, named, target))?;
         }
+    }
+    Ok(())
+}
+
+/// The record of a set that was found, if it is among these.
+fn record_among<'r, 'a>(
+    records: &'r BTreeMap<u64, Option<Record<'a>>>,
+    target: Target,
+) -> Option<&'r Option<Record<'a>>>
+    ensures { (content : List NoteParts) (named : Named) → AreRecordsIn content named records.now
+        → IfSome result (λ found. found.now ≡ found_record content named target) }
+{
+    match target {
+        Target::Found(offset) => records.get(&offset),
+        _ => None,
     }
 }
 

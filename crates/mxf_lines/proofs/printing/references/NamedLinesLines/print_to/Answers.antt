@@ -10,7 +10,7 @@ each-preserved g c =
     let lines = lines_of_reference c.args.self.catalogue.now c.args.self.named in
     let printed = c.in_ok-print_reference.ensures in
     let steps = ap (flat_map lines) c.in-Some.ensures.cases.0 in
-    (leads_more (lines c.in-Some.reference.now) _ steps c.each.invariant.0 printed.lines printed.form, printed.last)
+    leads_more (lines c.in-Some.reference.now) _ steps c.each.invariant printed.lines printed.form
 
 pub returns-in_err-print_reference-clause-lines : goal.returns-in_err-print_reference-clause-lines
 returns-in_err-print_reference-clause-lines g c =
@@ -19,10 +19,10 @@ returns-in_err-print_reference-clause-lines g c =
     let steps = ap (flat_map lines) c.in-Some.ensures.cases.0 in
     let p = err_from_is_err_and c.from_residual.result c.from_residual.ensures.1 in
     rw (p.1, p.2) (leads_failed (g.W.Write.contents new.writer) new.printer.progress.written
-    c.in_err-print_reference.field-0.0 (lines c.in-Some.reference.now) _ steps c.each.invariant.0
+    c.in_err-print_reference.field-0.0 (lines c.in-Some.reference.now) _ steps c.each.invariant
     c.in_err-print_reference.ensures.lines)
 
 pub returns-clause-lines : goal.returns-clause-lines
 returns-clause-lines g c =
     let lines = flat_map (lines_of_reference c.args.self.catalogue.now c.args.self.named) in
-    leads_end (ap lines (nil_from_length _ c.in_default.ensures.cases)) c.each.printer.in_range c.each.invariant.0
+    leads_end (ap lines (nil_from_length _ c.in_default.ensures.cases)) c.each.printer.in_range c.each.invariant

@@ -1,6 +1,6 @@
--- What is answered of the lines to come is answered of all lines, and the last record is that of its target.
+-- What is answered of the lines to come is answered of all lines.
 use Rattle.std.proofs.Common.{flat_map, length}
-use Rattle.mxf_lines.specs.ReferenceLines.{IsRecordIn, lines_of_reference}
+use Rattle.mxf_lines.specs.ReferenceLines.{lines_of_reference}
 use Rattle.mxf_lines.proofs.PrintLaws.{Leads}
 use Rattle.mxf_lines.proofs.printing.references.NamedLinesLines.print_to.Given as goal
 
@@ -11,7 +11,6 @@ invariant-each g l =
     Leads l.initial.printer.fields.form (g.W.Write.contents l.initial.writer) l.initial.printer.progress.written
     (lines l.fn.self.references.now) l.printer.fields.form (g.W.Write.contents l.writer) l.printer.progress.written
     (lines l.left)
-    × IsRecordIn content l.fn.self.named l.last
 
 abbrev pub decreases-each : goal.decreases-each
 decreases-each g l = length l.left

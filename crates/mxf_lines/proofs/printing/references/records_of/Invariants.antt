@@ -1,0 +1,6 @@
+-- The records that are kept are those that were found.
+use Rattle.mxf_lines.specs.ReferenceLines.{AreRecordsIn}
+use Rattle.mxf_lines.proofs.printing.references.records_of.Given as goal
+
+abbrev pub invariant-loop-reference : goal.invariant-loop-reference
+invariant-loop-reference l = AreRecordsIn l.fn.catalogue.now l.fn.named l.records
