@@ -19,12 +19,12 @@ ghost use Rattle.mxf_partial.specs.Wanted.{IsWantedByte, WantedParts, are_indexe
 
 use crate::asks::asked_places;
 use crate::finding::{add_fronts, helping_orders};
-use crate::wanted::wanted_bytes;
+use crate::wanted::{add_extent, wanted_bytes};
 use mxf_catalogue::{Cover, Semilattice};
 use mxf_klv::{MAX, OutOfMemory, sort_once};
 use mxf_places::{AtHand, Claim, OffsetRange, Reason, claims, ranges_lacking};
 use mxf_restore::{NamedPlace, Order, SectionOrders, is_again, named_places, sections};
-use mxf_units::{UnitRange, UnitStanding, Units, UnitsLeft};
+use mxf_units::{Extent, UnitRange, UnitStanding, Units, UnitsLeft};
 use mxf_views::Views;
 use std::alloc::Global;
 use std::marker::Model;
@@ -176,11 +176,11 @@ fn add_order(cover: &mut Cover, order: &Order) -> Result<(), OutOfMemory>
     ensures { OnOk result ((x : ℕ) → LiesIn cover.new x
         ↔ (LiesIn cover.old x ⊎ (LiesInOrder order.now x × (x < greatest_end)))) }
 {
-    let end = order.end.unwrap_or(MAX).min(MAX);
-    if order.start < end {
-        cover.add(order.start, end)?;
-    }
-    Ok(())
+    let extent = Extent {
+        start: order.start,
+        end: order.end,
+    };
+    add_extent(cover, Some(extent))
 }
 
 /// Adds the orders of what is wanted and isn't there.
@@ -221,8 +221,8 @@ fn unit_order(at_hand: &AtHand, range: OffsetRange) -> Order
     let end = known_end(range.end);
     Order {
         reason: Reason::Unit,
-        start: range.start,
-        end,
+        start: u128::from(range.start),
+        end: end.map(u128::from),
         source: None,
         inside: true,
         again: is_again(

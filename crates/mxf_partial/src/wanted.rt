@@ -80,7 +80,7 @@ fn reach_of(location: Location) -> Option<u128>
 }
 
 /// Adds the bytes, as far as files reach.
-fn add_extent(cover: &mut Cover, extent: Option<Extent>) -> Result<(), OutOfMemory>
+pub(crate) fn add_extent(cover: &mut Cover, extent: Option<Extent>) -> Result<(), OutOfMemory>
     ensures { OnOk result ((x : ℕ) → LiesIn cover.new x
         ↔ (LiesIn cover.old x ⊎ (HasByte extent x × (x < greatest_end)))) }
 {

@@ -11,18 +11,19 @@ use Rattle.mxf_klv.proofs.Lists.{In-filter_map, all-In, found-In, none_found}
 use Rattle.mxf_klv.proofs.Tests.{guarded}
 use Rattle.mxf_catalogue.specs.Content.{IsContent}
 use Rattle.mxf_places.specs.AtHand.{AtHandParts}
-use Rattle.mxf_places.specs.Claims.{claims_of, is_of_stretch}
+use Rattle.mxf_places.specs.Claims.{claims_of}
 use Rattle.mxf_places.specs.FirstClaims.{AreInOrder, GoesUpTo}
 use Rattle.mxf_places.specs.Held.{IsDisputedAt, is_disputed_at, is_in_file}
 use Rattle.mxf_places.specs.Named.{IsClaim, IsInFile}
 use Rattle.mxf_places.specs.declared.claim.Claim.{Claim}
 use Rattle.mxf_places.proofs.ClaimLaws.{claims_say}
 use Rattle.mxf_places.proofs.EndLaws.{in_file_says}
-use Rattle.mxf_places.proofs.FirstLaws.{claim_some, claims_in_order, is_of_stretch-says, same_claimed, up_itself}
+use Rattle.mxf_places.proofs.FirstLaws.{claim_some, claims_in_order, same_claimed, up_itself}
 use Rattle.mxf_places.proofs.HeldLaws.{is_disputed_at-says}
 use Rattle.mxf_restore.specs.DisputedPlaces.{IsDisputedPlace, IsPointOf}
 use Rattle.mxf_restore.specs.Plan.{disputed_place_of, plan_of, point_of}
 use Rattle.mxf_restore.specs.declared.plan.DisputedPlace.{DisputedPlace}
+use Rattle.mxf_restore.proofs.ClaimedPlaces.{named_says, open_says}
 use Rattle.mxf_restore.proofs.PlanMembers.{disputed_place_members}
 
 -- What is found first of what a function tells of claims in their order.
@@ -81,35 +82,11 @@ module _ (notes : List NoteParts) (content : IsContent notes) where
 
   point_says : (c : Claim) (x : ℕ) → IsClaim notes c → (point_of c ≡ Some x) ↔ IsPointOf c x
   point_says c x is =
-      let says = is_of_stretch-says c in
-      elim (is_of_stretch c.reason) as (λ b. is_of_stretch c.reason ≡ b
-      → ((if b then (if c.is_open then Some (c.end - 1) else None) else Some c.from) ≡ Some x) ↔ IsPointOf c x) [
-        | true ↦ λ t.
-            elim c.is_open as (λ o. c.is_open ≡ o
-            → ((if o then Some (c.end - 1) else None) ≡ Some x) ↔ IsPointOf c x) [
-              | false ↦ λ closed. (
-                λ e. absurd (cc (e)),
-                λ k. elim k [
-                  | inl n ↦ absurd (n.0 (says.0 t))
-                  | inr s ↦ (let opened = s.1 in absurd (cc (opened, closed)))
-                ],
-              )
-              | true ↦ λ opened. (
-                λ e. inr (says.0 t, opened, (open_some c is opened x).0 (same_Some _ _ e)),
-                λ k. elim k [
-                  | inl n ↦ absurd (n.0 (says.0 t))
-                  | inr s ↦ ap (λ (z : ℕ). Some z) ((open_some c is opened x).1 s.2)
-                ],
-              )
-            ] refl
-        | false ↦ λ f. (
-          λ e. inl (λ s. let t = says.1 s in absurd (cc (t, f)), same_Some _ _ e),
-          λ k. elim k [
-            | inl n ↦ ap (λ (z : ℕ). Some z) n.1
-            | inr s ↦ (let t = says.1 s.0 in absurd (cc (t, f)))
-          ],
-        )
-      ] refl
+      let last = open_says c.is_open (c.end - 1) x in
+      named_says c (if c.is_open then Some (c.end - 1) else None) x true (x + 1 ≡ c.end) (
+        λ e. let k = last.0 e in (k.0, (open_some c is k.0 x).0 k.1),
+        λ k. last.1 (k.0, (open_some c is k.0 x).1 k.1),
+      )
 
   -- What a claim tells of a place.
   pub record Tells (c : Claim) (d : DisputedPlace) : Type 0 where

@@ -9,6 +9,7 @@ pub mod MapLaws
 pub mod MarkLaws
 pub mod FitLaws
 pub mod HoleLaws
+pub mod ClaimedPlaces
 pub mod SectionCover
 pub mod OrderCover
 pub mod PlanMembers

@@ -1,5 +1,5 @@
 -- What is ordered of a section, by the function and by the relation.
-use Rattle.std.proofs.Common.{◌≡◌, ◌↔◌, ◌∙◌, ◌==◌, ◌<◌, ◌+◌, ℕ, Bool, true, false, not, nat_lt, IsTrue}
+use Rattle.std.proofs.Common.{◌≡◌, ◌↔◌, ◌⊎◌, ◌∙◌, ◌==◌, ◌<◌, ◌+◌, ℕ, Bool, true, false, not, nat_lt, IsTrue}
 use Rattle.std.proofs.Common.{List, [], ◌∷◌, Option, None, Some, filter, if◌then◌else◌}
 use Rattle.std.proofs.Common.{refl, sym, ap, subst, inl, inr, arith, eqb-true, eq-eqb, lt-ltb, ltb-true}
 use Rattle.std.proofs.lemmas.Bool.{or_cases, or_left, or_right}
@@ -76,81 +76,72 @@ module _ (at : AtHandParts) where
       abbrev first_begun : OffsetRange
       first_begun = record { start = o.start; end = g.end }
 
+      -- The range is a part, wherever the section ends: it goes up to the end of one that lacks, and begins where it
+      -- has to.
+      abbrev IsLackingPart : OffsetRange → Type 0
+      IsLackingPart r =
+          (q : OffsetRange) × IsLackingIn at p o q × (r.end ≡ q.end)
+          × ((IsFirstLacking at p o q × IsWholeNeeded at p o.start × (r.start ≡ o.start))
+          ⊎ (((IsFirstLacking at p o q × IsWholeNeeded at p o.start) → ⊥) × (r.start ≡ q.start)))
+
+      -- Such parts are kept that begin before the section ends.
+      kept_say : (parts : List OffsetRange) (r : OffsetRange) → In r parts ↔ IsLackingPart r
+          → In r (filter before_next parts) ↔ IsPart at p o r.start r.end
+      kept_say parts r are =
+          let f = In-filter before_next parts r in
+          let before = before_says p.end r.start in (
+            λ k.
+                let s = f.0 k in
+                let q = are.0 s.0 in
+                inr (q.0, q.1, q.2, q.3, before.0 s.1),
+            λ h. elim h [
+              | inl n ↦ absurd (n.0 g ((says g).0 (inl refl)))
+              | inr n ↦ f.1 (are.1 (n.0, n.1, n.2, n.3), before.1 n.4)
+            ],
+          )
+
+      begun_say : IsWholeNeeded at p o.start → (r : OffsetRange) → In r (first_begun ∷ ranges) ↔ IsLackingPart r
+      begun_say whole r = (
+        λ k. elim k [
+          | inl e ↦ (
+            g,
+            (says g).0 (inl refl),
+            ap (λ (y : OffsetRange). y.end) e,
+            inl (first_one, whole, ap (λ (y : OffsetRange). y.start) e),
+          )
+          | inr j ↦ (r, (says r).0 (inr j), refl, inr (λ h. not_first r j h.0, refl))
+        ],
+        λ n. elim n.3 [
+          | inl w ↦ elim ((says n.0).1 n.1) [
+            | inl e ↦ inl (λ i. record { start = w.2 i; end = (n.2 ∙ ap (λ (y : OffsetRange). y.end) e) i })
+            | inr k ↦ absurd (not_first n.0 k w.0)
+          ]
+          | inr w ↦ elim ((says n.0).1 n.1) [
+            | inl e ↦ absurd (w.0 (subst (IsFirstLacking at p o) (sym e) first_one, whole))
+            | inr k ↦ inr
+                (subst (λ (y : OffsetRange). In y ranges) (λ i. record { start = sym w.1 i; end = sym n.2 i }) k)
+          ]
+        ],
+      )
+
+      as_they_lack_say : (IsWholeNeeded at p o.start → ⊥) → (r : OffsetRange) → In r (g ∷ ranges) ↔ IsLackingPart r
+      as_they_lack_say part r = (
+        λ k. (r, (says r).0 k, refl, inr (λ h. part h.1, refl)),
+        λ n. elim n.3 [
+          | inl w ↦ absurd (part w.1)
+          | inr w ↦ subst (λ (y : OffsetRange). In y (g ∷ ranges))
+              (λ i. record { start = sym w.1 i; end = sym n.2 i }) ((says n.0).1 n.1)
+        ],
+      )
+
       some_say : (r : OffsetRange) → In r (parts_among at p o (g ∷ ranges)) ↔ IsPart at p o r.start r.end
       some_say r =
-          let before = before_says p.end r.start in
           let whole = whole_says p o.start in
           elim (is_whole_needed at p o.start) as (λ b. is_whole_needed at p o.start ≡ b
           → In r (filter before_next (if b then begun_at o.start (g ∷ ranges) else g ∷ ranges))
           ↔ IsPart at p o r.start r.end) [
-            | true ↦ λ t.
-                let f = In-filter before_next (first_begun ∷ ranges) r in (
-                  λ k.
-                      let s = f.0 k in
-                      elim s.0 [
-                        | inl e ↦ inr (
-                          g,
-                          (says g).0 (inl refl),
-                          ap (λ (y : OffsetRange). y.end) e,
-                          inl (first_one, whole.0 t, ap (λ (y : OffsetRange). y.start) e),
-                          before.0 s.1,
-                        )
-                        | inr j ↦ inr (
-                          r,
-                          (says r).0 (inr j),
-                          refl,
-                          inr (λ h. not_first r j h.0, refl),
-                          before.0 s.1,
-                        )
-                      ],
-                  λ h. elim h [
-                    | inl n ↦ absurd (n.0 g ((says g).0 (inl refl)))
-                    | inr n ↦
-                        let q = n.0 in
-                        f.1 (
-                          elim n.3 [
-                            | inl w ↦ elim ((says q).1 n.1) [
-                              | inl e ↦ inl
-                                  (λ i. record { start = w.2 i; end = (n.2 ∙ ap (λ (y : OffsetRange). y.end) e) i })
-                              | inr k ↦ absurd (not_first q k w.0)
-                            ]
-                            | inr w ↦ elim ((says q).1 n.1) [
-                              | inl e ↦ absurd
-                                  (w.0 (subst (IsFirstLacking at p o) (sym e) first_one, whole.0 t))
-                              | inr k ↦ inr
-                                  (subst (λ (y : OffsetRange). In y ranges)
-                                  (λ i. record { start = sym w.1 i; end = sym n.2 i }) k)
-                            ]
-                          ],
-                          before.1 n.4,
-                        )
-                  ],
-                )
-            | false ↦ λ t.
-                let f = In-filter before_next (g ∷ ranges) r in (
-                  λ k.
-                      let s = f.0 k in
-                      inr (
-                        r,
-                        (says r).0 s.0,
-                        refl,
-                        inr (λ h. let u = whole.1 h.1 in cc (t, u), refl),
-                        before.0 s.1,
-                      ),
-                  λ h. elim h [
-                    | inl n ↦ absurd (n.0 g ((says g).0 (inl refl)))
-                    | inr n ↦
-                        let q = n.0 in
-                        f.1 (
-                          elim n.3 [
-                            | inl w ↦ absurd (let u = whole.1 w.1 in cc (t, u))
-                            | inr w ↦ subst (λ (y : OffsetRange). In y (g ∷ ranges))
-                                (λ i. record { start = sym w.1 i; end = sym n.2 i }) ((says q).1 n.1)
-                          ],
-                          before.1 n.4,
-                        )
-                  ],
-                )
+            | true ↦ λ t. kept_say (first_begun ∷ ranges) r (begun_say (whole.0 t) r)
+            | false ↦ λ f. kept_say (g ∷ ranges) r (as_they_lack_say (λ w. let u = whole.1 w in cc (f, u)) r)
           ] refl
 
     among_say : (ranges : List OffsetRange) → Rise p.first ranges

@@ -14,7 +14,7 @@ use Rattle.mxf_klv.proofs.RisingBy.{IsRisingBy, by_itself, rises-filter}
 use Rattle.mxf_klv.proofs.Tests.{not-true-false, not_true}
 use Rattle.mxf_catalogue.specs.Content.{IsContent}
 use Rattle.mxf_places.specs.Held.{IsHeld, is_held, is_in_file}
-use Rattle.mxf_places.specs.Claims.{claims_of, is_of_stretch}
+use Rattle.mxf_places.specs.Claims.{claims_of}
 use Rattle.mxf_places.specs.declared.claim.Claim.{Claim}
 use Rattle.mxf_places.specs.AtHand.{LiesInRange}
 use Rattle.mxf_restore.specs.Sections.{AreSections, CutsAt, IsCut, IsEndOfHole, IsHole, LiesInSection, cut_of, cuts_of}
@@ -22,8 +22,8 @@ use Rattle.mxf_restore.specs.Sections.{holes_of, is_inside, sections_from, secti
 use Rattle.mxf_places.specs.declared.at_hand.OffsetRange.{OffsetRange}
 use Rattle.mxf_restore.specs.declared.section.Section.{Section}
 use Rattle.mxf_places.proofs.EndLaws.{in_file_says}
-use Rattle.mxf_places.proofs.FirstLaws.{is_of_stretch-says}
 use Rattle.mxf_places.proofs.HeldLaws.{is_held-says}
+use Rattle.mxf_restore.proofs.ClaimedPlaces.{closed_says, named_says}
 use Rattle.mxf_restore.proofs.HoleLaws.{from_hole, to_hole}
 
 -- The offset lies below the end of a hole or a section.
@@ -211,35 +211,7 @@ one_hole notes h k x a b u v =
 -- Where a claim cuts.
 cuts_say : (c : Claim) (x : ℕ) → (cut_of c ≡ Some x) ↔ CutsAt c x
 cuts_say c x =
-    let says = is_of_stretch-says c in
-    elim (is_of_stretch c.reason) as (λ b. is_of_stretch c.reason ≡ b
-    → ((if b then (if c.is_open then None else Some c.end) else Some c.from) ≡ Some x) ↔ CutsAt c x) [
-      | true ↦ λ t.
-          elim c.is_open as (λ o. c.is_open ≡ o
-          → ((if o then None else Some c.end) ≡ Some x) ↔ CutsAt c x) [
-            | true ↦ λ opened. (
-              λ e. absurd (cc (e)),
-              λ k. elim k [
-                | inl n ↦ absurd (n.0 (says.0 t))
-                | inr s ↦ (let closed = s.1 in absurd (cc (opened, closed)))
-              ],
-            )
-            | false ↦ λ closed. (
-              λ e. inr (says.0 t, closed, same_Some _ _ e),
-              λ k. elim k [
-                | inl n ↦ absurd (n.0 (says.0 t))
-                | inr s ↦ ap (λ (z : ℕ). Some z) s.2
-              ],
-            )
-          ] refl
-      | false ↦ λ f. (
-        λ e. inl (λ s. let t = says.1 s in absurd (cc (t, f)), same_Some _ _ e),
-        λ k. elim k [
-          | inl n ↦ ap (λ (z : ℕ). Some z) n.1
-          | inr s ↦ (let t = says.1 s.0 in absurd (cc (t, f)))
-        ],
-      )
-    ] refl
+    named_says c (if c.is_open then None else Some c.end) x false (c.end ≡ x) (closed_says c.is_open c.end x)
 
 module _ (notes : List NoteParts) (content : IsContent notes) where
   rising : IsRisingBy (λ x. x) (cuts_of notes)

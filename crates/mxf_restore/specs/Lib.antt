@@ -1,3 +1,4 @@
+pub mod Parts
 pub mod Sections
 pub mod Plan
 pub mod Orders

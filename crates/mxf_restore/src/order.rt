@@ -26,6 +26,33 @@ use std::marker::Model;
 /// How many bytes a front has at most.
 const FRONT_BYTES: u64 = 65_536;
 
+/// The bytes that are asked for of a section, by file offsets, be they at hand or not.
+#[derive(Clone, Copy)]
+struct AskedBytes {
+    reason: Reason,
+    start: u64,
+    end: Option<u64>,
+    source: Option<u64>,
+}
+
+impl Model for AskedBytes {
+    ghost use Rattle.std.specs.Prelude.{false};
+    ghost use Rattle.mxf_restore.specs.declared.plan.Order.{Order};
+
+    ghost Value = { Order };
+
+    ghost view = { λ a. record {
+      reason = a.reason;
+      start = a.start;
+      end = a.end;
+      source = a.source;
+      inside = false;
+      again = false;
+    } };
+
+    ghost inverse = { λ o. record { reason = o.reason; start = o.start; end = o.end; source = o.source } };
+}
+
 /// What is ordered of each section of a file, by what is held, at hand and claimed.
 #[derive(Drop)]
 pub struct SectionOrders<'a> {
@@ -102,24 +129,22 @@ impl<'a> SectionOrders<'a> {
     }
 
     /// What is asked for of a section; all from where its packet begins on where nothing is.
-    fn looked_for(&self, section: Section) -> Order
+    fn looked_for(&self, section: Section) -> AskedBytes
         ensures { result ≡ looked_for self.now.at self.now.notes section }
     {
         match self.asked_of(section) {
             Some(asked) => asked,
-            None => Order {
+            None => AskedBytes {
                 reason: Reason::Gap,
                 start: self.start_of(section),
                 end: None,
                 source: None,
-                inside: false,
-                again: false,
             },
         }
     }
 
     /// What is asked for of a section, be it at hand or not.
-    fn asked_of(&self, section: Section) -> Option<Order>
+    fn asked_of(&self, section: Section) -> Option<AskedBytes>
         ensures { result ≡ asked_of self.now.at self.now.notes section }
     {
         let head = self.heads.around(section.first);
@@ -151,7 +176,7 @@ impl<'a> SectionOrders<'a> {
 
 /// What is asked for from a start on, in bytes, up to an end: for what the claim says, or for no reason. Where nothing
 /// is claimed and there is no end, none.
-fn asked(claim: Option<Claim>, start: u64, end: Option<u64>) -> Option<Order>
+fn asked(claim: Option<Claim>, start: u64, end: Option<u64>) -> Option<AskedBytes>
     ensures { result ≡ asked claim start end }
 {
     let (reason, source) = match claim {
@@ -159,13 +184,11 @@ fn asked(claim: Option<Claim>, start: u64, end: Option<u64>) -> Option<Order>
         None if end.is_some() => (Reason::Gap, None),
         None => return None,
     };
-    Some(Order {
+    Some(AskedBytes {
         reason,
         start,
         end,
         source,
-        inside: false,
-        again: false,
     })
 }
 
@@ -215,7 +238,7 @@ fn add_parts(
     at_hand: &AtHand,
     orders: &mut Vec<Order>,
     section: Section,
-    asked: Order,
+    asked: AskedBytes,
 ) -> Result<(), OutOfMemory>
     ensures { OnOk result (orders.new.items ≡ orders.old.items ++ orders_by at_hand.now section (Some asked)) }
 {
@@ -227,7 +250,7 @@ fn add_parts(
 fn add_part_orders(
     orders: &mut Vec<Order>,
     at_hand: &AtHand,
-    asked: Order,
+    asked: AskedBytes,
     parts: &[OffsetRange],
 ) -> Result<(), OutOfMemory>
     ensures { OnOk result (orders.new.items
@@ -243,7 +266,7 @@ fn parts_of(
     alloc: Global,
     at_hand: &AtHand,
     section: Section,
-    asked: Order,
+    asked: AskedBytes,
 ) -> Result<Vec<OffsetRange>, OutOfMemory>
     ensures { IfOk result (λ v. v.items ≡ parts_of at_hand.now section asked) }
 {
@@ -267,7 +290,7 @@ fn front_by(
     alloc: Global,
     at_hand: &AtHand,
     section: Section,
-    asked: Order,
+    asked: AskedBytes,
 ) -> Result<Option<Order>, OutOfMemory>
     ensures { IfOk result (λ o. o ≡ front_by at_hand.now section asked) }
 {
@@ -317,15 +340,16 @@ fn is_whole_needed(at_hand: &AtHand, section: Section, start: u64) -> bool
 }
 
 /// The order of a part of what is asked for.
-fn part_order(at_hand: &AtHand, asked: Order, part: OffsetRange) -> Order
+fn part_order(at_hand: &AtHand, asked: AskedBytes, part: OffsetRange) -> Order
     ensures { result ≡ part_order at_hand.now asked part }
 {
     Order {
-        start: part.start,
-        end: part.end,
+        reason: asked.reason,
+        start: u128::from(part.start),
+        end: part.end.map(u128::from),
+        source: asked.source,
         inside: part.start != asked.start,
         again: is_again(at_hand, part),
-        ..asked
     }
 }
 

@@ -31,20 +31,48 @@ use mxf_views::Views;
 use std::alloc::Global;
 use std::marker::Model;
 
-/// Bytes to restore: a packet begins at `start`, as far as what is held says, unless they lie inside of one.
+/// Bytes to restore: a packet begins at `start`, as far as what is held says, unless they lie inside of one. Where they
+/// begin and end fits a `u64`, so that the bytes of all orders of a plan can be counted.
 #[derive(Clone, Copy, Debug, PartialEq, Eq, PartialOrd, Ord)]
 pub struct Order {
     pub reason: Reason,
     /// The file offset of the first byte.
-    pub start: u64,
+    pub start: u128,
     /// The file offset behind the last byte; none where that isn't known.
-    pub end: Option<u64>,
+    pub end: Option<u128>,
     /// The file offset of the pack that says so; none where no pack does.
     pub source: Option<u64>,
     /// No packet begins at `start`: the bytes before it are at hand.
     pub inside: bool,
     /// The bytes were handed in already, and don't do.
     pub again: bool,
+}
+
+impl Model for Order {
+    ghost use Rattle.std.specs.Prelude.{◌<◌, ◌^◌, IfSome};
+    ghost use Rattle.mxf_restore.specs.Parts.{OrderParts};
+
+    ghost Value = { OrderParts };
+
+    ghost view = { λ o. record {
+      reason = o.reason;
+      start = o.start;
+      end = o.end;
+      source = o.source;
+      inside = o.inside;
+      again = o.again;
+    } };
+
+    ghost inverse = { λ o. record {
+      reason = o.reason;
+      start = o.start;
+      end = o.end;
+      source = o.source;
+      inside = o.inside;
+      again = o.again;
+    } };
+
+    ghost invariant = { λ o. (o.start < 2 ^ 64) × IfSome o.end (λ e. e < 2 ^ 64) };
 }
 
 /// A place that matters and is held in two readings.

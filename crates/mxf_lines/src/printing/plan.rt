@@ -1,10 +1,11 @@
 //! What to restore next, and its lines.
-ghost use Rattle.std.specs.Prelude.{◌≡◌, count_by, is_none, length, sum_by};
+ghost use Rattle.std.specs.Prelude.{◌≡◌, ◌<◌, ◌^◌, count_by, is_none, length, sum_by};
 ghost use Rattle.mxf_lines.specs.PlanLines.{disputed_place_line, order_length, ordered_bytes, plan_lines, planned_line};
 ghost use Rattle.mxf_lines.specs.PlanLines.{restore_line};
 
 use super::AnswerFault;
 use super::lines::{Each, FieldWriter, Line, Lines, Printer, Then};
+use super::units::write_place;
 use mxf_restore::{DisputedPlace, Order, Plan};
 use std::alloc::AllocError;
 use std::io::Write;
@@ -18,7 +19,7 @@ impl Line for Order {
     fn write_fields(&self, fields: &mut FieldWriter) -> Result<(), AllocError> {
         fields.begin("restore", "restore")?;
         fields.number(" ", "start", self.start)?;
-        fields.known(" ", "end", "-", self.end)?;
+        write_place(fields, "end", self.end)?;
         fields.word(" ", "reason", self.reason)?;
         fields.known(" ", "source", "-", self.source)?;
         fields.flag(" inside", "inside", self.inside)?;
@@ -32,7 +33,7 @@ impl Line for Order {
 fn length_of(order: &Order) -> Option<u128>
     ensures { result ≡ order_length order.now }
 {
-    Some(u128::from(order.end?.saturating_sub(order.start)))
+    Some(order.end?.saturating_sub(order.start))
 }
 
 /// A disputed place: its place, in bytes, why that matters, and the offset of the pack that says so.
@@ -77,14 +78,15 @@ fn bytes_of(orders: &[Order]) -> u128
 {
     let mut bytes: u128 = 0;
     for order in orders {
-        bytes += u128::from(ordered_bytes(order));
+        bytes += ordered_bytes(order);
     }
     bytes
 }
 
 /// The bytes of an order, as far as they are known.
-fn ordered_bytes(order: &Order) -> u64
-    ensures { result ≡ ordered_bytes order.now }
+fn ordered_bytes(order: &Order) -> u128
+    ensures bytes { result ≡ ordered_bytes order.now }
+    ensures limit { result < 2 ^ 64 }
 {
     match order.end {
         Some(end) => end.saturating_sub(order.start),

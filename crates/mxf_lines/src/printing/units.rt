@@ -95,8 +95,12 @@ fn length_of(extent: Option<Extent>) -> Option<u128>
     Some(extent.end?.saturating_sub(extent.start))
 }
 
-/// Writes a file offset.
-fn write_place(fields: &mut FieldWriter, name: &str, place: Option<u128>) -> Result<(), AllocError>
+/// Writes a file offset, where it is known.
+pub(super) fn write_place(
+    fields: &mut FieldWriter,
+    name: &str,
+    place: Option<u128>,
+) -> Result<(), AllocError>
     ensures { IfOk result (λ _. fields.new
         ≡ with_field (field (codes " ") name.now (number_or (codes "-") place)) fields.old) }
 {

@@ -1,9 +1,11 @@
-use Rattle.std.proofs.Common.{◌∙◌, min}
+use Rattle.std.proofs.Common.{◌↔◌, ◌⊎◌, ◌<◌, ℕ, OnOk, subst}
 use Rattle.mxf_klv.specs.Note.{greatest_end}
-use Rattle.mxf_partial.proofs.WantedLaws.{added}
+use Rattle.mxf_catalogue.specs.Runs.{LiesIn}
+use Rattle.mxf_restore.specs.Plan.{LiesInOrder}
+use Rattle.mxf_restore.specs.declared.plan.Order.{Order}
 use Rattle.mxf_partial.proofs.plan.add_order.Goals as goal
 
-pub returns-in_ok-add : goal.returns-in_ok-add
-returns-in_ok-add c =
-    added c.args.order.now.start c.args.order.now.end c.min-end.result c.args.cover.now c.add.new.self
-    (c.min-end.ensures ∙ (λ i. min (c.unwrap_or.ensures i) greatest_end)) c.in_ok-add.ensures.added
+pub returns : goal.returns
+returns c =
+    subst (λ (o : Order). OnOk c.add_extent.result ((x : ℕ) → LiesIn c.add_extent.new.cover x
+    ↔ (LiesIn c.args.cover.now x ⊎ (LiesInOrder o x × (x < greatest_end))))) c.order.view_is c.add_extent.ensures

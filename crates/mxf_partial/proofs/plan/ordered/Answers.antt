@@ -1,10 +1,17 @@
+use Rattle.std.proofs.Common.{◌↔◌, ◌⊎◌, ◌<◌, subst}
+use Rattle.mxf_klv.specs.Note.{greatest_end}
+use Rattle.mxf_catalogue.specs.Runs.{LiesIn}
+use Rattle.mxf_restore.specs.Plan.{LiesInOrder}
+use Rattle.mxf_restore.specs.declared.plan.Order.{Order}
 use Rattle.mxf_partial.proofs.UnitPlanLaws.{no_order_more, one_order_more}
 use Rattle.mxf_partial.proofs.plan.ordered.Goals as goal
 
 pub loop-order-preserved : goal.loop-order-preserved
 loop-order-preserved c = λ x.
     one_order_more c.args.orders.now c.loop-order.order-index _ c.loop-order.ordered c.add_order.new.cover x
-    c.loop-order-test.true (c.in_ok-add_order.ensures x) (c.loop-order.invariant x)
+    c.loop-order-test.true (subst (λ (o : Order). LiesIn c.add_order.new.cover x
+    ↔ (LiesIn c.loop-order.ordered x ⊎ (LiesInOrder o x × (x < greatest_end)))) c.order-item.is
+    (c.in_ok-add_order.ensures x)) (c.loop-order.invariant x)
 
 pub returns : goal.returns
 returns c = λ x.
