@@ -1,14 +1,15 @@
--- A table with one record more has those that were found.
+-- A table with one record more has those that were found. References that are there have lines.
 use Rattle.std.proofs.Common.{◌≡◌, ◌∙◌, ◌==◌, ℕ, List, [], Bool, Option, Some, true, false, refl, ap, sym, cond, eqb-true}
-use Rattle.std.proofs.Common.{unwrap_or}
+use Rattle.std.proofs.Common.{◌<◌, ◌∷◌, arith, length, unwrap_or}
 use Rattle.std.specs.Ordering.{nat_cmp}
 use Rattle.std.specs.BTreeMap.{BTreeMap, get, is_at}
 use Rattle.mxf_klv.specs.Parts.{NoteParts}
 use Rattle.mxf_sets.proofs.TableLaws.{at_equal, at_other}
+use Rattle.mxf_views.specs.declared.reference.target.Ref.{Ref}
 use Rattle.mxf_views.specs.declared.reference.target.Target.TheVariants.{Found}
 use Rattle.mxf_lines.specs.declared.printing.line.record.Named.{Named}
 use Rattle.mxf_lines.specs.declared.printing.references.Record.{Record}
-use Rattle.mxf_lines.specs.ReferenceLines.{AreRecordsIn, found_record}
+use Rattle.mxf_lines.specs.ReferenceLines.{AreRecordsIn, found_record, named_lines}
 
 pub records_one_more : (content : List NoteParts) (named : Named) (old new : BTreeMap ℕ (Option Record)) (offset : ℕ)
     (value : Option Record) → AreRecordsIn content named old → value ≡ found_record content named (Found offset)
@@ -25,3 +26,8 @@ records_one_more content named old new offset value kept there updates at found 
           sym one ∙ there ∙ ap (λ (n : ℕ). found_record content named (Found n)) same
       | false ↦ λ e. kept at found (sym (updates at ∙ ap stands (at_other offset at e)) ∙ is)
     ] refl
+
+pub lines_of_some : (content : List NoteParts) (named : Named) (references : List Ref)
+    → (length references == 0) ≡ false → 0 < length (named_lines content named references)
+lines_of_some content named [] some = absurd (cc some)
+lines_of_some content named (r ∷ references) some = omega arith

@@ -104,6 +104,9 @@ impl<'a> Lines for NamedLines<'a> {
     ghost lines = { λ l. named_lines l.catalogue.now l.named l.references.now };
 
     fn print_to<W: Write>(self, printer: &mut Printer, writer: &mut W) -> Result<(), AnswerFault> {
+        if self.references.is_empty() {
+            return Ok(());
+        }
         let records = records_of(printer.alloc(), self.catalogue, self.named, self.references)?;
         let mut left = self.references;
         'each: while let Some((reference, others)) = left.split_first() {

@@ -1,5 +1,5 @@
 //! The lines of a piece and of a join.
-ghost use Rattle.std.specs.Prelude.{◌≡◌, IfOk, length};
+ghost use Rattle.std.specs.Prelude.{◌≡◌, ◌+◌, IfOk, length};
 ghost use Rattle.mxf_catalogue.specs.Disputes.{disputed_notes};
 ghost use Rattle.mxf_lines.specs.Lines.{join_line, piece_line, stop_fields};
 ghost use Rattle.mxf_lines.specs.Writing.{with_fields};
