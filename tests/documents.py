@@ -5,11 +5,13 @@ heading `# NAME` of rows in the `stdin` and `stdout` of a program. Where a link 
 type, that is there, and the function has the clauses that stand in parentheses behind the link. Sees that each line of a
 block that names a file of crates/ stands in it. Sees that each row of a table stands in a table, which an empty line
 would end, and that the numbers of tests, edits, runs and files that a document gives are those of the scripts and
-crates. Looks up in docs/MODEL.md each definition that a clause of a public function of the libraries cites, and compares
-the table of docs/LAYERS.md with crates.txt. Compares each page of docs/api with what tests/api_pages.py makes of the
-sources, and what docs/FORMATS.md owns (exit statuses, stops, forms of a source, findings, words of lines) with what
-README.md, docs/GUIDE.md, the man page and the sources say of it. Looks up the names of code of docs/MODEL.md and
-docs/DECISIONS.md in the sources. Only failures are printed; the last line is 'N passed, M failed'.
+crates. Sees that each row of docs/PROMISES.md names a clause or what tries it, and that its list has each public call
+that can be out of memory. Looks up in docs/MODEL.md each definition that a clause of a public function of the libraries
+cites, and compares the table of docs/LAYERS.md with crates.txt, and its tables of files with the files of the crates.
+Compares each page of docs/api with what tests/api_pages.py makes of the sources, and what docs/FORMATS.md owns (exit
+statuses, stops, forms of a source, findings, words of lines) with what README.md, docs/GUIDE.md, the man page and the
+sources say of it. Looks up the names of code of docs/MODEL.md and docs/DECISIONS.md in the sources. Only failures are
+printed; the last line is 'N passed, M failed'.
 """
 import ast
 import itertools
@@ -209,6 +211,126 @@ def verdicts_of_layers(document):
             below = set().union(*(known.get(name, set()) for name in named))
             yield number, ", ".join(named), None if stated == below else f"crates.txt differs in {sorted(stated ^ below)}"
     yield 1, "the table of crates", None if told == set(known) else f"crates.txt differs in {sorted(told ^ set(known))}"
+
+
+def sources_of(crate):
+    """The files of a crate's sources, by their paths below `src` without the ending: all but `lib` and `main`."""
+    folder = TOP / "crates" / crate / "src"
+    files = (file.relative_to(folder).with_suffix("").as_posix() for file in folder.rglob("*.rt"))
+    return {file for file in files if file not in ("lib", "main")}
+
+
+def file_named(name, before, files):
+    """The file that a name of a cell stands for, or None. The name may leave out the folder of the name before it, the
+    front of that folder, or, after a colon, the name before it."""
+    folders = [before, *map(str, pathlib.PurePosixPath(before).parents)] if before else [""]
+    paths = (str(pathlib.PurePosixPath(folder) / name) for folder in folders)
+    return next((path for path in paths if path in files), None)
+
+
+def rows_of_files(document):
+    """The rows of the tables that say which file has what: the crate, the line, and the names of its first cell."""
+    crate = None
+    for number, line in enumerate(lines_of(document), 1):
+        heading = re.match(r"(mxf_\w+), in \[src/\]\(\.\./crates/\1/src\)", line)
+        crate = heading[1] if heading else None if line and not line.startswith("|") else crate
+        names = re.findall(r"`([^`]+)`", line.split(" | ")[0])
+        if crate and names and line.startswith("|"):
+            yield crate, number, names
+
+
+def verdicts_of_files(document):
+    """For each name of a file in the tables of docs/LAYERS.md: its line, the name, and that no file has it or that it
+    stands there twice, or None. Then for each library and mxf_tool: the files that its table lacks, or None."""
+    if document.name != "LAYERS.md":
+        return
+    files, seen = {crate: sources_of(crate) for crate in (*LIBRARIES, "mxf_tool")}, set()
+    for crate, number, names in rows_of_files(document):
+        before = ""
+        for name in names:
+            before = file_named(name, before, files.get(crate, ())) or name
+            fault = "twice" if (crate, before) in seen else None if before in files.get(crate, ()) else "no such file"
+            seen.add((crate, before))
+            yield number, f"{name} of {crate}", fault
+    for crate, known in files.items():
+        lacking = sorted(file for file in known if (crate, file) not in seen)
+        yield 1, f"the table of {crate}", f"no row names {', '.join(lacking)}" if lacking else None
+
+
+# What a cell of docs/PROMISES.md has that names no clause and carries a promise: the two that rest on the language, and
+# the one that rests on rows below.
+CARRIED = ("each function's proof", "only lent (`&`)", "(#end-to-end)")
+TRIED_BY = re.compile(r"(?:tests|benches|crates)/[\w./]*\w|mxf_\w+(?:::\w+)*|\(#[\w-]+\)")
+
+
+def second_cells(document):
+    """The second cells of all rows of tables: the line of each, the heading above it, and its text. That of a heading has
+    no text."""
+    heading = None
+    for number, line in enumerate(lines_of(document), 1):
+        cells = [cell.strip() for cell in line.split("|")[1:-1]]
+        if not cells:
+            heading = None
+        elif heading is None:
+            heading = cells[1]
+            yield number, heading, None
+        elif not re.fullmatch(r"[-| ]+", line):
+            yield number, heading, cells[1]
+
+
+def fault_of_trial(words):
+    """Why these words don't say what tries a promise: they name nothing, or no file that there is; or None."""
+    named = TRIED_BY.findall(words)
+    missing = [name for name in named if "/" in name and not (TOP / name).exists()]
+    return f"no such file as {', '.join(missing)}" if missing else None if named else "not said by what it is tried"
+
+
+def fault_of_promise(cell):
+    """Why nothing carries the promise of a cell: it names no clause and not what tries it; or None."""
+    proof, marked, trial = cell.partition("tried")
+    if (proof or not marked) and not CONTRACT.search(proof) and not any(words in proof for words in CARRIED):
+        return "neither a clause nor what it is tried by"
+    return fault_of_trial(trial) if marked else None
+
+
+# What is looked up in the second cells of docs/PROMISES.md, by the heading above them.
+PROMISED = {"Carried by": fault_of_promise, "Tried by": fault_of_trial, "Field or contract": None, "Edit": None}
+
+
+def verdicts_of_promises(document):
+    """For each table of docs/PROMISES.md: that nobody knows its second heading, or None. For each of its rows that has a
+    promise: its line, what carries it, and why nothing does, or None."""
+    for number, heading, cell in second_cells(document) if document.name == "PROMISES.md" else ():
+        fault_of = PROMISED.get(heading)
+        if cell is None:
+            yield number, heading, None if heading in PROMISED else "no such heading of promises"
+        elif fault_of:
+            yield number, cell, fault_of(cell)
+
+
+def calls_with_memory():
+    """The public calls that can answer that they are out of memory, by the pages of docs/api: the type of each, which a
+    function hasn't, and its name."""
+    for page in sorted(api_pages.PAGES.glob("*.md")):
+        owner = None
+        for line in text_of(page).splitlines():
+            heading = re.match(r"#+ `(\w+)`", line)
+            owner = heading[1] if heading else owner
+            call = re.match(r"(- )?`fn (\w+)[^`]*\balloc: Global\b[^`]*-> Result<", line)
+            if call:
+                yield owner if call[1] else None, call[2]
+
+
+def verdicts_of_memory(document):
+    """For each call that can answer that it is out of memory: that the list at the top of docs/PROMISES.md hasn't its
+    name, or None."""
+    if document.name != "PROMISES.md":
+        return
+    top = text_of(document).split("\n## ")[0]
+    for owner, name in calls_with_memory():
+        names = [f"`{owner}::{name}`"] if name in ("of", "read") else [f"`{owner}::{name}`", f"`{name}`"]
+        fault = None if any(named in top for named in names) else "not in the list of calls that take memory"
+        yield 1, f"{owner}::{name}" if owner else name, fault
 
 
 def length_of(script, name):
@@ -493,6 +615,7 @@ def fault_of_fact(file, owned, there):
 
 
 VERDICTS = (
+    verdicts_of_files, verdicts_of_promises, verdicts_of_memory,
     verdicts_of_links, verdicts_of_contracts, verdicts_of_names, verdicts_of_tables, verdicts_of_quotes,
     verdicts_of_definitions, verdicts_of_layers, verdicts_of_numbers, verdicts_of_api, verdicts_of_code,
     verdicts_of_facts,
