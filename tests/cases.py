@@ -451,7 +451,8 @@ def asked_of_one_piece(files, word):
             if command.name != "join" and not command.chosen and not any(".." in line for line in command.lines):
                 words = [command.name, *command.form, *command.arguments, f"at:{offset}:/dev/stdin"]
                 answer = "".join(f"{line}\n" for line in command.lines)
-                yield f"{number:03}-{place}-{command.name}", bytes_of(laid), words, answer
+                name = re.sub("[^0-9A-Za-z]+", "-", case.name)[:100]
+                yield f"{name}-{number}-{place}-{command.name}", bytes_of(laid), words, answer
 
 
 def lay_all(folder, words, files):
