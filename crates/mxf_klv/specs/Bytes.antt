@@ -1,4 +1,4 @@
--- Lists of bytes, where a clause ranges over all lists of numbers.
+-- Lists of bytes, for clauses that range over all lists of numbers.
 use Rattle.std.specs.Prelude.{ℕ, ◌<◌, List, slice_index}
 
 -- Each number of the list is that of a byte.

@@ -28,13 +28,13 @@ is_whole (Whole f v) = true
 is_whole (Digest f d) = true
 is_whole (Head f) = false
 
--- Of a packet that was read whole, the value, of so many bytes, is kept exactly where its key and length say so.
+-- Of a packet that was read whole, the value is kept exactly if its key and number of bytes say so.
 abbrev pub IsKeptBy : KeptValue → ℕ → Type 0
 IsKeptBy (Whole f v) len = (keeps f.key len ≡ true) × (length v.items ≡ len)
 IsKeptBy (Digest f d) len = (keeps f.key len ≡ false) × (length d ≡ 32)
 IsKeptBy (Head f) len = Unit {0}
 
--- What holds of a note's fields: the key is a label and tells the kind, the width can spell the length, the packet ends
+-- What holds of a note's fields: the key is a label and says the kind, the width can spell the length, the packet ends
 -- at or below the greatest end, and as much is kept as has to be.
 pub record AreNoteFields (offset len : ℕ) (kept : KeptValue) : Type 0 where
   pub label : IsLabel (front_of kept).key
@@ -43,7 +43,7 @@ pub record AreNoteFields (offset len : ℕ) (kept : KeptValue) : Type 0 where
   pub within : offset + 16 + (front_of kept).width + len ≤ greatest_end
   pub value : IsKeptBy kept len
 
--- What is shown of a note's value is what the note holds: the whole value exactly where the note keeps it, the digest
+-- What is shown of a note's value is what the note holds: the whole value exactly if the note keeps it, the digest
 -- of another that was read whole, and nothing of a head's.
 abbrev pub Shows : Held → NoteParts → Type 0
 Shows (held.Whole v) n = (keeps_value n ≡ true) × (v.now ≡ n.held)

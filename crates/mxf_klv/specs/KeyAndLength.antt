@@ -18,7 +18,7 @@ pub record BeginsWithKeyAndLength (bytes key : List ℕ) (l : LengthParts) (afte
 abbrev pub HasNoKeyAndLength : List ℕ → Type 0
 HasNoKeyAndLength bytes = (key after : List ℕ) (l : LengthParts) → ¬ BeginsWithKeyAndLength bytes key l after
 
--- What bytes begin with before any value is read: a key and a length; or else what is at fault with the packet.
+-- What bytes begin with before any value is read: a key and a length; otherwise what is at fault with the packet.
 abbrev pub ReadsKeyAndLength : List ℕ → Result KeyAndLength PacketFault → Type 0
 ReadsKeyAndLength bytes (Ok front) = BeginsWithKeyAndLength bytes front.key front.ber front.after.now
 ReadsKeyAndLength bytes (Err fault) = ReadsPacket bytes (Err fault) × HasNoKeyAndLength bytes

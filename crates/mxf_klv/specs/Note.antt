@@ -33,7 +33,7 @@ end_of n = n.offset + 16 + n.width + n.length
 abbrev pub covered_end : NoteParts → ℕ
 covered_end n = if n.whole then end_of n else n.offset + 16 + n.width
 
--- How many bytes a note holds: the whole value where that is kept, else the 32 bytes of a digest; a head none.
+-- How many bytes a note holds: the whole value if that is kept, otherwise the 32 bytes of a digest; a head none.
 abbrev pub held_length : NoteParts → ℕ
 held_length n = if n.whole then (if keeps n.key n.length then n.length else 32) else 0
 
@@ -55,11 +55,11 @@ pub record IsCovered (n : NoteParts) (offset : ℕ) : Type 0 where
   pub from : n.offset ≤ offset
   pub before : offset + 1 ≤ covered_end n
 
--- The head that a note tells: the head of the same packet.
+-- The head that a note implies: the head of the same packet.
 abbrev pub head_note : NoteParts → NoteParts
 head_note n = head_parts n.offset n.key n.width n.length
 
--- The note of a packet at an offset: it holds the value where that is kept, and else its SHA-256.
+-- The note of a packet at an offset: it holds the value if that is kept, otherwise its SHA-256.
 abbrev pub note_of : ℕ → PacketParts → NoteParts
 note_of offset packet = record {
   offset = offset;

@@ -22,7 +22,7 @@ pub record IsCutPacket (bytes : List ℕ) : Type 0 where
   pub some : 0 < length more
   pub spells : IsSpelledPacket (bytes ++ more) packet
 
--- What bytes begin with: a packet of so many bytes; no label; a length that is at fault; or a packet that is cut.
+-- What bytes begin with: a packet of that many bytes; no label; a length that is at fault; or a packet that is cut.
 abbrev pub ReadsPacket : List ℕ → Result (PacketParts × ℕ) PacketFault → Type 0
 ReadsPacket bytes (Ok (packet, size)) = (size ≤ length bytes) × IsSpelledPacket (take size bytes) packet
 ReadsPacket bytes (Err NotUl) = ¬ BeginsAsLabel bytes

@@ -55,8 +55,8 @@ pub record BeginsWithCut (offset : ℕ) (rest : List ℕ) (n : NoteParts) : Type
   pub head : n ≡ head_parts offset key length.width length.value
 
 -- Why no packet is noted at the front of a rest at an offset: no byte is left; what is there doesn't begin as a label;
--- the length is at fault; the packet would end too far on; or else the packet is cut. A piece has its start: that there
--- is none is never its stop.
+-- the length is at fault; the packet would end too far on; otherwise the packet is cut. A piece has its start, so it
+-- never stops for want of one.
 abbrev pub IsStop : ℕ → List ℕ → Stop → Type 0
 IsStop offset rest End = rest ≡ []
 IsStop offset rest (NotUl place) = (place ≡ offset) × ReadsPacket rest (Err faults.NotUl)

@@ -14,7 +14,7 @@ use Rattle.mxf_klv.specs.Piece.{notes_from, end_after}
 use Rattle.mxf_klv.specs.declared.piece.Stop.{Stop}
 use Rattle.mxf_klv.specs.declared.piece.Stop.TheVariants.{End, NotUl, BadLength, TooFar, Truncated, NoStart}
 
--- The length at the front, where a whole one stands there: the law says that `ReadsLength` gives the same.
+-- The length at the front, if a whole one stands there. The law says that `ReadsLength` gives the same.
 abbrev pub length_at : List ℕ → Option LengthParts
 length_at [] = None
 length_at (first ∷ rest) =
@@ -23,7 +23,7 @@ length_at (first ∷ rest) =
     then Some (record { width = first - 127; value = big_number (first - 128) rest })
     else None)
 
--- The length of the packet at the front, where key and length are whole.
+-- The length of the packet at the front, if key and length are whole.
 unfoldable pub head_at : List ℕ → Option LengthParts
 head_at bytes = if begins_as_label bytes && nat_le 16 (length bytes) then length_at (drop 16 bytes) else None
 
@@ -39,12 +39,12 @@ fits_at offset bytes l = nat_le (16 + l.width + l.value) (length bytes) && nat_l
 abbrev pub packet_with : List ℕ → LengthParts → PacketParts
 packet_with bytes l = packet_parts (take 16 bytes) l.width (take l.value (drop l.width (drop 16 bytes)))
 
--- The packet at the front, where a whole one stands there and ends at or below the greatest end.
+-- The packet at the front, if a whole one stands there and ends at or below the greatest end.
 unfoldable pub packet_at : ℕ → List ℕ → Option PacketParts
 packet_at offset bytes =
     option_and_then (λ l. if fits_at offset bytes l then Some (packet_with bytes l) else None) (head_at bytes)
 
--- The packets of a piece, at most so many.
+-- The packets of a piece, at most that many.
 abbrev pub packets_by : ℕ → ℕ → List ℕ → List PacketParts
 packets_by zero offset bytes = []
 packets_by (suc n) offset bytes =
@@ -68,7 +68,7 @@ rest_in offset bytes = rest_by (length bytes) offset bytes
 abbrev pub is_cut_at : ℕ → List ℕ → LengthParts → Bool
 is_cut_at offset bytes l = nat_lt (length bytes) (16 + l.width + l.value) && nat_le (end_with offset l) greatest_end
 
--- The head of the packet at the front, where that is cut behind its key and length; else none.
+-- The head of the packet at the front, if that is cut after its key and length; otherwise none.
 unfoldable pub heads_at : ℕ → List ℕ → List NoteParts
 heads_at offset bytes =
     option_map_or (λ l. if is_cut_at offset bytes l then head_parts offset (take 16 bytes) l.width l.value ∷ [] else [])
@@ -102,7 +102,7 @@ stop_of offset rest =
 abbrev pub stop_in : ℕ → List ℕ → Stop
 stop_in offset bytes = stop_of (end_after offset (packets_in offset bytes)) (rest_in offset bytes)
 
--- The piece may go on behind this stop, where more bytes come.
+-- The piece may go on after this stop, if more bytes come.
 abbrev pub IsOpen : Stop → Type 0
 IsOpen End = Unit {0}
 IsOpen (Truncated place) = Unit {0}
@@ -117,7 +117,7 @@ pub record IsHeadOf (offset : ℕ) (bytes key : List ℕ) (l : LengthParts) : Ty
   pub begins : BeginsWithKeyAndLength bytes key l after
   pub within : end_with offset l ≤ greatest_end
 
--- No packet stands at the front, and the piece stops so. Where it may go on, key and length aren't whole.
+-- No packet stands at the front, and the piece stops so. If it may go on, key and length aren't whole.
 pub record IsNoHead (offset : ℕ) (bytes : List ℕ) (stop : Stop) : Type 0 where
   pub none : packet_at offset bytes ≡ None
   pub is : stop ≡ stop_of offset bytes

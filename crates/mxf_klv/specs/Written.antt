@@ -13,12 +13,12 @@ abbrev pub StopsIn : Option (List ℕ) → Option (List ℕ) → ℕ → WriteFa
 StopsIn old new before e bytes =
     (n : ℕ) × (n < length bytes) × (e.written ≡ counted (before + n)) × Appends old new (take n bytes)
 
--- At `Ok` exactly the bytes were appended; at `Err` exactly the first of them were, and the fault tells how many.
+-- At `Ok` exactly the bytes were appended; at `Err` exactly the first of them were, and the fault says how many.
 abbrev pub Writes : {X : Type 0} → Option (List ℕ) → Option (List ℕ) → Result X WriteFault → List ℕ → Type 0
 Writes old new r bytes = MatchResult r (λ _. Appends old new bytes) (λ e. StopsIn old new 0 e bytes)
 
 -- The same of a part of a value: `before` bytes of the value were written before the part. `after` are written now, at
--- `Err` as many as the fault tells.
+-- `Err` as many as the fault says.
 abbrev pub WritesPart : {X : Type 0} → Option (List ℕ) → Option (List ℕ) → ℕ → ℕ → Result X WriteFault → List ℕ
     → Type 0
 WritesPart old new before after r bytes =

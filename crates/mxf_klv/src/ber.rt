@@ -14,12 +14,12 @@ use thiserror::Error;
 
 /// The length of a packet's value, in bytes, and the number of bytes that spell it (ST 336, length field).
 ///
-/// By its length a packet can be passed over unread: the next key stands behind so many bytes. Writers often spell a
-/// length in more bytes than it needs, to fill it in when the value is there, so one length has several spellings. They
-/// count: packets that differ in nothing else are two packets, and the last number of a random index pack counts them.
+/// By its length a reader passes over a packet unread: the next key follows after that many bytes. Writers often spell
+/// a length in more bytes than it needs, to fill it in later, so one length has several spellings. They count: packets
+/// that differ in nothing else are two packets, and the last number of a random index pack counts these bytes too.
 ///
-/// A first byte of at most 127 is the length itself. Of a greater one the low seven bits say how many bytes behind it
-/// spell the length, the most significant first. Up to eight are known; `80`, a length that isn't told, is none.
+/// A first byte of at most 127 is the length itself. Of a greater one the low seven bits say how many bytes after it
+/// spell the length, the most significant first. Up to eight are known; `80`, an indefinite length, is refused.
 #[derive(Clone, Copy, Debug, PartialEq, Eq)]
 pub struct Ber {
     width: u8,
@@ -53,7 +53,7 @@ pub enum BerFault {
 }
 
 impl Ber {
-    /// The length `value` in `width` bytes, where they can spell it.
+    /// The length `value` in `width` bytes, if they can spell it.
     pub fn new(width: u8, value: u64) -> Option<Ber>
         ensures { SomeIff result (CanSpell width value) (record { width = width; value = value }) }
     {

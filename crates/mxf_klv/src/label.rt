@@ -9,7 +9,7 @@ use std::marker::Model;
 ///
 /// Labels are the names of the format. The key of each packet is one, and packs and sets name by them what they can't
 /// spell out: operational patterns, essence containers, properties. What a label stands for is written in the registers
-/// of SMPTE; here those keys are known that tell what a packet is, by [`kind`](crate::kind).
+/// of SMPTE. Here those keys are known that say what a packet is, by [`kind`](crate::kind).
 ///
 /// Byte 5 says the register and how what follows is coded, byte 8 the version of the register. Labels compare by their
 /// sixteen bytes, the version included.
@@ -33,7 +33,7 @@ impl Model for Ul {
 impl Ul {
     pub(crate) const START: [u8; 4] = [0x06, 0x0E, 0x2B, 0x34];
 
-    /// The label of these bytes, where they begin as one; no further byte is tested.
+    /// The label of these bytes, if they begin as one; no further byte is tested.
     pub fn from_bytes(bytes: [u8; 16]) -> Option<Ul>
         ensures { SomeIff result (take 4 bytes ≡ label_start) bytes }
     {

@@ -1,4 +1,4 @@
-//! Want of memory.
+//! A refused growth of memory.
 use std::alloc::{AllocError, AllocFailed};
 use thiserror::Error;
 

@@ -123,7 +123,7 @@ impl Note {
 
     /// The note of a packet at a file offset, in bytes, which ends at or below [`MAX`].
     ///
-    /// It takes memory where the value is kept.
+    /// It takes memory if the value is kept.
     pub fn within(alloc: Global, offset: u64, packet: &Packet<'_>) -> Result<Note, OutOfMemory>
         requires { end_of (note_of offset packet.now) ≤ greatest_end }
         ensures noted { IfOk result (λ n. n ≡ note_of offset packet.now) }
@@ -245,7 +245,7 @@ impl Note {
         }
     }
 
-    /// What is held of the value: the whole of it, or its digest; nothing where the note is a head.
+    /// What is held of the value: the whole of it, or its digest; nothing if the note is a head.
     pub fn held(&self) -> Held<'_>
         ensures { Shows result self.now }
     {
@@ -256,7 +256,7 @@ impl Note {
         }
     }
 
-    /// The whole value, where the note keeps it; none where it holds a digest, or is a head.
+    /// The whole value, if the note keeps it; none if it holds a digest or is a head.
     pub fn value(&self) -> Option<&[u8]>
         ensures some { IfSome result (λ v. (keeps_value self.now ≡ true) × (v.now ≡ self.now.held)) }
         ensures none { IfNone result (keeps_value self.now ≡ false) }
@@ -283,7 +283,7 @@ impl Note {
         keeps(kind(key), length)
     }
 
-    /// The note that keeps this value. The value comes back where the width can't spell its length, the packet would
+    /// The note that keeps this value. The value comes back if the width can't spell its length, the packet would
     /// end above [`MAX`], or a packet of this key and length keeps a digest.
     pub fn kept(offset: u64, key: Ul, width: u8, value: Vec<u8>) -> Result<Note, NotANote>
         ensures note { IfOk result (λ n. n ≡ note_parts offset key width (vec_len value) value.items) }
@@ -302,7 +302,7 @@ impl Note {
         })
     }
 
-    /// The note that holds this digest of a value of `length` bytes. None where the width can't spell the length, the
+    /// The note that holds this digest of a value of `length` bytes. None if the width can't spell the length, the
     /// packet would end above [`MAX`], or a packet of this key and length keeps its value.
     pub fn digested(offset: u64, key: Ul, width: u8, length: u64, digest: [u8; 32]) -> Option<Note>
         ensures { SomeIff result (CanNote (note_parts offset key width length digest) false)
@@ -319,8 +319,8 @@ impl Note {
         })
     }
 
-    /// The head of a packet of which key and length were read. None where the width can't spell the length, or the
-    /// packet would end above [`MAX`]. It takes no memory.
+    /// The head of a packet whose key and length were read. None if the width can't spell the length, or the packet
+    /// would end above [`MAX`]. It takes no memory.
     pub fn head(offset: u64, key: Ul, width: u8, length: u64) -> Option<Note>
         ensures { SomeIff result (CanHead (head_parts offset key width length)) (head_parts offset key width length) }
     {
@@ -334,7 +334,7 @@ impl Note {
         })
     }
 
-    /// A note equal to this one. It takes memory where the value is kept.
+    /// A note equal to this one. It takes memory if the value is kept.
     pub fn clone_in(&self, alloc: Global) -> Result<Note, OutOfMemory>
         ensures equal { IfOk result (λ n. n ≡ self.now) }
         ensures memory { IsErr result → keeps_value self.now ≡ true }

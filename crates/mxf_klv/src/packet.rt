@@ -18,11 +18,11 @@ use thiserror::Error;
 
 /// A packet (ST 336, KLV triplet): a key, a length and a value, in the bytes that hold it.
 ///
-/// All that a file consists of are packets, so whoever knows where one begins can go through the file without
+/// A file consists of packets alone, so whoever knows where one begins can go through the file without
 /// understanding any value. The key says what the value is, the length how far it reaches.
 ///
-/// Behind the sixteen bytes of the key stand the one to nine bytes of the length, and then the value. Packets are equal
-/// where all their bytes are, the spelling of the length included.
+/// After the sixteen bytes of the key come the one to nine bytes of the length, and then the value. Packets are equal
+/// if all their bytes are, the spelling of the length included.
 #[derive(Debug, Drop)]
 pub struct Packet<'a> {
     key: Ul,
@@ -69,7 +69,7 @@ impl From<BerFault> for PacketFault {
 }
 
 impl<'a> Packet<'a> {
-    /// The packet with this key and value whose length is spelled in `width` bytes, where they can spell it.
+    /// The packet with this key and value whose length is spelled in `width` bytes, if they can spell it.
     pub fn new(key: Ul, width: u8, value: &'a [u8]) -> Option<Packet<'a>>
         ensures { SomeIff result (CanSpell width (length value.now)) (packet_parts key width value.now) }
     {
@@ -121,7 +121,7 @@ pub fn read_packet(bytes: &[u8]) -> Result<(Packet<'_>, usize), PacketFault>
     }
 }
 
-/// A law: where two packets, each with any bytes after it, are one text, they are the same packet.
+/// A law: if two packets, each with any bytes after it, are one text, they are the same packet.
 pub fn one_packet()
     ensures { (a b x y : List ℕ) (p q : PacketParts) → IsSpelledPacket a p → IsSpelledPacket b q
         → a ++ x ≡ b ++ y → (a ≡ b) × (p ≡ q) }

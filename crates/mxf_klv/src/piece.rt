@@ -35,7 +35,7 @@ pub enum Stop {
     TooFar(u64),
     /// Anything else that is missing.
     Truncated(u64),
-    /// A range has no start: only a range answers it, never a piece. The offset is the first one behind the window that
+    /// A range has no start: only a range answers it, never a piece. The offset is the first one after the window that
     /// was searched.
     NoStart(u64),
 }
@@ -78,7 +78,7 @@ pub fn next_packet(offset: u64, bytes: &[u8]) -> Result<(Packet<'_>, usize), Sto
 
 /// The key and the length of the packet at the front of a piece at a file offset; else why the piece stops there.
 ///
-/// Where they aren't whole and nothing is at fault, the stop is [`Stop::End`] or [`Stop::Truncated`]. Only those of a
+/// If they aren't whole and nothing is at fault, the stop is [`Stop::End`] or [`Stop::Truncated`]. Only those of a
 /// packet that ends at or below [`MAX`] are given.
 pub fn next_key_and_length(offset: u64, bytes: &[u8]) -> Result<(Ul, Ber), Stop>
     ensures head { IfOk result (λ x. IsHeadOf offset bytes.now x.0 x.1) }
@@ -112,8 +112,8 @@ fn read_key_and_length(offset: u64, bytes: &[u8]) -> Result<KeyAndLength<'_>, St
     Ok(head)
 }
 
-/// The head of the packet at the front of a piece at a file offset, where key and length are whole and the value is
-/// cut, and the packet would end at or below [`MAX`]. It takes no memory.
+/// The head of the packet at the front of a piece at a file offset, if key and length are whole, the value is cut and
+/// the packet would end at or below [`MAX`]. It takes no memory.
 pub fn cut_head(offset: u64, bytes: &[u8]) -> Option<Note>
     ensures some { IfSome result (λ n. heads_at offset bytes.now ≡ n ∷ []) }
     ensures none { IfNone result (heads_at offset bytes.now ≡ []) }
@@ -136,7 +136,7 @@ pub fn each_piece_is_read_one_way()
 {}
 
 /// A law: each piece has exactly one stop, that of its rest; and `stop_of` gives the one stop of a rest that begins
-/// with no packet that ends at or below [`MAX`]. The length that it looks at is the one that `ReadsLength` tells.
+/// with no packet that ends at or below [`MAX`]. The length that it looks at is the one that `ReadsLength` gives.
 pub fn each_piece_has_one_stop()
     ensures rest { (offset : ℕ) (rest : List ℕ) (stop : Stop) → BeginsWithNone offset rest
         → (stop_of offset rest ≡ stop) ↔ IsStop offset rest stop }
@@ -146,8 +146,8 @@ pub fn each_piece_has_one_stop()
     ensures length { (bytes : List ℕ) (l : LengthParts) → (length_at bytes ≡ Some l) ↔ ReadsLength bytes (Ok l) }
 {}
 
-/// A law: what more bytes make of a piece. Its packets stand, and behind them come those of a piece that begins where
-/// they end, with the bytes of its rest and then the others. A stop that no more bytes lead past stands, and no packet
+/// A law: what more bytes make of a piece. Its packets stay, and after them come those of a piece that begins where
+/// they end, with the bytes of its rest and then the others. A stop that no more bytes lead past stays, and no packet
 /// follows.
 pub fn more_bytes_go_on_with_a_piece()
     ensures packets { (offset : ℕ) (bytes more : List ℕ) → packets_in offset (bytes ++ more)
@@ -160,7 +160,7 @@ pub fn more_bytes_go_on_with_a_piece()
         × (stop_in offset (bytes ++ more) ≡ stop_in offset bytes) }
 {}
 
-/// A law: the head that a piece has beside its packets is that of its rest, where this begins with a label and a whole
+/// A law: the head that a piece has beside its packets is that of its rest, if this begins with a label and a whole
 /// length, and its stop is `Truncated`.
 pub fn each_piece_has_its_head()
     ensures head { (offset : ℕ) (rest : List ℕ) (n : NoteParts)

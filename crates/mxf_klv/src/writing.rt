@@ -26,7 +26,7 @@ pub trait Encode {
 
     /// Writes the value's bytes.
     ///
-    /// Fails where the writer fails, takes no byte, or is interrupted more than 1,024 times.
+    /// Fails if the writer fails, takes no byte, or is interrupted more than 1,024 times.
     fn write_to<W: Write>(&self, writer: &mut W) -> Result<(), WriteFault>
         ensures { Writes (W.contents writer.old) (W.contents writer.new) result (encoding self.now) }
     {

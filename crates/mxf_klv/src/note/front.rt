@@ -7,7 +7,7 @@ use crate::kinds::Kind;
 use crate::kinds::table::kind;
 use crate::label::Ul;
 
-/// What stands ahead of a value: the key, with the kind that it tells, and the number of bytes that spell the length.
+/// What stands ahead of a value: the key, with the kind that it says, and the number of bytes that spell the length.
 #[derive(Clone, Copy, Debug)]
 pub(super) struct Front {
     pub key: Ul,

@@ -1,7 +1,7 @@
 //! What a note keeps of a packet.
 use super::front::Front;
 
-/// What stands ahead of a value, with the value or its digest; or alone, where key and length alone were read.
+/// What stands ahead of a value, with the value or its digest; or alone, if key and length alone were read.
 ///
 /// The front stands in each variant, and not beside them, since there it fills bytes that would lie empty.
 #[derive(Debug, Drop)]
@@ -26,7 +26,7 @@ impl KeptValue {
     }
 }
 
-/// What a note holds of a value: all of it, or its digest, or nothing where the note is a head.
+/// What a note holds of a value: all of it, or its digest, or nothing if the note is a head.
 #[derive(Clone, Copy, Debug)]
 pub enum Held<'a> {
     Whole(&'a [u8]),

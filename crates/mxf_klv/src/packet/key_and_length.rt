@@ -63,7 +63,7 @@ impl<'a> KeyAndLength<'a> {
         16 + u128::from(self.ber.width()) + u128::from(self.ber.value())
     }
 
-    /// The note that is a head, of a packet at a file offset, where that ends at or below [`MAX`](crate::MAX).
+    /// The head of a packet at a file offset, as a note, if the packet ends at or below [`MAX`](crate::MAX).
     pub(crate) fn note(&self, offset: u64) -> Option<Note>
         ensures { SomeIff result (offset + 16 + self.now.ber.width + self.now.ber.value ≤ greatest_end)
             (head_parts offset self.now.key self.now.ber.width self.now.ber.value) }
@@ -71,7 +71,7 @@ impl<'a> KeyAndLength<'a> {
         Note::head(offset, self.key, self.ber.width(), self.ber.value())
     }
 
-    /// The packet and its number of bytes, where its value is whole.
+    /// The packet and its number of bytes, if its value is whole.
     pub(crate) fn packet(&self) -> Option<(Packet<'a>, usize)>
         ensures { SomeIff result (self.now.ber.value ≤ length self.now.after.now) (whole_packet self.now) }
     {

@@ -37,7 +37,7 @@ impl Progress {
 
     /// Writes the next part of the value. Up to 1,024 interruptions of all parts together are repeated.
     ///
-    /// Fails where the writer answers another error, takes no byte, or is interrupted once more.
+    /// Fails if the writer answers another error, takes no byte, or is interrupted once more.
     pub fn put<W: Write>(&mut self, writer: &mut W, part: &[u8]) -> Result<(), WriteFault>
         ensures written { Puts W.contents writer.old writer.new self.old self.new result part.now }
         ensures interruptions { self.old.interruptions ≤ self.new.interruptions × self.new.interruptions ≤ 1024 }
