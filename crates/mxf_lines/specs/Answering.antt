@@ -70,16 +70,16 @@ answer_lines Join reports at content = join_lines content
 answer_lines Plan reports at content = plan_lines (plan_of at content)
 answer_lines (Units index range) reports at content = unit_lines range.first (asked_units index range at content)
 
--- 0 where all pieces end with a packet and nothing is found, else 1.
+-- 0 if all pieces end with a packet and nothing is found, otherwise 1.
 abbrev pub check_status : List PieceReport → List Finding → ℕ
 check_status reports findings = if list_all (λ r. is_end r.report.stop) reports && length findings == 0 then 0 else 1
 
--- 0 for the one place of an edit unit, else 1.
+-- 0 for the one place of an edit unit, otherwise 1.
 abbrev pub place_status : Place → ℕ
 place_status (At body_sid offset) = 0
 place_status _ = 1
 
--- 1 where there is something to restore, else 0.
+-- 1 if there is something to restore, otherwise 0.
 abbrev pub plan_status : PlanParts → ℕ
 plan_status p = if length p.orders == 0 then 0 else 1
 
@@ -101,7 +101,7 @@ IsBadAsk Join = ⊥
 IsBadAsk Plan = ⊥
 IsBadAsk (Units index range) = ⊥
 
--- What is answered, where `Wrote` says what a writer took: the edit unit is a bad one, and nothing was written; or what
+-- What is answered, if `Wrote` says what a writer took: the edit unit is a bad one, and nothing was written; or what
 -- a call answers that prints the lines in the form.
 abbrev pub Answers : Form → (Result (Unit {0}) WriteFault → List ℕ → Type 0) → Result ℕ AnswerFault
     → List PrintedLine → Type 0

@@ -23,14 +23,14 @@ pub record Field : Type 0 where
   pub name : List ℕ
   pub value : Value
 
--- A line: the name of its form, the words before its fields, these, and the words behind them.
+-- A line: the name of its form, the words before its fields, these, and the words after them.
 pub record PrintedLine : Type 0 where
   pub name : List ℕ
   pub first : List ℕ
   pub fields : List Field
   pub last : List ℕ
 
--- The digits of numbers, with a separator between two of them, and where others are behind them.
+-- The digits of numbers, with a separator between two of them, and one after them if others follow.
 abbrev pub separated_behind : List ℕ → List ℕ → List ℕ
 separated_behind separator [] = []
 separated_behind separator (n ∷ numbers) = separator ++ (decimal n ++ separated_behind separator numbers)
@@ -72,7 +72,7 @@ value_json (Fixed word) = quoted word
 value_json (Numbers numbers) = codes "[" ++ (separated (codes ",") numbers ++ codes "]")
 value_json (JsonOnly value) = value_json value
 
--- What is printed of a line with this name before its fields, of a field, and behind the fields.
+-- What is printed of a line with this name before its fields, of a field, and after the fields.
 unfoldable pub front_in : Form → List ℕ → List ℕ → List ℕ
 front_in Text name first = first
 front_in Json name first = codes "{\"line\":\"" ++ (name ++ codes "\"")
@@ -130,15 +130,16 @@ number_member name n = member (codes name) (Number (decimal n))
 abbrev pub known_member : String → Option ℕ → Field
 known_member name n = member (codes name) (number_or [] n)
 
--- A line by its name, the words before its fields, these, and the words behind them; and one whose name is all its words.
+-- A line by its name, the words before its fields, these, and the words after them; and one whose name is all its
+-- words.
 abbrev pub line_of : List ℕ → List ℕ → List Field → List ℕ → PrintedLine
 line_of name first fields last = record { name = name; first = first; fields = fields; last = last }
 
 abbrev pub line : String → List Field → PrintedLine
 line name fields = line_of (codes name) (codes name) fields []
 
--- What a reader of JSON takes of the characters behind a quotation mark, up to the next that no backslash stands before,
--- and what is behind that. `literal` says that a backslash stands before the first of them.
+-- What a reader of JSON takes of the characters after a quotation mark, up to the next that no backslash stands before,
+-- and what is after that. `literal` says that a backslash stands before the first of them.
 abbrev pub string_end : Bool → List ℕ → Option (List ℕ × List ℕ)
 string_end literal [] = None
 string_end true (c ∷ rest) = option_map (λ s. (c ∷ s.0, s.1)) (string_end false rest)
@@ -146,7 +147,7 @@ string_end false (c ∷ rest) =
     if c == 34 then Some ([], rest) else
     (if c == 92 then string_end true rest else option_map (λ s. (c ∷ s.0, s.1)) (string_end false rest))
 
--- What a reader of JSON takes for the string that begins here, and what is behind it.
+-- What a reader of JSON takes for the string that begins here, and what is after it.
 abbrev pub string_at : List ℕ → Option (List ℕ × List ℕ)
 string_at [] = None
 string_at (c ∷ rest) = if c == 34 then string_end false rest else None

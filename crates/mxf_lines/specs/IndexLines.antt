@@ -20,7 +20,7 @@ stream_fields n =
     number " index-sid " "index-sid" n.index_sid ∷ number " body-sid " "body-sid" n.body_sid
     ∷ digits " rate " "rate" (signed_decimal n.edit_rate.0) ∷ digits "/" "base" (signed_decimal n.edit_rate.1) ∷ []
 
--- The edit units of a segment, the bytes of each, and so many entries.
+-- The edit units of a segment, the bytes of each, and how many entries there are.
 abbrev pub unit_fields : SegmentNumbers → ℕ → List Field
 unit_fields n entries =
     digits " start " "start" (signed_decimal n.start) ∷ digits " duration " "duration" (signed_decimal n.duration)

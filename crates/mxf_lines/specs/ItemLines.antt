@@ -25,7 +25,7 @@ abbrev pub label_shown : Option (List ℕ) → Value
 label_shown None = Absent (codes "-")
 label_shown (Some label) = Characters (hex_of label)
 
--- The digits of the first 32 bytes of a value, or a hyphen where it is empty.
+-- The digits of the first 32 bytes of a value, or a hyphen if it is empty.
 abbrev pub value_shown : List ℕ → Value
 value_shown value = if length value == 0 then Absent (codes "-") else Characters (hex_of (take 32 value))
 
@@ -41,7 +41,7 @@ item_line offset label item =
 abbrev pub item_lines : ℕ → Option BatchParts → List ItemParts → List PrintedLine
 item_lines offset primer items = flat_map (λ item. item_line offset (label_by primer item.tag) item ∷ []) items
 
--- The lines of one of the notes of a content, none where it has no items.
+-- The lines of one of the notes of a content, none if it has no items.
 abbrev pub set_lines : List NoteParts → NoteParts → List PrintedLine
 set_lines content n = lines_where (item_lines n.offset (primer_for content n)) (set_items n)
 
@@ -54,6 +54,6 @@ label_among (Some table) tag = label_in table tag
 abbrev pub label_by_copy : List NoteParts → Option CopyInfo → ℕ → Option (List ℕ)
 label_by_copy content copy tag = label_by (option_and_then (primer_of content) copy) tag
 
--- What is kept tells what the primer pack of its copy says.
+-- What is kept says what the primer pack of its copy says.
 abbrev pub AreLabelsIn : List NoteParts → CopyLabels → Type 0
 AreLabelsIn content kept = (tag : ℕ) → label_among kept.labels tag ≡ label_by_copy content kept.copy tag

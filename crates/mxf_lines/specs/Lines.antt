@@ -16,12 +16,12 @@ use Rattle.mxf_lines.specs.Forms.{Characters, Field, PrintedLine, field, flag, k
 use Rattle.mxf_lines.specs.Forms.{number_member, word}
 use Rattle.mxf_lines.specs.Hexadecimal.{hex_of}
 
--- The lines of what is there, and none where it isn't.
+-- The lines of what is there, and none if it isn't.
 abbrev pub lines_where : {X : Type 0} → (X → List PrintedLine) → Option X → List PrintedLine
 lines_where lines None = []
 lines_where lines (Some x) = lines x
 
--- The offset of a stop, where it has one.
+-- The offset of a stop, if it has one.
 abbrev pub stop_place : Stop → List Field
 stop_place End = []
 stop_place (NotUl at) = number " " "at" at ∷ []

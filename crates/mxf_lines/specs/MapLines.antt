@@ -23,7 +23,7 @@ mark_text Metadata = codes "m"
 mark_text Index = codes "i"
 mark_text Whole = codes "#"
 
--- How much of the bytes it is, in thousandths, rounded down: the last digit behind a point.
+-- How much of the bytes it is, in thousandths, rounded down: the last digit after a point.
 abbrev pub share_text : ℕ → List ℕ
 share_text share = decimal (share / 10) ++ (codes "." ++ decimal (share % 10))
 
@@ -36,14 +36,14 @@ map_line m =
     ∷ digits " share " "share" (share_text (1000 * (m.held + m.hand) / m.end)) ∷ number " gaps " "gaps" m.gaps
     ∷ number " disputed " "disputed" m.disputed ∷ number " cell " "cell" m.cell ∷ [])
 
--- The line of a row of cells: the offset of its first byte, with so many spaces more before it, and the characters of the
+-- The line of a row of cells: the offset of its first byte after a number of spaces, and the characters of the
 -- marks.
 unfoldable pub row_line : ℕ → ℕ → List Mark → PrintedLine
 row_line spaces offset marks =
     line "row" (field (codes " " ++ repeat spaces (codes " ")) (codes "offset") (Number (decimal offset))
     ∷ word " " "cells" (flat_map mark_text marks) ∷ [])
 
--- The lines of rows of so many cells, behind cells that were passed; offsets have a width at least.
+-- The lines of rows of a number of cells, after those that were passed; offsets have at least a width.
 abbrev pub rows_by : ℕ → ℕ → ℕ → ℕ → ℕ → List Mark → List PrintedLine
 rows_by columns cell width zero passed marks = []
 rows_by columns cell width (suc fuel) passed [] = []
@@ -55,7 +55,7 @@ rows_by columns cell width (suc fuel) passed (m ∷ marks) =
 abbrev pub rows_of : ℕ → ℕ → ℕ → ℕ → List Mark → List PrintedLine
 rows_of columns cell width passed marks = rows_by columns cell width (length marks) passed marks
 
--- The digits of the offset of the last row of so many cells.
+-- The digits of the offset of the last row of a number of cells.
 abbrev pub row_width : ℕ → ℕ → ℕ → ℕ
 row_width columns cell count = length (decimal ((count - 1 - (count - 1) % columns) * cell))
 

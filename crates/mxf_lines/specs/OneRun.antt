@@ -32,7 +32,7 @@ pub record AskedUnits : Type 0 where
 pub data Question : Type 0 where
   -- What a run is asked for, of pieces with these reports and of what is at hand.
   Answer : Ask → List PieceReport → AtHandParts → Question
-  -- A map in so many columns and rows.
+  -- A map in a number of columns and rows.
   Map : ℕ → ℕ → AtHandParts → Question
   -- What is to be restored for the units of a range, by the index of an IndexSID.
   UnitPlan : ℕ → UnitRange → AtHandParts → Question

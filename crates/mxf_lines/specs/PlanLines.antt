@@ -12,8 +12,8 @@ use Rattle.mxf_lines.specs.Forms.{PrintedLine, flag, known, known_member, line, 
 abbrev pub order_length : Order → Option ℕ
 order_length o = option_map (λ e. e - o.start) o.end
 
--- The line of an order: where it begins and ends, why, which pack says so, whether it begins within a packet, whether its
--- bytes were handed in and don't do, and in JSON how many they are.
+-- The line of an order: where it begins and ends, why, which pack says so, whether it begins within a packet, whether
+-- its bytes were handed in and don't do, and in JSON how many they are.
 unfoldable pub restore_line : Order → PrintedLine
 restore_line o =
     line "restore" (number " " "start" o.start ∷ known " " "end" "-" o.end ∷ word " " "reason" (reason_name o.reason)

@@ -40,7 +40,7 @@ content_lines content =
     ++ (flat_map (partition_lines (partitions_of content)) (partitions_of content)
     ++ (chain_line (chain_of content) ∷ metadata_lines content)))
 
--- What a call answers that prints lines in a form, where `Wrote` says what a writer took: all bytes of the lines; or the
+-- What a call answers that prints lines in a form, if `Wrote` says what a writer took: all bytes of the lines; or the
 -- writer failed among them; or memory ran out, after some whole lines and before the last. It tests no edit unit.
 abbrev pub Prints : {X : Type 0} → Form → (Result (Unit {0}) WriteFault → List ℕ → Type 0) → Result X AnswerFault
     → List PrintedLine → Type 0
@@ -50,8 +50,8 @@ Prints form Wrote (Err OutOfMemory) lines =
     (k : ℕ) × (k < length lines) × Wrote (Ok tt) (lines_in form (take k lines))
 Prints form Wrote (Err BadUnit) lines = ⊥
 
--- What a call answers that gives the next of some items, by how many are left and what their lines are: none where
--- none is left, else the first, and the others are left.
+-- What a call answers that gives the next of some items, by how many are left and what their lines are: none if
+-- none is left, otherwise the first, and the others are left.
 abbrev pub Gives : {S X : Type 0} → (S → ℕ) → (S → List PrintedLine) → (X → List PrintedLine) → S → S → Option X → Type 0
 Gives left lines_left lines old new None = lines_left old ≡ []
 Gives left lines_left lines old new (Some x) = (left new < left old) × (lines_left old ≡ lines x ++ lines_left new)

@@ -73,8 +73,8 @@ property_word properties.Created = codes "created"
 property_word properties.Tracks = codes "tracks"
 property_word properties.Descriptor = codes "descriptor"
 
--- What the values of properties are printed as: an identifier, the digits of a longer one, a text, the seven numbers of a
--- timestamp, of which the year alone may be negative, a number of tracks, and the kind of a package.
+-- What the values of properties are printed as: an identifier, the digits of a longer one, a text, the seven numbers of
+-- a timestamp, of which the year alone may be negative, a number of tracks, and the kind of a package.
 abbrev pub uid_fields : List ℕ → List Field
 uid_fields uid = word " " "uid" (uid_text uid) ∷ []
 
@@ -108,7 +108,7 @@ owner_member o = member (named_word o.named) (Characters (uid_text o.uid))
 abbrev pub value_line : Owner → List ℕ → List Field → PrintedLine
 value_line o word fields = line_of word word (fields ++ owner_member o ∷ []) []
 
--- The line of a value where it is there, by its fields.
+-- The line of a value if it is there, by its fields.
 abbrev pub value_lines : {X : Type 0} → Owner → List ℕ → (X → List Field) → Option X → List PrintedLine
 value_lines o word fields value = lines_where (λ x. value_line o word (fields x) ∷ []) value
 
@@ -130,7 +130,7 @@ package_details o p =
     ++ (value_line o (codes "tracks") (tracks_fields (length p.tracks))
     ∷ value_lines o (codes "descriptor") uid_fields p.descriptor))
 
--- The lines of a package whose set has this kind: that, its identifier, its name where it is there, and those above.
+-- The lines of a package whose set has this kind: that, its identifier, its name if it is there, and those above.
 abbrev pub package_lines : Owner → Kind → PackageParts → List PrintedLine
 package_lines o kind p =
     value_line o (codes "kind") (kind_fields kind) ∷ value_line o (codes "package-uid") (hex_fields p.package_uid)
@@ -141,7 +141,7 @@ abbrev pub lines_of_record : Owner → Record → List PrintedLine
 lines_of_record o (records.Identification i) = identification_lines o i
 lines_of_record o (records.Package kind p) = package_lines o kind p
 
--- The record of a note, none where its value isn't kept, or is no such record.
+-- The record of a note, none if its value isn't kept, or is no such record.
 abbrev pub record_of : Named → NoteParts → Option Record
 record_of Identification n = option_map records.Identification (read_as identification_at n)
 record_of Package n = option_map (records.Package (kind_of n.key)) (read_as package_at n)

@@ -56,6 +56,6 @@ sources_lines contents names =
     ++ (disputed_lines contents (disputed_notes (all_notes contents))
     ++ sources_line (length contents) (length (all_notes contents)) (length (disputed_notes (all_notes contents))) ∷ [])
 
--- 1 where a note is disputed, else 0.
+-- 1 if a note is disputed, otherwise 0.
 abbrev pub sources_status : List (List NoteParts) → ℕ
 sources_status contents = if length (disputed_notes (all_notes contents)) == 0 then 0 else 1

@@ -40,8 +40,8 @@ entry_fields u =
 abbrev pub extent_length : Option Extent → Option ℕ
 extent_length extent = option_and_then (λ e. option_map (λ end. end - e.start) e.end) extent
 
--- The line of a unit: its number, how its bytes stand, from where up to where they lie, what its entry says, and in JSON
--- how many bytes it has.
+-- The line of a unit: its number, how its bytes stand, from where up to where they lie, what its entry says, and in
+-- JSON how many bytes it has.
 unfoldable pub unit_line : EditUnit → PrintedLine
 unit_line u =
     line "unit" (number " " "unit" u.number ∷ word " " "standing" (unit_standing_name u.standing)
@@ -79,6 +79,6 @@ last_line first units = units_line (length units) (held_count units) (hand_count
 abbrev pub unit_lines : ℕ → List EditUnit → List PrintedLine
 unit_lines first units = flat_map (λ u. unit_line u ∷ []) units ++ last_line first units ∷ []
 
--- 0 where each unit is held or at hand, else 1.
+-- 0 if each unit is held or at hand, otherwise 1.
 abbrev pub units_status : List EditUnit → ℕ
 units_status units = if held_count units + hand_count units == length units then 0 else 1

@@ -32,6 +32,6 @@ unit_plan_lines w p =
     ++ (planned_line (length p.orders) (sum_by ordered_bytes p.orders) (count_by (λ o. is_none o.end) p.orders) p.end
     ∷ last_line w.first (told_units w) ∷ [])
 
--- 0 where there is nothing to restore and each unit that is asked for is held or at hand, else 1.
+-- 0 if there is nothing to restore and each unit that is asked for is held or at hand, otherwise 1.
 abbrev pub unit_plan_status : WantedParts → UnitPlanParts → ℕ
 unit_plan_status w p = if length p.orders == 0 then units_status (told_units w) else 1

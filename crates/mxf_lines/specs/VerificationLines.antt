@@ -19,7 +19,7 @@ use Rattle.mxf_lines.specs.Answering.{stop_lines}
 use Rattle.mxf_lines.specs.Forms.{Field, PrintedLine, known, line, line_of, number, word}
 use Rattle.mxf_lines.specs.Lines.{note_fields}
 
--- The units that are lent, where some are asked for.
+-- The units that are lent, if some are asked for.
 abbrev pub lent_units : Option (Bor VerifiedUnitsParts) → Option VerifiedUnitsParts
 lent_units units = option_map (λ (u : Bor VerifiedUnitsParts). u.now) units
 
@@ -29,7 +29,7 @@ span_fields span =
     known " units " "first" "-" (option_map (λ s. s.first) span)
     ∷ known " " "last" "-" (option_map (λ s. s.last) span) ∷ []
 
--- Where units are asked for, the first and the last that a note has a byte of.
+-- If units are asked for, the first and the last that a note has a byte of.
 abbrev pub touched_fields : Option VerifiedUnitsParts → NoteParts → List Field
 touched_fields None n = []
 touched_fields (Some units) n = span_fields (units_touched units.places n)
@@ -68,7 +68,7 @@ abbrev pub other_fields : VerifiedCounts → List Field
 other_fields c =
     number " bytes differs " "differs" c.differs ∷ number " cut " "cut" c.cut ∷ number " unknown " "unknown" c.unknown ∷ []
 
--- Where units are asked for, how many of them are verified, of how many.
+-- If units are asked for, how many of them are verified, of how many.
 abbrev pub unit_count_fields : Option VerifiedUnitsParts → List Field
 unit_count_fields None = []
 unit_count_fields (Some units) =
@@ -90,14 +90,14 @@ cut_lines cut = flat_map (λ n. cut_line n ∷ []) cut
 abbrev pub range_lines : List ℕ → List Run → List PrintedLine
 range_lines name ranges = flat_map (λ r. range_line name r ∷ []) ranges
 
--- The runs of the units, where some are asked for.
+-- The runs of the units, if some are asked for.
 abbrev pub runs_of : Option VerifiedUnitsParts → List UnitRun
 runs_of None = []
 runs_of (Some units) = units.runs
 
--- The lines of a verification by a reference whose pieces have these reports, and of the units that are asked for: of each
--- piece that doesn't end with a packet, each note that differs, each that wasn't compared, each range that the reference
--- says nothing of, each of its ranges that wasn't verified, units that stand alike, and the last.
+-- The lines of a verification by a reference whose pieces have these reports, and of the units that are asked for: of
+-- each piece that doesn't end with a packet, each note that differs, each that wasn't compared, each range that the
+-- reference says nothing of, each of its ranges that wasn't verified, units that stand alike, and the last.
 abbrev pub verification_lines : List PieceReport → VerificationParts → Option VerifiedUnitsParts → List PrintedLine
 verification_lines reports v units =
     flat_map stop_lines reports
@@ -118,18 +118,19 @@ abbrev pub has_none : List Run → Bool
 has_none [] = true
 has_none (r ∷ runs) = false
 
--- All that is asked for was verified: the units; or without units all bytes of the reference, and the sources have no other.
+-- All that is asked for was verified: the units; or without units all bytes of the reference, and the sources have no
+-- other.
 abbrev pub is_all_verified : VerificationParts → Option VerifiedUnitsParts → Bool
 is_all_verified v None = has_none v.unverified && has_none v.unknown
 is_all_verified v (Some units) = verified_in units == units_in units.runs
 
--- Nothing differs, something is the same, and the pieces of the reference were noted up to their ends; where all is to be
+-- Nothing differs, something is the same, and the pieces of the reference were noted up to their ends; if all is to be
 -- verified, that was.
 abbrev pub is_good : List PieceReport → VerificationParts → Option VerifiedUnitsParts → Bool → Bool
 is_good reports v units is_whole =
     list_all (λ r. is_noted r.report.stop) reports && v.damaged == 0 && not (v.packets == 0)
     && (not is_whole || is_all_verified v units)
 
--- 0 where it is so, else 1.
+-- 0 if it is so, otherwise 1.
 abbrev pub verification_status : List PieceReport → VerificationParts → Option VerifiedUnitsParts → Bool → ℕ
 verification_status reports v units is_whole = if is_good reports v units is_whole then 0 else 1

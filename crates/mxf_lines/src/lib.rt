@@ -1,8 +1,8 @@
-//! The lines in which a run tells what it holds (this project's profile): what is shown, checked, located and joined,
+//! The lines in which a run says what it holds (this project's profile): what is shown, checked, located and joined,
 //! as text for people and scripts, or as JSON for programs.
 //!
 //! What is proved: [`answer`] writes exactly the lines that are asked for, and nothing else; after a failed write the
-//! first bytes of them, which it counts, and out of memory some whole lines. Its status tells whether a check
+//! first bytes of them, which it counts, and out of memory some whole lines. Its status says whether a check
 //! found something, and whether an edit unit has one place; that of [`print_verification`], whether what is asked for
 //! was verified; that of [`print_unit_plan`], whether edit units need anything more. A line is its name and its fields,
 //! of which text and JSON are two printings, and a reader of JSON takes each text as it is

@@ -95,9 +95,9 @@ pub enum Ask {
     Units { index: u32, range: UnitRange },
 }
 
-/// Prints the lines that are asked for, in a form. The answer is 1 where a check finds something, or a piece doesn't end
-/// with a packet, where an edit unit has no place or more than one, where there is something to restore, or where not
-/// all bytes of the units are held or at hand; else it is 0. Only a plan and units depend on what is at hand.
+/// Prints the lines that are asked for, in a form. The answer is 1 if a check finds something, or a piece doesn't end
+/// with a packet, if an edit unit has no place or more than one, if there is something to restore, or if not
+/// all bytes of the units are held or at hand; otherwise it is 0. Only a plan and units depend on what is at hand.
 ///
 /// The unit is tested first: above 9,223,372,036,854,775,807 it is a `BadUnit`. Out of memory, some whole lines
 /// have been written; after a write fault the first bytes, which it counts.
@@ -155,7 +155,7 @@ fn print_asked<W: Write>(
     }
 }
 
-/// Prints what to restore next, and answers 1 where there is something, else 0.
+/// Prints what to restore next, and answers 1 if there is something, otherwise 0.
 fn print_plan<W: Write>(
     printer: &mut Printer,
     writer: &mut W,

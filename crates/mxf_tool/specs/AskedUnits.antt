@@ -8,8 +8,8 @@ use Rattle.mxf_tool.specs.declared.command_line.AskedUnits.TheVariants as asked
 use Rattle.mxf_tool.specs.declared.program.fault.RunFault.{RunFault}
 use Rattle.mxf_tool.specs.declared.program.fault.RunFault.TheVariants as runs
 
--- The units from a first one up to the last one of the index. Where that is below the first, or the index has none,
--- there is no last unit; where it lies 1,000,000 or more above the first, there are too many.
+-- The units from a first one up to the last one of the index. If that is below the first, or the index has none,
+-- there is no last unit; if it lies 1,000,000 or more above the first, there are too many.
 abbrev pub AreUpToLast : List NoteParts → ℕ → ℕ → Result UnitRange RunFault → Type 0
 AreUpToLast notes index_sid first (Ok range) =
     (last : ℕ) × IsLastUnit notes index_sid last × (range.first ≡ first) × (range.first + range.count ≡ last + 1)

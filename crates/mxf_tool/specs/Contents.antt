@@ -1,5 +1,5 @@
--- What sources hold, each by itself (this project's profile). A reader is known by the bytes that it has left, where it
--- tells them.
+-- What sources hold, each by itself (this project's profile). A reader is known by the bytes that it has left, if it
+-- gives them.
 use Rattle.std.specs.Prelude.{◌≡◌, ℕ, Option, List, [], ◌∷◌, ◌++◌}
 use Rattle.mxf_klv.specs.Parts.{NoteParts}
 use Rattle.mxf_views.specs.Headline.{IsTheRun}
@@ -19,8 +19,8 @@ module _ {R : Type 0} (left : R → Option (List ℕ)) where
   AreRuns (p ∷ parts) [] = ⊥
   AreRuns (p ∷ parts) (c ∷ contents) = IsTheRun (HandedBy left (p ∷ [])) c × AreRuns parts contents
 
-  -- After the old contents stands the run of the part with a number, alone, and after the old reports what is reported of
-  -- it.
+  -- After the old contents stands the run of the part with a number, alone, and after the old reports what is reported
+  -- of it.
   pub record TakesAlone (number : ℕ) (part : Part R) (old new : List (List NoteParts)) (before after : List PieceReport)
       : Type 0 where
     pub content : List NoteParts

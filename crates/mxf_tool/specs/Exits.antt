@@ -24,7 +24,7 @@ status_of NoMemory = 5
 status_of Unwritten = 6
 
 -- The end of a run whose answer is printed and flushed has the answer's status, 0 or 1. What isn't flushed isn't
--- written, and else the end is that of the fault.
+-- written, otherwise the end is that of the fault.
 abbrev pub exit_of_answer : Result ℕ AnswerFault → Bool → Exit
 exit_of_answer (Ok status) true = if status == 0 then Done else Found
 exit_of_answer (Ok status) false = Unwritten
@@ -39,7 +39,7 @@ exit_of_fault parts.TooLong = Refused
 exit_of_fault (parts.Catalogue fault) = Refused
 exit_of_fault parts.OutOfMemory = NoMemory
 
--- The end of a run for the fault that it tells.
+-- The end of a run for the fault that it reports.
 abbrev pub exit_of_run : RunFault → Exit
 exit_of_run runs.OutOfMemory = NoMemory
 exit_of_run (runs.Signed option text) = Usage
@@ -58,13 +58,13 @@ exit_of_run (runs.BadCatalogue path fault) = Refused
 exit_of_run (runs.Unwritten cause) = Unwritten
 exit_of_run (runs.Unsaved path fault) = Unwritten
 
--- All packets of a piece are noted that stops so: none is behind the stop but one that is cut.
+-- All packets of a piece are noted that stops so: none is after the stop but one that is cut.
 abbrev pub is_noted : Stop → Bool
 is_noted End = true
 is_noted (Truncated place) = true
 is_noted _ = false
 
--- The end of a join that would end so: a strict one finds something where a piece has bytes behind its stop.
+-- The end of a join that would end so: a strict one finds something if a piece has bytes after its stop.
 abbrev pub exit_of_join : Exit → Bool → List PieceReport → Exit
 exit_of_join exit strict reports =
     if strict && not (list_all (λ r. is_noted r.report.stop) reports) then Found else exit

@@ -11,7 +11,7 @@ lines_of text = slice_split (λ b. b == 10) text
 abbrev pub naming_lines : List ℕ → List (List ℕ)
 naming_lines text = filter (λ line. nat_lt 0 (length line)) (lines_of text)
 
--- The words that are named, none where none are.
+-- The words that are named, none if none are.
 abbrev pub named : Option (Bor (List (Bor (List ℕ)))) → List (List ℕ)
 named None = []
 named (Some words) = map (λ word. word.now) words.now

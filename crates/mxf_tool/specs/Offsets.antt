@@ -5,7 +5,7 @@ use Rattle.mxf_klv.specs.Note.{greatest_end}
 use Rattle.mxf_views.specs.Partitions.{PartitionParts}
 
 -- A source was read as from the offset `named` on, and a partition found in it. By its pack the source begins at
--- `right`: the pack lies as far behind that as the partition was found behind `named`.
+-- `right`: the pack lies as far after that as the partition was found after `named`.
 abbrev pub begins_at : ℕ → ℕ → PartitionParts → Bool
 begins_at named right p = named + p.pack.numbers.this_partition == right + p.offset
 

@@ -1,9 +1,9 @@
--- The line that tells how far a long piece has been read (this project's profile). Numbers are decimal and rounded
+-- The line that says how far a long piece has been read (this project's profile). Numbers are decimal and rounded
 -- down.
 use Rattle.std.specs.Prelude.{ℕ, ◌+◌, ◌-◌, ◌/◌, ◌%◌, List, ◌++◌, codes, if◌then◌else◌, nat_lt}
 use Rattle.std.specs.Fmt.{decimal}
 
--- The bytes that a piece has at most where nothing is told of its reading.
+-- The bytes that a piece has at most if nothing is told of its reading.
 abbrev pub short_piece : ℕ
 short_piece = 268435456
 
@@ -20,7 +20,7 @@ unfoldable pub time_text : ℕ → List ℕ
 time_text seconds =
     if nat_lt seconds 60 then decimal seconds ++ codes " s" else (decimal (seconds / 60) ++ codes " min")
 
--- The seconds in which the rest is read, where so many bytes of a size were read in so many milliseconds. The bytes of
+-- The seconds in which the rest is read, if that many bytes of a size were read in that many milliseconds. The bytes of
 -- each millisecond so far are rounded up to the next whole number.
 abbrev pub seconds_left : ℕ → ℕ → ℕ → ℕ
 seconds_left done size elapsed = (size - done) / (done / elapsed + 1) / 1000

@@ -6,7 +6,7 @@ use Rattle.std.specs.declared.io.ErrorKind.TheVariants as kinds
 use Rattle.mxf_tool.specs.declared.saving.fault.SaveFault.{SaveFault}
 use Rattle.mxf_tool.specs.declared.saving.fault.SaveFault.TheVariants as faults
 
--- The name of the file that is written to take the place of one of this name: behind a name of more than 241 bytes
+-- The name of the file that is written to take the place of one of this name: after a name of more than 241 bytes
 -- there is no room for the ending, and it stands alone.
 abbrev pub part_name : List ℕ → List ℕ
 part_name name = (if nat_lt 241 (length name) then [] else name) ++ codes ".mxf_tool.part"

@@ -12,7 +12,7 @@ use Rattle.mxf_tool.specs.declared.program.verifying.IndexedRange.{IndexedRange}
 use Rattle.mxf_tool.specs.declared.program.verifying.Open.{Open}
 use Rattle.mxf_tool.specs.declared.program.verifying.Open.TheVariants.{NoneSame, NotAll}
 
--- The units of an index that words ask for, where they name one.
+-- The units of an index that words ask for, if they name one.
 abbrev pub AreAskedBy : List NoteParts → Option IndexedUnits → Result (Option IndexedRange) RunFault → Type 0
 AreAskedBy notes None result = result ≡ Ok None
 AreAskedBy notes (Some asked) (Ok None) = ⊥
@@ -28,7 +28,7 @@ AreToldOf notes v asked told =
     told
 
 -- What is told on a terminal: that no packet is the same, though bytes came; or that not all of the reference was
--- compared, where that wasn't asked for.
+-- compared, if that wasn't asked for.
 abbrev pub open_of : Bool → VerificationParts → Option Open
 open_of is_whole v =
     if v.packets == 0 && v.came then Some NoneSame else

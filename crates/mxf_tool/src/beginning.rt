@@ -17,7 +17,7 @@ pub enum Beginning {
     Other,
 }
 
-/// How many bytes tell the beginnings apart.
+/// How many bytes are compared to know beginnings apart.
 const FRONT: u64 = 7;
 
 impl Beginning {
@@ -34,7 +34,7 @@ impl Beginning {
         }
     }
 
-    /// What the regular file at the path begins with; `None` where something else stands there.
+    /// What the regular file at the path begins with; `None` if something else stands there.
     pub fn of<R: Files + AllocGlobal>(rt: &R, path: &str) -> io::Result<Option<Beginning>> {
         if !fs::metadata(rt, path)?.is_file() {
             return Ok(None);

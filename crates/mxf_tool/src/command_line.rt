@@ -5,7 +5,7 @@ use mxf_lines::{Ask, Form, Grid};
 use mxf_units::UnitRange;
 use std::alloc::{AllocError, Global};
 
-/// What the command line asks for, and in which form, of the sources that words name and a list behind them.
+/// What the command line asks for, and in which form, of the sources that words name and a list after them.
 #[derive(Clone, Copy)]
 pub struct Request<'m, 'a> {
     pub task: Task<'a>,
@@ -70,7 +70,7 @@ pub enum AskedUnits {
     From(u64),
 }
 
-/// A last edit unit that is below the first or too far behind it, as it is written.
+/// A last edit unit that is below the first or too far after it, as it is written.
 #[derive(Clone, Copy)]
 pub struct BadLastUnit<'a>(pub &'a str);
 
@@ -81,8 +81,9 @@ pub struct IndexedUnits {
     pub units: AskedUnits,
 }
 
-/// A help with what a source is, after the text that it begins with, if any, and before the one that it ends with. It says
-/// which words stand for a source, what is read if its first byte lies inside a packet, and what writes a catalogue.
+/// A help with what a source is, after the text that it begins with, if any, and before the one that it ends with. It
+/// says which words stand for a source, what is read if its first byte lies inside a packet, and what writes a
+/// catalogue.
 macro_rules! source_help {
     ($end:literal) => {
         source_help!(; "SRC", "it", "join or renew", $end)
@@ -220,7 +221,7 @@ pub fn command<'a>(alloc: Global) -> Result<Command<'a>, AllocError> {
     with(tool, renew(alloc))
 }
 
-/// The command with a subcommand, where there was memory for both.
+/// The command with a subcommand, if there was memory for both.
 fn with<'a>(
     command: Result<Command<'a>, AllocError>,
     subcommand: Result<Command<'a>, AllocError>,
@@ -447,7 +448,7 @@ fn whole<'a>(alloc: Global) -> Arg<'a> {
     flag(alloc, "whole", help)
 }
 
-/// What the matches of the command with this name ask for, with these edit units where it has any, or `None` where there is
+/// What the matches of the command with this name ask for, with these edit units if it has any, or `None` if there is
 /// no such command.
 pub fn request_of<'m, 'a>(
     name: &str,
@@ -480,7 +481,7 @@ fn form_of(inner: &ArgMatches<'_>) -> Form {
     }
 }
 
-/// What the matches of the command with this name are to do, with these edit units where it has any.
+/// What the matches of the command with this name are to do, with these edit units if it has any.
 fn task_of<'a>(name: &str, inner: &ArgMatches<'a>, units: AskedUnits) -> Option<Task<'a>> {
     match name {
         "sources" => Some(Task::Sources),
@@ -494,7 +495,7 @@ fn task_of<'a>(name: &str, inner: &ArgMatches<'a>, units: AskedUnits) -> Option<
     }
 }
 
-/// What the matches of the command with this name are to tell, with these edit units where it has any.
+/// What the matches of the command with this name are to answer, with these edit units if it has any.
 fn told_of(name: &str, inner: &ArgMatches<'_>, units: AskedUnits) -> Option<Told> {
     match name {
         "show" => Some(Told::Answer(Ask::Show)),
@@ -516,7 +517,7 @@ fn told_of(name: &str, inner: &ArgMatches<'_>, units: AskedUnits) -> Option<Told
     }
 }
 
-/// What the matches of a command plan: these edit units where they name an index, else all.
+/// What the matches of a command plan: these edit units if they name an index, otherwise all.
 fn planned_of(inner: &ArgMatches<'_>, units: AskedUnits) -> Told {
     match indexed(inner, units) {
         Some(units) => Told::UnitPlan(units),
@@ -532,13 +533,13 @@ fn saving_of<'a>(inner: &ArgMatches<'a>) -> Option<Saving<'a>> {
     })
 }
 
-/// The units by the index that matches name, where they name one.
+/// The units by the index that matches name, if they name one.
 fn indexed(inner: &ArgMatches<'_>, units: AskedUnits) -> Option<IndexedUnits> {
     let index = inner.get_one("index")?;
     Some(IndexedUnits { index, units })
 }
 
-/// The edit units that the matches of a command ask for, from unit 0 up to the last of the index where they name none.
+/// The edit units that the matches of a command ask for, from unit 0 up to the last of the index if they name none.
 pub fn units_of<'a>(inner: &ArgMatches<'a>) -> Result<AskedUnits, BadLastUnit<'a>> {
     let first = inner.get_one("from").unwrap_or(0);
     let (Some(last), Some(text)) = (inner.get_one("to"), inner.get_str("to")) else {

@@ -45,7 +45,7 @@ impl Exit {
         }
     }
 
-    /// How a join or a renewal ends that would end so: a strict one finds something where a piece ends otherwise than with
+    /// How a join or a renewal ends that would end so: a strict one finds something if a piece ends otherwise than with
     /// a packet or one that is cut.
     pub fn of_join(self, is_strict: bool, reports: &[PieceReport]) -> Exit
         ensures { result ≡ exit_of_join self is_strict reports.now }

@@ -23,7 +23,7 @@ pub fn text_of(bytes: &[u8]) -> Result<&str, BadLine>
     }
 }
 
-/// The words, and behind them the lines of the list that aren't empty.
+/// The words, and after them the lines of the list that aren't empty.
 pub fn all_words<'a, 'b: 'a>(
     alloc: Global,
     words: Option<&[&'b str]>,

@@ -112,7 +112,7 @@ fn matched<R: System>(rt: &R, screen: Screen, matches: &ArgMatches<'_>) -> Exit 
     }
 }
 
-/// Tells why there are no arguments.
+/// Reports why there are no arguments.
 fn unread_arguments<R: System>(rt: &R, screen: Screen, fault: &io::Error) -> Exit {
     if fault.kind() == io::ErrorKind::OutOfMemory {
         return tell(rt, screen, &RunFault::OutOfMemory);
@@ -158,7 +158,7 @@ fn refused_with<R: System>(rt: &R, screen: Screen, arguments: &[String]) -> Exit
     Exit::Usage
 }
 
-/// Does what is asked for, and tells a fault.
+/// Does what is asked for, and reports a fault.
 fn perform<R: System>(rt: &R, screen: Screen, request: &Request<'_, '_>) -> Exit {
     match read_list(rt, request.list) {
         Ok(list) => perform_with(rt, screen, request, &list),
@@ -166,7 +166,7 @@ fn perform<R: System>(rt: &R, screen: Screen, request: &Request<'_, '_>) -> Exit
     }
 }
 
-/// Does what is asked for where the list has these bytes, and tells a fault.
+/// Does what is asked for if the list has these bytes, and reports a fault.
 fn perform_with<R: System>(rt: &R, screen: Screen, request: &Request<'_, '_>, list: &[u8]) -> Exit {
     let before = match sources_before(rt.alloc(), request.before) {
         Ok(before) => before,
@@ -386,7 +386,7 @@ fn hold_sources<'a, R: System>(rt: &R, inputs: Inputs<'_, 'a>) -> Result<Held, R
     hold_opened(rt, opened, inputs.sources, &last)
 }
 
-/// What sources hold together that were opened. Where one of them is a range, packets are put together of bytes at hand.
+/// What sources hold together that were opened. If one of them is a range, packets are put together of bytes at hand.
 fn hold_opened<'r, 'a, R: System, F: Read + Drop>(
     rt: &'r R,
     opened: Opened<F>,
@@ -400,7 +400,7 @@ fn hold_opened<'r, 'a, R: System, F: Read + Drop>(
     }
 }
 
-/// Puts packets together of bytes at hand, where one of the sources is a range.
+/// Puts packets together of bytes at hand, if one of the sources is a range.
 fn complete<'r, 'a, R: System>(
     rt: &'r R,
     gathered: Gathered,
@@ -424,7 +424,8 @@ fn complete<'r, 'a, R: System>(
     }
 }
 
-/// Puts packets together of bytes at hand: the files of the sources are opened once more where their bytes are asked for.
+/// Puts packets together of bytes at hand: the files of the sources are opened once more where their bytes are asked
+/// for.
 fn put_views_together<R: System>(
     rt: &R,
     views: Views,

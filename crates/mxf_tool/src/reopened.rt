@@ -49,7 +49,7 @@ impl<'r, 's, R: Files<File = File>> Reopened<'r, 's, R> {
         }
     }
 
-    /// Reads once of the file of a source, behind so many of its bytes.
+    /// Reads once of the file of a source, after that many of its bytes.
     fn read_behind(&mut self, source: usize, position: u64, room: &mut [u8]) -> io::Result<usize>
         ensures { IfOk result (λ count. count ≤ length room.new) }
     {

@@ -10,7 +10,7 @@ pub struct SystemFault(i32);
 pub const TOO_MANY_FILES: SystemFault = SystemFault(24);
 
 impl SystemFault {
-    /// What the system said, where the fault is the system's.
+    /// What the system said, if the fault is the system's.
     pub fn of(fault: &io::Error) -> Option<SystemFault> {
         match fault.raw_os_error() {
             Some(number) => Some(SystemFault(number)),

@@ -34,7 +34,7 @@ impl Screen {
     }
 }
 
-/// Reads a file, and keeps what the system says of a read that fails. Where the reading is told, the line is gone once
+/// Reads a file, and keeps what the system says of a read that fails. If the reading is told, the line is gone once
 /// this is dropped.
 #[derive(Drop)]
 pub struct Watched<'a, R: Eprint + Clock, F: Drop> {
@@ -44,7 +44,7 @@ pub struct Watched<'a, R: Eprint + Clock, F: Drop> {
 }
 
 impl<'a, R: Files + Eprint + Clock + AllocGlobal> Watched<'a, R, R::File> {
-    /// The file of the source. Its reading is told where standard error is a terminal and the source is a long piece
+    /// The file of the source. Its reading is told if standard error is a terminal and the source is a long piece
     /// or range in a regular file.
     pub fn new(
         rt: &'a R,
@@ -70,7 +70,7 @@ impl<'a, R: Files + Eprint + Clock + AllocGlobal> Watched<'a, R, R::File> {
 }
 
 /// What is told of the reading of the file at the path: nothing of a short one, nor of what isn't a regular file. Nor
-/// is it told where there is no memory for the line.
+/// is it shown if there is no memory for the line.
 fn progress_of<'a, R: Files + Eprint + Clock + AllocGlobal>(
     rt: &'a R,
     path: &str,

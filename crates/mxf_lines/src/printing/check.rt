@@ -16,8 +16,8 @@ use mxf_views::{Finding, Findings};
 use std::alloc::AllocError;
 use std::io::Write;
 
-/// Prints the pieces that don't end with a packet, and what is found wrong or missing; answers 1 where there is any of
-/// these, else 0. The findings are made before the first line.
+/// Prints the pieces that don't end with a packet, and what is found wrong or missing; answers 1 if there is any of
+/// these, otherwise 0. The findings are made before the first line.
 pub fn print_checked<W: Write>(
     printer: &mut Printer,
     writer: &mut W,

@@ -35,7 +35,7 @@ fn mark_text(mark: Mark) -> &'static str
     }
 }
 
-/// Thousandths, as a hundredth part with a digit behind the point.
+/// Thousandths, as a hundredth part with a digit after the point.
 #[derive(Clone, Copy)]
 struct ShareText(u128);
 
@@ -47,7 +47,7 @@ impl fmt::Display for ShareText {
     }
 }
 
-/// How many cells a picture has at most: so many rows, with so many in each.
+/// How many cells a picture has at most: its rows, and the cells in each.
 #[derive(Clone, Copy, Debug, PartialEq, Eq)]
 pub struct Grid {
     columns: u32,
@@ -58,7 +58,7 @@ pub struct Grid {
 }
 
 impl Grid {
-    /// So many cells in a row, and so many rows; None where either is 0.
+    /// This number of cells in a row, and of rows; `None` if either is 0.
     pub fn new(columns: u32, rows: u32) -> Option<Grid>
         ensures some { IfSome result (λ g. (g.columns ≡ columns) × (g.rows ≡ rows)) }
         ensures none { IfNone result ((columns ≡ 0) ⊎ (rows ≡ 0)) }
@@ -70,7 +70,7 @@ impl Grid {
     }
 }
 
-/// A map in rows of so many cells.
+/// A map in rows of this number of cells.
 #[derive(Drop)]
 struct Picture<'a> {
     map: &'a Map,
@@ -118,7 +118,7 @@ pub fn print_map<W: Write>(
     print_picture(alloc, &map, grid.columns, form, writer)
 }
 
-/// Prints a map in rows of so many cells.
+/// Prints a map in rows of this number of cells.
 fn print_picture<W: Write>(
     alloc: Global,
     map: &Map,
@@ -167,7 +167,7 @@ fn share_of(held: u64, hand: u64, end: u64) -> u128
     1000 * (u128::from(held) + u128::from(hand)) / u128::from(end)
 }
 
-/// A row of cells: the offset of its first byte, with so many spaces before it, and the characters of the marks.
+/// A row of cells: the offset of its first byte, after as many spaces, and the characters of the marks.
 #[derive(Clone, Copy)]
 struct RowLine<'a> {
     spaces: usize,
@@ -202,7 +202,8 @@ impl<'a> fmt::Display for MarksText<'a> {
     }
 }
 
-/// The rows of so many cells that are left, behind cells that were passed. Offsets take a width at least.
+/// The rows that are left of a map in rows of this number of cells, after those that were passed. Offsets have at
+/// least this width.
 #[derive(Drop)]
 struct Rows<'a> {
     left: &'a [Mark],
@@ -239,7 +240,7 @@ impl<'a> Series for Rows<'a> {
     }
 }
 
-/// The offset behind so many cells, in bytes.
+/// The offset after this number of cells, in bytes.
 fn offset_of(passed: usize, cell: u64) -> u128
     ensures { result ≡ passed * cell }
 {

@@ -118,8 +118,8 @@ impl<'a> Lines for NamedLines<'a> {
 }
 
 impl<'a> NamedLines<'a> {
-    /// Prints the line of a reference, and the lines of what it leads to: of its record among those that were read, or of
-    /// the one that is read now.
+    /// Prints the line of a reference, and the lines of what it leads to: of its record among those that were read, or
+    /// of the one that is read now.
     fn print_reference<W: Write>(
         self,
         printer: &mut Printer,
@@ -242,7 +242,7 @@ fn record_at<'a>(catalogue: &'a Catalogue, named: Named, target: Target) -> Opti
     record_in(named, catalogue.clear_at(offset)?)
 }
 
-/// The record of a note, where its value is kept and is such a one.
+/// The record of a note, if its value is kept and is such a one.
 fn record_in<'a>(named: Named, note: &'a Note) -> Option<Record<'a>>
     ensures { result ≡ record_of named note.now }
 {

@@ -35,7 +35,7 @@ impl<'a> Lines for SetLines<'a> {
     }
 }
 
-/// Prints a line for each item of a set, and none where the note has no items.
+/// Prints a line for each item of a set, and none if the note has no items.
 fn print_set<W: Write>(
     printer: &mut Printer,
     writer: &mut W,
@@ -140,7 +140,7 @@ impl CopyLabels {
     }
 }
 
-/// The labels of a copy, none where it has no primer pack.
+/// The labels of a copy, none if it has no primer pack.
 fn labels_of(
     alloc: Global,
     views: &Views,

@@ -19,7 +19,7 @@ use std::alloc::{AllocError, Global};
 use std::io::Write;
 
 /// Prints in a form what each source holds, and which source has which disputed note, of sources that these words name.
-/// The answer is 1 where a note is disputed, else 0.
+/// The answer is 1 if a note is disputed, otherwise 0.
 ///
 /// Out of memory, some whole lines have been written; after a write fault the first bytes, which it counts.
 pub fn print_sources<W: Write>(

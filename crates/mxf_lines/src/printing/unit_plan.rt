@@ -18,8 +18,8 @@ use std::alloc::Global;
 use std::io::Write;
 
 /// Prints what to restore so that the edit units of a range can be cut out of the file and decoded, by the index of an
-/// IndexSID, in a form. The answer is 0 where nothing is to be restored and all bytes of each of these units are held or
-/// at hand, else 1.
+/// IndexSID, in a form. The answer is 0 if nothing is to be restored and all bytes of each of these units are held or
+/// at hand, otherwise 1.
 ///
 /// Out of memory, some whole lines have been written; after a write fault the first bytes, which it counts.
 pub fn print_unit_plan<W: Write>(
@@ -80,7 +80,7 @@ fn print_plan_lines<W: Write>(
     print_with_status(printer, writer, lines, status_of(orders, last))
 }
 
-/// 0 where there is no order and each unit is held or at hand, else 1.
+/// 0 if there is no order and each unit is held or at hand, otherwise 1.
 fn status_of(orders: &[Order], units: UnitsLine) -> u8
     requires { units.held + units.hand ≤ units.units }
     ensures { result ≡ if length orders.now == 0 then (if units.held + units.hand == units.units then 0 else 1) else 1 }

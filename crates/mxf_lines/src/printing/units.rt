@@ -18,7 +18,7 @@ use mxf_units::{EditUnit, Extent, UnitRange, UnitStanding, Units, UnitsLeft};
 use std::alloc::AllocError;
 use std::io::Write;
 
-/// Prints the units of a range, and the last line; answers 0 where all bytes of each are held or at hand, else 1.
+/// Prints the units of a range, and the last line; answers 0 if all bytes of each are held or at hand, otherwise 1.
 pub fn print_units<W: Write>(
     printer: &mut Printer,
     writer: &mut W,
@@ -39,8 +39,8 @@ pub fn print_units<W: Write>(
     Ok(last.status())
 }
 
-/// A unit: its number, how its bytes stand, from where up to where they lie, in bytes, what its entry says, and how many
-/// bytes it has.
+/// A unit: its number, how its bytes stand, from where up to where they lie, in bytes, what its entry says, and how
+/// many bytes it has.
 impl Line for EditUnit {
     ghost line = { unit_line };
 
@@ -73,14 +73,14 @@ fn write_entry(fields: &mut FieldWriter, unit: &EditUnit) -> Result<(), AllocErr
     write_flags(fields, unit.flags)
 }
 
-/// The file offset where an extent begins, where there is one.
+/// The file offset where an extent begins, if there is one.
 fn start_of(extent: Option<Extent>) -> Option<u128>
     ensures { result ≡ option_map (λ e. e.start) extent }
 {
     Some(extent?.start)
 }
 
-/// The file offset where an extent ends, where that is known.
+/// The file offset where an extent ends, if that is known.
 fn end_of(extent: Option<Extent>) -> Option<u128>
     ensures { result ≡ option_and_then (λ e. e.end) extent }
 {
@@ -95,7 +95,7 @@ fn length_of(extent: Option<Extent>) -> Option<u128>
     Some(extent.end?.saturating_sub(extent.start))
 }
 
-/// Writes a file offset, where it is known.
+/// Writes a file offset, if it is known.
 pub(super) fn write_place(
     fields: &mut FieldWriter,
     name: &str,
@@ -189,7 +189,7 @@ impl UnitsLine {
         }
     }
 
-    /// 0 where each unit is held or at hand, else 1.
+    /// 0 if each unit is held or at hand, otherwise 1.
     pub fn status(&self) -> u8
         requires { self.now.held + self.now.hand ≤ self.now.units }
         ensures { result ≡ if self.now.held + self.now.hand == self.now.units then 0 else 1 }

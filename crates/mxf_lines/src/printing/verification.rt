@@ -40,18 +40,19 @@ pub struct Verified<'v, 'a> {
     /// What was noted of each piece of the reference.
     pub stops: &'v [PieceReport],
     pub verification: &'v Verification<'a>,
-    /// The edit units of the reference that are asked for, where some are.
+    /// The edit units of the reference that are asked for, if some are.
     pub units: Option<&'v VerifiedUnits>,
-    /// Whether all is to be verified: these units; or without units all bytes of the reference, and the sources are to have
-    /// no other.
+    /// Whether all is to be verified: these units; or without units all bytes of the reference, and the sources are to
+    /// have no other.
     pub is_whole: bool,
 }
 
 /// Prints in a form the pieces of a reference that don't end with a packet, its notes that differ and that weren't
-/// compared, what it says nothing of, what of it wasn't verified, the units that are asked for, and how much was verified.
+/// compared, what it says nothing of, what of it wasn't verified, the units that are asked for, and how much was
+/// verified.
 ///
-/// The answer is 0 where nothing differs, some note is the same, each piece ends with a packet or with one that is cut,
-/// and, where all is to be verified, that was; else it is 1.
+/// The answer is 0 if nothing differs, some note is the same, each piece ends with a packet or with one that is cut,
+/// and, if all is to be verified, that was; otherwise it is 1.
 ///
 /// Out of memory, some whole lines have been written; after a write fault the first bytes, which it counts.
 pub fn print_verification<W: Write>(
@@ -72,9 +73,9 @@ pub fn print_verification<W: Write>(
     Ok(status)
 }
 
-/// A law of [`print_verification`]: its answer is 0 exactly where the pieces of the reference were noted up to their ends,
-/// some note of it is the same in a source, and none differs in one; and where all is to be verified, no byte is unverified
-/// or unknown, or each of the units that are asked for is verified.
+/// A law of [`print_verification`]: its answer is 0 exactly if the pieces of the reference were noted up to their ends,
+/// some note of it is the same in a source, and none differs in one; and if all is to be verified, no byte is
+/// unverified or unknown, or each of the units that are asked for is verified.
 pub fn verified_status_by_definition()
     ensures known { (reports : List PieceReport) (reference : List NoteParts) (sources : List Source)
         (v : VerificationParts) (units : Option VerifiedUnitsParts) → IsVerification reference sources v
@@ -89,9 +90,9 @@ pub fn verified_status_by_definition()
         ↔ (IsAsItSays reports reference sources × AreAllVerified units.runs) }
 {}
 
-/// A law of [`print_verification`]: of all packets of a file, from its first byte on, clear and without a gap, the answer is
-/// 0 beside the bytes of one source at 0, where all is to be verified, exactly where the source's packets are those and it
-/// ends with the last. The pieces of the reference were noted up to their ends.
+/// A law of [`print_verification`]: of all packets of a file, from its first byte on, clear and without a gap, the
+/// answer is 0 beside the bytes of one source at 0, if all is to be verified, exactly if the source's packets are those
+/// and it ends with the last. The pieces of the reference were noted up to their ends.
 pub fn whole_status_by_packets()
     ensures { (reports : List PieceReport) (reference : List NoteParts) (bytes : List ℕ) (v : VerificationParts)
         → AreNoted reports → IsWholeReference reference → AreBytes bytes → length bytes ≤ greatest_end
@@ -128,7 +129,7 @@ impl<'v, 'a> Lines for Verified<'v, 'a> {
 }
 
 impl<'v, 'a> Verified<'v, 'a> {
-    /// 0 where all is well, else 1.
+    /// 0 if all is well, otherwise 1.
     fn status(&self) -> u8
         ensures { result
             ≡ verification_status self.now.stops.now self.now.verification.now (lent_units self.now.units)
@@ -176,7 +177,7 @@ fn has_none(cover: &Cover) -> bool
     cover.runs().next().is_none()
 }
 
-/// The runs of the units, none where no units are asked for.
+/// The runs of the units, none if no units are asked for.
 fn runs_of<'a>(units: Option<&'a VerifiedUnits>) -> &'a [UnitRun]
     ensures { result.now ≡ runs_of (lent_units units.entry) }
 {
@@ -186,7 +187,7 @@ fn runs_of<'a>(units: Option<&'a VerifiedUnits>) -> &'a [UnitRun]
     }
 }
 
-/// A note that differs: the source, what the note says, and where units are asked for, those that it has a byte of.
+/// A note that differs: the source, what the note says, and if units are asked for, those that it has a byte of.
 #[derive(Clone, Copy)]
 struct DiffersLine<'v, 'a> {
     differing: Differing<'a>,
@@ -207,7 +208,7 @@ impl<'v, 'a> Line for DiffersLine<'v, 'a> {
     }
 }
 
-/// Writes where units are asked for the first and the last that a note has a byte of.
+/// Writes if units are asked for the first and the last that a note has a byte of.
 fn write_touched(
     fields: &mut FieldWriter,
     units: Option<&VerifiedUnits>,
@@ -392,7 +393,7 @@ fn write_others(fields: &mut FieldWriter, counts: VerifiedCounts) -> Result<(), 
     fields.number(" unknown ", "unknown", counts.unknown)
 }
 
-/// Writes where units are asked for how many of them are verified, of how many.
+/// Writes if units are asked for how many of them are verified, of how many.
 fn write_unit_counts(
     fields: &mut FieldWriter,
     units: Option<&VerifiedUnits>,

@@ -9,7 +9,7 @@ use mxf_read::PartFault;
 use std::fmt;
 use thiserror::Error;
 
-/// Why a run ends without its answer. It prints as the line that tells it.
+/// Why a run ends without its answer. It prints as its line.
 #[derive(Debug, Drop, Error)]
 pub enum RunFault<'a> {
     /// Memory is wanting.
@@ -21,8 +21,8 @@ pub enum RunFault<'a> {
         option: &'a str,
         text: &'a str,
     },
-    /// The last edit unit is below the first, or 1,000,000 or more behind it.
-    #[error("error: invalid value '{text}' for '--to <N>': not 0 to 999999 units behind the first")]
+    /// The last edit unit is below the first, or 1,000,000 or more after it.
+    #[error("error: invalid value '{text}' for '--to <N>': not 0 to 999999 units after the first")]
     BadLastUnit {
         text: &'a str,
     },
@@ -51,7 +51,7 @@ pub enum RunFault<'a> {
     /// No last edit unit is named, and the index has none, or it is below the first.
     #[error("no last unit")]
     NoLastUnit,
-    /// No last edit unit is named, and that of the index is 1,000,000 or more behind the first.
+    /// No last edit unit is named, and that of the index is 1,000,000 or more after the first.
     #[error("too many units")]
     TooManyUnits,
     /// No index is named, and none is held.

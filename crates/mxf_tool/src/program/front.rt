@@ -15,7 +15,7 @@ const SEARCHED: u64 = 33_554_432;
 pub enum Front {
     /// It is a catalogue.
     Catalogue,
-    /// The header partition pack is its first packet, and begins after so many bytes: a run-in (ST 377-1).
+    /// The header partition pack is its first packet, and begins after this number of bytes: a run-in (ST 377-1).
     RunIn(u64),
     /// Another packet is its first, or it wasn't read.
     Midst,

@@ -1,4 +1,4 @@
-//! What to do about a fault, told in a second line where standard error is a terminal.
+//! What to do about a fault, told in a second line if standard error is a terminal.
 use super::fault::RunFault;
 use super::sized::SizedWord;
 use crate::beginning::Beginning;
@@ -6,8 +6,8 @@ use crate::saving::SaveFault;
 use crate::system_fault::{SystemFault, TOO_MANY_FILES};
 use std::fmt;
 
-/// What to do about a fault. Of a file that is refused as a catalogue, or of a word that names no source and a file, it is
-/// known what it begins with.
+/// What to do about a fault. Of a file that is refused as a catalogue, or of a word that names no source and a file, it
+/// is known what it begins with.
 #[derive(Clone, Copy)]
 pub struct Hint<'f, 'a> {
     pub fault: &'f RunFault<'a>,

@@ -19,7 +19,7 @@ use std::{fmt, fs};
 /// How many bytes of a source are read once more, at most.
 const FRONT: u64 = 268_435_456;
 
-/// That a source begins at another offset than the one that is named. It prints as the line that tells it.
+/// That a source begins at another offset than the one that is named. It prints as its line.
 #[derive(Clone, Copy)]
 struct WrongOffset<'a> {
     path: &'a str,
@@ -97,7 +97,8 @@ fn views_of_front<R: Files + AllocGlobal>(rt: &R, offset: u64, path: &str) -> Op
     Some(gathered.views)
 }
 
-/// The other offset at which the source of these views begins by all partition packs, which was read as from `named` on.
+/// The other offset at which the source of these views begins by all partition packs, which was read as from `named`
+/// on.
 fn right_offset(views: &Views, named: u64) -> Option<u64>
     ensures { MatchOption result
         ((right : ℕ) → IsRightOffset (partitions_of views.now) named right → ⊥)

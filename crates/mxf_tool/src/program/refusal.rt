@@ -11,7 +11,7 @@ pub enum RefusalHint<'a> {
 }
 
 impl<'a> RefusalHint<'a> {
-    /// What the first argument that tells may have been meant for.
+    /// What the first argument that shows it may have been meant for.
     pub fn of(arguments: &'a [String]) -> Option<RefusalHint<'a>> {
         arguments
             .iter()

@@ -8,7 +8,7 @@ use std::fs;
 use std::io::{self, ErrorKind, Input, Read};
 use std::rt::Files;
 
-/// The bytes of the list at the path, none where there is no list. `-` is standard input.
+/// The bytes of the list at the path, none if there is no list. `-` is standard input.
 pub fn read_list<'a, R: Files + Input + AllocGlobal>(
     rt: &R,
     path: Option<&'a str>,
@@ -44,7 +44,7 @@ pub fn unread<'a>(path: &'a str, fault: &io::Error) -> RunFault<'a> {
     }
 }
 
-/// The sources that the words name, and behind them those of the list at a path, which has these bytes.
+/// The sources that the words name, and after them those of the list at a path, which has these bytes.
 pub fn sources_of<'a, 'b: 'a>(
     alloc: Global,
     words: Option<&[&'b str]>,
@@ -65,7 +65,7 @@ pub fn sources_of<'a, 'b: 'a>(
     Ok(sources)
 }
 
-/// The sources that the words of `--old` or `--against` name; none where there are none.
+/// The sources that the words of `--old` or `--against` name; none if there are none.
 pub fn sources_before<'a>(
     alloc: Global,
     words: Option<&[&'a str]>,

@@ -65,7 +65,7 @@ impl fmt::Display for FrontHint<'_> {
     }
 }
 
-/// The place of a stop before the end of the bytes that are there; `None` where all packets of the source are noted.
+/// The place of a stop before the end of the bytes that are there; `None` if all packets of the source are noted.
 fn place_of(stop: Stop) -> Option<u64> {
     match stop {
         Stop::End | Stop::Truncated(_) => None,
@@ -74,7 +74,7 @@ fn place_of(stop: Stop) -> Option<u64> {
     }
 }
 
-/// Whether none of a source's bytes are a packet's, as far as its stop tells: it stops at its first byte, or has no
+/// Whether none of a source's bytes are a packet's, as far as its stop says: it stops at its first byte, or has no
 /// start.
 fn is_without_packets(report: &PieceReport) -> bool {
     match report.report.stop {
@@ -84,7 +84,7 @@ fn is_without_packets(report: &PieceReport) -> bool {
     }
 }
 
-/// Tells on a terminal of each piece and range whose packets weren't all noted, where stops are asked for, and what to
+/// Tells on a terminal of each piece and range whose packets weren't all noted, if stops are asked for, and what to
 /// do about one that has none.
 pub fn tell_stops<R: Files + Eprint + AllocGlobal>(
     rt: &R,

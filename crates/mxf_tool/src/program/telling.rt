@@ -1,4 +1,4 @@
-//! What a run tells on standard error.
+//! What a run reports on standard error.
 use super::fault::RunFault;
 use super::hint::Hint;
 use crate::beginning::Beginning;
@@ -9,7 +9,7 @@ use std::alloc::{AllocError, Global};
 use std::fmt;
 use std::rt::Files;
 
-/// Tells a fault, and on a terminal what to do about it; answers how the run ends.
+/// Reports a fault, and on a terminal what to do about it; answers how the run ends.
 pub fn tell<R: Files + Eprint + AllocGlobal>(rt: &R, screen: Screen, fault: &RunFault<'_>) -> Exit {
     if screen == Screen::Other {
         let _ = rt.eprintln(fault);
@@ -28,7 +28,7 @@ pub fn tell<R: Files + Eprint + AllocGlobal>(rt: &R, screen: Screen, fault: &Run
     }
 }
 
-/// Tells a line on a terminal, without control characters.
+/// Prints a line on a terminal, without control characters.
 pub fn tell_on_screen<R: Eprint + AllocGlobal, D: fmt::Display>(
     rt: &R,
     line: &D,

@@ -47,8 +47,8 @@ pub fn print_verified<'a, R: System>(
     }
 }
 
-/// Prints how the parts stand, which were opened of the sources, to what was gathered of the reference. The edit units that
-/// are asked for are known before the first part is read.
+/// Prints how the parts stand, which were opened of the sources, to what was gathered of the reference. The edit units
+/// that are asked for are known before the first part is read.
 fn verify_by<'a, R: System, F: Read + Drop>(
     rt: &R,
     inputs: Inputs<'_, 'a>,
@@ -65,7 +65,7 @@ fn verify_by<'a, R: System, F: Read + Drop>(
     }
 }
 
-/// The edit units that are asked for, where some are.
+/// The edit units that are asked for, if some are.
 fn asked_range<'a>(
     views: &Views,
     units: Option<IndexedUnits>,
@@ -117,7 +117,7 @@ fn print_with_units<'a, R: System>(
     }
 }
 
-/// Prints what was verified of the reference, and of its edit units where some are asked for.
+/// Prints what was verified of the reference, and of its edit units if some are asked for.
 fn print_verification<'v, 'a, R: System>(
     rt: &R,
     form: Form,
@@ -150,7 +150,7 @@ fn units_beside(
     VerifiedUnits::of(alloc, verification, &units, range.first(), range.last())
 }
 
-/// What a verification leaves open. It prints as the line that tells it.
+/// What a verification leaves open. It prints as its line.
 #[derive(Clone, Copy)]
 enum Open {
     /// No packet is the same, though bytes came.
@@ -172,7 +172,7 @@ impl fmt::Display for Open {
     }
 }
 
-/// What a verification leaves open, where it does.
+/// What a verification leaves open, if it does.
 fn open_of(is_whole: bool, verification: &Verification<'_>) -> Option<Open>
     ensures { result ≡ open_of is_whole verification.now }
 {
@@ -185,7 +185,7 @@ fn open_of(is_whole: bool, verification: &Verification<'_>) -> Option<Open>
     }
 }
 
-/// Tells on a terminal what a verification leaves open: where no packet is the same, also which OFFSET is wrong by its
+/// Tells on a terminal what a verification leaves open: if no packet is the same, also which OFFSET is wrong by its
 /// source.
 fn tell_open<R: System>(
     rt: &R,

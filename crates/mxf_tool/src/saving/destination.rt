@@ -25,7 +25,8 @@ pub enum Destination {
 }
 
 impl Destination {
-    /// What stands at `path`, behind all links. A file that can't be written is a fault, although it could be replaced.
+    /// What stands at `path`, once all links are followed. A file that can't be written is a fault, although it could
+    /// be replaced.
     pub fn of<R: Files + AllocGlobal>(rt: &R, path: &str) -> Result<Destination, SaveFault> {
         match fs::metadata(rt, path) {
             Ok(found) if found.is_file() => {

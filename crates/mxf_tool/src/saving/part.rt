@@ -19,7 +19,7 @@ const ENDING: &str = ".mxf_tool.part";
 /// The bytes of a name that has room for the ending: 255 is the most that a name has.
 const LONGEST_FRONT: usize = 241;
 
-/// How often the file is tried to be made, where others make and remove it meanwhile.
+/// How often the file is tried to be made while others make and remove it.
 const TRIES: u32 = 16;
 
 /// A new file beside another, which no other program writes while it is open. It is removed unless it took the other's
@@ -35,7 +35,7 @@ impl<'a, R: Files<File = File> + AllocGlobal> PartFile<'a, R> {
     /// Makes the file beside the one at `path`. A private one is its owner's alone.
     ///
     /// It is made new and locked. One that stands there and that no program has locked was left by a run that was
-    /// killed, and is removed; where a program has it locked, or where files can't be locked, it is held.
+    /// killed, and is removed; if a program has it locked, or files can't be locked, it is held.
     pub fn create(rt: &'a R, path: &PathBuf, is_private: bool) -> Result<PartFile<'a, R>, SaveFault>
         ensures { IfOk result (λ part. IsBeside (path_buf_bytes path.now) (path_buf_bytes part.path)) }
     {
@@ -75,7 +75,7 @@ impl<'a, R: Files<File = File> + AllocGlobal> PartFile<'a, R> {
         &self.file
     }
 
-    /// Puts the file in the place of the one at `path`. Where that is interrupted it is tried again, 1,024 times at most.
+    /// Puts the file in the place of the one at `path`. If that is interrupted it is tried again, 1,024 times at most.
     pub fn rename(&mut self, path: &PathBuf) -> io::Result<()> {
         let mut renamed = fs::rename(self.rt, &self.path, path);
         for _ in 0..GREATEST_INTERRUPTIONS {
@@ -177,7 +177,7 @@ fn beside(alloc: Global, path: &PathBuf) -> Result<PathBuf, SaveFault>
     Ok(path.with_file_name(alloc, name.as_str())?)
 }
 
-/// The name of the file beside one of this name: the name and the ending, or the ending alone behind a longer name.
+/// The name of the file beside one of this name: the name and the ending, or the ending alone after a longer name.
 fn part_name(alloc: Global, name: &str) -> Result<String, AllocError>
     ensures { IfOk result (λ part. string_bytes part ≡ part_name name.now) }
 {

@@ -1,4 +1,4 @@
-//! Where no catalogue is saved: over recordings, and into the program's own lines.
+//! The places where no catalogue is saved: recordings, and the file of the program's own lines.
 use super::same_file::is_same_file;
 use super::standard_output::is_standard_output;
 use crate::beginning::Beginning;
@@ -10,7 +10,7 @@ use std::rt::Files;
 /// Whether a catalogue may not be saved at `path`: it is standard output, a regular file that begins with a label, or
 /// the file of a piece among the sources.
 ///
-/// A file that can't be looked at is an error, since it may be a recording. Where nothing stands, nothing is lost.
+/// A file that can't be looked at is an error, since it may be a recording. If nothing stands there, nothing is lost.
 pub fn is_refused<R: Files + AllocGlobal>(
     rt: &R,
     path: &str,

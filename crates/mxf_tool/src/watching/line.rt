@@ -1,4 +1,4 @@
-//! The line that tells how far a piece has been read.
+//! The line that says how far a piece has been read.
 use std::fmt;
 
 /// A number of bytes, in gigabytes with one decimal.
@@ -41,7 +41,7 @@ impl fmt::Display for TimeText {
     }
 }
 
-/// The line of a piece at `path`: so many bytes of its size were read, and so many seconds are left.
+/// The line of a piece at `path`: that many bytes of its size were read, and that many seconds are left.
 #[derive(Clone, Copy)]
 pub struct ProgressLine<'a> {
     pub path: &'a str,

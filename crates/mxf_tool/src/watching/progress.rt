@@ -6,7 +6,7 @@ use super::line::ProgressLine;
 use std::rt::Clock;
 use std::time::Instant;
 
-/// The bytes that a piece has at most where nothing is told of its reading.
+/// The bytes that a piece has at most if nothing is told of its reading.
 const SHORT_PIECE: u64 = 268_435_456;
 
 /// The bytes from one look at the clock to the next, at least.
@@ -22,7 +22,7 @@ pub fn is_long(size: u64) -> bool
     size > SHORT_PIECE
 }
 
-/// Whether a line is due so many milliseconds after the one before.
+/// Whether a line is due that many milliseconds after the one before.
 fn is_due(since: u64) -> bool
     ensures { IsTrue result ↔ line_pause ≤ since }
 {
@@ -38,7 +38,7 @@ fn seconds_left(done: u64, size: u64, elapsed: u64) -> u128
     u128::from(size.saturating_sub(done)) / rate / 1000
 }
 
-/// The milliseconds from one time to another, where they are few enough to count.
+/// The milliseconds from one time to another, if they are few enough to count.
 fn milliseconds(from: Instant, to: Instant) -> Option<u64> {
     u64::try_from(to.duration_since(from).as_millis()).ok()
 }
@@ -75,7 +75,7 @@ impl<'a, R: Eprint + Clock> ReadProgress<'a, R> {
         }
     }
 
-    /// Counts bytes that were read, and prints the line where it is due. Without a clock there is no line.
+    /// Counts bytes that were read, and prints the line if it is due. Without a clock there is no line.
     pub fn count(&mut self, bytes: usize) {
         self.done = self.done.saturating_add(bytes as u64);
         if self.done.saturating_sub(self.looked) < LOOK {
@@ -87,7 +87,7 @@ impl<'a, R: Eprint + Clock> ReadProgress<'a, R> {
         }
     }
 
-    /// Prints the line where it is due. A failed write is ignored.
+    /// Prints the line if it is due. A failed write is ignored.
     fn tell(&mut self, start: Instant, now: Instant) {
         let Some(since) = milliseconds(self.told.unwrap_or(start), now) else {
             return;

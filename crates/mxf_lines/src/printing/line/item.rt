@@ -18,7 +18,7 @@ fn write_label(fields: &mut FieldWriter, label: Option<[u8; 16]>) -> Result<(), 
     }
 }
 
-/// The first 32 bytes, or all where there are fewer.
+/// The first 32 bytes, or all if there are fewer.
 fn front(value: &[u8]) -> &[u8]
     ensures { result.now ≡ take 32 value.now }
 {

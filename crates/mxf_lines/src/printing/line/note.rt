@@ -10,8 +10,8 @@ use mxf_catalogue::{Catalogue, Notes};
 use mxf_klv::Note;
 use std::marker::Model;
 
-/// Writes what a note says: its offset in bytes, its kind, the width and value of its length, its key, and whether it is a
-/// head.
+/// Writes what a note says: its offset in bytes, its kind, the width and value of its length, its key, and whether it
+/// is a head.
 pub fn write_note_fields(fields: &mut FieldWriter, note: &Note) -> Result<(), AllocError>
     ensures { IfOk result (λ _. fields.new ≡ with_fields (note_fields note.now) fields.old) }
 {

@@ -72,7 +72,7 @@ fn write_parts(fields: &mut FieldWriter, n: PartitionNumbers) -> Result<(), Allo
     fields.number(" body-sid ", "body-sid", n.body_sid)
 }
 
-/// Writes the label of an operational pattern: its name and qualifier, or its digits where it has no name.
+/// Writes the label of an operational pattern: its name and qualifier, or its digits if it has no name.
 fn write_pattern(fields: &mut FieldWriter, label: [u8; 16]) -> Result<(), AllocError>
     ensures { IfOk result (λ _. fields.new ≡ with_fields (pattern_fields label) fields.old) }
 {

@@ -177,7 +177,7 @@ fn write_owned<V: Value>(
     fields.word_member(owner.named.word(), Uuid::from_bytes(owner.uid))
 }
 
-/// A value under its word, where it is there.
+/// A value under its word, if it is there.
 #[derive(Clone, Copy)]
 struct ValueLines<V>(Owner, Property, Option<V>);
 
@@ -193,7 +193,7 @@ impl<V: Value + Copy> Lines for ValueLines<V> {
     }
 }
 
-/// A text under its word, given by the value of its item, where it is there.
+/// A text under its word, given by the value of its item, if it is there.
 #[derive(Clone, Copy)]
 struct TextLines<'a>(Owner, Property, Option<&'a [u8]>);
 

@@ -14,8 +14,8 @@ use std::alloc::{AllocError, Global};
 use std::fmt;
 use std::marker::Model;
 
-/// Writes lines in a form, each in the same text. Of a field it takes what stands before it in the text, its name, which
-/// JSON has, and its value. Out of memory, the line is begun anew.
+/// Writes lines in a form, each in the same text. Of a field it takes what stands before it in the text, its name,
+/// which JSON has, and its value. Out of memory, the line is begun anew.
 #[derive(Drop)]
 pub struct FieldWriter {
     form: Form,
@@ -119,7 +119,7 @@ impl FieldWriter {
         }
     }
 
-    /// A number, with so many spaces more before it.
+    /// A number, after this number of spaces.
     #[tactic(auto, unfolding(crate::specs::Forms::field_in, crate::specs::Writing::with_field))]
     pub fn number_behind(
         &mut self,
@@ -140,7 +140,7 @@ impl FieldWriter {
         append_number(&mut self.text, value)
     }
 
-    /// A number, or a word where there is none.
+    /// A number, or a word if there is none.
     pub fn known(
         &mut self,
         before: &str,
@@ -283,7 +283,7 @@ impl FieldWriter {
         }
     }
 
-    /// Ends the line with the words behind its fields.
+    /// Ends the line with the words after its fields.
     #[tactic(auto, unfolding(crate::specs::Forms::end_in, crate::specs::Writing::with_end))]
     pub fn end(&mut self, last: &str) -> Result<(), AllocError>
         ensures { IfOk result (λ _. self.new ≡ with_end last.now self.old) }
@@ -325,7 +325,7 @@ fn append_quoted(line: &mut String, text: &str) -> Result<(), AllocError>
     line.push_str("\"")
 }
 
-/// Appends so many spaces.
+/// Appends spaces.
 fn append_spaces(line: &mut String, count: usize) -> Result<(), AllocError>
     ensures { IfOk result (λ _. string_bytes line.new ≡ string_bytes line.old ++ repeat count (codes " ")) }
 {

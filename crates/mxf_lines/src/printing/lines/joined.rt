@@ -20,7 +20,7 @@ impl<A: Lines + Drop, B: Lines + Drop> Lines for Then<A, B> {
     }
 }
 
-/// The lines of what is there, none where nothing is.
+/// The lines of what is there, none if nothing is.
 impl<A: Lines + Drop> Lines for Option<A> {
     ghost lines = { λ o. lines_where A.lines o };
 
