@@ -357,8 +357,7 @@ fn json<'a>(alloc: Global) -> Arg<'a> {
 }
 
 fn strict<'a>(alloc: Global) -> Arg<'a> {
-    let help =
-        "Ends with status 1 where a piece ends neither with a packet nor with one that is cut";
+    let help = "Ends with status 1 if a piece ends neither with a packet nor with one that is cut";
     flag(alloc, "strict", help)
 }
 
@@ -368,12 +367,12 @@ fn index<'a>(alloc: Global) -> Arg<'a> {
 }
 
 fn only_index<'a>(alloc: Global) -> Arg<'a> {
-    let help = "The IndexSID of the index table; may be left out where only one is held";
+    let help = "The IndexSID of the index table; may be left out if only one is held";
     number(alloc, "index", value_parser!(u32), help)
 }
 
 fn units_index<'a>(alloc: Global) -> Arg<'a> {
-    let help = "The IndexSID of the index table whose edit units are told";
+    let help = "The IndexSID of the index table whose edit units are asked for";
     number(alloc, "index", value_parser!(u32), help)
 }
 
@@ -387,7 +386,7 @@ fn from<'a>(alloc: Global) -> Arg<'a> {
     edit_unit(
         alloc,
         "from",
-        "The first edit unit, counted from 0 as they are stored; 0 where it isn't given",
+        "The first edit unit, counted from 0 as they are stored; 0 if it isn't given",
     )
 }
 
@@ -395,7 +394,7 @@ fn to<'a>(alloc: Global) -> Arg<'a> {
     edit_unit(
         alloc,
         "to",
-        "The last edit unit, at most 999999 behind the first; the last of the index where it isn't given",
+        "The last edit unit, at most 999999 after the first; the last of the index if it isn't given",
     )
 }
 
@@ -410,12 +409,12 @@ fn edit_unit<'a>(alloc: Global, name: &'a str, help: &'a str) -> Arg<'a> {
 }
 
 fn columns<'a>(alloc: Global) -> Arg<'a> {
-    let help = "How many cells a row has, 1 to 1000; 64 where it isn't given";
+    let help = "How many cells a row has, 1 to 1000; 64 if it isn't given";
     number(alloc, "columns", value_parser!(u32).range(1..=1000), help)
 }
 
 fn rows<'a>(alloc: Global) -> Arg<'a> {
-    let help = "How many rows there are at most, 1 to 1000; 16 where it isn't given";
+    let help = "How many rows there are at most, 1 to 1000; 16 if it isn't given";
     number(alloc, "rows", value_parser!(u32).range(1..=1000), help)
 }
 
@@ -444,7 +443,7 @@ fn before<'a>(alloc: Global, name: &'a str, help: &'a str) -> Arg<'a> {
 
 fn whole<'a>(alloc: Global) -> Arg<'a> {
     let help =
-        "Ends with status 1 where a byte is unverified or unknown; with --index where a unit isn't verified";
+        "Ends with status 1 if a byte is unverified or unknown; with --index if a unit isn't verified";
     flag(alloc, "whole", help)
 }
 

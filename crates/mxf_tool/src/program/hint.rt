@@ -26,24 +26,27 @@ impl fmt::Display for Hint<'_, '_> {
                 f.write_str("ask for 1000000 units at most, and name the first by --from")
             }
             RunFault::NoLastUnit => f.write_str(
-                "the index that is held ends with no unit, or before the first: name the last by --to",
+                "no segment that is held gives this index a last unit from the first on: name the last by --to, or another index by --index",
             ),
             RunFault::TooManyUnits => {
                 f.write_str("ask for 1000000 units at most, and name the last by --to")
             }
             RunFault::NoIndex => f.write_str(
-                "no index table segment is held: plan tells what to restore",
+                "no index table segment is held: plan says what to restore",
             ),
             RunFault::SeveralIndexes { .. } => f.write_str("name one of them by --index"),
             RunFault::BadSource { word } => write_source(f, *word, self.beginning),
             RunFault::NoSource => f.write_str("name a source as a word, or in a line of the list"),
-            RunFault::BadLine { .. } => f.write_str("a line of a list is a source in UTF-8"),
+            RunFault::BadLine { path, .. } => write_list(f, *path, self.beginning),
             RunFault::BadOutput { path } => write!(
                 f,
                 "{path} is standard output, or a recording, which a catalogue would replace: name another file"
             ),
             RunFault::BadUnit => f.write_str("the greatest edit unit is 9223372036854775807"),
-            RunFault::Unread { path, cause } => write_cause(f, *path, *cause),
+            RunFault::Unread { path, cause } => {
+                write_cause(f, *path, *cause)?;
+                f.write_str(advice_on(*path))
+            }
             RunFault::BadCatalogue { path, .. } => write_form(f, *path, self.beginning),
             RunFault::Unwritten { cause } => write_cause(f, "standard output", *cause),
             RunFault::Unsaved { path, fault } => write_unsaved(f, *path, fault),
@@ -70,6 +73,38 @@ fn write_source<W: fmt::Write>(
         _ => f.write_str(
             "a source is at:OFFSET:PATH or range:OFFSET:PATH, with OFFSET in decimal digits alone, or cat:PATH",
         ),
+    }
+}
+
+/// Writes what the file that was read as a list looks like.
+fn write_list<W: fmt::Write>(
+    f: &mut fmt::Formatter<W>,
+    path: &str,
+    beginning: Option<Beginning>,
+) -> fmt::Result {
+    match beginning {
+        Some(Beginning::Label) => write!(
+            f,
+            "{path} begins with a packet: name it at:0:{path}, without --sources"
+        ),
+        Some(Beginning::Catalogue) => write!(
+            f,
+            "{path} looks like a catalogue: name it cat:{path}, without --sources"
+        ),
+        _ => f.write_str("a line of a list is a source in UTF-8"),
+    }
+}
+
+/// What to do about a path that is spelled as no file's is, after what the system says of it.
+fn advice_on(path: &str) -> &'static str {
+    if path == "-" {
+        ": standard input is /dev/stdin"
+    } else if path.starts_with("~/") {
+        ": the shell replaces no ~ within a word: write $HOME"
+    } else if path.ends_with("\r") {
+        ": the lines of the list end with a carriage return: end them with a line feed alone"
+    } else {
+        ""
     }
 }
 
@@ -123,10 +158,10 @@ fn write_unsaved<W: fmt::Write>(
             let part = part.as_str();
             write!(
                 f,
-                "another run holds {part} and writes this catalogue: run this one again when it has ended; where none runs, remove that file"
+                "another run holds {part} and writes this catalogue: run this one again when it has ended; if none runs, remove that file"
             )
         }
         SaveFault::Write(cause) => write_cause(f, path, *cause),
-        SaveFault::OutOfMemory => f.write_str("memory is wanting"),
+        SaveFault::OutOfMemory => f.write_str("out of memory"),
     }
 }

@@ -56,13 +56,14 @@ pub fn tell_offsets<R: Files + Eprint + AllocGlobal>(
     Ok(())
 }
 
-/// The same, if some partition pack of what is held says that it stands elsewhere.
+/// The same, if some partition pack of what is held says that it stands elsewhere, or some packets are disputed, as those
+/// of a source are that begins elsewhere.
 pub fn tell_contradicted<R: Files + Eprint + AllocGlobal>(
     rt: &R,
     sources: &[Source<'_>],
     views: &Views,
 ) -> Result<(), AllocError> {
-    if begins_at(views, 0, 0) {
+    if begins_at(views, 0, 0) && views.catalogue().disputed().next().is_none() {
         return Ok(());
     }
     tell_offsets(rt, sources)

@@ -46,8 +46,8 @@ impl fmt::Display for RefusalHint<'_> {
     }
 }
 
-/// Whether the text is a timecode, as `10:00:00:00` or `10:00:00;00`.
+/// Whether the text is a timecode, as `10:00:00:00` or `10:00:00;00`, or one that was shortened, as `10:00`.
 fn is_timecode(text: &str) -> bool {
     let is_of_one = text.bytes().all(|byte| byte.is_ascii_digit() || byte == b':' || byte == b';');
-    is_of_one && text.bytes().filter(|byte| !byte.is_ascii_digit()).count() == 3
+    is_of_one && (1..=3).contains(&text.bytes().filter(|byte| !byte.is_ascii_digit()).count())
 }

@@ -51,15 +51,15 @@ impl fmt::Display for FrontHint<'_> {
             }
             (Front::Nothing, Source::Piece { offset: 0, .. }) => write!(
                 f,
-                "hint: no packet begins in the first 33554432 bytes of {path}: it is no MXF file, or begins inside a longer packet"
+                "hint: no packet begins in {path}, or its first 33554432 bytes: it is no MXF file, or begins inside a longer packet"
             ),
             (Front::RunIn(_) | Front::Midst, Source::Piece { offset, .. }) => write!(
                 f,
-                "hint: {path} doesn't begin at a packet: where it begins inside one, name it range:{offset}:{path}"
+                "hint: {path} doesn't begin at a packet: if it begins inside one, name it range:{offset}:{path}"
             ),
             _ => write!(
                 f,
-                "hint: no packet begins in the first 33554432 bytes of {path}"
+                "hint: no packet begins in {path}, or its first 33554432 bytes"
             ),
         }
     }
@@ -95,6 +95,28 @@ pub fn tell_stops<R: Files + Eprint + AllocGlobal>(
     for report in reports {
         if let Some(source) = sources.get(report.part) {
             tell_stop(rt, *source, report, with_stops)?;
+        }
+    }
+    Ok(())
+}
+
+/// Tells on a terminal of each piece and range that has no packet, or is a catalogue.
+pub fn tell_foreign<R: Files + Eprint + AllocGlobal>(
+    rt: &R,
+    sources: &[Source<'_>],
+) -> Result<(), AllocError> {
+    for source in sources {
+        if let Source::Piece { path, .. } | Source::Range { path, .. } = *source {
+            let front = Front::of(rt, path);
+            if let Front::Nothing | Front::Catalogue = front {
+                tell_on_screen(
+                    rt,
+                    &FrontHint {
+                        source: *source,
+                        front,
+                    },
+                )?;
+            }
         }
     }
     Ok(())

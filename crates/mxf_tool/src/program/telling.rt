@@ -44,12 +44,12 @@ fn line_on_screen<D: fmt::Display>(alloc: Global, line: &D) -> Result<String, Al
     text_on_screen(alloc, line.as_str())
 }
 
-/// What the file begins with that was refused as a catalogue, or that a word names which is no source.
+/// What the file begins with that was refused as a catalogue or a list, or that a word names which is no source.
 fn beginning_of<R: Files + AllocGlobal>(rt: &R, fault: &RunFault<'_>) -> Option<Beginning> {
     match fault {
-        RunFault::BadCatalogue { path, .. } | RunFault::BadSource { word: path } => {
-            Beginning::of(rt, *path).unwrap_or(None)
-        }
+        RunFault::BadCatalogue { path, .. }
+        | RunFault::BadLine { path, .. }
+        | RunFault::BadSource { word: path } => { Beginning::of(rt, *path).unwrap_or(None) }
         _ => None,
     }
 }

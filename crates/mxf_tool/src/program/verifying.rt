@@ -4,6 +4,7 @@ ghost use Rattle.mxf_tool.specs.Verifying.{AreAskedBy, AreToldOf, open_of};
 
 use super::fault::RunFault;
 use super::offsets::tell_offsets;
+use super::stops::tell_foreign;
 use super::telling::tell_on_screen;
 use super::unit_range::range_of;
 use super::{
@@ -163,7 +164,7 @@ impl fmt::Display for Open {
     fn fmt<W: fmt::Write>(&self, f: &mut fmt::Formatter<W>) -> fmt::Result {
         f.write_str(match self {
             Open::NoneSame => {
-                "hint: no packet is as the reference says: is OFFSET right? check range:OFFSET:PATH tells by F05 where a partition pack names another"
+                "hint: no packet is as the reference says: is OFFSET right? check range:OFFSET:PATH finds F05 if a partition pack names another"
             }
             Open::NotAll => {
                 "hint: the unverified bytes weren't compared: with --whole the status is 1 as long as there are any"
@@ -185,8 +186,8 @@ fn open_of(is_whole: bool, verification: &Verification<'_>) -> Option<Open>
     }
 }
 
-/// Tells on a terminal what a verification leaves open: if no packet is the same, also which OFFSET is wrong by its
-/// source.
+/// Tells on a terminal what a verification leaves open: if no packet is the same, also which source has no packet, and
+/// which OFFSET is wrong by its source.
 fn tell_open<R: System>(
     rt: &R,
     inputs: Inputs<'_, '_>,
@@ -198,7 +199,10 @@ fn tell_open<R: System>(
     };
     tell_on_screen(rt, &open)?;
     match open {
-        Open::NoneSame => tell_offsets(rt, inputs.sources),
+        Open::NoneSame => {
+            tell_foreign(rt, inputs.sources)?;
+            tell_offsets(rt, inputs.sources)
+        }
         Open::NotAll => Ok(()),
     }
 }
