@@ -1,7 +1,6 @@
 -- Where the packets of a file lie, and what notes of the file that share a byte are.
 use Rattle.std.proofs.Common.{◌≡◌, ◌∙◌, ◌⊎◌, ◌≤◌, ◌<◌, ◌+◌, ◌++◌, ℕ, List, [], ◌∷◌, ap, arith, drop, inl, inr, length}
 use Rattle.std.proofs.Common.{false, length-append, refl, subst, sym, take, take-append-drop, true}
-use Rattle.std.proofs.lemmas.Bool.{cases_lt}
 use Rattle.std.proofs.lemmas.List.{take-append-le, take_at}
 use Rattle.mxf_klv.specs.Parts.{NoteParts, PacketParts}
 use Rattle.mxf_klv.specs.Note.{end_of, head_note, note_of}
@@ -12,7 +11,6 @@ use Rattle.mxf_klv.proofs.Lists.{In-append}
 use Rattle.mxf_klv.proofs.MoreBytes.{notes_from-append}
 use Rattle.mxf_klv.proofs.PieceLaws.{length-spelled}
 use Rattle.mxf_catalogue.proofs.ClearLaws.{after, apart, is_whole}
-use Rattle.mxf_places.specs.Held.{IsHeld}
 use Rattle.mxf_places.proofs.LaidPlaces.{ends_below}
 use Rattle.mxf_hand.specs.File.{IsBoundary, IsOfFile}
 
