@@ -1,5 +1,5 @@
 -- The place of an edit unit in its essence stream by an index table segment, and its entry (ST 377-1, look-up of the
--- stream offset; duration 0 of a segment with entries is this project's profile). Neither start nor duration is negative.
+-- stream offset; duration 0 of a segment with entries is this project's profile). Start and duration aren't negative.
 use Rattle.std.specs.Prelude.{ℕ, ◌+◌, ◌-◌, ◌*◌, nat_lt, nat_le, ◌==◌, ◌&&◌, ◌||◌, Bool, if◌then◌else◌, drop}
 use Rattle.std.specs.Prelude.{Option, Some, None, slice_index, unsigned_abs}
 use Rattle.std.specs.Int.{w8, cast_signed}
@@ -11,8 +11,8 @@ use Rattle.mxf_sets.specs.declared.segment.offset.IndexEntry.{IndexEntry}
 abbrev pub entry_offset : SegmentParts → ℕ → ℕ
 entry_offset s place = big_number 8 (drop (place * entry_size s.numbers + 3) s.entries)
 
--- A segment of edit units of one size covers the units from its start up to its start and duration, and all from its
--- start on where the duration is 0.
+-- A segment of edit units of one size covers the units from its start up to its start and duration. If the duration is
+-- 0, it covers all from its start on.
 abbrev pub covers_constant : SegmentParts → ℕ → Bool
 covers_constant s unit =
     let start = unsigned_abs s.numbers.start in
@@ -44,7 +44,7 @@ entry_at s place =
       flags = slice_index s.entries (from + 2);
     }
 
--- The entry of a unit: where units have one size there is none.
+-- The entry of a unit. There is none if units have one size.
 abbrev pub index_entry : SegmentParts → ℕ → Option IndexEntry
 index_entry s unit =
     if is_constant s.numbers then None

@@ -38,7 +38,7 @@ numbers_in bytes = record {
   body_sid = big_number 4 (drop 60 bytes);
 }
 
--- The part and the status that the kind of a partition pack tells.
+-- The part and the status that the kind of a partition pack gives.
 abbrev pub part_and_status : Kind → Option (PackPart × Status)
 part_and_status (kinds.Header status) = Some (Header, status)
 part_and_status (kinds.Body status) = Some (Body, status)
@@ -50,7 +50,7 @@ abbrev pub pack_in : PackPart × Status → List ℕ → PartitionPackParts
 pack_in key bytes = partition_pack_parts key.0 key.1 (numbers_in bytes) (take 16 (drop 64 bytes))
     (batch_in (drop 80 bytes))
 
--- What a value is under the part and status that its key tells, if it tells them.
+-- What a value is under the part and status that its key gives, if it gives them.
 abbrev pub pack_under : Option (PackPart × Status) → List ℕ → Result PartitionPackParts PackFault
 pack_under None bytes = Err faults.NotThisKind
 pack_under (Some key) bytes =
@@ -66,7 +66,7 @@ pack_at kind bytes = pack_under (part_and_status kind) bytes
 abbrev pub primer_at : List ℕ → Result BatchParts PackFault
 primer_at bytes = if is_batch 18 bytes then Ok (batch_in bytes) else Err faults.BadBatch
 
--- The random index pack that a value is whose packet spells its length in so many bytes, or the first fault.
+-- The random index pack that a value is, or the first fault. Its packet spells its length in the given number of bytes.
 abbrev pub rip_at : ℕ → List ℕ → Result RipParts PackFault
 rip_at width bytes =
     let rest = length bytes - 4 in
@@ -81,7 +81,7 @@ rip_at width bytes =
 abbrev pub labels_among : ℕ → List (List ℕ) → List (List ℕ)
 labels_among tag entries = map (λ entry. drop 2 entry) (filter (λ entry. big_number 2 entry == tag) entries)
 
--- The one that all of them are, where there are any.
+-- The one that all of them are, if there are any.
 abbrev pub agreed : List (List ℕ) → Option (List ℕ)
 agreed [] = None
 agreed (label ∷ labels) = if list_all (λ other. bytes_eq label other) labels then Some label else None

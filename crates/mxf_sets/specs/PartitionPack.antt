@@ -68,7 +68,7 @@ numbers_bytes n =
     ++ (big_bytes 4 n.index_sid
     ++ (big_bytes 8 n.body_offset ++ big_bytes 4 n.body_sid)))))))))
 
--- A partition pack: the part of the file and the status, which its key tells, and the numbers, the label of the
+-- A partition pack: the part of the file and the status, which its key gives, and the numbers, the label of the
 -- operational pattern and the labels of the essence containers, which its value has.
 pub record PartitionPackParts : Type 0 where
   pub part : PackPart
@@ -98,8 +98,8 @@ pub record IsPartitionPack (bytes : List ℕ) (pack : PartitionPackParts) : Type
   pub parts : ArePartitionPackParts pack
   pub whole : bytes ≡ pack_bytes pack
 
--- What the value of a packet of a kind is, where a partition pack is asked for: the pack; none, for the kind; fewer
--- bytes than the fields of every pack; or no labels of sixteen bytes after the pattern.
+-- What the value of a packet of a kind is when a partition pack is asked for: the pack; none, for the kind; fewer bytes
+-- than the fields of every pack; or no labels of sixteen bytes after the pattern.
 abbrev pub ReadsPack : Kind → List ℕ → Result PartitionPackParts PackFault → Type 0
 ReadsPack kind bytes (Ok pack) = (kind ≡ pack_kind pack.part pack.status) × IsPartitionPack bytes pack
 ReadsPack kind bytes (Err faults.NotThisKind) = ¬ IsPartitionKind kind

@@ -11,7 +11,7 @@ pub record ArePrimerEntries (entries : BatchParts) : Type 0 where
   pub batch : AreBatchParts entries
   pub size : HasItemsOf 18 entries
 
--- What a value is, where a primer pack is asked for: the batch of its entries, or no such batch.
+-- What a value is when a primer pack is asked for: the batch of its entries, or no such batch.
 abbrev pub ReadsPrimer : List ℕ → Result BatchParts PackFault → Type 0
 ReadsPrimer bytes (Ok entries) = IsBatch bytes entries × HasItemsOf 18 entries
 ReadsPrimer bytes (Err faults.BadBatch) = (entries : BatchParts) → IsBatch bytes entries → ¬ HasItemsOf 18 entries

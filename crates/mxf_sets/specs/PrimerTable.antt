@@ -6,7 +6,7 @@ use Rattle.std.specs.Map.{lookup}
 use Rattle.std.specs.Ordering.{nat_cmp}
 use Rattle.std.specs.BTreeMap.{is_at}
 
--- A label where there is one on which all agree.
+-- The label on which all agree, if there is one.
 abbrev pub agreed_in : Option (Option (List ℕ)) → Option (List ℕ)
 agreed_in None = None
 agreed_in (Some told) = told
@@ -15,7 +15,7 @@ agreed_in (Some told) = told
 abbrev pub label_in : List (ℕ × Option (List ℕ)) → ℕ → Option (List ℕ)
 label_in table tag = agreed_in (lookup (is_at (nat_cmp tag)) table)
 
--- What the entries of a tag agree on, with the label of one more: none is told yet, or different ones, or this one.
+-- What the entries of a tag agree on, with the label of one more: so far there is none, or different ones, or one.
 abbrev pub with_label : Option (Option (List ℕ)) → List ℕ → Option (Option (List ℕ))
 with_label None label = Some (Some label)
 with_label (Some None) label = Some None

@@ -48,7 +48,7 @@ pub record IsRip (bytes : List ℕ) (rip : RipParts) : Type 0 where
 abbrev pub last_number : List ℕ → ℕ
 last_number bytes = big_number 4 (drop (length bytes - 4) bytes)
 
--- What the value of a packet is whose length has a width, where a random index pack is asked for: the pack; fewer bytes
+-- What the value of a packet is, whose length has a width, when a random index pack is asked for: the pack; fewer bytes
 -- than the last number has; or no whole number of entries, or another last number.
 abbrev pub ReadsRip : ℕ → List ℕ → Result RipParts PackFault → Type 0
 ReadsRip width bytes (Ok rip) = (rip.width ≡ width) × IsRip bytes rip
@@ -62,7 +62,7 @@ ReadsRip width bytes (Err faults.BadBatch) = ⊥
 abbrev pub entry_in : List ℕ → RipEntry
 entry_in bytes = record { body_sid = big_number 4 bytes; offset = big_number 8 (drop 4 bytes) }
 
--- So many entries from the front.
+-- The given number of entries from the front.
 abbrev pub entries_by : ℕ → List ℕ → List RipEntry
 entries_by zero bytes = []
 entries_by (suc n) bytes = entry_in bytes ∷ entries_by n (drop 12 bytes)

@@ -14,7 +14,7 @@ sixteens (suc n) bytes = take 16 bytes ∷ sixteens n (drop 16 bytes)
 abbrev pub references_of : List ℕ → List (List ℕ)
 references_of bytes = sixteens (length bytes / 16) bytes
 
--- The references of the batch that the tag's value is: what follows its count and item size. There are none where no
--- item has the tag.
+-- The references of the batch that the tag's value is: what follows its count and item size. There are none if no item
+-- has the tag.
 abbrev pub references_in : ℕ → List ItemParts → List (List ℕ)
 references_in tag items = option_map_or (λ v. references_of (drop 8 v)) (value_of tag items) []

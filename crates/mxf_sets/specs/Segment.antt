@@ -41,8 +41,8 @@ entry_size n = 11 + 4 * n.slices + 8 * n.positions
 abbrev pub entry_count : SegmentParts → ℕ
 entry_count s = length s.entries / entry_size s.numbers
 
--- Which segments there are (this project's profile): the entries are whole and fit into one item, and there are none
--- where edit units have a constant size.
+-- Which segments there are (this project's profile): the entries are whole and fit into one item, and there are none if
+-- edit units have a constant size.
 pub record IsSegment (s : SegmentParts) : Type 0 where
   pub start : pos 0 ≤ℤ s.numbers.start
   pub duration : pos 0 ≤ℤ s.numbers.duration
@@ -83,7 +83,7 @@ signed_4 bytes = cast_signed w32 (big_number 4 bytes)
 abbrev pub signed_8 : List ℕ → ℤ
 signed_8 bytes = cast_signed w64 (big_number 8 bytes)
 
--- The number of so many bytes that the tag's value is, and 0 where no item has the tag.
+-- The number that the tag's value is, of the given number of bytes, and 0 if no item has the tag.
 abbrev pub number_in : ℕ → ℕ → List ItemParts → ℕ
 number_in width tag items = option_map_or (big_number width) (value_of tag items) 0
 
@@ -104,13 +104,13 @@ segment_numbers items = record {
 abbrev pub entries_at : SegmentNumbers → List ℕ → Option (List ℕ)
 entries_at n array = if is_batch (entry_size n) array then Some (drop 8 array) else None
 
--- The entries of items. Where edit units have a constant size there are none, whatever the entry array is; elsewhere
--- there are those of the entry array, where there is one.
+-- The entries of items. If edit units have a constant size, there are none, whatever the entry array is. Otherwise they
+-- are those of the entry array, if there is one.
 abbrev pub entries_in : SegmentNumbers → List ItemParts → Option (List ℕ)
 entries_in n items =
     if is_constant n then Some [] else option_map_or (entries_at n) (value_of entries_tag items) (Some [])
 
--- The segment that items make which have met the table.
+-- The segment of items that have met the table.
 abbrev pub segment_of : List ItemParts → Result SegmentParts SegmentFault
 segment_of items =
     let n = segment_numbers items in
@@ -118,7 +118,7 @@ segment_of items =
     else (if is_negative n.duration then Err (Negative duration_tag)
     else ok_or (option_map (segment_parts n) (entries_in n items)) BadEntries)
 
--- What follows where the items have met the table, and else their fault.
+-- What follows if the items have met the table, and otherwise their fault.
 abbrev pub then_segment : (List ItemParts → Result SegmentParts SegmentFault) → Result (List ItemParts) FieldFault
     → Result SegmentParts SegmentFault
 then_segment next (Ok items) = next items
@@ -153,7 +153,7 @@ number_items n =
 abbrev pub entry_item : SegmentParts → ItemParts
 entry_item s = item entries_tag ((big_bytes 4 (entry_count s) ++ big_bytes 4 (entry_size s.numbers)) ++ s.entries)
 
--- The entry array is written only where edit units have no constant size, also where it has no entry.
+-- The entry array is written only if edit units have no constant size, and then even if it has no entry.
 abbrev pub entry_items : SegmentParts → List ItemParts
 entry_items s = if is_constant s.numbers then [] else entry_item s ∷ []
 

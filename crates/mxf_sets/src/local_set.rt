@@ -34,10 +34,10 @@ impl<'a> Model for Item<'a> {
 
 /// The items of a local set that aren't given yet, in the order of their bytes (ST 336, local sets).
 ///
-/// The header metadata is a tree of such sets: each describes one thing, a package, a track, a program that wrote the
-/// file, by its items, and names others by the identifiers that stand in them. The items stand one behind another and
-/// fill the value of the set's packet. Their order says nothing, and a tag that is used twice is refused by those who
-/// read the set, not here.
+/// The header metadata is a tree of such sets. Each describes one thing by its items (a package, a track, a program
+/// that wrote the file), and names others by the identifiers that stand in them. The items stand one after another and
+/// fill the value of the set's packet. Their order says nothing. A tag that is used twice is refused by those who read
+/// the set, not here.
 #[derive(Debug, Drop)]
 pub struct Items<'a> {
     rest: &'a [u8],
@@ -67,7 +67,7 @@ pub enum SetFault {
 #[error("the tag is repeated")]
 pub struct RepeatedTag;
 
-/// The item at the front, where a whole one stands there, and the bytes after it.
+/// The item at the front, if a whole one stands there, and the bytes after it.
 #[tactic(auto, unfolding(crate::specs::Items::item_at))]
 fn first_item(bytes: &[u8]) -> Option<(Item<'_>, &[u8])>
     ensures { option_map (λ x. (x.0, x.1.now)) result ≡ item_at bytes.now }

@@ -33,7 +33,7 @@ fn name_of(items: u8, packages: u8) -> Option<&'static str>
     }
 }
 
-/// The name of an operational pattern, `OP1a` to `OP3c`, by its label. None for any other label, also for that of a
+/// The name of an operational pattern, `OP1a` to `OP3c`, by its label. None for any other label, and for that of a
 /// specialized pattern. The version, byte 8, and the qualifier, byte 15, decide nothing.
 pub fn pattern_name(label: &[u8; 16]) -> Option<&'static str>
     ensures { option_map (λ v. v.now) result ≡ pattern_name label.now }

@@ -37,7 +37,7 @@ const INSTANCE_UID: u16 = 0x3C0A;
 /// What the value of a field has to be.
 #[derive(Clone, Copy)]
 pub(crate) enum Shape {
-    /// So many bytes.
+    /// This many bytes.
     Exactly(usize),
     /// A batch of references, sixteen bytes each.
     References,
@@ -124,7 +124,7 @@ fn first_repeated(items: &Items<'_>, fields: &[Field]) -> Option<u16>
         .map(|field| field.tag)
 }
 
-/// The first tag of the table that has to be there and is not.
+/// The first tag of the table that has to be there and isn't.
 fn first_missing(items: &Items<'_>, fields: &[Field]) -> Option<u16>
     ensures { result ≡ first_tag (is_missing items.now) fields.now }
 {
@@ -161,7 +161,7 @@ fn check(items: &Items<'_>, fields: &[Field]) -> Result<(), FieldFault>
     Ok(())
 }
 
-/// The items of a value, where they are whole and meet the table.
+/// The items of a value, if they are whole and meet the table.
 pub(crate) fn read_fields<'a>(value: &'a [u8], fields: &[Field]) -> Result<Items<'a>, FieldFault>
     ensures value { result ≡ fields_at fields.now value.now }
     ensures passes { IfOk result (λ items. AllByRecursion (Passes items) fields.now) }
@@ -173,7 +173,7 @@ pub(crate) fn read_fields<'a>(value: &'a [u8], fields: &[Field]) -> Result<Items
 }
 
 /// A law of the readers of records and of [`Segment::read`](crate::Segment::read): the items of a value are read under
-/// a table of fields exactly where they make up the value and meet each field of the table.
+/// a table of fields exactly if they make up the value and meet each field of the table.
 pub fn records_are_read_where_their_fields_are_met()
     ensures { (fields : List Field) (bytes : List ℕ) (items : List ItemParts) → AreBytes bytes
         → (fields_at fields bytes ≡ Ok items) ↔ (AreItems bytes items × AllByRecursion (Meets items) fields) }

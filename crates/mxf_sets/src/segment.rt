@@ -62,12 +62,12 @@ const MOST_ENTRY_BYTES: usize = 65_527;
 
 /// An index table segment (ST 377-1, Index Table Segment): its numbers and its entries.
 ///
-/// Players jump by it: it says at which byte of an essence stream an edit unit begins. Where all units have one size
-/// the size is enough. Else there is an entry for each unit, with its offset in the stream, how far away its key frame
+/// Players jump by it: it says at which byte of an essence stream an edit unit begins. If all units have one size, the
+/// size is enough. Otherwise there is an entry for each unit, with its offset in the stream, how far away its key frame
 /// and its place on the screen are, and flags.
 ///
-/// A segment covers a range of edit units, in the order in which they are stored. Those of one index, by IndexSID,
-/// stand in any number of partitions, often a piece of the index in each, and may repeat one another.
+/// A segment covers a range of edit units, in the order in which they are stored. The segments of one index, by
+/// IndexSID, stand in any number of partitions, often a piece of the index in each, and may repeat one another.
 #[derive(Debug, Drop)]
 pub struct Segment<'a> {
     numbers: SegmentNumbers,
@@ -84,7 +84,7 @@ impl<'a> Model for Segment<'a> {
     ghost invariant = { λ s. AreSegmentNumbers s.numbers × IsSegment (segment_parts s.numbers s.entries.now) };
 }
 
-/// The entries in items that have met the table; None where they are no batch of whole entries.
+/// The entries in items that have met the table; None if they are no batch of whole entries.
 fn entries_of<'a>(items: &Items<'a>, numbers: &SegmentNumbers) -> Option<&'a [u8]>
     ensures { option_map (λ v. v.now) result ≡ entries_in numbers.now items.now }
 {
@@ -129,7 +129,7 @@ impl<'a> Segment<'a> {
         Ok(Segment { numbers, entries })
     }
 
-    /// The segment of these numbers and entries. None where the start or the duration is negative, the entries aren't
+    /// The segment of these numbers and entries. None if the start or the duration is negative, the entries aren't
     /// whole or have more than 65,527 bytes, or there are entries though edit units have a constant size.
     pub fn of(numbers: SegmentNumbers, entries: &'a [u8]) -> Option<Segment<'a>>
         ensures { SomeIff result (IsSegment (segment_parts numbers entries.now)) (segment_parts numbers entries.now) }

@@ -27,7 +27,7 @@ impl<'a> BatchItems<'a> {
     ghost use Rattle.std.specs.Prelude.{◌*◌, length};
     ghost use Rattle.mxf_sets.specs.Batch.{sized_items};
 
-    /// So many items of a size, one after another.
+    /// The given number of items of a size, one after another.
     pub(super) fn of(count: u32, size: u32, items: &'a [u8]) -> BatchItems<'a>
         requires { length items.now ≡ count * size }
         ensures { result ≡ sized_items count size items.now }

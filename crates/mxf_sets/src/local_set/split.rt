@@ -14,7 +14,7 @@ pub fn items(value: &[u8]) -> Result<Items<'_>, SetFault>
     ensures found { IfOk result (λ it. AreItems value.now it) }
     ensures only { (is : List ItemParts) → AreItems value.now is → IsOkAnd result (λ it. it ≡ is) }
 
-    // They are the whole items at the front. Where bytes are left, they begin with the first item that isn't whole.
+    // They are the whole items at the front. If bytes are left, they begin with the first item that isn't whole.
     ensures items { IfOk result (λ it. it ≡ items_of value.now) }
     ensures whole { IsOk result ↔ (left_of value.now ≡ []) }
     ensures cut { IfErr result (λ e. e ≡ SetFault.CutItem (length value.now - length (left_of value.now))) }

@@ -6,8 +6,8 @@ use super::fixed_numbers::{NumberWriter, take_u16, take_u32, take_u64};
 
 /// The numbers of a partition pack, in the order of its value (ST 377-1, Partition Pack).
 ///
-/// By them the partitions of a file hang together, and a reader finds his way from any of them: back to the one before,
-/// on to the footer, past the header metadata and the index to the essence.
+/// They link the partitions of a file. From any of them a reader finds the way: back to the one before, on to the
+/// footer, past the header metadata and the index to the essence.
 ///
 /// Offsets of partitions count bytes from the first byte of the header partition pack. A number that a writer didn't
 /// know yet is 0, so 0 says little in an open partition.
@@ -21,18 +21,18 @@ pub struct PartitionNumbers {
     pub this_partition: u64,
     /// The offset of the partition before; 0 in the header partition.
     pub previous_partition: u64,
-    /// The offset of the footer partition; 0 where it isn't known.
+    /// The offset of the footer partition; 0 if it isn't known.
     pub footer_partition: u64,
-    /// The bytes from the primer's key to the end of the header metadata with its trailing fill; 0 where the partition
-    /// has no header metadata.
+    /// The bytes from the primer's key to the end of the header metadata with its trailing fill; 0 if the partition has
+    /// no header metadata.
     pub header_byte_count: u64,
     /// The bytes of the index table segments.
     pub index_byte_count: u64,
-    /// The identifier of the index table; 0 where the partition has none.
+    /// The identifier of the index table; 0 if the partition has none.
     pub index_sid: u32,
     /// Where the partition's essence begins in its essence container, in bytes.
     pub body_offset: u64,
-    /// The identifier of the essence container; 0 where the partition has none.
+    /// The identifier of the essence container; 0 if the partition has none.
     pub body_sid: u32,
 }
 

@@ -36,7 +36,7 @@ impl fmt::Display for PackPart {
 }
 
 impl PackPart {
-    /// The part and the status of a packet of this kind, where it has a partition pack.
+    /// The part and the status of a packet of this kind, if it has a partition pack.
     pub(super) fn of(kind: Kind) -> Option<(PackPart, Status)>
         ensures told { MatchOption result (¬ IsPartitionKind kind) (λ p. kind ≡ pack_kind p.0 p.1) }
         ensures computed { result ≡ part_and_status kind }

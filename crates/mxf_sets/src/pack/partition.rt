@@ -56,7 +56,7 @@ impl<'a> PartitionPack<'a> {
         PartitionPack::read_value(part, status, value)
     }
 
-    /// Reads the value under the part and the status that its key tells.
+    /// Reads the value under the part and the status that its key gives.
     fn read_value(
         part: PackPart,
         status: Status,
@@ -165,7 +165,7 @@ impl<'a> Encode for PartitionPack<'a> {
     }
 }
 
-/// A law: the value of a packet of a kind is a partition pack, or one of the faults, and nothing else beside it.
+/// A law: the value of a packet of a kind is a partition pack, or has one of the faults, and nothing else.
 pub fn one_pack_reading()
     ensures { (kind : Kind) (bytes : List ℕ) (r s : Result PartitionPackParts PackFault) → ReadsPack kind bytes r
         → ReadsPack kind bytes s → r ≡ s }

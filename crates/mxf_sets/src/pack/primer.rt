@@ -24,8 +24,8 @@ pub use table::PrimerLabels;
 /// The sets of the header metadata name their properties by tags of two bytes, and what a tag means may differ from
 /// file to file. The primer pack stands first in the header metadata and is the dictionary of that copy alone.
 ///
-/// Its value is a batch of entries of 18 bytes, a tag and its label. A tag should have one entry; where several stand
-/// there, they have to agree.
+/// Its value is a batch of entries of 18 bytes, a tag and its label. A tag should have one entry; if it has several,
+/// they have to agree.
 #[derive(Debug, Drop)]
 pub struct Primer<'a> {
     entries: Batch<'a>,
@@ -78,7 +78,7 @@ impl<'a> Primer<'a> {
         self.entries.is_empty()
     }
 
-    /// The label that the entries of the tag agree on. None where no entry has the tag, or two have different labels.
+    /// The label that the entries of the tag agree on. None if no entry has the tag, or two have different labels.
     pub fn label(&self, tag: u16) -> Option<[u8; 16]>
         ensures agreed { MatchOption result ((l : List ℕ) → ¬ IsOnlyLabel tag self.now l)
             (λ l. IsOnlyLabel tag self.now l) }
@@ -95,7 +95,7 @@ impl<'a> Primer<'a> {
     }
 }
 
-/// The label that all of these are, where there are any.
+/// The label that all of these are, if there are any.
 fn agreed(mut labels: Labels<'_>) -> Option<[u8; 16]>
     ensures { result ≡ agreed labels.entry }
 {

@@ -29,7 +29,7 @@ const ENTRY: usize = 12;
 /// pack.
 #[derive(Clone, Copy, Debug, PartialEq, Eq)]
 pub struct RipEntry {
-    /// The BodySID of the partition, 0 where it has no essence.
+    /// The BodySID of the partition, 0 if it has no essence.
     pub body_sid: u32,
     /// Where the partition pack begins, in bytes from the first byte of the header partition pack.
     pub offset: u64,
@@ -74,7 +74,7 @@ fn entry_count(entries: &[u8]) -> usize
 impl<'a> Rip<'a> {
     /// Reads all of the value of a packet whose length is spelled in `width` bytes (ST 377-1, Random Index Pack).
     ///
-    /// Fails where the value has fewer than 4 bytes ([`PackFault::Short`]), or it has no whole number of entries or
+    /// Fails if the value has fewer than 4 bytes ([`PackFault::Short`]), or if it has no whole number of entries or
     /// states another packet length ([`PackFault::WrongLength`]).
     pub fn read(width: u8, value: &'a [u8]) -> Result<Rip<'a>, PackFault>
         ensures reads { ReadsRip width value.now result }
@@ -94,8 +94,8 @@ impl<'a> Rip<'a> {
     }
 
     /// The random index pack of these entries, twelve bytes each: a BodySID of four and an offset of eight, the highest
-    /// byte first. None where the bytes are no whole number of entries, `width` bytes can't spell the length of the
-    /// value, or the packet is longer than 4,294,967,295 bytes.
+    /// byte first. None if the bytes are no whole number of entries, `width` bytes can't spell the length of the value,
+    /// or the packet is longer than 4,294,967,295 bytes.
     pub fn of(width: u8, items: &'a [u8]) -> Option<Rip<'a>>
         ensures { let value = length items.now + 4 in
             SomeIff result ((length items.now % 12 ≡ 0) × CanSpell width value × (16 + width + value < 2 ^ 32))
@@ -162,7 +162,7 @@ impl<'a> Encode for Rip<'a> {
     }
 }
 
-/// A law: under one width a value is a random index pack, or one of the faults, and nothing else beside it.
+/// A law: under one width a value is a random index pack, or has one of the faults, and nothing else.
 pub fn one_rip_reading()
     ensures { (width : ℕ) (bytes : List ℕ) (r s : Result RipParts PackFault) → ReadsRip width bytes r
         → ReadsRip width bytes s → r ≡ s }

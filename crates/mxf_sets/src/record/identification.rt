@@ -91,7 +91,7 @@ impl<'a> Identification<'a> {
         self.instance_uid
     }
 
-    /// The identifier of this state of the file, which sets name that were written then.
+    /// The identifier of this state of the file, which the sets that were written then name.
     pub fn this_generation_uid(&self) -> Option<Uuid>
         ensures { result ≡ self.now.this_generation_uid }
     {

@@ -123,7 +123,7 @@ impl<'a> Package<'a> {
         self.modified_date
     }
 
-    /// The references to the tracks, in order; none where the package names none.
+    /// The references to the tracks, in order; none if the package names none.
     pub fn tracks(&self) -> References<'a>
         ensures { result ≡ self.now.tracks }
     {

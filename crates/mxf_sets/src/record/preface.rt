@@ -45,7 +45,7 @@ impl<'a> Model for Preface<'a> {
 }
 
 impl<'a> Preface<'a> {
-    /// Reads the value of a Preface set. The content storage has to be there, the identifications may be absent.
+    /// Reads the value of a Preface set. The content storage has to be there; the identifications may be absent.
     pub fn read(value: &'a [u8]) -> Result<Preface<'a>, FieldFault>
         ensures { result ≡ preface_at value.now }
     {

@@ -11,8 +11,8 @@ use uuid::Uuid;
 
 /// References to other sets (ST 377-1, strong references), in the order of their batch, repeated ones too.
 ///
-/// Each set has an instance identifier, and another set names it by the same sixteen bytes: so the sets of the header
-/// metadata hang together, in whatever order they stand. A reference leads to the sets of its own copy alone.
+/// Each set has an instance identifier, and another set names it by the same sixteen bytes. These link the sets of the
+/// header metadata, in whatever order they stand. A reference leads to the sets of its own copy alone.
 #[derive(Debug, Drop)]
 pub struct References<'a> {
     bytes: &'a [u8],
@@ -28,7 +28,7 @@ impl<'a> Model for References<'a> {
 }
 
 impl<'a> References<'a> {
-    /// The references of the batch that a tag's value is; none where no item has the tag.
+    /// The references of the batch that a tag's value is; none if no item has the tag.
     pub(super) fn of(items: &Items<'a>, tag: u16) -> References<'a>
         ensures { result ≡ references_in tag items.now }
     {

@@ -17,7 +17,7 @@ const FIELDS: [Field; 2] = [
     Field { tag: PACKAGES, shape: Shape::References, required: true },
 ];
 
-/// The ContentStorage of a file (ST 377-1, Content Storage set): the packages that the file tells of.
+/// The ContentStorage of a file (ST 377-1, Content Storage set): the packages that the file names.
 ///
 /// One of them is the material package, what the file plays; the others are the packages that it is made from, whether
 /// their essence is in this file or not.

@@ -1,4 +1,4 @@
-//! The values of fields, where the items of a set have met the table of its fields.
+//! The values of fields, once the items of a set have met the table of its fields.
 ghost use Rattle.std.specs.Prelude.{◌≡◌, length};
 ghost use Rattle.std.specs.Option.{ForSome, option_map};
 ghost use Rattle.mxf_sets.specs.Lookup.{bytes_of, value_of};

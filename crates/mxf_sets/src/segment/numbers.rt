@@ -44,8 +44,8 @@ pub(super) const FIELDS: [Field; 9] = [
 
 /// The numbers of an index table segment (ST 377-1, Index Table Segment).
 ///
-/// They say which units the segment covers, in which stream, and how an entry is laid out: eleven bytes for its own,
-/// and then four for each slice and eight for each position table, since the parts of an edit unit whose size varies
+/// They say which units the segment covers, in which stream, and how an entry is laid out. It has eleven bytes of its
+/// own, then four for each slice and eight for each position table, since the parts of an edit unit whose size varies
 /// can be looked up too.
 #[derive(Clone, Copy, Debug, PartialEq, Eq)]
 pub struct SegmentNumbers {
@@ -55,7 +55,7 @@ pub struct SegmentNumbers {
     pub start: i64,
     /// The number of edit units that the segment covers. In a segment of constant edit units 0 stands for no end.
     pub duration: i64,
-    /// The bytes of each edit unit where all have one size, and else 0.
+    /// The bytes of each edit unit if all have one size, and otherwise 0.
     pub unit_bytes: u32,
     /// The identifier of the index.
     pub index_sid: u32,
@@ -96,7 +96,7 @@ impl SegmentNumbers {
     }
 }
 
-/// The number in a field that may be absent, and 0 where it is.
+/// The number in a field that may be absent, and 0 if it is.
 fn optional_u32(items: &Items<'_>, tag: u16) -> u32
     requires { Passes items.now (optional tag (Exactly 4)) }
     ensures { result ≡ number_in 4 tag items.now }
@@ -104,7 +104,7 @@ fn optional_u32(items: &Items<'_>, tag: u16) -> u32
     optional_value(items, tag, 4).map_or(0, BigEndian::read_u32)
 }
 
-/// The number in a field that may be absent, and 0 where it is.
+/// The number in a field that may be absent, and 0 if it is.
 fn optional_u8(items: &Items<'_>, tag: u16) -> u8
     requires { Passes items.now (optional tag (Exactly 1)) }
     ensures { result ≡ number_in 1 tag items.now }

@@ -9,10 +9,10 @@ use byteorder::{BigEndian, ByteOrder};
 /// The front of an index entry (ST 377-1, Index Table Segment): how an edit unit stands to others.
 #[derive(Clone, Copy, Debug, PartialEq, Eq)]
 pub struct IndexEntry {
-    /// The unit that is shown at this unit's place is stored so many edit units behind it, or before it where this is
-    /// negative.
+    /// How many edit units after this one the unit is stored that is shown at its place; negative if it is stored
+    /// before.
     pub temporal_offset: i8,
-    /// The key frame that the unit needs is stored so many edit units behind it; mostly 0 or negative.
+    /// How many edit units after this one the key frame is stored that it needs; mostly 0 or negative.
     pub key_frame_offset: i8,
     /// The bits of random access (`80`), sequence header (`40`), forward and backward prediction (`20`, `10`), and
     /// others.
@@ -33,7 +33,7 @@ impl<'a> Segment<'a> {
         }
     }
 
-    /// The entry of an edit unit. None where edit units have a constant size, and for a unit that the segment doesn't
+    /// The entry of an edit unit. None if edit units have a constant size, and for a unit that the segment doesn't
     /// cover ([`Segment::offset_of`] says which it does).
     pub fn entry_of(&self, unit: u64) -> Option<IndexEntry>
         ensures { result ≡ index_entry self.now unit }
@@ -62,8 +62,8 @@ impl<'a> Segment<'a> {
 
     /// The place of an edit unit in the essence stream, in bytes from the stream's start.
     ///
-    /// Where edit units have a constant size the segment covers the units from its start up to its start and duration,
-    /// and all from its start on where the duration is 0. Elsewhere it covers those from its start up to its start and
+    /// If edit units have a constant size, the segment covers the units from its start up to its start and duration,
+    /// and all from its start on if the duration is 0. Otherwise it covers those from its start up to its start and
     /// duration that have an entry. None for a unit that it doesn't cover. The place is below 2^96.
     pub fn offset_of(&self, unit: u64) -> Option<u128>
         ensures offset { result ≡ stream_offset self.now unit }

@@ -109,7 +109,7 @@ fn put_numbers<W: Write>(
     put_items(&items, progress, writer)
 }
 
-/// The numbers always, and the entry array where edit units have no constant size.
+/// The numbers always, and the entry array if edit units have no constant size.
 impl<'a> Encode for Segment<'a> {
     ghost encoding = { segment_bytes };
 

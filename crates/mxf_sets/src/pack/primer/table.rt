@@ -11,11 +11,11 @@ use std::alloc::Global;
 use std::collections::BTreeMap;
 use std::marker::Model;
 
-/// The labels of a primer pack by their tags: for those who ask for many labels, each is a search here and a walk over
-/// all entries in [`Primer::label`].
+/// The labels of a primer pack by their tags, for those who ask for many labels. To find one is a search here, and a
+/// walk over all entries in [`Primer::label`].
 #[derive(Drop)]
 pub struct PrimerLabels {
-    /// For each tag of an entry the label that all its entries agree on, or None where two have different labels.
+    /// For each tag of an entry the label that all its entries agree on, or None if two have different labels.
     labels: BTreeMap<u16, Option<[u8; 16]>>,
 }
 

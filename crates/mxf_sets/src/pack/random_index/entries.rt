@@ -30,7 +30,7 @@ impl<'a> RipEntries<'a> {
     ghost use Rattle.std.specs.Prelude.{◌*◌, length};
     ghost use Rattle.mxf_sets.specs.RandomIndexPack.{entries_by};
 
-    /// So many entries, one after another.
+    /// The given number of entries, one after another.
     pub(super) fn of(count: usize, entries: &'a [u8]) -> RipEntries<'a>
         requires { length entries.now ≡ count * 12 }
         ensures { result ≡ entries_by count entries.now }
