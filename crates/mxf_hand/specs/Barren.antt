@@ -6,7 +6,7 @@ use Rattle.mxf_read.specs.Noting.{IsReading}
 use Rattle.mxf_hand.specs.Hand.{HandBytes, read_bytes}
 use Rattle.mxf_hand.specs.declared.barren.BarrenReadings.{BarrenReadings}
 
--- A reading from an offset on, up to an end where there is one, finds no packet, and this head.
+-- A reading from an offset on, up to an end if there is one, finds no packet, and this head.
 abbrev pub IsBarren : HandBytes → (ℕ × Option ℕ) × Option NoteParts → Type 0
 IsBarren h e = IsReading e.0.0 (read_bytes h e.0.1 e.0.0) [] e.1
 

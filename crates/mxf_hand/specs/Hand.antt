@@ -31,7 +31,7 @@ pub record AreOf (sources : List SourceParts) (h : HandBytes) : Type 0 where
   pub offsets : AreAtHand sources h.runs
   pub bytes : AreBytesAt sources h.runs h.byte
 
--- They lie in these runs, and are what sources with these extents tell.
+-- They lie in these runs, and are what sources with these extents give.
 pub record AreToldIn (told : Option (List SourceParts)) (extents : List Extent) (runs : List Run) (h : HandBytes)
     : Type 0 where
   pub sources : List SourceParts
@@ -39,17 +39,17 @@ pub record AreToldIn (told : Option (List SourceParts)) (extents : List Extent) 
   pub lie : h.runs ≡ runs
   pub bytes : AreBytesAt sources runs h.byte
 
--- The end of the run that has the offset: the first that ends above it, where it begins at or below it.
+-- The end of the run that has the offset: the first that ends above it, if it begins at or below it.
 abbrev pub run_end : List Run → ℕ → Option ℕ
 run_end runs x =
     option_and_then (λ r. if nat_le r.start x then Some r.end else None) (find (λ r. nat_lt x r.end) runs)
 
--- Where a reading ends that begins at an offset: with the run at hand, or before that at an end; at its beginning where
+-- Where a reading ends that begins at an offset: with the run at hand, or before that at an end; at its beginning if
 -- the offset isn't at hand.
 abbrev pub read_to : List Run → Option ℕ → ℕ → ℕ
 read_to runs end from = option_map_or (λ e. up_to_bound e end) (run_end runs from) from
 
--- The bytes of a reading from an offset on, up to an end where there is one.
+-- The bytes of a reading from an offset on, up to an end if there is one.
 abbrev pub read_bytes : HandBytes → Option ℕ → ℕ → List ℕ
 read_bytes h end from = bytes_between h.byte from (read_to h.runs end from)
 
@@ -57,7 +57,7 @@ read_bytes h end from = bytes_between h.byte from (read_to h.runs end from)
 abbrev pub read_packets : HandBytes → Option ℕ → ℕ → List NoteParts
 read_packets h end from = packet_notes from (read_bytes h end from)
 
--- The head of the packet that its end cuts, where there is one.
+-- The head of the packet that its end cuts, if there is one.
 abbrev pub read_heads : HandBytes → Option ℕ → ℕ → List NoteParts
 read_heads h end from = cut_heads from (read_bytes h end from)
 

@@ -15,7 +15,7 @@ use Rattle.mxf_hand.specs.declared.head.HeadNote.{HeadNote}
 abbrev pub key_and_length : NoteParts → List ℕ
 key_and_length n = n.key ++ length_bytes n.width n.length
 
--- No byte at hand of a packet's key and length is another than the note says.
+-- No byte at hand of a packet's key and length differs from what the note says.
 unfoldable pub fits : HandBytes → NoteParts → Bool
 fits h n =
     list_all (λ x. not (has_offset h.runs x) || (h.byte x == get_or (key_and_length n) (x - n.offset) 0))

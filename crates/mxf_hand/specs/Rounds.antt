@@ -25,11 +25,11 @@ read_heads_of h notes p = map (λ n. record { note = n; hole_end = p.hole.end })
 abbrev pub read_heads_in : HandBytes → List NoteParts → List Section → List CutHead
 read_heads_in h notes sections = flat_map (read_heads_of h notes) sections
 
--- One of the notes begins behind the head's offset and below its end.
+-- One of the notes begins after the head's offset and below its end.
 abbrev pub is_crossed : List NoteParts → NoteParts → Bool
 is_crossed read n = list_any (λ m. nat_lt n.offset m.offset && nat_lt m.offset (end_of n)) read
 
--- A head is taken where it ends in its hole, and nothing that was read begins inside its packet. (What the same reading
+-- A head is taken if it ends in its hole, and nothing that was read begins inside its packet. (What the same reading
 -- noted begins at or below its offset.)
 abbrev pub is_taken : List NoteParts → CutHead → Bool
 is_taken read head = ends_within head.hole_end head.note && not (is_crossed read head.note)
@@ -53,7 +53,7 @@ taken_in h notes sections =
 unfoldable pub round : HandBytes → List NoteParts → List NoteParts
 round h notes = reduced_union notes (taken_in h notes (sections_of notes))
 
--- The content after so many rounds.
+-- The content after a number of rounds.
 unfoldable pub rounds : ℕ → HandBytes → List NoteParts → List NoteParts
 rounds zero h notes = notes
 rounds (suc count) h notes = rounds count h (round h notes)

@@ -8,8 +8,8 @@ use Rattle.mxf_restore.specs.declared.section.Section.{Section}
 use Rattle.mxf_hand.specs.Hand.{HandBytes, is_value_at_hand, packet_of, read_heads, read_packets}
 use Rattle.mxf_hand.specs.Heads.{fitting}
 
--- Where a section is read from: from its start where no head there fits, from the end of the packet of the one head that
--- does, and from nowhere where several do.
+-- Where a section is read from: from its start if no head there fits, from the end of the packet of the one head that
+-- does, and from nowhere if several do.
 abbrev pub read_from : ℕ → List NoteParts → Option ℕ
 read_from start [] = Some start
 read_from start (n ∷ []) = Some (end_of n)
@@ -31,13 +31,13 @@ heads_of h notes p = option_map_or (read_heads h p.end) (from_of h notes p) []
 abbrev pub ends_within : Option ℕ → NoteParts → Bool
 ends_within end n = option_map_or (λ e. nat_le (end_of n) e) end true
 
--- The only one of notes, where there is one alone.
+-- The only one of notes, if there is exactly one.
 abbrev pub only : List NoteParts → Option NoteParts
 only [] = None
 only (n ∷ []) = Some n
 only (n ∷ m ∷ heads) = None
 
--- The packet of a head, where its value is at hand and lies in the hole.
+-- The packet of a head, if its value is at hand and lies in the hole.
 abbrev pub made_of_head : HandBytes → Option ℕ → NoteParts → List NoteParts
 made_of_head h end n = if is_value_at_hand h n && ends_within end n then packet_of h n ∷ [] else []
 

@@ -41,8 +41,8 @@ impl BarrenReadings {
         self.before = replace(&mut self.current, BTreeMap::new(alloc));
     }
 
-    /// Reads the bytes at hand from an offset on, up to an end where there is one, both in bytes. Where the same
-    /// reading found no packet in the round before, nothing is read, and what it found is handed.
+    /// Reads the bytes at hand from an offset on, up to an end if there is one, both in bytes. If the same reading
+    /// found no packet in the round before, nothing is read, and what it found is handed.
     pub fn read<S: Sources>(
         &mut self,
         alloc: Global,
@@ -62,7 +62,7 @@ impl BarrenReadings {
         Ok(reading)
     }
 
-    /// What the round before found, where that was no packet, else what is read.
+    /// What the round before found, if that was no packet; otherwise what is read.
     fn find<S: Sources>(
         &self,
         alloc: Global,
@@ -81,7 +81,7 @@ impl BarrenReadings {
         }
     }
 
-    /// What this reading found in the round before, where that was no packet. A kept head takes no memory.
+    /// What this reading found in the round before, if that was no packet. A kept head takes no memory.
     fn remembered(
         &self,
         alloc: Global,
@@ -99,7 +99,7 @@ impl BarrenReadings {
         Ok(Some(Reading { notes, head }))
     }
 
-    /// Keeps a reading for the next round, where it found no packet.
+    /// Keeps a reading for the next round, if it found no packet.
     fn keep(
         &mut self,
         alloc: Global,
@@ -120,7 +120,7 @@ impl BarrenReadings {
     }
 }
 
-/// The same head, where there is one.
+/// The same head, if there is one.
 fn cloned(alloc: Global, head: &Option<Note>) -> Result<Option<Note>, OutOfMemory>
     ensures { IfOk result (λ o. o ≡ head.now) }
 {

@@ -47,7 +47,7 @@ impl Found {
         }
     }
 
-    /// Adds what was read of a section of a hole, which ends there where it has an end.
+    /// Adds what was read of a section of a hole, which ends at `hole_end` if it has an end.
     pub fn add_reading(
         &mut self,
         reading: Reading,
@@ -73,7 +73,7 @@ impl Found {
         Ok(())
     }
 
-    /// Adds the head that was read, where there is one.
+    /// Adds the head that was read, if there is one.
     fn add_head(&mut self, head: Option<Note>, hole_end: Option<u64>) -> Result<(), OutOfMemory>
         ensures { OnOk result (Grows self.old self.new [] []
             (map (λ n. record { note = n; hole_end = hole_end }) (option_list head))) }
@@ -125,7 +125,7 @@ fn add_taken(made: &mut Catalogue, heads: Vec<CutHead>, starts: &Cover) -> Resul
     Ok(())
 }
 
-/// Adds a head, where it is taken.
+/// Adds a head, if it is taken.
 fn add_if_taken(made: &mut Catalogue, head: CutHead, starts: &Cover) -> Result<(), OutOfMemory>
     ensures { (read : List NoteParts) → ((x : ℕ) → LiesIn starts.now x ↔ IsStart read x)
         → OnOk result (made.new ≡ reduced_union made.old (map (λ c. c.note) (filter (is_taken read) (head ∷ [])))) }
@@ -147,7 +147,7 @@ fn add_starts(starts: &mut Cover, notes: &Catalogue) -> Result<(), OutOfMemory>
     Ok(())
 }
 
-/// Whether a head is taken: it ends in its hole, and nothing that was read begins behind its offset and below its end.
+/// Whether a head is taken: it ends in its hole, and nothing that was read begins after its offset and below its end.
 fn is_taken(starts: &Cover, head: &CutHead) -> bool
     ensures { (read : List NoteParts) → ((x : ℕ) → LiesIn starts.now x ↔ IsStart read x)
         → result ≡ is_taken read head.now }

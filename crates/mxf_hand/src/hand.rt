@@ -78,7 +78,7 @@ impl Hand {
         }
     }
 
-    /// Reads the bytes at hand from an offset on, up to an end where there is one, both in bytes.
+    /// Reads the bytes at hand from an offset on, up to an end if there is one, both in bytes.
     pub fn read<S: Sources>(
         &self,
         alloc: Global,
@@ -94,7 +94,7 @@ impl Hand {
         self.given.reading(alloc, sources, from, to)
     }
 
-    /// Whether no byte at hand of a head's key and length is another than the head says.
+    /// Whether no byte at hand of a head's key and length differs from what the head says.
     #[tactic(auto, unfolding(crate::specs::Heads::fits))]
     pub fn fits<S: Sources>(
         &self,

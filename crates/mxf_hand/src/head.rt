@@ -13,7 +13,7 @@ use std::marker::Model;
 /// The bytes that key and length of a packet can have at most (ST 336: a key of 16 bytes, a length of 9).
 const KEY_AND_LENGTH: u64 = 25;
 
-/// A head: a packet of which key and length alone are held.
+/// A head: a packet whose key and length alone are held.
 #[derive(Clone, Copy)]
 pub(crate) struct HeadNote<'a>(pub &'a Note);
 
@@ -67,7 +67,7 @@ impl<'a> Heads<'a> {
     }
 }
 
-/// Adds the note, where it is a head.
+/// Adds the note, if it is a head.
 fn push_head<'a>(heads: &mut Vec<HeadNote<'a>>, note: &'a Note) -> Result<(), OutOfMemory>
     ensures { OnOk result (map (λ h. h.0.now) heads.new.items
         ≡ map (λ h. h.0.now) heads.old.items ++ filter (λ n. not n.whole) (note.now ∷ [])) }
@@ -95,7 +95,7 @@ fn heads_ending<'a>(
     Ok(ending)
 }
 
-/// Adds the head, where its key and length end at an offset, in bytes.
+/// Adds the head, if its key and length end at an offset, in bytes.
 fn push_ending<'a>(
     ending: &mut Vec<HeadNote<'a>>,
     head: HeadNote<'a>,
@@ -136,7 +136,7 @@ pub(crate) fn key_and_length(alloc: Global, head: &Note) -> Result<Vec<u8>, OutO
     }
 }
 
-/// Whether these bytes stand behind so many of some others.
+/// Whether these bytes stand in others after the first `from`.
 pub(crate) fn stand_at(bytes: &[u8], from: usize, others: &[u8]) -> bool
     ensures agree { result ≡ true
         → (i : ℕ) → i < length bytes.now → get_or others.now (from + i) 0 ≡ get_or bytes.now i 0 }

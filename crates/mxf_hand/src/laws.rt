@@ -34,7 +34,7 @@ pub fn what_is_clear_stays_clear()
         → IsClear n notes → IsClear n (put_together h notes) }
 {}
 
-/// A law of [`put_together`](crate::put_together): where what is held and the bytes at hand are a file's, and what packs
+/// A law of [`put_together`](crate::put_together): if what is held and the bytes at hand are a file's, and what packs
 /// say of places is right in each round, what is put together is of that file.
 pub fn only_packets_of_the_file()
     ensures { (packets : List PacketParts) (h : HandBytes) (notes : List NoteParts) → AreBytesOfFile packets h
@@ -42,9 +42,9 @@ pub fn only_packets_of_the_file()
         → AreOfFile packets (put_together h notes) }
 {}
 
-/// A law of [`put_together`](crate::put_together): where what is held and the bytes at hand are a well-formed file's,
-/// each of its bytes is at hand, and what packs say of places is right, the whole file is put together: what is held
-/// then are the notes of all its packets. Heads that are held are of packets with a value: no reading notes others.
+/// A law of [`put_together`](crate::put_together): if what is held and the bytes at hand are a well-formed file's, each
+/// of its bytes is at hand, and what packs say of places is right, the whole file is put together: what is held then
+/// are the notes of all its packets. Heads that are held are of packets with a value: no reading notes others.
 pub fn the_whole_file_is_put_together()
     ensures { (packets : List PacketParts) (h : HandBytes) (notes : List NoteParts) → IsWellFormed packets
         → AreBytesOfFile packets h → IsAllAtHand packets h → IsContent notes → AreReduced notes
@@ -52,7 +52,7 @@ pub fn the_whole_file_is_put_together()
         → put_together h notes ≡ notes_from 0 packets }
 {}
 
-/// A law of [`put_together`](crate::put_together): where no round more changes anything, what was put together, saved and
+/// A law of [`put_together`](crate::put_together): if one more round changes nothing, what was put together, saved and
 /// handed in beside the same sources, changes nothing either.
 pub fn saved_beside_its_sources()
     ensures { (h : HandBytes) (notes : List NoteParts) → IsContent notes → AreReduced notes

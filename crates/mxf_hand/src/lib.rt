@@ -1,18 +1,18 @@
-//! Putting together packets of bytes at hand: those that lie over the border of two sources, and those of which the head
-//! alone is noted (this project's profile).
+//! Putting together packets of bytes at hand: those that lie over the border of two sources, and those whose head alone
+//! is noted (this project's profile).
 //!
-//! A range that ends inside a packet notes its head, and the range that goes on behind it notes nothing of it. Where the
-//! bytes of both are there, [`put_together`] reads what would be ordered as if it had been restored: a section of a hole
-//! from where a packet begins, and the value of a head. It goes on in rounds, since what is put together names further
+//! A range that ends inside a packet notes its head, and the range that follows it notes nothing of it. If the bytes of
+//! both are there, [`put_together`] reads what would be ordered as if it had been restored: a section of a hole from
+//! where a packet begins, and the value of a head. It goes on in rounds, since what is put together names further
 //! places.
 //!
-//! What is proved: the answer is its function of the content and of the bytes at hand, whichever source they are read of.
-//! Laws: the order of sources doesn't matter ([`one_content_of_sources`]), what is held stays ([`what_is_held_stays`]), and
-//! what is clear stays clear ([`what_is_clear_stays_clear`]). Where what packs say of places is right in each round, of a
-//! file's bytes only packets of that file are made ([`only_packets_of_the_file`]), and where all bytes of a well-formed
-//! file are at hand, all of its packets are ([`the_whole_file_is_put_together`]). Where no round more changes anything,
-//! what was saved changes nothing beside the same sources ([`saved_beside_its_sources`]). What is said of histories of
-//! calls is said of it ([`put_together_is_a_history`]).
+//! What is proved: the answer is its function of the content and of the bytes at hand, whichever source they are read
+//! of. Laws: the order of sources doesn't matter ([`one_content_of_sources`]), what is held stays
+//! ([`what_is_held_stays`]), and what is clear stays clear ([`what_is_clear_stays_clear`]). If what packs say of places
+//! is right in each round, only packets of a file are made of that file's bytes ([`only_packets_of_the_file`]). If all
+//! bytes of a well-formed file are at hand as well, all of its packets are ([`the_whole_file_is_put_together`]). If one
+//! more round changes nothing, what was saved changes nothing beside the same sources ([`saved_beside_its_sources`]).
+//! What is said of histories of calls is said of it ([`put_together_is_a_history`]).
 //!
 //! What two ranges hold together with what is put together of their bytes:
 //!

@@ -121,7 +121,7 @@ fn has_all(catalogue: &Catalogue, notes: &Catalogue) -> bool
     true
 }
 
-/// What is held after so many rounds at most.
+/// What is held after `count` rounds at most.
 fn rounds<S: Sources>(
     alloc: Global,
     hand: &Hand,
@@ -144,9 +144,9 @@ fn rounds<S: Sources>(
 
 /// Puts together packets of bytes at hand: what lies over the border of two sources, and what is held as a head alone.
 ///
-/// What would be ordered of what is held, and is at hand, is read as if it had been restored, in up to 64 rounds. What is
-/// held stays, and what is added lies where nothing was held, or is the packet of a head. A reading that
-/// found no packet isn't repeated in the next round. The only faults are want of memory and a read that failed.
+/// What would be ordered of what is held, and is at hand, is read as if it had been restored, in up to 64 rounds. What
+/// is held stays, and what is added lies where nothing was held, or is the packet of a head. A reading that found no
+/// packet isn't repeated in the next round. The only faults are out of memory and a read that failed.
 pub fn put_together<S: Sources>(
     alloc: Global,
     views: Views,

@@ -18,8 +18,8 @@ use mxf_read::{SourceFault, Sources};
 use mxf_restore::Section;
 use std::alloc::Global;
 
-/// Where a packet begins whose key and length end at an offset: at the first of the heads that do, else at the offset
-/// itself. All are in bytes.
+/// Where a packet begins whose key and length end at an offset: at the first of the heads that do, otherwise at the
+/// offset itself. All are in bytes.
 fn start_by(heads: &[HeadNote<'_>], end: u64) -> u64
     ensures { (notes : List NoteParts) → map (λ h. h.0.now) heads.now ≡ heads_to end notes
         → result ≡ start_of notes end }
@@ -53,7 +53,7 @@ fn fitting<'a, S: Sources>(
     Ok(fitting)
 }
 
-/// Adds the head, where it begins at a start, in bytes, and fits.
+/// Adds the head, if it begins at a start, in bytes, and fits.
 fn push_fitting<'a, S: Sources>(
     alloc: Global,
     hand: &Hand,
@@ -74,7 +74,7 @@ fn push_fitting<'a, S: Sources>(
     Ok(())
 }
 
-/// Whether a packet ends in a hole, which ends there where it has an end, in bytes.
+/// Whether a packet ends in a hole, which ends at `hole_end`, in bytes, if it has an end.
 pub(crate) fn ends_within(hole_end: Option<u64>, note: &Note) -> bool
     ensures { result ≡ ends_within hole_end note.now }
 {
@@ -82,7 +82,7 @@ pub(crate) fn ends_within(hole_end: Option<u64>, note: &Note) -> bool
     hole_end.is_none_or(|hole_end| end <= hole_end)
 }
 
-/// Adds the packet of the one head that fits, where its value is at hand and lies in the hole.
+/// Adds the packet of the one head that fits, if its value is at hand and lies in the hole.
 fn add_made<S: Sources>(
     alloc: Global,
     hand: &Hand,
@@ -106,7 +106,7 @@ fn add_made<S: Sources>(
     Ok(())
 }
 
-/// The only one of heads, where there is one alone.
+/// The only one of heads, if there is exactly one.
 fn only<'a>(heads: &[HeadNote<'a>]) -> Option<HeadNote<'a>>
     ensures { option_map (λ x. x.0.now) result ≡ only (map (λ x. x.0.now) heads.now) }
 {
@@ -145,8 +145,8 @@ pub(crate) fn add_section<S: Sources>(
     Ok(())
 }
 
-/// Where a section is read from, in bytes: from its start where no head there fits, from the end of the packet of the one
-/// head that does, and from nowhere where several do.
+/// Where a section is read from, in bytes: from its start if no head there fits, from the end of the packet of the one
+/// head that does, and from nowhere if several do.
 fn read_from(start: u64, fitting: &[HeadNote<'_>]) -> Option<u64>
     ensures { result ≡ read_from start (map (λ x. x.0.now) fitting.now) }
 {

@@ -18,7 +18,7 @@ GoesFirst None other = Unit {0}
 GoesFirst (Some x) None = ⊥
 GoesFirst (Some x) (Some y) = x ≤ y
 
--- Of the places from an offset on, up to an end where there is one, none has a source that goes before this one.
+-- Of the places from an offset on, up to an end if there is one, none has a source that goes before this one.
 pub record IsFirstSource (asked : List NamedPlace) (from : ℕ) (end : Option ℕ) (source : Option ℕ) : Type 0 where
   pub place : NamedPlace
   pub among : In place asked
@@ -37,8 +37,8 @@ front_by source o = record {
   again = o.again;
 }
 
--- The front of a section of which nothing is restored first, where a place is asked for in it, or in the packet of
--- which it is the rest.
+-- The front of a section of which nothing is restored first, if a place is asked for in it, or in the packet whose rest
+-- it is.
 pub record IsFrontOf (described : Bool) (at : AtHandParts) (notes : List NoteParts) (asked : List NamedPlace)
     (p : Section) (o : Order) : Type 0 where
   pub none_first : helping_of described at notes p ≡ []
@@ -50,7 +50,7 @@ pub record IsFrontOf (described : Bool) (at : AtHandParts) (notes : List NotePar
 
 -- The same as functions. Lemmas tie them to the relations.
 
--- The source that goes first of one, where there is one, and another.
+-- The source that goes first of one, if there is one, and another.
 abbrev pub earlier : Option (Option ℕ) → Option ℕ → Option ℕ
 earlier None source = source
 earlier (Some None) source = None

@@ -1,4 +1,4 @@
--- What is restored first of a section: what tells more of where units lie (this project's profile).
+-- What is restored first of a section: what says more of where units lie (this project's profile).
 use Rattle.std.specs.Prelude.{Bool, if◌then◌else◌, Option, None, Some, List, []}
 use Rattle.std.specs.Option.{option_to_list}
 use Rattle.mxf_klv.specs.Parts.{NoteParts}
@@ -12,9 +12,8 @@ use Rattle.mxf_restore.specs.Plan.{orders_of, start_of}
 use Rattle.mxf_restore.specs.declared.plan.Order.{Order}
 use Rattle.mxf_restore.specs.declared.section.Section.{Section}
 
--- What tells more of where units lie is restored first: of a section, by the reason that is claimed of its START,
--- footer partitions and index table segments whole, header metadata as far as their end is known, and of others the
--- front.
+-- What says more of where units lie is restored first: of a section, by the reason that is claimed of its START, footer
+-- partitions and index table segments whole, header metadata as far as their end is known, and of others the front.
 abbrev pub helping_for : Bool → AtHandParts → List NoteParts → Section → Claim → Reason → List Order
 helping_for described at notes p c reasons.Header = option_to_list (front_of at notes p)
 helping_for described at notes p c reasons.Footer = orders_of at notes p

@@ -24,7 +24,7 @@ module _ {T : Type 0} (stream offset tie : T → ℕ) where
   IsInOrder [] = Unit {0}
   IsInOrder (x ∷ xs) = AllByRecursion (Precedes x) xs × IsInOrder xs
 
-  -- So many elements lie below an offset of a stream, and the later ones don't.
+  -- The first `count` elements lie below an offset of a stream, and the later ones don't.
   pub record ArePartedAt (xs : List T) (to_stream to count : ℕ) : Type 0 where
     pub below : AllWithin (λ x. IsBelow (stream x) (offset x) to_stream to) xs 0 count
     pub above : AllWithin (λ x. ¬ IsBelow (stream x) (offset x) to_stream to) xs count (length xs)

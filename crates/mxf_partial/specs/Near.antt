@@ -1,4 +1,4 @@
--- The named places at which the partition of a stream may stand that has an offset of it (this project's profile).
+-- The named places at which the partition that has an offset of a stream may stand (this project's profile).
 use Rattle.std.specs.Prelude.{◌≡◌, ℕ, ◌≤◌, ◌⊎◌, Option, List}
 use Rattle.mxf_klv.specs.Parts.{NoteParts}
 use Rattle.mxf_klv.specs.Rising.{In}
@@ -27,8 +27,8 @@ IsPlaceOf notes body_sid x = (IsNamed notes x ⊎ StandsAt (partitions_of notes)
 abbrev pub IsNamedOf : List NoteParts → ℕ → ℕ → Type 0
 IsNamedOf notes body_sid x = IsNamed notes x × IsOfStream notes body_sid x
 
--- Of the places of a stream from the last one at or below where the offset can lie (from the first, where there is
--- none) up to where it lies below, one that is named.
+-- Of the places of a stream from the last one at or below where the offset can lie (from the first, if there is none)
+-- up to where it lies below, one that is named.
 pub record IsNear (u : UnitsParts) (body_sid offset x : ℕ) : Type 0 where
   pub named : IsNamedOf u.known.notes body_sid x
   pub low : ℕ
@@ -38,8 +38,8 @@ pub record IsNear (u : UnitsParts) (body_sid offset x : ℕ) : Type 0 where
   pub high_is : IsHigh u body_sid offset high
   pub before : LiesBetween 0 high x
 
--- Where the offset may lie: at one of these; where there is none, at a named place of the stream; where there is none,
--- at whichever named place.
+-- Where the offset may lie: at one of these; if there is none, at a named place of the stream; if there is none, at any
+-- named place.
 abbrev pub MayLieAt : UnitsParts → ℕ → ℕ → ℕ → Type 0
 MayLieAt u body_sid offset x =
     IsNear u body_sid offset x

@@ -18,13 +18,13 @@ use Rattle.mxf_partial.specs.declared.near.Near.{Near}
 use Rattle.mxf_partial.specs.declared.place_streams.ListedStream.{ListedStream}
 use Rattle.mxf_partial.specs.declared.place_streams.PlaceOf.{PlaceOf}
 
--- Entries of the random index pack, by where the partitions stand that they list.
+-- Entries of the random index pack, by where the partitions that they list stand.
 pub record AreListed (notes : List NoteParts) (listed : List ListedStream) : Type 0 where
   pub order : IsInOrder (λ e. e.offset) (λ e. 0) (λ e. e.body_sid) listed
   pub same : (body_sid x : ℕ) → IsOfStream notes body_sid x
       ↔ ((e : ListedStream) → In e listed → e.offset ≡ x → e.body_sid ≡ body_sid)
 
--- An entry, by where the partition stands that it lists.
+-- An entry, by where the partition that it lists stands.
 abbrev pub entry_of : RipEntry → ListedStream
 entry_of e = record { offset = e.offset; body_sid = e.body_sid }
 
@@ -66,7 +66,7 @@ pub record AreNear (u : UnitsParts) (all : List NamedPlace) (near : Near) : Type
   pub named : AreOfStreams u.known.notes all near.named.items
   pub places : AreOfStreams u.known.notes (all ++ map partition_place (partitions_of u.known.notes)) near.places.items
 
--- The greatest of the places of a stream at or below an offset, or 0 where there is none.
+-- The greatest of the places of a stream at or below an offset, or 0 if there is none.
 pub record IsFrom (places : List PlaceOf) (body_sid low from : ℕ) : Type 0 where
   pub is : (from ≡ 0)
       ⊎ ((p : PlaceOf) × In p places × Serves p.body_sid body_sid × (p.place ≡ from) × (from ≤ low))
@@ -78,7 +78,7 @@ pub record HasAddedThose (items : List PlaceOf) (Q : PlaceOf → Type 0) (positi
   pub added : (k : ℕ) (p : PlaceOf) → slice_get items k ≡ Some p → LiesIn more k ↔ (LiesIn positions k ⊎ Q p)
   pub some : IsTrue any ↔ ((p : PlaceOf) × In p items × Q p)
 
--- A place of a stream from an offset on, and below another, where there is one.
+-- A place of a stream from an offset on, and below another, if there is one.
 abbrev pub LiesInStream : ℕ → ℕ → Option ℕ → PlaceOf → Type 0
 LiesInStream body_sid from end p = Serves p.body_sid body_sid × LiesBetween from end p.place
 

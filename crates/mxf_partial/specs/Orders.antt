@@ -27,7 +27,7 @@ use Rattle.mxf_partial.specs.Wanted.{IsWantedByte, WantedParts, are_indexed, han
 abbrev pub is_described : WantedParts → Bool
 is_described w = option_map_or (λ c. c.finished) (preferred_of (copies_of (notes_of w))) false && are_indexed w
 
--- What is restored first of all sections: what tells more of where units lie.
+-- What is restored first of all sections: what says more of where units lie.
 abbrev pub helping_orders : WantedParts → List Order
 helping_orders w =
     flat_map (helping_of (is_described w) (hand_of w) (notes_of w)) (sections_of (notes_of w))
@@ -88,7 +88,7 @@ pub record IsUnitOrder (at : AtHandParts) (there wanted : List Run) (o : Order) 
   pub lacks : In range (lacking there run.start (Some run.end))
   pub is : o ≡ unit_order at range
 
--- What is to be restored for the units, and the end of the file where it is known.
+-- What is to be restored for the units, and the end of the file if it is known.
 pub record UnitPlanParts : Type 0 where
   pub orders : List Order
   pub end : Option ℕ

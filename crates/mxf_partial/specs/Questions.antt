@@ -10,7 +10,7 @@ use Rattle.mxf_units.specs.declared.standing.UnitStanding.{UnitStanding}
 use Rattle.mxf_units.specs.declared.standing.UnitStanding.TheVariants as standings
 use Rattle.mxf_units.specs.declared.unit.EditUnit.{EditUnit}
 
--- The place of a unit in its stream, where the segments that give one agree.
+-- The place of a unit in its stream, if the segments that give one agree.
 abbrev pub place_of_unit : UnitsParts → EditUnit → Option StreamPlace
 place_of_unit u unit = result_ok (place_of (segments_for u.known.notes u.index_sid) unit.number)
 
@@ -41,7 +41,7 @@ abbrev pub limit_asked_as : UnitStanding → UnitsParts → EditUnit → Option 
 limit_asked_as standings.Unsure u unit = limit_of_unit u unit
 limit_asked_as _ u unit = None
 
--- The limit below which an unknown partition may lie that has a unit.
+-- The limit below which an unknown partition that has a unit may lie.
 abbrev pub limit_asked : UnitsParts → EditUnit → Option ℕ
 limit_asked u unit = limit_asked_as unit.standing u unit
 

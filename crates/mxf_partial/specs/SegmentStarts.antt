@@ -17,7 +17,7 @@ start_of s = record { offset = s.offset; unit = unsigned_abs s.segment.numbers.s
 unfoldable pub starts_for : UnitsParts → List SegmentStart
 starts_for u = map start_of (segments_for u.known.notes u.index_sid)
 
--- A segment that begins at the unit or before it stands before the place, and another behind it.
+-- A segment that begins at the unit or before it stands before the place, and another after it.
 abbrev pub is_apart : ℕ → ℕ → SegmentStart → Bool
 is_apart unit x s = if nat_le s.unit unit then nat_lt s.offset x else nat_lt x s.offset
 
@@ -25,17 +25,17 @@ is_apart unit x s = if nat_le s.unit unit then nat_lt s.offset x else nat_lt x s
 unfoldable pub is_between_any : List SegmentStart → List ℕ → ℕ → Bool
 is_between_any starts numbers x = list_any (λ unit. list_all (is_apart unit x) starts) numbers
 
--- For each count the greatest of so many of the first of these numbers and of one more.
+-- For each count, the greatest of that many first numbers and of one more.
 abbrev pub greatest_so_far : ℕ → List ℕ → List ℕ
 greatest_so_far greatest [] = greatest ∷ []
 greatest_so_far greatest (x ∷ xs) = greatest ∷ greatest_so_far (max greatest x) xs
 
--- For each count the least of so many of the first of these numbers and of one more.
+-- For each count, the least of that many first numbers and of one more.
 abbrev pub least_so_far : ℕ → List ℕ → List ℕ
 least_so_far least [] = least ∷ []
 least_so_far least (x ∷ xs) = least ∷ least_so_far (min least x) xs
 
--- It is one of some of 16 at most, or of more one of those that lie evenly among them.
+-- It is one of some if they are 16 at most; of more, one of the 16 that lie evenly among them.
 abbrev pub IsEvenly16 : {A : Type 0} → List A → A → Type 0
 IsEvenly16 xs x =
     ((length xs ≤ 16) × In x xs)

@@ -34,7 +34,7 @@ pub record IsPartAt (notes : List NoteParts) (body_sid offset : ℕ) (p : Stream
 abbrev pub HasNoPartAt : List NoteParts → ℕ → ℕ → Type 0
 HasNoPartAt notes body_sid offset = (p : StreamPart) → IsPart notes body_sid p → offset < p.body_offset
 
--- The first partition of a stream that begins behind an offset of that.
+-- The first partition of a stream that begins after an offset of that.
 pub record IsPartBehind (notes : List NoteParts) (body_sid offset : ℕ) (p : StreamPart) : Type 0 where
   pub part : IsPart notes body_sid p
   pub behind : offset < p.body_offset
@@ -69,9 +69,8 @@ pub record IsGreatestOffset (u : UnitsParts) (body_sid offset greatest : ℕ) : 
   pub above : offset ≤ greatest
   pub greatest_is : (x : ℕ) → IsEndingPlace u body_sid x → x ≤ greatest
 
--- The file offset below which an offset of a stream lies: the partition behind it stands as far above it as its
--- BodyOffset says at least, and the random index pack as far as what the index gives goes on. None where nothing says
--- so.
+-- The file offset below which an offset of a stream lies: the partition after it stands as far above it as its
+-- BodyOffset says at least, and the random index pack as far as what the index gives goes on. None if nothing says so.
 abbrev pub IsHigh : UnitsParts → ℕ → ℕ → Option ℕ → Type 0
 IsHigh u body_sid offset (Some high) =
     ((q : StreamPart) × IsPartBehind u.known.notes body_sid offset q

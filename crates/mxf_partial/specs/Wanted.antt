@@ -17,7 +17,7 @@ use Rattle.mxf_units.specs.declared.standing.UnitStanding.TheVariants as standin
 use Rattle.mxf_units.specs.declared.unit.EditUnit.{EditUnit}
 use Rattle.mxf_units.specs.declared.unit.Extent.{Extent}
 
--- Of an index the units from one on, so many.
+-- The units of an index from one on, `count` of them.
 pub record WantedParts : Type 0 where
   pub units : UnitsParts
   pub first : ℕ
@@ -42,7 +42,7 @@ is_indexed _ = true
 abbrev pub are_indexed : WantedParts → Bool
 are_indexed w = list_all (λ u. is_indexed u.standing) (wanted_units w)
 
--- Up to where the bytes of a unit may reach: to the next place of its stream, or else to the limit of its essence zone.
+-- Up to where a unit's bytes may reach: to the next place of its stream, or otherwise to the limit of its essence zone.
 abbrev pub reach_of : Location → Option ℕ
 reach_of l = option_or l.extent.end l.zone.limit
 
@@ -50,7 +50,7 @@ reach_of l = option_or l.extent.end l.zone.limit
 abbrev pub HasNamedLimit : List NoteParts → Location → Type 0
 HasNamedLimit notes l = (x : ℕ) × (l.zone.limit ≡ Some x) × IsNamed notes x
 
--- What is wanted of a unit by where it is looked for: its bytes, where it is missing or there in part; where an unknown
+-- What is wanted of a unit by where it is looked for: its bytes, if it is missing or there in part; if an unknown
 -- partition may lie before it, all from the origin of its essence zone on, unless a pack names what limits that.
 abbrev pub WantsAt : List NoteParts → Location → UnitStanding → ℕ → Type 0
 WantsAt notes l standings.Missing x = LiesBetween l.extent.start (reach_of l) x
@@ -64,7 +64,7 @@ WantsByte u unit x =
     (l : Location) × (location_of u.known.notes u.index_sid unit.number ≡ Ok l)
     × WantsAt u.known.notes l unit.standing x
 
--- The offset is one of an extent, where there is one.
+-- The offset is one of an extent, if there is one.
 abbrev pub HasByte : Option Extent → ℕ → Type 0
 HasByte None x = ⊥
 HasByte (Some e) x = LiesBetween e.start e.end x
@@ -92,7 +92,7 @@ abbrev pub wanted_by : List NamedPlace → UnitStanding → Result Location Unit
 wanted_by named standing (Err other) = None
 wanted_by named standing (Ok l) = wanted_at named standing l
 
--- The bytes that are wanted of a unit, where some are.
+-- The bytes that are wanted of a unit, if some are.
 abbrev pub wanted_of : List NamedPlace → UnitsParts → EditUnit → Option Extent
 wanted_of named u unit = wanted_by named unit.standing (location_of u.known.notes u.index_sid unit.number)
 

@@ -14,11 +14,11 @@ use Rattle.mxf_units.specs.EssenceZones.{behind_index, parts_of}
 use Rattle.mxf_units.specs.declared.essence_zone.part.StreamPart.{StreamPart}
 use Rattle.mxf_partial.specs.Streams.{IsPart}
 
--- Where a stretch ends of which isn't known what begins there.
+-- Where a stretch ends, if it isn't known what begins there.
 abbrev pub open_end : Stretch → Option ℕ
 open_end s = if s.is_open then Some (s.end - 1) else None
 
--- Where the way ends that leads from a partition pack over its header metadata, its index table segments and fills.
+-- Where the way from a partition pack over its header metadata, its index table segments and fills ends.
 abbrev pub end_of_way : List NoteParts → PartitionParts → Option ℕ
 end_of_way notes p =
     option_or (option_map (over_fills notes) (behind_index notes p))
@@ -27,19 +27,18 @@ end_of_way notes p =
 abbrev pub is_free : List NoteParts → ℕ → Bool
 is_free notes x = is_in_file notes x && not (is_held notes x)
 
--- The same, where nothing is held there and the file may reach that far.
+-- The same, if nothing is held there and the file may reach that far.
 unfoldable pub way_of : List NoteParts → PartitionParts → Option ℕ
 way_of notes p = option_and_then (λ x. if is_free notes x then Some x else None) (end_of_way notes p)
 
--- The part begins at or below an offset of its stream, and no other of the stream begins behind it and at or below
--- that.
+-- The part begins at or below an offset of its stream, and no other of the stream begins after it and at or below that.
 pub record BeginsLast (notes : List NoteParts) (body_sid offset : ℕ) (part : StreamPart) : Type 0 where
   pub body : part.body_sid ≡ body_sid
   pub begins : part.body_offset ≤ offset
   pub last : (q : StreamPart) → IsPart notes body_sid q → q.body_offset ≤ offset → q.body_offset ≤ part.body_offset
 
--- A part without a first packet of essence, that begins last at or below an offset of its stream, and from the
--- partition of which the way leads to the place.
+-- A part without a first packet of essence, that begins last at or below an offset of its stream, and from whose
+-- partition the way leads to the place.
 pub record LeadsTo (notes : List NoteParts) (body_sid offset : ℕ) (part : StreamPart) (x : ℕ) : Type 0 where
   pub among : In part (parts_of notes)
   pub begins : BeginsLast notes body_sid offset part
@@ -55,7 +54,7 @@ HasPlace notes places part = (p : StreamPlace) × In p places × BeginsLast note
 
 -- The same as functions. Lemmas tie them to the relations.
 
--- Where the way goes on from the partition of a part of which no first packet is known.
+-- Where the way goes on from the partition of a part whose first packet isn't known.
 abbrev pub way_from : List NoteParts → StreamPart → Option NamedPlace
 way_from notes p =
     if is_some p.zone then None

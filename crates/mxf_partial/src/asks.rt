@@ -18,7 +18,7 @@ use mxf_restore::NamedPlace;
 use mxf_units::{UnitRange, Units};
 use std::alloc::Global;
 
-/// The places that are asked for, rising; those where the index may go on only where that is looked for. They take
+/// The places that are asked for, rising. Those where the index may go on come only if that is looked for. They take
 /// memory.
 pub(crate) fn asked_places(
     alloc: Global,

@@ -1,4 +1,4 @@
-//! Named places between index table segments, where the segment of a unit may stand to which none gives a place (ST
+//! Named places between index table segments. The segment of a unit to which none gives a place may stand there (ST
 //! 377-1, Index Table Segment).
 ghost use Rattle.std.specs.Prelude.{◌≡◌, ◌↔◌, ◌⊎◌, ◌*◌, ◌/◌, ◌^◌, ◌<◌, ◌≤◌, ℕ, IfOk, OnOk, Some, filter, length, map};
 ghost use Rattle.std.specs.Prelude.{slice_get};
@@ -19,7 +19,7 @@ use mxf_views::SegmentInNumbers;
 use std::alloc::Global;
 use std::marker::Model;
 
-/// So many places are asked for at most of units that no segment places.
+/// The greatest number of places that are asked for because of units that no segment places.
 const MOST_CHOSEN: usize = 16;
 
 /// More than any number of a unit: 2^64.
@@ -47,9 +47,9 @@ impl Keyed for SegmentStart {
 #[derive(Drop)]
 struct Starts {
     starts: Vec<SegmentStart>,
-    /// For each count the greatest unit that so many of the first begin with; 0 of none.
+    /// For each count, the greatest unit that one of that many first ones begins with; 0 of none.
     greatest: Vec<u64>,
-    /// For each count the least unit that so many of the last begin with; 2^64 of none.
+    /// For each count, the least unit that one of that many last ones begins with; 2^64 of none.
     least: Vec<u128>,
 }
 
@@ -94,7 +94,7 @@ impl Starts {
         self.greatest[up_to(&self.starts, place)]
     }
 
-    /// The least unit that a segment begins with that stands at an offset, in bytes, or behind it; 2^64 without one. It
+    /// The least unit that a segment begins with that stands at an offset, in bytes, or after it; 2^64 without one. It
     /// is a binary search.
     fn high(&self, place: u64) -> u128
         ensures { (u : ℕ) → u < 2 ^ 64
@@ -103,8 +103,8 @@ impl Starts {
         self.least[self.starts.len() - below(&self.starts, place)]
     }
 
-    /// Whether an offset, in bytes, lies between the segments for a unit of one of these numbers, which rise: the first
-    /// that isn't too low tells. It is three binary searches.
+    /// Whether an offset, in bytes, lies between the segments for a unit of one of these numbers, which rise. The first
+    /// number that isn't too low decides it. It is three binary searches.
     fn is_between_any(&self, numbers: &[u64], place: u64) -> bool
         requires { IsRising nat_cmp numbers.now }
         ensures { result ≡ is_between_any self.now numbers.now place }
@@ -146,7 +146,7 @@ fn numbers_of(alloc: Global, starts: &[SegmentStart]) -> Result<Vec<u64>, OutOfM
     Ok(starts.iter().map(|start| start.unit).collect(alloc)?)
 }
 
-/// For each count the greatest of so many of the first of these numbers; 0 of none. They take memory.
+/// For each count, the greatest of that many first numbers; 0 of none. They take memory.
 fn greatest_so_far(alloc: Global, numbers: &[u64]) -> Result<Vec<u64>, OutOfMemory>
     ensures { IfOk result (λ v. v.items ≡ greatest_so_far 0 numbers.now) }
 {
@@ -160,7 +160,7 @@ fn greatest_so_far(alloc: Global, numbers: &[u64]) -> Result<Vec<u64>, OutOfMemo
     Ok(found)
 }
 
-/// For each count the least of so many of the first of these numbers; 2^64 of none. They take memory.
+/// For each count, the least of that many first numbers; 2^64 of none. They take memory.
 fn least_so_far(alloc: Global, numbers: &[u64]) -> Result<Vec<u128>, OutOfMemory>
     ensures { IfOk result (λ v. v.items ≡ least_so_far (2 ^ 64) numbers.now) }
 {
@@ -174,9 +174,9 @@ fn least_so_far(alloc: Global, numbers: &[u64]) -> Result<Vec<u128>, OutOfMemory
     Ok(found)
 }
 
-/// Adds the named places where the index may go on to units with these numbers, which rise: 16 of them at most, of more
-/// those that lie evenly among them. It takes memory as the segments of the index and the named places do, and time
-/// n log n of these and of the numbers.
+/// Adds the named places where the index may go on to units with these numbers, which rise. Of more than 16, it adds
+/// the 16 that lie evenly among them. It takes memory as the segments of the index and the named places do, and time n
+/// log n of these and of the numbers.
 pub(crate) fn add_chosen(
     alloc: Global,
     asked: &mut Vec<NamedPlace>,
@@ -214,7 +214,7 @@ fn places_between(
     Ok(places)
 }
 
-/// Adds some places where there are 16 of them at most, of more those that lie evenly among them.
+/// Adds some places: all if there are 16 at most, otherwise the 16 that lie evenly among them.
 fn add_evenly(asked: &mut Vec<NamedPlace>, places: &[NamedPlace]) -> Result<(), OutOfMemory>
     ensures { OnOk result ((n : NamedPlace) → In n asked.new.items
         ↔ (In n asked.old.items ⊎ IsEvenly16 places.now n)) }
@@ -237,7 +237,7 @@ fn add_16(asked: &mut Vec<NamedPlace>, places: &[NamedPlace]) -> Result<(), OutO
     Ok(())
 }
 
-/// So many sixteenths of a count.
+/// A number of sixteenths of a count.
 fn part_of(count: usize, sixteenths: usize) -> usize
     requires { sixteenths < 16 }
     ensures { result ≡ sixteenths * count / 16 }

@@ -12,7 +12,7 @@ use mxf_places::Reason;
 use mxf_restore::{NamedPlace, Order, Section, SectionOrders};
 use std::alloc::Global;
 
-/// What is restored first of a section: what tells more of where units lie. Header metadata that are described already
+/// What is restored first of a section: what says more of where units lie. Header metadata that are described already
 /// aren't. It takes memory.
 fn helping_of(
     alloc: Global,
@@ -34,7 +34,7 @@ fn helping_of(
     }
 }
 
-/// The front of a section, where it has one. It takes memory.
+/// The front of a section, if it has one. It takes memory.
 fn front_alone(
     alloc: Global,
     pieces: &SectionOrders<'_>,
@@ -104,7 +104,7 @@ pub(crate) fn add_fronts(
     Ok(())
 }
 
-/// The front of a section of which nothing is restored first, where a place is asked for in it. It takes memory.
+/// The front of a section of which nothing is restored first, if a place is asked for in it. It takes memory.
 fn front_order(
     alloc: Global,
     pieces: &SectionOrders<'_>,
@@ -140,8 +140,8 @@ fn front_by(front: Order, source: Option<u64>) -> Order
     }
 }
 
-/// The source that goes first of the places from an offset on, in bytes, up to an end where there is one; none where no
-/// place lies there. Two binary searches, and a look at each of these.
+/// The source that goes first of the places from an offset on, in bytes, up to an end if there is one; none if no place
+/// lies there. Two binary searches, and a look at each of these.
 fn first_source(asked: &[NamedPlace], from: u64, end: Option<u64>) -> Option<Option<u64>>
     requires { IsNonDecreasingBy (λ n. n.place) asked.now }
     ensures { result ≡ first_source asked.now from end }
@@ -154,7 +154,7 @@ fn first_source(asked: &[NamedPlace], from: u64, end: Option<u64>) -> Option<Opt
     first
 }
 
-/// The source that goes first of one, where there is one, and another.
+/// The source that goes first of one, if there is one, and another.
 fn earlier(first: Option<Option<u64>>, source: Option<u64>) -> Option<u64>
     ensures { result ≡ earlier first source }
 {
@@ -165,7 +165,7 @@ fn earlier(first: Option<Option<u64>>, source: Option<u64>) -> Option<u64>
     }
 }
 
-/// The places from an offset on, in bytes, up to an end where there is one.
+/// The places from an offset on, in bytes, up to an end if there is one.
 fn between(asked: &[NamedPlace], from: u64, end: Option<u64>) -> &[NamedPlace]
     requires { IsNonDecreasingBy (λ n. n.place) asked.now }
     ensures { result.now ≡ filter (lies_between from end) asked.now }
@@ -177,7 +177,7 @@ fn between(asked: &[NamedPlace], from: u64, end: Option<u64>) -> &[NamedPlace]
     between
 }
 
-/// The number of the places below an end, in bytes; all of them where there is none.
+/// The number of the places below an end, in bytes; all of them if there is none.
 fn count_below(asked: &[NamedPlace], end: Option<u64>) -> usize
     requires { IsNonDecreasingBy (λ n. n.place) asked.now }
     ensures bound { result ≤ length asked.now }

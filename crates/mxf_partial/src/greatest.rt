@@ -1,4 +1,4 @@
-//! The greatest offsets of streams that segments of an index give which end (ST 377-1, Index Table Segment).
+//! The greatest offsets of streams that ending segments of an index give (ST 377-1, Index Table Segment).
 ghost use Rattle.std.specs.Prelude.{◌≡◌, IfOk, MatchOption, OnOk};
 ghost use Rattle.mxf_units.specs.LastUnits.{IsEndless};
 ghost use Rattle.mxf_partial.specs.Greatest.{AreGreatest, GivesNone, HasAdded, IsGreatestOf, greater};
@@ -34,7 +34,7 @@ impl InStream for GreatestPlace {
     }
 }
 
-/// The greatest offset that each segment of the index gives which ends, in their order. They take memory.
+/// The greatest offset that each ending segment of the index gives, in their order. They take memory.
 pub(crate) fn greatest_places(
     alloc: Global,
     units: &Units<'_>,
@@ -51,7 +51,7 @@ pub(crate) fn greatest_places(
     Ok(places)
 }
 
-/// Adds the greatest offset that a segment gives, where it ends.
+/// Adds the greatest offset that a segment gives, if it ends.
 fn add_greatest(places: &mut Vec<GreatestPlace>, segment: &SegmentAt<'_>) -> Result<(), OutOfMemory>
     ensures { OnOk result (HasAdded segment.now places.old.items places.new.items) }
 {
@@ -64,7 +64,7 @@ fn add_greatest(places: &mut Vec<GreatestPlace>, segment: &SegmentAt<'_>) -> Res
     Ok(())
 }
 
-/// The greatest offset that a segment gives, in bytes, where it ends.
+/// The greatest offset that a segment gives, in bytes, if it ends.
 fn greatest_of(segment: &Segment<'_>) -> Option<u128>
     ensures { MatchOption result (¬ IsEndless segment.now → GivesNone segment.now)
         (λ greatest. (¬ IsEndless segment.now) × IsGreatestOf segment.now greatest) }
@@ -94,7 +94,7 @@ fn greatest_listed(segment: &Segment<'_>) -> Option<u128>
     greatest
 }
 
-/// The greater of two offsets, where there are any.
+/// The greater of two offsets, if there are any.
 fn greater(first: Option<u128>, second: Option<u128>) -> Option<u128>
     ensures { result ≡ greater first second }
 {

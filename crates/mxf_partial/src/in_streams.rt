@@ -11,7 +11,7 @@ pub(crate) trait InStream {
     // The offset in it.
     ghost offset: { Self → ℕ };
 
-    // What settles which of two goes first that have one offset.
+    // What settles which of two with one offset goes first.
     ghost tie: { Self → ℕ };
 
     /// The number of the stream.

@@ -2,17 +2,16 @@
 //! profile; index table segments, partitions and their streams are those of ST 377-1).
 //!
 //! The order that comes most often is not the whole file but some edit units of it. Where their bytes lie is known once
-//! the index that places them and the partitions of their stream are held. [`UnitPlan`] orders what tells more of that
+//! the index that places them and the partitions of their stream are held. [`UnitPlan`] orders what says more of that
 //! first: footer partitions and index table segments whole, and the fronts of sections in which partitions may stand.
 //! Then it orders the bytes of the units that are known, less what is held or at hand.
 //!
 //! What is proved: [`UnitPlan::of`] answers the one plan for some units ([`one_unit_plan`]). Each byte that is wanted
-//! of a unit is held, at hand or ordered, so where nothing is ordered all of them are there
-//! ([`wanted_bytes_are_there`]); and an order of bytes of units has none that is held or at hand
-//! ([`orders_of_units_are_missing`]).
+//! of a unit is held, at hand or ordered, so if nothing is ordered, all of them are there ([`wanted_bytes_are_there`]);
+//! and an order of bytes of units has none that is held or at hand ([`orders_of_units_are_missing`]).
 //!
-//! That units without an index, or behind packs that nothing names, are found isn't promised. That no order is left in
-//! the end, where what was ordered is handed in again and again, is tested.
+//! It isn't promised that units without an index, or after packs that nothing names, are found. It is tested that no
+//! order is left in the end, if what was ordered is handed in again and again.
 //!
 //! What to restore for the units from `from` up to `to`, that included:
 //!

@@ -1,4 +1,4 @@
-//! Named places at which the partition of a stream may stand that has an offset of it.
+//! Named places at which the partition that has an offset of a stream may stand.
 ghost use Rattle.std.specs.Prelude.{◌≡◌, ◌↔◌, ◌+◌, ◌⊎◌, ◌<◌, ◌≤◌, ◌^◌, ℕ, true, false, IfOk, List, OnOk, Some};
 ghost use Rattle.std.specs.Prelude.{length, slice_get};
 ghost use Rattle.mxf_klv.specs.Note.{greatest_end};
@@ -24,7 +24,7 @@ use mxf_units::Units;
 use mxf_views::StreamPlace;
 use std::alloc::Global;
 
-/// Adds the named places at which partitions may stand that have one of these places of streams. It takes memory, and
+/// Adds the named places at which partitions that have one of these places of streams may stand. It takes memory, and
 /// some binary searches for each place.
 pub(crate) fn add_partitions(
     alloc: Global,
@@ -89,7 +89,7 @@ impl Near {
         })
     }
 
-    /// Adds the named places at which a partition may stand that has a place of a stream.
+    /// Adds the named places at which a partition that has a place of a stream may stand.
     fn add_place(&self, found: &mut Asked, place: StreamPlace) -> Result<(), OutOfMemory>
         requires { length self.now.named.items ≤ greatest_end }
         ensures { OnOk result ((u : UnitsParts) (named : List NamedPlace) → AreNamed u.known.notes named
@@ -110,7 +110,7 @@ impl Near {
     }
 }
 
-/// The greatest of the places of a stream at or below a bound, in bytes; 0 where there is none.
+/// The greatest of the places of a stream at or below a bound, in bytes; 0 if there is none.
 fn from_place(places: &[PlaceOf], body_sid: u32, low: Bound) -> u64
     requires { low.from < 2 ^ 64 }
     ensures { IsInOrder (λ p. rank p.body_sid) (λ p. p.place) (λ p. 0) places.now
@@ -123,7 +123,7 @@ fn from_place(places: &[PlaceOf], body_sid: u32, low: Bound) -> u64
     last_place(places, None, bound).max(last_place(places, Some(body_sid), bound))
 }
 
-/// The place of the last of those of a stream, or of any, below a bound, in bytes; 0 where there is none.
+/// The place of the last of those of a stream, or of any, below a bound, in bytes; 0 if there is none.
 fn last_place(places: &[PlaceOf], body_sid: Option<u32>, bound: Bound) -> u64
     ensures is { IsInOrder (λ p. rank p.body_sid) (λ p. p.place) (λ p. 0) places.now
         → (result ≡ 0) ⊎ ((p : PlaceOf) × In p places.now × (rank p.body_sid ≡ rank body_sid) × (p.place ≡ result)
@@ -138,7 +138,7 @@ fn last_place(places: &[PlaceOf], body_sid: Option<u32>, bound: Bound) -> u64
     }
 }
 
-/// Adds the positions of the places of a stream from an offset on, in bytes, up to an end where there is one, and tells
+/// Adds the positions of the places of a stream from an offset on, in bytes, up to an end if there is one, and says
 /// whether there are any.
 fn add_between(
     positions: &mut Cover,

@@ -12,7 +12,7 @@ use mxf_sets::RipEntry;
 use mxf_views::{RipAt, RipView, Views};
 use std::alloc::Global;
 
-/// An entry of the random index pack, by where the partition stands that it lists.
+/// An entry of the random index pack, by where the partition that it lists stands.
 #[derive(Clone, Copy, Debug, PartialEq, Eq, PartialOrd, Ord)]
 pub(crate) struct ListedStream {
     /// A file offset, in bytes.
@@ -40,7 +40,7 @@ impl InStream for ListedStream {
 /// A place at which a partition may stand, with the stream that it is of.
 #[derive(Clone, Copy, Debug, PartialEq, Eq, PartialOrd, Ord)]
 pub(crate) struct PlaceOf {
-    /// The BodySID that is listed for the place; none where no entry lists it, and it may be of any stream.
+    /// The BodySID that is listed for the place; none if no entry lists it, and it may be of any stream.
     pub body_sid: Option<u32>,
     /// A file offset, in bytes.
     pub place: u64,
@@ -90,7 +90,7 @@ pub(crate) fn rank(body_sid: Option<u32>) -> u64
     }
 }
 
-/// The entries of the only random index pack, by where the partitions stand that they list. They take memory.
+/// The entries of the only random index pack, by where the partitions that they list stand. They take memory.
 pub(crate) fn listed_streams(alloc: Global, views: &Views) -> Result<Vec<ListedStream>, OutOfMemory>
     ensures { IfOk result (λ v. AreListed views.now v.items) }
 {
@@ -110,7 +110,7 @@ fn entries_of(alloc: Global, rip: &RipAt<'_>) -> Result<Vec<ListedStream>, OutOf
     Ok(entries.collect(alloc)?)
 }
 
-/// An entry, by where the partition stands that it lists.
+/// An entry, by where the partition that it lists stands.
 fn entry_of(entry: RipEntry) -> ListedStream
     ensures { result ≡ entry_of entry }
 {
@@ -120,8 +120,8 @@ fn entry_of(entry: RipEntry) -> ListedStream
     }
 }
 
-/// The BodySID that all entries give which list a place, in bytes, or none where no entry does: two binary searches. No
-/// answer where entries give different ones.
+/// The BodySID that all entries which list a place, in bytes, give, or none if no entry does: two binary searches. No
+/// answer if entries give different ones.
 fn stream_of(listed: &[ListedStream], place: u64) -> Option<Option<u32>>
     ensures { (notes : List NoteParts) → AreListed notes listed.now
         → MatchOption result (IsOfNoStream notes place) (IsOfStreams notes place) }

@@ -33,7 +33,7 @@ use std::marker::Model;
 /// says (this project's profile).
 ///
 /// Whoever restores the bytes of all orders, hands them in beside the rest, and asks again, comes to a plan without
-/// orders, where the packs of the file tell the truth. That is tested, not proved.
+/// orders, if what the packs of the file say is right. That is tested, not proved.
 #[derive(Debug, Drop)]
 pub struct UnitPlan {
     orders: Vec<Order>,
@@ -75,7 +75,7 @@ impl UnitPlan {
         &self.orders
     }
 
-    /// The end of the file, in bytes, where it is known: that of its random index pack.
+    /// The end of the file, in bytes, if it is known: that of its random index pack.
     pub fn end(&self) -> Option<u64>
         ensures { result ≡ self.now.end }
     {
@@ -235,7 +235,7 @@ fn unit_order(at_hand: &AtHand, range: OffsetRange) -> Order
     }
 }
 
-/// The end, in bytes, where it lies below where files end at the latest.
+/// The end, in bytes, if it lies below where files end at the latest.
 fn known_end(end: Option<u64>) -> Option<u64>
     ensures { result ≡ known_end end }
 {
@@ -257,8 +257,8 @@ pub fn one_unit_plan()
     ensures { (w : WantedParts) (p q : UnitPlanParts) → IsUnitPlan w p → IsUnitPlan w q → p ≡ q }
 {}
 
-/// A law of [`UnitPlan::orders`]: each byte that is wanted of a unit is held, at hand or ordered; so where nothing is
-/// ordered all of them are held or at hand.
+/// A law of [`UnitPlan::orders`]: each byte that is wanted of a unit is held, at hand or ordered; so if nothing is
+/// ordered, all of them are held or at hand.
 pub fn wanted_bytes_are_there()
     ensures ordered { (w : WantedParts) (p : UnitPlanParts) (x : ℕ) → IsUnitPlan w p → IsWantedByte w x
         → IsKnown w.units.known x ⊎ ((o : Order) × In o p.orders × LiesInOrder o x) }

@@ -68,7 +68,7 @@ pub(crate) fn limits_asked(
     Ok(asked.collect(alloc)?)
 }
 
-/// The limit of the essence zone of a unit, in bytes, where an unknown partition may lie below it.
+/// The limit of the essence zone of a unit, in bytes, if an unknown partition may lie below it.
 fn limit_asked(units: &Units<'_>, unit: &EditUnit) -> Option<u64>
     ensures { result ≡ limit_asked units.now unit.now }
 {

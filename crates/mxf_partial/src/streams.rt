@@ -45,7 +45,7 @@ impl InStream for PartStart {
 pub(crate) struct Streams {
     /// Where the parts of streams begin, in their order.
     starts: Vec<PartStart>,
-    /// The greatest offset that each segment gives which ends, in their order.
+    /// The greatest offset that each ending segment gives, in their order.
     greatest: Vec<GreatestPlace>,
     /// The file offset of the only random index pack, in bytes.
     rip: Option<u64>,
@@ -79,7 +79,7 @@ impl Streams {
         }
     }
 
-    /// The file offset below which a place of a stream lies, in bytes, where something says so: two binary searches.
+    /// The file offset below which a place of a stream lies, in bytes, if something says so: two binary searches.
     pub fn high(&self, place: StreamPlace) -> Option<u64>
         ensures { (u : UnitsParts) → AreStreams u self.now → IsHigh u place.body_sid place.offset result }
     {
@@ -93,7 +93,7 @@ impl Streams {
         }
     }
 
-    /// Where the first part of a stream begins that begins behind a place of it, in bytes of the stream: a binary
+    /// Where the first part of a stream begins that begins after a place of it, in bytes of the stream: a binary
     /// search.
     pub fn beginning_behind(&self, place: StreamPlace) -> Option<u64>
         ensures { (u : UnitsParts) → AreStreams u self.now
@@ -108,7 +108,7 @@ impl Streams {
         }
     }
 
-    /// The greatest offset that segments give which end, of the stream of a place, and of its own, in bytes.
+    /// The greatest of the offsets that ending segments give of the stream of a place, and of its own, in bytes.
     fn greatest_from(&self, place: StreamPlace) -> u128
         ensures greatest { (u : UnitsParts) → AreStreams u self.now
             → IsGreatestOffset u place.body_sid place.offset result }
@@ -143,7 +143,7 @@ fn reach(offset: u64, distance: u128) -> Bound
     }
 }
 
-/// A file offset less a distance, in bytes; 0 where that is greater.
+/// A file offset less a distance, in bytes; 0 if that is greater.
 fn less(offset: u64, distance: u128) -> u64
     ensures { result ≡ offset - distance }
 {
@@ -184,7 +184,7 @@ fn starts_of(alloc: Global, parts: &[StreamPart]) -> Result<Vec<PartStart>, OutO
     Ok(starts.collect(alloc)?)
 }
 
-/// Where the only random index pack stands, in bytes, where it can be read.
+/// Where the only random index pack stands, in bytes, if it can be read.
 fn rip_offset(views: &Views) -> Option<u64>
     ensures { IsRipOffset views.now result }
 {

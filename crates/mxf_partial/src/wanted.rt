@@ -31,7 +31,7 @@ pub(crate) fn wanted_bytes(
     Ok(wanted)
 }
 
-/// The bytes that are wanted of a unit, where some are.
+/// The bytes that are wanted of a unit, if some are.
 fn wanted_of(named: &[NamedPlace], units: &Units<'_>, unit: &EditUnit) -> Option<Extent>
     requires { RiseBy (λ n. n.place) named.now }
     ensures { result ≡ wanted_of named.now units.now unit.now }
@@ -71,7 +71,7 @@ fn is_limit_named(named: &[NamedPlace], location: Location) -> bool
     }
 }
 
-/// Up to where the bytes of a unit may reach: to the next place of its stream, or else to the limit of its essence
+/// Up to where the bytes of a unit may reach: to the next place of its stream, or otherwise to the limit of its essence
 /// zone.
 fn reach_of(location: Location) -> Option<u128>
     ensures { result ≡ reach_of location }

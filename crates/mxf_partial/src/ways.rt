@@ -36,8 +36,8 @@ impl InStream for StreamPlace {
     }
 }
 
-/// Adds where the ways go on from the partitions of these places of streams of which no first packet is known, each
-/// with its partition.
+/// Adds where the ways go on from those partitions of these places of streams whose first packet isn't known, each with
+/// its partition.
 pub(crate) fn add_ways(
     alloc: Global,
     asked: &mut Vec<NamedPlace>,
@@ -73,7 +73,7 @@ fn add_ways_of(
     Ok(())
 }
 
-/// Adds where the way goes on from a part, where one of the places lies in it.
+/// Adds where the way goes on from a part, if one of the places lies in it.
 fn add_way(
     asked: &mut Vec<NamedPlace>,
     holdings: &Holdings<'_>,
@@ -105,7 +105,7 @@ fn in_order(alloc: Global, places: &[StreamPlace]) -> Result<Vec<StreamPlace>, O
     Ok(places)
 }
 
-/// Where the way goes on from a part of which no first packet is known.
+/// Where the way goes on from a part whose first packet isn't known.
 fn way_from(holdings: &Holdings<'_>, part: &StreamPart) -> Option<NamedPlace>
     ensures { result ≡ way_from holdings.now part.now }
 {
@@ -150,7 +150,7 @@ fn way_of(holdings: &Holdings<'_>, partition: &Partition) -> Option<u64>
     free_place(holdings, end_of_way(holdings, partition)?)
 }
 
-/// The place, in bytes, where nothing is held there and the file may reach that far.
+/// The place, in bytes, if nothing is held there and the file may reach that far.
 fn free_place(holdings: &Holdings<'_>, place: u128) -> Option<u64>
     ensures { result ≡ if is_free holdings.now place then Some place else None }
 {
@@ -165,8 +165,7 @@ fn free_place(holdings: &Holdings<'_>, place: u128) -> Option<u64>
     }
 }
 
-/// Where the way ends, in bytes, that leads from a partition pack over its header metadata, its index table segments
-/// and fills.
+/// Where the way from a partition pack over its header metadata, its index table segments and fills ends, in bytes.
 fn end_of_way(holdings: &Holdings<'_>, partition: &Partition) -> Option<u128>
     ensures { result ≡ end_of_way holdings.now partition.now }
 {
@@ -180,7 +179,7 @@ fn end_of_way(holdings: &Holdings<'_>, partition: &Partition) -> Option<u128>
     }
 }
 
-/// Where one comes to from an offset, in bytes, that goes on over the fills that begin there.
+/// Where one gets from an offset, in bytes, by going on over the fills that begin there.
 fn over_fills(holdings: &Holdings<'_>, offset: u128) -> u128
     ensures { result ≡ over_fills holdings.now offset }
 {
@@ -192,7 +191,7 @@ fn over_fills(holdings: &Holdings<'_>, offset: u128) -> u128
     u128::from(holdings.over_fills(offset as u64))
 }
 
-/// Where a stretch ends, in bytes, of which isn't known what begins there.
+/// Where a stretch ends, in bytes, if it isn't known what begins there.
 fn open_end(stretch: Option<Stretch>) -> Option<u128>
     ensures { result ≡ option_and_then open_end stretch }
 {

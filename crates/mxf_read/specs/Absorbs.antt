@@ -15,11 +15,11 @@ use Rattle.mxf_read.specs.declared.report.AbsorbFault.TheVariants.{OutOfMemory, 
 abbrev pub report_of : ℕ → List ℕ → Report
 report_of offset bytes = record { noted = length (packets_in offset bytes); stop = stop_in offset bytes }
 
--- The notes of the first so many packets of a piece.
+-- The notes of the first `count` packets of a piece.
 abbrev pub first_notes_in : ℕ → ℕ → List ℕ → List NoteParts
 first_notes_in count offset bytes = take count (notes_in offset bytes)
 
--- After so many packets the piece has another note, of a whole packet or of one that its end cuts, and that packet
+-- After `count` packets the piece has another note, of a whole packet or of one that its end cuts, and that packet
 -- begins at a place.
 abbrev pub GoesOnAt : ℕ → ℕ → List ℕ → ℕ → Type 0
 GoesOnAt count offset bytes place = IsSomeAnd (slice_get (notes_in offset bytes) count) (λ next. next.offset ≡ place)
@@ -42,23 +42,23 @@ history_with h offset bytes (Ok report) = Absorb h offset bytes
 history_with h offset bytes (Err (OutOfMemory noted at)) = Cut h offset bytes noted
 history_with h offset bytes (Err (ReadFault noted at)) = Cut h offset bytes noted
 
--- The notes of the first so many packets of a piece are added and nothing else, and the next begins at a place.
+-- The notes of the first `noted` packets of a piece are added and nothing else, and the next begins at a place.
 pub record AddsFirst (old new : List NoteParts) (offset : ℕ) (bytes : List ℕ) (noted at : ℕ) : Type 0 where
   pub within : noted ≤ length (packets_in offset bytes)
   pub added : new ≡ reduced_union old (first_notes_in noted offset bytes)
   pub place : at ≡ end_after offset (take noted (packets_in offset bytes))
 
--- The notes of a piece whose bytes came in parts, after the last of them: all of them, and the report; or, where the
--- head found no memory, those of its packets.
+-- The notes of a piece whose bytes came in parts, after the last of them: all of them, and the report; or, if the head
+-- found no memory, those of its packets.
 abbrev pub Finishes : ℕ → List ℕ → List NoteParts → Result Report AbsorbFault → Type 0
 Finishes offset bytes notes (Ok report) = Absorbs [] notes offset bytes (Ok report)
 Finishes offset bytes notes (Err (OutOfMemory noted at)) = AddsFirst [] notes offset bytes noted at
 Finishes offset bytes notes (Err (ReadFault noted at)) = ⊥
 
--- A piece that a reader gives is absorbed. The bytes taken, at most `limit`, are absorbed as a piece at hand; where it
--- could go on, as many were taken as may be, or the reader has ended. Or a read failed where it could go on: the notes
--- of all packets among the bytes taken are added, and no head. Or memory was wanting: those of the first `noted` of
--- them are.
+-- A piece that a reader gives is absorbed. The bytes taken, at most `limit`, are absorbed as a piece at hand; if it
+-- could go on, as many were taken as may be, or the reader has ended. Or a read failed when it could go on: the notes
+-- of all packets among the bytes taken are added, and no head. Or out of memory: those of the first `noted` of them
+-- are.
 abbrev pub AbsorbsFrom : List NoteParts → List NoteParts → Option (List ℕ) → Option (List ℕ) → ℕ → ℕ
     → Result Report AbsorbFault → Type 0
 AbsorbsFrom old new before after offset limit (Ok report) =

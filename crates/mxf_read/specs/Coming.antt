@@ -1,4 +1,4 @@
--- A packet of which key and length are known, and a front of the value (this project's profile).
+-- A packet whose key and length are known, and a front of the value (this project's profile).
 use Rattle.std.specs.Prelude.{◌≡◌, ℕ, ◌+◌, List, length}
 use Rattle.mxf_klv.specs.KeyAndLength.{BeginsWithKeyAndLength}
 use Rattle.mxf_read.specs.ValueSoFar.{Has}

@@ -41,7 +41,7 @@ pub record IsDifferenceOf (sources : List SourceParts) (d : Difference) : Type 0
 abbrev pub is_near : Difference → Difference → Bool
 is_near d next = nat_le d.first next.first && nat_lt (next.first - d.last) 512
 
--- The differences with one more, which makes one with the last where it is near.
+-- The differences with one more, which makes one with the last if it is near.
 abbrev pub with_near : List Difference → Difference → List Difference
 with_near [] next = next ∷ []
 with_near (d ∷ []) next = if is_near d next then difference d.first (max d.last next.last) ∷ [] else d ∷ next ∷ []

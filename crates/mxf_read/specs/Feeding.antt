@@ -10,7 +10,7 @@ use Rattle.mxf_read.specs.Coming.{HasCome}
 use Rattle.mxf_read.specs.declared.coming.ComingValue.{ComingValue}
 use Rattle.mxf_read.specs.declared.piece.Piece.{Piece}
 
--- The notes are those of the packets that have come whole, and the next packet begins behind them.
+-- The notes are those of the packets that have come whole, and the next packet begins after them.
 pub record Knows (offset : ℕ) (bytes : List ℕ) (p : Piece) : Type 0 where
   pub notes : p.notes ≡ notes_from offset (packets_in offset bytes)
   pub at : p.at ≡ end_after offset (packets_in offset bytes)
@@ -40,28 +40,28 @@ IsFed p = (offset : ℕ) × (bytes : List ℕ) × Fed offset bytes p
 abbrev pub Feeds : Piece → Piece → List ℕ → Type 0
 Feeds old new more = (offset : ℕ) (bytes : List ℕ) → Fed offset bytes old → Fed offset (bytes ++ more) new
 
--- Memory was wanting among these bytes: the notes are those of the packets of a front.
+-- Memory ran out among these bytes: the notes are those of the packets of a front.
 abbrev pub Fails : Piece → Piece → List ℕ → Type 0
 Fails old new more = (offset : ℕ) (bytes : List ℕ) → Fed offset bytes old
     → (done : List ℕ) × (left : List ℕ) × (more ≡ done ++ left) × Knows offset (bytes ++ done) new
 
--- Some bytes were taken from the front of these, so many in all.
+-- Some bytes were taken from the front of these, `n` in all.
 pub record HasTaken (old new : Piece) (bytes : List ℕ) (n : ℕ) : Type 0 where
   pub some : 0 < n
   pub room : n ≤ length bytes
   pub fed : Feeds old new (take n bytes)
 
--- The same; or memory was wanting, and no further packet was noted.
+-- The same; or out of memory, and no further packet was noted.
 abbrev pub TakesFront : {E : Type 0} → Piece → Piece → List ℕ → Result ℕ E → Type 0
 TakesFront old new bytes (Ok n) = HasTaken old new bytes n
 TakesFront old new bytes (Err e) = NotesNone old new
 
--- The value that has begun, where there is one, has more bytes to come than so many.
+-- The value that has begun, if there is one, has more than `left` bytes to come.
 abbrev pub waits_for_more : Option ComingValue → ℕ → Bool
 waits_for_more None left = false
 waits_for_more (Some v) left = nat_lt left v.left
 
--- The head of the packet whose value has begun, where the piece hasn't stopped.
+-- The head of the packet whose value has begun, if the piece hasn't stopped.
 abbrev pub begun_heads : Option Stop → Option ComingValue → List NoteParts
 begun_heads (Some stop) value = []
 begun_heads None None = []

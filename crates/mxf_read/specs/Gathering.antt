@@ -1,5 +1,5 @@
 -- What the parts of a run hold together, and what is at fault in one (this project's profile). A reader is known by the
--- bytes that it has left, where it tells them.
+-- bytes that it has left, if these are known.
 use Rattle.std.specs.Prelude.{◌≡◌, ◌≢◌, ℕ, ◌+◌, ◌<◌, ◌≤◌, ◌⊎◌, List, [], ◌∷◌, ◌++◌, length, take, slice_get}
 use Rattle.std.specs.Prelude.{IsSome, unwrap_or, Option, Some}
 use Rattle.std.specs.List.{AllByRecursion}
@@ -48,13 +48,13 @@ abbrev pub IsSavedAs : List ℕ → List NoteParts → Type 0
 IsSavedAs bytes notes = (length bytes ≤ saved_limit) × IsFileOf bytes notes
 
 module _ {R : Type 0} (left : R → Option (List ℕ)) where
-  -- The reader of the part tells its bytes.
+  -- The bytes that the reader of the part has left are known.
   abbrev pub Tells : Part R → Type 0
   Tells (Piece offset from) = IsSome (left from)
   Tells (Range offset from) = IsSome (left from)
   Tells (Saved from) = IsSome (left from)
 
-  -- The readers of all parts do.
+  -- Those of the readers of all parts are.
   abbrev pub AllTell : List (Part R) → Type 0
   AllTell parts = AllByRecursion Tells parts
 
@@ -95,7 +95,7 @@ module _ {R : Type 0} (left : R → Option (List ℕ)) where
   LeavesOfPart part other = ⊥
 
   -- The history is handed the parts and nothing else, each of them once and in their order: it absorbs a piece, or that
-  -- of a range, behind what it gathered before, reads a saved catalogue, and joins.
+  -- of a range, after what it gathered before, reads a saved catalogue, and joins.
   abbrev pub Gathers : History → List (Part R) → Type 0
   Gathers New parts = parts ≡ []
   Gathers (Add h n) parts = ⊥
@@ -120,7 +120,7 @@ module _ {R : Type 0} (left : R → Option (List ℕ)) where
   reports_in part (Range offset from) = range_report part offset (piece_of from) ∷ []
   reports_in part (Saved from) = []
 
-  -- The reports of pieces and ranges, in their order, where the parts are numbered from a number on.
+  -- The reports of pieces and ranges, in their order, if the parts are numbered from a number on.
   abbrev pub reports_from : ℕ → List (Part R) → List PieceReport
   reports_from number [] = []
   reports_from number (p ∷ parts) = reports_in number p ++ reports_from (number + 1) parts

@@ -77,13 +77,13 @@ pub record AreTold (told : Option (List SourceParts)) (own : List Extent) (sourc
   pub is : told ≡ Some sources
   pub extents : HaveExtents sources own
 
--- The bytes stand behind so many others in the source with this number.
+-- The bytes stand after the first `position` in the source with this number.
 abbrev pub StandAt : List SourceParts → ℕ → ℕ → List ℕ → Type 0
 StandAt sources number position bytes =
     (s : SourceParts) × (more : List ℕ) × (slice_get sources number ≡ Some s)
     × (drop position s.bytes ≡ bytes ++ more)
 
--- One read of a source behind so many of its bytes: bytes were taken, and stand at the front of the room.
+-- One read of a source after `position` of its bytes: bytes were taken, and stand at the front of the room.
 abbrev pub ReadsAt : Option (List SourceParts) → ℕ → ℕ → List ℕ → Step → Type 0
 ReadsAt told number position room (Took n) =
     (0 < n) × (n ≤ length room) × IfSome told (λ sources. StandAt sources number position (take n room))

@@ -8,7 +8,7 @@ use Rattle.mxf_klv.specs.PieceReading.{heads_at, packets_in, rest_in}
 abbrev pub packet_notes : ℕ → List ℕ → List NoteParts
 packet_notes offset bytes = notes_from offset (packets_in offset bytes)
 
--- The head of the packet that its end cuts, where there is one.
+-- The head of the packet that its end cuts, if there is one.
 abbrev pub cut_heads : ℕ → List ℕ → List NoteParts
 cut_heads offset bytes = heads_at (end_after offset (packets_in offset bytes)) (rest_in offset bytes)
 

@@ -4,7 +4,7 @@ use Rattle.mxf_catalogue.specs.declared.run.Run.{Run}
 use Rattle.mxf_catalogue.specs.Covers.{is_between, with_run}
 use Rattle.mxf_catalogue.specs.Runs.{run}
 
--- Runs with the offsets from a start up to an end, where there is one.
+-- Runs with the offsets from a start up to an end, if there is one.
 abbrev pub with_some : ℕ → ℕ → List Run → List Run
 with_some start end runs = if nat_lt start end then with_run (run start end) runs else runs
 

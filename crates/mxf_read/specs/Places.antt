@@ -1,4 +1,4 @@
--- Which source a byte is read of, where several give it (this project's profile).
+-- Which source a byte is read of, if several give it (this project's profile).
 use Rattle.std.specs.Prelude.{◌≡◌, ◌↔◌, ◌⊎◌, ◌<◌, ◌≤◌, ℕ, ◌+◌, List, [], ◌∷◌, ◌++◌, slice_get, Some}
 use Rattle.std.specs.Prelude.{if◌then◌else◌, max, min, nat_lt}
 use Rattle.std.specs.List.Sorted.{IsNonDecreasingBy, IsPermutation}
@@ -37,7 +37,7 @@ abbrev pub AreApart : ℕ → List Place → Type 0
 AreApart low [] = Unit {0}
 AreApart low (p ∷ places) = (low ≤ p.start) × AreApart p.end places
 
--- The places of extents: each offset of an extent lies in one of them, and in one alone. Where the place is of another
+-- The places of extents: each offset of an extent lies in one of them, and in one alone. If the place is of another
 -- source, the offset lies in an overlap of its own source.
 pub record ArePlaces (extents : List Extent) (places overlapping : List Place) (runs : List Run) : Type 0 where
   pub within : (p : Place) → In p places → IsPlaceOf extents p
@@ -54,7 +54,7 @@ pub record ArePlaces (extents : List Extent) (places overlapping : List Place) (
 abbrev pub place : ℕ → ℕ → ℕ → Place
 place start end source = record { start = start; end = end; source = source }
 
--- From a start up to an end, where that has an offset.
+-- From a start up to an end, if that has an offset.
 abbrev pub some_place : ℕ → ℕ → ℕ → List Place
 some_place start end source = if nat_lt start end then place start end source ∷ [] else []
 

@@ -28,7 +28,7 @@ abbrev pub IsStartKey : List ℕ → Type 0
 IsStartKey key = (kind_of key ≢ Other) ⊎ (slice_get key 4 ≡ Some 0x02)
 
 -- A piece may begin at a position of a window, the first byte of which lies at an offset: a whole key and a whole
--- length stand there, the packet ends where it may, and behind it a label begins, as far as there are bytes.
+-- length stand there, the packet ends where it may, and a label follows it, as far as there are bytes.
 pub record MayBegin (offset : ℕ) (window : List ℕ) (position : ℕ) : Type 0 where
   pub key : List ℕ
   pub length : LengthParts
@@ -39,7 +39,7 @@ pub record MayBegin (offset : ℕ) (window : List ℕ) (position : ℕ) : Type 0
   pub next : BeginsAsLabel (drop length.value after)
 
 -- Of each packet by which a piece may begin before a position of a window, the four bytes after it lie among the first
--- so many of the window.
+-- `size` of the window.
 abbrev pub ShowsNextBefore : ℕ → ℕ → List ℕ → ℕ → Type 0
 ShowsNextBefore start offset window size =
     (position : ℕ) → position < start → (may : MayBegin offset window position)
@@ -89,7 +89,7 @@ LeavesTheRest offset old new = IfSome old (λ all. HasNoStart offset (window_of 
 abbrev pub piece_offset : ℕ → List ℕ → ℕ
 piece_offset offset bytes = option_map_or (λ p. offset + p) (start_in offset (window_of bytes)) offset
 
--- The bytes of its piece: those from its start on, behind the window too; without a start, none.
+-- The bytes of its piece: those from its start on, after the window too; without a start, none.
 abbrev pub piece_bytes : ℕ → List ℕ → List ℕ
 piece_bytes offset bytes = option_map_or (λ p. drop p bytes) (start_in offset (window_of bytes)) []
 
@@ -97,13 +97,13 @@ piece_bytes offset bytes = option_map_or (λ p. drop p bytes) (start_in offset (
 abbrev pub range_notes : ℕ → List ℕ → List NoteParts
 range_notes offset bytes = notes_in (piece_offset offset bytes) (piece_bytes offset bytes)
 
--- What is reported of a range without a start: the stop is the first offset behind its window, as far as a `u64` tells
+-- What is reported of a range without a start: the stop is the first offset after its window, as far as a `u64` holds
 -- it.
 abbrev pub no_start : ℕ → ℕ → Report
 no_start offset size = record { noted = 0; stop = NoStart (min (offset + size) (2 ^ 64 - 1)) }
 
--- What is reported of a range that is the part with a number: what is of its piece, where that begins; or that it has
--- no start.
+-- What is reported of a range that is the part with a number: what is of its piece, if that begins; or that it has no
+-- start.
 abbrev pub range_report : ℕ → ℕ → List ℕ → PieceReport
 range_report part offset bytes = record {
   part = part;

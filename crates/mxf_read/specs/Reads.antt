@@ -16,13 +16,13 @@ ReadsOnce old new room Ended = Consumes old new [] × IsAtEnd new
 ReadsOnce old new room Interrupted = Keeps old new
 ReadsOnce old new room Failed = Keeps old new
 
--- The bytes taken from a reader, at most so many.
+-- The bytes taken from a reader, at most `limit`.
 pub record Takes (old new : Option (List ℕ)) (limit : ℕ) (taken : List ℕ) : Type 0 where
   pub within : length taken ≤ limit
   pub consumed : Consumes old new taken
 
--- Many reads: the bytes taken were fed unless memory was wanting. At `Ok` they are as many as may be, or the reader has
--- ended, or the piece has stopped; it hasn't where a read failed.
+-- Many reads: the bytes taken were fed unless memory ran out. At `Ok` they are as many as may be, or the reader has
+-- ended, or the piece has stopped; it hasn't if a read failed.
 abbrev pub ReadsAll : Option (List ℕ) → Option (List ℕ) → Piece → Piece → ℕ → Result (Unit {0}) Cause → Type 0
 ReadsAll old new p q limit (Ok x) =
     (taken : List ℕ) × Takes old new limit taken × Feeds p q taken

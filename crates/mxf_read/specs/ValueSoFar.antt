@@ -9,7 +9,7 @@ abbrev pub is_gathered : ValueSoFar → Bool
 is_gathered (Gathered v) = true
 is_gathered (Digested h) = false
 
--- How many bytes have come of so many, of which some are left.
+-- How many of `total` bytes have come, if `left` of them are left.
 abbrev pub came_of : ValueSoFar → ℕ → ℕ → ℕ
 came_of (Gathered v) total left = length v.items
 came_of (Digested h) total left = total - left

@@ -28,14 +28,14 @@ use std::io::Read;
 /// Packet after packet is noted, up to the first place where none stands whole or one would end above
 /// [`MAX`](mxf_klv::MAX): the report's stop says why and where. A packet that the views hold already is counted too.
 ///
-/// Where the piece ends behind a whole key and length and inside the value, the head of that packet is noted as well.
-/// It is no packet: the report's count is without it, and its place is the stop's.
+/// If the piece ends after a whole key and length and inside the value, the head of that packet is noted as well. It is
+/// no packet: the report's count is without it, and its place is the stop's.
 ///
 /// The piece's own catalogue is made first and then moved into the views at once. So pieces may come in any order:
-/// beside its own packets a piece costs one pass over the held notes, and none where it follows all of them.
+/// beside its own packets a piece costs one pass over the held notes, and none if it follows all of them.
 ///
-/// The only fault is out of memory. Then the notes of the packets that it counts were added, and nothing else. Where
-/// the head alone found no room, all packets are counted, and the fault's place is the head's.
+/// The only fault is out of memory. Then the notes of the packets that it counts were added, and nothing else. If the
+/// head alone found no room, all packets are counted, and the fault's place is the head's.
 pub fn absorb(
     alloc: Global,
     views: &mut Views,
@@ -52,7 +52,7 @@ pub fn absorb(
     absorbed
 }
 
-/// The notes of a piece, and what is reported of it. Behind a fault the notes are those that it counts.
+/// The notes of a piece, and what is reported of it. After a fault the notes are those that it counts.
 #[derive(Debug, Drop)]
 pub struct PieceNotes {
     pub notes: Catalogue,
@@ -63,13 +63,13 @@ pub struct PieceNotes {
 /// a catalogue of their own.
 ///
 /// At most `limit` bytes are taken, and those are noted as [`absorb`] does, however they come.
-/// [`Stop::End`](mxf_klv::Stop) and [`Stop::Truncated`](mxf_klv::Stop) come only where the reader has ended or `limit`
-/// bytes were taken; behind any other stop nothing is read. It holds 65,536 bytes of the reader and one value that is
+/// [`Stop::End`](mxf_klv::Stop) and [`Stop::Truncated`](mxf_klv::Stop) come only if the reader has ended or `limit`
+/// bytes were taken; after any other stop nothing is read. It holds 65,536 bytes of the reader and one value that is
 /// kept; another is digested as it passes.
 ///
-/// Each read that it asks for is counted in `ticks`. An interrupted read is repeated, 1,024 times at most. Where a read
-/// fails the packets that are whole among the bytes taken were noted, and no head. Where memory is wanting the notes
-/// are those of the packets that the fault counts.
+/// Each read that it asks for is counted in `ticks`. An interrupted read is repeated, 1,024 times at most. If a read
+/// fails, the packets that are whole among the bytes taken were noted, and no head. Out of memory, the notes are those
+/// of the packets that the fault counts.
 pub fn notes_from<R: Read>(
     alloc: Global,
     offset: u64,
@@ -97,8 +97,8 @@ pub fn notes_from<R: Read>(
 /// Notes the packets of a piece that a reader gives, the first byte of which lies at a file offset, in bytes.
 ///
 /// The piece is read as [`notes_from`] does, and its notes are moved into the views at once, as those of [`absorb`]
-/// are. Where a read fails the packets that are whole among the bytes taken were noted, and no head. Where memory is
-/// wanting the notes of the packets that the fault counts were added, and nothing else.
+/// are. If a read fails, the packets that are whole among the bytes taken were noted, and no head. Out of memory, the
+/// notes of the packets that the fault counts were added, and nothing else.
 pub fn absorb_from<R: Read>(
     alloc: Global,
     views: &mut Views,
@@ -124,7 +124,7 @@ pub fn absorb_from<R: Read>(
 }
 
 /// Moves the notes of a piece at a file offset into the views. The only fault is out of memory, at the piece's offset,
-/// where it has notes; then none was added.
+/// and only if it has notes; then none was added.
 fn merge_notes(views: &mut Views, offset: u64, notes: Catalogue) -> Result<(), AbsorbFault>
     ensures merged { OnOk result (views.new ≡ reduced_union views.old notes) }
     ensures err { OnErr result (views.new ≡ views.old) }
@@ -235,8 +235,8 @@ fn note_packet(
     }
 }
 
-/// Adds the head of the packet at the front of a piece at a file offset to a catalogue, where key and length are whole
-/// and the value is cut.
+/// Adds the head of the packet at the front of a piece at a file offset to a catalogue, if key and length are whole and
+/// the value is cut.
 fn note_head(catalogue: &mut Catalogue, offset: u64, bytes: &[u8]) -> Result<(), OutOfMemory>
     ensures noted { OnOk result (catalogue.new ≡ reduced_union catalogue.old (heads_at offset bytes.now)) }
     ensures err { OnErr result (catalogue.new ≡ catalogue.old) }
@@ -255,9 +255,9 @@ pub fn packets_of_a_piece_stand_apart()
     ensures apart { (offset : ℕ) (bytes : List ℕ) → AreApart offset (notes_in offset bytes) }
 {}
 
-/// A law of [`absorb`]: where a piece goes on at an offset after so many packets, the rest of it from there on is a
-/// piece that has the other packets, the same head and the same stop. So what a refused call counts and one of the rest
-/// complete the piece.
+/// A law of [`absorb`]: if a piece goes on at an offset after a number of packets, the rest of it from there on is a
+/// piece that has the other packets, the same head and the same stop. So what a refused call counts and a call with the
+/// rest complete the piece.
 pub fn going_on_completes_a_piece()
     ensures within { (noted offset : ℕ) (bytes : List ℕ) (at : ℕ) → GoesOnAt noted offset bytes at
         → (offset ≤ at) × (at < offset + length bytes) }
@@ -269,9 +269,9 @@ pub fn going_on_completes_a_piece()
         → content (Absorb (Cut h offset bytes noted) at (drop (at - offset) bytes)) ≡ content (Absorb h offset bytes) }
 {}
 
-/// A law of [`absorb_from`]: where it was refused, out of memory or by a read that failed, absorbing the piece
-/// from the place that the fault tells leaves what absorbing the whole piece does, whatever bytes follow those that
-/// were taken. The packets of both together are as many, and the stop is the same.
+/// A law of [`absorb_from`]: if it was refused, out of memory or by a read that failed, absorbing the piece from the
+/// place that the fault gives leaves what absorbing the whole piece does, whatever bytes follow those that were taken.
+/// Both together count as many packets, and the stop is the same.
 pub fn going_on_after_a_fault_completes_a_piece()
     ensures from { (old new : List NoteParts) (offset : ℕ) (taken more : List ℕ) (noted at : ℕ)
         → AddsFirst old new offset taken noted at → offset ≤ at }

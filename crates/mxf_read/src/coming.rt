@@ -16,7 +16,7 @@ pub(crate) enum ValueSoFar {
     Digested(Sha256),
 }
 
-/// A packet at an offset of which key and length are known, and a front of the value has come.
+/// A packet at an offset: its key and length are known, and a front of the value has come.
 ///
 /// A value that a note keeps is gathered, in room that is taken at the start. Another is digested as it passes.
 #[derive(Drop)]
@@ -93,8 +93,8 @@ impl ComingValue {
         Ok(())
     }
 
-    /// The note of the packet, the value of which has come whole. The digest of no byte is at hand, as many packets
-    /// have no value.
+    /// The note of the packet, whose value has come whole. The digest of no byte is at hand, since many packets have no
+    /// value.
     pub(crate) fn into_note(self, of_nothing: [u8; 32]) -> Note
         requires left { self.left ≡ 0 }
         requires of_nothing { of_nothing ≡ sha256 [] }
@@ -118,7 +118,7 @@ impl ComingValue {
     }
 }
 
-/// The digest of a value of so many bytes, which the hasher has taken.
+/// The digest of a value of `count` bytes, which the hasher has taken.
 fn digest_of(hasher: Sha256, count: u64, of_nothing: [u8; 32]) -> [u8; 32]
     requires { of_nothing ≡ sha256 [] }
     ensures { (m : List ℕ) → Holds256 hasher m → length m ≡ count → result ≡ sha256 m }

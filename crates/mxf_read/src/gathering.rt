@@ -50,7 +50,7 @@ pub struct Gathered {
     pub reports: PieceReports,
 }
 
-/// The notes of the piece that a reader gives, of which so many bytes are read at most, and what is reported of it.
+/// The notes of the piece that a reader gives, and what is reported of it. No more than `limit` bytes are read.
 fn read_piece<R: Read>(
     alloc: Global,
     offset: u64,
@@ -112,7 +112,7 @@ fn read_range<R: Read>(
     ))
 }
 
-/// What is reported of a range without a start, whose window has so many bytes.
+/// What is reported of a range without a start, whose window has `size` bytes.
 fn no_start(offset: u64, size: usize) -> Report
     ensures { result ≡ no_start offset size }
 {
@@ -189,13 +189,13 @@ fn take_part<R: Read + Drop>(
 
 /// What all parts hold together. Of each piece or range 1,099,511,627,776 bytes are read at most; the file of a
 /// catalogue has 1,073,741,824 bytes at most. A range's start is searched for in its first 33,554,432 bytes, which are
-/// held in memory that is kept from range to range; where there is none the range hands nothing, and nothing more of it
+/// held in memory that is kept from range to range. If there is none, the range hands nothing, and nothing more of it
 /// is read.
 ///
 /// Whatever the order, the repeats and the joins of the parts, the notes are exactly those that the parts hand: any
 /// calls that were handed the same notes hold the same and write the same bytes. Each view is its function of the
-/// notes. The disputed notes are those that share a byte with a different one. Where the notes are those of a
-/// well-formed whole file, the views of partitions, copies and indexes are those of reading it from the front.
+/// notes. The disputed notes are those that share a byte with a different one. If the notes are those of a well-formed
+/// whole file, the views of partitions, copies and indexes are those of reading it from the front.
 ///
 /// The first part that is at fault ends the run. The parts are dropped in every case.
 pub fn gather<R: Read + Drop>(alloc: Global, parts: Vec<Part<R>>) -> Result<Gathered, GatherFault>
@@ -209,7 +209,7 @@ pub fn gather<R: Read + Drop>(alloc: Global, parts: Vec<Part<R>>) -> Result<Gath
         → IfOk result (λ _. AllByRecursion (IsGood R.remaining) parts.items) }
     ensures fault { AllTell R.remaining parts.items → IfErr result (IsGatherFault R.remaining parts.items) }
 
-    // Whatever the readers tell, a fault has the number of a part.
+    // Whatever the readers give, a fault has the number of a part.
     ensures number { IfErr result (λ f. f.part < length parts.items) }
 {
     let mut levels = Levels::new(alloc);

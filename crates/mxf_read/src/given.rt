@@ -23,7 +23,7 @@ use std::alloc::{AllocError, AllocFailed};
 use std::marker::Model;
 use thiserror::Error;
 
-/// Where the bytes of a source lie in the file: so many from a file offset on. They end at or below
+/// Where the bytes of a source lie in the file: a number of bytes from a file offset on. They end at or below
 /// [`MAX`](mxf_klv::MAX).
 #[derive(Clone, Copy, Debug, PartialEq, Eq)]
 pub struct Extent {

@@ -1,23 +1,23 @@
-//! Pieces of a file, noted into views (this project's profile): the entrance for who has bytes. What is then asked of
-//! the views, mxf_views says; the crate mxf_example is a whole program.
+//! Pieces of a file, noted into views (this project's profile): the entrance for callers that have bytes. What is then
+//! asked of the views, mxf_views says; the crate mxf_example is a whole program.
 //!
 //! A piece is bytes that begin at a packet, and the file offset of the first, in bytes. Pieces may come in any order,
 //! overlap and repeat.
 //!
 //! What is proved: after [`absorb`] the views hold what they held and the notes of the piece: those of its packets, and
-//! the head of the packet that its end cuts. The report tells the number of packets and why they end. Where memory was
-//! wanting the views hold what they held and the notes of the packets that the fault counts, and
-//! [`going_on_completes_a_piece`] says that the rest completes the piece; [`going_on_after_a_fault_completes_a_piece`]
-//! says it of what a reader gave. [`packets_of_a_piece_stand_apart`] says how the notes of a piece lie.
+//! the head of the packet that its end cuts. The report gives the number of packets and why they end. Out of memory,
+//! the views hold what they held and the notes of the packets that the fault counts, and [`going_on_completes_a_piece`]
+//! says that the rest completes the piece; [`going_on_after_a_fault_completes_a_piece`] says it of what a reader gave.
+//! [`packets_of_a_piece_stand_apart`] says how the notes of a piece lie.
 //!
-//! [`notes_from`] makes a catalogue of the notes of a piece, where no views are wanted; [`absorb_from`] is that, and
+//! [`notes_from`] makes a catalogue of the notes of a piece, if no views are wanted; [`absorb_from`] does that and
 //! moves them into views.
 //!
 //! [`gather`] takes any number of pieces, ranges and saved catalogues, from readers: what they hold together is exactly
 //! what they hand, and a fault names the part that it is of. A range is bytes whose first may lie inside a packet:
 //! [`start_of`] says where its piece begins, and [`each_range_has_one_start`] that this is the one place. It is looked
 //! for in the first 33,554,432 bytes, and [`each_start_in_the_window_is_found`] says that none is missed there. Each
-//! read, also of who reads otherwise, is a [`read_step`].
+//! read, also by callers that read otherwise, is a [`read_step`].
 //!
 //! That memory is there, and that a call succeeds with it, is tested.
 //!

@@ -17,7 +17,7 @@ const GREATEST_HEAD: usize = 25;
 
 /// A piece whose bytes come in parts: the notes of the packets that have come whole, and what has come of the next.
 ///
-/// Of that one it holds no more than the key and the length, and the value where it is kept.
+/// Of that one it holds no more than the key and the length, and the value if it is kept.
 #[derive(Drop)]
 pub(crate) struct Piece {
     alloc: Global,
@@ -73,7 +73,7 @@ impl Piece {
         }
     }
 
-    /// Whether any of the last `left` bytes is wanted: none is behind a stop, nor inside a value that they don't end.
+    /// Whether any of the last `left` bytes is wanted: none is after a stop, nor inside a value that they don't end.
     pub(crate) fn wants(&self, left: u64) -> bool
         ensures more { IsTrue result → 0 < left }
         ensures enough { result ≡ false → (o : ℕ) (m x : List ℕ) → length x ≡ left → Fed o m self.now
@@ -82,7 +82,7 @@ impl Piece {
         left > 0 && !self.has_stopped() && !self.is_cut(left)
     }
 
-    /// What is noted of the piece, where no more bytes come.
+    /// What is noted of the piece, when no more bytes come.
     pub(crate) fn report(&self) -> Report
         ensures { (o : ℕ) (m : List ℕ) → Fed o m self.now → result ≡ report_of o m }
     {
@@ -102,7 +102,7 @@ impl Piece {
         }
     }
 
-    /// Adds the head of the next packet, where key and length have come whole. No more bytes come.
+    /// Adds the head of the next packet, if key and length have come whole. No more bytes come.
     pub(crate) fn add_head(&mut self) -> Result<(), OutOfMemory>
         ensures added { OnOk result ((o : ℕ) (m : List ℕ) → Fed o m self.old
             → self.new.notes ≡ reduced_union self.old.notes (heads_at self.old.at (rest_in o m))) }
@@ -117,7 +117,7 @@ impl Piece {
         Ok(())
     }
 
-    /// The head of the next packet, where its value has begun and the piece hasn't stopped.
+    /// The head of the next packet, if its value has begun and the piece hasn't stopped.
     pub(crate) fn cut_head(&self) -> Option<Note>
         ensures { option_list result ≡ begun_heads self.now.stop self.now.value }
     {
@@ -177,8 +177,8 @@ impl Piece {
         }
     }
 
-    /// Takes bytes of the next packet's key and length, and says how many. Where they come whole, they are read where
-    /// they lie.
+    /// Takes bytes of the next packet's key and length, and says how many. If they come whole, they are read where they
+    /// lie.
     fn take_head(&mut self, bytes: &[u8]) -> Result<usize, OutOfMemory>
         requires fed { IsFed self.old }
         requires goes_on { self.old.stop ≡ None }
@@ -199,7 +199,7 @@ impl Piece {
         }
     }
 
-    /// Takes bytes of the next packet's key and length, behind those that came before, and says how many.
+    /// Takes bytes of the next packet's key and length, after those that came before, and says how many.
     fn take_more_of_head(&mut self, bytes: &[u8]) -> Result<usize, OutOfMemory>
         requires fed { IsFed self.old }
         requires goes_on { self.old.stop ≡ None }
@@ -246,7 +246,7 @@ impl Piece {
         Ok(count)
     }
 
-    /// Notes the next packet where its value has come whole, and waits for the rest of it elsewhere.
+    /// Notes the next packet if its value has come whole, and otherwise waits for the rest of it.
     fn go_on(&mut self, value: ComingValue) -> Result<(), OutOfMemory>
         requires goes_on { self.old.stop ≡ None }
         requires value { self.old.value ≡ None }
@@ -267,7 +267,7 @@ impl Piece {
     }
 }
 
-/// Whether more bytes may lead on behind this stop.
+/// Whether more bytes may lead on after this stop.
 fn may_go_on(stop: Stop) -> bool
     ensures { IsTrue result ↔ IsOpen stop }
 {

@@ -19,9 +19,9 @@ const GROUPS: u8 = 0x02;
 /// byte lies at `offset`, in bytes, and may lie inside a packet.
 ///
 /// A piece may begin where a whole key and a whole length stand, the packet ends at or below [`MAX`](mxf_klv::MAX), and
-/// a label begins behind it, as far as the window has bytes. The key is of a kind that isn't
-/// [`Kind::Other`](mxf_klv::Kind), or of the groups registry. So a label in the value of a primer, a pack or a set is
-/// passed over. Bytes of essence that look like a packet aren't told from one.
+/// a label follows it, as far as the window has bytes. The key is of a kind that isn't [`Kind::Other`](mxf_klv::Kind),
+/// or of the groups registry. So a label in the value of a primer, a pack or a set is passed over. Bytes of essence
+/// that look like a packet aren't told from one.
 ///
 /// It is one pass over the window, with a test of bounded time at each label.
 pub fn start_of(offset: u64, window: &[u8]) -> Option<usize>
@@ -71,7 +71,7 @@ fn is_start_key(key: &Ul) -> bool
     !matches!(kind(key), Kind::Other) || key.bytes()[4] == GROUPS
 }
 
-/// The bytes behind the first so many.
+/// The bytes after the first `size`.
 fn behind(bytes: &[u8], size: u64) -> &[u8]
     ensures { result.now ≡ drop size bytes.now }
 {
@@ -89,7 +89,7 @@ fn begins_as_label(bytes: &[u8]) -> bool
     bytes[..present] == LABEL_START[..present]
 }
 
-/// A law: a window has one start, the one that `start_in` gives, and none exactly where a piece may begin at none of
+/// A law: a window has one start, the one that `start_in` gives. It has none exactly if a piece may begin at none of
 /// its positions.
 pub fn each_range_has_one_start()
     ensures some { (offset : ℕ) (window : List ℕ) (start : ℕ)

@@ -14,7 +14,7 @@ pub const GREATEST_INTERRUPTIONS: u32 = 1024;
 /// What one read came to.
 #[derive(Clone, Copy, Debug, PartialEq, Eq)]
 pub enum Step {
-    /// So many bytes were taken, at least one. They stand at the front of the room.
+    /// This many bytes were taken, at least one. They stand at the front of the room.
     Took(usize),
     /// The reader has ended.
     Ended,

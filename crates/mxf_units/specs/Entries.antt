@@ -1,4 +1,4 @@
--- What index entries say of an edit unit (ST 377-1, Index Table Segment; what stands where segments disagree is this
+-- What index entries say of an edit unit (ST 377-1, Index Table Segment; what holds if segments disagree is this
 -- project's profile).
 use Rattle.std.specs.Prelude.{◌≡◌, ◌^◌, ◌<◌, ℕ, ℤ, pos, ◌+ℤ◌, Option, None, Some, List}
 use Rattle.mxf_klv.specs.Parts.{NoteParts}
@@ -26,7 +26,7 @@ pub record IsEntryOf (notes : List NoteParts) (index_sid unit : ℕ) (e : IndexE
 abbrev pub LiesAt : ℕ → ℤ → ℕ → Type 0
 LiesAt unit distance x = pos unit +ℤ distance ≡ pos x
 
--- The key frame at a distance from a unit; none where no number of a unit, below 2^64, lies there.
+-- The key frame at a distance from a unit; none if no number of a unit, below 2^64, lies there.
 abbrev pub IsKeyFrame : ℕ → ℤ → Option ℕ → Type 0
 IsKeyFrame unit distance (Some key) = LiesAt unit distance key × (key < 2 ^ 64)
 IsKeyFrame unit distance None = (key : ℕ) → LiesAt unit distance key → key < 2 ^ 64 → ⊥

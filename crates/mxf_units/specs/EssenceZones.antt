@@ -29,7 +29,7 @@ use Rattle.mxf_units.specs.declared.essence_zone.EssenceZone.{EssenceZone}
 use Rattle.mxf_units.specs.declared.essence_zone.part.StreamPart.{StreamPart}
 use Rattle.mxf_units.specs.Streams.{least_above, next_of}
 
--- Where the bytes behind the header metadata and the index table segments of a partition begin, where that is known.
+-- Where the bytes after the header metadata and the index table segments of a partition begin, if that is known.
 abbrev pub behind_index : List NoteParts → PartitionParts → Option ℕ
 behind_index notes p =
     if nat_lt 0 p.pack.numbers.index_byte_count then option_and_then known_end (index_of notes p)
@@ -45,14 +45,14 @@ may_be_essence kinds.Essence = true
 may_be_essence kinds.Other = true
 may_be_essence _ = false
 
--- The packet at an offset, whole or head, where it may be essence and shares no byte with another.
+-- The packet at an offset, whole or head, if it may be essence and shares no byte with another.
 abbrev pub essence_at : List NoteParts → ℕ → Option NoteParts
 essence_at notes x =
     option_and_then (λ n. if may_be_essence (kind_of n.key) then Some n else None)
     (find (λ n. n.offset == x) (undisputed_notes notes))
 
--- The first packet of the essence of a partition: the one behind its header metadata and its index table segments, and
--- behind the fills that follow these.
+-- The first packet of the essence of a partition: the one after its header metadata and its index table segments, and
+-- after the fills that follow these.
 unfoldable pub first_packet : List NoteParts → PartitionParts → Option NoteParts
 first_packet notes p = option_and_then (λ x. essence_at notes (over_fills notes x)) (behind_index notes p)
 
@@ -66,7 +66,7 @@ is_clip_wrapped notes p n =
     is_essence (kind_of n.key) && (p.pack.numbers.body_offset == 0)
     && begins_inside n (next_of (segments_of notes) p.pack.numbers.body_sid 0)
 
--- A place that a pack names, where it isn't known whole what begins there: it is missing or disputed.
+-- A place that a pack names, if it isn't known whole what begins there: it is missing or disputed.
 abbrev pub is_open_place : List NoteParts → ℕ → Bool
 is_open_place notes x =
     is_in_file notes x && (is_disputed_at notes x || begins_clear_head notes x || not (is_held notes x))
@@ -78,7 +78,7 @@ open_place notes c = option_and_then (λ x. if is_open_place notes x then Some x
 abbrev pub bounds_of : List NoteParts → List ℕ
 bounds_of notes = map (λ p. p.offset) (partitions_of notes) ++ filter_map (open_place notes) (claims_of notes)
 
--- The offset of the only random index pack, where the end of the file is known.
+-- The offset of the only random index pack, if the end of the file is known.
 abbrev pub rip_place_by : Option ℕ → RipView → Option ℕ
 rip_place_by end Absent = None
 rip_place_by end Several = None
@@ -107,7 +107,7 @@ is_sure notes p limit =
     option_map_or (λ x. is_one (rip_view_of notes) || names_before notes x p.offset) limit false
 
 -- The essence of a partition by its first packet. Its origin is where the bytes lie that BodyOffset counts from: the
--- packets of the stream with keys, lengths and fills, but where one packet has all units the bytes of its value.
+-- packets of the stream with keys, lengths and fills, but if one packet has all units, the bytes of its value.
 abbrev pub zone_by : List NoteParts → PartitionParts → NoteParts → EssenceZone
 zone_by notes p n =
     let limit = limit_of notes p in
@@ -148,7 +148,7 @@ part_cmp =
     (then_cmp (on (λ p. p.body_offset) nat_cmp)
     (then_cmp (on (λ p. p.zone) (option_cmp zone_cmp)) (on (λ p. p.partition) nat_cmp)))
 
--- Each part comes behind all later ones.
+-- Each part comes after all later ones.
 abbrev pub IsFalling : List StreamPart → Type 0
 IsFalling [] = Unit {0}
 IsFalling (p ∷ parts) = AllByRecursion (λ q. part_cmp q p ≡ Less) parts × IsFalling parts
@@ -173,7 +173,7 @@ chosen (p ∷ q ∷ parts) =
 abbrev pub begins_with : StreamPart → StreamPart → Bool
 begins_with p q = (p.body_sid == q.body_sid) && (p.body_offset == q.body_offset)
 
--- The same of parts from the last to the first of which none begins behind the offset: by the first and the second.
+-- The same of parts from the last to the first if none of them begins after the offset: by the first and the second.
 abbrev pub by_second : StreamPart → List StreamPart → Result EssenceZone UnitStanding
 by_second p [] = ok_or p.zone standings.Unknown
 by_second p (q ∷ parts) =

@@ -19,7 +19,7 @@ IsLastPlace notes index_sid body_sid offset =
     (next : ℕ) → IsNext (segments_for notes index_sid) body_sid offset next → ⊥
 
 -- The bytes end at the next place that a segment of the index gives. After the last one they end at the limit of the
--- zone if that is sure, and else nowhere.
+-- zone if that is sure, and otherwise nowhere.
 abbrev pub IsExtentEnd : List NoteParts → ℕ → ℕ → ℕ → EssenceZone → Option ℕ → Type 0
 IsExtentEnd notes index_sid body_sid offset zone (Some end) =
     ((next : ℕ) × IsNext (segments_for notes index_sid) body_sid offset next × HasOffset zone next end)
@@ -42,7 +42,7 @@ pub record IsExtentOf (notes : List NoteParts) (index_sid unit : ℕ) (e : Exten
   pub start_within : (limit : ℕ) → zone.limit ≡ Some limit → e.start < limit
   pub end_within : (limit end : ℕ) → zone.limit ≡ Some limit → e.end ≡ Some end → end ≤ limit
 
--- Of a unit that stands so it is told where it lies.
+-- If a unit stands so, it is given where it lies.
 abbrev pub IsTold : UnitStanding → Type 0
 IsTold standing =
     (standing ≡ standings.Disputed) ⊎ ((standing ≡ standings.Missing) ⊎ ((standing ≡ standings.Part)

@@ -25,13 +25,13 @@ pub record IsAlone (notes : List NoteParts) (n : NoteParts) : Type 0 where
   pub held : In n notes
   pub undisputed : ¬ IsDisputed n notes
 
--- Where the bytes behind the header metadata and the index table segments of a partition begin.
+-- Where the bytes after the header metadata and the index table segments of a partition begin.
 abbrev pub IsBehindIndex : List NoteParts → PartitionParts → ℕ → Type 0
 IsBehindIndex notes p x =
     ((p.pack.numbers.index_byte_count ≡ 0) × IsBehindMetadata notes p x)
     ⊎ ((s : Stretch) × AreSegments notes p s × (s.is_open ≡ false) × (x ≡ s.end))
 
--- The packet stands behind the header metadata and the index table segments of a partition and the fills there; it is
+-- The packet stands after the header metadata and the index table segments of a partition and the fills there; it is
 -- essence, or of a kind that isn't known.
 pub record IsFirstPacket (notes : List NoteParts) (p : PartitionParts) (n : NoteParts) : Type 0 where
   pub from : ℕ

@@ -1,4 +1,4 @@
--- Edit units of one size, and the next place behind an offset of a stream by them and by what other segments list (ST
+-- Edit units of one size, and the next place after an offset of a stream by them and by what other segments list (ST
 -- 377-1, Index Table Segment). A law says that it is the next place of all segments.
 use Rattle.std.specs.Prelude.{◌≡◌, ◌+◌, ◌-◌, ◌*◌, ◌/◌, ◌^◌, ◌<◌, ◌==◌, ◌||◌, ℕ, max, min, nat_lt, if◌then◌else◌}
 use Rattle.std.specs.Prelude.{List, Option, None, Some, unsigned_abs}
@@ -9,7 +9,7 @@ use Rattle.mxf_units.specs.Streams.{least_above, lesser, next_of, offsets_in}
 use Rattle.mxf_units.specs.declared.constant_units.ConstantUnits.{ConstantUnits}
 use Rattle.mxf_views.specs.declared.index.place.StreamPlace.{StreamPlace}
 
--- The units of a segment, where they have one size.
+-- The units of a segment, if they have one size.
 abbrev pub constant_units : SegmentAtParts → Option ConstantUnits
 constant_units s =
     let n = s.segment.numbers in
@@ -32,7 +32,7 @@ place_above offset c =
     if c.duration == 0 || nat_lt unit (c.start + c.duration)
     then Some (record { body_sid = c.body_sid; offset = c.unit_bytes * unit }) else None
 
--- Offsets of all streams as numbers, those of a stream behind those of streams of lesser BodySIDs.
+-- Offsets of all streams as numbers, those of a stream after those of streams of lesser BodySIDs.
 abbrev pub number_of : ℕ → ℕ → ℕ
 number_of body_sid offset = body_sid * 2 ^ 96 + offset
 
@@ -53,7 +53,7 @@ pub record NextPlacesParts : Type 0 where
   pub listed : List StreamPlace
   pub units : List ConstantUnits
 
--- The next place behind an offset by these.
+-- The next place after an offset by these.
 abbrev pub next_by : NextPlacesParts → ℕ → ℕ → Option ℕ
 next_by p body_sid offset =
     lesser (least_above offset (offsets_in body_sid p.listed))
@@ -68,7 +68,7 @@ AreNextPlaces segments p = (body_sid offset : ℕ) → next_by p body_sid offset
 abbrev pub first_unit : SegmentAtParts → ℕ
 first_unit s = unsigned_abs s.segment.numbers.start
 
--- It gives no greater unit a place: of those that can be asked for, where it has no end.
+-- It gives no greater unit a place: of those that can be asked for, if it has no end.
 abbrev pub units_end : SegmentAtParts → ℕ
 units_end s =
     let start = unsigned_abs s.segment.numbers.start in

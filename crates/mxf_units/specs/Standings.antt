@@ -22,7 +22,7 @@ pub record BeginsUpTo (notes : List NoteParts) (body_sid offset : ℕ) (p : Part
   pub body : p.pack.numbers.body_sid ≡ body_sid
   pub begins : p.pack.numbers.body_offset ≤ offset
 
--- One of the last of these: none begins behind it.
+-- One of the last of these: none begins after it.
 pub record IsLast (notes : List NoteParts) (body_sid offset : ℕ) (p : PartitionParts) : Type 0 where
   pub begins : BeginsUpTo notes body_sid offset p
   pub last : (q : PartitionParts) → BeginsUpTo notes body_sid offset q
@@ -45,7 +45,7 @@ IsZone notes body_sid offset (Err standings.Several) =
     ⊎ ((r : PartitionParts) → IsLast notes body_sid offset r → zone_of notes r ≡ None))
 IsZone notes body_sid offset (Err _) = ⊥
 
--- The bytes begin or end behind the limit of a zone.
+-- The bytes begin or end after the limit of a zone.
 pub record GoesBehind (zone : EssenceZone) (e : Extent) : Type 0 where
   pub limit : ℕ
   pub limit_is : zone.limit ≡ Some limit
@@ -64,13 +64,13 @@ AnyKnown known from to = (x : ℕ) × IsKnown known x × (from ≤ x) × (x < to
 abbrev pub AnyDisputed : List NoteParts → ℕ → ℕ → Type 0
 AnyDisputed notes from to = (x : ℕ) × IsDisputedAt notes x × (from ≤ x) × (x < to)
 
--- The bytes lie in their partition: they don't go behind its limit, and that is sure, or all is held from the origin on
+-- The bytes lie in their partition: they don't go past its limit, and that is sure, or all is held from the origin on
 -- up to where they are asked about.
 pub record LiesInside (notes : List NoteParts) (zone : EssenceZone) (e : Extent) : Type 0 where
   pub within : ¬ GoesBehind zone e
   pub sure : (zone.is_sure ≡ true) ⊎ AllHeld notes zone.origin (asked_end e)
 
--- How bytes stand of which it is known where they are looked for.
+-- How bytes stand if it is known where they are looked for.
 abbrev pub IsStandingIn : KnownParts → EssenceZone → Extent → UnitStanding → Type 0
 IsStandingIn known zone e standings.Elsewhere = GoesBehind zone e
 IsStandingIn known zone e standings.Unsure =
@@ -92,7 +92,7 @@ IsStandingIn known zone e standings.Hand =
     × (¬ AllHeld known.notes e.start (asked_end e))
 IsStandingIn known zone e _ = ⊥
 
--- How a unit stands of which the place is known.
+-- How a unit stands whose place is known.
 abbrev pub IsStandingAt : KnownParts → ℕ → ℕ → ℕ → UnitStanding → Type 0
 IsStandingAt known index_sid body_sid offset standing =
     IsZone known.notes body_sid offset (Err standing)

@@ -1,5 +1,5 @@
 -- Places in essence streams, and what segments of an index say of an edit unit (ST 377-1, Index Table Segment; what
--- stands where segments disagree is this project's profile).
+-- holds if segments disagree is this project's profile).
 use Rattle.std.specs.Prelude.{◌≡◌, ℕ, ◌+◌, ◌/◌, ◌^◌, ◌<◌, ◌≤◌, Bool, false, ◌&&◌, ◌==◌, not, nat_lt, max, min}
 use Rattle.std.specs.Prelude.{if◌then◌else◌}
 use Rattle.std.specs.Prelude.{Option, None, Some, Result, Err, List, [], ◌∷◌, ◌++◌, filter, unsigned_abs}
@@ -24,13 +24,13 @@ pub record IsStreamPlace (segments : List SegmentAtParts) (body_sid offset : ℕ
   pub unit : ℕ
   pub given : stream_offset by.segment unit ≡ Some offset
 
--- The next place behind an offset: the least above it that is given.
+-- The next place after an offset: the least above it that is given.
 pub record IsNext (segments : List SegmentAtParts) (body_sid offset next : ℕ) : Type 0 where
   pub given : IsStreamPlace segments body_sid next
   pub above : offset < next
   pub least : (other : ℕ) → IsStreamPlace segments body_sid other → offset < other → next ≤ other
 
--- That, or none where none is given above.
+-- That, or none if none is given above.
 abbrev pub IsNextOf : List SegmentAtParts → ℕ → ℕ → Option ℕ → Type 0
 IsNextOf segments body_sid offset None = (x : ℕ) → IsStreamPlace segments body_sid x → x ≤ offset
 IsNextOf segments body_sid offset (Some next) = IsNext segments body_sid offset next
@@ -54,7 +54,7 @@ abbrev pub only_place : Option StreamPlace → List StreamPlace → Result Strea
 only_place seen [] = ok_or seen standings.NotIndexed
 only_place seen (p ∷ places) = if is_other_place seen p then Err standings.Ambiguous else only_place (Some p) places
 
--- The place of a unit, where the segments that give one agree.
+-- The place of a unit, if the segments that give one agree.
 abbrev pub place_of : List SegmentAtParts → ℕ → Result StreamPlace UnitStanding
 place_of segments unit = only_place None (filter_map (place_in unit) segments)
 
@@ -64,13 +64,13 @@ listed_in s =
     filter_map (λ unit. place_in unit s)
     (range_with_len (unsigned_abs s.segment.numbers.start) (entry_count s.segment))
 
--- The first place above an offset that a segment gives of which all units have one size.
+-- The first place above an offset that a segment gives whose units all have one size.
 unfoldable pub sized_above : ℕ → SegmentAtParts → Option StreamPlace
 sized_above offset s =
     let n = s.segment.numbers in
     if is_constant n then place_in (max (unsigned_abs n.start) (offset / n.unit_bytes + 1)) s else None
 
--- The places that segments give, but of those above an offset that one of units of one size gives the first alone.
+-- The places that segments give; of those above an offset that a segment of units of one size gives, only the first.
 abbrev pub places_above : ℕ → List SegmentAtParts → List StreamPlace
 places_above offset segments = flat_map listed_in segments ++ filter_map (sized_above offset) segments
 
@@ -81,7 +81,7 @@ offset_in body_sid p = if p.body_sid == body_sid then Some p.offset else None
 abbrev pub offsets_in : ℕ → List StreamPlace → List ℕ
 offsets_in body_sid places = filter_map (offset_in body_sid) places
 
--- The lesser of two numbers, where there are any.
+-- The lesser of two numbers, if there are any.
 abbrev pub lesser : Option ℕ → Option ℕ → Option ℕ
 lesser None y = y
 lesser (Some x) None = Some x
@@ -92,15 +92,15 @@ abbrev pub least_above : ℕ → List ℕ → Option ℕ
 least_above low [] = None
 least_above low (x ∷ xs) = lesser (if nat_lt low x then Some x else None) (least_above low xs)
 
--- The offset of a place in a stream, where it lies above another.
+-- The offset of a place in a stream, if it lies above another.
 abbrev pub offset_above : ℕ → ℕ → StreamPlace → Option ℕ
 offset_above body_sid low p = if nat_lt low p.offset then offset_in body_sid p else None
 
--- The next place behind an offset in a stream.
+-- The next place after an offset in a stream.
 abbrev pub next_of : List SegmentAtParts → ℕ → ℕ → Option ℕ
 next_of segments body_sid offset = least_above offset (offsets_in body_sid (places_above offset segments))
 
--- The numbers that place a unit in a segment are small: those of segments of which all units have one size are the
+-- The numbers that place a unit in a segment are small: those of segments whose units all have one size are the
 -- greatest.
 abbrev pub IsSmall : StreamPlace → Type 0
 IsSmall p = p.offset < 2 ^ 96
@@ -123,6 +123,6 @@ abbrev pub only_entry : Option IndexEntry → List IndexEntry → Option IndexEn
 only_entry seen [] = seen
 only_entry seen (e ∷ entries) = if is_other_entry seen e then None else only_entry (Some e) entries
 
--- The entry of a unit, where the segments that list it agree on it.
+-- The entry of a unit, if the segments that list it agree on it.
 abbrev pub entry_of : List SegmentAtParts → ℕ → Option IndexEntry
 entry_of segments unit = only_entry None (filter_map (λ s. index_entry s.segment unit) segments)

@@ -58,7 +58,7 @@ index_sids_of notes = union nat_cmp [] (map (λ s. s.segment.numbers.index_sid) 
 abbrev pub file_offset : EssenceZone → ℕ → ℕ
 file_offset zone offset = zone.origin + (offset - zone.body_offset)
 
--- From a place of a stream up to the next one; behind the last one up to the end of the zone, where that is known.
+-- From a place of a stream up to the next one; after the last one up to the end of the zone, if that is known.
 abbrev pub extent_in : EssenceZone → ℕ → Option ℕ → Extent
 extent_in zone offset next = record {
   start = file_offset zone offset;
@@ -99,7 +99,7 @@ is_any_known known from to = list_any (is_known known) (range_with_len from (to 
 unfoldable pub is_any_disputed : List NoteParts → ℕ → ℕ → Bool
 is_any_disputed notes from to = list_any (is_disputed_at notes) (range_with_len from (to - from))
 
--- The bytes begin or end behind an end.
+-- The bytes begin or end after an end.
 abbrev pub ends_behind : Extent → ℕ → Bool
 ends_behind extent end = nat_le end extent.start || option_map_or (λ e. nat_lt end e) extent.end false
 
@@ -138,7 +138,7 @@ abbrev pub extent_by : UnitStanding → Result Location UnitStanding → Option 
 extent_by standing (Err other) = None
 extent_by standing (Ok l) = if is_told standing then Some l.extent else None
 
--- The key frame that an entry names, where that is the number of a unit.
+-- The key frame that an entry names, if that is the number of a unit.
 abbrev pub key_at : ℕ → IndexEntry → Option ℕ
 key_at unit e =
     let distance = unsigned_abs e.key_frame_offset in

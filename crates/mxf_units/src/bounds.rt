@@ -42,7 +42,7 @@ fn partition_offsets(alloc: Global, views: &Views) -> Result<Vec<u64>, OutOfMemo
     Ok(offsets.collect(alloc)?)
 }
 
-/// Adds the places that claims name where it isn't known whole what begins there.
+/// Adds the places that claims name, if it isn't known whole what begins there.
 fn add_open_places(
     bounds: &mut Vec<u64>,
     holdings: &Holdings<'_>,
@@ -57,7 +57,7 @@ fn add_open_places(
     Ok(bounds.extend(places)?)
 }
 
-/// The place that a claim names, in bytes, where it isn't known whole what begins there.
+/// The place that a claim names, in bytes, if it isn't known whole what begins there.
 #[tactic(auto, unfolding(crate::specs::EssenceZones::open_place))]
 fn open_place(holdings: &Holdings<'_>, claim: &Claim) -> Option<u64>
     ensures { result ≡ open_place holdings.now claim.now }
@@ -89,7 +89,7 @@ pub(crate) fn bound_above(bounds: &[u64], offset: u64) -> Option<u64>
     above.first().copied()
 }
 
-/// The offset of the only random index pack, in bytes, where the end of the file is known.
+/// The offset of the only random index pack, in bytes, if the end of the file is known.
 pub(crate) fn rip_place(holdings: &Holdings<'_>) -> Option<u64>
     ensures { result ≡ rip_place_by (end_of_file holdings.now) (rip_view_of holdings.now) }
 {

@@ -14,7 +14,7 @@ use std::alloc::Global;
 /// More than any offset of a stream, in bytes: 2^96.
 const STREAM: u128 = 79_228_162_514_264_337_593_543_950_336;
 
-/// The edit units of a segment, where they have one size.
+/// The edit units of a segment, if they have one size.
 #[derive(Clone, Copy, Drop)]
 pub(crate) struct ConstantUnits {
     pub body_sid: u32,
@@ -22,7 +22,7 @@ pub(crate) struct ConstantUnits {
     pub unit_bytes: u32,
     /// The first of them.
     pub start: u64,
-    /// How many there are; 0 where they have no end.
+    /// How many there are; 0 if they have no end.
     pub duration: u64,
 }
 
@@ -64,7 +64,7 @@ impl ConstantUnits {
         })
     }
 
-    /// The offset of that place above another place, in bytes, where it is in the stream of that.
+    /// The offset of that place above another place, in bytes, if it is in the stream of that.
     pub(crate) fn offset_above(&self, place: StreamPlace) -> Option<u128>
         requires some { 0 < self.now.unit_bytes }
         requires small { place.offset < 2 ^ 96 }

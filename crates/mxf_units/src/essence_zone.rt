@@ -33,13 +33,13 @@ pub struct EssenceZone {
     pub body_offset: u64,
     /// The file offset of the origin, in bytes.
     pub origin: u64,
-    /// The file offset up to which the essence may lie, where one is known.
+    /// The file offset up to which the essence may lie, if one is known.
     pub limit: Option<u64>,
     /// Whether the essence lies up to there, and no unknown partition in between.
     pub is_sure: bool,
 }
 
-/// What tells the essence zones of partitions: what is held, the first places of the streams, where partitions stand or
+/// What gives the essence zones of partitions: what is held, the first places of the streams, where partitions stand or
 /// may stand, and the random index pack.
 #[derive(Drop)]
 pub(crate) struct Evidence<'a> {
@@ -72,7 +72,7 @@ impl<'a> Model for Evidence<'a> {
 }
 
 impl<'a> Evidence<'a> {
-    /// What is held tells. It takes memory.
+    /// The evidence of what is held. It takes memory.
     pub fn of(alloc: Global, holdings: &'a Holdings<'a>) -> Result<Evidence<'a>, OutOfMemory>
         ensures { IfOk result (λ e. e ≡ holdings.now) }
     {
@@ -145,7 +145,7 @@ impl<'a> Evidence<'a> {
         }
     }
 
-    /// Where the essence of a partition lies, where its first packet is known.
+    /// Where the essence of a partition lies, if its first packet is known.
     #[tactic(auto, unfolding(crate::specs::EssenceZones::zone_of))]
     pub fn zone_of(&self, partition: &Partition) -> Option<EssenceZone>
         ensures { result ≡ zone_of self.now partition.now }

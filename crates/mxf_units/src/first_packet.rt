@@ -11,7 +11,7 @@ use mxf_klv::{Kind, MAX, Note};
 use mxf_places::{Holdings, Zone, behind_metadata, zone_of};
 use mxf_views::Partition;
 
-/// Where the bytes behind the header metadata and the index table segments of a partition begin, in bytes, where that is
+/// Where the bytes after the header metadata and the index table segments of a partition begin, in bytes, if that is
 /// known.
 pub fn behind_index(holdings: &Holdings<'_>, partition: &Partition) -> Option<u128>
     ensures { result ≡ behind_index holdings.now partition.now }
@@ -29,7 +29,7 @@ fn may_be_essence(kind: Kind) -> bool
     matches!(kind, Kind::Essence | Kind::Other)
 }
 
-/// The packet at a file offset, whole or head, where it may be essence and shares no byte with another.
+/// The packet at a file offset, whole or head, if it may be essence and shares no byte with another.
 fn essence_at<'a>(holdings: &Holdings<'a>, offset: u64) -> Option<&'a Note>
     ensures { option_copied result ≡ essence_at holdings.now offset }
 {
@@ -41,8 +41,8 @@ fn essence_at<'a>(holdings: &Holdings<'a>, offset: u64) -> Option<&'a Note>
     }
 }
 
-/// The first packet of the essence of a partition: the one behind its header metadata and its index table segments,
-/// and behind the fills that follow these.
+/// The first packet of the essence of a partition: the one after its header metadata and its index table segments, and
+/// after the fills that follow these.
 #[tactic(auto, unfolding(crate::specs::EssenceZones::first_packet))]
 pub(crate) fn first_packet<'a>(holdings: &Holdings<'a>, partition: &Partition) -> Option<&'a Note>
     ensures { option_copied result ≡ first_packet holdings.now partition.now }
@@ -56,9 +56,9 @@ pub(crate) fn first_packet<'a>(holdings: &Holdings<'a>, partition: &Partition) -
     essence_at(holdings, holdings.over_fills(behind as u64))
 }
 
-/// A law of [`Units::unit`](crate::Units::unit): the first packet of the essence of a partition is the one behind its
-/// header metadata and its index table segments, and behind the fills there, that may be essence and shares no byte
-/// with another.
+/// A law of [`Units::unit`](crate::Units::unit): the first packet of the essence of a partition is the one after its
+/// header metadata and its index table segments, and after the fills there, that may be essence and shares no byte with
+/// another.
 pub fn first_packets_by_definition()
     ensures { (notes : List NoteParts) (p : PartitionParts) (n : NoteParts) → IsContent notes
         → (first_packet notes p ≡ Some n) ↔ IsFirstPacket notes p n }

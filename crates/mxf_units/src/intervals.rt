@@ -54,7 +54,7 @@ impl<T: Interval> Intervals<T> {
         Ok(Intervals { intervals, ends })
     }
 
-    /// Those that may have a number, and those that begin above it: two binary searches. Where intervals overlap, those
+    /// Those that may have a number, and those that begin above it: two binary searches. If intervals overlap, those
     /// that lie between them come as well.
     pub(crate) fn around(&self, at: u128) -> (&[T], &[T])
         ensures { IsAround T.first T.end at self.now result.0.now result.1.now }

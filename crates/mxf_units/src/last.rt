@@ -11,8 +11,8 @@ use mxf_views::Views;
 const GREATEST_UNIT: u64 = 9_223_372_036_854_775_807;
 
 /// The last edit unit of the index of an IndexSID: the greatest one, at or below 9,223,372,036,854,775,807, to which a
-/// segment gives a place. None where no segment gives one, and where a segment is endless, whose units have one size
-/// and whose duration is 0. It takes no memory, and time for each segment.
+/// segment gives a place. None if no segment gives one, or if a segment is endless: its units have one size and its
+/// duration is 0. It takes no memory, and time for each segment.
 pub fn last_unit(views: &Views, index_sid: u32) -> Option<u64>
     ensures { MatchOption result (HasNoLastUnit views.now index_sid) (IsLastUnit views.now index_sid) }
 {

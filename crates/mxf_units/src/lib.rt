@@ -18,18 +18,18 @@
 //! [`EssenceZone`] in which that is to be found; the partitions as parts of their streams |
 //!
 //! A unit's bytes reach up to the next place in its stream that a segment of its index gives; those of the last one
-//! reach up to the end of its partition. They are told where no unknown partition can lie before them, and lie in their
-//! partition then. Where all units of a partition lie in one packet, its BodyOffset counts from the first byte of that
-//! packet's value, and else from its key.
+//! reach up to the end of its partition. They are given if no unknown partition can lie before them, and lie in their
+//! partition then. If all units of a partition lie in one packet, its BodyOffset counts from the first byte of that
+//! packet's value, and otherwise from its key.
 //!
 //! What is proved: each answer is its definition over the notes of the catalogue and what is at hand beside them
-//! (`unit_of`, `index_sids_of`). The laws say more of these: [`standings_by_definition`], that each standing has its
-//! cause, and a unit one standing; [`extents_by_definition`], where the bytes of a unit lie, and of which units that is
-//! told; [`entries_by_definition`], what its entry says; [`held_units_are_held`], that of a unit which stands as held
-//! each byte is, and [`units_at_hand_are_known`], that of one which stands as at hand each is held or at hand;
-//! [`units_of_whole_files_are_held`], that the units of a file that is held whole stand as held; [`next_by_definition`],
+//! (`unit_of`, `index_sids_of`). The laws say more: [`standings_by_definition`], that each standing has its cause, and
+//! a unit one standing; [`extents_by_definition`], where the bytes of a unit lie, and for which units that is given;
+//! [`entries_by_definition`], what its entry says; [`held_units_are_held`], that a unit which stands as held has each
+//! byte held, and [`units_at_hand_are_known`], that one which stands as at hand has each held or at hand;
+//! [`units_of_whole_files_are_held`], that the units of a file held whole stand as held; [`next_by_definition`],
 //! [`first_packets_by_definition`] and [`limits_by_definition`], what next places, first packets and limits are;
-//! [`index_sids_by_definition`], which indexes there are; [`one_last_unit`], that an index has one last unit at most.
+//! [`index_sids_by_definition`], which indexes there are; [`one_last_unit`], that an index has one at most.
 //!
 //! The units from `from` up to `to` of an index, whose bytes are all held:
 //!

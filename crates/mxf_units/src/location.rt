@@ -35,7 +35,7 @@ fn file_offset(zone: EssenceZone, offset: u128) -> u128
     u128::from(zone.origin) + offset.saturating_sub(u128::from(zone.body_offset))
 }
 
-/// From a place of a stream, in bytes, up to the next one; behind the last one up to the end of the zone, where that is
+/// From a place of a stream, in bytes, up to the next one; after the last one up to the end of the zone, if that is
 /// known.
 pub(crate) fn extent_in(zone: EssenceZone, offset: u128, next: Option<u128>) -> Extent
     requires offset { offset < 2 ^ 96 }
@@ -91,7 +91,7 @@ fn is_any_disputed(holdings: &Holdings<'_>, from: u128, to: u128) -> bool
     from < end && holdings.is_any_disputed(from as u64, to.min(end) as u64)
 }
 
-/// Whether the bytes begin or end behind an end.
+/// Whether the bytes begin or end after an end.
 fn ends_behind(extent: Extent, end: u64) -> bool
     ensures { result ≡ ends_behind extent end }
 {
@@ -130,7 +130,7 @@ pub(crate) fn standing_in(holdings: &Holdings<'_>, set: &Cover, location: Locati
     }
 }
 
-/// How bytes stand, where it is known where they lie, or why it isn't.
+/// How bytes stand, if it is known where they lie, or why it isn't.
 pub(crate) fn standing_by(
     holdings: &Holdings<'_>,
     set: &Cover,
@@ -160,7 +160,7 @@ fn is_told(standing: UnitStanding) -> bool
     )
 }
 
-/// Where bytes lie that stand so, where that is told.
+/// Where bytes lie that stand so, if that is given.
 pub(crate) fn extent_by(
     standing: UnitStanding,
     location: Result<Location, UnitStanding>,

@@ -1,4 +1,4 @@
-//! The next place behind another in its stream (ST 377-1, Index Table Segment).
+//! The next place after another in its stream (ST 377-1, Index Table Segment).
 ghost use Rattle.std.specs.Prelude.{◌≡◌, ◌+◌, ◌^◌, ◌<◌, ◌≤◌, IfOk, IfSome, List};
 ghost use Rattle.std.specs.List.{AllByRecursion, filter_map};
 ghost use Rattle.std.specs.List.Sorted.{IsNonDecreasingBy};
@@ -20,7 +20,7 @@ use std::marker::Model;
 pub(crate) struct NextPlaces {
     /// The places of units that segments list, in their order.
     listed: Vec<StreamPlace>,
-    /// The units of segments that don't, for they have one size.
+    /// The units of segments that list none, since they have one size.
     constant: Intervals<ConstantUnits>,
 }
 
@@ -49,7 +49,7 @@ impl NextPlaces {
         Ok(NextPlaces { listed, constant })
     }
 
-    /// The next place behind another, in bytes from the start of its stream: three binary searches, and a look at each
+    /// The next place after another, in bytes from the start of its stream: three binary searches, and a look at each
     /// segment of units of one size that overlaps there.
     pub(crate) fn behind(&self, place: StreamPlace) -> Option<u128>
         requires { IsSmall place }
@@ -81,7 +81,7 @@ fn lesser_above(next: Option<u128>, near: &[ConstantUnits], place: StreamPlace) 
     least
 }
 
-/// The first offset behind a place, in bytes, of units that begin behind it: that of the first of them.
+/// The first offset after a place, in bytes, of units that begin after it: that of the first of them.
 fn first_behind(above: &[ConstantUnits], place: StreamPlace) -> Option<u128>
     requires sized { AllByRecursion AreSized above.now }
     requires small { IsSmall place }

@@ -11,10 +11,10 @@ use std::marker::Model;
 /// The greatest edit unit: segments state theirs as signed numbers of eight bytes.
 const GREATEST_UNIT: u64 = 9_223_372_036_854_775_807;
 
-/// So many units are asked for at once at most.
+/// The greatest number of units that are asked for at once.
 const MOST_UNITS: u64 = 1_000_000;
 
-/// So many edit units, one after another as they are stored.
+/// A number of edit units, one after another as they are stored.
 #[derive(Clone, Copy, Debug, PartialEq, Eq)]
 pub struct UnitRange {
     first: u64,
@@ -26,8 +26,8 @@ pub struct UnitRange {
 }
 
 impl UnitRange {
-    /// The units from one up to another, that included. None where the last is above 9,223,372,036,854,775,807 or below
-    /// the first, or where there are more than 1,000,000.
+    /// The units from one up to another, that included. None if the last is above 9,223,372,036,854,775,807 or below
+    /// the first, or if there are more than 1,000,000.
     pub fn new(first: u64, last: u64) -> Option<UnitRange>
         ensures some { IfSome result (λ r. (r.first ≡ first) × (r.first + r.count ≡ last + 1)) }
         ensures none { IfNone result ((9223372036854775807 < last) ⊎ ((last < first) ⊎ (1000000 ≤ last - first))) }
@@ -120,7 +120,7 @@ fn first_needed(units: &Units<'_>, range: UnitRange) -> u64
     from
 }
 
-/// The lesser of a unit and of a key frame, where there is one.
+/// The lesser of a unit and of a key frame, if there is one.
 fn needed(from: u64, key: Option<u64>) -> u64
     ensures from { result ≡ least_of from (option_to_list key) }
     ensures bound { result ≤ from }

@@ -46,7 +46,7 @@ pub(crate) fn segments_for<'a>(
     Ok(segments.collect(alloc)?)
 }
 
-/// The place that a segment gives an edit unit, where it covers the unit.
+/// The place that a segment gives an edit unit, if it covers the unit.
 fn place_in(segment: &SegmentAt<'_>, unit: u64) -> Option<StreamPlace>
     ensures place { result ≡ place_in unit segment.now }
     ensures small { IfSome result IsSmall }
@@ -58,7 +58,7 @@ fn place_in(segment: &SegmentAt<'_>, unit: u64) -> Option<StreamPlace>
     })
 }
 
-/// The place of an edit unit, where the segments that give one agree.
+/// The place of an edit unit, if the segments that give one agree.
 pub(crate) fn place_of(segments: &[SegmentAt<'_>], unit: u64) -> Result<StreamPlace, UnitStanding>
     ensures place { result ≡ place_of segments.now unit }
     ensures small { IfOk result IsSmall }
@@ -85,7 +85,7 @@ fn is_other_place(seen: Option<StreamPlace>, place: StreamPlace) -> bool
     }
 }
 
-/// The entry of an edit unit, where the segments that list it agree on its front.
+/// The entry of an edit unit, if the segments that list it agree on its front.
 pub(crate) fn entry_of(segments: &[SegmentAt<'_>], unit: u64) -> Option<IndexEntry>
     ensures { result ≡ entry_of segments.now unit }
 {
@@ -181,15 +181,15 @@ impl<'a> Interval for SegmentAt<'a> {
     }
 }
 
-/// The first place above 0 that a segment gives of which all units have one size.
+/// The first place above 0 that a segment gives whose units all have one size.
 fn sized_above(segment: &SegmentAt<'_>) -> Option<StreamPlace>
     ensures { result ≡ sized_above 0 segment.now }
 {
     ConstantUnits::of(segment)?.place_above(0)
 }
 
-/// The places that segments give, in their order, but of those above 0 that one of units of one size gives the first
-/// alone. They take memory.
+/// The places that segments give, in their order. Of those above 0 that a segment of units of one size gives, only the
+/// first is taken. They take memory.
 pub(crate) fn places_above_0(
     alloc: Global,
     segments: &[SegmentAt<'_>],
@@ -205,8 +205,8 @@ pub(crate) fn places_above_0(
     Ok(in_order(places))
 }
 
-/// A law of [`Units::unit`](crate::Units::unit): where a unit's bytes reach up to is the least place above its own in
-/// the stream that a segment of the index gives some unit.
+/// A law of [`Units::unit`](crate::Units::unit): a unit's bytes reach up to the least place above its own in the stream
+/// that a segment of the index gives some unit.
 pub fn next_by_definition()
     ensures next { (segments : List SegmentAtParts) (body_sid offset : ℕ) (next : Option ℕ)
         → (next_of segments body_sid offset ≡ next) ↔ IsNextOf segments body_sid offset next }

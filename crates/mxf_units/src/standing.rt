@@ -12,13 +12,13 @@ pub enum UnitStanding {
     NotIndexed,
     /// Segments give it different places.
     Ambiguous,
-    /// No partition is held of its essence stream that begins at its place or before it.
+    /// No partition of its essence stream is held that begins at its place or before it.
     NoPartition,
-    /// More than one begins there, and not only one of them has a first packet of essence that is known.
+    /// More than one begins there, and not exactly one of them has a known first packet of essence.
     Several,
     /// The first packet of essence of its partition isn't known.
     Unknown,
-    /// Its bytes would begin or end behind its partition: they lie in one that isn't held, or nowhere.
+    /// Its bytes would begin or end after its partition: they lie in one that isn't held, or nowhere.
     Elsewhere,
     /// A partition that isn't known may lie between the first byte of essence of its partition and its own bytes.
     Unsure,

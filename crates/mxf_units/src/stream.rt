@@ -15,7 +15,7 @@ pub(crate) fn in_order(mut places: Vec<StreamPlace>) -> Vec<StreamPlace>
     places
 }
 
-/// The lesser of two offsets, where there are any.
+/// The lesser of two offsets, if there are any.
 pub(crate) fn lesser(first: Option<u128>, second: Option<u128>) -> Option<u128>
     ensures { result ≡ lesser first second }
 {
@@ -26,7 +26,7 @@ pub(crate) fn lesser(first: Option<u128>, second: Option<u128>) -> Option<u128>
     }
 }
 
-/// The offset of the place, where it is one of the stream.
+/// The offset of the place, if it is one of the stream.
 pub(crate) fn offset_in(place: StreamPlace, body_sid: u32) -> Option<u128>
     ensures { result ≡ offset_in body_sid place }
 {

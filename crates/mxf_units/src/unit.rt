@@ -6,7 +6,7 @@ use crate::standing::UnitStanding;
 pub struct Extent {
     /// The file offset of the first byte.
     pub start: u128,
-    /// The file offset behind the last byte; none where that isn't known.
+    /// The file offset after the last byte; none if that isn't known.
     pub end: Option<u128>,
 }
 
@@ -17,14 +17,14 @@ pub struct EditUnit {
     /// Units are counted from 0 as they are stored.
     pub number: u64,
     pub standing: UnitStanding,
-    /// Where it lies, where that is known: from the standing `Disputed` on.
+    /// Where it lies, if that is known: from the standing `Disputed` on.
     pub extent: Option<Extent>,
-    /// The number of the key frame that its entry names; none where no entry does, where entries disagree, and where
-    /// the number would be negative.
+    /// The number of the key frame that its entry names; none if no entry does, if entries disagree, or if the number
+    /// would be negative.
     pub key: Option<u64>,
-    /// The unit that is shown at this unit's place is stored so many units behind it; none where no entry says so, and
-    /// where entries disagree.
+    /// The unit that is shown at this unit's place is stored this many units after it; none if no entry says so, or if
+    /// entries disagree.
     pub temporal: Option<i8>,
-    /// The flags of its entry; none where there is no entry, and where entries disagree.
+    /// The flags of its entry; none if there is no entry, or if entries disagree.
     pub flags: Option<u8>,
 }

@@ -72,7 +72,7 @@ impl<'a> Model for Units<'a> {
 }
 
 impl<'a> Units<'a> {
-    /// The units of the index of an IndexSID, where some bytes of the file are at hand beside what is held. It takes
+    /// The units of the index of an IndexSID, if some bytes of the file are at hand beside what is held. It takes
     /// memory: n log n of the notes and the index entries, as its time does.
     pub fn of(
         alloc: Global,
@@ -136,7 +136,7 @@ impl<'a> Units<'a> {
         &self.parts
     }
 
-    /// The place of a unit in its stream, where the segments that give one agree, or how it stands without. It takes no
+    /// The place of a unit in its stream, if the segments that give one agree, or how it stands without. It takes no
     /// memory.
     pub fn place(&self, unit: u64) -> Result<StreamPlace, UnitStanding>
         ensures { result ≡ place_of (segments_for self.now.known.notes self.now.index_sid) unit }
@@ -144,7 +144,7 @@ impl<'a> Units<'a> {
         place_of(self.segments_near(unit), unit)
     }
 
-    /// Where a unit lies and the essence zone that it is looked for in, as far as that is known, or how it stands where it
+    /// Where a unit lies and the essence zone that it is looked for in, as far as that is known, or how it stands if it
     /// isn't. It takes no memory.
     #[tactic(auto, unfolding(crate::specs::Units::location_of))]
     pub fn location(&self, unit: u64) -> Result<Location, UnitStanding>
@@ -175,8 +175,8 @@ impl<'a> Units<'a> {
         location_at(&self.places, &self.parts, place)
     }
 
-    /// The unit of a number. Units are counted from 0 as they are stored. It takes no memory, and some binary searches,
-    /// with a look at each segment of the index that overlaps there.
+    /// The unit with a number. Units are counted from 0 as they are stored. It takes no memory, and some binary
+    /// searches, with a look at each segment of the index that overlaps there.
     #[tactic(auto, unfolding(crate::specs::Units::unit_of, crate::specs::Units::location_of))]
     pub fn unit(&self, unit: u64) -> EditUnit
         ensures { result ≡ unit_of self.now.known self.now.index_sid unit }
@@ -220,7 +220,7 @@ fn unit_by(
     }
 }
 
-/// The key frame that an entry names, where that is the number of a unit.
+/// The key frame that an entry names, if that is the number of a unit.
 fn key_at(unit: u64, entry: IndexEntry) -> Option<u64>
     ensures { result ≡ key_at unit entry }
 {
@@ -259,14 +259,14 @@ pub fn index_sids_by_definition()
     ensures rising { (notes : List NoteParts) → IsRising nat_cmp (index_sids_of notes) }
 {}
 
-/// A law of [`Units::unit`]: of a unit that stands as held it is known where it ends, and each of its bytes is held.
+/// A law of [`Units::unit`]: if a unit stands as held, it is known where it ends, and each of its bytes is held.
 pub fn held_units_are_held()
     ensures { (known : KnownParts) (index_sid unit : ℕ)
         → (unit_of known index_sid unit).standing ≡ UnitStanding.Held
         → (e : Extent) × ((unit_of known index_sid unit).extent ≡ Some e) × IsHeldWhole known.notes e }
 {}
 
-/// A law of [`Units::unit`]: of a unit that stands as at hand it is known where it ends, and each of its bytes is held or
+/// A law of [`Units::unit`]: if a unit stands as at hand, it is known where it ends, and each of its bytes is held or
 /// at hand.
 pub fn units_at_hand_are_known()
     ensures { (known : KnownParts) (index_sid unit : ℕ)
@@ -279,7 +279,7 @@ pub fn standings_by_definition()
     ensures cause { (known : KnownParts) (index_sid unit : ℕ)
         → IsStanding known index_sid unit (unit_of known index_sid unit).standing }
 
-    // Of bytes of which it is known where they are looked for no other standing has.
+    // If it is known where bytes are looked for, they have no other standing.
     ensures exact { (known : KnownParts) (l : Location) (standing : UnitStanding)
         → (standing_in known l ≡ standing) ↔ IsStandingIn known l.zone l.extent standing }
 
@@ -302,8 +302,8 @@ pub fn entries_by_definition()
         × ((unit_of known index_sid unit).key ≡ None) }
 {}
 
-/// A law of [`Units::unit`]: if it is told where a unit lies, its bytes lie where its only place says, by the one essence
-/// zone there. It is told of the units that stand as disputed, missing, part, held or at hand, and of no other.
+/// A law of [`Units::unit`]: if a unit's extent is given, its bytes lie where its only place says, by the one essence
+/// zone there. It is given for units that stand as disputed, missing, part, held or at hand, and for no other.
 pub fn extents_by_definition()
     ensures extent { (known : KnownParts) (index_sid unit : ℕ) (e : Extent)
         → (unit_of known index_sid unit).extent ≡ Some e → IsExtentOf known.notes index_sid unit e }
@@ -311,8 +311,8 @@ pub fn extents_by_definition()
         → IsSome (unit_of known index_sid unit).extent ↔ IsTold (unit_of known index_sid unit).standing }
 {}
 
-/// A law of [`Units::unit`]: of a file whose packets are all held, from 0 on one after another, each unit that has a place
-/// in the file, and ends before the file does, stands as held, whatever else is at hand.
+/// A law of [`Units::unit`]: if all packets of a file are held, from 0 on one after another, each unit that has a place
+/// in the file and ends before the file does stands as held, whatever else is at hand.
 pub fn units_of_whole_files_are_held()
     ensures { (l : List PacketParts) (at : AtHandParts) (index_sid unit : ℕ) (e : Extent) (end : ℕ)
         → IsExtentOf (notes_from 0 l) index_sid unit e → e.end ≡ Some end → end ≤ end_after 0 l

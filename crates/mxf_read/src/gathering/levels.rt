@@ -8,7 +8,7 @@ use mxf_views::Views;
 use std::alloc::Global;
 use std::marker::Model;
 
-/// Catalogues that wait to be merged, each at least twice as long as the one behind it. So each is merged with one of
+/// Catalogues that wait to be merged, each at least twice as long as the one after it. So each is merged with one of
 /// about its length, and merging n notes of any number of catalogues moves each some log n times.
 #[derive(Drop)]
 pub(super) struct Levels {
@@ -50,7 +50,7 @@ impl Levels {
         Ok(())
     }
 
-    /// Takes the last catalogue, where it isn't more than twice as long.
+    /// Takes the last catalogue, if it isn't more than twice as long.
     fn pop_below_twice(&mut self, length: usize) -> Option<Catalogue>
         ensures taken { MatchOption result (self.new ≡ self.old) (λ last. self.old ≡ self.new ++ last ∷ []) }
         ensures none { IfNone result (EndsAbove self.new length) }

@@ -16,8 +16,8 @@ use mxf_catalogue::Cover;
 use std::alloc::Global;
 
 impl Given {
-    /// The offsets at hand: those that sources give and around which they don't differ. Where several sources give a
-    /// byte, that of the first is read beside that of each other; no other byte is read. They take memory.
+    /// The offsets at hand: those that sources give and around which they don't differ. If several sources give a byte,
+    /// that of the first is read beside that of each other; no other byte is read. They take memory.
     pub fn hand<S: Sources>(&self, alloc: Global, sources: &mut S) -> Result<Cover, SourceFault>
         ensures told { S.told sources.new ≡ S.told sources.old }
         ensures hand { (given : List SourceParts) → AreTold (S.told sources.old) self.now.extents given
@@ -140,7 +140,7 @@ fn read_range<S: Sources>(
     read_exactly(sources, source_number, position, room)
 }
 
-/// Reads as many bytes of a source as there is room, behind its first `position` bytes.
+/// Reads as many bytes of a source as there is room, after its first `position` bytes.
 fn read_exactly<S: Sources>(
     sources: &mut S,
     source_number: usize,

@@ -13,7 +13,7 @@ use mxf_klv::OutOfMemory;
 use std::alloc::Global;
 use std::marker::Model;
 
-/// Two offsets at which sources differ belong to one difference where they lie less than this apart.
+/// Two offsets at which sources differ belong to one difference if they lie less than this apart.
 const NEAR: u64 = 512;
 
 /// Offsets, in bytes, from a first to a last. Sources differ at both, and from each offset between at which they differ
@@ -24,8 +24,8 @@ pub(crate) struct Difference {
     pub last: u64,
 }
 
-/// Offsets at which sources differ, in the order in which they were noted. Where one lies near behind the last, the two
-/// are one difference.
+/// Offsets at which sources differ, in the order in which they were noted. If one lies near after the last, the two are
+/// one difference.
 #[derive(Debug, Drop)]
 pub(super) struct Differing {
     noted: Vec<Difference>,
@@ -81,7 +81,7 @@ impl Differing {
         Ok(())
     }
 
-    /// Notes the difference, or grows the last by it where it is near.
+    /// Notes the difference, or extends the last by it if it is near.
     fn note(&mut self, next: Difference) -> Result<(), OutOfMemory>
         requires { IsDifference next }
         ensures { OnOk result (self.new ≡ with_near self.old next) }
@@ -115,7 +115,7 @@ impl Differing {
     }
 }
 
-/// Adds the difference behind others, or grows the last of them by it where it is near.
+/// Adds the difference after others, or extends the last of them by it if it is near.
 fn add_near(noted: &mut Vec<Difference>, next: Difference) -> Result<(), OutOfMemory>
     ensures added { OnOk result (noted.new.items ≡ with_near noted.old.items next) }
     ensures err { OnErr result (noted.new.items ≡ noted.old.items) }

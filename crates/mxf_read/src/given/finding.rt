@@ -18,7 +18,7 @@ impl Keyed for Place {
 }
 
 impl Given {
-    /// The place that has the offset, where sources give it.
+    /// The place that has the offset, if sources give it.
     pub(super) fn place_at(&self, offset: u64) -> Option<Place>
         ensures some { IfSome result (λ p. IsPlaceOf self.now.extents p × LiesInPlace p offset) }
         ensures none { IfNone result (¬ LiesIn self.now.given offset) }

@@ -27,8 +27,8 @@ impl Given {
     /// Notes the packets of the bytes from file offset `from` up to `to`, all of which sources give, by the path of
     /// every piece. They take memory.
     ///
-    /// At most 65,536 bytes are read at a time. Where key and length of a packet have come that goes on behind `to`, no
-    /// more is read, nor behind a place where the piece stops.
+    /// At most 65,536 bytes are read at a time. Once the key and length of a packet that goes on after `to` have come,
+    /// no more is read, nor after a place where the piece stops.
     pub fn reading<S: Sources>(
         &self,
         alloc: Global,

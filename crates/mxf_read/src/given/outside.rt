@@ -37,7 +37,7 @@ fn add_outside(outside: &mut Cover, run: Run, holes: &Cover) -> Result<(), OutOf
     add_some(outside, reached, run.end)
 }
 
-/// Adds the offsets from a start up to an end, where there is one.
+/// Adds the offsets from a start up to an end, if there is one.
 fn add_some(outside: &mut Cover, start: u64, end: u64) -> Result<(), OutOfMemory>
     requires { end ≤ greatest_end }
     ensures { OnOk result (outside.new ≡ with_some start end outside.old) }

@@ -106,7 +106,7 @@ fn overlaps_of(alloc: Global, spans: &[Place]) -> Result<Vec<Place>, OutOfMemory
     Ok(overlaps)
 }
 
-/// Adds the place, where it has an offset.
+/// Adds the place, if it has an offset.
 fn add_place(
     places: &mut Vec<Place>,
     start: u64,

@@ -6,10 +6,10 @@ use crate::reading::Step;
 
 /// Sources whose bytes can be read again, at any position. They have numbers, from 0 on.
 pub trait Sources {
-    // What they give, where they tell it.
+    // What they give, if that is known.
     ghost told: { Self → Option (List SourceParts) } = { λ _. None };
 
-    /// Reads once of the source with this number, behind its first `position` bytes, as many bytes at most as there is
+    /// Reads once of the source with this number, after its first `position` bytes, as many bytes at most as there is
     /// room.
     fn read_at(&mut self, source: usize, position: u64, room: &mut [u8]) -> Step
         requires { 0 < length room.old }

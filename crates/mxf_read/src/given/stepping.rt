@@ -37,7 +37,7 @@ impl Given {
     }
 }
 
-/// Reads once of a source behind its first `position` bytes. An interrupted read is repeated, 1,024 times at most.
+/// Reads once of a source after its first `position` bytes. An interrupted read is repeated, 1,024 times at most.
 pub(super) fn read_source<S: Sources>(
     sources: &mut S,
     source_number: usize,

@@ -18,7 +18,7 @@ pub struct StreamPart {
     pub body_sid: u32,
     /// Where it begins in its stream, in bytes.
     pub body_offset: u64,
-    /// Where its essence lies, where its first packet is known.
+    /// Where its essence lies, if its first packet is known.
     pub zone: Option<EssenceZone>,
     /// The file offset of the partition, in bytes.
     pub partition: u64,
@@ -62,7 +62,7 @@ fn parts_in(
     Ok(parts.collect(alloc)?)
 }
 
-/// The parts from the last to the first, by BodySID, then by BodyOffset, those without a first packet behind the others.
+/// The parts from the last to the first, by BodySID, then by BodyOffset, those without a first packet after the others.
 fn falling(mut parts: Vec<StreamPart>) -> Vec<StreamPart>
     ensures { result.items ≡ reverse (union part_cmp [] parts.items) }
 {
@@ -88,7 +88,7 @@ pub(crate) fn zone_at(
     by_first(rest, body_sid)
 }
 
-/// The same where none of the parts begins behind the offset: by the first.
+/// The same if none of the parts begins after the offset: by the first.
 fn by_first(parts: &[StreamPart], body_sid: u32) -> Result<EssenceZone, UnitStanding>
     ensures { result ≡ by_first body_sid parts.now }
 {
@@ -98,7 +98,7 @@ fn by_first(parts: &[StreamPart], body_sid: u32) -> Result<EssenceZone, UnitStan
     }
 }
 
-/// The same where the first is of the stream: by the one that follows.
+/// The same if the first is of the stream: by the one that follows.
 fn by_second(part: &StreamPart, rest: &[StreamPart]) -> Result<EssenceZone, UnitStanding>
     ensures { result ≡ by_second part.now rest.now }
 {
