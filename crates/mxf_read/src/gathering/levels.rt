@@ -50,7 +50,7 @@ impl Levels {
         Ok(())
     }
 
-    /// Takes the last catalogue, if it isn't more than twice as long.
+    /// Takes the last catalogue, if half of its length is at most this length.
     fn pop_below_twice(&mut self, length: usize) -> Option<Catalogue>
         ensures taken { MatchOption result (self.new ≡ self.old) (λ last. self.old ≡ self.new ++ last ∷ []) }
         ensures none { IfNone result (EndsAbove self.new length) }
