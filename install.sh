@@ -1,8 +1,8 @@
 #!/usr/bin/env bash
-# Installs the program and mxf_report, their man pages and their completions for bash: install.sh [--from FOLDER] [PREFIX],
-# by default below /usr/local. With --from they are those of a folder that packaging/release made, whose sums are checked;
-# the kit isn't needed then. Without it the program is proved and built first where it isn't yet. What stands there under
-# these names is replaced.
+# Installs the program and mxf_report, their man pages, their completions for bash, the guide and the formats:
+# install.sh [--from FOLDER] [PREFIX], by default below /usr/local. With --from they are those of a folder that
+# packaging/release made, whose sums are checked; the kit isn't needed then. Without it the program is proved and built
+# first if it isn't yet. What stands there under these names is replaced.
 set -eu
 unset CDPATH
 top=$(cd "$(dirname "${BASH_SOURCE[0]}")" && pwd)
@@ -27,7 +27,7 @@ if [ -n "$from" ]; then
     exit 1
   fi
   program=$from/mxf_tool
-  # Where the C library is another one, the program that has its own is taken.
+  # If the C library is another one, the program that has its own is taken.
   "$program" --version >/dev/null 2>&1 || program=$from/mxf_tool.static
   report=$from/mxf_report
   pages=$from
@@ -42,3 +42,4 @@ for name in mxf_tool mxf_report; do
   put 644 "$pages/$name.1" "share/man/man1/$name.1"
   put 644 "$completions/$name.bash" "share/bash-completion/completions/$name"
 done
+for name in GUIDE FORMATS; do put 644 "$pages/$name.md" "share/doc/mxf-tool/$name.md"; done
