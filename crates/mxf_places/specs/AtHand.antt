@@ -12,8 +12,7 @@ use Rattle.mxf_catalogue.specs.Runs.{LiesIn}
 use Rattle.mxf_places.specs.Held.{IsEndOfFile, end_of_file, top_of}
 use Rattle.mxf_places.specs.declared.at_hand.OffsetRange.{OffsetRange}
 
--- The offsets of which some source gives the byte, and those of them at which none differs from another, as maximal
--- runs.
+-- The offsets whose byte some source gives, and those of them at which no source differs from another, as maximal runs.
 pub record AtHandParts : Type 0 where
   pub given : List Run
   pub hand : List Run
@@ -32,11 +31,11 @@ pub record KnownParts : Type 0 where
 abbrev pub nothing_at_hand : AtHandParts
 nothing_at_hand = record { given = []; hand = [] }
 
--- The same where nothing is at hand.
+-- The same if nothing is at hand.
 abbrev pub without_hand : List NoteParts → KnownParts
 without_hand notes = record { notes = notes; at = nothing_at_hand }
 
--- The offset lies between a start and an end, or is no less than the start where there is no end.
+-- The offset lies between a start and an end, or is no less than the start if there is no end.
 abbrev pub LiesBetween : ℕ → Option ℕ → ℕ → Type 0
 LiesBetween start end x = (start ≤ x) × ((end ≡ None) ⊎ ((e : ℕ) × (end ≡ Some e) × (x < e)))
 
@@ -51,14 +50,14 @@ pub record IsLacking (runs : List Run) (start : ℕ) (end : Option ℕ) (r : Off
   pub first : (r.start ≡ start) ⊎ ((x : ℕ) × (x + 1 ≡ r.start) × LiesIn runs x)
   pub last : (r.end ≡ end) ⊎ ((x : ℕ) × (r.end ≡ Some x) × LiesIn runs x)
 
--- The least offset to which all ends of notes reach at most, be they claimed by heads, and below which all given offsets
--- lie.
+-- The least offset to which all ends of notes reach at most, even those that heads claim, and below which all given
+-- offsets lie.
 pub record IsTop (at : AtHandParts) (notes : List NoteParts) (top : ℕ) : Type 0 where
   pub ends : (n : NoteParts) → In n notes → end_of n ≤ top
   pub above : (x : ℕ) → LiesIn at.given x → x < top
   pub least : (y : ℕ) → ((n : NoteParts) → In n notes → end_of n ≤ y) → ((x : ℕ) → LiesIn at.given x → x < y) → top ≤ y
 
--- How far the file reaches as far as it is known: to its end, or to the top where that isn't known.
+-- How far the file reaches as far as it is known: to its end, or to the top if that isn't known.
 abbrev pub IsEdge : AtHandParts → List NoteParts → ℕ → Type 0
 IsEdge at notes edge =
     IsEndOfFile notes edge ⊎ (((end : ℕ) → IsEndOfFile notes end → ⊥) × IsTop at notes edge)
@@ -70,7 +69,7 @@ abbrev pub up_to_bound : ℕ → Option ℕ → ℕ
 up_to_bound x None = x
 up_to_bound x (Some bound) = min x bound
 
--- The range, where it has an offset.
+-- The range, if it has an offset.
 abbrev pub some_range : ℕ → Option ℕ → List OffsetRange
 some_range start end =
     if option_map_or (λ e. nat_lt start e) end true then record { start = start; end = end } ∷ [] else []

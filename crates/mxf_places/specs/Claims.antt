@@ -36,12 +36,12 @@ abbrev pub place_claim : Reason → Option ℕ → ℕ → Claim
 place_claim reason source place =
     record { reason = reason; source = source; from = place; end = place + 1; is_open = false }
 
--- The place that a claim names, where it names one.
+-- The place that a claim names, if it names one.
 unfoldable pub named_place : Claim → Option ℕ
 named_place c = if is_of_stretch c.reason then None else Some c.from
 
--- Going over the notes that share no byte with another, in their order: where one stands at the beginning of a fill,
--- whole or head, one goes on at its end.
+-- Going over the notes that share no byte with another, in their order: from the beginning of a fill, whole or head,
+-- one goes on at its end.
 abbrev pub over_among : List NoteParts → ℕ → ℕ
 over_among [] x = x
 over_among (n ∷ notes) x = over_among notes (if (n.offset == x) && is_fill (kind_of n.key) then end_of n else x)
@@ -66,8 +66,8 @@ begins zones.Index n = begins_index n
 abbrev pub is_unknown : List NoteParts → ℕ → Bool
 is_unknown notes x = is_in_file notes x && (is_disputed_at notes x || not (is_held notes x))
 
--- The stretch of so many bytes, counted from the first packet behind fills, which has to be of a kind; where that
--- packet isn't known, up to its first byte.
+-- The stretch of a given number of bytes, counted from the first packet after fills, which has to be of a kind; if that
+-- packet isn't known, the stretch up to its first byte.
 abbrev pub stretch_at : Zone → List NoteParts → ℕ → ℕ → ℕ → Option Stretch
 stretch_at zone notes from x count =
     option_map_or (λ n. if begins zone n then Some (record { from = from; end = x + count; is_open = false }) else None)
@@ -84,7 +84,7 @@ metadata_of notes p =
     let count = p.pack.numbers.header_byte_count in
     if nat_lt 0 count then stretch_from zones.Metadata notes p.end count else None
 
--- Where the bytes behind the header metadata begin, where that is known.
+-- Where the bytes after the header metadata begin, if that is known.
 abbrev pub known_end : Stretch → Option ℕ
 known_end s = if s.is_open then None else Some s.end
 
@@ -126,7 +126,7 @@ zone_reason zones.Index = Index
 unfoldable pub zone_claim : Zone → List NoteParts → PartitionParts → Option Claim
 zone_claim zone notes p = option_map (stretch_claim (zone_reason zone) p) (zone_of zone notes p)
 
--- What the entries of the only random index pack say, where it can be read.
+-- What the entries of the only random index pack say, if it can be read.
 unfoldable pub entry_claim : ℕ → RipEntry → Option Claim
 entry_claim offset entry =
     if entry.offset == 0 then None else Some (place_claim Entry (Some offset) entry.offset)

@@ -22,8 +22,8 @@ IsHeld notes x = (n : NoteParts) × In n notes × IsCovered n x
 abbrev pub IsDisputedAt : List NoteParts → ℕ → Type 0
 IsDisputedAt notes x = (n : NoteParts) × In n notes × IsDisputed n notes × IsCovered n x
 
--- The end of the file: that of the only random index pack, where it can be read (ST 377-1: it is the last packet of a
--- file), and nothing is held at or above it.
+-- The end of the file: that of the only random index pack, if it can be read (ST 377-1: it is the last packet of a
+-- file) and nothing is held at or above it.
 pub record IsEndOfFile (notes : List NoteParts) (end : ℕ) : Type 0 where
   pub pack : NoteParts
   pub clear : IsClear pack notes
@@ -46,7 +46,7 @@ is_disputed_at notes x = list_any (λ d. covers x d.note) (disputed_notes notes)
 abbrev pub AreDisputed : List NoteParts → List Run → Type 0
 AreDisputed notes runs = (x : ℕ) → LiesIn runs x ↔ IsDisputedAt notes x
 
--- The end of the only random index pack, where it can be read.
+-- The end of the only random index pack, if it can be read.
 abbrev pub rip_end_by : List NoteParts → RipView → Option ℕ
 rip_end_by notes Absent = None
 rip_end_by notes Several = None
@@ -57,7 +57,7 @@ rip_end_by notes (One r) = option_map end_of (find (λ n. n.offset == r.offset) 
 abbrev pub reaches_past : ℕ → List NoteParts → Bool
 reaches_past x notes = list_any (λ n. nat_lt x (covered_end n)) notes
 
--- The end of the file, where it is known.
+-- The end of the file, if it is known.
 unfoldable pub end_of_file : List NoteParts → Option ℕ
 end_of_file notes =
     option_and_then (λ e. if reaches_past e notes then None else Some e) (rip_end_by notes (rip_view_of notes))
@@ -67,7 +67,7 @@ abbrev pub held_end : List NoteParts → ℕ
 held_end [] = 0
 held_end (n ∷ notes) = max (covered_end n) (held_end notes)
 
--- The greatest end of a note, be it claimed by a head; 0 where there is no note.
+-- The greatest end of a note, even if a head claims it; 0 if there is no note.
 abbrev pub top_of : List NoteParts → ℕ
 top_of [] = 0
 top_of (n ∷ notes) = max (end_of n) (top_of notes)

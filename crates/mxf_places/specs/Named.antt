@@ -1,5 +1,5 @@
--- What packs say of places, as relations (ST 377-1, Partition Pack and Random Index Pack; reasons and stretches are this
--- project's profile). Laws tie the functions of Claims to them.
+-- What packs say of places, as relations (ST 377-1, Partition Pack and Random Index Pack; reasons and stretches are
+-- this project's profile). Laws tie the functions of Claims to them.
 use Rattle.std.specs.Prelude.{◌≡◌, ◌≢◌, ℕ, ◌+◌, ◌<◌, ◌⊎◌, true, false, IsTrue, None, Some, List, [], ◌∷◌}
 use Rattle.mxf_klv.specs.Parts.{NoteParts}
 use Rattle.mxf_klv.specs.Note.{end_of, greatest_end}
@@ -36,7 +36,7 @@ abbrev pub Follow : List NoteParts → ℕ → ℕ → Type 0
 Follow [] from to = from ≡ to
 Follow (n ∷ packets) from to = (n.offset ≡ from) × Follow packets (end_of n) to
 
--- Going on over the fills that begin at an offset one comes to another, where none begins.
+-- By going on over the fills that begin at an offset, one comes to another, where none begins.
 pub record IsOver (notes : List NoteParts) (from to : ℕ) : Type 0 where
   pub fills : List NoteParts
   pub are : (n : NoteParts) → In n fills → (kind_of n.key ≡ kinds.Fill) × StandsAlone notes n n.offset
@@ -59,7 +59,7 @@ pub record IsUnknown (notes : List NoteParts) (x : ℕ) : Type 0 where
   pub in_file : IsInFile notes x
   pub why : IsDisputedAt notes x ⊎ (IsHeld notes x → ⊥)
 
--- A stretch of so many bytes, counted from the first packet behind the fills, which begins the zone.
+-- A stretch of a given number of bytes, counted from the first packet after the fills, which begins the zone.
 pub record IsCounted (zone : Zone) (notes : List NoteParts) (from count : ℕ) (s : Stretch) : Type 0 where
   pub first : NoteParts
   pub over : IsOver notes from first.offset
@@ -67,7 +67,7 @@ pub record IsCounted (zone : Zone) (notes : List NoteParts) (from count : ℕ) (
   pub begins : Begins zone first
   pub is : s ≡ record { from = from; end = first.offset + count; is_open = false }
 
--- A stretch up to the first byte behind the fills, of which isn't known what begins there.
+-- A stretch up to the first byte after the fills, at which it isn't known what begins.
 pub record IsOpen (notes : List NoteParts) (from : ℕ) (s : Stretch) : Type 0 where
   pub at : ℕ
   pub over : IsOver notes from at
@@ -83,7 +83,7 @@ abbrev pub AreMetadata : List NoteParts → PartitionParts → Stretch → Type 
 AreMetadata notes p s =
     let count = p.pack.numbers.header_byte_count in (0 < count) × IsStretch zones.Metadata notes p.end count s
 
--- Where the bytes behind the header metadata begin.
+-- Where the bytes after the header metadata begin.
 abbrev pub IsBehindMetadata : List NoteParts → PartitionParts → ℕ → Type 0
 IsBehindMetadata notes p x =
     ((p.pack.numbers.header_byte_count ≡ 0) × (x ≡ p.end))

@@ -25,8 +25,8 @@ pub struct OffsetRange {
     pub end: Option<u64>,
 }
 
-/// Of which offsets the sources of a run give the bytes, and at which of these none differs from another: those are at
-/// hand (this project's profile).
+/// The offsets whose bytes the sources of a run give, and those of them at which no source differs from another: the
+/// latter are at hand (this project's profile).
 #[derive(Debug, Drop)]
 pub struct AtHand {
     given: Cover,
@@ -117,8 +117,8 @@ impl AtHand {
         ranges_lacking(alloc, &self.hand, start, end)
     }
 
-    /// How many offsets below `end`, in bytes, are at hand and not in the cover: two binary searches for each run of it,
-    /// and the runs of both.
+    /// How many offsets below `end`, in bytes, are at hand and not in the cover: two binary searches for each run of
+    /// it, and the runs of both.
     pub fn count_outside(&self, cover: &Cover, end: u64) -> u64
         ensures { result ≡ outside_below self.now.hand cover.now end }
     {
@@ -150,8 +150,8 @@ fn count_within(cover: &Cover, start: u64, end: u64) -> u64
     count
 }
 
-/// The maximal ranges of offsets from a start up to an end, in bytes, that a cover lacks, rising; without an end as far as
-/// offsets go. They take memory; the time is that of two binary searches and of the runs between the two.
+/// The maximal ranges of offsets from a start up to an end, in bytes, that a cover lacks, rising; without an end as far
+/// as offsets go. They take memory; the time is that of two binary searches and of the runs between the two.
 pub fn ranges_lacking(
     alloc: Global,
     cover: &Cover,
@@ -171,7 +171,7 @@ pub fn ranges_lacking(
     Ok(ranges)
 }
 
-/// Adds the range, where it has an offset.
+/// Adds the range, if it has an offset.
 fn add_range(ranges: &mut Vec<OffsetRange>, start: u64, end: Option<u64>) -> Result<(), OutOfMemory>
     ensures { OnOk result (ranges.new.items ≡ ranges.old.items ++ some_range start end) }
 {

@@ -21,8 +21,8 @@ use mxf_sets::RipEntry;
 use mxf_views::{Partition, RipAt, RipView, Views};
 use std::alloc::Global;
 
-/// What a pack claims of offsets: from where up to which end, in bytes. Where the claim is open, nothing is known from
-/// the last byte on.
+/// What a pack claims of offsets: from where up to which end, in bytes. If the claim is open, nothing is known from the
+/// last byte on.
 #[derive(Clone, Copy, Debug, PartialEq, Eq)]
 pub struct Claim {
     pub reason: Reason,
@@ -30,14 +30,14 @@ pub struct Claim {
     pub source: Option<u64>,
     /// A file offset, in bytes.
     pub from: u64,
-    /// The file offset behind the last byte.
+    /// The file offset after the last byte.
     pub end: u128,
-    /// Whether more may follow behind the end, so that it isn't known.
+    /// Whether more may follow after the end, so that the end isn't known.
     pub is_open: bool,
 }
 
 impl Claim {
-    /// The place that it names, in bytes; none where it is that of a stretch.
+    /// The place that it names, in bytes; none if it is that of a stretch.
     #[tactic(auto, unfolding(crate::specs::Claims::named_place))]
     pub fn named_place(&self) -> Option<u64>
         ensures { result ≡ named_place self.now }

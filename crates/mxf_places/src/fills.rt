@@ -19,7 +19,7 @@ struct Fill {
     end: u64,
 }
 
-/// For the start of each fill that shares no byte with another packet, where one comes to that goes on over fills.
+/// For the start of each fill that shares no byte with another packet: where one comes to by going on over fills.
 #[derive(Debug, Drop)]
 pub(crate) struct Fills {
     ends: BTreeMap<u64, u64>,
@@ -39,7 +39,7 @@ impl Fills {
         Ok(Fills { ends })
     }
 
-    /// Where one comes to from an offset, in bytes, that goes on over the fills that begin there.
+    /// Where one comes to from an offset, in bytes, by going on over the fills that begin there.
     pub fn over(&self, offset: u64) -> u64
         ensures { result ≡ over_in self.now.ends offset }
     {
@@ -76,7 +76,7 @@ fn fill_at(note: &Note) -> Option<Fill>
     })
 }
 
-/// A law: going over fills from an offset one comes to where those lead that follow one another there, and where none
+/// A law: going over fills from an offset leads to where the fills that follow one another there lead, and where none
 /// begins.
 pub fn fills_by_definition()
     ensures { (notes : List NoteParts) (from to : ℕ) → IsContent notes

@@ -99,7 +99,7 @@ impl<'a> Holdings<'a> {
         self.disputed.meets(from, to)
     }
 
-    /// Where one comes to from an offset, in bytes, that goes on over the fills that begin there.
+    /// Where one comes to from an offset, in bytes, by going on over the fills that begin there.
     pub fn over_fills(&self, offset: u64) -> u64
         ensures { result ≡ over_fills self.now offset }
     {
@@ -125,14 +125,14 @@ impl<'a> Holdings<'a> {
         }
     }
 
-    /// The end of the file, in bytes, where it is known.
+    /// The end of the file, in bytes, if it is known.
     pub fn end(&self) -> Option<u64>
         ensures { result ≡ end_of_file self.now }
     {
         self.end
     }
 
-    /// The greatest end of a packet, in bytes, be it claimed by a head; 0 where there is none.
+    /// The greatest end of a packet, in bytes, even if a head claims it; 0 if there is none.
     pub fn greatest_end(&self) -> u64
         ensures { result ≡ top_of self.now }
     {
@@ -174,7 +174,7 @@ fn disputed_in(alloc: Global, catalogue: &Catalogue) -> Result<Cover, OutOfMemor
     Ok(cover)
 }
 
-/// The end of the only random index pack, in bytes, where it can be read.
+/// The end of the only random index pack, in bytes, if it can be read.
 fn rip_end(views: &Views) -> Option<u64>
     ensures { result ≡ rip_end_by views.now (rip_view_of views.now) }
 {
@@ -185,8 +185,8 @@ fn rip_end(views: &Views) -> Option<u64>
     Some(pack.end())
 }
 
-/// The end of the file of the views, in bytes, where it is known: that of the only random index pack, where nothing is
-/// held at or above it (ST 377-1, Random Index Pack).
+/// The end of the file of the views, in bytes, if it is known: that of the only random index pack, if nothing is held
+/// at or above it (ST 377-1, Random Index Pack).
 #[tactic(auto, unfolding(crate::specs::Held::end_of_file))]
 fn end_of_file(views: &Views) -> Option<u64>
     ensures { result ≡ end_of_file views.now }
@@ -198,8 +198,8 @@ fn end_of_file(views: &Views) -> Option<u64>
     Some(end)
 }
 
-/// A law: what is held and what is disputed, where the file ends, what may lie in it, and of what isn't known what
-/// begins there.
+/// A law: what is held and what is disputed, where the file ends, what may lie in it, and at which offsets it isn't
+/// known what begins.
 pub fn held_by_definition()
     ensures held { (notes : List NoteParts) (x : ℕ) → IsTrue (is_held notes x) ↔ IsHeld notes x }
     ensures disputed { (notes : List NoteParts) (x : ℕ) → IsTrue (is_disputed_at notes x) ↔ IsDisputedAt notes x }
@@ -208,7 +208,7 @@ pub fn held_by_definition()
     ensures unknown { (notes : List NoteParts) (x : ℕ) → IsTrue (is_unknown notes x) ↔ IsUnknown notes x }
 {}
 
-/// A law of [`Holdings::edge`]: the file reaches to its end, or where that isn't known to the least offset to which all
+/// A law of [`Holdings::edge`]: the file reaches to its end or, if that isn't known, to the least offset to which all
 /// ends of notes reach at most, and below which all given offsets lie.
 pub fn edges_by_definition()
     ensures { (at : AtHandParts) (notes : List NoteParts) (edge : ℕ) → IsCover at.given

@@ -1,9 +1,9 @@
-//! What is asked of places in a file of which parts are held: which offsets are held and how far the file reaches, and
-//! what packs say of offsets (ST 377-1, Partition Pack and Random Index Pack; reasons, stretches and what is disputed are
-//! this project's profile).
+//! What is asked of places in a file that is held in parts: which offsets are held and how far the file reaches, and
+//! what packs say of offsets (ST 377-1, Partition Pack and Random Index Pack; reasons, stretches and what is disputed
+//! are this project's profile).
 //!
-//! All of it are functions of the content of a catalogue. What to restore next, the map, and where edit units lie are
-//! made of them, each in a crate of its own above.
+//! All of these are functions of the content of a catalogue. What to restore next, the map, and where edit units lie
+//! are made of them, each in a crate of its own above.
 //!
 //! | Question | Call | Answer |
 //! |---|---|---|
@@ -11,25 +11,25 @@
 //! [`Holdings::is_disputed_at`] | whether some packet covers it, and whether a disputed one does |
 //! | Is any offset of a range, or are all? | [`Holdings::is_any_held`], [`Holdings::are_all_held`],
 //! [`Holdings::is_any_disputed`] | the same from a start up to an end |
-//! | Where does the file end? | [`Holdings::end`], [`Holdings::edge`], [`Holdings::held_end`] | its end where it is
+//! | Where does the file end? | [`Holdings::end`], [`Holdings::edge`], [`Holdings::held_end`] | its end if it is
 //! known; how far it reaches as far as that is known; the first offset above all that is held |
 //! | Which bytes are at hand beside that? | [`AtHand`], [`AtHand::lacking`] | which offsets sources give, and at which
 //! they don't differ; the ranges that aren't |
-//! | Where does one come to behind fills? | [`Holdings::over_fills`] | an offset |
+//! | Where does one come to after fills? | [`Holdings::over_fills`] | an offset |
 //! | Is it known what begins at an offset? | [`Holdings::is_unknown`], [`Holdings::begins_clear_head`] | whether it
-//! isn't; whether a head does of which the rest isn't held |
+//! isn't; whether a head does whose rest isn't held |
 //! | Where do header metadata and index table segments of a partition lie? | [`zone_of`], [`behind_metadata`] |
-//! [`Stretch`] of a [`Zone`]; the offset behind the header metadata |
+//! [`Stretch`] of a [`Zone`]; the offset after the header metadata |
 //! | What do packs say of offsets? | [`claims`] | each [`Claim`] with its [`Reason`], by reason and then source |
 //!
-//! What is proved: each call answers its function of the notes of the catalogue. The laws say what these are in the words
-//! of the standards: [`held_by_definition`], what is held and what is disputed, where the file ends, what may lie in it,
-//! and of what isn't known what begins there; [`edges_by_definition`], how far it reaches; [`lacking_by_definition`], which ranges a set of offsets lacks;
-//! [`fills_by_definition`], where one comes to that goes on over fills;
-//! [`zones_by_definition`], where the stretches lie that a partition counts; [`claims_by_definition`], what packs
-//! claim of offsets; and [`claims_in_order`], in which order, and which claim of an offset goes first.
+//! What is proved: each call answers its function of the notes of the catalogue. The laws say what these are in the
+//! words of the standards: [`held_by_definition`], what is held and what is disputed, where the file ends, what may lie
+//! in it, and at which offsets it isn't known what begins; [`edges_by_definition`], how far it reaches;
+//! [`lacking_by_definition`], which ranges a set of offsets lacks; [`fills_by_definition`], where one comes to by going
+//! on over fills; [`zones_by_definition`], where the stretches lie that a partition counts; [`claims_by_definition`],
+//! what packs claim of offsets; and [`claims_in_order`], in which order, and which claim of an offset goes first.
 //!
-//! The places that packs name and of which nothing is held:
+//! The places that packs name and that aren't held:
 //!
 //! ```
 //! let holdings = Holdings::of(alloc, &views)?;

@@ -8,10 +8,10 @@ use std::fmt;
 /// profile).
 #[derive(Clone, Copy, Debug, PartialEq, Eq, PartialOrd, Ord)]
 pub enum Reason {
-    /// The header partition, at 0: it tells what the file is.
+    /// The header partition, at 0: it says what the file is.
     Header,
     /// The footer partition, which has the last copy of the header metadata and the index, and often the random index
-    /// pack behind it.
+    /// pack after it.
     Footer,
     /// The header metadata of a partition.
     Metadata,

@@ -25,20 +25,19 @@ pub enum Zone {
     Index,
 }
 
-/// A stretch of the file: from where, up to which end, in bytes. Where it is open, nothing is known from its last byte
-/// on.
+/// A stretch of the file: from where, up to which end, in bytes. If it is open, nothing is known from its last byte on.
 #[derive(Clone, Copy, Debug, PartialEq, Eq)]
 pub struct Stretch {
     /// A file offset, in bytes.
     pub from: u64,
-    /// The file offset behind the last byte.
+    /// The file offset after the last byte.
     pub end: u128,
-    /// Whether more may follow behind the end, so that it isn't known.
+    /// Whether more may follow after the end, so that the end isn't known.
     pub is_open: bool,
 }
 
 impl Stretch {
-    /// The end, in bytes, where it is known.
+    /// The end, in bytes, if it is known.
     pub fn known_end(&self) -> Option<u128>
         ensures { result ≡ known_end self.now }
     {
@@ -68,7 +67,7 @@ fn metadata_of(holdings: &Holdings<'_>, partition: &Partition) -> Option<Stretch
     stretch_from(holdings, Zone::Metadata, partition.end, count)
 }
 
-/// Where the bytes behind the header metadata of a partition begin, in bytes, where that is known.
+/// Where the bytes after the header metadata of a partition begin, in bytes, if that is known.
 pub fn behind_metadata(holdings: &Holdings<'_>, partition: &Partition) -> Option<u128>
     ensures { result ≡ behind_metadata holdings.now partition.now }
 {
@@ -96,8 +95,8 @@ fn index_of(holdings: &Holdings<'_>, partition: &Partition) -> Option<Stretch>
     stretch_from(holdings, Zone::Index, from as u64, count)
 }
 
-/// The stretch of so many bytes that are counted from the first packet behind the fills at an offset, which has to
-/// begin the zone; where that packet isn't known, up to its first byte.
+/// The stretch of a given number of bytes, counted from the first packet after the fills at an offset, which has to
+/// begin the zone; if that packet isn't known, the stretch up to its first byte.
 fn stretch_from(holdings: &Holdings<'_>, zone: Zone, from: u64, count: u64) -> Option<Stretch>
     ensures { result ≡ stretch_from zone holdings.now from count }
 {
@@ -114,8 +113,8 @@ fn stretch_from(holdings: &Holdings<'_>, zone: Zone, from: u64, count: u64) -> O
     })
 }
 
-/// Whether the packet of the note begins the zone of a partition: a primer pack, readable where it is whole, or an
-/// index table segment.
+/// Whether the packet of the note begins the zone of a partition: a primer pack, readable if it is whole, or an index
+/// table segment.
 #[tactic(auto, unfolding(crate::specs::Claims::begins_metadata, crate::specs::Claims::begins_index))]
 fn begins(zone: Zone, note: &Note) -> bool
     ensures { result ≡ begins zone note.now }
@@ -136,8 +135,8 @@ fn is_primer(note: &Note) -> bool
     Primer::read(value).is_ok()
 }
 
-/// A law: the stretches of so many bytes from an offset on, and those of the zones of partitions, are by the first
-/// packet behind the fills there (ST 377-1, HeaderByteCount and IndexByteCount).
+/// A law: the stretches of a given number of bytes from an offset on, and those of the zones of partitions, are
+/// determined by the first packet after the fills there (ST 377-1, HeaderByteCount and IndexByteCount).
 pub fn zones_by_definition()
     ensures stretches { (zone : Zone) (notes : List NoteParts) (from count : ℕ) (s : Stretch) → IsContent notes
         → (stretch_from zone notes from count ≡ Some s) ↔ IsStretch zone notes from count s }

@@ -11,7 +11,7 @@ use Rattle.mxf_restore.specs.declared.plan.DisputedPlace.{DisputedPlace}
 abbrev pub IsPointOf : Claim → ℕ → Type 0
 IsPointOf c x = Names c x ⊎ (IsOfStretch c × (c.is_open ≡ true) × (x + 1 ≡ c.end))
 
--- A place of which some claim speaks, which may lie in the file, and which a disputed packet covers. Its reason and its
+-- A place that some claim speaks of, that may lie in the file, and that a disputed packet covers. Its reason and its
 -- source are those of the claim that goes first.
 pub record IsDisputedPlace (notes : List NoteParts) (d : DisputedPlace) : Type 0 where
   pub by : Claim

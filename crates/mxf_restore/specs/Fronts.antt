@@ -1,4 +1,4 @@
--- The front of what is looked for of a section, where edit units ask for a partition there (this project's profile).
+-- The front of what is looked for of a section, if edit units ask for a partition there (this project's profile).
 use Rattle.std.specs.Prelude.{◌≡◌, ◌↔◌, ◌≢◌, ℕ, ◌+◌, ◌≤◌, ◌⊎◌, false, IsTrue, min, Option, None, Some, unwrap_or, List}
 use Rattle.std.specs.Option.{option_map}
 use Rattle.std.specs.List.{slice_get}
@@ -13,7 +13,7 @@ use Rattle.mxf_restore.specs.Plan.{LiesInOrder, asked_of, part_order, parts_of, 
 use Rattle.mxf_restore.specs.declared.section.Section.{Section}
 use Rattle.mxf_restore.specs.declared.plan.Order.{Order}
 
--- All from a start on, of which no pack says what lies there.
+-- All from a start on; no pack says what lies there.
 abbrev pub all_from : ℕ → Order
 all_from start = record { reason = Gap; start = start; end = None; source = None; inside = false; again = false }
 
@@ -25,9 +25,9 @@ IsLookedFor at notes p o =
     × ((start : ℕ) × IsStartOf notes p.first start × (o ≡ all_from start)))
 
 -- The front of a section begins where the first part of what is looked for does, for its reason and source, and ends
--- 65,536 bytes behind that or where the part does, whichever is less; a part without an end goes up to the greatest end
--- of a packet, since no byte of a file lies there. It is inside of a packet where it begins elsewhere than what is
--- looked for, and asked for again where all its bytes were handed in.
+-- 65,536 bytes after that or where the part does, whichever is less; a part without an end goes up to the greatest end
+-- of a packet, since no byte of a file lies there. It is inside of a packet if it begins elsewhere than what is looked
+-- for, and asked for again if all its bytes were handed in.
 pub record IsFront (at : AtHandParts) (notes : List NoteParts) (p : Section) (o : Order) : Type 0 where
   pub asked : Order
   pub is_asked : IsLookedFor at notes p asked

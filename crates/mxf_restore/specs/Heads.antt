@@ -18,7 +18,7 @@ head_of notes x =
 abbrev pub AreHeads : List NoteParts → List (ℕ × Head) → Type 0
 AreHeads notes heads = (x : ℕ) → lookup (is_at (nat_cmp x)) heads ≡ head_of notes x
 
--- The first head to an offset, where another one comes behind.
+-- The first head to an offset, if another one follows.
 abbrev pub with_head : Option Head → NoteParts → Head
 with_head None n = record { offset = n.offset; needed = end_of n }
 with_head (Some head) n =

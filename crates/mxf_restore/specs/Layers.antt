@@ -24,7 +24,7 @@ use Rattle.mxf_restore.specs.declared.map.Mark.TheVariants as marks
 use Rattle.mxf_restore.specs.Map.{is_missing, missing_places}
 use Rattle.mxf_places.specs.Claims.{named_place}
 
--- The offsets in the runs are those of which this holds.
+-- The offsets in the runs are those for which this holds.
 abbrev pub AreOffsets : (ℕ → Type 0) → List Run → Type 0
 AreOffsets P runs = (x : ℕ) → LiesIn runs x ↔ P x
 
@@ -94,7 +94,7 @@ is_of_zone zones.Index _ = false
 abbrev pub zone_notes : Zone → List NoteParts → List NoteParts
 zone_notes zone notes = filter (λ n. is_of_zone zone (kind_of n.key)) notes
 
--- The place that a claim names, where it is missing.
+-- The place that a claim names, if it is missing.
 abbrev pub missing_place : List NoteParts → Claim → Option ℕ
 missing_place notes c = option_and_then (λ x. if is_missing notes x then Some x else None) (named_place c)
 

@@ -28,8 +28,8 @@ use Rattle.mxf_restore.specs.declared.map.Mark.TheVariants as marks
 abbrev pub BeginsHead : List NoteParts → ℕ → Type 0
 BeginsHead notes x = (n : NoteParts) × StandsAlone notes n x × (n.whole ≡ false)
 
--- The place may lie in the file, no disputed packet covers it, and what begins there isn't held whole: only the head of a
--- packet is, or nothing.
+-- The place may lie in the file, no disputed packet covers it, and what begins there isn't held whole: only the head of
+-- a packet is, or nothing.
 pub record IsMissing (notes : List NoteParts) (x : ℕ) : Type 0 where
   pub in_file : IsInFile notes x
   pub undisputed : ¬ IsDisputedAt notes x
@@ -49,7 +49,7 @@ is_missing notes x =
 unfoldable pub missing_places : List NoteParts → List ℕ
 missing_places notes = filter (is_missing notes) (filter_map named_place (claims_of notes))
 
--- The greatest of numbers; 0 where there is none.
+-- The greatest of numbers; 0 if there is none.
 abbrev pub greatest_of : List ℕ → ℕ
 greatest_of [] = 0
 greatest_of (x ∷ xs) = max x (greatest_of xs)
@@ -59,7 +59,7 @@ unfoldable pub map_end : KnownParts → ℕ
 map_end known =
     max 1 (max (edge_of known.at known.notes) (greatest_of (map (λ x. x + 1) (missing_places known.notes))))
 
--- The bytes of a cell, of so many at most.
+-- The bytes of a cell, if there are at most a given number of cells.
 abbrev pub cell_size : ℕ → ℕ → ℕ
 cell_size end cells = (end + (cells - 1)) / cells
 
@@ -86,7 +86,7 @@ abbrev pub HasPartition : List NoteParts → ℕ → ℕ → PackPart → Type 0
 HasPartition notes from to part =
     (p : PartitionParts) × In p (partitions_of notes) × (p.pack.part ≡ part) × IsInCell from to p.offset
 
--- A byte of the cell lies in a clear packet of which this holds.
+-- A byte of the cell lies in a clear packet for which this holds.
 abbrev pub HasByteOf : List NoteParts → ℕ → ℕ → (Kind → Type 0) → Type 0
 HasByteOf notes from to P =
     (n : NoteParts) × IsClear n notes × P (kind_of n.key) × ((x : ℕ) × IsInCell from to x × IsInSpan n x)
@@ -153,7 +153,7 @@ pub record MapParts : Type 0 where
   pub cell : ℕ
   pub marks : List Mark
 
--- The map of so many cells at most.
+-- The map of at most a given number of cells.
 pub record IsMap (known : KnownParts) (cells : ℕ) (m : MapParts) : Type 0 where
   pub end : m.end ≡ map_end known
   pub held : m.held ≡ held_below known.notes m.end

@@ -47,7 +47,7 @@ named_place_of notes c =
     else option_and_then (λ x. if is_missing notes x then Some (record { place = x; source = c.source }) else None)
     (named_place c)
 
--- The source with which a place stands first in a list; none where it doesn't stand there.
+-- The source with which a place stands first in a list; none if it doesn't stand there.
 abbrev pub source_in : List NamedPlace → ℕ → Option (Option ℕ)
 source_in places x = option_map (λ n. n.source) (find (λ n. n.place == x) places)
 

@@ -22,15 +22,15 @@ pub record IsHeadTo (notes : List NoteParts) (start end : ℕ) (n : NoteParts) :
   pub begins : n.offset ≡ start
   pub ends : covered_end n ≡ end
 
--- Where the packet begins of which a section with this first byte is the rest: the least offset of a head whose key and
--- length end there; the byte itself where there is none.
+-- Where the packet begins whose rest is a section with this first byte: the least offset of a head whose key and length
+-- end there; the byte itself if there is none.
 abbrev pub IsStartOf : List NoteParts → ℕ → ℕ → Type 0
 IsStartOf notes first start =
     ((n : NoteParts) × IsHeadTo notes start first n
     × ((x : ℕ) (m : NoteParts) → IsHeadTo notes x first m → start ≤ x))
     ⊎ ((start ≡ first) × ((x : ℕ) (m : NoteParts) → IsHeadTo notes x first m → ⊥))
 
--- Why the bytes at an offset are restored, and which pack says so: what the first claim of the offset says; where none
+-- Why the bytes at an offset are restored, and which pack says so: what the first claim of the offset says; if none
 -- speaks of it, they are a gap, and no pack says so.
 abbrev pub IsSaid : List NoteParts → ℕ → Reason → Option ℕ → Type 0
 IsSaid notes x reason source =
@@ -48,7 +48,7 @@ pub record ReachesUpTo (at : AtHandParts) (notes : List NoteParts) (first start 
   pub far : ((n : NoteParts) × In n notes × (first < end_of n)) ⊎ (first + 25 ≤ edge)
   pub closed : IsOpenAt notes start → ⊥
 
--- Where a section ends: at its own end, or if it has none at the edge that it reaches up to. It ends nowhere if it
+-- Where a section ends: at its own end or, if it has none, at the edge that it reaches up to. It ends nowhere if it
 -- reaches up to none.
 abbrev pub IsSectionEnd : AtHandParts → List NoteParts → Section → ℕ → Option ℕ → Type 0
 IsSectionEnd at notes p start (Some end) =
@@ -56,8 +56,8 @@ IsSectionEnd at notes p start (Some end) =
 IsSectionEnd at notes p start None =
     (p.end ≡ None) × ((edge : ℕ) → ReachesUpTo at notes p.first start edge → ⊥)
 
--- Up to where is asked for: the end of the section, or where the packets of the heads end, if that is greater, but no
--- more than the end of the hole.
+-- Up to where bytes are asked for: the end of the section, or where the packets of the heads end, if that is greater,
+-- but no more than the end of the hole.
 pub record IsAskedUpTo (at : AtHandParts) (notes : List NoteParts) (p : Section) (start end : ℕ) : Type 0 where
   pub section_end : ℕ
   pub is_section_end : IsSectionEnd at notes p start (Some section_end)
@@ -66,7 +66,7 @@ pub record IsAskedUpTo (at : AtHandParts) (notes : List NoteParts) (p : Section)
   pub reached : (section_end ≡ end)
       ⊎ ((n : NoteParts) × IsHeadTo notes start p.first n × (up_to_bound (end_of n) p.hole.end ≡ end))
 
--- The same, or none where the section ends nowhere.
+-- The same, or none if the section ends nowhere.
 abbrev pub IsAskedEnd : AtHandParts → List NoteParts → Section → ℕ → Option ℕ → Type 0
 IsAskedEnd at notes p start (Some end) = IsAskedUpTo at notes p start end
 IsAskedEnd at notes p start None = IsSectionEnd at notes p start None
@@ -94,8 +94,8 @@ abbrev pub IsFirstLacking : AtHandParts → Section → Order → OffsetRange �
 IsFirstLacking at p o r =
     IsLackingIn at p o r × ((q : OffsetRange) → IsLackingIn at p o q → r.start ≤ q.start)
 
--- A part of what is asked for of a section. It is all of that if nothing of it lacks. Else it is a range that lacks and
--- begins before the section ends. The first of them goes from the start of the packet on if that is needed whole.
+-- A part of what is asked for of a section: all of that if nothing of it is lacking, otherwise a range that is lacking
+-- and begins before the section ends. The first of them goes from the start of the packet on if that is needed whole.
 abbrev pub IsPart : AtHandParts → Section → Order → ℕ → Option ℕ → Type 0
 IsPart at p o start end =
     (((r : OffsetRange) → IsLackingIn at p o r → ⊥) × (start ≡ o.start) × (end ≡ o.end))

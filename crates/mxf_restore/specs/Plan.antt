@@ -24,17 +24,17 @@ use Rattle.mxf_restore.specs.declared.plan.DisputedPlace.{DisputedPlace}
 abbrev pub is_head_to : ℕ → NoteParts → Bool
 is_head_to x n = not n.whole && (covered_end n == x)
 
--- Where a packet begins of which a section with this first byte is the rest: at the first head that ends there, or else
--- at the byte itself.
+-- Where a packet begins whose rest is a section with this first byte: at the first head that ends there, or else at the
+-- byte itself.
 abbrev pub start_of : List NoteParts → ℕ → ℕ
 start_of notes first = option_map_or (λ n. n.offset) (find (is_head_to first) notes) first
 
--- The greatest claimed end of the heads at an offset that end at another; 0 where there is none.
+-- The greatest claimed end of the heads at an offset that end at another; 0 if there is none.
 abbrev pub needed_of : List NoteParts → ℕ → ℕ → ℕ
 needed_of notes start first = top_of (filter (λ n. is_head_to first n && (n.offset == start)) notes)
 
--- Where a section ends: one without an end does where the file does as far as that is known, unless its claim is open,
--- or fewer bytes are given behind it than the key and length of a packet can have.
+-- Where a section ends: one without an end ends where the file does, as far as that is known, unless its claim is open,
+-- or fewer bytes are given from its first byte on than the key and length of a packet can have.
 abbrev pub end_by : AtHandParts → List NoteParts → Section → Option Claim → Option ℕ
 end_by at notes p claim =
     if is_some p.end then p.end
@@ -80,7 +80,7 @@ begun_at start (r ∷ ranges) = record { start = start; end = r.end } ∷ ranges
 abbrev pub is_whole_needed : AtHandParts → Section → ℕ → Bool
 is_whole_needed at p start = (start == p.first) || not (has_offset at.hand p.first)
 
--- The parts of what is asked for of a section that aren't at hand, up to where the next section begins; all of it where
+-- The parts of what is asked for of a section that aren't at hand, up to where the next section begins; all of it if
 -- nothing would be left: it is at hand, and a hole still.
 abbrev pub parts_among : AtHandParts → Section → Order → List OffsetRange → List OffsetRange
 parts_among at p o [] = record { start = o.start; end = o.end } ∷ []
@@ -91,7 +91,7 @@ parts_among at p o ranges =
 unfoldable pub parts_of : AtHandParts → Section → Order → List OffsetRange
 parts_of at p o = parts_among at p o (lacking at.hand p.first o.end)
 
--- The bytes were handed in and don't do: all of them are given; or, where the end isn't known, all that key and length
+-- The bytes were handed in and don't do: all of them are given; or, if the end isn't known, all that the key and length
 -- of a packet can have are at hand.
 abbrev pub is_again : AtHandParts → OffsetRange → Bool
 is_again at r = option_map_or (λ e. has_offsets at.given r.start e) r.end (has_offsets at.hand r.start (r.start + 25))
@@ -151,7 +151,7 @@ disputed_place_cmp =
     then_cmp (on (λ d. reason_rank d.reason) nat_cmp)
     (then_cmp (on (λ d. d.place) nat_cmp) (on (λ d. d.source) (option_cmp nat_cmp)))
 
--- What is to be restored, what is disputed, and the end of the file where it is known.
+-- What is to be restored, what is disputed, and the end of the file if it is known.
 pub record PlanParts : Type 0 where
   pub orders : List Order
   pub disputed_places : List DisputedPlace

@@ -34,7 +34,7 @@ pub record IsHole (notes : List NoteParts) (h : OffsetRange) : Type 0 where
 abbrev pub closed_hole : Run → OffsetRange
 closed_hole gap = record { start = gap.start; end = Some gap.end }
 
--- The holes: the gaps that end where something is held, and the one behind all that is held.
+-- The holes: the gaps that end where something is held, and the one after all that is held.
 unfoldable pub holes_of : List NoteParts → List OffsetRange
 holes_of notes =
     map closed_hole (filter (λ gap. is_held notes gap.end) (gaps_of notes))

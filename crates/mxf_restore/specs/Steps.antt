@@ -16,7 +16,7 @@ abbrev pub NeverFall : ℕ → List Step → Type 0
 NeverFall low [] = Unit {0}
 NeverFall low (s ∷ steps) = (low ≤ s.from) × NeverFall s.from steps
 
--- The steps tell the first claim of each offset below 2^64.
+-- The steps give the first claim of each offset below 2^64.
 pub record AreSteps (claims : List Claim) (steps : List Step) : Type 0 where
   pub never_fall : NeverFall 0 steps
   pub tell : (x : ℕ) → x < 2 ^ 64 → value_from None steps x ≡ find (is_claimed x) claims
@@ -24,8 +24,8 @@ pub record AreSteps (claims : List Claim) (steps : List Step) : Type 0 where
 abbrev pub step : ℕ → Option Claim → Option Claim → Step
 step from upper lower = record { from = from; claim = option_or upper lower }
 
--- Steps of which those of one list go before those of another: at each offset what the first list says, where it says
--- anything, else what the second does. Behind the first list it is the second's.
+-- Steps in which those of one list go before those of another: at each offset what the first list says if it says
+-- anything, otherwise what the second does. After the first list it is the second's.
 abbrev pub overlay_with : (Option Claim → List Step → List Step) → Option Claim → Step → Option Claim → List Step
     → List Step
 overlay_with rest upper a lower [] = step a.from a.claim lower ∷ rest lower []

@@ -38,7 +38,7 @@ fn disputed_places_of(
     Ok(disputed_places.collect(alloc)?)
 }
 
-/// The disputed place of the claim, where what covers its place is disputed.
+/// The disputed place of the claim, if what covers its place is disputed.
 #[tactic(auto, unfolding(crate::specs::Plan::disputed_place_of))]
 fn disputed_place_of(holdings: &Holdings<'_>, claim: &Claim) -> Option<DisputedPlace>
     ensures { result ≡ disputed_place_of holdings.now claim.now }
@@ -69,7 +69,7 @@ fn point_of(claim: &Claim) -> Option<u128>
     }
 }
 
-/// The disputed places of which each place stands once, as it stands first.
+/// The disputed places, each place once, as it stands first.
 fn first_by_place(
     alloc: Global,
     disputed_places: &[DisputedPlace],

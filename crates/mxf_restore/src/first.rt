@@ -110,7 +110,7 @@ fn steps_of_one(alloc: Global, claim: Claim) -> Result<Vec<Step>, OutOfMemory>
     Ok(steps)
 }
 
-/// The steps of which the upper ones go before the lower ones.
+/// The steps of both lists, in which the upper ones go before the lower ones.
 fn laid_over(alloc: Global, upper: &[Step], lower: &[Step]) -> Result<Vec<Step>, OutOfMemory>
     ensures { IfOk result (λ steps. steps.items ≡ overlay None upper.now None lower.now) }
 {
@@ -121,7 +121,7 @@ fn laid_over(alloc: Global, upper: &[Step], lower: &[Step]) -> Result<Vec<Step>,
     Ok(steps)
 }
 
-/// The steps that are left of two lists of which one lies over the other, and what the two said last.
+/// The steps that are left of two lists, one of which lies over the other, and what the two said last.
 #[derive(Drop)]
 struct Overlay<'a> {
     upper: &'a [Step],
@@ -180,7 +180,7 @@ impl<'a> Iterator for Overlay<'a> {
     }
 }
 
-/// Whether the first of the upper steps is there, and not behind the first of the lower ones.
+/// Whether the first of the upper steps is there, and not after the first of the lower ones.
 fn goes_first(upper: &[Step], lower: &[Step]) -> bool
     ensures { result ≡ goes_first upper.now lower.now }
 {

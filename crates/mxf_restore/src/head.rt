@@ -10,7 +10,7 @@ use std::alloc::Global;
 use std::collections::BTreeMap;
 use std::marker::Model;
 
-/// The first of the heads of which key and length end at one offset: packets of which nothing more is held.
+/// The first of the heads whose key and length end at one offset: packets of which nothing more is held.
 #[derive(Clone, Copy)]
 pub(crate) struct Head {
     /// Its file offset, in bytes.
@@ -47,9 +47,9 @@ impl<'a> Heads<'a> {
         Ok(Heads { catalogue, heads })
     }
 
-    /// Where a packet begins of which the bytes from this offset on are the rest: at the first head of which key and
-    /// length end there, or else at the offset itself; and the greatest end that such a head there claims, else 0. All
-    /// are in bytes.
+    /// Where a packet begins whose rest is the bytes from this offset on: at the first head whose key and length end
+    /// there, or else at the offset itself. Also the greatest end that such a head there claims, otherwise 0. All are
+    /// in bytes.
     pub fn around(&self, first: u64) -> Head
         ensures start { result.offset ≡ start_of self.now first }
         ensures needed { result.needed ≡ needed_of self.now (start_of self.now first) first }

@@ -1,22 +1,22 @@
-//! What to restore next of a file of which parts are held: the plan, and the map (this project's profile).
+//! What to restore next of a file that is held in parts: the plan, and the map (this project's profile).
 //!
-//! Both are functions of the content of a catalogue, what packs name and count, and which offsets no packet covers; and of
-//! the bytes at hand: what is there in sources, and in no noted packet, isn't ordered, and has a mark of its own.
+//! Both are functions of the content of a catalogue, what packs name and count, and which offsets no packet covers; and
+//! of the bytes at hand. What is there in sources, and in no noted packet, isn't ordered, and has a mark of its own.
 //!
 //! What is held, where the file ends and what packs claim of offsets is asked of mxf_places. Whoever needs only some of
-//! the bytes asks what is ordered of a single section, or of its front, where a partition may begin ([`SectionOrders`]);
-//! and which places packs name that are missing ([`named_places`]).
+//! the bytes asks what is ordered of a single section, or of its front, where a partition may begin
+//! ([`SectionOrders`]); and which places packs name that are missing ([`named_places`]).
 //!
-//! What is proved: [`Plan::of`] and [`Map::of`] answer these functions, and so do [`SectionOrders`] and
-//! [`named_places`]. Laws (`.._by_definition`) say what they are made of, beside those of mxf_places: the holes and
-//! their sections, what is asked for of a section ([`asked_by_definition`]) and what is ordered
-//! ([`orders_by_definition`]), the disputed and the missing places, and the front of a section. Each byte that is missing
-//! below the end is at hand or lies in an order ([`gaps_are_ordered`]), of an order no byte is held but for key and length
-//! of a head at its start ([`orders_are_missing`]), no two orders begin at one offset ([`starts_are_apart`]), where
-//! nothing is at hand all is ordered that is asked for ([`orders_where_nothing_is_at_hand`]), of a whole file nothing is
-//! ordered ([`whole_files_have_no_order`]), and each cell of a map has one mark ([`one_mark`]).
+//! What is proved: [`Plan::of`], [`Map::of`], [`SectionOrders`] and [`named_places`] answer these functions. Laws
+//! (`.._by_definition`) say what they are made of, beside those of mxf_places: the holes and their sections, what is
+//! asked for of a section ([`asked_by_definition`]) and what is ordered ([`orders_by_definition`]), the disputed and
+//! the missing places, and the front of a section. Each missing byte below the end is at hand or lies in an order
+//! ([`gaps_are_ordered`]). No byte of an order is held but for the key and length of a head at its start
+//! ([`orders_are_missing`]). No two orders begin at one offset ([`starts_are_apart`]). If nothing is at hand, all that
+//! is asked for is ordered ([`orders_where_nothing_is_at_hand`]). Nothing of a whole file is ordered
+//! ([`whole_files_have_no_order`]). Each cell of a map has one mark ([`one_mark`]).
 //!
-//! That no order is left in the end, where what was ordered is handed in again and again, is tested.
+//! That no order is left in the end, if what was ordered is handed in again and again, is tested.
 //!
 //! What to restore next of what two pieces hold together:
 //!

@@ -88,8 +88,8 @@ impl Model for Map {
 }
 
 impl Map {
-    /// The map of the file of the views, where some of its bytes are at hand beside what is held, of so many cells at
-    /// most, of which there is one at least.
+    /// The map of the file of the views, some of whose bytes are at hand beside what is held, of at most a given number
+    /// of cells, and at least one.
     ///
     /// The only fault is out of memory.
     pub fn of(
@@ -177,7 +177,7 @@ impl Map {
     }
 }
 
-/// The bytes of a cell, where so many at most are to reach the end, in bytes.
+/// The bytes of a cell, if at most a given number of cells are to reach the end, in bytes.
 fn cell_size(end: u64, cells: u64) -> u64
     requires some { 1 ≤ end }
     requires cells { 1 ≤ cells }
@@ -188,7 +188,7 @@ fn cell_size(end: u64, cells: u64) -> u64
     (end - 1) / cells + 1
 }
 
-/// The marks of the cells of so many bytes, up to the end, in bytes. They take memory.
+/// The marks of the cells of a given size up to the end, both in bytes. They take memory.
 fn marks(alloc: Global, layers: &Layers<'_>, size: u64, end: u64) -> Result<Vec<Mark>, OutOfMemory>
     requires { 1 ≤ size }
     ensures { IfOk result (λ v. AreMarks layers.now size end 0 v.items) }
@@ -258,8 +258,8 @@ pub fn one_map()
         → IsMap known cells m → IsMap known cells n → m ≡ n }
 {}
 
-/// A law of [`Map::marks`] and of [`named_places`](crate::named_places): a missing place is one that a pack names and that
-/// may lie in the file, that no disputed packet covers, and where not all is held that begins there.
+/// A law of [`Map::marks`] and of [`named_places`](crate::named_places): a missing place is one that a pack names and
+/// that may lie in the file, that no disputed packet covers, and where not all that begins there is held.
 pub fn missing_places_by_definition()
     ensures test { (notes : List NoteParts) (x : ℕ) → IsTrue (is_missing notes x) ↔ IsMissing notes x }
     ensures places { (notes : List NoteParts) (x : ℕ) → In x (missing_places notes) ↔ IsMissingPlace notes x }

@@ -94,8 +94,8 @@ impl<'a> SectionOrders<'a> {
         })
     }
 
-    /// Where a packet begins of which the section is the rest, a file offset in bytes: at the first head of which key
-    /// and length end at the section's first byte, or else at that byte.
+    /// Where a packet begins whose rest is the section, as a file offset in bytes: at the first head whose key and
+    /// length end at the section's first byte, or else at that byte.
     pub fn start_of(&self, section: Section) -> u64
         ensures { result ≡ start_of self.now.notes section.first }
     {
@@ -119,8 +119,8 @@ impl<'a> SectionOrders<'a> {
     }
 
     /// The front of the section: the order of no more than the first 65,536 bytes of the first part of what is looked
-    /// for, which is what is asked for of the section, or all from where its packet begins on where nothing is. None
-    /// where it has no part. It takes memory.
+    /// for. That is what is asked for of the section or, if nothing is, all from where its packet begins. None if it
+    /// has no part. It takes memory.
     #[tactic(auto, unfolding(crate::specs::Fronts::front_of))]
     pub fn front_of(&self, alloc: Global, section: Section) -> Result<Option<Order>, OutOfMemory>
         ensures { IfOk result (λ o. o ≡ front_of self.now.at self.now.notes section) }
@@ -128,7 +128,7 @@ impl<'a> SectionOrders<'a> {
         front_by(alloc, self.at_hand, section, self.looked_for(section))
     }
 
-    /// What is asked for of a section; all from where its packet begins on where nothing is.
+    /// What is asked for of a section; if nothing is, all from where its packet begins.
     fn looked_for(&self, section: Section) -> AskedBytes
         ensures { result ≡ looked_for self.now.at self.now.notes section }
     {
@@ -174,8 +174,8 @@ impl<'a> SectionOrders<'a> {
     }
 }
 
-/// What is asked for from a start on, in bytes, up to an end: for what the claim says, or for no reason. Where nothing
-/// is claimed and there is no end, none.
+/// What is asked for from a start on, in bytes, up to an end: for what the claim says, or for no reason. None if
+/// nothing is claimed and there is no end.
 fn asked(claim: Option<Claim>, start: u64, end: Option<u64>) -> Option<AskedBytes>
     ensures { result ≡ asked claim start end }
 {
@@ -192,8 +192,8 @@ fn asked(claim: Option<Claim>, start: u64, end: Option<u64>) -> Option<AskedByte
     })
 }
 
-/// Where the section ends, in bytes: one without an end does where the file does as far as that is known, unless its
-/// claim is open, or fewer bytes are given behind it than the key and length of a packet can have.
+/// Where the section ends, in bytes: one without an end ends where the file does, as far as that is known, unless its
+/// claim is open, or fewer bytes are given from its first byte on than the key and length of a packet can have.
 fn end_by(
     holdings: &Holdings<'_>,
     at_hand: &AtHand,
@@ -260,7 +260,7 @@ fn add_part_orders(
     Ok(orders.extend(found)?)
 }
 
-/// The parts of what is asked for of a section that aren't at hand; all of it where nothing would be left.
+/// The parts of what is asked for of a section that aren't at hand; all of it if nothing would be left.
 #[tactic(auto, unfolding(crate::specs::Plan::parts_of))]
 fn parts_of(
     alloc: Global,
@@ -301,8 +301,8 @@ fn front_by(
     Ok(Some(part_order(at_hand, asked, front_range(*first))))
 }
 
-/// The first bytes of a range: as many as a front has at most, and none at or above the greatest end of a packet where
-/// the range has no end.
+/// The first bytes of a range: as many as a front has at most, and none at or above the greatest end of a packet if the
+/// range has no end.
 fn front_range(range: OffsetRange) -> OffsetRange
     ensures { result ≡ front_range range }
 {
@@ -323,7 +323,7 @@ fn begin_at(ranges: &mut Vec<OffsetRange>, start: u64)
     }
 }
 
-/// Keeps the ranges that begin below an end, in bytes; all where there is none.
+/// Keeps the ranges that begin below an end, in bytes; all if there is none.
 fn retain_below(ranges: &mut Vec<OffsetRange>, end: Option<u64>)
     ensures { ranges.new.items
         ≡ filter (λ r. option_map_or (λ e. nat_lt r.start e) end true) ranges.old.items }
@@ -353,8 +353,8 @@ fn part_order(at_hand: &AtHand, asked: AskedBytes, part: OffsetRange) -> Order
     }
 }
 
-/// Whether the bytes were handed in and don't do: all of them are given; or, where their end isn't known, as many are at
-/// hand as key and length of a packet can have.
+/// Whether the bytes were handed in and don't do: all of them are given; or, if their end isn't known, as many are at
+/// hand as the key and length of a packet can have.
 pub fn is_again(at_hand: &AtHand, part: OffsetRange) -> bool
     ensures { result ≡ is_again at_hand.now part }
 {

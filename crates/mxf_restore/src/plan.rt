@@ -38,9 +38,9 @@ pub struct Order {
     pub reason: Reason,
     /// The file offset of the first byte.
     pub start: u128,
-    /// The file offset behind the last byte; none where that isn't known.
+    /// The file offset after the last byte; none if that isn't known.
     pub end: Option<u128>,
-    /// The file offset of the pack that says so; none where no pack does.
+    /// The file offset of the pack that says so; none if no pack does.
     pub source: Option<u64>,
     /// No packet begins at `start`: the bytes before it are at hand.
     pub inside: bool,
@@ -81,14 +81,14 @@ pub struct DisputedPlace {
     pub reason: Reason,
     /// A file offset, in bytes.
     pub place: u64,
-    /// The file offset of the pack that names it; none where no pack does.
+    /// The file offset of the pack that names it; none if no pack does.
     pub source: Option<u64>,
 }
 
-/// What to restore next of a file of which parts are held, as far as what is held says (this project's profile).
+/// What to restore next of a file that is held in parts, as far as what is held says (this project's profile).
 ///
 /// Whoever restores the bytes of all orders, hands each in as a piece at its start, and asks again, comes to a plan
-/// without orders, where the packs of the file tell the truth. That is tested, not proved.
+/// without orders, if the packs of the file tell the truth. That is tested, not proved.
 #[derive(Debug, Drop)]
 pub struct Plan {
     orders: Vec<Order>,
@@ -105,7 +105,7 @@ impl Model for Plan {
 }
 
 impl Plan {
-    /// What to restore next of the file of the views, where some of its bytes are at hand beside what is held. It takes
+    /// What to restore next of the file of the views, some of whose bytes are at hand beside what is held. It takes
     /// memory: n log n of the notes and of the runs at hand, as its time does.
     pub fn of(alloc: Global, views: &Views, at_hand: &AtHand) -> Result<Plan, OutOfMemory>
         ensures { IfOk result (λ p. p ≡ plan_of at_hand.now views.now) }
@@ -152,7 +152,7 @@ impl Plan {
         &self.disputed_places
     }
 
-    /// The end of the file, in bytes, where it is known: that of its random index pack.
+    /// The end of the file, in bytes, if it is known: that of its random index pack.
     pub fn end(&self) -> Option<u64>
         ensures { result ≡ self.now.end }
     {
@@ -177,8 +177,8 @@ fn disputed_places_in_order(mut disputed_places: Vec<DisputedPlace>) -> Vec<Disp
 }
 
 /// A law of [`Plan::orders`]: they are what is ordered of the sections of the file, and rise by reason, start, end and
-/// source. The orders of a section are the parts of what is asked for of it that aren't at hand, or all of it where
-/// nothing of it lacks.
+/// source. The orders of a section are the parts of what is asked for of it that aren't at hand, or all of it if
+/// nothing of it is lacking.
 pub fn orders_by_definition()
     ensures members { (at : AtHandParts) (notes : List NoteParts) (o : Order)
         → In o (plan_of at notes).orders
@@ -210,15 +210,15 @@ pub fn disputed_places_by_definition()
         → IsRising disputed_place_cmp (plan_of at notes).disputed_places }
 {}
 
-/// A law of [`Plan::orders`]: each byte of a gap that lies below the end of the file, or below the greatest end where
-/// that isn't known, is at hand or lies in an order.
+/// A law of [`Plan::orders`]: each byte of a gap that lies below the end of the file, or, if that isn't known, below
+/// the greatest end, is at hand or lies in an order.
 pub fn gaps_are_ordered()
     ensures { (at : AtHandParts) (notes : List NoteParts) (x : ℕ) → IsContent notes → IsGap notes x
         → x < edge_of at notes
         → LiesIn at.hand x ⊎ ((o : Order) × In o (plan_of at notes).orders × LiesInOrder o x) }
 {}
 
-/// A law of [`Plan::orders`]: where no byte is at hand, each is all that is asked for of its section.
+/// A law of [`Plan::orders`]: if no byte is at hand, each is all that is asked for of its section.
 pub fn orders_where_nothing_is_at_hand()
     ensures { (notes : List NoteParts) (p : Section) → IsContent notes → In p (sections_of notes)
         → orders_of nothing_at_hand notes p ≡ option_to_list (asked_of nothing_at_hand notes p) }
@@ -231,8 +231,8 @@ pub fn orders_are_missing()
         → (n : NoteParts) × In n notes × (n.whole ≡ false) × (n.offset ≡ o.start) × (x < covered_end n) }
 {}
 
-/// A law of [`Plan::orders`]: of the notes of a well-formed file nothing is ordered if its last packet is a random index
-/// pack, whatever is at hand; or if no pack speaks of an offset at or above its end, and no such offset is given.
+/// A law of [`Plan::orders`]: of the notes of a well-formed file nothing is ordered if its last packet is a random
+/// index pack, whatever is at hand; or if no pack speaks of an offset at or above its end, and no such offset is given.
 pub fn whole_files_have_no_order()
     ensures { (l : List PacketParts) (at : AtHandParts) → IsWellFormed l → IsCover at.given → IsCover at.hand
         → EndsInRandomIndex l ⊎ NothingIsBeyond at (notes_from 0 l) (end_after 0 l)

@@ -144,7 +144,7 @@ fn cuts_in(hole: OffsetRange, cuts: &[u64]) -> &[u64]
     inside
 }
 
-/// The number of the cuts below the end of a hole; all of them where there is none.
+/// The number of the cuts below the end of a hole; all of them if there is none.
 fn count_below(cuts: &[u64], end: Option<u64>) -> usize
     requires { IsRising nat_cmp cuts.now }
     ensures bound { result ≤ length cuts.now }
@@ -183,7 +183,7 @@ fn add_sections(
     Ok(())
 }
 
-/// A law: the holes of a file are the maximal ranges of offsets that aren't held; the last has no end where that of the
+/// A law: the holes of a file are the maximal ranges of offsets that aren't held; the last has no end if that of the
 /// file isn't known.
 pub fn holes_by_definition()
     ensures { (notes : List NoteParts) (h : OffsetRange) → IsContent notes → In h (holes_of notes) ↔ IsHole notes h }

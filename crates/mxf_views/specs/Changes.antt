@@ -19,7 +19,7 @@ pub record SameOutside (start end : ℕ) (before after : List NoteParts) : Type 
 
 -- A change in the range doesn't reach the copy of the partition: the range ends by the end of the partition's pack; or
 -- the copy has a zone, which ends by the start of the range; or it has no start, and no fill and no readable primer
--- comes, or the range begins behind the pack with no start, or a partition stands between the two, which no start
+-- comes, or the range begins after the pack with no start, or a partition stands between the two, which no start
 -- passes.
 pub data IsUnmet (start end : ℕ) (before after : List NoteParts) (p : PartitionParts) : Type 0 where
   behind : end ≤ p.end → IsUnmet start end before after p

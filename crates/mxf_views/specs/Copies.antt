@@ -1,5 +1,5 @@
 -- Copies of the header metadata (ST 377-1, header metadata of a partition; which copy is preferred is this project's
--- profile). They are by the clear notes alone.
+-- profile). They go by the clear notes alone.
 use Rattle.std.specs.Prelude.{◌≡◌, ◌↔◌, ℕ, ◌+◌, ◌-◌, ◌<◌, ◌≤◌, ◌⊎◌, Bool, true, false, ◌&&◌, ◌==◌, nat_le, nat_lt, cond}
 use Rattle.std.specs.Prelude.{Option, Some, None, is_some, List, [], ◌∷◌, length, map, filter, find, count_by}
 use Rattle.std.specs.Prelude.{IsTrue, ◌||◌}
@@ -68,7 +68,7 @@ is_set_note n = is_set (kind_of n.key)
 unfoldable pub is_preface_note : NoteParts → Bool
 is_preface_note n = is_preface (kind_of n.key)
 
--- The notes whose packets lie wholly in a range of so many bytes; for those of a copy it is its zone.
+-- The notes whose packets lie wholly in a range of a given number of bytes; for those of a copy it is its zone.
 abbrev pub zone_of : ℕ → ℕ → List NoteParts → List NoteParts
 zone_of start bytes notes = filter (lies_in start bytes) notes
 
@@ -86,7 +86,7 @@ is_filled start bytes notes = (covered_of start bytes notes == bytes) && list_al
 abbrev pub is_start : ℕ → List NoteParts → NoteParts → Bool
 is_start end notes n = is_readable_primer n && nat_le end n.offset && is_filled end (n.offset - end) notes
 
--- Where the header metadata of a partition begin whose pack has this end.
+-- Where the header metadata begin for a partition whose pack has this end.
 abbrev pub start_of : ℕ → List NoteParts → Option ℕ
 start_of end notes = option_map (λ n. n.offset) (find (is_start end notes) notes)
 
@@ -147,7 +147,7 @@ abbrev pub sets_from : List NoteParts → ℕ → Option ℕ → List NoteParts
 sets_from notes bytes None = []
 sets_from notes bytes (Some start) = sets_in start bytes notes
 
--- The sets of the copy of a partition, none where there is no such copy.
+-- The sets of the copy of a partition, none if there is no such copy.
 abbrev pub sets_found : List NoteParts → Option CopyInfo → List NoteParts
 sets_found notes None = []
 sets_found notes (Some copy) = sets_from notes copy.bytes copy.start
@@ -225,7 +225,7 @@ pub record IsBest (copies : List CopyInfo) (c : CopyInfo) : Type 0 where
   pub candidate : IsCandidate c
   pub best : (d : CopyInfo) → In d copies → IsCandidate d → IsNotAbove d c
 
--- The preferred copy, or none where there is no candidate.
+-- The preferred copy, or none if there is no candidate.
 abbrev pub IsPreferred : List CopyInfo → Option CopyInfo → Type 0
 IsPreferred copies None = (d : CopyInfo) → In d copies → IsCandidate d → ⊥
 IsPreferred copies (Some c) = IsBest copies c
@@ -242,7 +242,7 @@ pub record IsPrefaceIn (notes : List NoteParts) (start bytes : ℕ) (n : NotePar
   pub from : start ≤ n.offset
   pub before : end_of n ≤ start + bytes
 
--- So many notes are such: a list that has each of them once, since its notes share no byte, is that long.
+-- This many notes are such: a list that has each of them once, since its notes share no byte, is that long.
 pub record AreSoMany (count : ℕ) (IsSuch : NoteParts → Type 0) : Type 0 where
   pub list : List NoteParts
   pub apart : AreApart 0 list

@@ -35,7 +35,7 @@ use Rattle.mxf_views.specs.Copies.{IsCopy, IsSetKind}
 use Rattle.mxf_views.specs.Resolved.{ResolvedParts}
 use Rattle.mxf_views.specs.ResolvedView.{IsResolvedFrom}
 
--- A primer pack or a set of that kind is readable: a raw set where items make up its value.
+-- A primer pack or a set of that kind is readable: a raw set if items make up its value.
 abbrev pub IsReadableSet : Kind → NoteParts → Type 0
 IsReadableSet kinds.Primer n = IsReadable primer_at n
 IsReadableSet kinds.Preface n = IsReadable preface_at n
@@ -76,7 +76,7 @@ entry_of p = record { body_sid = p.pack.numbers.body_sid; offset = p.offset }
 abbrev pub HasOther : List NoteParts → NoteParts → Type 0
 HasOther notes n = (m : NoteParts) × IsClear m notes × (m ≢ n) × (kind_of m.key ≡ kinds.Rip)
 
--- Some note of a whole packet, a disputed one too, ends above the end of this one.
+-- Some note of a whole packet, even a disputed one, ends above the end of this one.
 abbrev pub IsNotLast : List NoteParts → NoteParts → Type 0
 IsNotLast notes n = (m : NoteParts) × In m notes × IsTrue m.whole × (end_of n < end_of m)
 
@@ -100,15 +100,15 @@ pub record HoldsLost (notes : List NoteParts) (offset : ℕ) : Type 0 where
   pub holds : Holds resolved offset ref
   pub lost : (found : ℕ) → ref.target ≢ Found found
 
--- The offset is that of a note of which this holds.
+-- The offset is that of a note for which this holds.
 abbrev pub AtNote : List NoteParts → ℕ → (NoteParts → Type 0) → Type 0
 AtNote notes offset P = (n : NoteParts) × In n notes × (n.offset ≡ offset) × P n
 
--- The offset is that of a clear note of which this holds.
+-- The offset is that of a clear note for which this holds.
 abbrev pub AtClear : List NoteParts → ℕ → (NoteParts → Type 0) → Type 0
 AtClear notes offset P = (n : NoteParts) × IsClear n notes × (n.offset ≡ offset) × P n
 
--- The offset is that of a partition of which this holds.
+-- The offset is that of a partition for which this holds.
 abbrev pub AtPartition : List NoteParts → ℕ → (PartitionParts → Type 0) → Type 0
 AtPartition notes offset P = (p : PartitionParts) × In p (partitions_of notes) × (p.offset ≡ offset) × P p
 

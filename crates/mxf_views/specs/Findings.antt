@@ -119,7 +119,7 @@ abbrev pub lost_behind : ℕ → Target → List Ref → List ℕ
 lost_behind preface (Found offset) packages = lost_at offset packages
 lost_behind preface _ packages = preface ∷ []
 
--- The same where the Preface can't be read, which holds no reference then.
+-- The same if the Preface can't be read: it holds no reference then.
 abbrev pub lost_beside : ℕ → Option Ref → List Ref → List ℕ
 lost_beside preface None packages = []
 lost_beside preface (Some storage) packages = lost_behind preface storage.target packages
@@ -128,14 +128,14 @@ lost_beside preface (Some storage) packages = lost_behind preface storage.target
 abbrev pub lost_by : ResolvedParts → List ℕ
 lost_by r = lost_at r.preface r.identifications ++ lost_beside r.preface r.storage r.packages
 
--- The same for the preferred copy, where there is one.
+-- The same for the preferred copy, if there is one.
 abbrev pub lost_in : Option ResolvedParts → List ℕ
 lost_in None = []
 lost_in (Some r) = lost_by r
 
 -- ---- Random index packs
 
--- The entries are those of the partitions, one after another: of each its BodySID and its offset.
+-- The entries are those of the partitions, one after another: for each its BodySID and its offset.
 abbrev pub are_entries_of : List PartitionParts → List RipEntry → Bool
 are_entries_of [] [] = true
 are_entries_of [] (e ∷ entries) = false
@@ -199,7 +199,7 @@ partitions_at code notes =
 abbrev pub clear_at : Code → List NoteParts → List ℕ
 clear_at code notes = map (λ n. n.offset) (filter (is_note_cause code) (clear_notes notes))
 
--- Where the cause of a code is met: file offsets, of which some may stand there twice.
+-- Where the cause of a code is met: file offsets, some of which may stand there twice.
 abbrev pub offsets_for : Code → List NoteParts → List ℕ
 offsets_for F01 notes = disputed_at F01 notes
 offsets_for F02 notes = disputed_at F02 notes

@@ -30,9 +30,9 @@ pub record IsDisputedAmong (handed : NoteParts → Type 0) (n : NoteParts) : Typ
   pub shares : SharesByte other n
 
 -- The notes are exactly the located packets that were handed, a whole note or a head that no whole note replaces, and
--- their file is that of the set; whichever calls are handed the same set
--- leave the same notes; the disputed ones are those that share a byte with a different one; and where the set is that
--- of a well-formed file, the views are those of its reading from the front.
+-- their file is that of the set; whichever calls are handed the same set leave the same notes; the disputed ones are
+-- those that share a byte with a different one; and if the set is that of a well-formed file, the views are those of
+-- its reading from the front.
 pub record IsTheRun (handed : NoteParts → Type 0) (notes : List NoteParts) : Type 0 where
   pub members : (n : NoteParts) → In n notes ↔ IsLocated handed n
   pub file : IsFileOf (file_bytes notes) notes

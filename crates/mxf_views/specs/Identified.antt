@@ -14,7 +14,7 @@ use Rattle.mxf_views.specs.declared.reference.identified.Identified.{Identified}
 use Rattle.mxf_views.specs.Findings.{is_unreadable}
 use Rattle.mxf_views.specs.References.{found_among, has_uid}
 
--- The set with its instance identifier, where it is kept and the identifier can be read.
+-- The set with its instance identifier, if it is kept and the identifier can be read.
 abbrev pub with_uid : NoteParts → Option Identified
 with_uid n = option_map (λ uid. record { uid = uid; offset = n.offset }) (read_as instance_uid_at n)
 
@@ -26,7 +26,7 @@ is_of uid e = bytes_eq e.uid uid
 abbrev pub is_below : List ℕ → Identified → Bool
 is_below uid e = is_lt (slice_cmp nat_cmp e.uid uid)
 
--- They rise by their identifiers, of which one can stand more than once.
+-- They rise by their identifiers, and one identifier can stand more than once.
 abbrev pub AreSorted : List Identified → Type 0
 AreSorted es = IsSortedByKey (λ (e : Identified). e.uid) (slice_cmp nat_cmp) es
 
@@ -36,7 +36,7 @@ found_at [] = Absent
 found_at (offset ∷ []) = One offset
 found_at (offset ∷ other ∷ offsets) = Several
 
--- They are sorted, and of each identifier the same is found among them as among the sets: none, one, at the same
+-- They are sorted, and for each identifier the same is found among them as among the sets: none, one, at the same
 -- offset, or more.
 pub record AreByUid (sets : List NoteParts) (es : List Identified) : Type 0 where
   pub sorted : AreSorted es

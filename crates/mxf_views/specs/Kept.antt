@@ -66,7 +66,7 @@ has_some_metadata (Some p) = has_metadata p
 abbrev pub states_metadata : NoteParts → Bool
 states_metadata n = has_some_metadata (partition_at n)
 
--- The copy of the partition that the note is, where it states header metadata.
+-- The copy of the partition that the note is, if it states header metadata.
 abbrev pub copy_by : List NoteParts → NoteParts → Option CopyInfo
 copy_by notes n =
     option_and_then (λ p. if has_metadata p then Some (copy_of notes p) else None) (partition_at n)
@@ -93,7 +93,7 @@ abbrev pub or_itself : CopyInfo → Option CopyInfo → CopyInfo
 or_itself c None = c
 or_itself c (Some d) = d
 
--- The copy of the same partition, counted anew where it may have changed.
+-- The copy of the same partition, counted anew if it may have changed.
 abbrev pub renewed : List NoteParts → ℕ → ℕ → Bool → CopyInfo → CopyInfo
 renewed notes start end brings c =
     if may_change start end brings c c.start then or_itself c (find (λ d. d.partition == c.partition) (copies_of notes))
@@ -112,7 +112,7 @@ with_found key (Some x) xs = with_keyed key x xs
 abbrev pub outside : {A : Type 0} → (A → ℕ) → ℕ → ℕ → List A → List A
 outside key start end xs = filter (λ x. is_outside start end (key x)) xs
 
--- The elements outside of the range, and another in its place, where there is one.
+-- The elements outside of the range, and another in its place, if there is one.
 abbrev pub followed : {A : Type 0} → (A → ℕ) → Option A → ℕ → ℕ → List A → List A
 followed key there start end xs = with_found key there (outside key start end xs)
 
@@ -122,7 +122,7 @@ copies_followed notes offset start end brings copies =
     with_found (λ c. c.partition) (find (λ d. d.partition == offset) (copies_of notes))
     (map (renewed notes start end brings) (outside (λ c. c.partition) start end copies))
 
--- Where a zone of so many bytes ends, at most at the greatest file offset; 0 without a start.
+-- Where a zone of a given number of bytes ends, at most at the greatest file offset; 0 without a start.
 abbrev pub reach_from : ℕ → Option ℕ → ℕ
 reach_from bytes None = 0
 reach_from bytes (Some start) = min (start + bytes) 18446744073709551615
@@ -140,13 +140,13 @@ reaches_from high (c ∷ copies) = max high (reach_of c) ∷ reaches_from (max h
 abbrev pub reaches_of : List CopyInfo → List ℕ
 reaches_of copies = reaches_from 0 copies
 
--- The one start is below the other, where there are both.
+-- The one start is below the other, if there are both.
 abbrev pub IsStartBelow : Option ℕ → Option ℕ → Type 0
 IsStartBelow None other = Unit {0}
 IsStartBelow (Some start) None = Unit {0}
 IsStartBelow (Some start) (Some other) = start < other
 
--- Each copy starts below all later ones, where both have a start.
+-- Each copy starts below all later ones, if both have a start.
 abbrev pub StartsRise : List CopyInfo → Type 0
 StartsRise [] = Unit {0}
 StartsRise (c ∷ copies) = AllByRecursion (λ d. IsStartBelow c.start d.start) copies × StartsRise copies
@@ -155,7 +155,7 @@ StartsRise (c ∷ copies) = AllByRecursion (λ d. IsStartBelow c.start d.start) 
 abbrev pub notes_at : {A : Type 0} → (A → ℕ) → List NoteParts → List A → List NoteParts
 notes_at key notes kept = filter_map (λ x. find (λ n. n.offset == key x) (clear_notes notes)) kept
 
--- What there is is what there was, and another element behind it where there is one.
+-- What there is is what there was, and another element after it if there is one.
 pub record IsAppended {A : Type 0} (next : Option A) (before now : Vec A Global) : Type 0 where
   pub items : now.items ≡ before.items ++ cons_option next []
   pub len : vec_len now ≡ vec_len before + length (cons_option next [])
@@ -203,7 +203,7 @@ kept_in k = record {
   reaches = k.reaches.items;
 }
 
--- What is kept of so many clear notes fits beside what there is, without taking memory.
+-- What is kept of the clear notes fits beside what there is, without taking memory.
 pub record HasRoom (there : KeptParts) (clear : List NoteParts) (k : KeptLists) : Type 0 where
   pub partitions : length there.partitions + count_by (is_kept kept_partition) clear ≤ vec_capacity k.partitions
   pub segments : length there.segments + count_by (is_kept kept_segment) clear ≤ vec_capacity k.segments

@@ -24,7 +24,7 @@ clear_from boundary notes = zone_of boundary 18446744073709551615 (clear_notes n
 abbrev pub bytes_above : ℕ → CopyInfo → ℕ → ℕ
 bytes_above boundary c start = c.bytes - (boundary - start)
 
--- The copy with so many more bytes covered, and so many more Prefaces.
+-- The copy with that many more bytes covered, and that many more Prefaces.
 abbrev pub with_counts : CopyInfo → ℕ → ℕ → CopyInfo
 with_counts c covered prefaces = record {
   partition = c.partition;
@@ -36,7 +36,7 @@ with_counts c covered prefaces = record {
   status = c.status;
 }
 
--- What lies in its zone from the boundary on is counted besides.
+-- What lies in its zone from the boundary on is counted as well.
 abbrev pub counted_on : List NoteParts → ℕ → CopyInfo → ℕ → CopyInfo
 counted_on notes boundary c start =
     let bytes = bytes_above boundary c start in
@@ -47,7 +47,7 @@ abbrev pub is_of : ℕ → Option ℕ → Bool
 is_of partition None = false
 is_of partition (Some other) = other == partition
 
--- A copy without a start is counted anew where it is that of the partition that can get one.
+-- A copy without a start is counted anew if it is that of the partition that can get one.
 abbrev pub started : List NoteParts → Option ℕ → CopyInfo → CopyInfo
 started notes starting c =
     if is_of c.partition starting then or_itself c (find (λ d. d.partition == c.partition) (copies_of notes)) else c
@@ -57,7 +57,7 @@ abbrev pub counted_above : List NoteParts → ℕ → Option ℕ → CopyInfo �
 counted_above notes boundary starting c (Some start) = counted_on notes boundary c start
 counted_above notes boundary starting c None = started notes starting c
 
--- No other copy can get a start by the notes from the boundary on: they begin with no start, or there is a copy behind
+-- No other copy can get a start by the notes from the boundary on: they begin with no start, or there is a copy after
 -- it.
 abbrev pub IsStarting : List NoteParts → ℕ → List CopyInfo → Option ℕ → Type 0
 IsStarting notes boundary copies starting =
@@ -69,7 +69,7 @@ pub record CountsFit (notes : List NoteParts) (boundary : ℕ) (c : CopyInfo) (s
   pub covered : c.covered + covered_of boundary (bytes_above boundary c start) (clear_notes notes) ≤ c.bytes
   pub prefaces : c.prefaces + prefaces_of boundary (bytes_above boundary c start) (clear_notes notes) < 2 ^ 64
 
--- The zone of the copy, where it has a start, ends at the offset or below.
+-- The zone of the copy, if it has a start, ends at the offset or below.
 abbrev pub EndsBy : ℕ → CopyInfo → Type 0
 EndsBy offset c = (start : ℕ) → c.start ≡ Some start → start + c.bytes ≤ offset
 

@@ -11,7 +11,7 @@ use Rattle.mxf_views.specs.Places.{SegmentAtParts}
 use Rattle.mxf_views.specs.declared.kept.noted.Kept.{Kept}
 use Rattle.mxf_views.specs.declared.kept.noted.Kept.TheVariants.{Partition, RandomIndexPack, Segment, UnreadablePack}
 
--- Of a partition pack: the partition, or its offset where it isn't readable.
+-- Of a partition pack: the partition, or its offset if it isn't readable.
 abbrev pub kept_pack : NoteParts → Option PartitionParts → Kept
 kept_pack n None = UnreadablePack n.offset
 kept_pack n (Some p) = Partition (in_numbers p)

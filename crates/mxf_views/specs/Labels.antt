@@ -1,5 +1,5 @@
--- The primer pack that says what the tags of a set stand for (ST 377-1, Primer Pack; which copy's it is where several
--- have the set is this project's profile).
+-- The primer pack that says what the tags of a set stand for (ST 377-1, Primer Pack; which copy's it is if several have
+-- the set is this project's profile).
 use Rattle.std.specs.Prelude.{◌≡◌, ℕ, ◌+◌, ◌≤◌, Bool, false, ◌==◌, Option, Some, None, List, find}
 use Rattle.std.specs.Option.{option_and_then}
 use Rattle.mxf_klv.specs.Parts.{NoteParts}
@@ -54,7 +54,7 @@ pub record IsPrimerOfFirst (notes : List NoteParts) (n : NoteParts) (primer : Ba
   pub there : copy.start ≡ Some note.offset
   pub read : IsPrimerOf note primer
 
--- The same, or none where no copy has the packet in its zone.
+-- The same, or none if no copy has the packet in its zone.
 abbrev pub IsPrimerFor : List NoteParts → NoteParts → Option BatchParts → Type 0
 IsPrimerFor notes n None = (copy : CopyInfo) → IsCopy notes copy → ¬ IsInZoneOf n copy
 IsPrimerFor notes n (Some primer) = IsPrimerOfFirst notes n primer

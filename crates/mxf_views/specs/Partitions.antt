@@ -1,5 +1,5 @@
 -- Partitions, their links and their chain (ST 377-1, Partition Pack; the names of the links are this project's
--- profile). They are by the clear notes alone.
+-- profile). They go by the clear notes alone.
 use Rattle.std.specs.Prelude.{◌≡◌, ◌≢◌, ℕ, ◌<◌, ◌≤◌, ◌⊎◌, Bool, true, false, not, ◌&&◌, ◌||◌, ◌==◌, nat_le, nat_lt}
 use Rattle.std.specs.Prelude.{if◌then◌else◌, Option, is_some, List, [], find, count_by}
 use Rattle.std.specs.Option.{option_map}
@@ -30,18 +30,18 @@ pub record PartitionParts : Type 0 where
   pub end : ℕ
   pub pack : PartitionPackParts
 
--- The partition pack of a note, where it is a readable one: its value is kept and has one.
+-- The partition pack of a note, if it is a readable one: its value is kept and has one.
 abbrev pub pack_of : NoteParts → Option PartitionPackParts
 pack_of n = read_as (pack_at (kind_of n.key)) n
 
--- The partition that the note is, where it is a readable partition pack.
+-- The partition that the note is, if it is a readable partition pack.
 unfoldable pub partition_at : NoteParts → Option PartitionParts
 partition_at n = option_map (λ pack. record { offset = n.offset; end = end_of n; pack = pack }) (pack_of n)
 
 abbrev pub partitions_among : List NoteParts → List PartitionParts
 partitions_among notes = filter_map partition_at notes
 
--- A partition from an offset to an end, of whose pack the part, the status and the numbers are known alone.
+-- A partition from an offset to an end; of its pack only the part, the status and the numbers are known.
 abbrev pub partition_in_numbers : ℕ → ℕ → PackPart → Status → PartitionNumbers → PartitionParts
 partition_in_numbers offset end part status numbers =
     record { offset = offset; end = end; pack = partition_pack_parts part status numbers [] (batch_parts 0 0 []) }
@@ -76,7 +76,7 @@ link_by partitions offset previous =
 abbrev pub link_of : List PartitionParts → PartitionParts → Link
 link_of partitions p = link_by partitions p.offset p.pack.numbers.previous_partition
 
--- The link of the partition at the offset, where one stands there.
+-- The link of the partition at the offset, if one stands there.
 abbrev pub link_at : ℕ → List PartitionParts → Option Link
 link_at offset partitions = option_map (link_of partitions) (find (λ p. p.offset == offset) partitions)
 

@@ -1,5 +1,5 @@
--- Index table segments, and the places that they give for an edit unit (ST 377-1, Index Table Segment; what stands
--- where segments disagree is this project's profile). They are by the clear notes alone.
+-- Index table segments, and the places that they give for an edit unit (ST 377-1, Index Table Segment; what stands if
+-- segments disagree is this project's profile). They go by the clear notes alone.
 use Rattle.std.specs.Prelude.{◌≡◌, ℕ, ◌<◌, ◌==◌, ◌⊎◌, Bool, true, false, IsTrue, if◌then◌else◌, Option, Some, None, Ok}
 use Rattle.std.specs.Prelude.{List, [], ◌∷◌}
 use Rattle.std.specs.Option.{option_map}
@@ -34,11 +34,11 @@ abbrev pub is_segment : Kind → Bool
 is_segment kinds.Segment = true
 is_segment _ = false
 
--- The segment of a note, where it is a readable index table segment: its value is kept and is one.
+-- The segment of a note, if it is a readable index table segment: its value is kept and is one.
 abbrev pub segment_by_kind : NoteParts → Option SegmentParts
 segment_by_kind n = if is_segment (kind_of n.key) then read_as segment_at n else None
 
--- The same, with where the note is.
+-- The same, with the offset of the note.
 unfoldable pub placed_segment : NoteParts → Option SegmentAtParts
 placed_segment n = option_map (λ segment. record { offset = n.offset; segment = segment }) (segment_by_kind n)
 
@@ -56,11 +56,11 @@ segments_of notes = segments_among (clear_notes notes)
 abbrev pub in_stream : SegmentAtParts → ℕ → StreamPlace
 in_stream s offset = record { body_sid = s.segment.numbers.body_sid; offset = offset }
 
--- The place that a segment gives a unit, where it covers the unit: an offset in the essence stream of its BodySID.
+-- The place that a segment gives a unit, if it covers the unit: an offset in the essence stream of its BodySID.
 abbrev pub place_in : ℕ → SegmentAtParts → Option StreamPlace
 place_in unit s = option_map (in_stream s) (stream_offset s.segment unit)
 
--- The same, where the segment is one of the IndexSID.
+-- The same, if the segment is one of the IndexSID.
 unfoldable pub given_by : ℕ → ℕ → SegmentAtParts → Option StreamPlace
 given_by index_sid unit s = if s.segment.numbers.index_sid == index_sid then place_in unit s else None
 

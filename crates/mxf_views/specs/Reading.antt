@@ -30,7 +30,7 @@ use Rattle.mxf_views.specs.declared.random_index.Standing.TheVariants as standin
 
 -- Partitions.
 
--- The partition of a packet at an offset, where it is a readable partition pack.
+-- The partition of a packet at an offset, if it is a readable partition pack.
 abbrev pub partition_read : ℕ → PacketParts → Option PartitionParts
 partition_read offset p =
     option_map (λ pack. record { offset = offset; end = offset + size_of p; pack = pack }) (read_pack p)
@@ -40,7 +40,7 @@ abbrev pub partitions_read : ℕ → List PacketParts → List PartitionParts
 partitions_read offset [] = []
 partitions_read offset (p ∷ ps) = cons_option (partition_read offset p) (partitions_read (offset + size_of p) ps)
 
--- A pack is First where none came before it, and Held where it names the one that came before; else it is neither.
+-- A pack is First if none came before it, and Held if it names the one that came before; otherwise it is neither.
 abbrev pub link_read : Option ℕ → PartitionParts → Option Link
 link_read None p = Some links.First
 link_read (Some before) p = if p.pack.numbers.previous_partition == before then Some links.Held else None
@@ -60,7 +60,7 @@ ends_with_footer [] = false
 ends_with_footer (p ∷ []) = is_footer p.pack.part
 ends_with_footer (p ∷ q ∷ ps) = ends_with_footer (q ∷ ps)
 
--- The chain is whole where each pack is First or Held and the last is a footer.
+-- The chain is whole if each pack is First or Held and the last is a footer.
 abbrev pub chain_read : List PartitionParts → Chain
 chain_read ps = if list_all (λ l. is_some l.1) (links_read None ps) && ends_with_footer ps then Whole else Broken
 
@@ -72,7 +72,7 @@ after_fills offset [] = (offset, [])
 after_fills offset (p ∷ ps) =
     if is_fill (kind_of p.key) then after_fills (offset + size_of p) ps else (offset, p ∷ ps)
 
--- The packets that are taken until so many bytes are made up.
+-- The packets that are taken until that many bytes are made up.
 abbrev pub taken : ℕ → List PacketParts → List PacketParts
 taken bytes [] = []
 taken bytes (p ∷ ps) = if nat_lt 0 bytes then p ∷ taken (bytes - size_of p) ps else []
@@ -97,7 +97,7 @@ whole_copy p start notes = record {
   sets = filter is_set_note notes;
 }
 
--- The copy of a partition, where its pack states header metadata, from the packets after the pack.
+-- The copy of a partition, if its pack states header metadata, from the packets after the pack.
 abbrev pub copy_read : List PacketParts → PartitionParts → Option CopyRead
 copy_read after p =
     let bytes = p.pack.numbers.header_byte_count in
@@ -129,7 +129,7 @@ preferred_read copies = fold better_read None copies
 
 -- Index.
 
--- The segment of a packet at an offset, where it is a readable index table segment.
+-- The segment of a packet at an offset, if it is a readable index table segment.
 abbrev pub segment_read : ℕ → PacketParts → Option SegmentAtParts
 segment_read offset p = option_map (λ segment. record { offset = offset; segment = segment }) (read_segment p)
 
@@ -166,7 +166,7 @@ one_by_one [] ps = []
 one_by_one (e ∷ es) [] = (e, standings.Missing) ∷ one_by_one es []
 one_by_one (e ∷ es) (p ∷ ps) = (e, compared e p) ∷ one_by_one es ps
 
--- The first random index pack, its entries beside the partitions of the file; it is Absent where there is none.
+-- The first random index pack, its entries beside the partitions of the file; it is Absent if there is none.
 abbrev pub rip_read : List PartitionParts → ℕ → List PacketParts → RipView
 rip_read partitions offset [] = Absent
 rip_read partitions offset (p ∷ ps) =

@@ -13,7 +13,7 @@ use Rattle.mxf_views.specs.Copies.{is_primer}
 use Rattle.mxf_views.specs.Places.{is_segment}
 use Rattle.mxf_views.specs.RandomIndex.{is_rip}
 
--- What the packet's value is by a reading, where it is one that is kept and the reading has no fault.
+-- What the packet's value is by a reading, if it is one that is kept and the reading has no fault.
 abbrev pub value_as : {A E : Type 0} → (List ℕ → Result A E) → PacketParts → Option A
 value_as read p = if keeps p.key (length p.value) then result_ok (read p.value) else None
 

@@ -9,7 +9,7 @@ use Rattle.mxf_views.specs.WorkedFiles.{primer, segment, structure_key, two_entr
 abbrev pub narrow_length : List PacketParts
 narrow_length = bare_file (packet_parts essence_key 1 (replicate 128 0x00) ∷ [])
 
--- A packet has so many bytes of essence, and ends 241 bytes further on.
+-- A packet has that many bytes of essence, and ends 241 bytes further on.
 abbrev pub long_file : ℕ → List PacketParts
 long_file bytes = bare_file (packet_parts essence_key 9 (replicate bytes 0x00) ∷ [])
 
@@ -52,7 +52,7 @@ abbrev pub short_metadata : List PacketParts
 short_metadata =
     pack Header (numbers 0 0 194 87 0 0 0) ∷ primer ∷ preface ∷ pack Footer (numbers 194 0 194 0 0 0 0) ∷ []
 
--- The header partition states the bytes of its primer, its Preface and the footer partition pack behind them.
+-- The header partition states the bytes of its primer, its Preface and the footer partition pack after them.
 abbrev pub metadata_with_a_pack : List PacketParts
 metadata_with_a_pack =
     pack Header (numbers 0 0 194 194 0 0 0) ∷ primer ∷ preface ∷ pack Footer (numbers 194 0 194 0 0 0 0) ∷ []

@@ -13,8 +13,7 @@ use Rattle.mxf_views.specs.Copies.{copies_of, preferred_of, is_preface_note, set
 use Rattle.mxf_views.specs.References.{has_uid}
 use Rattle.mxf_views.specs.Targets.{fits, ref_of, refs_of}
 
--- What the Preface of a copy names: the storage and the identifications, where it is readable, and what the storage
--- names.
+-- What the Preface of a copy names: the storage and the identifications, if it is readable, and what the storage names.
 pub record ResolvedParts : Type 0 where
   pub partition : ℕ
   pub preface : ℕ
@@ -22,20 +21,20 @@ pub record ResolvedParts : Type 0 where
   pub identifications : List Ref
   pub packages : List Ref
 
--- The Preface of a note, where it is kept and readable.
+-- The Preface of a note, if it is kept and readable.
 unfoldable pub preface_in : NoteParts → Option PrefaceParts
 preface_in n = read_as preface_at n
 
--- The storage of a note, where it is kept and a readable one.
+-- The storage of a note, if it is kept and a readable one.
 unfoldable pub storage_in : NoteParts → Option StorageParts
 storage_in n = if fits Storage (kind_of n.key) then read_as storage_at n else None
 
--- The storage, where it is the only set with its identifier and is readable.
+-- The storage, if it is the only set with its identifier and is readable.
 abbrev pub storage_among : List NoteParts → Option StorageParts
 storage_among (n ∷ []) = storage_in n
 storage_among notes = None
 
--- The references to packages, none where the storage isn't found.
+-- The references to packages, none if the storage isn't found.
 abbrev pub packages_of : Option StorageParts → List (List ℕ)
 packages_of None = []
 packages_of (Some s) = s.packages

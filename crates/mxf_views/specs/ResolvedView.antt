@@ -1,5 +1,5 @@
 -- What the Preface of the preferred copy names (ST 377-1, Preface and Content Storage sets, strong references; what
--- stands where a set can't be read is this project's profile).
+-- stands if a set can't be read is this project's profile).
 use Rattle.std.specs.Prelude.{◌≡◌, ℕ, ◌⊎◌, Option, Some, None, List, [], ◌∷◌}
 use Rattle.mxf_klv.specs.declared.kinds.Kind.TheVariants as kinds
 use Rattle.mxf_klv.specs.Parts.{NoteParts}
@@ -42,7 +42,7 @@ pub record IsStorage (notes : List NoteParts) (partition : ℕ) (uid : List ℕ)
   pub kind : kind_of note.key ≡ kinds.ContentStorage
   pub read : IsReadAs storage_at note storage
 
--- The references to packages are those of the storage with the identifier, or none where there is no such storage.
+-- The references to packages are those of the storage with the identifier, or none if there is no such storage.
 abbrev pub ArePackages : List NoteParts → ℕ → List ℕ → List Ref → Type 0
 ArePackages notes partition uid refs =
     ((storage : StorageParts) × IsStorage notes partition uid storage
@@ -62,7 +62,7 @@ pub record AreNone (r : ResolvedParts) : Type 0 where
   pub identifications : r.identifications ≡ []
   pub packages : r.packages ≡ []
 
--- What is named by the note of a Preface: nothing where it isn't kept or can't be read.
+-- What is named by the note of a Preface: nothing if it isn't kept or can't be read.
 abbrev pub AreNamedBy : List NoteParts → NoteParts → ResolvedParts → Type 0
 AreNamedBy notes n r =
     ((preface : PrefaceParts) × IsReadAs preface_at n preface × AreNamed notes preface r)
@@ -78,7 +78,7 @@ pub record IsResolvedFrom (notes : List NoteParts) (r : ResolvedParts) : Type 0 
   pub preface : r.preface ≡ note.offset
   pub named : AreNamedBy notes note r
 
--- The same, or none where no copy is preferred.
+-- The same, or none if no copy is preferred.
 abbrev pub IsResolved : List NoteParts → Option ResolvedParts → Type 0
 IsResolved notes None = IsPreferred (copies_of notes) None
 IsResolved notes (Some r) = IsResolvedFrom notes r

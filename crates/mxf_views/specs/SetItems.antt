@@ -6,11 +6,11 @@ use Rattle.mxf_klv.specs.Kind.{kind_of}
 use Rattle.mxf_sets.specs.Items.{AreItems, ItemParts, items_of, left_of}
 use Rattle.mxf_views.specs.Copies.{IsSetKind, is_set_note}
 
--- The items of a value, where they make up all of it.
+-- The items of a value, if they make up all of it.
 abbrev pub whole_items : List ℕ → Option (List ItemParts)
 whole_items bytes = if length (left_of bytes) == 0 then Some (items_of bytes) else None
 
--- The items of a header metadata set that keeps its value, where they make up all of it.
+-- The items of a header metadata set that keeps its value, if they make up all of it.
 unfoldable pub set_items : NoteParts → Option (List ItemParts)
 set_items n = if is_set_note n && keeps_value n then whole_items n.held else None
 
@@ -20,7 +20,7 @@ pub record IsMadeUpOf (n : NoteParts) (items : List ItemParts) : Type 0 where
   pub kept : IsTrue (keeps_value n)
   pub whole : AreItems n.held items
 
--- The items of such a set, or none where the note is none.
+-- The items of such a set, or none if the note is none.
 abbrev pub AreSetItems : NoteParts → Option (List ItemParts) → Type 0
 AreSetItems n None = (items : List ItemParts) → ¬ IsMadeUpOf n items
 AreSetItems n (Some items) = IsMadeUpOf n items

@@ -22,7 +22,7 @@ pub record AreMarks (notes : List NoteParts) (marks : List Mark) : Type 0 where
   pub each : (mark : Mark) → In mark marks → IsMark notes mark
   pub rise : IsNonDecreasingBy (λ (mark : Mark). mark.offset) marks
 
--- Two marks among the notes, of which the one isn't above the other, and both are in a range of so many bytes.
+-- Two marks among the notes, the first not above the last, and both are in a range of a given number of bytes.
 pub record AreInRange (notes : List NoteParts) (start bytes : ℕ) (first last : Mark) : Type 0 where
   pub first_is : IsMark notes first
   pub last_is : IsMark notes last

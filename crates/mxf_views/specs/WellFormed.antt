@@ -77,7 +77,7 @@ abbrev pub total_of : List PacketParts → ℕ
 total_of [] = 0
 total_of (p ∷ ps) = size_of p + total_of ps
 
--- There are no, one or more fills, then a primer, and the packets from that primer on make up exactly so many bytes
+-- There are no, one or more fills, then a primer, and the packets from that primer on make up exactly that many bytes
 -- before any further partition pack (ST 377-1, header metadata and HeaderByteCount).
 pub record HasMetadata (bytes : ℕ) (packets : List PacketParts) : Type 0 where
   pub fills : List PacketParts

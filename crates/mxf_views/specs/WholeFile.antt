@@ -1,4 +1,4 @@
--- Where a content is the notes of a well-formed file, its views are those of the reading from the front (ST 377-1).
+-- If a content is the notes of a well-formed file, its views are those of the reading from the front (ST 377-1).
 use Rattle.std.specs.Prelude.{◌≡◌, ℕ, List, [], None}
 use Rattle.mxf_klv.specs.Parts.{PacketParts, NoteParts}
 use Rattle.mxf_klv.specs.Piece.{notes_from}

@@ -155,7 +155,7 @@ two_entries =
     packet_parts (structure_key 0x05 0x11 0x01) 4
     (entry 0x00 0x00 0x00 ++ (entry 0x00 0x00 0x6C ++ (0x00 ∷ 0x00 ∷ 0x00 ∷ 0x30 ∷ [])))
 
--- A header that has no metadata, and a footer at 108 with these packets behind it.
+-- A header that has no metadata, and a footer at 108 with these packets after it.
 abbrev pub bare_file : List PacketParts → List PacketParts
 bare_file after = pack Header (numbers 0 0 108 0 0 0 0) ∷ pack Footer (numbers 108 0 108 0 0 0 0) ∷ after
 

@@ -5,8 +5,8 @@ use Rattle.mxf_sets.specs.Segment.{SegmentParts, segment_parts}
 use Rattle.mxf_sets.specs.declared.segment.numbers.SegmentNumbers.{SegmentNumbers}
 use Rattle.mxf_views.specs.WorkedFiles.{structure_key}
 
--- The numbers of a segment from a unit on, of a duration, of units that all have so many bytes or, where that is 0,
--- have entries, and of slices and position tables.
+-- The numbers of a segment from a unit on, of a duration, of units that all have that many bytes or, if that is 0, have
+-- entries, and of slices and position tables.
 abbrev pub units : ℕ → ℕ → ℕ → ℕ → ℕ → SegmentNumbers
 units start duration unit_bytes slices positions = record {
   edit_rate = (pos 25, pos 1);
@@ -32,8 +32,8 @@ abbrev pub entry_units : ℕ → SegmentParts
 entry_units duration =
     segment_parts (units 5 duration 0 0 0) (offset_entry 0x03 0xE8 [] ++ offset_entry 0x05 0xDC [])
 
--- Two entries of the stream offsets 258 and 772, each with four bytes 09 for a slice and eight bytes 08 for a position
--- table behind it, so many times.
+-- Two entries of the stream offsets 258 and 772, each followed by four bytes 09 for each slice and then eight bytes 08
+-- for each position table.
 abbrev pub two_entries_of : ℕ → ℕ → List ℕ
 two_entries_of slices positions =
     let after = replicate (4 * slices) 0x09 ++ replicate (8 * positions) 0x08 in

@@ -29,16 +29,16 @@ use mxf_sets::Primer;
 /// A copy of the header metadata: that of one partition (ST 377-1, header metadata).
 ///
 /// A file can state its header metadata, what the essence is and who made it, in several partitions: a first draft in
-/// the header, and a later one in a body partition or in the footer. Each copy begins with a primer pack, behind the
+/// the header, and a later one in a body partition or in the footer. Each copy begins with a primer pack, after the
 /// partition pack and its fill, and takes as many bytes as the pack's HeaderByteCount says.
 ///
-/// Of a file that is held in parts a copy can be whole, in parts, or without a beginning; which of them is finished
+/// In a file that is held in parts, a copy can be whole, in parts, or without a beginning; which of them is finished
 /// decides which one to read.
 #[derive(Clone, Copy, Debug, PartialEq, Eq)]
 pub struct CopyInfo {
     /// The file offset of the partition, in bytes.
     pub partition: u64,
-    /// The file offset where the copy begins, in bytes: that of its primer. None where it isn't held.
+    /// The file offset where the copy begins, in bytes: that of its primer. None if it isn't held.
     pub start: Option<u64>,
     /// The bytes that the partition states for its header metadata, from the primer on.
     pub bytes: u64,
@@ -51,7 +51,7 @@ pub struct CopyInfo {
     pub status: Status,
 }
 
-/// The primer pack of a note, where its value is kept and is one.
+/// The primer pack of a note, if its value is kept and is one.
 pub(crate) fn read_primer(note: &Note) -> Option<Primer<'_>>
     ensures { result ≡ read_as primer_at note.now }
 {
@@ -66,8 +66,8 @@ fn is_readable_primer(note: &Note) -> bool
     note.kind() == Kind::Primer && read_primer(note).is_some()
 }
 
-/// Where the header metadata begin of a partition whose pack ends at an offset: at the primer that follows it, or the
-/// fills behind it.
+/// Where the header metadata begin for a partition whose pack ends at an offset: at the primer that follows it, or the
+/// fills after it.
 pub(crate) fn start_of(catalogue: &Catalogue, end: u64) -> Option<u64>
     ensures { result ≡ start_of end (clear_notes catalogue.now) }
 {
@@ -244,7 +244,7 @@ pub fn starts_by_definition()
 {}
 
 /// A law of [`Views::preferred`](crate::Views::preferred): it is a candidate that no candidate stands above, and there
-/// is none only where no copy is a candidate; two such copies are of one partition.
+/// is none only if no copy is a candidate; two such copies are of one partition.
 pub fn preferred_by_definition()
     ensures best { (copies : List CopyInfo) → IsPreferred copies (preferred_of copies) }
     ensures one { (copies : List CopyInfo) (a b : CopyInfo) → IsBest copies a → IsBest copies b
@@ -259,7 +259,7 @@ pub fn copies_by_definition()
 {}
 
 /// A law of [`Views::primer_for`](crate::Views::primer_for): it is the primer pack at the start of the copy of the
-/// first partition whose zone has the packet; there is none only where no copy's zone has it.
+/// first partition whose zone has the packet; there is none only if no copy's zone has it.
 pub fn primer_for_by_definition()
     ensures { (notes : List NoteParts) (n : NoteParts) (primer : Option BatchParts) → IsContent notes
         → (primer_for notes n ≡ primer) ↔ IsPrimerFor notes n primer }

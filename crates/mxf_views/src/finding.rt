@@ -26,7 +26,7 @@ use std::marker::Model;
 /// A kind of finding.
 ///
 /// A partition is a clear readable partition pack, as in [`Views::partitions`](crate::Views::partitions). A packet is
-/// readable where its value is kept and is what its kind says.
+/// readable if its value is kept and is what its kind says.
 #[derive(Clone, Copy, Debug, PartialEq, Eq)]
 pub enum Code {
     /// Another note has the offset of a note, which begins there.
@@ -48,8 +48,8 @@ pub enum Code {
     F08,
     /// The copy of the header metadata that a partition states has no start, or isn't finished.
     F09,
-    /// A clear primer pack, metadata set or raw set isn't readable. A raw set is where its value is made up of items
-    /// (ST 336, local sets).
+    /// A clear primer pack, metadata set or raw set isn't readable. A raw set is readable if its value is made up of
+    /// items (ST 336, local sets).
     F10,
     /// A clear index table segment isn't readable.
     F11,

@@ -11,13 +11,13 @@ use std::marker::Model;
 
 /// The gaps that are left, rising: the maximal ranges of offsets below the last end that no note covers.
 ///
-/// They are what is missing of the file as far as it is known: bytes between the packets that are held, and what a cut
-/// packet lacks up to its end. What lies behind the last packet isn't known, and is no gap.
+/// They are what is missing from the file, as far as it is known: bytes between the packets that are held, and what a
+/// cut packet lacks up to its end. What lies after the last packet isn't known, and is no gap.
 #[derive(Debug, Drop)]
 pub struct Gaps<'a> {
     /// The gaps of what the notes cover.
     gaps: CoverGaps<'a>,
-    /// Behind these the one up to the greatest end.
+    /// After these, the one up to the greatest end.
     last: Option<Run>,
 }
 
@@ -58,7 +58,7 @@ impl<'a> Iterator for Gaps<'a> {
     }
 }
 
-/// The range from `start` up to `end`, where it has a byte.
+/// The range from `start` up to `end`, if it has a byte.
 fn range(start: u64, end: u64) -> Option<Run>
     ensures { option_to_list result ≡ cond (nat_lt start end) (run start end ∷ []) [] }
 {

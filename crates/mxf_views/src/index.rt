@@ -66,14 +66,14 @@ impl Keyed for SegmentInNumbers {
     }
 }
 
-/// The segment that the value of a note is, where it is kept and is one.
+/// The segment that the value of a note is, if it is kept and is one.
 fn read_value(note: &Note) -> Option<Segment<'_>>
     ensures { result ≡ read_as segment_at note.now }
 {
     Segment::read(note.value()?).ok()
 }
 
-/// The segment of a note, where it is a readable index table segment.
+/// The segment of a note, if it is a readable index table segment.
 fn read_segment(note: &Note) -> Option<Segment<'_>>
     ensures { result ≡ segment_by_kind note.now }
 {
@@ -83,7 +83,7 @@ fn read_segment(note: &Note) -> Option<Segment<'_>>
     }
 }
 
-/// The same, with where the note is.
+/// The same, with the offset of the note.
 #[tactic(auto, unfolding(crate::specs::Places::placed_segment))]
 pub(crate) fn placed_segment(note: &Note) -> Option<SegmentAt<'_>>
     ensures { result ≡ placed_segment note.now }

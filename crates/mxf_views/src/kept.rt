@@ -100,7 +100,7 @@ impl KeptLists {
         self.reaches.reserve(most.packs)
     }
 
-    /// Room for marks among so many notes: none where there is no room for a copy.
+    /// Room for marks among a given number of notes: none if there is no room for a copy.
     pub fn marks_room(&self, notes: usize) -> Result<Vec<Mark>, AllocError>
         ensures { IfOk result (λ r. r.items ≡ []) }
     {
@@ -112,7 +112,7 @@ impl KeptLists {
         Vec::with_capacity(*self.partitions.allocator(), count)
     }
 
-    /// Takes the partitions, segments and packs out that an arrival moves.
+    /// Takes out the partitions, segments and packs that an arrival moves.
     fn leave(&mut self, arrival: &Arrival)
         ensures partitions { IsLeft (λ p. p.offset) arrival.now self.old.partitions self.new.partitions }
         ensures segments { IsLeft (λ s. s.offset) arrival.now self.old.segments self.new.segments }
@@ -128,7 +128,7 @@ impl KeptLists {
         leave(&mut self.unreadable_packs, arrival);
     }
 
-    /// Puts what is kept of a note in its place, where there is room.
+    /// Puts what is kept of a note in its place, if there is room.
     fn put(&mut self, kept: Option<Kept>)
         requires partitions { IsNonDecreasingBy (λ p. p.offset) self.old.partitions.items }
         requires segments { IsNonDecreasingBy (λ s. s.offset) self.old.segments.items }
@@ -169,7 +169,7 @@ impl KeptLists {
         self.reaches.clear();
     }
 
-    /// Puts what is kept of a note behind the rest, where there is room.
+    /// Puts what is kept of a note after the rest, if there is room.
     fn append(&mut self, kept: Option<Kept>)
         requires partitions { length self.old.partitions.items + length (cons_option (partition_in kept) [])
             ≤ vec_capacity self.old.partitions }
@@ -197,7 +197,7 @@ impl KeptLists {
         }
     }
 
-    /// Puts what is kept of the clear notes from a boundary on behind the rest, in one pass, where there is room.
+    /// Puts what is kept of the clear notes from a boundary on after the rest, in one pass, if there is room.
     fn append_from(&mut self, catalogue: &Catalogue, boundary: u64)
         requires partitions { length self.old.partitions.items
             + count_by (is_kept kept_partition) (clear_from boundary catalogue.now)
@@ -226,7 +226,7 @@ impl KeptLists {
         }
     }
 
-    /// Puts what is kept of a catalogue in place of what is there, where there is room.
+    /// Puts what is kept of a catalogue in place of what is there, if there is room.
     pub fn refill(&mut self, catalogue: &Catalogue, room: Vec<Mark>)
         requires room { HasRoom nothing_kept (clear_notes catalogue.now) self.old }
         requires empty { room.items ≡ [] }
@@ -237,7 +237,7 @@ impl KeptLists {
         self.follow_above(catalogue, 0, room);
     }
 
-    /// Follows the arrival of notes that begin at the boundary or above, where there is room: from what is kept of the
+    /// Follows the arrival of notes that begin at the boundary or above, if there is room: from what is kept of the
     /// notes below it to what is kept of all. Only what is new is counted.
     pub fn follow_above(&mut self, catalogue: &Catalogue, boundary: u64, room: Vec<Mark>)
         requires kept { (own : List NoteParts) × IsUnionAt boundary catalogue.now own
@@ -255,8 +255,8 @@ impl KeptLists {
         refill_reaches(&mut self.reaches, &self.copies, settled);
     }
 
-    /// Follows the arrival of a note in a catalogue, where there is room: from what is kept of the notes before to what
-    /// is kept of them with the note. It takes no memory.
+    /// Follows the arrival of a note in a catalogue, if there is room: from what is kept of the notes before to what is
+    /// kept of them with the note. It takes no memory.
     pub fn follow(&mut self, catalogue: &Catalogue, arrival: &Arrival)
         requires arrived { HasArrived arrival.now catalogue.now (kept_in self.old) }
         requires room { HasRoomForOne self.old }

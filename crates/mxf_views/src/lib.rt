@@ -5,9 +5,9 @@
 //! catalogue ([`Views::merge`]) or a piece of the file (`absorb` of mxf_read, the entrance for bytes), and give their
 //! catalogue back to be saved ([`Views::into_catalogue`]). Order and repeats don't matter.
 //!
-//! Offsets are bytes from the first byte of the header partition pack, lengths are bytes, an end is the first offset
-//! behind. Lists rise by offset. A packet that shares a byte with a different one is disputed: only gaps and some
-//! findings are by it.
+//! Offsets are bytes from the first byte of the header partition pack, lengths are bytes, an end is the offset after
+//! the last byte. Lists rise by offset. A packet that shares a byte with a different one is disputed: only gaps and
+//! some findings go by it.
 //!
 //! | Question | Call | Answer |
 //! |---|---|---|
@@ -21,7 +21,7 @@
 //! | Which copies of the header metadata are there? | [`Views::copies`] | [`CopyInfo`]: start, bytes stated, bytes held
 //! |
 //! | Which of them is to be taken? | [`Views::preferred`] | [`CopyInfo`], or None |
-//! | Which sets has the copy of a partition? | [`Views::sets`], [`set_items`] | notes, and the items of one |
+//! | Which sets does the copy of a partition have? | [`Views::sets`], [`set_items`] | notes, and the items of one |
 //! | What do the tags of a set stand for? | [`Views::primer_for`] | the primer pack of its copy |
 //! | Which set has an identifier? | [`Views::find`] | [`Found`] |
 //! | Which programs wrote the file, which packages has it? | [`Views::resolved`] | [`Resolved`]: each [`Ref`] with its
@@ -37,9 +37,9 @@
 //!
 //! Each call's clause says that its answer is a function of the notes; a law beside its type (`.._by_definition`) says
 //! what that function is in the words of the standards. [`well_formed_files_are_read_whole`] and the laws beside it say
-//! what the answers are on a whole file. `resolved` and `findings` take memory, and fail only where it runs out; the
-//! other questions take none. The copies, what partitions and segments state in numbers, and where random index packs
-//! and unreadable partition packs stand, are kept; all else is computed when it is asked.
+//! what the answers are on a whole file. `resolved` and `findings` take memory, and fail only if it runs out; the other
+//! questions take none. The copies, what partitions and segments state in numbers, and where random index packs and
+//! unreadable partition packs stand, are kept; all else is computed when it is asked.
 //!
 //! A piece whose first byte lies at `offset` (the whole program is the crate mxf_example):
 //!

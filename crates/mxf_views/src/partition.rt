@@ -92,7 +92,7 @@ pub(crate) fn is_pack(kind: Kind) -> bool
     matches!(&kind, Kind::Header(_) | Kind::Body(_) | Kind::Footer(_))
 }
 
-/// The partition pack of a note, where it is a readable one: its kind tells first whether there is one to read.
+/// The partition pack of a note, if it is a readable one: its kind says first whether there is one to read.
 fn read_pack(note: &Note) -> Option<PartitionPack<'_>>
     ensures { result ≡ pack_of note.now }
 {
@@ -102,7 +102,7 @@ fn read_pack(note: &Note) -> Option<PartitionPack<'_>>
     PartitionPack::read(&note.key(), note.value()?).ok()
 }
 
-/// The partition that the note is, where it is a readable partition pack.
+/// The partition that the note is, if it is a readable partition pack.
 #[tactic(auto, unfolding(crate::specs::Partitions::partition_at))]
 pub(crate) fn partition_at(note: &Note) -> Option<PartitionAt<'_>>
     ensures { result ≡ partition_at note.now }

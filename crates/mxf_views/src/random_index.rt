@@ -53,7 +53,7 @@ impl fmt::Display for Standing {
 /// pack).
 ///
 /// The last packet of a file can list all partitions with their offsets, so that a reader finds each without following
-/// the links. A file has one at most: where two are held, one is of another reading, and neither is relied on.
+/// the links. A file has one at most: if two are held, one is of another reading, and neither is relied on.
 #[derive(Debug, Drop)]
 pub enum RipView<'a> {
     /// There is none.
@@ -172,7 +172,7 @@ pub(crate) fn is_rip(note: &Note) -> bool
     note.kind() == Kind::Rip
 }
 
-/// The random index pack that the value of a note is, where it is kept and is one.
+/// The random index pack that the value of a note is, if it is kept and is one.
 pub(crate) fn read_rip(note: &Note) -> Option<Rip<'_>>
     ensures rip { result ≡ rip_in note.now }
     ensures bound { IfSome result (λ rip. length rip.entries < 2 ^ 64) }
@@ -206,14 +206,14 @@ impl<'a> RipView<'a> {
     }
 }
 
-/// A law of [`RipAt::entries`]: how an entry stands is by the partition at its offset.
+/// A law of [`RipAt::entries`]: how an entry stands is determined by the partition at its offset.
 pub fn standings_by_definition()
     ensures { (notes : List NoteParts) (entry : RipEntry) (standing : Standing) → IsContent notes
         → (standing_of (partitions_of notes) entry ≡ standing) ↔ IsStanding (partitions_of notes) entry standing }
 {}
 
-/// A law of [`Views::rip`](crate::Views::rip): what is known is by the number of the clear random index packs, and by
-/// whether the only one can be read.
+/// A law of [`Views::rip`](crate::Views::rip): what is known is determined by the number of the clear random index
+/// packs, and by whether the only one can be read.
 pub fn rip_views_by_definition()
     ensures { (notes : List NoteParts) (view : RipView) → IsContent notes
         → (rip_view_of notes ≡ view) ↔ IsRipView notes view }

@@ -61,8 +61,8 @@ pub(crate) fn find_among(sets: Sets<'_>, uid: &Uuid) -> Found
     found
 }
 
-/// A law of [`Views::find`](crate::Views::find): what is found is by the number of the sets of the copy that have the
-/// identifier.
+/// A law of [`Views::find`](crate::Views::find): what is found is determined by the number of the sets of the copy that
+/// have the identifier.
 pub fn found_by_definition()
     ensures { (notes : List NoteParts) (partition : ℕ) (uid : List ℕ) (found : Found) → IsContent notes
         → (found_in notes partition uid ≡ found) ↔ IsFound (sets_of notes partition) uid found }

@@ -54,7 +54,7 @@ use uuid::Uuid;
 
 /// A catalogue, with the views of its notes: what the packets that are held say of the file.
 ///
-/// Each view is a function of the catalogue's content, whichever way its notes came. Views are by clear notes, those
+/// Each view is a function of the catalogue's content, whichever way its notes came. Views go by clear notes, those
 /// that share no byte with another: what is disputed is shown as such, and relied on nowhere.
 #[derive(Debug, Drop)]
 pub struct Views {
@@ -93,9 +93,8 @@ impl Views {
         }
     }
 
-    /// The views of a catalogue: whatever calls made it, they are those of the notes that it was handed. Where these
-    /// are the notes of a well-formed file, partitions, copies and indexes are what reading the file from the front
-    /// says.
+    /// The views of a catalogue: whatever calls made it, they are those of the notes that it was handed. If these are
+    /// the notes of a well-formed file, partitions, copies and indexes are what reading the file from the front says.
     pub fn of(alloc: Global, catalogue: Catalogue) -> Result<Views, ViewFault>
         ensures views { IfOk result (λ v. v ≡ catalogue) }
         ensures run { IfOk result (λ v. IsTheRun (has_note catalogue) v) }
@@ -142,7 +141,7 @@ impl Views {
     }
 
     /// Moves the notes of a catalogue into that of these views, which are of the notes of both then. No kept value is
-    /// copied. Where the other's notes begin where these end, or above, only they are counted.
+    /// copied. If the other's notes begin where these end, or above, only they are counted.
     ///
     /// The only fault is out of memory. The other catalogue comes back and these views are unchanged.
     pub fn merge(&mut self, other: Catalogue) -> Result<(), MergeFault>
@@ -158,7 +157,7 @@ impl Views {
         }
     }
 
-    /// The same, where the other's notes begin at the boundary or above, and these end there or below.
+    /// The same, if the other's notes begin at the boundary or above, and these end there or below.
     fn merge_above(&mut self, other: Catalogue, boundary: u64) -> Result<(), MergeFault>
         requires { MeetAt boundary self.old other }
         ensures merged { OnOk result (self.new ≡ reduced_union self.old other) }
@@ -354,7 +353,7 @@ impl Views {
         &self.kept.copies
     }
 
-    /// The sets of the copy of the partition at a file offset, rising; none where there is no such copy.
+    /// The sets of the copy of the partition at a file offset, rising; none if there is no such copy.
     #[tactic(auto, unfolding(crate::specs::Copies::sets_of))]
     pub fn sets(&self, partition: u64) -> Sets<'_>
         ensures sets { result ≡ sets_of self.now partition }
@@ -384,7 +383,7 @@ impl Views {
         preferred(&self.kept.copies)
     }
 
-    /// The primer pack of the first copy whose bytes have the set: it says what the set's tags stand for. None where no
+    /// The primer pack of the first copy whose bytes have the set: it says what the set's tags stand for. None if no
     /// copy has the set.
     #[tactic(auto, unfolding(crate::specs::Labels::primer_for))]
     pub fn primer_for(&self, set: &Note) -> Option<Primer<'_>>
@@ -395,7 +394,7 @@ impl Views {
     }
 
     /// The first copy whose bytes have the packet of the note: the primer pack at its start is the one that says what
-    /// the tags of a set stand for. None where no copy has it.
+    /// the tags of a set stand for. None if no copy has it.
     pub fn copy_with(&self, note: &Note) -> Option<CopyInfo>
         ensures { result ≡ find (is_in_copy note.now) (copies_of self.now) }
     {
@@ -403,7 +402,7 @@ impl Views {
         copy_around(&self.kept.copies, &self.kept.reaches, note)
     }
 
-    /// The primer pack at the start of the copy. None without a start, or where no clear primer pack that can be read
+    /// The primer pack at the start of the copy. None without a start, or if no clear primer pack that can be read
     /// stands there.
     pub fn primer_of(&self, copy: &CopyInfo) -> Option<Primer<'_>>
         ensures { result ≡ primer_of self.now copy.now }
@@ -506,7 +505,7 @@ pub fn views_let_go_of_disputed_notes()
     ensures { (a b : List NoteParts) → clear_notes a ≡ clear_notes b → SameViews a b }
 {}
 
-/// A law of [`Views::add`]: no note is clear that shares a byte with a new one which is added.
+/// A law of [`Views::add`]: no note that shares a byte with an added new one is clear.
 pub fn added_notes_dispute_what_they_touch()
     ensures { (m n : NoteParts) (notes : List NoteParts) → AreReduced notes → ¬ has_note notes n → In m notes
         → SharesByte n m → ¬ In m (clear_notes (reduced_with n notes)) }

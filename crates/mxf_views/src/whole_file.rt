@@ -7,29 +7,29 @@ ghost use Rattle.mxf_views.specs.WholeFile.{AreNotesOf, HasCopiesOf, HasIndexOf,
 
 use mxf_klv::{each_piece_is_read_one_way, packets_are_read_as_written};
 
-/// A law of [`Views`](crate::Views): where a content is the notes of a well-formed file, there is no dispute and no
-/// gap, and the partitions, the link of each and their chain are those of the reading from the front.
+/// A law of [`Views`](crate::Views): if a content is the notes of a well-formed file, there is no dispute and no gap,
+/// and the partitions, the link of each and their chain are those of the reading from the front.
 pub fn whole_files_have_their_partitions()
     ensures { (notes : List NoteParts) (l : List PacketParts) → IsWellFormed l → AreNotesOf notes l
         → HasPartitionsOf notes l }
 {}
 
-/// A law of [`Views`](crate::Views): where a content is the notes of a well-formed file, the copies of the header
+/// A law of [`Views`](crate::Views): if a content is the notes of a well-formed file, the copies of the header
 /// metadata, the sets of each and the preferred copy are those of the reading from the front.
 pub fn whole_files_have_their_copies()
     ensures { (notes : List NoteParts) (l : List PacketParts) → IsWellFormed l → AreNotesOf notes l
         → HasCopiesOf notes l }
 {}
 
-/// A law of [`Views`](crate::Views): where a content is the notes of a well-formed file, the index table segments and
-/// the place of each edit unit are those of the reading from the front.
+/// A law of [`Views`](crate::Views): if a content is the notes of a well-formed file, the index table segments and the
+/// place of each edit unit are those of the reading from the front.
 pub fn whole_files_have_their_index()
     ensures { (notes : List NoteParts) (l : List PacketParts) → IsWellFormed l → AreNotesOf notes l
         → HasIndexOf notes l }
 {}
 
-/// A law of [`Views`](crate::Views): where a content is the notes of a well-formed file, what is known of the random
-/// index pack is what the reading from the front says.
+/// A law of [`Views`](crate::Views): if a content is the notes of a well-formed file, what is known of the random index
+/// pack is what the reading from the front says.
 pub fn whole_files_have_their_random_index()
     ensures { (notes : List NoteParts) (l : List PacketParts) → IsWellFormed l → AreNotesOf notes l
         → HasRandomIndexOf notes l }

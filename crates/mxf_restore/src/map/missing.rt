@@ -43,7 +43,7 @@ fn places_of(
     Ok(places.collect(alloc)?)
 }
 
-/// The place that a claim names, in bytes, where it is missing.
+/// The place that a claim names, in bytes, if it is missing.
 fn missing_place(holdings: &Holdings<'_>, claim: &Claim) -> Option<u64>
     ensures { result ≡ missing_place holdings.now claim.now }
 {

@@ -68,7 +68,7 @@ pub(crate) fn no_sets(catalogue: &Catalogue) -> Sets<'_>
     Sets::of(catalogue.clear_within(0, 0))
 }
 
-/// The sets of a copy, none where it has no start.
+/// The sets of a copy, none if it has no start.
 pub(crate) fn sets_of_copy<'a>(catalogue: &'a Catalogue, copy: &CopyInfo) -> Sets<'a>
     ensures sets { result ≡ sets_from (clear_notes catalogue.now) copy.now.bytes copy.now.start }
     ensures bound { length result < 2 ^ 64 }
@@ -79,15 +79,15 @@ pub(crate) fn sets_of_copy<'a>(catalogue: &'a Catalogue, copy: &CopyInfo) -> Set
     }
 }
 
-/// The items of a value, where they make up all of it.
+/// The items of a value, if they make up all of it.
 pub(crate) fn whole_items(value: &[u8]) -> Option<Items<'_>>
     ensures { result ≡ whole_items value.now }
 {
     items(value).ok()
 }
 
-/// The items of a header metadata set (ST 336, local sets), in their order. None where the note is no such set, keeps
-/// no value, or has an item that isn't whole.
+/// The items of a header metadata set (ST 336, local sets), in their order. None if the note is no such set, keeps no
+/// value, or has an item that isn't whole.
 #[tactic(auto, unfolding(crate::specs::SetItems::set_items))]
 pub fn set_items(note: &Note) -> Option<Items<'_>>
     ensures { result ≡ set_items note.now }
@@ -106,7 +106,7 @@ pub fn sets_by_definition()
     ensures rising { (notes : List NoteParts) (partition : ℕ) → IsContent notes → AreApart 0 (sets_of notes partition) }
 {}
 
-/// A law of [`set_items`]: a note has items exactly where it is a header metadata set that keeps its value, and these
+/// A law of [`set_items`]: a note has items exactly if it is a header metadata set that keeps its value, and these
 /// items, one after another, make up all of it.
 pub fn set_items_by_definition()
     ensures { (n : NoteParts) (items : Option (List ItemParts)) → AreBytes n.held

@@ -78,7 +78,7 @@ impl Collected {
         }
     }
 
-    /// Those of the references that a set holds which aren't found, at the offset of the set.
+    /// The references that a set holds and that aren't found, at the offset of the set.
     fn add_lost(&mut self, offset: u64, references: &[Ref]) -> Result<(), OutOfMemory>
         ensures { OnOk result (self.new ≡ self.old
             ++ map (finding Code.F13) (lost_at offset references.now)) }

@@ -95,7 +95,7 @@ impl Collected {
         Ok(())
     }
 
-    /// Partitions of which the code tells something.
+    /// Partitions that the code says something about.
     pub(super) fn add_partitions(&mut self, code: Code, views: &Views) -> Result<(), OutOfMemory>
         ensures { OnOk result (self.new ≡ self.old ++ map (finding code) (partitions_at code views.now)) }
     {

@@ -1,5 +1,5 @@
-//! The places that index table segments give for an edit unit (ST 377-1, Index Table Segment; what stands where
-//! segments disagree is this project's profile).
+//! The places that index table segments give for an edit unit (ST 377-1, Index Table Segment; what stands if segments
+//! disagree is this project's profile).
 ghost use Rattle.std.specs.Prelude.{◌≡◌, ◌↔◌, ℕ, List, [], ◌∷◌};
 ghost use Rattle.mxf_klv.specs.Rising.{In, IsRising, with_one};
 ghost use Rattle.mxf_views.specs.declared.index.place.StreamPlace.{StreamPlace};
@@ -25,11 +25,11 @@ pub struct StreamPlace {
 /// Where the index puts an edit unit (ST 377-1, index tables).
 ///
 /// An edit unit is the smallest part of the essence that can be cut out, mostly a frame of the picture with its sound.
-/// An index table segment tells of a run of them where in the essence stream each begins: by one size that all of them
-/// have, or by an entry for each.
+/// An index table segment gives, for a run of them, where in the essence stream each begins: by one size that all of
+/// them have, or by an entry for each.
 ///
-/// Segments can repeat each other, as a footer repeats those of the body, and are used where they agree. Where they put
-/// a unit at different places, no place can be relied on.
+/// Segments can repeat each other, as a footer repeats those of the body, and are used if they agree. If they put a
+/// unit at different places, no place can be relied on.
 #[derive(Clone, Copy, Debug, PartialEq, Eq)]
 pub enum Place {
     /// No segment gives a place.
@@ -45,7 +45,7 @@ pub enum Place {
     Ambiguous {
         /// The least, by BodySID and then by offset.
         first: StreamPlace,
-        /// The least but one.
+        /// The second least.
         second: StreamPlace,
     },
 }
@@ -56,7 +56,7 @@ pub enum Place {
 pub struct BadUnit;
 
 impl StreamPlace {
-    /// Where the index puts a unit that both are given for.
+    /// Where the index puts a unit for which both are given.
     fn beside(self, other: StreamPlace) -> Place
         ensures { result ≡ place_by (with_one place_cmp self (other ∷ [])) }
     {
@@ -77,7 +77,7 @@ impl StreamPlace {
     }
 }
 
-/// The place that a segment gives for an edit unit, where it is one of the IndexSID and covers the unit.
+/// The place that a segment gives for an edit unit, if it is one of the IndexSID and covers the unit.
 #[tactic(auto, unfolding(crate::specs::Places::given_by))]
 pub(super) fn given_by(segment: &SegmentAt<'_>, index_sid: u32, unit: u64) -> Option<StreamPlace>
     ensures { result ≡ given_by index_sid unit segment.now }
@@ -123,8 +123,8 @@ impl Place {
     }
 }
 
-/// A law of [`Views::locate`](crate::Views::locate): its place is by the set of the places that the segments of the
-/// IndexSID give for the unit, whatever their order and however often they give one.
+/// A law of [`Views::locate`](crate::Views::locate): its place is determined by the set of the places that the segments
+/// of the IndexSID give for the unit, whatever their order and however often they give one.
 pub fn places_by_definition()
     ensures place { (segments : List SegmentAtParts) (index_sid unit : ℕ) (place : Place)
         → (place_of segments index_sid unit ≡ place) ↔ IsPlace segments index_sid unit place }

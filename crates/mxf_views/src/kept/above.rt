@@ -54,7 +54,7 @@ pub(super) fn settled(copies: &[CopyInfo], reaches: &[u64], boundary: u64) -> us
 }
 
 /// The partition whose copy can get a start by the notes from the boundary on: only that of the last copy can, and only
-/// where these notes begin with a start.
+/// if these notes begin with a start.
 fn starting(copies: &[CopyInfo], catalogue: &Catalogue, boundary: u64) -> Option<u64>
     requires { CopiesRise copies.now }
     ensures starting { IsStarting catalogue.now boundary copies.now result }
@@ -85,7 +85,7 @@ fn counted_on(sums: &Sums<'_>, copy: &CopyInfo, start: u64) -> CopyInfo
     }
 }
 
-/// The copy without a start, counted anew where it is that of the partition that can get one.
+/// The copy without a start, counted anew if it is that of the partition that can get one.
 fn started(catalogue: &Catalogue, starting: Option<u64>, copy: &CopyInfo) -> CopyInfo
     ensures { result ≡ started catalogue.now starting copy.now }
 {
@@ -121,9 +121,8 @@ fn count_above(copies: &mut [CopyInfo], sums: &Sums<'_>, starting: Option<u64>)
     }
 }
 
-/// Follows the arrival of notes from the boundary on, where there is room: from the copies of the notes below it to
-/// those of all notes, by the new partitions. The new notes are summed up once for all copies; those that are settled
-/// stay.
+/// Follows the arrival of notes from the boundary on, if there is room: from the copies of the notes below it to those
+/// of all notes, by the new partitions. The new notes are summed up once for all copies; those that are settled stay.
 pub(super) fn follow_copies_above(
     copies: &mut Vec<CopyInfo>,
     settled: usize,

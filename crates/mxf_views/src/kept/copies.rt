@@ -27,7 +27,7 @@ fn may_change(copy: &CopyInfo, arrival: &Arrival) -> bool
     }
 }
 
-/// The copy, counted anew where it may have changed.
+/// The copy, counted anew if it may have changed.
 fn renewed(catalogue: &Catalogue, arrival: &Arrival, copy: &CopyInfo) -> CopyInfo
     ensures { result ≡ renewed catalogue.now arrival.now.start arrival.now.end arrival.now.can_bring_start copy.now }
 {
@@ -40,7 +40,7 @@ fn renewed(catalogue: &Catalogue, arrival: &Arrival, copy: &CopyInfo) -> CopyInf
     }
 }
 
-/// Counts the copies anew that may have changed.
+/// Counts anew the copies that may have changed.
 fn renew(copies: &mut Vec<CopyInfo>, catalogue: &Catalogue, arrival: &Arrival)
     ensures items { copies.new.items ≡ map
         (renewed catalogue.now arrival.now.start arrival.now.end arrival.now.can_bring_start) copies.old.items }
@@ -61,7 +61,7 @@ impl Keyed for CopyInfo {
     }
 }
 
-/// Takes the copies out that an arrival moves, counts those anew that may have changed, and puts that of the arrival's
+/// Takes out the copies that an arrival moves, counts anew those that may have changed, and puts that of the arrival's
 /// partition among them.
 pub(super) fn follow_copies(copies: &mut Vec<CopyInfo>, catalogue: &Catalogue, arrival: &Arrival)
     requires rising { CopiesRise copies.old.items }

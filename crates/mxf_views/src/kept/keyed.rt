@@ -9,7 +9,7 @@ ghost use Rattle.mxf_views.specs.Rises.{RiseBy};
 use crate::kept::arrival::Arrival;
 use mxf_klv::{Keyed, below, up_to};
 
-/// Puts an element at the end, where there is room.
+/// Puts an element at the end, if there is room.
 pub(super) fn push<T: Drop>(items: &mut Vec<T>, item: T)
     requires { vec_len items.old < vec_capacity items.old }
     ensures items { items.new.items ≡ items.old.items ++ item ∷ [] }
@@ -21,7 +21,7 @@ pub(super) fn push<T: Drop>(items: &mut Vec<T>, item: T)
     };
 }
 
-/// Puts an element among others by its key, where there is room.
+/// Puts an element among others by its key, if there is room.
 pub(super) fn put<T: Keyed + Drop>(items: &mut Vec<T>, item: T)
     requires rising { IsNonDecreasingBy T.key items.old.items }
     requires room { vec_len items.old < vec_capacity items.old }
@@ -34,7 +34,7 @@ pub(super) fn put<T: Keyed + Drop>(items: &mut Vec<T>, item: T)
     }
 }
 
-/// Takes the elements out that an arrival moves.
+/// Takes out the elements that an arrival moves.
 pub(super) fn leave<T: Keyed + Drop>(items: &mut Vec<T>, arrival: &Arrival)
     ensures items { items.new.items ≡ outside T.key arrival.now.start arrival.now.end items.old.items }
     ensures len { vec_len items.new ≤ vec_len items.old }
@@ -52,7 +52,7 @@ pub(crate) fn find_by_key<T: Keyed>(items: &[T], key: u64) -> Option<&T>
     if item.key() == key { Some(item) } else { None }
 }
 
-/// Whether one of the keys lies above another: the last tells.
+/// Whether one of the keys lies above another: the last one shows it.
 pub(crate) fn any_above<T: Keyed>(items: &[T], low: u64) -> bool
     requires { RiseBy T.key items.now }
     ensures { result ≡ list_any (λ x. nat_lt low (T.key x)) items.now }
@@ -63,7 +63,7 @@ pub(crate) fn any_above<T: Keyed>(items: &[T], low: u64) -> bool
     }
 }
 
-/// Whether one of the keys lies between two others: the first above the lower one tells.
+/// Whether one of the keys lies between two others: the first one above the lower one shows it.
 pub(crate) fn any_between<T: Keyed>(items: &[T], low: u64, high: u64) -> bool
     requires { RiseBy T.key items.now }
     ensures { result ≡ list_any (λ x. lies_between low high (T.key x)) items.now }

@@ -25,7 +25,7 @@ fn greatest(reaches: &[u64], count: usize) -> u64
     if count == 0 { 0 } else { reaches[count - 1] }
 }
 
-/// Puts how far copies reach in place of what is there, where there is room. Those of the first copies stay.
+/// Puts how far copies reach in place of what is there, if there is room. Those of the first copies stay.
 pub(super) fn refill_reaches(reaches: &mut Vec<u64>, copies: &[CopyInfo], settled: usize)
     requires room { length copies.now ≤ vec_capacity reaches.old }
     requires bound { settled ≤ length copies.now }

@@ -87,7 +87,7 @@ impl<'a> Sums<'a> {
     }
 
     /// What the clear notes that lie wholly in a range cover, and how many Prefaces are among them: a few binary
-    /// searches, and a walk over the notes before the first mark in the range and behind the last.
+    /// searches, and a walk over the notes before the first mark in the range and after the last.
     pub fn counts(&self, start: u64, bytes: u64) -> Counts
         requires { self.now.boundary ≤ start }
         ensures covered { result.covered ≡ covered_of start bytes (clear_notes self.now.notes) }
@@ -130,7 +130,7 @@ impl<'a> Sums<'a> {
     }
 }
 
-/// Puts the copies of partitions from the boundary on behind others, where there is room.
+/// Puts the copies of partitions from the boundary on after others, if there is room.
 pub(super) fn append_copies(copies: &mut Vec<CopyInfo>, sums: &Sums<'_>, partitions: &[Partition])
     requires above { AllWithin (λ p. sums.now.boundary ≤ p.end) partitions.now 0 (length partitions.now) }
     requires room { vec_len copies.old + count_by has_metadata partitions.now ≤ vec_capacity copies.old }
@@ -164,7 +164,7 @@ fn tally(note: &Note) -> usize
     if is_preface(note) { 1 } else { 0 }
 }
 
-/// Puts marks among notes into an empty list, as far as it has room: one for each so many.
+/// Puts marks among notes into an empty list, as far as it has room: one for every fixed number of notes.
 fn put_marks(marks: &mut Vec<Mark>, notes: ClearNotes<'_>)
     requires empty { marks.old.items ≡ [] }
     requires apart { AreApart 0 notes }
@@ -191,7 +191,7 @@ fn put_marks(marks: &mut Vec<Mark>, notes: ClearNotes<'_>)
     }
 }
 
-/// Puts a mark behind others where there is room, if so many notes have passed that it is its turn.
+/// Puts a mark after others if there is room, and if by the number of notes passed it is its turn.
 fn put_mark(marks: &mut Vec<Mark>, passed: usize, mark: Mark)
     ensures { (marks.new.items ≡ marks.old.items) ⊎ (marks.new.items ≡ marks.old.items ++ mark ∷ []) }
 {
@@ -200,7 +200,7 @@ fn put_mark(marks: &mut Vec<Mark>, passed: usize, mark: Mark)
     }
 }
 
-/// How many marks stand among so many notes.
+/// How many marks stand among a given number of notes.
 pub(super) fn mark_count(notes: usize) -> usize {
     notes.div_ceil(SPACING)
 }

@@ -52,7 +52,7 @@ fn is_segment(kind: Kind) -> bool
     matches!(&kind, Kind::Segment)
 }
 
-/// One where it is so.
+/// One if it is so.
 fn one_if(so: bool) -> usize
     ensures { result ≡ if so then 1 else 0 }
 {

@@ -32,14 +32,14 @@ pub(crate) struct Identified {
     pub offset: u64,
 }
 
-/// The instance identifier of a set, where the set is kept and the identifier can be read.
+/// The instance identifier of a set, if the set is kept and the identifier can be read.
 fn uid_of(note: &Note) -> Option<Uuid>
     ensures { result ≡ read_as instance_uid_at note.now }
 {
     instance_uid(note.value()?).ok()
 }
 
-/// The set, where it has a readable identifier.
+/// The set, if it has a readable identifier.
 fn with_uid(note: &Note) -> Option<Identified>
     ensures { result ≡ with_uid note.now }
 {
@@ -91,7 +91,7 @@ fn count_below(sets: &[Identified], uid: &Uuid) -> usize
     sets.partition_point(|set| set.uid < *uid)
 }
 
-/// What is found of an identifier among sorted sets: the first that isn't below it and the next one tell.
+/// What is found of an identifier among sorted sets: the first that isn't below it and the next one show it.
 fn find_sorted(sets: &[Identified], uid: &Uuid) -> Found
     requires { AreSorted sets.now }
     ensures { result ≡ found_at (map (λ e. e.offset) (filter (is_of uid.now) sets.now)) }

@@ -32,10 +32,10 @@ pub struct Resolved {
     pub partition: u64,
     /// The file offset of the Preface, in bytes.
     pub preface: u64,
-    /// None where the Preface isn't readable.
+    /// None if the Preface isn't readable.
     pub storage: Option<Ref>,
     pub identifications: Refs,
-    /// None where the storage isn't found.
+    /// None if the storage isn't found.
     pub packages: Refs,
 }
 
@@ -78,7 +78,7 @@ fn storage_in(note: &Note) -> Option<ContentStorage<'_>>
     ContentStorage::read(note.value()?).ok()
 }
 
-/// The storage with the identifier, where it is the only set of the copy that has it.
+/// The storage with the identifier, if it is the only set of the copy that has it.
 fn storage_of<'a>(sets: &CopySets<'a>, uid: &Uuid) -> Option<ContentStorage<'a>>
     ensures { result ≡ storage_among (filter (has_uid uid.now) (sets_of sets.now.notes sets.now.partition)) }
 {
@@ -125,7 +125,7 @@ pub(crate) fn resolved_by(
 }
 
 /// A law of [`Views::resolved`](crate::Views::resolved): it is what the only Preface of the preferred copy names, each
-/// reference in its place with what it leads to; there is none only where no copy is preferred.
+/// reference in its place with what it leads to; there is none only if no copy is preferred.
 pub fn resolved_by_definition()
     ensures { (notes : List NoteParts) (resolved : Option ResolvedParts) → IsContent notes
         → (resolved_of notes ≡ resolved) ↔ IsResolved notes resolved }

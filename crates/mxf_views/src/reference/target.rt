@@ -18,7 +18,7 @@ use uuid::Uuid;
 
 /// What a reference leads to, with file offsets in bytes: a set of the kind that the reference wants, in the same copy.
 ///
-/// A reference is of use where exactly one set has the identifier and that set is of the kind and readable. Else the
+/// A reference is of use if exactly one set has the identifier and that set is of the kind and readable. Otherwise the
 /// target says which of these fails first.
 #[derive(Clone, Copy, Debug, PartialEq, Eq)]
 pub enum Target {
@@ -144,8 +144,8 @@ pub(crate) fn refs_of(
     Ok(Refs { items })
 }
 
-/// A law of [`Views::resolved`](crate::Views::resolved): what a reference leads to is by the sets of the copy that have
-/// its identifier.
+/// A law of [`Views::resolved`](crate::Views::resolved): what a reference leads to is determined by the sets of the
+/// copy that have its identifier.
 pub fn targets_by_definition()
     ensures { (notes : List NoteParts) (partition : ℕ) (wanted : Wanted) (uid : List ℕ) (target : Target)
         → IsContent notes
