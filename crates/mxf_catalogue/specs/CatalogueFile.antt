@@ -1,4 +1,4 @@
--- The file of a catalogue (this project's profile): sixteen bytes that tell the format, its version and the number of
+-- The file of a catalogue (this project's profile): sixteen bytes that give the format, its version and the number of
 -- notes, then the notes, each above the one before. A note is a fixed part of 33 bytes, a mark of one byte and what the
 -- note holds. Version 1 has no marks, and so no heads.
 use Rattle.std.specs.Prelude.{◌≡◌, ◌≢◌, ◌==◌, ℕ, ◌+◌, ◌^◌, ◌<◌, ◌≤◌, ◌⊎◌, Bool, if◌then◌else◌, List, [], ◌∷◌, ◌++◌}
@@ -20,7 +20,7 @@ use Rattle.mxf_catalogue.specs.declared.catalogue.file.FileFault.TheVariants as 
 abbrev pub magic : List ℕ
 magic = 0x4D ∷ 0x58 ∷ 0x46 ∷ 0x43 ∷ 0x41 ∷ 0x54 ∷ 0x00 ∷ []
 
--- The byte after it, which tells the version.
+-- The byte after it, which gives the version.
 abbrev pub version_byte : Version → ℕ
 version_byte One = 1
 version_byte Two = 2
@@ -37,7 +37,7 @@ IsKnownVersion byte = (version : Version) × (byte ≡ version_byte version)
 unfoldable pub number_bytes : ℕ → List ℕ
 number_bytes n = to_be_bytes w64 n
 
--- The sixteen bytes ahead of the notes, which tell the version and how many notes there are.
+-- The sixteen bytes ahead of the notes, which give the version and how many notes there are.
 abbrev pub start_bytes : Version → ℕ → List ℕ
 start_bytes version count = magic ++ (version_byte version ∷ number_bytes count)
 
@@ -59,7 +59,7 @@ pub record CanBeNoted (f : FixedPart) : Type 0 where
   pub width : CanSpell f.width f.length
   pub within : f.offset + 16 + f.width + f.length ≤ greatest_end
 
--- The mark of a note: 0 of a packet that was read whole, 1 of one of which key and length alone were read.
+-- The mark of a note: 0 of a packet that was read whole, 1 of one whose key and length alone were read.
 abbrev pub mark_of : Bool → ℕ
 mark_of whole = if whole then 0 else 1
 
@@ -68,7 +68,7 @@ abbrev pub mark_bytes : Version → ℕ → List ℕ
 mark_bytes One mark = []
 mark_bytes Two mark = mark ∷ []
 
--- What the mark is where the version has none: that of a whole packet.
+-- What the mark is if the version has none: that of a whole packet.
 abbrev pub IsMarkIn : Version → ℕ → Type 0
 IsMarkIn One mark = mark ≡ 0
 IsMarkIn Two mark = Unit {0}
@@ -154,7 +154,7 @@ abbrev pub IsBadNote : Version → List ℕ → Type 0
 IsBadNote version bytes =
     (f : FixedPart) × (mark : ℕ) × (rest : List ℕ) × BeginsWithParts version bytes f mark rest × ¬ CanBeMarked f mark
 
--- A note stands at the front with which the notes before it don't go on rising.
+-- A note stands at the front, and with it the notes before it don't go on rising.
 abbrev pub IsUnsortedNote : Version → List NoteParts → List ℕ → Type 0
 IsUnsortedNote version notes bytes =
     (n : NoteParts) × (rest : List ℕ) × BeginsWithNote version bytes n rest × ¬ IsContent (notes ++ n ∷ [])
@@ -163,14 +163,14 @@ IsUnsortedNote version notes bytes =
 abbrev pub IsHeadLast : List NoteParts → NoteParts → Type 0
 IsHeadLast notes n = (front : List NoteParts) × (notes ≡ front ++ head_note n ∷ [])
 
--- A note stands at the front with which the notes before it go on rising, and the last of these is its head.
+-- A note stands at the front, with it the notes before it go on rising, and the last of these is its head.
 abbrev pub IsUnreducedNote : Version → List NoteParts → List ℕ → Type 0
 IsUnreducedNote version notes bytes =
     (n : NoteParts) × (rest : List ℕ) × BeginsWithNote version bytes n rest × IsContent (notes ++ n ∷ [])
     × IsHeadLast notes n
 
--- The bytes begin as a file of the version that tells a count, with whole rising reduced notes that the version can
--- have, no more than it tells, and the rest follows them.
+-- The bytes begin as a file of the version that states a count, with whole rising reduced notes that the version can
+-- have, no more than it states, and the rest follows them.
 pub record IsFront (version : Version) (bytes : List ℕ) (count : ℕ) (notes : List NoteParts) (rest : List ℕ)
     : Type 0 where
   pub catalogue : IsCatalogue notes
@@ -199,8 +199,8 @@ pub record StopsAt (bytes : List ℕ) (place : ℕ) (cause : Version → ℕ →
 abbrev pub BeginsAsFile : List ℕ → Type 0
 BeginsAsFile bytes = take 7 bytes ≡ take (length bytes) magic
 
--- Why bytes are no file, one cause a fault. Notes are looked at one after another, so a fault stands behind a front of
--- whole rising notes. That memory was wanting says nothing of the bytes.
+-- Why bytes are no file, one cause a fault. Notes are looked at one after another, so a fault follows a front of whole
+-- rising notes. That the memory ran out says nothing of the bytes.
 abbrev pub IsRefused : List ℕ → FileFault → Type 0
 IsRefused bytes faults.BadMagic = ¬ BeginsAsFile bytes
 IsRefused bytes faults.BadVersion = BeginsAsFile bytes × IsSomeAnd (slice_get bytes 7) IsUnknownVersion

@@ -50,7 +50,7 @@ gaps_from low (r ∷ runs) = cond (nat_lt low r.start) (run low r.start ∷ gaps
 abbrev pub gaps_of_runs : List Run → List Run
 gaps_of_runs runs = gaps_from 0 runs
 
--- The run ends above an offset, and begins below another, where there is one.
+-- The run ends above an offset, and begins below another, if there is one.
 abbrev pub is_between : ℕ → Option ℕ → Run → Bool
 is_between from to r = nat_lt from r.end && option_map_or (λ e. nat_lt r.start e) to true
 
@@ -73,7 +73,7 @@ LiesIn-first r runs at = (
   λ h. elim h [ inl w ↦ (r, inl refl, w) | inr k ↦ (k.0, inr k.1, k.2) ],
 )
 
--- Where two runs touch, what lies in both together lies in one of them.
+-- If two runs touch, what lies in both together lies in one of them.
 pub in_both : (r s : Run) (at : ℕ) → s.start ≤ r.end → r.start ≤ s.end
     → IsWithin (both r s) at ↔ IsWithin r at ⊎ IsWithin s at
 in_both r s at a b = (

@@ -8,7 +8,7 @@ use Rattle.mxf_catalogue.specs.declared.catalogue.file.start.Version.{Version}
 use Rattle.mxf_catalogue.specs.declared.catalogue.file.FileFault.{FileFault}
 use Rattle.mxf_catalogue.specs.declared.catalogue.file.FileFault.TheVariants as faults
 
--- The note has the fixed part and the mark and holds the first of the bytes behind them, and the rest follows these.
+-- The note has the fixed part and the mark and holds the first of the bytes after them, and the rest follows these.
 pub record NoteBehindMark (f : FixedPart) (mark : ℕ) (bytes : List ℕ) (n : NoteParts) (rest : List ℕ) : Type 0 where
   pub note : IsNote n
   pub fixed : fixed_part_of n ≡ f

@@ -5,7 +5,7 @@ use Rattle.mxf_catalogue.specs.declared.catalogue.change.Change.{Change}
 use Rattle.mxf_catalogue.specs.declared.catalogue.change.Change.TheVariants.{Repeated, Added}
 use Rattle.mxf_catalogue.specs.NoteLists.{moved_by}
 
--- Where the note was new, the offsets are those of the notes that it moves.
+-- If the note was new, the offsets are those of the notes that it moves.
 abbrev pub TellsMoved : NoteParts → List NoteParts → Change → Type 0
 TellsMoved n old Repeated = Unit {0}
 TellsMoved n old (Added moved) = moved ≡ moved_by n old

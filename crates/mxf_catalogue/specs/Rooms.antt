@@ -5,17 +5,17 @@ use Rattle.mxf_klv.specs.Parts.{NoteParts}
 use Rattle.mxf_catalogue.specs.declared.catalogue.note_lists.NoteLists.{NoteLists}
 use Rattle.mxf_catalogue.specs.NoteLists.{touching}
 
--- The list is empty, and has room for so many.
+-- The list is empty, and has room for the given number.
 abbrev pub IsRoomFor : {X Z : Type 0} → ℕ → Vec X Z → Type 0
 IsRoomFor count v = (v.items ≡ []) × (vec_len v ≡ 0) × (count ≤ vec_capacity v)
 
--- Empty lists with room for so many notes.
+-- Empty lists with room for the given number of notes.
 pub record AreRoomFor (count : ℕ) (p : NoteLists) : Type 0 where
   pub undisputed : IsRoomFor count p.undisputed
   pub disputed : IsRoomFor count p.disputed
   pub disputed_spans : IsRoomFor count p.disputed_spans
 
--- Lists with room for so many more notes, whatever these move: each note that is there may be disputed then.
+-- Lists with room for that many more notes, whatever these move: each note that is there may be disputed then.
 pub record HaveRoom (count : ℕ) (p : NoteLists) : Type 0 where
   pub undisputed : vec_len p.undisputed + count ≤ vec_capacity p.undisputed
   pub disputed : vec_len p.undisputed + vec_len p.disputed + count ≤ vec_capacity p.disputed

@@ -81,7 +81,7 @@ impl Catalogue {
         }
     }
 
-    /// Adds the note, which takes the place of its head where that is held. A held note, and the head of one, is
+    /// Adds the note, which takes the place of its head if that is held. A held note, and the head of one, is
     /// `Repeated` and takes no memory.
     ///
     /// The only fault is out of memory. The note comes back and the catalogue is unchanged: all memory is taken before
@@ -111,7 +111,7 @@ impl Catalogue {
         Ok(Change::Added { moved })
     }
 
-    /// Adds a note that begins where all others have ended, or above: it is new, goes behind them and moves none.
+    /// Adds a note that begins where all others have ended, or above: it is new, goes after them and moves none.
     fn append(&mut self, note: Note) -> Result<Change, AddFault>
         requires above { (n : NoteParts) → In n self.old → end_of n ≤ note.offset }
         ensures added { OnOk result (self.new ≡ reduced_with note self.old) }
@@ -134,9 +134,9 @@ impl Catalogue {
         })
     }
 
-    /// Moves the notes of another catalogue into this one, which holds the notes of both then. No kept value is copied.
+    /// Moves the notes of another catalogue into this one, which then holds the notes of both. No kept value is copied.
     ///
-    /// An empty catalogue takes the other as it is. Notes that stand above all of these are put behind them. Otherwise
+    /// An empty catalogue takes the other as it is. Notes that stand above all of these are put after them. Otherwise
     /// the notes of both are put into new lists, in their order: one pass over both.
     ///
     /// The only fault is out of memory. The other comes back and this catalogue is unchanged: all memory is taken
@@ -199,8 +199,8 @@ impl Catalogue {
         Ok(())
     }
 
-    /// A catalogue of the notes of a content. Where each begins at or above the end of the one before, their list is
-    /// taken over as it is.
+    /// A catalogue of the notes of a content. If each begins at or above the end of the one before, their list is taken
+    /// over as it is.
     fn of_notes(alloc: Global, notes: Vec<Note>) -> Result<Catalogue, OutOfMemory>
         requires catalogue { IsCatalogue notes.items }
         requires reduced { AreReduced notes.items }
@@ -256,8 +256,8 @@ impl Catalogue {
         self.lists.have(note)
     }
 
-    /// Whether the note is held, or is the head of a held one: to add it is `Repeated` then. At most
-    /// two binary searches.
+    /// Whether the note is held, or is the head of a held one: adding it is `Repeated` then. At most two binary
+    /// searches.
     pub fn has(&self, note: &Note) -> bool
         ensures { IsTrue result ↔ has_note self.now note.now }
     {
@@ -322,7 +322,7 @@ impl Catalogue {
         Notes::of(&self.lists.undisputed, &[])
     }
 
-    /// The clear notes whose packets lie wholly in the range of so many bytes from `start` on, in their order: two
+    /// The clear notes whose packets lie wholly in the range of `bytes` bytes from `start` on, in their order: two
     /// binary searches. The range may go on beyond all offsets.
     pub fn clear_within(&self, start: u64, bytes: u64) -> ClearNotes<'_>
         ensures notes { result ≡ filter (lies_in start bytes) (clear_notes self.now) }
@@ -333,7 +333,7 @@ impl Catalogue {
         ClearNotes::of(within(&self.lists.undisputed, start, bytes))
     }
 
-    /// The clear notes that share a byte with the note, in their order: two binary searches. Where the catalogue hasn't
+    /// The clear notes that share a byte with the note, in their order: two binary searches. If the catalogue hasn't
     /// the note ([`Catalogue::has`]), they are those that adding it moves.
     pub fn clear_touching(&self, note: &Note) -> ClearNotes<'_>
         ensures notes { result ≡ touching note.now (clear_notes self.now) }
@@ -359,7 +359,7 @@ impl Catalogue {
         is_in(&self.lists.disputed, note)
     }
 
-    /// The greatest end of a note, in bytes, be it claimed by a head; 0 where there is no note.
+    /// The greatest end of a note, in bytes, a head's claimed end too; 0 if there is no note.
     pub fn end(&self) -> u64
         ensures { (bound : ℕ) → result ≤ bound ↔ ((n : NoteParts) → In n self.now → end_of n ≤ bound) }
     {

@@ -23,8 +23,8 @@ use std::marker::Model;
 
 /// A set of file offsets, as its maximal runs.
 ///
-/// Where runs overlap or touch, they are one. What comes out is the set alone: no order of additions and no number of
-/// repeats changes it.
+/// Runs that overlap or touch are one. What comes out is the set alone: no order of additions and no number of repeats
+/// changes it.
 #[derive(Debug, Drop)]
 pub struct Cover {
     pub(crate) runs: Vec<Run>,
@@ -99,7 +99,7 @@ impl Cover {
         CoverRuns::of(&self.runs)
     }
 
-    /// The maximal runs that end above `from`, in bytes, and begin below `to`, where that is given, rising: two binary
+    /// The maximal runs that end above `from`, in bytes, and begin below `to`, if that is given, rising: two binary
     /// searches.
     pub fn runs_between(&self, from: u64, to: Option<u64>) -> CoverRuns<'_>
         ensures runs { result ≡ filter (is_between from to) self.now }
@@ -108,7 +108,7 @@ impl Cover {
         CoverRuns::of(between(&self.runs, from, to))
     }
 
-    /// The greatest end of a run, in bytes; 0 where there is none.
+    /// The greatest end of a run, in bytes; 0 if there is none.
     pub fn end(&self) -> u64
         ensures { (bound : ℕ) → result ≤ bound ↔ ((offset : ℕ) → LiesIn self.now offset → offset < bound) }
     {

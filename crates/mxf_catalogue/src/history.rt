@@ -1,6 +1,6 @@
 //! Histories of calls: what any order of them leaves. The calls are `new`, `add`, `join`, `merge` and `read` of
-//! [`Catalogue`](crate::Catalogue), and in the crates above `absorb` and `absorb_from` of a piece, whole or cut by want
-//! of memory or a failed read, `Views::of` and `into_catalogue`.
+//! [`Catalogue`](crate::Catalogue), and in the crates above `absorb` and `absorb_from` of a piece, whole or cut by a
+//! refused growth of memory or a failed read, `Views::of` and `into_catalogue`.
 //!
 //! Each call that takes a history on says so by its clause `history`: what it leaves is the content of the history with
 //! it. `new` leaves no note, the content of `New`.
@@ -22,7 +22,7 @@ pub fn histories_leave_what_they_were_handed()
 {}
 
 /// A law: histories that were handed the same notes, in any order and however often, leave equal contents (`equal`).
-/// They do so exactly where they were handed the same located packets (`same`): the head of a note that was handed adds
+/// They do so exactly if they were handed the same located packets (`same`): the head of a note that was handed adds
 /// nothing (`heads`).
 pub fn one_set_one_content()
     ensures equal { (h k : History) → ((n : NoteParts) → Hands h n ↔ Hands k n) → content h ≡ content k }

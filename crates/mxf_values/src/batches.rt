@@ -12,13 +12,13 @@ fn tell_items(rt: &impl Print, items: Items<'_>) -> io::Result<()> {
     Ok(())
 }
 
-/// Prints the only item of a tag behind the first item.
+/// Prints the only item of a tag after the first item.
 fn tell_behind(rt: &impl Print, mut items: Items<'_>, tag: u16) -> io::Result<()> {
     items.next();
     tell(rt, &items.only(tag))
 }
 
-/// `items`, `only TAG`; `behind TAG`: the same behind the first item.
+/// `items`, `only TAG`; `behind TAG`: the same after the first item.
 pub fn tell_set(rt: &impl Print, row: &Row<'_>) -> io::Result<()> {
     match (row.call, items(row.bytes)) {
         ("items", Ok(items)) => tell_items(rt, items),
@@ -55,7 +55,7 @@ fn tell_read<R: Print + AllocGlobal>(rt: &R, batch: &Batch<'_>, row: &Row<'_>) -
     }
 }
 
-/// `of SIZE` items; `read SIZE`, or what is told of a batch that is read.
+/// `of SIZE` items; `read SIZE`, or what is said of a batch that is read.
 pub fn tell_batch<R: Print + AllocGlobal>(rt: &R, row: &Row<'_>) -> io::Result<()> {
     match row.call {
         "of" => tell(rt, &Batch::of(row.bytes, row.size())),

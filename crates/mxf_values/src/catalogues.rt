@@ -32,7 +32,7 @@ fn note_of(row: &Row<'_>, key: Ul, number: u64) -> Option<Note> {
     }
 }
 
-/// Adds a note, where there is one, and answers whether it was added.
+/// Adds a note, if there is one, and answers whether it was added.
 pub fn adds(catalogue: &mut Catalogue, note: Option<Note>) -> bool {
     match note {
         Some(note) => catalogue.add(note).is_ok(),
@@ -50,7 +50,7 @@ fn adds_all(catalogue: &mut Catalogue, row: &Row<'_>, key: Ul) -> bool {
     true
 }
 
-/// `notes COUNT FIRST STEP SPAN` or `heads` with the same numbers, of a key: how many notes are held once they were
+/// `notes COUNT FIRST STEP SPAN` or `heads` with the same numbers, of a key: how many notes are held once they are
 /// added one by one, and how many of them are disputed.
 fn tell_count(rt: &impl Print, catalogue: &mut Catalogue, row: &Row<'_>) -> io::Result<()> {
     match row.key_and_rest() {
@@ -61,7 +61,7 @@ fn tell_count(rt: &impl Print, catalogue: &mut Catalogue, row: &Row<'_>) -> io::
     }
 }
 
-/// The note of an addition, which three bytes spell: its offset, the length of its value, and 1 where it is a head.
+/// The note of an addition, which three bytes spell: its offset, the length of its value, and 1 if it is a head.
 /// Seventeen bytes of key and length stand before a value, and all bytes of a digest are 0.
 fn addition_of(key: Ul, [offset, length, is_head]: [u8; 3]) -> Option<Note> {
     match is_head {

@@ -4,7 +4,7 @@ use mxf_klv::{Held, Kind, Note, OutOfMemory, Packet, Ul, cut_head, read_packet};
 use std::alloc::Global;
 use std::io;
 
-/// What a note tells.
+/// What a note says.
 #[derive(Clone, Copy, Debug)]
 struct Told<'a> {
     offset: u64,
@@ -42,7 +42,7 @@ fn tell_made(rt: &impl Print, note: &Option<Note>) -> io::Result<()> {
     }
 }
 
-/// Prints the note that keeps the value behind the key, or why there is none.
+/// Prints the note that keeps the value after the key, or why there is none.
 fn tell_kept(rt: &impl Print, row: &Row<'_>, key: Ul, value: Vec<u8>) -> io::Result<()> {
     match Note::kept(row.numbers[2], key, row.width(), value) {
         Ok(note) => tell(rt, &Told::of(&note)),
@@ -50,7 +50,7 @@ fn tell_kept(rt: &impl Print, row: &Row<'_>, key: Ul, value: Vec<u8>) -> io::Res
     }
 }
 
-/// Prints the note that has the digest behind the key, or else the head.
+/// Prints the note that has the digest after the key, or otherwise the head.
 fn tell_front(rt: &impl Print, row: &Row<'_>, key: Ul, rest: &[u8]) -> io::Result<()> {
     let [_, length, offset, _] = row.numbers;
     match rest.as_array::<32>() {
@@ -73,7 +73,7 @@ fn tell_by_key<R: Print + AllocGlobal>(rt: &R, row: &Row<'_>) -> io::Result<()> 
     }
 }
 
-/// How many bytes the fronts of a packet have whose head is the note's.
+/// How many bytes those fronts of a packet have whose head is the note's.
 fn fronts_with_head(alloc: Global, note: &Note, bytes: &[u8]) -> Result<Vec<usize>, OutOfMemory> {
     let mut sizes = Vec::new(alloc);
     for size in 0..=bytes.len() {
@@ -92,8 +92,8 @@ fn tell_copy(alloc: Global, rt: &impl Print, note: &Note) -> io::Result<()> {
     }
 }
 
-/// `of OFFSET`, `head_of OFFSET`; `copy OFFSET`: whether a copy is the same; `fronts OFFSET`: how many bytes those have
-/// whose head is the note's.
+/// `of OFFSET`, `head_of OFFSET`; `copy OFFSET`: whether a copy is the same; `fronts OFFSET`: how many bytes those
+/// fronts have whose head is the note's.
 fn tell_read<R: Print + AllocGlobal>(rt: &R, note: &Note, row: &Row<'_>) -> io::Result<()> {
     match row.call {
         "of" => tell(rt, &Told::of(note)),
@@ -104,7 +104,7 @@ fn tell_read<R: Print + AllocGlobal>(rt: &R, note: &Note, row: &Row<'_>) -> io::
     }
 }
 
-/// Prints what is told of the note of a packet.
+/// Prints what is said of the note of a packet.
 fn tell_of_packet<R: Print + AllocGlobal>(
     rt: &R,
     packet: &Packet<'_>,
@@ -116,7 +116,7 @@ fn tell_of_packet<R: Print + AllocGlobal>(
     }
 }
 
-/// Prints what is told of the head of a packet that is cut.
+/// Prints what is said of the head of a packet that is cut.
 fn tell_of_head<R: Print + AllocGlobal>(
     rt: &R,
     head: &Option<Note>,
@@ -128,7 +128,7 @@ fn tell_of_head<R: Print + AllocGlobal>(
     }
 }
 
-/// The note of a packet, or its head where it is cut.
+/// The note of a packet, or its head if it is cut.
 fn note_or_head(alloc: Global, offset: u64, bytes: &[u8]) -> Option<Note> {
     match read_packet(bytes) {
         Ok((packet, _size)) => Note::of(alloc, offset, &packet).ok(),
@@ -158,8 +158,8 @@ fn tell_both<R: Print + AllocGlobal>(rt: &R, row: &Row<'_>) -> io::Result<()> {
     )
 }
 
-/// `front WIDTH LENGTH OFFSET` and `kept WIDTH 0 OFFSET` of a key and what stands behind it: a digest, a value, or
-/// nothing for a head; `cut OFFSET`, `compare`, or what is told of the note of a packet or of the head of a cut one.
+/// `front WIDTH LENGTH OFFSET` and `kept WIDTH 0 OFFSET` of a key and what follows it: a digest, a value, or nothing
+/// for a head; `cut OFFSET`, `compare`, or what is said of the note of a packet or of the head of a cut one.
 pub fn tell_note<R: Print + AllocGlobal>(rt: &R, row: &Row<'_>) -> io::Result<()> {
     match row.call {
         "front" | "kept" => tell_by_key(rt, row),

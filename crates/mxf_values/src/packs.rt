@@ -5,7 +5,7 @@ use mxf_klv::Ul;
 use mxf_sets::{Batch, PartitionPack, Primer, PrimerLabels, Rip};
 use std::io;
 
-/// The pack that has these labels and is else a pack without any.
+/// The pack with these labels, otherwise equal to a pack without any.
 fn with<'a>(pack: &PartitionPack<'_>, labels: Batch<'a>) -> Option<PartitionPack<'a>> {
     PartitionPack::of(
         pack.part(),
@@ -24,7 +24,7 @@ fn tell_pack(rt: &impl Print, pack: &Option<PartitionPack<'_>>) -> io::Result<()
     }
 }
 
-/// `with SIZE`: a pack of the labels behind the 88 bytes of a value that has none; or how a pack is written.
+/// `with SIZE`: a pack of the labels after the 88 bytes of a value that has none; or how a pack is written.
 fn tell_read_pack<R: Print + AllocGlobal>(
     rt: &R,
     key: &Ul,
@@ -42,7 +42,7 @@ fn tell_read_pack<R: Print + AllocGlobal>(
     }
 }
 
-/// `read`, or what is told of a pack that is read. The bytes are the key and the value.
+/// `read`, or what is said of a pack that is read. The bytes are the key and the value.
 pub fn tell_partition<R: Print + AllocGlobal>(rt: &R, row: &Row<'_>) -> io::Result<()> {
     match row.key_and_rest() {
         Some((key, value)) => match row.call {
@@ -84,7 +84,7 @@ fn tell_read_primer<R: Print + AllocGlobal>(
     }
 }
 
-/// `of SIZE` items; `read`, or what is told of a primer pack that is read.
+/// `of SIZE` items; `read`, or what is said of a primer pack that is read.
 pub fn tell_primer<R: Print + AllocGlobal>(rt: &R, row: &Row<'_>) -> io::Result<()> {
     match row.call {
         "of" => tell(rt, &primer_of(Batch::of(row.bytes, row.size()))),
@@ -117,7 +117,7 @@ fn tell_read_rip<R: Print + AllocGlobal>(rt: &R, rip: &Rip<'_>, row: &Row<'_>) -
     }
 }
 
-/// `of WIDTH` entries; `read WIDTH`, or what is told of a random index pack that is read.
+/// `of WIDTH` entries; `read WIDTH`, or what is said of a random index pack that is read.
 pub fn tell_rip<R: Print + AllocGlobal>(rt: &R, row: &Row<'_>) -> io::Result<()> {
     match row.call {
         "of" => tell(rt, &Rip::of(row.width(), row.bytes)),

@@ -36,17 +36,17 @@ impl<'a> Row<'a> {
         })
     }
 
-    /// The first number, as the width of a length; 255 where it is greater.
+    /// The first number, as the width of a length; 255 if it is greater.
     pub fn width(&self) -> u8 {
         self.numbers[0].min(0xFF) as u8
     }
 
-    /// The first number, as a tag; the greatest tag where it is greater.
+    /// The first number, as a tag; the greatest tag if it is greater.
     pub fn tag(&self) -> u16 {
         self.numbers[0].min(0xFFFF) as u16
     }
 
-    /// The first number, as an item size, 1 at least; the greatest size where it is greater.
+    /// The first number, as an item size, 1 at least; the greatest size if it is greater.
     pub fn size(&self) -> u32
         ensures { 0 < result }
     {
@@ -58,19 +58,19 @@ impl<'a> Row<'a> {
         Row { bytes, ..*self }
     }
 
-    /// The label that the bytes begin with, and those behind it.
+    /// The label that the bytes begin with, and those after it.
     pub fn key_and_rest(&self) -> Option<(Ul, &'a [u8])> {
         let (key, rest) = self.bytes.split_first_chunk::<16>()?;
         Some((Ul::from_bytes(*key)?, rest))
     }
 }
 
-/// What ends the run where a row can't be read.
+/// What ends the run if a row can't be read.
 pub fn bad_row() -> Error {
     Error::from(ErrorKind::InvalidInput)
 }
 
-/// The number that a word spells; 0 where there is no word.
+/// The number that a word spells; 0 if there is no word.
 fn number_of(word: Option<&str>) -> io::Result<u64> {
     match word {
         Some(word) => word.parse().map_err(|_| bad_row()),

@@ -40,7 +40,7 @@ fn tell_read<R: Print + AllocGlobal>(
     }
 }
 
-/// `of START UNIT_BYTES INDEX_SID SLICES`; `read`, or what is told of a segment that is read.
+/// `of START UNIT_BYTES INDEX_SID SLICES`; `read`, or what is said of a segment that is read.
 pub fn tell_segment<R: Print + AllocGlobal>(rt: &R, row: &Row<'_>) -> io::Result<()> {
     match row.call {
         "of" => tell(rt, &segment_of(row)),

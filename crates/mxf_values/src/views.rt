@@ -13,7 +13,7 @@ const PIECE: u64 = 10;
 /// The bytes of a packet.
 const SIZE: u64 = 20;
 
-/// Puts the packet at the front of bytes into a catalogue, and answers the bytes behind it.
+/// Puts the packet at the front of bytes into a catalogue, and answers the bytes after it.
 fn put_packet<'a>(
     alloc: Global,
     catalogue: &mut Catalogue,
@@ -27,7 +27,7 @@ fn put_packet<'a>(
     }
 }
 
-/// Puts a partition pack and the primer pack behind it into a catalogue, and answers whether both were there.
+/// Puts a partition pack and the primer pack after it into a catalogue, and answers whether both were there.
 fn puts_partition(alloc: Global, catalogue: &mut Catalogue, offset: u64, bytes: &[u8]) -> bool {
     match put_packet(alloc, catalogue, offset, bytes) {
         Some(primer) => {
@@ -45,17 +45,17 @@ fn merges_partition(alloc: Global, views: &mut Views, offset: u64, bytes: &[u8])
     views.merge(piece).is_ok() && is_put
 }
 
-/// Where the packet with the number stands behind so many bytes.
+/// Where the packet with the number stands after `size` bytes.
 fn offset_behind(size: usize, number: u64) -> Option<u64> {
     number.checked_mul(SIZE)?.checked_add(size as u64)
 }
 
-/// The note of the packet with the number behind so many bytes.
+/// The note of the packet with the number after `size` bytes.
 fn note_behind(size: usize, number: u64, key: Ul) -> Option<Note> {
     note_at(offset_behind(size, number)?, key)
 }
 
-/// Adds so many notes to views one by one, behind so many bytes.
+/// Adds `count` notes to views one by one, after `size` bytes.
 fn adds_notes(views: &mut Views, count: u64, key: Ul, size: usize) -> bool {
     for number in 0..count {
         let Some(note) = note_behind(size, number, key) else {
@@ -86,7 +86,7 @@ fn merges_piece(alloc: Global, views: &mut Views, number: u64, key: Ul, size: us
     views.merge(piece).is_ok() && is_put
 }
 
-/// Merges so many pieces of ten notes into views, one behind the other.
+/// Merges `count` pieces of ten notes into views, one after the other.
 fn merges_pieces(alloc: Global, views: &mut Views, count: u64, key: Ul, size: usize) -> bool {
     for number in 0..count {
         if !merges_piece(alloc, views, number, key, size) {
@@ -96,7 +96,7 @@ fn merges_pieces(alloc: Global, views: &mut Views, count: u64, key: Ul, size: us
     true
 }
 
-/// Merges so many partitions into views, one behind the other.
+/// Merges `count` partitions into views, one after the other.
 fn merges_partitions(alloc: Global, views: &mut Views, count: u64, bytes: &[u8]) -> bool {
     for number in 0..count {
         let offset = number.saturating_mul(bytes.len() as u64);
@@ -133,8 +133,8 @@ fn tell_held(rt: &impl Print, views: &Views) -> io::Result<()> {
 }
 
 /// `notes COUNT`, `pieces COUNT`: views of a copy that is filled by notes, or by pieces of ten; the bytes are the key
-/// of these notes, and the partition pack and the primer pack at the front. `copies COUNT`: views of so many partitions
-/// with a copy each; the bytes are those of one.
+/// of these notes, and the partition pack and the primer pack at the front. `copies COUNT`: views of that many
+/// partitions with a copy each; the bytes are those of one.
 fn tell_filled<R: Print + AllocGlobal>(rt: &R, views: &mut Views, row: &Row<'_>) -> io::Result<()> {
     let is_filled = match row.call {
         "copies" => merges_partitions(rt.alloc(), views, row.numbers[0], row.bytes),

@@ -33,7 +33,7 @@ impl Write for Narrow {
     }
 }
 
-/// Whether a writer of so much room fails behind each of its bytes, and is left with these.
+/// Whether a writer with room for the bytes of `front` fails after them, and is left with these.
 fn is_cut<E: Encode>(alloc: Global, value: &E, front: &[u8], chunk: usize) -> bool {
     let mut writer = Narrow {
         taken: Vec::new(alloc),
@@ -45,7 +45,7 @@ fn is_cut<E: Encode>(alloc: Global, value: &E, front: &[u8], chunk: usize) -> bo
     value.write_to(&mut writer) == Err(WriteFault { written }) && writer.taken.as_slice() == front
 }
 
-/// How many writers of less room than the bytes need fail, and are left with the front of them.
+/// How many writers with less room than the bytes need fail, and are left with the front of them.
 fn cut_writes<E: Encode>(alloc: Global, value: &E, bytes: &[u8], chunk: usize) -> usize {
     (0..bytes.len())
         .filter(|room| is_cut(alloc, value, &bytes[..*room], chunk))
@@ -53,8 +53,8 @@ fn cut_writes<E: Encode>(alloc: Global, value: &E, bytes: &[u8], chunk: usize) -
 }
 
 /// `write N ROOM CHUNK INTERRUPTIONS`: the answer, and what the writer took. `cut N 0 CHUNK`: how many writers fail
-/// behind a front of the row's bytes. N is the size of a batch's items, the width of the length of a random index
-/// pack, and 0 else.
+/// after a front of the row's bytes. N is the size of a batch's items, the width of the length of a random index pack,
+/// and 0 otherwise.
 pub fn tell_written<R: Print + AllocGlobal, E: Encode>(
     rt: &R,
     value: &E,

@@ -81,8 +81,8 @@ impl Eq for Offsets {
 pub enum Change {
     /// The note was held already, or is the head of a whole note that was held.
     Repeated,
-    /// The note is new, and takes the place of its head where that was held. The offsets, rising, are those of the
-    /// notes that were clear before and are disputed now; none is a head's.
+    /// The note is new, and takes the place of its head if that was held. The offsets, rising, are those of the notes
+    /// that were clear before and are disputed now; none is a head's.
     Added { moved: Offsets },
 }
 

@@ -16,9 +16,9 @@ use std::marker::Model;
 
 /// A disputed note: another note of the catalogue shares a byte with it.
 ///
-/// In one file packets lie one behind another, so of two notes that share a byte one at least isn't of this file, or is
+/// In one file packets lie one after another. So of two notes that share a byte at least one isn't of this file, or is
 /// of an earlier state of it: a header that was rewritten in place, a source with a wrong offset, bytes of another
-/// file. The catalogue keeps both, since nothing in them tells which is right.
+/// file. The catalogue keeps both, since nothing in them says which is right.
 #[derive(Debug, Drop)]
 pub struct Disputed<'a> {
     pub note: &'a Note,
@@ -38,7 +38,7 @@ impl<'a> Model for Disputed<'a> {
 
 /// The disputed notes of a catalogue that are left, in their order.
 ///
-/// How a note is disputed is told from its neighbours, by binary search, and from how far the notes before it reach.
+/// How a note is disputed is found from its neighbours, by binary search, and from how far the notes before it reach.
 #[derive(Debug, Drop)]
 pub struct DisputedNotes<'a> {
     all: &'a [Note],
@@ -102,7 +102,7 @@ impl<'a> Iterator for DisputedNotes<'a> {
     }
 }
 
-/// How a note is disputed that stands in a content before those that are left: `above` is the offset after that of the
+/// How a note that stands in a content before those that are left is disputed: `above` is the offset after that of the
 /// note before it, and `lower` the greatest end of the notes with lower offsets than its own.
 fn mark<'a>(note: &'a Note, _all: &[Note], left: &[Note], above: u64, lower: u64) -> Disputed<'a>
     requires { StandsIn note.now _all.now left.now above lower }
@@ -118,7 +118,7 @@ fn mark<'a>(note: &'a Note, _all: &[Note], left: &[Note], above: u64, lower: u64
 }
 
 /// A law of [`Catalogue::disputed`](crate::Catalogue::disputed): its list has exactly the disputed notes, in their
-/// order, each with marks that hold exactly where their relations do.
+/// order, each with marks that hold exactly if their relations do.
 pub fn disputed_notes_by_definition()
     ensures members { (d : DisputedParts) (notes : List NoteParts)
         → In d (disputed_notes notes) ↔ IsDisputedOf d notes }
@@ -127,7 +127,7 @@ pub fn disputed_notes_by_definition()
     ensures order { (notes : List NoteParts) → IsContent notes → IsContent (map (λ d. d.note) (disputed_notes notes)) }
 {}
 
-/// A law: a note is disputed exactly where another has its offset, or one with a different offset shares a byte.
+/// A law: a note is disputed exactly if another has its offset, or one with a different offset shares a byte.
 pub fn notes_are_disputed_in_two_ways()
     ensures { (n : NoteParts) (notes : List NoteParts) → IsDisputed n notes ↔ SharesOffset n notes ⊎ Overlaps n notes }
 {}

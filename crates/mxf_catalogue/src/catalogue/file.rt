@@ -33,7 +33,7 @@ use thiserror::Error;
 /// whether there are sixteen; then for one note after another whether its fixed part of 33 bytes and, in version 2, its
 /// mark are whole (`Truncated`), whether a note can have them (`BadNote`), whether what the note holds is whole
 /// (`Truncated`), and whether the note is above the one before (`NotSorted`) and takes no head's place (`NotReduced`,
-/// in version 2 alone); then that nothing follows (`Trailing`). Memory may be found wanting between two of these tests.
+/// in version 2 alone); then that nothing follows (`Trailing`). Memory may run out between two of these tests.
 #[derive(Clone, Copy, Debug, PartialEq, Eq, Error)]
 pub enum FileFault {
     /// A byte that is present among the first seven isn't a catalogue file's.
@@ -82,8 +82,8 @@ impl<T: Drop> From<AllocFailed<T>> for FileFault {
 impl Catalogue {
     /// Reads the file of a catalogue, of version 1 or 2; it is the whole of the bytes.
     ///
-    /// Memory is taken for one note after another, as they are found whole: the count that the file tells takes none by
-    /// itself. The causes of a refusal, in their order, are those of [`FileFault`].
+    /// Memory is taken for one note after another, as they are found whole: the count that the file states takes none
+    /// by itself. The causes of a refusal, in their order, are those of [`FileFault`].
     pub fn read(alloc: Global, bytes: &[u8]) -> Result<Catalogue, FileFault>
         ensures reads { ReadsFile bytes.now result }
         ensures history { IfOk result (λ c. (is : IsFileOf bytes.now c) × (c ≡ content (Read bytes.now c is))) }
@@ -97,7 +97,7 @@ impl Catalogue {
     }
 }
 
-/// The notes of a file that begins so and has this rest behind it.
+/// The notes of a file that begins with this start, which these bytes follow.
 fn read_notes(
     alloc: Global,
     bytes: &[u8],
@@ -128,7 +128,7 @@ fn read_notes(
     Ok(notes)
 }
 
-/// Whether a content goes on rising with the note behind it.
+/// Whether a content goes on rising with the note after it.
 fn is_above(notes: &[Note], note: &Note) -> bool
     requires { IsContent notes.now }
     ensures { IsTrue result ↔ IsContent (notes.now ++ note.now ∷ []) }
@@ -173,8 +173,8 @@ fn put_notes<W: Write>(
     Ok(())
 }
 
-/// A law of [`Catalogue::read`]: bytes are the file of one content, or are refused for one fault, where memory isn't
-/// wanting.
+/// A law of [`Catalogue::read`]: bytes are the file of one content, or are refused for one fault, unless memory runs
+/// out.
 pub fn one_file_reading()
     ensures { (bytes : List ℕ) (r s : Result (List NoteParts) FileFault)
         → r ≢ Err faults.OutOfMemory → s ≢ Err faults.OutOfMemory
@@ -200,8 +200,8 @@ pub fn one_file()
 {}
 
 /// A law of the two versions of the file: a content has a file of version 2, which is what is written, and one of
-/// version 1 exactly where it has no head. Byte eight tells the version, and in a file of version 1 no note takes a
-/// head's place.
+/// version 1 exactly if it has no head. Byte eight gives the version, and in a file of version 1 no note takes a head's
+/// place.
 pub fn files_of_both_versions()
     ensures two { (notes : List NoteParts) → IsCatalogue notes → AreReduced notes → length notes < 2 ^ 64
         → IsFileOfVersion Two (file_bytes notes) notes }

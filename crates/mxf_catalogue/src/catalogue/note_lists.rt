@@ -60,7 +60,7 @@ impl NoteLists {
         is_in(&self.undisputed, note) || is_in(&self.disputed, note)
     }
 
-    /// The greatest end of a note, in bytes, be it claimed by a head; 0 where there is no note.
+    /// The greatest end of a note, in bytes, a head's claimed end too; 0 if there is no note.
     pub fn end(&self) -> u64
         requires { AreKept self.now }
         ensures { (bound : ℕ) → result ≤ bound ↔ ((n : NoteParts) → In n (notes_of self.now) → end_of n ≤ bound) }
@@ -77,7 +77,7 @@ impl NoteLists {
         self.end() <= offset
     }
 
-    /// Whether one of the lists has the note, or a note of its packet that was read whole, where it is a head.
+    /// Whether one of the lists has the note, or, if it is a head, a note of its packet that was read whole.
     pub fn tell(&self, note: &Note) -> bool
         requires { AreInParts self.now }
         ensures { IsTrue result ↔ has_note (notes_of self.now) note.now }
@@ -112,7 +112,7 @@ impl NoteLists {
             && !meets(&self.disputed_spans, note.offset(), note.end() - 1)
     }
 
-    /// Puts a note that begins where all others have ended, or above, behind them. There is room for it.
+    /// Puts a note after all others. It begins where they have ended, or above, and there is room for it.
     pub fn append(&mut self, note: Note)
         requires kept { AreKept self.old }
         requires above { (n : NoteParts) → In n (notes_of self.old) → end_of n ≤ note.offset }
@@ -172,7 +172,7 @@ impl NoteLists {
         }
     }
 
-    /// Empty lists with room for so many notes.
+    /// Empty lists with room for the given number of notes.
     pub fn with_room(alloc: Global, count: usize) -> Result<NoteLists, AllocError>
         ensures { IfOk result (λ p. AreRoomFor count p) }
     {
@@ -193,8 +193,8 @@ impl NoteLists {
         self.disputed_spans.reserve(count)
     }
 
-    /// Puts notes into the lists, and their spans among the runs, all of which have room. Where the notes stand above
-    /// all that is there, each takes a few binary searches.
+    /// Puts notes into the lists, and their spans among the runs, all of which have room. If the notes stand above all
+    /// that is there, each takes a few binary searches.
     pub fn put_all(&mut self, runs: &mut Vec<Run>, notes: MergedNotes)
         requires whole { AreCatalogueOf self.old runs.old.items }
         requires cover { IsCover runs.old.items }
@@ -248,7 +248,7 @@ impl NoteLists {
         self.undisputed.len() + self.disputed.len()
     }
 
-    /// An empty list with the room that [`into_notes`](NoteLists::into_notes) asks for: none where nothing is disputed.
+    /// An empty list with the room that [`into_notes`](NoteLists::into_notes) asks for: none if nothing is disputed.
     pub fn list_room(&self, alloc: Global) -> Result<Vec<Note>, AllocError>
         requires { AreInParts self.now }
         ensures empty { IfOk result (λ room. room.items ≡ []) }
@@ -260,7 +260,7 @@ impl NoteLists {
         Vec::with_capacity(alloc, self.len())
     }
 
-    /// The notes of both lists, in their order. They are moved into an empty list that has room for them, but where
+    /// The notes of both lists, in their order. They are moved into an empty list that has room for them, unless
     /// nothing is disputed.
     pub fn into_notes(self, room: Vec<Note>) -> Vec<Note>
         requires lists { AreInParts self }
@@ -303,7 +303,7 @@ fn copies_of(alloc: Global, notes: &[Note]) -> Result<Vec<Note>, OutOfMemory>
     Ok(copies)
 }
 
-/// Whether a last note, where there is one, stands below the other.
+/// Whether a last note, if there is one, stands below the other.
 fn is_below(last: Option<&Note>, note: &Note) -> bool {
     match last {
         Some(last) => last < note,

@@ -14,7 +14,7 @@ ghost use Rattle.mxf_catalogue.specs.NoteLists.{StandApart, touching, away_from,
 use crate::run::Run;
 use mxf_klv::{Note, below};
 
-/// Where the note is, or where it goes: behind all others at once where it stands above them, else by binary search.
+/// Where the note is, or where it goes: after all others at once if it stands above them, otherwise by binary search.
 fn place(notes: &[Note], note: &Note) -> Result<usize, usize>
     requires { IsContent notes.now }
     ensures found { OnOk result (In note.now notes.now) }
@@ -34,7 +34,7 @@ pub(super) fn is_in(notes: &[Note], note: &Note) -> bool
     place(notes, note).is_ok()
 }
 
-/// Whether the note is one of the content, or the head of one: that stands directly behind the place of the head.
+/// Whether the note is one of the content, or the head of one: that stands directly after the place of the head.
 pub(super) fn tell(notes: &[Note], note: &Note) -> bool
     requires { IsContent notes.now }
     ensures { IsTrue result ↔ has_note notes.now note.now }
@@ -64,7 +64,7 @@ pub(super) fn put_over_head(notes: &mut Vec<Note>, note: Note)
     }
 }
 
-/// The end of the last of the notes, of which no two share a byte; 0 where there is none.
+/// The end of the last of the notes, of which no two share a byte; 0 if there is none.
 pub(super) fn last_end(notes: &[Note]) -> u64
     requires content { IsContent notes.now }
     requires apart { StandApart notes.now }
@@ -100,7 +100,7 @@ pub(super) fn starting_below(notes: &[Note], offset: u64) -> usize
     below(notes, offset)
 }
 
-/// From where to where the notes, of which no two share a byte, share one with the note.
+/// From where to where notes, of which no two share a byte, share one with the note.
 fn range(notes: &[Note], note: &Note) -> (usize, usize)
     requires content { IsContent notes.now }
     requires apart { StandApart notes.now }
@@ -126,7 +126,7 @@ pub(super) fn touched<'a>(notes: &'a [Note], note: &Note) -> &'a [Note]
     touched
 }
 
-/// The notes that lie wholly in a range of so many bytes, among notes of which no two share a byte.
+/// The notes that lie wholly in the range of `bytes` bytes from `start` on, among notes of which no two share a byte.
 pub(super) fn within(notes: &[Note], start: u64, bytes: u64) -> &[Note]
     requires catalogue { IsCatalogue notes.now }
     requires apart { StandApart notes.now }

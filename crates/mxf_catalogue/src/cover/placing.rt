@@ -9,7 +9,7 @@ ghost use Rattle.mxf_catalogue.specs.Runs.{LiesIn};
 use crate::run::Run;
 use mxf_klv::{below, up_to};
 
-/// The end of the last run of a cover; 0 where there is none.
+/// The end of the last run of a cover; 0 if there is none.
 pub(crate) fn last_end(runs: &[Run]) -> u64
     requires { IsCover runs.now }
     ensures { (bound : ℕ) → result ≤ bound ↔ ((offset : ℕ) → LiesIn runs.now offset → offset < bound) }
@@ -79,7 +79,7 @@ fn starting_by(runs: &[Run], offset: u64) -> usize
     }
 }
 
-/// The number of the runs that begin below the bound; all of them where there is none.
+/// The number of the runs that begin below the bound; all of them if there is none.
 fn starting_below(runs: &[Run], bound: Option<u64>) -> usize
     requires { IsCover runs.now }
     ensures bound { result ≤ length runs.now }
@@ -94,7 +94,7 @@ fn starting_below(runs: &[Run], bound: Option<u64>) -> usize
     }
 }
 
-/// The runs of a cover that end above an offset, and begin below another, where there is one.
+/// The runs of a cover that end above an offset, and begin below another, if there is one.
 pub(super) fn between(runs: &[Run], from: u64, to: Option<u64>) -> &[Run]
     requires { IsCover runs.now }
     ensures { result.now ≡ filter (is_between from to) runs.now }
@@ -135,7 +135,7 @@ fn touched(runs: &[Run], run: Run) -> (usize, usize, Run)
     (from, to, span(run, others))
 }
 
-/// Puts a run that begins where all runs of a cover have ended, or above, behind them, or grows the last by it. There
+/// Puts a run after all runs of a cover, or grows the last by it. It begins where they have ended, or above, and there
 /// is room for it.
 fn append_run(runs: &mut Vec<Run>, run: Run)
     requires cover { IsCover runs.old.items }

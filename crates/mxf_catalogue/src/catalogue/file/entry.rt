@@ -34,7 +34,7 @@ pub(super) fn read_note(
     read_held(alloc, place, fixed, mark, rest)
 }
 
-/// The mark behind a fixed part, and the bytes after it. Where the version has none it is that of a whole packet.
+/// The mark after a fixed part, and the bytes after it. If the version has none, it is that of a whole packet.
 fn split_mark(version: Version, bytes: &[u8]) -> Option<(u8, &[u8])>
     ensures some { IfSome result (λ s. BeginsWithMark version bytes.now s.0 s.1.now) }
     ensures none { IfNone result (33 + length bytes.now < length_ahead version) }
@@ -51,7 +51,7 @@ fn split_mark(version: Version, bytes: &[u8]) -> Option<(u8, &[u8])>
 /// The mark of a packet that was read whole.
 const WHOLE: u8 = 0;
 
-/// The mark of a packet of which key and length alone were read.
+/// The mark of a packet whose key and length alone were read.
 const HEAD: u8 = 1;
 
 /// The note with this fixed part and this mark, which holds the first of these bytes, and the bytes after them.
@@ -82,7 +82,7 @@ fn read_held(
     }
 }
 
-/// The note of a packet of which key and length alone were read.
+/// The note of a packet whose key and length alone were read.
 fn note_of_head(fixed: FixedPart, key: Ul) -> Note
     requires key { key ≡ fixed.key }
     requires noted { CanBeNoted fixed }
@@ -94,7 +94,7 @@ fn note_of_head(fixed: FixedPart, key: Ul) -> Note
     }
 }
 
-/// The same where the note keeps the value.
+/// The same if the note keeps the value.
 fn read_value(
     alloc: Global,
     place: u64,
@@ -122,7 +122,7 @@ fn read_value(
     }
 }
 
-/// The same where the note holds a digest.
+/// The same if the note holds a digest.
 fn read_digest(
     place: u64,
     fixed: FixedPart,

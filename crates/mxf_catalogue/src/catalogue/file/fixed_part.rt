@@ -13,7 +13,7 @@ pub(super) struct FixedPart {
     pub length: u64,
 }
 
-/// The fixed part at the front, and the bytes after it; none where there are fewer than 33 bytes.
+/// The fixed part at the front, and the bytes after it; none if there are fewer than 33 bytes.
 pub(super) fn split_fixed_part(bytes: &[u8]) -> Option<(FixedPart, &[u8])>
     ensures some { IfSome result (λ s. BeginsWithFixedPart bytes.now s.0 s.1.now) }
     ensures none { IfNone result (length bytes.now < 33) }

@@ -29,7 +29,7 @@ pub(super) enum Version {
 }
 
 impl Version {
-    /// The version that the byte tells, if it is one that is known.
+    /// The version that the byte gives, if it is a known one.
     fn of(byte: u8) -> Option<Version>
         ensures { MatchOption result (IsUnknownVersion byte) (λ version. byte ≡ version_byte version) }
     {
@@ -41,14 +41,14 @@ impl Version {
     }
 }
 
-/// What a file tells ahead of its notes: its version, and how many there are.
+/// What a file says ahead of its notes: its version, and how many there are.
 #[derive(Clone, Copy)]
 pub(super) struct Start {
     pub version: Version,
     pub count: u64,
 }
 
-/// What a file tells ahead of its notes, and the bytes after it.
+/// What a file says ahead of its notes, and the bytes after it.
 pub(super) fn split_start(bytes: &[u8]) -> Result<(Start, &[u8]), FileFault>
     ensures start { IfOk result (λ s. bytes.now ≡ start_bytes s.0.version s.0.count ++ s.1.now) }
     ensures count { IfOk result (λ s. s.0.count < 2 ^ 64) }
