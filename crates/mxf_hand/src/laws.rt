@@ -27,8 +27,8 @@ pub fn what_is_held_stays()
         → has_note (put_together h notes) n }
 {}
 
-/// A law of [`put_together`](crate::put_together): what is clear stays clear, so no partition, set, segment or pack goes
-/// out of a view.
+/// A law of [`put_together`](crate::put_together): what is clear stays clear, so no partition, set, segment or pack
+/// goes out of a view.
 pub fn what_is_clear_stays_clear()
     ensures { (h : HandBytes) (notes : List NoteParts) (n : NoteParts) → IsContent notes → AreReduced notes
         → IsClear n notes → IsClear n (put_together h notes) }
@@ -60,8 +60,8 @@ pub fn saved_beside_its_sources()
         → put_together h (reduced_union notes (put_together h notes)) ≡ put_together h notes }
 {}
 
-/// A law of [`put_together`](crate::put_together): it leaves what some history of calls leaves that was handed all that was
-/// handed before, so what is said of histories is said of it.
+/// A law of [`put_together`](crate::put_together): it leaves what some history of calls leaves that was handed all that
+/// was handed before, so what is said of histories is said of it.
 pub fn put_together_is_a_history()
     ensures { (h : HandBytes) (before : History) → (after : History)
         × (content after ≡ put_together h (content before)) × ((n : NoteParts) → Hands before n → Hands after n) }

@@ -1,5 +1,5 @@
--- Edit units one after another, and those that they need (this project's profile; a key frame is what an entry names, ST
--- 377-1, Index Table Segment).
+-- Edit units one after another, and those that they need (this project's profile; a key frame is what an entry names,
+-- ST 377-1, Index Table Segment).
 use Rattle.std.specs.Prelude.{ℕ, ◌+◌, ◌-◌, min, List, [], ◌∷◌, map}
 use Rattle.std.specs.List.{filter_map, range_with_len}
 use Rattle.mxf_units.specs.Units.{UnitsParts, unit_of}
