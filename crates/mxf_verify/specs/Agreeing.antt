@@ -10,13 +10,13 @@ agrees [] bytes = true
 agrees (x ∷ known) [] = true
 agrees (x ∷ known) (y ∷ bytes) = (x == y) && agrees known bytes
 
--- The first bytes of those that the note holds are what it says of them byte by byte: of its key and its length, and of a
--- value that it keeps.
+-- The first bytes of those that the note holds are what it says of them byte by byte: of its key and its length, and of
+-- a value that it keeps.
 unfoldable pub agrees_with : NoteParts → List ℕ → Bool
 agrees_with n bytes =
     agrees (front_bytes n) bytes && (not (keeps_value n) || agrees n.held (drop (front_size n) bytes))
 
--- The same of bytes that come behind so many.
+-- The same of bytes that come after the given number of them.
 unfoldable pub agrees_on : NoteParts → ℕ → List ℕ → Bool
 agrees_on n seen bytes =
     agrees (drop seen (front_bytes n)) bytes

@@ -16,12 +16,12 @@ compared at bytes c =
 abbrev pub offset_of : Candidate → ℕ
 offset_of c = c.note.now.offset
 
--- The first so many of the candidates have ended by an offset.
+-- The given number of candidates at the front have ended by an offset.
 pub record AreSettled (settled at : ℕ) (candidates : List Candidate) : Type 0 where
   pub within : settled ≤ length candidates
   pub ended : AllWithin (λ c. covered_end c.note.now ≤ at) candidates 0 settled
 
--- The candidate, of which something else is the same, or isn't.
+-- The candidate, of which something more is the same, or isn't.
 unfoldable pub also : Bool → Candidate → Candidate
 also is_same c = record c { is_same = c.is_same && is_same }
 

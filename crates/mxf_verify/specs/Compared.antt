@@ -12,13 +12,13 @@ use Rattle.mxf_verify.specs.declared.candidate.Candidate.{Candidate}
 abbrev pub fresh : Bor NoteParts → Candidate
 fresh r = record { note = r; is_same = true }
 
--- Of each note, all bytes of which are among those of the source, it is known whether these are as it says.
+-- Of each note whose bytes are all among those of the source, it is known whether these are as it says.
 abbrev pub AreSame : ℕ → List ℕ → List Candidate → Type 0
 AreSame offset bytes candidates =
     AllWithin (λ c. IsAmong c.note.now offset bytes → IsTrue c.is_same ↔ IsSaidBy c.note.now (held_in c.note.now offset bytes))
     candidates 0 (length candidates)
 
--- Of all candidates those were compared that begin from an offset on and below the end, with bytes from the offset on.
+-- Of all candidates, those that begin from an offset on and below the end were compared with the bytes from it on.
 pub record ComparesBytes (all : List Candidate) (offset end : ℕ) (bytes : List ℕ) (c : Compared) : Type 0 where
   pub part : notes_of c.candidates.items ≡ take (length c.candidates.items) (drop c.first (notes_of all))
   pub before : AllWithin (λ x. offset_of x < offset) all 0 c.first

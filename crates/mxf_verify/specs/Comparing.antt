@@ -12,8 +12,8 @@ SharesHeldByte m n = (offset : ℕ) × IsCovered m offset × IsCovered n offset
 abbrev pub IsHeadOf : NoteParts → NoteParts → Type 0
 IsHeadOf m n = (n.whole ≡ true) × (head_note n ≡ m)
 
--- The notes can't be of one reading: they differ, both hold some byte, and neither is the head of the other. What a head
--- claims behind its length contradicts nothing, since none of those bytes was read.
+-- The notes can't be of one reading: they differ, both hold some byte, and neither is the head of the other. What a
+-- head claims after its length contradicts nothing, since none of those bytes was read.
 pub record Contradicts (m n : NoteParts) : Type 0 where
   pub differ : m ≢ n
   pub share : SharesHeldByte m n

@@ -33,8 +33,8 @@ pub record AreBytes (reference verified damaged : List NoteParts) (came : List R
   pub unverified_are : AreRunsOf (λ at. IsHeldBy reference at × ¬ IsHeldBy verified at × ¬ IsHeldBy damaged at) b.unverified
   pub unknown_are : AreRunsOf (λ at. LiesIn came at × ¬ IsHeldBy reference at) b.unknown
 
--- What is told is what these say: of the reference, of the notes that are the same or differ and of the bytes; which notes
--- differ where, which are cut, and whether a byte came.
+-- What is reported is what these say: of the reference, of the notes that are the same or differ and of the bytes;
+-- which notes differ where, which are cut, and whether a byte came.
 pub record IsToldBy (reference : List NoteParts) (u : Uncompared) (b : ToldBytes) (differing : List DifferingParts)
     (cut : List NoteParts) (came : Bool) (v : VerificationParts) : Type 0 where
   pub all_packets : v.all_packets ≡ length reference

@@ -20,7 +20,7 @@ use Rattle.mxf_verify.specs.declared.unit_places.UnitSpan.{UnitSpan}
 use Rattle.mxf_verify.specs.declared.verified_units.UnitRun.{UnitRun}
 use Rattle.mxf_verify.specs.declared.fixity.UnitFixity.TheVariants.{Differs, Unverified, Part, Verified, Unplaced}
 
--- Some byte of the extent lies in the runs; of one whose end isn't known its first byte alone is asked about.
+-- Some byte of the extent lies in the runs. If its end isn't known, its first byte alone is asked about.
 abbrev pub Meets : List Run → Extent → Type 0
 Meets runs e = (at : ℕ) × (e.start ≤ at) × (at < asked_end e) × LiesIn runs at
 
@@ -37,7 +37,7 @@ pub record HasEachByte (P : ℕ → Type 0) (unit : EditUnit) : Type 0 where
   pub ends : extent.end ≡ Some end
   pub bytes : (at : ℕ) → extent.start ≤ at → at < end → P at
 
--- How bytes of an extent stand, where these runs are verified and those differ.
+-- How bytes of an extent stand when these runs are verified and those differ.
 abbrev pub IsFixityIn : List Run → List Run → Extent → UnitFixity → Type 0
 IsFixityIn verified altered e Differs = Meets altered e
 IsFixityIn verified altered e Unverified = ¬ Meets altered e × ¬ Meets verified e
@@ -45,7 +45,7 @@ IsFixityIn verified altered e Part = ¬ Meets altered e × Meets verified e × �
 IsFixityIn verified altered e Verified = ¬ Meets altered e × Meets verified e × LiesWholeIn verified e
 IsFixityIn verified altered e (Unplaced standing) = ⊥
 
--- How a unit stands: where it isn't told where it lies, as it stands by the reference alone.
+-- How a unit stands. If its place isn't given, it stands as by the reference alone.
 abbrev pub IsFixityBy : List Run → List Run → UnitStanding → Option Extent → UnitFixity → Type 0
 IsFixityBy verified altered standing None fixity = fixity ≡ Unplaced standing
 IsFixityBy verified altered standing (Some e) fixity = IsFixityIn verified altered e fixity
@@ -82,7 +82,7 @@ abbrev pub is_verified : UnitFixity → Bool
 is_verified Verified = true
 is_verified _ = false
 
--- Where a unit lies, as far as that is told.
+-- Where a unit lies, as far as that is given.
 abbrev pub place_of : EditUnit → Option UnitPlace
 place_of unit = option_map (λ e. record { unit = unit.number; extent = e }) unit.extent
 
@@ -104,7 +104,7 @@ pub record IsFirstTouched (places : List UnitPlace) (n : NoteParts) (unit : ℕ)
   pub first : (p : UnitPlace) → In p places → IsTouched n p
       → (place.extent.start < p.extent.start) ⊎ ((place.extent.start ≡ p.extent.start) × (unit ≤ p.unit))
 
--- The unit is the greatest of those with the last place that the note touches: no other ends behind it.
+-- The unit is the greatest of those with the last place that the note touches: no other ends after it.
 pub record IsLastTouched (places : List UnitPlace) (n : NoteParts) (unit : ℕ) : Type 0 where
   pub place : UnitPlace
   pub is_one : In place places
@@ -114,17 +114,17 @@ pub record IsLastTouched (places : List UnitPlace) (n : NoteParts) (unit : ℕ) 
       → (asked_end p.extent < asked_end place.extent)
       ⊎ ((asked_end p.extent ≡ asked_end place.extent) × (p.unit ≤ unit))
 
--- The units of a note: the first and the last that it touches, where it touches any.
+-- The units of a note: the first and the last that it touches, if it touches any.
 abbrev pub AreUnitsOf : List UnitPlace → NoteParts → Option UnitSpan → Type 0
 AreUnitsOf places n None = (p : UnitPlace) → In p places → ¬ IsTouched n p
 AreUnitsOf places n (Some s) = IsFirstTouched places n s.first × IsLastTouched places n s.last
 
--- What is told of units beside sources.
+-- What is said of units beside sources.
 pub record VerifiedUnitsParts : Type 0 where
   pub runs : List UnitRun
   pub places : List UnitPlace
 
--- That of the units from one up to another of an index, where these runs are verified and those differ.
+-- That of the units from one up to another of an index, when these runs are verified and those differ.
 pub record AreVerifiedUnits (verified altered : List Run) (units : UnitsParts) (from to : ℕ) (v : VerifiedUnitsParts)
     : Type 0 where
   pub runs : AreUnitRuns (λ unit fixity. IsFixityOf verified altered (unit_of units.known units.index_sid unit) fixity)

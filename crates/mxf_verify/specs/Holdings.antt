@@ -43,7 +43,7 @@ pub record AreHoldings (contents : List (List NoteParts)) (holdings : List Holdi
 abbrev pub is_only : List HoldingParts → HoldingParts → Bool
 is_only holdings h = length (filter (is_of h.note) holdings) == 1
 
--- The source of each that is the only one of its note, where that is one of all.
+-- The source of each that is the only one of its note, if the note is one of all.
 abbrev pub sources_alone : List NoteParts → List HoldingParts → List ℕ
 sources_alone all holdings = map (λ h. h.source) (filter (λ h. is_only holdings h && is_held h.note all) holdings)
 

@@ -1,4 +1,4 @@
--- The notes of a saved catalogue that a reference hasn't, and what they say of the reference's (this project's profile).
+-- The notes of a saved catalogue that a reference hasn't, and what they say of its own (this project's profile).
 use Rattle.std.specs.Prelude.{◌&&◌, not, Bool, List, filter}
 use Rattle.std.specs.List.{list_any}
 use Rattle.mxf_klv.specs.Parts.{NoteParts}
@@ -12,7 +12,7 @@ use Rattle.mxf_verify.specs.Readings.{is_held}
 unfoldable pub others_of : List NoteParts → List NoteParts → List NoteParts
 others_of saved reference = filter (λ m. not (is_had m reference)) saved
 
--- One of the notes, and not the packet of which it is the head, shares a held byte with it.
+-- One of the notes shares a held byte with it, and isn't the packet whose head it is.
 unfoldable pub is_touched : NoteParts → List NoteParts → Bool
 is_touched n notes = list_any (λ m. is_held_byte_shared m n && not (is_same_note (head_note m) n)) notes
 

@@ -9,7 +9,7 @@ use Rattle.mxf_catalogue.specs.Content.{reduced_union}
 use Rattle.mxf_catalogue.specs.Disputes.{IsDisputed, is_disputed, is_same_note}
 use Rattle.mxf_verify.specs.declared.readings.SourceCounts.{SourceCounts}
 
--- The content of the source with a number; no note where no source has it.
+-- The content of the source with a number; no note if no source has it.
 abbrev pub content_of : ℕ → List (List NoteParts) → List NoteParts
 content_of number contents = slice_index_or ([] ∷ contents) number []
 

@@ -1,4 +1,4 @@
--- What an earlier reading's content keeps where a later reading is the newer one (this project's profile).
+-- What an earlier reading's content keeps when a later reading is the newer one (this project's profile).
 use Rattle.std.specs.Prelude.{not, ◌&&◌, List, filter}
 use Rattle.mxf_klv.specs.Parts.{NoteParts}
 use Rattle.mxf_klv.specs.Rising.{In}

@@ -15,7 +15,7 @@ use Rattle.mxf_verify.specs.declared.candidate.Candidate.{Candidate}
 use Rattle.mxf_verify.specs.declared.comparison.Comparison.{Comparison}
 use Rattle.mxf_verify.specs.declared.reading.Reading.{Reading}
 
--- A hasher, where there is one, has taken these bytes.
+-- A hasher, if there is one, has taken these bytes.
 abbrev pub Digests : Option Sha256 → List ℕ → Type 0
 Digests None bytes = Unit {0}
 Digests (Some hasher) bytes = Holds256 hasher bytes
@@ -32,7 +32,7 @@ Reads old new more =
     (offset : ℕ) (bytes : List ℕ) (digested : ℕ) (notes : List (Bor NoteParts)) (last : List ℕ)
     → HasRead offset bytes digested notes last old → HasRead offset (bytes ++ more) digested notes (last ++ more) new
 
--- The candidates have the same notes, and there is a hasher where there was one.
+-- The candidates have the same notes, and there is a hasher if there was one.
 pub record IsLike (old new : Reading) : Type 0 where
   pub notes : notes_of new.comparison.candidates.items ≡ notes_of old.comparison.candidates.items
   pub digests : is_some new.hasher ≡ is_some old.hasher
@@ -47,8 +47,8 @@ pub record TakesUpTo (before after : Option (List ℕ)) (old new : Reading) (tar
   pub within : new.comparison.at ≤ target
   pub ended : (new.comparison.at ≡ target) ⊎ IsAtEnd after
 
--- The value of the candidate at a place was read, with what stands ahead of it, and its digest compared; or the source has
--- ended before.
+-- The value of the candidate at a place was read, with what stands ahead of it, and its digest compared; or the source
+-- has ended before.
 pub record ReadsValue (before after : Option (List ℕ)) (old new : Reading) (place : ℕ) (n : NoteParts) (whole : Bool)
     : Type 0 where
   pub more : List ℕ
@@ -60,8 +60,8 @@ pub record ReadsValue (before after : Option (List ℕ)) (old new : Reading) (pl
   pub reached : whole ≡ true → new.comparison.at ≡ covered_end n
   pub ended : whole ≡ false → (new.comparison.at < covered_end n) × IsAtEnd after
 
--- A source was read up to an offset, or to its end: the first so many of the notes that know a digest have ended and it
--- was compared, and the others haven't.
+-- A source was read up to an offset, or to its end. Among the first `digested` notes, those that know a digest have
+-- ended and it was compared; among the others, those that know one haven't ended.
 pub record HasReadAll (offset : ℕ) (bytes : List ℕ) (digested : ℕ) (notes : List (Bor NoteParts)) (c : Comparison)
     : Type 0 where
   pub taken : HasTaken offset bytes digested notes c
@@ -88,7 +88,7 @@ pub record ReadsRest (before after : Option (List ℕ)) (old new : Reading) (end
   pub taken : (offset : ℕ) (bytes : List ℕ) (digested : ℕ) (notes : List (Bor NoteParts))
       → HasTaken offset bytes digested notes old.comparison → HasTaken offset (bytes ++ more) digested notes new.comparison
 
--- The note at a place was passed: the bytes up to its end came, where it knows a digest. Or it knows one, and the bytes
+-- The note at a place was passed: if it knows a digest, the bytes up to its end came. Or it knows one, and the bytes
 -- came up to an offset, or all of them, and its end isn't reached.
 pub record PassesNote (before after : Option (List ℕ)) (old new : Reading) (place : ℕ) (n : NoteParts) (end : ℕ)
     (passed : Bool) : Type 0 where

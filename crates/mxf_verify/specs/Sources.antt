@@ -1,5 +1,5 @@
--- What the parts of a run are as sources of a verification (this project's profile). A reader is known by the bytes that
--- it has left, where it tells them.
+-- What the parts of a run are as sources of a verification (this project's profile). A reader is known by the bytes
+-- that it has left, if it gives them.
 use Rattle.std.specs.Prelude.{◌≡◌, ◌-◌, ℕ, min, Option, List, [], ◌∷◌, take}
 use Rattle.mxf_klv.specs.Note.{greatest_end}
 use Rattle.mxf_klv.specs.Parts.{NoteParts}
@@ -31,7 +31,7 @@ module _ {R : Type 0} (left : R → Option (List ℕ)) where
   AreSourcesOf (p ∷ parts) [] = ⊥
   AreSourcesOf (p ∷ parts) (s ∷ sources) = IsSourceOf p s × AreSourcesOf parts sources
 
-  -- Memory is wanting, or one of the parts is at fault.
+  -- Memory ran out, or one of the parts is at fault.
   abbrev pub IsVerifyFault : List (Part R) → VerifyFault → Type 0
   IsVerifyFault parts faults.OutOfMemory = Unit {0}
   IsVerifyFault parts (faults.Part fault) = IsGatherFault left parts fault

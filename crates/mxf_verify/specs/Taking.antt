@@ -26,8 +26,8 @@ told offset bytes r = record {
       && (not (is_digested r.now) || has_digest r.now (held_in r.now offset bytes));
 }
 
--- Bytes of a source came, the first of which lies at an offset. The notes were compared with them, and of the first so
--- many those that know a digest have ended, and it was compared too.
+-- Bytes of a source came, the first of which lies at an offset. The notes were compared with them. Among the first
+-- `digested` notes, those that know a digest have ended, and it was compared too.
 pub record HasTaken (offset : ℕ) (bytes : List ℕ) (digested : ℕ) (notes : List (Bor NoteParts)) (c : Comparison)
     : Type 0 where
   pub candidates : c.candidates.items ≡ map (told offset bytes) (take digested notes)

@@ -24,8 +24,8 @@ pub record TellsOf (reference : List NoteParts) (source : Source) (told : Told) 
   pub same : AreThose reference (λ n. IsSameIn reference n source) (notes_at told.same.items)
   pub differing : AreThose reference (λ n. DiffersIn reference n source) (notes_at told.differing.items)
 
--- What a saved catalogue says of the reference: the same, the notes whose heads it has, and its bytes that no note of the
--- reference holds.
+-- What a saved catalogue says of the reference: the same, the notes whose heads it has, and its bytes that no note of
+-- the reference holds.
 pub record TellsSaved (reference : List NoteParts) (saved : List NoteParts) (told : SavedTold) : Type 0 where
   pub told_is : TellsOf reference (Saved saved) told.told
   pub headed : AreThose reference (λ n. TouchesIn n (Saved saved)) (notes_at told.headed.items)

@@ -1,5 +1,5 @@
--- Which edit units a note has a byte of, found by going through their places (this project's profile). A law ties this to
--- the relation.
+-- Which edit units a note has a byte of, found by going through their places (this project's profile). A law ties this
+-- to the relation.
 use Rattle.std.specs.Prelude.{◌==◌, ◌&&◌, ◌||◌, if◌then◌else◌, Bool, List, [], ◌∷◌, max, min, nat_lt, Option, None, Some}
 use Rattle.mxf_klv.specs.Note.{covered_end}
 use Rattle.mxf_klv.specs.Parts.{NoteParts}
@@ -15,18 +15,18 @@ is_touched n p = nat_lt (max n.offset p.extent.start) (min (covered_end n) (aske
 abbrev pub begins_before : UnitPlace → UnitPlace → Bool
 begins_before p q = nat_lt p.extent.start q.extent.start || (p.extent.start == q.extent.start && nat_lt p.unit q.unit)
 
--- The first ends behind the second, or both end there and its unit is the greater.
+-- The first ends after the second, or both end there and its unit is the greater.
 abbrev pub ends_behind : UnitPlace → UnitPlace → Bool
 ends_behind p q =
     nat_lt (asked_end q.extent) (asked_end p.extent)
     || (asked_end p.extent == asked_end q.extent && nat_lt q.unit p.unit)
 
--- The place, or another where that goes before it.
+-- The place, or another if that goes before it.
 abbrev pub chosen : (UnitPlace → UnitPlace → Bool) → UnitPlace → Option UnitPlace → UnitPlace
 chosen goes_before p None = p
 chosen goes_before p (Some q) = if goes_before q p then q else p
 
--- Of the places that a note touches the one before which none goes.
+-- Of the places that a note touches, the one that none goes before.
 abbrev pub first_touched : (UnitPlace → UnitPlace → Bool) → NoteParts → List UnitPlace → Option UnitPlace
 first_touched goes_before n [] = None
 first_touched goes_before n (p ∷ places) =

@@ -45,7 +45,7 @@ pub record AreSearched (firsts : List UnitPlace) (reaches : List ℕ) (lasts : L
   pub backs_are : backs ≡ greatest_ends back_of 0 lasts
   pub same : SameMembers lasts firsts
 
--- The first of places beside which a number above a bound stands, where there is one.
+-- The first of the places beside which a number above a bound stands, if there is one.
 abbrev pub IsFirstAbove : List UnitPlace → List ℕ → ℕ → Option UnitPlace → Type 0
 IsFirstAbove places numbers bound None = AllWithin (λ n. n ≤ bound) numbers 0 (length numbers)
 IsFirstAbove places numbers bound (Some p) =

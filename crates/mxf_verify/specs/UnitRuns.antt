@@ -5,7 +5,7 @@ use Rattle.mxf_verify.specs.Fixities.{units_in}
 use Rattle.mxf_verify.specs.declared.fixity.UnitFixity.{UnitFixity}
 use Rattle.mxf_verify.specs.declared.verified_units.UnitRun.{UnitRun}
 
--- A unit goes to the last run where it stands as that does, and else begins a run.
+-- A unit goes to the last run if it stands as that does, and otherwise begins a run.
 abbrev pub TakesUnit : List UnitRun → UnitRun → ℕ → UnitFixity → List UnitRun → UnitRun → Type 0
 TakesUnit runs last unit fixity new_runs new_last =
     ((last.fixity ≡ fixity) × (new_runs ≡ runs)

@@ -42,8 +42,8 @@ pub record SaysSame (reference : List NoteParts) (a b : List Source) : Type 0 wh
   pub unverified : (at : ℕ) → IsUnverifiedByte reference a at ↔ IsUnverifiedByte reference b at
   pub unknown : (at : ℕ) → IsUnknownByte reference a at ↔ IsUnknownByte reference b at
 
--- Something is the same and nothing differs, each byte that the reference holds is verified, and it says something of each
--- byte of the sources.
+-- Something is the same and nothing differs, each byte that the reference holds is verified, and it says something of
+-- each byte of the sources.
 pub record SaysWhole (v : VerificationParts) : Type 0 where
   pub some : 0 < v.packets
   pub differs : v.damaged ≡ 0

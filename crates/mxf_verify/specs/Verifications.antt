@@ -41,7 +41,7 @@ AreDiffering reference first (s ∷ sources) told =
     (notes : List NoteParts) × (rest : List DifferingParts) × AreThose reference (λ n. DiffersIn reference n s) notes
     × AreDiffering reference (first + 1) sources rest × (told ≡ map (differing_in first) notes ++ rest)
 
--- What is told of a verification.
+-- What a verification says.
 pub record VerificationParts : Type 0 where
   -- How many notes the reference has, how many of them are the same in some source, and how many differ in some.
   pub all_packets : ℕ
@@ -49,7 +49,7 @@ pub record VerificationParts : Type 0 where
   pub damaged : ℕ
   pub differing : List DifferingParts
   pub cut : List NoteParts
-  -- The bytes that the reference holds; those of notes that are the same in some source, and of notes that differ in some.
+  -- The bytes held by the reference; those of notes that are the same in some source, and of notes that differ in some.
   pub held : List Run
   pub verified : List Run
   pub altered : List Run

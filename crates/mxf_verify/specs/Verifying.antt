@@ -1,5 +1,5 @@
--- A reference beside sources: what is the same, what differs, and what wasn't compared (this project's profile). Bytes are
--- read by the notes of the reference: no packet is looked for in them.
+-- A reference beside sources: what is the same, what differs, and what wasn't compared (this project's profile). Bytes
+-- are read by the notes of the reference: no packet is looked for in them.
 use Rattle.std.specs.Prelude.{◌≡◌, ◌+◌, ◌-◌, ◌<◌, ◌≤◌, ℕ, Bool, IsTrue, not, ◌&&◌}
 use Rattle.std.specs.Prelude.{if◌then◌else◌, List, ◌++◌, length, take, drop}
 use Rattle.sha2.specs.Sha256.{sha256}
@@ -31,7 +31,7 @@ held_in n offset bytes = take (held_size n) (drop (n.offset - offset) bytes)
 abbrev pub IsValueOf : NoteParts → List ℕ → Type 0
 IsValueOf n value = (if keeps_value n then value else sha256 value) ≡ n.held
 
--- The bytes, as many as the note holds, are what it says: its key and its length, and behind those of a packet that was
+-- The bytes, as many as the note holds, are what it says: its key and its length, and after those of a packet that was
 -- read whole the value that it knows.
 pub record IsSaidBy (n : NoteParts) (bytes : List ℕ) : Type 0 where
   pub front : take (front_size n) bytes ≡ front_bytes n
@@ -51,7 +51,7 @@ pub record IsAmong (n : NoteParts) (offset : ℕ) (bytes : List ℕ) : Type 0 wh
   pub from : offset ≤ n.offset
   pub to : covered_end n ≤ offset + length bytes
 
--- A disputed note of the reference whose value isn't kept: it isn't compared with bytes, so that one digest runs at a time.
+-- A disputed note of the reference whose value isn't kept. It isn't compared with bytes, so one digest runs at a time.
 abbrev pub IsCrowded : List NoteParts → NoteParts → Type 0
 IsCrowded reference n = IsDisputed n reference × IsTrue (is_digested n)
 

@@ -17,7 +17,7 @@ fn agree_from(known: &[u8], at: usize, bytes: &[u8]) -> bool
     left[..count] == bytes[..count]
 }
 
-/// What comes of bytes behind the first so many that are left out, where there are as many.
+/// The bytes after the first `count`; none if there aren't as many.
 fn behind(bytes: &[u8], count: usize) -> &[u8]
     ensures { result.now ≡ drop count bytes.now }
 {
@@ -87,7 +87,7 @@ fn agree_with_front(note: &Note, at: usize, bytes: &[u8]) -> bool
     is_key & is_length
 }
 
-/// Whether bytes that stand at a position of a note's value agree with it, where the note keeps it.
+/// Whether bytes that stand at a position of a note's value agree with it, if the note keeps it.
 fn agree_with_value(note: &Note, at: usize, bytes: &[u8]) -> bool
     ensures { result ≡ not (keeps_value note.now) || agrees (drop at note.now.held) bytes.now }
 {
@@ -97,7 +97,7 @@ fn agree_with_value(note: &Note, at: usize, bytes: &[u8]) -> bool
     }
 }
 
-/// Whether bytes that come behind the first `seen` of those that the note holds agree with what it says of them byte by
+/// Whether bytes that come after the first `seen` of those that the note holds agree with what it says of them byte by
 /// byte.
 #[tactic(auto, unfolding(crate::specs::Agreeing::agrees_on))]
 pub(crate) fn agree_on(note: &Note, seen: usize, bytes: &[u8]) -> bool

@@ -35,7 +35,7 @@ impl<'a> Candidate<'a> {
         }
     }
 
-    /// The candidate, of which something else is the same, or isn't.
+    /// The candidate, of which something more is the same, or isn't.
     #[tactic(auto, unfolding(crate::specs::Candidates::also))]
     pub(crate) fn also(&self, is_same: bool) -> Candidate<'a>
         ensures { result ≡ also is_same self.now }

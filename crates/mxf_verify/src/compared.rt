@@ -16,8 +16,8 @@ use sha2::{Digest, Sha256};
 use std::alloc::Global;
 use std::io::Read;
 
-/// Notes that were compared with the bytes of a source: of all candidates those from a place on. And where the bytes end,
-/// as a file offset.
+/// Notes that were compared with the bytes of a source, of all candidates those from a place on, and where the bytes
+/// end, as a file offset.
 #[derive(Drop)]
 pub(crate) struct Compared<'a> {
     pub first: usize,
@@ -39,7 +39,7 @@ pub(crate) fn fresh<'a>(
     Ok(candidates.collect(alloc)?)
 }
 
-/// Compares candidates with the bytes that a reader gives, so many at most, the first of which lies at a file offset.
+/// Compares candidates with at most `limit` bytes that a reader gives, the first of which lies at a file offset.
 pub(crate) fn compare_bytes<'a, R: Read>(
     alloc: Global,
     all: &[Candidate<'a>],

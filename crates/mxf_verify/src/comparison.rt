@@ -12,7 +12,7 @@ use mxf_klv::Note;
 #[derive(Drop)]
 pub(crate) struct Comparison<'a> {
     pub candidates: Vec<Candidate<'a>>,
-    /// The first so many have ended.
+    /// How many candidates at the front have ended.
     pub settled: usize,
     /// The file offset of the next byte.
     pub at: u64,
@@ -54,7 +54,7 @@ impl<'a> Comparison<'a> {
         self.settled = settled_by(&self.candidates, self.settled, self.at);
     }
 
-    /// Says of the candidate at a place whether something else of it is the same.
+    /// Says of the candidate at a place whether something more of it is the same.
     pub(crate) fn say(&mut self, place: usize, is_same: bool)
         requires { place < vec_len self.old.candidates }
         ensures candidates { (d : Candidate) → self.new.candidates.items ≡ slice_set self.old.candidates.items place
@@ -67,7 +67,7 @@ impl<'a> Comparison<'a> {
     }
 }
 
-/// How many candidates at the front have ended by an offset, of which the first so many have.
+/// How many candidates at the front have ended by an offset. The first `settled` have.
 fn settled_by(candidates: &[Candidate<'_>], settled: usize, at: u64) -> usize
     requires { AreSettled settled at candidates.now }
     ensures { AreSettled result at candidates.now }
@@ -81,7 +81,7 @@ fn settled_by(candidates: &[Candidate<'_>], settled: usize, at: u64) -> usize
 }
 
 /// Compares candidates with further bytes, the first of which lies at a file offset. The first `settled` have no byte
-/// among these, nor have those that begin behind them.
+/// among these, nor have those that begin after them.
 fn compare(candidates: &mut Vec<Candidate<'_>>, settled: usize, at: u64, bytes: &[u8])
     requires rising { IsNonDecreasingBy offset_of candidates.old.items }
     requires settled { AreSettled settled at candidates.old.items }

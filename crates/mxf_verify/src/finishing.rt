@@ -20,7 +20,7 @@ use mxf_catalogue::{Catalogue, Cover, Run};
 use mxf_klv::{Note, OutOfMemory};
 use std::alloc::Global;
 
-/// What sources say of the notes of a catalogue that were seen so. It takes n log n of all.
+/// What sources say of the notes of a catalogue, by what was seen of them. It takes n log n of all.
 pub(crate) fn finish<'a>(
     alloc: Global,
     catalogue: &'a Catalogue,
@@ -47,7 +47,7 @@ pub(crate) fn finish<'a>(
     Ok(told(catalogue, bytes, uncompared, cut, differing, came))
 }
 
-/// The bytes that are told, and what tells the notes that weren't compared.
+/// The bytes that are reported, and what finds the notes that weren't compared.
 fn bytes_and_uncompared<'a>(
     alloc: Global,
     catalogue: &Catalogue,
@@ -103,7 +103,7 @@ fn told<'a>(
     }
 }
 
-/// The notes that differ in some source, each once, in their order. A reference has so many notes.
+/// The notes that differ in some source, each once, in their order. A reference has `notes` notes.
 fn damaged_in<'a>(
     alloc: Global,
     notes: usize,
@@ -193,7 +193,7 @@ fn are_covers(a: &Cover, b: &Cover, c: &Cover, d: &Cover)
     let _ = d.runs();
 }
 
-/// What tells the notes that weren't compared, though some of their bytes came.
+/// What finds the notes that weren't compared, though some of their bytes came.
 #[derive(Drop)]
 pub(crate) struct Uncompared<'a> {
     verified: OrderedNotes<'a>,

@@ -11,13 +11,13 @@ use std::fmt;
 /// What sources say of the bytes of an edit unit: the first of these that holds (this project's profile).
 #[derive(Clone, Copy, Debug, PartialEq, Eq)]
 pub enum UnitFixity {
-    /// By the reference it isn't told where the unit lies, for this reason.
+    /// The reference doesn't say where the unit lies, for this reason.
     Unplaced(UnitStanding),
     /// A byte of it is one of a note that differs in some source.
     Differs,
     /// No byte of it is one of a note that is the same in some source.
     Unverified,
-    /// Some of its bytes are, or it isn't known where it ends.
+    /// Some of its bytes are those of notes that are the same in some source, or it isn't known where it ends.
     Part,
     /// All of its bytes are those of notes that are the same in some source.
     Verified,

@@ -1,4 +1,4 @@
-//! Laws of what is told of a reference beside sources.
+//! Laws of what is said of a reference beside sources.
 ghost use Rattle.std.specs.Prelude.{◌≡◌, ◌↔◌, ◌⊎◌, ◌+◌, ◌++◌, ◌<◌, ◌≤◌, [], ◌∷◌, ℕ, IsTrue, List, drop, length, map};
 ghost use Rattle.sha2.specs.Sha256.{sha256};
 ghost use Rattle.mxf_klv.specs.Bytes.{AreBytes};
@@ -22,9 +22,9 @@ pub fn one_verification()
         → IsVerification reference sources a → IsVerification reference sources b → a ≡ b }
 {}
 
-/// A law of [`verify`](crate::verify): what is reported is so. A verified byte is one of a note that some source has as the
-/// reference says. A note that differs is one of the reference, and bytes that were read haven't it. Each byte that the
-/// reference holds is verified, or differs, or neither: then it is neither of the others.
+/// A law of [`verify`](crate::verify): what is reported is so. A verified byte is one of a note that some source has as
+/// the reference says. A note that differs is one of the reference, and bytes that were read haven't it. Each byte that
+/// the reference holds is verified, or differs, or neither: then it is neither of the others.
 pub fn verifications_tell_what_is_so()
     ensures verified { (reference : List NoteParts) (sources : List Source) (v : VerificationParts) (at : ℕ)
         → IsVerification reference sources v → LiesIn v.verified at
@@ -42,8 +42,8 @@ pub fn verifications_tell_what_is_so()
         → ¬ LiesIn v.verified at × ¬ LiesIn v.altered at }
 {}
 
-/// A law of [`verify`](crate::verify): each byte counts. Of a clear reference each note that lies wholly in the bytes of a
-/// source is the same there or differs, and not both; of the others none is either.
+/// A law of [`verify`](crate::verify): each byte counts. Of a clear reference each note that lies wholly in the bytes
+/// of a source is the same there or differs, and not both; of the others none is either.
 pub fn each_compared_note_is_the_same_or_differs()
     ensures compared { (reference : List NoteParts) (n : NoteParts) (offset : ℕ) (bytes : List ℕ)
         → IsCatalogue reference → AreAllClear reference → In n reference → IsAmong n offset bytes
@@ -52,10 +52,10 @@ pub fn each_compared_note_is_the_same_or_differs()
         → IsSameIn reference n (Bytes offset bytes) → DiffersIn reference n (Bytes offset bytes) → ⊥ }
 {}
 
-/// A law of [`verify`](crate::verify): of bytes in which no note of a clear reference differs one is changed. Then no note
-/// differs but the one that holds that byte. Where that one lies wholly in the bytes, it differs, or its value was changed
-/// to another with the same digest: two stretches of bytes of which a note says all are one, unless it knows a digest
-/// alone.
+/// A law of [`verify`](crate::verify): one byte is changed in bytes in which no note of a clear reference differs. Then
+/// no note differs but the one that holds that byte. If that one lies wholly in the bytes, it differs, or its value was
+/// changed to another with the same digest: two stretches of bytes that are both what a note says are one, unless it
+/// knows a digest alone.
 pub fn a_changed_byte_is_of_one_note()
     ensures alone { (reference : List NoteParts) (n m : NoteParts) (offset at : ℕ) (a b : List ℕ)
         → IsCatalogue reference → AreAllClear reference → AreOneByteApart at a b
@@ -67,17 +67,17 @@ pub fn a_changed_byte_is_of_one_note()
         → (a ≡ b) ⊎ (IsTrue (is_digested n) × (sha256 (drop (front_size n) a) ≡ sha256 (drop (front_size n) b))) }
 {}
 
-/// A law of [`verify`](crate::verify): what is said depends on which sources there are, and not on their order or repeats; and
-/// further sources only add to what is the same.
+/// A law of [`verify`](crate::verify): what is said depends on which sources there are, and not on their order or
+/// repeats; and further sources only add to what is the same.
 pub fn verifications_are_of_a_set_of_sources()
     ensures same { (reference : List NoteParts) (a b : List Source) → SameMembers a b → SaysSame reference a b }
     ensures more { (reference : List NoteParts) (sources more : List Source) (n : NoteParts)
         → IsVerified reference sources n → IsVerified reference (sources ++ more) n }
 {}
 
-/// A law of [`verify`](crate::verify): where all sources are saved catalogues, nothing differs and nothing is unknown exactly
-/// where joining them into the reference leaves that as it is. The reference has no head of a packet without a value: its
-/// packet holds no byte more than it, so none is unknown where a catalogue has that.
+/// A law of [`verify`](crate::verify): if all sources are saved catalogues, nothing differs and nothing is unknown
+/// exactly if joining them into the reference leaves that as it is. The reference has no head of a packet without a
+/// value: its packet holds no byte more than it, so none is unknown if a catalogue has that.
 pub fn catalogues_agree_where_joining_them_changes_nothing()
     ensures { (reference : List NoteParts) (contents : List (List NoteParts)) (v : VerificationParts)
         → IsCatalogue reference → AreReduced reference → HasNoEmptyHead reference
@@ -85,9 +85,9 @@ pub fn catalogues_agree_where_joining_them_changes_nothing()
         → ((v.damaged ≡ 0) × (v.unknown ≡ [])) ↔ (reduced_union reference (all_notes contents) ≡ reference) }
 {}
 
-/// A law of [`verify`](crate::verify): of all packets of a file, from its first byte on, clear and without a gap, everything is the
-/// same in the bytes of one source at 0, and nothing of these is unknown, exactly where their packets are those, and the
-/// source ends with the last.
+/// A law of [`verify`](crate::verify): a reference has all packets of a file, from its first byte on, clear and without
+/// a gap. All of it is the same in the bytes of one source at 0, and none of these is unknown, exactly if the packets
+/// of these bytes are those of the reference, and the source ends with the last.
 pub fn a_whole_reference_is_verified_by_its_packets()
     ensures { (reference : List NoteParts) (bytes : List ℕ) (v : VerificationParts) → IsWholeReference reference
         → AreBytes bytes → length bytes ≤ greatest_end → IsVerification reference (Bytes 0 bytes ∷ []) v

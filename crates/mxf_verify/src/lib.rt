@@ -8,9 +8,10 @@
 //! - what stays and what is dropped of an earlier catalogue that a later reading renews: [`renew`],
 //!   [`renewals_by_definition`], [`renewals_have_what_was_read_anew`], [`renewals_drop_what_was_read_anew`],
 //!   [`renewals_join_what_agrees`];
-//! - what sources have of a reference, bytes that are read by its notes or saved catalogues: which notes are the same, which
-//!   differ, what wasn't compared: [`verify`], [`Verification`], [`one_verification`], [`verifications_tell_what_is_so`],
-//!   [`each_compared_note_is_the_same_or_differs`], [`a_changed_byte_is_of_one_note`], [`verifications_are_of_a_set_of_sources`],
+//! - what sources have of a reference, bytes that are read by its notes or saved catalogues: which notes are the same,
+//!   which differ, what wasn't compared: [`verify`], [`Verification`], [`one_verification`],
+//!   [`verifications_tell_what_is_so`], [`each_compared_note_is_the_same_or_differs`],
+//!   [`a_changed_byte_is_of_one_note`], [`verifications_are_of_a_set_of_sources`],
 //!   [`catalogues_agree_where_joining_them_changes_nothing`], [`a_whole_reference_is_verified_by_its_packets`];
 //! - how the edit units of an index stand beside sources, and which of them a packet has a byte of: [`VerifiedUnits`],
 //!   [`one_fixity`], [`one_account_of_units`].

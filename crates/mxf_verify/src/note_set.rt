@@ -97,7 +97,7 @@ impl<'a> Ord for Member<'a> {
 #[derive(Drop)]
 pub(crate) struct NoteSet<'a> {
     members: Vec<Member<'a>>,
-    /// Where there are more, they are put in order, so that it takes no more memory than twice their number.
+    /// If there are more, they are put in order, so that it takes no more memory than twice their number.
     room: usize,
 }
 
@@ -111,7 +111,7 @@ impl<'a> Model for NoteSet<'a> {
 }
 
 impl<'a> NoteSet<'a> {
-    /// No note. A reference has so many notes.
+    /// No note. A reference has `notes` notes.
     pub(crate) fn new(alloc: Global, notes: usize) -> NoteSet<'a>
         ensures { result ≡ [] }
     {
@@ -142,7 +142,7 @@ impl<'a> NoteSet<'a> {
     }
 }
 
-/// Puts notes behind others.
+/// Puts notes after others.
 fn push_all<'a>(members: &mut Vec<Member<'a>>, notes: &[&'a Note]) -> Result<(), OutOfMemory>
     ensures { OnOk result (members.new.items ≡ members.old.items ++ notes_at notes.now) }
 {

@@ -58,8 +58,8 @@ impl<'a> Opposing<'a> {
 
     /// Whether the catalogue hasn't the note, and one of its notes contradicts it: five binary searches at most.
     ///
-    /// The notes that hold a byte of it are those that begin below its end, but for those that end at or below its
-    /// start. Of them all contradict a note that the catalogue hasn't, but for its head.
+    /// The notes that hold a byte of it are those that begin below its end, except those that end at or below its
+    /// start. All of them but its head contradict a note that the catalogue hasn't.
     pub fn opposes(&self, note: &Note) -> bool
         ensures { IsTrue result ↔ IsOpposed note.now self.now }
     {

@@ -64,11 +64,12 @@ impl<'b> Others<'b> {
         })
     }
 
-    /// Whether one of them shares a held byte with a note, and isn't the packet of which that is the head: four binary
+    /// Whether one of them shares a held byte with a note, and isn't the packet whose head that is: four binary
     /// searches.
     ///
-    /// Those that hold a byte of it are those that begin below its end, but for those that end at or below its start. Its
-    /// packets are among them: those whose head is the note or stands below it, but for those whose head stands below.
+    /// Those that hold a byte of it are those that begin below its end, except those that end at or below its start.
+    /// Its packets are among them: those whose head is the note or stands below it, except those whose head stands
+    /// below.
     pub(crate) fn touch(&self, note: &Note) -> bool
         ensures { result ≡ is_touched note.now self.now }
     {
@@ -96,7 +97,7 @@ fn other_notes<'b>(
     Ok(others)
 }
 
-/// Whether a catalogue has a note: it holds it, or the packet of which it is the head.
+/// Whether a catalogue has a note: it holds it, or the packet whose head it is.
 pub(crate) fn is_had(catalogue: &Catalogue, note: &Note) -> bool
     ensures { result ≡ is_had note.now catalogue.now }
 {

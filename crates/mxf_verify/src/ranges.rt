@@ -19,7 +19,7 @@ pub(crate) fn cover_of(alloc: Global, mut runs: Vec<Run>) -> Result<Cover, OutOf
     requires { AllByRecursion (λ r. r.end ≤ greatest_end) runs.items }
     ensures { IfOk result (λ c. SameOffsets c runs.items) }
 {
-    // Each goes behind those that are there.
+    // Each goes after those that are there.
     runs.sort_unstable_by_key(|run| run.start);
     cover_of_each(alloc, &runs)
 }

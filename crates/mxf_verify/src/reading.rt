@@ -32,7 +32,7 @@ impl From<ReadFault> for PartFault {
     }
 }
 
-/// Notes that are compared with the bytes of a source, and the digest of a value among these, where one runs.
+/// Notes that are compared with the bytes of a source, and the digest of a value among these, if one runs.
 #[derive(Drop)]
 pub(crate) struct Reading<'a> {
     pub comparison: Comparison<'a>,
@@ -70,8 +70,8 @@ impl<'a> Reading<'a> {
         }
     }
 
-    /// Takes the bytes of a reader up to a file offset, or to its end. An interrupted read is repeated, so many times as
-    /// are left at most.
+    /// Takes the bytes of a reader up to a file offset, or to its end. An interrupted read is repeated, at most as many
+    /// times as are left.
     fn take_up_to<R: Read>(
         &mut self,
         from: &mut R,
@@ -96,8 +96,8 @@ impl<'a> Reading<'a> {
         Ok(())
     }
 
-    /// Reads the value of the candidate at a place, with what stands ahead of it, and compares its digest. Answers whether
-    /// all of it came. The digest of no byte is at hand, as many packets have no value.
+    /// Reads the value of the candidate at a place, with what stands ahead of it, and compares its digest. Answers
+    /// whether all of it came. The digest of no byte is at hand, as many packets have no value.
     fn read_value<R: Read>(
         &mut self,
         from: &mut R,
@@ -163,8 +163,8 @@ impl<'a> Reading<'a> {
         self.read_rest(from, end, room, &mut repeats)
     }
 
-    /// Passes the candidate at a place, the bytes of which are read where it knows a digest. Answers whether it could:
-    /// where its end lies behind an offset, bytes are read up to that; or the source ends before it does.
+    /// Passes the candidate at a place, whose bytes are read if it knows a digest. Answers whether it could: not if
+    /// such a one ends after an offset, up to which bytes are then read, or after the source.
     fn pass<R: Read>(
         &mut self,
         from: &mut R,
@@ -223,7 +223,7 @@ pub(crate) fn is_digested(note: &Note) -> bool
     !note.is_head() && note.value().is_none()
 }
 
-/// The digest of a value of so many bytes, which the hasher has taken.
+/// The digest of a value of `count` bytes, which the hasher has taken.
 fn digest_of(hasher: Sha256, count: u64, of_nothing: &[u8; 32]) -> [u8; 32]
     requires { of_nothing.now ≡ sha256 [] }
     ensures { (m : List ℕ) → Holds256 hasher m → length m ≡ count → result ≡ sha256 m }

@@ -107,8 +107,8 @@ impl<'a> Readings<'a> {
         part(&self.sources, from, to)
     }
 
-    /// What the source with a number holds; nothing where there is none. It takes n log n of its notes, for those that
-    /// are disputed.
+    /// What the source with a number holds; nothing if there is none. It takes n log n of its notes, for those that are
+    /// disputed.
     pub fn counts(&self, number: usize) -> SourceCounts
         ensures { result ≡ counts_of number self.now }
     {
@@ -226,8 +226,8 @@ fn merged(mut front: Catalogue, back: Catalogue) -> Result<Catalogue, OutOfMemor
 }
 
 /// A law: the numbers of the sources of a note are those of the sources that have it, and rise. The tests of
-/// [`Readings::counts`] say what the relations say: a note is alone in a source where it is one of the notes of all
-/// sources together and no other source has it, and disputed where another note of all shares a byte with it.
+/// [`Readings::counts`] say what the relations say: a note is alone in a source if it is one of the notes of all
+/// sources together and no other source has it, and disputed if another note of all shares a byte with it.
 pub fn sources_by_definition()
     ensures members { (number : ℕ) (n : NoteParts) (contents : List (List NoteParts))
         → In number (sources_of n contents) ↔ In n (content_of number contents) }

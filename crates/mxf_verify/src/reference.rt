@@ -58,7 +58,7 @@ impl<'a> Reference<'a> {
         self.catalogue
     }
 
-    /// Compares the notes with the bytes that a reader gives, so many at most, the first of which lies at a file offset.
+    /// Compares the notes with at most `limit` bytes that a reader gives, the first of which lies at a file offset.
     pub(crate) fn compare<R: Read>(
         &self,
         alloc: Global,
@@ -90,8 +90,8 @@ fn free_notes<'a>(alloc: Global, catalogue: &'a Catalogue) -> Result<Vec<&'a Not
     Ok(free)
 }
 
-/// Whether a note is a disputed one of a catalogue whose value isn't kept. It isn't compared with bytes, so that one digest
-/// runs at a time.
+/// Whether a note is a disputed one of a catalogue whose value isn't kept. It isn't compared with bytes, so that one
+/// digest runs at a time.
 fn is_crowded(catalogue: &Catalogue, note: &Note) -> bool
     ensures { result ≡ is_crowded catalogue.now note.now }
 {

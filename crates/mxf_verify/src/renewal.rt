@@ -44,7 +44,7 @@ impl<'a> DroppedNotes<'a> {
         }
     }
 
-    /// Puts a note behind the others.
+    /// Puts a note after the others.
     fn push(&mut self, note: &'a Note) -> Result<(), OutOfMemory>
         ensures { OnOk result (self.new ≡ self.old ++ note.now ∷ []) }
     {
@@ -74,12 +74,12 @@ pub struct Renewed<'a> {
     pub dropped: DroppedNotes<'a>,
 }
 
-/// Renews an earlier catalogue by a later reading, whose bytes are the newer ones: the notes of the earlier one stay
+/// Renews an earlier catalogue by a later reading, whose bytes are the newer ones: those notes of the earlier one stay
 /// that no note of the later one contradicts.
 ///
-/// In one file packets lie one behind another. So of two notes that both hold a byte, and of which neither is the head
-/// of the other, one is of an earlier state of the file, or has a wrong offset. A join keeps both; a renewal knows which
-/// was read later.
+/// In one file packets lie one after another. So of two notes that both hold a byte, and of which neither is the head
+/// of the other, one is of an earlier state of the file, or has a wrong offset. A join keeps both; a renewal knows
+/// which was read later.
 ///
 /// The notes that stay are copied, which takes memory. Each note of the earlier catalogue is looked up by binary
 /// search.
@@ -162,7 +162,7 @@ pub fn renewals_have_what_was_read_anew()
         → (has_note new n → ⊥) → IsContradicted n new → ⊥ }
 {}
 
-/// A law of [`renew`]: each earlier note stays or is dropped, and not both. One of whose bytes nothing was read anew
+/// A law of [`renew`]: each earlier note stays or is dropped, and not both. A note of whose bytes nothing was read anew
 /// stays.
 pub fn renewals_drop_what_was_read_anew()
     ensures stays { (n : NoteParts) (old new : List NoteParts) → In n old
@@ -175,9 +175,8 @@ pub fn renewals_drop_what_was_read_anew()
         → IsDropped old new n → ⊥ }
 {}
 
-/// A law of [`renew`]: where nothing is dropped, the renewed content is the join of both. To renew it by the same
-/// reading changes and drops nothing. An empty content is renewed to what was read, and where nothing was read, nothing
-/// changes.
+/// A law of [`renew`]: if nothing is dropped, the renewed content is the join of both. To renew it by the same reading
+/// changes and drops nothing. An empty content is renewed to what was read, and if nothing was read, nothing changes.
 pub fn renewals_join_what_agrees()
     ensures joined { (old new : List NoteParts) → IsContent old → AreReduced old → IsContent new → AreReduced new
         → dropped_of old new ≡ [] → renewed_of old new ≡ reduced_union old new }

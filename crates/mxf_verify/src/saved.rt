@@ -91,7 +91,7 @@ fn headed_notes<'a>(
     Ok(headed)
 }
 
-/// Whether a note is that of a whole packet, the head of which a catalogue holds.
+/// Whether a note is that of a whole packet whose head a catalogue holds.
 fn is_headed(catalogue: &Catalogue, note: &Note) -> bool
     ensures { result ≡ is_headed note.now catalogue.now }
 {

@@ -103,7 +103,7 @@ impl<'a> Seen<'a> {
     }
 }
 
-/// Puts notes that differ in the source of a number behind others.
+/// Puts notes that differ in the source of a number after others.
 fn put_differing<'a>(
     differing: &mut Vec<Differing<'a>>,
     source: usize,
@@ -121,11 +121,11 @@ fn put_differing<'a>(
     Ok(())
 }
 
-/// Puts the runs of a cover behind others.
+/// Puts the runs of a cover after others.
 fn put_runs(runs: &mut Vec<Run>, cover: &Cover) -> Result<(), OutOfMemory>
     ensures runs { OnOk result (runs.new.items ≡ runs.old.items ++ cover.now) }
 
-    // Also where it fails.
+    // Even if it fails.
     ensures members { (r : Run) → In r runs.new.items → In r runs.old.items ⊎ In r cover.now }
     ensures cover { IsCover cover.now }
 {

@@ -30,8 +30,8 @@ pub(crate) struct BytesTold<'a> {
 }
 
 impl<'a> Reference<'a> {
-    /// What the bytes say that a reader gives, so many at most, the first of which lies at a file offset. Those of a note
-    /// are compared with what it says of them, where all of them came. It takes n log n of the notes, and reads each byte
+    /// What at most `limit` bytes say that a reader gives, the first of which lies at a file offset. Those of a note
+    /// are compared with what it says of them, if all of them came. It takes n log n of the notes, and reads each byte
     /// once.
     pub(crate) fn read<R: Read>(
         &self,
@@ -103,7 +103,7 @@ fn held_by(alloc: Global, notes: &[&Note]) -> Result<Cover, OutOfMemory>
     Ok(held)
 }
 
-/// The notes of candidates whose bytes came, up to a file offset, and aren't what they say, where none of these lies in a
+/// The notes of candidates whose bytes came, up to a file offset, and aren't what they say, if none of these lies in a
 /// cover.
 fn differing_notes<'a>(
     alloc: Global,
@@ -120,8 +120,8 @@ fn differing_notes<'a>(
     Ok(differing.collect(alloc)?)
 }
 
-/// Whether the bytes of a candidate's note came, up to a file offset, and aren't what it says, and none of them lies in a
-/// cover.
+/// Whether the bytes of a candidate's note came, up to a file offset, and aren't what it says, and none of them lies in
+/// a cover.
 #[tactic(auto, unfolding(crate::specs::ToldBytes::is_told_differing))]
 fn is_told_differing(candidate: &Candidate<'_>, end: u64, held: &Cover) -> bool
     ensures { result ≡ is_told_differing end held.now candidate.now }

@@ -70,8 +70,8 @@ impl UnitPlaces {
         })
     }
 
-    /// The units that a note holds a byte of: the least with the first place by its beginning, and the greatest with the
-    /// last by its end. Two binary searches.
+    /// The units that a note holds a byte of: the least with the first place by its beginning, and the greatest with
+    /// the last by its end. Two binary searches.
     pub(crate) fn units_of(&self, note: &Note) -> Option<UnitSpan>
         ensures { AreUnitsOf self.now note.now result }
     {
@@ -167,8 +167,8 @@ fn first_above(places: &[UnitPlace], numbers: &[u128], bound: u128) -> Option<Un
     places.get(count_up_to(numbers, bound)).copied()
 }
 
-/// A law of [`VerifiedUnits::units_of`](crate::VerifiedUnits::units_of): a note has exactly one answer, which is found by
-/// going through the places.
+/// A law of [`VerifiedUnits::units_of`](crate::VerifiedUnits::units_of): a note has exactly one answer, which is found
+/// by going through the places.
 pub fn touched_units_by_definition()
     ensures { (places : List UnitPlace) (n : NoteParts) (span : Option UnitSpan)
         → AreUnitsOf places n span ↔ (span ≡ units_touched places n) }

@@ -1,4 +1,4 @@
-//! What is told of a reference beside sources.
+//! What is said of a reference beside sources.
 ghost use Rattle.std.specs.Prelude.{◌≡◌, length, map};
 ghost use Rattle.mxf_places.specs.Held.{bytes_of};
 

@@ -37,8 +37,8 @@ pub struct UnitRun {
     pub fixity: UnitFixity,
 }
 
-/// The edit units from one up to another of an index of the reference, beside sources: how each stands, and which a packet
-/// has a byte of (this project's profile).
+/// The edit units from one up to another of an index of the reference, beside sources: how each stands, and which a
+/// packet has a byte of (this project's profile).
 #[derive(Drop)]
 pub struct VerifiedUnits {
     runs: Vec<UnitRun>,
@@ -96,8 +96,8 @@ impl VerifiedUnits {
         verified_in(&self.runs)
     }
 
-    /// The units that a note holds a byte of: the least with the first place by its beginning, and the greatest with the
-    /// last by its end. Two binary searches.
+    /// The units that a note holds a byte of: the least with the first place by its beginning, and the greatest with
+    /// the last by its end. Two binary searches.
     pub fn units_of(&self, note: &Note) -> Option<UnitSpan>
         ensures { AreUnitsOf self.now.places note.now result }
     {
@@ -105,7 +105,7 @@ impl VerifiedUnits {
     }
 }
 
-/// The units from one up to another in maximal runs, and where those of them lie of which that is told.
+/// The units from one up to another in maximal runs, and the places of those of them whose place is given.
 fn gathered(
     alloc: Global,
     verified: &Cover,
@@ -139,7 +139,7 @@ fn gathered(
     Ok((runs, places))
 }
 
-/// Adds where the unit lies, where that is told.
+/// Adds where the unit lies, if that is given.
 fn add_place(places: &mut Vec<UnitPlace>, unit: EditUnit) -> Result<(), OutOfMemory>
     ensures { OnOk result (places.new.items ≡ places.old.items ++ cons_option (place_of unit) []) }
 {
@@ -152,7 +152,7 @@ fn add_place(places: &mut Vec<UnitPlace>, unit: EditUnit) -> Result<(), OutOfMem
     Ok(())
 }
 
-/// The last run with the unit of a number behind it, or that unit as a run behind it.
+/// The last run with the unit of a number after it, or that unit as a run after it.
 fn with_unit(
     runs: &mut Vec<UnitRun>,
     last: UnitRun,
@@ -207,7 +207,7 @@ fn fixity_in(verified: &Cover, altered: &Cover, extent: Extent) -> UnitFixity
     }
 }
 
-/// Whether a byte of the extent, or its first where it isn't known where it ends, lies in the cover.
+/// Whether a byte of the extent, or its first if it isn't known where it ends, lies in the cover.
 fn meets(cover: &Cover, extent: Extent) -> bool
     ensures { IsTrue result ↔ Meets cover.now extent }
 {
@@ -262,7 +262,7 @@ fn verified_in(runs: &[UnitRun]) -> u64
     units
 }
 
-/// Whether units are verified that stand so.
+/// Whether units that stand so are verified.
 fn is_verified(fixity: UnitFixity) -> bool
     ensures { result ≡ is_verified fixity }
 {
@@ -279,8 +279,8 @@ pub fn one_account_of_units()
         → SameMembers places others → AreUnitsOf places n a → AreUnitsOf others n b → a ≡ b }
 {}
 
-/// A law of [`VerifiedUnits`]: it is known where a verified unit lies and ends, and each byte of it is one of a note that
-/// some source has as the reference says.
+/// A law of [`VerifiedUnits`]: it is known where a verified unit lies and ends, and each byte of it is one of a note
+/// that some source has as the reference says.
 pub fn verified_units_have_verified_bytes()
     ensures { (reference : List NoteParts) (sources : List Source) (v : VerificationParts) (units : UnitsParts)
         (from to : ℕ) (told : VerifiedUnitsParts) (r : UnitRun) (unit : ℕ) → IsVerification reference sources v

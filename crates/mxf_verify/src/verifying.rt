@@ -22,7 +22,7 @@ use thiserror::Error;
 /// The greatest number of bytes that is read of one piece or range.
 const GREATEST_PIECE: u64 = 1_099_511_627_776;
 
-/// The bytes that are read of a piece or range at once, where less is asked for.
+/// The bytes that are read of a piece or range at once, if less is asked for.
 const BUFFER: usize = 65_536;
 
 /// Why a reference wasn't verified.
@@ -50,13 +50,12 @@ impl From<OutOfMemory> for VerifyFault {
 /// Verifies a reference: which of its notes are in the parts as it says, which differ there, and what wasn't compared
 /// (this project's profile).
 ///
-/// A piece or a range is its bytes here. They are read once, front to back, by the notes of the reference, and no packet
-/// is looked for in them: bytes that no longer look like packets are judged like all others. 1,099,511,627,776 bytes of
+/// A piece or a range is its bytes here. They are read once, front to back, by the notes of the reference. No packet is
+/// looked for in them: bytes that no longer look like packets are judged like all others. 1,099,511,627,776 bytes of
 /// each are read at most, and none at or above [`MAX`]. A saved catalogue is its content.
 ///
-/// It takes memory for each note of the reference, two buffers of 65,536 bytes, and of catalogues what [`gather`] takes of
-/// each by itself.
-/// The first part that is at fault ends it. The parts are dropped in every case.
+/// It takes memory for each note of the reference, two buffers of 65,536 bytes, and of catalogues what [`gather`] takes
+/// of each by itself. The first part that is at fault ends it. The parts are dropped in every case.
 pub fn verify<'a, R: Read + Drop>(
     alloc: Global,
     reference: &'a Catalogue,
@@ -100,7 +99,7 @@ fn take_part<R: Read + Drop>(
     }
 }
 
-/// Takes what the bytes say that a reader gives, the first of which lies at a file offset.
+/// Takes what the bytes of a reader say, the first of which lies at a file offset.
 fn take_bytes<R: Read + Drop>(
     alloc: Global,
     seen: &mut Seen<'_>,
@@ -124,7 +123,7 @@ fn take_bytes<R: Read + Drop>(
     Ok(())
 }
 
-/// Takes what a saved catalogue says that a reader gives.
+/// Takes what the saved catalogue of a reader says.
 fn take_saved<R: Read + Drop>(
     alloc: Global,
     seen: &mut Seen<'_>,
