@@ -8,8 +8,10 @@ ghost use Rattle.mxf_tool.specs.Offsets.{IsRightOffset, begins_at};
 use super::telling::tell_on_screen;
 use crate::contents::gather_one;
 use crate::source::Source;
-use mxf_klv::MAX;
+use mxf_catalogue::Catalogue;
+use mxf_klv::{MAX, Note};
 use mxf_read::Part;
+use mxf_sets::PartitionPack;
 use mxf_views::{PartitionAt, Views};
 use std::alloc::AllocError;
 use std::io::Read;
@@ -56,17 +58,37 @@ pub fn tell_offsets<R: Files + Eprint + AllocGlobal>(
     Ok(())
 }
 
-/// The same, if some partition pack of what is held says that it stands elsewhere, or some packets are disputed, as those
-/// of a source are that begins elsewhere.
+/// The same, if some partition pack of what is held, even a disputed one, says that it stands elsewhere.
 pub fn tell_contradicted<R: Files + Eprint + AllocGlobal>(
     rt: &R,
     sources: &[Source<'_>],
     views: &Views,
 ) -> Result<(), AllocError> {
-    if begins_at(views, 0, 0) && views.catalogue().disputed().next().is_none() {
+    if begins_at(views, 0, 0) && !is_any_disputed_elsewhere(views.catalogue()) {
         return Ok(());
     }
     tell_offsets(rt, sources)
+}
+
+/// Whether some disputed partition pack says that it stands elsewhere.
+fn is_any_disputed_elsewhere(catalogue: &Catalogue) -> bool {
+    for disputed in catalogue.disputed() {
+        if is_elsewhere(disputed.note) {
+            return true;
+        }
+    }
+    false
+}
+
+/// Whether the note is that of a partition pack which says that it stands elsewhere.
+fn is_elsewhere(note: &Note) -> bool {
+    let Some(value) = note.value() else {
+        return false;
+    };
+    match PartitionPack::read(&note.key(), value) {
+        Ok(pack) => pack.numbers().this_partition != note.offset(),
+        Err(_) => false,
+    }
 }
 
 /// Where a piece or range begins by its partition packs, if elsewhere.
