@@ -17,7 +17,7 @@ _mxf_report_paths() {
 
 _mxf_report() {
   local line=${COMP_LINE:0:COMP_POINT} word before path
-  # The words as the shell sees them, where a colon breaks none.
+  # The words as the shell sees them, when a colon breaks none.
   local -a words
   read -ra words <<<"$line"
   case $line in

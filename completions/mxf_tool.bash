@@ -1,7 +1,7 @@
-# Completion of mxf_tool for bash: its commands and options, and the forms of a source with the paths behind them.
+# Completion of mxf_tool for bash: its commands and options, and the forms of a source with the paths after them.
 # shellcheck shell=bash
 
-# _mxf_tool_paths PREFIX PATH: completes the path, behind the prefix. Readline completes what stands behind the last of
+# _mxf_tool_paths PREFIX PATH: completes the path, after the prefix. Readline completes what stands after the last of
 # the characters at which it breaks words, of which the colon is one; so the words that are answered begin there.
 _mxf_tool_paths() {
   local path
@@ -17,7 +17,7 @@ _mxf_tool_paths() {
 
 _mxf_tool() {
   local line=${COMP_LINE:0:COMP_POINT} word before command='' one
-  # The words as the shell sees them, where a colon breaks none.
+  # The words as the shell sees them, when a colon breaks none.
   local -a words
   read -ra words <<<"$line"
   case $line in

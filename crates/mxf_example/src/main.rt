@@ -50,7 +50,7 @@ fn print_reports(rt: &impl Print, reports: &[PieceReport]) -> Result<()> {
     Ok(())
 }
 
-/// Prints what the partitions are that are held, and where they begin.
+/// Prints what the held partitions are, and where they begin.
 fn print_partitions(rt: &impl Print, views: &Views) -> Result<()> {
     for partition in views.partitions() {
         let (part, status) = (partition.pack.part(), partition.pack.status());

@@ -28,7 +28,7 @@ pub(crate) fn in_catalogue<F: FnOnce(Global, &mut Catalogue) -> bool>(
     holds(alloc, &mut Catalogue::new(alloc))
 }
 
-/// Adds a note, also where one growth is refused. Whether it is added.
+/// Adds a note, also if one growth is refused. Whether it is added.
 pub(crate) fn add(all: &mut Catalogue, note: Option<Note>) -> bool {
     let Some(note) = note else {
         return false;
@@ -39,7 +39,7 @@ pub(crate) fn add(all: &mut Catalogue, note: Option<Note>) -> bool {
     }
 }
 
-/// Adds a note to views, also where one growth is refused. Whether it is added.
+/// Adds a note to views, also if one growth is refused. Whether it is added.
 pub(crate) fn add_to_views(views: &mut Views, note: Option<Note>) -> bool {
     let Some(note) = note else {
         return false;
@@ -78,7 +78,7 @@ fn holds_two(all: &Catalogue) -> bool {
     all.len() == 2 && all.clear().count() == 2 && all.spans().gaps().count() == 1
 }
 
-/// Adds the note between the two. Whether it disputes both; where its addition is refused, both stand, and the note
+/// Adds the note between the two. Whether it disputes both; if its addition is refused, both stand, and the note
 /// comes back.
 fn dispute_both(all: &mut Catalogue, note: Note, same: &Note) -> bool {
     match all.add(note) {
@@ -120,7 +120,7 @@ fn moves_none(change: &Change) -> bool {
     }
 }
 
-/// Adds the packet of a head. Whether it moves none; where its addition is refused, the head stands, and the packet
+/// Adds the packet of a head. Whether it moves none; if its addition is refused, the head stands, and the packet
 /// comes back.
 fn replace(all: &mut Catalogue, note: Note, head: &Note, same: &Note) -> bool {
     match all.add(note) {
@@ -143,8 +143,8 @@ fn replace_head(all: &mut Catalogue) -> bool {
     }
 }
 
-/// Adds a head and its packet to the two, one after the other, and both again. Whether all is told and held. The head
-/// covers the bytes from 90 to 107 alone.
+/// Adds a head and its packet to the two, one after the other, and both again. Whether all is reported and held. The
+/// head covers the bytes from 90 to 107 alone.
 fn add_both(all: &mut Catalogue) -> bool {
     let lacking = add_head(all) && all.spans().gaps().count() == 1;
     let replaced = lacking && replace_head(all);
@@ -158,7 +158,7 @@ fn additions_to_a_catalogue(rt: HostRuntime) {
     assert!(rt; added);
 }
 
-/// The views of a catalogue of the two. Where they are refused, it comes back.
+/// The views of a catalogue of the two. If they are refused, it comes back.
 fn views_of(alloc: Global, all: Catalogue) -> Option<Views> {
     match Views::of(alloc, all) {
         Ok(views) => Some(views),
@@ -171,7 +171,7 @@ fn views_of(alloc: Global, all: Catalogue) -> Option<Views> {
     }
 }
 
-/// Adds the note between the two to their views. Whether it disputes both; where its addition is refused, both stand,
+/// Adds the note between the two to their views. Whether it disputes both; if its addition is refused, both stand,
 /// and the note comes back.
 fn dispute_both_in(views: &mut Views, note: Note, same: &Note) -> bool {
     match views.add(note) {
@@ -204,7 +204,7 @@ fn add_between(views: &mut Views) -> bool {
     }
 }
 
-/// The same where the two are added first.
+/// The same when the two are added first.
 fn add_three(alloc: Global, mut all: Catalogue) -> bool {
     if !add_two(&mut all) {
         return false;
@@ -220,7 +220,7 @@ fn an_addition_to_views(rt: HostRuntime) {
     assert!(rt; add_three(rt.alloc(), Catalogue::new(rt.alloc())));
 }
 
-/// Adds five runs to a cover, and one that touches two of them. Where one is refused, the cover has those before it.
+/// Adds five runs to a cover, and one that touches two of them. If one is refused, the cover has those before it.
 /// Whether all are added, and the three that touch are one.
 fn add_runs(cover: &mut Cover) -> bool {
     let mut added = true;

@@ -2,9 +2,9 @@
 //! one.
 //!
 //! Each growth is refused in turn: tests/refusals runs each test again and again, and refuses it one growth of memory a
-//! run. So a test holds whichever it is: a call answers what it has to, or wants memory; then what it promised stands,
-//! and the same call answers. A test named `without_memory..` is refused all growths from one on: it gives up where it
-//! can't prepare, and once it has, what it calls answers.
+//! run. So a test holds whichever it is: a call answers what it has to, or is out of memory; then what it promised
+//! stands, and the same call answers. A test named `without_memory..` is refused all growths from one on: it gives up
+//! if it can't prepare, and once it has, what it calls answers.
 #![tactic(auto)]
 
 #[cfg(test)]

@@ -18,7 +18,7 @@ const CUT: Report = Report {
     stop: Stop::Truncated(108),
 };
 
-/// How many packets of M may be noted when memory is wanting, each with the place of the next.
+/// How many packets of M may be noted when memory runs out, each with the place of the next.
 const PLACES: [(u64, u64); 3] = [(0, 0), (1, 108), (2, 216)];
 
 /// Whether M is held, its three packets clear.
@@ -42,12 +42,12 @@ fn holds_the_cut(views: &Views) -> bool {
         && views.chain() == Chain::Broken
 }
 
-/// Whether so many packets are held as were noted when memory was wanting, up to one of these places.
+/// Whether as many packets are held as were noted when memory ran out, up to one of these places.
 fn is_counted(views: &Views, noted: u64, at: u64, places: &[(u64, u64)]) -> bool {
     views.catalogue().len() as u64 == noted && places.contains(&(noted, at))
 }
 
-/// Notes the rest of a piece, behind so many packets. Whether it is reported as what the report of the whole leaves.
+/// Notes the rest of a piece, after some packets. Whether it is reported as what the report of the whole leaves.
 fn note_rest(
     alloc: Global,
     views: &mut Views,
@@ -67,7 +67,7 @@ fn note_rest(
     }
 }
 
-/// Notes a piece at hand. Whether it is reported so, also where memory was wanting at one of these places.
+/// Notes a piece at hand. Whether it is reported so, also if memory ran out at one of these places.
 fn note(
     alloc: Global,
     views: &mut Views,
@@ -92,7 +92,7 @@ fn read_into(alloc: Global, views: &mut Views, piece: &[u8]) -> Result<Report, A
     absorb_from(alloc, views, 0, &mut from, 1000, &mut ReadTicks::new())
 }
 
-/// Notes the piece of a reader. Whether it is reported so, also where memory was wanting and it is read again.
+/// Notes the piece of a reader. Whether it is reported so, also if memory ran out and it is read again.
 fn read(
     alloc: Global,
     views: &mut Views,
@@ -115,8 +115,7 @@ fn note_m(alloc: Global, views: &mut Views) -> bool {
     note(alloc, views, &M, WHOLE, &PLACES) && holds_m(views)
 }
 
-/// Notes M over its front. Whether it is held, also where memory was wanting at one of its places, and the rest was
-/// noted.
+/// Notes M over its front. Whether it is held, also if memory ran out at one of its places, and the rest was noted.
 fn note_over_front(alloc: Global, views: &mut Views) -> bool {
     match absorb(alloc, views, 0, &M) {
         Ok(_) => holds_m(views),
@@ -134,7 +133,7 @@ fn note_over_front(alloc: Global, views: &mut Views) -> bool {
     }
 }
 
-/// Notes M's first 128 bytes at hand, and then M. Whether they are held: when memory is wanting, no packet is, or that
+/// Notes M's first 128 bytes at hand, and then M. Whether they are held: when memory runs out, no packet is, or that
 /// ahead of the head.
 fn note_front(alloc: Global, views: &mut Views) -> bool {
     note(alloc, views, &M[..128], CUT, &PLACES[..2])

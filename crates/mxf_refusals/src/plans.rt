@@ -6,7 +6,7 @@ use mxf_restore::{DisputedPlace, Order, Plan};
 use mxf_views::Views;
 use std::alloc::Global;
 
-/// The plan of the views, also where one growth is refused.
+/// The plan of the views, also if one growth is refused.
 fn plan_of(alloc: Global, views: &Views) -> Result<Plan, OutOfMemory> {
     let at_hand = AtHand::nothing(alloc);
     match Plan::of(alloc, views, &at_hand) {
@@ -31,7 +31,7 @@ fn orders_the_front(alloc: Global, views: &Views) -> bool {
     }
 }
 
-/// Whether it is disputed what begins at 0, and nothing is ordered.
+/// Whether what begins at 0 is disputed, and nothing is ordered.
 fn disputes_the_front(alloc: Global, views: &Views) -> bool {
     let front = DisputedPlace {
         reason: Reason::Header,

@@ -8,7 +8,7 @@ use mxf_views::Views;
 use std::alloc::Global;
 use std::io::{self, Error, ErrorKind, Read};
 
-/// Gives single bytes, and fails once behind so many of them. Then it would go on.
+/// Gives single bytes, and fails once after `until` of them. Then it would go on.
 #[derive(Drop)]
 struct FailsOnce {
     bytes: &'static [u8],
@@ -33,7 +33,7 @@ impl Read for FailsOnce {
     }
 }
 
-/// What a piece of a reader is answered up to a limit, with the number of reads. The reader fails behind so many bytes.
+/// The answer to a piece of a reader up to a limit, with the number of reads. The reader fails after some bytes.
 type Answer = (Result<Report, AbsorbFault>, u64);
 
 /// The answer to a piece of these bytes at 0.
@@ -57,7 +57,7 @@ fn answer_to(alloc: Global, bytes: &'static [u8], limit: u64, fails: (usize, Err
     (answer, from.reads)
 }
 
-/// Whether that is the answer, also where one growth is refused.
+/// Whether that is the answer, also if one growth is refused.
 fn is_answered(
     alloc: Global,
     bytes: &'static [u8],
@@ -74,7 +74,7 @@ fn is_answered(
 }
 
 /// Limits, each with the number of packets, the stop, and the number of reads: one for each byte that is taken, and a
-/// last one where the limit isn't reached. Byte 128 ends the length of M's second packet.
+/// last one if the limit isn't reached. Byte 128 ends the length of M's second packet.
 const LIMITS: [(u64, u64, Stop, u64); 5] = [
     (1000, 3, Stop::End, 265),
     (264, 3, Stop::End, 264),
@@ -83,7 +83,7 @@ const LIMITS: [(u64, u64, Stop, u64); 5] = [
     (0, 0, Stop::End, 0),
 ];
 
-/// Whether nothing is read behind each limit, where the reader fails.
+/// Whether nothing is read after each limit, where the reader fails.
 fn end_at_their_limits(alloc: Global) -> bool {
     for (limit, noted, stop, reads) in LIMITS {
         let fails = (limit as usize, ErrorKind::Other);
@@ -94,7 +94,7 @@ fn end_at_their_limits(alloc: Global) -> bool {
     true
 }
 
-/// Whether nothing is read behind a stop, where the reader fails.
+/// Whether nothing is read after a stop, where the reader fails.
 fn ends_at_its_stop(alloc: Global) -> bool {
     let (noted, stop) = (0, Stop::NotUl(0));
     let wanted = (Ok(Report { noted, stop }), 4);
@@ -102,7 +102,7 @@ fn ends_at_its_stop(alloc: Global) -> bool {
     is_answered(alloc, bytes, 1000, (4, ErrorKind::Other), wanted)
 }
 
-/// The number of packets that are whole among so many first bytes of M, and where the last of them ends.
+/// The number of packets that are whole in the first `size` bytes of M, and where the last of them ends.
 fn whole_ahead(size: usize) -> (u64, u64) {
     match size {
         0..=107 => (0, 0),
@@ -121,7 +121,7 @@ fn kind_at(until: usize) -> ErrorKind {
     }
 }
 
-/// Whether M of a reader that fails behind so many bytes is a fault behind its whole packets, and that read the last.
+/// Whether M of a reader that fails after `until` bytes is a fault after its whole packets, and that read the last.
 fn ends_at_its_fault(alloc: Global, until: usize) -> bool {
     let (noted, at) = whole_ahead(until);
     let wanted = (
@@ -149,7 +149,7 @@ fn nothing_is_read_behind_a_limit_a_stop_or_a_fault(rt: HostRuntime) {
     );
 }
 
-/// Gives so many zero bytes, and then fails.
+/// Gives `left` zero bytes, and then fails.
 #[derive(Drop)]
 struct FailsAfterZeros {
     left: usize,
@@ -180,8 +180,8 @@ const WITHOUT_A_START: PieceReport = PieceReport {
     },
 };
 
-/// Whether a range of so many zero bytes, after which the reader fails, is read without a fault, and told to have no
-/// start. It is None if memory was wanting.
+/// Whether a range of this number of zero bytes, after which the reader fails, is read without a fault, and reported to
+/// have no start. It is None if memory ran out.
 fn has_no_start(alloc: Global, zeros: usize) -> Option<bool> {
     let mut parts = Vec::new(alloc);
     let range = Part::Range {
@@ -201,7 +201,7 @@ fn has_no_start(alloc: Global, zeros: usize) -> Option<bool> {
     }
 }
 
-/// The same, also where one growth is refused.
+/// The same, also if one growth is refused.
 fn is_without_a_start(alloc: Global, zeros: usize) -> bool {
     match has_no_start(alloc, zeros) {
         Some(is) => is,

@@ -5,7 +5,7 @@ use mxf_klv::{Note, OutOfMemory};
 use mxf_verify::{Readings, SourceCounts};
 use std::alloc::Global;
 
-/// What the sources hold beside each other, also where one growth is refused.
+/// What the sources hold beside each other, also if one growth is refused.
 fn readings_of<'a>(alloc: Global, contents: &'a [Catalogue]) -> Result<Readings<'a>, OutOfMemory> {
     match Readings::of(alloc, contents) {
         Ok(readings) => Ok(readings),
@@ -41,7 +41,7 @@ fn tells_of_two(readings: &Readings<'_>) -> bool {
         && has_sources(readings, essence(200, 83), [].as_slice())
 }
 
-/// Whether that is told of the two.
+/// Whether that is reported of the two.
 fn is_told(alloc: Global, contents: &[Catalogue]) -> bool {
     match readings_of(alloc, contents) {
         Ok(readings) => tells_of_two(&readings),
@@ -49,7 +49,7 @@ fn is_told(alloc: Global, contents: &[Catalogue]) -> bool {
     }
 }
 
-/// Puts a source with a packet from 0 to 100 behind the others. Whether there was room for it.
+/// Puts a source with a packet from 0 to 100 after the others. Whether there was room for it.
 fn push_first(alloc: Global, contents: &mut Vec<Catalogue>) -> bool {
     let mut one = Catalogue::new(alloc);
     add(&mut one, essence(0, 83)) && contents.push(one).is_ok()
@@ -61,7 +61,7 @@ fn push_second(alloc: Global, contents: &mut Vec<Catalogue>) -> bool {
     add(&mut two, essence(0, 83)) && add(&mut two, essence(90, 83)) && contents.push(two).is_ok()
 }
 
-/// Pushes two sources. Whether they are told beside each other.
+/// Pushes two sources. Whether they are reported beside each other.
 fn push_both(alloc: Global, contents: &mut Vec<Catalogue>) -> bool {
     (contents.reserve(2).is_ok() || contents.reserve(2).is_ok())
         && push_first(alloc, contents)

@@ -8,7 +8,7 @@ use mxf_klv::{Encode, Note, OutOfMemory, Packet, cut_head, read_packet};
 use mxf_views::Views;
 use std::alloc::{AllocError, Global};
 
-/// The note of a packet, also where one growth is refused.
+/// The note of a packet, also if one growth is refused.
 fn note_of(alloc: Global, offset: u64, packet: &Packet<'_>) -> Option<Note> {
     match Note::of(alloc, offset, packet) {
         Ok(note) => Some(note),
@@ -16,13 +16,13 @@ fn note_of(alloc: Global, offset: u64, packet: &Packet<'_>) -> Option<Note> {
     }
 }
 
-/// The note of M's packet at an offset, also where one growth is refused.
+/// The note of M's packet at an offset, also if one growth is refused.
 fn note_of_m(alloc: Global, offset: usize) -> Option<Note> {
     let (packet, _) = read_packet(M.get(offset..)?).ok()?;
     note_of(alloc, offset as u64, &packet)
 }
 
-/// Adds the packets of M at these offsets, also where one growth is refused. Whether they are added.
+/// Adds the packets of M at these offsets, also if one growth is refused. Whether they are added.
 fn add_of_m(alloc: Global, all: &mut Catalogue, offsets: &[usize]) -> bool {
     for offset in offsets {
         if !add(all, note_of_m(alloc, *offset)) {
@@ -39,17 +39,17 @@ fn of_m(alloc: Global, offsets: &[usize]) -> Catalogue {
     all
 }
 
-/// Adds M's first packet and the head of its second, also where one growth is refused. Whether they are added.
+/// Adds M's first packet and the head of its second, also if one growth is refused. Whether they are added.
 fn add_cut_m(alloc: Global, all: &mut Catalogue) -> bool {
     add_of_m(alloc, all, &[0]) && add(all, cut_head(108, &M[108..128]))
 }
 
-/// Adds the packet behind them too.
+/// Adds the packet after them too.
 fn add_around(alloc: Global, all: &mut Catalogue) -> bool {
     add_cut_m(alloc, all) && add_of_m(alloc, all, &[216])
 }
 
-/// Whether the join is the wanted one, also where one growth is refused.
+/// Whether the join is the wanted one, also if one growth is refused.
 fn joins_to(alloc: Global, one: &Catalogue, other: &Catalogue, wanted: &Catalogue) -> bool {
     match Catalogue::join(alloc, one, other) {
         Ok(joined) => joined.same(wanted),
@@ -60,7 +60,7 @@ fn joins_to(alloc: Global, one: &Catalogue, other: &Catalogue, wanted: &Catalogu
     }
 }
 
-/// Merges. Whether that leaves the wanted notes; where it is refused, those before it are left, and these come back.
+/// Merges. Whether that leaves the wanted notes; if it is refused, those before it are left, and these come back.
 fn merge_to(
     all: &mut Catalogue,
     other: Catalogue,
@@ -118,7 +118,7 @@ fn a_join_and_a_merge_of_catalogues(rt: HostRuntime) {
     assert!(rt; whole);
 }
 
-/// The catalogue of a file, also where one growth is refused.
+/// The catalogue of a file, also if one growth is refused.
 fn read(alloc: Global, file: &[u8]) -> Result<Catalogue, FileFault> {
     match Catalogue::read(alloc, file) {
         Err(FileFault::OutOfMemory) => Catalogue::read(alloc, file),
@@ -134,7 +134,7 @@ fn is_read_as(alloc: Global, file: &[u8], all: &Catalogue) -> bool {
     }
 }
 
-/// Room for the file of M's catalogue, also where one growth is refused.
+/// Room for the file of M's catalogue, also if one growth is refused.
 fn room(alloc: Global) -> Result<Vec<u8>, AllocError> {
     match Vec::with_capacity(alloc, 322) {
         Ok(room) => Ok(room),
@@ -142,7 +142,7 @@ fn room(alloc: Global) -> Result<Vec<u8>, AllocError> {
     }
 }
 
-/// Saves a catalogue. Whether its file has so many bytes, and is read back.
+/// Saves a catalogue. Whether its file has `size` bytes, and is read back.
 fn save(alloc: Global, all: &Catalogue, size: usize) -> bool {
     match room(alloc) {
         Ok(mut file) => {
@@ -160,7 +160,7 @@ fn save_and_read(alloc: Global, all: &mut Catalogue) -> bool {
         && is_read_as(alloc, &M_OF_VERSION_1, all)
 }
 
-/// Whether a file of version 1 that is cut is refused, also where one growth is refused.
+/// Whether a file of version 1 that is cut is refused, also if one growth is refused.
 fn cut_is_refused(alloc: Global) -> bool {
     match read(alloc, &M_OF_VERSION_1[..318]) {
         Ok(_) => false,
@@ -174,7 +174,7 @@ fn catalogues_that_are_read(rt: HostRuntime) {
     assert!(rt; in_catalogue(alloc, save_and_read) && cut_is_refused(alloc));
 }
 
-/// Merges the packets of M at these offsets into views, also where one growth is refused. Whether they are merged.
+/// Merges the packets of M at these offsets into views, also if one growth is refused. Whether they are merged.
 fn merge_of_m(alloc: Global, views: &mut Views, offsets: &[usize]) -> bool {
     match views.merge(of_m(alloc, offsets)) {
         Ok(()) => true,
@@ -182,7 +182,7 @@ fn merge_of_m(alloc: Global, views: &mut Views, offsets: &[usize]) -> bool {
     }
 }
 
-/// The join of views, also where one growth is refused.
+/// The join of views, also if one growth is refused.
 fn join_of_views(alloc: Global, front: &Views, back: &Views) -> Result<Views, OutOfMemory> {
     match Views::join(alloc, front, back) {
         Ok(joined) => Ok(joined),
@@ -190,7 +190,7 @@ fn join_of_views(alloc: Global, front: &Views, back: &Views) -> Result<Views, Ou
     }
 }
 
-/// Whether the views of a front and of what is behind it are joined to those of the whole.
+/// Whether the views of a front and of what follows it are joined to those of the whole.
 fn views_join_to(alloc: Global, front: &Views, back: &Views, whole: &Catalogue) -> bool {
     match join_of_views(alloc, front, back) {
         Ok(joined) => joined.catalogue().same(whole),
@@ -198,7 +198,7 @@ fn views_join_to(alloc: Global, front: &Views, back: &Views, whole: &Catalogue) 
     }
 }
 
-/// Merges two notes into the views of one. Whether these are those of the whole then; where they are refused, all
+/// Merges two notes into the views of one. Whether these are then those of the whole; if they are refused, all
 /// stand.
 fn merge_into_views(front: &mut Views, back: Catalogue, whole: &Catalogue) -> bool {
     match front.merge(back) {
@@ -210,7 +210,7 @@ fn merge_into_views(front: &mut Views, back: Catalogue, whole: &Catalogue) -> bo
     }
 }
 
-/// Fills views with M's first packet and with the two behind it, and joins them.
+/// Fills views with M's first packet and with the two after it, and joins them.
 fn join_views(alloc: Global, front: &mut Views, back: &mut Views, whole: &mut Catalogue) -> bool {
     merge_of_m(alloc, front, &[0])
         && merge_of_m(alloc, back, &[108, 216])
@@ -236,7 +236,7 @@ fn a_join_and_a_merge_of_views(rt: HostRuntime) {
     assert!(rt; united);
 }
 
-/// Adds a run to a cover, also where one growth is refused. Whether it is added.
+/// Adds a run to a cover, also if one growth is refused. Whether it is added.
 fn add_run(cover: &mut Cover, start: u64, end: u64) -> bool
     requires rising { start < end }
     requires within { end ≤ 9223372036854775807 }
@@ -247,7 +247,7 @@ fn add_run(cover: &mut Cover, start: u64, end: u64) -> bool
     }
 }
 
-/// The join of covers, also where one growth is refused.
+/// The join of covers, also if one growth is refused.
 fn join_of_covers(alloc: Global, front: &Cover, back: &Cover) -> Result<Cover, OutOfMemory> {
     match Cover::join(alloc, front, back) {
         Ok(joined) => Ok(joined),

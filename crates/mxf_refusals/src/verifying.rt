@@ -23,7 +23,7 @@ fn beside_m<'a>(alloc: Global, reference: &'a Catalogue) -> Result<Verification<
     }
 }
 
-/// The same, also where one growth is refused.
+/// The same, also if one growth is refused.
 fn verification<'a>(
     alloc: Global,
     reference: &'a Catalogue,
@@ -34,7 +34,7 @@ fn verification<'a>(
     }
 }
 
-/// Whether M is the same, and a segment behind it wasn't compared.
+/// Whether M is the same, and a segment after it wasn't compared.
 fn m_is_the_same(verification: &Verification<'_>) -> bool {
     let counts = verification.counts();
     (counts.packets, counts.all_packets) == (3, 4)
@@ -43,7 +43,7 @@ fn m_is_the_same(verification: &Verification<'_>) -> bool {
         && verification.has_come()
 }
 
-/// Units of an index beside what was verified, the first ten, also where one growth is refused.
+/// Units of an index beside what was verified, the first ten, also if one growth is refused.
 fn ten_units(
     alloc: Global,
     verification: &Verification<'_>,

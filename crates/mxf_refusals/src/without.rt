@@ -8,7 +8,7 @@ use mxf_views::{BadUnit, Chain, Found, Link, Place, RipView, Views, set_items};
 use std::alloc::Global;
 use uuid::Uuid;
 
-/// The note of M's footer, at 108. None where a growth is refused.
+/// The note of M's footer, at 108. None if a growth is refused.
 fn footer(alloc: Global) -> Option<Note> {
     let (packet, _) = read_packet(&M[108..]).ok()?;
     Note::of(alloc, 108, &packet).ok()
@@ -51,7 +51,7 @@ fn touches_two(all: &Catalogue) -> bool {
     }
 }
 
-/// Whether the file of a catalogue has 322 bytes, where there is room for them.
+/// Whether the file of a catalogue has 322 bytes, if there is room for them.
 fn has_322_bytes(alloc: Global, all: &Catalogue) -> bool {
     match Vec::with_capacity(alloc, 322) {
         Ok(mut file) => all.write_to(&mut file) == Ok(()) && file.len() == 322,
@@ -59,7 +59,7 @@ fn has_322_bytes(alloc: Global, all: &Catalogue) -> bool {
     }
 }
 
-/// Adds the note of M's footer and its head, where M is held. Whether nothing is new about either, and M's notes and
+/// Adds the note of M's footer and its head, when M is held. Whether nothing is new about either, and M's notes and
 /// partitions are found, and written.
 fn repeat_footer(alloc: Global, views: &mut Views, note: Note) -> bool {
     let Some(head) = cut_head(108, &M[108..128]) else {
@@ -73,7 +73,7 @@ fn repeat_footer(alloc: Global, views: &mut Views, note: Note) -> bool {
         && has_322_bytes(alloc, views.catalogue())
 }
 
-/// The same, where M can be noted.
+/// The same, if M can be noted.
 fn note_and_repeat(alloc: Global, views: &mut Views) -> bool {
     if absorb(alloc, views, 0, &M).is_err() {
         return true;
@@ -120,7 +120,7 @@ fn make_head(alloc: Global, views: &mut Views, head: &Note) -> bool {
     repeat(views, made) && alike && holds_the_cut(views, head)
 }
 
-/// The same, where the bytes up to it can be noted.
+/// The same, if the bytes up to it can be noted.
 fn add_head(alloc: Global, views: &mut Views) -> bool {
     if absorb(alloc, views, 0, &M[..128]).is_err() {
         return true;
@@ -167,7 +167,7 @@ fn has_its_copy(views: &Views) -> Option<bool> {
     Some(views.link_of(&header) == Link::First && items && copy.partition == 0 && labelled)
 }
 
-/// Whether these are found in R and a segment behind it, where both can be noted.
+/// Whether these are found in R and a segment after it, if both can be noted.
 fn note_and_ask(alloc: Global, views: &mut Views) -> bool {
     absorb(alloc, views, 0, &R).is_err()
         || absorb(alloc, views, 374, &SEGMENT).is_err()

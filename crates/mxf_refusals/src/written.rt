@@ -4,7 +4,7 @@ use mxf_klv::{Ber, Encode, read_packet};
 use mxf_sets::{Batch, PartitionPack, Primer, Rip, Segment};
 use std::alloc::Global;
 
-/// Whether a value is written as these bytes, where there is room for them.
+/// Whether a value is written as these bytes, if there is room for them.
 fn is_written<E: Encode>(alloc: Global, value: &E, bytes: &[u8]) -> bool {
     match Vec::with_capacity(alloc, bytes.len()) {
         Ok(mut taken) => value.write_to(&mut taken) == Ok(()) && taken.as_slice() == bytes,
