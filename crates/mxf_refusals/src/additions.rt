@@ -28,7 +28,7 @@ pub(crate) fn in_catalogue<F: FnOnce(Global, &mut Catalogue) -> bool>(
     holds(alloc, &mut Catalogue::new(alloc))
 }
 
-/// Adds a note, also if one growth is refused. Whether it is added.
+/// Adds a note, even if one growth is refused. Whether it is added.
 pub(crate) fn add(all: &mut Catalogue, note: Option<Note>) -> bool {
     let Some(note) = note else {
         return false;
@@ -39,7 +39,7 @@ pub(crate) fn add(all: &mut Catalogue, note: Option<Note>) -> bool {
     }
 }
 
-/// Adds a note to views, also if one growth is refused. Whether it is added.
+/// Adds a note to views, even if one growth is refused. Whether it is added.
 pub(crate) fn add_to_views(views: &mut Views, note: Option<Note>) -> bool {
     let Some(note) = note else {
         return false;

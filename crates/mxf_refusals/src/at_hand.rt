@@ -34,7 +34,7 @@ fn put_parts_together(alloc: Global, views: Views) -> Result<bool, SourceFault> 
     )
 }
 
-/// Whether M's parts are put together, also if one growth is refused.
+/// Whether M's parts are put together, even if one growth is refused.
 fn are_put_together(alloc: Global) -> bool {
     for _ in 0..2 {
         let Ok(views) = views_of_parts(alloc) else {

@@ -67,7 +67,7 @@ fn note_rest(
     }
 }
 
-/// Notes a piece at hand. Whether it is reported so, also if memory ran out at one of these places.
+/// Notes a piece at hand. Whether it is reported so, even if memory ran out at one of these places.
 fn note(
     alloc: Global,
     views: &mut Views,
@@ -92,7 +92,7 @@ fn read_into(alloc: Global, views: &mut Views, piece: &[u8]) -> Result<Report, A
     absorb_from(alloc, views, 0, &mut from, 1000, &mut ReadTicks::new())
 }
 
-/// Notes the piece of a reader. Whether it is reported so, also if memory ran out and it is read again.
+/// Notes the piece of a reader. Whether it is reported so, even if memory ran out and it is read again.
 fn read(
     alloc: Global,
     views: &mut Views,
@@ -115,7 +115,7 @@ fn note_m(alloc: Global, views: &mut Views) -> bool {
     note(alloc, views, &M, WHOLE, &PLACES) && holds_m(views)
 }
 
-/// Notes M over its front. Whether it is held, also if memory ran out at one of its places, and the rest was noted.
+/// Notes M over its front. Whether it is held, even if memory ran out at one of its places, and the rest was noted.
 fn note_over_front(alloc: Global, views: &mut Views) -> bool {
     match absorb(alloc, views, 0, &M) {
         Ok(_) => holds_m(views),

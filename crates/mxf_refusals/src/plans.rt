@@ -6,7 +6,7 @@ use mxf_restore::{DisputedPlace, Order, Plan};
 use mxf_views::Views;
 use std::alloc::Global;
 
-/// The plan of the views, also if one growth is refused.
+/// The plan of the views, even if one growth is refused.
 fn plan_of(alloc: Global, views: &Views) -> Result<Plan, OutOfMemory> {
     let at_hand = AtHand::nothing(alloc);
     match Plan::of(alloc, views, &at_hand) {

@@ -57,7 +57,7 @@ fn answer_to(alloc: Global, bytes: &'static [u8], limit: u64, fails: (usize, Err
     (answer, from.reads)
 }
 
-/// Whether that is the answer, also if one growth is refused.
+/// Whether that is the answer, even if one growth is refused.
 fn is_answered(
     alloc: Global,
     bytes: &'static [u8],
@@ -201,7 +201,7 @@ fn has_no_start(alloc: Global, zeros: usize) -> Option<bool> {
     }
 }
 
-/// The same, also if one growth is refused.
+/// The same, even if one growth is refused.
 fn is_without_a_start(alloc: Global, zeros: usize) -> bool {
     match has_no_start(alloc, zeros) {
         Some(is) => is,

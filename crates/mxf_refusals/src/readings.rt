@@ -5,7 +5,7 @@ use mxf_klv::{Note, OutOfMemory};
 use mxf_verify::{Readings, SourceCounts};
 use std::alloc::Global;
 
-/// What the sources hold beside each other, also if one growth is refused.
+/// What the sources hold beside each other, even if one growth is refused.
 fn readings_of<'a>(alloc: Global, contents: &'a [Catalogue]) -> Result<Readings<'a>, OutOfMemory> {
     match Readings::of(alloc, contents) {
         Ok(readings) => Ok(readings),

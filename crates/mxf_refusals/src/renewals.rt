@@ -5,7 +5,7 @@ use mxf_klv::OutOfMemory;
 use mxf_verify::{Opposing, Renewed, renew};
 use std::alloc::Global;
 
-/// A later catalogue, of a packet from 90 to 190, also if one growth is refused.
+/// A later catalogue, of a packet from 90 to 190, even if one growth is refused.
 fn later(alloc: Global) -> Catalogue {
     let mut later = Catalogue::new(alloc);
     add(&mut later, essence(90, 83));
@@ -20,7 +20,7 @@ fn keeps_the_second(renewed: &Renewed<'_>) -> bool {
         && renewed.dropped.len() == 1
 }
 
-/// Whether a renewal answers so, also if one growth is refused.
+/// Whether a renewal answers so, even if one growth is refused.
 fn is_renewed(alloc: Global, old: &Catalogue) -> bool {
     match renew(alloc, old, later(alloc)) {
         Ok(renewed) => keeps_the_second(&renewed),
@@ -44,7 +44,7 @@ fn opposes_the_first(opposing: &Opposing<'_>) -> bool {
     }
 }
 
-/// Whether a catalogue opposes so, also if one growth is refused.
+/// Whether a catalogue opposes so, even if one growth is refused.
 fn is_opposing(alloc: Global, all: &Catalogue) -> bool {
     match Opposing::of(alloc, all) {
         Ok(opposing) => opposes_the_first(&opposing),

@@ -8,7 +8,7 @@ use mxf_klv::{Encode, Note, OutOfMemory, Packet, cut_head, read_packet};
 use mxf_views::Views;
 use std::alloc::{AllocError, Global};
 
-/// The note of a packet, also if one growth is refused.
+/// The note of a packet, even if one growth is refused.
 fn note_of(alloc: Global, offset: u64, packet: &Packet<'_>) -> Option<Note> {
     match Note::of(alloc, offset, packet) {
         Ok(note) => Some(note),
@@ -16,13 +16,13 @@ fn note_of(alloc: Global, offset: u64, packet: &Packet<'_>) -> Option<Note> {
     }
 }
 
-/// The note of M's packet at an offset, also if one growth is refused.
+/// The note of M's packet at an offset, even if one growth is refused.
 fn note_of_m(alloc: Global, offset: usize) -> Option<Note> {
     let (packet, _) = read_packet(M.get(offset..)?).ok()?;
     note_of(alloc, offset as u64, &packet)
 }
 
-/// Adds the packets of M at these offsets, also if one growth is refused. Whether they are added.
+/// Adds the packets of M at these offsets, even if one growth is refused. Whether they are added.
 fn add_of_m(alloc: Global, all: &mut Catalogue, offsets: &[usize]) -> bool {
     for offset in offsets {
         if !add(all, note_of_m(alloc, *offset)) {
@@ -39,7 +39,7 @@ fn of_m(alloc: Global, offsets: &[usize]) -> Catalogue {
     all
 }
 
-/// Adds M's first packet and the head of its second, also if one growth is refused. Whether they are added.
+/// Adds M's first packet and the head of its second, even if one growth is refused. Whether they are added.
 fn add_cut_m(alloc: Global, all: &mut Catalogue) -> bool {
     add_of_m(alloc, all, &[0]) && add(all, cut_head(108, &M[108..128]))
 }
@@ -49,7 +49,7 @@ fn add_around(alloc: Global, all: &mut Catalogue) -> bool {
     add_cut_m(alloc, all) && add_of_m(alloc, all, &[216])
 }
 
-/// Whether the join is the wanted one, also if one growth is refused.
+/// Whether the join is the wanted one, even if one growth is refused.
 fn joins_to(alloc: Global, one: &Catalogue, other: &Catalogue, wanted: &Catalogue) -> bool {
     match Catalogue::join(alloc, one, other) {
         Ok(joined) => joined.same(wanted),
@@ -118,7 +118,7 @@ fn a_join_and_a_merge_of_catalogues(rt: HostRuntime) {
     assert!(rt; whole);
 }
 
-/// The catalogue of a file, also if one growth is refused.
+/// The catalogue of a file, even if one growth is refused.
 fn read(alloc: Global, file: &[u8]) -> Result<Catalogue, FileFault> {
     match Catalogue::read(alloc, file) {
         Err(FileFault::OutOfMemory) => Catalogue::read(alloc, file),
@@ -134,7 +134,7 @@ fn is_read_as(alloc: Global, file: &[u8], all: &Catalogue) -> bool {
     }
 }
 
-/// Room for the file of M's catalogue, also if one growth is refused.
+/// Room for the file of M's catalogue, even if one growth is refused.
 fn room(alloc: Global) -> Result<Vec<u8>, AllocError> {
     match Vec::with_capacity(alloc, 322) {
         Ok(room) => Ok(room),
@@ -160,7 +160,7 @@ fn save_and_read(alloc: Global, all: &mut Catalogue) -> bool {
         && is_read_as(alloc, &M_OF_VERSION_1, all)
 }
 
-/// Whether a file of version 1 that is cut is refused, also if one growth is refused.
+/// Whether a file of version 1 that is cut is refused, even if one growth is refused.
 fn cut_is_refused(alloc: Global) -> bool {
     match read(alloc, &M_OF_VERSION_1[..318]) {
         Ok(_) => false,
@@ -174,7 +174,7 @@ fn catalogues_that_are_read(rt: HostRuntime) {
     assert!(rt; in_catalogue(alloc, save_and_read) && cut_is_refused(alloc));
 }
 
-/// Merges the packets of M at these offsets into views, also if one growth is refused. Whether they are merged.
+/// Merges the packets of M at these offsets into views, even if one growth is refused. Whether they are merged.
 fn merge_of_m(alloc: Global, views: &mut Views, offsets: &[usize]) -> bool {
     match views.merge(of_m(alloc, offsets)) {
         Ok(()) => true,
@@ -182,7 +182,7 @@ fn merge_of_m(alloc: Global, views: &mut Views, offsets: &[usize]) -> bool {
     }
 }
 
-/// The join of views, also if one growth is refused.
+/// The join of views, even if one growth is refused.
 fn join_of_views(alloc: Global, front: &Views, back: &Views) -> Result<Views, OutOfMemory> {
     match Views::join(alloc, front, back) {
         Ok(joined) => Ok(joined),
@@ -236,7 +236,7 @@ fn a_join_and_a_merge_of_views(rt: HostRuntime) {
     assert!(rt; united);
 }
 
-/// Adds a run to a cover, also if one growth is refused. Whether it is added.
+/// Adds a run to a cover, even if one growth is refused. Whether it is added.
 fn add_run(cover: &mut Cover, start: u64, end: u64) -> bool
     requires rising { start < end }
     requires within { end ≤ 9223372036854775807 }
@@ -247,7 +247,7 @@ fn add_run(cover: &mut Cover, start: u64, end: u64) -> bool
     }
 }
 
-/// The join of covers, also if one growth is refused.
+/// The join of covers, even if one growth is refused.
 fn join_of_covers(alloc: Global, front: &Cover, back: &Cover) -> Result<Cover, OutOfMemory> {
     match Cover::join(alloc, front, back) {
         Ok(joined) => Ok(joined),

@@ -10,7 +10,7 @@ use mxf_units::{UnitRange, Units};
 use mxf_views::Views;
 use std::alloc::Global;
 
-/// What to restore for units, also if one growth is refused.
+/// What to restore for units, even if one growth is refused.
 fn unit_plan_of(
     alloc: Global,
     units: &Units<'_>,

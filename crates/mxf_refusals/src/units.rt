@@ -8,12 +8,12 @@ use mxf_units::{UnitStanding, Units, index_sids};
 use mxf_views::Views;
 use std::alloc::Global;
 
-/// Notes a piece, also if one growth is refused. Whether it is noted.
+/// Notes a piece, even if one growth is refused. Whether it is noted.
 pub(crate) fn add_piece(alloc: Global, views: &mut Views, offset: u64, bytes: &[u8]) -> bool {
     absorb(alloc, views, offset, bytes).is_ok() || absorb(alloc, views, offset, bytes).is_ok()
 }
 
-/// The IndexSIDs of the segments, also if one growth is refused.
+/// The IndexSIDs of the segments, even if one growth is refused.
 fn index_sids_of(alloc: Global, views: &Views) -> Result<Vec<u32>, OutOfMemory> {
     match index_sids(alloc, views) {
         Ok(found) => Ok(found),
@@ -29,7 +29,7 @@ fn has_one_index(alloc: Global, views: &Views) -> bool {
     }
 }
 
-/// The units of the index of IndexSID 1, also if one growth is refused.
+/// The units of the index of IndexSID 1, even if one growth is refused.
 pub(crate) fn units_of<'a>(
     alloc: Global,
     views: &'a Views,

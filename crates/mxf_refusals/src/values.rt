@@ -18,7 +18,7 @@ fn keeps_the_header(note: &Note) -> bool {
     }
 }
 
-/// The note of a packet at 0, also if one growth is refused.
+/// The note of a packet at 0, even if one growth is refused.
 fn note_of(alloc: Global, packet: &Packet<'_>) -> Result<Note, NoteFault> {
     match Note::of(alloc, 0, packet) {
         Err(NoteFault::OutOfMemory) => Note::of(alloc, 0, packet),
@@ -26,7 +26,7 @@ fn note_of(alloc: Global, packet: &Packet<'_>) -> Result<Note, NoteFault> {
     }
 }
 
-/// The copy of a note, also if one growth is refused.
+/// The copy of a note, even if one growth is refused.
 fn copy_of(alloc: Global, note: &Note) -> Result<Note, OutOfMemory> {
     match note.clone_in(alloc) {
         Ok(copy) => Ok(copy),
@@ -58,7 +58,7 @@ fn the_note_of_a_packet_that_is_kept(rt: HostRuntime) {
     assert!(rt; is_kept(rt.alloc()));
 }
 
-/// The text of units, also if one growth is refused.
+/// The text of units, even if one growth is refused.
 fn text_of(alloc: Global, units: &[u8]) -> Result<String, TextFault> {
     match text(alloc, units) {
         Err(TextFault::OutOfMemory) => text(alloc, units),
@@ -74,7 +74,7 @@ fn have_text(alloc: Global, units: &[u8], wanted: &str) -> bool {
     }
 }
 
-/// Whether bytes print as two digits each, also if one growth is refused.
+/// Whether bytes print as two digits each, even if one growth is refused.
 fn are_digits(alloc: Global) -> bool {
     match hex_text(alloc, &[0x0A, 0xFF]) {
         Ok(text) => text.as_str() == "0aff",
@@ -83,7 +83,7 @@ fn are_digits(alloc: Global) -> bool {
     }
 }
 
-/// Whether a fault has this text, also if one growth is refused.
+/// Whether a fault has this text, even if one growth is refused.
 fn has_text<T: Display>(alloc: Global, fault: &T, wanted: &str) -> bool {
     match fault.to_string(alloc) {
         Ok(text) => text.as_str() == wanted,
@@ -111,7 +111,7 @@ fn texts(rt: HostRuntime) {
     assert!(rt; read && are_digits(alloc) && faults_have_texts(alloc));
 }
 
-/// Whether the labels of a primer pack have that of the tag 8001, also if one growth is refused.
+/// Whether the labels of a primer pack have that of the tag 8001, even if one growth is refused.
 fn has_label(alloc: Global, primer: &Primer<'_>) -> bool {
     let wanted = Some([0xAA; 16]);
     match PrimerLabels::of(alloc, primer) {
@@ -140,7 +140,7 @@ fn is_of_the_package(resolved: &Resolved) -> bool {
     resolved.preface == 154 && resolved.packages.as_slice().len() == 2
 }
 
-/// What references lead to, also if one growth is refused.
+/// What references lead to, even if one growth is refused.
 fn resolved_in(alloc: Global, views: &Views) -> Result<Option<Resolved>, OutOfMemory> {
     match views.resolved(alloc) {
         Ok(resolved) => Ok(resolved),
@@ -156,7 +156,7 @@ fn lead_to_the_package(alloc: Global, views: &Views) -> bool {
     }
 }
 
-/// What is found in the views, also if one growth is refused.
+/// What is found in the views, even if one growth is refused.
 fn found_in(alloc: Global, views: &Views) -> Result<Findings, OutOfMemory> {
     match views.findings(alloc) {
         Ok(found) => Ok(found),

@@ -23,7 +23,7 @@ fn beside_m<'a>(alloc: Global, reference: &'a Catalogue) -> Result<Verification<
     }
 }
 
-/// The same, also if one growth is refused.
+/// The same, even if one growth is refused.
 fn verification<'a>(
     alloc: Global,
     reference: &'a Catalogue,
@@ -43,7 +43,7 @@ fn m_is_the_same(verification: &Verification<'_>) -> bool {
         && verification.has_come()
 }
 
-/// Units of an index beside what was verified, the first ten, also if one growth is refused.
+/// Units of an index beside what was verified, the first ten, even if one growth is refused.
 fn ten_units(
     alloc: Global,
     verification: &Verification<'_>,
