@@ -12,8 +12,8 @@ import packets
 
 ESSENCE_KEY = packets.digits(packets.KEYS["essence"])
 
-# The notes of saved catalogues: whole packets of so many bytes, one after another. Each offset has thirteen digits up
-# to some 89 million notes, so that lines that are sorted as text are sorted by offset.
+# The notes of saved catalogues: whole packets of PACKET_SIZE bytes, one after another. Each offset has thirteen digits
+# up to some 89 million notes, so that lines that are sorted as text are sorted by offset.
 FIRST_OFFSET = 1_000_000_000_000
 PACKET_SIZE = 100_020
 GREATEST_NOTES = 10_000_000
@@ -30,7 +30,7 @@ def laid(line: str, offset: int = 0) -> bytes:
 
 
 def small_head(header_bytes: int) -> bytes:
-    """The packets of a partition pack that states so many bytes of header metadata and of a primer pack without an
+    """The packets of a partition pack that states `header_bytes` of header metadata and of a primer pack without an
     entry, each with its length in one byte."""
     return laid(f"header header-bytes={header_bytes} width=1") + laid("primer width=1 value=0000000000000012")
 
@@ -47,7 +47,7 @@ def essence_value(size: int) -> bytes:
 
 
 def write_recording(path: Path, count: int, value_size: int) -> None:
-    """A header partition pack, then so many essence packets."""
+    """A header partition pack, then `count` essence packets."""
     essence = essence_packet(essence_value(value_size))
     with open(path, "wb") as file:
         file.write(laid("header"))
@@ -67,7 +67,7 @@ def write_sparse_recording(path: Path, count: int, value_size: int) -> None:
 
 
 def write_small_packets(path: Path, count: int, value_size: int = 0) -> None:
-    """So many essence packets with values of so many bytes, 32 at most."""
+    """`count` essence packets with values of `value_size` bytes, 32 at most."""
     head = ESSENCE_KEY + bytes([value_size])
     with open(path, "wb") as file:
         for number in range(count):
@@ -75,7 +75,7 @@ def write_small_packets(path: Path, count: int, value_size: int = 0) -> None:
 
 
 def write_pieces(folder: Path, pieces: int, count: int, value_size: int) -> list[str]:
-    """A recording of a header partition pack and essence packets, so many in all, in pieces as equal as can be. Answers
+    """A recording of a header partition pack and essence packets, `count` in all, in pieces as equal as can be. Answers
     the sources of the pieces, in the order of the recording."""
     header = laid("header")
     essence = essence_packet(essence_value(value_size))
@@ -94,12 +94,12 @@ def write_pieces(folder: Path, pieces: int, count: int, value_size: int) -> list
 
 
 def catalogue_start(count: int) -> bytes:
-    """What is ahead of so many notes in the file of a catalogue."""
+    """What is ahead of `count` notes in the file of a catalogue."""
     return b"MXFCAT\0\x02" + struct.pack(">Q", count)
 
 
 def write_catalogue(path: Path, count: int, indexes: Iterable[int]) -> None:
-    """A saved catalogue of so many notes of essence packets, which have the indexes, rising."""
+    """A saved catalogue of `count` notes of essence packets, which have the indexes, rising."""
     with open(path, "wb") as file:
         file.write(catalogue_start(count))
         for index in indexes:
@@ -116,7 +116,7 @@ def write_heads(path: Path, count: int, indexes: Iterable[int]) -> None:
 
 
 def write_heads_under_one_another(path: Path, count: int, indexes: Iterable[int]) -> None:
-    """A saved catalogue of so many heads that all claim the bytes up to the greatest end, each from a place of its own on."""
+    """A saved catalogue of `count` heads that all claim the bytes up to the greatest end, each from its own place."""
     with open(path, "wb") as file:
         file.write(catalogue_start(count))
         for index in indexes:
@@ -133,11 +133,11 @@ def write_lines(path: Path, indexes: Iterable[int]) -> None:
 
 
 def half_shared(notes: int, part: int) -> Iterator[int]:
-    """The indexes of one of two sets of so many notes, an even number, which share half of them: of each three indexes
+    """The indexes of one of two sets of `notes` notes, an even number, which share half of them: of each three indexes
     in a row the first is in part 0, the second in both and the third in part 1."""
     return (3 * (number // 2) + number % 2 + part for number in range(notes))
 
 
 def half_shared_union(notes: int) -> int:
-    """How many notes the two sets have together, where the number of notes is even."""
+    """How many notes the two sets have together, if the number of notes is even."""
     return notes + notes // 2

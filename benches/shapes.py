@@ -1,4 +1,4 @@
-"""Files in shapes that cost the product of two counts where each view looks over all packets, each of a stated count.
+"""Files in shapes that cost the product of two counts if each view looks over all packets, each of a stated count.
 
 All bytes are the same in each run. `SHAPES` names them, with the question that the program is asked of each.
 """
@@ -76,21 +76,21 @@ def far(count: int) -> list[bytes]:
 
 
 def random_indexes(count: int) -> list[bytes]:
-    """A header partition, so many essence packets, and as many random index packs that list the partition."""
+    """A header partition, `count` essence packets, and as many random index packs that list the partition."""
     essence = essence_packet(b"")
     index = laid("rip 0:0")
     return [pack(0, 0, 0) + essence * count + index * count]
 
 
 def tags(count: int) -> list[bytes]:
-    """A primer pack of so many entries, and a set of as many items."""
+    """A primer pack of `count` entries, and a set of as many items."""
     entries = primer(count)
     items = laid("raw-set " + " ".join(f"{tag:04X}=" for tag in range(count)))
     return [pack(0, 0, 0, len(entries) + len(items)) + entries + items]
 
 
 def references(count: int) -> list[bytes]:
-    """A Preface that names so many identifications, which are all held."""
+    """A Preface that names `count` identifications, which are all held."""
     storage = f"{2**100:032X}"
     preface = laid(f"preface 3C0A={2**101:032X} 3B03={storage} 3B06={names(range(count))}")
     sets = b"".join(identification(number) for number in range(count))
@@ -99,7 +99,7 @@ def references(count: int) -> list[bytes]:
 
 
 def named(count: int) -> list[bytes]:
-    """A content storage of so many references, which all name one package of sixty times as many items."""
+    """A content storage of `count` references, which all name one package of sixty times as many items."""
     preface = laid(f"preface 3C0A={1:032X} 3B03={2:032X} 3B06={names([])}")
     storage = laid(f"content-storage 3C0A={2:032X} 1901={names([3] * count)}")
     items = " ".join(f"{0x8000 + number % 0x4000:04X}=" for number in range(60 * count))
@@ -119,13 +119,13 @@ def disputed(count: int) -> list[bytes]:
 
 
 def reading(count: int, number: int) -> list[bytes]:
-    """One of several readings of so many identifications, which differ in all of them."""
+    """One of several readings of `count` identifications, which differ in all of them."""
     front = identification(0)[:-16]
     return [front + (2**64 * number + place).to_bytes(16, "big") for place in range(count)]
 
 
 def noted(parts: Iterable[bytes]) -> list[notes.Note]:
-    """The notes of packets that stand one behind the other from 0 on, each with its length in four bytes."""
+    """The notes of packets that stand one after the other from 0 on, each with its length in four bytes."""
     found, offset = [], 0
     for part in parts:
         found.append(notes.whole(offset, part[:16], 4, part[20:]))
@@ -145,7 +145,7 @@ def contents_beside(count: int) -> list[list[notes.Note]]:
 
 
 def unit_packets(count: int) -> list[bytes]:
-    """A file of so many edit units, each an essence packet, with their index."""
+    """A file of `count` edit units, each an essence packet, with their index."""
     segment = laid(f"segment duration={count} unit-bytes={UNIT}")
     footer = 2 * PACK + count * UNIT
     head = [laid(f"header footer={footer}"), laid(f"body footer={footer} body-sid=2", PACK)]
@@ -171,7 +171,7 @@ def contents_of_units(count: int) -> list[list[notes.Note]]:
 
 
 def listed(count: int) -> list[bytes]:
-    """So many segments that list 250 edit units each, one behind the other, behind a body partition and the first packet
+    """`count` segments that list 250 edit units each, one after the other, after a body partition and the first packet
     of its essence, so that each unit is looked for in the file."""
     parts = [pack(0, 0, 0), pack(1, PACK, 0, body_sid=2), essence_packet(VALUE)]
     for number in range(count):
@@ -185,7 +185,7 @@ def listed(count: int) -> list[bytes]:
 class Shape:
     """What the counts are of, what is asked, the least count, and what makes the pieces, which all begin at 0. Of a
     verification also what makes the contents of saved catalogues, the first of which is the reference and the others
-    are sources behind the pieces, and the options."""
+    are sources after the pieces, and the options."""
 
     unit: str
     question: str
@@ -214,7 +214,7 @@ SHAPES = {
 
 
 def write_shape(name: str, count: int, folder: Path) -> list[str]:
-    """Writes the pieces and catalogues of a shape, and answers the words that name them behind the question."""
+    """Writes the pieces and catalogues of a shape, and answers the words that name them after the question."""
     shape = SHAPES[name]
     sources = []
     for number, piece in enumerate(shape.pieces(count)):

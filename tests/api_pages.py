@@ -1,7 +1,7 @@
 #!/usr/bin/env python3
 """Writes docs/api from the sources: a page for each library, and README.md, which lists them.
 
-A library is a crate of crates.txt of which src/lib.rt passes items on. Its page has the comment of the crate, then each
+A library is a crate of crates.txt whose src/lib.rt passes items on. Its page has the comment of the crate, then each
 item that lib.rt passes on: types, functions, traits and constants, and apart from them the laws. A law is a function
 that takes nothing and answers nothing. Of ghost code nothing is shown but the names of clauses.
 

@@ -134,7 +134,7 @@ class Content:
         self.claims = sorted(self.all_claims(), key=lambda claim: (REASONS.index(claim[0]), -1 if claim[1] is None else claim[1]))
 
     def random_index(self):
-        """The only random index pack, where it can be read, and where the file ends, where that is known."""
+        """The only random index pack, if it can be read, and where the file ends, if that is known."""
         packs = [note for note in self.undisputed if note.is_whole and RIP.fullmatch(note.key.hex())]
         if len(packs) != 1:
             return None, None
@@ -149,8 +149,8 @@ class Content:
         return offset < notes.GREATEST_END and (self.end is None or offset < self.end)
 
     def stretch(self, start, count, begins):
-        """The stretch that counts so many bytes from the first packet behind fills on: its end, and whether that isn't known;
-        None where another packet stands there."""
+        """The stretch of `count` bytes from the first packet after fills on: its end, and whether that isn't known;
+        None if another packet stands there."""
         at = start
         while at in self.alone and FILL.fullmatch(self.alone[at].key.hex()):
             at = self.alone[at].end
@@ -202,14 +202,14 @@ class Content:
 
 
 def begins_metadata(first):
-    """Whether header metadata begin with the packet: a primer pack, which can be read where it is whole."""
+    """Whether header metadata begin with the packet: a primer pack, which can be read if it is whole."""
     if not PRIMER.fullmatch(first.key.hex()):
         return False
     return not first.is_whole or notes.is_kept(first.key, first.length) and is_batch(first.held, 18)
 
 
 def is_crossed(starts, head):
-    """Whether one of these notes begins behind the head's offset and below its end."""
+    """Whether one of these notes begins after the head's offset and below its end."""
     at = bisect.bisect_right(starts, head.offset)
     return at < len(starts) and starts[at] < head.end
 
@@ -238,7 +238,7 @@ def after_round(content, hand):
 
 
 def put_together(content, hand):
-    """The content of which packets were put together, in so many rounds at most, and how many of them changed it."""
+    """The content after packets were put together, in ROUNDS rounds at most, and how many rounds changed it."""
     for count in range(ROUNDS):
         after = after_round(content, hand)
         if after == content:

@@ -67,7 +67,7 @@ OPTIONS = {
     "map": ("--columns", "--rows"),
     "verify": ("--index", "--from", "--to"),
 }
-# What is told of bytes at hand too, which a saved catalogue hasn't.
+# What is said of bytes at hand too, which a saved catalogue hasn't.
 OF_BYTES = ("plan", "map", "units")
 NAME = re.compile(r'\{"line":"([^"]*)"')
 
@@ -92,7 +92,7 @@ def with_characters(line):
 
 
 class Command:
-    """A command, the words that choose among its lines, the lines that are wanted, what it tells, and its status."""
+    """A command, the words that choose among its lines, the lines that are wanted, what it says, and its status."""
 
     def __init__(self, words, is_json):
         self.name = words[0]
@@ -262,7 +262,7 @@ def bytes_of(laid):
 
 
 def notes_of(offset, laid, sort):
-    """The notes of a piece: of the packets that were laid in it, and of what the bytes behind them begin. Those of a
+    """The notes of a piece: of the packets that were laid in it, and of what the bytes after them begin. Those of a
     range are read."""
     if sort == "range":
         found, heads, _ = notes.read_range(offset, bytes_of(laid))
@@ -313,7 +313,7 @@ class Run:
         return f"cat:{path}", path.read_bytes()
 
     def wrong(self, case):
-        """What is wrong with a case, as lines; none where it prints what is wanted."""
+        """What is wrong with a case, as lines; none if it prints what is wanted."""
         orders = [self.sources(case.pieces)]
         if case.in_each_order:
             orders = [list(order) for order in itertools.permutations(orders[0])]
@@ -330,7 +330,7 @@ class Run:
         return lines
 
     def wrong_beside(self, case, sources):
-        """The same for sources beside the reference, and beside its catalogue where no stop is wanted."""
+        """The same for sources beside the reference, and beside its catalogue if no stop is wanted."""
         verified = [command for command in case.commands if command.name == "verify"]
         if not verified:
             return []
@@ -387,7 +387,7 @@ def worked_in_crates():
 
 
 def wrong_in_the_cases(files, cases):
-    """What is wrong with the cases themselves, each as lines: worked files of other bytes, and forms that none wants."""
+    """What is wrong with the cases themselves, each as lines: worked files of other bytes, and forms none wants."""
     for path, name, data in worked_in_crates():
         if data != bytes_of(files[name]):
             yield [f"{path.relative_to(CRATES)}: {name} has other bytes than in files.txt"]
@@ -442,7 +442,7 @@ def asked_of_files():
 
 
 def asked_of_one_piece(files, word):
-    """The same of the cases of one piece whose name has the word, where the whole answer is wanted."""
+    """The same of the cases of one piece whose name has the word, if the whole answer is wanted."""
     for number, case in enumerate(all_cases(files)):
         if word not in case.name or len(case.pieces) != 1 or case.pieces[0][2] != "at" or case.at_hand:
             continue

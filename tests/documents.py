@@ -1,8 +1,8 @@
 #!/usr/bin/env python3
 """Looks up each link of the documents: the file is there, and has the heading that the link names. Looks up each test
 and case that is named: `crate::module::test`, `cases/TOPIC: NAME` or `end_to_end.d/TOPIC: NAME`; and `crate: NAME`, the
-heading `# NAME` of rows in the `stdin` and `stdout` of a program. Where a link is to a source and names a function or a
-type, that is there, and the function has the clauses that stand in parentheses behind the link. Sees that each line of a
+heading `# NAME` of rows in the `stdin` and `stdout` of a program. If a link is to a source and names a function or a
+type, that is there, and the function has the clauses that stand in parentheses after the link. Sees that each line of a
 block that names a file of crates/ stands in it. Sees that each row of a table stands in a table, which an empty line
 would end, and that the numbers of tests, edits, runs and files that a document gives are those of the scripts and
 crates. Sees that each row of docs/PROMISES.md names a clause or what tries it, and that its list has each public call
@@ -72,7 +72,7 @@ def verdicts_of_links(document):
 
 
 def text_of(file):
-    """The text of a file, which is empty where there is none."""
+    """The text of a file, which is empty if there is none."""
     return file.read_text(encoding="utf-8") if file.exists() else ""
 
 
@@ -264,8 +264,8 @@ TRIED_BY = re.compile(r"(?:tests|benches|crates)/[\w./]*\w|mxf_\w+(?:::\w+)*|\(#
 
 
 def second_cells(document):
-    """The second cells of all rows of tables: the line of each, the heading above it, and its text. That of a heading has
-    no text."""
+    """The second cells of all rows of tables: the line of each, the heading above it, and its text. That of a heading
+    has no text."""
     heading = None
     for number, line in enumerate(lines_of(document), 1):
         cells = [cell.strip() for cell in line.split("|")[1:-1]]
@@ -298,8 +298,8 @@ PROMISED = {"Carried by": fault_of_promise, "Tried by": fault_of_trial, "Field o
 
 
 def verdicts_of_promises(document):
-    """For each table of docs/PROMISES.md: that nobody knows its second heading, or None. For each of its rows that has a
-    promise: its line, what carries it, and why nothing does, or None."""
+    """For each table of docs/PROMISES.md: that nobody knows its second heading, or None. For each of its rows that has
+    a promise: its line, what carries it, and why nothing does, or None."""
     for number, heading, cell in second_cells(document) if document.name == "PROMISES.md" else ():
         fault_of = PROMISED.get(heading)
         if cell is None:
@@ -374,7 +374,7 @@ NUMBERS = (
 
 
 def verdicts_of_numbers(document):
-    """For each number of the document that a script or a crate has: its line, the words, and that it isn't that, or None."""
+    """For each number of the document that a script or crate has: its line, the words, and that it differs, or None."""
     for name, pattern, count in NUMBERS:
         for number, line in enumerate(lines_of(document) if document == TOP / name else (), 1):
             for found in re.finditer(pattern, line):
@@ -390,7 +390,7 @@ def verdicts_of_api(document):
         yield 1, "the page", fault
 
 
-# A name of code in a document: in small letters with a `_`, or with a capital letter within. A crate that isn't used has one.
+# A name of code in a document: in small letters with a `_`, or with a capital letter within. An unused crate has one.
 NAME_OF_CODE = re.compile(r"\b(?!serde_json\b)(?:[a-z]+_\w+|[A-Z]+[a-z]\w*[A-Z]\w*)\b")
 
 

@@ -43,7 +43,7 @@ GREATEST_RATIO = 2.5
 # Seconds of processor time that a busy machine adds to a run: a ratio doesn't count them.
 NOISE = 0.05
 # How many copies of an example are sources of one run, a flipped bit in each, and how many bytes of it are tried so
-# where not all are.
+# if not all are.
 BESIDE = 64
 FLIPPED = 40
 
@@ -56,7 +56,7 @@ def fronts_of(data, step):
 
 
 def share_of(lengths, share):
-    """Every so manieth of these lengths, from one of them on."""
+    """Every `shares`-th of these lengths, from number `first` on."""
     first, shares = share
     return sorted(lengths)[first::shares]
 
@@ -95,7 +95,7 @@ def try_cuts(run, name, step, share):
 
 
 def try_saved_fronts(run, name, step, share):
-    """Tries fronts of a saved catalogue, every `step` bytes and beside each note, of these a share: but the last they
+    """Tries fronts of a saved catalogue, every `step` bytes and beside each note, of these a share: all but the last
     are refused."""
     data, at = (TOP / name).read_bytes(), 16
     borders = [at]
@@ -116,8 +116,8 @@ def flipped(data, at):
 
 def flips_told(content, places):
     """What `verify` prints of copies of what these notes are of, in each of which a bit is flipped in the byte at one of
-    these places: the packet that has it differs. Every other one is the same, and it is where a copy has no bit of it
-    flipped."""
+    these places: the packet that has it differs. Every other one is the same, and so is that one if a copy has no bit
+    of it flipped."""
     hit = [next(note for note in content if note.offset <= at < note.covered_end) for at in places]
     yield from (f"differs {number} {notes.shown_note(note)}" for number, note in enumerate(hit, 1))
     same = [note for note in content if set(hit) != {note}]
@@ -126,8 +126,8 @@ def flips_told(content, places):
 
 
 def try_flips(run, name, length, places, beside):
-    """Flips a bit in each of these bytes of the front of a file, in a copy of its own, and has so many copies at a time
-    verified by its catalogue."""
+    """Flips a bit in each of these bytes of the front of a file, in a copy of its own, and has `beside` copies at a
+    time verified by its catalogue."""
     data = (TOP / name).read_bytes()[:length]
     content = notes.reduced(read_source(0, data)[0])
     saved = run.lay("saved", [(None, notes.file_of(content))])
@@ -142,7 +142,7 @@ def try_flips(run, name, length, places, beside):
 
 
 def seconds_of(run, shape, sources, size):
-    """The processor time of each question about sources of so many bytes in a shape."""
+    """The processor time of each question about sources of `size` bytes in a shape."""
     joined = str(run.folder / "joined")
     asked = {"show": [], "check": [], "locate": ["--index", "1", "--unit", "0"], "join": ["--out", joined]}
     if shape in (listed_units, named_partitions):
@@ -153,7 +153,7 @@ def seconds_of(run, shape, sources, size):
 
 
 def try_doubled(run, shape, many, seed):
-    """Compares a file of a shape with one of twice as many. Where the machine is busy a run takes more processor time
+    """Compares a file of a shape with one of twice as many. If the machine is busy, a run takes more processor time
     too, so what takes too much is run again, and the least times count."""
     files = [shape(random.Random(seed), times * many) for times in (1, 2)]
     laid = [(run.lay(f"times{times}.", pieces), sum(len(data) for _, data in pieces)) for times, pieces in enumerate(files)]
@@ -195,7 +195,7 @@ def parts(count, first):
         length = path.stat().st_size
         if is_long or path.stem == "M":
             yield f"flipped bits of {path.name}", try_flips, name, length, range(length), 1
-    # M is cut behind the length of its footer, of which there is a head.
+    # M is cut after the length of its footer, of which there is a head.
     yield "flipped bits of a front of M", try_flips, "tests/worked/M.bin", 128, range(128), 1
     for path in sorted((TOP / "examples").glob("*.mxf")):
         name, length = f"examples/{path.name}", path.stat().st_size
@@ -211,7 +211,7 @@ def parts(count, first):
 
 
 def tried_all(program, count, first):
-    """What was tried, as many parts at a time as there are processors. Of many files it tells each twentieth part."""
+    """What was tried, as many parts at a time as there are processors. Of many files it reports each twentieth part."""
     found, wanted = [], list(parts(count, first))
     with concurrent.futures.ProcessPoolExecutor(os.cpu_count()) as pool:
         for done in concurrent.futures.as_completed([pool.submit(tried, program, *part) for part in wanted]):

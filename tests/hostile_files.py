@@ -1,6 +1,6 @@
 """Hostile files, made from a seed each. A shape is a function that makes the pieces of one: each an offset and bytes; a
-saved catalogue has None for an offset, a range a RangeOffset. A shape of many alike takes how many there are, so that it can be made twice as
-large.
+saved catalogue has None for an offset, a range a RangeOffset. A shape of many alike takes how many there are, so that
+it can be made twice as large.
 """
 import pathlib
 import random
@@ -167,8 +167,8 @@ def segments_of_a_unit(rng, many=None):
 
 
 def listed_units(rng, many=None):
-    """A body partition, the first packet of its essence, and index table segments that list 25 units each, one behind the
-    other, at times each twice or the last ones first."""
+    """A body partition, the first packet of its essence, and index table segments that list 25 units each, one after
+    the other, at times each twice or the last ones first."""
     many = many or rng.choice((2, 20, 400))
     each, step = rng.choice((1, 2)), rng.choice((1, -1))
     offsets = [",".join(str(100 * unit) for unit in range(25 * n, 25 * n + 25)) for n in range(many // each)]
@@ -296,13 +296,13 @@ def fronts_of_packets(rng):
 
 
 def noise(rng):
-    """Labels, and bytes without a meaning behind them."""
+    """Labels, and bytes without a meaning after them."""
     parts = [bytes.fromhex("060E2B34") + some_bytes(rng, 60) for _ in range(rng.randint(1, 10))]
     return [(rng.choice(STARTS), b"".join(parts))]
 
 
 def labels_that_fail(rng, many=None):
-    """A range of labels at which no piece begins, each for a cause of its own, and at times packets behind them."""
+    """A range of labels at which no piece begins, each for a cause of its own, and at times packets after them."""
     many = many or rng.choice((1, 50, 5000))
     fill, element = packets.digits(packets.KEYS["fill"]), packets.digits("060E2B34 01010101 05060708 090A0B0C")
     failing = [fill[:4], fill + b"\1\0\0", fill + b"\x80", fill + b"\x88" + b"\x7F" * 8, element + b"\0", element + b"\1\0"]
@@ -322,7 +322,7 @@ def ranges(rng):
 
 
 def differing_ranges(rng, many=None):
-    """Ranges over one another that differ at many places, near one another or not, behind a damaged label; at times many
+    """Ranges over one another that differ at many places, near one another or not, after a damaged label; at times many
     ranges."""
     places, step = many or rng.choice((1, 40, 600)), rng.choice((1, 60, 511, 512, 513, 700))
     data = bytearray(laid(["header footer=628"] + ["essence 480"] * (places * step // 500 + 2)))
@@ -354,8 +354,8 @@ def heads_over_bytes(rng, many=None):
 
 
 def named_one_by_one(rng, many=None):
-    """A range of partition packs that each name the one behind, with zeros between, so that a round finds one; and a random
-    index pack that names places where none stands."""
+    """A range of partition packs that each name the next one, with zeros between, so that a round finds one; and a
+    random index pack that names places where none stands."""
     many, step = many or rng.choice((3, 63, 64, 65, 300)), rng.choice((110, 200))
     packs = [laid_at(f"{'body' if n else 'header'} footer={step * (n + 1)}", step * n).ljust(step, b"\0") for n in range(70)]
     end = 70 * step + 2 * many
@@ -412,8 +412,8 @@ def pieces_of(number):
     rng = random.Random(number)
     return SHAPES[number % len(SHAPES)](rng)
 
-# How many alike a shape has, where it is compared with itself doubled: as many as tell a square from n log n, and no
-# more than one value has room for.
+# How many alike a shape has when it is compared with itself doubled: as many as tell a square apart from n log n, and
+# no more than one value has room for.
 MANY = {
     counts: 10000, items: 5000, packs_that_name: 10000, circles: 5000, zones: 5000, copies: 5000,
     random_indexes: 10000, segments_of_a_unit: 10000, listed_units: 1000, named_partitions: 20000, long_primer: 32000, long_batches: 2000, named_by_all: 2000, named_by_turns: 1000,

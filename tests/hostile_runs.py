@@ -30,7 +30,7 @@ def read_source(offset, data):
 
 def held_of(pieces):
     """What pieces, ranges and saved catalogues hold together, what is at hand of them, and how many rounds of putting packets
-    together changed something: only where one of them is a range are bytes at hand."""
+    together changed something: bytes are at hand only if one of them is a range."""
     content = notes.reduced(note for piece in pieces for note in read_source(*piece)[0])
     is_in_ranges = any(isinstance(offset, RangeOffset) for offset, _ in pieces)
     hand = at_hand.AtHand([piece for piece in pieces if piece[0] is not None] if is_in_ranges else [])
@@ -38,12 +38,12 @@ def held_of(pieces):
 
 
 def seconds_for(size):
-    """The bound of processor time of a run on so many bytes."""
+    """The bound of processor time of a run on `size` bytes."""
     return 0.5 + 4e-7 * size * math.log2(size + 2)
 
 
 def memory_for(size):
-    """The bound of address space of a run on so many bytes."""
+    """The bound of address space of a run on `size` bytes."""
     return 8 * MEBIBYTE + 40 * size
 
 
@@ -69,7 +69,7 @@ class Run:
         return self.runs, self.fronts, self.flips, self.slowest, self.ratio
 
     def lay(self, name, pieces):
-        """Lays pieces down, and tells their sources."""
+        """Lays pieces down, and answers their sources."""
         sources = []
         for number, (offset, data) in enumerate(pieces):
             path = self.folder / f"{name}{number}"
@@ -79,9 +79,9 @@ class Run:
         return sources
 
     def call(self, statuses, size, *words):
-        """Runs the program within its bounds, and tells what it printed. `size` bytes are in its sources.
+        """Runs the program within its bounds, and answers what it printed. `size` bytes are in its sources.
 
-        Where the machine is busy a run takes more processor time too, so one that takes too much is run again.
+        If the machine is busy, a run takes more processor time too, so one that takes too much is run again.
         """
         for wait in (1, 2, 4, 8, 0):
             printed, seconds = self.call_once(statuses, size, *words)
@@ -111,7 +111,7 @@ class Run:
         return out.read_text(), seconds
 
     def joined(self, size, sources):
-        """The catalogue that is saved of these sources, and the line that tells of it."""
+        """The catalogue that is saved of these sources, and the line that reports it."""
         path = self.folder / "joined"
         line = self.call((0,), size, "join", "--out", str(path), *sources)
         return path.read_bytes(), line
@@ -173,14 +173,14 @@ def finds(checked, content):
 
 def orders(planned, content, hand):
     """Whether a plan's last line counts its orders, and these have all bytes of the gaps of these notes below the end that
-    aren't at hand. Where bytes are at hand, they are the orders of at_hand.py."""
+    aren't at hand. If bytes are at hand, they are the orders of at_hand.py."""
     if hand.runs and [line for line in planned if line.startswith("restore ")] != at_hand.orders(content, hand):
         return False
     *lines, last = (line.split(" ") for line in planned)
     ordered = sorted((int(words[1]), 2**64 if words[2] == "-" else int(words[2])) for words in lines if words[0] == "restore")
     if last[:1] + last[2:3] != ["planned", "ranges"] or int(last[1]) != len(ordered):
         return False
-    # Where orders lie over one another, bytes up to the greatest end so far are ordered.
+    # If orders lie over one another, bytes up to the greatest end so far are ordered.
     ends = itertools.accumulate((end for _, end in ordered), max)
     ordered = [(start, end) for (start, _), end in zip(ordered, ends)]
     end = 2**64 if last[8] == "-" else int(last[8])
@@ -189,8 +189,8 @@ def orders(planned, content, hand):
 
 
 def orders_of_units(planned, content, hand):
-    """Whether a plan for units tells of these last, and no byte of a range that it orders of them is held by these notes, or
-    at hand."""
+    """Whether a plan for units reports these last, and no byte of a range that it orders of them is held by these
+    notes, or at hand."""
     *lines, _, last = [line.split(" ") for line in planned]
     there = at_hand.Ranges(notes.held_by(content) + hand.hand.ranges)
     ordered = [(int(words[1]), None if words[2] == "-" else int(words[2])) for words in lines if words[3] == "unit"]
@@ -206,8 +206,8 @@ def is_within(start, stop, ranges):
 
 
 def pictures(pictured, content, hand):
-    """Whether a map's first line tells how many bytes of these notes are held, how many others are at hand below its end,
-    and how many notes are disputed."""
+    """Whether a map's first line says how many bytes of these notes are held, how many others are at hand below its
+    end, and how many notes are disputed."""
     words = pictured[0].split(" ")
     held = max((note.end for note in content), default=0) - sum(stop - start for start, stop in notes.gaps(content))
     free = at_hand.Ranges((note.offset, note.covered_end) for note in content).lacking(0, int(words[1]))
@@ -274,7 +274,7 @@ def try_other_order(run, rng, pieces, wanted):
 
 
 def try_again(run, rng, pieces, wanted, is_closed):
-    """Joins ranges in another order, some of them twice, and where that is closed with what was saved of them: the
+    """Joins ranges in another order, some of them twice, and if that is closed with what was saved of them: the
     catalogue has to be the one that is wanted."""
     sources = run.lay("again", pieces)
     sources += rng.sample(sources, rng.randint(0, len(sources)))
@@ -329,7 +329,7 @@ def try_verified(run, rng, pieces):
 
 
 def disordered(rng, content, version=notes.CURRENT):
-    """The file of these notes where something is put in, exchanged or stated that may not be there: a mark too, which
+    """The file of these notes, with something put in, exchanged or stated that may not be there: a mark too, which
     version 1 doesn't have."""
     content, mark = list(content), None
     at = rng.randrange(len(content) or 1)

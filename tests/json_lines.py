@@ -87,7 +87,7 @@ def line_of(text):
 
 
 def text_of(command, text, width):
-    """The text of a line of a command. The offsets of the rows of a map have so many characters."""
+    """The text of a line of a command. The offsets of the rows of a map have `width` characters."""
     line = line_of(text)
     for form in FORMS:
         if form.command == command and form.fits(line):

@@ -47,7 +47,7 @@ class Note(NamedTuple):
 
     @property
     def covered_end(self):
-        """Where the bytes end that are held of it: behind the packet, and behind the length of a head."""
+        """Where the bytes end that are held of it: after the packet, and after the length of a head."""
         return self.end if self.is_whole else self.offset + 16 + self.width
 
     @property
@@ -56,7 +56,7 @@ class Note(NamedTuple):
         return self._replace(is_whole=False, held=b"")
 
     def saved(self, version=CURRENT):
-        """Its bytes in a catalogue file of this version. Of a head, which version 1 can't have, these are the fields alone."""
+        """Its bytes in a catalogue file of this version. A head, which version 1 can't have, has the fields alone."""
         numbers = self.offset.to_bytes(8, "big") + self.key + bytes([self.width]) + self.length.to_bytes(8, "big")
         mark = b"" if version == 1 else b"\0" if self.is_whole else b"\1"
         return numbers + mark + self.held
@@ -102,7 +102,7 @@ def read_piece(offset, data):
 
 
 def may_begin(offset, window, at):
-    """Whether a piece may begin at a position of a window: a packet of a kind, or of the groups registry, and behind it
+    """Whether a piece may begin at a position of a window: a packet of a kind, or of the groups registry, and after it
     a label, as far as the window has bytes."""
     key, rest = window[at : at + 16], window[at + 16 : at + 25]
     if len(key) < 16 or key[:4] != LABEL or rest[:1] == b"" or rest[0] == 0x80 or rest[0] > 0x88:
@@ -140,7 +140,7 @@ def reduced(notes):
 
 
 def file_start(count, version=CURRENT):
-    """What a catalogue file of this version has ahead of so many notes."""
+    """What a catalogue file of this version has ahead of `count` notes."""
     return MAGIC + bytes([version]) + count.to_bytes(8, "big")
 
 
@@ -157,7 +157,7 @@ def can_be(offset, key, width, length, mark):
 
 
 def read_note(data, at, version):
-    """The note that stands at this place of a file and how many bytes it has, or else what is at fault."""
+    """The note that stands at this place of a file and how many bytes it has, or what is at fault."""
     begins = at + FIXED[version]
     fixed = data[at:begins]
     if len(data) < begins:
@@ -196,7 +196,7 @@ def read_file(data):
 
 
 def disputed(notes):
-    """Which of these sorted notes share a byte with another, by their places: a head claims all of its packet's bytes."""
+    """Which of these sorted notes share a byte with another, by their places: a head claims all bytes of its packet."""
     found, reach = set(), 0
     for at, note in enumerate(notes):
         if note.offset < reach:
@@ -353,7 +353,7 @@ def shown_note(note):
 
 
 def verify_lines(reference, sources):
-    """What `verify` prints of sources beside a reference, behind the lines of stops: with `..` for the word of a kind."""
+    """What `verify` prints of sources beside a reference, after the lines of stops, with `..` for a kind's word."""
     crowded = {note for note in (reference[at] for at in disputed(reference)) if note.is_whole and not is_kept(note.key, note.length)}
     told = [source.tell(reference, crowded) for source in sources]
     for number, (_, differs) in enumerate(told, 1):

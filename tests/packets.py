@@ -26,7 +26,7 @@ KEYS = {
 # Byte 15 of a partition pack's key.
 STATUSES = {"open-incomplete": 1, "closed-incomplete": 2, "open-complete": 3, "closed-complete": 4}
 
-# The numbers of a partition pack: name, bytes, and the value where a case states none ("this": where the packet
+# The numbers of a partition pack: name, bytes, and the value if a case states none ("this": where the packet
 # stands).
 PARTITION = [
     ("major", 2, "1"),
@@ -43,7 +43,7 @@ PARTITION = [
 ]
 OP1A = "060E2B34 04010101 0D010201 01010100"
 
-# The items of an index table segment: name, tag, bytes of each number, and the value where a case states none.
+# The items of an index table segment: name, tag, bytes of each number, and the value if a case states none.
 SEGMENT = [
     ("rate", "3F0B", 4, "25/1"),
     ("start", "3F0C", 8, "0"),
@@ -55,7 +55,7 @@ SEGMENT = [
     ("positions", "3F0E", 1, "0"),
 ]
 
-# The one entry of a primer pack where a case states none: the tag 8001 has a label of sixteen bytes AA.
+# The one entry of a primer pack if a case states none: the tag 8001 has a label of sixteen bytes AA.
 PRIMER_ENTRY = ("8001", "AA*16")
 
 # A tag, as it stands before the value of an item.
@@ -67,7 +67,7 @@ class Mistake(Exception):
 
 
 def number(text, size):
-    """A number of so many bytes, the highest first."""
+    """A number of `size` bytes, the highest first."""
     return int(text).to_bytes(size, "big", signed=text.startswith("-"))
 
 
@@ -116,7 +116,7 @@ def rip_value(entries, stated, width):
 
 def segment_value(stated):
     """The value of an index table segment. `-` leaves an item out; `entries=` are stream offsets. Before each stand
-    three bytes, as `0000C0@120` states them or zeros, behind it four bytes 09 for each slice, and eight bytes 08 for
+    three bytes, as `0000C0@120` states them or zeros, after it four bytes 09 for each slice, and eight bytes 08 for
     each position table."""
     slices, positions = (int(stated.get(name, "0").replace("-", "0")) for name in ("slices", "positions"))
     after = bytes([9] * 4 * slices + [8] * 8 * positions)
@@ -142,7 +142,7 @@ def set_value(items):
 
 
 def length_field(width, length):
-    """A length in so many bytes: one byte up to 7F, or 80 + n and n bytes."""
+    """A length in `width` bytes: one byte up to 7F, or 80 + n and n bytes."""
     if width == 1:
         return number(str(length), 1)
     return number(str(0x80 + width - 1), 1) + number(str(length), width - 1)
@@ -176,8 +176,8 @@ def packet(line, offset):
 
     TAG=BYTES is an item of a set or an entry of a primer pack, BODYSID:OFFSET an entry of a random index pack, a bare
     number the length of a fill's or an essence packet's value, all zeros. Of any packet can be stated: `width=` bytes
-    of the length field (4), `key=` another key, `status=` of a partition, `value=` its whole value, `cut=` so many
-    bytes off the end of that; and `front=` or `back=` so many of its first or last bytes that are there, where the
+    of the length field (4), `key=` another key, `status=` of a partition, `value=` its whole value, `cut=` the
+    number of bytes off the end of that; and `front=` or `back=` how many of its first or last bytes are there, if the
     packet itself is cut.
     """
     name, *words = line.split()

@@ -1,9 +1,9 @@
 // Refuses calls of the program that this library is loaded ahead of. REFUSED_CALL says which: growth (of memory), read,
-// write, open, look (at a file), lock, permissions, sync or rename. Refused is the one whose number, counted from 1, is in REFUSED_AT, or
-// that one and all later ones where it is in REFUSED_FROM; the first ones, as interrupted, up to the number in
-// INTERRUPTED. Of byte-read and byte-written the byte of that number and all later ones can't be moved, standard error
-// aside. Where REFUSED_LOG names a descriptor, a byte is written to it for each. ONE_BYTE has each read and write move
-// one byte at most. The scripts build it where there is a C compiler.
+// write, open, look (at a file), lock, permissions, sync or rename. The one whose number, counted from 1, is in
+// REFUSED_AT is refused, or that one and all later ones if it is in REFUSED_FROM; the first ones, as interrupted, up to
+// the number in INTERRUPTED. Of byte-read and byte-written the byte of that number and all later ones can't be moved,
+// standard error aside. If REFUSED_LOG names a descriptor, a byte is written to it for each. ONE_BYTE has each read and
+// write move one byte at most. The scripts build it if there is a C compiler.
 #define _GNU_SOURCE
 #include <errno.h>
 #include <fcntl.h>
@@ -39,7 +39,7 @@ static int is_refused(const char *call, int fault) {
   return log_refusal(fault);
 }
 
-// How many of so many bytes may be moved behind those that were.
+// How many of `size` bytes may be moved after those that were.
 static size_t room(const char *call, size_t size, long moved) {
   const char *named = getenv("REFUSED_CALL");
   size_t most = size > 1 && getenv("ONE_BYTE") != NULL ? 1 : size;

@@ -42,7 +42,7 @@ class Table:
 
 
 class Page(html.parser.HTMLParser):
-    """What a page has: its tables, the words that are seen, what is told on hovering, and what is wrong with its form."""
+    """What a page has: its tables, the words seen, what is shown on hovering, and what is wrong with its form."""
 
     def __init__(self, text):
         super().__init__(convert_charrefs=True)
@@ -278,7 +278,7 @@ def differences_of_units(page, told, span):
 
 
 def differences_of_reference(page, told, against):
-    """How what is told beside a reference differs."""
+    """How what is reported beside a reference differs."""
     if not against:
         return
     lines = told.lines("verify", *against)

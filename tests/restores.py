@@ -57,7 +57,7 @@ class Restore:
         return [line for line in lines if line["line"] == "restore"]
 
     def end_of(self, order):
-        """Where the bytes of an order end; where that isn't known, where a source goes on behind the first that is lost."""
+        """Where the bytes of an order end; if that isn't known, where a source goes on after the first that is lost."""
         if order["end"] is not None:
             return order["end"]
         at = order["start"]

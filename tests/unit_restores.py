@@ -26,7 +26,7 @@ import packets
 from restores import TOP, Restore, Wrong
 
 FRONT = 65536
-# The least size of a made file of which is counted what is restored.
+# The least size of a made file for which what is restored is counted.
 LARGE = 400000
 # More rounds than any of these restores takes.
 MOST_ROUNDS = 16
@@ -70,7 +70,7 @@ def sized(lines):
 
 
 def segment_of(first, offsets, pictures):
-    """The index table segment of units from one on: their stream offsets, behind their key frames."""
+    """The index table segment of units from one on: their stream offsets, after their key frames."""
     entries = ",".join(f"00{-((first + n) % pictures) % 256:02X}00@{offset}" for n, offset in enumerate(offsets))
     return f"segment start={first} duration={len(offsets)} entries={entries}"
 
@@ -93,7 +93,7 @@ def made(rng, kind):
 
 
 def laid_out(rng, kind, counts, sizes, pictures, footer):
-    """The packets of a recording, where its footer stands at an offset, and where its units begin and end."""
+    """The packets of a recording whose footer stands at `footer`, and where its units begin and end."""
     metadata = ["primer", "fill 20"]
     lines = [f"header footer={footer} header-bytes={sized(metadata)}", *metadata]
     units, partitions, at, stream, segments = [], [(0, 0)], sized(lines), 0, []
@@ -122,7 +122,7 @@ def laid_out(rng, kind, counts, sizes, pictures, footer):
 
 
 def example(program, name, last):
-    """A recording of examples/, its units up to the last one as the whole file tells them."""
+    """A recording of examples/, its units up to the last one as the whole file gives them."""
     data = (TOP / "examples" / name).read_bytes()
     with tempfile.TemporaryDirectory() as folder:
         restore = Restore(program, folder, data)
@@ -158,7 +158,7 @@ class UnitRestore(Restore):
         if any(size > FRONT for size in self.restored.get("front", [])):
             raise Wrong("a front is too long")
         wanted = self.recording.wanted(self.first, self.last)
-        # Where an unknown partition may lie before a unit, all of its partition's essence up to there is restored.
+        # If an unknown partition may lie before a unit, all of its partition's essence up to there is restored.
         most = sum(max(end for _, end, of in wanted if of == origin) - origin for origin in {unit[2] for unit in wanted})
         if not self.recording.in_parts and sum(self.restored.get("unit", [])) > most:
             raise Wrong("more is restored for units than they have")
