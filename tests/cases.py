@@ -33,8 +33,8 @@ A case is some lines of a text file in tests/cases. A number sign begins a comme
         LINE                           that stands there, and with the units of an index
     json show [WORD ..]                the same with `--json`; a WORD is the name of a line's form. Each command may
         LINE                           stand so
-    status N                           the status of the command above, where it isn't 0
-    told LINE                          what it says on standard error, where it says something
+    status N                           the status of the command above, if it isn't 0
+    told LINE                          what it says on standard error, if anything
 
 In a LINE `..` stands for any text, `<U+0080>` for that character, and a `$` at its end shows a space there. packets.py
 says how a PACKET is named. Each command is run on the pieces, and then on the catalogue that `join` saves of them: that

@@ -3,11 +3,11 @@
 
     tests/hostile.py PROGRAM [COUNT [FIRST]]    the files of the numbers from FIRST (0) on, COUNT of them (200), each front
                                                 of the worked files, each shape doubled, and flipped bits; above 1,000 files
-                                                it tells how far it is; the last line is 'N passed, M failed'
+                                                it says how far it is; the last line is 'N passed, M failed'
     tests/hostile.py --make NUMBER FOLDER       writes the sources of that number into the folder
 
 Of each file the program is asked everything. Each run has to end with a status that fits what was asked, within a bound
-of processor time, n log n in the bytes of its sources, and a bound of memory, linear in them. Want of memory within
+of processor time, n log n in the bytes of its sources, and a bound of memory, linear in them. Running out of memory within
 that bound fails, as does anything on standard error. What is noted, why a piece ends, what is disputed or a gap, how
 pieces with other bytes stand to a reference of some of them, and the saved catalogue are compared with those of
 notes.py, which goes by ST 336 alone, and what is put together and ordered of ranges with those of at_hand.py. Cut at
@@ -21,7 +21,7 @@ A file of a shape with many alike, and one of twice as many: no question takes m
 A file that is cut at a byte, and what begins with the packet in which that byte lies, leave its catalogue in both
 orders, as pieces and as saved catalogues.
 
-Of a file in which one bit is flipped `verify` tells the packet that has it, by the file's catalogue, and no other: of
+Of a file in which one bit is flipped `verify` names the packet that has it, by the file's catalogue, and no other: of
 each byte of M and some of the examples, above 1,000 files of each byte of the worked files and the examples.
 
 The shapes are those of hostile_files.py, the runs those of hostile_runs.py.

@@ -8,7 +8,7 @@ from the file and handed in, until it orders nothing.
 Files are the examples with an index, and made ones: partitions of one stream, with the index in the footer, in each body
 partition, of units of one size, or with none, and at times with a wrong BodyOffset. In the end all units are held or at
 hand, and with their key frames all their bytes were handed in; of a file without an index, or with a wrong BodyOffset,
-the restore ends. No byte is restored twice, and where the index lies in one place no more is restored for units than the
+the restore ends. No byte is restored twice, and if the index lies in one place no more is restored for units than the
 partitions of the wanted ones have up to the last of these.
 
 From the first and the last bytes of a recording on, an eighth of it or 65,536, what is restored has as many bytes as the
@@ -70,7 +70,7 @@ def sized(lines):
 
 
 def segment_of(first, offsets, pictures):
-    """The index table segment of units from one on: their stream offsets, after their key frames."""
+    """The index table segment of units from one on, by their stream offsets; each `pictures`-th is a key frame."""
     entries = ",".join(f"00{-((first + n) % pictures) % 256:02X}00@{offset}" for n, offset in enumerate(offsets))
     return f"segment start={first} duration={len(offsets)} entries={entries}"
 
