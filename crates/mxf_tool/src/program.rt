@@ -41,7 +41,7 @@ use mxf_read::{
 use mxf_units::{UnitRange, index_sids};
 use mxf_verify::{Readings, Renewed};
 use mxf_views::Views;
-use offsets::tell_contradicted;
+use offsets::{is_contradicted, tell_offsets};
 use refusal::RefusalHint;
 use renewing::print_renewal;
 use sources::{read_list, sources_before, sources_of, unread};
@@ -151,7 +151,7 @@ fn refused_with<R: System>(rt: &R, screen: Screen, arguments: &[String]) -> Exit
     if screen == Screen::Terminal {
         if let Some(hint) = RefusalHint::of(arguments) {
             if tell_on_screen(rt, &hint).is_err() {
-                return Exit::NoMemory;
+                return tell(rt, screen, &RunFault::OutOfMemory);
             }
         }
     }
@@ -299,7 +299,8 @@ fn told_held<'a, R: System>(
     exit: Exit,
 ) -> Result<Exit, RunFault<'a>> {
     let Gathered { views, reports } = &held.gathered;
-    if inputs.screen == Screen::Terminal && tell_contradicted(rt, inputs.sources, views).is_err() {
+    let is_wrong = inputs.screen == Screen::Terminal && is_contradicted(views);
+    if is_wrong && tell_offsets(rt, inputs.sources).is_err() {
         return Err(RunFault::OutOfMemory);
     }
     let reports = reports.as_slice();

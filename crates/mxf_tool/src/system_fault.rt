@@ -6,6 +6,9 @@ use std::{fmt, io};
 #[derive(Clone, Copy, Debug, PartialEq, Eq)]
 pub struct SystemFault(i32);
 
+/// Nothing stands at the path.
+pub const NOT_FOUND: SystemFault = SystemFault(2);
+
 /// Too many files are open.
 pub const TOO_MANY_FILES: SystemFault = SystemFault(24);
 

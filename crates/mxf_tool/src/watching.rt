@@ -83,10 +83,8 @@ fn progress_of<'a, R: Files + Eprint + Clock + AllocGlobal>(
     if !is_long(size) {
         return None;
     }
-    match text_on_screen(rt.alloc(), path) {
-        Ok(path) => Some(ReadProgress::new(rt, path, size)),
-        Err(_) => None,
-    }
+    let path = text_on_screen(rt.alloc(), path).ok()?;
+    Some(ReadProgress::new(rt, path, size))
 }
 
 impl<R: Eprint + Clock, F: Read + Drop> Read for Watched<'_, R, F> {

@@ -1,9 +1,9 @@
 //! Sources beside each other: which of them holds which note.
 use super::fault::RunFault;
+use super::telling::line_on_screen;
 use super::{Inputs, Printed, System, open_sources, print_answer, told, ungathered};
 use crate::contents::{Contents, gather_each};
 use crate::exit::Exit;
-use crate::shown::text_on_screen;
 use crate::source::Source;
 use crate::system_fault::LastFault;
 use mxf_catalogue::Catalogue;
@@ -16,10 +16,8 @@ pub fn print_beside<'a, R: System>(rt: &R, inputs: Inputs<'_, 'a>) -> Result<Exi
     let Ok(names) = names_of(rt.alloc(), inputs.sources) else {
         return Err(RunFault::OutOfMemory);
     };
-    match read_each(rt, inputs) {
-        Ok(read) => print_read(rt, inputs, &names, &read),
-        Err(fault) => Err(fault),
-    }
+    let read = read_each(rt, inputs)?;
+    print_read(rt, inputs, &names, &read)
 }
 
 /// Prints what was read of each source with these names.
@@ -44,8 +42,7 @@ fn print_read<'a, R: System>(
 fn names_of(alloc: Global, sources: &[Source<'_>]) -> Result<Vec<String>, AllocError> {
     let mut names = Vec::new(alloc);
     for source in sources {
-        let name = format!(in alloc; "{source}")?;
-        names.push(text_on_screen(alloc, name.as_str())?)?;
+        names.push(line_on_screen(alloc, source)?)?;
     }
     Ok(names)
 }

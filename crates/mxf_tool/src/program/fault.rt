@@ -12,7 +12,7 @@ use thiserror::Error;
 /// Why a run ends without its answer. It prints as its line.
 #[derive(Debug, Drop, Error)]
 pub enum RunFault<'a> {
-    /// Memory is wanting.
+    /// A growth of memory was refused.
     #[error("out of memory")]
     OutOfMemory,
     /// A number has a sign.

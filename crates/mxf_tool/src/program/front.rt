@@ -1,4 +1,4 @@
-//! What the front of a file has that begins with no packet.
+//! What the front of a file has.
 use crate::beginning::Beginning;
 use crate::contents::gather_one;
 use mxf_klv::{Kind, Stop};
@@ -7,8 +7,8 @@ use std::fs;
 use std::io::Read;
 use std::rt::Files;
 
-/// How many bytes of a file are searched for a packet.
-const SEARCHED: u64 = 33_554_432;
+/// How many bytes of a file are searched for a packet: the window of a range.
+pub const SEARCHED: u64 = 33_554_432;
 
 /// What the front of a file has.
 #[derive(Clone, Copy)]
@@ -45,7 +45,9 @@ impl Front {
             return Front::Nothing;
         }
         match gathered.views.catalogue().undisputed_at(report.offset) {
-            Some(first) if matches!(first.kind(), Kind::Header(_)) => Front::RunIn(report.offset),
+            Some(first) if report.offset > 0 && matches!(first.kind(), Kind::Header(_)) => {
+                Front::RunIn(report.offset)
+            }
             _ => Front::Midst,
         }
     }

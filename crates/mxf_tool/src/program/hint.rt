@@ -3,11 +3,11 @@ use super::fault::RunFault;
 use super::sized::SizedWord;
 use crate::beginning::Beginning;
 use crate::saving::SaveFault;
-use crate::system_fault::{SystemFault, TOO_MANY_FILES};
+use crate::system_fault::{NOT_FOUND, SystemFault, TOO_MANY_FILES};
 use std::fmt;
 
-/// What to do about a fault. Of a file that is refused as a catalogue, or of a word that names no source and a file, it
-/// is known what it begins with.
+/// What to do about a fault. Of a file that is refused as a catalogue or a list, or of a word that names no source and a
+/// file, it is known what it begins with.
 #[derive(Clone, Copy)]
 pub struct Hint<'f, 'a> {
     pub fault: &'f RunFault<'a>,
@@ -23,7 +23,9 @@ impl fmt::Display for Hint<'_, '_> {
             ),
             RunFault::Signed { .. } => f.write_str("write the number without a sign"),
             RunFault::BadLastUnit { .. } => {
-                f.write_str("ask for 1000000 units at most, and name the first by --from")
+                f.write_str(
+                    "name by --from a first unit that isn't above --to, and ask for 1000000 units at most",
+                )
             }
             RunFault::NoLastUnit => f.write_str(
                 "no segment that is held gives this index a last unit from the first on: name the last by --to, or another index by --index",
@@ -45,7 +47,10 @@ impl fmt::Display for Hint<'_, '_> {
             RunFault::BadUnit => f.write_str("the greatest edit unit is 9223372036854775807"),
             RunFault::Unread { path, cause } => {
                 write_cause(f, *path, *cause)?;
-                f.write_str(advice_on(*path))
+                match *cause {
+                    Some(NOT_FOUND) => f.write_str(advice_on(*path)),
+                    _ => Ok(()),
+                }
             }
             RunFault::BadCatalogue { path, .. } => write_form(f, *path, self.beginning),
             RunFault::Unwritten { cause } => write_cause(f, "standard output", *cause),
@@ -63,13 +68,16 @@ fn write_source<W: fmt::Write>(
     match (beginning, SizedWord::of(word)) {
         (Some(Beginning::Label), _) => write!(
             f,
-            "{word} begins with a packet: name it at:0:{word}"
+            "{word} begins with a packet: name it at:0:{word}, or at:OFFSET:{word} if it isn't the recording's beginning"
         ),
         (Some(Beginning::Catalogue), _) => write!(
             f,
             "{word} looks like a catalogue: name it cat:{word}"
         ),
         (_, Some(sized)) => write!(f, "OFFSET is a number of bytes: name it {sized}"),
+        _ if word.ends_with("\r") => f.write_str(
+            "the lines of the list end with a carriage return: end them with a line feed alone",
+        ),
         _ => f.write_str(
             "a source is at:OFFSET:PATH or range:OFFSET:PATH, with OFFSET in decimal digits alone, or cat:PATH",
         ),
@@ -83,14 +91,10 @@ fn write_list<W: fmt::Write>(
     beginning: Option<Beginning>,
 ) -> fmt::Result {
     match beginning {
-        Some(Beginning::Label) => write!(
-            f,
-            "{path} begins with a packet: name it at:0:{path}, without --sources"
-        ),
-        Some(Beginning::Catalogue) => write!(
-            f,
-            "{path} looks like a catalogue: name it cat:{path}, without --sources"
-        ),
+        Some(Beginning::Label | Beginning::Catalogue) => {
+            write_source(f, path, beginning)?;
+            f.write_str(", without --sources")
+        }
         _ => f.write_str("a line of a list is a source in UTF-8"),
     }
 }
@@ -100,7 +104,7 @@ fn advice_on(path: &str) -> &'static str {
     if path == "-" {
         ": standard input is /dev/stdin"
     } else if path.starts_with("~/") {
-        ": the shell replaces no ~ within a word: write $HOME"
+        ": nothing replaces the ~ here: write the whole path"
     } else if path.ends_with("\r") {
         ": the lines of the list end with a carriage return: end them with a line feed alone"
     } else {

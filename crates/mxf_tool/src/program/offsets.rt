@@ -58,37 +58,26 @@ pub fn tell_offsets<R: Files + Eprint + AllocGlobal>(
     Ok(())
 }
 
-/// The same, if some partition pack of what is held, even a disputed one, says that it stands elsewhere.
-pub fn tell_contradicted<R: Files + Eprint + AllocGlobal>(
-    rt: &R,
-    sources: &[Source<'_>],
-    views: &Views,
-) -> Result<(), AllocError> {
-    if begins_at(views, 0, 0) && !is_any_disputed_elsewhere(views.catalogue()) {
-        return Ok(());
-    }
-    tell_offsets(rt, sources)
+/// Whether some partition pack of what is held, even a disputed one, says that it stands elsewhere.
+pub fn is_contradicted(views: &Views) -> bool {
+    !begins_at(views, 0, 0) || is_any_disputed_elsewhere(views.catalogue())
 }
 
 /// Whether some disputed partition pack says that it stands elsewhere.
 fn is_any_disputed_elsewhere(catalogue: &Catalogue) -> bool {
     for disputed in catalogue.disputed() {
-        if is_elsewhere(disputed.note) {
+        let note = disputed.note;
+        if stated_offset(note).is_some_and(|stated| stated != note.offset()) {
             return true;
         }
     }
     false
 }
 
-/// Whether the note is that of a partition pack which says that it stands elsewhere.
-fn is_elsewhere(note: &Note) -> bool {
-    let Some(value) = note.value() else {
-        return false;
-    };
-    match PartitionPack::read(&note.key(), value) {
-        Ok(pack) => pack.numbers().this_partition != note.offset(),
-        Err(_) => false,
-    }
+/// Where a note stands by its own words, in bytes, if it is that of a readable partition pack.
+fn stated_offset(note: &Note) -> Option<u64> {
+    let pack = PartitionPack::read(&note.key(), note.value()?).ok()?;
+    Some(pack.numbers().this_partition)
 }
 
 /// Where a piece or range begins by its partition packs, if elsewhere.

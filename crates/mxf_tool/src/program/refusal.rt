@@ -13,25 +13,31 @@ pub enum RefusalHint<'a> {
 impl<'a> RefusalHint<'a> {
     /// What the first argument that shows it may have been meant for.
     pub fn of(arguments: &'a [String]) -> Option<RefusalHint<'a>> {
-        arguments
-            .iter()
-            .find_map(|argument| RefusalHint::of_one(argument))
-    }
-
-    /// The same of one argument.
-    fn of_one(argument: &'a str) -> Option<RefusalHint<'a>> {
-        if argument == "-o" {
-            return Some(RefusalHint::Out);
-        }
-        let value = match argument.split_once('=') {
-            Some((_, value)) => value,
-            None => argument,
-        };
-        if is_timecode(value) {
-            return Some(RefusalHint::Timecode(value));
+        let is_saving = arguments.iter().any(|word| is_saving(word));
+        let mut before = "";
+        for argument in arguments {
+            let argument = argument.as_str();
+            if is_saving && argument == "-o" {
+                return Some(RefusalHint::Out);
+            }
+            let (option, value) = argument.split_once('=').unwrap_or((before, argument));
+            if is_of_unit(option) && is_timecode(value) {
+                return Some(RefusalHint::Timecode(value));
+            }
+            before = argument;
         }
         None
     }
+}
+
+/// Whether the word is a command that saves a catalogue.
+fn is_saving(word: &str) -> bool {
+    word == "join" || word == "renew"
+}
+
+/// Whether the value of the option is an edit unit.
+fn is_of_unit(option: &str) -> bool {
+    option == "--from" || option == "--to" || option == "--unit"
 }
 
 impl fmt::Display for RefusalHint<'_> {

@@ -1,5 +1,6 @@
 //! Saving what earlier sources hold, renewed by later ones.
 use super::fault::RunFault;
+use super::offsets::{is_contradicted, tell_offsets};
 use super::{
     Held, Inputs, Printed, System, allow_output, hold_opened, open_sources, print_answer, told,
     unsaved,
@@ -9,6 +10,7 @@ use crate::exit::Exit;
 use crate::saving::Reservation;
 use crate::source::Source;
 use crate::system_fault::LastFault;
+use crate::watching::Screen;
 use mxf_catalogue::Catalogue;
 use mxf_lines::Form;
 use mxf_read::{Gathered, PieceReport};
@@ -47,19 +49,28 @@ fn renew_at<'a, 'r, R: System>(
     place: Reservation<'r, R>,
 ) -> Result<Exit, RunFault<'a>> {
     let (earlier, later) = hold_both(rt, inputs)?;
+    let is_wrong = inputs.screen == Screen::Terminal
+        && (is_contradicted(&earlier.views) || is_contradicted(&later.views));
     let Gathered { views, reports } = later;
     let (notes, newer) = (earlier.views.catalogue(), views.into_catalogue());
-    match save_renewed(rt, inputs.form, saving.out, place, notes, newer) {
-        Ok(exit) => told_both(
-            rt,
-            inputs,
-            saving.is_strict,
-            &earlier,
-            reports.as_slice(),
-            exit,
-        ),
-        Err(fault) => Err(fault),
+    let exit = save_renewed(rt, inputs.form, saving.out, place, notes, newer)?;
+    if is_wrong && tell_both_offsets(rt, inputs).is_err() {
+        return Err(RunFault::OutOfMemory);
     }
+    told_both(
+        rt,
+        inputs,
+        saving.is_strict,
+        &earlier,
+        reports.as_slice(),
+        exit,
+    )
+}
+
+/// Tells on a terminal of each earlier and later source that begins at another offset by its partition packs.
+fn tell_both_offsets<R: System>(rt: &R, inputs: Inputs<'_, '_>) -> Result<(), AllocError> {
+    tell_offsets(rt, inputs.before)?;
+    tell_offsets(rt, inputs.sources)
 }
 
 /// Ends a run that saved what was renewed: on a terminal it tells of pieces that weren't noted whole.

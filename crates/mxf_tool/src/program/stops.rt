@@ -1,5 +1,5 @@
 //! Telling of pieces and ranges that end before their bytes do.
-use super::front::Front;
+use super::front::{Front, SEARCHED};
 use super::telling::tell_on_screen;
 use crate::source::Source;
 use mxf_klv::Stop;
@@ -46,12 +46,16 @@ impl fmt::Display for FrontHint<'_> {
                 let first = bytes.saturating_add(1);
                 write!(
                     f,
-                    "hint: {path} has {bytes} bytes before its first packet: name it at:0:<(tail -c +{first} {path})"
+                    "hint: {path} has {bytes} bytes before its first packet: name it at:0:<(tail -c +{first} '{path}')"
                 )
             }
             (Front::Nothing, Source::Piece { offset: 0, .. }) => write!(
                 f,
-                "hint: no packet begins in {path}, or its first 33554432 bytes: it is no MXF file, or begins inside a longer packet"
+                "hint: no packet begins in {path}, or its first {SEARCHED} bytes: it is no MXF file, or begins inside a longer packet"
+            ),
+            (Front::Midst, Source::Piece { offset: 0, .. }) => write!(
+                f,
+                "hint: {path} doesn't begin at a packet: if its front is damaged, name it range:0:{path}; if it begins inside a packet, OFFSET isn't 0"
             ),
             (Front::RunIn(_) | Front::Midst, Source::Piece { offset, .. }) => write!(
                 f,
@@ -59,7 +63,7 @@ impl fmt::Display for FrontHint<'_> {
             ),
             _ => write!(
                 f,
-                "hint: no packet begins in {path}, or its first 33554432 bytes"
+                "hint: no packet begins in {path}, or its first {SEARCHED} bytes"
             ),
         }
     }
@@ -100,23 +104,23 @@ pub fn tell_stops<R: Files + Eprint + AllocGlobal>(
     Ok(())
 }
 
-/// Tells on a terminal of each piece and range that has no packet, or is a catalogue.
+/// Tells on a terminal of each piece and range that has no packet, a run-in, or is a catalogue.
 pub fn tell_foreign<R: Files + Eprint + AllocGlobal>(
     rt: &R,
     sources: &[Source<'_>],
 ) -> Result<(), AllocError> {
     for source in sources {
-        if let Source::Piece { path, .. } | Source::Range { path, .. } = *source {
-            let front = Front::of(rt, path);
-            if let Front::Nothing | Front::Catalogue = front {
-                tell_on_screen(
-                    rt,
-                    &FrontHint {
-                        source: *source,
-                        front,
-                    },
-                )?;
+        let source = *source;
+        if let Source::Saved { .. } = source {
+            continue;
+        }
+        let front = Front::of(rt, source.path());
+        match (front, source) {
+            (Front::Nothing | Front::Catalogue, _)
+            | (Front::RunIn(_), Source::Piece { offset: 0, .. }) => {
+                tell_on_screen(rt, &FrontHint { source, front })?;
             }
+            _ => {}
         }
     }
     Ok(())

@@ -39,7 +39,7 @@ pub fn tell_on_screen<R: Eprint + AllocGlobal, D: fmt::Display>(
 }
 
 /// The line as a terminal shows it.
-fn line_on_screen<D: fmt::Display>(alloc: Global, line: &D) -> Result<String, AllocError> {
+pub fn line_on_screen<D: fmt::Display>(alloc: Global, line: &D) -> Result<String, AllocError> {
     let line = format!(in alloc; "{line}")?;
     text_on_screen(alloc, line.as_str())
 }

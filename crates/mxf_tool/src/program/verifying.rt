@@ -42,10 +42,8 @@ pub fn print_verified<'a, R: System>(
     let last = LastFault::new();
     let reference = open_sources(rt, inputs.screen, inputs.before, &last)?;
     let opened = open_sources(rt, inputs.screen, inputs.sources, &last)?;
-    match hold_opened(rt, reference, inputs.before, &last) {
-        Ok(Held { gathered, .. }) => verify_by(rt, inputs, asked, &gathered, opened.parts, &last),
-        Err(fault) => Err(fault),
-    }
+    let Held { gathered, .. } = hold_opened(rt, reference, inputs.before, &last)?;
+    verify_by(rt, inputs, asked, &gathered, opened.parts, &last)
 }
 
 /// Prints how the parts stand, which were opened of the sources, to what was gathered of the reference. The edit units
@@ -186,8 +184,8 @@ fn open_of(is_whole: bool, verification: &Verification<'_>) -> Option<Open>
     }
 }
 
-/// Tells on a terminal what a verification leaves open: if no packet is the same, also which source has no packet, and
-/// which OFFSET is wrong by its source.
+/// Tells on a terminal what a verification leaves open: if no packet is the same, also which source has no packet or a
+/// run-in, and which OFFSET is wrong by its source.
 fn tell_open<R: System>(
     rt: &R,
     inputs: Inputs<'_, '_>,
