@@ -69,7 +69,8 @@ fn print_gaps(rt: &impl Print, views: &Views) -> Result<()> {
 
 /// Prints what to restore next, what helps most first.
 fn print_plan<R: Print + AllocGlobal>(rt: &R, views: &Views) -> Result<()> {
-    let plan = Plan::of(rt.alloc(), views, &AtHand::nothing(rt.alloc()))?;
+    let at_hand = AtHand::nothing(rt.alloc());
+    let plan = Plan::of(rt.alloc(), views, &at_hand)?;
     for order in plan.orders() {
         println!(rt; "restore from {}: {}", order.start, order.reason)?;
     }
@@ -91,17 +92,6 @@ fn saved(alloc: Global, catalogue: &Catalogue) -> Result<Vec<u8>> {
     Ok(file)
 }
 
-/// The views of a saved catalogue.
-fn views_of(alloc: Global, file: &[u8]) -> Result<Views> {
-    Ok(Views::of(alloc, Catalogue::read(alloc, file)?)?)
-}
-
-/// Prints how many packets were saved.
-fn print_saved(rt: &impl Print, views: &Views) -> Result<()> {
-    println!(rt; "packets saved: {}", views.catalogue().len())?;
-    Ok(())
-}
-
 /// Prints what was gathered, and how many packets are saved of it.
 fn print_gathered<R: Print + AllocGlobal>(rt: &R, gathered: &Gathered) -> Result<()> {
     print_reports(rt, gathered.reports.as_slice())?;
@@ -110,7 +100,9 @@ fn print_gathered<R: Print + AllocGlobal>(rt: &R, gathered: &Gathered) -> Result
     print_plan(rt, &gathered.views)?;
     print_first_unit(rt, &gathered.views)?;
     let file = saved(rt.alloc(), gathered.views.catalogue())?;
-    print_saved(rt, &views_of(rt.alloc(), &file)?)
+    let read = Catalogue::read(rt.alloc(), &file)?;
+    println!(rt; "packets saved: {}", read.len())?;
+    Ok(())
 }
 
 fn main(rt: HostRuntime) -> Result<()> {

@@ -113,9 +113,12 @@ flag before name stands = field (codes before) (codes name) (Flag stands)
 abbrev pub numbers : String → String → List ℕ → Field
 numbers before name all = field (codes before) (codes name) (Numbers all)
 
+abbrev pub digits_or : {X : Type 0} → (X → List ℕ) → List ℕ → Option X → Value
+digits_or text none None = Absent none
+digits_or text none (Some n) = Number (text n)
+
 abbrev pub number_or : List ℕ → Option ℕ → Value
-number_or none None = Absent none
-number_or none (Some n) = Number (decimal n)
+number_or none n = digits_or decimal none n
 
 abbrev pub known : String → String → String → Option ℕ → Field
 known before name none n = field (codes before) (codes name) (number_or (codes none) n)

@@ -112,15 +112,19 @@ value_line o word fields = line_of word word (fields ++ owner_member o ∷ []) [
 abbrev pub value_lines : {X : Type 0} → Owner → List ℕ → (X → List Field) → Option X → List PrintedLine
 value_lines o word fields value = lines_where (λ x. value_line o word (fields x) ∷ []) value
 
+-- The lines of the product that an Identification is of, and of when it was modified: of those that are there.
+abbrev pub product_lines : Owner → IdentificationParts → List PrintedLine
+product_lines o i =
+    value_lines o (codes "product") shown_fields i.product_name
+    ++ (value_lines o (codes "version") shown_fields i.version_string
+    ++ (value_lines o (codes "product-uid") hex_fields i.product_uid
+    ++ value_lines o (codes "modified") timestamp_fields i.modification_date))
+
 -- The lines of an Identification: those of its properties that are there, in this order.
 abbrev pub identification_lines : Owner → IdentificationParts → List PrintedLine
 identification_lines o i =
     value_lines o (codes "generation") uid_fields i.this_generation_uid
-    ++ (value_lines o (codes "company") shown_fields i.company_name
-    ++ (value_lines o (codes "product") shown_fields i.product_name
-    ++ (value_lines o (codes "version") shown_fields i.version_string
-    ++ (value_lines o (codes "product-uid") hex_fields i.product_uid
-    ++ value_lines o (codes "modified") timestamp_fields i.modification_date))))
+    ++ (value_lines o (codes "company") shown_fields i.company_name ++ product_lines o i)
 
 -- The lines of the dates of a package, of how many tracks it has, and of its descriptor: of those that are there.
 abbrev pub package_details : Owner → PackageParts → List PrintedLine

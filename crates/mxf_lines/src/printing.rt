@@ -144,13 +144,13 @@ fn print_asked<W: Write>(
             let status = u8::from(!matches!(place, Place::At { .. }));
             print_with_status(printer, writer, place, status)
         }
-        Ask::Plan => print_plan(printer, writer, &gathered.views, at_hand),
-        Ask::Units { index, range } => {
-            print_range(printer, writer, &gathered.views, at_hand, index, range)
-        }
         Ask::Join => {
             let line = JoinLine(gathered.views.catalogue());
             print_with_status(printer, writer, line, 0)
+        }
+        Ask::Plan => print_plan(printer, writer, &gathered.views, at_hand),
+        Ask::Units { index, range } => {
+            print_range(printer, writer, &gathered.views, at_hand, index, range)
         }
     }
 }

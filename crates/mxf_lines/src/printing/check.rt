@@ -9,7 +9,9 @@ ghost use Rattle.mxf_lines.specs.Printing.{Prints};
 
 use super::AnswerFault;
 use super::line::{source_of, write_stop};
-use super::lines::{Each, FieldWriter, Line, Lines, Printer, Series, Then, print_with_status};
+use super::lines::{
+    Each, FieldWriter, Line, Lines, Printer, Series, Then, print_with_status, take_first,
+};
 use mxf_klv::Stop;
 use mxf_read::{Gathered, PieceReport};
 use mxf_views::{Finding, Findings};
@@ -79,9 +81,8 @@ impl<'a> Series for StopLines<'a> {
     ghost left = { λ s. length s.0.now };
 
     fn next_item(&mut self) -> Option<Option<StopLine>> {
-        let (piece, left) = self.0.split_first()?;
-        self.0 = left;
-        Some((!is_end(piece.report.stop)).then_some(StopLine(*piece)))
+        let piece = take_first(&mut self.0)?;
+        Some((!is_end(piece.report.stop)).then_some(StopLine(piece)))
     }
 }
 

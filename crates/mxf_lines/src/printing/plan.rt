@@ -5,7 +5,6 @@ ghost use Rattle.mxf_lines.specs.PlanLines.{restore_line};
 
 use super::AnswerFault;
 use super::lines::{Each, FieldWriter, Line, Lines, Printer, Then};
-use super::units::write_place;
 use mxf_restore::{DisputedPlace, Order, Plan};
 use std::alloc::AllocError;
 use std::io::Write;
@@ -19,7 +18,7 @@ impl Line for Order {
     fn write_fields(&self, fields: &mut FieldWriter) -> Result<(), AllocError> {
         fields.begin("restore", "restore")?;
         fields.number(" ", "start", self.start)?;
-        write_place(fields, "end", self.end)?;
+        fields.known(" ", "end", "-", self.end)?;
         fields.word(" ", "reason", self.reason)?;
         fields.known(" ", "source", "-", self.source)?;
         fields.flag(" inside", "inside", self.inside)?;
@@ -88,10 +87,7 @@ fn ordered_bytes(order: &Order) -> u128
     ensures bytes { result ≡ ordered_bytes order.now }
     ensures limit { result < 2 ^ 64 }
 {
-    match order.end {
-        Some(end) => end.saturating_sub(order.start),
-        None => 0,
-    }
+    length_of(order).unwrap_or(0)
 }
 
 /// How many of the orders have no end.

@@ -104,6 +104,7 @@ impl<'a> Lines for NamedLines<'a> {
     ghost lines = { λ l. named_lines l.catalogue.now l.named l.references.now };
 
     fn print_to<W: Write>(self, printer: &mut Printer, writer: &mut W) -> Result<(), AnswerFault> {
+        // Out of memory not all lines have been written: if there is none, no memory may be asked for.
         if self.references.is_empty() {
             return Ok(());
         }

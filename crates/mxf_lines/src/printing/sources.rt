@@ -9,7 +9,7 @@ ghost use Rattle.mxf_lines.specs.Writing.{with_field};
 
 use super::hexadecimal::HexDigits;
 use super::line::write_note_fields;
-use super::lines::{Each, FieldWriter, Line, Lines, Printer, Series, Then};
+use super::lines::{Each, FieldWriter, Line, Printer, Series, Then, print_with_status};
 use super::{AnswerFault, Form};
 use mxf_catalogue::DisputedNotes;
 use mxf_klv::{Held, Note};
@@ -49,8 +49,8 @@ pub fn print_sources<W: Write>(
         notes: readings.all().len(),
         disputed,
     };
-    Then(Each(named), Then(Each(notes), last)).print_to(&mut printer, writer)?;
-    Ok(u8::from(disputed != 0))
+    let lines = Then(Each(named), Then(Each(notes), last));
+    print_with_status(&mut printer, writer, lines, u8::from(disputed != 0))
 }
 
 /// A source: its number, what it holds, and the word that names it.

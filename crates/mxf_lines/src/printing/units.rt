@@ -6,9 +6,8 @@ ghost use Rattle.mxf_klv.specs.Written.{Puts};
 ghost use Rattle.mxf_units.specs.Ranges.{needed_from, units_from};
 ghost use Rattle.mxf_lines.specs.Printing.{Prints};
 ghost use Rattle.mxf_lines.specs.UnitLines.{entry_fields, extent_fields, extent_length, flags_value, hand_count};
-ghost use Rattle.mxf_lines.specs.UnitLines.{temporal_value, unit_line, unit_lines, units_line};
-ghost use Rattle.mxf_lines.specs.UnitLines.{held_count, is_hand, is_held, units_status};
-ghost use Rattle.mxf_lines.specs.Forms.{field, number_or};
+ghost use Rattle.mxf_lines.specs.UnitLines.{held_count, unit_line, unit_lines, units_line, units_status};
+ghost use Rattle.mxf_lines.specs.Forms.{field};
 ghost use Rattle.mxf_lines.specs.Writing.{with_field, with_fields};
 
 use super::AnswerFault;
@@ -60,8 +59,8 @@ impl Line for EditUnit {
 fn write_extent(fields: &mut FieldWriter, extent: Option<Extent>) -> Result<(), AllocError>
     ensures { IfOk result (λ _. fields.new ≡ with_fields (extent_fields extent) fields.old) }
 {
-    write_place(fields, "start", start_of(extent))?;
-    write_place(fields, "end", end_of(extent))
+    fields.known(" ", "start", "-", start_of(extent))?;
+    fields.known(" ", "end", "-", end_of(extent))
 }
 
 /// Writes what the entry of a unit says.
@@ -69,7 +68,7 @@ fn write_entry(fields: &mut FieldWriter, unit: &EditUnit) -> Result<(), AllocErr
     ensures { IfOk result (λ _. fields.new ≡ with_fields (entry_fields unit.now) fields.old) }
 {
     fields.known(" key ", "key", "-", unit.key)?;
-    write_temporal(fields, unit.temporal)?;
+    fields.known(" temporal ", "temporal", "-", unit.temporal)?;
     write_flags(fields, unit.flags)
 }
 
@@ -93,32 +92,6 @@ fn length_of(extent: Option<Extent>) -> Option<u128>
 {
     let extent = extent?;
     Some(extent.end?.saturating_sub(extent.start))
-}
-
-/// Writes a file offset, if it is known.
-pub(super) fn write_place(
-    fields: &mut FieldWriter,
-    name: &str,
-    place: Option<u128>,
-) -> Result<(), AllocError>
-    ensures { IfOk result (λ _. fields.new
-        ≡ with_field (field (codes " ") name.now (number_or (codes "-") place)) fields.old) }
-{
-    match place {
-        Some(place) => fields.number(" ", name, place),
-        None => fields.absent(" ", name, "-"),
-    }
-}
-
-/// Writes how far away the unit is stored that is shown in the place of one.
-fn write_temporal(fields: &mut FieldWriter, offset: Option<i8>) -> Result<(), AllocError>
-    ensures { IfOk result (λ _. fields.new
-        ≡ with_field (field (codes " temporal ") (codes "temporal") (temporal_value offset)) fields.old) }
-{
-    match offset {
-        Some(offset) => fields.number(" temporal ", "temporal", offset),
-        None => fields.absent(" temporal ", "temporal", "-"),
-    }
 }
 
 /// Writes the two digits of flags.
@@ -178,11 +151,10 @@ impl UnitsLine {
         ensures hand { self.new.hand ≡ hand_count (unit.now ∷ []) + self.old.hand }
         ensures from { self.new.from ≡ needed_from self.old.from (unit.now ∷ []) }
     {
-        if is_held(unit.standing) {
-            self.held += 1;
-        }
-        if is_hand(unit.standing) {
-            self.hand += 1;
+        match unit.standing {
+            UnitStanding::Held => self.held += 1,
+            UnitStanding::Hand => self.hand += 1,
+            _ => {}
         }
         if let Some(key) = unit.key {
             self.from = self.from.min(key);
@@ -210,18 +182,4 @@ impl Line for UnitsLine {
         fields.number(" from ", "from", self.from)?;
         fields.end("")
     }
-}
-
-/// Whether all bytes of a unit are held.
-fn is_held(standing: UnitStanding) -> bool
-    ensures { result ≡ is_held standing }
-{
-    matches!(standing, UnitStanding::Held)
-}
-
-/// Whether all bytes of a unit are held or at hand, and not all are held.
-fn is_hand(standing: UnitStanding) -> bool
-    ensures { result ≡ is_hand standing }
-{
-    matches!(standing, UnitStanding::Hand)
 }

@@ -23,7 +23,9 @@ ghost use Rattle.mxf_lines.specs.Writing.{with_fields};
 
 use super::check::StopLines;
 use super::line::write_note_fields;
-use super::lines::{Each, FieldWriter, Line, Lines, Printer, Series, Then, take_first};
+use super::lines::{
+    Each, FieldWriter, Line, Lines, Printer, Series, Then, print_with_status, take_first,
+};
 use super::{AnswerFault, Form};
 use mxf_catalogue::{Cover, CoverRuns, Run};
 use mxf_klv::{Note, Stop};
@@ -38,7 +40,7 @@ use std::io::Write;
 #[derive(Clone, Copy)]
 pub struct Verified<'v, 'a> {
     /// What was noted of each piece of the reference.
-    pub stops: &'v [PieceReport],
+    pub reports: &'v [PieceReport],
     pub verification: &'v Verification<'a>,
     /// The edit units of the reference that are asked for, if some are.
     pub units: Option<&'v VerifiedUnits>,
@@ -62,15 +64,13 @@ pub fn print_verification<W: Write>(
     writer: &mut W,
 ) -> Result<u8, AnswerFault>
     ensures lines { Prints form (Writes (W.contents writer.old) (W.contents writer.new)) result
-        (verification_lines verified.now.stops.now verified.now.verification.now (lent_units verified.now.units)) }
+        (verification_lines verified.now.reports.now verified.now.verification.now (lent_units verified.now.units)) }
     ensures status { IfOk result (λ status. status
-        ≡ verification_status verified.now.stops.now verified.now.verification.now (lent_units verified.now.units)
+        ≡ verification_status verified.now.reports.now verified.now.verification.now (lent_units verified.now.units)
         verified.now.is_whole) }
 {
     let mut printer = Printer::new(alloc, form);
-    let status = verified.status();
-    (*verified).print_to(&mut printer, writer)?;
-    Ok(status)
+    print_with_status(&mut printer, writer, *verified, verified.status())
 }
 
 /// A law of [`print_verification`]: its answer is 0 exactly if the pieces of the reference were noted up to their ends,
@@ -102,7 +102,7 @@ pub fn whole_status_by_packets()
 
 /// The lines of a verification, in their order.
 impl<'v, 'a> Lines for Verified<'v, 'a> {
-    ghost lines = { λ v. verification_lines v.stops.now v.verification.now (lent_units v.units) };
+    ghost lines = { λ v. verification_lines v.reports.now v.verification.now (lent_units v.units) };
 
     fn print_to<W: Write>(self, printer: &mut Printer, writer: &mut W) -> Result<(), AnswerFault> {
         let verification = self.verification;
@@ -124,7 +124,7 @@ impl<'v, 'a> Lines for Verified<'v, 'a> {
             left: verification.differing(),
             units: self.units,
         };
-        Then(Each(StopLines(self.stops)), Then(Each(differing), cut)).print_to(printer, writer)
+        Then(Each(StopLines(self.reports)), Then(Each(differing), cut)).print_to(printer, writer)
     }
 }
 
@@ -132,11 +132,11 @@ impl<'v, 'a> Verified<'v, 'a> {
     /// 0 if all is well, otherwise 1.
     fn status(&self) -> u8
         ensures { result
-            ≡ verification_status self.now.stops.now self.now.verification.now (lent_units self.now.units)
+            ≡ verification_status self.now.reports.now self.now.verification.now (lent_units self.now.units)
             self.now.is_whole }
     {
         let counts = self.verification.counts();
-        let is_good = are_noted(self.stops)
+        let is_good = are_noted(self.reports)
             && counts.differs == 0
             && counts.packets != 0
             && (!self.is_whole || self.is_all_verified());

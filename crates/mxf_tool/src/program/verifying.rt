@@ -126,7 +126,7 @@ fn print_verification<'v, 'a, R: System>(
     units: Option<&'v VerifiedUnits>,
 ) -> Result<Exit, RunFault<'a>> {
     let verified = Verified {
-        stops: gathered.reports.as_slice(),
+        reports: gathered.reports.as_slice(),
         verification,
         units,
         is_whole,

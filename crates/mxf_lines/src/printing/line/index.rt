@@ -136,7 +136,7 @@ impl<'a> Lines for RipView<'a> {
 
 /// An entry of the random index pack at an offset, with its own offset in bytes, and how it stands to the partitions.
 #[derive(Clone, Copy)]
-pub struct RipEntryLine {
+struct RipEntryLine {
     rip: u64,
     entry: RipEntry,
     standing: Standing,
@@ -158,7 +158,7 @@ impl Line for RipEntryLine {
 
 /// The lines of the entries that are left, of the random index pack at an offset.
 #[derive(Drop)]
-pub struct RipEntryLines<'a> {
+struct RipEntryLines<'a> {
     rip: u64,
     left: Standings<'a>,
 }

@@ -3,7 +3,7 @@ ghost use Rattle.std.specs.Prelude.{◌≡◌, [], ◌∷◌, ◌++◌, List, If
 ghost use Rattle.mxf_lines.specs.Forms.{Field};
 ghost use Rattle.mxf_lines.specs.ReferenceLines.{hex_fields, identification_lines, kind_fields, named_word};
 ghost use Rattle.mxf_lines.specs.ReferenceLines.{owner_member, package_details, package_lines, shown_fields};
-ghost use Rattle.mxf_lines.specs.ReferenceLines.{text_fields, timestamp_fields};
+ghost use Rattle.mxf_lines.specs.ReferenceLines.{product_lines, text_fields, timestamp_fields};
 ghost use Rattle.mxf_lines.specs.ReferenceLines.{property_word, tracks_fields, uid_fields, value_line, value_lines};
 ghost use Rattle.mxf_lines.specs.ShownText.{shown_value, shown_char, shown_text};
 ghost use Rattle.mxf_lines.specs.Writing.{with_fields};
@@ -88,7 +88,7 @@ impl<'a> Value for &'a str {
 
 /// What a record says.
 #[derive(Clone, Copy)]
-pub enum Property {
+enum Property {
     Generation,
     Company,
     Product,
@@ -104,6 +104,7 @@ pub enum Property {
 }
 
 impl Property {
+    /// The word that its line begins with.
     fn word(self) -> &'static str
         ensures { result.now ≡ property_word self }
     {
@@ -231,10 +232,7 @@ impl<'r, 'a> Lines for IdentificationLines<'r, 'a> {
 struct ProductLines<'r, 'a>(Owner, &'r Identification<'a>);
 
 impl<'r, 'a> Lines for ProductLines<'r, 'a> {
-    ghost lines = { λ p. value_lines p.0 (codes "product") shown_fields p.1.now.product_name
-        ++ (value_lines p.0 (codes "version") shown_fields p.1.now.version_string
-        ++ (value_lines p.0 (codes "product-uid") hex_fields p.1.now.product_uid
-        ++ value_lines p.0 (codes "modified") timestamp_fields p.1.now.modification_date)) };
+    ghost lines = { λ p. product_lines p.0 p.1.now };
 
     fn print_to<W: Write>(self, printer: &mut Printer, writer: &mut W) -> Result<(), AnswerFault> {
         let ProductLines(owner, record) = self;

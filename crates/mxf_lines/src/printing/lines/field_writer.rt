@@ -3,7 +3,7 @@ ghost use Rattle.std.specs.Prelude.{◌≡◌, [], ◌++◌, IfOk, IfSome, codes
 ghost use Rattle.std.specs.Char.{encode_utf8};
 ghost use Rattle.std.specs.List.{repeat};
 ghost use Rattle.mxf_lines.specs.Forms.{Absent, Characters, Fixed, Flag, Number, Numbers, escaped, field, member};
-ghost use Rattle.mxf_lines.specs.Forms.{number_or, quoted, separated, separated_behind};
+ghost use Rattle.mxf_lines.specs.Forms.{digits_or, number_or, quoted, separated, separated_behind};
 ghost use Rattle.mxf_lines.specs.Hexadecimal.{hex_of};
 ghost use Rattle.mxf_lines.specs.Writing.{with_end, with_field, with_front};
 
@@ -95,9 +95,10 @@ impl FieldWriter {
             self.new ≡ with_field (field before.now name.now (Number digits)) self.old)) }
     {
         match self.form {
-            Form::Text => write!(self.text, "{before}{value}"),
-            Form::Json => write!(self.text, ",\"{name}\":{value}"),
+            Form::Text => self.text.push_str(before)?,
+            Form::Json => append_name(&mut self.text, name)?,
         }
+        write!(self.text, "{value}")
     }
 
     /// A label, by its digits.
@@ -141,15 +142,15 @@ impl FieldWriter {
     }
 
     /// A number, or a word if there is none.
-    pub fn known(
+    pub fn known<N: Integer>(
         &mut self,
         before: &str,
         name: &str,
         none: &str,
-        value: Option<u64>,
+        value: Option<N>,
     ) -> Result<(), AllocError>
         ensures { IfOk result (λ _. self.new
-            ≡ with_field (field before.now name.now (number_or none.now value)) self.old) }
+            ≡ with_field (field before.now name.now (digits_or N.text none.now value)) self.old) }
     {
         match value {
             Some(value) => self.number(before, name, value),
@@ -207,7 +208,10 @@ impl FieldWriter {
         match self.form {
             Form::Text if stands => self.text.push_str(word),
             Form::Text => Ok(()),
-            Form::Json => write!(self.text, ",\"{name}\":{stands}"),
+            Form::Json => {
+                append_name(&mut self.text, name)?;
+                write!(self.text, "{stands}")
+            }
         }
     }
 
@@ -260,10 +264,9 @@ impl FieldWriter {
     pub fn known_member(&mut self, name: &str, value: Option<u128>) -> Result<(), AllocError>
         ensures { IfOk result (λ _. self.new ≡ with_field (member name.now (number_or [] value)) self.old) }
     {
-        match (self.form, value) {
-            (Form::Text, _) => Ok(()),
-            (Form::Json, Some(value)) => self.number("", name, value),
-            (Form::Json, None) => self.absent("", name, ""),
+        match self.form {
+            Form::Text => Ok(()),
+            Form::Json => self.known("", name, "", value),
         }
     }
 
