@@ -87,7 +87,10 @@ fn ordered_bytes(order: &Order) -> u128
     ensures bytes { result ≡ ordered_bytes order.now }
     ensures limit { result < 2 ^ 64 }
 {
-    length_of(order).unwrap_or(0)
+    match order.end {
+        Some(end) => end.saturating_sub(order.start),
+        None => 0,
+    }
 }
 
 /// How many of the orders have no end.
