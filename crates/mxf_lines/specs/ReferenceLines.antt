@@ -1,6 +1,6 @@
 -- The lines of what the references of the preferred copy lead to (this project's profile; the fields are those of
 -- ST 377-1, Identification and Generic Package sets). An identifier is printed as RFC 9562 writes a UUID.
-use Rattle.std.specs.Prelude.{ℕ, ◌≡◌, ◌==◌, List, [], ◌∷◌, ◌++◌, length, find, codes, Option, None, Some, flat_map}
+use Rattle.std.specs.Prelude.{⊤, ℕ, ◌≡◌, ◌==◌, List, [], ◌∷◌, ◌++◌, length, find, codes, Option, None, Some, flat_map}
 use Rattle.std.specs.Prelude.{option_and_then, option_map}
 use Rattle.std.specs.BTreeMap.{BTreeMap, get}
 use Rattle.std.specs.Fmt.{signed_decimal}
@@ -149,6 +149,16 @@ lines_of_record o (records.Package kind p) = package_lines o kind p
 abbrev pub record_of : Named → NoteParts → Option Record
 record_of Identification n = option_map records.Identification (read_as identification_at n)
 record_of Package n = option_map (records.Package (kind_of n.key)) (read_as package_at n)
+
+-- A record is kept of the set that was found.
+abbrev pub IsAmong : BTreeMap ℕ (Option Record) → Target → Type 0
+IsAmong kept (Found offset) = (found : Option Record) × (get nat_cmp kept offset ≡ Some found)
+IsAmong kept target = ⊤
+
+-- No record is kept of the set that was found, if one was.
+abbrev pub IsNotAmong : BTreeMap ℕ (Option Record) → Target → Type 0
+IsNotAmong kept (Found offset) = get nat_cmp kept offset ≡ None
+IsNotAmong kept target = ⊤
 
 -- The record that was found: that of the clear note at its offset.
 abbrev pub found_record : List NoteParts → Named → Target → Option Record

@@ -1,10 +1,10 @@
 //! What the references of the preferred copy lead to.
-ghost use Rattle.std.specs.Prelude.{◌≡◌, List, IfOk, IfSome, OnOk};
+ghost use Rattle.std.specs.Prelude.{◌≡◌, List, IfNone, IfOk, IfSome, OnOk};
 ghost use Rattle.mxf_klv.specs.Parts.{NoteParts};
 ghost use Rattle.mxf_klv.specs.Written.{Puts};
 ghost use Rattle.mxf_lines.specs.Lines.{lines_where};
 ghost use Rattle.mxf_lines.specs.Printing.{Prints};
-ghost use Rattle.mxf_lines.specs.ReferenceLines.{AreRecordsIn, found_record, lines_of_record, lines_of_reference};
+ghost use Rattle.mxf_lines.specs.ReferenceLines.{AreRecordsIn, IsAmong, IsNotAmong, found_record, lines_of_record, lines_of_reference};
 ghost use Rattle.mxf_lines.specs.ReferenceLines.{named_lines, owner_of, record_of, reference_line, reference_lines};
 ghost use Rattle.mxf_lines.specs.ReferenceLines.{target_fields};
 ghost use Rattle.mxf_lines.specs.Writing.{with_fields};
@@ -208,8 +208,9 @@ fn add_record<'a>(
     named: Named,
     target: Target,
 ) -> Result<(), OutOfMemory>
-    ensures { AreRecordsIn catalogue.now named records.old
+    ensures records { AreRecordsIn catalogue.now named records.old
         → OnOk result (AreRecordsIn catalogue.now named records.new) }
+    ensures added { OnOk result (IsAmong records.new target) }
 {
     if let Target::Found(offset) = target {
         if !records.contains_key(&offset) {
@@ -224,8 +225,9 @@ fn record_among<'r, 'a>(
     records: &'r BTreeMap<u64, Option<Record<'a>>>,
     target: Target,
 ) -> Option<&'r Option<Record<'a>>>
-    ensures { (content : List NoteParts) (named : Named) → AreRecordsIn content named records.now
+    ensures some { (content : List NoteParts) (named : Named) → AreRecordsIn content named records.now
         → IfSome result (λ found. found.now ≡ found_record content named target) }
+    ensures none { IfNone result (IsNotAmong records.now target) }
 {
     match target {
         Target::Found(offset) => records.get(&offset),
