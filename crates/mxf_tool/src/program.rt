@@ -45,7 +45,7 @@ use offsets::{is_contradicted, tell_offsets};
 use refusal::RefusalHint;
 use renewing::print_renewal;
 use sources::{read_list, sources_before, sources_of, unread};
-use std::alloc::Global;
+use std::alloc::{AllocError, Global};
 use std::fs::{self, File};
 use std::io::{BufWriter, Input, Read, Write};
 use std::rt::{Clock, Env, Files};
@@ -289,8 +289,8 @@ fn print_saved<'a, R: System>(
     told_held(rt, inputs, held, true, exit)
 }
 
-/// Ends a run of which this is held: on a terminal it tells of pieces that weren't noted whole, and of those whose
-/// partition packs say that they begin elsewhere.
+/// Ends a run of which this is held: on a terminal it tells of pieces that weren't noted whole, and what of the sources
+/// doesn't go together.
 fn told_held<'a, R: System>(
     rt: &R,
     inputs: Inputs<'_, 'a>,
@@ -299,12 +299,26 @@ fn told_held<'a, R: System>(
     exit: Exit,
 ) -> Result<Exit, RunFault<'a>> {
     let Gathered { views, reports } = &held.gathered;
-    let is_wrong = inputs.screen == Screen::Terminal && is_contradicted(views);
-    if is_wrong && tell_offsets(rt, inputs.sources).is_err() {
+    if inputs.screen == Screen::Terminal && tell_apart(rt, inputs.sources, views).is_err() {
         return Err(RunFault::OutOfMemory);
     }
     let reports = reports.as_slice();
     told(rt, inputs.screen, inputs.sources, reports, with_stops, exit)
+}
+
+/// Tells on a terminal what of the sources doesn't go together: those that begin elsewhere by their partition packs, or
+/// else that packets are disputed.
+fn tell_apart<R: System>(rt: &R, sources: &[Source<'_>], views: &Views) -> Result<(), AllocError> {
+    if is_contradicted(views) {
+        return tell_offsets(rt, sources);
+    }
+    if sources.len() > 1 && views.catalogue().disputed().next().is_some() {
+        return tell_on_screen(
+            rt,
+            &"hint: packets are in dispute: sources says which source has which reading",
+        );
+    }
+    Ok(())
 }
 
 /// Writes the catalogue of what the sources hold together. Its place is held before the first source is opened.

@@ -6,8 +6,8 @@ use crate::saving::SaveFault;
 use crate::system_fault::{NOT_FOUND, SystemFault, TOO_MANY_FILES};
 use std::fmt;
 
-/// What to do about a fault. Of a file that is refused as a catalogue or a list, or of a word that names no source and a
-/// file, it is known what it begins with.
+/// What to do about a fault. Of a file that is refused as a catalogue or a list, or of a word that names no source and
+/// a file, it is known what it begins with.
 #[derive(Clone, Copy)]
 pub struct Hint<'f, 'a> {
     pub fault: &'f RunFault<'a>,
@@ -75,6 +75,9 @@ fn write_source<W: fmt::Write>(
             "{word} looks like a catalogue: name it cat:{word}"
         ),
         (_, Some(sized)) => write!(f, "OFFSET is a number of bytes: name it {sized}"),
+        _ if word.as_bytes().starts_with(b"\xef\xbb\xbf") => {
+            f.write_str("the list begins with a byte order mark: save it without one")
+        }
         _ if word.ends_with("\r") => f.write_str(
             "the lines of the list end with a carriage return: end them with a line feed alone",
         ),
@@ -107,9 +110,18 @@ fn advice_on(path: &str) -> &'static str {
         ": nothing replaces the ~ here: write the whole path"
     } else if path.ends_with("\r") {
         ": the lines of the list end with a carriage return: end them with a line feed alone"
+    } else if path.ends_with(" ") {
+        ": the path ends with a space"
+    } else if is_scheme(path) {
+        ": this is spelled as a source: here a path alone is named"
     } else {
         ""
     }
+}
+
+/// Whether the path begins as the name of a source does.
+fn is_scheme(path: &str) -> bool {
+    path.starts_with("at:") || path.starts_with("range:") || path.starts_with("cat:")
 }
 
 /// Writes the path and what the system says of it.

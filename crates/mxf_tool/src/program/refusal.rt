@@ -8,12 +8,15 @@ pub enum RefusalHint<'a> {
     Out,
     /// A timecode, for the number of an edit unit.
     Timecode(&'a str),
+    /// `--unit`, which `locate` alone has.
+    Units,
 }
 
 impl<'a> RefusalHint<'a> {
     /// What the first argument that shows it may have been meant for.
     pub fn of(arguments: &'a [String]) -> Option<RefusalHint<'a>> {
         let is_saving = arguments.iter().any(|word| is_saving(word));
+        let is_locating = arguments.iter().any(|word| word.as_str() == "locate");
         let mut before = "";
         for argument in arguments {
             let argument = argument.as_str();
@@ -23,6 +26,9 @@ impl<'a> RefusalHint<'a> {
             let (option, value) = argument.split_once('=').unwrap_or((before, argument));
             if is_of_unit(option) && is_timecode(value) {
                 return Some(RefusalHint::Timecode(value));
+            }
+            if option == "--unit" && !is_locating {
+                return Some(RefusalHint::Units);
             }
             before = argument;
         }
@@ -44,6 +50,7 @@ impl fmt::Display for RefusalHint<'_> {
     fn fmt<W: fmt::Write>(&self, f: &mut fmt::Formatter<W>) -> fmt::Result {
         match self {
             RefusalHint::Out => f.write_str("hint: name the file to write by --out"),
+            RefusalHint::Units => f.write_str("hint: name edit units by --from and --to"),
             RefusalHint::Timecode(text) => write!(
                 f,
                 "hint: edit units are counted from 0: {text} is as many as there are frames from the recording's first timecode up to it"

@@ -184,14 +184,21 @@ fn open_of(is_whole: bool, verification: &Verification<'_>) -> Option<Open>
     }
 }
 
-/// Tells on a terminal what a verification leaves open: if no packet is the same, also which source has no packet or a
-/// run-in, and which OFFSET is wrong by its source.
+/// Tells on a terminal where packets lie that differ, and what a verification leaves open: if no packet is the same,
+/// also which source has no packet or a run-in, and which OFFSET is wrong by its source.
 fn tell_open<R: System>(
     rt: &R,
     inputs: Inputs<'_, '_>,
     is_whole: bool,
     verification: &Verification<'_>,
 ) -> Result<(), AllocError> {
+    let counts = verification.counts();
+    if counts.differs != 0 && counts.packets != 0 {
+        tell_on_screen(
+            rt,
+            &"hint: a packet that differs lies from OFFSET up to OFFSET + 16 + WIDTH + LENGTH: restore these bytes again, or renew the reference if they were rewritten since",
+        )?;
+    }
     let Some(open) = open_of(is_whole, verification) else {
         return Ok(());
     };
