@@ -329,6 +329,13 @@ def guide():
     return {code: (name, advice) for code, name, advice in rows}
 
 
+def guide_verdicts():
+    """The words of a verdict that docs/GUIDE.md has, in their order."""
+    text = (TOP / "docs" / "GUIDE.md").read_text(encoding="utf-8")
+    table = text.split("\n| Word | What it says |\n", 1)[1].split("\n\n", 1)[0]
+    return [row.split(" | ")[0].lstrip("| ") for row in table.splitlines()[1:]]
+
+
 def first_words(heading, text):
     """The first cells of the table that stands below a heading line of docs/FORMATS.md."""
     table = text.split(f"\n| {heading} |", 1)[1].split("\n\n", 1)[0]
@@ -344,6 +351,7 @@ def differences_of_words():
     standings = {*first_words("STANDING, the first that fits", text), *first_words("WORD, the first that fits", text)}
     pairs = (
         ("findings", module.FINDINGS, guide()),
+        ("words of a verdict", list(module.FRAMES), guide_verdicts()),
         ("characters of a map", set(module.MARKS), set(first_words("Character", text))),
         ("reasons", set(module.REASONS), set(first_words("REASON", text))),
         ("stops", set(module.STOPS), set(stops)),
