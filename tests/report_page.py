@@ -217,7 +217,12 @@ def differences_of_recording(page, told):
 
 
 def differences_of_findings(page, told):
-    """How the findings differ: of each code how often it is found, where, and what to do."""
+    """How the findings differ: the stops of damaged pieces; of each code how often it is found, where, and what to do."""
+    stops = [cells(line, "source", "at", "stop") for line in told.lines("check", name="stop")]
+    damaged = [stop for stop in stops if stop[2] in ("not-ul", "bad-length", "too-far")]
+    told_rows = [row[:3] for row in page.table("Pieces that weren't read to their end", "findings")]
+    if told_rows != damaged[:CUT]:
+        yield f"the damaged pieces are {told_rows}, not {damaged}"
     advice = {code: re.sub(r"\[([^\]]*)\]\([^)]*\)", r"\1", cell).replace("`", "") for code, (_, cell) in guide().items()}
     found = collections.defaultdict(list)
     for line in told.lines("check", name="finding"):
