@@ -217,7 +217,7 @@ def differences_of_recording(page, told):
 
 
 def differences_of_findings(page, told):
-    """How the findings differ: the stops of damaged pieces; of each code how often it is found, where, and what to do."""
+    """How the findings differ: where damaged pieces stop; of each code how often it is found, where, and what to do."""
     stops = [cells(line, "source", "at", "stop") for line in told.lines("check", name="stop")]
     damaged = [stop for stop in stops if stop[2] in ("not-ul", "bad-length", "too-far")]
     told_rows = [row[:3] for row in page.table("Pieces that weren't read to their end", "findings")]
@@ -229,10 +229,15 @@ def differences_of_findings(page, told):
         found[line["code"], line["text"]].append(str(line["offset"]))
     want = []
     for (code, text), offsets in sorted(found.items()):
-        left = len(offsets) - 24
-        more = f" and {left:,} more: mxf_tool check has them all" if left > 0 else ""
-        want.append([code, text, str(len(offsets)), ", ".join(offsets[:24]) + more, advice[code]])
+        want.append([code, text, str(len(offsets)), numbers_text(offsets, 24, "check"), advice[code]])
     yield from differences_of_rows(page, "By code", want, "findings")
+
+
+def numbers_text(numbers, most, command):
+    """Numbers as a cell has them: the first, and how many more there are."""
+    left = len(numbers) - most
+    more = f" and {left:,} more: mxf_tool {command} has them all" if left > 0 else ""
+    return ", ".join(map(str, numbers[:most])) + more
 
 
 def differences_of_orders(page, told):
@@ -248,7 +253,8 @@ def differences_of_orders(page, told):
         yield f"the orders are {kept}, not {want}"
     readings = []
     for line in told.lines("sources", name="disputed"):
-        named = {**line, "kind": line["kind"] + ", head" * line["head"], "sources": ", ".join(map(str, line["sources"]))}
+        sources = numbers_text(line["sources"], 50, "sources")
+        named = {**line, "kind": line["kind"] + ", head" * line["head"], "sources": sources}
         readings.append(cells(named, "offset", "kind", "length", "key", "digest", "sources"))
     yield from differences_of_rows(page, "Readings", readings, "disputes")
     sources = [cells(line, "source", "word", "notes", "alone", "disputed") for line in told.lines("sources", name="source")]
