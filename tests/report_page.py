@@ -4,7 +4,7 @@
     tests/report_page.py TOOL PAGE WORDS..    a page of one recording: WORDS name its sources, and --against a reference
     tests/report_page.py --form PAGE          the form of a page alone: its tags are balanced, and it loads nothing
     tests/report_page.py --text PAGE          the text of a page that is seen, a word a line
-    tests/report_page.py --rows PAGE          the rows of its first table, a line each
+    tests/report_page.py --rows PAGE [TABLE]  the rows of its first table, or of that of this caption, a line each
     tests/report_page.py --words              the words of the report are those of docs/GUIDE.md and docs/FORMATS.md
 
 Each difference is a line. Nothing is printed of a page that is right.
@@ -216,6 +216,24 @@ def differences_of_recording(page, told):
         yield f"{len(drawn)} partitions are drawn, of {len(partitions)}"
 
 
+def differences_of_metadata(page, told):
+    """How the table of who wrote the file differs: the references, and the identifiers and numbers below each."""
+    want, details = [], []
+    for line in told.lines("show"):
+        if line["line"] in ("identification", "package"):
+            want.append(cells(line, "line", "uid", "target", "offset"))
+        elif "identification" in line or "package" in line:
+            told_by = {"uid", "kind", "tracks"}.intersection(line)
+            details += [(len(want) - 1, f"{line['line']} {line[name]}") for name in told_by]
+    rows = page.table("Who wrote the file, and its packages", "metadata")
+    if [row[:4] for row in rows] != want[:CUT]:
+        yield f"the references are {rows}, not {want}"
+        return
+    for number, detail in details:
+        if number < CUT and detail not in rows[number][4]:
+            yield f"of the reference {number} it isn't told: {detail}"
+
+
 def differences_of_findings(page, told):
     """How the findings differ: where damaged pieces stop; of each code how often it is found, where, and what to do."""
     stops = [cells(line, "source", "at", "stop") for line in told.lines("check", name="stop")]
@@ -329,6 +347,7 @@ def differences_of_page(tool, path, words):
     yield from differences_of_orders(page, told)
     yield from differences_of_units(page, told, span)
     yield from differences_of_reference(page, told, against)
+    yield from differences_of_metadata(page, told)
     if pathlib.Path(path).stat().st_size > 2_000_000:
         yield "the page has more than 2,000,000 bytes"
 
@@ -381,7 +400,9 @@ def main():
     elif sys.argv[1] == "--form":
         lines = page_of(sys.argv[2]).faults
     elif sys.argv[1] == "--rows":
-        lines = ("|".join(cell.strip() for cell in row) for row in page_of(sys.argv[2]).tables[0].rows)
+        page = page_of(sys.argv[2])
+        rows = page.table(sys.argv[3]) if sys.argv[3:] else page.tables[0].rows
+        lines = ("|".join(cell.strip() for cell in row) for row in rows)
     elif sys.argv[1] == "--text":
         lines = page_of(sys.argv[2]).seen.split()
     else:
