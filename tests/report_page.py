@@ -306,6 +306,12 @@ def differences_of_units(page, told, span):
             yield f"of the units {first} to {last} {counts} are told"
 
 
+def packet_cells(line):
+    """The cells of a packet: where it begins, where it ends, its bytes, its kind and its key."""
+    size = 16 + line["width"] + line["length"]
+    return cells({**line, "end": line["offset"] + size, "size": size}, "offset", "end", "size", "kind", "key")
+
+
 def differences_of_reference(page, told, against):
     """How what is reported beside a reference differs."""
     if not against:
@@ -315,8 +321,10 @@ def differences_of_reference(page, told, against):
     for number in (f"{last['packets']:,} of {last['all-packets']:,} packet", f"{last['bytes']:,} of {last['all-bytes']:,} byte"):
         if number not in page.text["reference"]:
             yield f"it isn't told that {number}s are verified"
-    differs = [cells(line, "offset", "kind", "length", "key", "source") for line in lines if line["line"] == "differs"]
+    differs = [packet_cells(line) + cells(line, "source") for line in lines if line["line"] == "differs"]
     yield from differences_of_rows(page, "Packets that differ", differs, "reference")
+    cut = [packet_cells(line) for line in lines if line["line"] == "cut"]
+    yield from differences_of_rows(page, "Packets that are cut in each source", cut, "reference")
     ranges = [line for line in lines if line["line"] == "unverified"]
     unverified = [[*cells(line, "start", "end"), str(line["end"] - line["start"])] for line in ranges]
     yield from differences_of_rows(page, "Bytes of the reference that weren't verified", unverified, "reference")
