@@ -185,8 +185,9 @@ def differences_of_bar(page, told):
 
 def differences_of_stretches(page, told):
     """How the table of what lies where differs: its rows follow one another up to the end of the map and say `held` and
-    `not held` in turn; the gaps of `show` aren't held, and as many bytes are as of the map."""
-    rows = page.table("What lies where")
+    `not held` in turn; the gaps of `show` aren't held, and as many bytes are as of the map. A gap of which some is at hand
+    is one."""
+    rows = [[*row[:3], row[3].split(";")[0], *row[4:]] for row in page.table("What lies where")]
     numbers = told.lines("map")[0]
     not_held = [(int(row[0]), int(row[1])) for row in rows if row[3] == "not held"]
     gaps = [(gap["start"], gap["end"]) for gap in told.lines("show", name="gap")]
