@@ -4,7 +4,7 @@
     tests/report_page.py TOOL PAGE WORDS..    a page of one recording: WORDS name its sources, and --against a reference
     tests/report_page.py --form PAGE          the form of a page alone: its tags are balanced, and it loads nothing
     tests/report_page.py --text PAGE          the text of a page that is seen, a word a line
-    tests/report_page.py --rows PAGE          the rows of its first table, a line each
+    tests/report_page.py --rows PAGE [TABLE]  the rows of its first table, or of that of this caption, a line each
     tests/report_page.py --words              the words of the report are those of docs/GUIDE.md and docs/FORMATS.md
 
 Each difference is a line. Nothing is printed of a page that is right.
@@ -185,8 +185,9 @@ def differences_of_bar(page, told):
 
 def differences_of_stretches(page, told):
     """How the table of what lies where differs: its rows follow one another up to the end of the map and say `held` and
-    `not held` in turn; the gaps of `show` aren't held, and as many bytes are as of the map."""
-    rows = page.table("What lies where")
+    `not held` in turn; the gaps of `show` aren't held, and as many bytes are as of the map. A gap of which some is at hand
+    is one."""
+    rows = [[*row[:3], row[3].split(";")[0], *row[4:]] for row in page.table("What lies where")]
     numbers = told.lines("map")[0]
     not_held = [(int(row[0]), int(row[1])) for row in rows if row[3] == "not held"]
     gaps = [(gap["start"], gap["end"]) for gap in told.lines("show", name="gap")]
@@ -216,18 +217,46 @@ def differences_of_recording(page, told):
         yield f"{len(drawn)} partitions are drawn, of {len(partitions)}"
 
 
+def differences_of_metadata(page, told):
+    """How the table of who wrote the file differs: the references, and the identifiers and numbers below each."""
+    want, details = [], []
+    for line in told.lines("show"):
+        if line["line"] in ("identification", "package"):
+            want.append(cells(line, "line", "uid", "target", "offset"))
+        elif "identification" in line or "package" in line:
+            told_by = {"uid", "kind", "tracks"}.intersection(line)
+            details += [(len(want) - 1, f"{line['line']} {line[name]}") for name in told_by]
+    rows = page.table("Who wrote the file, and its packages", "metadata")
+    if [row[:4] for row in rows] != want[:CUT]:
+        yield f"the references are {rows}, not {want}"
+        return
+    for number, detail in details:
+        if number < CUT and detail not in rows[number][4]:
+            yield f"of the reference {number} it isn't told: {detail}"
+
+
 def differences_of_findings(page, told):
-    """How the findings differ: of each code how often it is found, where, and what to do."""
+    """How the findings differ: where damaged pieces stop; of each code how often it is found, where, and what to do."""
+    stops = [cells(line, "source", "at", "stop") for line in told.lines("check", name="stop")]
+    damaged = [stop for stop in stops if stop[2] in ("not-ul", "bad-length", "too-far")]
+    told_rows = [row[:3] for row in page.table("Pieces that weren't read to their end", "findings")]
+    if told_rows != damaged[:CUT]:
+        yield f"the damaged pieces are {told_rows}, not {damaged}"
     advice = {code: re.sub(r"\[([^\]]*)\]\([^)]*\)", r"\1", cell).replace("`", "") for code, (_, cell) in guide().items()}
     found = collections.defaultdict(list)
     for line in told.lines("check", name="finding"):
         found[line["code"], line["text"]].append(str(line["offset"]))
     want = []
     for (code, text), offsets in sorted(found.items()):
-        left = len(offsets) - 24
-        more = f" and {left:,} more: mxf_tool check has them all" if left > 0 else ""
-        want.append([code, text, str(len(offsets)), ", ".join(offsets[:24]) + more, advice[code]])
+        want.append([code, text, str(len(offsets)), numbers_text(offsets, 24, "check"), advice[code]])
     yield from differences_of_rows(page, "By code", want, "findings")
+
+
+def numbers_text(numbers, most, command):
+    """Numbers as a cell has them: the first, and how many more there are."""
+    left = len(numbers) - most
+    more = f" and {left:,} more: mxf_tool {command} has them all" if left > 0 else ""
+    return ", ".join(map(str, numbers[:most])) + more
 
 
 def differences_of_orders(page, told):
@@ -243,7 +272,8 @@ def differences_of_orders(page, told):
         yield f"the orders are {kept}, not {want}"
     readings = []
     for line in told.lines("sources", name="disputed"):
-        named = {**line, "kind": line["kind"] + ", head" * line["head"], "sources": ", ".join(map(str, line["sources"]))}
+        sources = numbers_text(line["sources"], 50, "sources")
+        named = {**line, "kind": line["kind"] + ", head" * line["head"], "sources": sources}
         readings.append(cells(named, "offset", "kind", "length", "key", "digest", "sources"))
     yield from differences_of_rows(page, "Readings", readings, "disputes")
     sources = [cells(line, "source", "word", "notes", "alone", "disputed") for line in told.lines("sources", name="source")]
@@ -277,6 +307,12 @@ def differences_of_units(page, told, span):
             yield f"of the units {first} to {last} {counts} are told"
 
 
+def packet_cells(line):
+    """The cells of a packet: where it begins, where it ends, its bytes, its kind and its key."""
+    size = 16 + line["width"] + line["length"]
+    return cells({**line, "end": line["offset"] + size, "size": size}, "offset", "end", "size", "kind", "key")
+
+
 def differences_of_reference(page, told, against):
     """How what is reported beside a reference differs."""
     if not against:
@@ -286,8 +322,10 @@ def differences_of_reference(page, told, against):
     for number in (f"{last['packets']:,} of {last['all-packets']:,} packet", f"{last['bytes']:,} of {last['all-bytes']:,} byte"):
         if number not in page.text["reference"]:
             yield f"it isn't told that {number}s are verified"
-    differs = [cells(line, "offset", "kind", "length", "key", "source") for line in lines if line["line"] == "differs"]
+    differs = [packet_cells(line) + cells(line, "source") for line in lines if line["line"] == "differs"]
     yield from differences_of_rows(page, "Packets that differ", differs, "reference")
+    cut = [packet_cells(line) for line in lines if line["line"] == "cut"]
+    yield from differences_of_rows(page, "Packets that are cut in each source", cut, "reference")
     ranges = [line for line in lines if line["line"] == "unverified"]
     unverified = [[*cells(line, "start", "end"), str(line["end"] - line["start"])] for line in ranges]
     yield from differences_of_rows(page, "Bytes of the reference that weren't verified", unverified, "reference")
@@ -318,6 +356,7 @@ def differences_of_page(tool, path, words):
     yield from differences_of_orders(page, told)
     yield from differences_of_units(page, told, span)
     yield from differences_of_reference(page, told, against)
+    yield from differences_of_metadata(page, told)
     if pathlib.Path(path).stat().st_size > 2_000_000:
         yield "the page has more than 2,000,000 bytes"
 
@@ -327,6 +366,13 @@ def guide():
     text = (TOP / "docs" / "GUIDE.md").read_text(encoding="utf-8")
     rows = re.findall(r"^\| (F\d\d) \| (.*?) \| .*? \| (.*) \|$", text, re.MULTILINE)
     return {code: (name, advice) for code, name, advice in rows}
+
+
+def guide_verdicts():
+    """The words of a verdict that docs/GUIDE.md has, in their order."""
+    text = (TOP / "docs" / "GUIDE.md").read_text(encoding="utf-8")
+    table = text.split("\n| Word | What it says |\n", 1)[1].split("\n\n", 1)[0]
+    return [row.split(" | ")[0].lstrip("| ") for row in table.splitlines()[1:]]
 
 
 def first_words(heading, text):
@@ -344,6 +390,7 @@ def differences_of_words():
     standings = {*first_words("STANDING, the first that fits", text), *first_words("WORD, the first that fits", text)}
     pairs = (
         ("findings", module.FINDINGS, guide()),
+        ("words of a verdict", list(module.FRAMES), guide_verdicts()),
         ("characters of a map", set(module.MARKS), set(first_words("Character", text))),
         ("reasons", set(module.REASONS), set(first_words("REASON", text))),
         ("stops", set(module.STOPS), set(stops)),
@@ -362,7 +409,9 @@ def main():
     elif sys.argv[1] == "--form":
         lines = page_of(sys.argv[2]).faults
     elif sys.argv[1] == "--rows":
-        lines = ("|".join(cell.strip() for cell in row) for row in page_of(sys.argv[2]).tables[0].rows)
+        page = page_of(sys.argv[2])
+        rows = page.table(sys.argv[3]) if sys.argv[3:] else page.tables[0].rows
+        lines = ("|".join(cell.strip() for cell in row) for row in rows)
     elif sys.argv[1] == "--text":
         lines = page_of(sys.argv[2]).seen.split()
     else:
