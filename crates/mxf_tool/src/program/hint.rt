@@ -45,13 +45,7 @@ impl fmt::Display for Hint<'_, '_> {
                 "{path} is standard output, or a recording, which a catalogue would replace: name another file"
             ),
             RunFault::BadUnit => f.write_str("the greatest edit unit is 9223372036854775807"),
-            RunFault::Unread { path, cause } => {
-                write_cause(f, *path, *cause)?;
-                match *cause {
-                    Some(NOT_FOUND) => f.write_str(advice_on(*path)),
-                    _ => Ok(()),
-                }
-            }
+            RunFault::Unread { path, cause } => write_unread(f, *path, *cause),
             RunFault::BadCatalogue { path, .. } => write_form(f, *path, self.beginning),
             RunFault::Unwritten { cause } => write_cause(f, "standard output", *cause),
             RunFault::Unsaved { path, fault } => write_unsaved(f, *path, fault),
@@ -99,6 +93,19 @@ fn write_list<W: fmt::Write>(
             f.write_str(", without --sources")
         }
         _ => f.write_str("a line of a list is a source in UTF-8"),
+    }
+}
+
+/// Writes what the system says of a path, and what to do about it if nothing stands there.
+fn write_unread<W: fmt::Write>(
+    f: &mut fmt::Formatter<W>,
+    path: &str,
+    cause: Option<SystemFault>,
+) -> fmt::Result {
+    write_cause(f, path, cause)?;
+    match cause {
+        Some(NOT_FOUND) => f.write_str(advice_on(path)),
+        _ => Ok(()),
     }
 }
 

@@ -104,11 +104,12 @@ pub fn tell_stops<R: Files + Eprint + AllocGlobal>(
     Ok(())
 }
 
-/// Tells on a terminal of each piece and range that has no packet, a run-in, or is a catalogue.
+/// Tells on a terminal of each piece and range that has no packet, a run-in, or is a catalogue. Whether one is.
 pub fn tell_foreign<R: Files + Eprint + AllocGlobal>(
     rt: &R,
     sources: &[Source<'_>],
-) -> Result<(), AllocError> {
+) -> Result<bool, AllocError> {
+    let mut is_told = false;
     for source in sources {
         let source = *source;
         if let Source::Saved { .. } = source {
@@ -119,11 +120,12 @@ pub fn tell_foreign<R: Files + Eprint + AllocGlobal>(
             (Front::Nothing | Front::Catalogue, _)
             | (Front::RunIn(_), Source::Piece { offset: 0, .. }) => {
                 tell_on_screen(rt, &FrontHint { source, front })?;
+                is_told = true;
             }
             _ => {}
         }
     }
-    Ok(())
+    Ok(is_told)
 }
 
 /// Tells of one piece or range.

@@ -184,8 +184,8 @@ fn open_of(is_whole: bool, verification: &Verification<'_>) -> Option<Open>
     }
 }
 
-/// Tells on a terminal where packets lie that differ, and what a verification leaves open: if no packet is the same,
-/// also which source has no packet or a run-in, and which OFFSET is wrong by its source.
+/// Tells on a terminal where packets lie that differ, and what a verification leaves open. If no packet is the same, it
+/// says which source has no packet or a run-in, or else asks whether OFFSET is right; and which is wrong by its source.
 fn tell_open<R: System>(
     rt: &R,
     inputs: Inputs<'_, '_>,
@@ -202,12 +202,13 @@ fn tell_open<R: System>(
     let Some(open) = open_of(is_whole, verification) else {
         return Ok(());
     };
-    tell_on_screen(rt, &open)?;
     match open {
         Open::NoneSame => {
-            tell_foreign(rt, inputs.sources)?;
+            if !tell_foreign(rt, inputs.sources)? {
+                tell_on_screen(rt, &open)?;
+            }
             tell_offsets(rt, inputs.sources)
         }
-        Open::NotAll => Ok(()),
+        Open::NotAll => tell_on_screen(rt, &open),
     }
 }
