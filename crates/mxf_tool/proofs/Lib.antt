@@ -1,3 +1,4 @@
 pub mod ContentsLaws
 pub mod ListLaws
+pub mod ShiftLaws
 pub mod SourceLaws

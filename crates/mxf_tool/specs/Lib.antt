@@ -3,9 +3,9 @@ pub mod Beginnings
 pub mod Contents
 pub mod Exits
 pub mod Lists
-pub mod Offsets
 pub mod OnScreen
 pub mod Progress
 pub mod Saving
+pub mod Shifts
 pub mod Sources
 pub mod Verifying

@@ -1,5 +1,12 @@
 -- What saving a catalogue knows of paths and faults (this project's profile).
-use Rattle.std.specs.Prelude.{◌≡◌, ℕ, ◌≢◌, ◌⊎◌, if◌then◌else◌, nat_lt, List, [], ◌++◌, length, codes, Some}
+use Rattle.std.specs.Prelude.{◌≡◌, ℕ, ◌≢◌, ◌⊎◌, ◌==◌, ◌&&◌, Bool, false, if◌then◌else◌, nat_lt, List, [], ◌++◌, length}
+use Rattle.std.specs.Prelude.{codes, Option, None, Some}
+use Rattle.std.specs.Option.{option_map_or}
+use Rattle.mxf_klv.specs.Parts.{NoteParts}
+use Rattle.mxf_tool.specs.declared.beginning.Beginning.{Beginning}
+use Rattle.mxf_tool.specs.declared.beginning.Beginning.TheVariants as beginnings
+use Rattle.mxf_tool.specs.declared.saving.refusal.OutputRefusal.{OutputRefusal}
+use Rattle.mxf_tool.specs.declared.saving.refusal.OutputRefusal.TheVariants as refusals
 use Rattle.std.specs.Path.{path_file_name, path_with_file_name}
 use Rattle.std.specs.declared.io.ErrorKind.{ErrorKind}
 use Rattle.std.specs.declared.io.ErrorKind.TheVariants as kinds
@@ -20,8 +27,21 @@ IsBeside path part =
 abbrev pub NamesStandardOutput : List ℕ → Type 0
 NamesStandardOutput path = (path ≡ codes "/dev/stdout") ⊎ (path ≡ codes "/dev/fd/1") ⊎ (path ≡ codes "/proc/self/fd/1")
 
+-- Why a regular file that begins so isn't replaced by a catalogue: an empty one and a catalogue are.
+abbrev pub refusal_by : Beginning → Option OutputRefusal
+refusal_by beginnings.Nothing = None
+refusal_by beginnings.Label = Some refusals.Recording
+refusal_by beginnings.Catalogue = None
+refusal_by beginnings.Other = Some refusals.Other
+
+-- A content without a note is kept only where nothing with bytes stands, of this size.
+abbrev pub keeps_nothing : List NoteParts → Option ℕ → Bool
+keeps_nothing notes size = length notes == 0 && option_map_or (nat_lt 0) size false
+
 -- Why a catalogue isn't saved, by what the system says.
 abbrev pub IsSaveFaultOf : ErrorKind → SaveFault → Type 0
 IsSaveFaultOf kind faults.OutOfMemory = kind ≡ kinds.OutOfMemory
+IsSaveFaultOf kind (faults.Refused why) = ⊥
+IsSaveFaultOf kind faults.NothingToKeep = ⊥
 IsSaveFaultOf kind (faults.Reserved part) = ⊥
 IsSaveFaultOf kind (faults.Write cause) = kind ≢ kinds.OutOfMemory

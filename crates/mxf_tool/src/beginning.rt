@@ -9,6 +9,8 @@ use std::rt::Files;
 /// What the first bytes of a file are.
 #[derive(Clone, Copy)]
 pub enum Beginning {
+    /// There are none: the file is empty.
+    Nothing,
     /// Those of a label, with which a packet begins (ST 336).
     Label,
     /// Those of a catalogue.
@@ -25,7 +27,9 @@ impl Beginning {
     fn of_bytes(front: &[u8]) -> Beginning
         ensures { result ≡ beginning_of front.now }
     {
-        if front.starts_with(&[0x06u8, 0x0e, 0x2b, 0x34]) {
+        if front.is_empty() {
+            Beginning::Nothing
+        } else if front.starts_with(&[0x06u8, 0x0e, 0x2b, 0x34]) {
             Beginning::Label
         } else if front.starts_with(b"MXFCAT\0") {
             Beginning::Catalogue

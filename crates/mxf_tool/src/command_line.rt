@@ -10,10 +10,26 @@ use std::alloc::{AllocError, Global};
 pub struct Request<'m, 'a> {
     pub task: Task<'a>,
     pub form: Form,
+    pub named: Named<'m, 'a>,
+    /// The sources beside these: the earlier ones of a renewal, those of a reference, or the recordings in which
+    /// fragments are looked for.
+    pub beside: Named<'m, 'a>,
+}
+
+/// Sources that words name, and a list after them.
+#[derive(Clone, Copy)]
+pub struct Named<'m, 'a> {
     pub words: Option<&'m [&'a str]>,
     pub list: Option<&'a str>,
-    /// The words that name the sources that are opened first: the earlier ones of a renewal, or those of a reference.
-    pub before: Option<&'m [&'a str]>,
+}
+
+/// When hints are printed after a fault or an answer.
+#[derive(Clone, Copy)]
+pub enum Hints {
+    /// If standard error is a terminal.
+    Auto,
+    Always,
+    Never,
 }
 
 /// What is to be done.
@@ -25,10 +41,12 @@ pub enum Task<'a> {
     Sources,
     /// To print how sources stand to a reference.
     Verify(Verifying),
+    /// To print in which recordings the sources lie.
+    Find,
     /// To save what the sources hold together.
     Join(Saving<'a>),
     /// To save what earlier sources hold together, renewed by the others.
-    Renew(Saving<'a>),
+    Renew(Renewing<'a>),
 }
 
 /// What is printed of what the sources hold together.
@@ -36,8 +54,11 @@ pub enum Task<'a> {
 pub enum Told {
     /// An answer.
     Answer(Ask),
-    /// A map.
-    Map(Grid),
+    /// A map, with the ranges of its bytes if they are asked for.
+    Map {
+        grid: Grid,
+        with_extents: bool,
+    },
     /// Where edit units lie, by the index of an IndexSID, or by the only one that is held.
     Units {
         index: Option<u32>,
@@ -54,11 +75,21 @@ pub struct Verifying {
     pub units: Option<IndexedUnits>,
 }
 
-/// Where a catalogue is saved. A strict join or renewal ends with another status if a piece isn't noted whole.
+/// Where a catalogue is saved.
 #[derive(Clone, Copy)]
 pub struct Saving<'a> {
     pub out: &'a str,
+    /// Whether the run ends with another status if a piece isn't noted whole, or a note is disputed.
     pub is_strict: bool,
+    /// Whether nothing is saved, and only what would be is printed.
+    pub is_dry: bool,
+}
+
+/// Where a renewed catalogue is saved, and whether earlier notes are dropped without a question.
+#[derive(Clone, Copy)]
+pub struct Renewing<'a> {
+    pub saving: Saving<'a>,
+    pub drops: bool,
 }
 
 /// The edit units that words ask for.
@@ -154,7 +185,10 @@ const MAP_HELP: &str = source_help!(
   !  disputed         H F B R  a header, footer or body partition, or a random index pack begins
   o  a named place that isn't held   ~  nothing is held, some of it is at hand in a range
   .  nothing is held or at hand      +  some of it is held
-  m  all held, header metadata       i  all held, index   #  all held";
+  m  all held, header metadata       i  all held, index   #  all held
+
+With --extents a line for each range of bytes that stand alike, behind the rows: extent START END WORD, the word being
+disputed, held, hand or missing.";
     "Example: mxf_tool map --columns 100 cat:clip.cat"
 );
 
@@ -188,15 +222,37 @@ cut; with --whole also that all of the reference is there and no other byte, or 
     "Example: mxf_tool verify --against cat:clip.cat --whole at:0:clip.mxf"
 );
 
+/// What the help of `find` ends with.
+const FIND_HELP: &str = source_help!(
+    "Each SRC is a fragment, and is looked for by itself: range:0:PATH are bytes that lie nobody knows where. Each SOURCE of
+--in and of --recordings is a recording by itself.
+
+Lines:
+  found I K OFFSET N of M heads H SOURCE  recording K has N of the M packets of fragment I, if the bytes of it that the
+                                          word calls OFFSET lie at this one; H of them by their lengths alone
+  unknown I M           no recording tells where fragment I lies
+  fragments N found F   F of N fragments lie in one recording with all their packets, and in no other
+
+Status 0 says that each fragment does.";
+    "SRC or SOURCE", "it", "join or renew",
+    "Example: mxf_tool find --in cat:monday.cat --in cat:tuesday.cat range:0:fragment.bin"
+);
+
 /// What the help of `join` ends with.
 const JOIN_HELP: &str = source_help!(
+    "A file at PATH is replaced if it is a catalogue or empty. Any other stays as it is, and so does each one if no packet is
+there to be kept.";
     "Example: mxf_tool join --out clip.cat at:0:front.bin cat:earlier.cat"
 );
 
 /// What the help of `renew` ends with.
 const RENEW_HELP: &str = source_help!(
     "What SRC.. hold is the newer: a packet of --old is dropped that one of SRC.. contradicts, since both hold a byte
-and differ. All others are kept. Each is printed that was dropped.";
+and differ. All others are kept. Each is printed that was dropped.
+
+Nothing is saved if all partition packs of one SRC say that its OFFSET is wrong, by the same number of bytes; nor if more
+packets of essence are dropped than SRC.. have of those of --old, since they are of another recording then. --drop saves
+all the same.";
     "SRC or SOURCE", "it", "join or renew",
     "Example: mxf_tool renew --out new.cat --old cat:clip.cat at:0:clip.mxf"
 );
@@ -217,6 +273,7 @@ pub fn command<'a>(alloc: Global) -> Result<Command<'a>, AllocError> {
     let tool = with(tool, map(alloc));
     let tool = with(tool, verify(alloc));
     let tool = with(tool, beside(alloc));
+    let tool = with(tool, find(alloc));
     let tool = with(tool, join(alloc));
     with(tool, renew(alloc))
 }
@@ -264,7 +321,7 @@ fn plan<'a>(alloc: Global) -> Result<Command<'a>, AllocError> {
 
 fn map<'a>(alloc: Global) -> Result<Command<'a>, AllocError> {
     let about = "Prints what is held of the recording, as a picture";
-    let map = named(alloc, "map", about, MAP_HELP);
+    let map = named(alloc, "map", about, MAP_HELP).arg(extents(alloc))?;
     with_sources(alloc, with_args(map, columns(alloc), rows(alloc))?)
 }
 
@@ -288,24 +345,37 @@ fn beside<'a>(alloc: Global) -> Result<Command<'a>, AllocError> {
     with_sources(alloc, named(alloc, "sources", about, SOURCES_HELP))
 }
 
+/// The subcommand that looks for fragments in recordings.
+fn find<'a>(alloc: Global) -> Result<Command<'a>, AllocError> {
+    let about = "Prints which recording has the packets of each source, and where they lie in it";
+    let find = named(alloc, "find", about, FIND_HELP);
+    with_sources(alloc, with_args(find, within(alloc)?, recordings(alloc))?)
+}
+
 /// The subcommand that saves what is joined.
 fn join<'a>(alloc: Global) -> Result<Command<'a>, AllocError> {
     let about = "Writes the catalogue of what the sources hold together to a file";
-    let join = named(alloc, "join", about, JOIN_HELP);
-    with_sources(alloc, with_args(join, out(alloc), strict(alloc))?)
+    let join = with_saving(alloc, named(alloc, "join", about, JOIN_HELP));
+    with_sources(alloc, join?)
 }
 
 /// The subcommand that saves what is renewed.
 fn renew<'a>(alloc: Global) -> Result<Command<'a>, AllocError> {
     let about = "Writes a catalogue of earlier sources, renewed by newer ones, to a file";
-    let renew = named(alloc, "renew", about, RENEW_HELP).arg(out(alloc))?;
-    with_sources(alloc, with_args(renew, old(alloc), strict(alloc))?)
+    let renew = with_saving(alloc, named(alloc, "renew", about, RENEW_HELP));
+    with_sources(alloc, with_args(renew?, old(alloc), drops(alloc))?)
 }
 
-/// The command with its sources and the form of its lines.
+/// The command with what says where and how a catalogue is saved.
+fn with_saving<'a>(alloc: Global, command: Command<'a>) -> Result<Command<'a>, AllocError> {
+    let command = command.arg(out(alloc))?;
+    with_args(command, strict(alloc), dry_run(alloc))
+}
+
+/// The command with its sources, the form of its lines, and when it prints hints.
 fn with_sources<'a>(alloc: Global, command: Command<'a>) -> Result<Command<'a>, AllocError> {
-    let command = command.arg(sources(alloc)?)?;
-    with_args(command, list(alloc), json(alloc))
+    let command = with_args(command, sources(alloc)?, list(alloc));
+    with_args(command?, json(alloc), hints(alloc))
 }
 
 /// The command with two arguments more.
@@ -356,9 +426,32 @@ fn json<'a>(alloc: Global) -> Arg<'a> {
     flag(alloc, "json", "Prints each line as a JSON object")
 }
 
+/// The words of `--hints`.
+const WHEN: &[&str] = &["auto", "always", "never"];
+
+fn hints<'a>(alloc: Global) -> Arg<'a> {
+    let help = "When hints follow what is printed on standard error: auto is on a terminal alone";
+    option(alloc, "hints", "WHEN", help).value_parser(WHEN)
+}
+
 fn strict<'a>(alloc: Global) -> Arg<'a> {
-    let help = "Ends with status 1 if a piece ends neither with a packet nor with one that is cut";
+    let help = "Ends with status 1 if a piece ends neither with a packet nor with one that is cut, or packets are in dispute";
     flag(alloc, "strict", help)
+}
+
+fn dry_run<'a>(alloc: Global) -> Arg<'a> {
+    let help = "Prints what it would print, and writes nothing";
+    flag(alloc, "dry-run", help)
+}
+
+fn drops<'a>(alloc: Global) -> Arg<'a> {
+    let help = "Saves whatever is dropped, and whatever OFFSET partition packs say";
+    flag(alloc, "drop", help)
+}
+
+fn extents<'a>(alloc: Global) -> Arg<'a> {
+    let help = "Prints too from where to where bytes are in dispute, held, at hand or missing";
+    flag(alloc, "extents", help)
 }
 
 fn index<'a>(alloc: Global) -> Arg<'a> {
@@ -420,25 +513,33 @@ fn rows<'a>(alloc: Global) -> Arg<'a> {
 
 fn out<'a>(alloc: Global) -> Arg<'a> {
     let help =
-        "The file to write: replaced whole or, at a fault, left as it was; not standard output, nor a recording";
+        "The file to write: a catalogue or an empty file there is replaced whole or, at a fault, left as it was";
     option(alloc, "out", "PATH", help).required(true)
 }
 
 fn old<'a>(alloc: Global) -> Arg<'a> {
     let help = "An earlier source, as SRC; it may be given more than once";
-    before(alloc, "old", help)
+    besides(alloc, "old", help).required(true)
 }
 
 fn against<'a>(alloc: Global) -> Arg<'a> {
     let help = "A source of the reference, as SRC; it may be given more than once";
-    before(alloc, "against", help)
+    besides(alloc, "against", help).required(true)
 }
 
-/// The option of that name that names a source, which may be given more than once.
-fn before<'a>(alloc: Global, name: &'a str, help: &'a str) -> Arg<'a> {
-    option(alloc, name, "SOURCE", help)
-        .action(ArgAction::Append)
-        .required(true)
+fn within<'a>(alloc: Global) -> Result<Arg<'a>, AllocError> {
+    let help = "A source that is a recording by itself, as SRC; it may be given more than once";
+    besides(alloc, "in", help).required_unless_present("recordings")
+}
+
+fn recordings<'a>(alloc: Global) -> Arg<'a> {
+    let help = "A file with further recordings, a source a line; - is standard input";
+    option(alloc, "recordings", "FILE", help)
+}
+
+/// The option of that name that names a source beside SRC, which may be given more than once.
+fn besides<'a>(alloc: Global, name: &'a str, help: &'a str) -> Arg<'a> {
+    option(alloc, name, "SOURCE", help).action(ArgAction::Append)
 }
 
 fn whole<'a>(alloc: Global) -> Arg<'a> {
@@ -457,17 +558,50 @@ pub fn request_of<'m, 'a>(
     Some(Request {
         task: task_of(name, inner, units)?,
         form: form_of(inner),
-        words: inner.get_strs("SRC"),
-        list: inner.get_str("sources"),
-        before: words_before(inner),
+        named: Named {
+            words: inner.get_strs("SRC"),
+            list: inner.get_str("sources"),
+        },
+        beside: Named {
+            words: words_beside(inner),
+            list: inner.get_str("recordings"),
+        },
     })
 }
 
-/// The words that name the sources that are opened before the others.
-fn words_before<'m, 'a>(inner: &'m ArgMatches<'a>) -> Option<&'m [&'a str]> {
-    match inner.get_strs("old") {
-        Some(words) => Some(words),
-        None => inner.get_strs("against"),
+/// The words that name the sources beside SRC.
+fn words_beside<'m, 'a>(inner: &'m ArgMatches<'a>) -> Option<&'m [&'a str]> {
+    let words = inner.get_strs("old").or(inner.get_strs("against"));
+    words.or(inner.get_strs("in"))
+}
+
+/// When hints are to be printed.
+pub fn hints_of(inner: &ArgMatches<'_>) -> Hints {
+    Hints::named(inner.get_str("hints").unwrap_or("auto"))
+}
+
+impl Hints {
+    /// What the word of `--hints` says; `auto` if it is none of its words.
+    pub fn named(word: &str) -> Hints {
+        match word {
+            "always" => Hints::Always,
+            "never" => Hints::Never,
+            _ => Hints::Auto,
+        }
+    }
+
+    /// What `--hints` says among words that aren't taken.
+    pub fn among(words: &[String]) -> Hints {
+        let mut before = "";
+        for word in words {
+            let word = word.as_str();
+            let (option, value) = word.split_once('=').unwrap_or((before, word));
+            if option == "--hints" {
+                return Hints::named(value);
+            }
+            before = word;
+        }
+        Hints::Auto
     }
 }
 
@@ -484,12 +618,16 @@ fn form_of(inner: &ArgMatches<'_>) -> Form {
 fn task_of<'a>(name: &str, inner: &ArgMatches<'a>, units: AskedUnits) -> Option<Task<'a>> {
     match name {
         "sources" => Some(Task::Sources),
+        "find" => Some(Task::Find),
         "verify" => Some(Task::Verify(Verifying {
             is_whole: inner.get_flag("whole"),
             units: indexed(inner, units),
         })),
         "join" => Some(Task::Join(saving_of(inner)?)),
-        "renew" => Some(Task::Renew(saving_of(inner)?)),
+        "renew" => Some(Task::Renew(Renewing {
+            saving: saving_of(inner)?,
+            drops: inner.get_flag("drop"),
+        })),
         _ => Some(Task::Tell(told_of(name, inner, units)?)),
     }
 }
@@ -508,12 +646,18 @@ fn told_of(name: &str, inner: &ArgMatches<'_>, units: AskedUnits) -> Option<Told
             units,
         }),
         "plan" => Some(planned_of(inner, units)),
-        "map" => Some(Told::Map(Grid::new(
-            inner.get_one("columns").unwrap_or(64),
-            inner.get_one("rows").unwrap_or(16),
-        )?)),
+        "map" => Some(Told::Map {
+            grid: grid_of(inner)?,
+            with_extents: inner.get_flag("extents"),
+        }),
         _ => None,
     }
+}
+
+/// The cells of the map that matches ask for.
+fn grid_of(inner: &ArgMatches<'_>) -> Option<Grid> {
+    let columns = inner.get_one("columns").unwrap_or(64);
+    Grid::new(columns, inner.get_one("rows").unwrap_or(16))
 }
 
 /// What the matches of a command plan: these edit units if they name an index, otherwise all.
@@ -529,6 +673,7 @@ fn saving_of<'a>(inner: &ArgMatches<'a>) -> Option<Saving<'a>> {
     Some(Saving {
         out: inner.get_str("out")?,
         is_strict: inner.get_flag("strict"),
+        is_dry: inner.get_flag("dry-run"),
     })
 }
 

@@ -3,16 +3,20 @@ ghost use Rattle.std.specs.Prelude.{◌<◌, ◌++◌, ◌≡◌, [], ◌∷◌,
 ghost use Rattle.mxf_views.specs.Headline.{IsTheRun};
 ghost use Rattle.mxf_read.specs.Gathering.{AllTell, HandedBy, Tells, reports_in, reports_of};
 ghost use Rattle.mxf_tool.specs.Contents.{AreRuns, TakesAlone, numbered};
+ghost use Rattle.mxf_tool.specs.Shifts.{AreShifts};
 
+use crate::shift::{Shift, shift_of};
 use mxf_catalogue::Catalogue;
 use mxf_read::{GatherFault, Gathered, Part, PartFault, PieceReport, gather};
 use std::alloc::{AllocError, Global};
 use std::io::Read;
 
-/// What each of some parts holds by itself, and what was noted of each piece.
+/// What each of some parts holds by itself, how far its partitions are from where they say that they lie, and what was
+/// noted of each piece.
 #[derive(Drop)]
 pub struct Contents {
     pub contents: Vec<Catalogue>,
+    pub shifts: Vec<Option<Shift>>,
     pub reports: Vec<PieceReport>,
 }
 
@@ -25,10 +29,12 @@ pub fn gather_each<R: Read + Drop>(
         → IfOk result (λ c. AreRuns R.remaining parts.items c.contents.items) }
     ensures reports { AllTell R.remaining parts.items
         → IfOk result (λ c. c.reports.items ≡ reports_of R.remaining parts.items) }
+    ensures shifts { IfOk result (λ c. AreShifts c.contents.items c.shifts.items) }
     ensures number { IfErr result (λ f. f.part < length parts.items) }
 {
     let mut contents = Contents {
         contents: Vec::new(alloc),
+        shifts: Vec::new(alloc),
         reports: Vec::new(alloc),
     };
     let mut number: usize = 0;
@@ -51,9 +57,11 @@ fn take_alone<R: Read + Drop>(
     number: usize,
     part: Part<R>,
 ) -> Result<(), PartFault>
-    ensures { Tells R.remaining part
+    ensures taken { Tells R.remaining part
         → OnOk result (TakesAlone R.remaining number part contents.old.contents.items contents.new.contents.items
         contents.old.reports.items contents.new.reports.items) }
+    ensures shifts { AreShifts contents.old.contents.items contents.old.shifts.items
+        → OnOk result (AreShifts contents.new.contents.items contents.new.shifts.items) }
 {
     let gathered = gather_one(alloc, part)?;
     keep(contents, number, gathered)?;
@@ -66,9 +74,12 @@ fn keep(contents: &mut Contents, number: usize, gathered: Gathered) -> Result<()
         (contents.new.contents.items ≡ contents.old.contents.items ++ gathered.views ∷ []) }
     ensures reports { OnOk result
         (contents.new.reports.items ≡ contents.old.reports.items ++ map (numbered number) gathered.reports) }
+    ensures shifts { AreShifts contents.old.contents.items contents.old.shifts.items
+        → OnOk result (AreShifts contents.new.contents.items contents.new.shifts.items) }
 {
     let Gathered { views, reports } = gathered;
     push_all(&mut contents.reports, number, reports.as_slice())?;
+    contents.shifts.push(shift_of(&views))?;
     contents.contents.push(views.into_catalogue())?;
     Ok(())
 }

@@ -1,6 +1,6 @@
 //! How a run of the program ends.
 ghost use Rattle.std.specs.Prelude.{◌≡◌};
-ghost use Rattle.mxf_tool.specs.Exits.{exit_of_answer, exit_of_join, is_noted, status_of};
+ghost use Rattle.mxf_tool.specs.Exits.{exit_of_answer, exit_of_disputes, exit_of_join, is_noted, status_of};
 ghost use Rattle.std.specs.List.{list_all};
 
 use mxf_klv::Stop;
@@ -13,9 +13,10 @@ pub enum Exit {
     /// All was printed; also help.
     Done,
     /// All was printed, and something was found: a finding, or a piece that doesn't end with a packet; something to
-    /// restore; a strict join or renewal with bytes after a stop; an edit unit without a place or with several, or one
-    /// that is neither held whole nor at hand; a disputed note; a packet that differs, or not all verified that is
-    /// asked for.
+    /// restore; a strict join or renewal with bytes after a stop or disputed notes; an edit unit without a place or with
+    /// several, or one that is neither held whole nor at hand; a disputed note; a packet that differs, or not all
+    /// verified that is asked for; a fragment that isn't found in one recording alone. Or nothing was saved, since no
+    /// note is to be kept, or the renewal is by another recording.
     Found,
     /// The arguments were refused, or one names no source.
     Usage,
@@ -51,6 +52,18 @@ impl Exit {
         ensures { result ≡ exit_of_join self is_strict reports.now }
     {
         if is_strict && !are_noted(reports) {
+            Exit::Found
+        } else {
+            self
+        }
+    }
+
+    /// How a join or a renewal ends that would end so: a strict one finds something if notes are disputed, whose number
+    /// this is.
+    pub fn of_disputes(self, is_strict: bool, disputed: usize) -> Exit
+        ensures { result ≡ exit_of_disputes self is_strict disputed }
+    {
+        if is_strict && disputed > 0 {
             Exit::Found
         } else {
             self

@@ -11,6 +11,7 @@ mod part;
 mod program;
 mod reopened;
 mod saving;
+mod shift;
 mod shown;
 mod source;
 mod system_fault;

@@ -1,8 +1,11 @@
 //! The run of the program: its arguments, its files, its lines, and its exit status.
+mod apart;
 mod beside;
 mod fault;
+mod finding;
 mod front;
 mod hint;
+mod index;
 mod offsets;
 mod refusal;
 mod renewing;
@@ -15,20 +18,23 @@ mod verifying;
 
 use crate::arguments::unreadable_argument;
 use crate::command_line::{
-    AskedUnits, BadLastUnit, Request, Saving, Task, Told, command, request_of, signed_number,
-    units_of,
+    AskedUnits, BadLastUnit, Hints, Request, Saving, Task, Told, command, hints_of, request_of,
+    signed_number, units_of,
 };
 use crate::exit::Exit;
 use crate::part::part_of;
 use crate::reopened::{Reopened, extent_of};
-use crate::saving::{BUFFER_BYTES, Reservation, SaveFault, WatchedWriter, is_refused};
+use crate::saving::{BUFFER_BYTES, Reservation, SaveFault, WatchedWriter, refusal_of};
 use crate::source::Source;
 use crate::system_fault::{LastFault, SystemFault};
 use crate::watching::{Screen, Watched};
+use apart::{tell_apart, tell_unsettled};
 use beside::print_beside;
 use clap::ArgMatches;
 use clap::error::ErrorKind;
-use fault::{IndexSids, RunFault};
+use fault::RunFault;
+use finding::print_found_in;
+use index::{only_index, tell_index};
 use mxf_hand::{PutTogether, put_together};
 use mxf_lines::{
     AnswerFault, Ask, Form, Grid, Verified, answer, print_map, print_renewed, print_sources,
@@ -38,20 +44,19 @@ use mxf_places::AtHand;
 use mxf_read::{
     Extent, GatherFault, Gathered, Given, Part, PartFault, PieceReport, SourceFault, gather,
 };
-use mxf_units::{UnitRange, index_sids};
+use mxf_units::UnitRange;
 use mxf_verify::{Readings, Renewed};
 use mxf_views::Views;
-use offsets::{is_contradicted, tell_offsets};
 use refusal::RefusalHint;
 use renewing::print_renewal;
-use sources::{read_list, sources_before, sources_of, unread};
-use std::alloc::{AllocError, Global};
+use sources::{Lists, read_lists, sources_of, unread};
+use std::alloc::Global;
 use std::fs::{self, File};
 use std::io::{BufWriter, Input, Read, Write};
 use std::rt::{Clock, Env, Files};
 use std::{env, io};
 use stops::tell_stops;
-use telling::{tell, tell_on_screen};
+use telling::{Telling, tell, tell_on_screen};
 use unit_range::range_of;
 use verifying::print_verified;
 
@@ -63,34 +68,37 @@ impl<R: Files<File = File> + Clock + Env + Input + Print + Eprint + AllocGlobal>
 /// What each task is done with.
 #[derive(Clone, Copy)]
 pub struct Inputs<'s, 'a> {
-    pub screen: Screen,
+    pub telling: Telling,
     pub form: Form,
-    /// The sources that are opened first: the earlier ones of a renewal, or those of a reference.
-    pub before: &'s [Source<'a>],
+    /// The sources beside these: the earlier ones of a renewal, those of a reference, or the recordings in which
+    /// fragments are looked for.
+    pub beside: &'s [Source<'a>],
     pub sources: &'s [Source<'a>],
 }
 
 /// Runs the program on the arguments that it was started with.
 pub fn run<R: System>(rt: &R, screen: Screen) -> Exit {
+    let telling = Telling::of(screen, Hints::Auto);
     let arguments = match env::args(rt) {
         Ok(arguments) => arguments,
-        Err(fault) => return unread_arguments(rt, screen, &fault),
+        Err(fault) => return unread_arguments(rt, telling, &fault),
     };
     let arguments: Vec<String> = match arguments.collect(rt.alloc()) {
         Ok(arguments) => arguments,
-        Err(_) => return tell(rt, screen, &RunFault::OutOfMemory),
+        Err(_) => return tell(rt, telling, &RunFault::OutOfMemory),
     };
     run_on(rt, screen, arguments.as_slice())
 }
 
 /// Runs the program on these arguments.
 fn run_on<R: System>(rt: &R, screen: Screen, arguments: &[String]) -> Exit {
+    let telling = Telling::of(screen, Hints::among(arguments));
     let Ok(command) = command(rt.alloc()) else {
-        return tell(rt, screen, &RunFault::OutOfMemory);
+        return tell(rt, telling, &RunFault::OutOfMemory);
     };
     match command.try_get_matches_from(arguments) {
         Ok(matches) => matched(rt, screen, &matches),
-        Err(refusal) => refused(rt, screen, arguments, &refusal),
+        Err(refusal) => refused(rt, telling, arguments, &refusal),
     }
 }
 
@@ -99,46 +107,52 @@ fn matched<R: System>(rt: &R, screen: Screen, matches: &ArgMatches<'_>) -> Exit 
     let Some((name, inner)) = matches.subcommand() else {
         return Exit::Usage;
     };
+    let telling = Telling::of(screen, hints_of(inner));
     if let Some((option, text)) = signed_number(inner) {
-        return tell(rt, screen, &RunFault::Signed { option, text });
+        return tell(rt, telling, &RunFault::Signed { option, text });
     }
     let units = match units_of(inner) {
         Ok(units) => units,
-        Err(BadLastUnit(text)) => return tell(rt, screen, &RunFault::BadLastUnit { text }),
+        Err(BadLastUnit(text)) => return tell(rt, telling, &RunFault::BadLastUnit { text }),
     };
     match request_of(name, inner, units) {
-        Some(request) => perform(rt, screen, &request),
+        Some(request) => perform(rt, telling, &request),
         None => Exit::Usage,
     }
 }
 
 /// Reports why there are no arguments.
-fn unread_arguments<R: System>(rt: &R, screen: Screen, fault: &io::Error) -> Exit {
+fn unread_arguments<R: System>(rt: &R, telling: Telling, fault: &io::Error) -> Exit {
     if fault.kind() == io::ErrorKind::OutOfMemory {
-        return tell(rt, screen, &RunFault::OutOfMemory);
+        return tell(rt, telling, &RunFault::OutOfMemory);
     }
     let _ = match unreadable_argument(rt) {
         Ok(Some(number)) => rt.eprintln(format_args!("error: argument {number} is not UTF-8")),
         Ok(None) => rt.eprintln("error: an argument is not UTF-8"),
-        Err(_) => return tell(rt, screen, &RunFault::OutOfMemory),
+        Err(_) => return tell(rt, telling, &RunFault::OutOfMemory),
     };
     Exit::Usage
 }
 
 /// Prints what `clap` says of arguments that it refused, or its help.
-fn refused<R: System>(rt: &R, screen: Screen, arguments: &[String], refusal: &clap::Error) -> Exit {
+fn refused<R: System>(
+    rt: &R,
+    telling: Telling,
+    arguments: &[String],
+    refusal: &clap::Error,
+) -> Exit {
     if refusal.kind() == ErrorKind::OutOfMemory {
-        return tell(rt, screen, &RunFault::OutOfMemory);
+        return tell(rt, telling, &RunFault::OutOfMemory);
     }
     let printed = refusal.print(rt);
     if refusal.use_stderr() {
-        return refused_with(rt, screen, arguments);
+        return refused_with(rt, telling, arguments);
     }
     match printed {
         Ok(()) => Exit::Done,
         Err(fault) => tell(
             rt,
-            screen,
+            telling,
             &RunFault::Unwritten {
                 cause: SystemFault::of(&fault),
             },
@@ -146,12 +160,12 @@ fn refused<R: System>(rt: &R, screen: Screen, arguments: &[String], refusal: &cl
     }
 }
 
-/// Ends a run whose arguments were refused: on a terminal it tells what one may have been meant for.
-fn refused_with<R: System>(rt: &R, screen: Screen, arguments: &[String]) -> Exit {
-    if screen == Screen::Terminal {
+/// Ends a run whose arguments were refused: if hints are told, it tells what one may have been meant for.
+fn refused_with<R: System>(rt: &R, telling: Telling, arguments: &[String]) -> Exit {
+    if telling.has_hints {
         if let Some(hint) = RefusalHint::of(arguments) {
             if tell_on_screen(rt, &hint).is_err() {
-                return tell(rt, screen, &RunFault::OutOfMemory);
+                return tell(rt, telling, &RunFault::OutOfMemory);
             }
         }
     }
@@ -159,33 +173,37 @@ fn refused_with<R: System>(rt: &R, screen: Screen, arguments: &[String]) -> Exit
 }
 
 /// Does what is asked for, and reports a fault.
-fn perform<R: System>(rt: &R, screen: Screen, request: &Request<'_, '_>) -> Exit {
-    match read_list(rt, request.list) {
-        Ok(list) => perform_with(rt, screen, request, &list),
-        Err(fault) => tell(rt, screen, &fault),
+fn perform<R: System>(rt: &R, telling: Telling, request: &Request<'_, '_>) -> Exit {
+    match read_lists(rt, request.named.list, request.beside.list) {
+        Ok(lists) => perform_with(rt, telling, request, &lists),
+        Err(fault) => tell(rt, telling, &fault),
     }
 }
 
-/// Does what is asked for if the list has these bytes, and reports a fault.
-fn perform_with<R: System>(rt: &R, screen: Screen, request: &Request<'_, '_>, list: &[u8]) -> Exit {
-    let before = match sources_before(rt.alloc(), request.before) {
-        Ok(before) => before,
-        Err(fault) => return tell(rt, screen, &fault),
+/// Does what is asked for if the lists have these bytes, and reports a fault.
+fn perform_with<R: System>(
+    rt: &R,
+    telling: Telling,
+    request: &Request<'_, '_>,
+    lists: &Lists,
+) -> Exit {
+    let beside = match sources_of(rt.alloc(), request.beside, &lists.beside) {
+        Ok(beside) => beside,
+        Err(fault) => return tell(rt, telling, &fault),
     };
-    let path = request.list.unwrap_or("");
-    let sources = match sources_of(rt.alloc(), request.words, path, list) {
+    let sources = match sources_of(rt.alloc(), request.named, &lists.named) {
         Ok(sources) => sources,
-        Err(fault) => return tell(rt, screen, &fault),
+        Err(fault) => return tell(rt, telling, &fault),
     };
     let inputs = Inputs {
-        screen,
+        telling,
         form: request.form,
-        before: &before,
+        beside: &beside,
         sources: &sources,
     };
     match perform_on(rt, inputs, request.task) {
         Ok(exit) => exit,
-        Err(fault) => tell(rt, screen, &fault),
+        Err(fault) => tell(rt, telling, &fault),
     }
 }
 
@@ -198,9 +216,10 @@ fn perform_on<'a, R: System>(
     match task {
         Task::Tell(told) => print_told(rt, inputs, told),
         Task::Sources => print_beside(rt, inputs),
+        Task::Find => print_found_in(rt, inputs),
         Task::Verify(asked) => print_verified(rt, inputs, asked),
         Task::Join(saving) => print_joined(rt, inputs, saving),
-        Task::Renew(saving) => print_renewal(rt, inputs, saving),
+        Task::Renew(renewing) => print_renewal(rt, inputs, renewing),
     }
 }
 
@@ -223,48 +242,58 @@ fn print_held<'a, R: System>(
 ) -> Result<Exit, RunFault<'a>> {
     let printed = match asked {
         Told::Answer(ask) => Printed::Answer(ask, held),
-        Told::Map(grid) => Printed::Map(grid, held),
+        Told::Map { grid, with_extents } => Printed::Map {
+            grid,
+            with_extents,
+            held,
+        },
         Told::Units { index, units } => {
-            let ask = ask_of_units(rt.alloc(), &held.gathered.views, index, units)?;
+            let ask = ask_of_units(rt, &held.gathered.views, index, units)?;
             Printed::Answer(ask, held)
         }
         Told::UnitPlan(asked) => {
             let index = asked.index;
+            tell_index(rt, &held.gathered.views, index)?;
             let range = range_of(&held.gathered.views, index, asked.units)?;
             Printed::UnitPlan { index, range, held }
         }
     };
     let exit = print_answer(rt, printed, inputs.form)?;
+    if let (Told::UnitPlan(_), Exit::Found) = (asked, exit) {
+        told_unsettled(rt, inputs, &held.gathered.views)?;
+    }
     told_held(rt, inputs, held, false, exit)
 }
 
+/// If hints are told, it tells that units aren't there while packets of the only source are disputed.
+fn told_unsettled<'a, R: System>(
+    rt: &R,
+    inputs: Inputs<'_, 'a>,
+    views: &Views,
+) -> Result<(), RunFault<'a>> {
+    let is_one = inputs.sources.len() == 1;
+    if inputs.telling.has_hints && is_one && tell_unsettled(rt, views).is_err() {
+        return Err(RunFault::OutOfMemory);
+    }
+    Ok(())
+}
+
 /// What asks where edit units lie, by the index of an IndexSID, or by the only one that is held.
-fn ask_of_units<'a>(
-    alloc: Global,
+fn ask_of_units<'a, R: Eprint + AllocGlobal>(
+    rt: &R,
     views: &Views,
     index: Option<u32>,
     units: AskedUnits,
 ) -> Result<Ask, RunFault<'a>> {
     let index = match index {
-        Some(index) => index,
-        None => only_index(alloc, views)?,
+        Some(index) => {
+            tell_index(rt, views, index)?;
+            index
+        }
+        None => only_index(rt.alloc(), views)?,
     };
     let range = range_of(views, index, units)?;
     Ok(Ask::Units { index, range })
-}
-
-/// The IndexSID of the only index that is held.
-fn only_index<'a>(alloc: Global, views: &Views) -> Result<u32, RunFault<'a>> {
-    let Ok(held) = index_sids(alloc, views) else {
-        return Err(RunFault::OutOfMemory);
-    };
-    match held.as_slice() {
-        [] => Err(RunFault::NoIndex),
-        [index] => Ok(*index),
-        _ => Err(RunFault::SeveralIndexes {
-            held: IndexSids(held),
-        }),
-    }
 }
 
 /// Writes the catalogue of what the sources hold together, and prints how many notes it has.
@@ -273,7 +302,7 @@ fn print_joined<'a, R: System>(
     inputs: Inputs<'_, 'a>,
     saving: Saving<'a>,
 ) -> Result<Exit, RunFault<'a>> {
-    let held = join(rt, inputs, saving.out)?;
+    let held = join(rt, inputs, saving)?;
     print_saved(rt, inputs, saving.is_strict, &held)
 }
 
@@ -285,12 +314,14 @@ fn print_saved<'a, R: System>(
     held: &Held,
 ) -> Result<Exit, RunFault<'a>> {
     let exit = print_answer(rt, Printed::Answer(Ask::Join, held), inputs.form)?;
-    let exit = exit.of_join(is_strict, held.gathered.reports.as_slice());
+    let Gathered { views, reports } = &held.gathered;
+    let exit = exit.of_join(is_strict, reports.as_slice());
+    let exit = exit.of_disputes(is_strict, views.catalogue().disputed().count());
     told_held(rt, inputs, held, true, exit)
 }
 
-/// Ends a run of which this is held: on a terminal it tells of pieces that weren't noted whole, and what of the sources
-/// doesn't go together.
+/// Ends a run of which this is held: if hints are told, it tells of pieces that weren't noted whole, and what of the
+/// sources doesn't go together.
 fn told_held<'a, R: System>(
     rt: &R,
     inputs: Inputs<'_, 'a>,
@@ -299,34 +330,24 @@ fn told_held<'a, R: System>(
     exit: Exit,
 ) -> Result<Exit, RunFault<'a>> {
     let Gathered { views, reports } = &held.gathered;
-    if inputs.screen == Screen::Terminal && tell_apart(rt, inputs.sources, views).is_err() {
+    let reports = reports.as_slice();
+    let has_hints = inputs.telling.has_hints;
+    if has_hints && tell_apart(rt, inputs.sources, reports, views).is_err() {
         return Err(RunFault::OutOfMemory);
     }
-    let reports = reports.as_slice();
-    told(rt, inputs.screen, inputs.sources, reports, with_stops, exit)
-}
-
-/// Tells on a terminal what of the sources doesn't go together: those that begin elsewhere by their partition packs, or
-/// else that packets are disputed.
-fn tell_apart<R: System>(rt: &R, sources: &[Source<'_>], views: &Views) -> Result<(), AllocError> {
-    if is_contradicted(views) {
-        return tell_offsets(rt, sources);
-    }
-    if sources.len() > 1 && views.catalogue().disputed().next().is_some() {
-        return tell_on_screen(
-            rt,
-            &"hint: packets are in dispute: sources says which source has which reading",
-        );
-    }
-    Ok(())
+    told(rt, has_hints, inputs.sources, reports, with_stops, exit)
 }
 
 /// Writes the catalogue of what the sources hold together. Its place is held before the first source is opened.
-fn join<'a, R: System>(rt: &R, inputs: Inputs<'_, 'a>, out: &'a str) -> Result<Held, RunFault<'a>> {
-    allow_output(rt, out, inputs.sources)?;
-    match Reservation::take(rt, out) {
-        Ok(place) => join_at(rt, inputs, out, place),
-        Err(fault) => Err(unsaved(out, fault)),
+fn join<'a, R: System>(
+    rt: &R,
+    inputs: Inputs<'_, 'a>,
+    saving: Saving<'a>,
+) -> Result<Held, RunFault<'a>> {
+    allow_output(rt, saving.out, inputs.sources)?;
+    match Reservation::take(rt, saving.out, saving.is_dry) {
+        Ok(place) => join_at(rt, inputs, saving.out, place),
+        Err(fault) => Err(unsaved(saving.out, fault)),
     }
 }
 
@@ -336,9 +357,9 @@ fn allow_output<'a, R: System>(
     out: &'a str,
     sources: &[Source<'_>],
 ) -> Result<(), RunFault<'a>> {
-    match is_refused(rt, out, sources) {
-        Ok(false) => Ok(()),
-        Ok(true) => Err(RunFault::BadOutput { path: out }),
+    match refusal_of(rt, out, sources) {
+        Ok(None) => Ok(()),
+        Ok(Some(why)) => Err(RunFault::BadOutput { path: out, why }),
         Err(fault) => Err(unsaved(out, SaveFault::from(fault))),
     }
 }
@@ -361,20 +382,22 @@ fn join_at<'a, 'r, R: System>(
 fn unsaved(path: &str, fault: SaveFault) -> RunFault<'_> {
     match fault {
         SaveFault::OutOfMemory => RunFault::OutOfMemory,
+        SaveFault::Refused(why) => RunFault::BadOutput { path, why },
+        SaveFault::NothingToKeep => RunFault::NothingToKeep { path },
         fault => RunFault::Unsaved { path, fault },
     }
 }
 
-/// Ends a run that was answered: on a terminal it tells of pieces that weren't noted whole.
+/// Ends a run that was answered: if hints are told, it tells of pieces that weren't noted whole.
 fn told<'a, R: System>(
     rt: &R,
-    screen: Screen,
+    has_hints: bool,
     sources: &[Source<'_>],
     reports: &[PieceReport],
     with_stops: bool,
     exit: Exit,
 ) -> Result<Exit, RunFault<'a>> {
-    if screen == Screen::Terminal && tell_stops(rt, sources, reports, with_stops).is_err() {
+    if has_hints && tell_stops(rt, sources, reports, with_stops).is_err() {
         return Err(RunFault::OutOfMemory);
     }
     Ok(exit)
@@ -397,7 +420,7 @@ pub struct Opened<F> {
 /// What the sources hold together. All are opened before the first is read.
 fn hold_sources<'a, R: System>(rt: &R, inputs: Inputs<'_, 'a>) -> Result<Held, RunFault<'a>> {
     let last = LastFault::new();
-    let opened = open_sources(rt, inputs.screen, inputs.sources, &last)?;
+    let opened = open_sources(rt, inputs.telling.screen, inputs.sources, &last)?;
     hold_opened(rt, opened, inputs.sources, &last)
 }
 
@@ -415,7 +438,7 @@ fn hold_opened<'r, 'a, R: System, F: Read + Drop>(
     }
 }
 
-/// Puts packets together of bytes at hand, if one of the sources is a range.
+/// Puts packets together of bytes at hand.
 fn complete<'r, 'a, R: System>(
     rt: &'r R,
     gathered: Gathered,
@@ -423,18 +446,26 @@ fn complete<'r, 'a, R: System>(
     sources: &[Source<'a>],
     last: &'r LastFault,
 ) -> Result<Held, RunFault<'a>> {
-    if !sources.iter().any(|source| source.is_range()) {
-        return Ok(Held {
-            gathered,
-            at_hand: AtHand::nothing(rt.alloc()),
-        });
-    }
     let Gathered { views, reports } = gathered;
+    let PutTogether { views, at_hand } = completed(rt, views, extents, sources, last)?;
+    let gathered = Gathered { views, reports };
+    Ok(Held { gathered, at_hand })
+}
+
+/// Puts packets together of bytes at hand, if one of the sources is a range.
+fn completed<'r, 'a, R: System>(
+    rt: &'r R,
+    views: Views,
+    extents: Vec<Extent>,
+    sources: &[Source<'a>],
+    last: &'r LastFault,
+) -> Result<PutTogether, RunFault<'a>> {
+    if !sources.iter().any(|source| source.is_range()) {
+        let at_hand = AtHand::nothing(rt.alloc());
+        return Ok(PutTogether { views, at_hand });
+    }
     match put_views_together(rt, views, extents, sources, last) {
-        Ok(PutTogether { views, at_hand }) => Ok(Held {
-            gathered: Gathered { views, reports },
-            at_hand,
-        }),
+        Ok(together) => Ok(together),
         Err(fault) => Err(unread_again(fault, sources, last)),
     }
 }
@@ -513,14 +544,20 @@ fn ungathered<'a>(fault: &GatherFault, sources: &[Source<'a>], last: &LastFault)
 #[derive(Clone, Copy)]
 enum Printed<'g, 'n> {
     Answer(Ask, &'g Held),
-    Map(Grid, &'g Held),
+    /// A map, and the ranges of its bytes if they are asked for.
+    Map {
+        grid: Grid,
+        with_extents: bool,
+        held: &'g Held,
+    },
     /// What to restore for edit units, by the index of an IndexSID.
     UnitPlan {
         index: u32,
         range: UnitRange,
         held: &'g Held,
     },
-    Renewed(&'g Renewed<'n>),
+    /// A renewal, and whether it was saved.
+    Renewed(&'g Renewed<'n>, bool),
     /// What sources hold, each by itself, and the words that name them.
     Beside(&'g Readings<'n>, &'g [String]),
     /// How sources stand to a reference.
@@ -538,18 +575,23 @@ fn print_lines<W: Write>(
         Printed::Answer(ask, held) => {
             answer(alloc, &ask, form, &held.gathered, &held.at_hand, writer)
         }
-        Printed::Map(grid, held) => {
+        Printed::Map {
+            grid,
+            with_extents,
+            held,
+        } => {
             let Held { gathered, at_hand } = held;
-            print_map(alloc, &gathered.views, at_hand, grid, form, writer)?;
+            let views = &gathered.views;
+            print_map(alloc, views, at_hand, grid, with_extents, form, writer)?;
             Ok(0)
         }
         Printed::UnitPlan { index, range, held } => {
             let Held { gathered, at_hand } = held;
             print_unit_plan(alloc, &gathered.views, at_hand, index, range, form, writer)
         }
-        Printed::Renewed(renewed) => {
-            print_renewed(alloc, renewed, form, writer)?;
-            Ok(0)
+        Printed::Renewed(renewed, is_saved) => {
+            print_renewed(alloc, renewed, is_saved, form, writer)?;
+            Ok(u8::from(!is_saved))
         }
         Printed::Beside(readings, names) => print_sources(alloc, readings, names, form, writer),
         Printed::Verified(verified) => print_verification(alloc, verified, form, writer),

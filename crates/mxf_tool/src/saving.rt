@@ -10,6 +10,6 @@ mod standard_output;
 mod watched_writer;
 
 pub use fault::SaveFault;
-pub use refusal::is_refused;
+pub use refusal::{OutputRefusal, refusal_of};
 pub use reservation::Reservation;
 pub use watched_writer::{BUFFER_BYTES, WatchedWriter};

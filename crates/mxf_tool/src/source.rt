@@ -9,7 +9,7 @@ use mxf_klv::MAX;
 use std::fmt;
 
 /// Where notes come from.
-#[derive(Clone, Copy)]
+#[derive(Clone, Copy, Debug)]
 pub enum Source<'a> {
     /// The bytes of the file at `path`, which lie from `offset` (bytes) on in the recording.
     Piece { offset: u64, path: &'a str },
@@ -31,12 +31,27 @@ impl<'a> Source<'a> {
             }
         }
     }
-}
 
-impl Source<'_> {
     /// Whether it is a range: the bytes of its run may lie anywhere in packets.
     pub fn is_range(&self) -> bool {
         matches!(self, Source::Range { .. })
+    }
+
+    /// Of a piece or a range the offset of its first byte, and the path of its file.
+    pub fn place(&self) -> Option<(u64, &'a str)> {
+        match *self {
+            Source::Piece { offset, path } | Source::Range { offset, path } => Some((offset, path)),
+            Source::Saved { .. } => None,
+        }
+    }
+
+    /// The same piece or range, from another offset on.
+    pub fn at(&self, offset: u64) -> Source<'a> {
+        match *self {
+            Source::Piece { path, .. } => Source::Piece { offset, path },
+            Source::Range { path, .. } => Source::Range { offset, path },
+            Source::Saved { path } => Source::Saved { path },
+        }
     }
 }
 

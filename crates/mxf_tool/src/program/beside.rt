@@ -30,7 +30,7 @@ fn print_read<'a, R: System>(
     let exit = print_contents(rt, inputs.form, names, &read.contents)?;
     told(
         rt,
-        inputs.screen,
+        inputs.telling.has_hints,
         inputs.sources,
         &read.reports,
         false,
@@ -50,7 +50,7 @@ fn names_of(alloc: Global, sources: &[Source<'_>]) -> Result<Vec<String>, AllocE
 /// What each source holds by itself. All are opened before the first is read.
 fn read_each<'a, R: System>(rt: &R, inputs: Inputs<'_, 'a>) -> Result<Contents, RunFault<'a>> {
     let last = LastFault::new();
-    let opened = open_sources(rt, inputs.screen, inputs.sources, &last)?;
+    let opened = open_sources(rt, inputs.telling.screen, inputs.sources, &last)?;
     match gather_each(rt.alloc(), opened.parts) {
         Ok(contents) => Ok(contents),
         Err(fault) => Err(ungathered(&fault, inputs.sources, &last)),

@@ -3,7 +3,9 @@ ghost use Rattle.std.specs.Prelude.{◌≡◌};
 ghost use Rattle.mxf_tool.specs.Exits.{exit_of_fault, exit_of_run};
 
 use crate::exit::Exit;
-use crate::saving::SaveFault;
+use crate::saving::{OutputRefusal, SaveFault};
+use crate::shift::Shift;
+use crate::source::Source;
 use crate::system_fault::SystemFault;
 use mxf_read::PartFault;
 use std::fmt;
@@ -44,7 +46,22 @@ pub enum RunFault<'a> {
     #[error("bad output: {path}")]
     BadOutput {
         path: &'a str,
+        why: OutputRefusal,
     },
+    /// There is no note to be saved, and a file with bytes stands there.
+    #[error("nothing to keep: {path}")]
+    NothingToKeep {
+        path: &'a str,
+    },
+    /// The partition packs of a source say that it begins at another offset.
+    #[error("wrong offset: {word}: {shift}")]
+    WrongOffset {
+        word: Source<'a>,
+        shift: Shift,
+    },
+    /// Both lists are standard input.
+    #[error("error: one list at most is standard input")]
+    TwoLists,
     /// The edit unit is above the greatest.
     #[error("bad unit")]
     BadUnit,
@@ -93,13 +110,18 @@ pub struct IndexSids(pub Vec<u32>);
 
 impl fmt::Display for IndexSids {
     fn fmt<W: fmt::Write>(&self, f: &mut fmt::Formatter<W>) -> fmt::Result {
-        let mut space = "";
-        for index_sid in self.0.as_slice() {
-            write!(f, "{space}{index_sid}")?;
-            space = " ";
-        }
-        Ok(())
+        write_index_sids(f, &self.0)
     }
+}
+
+/// Writes IndexSIDs with a space between them.
+pub fn write_index_sids<W: fmt::Write>(f: &mut fmt::Formatter<W>, index_sids: &[u32]) -> fmt::Result {
+    let mut space = "";
+    for index_sid in index_sids {
+        write!(f, "{space}{index_sid}")?;
+        space = " ";
+    }
+    Ok(())
 }
 
 impl RunFault<'_> {
@@ -119,7 +141,10 @@ impl RunFault<'_> {
             | RunFault::NoSource
             | RunFault::BadLine { .. }
             | RunFault::BadOutput { .. }
+            | RunFault::WrongOffset { .. }
+            | RunFault::TwoLists
             | RunFault::BadUnit => Exit::Usage,
+            RunFault::NothingToKeep { .. } => Exit::Found,
             RunFault::Unread { .. } => Exit::Unread,
             RunFault::BadCatalogue { .. } => Exit::Refused,
             RunFault::Unwritten { .. } | RunFault::Unsaved { .. } => Exit::Unwritten,

@@ -13,6 +13,8 @@ pub const SEARCHED: u64 = 33_554_432;
 /// What the front of a file has.
 #[derive(Clone, Copy)]
 pub enum Front {
+    /// It is empty.
+    Empty,
     /// It is a catalogue.
     Catalogue,
     /// The header partition pack is its first packet, and begins after this number of bytes: a run-in (ST 377-1).
@@ -27,6 +29,7 @@ impl Front {
     /// What the regular file at the path has. Of anything else nothing is read.
     pub fn of<R: Files + AllocGlobal>(rt: &R, path: &str) -> Front {
         match Beginning::of(rt, path) {
+            Ok(Some(Beginning::Nothing)) => Front::Empty,
             Ok(Some(Beginning::Catalogue)) => Front::Catalogue,
             Ok(Some(_)) => match gathered_front(rt, path) {
                 Some(gathered) => Front::of_gathered(&gathered),

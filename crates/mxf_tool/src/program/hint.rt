@@ -2,7 +2,9 @@
 use super::fault::RunFault;
 use super::sized::SizedWord;
 use crate::beginning::Beginning;
-use crate::saving::SaveFault;
+use crate::saving::{OutputRefusal, SaveFault};
+use crate::shift::Shift;
+use crate::source::Source;
 use crate::system_fault::{NOT_FOUND, SystemFault, TOO_MANY_FILES};
 use std::fmt;
 
@@ -40,16 +42,58 @@ impl fmt::Display for Hint<'_, '_> {
             RunFault::BadSource { word } => write_source(f, *word, self.beginning),
             RunFault::NoSource => f.write_str("name a source as a word, or in a line of the list"),
             RunFault::BadLine { path, .. } => write_list(f, *path, self.beginning),
-            RunFault::BadOutput { path } => write!(
+            RunFault::BadOutput { path, why } => write_refusal(f, *path, *why),
+            RunFault::NothingToKeep { path } => write!(
                 f,
-                "{path} is standard output, or a recording, which a catalogue would replace: name another file"
+                "no source has a packet: {path} stays as it was"
             ),
+            RunFault::WrongOffset { word, shift } => write_shift(f, word, *shift),
+            RunFault::TwoLists => f.write_str("name one of the two lists by its path"),
             RunFault::BadUnit => f.write_str("the greatest edit unit is 9223372036854775807"),
             RunFault::Unread { path, cause } => write_unread(f, *path, *cause),
             RunFault::BadCatalogue { path, .. } => write_form(f, *path, self.beginning),
             RunFault::Unwritten { cause } => write_cause(f, "standard output", *cause),
             RunFault::Unsaved { path, fault } => write_unsaved(f, *path, fault),
         }
+    }
+}
+
+/// Writes why no catalogue is saved at a path.
+fn write_refusal<W: fmt::Write>(
+    f: &mut fmt::Formatter<W>,
+    path: &str,
+    why: OutputRefusal,
+) -> fmt::Result {
+    let what = match why {
+        OutputRefusal::StandardOutput => "standard output, into which lines go",
+        OutputRefusal::Source => "the file of a source",
+        OutputRefusal::Recording => "a recording, or a part of one",
+        OutputRefusal::Other => "no catalogue, and not empty",
+    };
+    write!(
+        f,
+        "{path} is {what}, which a catalogue would replace: name another file"
+    )
+}
+
+/// Writes at which OFFSET a source belongs by its partition packs.
+fn write_shift<W: fmt::Write>(
+    f: &mut fmt::Formatter<W>,
+    word: &Source<'_>,
+    shift: Shift,
+) -> fmt::Result {
+    let right = word.place().and_then(|(offset, _)| shift.right(offset));
+    match right {
+        Some(right) => {
+            let moved = word.at(right);
+            write!(
+                f,
+                "by its partition packs it is {moved}; --drop saves it at this OFFSET all the same"
+            )
+        }
+        None => f.write_str(
+            "its partition packs say that it begins below 0: is there something before its first packet?",
+        ),
     }
 }
 
@@ -162,6 +206,7 @@ fn write_form<W: fmt::Write>(
             f,
             "{path} begins as a catalogue: it was damaged or cut, or a newer program wrote it"
         ),
+        Some(Beginning::Nothing) => write!(f, "{path} is empty"),
         Some(Beginning::Other) => write!(f, "{path} is no catalogue that join or renew wrote"),
         None => write!(
             f,
@@ -185,6 +230,8 @@ fn write_unsaved<W: fmt::Write>(
             )
         }
         SaveFault::Write(cause) => write_cause(f, path, *cause),
-        SaveFault::OutOfMemory => f.write_str("out of memory"),
+        SaveFault::OutOfMemory | SaveFault::Refused(_) | SaveFault::NothingToKeep => {
+            f.write_str("nothing was written")
+        }
     }
 }

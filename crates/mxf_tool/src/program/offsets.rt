@@ -1,18 +1,13 @@
 //! Telling of sources that begin elsewhere than their OFFSET says, by their partition packs.
-ghost use Rattle.std.specs.Prelude.{◌≡◌, ℕ, ◌≤◌, true, MatchOption};
-ghost use Rattle.std.specs.List.{list_all};
-ghost use Rattle.mxf_klv.specs.Note.{greatest_end};
-ghost use Rattle.mxf_views.specs.Partitions.{partitions_of};
-ghost use Rattle.mxf_tool.specs.Offsets.{IsRightOffset, begins_at};
-
 use super::telling::tell_on_screen;
 use crate::contents::gather_one;
+use crate::shift::{Shift, are_shifted, shift_of};
 use crate::source::Source;
 use mxf_catalogue::Catalogue;
-use mxf_klv::{MAX, Note};
+use mxf_klv::Note;
 use mxf_read::Part;
 use mxf_sets::PartitionPack;
-use mxf_views::{PartitionAt, Views};
+use mxf_views::Views;
 use std::alloc::AllocError;
 use std::io::Read;
 use std::rt::Files;
@@ -25,42 +20,39 @@ const FRONT: u64 = 268_435_456;
 #[derive(Clone, Copy)]
 struct WrongOffset<'a> {
     path: &'a str,
-    named: u64,
     right: u64,
+    shift: Shift,
 }
 
 impl fmt::Display for WrongOffset<'_> {
     fn fmt<W: fmt::Write>(&self, f: &mut fmt::Formatter<W>) -> fmt::Result {
-        let WrongOffset { path, named, right } = *self;
-        let (bytes, side) = if right < named {
-            (named - right, "high")
-        } else {
-            (right - named, "low")
-        };
+        let WrongOffset { path, right, shift } = *self;
         write!(
             f,
-            "hint: by its partition packs {path} begins at {right}: OFFSET is {bytes} too {side}"
+            "hint: by its partition packs {path} begins at {right}: OFFSET is {shift}"
         )
     }
 }
 
-/// Tells on a terminal of each piece and range that begins at another offset by its partition packs. Their fronts are
-/// read once more, those of regular files alone. Of one that isn't read nothing is told.
+/// Tells of each piece and range that begins at another offset by its partition packs. Their fronts are read once more,
+/// those of regular files alone. Of one that isn't read nothing is told. Whether something is told.
 pub fn tell_offsets<R: Files + Eprint + AllocGlobal>(
     rt: &R,
     sources: &[Source<'_>],
-) -> Result<(), AllocError> {
+) -> Result<bool, AllocError> {
+    let mut is_told = false;
     for source in sources {
         if let Some(wrong) = wrong_offset(rt, source) {
             tell_on_screen(rt, &wrong)?;
+            is_told = true;
         }
     }
-    Ok(())
+    Ok(is_told)
 }
 
 /// Whether some partition pack of what is held, even a disputed one, says that it stands elsewhere.
 pub fn is_contradicted(views: &Views) -> bool {
-    !begins_at(views, 0, 0) || is_any_disputed_elsewhere(views.catalogue())
+    !are_shifted(views, Shift::High(0)) || is_any_disputed_elsewhere(views.catalogue())
 }
 
 /// Whether some disputed partition pack says that it stands elsewhere.
@@ -85,67 +77,27 @@ fn wrong_offset<'a, R: Files + AllocGlobal>(
     rt: &R,
     source: &Source<'a>,
 ) -> Option<WrongOffset<'a>> {
-    match *source {
-        Source::Piece { offset, path } | Source::Range { offset, path } => {
-            let views = views_of_front(rt, offset, path)?;
-            let right = right_offset(&views, offset)?;
-            Some(WrongOffset {
-                path,
-                named: offset,
-                right,
-            })
-        }
-        Source::Saved { .. } => None,
-    }
+    let (offset, path) = source.place()?;
+    let shift = shift_of(&views_of(rt, source)?)?;
+    let right = shift.right(offset)?;
+    Some(WrongOffset { path, right, shift })
 }
 
-/// What the front of a regular file has, read as a range.
-fn views_of_front<R: Files + AllocGlobal>(rt: &R, offset: u64, path: &str) -> Option<Views> {
+/// What a source in a regular file has: the front of a piece, read as a range, or of a range; all of a catalogue.
+pub fn views_of<R: Files + AllocGlobal>(rt: &R, source: &Source<'_>) -> Option<Views> {
+    let path = source.path();
     if !fs::metadata(rt, path).ok()?.is_file() {
         return None;
     }
-    let from = fs::open(rt, path).ok()?.take(FRONT);
-    let gathered = gather_one(rt.alloc(), Part::Range { offset, from }).ok()?;
-    Some(gathered.views)
-}
-
-/// The other offset at which the source of these views begins by all partition packs, which was read as from `named`
-/// on.
-fn right_offset(views: &Views, named: u64) -> Option<u64>
-    ensures { MatchOption result
-        ((right : ℕ) → IsRightOffset (partitions_of views.now) named right → ⊥)
-        (IsRightOffset (partitions_of views.now) named) }
-{
-    let first = views.partitions().next()?;
-    let right = beginning_by(named, &first)?;
-    if right == named || !begins_at(views, named, right) {
-        return None;
-    }
-    Some(right)
-}
-
-/// The offset at which a source begins by the pack of a partition, one that a source can have.
-fn beginning_by(named: u64, partition: &PartitionAt<'_>) -> Option<u64>
-    ensures { MatchOption result
-        ((right : ℕ) → right ≤ greatest_end → begins_at named right partition.now ≡ true → ⊥)
-        (λ right. (right ≤ greatest_end) × (begins_at named right partition.now ≡ true)) }
-{
-    let this = partition.pack.numbers().this_partition;
-    let sum = u128::from(named) + u128::from(this);
-    let right = sum.checked_sub(u128::from(partition.offset))?;
-    u64::try_from(right).ok().filter(|right| *right <= MAX)
-}
-
-/// Whether a source begins at `right` by all partition packs.
-fn begins_at(views: &Views, named: u64, right: u64) -> bool
-    ensures { result ≡ list_all (begins_at named right) (partitions_of views.now) }
-{
-    for partition in views.partitions_in_numbers() {
-        let this = partition.numbers.this_partition;
-        let said = u128::from(named) + u128::from(this);
-        if said != u128::from(right) + u128::from(partition.offset) {
-            return false;
-        }
-    }
-    true
+    let file = fs::open(rt, path).ok()?;
+    let part = match source.place() {
+        Some((offset, _)) => Part::Range {
+            offset,
+            from: file.take(FRONT),
+        },
+        None => Part::Saved {
+            from: file.take(u64::MAX),
+        },
+    };
+    Some(gather_one(rt.alloc(), part).ok()?.views)
 }

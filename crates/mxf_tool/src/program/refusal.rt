@@ -6,6 +6,8 @@ use std::fmt;
 pub enum RefusalHint<'a> {
     /// `-o`, which other programs have.
     Out,
+    /// Another option of one dash.
+    Short(&'a str),
     /// A timecode, for the number of an edit unit.
     Timecode(&'a str),
     /// `--unit`, which `locate` alone has.
@@ -22,6 +24,9 @@ impl<'a> RefusalHint<'a> {
             let argument = argument.as_str();
             if is_saving && argument == "-o" {
                 return Some(RefusalHint::Out);
+            }
+            if is_short(argument) {
+                return Some(RefusalHint::Short(argument));
             }
             let (option, value) = argument.split_once('=').unwrap_or((before, argument));
             if is_of_unit(option) && is_timecode(value) {
@@ -41,6 +46,11 @@ fn is_saving(word: &str) -> bool {
     word == "join" || word == "renew"
 }
 
+/// Whether the word is an option of one dash.
+fn is_short(word: &str) -> bool {
+    word.starts_with("-") && !word.starts_with("--") && word.len() > 1
+}
+
 /// Whether the value of the option is an edit unit.
 fn is_of_unit(option: &str) -> bool {
     option == "--from" || option == "--to" || option == "--unit"
@@ -49,7 +59,13 @@ fn is_of_unit(option: &str) -> bool {
 impl fmt::Display for RefusalHint<'_> {
     fn fmt<W: fmt::Write>(&self, f: &mut fmt::Formatter<W>) -> fmt::Result {
         match self {
-            RefusalHint::Out => f.write_str("hint: name the file to write by --out"),
+            RefusalHint::Out => f.write_str(
+                "hint: name the file to write by --out; '--' before it would make it a source",
+            ),
+            RefusalHint::Short(word) => write!(
+                f,
+                "hint: options are words with two dashes, so {word} is none; '--' before it would make it a source"
+            ),
             RefusalHint::Units => f.write_str("hint: name edit units by --from and --to"),
             RefusalHint::Timecode(text) => write!(
                 f,

@@ -1,5 +1,6 @@
 //! The sources of a run, by its words and its list.
 use super::fault::RunFault;
+use crate::command_line::Named;
 use crate::listed::{BadLine, all_words, text_of};
 use crate::source::{Source, parse_source};
 use crate::system_fault::SystemFault;
@@ -8,8 +9,29 @@ use std::fs;
 use std::io::{self, ErrorKind, Input, Read};
 use std::rt::Files;
 
+/// The bytes of the lists of a run.
+#[derive(Drop)]
+pub struct Lists {
+    pub named: Vec<u8>,
+    pub beside: Vec<u8>,
+}
+
+/// Reads the list of the sources, and that of the sources beside them. One at most is standard input.
+pub fn read_lists<'a, R: Files + Input + AllocGlobal>(
+    rt: &R,
+    named: Option<&'a str>,
+    beside: Option<&'a str>,
+) -> Result<Lists, RunFault<'a>> {
+    if named == Some("-") && beside == Some("-") {
+        return Err(RunFault::TwoLists);
+    }
+    let beside = read_list(rt, beside)?;
+    let named = read_list(rt, named)?;
+    Ok(Lists { named, beside })
+}
+
 /// The bytes of the list at the path, none if there is no list. `-` is standard input.
-pub fn read_list<'a, R: Files + Input + AllocGlobal>(
+fn read_list<'a, R: Files + Input + AllocGlobal>(
     rt: &R,
     path: Option<&'a str>,
 ) -> Result<Vec<u8>, RunFault<'a>> {
@@ -44,36 +66,26 @@ pub fn unread<'a>(path: &'a str, fault: &io::Error) -> RunFault<'a> {
     }
 }
 
-/// The sources that the words name, and after them those of the list at a path, which has these bytes.
+/// The sources that words name, and after them those of a list, which has these bytes. There is one at least if a list
+/// is named.
 pub fn sources_of<'a, 'b: 'a>(
     alloc: Global,
-    words: Option<&[&'b str]>,
-    list: &'a str,
+    named: Named<'_, 'b>,
     bytes: &'a [u8],
 ) -> Result<Vec<Source<'a>>, RunFault<'a>> {
+    let path = named.list.unwrap_or("");
     let text = match text_of(bytes) {
         Ok(text) => text,
-        Err(BadLine(number)) => return Err(RunFault::BadLine { number, path: list }),
+        Err(BadLine(number)) => return Err(RunFault::BadLine { number, path }),
     };
-    let Ok(words) = all_words(alloc, words, text) else {
+    let Ok(words) = all_words(alloc, named.words, text) else {
         return Err(RunFault::OutOfMemory);
     };
     let sources = parse_sources(alloc, &words)?;
-    if sources.is_empty() {
+    if named.list.is_some() && sources.is_empty() {
         return Err(RunFault::NoSource);
     }
     Ok(sources)
-}
-
-/// The sources that the words of `--old` or `--against` name; none if there are none.
-pub fn sources_before<'a>(
-    alloc: Global,
-    words: Option<&[&'a str]>,
-) -> Result<Vec<Source<'a>>, RunFault<'a>> {
-    match words {
-        Some(words) => parse_sources(alloc, words),
-        None => Ok(Vec::new(alloc)),
-    }
 }
 
 /// The sources that the words name.

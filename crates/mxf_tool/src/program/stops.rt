@@ -1,4 +1,4 @@
-//! Telling of pieces and ranges that end before their bytes do.
+//! Telling of pieces and ranges that end before their bytes do, or have none.
 use super::front::{Front, SEARCHED};
 use super::telling::tell_on_screen;
 use crate::source::Source;
@@ -38,6 +38,7 @@ impl fmt::Display for FrontHint<'_> {
     fn fmt<W: fmt::Write>(&self, f: &mut fmt::Formatter<W>) -> fmt::Result {
         let path = self.source.path();
         match (self.front, self.source) {
+            (Front::Empty, _) => write!(f, "hint: {path} is empty"),
             (Front::Catalogue, _) => write!(
                 f,
                 "hint: {path} looks like a catalogue: name it cat:{path}"
@@ -117,7 +118,7 @@ pub fn tell_foreign<R: Files + Eprint + AllocGlobal>(
         }
         let front = Front::of(rt, source.path());
         match (front, source) {
-            (Front::Nothing | Front::Catalogue, _)
+            (Front::Nothing | Front::Empty | Front::Catalogue, _)
             | (Front::RunIn(_), Source::Piece { offset: 0, .. }) => {
                 tell_on_screen(rt, &FrontHint { source, front })?;
                 is_told = true;
@@ -126,6 +127,24 @@ pub fn tell_foreign<R: Files + Eprint + AllocGlobal>(
         }
     }
     Ok(is_told)
+}
+
+/// Tells of a piece that has no byte.
+fn tell_empty<R: Files + Eprint + AllocGlobal>(
+    rt: &R,
+    source: Source<'_>,
+    report: &PieceReport,
+) -> Result<(), AllocError> {
+    if report.report.noted > 0 {
+        return Ok(());
+    }
+    match Front::of(rt, source.path()) {
+        Front::Empty => {
+            let front = Front::Empty;
+            tell_on_screen(rt, &FrontHint { source, front })
+        }
+        _ => Ok(()),
+    }
 }
 
 /// Tells of one piece or range.
@@ -137,7 +156,7 @@ fn tell_stop<R: Files + Eprint + AllocGlobal>(
 ) -> Result<(), AllocError> {
     let stop = report.report.stop;
     let Some(place) = place_of(stop) else {
-        return Ok(());
+        return tell_empty(rt, source, report);
     };
     if with_stops {
         tell_on_screen(

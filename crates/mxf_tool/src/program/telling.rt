@@ -1,7 +1,11 @@
 //! What a run reports on standard error.
+ghost use Rattle.std.specs.Prelude.{◌≡◌};
+ghost use Rattle.mxf_tool.specs.Exits.{has_hints};
+
 use super::fault::RunFault;
 use super::hint::Hint;
 use crate::beginning::Beginning;
+use crate::command_line::Hints;
 use crate::exit::Exit;
 use crate::shown::text_on_screen;
 use crate::watching::Screen;
@@ -9,26 +13,60 @@ use std::alloc::{AllocError, Global};
 use std::fmt;
 use std::rt::Files;
 
-/// Reports a fault, and on a terminal what to do about it; answers how the run ends.
-pub fn tell<R: Files + Eprint + AllocGlobal>(rt: &R, screen: Screen, fault: &RunFault<'_>) -> Exit {
-    if screen == Screen::Other {
-        let _ = rt.eprintln(fault);
-        return fault.exit();
-    }
-    let hint = Hint {
-        fault,
-        beginning: beginning_of(rt, fault),
-    };
-    match (tell_on_screen(rt, fault), tell_on_screen(rt, &hint)) {
-        (Ok(()), Ok(())) => fault.exit(),
-        _ => {
-            let _ = rt.eprintln("out of memory");
-            Exit::NoMemory
-        }
+/// What standard error is, and whether hints go there.
+#[derive(Clone, Copy)]
+pub struct Telling {
+    pub screen: Screen,
+    pub has_hints: bool,
+}
+
+impl Telling {
+    /// To a standard error that is this, with hints if they are asked for.
+    pub fn of(screen: Screen, hints: Hints) -> Telling
+        ensures screen { result.screen ≡ screen }
+        ensures hints { result.has_hints ≡ has_hints hints screen }
+    {
+        let has_hints = match hints {
+            Hints::Auto => screen == Screen::Terminal,
+            Hints::Always => true,
+            Hints::Never => false,
+        };
+        Telling { screen, has_hints }
     }
 }
 
-/// Prints a line on a terminal, without control characters.
+/// Reports a fault, and what to do about it if hints are told; answers how the run ends.
+pub fn tell<R: Files + Eprint + AllocGlobal>(
+    rt: &R,
+    telling: Telling,
+    fault: &RunFault<'_>,
+) -> Exit {
+    if tell_fault(rt, telling, fault).is_err() {
+        let _ = rt.eprintln("out of memory");
+        return Exit::NoMemory;
+    }
+    fault.exit()
+}
+
+/// Reports a fault, and what to do about it if hints are told.
+fn tell_fault<R: Files + Eprint + AllocGlobal>(
+    rt: &R,
+    telling: Telling,
+    fault: &RunFault<'_>,
+) -> Result<(), AllocError> {
+    if telling.screen == Screen::Terminal {
+        tell_on_screen(rt, fault)?;
+    } else {
+        let _ = rt.eprintln(fault);
+    }
+    if !telling.has_hints {
+        return Ok(());
+    }
+    let beginning = beginning_of(rt, fault);
+    tell_on_screen(rt, &Hint { fault, beginning })
+}
+
+/// Prints a line for people, without control characters.
 pub fn tell_on_screen<R: Eprint + AllocGlobal, D: fmt::Display>(
     rt: &R,
     line: &D,

@@ -3,6 +3,7 @@ ghost use Rattle.std.specs.Prelude.{◌≡◌, IfOk};
 ghost use Rattle.mxf_tool.specs.Verifying.{AreAskedBy, AreToldOf, open_of};
 
 use super::fault::RunFault;
+use super::index::tell_index;
 use super::offsets::tell_offsets;
 use super::stops::tell_foreign;
 use super::telling::tell_on_screen;
@@ -13,7 +14,6 @@ use super::{
 use crate::command_line::{IndexedUnits, Verifying};
 use crate::exit::Exit;
 use crate::system_fault::LastFault;
-use crate::watching::Screen;
 use mxf_klv::OutOfMemory;
 use mxf_lines::{Form, Verified};
 use mxf_places::AtHand;
@@ -40,9 +40,9 @@ pub fn print_verified<'a, R: System>(
     asked: Verifying,
 ) -> Result<Exit, RunFault<'a>> {
     let last = LastFault::new();
-    let reference = open_sources(rt, inputs.screen, inputs.before, &last)?;
-    let opened = open_sources(rt, inputs.screen, inputs.sources, &last)?;
-    let Held { gathered, .. } = hold_opened(rt, reference, inputs.before, &last)?;
+    let reference = open_sources(rt, inputs.telling.screen, inputs.beside, &last)?;
+    let opened = open_sources(rt, inputs.telling.screen, inputs.sources, &last)?;
+    let Held { gathered, .. } = hold_opened(rt, reference, inputs.beside, &last)?;
     verify_by(rt, inputs, asked, &gathered, opened.parts, &last)
 }
 
@@ -56,6 +56,9 @@ fn verify_by<'a, R: System, F: Read + Drop>(
     parts: Vec<Part<F>>,
     last: &LastFault,
 ) -> Result<Exit, RunFault<'a>> {
+    if let Some(units) = asked.units {
+        tell_index(rt, &gathered.views, units.index)?;
+    }
     let range = asked_range(&gathered.views, asked.units)?;
     match verify(rt.alloc(), gathered.views.catalogue(), parts) {
         Ok(verification) => print_by(rt, inputs, asked.is_whole, range, gathered, &verification),
@@ -81,7 +84,7 @@ fn asked_range<'a>(
     }
 }
 
-/// Prints what was verified of the reference, and tells on a terminal what that leaves open.
+/// Prints what was verified of the reference, and if hints are told, what that leaves open.
 fn print_by<'a, R: System>(
     rt: &R,
     inputs: Inputs<'_, 'a>,
@@ -94,11 +97,11 @@ fn print_by<'a, R: System>(
         Some(range) => print_with_units(rt, inputs.form, is_whole, range, gathered, verification)?,
         None => print_verification(rt, inputs.form, is_whole, &*gathered, &*verification, None)?,
     };
-    if inputs.screen == Screen::Terminal && tell_open(rt, inputs, is_whole, verification).is_err() {
+    if inputs.telling.has_hints && tell_open(rt, inputs, is_whole, verification).is_err() {
         return Err(RunFault::OutOfMemory);
     }
     let reports = gathered.reports.as_slice();
-    told(rt, inputs.screen, inputs.before, reports, false, exit)
+    told(rt, inputs.telling.has_hints, inputs.beside, reports, false, exit)
 }
 
 /// Prints what was verified of the reference, with the edit units of a range.
@@ -184,7 +187,7 @@ fn open_of(is_whole: bool, verification: &Verification<'_>) -> Option<Open>
     }
 }
 
-/// Tells on a terminal where packets lie that differ, and what a verification leaves open. If no packet is the same, it
+/// Tells where packets lie that differ, and what a verification leaves open. If no packet is the same, it
 /// says which source has no packet or a run-in, or else asks whether OFFSET is right; and which is wrong by its source.
 fn tell_open<R: System>(
     rt: &R,
@@ -207,7 +210,8 @@ fn tell_open<R: System>(
             if !tell_foreign(rt, inputs.sources)? {
                 tell_on_screen(rt, &open)?;
             }
-            tell_offsets(rt, inputs.sources)
+            tell_offsets(rt, inputs.sources)?;
+            Ok(())
         }
         Open::NotAll => tell_on_screen(rt, &open),
     }

@@ -1,4 +1,5 @@
 //! Why a catalogue isn't saved.
+use super::OutputRefusal;
 use crate::system_fault::SystemFault;
 use std::alloc::AllocError;
 use std::io;
@@ -9,6 +10,10 @@ use std::path::PathBuf;
 pub enum SaveFault {
     /// Out of memory.
     OutOfMemory,
+    /// What stands there is replaced by no catalogue.
+    Refused(OutputRefusal),
+    /// The catalogue has no note, and a file with bytes stands there.
+    NothingToKeep,
     /// Another join holds this file, which takes the place of the one before.
     Reserved(PathBuf),
     /// A file couldn't be looked at, made, written, synced or renamed, as the system says.

@@ -4,6 +4,7 @@ use Rattle.mxf_klv.specs.Parts.{NoteParts}
 use Rattle.mxf_read.specs.declared.gathering.report.PieceReport.{PieceReport}
 use Rattle.mxf_read.proofs.GatheringLaws.{IsPassed, passed_none, passed_one, told}
 use Rattle.mxf_tool.proofs.ContentsLaws.{AreTaken, reported_all, taken_all, taken_none, taken_one}
+use Rattle.mxf_tool.proofs.ShiftLaws.{shifts_none}
 use Rattle.mxf_tool.proofs.contents.gather_each.Goals as goal
 
 pub parts-init : goal.parts-init
@@ -13,11 +14,12 @@ parts-init g c =
     let is : into_iter_items c.into_iter-part-iterator.result ≡ all =
     c.into_iter-part-iterator.ensures.into_iter_gives.0 in
     record {
+      shifts = shifts_none _ _ c.new.ensures.items c.new-2.ensures.items;
       passed = subst (IsPassed all 0) (sym is) (passed_none all);
-      taken = λ t. subst (λ (l : List _). AreTaken left all 0 l c.new.result.items c.new-2.result.items) (sym is)
-          (subst (λ (held : List (List NoteParts)). AreTaken left all 0 all held c.new-2.result.items)
+      taken = λ t. subst (λ (l : List _). AreTaken left all 0 l c.new.result.items c.new-3.result.items) (sym is)
+          (subst (λ (held : List (List NoteParts)). AreTaken left all 0 all held c.new-3.result.items)
           (sym c.new.ensures.items)
-          (subst (λ (held : List PieceReport). AreTaken left all 0 all [] held) (sym c.new-2.ensures.items)
+          (subst (λ (held : List PieceReport). AreTaken left all 0 all [] held) (sym c.new-3.ensures.items)
           (taken_none left all)));
     }
 
@@ -28,10 +30,14 @@ parts-preserved g c =
     let i = c.parts.invariant in
     let next = c.in-Some.ensures.steps.0 in
     record {
+      shifts = c.in_default.ensures.shifts i.shifts;
       passed = passed_one all _ _ c.in-Some.part c.parts.number i.passed next;
       taken = λ t. taken_one left all _ _ c.in-Some.part c.parts.number _ _ _ _ (i.taken t) next
-          (c.in_default.ensures (told left all _ _ c.in-Some.part c.parts.number i.passed next t));
+          (c.in_default.ensures.taken (told left all _ _ c.in-Some.part c.parts.number i.passed next t));
     }
+
+pub returns-clause-shifts : goal.returns-clause-shifts
+returns-clause-shifts g c = c.parts.invariant.shifts
 
 pub returns-clause-runs : goal.returns-clause-runs
 returns-clause-runs g c t =

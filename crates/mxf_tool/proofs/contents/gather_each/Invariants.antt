@@ -2,6 +2,7 @@
 use Rattle.std.specs.Vec.Iter.{into_iter_items}
 use Rattle.mxf_read.specs.Gathering.{AllTell}
 use Rattle.mxf_read.proofs.GatheringLaws.{IsPassed}
+use Rattle.mxf_tool.specs.Shifts.{AreShifts}
 use Rattle.mxf_tool.proofs.ContentsLaws.{AreTaken}
 use Rattle.mxf_tool.proofs.contents.gather_each.Given as goal
 
@@ -11,4 +12,5 @@ invariant-parts g l = record {
   taken : AllTell g.R.Read.remaining l.fn.parts.items
       → AreTaken g.R.Read.remaining l.fn.parts.items l.number (into_iter_items l.part-iterator)
       l.contents.contents.items l.contents.reports.items;
+  shifts : AreShifts l.contents.contents.items l.contents.shifts.items;
 }

@@ -1,8 +1,8 @@
 use Rattle.mxf_tool.proofs.ContentsLaws.{numbered_reports}
 use Rattle.mxf_tool.proofs.contents.take_alone.Goals as goal
 
-pub returns : goal.returns
-returns g c t = record {
+pub returns-clause-taken : goal.returns-clause-taken
+returns-clause-taken g c t = record {
   content = c.in_ok-gathered.gathered.views;
   run = c.in_ok-gathered.ensures.run t;
   added = c.in_ok-keep.ensures.contents;
