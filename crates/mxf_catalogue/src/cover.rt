@@ -103,6 +103,7 @@ impl Cover {
     /// searches.
     pub fn runs_between(&self, from: u64, to: Option<u64>) -> CoverRuns<'_>
         ensures runs { result ≡ filter (is_between from to) self.now }
+        ensures cover { IsCover self.now }
         ensures bound { length result < 2 ^ 64 }
     {
         CoverRuns::of(between(&self.runs, from, to))

@@ -64,6 +64,13 @@ impl<'a> Holdings<'a> {
         self.views
     }
 
+    /// The offsets that disputed packets cover.
+    pub fn disputed(&self) -> &Cover
+        ensures { AreDisputed self.now result.now }
+    {
+        &self.disputed
+    }
+
     /// Whether some packet covers the offset, in bytes: the whole packet, or the key and length of a head.
     pub fn is_held(&self, offset: u64) -> bool
         ensures { result ≡ is_held self.now offset }

@@ -23,3 +23,5 @@ pub mod StartLaws
 pub mod AskedLaws
 pub mod PartLaws
 pub mod MissingLaws
+pub mod ExtentLaws
+pub mod DisputesLaws

@@ -10,3 +10,6 @@ pub mod Map
 pub mod Layers
 pub mod Steps
 pub mod Heads
+pub mod Disputes
+pub mod Extents
+pub mod Words

@@ -1,4 +1,5 @@
-//! What to restore next of a file that is held in parts: the plan, and the map (this project's profile).
+//! What to restore next of a file that is held in parts: the plan, the map, and what is disputed (this project's
+//! profile).
 //!
 //! Both are functions of the content of a catalogue, what packs name and count, and which offsets no packet covers; and
 //! of the bytes at hand. What is there in sources, and in no noted packet, isn't ordered, and has a mark of its own.
@@ -14,7 +15,9 @@
 //! ([`gaps_are_ordered`]). No byte of an order is held but for the key and length of a head at its start
 //! ([`orders_are_missing`]). No two orders begin at one offset ([`starts_are_apart`]). If nothing is at hand, all that
 //! is asked for is ordered ([`orders_where_nothing_is_at_hand`]). Nothing of a whole file is ordered
-//! ([`whole_files_have_no_order`]). Each cell of a map has one mark ([`one_mark`]).
+//! ([`whole_files_have_no_order`]). Each cell of a map has one mark ([`one_mark`]). The bytes of a map are cut into the
+//! maximal ranges that stand alike ([`extents`], [`byte_standings_by_definition`], [`extents_by_definition`]). How many
+//! packets are disputed, and where, is by the disputed notes ([`Disputes::of`], [`disputes_by_definition`]).
 //!
 //! That no order is left in the end, if what was ordered is handed in again and again, is tested.
 //!
@@ -30,6 +33,7 @@
 #![tactic(auto)]
 
 mod disputed_place;
+mod disputes;
 mod first;
 mod head;
 mod map;
@@ -38,7 +42,11 @@ mod order;
 mod plan;
 mod section;
 
-pub use map::{Map, Mark, missing_places_by_definition, one_map, one_mark};
+pub use disputes::{Disputes, disputes_by_definition};
+pub use map::{
+    ByteStanding, Map, MapExtent, Mark, byte_standings_by_definition, extents,
+    extents_by_definition, missing_places_by_definition, one_map, one_mark,
+};
 pub use named::{NamedPlace, named_places};
 pub use order::{SectionOrders, asked_by_definition, fronts_by_definition, is_again};
 pub use plan::{

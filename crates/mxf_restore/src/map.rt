@@ -10,11 +10,15 @@ ghost use Rattle.mxf_restore.specs.Map.{AreMarks, IsMap, IsMark, MapParts, cell_
 ghost use Rattle.mxf_restore.specs.Map.{IsMissing, IsMissingPlace, held_below, is_missing, map_end, missing_places};
 ghost use Rattle.mxf_restore.specs.declared.map.Mark.{Mark};
 
+mod extent;
 mod layers;
 mod missing;
 mod offsets;
 
 use crate::section::holes;
+pub use extent::{
+    ByteStanding, MapExtent, byte_standings_by_definition, extents, extents_by_definition,
+};
 use layers::Layers;
 pub(crate) use missing::is_missing;
 use mxf_catalogue::{Catalogue, Cover};

@@ -15,14 +15,14 @@ use Rattle.mxf_units.specs.declared.essence_zone.EssenceZone.{EssenceZone}
 use Rattle.mxf_units.specs.declared.location.Location.{Location}
 use Rattle.mxf_units.specs.declared.unit.Extent.{Extent}
 use Rattle.mxf_units.specs.EssenceZones.{first_packet, parts_of, zone_at, zone_by, zone_of}
-use Rattle.mxf_units.specs.Extents.{HasOffset, IsExtentEnd, IsExtentOf, IsLastPlace, IsTold}
-use Rattle.mxf_units.specs.Standings.{GoesBehind, IsStandingIn, IsZone}
-use Rattle.mxf_units.specs.Streams.{IsNextOf, next_of, place_of, segments_for}
-use Rattle.mxf_units.specs.Units.{extent_by, extent_in, file_offset, is_told, location_at, location_in, location_of}
+use Rattle.mxf_units.specs.Extents.{HasOffset, IsExtentEnd, IsExtentOf, IsTold}
+use Rattle.mxf_units.specs.Standings.{IsStandingIn, IsZone, LiesElsewhere}
+use Rattle.mxf_units.specs.Streams.{place_of, segments_for}
+use Rattle.mxf_units.specs.Units.{end_place, extent_by, extent_in, is_told, location_at, location_in, location_of}
 use Rattle.mxf_units.specs.Units.{standing_by, standing_in, unit_of}
 use Rattle.mxf_units.proofs.HeldUnits.{location-untold}
 use Rattle.mxf_units.proofs.LimitLaws.{zone-by}
-use Rattle.mxf_units.proofs.NextLaws.{next-told}
+use Rattle.mxf_units.proofs.EndPlaceLaws.{extent_end-told, in_zone}
 use Rattle.mxf_units.proofs.StandingPlaces.{IsPlacing, placing}
 use Rattle.mxf_units.proofs.StandingRanges.{standing-says}
 use Rattle.mxf_units.proofs.StandingZones.{zone-says}
@@ -75,9 +75,9 @@ told-is known index_sid unit =
 
 -- ---- where the bytes lie
 
--- The bytes of a unit of which it is told don't go behind the limit of their zone.
+-- The bytes of a unit of which it is told don't lie elsewhere.
 told-within : (known : KnownParts) (zone : EssenceZone) (e : Extent) (w : UnitStanding)
-    → IsStandingIn known zone e w → is_told w ≡ true → ¬ GoesBehind zone e
+    → IsStandingIn known zone e w → is_told w ≡ true → ¬ LiesElsewhere known.notes zone e
 told-within known zone e standings.NotIndexed s t = absurd cc
 told-within known zone e standings.Ambiguous s t = absurd cc
 told-within known zone e standings.NoPartition s t = absurd cc
@@ -103,55 +103,32 @@ zone-begins notes p zone e =
           subst (λ (z : EssenceZone). z.body_offset ≡ p.pack.numbers.body_offset) (same_Some _ _ f) is.body_offset
     ] e
 
-in_zone : (zone : EssenceZone) (offset : ℕ) → zone.body_offset ≤ offset
-    → HasOffset zone offset (file_offset zone offset)
-in_zone zone offset low = (low, omega (arith, low))
-
 module _ (notes : List NoteParts) (index_sid unit body_sid offset : ℕ) (zone : EssenceZone)
     (low : zone.body_offset ≤ offset) where
-  last_place : IsNextOf (segments_for notes index_sid) body_sid offset None
-      → IsLastPlace notes index_sid body_sid offset
-  last_place none next is = let l = none next is.given in let m = is.above in omega (arith, l, m)
-
-  end-is : (next : Option ℕ) → IsNextOf (segments_for notes index_sid) body_sid offset next
-      → IsExtentEnd notes index_sid body_sid offset zone (extent_in zone offset next).end
-  end-is (Some next) is = let above = is.above in inl (next, is, in_zone zone next (omega (arith, low, above)))
-  end-is None is =
-      let last = last_place is in
-      elim zone.is_sure as (λ b. zone.is_sure ≡ b
-      → IsExtentEnd notes index_sid body_sid offset zone (if b then zone.limit else None)) [
-        | true ↦ λ e. elim zone.limit as (λ (o : Option ℕ). zone.limit ≡ o
-            → IsExtentEnd notes index_sid body_sid offset zone o) [
-              | None ↦ λ f. (last, λ limit s t. cc (f, t))
-              | Some limit ↦ λ f. inr (last, e, f)
-            ] refl
-        | false ↦ λ e. (last, λ limit s t. cc (e, s))
-      ] refl
-
-  module _ (e : Extent) (start : HasOffset zone offset e.start) (within : ¬ GoesBehind zone e) where
+  module _ (e : Extent) (start : HasOffset zone offset e.start) (within : ¬ LiesElsewhere notes zone e) where
     start-below : (limit : ℕ) → zone.limit ≡ Some limit → e.start < limit
     start-below limit is =
         elim (cases_lt e.start limit) [
           | inl l ↦ l
-          | inr h ↦ absurd (within record { limit = limit; limit_is = is; behind = inl h })
+          | inr h ↦ absurd (within (inl record { limit = limit; limit_is = is; behind = inl h }))
         ]
 
     end-within : (limit end : ℕ) → zone.limit ≡ Some limit → e.end ≡ Some end → end ≤ limit
     end-within limit end is at =
         elim (cases_lt limit end) [
-          | inl l ↦ absurd (within record { limit = limit; limit_is = is; behind = inr (end, at, l) })
+          | inl l ↦ absurd (within (inl record { limit = limit; limit_is = is; behind = inr (end, at, l) }))
           | inr h ↦ h
         ]
 
-    some-by : (end : ℕ) → IsExtentEnd notes index_sid body_sid offset zone (Some end) → e.start < end
+    some-by : (end : ℕ) → IsExtentEnd notes index_sid unit body_sid offset zone (Some end) → e.start < end
     some-by end (inl n) =
-        let above = n.1.above in
+        let above = n.1.next_is.above in
         let at = n.2.1 in
         let from = start.1 in omega (arith, above, at, from)
     some-by end (inr l) = start-below end l.2
 
-  extent-of : (e : Extent) → HasOffset zone offset e.start → IsExtentEnd notes index_sid body_sid offset zone e.end
-      → ¬ GoesBehind zone e → IsOnlyPlace (segments_of notes) index_sid unit body_sid offset
+  extent-of : (e : Extent) → HasOffset zone offset e.start → IsExtentEnd notes index_sid unit body_sid offset zone e.end
+      → ¬ LiesElsewhere notes zone e → IsOnlyPlace (segments_of notes) index_sid unit body_sid offset
       → IsZone notes body_sid offset (Ok zone) → IsExtentOf notes index_sid unit e
   extent-of e start end within place is_zone = record {
     body_sid = body_sid;
@@ -162,22 +139,23 @@ module _ (notes : List NoteParts) (index_sid unit body_sid offset : ℕ) (zone :
     start = start;
     end = end;
     some = λ x at. some-by e start within x
-        (subst (λ (o : Option ℕ). IsExtentEnd notes index_sid body_sid offset zone o) at end);
+        (subst (λ (o : Option ℕ). IsExtentEnd notes index_sid unit body_sid offset zone o) at end);
     start_within = start-below e start within;
     end_within = end-within e start within;
+    in_essence = λ b. within (inr b);
   }
 
 module _ (known : KnownParts) (index_sid unit : ℕ) where
   by-zone : (place : StreamPlace) (zone : Result EssenceZone UnitStanding) (e : Extent)
       → IsOnlyPlace (segments_of known.notes) index_sid unit place.body_sid place.offset
       → IsZone known.notes place.body_sid place.offset zone
-      → extent_by (standing_by known (location_in (segments_for known.notes index_sid) place zone))
-      (location_in (segments_for known.notes index_sid) place zone) ≡ Some e
+      → extent_by (standing_by known (location_in (segments_for known.notes index_sid) unit place zone))
+      (location_in (segments_for known.notes index_sid) unit place zone) ≡ Some e
       → IsExtentOf known.notes index_sid unit e
   by-zone place (Err w) e only is h = absurd cc
   by-zone place (Ok zone) e only is h =
-      let next = next_of (segments_for known.notes index_sid) place.body_sid place.offset in
-      let l : Location = record { zone = zone; extent = extent_in zone place.offset next } in
+      let end = end_place (segments_for known.notes index_sid) zone unit place.body_sid place.offset in
+      let l : Location = record { zone = zone; extent = extent_in zone place.offset end } in
       let g = guarded (is_told (standing_in known l)) (Some l.extent) e h in
       let at = zone-begins known.notes is.0 zone is.2 in
       let from = is.1.begins.begins in
@@ -185,14 +163,13 @@ module _ (known : KnownParts) (index_sid unit : ℕ) where
       subst (IsExtentOf known.notes index_sid unit) (same_Some _ _ g.1)
       (extent-of known.notes index_sid unit place.body_sid place.offset zone low l.extent
       (in_zone zone place.offset low)
-      (end-is known.notes index_sid unit place.body_sid place.offset zone low next
-      (next-told (segments_for known.notes index_sid) place.body_sid place.offset))
+      (extent_end-told known.notes index_sid unit place.body_sid place.offset zone low)
       (told-within known zone l.extent (standing_in known l) (standing-says known l) g.0) only is)
 
   by-place : (place : Result StreamPlace UnitStanding) (e : Extent) → IsPlacing known.notes index_sid unit place
       → extent_by (standing_by known
-      (location_at (parts_of known.notes) (segments_for known.notes index_sid) place))
-      (location_at (parts_of known.notes) (segments_for known.notes index_sid) place) ≡ Some e
+      (location_at (parts_of known.notes) (segments_for known.notes index_sid) unit place))
+      (location_at (parts_of known.notes) (segments_for known.notes index_sid) unit place) ≡ Some e
       → IsExtentOf known.notes index_sid unit e
   by-place (Err w) e is h = absurd cc
   by-place (Ok p) e is h =

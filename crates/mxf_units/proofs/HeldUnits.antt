@@ -53,18 +53,18 @@ zone-untold (p ∷ q ∷ parts) v e =
           ] f
     ] e
 
-in-untold : (segments : List SegmentAtParts) (place : StreamPlace) (zone : Result EssenceZone UnitStanding)
+in-untold : (segments : List SegmentAtParts) (unit : ℕ) (place : StreamPlace) (zone : Result EssenceZone UnitStanding)
     (v : UnitStanding) → ((w : UnitStanding) → zone ≡ Err w → is_told w ≡ false)
-    → location_in segments place zone ≡ Err v → is_told v ≡ false
-in-untold segments place (Err w) v f e = let s : w ≡ v = cc in subst (λ u. is_told u ≡ false) s (f w refl)
-in-untold segments place (Ok zone) v f e = absurd cc
+    → location_in segments unit place zone ≡ Err v → is_told v ≡ false
+in-untold segments unit place (Err w) v f e = let s : w ≡ v = cc in subst (λ u. is_told u ≡ false) s (f w refl)
+in-untold segments unit place (Ok zone) v f e = absurd cc
 
-at-untold : (parts : List StreamPart) (segments : List SegmentAtParts) (place : Result StreamPlace UnitStanding)
+at-untold : (parts : List StreamPart) (segments : List SegmentAtParts) (unit : ℕ) (place : Result StreamPlace UnitStanding)
     (v : UnitStanding) → ((w : UnitStanding) → place ≡ Err w → is_told w ≡ false)
-    → location_at parts segments place ≡ Err v → is_told v ≡ false
-at-untold parts segments (Err w) v f e = let s : w ≡ v = cc in subst (λ u. is_told u ≡ false) s (f w refl)
-at-untold parts segments (Ok place) v f e =
-    in-untold segments place (zone_at parts place.body_sid place.offset) v
+    → location_at parts segments unit place ≡ Err v → is_told v ≡ false
+at-untold parts segments unit (Err w) v f e = let s : w ≡ v = cc in subst (λ u. is_told u ≡ false) s (f w refl)
+at-untold parts segments unit (Ok place) v f e =
+    in-untold segments unit place (zone_at parts place.body_sid place.offset) v
     (zone-untold (filter (begins_up_to place.body_sid place.offset) parts)) e
 
 pub location-untold : (notes : List NoteParts) (index_sid unit : ℕ) (v : UnitStanding)
@@ -72,7 +72,7 @@ pub location-untold : (notes : List NoteParts) (index_sid unit : ℕ) (v : UnitS
 unfolding location_of
 location-untold notes index_sid unit v e =
     let segments = segments_for notes index_sid in
-    at-untold (parts_of notes) segments (place_of segments unit) v (place-untold None (filter_map (place_in unit) segments)) e
+    at-untold (parts_of notes) segments unit (place_of segments unit) v (place-untold None (filter_map (place_in unit) segments)) e
 
 -- ---- held, or held or at hand
 

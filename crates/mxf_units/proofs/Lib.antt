@@ -6,12 +6,14 @@ pub mod LeastLaws
 pub mod PacketLaws
 pub mod PartLaws
 pub mod RangeLaws
+pub mod BesideLaws
 pub mod HeldUnits
 pub mod StandingRanges
 pub mod StandingPlaces
 pub mod StandingZones
 pub mod StandingLaws
 pub mod NextLaws
+pub mod EndPlaceLaws
 pub mod LimitLaws
 pub mod EntryLaws
 pub mod SidLaws

@@ -13,8 +13,8 @@ use Rattle.mxf_units.specs.declared.essence_zone.EssenceZone.{EssenceZone}
 use Rattle.mxf_units.specs.declared.location.Location.{Location}
 use Rattle.mxf_units.specs.EssenceZones.{zone_of}
 use Rattle.mxf_units.specs.Standings.{IsLast, IsStanding, IsStandingAt, IsStandingIn, IsZone}
-use Rattle.mxf_units.specs.Streams.{next_of, segments_for}
-use Rattle.mxf_units.specs.Units.{extent_in, standing_in}
+use Rattle.mxf_units.specs.Streams.{segments_for}
+use Rattle.mxf_units.specs.Units.{end_place, extent_in, standing_in}
 use Rattle.mxf_units.proofs.StandingRanges.{standing-exact}
 
 -- ---- an offset of a stream has one zone
@@ -101,11 +101,11 @@ module _ (notes : List NoteParts) (body_sid offset : ℕ) where
 
 -- ---- a place has one standing
 
-module _ (known : KnownParts) (index_sid body_sid offset : ℕ) where
+module _ (known : KnownParts) (index_sid unit body_sid offset : ℕ) where
   abbrev located : EssenceZone → Location
   located zone = record {
     zone = zone;
-    extent = extent_in zone offset (next_of (segments_for known.notes index_sid) body_sid offset);
+    extent = extent_in zone offset (end_place (segments_for known.notes index_sid) zone unit body_sid offset);
   }
 
   one_in : (y z : EssenceZone) (v w : UnitStanding) → y ≡ z
@@ -114,8 +114,8 @@ module _ (known : KnownParts) (index_sid body_sid offset : ℕ) where
       sym (standing-exact known (located y) v a) ∙ ap (λ (x : EssenceZone). standing_in known (located x)) e
       ∙ standing-exact known (located z) w b
 
-  one-at : (v w : UnitStanding) → IsStandingAt known index_sid body_sid offset v
-      → IsStandingAt known index_sid body_sid offset w → v ≡ w
+  one-at : (v w : UnitStanding) → IsStandingAt known index_sid unit body_sid offset v
+      → IsStandingAt known index_sid unit body_sid offset w → v ≡ w
   one-at v w (inl a) (inl b) =
       let e = one-zone known.notes body_sid offset (Err v) (Err w) a b in cc (e)
   one-at v w (inl a) (inr b) =
@@ -140,7 +140,7 @@ module _ (known : KnownParts) (index_sid unit : ℕ) where
   abbrev AtPlace : UnitStanding → Type 0
   AtPlace w =
       (body_sid : ℕ) × (offset : ℕ) × IsOnlyPlace (segments_of known.notes) index_sid unit body_sid offset
-      × IsStandingAt known index_sid body_sid offset w
+      × IsStandingAt known index_sid unit body_sid offset w
 
   abbrev Standings : UnitStanding → Type 0
   Standings w =
@@ -173,9 +173,9 @@ module _ (known : KnownParts) (index_sid unit : ℕ) where
   both_at : (v w : UnitStanding) → AtPlace v → AtPlace w → v ≡ w
   both_at v w s t =
       let same = t.2.only record { body_sid = s.0; offset = s.1 } s.2.given in
-      one-at known index_sid t.0 t.1 v w
-      (subst (λ x. IsStandingAt known index_sid t.0 x v) same.1
-      (subst (λ x. IsStandingAt known index_sid x s.1 v) same.0 s.3)) t.3
+      one-at known index_sid unit t.0 t.1 v w
+      (subst (λ x. IsStandingAt known index_sid unit t.0 x v) same.1
+      (subst (λ x. IsStandingAt known index_sid unit x s.1 v) same.0 s.3)) t.3
 
   both : (v w : UnitStanding) → Standings v → Standings w → v ≡ w
   both v w (inl s) (inl t) = s.0 ∙ sym t.0

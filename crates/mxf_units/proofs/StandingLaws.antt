@@ -8,31 +8,31 @@ use Rattle.mxf_units.specs.declared.essence_zone.EssenceZone.{EssenceZone}
 use Rattle.mxf_views.specs.declared.index.place.StreamPlace.{StreamPlace}
 use Rattle.mxf_units.specs.EssenceZones.{parts_of, zone_at}
 use Rattle.mxf_units.specs.Standings.{IsStanding, IsStandingAt, IsZone}
-use Rattle.mxf_units.specs.Streams.{next_of, place_of, segments_for}
-use Rattle.mxf_units.specs.Units.{extent_in, location_at, location_in, location_of, standing_by, unit_of}
+use Rattle.mxf_units.specs.Streams.{place_of, segments_for}
+use Rattle.mxf_units.specs.Units.{end_place, extent_in, location_at, location_in, location_of, standing_by, unit_of}
 use Rattle.mxf_units.proofs.StandingPlaces.{IsPlacing, placing}
 use Rattle.mxf_units.proofs.StandingRanges.{standing-says}
 use Rattle.mxf_units.proofs.StandingZones.{zone-says}
 
-by_zone : (known : KnownParts) (index_sid : ℕ) (place : StreamPlace) (zone : Result EssenceZone UnitStanding)
+by_zone : (known : KnownParts) (index_sid unit : ℕ) (place : StreamPlace) (zone : Result EssenceZone UnitStanding)
     → IsZone known.notes place.body_sid place.offset zone
-    → IsStandingAt known index_sid place.body_sid place.offset
-    (standing_by known (location_in (segments_for known.notes index_sid) place zone))
-by_zone known index_sid place (Err w) z = inl z
-by_zone known index_sid place (Ok zone) z =
+    → IsStandingAt known index_sid unit place.body_sid place.offset
+    (standing_by known (location_in (segments_for known.notes index_sid) unit place zone))
+by_zone known index_sid unit place (Err w) z = inl z
+by_zone known index_sid unit place (Ok zone) z =
     inr (
       zone,
       z,
       standing-says known (record {
         zone = zone;
         extent = extent_in zone place.offset
-            (next_of (segments_for known.notes index_sid) place.body_sid place.offset);
+            (end_place (segments_for known.notes index_sid) zone unit place.body_sid place.offset);
       }),
     )
 
 at_place : (known : KnownParts) (index_sid unit body_sid offset : ℕ) (w : UnitStanding)
     → IsOnlyPlace (segments_of known.notes) index_sid unit body_sid offset
-    → IsStandingAt known index_sid body_sid offset w → IsStanding known index_sid unit w
+    → IsStandingAt known index_sid unit body_sid offset w → IsStanding known index_sid unit w
 at_place known index_sid unit body_sid offset standings.NotIndexed o (inl z) = absurd z
 at_place known index_sid unit body_sid offset standings.NotIndexed o (inr s) = absurd s.2
 at_place known index_sid unit body_sid offset standings.Ambiguous o (inl z) = absurd z
@@ -51,12 +51,12 @@ at_place known index_sid unit body_sid offset standings.Hand o s = (body_sid, of
 by_place : (known : KnownParts) (index_sid unit : ℕ) (place : Result StreamPlace UnitStanding)
     → IsPlacing known.notes index_sid unit place
     → IsStanding known index_sid unit
-    (standing_by known (location_at (parts_of known.notes) (segments_for known.notes index_sid) place))
+    (standing_by known (location_at (parts_of known.notes) (segments_for known.notes index_sid) unit place))
 by_place known index_sid unit (Ok p) h =
     let zone = zone_at (parts_of known.notes) p.body_sid p.offset in
     at_place known index_sid unit p.body_sid p.offset
-    (standing_by known (location_in (segments_for known.notes index_sid) p zone)) h
-    (by_zone known index_sid p zone (zone-says known.notes p.body_sid p.offset))
+    (standing_by known (location_in (segments_for known.notes index_sid) unit p zone)) h
+    (by_zone known index_sid unit p zone (zone-says known.notes p.body_sid p.offset))
 by_place known index_sid unit (Err standings.NotIndexed) h = h
 by_place known index_sid unit (Err standings.Ambiguous) h = h
 by_place known index_sid unit (Err standings.NoPartition) h = absurd h

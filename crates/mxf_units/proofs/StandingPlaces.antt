@@ -15,10 +15,10 @@ use Rattle.mxf_units.proofs.WalkLaws.{PlacesWalked, walk_places}
 use Rattle.mxf_views.specs.Places.{in_stream, place_in}
 
 module _ (notes : List NoteParts) (index_sid unit : ℕ) where
-  abbrev given_places : List StreamPlace
+  abbrev pub given_places : List StreamPlace
   given_places = filter_map (place_in unit) (segments_for notes index_sid)
 
-  given-In : (p : StreamPlace) → IsGiven (segments_of notes) index_sid unit p → In p given_places
+  pub given-In : (p : StreamPlace) → IsGiven (segments_of notes) index_sid unit p → In p given_places
   given-In p g =
       let in_index = (In-filter (λ s. s.segment.numbers.index_sid == index_sid) (segments_of notes) g.by).1
       (g.held, eq-eqb _ _ g.index) in
@@ -29,7 +29,7 @@ module _ (notes : List NoteParts) (index_sid unit : ℕ) where
         ap (option_map (in_stream g.by)) g.offset ∙ (λ i. Some record { body_sid = body i; offset = p.offset }),
       )
 
-  In-given : (q : StreamPlace) → In q given_places
+  pub In-given : (q : StreamPlace) → In q given_places
       → IsGiven (segments_of notes) index_sid unit q
   In-given q h =
       let s = (In-filter_map (place_in unit) (segments_for notes index_sid) q).0 h in

@@ -1,10 +1,11 @@
 -- How bytes stand, by the tests and by the causes.
 use Rattle.std.proofs.Common.{◌≡◌, ◌∙◌, ◌<◌, ◌≤◌, ◌&&◌, ◌⊎◌, ℕ, Bool, true, false, not, Option, None, Some}
-use Rattle.std.proofs.Common.{refl, ap, inl, inr, is_some, IsSome, nat_le, nat_lt, if◌then◌else◌}
+use Rattle.std.proofs.Common.{List, refl, ap, inl, inr, is_some, IsSome, nat_le, nat_lt, if◌then◌else◌}
 use Rattle.std.proofs.lemmas.Bool.{and_from, and_parts, false_from_ne_true, le-leb, leb-true}
 use Rattle.std.proofs.Common.{ltb-true, lt-ltb}
 use Rattle.std.specs.Option.{option_map_or}
 use Rattle.mxf_places.specs.AtHand.{KnownParts}
+use Rattle.mxf_klv.specs.Parts.{NoteParts}
 use Rattle.mxf_klv.proofs.Tests.{either}
 use Rattle.mxf_units.specs.declared.standing.UnitStanding.{UnitStanding}
 use Rattle.mxf_units.specs.declared.standing.UnitStanding.TheVariants as standings
@@ -12,8 +13,10 @@ use Rattle.mxf_units.specs.declared.essence_zone.EssenceZone.{EssenceZone}
 use Rattle.mxf_units.specs.declared.location.Location.{Location}
 use Rattle.mxf_units.specs.declared.unit.Extent.{Extent}
 use Rattle.mxf_units.specs.Units.{are_all_held, are_all_known, asked_end, ends_behind, is_any_disputed, is_any_known}
-use Rattle.mxf_units.specs.Units.{standing_in}
-use Rattle.mxf_units.specs.Standings.{AllHeld, AllKnown, AnyDisputed, AnyKnown, GoesBehind, IsStandingIn, LiesInside}
+use Rattle.mxf_units.specs.Units.{is_beside_essence, lies_elsewhere, standing_in}
+use Rattle.mxf_units.specs.Standings.{AllHeld, AllKnown, AnyDisputed, AnyKnown, GoesBehind, IsStandingIn, LiesElsewhere}
+use Rattle.mxf_units.specs.Standings.{LiesInside}
+use Rattle.mxf_units.proofs.BesideLaws.{beside-says}
 use Rattle.mxf_units.proofs.RangeLaws.{all_held-says, all_known-says, any_disputed-says, any_known-says, either-says}
 
 abbrev goes : EssenceZone → Extent → Bool
@@ -50,6 +53,21 @@ says-goes : (zone : EssenceZone) (e : Extent) → GoesBehind zone e → goes zon
 says-goes zone e g =
     ap (λ (o : Option ℕ). option_map_or (ends_behind e) o false) g.limit_is ∙ says-ends e g.limit g.behind
 
+-- The bytes lie elsewhere.
+module _ (notes : List NoteParts) (l : Location) where
+  elsewhere-says : lies_elsewhere notes l ≡ true → LiesElsewhere notes l.zone l.extent
+  elsewhere-says h =
+      elim (either-says (goes l.zone l.extent) (is_beside_essence notes l.extent.start) h) [
+        | inl a ↦ inl (goes-says l.zone l.extent a)
+        | inr b ↦ inr ((beside-says notes l.extent.start).0 b)
+      ]
+
+  says-elsewhere : LiesElsewhere notes l.zone l.extent → lies_elsewhere notes l ≡ true
+  says-elsewhere (inl g) = either _ _ (inl (says-goes l.zone l.extent g))
+  says-elsewhere (inr b) =
+      either (goes l.zone l.extent) (is_beside_essence notes l.extent.start)
+      (inr ((beside-says notes l.extent.start).1 b))
+
 denied : (P : Type 0) (b : Bool) → (P → b ≡ true) → b ≡ false → ¬ P
 denied P b f e p = let t = f p in cc (t, e)
 
@@ -76,6 +94,12 @@ module _ (known : KnownParts) (l : Location) where
 
   abbrev end : ℕ
   end = asked_end l.extent
+
+  abbrev elsewhere : Bool
+  elsewhere = lies_elsewhere known.notes l
+
+  abbrev IsElsewhere : Type 0
+  IsElsewhere = LiesElsewhere known.notes zone e
 
   abbrev origin_held : Bool
   origin_held = are_all_held known.notes zone.origin end
@@ -105,9 +129,9 @@ module _ (known : KnownParts) (l : Location) where
 
   -- ---- what holds where a test passes or fails
 
-  inside : goes zone e ≡ false → unsure_test ≡ false → LiesInside known.notes zone e
+  inside : elsewhere ≡ false → unsure_test ≡ false → LiesInside known.notes zone e
   inside f g = record {
-    within = denied (GoesBehind zone e) (goes zone e) (says-goes zone e) f;
+    within = denied IsElsewhere elsewhere (says-elsewhere known.notes l) f;
     sure = elim (sure zone.is_sure origin_held g) [
       | inl s ↦ inl s
       | inr s ↦ inr ((all_held-says known.notes zone.origin end).0 s)
@@ -122,12 +146,12 @@ module _ (known : KnownParts) (l : Location) where
       let t = and_from (is_some e.end) (are_all_held known.notes e.start end) some
       ((all_held-says known.notes e.start end).1 all) in cc (t, k)
 
-  by_tests : (a b c d k m : Bool) → goes zone e ≡ a → unsure_test ≡ b → disputed_test ≡ c → any_test ≡ d
+  by_tests : (a b c d k m : Bool) → elsewhere ≡ a → unsure_test ≡ b → disputed_test ≡ c → any_test ≡ d
       → held_test ≡ k → hand_test ≡ m → IsStandingIn known zone e (cascade a b c d k m)
-  by_tests true b c d k m f g h j n o = goes-says zone e f
+  by_tests true b c d k m f g h j n o = elsewhere-says known.notes l f
   by_tests false true c d k m f g h j n o =
       let u = unsure zone.is_sure origin_held g in (
-        denied (GoesBehind zone e) (goes zone e) (says-goes zone e) f,
+        denied IsElsewhere elsewhere (says-elsewhere known.notes l) f,
         u.0,
         denied (AllHeld known.notes zone.origin end) origin_held (all_held-says known.notes zone.origin end).1 u.1,
       )
@@ -167,12 +191,12 @@ module _ (known : KnownParts) (l : Location) where
 
   pub standing-says : IsStandingIn known zone e (standing_in known l)
   standing-says =
-      by_tests (goes zone e) unsure_test disputed_test any_test held_test hand_test refl refl refl refl refl refl
+      by_tests (elsewhere) unsure_test disputed_test any_test held_test hand_test refl refl refl refl refl refl
 
   -- ---- and back
 
-  within_is : ¬ GoesBehind zone e → goes zone e ≡ false
-  within_is n = false_from_ne_true (goes zone e) (λ t. n (goes-says zone e t))
+  within_is : ¬ IsElsewhere → elsewhere ≡ false
+  within_is n = false_from_ne_true (elsewhere) (λ t. n (elsewhere-says known.notes l t))
 
   inside_is : LiesInside known.notes zone e → unsure_test ≡ false
   inside_is i = elim i.sure [
@@ -205,7 +229,7 @@ module _ (known : KnownParts) (l : Location) where
 
   pub standing-exact : (w : UnitStanding) → IsStandingIn known zone e w → standing_in known l ≡ w
   standing-exact standings.Elsewhere h =
-      ap (λ a. cascade a unsure_test disputed_test any_test held_test hand_test) (says-goes zone e h)
+      ap (λ a. cascade a unsure_test disputed_test any_test held_test hand_test) (says-elsewhere known.notes l h)
   standing-exact standings.Unsure h =
       let a = within_is h.0 in
       let held = false_from_ne_true origin_held (λ t. h.2 ((all_held-says known.notes zone.origin end).0 t)) in

@@ -1,20 +1,23 @@
 -- The place and the entry that all of some are: whichever way these stand, and by those segments alone that may have them.
-use Rattle.std.proofs.Common.{◌≡◌, ◌≢◌, ◌∙◌, ◌⊎◌, ◌==◌, ◌&&◌, ◌||◌, ◌<◌, ◌≤◌, ◌+◌, ◌-◌, ◌^◌, ℕ, true, false, not, List, []}
+use Rattle.std.proofs.Common.{◌≡◌, ◌≢◌, ◌∙◌, ◌⊎◌, ◌==◌, ◌&&◌, ◌||◌, ◌<◌, ◌≤◌, ◌+◌, ◌-◌, ◌^◌, ℕ, Bool, true, false, not, List, []}
 use Rattle.std.proofs.Common.{◌∷◌, Option, None, Some, Result, Ok, Err, refl, sym, ap, inl, inr, arith, eq-eqb, eqb-true}
 use Rattle.std.proofs.Common.{◌*◌, filter_map, if◌then◌else◌, nat_le, nat_lt, option_map, unsigned_abs, min, ltb-true}
 use Rattle.std.proofs.lemmas.Bool.{and_from, and_parts, false_from_ne_true, leb-true}
 use Rattle.std.specs.Cmp.{signed_Decides}
+use Rattle.std.specs.List.{cons_option, list_any}
 use Rattle.std.specs.List.Sorted.{IsPermutation}
+use Rattle.std.specs.Option.{option_map_or}
 use Rattle.std.specs.Ordering.{int_eq}
 use Rattle.mxf_klv.specs.Rising.{In, SameMembers}
-use Rattle.mxf_klv.proofs.Tests.{not_both}
+use Rattle.mxf_klv.proofs.Lists.{list_any-In}
+use Rattle.mxf_klv.proofs.Tests.{not_both, same_bool}
 use Rattle.mxf_sets.specs.Offset.{covers_constant, covers_entry, entry_at, entry_offset, index_entry}
 use Rattle.mxf_sets.specs.Segment.{entry_count, is_constant}
 use Rattle.mxf_sets.specs.declared.segment.offset.IndexEntry.{IndexEntry}
 use Rattle.mxf_views.specs.Places.{SegmentAtParts}
 use Rattle.mxf_units.specs.NextPlaces.{first_unit, units_end}
 use Rattle.mxf_units.specs.Intervals.{IsAround}
-use Rattle.mxf_units.specs.Streams.{entry_of, is_same_entry, is_same_place, only_entry}
+use Rattle.mxf_units.specs.Streams.{entry_of, is_given, is_same_entry, is_same_place, only_entry}
 use Rattle.mxf_views.specs.Places.{in_stream}
 use Rattle.mxf_units.specs.Streams.{only_place, place_of}
 use Rattle.mxf_views.specs.Places.{place_in}
@@ -58,13 +61,13 @@ module _ {K R : Type 0} (none : R) (one : K → R) (two : R) where
 
 -- ---- places
 
-same_place : (q p : StreamPlace) → is_same_place q p ≡ true → q ≡ p
+pub same_place : (q p : StreamPlace) → is_same_place q p ≡ true → q ≡ p
 same_place q p e =
     let s = and_parts (q.body_sid == p.body_sid) (q.offset == p.offset) e in
     let body = eqb-true q.body_sid p.body_sid s.0 in
     let offset = eqb-true q.offset p.offset s.1 in λ i. record { body_sid = body i; offset = offset i }
 
-itself_place : (q p : StreamPlace) → q ≡ p → is_same_place q p ≡ true
+pub itself_place : (q p : StreamPlace) → q ≡ p → is_same_place q p ≡ true
 itself_place q p e =
     and_from (q.body_sid == p.body_sid) (q.offset == p.offset) (eq-eqb _ _ (ap (λ (x : StreamPlace). x.body_sid) e))
     (eq-eqb _ _ (ap (λ (x : StreamPlace). x.offset) e))
@@ -202,6 +205,27 @@ module _ (unit : ℕ) (fits : unit < 2 ^ 64) (s : SegmentAtParts)
         | false ↦ λ e. ap (λ b. if b then Some (entry_at s.segment (unit - start)) else None) (no_entry e)
       ] refl
 
+-- ---- the place, by those that are given
+
+pub any_given : (p : StreamPlace) (unit : ℕ) (segments : List SegmentAtParts)
+    → is_given p unit segments ≡ list_any (is_same_place p) (filter_map (place_in unit) segments)
+any_given p unit [] = refl
+any_given p unit (s ∷ segments) =
+    let rest = any_given p unit segments in
+    elim (place_in unit s) as (λ (o : Option StreamPlace). (option_map_or (is_same_place p) o false
+    || is_given p unit segments) ≡ list_any (is_same_place p) (cons_option o (filter_map (place_in unit) segments))) [
+      | None ↦ rest
+      | Some q ↦ ap (λ b. is_same_place p q || b) rest
+    ]
+
+same_any : {K : Type 0} (test : K → Bool) (xs ys : List K) → SameMembers xs ys → list_any test xs ≡ list_any test ys
+same_any {K} test xs ys same =
+    let x = list_any-In test xs in
+    let y = list_any-In test ys in
+    same_bool (list_any test xs) (list_any test ys)
+    (λ h. let s = x.0 h in y.1 (s.0, (same s.0).0 s.1, s.2))
+    (λ h. let s = y.0 h in x.1 (s.0, (same s.0).1 s.1, s.2))
+
 -- So segments in another order, and those of them alone that may have it, place a unit as all do.
 module _ (unit : ℕ) (fits : unit < 2 ^ 64) (segments all near above : List SegmentAtParts)
     (order : IsPermutation segments all) (around : IsAround first_unit units_end unit all near above) where
@@ -219,3 +243,12 @@ module _ (unit : ℕ) (fits : unit < 2 ^ 64) (segments all near above : List Seg
       (λ s l. outside-entry unit fits s (inl l)) (λ s l. outside-entry unit fits s (inr l)))
       ∙ same-only_entry (filter_map f all) (filter_map f segments)
       (same-filter_map f all segments (permuted segments all order))
+
+  pub near-given : (p : StreamPlace) → is_given p unit near ≡ is_given p unit segments
+  near-given p =
+      any_given p unit near
+      ∙ ap (list_any (is_same_place p)) (near_alone first_unit units_end (place_in unit) unit all near above around
+      (λ s l. outside-place unit fits s (inl l)) (λ s l. outside-place unit fits s (inr l)))
+      ∙ same_any (is_same_place p) (filter_map (place_in unit) all) (filter_map (place_in unit) segments)
+      (same-filter_map (place_in unit) all segments (permuted segments all order))
+      ∙ sym (any_given p unit segments)

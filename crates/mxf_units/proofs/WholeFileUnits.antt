@@ -1,6 +1,6 @@
 -- The units of a file that is held whole.
-use Rattle.std.proofs.Common.{◌≡◌, ◌∙◌, ◌+◌, ◌<◌, ◌≤◌, ℕ, List, Option, None, Some, IsSome, ap, arith}
-use Rattle.std.proofs.Common.{inl, inr, refl, subst, sym, unwrap_or, if◌then◌else◌}
+use Rattle.std.proofs.Common.{◌≡◌, ◌+◌, ◌<◌, ◌≤◌, ℕ, List, Some, IsSome, ap, arith}
+use Rattle.std.proofs.Common.{inl, inr, refl, subst, sym, unwrap_or}
 use Rattle.mxf_klv.specs.Parts.{NoteParts, PacketParts}
 use Rattle.mxf_klv.specs.Piece.{end_after, notes_from}
 use Rattle.mxf_catalogue.proofs.ClearLaws.{no_dispute}
@@ -10,45 +10,23 @@ use Rattle.mxf_places.proofs.LaidPlaces.{held_all}
 use Rattle.mxf_units.specs.declared.essence_zone.EssenceZone.{EssenceZone}
 use Rattle.mxf_units.specs.declared.standing.UnitStanding.TheVariants as standings
 use Rattle.mxf_units.specs.declared.unit.Extent.{Extent}
-use Rattle.mxf_units.specs.Extents.{HasOffset, IsExtentEnd, IsExtentOf, IsLastPlace}
-use Rattle.mxf_units.specs.Standings.{GoesBehind, IsStanding, IsStandingIn}
-use Rattle.mxf_units.specs.Streams.{IsNextOf, next_of, segments_for}
-use Rattle.mxf_units.specs.Units.{asked_end, extent_in, file_offset, unit_of}
-use Rattle.mxf_units.proofs.NextLaws.{next-is, next-told}
+use Rattle.mxf_units.specs.Extents.{HasOffset, IsExtentEnd, IsExtentOf}
+use Rattle.mxf_units.specs.Standings.{IsStanding, IsStandingIn, LiesElsewhere}
+use Rattle.mxf_units.specs.Streams.{segments_for}
+use Rattle.mxf_units.specs.Units.{asked_end, end_place, extent_in, unit_of}
+use Rattle.mxf_units.proofs.EndPlaceLaws.{extent_end-is, offset_is}
 use Rattle.mxf_units.proofs.OneStanding.{one-standing}
 use Rattle.mxf_units.proofs.StandingLaws.{standings_by_cause}
 
 -- ---- an extent by its relation is the one that is computed
 
-offset_is : (zone : EssenceZone) (offset x : ℕ) → HasOffset zone offset x → file_offset zone offset ≡ x
-offset_is zone offset x h = let low = h.0 in let e = h.1 in omega (arith, low, e)
-
-module _ (notes : List NoteParts) (index_sid body_sid offset : ℕ) (zone : EssenceZone) where
-  abbrev next : Option ℕ
-  next = next_of (segments_for notes index_sid) body_sid offset
-
-  none_next : IsLastPlace notes index_sid body_sid offset → next ≡ None
-  none_next last =
-      elim next as (λ o. IsNextOf (segments_for notes index_sid) body_sid offset o → o ≡ None) [
-        | None ↦ λ _. refl
-        | Some x ↦ λ is. absurd (last x is)
-      ] (next-told (segments_for notes index_sid) body_sid offset)
-
-  end_is : (end : ℕ) → IsExtentEnd notes index_sid body_sid offset zone (Some end)
-      → (extent_in zone offset next).end ≡ Some end
-  end_is end (inl n) =
-      let is : next ≡ Some n.0 = (next-is (segments_for notes index_sid) body_sid offset (Some n.0)).1 n.1 in
-      ap (λ o. (extent_in zone offset o).end) is ∙ ap (λ (x : ℕ). Some x) (offset_is zone n.0 end n.2)
-  end_is end (inr last) =
-      ap (λ o. (extent_in zone offset o).end) (none_next last.0)
-      ∙ ap (λ b. if b then zone.limit else None) last.1 ∙ last.2
-
-  extent_is : (e : Extent) (end : ℕ) → e.end ≡ Some end → HasOffset zone offset e.start
-      → IsExtentEnd notes index_sid body_sid offset zone e.end → extent_in zone offset next ≡ e
-  extent_is e end at start is =
-      let begins = offset_is zone offset e.start start in
-      let ends = end_is end (subst (IsExtentEnd notes index_sid body_sid offset zone) at is) ∙ sym at in
-      λ i. record { start = begins i; end = ends i }
+extent_is : (notes : List NoteParts) (index_sid unit body_sid offset : ℕ) (zone : EssenceZone) (e : Extent)
+    → HasOffset zone offset e.start → IsExtentEnd notes index_sid unit body_sid offset zone e.end
+    → extent_in zone offset (end_place (segments_for notes index_sid) zone unit body_sid offset) ≡ e
+extent_is notes index_sid unit body_sid offset zone e start is =
+    let begins = offset_is zone offset e.start start in
+    let ends = (extent_end-is notes index_sid unit body_sid offset zone e.end start.0).1 is in
+    λ i. record { start = begins i; end = ends i }
 
 -- ---- all of it is held
 
@@ -63,7 +41,7 @@ module _ (l : List PacketParts) (at : AtHandParts) where
   held_below x less = held_all 0 l x (omega arith) less
 
   stands_held : (zone : EssenceZone) (e : Extent) (end : ℕ) → e.end ≡ Some end → e.start < end
-      → end ≤ end_after 0 l → ¬ GoesBehind zone e → IsStandingIn known zone e standings.Held
+      → end ≤ end_after 0 l → ¬ LiesElsewhere notes_of_file zone e → IsStandingIn known zone e standings.Held
   stands_held zone e end ends some below within =
       let asked : asked_end e ≡ end = ap (λ o. unwrap_or o (e.start + 1)) ends in
       let all = λ (x : ℕ) (before : x < asked_end e). held_below x (omega (arith, before, asked, below)) in (
@@ -77,13 +55,16 @@ module _ (l : List PacketParts) (at : AtHandParts) where
   pub held_whole : (index_sid unit : ℕ) (e : Extent) (end : ℕ) → IsExtentOf notes_of_file index_sid unit e
       → e.end ≡ Some end → end ≤ end_after 0 l → (unit_of known index_sid unit).standing ≡ standings.Held
   held_whole index_sid unit e end f ends below =
-      let within : ¬ GoesBehind f.zone e = λ g. elim g.behind [
-        | inl from ↦ (let low = f.start_within g.limit g.limit_is in omega (arith, from, low))
-        | inr past ↦ (let high = f.end_within g.limit past.0 g.limit_is past.1 in
-            let over = past.2 in omega (arith, high, over))
+      let within : ¬ LiesElsewhere notes_of_file f.zone e = λ h. elim h [
+        | inl g ↦ elim g.behind [
+          | inl from ↦ (let low = f.start_within g.limit g.limit_is in omega (arith, from, low))
+          | inr past ↦ (let high = f.end_within g.limit past.0 g.limit_is past.1 in
+              let over = past.2 in omega (arith, high, over))
+        ]
+        | inr b ↦ f.in_essence b
       ] in
       let stands = stands_held f.zone e end ends (f.some end ends) below within in
-      let same = extent_is notes_of_file index_sid f.body_sid f.offset f.zone e end ends f.start f.end in
+      let same = extent_is notes_of_file index_sid unit f.body_sid f.offset f.zone e f.start f.end in
       let held : IsStanding known index_sid unit standings.Held = (
         f.body_sid,
         f.offset,

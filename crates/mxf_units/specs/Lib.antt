@@ -4,6 +4,7 @@ pub mod LastUnits
 pub mod NextPlaces
 pub mod EssenceZones
 pub mod Units
+pub mod Indexes
 pub mod Ranges
 pub mod Standings
 pub mod Intervals

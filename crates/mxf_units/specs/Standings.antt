@@ -13,8 +13,8 @@ use Rattle.mxf_units.specs.declared.standing.UnitStanding.TheVariants as standin
 use Rattle.mxf_units.specs.declared.essence_zone.EssenceZone.{EssenceZone}
 use Rattle.mxf_units.specs.declared.unit.Extent.{Extent}
 use Rattle.mxf_units.specs.EssenceZones.{zone_of}
-use Rattle.mxf_units.specs.Streams.{next_of, segments_for}
-use Rattle.mxf_units.specs.Units.{IsKnown, asked_end, extent_in}
+use Rattle.mxf_units.specs.Streams.{segments_for}
+use Rattle.mxf_units.specs.Units.{IsBesideEssence, IsKnown, asked_end, end_place, extent_in}
 
 -- A partition of a stream that begins at an offset or below it.
 pub record BeginsUpTo (notes : List NoteParts) (body_sid offset : ℕ) (p : PartitionParts) : Type 0 where
@@ -51,6 +51,10 @@ pub record GoesBehind (zone : EssenceZone) (e : Extent) : Type 0 where
   pub limit_is : zone.limit ≡ Some limit
   pub behind : (limit ≤ e.start) ⊎ ((end : ℕ) × (e.end ≡ Some end) × (limit < end))
 
+-- The bytes don't lie in the zone: they go past its limit, or the first of them lies in a packet that can't be essence.
+abbrev pub LiesElsewhere : List NoteParts → EssenceZone → Extent → Type 0
+LiesElsewhere notes zone e = GoesBehind zone e ⊎ IsBesideEssence notes e.start
+
 -- All offsets of a range are held, or are held or at hand, or some is either, or some is disputed.
 abbrev pub AllHeld : List NoteParts → ℕ → ℕ → Type 0
 AllHeld notes from to = (x : ℕ) → from ≤ x → x < to → IsHeld notes x
@@ -64,17 +68,17 @@ AnyKnown known from to = (x : ℕ) × IsKnown known x × (from ≤ x) × (x < to
 abbrev pub AnyDisputed : List NoteParts → ℕ → ℕ → Type 0
 AnyDisputed notes from to = (x : ℕ) × IsDisputedAt notes x × (from ≤ x) × (x < to)
 
--- The bytes lie in their partition: they don't go past its limit, and that is sure, or all is held from the origin on
+-- The bytes lie in their partition: they don't lie elsewhere, and the limit is sure, or all is held from the origin on
 -- up to where they are asked about.
 pub record LiesInside (notes : List NoteParts) (zone : EssenceZone) (e : Extent) : Type 0 where
-  pub within : ¬ GoesBehind zone e
+  pub within : ¬ LiesElsewhere notes zone e
   pub sure : (zone.is_sure ≡ true) ⊎ AllHeld notes zone.origin (asked_end e)
 
 -- How bytes stand if it is known where they are looked for.
 abbrev pub IsStandingIn : KnownParts → EssenceZone → Extent → UnitStanding → Type 0
-IsStandingIn known zone e standings.Elsewhere = GoesBehind zone e
+IsStandingIn known zone e standings.Elsewhere = LiesElsewhere known.notes zone e
 IsStandingIn known zone e standings.Unsure =
-    (¬ GoesBehind zone e) × (zone.is_sure ≡ false) × (¬ AllHeld known.notes zone.origin (asked_end e))
+    (¬ LiesElsewhere known.notes zone e) × (zone.is_sure ≡ false) × (¬ AllHeld known.notes zone.origin (asked_end e))
 IsStandingIn known zone e standings.Disputed =
     LiesInside known.notes zone e × AnyDisputed known.notes e.start (asked_end e)
 IsStandingIn known zone e standings.Missing =
@@ -93,12 +97,12 @@ IsStandingIn known zone e standings.Hand =
 IsStandingIn known zone e _ = ⊥
 
 -- How a unit stands whose place is known.
-abbrev pub IsStandingAt : KnownParts → ℕ → ℕ → ℕ → UnitStanding → Type 0
-IsStandingAt known index_sid body_sid offset standing =
+abbrev pub IsStandingAt : KnownParts → ℕ → ℕ → ℕ → ℕ → UnitStanding → Type 0
+IsStandingAt known index_sid unit body_sid offset standing =
     IsZone known.notes body_sid offset (Err standing)
     ⊎ ((zone : EssenceZone) × IsZone known.notes body_sid offset (Ok zone)
-    × IsStandingIn known zone (extent_in zone offset (next_of (segments_for known.notes index_sid) body_sid offset))
-    standing)
+    × IsStandingIn known zone (extent_in zone offset (end_place (segments_for known.notes index_sid) zone unit body_sid
+    offset)) standing)
 
 -- How a unit stands: no segment gives it a place, or two give different ones, or all that give one give this one.
 abbrev pub IsStanding : KnownParts → ℕ → ℕ → UnitStanding → Type 0
@@ -108,4 +112,4 @@ IsStanding known index_sid unit standings.Ambiguous =
     × IsGiven (segments_of known.notes) index_sid unit q × (p ≢ q)
 IsStanding known index_sid unit standing =
     (body_sid : ℕ) × (offset : ℕ) × IsOnlyPlace (segments_of known.notes) index_sid unit body_sid offset
-    × IsStandingAt known index_sid body_sid offset standing
+    × IsStandingAt known index_sid unit body_sid offset standing

@@ -3,8 +3,8 @@
 use Rattle.std.specs.Prelude.{◌≡◌, ℕ, ◌+◌, ◌/◌, ◌^◌, ◌<◌, ◌≤◌, Bool, false, ◌&&◌, ◌==◌, not, nat_lt, max, min}
 use Rattle.std.specs.Prelude.{if◌then◌else◌}
 use Rattle.std.specs.Prelude.{Option, None, Some, Result, Err, List, [], ◌∷◌, ◌++◌, filter, unsigned_abs}
-use Rattle.std.specs.Option.{ok_or}
-use Rattle.std.specs.List.{filter_map, flat_map, range_with_len}
+use Rattle.std.specs.Option.{ok_or, option_map_or}
+use Rattle.std.specs.List.{filter_map, flat_map, list_any, range_with_len}
 use Rattle.std.specs.Ordering.{int_eq}
 use Rattle.mxf_klv.specs.Parts.{NoteParts}
 use Rattle.mxf_klv.specs.Rising.{In, union}
@@ -57,6 +57,14 @@ only_place seen (p ∷ places) = if is_other_place seen p then Err standings.Amb
 -- The place of a unit, if the segments that give one agree.
 abbrev pub place_of : List SegmentAtParts → ℕ → Result StreamPlace UnitStanding
 place_of segments unit = only_place None (filter_map (place_in unit) segments)
+
+-- A segment gives the unit the place.
+abbrev pub gives : StreamPlace → ℕ → SegmentAtParts → Bool
+gives p unit s = option_map_or (is_same_place p) (place_in unit s) false
+
+-- One of some segments does.
+abbrev pub is_given : StreamPlace → ℕ → List SegmentAtParts → Bool
+is_given p unit segments = list_any (gives p unit) segments
 
 -- The places of the units that a segment lists, each by an entry.
 unfoldable pub listed_in : SegmentAtParts → List StreamPlace

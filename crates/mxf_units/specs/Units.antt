@@ -1,19 +1,21 @@
 -- Where the stored edit units lie in the file, and which of their bytes are held (ST 377-1, Index Table Segment; the
 -- standings are this project's profile).
-use Rattle.std.specs.Prelude.{◌≡◌, ◌↔◌, ◌⊎◌, ℕ, ◌+◌, ◌-◌, ◌^◌, ◌<◌, ◌≤◌, Bool, true, false, ◌&&◌, ◌||◌, nat_le, nat_lt, not, is_some, unwrap_or}
-use Rattle.std.specs.Prelude.{if◌then◌else◌, Option, None, Some, Result, Ok, Err, List, [], map, unsigned_abs}
+use Rattle.std.specs.Prelude.{◌≡◌, ◌≢◌, ◌↔◌, ◌⊎◌, ℕ, ◌+◌, ◌-◌, ◌^◌, ◌<◌, ◌≤◌, Bool, true, false, ◌&&◌, ◌||◌, nat_le, nat_lt, not, is_some, unwrap_or}
+use Rattle.std.specs.Prelude.{if◌then◌else◌, Option, None, Some, Result, Ok, Err, List, filter, unsigned_abs}
 use Rattle.std.specs.Option.{option_and_then, option_map, option_map_or, option_or}
 use Rattle.std.specs.List.{list_all, list_any, range_with_len}
 use Rattle.std.specs.Int.{is_negative}
-use Rattle.std.specs.Ordering.{nat_cmp}
+use Rattle.mxf_klv.specs.Kind.{kind_of}
+use Rattle.mxf_klv.specs.Note.{IsCovered}
 use Rattle.mxf_klv.specs.Parts.{NoteParts}
-use Rattle.mxf_klv.specs.Rising.{union}
+use Rattle.mxf_klv.specs.declared.kinds.Kind.TheVariants as kinds
 use Rattle.mxf_sets.specs.declared.segment.offset.IndexEntry.{IndexEntry}
-use Rattle.mxf_views.specs.Places.{SegmentAtParts, segments_of}
+use Rattle.mxf_views.specs.Places.{SegmentAtParts}
 use Rattle.mxf_catalogue.specs.declared.run.Run.{Run}
 use Rattle.mxf_catalogue.specs.Runs.{LiesIn}
+use Rattle.mxf_catalogue.specs.Disputes.{undisputed_notes}
 use Rattle.mxf_places.specs.AtHand.{KnownParts, has_offset}
-use Rattle.mxf_places.specs.Held.{IsHeld, is_disputed_at, is_held}
+use Rattle.mxf_places.specs.Held.{IsHeld, covers, is_disputed_at, is_held}
 use Rattle.mxf_units.specs.declared.standing.UnitStanding.{UnitStanding}
 use Rattle.mxf_units.specs.declared.standing.UnitStanding.TheVariants as standings
 use Rattle.mxf_units.specs.declared.essence_zone.EssenceZone.{EssenceZone}
@@ -22,8 +24,9 @@ use Rattle.mxf_views.specs.declared.index.place.StreamPlace.{StreamPlace}
 use Rattle.mxf_units.specs.declared.unit.Extent.{Extent}
 use Rattle.mxf_units.specs.declared.unit.EditUnit.{EditUnit}
 use Rattle.mxf_units.specs.declared.location.Location.{Location}
-use Rattle.mxf_units.specs.Streams.{entry_of, next_of, place_of, segments_for}
-use Rattle.mxf_units.specs.EssenceZones.{parts_of, zone_at}
+use Rattle.mxf_units.specs.Streams.{entry_of, is_given, next_of, place_of, segments_for}
+use Rattle.mxf_units.specs.EssenceZones.{may_be_essence, parts_of, zone_at}
+use Rattle.mxf_units.specs.Limits.{IsAlone}
 
 -- What is asked of: what is known of a file, and an IndexSID.
 pub record UnitsParts : Type 0 where
@@ -38,6 +41,19 @@ IsKnown known x = IsHeld known.notes x ⊎ LiesIn known.at.hand x
 abbrev pub AreKnown : KnownParts → List Run → Type 0
 AreKnown known runs = (x : ℕ) → LiesIn runs x ↔ IsKnown known x
 
+-- A packet covers the offset, whole or by its key and length, that shares no byte with another, and it is neither
+-- essence nor of a kind that isn't known: no unit begins there.
+pub record IsBesideEssence (notes : List NoteParts) (x : ℕ) : Type 0 where
+  pub by : NoteParts
+  pub alone : IsAlone notes by
+  pub no_essence : kind_of by.key ≢ kinds.Essence
+  pub known : kind_of by.key ≢ kinds.Other
+  pub covered : IsCovered by x
+
+-- The runs have these offsets, and no others.
+abbrev pub AreBesideEssence : List NoteParts → List Run → Type 0
+AreBesideEssence notes runs = (x : ℕ) → LiesIn runs x ↔ IsBesideEssence notes x
+
 -- Its end is known, and each byte up to there is held.
 pub record IsHeldWhole (notes : List NoteParts) (e : Extent) : Type 0 where
   pub end : ℕ
@@ -50,37 +66,53 @@ pub record IsKnownWhole (known : KnownParts) (e : Extent) : Type 0 where
   pub end_is : e.end ≡ Some end
   pub each : (x : ℕ) → e.start ≤ x → x < end → IsKnown known x
 
--- The IndexSIDs that segments have, each once, rising.
-unfoldable pub index_sids_of : List NoteParts → List ℕ
-index_sids_of notes = union nat_cmp [] (map (λ s. s.segment.numbers.index_sid) (segments_of notes))
-
 -- The file offset at which an offset of a stream lies by an essence zone.
 abbrev pub file_offset : EssenceZone → ℕ → ℕ
 file_offset zone offset = zone.origin + (offset - zone.body_offset)
 
--- From a place of a stream up to the next one; after the last one up to the end of the zone, if that is known.
+-- From a place of a stream up to another one; without one up to the end of the zone, if that is known.
 abbrev pub extent_in : EssenceZone → ℕ → Option ℕ → Extent
-extent_in zone offset next = record {
+extent_in zone offset end = record {
   start = file_offset zone offset;
-  end = option_or (option_map (file_offset zone) next) (if zone.is_sure then zone.limit else None);
+  end = option_or (option_map (file_offset zone) end) (if zone.is_sure then zone.limit else None);
 }
 
+-- An offset of a stream lies behind the limit of the zone.
+abbrev pub is_behind : EssenceZone → ℕ → Bool
+is_behind zone offset = option_map_or (λ limit. nat_lt limit (file_offset zone offset)) zone.limit false
+
+-- One of the segments gives the unit after this one the place. Numbers of units lie below 2^64.
+abbrev pub has_next_unit : List SegmentAtParts → ℕ → StreamPlace → Bool
+has_next_unit segments unit p = nat_lt (unit + 1) (2 ^ 64) && is_given p (unit + 1) segments
+
+-- The place up to which a unit reaches: the next one of its stream. One behind the limit of the zone counts for nothing,
+-- unless the unit after this one has it.
+abbrev pub end_place : List SegmentAtParts → EssenceZone → ℕ → ℕ → ℕ → Option ℕ
+end_place segments zone unit body_sid offset =
+    option_and_then (λ next. if is_behind zone next && not (has_next_unit segments unit (record {
+      body_sid = body_sid;
+      offset = next;
+    })) then None else Some next) (next_of segments body_sid offset)
+
 -- Where the unit lies, by the essence zone in which its place is to be found.
-abbrev pub location_in : List SegmentAtParts → StreamPlace → Result EssenceZone UnitStanding
+abbrev pub location_in : List SegmentAtParts → ℕ → StreamPlace → Result EssenceZone UnitStanding
     → Result Location UnitStanding
-location_in segments place (Err standing) = Err standing
-location_in segments place (Ok zone) =
-    Ok (record { zone = zone; extent = extent_in zone place.offset (next_of segments place.body_sid place.offset) })
+location_in segments unit place (Err standing) = Err standing
+location_in segments unit place (Ok zone) = Ok (record {
+  zone = zone;
+  extent = extent_in zone place.offset (end_place segments zone unit place.body_sid place.offset);
+})
 
 -- The same by its place.
-abbrev pub location_at : List StreamPart → List SegmentAtParts → Result StreamPlace UnitStanding
+abbrev pub location_at : List StreamPart → List SegmentAtParts → ℕ → Result StreamPlace UnitStanding
     → Result Location UnitStanding
-location_at parts segments (Err standing) = Err standing
-location_at parts segments (Ok place) = location_in segments place (zone_at parts place.body_sid place.offset)
+location_at parts segments unit (Err standing) = Err standing
+location_at parts segments unit (Ok place) =
+    location_in segments unit place (zone_at parts place.body_sid place.offset)
 
 unfoldable pub location_of : List NoteParts → ℕ → ℕ → Result Location UnitStanding
 location_of notes index_sid unit =
-    let segments = segments_for notes index_sid in location_at (parts_of notes) segments (place_of segments unit)
+    let segments = segments_for notes index_sid in location_at (parts_of notes) segments unit (place_of segments unit)
 
 -- All offsets from one up to another are held, or some is disputed.
 unfoldable pub are_all_held : List NoteParts → ℕ → ℕ → Bool
@@ -99,9 +131,19 @@ is_any_known known from to = list_any (is_known known) (range_with_len from (to 
 unfoldable pub is_any_disputed : List NoteParts → ℕ → ℕ → Bool
 is_any_disputed notes from to = list_any (is_disputed_at notes) (range_with_len from (to - from))
 
+-- A packet covers the offset that shares no byte with another and can't be essence.
+unfoldable pub is_beside_essence : List NoteParts → ℕ → Bool
+is_beside_essence notes x =
+    list_any (covers x) (filter (λ n. not (may_be_essence (kind_of n.key))) (undisputed_notes notes))
+
 -- The bytes begin or end after an end.
 abbrev pub ends_behind : Extent → ℕ → Bool
 ends_behind extent end = nat_le end extent.start || option_map_or (λ e. nat_lt end e) extent.end false
+
+-- The bytes don't lie in the zone: they begin or end after its limit, or begin in a packet that can't be essence.
+abbrev pub lies_elsewhere : List NoteParts → Location → Bool
+lies_elsewhere notes l =
+    option_map_or (ends_behind l.extent) l.zone.limit false || is_beside_essence notes l.extent.start
 
 -- Up to where bytes are asked about: to their end, or to the first alone.
 abbrev pub asked_end : Extent → ℕ
@@ -110,7 +152,7 @@ asked_end extent = unwrap_or extent.end (extent.start + 1)
 -- How bytes stand that lie up to an end.
 abbrev pub standing_up_to : KnownParts → Location → ℕ → UnitStanding
 standing_up_to known l end =
-    if option_map_or (ends_behind l.extent) l.zone.limit false then standings.Elsewhere
+    if lies_elsewhere known.notes l then standings.Elsewhere
     else (if not l.zone.is_sure && not (are_all_held known.notes l.zone.origin end) then standings.Unsure
     else (if is_any_disputed known.notes l.extent.start end then standings.Disputed
     else (if not (is_any_known known l.extent.start end) then standings.Missing

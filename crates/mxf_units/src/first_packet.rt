@@ -23,7 +23,7 @@ pub fn behind_index(holdings: &Holdings<'_>, partition: &Partition) -> Option<u1
 }
 
 /// Whether packets of the kind may be essence.
-fn may_be_essence(kind: Kind) -> bool
+pub(crate) fn may_be_essence(kind: Kind) -> bool
     ensures { result ≡ may_be_essence kind }
 {
     matches!(kind, Kind::Essence | Kind::Other)

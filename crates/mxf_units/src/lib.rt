@@ -45,10 +45,12 @@
 //! ```
 #![tactic(auto)]
 
+mod beside;
 mod bounds;
 mod constant_units;
 mod essence_zone;
 mod first_packet;
+mod indexes;
 mod intervals;
 mod last;
 mod location;
@@ -63,6 +65,9 @@ mod units;
 pub use essence_zone::part::StreamPart;
 pub use essence_zone::{EssenceZone, limits_by_definition};
 pub use first_packet::{behind_index, first_packets_by_definition};
+pub use indexes::{
+    index_sids, index_sids_by_definition, named_index_sids, named_index_sids_by_definition,
+};
 pub use last::{last_unit, one_last_unit};
 pub use location::Location;
 pub use range::{UnitRange, UnitsLeft};
@@ -70,7 +75,6 @@ pub use segments::next_by_definition;
 pub use standing::UnitStanding;
 pub use unit::{EditUnit, Extent};
 pub use units::{
-    Units, entries_by_definition, extents_by_definition, held_units_are_held, index_sids,
-    index_sids_by_definition, standings_by_definition, units_at_hand_are_known,
-    units_of_whole_files_are_held,
+    Units, entries_by_definition, extents_by_definition, held_units_are_held,
+    standings_by_definition, units_at_hand_are_known, units_of_whole_files_are_held,
 };

@@ -1,24 +1,19 @@
 //! Where bytes of essence lie in the file, and how they stand.
-ghost use Rattle.std.specs.Prelude.{◌≡◌, ◌+◌, ◌<◌, ◌≤◌, ◌^◌, IfOk, IfSome, List};
+ghost use Rattle.std.specs.Prelude.{◌≡◌, ◌+◌, ◌<◌, ◌≤◌, ◌^◌, List};
 ghost use Rattle.std.specs.Option.{ForSome};
 ghost use Rattle.std.specs.Result.{ForOk};
-ghost use Rattle.mxf_views.specs.Places.{SegmentAtParts};
+ghost use Rattle.mxf_klv.specs.Parts.{NoteParts};
 ghost use Rattle.mxf_places.specs.AtHand.{KnownParts};
-ghost use Rattle.mxf_units.specs.NextPlaces.{AreNextPlaces};
-ghost use Rattle.mxf_units.specs.Streams.{IsSmall};
-ghost use Rattle.mxf_units.specs.EssenceZones.{IsFalling};
-ghost use Rattle.mxf_units.specs.Units.{AreKnown, are_all_held, are_all_known, ends_behind, extent_in, file_offset};
-ghost use Rattle.mxf_units.specs.Units.{is_any_disputed, is_any_known};
-ghost use Rattle.mxf_units.specs.Units.{extent_by, is_told, location_at, location_in, standing_by, standing_in};
+ghost use Rattle.mxf_units.specs.Units.{AreBesideEssence, AreKnown, are_all_held, are_all_known, ends_behind, extent_by};
+ghost use Rattle.mxf_units.specs.Units.{extent_in, file_offset, is_any_disputed, is_any_known, is_behind, is_told};
+ghost use Rattle.mxf_units.specs.Units.{lies_elsewhere, standing_by, standing_in};
 
+use crate::beside::is_beside_essence;
 use crate::essence_zone::EssenceZone;
-use crate::essence_zone::part::{StreamPart, zone_at};
-use crate::next_places::NextPlaces;
 use crate::standing::UnitStanding;
 use crate::unit::Extent;
 use mxf_catalogue::Cover;
 use mxf_places::Holdings;
-use mxf_views::StreamPlace;
 
 /// Bytes of essence, and the essence zone that they are looked for in.
 #[derive(Clone, Copy, Debug, PartialEq, Eq)]
@@ -35,16 +30,24 @@ fn file_offset(zone: EssenceZone, offset: u128) -> u128
     u128::from(zone.origin) + offset.saturating_sub(u128::from(zone.body_offset))
 }
 
-/// From a place of a stream, in bytes, up to the next one; after the last one up to the end of the zone, if that is
-/// known.
-pub(crate) fn extent_in(zone: EssenceZone, offset: u128, next: Option<u128>) -> Extent
+/// Whether an offset of a stream, in bytes, lies behind the limit of the zone.
+pub(crate) fn is_behind(zone: EssenceZone, offset: u128) -> bool
+    requires { offset + 2 ^ 96 ≤ 2 ^ 128 }
+    ensures { result ≡ is_behind zone offset }
+{
+    let at = file_offset(zone, offset);
+    zone.limit.is_some_and(|limit| u128::from(limit) < at)
+}
+
+/// From a place of a stream, in bytes, up to another one; without one up to the end of the zone, if that is known.
+pub(crate) fn extent_in(zone: EssenceZone, offset: u128, end: Option<u128>) -> Extent
     requires offset { offset < 2 ^ 96 }
-    requires next { ForSome next (λ n. n + 2 ^ 96 ≤ 2 ^ 128) }
-    ensures extent { result ≡ extent_in zone offset next }
+    requires end { ForSome end (λ n. n + 2 ^ 96 ≤ 2 ^ 128) }
+    ensures extent { result ≡ extent_in zone offset end }
     ensures small { result.start + 1 < 2 ^ 128 }
 {
-    let end = match next {
-        Some(next) => Some(file_offset(zone, next)),
+    let end = match end {
+        Some(end) => Some(file_offset(zone, end)),
         None if zone.is_sure => zone.limit.map(u128::from),
         None => None,
     };
@@ -99,16 +102,33 @@ fn ends_behind(extent: Extent, end: u64) -> bool
     end <= extent.start || extent.end.is_some_and(|e| end < e)
 }
 
-/// How the bytes stand, by what is held, and by the set of what is held or at hand.
-pub(crate) fn standing_in(holdings: &Holdings<'_>, set: &Cover, location: Location) -> UnitStanding
+/// Whether the bytes don't lie in the zone: they begin or end after its limit, or begin where no essence can lie.
+fn lies_elsewhere(beside: &Cover, location: Location) -> bool
+    ensures { (notes : List NoteParts) → AreBesideEssence notes beside.now → result ≡ lies_elsewhere notes location }
+{
+    let extent = location.extent;
+    location
+        .zone
+        .limit
+        .is_some_and(|limit| ends_behind(extent, limit))
+        || is_beside_essence(beside, extent.start)
+}
+
+/// How the bytes stand, by what is held, by the set of what is held or at hand, and by where no essence can lie.
+pub(crate) fn standing_in(
+    holdings: &Holdings<'_>,
+    set: &Cover,
+    beside: &Cover,
+    location: Location,
+) -> UnitStanding
     requires { location.extent.start + 1 < 2 ^ 128 }
     ensures { (known : KnownParts) → holdings.now ≡ known.notes → AreKnown known set.now
-        → result ≡ standing_in known location }
+        → AreBesideEssence known.notes beside.now → result ≡ standing_in known location }
 {
     let zone = location.zone;
     let extent = location.extent;
     let end = extent.end.unwrap_or(extent.start + 1);
-    if zone.limit.is_some_and(|limit| ends_behind(extent, limit)) {
+    if lies_elsewhere(beside, location) {
         return UnitStanding::Elsewhere;
     }
     if !zone.is_sure && !are_all_held(holdings, u128::from(zone.origin), end) {
@@ -134,14 +154,15 @@ pub(crate) fn standing_in(holdings: &Holdings<'_>, set: &Cover, location: Locati
 pub(crate) fn standing_by(
     holdings: &Holdings<'_>,
     set: &Cover,
+    beside: &Cover,
     location: Result<Location, UnitStanding>,
 ) -> UnitStanding
     requires { ForOk location (λ l. l.extent.start + 1 < 2 ^ 128) }
     ensures { (known : KnownParts) → holdings.now ≡ known.notes → AreKnown known set.now
-        → result ≡ standing_by known location }
+        → AreBesideEssence known.notes beside.now → result ≡ standing_by known location }
 {
     match location {
-        Ok(location) => standing_in(holdings, set, location),
+        Ok(location) => standing_in(holdings, set, beside, location),
         Err(standing) => standing,
     }
 }
@@ -176,46 +197,5 @@ pub(crate) fn extent_by(
             }
         }
         Err(_) => None,
-    }
-}
-
-/// Where a unit lies, by the essence zone in which its place is to be found.
-fn location_in(
-    places: &NextPlaces,
-    place: StreamPlace,
-    zone: Result<EssenceZone, UnitStanding>,
-) -> Result<Location, UnitStanding>
-    requires small { IsSmall place }
-    ensures location { (segments : List SegmentAtParts) → AreNextPlaces segments places.now
-        → result ≡ location_in segments place zone }
-    ensures small { IfOk result (λ l. l.extent.start + 1 < 2 ^ 128) }
-{
-    match zone {
-        Ok(zone) => {
-            let extent = extent_in(zone, place.offset, places.behind(place));
-            Ok(Location { zone, extent })
-        }
-        Err(standing) => Err(standing),
-    }
-}
-
-/// Where a unit lies, by its place.
-pub(crate) fn location_at(
-    places: &NextPlaces,
-    parts: &[StreamPart],
-    place: Result<StreamPlace, UnitStanding>,
-) -> Result<Location, UnitStanding>
-    requires parts { IsFalling parts.now }
-    requires small { ForOk place IsSmall }
-    ensures location { (segments : List SegmentAtParts) → AreNextPlaces segments places.now
-        → result ≡ location_at parts.now segments place }
-    ensures small { IfOk result (λ l. l.extent.start + 1 < 2 ^ 128) }
-{
-    match place {
-        Ok(place) => {
-            let zone = zone_at(parts, place.body_sid, place.offset);
-            location_in(places, place, zone)
-        }
-        Err(standing) => Err(standing),
     }
 }

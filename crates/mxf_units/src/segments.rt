@@ -6,8 +6,8 @@ ghost use Rattle.mxf_klv.specs.Parts.{NoteParts};
 ghost use Rattle.mxf_views.specs.Places.{SegmentAtParts, segments_of};
 ghost use Rattle.mxf_units.specs.Streams.{IsNextOf, IsSmall, entry_of, in_order, listed_in, next_of, place_of};
 ghost use Rattle.mxf_views.specs.Places.{place_in};
-ghost use Rattle.mxf_units.specs.Streams.{is_other_entry, is_other_place, places_above, segments_for};
-ghost use Rattle.mxf_units.specs.Streams.{sized_above};
+ghost use Rattle.mxf_units.specs.Streams.{is_other_entry, is_other_place, is_same_place, places_above, segments_for};
+ghost use Rattle.mxf_units.specs.Streams.{gives, is_given, sized_above};
 
 use crate::constant_units::ConstantUnits;
 use crate::intervals::Interval;
@@ -80,9 +80,30 @@ fn is_other_place(seen: Option<StreamPlace>, place: StreamPlace) -> bool
     ensures { result ≡ is_other_place seen place }
 {
     match seen {
-        Some(other) => !(other.body_sid == place.body_sid && other.offset == place.offset),
+        Some(other) => !is_same_place(other, place),
         None => false,
     }
+}
+
+/// Whether two places are one.
+fn is_same_place(first: StreamPlace, second: StreamPlace) -> bool
+    ensures { result ≡ is_same_place first second }
+{
+    first.body_sid == second.body_sid && first.offset == second.offset
+}
+
+/// Whether a segment gives an edit unit the place.
+fn gives(place: StreamPlace, unit: u64, segment: &SegmentAt<'_>) -> bool
+    ensures { result ≡ gives place unit segment.now }
+{
+    place_in(segment, unit).is_some_and(|given| is_same_place(place, given))
+}
+
+/// Whether one of the segments does.
+pub(crate) fn is_given(place: StreamPlace, unit: u64, segments: &[SegmentAt<'_>]) -> bool
+    ensures { result ≡ is_given place unit segments.now }
+{
+    segments.iter().any(|segment| gives(place, unit, segment))
 }
 
 /// The entry of an edit unit, if the segments that list it agree on its front.

@@ -1,35 +1,34 @@
 //! The edit units of an index.
-ghost use Rattle.std.specs.Prelude.{◌≡◌, ◌↔◌, ◌+◌, ◌<◌, ◌≤◌, ◌^◌, ℕ, IfOk, IsSome, List, None, Some, map};
-ghost use Rattle.std.specs.Ordering.{nat_cmp};
+ghost use Rattle.std.specs.Prelude.{◌≡◌, ◌↔◌, ◌+◌, ◌<◌, ◌≤◌, ◌^◌, ℕ, IfOk, IfSome, IsSome, List, None, Option, Some};
 ghost use Rattle.mxf_klv.specs.Parts.{NoteParts, PacketParts};
 ghost use Rattle.mxf_klv.specs.Piece.{end_after, notes_from};
-ghost use Rattle.mxf_klv.specs.Rising.{In, IsRising};
 ghost use Rattle.mxf_sets.specs.declared.segment.offset.IndexEntry.{IndexEntry};
 ghost use Rattle.mxf_units.specs.declared.unit.Extent.{Extent};
 ghost use Rattle.std.specs.Result.{ForOk};
-ghost use Rattle.mxf_views.specs.Places.{SegmentAtParts, segments_of};
+ghost use Rattle.mxf_views.specs.declared.index.place.StreamPlace.{StreamPlace};
 ghost use Rattle.mxf_places.specs.AtHand.{AtHandParts, KnownParts};
 ghost use Rattle.mxf_units.specs.Entries.{IsEntryOf, IsKeyFrame};
-ghost use Rattle.mxf_units.specs.Extents.{IsExtentOf, IsTold};
+ghost use Rattle.mxf_units.specs.Extents.{IsEndPlaceOf, IsExtentEnd, IsExtentOf, IsTold};
 ghost use Rattle.mxf_units.specs.Standings.{IsStanding, IsStandingIn};
 ghost use Rattle.mxf_units.specs.declared.location.Location.{Location};
 ghost use Rattle.mxf_units.specs.declared.standing.UnitStanding.{UnitStanding};
-ghost use Rattle.mxf_units.specs.Streams.{IsSmall, entry_of, place_of, segments_for};
+ghost use Rattle.mxf_units.specs.Streams.{IsSmall, entry_of, is_given, place_of, segments_for};
 ghost use Rattle.mxf_units.specs.EssenceZones.{parts_of};
-ghost use Rattle.mxf_units.specs.Units.{AreKnown, IsHeldWhole, IsKnownWhole, index_sids_of, key_at, location_at, location_of};
-ghost use Rattle.mxf_units.specs.Units.{standing_in, unit_by};
-ghost use Rattle.mxf_units.specs.Units.{unit_of};
+ghost use Rattle.mxf_units.specs.Units.{AreKnown, IsHeldWhole, IsKnownWhole, key_at, location_at, location_of};
+ghost use Rattle.mxf_units.specs.Units.{end_place, extent_in, has_next_unit, standing_in, unit_by, unit_of};
+ghost use Rattle.mxf_units.specs.declared.essence_zone.EssenceZone.{EssenceZone};
 
-use crate::bounds::rising;
-use crate::essence_zone::part::{StreamPart, parts_of};
+use crate::beside::beside_essence;
+use crate::essence_zone::EssenceZone;
+use crate::essence_zone::part::{StreamPart, parts_of, zone_at};
 use crate::intervals::Intervals;
-use crate::location::{Location, extent_by, location_at, standing_by};
+use crate::location::{Location, extent_by, extent_in, is_behind, standing_by};
 use crate::next_places::NextPlaces;
-use crate::segments::{entry_of, place_of, segments_for};
+use crate::segments::{entry_of, is_given, place_of, segments_for};
 use crate::standing::UnitStanding;
 use crate::unit::{EditUnit, Extent};
 use mxf_catalogue::{Cover, Semilattice};
-use mxf_klv::{OutOfMemory, sort_once};
+use mxf_klv::OutOfMemory;
 use mxf_places::{AtHand, Holdings};
 use mxf_sets::IndexEntry;
 use mxf_views::{SegmentAt, StreamPlace, Views};
@@ -44,6 +43,8 @@ pub struct Units<'a> {
     at_hand: &'a AtHand,
     /// The offsets that are held or at hand.
     known: Cover,
+    /// The offsets where no essence can lie.
+    beside: Cover,
     index_sid: u32,
     segments: Intervals<SegmentAt<'a>>,
     places: NextPlaces,
@@ -56,7 +57,7 @@ impl<'a> Model for Units<'a> {
     ghost use Rattle.mxf_units.specs.NextPlaces.{AreNextPlaces};
     ghost use Rattle.mxf_units.specs.Streams.{segments_for};
     ghost use Rattle.mxf_units.specs.EssenceZones.{parts_of};
-    ghost use Rattle.mxf_units.specs.Units.{AreKnown, UnitsParts};
+    ghost use Rattle.mxf_units.specs.Units.{AreBesideEssence, AreKnown, UnitsParts};
 
     ghost Value = { UnitsParts };
 
@@ -68,7 +69,8 @@ impl<'a> Model for Units<'a> {
     ghost invariant = { λ u. IsPermutation (segments_for u.holdings u.index_sid) u.segments
         × AreNextPlaces (segments_for u.holdings u.index_sid) u.places
         × (u.parts.items ≡ parts_of u.holdings)
-        × AreKnown (record { notes = u.holdings; at = u.at_hand.now }) u.known };
+        × AreKnown (record { notes = u.holdings; at = u.at_hand.now }) u.known
+        × AreBesideEssence u.holdings u.beside };
 }
 
 impl<'a> Units<'a> {
@@ -85,6 +87,7 @@ impl<'a> Units<'a> {
     {
         let holdings = Holdings::of(alloc, views)?;
         let known = known_of(alloc, &holdings, at_hand)?;
+        let beside = beside_essence(alloc, &holdings)?;
         let segments = segments_for(alloc, views, index_sid)?;
         let places = NextPlaces::of(alloc, &segments)?;
         let segments = Intervals::of(alloc, segments)?;
@@ -93,6 +96,7 @@ impl<'a> Units<'a> {
             holdings,
             at_hand,
             known,
+            beside,
             index_sid,
             segments,
             places,
@@ -150,13 +154,15 @@ impl<'a> Units<'a> {
     pub fn location(&self, unit: u64) -> Result<Location, UnitStanding>
         ensures { result ≡ location_of self.now.known.notes self.now.index_sid unit }
     {
-        self.location_of(place_of(self.segments_near(unit), unit))
+        self.location_of(unit, place_of(self.segments_near(unit), unit))
     }
 
     /// The segments that may have a unit: those that give it a place and an entry are among them.
     fn segments_near(&self, unit: u64) -> &[SegmentAt<'a>]
         ensures place { place_of result.now unit ≡ place_of (segments_for self.now.known.notes self.now.index_sid) unit }
         ensures entry { entry_of result.now unit ≡ entry_of (segments_for self.now.known.notes self.now.index_sid) unit }
+        ensures given { (p : StreamPlace)
+            → is_given p unit result.now ≡ is_given p unit (segments_for self.now.known.notes self.now.index_sid) }
     {
         let (near, _) = self.segments.around(u128::from(unit));
         near
@@ -165,14 +171,48 @@ impl<'a> Units<'a> {
     /// Where a unit lies, by its place in its stream, as far as that is known.
     fn location_of(
         &self,
+        unit: u64,
         place: Result<StreamPlace, UnitStanding>,
     ) -> Result<Location, UnitStanding>
         requires { ForOk place IsSmall }
         ensures location { result ≡ location_at (parts_of self.now.known.notes)
-            (segments_for self.now.known.notes self.now.index_sid) place }
+            (segments_for self.now.known.notes self.now.index_sid) unit place }
         ensures small { IfOk result (λ l. l.extent.start + 1 < 2 ^ 128) }
     {
-        location_at(&self.places, &self.parts, place)
+        let place = place?;
+        let zone = zone_at(&self.parts, place.body_sid, place.offset)?;
+        let end = self.end_place(unit, place, zone);
+        Ok(Location {
+            zone,
+            extent: extent_in(zone, place.offset, end),
+        })
+    }
+
+    /// The place up to which a unit reaches, in bytes: the next one of its stream. One behind the limit of the zone
+    /// counts for nothing, unless the unit after this one has it: it is that of a unit in a later partition, of which the
+    /// segments of the units between aren't held.
+    fn end_place(&self, unit: u64, place: StreamPlace, zone: EssenceZone) -> Option<u128>
+        requires { IsSmall place }
+        ensures end { result ≡ end_place (segments_for self.now.known.notes self.now.index_sid) zone unit
+            place.body_sid place.offset }
+        ensures small { IfSome result (λ n. n + 2 ^ 96 ≤ 2 ^ 128) }
+    {
+        let body_sid = place.body_sid;
+        let offset = self.places.behind(place)?;
+        if is_behind(zone, offset) && !self.has_next_unit(unit, StreamPlace { body_sid, offset }) {
+            return None;
+        }
+        Some(offset)
+    }
+
+    /// Whether a segment of the index gives the unit after this one the place.
+    fn has_next_unit(&self, unit: u64, place: StreamPlace) -> bool
+        ensures { result ≡ has_next_unit (segments_for self.now.known.notes self.now.index_sid) unit place }
+    {
+        match unit.checked_add(1) {
+            Some(next) => is_given(place, next, self.segments_near(next)),
+            None => false,
+        }
     }
 
     /// The unit with a number. Units are counted from 0 as they are stored. It takes no memory, and some binary
@@ -182,8 +222,8 @@ impl<'a> Units<'a> {
         ensures { result ≡ unit_of self.now.known self.now.index_sid unit }
     {
         let segments = self.segments_near(unit);
-        let location = self.location_of(place_of(segments, unit));
-        let standing = standing_by(&self.holdings, &self.known, location);
+        let location = self.location_of(unit, place_of(segments, unit));
+        let standing = standing_by(&self.holdings, &self.known, &self.beside, location);
         let entry = entry_of(segments, unit);
         unit_by(unit, standing, extent_by(standing, location), entry)
     }
@@ -231,33 +271,6 @@ fn key_at(unit: u64, entry: IndexEntry) -> Option<u64>
         unit.checked_add(distance)
     }
 }
-
-/// The IndexSIDs that index table segments have, each once, rising. They take memory.
-#[tactic(auto, unfolding(crate::specs::Units::index_sids_of))]
-pub fn index_sids(alloc: Global, views: &Views) -> Result<Vec<u32>, OutOfMemory>
-    ensures { IfOk result (λ v. v.items ≡ index_sids_of views.now) }
-{
-    let mut index_sids = index_sids_in(alloc, views)?;
-    sort_once(&mut index_sids);
-    Ok(index_sids)
-}
-
-/// The IndexSIDs of all segments, in the order of these.
-fn index_sids_in(alloc: Global, views: &Views) -> Result<Vec<u32>, OutOfMemory>
-    ensures { IfOk result (λ v. v.items ≡ map (λ s. s.segment.numbers.index_sid) (segments_of views.now)) }
-{
-    let segments = views.segments_in_numbers().iter();
-    let index_sids = segments.map(|segment| segment.numbers.index_sid);
-    Ok(index_sids.collect(alloc)?)
-}
-
-/// A law of [`index_sids`]: they are the IndexSIDs that segments have, and they rise.
-pub fn index_sids_by_definition()
-    ensures members { (notes : List NoteParts) (sid : ℕ)
-        → In sid (index_sids_of notes)
-        ↔ ((s : SegmentAtParts) × In s (segments_of notes) × (s.segment.numbers.index_sid ≡ sid)) }
-    ensures rising { (notes : List NoteParts) → IsRising nat_cmp (index_sids_of notes) }
-{}
 
 /// A law of [`Units::unit`]: if a unit stands as held, it is known where it ends, and each of its bytes is held.
 pub fn held_units_are_held()
@@ -309,6 +322,16 @@ pub fn extents_by_definition()
         → (unit_of known index_sid unit).extent ≡ Some e → IsExtentOf known.notes index_sid unit e }
     ensures told { (known : KnownParts) (index_sid unit : ℕ)
         → IsSome (unit_of known index_sid unit).extent ↔ IsTold (unit_of known index_sid unit).standing }
+
+    // The place up to which a unit reaches, and where bytes end that are looked for in a zone, have their causes.
+    ensures place { (notes : List NoteParts) (index_sid unit body_sid offset : ℕ) (zone : EssenceZone)
+        (end : Option ℕ) → zone.body_offset ≤ offset
+        → (end_place (segments_for notes index_sid) zone unit body_sid offset ≡ end)
+        ↔ IsEndPlaceOf notes index_sid unit body_sid offset zone end }
+    ensures end { (notes : List NoteParts) (index_sid unit body_sid offset : ℕ) (zone : EssenceZone)
+        (end : Option ℕ) → zone.body_offset ≤ offset
+        → ((extent_in zone offset (end_place (segments_for notes index_sid) zone unit body_sid offset)).end ≡ end)
+        ↔ IsExtentEnd notes index_sid unit body_sid offset zone end }
 {}
 
 /// A law of [`Units::unit`]: if all packets of a file are held, from 0 on one after another, each unit that has a place

@@ -34,3 +34,4 @@ pub mod VerifiedUnitLaws
 pub mod VerifyingLaws
 pub mod WholeLaws
 pub mod WholePackets
+pub mod AnotherLaws

@@ -7,7 +7,8 @@
 //!   [`contradictions_by_definition`], [`oppositions_by_definition`];
 //! - what stays and what is dropped of an earlier catalogue that a later reading renews: [`renew`],
 //!   [`renewals_by_definition`], [`renewals_have_what_was_read_anew`], [`renewals_drop_what_was_read_anew`],
-//!   [`renewals_join_what_agrees`];
+//!   [`renewals_join_what_agrees`]; and whether the later reading is of another recording:
+//!   [`other_recordings_by_definition`];
 //! - what sources have of a reference, bytes that are read by its notes or saved catalogues: which notes are the same,
 //!   which differ, what wasn't compared: [`verify`], [`Verification`], [`one_verification`],
 //!   [`verifications_tell_what_is_so`], [`each_compared_note_is_the_same_or_differs`],
@@ -56,8 +57,9 @@ pub use opposing::{Opposing, oppositions_by_definition};
 pub use readings::{Readings, SourceCounts, all_notes_by_definition, sources_by_definition};
 pub use reference::Reference;
 pub use renewal::{
-    DroppedNote, DroppedNotes, Renewed, renew, renewals_by_definition,
-    renewals_drop_what_was_read_anew, renewals_have_what_was_read_anew, renewals_join_what_agrees,
+    DroppedNote, DroppedNotes, Renewed, other_recordings_by_definition, renew,
+    renewals_by_definition, renewals_drop_what_was_read_anew, renewals_have_what_was_read_anew,
+    renewals_join_what_agrees,
 };
 pub use unit_places::{UnitSpan, touched_units_by_definition};
 pub use verification::{CutNote, Differing, Verification, VerifiedCounts};

@@ -1,15 +1,17 @@
 //! An earlier content, renewed by a later reading.
-ghost use Rattle.std.specs.Prelude.{◌≡◌, ◌↔◌, ◌⊎◌, ◌++◌, ◌∷◌, [], IfOk, List, OnOk, length, map};
+ghost use Rattle.std.specs.Prelude.{◌≡◌, ◌↔◌, ◌⊎◌, ◌+◌, ◌++◌, ◌∷◌, ◌<◌, ◌^◌, [], IfOk, IsTrue, List, OnOk, filter};
+ghost use Rattle.std.specs.Prelude.{length, map};
 ghost use Rattle.mxf_klv.specs.Parts.{NoteParts};
 ghost use Rattle.mxf_klv.specs.Rising.{In};
 ghost use Rattle.mxf_catalogue.specs.Content.{AreReduced, IsContent, IsLocated, has_note, reduced_union};
 ghost use Rattle.mxf_verify.specs.Comparing.{SharesHeldByte};
 ghost use Rattle.mxf_verify.specs.Opposing.{IsContradicted};
-ghost use Rattle.mxf_verify.specs.Renewing.{IsDropped, IsKept, added_of, dropped_of, kept_of, renewed_of};
+ghost use Rattle.mxf_verify.specs.Renewing.{IsDropped, IsKept, IsOfAnother, added_of, dropped_essence, dropped_of};
+ghost use Rattle.mxf_verify.specs.Renewing.{had_essence, is_essence, is_of_another, kept_of, renewed_of};
 
 use crate::opposing::Opposing;
 use mxf_catalogue::Catalogue;
-use mxf_klv::{Note, OutOfMemory};
+use mxf_klv::{Kind, Note, OutOfMemory};
 use std::alloc::Global;
 use std::marker::Model;
 
@@ -72,6 +74,9 @@ impl<'a> DroppedNotes<'a> {
 pub struct Renewed<'a> {
     pub catalogue: Catalogue,
     pub dropped: DroppedNotes<'a>,
+    /// More packets of essence are dropped than the later reading has of the earlier ones: it is of another recording,
+    /// or has a wrong offset. Who writes a recording rewrites packs, sets and fills in place, and no essence.
+    pub is_of_another: bool,
 }
 
 /// Renews an earlier catalogue by a later reading, whose bytes are the newer ones: those notes of the earlier one stay
@@ -79,7 +84,7 @@ pub struct Renewed<'a> {
 ///
 /// In one file packets lie one after another. So of two notes that both hold a byte, and of which neither is the head
 /// of the other, one is of an earlier state of the file, or has a wrong offset. A join keeps both; a renewal knows
-/// which was read later.
+/// which was read later. It also says whether the later reading is of another recording.
 ///
 /// The notes that stay are copied, which takes memory. Each note of the earlier catalogue is looked up by binary
 /// search.
@@ -90,12 +95,22 @@ pub fn renew<'a>(
 ) -> Result<Renewed<'a>, OutOfMemory>
     ensures catalogue { IfOk result (λ r. r.catalogue ≡ renewed_of old.now new) }
     ensures dropped { IfOk result (λ r. r.dropped ≡ dropped_of old.now new) }
+    ensures another { IfOk result (λ r. r.is_of_another ≡ is_of_another old.now new) }
 {
     new.laws();
-    let Parted { added, dropped } = part(alloc, old, &new)?;
+    let Parted {
+        added,
+        dropped,
+        dropped_essence,
+        had_essence,
+    } = part(alloc, old, &new)?;
     let mut catalogue = new;
     catalogue.merge(added)?;
-    Ok(Renewed { catalogue, dropped })
+    Ok(Renewed {
+        catalogue,
+        dropped,
+        is_of_another: had_essence < dropped_essence,
+    })
 }
 
 /// The notes of an earlier catalogue that a later one hasn't: those that it contradicts, and the others.
@@ -103,17 +118,25 @@ pub fn renew<'a>(
 struct Parted<'a> {
     added: Catalogue,
     dropped: DroppedNotes<'a>,
+    /// How many of those that it contradicts are of essence.
+    dropped_essence: u64,
+    /// How many notes of essence it has.
+    had_essence: u64,
 }
 
 /// Parts the notes of an earlier catalogue by what a later one says of them.
 fn part<'a>(alloc: Global, old: &'a Catalogue, new: &Catalogue) -> Result<Parted<'a>, OutOfMemory>
     ensures added { IfOk result (λ p. p.added ≡ added_of old.now new.now) }
     ensures dropped { IfOk result (λ p. p.dropped ≡ dropped_of old.now new.now) }
+    ensures dropped_essence { IfOk result (λ p. p.dropped_essence ≡ length (dropped_essence old.now new.now)) }
+    ensures had_essence { IfOk result (λ p. p.had_essence ≡ length (had_essence old.now new.now)) }
 {
     let opposing = Opposing::of(alloc, new)?;
     let mut parted = Parted {
         added: Catalogue::new(alloc),
         dropped: DroppedNotes::new(alloc),
+        dropped_essence: 0,
+        had_essence: 0,
     };
     for note in old.notes() {
         parted.put(alloc, note, &opposing)?;
@@ -129,18 +152,33 @@ impl<'a> Parted<'a> {
         note: &'a Note,
         later: &Opposing<'_>,
     ) -> Result<(), OutOfMemory>
+        requires dropped { self.old.dropped_essence + 1 < 2 ^ 64 }
+        requires had { self.old.had_essence + 1 < 2 ^ 64 }
         ensures added { OnOk result (self.new.added ≡ reduced_union self.old.added (added_of (note.now ∷ []) later.now)) }
         ensures dropped { OnOk result (self.new.dropped ≡ self.old.dropped ++ dropped_of (note.now ∷ []) later.now) }
+        ensures dropped_essence { OnOk result (self.new.dropped_essence
+            ≡ self.old.dropped_essence + length (dropped_essence (note.now ∷ []) later.now)) }
+        ensures had_essence { OnOk result (self.new.had_essence
+            ≡ self.old.had_essence + length (had_essence (note.now ∷ []) later.now)) }
     {
         if later.opposes(note) {
+            self.dropped_essence += count_of_essence(note);
             return self.dropped.push(note);
         }
         if later.has(note) {
+            self.had_essence += count_of_essence(note);
             return Ok(());
         }
         self.added.add(note.clone_in(alloc)?)?;
         Ok(())
     }
+}
+
+/// 1 for a note of essence, 0 for another.
+fn count_of_essence(note: &Note) -> u64
+    ensures { result ≡ length (filter is_essence (note.now ∷ [])) }
+{
+    u64::from(note.kind() == Kind::Essence)
 }
 
 /// A law of [`renew`]: what is dropped and what is kept is by the relations, and the renewed content has the located
@@ -185,4 +223,10 @@ pub fn renewals_join_what_agrees()
     ensures none_again { (old new : List NoteParts) → AreReduced new → dropped_of (renewed_of old new) new ≡ [] }
     ensures into_nothing { (new : List NoteParts) → renewed_of [] new ≡ new }
     ensures by_nothing { (old : List NoteParts) → IsContent old → AreReduced old → renewed_of old [] ≡ old }
+{}
+
+/// A law of [`renew`]: a later reading is of another recording if more of the earlier notes of essence are dropped than
+/// it has. What is dropped of other kinds doesn't count.
+pub fn other_recordings_by_definition()
+    ensures { (old new : List NoteParts) → IsContent old → IsTrue (is_of_another old new) ↔ IsOfAnother old new }
 {}

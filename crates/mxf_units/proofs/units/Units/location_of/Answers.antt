@@ -4,7 +4,7 @@ use Rattle.mxf_units.specs.declared.essence_zone.part.StreamPart.{StreamPart}
 use Rattle.mxf_units.proofs.PartLaws.{parts-fall}
 use Rattle.mxf_units.proofs.units.Units.location_of.Goals as goal
 
-pub location_at-requires-clause-parts : goal.location_at-requires-clause-parts
-location_at-requires-clause-parts c =
+pub zone_at-requires : goal.zone_at-requires
+zone_at-requires c =
     subst (λ (parts : List StreamPart). IsFalling parts) (sym (c.deref.ensures.value ∙ c.self.invariant.2))
     (parts-fall c.self.inside.holdings)

@@ -14,9 +14,9 @@ returns c =
     let segments = segments_for own.known.notes own.index_sid in
     let place = c.place_of.ensures.place ∙ c.segments_near-segments.ensures.place in
     let location = c.location_of-location.ensures.location
-    ∙ ap (λ p. location_at (parts_of own.known.notes) segments p) place in
+    ∙ ap (λ p. location_at (parts_of own.known.notes) segments unit p) place in
     let same = ap (λ (u : UnitsParts). u.known) c.self.view_is in
-    let standing = c.standing_by-standing.ensures known refl c.self.invariant.3
+    let standing = c.standing_by-standing.ensures known refl c.self.invariant.3 c.self.invariant.4
     ∙ (λ i. standing_by (same i) (location i)) in
     let extent = c.extent_by.ensures ∙ (λ i. extent_by (standing i) (location i)) in
     let entry = c.entry_of-entry.ensures ∙ c.segments_near-segments.ensures.entry in

@@ -1,9 +1,10 @@
-use Rattle.std.proofs.Common.{◌≡◌, ◌∙◌, ◌++◌, ap, subst, sym}
+use Rattle.std.proofs.Common.{◌≡◌, ◌∙◌, ◌++◌, ap, arith, length, subst, sym}
 use Rattle.std.specs.Result.{OnOk}
 use Rattle.std.proofs.lemmas.List.{append-nil}
 use Rattle.std.proofs.lemmas.Result.{on_ok_weaker}
 use Rattle.mxf_catalogue.specs.Content.{has_note, reduced_union, reduced_with}
 use Rattle.mxf_verify.specs.Opposing.{IsOpposed}
+use Rattle.mxf_verify.proofs.AnotherLaws.{had-essence, lacked-essence, opposed-essence, spared-essence}
 use Rattle.mxf_verify.proofs.RenewalSteps.{had-added, lacked-added, not_opposed-dropped, opposed-added, opposed-dropped}
 use Rattle.mxf_verify.proofs.renewal.Parted.put.Goals as goal
 
@@ -17,6 +18,10 @@ returns-then-opposes c =
           c.push.ensures;
       dropped = subst (λ l. OnOk c.push.result (c.push.new.self ≡ c.args.self.now.dropped ++ l))
           (sym (opposed-dropped n later o)) c.push.ensures;
+      dropped_essence = on_ok_weaker c.push.result (λ e. let count = ap length (opposed-essence n later o) in
+          omega (arith, count, c.count_of_essence.ensures)) c.push.ensures;
+      had_essence = on_ok_weaker c.push.result (λ e. let none = ap length (lacked-essence n later o.lacked) in
+          omega (arith, none)) c.push.ensures;
     }
 
 pub returns-then-has : goal.returns-then-has
@@ -29,6 +34,8 @@ returns-then-has c =
       added = ap (reduced_union c.args.self.now.added) (sym (had-added n later h));
       dropped = sym (ap (λ l. c.args.self.now.dropped ++ l) (not_opposed-dropped n later f)
           ∙ append-nil c.args.self.now.dropped);
+      dropped_essence = let none = ap length (spared-essence n later f) in omega (arith, none);
+      had_essence = let count = ap length (had-essence n later h) in omega (arith, count, c.count_of_essence-then-has.ensures);
     }
 
 pub returns : goal.returns
@@ -44,4 +51,6 @@ returns c =
           ∙ ap (reduced_union c.args.self.now.added) (sym (lacked-added n later l f));
       dropped = sym (ap (λ l. c.args.self.now.dropped ++ l) (not_opposed-dropped n later f)
           ∙ append-nil c.args.self.now.dropped);
+      dropped_essence = let none = ap length (spared-essence n later f) in omega (arith, none);
+      had_essence = let none = ap length (lacked-essence n later l) in omega (arith, none);
     }

@@ -2,7 +2,7 @@ use Rattle.std.proofs.Common.{◌≡◌, ◌∙◌, ap, map, rules}
 use Rattle.std.proofs.lemmas.Iterator.{YieldsList-from_map, YieldsList-from_slice, items_from_collect}
 use Rattle.std.proofs.lemmas.Simd.{map-map}
 use Rattle.mxf_views.specs.Places.{SegmentAtParts, segments_of, without_entries}
-use Rattle.mxf_units.proofs.units.index_sids_in.Goals as goal
+use Rattle.mxf_units.proofs.indexes.index_sids_in.Goals as goal
 
 pub returns : goal.returns
 returns c =

@@ -1,8 +1,8 @@
 use Rattle.std.proofs.Common.{◌∙◌, [], ap}
 use Rattle.std.specs.Ordering.{nat_cmp}
 use Rattle.mxf_klv.specs.Rising.{union}
-use Rattle.mxf_units.specs.Units.{index_sids_of}
-use Rattle.mxf_units.proofs.units.index_sids.Goals as goal
+use Rattle.mxf_units.specs.Indexes.{index_sids_of}
+use Rattle.mxf_units.proofs.indexes.index_sids.Goals as goal
 
 pub returns : goal.returns
 unfolding index_sids_of

@@ -1,0 +1,8 @@
+use Rattle.std.proofs.Common.{List, subst}
+use Rattle.mxf_klv.specs.Parts.{NoteParts}
+use Rattle.mxf_places.specs.Held.{AreDisputed}
+use Rattle.mxf_places.proofs.held.Holdings.disputed.Goals as goal
+
+pub returns : goal.returns
+returns c =
+    subst (λ (notes : List NoteParts). AreDisputed notes c.self.inside.disputed) c.self.view_is c.self.invariant.0

@@ -1,0 +1,12 @@
+-- The runs, with those of the packets that are to come and can't be essence.
+use Rattle.std.proofs.Common.{◌≡◌, [], filter, map}
+use Rattle.mxf_catalogue.specs.Covers.{union_of_runs}
+use Rattle.mxf_catalogue.specs.Disputes.{undisputed_notes}
+use Rattle.mxf_catalogue.specs.NoteLists.{covered_run}
+use Rattle.mxf_units.proofs.BesideLaws.{cant_be}
+use Rattle.mxf_units.proofs.beside.beside_essence.Given as goal
+
+abbrev pub invariant-loop-note : goal.invariant-loop-note
+invariant-loop-note l =
+    union_of_runs l.cover (map covered_run (filter cant_be l.note-iterator))
+    ≡ union_of_runs [] (map covered_run (filter cant_be (undisputed_notes l.holdings)))

@@ -1,0 +1,21 @@
+use Rattle.std.proofs.Common.{◌∙◌, arith, sym}
+use Rattle.std.proofs.lemmas.Bool.{false_from_ne_true, le-ltb}
+use Rattle.mxf_klv.proofs.Tests.{same_bool}
+use Rattle.mxf_units.specs.Units.{is_beside_essence}
+use Rattle.mxf_units.proofs.BesideLaws.{beside-says}
+use Rattle.mxf_units.proofs.beside.is_beside_essence.Goals as goal
+
+pub returns-then-offset-from : goal.returns-then-offset-from
+returns-then-offset-from c = λ notes are.
+    let x = c.args.offset in
+    same_bool c.has.result (is_beside_essence notes x)
+    (λ h. (beside-says notes x).1 ((are x).0 (c.has.ensures.0 h)))
+    (λ h. c.has.ensures.1 ((are x).1 ((beside-says notes x).0 h)))
+
+pub returns-else-offset-from : goal.returns-else-offset-from
+returns-else-offset-from c = λ notes are.
+    let x = c.args.offset in
+    le-ltb x c.from.result (omega (arith, c.if-offset-from.false))
+    ∙ sym (false_from_ne_true (is_beside_essence notes x) (λ h.
+    let below = (c.end.ensures c.end.result).0 (omega arith) x ((are x).1 ((beside-says notes x).0 h)) in
+    omega (arith, c.if-offset-from.false, c.from.ensures, below)))
