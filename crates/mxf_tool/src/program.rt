@@ -35,7 +35,7 @@ use clap::error::ErrorKind;
 use fault::RunFault;
 use finding::print_found_in;
 use index::{only_index, tell_index};
-use mxf_hand::{PutTogether, put_together};
+use mxf_hand::{PutTogether, put_together, settle};
 use mxf_lines::{
     AnswerFault, Ask, Form, Grid, Verified, answer, print_map, print_renewed, print_sources,
     print_unit_plan, print_verification,
@@ -230,6 +230,10 @@ fn print_told<'a, R: System>(
     asked: Told,
 ) -> Result<Exit, RunFault<'a>> {
     let held = hold_sources(rt, inputs)?;
+    let held = match asked {
+        Told::Answer(Ask::Show) => held,
+        _ => settled(held, inputs.sources),
+    };
     print_held(rt, inputs, asked, &held)
 }
 
@@ -371,7 +375,7 @@ fn join_at<'a, 'r, R: System>(
     out: &'a str,
     place: Reservation<'r, R>,
 ) -> Result<Held, RunFault<'a>> {
-    let held = hold_sources(rt, inputs)?;
+    let held = settled(hold_sources(rt, inputs)?, inputs.sources);
     match place.save(rt, held.gathered.views.catalogue()) {
         Ok(()) => Ok(held),
         Err(fault) => Err(unsaved(out, fault)),
@@ -403,11 +407,36 @@ fn told<'a, R: System>(
     Ok(exit)
 }
 
-/// What sources hold together, and which of their bytes are at hand.
+/// What sources hold together, which of their bytes are at hand, and where they lie.
 #[derive(Drop)]
 pub struct Held {
     pub gathered: Gathered,
     pub at_hand: AtHand,
+    pub extents: Vec<Extent>,
+}
+
+/// The same, with the stops of pieces that what is held makes up for as ends, if one of the sources is a range.
+fn settled(held: Held, sources: &[Source<'_>]) -> Held {
+    if !has_range(sources) {
+        return held;
+    }
+    let Held {
+        gathered,
+        at_hand,
+        extents,
+    } = held;
+    let Gathered { views, reports } = gathered;
+    let reports = settle(&views, &extents, reports);
+    Held {
+        gathered: Gathered { views, reports },
+        at_hand,
+        extents,
+    }
+}
+
+/// Whether one of the sources is a range.
+fn has_range(sources: &[Source<'_>]) -> bool {
+    sources.iter().any(|source| source.is_range())
 }
 
 /// Sources that are open, and where their bytes lie in the recording.
@@ -447,20 +476,24 @@ fn complete<'r, 'a, R: System>(
     last: &'r LastFault,
 ) -> Result<Held, RunFault<'a>> {
     let Gathered { views, reports } = gathered;
-    let PutTogether { views, at_hand } = completed(rt, views, extents, sources, last)?;
+    let PutTogether { views, at_hand } = completed(rt, views, &extents, sources, last)?;
     let gathered = Gathered { views, reports };
-    Ok(Held { gathered, at_hand })
+    Ok(Held {
+        gathered,
+        at_hand,
+        extents,
+    })
 }
 
 /// Puts packets together of bytes at hand, if one of the sources is a range.
 fn completed<'r, 'a, R: System>(
     rt: &'r R,
     views: Views,
-    extents: Vec<Extent>,
+    extents: &[Extent],
     sources: &[Source<'a>],
     last: &'r LastFault,
 ) -> Result<PutTogether, RunFault<'a>> {
-    if !sources.iter().any(|source| source.is_range()) {
+    if !has_range(sources) {
         let at_hand = AtHand::nothing(rt.alloc());
         return Ok(PutTogether { views, at_hand });
     }
@@ -475,11 +508,11 @@ fn completed<'r, 'a, R: System>(
 fn put_views_together<R: System>(
     rt: &R,
     views: Views,
-    extents: Vec<Extent>,
+    extents: &[Extent],
     sources: &[Source<'_>],
     last: &LastFault,
 ) -> Result<PutTogether, SourceFault> {
-    let given = Given::of(rt.alloc(), extents)?;
+    let given = Given::of(rt.alloc(), Vec::from_slice(rt.alloc(), extents)?)?;
     let mut reopened = Reopened::new(rt, sources, last);
     put_together(rt.alloc(), views, given, &mut reopened)
 }

@@ -54,7 +54,9 @@ pub use laws::{
     one_verification, verifications_are_of_a_set_of_sources, verifications_tell_what_is_so,
 };
 pub use opposing::{Opposing, oppositions_by_definition};
-pub use readings::{Readings, SourceCounts, all_notes_by_definition, sources_by_definition};
+pub use readings::{
+    Readings, SourceCounts, all_notes_by_definition, joined, sources_by_definition,
+};
 pub use reference::Reference;
 pub use renewal::{
     DroppedNote, DroppedNotes, Renewed, other_recordings_by_definition, renew,

@@ -198,7 +198,7 @@ fn part(numbers: &[usize], from: usize, to: usize) -> &[usize]
 
 /// What all contents hold together. Each half is joined first, so n notes of any number of sources are moved some
 /// log n times each.
-fn joined(alloc: Global, contents: &[Catalogue]) -> Result<Catalogue, OutOfMemory>
+pub fn joined(alloc: Global, contents: &[Catalogue]) -> Result<Catalogue, OutOfMemory>
     ensures { IfOk result (λ c. c ≡ all_notes contents.now) }
 {
     let Some((first, others)) = contents.split_first() else {

@@ -6,8 +6,8 @@ use super::fault::RunFault;
 use super::offsets::{is_contradicted, tell_offsets};
 use super::telling::tell_on_screen;
 use super::{
-    Held, Inputs, Opened, Printed, System, allow_output, completed, hold_opened, open_sources,
-    print_answer, told, ungathered, unsaved,
+    Held, Inputs, Opened, Printed, System, allow_output, completed, has_range, hold_opened,
+    open_sources, print_answer, settled, told, ungathered, unsaved,
 };
 use crate::command_line::{Renewing, Saving};
 use crate::contents::{Contents, gather_each};
@@ -17,9 +17,9 @@ use crate::shift::Shift;
 use crate::source::Source;
 use crate::system_fault::LastFault;
 use mxf_catalogue::Catalogue;
-use mxf_hand::PutTogether;
+use mxf_hand::{PutTogether, settle};
 use mxf_klv::OutOfMemory;
-use mxf_read::{Extent, PieceReport};
+use mxf_read::{Extent, PieceReport, PieceReports};
 use mxf_verify::{Renewed, joined, renew};
 use mxf_views::Views;
 use std::alloc::{AllocError, Global};
@@ -29,7 +29,7 @@ use std::io::Read;
 #[derive(Drop)]
 struct Later {
     views: Views,
-    reports: Vec<PieceReport>,
+    reports: PieceReports,
     shifts: Vec<Option<Shift>>,
 }
 
@@ -87,7 +87,8 @@ fn renew_at<'a, 'r, R: System>(
     if is_wrong && tell_both_offsets(rt, inputs).is_err() {
         return Err(RunFault::OutOfMemory);
     }
-    told_both(rt, inputs, renewing.saving.is_strict, &earlier, &reports, exit)
+    let is_strict = renewing.saving.is_strict;
+    told_both(rt, inputs, is_strict, &earlier, reports.as_slice(), exit)
 }
 
 /// Refuses the first source whose partition packs say that it begins elsewhere.
@@ -139,7 +140,7 @@ fn hold_both<'a, R: System>(rt: &R, inputs: Inputs<'_, 'a>) -> Result<Sides, Run
     let screen = inputs.telling.screen;
     let earlier = open_sources(rt, screen, inputs.beside, &last)?;
     let later = open_sources(rt, screen, inputs.sources, &last)?;
-    let earlier = hold_opened(rt, earlier, inputs.beside, &last)?;
+    let earlier = settled(hold_opened(rt, earlier, inputs.beside, &last)?, inputs.beside);
     let later = hold_later(rt, later, inputs.sources, &last)?;
     Ok(Sides { earlier, later })
 }
@@ -176,7 +177,13 @@ fn later_of<'r, 'a, R: System>(
         return Err(RunFault::OutOfMemory);
     };
     drop(contents);
-    let PutTogether { views, .. } = completed(rt, views, extents, sources, last)?;
+    let PutTogether { views, .. } = completed(rt, views, &extents, sources, last)?;
+    let reports = PieceReports::of(reports);
+    let reports = if has_range(sources) {
+        settle(&views, &extents, reports)
+    } else {
+        reports
+    };
     Ok(Later {
         views,
         reports,
