@@ -3,6 +3,7 @@ pub mod CountLaws
 pub mod FoundLaws
 pub mod MovedLaws
 pub mod PacketRuns
+pub mod RankingLaws
 pub mod TellingLaws
 pub mod TellerLaws
 pub mod VoteLaws

@@ -4,3 +4,5 @@ pub mod Telling
 pub mod Votes
 pub mod Agreeing
 pub mod Found
+pub mod Rankings
+pub mod RankOrder

@@ -5,9 +5,11 @@ mod agreeing;
 mod found;
 mod fragment;
 mod packets;
+mod ranking;
 mod recording;
 mod votes;
 
 pub use found::{Match, find, one_match};
 pub use fragment::Fragment;
+pub use ranking::{Ranked, Ranking, rankings_by_definition};
 pub use recording::Recording;
