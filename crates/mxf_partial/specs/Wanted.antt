@@ -42,7 +42,7 @@ is_indexed _ = true
 abbrev pub are_indexed : WantedParts → Bool
 are_indexed w = list_all (λ u. is_indexed u.standing) (wanted_units w)
 
--- Up to where a unit's bytes may reach: to the next place of its stream, or otherwise to the limit of its essence zone.
+-- Up to where a unit's bytes may reach: to their end, or otherwise to the limit of its essence zone.
 abbrev pub reach_of : Location → Option ℕ
 reach_of l = option_or l.extent.end l.zone.limit
 

@@ -71,8 +71,7 @@ fn is_limit_named(named: &[NamedPlace], location: Location) -> bool
     }
 }
 
-/// Up to where the bytes of a unit may reach: to the next place of its stream, or otherwise to the limit of its essence
-/// zone.
+/// Up to where the bytes of a unit may reach: to their end, or otherwise to the limit of its essence zone.
 fn reach_of(location: Location) -> Option<u128>
     ensures { result ≡ reach_of location }
 {

@@ -4,7 +4,7 @@ use crate::files::{M, SEGMENT};
 use mxf_klv::OutOfMemory;
 use mxf_places::AtHand;
 use mxf_read::absorb;
-use mxf_units::{UnitStanding, Units, index_sids};
+use mxf_units::{UnitStanding, Units, index_sids, named_index_sids};
 use mxf_views::Views;
 use std::alloc::Global;
 
@@ -25,6 +25,30 @@ fn index_sids_of(alloc: Global, views: &Views) -> Result<Vec<u32>, OutOfMemory> 
 fn has_one_index(alloc: Global, views: &Views) -> bool {
     match index_sids_of(alloc, views) {
         Ok(found) => found.as_slice() == [1].as_slice(),
+        Err(OutOfMemory) => false,
+    }
+}
+
+/// The worked file M, whose header names an index of IndexSID 2 and says that its segments have 90 bytes.
+fn naming_an_index() -> [u8; 264] {
+    let mut piece = M;
+    piece[67] = 90;
+    piece[71] = 2;
+    piece
+}
+
+/// The IndexSIDs that partitions alone name, even if one growth is refused.
+fn named_index_sids_of(alloc: Global, views: &Views) -> Result<Vec<u32>, OutOfMemory> {
+    match named_index_sids(alloc, views) {
+        Ok(found) => Ok(found),
+        Err(OutOfMemory) => named_index_sids(alloc, views),
+    }
+}
+
+/// Whether the only index that partitions alone name is that of IndexSID 2.
+fn has_one_named_index(alloc: Global, views: &Views) -> bool {
+    match named_index_sids_of(alloc, views) {
+        Ok(found) => found.as_slice() == [2].as_slice(),
         Err(OutOfMemory) => false,
     }
 }
@@ -53,13 +77,15 @@ fn are_told(alloc: Global, views: &Views) -> bool {
     }
 }
 
-/// Notes partitions, disputed packets and a segment. Whether their only index and its units are given.
+/// Notes partitions, disputed packets and a segment. Whether their only index, the one that they name and the units of
+/// the first are given.
 fn note_and_tell(alloc: Global, views: &mut Views) -> bool {
-    add_piece(alloc, views, 0, &M)
+    add_piece(alloc, views, 0, &naming_an_index())
         && add_piece(alloc, views, 600, &SEGMENT)
         && add_to_views(views, essence(300, 83))
         && add_to_views(views, essence(390, 83))
         && has_one_index(alloc, views)
+        && has_one_named_index(alloc, views)
         && are_told(alloc, views)
 }
 

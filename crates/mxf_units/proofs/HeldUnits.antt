@@ -59,8 +59,8 @@ in-untold : (segments : List SegmentAtParts) (unit : ℕ) (place : StreamPlace) 
 in-untold segments unit place (Err w) v f e = let s : w ≡ v = cc in subst (λ u. is_told u ≡ false) s (f w refl)
 in-untold segments unit place (Ok zone) v f e = absurd cc
 
-at-untold : (parts : List StreamPart) (segments : List SegmentAtParts) (unit : ℕ) (place : Result StreamPlace UnitStanding)
-    (v : UnitStanding) → ((w : UnitStanding) → place ≡ Err w → is_told w ≡ false)
+at-untold : (parts : List StreamPart) (segments : List SegmentAtParts) (unit : ℕ)
+    (place : Result StreamPlace UnitStanding) (v : UnitStanding) → ((w : UnitStanding) → place ≡ Err w → is_told w ≡ false)
     → location_at parts segments unit place ≡ Err v → is_told v ≡ false
 at-untold parts segments unit (Err w) v f e = let s : w ≡ v = cc in subst (λ u. is_told u ≡ false) s (f w refl)
 at-untold parts segments unit (Ok place) v f e =

@@ -21,11 +21,12 @@ IsWithin zone offset = (limit x : ℕ) → zone.limit ≡ Some limit → HasOffs
 -- A segment of the index gives the place to the unit after this one. Numbers of units lie below 2^64.
 abbrev pub IsNextUnit : List NoteParts → ℕ → ℕ → ℕ → ℕ → Type 0
 IsNextUnit notes index_sid unit body_sid offset =
-    (unit + 1 < 2 ^ 64) × IsGiven (segments_of notes) index_sid (unit + 1) (record { body_sid = body_sid; offset = offset })
+    (unit + 1 < 2 ^ 64)
+    × IsGiven (segments_of notes) index_sid (unit + 1) (record { body_sid = body_sid; offset = offset })
 
 -- The place up to which a unit reaches: the next one of its stream that a segment of the index gives, if that lies
--- within the limit of the zone or is one of the unit after this one. (Another one, behind the limit, is that of a unit in
--- a later partition, and segments of units between aren't held.)
+-- within the limit of the zone or is one of the unit after this one. (Another one, behind the limit, is that of a unit
+-- in a later partition, and segments of units between aren't held; this project's profile.)
 pub record IsEndPlace (notes : List NoteParts) (index_sid unit body_sid offset : ℕ) (zone : EssenceZone) (next : ℕ)
     : Type 0 where
   pub next_is : IsNext (segments_for notes index_sid) body_sid offset next

@@ -1,6 +1,7 @@
 -- Where the stored edit units lie in the file, and which of their bytes are held (ST 377-1, Index Table Segment; the
 -- standings are this project's profile).
-use Rattle.std.specs.Prelude.{◌≡◌, ◌≢◌, ◌↔◌, ◌⊎◌, ℕ, ◌+◌, ◌-◌, ◌^◌, ◌<◌, ◌≤◌, Bool, true, false, ◌&&◌, ◌||◌, nat_le, nat_lt, not, is_some, unwrap_or}
+use Rattle.std.specs.Prelude.{◌≡◌, ◌≢◌, ◌↔◌, ◌⊎◌, ℕ, ◌+◌, ◌-◌, ◌^◌, ◌<◌, ◌≤◌, Bool, true, false, ◌&&◌, ◌||◌, nat_le}
+use Rattle.std.specs.Prelude.{nat_lt, not, is_some, unwrap_or}
 use Rattle.std.specs.Prelude.{if◌then◌else◌, Option, None, Some, Result, Ok, Err, List, filter, unsigned_abs}
 use Rattle.std.specs.Option.{option_and_then, option_map, option_map_or, option_or}
 use Rattle.std.specs.List.{list_all, list_any, range_with_len}
@@ -42,7 +43,7 @@ abbrev pub AreKnown : KnownParts → List Run → Type 0
 AreKnown known runs = (x : ℕ) → LiesIn runs x ↔ IsKnown known x
 
 -- A packet covers the offset, whole or by its key and length, that shares no byte with another, and it is neither
--- essence nor of a kind that isn't known: no unit begins there.
+-- essence nor of a kind that isn't known: no unit begins there (this project's profile).
 pub record IsBesideEssence (notes : List NoteParts) (x : ℕ) : Type 0 where
   pub by : NoteParts
   pub alone : IsAlone notes by
@@ -85,8 +86,8 @@ is_behind zone offset = option_map_or (λ limit. nat_lt limit (file_offset zone 
 abbrev pub has_next_unit : List SegmentAtParts → ℕ → StreamPlace → Bool
 has_next_unit segments unit p = nat_lt (unit + 1) (2 ^ 64) && is_given p (unit + 1) segments
 
--- The place up to which a unit reaches: the next one of its stream. One behind the limit of the zone counts for nothing,
--- unless the unit after this one has it.
+-- The place up to which a unit reaches: the next one of its stream. One behind the limit of the zone counts for
+-- nothing, unless the unit after this one has it (this project's profile).
 abbrev pub end_place : List SegmentAtParts → EssenceZone → ℕ → ℕ → ℕ → Option ℕ
 end_place segments zone unit body_sid offset =
     option_and_then (λ next. if is_behind zone next && not (has_next_unit segments unit (record {

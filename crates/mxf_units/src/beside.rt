@@ -9,8 +9,8 @@ use mxf_klv::OutOfMemory;
 use mxf_places::Holdings;
 use std::alloc::Global;
 
-/// The offsets, in bytes, that packets cover which can't be essence and share no byte with another: the whole packet, or
-/// the key and length of a head. They take memory.
+/// The offsets, in bytes, that packets cover which can't be essence and share no byte with another: the whole packet,
+/// or the key and length of a head. They take memory.
 pub(crate) fn beside_essence(alloc: Global, holdings: &Holdings<'_>) -> Result<Cover, OutOfMemory>
     ensures { IfOk result (λ c. AreBesideEssence holdings.now c) }
 {

@@ -6,7 +6,8 @@ ghost use Rattle.mxf_klv.specs.Parts.{NoteParts};
 ghost use Rattle.mxf_klv.specs.Rising.{In, IsRising};
 ghost use Rattle.mxf_views.specs.Partitions.{partitions_of};
 ghost use Rattle.mxf_views.specs.Places.{segments_of};
-ghost use Rattle.mxf_units.specs.Indexes.{HasSegment, IsNamedIndex, index_sid_named, index_sids_of, named_index_sids_of};
+ghost use Rattle.mxf_units.specs.Indexes.{HasSegment, IsNamedIndex, index_sid_named, index_sids_of};
+ghost use Rattle.mxf_units.specs.Indexes.{named_index_sids_of};
 
 use mxf_klv::{OutOfMemory, sort_once};
 use mxf_views::{Partition, Views};

@@ -8,7 +8,8 @@
 //!
 //! | Question | Call | Answer |
 //! |---|---|---|
-//! | Which indexes are there? | [`index_sids`] | the IndexSIDs of the segments, rising |
+//! | Which indexes are there? | [`index_sids`], [`named_index_sids`] | the IndexSIDs of the segments, rising; those
+//! that partitions name and no segment has |
 //! | Up to which unit does one reach? | [`last_unit`] | the last unit to which a segment gives a place, if there is one |
 //! | Which units are asked for, and which key frames before them? | [`UnitRange`], [`UnitsLeft`] | the units, one after
 //! another |
@@ -18,18 +19,21 @@
 //! [`EssenceZone`] in which that is to be found; the partitions as parts of their streams |
 //!
 //! A unit's bytes reach up to the next place in its stream that a segment of its index gives; those of the last one
-//! reach up to the end of its partition. They are given if no unknown partition can lie before them, and lie in their
-//! partition then. If all units of a partition lie in one packet, its BodyOffset counts from the first byte of that
-//! packet's value, and otherwise from its key.
+//! reach up to the end of its partition. So do those of a unit whose next place lies behind that end, unless it is the
+//! place of the unit after it: segments of units between aren't held. Bytes are given if no unknown partition can lie
+//! before them, and lie in their partition then. No unit begins in a packet that can't be essence. If all units of a
+//! partition lie in one packet, its BodyOffset counts from the first byte of that packet's value, and otherwise from
+//! its key.
 //!
 //! What is proved: each answer is its definition over the notes of the catalogue and what is at hand beside them
-//! (`unit_of`, `index_sids_of`). The laws say more: [`standings_by_definition`], that each standing has its cause, and
-//! a unit one standing; [`extents_by_definition`], where the bytes of a unit lie, and for which units that is given;
-//! [`entries_by_definition`], what its entry says; [`held_units_are_held`], that a unit which stands as held has each
-//! byte held, and [`units_at_hand_are_known`], that one which stands as at hand has each held or at hand;
-//! [`units_of_whole_files_are_held`], that the units of a file held whole stand as held; [`next_by_definition`],
-//! [`first_packets_by_definition`] and [`limits_by_definition`], what next places, first packets and limits are;
-//! [`index_sids_by_definition`], which indexes there are; [`one_last_unit`], that an index has one at most.
+//! (`unit_of`, `index_sids_of`, `named_index_sids_of`). The laws say more: [`standings_by_definition`], that each
+//! standing has its cause, and a unit one standing; [`extents_by_definition`], where the bytes of a unit lie, and for
+//! which units that is given; [`entries_by_definition`], what its entry says; [`held_units_are_held`], that a unit
+//! which stands as held has each byte held, and [`units_at_hand_are_known`], that one which stands as at hand has each
+//! held or at hand; [`units_of_whole_files_are_held`], that the units of a file held whole stand as held;
+//! [`next_by_definition`], [`first_packets_by_definition`] and [`limits_by_definition`], what next places, first
+//! packets and limits are; [`index_sids_by_definition`] and [`named_index_sids_by_definition`], which indexes there
+//! are; [`one_last_unit`], that an index has one last unit at most.
 //!
 //! The units from `from` up to `to` of an index, whose bytes are all held:
 //!

@@ -4,8 +4,8 @@ ghost use Rattle.std.specs.Option.{ForSome};
 ghost use Rattle.std.specs.Result.{ForOk};
 ghost use Rattle.mxf_klv.specs.Parts.{NoteParts};
 ghost use Rattle.mxf_places.specs.AtHand.{KnownParts};
-ghost use Rattle.mxf_units.specs.Units.{AreBesideEssence, AreKnown, are_all_held, are_all_known, ends_behind, extent_by};
-ghost use Rattle.mxf_units.specs.Units.{extent_in, file_offset, is_any_disputed, is_any_known, is_behind, is_told};
+ghost use Rattle.mxf_units.specs.Units.{AreBesideEssence, AreKnown, are_all_held, are_all_known, ends_behind};
+ghost use Rattle.mxf_units.specs.Units.{extent_by, extent_in, file_offset, is_any_disputed, is_any_known, is_behind, is_told};
 ghost use Rattle.mxf_units.specs.Units.{lies_elsewhere, standing_by, standing_in};
 
 use crate::beside::is_beside_essence;

@@ -189,8 +189,8 @@ impl<'a> Units<'a> {
     }
 
     /// The place up to which a unit reaches, in bytes: the next one of its stream. One behind the limit of the zone
-    /// counts for nothing, unless the unit after this one has it: it is that of a unit in a later partition, of which the
-    /// segments of the units between aren't held.
+    /// counts for nothing, unless the unit after this one has it: it is that of a unit in a later partition, and
+    /// segments of units between aren't held.
     fn end_place(&self, unit: u64, place: StreamPlace, zone: EssenceZone) -> Option<u128>
         requires { IsSmall place }
         ensures end { result ≡ end_place (segments_for self.now.known.notes self.now.index_sid) zone unit

@@ -1,0 +1,26 @@
+-- A note that is moved.
+use Rattle.std.proofs.Common.{◌≡◌, ◌∙◌, ℕ, List, Bool, ap, arith, cond, length, subst, sym, true, if◌then◌else◌}
+use Rattle.std.proofs.Common.{Option, None, Some, is_some}
+use Rattle.std.specs.Option.{IfNone}
+use Rattle.std.proofs.lemmas.Bool.{true≢false}
+use Rattle.mxf_klv.specs.Note.{CanNote, IsNote, held_length, keeps, keeps_value}
+use Rattle.mxf_klv.specs.Parts.{NoteParts, note_parts}
+use Rattle.mxf_find.specs.Agreeing.{moved_to}
+use Rattle.mxf_find.proofs.TellerLaws.{both_true}
+
+kept_length : (w k : Bool) (len : ℕ) → w ≡ true → k ≡ true → (if w then (if k then len else 32) else 0) ≡ len
+kept_length w k len e f = cc
+
+-- There is a note of a value that is kept, wherever it can be moved to.
+pub can_keep : (n : NoteParts) (offset : ℕ) (v : List ℕ) → keeps_value n ≡ true → v ≡ n.held → IsNote n
+    → IsNote (moved_to offset n) → CanNote (note_parts offset n.key n.width (length v) v) true
+can_keep n offset v k e is there =
+    let (whole, keep) = both_true n.whole (keeps n.key n.length) k in
+    let len : length v ≡ n.length =
+    ap length e ∙ is.held ∙ kept_length n.whole (keeps n.key n.length) n.length whole keep in
+    subst (λ (l : ℕ). CanNote (note_parts offset n.key n.width l v) true) (sym len) (there.width, there.within, keep)
+
+-- Where something would be there, there is nothing only if that can't be.
+pub no_note : {X : Type 0} (o : Option X) {P : Type 0} → (P → is_some o ≡ true) → IfNone o (P → ⊥)
+no_note None f = λ p. true≢false (sym (f p))
+no_note (Some x) f = tt

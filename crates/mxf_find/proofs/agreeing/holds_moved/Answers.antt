@@ -1,0 +1,14 @@
+use Rattle.std.proofs.Common.{◌≡◌, Option, subst, sym}
+use Rattle.std.proofs.lemmas.Bool.{true≢false}
+use Rattle.std.specs.Option.{IfNone}
+use Rattle.mxf_klv.specs.Note.{IsNote}
+use Rattle.mxf_klv.proofs.Lists.{all-In}
+use Rattle.mxf_find.specs.Agreeing.{moved_to}
+use Rattle.mxf_find.proofs.agreeing.holds_moved.Goals as goal
+
+pub returns-in-None : goal.returns-in-None
+returns-in-None c =
+    let r = c.args.content.now in
+    let m = moved_to c.args.offset c.args.note.now in
+    let none : IsNote m → ⊥ = subst (λ o. IfNone o (IsNote m → ⊥)) c.in-None.is c.in_ok-moved.ensures.none in
+    (λ t. absurd (true≢false (sym t)), λ i. absurd (none (all-In IsNote r m c.laws.ensures.catalogue.members i)))

@@ -1,0 +1,41 @@
+use Rattle.std.proofs.Common.{◌≡◌, ◌∙◌, ◌&&◌, None, arith, false, not, subst, sym, true}
+use Rattle.std.specs.Option.{IfNone}
+use Rattle.mxf_find.specs.Telling.{IsNoneOf}
+use Rattle.mxf_find.specs.Votes.{voted_by}
+use Rattle.std.proofs.lemmas.Bool.{true≢false}
+use Rattle.mxf_find.proofs.TellerLaws.{all_true, either_false, or_false}
+use Rattle.mxf_find.proofs.VoteLaws.{length_vote, no_length, unfalse, untold_length, untrue, whole_length}
+use Rattle.mxf_find.proofs.recording.Recording.voted_by_length.Goals as goal
+use Rattle.mxf_find.proofs.recording.Recording.voted_by_length.Goals.{then-is_head, else-is_head}
+
+pub returns-then-not-tells-clause-none : goal.returns-then-not-tells-clause-none
+returns-then-not-tells-clause-none c =
+    untold_length c.args.tells c.args.self.now c.args.note.now (untrue _ c.if-not-tells.true)
+
+pub returns-in_err-other-clause-none : goal.returns-in_err-other-clause-none
+returns-in_err-other-clause-none c =
+    subst (λ o. IfNone o (IsNoneOf (λ n. not (c.args.note.now.whole && n.whole)
+    && voted_by c.args.tells c.args.self.now c.args.note.now n) c.args.self.now)) (sym c.from_residual.ensures)
+    (no_length c.args.tells c.args.self.now c.args.note.now c.in_err-other.ensures.none)
+
+pub returns-then-is_head-2-clause-some : goal.returns-then-is_head-2-clause-some
+returns-then-is_head-2-clause-some c =
+    let p = c.args.note.now in
+    let n = c.in_ok-other.other.now in
+    let head : (p.whole && n.whole) ≡ false = elim c.if-is_head.branch [
+      | then-is_head w ↦ either_false _ _ (untrue p.whole (sym w.if-is_head.ensures))
+      | else-is_head w ↦ or_false _ _ (untrue n.whole
+          (sym w.is_head-else-is_head.ensures ∙ sym w.value-is ∙ c.if-is_head-2.true))
+    ] in
+    length_vote c.args.tells c.args.self.now p n (unfalse _ c.if-not-tells.false) head c.in_ok-other.ensures.some
+
+pub returns-else-is_head-2-clause-none : goal.returns-else-is_head-2-clause-none
+returns-else-is_head-2-clause-none c =
+    let p = c.args.note.now in
+    let n = c.in_ok-other.other.now in
+    let whole : (p.whole && n.whole) ≡ true = elim c.if-is_head.branch [
+      | then-is_head w ↦ absurd (true≢false (sym w.if-is_head.true ∙ sym w.value-is ∙ c.if-is_head-2.false))
+      | else-is_head w ↦ all_true _ _ (unfalse p.whole (sym w.if-is_head.ensures)) (unfalse n.whole
+          (sym w.is_head-else-is_head.ensures ∙ sym w.value-is ∙ c.if-is_head-2.false))
+    ] in
+    whole_length c.args.tells c.args.self.now p n whole c.in_ok-other.ensures.some
