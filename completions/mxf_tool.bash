@@ -25,12 +25,13 @@ _mxf_tool() {
     *) word=${words[-1]} before=${words[-2]-} ;;
   esac
   for one in "${words[@]:1}"; do
-    case $one in show | check | locate | units | plan | map | verify | sources | join | renew | help) command=$one && break ;; esac
+    case $one in show | check | locate | units | plan | map | verify | sources | find | join | renew | help) command=$one && break ;; esac
   done
   [ "$command" != "$word" ] || command=''
   COMPREPLY=()
   case $before in
-    --out | --sources) _mxf_tool_paths '' "$word" && return ;;
+    --out | --sources | --recordings) _mxf_tool_paths '' "$word" && return ;;
+    --hints) mapfile -t COMPREPLY < <(compgen -W 'auto always never' -- "$word") && return ;;
     --index | --unit | --from | --to | --columns | --rows) return ;;
   esac
   # What stands before the last colon is no part of the word that readline replaces.
@@ -49,15 +50,16 @@ _mxf_tool() {
   esac
   local options='--help'
   case $command in
-    '') options='show check locate units plan map verify sources join renew help --help --version' ;;
-    help) options='show check locate units plan map verify sources join renew' ;;
-    show | check | sources) options='at: range: cat: --json --sources --help' ;;
-    map) options='at: range: cat: --columns --rows --json --sources --help' ;;
-    locate) options='at: range: cat: --index --unit --json --sources --help' ;;
-    units | plan) options='at: range: cat: --index --from --to --json --sources --help' ;;
-    verify) options='at: range: cat: --against --whole --index --from --to --json --sources --help' ;;
-    join) options='at: range: cat: --out --strict --json --sources --help' ;;
-    renew) options='at: range: cat: --out --old --strict --json --sources --help' ;;
+    '') options='show check locate units plan map verify sources find join renew help --help --version' ;;
+    help) options='show check locate units plan map verify sources find join renew' ;;
+    show | check | sources) options='at: range: cat: --json --hints --sources --help' ;;
+    map) options='at: range: cat: --columns --rows --extents --json --hints --sources --help' ;;
+    locate) options='at: range: cat: --index --unit --json --hints --sources --help' ;;
+    units | plan) options='at: range: cat: --index --from --to --json --hints --sources --help' ;;
+    verify) options='at: range: cat: --against --whole --index --from --to --json --hints --sources --help' ;;
+    find) options='at: range: cat: --in --recordings --json --hints --sources --help' ;;
+    join) options='at: range: cat: --out --strict --dry-run --json --hints --sources --help' ;;
+    renew) options='at: range: cat: --out --old --strict --drop --dry-run --json --hints --sources --help' ;;
   esac
   mapfile -t COMPREPLY < <(compgen -W "$options" -- "$word")
   case ${COMPREPLY[0]-} in at: | range: | cat:) compopt -o nospace 2>/dev/null ;; esac

@@ -184,24 +184,25 @@ def differences_of_bar(page, told):
 
 
 def differences_of_stretches(page, told):
-    """How the table of what lies where differs: its rows follow one another up to the end of the map and say `held` and
-    `not held` in turn; the gaps of `show` aren't held, and as many bytes are as of the map. A gap of which some is at hand
-    is one."""
-    rows = [[*row[:3], row[3].split(";")[0], *row[4:]] for row in page.table("What lies where")]
+    """How the table of what lies where differs: its rows follow one another up to the end of the map and stand otherwise
+    than the ones before; the gaps of `show` aren't held, and as many bytes are held, and at hand, as of the map."""
+    rows = page.table("What lies where")
     numbers = told.lines("map")[0]
-    not_held = [(int(row[0]), int(row[1])) for row in rows if row[3] == "not held"]
     gaps = [(gap["start"], gap["end"]) for gap in told.lines("show", name="gap")]
     for row, after in zip(rows, [*rows[1:], None]):
         if after and (row[1] != after[0] or row[3] == after[3]) or int(row[2]) != int(row[1]) - int(row[0]) or row[2] == "0":
             yield f"after what lies where {row} stands {after}"
-    for start, end in gaps[: CUT // 2 - 1]:
-        if not any(first <= start and end <= after for first, after in not_held):
-            yield f"the gap from {start} to {end} isn't told"
+    is_held = lambda row: row[3].startswith("held")
+    last = int(rows[-1][1])
+    for start, end in gaps:
+        if any(is_held(row) and int(row[0]) < end and start < int(row[1]) for row in rows):
+            yield f"some of the gap from {start} to {end} is held"
     if len(rows) == CUT:
         return
-    held = sum(int(row[2]) for row in rows if row[3] == "held")
-    if (held, len(not_held), int(rows[-1][1])) != (numbers["held"], numbers["gaps"], numbers["end"]):
-        yield f"what lies where has {held} bytes that are held and {len(not_held)} gaps, not those of {numbers}"
+    held = sum(int(row[2]) for row in rows if is_held(row))
+    hand = sum(int(row[2]) for row in rows if row[3] == "at hand")
+    if (held, hand, last) != (numbers["held"], numbers["hand"], numbers["end"]):
+        yield f"what lies where has {held} bytes that are held and {hand} at hand up to {last}, not those of {numbers}"
 
 
 def differences_of_recording(page, told):

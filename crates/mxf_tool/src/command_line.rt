@@ -261,7 +261,7 @@ all the same.";
 pub fn command<'a>(alloc: Global) -> Result<Command<'a>, AllocError> {
     let tool = Command::new(alloc, "mxf_tool")
         .about("Prints and keeps the structure of MXF files, or of parts of them")
-        .version("1.1.0")
+        .version("1.2.0-dev")
         .after_help(HELP)
         .subcommand_required(true)
         .arg_required_else_help(true);
@@ -435,7 +435,8 @@ fn hints<'a>(alloc: Global) -> Arg<'a> {
 }
 
 fn strict<'a>(alloc: Global) -> Arg<'a> {
-    let help = "Ends with status 1 if a piece ends neither with a packet nor with one that is cut, or packets are in dispute";
+    let help =
+        "Ends with status 1 if a piece ends neither with a packet nor with one that is cut, or packets are in dispute";
     flag(alloc, "strict", help)
 }
 

@@ -37,8 +37,8 @@ use finding::print_found_in;
 use index::{only_index, tell_index};
 use mxf_hand::{PutTogether, put_together, settle};
 use mxf_lines::{
-    AnswerFault, Ask, Form, Grid, Verified, answer, print_map, print_renewed, print_sources,
-    print_unit_plan, print_verification,
+    AnswerFault, Ask, Form, Grid, Searched, Verified, answer, print_found, print_map,
+    print_renewed, print_sources, print_unit_plan, print_verification,
 };
 use mxf_places::AtHand;
 use mxf_read::{
@@ -595,6 +595,8 @@ enum Printed<'g, 'n> {
     Beside(&'g Readings<'n>, &'g [String]),
     /// How sources stand to a reference.
     Verified(&'g Verified<'g, 'n>),
+    /// In which recordings fragments lie, and the words that name the recordings.
+    Found(&'g [Searched], &'g [String]),
 }
 
 /// Prints lines in a form, and answers their status.
@@ -613,13 +615,21 @@ fn print_lines<W: Write>(
             with_extents,
             held,
         } => {
-            let Held { gathered, at_hand } = held;
+            let Held {
+                gathered,
+                at_hand,
+                ..
+            } = held;
             let views = &gathered.views;
             print_map(alloc, views, at_hand, grid, with_extents, form, writer)?;
             Ok(0)
         }
         Printed::UnitPlan { index, range, held } => {
-            let Held { gathered, at_hand } = held;
+            let Held {
+                gathered,
+                at_hand,
+                ..
+            } = held;
             print_unit_plan(alloc, &gathered.views, at_hand, index, range, form, writer)
         }
         Printed::Renewed(renewed, is_saved) => {
@@ -628,6 +638,7 @@ fn print_lines<W: Write>(
         }
         Printed::Beside(readings, names) => print_sources(alloc, readings, names, form, writer),
         Printed::Verified(verified) => print_verification(alloc, verified, form, writer),
+        Printed::Found(searched, names) => print_found(alloc, searched, names, form, writer),
     }
 }
 

@@ -6,7 +6,7 @@ use mxf_catalogue::Catalogue;
 use mxf_klv::Stop;
 use mxf_lines::hex_text;
 use mxf_read::PieceReport;
-use mxf_sets::{Package, PackPart};
+use mxf_sets::{PackPart, Package};
 use mxf_views::{RipView, Target, Views};
 use std::alloc::{AllocError, Global};
 use std::fmt;
@@ -50,7 +50,9 @@ fn tell_headers<R: Eprint + AllocGlobal>(rt: &R, views: &Views) -> Result<bool, 
     match (headers.next(), headers.next()) {
         (Some(first), Some(second)) => {
             let (first, second) = (first.offset, second.offset);
-            let line = format!(in rt.alloc(); "hint: header partitions begin at {first} and at {second}: a recording has one, so the bytes from {second} on are of another")?;
+            let line = format!(in rt.alloc();
+                "hint: header partitions begin at {first} and at {second}: a recording has one, so the bytes from {second} on are of another"
+            )?;
             tell_on_screen(rt, &line.as_str())?;
             Ok(true)
         }
@@ -68,7 +70,10 @@ enum Misplaced<'a> {
         first: u64,
     },
     /// The recording ends before the source begins.
-    Behind { source: Source<'a>, end: u64 },
+    Behind {
+        source: Source<'a>,
+        end: u64,
+    },
 }
 
 impl fmt::Display for Misplaced<'_> {
@@ -123,7 +128,10 @@ fn tell_places<R: Eprint + AllocGlobal>(
 /// Where the only random index pack ends, if it can be read. It is the last packet of a recording.
 fn stated_end(views: &Views) -> Option<u64> {
     match views.rip() {
-        RipView::One(rip) => views.catalogue().clear_at(rip.offset()).map(|note| note.end()),
+        RipView::One(rip) => views
+            .catalogue()
+            .clear_at(rip.offset())
+            .map(|note| note.end()),
         _ => None,
     }
 }
@@ -141,7 +149,9 @@ fn cuts_of(
     reports: &[PieceReport],
     catalogue: &Catalogue,
 ) -> Result<Vec<Cut>, AllocError> {
-    let cuts = reports.iter().filter_map(|report| cut_of(report, catalogue));
+    let cuts = reports
+        .iter()
+        .filter_map(|report| cut_of(report, catalogue));
     let mut cuts: Vec<Cut> = cuts.collect(alloc)?;
     cuts.sort_unstable_by_key(|cut| cut.start);
     Ok(cuts)
@@ -152,7 +162,9 @@ fn cut_of(report: &PieceReport, catalogue: &Catalogue) -> Option<Cut> {
     let Stop::Truncated(start) = report.report.stop else {
         return None;
     };
-    let head = catalogue.undisputed_at(start).filter(|note| note.is_head())?;
+    let head = catalogue
+        .undisputed_at(start)
+        .filter(|note| note.is_head())?;
     Some(Cut {
         start,
         end: head.end(),
@@ -160,11 +172,7 @@ fn cut_of(report: &PieceReport, catalogue: &Catalogue) -> Option<Cut> {
 }
 
 /// The range, if a packet is cut before its first byte, ends in it or after it, and isn't followed by its first packet.
-fn misplaced<'a>(
-    source: Source<'a>,
-    report: &PieceReport,
-    cuts: &[Cut],
-) -> Option<Misplaced<'a>> {
+fn misplaced<'a>(source: Source<'a>, report: &PieceReport, cuts: &[Cut]) -> Option<Misplaced<'a>> {
     let (offset, _) = source.place().filter(|_| source.is_range())?;
     let begun = cuts.partition_point(|cut| cut.start < offset);
     let end = cuts[..begun].last()?.end;
@@ -209,7 +217,9 @@ fn tell_two<R: Eprint + AllocGlobal>(
 ) -> Result<(), AllocError> {
     let a_uid = digits_of(rt.alloc(), a_uid)?;
     let b_uid = digits_of(rt.alloc(), b_uid)?;
-    let line = format!(in rt.alloc(); "hint: these are two recordings: {a} describes the package {a_uid}, and {b} the package {b_uid}")?;
+    let line = format!(in rt.alloc();
+        "hint: these are two recordings: {a} describes the package {a_uid}, and {b} the package {b_uid}"
+    )?;
     tell_on_screen(rt, &line.as_str())
 }
 

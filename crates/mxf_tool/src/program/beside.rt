@@ -39,7 +39,7 @@ fn print_read<'a, R: System>(
 }
 
 /// The words that name the sources, as a terminal shows them.
-fn names_of(alloc: Global, sources: &[Source<'_>]) -> Result<Vec<String>, AllocError> {
+pub fn names_of(alloc: Global, sources: &[Source<'_>]) -> Result<Vec<String>, AllocError> {
     let mut names = Vec::new(alloc);
     for source in sources {
         names.push(line_on_screen(alloc, source)?)?;

@@ -115,7 +115,10 @@ impl fmt::Display for IndexSids {
 }
 
 /// Writes IndexSIDs with a space between them.
-pub fn write_index_sids<W: fmt::Write>(f: &mut fmt::Formatter<W>, index_sids: &[u32]) -> fmt::Result {
+pub fn write_index_sids<W: fmt::Write>(
+    f: &mut fmt::Formatter<W>,
+    index_sids: &[u32],
+) -> fmt::Result {
     let mut space = "";
     for index_sid in index_sids {
         write!(f, "{space}{index_sid}")?;

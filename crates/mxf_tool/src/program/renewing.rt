@@ -76,7 +76,11 @@ fn renew_at<'a, 'r, R: System>(
     place: Reservation<'r, R>,
 ) -> Result<Exit, RunFault<'a>> {
     let Sides { earlier, later } = hold_both(rt, inputs)?;
-    let Later { views, reports, shifts } = later;
+    let Later {
+        views,
+        reports,
+        shifts,
+    } = later;
     if !renewing.drops {
         judge_offsets(inputs.sources, &shifts)?;
     }
@@ -92,10 +96,7 @@ fn renew_at<'a, 'r, R: System>(
 }
 
 /// Refuses the first source whose partition packs say that it begins elsewhere.
-fn judge_offsets<'a>(
-    sources: &[Source<'a>],
-    shifts: &[Option<Shift>],
-) -> Result<(), RunFault<'a>> {
+fn judge_offsets<'a>(sources: &[Source<'a>], shifts: &[Option<Shift>]) -> Result<(), RunFault<'a>> {
     for (source, shift) in sources.iter().zip(shifts) {
         match (source.place(), shift) {
             (Some(_), Some(shift)) => {
@@ -140,7 +141,10 @@ fn hold_both<'a, R: System>(rt: &R, inputs: Inputs<'_, 'a>) -> Result<Sides, Run
     let screen = inputs.telling.screen;
     let earlier = open_sources(rt, screen, inputs.beside, &last)?;
     let later = open_sources(rt, screen, inputs.sources, &last)?;
-    let earlier = settled(hold_opened(rt, earlier, inputs.beside, &last)?, inputs.beside);
+    let earlier = settled(
+        hold_opened(rt, earlier, inputs.beside, &last)?,
+        inputs.beside,
+    );
     let later = hold_later(rt, later, inputs.sources, &last)?;
     Ok(Sides { earlier, later })
 }
@@ -237,7 +241,8 @@ fn print_unrenewed<'a, R: System>(
 ) -> Result<Exit, RunFault<'a>> {
     let exit = print_answer(rt, Printed::Renewed(renewed, false), inputs.form)?;
     if inputs.telling.has_hints {
-        let hint = "hint: more essence of --old is dropped than SRC.. have of it: are they of the same recording, and is OFFSET right? --drop saves them all the same";
+        let hint =
+            "hint: more essence of --old is dropped than SRC.. have of it: are they of the same recording, and is OFFSET right? --drop saves them all the same";
         if tell_on_screen(rt, &hint).is_err() {
             return Err(RunFault::OutOfMemory);
         }

@@ -101,7 +101,14 @@ fn print_by<'a, R: System>(
         return Err(RunFault::OutOfMemory);
     }
     let reports = gathered.reports.as_slice();
-    told(rt, inputs.telling.has_hints, inputs.beside, reports, false, exit)
+    told(
+        rt,
+        inputs.telling.has_hints,
+        inputs.beside,
+        reports,
+        false,
+        exit,
+    )
 }
 
 /// Prints what was verified of the reference, with the edit units of a range.

@@ -42,11 +42,7 @@ pub struct ReservedFile<'a, R: Files<File = File>> {
 impl<'a, R: Files<File = File> + AllocGlobal> Reservation<'a, R> {
     /// Holds the place at `path`. A regular file there stays as it is until the catalogue is saved. A dry place isn't
     /// held, and nothing is written to it.
-    pub fn take(
-        rt: &'a R,
-        path: &'a str,
-        is_dry: bool,
-    ) -> Result<Reservation<'a, R>, SaveFault> {
+    pub fn take(rt: &'a R, path: &'a str, is_dry: bool) -> Result<Reservation<'a, R>, SaveFault> {
         if is_dry {
             return Ok(Reservation::Looked(path));
         }

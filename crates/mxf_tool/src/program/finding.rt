@@ -1,0 +1,124 @@
+//! Fragments in recordings: which recording has the packets of each, and where they lie in it.
+use super::beside::names_of;
+use super::fault::RunFault;
+use super::sources::unread;
+use super::{Inputs, Printed, System, print_answer};
+use crate::contents::gather_one;
+use crate::exit::Exit;
+use crate::part::part_of;
+use crate::source::Source;
+use crate::system_fault::LastFault;
+use crate::watching::{Screen, Watched};
+use mxf_catalogue::Catalogue;
+use mxf_find::{Fragment, Ranking, Recording, find};
+use mxf_klv::OutOfMemory;
+use mxf_lines::Searched;
+use std::alloc::{AllocError, Global};
+use std::fs;
+
+/// Prints in which recordings each fragment lies. The fragments are read first, each by itself, and then one recording
+/// after the other. Nothing is printed before all are read.
+pub fn print_found_in<'a, R: System>(rt: &R, inputs: Inputs<'_, 'a>) -> Result<Exit, RunFault<'a>> {
+    let Ok(names) = names_of(rt.alloc(), inputs.beside) else {
+        return Err(RunFault::OutOfMemory);
+    };
+    let contents = read_fragments(rt, inputs)?;
+    let searched = search(rt, inputs, &contents)?;
+    print_answer(rt, Printed::Found(&searched, &names), inputs.form)
+}
+
+/// What each fragment holds by itself.
+fn read_fragments<'a, R: System>(
+    rt: &R,
+    inputs: Inputs<'_, 'a>,
+) -> Result<Vec<Catalogue>, RunFault<'a>> {
+    let mut contents = Vec::new(rt.alloc());
+    for source in inputs.sources {
+        let content = read_alone(rt, inputs.telling.screen, source)?;
+        if contents.push(content).is_err() {
+            return Err(RunFault::OutOfMemory);
+        }
+    }
+    Ok(contents)
+}
+
+/// What a source holds by itself. It is opened and read.
+fn read_alone<'a, R: System>(
+    rt: &R,
+    screen: Screen,
+    source: &Source<'a>,
+) -> Result<Catalogue, RunFault<'a>> {
+    let last = LastFault::new();
+    let path = source.path();
+    let file = match fs::open(rt, path) {
+        Ok(file) => file,
+        Err(fault) => return Err(unread(path, &fault)),
+    };
+    let part = part_of(source, Watched::new(rt, screen, source, file, &last));
+    match gather_one(rt.alloc(), part) {
+        Ok(gathered) => Ok(gathered.views.into_catalogue()),
+        Err(fault) => Err(RunFault::of_part(path, fault, last.get())),
+    }
+}
+
+/// In which recordings the fragments with these contents lie. One recording after the other is read, and kept no longer
+/// than the fragments are looked up in it.
+fn search<'a, R: System>(
+    rt: &R,
+    inputs: Inputs<'_, 'a>,
+    contents: &[Catalogue],
+) -> Result<Vec<Searched>, RunFault<'a>> {
+    let Ok(fragments) = fragments_of(rt.alloc(), inputs.sources, contents) else {
+        return Err(RunFault::OutOfMemory);
+    };
+    let Ok(mut searched) = nothing_searched(rt.alloc(), contents) else {
+        return Err(RunFault::OutOfMemory);
+    };
+    for (at, source) in inputs.beside.iter().enumerate() {
+        let content = read_alone(rt, inputs.telling.screen, source)?;
+        if look_up(rt.alloc(), &fragments, &mut searched, at + 1, &content).is_err() {
+            return Err(RunFault::OutOfMemory);
+        }
+    }
+    Ok(searched)
+}
+
+/// The fragments with these contents. The places of a piece or a range are counted from its OFFSET.
+fn fragments_of<'c>(
+    alloc: Global,
+    sources: &[Source<'_>],
+    contents: &'c [Catalogue],
+) -> Result<Vec<Fragment<'c>>, OutOfMemory> {
+    let mut fragments = Vec::new(alloc);
+    for (source, content) in sources.iter().zip(contents) {
+        let offset = source.place().map_or(0, |(offset, _)| offset);
+        fragments.push(Fragment::of(alloc, content, offset)?)?;
+    }
+    Ok(fragments)
+}
+
+/// That none of the fragments with these contents was looked up yet.
+fn nothing_searched(alloc: Global, contents: &[Catalogue]) -> Result<Vec<Searched>, AllocError> {
+    let searched = contents.iter().map(|content| Searched {
+        notes: content.len(),
+        ranking: Ranking::new(alloc),
+    });
+    searched.collect(alloc)
+}
+
+/// Looks the fragments up in the recording with a number and this content.
+fn look_up(
+    alloc: Global,
+    fragments: &[Fragment<'_>],
+    searched: &mut Vec<Searched>,
+    number: usize,
+    content: &Catalogue,
+) -> Result<(), OutOfMemory> {
+    let recording = Recording::of(alloc, content)?;
+    for (one, fragment) in searched.iter_mut().zip(fragments) {
+        if let Some(found) = find(alloc, fragment, &recording)? {
+            one.ranking.add(number, found)?;
+        }
+    }
+    Ok(())
+}
