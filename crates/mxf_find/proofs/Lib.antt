@@ -1,4 +1,5 @@
 pub mod AgreeingLaws
+pub mod ByDefinition
 pub mod CountLaws
 pub mod FoundLaws
 pub mod MovedLaws

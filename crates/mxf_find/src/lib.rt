@@ -4,6 +4,7 @@
 mod agreeing;
 mod found;
 mod fragment;
+mod laws;
 mod packets;
 mod ranking;
 mod recording;
@@ -11,5 +12,6 @@ mod votes;
 
 pub use found::{Match, find, one_match};
 pub use fragment::Fragment;
+pub use laws::{one_most_voted, shifts_are_offsets, telling_by_definition};
 pub use ranking::{Ranked, Ranking, rankings_by_definition};
 pub use recording::Recording;

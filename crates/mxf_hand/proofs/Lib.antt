@@ -12,3 +12,4 @@ pub mod FileLaws
 pub mod FileHoles
 pub mod NoMoreLaws
 pub mod WholeFileLaws
+pub mod SettlingLaws

@@ -5,3 +5,4 @@ pub mod Rounds
 pub mod Barren
 pub mod Finding
 pub mod File
+pub mod Settling

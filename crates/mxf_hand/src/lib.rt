@@ -14,6 +14,9 @@
 //! more round changes nothing, what was saved changes nothing beside the same sources ([`saved_beside_its_sources`]).
 //! What is said of histories of calls is said of it ([`put_together_is_a_history`]).
 //!
+//! A range that ends inside a packet, or lies in one, then has nothing missing: [`settle`] takes such a piece for whole
+//! ([`whole_stops_by_definition`]).
+//!
 //! What two ranges hold together with what is put together of their bytes:
 //!
 //! ```
@@ -31,6 +34,7 @@ mod head;
 mod laws;
 mod putting;
 mod section;
+mod settling;
 
 pub use laws::{
     one_content_of_sources, only_packets_of_the_file, put_together_is_a_history,
@@ -38,3 +42,4 @@ pub use laws::{
     what_is_held_stays,
 };
 pub use putting::{PutTogether, put_together};
+pub use settling::{settle, whole_stops_by_definition};

@@ -60,7 +60,8 @@ in-untold segments unit place (Err w) v f e = let s : w ≡ v = cc in subst (λ 
 in-untold segments unit place (Ok zone) v f e = absurd cc
 
 at-untold : (parts : List StreamPart) (segments : List SegmentAtParts) (unit : ℕ)
-    (place : Result StreamPlace UnitStanding) (v : UnitStanding) → ((w : UnitStanding) → place ≡ Err w → is_told w ≡ false)
+    (place : Result StreamPlace UnitStanding) (v : UnitStanding)
+    → ((w : UnitStanding) → place ≡ Err w → is_told w ≡ false)
     → location_at parts segments unit place ≡ Err v → is_told v ≡ false
 at-untold parts segments unit (Err w) v f e = let s : w ≡ v = cc in subst (λ u. is_told u ≡ false) s (f w refl)
 at-untold parts segments unit (Ok place) v f e =
@@ -72,7 +73,8 @@ pub location-untold : (notes : List NoteParts) (index_sid unit : ℕ) (v : UnitS
 unfolding location_of
 location-untold notes index_sid unit v e =
     let segments = segments_for notes index_sid in
-    at-untold (parts_of notes) segments unit (place_of segments unit) v (place-untold None (filter_map (place_in unit) segments)) e
+    at-untold (parts_of notes) segments unit (place_of segments unit) v
+    (place-untold None (filter_map (place_in unit) segments)) e
 
 -- ---- held, or held or at hand
 

@@ -5,8 +5,8 @@ ghost use Rattle.std.specs.Result.{ForOk};
 ghost use Rattle.mxf_klv.specs.Parts.{NoteParts};
 ghost use Rattle.mxf_places.specs.AtHand.{KnownParts};
 ghost use Rattle.mxf_units.specs.Units.{AreBesideEssence, AreKnown, are_all_held, are_all_known, ends_behind};
-ghost use Rattle.mxf_units.specs.Units.{extent_by, extent_in, file_offset, is_any_disputed, is_any_known, is_behind, is_told};
-ghost use Rattle.mxf_units.specs.Units.{lies_elsewhere, standing_by, standing_in};
+ghost use Rattle.mxf_units.specs.Units.{extent_by, extent_in, file_offset, is_any_disputed, is_any_known, is_behind};
+ghost use Rattle.mxf_units.specs.Units.{is_told, lies_elsewhere, standing_by, standing_in};
 
 use crate::beside::is_beside_essence;
 use crate::essence_zone::EssenceZone;

@@ -18,7 +18,8 @@ pub enum UnitStanding {
     Several,
     /// The first packet of essence of its partition isn't known.
     Unknown,
-    /// Its bytes would begin or end after its partition: they lie in one that isn't held, or nowhere.
+    /// Its bytes would begin or end after its partition, or begin in a packet that can't be essence, such as a fill:
+    /// they lie in a partition that isn't held, or nowhere.
     Elsewhere,
     /// A partition that isn't known may lie between the first byte of essence of its partition and its own bytes.
     Unsure,

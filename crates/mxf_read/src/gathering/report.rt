@@ -55,4 +55,18 @@ impl PieceReports {
     {
         self.items.as_slice()
     }
+
+    /// These reports, in their order.
+    pub fn of(items: Vec<PieceReport>) -> PieceReports
+        ensures { result ≡ items.items }
+    {
+        PieceReports { items }
+    }
+
+    /// The reports, as a vector that can be changed.
+    pub fn into_vec(self) -> Vec<PieceReport>
+        ensures { result.items ≡ self }
+    {
+        self.items
+    }
 }

@@ -1,0 +1,127 @@
+-- For which stops of pieces what is held makes up.
+use Rattle.std.proofs.Common.{◌≡◌, ◌↔◌, ◌∙◌, ℕ, ◌+◌, ◌<◌, ◌≤◌, ◌==◌, ◌&&◌, Bool, true, false, IsTrue, not, nat_lt, List}
+use Rattle.std.proofs.Common.{Option, Some, None, arith, ap, eq-eqb, eqb-true, find, inl, inr, refl, subst, sym, lt-ltb}
+use Rattle.std.proofs.Common.{count_by, ltb-true, slice_get}
+use Rattle.std.specs.List.{list_any, range_with_len}
+use Rattle.std.specs.Option.{option_map_or}
+use Rattle.std.proofs.lemmas.Bool.{and_from, and_parts, cases_lt}
+use Rattle.mxf_klv.proofs.Lists.{In-filter, In-map, found-In, list_any-In, none_found}
+use Rattle.mxf_klv.proofs.Counts.{range-all, range-full}
+use Rattle.mxf_klv.proofs.Tests.{same_bool}
+use Rattle.mxf_klv.specs.Parts.{NoteParts}
+use Rattle.mxf_klv.specs.Rising.{In}
+use Rattle.mxf_klv.specs.declared.piece.Stop.{Stop}
+use Rattle.mxf_klv.specs.declared.piece.Stop.TheVariants as stops
+use Rattle.mxf_catalogue.specs.Disputes.{DisputedParts, disputed_notes, is_disputed, undisputed_notes}
+use Rattle.mxf_catalogue.proofs.DisputeLaws.{In-undisputed_notes, SharesByte-same_offset, notes-disputed_notes}
+use Rattle.mxf_catalogue.proofs.HeadLaws.{same_note}
+use Rattle.mxf_places.specs.Held.{IsHeld, is_held}
+use Rattle.mxf_places.proofs.HeldLaws.{is_held-says}
+use Rattle.mxf_read.specs.declared.gathering.report.PieceReport.{PieceReport}
+use Rattle.mxf_read.specs.declared.given.Extent.{Extent}
+use Rattle.mxf_hand.specs.Settling.{BeginsWhole, IsHeldExtent, IsWholeStop, MakesUpFor, begins_whole, is_all_held}
+use Rattle.mxf_hand.specs.Settling.{begins_disputed, is_whole_stop, makes_up_for}
+
+begins-says : (notes : List NoteParts) (x : ℕ) → IsTrue (begins_whole notes x) ↔ BeginsWhole notes x
+begins-says notes x =
+    let any = list_any-In (λ n. (n.offset == x) && n.whole) notes in (
+      λ t.
+          let s = any.0 t in
+          let p = and_parts (s.0.offset == x) s.0.whole s.2 in (s.0, s.1, p.1, eqb-true _ _ p.0),
+      λ b. any.1 (b.0, b.1, and_from (b.0.offset == x) b.0.whole (eq-eqb _ _ b.3) b.2),
+    )
+
+all_held-says : (notes : List NoteParts) (e : Extent) → IsTrue (is_all_held notes e) ↔ IsHeldExtent notes e
+all_held-says notes e = (
+  λ t.
+      let p = and_parts (nat_lt 0 e.size) (count_by (is_held notes) (range_with_len e.offset e.size) == e.size) t in
+      record {
+        some = ltb-true _ _ p.0;
+        held = λ x above below.
+            (is_held-says notes x).0 (range-full (is_held notes) e.offset e.size (eqb-true _ _ p.1) x above below);
+      },
+  λ h. and_from (nat_lt 0 e.size) (count_by (is_held notes) (range_with_len e.offset e.size) == e.size)
+      (lt-ltb 0 e.size h.some)
+      (eq-eqb _ _ (range-all (is_held notes) e.offset e.size
+      (λ o above below. (is_held-says notes o).1 (h.held o above below)))),
+)
+
+source-says : (notes : List NoteParts) (o : Option Extent) → IsTrue (option_map_or (is_all_held notes) o false)
+    ↔ ((e : Extent) × (o ≡ Some e) × IsHeldExtent notes e)
+source-says notes None = (λ t. cc, λ s. let e = s.1 in absurd cc)
+source-says notes (Some e) = (
+  λ t. (e, refl, (all_held-says notes e).0 t),
+  λ s. (all_held-says notes e).1 (subst (IsHeldExtent notes) (same e s.0 (sym s.1)) s.2),
+)
+  where
+    same : (a b : Extent) → Some b ≡ Some a → b ≡ a
+    same a b h = cc (h)
+
+stop-says : (notes : List NoteParts) (extents : List Extent) (part : ℕ) (stop : Stop)
+    → IsTrue (makes_up_for notes extents part stop) ↔ MakesUpFor notes extents part stop
+stop-says notes extents part stops.End = (λ t. cc, λ h. absurd h)
+stop-says notes extents part (stops.NotUl at) = (λ t. cc, λ h. absurd h)
+stop-says notes extents part (stops.BadLength at) = (λ t. cc, λ h. absurd h)
+stop-says notes extents part (stops.TooFar at) = (λ t. cc, λ h. absurd h)
+stop-says notes extents part (stops.Truncated at) = begins-says notes at
+stop-says notes extents part (stops.NoStart at) = source-says notes (slice_get extents part)
+
+pub whole-says : (notes : List NoteParts) (extents : List Extent) (piece : PieceReport)
+    → IsTrue (is_whole_stop notes extents piece) ↔ IsWholeStop notes extents piece
+whole-says notes extents piece = stop-says notes extents piece.part piece.report.stop
+
+-- ---- by the tests that are made
+
+-- all offsets of an extent
+pub all_held-by : (notes : List NoteParts) (e : Extent) (b : Bool)
+    → IsTrue b ↔ ((0 < e.size) × ((x : ℕ) → e.offset ≤ x → x < e.offset + e.size → IsHeld notes x))
+    → b ≡ is_all_held notes e
+all_held-by notes e b says =
+    let all = all_held-says notes e in
+    same_bool b (is_all_held notes e) (λ t. let p = says.0 t in all.1 (record { some = p.0; held = p.1 }))
+    (λ t. let p = all.0 t in says.1 (p.some, p.held))
+
+-- an undisputed note is the only one at its offset
+pub begins-undisputed : (notes : List NoteParts) (x : ℕ) (n : NoteParts)
+    → find (λ m. m.offset == x) (undisputed_notes notes) ≡ Some n → n.whole ≡ begins_whole notes x
+begins-undisputed notes x n e =
+    let found = found-In (λ (m : NoteParts). m.offset == x) (undisputed_notes notes) n e in
+    let alone = (In-undisputed_notes n notes).0 found.0 in
+    let at : n.offset ≡ x = eqb-true _ _ found.1 in
+    let says = begins-says notes x in
+    same_bool n.whole (begins_whole notes x) (λ t. says.1 (n, alone.0, t, at)) (λ t.
+    let b = says.0 t in
+    elim (same_note b.0 n) [
+      | inl same ↦ subst (λ (m : NoteParts). m.whole ≡ true) same b.2
+      | inr other ↦ absurd (alone.1 (b.0, b.1, other, SharesByte-same_offset b.0 n (b.3 ∙ sym at)))
+    ])
+
+-- where no undisputed note begins, only a disputed one does
+pub begins-disputed : (notes : List NoteParts) (x : ℕ)
+    → find (λ m. m.offset == x) (undisputed_notes notes) ≡ None → begins_disputed notes x ≡ begins_whole notes x
+begins-disputed notes x e =
+    let any = list_any-In (λ d. (d.note.offset == x) && d.note.whole) (disputed_notes notes) in
+    let all = list_any-In (λ n. (n.offset == x) && n.whole) notes in
+    let listed = notes-disputed_notes notes in
+    same_bool (begins_disputed notes x) (begins_whole notes x) (λ t.
+    let d = any.0 t in
+    let n = (In-map (λ (c : DisputedParts). c.note) (disputed_notes notes) d.0.note).1 (d.0, d.1, refl) in
+    let held = (In-filter (λ m. is_disputed m notes) notes d.0.note).0 (subst (In d.0.note) listed n) in
+    all.1 (d.0.note, held.0, d.2)) (λ t.
+    let n = all.0 t in
+    let p = and_parts (n.0.offset == x) n.0.whole n.2 in
+    let d = (In-map (λ (c : DisputedParts). c.note) (disputed_notes notes) n.0).0 (subst (In n.0) (sym listed)
+    ((In-filter (λ m. is_disputed m notes) notes n.0).1 (n.1, disputed n.0 n.1 p.0))) in
+    any.1 (d.0, d.1, subst (λ (m : NoteParts). ((m.offset == x) && m.whole) ≡ true) d.2 n.2))
+  where
+    disputed : (n : NoteParts) → In n notes → (n.offset == x) ≡ true → is_disputed n notes ≡ true
+    disputed n i at = by (is_disputed n notes) refl
+      where
+        by : (b : Bool) → is_disputed n notes ≡ b → is_disputed n notes ≡ true
+        by true h = h
+        by false h = absurd (none_found (λ (m : NoteParts). m.offset == x) (undisputed_notes notes) n e
+            ((In-filter (λ m. not (is_disputed m notes)) notes n).1 (i, ap not h)) at)
+
+pub not_twice : (b : Bool) → not (not b) ≡ b
+not_twice true = refl
+not_twice false = refl

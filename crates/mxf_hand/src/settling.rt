@@ -1,0 +1,110 @@
+//! Which stops of pieces are made up for by what is held.
+ghost use Rattle.std.specs.Prelude.{◌≡◌, ◌↔◌, IsTrue, List, map};
+ghost use Rattle.mxf_klv.specs.Parts.{NoteParts};
+ghost use Rattle.mxf_read.specs.declared.gathering.report.PieceReport.{PieceReport};
+ghost use Rattle.mxf_read.specs.declared.given.Extent.{Extent};
+ghost use Rattle.mxf_hand.specs.Settling.{IsWholeStop, begins_disputed, begins_whole, is_all_held};
+ghost use Rattle.mxf_hand.specs.Settling.{is_source_held, is_whole_stop, settled};
+
+use mxf_catalogue::Catalogue;
+use mxf_klv::Stop;
+use mxf_read::{Extent, PieceReport, PieceReports, Report};
+use mxf_views::Views;
+
+/// Takes a piece for whole whose stop is made up for by what is held (this project's profile): it gets the stop `End`
+/// in place of `Truncated` at an offset at which a whole packet is held, clear or disputed; and, if it is a range that
+/// has bytes, in place of `NoStart` if each of them is held. `extents` has for each part of the run, by its number,
+/// where its bytes lie.
+///
+/// It takes no memory. The time is that of a few binary searches for each report; where packets are disputed at a stop,
+/// it looks at all disputed ones.
+pub fn settle(views: &Views, extents: &[Extent], reports: PieceReports) -> PieceReports
+    ensures { result ≡ map (settled views.now extents.now) reports }
+{
+    let mut reports = reports.into_vec();
+    settle_each(views.catalogue(), extents, &mut reports);
+    PieceReports::of(reports)
+}
+
+/// The same for each report, in its place.
+fn settle_each(catalogue: &Catalogue, extents: &[Extent], reports: &mut Vec<PieceReport>)
+    ensures { reports.new.items ≡ map (settled catalogue.now extents.now) reports.old.items }
+{
+    for i in 0..reports.len() {
+        reports[i] = settled(catalogue, extents, reports[i]);
+    }
+}
+
+/// The same for one report.
+fn settled(catalogue: &Catalogue, extents: &[Extent], piece: PieceReport) -> PieceReport
+    ensures { result ≡ settled catalogue.now extents.now piece }
+{
+    if !is_whole_stop(catalogue, extents, &piece) {
+        return piece;
+    }
+    PieceReport {
+        part: piece.part,
+        offset: piece.offset,
+        report: Report {
+            noted: piece.report.noted,
+            stop: Stop::End,
+        },
+    }
+}
+
+/// Whether what is held makes up for the stop of a piece.
+fn is_whole_stop(catalogue: &Catalogue, extents: &[Extent], piece: &PieceReport) -> bool
+    ensures { result ≡ is_whole_stop catalogue.now extents.now piece.now }
+{
+    match piece.report.stop {
+        Stop::Truncated(at) => begins_whole(catalogue, at),
+        Stop::NoStart(_) => is_source_held(catalogue, extents, piece.part),
+        Stop::End | Stop::NotUl(_) | Stop::BadLength(_) | Stop::TooFar(_) => false,
+    }
+}
+
+/// Whether the source of a part has bytes, and each of them is held.
+fn is_source_held(catalogue: &Catalogue, extents: &[Extent], part: usize) -> bool
+    ensures { result ≡ is_source_held catalogue.now extents.now part }
+{
+    match extents.get(part) {
+        Some(extent) => is_all_held(catalogue, *extent),
+        None => false,
+    }
+}
+
+/// Whether an extent has bytes, and each of them is held.
+fn is_all_held(catalogue: &Catalogue, extent: Extent) -> bool
+    ensures { result ≡ is_all_held catalogue.now extent }
+{
+    let start = extent.offset();
+    extent.size() > 0 && catalogue.spans().has_all(start, start + extent.size())
+}
+
+/// Whether a whole packet is held that begins at an offset, in bytes, clear or disputed.
+fn begins_whole(catalogue: &Catalogue, offset: u64) -> bool
+    ensures { result ≡ begins_whole catalogue.now offset }
+{
+    match catalogue.undisputed_at(offset) {
+        Some(note) => !note.is_head(),
+        None => begins_disputed(catalogue, offset),
+    }
+}
+
+/// Whether a disputed packet does.
+fn begins_disputed(catalogue: &Catalogue, offset: u64) -> bool
+    ensures { result ≡ begins_disputed catalogue.now offset }
+{
+    for disputed in catalogue.disputed() {
+        if disputed.note.offset() == offset && !disputed.note.is_head() {
+            return true;
+        }
+    }
+    false
+}
+
+/// A law of [`settle`]: for which stops what is held makes up.
+pub fn whole_stops_by_definition()
+    ensures { (notes : List NoteParts) (extents : List Extent) (piece : PieceReport)
+        → IsTrue (is_whole_stop notes extents piece) ↔ IsWholeStop notes extents piece }
+{}
