@@ -6,8 +6,9 @@
 //!
 //! What is proved: the answer is its definition over the two contents ([`find`], [`one_match`], [`one_most_voted`],
 //! [`shifts_are_offsets`]), and telling notes are by the fields of the notes beside them ([`telling_by_definition`]).
-//! A fragment all of whose packets a recording without heads has, at one shift, is found there with all its notes, if one
-//! of them tells there ([`whole_fragments_are_found`]). A ranking has the first 16 of all recordings that were added, in any order ([`Ranking`], [`rankings_by_definition`]).
+//! If a recording without heads has all packets of a fragment at one shift, and one of them tells there, the fragment is
+//! found there with all its notes ([`whole_fragments_are_found`]). A ranking has the first 16 of all recordings that
+//! were added, in any order ([`Ranking`], [`rankings_by_definition`]).
 //! That memory is there, and that a call succeeds with it, is tested.
 //!
 //! In which of two recordings a fragment lies best:
