@@ -1,6 +1,6 @@
 -- Which notes tell, by their fields.
-use Rattle.std.proofs.Common.{◌≡◌, ◌↔◌, ◌≢◌, ◌&&◌, ◌==◌, ◌∙◌, ℕ, Bool, true, false, List, IsTrue, filter, length, not}
-use Rattle.std.proofs.Common.{[], ◌∷◌, ap, arith, eq-eqb, inl, inr, refl, sym}
+use Rattle.std.proofs.Common.{◌≡◌, ◌↔◌, ◌==◌, ◌∙◌, true, List, IsTrue, length, not}
+use Rattle.std.proofs.Common.{ap, arith, eq-eqb, refl, sym}
 use Rattle.mxf_klv.specs.Kind.{kind_of}
 use Rattle.mxf_klv.specs.declared.kinds.Kind.{Kind}
 use Rattle.mxf_klv.specs.declared.kinds.Kind.TheVariants as kinds
@@ -8,7 +8,7 @@ use Rattle.mxf_klv.specs.Parts.{NoteParts, head_parts}
 use Rattle.mxf_klv.specs.Rising.{In}
 use Rattle.mxf_klv.proofs.Tests.{not-true-false, not_true}
 use Rattle.mxf_catalogue.specs.Content.{IsCatalogue, IsContent}
-use Rattle.mxf_catalogue.specs.Disputes.{IsDisputed, is_disputed}
+use Rattle.mxf_catalogue.specs.Disputes.{is_disputed}
 use Rattle.mxf_catalogue.proofs.DisputeLaws.{is_disputed-IsDisputed}
 use Rattle.mxf_find.specs.Packets.{front_of, packet_of}
 use Rattle.mxf_find.specs.Telling.{IsSound, IsTellingByLength, IsTellingByValue, is_fill, is_sound, tells_by_length, tells_by_value}
@@ -48,9 +48,9 @@ pub by_length : (n : NoteParts) (notes : List NoteParts) → IsCatalogue notes �
     → IsTrue (tells_by_length notes n) ↔ IsTellingByLength n notes
 by_length n notes is i = (
   λ t. let told = length_told notes n t in record {
-        sound = sound n notes i told.0;
-        only = λ m j k w l. alone front_of notes m n told.1 j i (λ x. head_parts 0 (k x) (w x) (l x));
-      },
+    sound = sound n notes i told.0;
+    only = λ m j k w l. alone front_of notes m n told.1 j i (λ x. head_parts 0 (k x) (w x) (l x));
+  },
   λ t. length_teller notes n (so_sound n notes t.sound) (one_there front_of n notes is.content i (λ m j s.
       let e = sym (same_says front_of n m s) in
       t.only m j (ap (λ (x : NoteParts). x.key) e) (ap (λ (x : NoteParts). x.width) e) (ap (λ (x : NoteParts). x.length) e))),
@@ -71,11 +71,11 @@ pub by_value : (n : NoteParts) (notes : List NoteParts) → IsCatalogue notes �
     → IsTrue (tells_by_value notes n) ↔ IsTellingByValue n notes
 by_value n notes is i = (
   λ t. let told = value_told notes n t in record {
-        sound = sound n notes i told.1;
-        whole = told.0;
-        only = λ m j e k w l h. alone packet_of notes m n told.2 j i
-            (same_packets m n (e ∙ sym told.0) k w l h);
-      },
+    sound = sound n notes i told.1;
+    whole = told.0;
+    only = λ m j e k w l h. alone packet_of notes m n told.2 j i
+        (same_packets m n (e ∙ sym told.0) k w l h);
+  },
   λ t. value_teller notes n t.whole (so_sound n notes t.sound) (one_there packet_of n notes is.content i (λ m j s.
       let e = sym (same_says packet_of n m s) in
       t.only m j (ap (λ (x : NoteParts). x.whole) e ∙ t.whole) (ap (λ (x : NoteParts). x.key) e)

@@ -1,13 +1,13 @@
 -- How often numbers stand in a list.
-use Rattle.std.proofs.Common.{◌≡◌, ◌∙◌, ◌+◌, ◌-◌, ◌≤◌, ◌<◌, ◌&&◌, ◌==◌, ℕ, zero, suc, Bool, true, false, cond, List, [], ◌∷◌}
-use Rattle.std.proofs.Common.{◌++◌, append_assoc, flat_map, map, refl, ap, subst, sym, arith, count_by, get_or, length, nat_le, nat_lt, not, eqb-true, eq-eqb, inl, inr}
+use Rattle.std.proofs.Common.{◌≡◌, ◌∙◌, ◌+◌, ◌≤◌, ◌<◌, ◌==◌, ℕ, zero, suc, Bool, true, false, cond, List, [], ◌∷◌}
+use Rattle.std.proofs.Common.{◌++◌, append_assoc, flat_map, map, refl, ap, subst, sym, arith, count_by, get_or, length, nat_le, nat_lt, eqb-true, eq-eqb, inl, inr}
 use Rattle.std.specs.List.{AllWithin}
 use Rattle.std.specs.List.Sorted.{IsNonDecreasing, IsPermutation}
 use Rattle.std.proofs.lemmas.Bool.{cases_Bool, cases_lt}
 use Rattle.std.proofs.lemmas.Bool.Decides.{nat_tests}
 use Rattle.std.proofs.lemmas.List.Sorted.{sum_by-IsPermutation}
 use Rattle.mxf_klv.specs.Rising.{In}
-use Rattle.mxf_klv.proofs.Counts.{count-none, count_by-cons, none-count, tally}
+use Rattle.mxf_klv.proofs.Counts.{count_by-cons, tally}
 use Rattle.mxf_klv.proofs.Lists.{In-at}
 use Rattle.mxf_find.specs.Votes.{IsMostVoted, count_of}
 

@@ -1,8 +1,8 @@
 -- Where a fragment lies: two answers are one.
-use Rattle.std.proofs.Common.{◌≡◌, ◌∙◌, ◌≤◌, ◌<◌, ℕ, List, [], Option, None, Some, ap, arith, refl, subst, sym}
+use Rattle.std.proofs.Common.{◌≡◌, ◌∙◌, ◌<◌, ℕ, List, [], Option, None, Some, ap, arith, refl, subst, sym}
 use Rattle.mxf_klv.specs.Parts.{NoteParts}
 use Rattle.mxf_find.specs.Agreeing.{agreeing, agreeing_as_heads}
-use Rattle.mxf_find.specs.Found.{IsFound, IsMatchAt, offset_of}
+use Rattle.mxf_find.specs.Found.{IsFound, offset_of}
 use Rattle.mxf_find.specs.Votes.{FragmentParts, IsMostVoted, count_of, votes}
 use Rattle.mxf_find.specs.declared.found.Match.{Match}
 

@@ -8,3 +8,4 @@ pub mod RankingLaws
 pub mod TellingLaws
 pub mod TellerLaws
 pub mod VoteLaws
+pub mod WhollyLaws

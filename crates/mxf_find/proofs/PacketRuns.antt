@@ -1,5 +1,5 @@
 -- Packets in their order: which notes they are, and where those of one kind stand.
-use Rattle.std.proofs.Common.{◌≡◌, ◌+◌, ◌≤◌, ◌<◌, ◌&&◌, ◌∙◌, ℕ, zero, suc, Bool, true, false, List, []}
+use Rattle.std.proofs.Common.{◌≡◌, ◌+◌, ◌≤◌, ◌<◌, ◌&&◌, ◌∙◌, ℕ, zero, suc, true, false, List, []}
 use Rattle.std.proofs.Common.{◌∷◌, IsTrue, refl, sym, ap, subst, inl, inr, arith, get_or, length, min, nat_le, nat_lt}
 use Rattle.std.proofs.Common.{Ordering, Less, Equal, Greater, drop, filter, take}
 use Rattle.std.specs.Cmp.{IsTotalOrder}
@@ -7,7 +7,6 @@ use Rattle.std.specs.List.{AllWithin}
 use Rattle.std.specs.List.Sorted.{IsNonDecreasingBy, IsPartitionedBy, IsSortedByKey}
 use Rattle.std.specs.Cmp.Lexicographic.{slice_cmp}
 use Rattle.std.specs.Ordering.{bool_cmp, nat_cmp, is_lt, ordering_index, ordering_reverse, ordering_then}
-use Rattle.std.proofs.lemmas.Bool.{le-leb, leb-true, lt-ltb, ltb-true}
 use Rattle.std.proofs.lemmas.Cmp.{tied_itself}
 use Rattle.std.proofs.lemmas.List.Sorted.{IsPartitionedBy-ltb, searchable_from_sorted}
 use Rattle.mxf_klv.specs.Parts.{NoteParts}

@@ -1,15 +1,15 @@
 -- The first of a list in its order, of which only the first were kept.
-use Rattle.std.proofs.Common.{◌≡◌, ◌↔◌, ◌∙◌, ◌⊎◌, ◌++◌, ℕ, zero, suc, Bool, true, false, cond, List, [], ◌∷◌, take}
-use Rattle.std.proofs.Common.{ap, append-nil, append_assoc, arith, inl, inr, refl, sym, Ordering, Less, Equal, Greater}
+use Rattle.std.proofs.Common.{◌≡◌, ◌∙◌, ◌++◌, ℕ, zero, suc, cond, List, [], ◌∷◌, take}
+use Rattle.std.proofs.Common.{ap, append-nil, append_assoc, inl, inr, refl, sym, Ordering, Less, Equal, Greater}
 use Rattle.std.specs.Cmp.{IsTotalOrder}
 use Rattle.std.specs.FinSet.{IsAntisymmetric}
 use Rattle.std.specs.Ordering.{is_eq, is_lt}
-use Rattle.mxf_klv.specs.Rising.{In, In-union, In-with_one, IsRising, IsRising-union, IsRising-with_one, SameMembers}
+use Rattle.mxf_klv.specs.Rising.{In-union, In-with_one, IsRising, IsRising-union, IsRising-with_one, SameMembers}
 use Rattle.mxf_klv.specs.Rising.{same_from_members, union, with_one}
 use Rattle.std.specs.List.{AllByRecursion}
 use Rattle.mxf_klv.proofs.Lists.{In-append}
 use Rattle.mxf_find.specs.RankOrder.{rank_cmp-IsAntisymmetric, rank_total}
-use Rattle.mxf_find.specs.Rankings.{in_order, rank_cmp, ranked, with_all, with_ranked}
+use Rattle.mxf_find.specs.Rankings.{ranked, with_all}
 use Rattle.mxf_find.specs.declared.ranking.Ranked.{Ranked}
 
 -- What is put into the first of a list stands in the first of it as if it were put into all.

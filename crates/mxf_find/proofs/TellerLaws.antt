@@ -9,7 +9,7 @@ use Rattle.mxf_catalogue.proofs.DisputeLaws.{is_disputed-IsDisputed}
 use Rattle.mxf_find.specs.Packets.{IsByPacket, front_of, is_same_length, is_same_packet, packet_of, sole}
 use Rattle.mxf_find.specs.Telling.{IsNoneOf, IsOneOf, is_sound, is_teller_by_length, is_teller_by_value}
 use Rattle.mxf_find.specs.Telling.{tells_by_length, tells_by_value}
-use Rattle.mxf_find.proofs.TellingLaws.{alike, none_alone, one_alone, one_held, one_is, one_same, same}
+use Rattle.mxf_find.proofs.TellingLaws.{alike, none_alone, one_alone, one_held, one_is, one_same}
 
 pub disputed_is : (notes : List NoteParts) (n : NoteParts) (r : Bool) → IsTrue r ↔ (In n notes × IsDisputed n notes)
     → In n notes → r ≡ is_disputed n notes

@@ -1,7 +1,7 @@
 -- Votes: a note has one at most in a recording.
-use Rattle.std.proofs.Common.{◌≡◌, ◌&&◌, ◌==◌, ◌∙◌, Bool, true, false, List, [], ◌∷◌, IsTrue, Option, None, Some}
-use Rattle.std.proofs.Common.{Bor, ◌⊎◌, is_some}
-use Rattle.std.proofs.Common.{refl, sym, ap, subst, arith, filter, inl, inr, length, not}
+use Rattle.std.proofs.Common.{◌≡◌, ◌&&◌, ◌∙◌, Bool, true, false, List, [], ◌∷◌, IsTrue, Option, None, Some}
+use Rattle.std.proofs.Common.{Bor, is_some}
+use Rattle.std.proofs.Common.{refl, sym, ap, subst, arith, filter, inl, inr, not}
 use Rattle.std.specs.Option.{IfNone, IfSome, option_copied, option_to_list}
 use Rattle.std.proofs.lemmas.Bool.{cases_Bool, false_from_ne_true}
 use Rattle.mxf_klv.specs.Parts.{NoteParts, head_parts}
@@ -67,11 +67,11 @@ unfolding voted_by
 voted_length t notes p n e = rw e refl
 
 module _ (t : Tells) (notes : List NoteParts) (p : NoteParts) where
-  value_parts : (n : NoteParts) → (p.whole && n.whole) ≡ true → IsTrue (voted_by t notes p n)
+  pub value_parts : (n : NoteParts) → (p.whole && n.whole) ≡ true → IsTrue (voted_by t notes p n)
       → (t.by_value ≡ true) × IsTrue (is_teller_by_value notes p n)
   value_parts n e v = both_true _ _ (sym (voted_value t notes p n e) ∙ v)
 
-  length_parts : (n : NoteParts) → (p.whole && n.whole) ≡ false → IsTrue (voted_by t notes p n)
+  pub length_parts : (n : NoteParts) → (p.whole && n.whole) ≡ false → IsTrue (voted_by t notes p n)
       → (t.by_length ≡ true) × IsTrue (is_teller_by_length notes p n)
   length_parts n e v = both_true _ _ (sym (voted_length t notes p n e) ∙ v)
 

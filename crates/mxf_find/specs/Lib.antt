@@ -6,3 +6,4 @@ pub mod Agreeing
 pub mod Found
 pub mod Rankings
 pub mod RankOrder
+pub mod Wholly

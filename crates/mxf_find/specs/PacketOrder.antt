@@ -1,6 +1,6 @@
 -- The order of packets is a total order, and notes that compare alike in it are one (this project's profile).
 use Rattle.std.specs.Prelude.{◌≡◌}
-use Rattle.std.specs.Ordering.{eq_by_cmp, nat_cmp, on, ordering_then, then_cmp}
+use Rattle.std.specs.Ordering.{eq_by_cmp, ordering_then}
 use Rattle.std.specs.Cmp.{IsTotalOrder, IsEquivalence}
 use Rattle.std.specs.FinSet.{IsAntisymmetric, nat_cmp-IsAntisymmetric}
 use Rattle.std.specs.declared.cmp.Ordering.{Ordering}

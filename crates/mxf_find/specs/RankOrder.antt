@@ -9,7 +9,6 @@ use Rattle.std.specs.declared.cmp.Ordering.TheVariants.{Less, Equal, Greater}
 use Rattle.std.proofs.Common.{refl, sym}
 use Rattle.std.proofs.lemmas.Cmp.{back_total, on_total, then_total, nat_cmp_total, eq_by_cmp_equiv}
 use Rattle.mxf_find.specs.Rankings.{rank_cmp}
-use Rattle.mxf_find.specs.declared.found.Match.{Match}
 use Rattle.mxf_find.specs.declared.ranking.Ranked.{Ranked}
 
 pub rank_total : IsTotalOrder rank_cmp

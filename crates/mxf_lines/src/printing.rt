@@ -10,6 +10,7 @@ ghost use Rattle.mxf_lines.specs.declared.printing.AnswerFault.TheVariants as fa
 
 mod check;
 mod content;
+mod found;
 mod hexadecimal;
 mod line;
 mod lines;
@@ -25,6 +26,7 @@ mod units;
 mod verification;
 
 use check::print_checked;
+pub use found::{Searched, print_found};
 pub use hexadecimal::hex_text;
 use line::JoinLine;
 use lines::{Printer, print_with_status};

@@ -14,6 +14,8 @@ mod at_hand;
 #[cfg(test)]
 mod files;
 #[cfg(test)]
+mod finds;
+#[cfg(test)]
 mod looked_up;
 #[cfg(test)]
 mod pieces;

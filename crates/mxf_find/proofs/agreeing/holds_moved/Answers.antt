@@ -1,4 +1,4 @@
-use Rattle.std.proofs.Common.{◌≡◌, Option, subst, sym}
+use Rattle.std.proofs.Common.{subst, sym}
 use Rattle.std.proofs.lemmas.Bool.{true≢false}
 use Rattle.std.specs.Option.{IfNone}
 use Rattle.mxf_klv.specs.Note.{IsNote}

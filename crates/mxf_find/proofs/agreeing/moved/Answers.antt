@@ -1,4 +1,4 @@
-use Rattle.std.proofs.Common.{◌≡◌, ◌∙◌, List, length, subst, sym, true}
+use Rattle.std.proofs.Common.{◌≡◌, ◌∙◌, length, subst, sym, true}
 use Rattle.mxf_klv.specs.Note.{CanNote}
 use Rattle.mxf_klv.specs.Parts.{NoteParts, note_parts}
 use Rattle.mxf_find.proofs.MovedLaws.{can_keep, no_note}

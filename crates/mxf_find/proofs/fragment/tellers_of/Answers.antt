@@ -1,8 +1,8 @@
-use Rattle.std.proofs.Common.{◌≡◌, ◌∙◌, List, ap, inl, inr, refl, subst, sym}
+use Rattle.std.proofs.Common.{◌∙◌, List, ap, inl, inr, refl, subst, sym}
 use Rattle.mxf_klv.specs.Parts.{NoteParts}
 use Rattle.mxf_klv.specs.Rising.{In}
 use Rattle.mxf_find.specs.Telling.{tells_in}
-use Rattle.mxf_find.specs.Votes.{TellerParts, teller_in}
+use Rattle.mxf_find.specs.Votes.{teller_in}
 use Rattle.mxf_find.proofs.CountLaws.{next_mapped}
 use Rattle.mxf_find.proofs.fragment.tellers_of.Goals as goal
 

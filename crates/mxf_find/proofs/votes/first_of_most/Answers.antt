@@ -1,6 +1,5 @@
-use Rattle.std.proofs.Common.{◌≡◌, ◌+◌, ◌∙◌, ℕ, ap, arith, get_or, subst, sym}
+use Rattle.std.proofs.Common.{◌+◌, ◌∙◌, ℕ, arith, get_or, subst, sym}
 use Rattle.std.proofs.lemmas.Option.{get_or_from_slice_get, slice_get_within}
-use Rattle.mxf_find.specs.Votes.{count_of}
 use Rattle.mxf_find.proofs.CountLaws.{IsMostSoFar, first_most, most_at_end, next_most, next_same}
 use Rattle.mxf_find.proofs.votes.first_of_most.Goals as goal
 use Rattle.mxf_find.proofs.votes.first_of_most.Goals.{then-others-count, else-others-count}

@@ -1,5 +1,4 @@
-use Rattle.std.proofs.Common.{◌≡◌, ◌∙◌, ◌++◌, List, ℕ, ap, flat_map, map, subst}
-use Rattle.mxf_klv.specs.Parts.{NoteParts}
+use Rattle.std.proofs.Common.{◌≡◌, ◌∙◌, ◌++◌, List, ℕ, ap, flat_map, subst}
 use Rattle.mxf_find.specs.Votes.{FragmentParts, TellerParts, teller_in, votes, votes_by}
 use Rattle.mxf_find.proofs.CountLaws.{flat_map-map}
 use Rattle.mxf_find.proofs.fragment.Fragment.votes.Goals as goal

@@ -1,7 +1,4 @@
-use Rattle.std.proofs.Common.{◌≡◌, ◌∙◌, Bool, List, ap, arith, not, subst}
-use Rattle.mxf_klv.specs.Kind.{kind_of}
-use Rattle.mxf_klv.specs.Parts.{NoteParts}
-use Rattle.mxf_catalogue.specs.Disputes.{is_disputed}
+use Rattle.std.proofs.Common.{ap, arith}
 use Rattle.mxf_find.specs.Telling.{is_fill, is_sound}
 use Rattle.mxf_find.proofs.TellerLaws.{seen_disputed}
 use Rattle.mxf_find.proofs.recording.Recording.is_sound.Goals as goal

@@ -1,8 +1,5 @@
-use Rattle.std.proofs.Common.{◌≡◌, true, false, None, Some, List, refl, sym, ap, subst, arith, not}
+use Rattle.std.proofs.Common.{◌≡◌, true, false, None, Some, refl, sym, subst, arith}
 use Rattle.std.specs.Option.{IfNone}
-use Rattle.mxf_klv.specs.Parts.{NoteParts}
-use Rattle.mxf_klv.specs.Rising.{In}
-use Rattle.mxf_find.specs.Packets.{IsByPacket}
 use Rattle.mxf_find.specs.Telling.{IsNoneOf, is_teller_by_value}
 use Rattle.mxf_find.proofs.TellerLaws.{either_false, lent, or_false, value_held, value_none, value_one, value_unsound}
 use Rattle.mxf_find.proofs.recording.Recording.teller_by_value.Goals as goal

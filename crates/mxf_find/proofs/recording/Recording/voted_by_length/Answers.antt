@@ -1,4 +1,4 @@
-use Rattle.std.proofs.Common.{◌≡◌, ◌∙◌, ◌&&◌, None, arith, false, not, subst, sym, true}
+use Rattle.std.proofs.Common.{◌≡◌, ◌∙◌, ◌&&◌, false, not, subst, sym, true}
 use Rattle.std.specs.Option.{IfNone}
 use Rattle.mxf_find.specs.Telling.{IsNoneOf}
 use Rattle.mxf_find.specs.Votes.{voted_by}
