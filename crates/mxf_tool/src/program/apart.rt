@@ -63,7 +63,7 @@ fn tell_headers<R: Eprint + AllocGlobal>(rt: &R, views: &Views) -> Result<bool, 
 /// Where a source belongs by the sources beside it. It prints as its line.
 #[derive(Clone, Copy)]
 enum Misplaced<'a> {
-    /// A packet that is cut ends at `end`, and the range's first packet begins at `first`.
+    /// A packet that is cut ends at `end`, within the range, and its first packet begins at `first`, above that.
     Beside {
         source: Source<'a>,
         end: u64,
@@ -80,14 +80,10 @@ impl fmt::Display for Misplaced<'_> {
     fn fmt<W: fmt::Write>(&self, f: &mut fmt::Formatter<W>) -> fmt::Result {
         match *self {
             Misplaced::Beside { source, end, first } => {
-                let (bytes, side) = if end < first {
-                    (first - end, "high")
-                } else {
-                    (end - first, "low")
-                };
+                let bytes = first.saturating_sub(end);
                 write!(
                     f,
-                    "hint: a packet that is cut ends at {end}, and the first packet of {source} begins at {first}: is OFFSET {bytes} too {side}?"
+                    "hint: a packet that is cut ends at {end}, and the first packet of {source} begins at {first}: is OFFSET {bytes} too high?"
                 )
             }
             Misplaced::Behind { source, end } => write!(
@@ -171,13 +167,14 @@ fn cut_of(report: &PieceReport, catalogue: &Catalogue) -> Option<Cut> {
     })
 }
 
-/// The range, if a packet is cut before its first byte, ends in it or after it, and isn't followed by its first packet.
+/// The range, if a packet that is cut before its first byte ends within it, and its first packet begins above that end.
+/// One that begins below disputes the packet, and isn't told here.
 fn misplaced<'a>(source: Source<'a>, report: &PieceReport, cuts: &[Cut]) -> Option<Misplaced<'a>> {
     let (offset, _) = source.place().filter(|_| source.is_range())?;
     let begun = cuts.partition_point(|cut| cut.start < offset);
     let end = cuts[..begun].last()?.end;
     let first = report.offset;
-    if matches!(report.report.stop, Stop::NoStart(_)) || end < offset || end == first {
+    if matches!(report.report.stop, Stop::NoStart(_)) || end < offset || first <= end {
         return None;
     }
     Some(Misplaced::Beside { source, end, first })
