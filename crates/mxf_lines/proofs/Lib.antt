@@ -7,3 +7,4 @@ pub mod StringLaws
 pub mod VerifiedStatusLaws
 pub mod OneRun
 pub mod RecordLaws
+pub mod DisputesLineLaws

@@ -1,10 +1,14 @@
 -- Rows of a map that are printed one after another, and the digits of an offset.
-use Rattle.std.proofs.Common.{◌≡◌, ◌∙◌, ◌+◌, ◌-◌, ◌*◌, ◌/◌, ◌^◌, ◌<◌, ◌≤◌, ◌==◌, ℕ, zero, suc, List, [], ◌∷◌, true, false}
+use Rattle.std.proofs.Common.{◌≡◌, ◌∙◌, ◌+◌, ◌-◌, ◌*◌, ◌/◌, ◌^◌, ◌<◌, ◌≤◌, ◌==◌, ℕ, Bool, zero, suc, List, [], ◌∷◌, true, false}
 use Rattle.std.proofs.Common.{arith, ap, sym, refl, decimal, drop, length, length-append, min, nat_le, take, leb-true, leb-false}
 use Rattle.std.proofs.lemmas.Fmt.{decimal_step_wide}
 use Rattle.std.proofs.lemmas.List.{drop_all, length-drop, take_min}
+use Rattle.mxf_places.specs.AtHand.{KnownParts}
+use Rattle.mxf_restore.specs.Extents.{standing_at}
 use Rattle.mxf_restore.specs.declared.map.Mark.{Mark}
-use Rattle.mxf_lines.specs.MapLines.{row_line, rows_by, rows_of}
+use Rattle.mxf_restore.specs.declared.map.extent.MapExtent.{MapExtent}
+use Rattle.mxf_restore.proofs.ExtentLaws.{one_list_of_extents}
+use Rattle.mxf_lines.specs.MapLines.{AreToldExtents, row_line, rows_by, rows_of}
 
 -- A number of two digits or more has one more than its tenth.
 pub one_digit_more : (n : ℕ) → 10 ≤ n → n < 2 ^ 128 → length (decimal n) ≡ length (decimal (n / 10)) + 1
@@ -67,3 +71,9 @@ first_row columns cell width passed (m ∷ marks) some more =
 pub some_left : (marks : List Mark) → (length marks == 0) ≡ false → 0 < length marks
 some_left [] e = absurd cc
 some_left (m ∷ marks) e = omega arith
+
+-- The ranges that are told are one list.
+pub one_told : (known : KnownParts) (end : ℕ) (with_extents : Bool) (a b : List MapExtent)
+    → AreToldExtents known end with_extents a → AreToldExtents known end with_extents b → a ≡ b
+one_told known end true a b p q = one_list_of_extents (standing_at known) end a b p q
+one_told known end false a b p q = p ∙ sym q

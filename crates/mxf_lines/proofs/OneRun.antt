@@ -7,6 +7,8 @@ use Rattle.mxf_catalogue.specs.CatalogueFile.{file_bytes}
 use Rattle.mxf_catalogue.specs.Content.{IsLocated}
 use Rattle.mxf_catalogue.specs.History.{HandsSame, Read}
 use Rattle.mxf_views.specs.Headline.{IsTheRun}
+use Rattle.mxf_places.specs.AtHand.{KnownParts}
+use Rattle.mxf_restore.specs.Map.{MapParts}
 use Rattle.mxf_restore.proofs.MarkLaws.{one_map}
 use Rattle.mxf_partial.specs.Orders.{UnitPlanParts}
 use Rattle.mxf_partial.proofs.UnitPlanLaws.{one_plan}
@@ -25,7 +27,8 @@ use Rattle.mxf_lines.specs.Forms.{line, lines_in, number}
 use Rattle.mxf_lines.specs.Lines.{note_fields}
 use Rattle.mxf_lines.specs.OneRun.{Answer, AreTold, AskedUnits, IsPrinted, Map, PrintSame, Printed, Question, Renewal}
 use Rattle.mxf_lines.specs.OneRun.{Sources, UnitPlan, Verification}
-use Rattle.mxf_lines.specs.MapLines.{map_lines}
+use Rattle.mxf_lines.specs.MapLines.{AreToldExtents, map_lines}
+use Rattle.mxf_lines.proofs.MapLineLaws.{one_told}
 use Rattle.mxf_lines.specs.UnitPlanLines.{asked_of, unit_plan_lines, unit_plan_status}
 use Rattle.mxf_lines.specs.VerificationLines.{cut_lines, differs_line, other_fields, range_lines}
 use Rattle.mxf_lines.specs.VerificationLines.{span_fields, unit_run_line, verification_lines, verification_status}
@@ -115,8 +118,12 @@ told_status (Some asked) content v (Some a) (Some b) e f reports is_whole =
 printed_once : (question : Question) (m : List NoteParts) (a b : Printed) → IsPrinted question m a
     → IsPrinted question m b → (a.lines ≡ b.lines) × (a.status ≡ b.status)
 printed_once (Answer ask reports at) m a b p q = (p.0 ∙ sym q.0, p.1 ∙ sym q.1)
-printed_once (Map columns rows at) m a b (x, is, l, s) (y, also, k, t) =
-    let same : x ≡ y = one_map _ _ x y is also in (l ∙ ap (map_lines columns) same ∙ sym k, s ∙ sym t)
+printed_once (Map columns rows with_extents at) m a b (x, d, is, told, l, s) (y, e, also, tell, k, t) =
+    let known : KnownParts = record { notes = m; at = at } in
+    let same : x ≡ y = one_map _ _ x y is also in
+    let all : d ≡ e = one_told known y.end with_extents d e
+    (subst (λ (z : MapParts). AreToldExtents known z.end with_extents d) same told) tell in
+    (l ∙ (λ i. map_lines columns (same i) (all i)) ∙ sym k, s ∙ sym t)
 printed_once (UnitPlan index range at) m a b (x, is, l, s) (y, also, k, t) =
     let same : x ≡ y = one_plan _ x y is also in (
       l ∙ ap (unit_plan_lines (asked_of index range at m)) same ∙ sym k,
@@ -131,7 +138,7 @@ printed_once (Verification sources reports asked is_whole) m a b (v, x, is, told
           ∙ ap (λ (n : ℕ). Some n) (told_status asked m w x y here tell reports is_whole) ∙ sym t,
     )
 printed_once (Sources before after names) m a b p q = (p.0 ∙ sym q.0, p.1 ∙ sym q.1)
-printed_once (Renewal new) m a b p q = (p.0 ∙ sym q.0, p.1 ∙ sym q.1)
+printed_once (Renewal new is_saved) m a b p q = (p.0 ∙ sym q.0, p.1 ∙ sym q.1)
 
 pub one_print : (m n : List NoteParts) → m ≡ n → PrintSame m n
 one_print m n same =

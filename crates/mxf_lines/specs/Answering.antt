@@ -1,6 +1,6 @@
 -- What a run is answered: its lines and its status (this project's profile).
 use Rattle.std.specs.Prelude.{ℕ, ◌<◌, ◌==◌, ◌&&◌, if◌then◌else◌, Bool, true, false, List, [], ◌∷◌, ◌++◌, length}
-use Rattle.std.specs.Prelude.{Result, Ok, Err, flat_map}
+use Rattle.std.specs.Prelude.{Option, Result, Ok, Err, flat_map, is_none}
 use Rattle.std.specs.List.{list_all}
 use Rattle.mxf_klv.specs.Parts.{NoteParts}
 use Rattle.mxf_klv.specs.declared.piece.Stop.{Stop}
@@ -13,7 +13,9 @@ use Rattle.mxf_views.specs.declared.finding.Finding.{Finding}
 use Rattle.mxf_views.specs.declared.index.place.Place.{Place}
 use Rattle.mxf_views.specs.declared.index.place.Place.TheVariants.{At}
 use Rattle.mxf_places.specs.AtHand.{AtHandParts}
+use Rattle.mxf_restore.specs.Disputes.{disputes_of}
 use Rattle.mxf_restore.specs.Plan.{PlanParts, plan_of}
+use Rattle.mxf_restore.specs.declared.disputes.Disputes.{Disputes}
 use Rattle.mxf_units.specs.declared.unit.EditUnit.{EditUnit}
 use Rattle.mxf_read.specs.declared.gathering.report.PieceReport.{PieceReport}
 use Rattle.mxf_units.specs.Ranges.{units_from}
@@ -67,7 +69,7 @@ answer_lines Show reports at content = report_lines reports ++ content_lines con
 answer_lines Check reports at content = check_lines reports content
 answer_lines (Locate index unit) reports at content = place_line (place_of (segments_of content) index unit) ∷ []
 answer_lines Join reports at content = join_lines content
-answer_lines Plan reports at content = plan_lines (plan_of at content)
+answer_lines Plan reports at content = plan_lines (disputes_of content) (plan_of at content)
 answer_lines (Units index range) reports at content = unit_lines range.first (asked_units index range at content)
 
 -- 0 if all pieces end with a packet and nothing is found, otherwise 1.
@@ -79,9 +81,9 @@ abbrev pub place_status : Place → ℕ
 place_status (At body_sid offset) = 0
 place_status _ = 1
 
--- 1 if there is something to restore, otherwise 0.
-abbrev pub plan_status : PlanParts → ℕ
-plan_status p = if length p.orders == 0 then 0 else 1
+-- 1 if there is something to restore, or a packet is disputed, otherwise 0.
+abbrev pub plan_status : Option Disputes → PlanParts → ℕ
+plan_status disputes p = if length p.orders == 0 && is_none disputes then 0 else 1
 
 -- The status of what is asked for.
 abbrev pub answer_status : Ask → List PieceReport → AtHandParts → List NoteParts → ℕ
@@ -89,7 +91,7 @@ answer_status Show reports at content = 0
 answer_status Check reports at content = check_status reports (findings_of content)
 answer_status (Locate index unit) reports at content = place_status (place_of (segments_of content) index unit)
 answer_status Join reports at content = 0
-answer_status Plan reports at content = plan_status (plan_of at content)
+answer_status Plan reports at content = plan_status (disputes_of content) (plan_of at content)
 answer_status (Units index range) reports at content = units_status (asked_units index range at content)
 
 -- An edit unit above the greatest is asked for.

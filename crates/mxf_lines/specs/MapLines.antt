@@ -1,12 +1,17 @@
 -- The lines of a map (this project's profile).
-use Rattle.std.specs.Prelude.{ℕ, zero, suc, ◌+◌, ◌-◌, ◌*◌, ◌/◌, ◌%◌, List, [], ◌∷◌, ◌++◌, codes, decimal, drop, length}
+use Rattle.std.specs.Prelude.{◌≡◌, ℕ, Bool, true, false, zero, suc, ◌+◌, ◌-◌, ◌*◌, ◌/◌, ◌%◌, List, [], ◌∷◌, ◌++◌, codes}
+use Rattle.std.specs.Prelude.{decimal, drop, length}
 use Rattle.std.specs.Prelude.{flat_map, take}
 use Rattle.std.specs.List.{repeat}
+use Rattle.mxf_places.specs.AtHand.{KnownParts}
+use Rattle.mxf_restore.specs.Extents.{AreExtents, standing_at}
 use Rattle.mxf_restore.specs.Map.{MapParts}
+use Rattle.mxf_restore.specs.Words.{byte_standing_name}
+use Rattle.mxf_restore.specs.declared.map.extent.MapExtent.{MapExtent}
 use Rattle.mxf_restore.specs.declared.map.Mark.{Mark}
 use Rattle.mxf_restore.specs.declared.map.Mark.TheVariants.{Disputed, Header, Footer, Body, RandomIndex, Missing}
 use Rattle.mxf_restore.specs.declared.map.Mark.TheVariants.{Hand, Empty, Part, Metadata, Index, Whole}
-use Rattle.mxf_lines.specs.Forms.{Number, PrintedLine, digits, field, line, number, word}
+use Rattle.mxf_lines.specs.Forms.{Number, PrintedLine, digits, field, line, number, number_member, word}
 
 -- The character of a mark.
 abbrev pub mark_text : Mark → List ℕ
@@ -59,7 +64,20 @@ rows_of columns cell width passed marks = rows_by columns cell width (length mar
 abbrev pub row_width : ℕ → ℕ → ℕ → ℕ
 row_width columns cell count = length (decimal ((count - 1 - (count - 1) % columns) * cell))
 
--- The lines of a map: the first, and one for each row.
-abbrev pub map_lines : ℕ → MapParts → List PrintedLine
-map_lines columns m =
-    map_line m ∷ rows_of columns m.cell (row_width columns m.cell (length m.marks)) 0 m.marks
+-- The line of a range that stands alike: where it begins and ends, how it stands, and in JSON how many bytes it has.
+unfoldable pub extent_line : MapExtent → PrintedLine
+extent_line e =
+    line "extent" (number " " "start" e.start ∷ number " " "end" e.end
+    ∷ word " " "standing" (byte_standing_name e.standing) ∷ number_member "length" (e.end - e.start) ∷ [])
+
+-- The ranges that are told of the bytes below an end: all maximal ones that stand alike, or none if they aren't asked
+-- for.
+abbrev pub AreToldExtents : KnownParts → ℕ → Bool → List MapExtent → Type 0
+AreToldExtents known end true extents = AreExtents (standing_at known) end 0 extents
+AreToldExtents known end false extents = extents ≡ []
+
+-- The lines of a map: the first, one for each row, and one for each range that is told.
+abbrev pub map_lines : ℕ → MapParts → List MapExtent → List PrintedLine
+map_lines columns m extents =
+    map_line m ∷ (rows_of columns m.cell (row_width columns m.cell (length m.marks)) 0 m.marks
+    ++ flat_map (λ e. extent_line e ∷ []) extents)

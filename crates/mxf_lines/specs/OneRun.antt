@@ -5,6 +5,7 @@ use Rattle.mxf_klv.specs.Parts.{NoteParts}
 use Rattle.mxf_places.specs.AtHand.{AtHandParts}
 use Rattle.mxf_read.specs.declared.gathering.report.PieceReport.{PieceReport}
 use Rattle.mxf_restore.specs.Map.{IsMap, MapParts}
+use Rattle.mxf_restore.specs.declared.map.extent.MapExtent.{MapExtent}
 use Rattle.mxf_units.specs.declared.range.UnitRange.{UnitRange}
 use Rattle.mxf_partial.specs.Orders.{IsUnitPlan, UnitPlanParts}
 use Rattle.mxf_verify.specs.Fixities.{AreVerifiedUnits, VerifiedUnitsParts}
@@ -15,7 +16,7 @@ use Rattle.mxf_lines.specs.declared.printing.Ask.{Ask}
 use Rattle.mxf_lines.specs.declared.printing.Form.{Form}
 use Rattle.mxf_lines.specs.Answering.{answer_lines, answer_status}
 use Rattle.mxf_lines.specs.Forms.{PrintedLine, lines_in}
-use Rattle.mxf_lines.specs.MapLines.{map_lines}
+use Rattle.mxf_lines.specs.MapLines.{AreToldExtents, map_lines}
 use Rattle.mxf_lines.specs.RenewalLines.{renewal_lines}
 use Rattle.mxf_lines.specs.SourceLines.{sources_lines, sources_status}
 use Rattle.mxf_lines.specs.UnitPlanLines.{asked_of, unit_plan_lines, unit_plan_status}
@@ -32,16 +33,16 @@ pub record AskedUnits : Type 0 where
 pub data Question : Type 0 where
   -- What a run is asked for, of pieces with these reports and of what is at hand.
   Answer : Ask → List PieceReport → AtHandParts → Question
-  -- A map in a number of columns and rows.
-  Map : ℕ → ℕ → AtHandParts → Question
+  -- A map in a number of columns and rows, and whether the ranges that stand alike are told.
+  Map : ℕ → ℕ → Bool → AtHandParts → Question
   -- What is to be restored for the units of a range, by the index of an IndexSID.
   UnitPlan : ℕ → UnitRange → AtHandParts → Question
   -- What sources verify of the content: all of it or some of its units, and whether all is to be verified.
   Verification : List Source → List PieceReport → Option AskedUnits → Bool → Question
   -- How the content stands beside those of the sources before it and after it, which have names.
   Sources : List (List NoteParts) → List (List NoteParts) → List (List ℕ) → Question
-  -- What the content becomes if this one was read anew.
-  Renewal : List NoteParts → Question
+  -- What the content becomes if this one was read anew, and whether that is saved.
+  Renewal : List NoteParts → Bool → Question
 
 -- Lines, and a status if the call answers one.
 pub record Printed : Type 0 where
@@ -62,9 +63,10 @@ abbrev pub IsPrinted : Question → List NoteParts → Printed → Type 0
 IsPrinted (Answer ask reports at) content printed =
     (printed.lines ≡ answer_lines ask reports at content)
     × (printed.status ≡ Some (answer_status ask reports at content))
-IsPrinted (Map columns rows at) content printed =
-    (m : MapParts) × IsMap (record { notes = content; at = at }) (columns * rows) m
-    × (printed.lines ≡ map_lines columns m) × (printed.status ≡ None)
+IsPrinted (Map columns rows with_extents at) content printed =
+    (m : MapParts) × (extents : List MapExtent) × IsMap (record { notes = content; at = at }) (columns * rows) m
+    × AreToldExtents (record { notes = content; at = at }) m.end with_extents extents
+    × (printed.lines ≡ map_lines columns m extents) × (printed.status ≡ None)
 IsPrinted (UnitPlan index range at) content printed =
     (p : UnitPlanParts) × IsUnitPlan (asked_of index range at content) p
     × (printed.lines ≡ unit_plan_lines (asked_of index range at content) p)
@@ -76,8 +78,9 @@ IsPrinted (Verification sources reports asked is_whole) content printed =
 IsPrinted (Sources before after names) content printed =
     (printed.lines ≡ sources_lines (before ++ content ∷ after) names)
     × (printed.status ≡ Some (sources_status (before ++ content ∷ after)))
-IsPrinted (Renewal new) content printed =
-    (printed.lines ≡ renewal_lines (renewed_of content new) (dropped_of content new)) × (printed.status ≡ None)
+IsPrinted (Renewal new is_saved) content printed =
+    (printed.lines ≡ renewal_lines is_saved (renewed_of content new) (dropped_of content new))
+    × (printed.status ≡ None)
 
 -- Whatever the question, what is printed of the one content has in each form the bytes of what is printed of the other,
 -- and its status.

@@ -1,16 +1,23 @@
 -- The lines of a plan for edit units (this project's profile).
-use Rattle.std.specs.Prelude.{ℕ, ◌==◌, if◌then◌else◌, List, [], ◌∷◌, ◌++◌, count_by, flat_map, is_none, length, sum_by}
+use Rattle.std.specs.Prelude.{◌≡◌, ◌≢◌, ℕ, ◌==◌, ◌&&◌, ◌||◌, Bool, not, if◌then◌else◌, Option, None, List, [], ◌∷◌, ◌++◌}
+use Rattle.std.specs.Prelude.{count_by, flat_map, is_none, length, sum_by}
+use Rattle.std.specs.List.{list_any}
+use Rattle.mxf_klv.specs.Rising.{In}
 use Rattle.mxf_klv.specs.Parts.{NoteParts}
 use Rattle.mxf_places.specs.AtHand.{AtHandParts}
+use Rattle.mxf_restore.specs.Disputes.{AreDisputes, disputes_of}
+use Rattle.mxf_restore.specs.declared.disputes.Disputes.{Disputes}
 use Rattle.mxf_units.specs.Ranges.{units_from}
 use Rattle.mxf_units.specs.Units.{UnitsParts}
 use Rattle.mxf_units.specs.declared.range.UnitRange.{UnitRange}
+use Rattle.mxf_units.specs.declared.standing.UnitStanding.TheVariants as standings
 use Rattle.mxf_units.specs.declared.unit.EditUnit.{EditUnit}
 use Rattle.mxf_partial.specs.Orders.{UnitPlanParts}
-use Rattle.mxf_partial.specs.Wanted.{WantedParts}
+use Rattle.mxf_partial.specs.Wanted.{WantedParts, notes_of, wanted_units}
 use Rattle.mxf_lines.specs.Forms.{PrintedLine}
-use Rattle.mxf_lines.specs.PlanLines.{ordered_bytes, planned_line, restore_line}
-use Rattle.mxf_lines.specs.UnitLines.{last_line, units_status}
+use Rattle.mxf_lines.specs.Lines.{lines_where}
+use Rattle.mxf_lines.specs.PlanLines.{disputes_line, ordered_bytes, planned_line, restore_line}
+use Rattle.mxf_lines.specs.UnitLines.{is_hand, is_held, last_line, units_status}
 
 -- The units of a range that are wanted of an index.
 abbrev pub wanted_of : UnitsParts → UnitRange → WantedParts
@@ -25,13 +32,36 @@ asked_of index range at content =
 abbrev pub told_units : WantedParts → List EditUnit
 told_units w = units_from w.units w.first w.count
 
--- The lines of a plan for units: of each order, of all orders, and last of the units that are asked for.
+-- Not all bytes of the unit are held or at hand.
+pub record IsOpen (u : EditUnit) : Type 0 where
+  pub not_held : u.standing ≢ standings.Held
+  pub not_hand : u.standing ≢ standings.Hand
+
+-- These are the disputes of the content, and a wanted unit is open: a dispute elsewhere is no matter of units that are
+-- there.
+pub record AreToldDisputes (w : WantedParts) (d : Disputes) : Type 0 where
+  pub disputes : AreDisputes (notes_of w) d
+  pub waiting : (u : EditUnit) × In u (wanted_units w) × IsOpen u
+
+-- The same as functions. A law ties them to the relation.
+
+abbrev pub is_open : EditUnit → Bool
+is_open u = not (is_held u.standing || is_hand u.standing)
+
+abbrev pub told_disputes : WantedParts → Option Disputes
+told_disputes w = if list_any is_open (wanted_units w) then disputes_of (notes_of w) else None
+
+-- The lines of a plan for units: of each order, of the disputes, if they are told, of all orders, and last of the units
+-- that are asked for.
 abbrev pub unit_plan_lines : WantedParts → UnitPlanParts → List PrintedLine
 unit_plan_lines w p =
     flat_map (λ o. restore_line o ∷ []) p.orders
+    ++ (lines_where (λ d. disputes_line d ∷ []) (told_disputes w)
     ++ (planned_line (length p.orders) (sum_by ordered_bytes p.orders) (count_by (λ o. is_none o.end) p.orders) p.end
-    ∷ last_line w.first (told_units w) ∷ [])
+    ∷ last_line w.first (told_units w) ∷ []))
 
--- 0 if there is nothing to restore and each unit that is asked for is held or at hand, otherwise 1.
+-- 0 if there is nothing to restore, no disputes are told, and each unit that is asked for is held or at hand, otherwise
+-- 1.
 abbrev pub unit_plan_status : WantedParts → UnitPlanParts → ℕ
-unit_plan_status w p = if length p.orders == 0 then units_status (told_units w) else 1
+unit_plan_status w p =
+    if length p.orders == 0 && is_none (told_disputes w) then units_status (told_units w) else 1

@@ -1,6 +1,7 @@
 //! Printing what a run is asked for.
 ghost use Rattle.std.specs.Prelude.{◌≡◌, ◌↔◌, IfOk, Err};
 ghost use Rattle.mxf_klv.specs.Written.{Puts, Writes};
+ghost use Rattle.mxf_restore.specs.Disputes.{disputes_of};
 ghost use Rattle.mxf_restore.specs.Plan.{plan_of};
 ghost use Rattle.mxf_lines.specs.Answering.{Answers, IsBadAsk, answer_lines, answer_status, asked_units, plan_status};
 ghost use Rattle.mxf_lines.specs.PlanLines.{plan_lines};
@@ -32,16 +33,17 @@ pub use map::{Grid, print_map};
 use mxf_klv::{OutOfMemory, WriteFault};
 use mxf_places::AtHand;
 use mxf_read::Gathered;
-use mxf_restore::Plan;
+use mxf_restore::{Disputes, Plan};
 use mxf_units::{UnitRange, Units};
 use mxf_views::{Place, Views};
+use plan::PlanWithDisputes;
 pub use renewal::print_renewed;
 pub use sources::print_sources;
 use std::alloc::Global;
 use std::io::Write;
 pub use strings::escaped_text_is_given_back;
 use thiserror::Error;
-pub use unit_plan::print_unit_plan;
+pub use unit_plan::{print_unit_plan, told_disputes_by_definition};
 use units::print_units;
 pub use verification::{
     Verified, print_verification, verified_status_by_definition, whole_status_by_packets,
@@ -96,8 +98,9 @@ pub enum Ask {
 }
 
 /// Prints the lines that are asked for, in a form. The answer is 1 if a check finds something, or a piece doesn't end
-/// with a packet, if an edit unit has no place or more than one, if there is something to restore, or if not
-/// all bytes of the units are held or at hand; otherwise it is 0. Only a plan and units depend on what is at hand.
+/// with a packet, if an edit unit has no place or more than one, if a plan finds something to restore or a packet is
+/// disputed, or if not all bytes of the units are held or at hand; otherwise it is 0. Only a plan and units depend on
+/// what is at hand.
 ///
 /// The unit is tested first: above 9,223,372,036,854,775,807 it is a `BadUnit`. Out of memory, some whole lines
 /// have been written; after a write fault the first bytes, which it counts.
@@ -155,7 +158,7 @@ fn print_asked<W: Write>(
     }
 }
 
-/// Prints what to restore next, and answers 1 if there is something, otherwise 0.
+/// Prints what to restore next, and answers 1 if there is something, or a packet is disputed, otherwise 0.
 fn print_plan<W: Write>(
     printer: &mut Printer,
     writer: &mut W,
@@ -164,12 +167,18 @@ fn print_plan<W: Write>(
 ) -> Result<u8, AnswerFault>
     ensures lines { Prints printer.old.fields.form
         (Puts W.contents writer.old writer.new printer.old.progress printer.new.progress)
-        result (plan_lines (plan_of at_hand.now views.now)) }
-    ensures status { IfOk result (λ status. status ≡ plan_status (plan_of at_hand.now views.now)) }
+        result (plan_lines (disputes_of views.now) (plan_of at_hand.now views.now)) }
+    ensures status { IfOk result (λ status. status
+        ≡ plan_status (disputes_of views.now) (plan_of at_hand.now views.now)) }
 {
     let plan = Plan::of(printer.alloc(), views, at_hand)?;
-    let status = u8::from(!plan.orders().is_empty());
-    print_with_status(printer, writer, &plan, status)
+    let disputes = Disputes::of(views.catalogue());
+    let status = u8::from(!(plan.orders().is_empty() && disputes.is_none()));
+    let lines = PlanWithDisputes {
+        plan: &plan,
+        disputes,
+    };
+    print_with_status(printer, writer, lines, status)
 }
 
 /// Prints the units of a range, by the index of an IndexSID.

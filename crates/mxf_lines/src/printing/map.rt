@@ -1,15 +1,19 @@
 //! What is held of a file, as a picture, and its lines.
-ghost use Rattle.std.specs.Prelude.{◌≡◌, ◌+◌, ◌-◌, ◌*◌, ◌/◌, ◌^◌, ◌<◌, ◌≤◌, ◌∷◌, ℕ, Some, decimal, flat_map, length};
+ghost use Rattle.std.specs.Prelude.{◌≡◌, ◌+◌, ◌-◌, ◌*◌, ◌/◌, ◌^◌, ◌<◌, ◌≤◌, ◌∷◌, ℕ, List, Some, decimal, flat_map};
+ghost use Rattle.std.specs.Prelude.{length};
 ghost use Rattle.std.specs.Prelude.{IfNone, IfOk, IfSome, ◌⊎◌};
 ghost use Rattle.mxf_klv.specs.Written.{Writes};
 ghost use Rattle.mxf_restore.specs.Map.{IsMap, MapParts};
-ghost use Rattle.mxf_lines.specs.MapLines.{map_line, map_lines, mark_text, row_line, row_width, rows_of, share_text};
+ghost use Rattle.mxf_restore.specs.declared.map.extent.MapExtent.{MapExtent};
+ghost use Rattle.mxf_lines.specs.MapLines.{AreToldExtents, extent_line, map_line, map_lines, mark_text, row_line};
+ghost use Rattle.mxf_lines.specs.MapLines.{row_width, rows_of, share_text};
 ghost use Rattle.mxf_lines.specs.Printing.{Prints};
 
 use super::lines::{Each, FieldWriter, Line, Lines, Printer, Series, Then};
 use super::{AnswerFault, Form};
+use mxf_klv::OutOfMemory;
 use mxf_places::AtHand;
-use mxf_restore::{Map, Mark};
+use mxf_restore::{Map, MapExtent, Mark, extents};
 use mxf_views::Views;
 use std::alloc::{AllocError, Global};
 use std::fmt;
@@ -70,20 +74,25 @@ impl Grid {
     }
 }
 
-/// A map in rows of this number of cells.
+/// A map in rows of this number of cells, and ranges of its bytes.
 #[derive(Drop)]
 struct Picture<'a> {
     map: &'a Map,
     columns: u32,
+    extents: &'a [MapExtent],
 
     ghost some: { 1 ≤ columns },
 }
 
 impl<'a> Lines for Picture<'a> {
-    ghost lines = { λ p. map_lines p.columns p.map.now };
+    ghost lines = { λ p. map_lines p.columns p.map.now p.extents.now };
 
     fn print_to<W: Write>(self, printer: &mut Printer, writer: &mut W) -> Result<(), AnswerFault> {
-        let Picture { map, columns } = self;
+        let Picture {
+            map,
+            columns,
+            extents,
+        } = self;
         let columns = columns as usize;
         let rows = Rows {
             left: map.marks(),
@@ -92,11 +101,12 @@ impl<'a> Lines for Picture<'a> {
             cell: map.cell(),
             width: row_width(columns, map.cell(), map.marks().len()),
         };
-        Then(MapLine(map), Each(rows)).print_to(printer, writer)
+        Then(MapLine(map), Then(Each(rows), Each(extents))).print_to(printer, writer)
     }
 }
 
-/// Prints what is held of the file of the views, and what is at hand beside that, as a picture, in a form.
+/// Prints what is held of the file of the views, and what is at hand beside that, as a picture, in a form; and if they
+/// are asked for, the ranges of bytes that stand alike.
 ///
 /// Out of memory, some whole lines have been written; after a write fault the first bytes, which it counts.
 pub fn print_map<W: Write>(
@@ -104,33 +114,78 @@ pub fn print_map<W: Write>(
     views: &Views,
     at_hand: &AtHand,
     grid: Grid,
+    with_extents: bool,
     form: Form,
     writer: &mut W,
 ) -> Result<(), AnswerFault>
-    ensures lines { (m : MapParts)
+    ensures lines { (m : MapParts) (extents : List MapExtent)
         → IsMap (record { notes = views.now; at = at_hand.now }) (grid.columns * grid.rows) m
-        → Prints form (Writes (W.contents writer.old) (W.contents writer.new)) result (map_lines grid.columns m) }
-    ensures some { IfOk result (λ _. (m : MapParts)
-        × IsMap (record { notes = views.now; at = at_hand.now }) (grid.columns * grid.rows) m) }
+        → AreToldExtents (record { notes = views.now; at = at_hand.now }) m.end with_extents extents
+        → Prints form (Writes (W.contents writer.old) (W.contents writer.new)) result
+        (map_lines grid.columns m extents) }
+    ensures some { IfOk result (λ _. (m : MapParts) × (extents : List MapExtent)
+        × IsMap (record { notes = views.now; at = at_hand.now }) (grid.columns * grid.rows) m
+        × AreToldExtents (record { notes = views.now; at = at_hand.now }) m.end with_extents extents) }
 {
     let cells = u64::from(grid.columns) * u64::from(grid.rows);
     let map = Map::of(alloc, views, at_hand, cells)?;
-    print_picture(alloc, &map, grid.columns, form, writer)
+    let extents = told_extents(alloc, views, at_hand, map.end(), with_extents)?;
+    print_picture(alloc, &map, &extents, grid.columns, form, writer)
 }
 
-/// Prints a map in rows of this number of cells.
+/// The ranges of bytes below the end of a map, in bytes, that stand alike, if they are asked for.
+fn told_extents(
+    alloc: Global,
+    views: &Views,
+    at_hand: &AtHand,
+    end: u64,
+    with_extents: bool,
+) -> Result<Vec<MapExtent>, OutOfMemory>
+    ensures { IfOk result (λ v.
+        AreToldExtents (record { notes = views.now; at = at_hand.now }) end with_extents v.items) }
+{
+    if with_extents {
+        extents(alloc, views, at_hand, end)
+    } else {
+        Ok(Vec::new(alloc))
+    }
+}
+
+/// Prints a map in rows of this number of cells, and ranges of its bytes.
 fn print_picture<W: Write>(
     alloc: Global,
     map: &Map,
+    extents: &[MapExtent],
     columns: u32,
     form: Form,
     writer: &mut W,
 ) -> Result<(), AnswerFault>
     requires { 1 ≤ columns }
-    ensures { Prints form (Writes (W.contents writer.old) (W.contents writer.new)) result (map_lines columns map.now) }
+    ensures { Prints form (Writes (W.contents writer.old) (W.contents writer.new)) result
+        (map_lines columns map.now extents.now) }
 {
     let mut printer = Printer::new(alloc, form);
-    Picture { map, columns }.print_to(&mut printer, writer)
+    let picture = Picture {
+        map,
+        columns,
+        extents,
+    };
+    picture.print_to(&mut printer, writer)
+}
+
+/// A range of bytes that stand alike: where it begins and ends, in bytes, how they stand, and how many they are.
+impl Line for MapExtent {
+    ghost line = { extent_line };
+
+    #[tactic(auto, unfolding(crate::specs::MapLines::extent_line))]
+    fn write_fields(&self, fields: &mut FieldWriter) -> Result<(), AllocError> {
+        fields.begin("extent", "extent")?;
+        fields.number(" ", "start", self.start)?;
+        fields.number(" ", "end", self.end)?;
+        fields.word(" ", "standing", self.standing)?;
+        fields.number_member("length", self.end.saturating_sub(self.start))?;
+        fields.end("")
+    }
 }
 
 /// Where the map ends, how many bytes are held, how many others are at hand, how many are neither, how much is either,

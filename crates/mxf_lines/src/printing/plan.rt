@@ -1,11 +1,11 @@
 //! What to restore next, and its lines.
 ghost use Rattle.std.specs.Prelude.{◌≡◌, ◌<◌, ◌^◌, count_by, is_none, length, sum_by};
-ghost use Rattle.mxf_lines.specs.PlanLines.{disputed_place_line, order_length, ordered_bytes, plan_lines, planned_line};
-ghost use Rattle.mxf_lines.specs.PlanLines.{restore_line};
+ghost use Rattle.mxf_lines.specs.PlanLines.{disputed_place_line, disputes_line, order_length, ordered_bytes};
+ghost use Rattle.mxf_lines.specs.PlanLines.{plan_lines, planned_line, restore_line};
 
 use super::AnswerFault;
 use super::lines::{Each, FieldWriter, Line, Lines, Printer, Then};
-use mxf_restore::{DisputedPlace, Order, Plan};
+use mxf_restore::{DisputedPlace, Disputes, Order, Plan};
 use std::alloc::AllocError;
 use std::io::Write;
 
@@ -45,6 +45,20 @@ impl Line for DisputedPlace {
         fields.number(" ", "offset", self.place)?;
         fields.word(" ", "reason", self.reason)?;
         fields.known(" ", "source", "-", self.source)?;
+        fields.end("")
+    }
+}
+
+/// How many packets are disputed, their least offset, and the greatest end of what is held of one, in bytes.
+impl Line for Disputes {
+    ghost line = { disputes_line };
+
+    #[tactic(auto, unfolding(crate::specs::PlanLines::disputes_line))]
+    fn write_fields(&self, fields: &mut FieldWriter) -> Result<(), AllocError> {
+        fields.begin("disputes", "disputes")?;
+        fields.number(" ", "notes", self.notes)?;
+        fields.number(" ", "start", self.start)?;
+        fields.number(" ", "end", self.end)?;
         fields.end("")
     }
 }
@@ -100,15 +114,23 @@ fn count_unended(orders: &[Order]) -> usize
     orders.iter().filter(|order| order.end.is_none()).count()
 }
 
-/// A line for each order, for each disputed place, and the last.
-impl<'a> Lines for &'a Plan {
-    ghost lines = { λ p. plan_lines p.now };
+/// A plan, and the disputed packets of what it is of: a line for each order, for each disputed place, one for the
+/// disputes, if there are some, and the last.
+#[derive(Drop)]
+pub struct PlanWithDisputes<'a> {
+    pub plan: &'a Plan,
+    pub disputes: Option<Disputes>,
+}
+
+impl<'a> Lines for PlanWithDisputes<'a> {
+    ghost lines = { λ p. plan_lines p.disputes p.plan.now };
 
     fn print_to<W: Write>(self, printer: &mut Printer, writer: &mut W) -> Result<(), AnswerFault> {
-        let orders = self.orders();
-        let end = self.end();
+        let PlanWithDisputes { plan, disputes } = self;
+        let orders = plan.orders();
+        let end = plan.end();
         let last = PlannedLine { orders, end };
-        let disputed_places = Then(Each(self.disputed_places()), last);
+        let disputed_places = Then(Each(plan.disputed_places()), Then(disputes, last));
         Then(Each(orders), disputed_places).print_to(printer, writer)
     }
 }

@@ -1,9 +1,14 @@
 //! What to restore for edit units, and its lines.
-ghost use Rattle.std.specs.Prelude.{◌≡◌, ◌==◌, ◌+◌, ◌≤◌, if◌then◌else◌, IfOk, length};
+ghost use Rattle.std.specs.Prelude.{◌≡◌, ◌↔◌, ◌==◌, ◌+◌, ◌≤◌, ◌&&◌, if◌then◌else◌, IfOk, Some, is_none, length};
+ghost use Rattle.std.specs.List.{list_any};
 ghost use Rattle.mxf_klv.specs.Written.{Puts, Writes};
+ghost use Rattle.mxf_restore.specs.declared.disputes.Disputes.{Disputes};
+ghost use Rattle.mxf_units.specs.Ranges.{units_with_keys};
 ghost use Rattle.mxf_partial.specs.Orders.{IsUnitPlan, UnitPlanParts};
+ghost use Rattle.mxf_partial.specs.Wanted.{WantedParts};
 ghost use Rattle.mxf_lines.specs.Printing.{Prints};
-ghost use Rattle.mxf_lines.specs.UnitPlanLines.{asked_of, unit_plan_lines, unit_plan_status, wanted_of};
+ghost use Rattle.mxf_lines.specs.UnitPlanLines.{AreToldDisputes, asked_of, is_open, told_disputes, unit_plan_lines};
+ghost use Rattle.mxf_lines.specs.UnitPlanLines.{unit_plan_status, wanted_of};
 
 use super::lines::{Each, Printer, Then, print_with_status};
 use super::plan::PlannedLine;
@@ -11,15 +16,15 @@ use super::units::UnitsLine;
 use super::{AnswerFault, Form};
 use mxf_partial::UnitPlan;
 use mxf_places::AtHand;
-use mxf_restore::Order;
-use mxf_units::{UnitRange, Units};
+use mxf_restore::{Disputes, Order};
+use mxf_units::{EditUnit, UnitRange, UnitStanding, Units, UnitsLeft};
 use mxf_views::Views;
 use std::alloc::Global;
 use std::io::Write;
 
 /// Prints what to restore so that the edit units of a range can be cut out of the file and decoded, by the index of an
 /// IndexSID, in a form. The answer is 0 if nothing is to be restored and all bytes of each of these units are held or
-/// at hand, otherwise 1.
+/// at hand, and of each before them that they need if a packet is disputed; otherwise 1.
 ///
 /// Out of memory, some whole lines have been written; after a write fault the first bytes, which it counts.
 pub fn print_unit_plan<W: Write>(
@@ -60,7 +65,8 @@ fn print_planned<W: Write>(
     print_plan_lines(&mut printer, writer, units, range, plan)
 }
 
-/// Prints the orders of a plan, how many there are, and how the units stand.
+/// Prints the orders of a plan, the disputed packets if units wait for bytes, how many orders there are, and how the
+/// units stand.
 fn print_plan_lines<W: Write>(
     printer: &mut Printer,
     writer: &mut W,
@@ -74,16 +80,58 @@ fn print_plan_lines<W: Write>(
     ensures status { IfOk result (λ status. status ≡ unit_plan_status (wanted_of units.now range) plan.now) }
 {
     let last = UnitsLine::of(units, range);
+    let disputes = told_disputes(units, range);
     let orders = plan.orders();
     let end = plan.end();
-    let lines = Then(Each(orders), Then(PlannedLine { orders, end }, last));
-    print_with_status(printer, writer, lines, status_of(orders, last))
+    let planned = Then(PlannedLine { orders, end }, last);
+    let lines = Then(Each(orders), Then(disputes, planned));
+    print_with_status(printer, writer, lines, status_of(orders, disputes, last))
 }
 
-/// 0 if there is no order and each unit is held or at hand, otherwise 1.
-fn status_of(orders: &[Order], units: UnitsLine) -> u8
-    requires { units.held + units.hand ≤ units.units }
-    ensures { result ≡ if length orders.now == 0 then (if units.held + units.hand == units.units then 0 else 1) else 1 }
+/// The disputed packets, unless all bytes of each wanted unit are held or at hand.
+fn told_disputes(units: &Units<'_>, range: UnitRange) -> Option<Disputes>
+    ensures { result ≡ told_disputes (wanted_of units.now range) }
 {
-    if orders.is_empty() { units.status() } else { 1 }
+    if !is_any_open(units, range) {
+        return None;
+    }
+    Disputes::of(units.holdings().views().catalogue())
 }
+
+/// Whether a unit of a range, or one before it that it needs, isn't held or at hand whole.
+fn is_any_open(units: &Units<'_>, range: UnitRange) -> bool
+    ensures { result ≡ list_any is_open (units_with_keys units.now range.first range.count) }
+{
+    for unit in UnitsLeft::with_keys(units, range) {
+        if is_open(&unit) {
+            return true;
+        }
+    }
+    false
+}
+
+/// Whether not all bytes of a unit are held or at hand.
+fn is_open(unit: &EditUnit) -> bool
+    ensures { result ≡ is_open unit.now }
+{
+    !matches!(unit.standing, UnitStanding::Held | UnitStanding::Hand)
+}
+
+/// 0 if there is no order, no disputes are told, and each unit is held or at hand, otherwise 1.
+fn status_of(orders: &[Order], disputes: Option<Disputes>, units: UnitsLine) -> u8
+    requires { units.held + units.hand ≤ units.units }
+    ensures { result ≡ if length orders.now == 0 && is_none disputes
+        then (if units.held + units.hand == units.units then 0 else 1) else 1 }
+{
+    if orders.is_empty() && disputes.is_none() {
+        units.status()
+    } else {
+        1
+    }
+}
+
+/// A law of [`print_unit_plan`]: the disputes that are told are those of the content, and they are told exactly if a
+/// wanted unit isn't held or at hand whole.
+pub fn told_disputes_by_definition()
+    ensures { (w : WantedParts) (d : Disputes) → (told_disputes w ≡ Some d) ↔ AreToldDisputes w d }
+{}

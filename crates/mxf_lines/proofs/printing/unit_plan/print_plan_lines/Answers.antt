@@ -1,8 +1,10 @@
-use Rattle.std.proofs.Common.{◌≡◌, ◌∙◌, ◌==◌, ◌+◌, ◌++◌, ◌∷◌, [], ℕ, IfOk, count_by, flat_map, if◌then◌else◌, is_none}
+use Rattle.std.proofs.Common.{◌≡◌, ◌∙◌, ◌==◌, ◌+◌, ◌++◌, ◌&&◌, ◌∷◌, [], ℕ, IfOk, count_by, flat_map, if◌then◌else◌, is_none}
 use Rattle.std.proofs.Common.{length, subst, sum_by, sym}
 use Rattle.mxf_klv.specs.Written.{Puts}
+use Rattle.mxf_restore.specs.declared.disputes.Disputes.{Disputes}
 use Rattle.mxf_restore.specs.declared.plan.Order.{Order}
-use Rattle.mxf_lines.specs.PlanLines.{ordered_bytes, planned_line, restore_line}
+use Rattle.mxf_lines.specs.Lines.{lines_where}
+use Rattle.mxf_lines.specs.PlanLines.{disputes_line, ordered_bytes, planned_line, restore_line}
 use Rattle.mxf_lines.specs.Printing.{Prints}
 use Rattle.mxf_lines.specs.UnitLines.{units_line}
 use Rattle.mxf_lines.specs.UnitPlanLines.{told_units, unit_plan_lines, unit_plan_status, wanted_of}
@@ -18,13 +20,16 @@ returns-clause-lines g c =
     let many : last.units ≡ length us = told.units ∙ sym (units_length w.units w.first w.count) in
     let orders = c.orders-orders.ensures in
     let end = c.end-end.ensures in
+    let disputes = c.told_disputes-disputes.ensures in
     let same : flat_map (λ (o : Order). restore_line o ∷ []) c.orders-orders.result.now
+    ++ (lines_where (λ (d : Disputes). disputes_line d ∷ []) c.told_disputes-disputes.result
     ++ (planned_line (length c.orders-orders.result.now) (sum_by ordered_bytes c.orders-orders.result.now)
     (count_by (λ (o : Order). is_none o.end) c.orders-orders.result.now) c.end-end.result
-    ∷ units_line last.units last.held last.hand last.from ∷ []) ≡ unit_plan_lines w c.args.plan.now = λ i.
+    ∷ units_line last.units last.held last.hand last.from ∷ [])) ≡ unit_plan_lines w c.args.plan.now = λ i.
     flat_map (λ (o : Order). restore_line o ∷ []) (orders i)
+    ++ (lines_where (λ (d : Disputes). disputes_line d ∷ []) (disputes i)
     ++ (planned_line (length (orders i)) (sum_by ordered_bytes (orders i)) (count_by (λ (o : Order). is_none o.end) (orders i))
-    (end i) ∷ units_line (many i) (told.held i) (told.hand i) (told.from i) ∷ []) in
+    (end i) ∷ units_line (many i) (told.held i) (told.hand i) (told.from i) ∷ [])) in
     subst (Prints c.args.printer.now.fields.form (Puts {X = Unit {0}} g.W.Write.contents c.args.writer.now
     c.print_with_status.new.writer c.args.printer.now.progress c.print_with_status.new.printer.progress)
     c.print_with_status.result) same c.print_with_status.ensures.lines
@@ -37,6 +42,7 @@ returns-clause-status g c =
     let told = c.of-last.ensures in
     let many : last.units ≡ length us = told.units ∙ sym (units_length w.units w.first w.count) in
     let orders = c.orders-orders.ensures in
+    let disputes = c.told_disputes-disputes.ensures in
     let same : c.status_of.result ≡ unit_plan_status w c.args.plan.now = c.status_of.ensures
-    ∙ (λ i. if length (orders i) == 0 then (if told.held i + told.hand i == many i then 0 else 1) else 1) in
+    ∙ (λ i. if length (orders i) == 0 && is_none (disputes i) then (if told.held i + told.hand i == many i then 0 else 1) else 1) in
     subst (λ (k : ℕ). IfOk c.print_with_status.result (λ (s : ℕ). s ≡ k)) same c.print_with_status.ensures.status

@@ -1,7 +1,7 @@
 use Rattle.std.proofs.Common.{refl, subst}
 use Rattle.mxf_klv.specs.Written.{Puts}
 use Rattle.mxf_lines.specs.Printing.{Prints}
-use Rattle.mxf_lines.proofs.printing.plan.RefPlanLines.print_to.Goals as goal
+use Rattle.mxf_lines.proofs.printing.plan.PlanWithDisputesLines.print_to.Goals as goal
 
 pub returns-clause-lines : goal.returns-clause-lines
 returns-clause-lines g c =
