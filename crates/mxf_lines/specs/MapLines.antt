@@ -1,5 +1,6 @@
 -- The lines of a map (this project's profile).
-use Rattle.std.specs.Prelude.{◌≡◌, ℕ, Bool, true, false, zero, suc, ◌+◌, ◌-◌, ◌*◌, ◌/◌, ◌%◌, List, [], ◌∷◌, ◌++◌, codes, decimal, drop, length}
+use Rattle.std.specs.Prelude.{◌≡◌, ℕ, Bool, true, false, zero, suc, ◌+◌, ◌-◌, ◌*◌, ◌/◌, ◌%◌, List, [], ◌∷◌, ◌++◌, codes}
+use Rattle.std.specs.Prelude.{decimal, drop, length}
 use Rattle.std.specs.Prelude.{flat_map, take}
 use Rattle.std.specs.List.{repeat}
 use Rattle.mxf_places.specs.AtHand.{KnownParts}
@@ -66,8 +67,8 @@ row_width columns cell count = length (decimal ((count - 1 - (count - 1) % colum
 -- The line of a range that stands alike: where it begins and ends, how it stands, and in JSON how many bytes it has.
 unfoldable pub extent_line : MapExtent → PrintedLine
 extent_line e =
-    line "extent" (number " " "start" e.start ∷ number " " "end" e.end ∷ word " " "standing" (byte_standing_name e.standing)
-    ∷ number_member "length" (e.end - e.start) ∷ [])
+    line "extent" (number " " "start" e.start ∷ number " " "end" e.end
+    ∷ word " " "standing" (byte_standing_name e.standing) ∷ number_member "length" (e.end - e.start) ∷ [])
 
 -- The ranges that are told of the bytes below an end: all maximal ones that stand alike, or none if they aren't asked
 -- for.

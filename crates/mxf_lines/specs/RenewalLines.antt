@@ -18,8 +18,8 @@ abbrev pub renewed_words : Bool → List ℕ
 renewed_words true = codes "renewed"
 renewed_words false = codes "not renewed"
 
--- The last line: whether the content is saved, the number of its notes, how many of them are disputed, and how many were
--- dropped.
+-- The last line: whether the content is saved, the number of its notes, how many of them are disputed, and how many
+-- were dropped.
 unfoldable pub renewed_line : Bool → ℕ → ℕ → ℕ → PrintedLine
 renewed_line is_saved notes disputed dropped =
     line_of (renewed_name is_saved) (renewed_words is_saved) (number " " "notes" notes

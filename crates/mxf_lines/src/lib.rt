@@ -4,7 +4,8 @@
 //! What is proved: [`answer`] writes exactly the lines that are asked for, and nothing else; after a failed write the
 //! first bytes of them, which it counts, and out of memory some whole lines. Its status says whether a check
 //! found something, and whether an edit unit has one place; that of [`print_verification`], whether what is asked for
-//! was verified; that of [`print_unit_plan`], whether edit units need anything more. A line is its name and its fields,
+//! was verified; that of [`print_unit_plan`], whether edit units need anything more, or wait for bytes beside disputed
+//! packets ([`told_disputes_by_definition`]). A line is its name and its fields,
 //! of which text and JSON are two printings, and a reader of JSON takes each text as it is
 //! ([`escaped_text_is_given_back`]). Two runs that were handed the same print the same ([`one_run_one_print`]).
 //!
@@ -26,5 +27,5 @@ pub use one_run::one_run_one_print;
 pub use printing::{
     AnswerFault, Ask, Form, Grid, Searched, Verified, answer, escaped_text_is_given_back, hex_text,
     print_found, print_map, print_renewed, print_sources, print_unit_plan, print_verification,
-    verified_status_by_definition, whole_status_by_packets,
+    told_disputes_by_definition, verified_status_by_definition, whole_status_by_packets,
 };
