@@ -25,8 +25,8 @@ renewed_line is_saved notes disputed dropped =
     line_of (renewed_name is_saved) (renewed_words is_saved) (number " " "notes" notes
     ∷ number " notes " "disputed" disputed ∷ number " disputed " "dropped" dropped ∷ []) (codes " dropped")
 
--- The lines of a renewed content, which is saved or isn't, and of the notes that were dropped: of each of these, and the
--- last.
+-- The lines of a renewed content, which is saved or isn't, and of the notes that were dropped: of each of these, and
+-- the last.
 abbrev pub renewal_lines : Bool → List NoteParts → List NoteParts → List PrintedLine
 renewal_lines is_saved content dropped =
     flat_map (λ n. dropped_line n ∷ []) dropped
