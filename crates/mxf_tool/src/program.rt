@@ -42,7 +42,8 @@ use mxf_lines::{
 };
 use mxf_places::AtHand;
 use mxf_read::{
-    Extent, GatherFault, Gathered, Given, Part, PartFault, PieceReport, SourceFault, gather,
+    Extent, GatherFault, Gathered, Given, Part, PartFault, PieceReport, PieceReports, SourceFault,
+    gather,
 };
 use mxf_units::UnitRange;
 use mxf_verify::{Readings, Renewed};
@@ -415,22 +416,33 @@ pub struct Held {
     pub extents: Vec<Extent>,
 }
 
-/// The same, with the stops of pieces that what is held makes up for as ends, if one of the sources is a range.
+/// The same, with the stops of pieces as ends that what is held makes up for.
 fn settled(held: Held, sources: &[Source<'_>]) -> Held {
-    if !has_range(sources) {
-        return held;
-    }
     let Held {
         gathered,
         at_hand,
         extents,
     } = held;
     let Gathered { views, reports } = gathered;
-    let reports = settle(&views, &extents, reports);
+    let reports = settled_reports(&views, &extents, reports, sources);
     Held {
         gathered: Gathered { views, reports },
         at_hand,
         extents,
+    }
+}
+
+/// The reports of pieces, with the stops as ends that what is held makes up for, if one of the sources is a range.
+fn settled_reports(
+    views: &Views,
+    extents: &[Extent],
+    reports: PieceReports,
+    sources: &[Source<'_>],
+) -> PieceReports {
+    if has_range(sources) {
+        settle(views, extents, reports)
+    } else {
+        reports
     }
 }
 

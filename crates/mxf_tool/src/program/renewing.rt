@@ -6,8 +6,8 @@ use super::fault::RunFault;
 use super::offsets::{is_contradicted, tell_offsets};
 use super::telling::tell_on_screen;
 use super::{
-    Held, Inputs, Opened, Printed, System, allow_output, completed, has_range, hold_opened,
-    open_sources, print_answer, settled, told, ungathered, unsaved,
+    Held, Inputs, Opened, Printed, System, allow_output, completed, hold_opened, open_sources,
+    print_answer, settled, settled_reports, told, ungathered, unsaved,
 };
 use crate::command_line::{Renewing, Saving};
 use crate::contents::{Contents, gather_each};
@@ -17,7 +17,7 @@ use crate::shift::Shift;
 use crate::source::Source;
 use crate::system_fault::LastFault;
 use mxf_catalogue::Catalogue;
-use mxf_hand::{PutTogether, settle};
+use mxf_hand::PutTogether;
 use mxf_klv::OutOfMemory;
 use mxf_read::{Extent, PieceReport, PieceReports};
 use mxf_verify::{Renewed, joined, renew};
@@ -182,12 +182,7 @@ fn later_of<'r, 'a, R: System>(
     };
     drop(contents);
     let PutTogether { views, .. } = completed(rt, views, &extents, sources, last)?;
-    let reports = PieceReports::of(reports);
-    let reports = if has_range(sources) {
-        settle(&views, &extents, reports)
-    } else {
-        reports
-    };
+    let reports = settled_reports(&views, &extents, PieceReports::of(reports), sources);
     Ok(Later {
         views,
         reports,
