@@ -26,8 +26,8 @@ A case is some lines of a text file in tests/cases. A number sign begins a comme
     show [WORD ..]                     what `show` prints, or those of its lines that begin with one of the words
         LINE
     check                              what `check` prints; `locate INDEX UNIT`, `units FROM TO [INDEX]`,
-                                       `plan [INDEX FROM TO]`, `map COLUMNS ROWS` and `join` stand so too. A word `-`
-                                       is left out
+                                       `plan [INDEX FROM TO]`, `map [extents] COLUMNS ROWS` and `join` stand so too. A
+                                       word `-` is left out
         LINE
     verify [whole] [INDEX FROM TO]     what `verify` prints against the pieces of the reference, with `--whole` where
         LINE                           that stands there, and with the units of an index
@@ -67,6 +67,8 @@ OPTIONS = {
     "map": ("--columns", "--rows"),
     "verify": ("--index", "--from", "--to"),
 }
+# The option of a command that takes no value: its word in a case is the option's without the dashes.
+FLAGS = {"verify": "whole", "map": "extents"}
 # What is said of bytes at hand too, which a saved catalogue hasn't.
 OF_BYTES = ("plan", "map", "units")
 NAME = re.compile(r'\{"line":"([^"]*)"')
@@ -99,7 +101,7 @@ class Command:
         self.form = ["--json"] if is_json else []
         self.chosen = words[1:] if self.name == "show" else []
         options = OPTIONS.get(self.name, ())
-        flags = ["--whole"] if self.name == "verify" and "whole" in words else []
+        flags = [f"--{word}" for word in words[1:2] if word == FLAGS.get(self.name)]
         given = [pair for pair in zip(options, words[1 + len(flags) :]) if pair[1] != "-"]
         self.arguments = flags + [text for pair in given for text in pair]
         self.lines = []

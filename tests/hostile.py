@@ -35,7 +35,7 @@ import tempfile
 import time
 
 import notes
-from hostile_files import MANY, SHAPES, TOP, differing_ranges, heads_over_bytes, listed_units, named_partitions, pieces_of
+from hostile_files import MANY, SHAPES, TOP, differing_ranges, heads_over_bytes, listed_units, moved_packets, named_partitions, pieces_of
 from hostile_runs import Run, Wrong, finds, is_shown, read_source, try_file, try_number, without_kind
 
 # The greatest ratio of two times, one of twice as many: n log n at these sizes is below 2.2, a square is 4.
@@ -149,6 +149,8 @@ def seconds_of(run, shape, sources, size):
         asked.update(units=["--index", "1"], plan=["--index", "1"])
     if shape in (differing_ranges, heads_over_bytes):
         asked.update(plan=[], map=[])
+    if shape is moved_packets:
+        asked = {"find": ["--in", sources[0]]}
     return {name: run.call_once((0, 1), size, name, *words, *sources)[1] for name, words in asked.items()}
 
 

@@ -364,6 +364,14 @@ def named_one_by_one(rng, many=None):
     return [(RangeOffset(0), b"".join(packs).ljust(end, b"\0") + rip)]
 
 
+def moved_packets(rng, many):
+    """Packets of a value each, as many of one and the same value among them, and the same ones in another order, so that
+    each is moved by another number of bytes."""
+    lines = [f"essence value={number:08x}" for number in range(many)] + ["essence value=00*4"] * many
+    moved = rng.sample(lines, len(lines))
+    return [(0, laid(lines)), (RangeOffset(0), laid(moved))]
+
+
 def mutated_bytes(rng, data):
     """The bytes with some changed, put in, taken out, or doubled; mostly few, so that most of the file stays."""
     data = bytearray(data)
@@ -418,5 +426,5 @@ MANY = {
     counts: 10000, items: 5000, packs_that_name: 10000, circles: 5000, zones: 5000, copies: 5000,
     random_indexes: 10000, segments_of_a_unit: 10000, listed_units: 1000, named_partitions: 20000, long_primer: 32000, long_batches: 2000, named_by_all: 2000, named_by_turns: 1000,
     disputes: 20000, many_packets: 40000, saved_heads: 10000, under_one_another: 10000, labels_that_fail: 100000,
-    differing_ranges: 10000, heads_over_bytes: 10000, named_one_by_one: 2000,
+    differing_ranges: 10000, heads_over_bytes: 10000, named_one_by_one: 2000, moved_packets: 10000,
 }  # fmt: skip

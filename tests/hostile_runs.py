@@ -14,6 +14,8 @@ import notes
 from hostile_files import RangeOffset, mutated_bytes, pieces_of
 
 MEBIBYTE = 2**20
+# What is said if no segment has the IndexSID that is asked for.
+NO_INDEX = re.compile(r"index \d+ isn't held(: (held( \d+){1,16}(; named( \d+){1,16})?|named( \d+){1,16}))?\n")
 
 
 def read_source(offset, data):
@@ -26,6 +28,22 @@ def read_source(offset, data):
         return found + heads, (offset + (notes.start_of(offset, data) or 0), len(found), stop)
     found, heads, stop = notes.read_piece(offset, data)
     return found + heads, (offset, len(found), stop)
+
+
+def stops_of(pieces, read, content):
+    """The lines of the stops of pieces and ranges that `check` prints, by what was read of each and the notes of all. If a
+    range is among them, what is held makes up for the stop of one: a whole note begins where it is cut, or each byte of
+    one without a start is held."""
+    has_ranges = any(isinstance(offset, RangeOffset) for offset, _ in pieces)
+    whole, held = {note.offset for note in content if note.is_whole}, at_hand.Ranges(notes.held_by(content))
+    for (offset, data), (_, printed) in zip(pieces, read):
+        if printed is None or printed[2] == "end":
+            continue
+        word, at = printed[2].split(" ")
+        is_cut = word == "truncated" and int(at) in whole
+        is_full = word == "no-start" and data and held.has_all(offset, offset + len(data))
+        if not (has_ranges and (is_cut or is_full)):
+            yield f"stop {printed[0]} {printed[2]}"
 
 
 def held_of(pieces):
@@ -104,6 +122,8 @@ class Run:
         self.runs += 1
         seconds = used.ru_utime + used.ru_stime
         said = err.read_text(errors="replace")
+        if words[0] in ("plan", "units", "verify") and "--index" in words:
+            said = NO_INDEX.sub("", said, count=1)
         if child.returncode not in statuses:
             raise Wrong(f"{words[0]}: status {child.returncode}: {said[:200]}")
         if (said != "") != (child.returncode == 4):
@@ -238,7 +258,7 @@ def try_pieces(run, rng, pieces):
     if run.call((0,), len(wanted), "show", f"cat:{saved}").splitlines() != shown[len(told) :]:
         raise Wrong("the saved catalogue isn't shown as its pieces are")
     checked = run.call((0, 1), size, "check", *sources).splitlines()
-    stops = [f"stop {offset} {stop}" for offset, _, stop in printed if stop != "end"]
+    stops = list(stops_of(pieces, read, content))
     if checked[: len(stops)] != stops or checked[-1] != f"findings {len(checked) - len(stops) - 1}":
         raise Wrong("the lines of a check aren't the stops, the findings and their number")
     if not finds(checked[len(stops) : -1], content):
@@ -256,11 +276,25 @@ def try_pieces(run, rng, pieces):
     beside = run.call((int(bool(notes.disputed(content))),), size, "sources", *sources).splitlines()
     if [without_kind(line) for line in beside] != list(notes.source_lines(sources, (found for found, _ in read))):
         raise Wrong("the sources beside each other aren't those of the packets")
+    try_found(run, rng, pieces, sources, read, content)
     if hand.runs:
         try_again(run, rng, pieces, wanted, rounds < at_hand.ROUNDS)
     else:
         try_other_order(run, rng, pieces, wanted)
     return content
+
+
+def try_found(run, rng, pieces, sources, read, content):
+    """Looks sources up in what was saved of all, and in one of them."""
+    one = rng.randrange(len(sources))
+    words = [f"cat:{run.folder / 'saved'}", sources[one]]
+    size = sum(len(data) for _, data in pieces) + len(pieces[one][1]) + (run.folder / "saved").stat().st_size
+    fragments = [(offset or 0, found) for (offset, _), (found, _) in zip(pieces, read)]
+    wanted = list(notes.find_lines(fragments, zip(words, (content, read[one][0]))))
+    status = int(wanted[-1] != f"fragments {len(sources)} found {len(sources)}")
+    told = run.call((status,), size, "find", "--in", words[0], "--in", words[1], *sources).splitlines()
+    if told != wanted:
+        raise Wrong("fragments aren't found as their packets say")
 
 
 def try_other_order(run, rng, pieces, wanted):

@@ -98,7 +98,8 @@ def text_of(command, text, width):
 
 def texts_of(command, lines):
     """The texts of the lines of a command."""
-    width = len(str(line_of(lines[-1]).get("offset", ""))) if lines else 0
+    rows = [line_of(text) for text in lines if text.startswith('{"line":"row",')]
+    width = len(str(rows[-1].get("offset", ""))) if rows else 0
     for text in lines:
         yield text_of(command, text, width)
 

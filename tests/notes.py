@@ -4,6 +4,7 @@ them out. Version 2 is written; version 1, of older programs, has no marks, so n
 Nothing here is taken from the program: a reader of its own says what a piece holds and why it ends, which notes are
 disputed, what lies in none, and what is at fault in the bytes of a catalogue.
 """
+import collections
 import hashlib
 import re
 from typing import NamedTuple
@@ -17,6 +18,9 @@ LONGEST_KEPT = 4_194_304
 GREATEST_END = 2**63 - 1
 # The keys that have a kind and aren't of the groups registry, whose fifth byte is 02: of fills and of essence.
 ELEMENTS = re.compile("060e2b34(010101..0301021001000000|0102....0d010301.{8})")
+FILL = re.compile("060e2b34010101..0301021001000000")
+# The recordings that `find` names of a fragment.
+MOST_RECORDINGS = 16
 # The bytes of a range that are searched for its start.
 LONGEST_WINDOW = 33_554_432
 
@@ -372,3 +376,72 @@ def verify_lines(reference, sources):
     known, all_bytes, other = (sum(end - start for start, end in ranges) for ranges in (verified, held, unknown))
     packets = f"{len(same)} of {len(reference)} packets {known} of {all_bytes} bytes"
     yield f"verified {packets} differs {len(differing)} cut {len(cut)} unknown {other}"
+
+
+def by_length(note):
+    """What two notes have in common that agree by length."""
+    return note.key, note.width, note.length
+
+
+def by_value(note):
+    """What two whole notes have in common that agree by value."""
+    return *by_length(note), note.held
+
+
+def telling(notes):
+    """The notes of these that tell by value, and those that tell by length, each by what it tells by."""
+    values = collections.Counter(by_value(note) for note in notes if note.is_whole)
+    lengths = collections.Counter(map(by_length, notes))
+    marked = disputed(notes)
+    sound = [note for at, note in enumerate(notes) if at not in marked and not FILL.fullmatch(note.key.hex())]
+    return (
+        {by_value(note): note for note in sound if note.is_whole and values[by_value(note)] == 1},
+        {by_length(note): note for note in sound if lengths[by_length(note)] == 1},
+    )
+
+
+def most_voted(fragment, recording):
+    """By how much the notes of a fragment are moved in a recording by most votes, of several numbers the least; or
+    None. Both are what tells there."""
+    votes = collections.Counter(recording[0][of].offset - note.offset for of, note in fragment[0].items() if of in recording[0])
+    for of, note in fragment[1].items():
+        other = recording[1].get(of)
+        if other and not (note.is_whole and other.is_whole):
+            votes[other.offset - note.offset] += 1
+    return min(votes, key=lambda shift: (-votes[shift], shift), default=None)
+
+
+def agreeing(fragment, recording, shift):
+    """How many notes of a fragment agree with one of a recording if they are moved so, and how many of these as heads."""
+    standing = collections.defaultdict(set)
+    for note in recording:
+        standing[note.offset, *by_length(note)].add(note.held if note.is_whole else None)
+    found = heads = 0
+    for note in fragment:
+        there = standing.get((note.offset + shift, *by_length(note)), set())
+        if note.is_whole and there - {None}:
+            found += note.held in there
+        else:
+            found, heads = found + bool(there), heads + bool(there)
+    return found, heads
+
+
+def find_lines(fragments, recordings):
+    """What `find` prints of fragments, each the offset of its bytes and its notes, and of recordings, each its word and
+    its notes."""
+    recordings = [(word, notes, telling(notes)) for word, notes in ((word, reduced(notes)) for word, notes in recordings)]
+    good = 0
+    for number, (offset, notes) in enumerate(fragments, 1):
+        notes, ranked = reduced(notes), []
+        told = telling(notes)
+        for which, (word, others, told_there) in enumerate(recordings, 1):
+            shift = most_voted(told, told_there)
+            if shift is not None:
+                found, heads = agreeing(notes, others, shift)
+                ranked.append((-found, which, f"{shift + offset} {found} of {len(notes)} heads {heads} {word}"))
+        ranked.sort()
+        yield from (f"found {number} {which} {line}" for _, which, line in ranked[:MOST_RECORDINGS])
+        if not ranked:
+            yield f"unknown {number} {len(notes)}"
+        good += [-found for found, *_ in ranked[:2]].count(len(notes)) == 1
+    yield f"fragments {len(fragments)} found {good}"
