@@ -10,15 +10,15 @@ use std::alloc::{AllocError, Global};
 pub struct Request<'m, 'a> {
     pub task: Task<'a>,
     pub form: Form,
-    pub named: Named<'m, 'a>,
+    pub named: NamedSources<'m, 'a>,
     /// The sources beside these: the earlier ones of a renewal, those of a reference, or the recordings in which
     /// fragments are looked for.
-    pub beside: Named<'m, 'a>,
+    pub beside: NamedSources<'m, 'a>,
 }
 
 /// Sources that words name, and a list after them.
 #[derive(Clone, Copy)]
-pub struct Named<'m, 'a> {
+pub struct NamedSources<'m, 'a> {
     pub words: Option<&'m [&'a str]>,
     pub list: Option<&'a str>,
 }
@@ -375,7 +375,7 @@ fn with_saving<'a>(alloc: Global, command: Command<'a>) -> Result<Command<'a>, A
 /// The command with its sources, the form of its lines, and when it prints hints.
 fn with_sources<'a>(alloc: Global, command: Command<'a>) -> Result<Command<'a>, AllocError> {
     let command = with_args(command, sources(alloc)?, list(alloc));
-    with_args(command?, json(alloc), hints(alloc))
+    with_args(command?, json(alloc), when_hinted(alloc))
 }
 
 /// The command with two arguments more.
@@ -429,7 +429,7 @@ fn json<'a>(alloc: Global) -> Arg<'a> {
 /// The words of `--hints`.
 const WHEN: &[&str] = &["auto", "always", "never"];
 
-fn hints<'a>(alloc: Global) -> Arg<'a> {
+fn when_hinted<'a>(alloc: Global) -> Arg<'a> {
     let help = "When hints follow what is printed on standard error: auto is on a terminal alone";
     option(alloc, "hints", "WHEN", help).value_parser(WHEN)
 }
@@ -559,11 +559,11 @@ pub fn request_of<'m, 'a>(
     Some(Request {
         task: task_of(name, inner, units)?,
         form: form_of(inner),
-        named: Named {
+        named: NamedSources {
             words: inner.get_strs("SRC"),
             list: inner.get_str("sources"),
         },
-        beside: Named {
+        beside: NamedSources {
             words: words_beside(inner),
             list: inner.get_str("recordings"),
         },

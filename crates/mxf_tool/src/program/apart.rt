@@ -104,7 +104,7 @@ fn tell_places<R: Eprint + AllocGlobal>(
     let cuts = cuts_of(rt.alloc(), reports, views.catalogue())?;
     for report in reports {
         if let Some(source) = sources.get(report.part) {
-            if let Some(misplaced) = misplaced(*source, report, &cuts) {
+            if let Some(misplaced) = range_beside(*source, report, &cuts) {
                 tell_on_screen(rt, &misplaced)?;
             }
         }
@@ -169,7 +169,11 @@ fn cut_of(report: &PieceReport, catalogue: &Catalogue) -> Option<Cut> {
 
 /// The range, if a packet that is cut before its first byte ends within it, and its first packet begins above that end.
 /// One that begins below disputes the packet, and isn't told here.
-fn misplaced<'a>(source: Source<'a>, report: &PieceReport, cuts: &[Cut]) -> Option<Misplaced<'a>> {
+fn range_beside<'a>(
+    source: Source<'a>,
+    report: &PieceReport,
+    cuts: &[Cut],
+) -> Option<Misplaced<'a>> {
     let (offset, _) = source.place().filter(|_| source.is_range())?;
     let begun = cuts.partition_point(|cut| cut.start < offset);
     let end = cuts[..begun].last()?.end;
@@ -180,22 +184,24 @@ fn misplaced<'a>(source: Source<'a>, report: &PieceReport, cuts: &[Cut]) -> Opti
     Some(Misplaced::Beside { source, end, first })
 }
 
+/// A source, and the identifier of the first package that it describes, in hexadecimal digits.
+#[derive(Drop)]
+struct Described<'a> {
+    source: Source<'a>,
+    package: String,
+}
+
 /// Tells that packets are disputed: since sources are of two recordings, if the packages that they describe say so.
 fn tell_disputes<R: Files + Eprint + AllocGlobal>(
     rt: &R,
     sources: &[Source<'_>],
 ) -> Result<(), AllocError> {
-    let mut known: Option<(Source<'_>, [u8; 32])> = None;
-    for source in sources {
-        let Some(uid) = package_of(rt, source) else {
-            continue;
-        };
-        match known {
-            None => known = Some((*source, uid)),
-            Some((first, other)) if other != uid => {
-                return tell_two(rt, &first, &other, source, &uid);
+    let described = describing(rt, sources)?;
+    if let Some((first, others)) = described.split_first() {
+        for other in others {
+            if other.package.as_str() != first.package.as_str() {
+                return tell_two(rt, first, other);
             }
-            Some(_) => {}
         }
     }
     tell_on_screen(
@@ -207,29 +213,34 @@ fn tell_disputes<R: Files + Eprint + AllocGlobal>(
 /// Tells that two sources describe other packages.
 fn tell_two<R: Eprint + AllocGlobal>(
     rt: &R,
-    a: &Source<'_>,
-    a_uid: &[u8; 32],
-    b: &Source<'_>,
-    b_uid: &[u8; 32],
+    one: &Described<'_>,
+    other: &Described<'_>,
 ) -> Result<(), AllocError> {
-    let a_uid = digits_of(rt.alloc(), a_uid)?;
-    let b_uid = digits_of(rt.alloc(), b_uid)?;
+    let (a, b) = (one.source, other.source);
+    let (of_a, of_b) = (one.package.as_str(), other.package.as_str());
     let line = format!(in rt.alloc();
-        "hint: these are two recordings: {a} describes the package {a_uid}, and {b} the package {b_uid}"
+        "hint: these are two recordings: {a} describes the package {of_a}, and {b} the package {of_b}"
     )?;
     tell_on_screen(rt, &line.as_str())
 }
 
-/// The hexadecimal digits of a package's identifier.
-fn digits_of(alloc: Global, uid: &[u8; 32]) -> Result<String, AllocError> {
-    match hex_text(alloc, uid) {
-        Ok(text) => Ok(text),
-        Err(_) => Err(AllocError),
+/// The sources that describe a package, in their order.
+fn describing<'a, R: Files + AllocGlobal>(
+    rt: &R,
+    sources: &[Source<'a>],
+) -> Result<Vec<Described<'a>>, AllocError> {
+    let mut described = Vec::new(rt.alloc());
+    for source in sources {
+        if let Some(package) = package_of(rt, source) {
+            let source = *source;
+            described.push(Described { source, package })?;
+        }
     }
+    Ok(described)
 }
 
-/// The identifier of the first package that a source describes, in its front or in its catalogue.
-fn package_of<R: Files + AllocGlobal>(rt: &R, source: &Source<'_>) -> Option<[u8; 32]> {
+/// The identifier of the first package that a source describes, in its front or in its catalogue; none without memory.
+fn package_of<R: Files + AllocGlobal>(rt: &R, source: &Source<'_>) -> Option<String> {
     let views = views_of(rt, source)?;
     let resolved = views.resolved(rt.alloc()).ok()??;
     let packages = resolved.packages.as_slice().iter();
@@ -238,5 +249,6 @@ fn package_of<R: Files + AllocGlobal>(rt: &R, source: &Source<'_>) -> Option<[u8
         _ => None,
     });
     let note = views.catalogue().clear_at(offsets.next()?)?;
-    Some(Package::read(note.value()?).ok()?.package_uid())
+    let uid = Package::read(note.value()?).ok()?.package_uid();
+    hex_text(rt.alloc(), &uid).ok()
 }

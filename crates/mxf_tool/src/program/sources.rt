@@ -1,6 +1,6 @@
 //! The sources of a run, by its words and its list.
 use super::fault::RunFault;
-use crate::command_line::Named;
+use crate::command_line::NamedSources;
 use crate::listed::{BadLine, all_words, text_of};
 use crate::source::{Source, parse_source};
 use crate::system_fault::SystemFault;
@@ -70,7 +70,7 @@ pub fn unread<'a>(path: &'a str, fault: &io::Error) -> RunFault<'a> {
 /// is named.
 pub fn sources_of<'a, 'b: 'a>(
     alloc: Global,
-    named: Named<'_, 'b>,
+    named: NamedSources<'_, 'b>,
     bytes: &'a [u8],
 ) -> Result<Vec<Source<'a>>, RunFault<'a>> {
     let path = named.list.unwrap_or("");
