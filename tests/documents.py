@@ -26,7 +26,7 @@ LINK = re.compile(r"\[[^\]]*\]\(([^)\s]+)\)")
 CONTRACT = re.compile(r"\[`([\w:]+)`\]\(([^)\s]+\.rt)\)(?: \(((?:`\w+`,? ?)+))?")
 LIBRARIES = (
     "mxf_klv", "mxf_sets", "mxf_catalogue", "mxf_views", "mxf_places", "mxf_restore", "mxf_units", "mxf_partial",
-    "mxf_read", "mxf_verify", "mxf_hand", "mxf_lines",
+    "mxf_read", "mxf_verify", "mxf_find", "mxf_hand", "mxf_lines",
 )
 IMPORT = re.compile(r"^ghost use Rattle\.(mxf_\w+)\.specs\.(\w+)\.\{([^}]*)\};", re.MULTILINE)
 # Modules of small files alone, of which docs/MODEL.md names the file.
