@@ -34,7 +34,7 @@ A case is some lines of a text file in tests/cases. A number sign begins a comme
     json show [WORD ..]                the same with `--json`; a WORD is the name of a line's form. Each command may
         LINE                           stand so
     status N                           the status of the command above, if it isn't 0
-    told LINE                          what it says on standard error, if anything
+    told LINE                          what it says on standard error, if anything, a line each
 
 In a LINE `..` stands for any text, `<U+0080>` for that character, and a `$` at its end shows a space there. packets.py
 says how a PACKET is named. Each command is run on the pieces, and then on the catalogue that `join` saves of them: that
@@ -229,7 +229,7 @@ def case_of(name, lines, files):
             elif word == "status":
                 case.commands[-1].status = int(rest)
             elif word == "told":
-                case.commands[-1].told = rest + "\n"
+                case.commands[-1].told += rest + "\n"
             else:
                 raise packets.Mistake("no such line")
         except (packets.Mistake, KeyError, IndexError, ValueError) as mistake:
@@ -358,17 +358,22 @@ class Run:
             lines += self.wrong_at(command, [saved], wanted, status)
         return lines
 
+    def begin_anew(self):
+        """Takes away what a join saved: of nothing it saves nothing where a catalogue is."""
+        pathlib.Path(self.folder, "joined").unlink(missing_ok=True)
+
     def wrong_at(self, command, sources, wanted, status):
         arguments = ["--out", f"{self.folder}/joined"] if command.name == "join" else command.arguments
+        self.begin_anew()
         printed, said, ended = self.call(command.name, command.form + arguments, sources)
         if command.accepts(printed, wanted) and said == command.told and ended == status:
             return [] if command.form else self.wrong_in_json(command, arguments, sources, printed, status)
         heads = [f"  {command.name} {' '.join(sources)}: status {ended}, wanted {status}"]
         return heads + [f"  < {line}" for line in wanted] + [f"  > {line}" for line in printed + said.splitlines()]
 
-
     def wrong_in_json(self, command, arguments, sources, printed, status):
         """The same of the command with `--json`, whose lines have to give back the text."""
+        self.begin_anew()
         objects, said, ended = self.call(command.name, ["--json", *arguments], sources)
         try:
             texts, why = list(json_lines.texts_of(command.name, objects)), ""

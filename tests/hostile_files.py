@@ -426,5 +426,5 @@ MANY = {
     counts: 10000, items: 5000, packs_that_name: 10000, circles: 5000, zones: 5000, copies: 5000,
     random_indexes: 10000, segments_of_a_unit: 10000, listed_units: 1000, named_partitions: 20000, long_primer: 32000, long_batches: 2000, named_by_all: 2000, named_by_turns: 1000,
     disputes: 20000, many_packets: 40000, saved_heads: 10000, under_one_another: 10000, labels_that_fail: 100000,
-    differing_ranges: 10000, heads_over_bytes: 10000, named_one_by_one: 2000, moved_packets: 10000,
+    differing_ranges: 10000, heads_over_bytes: 10000, named_one_by_one: 2000, moved_packets: 5000,
 }  # fmt: skip

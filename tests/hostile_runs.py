@@ -133,6 +133,7 @@ class Run:
     def joined(self, size, sources):
         """The catalogue that is saved of these sources, and the line that reports it."""
         path = self.folder / "joined"
+        path.unlink(missing_ok=True)
         line = self.call((0,), size, "join", "--out", str(path), *sources)
         return path.read_bytes(), line
 
