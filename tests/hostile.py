@@ -7,14 +7,15 @@
     tests/hostile.py --make NUMBER FOLDER       writes the sources of that number into the folder
 
 Of each file the program is asked everything. Each run has to end with a status that fits what was asked, within a bound
-of processor time, n log n in the bytes of its sources, and a bound of memory, linear in them. Running out of memory within
-that bound fails, as does anything on standard error. What is noted, why a piece ends, what is disputed or a gap, how
-pieces with other bytes stand to a reference of some of them, and the saved catalogue are compared with those of
-notes.py, which goes by ST 336 alone, and what is put together and ordered of ranges with those of at_hand.py. Cut at
-packets and within them, with repeats, a part saved, in another order, the sources leave the same catalogue, and a saved
-one is shown as they are; ranges do in another order, with repeats, and with what was saved of them. Whole notes that
-version 1 of the file saved are shown, and joined with the others. A damaged catalogue of either version, or one with
-parts of both, is shown, or refused with its cause and place, by notes.py too.
+of processor time, n log n in the bytes of its sources, and a bound of memory, linear in them. Running out of memory
+within that bound fails, as does anything on standard error but that an index isn't held. What is noted, why a piece
+ends, what is disputed or a gap, how pieces with other bytes stand to a reference of some of them, where each source
+lies in one of them and in the saved catalogue, and that catalogue are compared with those of notes.py, which goes by ST
+336 alone, and what is put together and ordered of ranges with those of at_hand.py. Cut at packets and within them, with
+repeats, a part saved, in another order, the sources leave the same catalogue, and a saved one is shown as they are;
+ranges do in another order, with repeats, and with what was saved of them. Whole notes that version 1 of the file saved
+are shown, and joined with the others. A damaged catalogue of either version, or one with parts of both, is shown, or
+refused with its cause and place, by notes.py too.
 
 A file of a shape with many alike, and one of twice as many: no question takes more than two and a half times as long.
 
