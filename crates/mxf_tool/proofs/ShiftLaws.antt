@@ -1,10 +1,12 @@
 -- The shifts of partitions, and of contents one after another.
-use Rattle.std.proofs.Common.{◌≡◌, ◌++◌, ◌<◌, ℕ, Option, List, [], ◌∷◌, arith, subst, sym}
+use Rattle.std.proofs.Common.{◌≡◌, ◌++◌, ◌<◌, ℕ, Option, List, [], ◌∷◌, arith, map, subst, sym}
+use Rattle.std.specs.List.{list_all}
 use Rattle.mxf_klv.specs.Parts.{NoteParts}
-use Rattle.mxf_views.specs.Partitions.{PartitionParts}
+use Rattle.mxf_views.specs.Partitions.{PartitionParts, in_numbers}
+use Rattle.mxf_views.proofs.NumbersLaws.{all_mapped}
 use Rattle.mxf_tool.specs.declared.shift.Shift.{Shift}
 use Rattle.mxf_tool.specs.declared.shift.Shift.TheVariants.{High, Low}
-use Rattle.mxf_tool.specs.Shifts.{AreShifts, IsShift, IsShiftIn}
+use Rattle.mxf_tool.specs.Shifts.{AreShifts, IsShift, IsShiftIn, is_shifted}
 
 pub shifts_none : (contents : List (List NoteParts)) (shifts : List (Option Shift)) → contents ≡ [] → shifts ≡ []
     → AreShifts contents shifts
@@ -25,6 +27,12 @@ pub shifts_one : (contents more : List (List NoteParts)) (shifts after : List (O
 shifts_one contents more shifts after c s e f is a =
     subst (λ (l : List (List NoteParts)). AreShifts l after) (sym e)
     (subst (λ (t : List (Option Shift)). AreShifts (contents ++ c ∷ []) t) (sym f) (shifts_push contents shifts c s a is))
+
+-- what packs state in numbers shifts them as the packs do
+pub all_in_numbers : (s : Shift) (partitions : List PartitionParts)
+    → list_all (is_shifted s) (map in_numbers partitions) ≡ list_all (is_shifted s) partitions
+all_in_numbers (High n) partitions = all_mapped (is_shifted (High n)) in_numbers partitions
+all_in_numbers (Low n) partitions = all_mapped (is_shifted (Low n)) in_numbers partitions
 
 pub one_shift : (partitions : List PartitionParts) (a b : Shift) → IsShift partitions a → IsShift partitions b → a ≡ b
 one_shift [] a b i j = absurd (omega (arith, i.some))
