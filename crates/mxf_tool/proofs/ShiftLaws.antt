@@ -1,8 +1,9 @@
 -- The shifts of partitions, and of contents one after another.
-use Rattle.std.proofs.Common.{◌≡◌, ◌++◌, ◌<◌, ℕ, Option, List, [], ◌∷◌, arith, map, subst, sym}
+use Rattle.std.proofs.Common.{◌≡◌, ◌++◌, ◌<◌, ℕ, Option, None, Some, MatchOption, List, [], ◌∷◌, arith, map}
+use Rattle.std.proofs.Common.{subst, sym}
 use Rattle.std.specs.List.{list_all}
 use Rattle.mxf_klv.specs.Parts.{NoteParts}
-use Rattle.mxf_views.specs.Partitions.{PartitionParts, in_numbers}
+use Rattle.mxf_views.specs.Partitions.{PartitionParts, in_numbers, partitions_of}
 use Rattle.mxf_views.proofs.NumbersLaws.{all_mapped}
 use Rattle.mxf_tool.specs.declared.shift.Shift.{Shift}
 use Rattle.mxf_tool.specs.declared.shift.Shift.TheVariants.{High, Low}
@@ -27,6 +28,13 @@ pub shifts_one : (contents more : List (List NoteParts)) (shifts after : List (O
 shifts_one contents more shifts after c s e f is a =
     subst (λ (l : List (List NoteParts)). AreShifts l after) (sym e)
     (subst (λ (t : List (Option Shift)). AreShifts (contents ++ c ∷ []) t) (sym f) (shifts_push contents shifts c s a is))
+
+-- a shift that is answered, or none
+pub shift_in : (notes : List NoteParts) (s : Option Shift)
+    → MatchOption s ((t : Shift) → IsShift (partitions_of notes) t → ⊥) (IsShift (partitions_of notes))
+    → IsShiftIn notes s
+shift_in notes None is = is
+shift_in notes (Some t) is = is
 
 -- what packs state in numbers shifts them as the packs do
 pub all_in_numbers : (s : Shift) (partitions : List PartitionParts)
