@@ -237,6 +237,15 @@ impl Model for Findings {
 }
 
 impl Findings {
+    /// What the notes of the views show, code by code.
+    pub(crate) fn of(alloc: Global, views: &Views) -> Result<Findings, OutOfMemory>
+        ensures { IfOk result (λ f. f ≡ findings_of views.now) }
+    {
+        let mut found = Collected::new(alloc);
+        found.add_codes(alloc, &CODES, views)?;
+        Ok(found.into_findings())
+    }
+
     /// The findings.
     pub fn as_slice(&self) -> &[Finding]
         ensures { result.now ≡ self.now }
@@ -259,16 +268,7 @@ impl Findings {
     }
 }
 
-/// What the notes of the views show to be wrong or missing, by file offset and then code, none twice. It takes memory.
-pub fn findings(alloc: Global, views: &Views) -> Result<Findings, OutOfMemory>
-    ensures { IfOk result (λ f. f ≡ findings_of views.now) }
-{
-    let mut found = Collected::new(alloc);
-    found.add_codes(alloc, &CODES, views)?;
-    Ok(found.into_findings())
-}
-
-/// A law of [`findings`]: they are those offsets and codes at which the cause of the
+/// A law of [`findings`](crate::findings): they are those offsets and codes at which the cause of the
 /// code is met, and rise, so none stands twice.
 pub fn findings_by_definition()
     ensures findings { (notes : List NoteParts) (f : Finding) → IsContent notes

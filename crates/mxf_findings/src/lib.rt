@@ -18,13 +18,15 @@
 //! says of them.
 #![tactic(auto)]
 
+mod asked;
 mod finding;
 pub mod laws;
 mod reference;
 mod same_views;
 mod small_files;
 
-pub use finding::{Code, Finding, Findings, findings};
-pub use reference::resolved::{Resolved, resolved};
+pub use asked::{find, findings, resolved};
+pub use finding::{Code, Finding, Findings};
+pub use reference::Found;
+pub use reference::resolved::Resolved;
 pub use reference::target::{Ref, Refs, Target};
-pub use reference::{Found, find};

@@ -46,7 +46,7 @@ pub(crate) fn has_uid(note: &Note, uid: &Uuid) -> bool
 }
 
 /// The set with the identifier.
-fn find_among(sets: Sets<'_>, uid: &Uuid) -> Found
+pub(crate) fn find_among(sets: Sets<'_>, uid: &Uuid) -> Found
     ensures { result ≡ found_among (filter (has_uid uid.now) sets.entry) }
 {
     let mut found = Found::Absent;
@@ -61,14 +61,7 @@ fn find_among(sets: Sets<'_>, uid: &Uuid) -> Found
     found
 }
 
-/// What is found of an instance identifier among the sets of the copy of a partition.
-pub fn find(views: &Views, partition: u64, uid: Uuid) -> Found
-    ensures { result ≡ found_in views.now partition uid }
-{
-    find_among(views.sets(partition), &uid)
-}
-
-/// A law of [`find`]: what is found is determined by the number of the sets of the copy that
+/// A law of [`find`](crate::find): what is found is determined by the number of the sets of the copy that
 /// have the identifier.
 pub fn found_by_definition()
     ensures { (notes : List NoteParts) (partition : ℕ) (uid : List ℕ) (found : Found) → IsContent notes

@@ -53,7 +53,7 @@ impl Model for Resolved {
 }
 
 /// The first Preface of the sets.
-fn preface_among(mut sets: Sets<'_>) -> Option<&Note>
+pub(crate) fn preface_among(mut sets: Sets<'_>) -> Option<&Note>
     ensures { option_copied result ≡ find is_preface_note sets.entry }
 {
     sets.find(|note| is_preface(note))
@@ -87,7 +87,7 @@ fn storage_of<'a>(sets: &CopySets<'a>, uid: &Uuid) -> Option<ContentStorage<'a>>
 }
 
 /// What the Preface of a copy names.
-fn resolved_by(
+pub(crate) fn resolved_by(
     alloc: Global,
     views: &Views,
     partition: u64,
@@ -120,20 +120,6 @@ fn resolved_by(
         identifications,
         packages,
     })
-}
-
-/// What the Preface of the preferred copy names; None without such a copy. It takes memory.
-pub fn resolved(alloc: Global, views: &Views) -> Result<Option<Resolved>, OutOfMemory>
-    ensures { IfOk result (λ r. r ≡ resolved_of views.now) }
-{
-    let Some(copy) = views.preferred() else {
-        return Ok(None);
-    };
-    let Some(note) = preface_among(views.sets(copy.partition)) else {
-        return Ok(None);
-    };
-    let resolved = resolved_by(alloc, views, copy.partition, note)?;
-    Ok(Some(resolved))
 }
 
 /// A law of [`resolved`](crate::resolved): it is what the only Preface of the preferred copy names, each
