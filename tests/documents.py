@@ -25,8 +25,8 @@ TOP = pathlib.Path(__file__).resolve().parent.parent
 LINK = re.compile(r"\[[^\]]*\]\(([^)\s]+)\)")
 CONTRACT = re.compile(r"\[`([\w:]+)`\]\(([^)\s]+\.rt)\)(?: \(((?:`\w+`,? ?)+))?")
 LIBRARIES = (
-    "mxf_klv", "mxf_sets", "mxf_catalogue", "mxf_views", "mxf_places", "mxf_restore", "mxf_units", "mxf_partial",
-    "mxf_read", "mxf_verify", "mxf_hand", "mxf_find", "mxf_lines",
+    "mxf_klv", "mxf_sets", "mxf_catalogue", "mxf_views", "mxf_findings", "mxf_places", "mxf_restore", "mxf_units",
+    "mxf_partial", "mxf_read", "mxf_verify", "mxf_hand", "mxf_find", "mxf_lines",
 )
 IMPORT = re.compile(r"^ghost use Rattle\.(mxf_\w+)\.specs\.(\w+)\.\{([^}]*)\};", re.MULTILINE)
 # Modules of small files alone, of which docs/MODEL.md names the file.
@@ -574,7 +574,7 @@ def printed_by(source, name):
 def retold():
     """What docs/FORMATS.md owns and something else retells: its name, what docs/FORMATS.md has, where it is retold, and
     what stands there."""
-    codes, exits = "crates/mxf_views/src/finding.rt", "crates/mxf_tool/src/exit.rt"
+    codes, exits = "crates/mxf_findings/src/finding.rt", "crates/mxf_tool/src/exit.rt"
     guide, man = text_of(TOP / GUIDE), plain_man_page()
     return (
         ("status", formats_statuses(), MAN, dict.fromkeys(man_statuses(), True)),
