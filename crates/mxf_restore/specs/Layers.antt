@@ -14,7 +14,7 @@ use Rattle.mxf_sets.specs.declared.pack.part.PackPart.TheVariants as parts
 use Rattle.mxf_catalogue.specs.declared.run.Run.{Run}
 use Rattle.mxf_catalogue.specs.Disputes.{IsClear}
 use Rattle.mxf_catalogue.specs.Runs.{LiesIn}
-use Rattle.mxf_views.specs.FindingCauses.{IsMetadataKind}
+use Rattle.mxf_views.specs.Copies.{IsMetadataKind}
 use Rattle.mxf_views.specs.Partitions.{PartitionParts, partitions_of}
 use Rattle.mxf_places.specs.declared.claim.Claim.{Claim}
 use Rattle.mxf_places.specs.declared.stretch.Zone.{Zone}

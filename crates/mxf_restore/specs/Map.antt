@@ -11,7 +11,7 @@ use Rattle.mxf_klv.specs.Rising.{In}
 use Rattle.mxf_sets.specs.declared.pack.part.PackPart.{PackPart}
 use Rattle.mxf_sets.specs.declared.pack.part.PackPart.TheVariants as parts
 use Rattle.mxf_catalogue.specs.Disputes.{IsClear, disputed_notes}
-use Rattle.mxf_views.specs.FindingCauses.{IsMetadataKind}
+use Rattle.mxf_views.specs.Copies.{IsMetadataKind}
 use Rattle.mxf_views.specs.Partitions.{PartitionParts, partitions_of}
 use Rattle.mxf_places.specs.Held.{IsDisputedAt, IsHeld, begins_clear_head, is_disputed_at, is_held, is_in_file}
 use Rattle.mxf_places.specs.AtHand.{KnownParts, edge_of, has_offset}

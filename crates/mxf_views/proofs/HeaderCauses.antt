@@ -11,7 +11,8 @@ use Rattle.std.specs.Prelude.{is_none}
 use Rattle.mxf_views.specs.declared.reference.target.Target.TheVariants.{Found, Missing, Several, WrongKind}
 use Rattle.mxf_views.specs.SetItems.{whole_items}
 use Rattle.mxf_views.specs.Findings.{is_found, is_unreadable_segment, is_unreadable_set, lost_behind, lost_in}
-use Rattle.mxf_views.specs.FindingCauses.{Holds, HoldsLost, IsMetadataKind, IsReadableSet}
+use Rattle.mxf_views.specs.FindingCauses.{Holds, HoldsLost, IsReadableSet}
+use Rattle.mxf_views.specs.Copies.{IsMetadataKind}
 use Rattle.mxf_views.proofs.CopyLaws.{copies_are}
 use Rattle.mxf_views.proofs.KindLaws.{primer_kind, segment_kind, set_kind}
 use Rattle.mxf_views.proofs.ReadingLaws.{ok_readable}

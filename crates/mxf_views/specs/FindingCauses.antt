@@ -31,7 +31,7 @@ use Rattle.mxf_views.specs.declared.finding.Finding.{Finding}
 use Rattle.mxf_views.specs.Partitions.{IsLink, HangTogether, PartitionParts, partitions_of}
 use Rattle.mxf_views.specs.Gaps.{IsGap}
 use Rattle.mxf_views.specs.Readings.{IsReadAs, IsReadable}
-use Rattle.mxf_views.specs.Copies.{IsCopy, IsSetKind}
+use Rattle.mxf_views.specs.Copies.{IsCopy, IsMetadataKind}
 use Rattle.mxf_views.specs.Resolved.{ResolvedParts}
 use Rattle.mxf_views.specs.ResolvedView.{IsResolvedFrom}
 
@@ -45,10 +45,6 @@ IsReadableSet kinds.MaterialPackage n = IsReadable package_at n
 IsReadableSet kinds.SourcePackage n = IsReadable package_at n
 IsReadableSet kinds.RawSet n = IsTrue (keeps_value n) × (left_of n.held ≡ [])
 IsReadableSet _ n = ⊥
-
--- The kinds of header metadata: primer packs, metadata sets and raw sets.
-abbrev pub IsMetadataKind : Kind → Type 0
-IsMetadataKind kind = (kind ≡ kinds.Primer) ⊎ IsSetKind kind
 
 -- A gap begins at the offset.
 pub record IsGapStart (notes : List NoteParts) (offset : ℕ) : Type 0 where
