@@ -46,7 +46,8 @@ use mxf_read::{
     gather,
 };
 use mxf_units::UnitRange;
-use mxf_verify::{Readings, Renewed};
+use mxf_readings::Readings;
+use mxf_verify::Renewed;
 use mxf_views::Views;
 use refusal::RefusalHint;
 use renewing::print_renewal;
