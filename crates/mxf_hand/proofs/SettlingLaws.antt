@@ -18,7 +18,7 @@ use Rattle.mxf_catalogue.proofs.HeadLaws.{same_note}
 use Rattle.mxf_places.specs.Held.{IsHeld, is_held}
 use Rattle.mxf_places.proofs.HeldLaws.{is_held-says}
 use Rattle.mxf_read.specs.declared.gathering.report.PieceReport.{PieceReport}
-use Rattle.mxf_read.specs.declared.given.Extent.{Extent}
+use Rattle.mxf_hand.specs.declared.given.Extent.{Extent}
 use Rattle.mxf_hand.specs.Settling.{BeginsWhole, IsHeldExtent, IsWholeStop, MakesUpFor, begins_whole, is_all_held}
 use Rattle.mxf_hand.specs.Settling.{begins_disputed, is_whole_stop, makes_up_for}
 

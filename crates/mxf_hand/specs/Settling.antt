@@ -10,7 +10,7 @@ use Rattle.mxf_klv.specs.declared.piece.Stop.TheVariants.{End, Truncated, NoStar
 use Rattle.mxf_catalogue.specs.Disputes.{disputed_notes}
 use Rattle.mxf_places.specs.Held.{IsHeld, is_held}
 use Rattle.mxf_read.specs.declared.gathering.report.PieceReport.{PieceReport}
-use Rattle.mxf_read.specs.declared.given.Extent.{Extent}
+use Rattle.mxf_hand.specs.declared.given.Extent.{Extent}
 
 -- A whole note, clear or disputed, has the offset.
 abbrev pub BeginsWhole : List NoteParts → ℕ → Type 0

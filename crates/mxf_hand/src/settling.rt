@@ -2,13 +2,14 @@
 ghost use Rattle.std.specs.Prelude.{◌≡◌, ◌↔◌, IsTrue, List, map};
 ghost use Rattle.mxf_klv.specs.Parts.{NoteParts};
 ghost use Rattle.mxf_read.specs.declared.gathering.report.PieceReport.{PieceReport};
-ghost use Rattle.mxf_read.specs.declared.given.Extent.{Extent};
+ghost use Rattle.mxf_hand.specs.declared.given.Extent.{Extent};
 ghost use Rattle.mxf_hand.specs.Settling.{IsWholeStop, begins_disputed, begins_whole, is_all_held};
 ghost use Rattle.mxf_hand.specs.Settling.{is_source_held, is_whole_stop, settled};
 
+use crate::given::Extent;
 use mxf_catalogue::Catalogue;
 use mxf_klv::Stop;
-use mxf_read::{Extent, PieceReport, PieceReports, Report};
+use mxf_read::{PieceReport, PieceReports, Report};
 use mxf_views::Views;
 
 /// Takes a piece for whole whose stop is made up for by what is held (this project's profile): it gets the stop `End`

@@ -35,18 +35,16 @@ use clap::error::ErrorKind;
 use fault::RunFault;
 use finding::print_found_in;
 use index::{only_index, tell_index};
-use mxf_hand::{PutTogether, put_together, settle};
+use mxf_hand::{Extent, Given, PutTogether, SourceFault, put_together, settle};
 use mxf_lines::{
     AnswerFault, Ask, Form, Grid, Searched, Verified, answer, print_found, print_map,
     print_renewed, print_sources, print_unit_plan, print_verification,
 };
 use mxf_places::AtHand;
-use mxf_read::{
-    Extent, GatherFault, Gathered, Given, Part, PartFault, PieceReport, PieceReports, SourceFault,
-    gather,
-};
+use mxf_read::{GatherFault, Gathered, Part, PartFault, PieceReport, PieceReports, gather};
+use mxf_readings::Readings;
 use mxf_units::UnitRange;
-use mxf_verify::{Readings, Renewed};
+use mxf_verify::Renewed;
 use mxf_views::Views;
 use refusal::RefusalHint;
 use renewing::print_renewal;

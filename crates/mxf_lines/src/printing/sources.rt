@@ -13,7 +13,7 @@ use super::lines::{Each, FieldWriter, Line, Printer, Series, Then, print_with_st
 use super::{AnswerFault, Form};
 use mxf_catalogue::DisputedNotes;
 use mxf_klv::{Held, Note};
-use mxf_verify::{Readings, SourceCounts};
+use mxf_readings::{Readings, SourceCounts};
 use sha2::{Digest, Sha256};
 use std::alloc::{AllocError, Global};
 use std::io::Write;

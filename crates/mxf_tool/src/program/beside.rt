@@ -8,7 +8,7 @@ use crate::source::Source;
 use crate::system_fault::LastFault;
 use mxf_catalogue::Catalogue;
 use mxf_lines::Form;
-use mxf_verify::Readings;
+use mxf_readings::Readings;
 use std::alloc::{AllocError, Global};
 
 /// Prints what each source holds, and which source has which disputed note.

@@ -1,6 +1,6 @@
 //! Saving what earlier sources hold, renewed by later ones.
 ghost use Rattle.std.specs.Prelude.{◌≡◌, IfOk};
-ghost use Rattle.mxf_verify.specs.Readings.{all_notes};
+ghost use Rattle.mxf_readings.specs.Readings.{all_notes};
 
 use super::fault::RunFault;
 use super::offsets::{is_contradicted, tell_offsets};
@@ -17,10 +17,11 @@ use crate::shift::Shift;
 use crate::source::Source;
 use crate::system_fault::LastFault;
 use mxf_catalogue::Catalogue;
-use mxf_hand::PutTogether;
+use mxf_hand::{Extent, PutTogether};
 use mxf_klv::OutOfMemory;
-use mxf_read::{Extent, PieceReport, PieceReports};
-use mxf_verify::{Renewed, joined, renew};
+use mxf_read::{PieceReport, PieceReports};
+use mxf_readings::joined;
+use mxf_verify::{Renewed, renew};
 use mxf_views::Views;
 use std::alloc::{AllocError, Global};
 use std::io::Read;
